@@ -1,0 +1,6 @@
+pub mod HexData
+pub mod Parts
+pub mod Blanks
+pub mod FirstWord
+pub mod FirstLine
+pub mod Digits

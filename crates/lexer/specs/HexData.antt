@@ -1,0 +1,21 @@
+-- The bytes that hex digits write.
+use Rattle.std.specs.Prelude.{ℕ, ◌+◌, ◌*◌, List, [], ◌∷◌, Option, Some, None}
+use Rattle.hex.specs.Hex.{hex_digit_value}
+
+-- the byte of two digits, the high one first
+abbrev pub byte_of : Option ℕ → Option ℕ → Option ℕ
+byte_of (Some high) (Some low) = Some (high * 16 + low)
+byte_of (Some high) None = None
+byte_of None low = None
+
+-- a byte, and those behind it
+abbrev pub onto : Option ℕ → Option (List ℕ) → Option (List ℕ)
+onto (Some byte) (Some bytes) = Some (byte ∷ bytes)
+onto (Some byte) None = None
+onto None bytes = None
+
+-- the bytes that a word writes, each as two hex digits
+unfoldable pub hex_bytes_of : List ℕ → Option (List ℕ)
+hex_bytes_of [] = Some []
+hex_bytes_of (digit ∷ []) = None
+hex_bytes_of (high ∷ low ∷ more) = onto (byte_of (hex_digit_value high) (hex_digit_value low)) (hex_bytes_of more)

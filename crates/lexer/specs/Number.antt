@@ -1,0 +1,22 @@
+-- The number that a word writes.
+use Rattle.std.specs.Prelude.{ℕ, ◌^◌, Bool, not, ◌&&◌, ◌==◌, List, length, drop, Result, Ok, Err, nat_eq, nat_lt, codes, if◌then◌else◌}
+use Rattle.std.specs.List.{list_all, starts_with}
+use Rattle.std.specs.Char.{is_digit}
+use Rattle.std.specs.Str.Parse.{digits_value}
+use Rattle.lexer.specs.declared.numbers.NumberFault.{NumberFault}
+use Rattle.lexer.specs.declared.numbers.NumberFault.TheVariants.{Malformed, TooLarge}
+
+-- one digit at least, and nothing else
+abbrev pub is_numeral : ℕ → List ℕ → Bool
+is_numeral radix word = not (length word == 0) && list_all (λ byte. is_digit byte radix) word
+
+-- the number that digits write, which is below 2^32
+abbrev pub numeral_of : ℕ → List ℕ → Result ℕ NumberFault
+numeral_of radix word =
+    if is_numeral radix word then
+    if nat_lt (digits_value radix word) (2 ^ 32) then Ok (digits_value radix word) else Err TooLarge
+    else Err Malformed
+
+-- the number of a word: hex digits behind 0x, else decimal digits
+unfoldable pub number_of : List ℕ → Result ℕ NumberFault
+number_of word = if starts_with nat_eq word (codes "0x") then numeral_of 16 (drop 2 word) else numeral_of 10 word

@@ -1,0 +1,100 @@
+//! Lines.
+
+ghost use Rattle.std.specs.Prelude.{◌≡◌, ◌<◌, [], ◌∷◌, length, MatchOption, IfSome};
+ghost use Rattle.std.specs.Str.Lines.{lines, strip_carriage_return};
+ghost use Rattle.std.specs.Iterator.{YieldsFirstBy, item_count};
+ghost use Rattle.lexer.specs.Lines.{lines_of};
+
+use std::marker::Model;
+
+/// A line of a text, without its end.
+#[derive(Clone, Copy, Debug, PartialEq, Eq)]
+pub struct Line<'a> {
+    /// Its number in the text, from 1 on.
+    pub number: usize,
+    /// What stands on it.
+    pub text: &'a str,
+}
+
+/// The lines of a text, in order.
+///
+/// A line ends in LF or CR LF. The last may have no end, and then it isn't empty: what stands behind
+/// the last LF is a line only where there is something. A carriage return anywhere else is a
+/// character of its line.
+#[derive(Debug, Drop)]
+pub struct Lines<'a> {
+    rest: &'a str,
+    /// How many lines came before the rest.
+    before: usize,
+}
+
+impl<'a> Model for Lines<'a> {
+    ghost use Rattle.std.specs.Prelude.{List, length, ◌+◌, ◌<◌, ◌^◌};
+    ghost use Rattle.lexer.specs.Lines.{NumberedLine, numbered_from};
+    ghost use Rattle.std.specs.Str.Lines.{lines};
+
+    ghost Value = { List NumberedLine };
+
+    ghost view = { λ a. numbered_from (a.before + 1) (lines a.rest.now) };
+
+    // Each line takes a byte at least, so that their number fits.
+    ghost invariant = { λ a. a.before + length a.rest.now < 2 ^ 64 };
+}
+
+impl<'a> Lines<'a> {
+    /// The lines of a text.
+    #[tactic(auto, unfolding(crate::specs::Lines::lines_of))]
+    pub fn of(text: &'a str) -> Lines<'a>
+        ensures { result ≡ lines_of text.now }
+    {
+        Lines {
+            rest: text,
+            before: 0,
+        }
+    }
+}
+
+/// A line without the carriage return at its end, if it has one.
+fn without_carriage_return(line: &str) -> &str
+    ensures { result.now ≡ strip_carriage_return line.now }
+{
+    match line.strip_suffix('\r') {
+        Some(front) => front,
+        None => line,
+    }
+}
+
+/// The first line of a text, and what stands behind its end.
+fn split_line(text: &str) -> Option<(&str, &str)>
+    ensures cases { MatchOption result (lines text.now ≡ [])
+        (λ parts. lines text.now ≡ parts.0.now ∷ lines parts.1.now) }
+    ensures shorter { IfSome result (λ parts. length parts.1.now < length text.now) }
+{
+    if text.is_empty() {
+        return None;
+    }
+    match text.split_once('\n') {
+        Some((line, behind)) => Some((without_carriage_return(line), behind)),
+        None => Some((text, "")),
+    }
+}
+
+impl<'a> Iterator for Lines<'a> {
+    ghost use Rattle.lexer.specs.Lines.{line_of};
+
+    type Item = Line<'a>;
+
+    ghost next_gives = { YieldsFirstBy line_of (λ lines. lines) };
+
+    ghost remaining = { item_count (λ lines. lines) };
+
+    fn next(&mut self) -> Option<Line<'a>> {
+        let (text, rest) = split_line(self.rest)?;
+        self.rest = rest;
+        self.before += 1;
+        Some(Line {
+            number: self.before,
+            text,
+        })
+    }
+}

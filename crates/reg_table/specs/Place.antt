@@ -1,0 +1,30 @@
+use Rattle.std.specs.Prelude.{ℕ, List, [], ◌∷◌, ◌⊎◌, Option, Some, None, if◌then◌else◌}
+use Rattle.reg_table.specs.declared.place.Place.{Place}
+use Rattle.reg_table.specs.declared.run.Run.{Run}
+use Rattle.reg_table.specs.Run.{HasPlaceAt, has_address, place_in, has_index, address_in}
+use Rattle.reg_table.specs.Runs.{runs}
+
+-- one of the runs has the place at the address
+abbrev pub SomeRunHas : List Run → ℕ → Place → Type 0
+SomeRunHas [] address p = ⊥
+SomeRunHas (r ∷ rs) address p = HasPlaceAt r address p ⊎ SomeRunHas rs address p
+
+-- an address names a place where a run of the table has the place there
+abbrev pub Names : ℕ → Place → Type 0
+Names address p = SomeRunHas runs address p
+
+-- the place that the first run with the address has there
+abbrev pub place_among : List Run → ℕ → Option Place
+place_among [] address = None
+place_among (r ∷ rs) address = if has_address r address then Some (place_in r address) else place_among rs address
+
+-- the bits that the first run with the address shows
+abbrev pub view_among : List Run → ℕ → ℕ
+view_among [] address = 0xFFFFFFFF
+view_among (r ∷ rs) address =
+    if has_address r address then (if r.low then 0xFFFF else 0xFFFFFFFF) else view_among rs address
+
+-- the address that the first run with the place has for it
+abbrev pub address_among : List Run → Place → Option ℕ
+address_among [] p = None
+address_among (r ∷ rs) p = if has_index r p then Some (address_in r p) else address_among rs p

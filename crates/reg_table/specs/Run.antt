@@ -1,0 +1,41 @@
+use Rattle.std.specs.Prelude.{ℕ, ◌≡◌, ◌<◌, ◌+◌, ◌-◌, ◌*◌, ◌/◌, ◌%◌, Bool, ◌&&◌, nat_lt, nat_le, ◌==◌}
+use Rattle.reg_table.specs.declared.rows.RowId.{RowId}
+use Rattle.reg_table.specs.declared.place.Place.{Place}
+use Rattle.reg_table.specs.declared.run.Run.{Run}
+use Rattle.reg_table.specs.Rows.{row_of, number_of}
+
+-- the run of a row with index first_index + k at address first + stride * k, for each k below count
+abbrev pub run : RowId → ℕ → ℕ → ℕ → ℕ → Bool → Run
+run row first stride first_index count low =
+    record { row = row; first = first; stride = stride; first_index = first_index; count = count; low = low }
+
+-- a run has a place at an address where one of its steps leads to both
+pub record HasPlaceAt (r : Run) (address : ℕ) (p : Place) : Type 0 where
+  pub step : ℕ
+  pub below : step < r.count
+  pub at : address ≡ r.first + r.stride * step
+  pub row : p.row ≡ r.row
+  pub index : p.index ≡ r.first_index + step
+
+-- whether a step of the run leads to the address
+abbrev pub has_address : Run → ℕ → Bool
+has_address r address =
+    nat_le r.first address && nat_le address (r.first + r.stride * (r.count - 1)) && ((address - r.first) % r.stride == 0)
+
+-- the place that the run has at one of its addresses
+abbrev pub place_in : Run → ℕ → Place
+place_in r address = record { row = r.row; index = r.first_index + (address - r.first) / r.stride }
+
+-- whether a step of the run leads to the place
+abbrev pub has_index : Run → Place → Bool
+has_index r p = (number_of r.row == number_of p.row) && nat_le r.first_index p.index && nat_lt p.index (r.first_index + r.count)
+
+-- the address that the run has for one of its places
+abbrev pub address_in : Run → Place → ℕ
+address_in r p = r.first + r.stride * (p.index - r.first_index)
+
+-- a run has steps of 1 to 64 bytes and 1 to 256 of them, lies below 0x20000, and its indices are the row's
+abbrev pub is_sound : Run → Bool
+is_sound r =
+    nat_lt 0 r.stride && nat_le r.stride 64 && nat_lt 0 r.count && nat_le r.count 256 && nat_lt r.first 0x20000
+    && nat_le (r.first_index + r.count) (row_of r.row).count && nat_le (row_of r.row).count 256

@@ -1,0 +1,85 @@
+ghost use Rattle.std.specs.Prelude.{◌≡◌, ◌↔◌, Some};
+ghost use Rattle.reg_table.specs.Rows.{row_of, number_of, rows};
+ghost use Rattle.reg_table.specs.Named.{row_with_name};
+ghost use Rattle.reg_table.specs.declared.rows.RowId.{RowId};
+
+use crate::kind::Kind;
+use crate::rows::{ROWS, RowId, entry_of};
+
+/// What the table says of a row.
+#[derive(Clone, Copy)]
+pub(crate) struct Entry {
+    pub(crate) name: &'static str,
+    pub(crate) count: u16,
+    pub(crate) kind: Kind,
+    pub(crate) mask: u32,
+    pub(crate) reset: u32,
+}
+
+/// How many indices the row has: they are 0 to one less.
+pub fn count_of(row: RowId) -> u16
+    ensures { result ≡ (row_of row).count }
+{
+    entry_of(row).count
+}
+
+/// What an access of the row does.
+pub fn kind_of(row: RowId) -> Kind
+    ensures { result ≡ (row_of row).kind }
+{
+    entry_of(row).kind
+}
+
+/// The bits that a write can change.
+pub fn mask_of(row: RowId) -> u32
+    ensures { result ≡ (row_of row).mask }
+{
+    entry_of(row).mask
+}
+
+/// The word at each index of the row after a reset.
+pub fn reset_of(row: RowId) -> u32
+    ensures { result ≡ (row_of row).reset }
+{
+    entry_of(row).reset
+}
+
+/// The row's name, as the datasheet and scripts spell it: capitals, digits and `_`.
+pub fn name_of(row: RowId) -> &'static str
+    ensures { result.now ≡ (row_of row).name }
+{
+    entry_of(row).name
+}
+
+/// Every row, in the table's order: the row numbered k stands at k.
+#[tactic(auto, unfolding(crate::specs::Rows::rows))]
+pub fn all_rows() -> &'static [RowId]
+    ensures { result.now ≡ rows }
+{
+    &ROWS
+}
+
+/// The row with this name, letter by letter. `None` where no row has it.
+pub fn row_named(name: &str) -> Option<RowId>
+    ensures value { result ≡ row_with_name name.now }
+    ensures exact { (row : RowId) → (result ≡ Some row) ↔ ((row_of row).name ≡ name.now) }
+{
+    first_named(name)
+}
+
+/// The first row with this name.
+#[tactic(auto, unfolding(crate::specs::Rows::rows))]
+fn first_named(name: &str) -> Option<RowId>
+    ensures { result ≡ row_with_name name.now }
+{
+    ROWS.iter().copied().find(|row| name_of(*row) == name)
+}
+
+impl RowId {
+    /// The row's place in the table, counted from 0.
+    pub(crate) fn number(self) -> u8
+        ensures { result ≡ number_of self }
+    {
+        self as u8
+    }
+}

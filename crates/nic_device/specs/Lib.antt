@@ -1,0 +1,11 @@
+pub mod Access
+pub mod Bits
+pub mod Columns
+pub mod Config
+pub mod Filled
+pub mod Laws
+pub mod Outcome
+pub mod Run
+pub mod State
+pub mod Step
+pub mod Words

@@ -1,0 +1,74 @@
+//! The words of the registers.
+
+ghost use Rattle.std.specs.Prelude.{◌≡◌, ◌<◌, IfOk, OnOk};
+ghost use Rattle.reg_table.specs.Rows.{row_of};
+ghost use Rattle.nic_device.specs.Words.{word_at, put, reset_words};
+ghost use Rattle.nic_device.specs.Filled.{KeepsOtherRows, HasResetWords};
+ghost use Rattle.std.specs.BTreeMap.{get};
+
+use reg_table::{Place, RowId, all_rows, count_of, reset_of};
+use std::alloc::{AllocError, Global};
+use std::collections::BTreeMap;
+use std::marker::Model;
+
+/// The words of the registers, one for each place.
+#[derive(Drop)]
+pub(crate) struct Registers {
+    words: BTreeMap<Place, u32>,
+}
+
+impl Model for Registers {
+    ghost use Rattle.std.specs.BTreeMap.{get};
+    ghost use Rattle.nic_device.specs.Words.{Words};
+    ghost use Rattle.nic_device.specs.Columns.{columns, HasPlaces};
+
+    ghost Value = { Words };
+
+    ghost view = { λ r. columns (get ⟦<Place as Ord>⟧.cmp r.words) };
+
+    ghost invariant = { λ r. HasPlaces (get ⟦<Place as Ord>⟧.cmp r.words) };
+}
+
+impl Registers {
+    /// Each register with its reset value.
+    pub(crate) fn new(alloc: Global) -> Result<Self, AllocError>
+        ensures { IfOk result (λ r. r ≡ reset_words) }
+    {
+        let mut words = BTreeMap::new(alloc);
+        for row in all_rows() {
+            fill(&mut words, *row)?;
+        }
+        Ok(Registers { words })
+    }
+
+    /// The word at a place.
+    pub(crate) fn word(&self, place: Place) -> u32
+        requires { place.index < (row_of place.row).count }
+        ensures { result ≡ word_at self.now place }
+    {
+        self.words.get(&place).copied().unwrap_or(0)
+    }
+
+    /// Sets the word at a place.
+    pub(crate) fn set_word(&mut self, place: Place, word: u32)
+        requires { place.index < (row_of place.row).count }
+        ensures { self.new ≡ put self.old place word }
+    {
+        match self.words.insert(place, word) {
+            Ok(_) => {}
+            Err(_) => unreachable!(),
+        }
+    }
+}
+
+/// Gives each index of a row its reset value.
+fn fill(words: &mut BTreeMap<Place, u32>, row: RowId) -> Result<(), AllocError>
+    ensures filled { OnOk result (HasResetWords (get ⟦<Place as Ord>⟧.cmp words.new) row (row_of row).count) }
+    ensures kept { OnOk result (KeepsOtherRows (get ⟦<Place as Ord>⟧.cmp words.old) (get ⟦<Place as Ord>⟧.cmp words.new) row) }
+{
+    let word = reset_of(row);
+    for index in 0..count_of(row) {
+        words.insert(Place { row, index }, word)?;
+    }
+    Ok(())
+}

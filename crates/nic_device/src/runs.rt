@@ -1,0 +1,65 @@
+ghost use Rattle.std.specs.Prelude.{◌≡◌, ◌<◌, IfOk, IfErr, OnOk, List, ◌∷◌, length};
+ghost use Rattle.nic_device.specs.Run.{replies_of, state_after, IsStop};
+ghost use Rattle.nic_device.specs.Step.{TakesMemory};
+ghost use Rattle.nic_device.specs.declared.event.Event.{Event};
+
+use crate::device::Device;
+use crate::event::{Event, OutOfMemory, Reply};
+use std::alloc::Global;
+
+/// A run that stopped before an event.
+#[derive(PartialEq, Eq, Debug, Drop)]
+pub struct RunStop {
+    /// The replies to the events that were made.
+    pub replies: Vec<Reply>,
+    /// The events that were not made, in their order: the refused one first.
+    pub rest: Vec<Event>,
+}
+
+impl Device {
+    /// Makes the events in their order, and stops before the first one that finds no memory. Where there is no room
+    /// for the replies it stops before the first event.
+    pub fn run(&mut self, alloc: Global, mut events: Vec<Event>) -> Result<Vec<Reply>, RunStop>
+        ensures replies { IfOk result (λ replies. replies.items ≡ replies_of self.old events.items) }
+        ensures state { OnOk result (self.new ≡ state_after self.old events.items) }
+        ensures stopped { IfErr result (λ stop. IsStop self.old events.items stop.replies.items stop.rest.items self.new) }
+
+        // once an event is made, the run stops only before one that takes memory
+        ensures memory { IfErr result (λ stop. (event : Event) (rest : List Event) →
+            0 < length stop.replies.items → stop.rest.items ≡ event ∷ rest → TakesMemory self.new event) }
+    {
+        if events.is_empty() {
+            return Ok(Vec::new(alloc));
+        }
+        let Ok(mut replies) = Vec::with_capacity(alloc, events.len()) else {
+            return Err(RunStop {
+                replies: Vec::new(alloc),
+                rest: events,
+            });
+        };
+        // the last event first, so that `pop` takes them in their order and a refused one goes back without memory
+        events.reverse();
+        while let Some(event) = events.pop() {
+            match self.step(event) {
+                Ok(reply) => {
+                    match replies.push(reply) {
+                        Ok(()) => {}
+                        Err(_) => unreachable!(),
+                    }
+                }
+                Err(OutOfMemory { event }) => {
+                    match events.push(event) {
+                        Ok(()) => {}
+                        Err(_) => unreachable!(),
+                    }
+                    events.reverse();
+                    return Err(RunStop {
+                        replies,
+                        rest: events,
+                    });
+                }
+            }
+        }
+        Ok(replies)
+    }
+}

@@ -1,0 +1,5 @@
+pub mod Endings
+pub mod Lines
+pub mod Steps
+pub mod Saying
+pub mod Running

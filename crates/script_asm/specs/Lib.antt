@@ -1,0 +1,12 @@
+pub mod Read
+pub mod Fault
+pub mod Target
+pub mod Instruction
+pub mod Statement
+pub mod Script
+pub mod Listing
+pub mod MachineState
+pub mod Machine
+pub mod Course
+pub mod Processor
+pub mod Laws

@@ -1,0 +1,109 @@
+//! The faults of a script.
+
+ghost use Rattle.std.specs.Prelude.{◌≡◌};
+ghost use Rattle.script_asm.specs.Fault.{both, told_first, fault_at};
+
+use lexer::NumberFault;
+use std::alloc::{AllocError, AllocFailed};
+use thiserror::Error;
+
+/// Why a text is no script: the first faulty line decides, and in it the fault that stands first here.
+/// Lines are numbered from 1.
+#[derive(Clone, Copy, Debug, PartialEq, Eq, Error)]
+pub enum ScriptFault {
+    /// The line has no form of the language.
+    #[error("line {0}: no statement of the script language")]
+    Syntax(usize),
+    /// The line names a row that isn't in the register table.
+    #[error("line {0}: no register of this name")]
+    UnknownName(usize),
+    /// A number on the line is 2^32 or more, or an index isn't below its row's count.
+    #[error("line {0}: a number out of range")]
+    Range(usize),
+    /// There are more than 4,096 instructions.
+    #[error("more than 4,096 instructions")]
+    TooLong,
+    /// There is no memory for the program. It may stand in place of any answer.
+    #[error("out of memory")]
+    OutOfMemory,
+}
+
+impl From<AllocError> for ScriptFault {
+    ghost use Rattle.script_asm.specs.declared.faults.ScriptFault.TheVariants.{OutOfMemory};
+
+    ghost from_gives = { λ _ fault. fault ≡ OutOfMemory };
+
+    fn from(_error: AllocError) -> ScriptFault {
+        ScriptFault::OutOfMemory
+    }
+}
+
+impl<T: Drop> From<AllocFailed<T>> for ScriptFault {
+    ghost use Rattle.script_asm.specs.declared.faults.ScriptFault.TheVariants.{OutOfMemory};
+
+    ghost from_gives = { λ _ fault. fault ≡ OutOfMemory };
+
+    fn from(_error: AllocFailed<T>) -> ScriptFault {
+        ScriptFault::OutOfMemory
+    }
+}
+
+/// What may be wrong with a line by itself, the fault that is told first standing first.
+#[derive(Clone, Copy, Debug, PartialEq, Eq)]
+pub(crate) enum LineFault {
+    Syntax,
+    UnknownName,
+    Range,
+}
+
+impl From<NumberFault> for LineFault {
+    ghost use Rattle.script_asm.specs.Fault.{number_fault};
+
+    ghost from_gives = { λ fault told. told ≡ number_fault fault };
+
+    fn from(fault: NumberFault) -> LineFault {
+        match fault {
+            NumberFault::Malformed => LineFault::Syntax,
+            NumberFault::TooLarge => LineFault::Range,
+        }
+    }
+}
+
+impl LineFault {
+    /// Of two faults of a line, the one that is told.
+    fn told_first(self, other: LineFault) -> LineFault
+        ensures { result ≡ told_first self other }
+    {
+        match (self, other) {
+            (LineFault::Syntax, _) | (_, LineFault::Syntax) => LineFault::Syntax,
+            (LineFault::UnknownName, _) | (_, LineFault::UnknownName) => LineFault::UnknownName,
+            (LineFault::Range, LineFault::Range) => LineFault::Range,
+        }
+    }
+
+    /// The fault of the script, where the line has this number.
+    pub(crate) fn at(self, number: usize) -> ScriptFault
+        ensures { result ≡ fault_at number self }
+    {
+        match self {
+            LineFault::Syntax => ScriptFault::Syntax(number),
+            LineFault::UnknownName => ScriptFault::UnknownName(number),
+            LineFault::Range => ScriptFault::Range(number),
+        }
+    }
+}
+
+/// Two parts of a line. Where both are faulty, the fault that is told first decides.
+pub(crate) fn both<A: Drop, B: Drop>(
+    a: Result<A, LineFault>,
+    b: Result<B, LineFault>,
+) -> Result<(A, B), LineFault>
+    ensures { result ≡ both a b }
+{
+    match (a, b) {
+        (Ok(a), Ok(b)) => Ok((a, b)),
+        (Ok(_), Err(fault)) => Err(fault),
+        (Err(fault), Ok(_)) => Err(fault),
+        (Err(fault), Err(other)) => Err(fault.told_first(other)),
+    }
+}

@@ -1,0 +1,72 @@
+//! The addresses and numbers that words of a script name.
+
+ghost use Rattle.std.specs.Prelude.{◌≡◌, ◌<◌};
+ghost use Rattle.std.specs.Option.{option_copied};
+ghost use Rattle.reg_table.specs.Rows.{row_of};
+ghost use Rattle.script_asm.specs.Target.{number_in, row_in, register_address, address_in, before_last_byte, target_of};
+
+use crate::faults::{LineFault, both};
+use lexer::is_name;
+use reg_table::{Place, RowId, addr_of, count_of, row_named};
+
+/// The number that a word writes.
+pub(crate) fn number(word: &str) -> Result<u32, LineFault>
+    ensures { result ≡ number_in word.now }
+{
+    let number = lexer::number(word)?;
+    Ok(number)
+}
+
+/// The row with a name.
+fn row(name: &str) -> Result<RowId, LineFault>
+    ensures { result ≡ row_in name.now }
+{
+    row_named(name).ok_or(LineFault::UnknownName)
+}
+
+/// The first address of a register of a row.
+fn register_address(row: RowId, index: u32) -> Result<u32, LineFault>
+    ensures { result ≡ register_address row index }
+{
+    if index < u32::from(count_of(row)) {
+        let index = index as u16;
+        Ok(addr_of(Place { row, index }))
+    } else {
+        Err(LineFault::Range)
+    }
+}
+
+/// The address of a row and an index, of which both may be faulty.
+fn address(row: Result<RowId, LineFault>, index: Result<u32, LineFault>) -> Result<u32, LineFault>
+    ensures { result ≡ address_in row index }
+{
+    let (row, index) = both(row, index)?;
+    register_address(row, index)
+}
+
+/// What stands before the bracket that ends a word.
+fn before_bracket(word: &str) -> Option<&str>
+    ensures { option_copied result ≡ before_last_byte 93 word.now }
+{
+    word.strip_suffix(']')
+}
+
+/// The address that a word names: `ROW[INDEX]`, `ROW` for its index 0, or a number.
+#[tactic(auto, unfolding(crate::specs::Target::target_of))]
+pub(crate) fn target(word: &str) -> Result<u32, LineFault>
+    ensures { result ≡ target_of word.now }
+{
+    if let Some((name, behind)) = word.split_once('[') {
+        let Some(index) = before_bracket(behind) else {
+            return Err(LineFault::Syntax);
+        };
+        if !is_name(name) {
+            return Err(LineFault::Syntax);
+        }
+        address(row(name), number(index))
+    } else if is_name(word) {
+        address(row(word), Ok(0))
+    } else {
+        number(word)
+    }
+}

@@ -1,0 +1,37 @@
+-- The command line, as clap's contracts see it.
+use Rattle.std.specs.Prelude.{[], ◌∷◌, ◌-◌, ◌^◌, Some, codes, pos, true}
+use Rattle.clap.specs.Words.{App, Rule, Text, new_app, new_rule, with_rule, with_subcommand}
+use Rattle.clap.specs.declared.builder.value_parser.ValueParser.{ValueParser}
+use Rattle.clap.specs.declared.builder.value_parser.ValueParser.TheVariants as parser
+
+-- `--name N`, with what passes for a number and what N is where the option is left out
+abbrev pub number_rule : Text → ValueParser → Text → Rule
+number_rule name numbers default = record (new_rule name) {
+  long = Some name;
+  value_names = 1;
+  parser = Some numbers;
+  defaults = default ∷ [];
+}
+
+abbrev pub vfs_rule : Rule
+vfs_rule = number_rule (codes "vfs") (parser.Signed (pos 0) (pos 255)) (codes "0")
+
+abbrev pub fifo_rule : Rule
+fifo_rule = number_rule (codes "fifo") (parser.Signed (pos 0) (pos 65535)) (codes "64")
+
+abbrev pub limit_rule : Rule
+limit_rule = number_rule (codes "limit") (parser.Unsigned 0 (2 ^ 64 - 1)) (codes "100000")
+
+-- `run` with its options
+abbrev pub run_app : App
+run_app = with_rule (with_rule (with_rule (new_app (codes "run")) vfs_rule) fifo_rule) limit_rule
+
+-- `nicbench`, which takes a command and has a version
+abbrev pub nicbench_app : App
+nicbench_app = let a = new_app (codes "nicbench") in with_subcommand (record a {
+  top = record a.top {
+    has_version = true;
+    subcommand_required = true;
+    arg_required_else_help = true;
+  };
+}) run_app.top

@@ -1,0 +1,71 @@
+//! The commands and their options.
+ghost use Rattle.std.specs.Prelude.{◌≡◌, IfErr, IfOk, false};
+ghost use Rattle.clap.specs.Words.{app_of, kind_of, rule_of};
+ghost use Rattle.clap.specs.declared.builder.command.Command.TheViews.{out-Command as fields_of};
+ghost use Rattle.command_line.specs.Commands.{fifo_rule, limit_rule, nicbench_app, run_app, vfs_rule};
+
+use clap::error::ErrorKind;
+use clap::{Arg, Command, Error, value_parser};
+use std::alloc::Global;
+
+fn vfs<'a>(alloc: Global) -> Arg<'a>
+    ensures rule { rule_of result ≡ vfs_rule }
+    ensures local { result.global ≡ false }
+{
+    Arg::new(alloc, "vfs")
+        .long("vfs")
+        .value_name("N")
+        .help("How many virtual functions the controller has, 63 at most")
+        .value_parser(value_parser!(u8))
+        .default_value("0")
+}
+
+fn fifo<'a>(alloc: Global) -> Arg<'a>
+    ensures rule { rule_of result ≡ fifo_rule }
+    ensures local { result.global ≡ false }
+{
+    Arg::new(alloc, "fifo")
+        .long("fifo")
+        .value_name("N")
+        .help("How many received frames may wait in the controller, from 1 to 4096")
+        .value_parser(value_parser!(u16))
+        .default_value("64")
+}
+
+fn limit<'a>(alloc: Global) -> Arg<'a>
+    ensures rule { rule_of result ≡ limit_rule }
+    ensures local { result.global ≡ false }
+{
+    Arg::new(alloc, "limit")
+        .long("limit")
+        .value_name("N")
+        .help("How many instructions are run at most")
+        .value_parser(value_parser!(u64))
+        .default_value("100000")
+}
+
+fn run<'a>(alloc: Global) -> Result<Command<'a>, Error>
+    ensures ok { IfOk result (λ c. app_of c ≡ run_app) }
+    ensures local { IfOk result (λ c. (fields_of c).has_globals ≡ false) }
+    ensures err { IfErr result (λ e. kind_of e ≡ ErrorKind.OutOfMemory) }
+{
+    let run = Command::new(alloc, "run")
+        .about("Runs the register script on standard input, and prints a line for each access")
+        .arg(vfs(alloc))?
+        .arg(fifo(alloc))?
+        .arg(limit(alloc))?;
+    Ok(run)
+}
+
+pub(crate) fn nicbench<'a>(alloc: Global) -> Result<Command<'a>, Error>
+    ensures ok { IfOk result (λ c. app_of c ≡ nicbench_app) }
+    ensures err { IfErr result (λ e. kind_of e ≡ ErrorKind.OutOfMemory) }
+{
+    let nicbench = Command::new(alloc, "nicbench")
+        .version("0.1.0")
+        .about("A bench for the registers of the Intel 82599 Ethernet controller")
+        .subcommand_required(true)
+        .arg_required_else_help(true)
+        .subcommand(run(alloc)?)?;
+    Ok(nicbench)
+}

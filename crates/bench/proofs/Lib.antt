@@ -1,0 +1,4 @@
+pub mod Endings
+pub mod Hex
+pub mod Inputs
+pub mod StepsText

@@ -1,0 +1,129 @@
+-- The lines of the steps so far, and of those to come.
+use Rattle.std.proofs.Common.{arith, refl, subst, sym, ◌∙◌, ap, ◌≡◌, ◌≤◌, ◌<◌, ℕ, zero, suc, ◌+◌, ◌-◌, List, [], ◌++◌, append-nil, append_assoc, Option, Some, None, add-zero, add-suc, add-one}
+use Rattle.std.specs.Io.KnownBytes.{Appends}
+use Rattle.nic_device.specs.declared.Config.{Config}
+use Rattle.script_asm.specs.Course.{Course}
+use Rattle.script_asm.specs.Listing.{Listing}
+use Rattle.script_asm.specs.Machine.{executed, executed_if_some, machine_at, machine_step, next_instruction, start_of}
+use Rattle.script_asm.specs.MachineState.{MachineState}
+use Rattle.script_asm.specs.declared.Instruction.{Instruction}
+use Rattle.script_asm.specs.declared.Instruction.TheVariants.{Write, Read}
+use Rattle.script_asm.specs.declared.StepAnswer.{StepAnswer}
+use Rattle.script_asm.specs.declared.StepAnswer.TheVariants.{Made, Stopped}
+use Rattle.bench.specs.Run.{WritesBeginning}
+use Rattle.nic_device.specs.declared.Reply.{Reply}
+use Rattle.bench.specs.Steps.{answer_text, reply_line, step_text, steps_text}
+
+executed-stopped : (p : Listing) (s : MachineState) (i : Instruction) → (executed p s i).answer ≡ Stopped → ⊥
+executed-stopped p s (Write address word) stopped = cc
+executed-stopped p s (Read address) stopped = cc
+
+executed_if_some-stopped : (p : Listing) (s : MachineState) (i : Option Instruction) → (executed_if_some p s i).answer ≡ Stopped
+    → (executed_if_some p s i).state ≡ s
+executed_if_some-stopped p s None stopped = refl
+executed_if_some-stopped p s (Some i) stopped = absurd (executed-stopped p s i stopped)
+
+-- a machine that answers that it has stopped stays
+machine_step-stopped : (p : Listing) (s : MachineState) → (machine_step p s).answer ≡ Stopped → (machine_step p s).state ≡ s
+unfolding machine_step
+machine_step-stopped p s stopped = executed_if_some-stopped p s (next_instruction p s) stopped
+
+module _ (p : Listing) (c : Config) (k : ℕ) (stopped : (machine_step p (machine_at p c k)).answer ≡ Stopped) where
+  machine_at-stopped : (d : ℕ) → machine_at p c (k + d) ≡ machine_at p c k
+  unfolding machine_at
+  machine_at-stopped zero = ap (machine_at p c) (add-zero k)
+  machine_at-stopped (suc d) = ap (machine_at p c) (add-suc k d)
+      ∙ ap (λ s. (machine_step p s).state) (machine_at-stopped d) ∙ machine_step-stopped p (machine_at p c k) stopped
+
+  -- it prints no more lines
+  steps_text-stopped : (d : ℕ) → steps_text p c (k + d) ≡ steps_text p c k
+  unfolding steps_text
+  steps_text-stopped zero = ap (steps_text p c) (add-zero k)
+  steps_text-stopped (suc d) = ap (steps_text p c) (add-suc k d)
+      ∙ ap (λ t. t ++ step_text p (machine_at p c (k + d))) (steps_text-stopped d)
+      ∙ ap (λ s. steps_text p c k ++ step_text p s) (machine_at-stopped d)
+      ∙ ap (λ a. steps_text p c k ++ answer_text (machine_at p c k).pc a) stopped ∙ append-nil (steps_text p c k)
+
+-- the lines of d steps after the first k
+rest_of : Listing → Config → ℕ → ℕ → List ℕ
+rest_of p c k zero = []
+rest_of p c k (suc d) = rest_of p c k d ++ step_text p (machine_at p c (k + d))
+
+steps_text-rest : (p : Listing) (c : Config) (k d : ℕ) → steps_text p c k ++ rest_of p c k d ≡ steps_text p c (k + d)
+unfolding steps_text rest_of
+steps_text-rest p c k zero = append-nil (steps_text p c k) ∙ ap (steps_text p c) (sym (add-zero k))
+steps_text-rest p c k (suc d) = sym (append_assoc (steps_text p c k) (rest_of p c k d) (step_text p (machine_at p c (k + d))))
+    ∙ ap (λ t. t ++ step_text p (machine_at p c (k + d))) (steps_text-rest p c k d) ∙ ap (steps_text p c) (sym (add-suc k d))
+
+Appends-both : (a b c : Option (List ℕ)) (x y : List ℕ) → Appends a b x → Appends b c y → Appends a c (x ++ y)
+Appends-both None b c x y first second = tt
+Appends-both (Some p) None c x y first second = absurd first
+Appends-both (Some p) (Some q) None x y first second = absurd second
+Appends-both (Some p) (Some q) (Some r) x y first second = second ∙ ap (λ t. t ++ y) first ∙ append_assoc p x y
+
+Appends-none : (a : Option (List ℕ)) → Appends a a []
+Appends-none None = tt
+Appends-none (Some p) = sym (append-nil p)
+
+-- a machine that has made k steps, whose lines are written
+pub record AfterSteps (old new : Option (List ℕ)) (start now : Course) (k : ℕ) : Type 0 where
+  pub written : Appends old new (steps_text start.program start.config k)
+  pub at : now ≡ record start { state = machine_at start.program start.config k }
+
+pub no-steps : (o : Option (List ℕ)) (m : Course) → m.state ≡ start_of m.program m.config → AfterSteps o o m m 0
+unfolding machine_at steps_text
+no-steps o m new = record { written = Appends-none o; at = ap (λ s. record m { state = s }) new }
+
+module _ (old new : Option (List ℕ)) (start now : Course) (k limit : ℕ) (after : AfterSteps old new start now k) where
+  pub all-text : k ≡ limit → Appends old new (steps_text start.program start.config limit)
+  all-text is = subst (λ n. Appends old new (steps_text start.program start.config n)) is after.written
+
+  pub all-state : k ≡ limit → now.state ≡ machine_at start.program start.config limit
+  all-state is = ap (λ (m : Course). m.state) after.at ∙ ap (machine_at start.program start.config) is
+
+  pub steps-begun : k ≤ limit → WritesBeginning old new (steps_text start.program start.config limit)
+  steps-begun within =
+      let up_to : k + (limit - k) ≡ limit = omega arith in
+      record {
+        beginning = steps_text start.program start.config k;
+        rest = rest_of start.program start.config k (limit - k);
+        written = after.written;
+        whole = steps_text-rest start.program start.config k (limit - k) ∙ ap (steps_text start.program start.config) up_to;
+      }
+
+  -- the step is that of the machine after k steps
+  step-at : machine_step now.program now.state ≡ machine_step start.program (machine_at start.program start.config k)
+  step-at = ap (λ (m : Course). machine_step m.program m.state) after.at
+
+  pub stopped-text : (machine_step now.program now.state).answer ≡ Stopped → k ≤ limit → Appends old new (steps_text start.program start.config limit)
+  stopped-text is within =
+      let up_to : k + (limit - k) ≡ limit = omega arith in
+      let stopped = ap (λ s. s.answer) (sym step-at) ∙ is in
+      subst (Appends old new) (sym (steps_text-stopped start.program start.config k stopped (limit - k)) ∙ ap (steps_text start.program start.config) up_to) after.written
+
+  pub stopped-state : (then : Course) → then ≡ record now { state = (machine_step now.program now.state).state }
+      → (machine_step now.program now.state).answer ≡ Stopped → k ≤ limit → then.state ≡ machine_at start.program start.config limit
+  stopped-state then step is within =
+      let up_to : k + (limit - k) ≡ limit = omega arith in
+      let stopped = ap (λ s. s.answer) (sym step-at) ∙ is in
+      ap (λ (m : Course). m.state) step ∙ ap (λ s. s.state) step-at ∙ machine_step-stopped start.program (machine_at start.program start.config k) stopped
+      ∙ sym (machine_at-stopped start.program start.config k stopped (limit - k)) ∙ ap (machine_at start.program start.config) up_to
+
+  pub next-steps : (last : Option (List ℕ)) (then : Course) → then ≡ record now { state = (machine_step now.program now.state).state }
+      → Appends new last (answer_text now.state.pc (machine_step now.program now.state).answer) → AfterSteps old last start then (k + 1)
+  unfolding machine_at steps_text
+  next-steps last then step wrote = record {
+    written = subst (Appends old last)
+        (ap (λ (m : Course). steps_text start.program start.config k ++ step_text m.program m.state) after.at
+        ∙ ap (steps_text start.program start.config) (sym (add-one k)))
+        (Appends-both old new last (steps_text start.program start.config k) _ after.written wrote);
+    at = step ∙ ap (λ (m : Course). record m { state = (machine_step m.program m.state).state }) after.at
+        ∙ ap (λ n. record start { state = machine_at start.program start.config n }) (sym (add-one k));
+  }
+
+-- the line of a reply is the text of the answer that it is
+pub reply-written : (old new : Option (List ℕ)) (pc at : ℕ) (reply : Reply) (answer : StepAnswer) → pc ≡ at → answer ≡ Made reply
+    → Appends old new (reply_line pc reply) → Appends old new (answer_text at answer)
+reply-written old new pc at reply answer same made written =
+    let line : reply_line pc reply ≡ answer_text at answer = ap (λ n. reply_line n reply) same ∙ ap (answer_text at) (sym made) in
+    subst (Appends old new) line written

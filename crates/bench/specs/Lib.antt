@@ -1,0 +1,6 @@
+pub mod Ending
+pub mod Refusal
+pub mod Reply
+pub mod Run
+pub mod Steps
+pub mod Word

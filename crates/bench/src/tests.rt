@@ -1,0 +1,35 @@
+//! Whole runs, from words and bytes to bytes and a status.
+
+use super::{Outcome, bench};
+use std::alloc::Global;
+use std::process::Abort;
+use std::str;
+use std::test::Fail;
+
+mod fakes;
+mod input;
+mod scripts;
+mod words;
+
+/// What `nicbench` with these words writes for these bytes, and its status.
+fn answer(alloc: Global, words: &[&'static str], input: &[u8]) -> (Vec<u8>, u8) {
+    let mut reader = input;
+    let mut written = Vec::new(alloc);
+    let Outcome::Ended(status) = bench(alloc, &mut reader, &mut written, words);
+    (written, status)
+}
+
+/// Runs `nicbench` with these words on this text, and asserts what it writes and its status.
+fn expect(
+    rt: &impl Abort,
+    alloc: Global,
+    words: &[&'static str],
+    input: &str,
+    written: &str,
+    status: u8,
+) {
+    let (bytes, ended) = answer(alloc, words, input.as_bytes());
+    let text = str::from_utf8(&bytes).expect(rt, "text");
+    assert_eq!(rt; text, written, "{words:?} on {input:?}");
+    assert_eq!(rt; ended, status, "{words:?} on {input:?}");
+}

@@ -1,0 +1,93 @@
+//! Readers and writers that fail, or never end.
+
+use std::io::{Error, ErrorKind, Read, Result, Write};
+
+/// Gives so many newlines.
+#[derive(Drop)]
+pub struct Newlines(pub usize);
+
+impl Read for Newlines {
+    fn read(&mut self, buf: &mut [u8]) -> Result<usize> {
+        let count = self.0.min(buf.len());
+        for byte in buf[..count].iter_mut() {
+            *byte = b'\n';
+        }
+        self.0 -= count;
+        Ok(count)
+    }
+}
+
+/// Gives a newline at each read, without end.
+#[derive(Drop)]
+pub struct Drip;
+
+impl Read for Drip {
+    fn read(&mut self, buf: &mut [u8]) -> Result<usize> {
+        match buf.first_mut() {
+            Some(byte) => {
+                *byte = b'\n';
+                Ok(1)
+            }
+            None => Ok(0),
+        }
+    }
+}
+
+/// Fills each buffer, without end.
+#[derive(Drop)]
+pub struct Flood;
+
+impl Read for Flood {
+    fn read(&mut self, buf: &mut [u8]) -> Result<usize> {
+        for byte in buf.iter_mut() {
+            *byte = 0xff;
+        }
+        Ok(buf.len())
+    }
+}
+
+/// Gives a newline at each read, and fails at the read of this number.
+#[derive(Drop)]
+pub struct FailingReader(pub u32);
+
+impl Read for FailingReader {
+    fn read(&mut self, buf: &mut [u8]) -> Result<usize> {
+        if self.0 == 0 {
+            return Err(Error::from(ErrorKind::Other));
+        }
+        self.0 -= 1;
+        match buf.first_mut() {
+            Some(byte) => {
+                *byte = b'\n';
+                Ok(1)
+            }
+            None => Ok(0),
+        }
+    }
+}
+
+/// Takes so many writes and fails at the next, and counts the writes after that.
+#[derive(Drop)]
+pub struct FailingWriter {
+    pub taken: u32,
+    pub has_failed: bool,
+    pub later: u32,
+}
+
+impl Write for FailingWriter {
+    fn write(&mut self, buf: &[u8]) -> Result<usize> {
+        if self.has_failed {
+            self.later = self.later.saturating_add(1);
+        }
+        if self.taken == 0 {
+            self.has_failed = true;
+            return Err(Error::from(ErrorKind::BrokenPipe));
+        }
+        self.taken -= 1;
+        Ok(buf.len())
+    }
+
+    fn flush(&mut self) -> Result<()> {
+        Ok(())
+    }
+}

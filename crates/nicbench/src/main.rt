@@ -1,0 +1,39 @@
+//! `nicbench`: the program over standard input and standard output.
+#![tactic(auto)]
+
+use bench::{Outcome, bench};
+use std::env;
+use std::io::{self, BufWriter, ErrorKind, Write};
+use std::process::ExitCode;
+
+/// The status of standard input or standard output that fail.
+const FAILED: u8 = 2;
+
+/// The status of words that are no text.
+const REFUSED_WORDS: u8 = 3;
+
+/// The status where there is no memory.
+const NO_MEMORY: u8 = 4;
+
+fn main(rt: HostRuntime) -> ExitCode {
+    let status = match run(&rt) {
+        Ok(status) => status,
+        Err(error) => match error.kind() {
+            ErrorKind::OutOfMemory => NO_MEMORY,
+            ErrorKind::InvalidData => REFUSED_WORDS,
+            _ => FAILED,
+        },
+    };
+    ExitCode::from(status)
+}
+
+/// Runs the bench on the process's words, standard input and standard output, and gives its status.
+fn run(rt: &HostRuntime) -> io::Result<u8> {
+    let alloc = rt.alloc();
+    let words: Vec<String> = env::args(rt)?.collect(alloc)?;
+    let mut reader = rt.stdin();
+    let mut writer = BufWriter::new(alloc, rt.stdout())?;
+    let Outcome::Ended(status) = bench(alloc, &mut reader, &mut writer, words.as_slice());
+    writer.flush()?;
+    Ok(status)
+}

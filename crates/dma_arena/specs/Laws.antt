@@ -1,0 +1,100 @@
+use Rattle.std.specs.Prelude.{◌≡◌, ◌≢◌, ◌↔◌, ℕ, ◌+◌, ◌*◌, ◌/◌, ◌<◌, ◌≤◌, true, false, List, length, slice_index}
+use Rattle.std.specs.FinMap as map
+use Rattle.dma_arena.specs.Memory.{Memory, has_block, byte_at, is_lent, read_at, write_at, put_bytes, part, IsWhole, SameLent, IsOutside, AreApart, Avoids}
+use Rattle.dma_arena.specs.Numbers.{Numbers, free_count, is_own, is_free, are_all_free, all_free, with_free, NoneFree}
+use Rattle.std.specs.Prelude.{Some, Bool}
+
+-- ranges of bus addresses
+
+-- a range is lent exactly where each block that it touches is
+abbrev pub LentByBlocks : Type 0
+LentByBlocks = (m : Memory) (a n : ℕ) → (is_lent m a n ≡ true) ↔ ((c : ℕ) → a ≤ c → c < a + n → has_block m (c / 2048) ≡ true)
+
+-- a lent range ends at the end of block 65,535 at most, so that no address in it wraps
+abbrev pub LentEnds : Type 0
+LentEnds = (m : Memory) (a n : ℕ) → IsWhole m → is_lent m a n ≡ true → 0 < n → a + n ≤ 65536 * 2048
+
+-- a read gives the bytes of its range in turn
+abbrev pub ReadsBytes : Type 0
+ReadsBytes = (m : Memory) (a n k : ℕ) → k < n → slice_index (read_at m a n) k ≡ byte_at m (a + k)
+
+-- a read of the range that was written gives the bytes that were written
+abbrev pub ReadsBack : Type 0
+ReadsBack =
+    (m : Memory) (a : ℕ) (bytes : List ℕ) → IsWhole m → is_lent m a (length bytes) ≡ true
+    → read_at (write_at m a bytes) a (length bytes) ≡ bytes
+
+-- a write changes no read of a range that shares no byte with it
+abbrev pub ReadsApart : Type 0
+ReadsApart =
+    (m : Memory) (a : ℕ) (bytes : List ℕ) (c n : ℕ) → AreApart c n a (length bytes)
+    → read_at (write_at m a bytes) c n ≡ read_at m c n
+
+-- a write changes no byte outside its range
+abbrev pub WritesInside : Type 0
+WritesInside =
+    (m : Memory) (a : ℕ) (bytes : List ℕ) (c : ℕ) → IsOutside c a (length bytes)
+    → byte_at (write_at m a bytes) c ≡ byte_at m c
+
+-- a write changes neither which blocks are lent nor how long they are
+abbrev pub WriteKeepsBlocks : Type 0
+WriteKeepsBlocks = (m : Memory) (a : ℕ) (bytes : List ℕ) → SameLent (write_at m a bytes) m × (IsWhole m → IsWhole (write_at m a bytes))
+
+-- lending a block and taking one change no byte of another
+abbrev pub MovesApart : Type 0
+MovesApart =
+    (m : Memory) (number : ℕ) (bytes : List ℕ) (c : ℕ) → c / 2048 ≢ number
+    → (byte_at (map.insert m number bytes) c ≡ byte_at m c) × (byte_at (map.remove m number) c ≡ byte_at m c)
+
+-- one block
+
+-- a write whose range has no byte of a block leaves that block
+abbrev pub WriteAvoids : Type 0
+WriteAvoids =
+    (m : Memory) (a : ℕ) (bytes : List ℕ) (number : ℕ) → Avoids number a (length bytes)
+    → map.get (write_at m a bytes) number ≡ map.get m number
+
+-- inside one lent block a range is lent, a read is a part of its bytes, and a write puts bytes into it and changes nothing else
+pub record InsideBlock (m : Memory) (number at : ℕ) (block : List ℕ) : Type 0 where
+  pub lent : (n : ℕ) → at + n ≤ 2048 → is_lent m (2048 * number + at) n ≡ true
+  pub read : (n : ℕ) → at + n ≤ 2048 → read_at m (2048 * number + at) n ≡ part block at n
+  pub written : (bytes : List ℕ) → at + length bytes ≤ 2048 → write_at m (2048 * number + at) bytes ≡ map.insert m number (put_bytes block at bytes)
+
+abbrev pub BlockLaw : Type 0
+BlockLaw = (m : Memory) (number at : ℕ) (block : List ℕ) → IsWhole m → map.get m number ≡ Some block → InsideBlock m number at block
+
+-- what was put into a block is there, and the rest of the block stays
+abbrev pub PutLaw : Type 0
+PutLaw =
+    (block : List ℕ) (at : ℕ) (bytes : List ℕ) → at + length bytes ≤ length block
+    → (length (put_bytes block at bytes) ≡ length block) × (part (put_bytes block at bytes) at (length bytes) ≡ bytes)
+    × ((from n : ℕ) → AreApart from n at (length bytes) → part (put_bytes block at bytes) from n ≡ part block from n)
+
+-- the numbers of an arena
+
+-- a new arena owns exactly its numbers, and all of them are free
+abbrev pub OwnsItsNumbers : Type 0
+OwnsItsNumbers =
+    (first count number : ℕ)
+    → ((is_own (all_free first count) number ≡ true) ↔ ((first ≤ number) × (number < first + count)))
+    × (is_free (all_free first count) number ≡ is_own (all_free first count) number)
+
+-- taking or giving a number changes that number alone, and owns no other numbers
+pub record ChangesOne (a : Numbers) (number : ℕ) (free : Bool) : Type 0 where
+  pub changed : is_free (with_free a number free) number ≡ free
+  pub others : (other : ℕ) → other ≢ number → is_free (with_free a number free) other ≡ is_free a other
+  pub owned : (other : ℕ) → is_own (with_free a number free) other ≡ is_own a other
+
+abbrev pub ChangeLaw : Type 0
+ChangeLaw = (a : Numbers) (number : ℕ) (free : Bool) → is_own a number ≡ true → ChangesOne a number free
+
+-- what is counted: the free numbers
+pub record CountsFree (a : Numbers) : Type 0 where
+  pub none : (free_count a ≡ 0) ↔ NoneFree a
+  pub all : (are_all_free a ≡ true) ↔ ((number : ℕ) → is_own a number ≡ true → is_free a number ≡ true)
+  pub own : (number : ℕ) → is_free a number ≡ true → is_own a number ≡ true
+  pub taken : (number : ℕ) → is_free a number ≡ true → free_count (with_free a number false) + 1 ≡ free_count a
+  pub given : (number : ℕ) → is_own a number ≡ true → is_free a number ≡ false → free_count (with_free a number true) ≡ free_count a + 1
+
+abbrev pub CountLaw : Type 0
+CountLaw = (a : Numbers) → CountsFree a

@@ -1,0 +1,48 @@
+use Rattle.std.specs.Prelude.{◌≡◌, ℕ, ◌+◌, ◌-◌, ◌<◌, ◌≤◌, Bool, true, false, ◌&&◌, nat_le, nat_lt, List, length, replicate, slice_index_or, slice_set, count_by}
+use Rattle.std.specs.List.{list_all}
+
+-- an arena's block numbers: those from `first` on, and of each in turn whether it is free
+pub record Numbers : Type 0 where
+  pub first : ℕ
+  pub free : List Bool
+
+-- how many numbers the arena has
+abbrev pub count_of : Numbers → ℕ
+count_of a = length a.free
+
+-- how many of them are free
+abbrev pub free_count : Numbers → ℕ
+free_count a = count_by (λ free. free) a.free
+
+-- whether the arena owns the number
+abbrev pub is_own : Numbers → ℕ → Bool
+is_own a number = nat_le a.first number && nat_lt number (a.first + length a.free)
+
+-- whether the number is free in the arena
+abbrev pub is_free : Numbers → ℕ → Bool
+is_free a number = nat_le a.first number && slice_index_or a.free (number - a.first) false
+
+-- whether all of the arena's numbers are free
+abbrev pub are_all_free : Numbers → Bool
+are_all_free a = list_all (λ free. free) a.free
+
+-- the `count` numbers from `first` on, all free
+abbrev pub all_free : ℕ → ℕ → Numbers
+all_free first count = record { first = first; free = replicate count true }
+
+-- the same numbers, with this one free or not
+abbrev pub with_free : Numbers → ℕ → Bool → Numbers
+with_free a number free = record a { free = slice_set a.free (number - a.first) free }
+
+-- an arena has a number at least, and all are below 65,536
+pub record IsArena (a : Numbers) : Type 0 where
+  pub some : 0 < length a.free
+  pub small : a.first + length a.free ≤ 65536
+
+-- no number is free
+abbrev pub NoneFree : Numbers → Type 0
+NoneFree a = (number : ℕ) → is_free a number ≡ false
+
+-- there are numbers of the arena on both sides of the cut
+abbrev pub IsInside : Numbers → ℕ → Type 0
+IsInside a at = (a.first < at) × (at < a.first + length a.free)

@@ -1,0 +1,30 @@
+use Rattle.std.specs.Prelude.{◌≡◌, ℕ, ◌+◌, ◌==◌, true, false, List, [], ◌∷◌, count_by, if◌then◌else◌}
+use Rattle.std.specs.FinMap as map
+use Rattle.dma_arena.specs.Memory.{Memory, has_block}
+use Rattle.dma_arena.specs.Numbers.{Numbers, is_own, is_free, all_free, with_free}
+
+-- how many blocks in hand have this number
+abbrev pub times_in_hand : List ℕ → ℕ → ℕ
+times_in_hand hand number = count_by (λ held. held == number) hand
+
+-- in how many places the block of this number is: free in the arena, in hand, or lent
+abbrev pub places_of : Numbers → List ℕ → Memory → ℕ → ℕ
+places_of a hand m number =
+    (if is_free a number then 1 else 0) + times_in_hand hand number + (if has_block m number then 1 else 0)
+
+-- each block of the arena is in exactly one place
+abbrev pub EachOnce : Numbers → List ℕ → Memory → Type 0
+EachOnce a hand m = (number : ℕ) → is_own a number ≡ true → places_of a hand m number ≡ 1
+
+-- the moves of a block between the places, each of which keeps that so
+pub record MovesKeepEachOnce : Type 0 where
+  -- a new arena, none of whose numbers is in hand or lent
+  pub made : (first count : ℕ) → EachOnce (all_free first count) [] map.empty
+  pub taken : (a : Numbers) (hand : List ℕ) (m : Memory) (number : ℕ) → is_free a number ≡ true → EachOnce a hand m → EachOnce (with_free a number false) (number ∷ hand) m
+  pub given : (a : Numbers) (hand : List ℕ) (m : Memory) (number : ℕ) → is_own a number ≡ true → EachOnce a (number ∷ hand) m → EachOnce (with_free a number true) hand m
+  pub lent : (a : Numbers) (hand : List ℕ) (m : Memory) (number : ℕ) (bytes : List ℕ) → has_block m number ≡ false → EachOnce a (number ∷ hand) m → EachOnce a hand (map.insert m number bytes)
+  pub back : (a : Numbers) (hand : List ℕ) (m : Memory) (number : ℕ) → has_block m number ≡ true → EachOnce a hand m → EachOnce a (number ∷ hand) (map.remove m number)
+  -- a block of an arena that shares no number with this one
+  pub foreign : (a : Numbers) (hand : List ℕ) (m : Memory) (number : ℕ) → is_own a number ≡ false → EachOnce a hand m → EachOnce a (number ∷ hand) m
+  -- a block in hand is neither free nor lent, so that it can be given back and lent
+  pub welcome : (a : Numbers) (hand : List ℕ) (m : Memory) (number : ℕ) → is_own a number ≡ true → EachOnce a (number ∷ hand) m → (is_free a number ≡ false) × (has_block m number ≡ false)

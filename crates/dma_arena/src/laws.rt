@@ -1,0 +1,65 @@
+//! The laws of packet memory, for whoever proves something above it. Each function here is a
+//! theorem: it does nothing when it runs, and what it ensures holds of the definitions that the
+//! contracts of this crate cite.
+
+ghost use Rattle.dma_arena.specs.Laws.{LentByBlocks, LentEnds, ReadsBytes, ReadsBack, ReadsApart, WritesInside, WriteKeepsBlocks, MovesApart, WriteAvoids, BlockLaw, PutLaw, OwnsItsNumbers, ChangeLaw, CountLaw};
+ghost use Rattle.dma_arena.specs.Whereabouts.{MovesKeepEachOnce};
+
+/// A range of bus addresses is lent exactly where each block that it touches is, and it then
+/// ends with block 65,535 at most.
+pub fn lent_range()
+    ensures blocks { LentByBlocks }
+    ensures end { LentEnds }
+{}
+
+/// A read gives the bytes of its range in turn.
+pub fn read()
+    ensures { ReadsBytes }
+{}
+
+/// A read of the range that was just written gives the bytes that were written.
+pub fn read_after_write()
+    ensures { ReadsBack }
+{}
+
+/// A read of a range that shares no byte with the one that was written is as before the write.
+pub fn read_apart()
+    ensures { ReadsApart }
+{}
+
+/// A write changes no byte outside its range, no block's length, and not which blocks are lent.
+pub fn write()
+    ensures bytes { WritesInside }
+    ensures blocks { WriteKeepsBlocks }
+    ensures avoided { WriteAvoids }
+{}
+
+/// Lending a block and taking one change no byte of another.
+pub fn lend_and_take()
+    ensures { MovesApart }
+{}
+
+/// Inside one lent block a read is a part of its bytes, and a write puts bytes there and changes
+/// nothing else.
+pub fn inside_block()
+    ensures { BlockLaw }
+{}
+
+/// What was put into a block is there, and the rest of the block stays.
+pub fn put()
+    ensures { PutLaw }
+{}
+
+/// A new arena owns exactly its numbers. Taking a block, or giving one, changes whether that
+/// number is free, and nothing else.
+pub fn numbers()
+    ensures own { OwnsItsNumbers }
+    ensures change { ChangeLaw }
+    ensures count { CountLaw }
+{}
+
+/// Where arenas share no number, each block of an arena is in exactly one place, free, in hand
+/// or lent: it is so at first, and each move of a block keeps it so.
+pub fn each_block_once()
+    ensures { MovesKeepEachOnce }
+{}

@@ -1,0 +1,157 @@
+ghost use Rattle.std.specs.Prelude.{◌≡◌, ◌↔◌, ◌<◌, ℕ, true, false, length, IsTrue, IfSome, IfNone, IfErr, IsOk, IsNone, OnOk, OnErr};
+ghost use Rattle.std.specs.FinMap as map;
+ghost use Rattle.dma_arena.specs.Memory.{has_block, block_at, is_lent, read_at, write_at, IsWhole};
+ghost use Rattle.dma_arena.specs.LendRefused.{back_of, IsTwice};
+
+use crate::buf::Buf;
+use crate::ranges;
+use std::alloc::Global;
+use std::collections::BTreeMap;
+use std::marker::Model;
+
+/// The packet memory that is lent to the device: blocks by their numbers, and the bus over them.
+///
+/// Bus address `a` is byte `a % 2048` of block `a / 2048`. A range of addresses may cross
+/// blocks; it is lent where each block that it touches is. Contracts see the lent numbers with
+/// the bytes of each. It cannot be dropped: it is finished in the end, once it is empty.
+///
+/// Only `lend` takes memory.
+pub struct LentMemory {
+    blocks: BTreeMap<u32, Buf>,
+}
+
+impl Model for LentMemory {
+    ghost use Rattle.std.specs.Coded.{coded_ℕ, coded_list};
+    ghost use Rattle.std.specs.FinMap as map;
+    ghost use Rattle.dma_arena.specs.Memory.{Memory};
+    ghost use Rattle.dma_arena.specs.Shown.{shown, IsKept};
+
+    ghost Value = { Memory };
+
+    ghost coded = { map.code coded_ℕ (coded_list coded_ℕ) };
+
+    ghost view = { λ a. shown a.blocks };
+
+    ghost invariant = { λ a. IsKept a.blocks };
+}
+
+/// Why a block was not lent, and the block.
+pub enum LendRefused {
+    /// A block of its number is lent already.
+    Twice(Buf),
+    /// There was no memory to note it.
+    OutOfMemory(Buf),
+}
+
+impl LentMemory {
+    /// Lent memory without a block. It takes no memory.
+    pub fn new(alloc: Global) -> LentMemory
+        ensures { result ≡ map.empty }
+    {
+        LentMemory {
+            blocks: BTreeMap::new(alloc),
+        }
+    }
+
+    /// Lends a block under its number.
+    ///
+    /// `Twice` exactly where that number is lent already, else `OutOfMemory`. Both hand the block
+    /// back, and leave what is lent as it is.
+    pub fn lend(&mut self, buf: Buf) -> Result<(), LendRefused>
+        ensures lent { OnOk result (self.new ≡ map.insert self.old buf.number buf.bytes) }
+        ensures once { OnOk result (has_block self.old buf.number ≡ false) }
+        ensures twice { IfErr result (λ r. IsTwice r ↔ IsTrue (has_block self.old buf.number)) }
+        ensures back { IfErr result (λ r. back_of r ≡ buf) }
+        ensures kept { OnErr result (self.new ≡ self.old) }
+    {
+        let number = buf.block();
+        if self.blocks.contains_key(&number) {
+            return Err(LendRefused::Twice(buf));
+        }
+        // It is kept that each lent block is whole, as `bytes` says of this one.
+        let _ = buf.bytes();
+        match self.blocks.insert(number, buf) {
+            Ok(None) => Ok(()),
+            Ok(Some(_old)) => unreachable!(),
+            Err(refused) => {
+                let (_, buf) = refused.value;
+                Err(LendRefused::OutOfMemory(buf))
+            }
+        }
+    }
+
+    /// Takes a block back, with the bytes that the bus left in it. None where it is not lent.
+    pub fn take(&mut self, block: u32) -> Option<Buf>
+        ensures taken { result ≡ block_at self.old block }
+        ensures left { self.new ≡ map.remove self.old block }
+        ensures kept { IfNone result (self.new ≡ self.old) }
+    {
+        self.blocks.remove(&block)
+    }
+
+    /// The lowest number that is lent. None where no block is.
+    pub fn lowest(&self) -> Option<u32>
+        ensures none { IsNone result ↔ (self.now ≡ map.empty) }
+        ensures lent { IfSome result (λ number. IsTrue (has_block self.now number)) }
+        ensures least { IfSome result (λ number. (q : ℕ) → q < number → has_block self.now q ≡ false) }
+    {
+        let (number, _) = self.blocks.first_key_value()?;
+        Some(*number)
+    }
+
+    /// Whether each of the `len` bytes from a bus address on is in a lent block. A range that
+    /// would pass block 65,535 is not lent; one without bytes is.
+    pub fn is_lent(&self, address: u64, len: usize) -> bool
+        ensures lent { result ≡ is_lent self.now address len }
+        ensures whole { IsWhole self.now }
+    {
+        ranges::are_lent(&self.blocks, address, len)
+    }
+
+    /// The 16 bytes from a bus address on, as those of a descriptor.
+    pub fn read16(&self, address: u64) -> [u8; 16]
+        requires { is_lent self.now address 16 ≡ true }
+        ensures { result ≡ read_at self.now address 16 }
+    {
+        let mut bytes = [0; 16];
+        self.read_at(address, &mut bytes);
+        bytes
+    }
+
+    /// Writes 16 bytes from a bus address on, as those of a descriptor.
+    pub fn write16(&mut self, address: u64, bytes: [u8; 16])
+        requires { is_lent self.old address 16 ≡ true }
+        ensures { self.new ≡ write_at self.old address bytes }
+    {
+        self.write_at(address, &bytes);
+    }
+
+    /// Fills the slice with the bytes from a bus address on.
+    pub fn read_at(&self, address: u64, bytes: &mut [u8])
+        requires { is_lent self.now address (length bytes.old) ≡ true }
+        ensures { bytes.new ≡ read_at self.now address (length bytes.old) }
+    {
+        ranges::read_bytes(&self.blocks, address, bytes);
+    }
+
+    /// Writes the bytes of the slice from a bus address on.
+    pub fn write_at(&mut self, address: u64, bytes: &[u8])
+        requires { is_lent self.old address (length bytes.now) ≡ true }
+        ensures { self.new ≡ write_at self.old address bytes.now }
+    {
+        ranges::write_bytes(&mut self.blocks, address, bytes);
+    }
+
+    /// Ends the lent memory. It is handed back unchanged exactly when a block is lent.
+    pub fn finish(self) -> Result<(), LentMemory>
+        ensures ok { IsOk result ↔ (self ≡ map.empty) }
+        ensures back { IfErr result (λ m. m ≡ self) }
+    {
+        if !self.blocks.is_empty() {
+            return Err(self);
+        }
+        let LentMemory { blocks } = self;
+        blocks.destroy_empty();
+        Ok(())
+    }
+}

@@ -1,0 +1,28 @@
+//! Packet memory: blocks of 2,048 bytes, and the bus that the device reads and writes them by.
+//!
+//! A block is in one place at a time: free in an [`Arena`], in hand as a [`Buf`], or lent to the
+//! device in a [`LentMemory`], where bus address `a` is byte `a % 2048` of block `a / 2048`.
+//! [`Octets`] are bytes that are kept, as those of a frame.
+//!
+//! Contracts see an arena as its numbers, each free or not (`specs/Numbers.antt`), and lent memory
+//! as a map from block number to bytes (`specs/Memory.antt`). The laws of both are `laws`, and
+//! stand as lemmas in `proofs/Arenas.antt`, `Bus.antt`, `Blocks.antt`, `Bytes.antt` and
+//! `Places.antt`. The rings, the device, the script machine, the device lock and the driver stand
+//! on this crate.
+
+#![tactic(auto)]
+
+mod arena;
+mod buf;
+pub mod laws;
+mod lent;
+mod octets;
+mod ranges;
+
+pub use arena::{Arena, ArenaFault, BLOCK_NUMBERS, SplitFault, SplitRefused};
+pub use buf::{BLOCK_BYTES, Buf};
+pub use lent::{LendRefused, LentMemory};
+pub use octets::Octets;
+
+#[cfg(test)]
+mod tests;

@@ -1,0 +1,5 @@
+pub mod Ring
+pub mod Descriptor
+pub mod Receive
+pub mod Transmit
+pub mod Laws

@@ -1,0 +1,25 @@
+//! The descriptor rings of the Intel 82599, as both directions share them.
+//!
+//! A ring is a list of slots in bus memory, 16 bytes each. The device owns the slots from the head up to the tail, the
+//! tail left out, and wraps round after the last. This crate has the slots, their addresses and the fields of their
+//! descriptors by name; `rx_ring` fills descriptors and `tx_ring` fetches them. No call takes memory.
+//!
+//! Source: Intel 82599 datasheet, sections on receive and transmit descriptor rings and on advanced descriptors.
+#![tactic(auto)]
+
+mod descriptor;
+mod fault;
+mod laws;
+mod receive;
+mod ring;
+mod transmit;
+
+pub use descriptor::{first_half, of_halves, second_half};
+pub use fault::RingFault;
+pub use laws::available_slots_follow_the_head;
+pub use receive::{buffer_address, done_word};
+pub use ring::{DESCRIPTOR_BYTES, Ring};
+pub use transmit::{Command, command_in, done};
+
+#[cfg(test)]
+mod tests;

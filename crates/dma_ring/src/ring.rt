@@ -1,0 +1,68 @@
+ghost use Rattle.std.specs.Prelude.{◌≡◌, ◌<◌, ◌≤◌, length, IsTrue, IsFalse};
+ghost use Rattle.dma_ring.specs.Ring.{slots_of, is_outside, next_of, descriptor_address, available_slots};
+
+/// How many bytes a descriptor has.
+pub const DESCRIPTOR_BYTES: u32 = 16;
+
+/// A ring, as a queue's registers give it.
+#[derive(Clone, Copy, PartialEq, Eq, Debug)]
+pub struct Ring {
+    /// The bus address of slot 0.
+    pub base: u64,
+    /// The length in bytes; what is left over 16 is no slot.
+    pub length: u32,
+    /// The slot that the device processes next.
+    pub head: u16,
+    /// The first slot that isn't the device's.
+    pub tail: u16,
+}
+
+impl Ring {
+    /// How many slots the ring has.
+    pub fn slots(&self) -> u32
+        ensures { result ≡ slots_of self.now }
+    {
+        self.length / DESCRIPTOR_BYTES
+    }
+
+    /// Whether the head or the tail is no slot of the ring.
+    pub fn outside(&self) -> bool
+        ensures { result ≡ is_outside self.now }
+    {
+        u32::from(self.head) >= self.slots() || u32::from(self.tail) >= self.slots()
+    }
+
+    /// How many slots are the device's: those from the head up to the tail, the tail left out. 0 where they are equal.
+    pub fn available(&self) -> u32
+        requires { IsFalse (is_outside self.now) }
+        ensures { result ≡ length (available_slots self.now) }
+    {
+        let head = u32::from(self.head);
+        let tail = u32::from(self.tail);
+        if head <= tail {
+            tail - head
+        } else {
+            self.slots() - head + tail
+        }
+    }
+
+    /// The slot after one: 0 after the last.
+    pub fn next(&self, slot: u16) -> u16
+        requires slot { slot < slots_of self.now }
+        requires slots { slots_of self.now ≤ 65536 }
+        ensures { result ≡ next_of (slots_of self.now) slot }
+    {
+        if u32::from(slot) + 1 == self.slots() {
+            return 0;
+        }
+        slot + 1
+    }
+
+    /// The bus address of a slot's descriptor, modulo 2^64.
+    pub fn descriptor(&self, slot: u16) -> u64
+        ensures { result ≡ descriptor_address self.now slot }
+    {
+        self.base
+            .wrapping_add(u64::from(DESCRIPTOR_BYTES) * u64::from(slot))
+    }
+}

@@ -1,0 +1,5 @@
+use Rattle.rx_ring.proofs.Fills.{fill_healthy}
+use Rattle.rx_ring.proofs.laws.healthy.Goals as goal
+
+pub returns : goal.returns
+returns c = fill_healthy

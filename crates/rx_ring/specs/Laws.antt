@@ -1,0 +1,115 @@
+-- What the device and a driver can rest on when a slot is filled.
+use Rattle.std.specs.Prelude.{ℕ, ◌≡◌, ◌≢◌, ◌↔◌, ◌<◌, ◌^◌, length, take, IsTrue, IsFalse, Ok, Err}
+use Rattle.std.specs.FinMap as map
+use Rattle.dma_arena.specs.Memory.{Memory, byte_at, is_lent, read_at, IsWhole, SameLent, IsOutside, AreApart, Avoids}
+use Rattle.dma_ring.specs.declared.ring.Ring.{Ring}
+use Rattle.dma_ring.specs.declared.fault.RingFault.{RingFault}
+use Rattle.dma_ring.specs.declared.fault.RingFault.TheVariants.{Outside, NotLent, DescType, NoBufferSize}
+use Rattle.dma_ring.specs.Ring.{slots_of, is_outside, next_of}
+use Rattle.dma_ring.specs.Descriptor.{first_half, second_half}
+use Rattle.dma_ring.specs.Receive.{is_done, ends_packet, bytes_in}
+use Rattle.rx_ring.specs.declared.filled.Filled.{Filled}
+use Rattle.rx_ring.specs.Control.{descriptor_type_of, buffer_size_of}
+use Rattle.rx_ring.specs.Fill.{Rest, head_address, buffer_address, piece_length, filled_of, memory_with, fault_outcome, filled_outcome, fill_of}
+
+-- the registers name slots, descriptors with one buffer and a buffer size
+pub record IsSetUp (r : Ring) (srrctl : ℕ) : Type 0 where
+  pub inside : IsFalse (is_outside r)
+  pub one_buffer : descriptor_type_of srrctl ≡ 1
+  pub sized : buffer_size_of srrctl ≢ 0
+
+-- the descriptor at the head is lent
+abbrev pub HasDescriptor : Memory → Ring → Type 0
+HasDescriptor m r = IsTrue (is_lent m (head_address r) 16)
+
+-- the first test that fails names the fault, and where none fails the slot is filled
+pub record TestsInOrder (m : Memory) (r : Ring) (srrctl : ℕ) (rest : Rest) : Type 0 where
+  pub outside : IsTrue (is_outside r) → fill_of m r srrctl rest ≡ fault_outcome m Outside
+  pub type : IsFalse (is_outside r) → descriptor_type_of srrctl ≢ 1 → fill_of m r srrctl rest ≡ fault_outcome m DescType
+  pub size :
+      IsFalse (is_outside r) → descriptor_type_of srrctl ≡ 1 → buffer_size_of srrctl ≡ 0
+      → fill_of m r srrctl rest ≡ fault_outcome m NoBufferSize
+  pub descriptor :
+      IsSetUp r srrctl → IsFalse (is_lent m (head_address r) 16)
+      → fill_of m r srrctl rest ≡ fault_outcome m (NotLent (head_address r))
+  pub buffer :
+      IsSetUp r srrctl → HasDescriptor m r
+      → IsFalse (is_lent m (buffer_address m r) (piece_length (buffer_size_of srrctl) rest))
+      → fill_of m r srrctl rest ≡ fault_outcome m (NotLent (buffer_address m r))
+  pub filled :
+      IsSetUp r srrctl → HasDescriptor m r
+      → IsTrue (is_lent m (buffer_address m r) (piece_length (buffer_size_of srrctl) rest))
+      → fill_of m r srrctl rest ≡ filled_outcome m rest (filled_of r rest (buffer_address m r) (piece_length (buffer_size_of srrctl) rest))
+
+abbrev pub TestLaw : Type 0
+TestLaw = (m : Memory) (r : Ring) (srrctl : ℕ) (rest : Rest) → TestsInOrder m r srrctl rest
+
+-- a fault writes no memory
+abbrev pub FaultWritesNothing : Type 0
+FaultWritesNothing =
+    (m : Memory) (r : Ring) (srrctl : ℕ) (rest : Rest) (fault : RingFault) → (fill_of m r srrctl rest).answer ≡ Err fault
+    → (fill_of m r srrctl rest).memory ≡ m
+
+-- a slot that is set up, with its descriptor and its whole buffer lent, of 2,048 bytes where SRRCTL says 2 KB
+pub record IsHealthy (m : Memory) (r : Ring) (srrctl : ℕ) : Type 0 where
+  pub set_up : IsSetUp r srrctl
+  pub descriptor : HasDescriptor m r
+  pub buffer : IsTrue (is_lent m (buffer_address m r) (buffer_size_of srrctl))
+
+-- a healthy slot is filled, whatever the frame
+abbrev pub HealthyIsFilled : Type 0
+HealthyIsFilled =
+    (m : Memory) (r : Ring) (srrctl : ℕ) (rest : Rest) → IsHealthy m r srrctl
+    → fill_of m r srrctl rest ≡ filled_outcome m rest (filled_of r rest (buffer_address m r) (piece_length (buffer_size_of srrctl) rest))
+
+-- a filled slot is the one at the head, the head moves on to the next slot, and of what is left of the frame as much is
+-- taken as the buffer has room for; the frame ends there exactly where nothing is left
+pub record TakesPiece (m : Memory) (r : Ring) (srrctl : ℕ) (rest : Rest) (f : Filled) : Type 0 where
+  pub slot : f.slot ≡ r.head
+  pub head : f.head ≡ next_of (slots_of r) r.head
+  pub inside : f.head < slots_of r
+  pub desc : f.desc ≡ head_address r
+  pub at : f.at ≡ buffer_address m r
+  pub len : f.len ≡ piece_length (buffer_size_of srrctl) rest
+  pub end : IsTrue f.end ↔ (f.len ≡ length rest.bytes)
+  pub some : 0 < length rest.bytes → 0 < f.len
+  pub set_up : IsSetUp r srrctl
+  pub descriptor_lent : IsTrue (is_lent m f.desc 16)
+  pub buffer_lent : IsTrue (is_lent m f.at f.len)
+  pub memory : (fill_of m r srrctl rest).memory ≡ memory_with m rest f
+
+abbrev pub PieceLaw : Type 0
+PieceLaw =
+    (m : Memory) (r : Ring) (srrctl : ℕ) (rest : Rest) (f : Filled) → (fill_of m r srrctl rest).answer ≡ Ok f
+    → TakesPiece m r srrctl rest f
+
+-- what a driver reads of a filled slot: its descriptor is done, ends the packet where the frame ends, has the number of
+-- bytes and the first half that was to be written; and its buffer has the bytes, unless it shares some with the descriptor
+pub record ShowsPiece (m : Memory) (rest : Rest) (f : Filled) : Type 0 where
+  pub done : IsTrue (is_done (second_half (read_at m f.desc 16)))
+  pub end : ends_packet (second_half (read_at m f.desc 16)) ≡ f.end
+  pub len : bytes_in (second_half (read_at m f.desc 16)) ≡ f.len
+  pub first : first_half (read_at m f.desc 16) ≡ rest.first
+  pub bytes : AreApart f.at f.len f.desc 16 → read_at m f.at f.len ≡ take f.len rest.bytes
+
+abbrev pub DriverReads : Type 0
+DriverReads =
+    (m : Memory) (r : Ring) (srrctl : ℕ) (rest : Rest) (f : Filled) → IsWhole m → rest.first < 2 ^ 64
+    → (fill_of m r srrctl rest).answer ≡ Ok f → ShowsPiece (fill_of m r srrctl rest).memory rest f
+
+-- beside the descriptor's bytes and those of the buffer each byte stays, and each read and each block
+pub record ChangesOnlySlot (old new : Memory) (f : Filled) : Type 0 where
+  pub bytes : (a : ℕ) → IsOutside a f.desc 16 → IsOutside a f.at f.len → byte_at new a ≡ byte_at old a
+  pub reads : (a n : ℕ) → AreApart a n f.desc 16 → AreApart a n f.at f.len → read_at new a n ≡ read_at old a n
+  pub blocks : (number : ℕ) → Avoids number f.desc 16 → Avoids number f.at f.len → map.get new number ≡ map.get old number
+
+abbrev pub WritesInsideSlot : Type 0
+WritesInsideSlot =
+    (m : Memory) (r : Ring) (srrctl : ℕ) (rest : Rest) (f : Filled) → (fill_of m r srrctl rest).answer ≡ Ok f
+    → ChangesOnlySlot m (fill_of m r srrctl rest).memory f
+
+-- whatever the answer, the same blocks stay lent, and each stays as long as it is
+abbrev pub FillKeepsBlocks : Type 0
+FillKeepsBlocks =
+    (m : Memory) (r : Ring) (srrctl : ℕ) (rest : Rest)
+    → SameLent (fill_of m r srrctl rest).memory m × (IsWhole m → IsWhole (fill_of m r srrctl rest).memory)

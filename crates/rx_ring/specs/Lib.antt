@@ -1,0 +1,4 @@
+pub mod Control
+pub mod Fill
+pub mod Item
+pub mod Laws

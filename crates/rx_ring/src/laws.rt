@@ -1,0 +1,37 @@
+//! What the device and a driver can rest on when a slot is filled. Each function here is a theorem: it does nothing
+//! when it runs, and what it ensures holds of the definitions that the contract of `fill` cites.
+
+ghost use Rattle.rx_ring.specs.Laws.{TestLaw, FaultWritesNothing, HealthyIsFilled, PieceLaw, DriverReads, WritesInsideSlot, FillKeepsBlocks};
+
+/// The first test that fails names the fault, in this order: the head or the tail outside the ring, the descriptor
+/// type, the buffer size, the descriptor not lent, the bytes of the buffer not lent. Where none fails the slot is
+/// filled. A fault writes no memory.
+pub fn faults()
+    ensures order { TestLaw }
+    ensures memory { FaultWritesNothing }
+{}
+
+/// A slot inside its ring, with descriptors of one buffer, a buffer size, and the descriptor and the whole buffer
+/// lent, is filled whatever the frame.
+pub fn healthy()
+    ensures { HealthyIsFilled }
+{}
+
+/// A filled slot is the one at the head, and the head moves on to the next slot of the ring. As much of the frame is
+/// taken as the buffer has room for, at least a byte where one is left, and the frame ends there exactly where nothing
+/// is left of it.
+pub fn piece()
+    ensures { PieceLaw }
+{}
+
+/// What a driver reads of a filled slot: a descriptor that is done, ends the packet exactly where the frame ends, has
+/// the number of bytes and the first half, and the bytes in a buffer that shares none with the descriptor.
+pub fn read_back()
+    ensures { DriverReads }
+{}
+
+/// Filling a slot changes no byte outside the descriptor and the bytes that are named, and not which blocks are lent.
+pub fn elsewhere()
+    ensures bytes { WritesInsideSlot }
+    ensures blocks { FillKeepsBlocks }
+{}

@@ -1,0 +1,111 @@
+//! The slot at the head is filled, in three steps: by the registers, by the descriptor, by the buffer.
+
+ghost use Rattle.std.specs.Prelude.{◌≡◌, ◌-◌, ◌≤◌, ◌<◌, ◌^◌, length, IsTrue, IsFalse, OnErr};
+ghost use Rattle.dma_arena.specs.Memory.{is_lent};
+ghost use Rattle.dma_ring.specs.Ring.{is_outside, slots_of};
+ghost use Rattle.rx_ring.specs.Fill.{IsReady, head_address, fill_of, fill_slot_of, fill_buffer_of};
+ghost use Rattle.rx_ring.specs.Item.{rest_of};
+
+use crate::control::{ONE_BUFFER, buffer_size, descriptor_type};
+use crate::filled::Filled;
+use crate::item::Item;
+use dma_arena::LentMemory;
+use dma_ring::{Ring, RingFault, buffer_address, done_word, first_half, of_halves};
+
+/// Fills the slot at the head of a receive ring: writes the item's next bytes into the buffer that the descriptor
+/// there names, as many as are left and have room, and then writes the descriptor back. It takes no memory.
+///
+/// `srrctl` is the queue's control word, SRRCTL. The faults, in the order of their tests: `Outside` where the head or
+/// the tail is no slot; `DescType` where the descriptor type isn't 1, the advanced one with one buffer;
+/// `NoBufferSize` where the buffer size is 0; `NotLent` of the descriptor's address, and then `NotLent` of the
+/// buffer's, where a byte to be read or written isn't lent. A fault leaves the memory as it was.
+///
+/// Intel 82599 datasheet, section on advanced receive descriptors.
+#[tactic(auto, unfolding(crate::specs::Fill::fill_of))]
+pub fn fill(
+    memory: &mut LentMemory,
+    ring: &Ring,
+    srrctl: u32,
+    item: &Item<'_>,
+) -> Result<Filled, RingFault>
+    requires ready { IsReady ring.now }
+    requires slots { slots_of ring.now ≤ 65536 }
+    requires offset { item.now.offset ≤ length item.now.frame.now }
+    ensures answer { result ≡ (fill_of memory.old ring.now srrctl (rest_of item.now)).answer }
+    ensures memory { memory.new ≡ (fill_of memory.old ring.now srrctl (rest_of item.now)).memory }
+    ensures kept { OnErr result (memory.new ≡ memory.old) }
+{
+    if ring.outside() {
+        return Err(RingFault::Outside);
+    }
+    if descriptor_type(srrctl) != ONE_BUFFER {
+        return Err(RingFault::DescType);
+    }
+    let size = buffer_size(srrctl);
+    if size == 0 {
+        return Err(RingFault::NoBufferSize);
+    }
+    fill_slot(memory, ring, item, size)
+}
+
+/// Fills the slot at the head by its descriptor, with buffers of so many bytes.
+#[tactic(auto, unfolding(crate::specs::Fill::fill_slot_of))]
+fn fill_slot(
+    memory: &mut LentMemory,
+    ring: &Ring,
+    item: &Item<'_>,
+    size: usize,
+) -> Result<Filled, RingFault>
+    requires inside { IsFalse (is_outside ring.now) }
+    requires slots { slots_of ring.now ≤ 65536 }
+    requires offset { item.now.offset ≤ length item.now.frame.now }
+    requires short { size < 2 ^ 16 }
+    ensures answer { result ≡ (fill_slot_of memory.old ring.now (rest_of item.now) size).answer }
+    ensures memory { memory.new ≡ (fill_slot_of memory.old ring.now (rest_of item.now) size).memory }
+    ensures kept { OnErr result (memory.new ≡ memory.old) }
+{
+    let desc = ring.descriptor(ring.head);
+    if !memory.is_lent(desc, 16) {
+        return Err(RingFault::NotLent(desc));
+    }
+    let at = buffer_address(first_half(&memory.read16(desc)));
+    let len = size.min(item.frame.len() - item.offset);
+    fill_buffer(memory, ring, item, at, len)
+}
+
+/// Writes so many bytes into the buffer at an address, and the descriptor back.
+#[tactic(auto, unfolding(crate::specs::Fill::fill_buffer_of))]
+fn fill_buffer(
+    memory: &mut LentMemory,
+    ring: &Ring,
+    item: &Item<'_>,
+    at: u64,
+    len: usize,
+) -> Result<Filled, RingFault>
+    requires inside { IsFalse (is_outside ring.now) }
+    requires slots { slots_of ring.now ≤ 65536 }
+    requires offset { item.now.offset ≤ length item.now.frame.now }
+    requires lent { IsTrue (is_lent memory.old (head_address ring.now) 16) }
+    requires room { len ≤ length item.now.frame.now - item.now.offset }
+    requires short { len < 2 ^ 16 }
+    ensures answer { result ≡ (fill_buffer_of memory.old ring.now (rest_of item.now) at len).answer }
+    ensures memory { memory.new ≡ (fill_buffer_of memory.old ring.now (rest_of item.now) at len).memory }
+    ensures kept { OnErr result (memory.new ≡ memory.old) }
+{
+    if !memory.is_lent(at, len) {
+        return Err(RingFault::NotLent(at));
+    }
+    let rest = &item.frame[item.offset..];
+    let end = len == rest.len();
+    let desc = ring.descriptor(ring.head);
+    memory.write_at(at, &rest[..len]);
+    memory.write16(desc, of_halves(item.first, done_word(len as u16, end)));
+    Ok(Filled {
+        slot: ring.head,
+        end,
+        desc,
+        at,
+        len,
+        head: ring.next(ring.head),
+    })
+}

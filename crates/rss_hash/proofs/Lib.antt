@@ -1,0 +1,9 @@
+pub mod Fields
+pub mod Filling
+pub mod HashBits
+pub mod HashLaws
+pub mod Packets
+pub mod Parts
+pub mod RegisterBytes
+pub mod Types
+pub mod Windows

@@ -1,0 +1,10 @@
+pub mod Bits
+pub mod Toeplitz
+pub mod Input
+pub mod Frame
+pub mod Ipv4
+pub mod Ipv6
+pub mod Flow
+pub mod Mrqc
+pub mod Choice
+pub mod Registers

@@ -1,0 +1,126 @@
+ghost use Rattle.std.specs.Prelude.{◌≡◌, []};
+ghost use Rattle.rss_hash.specs.Choice.{code_of, is_enabled, first_enabled, rss_type_of, hashed_part};
+
+use crate::flow::Flow;
+use crate::input::Input;
+use crate::mrqc::{QueueMode, RssFields};
+use bitflags::Flags;
+
+/// What of a frame was hashed, with the numbers that receive descriptors have for it.
+///
+/// Intel 82599 datasheet, section on the RSS type of a receive descriptor.
+#[derive(Clone, Copy, PartialEq, Eq, Debug)]
+pub enum RssType {
+    /// Nothing.
+    NoHash = 0,
+    /// Addresses and TCP ports of IPv4.
+    TcpIpv4 = 1,
+    /// Addresses of IPv4.
+    Ipv4 = 2,
+    /// Addresses and TCP ports of IPv6.
+    TcpIpv6 = 3,
+    /// Addresses of IPv6.
+    Ipv6 = 5,
+    /// Addresses and UDP ports of IPv4.
+    UdpIpv4 = 7,
+    /// Addresses and UDP ports of IPv6.
+    UdpIpv6 = 8,
+}
+
+impl RssType {
+    /// The type of a flow under a word of MRQC: with ports where that is enabled, else by addresses
+    /// where that is, else `NoHash`.
+    #[tactic(auto, using(crate::proofs::Types::no_types), unfolding(crate::specs::Choice::rss_type_of))]
+    pub fn of(mrqc: u32, flow: &Flow) -> RssType
+        ensures { result ≡ rss_type_of mrqc flow.now }
+    {
+        if !QueueMode::of(mrqc).is_hashing() {
+            return RssType::NoHash;
+        }
+        match flow.version {
+            4 => ipv4_type(mrqc, flow),
+            6 => ipv6_type(mrqc, flow),
+            _ => RssType::NoHash,
+        }
+    }
+
+    /// Whether a word of MRQC enables this type.
+    #[tactic(auto, using(crate::proofs::Fields::contains_bit))]
+    fn is_enabled(self, mrqc: u32) -> bool
+        ensures { result ≡ is_enabled mrqc self }
+    {
+        let fields = RssFields::from_bits_retain(mrqc);
+        match self {
+            RssType::NoHash => true,
+            RssType::TcpIpv4 => fields.contains(RssFields::TCP_IPV4),
+            RssType::Ipv4 => fields.contains(RssFields::IPV4),
+            RssType::TcpIpv6 => fields.contains(RssFields::TCP_IPV6),
+            RssType::Ipv6 => fields.contains(RssFields::IPV6),
+            RssType::UdpIpv4 => fields.contains(RssFields::UDP_IPV4),
+            RssType::UdpIpv6 => fields.contains(RssFields::UDP_IPV6),
+        }
+    }
+
+    /// The number in a receive descriptor's bits 3:0.
+    pub fn code(self) -> u8
+        ensures { result ≡ code_of self }
+    {
+        self as u8
+    }
+}
+
+/// The RSS type of a flow under a word of MRQC, and what of the flow is hashed: nothing (and so the
+/// hash 0) for type 0.
+pub fn choose(mrqc: u32, flow: &Flow) -> (u8, Input)
+    ensures rss_type { result.0 ≡ code_of (rss_type_of mrqc flow.now) }
+    ensures input { result.1 ≡ hashed_part (rss_type_of mrqc flow.now) flow.now.input }
+    ensures nothing { result.0 ≡ 0 → result.1 ≡ [] }
+{
+    let rss_type = RssType::of(mrqc, flow);
+    let input = match rss_type {
+        RssType::NoHash => Input::empty(),
+        RssType::Ipv4 => flow.input.first(IPV4_ADDRESSES),
+        RssType::Ipv6 => flow.input.first(IPV6_ADDRESSES),
+        RssType::TcpIpv4 | RssType::UdpIpv4 | RssType::TcpIpv6 | RssType::UdpIpv6 => flow.input,
+    };
+    (rss_type.code(), input)
+}
+
+/// The lengths of two addresses in bytes.
+const IPV4_ADDRESSES: usize = 8;
+
+const IPV6_ADDRESSES: usize = 32;
+
+/// The type of an IPv4 flow in a mode that looks at the hash.
+#[tactic(auto, using(crate::proofs::Types::ipv4_types))]
+fn ipv4_type(mrqc: u32, flow: &Flow) -> RssType
+    requires { flow.now.version ≡ 4 }
+    ensures { result ≡ first_enabled mrqc flow.now }
+{
+    if flow.tcp && RssType::TcpIpv4.is_enabled(mrqc) {
+        RssType::TcpIpv4
+    } else if flow.udp && RssType::UdpIpv4.is_enabled(mrqc) {
+        RssType::UdpIpv4
+    } else if RssType::Ipv4.is_enabled(mrqc) {
+        RssType::Ipv4
+    } else {
+        RssType::NoHash
+    }
+}
+
+/// The type of an IPv6 flow in a mode that looks at the hash.
+#[tactic(auto, using(crate::proofs::Types::ipv6_types))]
+fn ipv6_type(mrqc: u32, flow: &Flow) -> RssType
+    requires { flow.now.version ≡ 6 }
+    ensures { result ≡ first_enabled mrqc flow.now }
+{
+    if flow.tcp && RssType::TcpIpv6.is_enabled(mrqc) {
+        RssType::TcpIpv6
+    } else if flow.udp && RssType::UdpIpv6.is_enabled(mrqc) {
+        RssType::UdpIpv6
+    } else if RssType::Ipv6.is_enabled(mrqc) {
+        RssType::Ipv6
+    } else {
+        RssType::NoHash
+    }
+}

@@ -1,0 +1,92 @@
+ghost use Rattle.std.specs.Prelude.{⊤, ◌≡◌, [], ◌∷◌, codes};
+ghost use Rattle.rss_hash.specs.Mrqc.{queue_mode_of, is_hashing};
+
+use bitflags::{Flag, Flags, bitflag_items};
+
+/// How receive queues are chosen: bits 3:0 of MRQC.
+///
+/// Intel 82599 datasheet, section on the register MRQC.
+#[derive(Clone, Copy, PartialEq, Eq, Debug)]
+pub enum QueueMode {
+    /// One queue, for this and every other number.
+    Single,
+    /// By the hash alone.
+    Rss,
+    /// By the pool alone, in 64 pools.
+    Pools64,
+    /// By the pool, in 32 pools, and by the hash.
+    Pools32Rss,
+    /// By the pool, in 64 pools, and by the hash.
+    Pools64Rss,
+}
+
+impl QueueMode {
+    /// The mode in a word of MRQC.
+    #[tactic(auto, unfolding(crate::specs::Mrqc::queue_mode_of))]
+    pub fn of(mrqc: u32) -> QueueMode
+        ensures { result ≡ queue_mode_of mrqc }
+    {
+        match mrqc % 16 {
+            0x1 => QueueMode::Rss,
+            0x8 => QueueMode::Pools64,
+            0xA => QueueMode::Pools32Rss,
+            0xB => QueueMode::Pools64Rss,
+            _ => QueueMode::Single,
+        }
+    }
+
+    /// Whether frames are hashed in this mode.
+    pub fn is_hashing(self) -> bool
+        ensures { result ≡ is_hashing self }
+    {
+        match self {
+            QueueMode::Rss | QueueMode::Pools32Rss | QueueMode::Pools64Rss => true,
+            QueueMode::Single | QueueMode::Pools64 => false,
+        }
+    }
+}
+
+/// Which frames are hashed in which way: bits 16, 17 and 20 to 23 of MRQC.
+///
+/// Intel 82599 datasheet, section on the register MRQC.
+#[derive(Clone, Copy, PartialEq, Eq, Debug)]
+pub struct RssFields(u32);
+
+bitflag_items! {
+    impl RssFields: u32 {
+        const TCP_IPV4 = 0x0001_0000;
+        const IPV4 = 0x0002_0000;
+        const IPV6 = 0x0010_0000;
+        const TCP_IPV6 = 0x0020_0000;
+        const UDP_IPV4 = 0x0040_0000;
+        const UDP_IPV6 = 0x0080_0000;
+    }
+}
+
+impl Flags for RssFields {
+    type Bits = u32;
+
+    ghost exact = { ⊤ };
+
+    ghost table = { (codes "TCP_IPV4", 0x0001_0000)
+        ∷ (codes "IPV4", 0x0002_0000)
+        ∷ (codes "IPV6", 0x0010_0000)
+        ∷ (codes "TCP_IPV6", 0x0020_0000)
+        ∷ (codes "UDP_IPV4", 0x0040_0000)
+        ∷ (codes "UDP_IPV6", 0x0080_0000)
+        ∷ [] };
+
+    ghost set_of = { λ fields. fields.0 };
+
+    fn flags<'a>() -> &'a [Flag<RssFields>] {
+        RssFields::FLAGS
+    }
+
+    fn bits(&self) -> u32 {
+        self.0
+    }
+
+    fn from_bits_retain(bits: u32) -> RssFields {
+        RssFields(bits)
+    }
+}

@@ -1,0 +1,23 @@
+ghost use Rattle.std.specs.Prelude.{◌≡◌, ◌*◌, ◌<◌, length, slice_index};
+ghost use Rattle.rss_hash.specs.Registers.{bytes_of_registers, entry_of};
+
+/// The entry of the redirection table that a hash selects, from 0 to 15. `table` is the words of
+/// RETA, four entries in each: entry 4i + j stands in bits 8j+3:8j of word i.
+///
+/// Intel 82599 datasheet, section on the register RETA.
+#[tactic(auto, unfolding(crate::specs::Registers::entry_of))]
+pub fn entry(table: &[u32; 32], hash: u32) -> u8
+    ensures value { result ≡ entry_of table.now hash }
+    ensures range { result < 16 }
+{
+    register_byte(table, (hash % 128) as usize) % 16
+}
+
+/// Byte `n` of a run of registers, the lowest bits of each first.
+#[tactic(auto, using(crate::proofs::RegisterBytes::register_byte_at))]
+pub(crate) fn register_byte(words: &[u32], n: usize) -> u8
+    requires { n < 4 * length words.now }
+    ensures { result ≡ slice_index (bytes_of_registers words.now) n }
+{
+    words[n / 4].to_le_bytes()[n % 4]
+}

@@ -1,0 +1,5 @@
+use Rattle.intr_unit.proofs.MessageLaws.{told_once}
+use Rattle.intr_unit.proofs.laws.bits_are_told_once.Goals as goal
+
+pub returns : goal.returns
+returns c = told_once

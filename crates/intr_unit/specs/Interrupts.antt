@@ -1,0 +1,101 @@
+-- The interrupts of one group, and what each access leaves of them.
+use Rattle.std.specs.Prelude.{◌≡◌, ◌≢◌, ℕ, ◌<◌, ◌≤◌, Bool, true, false, not, ◌&&◌, if◌then◌else◌, Option, None, Some, is_some}
+use Rattle.std.specs.Option.{option_and_then}
+use Rattle.intr_unit.specs.declared.group.Group.{Group}
+use Rattle.intr_unit.specs.BitSet.{BitSet, no_bits, contains, bits_where, union, intersection, difference, when, only, lowest_of, IsSubset}
+use Rattle.intr_unit.specs.Group.{group_bits, bits_cleared_by_read, vector_of}
+
+-- the words of a group as sets of bits, and the bits that a message told
+pub record Interrupts : Type 0 where
+  pub group : Group
+  pub causes : BitSet
+  pub enabled : BitSet
+  pub auto_clear : BitSet
+  pub auto_mask : BitSet
+  pub told : BitSet
+
+-- between calls a word has only bits that the group has, and each told bit has its cause and its mask at 1
+pub record IsConsistent (s : Interrupts) : Type 0 where
+  pub causes_exist : IsSubset s.causes (group_bits s.group)
+  pub masks_exist : IsSubset s.enabled (group_bits s.group)
+  pub auto_clear_exists : IsSubset s.auto_clear (group_bits s.group)
+  pub auto_mask_exists : IsSubset s.auto_mask (group_bits s.group)
+  pub told_is_pending : IsSubset s.told (intersection s.causes s.enabled)
+
+-- all words 0, nothing told
+abbrev pub reset_of : Group → Interrupts
+reset_of group =
+    record { group = group; causes = no_bits; enabled = no_bits; auto_clear = no_bits; auto_mask = no_bits; told = no_bits }
+
+-- these causes and masks; of these told marks those go whose cause or mask is 0
+abbrev pub settled : Interrupts → BitSet → BitSet → BitSet → Interrupts
+settled s causes enabled told =
+    record s { causes = causes; enabled = enabled; told = intersection told (intersection causes enabled) }
+
+-- those of the bits that the auto-mask has, where it acts
+abbrev pub auto_masked : Interrupts → BitSet → Bool → BitSet
+auto_masked s bits auto = when auto (intersection bits s.auto_mask)
+
+-- the causes become 1; the auto-mask sets the masks of those that it has
+abbrev pub raised : Interrupts → BitSet → Bool → Interrupts
+raised s bits auto =
+    settled s (union s.causes (intersection bits (group_bits s.group))) (union s.enabled (auto_masked s bits auto)) s.told
+
+-- a read clears causes; the auto-mask clears its masks
+abbrev pub after_read : Interrupts → Bool → Bool → Interrupts
+after_read s ocd auto =
+    settled s (difference s.causes (bits_cleared_by_read s.group ocd)) (difference s.enabled (when auto s.auto_mask)) s.told
+
+-- the causes become 0; the auto-mask clears the masks of those of the bits that it has
+abbrev pub after_write_one : Interrupts → BitSet → Bool → Interrupts
+after_write_one s bits auto = settled s (difference s.causes bits) (difference s.enabled (auto_masked s bits auto)) s.told
+
+-- the masks become 1
+abbrev pub after_mask_set : Interrupts → BitSet → Interrupts
+after_mask_set s bits = settled s s.causes (union s.enabled (intersection bits (group_bits s.group))) s.told
+
+-- the masks become 0
+abbrev pub after_mask_clear : Interrupts → BitSet → Interrupts
+after_mask_clear s bits = settled s s.causes (difference s.enabled bits) s.told
+
+-- a write of the auto-clear register
+abbrev pub with_auto_clear : Interrupts → BitSet → Interrupts
+with_auto_clear s word = record s { auto_clear = intersection word (group_bits s.group) }
+
+-- a write of the auto-mask register
+abbrev pub with_auto_mask : Interrupts → BitSet → Interrupts
+with_auto_mask s word = record s { auto_mask = intersection word (group_bits s.group) }
+
+-- the bit is due: its cause and its mask are 1, it isn't told, and it is routed
+abbrev pub is_due : Interrupts → ℕ → ℕ → Bool
+is_due s misc bit =
+    contains s.causes bit && contains s.enabled bit && not (contains s.told bit) && is_some (vector_of s.group misc bit)
+
+-- the bits that are due
+unfoldable pub due_bits : Interrupts → ℕ → BitSet
+due_bits s misc = bits_where (is_due s misc)
+
+-- the bit that is told next: the lowest that is due
+unfoldable pub next_bit : Interrupts → ℕ → Option ℕ
+next_bit s misc = lowest_of (due_bits s misc)
+
+-- the vector of the next message
+abbrev pub next_vector : Interrupts → ℕ → Option ℕ
+next_vector s misc = option_and_then (vector_of s.group misc) (next_bit s misc)
+
+-- the bit is told: its cause becomes 0 where the auto-clear has it, its mask where EIAME is 1 and the auto-mask has it
+abbrev pub after_telling : Interrupts → Bool → ℕ → Interrupts
+after_telling s eiame bit =
+    settled s
+    (difference s.causes (intersection (only bit) s.auto_clear))
+    (difference s.enabled (auto_masked s (only bit) eiame))
+    (union s.told (only bit))
+
+-- what a message of that bit leaves; without a bit nothing changes
+abbrev pub after_message_of : Interrupts → Bool → Option ℕ → Interrupts
+after_message_of s eiame None = s
+after_message_of s eiame (Some bit) = after_telling s eiame bit
+
+-- what the next message leaves
+abbrev pub after_message : Interrupts → Bool → ℕ → Interrupts
+after_message s eiame misc = after_message_of s eiame (next_bit s misc)

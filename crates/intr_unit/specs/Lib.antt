@@ -1,0 +1,5 @@
+pub mod BitSet
+pub mod Group
+pub mod Interrupts
+pub mod Accesses
+pub mod Laws

@@ -1,0 +1,103 @@
+//! Sets of the bits of a register: the one place where words are seen as sets.
+
+ghost use Rattle.std.specs.Prelude.{◌≡◌, ◌<◌, IfSome};
+ghost use Rattle.intr_unit.specs.BitSet.{contains, union, intersection, difference, when, only, lowest_of};
+
+use std::marker::Model;
+
+/// A set of the bits 0 to 31 of a register.
+#[derive(Clone, Copy, PartialEq, Eq, Debug)]
+pub struct BitSet {
+    word: u32,
+}
+
+impl Model for BitSet {
+    ghost use Rattle.intr_unit.specs.BitSet.{BitSet};
+
+    ghost Value = { BitSet };
+
+    ghost view = { λ a. a.word };
+
+    ghost inverse = { λ word. record { word = word } };
+}
+
+#[tactic(auto, using(crate::proofs::SetLaws::word_operations), unfolding(crate::specs::BitSet::when))]
+impl BitSet {
+    /// The set without a bit.
+    pub const EMPTY: BitSet = BitSet { word: 0 };
+
+    /// The set of the bits that are 1 in the word.
+    pub fn of_word(word: u32) -> Self
+        ensures { result ≡ word }
+    {
+        BitSet { word }
+    }
+
+    /// The word that is 1 at the bits of the set.
+    pub fn word(self) -> u32
+        ensures { result ≡ self }
+    {
+        self.word
+    }
+
+    /// The bits that are in one of the two sets.
+    pub fn union(self, other: BitSet) -> Self
+        ensures { result ≡ union self other }
+    {
+        BitSet {
+            word: self.word | other.word,
+        }
+    }
+
+    /// The bits that are in both sets.
+    pub fn intersection(self, other: BitSet) -> Self
+        ensures { result ≡ intersection self other }
+    {
+        BitSet {
+            word: self.word & other.word,
+        }
+    }
+
+    /// The bits of this set that are not in the other.
+    pub fn difference(self, other: BitSet) -> Self
+        ensures { result ≡ difference self other }
+    {
+        BitSet {
+            word: self.word & !other.word,
+        }
+    }
+
+    /// The set where the condition holds, else no bit.
+    pub fn when(self, condition: bool) -> Self
+        ensures { result ≡ when condition self }
+    {
+        if condition { self } else { BitSet::EMPTY }
+    }
+
+    /// Whether the bit is in the set.
+    pub fn contains(self, bit: u8) -> bool
+        requires { bit < 32 }
+        ensures { result ≡ contains self bit }
+    {
+        (self.word >> bit) & 1 == 1
+    }
+
+    /// The set of one bit.
+    pub fn only(bit: u8) -> Self
+        requires { bit < 32 }
+        ensures { result ≡ only bit }
+    {
+        BitSet { word: 1 << bit }
+    }
+
+    /// The lowest bit of the set.
+    pub fn lowest(self) -> Option<u8>
+        ensures bit { result ≡ lowest_of self }
+        ensures within { IfSome result (λ bit. bit < 32) }
+    {
+        if self.word == 0 {
+            return None;
+        }
+        Some(self.word.trailing_zeros() as u8)
+    }
+}

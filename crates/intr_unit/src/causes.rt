@@ -1,0 +1,242 @@
+//! The words of one group: its causes, masks, auto-clear and auto-mask, and the bits that were told.
+
+ghost use Rattle.std.specs.Prelude.{◌≡◌, ◌<◌, IfSome};
+ghost use Rattle.intr_unit.specs.BitSet.{IsSubset};
+ghost use Rattle.intr_unit.specs.Group.{group_bits};
+ghost use Rattle.intr_unit.specs.Interrupts.{IsConsistent, reset_of, settled, auto_masked, raised, after_read, after_write_one, after_mask_set, after_mask_clear, with_auto_clear, with_auto_mask, next_bit, next_vector, after_message};
+
+use crate::bit_set::BitSet;
+use crate::group::Group;
+use std::marker::Model;
+
+/// The interrupts of one group.
+///
+/// A message tells a bit once: it is told again only after its cause or its mask was 0. Contracts see the group, its
+/// words as sets of bits, and the set of told bits, each of which has its cause and its mask at 1.
+///
+/// Intel 82599 datasheet, sections on interrupt registers and on clearing interrupt causes. What a read of EICR clears
+/// and what the auto-mask does are this project's profile.
+#[derive(Clone, Copy, PartialEq, Eq, Debug)]
+pub struct Causes {
+    group: Group,
+    causes: BitSet,
+    enabled: BitSet,
+    auto_clear: BitSet,
+    auto_mask: BitSet,
+    told: BitSet,
+}
+
+impl Model for Causes {
+    ghost use Rattle.intr_unit.specs.Interrupts.{Interrupts, IsConsistent};
+
+    ghost Value = { Interrupts };
+
+    ghost view = { λ a. record {
+      group = a.group;
+      causes = a.causes;
+      enabled = a.enabled;
+      auto_clear = a.auto_clear;
+      auto_mask = a.auto_mask;
+      told = a.told;
+    } };
+
+    ghost invariant = { λ a. IsConsistent (record {
+      group = a.group;
+      causes = a.causes;
+      enabled = a.enabled;
+      auto_clear = a.auto_clear;
+      auto_mask = a.auto_mask;
+      told = a.told;
+    }) };
+
+    ghost inverse = { λ s. record {
+      group = s.group;
+      causes = s.causes;
+      enabled = s.enabled;
+      auto_clear = s.auto_clear;
+      auto_mask = s.auto_mask;
+      told = s.told;
+    } };
+}
+
+#[tactic(auto, using(crate::proofs::Subsets::subsets))]
+impl Causes {
+    /// A group as a reset leaves it: all words 0, nothing told.
+    pub fn new(group: Group) -> Self
+        ensures { result ≡ reset_of group }
+    {
+        Causes {
+            group,
+            causes: BitSet::EMPTY,
+            enabled: BitSet::EMPTY,
+            auto_clear: BitSet::EMPTY,
+            auto_mask: BitSet::EMPTY,
+            told: BitSet::EMPTY,
+        }
+    }
+
+    /// Resets the group, as the device's reset and, for a VF's group, that of its pool do.
+    pub fn reset(&mut self)
+        ensures { self.new ≡ reset_of self.old.group }
+    {
+        *self = Causes::new(self.group);
+    }
+
+    /// The group that these interrupts are of.
+    pub fn group(&self) -> Group
+        ensures { result ≡ self.now.group }
+    {
+        self.group
+    }
+
+    /// The word of the cause register (EICR, PVTEICR), without the effects of a read.
+    pub fn causes(&self) -> u32
+        ensures word { result ≡ self.now.causes }
+        ensures consistent { IsConsistent self.now }
+    {
+        self.causes.word()
+    }
+
+    /// The word of the mask register (EIMS, PVTEIMS): 1 where a cause may be told.
+    pub fn enabled(&self) -> u32
+        ensures { result ≡ self.now.enabled }
+    {
+        self.enabled.word()
+    }
+
+    /// The word of the auto-clear register (EIAC, PVTEIAC).
+    pub fn auto_clear(&self) -> u32
+        ensures { result ≡ self.now.auto_clear }
+    {
+        self.auto_clear.word()
+    }
+
+    /// The word of the auto-mask register (EIAM, PVTEIAM).
+    pub fn auto_mask(&self) -> u32
+        ensures { result ≡ self.now.auto_mask }
+    {
+        self.auto_mask.word()
+    }
+
+    /// Raises causes, as the device does (`auto` false) or a write of the set register (EICS, PVTEICS; `bits` cut by
+    /// the view, `auto` by [`Group::auto_mask_acts`]). With `auto` the masks of those of the bits that are in the
+    /// auto-mask become 1. Bits that the group doesn't have are left out.
+    pub fn raise(&mut self, bits: u32, auto: bool)
+        ensures { self.new ≡ raised self.old bits auto }
+    {
+        let bits = BitSet::of_word(bits);
+        let causes = self.causes.union(bits.intersection(self.existing()));
+        let enabled = self.enabled.union(self.auto_masked(bits, auto));
+        self.settle(causes, enabled, self.told);
+    }
+
+    /// Reads the cause register: answers its word and clears it, for the PF with GPIE bit 5 (`ocd`) bits 29 to 16
+    /// alone. With `auto` (by [`Group::auto_mask_acts`]) the masks of all bits of the auto-mask become 0, whatever
+    /// causes were set. `ocd` is without effect for a VF.
+    pub fn read(&mut self, ocd: bool, auto: bool) -> u32
+        ensures word { result ≡ self.old.causes }
+        ensures state { self.new ≡ after_read self.old ocd auto }
+    {
+        let word = self.causes();
+        let causes = self.causes.difference(self.group.bits_cleared_by_read(ocd));
+        let enabled = self.enabled.difference(self.auto_mask.when(auto));
+        self.settle(causes, enabled, self.told);
+        word
+    }
+
+    /// Writes the cause register: the causes that are 1 in `bits` (cut by the view) become 0. With `auto` (by
+    /// [`Group::auto_mask_acts`]) the masks of those of the bits that are in the auto-mask become 0.
+    pub fn write_one(&mut self, bits: u32, auto: bool)
+        ensures { self.new ≡ after_write_one self.old bits auto }
+    {
+        let bits = BitSet::of_word(bits);
+        let causes = self.causes.difference(bits);
+        let enabled = self.enabled.difference(self.auto_masked(bits, auto));
+        self.settle(causes, enabled, self.told);
+    }
+
+    /// Writes the mask register (EIMS, PVTEIMS): the masks that are 1 in `bits` (cut by the view) become 1.
+    pub fn mask_set(&mut self, bits: u32)
+        ensures { self.new ≡ after_mask_set self.old bits }
+    {
+        let bits = BitSet::of_word(bits).intersection(self.existing());
+        self.settle(self.causes, self.enabled.union(bits), self.told);
+    }
+
+    /// Writes the mask clear register (EIMC, PVTEIMC): the masks that are 1 in `bits` (cut by the view) become 0.
+    pub fn mask_clear(&mut self, bits: u32)
+        ensures { self.new ≡ after_mask_clear self.old bits }
+    {
+        let enabled = self.enabled.difference(BitSet::of_word(bits));
+        self.settle(self.causes, enabled, self.told);
+    }
+
+    /// Gives the auto-clear register (EIAC, PVTEIAC) a new word, as far as the group has its bits. A write through a
+    /// view keeps the other bits by giving them in `word`.
+    pub fn set_auto_clear(&mut self, word: u32)
+        ensures { self.new ≡ with_auto_clear self.old word }
+    {
+        self.auto_clear = BitSet::of_word(word).intersection(self.existing());
+    }
+
+    /// Gives the auto-mask register (EIAM, PVTEIAM) a new word, as far as the group has its bits. A write through a
+    /// view keeps the other bits by giving them in `word`.
+    pub fn set_auto_mask(&mut self, word: u32)
+        ensures { self.new ≡ with_auto_mask self.old word }
+    {
+        self.auto_mask = BitSet::of_word(word).intersection(self.existing());
+    }
+
+    /// Makes the next message: tells the lowest bit that is due and answers its vector (0 to 15), or None where no bit
+    /// is due, which changes nothing. A bit is due where its cause and its mask are 1, it isn't told, and it has a
+    /// vector by [`Group::vector_of`]. The told bit's cause becomes 0 where the auto-clear has it; its mask becomes 0
+    /// where GPIE bit 30 (`eiame`) is 1 and the auto-mask has it. `misc` is the word IVAR_MISC.
+    pub fn message(&mut self, eiame: bool, misc: u32) -> Option<u8>
+        ensures vector { result ≡ next_vector self.old misc }
+        ensures state { self.new ≡ after_message self.old eiame misc }
+    {
+        let bit = self.next_bit(misc)?;
+        let one = BitSet::only(bit);
+        let causes = self.causes.difference(one.intersection(self.auto_clear));
+        let enabled = self.enabled.difference(self.auto_masked(one, eiame));
+        self.settle(causes, enabled, self.told.union(one));
+        self.group.vector_of(bit, misc)
+    }
+
+    /// The bit that the next message tells.
+    fn next_bit(&self, misc: u32) -> Option<u8>
+        ensures bit { result ≡ next_bit self.now misc }
+        ensures within { IfSome result (λ bit. bit < 32) }
+    {
+        self.causes
+            .intersection(self.enabled)
+            .difference(self.told)
+            .intersection(self.group.routed_bits(misc))
+            .lowest()
+    }
+
+    /// The bits that the group's registers have.
+    fn existing(&self) -> BitSet
+        ensures { result ≡ group_bits self.now.group }
+    {
+        BitSet::of_word(self.group.bits())
+    }
+
+    /// Those of the bits that are in the auto-mask, where it acts.
+    fn auto_masked(&self, bits: BitSet, auto: bool) -> BitSet
+        ensures { result ≡ auto_masked self.now bits auto }
+    {
+        bits.intersection(self.auto_mask).when(auto)
+    }
+
+    /// Takes these causes and masks, and of these told marks those whose cause and mask are 1.
+    fn settle(&mut self, causes: BitSet, enabled: BitSet, told: BitSet)
+        requires causes { IsSubset causes (group_bits self.old.group) }
+        requires enabled { IsSubset enabled (group_bits self.old.group) }
+        ensures { self.new ≡ settled self.old causes enabled told }
+    {
+        self.causes = causes;
+        self.enabled = enabled;
+        self.told = told.intersection(causes.intersection(enabled));
+    }
+}

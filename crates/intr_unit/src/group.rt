@@ -1,0 +1,174 @@
+//! The two kinds of groups, and all that differs between them.
+
+ghost use Rattle.std.specs.Prelude.{◌≡◌};
+ghost use Rattle.intr_unit.specs.Group.{group_bits, bits_cleared_by_read, auto_mask_acts, vector_if, other_vector, timer_vector, vector_of, routed_bits, last_queue_cause, queue_causes};
+
+use crate::bit_set::BitSet;
+
+/// The bits of EICR and its kin.
+const PF_BITS: u32 = 0x7FFF_FFFF;
+
+/// The bits of PVTEICR and its kin.
+const VF_BITS: u32 = 7;
+
+/// The causes of queues: bits 15 to 0 of EICR.
+const QUEUE_CAUSES: u32 = 0xFFFF;
+
+/// The other causes, link change among them: bits 29 to 16 of EICR.
+const OTHER_CAUSES: u32 = 0x3FFF_0000;
+
+/// The cause of the TCP timer in EICR.
+const TIMER_BIT: u8 = 30;
+
+/// The bit of IVAR_MISC that makes its vector for the other causes valid.
+const OTHER_VALID: u8 = 15;
+
+/// The bit of IVAR_MISC that makes its vector for the TCP timer valid.
+const TIMER_VALID: u8 = 7;
+
+/// The bit of a byte of IVAR or PVTIVAR that makes its cause valid.
+const ENTRY_VALID: u8 = 7;
+
+/// The bits of a vector, or of the cause in a byte of IVAR or PVTIVAR.
+const NUMBER_BITS: u32 = 0x3F;
+
+/// How many vectors there are.
+const VECTORS: u8 = 16;
+
+/// A group of interrupts, with registers of its own.
+#[derive(Clone, Copy, PartialEq, Eq, Debug)]
+pub enum Group {
+    /// The physical function: EICR, EICS, EIMS, EIMC, EIAC and EIAM.
+    Pf,
+    /// The virtual function of that number: PVTEICR, PVTEICS, PVTEIMS, PVTEIMC, PVTEIAC and PVTEIAM.
+    Vf(u8),
+}
+
+#[tactic(auto, using(crate::proofs::Routing::routed), unfolding(crate::specs::Group::group_bits, crate::specs::Group::bits_cleared_by_read, crate::specs::Group::vector_of, crate::specs::Group::queue_causes, crate::specs::BitSet::bits_from_to, crate::specs::BitSet::bits_where, crate::specs::BitSet::bits_below))]
+impl Group {
+    /// The bits that the group's registers have: 30 to 0 for the PF, 2 to 0 for a VF.
+    ///
+    /// Intel 82599 datasheet, section on interrupt registers.
+    pub fn bits(self) -> u32
+        ensures { result ≡ group_bits self }
+    {
+        match self {
+            Group::Pf => PF_BITS,
+            Group::Vf(_) => VF_BITS,
+        }
+    }
+
+    /// Whether the auto-mask acts on reads of the cause register and on writes of it and of the set register. For the
+    /// PF it does while GPIE bit 30 (EIAME, here `eiame`) is 0; for a VF always, which is this project's profile.
+    pub fn auto_mask_acts(self, eiame: bool) -> bool
+        ensures { result ≡ auto_mask_acts self eiame }
+    {
+        match self {
+            Group::Pf => !eiame,
+            Group::Vf(_) => true,
+        }
+    }
+
+    /// The causes that a queue raises by its byte of IVAR (the PF's) or PVTIVAR (a VF's), as a set of bits with one
+    /// member or none: bits 5:0 name the cause where bit 7 is 1, up to bit 15 for the PF and bit 2 for a VF.
+    ///
+    /// Intel 82599 datasheet, section on interrupt causes and their allocation.
+    pub fn queue_causes(self, entry: u8) -> u32
+        ensures { result ≡ queue_causes self entry }
+    {
+        let entry = u32::from(entry);
+        let cause = (entry & NUMBER_BITS) as u8;
+        let valid = BitSet::of_word(entry).contains(ENTRY_VALID);
+        if valid && cause <= self.last_queue_cause() {
+            BitSet::only(cause).word()
+        } else {
+            0
+        }
+    }
+
+    /// The vector (0 to 15) by which a bit is told, or None where it isn't routed. `misc` is the word IVAR_MISC, which
+    /// routes bits 29 to 16 and bit 30 of the PF; it is without effect for a VF.
+    ///
+    /// Intel 82599 datasheet, section on MSI-X vectors.
+    pub fn vector_of(self, bit: u8, misc: u32) -> Option<u8>
+        ensures { result ≡ vector_of self misc bit }
+    {
+        match self {
+            Group::Pf if bit <= 15 => Some(bit),
+            Group::Pf if bit <= 29 => other_vector(misc),
+            Group::Pf if bit == TIMER_BIT => timer_vector(misc),
+            Group::Vf(_) if bit <= 2 => Some(bit),
+            _ => None,
+        }
+    }
+
+    /// The bits that have a vector.
+    pub(crate) fn routed_bits(self, misc: u32) -> BitSet
+        ensures { result ≡ routed_bits self misc }
+    {
+        match self {
+            Group::Pf => {
+                let other = BitSet::of_word(OTHER_CAUSES).when(other_vector(misc).is_some());
+                let timer = BitSet::only(TIMER_BIT).when(timer_vector(misc).is_some());
+                BitSet::of_word(QUEUE_CAUSES).union(other).union(timer)
+            }
+            Group::Vf(_) => BitSet::of_word(VF_BITS),
+        }
+    }
+
+    /// The bits that a read of the cause register clears: all, or for the PF with other-cause clearing (`ocd`) those
+    /// of the other causes alone.
+    pub(crate) fn bits_cleared_by_read(self, ocd: bool) -> BitSet
+        ensures { result ≡ bits_cleared_by_read self ocd }
+    {
+        match self {
+            Group::Pf => {
+                if ocd {
+                    BitSet::of_word(OTHER_CAUSES)
+                } else {
+                    BitSet::of_word(PF_BITS)
+                }
+            }
+            Group::Vf(_) => BitSet::of_word(VF_BITS),
+        }
+    }
+
+    /// The highest bit that a queue can raise.
+    fn last_queue_cause(self) -> u8
+        ensures { result ≡ last_queue_cause self }
+    {
+        match self {
+            Group::Pf => 15,
+            Group::Vf(_) => 2,
+        }
+    }
+}
+
+/// The vector of the other causes: bits 13:8 of IVAR_MISC.
+fn other_vector(misc: u32) -> Option<u8>
+    ensures { result ≡ other_vector misc }
+{
+    let vector = (misc >> 8) & NUMBER_BITS;
+    vector_if(BitSet::of_word(misc).contains(OTHER_VALID), vector as u8)
+}
+
+/// The vector of the TCP timer: bits 5:0 of IVAR_MISC.
+fn timer_vector(misc: u32) -> Option<u8>
+    ensures { result ≡ timer_vector misc }
+{
+    vector_if(
+        BitSet::of_word(misc).contains(TIMER_VALID),
+        (misc & NUMBER_BITS) as u8,
+    )
+}
+
+/// The vector, where it is valid and one of those that there are.
+fn vector_if(valid: bool, vector: u8) -> Option<u8>
+    ensures { result ≡ vector_if valid vector }
+{
+    if valid && vector < VECTORS {
+        Some(vector)
+    } else {
+        None
+    }
+}

@@ -1,0 +1,17 @@
+-- The blank image is that of a text that gives a size alone.
+use Rattle.std.proofs.Common.{refl, arith, replicate, slice_set}
+use Rattle.eeprom_image.specs.Section.{pointers}
+use Rattle.eeprom_image.specs.Content.{IsContent, only_size}
+use Rattle.eeprom_image.specs.Fault.{content_fault, points_inside}
+use Rattle.eeprom_image.specs.Text.{IsImageOf}
+use Rattle.eeprom_image.proofs.Layouts.{IsLaidOut-put}
+use Rattle.eeprom_image.proofs.Unique.{image_of_laid_out}
+
+right : IsContent (only_size 64)
+right = record { size = refl; words = tt; triples = tt }
+
+pub blank_of_size : IsImageOf (only_size 64) (slice_set (replicate 64 65535) 63 47865)
+unfolding pointers content_fault points_inside
+blank_of_size =
+    let laid = IsLaidOut-put (only_size 64) (omega arith) (omega arith) in
+    image_of_laid_out (only_size 64) _ right refl laid

@@ -1,0 +1,13 @@
+pub mod FileBytes
+pub mod Sums
+pub mod Sections
+pub mod Files
+pub mod LineCount
+pub mod Numbered
+pub mod Layouts
+pub mod Checksums
+pub mod Pointers
+pub mod Contents
+pub mod Images
+pub mod Unique
+pub mod Blank

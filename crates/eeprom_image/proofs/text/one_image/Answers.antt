@@ -1,0 +1,8 @@
+use Rattle.eeprom_image.proofs.Unique.{one_image_of, content_fault-of_image}
+use Rattle.eeprom_image.proofs.text.one_image.Goals as goal
+
+pub returns-clause-one : goal.returns-clause-one
+returns-clause-one c = one_image_of
+
+pub returns-clause-none : goal.returns-clause-none
+returns-clause-none c = content_fault-of_image

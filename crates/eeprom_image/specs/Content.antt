@@ -1,0 +1,70 @@
+-- What the lines of an EEPROM text give.
+use Rattle.std.specs.Prelude.{◌≡◌, ℕ, ◌+◌, ◌*◌, ◌<◌, ◌%◌, List, [], ◌∷◌, ◌++◌, length, Option, Some, None, Result, Ok, Err, IsTrue}
+use Rattle.std.specs.List.{AllByRecursion}
+use Rattle.lexer.specs.Lines.{NumberedLine, lines_of}
+use Rattle.eeprom_image.specs.Image.{is_size}
+use Rattle.eeprom_image.specs.Line.{text_line}
+use Rattle.eeprom_image.specs.declared.line.TextLine.{TextLine}
+use Rattle.eeprom_image.specs.declared.line.TextLine.TheVariants.{Empty, Size, Word, Csr, Malformed}
+use Rattle.eeprom_image.specs.declared.text.AsmFault.{AsmFault}
+use Rattle.eeprom_image.specs.declared.text.AsmFault.TheVariants.{Syntax}
+
+-- the number of words, the words given as index and value, and the triples as byte offset and data
+pub record Content : Type 0 where
+  pub size : ℕ
+  pub words : List (ℕ × ℕ)
+  pub triples : List (ℕ × ℕ)
+
+infixl 10 ◌then◌
+abbrev pub ◌then◌ : {A B : Type 0} → Result A AsmFault → (A → Result B AsmFault) → Result B AsmFault
+(Ok x) then f = f x
+(Err fault) then f = Err fault
+
+-- nothing given yet but the size
+abbrev pub only_size : ℕ → Content
+only_size size = record { size = size; words = []; triples = [] }
+
+-- the content with one line more
+abbrev pub with_line : Content → ℕ → TextLine → Result Content AsmFault
+with_line content number Empty = Ok content
+with_line content number (Size size) = Err (Syntax number)
+with_line content number (Word index value) = Ok (record content { words = content.words ++ ((index, value) ∷ []) })
+with_line content number (Csr offset value) = Ok (record content { triples = content.triples ++ ((offset, value) ∷ []) })
+with_line content number Malformed = Err (Syntax number)
+
+-- the content with these lines more
+unfoldable pub with_lines : Content → List NumberedLine → Result Content AsmFault
+with_lines content [] = Ok content
+with_lines content (line ∷ lines) = with_line content line.number (text_line line.text) then λ more. with_lines more lines
+
+-- a size and the lines behind it, where there is one
+abbrev pub Sized : Type 0
+Sized = Option (ℕ × List NumberedLine)
+
+-- the first line that isn't empty gives the size
+abbrev pub sized_by : TextLine → ℕ → List NumberedLine → Result Sized AsmFault → Result Sized AsmFault
+sized_by Empty number lines later = later
+sized_by (Size size) number lines later = Ok (Some (size, lines))
+sized_by (Word index value) number lines later = Err (Syntax number)
+sized_by (Csr offset value) number lines later = Err (Syntax number)
+sized_by Malformed number lines later = Err (Syntax number)
+
+-- the size of a text with these lines, where one isn't empty
+unfoldable pub sized : List NumberedLine → Result Sized AsmFault
+sized [] = Ok None
+sized (line ∷ lines) = sized_by (text_line line.text) line.number lines (sized lines)
+
+-- what the lines behind the size give; without a size the line one past the last is faulty
+abbrev pub content_behind : ℕ → Sized → Result Content AsmFault
+content_behind past None = Err (Syntax past)
+content_behind past (Some start) = with_lines (only_size start.0) start.1
+
+-- what a text gives, or its first faulty line
+unfoldable pub content_of : List ℕ → Result Content AsmFault
+content_of text = sized (lines_of text) then content_behind (length (lines_of text) + 1)
+
+-- what any content of a text is
+pub record IsContent (content : Content) : Type 0 where
+  pub size : IsTrue (is_size content.size)
+  pub words : AllByRecursion (λ given. given.1 < 65536) content.words
+  pub triples : AllByRecursion (λ triple. (triple.0 % 4 ≡ 0) × (triple.0 < 0x40000) × (triple.1 < 65536 * 65536)) content.triples

@@ -1,0 +1,98 @@
+-- The faults of what a text gives.
+use Rattle.std.specs.Prelude.{ℕ, ◌+◌, ◌-◌, ◌*◌, ◌/◌, ◌%◌, Bool, not, ◌||◌, ◌&&◌, ◌==◌, nat_lt, nat_le, if◌then◌else◌, List, [], ◌∷◌, length, map, filter, fold, min, get_or, Option, Some, None}
+use Rattle.std.specs.List.{list_all, list_any, flat_map}
+use Rattle.eeprom_image.specs.Section.{is_unused, word_count}
+use Rattle.eeprom_image.specs.Content.{Content}
+use Rattle.eeprom_image.specs.declared.text.AsmFault.{AsmFault}
+use Rattle.eeprom_image.specs.declared.text.AsmFault.TheVariants.{TwoValues, Reserved, DoesNotFit, PointerOutside}
+
+-- the indexes of the words given
+abbrev pub indexes : List (ℕ × ℕ) → List ℕ
+indexes words = map (λ given. given.0) words
+
+-- those that are given again further on
+abbrev pub given_again : List ℕ → List ℕ
+given_again [] = []
+given_again (index ∷ more) =
+    if list_any (λ other. other == index) more then index ∷ given_again more else given_again more
+
+-- the lesser of a number and one that may be there
+abbrev pub lesser : ℕ → Option ℕ → Option ℕ
+lesser n None = Some n
+lesser n (Some m) = Some (min n m)
+
+-- the least of some numbers
+abbrev pub least : List ℕ → Option ℕ
+least [] = None
+least (n ∷ ns) = lesser n (least ns)
+
+-- the index behind the CSR section, which stands at 0x40 where there are triples
+abbrev pub section_end : List (ℕ × ℕ) → ℕ
+section_end [] = 0x40
+section_end (triple ∷ triples) = 0x41 + 3 * length (triple ∷ triples)
+
+-- words 0x0D and 0x3F and those of the CSR section aren't the text's to give
+abbrev pub is_reserved : ℕ → ℕ → Bool
+is_reserved end index = (index == 0x0D) || (index == 0x3F) || (nat_le 0x40 index && nat_lt index end)
+
+-- each word given and the CSR section is inside
+abbrev pub fits : Content → Bool
+fits content = list_all (λ given. nat_lt given.0 content.size) content.words && nat_le (section_end content.triples) content.size
+
+-- the three words of a triple
+abbrev pub triple_words : ℕ × ℕ → List ℕ
+triple_words triple = triple.0 / 4 % 65536 ∷ triple.1 % 65536 ∷ triple.1 / 65536 ∷ []
+
+-- the CSR section: how many words follow, and those of each triple
+abbrev pub csr_section : List (ℕ × ℕ) → List ℕ
+csr_section triples = 3 * length triples ∷ flat_map triple_words triples
+
+-- the value that is given to a word, 0xFFFF where there is none
+abbrev pub given_word : List (ℕ × ℕ) → ℕ → ℕ
+given_word words index = fold (λ value given. if given.0 == index then given.1 else value) 0xFFFF words
+
+-- where the CSR section is
+abbrev pub csr_pointer : List (ℕ × ℕ) → ℕ
+csr_pointer [] = 0xFFFF
+csr_pointer (triple ∷ triples) = 0x40
+
+-- the word at an index, but for the checksum
+abbrev pub plain_word : Content → ℕ → ℕ
+plain_word content index =
+    if index == 0x0D then csr_pointer content.triples else
+    if nat_le 0x40 index && nat_lt index (section_end content.triples) then get_or (csr_section content.triples) (index - 0x40) 0xFFFF else
+    given_word content.words index
+
+-- a pointer is unused, or points from 0x40 on to a section that is inside
+abbrev pub is_right_pointer : Content → ℕ → Bool
+is_right_pointer content pointer =
+    is_unused pointer || (nat_le 0x40 pointer && nat_lt (pointer + word_count (plain_word content pointer)) content.size)
+
+-- each pointer is right
+unfoldable pub points_inside : Content → Bool
+points_inside content =
+    list_all (is_right_pointer content) (map (plain_word content) (3 ∷ 4 ∷ 5 ∷ 6 ∷ 7 ∷ 8 ∷ 9 ∷ 10 ∷ 11 ∷ 12 ∷ 13 ∷ 14 ∷ []))
+
+-- the lowest index given twice, else the lowest reserved one that is given
+abbrev pub index_fault : Option ℕ → Option ℕ → Option AsmFault
+index_fault (Some twice) reserved = Some (TwoValues twice)
+index_fault None (Some reserved) = Some (Reserved reserved)
+index_fault None None = None
+
+-- a fault, else the next one
+abbrev pub or_else : Option AsmFault → Option AsmFault → Option AsmFault
+or_else (Some fault) next = Some fault
+or_else None next = next
+
+abbrev pub twice_given : Content → Option ℕ
+twice_given content = least (given_again (indexes content.words))
+
+abbrev pub reserved_given : Content → Option ℕ
+reserved_given content = least (filter (is_reserved (section_end content.triples)) (indexes content.words))
+
+-- the first fault by number
+unfoldable pub content_fault : Content → Option AsmFault
+content_fault content =
+    or_else (index_fault (twice_given content) (reserved_given content))
+    (if not (fits content) then Some DoesNotFit else
+    if not (points_inside content) then Some PointerOutside else None)

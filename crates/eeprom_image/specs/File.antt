@@ -1,0 +1,30 @@
+-- Whether bytes are an image's file.
+use Rattle.std.specs.Prelude.{ℕ, ◌%◌, ◌/◌, ◌==◌, not, if◌then◌else◌, List, length, Option, Some, None}
+use Rattle.eeprom_image.specs.Bytes.{words_of}
+use Rattle.eeprom_image.specs.Image.{is_size, are_inside}
+use Rattle.eeprom_image.specs.Checksum.{is_checked}
+use Rattle.eeprom_image.specs.Triples.{has_whole_triples}
+use Rattle.eeprom_image.specs.declared.file.LoadFault.{LoadFault}
+use Rattle.eeprom_image.specs.declared.file.LoadFault.TheVariants.{OddLength, BadSize, SectionOutside, BadChecksum, NotTriples, OutOfMemory}
+
+-- the first fault of words, in a number that an image may have
+abbrev pub words_fault : List ℕ → Option LoadFault
+words_fault words =
+    if not (are_inside words) then Some SectionOutside else
+    if not (is_checked words) then Some BadChecksum else
+    if not (has_whole_triples words) then Some NotTriples else None
+
+-- the first fault of a file by number, where it has one
+unfoldable pub file_fault : List ℕ → Option LoadFault
+file_fault bytes =
+    if not ((length bytes % 2) == 0) then Some OddLength else
+    if not (is_size (length bytes / 2)) then Some BadSize else words_fault (words_of bytes)
+
+-- the fault of the file that a refusal tells: want of memory is told only of a file without one
+abbrev pub told_fault : LoadFault → Option LoadFault
+told_fault OutOfMemory = None
+told_fault OddLength = Some OddLength
+told_fault BadSize = Some BadSize
+told_fault SectionOutside = Some SectionOutside
+told_fault BadChecksum = Some BadChecksum
+told_fault NotTriples = Some NotTriples

@@ -1,0 +1,12 @@
+pub mod Bytes
+pub mod Section
+pub mod Checksum
+pub mod Triples
+pub mod Image
+pub mod File
+pub mod Line
+pub mod Content
+pub mod Fault
+pub mod Text
+pub mod Draft
+pub mod Layout

@@ -1,0 +1,54 @@
+-- The image that a text means.
+use Rattle.std.specs.Prelude.{◌≡◌, ℕ, ◌<◌, Bool, ◌||◌, nat_le, IsTrue, IsFalse, List, [], length, filter, Option, Some, None, Result, Ok, Err}
+use Rattle.std.specs.List.{list_all}
+use Rattle.eeprom_image.specs.Bytes.{word_at}
+use Rattle.eeprom_image.specs.Section.{is_unused, pointers}
+use Rattle.eeprom_image.specs.Triples.{triples_of}
+use Rattle.eeprom_image.specs.Image.{IsImage}
+use Rattle.eeprom_image.specs.Content.{Content, content_of, ◌then◌}
+use Rattle.eeprom_image.specs.Fault.{indexes, given_again, is_reserved, section_end, given_word, csr_pointer, fits, content_fault}
+use Rattle.eeprom_image.specs.declared.text.AsmFault.{AsmFault}
+use Rattle.eeprom_image.specs.declared.text.AsmFault.TheVariants.{Syntax, TwoValues, Reserved, DoesNotFit, PointerOutside, OutOfMemory}
+
+-- a pointer is unused or points from 0x40 on
+abbrev pub is_behind : ℕ → Bool
+is_behind pointer = is_unused pointer || nat_le 0x40 pointer
+
+-- words are an image that has what a text gives, and 0xFFFF elsewhere
+pub record IsImageOf (content : Content) (words : List ℕ) : Type 0 where
+  -- each index is given once, none is reserved, and all is inside
+  pub once : given_again (indexes content.words) ≡ []
+  pub free : filter (is_reserved (section_end content.triples)) (indexes content.words) ≡ []
+  pub inside : IsTrue (fits content)
+  -- the words are an image, whose pointers point behind the checksum
+  pub image : IsImage words
+  pub pointers : IsTrue (list_all is_behind (pointers words))
+  pub size : length words ≡ content.size
+  -- it has the words given, and 0xFFFF in each other word that isn't reserved
+  pub given : (index : ℕ) → index < content.size → IsFalse (is_reserved (section_end content.triples) index) → word_at words index ≡ given_word content.words index
+  -- it has the triples given, at 0x40 where there are any
+  pub pointer : word_at words 0x0D ≡ csr_pointer content.triples
+  pub triples : triples_of words ≡ content.triples
+
+-- content without a fault, or its first fault
+abbrev pub checked_by : Content → Option AsmFault → Result Content AsmFault
+checked_by content None = Ok content
+checked_by content (Some fault) = Err fault
+
+-- what a text gives where it is without a fault, else its first fault: of form, then by number
+unfoldable pub sound_content : List ℕ → Result Content AsmFault
+sound_content text = content_of text then λ content. checked_by content (content_fault content)
+
+-- A fault is the one that a definition gives, unless memory ran out.
+abbrev pub Fails : {Y : Type 0} → AsmFault → Result Y AsmFault → Type 0
+Fails OutOfMemory meant = Unit {0}
+Fails (Syntax line) meant = meant ≡ Err (Syntax line)
+Fails (TwoValues index) meant = meant ≡ Err (TwoValues index)
+Fails (Reserved index) meant = meant ≡ Err (Reserved index)
+Fails DoesNotFit meant = meant ≡ Err DoesNotFit
+Fails PointerOutside meant = meant ≡ Err PointerOutside
+
+-- What a call answered, seen by view, is what a definition gives, unless memory ran out.
+abbrev pub Gives : {X Y : Type 0} → (X → Y) → Result X AsmFault → Result Y AsmFault → Type 0
+Gives view (Ok x) meant = meant ≡ Ok (view x)
+Gives view (Err fault) meant = Fails fault meant

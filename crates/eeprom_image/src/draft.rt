@@ -1,0 +1,101 @@
+//! What the lines of an EEPROM text give.
+
+ghost use Rattle.std.specs.Prelude.{◌≡◌, ◌+◌, ◌≤◌, ◌<◌, ◌^◌, length};
+ghost use Rattle.std.specs.Option.{option_map};
+ghost use Rattle.lexer.specs.Lines.{lines_of};
+ghost use Rattle.eeprom_image.specs.Content.{with_line, with_lines, sized, content_of, only_size};
+ghost use Rattle.eeprom_image.specs.Line.{text_line};
+ghost use Rattle.eeprom_image.specs.Text.{Gives};
+ghost use Rattle.eeprom_image.specs.Draft.{content_in};
+
+use crate::line::{TextLine, text_line};
+use crate::text::AsmFault;
+use lexer::{Line, Lines};
+use std::alloc::Global;
+
+/// What the lines so far give.
+#[derive(Drop)]
+pub(crate) struct Draft {
+    /// How many words the image has.
+    pub(crate) size: u32,
+    /// The words given, by index and value.
+    pub(crate) words: Vec<(u32, u16)>,
+    /// The register writes given, by byte offset and data.
+    pub(crate) triples: Vec<(u32, u32)>,
+}
+
+/// The size, which the first line gives that isn't empty. The lines behind it are left.
+#[tactic(auto, unfolding(crate::specs::Content::sized))]
+fn read_size(lines: &mut Lines<'_>) -> Result<Option<u32>, AsmFault>
+    ensures { Gives (λ size. option_map (λ size. (size, lines.new)) size) result (sized lines.old) }
+{
+    'empty_lines: while let Some(line) = lines.next() {
+        match text_line(line.text) {
+            TextLine::Empty => {}
+            TextLine::Size(size) => return Ok(Some(size)),
+            TextLine::Word(..) | TextLine::Csr(..) | TextLine::Malformed => {
+                return Err(AsmFault::Syntax(line.number));
+            }
+        }
+    }
+    Ok(None)
+}
+
+/// How many lines a text has.
+fn line_count(text: &str) -> usize
+    ensures value { result ≡ length (lines_of text.now) }
+    ensures bound { result < 2 ^ 63 }
+{
+    let mut count = 0;
+    for line in Lines::of(text) {
+        count = line.number;
+    }
+    let bytes = text.len();
+    prove!(count <= bytes);
+    count
+}
+
+impl Draft {
+    /// Adds what one more line gives.
+    fn take_line(&mut self, line: Line<'_>) -> Result<(), AsmFault>
+        ensures { Gives (λ _. content_in self.new) result
+            (with_line (content_in self.old) line.entry.number (text_line line.entry.text.now)) }
+    {
+        match text_line(line.text) {
+            TextLine::Empty => {}
+            TextLine::Word(index, value) => self.words.push((index, value))?,
+            TextLine::Csr(offset, value) => self.triples.push((offset, value))?,
+            TextLine::Size(_) | TextLine::Malformed => return Err(AsmFault::Syntax(line.number)),
+        }
+        Ok(())
+    }
+
+    /// Adds what the lines give.
+    #[tactic(auto, unfolding(crate::specs::Content::with_lines))]
+    fn take_lines(&mut self, lines: Lines<'_>) -> Result<(), AsmFault>
+        ensures { Gives (λ _. content_in self.new) result (with_lines (content_in self.old) lines.entry) }
+    {
+        for line in lines {
+            self.take_line(line)?;
+        }
+        Ok(())
+    }
+}
+
+/// What a text gives, or its first faulty line.
+#[tactic(auto, unfolding(crate::specs::Content::content_of))]
+pub(crate) fn read(alloc: Global, text: &str) -> Result<Draft, AsmFault>
+    ensures { Gives content_in result (content_of text.now) }
+{
+    let mut lines = Lines::of(text);
+    let Some(size) = read_size(&mut lines)? else {
+        return Err(AsmFault::Syntax(line_count(text) + 1));
+    };
+    let mut draft = Draft {
+        size,
+        words: Vec::new(alloc),
+        triples: Vec::new(alloc),
+    };
+    draft.take_lines(lines)?;
+    Ok(draft)
+}

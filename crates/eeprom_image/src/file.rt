@@ -1,0 +1,100 @@
+//! From a file's bytes to an image.
+
+ghost use Rattle.std.specs.Prelude.{◌≡◌, ◌%◌, ◌*◌, List, ℕ, length, Some, None, IfSome, IfOk, IfErr, OnOk, MatchResult};
+ghost use Rattle.eeprom_image.specs.Bytes.{bytes_of, words_of};
+ghost use Rattle.eeprom_image.specs.Image.{IsImage};
+ghost use Rattle.eeprom_image.specs.File.{file_fault, told_fault};
+
+use crate::image::{Image, is_size};
+use crate::section::{are_inside, has_whole_triples, is_checked};
+use crate::words::FileWords;
+use byteorder::{ByteOrder, LittleEndian};
+use std::alloc::{AllocError, Global};
+use thiserror::Error;
+
+/// Why bytes are no image's file, by number.
+#[derive(Clone, Copy, Debug, PartialEq, Eq, Error)]
+pub enum LoadFault {
+    /// They are no whole words.
+    #[error("an odd number of bytes")]
+    OddLength,
+    /// They aren't 64 words, or that doubled up to eight times.
+    #[error("no size of an image")]
+    BadSize,
+    /// A used pointer among words 0x03 to 0x0E, or a word of its section, is outside the image.
+    #[error("a section outside the image")]
+    SectionOutside,
+    /// Words 0x00 to 0x3F and the sections don't add up to 0xBABA.
+    #[error("a wrong checksum")]
+    BadChecksum,
+    /// The length of the CSR section is no multiple of 3.
+    #[error("a CSR section that isn't of whole triples")]
+    NotTriples,
+    /// They are an image's file, and there is no memory for the image.
+    #[error("out of memory")]
+    OutOfMemory,
+}
+
+/// The first fault of a file by number, memory aside.
+#[tactic(auto, unfolding(crate::specs::File::file_fault))]
+fn file_fault(bytes: &[u8]) -> Option<LoadFault>
+    ensures first { result ≡ file_fault bytes.now }
+    ensures told { IfSome result (λ fault. told_fault fault ≡ Some fault) }
+{
+    if bytes.len() % 2 != 0 {
+        return Some(LoadFault::OddLength);
+    }
+    if !is_size(bytes.len() / 2) {
+        return Some(LoadFault::BadSize);
+    }
+    let words = FileWords { bytes };
+    if !are_inside(&words) {
+        return Some(LoadFault::SectionOutside);
+    }
+    if !is_checked(&words) {
+        return Some(LoadFault::BadChecksum);
+    }
+    if !has_whole_triples(&words) {
+        return Some(LoadFault::NotTriples);
+    }
+    None
+}
+
+/// Reads the words of a file.
+fn read_words(bytes: &[u8], words: &mut [u16])
+    requires { length bytes.now ≡ 2 * length words.old }
+    ensures { words.new ≡ words_of bytes.now }
+{
+    LittleEndian::read_u16_into(bytes, words);
+}
+
+/// The words of a file.
+fn words_in(alloc: Global, bytes: &[u8]) -> Result<Vec<u16>, AllocError>
+    requires { length bytes.now % 2 ≡ 0 }
+    ensures { IfOk result (λ words. words.items ≡ words_of bytes.now) }
+{
+    let mut words = vec![in alloc; 0u16; bytes.len() / 2]?;
+    read_words(bytes, &mut words);
+    Ok(words)
+}
+
+/// The image whose file the bytes are, or their first fault by number.
+///
+/// What it takes is the file of the image that it gives, each byte of it, and the file of each image
+/// is taken. It takes time linear in the number of bytes. `OutOfMemory` comes only where there is no
+/// other fault.
+pub fn load(alloc: Global, bytes: &[u8]) -> Result<Image, LoadFault>
+    ensures file { IfOk result (λ image. IsImage image × (bytes.now ≡ bytes_of image)) }
+    ensures each_file { (words : List ℕ) → IsImage words → bytes.now ≡ bytes_of words →
+        MatchResult result (λ image. image ≡ words) (λ fault. fault ≡ LoadFault.OutOfMemory) }
+    ensures ok { OnOk result (file_fault bytes.now ≡ None) }
+    ensures fault { IfErr result (λ fault. file_fault bytes.now ≡ told_fault fault) }
+{
+    match file_fault(bytes) {
+        Some(fault) => Err(fault),
+        None => match words_in(alloc, bytes) {
+            Ok(words) => Ok(Image::of(words)),
+            Err(_) => Err(LoadFault::OutOfMemory),
+        },
+    }
+}

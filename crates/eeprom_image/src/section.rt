@@ -1,0 +1,135 @@
+//! Pointers, the sections that they point to, and the checksum over them.
+
+ghost use Rattle.std.specs.Prelude.{◌≡◌, ◌+◌, ◌*◌, ◌<◌, ◌≤◌, ◌^◌, ◌%◌, IsTrue, sum, take, drop};
+ghost use Rattle.eeprom_image.specs.Section.{is_unused, word_count, section_at, is_inside, pointers};
+ghost use Rattle.eeprom_image.specs.Checksum.{checked_sum, is_checked};
+ghost use Rattle.eeprom_image.specs.Triples.{has_whole_triples};
+ghost use Rattle.eeprom_image.specs.Image.{are_inside};
+
+use crate::words::Words;
+
+/// The one pointer to the CSR section, whose triples are register writes.
+pub(crate) const CSR_POINTER: usize = 0x0D;
+
+/// How many words from the start on are in the checksum.
+const CHECKED_WORDS: u16 = 64;
+
+/// What the words that are in the checksum add up to.
+pub(crate) const CHECKSUM: u16 = 0xBABA;
+
+/// Whether a pointer points to nothing, or a first word says that its section has no others.
+pub(crate) fn is_unused(word: u16) -> bool
+    ensures { result ≡ is_unused word }
+{
+    word == 0 || word == 0xFFFF
+}
+
+/// How many words a section has behind a first word that says so.
+pub(crate) fn word_count(word: u16) -> u16
+    ensures { result ≡ word_count word }
+{
+    if is_unused(word) { 0 } else { word }
+}
+
+/// The pointers to sections: words 0x03 to 0x0E.
+#[tactic(auto, unfolding(crate::specs::Section::pointers))]
+pub(crate) fn pointers<W: Words>(words: &W) -> [u16; 12]
+    ensures { result ≡ pointers (W.words words.now) }
+{
+    [
+        words.word(0x03),
+        words.word(0x04),
+        words.word(0x05),
+        words.word(0x06),
+        words.word(0x07),
+        words.word(0x08),
+        words.word(0x09),
+        words.word(0x0A),
+        words.word(0x0B),
+        words.word(0x0C),
+        words.word(CSR_POINTER),
+        words.word(0x0E),
+    ]
+}
+
+/// Whether a pointer is unused, or the word that it points to and that one's section are in the image.
+pub(crate) fn is_inside<W: Words>(words: &W, pointer: u16) -> bool
+    ensures { result ≡ is_inside (W.words words.now) pointer }
+{
+    let first = usize::from(pointer);
+    is_unused(pointer) || first + usize::from(word_count(words.word(first))) < words.count()
+}
+
+/// Whether that holds of each pointer.
+pub(crate) fn are_inside<W: Words>(words: &W) -> bool
+    ensures { result ≡ are_inside (W.words words.now) }
+{
+    pointers(words)
+        .iter()
+        .all(|pointer| is_inside(words, *pointer))
+}
+
+/// The section that a pointer points to.
+pub(crate) fn section(words: &[u16], pointer: u16) -> &[u16]
+    requires { IsTrue (is_inside words.now pointer) }
+    ensures { result.now ≡ section_at words.now pointer }
+{
+    if is_unused(pointer) {
+        return &[];
+    }
+    let first = usize::from(pointer) + 1;
+    let count = usize::from(word_count(words.word(usize::from(pointer))));
+    &words[first..first + count]
+}
+
+/// The sum of so many words from an index on, of those that there are.
+fn sum_from<W: Words>(words: &W, first: usize, count: u16) -> u64
+    requires { first < 2 ^ 32 }
+    ensures sum { result ≡ sum (take count (drop first (W.words words.now))) }
+    ensures bound { result ≤ 65535 * count }
+{
+    let mut total = 0u64;
+    let end = words.count().min(first + usize::from(count));
+    for i in first..end {
+        total += u64::from(words.word(i));
+    }
+    total
+}
+
+/// The sum of the section that a pointer points to.
+fn section_sum<W: Words>(words: &W, pointer: u16) -> u64
+    ensures sum { result ≡ sum (section_at (W.words words.now) pointer) }
+    ensures bound { result < 2 ^ 32 }
+{
+    if is_unused(pointer) {
+        return 0;
+    }
+    let first = usize::from(pointer);
+    sum_from(words, first + 1, word_count(words.word(first)))
+}
+
+/// The sum that the checksum is of.
+pub(crate) fn checked_sum<W: Words>(words: &W) -> u64
+    ensures { result ≡ checked_sum (W.words words.now) }
+{
+    let mut total = sum_from(words, 0, CHECKED_WORDS);
+    for pointer in &pointers(words) {
+        total += section_sum(words, *pointer);
+    }
+    total
+}
+
+/// Whether the checksum is right.
+pub(crate) fn is_checked<W: Words>(words: &W) -> bool
+    ensures { result ≡ is_checked (W.words words.now) }
+{
+    checked_sum(words) % 0x10000 == u64::from(CHECKSUM)
+}
+
+/// Whether the CSR section is of whole triples.
+pub(crate) fn has_whole_triples<W: Words>(words: &W) -> bool
+    ensures { result ≡ has_whole_triples (W.words words.now) }
+{
+    let pointer = words.word(CSR_POINTER);
+    is_unused(pointer) || word_count(words.word(usize::from(pointer))) % 3 == 0
+}

@@ -1,0 +1,127 @@
+//! From an EEPROM text to the image that it means.
+
+ghost use Rattle.std.specs.Prelude.{◌≡◌, ◌≤◌, ◌<◌, List, ℕ, None, Ok, IfOk, IfErr, IsOkAnd};
+ghost use Rattle.eeprom_image.specs.Fault.{content_fault};
+ghost use Rattle.eeprom_image.specs.Layout.{IsLaidOut};
+ghost use Rattle.eeprom_image.specs.Draft.{content_in};
+ghost use Rattle.eeprom_image.specs.Text.{sound_content, checked_by, Fails, IsImageOf};
+ghost use Rattle.eeprom_image.specs.Content.{Content};
+
+use crate::draft::{Draft, read};
+use crate::fault::{fits, lowest_given_again, lowest_reserved, section_end};
+use crate::image::Image;
+use crate::layout::{are_behind, lay_out, with_checksum};
+use crate::section::are_inside;
+use std::alloc::{AllocError, AllocFailed, Global};
+use thiserror::Error;
+
+/// Why a text means no image: its first fault by number.
+#[derive(Clone, Copy, Debug, PartialEq, Eq, Error)]
+pub enum AsmFault {
+    /// The line of this number, from 1 on, has none of the forms or isn't at its place; it's the first
+    /// such line. It is one past the last line where every line is empty.
+    #[error("line {0}: not understood")]
+    Syntax(usize),
+    /// The lowest index that two `word` lines give.
+    #[error("word {0:#x} has two values")]
+    TwoValues(u32),
+    /// The lowest index of a `word` line that is 0x0D, 0x3F or in the CSR section.
+    #[error("word {0:#x} is reserved")]
+    Reserved(u32),
+    /// An index or the CSR section is beyond the size.
+    #[error("more than fits the size")]
+    DoesNotFit,
+    /// A used pointer points below 0x40, or its section isn't inside.
+    #[error("a pointer below 0x40 or to a section outside the image")]
+    PointerOutside,
+    /// There is no memory for the work.
+    #[error("out of memory")]
+    OutOfMemory,
+}
+
+impl From<AllocError> for AsmFault {
+    ghost use Rattle.std.specs.Prelude.{◌≡◌};
+    ghost use Rattle.eeprom_image.specs.declared.text.AsmFault.TheVariants.{OutOfMemory};
+
+    ghost from_gives = { λ _ fault. fault ≡ OutOfMemory };
+
+    fn from(_error: AllocError) -> AsmFault {
+        AsmFault::OutOfMemory
+    }
+}
+
+impl<T: Drop> From<AllocFailed<T>> for AsmFault {
+    ghost use Rattle.std.specs.Prelude.{◌≡◌};
+    ghost use Rattle.eeprom_image.specs.declared.text.AsmFault.TheVariants.{OutOfMemory};
+
+    ghost from_gives = { λ _ fault. fault ≡ OutOfMemory };
+
+    fn from(_error: AllocFailed<T>) -> AsmFault {
+        AsmFault::OutOfMemory
+    }
+}
+
+impl Draft {
+    ghost use Rattle.eeprom_image.specs.Fault.{points_inside};
+
+    /// Whether each pointer is right, of words that are laid out as the text gives them.
+    fn points_inside(&self, words: &[u16]) -> bool
+        requires long { 64 ≤ self.now.size }
+        requires words { IsLaidOut (content_in self.now) words.now }
+        ensures { result ≡ points_inside (content_in self.now) }
+    {
+        are_behind(words) && are_inside(&words)
+    }
+}
+
+/// The words of content without a fault, and 0 for the checksum; else its first fault by number.
+#[tactic(auto, unfolding(crate::specs::Fault::content_fault))]
+fn plain_words(alloc: Global, draft: &Draft) -> Result<Vec<u16>, AsmFault>
+    requires long { 64 ≤ draft.now.size }
+    requires short { draft.now.size < 65536 }
+    ensures ok { IfOk result (λ words. content_fault (content_in draft.now) ≡ None) }
+    ensures words { IfOk result (λ words. IsLaidOut (content_in draft.now) words.items) }
+    ensures fault { IfErr result
+        (λ fault. Fails fault (checked_by (content_in draft.now) (content_fault (content_in draft.now)))) }
+{
+    if let Some(index) = lowest_given_again(alloc, &draft.words)? {
+        return Err(AsmFault::TwoValues(index));
+    }
+    if let Some(index) = lowest_reserved(&draft.words, section_end(&draft.triples)) {
+        return Err(AsmFault::Reserved(index));
+    }
+    if !fits(draft) {
+        return Err(AsmFault::DoesNotFit);
+    }
+    let words = lay_out(alloc, draft)?;
+    if !draft.points_inside(&words) {
+        return Err(AsmFault::PointerOutside);
+    }
+    Ok(words)
+}
+
+/// The image that an EEPROM text means, or the first fault of the text.
+///
+/// A text has a line `size N` first, and then lines `word INDEX VALUE` and `csr OFFSET DATA` in any
+/// order. The image is the only one of N words that has the words and the register writes given, in
+/// this order, and 0xFFFF in each other word; the CSR section stands at 0x40. The first line of
+/// another form decides, and then the first other fault by number. `OutOfMemory` may stand in place
+/// of any answer.
+#[tactic(auto, unfolding(crate::specs::Text::sound_content))]
+pub fn assemble(alloc: Global, text: &str) -> Result<Image, AsmFault>
+    ensures image { IfOk result (λ image. IsOkAnd (sound_content text.now) (λ content. IsImageOf content image)) }
+    ensures fault { IfErr result (λ fault. Fails fault (sound_content text.now)) }
+{
+    let draft = read(alloc, text)?;
+    let words = plain_words(alloc, &draft)?;
+    Ok(Image::of(with_checksum(words)))
+}
+
+/// A text has exactly one image where it has no fault, and none where it has one.
+pub fn one_image()
+    ensures one { (text : List ℕ) (content : Content) → sound_content text ≡ Ok content →
+        (words : List ℕ) × IsImageOf content words
+        × ((others : List ℕ) → IsImageOf content others → others ≡ words) }
+    ensures none { (content : Content) (words : List ℕ) → IsImageOf content words →
+        content_fault content ≡ None }
+{}

@@ -1,0 +1,61 @@
+//! Words that are kept in one way or another.
+
+ghost use Rattle.std.specs.Prelude.{◌≡◌, ◌+◌, ◌*◌, ◌<◌, ◌%◌, length, List, ℕ};
+ghost use Rattle.eeprom_image.specs.Bytes.{word_at};
+
+use byteorder::{ByteOrder, LittleEndian};
+
+/// Words by their index: those of an image, or those of a file that may become one.
+pub(crate) trait Words {
+    ghost words: { Self → List ℕ };
+
+    /// How many there are.
+    fn count(&self) -> usize
+        ensures { result ≡ length (words self.now) };
+
+    /// The word at an index, 0xFFFF outside.
+    fn word(&self, index: usize) -> u16
+        ensures { result ≡ word_at (words self.now) index };
+}
+
+impl Words for &[u16] {
+    ghost words = { λ s. s.now };
+
+    fn count(&self) -> usize {
+        self.len()
+    }
+
+    fn word(&self, index: usize) -> u16 {
+        if index < self.len() {
+            self[index]
+        } else {
+            0xFFFF
+        }
+    }
+}
+
+/// The words of a file that is in memory as its bytes.
+#[derive(Clone, Copy)]
+pub(crate) struct FileWords<'a> {
+    pub(crate) bytes: &'a [u8],
+}
+
+impl Words for FileWords<'_> {
+    ghost use Rattle.std.specs.Prelude.{List, ℕ};
+    ghost use Rattle.eeprom_image.specs.Bytes.{words_of};
+
+    ghost words = { λ file. words_of file.bytes.now };
+
+    fn count(&self) -> usize {
+        self.bytes.len() / 2
+    }
+
+    fn word(&self, index: usize) -> u16 {
+        if index < self.bytes.len() / 2 {
+            let rest = &self.bytes[2 * index..];
+            LittleEndian::read_u16(rest)
+        } else {
+            0xFFFF
+        }
+    }
+}

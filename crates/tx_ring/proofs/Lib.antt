@@ -1,0 +1,4 @@
+pub mod Fetches
+pub mod Packets
+pub mod Reported
+pub mod Staging

@@ -1,0 +1,163 @@
+-- What the device and a driver can rest on when a slot is fetched.
+use Rattle.std.specs.Prelude.{ℕ, ◌≡◌, ◌≢◌, ◌<◌, ◌≤◌, ◌+◌, ◌⊎◌, List, [], ◌∷◌, ◌++◌, length, if◌then◌else◌, IsTrue, IsFalse, Some, None, Ok, Err, ⊤}
+use Rattle.std.specs.FinMap as map
+use Rattle.std.specs.Int.{w32, to_le_bytes}
+use Rattle.dma_arena.specs.Memory.{Memory, byte_at, is_lent, read_at, IsWhole, SameLent, IsOutside, AreApart, Avoids}
+use Rattle.dma_ring.specs.declared.ring.Ring.{Ring}
+use Rattle.dma_ring.specs.declared.transmit.Command.{Command}
+use Rattle.dma_ring.specs.declared.fault.RingFault.{RingFault}
+use Rattle.dma_ring.specs.declared.fault.RingFault.TheVariants.{Outside, NotLent, Offload, Legacy, TooLong, UnknownType}
+use Rattle.dma_ring.specs.Ring.{slots_of, is_outside, next_of}
+use Rattle.tx_ring.specs.declared.tx.Tx.{Tx}
+use Rattle.tx_ring.specs.declared.fetched.Fetched.{Fetched}
+use Rattle.tx_ring.specs.Frame.{frame_of}
+use Rattle.tx_ring.specs.Report.{head_address, report_address, report_length, done_descriptor}
+use Rattle.tx_ring.specs.Fetch.{Outcome, descriptor_of, command_in, buffer_in, buffer_bytes, is_context, CanSend, fault_outcome, context_outcome, data_outcome, fetch_of}
+
+-- the command of the descriptor at the head
+abbrev pub command_at : Memory → Ring → Command
+command_at m r = command_in (descriptor_of m r)
+
+-- head and tail are slots, and the descriptor at the head is lent
+pub record HasDescriptor (m : Memory) (r : Ring) : Type 0 where
+  pub inside : IsFalse (is_outside r)
+  pub lent : IsTrue (is_lent m (head_address r) 16)
+
+-- it is an advanced one of a type
+pub record HasType (m : Memory) (r : Ring) (kind : ℕ) : Type 0 where
+  pub descriptor : HasDescriptor m r
+  pub extended : IsTrue (command_at m r).extended
+  pub type : (command_at m r).kind ≡ kind
+
+abbrev pub HasContext : Memory → Ring → Type 0
+HasContext m r = HasType m r 2
+
+abbrev pub HasData : Memory → Ring → Type 0
+HasData m r = HasType m r 3
+
+-- the first test that fails names the fault, and where none fails the descriptor is done
+pub record TestsInOrder (m : Memory) (staged : List ℕ) (r : Ring) (tx : Tx) : Type 0 where
+  pub outside : IsTrue (is_outside r) → fetch_of m staged r tx ≡ fault_outcome m staged Outside
+  pub descriptor :
+      IsFalse (is_outside r) → IsFalse (is_lent m (head_address r) 16)
+      → fetch_of m staged r tx ≡ fault_outcome m staged (NotLent (head_address r))
+  pub legacy : HasDescriptor m r → IsFalse (command_at m r).extended → fetch_of m staged r tx ≡ fault_outcome m staged Legacy
+  pub type :
+      HasDescriptor m r → IsTrue (command_at m r).extended → (command_at m r).kind ≢ 2 → (command_at m r).kind ≢ 3
+      → fetch_of m staged r tx ≡ fault_outcome m staged UnknownType
+  pub context : HasContext m r → fetch_of m staged r tx ≡ context_outcome m staged r
+  pub offload : HasData m r → IsTrue (command_at m r).offload → fetch_of m staged r tx ≡ fault_outcome m staged Offload
+  pub too_long :
+      HasData m r → IsFalse (command_at m r).offload → tx.limit < length staged + (command_at m r).len
+      → fetch_of m staged r tx ≡ fault_outcome m staged TooLong
+  pub buffer :
+      HasData m r → IsFalse (command_at m r).offload → length staged + (command_at m r).len ≤ tx.limit
+      → IsFalse (is_lent m (buffer_in (descriptor_of m r)) (command_at m r).len)
+      → fetch_of m staged r tx ≡ fault_outcome m staged (NotLent (buffer_in (descriptor_of m r)))
+  pub report :
+      HasData m r → IsFalse (command_at m r).offload → length staged + (command_at m r).len ≤ tx.limit
+      → IsTrue (is_lent m (buffer_in (descriptor_of m r)) (command_at m r).len) → IsTrue (command_at m r).report
+      → IsFalse (is_lent m (report_address r tx) (report_length tx.writeback))
+      → fetch_of m staged r tx ≡ fault_outcome m staged (NotLent (report_address r tx))
+  pub sent :
+      HasData m r → CanSend m r tx (length staged) (descriptor_of m r)
+      → fetch_of m staged r tx ≡ data_outcome m staged r tx (descriptor_of m r)
+
+abbrev pub TestLaw : Type 0
+TestLaw = (m : Memory) (staged : List ℕ) (r : Ring) (tx : Tx) → TestsInOrder m staged r tx
+
+-- a fault leaves the memory and the staged bytes
+abbrev pub FaultChangesNothing : Type 0
+FaultChangesNothing =
+    (m : Memory) (staged : List ℕ) (r : Ring) (tx : Tx) (fault : RingFault) → (fetch_of m staged r tx).answer ≡ Err fault
+    → ((fetch_of m staged r tx).memory ≡ m) × ((fetch_of m staged r tx).staged ≡ staged)
+
+-- a fetched slot is the one at the head, and the head moves on to the next slot; its descriptor was a context one, or a
+-- data one that passed its tests
+pub record TakesSlot (m : Memory) (staged : List ℕ) (r : Ring) (tx : Tx) (f : Fetched) : Type 0 where
+  pub slot : f.slot ≡ r.head
+  pub head : f.head ≡ next_of (slots_of r) r.head
+  pub inside : f.head < slots_of r
+  pub done :
+      (HasContext m r × (fetch_of m staged r tx ≡ context_outcome m staged r))
+      ⊎ (HasData m r × CanSend m r tx (length staged) (descriptor_of m r)
+      × (fetch_of m staged r tx ≡ data_outcome m staged r tx (descriptor_of m r)))
+
+abbrev pub SlotLaw : Type 0
+SlotLaw =
+    (m : Memory) (staged : List ℕ) (r : Ring) (tx : Tx) (f : Fetched) → (fetch_of m staged r tx).answer ≡ Ok f
+    → TakesSlot m staged r tx f
+
+-- a turn of a queue: the memory, the ring and the registers as a slot is fetched
+pub record Turn : Type 0 where
+  pub memory : Memory
+  pub ring : Ring
+  pub tx : Tx
+
+abbrev pub turn_of : Turn → List ℕ → Outcome
+turn_of t staged = fetch_of t.memory staged t.ring t.tx
+
+-- the bytes that a turn adds to a packet: those that a data descriptor names
+abbrev pub piece_of : Turn → List ℕ
+piece_of t = if is_context (command_at t.memory t.ring) then [] else buffer_bytes t.memory (descriptor_of t.memory t.ring)
+
+-- the pieces of turns, in order
+unfoldable pub pieces_of : List Turn → List ℕ
+pieces_of [] = []
+pieces_of (t ∷ ts) = piece_of t ++ pieces_of ts
+
+-- the bytes that turns leave staged
+unfoldable pub staged_after : List Turn → List ℕ → List ℕ
+staged_after [] staged = staged
+staged_after (t ∷ ts) staged = staged_after ts (turn_of t staged).staged
+
+-- a turn is fetched, and no packet ends
+abbrev pub GoesOn : Turn → List ℕ → Type 0
+GoesOn t staged = (f : Fetched) × ((turn_of t staged).answer ≡ Ok f) × (f.frame ≡ None)
+
+unfoldable pub GoOn : List Turn → List ℕ → Type 0
+GoOn [] staged = ⊤
+GoOn (t ∷ ts) staged = GoesOn t staged × GoOn ts (turn_of t staged).staged
+
+-- the frame that goes out at the end of a packet is the pieces of its turns in order, padded where the last says so; and
+-- then no byte is staged
+abbrev pub PacketLaw : Type 0
+PacketLaw =
+    (turns : List Turn) (last : Turn) (f : Fetched) (frame : List ℕ) → GoOn turns []
+    → (turn_of last (staged_after turns [])).answer ≡ Ok f → f.frame ≡ Some frame
+    → (frame ≡ frame_of last.tx.pad (pieces_of turns ++ piece_of last)) × ((turn_of last (staged_after turns [])).staged ≡ [])
+
+-- where an address was written back, what stands there: the new head, and without a head write-back address the
+-- descriptor with its done bit
+pub record ShowsReport (old new : Memory) (r : Ring) (tx : Tx) (f : Fetched) : Type 0 where
+  pub head : (a : ℕ) → tx.writeback ≡ Some a → (f.back ≡ Some a) × (read_at new a 4 ≡ to_le_bytes w32 f.head)
+  pub descriptor :
+      tx.writeback ≡ None
+      → (f.back ≡ Some (head_address r)) × (read_at new (head_address r) 16 ≡ done_descriptor (descriptor_of old r))
+
+abbrev pub DriverReads : Type 0
+DriverReads =
+    (m : Memory) (staged : List ℕ) (r : Ring) (tx : Tx) (f : Fetched) → IsWhole m → (fetch_of m staged r tx).answer ≡ Ok f
+    → IsTrue f.rs → ShowsReport m (fetch_of m staged r tx).memory r tx f
+
+-- beside the bytes that were written back each byte stays, and each read and each block; where nothing was, all stays
+pub record ChangesOnlyReport (old new : Memory) (tx : Tx) (f : Fetched) : Type 0 where
+  pub none : f.back ≡ None → new ≡ old
+  pub bytes :
+      (a at : ℕ) → f.back ≡ Some at → IsOutside a at (report_length tx.writeback) → byte_at new a ≡ byte_at old a
+  pub reads :
+      (a n at : ℕ) → f.back ≡ Some at → AreApart a n at (report_length tx.writeback) → read_at new a n ≡ read_at old a n
+  pub blocks :
+      (number at : ℕ) → f.back ≡ Some at → Avoids number at (report_length tx.writeback)
+      → map.get new number ≡ map.get old number
+
+abbrev pub WritesInsideReport : Type 0
+WritesInsideReport =
+    (m : Memory) (staged : List ℕ) (r : Ring) (tx : Tx) (f : Fetched) → (fetch_of m staged r tx).answer ≡ Ok f
+    → ChangesOnlyReport m (fetch_of m staged r tx).memory tx f
+
+-- whatever the answer, the same blocks stay lent, and each stays as long as it is
+abbrev pub FetchKeepsBlocks : Type 0
+FetchKeepsBlocks =
+    (m : Memory) (staged : List ℕ) (r : Ring) (tx : Tx)
+    → SameLent (fetch_of m staged r tx).memory m × (IsWhole m → IsWhole (fetch_of m staged r tx).memory)

@@ -1,0 +1,4 @@
+pub mod Frame
+pub mod Report
+pub mod Fetch
+pub mod Laws

@@ -1,0 +1,22 @@
+ghost use Rattle.std.specs.Prelude.{◌≡◌};
+ghost use Rattle.tx_ring.specs.declared.refused.TxRefused.TheVariants.{Fault, OutOfMemory};
+
+use dma_ring::RingFault;
+use std::alloc::AllocError;
+
+/// Why a slot wasn't fetched. Memory and staged bytes are as they were.
+#[derive(Clone, Copy, PartialEq, Eq, Debug)]
+pub enum TxRefused {
+    /// A test failed.
+    Fault(RingFault),
+    /// There was no memory for the bytes of the frame.
+    OutOfMemory,
+}
+
+impl From<AllocError> for TxRefused {
+    ghost from_gives = { λ _ e. e ≡ OutOfMemory };
+
+    fn from(_: AllocError) -> TxRefused {
+        TxRefused::OutOfMemory
+    }
+}

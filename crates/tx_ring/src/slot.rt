@@ -1,0 +1,239 @@
+//! The slot at the head is fetched: its descriptor is tested, and then done in one go.
+
+ghost use Rattle.std.specs.Prelude.{◌≡◌, ◌↔◌, ◌+◌, ◌-◌, ◌≤◌, ◌<◌, ◌&&◌, if◌then◌else◌, length, true, IsTrue, IsFalse, OnOk, OnErr, IfOk, Some};
+ghost use Rattle.dma_arena.specs.Memory.{is_lent};
+ghost use Rattle.dma_ring.specs.Ring.{is_outside, slots_of};
+ghost use Rattle.dma_ring.specs.declared.fault.RingFault.{RingFault};
+ghost use Rattle.tx_ring.specs.Report.{head_address, can_report, back_of, report_address, report_length, reported};
+ghost use Rattle.tx_ring.specs.Fetch.{IsReady, command_in, buffer_in, fault_of, descriptor_fault_of, data_fault_of, CanSend, data_outcome, fetch_of, bytes_held};
+
+use crate::fetched::Fetched;
+use crate::refused::TxRefused;
+use crate::staged::Staged;
+use crate::tx::Tx;
+use dma_arena::LentMemory;
+use dma_ring::{Ring, RingFault, command_in, done, first_half, of_halves, second_half};
+use std::alloc::{AllocError, Global};
+
+/// The type of a context descriptor.
+const CONTEXT: u8 = 2;
+
+/// The type of a data descriptor.
+const DATA: u8 = 3;
+
+/// How many bytes a frame has at least where short ones are padded.
+const SHORTEST_FRAME: usize = 60;
+
+/// Fetches the slot at the head of a transmit ring: stages the bytes that its descriptor names, hands out the frame at
+/// the end of a packet, and reports where the descriptor asks for it. A context descriptor moves the head alone. Where
+/// the ring isn't outside, a slot must be the device's, and it has 65,536 slots at most.
+///
+/// The faults, in the order of their tests: `Outside` where the head or the tail is no slot; `NotLent` of the
+/// descriptor's address; `Legacy`; `UnknownType`; then of a data descriptor `Offload`, `TooLong` where the staged
+/// bytes and its own are above the limit, `NotLent` of its buffer, and `NotLent` of the address to be written back.
+/// `OutOfMemory` comes only after all tests, and only where more bytes are to be held than before. Each leaves memory
+/// and staged bytes.
+///
+/// Intel 82599 datasheet, section on advanced transmit descriptors.
+#[tactic(auto, unfolding(crate::specs::Fetch::fetch_of, crate::specs::Fetch::fault_of))]
+pub fn fetch(
+    alloc: Global,
+    memory: &mut LentMemory,
+    ring: &Ring,
+    tx: &Tx,
+    staged: &mut Staged,
+) -> Result<Fetched, TxRefused>
+    requires ready { IsReady ring.now }
+    requires slots { slots_of ring.now ≤ 65536 }
+    ensures fault { (f : RingFault) → (result ≡ Err (TxRefused.Fault f))
+        ↔ (fault_of memory.old ring.now tx.now (length staged.old) ≡ Some f) }
+    ensures answer { IfOk result (λ f. (fetch_of memory.old staged.old ring.now tx.now).answer ≡ Ok f) }
+    ensures memory { OnOk result (memory.new ≡ (fetch_of memory.old staged.old ring.now tx.now).memory) }
+    ensures staged { OnOk result (staged.new ≡ (fetch_of memory.old staged.old ring.now tx.now).staged) }
+    ensures memory_kept { OnErr result (memory.new ≡ memory.old) }
+    ensures staged_kept { OnErr result (staged.new ≡ staged.old) }
+    ensures full { result ≡ Err TxRefused.OutOfMemory
+        → length staged.old < length (bytes_held (fetch_of memory.old staged.old ring.now tx.now)) }
+{
+    if ring.outside() {
+        return Err(TxRefused::Fault(RingFault::Outside));
+    }
+    let address = ring.descriptor(ring.head);
+    if !memory.is_lent(address, 16) {
+        return Err(TxRefused::Fault(RingFault::NotLent(address)));
+    }
+    let descriptor = memory.read16(address);
+    if let Some(fault) = descriptor_fault(memory, ring, tx, staged.bytes().len(), &descriptor) {
+        return Err(TxRefused::Fault(fault));
+    }
+    if command_in(second_half(&descriptor)).kind == CONTEXT {
+        return Ok(Fetched {
+            slot: ring.head,
+            head: ring.next(ring.head),
+            back: None,
+            rs: false,
+            frame: None,
+        });
+    }
+    Ok(send(alloc, memory, ring, tx, staged, &descriptor)?)
+}
+
+/// The first test that a descriptor fails, with so many bytes staged.
+#[tactic(auto, unfolding(crate::specs::Fetch::descriptor_fault_of))]
+fn descriptor_fault(
+    memory: &LentMemory,
+    ring: &Ring,
+    tx: &Tx,
+    staged: usize,
+    descriptor: &[u8; 16],
+) -> Option<RingFault>
+    ensures { result ≡ descriptor_fault_of memory.now ring.now tx.now staged descriptor.now }
+{
+    let command = command_in(second_half(descriptor));
+    if !command.extended {
+        return Some(RingFault::Legacy);
+    }
+    match command.kind {
+        CONTEXT => None,
+        DATA => data_fault(memory, ring, tx, staged, descriptor),
+        _ => Some(RingFault::UnknownType),
+    }
+}
+
+/// The first test that a data descriptor fails, with so many bytes staged.
+#[tactic(auto, unfolding(crate::specs::Fetch::data_fault_of))]
+fn data_fault(
+    memory: &LentMemory,
+    ring: &Ring,
+    tx: &Tx,
+    staged: usize,
+    descriptor: &[u8; 16],
+) -> Option<RingFault>
+    ensures { result ≡ data_fault_of memory.now ring.now tx.now staged descriptor.now }
+{
+    let command = command_in(second_half(descriptor));
+    if command.offload {
+        return Some(RingFault::Offload);
+    }
+    let len = usize::from(command.len);
+    if tx.limit < staged || tx.limit - staged < len {
+        return Some(RingFault::TooLong);
+    }
+    let buffer = first_half(descriptor);
+    if !memory.is_lent(buffer, len) {
+        return Some(RingFault::NotLent(buffer));
+    }
+    if command.report && !is_report_lent(memory, ring, tx) {
+        return Some(RingFault::NotLent(report_address(ring, tx)));
+    }
+    None
+}
+
+/// Does a data descriptor that passed its tests: stages its bytes, hands out the frame at the end of the packet, and
+/// reports. Only the staging takes memory, and it comes first.
+fn send(
+    alloc: Global,
+    memory: &mut LentMemory,
+    ring: &Ring,
+    tx: &Tx,
+    staged: &mut Staged,
+    descriptor: &[u8; 16],
+) -> Result<Fetched, AllocError>
+    requires inside { IsFalse (is_outside ring.now) }
+    requires slots { slots_of ring.now ≤ 65536 }
+    requires descriptor { IsTrue (is_lent memory.old (head_address ring.now) 16) }
+    requires passed { CanSend memory.old ring.now tx.now (length staged.old) descriptor.now }
+    ensures answer { IfOk result
+        (λ f. (data_outcome memory.old staged.old ring.now tx.now descriptor.now).answer ≡ Ok f) }
+    ensures memory { OnOk result
+        (memory.new ≡ (data_outcome memory.old staged.old ring.now tx.now descriptor.now).memory) }
+    ensures staged { OnOk result
+        (staged.new ≡ (data_outcome memory.old staged.old ring.now tx.now descriptor.now).staged) }
+    ensures memory_kept { OnErr result (memory.new ≡ memory.old) }
+    ensures staged_kept { OnErr result (staged.new ≡ staged.old) }
+    ensures full { OnErr result (length staged.old
+        < length (bytes_held (data_outcome memory.old staged.old ring.now tx.now descriptor.now))) }
+{
+    let command = command_in(second_half(descriptor));
+    let len = usize::from(command.len);
+    let zeros = padding(tx, command.end, staged.bytes().len() + len);
+    staged.stage(memory, first_half(descriptor), len, zeros)?;
+    let back = report(memory, ring, tx, descriptor, command.report);
+    let frame = staged.frame(alloc, command.end);
+    Ok(Fetched {
+        slot: ring.head,
+        head: ring.next(ring.head),
+        back,
+        rs: command.report,
+        frame,
+    })
+}
+
+/// How many zero bytes go behind so many of a packet: those of a short frame that ends and is padded.
+fn padding(tx: &Tx, end: bool, len: usize) -> usize
+    ensures { result ≡ (if end && tx.now.pad then 60 - len else 0) }
+{
+    if end && tx.pad {
+        SHORTEST_FRAME.saturating_sub(len)
+    } else {
+        0
+    }
+}
+
+/// Where a queue reports.
+fn report_address(ring: &Ring, tx: &Tx) -> u64
+    ensures { result ≡ report_address ring.now tx.now }
+{
+    tx.writeback.unwrap_or(ring.descriptor(ring.head))
+}
+
+/// Whether what a queue reports has its place in lent memory.
+fn is_report_lent(memory: &LentMemory, ring: &Ring, tx: &Tx) -> bool
+    ensures { result ≡ is_lent memory.now (report_address ring.now tx.now) (report_length tx.now.writeback) }
+{
+    let len = if tx.writeback.is_some() { 4 } else { 16 };
+    memory.is_lent(report_address(ring, tx), len)
+}
+
+/// Reports that the slot at the head is done, where the descriptor asks for it, and gives the address.
+fn report(
+    memory: &mut LentMemory,
+    ring: &Ring,
+    tx: &Tx,
+    descriptor: &[u8; 16],
+    asked: bool,
+) -> Option<u64>
+    requires inside { IsFalse (is_outside ring.now) }
+    requires slots { slots_of ring.now ≤ 65536 }
+    requires lent { IsTrue (can_report memory.old ring.now tx.now asked) }
+    ensures address { result ≡ back_of ring.now tx.now asked }
+    ensures memory { memory.new ≡ reported memory.old ring.now tx.now asked descriptor.now }
+{
+    if !asked {
+        return None;
+    }
+    write_back(memory, ring, tx, descriptor);
+    Some(report_address(ring, tx))
+}
+
+/// Writes back that the slot at the head is done: the new head, or the descriptor with its done bit.
+fn write_back(memory: &mut LentMemory, ring: &Ring, tx: &Tx, descriptor: &[u8; 16])
+    requires inside { IsFalse (is_outside ring.now) }
+    requires slots { slots_of ring.now ≤ 65536 }
+    requires lent { IsTrue (can_report memory.old ring.now tx.now true) }
+    ensures { memory.new ≡ reported memory.old ring.now tx.now true descriptor.now }
+{
+    match tx.writeback {
+        Some(address) => {
+            let head = u32::from(ring.next(ring.head));
+            memory.write_at(address, &head.to_le_bytes());
+        }
+        None => {
+            let second = done(second_half(descriptor));
+            memory.write16(
+                ring.descriptor(ring.head),
+                of_halves(first_half(descriptor), second),
+            );
+        }
+    }
+}

@@ -1,0 +1,93 @@
+ghost use Rattle.std.specs.Prelude.{◌≡◌, ◌+◌, ◌<◌, ◌≤◌, ◌^◌, if◌then◌else◌, [], ◌++◌, length, replicate, Some, None, IsTrue, OnOk, OnErr};
+ghost use Rattle.dma_arena.specs.Memory.{is_lent, put_bytes, read_at};
+
+use dma_arena::{LentMemory, Octets};
+use std::alloc::{AllocError, Global};
+use std::marker::Model;
+use std::mem;
+
+/// The bytes of a packet that a queue has fetched so far, which contracts see as their list.
+#[derive(Debug, Drop)]
+pub struct Staged {
+    bytes: Vec<u8>,
+}
+
+impl Model for Staged {
+    ghost use Rattle.std.specs.Prelude.{List, ℕ};
+
+    ghost Value = { List ℕ };
+
+    ghost view = { λ s. s.bytes.items };
+}
+
+impl Staged {
+    /// No bytes. It takes no memory.
+    pub fn new(alloc: Global) -> Staged
+        ensures { result ≡ [] }
+    {
+        Staged {
+            bytes: Vec::new(alloc),
+        }
+    }
+
+    /// The bytes, in order.
+    pub fn bytes(&self) -> &[u8]
+        ensures { result.now ≡ self.now }
+    {
+        &self.bytes
+    }
+
+    /// Drops the bytes.
+    pub fn clear(&mut self)
+        ensures { self.new ≡ [] }
+    {
+        self.bytes.clear();
+    }
+
+    /// Takes the bytes out, and leaves none.
+    fn take(&mut self, alloc: Global) -> Octets
+        ensures taken { result ≡ self.old }
+        ensures left { self.new ≡ [] }
+    {
+        Octets::of(mem::replace(&mut self.bytes, Vec::new(alloc)))
+    }
+
+    /// The staged bytes as a frame, where it ends: they are taken out, and none are left.
+    pub(crate) fn frame(&mut self, alloc: Global, end: bool) -> Option<Octets>
+        ensures frame { result ≡ (if end then Some self.old else None) }
+        ensures left { self.new ≡ (if end then [] else self.old) }
+    {
+        if end { Some(self.take(alloc)) } else { None }
+    }
+
+    /// Stages `len` bytes from a bus address on, and then so many zero bytes. Where there is no memory for them the
+    /// staged bytes stay.
+    pub(crate) fn stage(
+        &mut self,
+        memory: &LentMemory,
+        address: u64,
+        len: usize,
+        zeros: usize,
+    ) -> Result<(), AllocError>
+        requires lent { IsTrue (is_lent memory.now address len) }
+        requires fits { length self.old + len + zeros < 2 ^ 64 }
+        ensures staged { OnOk result (self.new ≡ (self.old ++ read_at memory.now address len) ++ replicate zeros 0) }
+        ensures kept { OnErr result (self.new ≡ self.old) }
+        ensures full { OnErr result (0 < len + zeros) }
+    {
+        let start = self.bytes.as_slice().len();
+        self.bytes.resize(start + len + zeros, 0)?;
+        read_part(memory, address, self.bytes.as_mut_slice(), start, len);
+        Ok(())
+    }
+}
+
+/// Reads `len` bytes from a bus address on into the slice, from one of its bytes on.
+#[tactic(auto, unfolding(dma_arena::specs::Memory::put_bytes))]
+fn read_part(memory: &LentMemory, address: u64, bytes: &mut [u8], start: usize, len: usize)
+    requires lent { IsTrue (is_lent memory.now address len) }
+    requires room { start + len ≤ length bytes.old }
+    ensures { bytes.new ≡ put_bytes bytes.old start (read_at memory.now address len) }
+{
+    memory.read_at(address, &mut bytes[start..start + len]);
+}

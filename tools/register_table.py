@@ -51,6 +51,8 @@ def transmit(offset):
 
 # name, meaning, kind, addresses (the first run of an index is its first address), mask, reset value
 TABLE = [
+    Row("CTRL", "Device control", "Ctrl", one(0x00000, 0x00004), mask=0xFBFF_FFF7),
+    Row("STATUS", "Device status", "Calc", one(0x00008)),
     Row("CTRL_EXT", "Extended device control", "Rw", one(0x00018)),
     Row("LEDCTL", "LED control", "Rw", one(0x00200)),
     Row("EIAC", "Extended interrupt auto clear", "Rw", one(0x00810), mask=0x7FFF_FFFF),
@@ -60,14 +62,20 @@ TABLE = [
     Row("IVAR_MISC", "Interrupt vector allocation of other causes", "Rw", one(0x00A00)),
     Row("PVTEIAC", "Extended interrupt auto clear of a virtual function", "Rw", array(0x00F00, 64), mask=7),
     Row("PVTEIAM", "Extended interrupt auto mask of a virtual function", "Rw", array(0x04D00, 64), mask=7),
+    Row("RDBAL", "Receive descriptor base address, low part", "Held", receive(0x00), mask=0xFFFF_FF80),
+    Row("RDBAH", "Receive descriptor base address, high part", "Held", receive(0x04)),
+    Row("RDLEN", "Receive descriptor length in bytes", "Held", receive(0x08), mask=0x000F_FF80),
+    Row("RDH", "Receive descriptor head", "Held", receive(0x10), mask=0x0000_FFFF),
     Row("SRRCTL", "Split receive control of a queue", "Rw", receive(0x14) + array(0x02100, 16), reset=0x0000_0402),
     Row("RDT", "Receive descriptor tail", "Rw", receive(0x18), mask=0x0000_FFFF),
+    Row("RXDCTL", "Receive descriptor control", "Enable", receive(0x28), mask=0xFDFF_FFFF),
     Row("RQSMR", "Receive queue statistics mapping", "Rw", array(0x02300, 32)),
     Row("RDRXCTL", "Receive DMA control", "Rw", one(0x02F00), mask=0xFFFF_FFF7, reset=0x0000_0008),
     Row("RXCTRL", "Receive control", "Rw", one(0x03000)),
     Row("HLREG0", "MAC highlander control 0", "Rw", one(0x04240), reset=0x0000_0403),
     Row("MAXFRS", "Maximum frame size", "Rw", one(0x04268), mask=0xFFFF_0000, reset=0x05EE_0000),
     Row("AUTOC", "Auto-negotiation control", "Rw", one(0x042A0)),
+    Row("LINKS", "Link status", "Calc", one(0x042A4)),
     Row("DMATXCTL", "DMA transmit control", "Rw", one(0x04A80), reset=0x8100_0000),
     Row("RXCSUM", "Receive checksum control", "Rw", one(0x05000)),
     Row("FCTRL", "Filter control", "Rw", one(0x05080)),
@@ -81,7 +89,12 @@ TABLE = [
     Row("MRQC", "Multiple receive queues command", "Rw", one(0x05818, 0x0EC80)),
     Row("RETA", "Redirection table", "Rw", array(0x05C00, 32) + array(0x0EB00, 32)),
     Row("RSSRK", "Receive side scaling random key", "Rw", array(0x05C80, 10) + array(0x0EB80, 10)),
+    Row("TDBAL", "Transmit descriptor base address, low part", "Held", transmit(0x00), mask=0xFFFF_FF80),
+    Row("TDBAH", "Transmit descriptor base address, high part", "Held", transmit(0x04)),
+    Row("TDLEN", "Transmit descriptor length in bytes", "Held", transmit(0x08), mask=0x000F_FF80),
+    Row("TDH", "Transmit descriptor head", "Held", transmit(0x10), mask=0x0000_FFFF),
     Row("TDT", "Transmit descriptor tail", "Rw", transmit(0x18), mask=0x0000_FFFF),
+    Row("TXDCTL", "Transmit descriptor control", "Enable", transmit(0x28), mask=0xFDFF_FFFF),
     Row("TDWBAL", "Transmit head write-back address, low part", "Rw", transmit(0x38), mask=0xFFFF_FFFD),
     Row("TDWBAH", "Transmit head write-back address, high part", "Rw", transmit(0x3C)),
     Row("MTQC", "Multiple transmit queues command", "Rw", one(0x08120)),
@@ -117,6 +130,10 @@ def runs():
 
 def variants():
     return ", ".join(row.variant for row in TABLE)
+
+
+def kinds():
+    return ", ".join(sorted({row.kind for row in TABLE}))
 
 
 def rust_rows():
@@ -215,7 +232,7 @@ def spec_rows():
 use Rattle.std.specs.Prelude.{{ℕ, List, [], ◌∷◌, codes}}
 use Rattle.reg_table.specs.declared.rows.RowId.{{RowId}}
 use Rattle.reg_table.specs.declared.rows.RowId.TheVariants.{{{variants()}}}
-use Rattle.reg_table.specs.declared.kind.Kind.TheVariants.{{Rw}}
+use Rattle.reg_table.specs.declared.kind.Kind.TheVariants.{{{kinds()}}}
 use Rattle.reg_table.specs.Row.{{Row, row}}
 
 -- the rows: name, number of indices, kind, bits that a write can change, word after a reset

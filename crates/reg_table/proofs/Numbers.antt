@@ -3,21 +3,23 @@ use Rattle.std.proofs.Common.{◌≡◌, ◌<◌, map, length, get_or, refl, lit
 use Rattle.std.specs.Prelude.{Some, find}
 use Rattle.std.specs.List.{range_with_len}
 use Rattle.reg_table.specs.declared.rows.RowId.{RowId}
-use Rattle.reg_table.specs.declared.rows.RowId.TheVariants.{CtrlExt, Ledctl, Eiac, Eitr, Gpie, Ivar, IvarMisc, Pvteiac, Pvteiam, Srrctl, Rdt, Rqsmr, Rdrxctl, Rxctrl, Hlreg0, Maxfrs, Autoc, Dmatxctl, Rxcsum, Fctrl, Mcstctrl, VtCtl, Vfre, Vfte, Mta, Ral, Rah, Mrqc, Reta, Rssrk, Tdt, Tdwbal, Tdwbah, Mtqc, Tqsm, Mpsar, Psrtype, GcrExt, Pvtivar}
+use Rattle.reg_table.specs.declared.rows.RowId.TheVariants.{Ctrl, Status, CtrlExt, Ledctl, Eiac, Eitr, Gpie, Ivar, IvarMisc, Pvteiac, Pvteiam, Rdbal, Rdbah, Rdlen, Rdh, Srrctl, Rdt, Rxdctl, Rqsmr, Rdrxctl, Rxctrl, Hlreg0, Maxfrs, Autoc, Links, Dmatxctl, Rxcsum, Fctrl, Mcstctrl, VtCtl, Vfre, Vfte, Mta, Ral, Rah, Mrqc, Reta, Rssrk, Tdbal, Tdbah, Tdlen, Tdh, Tdt, Txdctl, Tdwbal, Tdwbah, Mtqc, Tqsm, Mpsar, Psrtype, GcrExt, Pvtivar}
 use Rattle.reg_table.specs.Rows.{row_of, rows, number_of}
 use Rattle.reg_table.specs.Named.{is_named}
 
 -- how many rows there are
-pub rows_length : length rows ≡ 39
+pub rows_length : length rows ≡ 52
 unfolding rows
 rows_length = refl
 
 -- the rows stand in the order of their numbers
-pub rows_numbers : map number_of rows ≡ range_with_len 0 39
+pub rows_numbers : map number_of rows ≡ range_with_len 0 52
 unfolding rows
 rows_numbers = refl
 
-pub number_below : (r : RowId) → number_of r < 39
+pub number_below : (r : RowId) → number_of r < 52
+number_below Ctrl = lit< tt
+number_below Status = lit< tt
 number_below CtrlExt = lit< tt
 number_below Ledctl = lit< tt
 number_below Eiac = lit< tt
@@ -27,14 +29,20 @@ number_below Ivar = lit< tt
 number_below IvarMisc = lit< tt
 number_below Pvteiac = lit< tt
 number_below Pvteiam = lit< tt
+number_below Rdbal = lit< tt
+number_below Rdbah = lit< tt
+number_below Rdlen = lit< tt
+number_below Rdh = lit< tt
 number_below Srrctl = lit< tt
 number_below Rdt = lit< tt
+number_below Rxdctl = lit< tt
 number_below Rqsmr = lit< tt
 number_below Rdrxctl = lit< tt
 number_below Rxctrl = lit< tt
 number_below Hlreg0 = lit< tt
 number_below Maxfrs = lit< tt
 number_below Autoc = lit< tt
+number_below Links = lit< tt
 number_below Dmatxctl = lit< tt
 number_below Rxcsum = lit< tt
 number_below Fctrl = lit< tt
@@ -48,7 +56,12 @@ number_below Rah = lit< tt
 number_below Mrqc = lit< tt
 number_below Reta = lit< tt
 number_below Rssrk = lit< tt
+number_below Tdbal = lit< tt
+number_below Tdbah = lit< tt
+number_below Tdlen = lit< tt
+number_below Tdh = lit< tt
 number_below Tdt = lit< tt
+number_below Txdctl = lit< tt
 number_below Tdwbal = lit< tt
 number_below Tdwbah = lit< tt
 number_below Mtqc = lit< tt
@@ -61,6 +74,8 @@ number_below Pvtivar = lit< tt
 -- each row stands at its number
 pub row_numbered : (r d : RowId) → get_or rows (number_of r) d ≡ r
 unfolding rows
+row_numbered Ctrl d = refl
+row_numbered Status d = refl
 row_numbered CtrlExt d = refl
 row_numbered Ledctl d = refl
 row_numbered Eiac d = refl
@@ -70,14 +85,20 @@ row_numbered Ivar d = refl
 row_numbered IvarMisc d = refl
 row_numbered Pvteiac d = refl
 row_numbered Pvteiam d = refl
+row_numbered Rdbal d = refl
+row_numbered Rdbah d = refl
+row_numbered Rdlen d = refl
+row_numbered Rdh d = refl
 row_numbered Srrctl d = refl
 row_numbered Rdt d = refl
+row_numbered Rxdctl d = refl
 row_numbered Rqsmr d = refl
 row_numbered Rdrxctl d = refl
 row_numbered Rxctrl d = refl
 row_numbered Hlreg0 d = refl
 row_numbered Maxfrs d = refl
 row_numbered Autoc d = refl
+row_numbered Links d = refl
 row_numbered Dmatxctl d = refl
 row_numbered Rxcsum d = refl
 row_numbered Fctrl d = refl
@@ -91,7 +112,12 @@ row_numbered Rah d = refl
 row_numbered Mrqc d = refl
 row_numbered Reta d = refl
 row_numbered Rssrk d = refl
+row_numbered Tdbal d = refl
+row_numbered Tdbah d = refl
+row_numbered Tdlen d = refl
+row_numbered Tdh d = refl
 row_numbered Tdt d = refl
+row_numbered Txdctl d = refl
 row_numbered Tdwbal d = refl
 row_numbered Tdwbah d = refl
 row_numbered Mtqc d = refl
@@ -104,6 +130,8 @@ row_numbered Pvtivar d = refl
 -- the first row with the name of a row is that row
 pub row_found : (r : RowId) → find (is_named (row_of r).name) rows ≡ Some r
 unfolding rows
+row_found Ctrl = refl
+row_found Status = refl
 row_found CtrlExt = refl
 row_found Ledctl = refl
 row_found Eiac = refl
@@ -113,14 +141,20 @@ row_found Ivar = refl
 row_found IvarMisc = refl
 row_found Pvteiac = refl
 row_found Pvteiam = refl
+row_found Rdbal = refl
+row_found Rdbah = refl
+row_found Rdlen = refl
+row_found Rdh = refl
 row_found Srrctl = refl
 row_found Rdt = refl
+row_found Rxdctl = refl
 row_found Rqsmr = refl
 row_found Rdrxctl = refl
 row_found Rxctrl = refl
 row_found Hlreg0 = refl
 row_found Maxfrs = refl
 row_found Autoc = refl
+row_found Links = refl
 row_found Dmatxctl = refl
 row_found Rxcsum = refl
 row_found Fctrl = refl
@@ -134,7 +168,12 @@ row_found Rah = refl
 row_found Mrqc = refl
 row_found Reta = refl
 row_found Rssrk = refl
+row_found Tdbal = refl
+row_found Tdbah = refl
+row_found Tdlen = refl
+row_found Tdh = refl
 row_found Tdt = refl
+row_found Txdctl = refl
 row_found Tdwbal = refl
 row_found Tdwbah = refl
 row_found Mtqc = refl

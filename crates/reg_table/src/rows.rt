@@ -9,6 +9,10 @@ use crate::row::Entry;
 /// A row of the register table: the registers of one name.
 #[derive(Clone, Copy, PartialEq, Eq, PartialOrd, Ord, Debug)]
 pub enum RowId {
+    /// Device control.
+    Ctrl,
+    /// Device status.
+    Status,
     /// Extended device control.
     CtrlExt,
     /// LED control.
@@ -27,10 +31,20 @@ pub enum RowId {
     Pvteiac,
     /// Extended interrupt auto mask of a virtual function.
     Pvteiam,
+    /// Receive descriptor base address, low part.
+    Rdbal,
+    /// Receive descriptor base address, high part.
+    Rdbah,
+    /// Receive descriptor length in bytes.
+    Rdlen,
+    /// Receive descriptor head.
+    Rdh,
     /// Split receive control of a queue.
     Srrctl,
     /// Receive descriptor tail.
     Rdt,
+    /// Receive descriptor control.
+    Rxdctl,
     /// Receive queue statistics mapping.
     Rqsmr,
     /// Receive DMA control.
@@ -43,6 +57,8 @@ pub enum RowId {
     Maxfrs,
     /// Auto-negotiation control.
     Autoc,
+    /// Link status.
+    Links,
     /// DMA transmit control.
     Dmatxctl,
     /// Receive checksum control.
@@ -69,8 +85,18 @@ pub enum RowId {
     Reta,
     /// Receive side scaling random key.
     Rssrk,
+    /// Transmit descriptor base address, low part.
+    Tdbal,
+    /// Transmit descriptor base address, high part.
+    Tdbah,
+    /// Transmit descriptor length in bytes.
+    Tdlen,
+    /// Transmit descriptor head.
+    Tdh,
     /// Transmit descriptor tail.
     Tdt,
+    /// Transmit descriptor control.
+    Txdctl,
     /// Transmit head write-back address, low part.
     Tdwbal,
     /// Transmit head write-back address, high part.
@@ -90,7 +116,9 @@ pub enum RowId {
 }
 
 /// The rows, in the order of the table.
-pub(crate) static ROWS: [RowId; 39] = [
+pub(crate) static ROWS: [RowId; 52] = [
+    RowId::Ctrl,
+    RowId::Status,
     RowId::CtrlExt,
     RowId::Ledctl,
     RowId::Eiac,
@@ -100,14 +128,20 @@ pub(crate) static ROWS: [RowId; 39] = [
     RowId::IvarMisc,
     RowId::Pvteiac,
     RowId::Pvteiam,
+    RowId::Rdbal,
+    RowId::Rdbah,
+    RowId::Rdlen,
+    RowId::Rdh,
     RowId::Srrctl,
     RowId::Rdt,
+    RowId::Rxdctl,
     RowId::Rqsmr,
     RowId::Rdrxctl,
     RowId::Rxctrl,
     RowId::Hlreg0,
     RowId::Maxfrs,
     RowId::Autoc,
+    RowId::Links,
     RowId::Dmatxctl,
     RowId::Rxcsum,
     RowId::Fctrl,
@@ -121,7 +155,12 @@ pub(crate) static ROWS: [RowId; 39] = [
     RowId::Mrqc,
     RowId::Reta,
     RowId::Rssrk,
+    RowId::Tdbal,
+    RowId::Tdbah,
+    RowId::Tdlen,
+    RowId::Tdh,
     RowId::Tdt,
+    RowId::Txdctl,
     RowId::Tdwbal,
     RowId::Tdwbah,
     RowId::Mtqc,
@@ -150,6 +189,8 @@ pub(crate) fn entry_of(row: RowId) -> Entry
     ensures { row_in result ≡ row_of row }
 {
     match row {
+        RowId::Ctrl     => entry!("CTRL",       1, Ctrl, 0xFBFF_FFF7, 0x0000_0000),
+        RowId::Status   => entry!("STATUS",     1, Calc, 0xFFFF_FFFF, 0x0000_0000),
         RowId::CtrlExt  => entry!("CTRL_EXT",   1, Rw, 0xFFFF_FFFF, 0x0000_0000),
         RowId::Ledctl   => entry!("LEDCTL",     1, Rw, 0xFFFF_FFFF, 0x0000_0000),
         RowId::Eiac     => entry!("EIAC",       1, Rw, 0x7FFF_FFFF, 0x0000_0000),
@@ -159,14 +200,20 @@ pub(crate) fn entry_of(row: RowId) -> Entry
         RowId::IvarMisc => entry!("IVAR_MISC",   1, Rw, 0xFFFF_FFFF, 0x0000_0000),
         RowId::Pvteiac  => entry!("PVTEIAC",   64, Rw, 0x0000_0007, 0x0000_0000),
         RowId::Pvteiam  => entry!("PVTEIAM",   64, Rw, 0x0000_0007, 0x0000_0000),
+        RowId::Rdbal    => entry!("RDBAL",    128, Held, 0xFFFF_FF80, 0x0000_0000),
+        RowId::Rdbah    => entry!("RDBAH",    128, Held, 0xFFFF_FFFF, 0x0000_0000),
+        RowId::Rdlen    => entry!("RDLEN",    128, Held, 0x000F_FF80, 0x0000_0000),
+        RowId::Rdh      => entry!("RDH",      128, Held, 0x0000_FFFF, 0x0000_0000),
         RowId::Srrctl   => entry!("SRRCTL",   128, Rw, 0xFFFF_FFFF, 0x0000_0402),
         RowId::Rdt      => entry!("RDT",      128, Rw, 0x0000_FFFF, 0x0000_0000),
+        RowId::Rxdctl   => entry!("RXDCTL",   128, Enable, 0xFDFF_FFFF, 0x0000_0000),
         RowId::Rqsmr    => entry!("RQSMR",     32, Rw, 0xFFFF_FFFF, 0x0000_0000),
         RowId::Rdrxctl  => entry!("RDRXCTL",    1, Rw, 0xFFFF_FFF7, 0x0000_0008),
         RowId::Rxctrl   => entry!("RXCTRL",     1, Rw, 0xFFFF_FFFF, 0x0000_0000),
         RowId::Hlreg0   => entry!("HLREG0",     1, Rw, 0xFFFF_FFFF, 0x0000_0403),
         RowId::Maxfrs   => entry!("MAXFRS",     1, Rw, 0xFFFF_0000, 0x05EE_0000),
         RowId::Autoc    => entry!("AUTOC",      1, Rw, 0xFFFF_FFFF, 0x0000_0000),
+        RowId::Links    => entry!("LINKS",      1, Calc, 0xFFFF_FFFF, 0x0000_0000),
         RowId::Dmatxctl => entry!("DMATXCTL",   1, Rw, 0xFFFF_FFFF, 0x8100_0000),
         RowId::Rxcsum   => entry!("RXCSUM",     1, Rw, 0xFFFF_FFFF, 0x0000_0000),
         RowId::Fctrl    => entry!("FCTRL",      1, Rw, 0xFFFF_FFFF, 0x0000_0000),
@@ -180,7 +227,12 @@ pub(crate) fn entry_of(row: RowId) -> Entry
         RowId::Mrqc     => entry!("MRQC",       1, Rw, 0xFFFF_FFFF, 0x0000_0000),
         RowId::Reta     => entry!("RETA",      32, Rw, 0xFFFF_FFFF, 0x0000_0000),
         RowId::Rssrk    => entry!("RSSRK",     10, Rw, 0xFFFF_FFFF, 0x0000_0000),
+        RowId::Tdbal    => entry!("TDBAL",    128, Held, 0xFFFF_FF80, 0x0000_0000),
+        RowId::Tdbah    => entry!("TDBAH",    128, Held, 0xFFFF_FFFF, 0x0000_0000),
+        RowId::Tdlen    => entry!("TDLEN",    128, Held, 0x000F_FF80, 0x0000_0000),
+        RowId::Tdh      => entry!("TDH",      128, Held, 0x0000_FFFF, 0x0000_0000),
         RowId::Tdt      => entry!("TDT",      128, Rw, 0x0000_FFFF, 0x0000_0000),
+        RowId::Txdctl   => entry!("TXDCTL",   128, Enable, 0xFDFF_FFFF, 0x0000_0000),
         RowId::Tdwbal   => entry!("TDWBAL",   128, Rw, 0xFFFF_FFFD, 0x0000_0000),
         RowId::Tdwbah   => entry!("TDWBAH",   128, Rw, 0xFFFF_FFFF, 0x0000_0000),
         RowId::Mtqc     => entry!("MTQC",       1, Rw, 0xFFFF_FFFF, 0x0000_0000),

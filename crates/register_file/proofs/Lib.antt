@@ -1,0 +1,5 @@
+pub mod Bits
+pub mod Places
+pub mod Puts
+pub mod Shape
+pub mod Sides

@@ -1,0 +1,18 @@
+use Rattle.register_file.proofs.Shape.{HasShape-reset, HasShape-written, HasShape-with_head, HasShape-switched, HasShape-shut}
+use Rattle.reg_table.specs.Rows.{row_of}
+use Rattle.register_file.proofs.laws.shape_is_kept.Goals as goal
+
+pub returns-clause-reset : goal.returns-clause-reset
+returns-clause-reset c = HasShape-reset
+
+pub returns-clause-write : goal.returns-clause-write
+returns-clause-write c = λ r h p view word. HasShape-written (row_of p.row).kind r p view word h
+
+pub returns-clause-head : goal.returns-clause-head
+returns-clause-head c = λ r h dir queue head. HasShape-with_head r dir queue head h
+
+pub returns-clause-switch : goal.returns-clause-switch
+returns-clause-switch c = λ r h dir queue. HasShape-switched r dir queue h
+
+pub returns-clause-shut : goal.returns-clause-shut
+returns-clause-shut c = λ r h dir queue. HasShape-shut r dir queue h

@@ -1,0 +1,8 @@
+use Rattle.register_file.proofs.Sides.{receive-switched, transmit-switched}
+use Rattle.register_file.proofs.laws.switched_side_is_as_wanted.Goals as goal
+
+pub returns-clause-receive : goal.returns-clause-receive
+returns-clause-receive c = receive-switched
+
+pub returns-clause-transmit : goal.returns-clause-transmit
+returns-clause-transmit c = transmit-switched

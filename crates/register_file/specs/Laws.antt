@@ -1,0 +1,179 @@
+-- What the registers promise as a whole, whatever happened before. `view` is the bits that an address shows.
+use Rattle.std.specs.Prelude.{ℕ, ◌≡◌, ◌≢◌, ◌<◌, ◌⊎◌, Bool, true, false, IsTrue, IsFalse, List, [], ◌∷◌, length, All, bit_and}
+use Rattle.reg_table.specs.Rows.{row_of, rows}
+use Rattle.reg_table.specs.declared.place.Place.{Place}
+use Rattle.reg_table.specs.declared.kind.Kind.TheVariants as kind
+use Rattle.reg_table.specs.declared.rows.RowId.{RowId}
+use Rattle.reg_table.specs.declared.rows.RowId.TheVariants.{Rdbal, Rdbah, Rdlen, Rdh, Rdt, Srrctl, Rxdctl, Tdbal, Tdbah, Tdlen, Tdh, Tdt, Tdwbal, Tdwbah, Txdctl}
+use Rattle.register_file.specs.Access.{read_word, written}
+use Rattle.register_file.specs.Bits.{merged, has_bit}
+use Rattle.register_file.specs.Columns.{place}
+use Rattle.register_file.specs.Queue.{ring_of, is_on, base_low_row, base_high_row, length_row, head_row, enable_row, with_head, switched, shut}
+use Rattle.register_file.specs.Registers.{Registers, reset_registers, is_wanted}
+use Rattle.register_file.specs.Sides.{receive_queue_of, transmit_queue_of}
+use Rattle.register_file.specs.Words.{row_words, word_at}
+use Rattle.register_file.specs.declared.dir.Dir.{Dir}
+use Rattle.register_file.specs.declared.dir.Dir.TheVariants.{Rx, Tx}
+
+-- the registers have each place of the table, and what is wanted of each queue
+pub record HasShape (r : Registers) : Type 0 where
+  pub has_rows : length r.words ≡ length rows
+  pub has_indices : (row : RowId) → length (row_words r.words row) ≡ (row_of row).count
+  pub wanted_rx : length r.wanted_rx ≡ 128
+  pub wanted_tx : length r.wanted_tx ≡ 128
+
+-- the registers after a write of a place
+abbrev pub after_write : Registers → Place → ℕ → ℕ → Registers
+after_write r p view word = written (row_of p.row).kind r p view word
+
+-- the registers have their shape after a reset, and keep it
+abbrev pub ResetHasShape : Type 0
+ResetHasShape = HasShape reset_registers
+
+abbrev pub WriteKeepsShape : Type 0
+WriteKeepsShape = (r : Registers) → HasShape r → (p : Place) (view word : ℕ) → HasShape (after_write r p view word)
+
+abbrev pub HeadKeepsShape : Type 0
+HeadKeepsShape = (r : Registers) → HasShape r → (dir : Dir) (queue head : ℕ) → HasShape (with_head r dir queue head)
+
+abbrev pub SwitchKeepsShape : Type 0
+SwitchKeepsShape = (r : Registers) → HasShape r → (dir : Dir) (queue : ℕ) → HasShape (switched r dir queue)
+
+abbrev pub ShutKeepsShape : Type 0
+ShutKeepsShape = (r : Registers) → HasShape r → (dir : Dir) (queue : ℕ) → HasShape (shut r dir queue)
+
+-- after a reset each place has its row's reset value, and no side of a queue is on or wanted on
+abbrev pub ResetGivesResetValues : Type 0
+ResetGivesResetValues =
+    (p : Place) → p.index < (row_of p.row).count → word_at reset_registers.words p ≡ (row_of p.row).reset
+
+abbrev pub ResetSwitchesOff : Type 0
+ResetSwitchesOff =
+    (dir : Dir) (queue : ℕ) → queue < 128 →
+    IsFalse (is_on reset_registers dir queue) × IsFalse (is_wanted reset_registers dir queue)
+
+-- a word written to a plain read/write register is read back: the bits that the row's mask and the address let
+-- through, and the former bits elsewhere
+abbrev pub StoredWordReadsBack : Type 0
+StoredWordReadsBack =
+    (r : Registers) → HasShape r → (p : Place) → p.index < (row_of p.row).count → (row_of p.row).kind ≡ kind.Rw →
+    (view word : ℕ) (link : Bool) →
+    read_word (row_of p.row).kind (after_write r p view word) link p
+    ≡ merged (bit_and (row_of p.row).mask view) (word_at r.words p) word
+
+-- a write of a place leaves the word of every other place
+abbrev pub WriteLeavesOtherWords : Type 0
+WriteLeavesOtherWords =
+    (r : Registers) (p q : Place) (view word : ℕ) → q ≢ p →
+    word_at (after_write r p view word).words q ≡ word_at r.words q
+
+-- whether a row is one of those that a side of a queue stands on
+abbrev pub is_row_of : Dir → RowId → Bool
+is_row_of Rx Rdbal = true
+is_row_of Rx Rdbah = true
+is_row_of Rx Rdlen = true
+is_row_of Rx Rdh = true
+is_row_of Rx Rdt = true
+is_row_of Rx Srrctl = true
+is_row_of Rx Rxdctl = true
+is_row_of Tx Tdbal = true
+is_row_of Tx Tdbah = true
+is_row_of Tx Tdlen = true
+is_row_of Tx Tdh = true
+is_row_of Tx Tdt = true
+is_row_of Tx Tdwbal = true
+is_row_of Tx Tdwbah = true
+is_row_of Tx Txdctl = true
+is_row_of dir other = false
+
+-- a place is none of a side of a queue: its row isn't, or its index is of another queue
+abbrev pub IsNoneOf : Dir → ℕ → Place → Type 0
+IsNoneOf dir queue p = IsFalse (is_row_of dir p.row) ⊎ (p.index ≢ queue)
+
+-- a write of a place leaves the sides of queues that the place is none of
+abbrev pub WriteLeavesOtherReceiveQueues : Type 0
+WriteLeavesOtherReceiveQueues =
+    (r : Registers) (p : Place) (view word queue : ℕ) → IsNoneOf Rx queue p →
+    receive_queue_of (after_write r p view word) queue ≡ receive_queue_of r queue
+
+abbrev pub WriteLeavesOtherTransmitQueues : Type 0
+WriteLeavesOtherTransmitQueues =
+    (r : Registers) (p : Place) (view word queue : ℕ) → IsNoneOf Tx queue p →
+    transmit_queue_of (after_write r p view word) queue ≡ transmit_queue_of r queue
+
+-- nothing has changed but one side of a queue, and of the words only one row's at that queue
+pub record ChangesOnly (dir : Dir) (queue : ℕ) (row : RowId) (old new : Registers) : Type 0 where
+  pub receive : (other : ℕ) → (dir ≡ Tx) ⊎ (other ≢ queue) → receive_queue_of new other ≡ receive_queue_of old other
+  pub transmit : (other : ℕ) → (dir ≡ Rx) ⊎ (other ≢ queue) → transmit_queue_of new other ≡ transmit_queue_of old other
+  pub words : (p : Place) → p ≢ place row queue → word_at new.words p ≡ word_at old.words p
+
+abbrev pub HeadLeavesTheRest : Type 0
+HeadLeavesTheRest =
+    (r : Registers) (dir : Dir) (queue head : ℕ) → ChangesOnly dir queue (head_row dir) r (with_head r dir queue head)
+
+abbrev pub SwitchLeavesTheRest : Type 0
+SwitchLeavesTheRest =
+    (r : Registers) (dir : Dir) (queue : ℕ) → ChangesOnly dir queue (enable_row dir) r (switched r dir queue)
+
+abbrev pub ShutLeavesTheRest : Type 0
+ShutLeavesTheRest =
+    (r : Registers) (dir : Dir) (queue : ℕ) → ChangesOnly dir queue (enable_row dir) r (shut r dir queue)
+
+-- after a head has moved the side has its ring with that head, and is else as it was
+abbrev pub HeadMovesReceive : Type 0
+HeadMovesReceive =
+    (r : Registers) → HasShape r → (queue head : ℕ) → queue < 128 → head < 65536 →
+    receive_queue_of (with_head r Rx queue head) queue
+    ≡ record (receive_queue_of r queue) { ring = record (ring_of r Rx queue) { head = head } }
+
+abbrev pub HeadMovesTransmit : Type 0
+HeadMovesTransmit =
+    (r : Registers) → HasShape r → (queue head : ℕ) → queue < 128 → head < 65536 →
+    transmit_queue_of (with_head r Tx queue head) queue
+    ≡ record (transmit_queue_of r queue) { ring = record (ring_of r Tx queue) { head = head } }
+
+-- after a switch the side is on exactly where it is wanted, and is else as it was
+abbrev pub SwitchObeysReceive : Type 0
+SwitchObeysReceive =
+    (r : Registers) → HasShape r → (queue : ℕ) → queue < 128 →
+    receive_queue_of (switched r Rx queue) queue
+    ≡ record (receive_queue_of r queue) { on = (receive_queue_of r queue).wanted }
+
+abbrev pub SwitchObeysTransmit : Type 0
+SwitchObeysTransmit =
+    (r : Registers) → HasShape r → (queue : ℕ) → queue < 128 →
+    transmit_queue_of (switched r Tx queue) queue
+    ≡ record (transmit_queue_of r queue) { on = (transmit_queue_of r queue).wanted }
+
+-- after a fault the side is off and not wanted on, and is else as it was
+abbrev pub ShutIsOffReceive : Type 0
+ShutIsOffReceive =
+    (r : Registers) → HasShape r → (queue : ℕ) → queue < 128 →
+    receive_queue_of (shut r Rx queue) queue ≡ record (receive_queue_of r queue) { on = false; wanted = false }
+
+abbrev pub ShutIsOffTransmit : Type 0
+ShutIsOffTransmit =
+    (r : Registers) → HasShape r → (queue : ℕ) → queue < 128 →
+    transmit_queue_of (shut r Tx queue) queue ≡ record (transmit_queue_of r queue) { on = false; wanted = false }
+
+-- the rows of a side's ring that no write changes while the side is on
+abbrev pub held_rows : Dir → List RowId
+held_rows dir = base_low_row dir ∷ base_high_row dir ∷ length_row dir ∷ head_row dir ∷ []
+
+abbrev pub RingIsHeldWhileOn : Type 0
+RingIsHeldWhileOn =
+    (r : Registers) (dir : Dir) (queue view word : ℕ) → IsTrue (is_on r dir queue) →
+    All (λ row. after_write r (place row queue) view word ≡ r) (held_rows dir)
+
+-- a write of an enable word asks for bit 25 and for nothing else: the side stays on or off, and its ring stays
+abbrev pub EnableWriteAsksReceive : Type 0
+EnableWriteAsksReceive =
+    (r : Registers) → HasShape r → (queue view word : ℕ) → queue < 128 →
+    receive_queue_of (after_write r (place Rxdctl queue) view word) queue
+    ≡ record (receive_queue_of r queue) { wanted = has_bit 25 word }
+
+abbrev pub EnableWriteAsksTransmit : Type 0
+EnableWriteAsksTransmit =
+    (r : Registers) → HasShape r → (queue view word : ℕ) → queue < 128 →
+    transmit_queue_of (after_write r (place Txdctl queue) view word) queue
+    ≡ record (transmit_queue_of r queue) { wanted = has_bit 25 word }

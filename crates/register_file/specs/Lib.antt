@@ -1,0 +1,10 @@
+pub mod Access
+pub mod Bits
+pub mod Columns
+pub mod Filled
+pub mod Laws
+pub mod Queue
+pub mod Registers
+pub mod Settings
+pub mod Sides
+pub mod Words

@@ -1,0 +1,45 @@
+-- What the registers hold between two events.
+use Rattle.std.specs.Prelude.{ℕ, Bool, false, List, replicate, slice_index_or, slice_set, refl}
+use Rattle.std.specs.Coded.{Coded, code_by, coded×, coded_ℕ, coded_bool, coded_list}
+use Rattle.reg_table.specs.declared.rows.RowId.{RowId}
+use Rattle.register_file.specs.Words.{Words, word_at, put, reset_words}
+use Rattle.register_file.specs.Columns.{place}
+use Rattle.register_file.specs.declared.dir.Dir.{Dir}
+use Rattle.register_file.specs.declared.dir.Dir.TheVariants.{Rx, Tx}
+
+-- the words of the registers, and of each queue whether its receive side and its transmit side are wanted on
+pub record Registers : Type 0 where
+  pub words : Words
+  pub wanted_rx : List Bool
+  pub wanted_tx : List Bool
+
+-- registers are stored as the pairs of their fields
+abbrev pub registers_code : Coded Registers
+registers_code =
+    code_by (Words × (List Bool × List Bool))
+    (coded× (coded_list (coded_list coded_ℕ)) (coded× (coded_list coded_bool) (coded_list coded_bool)))
+    (λ r. (r.words, (r.wanted_rx, r.wanted_tx)))
+    (λ p. record { words = p.0; wanted_rx = p.1.0; wanted_tx = p.1.1 })
+    (λ _. refl)
+
+-- after a reset every register has its reset value, and no side of a queue is wanted on
+abbrev pub reset_registers : Registers
+reset_registers = record { words = reset_words; wanted_rx = replicate 128 false; wanted_tx = replicate 128 false }
+
+-- the word of a row at an index
+abbrev pub word_of : Registers → RowId → ℕ → ℕ
+word_of r row index = word_at r.words (place row index)
+
+-- the registers with another word of a row at an index
+abbrev pub with_word : Registers → RowId → ℕ → ℕ → Registers
+with_word r row index word = record r { words = put r.words (place row index) word }
+
+-- whether a side of a queue is wanted on
+abbrev pub is_wanted : Registers → Dir → ℕ → Bool
+is_wanted r Rx queue = slice_index_or r.wanted_rx queue false
+is_wanted r Tx queue = slice_index_or r.wanted_tx queue false
+
+-- the registers with a side of a queue wanted on, or not
+abbrev pub with_wanted : Registers → Dir → ℕ → Bool → Registers
+with_wanted r Rx queue wanted = record r { wanted_rx = slice_set r.wanted_rx queue wanted }
+with_wanted r Tx queue wanted = record r { wanted_tx = slice_set r.wanted_tx queue wanted }

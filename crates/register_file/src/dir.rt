@@ -1,0 +1,8 @@
+/// A side of a queue.
+#[derive(Clone, Copy, PartialEq, Eq, Debug)]
+pub enum Dir {
+    /// Receive.
+    Rx,
+    /// Transmit.
+    Tx,
+}

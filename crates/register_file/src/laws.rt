@@ -1,0 +1,70 @@
+//! What the registers promise as a whole. Each law is the contract of a function that does nothing.
+
+ghost use Rattle.register_file.specs.Laws.{ResetHasShape, WriteKeepsShape, HeadKeepsShape, SwitchKeepsShape, ShutKeepsShape, ResetGivesResetValues, ResetSwitchesOff, StoredWordReadsBack, WriteLeavesOtherWords, WriteLeavesOtherReceiveQueues, WriteLeavesOtherTransmitQueues, HeadLeavesTheRest, SwitchLeavesTheRest, ShutLeavesTheRest, HeadMovesReceive, HeadMovesTransmit, SwitchObeysReceive, SwitchObeysTransmit, ShutIsOffReceive, ShutIsOffTransmit, RingIsHeldWhileOn, EnableWriteAsksReceive, EnableWriteAsksTransmit};
+
+/// The registers have each place of the table after a reset, and keep it through every change.
+pub fn shape_is_kept()
+    ensures reset { ResetHasShape }
+    ensures write { WriteKeepsShape }
+    ensures head { HeadKeepsShape }
+    ensures switch { SwitchKeepsShape }
+    ensures shut { ShutKeepsShape }
+{}
+
+/// After a reset each register has its reset value, and no side of a queue is on or wanted on.
+pub fn reset_is_the_tables()
+    ensures words { ResetGivesResetValues }
+    ensures off { ResetSwitchesOff }
+{}
+
+/// A word that was written to a plain read/write register is read back, by its mask.
+pub fn stored_word_reads_back()
+    ensures { StoredWordReadsBack }
+{}
+
+/// A write of a place leaves the word of every other place.
+pub fn write_leaves_other_words()
+    ensures { WriteLeavesOtherWords }
+{}
+
+/// A write of a place that is none of a side of a queue leaves that side: its ring, and whether it is on and wanted on.
+pub fn write_leaves_other_queues()
+    ensures receive { WriteLeavesOtherReceiveQueues }
+    ensures transmit { WriteLeavesOtherTransmitQueues }
+{}
+
+/// What the device does to one side of a queue changes no other side of any queue, and no other word.
+pub fn steps_leave_the_rest()
+    ensures head { HeadLeavesTheRest }
+    ensures switch { SwitchLeavesTheRest }
+    ensures shut { ShutLeavesTheRest }
+{}
+
+/// A moved head is the head of the side's ring, and the side is else as it was.
+pub fn moved_head_is_the_head()
+    ensures receive { HeadMovesReceive }
+    ensures transmit { HeadMovesTransmit }
+{}
+
+/// A switched side is on exactly where it is wanted on, and is else as it was.
+pub fn switched_side_is_as_wanted()
+    ensures receive { SwitchObeysReceive }
+    ensures transmit { SwitchObeysTransmit }
+{}
+
+/// A shut side is off and not wanted on, and is else as it was.
+pub fn shut_side_is_off()
+    ensures receive { ShutIsOffReceive }
+    ensures transmit { ShutIsOffTransmit }
+{}
+
+/// While a side of a queue is on, no write changes its ring's base, length or head.
+pub fn ring_is_held_while_on()
+    ensures { RingIsHeldWhileOn }
+{}
+
+/// A write of a side's enable word only asks: the side stays on or off, and its ring stays.
+pub fn enable_write_only_asks()
+    ensures receive { EnableWriteAsksReceive }
+    ensures transmit { EnableWriteAsksTransmit }
+{}

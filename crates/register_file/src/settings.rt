@@ -1,0 +1,104 @@
+//! What single bits and fields of registers set.
+
+ghost use Rattle.std.specs.Prelude.{◌≡◌, ◌≤◌, ◌<◌};
+ghost use Rattle.reg_table.specs.declared.rows.RowId.TheVariants.{Srrctl};
+ghost use Rattle.register_file.specs.Registers.{word_of};
+ghost use Rattle.register_file.specs.Settings.{is_stopped, can_receive, can_transmit, frame_limit, pads, drops, writeback_of};
+
+use crate::register_file::RegisterFile;
+use reg_table::RowId;
+
+/// CTRL: the device makes no step.
+const MASTER_DISABLE: u32 = 0x0000_0004;
+
+/// RXCTRL: frames are taken.
+const RXEN: u32 = 0x0000_0001;
+
+/// DMATXCTL: frames are sent.
+const TE: u32 = 0x0000_0001;
+
+/// HLREG0: frames may be as long as MAXFRS says.
+const JUMBOEN: u32 = 0x0000_0004;
+
+/// HLREG0: short frames are padded.
+const TXPADEN: u32 = 0x0000_0400;
+
+/// SRRCTL: a frame that finds no slot is dropped.
+const DROP_EN: u32 = 0x1000_0000;
+
+/// How many bytes a frame has at most where HLREG0 doesn't leave it to MAXFRS.
+const USUAL_LIMIT: u16 = 1514;
+
+/// How many bytes of MAXFRS are those of the frame check sequence, which frames here don't have.
+const FRAME_CHECK: u32 = 4;
+
+impl RegisterFile {
+    /// Whether the device makes no step: CTRL bit 2 is 1.
+    pub fn is_stopped(&self) -> bool
+        ensures { result ≡ is_stopped self.now }
+    {
+        self.word(RowId::Ctrl, 0) / MASTER_DISABLE % 2 == 1
+    }
+
+    /// Whether frames are taken: RXCTRL bit 0 is 1.
+    pub fn can_receive(&self) -> bool
+        ensures { result ≡ can_receive self.now }
+    {
+        self.word(RowId::Rxctrl, 0) / RXEN % 2 == 1
+    }
+
+    /// Whether frames are sent: DMATXCTL bit 0 is 1.
+    pub fn can_transmit(&self) -> bool
+        ensures { result ≡ can_transmit self.now }
+    {
+        self.word(RowId::Dmatxctl, 0) / TE % 2 == 1
+    }
+
+    /// How many bytes a frame has at most: 1,514, or with HLREG0 bit 2 the number in MAXFRS bits 31 to 16 less 4, 0 at
+    /// least.
+    pub fn frame_limit(&self) -> u16
+        ensures { result ≡ frame_limit self.now }
+    {
+        if self.word(RowId::Hlreg0, 0) / JUMBOEN % 2 == 1 {
+            return (self.word(RowId::Maxfrs, 0) / 0x1_0000).saturating_sub(FRAME_CHECK) as u16;
+        }
+        USUAL_LIMIT
+    }
+
+    /// Whether short frames are padded: HLREG0 bit 10 is 1.
+    pub fn pads(&self) -> bool
+        ensures { result ≡ pads self.now }
+    {
+        self.word(RowId::Hlreg0, 0) / TXPADEN % 2 == 1
+    }
+
+    /// The control word, SRRCTL, of a receive queue below `QUEUES`.
+    pub fn receive_control(&self, queue: u16) -> u32
+        requires { queue < 128 }
+        ensures { result ≡ word_of self.now Srrctl queue }
+    {
+        self.word(RowId::Srrctl, queue)
+    }
+
+    /// Whether a receive queue below `QUEUES` drops a frame that finds no slot: SRRCTL bit 28 is 1.
+    pub fn drops(&self, queue: u16) -> bool
+        requires { queue < 128 }
+        ensures { result ≡ drops self.now queue }
+    {
+        self.word(RowId::Srrctl, queue) / DROP_EN % 2 == 1
+    }
+
+    /// Where a transmit queue below `QUEUES` writes its head, if it does: the address of TDWBAH and TDWBAL bits 31 to
+    /// 2, where TDWBAL bit 0 is 1.
+    pub fn writeback(&self, queue: u16) -> Option<u64>
+        requires { queue < 128 }
+        ensures { result ≡ writeback_of self.now queue }
+    {
+        let low = self.word(RowId::Tdwbal, queue);
+        if low % 2 == 0 {
+            return None;
+        }
+        let high = self.word(RowId::Tdwbah, queue);
+        Some(u64::from(high) * 0x1_0000_0000 + u64::from(low / 4 * 4))
+    }
+}

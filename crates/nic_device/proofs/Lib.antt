@@ -1,3 +1,10 @@
 pub mod Accesses
+pub mod Cases
+pub mod Delivered
+pub mod Fetches
+pub mod Fitting
+pub mod Leaves
 pub mod Lists
-pub mod Places
+pub mod Pieces
+pub mod Reported
+pub mod Staging

@@ -1,11 +1,13 @@
 pub mod Access
-pub mod Bits
-pub mod Columns
+pub mod Arrival
 pub mod Config
-pub mod Filled
 pub mod Laws
+pub mod Lending
+pub mod Link
 pub mod Outcome
+pub mod Receive
 pub mod Run
 pub mod State
 pub mod Step
-pub mod Words
+pub mod Switching
+pub mod Transmit

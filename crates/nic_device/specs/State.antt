@@ -1,21 +1,83 @@
-use Rattle.std.specs.Prelude.{ℕ, refl}
-use Rattle.std.specs.Coded.{Coded, code_by, coded×, coded_ℕ, coded_list}
-use Rattle.nic_device.specs.Words.{Words, reset_words}
+-- What a device is between two events.
+use Rattle.std.specs.Prelude.{ℕ, Bool, true, List, [], replicate, refl}
+use Rattle.std.specs.Coded.{Coded, code_by, coded×, coded_ℕ, coded_bool, coded_list}
+use Rattle.std.specs.FinMap as map
+use Rattle.dma_arena.specs.Memory.{Memory}
+use Rattle.register_file.specs.Registers.{Registers, registers_code, reset_registers}
 
--- what a device is between two events
+-- a frame that waits to be received: its bytes, its queue, its hash and RSS type, and how many of its bytes are written
+pub record Waiting : Type 0 where
+  pub frame : List ℕ
+  pub queue : ℕ
+  pub hash : ℕ
+  pub rss : ℕ
+  pub offset : ℕ
+
+abbrev pub code_bytes : Coded (List ℕ)
+code_bytes = coded_list coded_ℕ
+
+abbrev pub waiting_code : Coded Waiting
+waiting_code =
+    code_by (List ℕ × (ℕ × (ℕ × (ℕ × ℕ))))
+    (coded× code_bytes (coded× coded_ℕ (coded× coded_ℕ (coded× coded_ℕ coded_ℕ))))
+    (λ w. (w.frame, (w.queue, (w.hash, (w.rss, w.offset)))))
+    (λ p. record { frame = p.0; queue = p.1.0; hash = p.1.1.0; rss = p.1.1.1.0; offset = p.1.1.1.1 })
+    (λ _. refl)
+
+-- a device: its registers, the memory that is lent to it, the frames that wait to be received, the bytes that each
+-- transmit queue has staged, the frames that went out and were not collected yet, each with its queue, the oldest first,
+-- whether the link is up, and its configuration
 pub record State : Type 0 where
-  pub words : Words
+  pub registers : Registers
+  pub memory : Memory
+  pub waiting : List Waiting
+  pub staged : List (List ℕ)
+  pub out : List (ℕ × List ℕ)
+  pub link : Bool
   pub vfs : ℕ
   pub fifo : ℕ
+
+abbrev pub Parts : Type 0
+Parts = Registers × (Memory × (List Waiting × (List (List ℕ) × (List (ℕ × List ℕ) × (Bool × (ℕ × ℕ))))))
 
 -- a state is stored as the pairs of its fields
 abbrev pub state_code : Coded State
 state_code =
-    code_by (Words × (ℕ × ℕ)) (coded× (coded_list (coded_list coded_ℕ)) (coded× coded_ℕ coded_ℕ))
-    (λ s. (s.words, (s.vfs, s.fifo)))
-    (λ p. record { words = p.0; vfs = p.1.0; fifo = p.1.1 })
+    code_by Parts
+    (coded× registers_code (coded× (map.code coded_ℕ code_bytes)
+    (coded× (coded_list waiting_code) (coded× (coded_list code_bytes)
+    (coded× (coded_list (coded× coded_ℕ code_bytes)) (coded× coded_bool (coded× coded_ℕ coded_ℕ)))))))
+    (λ s. (s.registers, (s.memory, (s.waiting, (s.staged, (s.out, (s.link, (s.vfs, s.fifo))))))))
+    (λ p. record {
+      registers = p.0;
+      memory = p.1.0;
+      waiting = p.1.1.0;
+      staged = p.1.1.1.0;
+      out = p.1.1.1.1.0;
+      link = p.1.1.1.1.1.0;
+      vfs = p.1.1.1.1.1.1.0;
+      fifo = p.1.1.1.1.1.1.1;
+    })
     (λ _. refl)
 
--- a new device: every register has its reset value
+-- no transmit queue has staged bytes
+abbrev pub none_staged : List (List ℕ)
+none_staged = replicate 128 []
+
+-- a new device: it is reset, nothing is lent, no frame is there, and the link is up
 abbrev pub new_state : ℕ → ℕ → State
-new_state vfs fifo = record { words = reset_words; vfs = vfs; fifo = fifo }
+new_state vfs fifo = record {
+  registers = reset_registers;
+  memory = map.empty;
+  waiting = [];
+  staged = none_staged;
+  out = [];
+  link = true;
+  vfs = vfs;
+  fifo = fifo;
+}
+
+-- a reset: the registers, the enables that were asked for, the frames that wait and the staged bytes. Lent memory,
+-- frames out and the link stay.
+abbrev pub reset : State → State
+reset s = record s { registers = reset_registers; waiting = []; staged = none_staged }

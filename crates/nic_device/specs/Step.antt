@@ -1,26 +1,46 @@
 -- One event.
-use Rattle.std.specs.Prelude.{ℕ, Option, Some, None}
+use Rattle.std.specs.Prelude.{ℕ, ◌≡◌, ◌≢◌, Option, Some, None}
+use Rattle.dma_arena.specs.Block.{Block}
 use Rattle.nic_device.specs.State.{State}
 use Rattle.nic_device.specs.Outcome.{Outcome}
 use Rattle.nic_device.specs.Access.{register_read, register_written}
+use Rattle.nic_device.specs.Lending.{lent, taken, peeked, poked}
+use Rattle.nic_device.specs.Arrival.{arrived}
+use Rattle.nic_device.specs.Receive.{received}
+use Rattle.nic_device.specs.Transmit.{transmitted}
+use Rattle.nic_device.specs.Switching.{queue_switched}
+use Rattle.nic_device.specs.Link.{link_set, collected}
 use Rattle.nic_device.specs.declared.event.Event.{Event}
-use Rattle.nic_device.specs.declared.event.Event.TheVariants.{Read, Write}
+use Rattle.nic_device.specs.declared.event.Event.TheVariants as event
 use Rattle.nic_device.specs.declared.event.Port.TheVariants.{Pf}
 use Rattle.nic_device.specs.declared.event.Reply.{Reply}
-use Rattle.nic_device.specs.declared.event.Reply.TheVariants.{Word, Stray, Done}
+use Rattle.nic_device.specs.declared.event.Reply.TheVariants as reply
 
 -- one event: its reply, and the state after it
-unfoldable pub step_of : State → Event → Outcome
-step_of s (Read Pf address) = register_read s address
-step_of s (Write Pf address word) = register_written s address word
+unfoldable pub step_of : State → Event Block → Outcome
+step_of s (event.Read Pf address) = register_read s address
+step_of s (event.Write Pf address word) = register_written s address word
+step_of s (event.Lend block) = lent s block
+step_of s (event.Take number) = taken s number
+step_of s (event.Peek16 address) = peeked s address
+step_of s (event.Poke16 address bytes) = poked s address bytes
+step_of s (event.Arrive frame) = arrived s frame
+step_of s event.RxStep = received s
+step_of s (event.TxStep queue) = transmitted s queue
+step_of s (event.QueueStep dir queue) = queue_switched s dir queue
+step_of s (event.Link up) = link_set s up
+step_of s event.Collect = collected s
 
--- an event may be refused for want of memory
-abbrev pub TakesMemory : State → Event → Type 0
-TakesMemory s (Read port address) = ⊥
-TakesMemory s (Write port address word) = ⊥
+-- an event may be refused for want of memory: lending and arriving where they would be done, and a transmit step of a
+-- queue that isn't idle. No other event is
+abbrev pub TakesMemory : State → Event Block → Type 0
+TakesMemory s (event.Lend block) = (lent s block).reply ≡ reply.Done
+TakesMemory s (event.Arrive frame) = (arrived s frame).reply ≡ reply.Done
+TakesMemory s (event.TxStep queue) =
+    ((transmitted s queue).reply ≢ reply.NoQueue) × ((transmitted s queue).reply ≢ reply.Idle)
+TakesMemory s other = ⊥
 
 -- the word that a reply tells, where the access met a register
-abbrev pub word_told : Reply → Option ℕ
-word_told (Word word) = Some word
-word_told (Stray word) = None
-word_told Done = None
+abbrev pub word_told : Reply Block → Option ℕ
+word_told (reply.Word word) = Some word
+word_told other = None

@@ -1,3 +1,10 @@
+ghost use Rattle.std.specs.Prelude.{◌≡◌};
+
+use dma_arena::{Buf, Octets};
+use dma_ring::RingFault;
+use register_file::Dir;
+use std::marker::Model;
+
 /// The function of the card that a register access comes through.
 #[derive(Clone, Copy, PartialEq, Eq, Debug)]
 pub enum Port {
@@ -5,34 +12,178 @@ pub enum Port {
     Pf,
 }
 
-/// What happens to the device. Registers are words of 32 bits; an address is a byte offset into the register space.
-#[derive(PartialEq, Eq, Debug, Drop)]
-pub enum Event {
+/// What happens to the device. Registers are words of 32 bits, and their address is a byte offset into the register
+/// space. A bus address is that of a byte of packet memory.
+///
+/// `B` is what stands for a packet buffer: the buffer itself, which can't be dropped, or in a note what it holds.
+#[derive(Debug, Drop)]
+pub enum Event<B = Buf> {
     /// A read of a register, at an address.
     Read(Port, u32),
     /// A write of a register: an address, and the word.
     Write(Port, u32, u32),
+    /// A block of packet memory is lent, under its number.
+    Lend(B),
+    /// The block of this number is taken back.
+    Take(u32),
+    /// A driver reads 16 bytes of lent memory, at a bus address that is a multiple of 16.
+    Peek16(u32),
+    /// A driver writes 16 bytes of lent memory, at a bus address that is a multiple of 16.
+    Poke16(u32, [u8; 16]),
+    /// A frame arrives from the link, without its frame check sequence.
+    Arrive(Octets),
+    /// The device writes on at the frame that waits longest: one descriptor.
+    RxStep,
+    /// The device fetches one descriptor of a transmit queue, below 128.
+    TxStep(u16),
+    /// The device makes a side of a queue, below 128, what it is wanted to be: on or off.
+    QueueStep(Dir, u16),
+    /// The link goes up (true) or down.
+    Link(bool),
+    /// The oldest frame that went out is collected.
+    Collect,
+}
+
+/// Why a frame that came from the link is dropped.
+#[derive(Clone, Copy, PartialEq, Eq, Debug)]
+pub enum Why {
+    /// The link is down.
+    LinkDown,
+    /// Receiving is off.
+    Off,
+    /// The frame has fewer than 60 bytes.
+    Short,
+    /// The frame is above the frame limit.
+    Long,
+    /// As many frames wait as the receive list takes.
+    Full,
+    /// The frame's queue is off.
+    QueueOff,
+    /// The frame's queue has no slot, and drops what finds none.
+    NoSlot,
 }
 
 /// What the device answers to an event.
-#[derive(PartialEq, Eq, Debug, Drop)]
-pub enum Reply {
+#[derive(Debug, Drop)]
+pub enum Reply<B = Buf> {
     /// The word read.
     Word(u32),
     /// The access meets no register; a read would see this word.
     Stray(u32),
     /// The event is made.
     Done,
+    /// The 16 bytes read.
+    Bytes([u8; 16]),
+    /// The block taken back, with the bytes that it has now.
+    Buf(B),
+    /// A block of this number is lent already: the one that came, as it was.
+    Twice(B),
+    /// A block that the access needs isn't lent.
+    NotLent,
+    /// The bus address is no multiple of 16.
+    Misaligned,
+    /// There is no queue of this number.
+    NoQueue,
+    /// There was nothing to do.
+    Idle,
+    /// A frame was dropped.
+    Dropped(Why),
+    /// A piece of a frame was written.
+    Wrote {
+        /// The receive queue, below 128.
+        queue: u16,
+        /// The slot of its ring.
+        slot: u16,
+        /// The frame ends with this piece.
+        end: bool,
+        /// The bus address of the descriptor that was written back.
+        desc: u64,
+        /// The bus address of the first byte that was written.
+        at: u64,
+        /// How many bytes were written there.
+        len: usize,
+    },
+    /// The head of a transmit queue moved on, and no frame went out.
+    Advanced {
+        /// The transmit queue, below 128.
+        queue: u16,
+        /// The slot of its ring that was fetched.
+        slot: u16,
+        /// The bus address that was written back, where something was.
+        back: Option<u64>,
+    },
+    /// A frame went out.
+    Sent {
+        /// The transmit queue, below 128.
+        queue: u16,
+        /// How many bytes it has, its padding included.
+        len: usize,
+        /// The bus address that was written back, where something was.
+        back: Option<u64>,
+    },
+    /// A slot couldn't be processed: its side of the queue is off, and not wanted on.
+    Fault {
+        /// The queue, below 128.
+        queue: u16,
+        /// Why.
+        fault: RingFault,
+    },
+    /// A frame that went out.
+    Frame {
+        /// The transmit queue that sent it, below 128.
+        queue: u16,
+        /// Its bytes, its padding included.
+        bytes: Octets,
+    },
+}
+
+/// What a packet buffer holds, in a note. Contracts see it as they see the buffer, by its number and its bytes, so that
+/// an event and its note are one.
+#[derive(Debug, Drop)]
+pub struct Note {
+    number: u32,
+    bytes: Octets,
+}
+
+impl Model for Note {
+    ghost use Rattle.dma_arena.specs.Block.{Block};
+
+    ghost Value = { Block };
+
+    ghost view = { λ n. record { number = n.number; bytes = n.bytes } };
+}
+
+impl Note {
+    /// The note of a block of this number with these bytes.
+    pub fn new(number: u32, bytes: Octets) -> Note
+        ensures { result ≡ record { number = number; bytes = bytes } }
+    {
+        Note { number, bytes }
+    }
+
+    /// The block's number.
+    pub fn number(&self) -> u32
+        ensures { result ≡ self.now.number }
+    {
+        self.number
+    }
+
+    /// The block's bytes.
+    pub fn bytes(&self) -> &[u8]
+        ensures { result.now ≡ self.now.bytes }
+    {
+        self.bytes.bytes()
+    }
 }
 
 /// An event as a note tells it: the same, with what a packet buffer holds in its place.
-pub type EventNote = Event;
+pub type EventNote = Event<Note>;
 
 /// A reply as a note tells it: the same, with what a packet buffer holds in its place.
-pub type ReplyNote = Reply;
+pub type ReplyNote = Reply<Note>;
 
 /// An event that found no memory. It wasn't made, and comes back.
-#[derive(PartialEq, Eq, Debug, Drop)]
+#[derive(Debug, Drop)]
 pub struct OutOfMemory<E> {
     /// The event, as it was passed.
     pub event: E,

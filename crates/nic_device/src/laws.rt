@@ -1,6 +1,7 @@
-//! What register accesses promise as a whole. Each law is the contract of a function that does nothing.
+//! What the device promises as a whole. Each law is the contract of a function that does nothing: what it ensures holds
+//! of the definitions that the contract of `Device::step` cites.
 
-ghost use Rattle.nic_device.specs.Laws.{NewDeviceReadsResetValues, WriteShowsAtEachAddress, WriteLeavesOtherRegisters, ReadChangesNothing, StrayAccessChangesNothing};
+ghost use Rattle.nic_device.specs.Laws.{NewDeviceReadsResetValues, WriteShowsAtEachAddress, WriteLeavesOtherRegisters, ReadChangesNothing, StrayAccessChangesNothing, ReadLeavesQueues, WriteLeavesOtherQueues, AccessLeavesMemory, MemoryCallsLeaveQueues, MemoryCallsLeaveOtherBlocks, ArrivalLeavesQueues, ArrivalLeavesMemory, ReceivingLeavesOtherQueues, ReceivingLeavesOtherBlocks, TransmittingLeavesOtherQueues, TransmittingLeavesOtherBlocks, SwitchingLeavesOtherQueues, SwitchingLeavesMemory, LinkLeavesQueues, LinkLeavesMemory, PieceIsReadBack, FaultChangesNoMemory, StoppedDeviceIsIdle};
 
 /// A register of a new device reads as its reset value.
 pub fn new_device_reads_reset_values()
@@ -25,4 +26,65 @@ pub fn read_changes_nothing()
 /// An access of an address that names nothing answers a stray 0 and changes nothing.
 pub fn stray_access_changes_nothing()
     ensures { StrayAccessChangesNothing }
+{}
+
+/// A read of a register changes no queue, a write that asks for no reset none that its register isn't of, and neither
+/// changes memory.
+pub fn access_leaves_the_rest()
+    ensures read { ReadLeavesQueues }
+    ensures write { WriteLeavesOtherQueues }
+    ensures memory { AccessLeavesMemory }
+{}
+
+/// A memory call changes no queue, and no block but the one that it lends, takes or writes.
+pub fn memory_call_leaves_the_rest()
+    ensures queues { MemoryCallsLeaveQueues }
+    ensures blocks { MemoryCallsLeaveOtherBlocks }
+{}
+
+/// A frame that arrives changes no queue and no memory.
+pub fn arrival_leaves_the_rest()
+    ensures queues { ArrivalLeavesQueues }
+    ensures memory { ArrivalLeavesMemory }
+{}
+
+/// A step of receiving changes no queue but the receive side of the one that the first frame waits for, and no block
+/// but those with the descriptor and the bytes that it tells of.
+pub fn receiving_leaves_the_rest()
+    ensures queues { ReceivingLeavesOtherQueues }
+    ensures blocks { ReceivingLeavesOtherBlocks }
+{}
+
+/// A step of transmitting changes no queue but the transmit side of its own, and no block but those that it tells of
+/// writing back to.
+pub fn transmitting_leaves_the_rest()
+    ensures queues { TransmittingLeavesOtherQueues }
+    ensures blocks { TransmittingLeavesOtherBlocks }
+{}
+
+/// A step of a side's enable changes no other side, and no memory.
+pub fn switching_leaves_the_rest()
+    ensures queues { SwitchingLeavesOtherQueues }
+    ensures memory { SwitchingLeavesMemory }
+{}
+
+/// The link, and collecting a frame, change no queue and no memory.
+pub fn link_leaves_the_rest()
+    ensures queues { LinkLeavesQueues }
+    ensures memory { LinkLeavesMemory }
+{}
+
+/// After a piece of a frame was written, memory has its bytes at the address that was told.
+pub fn piece_is_read_back()
+    ensures { PieceIsReadBack }
+{}
+
+/// A fault changes no memory.
+pub fn fault_changes_no_memory()
+    ensures { FaultChangesNoMemory }
+{}
+
+/// While CTRL bit 2 is 1 every device step is idle and changes nothing.
+pub fn stopped_device_is_idle()
+    ensures { StoppedDeviceIsIdle }
 {}

@@ -1,25 +1,31 @@
-//! The device core of the bench: a register interface of the Intel 82599, one event at a time.
+//! The device core of the bench: the Intel 82599 behind its registers, one event at a time.
 //!
-//! A `Device` is seen by contracts as a `State`: the words of its registers and its configuration. `Device::step` makes
-//! one `Event` and answers a `Reply`, both by the definition `step_of`; `Device::run` makes a list of events, and
-//! `Device::peek_register` looks without touching. The definitions stand in `specs/`, one file for each family of
-//! events. The script machine, the debugger, the lock and the driver stand on this crate.
+//! A `Device` is seen by contracts as a `State`: its registers, the memory that is lent to it, the frames that wait to
+//! be received, the bytes that its transmit queues have staged, the frames that went out, and whether the link is up.
+//! `Device::step` makes one `Event` and answers a `Reply`, both by the definition `step_of`; `Device::run` makes a list
+//! of events, and `Device::peek_register` and `Device::next_out` look without touching. The definitions stand in
+//! `specs/`, one file for each family of events, and the code beside them under the same name. The script machine, the
+//! debugger, the lock and the driver stand on this crate.
 #![tactic(auto)]
 
+mod access;
+mod arrival;
 mod config;
 mod device;
 mod event;
-mod laws;
-mod registers;
+pub mod laws;
+mod lending;
+mod link;
+mod receive;
 mod runs;
+mod switching;
 #[cfg(test)]
 mod tests;
+mod transmit;
+mod waiting;
 
 pub use config::{Config, MAX_FIFO, MAX_VFS, NewFault};
-pub use device::Device;
-pub use event::{Event, EventNote, OutOfMemory, Port, Reply, ReplyNote};
-pub use laws::{
-    new_device_reads_reset_values, read_changes_nothing, stray_access_changes_nothing,
-    write_leaves_other_registers, write_shows_at_each_address,
-};
+pub use device::{Device, Parts};
+pub use event::{Event, EventNote, Note, OutOfMemory, Port, Reply, ReplyNote, Why};
+pub use register_file::Dir;
 pub use runs::RunStop;

@@ -1,4 +1,5 @@
 ghost use Rattle.std.specs.Prelude.{◌≡◌, ◌<◌, IfOk, IfErr, OnOk, List, ◌∷◌, length};
+ghost use Rattle.dma_arena.specs.Block.{Block};
 ghost use Rattle.nic_device.specs.Run.{replies_of, state_after, IsStop};
 ghost use Rattle.nic_device.specs.Step.{TakesMemory};
 ghost use Rattle.nic_device.specs.declared.event.Event.{Event};
@@ -8,7 +9,6 @@ use crate::event::{Event, OutOfMemory, Reply};
 use std::alloc::Global;
 
 /// A run that stopped before an event.
-#[derive(PartialEq, Eq, Debug, Drop)]
 pub struct RunStop {
     /// The replies to the events that were made.
     pub replies: Vec<Reply>,
@@ -25,10 +25,11 @@ impl Device {
         ensures stopped { IfErr result (λ stop. IsStop self.old events.items stop.replies.items stop.rest.items self.new) }
 
         // once an event is made, the run stops only before one that takes memory
-        ensures memory { IfErr result (λ stop. (event : Event) (rest : List Event) →
+        ensures memory { IfErr result (λ stop. (event : Event Block) (rest : List (Event Block)) →
             0 < length stop.replies.items → stop.rest.items ≡ event ∷ rest → TakesMemory self.new event) }
     {
         if events.is_empty() {
+            events.destroy_empty();
             return Ok(Vec::new(alloc));
         }
         let Ok(mut replies) = Vec::with_capacity(alloc, events.len()) else {
@@ -44,13 +45,13 @@ impl Device {
                 Ok(reply) => {
                     match replies.push(reply) {
                         Ok(()) => {}
-                        Err(_) => unreachable!(),
+                        Err(_refused) => unreachable!(),
                     }
                 }
                 Err(OutOfMemory { event }) => {
                     match events.push(event) {
                         Ok(()) => {}
-                        Err(_) => unreachable!(),
+                        Err(_refused) => unreachable!(),
                     }
                     events.reverse();
                     return Err(RunStop {
@@ -60,6 +61,7 @@ impl Device {
                 }
             }
         }
+        events.destroy_empty();
         Ok(replies)
     }
 }

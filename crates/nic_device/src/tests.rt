@@ -1,250 +1,604 @@
 use super::*;
-use std::alloc::{AllocError, Global};
+use dma_arena::{Arena, LentMemory, Octets};
 use std::process::Abort;
+
+const CTRL: u32 = 0x00000;
 
 const CTRL_EXT: u32 = 0x00018;
 
-const RDRXCTL: u32 = 0x02F00;
+const RXCTRL: u32 = 0x03000;
 
-const MAXFRS: u32 = 0x04268;
+const DMATXCTL: u32 = 0x04A80;
 
-fn read(address: u32) -> Event {
-    Event::Read(Port::Pf, address)
+// queue 0
+
+const RDBAL: u32 = 0x01000;
+
+const RDLEN: u32 = 0x01008;
+
+const RDH: u32 = 0x01010;
+
+const SRRCTL: u32 = 0x01014;
+
+const RDT: u32 = 0x01018;
+
+const RXDCTL: u32 = 0x01028;
+
+const TDLEN: u32 = 0x06008;
+
+const TDT: u32 = 0x06018;
+
+const TXDCTL: u32 = 0x06028;
+
+const TDWBAL: u32 = 0x06038;
+
+/// RXDCTL and TXDCTL: the side is wanted on.
+const ENABLE: u32 = 0x0200_0000;
+
+/// SRRCTL: one buffer a descriptor, of 2 KB or 1 KB; and a frame that finds no slot is dropped.
+const TWO_KILOBYTES: u32 = 0x0200_0002;
+
+const ONE_KILOBYTE: u32 = 0x0200_0001;
+
+const DROP_EN: u32 = 0x1000_0000;
+
+/// A data descriptor: 60 bytes at 0x800, which end the packet and ask for a report.
+const SEND_60: [u8; 16] = [
+    0x00, 0x08, 0, 0, 0, 0, 0, 0, 0x3C, 0x00, 0x30, 0x2B, 0x00, 0x00, 0x0F, 0x00,
+];
+
+/// A device and the arena of its blocks 0 to 3, which are lent to it.
+struct Bench {
+    device: Device,
+    arena: Arena,
 }
 
-fn write(address: u32, word: u32) -> Event {
-    Event::Write(Port::Pf, address, word)
+/// What a reply says, where it hands back no block.
+fn text(rt: &(impl Abort + AllocGlobal), reply: Reply) -> String {
+    let note = match reply {
+        Reply::Word(word) => ReplyNote::Word(word),
+        Reply::Stray(word) => ReplyNote::Stray(word),
+        Reply::Done => ReplyNote::Done,
+        Reply::Bytes(bytes) => ReplyNote::Bytes(bytes),
+        Reply::Buf(_buf) => panic!(rt; "a block"),
+        Reply::Twice(_buf) => panic!(rt; "a block"),
+        Reply::NotLent => ReplyNote::NotLent,
+        Reply::Misaligned => ReplyNote::Misaligned,
+        Reply::NoQueue => ReplyNote::NoQueue,
+        Reply::Idle => ReplyNote::Idle,
+        Reply::Dropped(why) => ReplyNote::Dropped(why),
+        Reply::Wrote {
+            queue,
+            slot,
+            end,
+            desc,
+            at,
+            len,
+        } => ReplyNote::Wrote {
+            queue,
+            slot,
+            end,
+            desc,
+            at,
+            len,
+        },
+        Reply::Advanced { queue, slot, back } => ReplyNote::Advanced { queue, slot, back },
+        Reply::Sent { queue, len, back } => ReplyNote::Sent { queue, len, back },
+        Reply::Fault { queue, fault } => ReplyNote::Fault { queue, fault },
+        Reply::Frame { queue, bytes } => ReplyNote::Frame { queue, bytes },
+    };
+    format!(in rt.alloc(); "{note:?}").expect(rt, "a text")
 }
 
-fn new_device(rt: &impl Abort, alloc: Global) -> Device {
-    Device::new(alloc, Config { vfs: 0, fifo: 64 }).expect(rt, "a device")
+fn new_device(rt: &(impl Abort + AllocGlobal), fifo: u16) -> Device {
+    match Device::new(rt.alloc(), Config { vfs: 0, fifo }) {
+        Ok(device) => device,
+        Err(fault) => panic!(rt; "{fault:?}"),
+    }
 }
 
-#[test]
-fn a_stored_word_is_read_back(rt: HostRuntime) {
-    let mut device = new_device(&rt, rt.alloc());
-    assert_eq!(rt; device.step(write(CTRL_EXT, 0x1000_0000)), Ok(Reply::Done));
-    assert_eq!(rt; device.step(read(CTRL_EXT)), Ok(Reply::Word(0x1000_0000)));
-    // a read leaves the word, and the other registers have theirs
-    assert_eq!(rt; device.step(read(CTRL_EXT)), Ok(Reply::Word(0x1000_0000)));
-    assert_eq!(rt; device.step(read(0x00200)), Ok(Reply::Word(0)));
+fn step(rt: &impl Abort, device: &mut Device, event: Event) -> Reply {
+    match device.step(event) {
+        Ok(reply) => reply,
+        Err(_refused) => panic!(rt; "no memory"),
+    }
 }
 
-#[test]
-fn a_new_device_has_the_reset_values(rt: HostRuntime) {
-    let mut device = new_device(&rt, rt.alloc());
-    for (name, address, word) in [
-        ("CTRL_EXT", 0x00018, 0),
-        ("EITR[127]", 0x1249C, 0),
-        ("SRRCTL[0]", 0x01014, 0x0000_0402),
-        ("SRRCTL[63]", 0x01FD4, 0x0000_0402),
-        ("SRRCTL[64]", 0x0D014, 0x0000_0402),
-        ("SRRCTL[127]", 0x0DFD4, 0x0000_0402),
-        ("SRRCTL[15], by its alias", 0x0213C, 0x0000_0402),
-        ("RDRXCTL", 0x02F00, 0x0000_0008),
-        ("RXCTRL", 0x03000, 0),
-        ("HLREG0", 0x04240, 0x0000_0403),
-        ("MAXFRS", 0x04268, 0x05EE_0000),
-        ("DMATXCTL", 0x04A80, 0x8100_0000),
-        ("MRQC", 0x0EC80, 0),
-        ("MPSAR[255]", 0x0A9FC, 0),
-        ("PVTIVAR[63]", 0x125FC, 0),
+/// A device that takes and sends frames, with blocks 0 to 3 lent, and rings of 8 slots at address 0 on queue 0.
+fn new_bench(rt: &(impl Abort + AllocGlobal), fifo: u16) -> Bench {
+    let mut device = new_device(rt, fifo);
+    let mut arena = match Arena::new(rt.alloc(), 0, 4) {
+        Ok(arena) => arena,
+        Err(fault) => panic!(rt; "{fault:?}"),
+    };
+    for block in 0..4 {
+        match arena.take_at(block) {
+            Some(buf) => {
+                let reply = text(rt, step(rt, &mut device, Event::Lend(buf)));
+                assert_eq!(rt; reply.as_str(), "Done");
+            }
+            None => panic!(rt; "no block {block}"),
+        }
+    }
+    let mut bench = Bench { device, arena };
+    for (address, word) in [
+        (RXCTRL, 1),
+        (DMATXCTL, 1),
+        (RDLEN, 128),
+        (SRRCTL, TWO_KILOBYTES),
+        (TDLEN, 128),
     ] {
-        assert_eq!(rt; device.step(read(address)), Ok(Reply::Word(word)), "{name}");
+        set(rt, &mut bench, address, word);
+    }
+    bench
+}
+
+/// Makes an event that hands back no block, whose reply is to say this.
+fn make(rt: &(impl Abort + AllocGlobal), bench: &mut Bench, event: Event, want: &str) {
+    let reply = text(rt, step(rt, &mut bench.device, event));
+    assert_eq!(rt; reply.as_str(), want);
+}
+
+fn set(rt: &(impl Abort + AllocGlobal), bench: &mut Bench, address: u32, word: u32) {
+    make(rt, bench, Event::Write(Port::Pf, address, word), "Done");
+}
+
+/// Switches a side of queue 0 on.
+fn switch_on(rt: &(impl Abort + AllocGlobal), bench: &mut Bench, dir: Dir) {
+    let address = match dir {
+        Dir::Rx => RXDCTL,
+        Dir::Tx => TXDCTL,
+    };
+    set(rt, bench, address, ENABLE);
+    make(rt, bench, Event::QueueStep(dir, 0), "Done");
+}
+
+/// Posts a receive buffer: the driver writes the descriptor at an address.
+fn post(rt: &(impl Abort + AllocGlobal), bench: &mut Bench, descriptor: u32, buffer: u16) {
+    let mut bytes = [0; 16];
+    bytes[..2].copy_from_slice(&buffer.to_le_bytes());
+    make(rt, bench, Event::Poke16(descriptor, bytes), "Done");
+}
+
+/// A frame of so many bytes, none of them 0.
+fn frame_of(rt: &(impl Abort + AllocGlobal), len: usize) -> Event {
+    let mut frame = vec![in rt.alloc(); 0; len].expect(rt, "memory");
+    for (i, byte) in frame.iter_mut().enumerate() {
+        *byte = (i % 251) as u8 + 1;
+    }
+    Event::Arrive(Octets::of(frame))
+}
+
+/// Gives the blocks back and ends all.
+fn close(rt: &impl Abort, bench: Bench) {
+    let Bench { device, arena } = bench;
+    let Parts { memory, frames: _ } = device.dismantle();
+    give_back(rt, memory, arena);
+}
+
+fn give_back(rt: &impl Abort, memory: LentMemory, arena: Arena) {
+    let mut memory = memory;
+    let mut arena = arena;
+    for block in 0..4 {
+        match memory.take(block) {
+            Some(buf) => match arena.give(buf) {
+                Ok(()) => {}
+                Err(_buf) => panic!(rt; "block {block} was handed back"),
+            },
+            None => {}
+        }
+    }
+    match memory.finish() {
+        Ok(()) => {}
+        Err(_memory) => panic!(rt; "a block is lent"),
+    }
+    match arena.close() {
+        Ok(()) => {}
+        Err(_arena) => panic!(rt; "a block is in use"),
     }
 }
 
 #[test]
-fn a_write_keeps_the_bits_outside_the_mask(rt: HostRuntime) {
-    let mut device = new_device(&rt, rt.alloc());
-    for (name, address, word, after) in [
-        ("MAXFRS", MAXFRS, 0x1234_5678, 0x1234_0000),
-        ("MAXFRS", MAXFRS, 0x0000_FFFF, 0x0000_0000),
-        ("RDRXCTL", RDRXCTL, 0x0000_0000, 0x0000_0008),
-        ("RDRXCTL", RDRXCTL, 0xFFFF_FFFF, 0xFFFF_FFFF),
-        ("RDRXCTL", RDRXCTL, 0x1234_5670, 0x1234_5678),
-        ("EIAC", 0x00810, 0xFFFF_FFFF, 0x7FFF_FFFF),
-        ("PVTEIAC[63]", 0x00FFC, 0xFFFF_FFFF, 0x0000_0007),
-        ("PVTEIAM[0]", 0x04D00, 0x0000_000D, 0x0000_0005),
-        ("RDT[127]", 0x0DFD8, 0x0001_0080, 0x0000_0080),
-        ("TDT[127]", 0x07FD8, 0xFFFF_FFFF, 0x0000_FFFF),
-        ("TDWBAL[0]", 0x06038, 0xFFFF_FFFF, 0xFFFF_FFFD),
-        ("TDWBAH[0]", 0x0603C, 0xFFFF_FFFF, 0xFFFF_FFFF),
+fn a_receive_ring_wraps_and_runs_out_of_slots(rt: HostRuntime) {
+    let mut bench = new_bench(&rt, 64);
+    set(&rt, &mut bench, RDH, 7);
+    set(&rt, &mut bench, RDT, 0);
+    switch_on(&rt, &mut bench, Dir::Rx);
+    post(&rt, &mut bench, 0x70, 0x800);
+    make(&rt, &mut bench, frame_of(&rt, 60), "Done");
+    make(&rt, &mut bench, frame_of(&rt, 60), "Done");
+    make(
+        &rt,
+        &mut bench,
+        Event::RxStep,
+        "Wrote { queue: 0, slot: 7, end: true, desc: 112, at: 2048, len: 60 }",
+    );
+    assert_eq!(rt; bench.device.peek_register(RDH), Some(0));
+    make(
+        &rt,
+        &mut bench,
+        Event::Peek16(0x70),
+        "Bytes([0, 0, 0, 0, 0, 0, 0, 0, 3, 0, 0, 0, 60, 0, 0, 0])",
+    );
+    // the second frame finds no slot, and waits until the queue drops what finds none
+    make(&rt, &mut bench, Event::RxStep, "Idle");
+    set(&rt, &mut bench, SRRCTL, TWO_KILOBYTES + DROP_EN);
+    make(&rt, &mut bench, Event::RxStep, "Dropped(NoSlot)");
+    make(&rt, &mut bench, Event::RxStep, "Idle");
+    close(&rt, bench);
+}
+
+#[test]
+fn a_ring_with_a_tail_outside_is_a_fault(rt: HostRuntime) {
+    for (slots, tail) in [(8, 8), (0, 0)] {
+        let mut bench = new_bench(&rt, 64);
+        set(&rt, &mut bench, RDLEN, 16 * slots);
+        set(&rt, &mut bench, RDT, tail);
+        switch_on(&rt, &mut bench, Dir::Rx);
+        assert_eq!(rt; bench.device.peek_register(RXDCTL), Some(ENABLE));
+        make(&rt, &mut bench, frame_of(&rt, 60), "Done");
+        make(
+            &rt,
+            &mut bench,
+            Event::RxStep,
+            "Fault { queue: 0, fault: Outside }",
+        );
+        assert_eq!(rt; bench.device.peek_register(RXDCTL), Some(0));
+        make(&rt, &mut bench, Event::QueueStep(Dir::Rx, 0), "Idle");
+        make(&rt, &mut bench, Event::RxStep, "Idle");
+        close(&rt, bench);
+    }
+}
+
+#[test]
+fn a_frame_is_sent_and_its_descriptor_written_back(rt: HostRuntime) {
+    let mut bench = new_bench(&rt, 64);
+    make(&rt, &mut bench, Event::Poke16(0, SEND_60), "Done");
+    set(&rt, &mut bench, TDT, 1);
+    make(&rt, &mut bench, Event::TxStep(0), "Idle");
+    switch_on(&rt, &mut bench, Dir::Tx);
+    make(
+        &rt,
+        &mut bench,
+        Event::TxStep(0),
+        "Sent { queue: 0, len: 60, back: Some(0) }",
+    );
+    make(
+        &rt,
+        &mut bench,
+        Event::Peek16(0),
+        "Bytes([0, 8, 0, 0, 0, 0, 0, 0, 60, 0, 48, 43, 1, 0, 15, 0])",
+    );
+    assert_eq!(rt; bench.device.next_out(), 60);
+    match step(&rt, &mut bench.device, Event::Collect) {
+        Reply::Frame { queue, bytes } => {
+            assert_eq!(rt; queue, 0);
+            assert_eq!(rt; bytes.bytes(), [0; 60].as_slice());
+        }
+        _other => panic!(rt; "no frame"),
+    }
+    make(&rt, &mut bench, Event::Collect, "Idle");
+    assert_eq!(rt; bench.device.next_out(), 0);
+    make(&rt, &mut bench, Event::TxStep(0), "Idle");
+    make(&rt, &mut bench, Event::TxStep(128), "NoQueue");
+    close(&rt, bench);
+}
+
+#[test]
+fn the_head_is_written_back_in_place_of_the_descriptor(rt: HostRuntime) {
+    let mut bench = new_bench(&rt, 64);
+    make(&rt, &mut bench, Event::Poke16(0, SEND_60), "Done");
+    set(&rt, &mut bench, TDT, 1);
+    set(&rt, &mut bench, TDWBAL, 0x1001);
+    switch_on(&rt, &mut bench, Dir::Tx);
+    make(
+        &rt,
+        &mut bench,
+        Event::TxStep(0),
+        "Sent { queue: 0, len: 60, back: Some(4096) }",
+    );
+    make(
+        &rt,
+        &mut bench,
+        Event::Peek16(0),
+        "Bytes([0, 8, 0, 0, 0, 0, 0, 0, 60, 0, 48, 43, 0, 0, 15, 0])",
+    );
+    make(
+        &rt,
+        &mut bench,
+        Event::Peek16(0x1000),
+        "Bytes([1, 0, 0, 0, 0, 0, 0, 0, 0, 0, 0, 0, 0, 0, 0, 0])",
+    );
+    close(&rt, bench);
+}
+
+#[test]
+fn an_offload_is_a_fault(rt: HostRuntime) {
+    let mut bench = new_bench(&rt, 64);
+    let mut descriptor = SEND_60;
+    descriptor[13] = 1;
+    make(&rt, &mut bench, Event::Poke16(0, descriptor), "Done");
+    set(&rt, &mut bench, TDT, 1);
+    switch_on(&rt, &mut bench, Dir::Tx);
+    make(
+        &rt,
+        &mut bench,
+        Event::TxStep(0),
+        "Fault { queue: 0, fault: Offload }",
+    );
+    assert_eq!(rt; bench.device.peek_register(TXDCTL), Some(0));
+    make(&rt, &mut bench, Event::TxStep(0), "Idle");
+    close(&rt, bench);
+}
+
+#[test]
+fn a_frame_is_let_in_by_its_length(rt: HostRuntime) {
+    let mut bench = new_bench(&rt, 2);
+    for (len, want) in [
+        (59, "Dropped(Short)"),
+        (60, "Done"),
+        (1515, "Dropped(Long)"),
+        (1514, "Done"),
+        (60, "Dropped(Full)"),
     ] {
-        assert_eq!(rt;
-            device.step(write(address, word)),
-            Ok(Reply::Done),
-            "{name}"
-        );
-        assert_eq!(rt;
-            device.step(read(address)),
-            Ok(Reply::Word(after)),
-            "{name}"
-        );
+        make(&rt, &mut bench, frame_of(&rt, len), want);
     }
+    set(&rt, &mut bench, RXCTRL, 0);
+    make(&rt, &mut bench, frame_of(&rt, 60), "Dropped(Off)");
+    close(&rt, bench);
 }
 
 #[test]
-fn an_alias_shares_one_word(rt: HostRuntime) {
-    let mut device = new_device(&rt, rt.alloc());
-    for (name, address, alias) in [
-        ("SRRCTL[0]", 0x01014, 0x02100),
-        ("SRRCTL[1]", 0x01054, 0x02104),
-        ("SRRCTL[15]", 0x013D4, 0x0213C),
-        ("MRQC", 0x05818, 0x0EC80),
-        ("RETA[0]", 0x05C00, 0x0EB00),
-        ("RETA[31]", 0x05C7C, 0x0EB7C),
-        ("RSSRK[9]", 0x05CA4, 0x0EBA4),
-        ("RAL[15]", 0x0A278, 0x05478),
-        ("RAH[0]", 0x0A204, 0x05404),
-        ("PSRTYPE[15]", 0x0EA3C, 0x054BC),
-    ] {
-        assert_eq!(rt;
-            device.step(write(alias, 0x1234_5678)),
-            Ok(Reply::Done),
-            "{name}"
-        );
-        assert_eq!(rt;
-            device.step(read(address)),
-            Ok(Reply::Word(0x1234_5678)),
-            "{name}"
-        );
-        assert_eq!(rt;
-            device.step(write(address, 0x8765_4321)),
-            Ok(Reply::Done),
-            "{name}"
-        );
-        assert_eq!(rt;
-            device.step(read(alias)),
-            Ok(Reply::Word(0x8765_4321)),
-            "{name}"
-        );
-        assert_eq!(rt; device.peek_register(alias), Some(0x8765_4321), "{name}");
-    }
-    // no word but those was written
-    for (name, address) in [("SRRCTL[2]", 0x02108), ("SRRCTL[16]", 0x01414)] {
-        assert_eq!(rt;
-            device.step(read(address)),
-            Ok(Reply::Word(0x0000_0402)),
-            "{name}"
-        );
-    }
+fn a_frame_fills_several_descriptors_over_the_seam_of_two_blocks(rt: HostRuntime) {
+    let mut bench = new_bench(&rt, 64);
+    set(&rt, &mut bench, SRRCTL, ONE_KILOBYTE);
+    set(&rt, &mut bench, RDT, 2);
+    switch_on(&rt, &mut bench, Dir::Rx);
+    post(&rt, &mut bench, 0x00, 0x0E00);
+    post(&rt, &mut bench, 0x10, 0x1400);
+    make(&rt, &mut bench, frame_of(&rt, 1514), "Done");
+    make(
+        &rt,
+        &mut bench,
+        Event::RxStep,
+        "Wrote { queue: 0, slot: 0, end: false, desc: 0, at: 3584, len: 1024 }",
+    );
+    make(
+        &rt,
+        &mut bench,
+        Event::RxStep,
+        "Wrote { queue: 0, slot: 1, end: true, desc: 16, at: 5120, len: 490 }",
+    );
+    // bytes 496 to 527 of the frame, on both sides of the seam
+    make(
+        &rt,
+        &mut bench,
+        Event::Peek16(0x0FF0),
+        "Bytes([246, 247, 248, 249, 250, 251, 1, 2, 3, 4, 5, 6, 7, 8, 9, 10])",
+    );
+    make(
+        &rt,
+        &mut bench,
+        Event::Peek16(0x1000),
+        "Bytes([11, 12, 13, 14, 15, 16, 17, 18, 19, 20, 21, 22, 23, 24, 25, 26])",
+    );
+    make(&rt, &mut bench, Event::RxStep, "Idle");
+    close(&rt, bench);
 }
 
 #[test]
-fn an_access_outside_the_table_is_stray(rt: HostRuntime) {
-    let mut device = new_device(&rt, rt.alloc());
-    // between two registers, off a word boundary, one past the end of an alias, and far beyond the last register
-    for address in [
-        0x0000C,
-        0x00019,
-        0x0001A,
-        0x0001B,
-        0x02140,
-        0x2000_0018,
-        0xFFFF_FFFC,
-        0xFFFF_FFFF,
-    ] {
-        assert_eq!(rt;
-            device.step(read(address)),
-            Ok(Reply::Stray(0)),
-            "at {address:#x}"
-        );
-        assert_eq!(rt;
-            device.step(write(address, 0xFFFF_FFFF)),
-            Ok(Reply::Stray(0)),
-            "at {address:#x}"
-        );
-        assert_eq!(rt;
-            device.step(read(address)),
-            Ok(Reply::Stray(0)),
-            "at {address:#x}"
-        );
-        assert_eq!(rt; device.peek_register(address), None, "at {address:#x}");
-    }
-    assert_eq!(rt; device.step(read(CTRL_EXT)), Ok(Reply::Word(0)));
+fn a_receive_queue_that_goes_off_drops_what_is_begun(rt: HostRuntime) {
+    let mut bench = new_bench(&rt, 64);
+    set(&rt, &mut bench, SRRCTL, ONE_KILOBYTE);
+    set(&rt, &mut bench, RDT, 1);
+    switch_on(&rt, &mut bench, Dir::Rx);
+    post(&rt, &mut bench, 0x00, 0x0800);
+    make(&rt, &mut bench, frame_of(&rt, 1514), "Done");
+    make(&rt, &mut bench, frame_of(&rt, 60), "Done");
+    make(
+        &rt,
+        &mut bench,
+        Event::RxStep,
+        "Wrote { queue: 0, slot: 0, end: false, desc: 0, at: 2048, len: 1024 }",
+    );
+    // a frame that is begun waits, whatever the queue drops
+    set(&rt, &mut bench, SRRCTL, ONE_KILOBYTE + DROP_EN);
+    make(&rt, &mut bench, Event::RxStep, "Idle");
+    set(&rt, &mut bench, RXDCTL, 0);
+    make(&rt, &mut bench, Event::QueueStep(Dir::Rx, 0), "Done");
+    make(&rt, &mut bench, Event::RxStep, "Dropped(QueueOff)");
+    make(&rt, &mut bench, Event::RxStep, "Idle");
+    close(&rt, bench);
 }
 
 #[test]
-fn a_peek_gives_what_a_read_gives(rt: HostRuntime) {
-    let mut device = new_device(&rt, rt.alloc());
-    assert_eq!(rt; device.peek_register(MAXFRS), Some(0x05EE_0000));
-    assert_eq!(rt; device.step(write(MAXFRS, 0x2400_0000)), Ok(Reply::Done));
-    assert_eq!(rt; device.peek_register(MAXFRS), Some(0x2400_0000));
-    assert_eq!(rt; device.step(read(MAXFRS)), Ok(Reply::Word(0x2400_0000)));
-    assert_eq!(rt; device.peek_register(MAXFRS), Some(0x2400_0000));
+fn memory_calls_tell_what_is_lent(rt: HostRuntime) {
+    let mut bench = new_bench(&rt, 64);
+    let mut other = match Arena::new(rt.alloc(), 0, 1) {
+        Ok(arena) => arena,
+        Err(fault) => panic!(rt; "{fault:?}"),
+    };
+    match other.take_at(0) {
+        Some(buf) => match step(&rt, &mut bench.device, Event::Lend(buf)) {
+            Reply::Twice(buf) => match other.give(buf) {
+                Ok(()) => {}
+                Err(_buf) => panic!(rt; "another block"),
+            },
+            _reply => panic!(rt; "the block was lent twice"),
+        },
+        None => panic!(rt; "no block"),
+    }
+    match other.close() {
+        Ok(()) => {}
+        Err(_arena) => panic!(rt; "a block is in use"),
+    }
+    make(&rt, &mut bench, Event::Take(4), "NotLent");
+    make(&rt, &mut bench, Event::Peek16(0x2000), "NotLent");
+    make(&rt, &mut bench, Event::Peek16(0x2008), "Misaligned");
+    make(
+        &rt,
+        &mut bench,
+        Event::Poke16(0x0008, [1; 16]),
+        "Misaligned",
+    );
+    make(&rt, &mut bench, Event::Poke16(0x2000, [1; 16]), "NotLent");
+    match step(&rt, &mut bench.device, Event::Take(3)) {
+        Reply::Buf(buf) => {
+            assert_eq!(rt; buf.block(), 3);
+            match bench.arena.give(buf) {
+                Ok(()) => {}
+                Err(_buf) => panic!(rt; "another block"),
+            }
+        }
+        _reply => panic!(rt; "the block wasn't taken"),
+    }
+    make(&rt, &mut bench, Event::Take(3), "NotLent");
+    close(&rt, bench);
+}
+
+#[test]
+fn without_a_link_nothing_comes_or_goes(rt: HostRuntime) {
+    let mut bench = new_bench(&rt, 64);
+    make(&rt, &mut bench, Event::Poke16(0, SEND_60), "Done");
+    set(&rt, &mut bench, TDT, 1);
+    switch_on(&rt, &mut bench, Dir::Tx);
+    make(&rt, &mut bench, Event::Link(true), "Idle");
+    make(&rt, &mut bench, Event::Link(false), "Done");
+    make(&rt, &mut bench, Event::Link(false), "Idle");
+    make(&rt, &mut bench, frame_of(&rt, 60), "Dropped(LinkDown)");
+    make(&rt, &mut bench, Event::TxStep(0), "Idle");
+    make(&rt, &mut bench, Event::Link(true), "Done");
+    make(
+        &rt,
+        &mut bench,
+        Event::TxStep(0),
+        "Sent { queue: 0, len: 60, back: Some(0) }",
+    );
+    close(&rt, bench);
+}
+
+#[test]
+fn a_ring_is_held_while_its_queue_is_on(rt: HostRuntime) {
+    let mut bench = new_bench(&rt, 64);
+    set(&rt, &mut bench, RDBAL, 0x1000);
+    switch_on(&rt, &mut bench, Dir::Rx);
+    set(&rt, &mut bench, RDBAL, 0x2000);
+    assert_eq!(rt; bench.device.peek_register(RDBAL), Some(0x1000));
+    set(&rt, &mut bench, RXDCTL, 0);
+    make(&rt, &mut bench, Event::QueueStep(Dir::Rx, 0), "Done");
+    set(&rt, &mut bench, RDBAL, 0x2000);
+    assert_eq!(rt; bench.device.peek_register(RDBAL), Some(0x2000));
+    close(&rt, bench);
+}
+
+#[test]
+fn a_reset_stores_nothing_and_keeps_lent_memory(rt: HostRuntime) {
+    let mut bench = new_bench(&rt, 64);
+    make(&rt, &mut bench, Event::Poke16(0x800, SEND_60), "Done");
+    switch_on(&rt, &mut bench, Dir::Rx);
+    make(&rt, &mut bench, frame_of(&rt, 60), "Done");
+    set(&rt, &mut bench, CTRL, 0x0400_0004);
+    assert_eq!(rt; bench.device.peek_register(CTRL), Some(0));
+    assert_eq!(rt; bench.device.peek_register(RDLEN), Some(0));
+    assert_eq!(rt; bench.device.peek_register(RXDCTL), Some(0));
+    make(&rt, &mut bench, Event::RxStep, "Idle");
+    make(
+        &rt,
+        &mut bench,
+        Event::Peek16(0x800),
+        "Bytes([0, 8, 0, 0, 0, 0, 0, 0, 60, 0, 48, 43, 0, 0, 15, 0])",
+    );
+    // with bit 2 the device makes no step
+    set(&rt, &mut bench, RXDCTL, ENABLE);
+    set(&rt, &mut bench, CTRL, 4);
+    make(&rt, &mut bench, Event::QueueStep(Dir::Rx, 0), "Idle");
+    set(&rt, &mut bench, CTRL, 0);
+    make(&rt, &mut bench, Event::QueueStep(Dir::Rx, 0), "Done");
+    close(&rt, bench);
+}
+
+#[test]
+fn a_transmit_queue_that_goes_off_loses_its_staged_bytes(rt: HostRuntime) {
+    let mut bench = new_bench(&rt, 64);
+    // the first descriptor ends no packet and asks for no report
+    let mut begins = SEND_60;
+    begins[11] = 0x22;
+    make(&rt, &mut bench, Event::Poke16(0x00, begins), "Done");
+    make(&rt, &mut bench, Event::Poke16(0x10, SEND_60), "Done");
+    set(&rt, &mut bench, TDT, 2);
+    switch_on(&rt, &mut bench, Dir::Tx);
+    make(
+        &rt,
+        &mut bench,
+        Event::TxStep(0),
+        "Advanced { queue: 0, slot: 0, back: None }",
+    );
+    set(&rt, &mut bench, TXDCTL, 0);
+    make(&rt, &mut bench, Event::QueueStep(Dir::Tx, 0), "Done");
+    switch_on(&rt, &mut bench, Dir::Tx);
+    make(
+        &rt,
+        &mut bench,
+        Event::TxStep(0),
+        "Sent { queue: 0, len: 60, back: Some(16) }",
+    );
+    close(&rt, bench);
 }
 
 #[test]
 fn too_many_virtual_functions_are_told_first(rt: HostRuntime) {
     for (vfs, fifo, want) in [
         (64, 0, Some(NewFault::TooManyVfs)),
-        (64, 64, Some(NewFault::TooManyVfs)),
         (255, 4097, Some(NewFault::TooManyVfs)),
         (63, 0, Some(NewFault::Fifo)),
         (0, 4097, Some(NewFault::Fifo)),
-        (0, 65535, Some(NewFault::Fifo)),
         (63, 1, None),
         (0, 4096, None),
     ] {
-        let fault = Device::new(rt.alloc(), Config { vfs, fifo }).err();
+        let fault = match Device::new(rt.alloc(), Config { vfs, fifo }) {
+            Ok(device) => {
+                let Parts { memory, frames } = device.dismantle();
+                assert_eq!(rt; frames.len(), 0);
+                match memory.finish() {
+                    Ok(()) => None,
+                    Err(_memory) => panic!(rt; "a block is lent"),
+                }
+            }
+            Err(fault) => Some(fault),
+        };
         assert_eq!(rt; fault, want, "{vfs} virtual functions, a list of {fifo}");
     }
 }
 
 #[test]
-fn a_run_answers_in_order(rt: HostRuntime) -> Result<(), AllocError> {
-    let mut device = new_device(&rt, rt.alloc());
-    let events = vec![in rt.alloc(); write(CTRL_EXT, 0x1000_0000), read(CTRL_EXT)]?;
-    let replies = device.run(rt.alloc(), events).expect(&rt, "a run");
-    let want = [Reply::Done, Reply::Word(0x1000_0000)];
-    assert_eq!(rt; replies.as_slice(), want.as_slice());
-    assert_eq!(rt; device.peek_register(CTRL_EXT), Some(0x1000_0000));
-    Ok(())
-}
-
-#[test]
-fn a_run_of_no_events_answers_none(rt: HostRuntime) {
-    let mut device = new_device(&rt, rt.alloc());
-    let replies = device
-        .run(rt.alloc(), Vec::new(rt.alloc()))
-        .expect(&rt, "a run");
-    assert_eq!(rt; replies.len(), 0);
-    assert_eq!(rt; device.peek_register(MAXFRS), Some(0x05EE_0000));
-}
-
-/// Whichever allocation is refused, nothing but want of memory is answered, and the events come back whole.
-#[test]
-fn a_refused_growth_changes_no_answer(rt: HostRuntime) {
-    let mut device = match Device::new(
-        rt.alloc(),
-        Config {
-            vfs: 63,
-            fifo: 4096,
-        },
-    ) {
-        Ok(device) => device,
-        Err(fault) => {
-            assert_eq!(rt; fault, NewFault::OutOfMemory);
-            return;
+fn a_run_answers_in_order_and_leaves_its_frames(rt: HostRuntime) {
+    let mut bench = new_bench(&rt, 64);
+    make(&rt, &mut bench, Event::Poke16(0, SEND_60), "Done");
+    set(&rt, &mut bench, TDT, 1);
+    switch_on(&rt, &mut bench, Dir::Tx);
+    let mut events = Vec::with_capacity(rt.alloc(), 3).expect(&rt, "memory");
+    events.push_reserved(Event::Read(Port::Pf, CTRL_EXT));
+    events.push_reserved(Event::Read(Port::Pf, 0x0000C));
+    events.push_reserved(Event::TxStep(0));
+    match bench.device.run(rt.alloc(), events) {
+        Ok(mut replies) => {
+            for want in [
+                "Sent { queue: 0, len: 60, back: Some(0) }",
+                "Stray(0)",
+                "Word(0)",
+            ] {
+                match replies.pop() {
+                    Some(reply) => assert_eq!(rt; text(&rt, reply).as_str(), want),
+                    None => panic!(rt; "a reply is missing"),
+                }
+            }
+            assert!(rt; replies.is_empty());
+            replies.destroy_empty();
         }
-    };
-    let Ok(events) = vec![in rt.alloc(); write(CTRL_EXT, 0x1000_0000), read(CTRL_EXT)] else {
-        return;
-    };
-    let events = match device.run(rt.alloc(), events) {
-        Ok(replies) => {
-            let want = [Reply::Done, Reply::Word(0x1000_0000)];
-            assert_eq!(rt; replies.as_slice(), want.as_slice());
-            return;
-        }
-        Err(stop) => {
-            assert_eq!(rt; stop.replies.len(), 0);
-            assert_eq!(rt; device.peek_register(CTRL_EXT), Some(0));
-            stop.rest
-        }
-    };
-    let replies = device.run(rt.alloc(), events).expect(&rt, "a second run");
-    let want = [Reply::Done, Reply::Word(0x1000_0000)];
-    assert_eq!(rt; replies.as_slice(), want.as_slice());
+        Err(_stop) => panic!(rt; "no memory"),
+    }
+    let Bench { device, arena } = bench;
+    let Parts { memory, frames } = device.dismantle();
+    assert_eq!(rt; frames.len(), 1);
+    give_back(&rt, memory, arena);
 }

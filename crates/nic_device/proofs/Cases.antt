@@ -1,0 +1,164 @@
+-- What each family of events can answer, and the state that it leaves.
+use Rattle.std.proofs.Common.{cond, ◌≡◌, ℕ, Bool, true, false, List, [], ◌∷◌, ◌++◌, length, refl, Option, Some, None, Ok, Err, nat_lt}
+use Rattle.std.specs.Prelude.{Result, ◌&&◌, ◌==◌}
+use Rattle.std.specs.FinMap as map
+use Rattle.dma_arena.specs.Block.{Block}
+use Rattle.dma_arena.specs.Memory.{write_at}
+use Rattle.dma_ring.specs.declared.fault.RingFault.{RingFault}
+use Rattle.rx_ring.specs.declared.filled.Filled.{Filled}
+use Rattle.rx_ring.specs.Fill as rx
+use Rattle.tx_ring.specs.declared.fetched.Fetched.{Fetched}
+use Rattle.tx_ring.specs.Fetch as tx
+use Rattle.register_file.specs.Queue.{shut}
+use Rattle.register_file.specs.Settings.{can_receive, frame_limit, drops}
+use Rattle.register_file.specs.Sides.{receive_queue_of, transmit_queue_of}
+use Rattle.register_file.specs.declared.dir.Dir.{Dir}
+use Rattle.register_file.specs.declared.dir.Dir.TheVariants.{Rx}
+use Rattle.nic_device.specs.State.{State, Waiting}
+use Rattle.nic_device.specs.Outcome.{Outcome, gives}
+use Rattle.nic_device.specs.Lending.{lent, taken, block_taken, peeked, poked}
+use Rattle.nic_device.specs.Arrival.{arrived, let_in}
+use Rattle.nic_device.specs.Receive as receive
+use Rattle.nic_device.specs.Receive.{received, rest_of}
+use Rattle.nic_device.specs.Transmit as transmit
+use Rattle.nic_device.specs.Transmit.{transmitted, staged_by, sending_of}
+use Rattle.nic_device.specs.Switching.{queue_switched, side_switched}
+use Rattle.nic_device.specs.Link.{link_set, collected, oldest_collected}
+use Rattle.nic_device.specs.declared.event.Reply.TheVariants.{Done, Idle, NoQueue, NotLent, Misaligned, Bytes, Buf, Twice, Dropped, Fault, Frame}
+use Rattle.nic_device.specs.declared.event.Why.{Why}
+use Rattle.nic_device.specs.declared.event.Why.TheVariants.{LinkDown, Off, Short, Long, Full, QueueOff, NoSlot}
+
+-- whichever way a test goes
+pub either_way : {A : Type 0} (P : A → Type 0) (b : Bool) (x y : A) → P x → P y → P (cond b x y)
+either_way P true x y p q = p
+either_way P false x y p q = q
+
+-- memory calls
+
+pub lent_cases : (P : Outcome → Type 0) (s : State) (block : Block) → P (gives (Twice block) s)
+    → P (gives Done (record s { memory = map.insert s.memory block.number block.bytes })) → P (lent s block)
+lent_cases P s block twice done = either_way P _ _ _ twice done
+
+taken_block : (P : Outcome → Type 0) (s : State) (number : ℕ) (o : Option Block) → P (gives NotLent s)
+    → ((block : Block) → P (gives (Buf block) (record s { memory = map.remove s.memory number })))
+    → P (block_taken s number o)
+taken_block P s number None none some = none
+taken_block P s number (Some block) none some = some block
+
+pub taken_cases : (P : Outcome → Type 0) (s : State) (number : ℕ) → P (gives NotLent s)
+    → ((block : Block) → P (gives (Buf block) (record s { memory = map.remove s.memory number })))
+    → P (taken s number)
+taken_cases P s number none some = taken_block P s number _ none some
+
+pub peeked_cases : (P : Outcome → Type 0) (s : State) (address : ℕ) → P (gives Misaligned s) → P (gives NotLent s)
+    → ((bytes : List ℕ) → P (gives (Bytes bytes) s)) → P (peeked s address)
+peeked_cases P s address misaligned not_lent bytes =
+    either_way P _ _ _ (either_way P _ _ _ (bytes _) not_lent) misaligned
+
+pub poked_cases : (P : Outcome → Type 0) (s : State) (address : ℕ) (bytes : List ℕ) → P (gives Misaligned s)
+    → P (gives NotLent s) → P (gives Done (record s { memory = write_at s.memory address bytes }))
+    → P (poked s address bytes)
+poked_cases P s address bytes misaligned not_lent done =
+    either_way P _ _ _ (either_way P _ _ _ done not_lent) misaligned
+
+-- frames that arrive
+
+pub arrived_cases : (P : Outcome → Type 0) (s : State) (frame : List ℕ) → ((why : Why) → P (gives (Dropped why) s))
+    → P (gives Done (record s { waiting = s.waiting ++ let_in frame ∷ [] })) → P (arrived s frame)
+arrived_cases P s frame dropped joined =
+    either_way P s.link _ _
+    (either_way P (can_receive s.registers) _ _
+    (either_way P (nat_lt (length frame) 60) _ _ (dropped Short)
+    (either_way P (nat_lt (frame_limit s.registers) (length frame)) _ _ (dropped Long)
+    (either_way P (nat_lt (length s.waiting) s.fifo) _ _ joined (dropped Full))))
+    (dropped Off))
+    (dropped LinkDown)
+
+-- the link
+
+pub link_cases : (P : Outcome → Type 0) (s : State) (up : Bool) → P (gives Idle s)
+    → P (gives Done (record s { link = up })) → P (link_set s up)
+link_cases P s up idle done = either_way P _ _ _ idle done
+
+collected_oldest : (P : Outcome → Type 0) (s : State) (out : List (ℕ × List ℕ)) → P (gives Idle s)
+    → ((queue : ℕ) (bytes : List ℕ) (others : List (ℕ × List ℕ))
+    → P (gives (Frame queue bytes) (record s { out = others })))
+    → P (oldest_collected s out)
+collected_oldest P s [] idle frame = idle
+collected_oldest P s (f ∷ others) idle frame = frame f.0 f.1 others
+
+pub collected_cases : (P : Outcome → Type 0) (s : State) → P (gives Idle s)
+    → ((queue : ℕ) (bytes : List ℕ) (others : List (ℕ × List ℕ))
+    → P (gives (Frame queue bytes) (record s { out = others })))
+    → P (collected s)
+collected_cases P s idle frame = collected_oldest P s s.out idle frame
+
+-- steps of a side's enable
+
+pub switched_cases : (P : Outcome → Type 0) (s : State) (dir : Dir) (queue : ℕ) → P (gives NoQueue s)
+    → P (gives Idle s) → P (gives Done (side_switched s dir queue)) → P (queue_switched s dir queue)
+switched_cases P s dir queue none idle done = either_way P _ _ _ (either_way P _ _ _ idle done) none
+
+-- steps of receiving
+
+-- what is done with the first frame is what one of these leaves
+pub record Receives (P : Outcome → Type 0) (s : State) : Type 0 where
+  pub idle : P (gives Idle s)
+  pub dropped : (w : Waiting) (others : List Waiting) → s.waiting ≡ w ∷ others → (why : Why)
+      → P (gives (Dropped why) (record s { waiting = others }))
+  pub fault : (w : Waiting) (others : List Waiting) → s.waiting ≡ w ∷ others → (fault : RingFault)
+      → P (gives (Fault w.queue fault) (record s { registers = shut s.registers Rx w.queue; waiting = others }))
+  pub filled : (w : Waiting) (others : List Waiting) → s.waiting ≡ w ∷ others → (f : Filled)
+      → (rx.fill_of s.memory (receive_queue_of s.registers w.queue).ring
+      (receive_queue_of s.registers w.queue).control (rest_of w)).answer ≡ Ok f
+      → P (receive.slot_done s w others (Ok f)
+      (rx.fill_of s.memory (receive_queue_of s.registers w.queue).ring
+      (receive_queue_of s.registers w.queue).control (rest_of w)).memory)
+
+slot_received : (P : Outcome → Type 0) (s : State) (w : Waiting) (others : List Waiting) → s.waiting ≡ w ∷ others
+    → Receives P s
+    → (answer : Result Filled RingFault)
+    → (rx.fill_of s.memory (receive_queue_of s.registers w.queue).ring
+    (receive_queue_of s.registers w.queue).control (rest_of w)).answer ≡ answer
+    → P (receive.slot_done s w others answer
+    (rx.fill_of s.memory (receive_queue_of s.registers w.queue).ring
+    (receive_queue_of s.registers w.queue).control (rest_of w)).memory)
+slot_received P s w others e r (Ok f) is = r.filled w others e f is
+slot_received P s w others e r (Err fault) is = r.fault w others e fault
+
+first_cases : (P : Outcome → Type 0) (s : State) (ws : List Waiting) → s.waiting ≡ ws → Receives P s
+    → P (receive.first_received s ws)
+first_cases P s [] e r = r.idle
+first_cases P s (w ∷ others) e r =
+    either_way P (receive_queue_of s.registers w.queue).on _ _
+    (either_way P (receive.is_empty (receive_queue_of s.registers w.queue).ring) _ _
+    (either_way P (drops s.registers w.queue && w.offset == 0) _ _ (r.dropped w others e NoSlot) r.idle)
+    (slot_received P s w others e r _ refl))
+    (r.dropped w others e QueueOff)
+
+pub received_cases : (P : Outcome → Type 0) (s : State) → Receives P s → P (received s)
+received_cases P s r = either_way P _ _ _ r.idle (first_cases P s s.waiting refl r)
+
+-- steps of transmitting
+
+abbrev pub fetched_by : State → ℕ → tx.Outcome
+fetched_by s queue = tx.fetch_of s.memory (staged_by s queue) (transmit_queue_of s.registers queue).ring
+    (sending_of s.registers (transmit_queue_of s.registers queue))
+
+pub record Transmits (P : Outcome → Type 0) (s : State) (queue : ℕ) : Type 0 where
+  pub none : P (gives NoQueue s)
+  pub idle : P (gives Idle s)
+  pub fault : (fault : RingFault)
+      → P (transmit.slot_done s queue (Err fault) (fetched_by s queue).memory (fetched_by s queue).staged)
+  pub fetched : (f : Fetched) → (fetched_by s queue).answer ≡ Ok f
+      → P (transmit.slot_done s queue (Ok f) (fetched_by s queue).memory (fetched_by s queue).staged)
+
+slot_transmitted : (P : Outcome → Type 0) (s : State) (queue : ℕ) → Transmits P s queue
+    → (answer : Result Fetched RingFault) → (fetched_by s queue).answer ≡ answer
+    → P (transmit.slot_done s queue answer (fetched_by s queue).memory (fetched_by s queue).staged)
+slot_transmitted P s queue t (Ok f) is = t.fetched f is
+slot_transmitted P s queue t (Err fault) is = t.fault fault
+
+pub transmitted_cases : (P : Outcome → Type 0) (s : State) (queue : ℕ) → Transmits P s queue → P (transmitted s queue)
+transmitted_cases P s queue t =
+    either_way P _ _ _ (either_way P _ _ _ t.idle (slot_transmitted P s queue t _ refl)) t.none

@@ -1,0 +1,39 @@
+-- Memory calls: blocks are lent and taken back, and a driver looks at their bytes over the bus, 16 at a time.
+use Rattle.std.specs.Prelude.{ℕ, ◌%◌, ◌==◌, List, Option, Some, None, if◌then◌else◌}
+use Rattle.std.specs.FinMap as map
+use Rattle.dma_arena.specs.Block.{Block}
+use Rattle.dma_arena.specs.Memory.{has_block, block_at, is_lent, read_at, write_at}
+use Rattle.nic_device.specs.State.{State}
+use Rattle.nic_device.specs.Outcome.{Outcome, gives}
+use Rattle.nic_device.specs.declared.event.Reply.TheVariants.{Done, Bytes, Buf, Twice, NotLent, Misaligned}
+
+-- a block is lent under its number, unless one is already
+abbrev pub lent : State → Block → Outcome
+lent s block =
+    if has_block s.memory block.number then gives (Twice block) s
+    else gives Done (record s { memory = map.insert s.memory block.number block.bytes })
+
+-- the block of this number, or none, is taken back
+abbrev pub block_taken : State → ℕ → Option Block → Outcome
+block_taken s number None = gives NotLent s
+block_taken s number (Some block) = gives (Buf block) (record s { memory = map.remove s.memory number })
+
+abbrev pub taken : State → ℕ → Outcome
+taken s number = block_taken s number (block_at s.memory number)
+
+-- the 16 bytes at an address, a multiple of 16
+abbrev pub peeked : State → ℕ → Outcome
+peeked s address =
+    if address % 16 == 0
+    then (if is_lent s.memory address 16 then gives (Bytes (read_at s.memory address 16)) s else gives NotLent s)
+    else gives Misaligned s
+
+-- 16 bytes are written to an address, a multiple of 16
+abbrev pub poked : State → ℕ → List ℕ → Outcome
+poked s address bytes =
+    if address % 16 == 0
+    then (
+    if is_lent s.memory address 16 then gives Done (record s { memory = write_at s.memory address bytes })
+    else gives NotLent s
+    )
+    else gives Misaligned s

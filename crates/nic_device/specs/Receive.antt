@@ -1,0 +1,71 @@
+-- One step of receiving: the frame that waits longest is written on, one descriptor at a time.
+use Rattle.std.specs.Prelude.{ℕ, ◌+◌, ◌*◌, ◌^◌, ◌==◌, Bool, ◌&&◌, not, List, [], ◌∷◌, drop, Result, Ok, Err, if◌then◌else◌}
+use Rattle.dma_ring.specs.declared.ring.Ring.{Ring}
+use Rattle.dma_ring.specs.declared.fault.RingFault.{RingFault}
+use Rattle.dma_ring.specs.Ring.{is_outside}
+use Rattle.rx_ring.specs.Fill.{Rest, fill_of}
+use Rattle.rx_ring.specs.declared.filled.Filled.{Filled}
+use Rattle.register_file.specs.Queue.{with_head, shut}
+use Rattle.register_file.specs.Settings.{is_stopped, drops}
+use Rattle.register_file.specs.Sides.{ReceiveQueue, receive_queue_of}
+use Rattle.register_file.specs.declared.dir.Dir.TheVariants.{Rx}
+use Rattle.dma_arena.specs.Memory.{Memory}
+use Rattle.nic_device.specs.State.{State, Waiting}
+use Rattle.nic_device.specs.Outcome.{Outcome, gives}
+use Rattle.nic_device.specs.declared.event.Reply.TheVariants.{Idle, Dropped, Wrote, Fault}
+use Rattle.nic_device.specs.declared.event.Why.TheVariants.{QueueOff, NoSlot}
+
+-- no slot of a ring is the device's: head and tail are equal, and inside
+abbrev pub is_empty : Ring → Bool
+is_empty ring = not (is_outside ring) && ring.head == ring.tail
+
+-- the first half that is written back for a frame: its RSS type in bits 3 to 0, its hash in bits 63 to 32
+abbrev pub first_half_of : Waiting → ℕ
+first_half_of w = w.rss + 2 ^ 32 * w.hash
+
+-- what is left to write of a frame
+abbrev pub rest_of : Waiting → Rest
+rest_of w = record { bytes = drop w.offset w.frame; first = first_half_of w }
+
+-- the queue has no slot: a frame of which nothing is written is dropped where the queue drops, any other waits on
+abbrev pub without_slot : State → Waiting → List Waiting → Outcome
+without_slot s w others =
+    if drops s.registers w.queue && w.offset == 0 then gives (Dropped NoSlot) (record s { waiting = others })
+    else gives Idle s
+
+-- the frames that wait after a piece of the first was written
+abbrev pub after_piece : Waiting → List Waiting → Filled → List Waiting
+after_piece w others f = if f.end then others else record w { offset = w.offset + f.len } ∷ others
+
+-- the slot at the queue's head was filled, or met a fault, which drops the frame and shuts the queue's receive side
+abbrev pub slot_done : State → Waiting → List Waiting → Result Filled RingFault → Memory → Outcome
+slot_done s w others (Ok f) memory =
+    gives (Wrote w.queue f.slot f.end f.desc f.at f.len)
+    (record s {
+      registers = with_head s.registers Rx w.queue f.head;
+      memory = memory;
+      waiting = after_piece w others f;
+    })
+slot_done s w others (Err fault) memory =
+    gives (Fault w.queue fault) (record s { registers = shut s.registers Rx w.queue; waiting = others })
+
+-- the slot at the head of a queue is filled with what is left of a frame
+abbrev pub slot_filled : State → Waiting → List Waiting → ReceiveQueue → Outcome
+slot_filled s w others q =
+    slot_done s w others (fill_of s.memory q.ring q.control (rest_of w)).answer
+    (fill_of s.memory q.ring q.control (rest_of w)).memory
+
+-- the first frame, for its queue
+abbrev pub frame_received : State → Waiting → List Waiting → ReceiveQueue → Outcome
+frame_received s w others q =
+    if q.on then (if is_empty q.ring then without_slot s w others else slot_filled s w others q)
+    else gives (Dropped QueueOff) (record s { waiting = others })
+
+-- the frames that wait, of which the first is received
+abbrev pub first_received : State → List Waiting → Outcome
+first_received s [] = gives Idle s
+first_received s (w ∷ others) = frame_received s w others (receive_queue_of s.registers w.queue)
+
+-- one step of receiving
+abbrev pub received : State → Outcome
+received s = if is_stopped s.registers then gives Idle s else first_received s s.waiting

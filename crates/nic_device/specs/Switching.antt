@@ -1,0 +1,37 @@
+-- A side of a queue becomes what it is wanted to be.
+use Rattle.std.specs.Prelude.{ℕ, ◌==◌, ◌&&◌, ◌||◌, not, nat_lt, List, [], ◌∷◌, slice_set, if◌then◌else◌}
+use Rattle.std.specs.Bool.{beq}
+use Rattle.register_file.specs.Registers.{is_wanted}
+use Rattle.register_file.specs.Queue.{is_on, switched}
+use Rattle.register_file.specs.Settings.{is_stopped}
+use Rattle.register_file.specs.declared.dir.Dir.{Dir}
+use Rattle.register_file.specs.declared.dir.Dir.TheVariants.{Rx, Tx}
+use Rattle.nic_device.specs.State.{State, Waiting}
+use Rattle.nic_device.specs.Outcome.{Outcome, gives}
+use Rattle.nic_device.specs.declared.event.Reply.TheVariants.{Done, Idle, NoQueue}
+
+-- the frames that wait, without the first where a part of it is written on this queue. Only the first can be
+abbrev pub without_part : ℕ → List Waiting → List Waiting
+without_part queue [] = []
+without_part queue (w ∷ others) = if w.queue == queue && not (w.offset == 0) then others else w ∷ others
+
+-- a side that goes off loses its staged bytes, or the frame that it wrote in part
+abbrev pub emptied : State → Dir → ℕ → State
+emptied s Rx queue = record s { waiting = without_part queue s.waiting }
+emptied s Tx queue = record s { staged = slice_set s.staged queue [] }
+
+-- a side becomes what it is wanted to be
+abbrev pub side_switched : State → Dir → ℕ → State
+side_switched s dir queue =
+    if is_wanted s.registers dir queue then record s { registers = switched s.registers dir queue }
+    else record (emptied s dir queue) { registers = switched s.registers dir queue }
+
+-- one step of a side's enable, of a queue below 128
+abbrev pub queue_switched : State → Dir → ℕ → Outcome
+queue_switched s dir queue =
+    if nat_lt queue 128
+    then (
+    if is_stopped s.registers || beq (is_wanted s.registers dir queue) (is_on s.registers dir queue) then gives Idle s
+    else gives Done (side_switched s dir queue)
+    )
+    else gives NoQueue s

@@ -1,0 +1,68 @@
+-- One step of transmitting: one descriptor of a queue is fetched.
+use Rattle.std.specs.Prelude.{ℕ, ◌||◌, not, Bool, nat_lt, List, [], ◌∷◌, ◌++◌, length, slice_set, slice_index_or, Option, Some, None, Result, Ok, Err, if◌then◌else◌}
+use Rattle.dma_arena.specs.Block.{Block}
+use Rattle.dma_arena.specs.Memory.{Memory}
+use Rattle.dma_ring.specs.declared.fault.RingFault.{RingFault}
+use Rattle.tx_ring.specs.Fetch.{fetch_of}
+use Rattle.tx_ring.specs.declared.fetched.Fetched.{Fetched}
+use Rattle.tx_ring.specs.declared.tx.Tx.{Tx as Sending}
+use Rattle.register_file.specs.Registers.{Registers}
+use Rattle.register_file.specs.Queue.{with_head, shut}
+use Rattle.register_file.specs.Settings.{is_stopped, can_transmit, frame_limit, pads}
+use Rattle.register_file.specs.Sides.{TransmitQueue, transmit_queue_of}
+use Rattle.register_file.specs.declared.dir.Dir.TheVariants.{Tx}
+use Rattle.nic_device.specs.State.{State}
+use Rattle.nic_device.specs.Outcome.{Outcome, gives}
+use Rattle.nic_device.specs.Receive.{is_empty}
+use Rattle.nic_device.specs.declared.event.Reply.{Reply}
+use Rattle.nic_device.specs.declared.event.Reply.TheVariants.{Idle, NoQueue, Advanced, Sent, Fault}
+
+-- the bytes that a queue has staged
+abbrev pub staged_by : State → ℕ → List ℕ
+staged_by s queue = slice_index_or s.staged queue []
+
+-- how a queue sends: up to the frame limit, padded or not, with or without head write-back
+abbrev pub sending_of : Registers → TransmitQueue → Sending
+sending_of r q = record { limit = frame_limit r; pad = pads r; writeback = q.writeback }
+
+-- what is told of a fetched slot: the frame that went out, or that the head moved on
+abbrev pub fetched_reply : ℕ → Fetched → Option (List ℕ) → Reply Block
+fetched_reply queue f (Some frame) = Sent queue (length frame) f.back
+fetched_reply queue f None = Advanced queue f.slot f.back
+
+-- the frames out, with the one that a slot may have ended
+abbrev pub with_frame : List (ℕ × List ℕ) → ℕ → Option (List ℕ) → List (ℕ × List ℕ)
+with_frame out queue (Some frame) = out ++ (queue, frame) ∷ []
+with_frame out queue None = out
+
+-- the slot at the queue's head was fetched, or met a fault, which drops the staged bytes and shuts the transmit side
+abbrev pub slot_done : State → ℕ → Result Fetched RingFault → Memory → List ℕ → Outcome
+slot_done s queue (Ok f) memory staged =
+    gives (fetched_reply queue f f.frame)
+    (record s {
+      registers = with_head s.registers Tx queue f.head;
+      memory = memory;
+      staged = slice_set s.staged queue staged;
+      out = with_frame s.out queue f.frame;
+    })
+slot_done s queue (Err fault) memory staged =
+    gives (Fault queue fault) (record s { registers = shut s.registers Tx queue; staged = slice_set s.staged queue [] })
+
+-- the slot at the head of a queue is fetched
+abbrev pub slot_fetched : State → ℕ → TransmitQueue → Outcome
+slot_fetched s queue q =
+    let fetched = fetch_of s.memory (staged_by s queue) q.ring (sending_of s.registers q) in
+    slot_done s queue fetched.answer fetched.memory fetched.staged
+
+-- a queue sends nothing while the device makes no steps, the link is down, sending is off, the queue is off, or no slot
+-- is the device's
+abbrev pub is_silent : State → TransmitQueue → Bool
+is_silent s q = is_stopped s.registers || not s.link || not (can_transmit s.registers) || not q.on || is_empty q.ring
+
+abbrev pub queue_sent : State → ℕ → TransmitQueue → Outcome
+queue_sent s queue q = if is_silent s q then gives Idle s else slot_fetched s queue q
+
+-- one step of transmitting, of a queue below 128
+abbrev pub transmitted : State → ℕ → Outcome
+transmitted s queue =
+    if nat_lt queue 128 then queue_sent s queue (transmit_queue_of s.registers queue) else gives NoQueue s

@@ -1,0 +1,35 @@
+//! The link, and the frames that went out on it.
+
+ghost use Rattle.std.specs.Prelude.{◌≡◌};
+ghost use Rattle.nic_device.specs.Link.{link_set, collected};
+
+use crate::device::Device;
+use crate::event::Reply;
+
+impl Device {
+    /// The link goes up or down.
+    pub(crate) fn set_link(&mut self, up: bool) -> Reply
+        ensures reply { result ≡ (link_set self.old up).reply }
+        ensures state { self.new ≡ (link_set self.old up).state }
+    {
+        if self.link == up {
+            return Reply::Idle;
+        }
+        self.link = up;
+        Reply::Done
+    }
+
+    /// The oldest frame out is collected.
+    pub(crate) fn collect(&mut self) -> Reply
+        ensures reply { result ≡ (collected self.old).reply }
+        ensures state { self.new ≡ (collected self.old).state }
+    {
+        match self.out.pop_front() {
+            Some((queue, bytes)) => Reply::Frame {
+                queue: u16::from(queue),
+                bytes,
+            },
+            None => Reply::Idle,
+        }
+    }
+}

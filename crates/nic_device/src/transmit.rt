@@ -1,0 +1,117 @@
+//! Steps of transmitting.
+
+ghost use Rattle.std.specs.Prelude.{◌≡◌, ◌≢◌, ◌<◌, false, IfOk, IfErr, OnOk, OnErr};
+ghost use Rattle.std.specs.VecDeque.{deque_len, deque_capacity};
+ghost use Rattle.register_file.specs.Sides.{transmit_queue_of};
+ghost use Rattle.nic_device.specs.Transmit.{transmitted, slot_fetched, is_silent, sending_of, fetched_reply, with_frame};
+
+use crate::device::Device;
+use crate::event::{Event, OutOfMemory, Reply};
+use crate::receive::is_empty;
+use dma_arena::Octets;
+use register_file::{Dir, QUEUES};
+use std::collections::VecDeque;
+use tx_ring::{Fetched, Tx, TxRefused, fetch};
+
+impl Device {
+    /// One step of transmitting.
+    pub(crate) fn transmit(&mut self, queue: u16) -> Result<Reply, OutOfMemory<Event>>
+        ensures reply { IfOk result (λ reply. reply ≡ (transmitted self.old queue).reply) }
+        ensures state { OnOk result (self.new ≡ (transmitted self.old queue).state) }
+        ensures back { IfErr result (λ refused. refused.event ≡ Event.TxStep queue) }
+        ensures unchanged { OnErr result (self.new ≡ self.old) }
+        ensures not_without_queue { OnErr result ((transmitted self.old queue).reply ≢ Reply.NoQueue) }
+        ensures not_idle { OnErr result ((transmitted self.old queue).reply ≢ Reply.Idle) }
+    {
+        if queue >= QUEUES {
+            return Ok(Reply::NoQueue);
+        }
+        if self.is_silent(queue) {
+            return Ok(Reply::Idle);
+        }
+        self.fetch_slot(queue)
+    }
+
+    /// Whether a queue sends nothing as things stand.
+    fn is_silent(&self, queue: u16) -> bool
+        requires { queue < 128 }
+        ensures { result ≡ is_silent self.now (transmit_queue_of self.now.registers queue) }
+    {
+        self.registers.is_stopped()
+            || !self.link
+            || !self.registers.can_transmit()
+            || !self.registers.is_on(Dir::Tx, queue)
+            || is_empty(&self.registers.ring(Dir::Tx, queue))
+    }
+
+    /// How a queue sends.
+    fn sending(&self, queue: u16) -> Tx
+        requires { queue < 128 }
+        ensures { result ≡ sending_of self.now.registers (transmit_queue_of self.now.registers queue) }
+    {
+        Tx {
+            limit: usize::from(self.registers.frame_limit()),
+            pad: self.registers.pads(),
+            writeback: self.registers.writeback(queue),
+        }
+    }
+
+    /// The slot at the head of a queue is fetched. Room for the frame that it may end is made first.
+    fn fetch_slot(&mut self, queue: u16) -> Result<Reply, OutOfMemory<Event>>
+        requires small { queue < 128 }
+        requires loud { is_silent self.old (transmit_queue_of self.old.registers queue) ≡ false }
+        ensures reply { IfOk result (λ reply. reply
+            ≡ (slot_fetched self.old queue (transmit_queue_of self.old.registers queue)).reply) }
+        ensures state { OnOk result (self.new
+            ≡ (slot_fetched self.old queue (transmit_queue_of self.old.registers queue)).state) }
+        ensures back { IfErr result (λ refused. refused.event ≡ Event.TxStep queue) }
+        ensures unchanged { OnErr result (self.new ≡ self.old) }
+    {
+        if self.out.reserve(1).is_err() {
+            return Err(OutOfMemory {
+                event: Event::TxStep(queue),
+            });
+        }
+        let ring = self.registers.ring(Dir::Tx, queue);
+        let sending = self.sending(queue);
+        let staged = &mut self.staged[usize::from(queue)];
+        match fetch(self.alloc, &mut self.memory, &ring, &sending, staged) {
+            Ok(fetched) => {
+                self.registers.move_head(Dir::Tx, queue, fetched.head);
+                Ok(send(&mut self.out, queue, fetched))
+            }
+            Err(TxRefused::Fault(fault)) => {
+                self.staged[usize::from(queue)].clear();
+                self.registers.shut(Dir::Tx, queue);
+                Ok(Reply::Fault { queue, fault })
+            }
+            Err(TxRefused::OutOfMemory) => Err(OutOfMemory {
+                event: Event::TxStep(queue),
+            }),
+        }
+    }
+}
+
+/// The frame that a fetched slot may have ended goes out, and what became of the slot is told.
+fn send(out: &mut VecDeque<(u8, Octets)>, queue: u16, fetched: Fetched) -> Reply
+    requires small { queue < 128 }
+    requires room { deque_len out.old < deque_capacity out.old }
+    ensures reply { result ≡ fetched_reply queue fetched fetched.frame }
+    ensures out { out.new.items ≡ with_frame out.old.items queue fetched.frame }
+{
+    let Fetched {
+        slot,
+        head: _,
+        back,
+        rs: _,
+        frame,
+    } = fetched;
+    match frame {
+        Some(frame) => {
+            let len = frame.bytes().len();
+            out.push_back_reserved((queue as u8, frame));
+            Reply::Sent { queue, len, back }
+        }
+        None => Reply::Advanced { queue, slot, back },
+    }
+}

@@ -1,0 +1,109 @@
+//! A frame that waits to be received.
+
+ghost use Rattle.std.specs.Prelude.{◌≡◌, ◌<◌, ◌≤◌, ◌+◌, ◌*◌, ◌^◌, ◌==◌, not, length};
+ghost use Rattle.rx_ring.specs.Item.{rest_of};
+ghost use Rattle.nic_device.specs.State.{Waiting};
+ghost use Rattle.nic_device.specs.Arrival.{let_in};
+ghost use Rattle.nic_device.specs.Receive.{rest_of as rest_of_waiting};
+
+use dma_arena::Octets;
+use rx_ring::Item;
+use std::marker::Model;
+
+/// A hash has 1 at this place of the first half that is written back.
+const HASH_ONE: u64 = 0x1_0000_0000;
+
+/// A frame that waits to be received: its bytes, its queue, its hash with the type, and how many of its bytes are
+/// written.
+#[derive(Drop)]
+pub(crate) struct Waiting {
+    frame: Octets,
+    queue: u16,
+    hash: u32,
+    rss: u8,
+    offset: usize,
+}
+
+impl Model for Waiting {
+    ghost use Rattle.std.specs.Prelude.{◌<◌, ◌≤◌, length};
+    ghost use Rattle.nic_device.specs.State.{Waiting, waiting_code};
+
+    ghost Value = { Waiting };
+
+    ghost coded = { waiting_code };
+
+    ghost view = { λ w. record { frame = w.frame; queue = w.queue; hash = w.hash; rss = w.rss; offset = w.offset } };
+
+    ghost invariant = { λ w. (w.offset ≤ length w.frame) × (w.queue < 128) };
+}
+
+/// The first half that is written back: the type in its low bits, the hash in bits 63 to 32.
+fn first_half(hash: u32, rss: u8) -> u64
+    ensures { result ≡ rss + 2 ^ 32 * hash }
+{
+    u64::from(rss) + HASH_ONE * u64::from(hash)
+}
+
+impl Waiting {
+    /// A frame that was let in.
+    pub(crate) fn let_in(frame: Octets) -> Waiting
+        ensures { result ≡ let_in frame }
+    {
+        Waiting {
+            frame,
+            queue: 0,
+            hash: 0,
+            rss: 0,
+            offset: 0,
+        }
+    }
+
+    /// The frame's queue.
+    pub(crate) fn queue(&self) -> u16
+        ensures queue { result ≡ self.now.queue }
+        ensures small { result < 128 }
+    {
+        self.queue
+    }
+
+    /// Whether a part of the frame is written.
+    pub(crate) fn is_begun(&self) -> bool
+        ensures { result ≡ not (self.now.offset == 0) }
+    {
+        self.offset != 0
+    }
+
+    /// What is left to write of it.
+    pub(crate) fn item(&self) -> Item<'_>
+        ensures rest { rest_of result ≡ rest_of_waiting self.now }
+        ensures offset { result.offset ≤ length result.frame.now }
+        ensures left { length (rest_of_waiting self.now).bytes + self.now.offset ≡ length self.now.frame }
+    {
+        Item {
+            frame: self.frame.bytes(),
+            offset: self.offset,
+            first: first_half(self.hash, self.rss),
+        }
+    }
+
+    /// The frame after so many more of its bytes are written.
+    pub(crate) fn written(self, len: usize) -> Waiting
+        requires { self.offset + len ≤ length self.frame }
+        ensures { result ≡ record self { offset = self.offset + len } }
+    {
+        let Waiting {
+            frame,
+            queue,
+            hash,
+            rss,
+            offset,
+        } = self;
+        Waiting {
+            frame,
+            queue,
+            hash,
+            rss,
+            offset: offset + len,
+        }
+    }
+}

@@ -3,20 +3,32 @@ use Rattle.std.proofs.Common.{◌≡◌, ◌≢◌, refl, sym, ◌∙◌, ap, �
 use Rattle.std.proofs.lemmas.Bool.{cases_lt, lt-ltb}
 use Rattle.std.proofs.lemmas.Bool.Decides.{eqb_tells}
 use Rattle.std.proofs.lemmas.Option.{none-some, slice_get_past, slice_get_cases}
+use Rattle.dma_arena.specs.Block.{Block}
 use Rattle.nic_device.specs.declared.config.Config.{Config}
+use Rattle.nic_device.specs.declared.event.Reply.{Reply}
 use Rattle.script_asm.specs.Laws.{StepsCount, RunningMachinesStep}
 use Rattle.script_asm.specs.Listing.{Listing}
-use Rattle.script_asm.specs.Machine.{status_at, executed_if_some, next_instruction, machine_step, machine_at}
+use Rattle.script_asm.specs.Machine.{Step, status_at, moved_on, made, outcome_of, lacks_block, executed_if_some, next_instruction, machine_step, machine_at}
 use Rattle.script_asm.specs.MachineState.{MachineState}
 use Rattle.script_asm.specs.declared.instructions.Instruction.{Instruction}
-use Rattle.script_asm.specs.declared.instructions.Instruction.TheVariants.{Write, Read}
 use Rattle.script_asm.specs.declared.machine.Status.TheVariants.{Running, Ended}
-use Rattle.script_asm.specs.declared.machine.StepAnswer.TheVariants.{Stopped}
+use Rattle.script_asm.specs.declared.machine.StepAnswer.TheVariants.{Made, NoBlock, Stopped}
 use Rattle.script_asm.proofs.Steps.{steps-executed}
 
+answered : (b : Bool) (x y : Step) → x.answer ≢ Stopped → y.answer ≢ Stopped → (cond b x y).answer ≢ Stopped
+answered true x y h k = h
+answered false x y h k = k
+
+no_block_not_stopped : NoBlock ≡ Stopped → ⊥
+no_block_not_stopped e = cc
+
+made_not_stopped : (r : Reply Block) → Made r ≡ Stopped → ⊥
+made_not_stopped r e = cc
+
 executed_not_stopped : (program : Listing) (s : MachineState) (instruction : Instruction) → (executed_if_some program s (Some instruction)).answer ≢ Stopped
-executed_not_stopped program s (Write address word) e = cc
-executed_not_stopped program s (Read address) e = cc
+executed_not_stopped program s instruction =
+    answered (lacks_block instruction s.arena) (record { answer = NoBlock; state = moved_on program s }) (made program s instruction (outcome_of program s instruction))
+    no_block_not_stopped (made_not_stopped (outcome_of program s instruction).reply)
 
 stays : (program : Listing) (s : MachineState) (next : Option Instruction) → (executed_if_some program s next).answer ≡ Stopped → (executed_if_some program s next).state ≡ s
 stays program s None e = refl
@@ -45,11 +57,17 @@ record IsPlaced (program : Listing) (s : MachineState) : Type 0 where
   status : s.status ≡ status_at program s.pc
   inside : s.pc ≤ length program.instructions
 
+placed_either : (program : Listing) (b : Bool) (x y : Step) → IsPlaced program x.state → IsPlaced program y.state → IsPlaced program (cond b x y).state
+placed_either program true x y h k = h
+placed_either program false x y h k = k
+
 placed-next : (program : Listing) (s : MachineState) (next : Option Instruction) → IsPlaced program s → ((i : Instruction) → next ≡ Some i → s.pc < length program.instructions)
     → IsPlaced program (executed_if_some program s next).state
 placed-next program s None placed inside = placed
-placed-next program s (Some (Write address word)) placed inside = let below : s.pc < length program.instructions = inside (Write address word) refl in record { status = refl; inside = omega arith }
-placed-next program s (Some (Read address)) placed inside = let below : s.pc < length program.instructions = inside (Read address) refl in record { status = refl; inside = omega arith }
+placed-next program s (Some instruction) placed inside =
+    let below : s.pc < length program.instructions = inside instruction refl in
+    placed_either program (lacks_block instruction s.arena) (record { answer = NoBlock; state = moved_on program s }) (made program s instruction (outcome_of program s instruction))
+    (record { status = refl; inside = omega arith }) (record { status = refl; inside = omega arith })
 
 slice_get-below : (program : Listing) (pc : ℕ) (i : Instruction) → slice_get program.instructions pc ≡ Some i → pc < length program.instructions
 slice_get-below program pc i found = elim (cases_lt pc (length program.instructions)) [

@@ -1,139 +1,188 @@
 -- A text is the program that its lines say.
-use Rattle.std.proofs.Common.{◌≡◌, refl, sym, ◌∙◌, ap, subst, ℕ, ◌<◌, ◌≤◌, List, [], ◌∷◌, ◌++◌, length, Result, Ok, Err, arith, append_assoc, append-nil, length-append, inl, inr}
-use Rattle.std.proofs.lemmas.Bool.{cases_lt, lt-ltb, le-ltb}
-use Rattle.lexer.specs.Lines.{NumberedLine, lines_of}
+use Rattle.std.proofs.Common.{◌≡◌, refl, sym, ◌∙◌, ap, subst, ℕ, ◌+◌, ◌<◌, Bool, true, false, cond, is_some, ◌&&◌, nat_le, nat_lt, List, [], ◌∷◌, ◌++◌, length, map, Option, Some, None, Result, Ok, Err, append_assoc, append-nil, length-append}
+use Rattle.std.proofs.lemmas.Bool.{lt-ltb, le-leb, ltb-true, leb-true, and_parts}
+use Rattle.std.proofs.lemmas.List.{map-append}
+use Rattle.lexer.specs.Lines.{NumberedLine}
 use Rattle.script_asm.specs.Fault.{◌then◌, at_line}
-use Rattle.script_asm.specs.Laws.{reading_of, Say, instructions_in, ProgramIsWhatLinesSay, FirstFaultyLineDecides}
-use Rattle.script_asm.specs.Listing.{Listing}
-use Rattle.script_asm.specs.Script.{statement_adds, with_lines, program_of}
+use Rattle.script_asm.specs.Laws.{reading_of, Say, names_in, strings_in, drafts_in, DataFits, Fit}
+use Rattle.script_asm.specs.Outline.{Outline}
+use Rattle.script_asm.specs.Script.{number_of_data, is_short, has_short_name, with_data, with_draft, with_statement, with_line, with_lines}
 use Rattle.script_asm.specs.declared.faults.LineFault.{LineFault}
-use Rattle.script_asm.specs.declared.faults.ScriptFault.{ScriptFault}
-use Rattle.script_asm.specs.declared.faults.ScriptFault.TheVariants.{TooLong}
-use Rattle.script_asm.specs.declared.instructions.Instruction.{Instruction as Instr}
+use Rattle.script_asm.specs.declared.faults.ScriptFault.TheVariants.{TwoLabels, TooLong}
+use Rattle.script_asm.specs.declared.operations.Draft.{Draft}
+use Rattle.script_asm.specs.declared.sheet.DraftLine.{DraftLine}
 use Rattle.script_asm.specs.declared.statements.Statement.{Statement}
-use Rattle.script_asm.specs.declared.statements.Statement.TheVariants.{Empty, Instruction}
+use Rattle.script_asm.specs.declared.statements.Statement.TheVariants.{Empty, Data, Instruction}
+use Rattle.script_asm.proofs.Lines.{with_lines-added}
 
--- what a line with this reading adds
-adds : List Instr → ℕ → Result Statement LineFault → Result (List Instr) ScriptFault
-adds before number reading = at_line number reading then statement_adds before
+-- the instructions of lines
+abbrev pub written : List DraftLine → List Draft
+written drafts = map (λ d. d.draft) drafts
 
-after : List Instr → Result (List Instr) ScriptFault → List NumberedLine → Result (List Instr) ScriptFault
-after before added lines = added then λ is. with_lines (before ++ is) lines
+-- an outline with one more data string, and with one more instruction
+abbrev pub more_data : Outline → List ℕ → List ℕ → Outline
+more_data b name string = record b { names = b.names ++ name ∷ []; strings = b.strings ++ string ∷ [] }
 
-with_lines-cons : (before : List Instr) (line : NumberedLine) (lines : List NumberedLine) (reading : Result Statement LineFault) → reading_of line ≡ reading
-    → with_lines before (line ∷ lines) ≡ after before (adds before line.number reading) lines
-unfolding with_lines adds after
-with_lines-cons before line lines reading is = ap (λ r. (at_line line.number r then statement_adds before) then λ is. with_lines (before ++ is) lines) is
+abbrev pub more_drafts : Outline → ℕ → Draft → Outline
+more_drafts b line d = record b { drafts = b.drafts ++ record { line = line; draft = d } ∷ [] }
 
-after-empty : (before : List Instr) (number : ℕ) (lines : List NumberedLine) → after before (adds before number (Ok Empty)) lines ≡ with_lines before lines
-unfolding adds after
-after-empty before number lines = ap (λ is. with_lines is lines) (append-nil before)
+with_data-fits : (b : Outline) (line : ℕ) (name string : List ℕ) → DataFits b.names name string → with_data b line name string ≡ Ok (more_data b name string)
+with_data-fits b line name string fits =
+    rw (fits.0, le-leb (length name) 32 fits.1, le-leb (length string) 16384 fits.2, lt-ltb (length b.names) 1024 fits.3) refl
 
-after-instruction : (before : List Instr) (number : ℕ) (instruction : Instr) (lines : List NumberedLine) → length before < 4096
-    → after before (adds before number (Ok (Instruction instruction))) lines ≡ with_lines (before ++ instruction ∷ []) lines
-unfolding adds after
-after-instruction before number instruction lines room = rw (lt-ltb (length before) 4096 room) refl
+with_draft-fits : (b : Outline) (line : ℕ) (d : Draft) → has_short_name d ≡ true → length b.drafts < 4096 → with_draft b line d ≡ Ok (more_drafts b line d)
+with_draft-fits b line d short few = rw (short, lt-ltb (length b.drafts) 4096 few) refl
 
-joined : (before : List Instr) (instruction : Instr) (more : List Instr) → (before ++ instruction ∷ []) ++ more ≡ before ++ instruction ∷ more
-joined before instruction more = append_assoc before (instruction ∷ []) more
+checked : {X E : Type 0} (b c : Bool) (x a : X) (e f : E) → cond b (Err e) (cond c (Ok x) (Err f)) ≡ Ok a → (b ≡ false) × (c ≡ true) × (x ≡ a)
+checked true c x a e f is = cc
+checked false true x a e f is = (refl, refl, cc)
+checked false false x a e f is = cc
 
--- what the lines in front say stands before the others
-pub with_lines-say : (before : List Instr) (front back : List NumberedLine) (statements : List Statement) → Say front statements
-    → length (before ++ instructions_in statements) ≤ 4096 → with_lines before (front ++ back) ≡ with_lines (before ++ instructions_in statements) back
-with_lines-say before [] back [] say limit = ap (λ is. with_lines is back) (sym (append-nil before))
-with_lines-say before [] back (s ∷ ss) say limit = cc
-with_lines-say before (line ∷ front) back [] say limit = cc
-with_lines-say before (line ∷ front) back (Empty ∷ ss) say limit =
+tested : {X E : Type 0} (c : Bool) (x a : X) (f : E) → cond c (Ok x) (Err f) ≡ Ok a → (c ≡ true) × (x ≡ a)
+tested true x a f is = (refl, cc)
+tested false x a f is = cc
+
+none_from : {X : Type 0} (o : Option X) → is_some o ≡ false → o ≡ None
+none_from None e = refl
+none_from (Some x) e = cc
+
+fits-with_data : (b a : Outline) (line : ℕ) (name string : List ℕ) → with_data b line name string ≡ Ok a → DataFits b.names name string × (more_data b name string ≡ a)
+fits-with_data b a line name string is =
+    let all = checked (is_some (number_of_data b.names name)) (is_short name && nat_le (length string) 16384 && nat_lt (length b.names) 1024)
+    (more_data b name string) a (TwoLabels line) TooLong is in
+    let limits = and_parts (is_short name && nat_le (length string) 16384) (nat_lt (length b.names) 1024) all.1 in
+    let lengths = and_parts (is_short name) (nat_le (length string) 16384) limits.0 in
+    ((none_from (number_of_data b.names name) all.0, leb-true _ _ lengths.0, leb-true _ _ lengths.1, ltb-true _ _ limits.1), all.2)
+
+fits-with_draft : (b a : Outline) (line : ℕ) (d : Draft) → with_draft b line d ≡ Ok a → ((has_short_name d ≡ true) × (length b.drafts < 4096)) × (more_drafts b line d ≡ a)
+fits-with_draft b a line d is =
+    let all = tested (has_short_name d && nat_lt (length b.drafts) 4096) (more_drafts b line d) a TooLong is in
+    let parts = and_parts (has_short_name d) (nat_lt (length b.drafts) 4096) all.0 in
+    ((parts.0, ltb-true _ _ parts.1), all.1)
+
+pub joined : {X : Type 0} (before : List X) (x : X) (more : List X) → (before ++ x ∷ []) ++ more ≡ before ++ x ∷ more
+joined before x more = append_assoc before (x ∷ []) more
+
+length_more : {X : Type 0} (before : List X) (x : X) → length (before ++ x ∷ []) ≡ length before + 1
+length_more before x = length-append before (x ∷ [])
+
+written_more : (before : List DraftLine) (d : DraftLine) (more : List Draft) → written (before ++ d ∷ []) ++ more ≡ written before ++ d.draft ∷ more
+written_more before d more = ap (λ ds. ds ++ more) (map-append (λ (l : DraftLine). l.draft) before (d ∷ [])) ∙ joined (written before) d.draft more
+
+-- where lines that say these statements lead
+pub record Reached (b : Outline) (lines : List NumberedLine) (statements : List Statement) (r : Outline) : Type 0 where
+  pub is : with_lines b lines ≡ Ok r
+  pub names : r.names ≡ b.names ++ names_in statements
+  pub strings : r.strings ≡ b.strings ++ strings_in statements
+  pub drafts : written r.drafts ≡ written b.drafts ++ drafts_in statements
+
+line-Ok : (b a : Outline) (line : NumberedLine) (s : Statement) → reading_of line ≡ Ok s → with_statement b line.number s ≡ Ok a → with_line b line ≡ Ok a
+line-Ok b a line s here e = ap (λ r. at_line line.number r then λ s. with_statement b line.number s) here ∙ e
+
+pub reach : (b : Outline) (lines : List NumberedLine) (statements : List Statement) → Say lines statements → Fit b.names (length b.drafts) statements → (r : Outline) × Reached b lines statements r
+unfolding with_lines
+reach b [] [] say fit = (b, record { is = refl; names = sym (append-nil b.names); strings = sym (append-nil b.strings); drafts = sym (append-nil (written b.drafts)) })
+reach b [] (s ∷ ss) say fit = cc
+reach b (line ∷ lines) [] say fit = cc
+reach b (line ∷ lines) (Empty ∷ ss) say fit =
     let here : reading_of line ≡ Ok Empty = cc in
-    let others : Say front ss = cc in
-    with_lines-cons before line (front ++ back) (Ok Empty) here ∙ after-empty before line.number (front ++ back) ∙ with_lines-say before front back ss others limit
-with_lines-say before (line ∷ front) back (Instruction instruction ∷ ss) say limit =
-    let here : reading_of line ≡ Ok (Instruction instruction) = cc in
-    let others : Say front ss = cc in
-    let fewer : length ((before ++ instruction ∷ []) ++ instructions_in ss) ≤ 4096 = rw (joined before instruction (instructions_in ss)) limit in
-    let room : length before < 4096 = omega (arith, length-append before (instruction ∷ instructions_in ss)) in
-    with_lines-cons before line (front ++ back) (Ok (Instruction instruction)) here
-    ∙ after-instruction before line.number instruction (front ++ back) room
-    ∙ with_lines-say (before ++ instruction ∷ []) front back ss others fewer
-    ∙ ap (λ is. with_lines is back) (joined before instruction (instructions_in ss))
+    let others : Say lines ss = cc in
+    let rest = reach b lines ss others fit in (
+      rest.0,
+      record {
+        is = with_lines-added b b (line ∷ lines) line lines refl (line-Ok b b line Empty here refl) ∙ rest.1.is;
+        names = rest.1.names;
+        strings = rest.1.strings;
+        drafts = rest.1.drafts;
+      },
+    )
+reach b (line ∷ lines) (Data name string ∷ ss) say fit =
+    let here : reading_of line ≡ Ok (Data name string) = cc in
+    let others : Say lines ss = cc in
+    let a = more_data b name string in
+    let rest = reach a lines ss others fit.1 in (
+      rest.0,
+      record {
+        is = with_lines-added b a (line ∷ lines) line lines refl (line-Ok b a line (Data name string) here (with_data-fits b line.number name string fit.0)) ∙ rest.1.is;
+        names = rest.1.names ∙ joined b.names name (names_in ss);
+        strings = rest.1.strings ∙ joined b.strings string (strings_in ss);
+        drafts = rest.1.drafts;
+      },
+    )
+reach b (line ∷ lines) (Instruction d ∷ ss) say fit =
+    let here : reading_of line ≡ Ok (Instruction d) = cc in
+    let others : Say lines ss = cc in
+    let a = more_drafts b line.number d in
+    let fits : Fit b.names (length a.drafts) ss = subst (λ n. Fit b.names n ss) (sym (length_more b.drafts (record { line = line.number; draft = d }))) fit.1 in
+    let rest = reach a lines ss others fits in (
+      rest.0,
+      record {
+        is = with_lines-added b a (line ∷ lines) line lines refl (line-Ok b a line (Instruction d) here (with_draft-fits b line.number d fit.0.0 fit.0.1)) ∙ rest.1.is;
+        names = rest.1.names;
+        strings = rest.1.strings;
+        drafts = rest.1.drafts ∙ written_more b.drafts (record { line = line.number; draft = d }) (drafts_in ss);
+      },
+    )
 
--- what lines say, behind these instructions
-record Said (before : List Instr) (lines : List NumberedLine) (result : List Instr) : Type 0 where
-  statements : List Statement
-  say : Say lines statements
-  are : result ≡ before ++ instructions_in statements
-  limit : length result ≤ 4096
-
--- a faulty line, or one instruction too many, gives nothing
-faulty : (before : List Instr) (number : ℕ) (fault : LineFault) (lines : List NumberedLine) (result : List Instr) → after before (adds before number (Err fault)) lines ≡ Ok result → ⊥
-unfolding adds after
-faulty before number fault lines result none = cc
-
-overfull : (before : List Instr) (number : ℕ) (instruction : Instr) (lines : List NumberedLine) (result : List Instr) → 4096 ≤ length before
-    → after before (adds before number (Ok (Instruction instruction))) lines ≡ Ok result → ⊥
-unfolding adds after
-overfull before number instruction lines result full none =
-    let refused : Err TooLong ≡ Ok result = rw (le-ltb (length before) 4096 full) at none in
-    cc
+-- what lines that lead somewhere say
+pub record Said (b : Outline) (lines : List NumberedLine) (r : Outline) : Type 0 where
+  pub statements : List Statement
+  pub say : Say lines statements
+  pub fit : Fit b.names (length b.drafts) statements
+  pub names : r.names ≡ b.names ++ names_in statements
+  pub strings : r.strings ≡ b.strings ++ strings_in statements
+  pub drafts : written r.drafts ≡ written b.drafts ++ drafts_in statements
 
 said-first : (line : NumberedLine) (lines : List NumberedLine) (s : Statement) (ss : List Statement) → reading_of line ≡ Ok s → Say lines ss → Say (line ∷ lines) (s ∷ ss)
 said-first line lines s ss is say = cc
 
-said-line : (before : List Instr) (line : NumberedLine) (lines : List NumberedLine) (result : List Instr) (reading : Result Statement LineFault) → length before ≤ 4096
-    → reading_of line ≡ reading → with_lines before (line ∷ lines) ≡ Ok result
-    → ((b r : List Instr) → length b ≤ 4096 → with_lines b lines ≡ Ok r → Said b lines r) → Said before (line ∷ lines) result
-said-line before line lines result (Err fault) small is done rest =
-    let none : after before (adds before line.number (Err fault)) lines ≡ Ok result = sym (with_lines-cons before line lines (Err fault) is) ∙ done in
-    absurd (faulty before line.number fault lines result none)
-said-line before line lines result (Ok Empty) small is done rest =
-    let more : with_lines before lines ≡ Ok result = sym (with_lines-cons before line lines (Ok Empty) is ∙ after-empty before line.number lines) ∙ done in
-    let others = rest before result small more in
-    record { statements = Empty ∷ others.statements; say = said-first line lines Empty others.statements is others.say; are = others.are; limit = others.limit }
-said-line before line lines result (Ok (Instruction instruction)) small is done rest = elim (cases_lt (length before) 4096) [
-  | inl room ↦
-      let more : with_lines (before ++ instruction ∷ []) lines ≡ Ok result =
-      sym (with_lines-cons before line lines (Ok (Instruction instruction)) is ∙ after-instruction before line.number instruction lines room) ∙ done in
-      let fits : length (before ++ instruction ∷ []) ≤ 4096 = simp length-append (omega arith) in
-      let others = rest (before ++ instruction ∷ []) result fits more in
-      record {
-        statements = Instruction instruction ∷ others.statements;
-        say = said-first line lines (Instruction instruction) others.statements is others.say;
-        are = others.are ∙ joined before instruction (instructions_in others.statements);
-        limit = others.limit;
-      }
-  | inr full ↦
-      let none : after before (adds before line.number (Ok (Instruction instruction))) lines ≡ Ok result =
-      sym (with_lines-cons before line lines (Ok (Instruction instruction)) is) ∙ done in
-      absurd (overfull before line.number instruction lines result full none)
-]
+-- the second of two steps that gave a value
+pub stepped : {A B E : Type 0} (r : Result A E) (f : A → Result B E) (y : B) → (r then f) ≡ Ok y → (x : A) × (r ≡ Ok x) × (f x ≡ Ok y)
+stepped (Ok x) f y e = (x, refl, e)
+stepped (Err fault) f y e = cc
 
-said : (before : List Instr) (lines : List NumberedLine) (result : List Instr) → length before ≤ 4096 → with_lines before lines ≡ Ok result → Said before lines result
+said-line : (b r : Outline) (line : NumberedLine) (lines : List NumberedLine) (reading : Result Statement LineFault) → reading_of line ≡ reading
+    → (a : Outline) → (at_line line.number reading then λ s. with_statement b line.number s) ≡ Ok a → Said a lines r → Said b (line ∷ lines) r
+said-line b r line lines (Err fault) is a here rest = cc
+said-line b r line lines (Ok Empty) is a here rest =
+    let same : b ≡ a = cc in
+    let others : Said b lines r = subst (λ (o : Outline). Said o lines r) (sym same) rest in
+    record {
+      statements = Empty ∷ others.statements;
+      say = said-first line lines Empty others.statements is others.say;
+      fit = others.fit;
+      names = others.names;
+      strings = others.strings;
+      drafts = others.drafts;
+    }
+said-line b r line lines (Ok (Data name string)) is a here rest =
+    let one = fits-with_data b a line.number name string here in
+    let others : Said (more_data b name string) lines r = subst (λ (o : Outline). Said o lines r) (sym one.1) rest in
+    record {
+      statements = Data name string ∷ others.statements;
+      say = said-first line lines (Data name string) others.statements is others.say;
+      fit = (one.0, others.fit);
+      names = others.names ∙ joined b.names name (names_in others.statements);
+      strings = others.strings ∙ joined b.strings string (strings_in others.statements);
+      drafts = others.drafts;
+    }
+said-line b r line lines (Ok (Instruction d)) is a here rest =
+    let one = fits-with_draft b a line.number d here in
+    let others : Said (more_drafts b line.number d) lines r = subst (λ (o : Outline). Said o lines r) (sym one.1) rest in
+    record {
+      statements = Instruction d ∷ others.statements;
+      say = said-first line lines (Instruction d) others.statements is others.say;
+      fit = (one.0, subst (λ n. Fit b.names n others.statements) (length_more b.drafts (record { line = line.number; draft = d })) others.fit);
+      names = others.names;
+      strings = others.strings;
+      drafts = others.drafts ∙ written_more b.drafts (record { line = line.number; draft = d }) (drafts_in others.statements);
+    }
+
+pub said : (b : Outline) (lines : List NumberedLine) (r : Outline) → with_lines b lines ≡ Ok r → Said b lines r
 unfolding with_lines
-said before [] result small done =
-    let same : before ≡ result = cc in
-    record { statements = []; say = refl; are = sym same ∙ sym (append-nil before); limit = subst (λ is. length is ≤ 4096) same small }
-said before (line ∷ lines) result small done =
-    said-line before line lines result (reading_of line) small refl done (λ b r fits more. said b lines r fits more)
-
-program-Ok : (instructions : Result (List Instr) ScriptFault) (is : List Instr) → (instructions then λ all. Ok (record { instructions = all })) ≡ Ok (let listing : Listing = record { instructions = is } in listing) → instructions ≡ Ok is
-program-Ok (Ok all) is e = let same : (let listing : Listing = record { instructions = all } in listing) ≡ record { instructions = is } = cc in ap (λ (listing : Listing). Ok listing.instructions) same
-program-Ok (Err fault) is e = cc
-
-pub program_is_what_lines_say : ProgramIsWhatLinesSay
-unfolding program_of with_lines
-program_is_what_lines_say text instructions = (
-  λ is.
-      let all = said [] (lines_of text) instructions (omega arith) (program-Ok (with_lines [] (lines_of text)) instructions is) in
-      record { statements = all.statements; say = all.say; are = all.are; limit = all.limit },
-  λ all.
-      let fits : length (instructions_in all.statements) ≤ 4096 = subst (λ is. length is ≤ 4096) all.are all.limit in
-      ap (λ (is : Result (List Instr) ScriptFault). is then λ is. Ok (record { instructions = is }))
-      (ap (with_lines []) (sym (append-nil (lines_of text))) ∙ with_lines-say [] (lines_of text) [] all.statements all.say fits ∙ ap Ok (sym all.are)),
-)
-
-pub first_faulty_line_decides : FirstFaultyLineDecides
-unfolding program_of with_lines
-first_faulty_line_decides text front line back statements fault is say fits faulty =
-    ap (λ (is : Result (List Instr) ScriptFault). is then λ is. Ok (record { instructions = is }))
-    (ap (with_lines []) is ∙ with_lines-say [] front (line ∷ back) statements say fits
-    ∙ ap (λ added. added then λ more. with_lines (instructions_in statements ++ more) back) faulty)
+said b [] r done =
+    let same : b ≡ r = cc in
+    subst (λ (o : Outline). Said b [] o) same (record { statements = []; say = refl; fit = tt; names = sym (append-nil b.names); strings = sym (append-nil b.strings); drafts = sym (append-nil (written b.drafts)) })
+said b (line ∷ lines) r done =
+    let next = stepped (with_line b line) (λ a. with_lines a lines) r done in
+    said-line b r line lines (reading_of line) refl next.0 next.1 (said next.0 lines r next.2)

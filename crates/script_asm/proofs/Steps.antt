@@ -1,18 +1,24 @@
 -- A machine stands where its steps lead.
-use Rattle.std.proofs.Common.{◌≡◌, ◌⊎◌, refl, sym, ◌∙◌, ap, suc, ◌+◌, Option, Some, None, inl, inr, ⊎_elim, add-one, Result, Ok, Err, OnOk, OnErr}
-use Rattle.nic_device.specs.State.{State, new_state}
+use Rattle.std.proofs.Common.{◌≡◌, ◌⊎◌, refl, sym, ◌∙◌, ap, suc, ◌+◌, Bool, true, false, cond, Option, Some, None, inl, inr, ⊎_elim, add-one, Result, Ok, Err, OnOk, OnErr}
+use Rattle.nic_device.specs.State.{new_state}
 use Rattle.nic_device.specs.declared.config.Config.{Config}
+use Rattle.script_asm.specs.Board.{Holdings, all_blocks}
 use Rattle.script_asm.specs.Listing.{Listing}
 use Rattle.script_asm.specs.MachineState.{MachineState}
-use Rattle.script_asm.specs.Machine.{start_of, status_at, executed, executed_if_some, next_instruction, machine_step, machine_at}
+use Rattle.script_asm.specs.Machine.{Step, start_of, status_at, moved_on, made, outcome_of, lacks_block, executed, executed_if_some, next_instruction, machine_step, machine_at}
 use Rattle.script_asm.specs.Processor.{IsWhereStepsLead}
 use Rattle.script_asm.specs.declared.instructions.Instruction.{Instruction}
-use Rattle.script_asm.specs.declared.instructions.Instruction.TheVariants.{Write, Read}
+use Rattle.script_asm.specs.declared.machine.StepAnswer.TheVariants.{NoBlock}
+
+counted : (program : Listing) (s : MachineState) (b : Bool) (x y : Step) → x.state.steps ≡ s.steps + 1 → y.state.steps ≡ s.steps + 1 → (cond b x y).state.steps ≡ s.steps + 1
+counted program s true x y h k = h
+counted program s false x y h k = k
 
 -- an executed instruction counts one step
 pub steps-executed : (program : Listing) (s : MachineState) (instruction : Instruction) → (executed program s instruction).state.steps ≡ s.steps + 1
-steps-executed program s (Write address word) = refl
-steps-executed program s (Read address) = refl
+steps-executed program s instruction =
+    counted program s (lacks_block instruction s.arena) (record { answer = NoBlock; state = moved_on program s })
+    (made program s instruction (outcome_of program s instruction)) refl refl
 
 -- a step counts, or leaves the machine as it is
 counts_or_stays : (program : Listing) (s : MachineState) (next : Option Instruction)
@@ -24,10 +30,10 @@ leads-start : (program : Listing) (config : Config) (s : MachineState) → s ≡
 unfolding machine_at
 leads-start program config s new = new ∙ ap (λ (t : MachineState). machine_at program config t.steps) (sym new)
 
-pub leads-new : (program : Listing) (config : Config) (device : State) (s : MachineState) → device ≡ new_state config.vfs config.fifo
-    → s ≡ record { device = device; pc = 0; acc = 0; status = status_at program 0; steps = 0 } → IsWhereStepsLead program config s
-leads-new program config device s new made =
-    leads-start program config s (made ∙ ap (λ d. record { device = d; pc = 0; acc = 0; status = status_at program 0; steps = 0 }) new)
+pub leads-new : (program : Listing) (config : Config) (board : Holdings) (s : MachineState) → board ≡ record { device = new_state config.vfs config.fifo; arena = all_blocks }
+    → s ≡ record { device = board.device; arena = board.arena; pc = 0; acc = 0; status = status_at program 0; steps = 0 } → IsWhereStepsLead program config s
+leads-new program config board s new made =
+    leads-start program config s (made ∙ ap (λ (b : Holdings). record { device = b.device; arena = b.arena; pc = 0; acc = 0; status = status_at program 0; steps = 0 }) new)
 
 pub leads-step : (program : Listing) (config : Config) (s : MachineState) → IsWhereStepsLead program config s → IsWhereStepsLead program config (machine_step program s).state
 unfolding machine_step machine_at

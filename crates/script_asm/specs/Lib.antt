@@ -3,8 +3,10 @@ pub mod Fault
 pub mod Target
 pub mod Instruction
 pub mod Statement
+pub mod Outline
 pub mod Script
 pub mod Listing
+pub mod Board
 pub mod MachineState
 pub mod Machine
 pub mod Course

@@ -17,6 +17,14 @@ use Rattle.script_asm.specs.Fault.{◌then◌, both, number_fault}
 abbrev pub number_in : List ℕ → Result ℕ LineFault
 number_in word = elim (number_of word) [ Ok number ↦ Ok number | Err fault ↦ Err (number_fault fault) ]
 
+-- the number that a word writes, below a limit
+abbrev pub number_below : ℕ → List ℕ → Result ℕ LineFault
+number_below limit word = number_in word then λ number. if nat_lt number limit then Ok number else Err Range
+
+-- the name that a word is
+abbrev pub name_in : List ℕ → Result (List ℕ) LineFault
+name_in word = if is_name word then Ok word else Err Syntax
+
 -- the row with a name
 abbrev pub row_in : List ℕ → Result RowId LineFault
 row_in name = ok_or (row_with_name name) UnknownName

@@ -7,8 +7,8 @@ use lexer::NumberFault;
 use std::alloc::{AllocError, AllocFailed};
 use thiserror::Error;
 
-/// Why a text is no script: the first faulty line decides, and in it the fault that stands first here.
-/// Lines are numbered from 1.
+/// Why a text is no script: the first faulty line decides, and in it the fault that stands first here;
+/// but names of data are looked up only once no line is faulty otherwise. Lines are numbered from 1.
 #[derive(Clone, Copy, Debug, PartialEq, Eq, Error)]
 pub enum ScriptFault {
     /// The line has no form of the language.
@@ -17,11 +17,19 @@ pub enum ScriptFault {
     /// The line names a row that isn't in the register table.
     #[error("line {0}: no register of this name")]
     UnknownName(usize),
-    /// A number on the line is 2^32 or more, or an index isn't below its row's count.
+    /// The line names data that no line defines. It is told only of a text whose lines all say something.
+    #[error("line {0}: no data of this name")]
+    UnknownLabel(usize),
+    /// The line gives data a name that an earlier line gave.
+    #[error("line {0}: a name given twice")]
+    TwoLabels(usize),
+    /// A number on the line is out of its range, or an index isn't below its row's count. Or, where all
+    /// lines say something, the line pokes data that hasn't 16 bytes.
     #[error("line {0}: a number out of range")]
     Range(usize),
-    /// There are more than 4,096 instructions.
-    #[error("more than 4,096 instructions")]
+    /// There are more than 4,096 instructions or 1,024 data strings, a data string has more than 16,384
+    /// bytes, or a name of data more than 32.
+    #[error("beyond a limit of scripts")]
     TooLong,
     /// There is no memory for the program. It may stand in place of any answer.
     #[error("out of memory")]

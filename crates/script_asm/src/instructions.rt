@@ -1,76 +1,32 @@
 //! Instructions.
 
-ghost use Rattle.std.specs.Prelude.{◌≡◌};
-ghost use Rattle.script_asm.specs.Instruction.{operation_named, one_operand, two_operands, instruction_of};
-ghost use Rattle.script_asm.specs.Read.{ok_map};
+use nic_device::Dir;
 
-use crate::faults::{LineFault, both};
-use crate::targets::{number, target};
-use lexer::Words;
-
-/// One step of a program.
+/// One step of a program. Bus addresses are below 2^32, numbers of blocks, queues and data strings below 2^16.
 #[derive(Clone, Copy, Debug, PartialEq, Eq)]
 pub enum Instruction {
     /// `w`: writes a register through the physical function: an address, and the word.
     Write(u32, u32),
     /// `r`: reads a register through the physical function, at an address.
     Read(u32),
-}
-
-/// The first word of an instruction.
-#[derive(Clone, Copy, Debug, PartialEq, Eq)]
-pub(crate) enum Operation {
-    Write,
-    Read,
-}
-
-/// The operation that a word names.
-pub(crate) fn operation_named(word: &str) -> Option<Operation>
-    ensures { result ≡ operation_named word.now }
-{
-    match word {
-        "w" => Some(Operation::Write),
-        "r" => Some(Operation::Read),
-        _ => None,
-    }
-}
-
-/// The one operand.
-fn one_operand<'a>(mut words: Words<'a>) -> Result<&'a str, LineFault>
-    ensures { ok_map (λ word. word.now) result ≡ one_operand words.entry }
-{
-    match (words.next(), words.next()) {
-        (Some(word), None) => Ok(word),
-        _ => Err(LineFault::Syntax),
-    }
-}
-
-/// The two operands.
-fn two_operands<'a>(mut words: Words<'a>) -> Result<(&'a str, &'a str), LineFault>
-    ensures { ok_map (λ word. (word.0.now, word.1.now)) result ≡ two_operands words.entry }
-{
-    match (words.next(), words.next(), words.next()) {
-        (Some(first), Some(second), None) => Ok((first, second)),
-        _ => Err(LineFault::Syntax),
-    }
-}
-
-/// The instruction of an operation and its operands.
-pub(crate) fn read_instruction(
-    operation: Operation,
-    operands: Words<'_>,
-) -> Result<Instruction, LineFault>
-    ensures { result ≡ instruction_of operation operands.entry }
-{
-    match operation {
-        Operation::Write => {
-            let (address, word) = two_operands(operands)?;
-            let (address, word) = both(target(address), number(word))?;
-            Ok(Instruction::Write(address, word))
-        }
-        Operation::Read => {
-            let address = target(one_operand(operands)?)?;
-            Ok(Instruction::Read(address))
-        }
-    }
+    /// `lend`: takes a block of the machine's arena, and lends it to the device.
+    Lend(u16),
+    /// `unlend`: takes a block back from the device, and gives it to the arena.
+    Unlend(u16),
+    /// `poke`: writes 16 bytes of lent memory: a bus address, and the number of the data string that has them.
+    Poke(u32, u16),
+    /// `peek`: reads 16 bytes of lent memory: a bus address, and which of their four words goes into `acc`, 0 to 3.
+    Peek(u32, u8),
+    /// `arrive`: the bytes of the data string of this number arrive as a frame.
+    Arrive(u16),
+    /// `rx`: one receive step.
+    RxStep,
+    /// `tx`: one transmit step of a queue.
+    TxStep(u16),
+    /// `qstep`: one direction of a queue goes on or off, as its register wants it.
+    QueueStep(Dir, u16),
+    /// `link`: whether there is link from now on.
+    Link(bool),
+    /// `collect`: the oldest frame that went out is taken.
+    Collect,
 }

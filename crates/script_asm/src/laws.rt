@@ -1,16 +1,22 @@
 //! What the definitions promise as a whole. Each law is the contract of a function that does nothing.
 
-ghost use Rattle.script_asm.specs.Laws.{ProgramIsWhatLinesSay, FirstFaultyLineDecides, StepsCount, RunningMachinesStep};
+ghost use Rattle.script_asm.specs.Laws.{ProgramIsWhatLinesSay, FirstFaultDecides, DataHasItsNumber, StepsCount, RunningMachinesStep};
 
-/// A text is a program exactly where each of its lines says something, with at most 4,096
-/// instructions. These are the program's, in their order.
+/// A text is a program exactly where each of its lines says something that fits behind the lines before
+/// it. What they say makes the program, in their order.
 pub fn program_is_what_lines_say()
     ensures { ProgramIsWhatLinesSay }
 {}
 
-/// Where lines that say something stand before a faulty one, its fault is that of the text.
-pub fn first_faulty_line_decides()
-    ensures { FirstFaultyLineDecides }
+/// The first faulty line of a text decides. Where none is faulty, the first line decides that names data
+/// which is missing or can't be poked.
+pub fn first_fault_decides()
+    ensures { FirstFaultDecides }
+{}
+
+/// An instruction that names data has the number of the line that defines the name.
+pub fn data_has_its_number()
+    ensures { DataHasItsNumber }
 {}
 
 /// A step that is answered `Stopped` leaves the machine as it is, any other counts one.

@@ -5,23 +5,29 @@
 #![tactic(auto)]
 
 mod assembly;
+mod board;
 mod faults;
 mod instructions;
 mod laws;
 mod machine;
+mod names;
+mod operations;
 mod processor;
 mod programs;
+mod sheet;
 mod statements;
 mod targets;
 
 pub use assembly::assemble;
+pub use board::BLOCKS;
 pub use faults::ScriptFault;
 pub use instructions::Instruction;
 pub use laws::{
-    first_faulty_line_decides, program_is_what_lines_say, running_machines_step, steps_count,
+    data_has_its_number, first_fault_decides, program_is_what_lines_say, running_machines_step,
+    steps_count,
 };
 pub use machine::{Machine, NewRefused, OutOfMemory, Status, StepAnswer};
-pub use programs::{INSTRUCTION_LIMIT, Program};
+pub use programs::{DATA_BYTES, DATA_LIMIT, INSTRUCTION_LIMIT, Program};
 
 #[cfg(test)]
 mod tests;

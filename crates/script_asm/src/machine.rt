@@ -6,9 +6,10 @@ ghost use Rattle.nic_device.specs.Config.{IsBadFifo};
 ghost use Rattle.nic_device.specs.Step.{step_of, word_told};
 ghost use Rattle.script_asm.specs.Machine.{start_of, machine_step, machine_at, StepTakesMemory};
 
+use crate::board::Board;
 use crate::processor::Processor;
 use crate::programs::Program;
-use nic_device::{Config, Device, Event, NewFault, Port, ReplyNote};
+use nic_device::{Config, Event, MAX_VFS, NewFault, Port, ReplyNote};
 use std::alloc::Global;
 use std::marker::Model;
 use thiserror::Error;
@@ -23,10 +24,12 @@ pub enum Status {
 }
 
 /// What a step of a machine does.
-#[derive(Debug, PartialEq, Eq, Drop)]
+#[derive(Debug, Drop)]
 pub enum StepAnswer {
     /// It makes an event on the device, which replies so.
     Made(ReplyNote),
+    /// No event: the block to be lent isn't free in the machine's arena.
+    NoBlock,
     /// Nothing: the machine doesn't run, or has counted 2^64 - 1 steps.
     Stopped,
 }
@@ -45,7 +48,7 @@ pub struct NewRefused {
     pub program: Program,
 }
 
-/// A program, the device that it runs on, and how far it has run: after n counted steps a machine is
+/// A program, the device that it runs on with an arena of blocks 0 to 255, and how far it has run: after n counted steps a machine is
 /// `machine_at` n. It isn't dropped, but finished.
 pub struct Machine {
     program: Program,
@@ -57,6 +60,11 @@ impl Model for Machine {
     ghost use Rattle.script_asm.specs.Course.{Course};
 
     ghost Value = { Course };
+
+    ghost use Rattle.std.specs.Coded.{codes};
+    ghost use Rattle.nic_device.specs.State.{state_code};
+
+    ghost coded = { Prim.hlevel (codes, state_code) };
 
     ghost use Rattle.script_asm.specs.Processor.{state_of, IsWhereStepsLead};
 
@@ -71,14 +79,14 @@ impl Machine {
     pub fn new(alloc: Global, program: Program, config: Config) -> Result<Machine, NewRefused>
         ensures made { IfOk result (λ machine. machine ≡ record { program = program; config = config; state = start_of program config }) }
         ensures back { IfErr result (λ refused. refused.program ≡ program) }
-        ensures too_many_vfs { IsErrAnd result (λ refused. refused.fault ≡ NewFault.TooManyVfs) ↔ (63 < config.vfs) }
-        ensures fifo { IsErrAnd result (λ refused. refused.fault ≡ NewFault.Fifo) ↔ ((config.vfs ≤ 63) × IsBadFifo config.fifo) }
+        ensures too_many_vfs { IsErrAnd result (λ refused. refused.fault ≡ NewFault.TooManyVfs) ↔ (MAX_VFS < config.vfs) }
+        ensures fifo { IsErrAnd result (λ refused. refused.fault ≡ NewFault.Fifo) ↔ ((config.vfs ≤ MAX_VFS) × IsBadFifo config.fifo) }
     {
-        let device = match Device::new(alloc, config) {
-            Ok(device) => device,
+        let board = match Board::new(alloc, config) {
+            Ok(board) => board,
             Err(fault) => return Err(NewRefused { fault, program }),
         };
-        let processor = Processor::new(device, &program);
+        let processor = Processor::new(alloc, board, &program);
         Ok(Machine {
             program,
             config,
@@ -112,7 +120,7 @@ impl Machine {
         self.processor.pc
     }
 
-    /// The word that was read last, a stray one too; 0 before.
+    /// The word that was read or peeked last, a stray one too; 0 before.
     pub fn acc(&self) -> u32
         ensures { result ≡ self.now.state.acc }
     {
@@ -131,10 +139,10 @@ impl Machine {
     pub fn peek_register(&self, address: u32) -> Option<u32>
         ensures { result ≡ word_told (step_of self.now.state.device (Event.Read Port.Pf address)).reply }
     {
-        self.processor.device.peek_register(address)
+        self.processor.board.peek_register(address)
     }
 
-    /// Closes the machine.
+    /// Closes the machine. Blocks that are lent are taken back.
     pub fn finish(self) {
         let Machine {
             program: _,
@@ -142,11 +150,13 @@ impl Machine {
             processor,
         } = self;
         let Processor {
-            device: _,
+            alloc: _,
+            board,
             pc: _,
             acc: _,
             status: _,
             steps: _,
         } = processor;
+        board.finish();
     }
 }

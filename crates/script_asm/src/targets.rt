@@ -3,7 +3,7 @@
 ghost use Rattle.std.specs.Prelude.{◌≡◌, ◌<◌};
 ghost use Rattle.std.specs.Option.{option_copied};
 ghost use Rattle.reg_table.specs.Rows.{row_of};
-ghost use Rattle.script_asm.specs.Target.{number_in, row_in, register_address, address_in, before_last_byte, target_of};
+ghost use Rattle.script_asm.specs.Target.{number_in, number_below, row_in, register_address, address_in, before_last_byte, target_of};
 
 use crate::faults::{LineFault, both};
 use lexer::is_name;
@@ -15,6 +15,18 @@ pub(crate) fn number(word: &str) -> Result<u32, LineFault>
 {
     let number = lexer::number(word)?;
     Ok(number)
+}
+
+/// The number that a word writes, below a limit.
+pub(crate) fn number_below(limit: u32, word: &str) -> Result<u32, LineFault>
+    ensures { result ≡ number_below limit word.now }
+{
+    let number = number(word)?;
+    if number < limit {
+        Ok(number)
+    } else {
+        Err(LineFault::Range)
+    }
 }
 
 /// The row with a name.

@@ -1,3 +1,4 @@
+pub mod Bytes
 pub mod Endings
 pub mod Hex
 pub mod Inputs

@@ -1,22 +1,23 @@
 -- The lines of the steps so far, and of those to come.
-use Rattle.std.proofs.Common.{arith, refl, subst, sym, ◌∙◌, ap, ◌≡◌, ◌≤◌, ◌<◌, ℕ, zero, suc, ◌+◌, ◌-◌, List, [], ◌++◌, append-nil, append_assoc, Option, Some, None, add-zero, add-suc, add-one}
+use Rattle.std.proofs.Common.{arith, refl, subst, sym, ◌∙◌, ap, ◌≡◌, ◌≤◌, ℕ, zero, suc, ◌+◌, ◌-◌, List, [], ◌++◌, append-nil, append_assoc, Option, Some, None, add-zero, add-suc, add-one, Bool, true, false, if◌then◌else◌}
 use Rattle.std.specs.Io.KnownBytes.{Appends}
 use Rattle.nic_device.specs.declared.Config.{Config}
 use Rattle.script_asm.specs.Course.{Course}
 use Rattle.script_asm.specs.Listing.{Listing}
-use Rattle.script_asm.specs.Machine.{executed, executed_if_some, machine_at, machine_step, next_instruction, start_of}
+use Rattle.script_asm.specs.Machine.{Step, executed, executed_if_some, lacks_block, machine_at, machine_step, next_instruction, start_of}
 use Rattle.script_asm.specs.MachineState.{MachineState}
 use Rattle.script_asm.specs.declared.Instruction.{Instruction}
-use Rattle.script_asm.specs.declared.Instruction.TheVariants.{Write, Read}
 use Rattle.script_asm.specs.declared.StepAnswer.{StepAnswer}
-use Rattle.script_asm.specs.declared.StepAnswer.TheVariants.{Made, Stopped}
+use Rattle.script_asm.specs.declared.StepAnswer.TheVariants.{Stopped}
 use Rattle.bench.specs.Run.{WritesBeginning}
-use Rattle.nic_device.specs.declared.Reply.{Reply}
-use Rattle.bench.specs.Steps.{answer_text, reply_line, step_text, steps_text}
+use Rattle.bench.specs.Steps.{answer_text, step_text, steps_text}
+
+either-goes : (which : Bool) (a b : Step) → (a.answer ≡ Stopped → ⊥) → (b.answer ≡ Stopped → ⊥) → (if which then a else b).answer ≡ Stopped → ⊥
+either-goes true a b first second stopped = first stopped
+either-goes false a b first second stopped = second stopped
 
 executed-stopped : (p : Listing) (s : MachineState) (i : Instruction) → (executed p s i).answer ≡ Stopped → ⊥
-executed-stopped p s (Write address word) stopped = cc
-executed-stopped p s (Read address) stopped = cc
+executed-stopped p s i stopped = either-goes (lacks_block i s.arena) _ _ (λ is. cc) (λ is. cc) stopped
 
 executed_if_some-stopped : (p : Listing) (s : MachineState) (i : Option Instruction) → (executed_if_some p s i).answer ≡ Stopped
     → (executed_if_some p s i).state ≡ s
@@ -101,18 +102,18 @@ module _ (old new : Option (List ℕ)) (start now : Course) (k limit : ℕ) (aft
       let stopped = ap (λ s. s.answer) (sym step-at) ∙ is in
       subst (Appends old new) (sym (steps_text-stopped start.program start.config k stopped (limit - k)) ∙ ap (steps_text start.program start.config) up_to) after.written
 
-  pub stopped-state : (then : Course) → then ≡ record now { state = (machine_step now.program now.state).state }
-      → (machine_step now.program now.state).answer ≡ Stopped → k ≤ limit → then.state ≡ machine_at start.program start.config limit
-  stopped-state then step is within =
+  pub stopped-state : (later : Course) → later ≡ record now { state = (machine_step now.program now.state).state }
+      → (machine_step now.program now.state).answer ≡ Stopped → k ≤ limit → later.state ≡ machine_at start.program start.config limit
+  stopped-state later step is within =
       let up_to : k + (limit - k) ≡ limit = omega arith in
       let stopped = ap (λ s. s.answer) (sym step-at) ∙ is in
       ap (λ (m : Course). m.state) step ∙ ap (λ s. s.state) step-at ∙ machine_step-stopped start.program (machine_at start.program start.config k) stopped
       ∙ sym (machine_at-stopped start.program start.config k stopped (limit - k)) ∙ ap (machine_at start.program start.config) up_to
 
-  pub next-steps : (last : Option (List ℕ)) (then : Course) → then ≡ record now { state = (machine_step now.program now.state).state }
-      → Appends new last (answer_text now.state.pc (machine_step now.program now.state).answer) → AfterSteps old last start then (k + 1)
+  pub next-steps : (last : Option (List ℕ)) (later : Course) → later ≡ record now { state = (machine_step now.program now.state).state }
+      → Appends new last (answer_text now.state.pc (machine_step now.program now.state).answer) → AfterSteps old last start later (k + 1)
   unfolding machine_at steps_text
-  next-steps last then step wrote = record {
+  next-steps last later step wrote = record {
     written = subst (Appends old last)
         (ap (λ (m : Course). steps_text start.program start.config k ++ step_text m.program m.state) after.at
         ∙ ap (steps_text start.program start.config) (sym (add-one k)))
@@ -121,9 +122,8 @@ module _ (old new : Option (List ℕ)) (start now : Course) (k limit : ℕ) (aft
         ∙ ap (λ n. record start { state = machine_at start.program start.config n }) (sym (add-one k));
   }
 
--- the line of a reply is the text of the answer that it is
-pub reply-written : (old new : Option (List ℕ)) (pc at : ℕ) (reply : Reply) (answer : StepAnswer) → pc ≡ at → answer ≡ Made reply
-    → Appends old new (reply_line pc reply) → Appends old new (answer_text at answer)
-reply-written old new pc at reply answer same made written =
-    let line : reply_line pc reply ≡ answer_text at answer = ap (λ n. reply_line n reply) same ∙ ap (answer_text at) (sym made) in
-    subst (Appends old new) line written
+-- the line of an answer is that of the step that gave it
+pub answer-written : (old new : Option (List ℕ)) (pc at : ℕ) (told answer : StepAnswer) → pc ≡ at → told ≡ answer
+    → Appends old new (answer_text pc told) → Appends old new (answer_text at answer)
+answer-written old new pc at told answer same is written =
+    subst (Appends old new) (ap (λ n. answer_text n told) same ∙ ap (answer_text at) is) written

@@ -9,6 +9,8 @@ use Rattle.script_asm.specs.declared.ScriptFault.TheVariants as fault
 abbrev pub fault_text : ScriptFault → List ℕ
 fault_text (fault.Syntax line) = codes "Syntax " ++ decimal line
 fault_text (fault.UnknownName line) = codes "UnknownName " ++ decimal line
+fault_text (fault.UnknownLabel line) = codes "UnknownLabel " ++ decimal line
+fault_text (fault.TwoLabels line) = codes "TwoLabels " ++ decimal line
 fault_text (fault.Range line) = codes "Range " ++ decimal line
 fault_text fault.TooLong = codes "TooLong"
 fault_text fault.OutOfMemory = codes "OutOfMemory"

@@ -1,21 +1,27 @@
 -- The lines that a machine's steps print.
 use Rattle.std.specs.Prelude.{ℕ, zero, suc, List, [], ◌++◌, codes, decimal}
+use Rattle.dma_arena.specs.Block.{Block}
 use Rattle.nic_device.specs.declared.Config.{Config}
 use Rattle.nic_device.specs.declared.Reply.{Reply}
 use Rattle.script_asm.specs.Listing.{Listing}
 use Rattle.script_asm.specs.Machine.{machine_at, machine_step}
 use Rattle.script_asm.specs.MachineState.{MachineState}
 use Rattle.script_asm.specs.declared.StepAnswer.{StepAnswer}
-use Rattle.script_asm.specs.declared.StepAnswer.TheVariants.{Made, Stopped}
+use Rattle.script_asm.specs.declared.StepAnswer.TheVariants.{Made, NoBlock, Stopped}
 use Rattle.bench.specs.Reply.{reply_text}
 
 -- the number of an instruction, and what the device replied to its event
-abbrev pub reply_line : ℕ → Reply → List ℕ
+abbrev pub reply_line : ℕ → Reply Block → List ℕ
 reply_line pc reply = decimal pc ++ (codes " " ++ (reply_text reply ++ codes "\n"))
+
+-- the number of an instruction whose block wasn't there to lend
+abbrev pub no_block_line : ℕ → List ℕ
+no_block_line pc = decimal pc ++ codes " no block\n"
 
 -- the line of a step that was made at an instruction
 abbrev pub answer_text : ℕ → StepAnswer → List ℕ
 answer_text pc (Made reply) = reply_line pc reply
+answer_text pc NoBlock = no_block_line pc
 answer_text pc Stopped = []
 
 -- the line of the step that a machine makes next

@@ -14,6 +14,7 @@ mod script_run;
 mod steps;
 #[cfg(test)]
 mod tests;
+mod words;
 
 pub use failure::Failure;
 pub use input::{InputFault, read_input};

@@ -36,6 +36,8 @@ impl fmt::Display for Refusal {
             Refusal::Input => write!(f, "Input"),
             Refusal::Script(ScriptFault::Syntax(line)) => write!(f, "Syntax {line}"),
             Refusal::Script(ScriptFault::UnknownName(line)) => write!(f, "UnknownName {line}"),
+            Refusal::Script(ScriptFault::UnknownLabel(line)) => write!(f, "UnknownLabel {line}"),
+            Refusal::Script(ScriptFault::TwoLabels(line)) => write!(f, "TwoLabels {line}"),
             Refusal::Script(ScriptFault::Range(line)) => write!(f, "Range {line}"),
             Refusal::TooManyVfs => write!(f, "TooManyVfs"),
             Refusal::Fifo => write!(f, "Fifo"),

@@ -3,16 +3,16 @@ ghost use Rattle.std.specs.Prelude.{◌≡◌, ◌≢◌, Err, IfOk, OnErr, OnOk
 ghost use Rattle.std.specs.Io.KnownBytes.{Appends};
 ghost use Rattle.script_asm.specs.Machine.{machine_at, start_of};
 ghost use Rattle.bench.specs.Run.{Writes, WritesBeginning, end_of, machine_answer};
-ghost use Rattle.bench.specs.Steps.{reply_line, steps_text};
+ghost use Rattle.bench.specs.Steps.{answer_text, reply_line, steps_text};
 
 use crate::failure::Failure;
 use crate::reply::ReplyText;
-use nic_device::Reply;
+use nic_device::ReplyNote;
 use script_asm::{Machine, Status, StepAnswer};
 use std::io::Write;
 
 /// Writes the line of a reply to the event of an instruction.
-fn write_reply<W: Write>(writer: &mut W, pc: u16, reply: &Reply) -> Result<(), Failure>
+fn write_reply<W: Write>(writer: &mut W, pc: u16, reply: &ReplyNote) -> Result<(), Failure>
     ensures ok { OnOk result (Appends (W.contents writer.old) (W.contents writer.new)
         (reply_line pc reply.now)) }
     ensures err { OnErr result (result ≡ Err Failure.Write) }
@@ -21,6 +21,22 @@ fn write_reply<W: Write>(writer: &mut W, pc: u16, reply: &Reply) -> Result<(), F
     match write!(writer, "{pc} {reply}\n") {
         Ok(()) => Ok(()),
         Err(_) => Err(Failure::Write),
+    }
+}
+
+/// Writes the line of a step that was made at an instruction; nothing of a machine that has stopped.
+fn write_answer<W: Write>(writer: &mut W, pc: u16, answer: &StepAnswer) -> Result<(), Failure>
+    ensures ok { OnOk result (Appends (W.contents writer.old) (W.contents writer.new)
+        (answer_text pc answer.now)) }
+    ensures err { OnErr result (result ≡ Err Failure.Write) }
+{
+    match answer {
+        StepAnswer::Made(reply) => write_reply(writer, pc, reply),
+        StepAnswer::NoBlock => match write!(writer, "{pc} no block\n") {
+            Ok(()) => Ok(()),
+            Err(_) => Err(Failure::Write),
+        },
+        StepAnswer::Stopped => Ok(()),
     }
 }
 
@@ -38,8 +54,8 @@ fn write_steps<W: Write>(machine: &mut Machine, limit: u64, writer: &mut W) -> R
     for _ in 0..limit {
         let pc = machine.pc();
         match machine.step() {
-            Ok(StepAnswer::Made(reply)) => write_reply(writer, pc, &reply)?,
             Ok(StepAnswer::Stopped) => return Ok(()),
+            Ok(answer) => write_answer(writer, pc, &answer)?,
             Err(_) => return Err(Failure::OutOfMemory),
         }
     }

@@ -1,7 +1,7 @@
 //! `nicbench`: the program over standard input and standard output.
 #![tactic(auto)]
 
-use bench::{Outcome, bench};
+use bench::{Outcome, Refusal, bench};
 use std::env;
 use std::io::{self, BufWriter, ErrorKind, Write};
 use std::process::ExitCode;
@@ -19,12 +19,20 @@ fn main(rt: HostRuntime) -> ExitCode {
     let status = match run(&rt) {
         Ok(status) => status,
         Err(error) => match error.kind() {
-            ErrorKind::OutOfMemory => NO_MEMORY,
+            ErrorKind::OutOfMemory => refused_for_memory(&rt),
             ErrorKind::InvalidData => REFUSED_WORDS,
             _ => FAILED,
         },
     };
     ExitCode::from(status)
+}
+
+/// Says that there is no memory for the words or the writer, and gives the status.
+fn refused_for_memory(rt: &HostRuntime) -> u8 {
+    match println!(rt; "refused {}", Refusal::OutOfMemory) {
+        Ok(()) => NO_MEMORY,
+        Err(_) => FAILED,
+    }
 }
 
 /// Runs the bench on the process's words, standard input and standard output, and gives its status.

@@ -7,7 +7,14 @@ use bench::{Outcome, bench};
 use std::{fs, io};
 
 /// The scripts, each with the status that its run ends with.
-const EXAMPLES: [(&str, u8); 4] = [("first", 0), ("masks", 0), ("aliases", 0), ("fault", 2)];
+const EXAMPLES: [(&str, u8); 6] = [
+    ("first", 0),
+    ("masks", 0),
+    ("aliases", 0),
+    ("receive", 0),
+    ("send", 0),
+    ("fault", 2),
+];
 
 /// Whether the run of a script writes what stands beside it, and ends with this status.
 fn is_as_written(rt: &HostRuntime, name: &str, status: u8) -> io::Result<bool> {

@@ -133,7 +133,7 @@ fn faults(rt: HostRuntime) {
             "r A23456789012345678901234567890__33",
             "refused UnknownName 1\n",
         ),
-        ("rx\n", "refused Syntax 1\n"),
+        ("int pf\n", "refused Syntax 1\n"),
     ] {
         expect(&rt, rt.alloc(), &RUN, script, written, 2);
     }

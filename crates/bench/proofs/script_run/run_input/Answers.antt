@@ -1,4 +1,3 @@
-use Rattle.std.proofs.Common.{rules}
 use Rattle.bench.proofs.Inputs.{run_answer-bytes, run_answer-text}
 use Rattle.bench.proofs.script_run.run_input.Goals as goal
 

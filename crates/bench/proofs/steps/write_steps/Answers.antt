@@ -1,5 +1,5 @@
 use Rattle.std.proofs.Common.{arith, sym, ◌∙◌}
-use Rattle.bench.proofs.StepsText.{next-steps, no-steps, reply-written, stopped-state, stopped-text}
+use Rattle.bench.proofs.StepsText.{answer-written, next-steps, no-steps, steps-begun, stopped-state, stopped-text}
 use Rattle.bench.proofs.steps.write_steps.Goals as goal
 
 pub loop-init : goal.loop-init
@@ -14,7 +14,10 @@ returns-in-Ok-Stopped-clause-state g c =
     stopped-state _ _ _ _ c.loop.counter c.args.limit c.loop.invariant c.step.new.self c.in-Ok-Stopped.ensures.state
     (sym c.in-Ok-Stopped.ensures.answer ∙ c.in-Ok-Stopped.field-0-is) (omega arith)
 
+pub returns-in-Err-clause-begun : goal.returns-in-Err-clause-begun
+returns-in-Err-clause-begun g c = λ _. steps-begun _ _ _ _ c.loop.counter c.args.limit c.loop.invariant (omega arith)
+
 pub loop-preserved : goal.loop-preserved
 loop-preserved g c =
-    next-steps _ _ _ _ c.loop.counter c.args.limit c.loop.invariant _ c.step.new.self c.in-Ok-Made.ensures.state
-    (reply-written _ _ _ _ _ _ c.pc-pc.ensures (sym c.in-Ok-Made.ensures.answer ∙ c.in-Ok-Made.field-0-is) c.in_ok-write_reply-in-Ok-Made.ensures.ok)
+    next-steps _ _ _ _ c.loop.counter c.args.limit c.loop.invariant _ c.step.new.self c.in-Ok.ensures.state
+    (answer-written _ _ _ _ _ _ c.pc-pc.ensures c.in-Ok.ensures.answer c.in_ok-write_answer-in-Ok.ensures.ok)

@@ -12,8 +12,6 @@ mod refusal;
 mod reply;
 mod script_run;
 mod steps;
-#[cfg(test)]
-mod tests;
 mod words;
 
 pub use failure::Failure;

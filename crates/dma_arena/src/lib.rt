@@ -23,6 +23,3 @@ pub use arena::{Arena, ArenaFault, BLOCK_NUMBERS, SplitFault, SplitRefused};
 pub use buf::{BLOCK_BYTES, Buf};
 pub use lent::{LendRefused, LentMemory};
 pub use octets::Octets;
-
-#[cfg(test)]
-mod tests;

@@ -20,6 +20,3 @@ pub use laws::available_slots_follow_the_head;
 pub use receive::{buffer_address, done_word};
 pub use ring::{DESCRIPTOR_BYTES, Ring};
 pub use transmit::{Command, command_in, done};
-
-#[cfg(test)]
-mod tests;

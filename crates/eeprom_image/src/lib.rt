@@ -22,6 +22,3 @@ pub use file::{LoadFault, load};
 pub use image::Image;
 pub use text::{AsmFault, assemble, one_image};
 pub use triples::Triples;
-
-#[cfg(test)]
-mod tests;

@@ -10,8 +10,6 @@ mod bit_set;
 mod causes;
 mod group;
 pub mod laws;
-#[cfg(test)]
-mod tests;
 
 pub use causes::Causes;
 pub use group::Group;

@@ -15,6 +15,3 @@ pub use lines::{Line, Lines};
 pub use names::{NAME_LIMIT, is_name};
 pub use numbers::{NumberFault, number};
 pub use words::Words;
-
-#[cfg(test)]
-mod tests;

@@ -19,8 +19,6 @@ mod link;
 mod receive;
 mod runs;
 mod switching;
-#[cfg(test)]
-mod tests;
 mod transmit;
 mod waiting;
 

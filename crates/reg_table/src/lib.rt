@@ -17,8 +17,6 @@ mod row;
 mod rows;
 mod run;
 mod runs;
-#[cfg(test)]
-mod tests;
 
 pub use kind::Kind;
 pub use laws::{

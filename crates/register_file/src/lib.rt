@@ -25,6 +25,3 @@ pub use laws::{
     switched_side_is_as_wanted, write_leaves_other_queues, write_leaves_other_words,
 };
 pub use register_file::{QUEUES, RegisterFile};
-
-#[cfg(test)]
-mod tests;

@@ -20,6 +20,3 @@ pub use key::Key;
 pub use mrqc::{QueueMode, RssFields};
 pub use redirection::entry;
 pub use toeplitz::{hash, hash_bits_are_parities, hash_ignores_trailing_zeros, hash_is_linear};
-
-#[cfg(test)]
-mod tests;

@@ -18,6 +18,3 @@ pub use dma_ring::{Ring, RingFault};
 pub use filled::Filled;
 pub use item::Item;
 pub use slot::fill;
-
-#[cfg(test)]
-mod tests;

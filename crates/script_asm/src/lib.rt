@@ -28,6 +28,3 @@ pub use laws::{
 };
 pub use machine::{Machine, NewRefused, OutOfMemory, Status, StepAnswer};
 pub use programs::{DATA_BYTES, DATA_LIMIT, INSTRUCTION_LIMIT, Program};
-
-#[cfg(test)]
-mod tests;

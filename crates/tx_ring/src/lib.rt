@@ -22,6 +22,3 @@ pub use refused::TxRefused;
 pub use slot::fetch;
 pub use staged::Staged;
 pub use tx::Tx;
-
-#[cfg(test)]
-mod tests;

@@ -1,0 +1,5 @@
+//! Whole runs that a table can't show: long texts, and reads and writes that fail.
+
+mod fakes;
+mod input;
+mod sizes;

@@ -4,10 +4,9 @@ use Rattle.std.specs.Io.KnownBytes.{Appends}
 use Rattle.clap.specs.Words.{HasKind, IsAmong, Kinds, kind_of}
 use Rattle.clap.specs.declared.error.Error.{Error}
 use Rattle.clap.specs.declared.error.ErrorKind.{ErrorKind}
-use Rattle.command_line.specs.declared.RunOptions.{RunOptions}
+use Rattle.bench.specs.Answer.{Answer}
 use Rattle.bench.specs.Ending.{HasStatusOf, StopsForMemory, words_status}
 use Rattle.bench.specs.Refusal.{refusal_line}
-use Rattle.bench.specs.Run.{run_answer}
 use Rattle.bench.specs.declared.refusal.Refusal.TheVariants as refusal
 
 HasStatusOf-among : (kinds : Kinds) (k : ErrorKind) (status : ℕ) → status ≡ words_status k → IsAmong k kinds → HasStatusOf kinds status
@@ -22,8 +21,8 @@ status-of-kinds kinds e status is (inl memory) = inr (inl (is ∙ ap words_statu
 status-of-kinds kinds e status is (inr among) = inl (HasStatusOf-among kinds (kind_of e) status is among)
 
 -- want of memory, before anything is read
-pub no-memory-for-words : (remaining old new : Option (List ℕ)) (options : RunOptions) → Appends old new (refusal_line refusal.OutOfMemory)
-    → IfSome remaining (λ input. StopsForMemory old new (run_answer options input).text)
-no-memory-for-words None old new options written = tt
-no-memory-for-words (Some input) old new options written =
-    record { beginning = []; rest = (run_answer options input).text; written = written; whole = refl }
+pub no-memory-for-words : (remaining old new : Option (List ℕ)) (answer : List ℕ → Answer) → Appends old new (refusal_line refusal.OutOfMemory)
+    → IfSome remaining (λ input. StopsForMemory old new (answer input).text)
+no-memory-for-words None old new answer written = tt
+no-memory-for-words (Some input) old new answer written =
+    record { beginning = []; rest = (answer input).text; written = written; whole = refl }

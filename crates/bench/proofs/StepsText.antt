@@ -9,7 +9,8 @@ use Rattle.script_asm.specs.MachineState.{MachineState}
 use Rattle.script_asm.specs.declared.Instruction.{Instruction}
 use Rattle.script_asm.specs.declared.StepAnswer.{StepAnswer}
 use Rattle.script_asm.specs.declared.StepAnswer.TheVariants.{Stopped}
-use Rattle.bench.specs.Run.{WritesBeginning}
+use Rattle.bench.specs.Answer.{WritesBeginning}
+use Rattle.bench.proofs.Appending.{Appends-both, Appends-none}
 use Rattle.bench.specs.Steps.{answer_text, step_text, steps_text}
 
 either-goes : (which : Bool) (a b : Step) → (a.answer ≡ Stopped → ⊥) → (b.answer ≡ Stopped → ⊥) → (if which then a else b).answer ≡ Stopped → ⊥
@@ -55,16 +56,6 @@ unfolding steps_text rest_of
 steps_text-rest p c k zero = append-nil (steps_text p c k) ∙ ap (steps_text p c) (sym (add-zero k))
 steps_text-rest p c k (suc d) = sym (append_assoc (steps_text p c k) (rest_of p c k d) (step_text p (machine_at p c (k + d))))
     ∙ ap (λ t. t ++ step_text p (machine_at p c (k + d))) (steps_text-rest p c k d) ∙ ap (steps_text p c) (sym (add-suc k d))
-
-Appends-both : (a b c : Option (List ℕ)) (x y : List ℕ) → Appends a b x → Appends b c y → Appends a c (x ++ y)
-Appends-both None b c x y first second = tt
-Appends-both (Some p) None c x y first second = absurd first
-Appends-both (Some p) (Some q) None x y first second = absurd second
-Appends-both (Some p) (Some q) (Some r) x y first second = second ∙ ap (λ t. t ++ y) first ∙ append_assoc p x y
-
-Appends-none : (a : Option (List ℕ)) → Appends a a []
-Appends-none None = tt
-Appends-none (Some p) = sym (append-nil p)
 
 -- a machine that has made k steps, whose lines are written
 pub record AfterSteps (old new : Option (List ℕ)) (start now : Course) (k : ℕ) : Type 0 where

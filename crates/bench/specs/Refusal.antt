@@ -19,6 +19,7 @@ fault_text fault.OutOfMemory = codes "OutOfMemory"
 abbrev pub refusal_text : Refusal → List ℕ
 refusal_text refusal.TooLong = codes "TooLong"
 refusal_text refusal.Input = codes "Input"
+refusal_text (refusal.Syntax line) = codes "Syntax " ++ decimal line
 refusal_text (refusal.Script fault) = fault_text fault
 refusal_text refusal.TooManyVfs = codes "TooManyVfs"
 refusal_text refusal.Fifo = codes "Fifo"

@@ -1,19 +1,23 @@
 //! The program, from words to a status.
-ghost use Rattle.std.specs.Prelude.{◌≡◌, ◌≢◌, [], map, Err, IfOk, OnErr};
+ghost use Rattle.std.specs.Prelude.{◌≡◌, ◌≢◌, [], map, Err, IfOk, IfSome, OnErr};
 ghost use Rattle.std.specs.Io.KnownBytes.{Appends};
 ghost use Rattle.clap.specs.Words.{fault_of, kind_of};
-ghost use Rattle.command_line.specs.Asked.{AsksRun};
+ghost use Rattle.command_line.specs.Asked.{AsksHash, AsksRun};
 ghost use Rattle.command_line.specs.Commands.{nicbench_app};
 ghost use Rattle.command_line.specs.declared.RunOptions.{RunOptions};
-ghost use Rattle.bench.specs.Ending.{EndsRun, EndsWords, words_status};
+ghost use Rattle.bench.specs.Answer.{Writes, WritesBeginning};
+ghost use Rattle.bench.specs.Ending.{EndsAs, EndsWords, answer_to, words_status};
+ghost use Rattle.bench.specs.Hash.{hash_answer};
 ghost use Rattle.bench.specs.Refusal.{refusal_line};
+ghost use Rattle.bench.specs.Run.{run_answer};
 
 use crate::failure::Failure;
+use crate::hashing::hash_lines;
 use crate::refusal::{Refusal, write_refusal};
 use crate::script_run::run;
 use clap::Error;
 use clap::error::ErrorKind;
-use command_line::{RunOptions, asked_run};
+use command_line::{Request, asked};
 use std::alloc::Global;
 use std::convert::AsStr;
 use std::io::{Read, Write};
@@ -27,17 +31,38 @@ pub enum Outcome {
     Ended(u8),
 }
 
-/// Runs what is read, and gives the status.
-fn run_to_end<R: Read, W: Write>(
+/// Reads what the words ask for, and writes the answer. What is ensured is what `run` and
+/// `hash_lines` ensure.
+fn answer<R: Read, W: Write>(
     alloc: Global,
     reader: &mut R,
     writer: &mut W,
-    options: RunOptions,
-) -> Outcome
-    ensures { EndsRun (R.remaining reader.old) (W.contents writer.old) (W.contents writer.new)
-        options result }
+    request: Request,
+) -> Result<u8, Failure>
+    ensures ok { IfOk result (λ status. IfSome (R.remaining reader.old) (λ input.
+        Writes (W.contents writer.old) (W.contents writer.new) (answer_to request input) status)) }
+    ensures begun { result ≡ Err Failure.OutOfMemory → IfSome (R.remaining reader.old) (λ input.
+        WritesBeginning (W.contents writer.old) (W.contents writer.new)
+        (answer_to request input).text) }
+    ensures unread { result ≡ Err Failure.Read → writer.new ≡ writer.old }
 {
-    let written = match run(alloc, reader, writer, options) {
+    match request {
+        Request::Run(options) => run(alloc, reader, writer, options),
+        Request::Hash => hash_lines(alloc, reader, writer),
+    }
+}
+
+/// Answers what is read, and gives the status.
+fn answer_to_end<R: Read, W: Write>(
+    alloc: Global,
+    reader: &mut R,
+    writer: &mut W,
+    request: Request,
+) -> Outcome
+    ensures { EndsAs (answer_to request) (R.remaining reader.old) (W.contents writer.old)
+        (W.contents writer.new) result }
+{
+    let written = match answer(alloc, reader, writer, request) {
         Ok(status) => Ok(status),
         Err(Failure::Read) => write_refusal(writer, &Refusal::Input),
         Err(Failure::Write) => Err(Failure::Write),
@@ -88,14 +113,17 @@ pub fn bench<'a, R: Read, W: Write, S: AsStr>(
     words: &'a [S],
 ) -> Outcome
     ensures run { (options : RunOptions) → AsksRun (map S.text words.entry.now) options
-        → EndsRun (R.remaining reader.old) (W.contents writer.old) (W.contents writer.new)
-        options result }
+        → EndsAs (run_answer options) (R.remaining reader.old) (W.contents writer.old)
+        (W.contents writer.new) result }
+    ensures hash { AsksHash (map S.text words.entry.now)
+        → EndsAs hash_answer (R.remaining reader.old) (W.contents writer.old)
+        (W.contents writer.new) result }
     ensures words { fault_of nicbench_app (map S.text words.entry.now) ≢ []
         → EndsWords (fault_of nicbench_app (map S.text words.entry.now)) result
         × (reader.new ≡ reader.old) }
 {
-    match asked_run(alloc, words) {
-        Ok(options) => run_to_end(alloc, reader, writer, options),
+    match asked(alloc, words) {
+        Ok(request) => answer_to_end(alloc, reader, writer, request),
         Err(error) => match write_words(writer, &error) {
             Ok(status) => Outcome::Ended(status),
             Err(_) => Outcome::Ended(2),

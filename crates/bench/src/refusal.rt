@@ -1,7 +1,7 @@
 //! Why an input, or what the words ask for, is refused.
 ghost use Rattle.std.specs.Prelude.{◌≡◌, Err, IfOk, OnErr, Some};
 ghost use Rattle.bench.specs.Refusal.{refusal_status};
-ghost use Rattle.bench.specs.Run.{Writes, refused};
+ghost use Rattle.bench.specs.Answer.{Writes, refused};
 
 use crate::failure::Failure;
 use script_asm::ScriptFault;
@@ -15,6 +15,8 @@ pub enum Refusal {
     TooLong,
     /// A read failed or came to no end, or the bytes aren't text.
     Input,
+    /// The line of this number, from 1 on, isn't of the form of its text.
+    Syntax(usize),
     /// The text is no script.
     Script(ScriptFault),
     /// The controller can't have so many virtual functions.
@@ -34,7 +36,9 @@ impl fmt::Display for Refusal {
         match self {
             Refusal::TooLong | Refusal::Script(ScriptFault::TooLong) => write!(f, "TooLong"),
             Refusal::Input => write!(f, "Input"),
-            Refusal::Script(ScriptFault::Syntax(line)) => write!(f, "Syntax {line}"),
+            Refusal::Syntax(line) | Refusal::Script(ScriptFault::Syntax(line)) => {
+                write!(f, "Syntax {line}")
+            }
             Refusal::Script(ScriptFault::UnknownName(line)) => write!(f, "UnknownName {line}"),
             Refusal::Script(ScriptFault::UnknownLabel(line)) => write!(f, "UnknownLabel {line}"),
             Refusal::Script(ScriptFault::TwoLabels(line)) => write!(f, "TwoLabels {line}"),

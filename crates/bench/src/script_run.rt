@@ -1,19 +1,17 @@
 //! What `nicbench run` makes of what it reads.
-ghost use Rattle.std.specs.Prelude.{◌≡◌, ◌≢◌, ◌≤◌, Err, IfOk, IfSome, length};
-ghost use Rattle.script_asm.specs.Script.{program_of};
-ghost use Rattle.bench.specs.Run.{Writes, WritesBeginning, program_answer, run_answer};
-ghost use Rattle.bench.specs.Run.{script_answer};
+ghost use Rattle.std.specs.Prelude.{◌≡◌, ◌≢◌, Err, IfOk, IfSome};
+ghost use Rattle.bench.specs.Answer.{Writes, WritesBeginning};
+ghost use Rattle.bench.specs.Run.{program_answer, run_answer, text_answer};
 
 use crate::failure::Failure;
-use crate::input::{InputFault, read_input};
 use crate::refusal::{Refusal, write_refusal};
 use crate::steps::run_machine;
+use crate::text::{NoText, read_text};
 use command_line::RunOptions;
 use nic_device::{Config, NewFault};
 use script_asm::{Machine, Program, ScriptFault, assemble};
 use std::alloc::Global;
 use std::io::{Read, Write};
-use std::str;
 
 /// Runs a program on a new controller.
 fn run_program<W: Write>(
@@ -54,35 +52,15 @@ fn run_script<W: Write>(
     writer: &mut W,
 ) -> Result<u8, Failure>
     ensures ok { IfOk result (Writes (W.contents writer.old) (W.contents writer.new)
-        (script_answer options (program_of text.now))) }
+        (text_answer options text.now)) }
     ensures begun { result ≡ Err Failure.OutOfMemory → WritesBeginning (W.contents writer.old)
-        (W.contents writer.new) (script_answer options (program_of text.now)).text }
+        (W.contents writer.new) (text_answer options text.now).text }
     ensures read { result ≢ Err Failure.Read }
 {
     match assemble(alloc, text) {
         Ok(program) => run_program(alloc, program, options, writer),
         Err(ScriptFault::OutOfMemory) => Err(Failure::OutOfMemory),
         Err(fault) => write_refusal(writer, &Refusal::Script(fault)),
-    }
-}
-
-/// Runs the bytes that are read.
-fn run_input<W: Write>(
-    alloc: Global,
-    input: &[u8],
-    options: RunOptions,
-    writer: &mut W,
-) -> Result<u8, Failure>
-    requires { length input.now ≤ 8388608 }
-    ensures ok { IfOk result (Writes (W.contents writer.old) (W.contents writer.new)
-        (run_answer options input.now)) }
-    ensures begun { result ≡ Err Failure.OutOfMemory → WritesBeginning (W.contents writer.old)
-        (W.contents writer.new) (run_answer options input.now).text }
-    ensures read { result ≢ Err Failure.Read }
-{
-    match str::from_utf8(input) {
-        Ok(text) => run_script(alloc, text, options, writer),
-        Err(_) => write_refusal(writer, &Refusal::Input),
     }
 }
 
@@ -103,10 +81,9 @@ pub fn run<R: Read, W: Write>(
         (run_answer options input).text) }
     ensures unread { result ≡ Err Failure.Read → writer.new ≡ writer.old }
 {
-    match read_input(alloc, reader) {
-        Ok(input) => run_input(alloc, &input, options, writer),
-        Err(InputFault::TooLong) => write_refusal(writer, &Refusal::TooLong),
-        Err(InputFault::Failed | InputFault::Endless) => Err(Failure::Read),
-        Err(InputFault::OutOfMemory) => Err(Failure::OutOfMemory),
+    match read_text(alloc, reader) {
+        Ok(text) => run_script(alloc, text.as_str(), options, writer),
+        Err(NoText::Refused(refusal)) => write_refusal(writer, &refusal),
+        Err(NoText::Failed(failure)) => Err(failure),
     }
 }

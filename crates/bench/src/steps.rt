@@ -2,7 +2,8 @@
 ghost use Rattle.std.specs.Prelude.{◌≡◌, ◌≢◌, Err, IfOk, OnErr, OnOk};
 ghost use Rattle.std.specs.Io.KnownBytes.{Appends};
 ghost use Rattle.script_asm.specs.Machine.{machine_at, start_of};
-ghost use Rattle.bench.specs.Run.{Writes, WritesBeginning, end_of, machine_answer};
+ghost use Rattle.bench.specs.Answer.{Writes, WritesBeginning};
+ghost use Rattle.bench.specs.Run.{end_of, machine_answer};
 ghost use Rattle.bench.specs.Steps.{answer_text, reply_line, steps_text};
 
 use crate::failure::Failure;

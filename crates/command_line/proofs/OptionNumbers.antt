@@ -1,5 +1,5 @@
 -- What `get_one` makes of an option that takes a number.
-use Rattle.std.proofs.Common.{rules, ap, refl, sym, ℕ, ◌≡◌, ◌∙◌, ◌<◌, ◌^◌, ◌&&◌, Bool, true, false, List, [], ◌∷◌, Option, Some, None, Result, Ok, Err, length, unwrap_or, nat_lt}
+use Rattle.std.proofs.Common.{ap, refl, sym, ℕ, ◌≡◌, ◌<◌, ◌^◌, Bool, true, false, List, [], ◌∷◌, Option, Some, None, Result, length, unwrap_or, nat_lt}
 use Rattle.std.specs.List.{list_all}
 use Rattle.std.specs.Option.{option_map_or}
 use Rattle.std.specs.Char.{digit_value}

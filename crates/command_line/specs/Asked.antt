@@ -36,3 +36,9 @@ pub record AsksRun (words : List Text) (options : RunOptions) : Type 0 where
   pub matches : List Row
   pub command : subcommand_of nicbench_app words ≡ Some (codes "run", matches)
   pub says : options ≡ options_of matches
+
+-- the words parse to `hash`
+pub record AsksHash (words : List Text) : Type 0 where
+  pub taken : takes nicbench_app words ≡ true
+  pub matches : List Row
+  pub command : subcommand_of nicbench_app words ≡ Some (codes "hash", matches)

@@ -26,12 +26,16 @@ limit_rule = number_rule (codes "limit") (parser.Unsigned 0 (2 ^ 64 - 1)) (codes
 abbrev pub run_app : App
 run_app = with_rule (with_rule (with_rule (new_app (codes "run")) vfs_rule) fifo_rule) limit_rule
 
+-- `hash`, which has no options
+abbrev pub hash_app : App
+hash_app = new_app (codes "hash")
+
 -- `nicbench`, which takes a command and has a version
 abbrev pub nicbench_app : App
-nicbench_app = let a = new_app (codes "nicbench") in with_subcommand (record a {
+nicbench_app = let a = new_app (codes "nicbench") in with_subcommand (with_subcommand (record a {
   top = record a.top {
     has_version = true;
     subcommand_required = true;
     arg_required_else_help = true;
   };
-}) run_app.top
+}) run_app.top) hash_app.top

@@ -2,7 +2,8 @@
 ghost use Rattle.std.specs.Prelude.{◌≡◌, IfErr, IfOk, false};
 ghost use Rattle.clap.specs.Words.{app_of, kind_of, rule_of};
 ghost use Rattle.clap.specs.declared.builder.command.Command.TheViews.{out-Command as fields_of};
-ghost use Rattle.command_line.specs.Commands.{fifo_rule, limit_rule, nicbench_app, run_app, vfs_rule};
+ghost use Rattle.command_line.specs.Commands.{fifo_rule, hash_app, limit_rule, nicbench_app, run_app};
+ghost use Rattle.command_line.specs.Commands.{vfs_rule};
 
 use clap::error::ErrorKind;
 use clap::{Arg, Command, Error, value_parser};
@@ -57,6 +58,15 @@ fn run<'a>(alloc: Global) -> Result<Command<'a>, Error>
     Ok(run)
 }
 
+fn hash<'a>(alloc: Global) -> Command<'a>
+    ensures app { app_of result ≡ hash_app }
+    ensures local { (fields_of result).has_globals ≡ false }
+{
+    Command::new(alloc, "hash").about(
+        "Prints the RSS hash of each line of hex on standard input, under the key on its first line",
+    )
+}
+
 pub(crate) fn nicbench<'a>(alloc: Global) -> Result<Command<'a>, Error>
     ensures ok { IfOk result (λ c. app_of c ≡ nicbench_app) }
     ensures err { IfErr result (λ e. kind_of e ≡ ErrorKind.OutOfMemory) }
@@ -66,6 +76,7 @@ pub(crate) fn nicbench<'a>(alloc: Global) -> Result<Command<'a>, Error>
         .about("A bench for the registers of the Intel 82599 Ethernet controller")
         .subcommand_required(true)
         .arg_required_else_help(true)
-        .subcommand(run(alloc)?)?;
+        .subcommand(run(alloc)?)?
+        .subcommand(hash(alloc))?;
     Ok(nicbench)
 }

@@ -2,7 +2,7 @@
 ghost use Rattle.std.specs.Prelude.{◌≡◌, [], ◌∷◌, codes};
 ghost use Rattle.clap.specs.Words.{fault_of};
 ghost use Rattle.clap.specs.declared.error.ErrorKind.TheVariants as kind;
-ghost use Rattle.command_line.specs.Asked.{AsksRun};
+ghost use Rattle.command_line.specs.Asked.{AsksHash, AsksRun};
 ghost use Rattle.command_line.specs.Commands.{nicbench_app};
 
 /// `nicbench run` asks for no virtual function, for 64 frames and for 100,000 instructions at most.
@@ -18,7 +18,13 @@ pub fn run_with_options()
         (record { vfs = 63; fifo = 4096; limit = 5 }) }
 {}
 
-/// A number beyond the option's type, an option twice, a further word and no word are refused.
+/// `nicbench hash` asks for hashes.
+pub fn hash_alone()
+    ensures { AsksHash (codes "nicbench" ∷ codes "hash" ∷ []) }
+{}
+
+/// A number beyond the option's type, an option twice, a further word behind either command and no word are
+/// refused.
 pub fn refused_words()
     ensures beyond { fault_of nicbench_app (codes "nicbench" ∷ codes "run" ∷ codes "--vfs"
         ∷ codes "256" ∷ []) ≡ kind.ValueValidation ∷ [] }
@@ -26,6 +32,8 @@ pub fn refused_words()
         ∷ codes "--vfs=1" ∷ []) ≡ kind.ArgumentConflict ∷ [] }
     ensures further { fault_of nicbench_app (codes "nicbench" ∷ codes "run" ∷ codes "script.nic"
         ∷ []) ≡ kind.UnknownArgument ∷ [] }
+    ensures further_than_hash { fault_of nicbench_app (codes "nicbench" ∷ codes "hash"
+        ∷ codes "further" ∷ []) ≡ kind.UnknownArgument ∷ [] }
     ensures none { fault_of nicbench_app (codes "nicbench" ∷ [])
         ≡ kind.DisplayHelpOnMissingArgumentOrSubcommand ∷ [] }
 {}
@@ -36,6 +44,8 @@ pub fn shown_texts()
         ≡ kind.DisplayHelp ∷ [] }
     ensures help_of_run { fault_of nicbench_app (codes "nicbench" ∷ codes "run" ∷ codes "-h" ∷ [])
         ≡ kind.DisplayHelp ∷ [] }
+    ensures help_of_hash { fault_of nicbench_app (codes "nicbench" ∷ codes "hash" ∷ codes "--help"
+        ∷ []) ≡ kind.DisplayHelp ∷ [] }
     ensures version { fault_of nicbench_app (codes "nicbench" ∷ codes "-V" ∷ [])
         ≡ kind.DisplayVersion ∷ [] }
 {}

@@ -1,12 +1,13 @@
 //! From words to what they ask for.
 ghost use Rattle.std.specs.Prelude.{◌≡◌, ◌≢◌, IfErr, IfOk, IsErrAnd, [], map, true};
 ghost use Rattle.clap.specs.Words.{FailsBy, HasKind, HasMatchesOf, fault_of, kind_of, takes};
-ghost use Rattle.command_line.specs.Asked.{AsksRun};
+ghost use Rattle.command_line.specs.Asked.{AsksHash, AsksRun};
 ghost use Rattle.command_line.specs.Commands.{nicbench_app};
 ghost use Rattle.command_line.specs.declared.run_options.RunOptions.{RunOptions};
 
 use crate::commands::nicbench;
-use crate::run_options::{RunOptions, options_in};
+use crate::request::Request;
+use crate::run_options::options_in;
 use clap::error::ErrorKind;
 use clap::{ArgMatches, Error};
 use std::alloc::Global;
@@ -33,19 +34,27 @@ fn unknown_command(alloc: Global) -> Result<Error, Error>
     Ok(refusal)
 }
 
-/// What the words of `nicbench run` ask for, the program's own name first. An `Err` has the text for
-/// whoever wrote them: why they were refused, or the help or the version that they asked for.
-pub fn asked_run<'a, S: AsStr>(alloc: Global, words: &'a [S]) -> Result<RunOptions, Error>
-    ensures ok { (options : RunOptions) → AsksRun (map S.text words.entry.now) options
-        → IfOk result (λ asked. asked ≡ options) }
-    ensures err { (options : RunOptions) → AsksRun (map S.text words.entry.now) options
+/// What the words ask for, the program's own name first. An `Err` has the text for whoever wrote them:
+/// why they were refused, or the help or the version that they asked for.
+pub fn asked<'a, S: AsStr>(alloc: Global, words: &'a [S]) -> Result<Request, Error>
+    ensures run { (options : RunOptions) → AsksRun (map S.text words.entry.now) options
+        → IfOk result (λ request. request ≡ Request.Run options) }
+    ensures no_memory_for_run { (options : RunOptions)
+        → AsksRun (map S.text words.entry.now) options
+        → IfErr result (λ e. kind_of e ≡ ErrorKind.OutOfMemory) }
+    ensures hash { AsksHash (map S.text words.entry.now)
+        → IfOk result (λ request. request ≡ Request.Hash) }
+    ensures no_memory_for_hash { AsksHash (map S.text words.entry.now)
         → IfErr result (λ e. kind_of e ≡ ErrorKind.OutOfMemory) }
     ensures refused { fault_of nicbench_app (map S.text words.entry.now) ≢ []
         → IsErrAnd result (HasKind (fault_of nicbench_app (map S.text words.entry.now))) }
 {
     let matches = matches_in(alloc, words)?;
-    match matches.subcommand_matches("run") {
-        Some(run) => Ok(options_in(run)),
+    if let Some(run) = matches.subcommand_matches("run") {
+        return Ok(Request::Run(options_in(run)));
+    }
+    match matches.subcommand_matches("hash") {
+        Some(_) => Ok(Request::Hash),
         None => Err(unknown_command(alloc)?),
     }
 }

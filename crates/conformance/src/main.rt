@@ -1,4 +1,4 @@
-//! Runs tables of small scripts through the program, and says which of them don't print what the table says.
+//! Runs tables of small scripts and other inputs through the program, and says which don't print what the table says.
 //!
 //! A table is a file of `data/`. It begins with the lines that each of its scripts begins with. Behind them come its
 //! cases, a blank line before each:
@@ -28,14 +28,18 @@ use std::fmt::Write;
 use std::{fs, io};
 
 /// The tables.
-const TABLES: [&str; 7] = [
+const TABLES: [&str; 11] = [
     "grammar",
     "words",
     "registers",
     "memory",
     "queues",
+    "filter",
+    "sorting",
     "receive",
     "transmit",
+    "counters",
+    "hash",
 ];
 
 /// What a case is to end with.

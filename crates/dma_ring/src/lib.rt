@@ -17,6 +17,6 @@ mod transmit;
 pub use descriptor::{first_half, of_halves, second_half};
 pub use fault::RingFault;
 pub use laws::available_slots_follow_the_head;
-pub use receive::{buffer_address, done_word};
+pub use receive::{Packet, buffer_address, done_word, packet_word};
 pub use ring::{DESCRIPTOR_BYTES, Ring};
 pub use transmit::{Command, command_in, done};

@@ -7,6 +7,8 @@ const CTRL_EXT: u32 = 0x00018;
 
 const RXCTRL: u32 = 0x03000;
 
+const FCTRL: u32 = 0x05080;
+
 const DMATXCTL: u32 = 0x04A80;
 
 // queue 0
@@ -27,6 +29,9 @@ const TXDCTL: u32 = 0x06028;
 
 /// RXDCTL and TXDCTL: the side is wanted on.
 const ENABLE: u32 = 0x0200_0000;
+
+/// FCTRL: all frames to one and to several are let in.
+const PROMISCUOUS: u32 = 0x0000_0300;
 
 /// SRRCTL: one buffer a descriptor, of 2 KB or 1 KB; and a frame that finds no slot is dropped.
 const TWO_KILOBYTES: u32 = 0x0200_0002;
@@ -114,6 +119,7 @@ fn new_bench(rt: &(impl Abort + AllocGlobal), fifo: u16) -> Bench {
     let mut bench = Bench { device, arena };
     for (address, word) in [
         (RXCTRL, 1),
+        (FCTRL, PROMISCUOUS),
         (DMATXCTL, 1),
         (RDLEN, 128),
         (SRRCTL, TWO_KILOBYTES),

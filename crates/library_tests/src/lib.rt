@@ -27,4 +27,6 @@ mod registers;
 #[cfg(test)]
 mod rings;
 #[cfg(test)]
+mod sorting;
+#[cfg(test)]
 mod texts;

@@ -1,5 +1,5 @@
 use reg_table::{
-    Kind, Place, RowId, addr_of, count_of, kind_of, mask_of, name_of, place_of, reset_of,
+    Kind, Place, RowId, addr_of, bump, count_of, kind_of, mask_of, name_of, place_of, reset_of,
     row_named, view_of,
 };
 
@@ -34,7 +34,7 @@ macro_rules! case {
 
 /// Row, name, count, first and last address, and where they aren't all bits and 0: mask and word after a reset.
 #[rattlefmt::skip]
-static CASES: [Case; 52] = [
+static CASES: [Case; 60] = [
     case!(Ctrl,     "CTRL",        1, 0x00000, 0x00000, 0xFBFF_FFF7, 0),
     case!(Status,   "STATUS",      1, 0x00008, 0x00008),
     case!(CtrlExt,  "CTRL_EXT",    1, 0x00018, 0x00018),
@@ -53,9 +53,16 @@ static CASES: [Case; 52] = [
     case!(Srrctl,   "SRRCTL",    128, 0x01014, 0x0DFD4, 0xFFFF_FFFF, 0x0000_0402),
     case!(Rdt,      "RDT",       128, 0x01018, 0x0DFD8, 0x0000_FFFF, 0),
     case!(Rxdctl,   "RXDCTL",    128, 0x01028, 0x0DFE8, 0xFDFF_FFFF, 0),
+    case!(Qprc,     "QPRC",       16, 0x01030, 0x013F0),
+    case!(Qprdc,    "QPRDC",      16, 0x01430, 0x017F0),
     case!(Rqsmr,    "RQSMR",      32, 0x02300, 0x0237C),
     case!(Rdrxctl,  "RDRXCTL",     1, 0x02F00, 0x02F00, 0xFFFF_FFF7, 0x0000_0008),
     case!(Rxctrl,   "RXCTRL",      1, 0x03000, 0x03000),
+    case!(Mpc,      "MPC",         1, 0x03FA0, 0x03FA0),
+    case!(Gprc,     "GPRC",        1, 0x04074, 0x04074),
+    case!(Gptc,     "GPTC",        1, 0x04080, 0x04080),
+    case!(Ruc,      "RUC",         1, 0x040A4, 0x040A4),
+    case!(Roc,      "ROC",         1, 0x040AC, 0x040AC),
     case!(Hlreg0,   "HLREG0",      1, 0x04240, 0x04240, 0xFFFF_FFFF, 0x0000_0403),
     case!(Maxfrs,   "MAXFRS",      1, 0x04268, 0x04268, 0xFFFF_0000, 0x05EE_0000),
     case!(Autoc,    "AUTOC",       1, 0x042A0, 0x042A0),
@@ -81,6 +88,7 @@ static CASES: [Case; 52] = [
     case!(Txdctl,   "TXDCTL",    128, 0x06028, 0x07FE8, 0xFDFF_FFFF, 0),
     case!(Tdwbal,   "TDWBAL",    128, 0x06038, 0x07FF8, 0xFFFF_FFFD, 0),
     case!(Tdwbah,   "TDWBAH",    128, 0x0603C, 0x07FFC),
+    case!(Qptc,     "QPTC",       16, 0x06030, 0x063F0),
     case!(Mtqc,     "MTQC",        1, 0x08120, 0x08120),
     case!(Tqsm,     "TQSM",       32, 0x08600, 0x0867C),
     case!(Mpsar,    "MPSAR",     256, 0x0A600, 0x0A9FC),
@@ -94,6 +102,8 @@ fn kind_wanted(row: RowId) -> Kind {
     match row {
         RowId::Ctrl => Kind::Ctrl,
         RowId::Status | RowId::Links => Kind::Calc,
+        RowId::Qprc | RowId::Qprdc | RowId::Qptc | RowId::Mpc => Kind::Rc,
+        RowId::Gprc | RowId::Gptc | RowId::Ruc | RowId::Roc => Kind::Rc,
         RowId::Rdbal | RowId::Rdbah | RowId::Rdlen | RowId::Rdh => Kind::Held,
         RowId::Tdbal | RowId::Tdbah | RowId::Tdlen | RowId::Tdh => Kind::Held,
         RowId::Rxdctl | RowId::Txdctl => Kind::Enable,
@@ -256,5 +266,17 @@ fn a_name_is_a_rows_letter_by_letter(rt: HostRuntime) {
         "", "CTRL_", "EITR[0]", "EITRS", "EIT", "eitr", "Eitr", " EITR", "VT CTL", "NOSUCH",
     ] {
         assert_eq!(rt; row_named(name), None, "{name:?}");
+    }
+}
+
+#[test]
+fn a_counter_stays_at_its_largest_word(rt: HostRuntime) {
+    for (word, more) in [
+        (0, 1),
+        (0xFFFF_FFFD, 0xFFFF_FFFE),
+        (0xFFFF_FFFE, 0xFFFF_FFFF),
+        (0xFFFF_FFFF, 0xFFFF_FFFF),
+    ] {
+        assert_eq!(rt; bump(word), more);
     }
 }

@@ -33,7 +33,7 @@ fn at(rt: &impl Abort, address: u32) -> Place
 }
 
 fn read(rt: &impl Abort, registers: &RegisterFile, address: u32) -> u32 {
-    registers.read(true, at(rt, address))
+    registers.peek(true, at(rt, address))
 }
 
 fn write(rt: &impl Abort, registers: &mut RegisterFile, address: u32, word: u32) {
@@ -347,5 +347,37 @@ fn a_reset_gives_the_reset_values_and_wants_nothing_on(rt: HostRuntime) {
         (0x04A80, 0x8100_0000),
     ] {
         assert_eq!(rt; read(&rt, &registers, address), word, "{address:#x}");
+    }
+}
+
+#[test]
+fn a_counter_counts_and_a_read_starts_it_again(rt: HostRuntime) {
+    let mut registers = registers(&rt, rt.alloc());
+    for _ in 0..3 {
+        registers.count(RowId::Qprc, 15);
+    }
+    let place = at(&rt, 0x013F0);
+    assert_eq!(rt; registers.peek(true, place), 3);
+    assert_eq!(rt; registers.read(true, place), 3);
+    assert_eq!(rt; registers.read(true, place), 0);
+    write(&rt, &mut registers, 0x013F0, 7);
+    assert_eq!(rt; registers.peek(true, place), 0);
+}
+
+#[test]
+fn queues_count_where_their_mapping_says(rt: HostRuntime) {
+    let mut registers = registers(&rt, rt.alloc());
+    write(&rt, &mut registers, 0x02304, 0x0F3A_2100);
+    write(&rt, &mut registers, 0x0867C, 0x8000_0000);
+    for (dir, queue, counter) in [
+        (Dir::Rx, 0, 0),
+        (Dir::Rx, 4, 0),
+        (Dir::Rx, 5, 1),
+        (Dir::Rx, 6, 10),
+        (Dir::Rx, 7, 15),
+        (Dir::Tx, 7, 0),
+        (Dir::Tx, 127, 0),
+    ] {
+        assert_eq!(rt; registers.counter(dir, queue), counter, "{dir:?} {queue}");
     }
 }

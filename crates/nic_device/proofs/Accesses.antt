@@ -7,19 +7,25 @@ use Rattle.reg_table.specs.Place.{Names, place_among, view_among}
 use Rattle.reg_table.specs.declared.place.Place.{Place}
 use Rattle.reg_table.proofs.Finding.{found-named}
 use Rattle.reg_table.proofs.InRange.{named_in_range}
-use Rattle.register_file.specs.Access.{read_word, written, stored, asks_reset}
+use Rattle.reg_table.specs.declared.rows.RowId.TheVariants.{Gprc, Gptc, Qprc, Qprdc, Qptc}
+use Rattle.rx_ring.specs.declared.filled.Filled.{Filled}
+use Rattle.tx_ring.specs.declared.fetched.Fetched.{Fetched}
+use Rattle.register_file.specs.Access.{read_word, after_read, written, stored, asks_reset}
 use Rattle.register_file.specs.Bits.{merged}
+use Rattle.register_file.specs.Queue.{with_head}
 use Rattle.register_file.specs.Words.{word_at}
 use Rattle.register_file.specs.Registers.{Registers}
 use Rattle.register_file.specs.Laws.{HasShape}
 use Rattle.register_file.proofs.Puts.{word_at-put_other, word_at-reset}
-use Rattle.register_file.proofs.Shape.{HasShape-reset, HasShape-written, HasShape-with_head, HasShape-switched, HasShape-shut}
+use Rattle.register_file.proofs.Shape.{HasShape-reset, HasShape-written, HasShape-after_read, HasShape-counted, HasShape-with_head, HasShape-switched, HasShape-shut}
 use Rattle.register_file.proofs.Sides.{word_at-stored}
 use Rattle.register_file.specs.declared.dir.Dir.{Dir}
 use Rattle.register_file.specs.declared.dir.Dir.TheVariants.{Rx, Tx}
 use Rattle.nic_device.specs.State.{State, new_state, reset}
 use Rattle.nic_device.specs.Outcome.{Outcome, gives}
-use Rattle.nic_device.specs.Access.{place_read, place_written, state_written}
+use Rattle.nic_device.specs.Access.{place_read, place_written, state_read, state_written}
+use Rattle.nic_device.specs.Receive.{piece_counted}
+use Rattle.nic_device.specs.Transmit.{slot_counted}
 use Rattle.nic_device.specs.Switching.{side_switched}
 use Rattle.nic_device.specs.Step.{step_of}
 use Rattle.nic_device.specs.Run.{state_after}
@@ -37,7 +43,7 @@ Keeps o = HasShape o.state.registers
 
 HasShape-place_read : (s : State) (o : Option Place) (view : ℕ) → HasShape s.registers → Keeps (place_read s o view)
 HasShape-place_read s None view h = h
-HasShape-place_read s (Some p) view h = h
+HasShape-place_read s (Some p) view h = HasShape-after_read (row_of p.row).kind s.registers p h
 
 HasShape-place_written : (s : State) (o : Option Place) (view word : ℕ) → HasShape s.registers
     → Keeps (place_written s o view word)
@@ -52,7 +58,18 @@ HasShape-side_switched s dir queue h =
     either_way (λ (t : State). HasShape t.registers) _ _ _ (HasShape-switched s.registers dir queue h)
     (HasShape-switched s.registers dir queue h)
 
-HasShape-step : (s : State) (e : Event Block) → HasShape s.registers → Keeps (step_of s e)
+HasShape-piece : (r : Registers) (queue : ℕ) (f : Filled) → HasShape r → HasShape (piece_counted r queue f)
+HasShape-piece r queue f h =
+    let moved = HasShape-with_head r Rx queue f.head h in
+    either_way HasShape f.end _ _ (HasShape-counted (with_head r Rx queue f.head) Qprc _ moved) moved
+
+HasShape-slot : (r : Registers) (queue : ℕ) (f : Fetched) (o : Option (List ℕ)) → HasShape r
+    → HasShape (slot_counted r queue f o)
+HasShape-slot r queue f (Some frame) h =
+    HasShape-counted _ Qptc _ (HasShape-counted _ Gptc 0 (HasShape-with_head r Tx queue f.head h))
+HasShape-slot r queue f None h = HasShape-with_head r Tx queue f.head h
+
+pub HasShape-step : (s : State) (e : Event Block) → HasShape s.registers → Keeps (step_of s e)
 unfolding step_of
 HasShape-step s (event.Read Pf a) h = HasShape-place_read s (place_among runs a) (view_among runs a) h
 HasShape-step s (event.Write Pf a word) h = HasShape-place_written s (place_among runs a) (view_among runs a) word h
@@ -60,18 +77,23 @@ HasShape-step s (event.Lend block) h = lent_cases Keeps s block h h
 HasShape-step s (event.Take number) h = taken_cases Keeps s number h (λ _. h)
 HasShape-step s (event.Peek16 a) h = peeked_cases Keeps s a h h (λ _. h)
 HasShape-step s (event.Poke16 a bytes) h = poked_cases Keeps s a bytes h h h
-HasShape-step s (event.Arrive frame) h = arrived_cases Keeps s frame (λ _. h) h
+HasShape-step s (event.Arrive frame) h = arrived_cases Keeps s frame (record {
+  dropped = λ why. h;
+  counted = λ why counter is. HasShape-counted s.registers counter 0 h;
+  joined = λ t is. HasShape-counted s.registers Gprc 0 h;
+})
 HasShape-step s event.RxStep h = received_cases Keeps s (record {
   idle = h;
   dropped = λ w others e why. h;
+  slotless = λ w others e. HasShape-counted s.registers Qprdc _ h;
   fault = λ w others e fault. HasShape-shut s.registers Rx w.queue h;
-  filled = λ w others e f is. HasShape-with_head s.registers Rx w.queue f.head h;
+  filled = λ w others e f is. HasShape-piece s.registers w.queue f h;
 })
 HasShape-step s (event.TxStep queue) h = transmitted_cases Keeps s queue (record {
   none = h;
   idle = h;
   fault = λ fault. HasShape-shut s.registers Tx queue h;
-  fetched = λ f is. HasShape-with_head s.registers Tx queue f.head h;
+  fetched = λ f is. HasShape-slot s.registers queue f f.frame h;
 })
 HasShape-step s (event.QueueStep dir queue) h =
     switched_cases Keeps s dir queue h h (HasShape-side_switched s dir queue h)
@@ -98,7 +120,7 @@ reply-read s a p plain =
     ap (λ o. (place_read s o (view_among runs a)).reply) ((found-named a p).1 plain.named)
     ∙ ap (λ k. Word (shown a (read_word k s.registers s.link p))) plain.plain
 
-pub state-read : (s : State) (a : ℕ) (p : Place) → Names a p → (step_of s (event.Read Pf a)).state ≡ s
+pub state-read : (s : State) (a : ℕ) (p : Place) → Names a p → (step_of s (event.Read Pf a)).state ≡ state_read s p
 unfolding step_of
 state-read s a p named = ap (λ o. (place_read s o (view_among runs a)).state) ((found-named a p).1 named)
 
@@ -139,7 +161,9 @@ write_leaves s r a b word p q at through n =
     ∙ sym (reply-read s b q through)
 
 pub read_changes_nothing : (s : State) (a : ℕ) (p : Place) → IsPlain a p → (step_of s (event.Read Pf a)).state ≡ s
-read_changes_nothing s a p plain = state-read s a p plain.named
+read_changes_nothing s a p plain =
+    state-read s a p plain.named
+    ∙ ap (λ k. record s { registers = after_read k s.registers p }) plain.plain
 
 found_or_none : (o : Option Place) → ((p : Place) → o ≡ Some p → ⊥) → o ≡ None
 found_or_none None h = refl

@@ -9,17 +9,24 @@ use Rattle.rx_ring.specs.declared.filled.Filled.{Filled}
 use Rattle.rx_ring.specs.Fill as rx
 use Rattle.tx_ring.specs.declared.fetched.Fetched.{Fetched}
 use Rattle.tx_ring.specs.Fetch as tx
+use Rattle.reg_table.specs.Rows.{row_of}
+use Rattle.reg_table.specs.declared.kind.Kind.TheVariants.{Rc}
+use Rattle.reg_table.specs.declared.rows.RowId.{RowId}
+use Rattle.reg_table.specs.declared.rows.RowId.TheVariants.{Mpc, Gprc, Ruc, Roc}
 use Rattle.register_file.specs.Queue.{shut}
 use Rattle.register_file.specs.Settings.{can_receive, frame_limit, drops}
 use Rattle.register_file.specs.Sides.{receive_queue_of, transmit_queue_of}
 use Rattle.register_file.specs.declared.dir.Dir.{Dir}
 use Rattle.register_file.specs.declared.dir.Dir.TheVariants.{Rx}
+use Rattle.rx_filter.specs.Sorting.{sorted}
+use Rattle.rx_filter.specs.declared.target.Target.{Target}
+use Rattle.rx_filter.specs.declared.unwanted.Unwanted.{Unwanted}
 use Rattle.nic_device.specs.State.{State, Waiting}
 use Rattle.nic_device.specs.Outcome.{Outcome, gives}
 use Rattle.nic_device.specs.Lending.{lent, taken, block_taken, peeked, poked}
-use Rattle.nic_device.specs.Arrival.{arrived, let_in}
+use Rattle.nic_device.specs.Arrival.{arrived, let_in, with_count, sorted_in, why_unwanted}
 use Rattle.nic_device.specs.Receive as receive
-use Rattle.nic_device.specs.Receive.{received, rest_of}
+use Rattle.nic_device.specs.Receive.{received, rest_of, slotless_counted}
 use Rattle.nic_device.specs.Transmit as transmit
 use Rattle.nic_device.specs.Transmit.{transmitted, staged_by, sending_of}
 use Rattle.nic_device.specs.Switching.{queue_switched, side_switched}
@@ -63,16 +70,29 @@ poked_cases P s address bytes misaligned not_lent done =
 
 -- frames that arrive
 
-pub arrived_cases : (P : Outcome → Type 0) (s : State) (frame : List ℕ) → ((why : Why) → P (gives (Dropped why) s))
-    → P (gives Done (record s { waiting = s.waiting ++ let_in frame ∷ [] })) → P (arrived s frame)
-arrived_cases P s frame dropped joined =
+-- a frame that arrives is dropped, dropped and counted, or let in and counted
+pub record Arrives (P : Outcome → Type 0) (s : State) (frame : List ℕ) : Type 0 where
+  pub dropped : (why : Why) → P (gives (Dropped why) s)
+  pub counted : (why : Why) (counter : RowId) → (row_of counter).kind ≡ Rc
+      → P (gives (Dropped why) (with_count s counter))
+  pub joined : (t : Target) → sorted s.registers frame ≡ Ok t
+      → P (gives Done (record (with_count s Gprc) { waiting = s.waiting ++ let_in frame t ∷ [] }))
+
+sorted_cases : (P : Outcome → Type 0) (s : State) (frame : List ℕ) → Arrives P s frame
+    → (answer : Result Target Unwanted) → sorted s.registers frame ≡ answer → P (sorted_in s frame answer)
+sorted_cases P s frame a (Ok t) is =
+    either_way P (nat_lt (length s.waiting) s.fifo) _ _ (a.joined t is) (a.counted Full Mpc refl)
+sorted_cases P s frame a (Err why) is = a.dropped (why_unwanted why)
+
+pub arrived_cases : (P : Outcome → Type 0) (s : State) (frame : List ℕ) → Arrives P s frame → P (arrived s frame)
+arrived_cases P s frame a =
     either_way P s.link _ _
     (either_way P (can_receive s.registers) _ _
-    (either_way P (nat_lt (length frame) 60) _ _ (dropped Short)
-    (either_way P (nat_lt (frame_limit s.registers) (length frame)) _ _ (dropped Long)
-    (either_way P (nat_lt (length s.waiting) s.fifo) _ _ joined (dropped Full))))
-    (dropped Off))
-    (dropped LinkDown)
+    (either_way P (nat_lt (length frame) 60) _ _ (a.counted Short Ruc refl)
+    (either_way P (nat_lt (frame_limit s.registers) (length frame)) _ _ (a.counted Long Roc refl)
+    (sorted_cases P s frame a _ refl)))
+    (a.dropped Off))
+    (a.dropped LinkDown)
 
 -- the link
 
@@ -106,6 +126,9 @@ pub record Receives (P : Outcome → Type 0) (s : State) : Type 0 where
   pub idle : P (gives Idle s)
   pub dropped : (w : Waiting) (others : List Waiting) → s.waiting ≡ w ∷ others → (why : Why)
       → P (gives (Dropped why) (record s { waiting = others }))
+  pub slotless : (w : Waiting) (others : List Waiting) → s.waiting ≡ w ∷ others
+      → P (gives (Dropped NoSlot)
+      (record s { registers = slotless_counted s.registers w.queue; waiting = others }))
   pub fault : (w : Waiting) (others : List Waiting) → s.waiting ≡ w ∷ others → (fault : RingFault)
       → P (gives (Fault w.queue fault) (record s { registers = shut s.registers Rx w.queue; waiting = others }))
   pub filled : (w : Waiting) (others : List Waiting) → s.waiting ≡ w ∷ others → (f : Filled)
@@ -132,7 +155,7 @@ first_cases P s [] e r = r.idle
 first_cases P s (w ∷ others) e r =
     either_way P (receive_queue_of s.registers w.queue).on _ _
     (either_way P (receive.is_empty (receive_queue_of s.registers w.queue).ring) _ _
-    (either_way P (drops s.registers w.queue && w.offset == 0) _ _ (r.dropped w others e NoSlot) r.idle)
+    (either_way P (drops s.registers w.queue && w.offset == 0) _ _ (r.slotless w others e) r.idle)
     (slot_received P s w others e r _ refl))
     (r.dropped w others e QueueOff)
 

@@ -35,6 +35,7 @@ received_piece : (s : State) → IsWhole s.memory → AllFit s.waiting
 received_piece s whole fits = received_cases (λ o. HasPiece s.waiting o.state.memory o.reply) s (record {
   idle = tt;
   dropped = λ w others e why. tt;
+  slotless = λ w others e. tt;
   fault = λ w others e fault. tt;
   filled = λ w others e f is apart.
       (driver_reads _ _ _ _ f whole (subst AllFit e fits).0 is).bytes apart

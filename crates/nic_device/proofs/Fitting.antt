@@ -1,27 +1,31 @@
 -- First halves of the frames that wait.
-use Rattle.std.proofs.Common.{◌<◌, ◌+◌, ◌^◌, ℕ, List, [], ◌∷◌, ◌++◌, sym, subst, Option, Some, None, arith}
+use Rattle.std.proofs.Common.{◌≡◌, ◌<◌, ◌+◌, ◌^◌, ℕ, List, [], ◌∷◌, ◌++◌, sym, subst, Option, Some, None, Ok}
 use Rattle.std.specs.Prelude.{⊤, ◌&&◌, ◌==◌, not}
 use Rattle.dma_arena.specs.Block.{Block}
 use Rattle.reg_table.specs.Rows.{row_of}
 use Rattle.reg_table.specs.Runs.{runs}
 use Rattle.reg_table.specs.Place.{place_among, view_among}
 use Rattle.reg_table.specs.declared.place.Place.{Place}
+use Rattle.dma_ring.specs.Receive.{told_of}
+use Rattle.rx_filter.specs.Sorting.{sorted}
+use Rattle.rx_filter.specs.declared.target.Target.{Target}
 use Rattle.rx_ring.specs.declared.filled.Filled.{Filled}
 use Rattle.register_file.specs.Access.{written, asks_reset}
 use Rattle.register_file.specs.Queue.{switched}
-use Rattle.register_file.specs.Registers.{is_wanted}
+use Rattle.register_file.specs.Registers.{Registers, is_wanted}
 use Rattle.register_file.specs.declared.dir.Dir.{Dir}
 use Rattle.register_file.specs.declared.dir.Dir.TheVariants.{Rx, Tx}
 use Rattle.nic_device.specs.State.{State, Waiting, new_state, reset}
 use Rattle.nic_device.specs.Outcome.{Outcome}
 use Rattle.nic_device.specs.Access.{place_read, place_written}
 use Rattle.nic_device.specs.Arrival.{let_in}
-use Rattle.nic_device.specs.Receive.{first_half_of, after_piece}
+use Rattle.nic_device.specs.Receive.{packet_of, after_piece}
 use Rattle.nic_device.specs.Switching.{without_part, emptied, side_switched}
 use Rattle.nic_device.specs.Step.{step_of}
 use Rattle.nic_device.specs.Run.{state_after}
 use Rattle.nic_device.specs.Laws.{IsReached}
 use Rattle.nic_device.proofs.Cases.{either_way, lent_cases, taken_cases, peeked_cases, poked_cases, arrived_cases, link_cases, collected_cases, switched_cases, received_cases, transmitted_cases}
+use Rattle.nic_device.proofs.Targets.{told-let_in}
 use Rattle.nic_device.specs.declared.event.Event.{Event}
 use Rattle.nic_device.specs.declared.event.Event.TheVariants as event
 use Rattle.nic_device.specs.declared.event.Port.TheVariants.{Pf}
@@ -29,14 +33,15 @@ use Rattle.nic_device.specs.declared.event.Port.TheVariants.{Pf}
 -- the first half of each frame that waits is a word of 64 bits
 abbrev pub AllFit : List Waiting → Type 0
 AllFit [] = ⊤
-AllFit (w ∷ others) = (first_half_of w < 2 ^ 64) × AllFit others
+AllFit (w ∷ others) = (told_of (packet_of w) < 2 ^ 64) × AllFit others
 
 abbrev Fits : Outcome → Type 0
 Fits o = AllFit o.state.waiting
 
-AllFit-more : (ws : List Waiting) (frame : List ℕ) → AllFit ws → AllFit (ws ++ let_in frame ∷ [])
-AllFit-more [] frame fit = (omega arith, tt)
-AllFit-more (w ∷ ws) frame fit = (fit.0, AllFit-more ws frame fit.1)
+AllFit-more : (r : Registers) (ws : List Waiting) (frame : List ℕ) (t : Target) → sorted r frame ≡ Ok t → AllFit ws
+    → AllFit (ws ++ let_in frame t ∷ [])
+AllFit-more r [] frame t is fit = (told-let_in r frame t is, tt)
+AllFit-more r (w ∷ ws) frame t is fit = (fit.0, AllFit-more r ws frame t is fit.1)
 
 AllFit-after_piece : (w : Waiting) (others : List Waiting) (f : Filled) → AllFit (w ∷ others)
     → AllFit (after_piece w others f)
@@ -78,10 +83,15 @@ AllFit-step s (event.Lend block) fit = lent_cases Fits s block fit fit
 AllFit-step s (event.Take number) fit = taken_cases Fits s number fit (λ _. fit)
 AllFit-step s (event.Peek16 a) fit = peeked_cases Fits s a fit fit (λ _. fit)
 AllFit-step s (event.Poke16 a bytes) fit = poked_cases Fits s a bytes fit fit fit
-AllFit-step s (event.Arrive frame) fit = arrived_cases Fits s frame (λ _. fit) (AllFit-more s.waiting frame fit)
+AllFit-step s (event.Arrive frame) fit = arrived_cases Fits s frame (record {
+  dropped = λ why. fit;
+  counted = λ why counter is. fit;
+  joined = λ t is. AllFit-more s.registers s.waiting frame t is fit;
+})
 AllFit-step s event.RxStep fit = received_cases Fits s (record {
   idle = fit;
   dropped = λ w others e why. (subst AllFit e fit).1;
+  slotless = λ w others e. (subst AllFit e fit).1;
   fault = λ w others e fault. (subst AllFit e fit).1;
   filled = λ w others e f is. AllFit-after_piece w others f (subst AllFit e fit);
 })

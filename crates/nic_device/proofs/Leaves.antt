@@ -8,19 +8,24 @@ use Rattle.reg_table.specs.Rows.{row_of}
 use Rattle.reg_table.specs.Runs.{runs}
 use Rattle.reg_table.specs.Place.{Names, place_among, view_among}
 use Rattle.reg_table.specs.declared.place.Place.{Place}
+use Rattle.reg_table.specs.declared.rows.RowId.TheVariants.{Gprc, Gptc, Qprc, Qprdc, Qptc}
+use Rattle.rx_ring.specs.declared.filled.Filled.{Filled}
 use Rattle.rx_ring.proofs.Fills.{writes_inside_slot}
 use Rattle.register_file.specs.Access.{written, asks_reset}
-use Rattle.register_file.specs.Registers.{is_wanted}
-use Rattle.register_file.specs.Queue.{switched}
+use Rattle.register_file.specs.Counters.{counted}
+use Rattle.register_file.specs.Registers.{Registers, is_wanted}
+use Rattle.register_file.specs.Queue.{with_head, switched}
 use Rattle.register_file.specs.Sides.{receive_queue_of, transmit_queue_of}
-use Rattle.register_file.specs.Laws.{ChangesOnly}
+use Rattle.register_file.specs.Laws.{ChangesOnly, ChangesCountersOnly}
+use Rattle.register_file.proofs.Counting.{changes-counter, changes-after_read}
 use Rattle.register_file.proofs.Sides.{receive-after_write, transmit-after_write, changes-with_head, changes-switched, changes-shut}
 use Rattle.register_file.specs.declared.dir.Dir.{Dir}
 use Rattle.register_file.specs.declared.dir.Dir.TheVariants.{Rx, Tx}
 use Rattle.nic_device.specs.State.{State, Waiting, reset}
 use Rattle.nic_device.specs.Outcome.{Outcome}
-use Rattle.nic_device.specs.Access.{place_read, place_written}
-use Rattle.nic_device.specs.Transmit.{fetched_reply, staged_by, sending_of}
+use Rattle.nic_device.specs.Access.{place_read, place_written, state_read}
+use Rattle.nic_device.specs.Receive.{piece_counted}
+use Rattle.nic_device.specs.Transmit.{slot_counted, fetched_reply, staged_by, sending_of}
 use Rattle.nic_device.specs.Switching.{side_switched, emptied}
 use Rattle.nic_device.specs.Step.{step_of}
 use Rattle.nic_device.specs.Laws.{LeavesQueues, LeavesOtherSides, LeavesBlock, LeavesMemory, ReadLeavesQueues, WriteLeavesOtherQueues, AccessLeavesMemory, MemoryCallsLeaveQueues, MemoryCallsLeaveOtherBlocks, ArrivalLeavesQueues, ArrivalLeavesMemory, IsFirstFor, ReceivingLeaves, ReceivingLeavesOtherQueues, ReceivesOutside, ReceivingLeavesOtherBlocks, TransmittingLeavesOtherQueues, told_back, TransmittingLeavesOtherBlocks, SwitchingLeavesOtherQueues, SwitchingLeavesMemory, LinkLeavesQueues, LinkLeavesMemory, is_fault, FaultChangesNoMemory}
@@ -42,6 +47,13 @@ leaves_queues s t registers staged = record {
   };
 }
 
+-- nor does it change where nothing but counters does in the registers
+counted_queues : (s t : State) → ChangesCountersOnly s.registers t.registers → t.staged ≡ s.staged → LeavesQueues s t
+counted_queues s t only staged = record {
+  receive = only.receive;
+  transmit = λ queue. record { side = only.transmit queue; staged = ap (λ xs. get_or xs queue []) staged };
+}
+
 abbrev Queues : State → Outcome → Type 0
 Queues s o = LeavesQueues s o.state
 
@@ -52,7 +64,8 @@ Memory s o = LeavesMemory s o.state
 
 place_read_queues : (s : State) (o : Option Place) (view : ℕ) → Queues s (place_read s o view)
 place_read_queues s None view = leaves_queues s s refl refl
-place_read_queues s (Some p) view = leaves_queues s s refl refl
+place_read_queues s (Some p) view =
+    counted_queues s (state_read s p) (changes-after_read (row_of p.row).kind s.registers p refl) refl
 
 pub read_queues : ReadLeavesQueues
 unfolding step_of
@@ -124,12 +137,16 @@ memory_blocks = record {
 
 pub arrival_queues : ArrivalLeavesQueues
 unfolding step_of
-arrival_queues s frame = arrived_cases (Queues s) s frame (λ _. leaves_queues s _ refl refl)
-    (leaves_queues s _ refl refl)
+arrival_queues s frame = arrived_cases (Queues s) s frame (record {
+  dropped = λ why. leaves_queues s s refl refl;
+  counted = λ why counter is. counted_queues s _ (changes-counter s.registers counter 0 _ is) refl;
+  joined = λ t is. counted_queues s _ (changes-counter s.registers Gprc 0 _ refl) refl;
+})
 
 pub arrival_memory : ArrivalLeavesMemory
 unfolding step_of
-arrival_memory s frame = arrived_cases (Memory s) s frame (λ _. refl) refl
+arrival_memory s frame = arrived_cases (Memory s) s frame
+    (record { dropped = λ why. refl; counted = λ why counter is. refl; joined = λ t is. refl })
 
 -- the link
 
@@ -154,9 +171,29 @@ first_is : (s : State) (queue : ℕ) (w : Waiting) (others : List Waiting) → s
     → ¬ IsFirstFor queue s.waiting → queue ≢ w.queue
 first_is s queue w others e n is = n (subst (IsFirstFor queue) (sym e) (sym is))
 
--- where nothing but the receive side of the first frame's queue has changed in the registers
-receiving_leaves : (s t : State) (w : Waiting) (others : List Waiting) {row : _} → s.waiting ≡ w ∷ others
-    → ChangesOnly Rx w.queue row s.registers t.registers → t.staged ≡ s.staged → ReceivingLeaves s t
+-- all sides of queues but one are as they were in the registers
+record KeepsOthers (dir : Dir) (queue : ℕ) (old new : Registers) : Type 0 where
+  receive : (other : ℕ) → (dir ≡ Tx) ⊎ (other ≢ queue) → receive_queue_of new other ≡ receive_queue_of old other
+  transmit : (other : ℕ) → (dir ≡ Rx) ⊎ (other ≢ queue) → transmit_queue_of new other ≡ transmit_queue_of old other
+
+keeps_others : (dir : Dir) (queue : ℕ) (r s : Registers) {row : _} → ChangesOnly dir queue row r s
+    → KeepsOthers dir queue r s
+keeps_others dir queue r s only = record { receive = only.receive; transmit = only.transmit }
+
+-- and still are where nothing but counters changes after that
+then_counted : (dir : Dir) (queue : ℕ) (r s t : Registers) → KeepsOthers dir queue r s → ChangesCountersOnly s t
+    → KeepsOthers dir queue r t
+then_counted dir queue r s t keeps only = record {
+  receive = λ other h. only.receive other ∙ keeps.receive other h;
+  transmit = λ other h. only.transmit other ∙ keeps.transmit other h;
+}
+
+head_keeps : (r : Registers) (dir : Dir) (queue head : ℕ) → KeepsOthers dir queue r (with_head r dir queue head)
+head_keeps r dir queue head = keeps_others dir queue r _ (changes-with_head r dir queue head)
+
+-- where nothing but the receive side of the first frame's queue, and counters, has changed in the registers
+receiving_leaves : (s t : State) (w : Waiting) (others : List Waiting) → s.waiting ≡ w ∷ others
+    → KeepsOthers Rx w.queue s.registers t.registers → t.staged ≡ s.staged → ReceivingLeaves s t
 receiving_leaves s t w others e only staged = record {
   receive = λ queue n. only.receive queue (inr (first_is s queue w others e n));
   transmit = λ queue. record { side = only.transmit queue (inl refl); staged = ap (λ xs. get_or xs queue []) staged };
@@ -167,13 +204,27 @@ unchanged_leaves s t registers staged =
     let same = leaves_queues s t registers staged in
     record { receive = λ queue n. same.receive queue; transmit = same.transmit }
 
+counted_leaves : (s t : State) → ChangesCountersOnly s.registers t.registers → t.staged ≡ s.staged → ReceivingLeaves s t
+counted_leaves s t only staged =
+    let same = counted_queues s t only staged in
+    record { receive = λ queue n. same.receive queue; transmit = same.transmit }
+
+piece_keeps : (r : Registers) (queue : ℕ) (f : Filled) → KeepsOthers Rx queue r (piece_counted r queue f)
+piece_keeps r queue f =
+    let moved = with_head r Rx queue f.head in
+    either_way (KeepsOthers Rx queue r) f.end _ _
+    (then_counted Rx queue r moved _ (head_keeps r Rx queue f.head) (changes-counter moved Qprc _ _ refl))
+    (head_keeps r Rx queue f.head)
+
 pub receiving_queues : ReceivingLeavesOtherQueues
 unfolding step_of
 receiving_queues s = received_cases (λ o. ReceivingLeaves s o.state) s (record {
   idle = unchanged_leaves s s refl refl;
   dropped = λ w others e why. unchanged_leaves s _ refl refl;
-  fault = λ w others e fault. receiving_leaves s _ w others e (changes-shut s.registers Rx w.queue) refl;
-  filled = λ w others e f is. receiving_leaves s _ w others e (changes-with_head s.registers Rx w.queue f.head) refl;
+  slotless = λ w others e. counted_leaves s _ (changes-counter s.registers Qprdc _ _ refl) refl;
+  fault = λ w others e fault. receiving_leaves s _ w others e
+      (keeps_others Rx w.queue s.registers _ (changes-shut s.registers Rx w.queue)) refl;
+  filled = λ w others e f is. receiving_leaves s _ w others e (piece_keeps s.registers w.queue f) refl;
 })
 
 pub receiving_blocks : ReceivingLeavesOtherBlocks
@@ -182,6 +233,7 @@ receiving_blocks s number = received_cases (λ o. ReceivesOutside o.reply number
     (record {
       idle = λ _. refl;
       dropped = λ w others e why _. refl;
+      slotless = λ w others e _. refl;
       fault = λ w others e fault _. refl;
       filled = λ w others e f is outside. (writes_inside_slot _ _ _ _ f is).blocks number outside.0 outside.1;
     })
@@ -193,8 +245,8 @@ staged_other : (xs : List (List ℕ)) (queue other : ℕ) (bytes : List ℕ) →
 staged_other xs queue other bytes (inl e) = cc
 staged_other xs queue other bytes (inr n) = get_or-set_other xs queue other bytes [] n
 
-transmitting_leaves : (s t : State) (queue : ℕ) (bytes : List ℕ) {row : _}
-    → ChangesOnly Tx queue row s.registers t.registers → t.staged ≡ slice_set s.staged queue bytes
+transmitting_leaves : (s t : State) (queue : ℕ) (bytes : List ℕ) → KeepsOthers Tx queue s.registers t.registers
+    → t.staged ≡ slice_set s.staged queue bytes
     → LeavesOtherSides Tx queue s t
 transmitting_leaves s t queue bytes only staged = record {
   receive = λ other h. only.receive other h;
@@ -210,14 +262,24 @@ same_sides s t dir queue registers staged =
     let same = leaves_queues s t registers staged in
     record { receive = λ other h. same.receive other; transmit = λ other h. same.transmit other }
 
+slot_keeps : (r : Registers) (queue : ℕ) (f : Fetched) (o : Option (List ℕ))
+    → KeepsOthers Tx queue r (slot_counted r queue f o)
+slot_keeps r queue f (Some frame) =
+    let moved = with_head r Tx queue f.head in
+    let counted_once = then_counted Tx queue r moved (counted moved Gptc 0) (head_keeps r Tx queue f.head)
+    (changes-counter moved Gptc 0 _ refl) in
+    then_counted Tx queue r (counted moved Gptc 0) _ counted_once (changes-counter (counted moved Gptc 0) Qptc _ _ refl)
+slot_keeps r queue f None = head_keeps r Tx queue f.head
+
 pub transmitting_queues : TransmittingLeavesOtherQueues
 unfolding step_of
 transmitting_queues s queue = transmitted_cases (λ o. LeavesOtherSides Tx queue s o.state) s queue (record {
   none = same_sides s s Tx queue refl refl;
   idle = same_sides s s Tx queue refl refl;
-  fault = λ fault. transmitting_leaves s _ queue [] (changes-shut s.registers Tx queue) refl;
+  fault = λ fault. transmitting_leaves s _ queue []
+      (keeps_others Tx queue s.registers _ (changes-shut s.registers Tx queue)) refl;
   fetched = λ f is. transmitting_leaves s _ queue (fetched_by s queue).staged
-      (changes-with_head s.registers Tx queue f.head) refl;
+      (slot_keeps s.registers queue f f.frame) refl;
 })
 
 back_told : (queue : ℕ) (f : Fetched) (o : Option (List ℕ)) → told_back (fetched_reply queue f o) ≡ f.back
@@ -292,10 +354,15 @@ fault_memory s (event.Lend block) = lent_cases (Faultless s) s block (λ _. refl
 fault_memory s (event.Take number) = taken_cases (Faultless s) s number (λ _. refl) (λ block e. cc)
 fault_memory s (event.Peek16 a) = peeked_cases (Faultless s) s a (λ _. refl) (λ _. refl) (λ bytes _. refl)
 fault_memory s (event.Poke16 a bytes) = poked_cases (Faultless s) s a bytes (λ _. refl) (λ _. refl) (λ e. cc)
-fault_memory s (event.Arrive frame) = arrived_cases (Faultless s) s frame (λ why _. refl) (λ _. refl)
+fault_memory s (event.Arrive frame) = arrived_cases (Faultless s) s frame (record {
+  dropped = λ why _. refl;
+  counted = λ why counter is _. refl;
+  joined = λ t is _. refl;
+})
 fault_memory s event.RxStep = received_cases (Faultless s) s (record {
   idle = λ _. refl;
   dropped = λ w others e why _. refl;
+  slotless = λ w others e _. refl;
   fault = λ w others e fault _. refl;
   filled = λ w others e f is no. cc;
 })

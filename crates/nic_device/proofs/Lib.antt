@@ -1,10 +1,13 @@
 pub mod Accesses
 pub mod Cases
+pub mod Counted
 pub mod Delivered
 pub mod Fetches
 pub mod Fitting
+pub mod GoodFrames
 pub mod Leaves
 pub mod Lists
 pub mod Pieces
 pub mod Reported
 pub mod Staging
+pub mod Targets

@@ -4,7 +4,7 @@ use Rattle.reg_table.specs.Rows.{row_of}
 use Rattle.reg_table.specs.Runs.{runs}
 use Rattle.reg_table.specs.Place.{place_among, view_among}
 use Rattle.reg_table.specs.declared.place.Place.{Place}
-use Rattle.register_file.specs.Access.{read_word, written, asks_reset}
+use Rattle.register_file.specs.Access.{read_word, after_read, written, asks_reset}
 use Rattle.nic_device.specs.State.{State, reset}
 use Rattle.nic_device.specs.Outcome.{Outcome, gives}
 use Rattle.nic_device.specs.declared.event.Reply.TheVariants.{Word, Stray, Done}
@@ -13,10 +13,14 @@ use Rattle.nic_device.specs.declared.event.Reply.TheVariants.{Word, Stray, Done}
 abbrev pub word_read : State → Place → ℕ
 word_read s p = read_word (row_of p.row).kind s.registers s.link p
 
+-- the state after a read of a place
+abbrev pub state_read : State → Place → State
+state_read s p = record s { registers = after_read (row_of p.row).kind s.registers p }
+
 -- a read of an address that names this place, or none
 abbrev pub place_read : State → Option Place → ℕ → Outcome
 place_read s None view = gives (Stray 0) s
-place_read s (Some p) view = gives (Word (bit_and (word_read s p) view)) s
+place_read s (Some p) view = gives (Word (bit_and (word_read s p) view)) (state_read s p)
 
 -- the state after a write of a place, which may ask for a reset and then does nothing else
 abbrev pub state_written : State → Place → ℕ → ℕ → State

@@ -1,29 +1,54 @@
 -- A frame arrives from the link.
-use Rattle.std.specs.Prelude.{ℕ, nat_lt, List, [], ◌∷◌, ◌++◌, length, if◌then◌else◌}
+use Rattle.std.specs.Prelude.{ℕ, nat_lt, List, [], ◌∷◌, ◌++◌, length, Result, Ok, Err, if◌then◌else◌}
+use Rattle.reg_table.specs.declared.rows.RowId.{RowId}
+use Rattle.reg_table.specs.declared.rows.RowId.TheVariants.{Mpc, Gprc, Ruc, Roc}
+use Rattle.register_file.specs.Counters.{counted}
 use Rattle.register_file.specs.Settings.{can_receive, frame_limit}
+use Rattle.rx_filter.specs.Sorting.{sorted}
+use Rattle.rx_filter.specs.declared.target.Target.{Target}
+use Rattle.rx_filter.specs.declared.unwanted.Unwanted.{Unwanted}
+use Rattle.rx_filter.specs.declared.unwanted.Unwanted.TheVariants as unwanted
 use Rattle.nic_device.specs.State.{State, Waiting}
 use Rattle.nic_device.specs.Outcome.{Outcome, gives}
 use Rattle.nic_device.specs.declared.event.Reply.TheVariants.{Done, Dropped}
-use Rattle.nic_device.specs.declared.event.Why.TheVariants.{LinkDown, Off, Short, Long, Full}
+use Rattle.nic_device.specs.declared.event.Why.{Why}
+use Rattle.nic_device.specs.declared.event.Why.TheVariants.{LinkDown, Off, Short, Long, Filter, NoPool, PoolOff, Full}
 
--- a frame that was let in: it waits for queue 0, without a hash, and nothing of it is written
-abbrev pub let_in : List ℕ → Waiting
-let_in frame = record { frame = frame; queue = 0; hash = 0; rss = 0; offset = 0 }
+-- a frame that was let in: it waits for its queue, and nothing of it is written
+abbrev pub let_in : List ℕ → Target → Waiting
+let_in frame t = record { frame = frame; queue = t.queue; hash = t.hash; rss = t.rss; offset = 0 }
 
--- a frame joins those that wait, of which there may be so many
-abbrev pub joined : State → List ℕ → Outcome
-joined s frame =
-    if nat_lt (length s.waiting) s.fifo then gives Done (record s { waiting = s.waiting ++ let_in frame ∷ [] })
-    else gives (Dropped Full) s
+-- one more is counted in a counter of the whole device
+abbrev pub with_count : State → RowId → State
+with_count s counter = record s { registers = counted s.registers counter 0 }
+
+-- a frame joins those that wait, of which there may be so many, and is counted as received or as missed
+abbrev pub joined : State → List ℕ → Target → Outcome
+joined s frame t =
+    if nat_lt (length s.waiting) s.fifo
+    then gives Done (record (with_count s Gprc) { waiting = s.waiting ++ let_in frame t ∷ [] })
+    else gives (Dropped Full) (with_count s Mpc)
+
+-- why a frame that goes to no queue is dropped
+abbrev pub why_unwanted : Unwanted → Why
+why_unwanted unwanted.Filter = Filter
+why_unwanted unwanted.NoPool = NoPool
+why_unwanted unwanted.PoolOff = PoolOff
+
+-- a frame whose destination, pool and queue were looked at
+abbrev pub sorted_in : State → List ℕ → Result Target Unwanted → Outcome
+sorted_in s frame (Ok t) = joined s frame t
+sorted_in s frame (Err why) = gives (Dropped (why_unwanted why)) s
 
 -- a frame arrives: it is dropped while the link is down or receiving is off, where it has fewer than 60 bytes, where it
--- is above the limit, or where the list of waiting frames is full; else it waits, last of all
+-- is above the limit, where its destination or its pool isn't let in, or where the list of waiting frames is full; else
+-- it waits, last of all
 abbrev pub arrived : State → List ℕ → Outcome
 arrived s frame =
     if s.link then (
     if can_receive s.registers then (
-    if nat_lt (length frame) 60 then gives (Dropped Short) s
-    else if nat_lt (frame_limit s.registers) (length frame) then gives (Dropped Long) s
-    else joined s frame
+    if nat_lt (length frame) 60 then gives (Dropped Short) (with_count s Ruc)
+    else if nat_lt (frame_limit s.registers) (length frame) then gives (Dropped Long) (with_count s Roc)
+    else sorted_in s frame (sorted s.registers frame)
     ) else gives (Dropped Off) s
     ) else gives (Dropped LinkDown) s

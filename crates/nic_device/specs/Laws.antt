@@ -5,7 +5,8 @@ use Rattle.reg_table.specs.Rows.{row_of}
 use Rattle.reg_table.specs.Runs.{runs}
 use Rattle.reg_table.specs.Place.{Names, view_among}
 use Rattle.reg_table.specs.declared.place.Place.{Place}
-use Rattle.reg_table.specs.declared.kind.Kind.TheVariants.{Rw}
+use Rattle.reg_table.specs.declared.kind.Kind.TheVariants.{Rw, Rc}
+use Rattle.reg_table.specs.Counter.{bumped}
 use Rattle.dma_arena.specs.Block.{Block}
 use Rattle.dma_arena.specs.Memory.{read_at, IsWhole, AreApart, Avoids}
 use Rattle.tx_ring.specs.Report.{report_length}
@@ -26,7 +27,7 @@ use Rattle.nic_device.specs.declared.event.Event.{Event}
 use Rattle.nic_device.specs.declared.event.Event.TheVariants as event
 use Rattle.nic_device.specs.declared.event.Port.TheVariants.{Pf}
 use Rattle.nic_device.specs.declared.event.Reply.{Reply}
-use Rattle.nic_device.specs.declared.event.Reply.TheVariants.{Word, Stray, Idle, Wrote, Advanced, Sent, Fault}
+use Rattle.nic_device.specs.declared.event.Reply.TheVariants.{Word, Stray, Done, Idle, Wrote, Advanced, Sent, Fault}
 
 -- a state that a device can have: some list of events leads there from a new device
 pub record IsReached (s : State) : Type 0 where
@@ -90,6 +91,31 @@ StrayAccessChangesNothing =
     (s : State) (address word : ℕ) → ((p : Place) → ¬ Names address p) →
     (step_of s (event.Read Pf address) ≡ gives (Stray 0) s) ×
     (step_of s (event.Write Pf address word) ≡ gives (Stray 0) s)
+
+-- counters
+
+-- the address names a counter
+pub record IsCounter (address : ℕ) (p : Place) : Type 0 where
+  pub named : Names address p
+  pub counter : (row_of p.row).kind ≡ Rc
+
+-- a counter that was read reads as 0 after that, at each of its addresses
+abbrev pub ReadCounterStartsAgain : Type 0
+ReadCounterStartsAgain =
+    (s : State) → IsReached s → (a b : ℕ) (p : Place) → IsCounter a p → IsCounter b p →
+    reply_to_read (after s (event.Read Pf a)) b ≡ Word 0
+
+-- where GPRC reads
+abbrev pub good_frames : ℕ
+good_frames = 0x04074
+
+-- a frame that is let in is counted in GPRC: the next read gives one more than it would have given, but the largest
+-- word stays
+abbrev pub LetInFrameIsCounted : Type 0
+LetInFrameIsCounted =
+    (s : State) → IsReached s → (frame : List ℕ) → reply_to s (event.Arrive frame) ≡ Done →
+    (word : ℕ) → reply_to_read s good_frames ≡ Word word →
+    reply_to_read (after s (event.Arrive frame)) good_frames ≡ Word (bumped word)
 
 -- what an event leaves alone
 

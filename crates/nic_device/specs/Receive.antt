@@ -1,8 +1,14 @@
 -- One step of receiving: the frame that waits longest is written on, one descriptor at a time.
-use Rattle.std.specs.Prelude.{ℕ, ◌+◌, ◌*◌, ◌^◌, ◌==◌, Bool, ◌&&◌, not, List, [], ◌∷◌, drop, Result, Ok, Err, if◌then◌else◌}
+use Rattle.std.specs.Prelude.{ℕ, ◌+◌, ◌==◌, Bool, ◌&&◌, not, List, [], ◌∷◌, drop, Result, Ok, Err, if◌then◌else◌}
 use Rattle.dma_ring.specs.declared.ring.Ring.{Ring}
 use Rattle.dma_ring.specs.declared.fault.RingFault.{RingFault}
+use Rattle.dma_ring.specs.Receive.{told_of}
 use Rattle.dma_ring.specs.Ring.{is_outside}
+use Rattle.dma_ring.specs.declared.receive.Packet.{Packet}
+use Rattle.rss_hash.specs.Flow.{flow_of}
+use Rattle.reg_table.specs.declared.rows.RowId.TheVariants.{Qprc, Qprdc}
+use Rattle.register_file.specs.Counters.{counted, counter_of}
+use Rattle.register_file.specs.Registers.{Registers}
 use Rattle.rx_ring.specs.Fill.{Rest, fill_of}
 use Rattle.rx_ring.specs.declared.filled.Filled.{Filled}
 use Rattle.register_file.specs.Queue.{with_head, shut}
@@ -19,18 +25,40 @@ use Rattle.nic_device.specs.declared.event.Why.TheVariants.{QueueOff, NoSlot}
 abbrev pub is_empty : Ring → Bool
 is_empty ring = not (is_outside ring) && ring.head == ring.tail
 
--- the first half that is written back for a frame: its RSS type in bits 3 to 0, its hash in bits 63 to 32
-abbrev pub first_half_of : Waiting → ℕ
-first_half_of w = w.rss + 2 ^ 32 * w.hash
+-- what descriptors tell of a frame: its RSS type and hash, and what its bytes are
+abbrev pub packet_of : Waiting → Packet
+packet_of w =
+    let flow = flow_of w.frame in
+    record {
+      rss = w.rss;
+      ipv4 = flow.version == 4;
+      ipv6 = flow.version == 6;
+      tcp = flow.tcp;
+      udp = flow.udp;
+      hash = w.hash;
+    }
 
 -- what is left to write of a frame
 abbrev pub rest_of : Waiting → Rest
-rest_of w = record { bytes = drop w.offset w.frame; first = first_half_of w }
+rest_of w = record { bytes = drop w.offset w.frame; first = told_of (packet_of w) }
+
+-- the registers after a frame of a queue was dropped for want of a slot, and after one was written to its end
+abbrev pub slotless_counted : Registers → ℕ → Registers
+slotless_counted r queue = counted r Qprdc (counter_of r Rx queue)
+
+abbrev pub frame_counted : Registers → ℕ → Registers
+frame_counted r queue = counted r Qprc (counter_of r Rx queue)
+
+-- the registers after a piece of a frame was written
+abbrev pub piece_counted : Registers → ℕ → Filled → Registers
+piece_counted r queue f =
+    if f.end then frame_counted (with_head r Rx queue f.head) queue else with_head r Rx queue f.head
 
 -- the queue has no slot: a frame of which nothing is written is dropped where the queue drops, any other waits on
 abbrev pub without_slot : State → Waiting → List Waiting → Outcome
 without_slot s w others =
-    if drops s.registers w.queue && w.offset == 0 then gives (Dropped NoSlot) (record s { waiting = others })
+    if drops s.registers w.queue && w.offset == 0
+    then gives (Dropped NoSlot) (record s { registers = slotless_counted s.registers w.queue; waiting = others })
     else gives Idle s
 
 -- the frames that wait after a piece of the first was written
@@ -42,7 +70,7 @@ abbrev pub slot_done : State → Waiting → List Waiting → Result Filled Ring
 slot_done s w others (Ok f) memory =
     gives (Wrote w.queue f.slot f.end f.desc f.at f.len)
     (record s {
-      registers = with_head s.registers Rx w.queue f.head;
+      registers = piece_counted s.registers w.queue f;
       memory = memory;
       waiting = after_piece w others f;
     })

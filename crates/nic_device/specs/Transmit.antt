@@ -6,6 +6,8 @@ use Rattle.dma_ring.specs.declared.fault.RingFault.{RingFault}
 use Rattle.tx_ring.specs.Fetch.{fetch_of}
 use Rattle.tx_ring.specs.declared.fetched.Fetched.{Fetched}
 use Rattle.tx_ring.specs.declared.tx.Tx.{Tx as Sending}
+use Rattle.reg_table.specs.declared.rows.RowId.TheVariants.{Gptc, Qptc}
+use Rattle.register_file.specs.Counters.{counted, counter_of}
 use Rattle.register_file.specs.Registers.{Registers}
 use Rattle.register_file.specs.Queue.{with_head, shut}
 use Rattle.register_file.specs.Settings.{is_stopped, can_transmit, frame_limit, pads}
@@ -35,12 +37,18 @@ abbrev pub with_frame : List (ℕ × List ℕ) → ℕ → Option (List ℕ) →
 with_frame out queue (Some frame) = out ++ (queue, frame) ∷ []
 with_frame out queue None = out
 
+-- the registers after a slot was fetched, which may have ended a frame
+abbrev pub slot_counted : Registers → ℕ → Fetched → Option (List ℕ) → Registers
+slot_counted r queue f (Some frame) =
+    counted (counted (with_head r Tx queue f.head) Gptc 0) Qptc (counter_of r Tx queue)
+slot_counted r queue f None = with_head r Tx queue f.head
+
 -- the slot at the queue's head was fetched, or met a fault, which drops the staged bytes and shuts the transmit side
 abbrev pub slot_done : State → ℕ → Result Fetched RingFault → Memory → List ℕ → Outcome
 slot_done s queue (Ok f) memory staged =
     gives (fetched_reply queue f f.frame)
     (record s {
-      registers = with_head s.registers Tx queue f.head;
+      registers = slot_counted s.registers queue f f.frame;
       memory = memory;
       staged = slice_set s.staged queue staged;
       out = with_frame s.out queue f.frame;

@@ -13,9 +13,9 @@ use tx_ring::Staged;
 
 impl Device {
     /// Reads an address.
-    pub(crate) fn read(&self, address: u32) -> Reply
-        ensures reply { result ≡ (register_read self.now address).reply }
-        ensures state { self.now ≡ (register_read self.now address).state }
+    pub(crate) fn read(&mut self, address: u32) -> Reply
+        ensures reply { result ≡ (register_read self.old address).reply }
+        ensures state { self.new ≡ (register_read self.old address).state }
     {
         let Some(place) = place_of(address) else {
             return Reply::Stray(0);

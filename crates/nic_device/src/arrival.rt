@@ -1,12 +1,14 @@
 //! Frames that arrive from the link.
 
-ghost use Rattle.std.specs.Prelude.{◌≡◌, IfOk, IfErr, OnOk, OnErr};
-ghost use Rattle.nic_device.specs.Arrival.{arrived, joined};
+ghost use Rattle.std.specs.Prelude.{◌≡◌, ◌<◌, Ok, IfOk, IfErr, OnOk, OnErr};
+ghost use Rattle.nic_device.specs.Arrival.{arrived, joined, why_unwanted};
 
 use crate::device::Device;
 use crate::event::{Event, OutOfMemory, Reply, Why};
 use crate::waiting::Waiting;
 use dma_arena::Octets;
+use reg_table::RowId;
+use rx_filter::{Target, Unwanted, sort};
 
 /// How many bytes a frame has at least, its frame check sequence left out.
 const SHORTEST_FRAME: usize = 60;
@@ -28,23 +30,30 @@ impl Device {
         }
         let len = frame.bytes().len();
         if len < SHORTEST_FRAME {
+            self.registers.count(RowId::Ruc, 0);
             return Ok(Reply::Dropped(Why::Short));
         }
         if len > usize::from(self.registers.frame_limit()) {
+            self.registers.count(RowId::Roc, 0);
             return Ok(Reply::Dropped(Why::Long));
         }
-        self.join(frame)
+        match sort(&self.registers, frame.bytes()) {
+            Ok(target) => self.join(frame, target),
+            Err(why) => Ok(Reply::Dropped(why_unwanted(why))),
+        }
     }
 
-    /// A frame joins those that wait.
-    fn join(&mut self, frame: Octets) -> Result<Reply, OutOfMemory<Event>>
-        ensures reply { IfOk result (λ reply. reply ≡ (joined self.old frame).reply) }
-        ensures state { OnOk result (self.new ≡ (joined self.old frame).state) }
+    /// A frame joins those that wait, or finds no room.
+    fn join(&mut self, frame: Octets, target: Target) -> Result<Reply, OutOfMemory<Event>>
+        requires { target.queue < 128 }
+        ensures reply { IfOk result (λ reply. reply ≡ (joined self.old frame target).reply) }
+        ensures state { OnOk result (self.new ≡ (joined self.old frame target).state) }
         ensures back { IfErr result (λ refused. refused.event ≡ Event.Arrive frame) }
         ensures unchanged { OnErr result (self.new ≡ self.old) }
-        ensures memory { OnErr result ((joined self.old frame).reply ≡ Reply.Done) }
+        ensures memory { OnErr result ((joined self.old frame target).reply ≡ Reply.Done) }
     {
         if self.waiting.len() >= usize::from(self.config.fifo) {
+            self.registers.count(RowId::Mpc, 0);
             return Ok(Reply::Dropped(Why::Full));
         }
         if self.waiting.reserve(1).is_err() {
@@ -52,7 +61,20 @@ impl Device {
                 event: Event::Arrive(frame),
             });
         }
-        self.waiting.push_back_reserved(Waiting::let_in(frame));
+        self.registers.count(RowId::Gprc, 0);
+        self.waiting
+            .push_back_reserved(Waiting::let_in(frame, target));
         Ok(Reply::Done)
+    }
+}
+
+/// Why a frame that goes to no queue is dropped.
+fn why_unwanted(why: Unwanted) -> Why
+    ensures { result ≡ why_unwanted why }
+{
+    match why {
+        Unwanted::Filter => Why::Filter,
+        Unwanted::NoPool => Why::NoPool,
+        Unwanted::PoolOff => Why::PoolOff,
     }
 }

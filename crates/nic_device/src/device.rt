@@ -120,7 +120,7 @@ impl Device {
         ensures { result ≡ word_told (step_of self.now (Event.Read Port.Pf address)).reply }
     {
         let place = place_of(address)?;
-        Some(self.registers.read(self.link, place) & view_of(address))
+        Some(self.registers.peek(self.link, place) & view_of(address))
     }
 
     /// How many bytes the frame has that `Collect` would give. 0 without one.

@@ -55,6 +55,12 @@ pub enum Why {
     Short,
     /// The frame is above the frame limit.
     Long,
+    /// The frame's destination isn't let in.
+    Filter,
+    /// There is no pool for the frame.
+    NoPool,
+    /// The frame's pool takes no frames.
+    PoolOff,
     /// As many frames wait as the receive list takes.
     Full,
     /// The frame's queue is off.

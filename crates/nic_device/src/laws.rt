@@ -1,7 +1,7 @@
 //! What the device promises as a whole. Each law is the contract of a function that does nothing: what it ensures holds
 //! of the definitions that the contract of `Device::step` cites.
 
-ghost use Rattle.nic_device.specs.Laws.{NewDeviceReadsResetValues, WriteShowsAtEachAddress, WriteLeavesOtherRegisters, ReadChangesNothing, StrayAccessChangesNothing, ReadLeavesQueues, WriteLeavesOtherQueues, AccessLeavesMemory, MemoryCallsLeaveQueues, MemoryCallsLeaveOtherBlocks, ArrivalLeavesQueues, ArrivalLeavesMemory, ReceivingLeavesOtherQueues, ReceivingLeavesOtherBlocks, TransmittingLeavesOtherQueues, TransmittingLeavesOtherBlocks, SwitchingLeavesOtherQueues, SwitchingLeavesMemory, LinkLeavesQueues, LinkLeavesMemory, PieceIsReadBack, FaultChangesNoMemory, StoppedDeviceIsIdle};
+ghost use Rattle.nic_device.specs.Laws.{NewDeviceReadsResetValues, WriteShowsAtEachAddress, WriteLeavesOtherRegisters, ReadChangesNothing, StrayAccessChangesNothing, ReadCounterStartsAgain, LetInFrameIsCounted, ReadLeavesQueues, WriteLeavesOtherQueues, AccessLeavesMemory, MemoryCallsLeaveQueues, MemoryCallsLeaveOtherBlocks, ArrivalLeavesQueues, ArrivalLeavesMemory, ReceivingLeavesOtherQueues, ReceivingLeavesOtherBlocks, TransmittingLeavesOtherQueues, TransmittingLeavesOtherBlocks, SwitchingLeavesOtherQueues, SwitchingLeavesMemory, LinkLeavesQueues, LinkLeavesMemory, PieceIsReadBack, FaultChangesNoMemory, StoppedDeviceIsIdle};
 
 /// A register of a new device reads as its reset value.
 pub fn new_device_reads_reset_values()
@@ -26,6 +26,16 @@ pub fn read_changes_nothing()
 /// An access of an address that names nothing answers a stray 0 and changes nothing.
 pub fn stray_access_changes_nothing()
     ensures { StrayAccessChangesNothing }
+{}
+
+/// A counter that was read reads as 0 after that, until it counts again.
+pub fn read_counter_starts_again()
+    ensures { ReadCounterStartsAgain }
+{}
+
+/// A frame that is let in is counted in GPRC, so that the next read gives one more. The largest word, 0xFFFFFFFF, stays.
+pub fn let_in_frame_is_counted()
+    ensures { LetInFrameIsCounted }
 {}
 
 /// A read of a register changes no queue, a write that asks for no reset none that its register isn't of, and neither

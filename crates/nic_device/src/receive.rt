@@ -2,13 +2,14 @@
 
 ghost use Rattle.std.specs.Prelude.{◌≡◌, ◌<◌, ◌+◌, ◌≤◌, length};
 ghost use Rattle.std.specs.VecDeque.{deque_len, deque_capacity};
-ghost use Rattle.nic_device.specs.Receive.{received, first_received, is_empty, after_piece};
+ghost use Rattle.nic_device.specs.Receive.{received, first_received, is_empty, after_piece, slotless_counted, piece_counted};
 
 use crate::device::Device;
 use crate::event::{Reply, Why};
 use crate::waiting::Waiting;
 use dma_ring::Ring;
-use register_file::Dir;
+use reg_table::RowId;
+use register_file::{Dir, RegisterFile};
 use rx_ring::{Filled, fill};
 use std::collections::VecDeque;
 
@@ -39,6 +40,7 @@ impl Device {
         let ring = self.registers.ring(Dir::Rx, queue);
         if is_empty(&ring) {
             if self.registers.drops(queue) && !first.is_begun() {
+                count_slotless(&mut self.registers, queue);
                 return Reply::Dropped(Why::NoSlot);
             }
             self.waiting.push_front_reserved(first);
@@ -47,7 +49,7 @@ impl Device {
         let control = self.registers.receive_control(queue);
         match fill(&mut self.memory, &ring, control, &first.item()) {
             Ok(filled) => {
-                self.registers.move_head(Dir::Rx, queue, filled.head);
+                count_piece(&mut self.registers, queue, &filled);
                 put_back(&mut self.waiting, first, &filled);
                 wrote(queue, &filled)
             }
@@ -64,6 +66,27 @@ pub(crate) fn is_empty(ring: &Ring) -> bool
     ensures { result ≡ is_empty ring.now }
 {
     !ring.outside() && ring.head == ring.tail
+}
+
+/// A frame of a queue was dropped for want of a slot.
+fn count_slotless(registers: &mut RegisterFile, queue: u16)
+    requires { queue < 128 }
+    ensures { registers.new ≡ slotless_counted registers.old queue }
+{
+    let counter = registers.counter(Dir::Rx, queue);
+    registers.count(RowId::Qprdc, counter);
+}
+
+/// A piece of a frame was written: the head moves on, and a frame that ends is counted.
+fn count_piece(registers: &mut RegisterFile, queue: u16, filled: &Filled)
+    requires { queue < 128 }
+    ensures { registers.new ≡ piece_counted registers.old queue filled.now }
+{
+    registers.move_head(Dir::Rx, queue, filled.head);
+    if filled.end {
+        let counter = registers.counter(Dir::Rx, queue);
+        registers.count(RowId::Qprc, counter);
+    }
 }
 
 /// What is told of a piece.

@@ -3,13 +3,14 @@
 ghost use Rattle.std.specs.Prelude.{◌≡◌, ◌≢◌, ◌<◌, false, IfOk, IfErr, OnOk, OnErr};
 ghost use Rattle.std.specs.VecDeque.{deque_len, deque_capacity};
 ghost use Rattle.register_file.specs.Sides.{transmit_queue_of};
-ghost use Rattle.nic_device.specs.Transmit.{transmitted, slot_fetched, is_silent, sending_of, fetched_reply, with_frame};
+ghost use Rattle.nic_device.specs.Transmit.{transmitted, slot_fetched, is_silent, sending_of, fetched_reply, with_frame, slot_counted};
 
 use crate::device::Device;
 use crate::event::{Event, OutOfMemory, Reply};
 use crate::receive::is_empty;
 use dma_arena::Octets;
-use register_file::{Dir, QUEUES};
+use reg_table::RowId;
+use register_file::{Dir, QUEUES, RegisterFile};
 use std::collections::VecDeque;
 use tx_ring::{Fetched, Tx, TxRefused, fetch};
 
@@ -77,7 +78,7 @@ impl Device {
         let staged = &mut self.staged[usize::from(queue)];
         match fetch(self.alloc, &mut self.memory, &ring, &sending, staged) {
             Ok(fetched) => {
-                self.registers.move_head(Dir::Tx, queue, fetched.head);
+                count_slot(&mut self.registers, queue, &fetched);
                 Ok(send(&mut self.out, queue, fetched))
             }
             Err(TxRefused::Fault(fault)) => {
@@ -89,6 +90,19 @@ impl Device {
                 event: Event::TxStep(queue),
             }),
         }
+    }
+}
+
+/// A slot was fetched: the head moves on, and a frame that goes out is counted.
+fn count_slot(registers: &mut RegisterFile, queue: u16, fetched: &Fetched)
+    requires { queue < 128 }
+    ensures { registers.new ≡ slot_counted registers.old queue fetched.now fetched.now.frame }
+{
+    let counter = registers.counter(Dir::Tx, queue);
+    registers.move_head(Dir::Tx, queue, fetched.head);
+    if fetched.frame.is_some() {
+        registers.count(RowId::Gptc, 0);
+        registers.count(RowId::Qptc, counter);
     }
 }
 

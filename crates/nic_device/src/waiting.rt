@@ -4,14 +4,14 @@ ghost use Rattle.std.specs.Prelude.{◌≡◌, ◌<◌, ◌≤◌, ◌+◌, ◌*
 ghost use Rattle.rx_ring.specs.Item.{rest_of};
 ghost use Rattle.nic_device.specs.State.{Waiting};
 ghost use Rattle.nic_device.specs.Arrival.{let_in};
-ghost use Rattle.nic_device.specs.Receive.{rest_of as rest_of_waiting};
+ghost use Rattle.nic_device.specs.Receive.{rest_of as rest_of_waiting, packet_of};
 
 use dma_arena::Octets;
+use dma_ring::{Packet, packet_word};
+use rss_hash::classify;
+use rx_filter::Target;
 use rx_ring::Item;
 use std::marker::Model;
-
-/// A hash has 1 at this place of the first half that is written back.
-const HASH_ONE: u64 = 0x1_0000_0000;
 
 /// A frame that waits to be received: its bytes, its queue, its hash with the type, and how many of its bytes are
 /// written.
@@ -37,23 +37,17 @@ impl Model for Waiting {
     ghost invariant = { λ w. (w.offset ≤ length w.frame) × (w.queue < 128) };
 }
 
-/// The first half that is written back: the type in its low bits, the hash in bits 63 to 32.
-fn first_half(hash: u32, rss: u8) -> u64
-    ensures { result ≡ rss + 2 ^ 32 * hash }
-{
-    u64::from(rss) + HASH_ONE * u64::from(hash)
-}
-
 impl Waiting {
-    /// A frame that was let in.
-    pub(crate) fn let_in(frame: Octets) -> Waiting
-        ensures { result ≡ let_in frame }
+    /// A frame that was let in, for a queue below 128.
+    pub(crate) fn let_in(frame: Octets, target: Target) -> Waiting
+        requires { target.queue < 128 }
+        ensures { result ≡ let_in frame target }
     {
         Waiting {
             frame,
-            queue: 0,
-            hash: 0,
-            rss: 0,
+            queue: target.queue,
+            hash: target.hash,
+            rss: target.rss,
             offset: 0,
         }
     }
@@ -73,6 +67,21 @@ impl Waiting {
         self.offset != 0
     }
 
+    /// What descriptors tell of it.
+    fn packet(&self) -> Packet
+        ensures { result ≡ packet_of self.now }
+    {
+        let flow = classify(self.frame.bytes());
+        Packet {
+            rss: self.rss,
+            ipv4: flow.version == 4,
+            ipv6: flow.version == 6,
+            tcp: flow.tcp,
+            udp: flow.udp,
+            hash: self.hash,
+        }
+    }
+
     /// What is left to write of it.
     pub(crate) fn item(&self) -> Item<'_>
         ensures rest { rest_of result ≡ rest_of_waiting self.now }
@@ -82,7 +91,7 @@ impl Waiting {
         Item {
             frame: self.frame.bytes(),
             offset: self.offset,
-            first: first_half(self.hash, self.rss),
+            first: packet_word(&self.packet()),
         }
     }
 

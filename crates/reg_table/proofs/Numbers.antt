@@ -3,21 +3,21 @@ use Rattle.std.proofs.Common.{◌≡◌, ◌<◌, map, length, get_or, refl, lit
 use Rattle.std.specs.Prelude.{Some, find}
 use Rattle.std.specs.List.{range_with_len}
 use Rattle.reg_table.specs.declared.rows.RowId.{RowId}
-use Rattle.reg_table.specs.declared.rows.RowId.TheVariants.{Ctrl, Status, CtrlExt, Ledctl, Eiac, Eitr, Gpie, Ivar, IvarMisc, Pvteiac, Pvteiam, Rdbal, Rdbah, Rdlen, Rdh, Srrctl, Rdt, Rxdctl, Rqsmr, Rdrxctl, Rxctrl, Hlreg0, Maxfrs, Autoc, Links, Dmatxctl, Rxcsum, Fctrl, Mcstctrl, VtCtl, Vfre, Vfte, Mta, Ral, Rah, Mrqc, Reta, Rssrk, Tdbal, Tdbah, Tdlen, Tdh, Tdt, Txdctl, Tdwbal, Tdwbah, Mtqc, Tqsm, Mpsar, Psrtype, GcrExt, Pvtivar}
+use Rattle.reg_table.specs.declared.rows.RowId.TheVariants.{Ctrl, Status, CtrlExt, Ledctl, Eiac, Eitr, Gpie, Ivar, IvarMisc, Pvteiac, Pvteiam, Rdbal, Rdbah, Rdlen, Rdh, Srrctl, Rdt, Rxdctl, Qprc, Qprdc, Rqsmr, Rdrxctl, Rxctrl, Mpc, Gprc, Gptc, Ruc, Roc, Hlreg0, Maxfrs, Autoc, Links, Dmatxctl, Rxcsum, Fctrl, Mcstctrl, VtCtl, Vfre, Vfte, Mta, Ral, Rah, Mrqc, Reta, Rssrk, Tdbal, Tdbah, Tdlen, Tdh, Tdt, Txdctl, Tdwbal, Tdwbah, Qptc, Mtqc, Tqsm, Mpsar, Psrtype, GcrExt, Pvtivar}
 use Rattle.reg_table.specs.Rows.{row_of, rows, number_of}
 use Rattle.reg_table.specs.Named.{is_named}
 
 -- how many rows there are
-pub rows_length : length rows ≡ 52
+pub rows_length : length rows ≡ 60
 unfolding rows
 rows_length = refl
 
 -- the rows stand in the order of their numbers
-pub rows_numbers : map number_of rows ≡ range_with_len 0 52
+pub rows_numbers : map number_of rows ≡ range_with_len 0 60
 unfolding rows
 rows_numbers = refl
 
-pub number_below : (r : RowId) → number_of r < 52
+pub number_below : (r : RowId) → number_of r < 60
 number_below Ctrl = lit< tt
 number_below Status = lit< tt
 number_below CtrlExt = lit< tt
@@ -36,9 +36,16 @@ number_below Rdh = lit< tt
 number_below Srrctl = lit< tt
 number_below Rdt = lit< tt
 number_below Rxdctl = lit< tt
+number_below Qprc = lit< tt
+number_below Qprdc = lit< tt
 number_below Rqsmr = lit< tt
 number_below Rdrxctl = lit< tt
 number_below Rxctrl = lit< tt
+number_below Mpc = lit< tt
+number_below Gprc = lit< tt
+number_below Gptc = lit< tt
+number_below Ruc = lit< tt
+number_below Roc = lit< tt
 number_below Hlreg0 = lit< tt
 number_below Maxfrs = lit< tt
 number_below Autoc = lit< tt
@@ -64,6 +71,7 @@ number_below Tdt = lit< tt
 number_below Txdctl = lit< tt
 number_below Tdwbal = lit< tt
 number_below Tdwbah = lit< tt
+number_below Qptc = lit< tt
 number_below Mtqc = lit< tt
 number_below Tqsm = lit< tt
 number_below Mpsar = lit< tt
@@ -92,9 +100,16 @@ row_numbered Rdh d = refl
 row_numbered Srrctl d = refl
 row_numbered Rdt d = refl
 row_numbered Rxdctl d = refl
+row_numbered Qprc d = refl
+row_numbered Qprdc d = refl
 row_numbered Rqsmr d = refl
 row_numbered Rdrxctl d = refl
 row_numbered Rxctrl d = refl
+row_numbered Mpc d = refl
+row_numbered Gprc d = refl
+row_numbered Gptc d = refl
+row_numbered Ruc d = refl
+row_numbered Roc d = refl
 row_numbered Hlreg0 d = refl
 row_numbered Maxfrs d = refl
 row_numbered Autoc d = refl
@@ -120,6 +135,7 @@ row_numbered Tdt d = refl
 row_numbered Txdctl d = refl
 row_numbered Tdwbal d = refl
 row_numbered Tdwbah d = refl
+row_numbered Qptc d = refl
 row_numbered Mtqc d = refl
 row_numbered Tqsm d = refl
 row_numbered Mpsar d = refl
@@ -148,9 +164,16 @@ row_found Rdh = refl
 row_found Srrctl = refl
 row_found Rdt = refl
 row_found Rxdctl = refl
+row_found Qprc = refl
+row_found Qprdc = refl
 row_found Rqsmr = refl
 row_found Rdrxctl = refl
 row_found Rxctrl = refl
+row_found Mpc = refl
+row_found Gprc = refl
+row_found Gptc = refl
+row_found Ruc = refl
+row_found Roc = refl
 row_found Hlreg0 = refl
 row_found Maxfrs = refl
 row_found Autoc = refl
@@ -176,6 +199,7 @@ row_found Tdt = refl
 row_found Txdctl = refl
 row_found Tdwbal = refl
 row_found Tdwbah = refl
+row_found Qptc = refl
 row_found Mtqc = refl
 row_found Tqsm = refl
 row_found Mpsar = refl

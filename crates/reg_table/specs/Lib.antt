@@ -5,4 +5,5 @@ pub mod Named
 pub mod Run
 pub mod Runs
 pub mod Place
+pub mod Counter
 pub mod Laws

@@ -5,6 +5,8 @@ pub enum Kind {
     Rw,
     /// A read gives a formula over other words and the link. A write changes nothing.
     Calc,
+    /// A counter. A read gives the word, which becomes 0. A write changes nothing.
+    Rc,
     /// As `Rw` while the register's queue is off. While it is on a write changes nothing.
     Held,
     /// The enable word of a queue's side. As `Rw`, and a write asks for bit 25, which is 1 while the side is on and

@@ -10,6 +10,7 @@
 //! values (docs/REGISTERS.md).
 #![tactic(auto)]
 
+mod counter;
 mod kind;
 mod laws;
 mod place;
@@ -18,6 +19,7 @@ mod rows;
 mod run;
 mod runs;
 
+pub use counter::bump;
 pub use kind::Kind;
 pub use laws::{
     address_has_one_place, addresses_are_aligned, first_addresses_read_back, name_has_one_row,

@@ -45,12 +45,26 @@ pub enum RowId {
     Rdt,
     /// Receive descriptor control.
     Rxdctl,
+    /// Frames received, in one of 16 counters of queues.
+    Qprc,
+    /// Frames dropped for want of a slot, in one of 16 counters of queues.
+    Qprdc,
     /// Receive queue statistics mapping.
     Rqsmr,
     /// Receive DMA control.
     Rdrxctl,
     /// Receive control.
     Rxctrl,
+    /// Frames missed for want of room.
+    Mpc,
+    /// Good frames received.
+    Gprc,
+    /// Good frames transmitted.
+    Gptc,
+    /// Frames received that are too short.
+    Ruc,
+    /// Frames received that are too long.
+    Roc,
     /// MAC highlander control 0.
     Hlreg0,
     /// Maximum frame size.
@@ -101,6 +115,8 @@ pub enum RowId {
     Tdwbal,
     /// Transmit head write-back address, high part.
     Tdwbah,
+    /// Frames transmitted, in one of 16 counters of queues.
+    Qptc,
     /// Multiple transmit queues command.
     Mtqc,
     /// Transmit queue statistics mapping.
@@ -116,7 +132,7 @@ pub enum RowId {
 }
 
 /// The rows, in the order of the table.
-pub(crate) static ROWS: [RowId; 52] = [
+pub(crate) static ROWS: [RowId; 60] = [
     RowId::Ctrl,
     RowId::Status,
     RowId::CtrlExt,
@@ -135,9 +151,16 @@ pub(crate) static ROWS: [RowId; 52] = [
     RowId::Srrctl,
     RowId::Rdt,
     RowId::Rxdctl,
+    RowId::Qprc,
+    RowId::Qprdc,
     RowId::Rqsmr,
     RowId::Rdrxctl,
     RowId::Rxctrl,
+    RowId::Mpc,
+    RowId::Gprc,
+    RowId::Gptc,
+    RowId::Ruc,
+    RowId::Roc,
     RowId::Hlreg0,
     RowId::Maxfrs,
     RowId::Autoc,
@@ -163,6 +186,7 @@ pub(crate) static ROWS: [RowId; 52] = [
     RowId::Txdctl,
     RowId::Tdwbal,
     RowId::Tdwbah,
+    RowId::Qptc,
     RowId::Mtqc,
     RowId::Tqsm,
     RowId::Mpsar,
@@ -207,9 +231,16 @@ pub(crate) fn entry_of(row: RowId) -> Entry
         RowId::Srrctl   => entry!("SRRCTL",   128, Rw, 0xFFFF_FFFF, 0x0000_0402),
         RowId::Rdt      => entry!("RDT",      128, Rw, 0x0000_FFFF, 0x0000_0000),
         RowId::Rxdctl   => entry!("RXDCTL",   128, Enable, 0xFDFF_FFFF, 0x0000_0000),
+        RowId::Qprc     => entry!("QPRC",      16, Rc, 0xFFFF_FFFF, 0x0000_0000),
+        RowId::Qprdc    => entry!("QPRDC",     16, Rc, 0xFFFF_FFFF, 0x0000_0000),
         RowId::Rqsmr    => entry!("RQSMR",     32, Rw, 0xFFFF_FFFF, 0x0000_0000),
         RowId::Rdrxctl  => entry!("RDRXCTL",    1, Rw, 0xFFFF_FFF7, 0x0000_0008),
         RowId::Rxctrl   => entry!("RXCTRL",     1, Rw, 0xFFFF_FFFF, 0x0000_0000),
+        RowId::Mpc      => entry!("MPC",        1, Rc, 0xFFFF_FFFF, 0x0000_0000),
+        RowId::Gprc     => entry!("GPRC",       1, Rc, 0xFFFF_FFFF, 0x0000_0000),
+        RowId::Gptc     => entry!("GPTC",       1, Rc, 0xFFFF_FFFF, 0x0000_0000),
+        RowId::Ruc      => entry!("RUC",        1, Rc, 0xFFFF_FFFF, 0x0000_0000),
+        RowId::Roc      => entry!("ROC",        1, Rc, 0xFFFF_FFFF, 0x0000_0000),
         RowId::Hlreg0   => entry!("HLREG0",     1, Rw, 0xFFFF_FFFF, 0x0000_0403),
         RowId::Maxfrs   => entry!("MAXFRS",     1, Rw, 0xFFFF_0000, 0x05EE_0000),
         RowId::Autoc    => entry!("AUTOC",      1, Rw, 0xFFFF_FFFF, 0x0000_0000),
@@ -235,6 +266,7 @@ pub(crate) fn entry_of(row: RowId) -> Entry
         RowId::Txdctl   => entry!("TXDCTL",   128, Enable, 0xFDFF_FFFF, 0x0000_0000),
         RowId::Tdwbal   => entry!("TDWBAL",   128, Rw, 0xFFFF_FFFD, 0x0000_0000),
         RowId::Tdwbah   => entry!("TDWBAH",   128, Rw, 0xFFFF_FFFF, 0x0000_0000),
+        RowId::Qptc     => entry!("QPTC",      16, Rc, 0xFFFF_FFFF, 0x0000_0000),
         RowId::Mtqc     => entry!("MTQC",       1, Rw, 0xFFFF_FFFF, 0x0000_0000),
         RowId::Tqsm     => entry!("TQSM",      32, Rw, 0xFFFF_FFFF, 0x0000_0000),
         RowId::Mpsar    => entry!("MPSAR",    256, Rw, 0xFFFF_FFFF, 0x0000_0000),

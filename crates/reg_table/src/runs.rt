@@ -17,7 +17,7 @@ macro_rules! run {
 
 /// The addresses of the rows: row, first address, stride, first index, how many, whether only bits 15:0 show.
 #[rattlefmt::skip]
-pub(crate) static RUNS: [Run; 68] = [
+pub(crate) static RUNS: [Run; 76] = [
     run!(Ctrl,     0x00000,  4,  0,   1, false),
     run!(Ctrl,     0x00004,  4,  0,   1, false),
     run!(Status,   0x00008,  4,  0,   1, false),
@@ -46,9 +46,16 @@ pub(crate) static RUNS: [Run; 68] = [
     run!(Rdt,      0x0D018, 64, 64,  64, false),
     run!(Rxdctl,   0x01028, 64,  0,  64, false),
     run!(Rxdctl,   0x0D028, 64, 64,  64, false),
+    run!(Qprc,     0x01030, 64,  0,  16, false),
+    run!(Qprdc,    0x01430, 64,  0,  16, false),
     run!(Rqsmr,    0x02300,  4,  0,  32, false),
     run!(Rdrxctl,  0x02F00,  4,  0,   1, false),
     run!(Rxctrl,   0x03000,  4,  0,   1, false),
+    run!(Mpc,      0x03FA0,  4,  0,   1, false),
+    run!(Gprc,     0x04074,  4,  0,   1, false),
+    run!(Gptc,     0x04080,  4,  0,   1, false),
+    run!(Ruc,      0x040A4,  4,  0,   1, false),
+    run!(Roc,      0x040AC,  4,  0,   1, false),
     run!(Hlreg0,   0x04240,  4,  0,   1, false),
     run!(Maxfrs,   0x04268,  4,  0,   1, false),
     run!(Autoc,    0x042A0,  4,  0,   1, false),
@@ -79,6 +86,7 @@ pub(crate) static RUNS: [Run; 68] = [
     run!(Txdctl,   0x06028, 64,  0, 128, false),
     run!(Tdwbal,   0x06038, 64,  0, 128, false),
     run!(Tdwbah,   0x0603C, 64,  0, 128, false),
+    run!(Qptc,     0x06030, 64,  0,  16, false),
     run!(Mtqc,     0x08120,  4,  0,   1, false),
     run!(Tqsm,     0x08600,  4,  0,  32, false),
     run!(Mpsar,    0x0A600,  4,  0, 256, false),

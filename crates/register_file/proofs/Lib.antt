@@ -1,4 +1,5 @@
 pub mod Bits
+pub mod Counting
 pub mod Places
 pub mod Puts
 pub mod Shape

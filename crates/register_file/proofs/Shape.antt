@@ -6,9 +6,11 @@ use Rattle.reg_table.specs.Rows.{row_of, rows, number_of}
 use Rattle.reg_table.specs.declared.place.Place.{Place}
 use Rattle.reg_table.specs.declared.kind.Kind.{Kind}
 use Rattle.reg_table.specs.declared.kind.Kind.TheVariants as kind
-use Rattle.register_file.specs.Access.{written, stored, side_of}
+use Rattle.reg_table.specs.declared.rows.RowId.{RowId}
+use Rattle.register_file.specs.Access.{after_read, written, stored, side_of}
 use Rattle.register_file.specs.Bits.{has_bit}
 use Rattle.register_file.specs.Columns.{place}
+use Rattle.register_file.specs.Counters.{counted}
 use Rattle.register_file.specs.Laws.{HasShape}
 use Rattle.register_file.specs.Queue.{is_on, enable_row, head_row, with_head, switched, switched_on, switched_off, shut}
 use Rattle.register_file.specs.Registers.{Registers, reset_registers, is_wanted, with_wanted}
@@ -63,10 +65,22 @@ HasShape-stored r p view word h = HasShape-put r p _ h
 pub HasShape-written : (k : Kind) (r : Registers) (p : Place) (view word : ℕ) → HasShape r → HasShape (written k r p view word)
 HasShape-written kind.Rw r p view word h = HasShape-stored r p view word h
 HasShape-written kind.Calc r p view word h = h
+HasShape-written kind.Rc r p view word h = h
 HasShape-written kind.Held r p view word h = HasShape-if (is_on r (side_of p.row) p.index) r (stored r p view word) h (HasShape-stored r p view word h)
 HasShape-written kind.Enable r p view word h =
     HasShape-with_wanted (stored r p view word) (side_of p.row) p.index (has_bit 25 word) (HasShape-stored r p view word h)
 HasShape-written kind.Ctrl r p view word h = HasShape-stored r p view word h
+
+pub HasShape-after_read : (k : Kind) (r : Registers) (p : Place) → HasShape r → HasShape (after_read k r p)
+HasShape-after_read kind.Rc r p h = HasShape-put r p 0 h
+HasShape-after_read kind.Rw r p h = h
+HasShape-after_read kind.Calc r p h = h
+HasShape-after_read kind.Held r p h = h
+HasShape-after_read kind.Enable r p h = h
+HasShape-after_read kind.Ctrl r p h = h
+
+pub HasShape-counted : (r : Registers) (row : RowId) (index : ℕ) → HasShape r → HasShape (counted r row index)
+HasShape-counted r row index h = HasShape-put r (place row index) _ h
 
 pub HasShape-with_head : (r : Registers) (dir : Dir) (queue head : ℕ) → HasShape r → HasShape (with_head r dir queue head)
 HasShape-with_head r dir queue head h = HasShape-put r (place (head_row dir) queue) head h

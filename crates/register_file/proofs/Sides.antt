@@ -84,6 +84,7 @@ if_words false r s p w e f = f
 pub word_at-written_other : (k : Kind) (r : Registers) (p q : Place) (view word : ℕ) → q ≢ p → word_at (written k r p view word).words q ≡ word_at r.words q
 word_at-written_other kind.Rw r p q view word n = word_at-put_other r.words p q _ n
 word_at-written_other kind.Calc r p q view word n = refl
+word_at-written_other kind.Rc r p q view word n = refl
 word_at-written_other kind.Held r p q view word n = if_words (is_on r (side_of p.row) p.index) r (stored r p view word) q (word_at r.words q) refl (word_at-put_other r.words p q _ n)
 word_at-written_other kind.Enable r p q view word n =
     ap (λ ws. word_at ws q) (words-with_wanted (stored r p view word) (side_of p.row) p.index (has_bit 25 word)) ∙ word_at-put_other r.words p q _ n
@@ -101,6 +102,7 @@ is_wanted-stored r p view word Tx queue = refl
 pub is_wanted-written : (k : Kind) (r : Registers) (p : Place) (view word : ℕ) (dir : Dir) (queue : ℕ) → (k ≡ kind.Enable → side_of p.row ≡ dir → p.index ≢ queue) → is_wanted (written k r p view word) dir queue ≡ is_wanted r dir queue
 is_wanted-written kind.Rw r p view word dir queue n = is_wanted-stored r p view word dir queue
 is_wanted-written kind.Calc r p view word dir queue n = refl
+is_wanted-written kind.Rc r p view word dir queue n = refl
 is_wanted-written kind.Held r p view word dir queue n = if_wanted (is_on r (side_of p.row) p.index) r (stored r p view word) dir queue (is_wanted r dir queue) refl (is_wanted-stored r p view word dir queue)
 is_wanted-written kind.Enable r p view word dir queue n =
     is_wanted-with_wanted_other (stored r p view word) (side_of p.row) dir p.index queue (has_bit 25 word) (n refl) ∙ is_wanted-stored r p view word dir queue

@@ -24,9 +24,15 @@ calculated other r link = 0
 abbrev pub read_word : Kind → Registers → Bool → Place → ℕ
 read_word kind.Rw r link p = word_at r.words p
 read_word kind.Calc r link p = calculated p.row r link
+read_word kind.Rc r link p = word_at r.words p
 read_word kind.Held r link p = word_at r.words p
 read_word kind.Enable r link p = word_at r.words p
 read_word kind.Ctrl r link p = word_at r.words p
+
+-- the registers after a read of a place: a counter starts again from 0
+abbrev pub after_read : Kind → Registers → Place → Registers
+after_read kind.Rc r p = record r { words = put r.words p 0 }
+after_read other r p = r
 
 -- the side of a queue that a row belongs to
 abbrev pub side_of : RowId → Dir
@@ -47,6 +53,7 @@ stored r p view word =
 abbrev pub written : Kind → Registers → Place → ℕ → ℕ → Registers
 written kind.Rw r p view word = stored r p view word
 written kind.Calc r p view word = r
+written kind.Rc r p view word = r
 written kind.Held r p view word = if is_on r (side_of p.row) p.index then r else stored r p view word
 written kind.Enable r p view word = with_wanted (stored r p view word) (side_of p.row) p.index (has_bit 25 word)
 written kind.Ctrl r p view word = stored r p view word

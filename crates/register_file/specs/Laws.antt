@@ -5,9 +5,11 @@ use Rattle.reg_table.specs.declared.place.Place.{Place}
 use Rattle.reg_table.specs.declared.kind.Kind.TheVariants as kind
 use Rattle.reg_table.specs.declared.rows.RowId.{RowId}
 use Rattle.reg_table.specs.declared.rows.RowId.TheVariants.{Rdbal, Rdbah, Rdlen, Rdh, Rdt, Srrctl, Rxdctl, Tdbal, Tdbah, Tdlen, Tdh, Tdt, Tdwbal, Tdwbah, Txdctl}
-use Rattle.register_file.specs.Access.{read_word, written}
+use Rattle.reg_table.specs.Counter.{bumped}
+use Rattle.register_file.specs.Access.{read_word, after_read, written}
 use Rattle.register_file.specs.Bits.{merged, has_bit}
 use Rattle.register_file.specs.Columns.{place}
+use Rattle.register_file.specs.Counters.{counted}
 use Rattle.register_file.specs.Queue.{ring_of, is_on, base_low_row, base_high_row, length_row, head_row, enable_row, with_head, switched, shut}
 use Rattle.register_file.specs.Registers.{Registers, reset_registers, is_wanted}
 use Rattle.register_file.specs.Sides.{receive_queue_of, transmit_queue_of}
@@ -32,6 +34,12 @@ ResetHasShape = HasShape reset_registers
 
 abbrev pub WriteKeepsShape : Type 0
 WriteKeepsShape = (r : Registers) → HasShape r → (p : Place) (view word : ℕ) → HasShape (after_write r p view word)
+
+abbrev pub ReadKeepsShape : Type 0
+ReadKeepsShape = (r : Registers) → HasShape r → (p : Place) → HasShape (after_read (row_of p.row).kind r p)
+
+abbrev pub CountKeepsShape : Type 0
+CountKeepsShape = (r : Registers) → HasShape r → (row : RowId) (index : ℕ) → HasShape (counted r row index)
 
 abbrev pub HeadKeepsShape : Type 0
 HeadKeepsShape = (r : Registers) → HasShape r → (dir : Dir) (queue head : ℕ) → HasShape (with_head r dir queue head)
@@ -177,3 +185,29 @@ EnableWriteAsksTransmit =
     (r : Registers) → HasShape r → (queue view word : ℕ) → queue < 128 →
     transmit_queue_of (after_write r (place Txdctl queue) view word) queue
     ≡ record (transmit_queue_of r queue) { wanted = has_bit 25 word }
+
+-- a counter: what is counted is read, one more each time up to the largest word, and a read starts it again from 0
+pub record CountsAndClears (r : Registers) (p : Place) : Type 0 where
+  pub counts : (link : Bool)
+      → read_word kind.Rc (counted r p.row p.index) link p ≡ bumped (read_word kind.Rc r link p)
+  pub clears : (link : Bool) → read_word kind.Rc (after_read kind.Rc r p) link p ≡ 0
+
+abbrev pub CountersCount : Type 0
+CountersCount =
+    (r : Registers) → HasShape r → (p : Place) → p.index < (row_of p.row).count → (row_of p.row).kind ≡ kind.Rc →
+    CountsAndClears r p
+
+-- both sides of every queue are as they were, and so is every word of a row that is no counter
+pub record ChangesCountersOnly (old new : Registers) : Type 0 where
+  pub receive : (queue : ℕ) → receive_queue_of new queue ≡ receive_queue_of old queue
+  pub transmit : (queue : ℕ) → transmit_queue_of new queue ≡ transmit_queue_of old queue
+  pub words : (p : Place) → (row_of p.row).kind ≢ kind.Rc → word_at new.words p ≡ word_at old.words p
+
+-- reads and counting change nothing but counters
+abbrev pub ReadLeavesTheRest : Type 0
+ReadLeavesTheRest = (r : Registers) (p : Place) → ChangesCountersOnly r (after_read (row_of p.row).kind r p)
+
+abbrev pub CountLeavesTheRest : Type 0
+CountLeavesTheRest =
+    (r : Registers) (row : RowId) (index : ℕ) → (row_of row).kind ≡ kind.Rc →
+    ChangesCountersOnly r (counted r row index)

@@ -1,6 +1,7 @@
 pub mod Access
 pub mod Bits
 pub mod Columns
+pub mod Counters
 pub mod Filled
 pub mod Laws
 pub mod Queue

@@ -2,7 +2,7 @@
 
 ghost use Rattle.std.specs.Prelude.{◌≡◌, ◌<◌, bit_and};
 ghost use Rattle.reg_table.specs.Rows.{row_of};
-ghost use Rattle.register_file.specs.Access.{read_word, written, stored, calculated, side_of, asks_reset};
+ghost use Rattle.register_file.specs.Access.{read_word, after_read, written, stored, calculated, side_of, asks_reset};
 
 use crate::dir::Dir;
 use crate::queue::ENABLE;
@@ -27,7 +27,7 @@ pub fn asks_reset(place: Place, word: u32) -> bool
 {
     match kind_of(place.row) {
         Kind::Ctrl => word / LINK_RESET % 2 == 1 || word / DEVICE_RESET % 2 == 1,
-        Kind::Rw | Kind::Calc | Kind::Held | Kind::Enable => false,
+        Kind::Rw | Kind::Calc | Kind::Rc | Kind::Held | Kind::Enable => false,
     }
 }
 
@@ -42,17 +42,40 @@ fn side_of(row: RowId) -> Dir
 }
 
 impl RegisterFile {
-    /// The word that a read of a place gives, before the address cuts it; `link` is whether the link is up. The index
-    /// is below the row's count.
-    pub fn read(&self, link: bool, place: Place) -> u32
+    /// The word that a read of a place gives, before the address cuts it, with no effect of the read; `link` is whether
+    /// the link is up. The index is below the row's count.
+    pub fn peek(&self, link: bool, place: Place) -> u32
         requires { place.index < (row_of place.row).count }
         ensures { result ≡ read_word (row_of place.row).kind self.now link place }
     {
         match kind_of(place.row) {
             Kind::Calc => self.calculated(link, place.row),
-            Kind::Rw | Kind::Held | Kind::Enable | Kind::Ctrl => {
+            Kind::Rw | Kind::Rc | Kind::Held | Kind::Enable | Kind::Ctrl => {
                 self.word(place.row, place.index)
             }
+        }
+    }
+
+    /// Reads a place: the word before the address cuts it; `link` is whether the link is up. A counter starts again
+    /// from 0, and nothing else changes. The index is below the row's count.
+    pub fn read(&mut self, link: bool, place: Place) -> u32
+        requires { place.index < (row_of place.row).count }
+        ensures word { result ≡ read_word (row_of place.row).kind self.old link place }
+        ensures state { self.new ≡ after_read (row_of place.row).kind self.old place }
+    {
+        let word = self.peek(link, place);
+        self.end_read(place);
+        word
+    }
+
+    /// What a read of a place leaves: a counter starts again from 0.
+    fn end_read(&mut self, place: Place)
+        requires { place.index < (row_of place.row).count }
+        ensures { self.new ≡ after_read (row_of place.row).kind self.old place }
+    {
+        match kind_of(place.row) {
+            Kind::Rc => self.set_word(place.row, place.index, 0),
+            Kind::Rw | Kind::Calc | Kind::Held | Kind::Enable | Kind::Ctrl => {}
         }
     }
 
@@ -64,7 +87,7 @@ impl RegisterFile {
     {
         match kind_of(place.row) {
             Kind::Rw | Kind::Ctrl => self.store(place, view, word),
-            Kind::Calc => {}
+            Kind::Calc | Kind::Rc => {}
             Kind::Held => {
                 if !self.is_on(side_of(place.row), place.index) {
                     self.store(place, view, word);

@@ -1,11 +1,13 @@
 //! What the registers promise as a whole. Each law is the contract of a function that does nothing.
 
-ghost use Rattle.register_file.specs.Laws.{ResetHasShape, WriteKeepsShape, HeadKeepsShape, SwitchKeepsShape, ShutKeepsShape, ResetGivesResetValues, ResetSwitchesOff, StoredWordReadsBack, WriteLeavesOtherWords, WriteLeavesOtherReceiveQueues, WriteLeavesOtherTransmitQueues, HeadLeavesTheRest, SwitchLeavesTheRest, ShutLeavesTheRest, HeadMovesReceive, HeadMovesTransmit, SwitchObeysReceive, SwitchObeysTransmit, ShutIsOffReceive, ShutIsOffTransmit, RingIsHeldWhileOn, EnableWriteAsksReceive, EnableWriteAsksTransmit};
+ghost use Rattle.register_file.specs.Laws.{ResetHasShape, WriteKeepsShape, ReadKeepsShape, CountKeepsShape, HeadKeepsShape, SwitchKeepsShape, ShutKeepsShape, ResetGivesResetValues, ResetSwitchesOff, StoredWordReadsBack, WriteLeavesOtherWords, WriteLeavesOtherReceiveQueues, WriteLeavesOtherTransmitQueues, HeadLeavesTheRest, SwitchLeavesTheRest, ShutLeavesTheRest, HeadMovesReceive, HeadMovesTransmit, SwitchObeysReceive, SwitchObeysTransmit, ShutIsOffReceive, ShutIsOffTransmit, RingIsHeldWhileOn, EnableWriteAsksReceive, EnableWriteAsksTransmit, CountersCount, ReadLeavesTheRest, CountLeavesTheRest};
 
 /// The registers have each place of the table after a reset, and keep it through every change.
 pub fn shape_is_kept()
     ensures reset { ResetHasShape }
     ensures write { WriteKeepsShape }
+    ensures read { ReadKeepsShape }
+    ensures count { CountKeepsShape }
     ensures head { HeadKeepsShape }
     ensures switch { SwitchKeepsShape }
     ensures shut { ShutKeepsShape }
@@ -67,4 +69,15 @@ pub fn ring_is_held_while_on()
 pub fn enable_write_only_asks()
     ensures receive { EnableWriteAsksReceive }
     ensures transmit { EnableWriteAsksTransmit }
+{}
+
+/// What is counted is read: one more each time, up to the largest word. A read starts the counter again from 0.
+pub fn counters_count()
+    ensures { CountersCount }
+{}
+
+/// Reads and counting leave both sides of every queue, and every word of a row that is no counter.
+pub fn reads_and_counts_change_counters_only()
+    ensures read { ReadLeavesTheRest }
+    ensures count { CountLeavesTheRest }
 {}

@@ -16,7 +16,7 @@ pub const QUEUES: u16 = 128;
 /// The words of all registers, and which sides of queues are wanted on.
 #[derive(Drop)]
 pub struct RegisterFile {
-    words: WordMap,
+    pub(crate) words: WordMap,
     wanted_rx: [bool; 128],
     wanted_tx: [bool; 128],
 }
@@ -52,8 +52,9 @@ impl RegisterFile {
         self.wanted_tx = [false; 128];
     }
 
-    /// The word of a row at an index below the row's count.
-    pub(crate) fn word(&self, row: RowId, index: u16) -> u32
+    /// The word of a row at an index below the row's count, 0 to 0xFFFFFFFF, as it was stored: what is calculated, and
+    /// what a read does, is left to `peek` and `read`.
+    pub fn word(&self, row: RowId, index: u16) -> u32
         requires { index < (row_of row).count }
         ensures { result ≡ word_of self.now row index }
     {

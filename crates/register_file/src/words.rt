@@ -2,7 +2,7 @@
 
 ghost use Rattle.std.specs.Prelude.{◌≡◌, ◌<◌, length, IsOk, IfOk, OnOk};
 ghost use Rattle.reg_table.specs.Rows.{row_of, rows};
-ghost use Rattle.register_file.specs.Words.{word_at, put, reset_words};
+ghost use Rattle.register_file.specs.Words.{row_words, word_at, put, reset_words};
 ghost use Rattle.register_file.specs.Filled.{KeepsOtherRows, HasResetRows, HasResetWords};
 ghost use Rattle.register_file.specs.Columns.{HasPlaces};
 ghost use Rattle.std.specs.BTreeMap.{get};
@@ -56,6 +56,13 @@ impl WordMap {
         ensures { result ≡ word_at self.now place }
     {
         self.words.get(&place).copied().unwrap_or(0)
+    }
+
+    /// Each row has as many words as it has indices. It does nothing.
+    pub(crate) fn has_whole_rows(&self, row: RowId)
+        ensures { length (row_words self.now row) ≡ (row_of row).count }
+    {
+        let _opened = &self.words;
     }
 
     /// Sets the word at a place.

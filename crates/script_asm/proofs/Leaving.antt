@@ -23,7 +23,9 @@ use Rattle.register_file.specs.Sides.{ReceiveQueue, TransmitQueue, receive_queue
 use Rattle.register_file.specs.declared.dir.Dir.{Dir}
 use Rattle.register_file.specs.declared.dir.Dir.TheVariants.{Rx, Tx}
 use Rattle.nic_device.specs.Access.{place_read, place_written, state_written}
-use Rattle.nic_device.specs.Arrival.{arrived, joined}
+use Rattle.rx_filter.specs.declared.target.Target.{Target}
+use Rattle.rx_filter.specs.declared.unwanted.Unwanted.{Unwanted}
+use Rattle.nic_device.specs.Arrival.{arrived, joined, sorted_in}
 use Rattle.nic_device.specs.Lending.{peeked, poked}
 use Rattle.nic_device.specs.Link.{link_set, oldest_collected}
 use Rattle.nic_device.specs.Outcome.{Outcome, gives}
@@ -76,11 +78,15 @@ written s address bytes = record { lent = SameLent-write_at s.memory address byt
 poked-leaves : (s : State) (address : ℕ) (bytes : List ℕ) → Leaves s (poked s address bytes)
 poked-leaves s address bytes = search (rules, either, written, still)
 
-joined-leaves : (s : State) (frame : List ℕ) → Leaves s (joined s frame)
-joined-leaves s frame = search (rules, either, still)
+joined-leaves : (s : State) (frame : List ℕ) (t : Target) → Leaves s (joined s frame t)
+joined-leaves s frame t = search (rules, either, still)
+
+sorted_in-leaves : (s : State) (frame : List ℕ) (answer : Result Target Unwanted) → Leaves s (sorted_in s frame answer)
+sorted_in-leaves s frame (Ok t) = joined-leaves s frame t
+sorted_in-leaves s frame (Err why) = record { lent = λ n. refl; none = tt }
 
 arrived-leaves : (s : State) (frame : List ℕ) → Leaves s (arrived s frame)
-arrived-leaves s frame = search (rules, either, still, joined-leaves)
+arrived-leaves s frame = search (rules, either, still, sorted_in-leaves)
 
 slot_filled-leaves : (s : State) (w : Waiting) (others : List Waiting) (answer : Result Filled RingFault) (memory : Memory) → SameLent memory s.memory
     → Leaves s (rx.slot_done s w others answer memory)

@@ -7,11 +7,12 @@ use bench::{Outcome, bench};
 use std::{fs, io};
 
 /// The scripts, each with the status that its run ends with.
-const EXAMPLES: [(&str, u8); 6] = [
+const EXAMPLES: [(&str, u8); 7] = [
     ("first", 0),
     ("masks", 0),
     ("aliases", 0),
     ("receive", 0),
+    ("rss", 0),
     ("send", 0),
     ("fault", 2),
 ];

@@ -1,4 +1,4 @@
-use Rattle.register_file.proofs.Shape.{HasShape-reset, HasShape-written, HasShape-with_head, HasShape-switched, HasShape-shut}
+use Rattle.register_file.proofs.Shape.{HasShape-reset, HasShape-written, HasShape-after_read, HasShape-counted, HasShape-with_head, HasShape-switched, HasShape-shut}
 use Rattle.reg_table.specs.Rows.{row_of}
 use Rattle.register_file.proofs.laws.shape_is_kept.Goals as goal
 
@@ -7,6 +7,12 @@ returns-clause-reset c = HasShape-reset
 
 pub returns-clause-write : goal.returns-clause-write
 returns-clause-write c = λ r h p view word. HasShape-written (row_of p.row).kind r p view word h
+
+pub returns-clause-read : goal.returns-clause-read
+returns-clause-read c = λ r h p. HasShape-after_read (row_of p.row).kind r p h
+
+pub returns-clause-count : goal.returns-clause-count
+returns-clause-count c = λ r h row index. HasShape-counted r row index h
 
 pub returns-clause-head : goal.returns-clause-head
 returns-clause-head c = λ r h dir queue head. HasShape-with_head r dir queue head h

@@ -1,0 +1,219 @@
+//! What `nicbench hash` makes of what it reads.
+ghost use Rattle.std.specs.Prelude.{◌≡◌, ◌≢◌, ℕ, List, [], Err, IfOk, IfSome, None, Ok, OnErr, OnOk};
+ghost use Rattle.std.specs.Prelude.{Result, Some};
+ghost use Rattle.std.specs.Io.KnownBytes.{Appends};
+ghost use Rattle.std.specs.Option.{option_map};
+ghost use Rattle.lexer.specs.Lines.{lines_of};
+ghost use Rattle.lexer.specs.Words.{words_of};
+ghost use Rattle.rss_hash.specs.Toeplitz.{toeplitz_hash};
+ghost use Rattle.bench.specs.Answer.{Writes, WritesBeginning, refused};
+ghost use Rattle.bench.specs.Hash.{bytes_said, hash_answer, hashed, if_input, if_key, inputs_of};
+ghost use Rattle.bench.specs.Hash.{line_and, lines_answer, word_line, words_answer};
+
+use crate::failure::Failure;
+use crate::refusal::{Refusal, write_refusal};
+use crate::text::{NoText, read_text};
+use crate::words::WordText;
+use lexer::{HexFault, Line, Lines, Words, hex_bytes};
+use rss_hash::{Key, hash};
+use std::alloc::{AllocFailed, Global};
+use std::io::{Read, Write};
+
+/// How many bytes a key has.
+const KEY_BYTES: usize = 40;
+
+/// How many bytes an input may have.
+const INPUT_BYTES: usize = 36;
+
+/// Why there are no hashes.
+#[derive(Clone, Copy, Debug, PartialEq, Eq)]
+enum HashFault {
+    /// The line of this number is of another form.
+    Syntax(usize),
+    /// No memory.
+    OutOfMemory,
+}
+
+impl<T: Drop> From<AllocFailed<T>> for HashFault {
+    ghost use Rattle.bench.specs.declared.hashing.HashFault.TheVariants.{OutOfMemory};
+
+    ghost from_gives = { λ _ fault. fault ≡ OutOfMemory };
+
+    fn from(_error: AllocFailed<T>) -> HashFault {
+        HashFault::OutOfMemory
+    }
+}
+
+impl HashFault {
+    /// What is wrong with the line of this number.
+    fn of(number: usize, fault: HexFault) -> HashFault
+        ensures malformed { (n : ℕ) → result ≡ HashFault.Syntax n
+            → (n ≡ number) × (fault ≡ HexFault.Malformed) }
+    {
+        match fault {
+            HexFault::Malformed => HashFault::Syntax(number),
+            HexFault::OutOfMemory => HashFault::OutOfMemory,
+        }
+    }
+}
+
+/// The bytes of hex that the words are, where there is one word.
+fn read_bytes(alloc: Global, mut words: Words<'_>) -> Result<Vec<u8>, HexFault>
+    ensures ok { IfOk result (λ bytes. bytes_said words.entry ≡ Some bytes.items) }
+    ensures malformed { result ≡ Err HexFault.Malformed → bytes_said words.entry ≡ None }
+{
+    let Some(word) = words.next() else {
+        return Err(HexFault::Malformed);
+    };
+    match words.next() {
+        None => hex_bytes(alloc, word),
+        Some(_) => Err(HexFault::Malformed),
+    }
+}
+
+/// The key that the words are.
+fn read_key(alloc: Global, words: Words<'_>) -> Result<Key, HexFault>
+    ensures ok { IfOk result (λ key. if_key (bytes_said words.entry) ≡ Some key.0) }
+    ensures malformed { result ≡ Err HexFault.Malformed
+        → if_key (bytes_said words.entry) ≡ None }
+{
+    let bytes = read_bytes(alloc, words)?;
+    match <[u8; KEY_BYTES]>::try_from(bytes.as_slice()) {
+        Ok(key) => Ok(Key(key)),
+        Err(_) => Err(HexFault::Malformed),
+    }
+}
+
+/// The hash of the input that the words are.
+fn hash_input(alloc: Global, key: &Key, words: Words<'_>) -> Result<u32, HexFault>
+    ensures ok { IfOk result (λ hash. option_map (toeplitz_hash key.now.0)
+        (if_input (bytes_said words.entry)) ≡ Some hash) }
+    ensures malformed { result ≡ Err HexFault.Malformed
+        → if_input (bytes_said words.entry) ≡ None }
+{
+    let input = read_bytes(alloc, words)?;
+    if input.len() > INPUT_BYTES {
+        return Err(HexFault::Malformed);
+    }
+    Ok(hash(key, &input))
+}
+
+/// Adds the hash of the input on a line, where it has a word.
+fn add_line(
+    alloc: Global,
+    key: &Key,
+    hashes: &mut Vec<u32>,
+    line: Line<'_>,
+) -> Result<(), HashFault>
+    ensures ok { OnOk result ((more : Result (List (List ℕ)) ℕ) → hashed key.now.0 hashes.old.items
+        (line_and line.entry.number (words_of line.entry.text.now) more)
+        ≡ hashed key.now.0 hashes.new.items more) }
+    ensures syntax { (n : ℕ) → result ≡ Err (HashFault.Syntax n)
+        → (more : Result (List (List ℕ)) ℕ)
+        → line_and line.entry.number (words_of line.entry.text.now) more ≡ Err n }
+{
+    if Words::of(line.text).next().is_none() {
+        return Ok(());
+    }
+    match hash_input(alloc, key, Words::of(line.text)) {
+        Ok(hash) => hashes.push(hash)?,
+        Err(fault) => return Err(HashFault::of(line.number, fault)),
+    }
+    Ok(())
+}
+
+/// The hashes of the inputs on the lines behind the key.
+fn hash_inputs(alloc: Global, key: &Key, lines: Lines<'_>) -> Result<Vec<u32>, HashFault>
+    ensures ok { IfOk result (λ hashes. hashed key.now.0 [] (inputs_of lines.entry)
+        ≡ Ok hashes.items) }
+    ensures syntax { (n : ℕ) → result ≡ Err (HashFault.Syntax n)
+        → hashed key.now.0 [] (inputs_of lines.entry) ≡ Err n }
+{
+    let mut hashes = Vec::new(alloc);
+    for line in lines {
+        add_line(alloc, key, &mut hashes, line)?;
+    }
+    Ok(hashes)
+}
+
+/// The hashes of the inputs in a text, under the key on its first line.
+fn hashes_in(alloc: Global, text: &str) -> Result<Vec<u32>, HashFault>
+    ensures ok { IfOk result (λ hashes. lines_answer (lines_of text.now)
+        ≡ words_answer hashes.items) }
+    ensures syntax { (n : ℕ) → result ≡ Err (HashFault.Syntax n)
+        → lines_answer (lines_of text.now) ≡ refused (Refusal.Syntax n) }
+{
+    let mut lines = Lines::of(text);
+    let Some(first) = lines.next() else {
+        return Err(HashFault::Syntax(1));
+    };
+    match read_key(alloc, Words::of(first.text)) {
+        Ok(key) => hash_inputs(alloc, &key, lines),
+        Err(fault) => Err(HashFault::of(first.number, fault)),
+    }
+}
+
+/// Writes a hash on a line of its own.
+fn write_hash<W: Write>(writer: &mut W, hash: u32) -> Result<(), Failure>
+    ensures ok { OnOk result (Appends (W.contents writer.old) (W.contents writer.new)
+        (word_line hash)) }
+    ensures err { OnErr result (result ≡ Err Failure.Write) }
+{
+    let hash = WordText(hash);
+    match write!(writer, "{hash}\n") {
+        Ok(()) => Ok(()),
+        Err(_) => Err(Failure::Write),
+    }
+}
+
+/// Writes hashes, each on a line of its own, and gives the status of that.
+fn write_hashes<W: Write>(writer: &mut W, hashes: &[u32]) -> Result<u8, Failure>
+    ensures ok { IfOk result (Writes (W.contents writer.old) (W.contents writer.new)
+        (words_answer hashes.now)) }
+    ensures err { OnErr result (result ≡ Err Failure.Write) }
+{
+    for hash in hashes {
+        write_hash(writer, *hash)?;
+    }
+    Ok(0)
+}
+
+/// Hashes the lines of a text.
+fn hash_text<W: Write>(alloc: Global, text: &str, writer: &mut W) -> Result<u8, Failure>
+    ensures ok { IfOk result (Writes (W.contents writer.old) (W.contents writer.new)
+        (lines_answer (lines_of text.now))) }
+    ensures begun { result ≡ Err Failure.OutOfMemory → WritesBeginning (W.contents writer.old)
+        (W.contents writer.new) (lines_answer (lines_of text.now)).text }
+    ensures read { result ≢ Err Failure.Read }
+{
+    match hashes_in(alloc, text) {
+        Ok(hashes) => write_hashes(writer, &hashes),
+        Err(HashFault::Syntax(line)) => write_refusal(writer, &Refusal::Syntax(line)),
+        Err(HashFault::OutOfMemory) => Err(Failure::OutOfMemory),
+    }
+}
+
+/// Reads a key of 40 bytes on the first line and inputs of 36 bytes at most on those behind it, all in
+/// hex, and writes the Toeplitz hash of each input under the key. All lines are read before the first
+/// hash is written. An `Ok` has the status, and no read, write or growth has failed: what is written
+/// and the status are `hash_answer` of what was read. After `Failure::Read` nothing is written, and
+/// after `Failure::OutOfMemory` a beginning of that answer. After `Failure::Write` nothing more is
+/// written.
+pub fn hash_lines<R: Read, W: Write>(
+    alloc: Global,
+    reader: &mut R,
+    writer: &mut W,
+) -> Result<u8, Failure>
+    ensures ok { IfOk result (λ status. IfSome (R.remaining reader.old) (λ input.
+        Writes (W.contents writer.old) (W.contents writer.new) (hash_answer input) status)) }
+    ensures begun { result ≡ Err Failure.OutOfMemory → IfSome (R.remaining reader.old) (λ input.
+        WritesBeginning (W.contents writer.old) (W.contents writer.new)
+        (hash_answer input).text) }
+    ensures unread { result ≡ Err Failure.Read → writer.new ≡ writer.old }
+{
+    match read_text(alloc, reader) {
+        Ok(text) => hash_text(alloc, text.as_str(), writer),
+        Err(NoText::Refused(refusal)) => write_refusal(writer, &refusal),
+        Err(NoText::Failed(failure)) => Err(failure),
+    }
+}

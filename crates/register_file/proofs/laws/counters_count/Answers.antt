@@ -1,0 +1,5 @@
+use Rattle.register_file.proofs.Counting.{counts_and_clears}
+use Rattle.register_file.proofs.laws.counters_count.Goals as goal
+
+pub returns : goal.returns
+returns c = λ r h p b counter. counts_and_clears r p h b

@@ -1,0 +1,21 @@
+-- What is counted.
+use Rattle.std.specs.Prelude.{ℕ, ◌*◌, ◌/◌, ◌%◌, ◌^◌}
+use Rattle.reg_table.specs.Counter.{bumped}
+use Rattle.reg_table.specs.declared.rows.RowId.{RowId}
+use Rattle.reg_table.specs.declared.rows.RowId.TheVariants.{Rqsmr, Tqsm}
+use Rattle.register_file.specs.Registers.{Registers, word_of, with_word}
+use Rattle.register_file.specs.declared.dir.Dir.{Dir}
+use Rattle.register_file.specs.declared.dir.Dir.TheVariants.{Rx, Tx}
+
+-- the registers after one more was counted in a row at an index
+abbrev pub counted : Registers → RowId → ℕ → Registers
+counted r row index = with_word r row index (bumped (word_of r row index))
+
+-- the row that says in which counters the frames of queues are counted, four queues in each word
+abbrev pub mapping_row : Dir → RowId
+mapping_row Rx = Rqsmr
+mapping_row Tx = Tqsm
+
+-- which of the 16 counters a side of a queue counts in
+abbrev pub counter_of : Registers → Dir → ℕ → ℕ
+counter_of r dir queue = word_of r (mapping_row dir) (queue / 4) / 2 ^ (8 * (queue % 4)) % 16

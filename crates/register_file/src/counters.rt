@@ -1,0 +1,51 @@
+//! What is counted.
+
+ghost use Rattle.std.specs.Prelude.{◌≡◌, ◌<◌};
+ghost use Rattle.reg_table.specs.Rows.{row_of};
+ghost use Rattle.register_file.specs.Counters.{counted, mapping_row, counter_of};
+
+use crate::dir::Dir;
+use crate::register_file::RegisterFile;
+use reg_table::{RowId, bump};
+
+/// RQSMR and TQSM: how many bits of a word say the counter of one queue.
+const COUNTER_BITS: u32 = 8;
+
+/// RQSMR and TQSM: how many queues a word says the counters of.
+const QUEUES_IN_A_WORD: u16 = 4;
+
+/// How many counters of each kind queues are counted in.
+const COUNTERS: u32 = 16;
+
+impl RegisterFile {
+    /// Counts one more in a row at an index below the row's count. The largest word, 0xFFFFFFFF, stays.
+    pub fn count(&mut self, row: RowId, index: u16)
+        requires { index < (row_of row).count }
+        ensures { self.new ≡ counted self.old row index }
+    {
+        let word = self.word(row, index);
+        self.set_word(row, index, bump(word));
+    }
+
+    /// Which of the 16 counters, 0 to 15, a side of a queue below `QUEUES` counts in: RQSMR says it of a receive side
+    /// and TQSM of a transmit side.
+    pub fn counter(&self, dir: Dir, queue: u16) -> u16
+        requires { queue < 128 }
+        ensures counter { result ≡ counter_of self.now dir queue }
+        ensures small { result < 16 }
+    {
+        let word = self.word(mapping_row(dir), queue / QUEUES_IN_A_WORD);
+        let shift = COUNTER_BITS * u32::from(queue % QUEUES_IN_A_WORD);
+        ((word >> shift) % COUNTERS) as u16
+    }
+}
+
+/// The row that says in which counters the frames of a side's queues are counted.
+fn mapping_row(dir: Dir) -> RowId
+    ensures { result ≡ mapping_row dir }
+{
+    match dir {
+        Dir::Rx => RowId::Rqsmr,
+        Dir::Tx => RowId::Tqsm,
+    }
+}

@@ -1,0 +1,179 @@
+-- What of a frame's way is known from single bits of the registers.
+use Rattle.std.proofs.Common.{◌≡◌, ℕ, ◌+◌, ◌*◌, ◌/◌, ◌%◌, ◌<◌, ◌^◌, ◌==◌, ◌&&◌, ◌||◌, Bool, true, false, cond, List, [], Option, Some, None, Ok, Err, refl, sym, ap, ◌∙◌, arith}
+use Rattle.std.specs.Prelude.{Result, is_some, slice_index}
+use Rattle.std.proofs.lemmas.Bool.{cond-true, cond-false, false_from_ne_true}
+use Rattle.std.proofs.lemmas.Bool.Decides.{nat_tests}
+use Rattle.reg_table.specs.declared.rows.RowId.TheVariants.{Fctrl, Mcstctrl, Mta, Rah, Ral, Mrqc, Reta, Rssrk, Rxcsum}
+use Rattle.register_file.specs.Bits.{has_bit}
+use Rattle.register_file.specs.Columns.{place}
+use Rattle.register_file.specs.Registers.{Registers, reset_registers, word_of}
+use Rattle.register_file.specs.Words.{row_words}
+use Rattle.register_file.proofs.Puts.{word_at-reset}
+use Rattle.rss_hash.specs.Choice.{code_of, rss_type_of, hashed_part, first_enabled}
+use Rattle.rss_hash.specs.Flow.{flow_of}
+use Rattle.rss_hash.specs.Mrqc.{queue_mode_of, is_hashing}
+use Rattle.rss_hash.specs.Registers.{bytes_of_registers, entry_of}
+use Rattle.rss_hash.specs.Toeplitz.{toeplitz_hash}
+use Rattle.rss_hash.specs.declared.choice.RssType.{RssType}
+use Rattle.rss_hash.specs.declared.choice.RssType.TheVariants.{NoHash}
+use Rattle.rss_hash.specs.declared.flow.Flow.{Flow}
+use Rattle.rss_hash.specs.declared.mrqc.QueueMode.{QueueMode}
+use Rattle.rss_hash.specs.declared.mrqc.QueueMode.TheVariants.{Single, Rss, Pools64, Pools32Rss, Pools64Rss}
+use Rattle.rx_filter.specs.Address.{destination_low, destination_high, matches, first_match, is_broadcast, is_multicast, multicast_number, is_in_table, lets_multicast, lets_unicast, lets_broadcast, passes}
+use Rattle.rx_filter.specs.Pools.{uses_pools, takes_frames, has_queues, checked_pool, pool_of, chosen_pool}
+use Rattle.rx_filter.specs.Sorting.{queue_of, rss_type, rss_entry, target_of, pool_target, sorted}
+use Rattle.rx_filter.specs.Laws.{has_pools, pool_of_queue}
+use Rattle.rx_filter.specs.declared.target.Target.{Target}
+use Rattle.rx_filter.specs.declared.unwanted.Unwanted.{Unwanted}
+use Rattle.rx_filter.specs.declared.unwanted.Unwanted.TheVariants.{Filter, NoPool, PoolOff}
+use Rattle.rx_filter.proofs.Finding.{first_match-none, first_match-is_some}
+
+-- ---- destinations
+
+abbrev let_in : (broadcast multicast by_broadcast by_multicast by_unicast found table : Bool) → Bool
+let_in broadcast multicast by_broadcast by_multicast by_unicast found table =
+    cond broadcast (by_broadcast || by_multicast) (cond multicast (by_multicast || found || table) (by_unicast || found))
+
+let_in-found : (multicast by_broadcast by_multicast by_unicast table : Bool) → let_in false multicast by_broadcast by_multicast by_unicast true table ≡ true
+let_in-found true by_broadcast true by_unicast table = refl
+let_in-found true by_broadcast false by_unicast table = refl
+let_in-found false by_broadcast by_multicast true table = refl
+let_in-found false by_broadcast by_multicast false table = refl
+
+let_in-none : (broadcast multicast : Bool) → let_in broadcast multicast false false false false false ≡ false
+let_in-none true multicast = refl
+let_in-none false true = refl
+let_in-none false false = refl
+
+pub passes-addressed : (r : Registers) (frame : List ℕ) (i : ℕ) → i < 128 → matches r frame i ≡ true → is_broadcast frame ≡ false → passes r frame ≡ true
+unfolding passes
+passes-addressed r frame i small here some =
+    ap (λ b. let_in b (is_multicast frame) (lets_broadcast r) (lets_multicast r) (lets_unicast r) (is_some (first_match r frame)) (is_in_table r frame)) some
+    ∙ ap (λ b. let_in false (is_multicast frame) (lets_broadcast r) (lets_multicast r) (lets_unicast r) b (is_in_table r frame)) (first_match-is_some r frame i small here)
+    ∙ let_in-found (is_multicast frame) (lets_broadcast r) (lets_multicast r) (lets_unicast r) (is_in_table r frame)
+
+both_true : (a b : Bool) → (a && b) ≡ true → a ≡ true
+both_true true b e = refl
+both_true false b e = cc
+
+odd_low : (a b c d : ℕ) → (a % 2 == 1) ≡ false → (a + 2 ^ 8 * b + 2 ^ 16 * c + 2 ^ 24 * d == 0xFFFFFFFF) ≡ true → ⊥
+odd_low a b c d even all =
+    let odd : a % 2 ≡ 1 = grind (arith, nat_tests) in
+    grind (arith, nat_tests)
+
+-- a frame for all is one for several
+one_is_not_all : (frame : List ℕ) → is_multicast frame ≡ false → is_broadcast frame ≡ false
+one_is_not_all frame one =
+    false_from_ne_true (is_broadcast frame) (λ all.
+    odd_low (slice_index frame 0) (slice_index frame 1) (slice_index frame 2) (slice_index frame 3) one
+    (both_true (destination_low frame == 0xFFFFFFFF) (destination_high frame == 0xFFFF) all))
+
+-- a frame for one passes by FCTRL bit 9 or by its address
+passes-one : (r : Registers) (frame : List ℕ) → is_multicast frame ≡ false → passes r frame ≡ (lets_unicast r || is_some (first_match r frame))
+unfolding passes
+passes-one r frame one =
+    cond-false (is_broadcast frame) _ _ (one_is_not_all frame one) ∙ cond-false (is_multicast frame) _ _ one
+
+pub passes-unicast : (r : Registers) (frame : List ℕ) → is_multicast frame ≡ false → lets_unicast r ≡ true → passes r frame ≡ true
+passes-unicast r frame one all = passes-one r frame one ∙ ap (λ b. b || is_some (first_match r frame)) all
+
+pub sorted-refused : (r : Registers) (frame : List ℕ) → passes r frame ≡ false → sorted r frame ≡ Err Filter
+unfolding sorted
+sorted-refused r frame refused = cond-false (passes r frame) (pool_target r frame (chosen_pool r frame)) (Err Filter) refused
+
+pub sorted-stranger : (r : Registers) (frame : List ℕ) → is_multicast frame ≡ false → lets_unicast r ≡ false → ((i : ℕ) → i < 128 → matches r frame i ≡ false) → sorted r frame ≡ Err Filter
+sorted-stranger r frame one some none =
+    sorted-refused r frame
+    (passes-one r frame one ∙ ap (λ b. b || is_some (first_match r frame)) some ∙ ap is_some (first_match-none r frame none))
+
+-- ---- after a reset
+
+matches-reset : (frame : List ℕ) (i : ℕ) → i < 128 → matches reset_registers frame i ≡ false
+matches-reset frame i small =
+    ap (λ word. has_bit 31 word && word_of reset_registers Ral i == destination_low frame && word % 2 ^ 16 == destination_high frame) (word_at-reset (place Rah i) small)
+
+pub sorted-reset : (frame : List ℕ) → sorted reset_registers frame ≡ Err Filter
+unfolding passes
+sorted-reset frame =
+    let r = reset_registers in
+    let control : word_of r Fctrl 0 ≡ 0 = word_at-reset (place Fctrl 0) (omega arith) in
+    let table : is_in_table r frame ≡ false = ap (λ word. has_bit 2 word && has_bit (multicast_number r frame % 32) (word_of r Mta (multicast_number r frame / 32))) (word_at-reset (place Mcstctrl 0) (omega arith)) in
+    sorted-refused r frame
+    (ap (λ word. let_in (is_broadcast frame) (is_multicast frame) (has_bit 10 word) (has_bit 8 word) (has_bit 9 word) (is_some (first_match r frame)) (is_in_table r frame)) control
+    ∙ ap (λ found. let_in (is_broadcast frame) (is_multicast frame) false false false (is_some found) (is_in_table r frame)) (first_match-none r frame (matches-reset frame))
+    ∙ ap (λ there. let_in (is_broadcast frame) (is_multicast frame) false false false false there) table
+    ∙ let_in-none (is_broadcast frame) (is_multicast frame))
+
+-- ---- a single queue
+
+type-single : (mrqc : ℕ) (flow : Flow) → queue_mode_of mrqc ≡ Single → rss_type_of mrqc flow ≡ NoHash
+unfolding rss_type_of
+type-single mrqc flow single = ap (λ mode. cond (is_hashing mode) (first_enabled mrqc flow) NoHash) single
+
+hash-nothing : (key : List ℕ) → toeplitz_hash key [] ≡ 0
+unfolding toeplitz_hash
+hash-nothing key = refl
+
+cond-same : (b : Bool) (n : ℕ) → cond b n n ≡ n
+cond-same true n = refl
+cond-same false n = refl
+
+target-single : (r : Registers) (frame : List ℕ) → queue_mode_of (word_of r Mrqc 0) ≡ Single → target_of r frame 0 ≡ record { queue = 0; rss = 0; hash = 0 }
+unfolding target_of
+target-single r frame single =
+    let key = bytes_of_registers (row_words r.words Rssrk) in
+    let tells = has_bit 13 (word_of r Rxcsum 0) in
+    let hash = λ (type : RssType). toeplitz_hash key (hashed_part type (flow_of frame).input) in
+    let entry = λ (type : RssType). cond (code_of type == 0) 0 (entry_of (row_words r.words Reta) (hash type)) in
+    let target : QueueMode → RssType → Target = λ mode type. record { queue = queue_of mode 0 (entry type); rss = code_of type; hash = cond tells (hash type) 0 } in
+    let none : cond tells (toeplitz_hash key []) 0 ≡ 0 = ap (λ n. cond tells n 0) (hash-nothing key) ∙ cond-same tells 0 in
+    ap (λ mode. target mode (rss_type r frame)) single
+    ∙ ap (target Single) (type-single (word_of r Mrqc 0) (flow_of frame) single)
+    ∙ (λ k. record { queue = 0; rss = 0; hash = none k })
+
+pub sorted-single : (r : Registers) (frame : List ℕ) → uses_pools r ≡ false → queue_mode_of (word_of r Mrqc 0) ≡ Single → passes r frame ≡ true → sorted r frame ≡ Ok (record { queue = 0; rss = 0; hash = 0 })
+unfolding sorted chosen_pool
+sorted-single r frame whole single goes_in =
+    cond-true (passes r frame) (pool_target r frame (chosen_pool r frame)) (Err Filter) goes_in
+    ∙ ap (pool_target r frame) (cond-false (uses_pools r) (checked_pool r (pool_of r frame)) (Ok 0) whole)
+    ∙ ap Ok (target-single r frame single)
+
+-- ---- pools
+
+pool-queue_of : (mode : QueueMode) (pool entry : ℕ) → has_pools mode ≡ true → pool_of_queue mode (queue_of mode pool entry) ≡ pool
+pool-queue_of Single pool entry e = cc
+pool-queue_of Rss pool entry e = cc
+pool-queue_of Pools64 pool entry e = omega arith
+pool-queue_of Pools32Rss pool entry e = omega arith
+pool-queue_of Pools64Rss pool entry e = omega arith
+
+taken-of_ok : (has takes : ℕ → Bool) (p pool : ℕ) (b c : Bool) → has p ≡ b → takes p ≡ c → cond b (cond c (Ok p) (Err PoolOff)) (Err NoPool) ≡ Ok pool → takes pool ≡ true
+taken-of_ok has takes p pool true true eb ec e = let same : p ≡ pool = cc in ap takes (sym same) ∙ ec
+taken-of_ok has takes p pool true false eb ec e = cc
+taken-of_ok has takes p pool false c eb ec e = cc
+
+taken-checked : (r : Registers) (o : Option ℕ) (pool : ℕ) → checked_pool r o ≡ Ok pool → takes_frames r pool ≡ true
+taken-checked r None pool e = cc
+taken-checked r (Some p) pool e =
+    taken-of_ok (has_queues (queue_mode_of (word_of r Mrqc 0))) (takes_frames r) p pool _ _ refl refl e
+
+taken-target : (r : Registers) (frame : List ℕ) (chosen : Result ℕ Unwanted) (t : Target) → ((pool : ℕ) → chosen ≡ Ok pool → takes_frames r pool ≡ true) → has_pools (queue_mode_of (word_of r Mrqc 0)) ≡ true → pool_target r frame chosen ≡ Ok t → takes_frames r (pool_of_queue (queue_mode_of (word_of r Mrqc 0)) t.queue) ≡ true
+unfolding target_of
+taken-target r frame (Err why) t taken pools e = cc
+taken-target r frame (Ok pool) t taken pools e =
+    let same : target_of r frame pool ≡ t = cc in
+    let mode = queue_mode_of (word_of r Mrqc 0) in
+    ap (λ (u : Target). takes_frames r (pool_of_queue mode u.queue)) (sym same)
+    ∙ ap (takes_frames r) (pool-queue_of mode pool (rss_entry r frame) pools)
+    ∙ taken pool refl
+
+sorted-let_in : (b : Bool) (found : Result Target Unwanted) (t : Target) → cond b found (Err Filter) ≡ Ok t → found ≡ Ok t
+sorted-let_in true found t e = e
+sorted-let_in false found t e = cc
+
+pub taken-sorted : (r : Registers) (frame : List ℕ) (t : Target) → uses_pools r ≡ true → has_pools (queue_mode_of (word_of r Mrqc 0)) ≡ true → sorted r frame ≡ Ok t → takes_frames r (pool_of_queue (queue_mode_of (word_of r Mrqc 0)) t.queue) ≡ true
+unfolding sorted chosen_pool
+taken-sorted r frame t parted pools e =
+    let chosen : chosen_pool r frame ≡ checked_pool r (pool_of r frame) = cond-true (uses_pools r) (checked_pool r (pool_of r frame)) (Ok 0) parted in
+    taken-target r frame (chosen_pool r frame) t (λ pool f. taken-checked r (pool_of r frame) pool (sym chosen ∙ f)) pools
+    (sorted-let_in (passes r frame) (pool_target r frame (chosen_pool r frame)) t e)

@@ -1,0 +1,64 @@
+-- Which frames are let in by their destination, the first six bytes of a frame.
+use Rattle.std.specs.Prelude.{ℕ, ◌+◌, ◌*◌, ◌/◌, ◌%◌, ◌^◌, ◌==◌, ◌&&◌, ◌||◌, Bool, List, slice_index, find, Option, is_some, if◌then◌else◌}
+use Rattle.std.specs.List.{range_with_len}
+use Rattle.reg_table.specs.declared.rows.RowId.TheVariants.{Fctrl, Mcstctrl, Mta, Ral, Rah}
+use Rattle.register_file.specs.Bits.{has_bit}
+use Rattle.register_file.specs.Registers.{Registers, word_of}
+
+-- the destination as RAL and RAH have it: its first four bytes, and its last two, the first in the lowest bits
+abbrev pub destination_low : List ℕ → ℕ
+destination_low frame =
+    slice_index frame 0 + 2 ^ 8 * slice_index frame 1 + 2 ^ 16 * slice_index frame 2 + 2 ^ 24 * slice_index frame 3
+
+abbrev pub destination_high : List ℕ → ℕ
+destination_high frame = slice_index frame 4 + 2 ^ 8 * slice_index frame 5
+
+-- a frame matches address i where RAH bit 31 says that the address is valid, and it is the frame's destination
+abbrev pub matches : Registers → List ℕ → ℕ → Bool
+matches r frame i =
+    has_bit 31 (word_of r Rah i) && word_of r Ral i == destination_low frame
+    && word_of r Rah i % 2 ^ 16 == destination_high frame
+
+-- the first of the 128 addresses that a frame matches, if it matches one
+unfoldable pub first_match : Registers → List ℕ → Option ℕ
+first_match r frame = find (matches r frame) (range_with_len 0 128)
+
+-- a frame to all: each byte of the destination is 0xFF
+abbrev pub is_broadcast : List ℕ → Bool
+is_broadcast frame = destination_low frame == 0xFFFFFFFF && destination_high frame == 0xFFFF
+
+-- a frame to several: the lowest bit of the first byte is 1
+abbrev pub is_multicast : List ℕ → Bool
+is_multicast frame = slice_index frame 0 % 2 == 1
+
+-- how far MCSTCTRL bits 1 to 0 shift the last two bytes of a destination
+abbrev pub multicast_shift : ℕ → ℕ
+multicast_shift bits = if bits == 0 then 4 else (if bits == 1 then 3 else (if bits == 2 then 2 else 0))
+
+-- the number of a destination among the 4,096 bits of MTA: twelve bits of its last two bytes
+abbrev pub multicast_number : Registers → List ℕ → ℕ
+multicast_number r frame =
+    destination_high frame / 2 ^ multicast_shift (word_of r Mcstctrl 0 % 4) % 2 ^ 12
+
+-- whether MTA has a destination: MCSTCTRL bit 2, MFE, is 1, and so is the bit of its number
+abbrev pub is_in_table : Registers → List ℕ → Bool
+is_in_table r frame =
+    has_bit 2 (word_of r Mcstctrl 0)
+    && has_bit (multicast_number r frame % 32) (word_of r Mta (multicast_number r frame / 32))
+
+-- FCTRL bits 8, 9 and 10: all multicast frames, all unicast frames, and broadcast frames are let in
+abbrev pub lets_multicast : Registers → Bool
+lets_multicast r = has_bit 8 (word_of r Fctrl 0)
+
+abbrev pub lets_unicast : Registers → Bool
+lets_unicast r = has_bit 9 (word_of r Fctrl 0)
+
+abbrev pub lets_broadcast : Registers → Bool
+lets_broadcast r = has_bit 10 (word_of r Fctrl 0)
+
+-- whether a frame is let in by its destination
+unfoldable pub passes : Registers → List ℕ → Bool
+passes r frame =
+    if is_broadcast frame then lets_broadcast r || lets_multicast r
+    else (if is_multicast frame then lets_multicast r || is_some (first_match r frame) || is_in_table r frame
+    else lets_unicast r || is_some (first_match r frame))

@@ -1,0 +1,4 @@
+pub mod Address
+pub mod Laws
+pub mod Pools
+pub mod Sorting

@@ -1,0 +1,61 @@
+-- Which pool of queues a frame is for.
+use Rattle.std.specs.Prelude.{ℕ, ◌+◌, ◌*◌, ◌/◌, ◌%◌, ◌^◌, Bool, true, List, find, nat_lt, Option, Some, None, Result, Ok, Err, if◌then◌else◌}
+use Rattle.std.specs.List.{range_with_len}
+use Rattle.reg_table.specs.declared.rows.RowId.TheVariants.{VtCtl, Vfre, Mpsar, Mrqc}
+use Rattle.rss_hash.specs.Mrqc.{queue_mode_of}
+use Rattle.rss_hash.specs.declared.mrqc.QueueMode.{QueueMode}
+use Rattle.rss_hash.specs.declared.mrqc.QueueMode.TheVariants.{Pools32Rss}
+use Rattle.register_file.specs.Bits.{has_bit}
+use Rattle.register_file.specs.Registers.{Registers, word_of}
+use Rattle.rx_filter.specs.Address.{first_match}
+use Rattle.rx_filter.specs.declared.unwanted.Unwanted.{Unwanted}
+use Rattle.rx_filter.specs.declared.unwanted.Unwanted.TheVariants.{NoPool, PoolOff}
+
+-- frames are parted among pools where VT_CTL bit 0 is 1
+abbrev pub uses_pools : Registers → Bool
+uses_pools r = has_bit 0 (word_of r VtCtl 0)
+
+-- whether the frames of address i are for a pool: MPSAR[2i] has pools 0 to 31, MPSAR[2i + 1] pools 32 to 63
+abbrev pub selects : Registers → ℕ → ℕ → Bool
+selects r i pool = has_bit (pool % 32) (word_of r Mpsar (2 * i + pool / 32))
+
+-- the lowest pool of an address, if it has one
+unfoldable pub lowest_pool : Registers → ℕ → Option ℕ
+lowest_pool r i = find (selects r i) (range_with_len 0 64)
+
+-- the pool of a frame without one of its own: that of VT_CTL bits 12 to 7, but where bit 29 says that there is none
+abbrev pub default_pool : Registers → Option ℕ
+default_pool r = if has_bit 29 (word_of r VtCtl 0) then None else Some (word_of r VtCtl 0 / 2 ^ 7 % 64)
+
+-- the lowest pool of the address that a frame matches first, or else the default
+abbrev pub matched_pool : Registers → Option ℕ → Option ℕ
+matched_pool r None = None
+matched_pool r (Some i) = lowest_pool r i
+
+abbrev pub or_default : Registers → Option ℕ → Option ℕ
+or_default r None = default_pool r
+or_default r (Some pool) = Some pool
+
+abbrev pub pool_of : Registers → List ℕ → Option ℕ
+pool_of r frame = or_default r (matched_pool r (first_match r frame))
+
+-- whether a pool has queues: with 32 pools those above 31 have none
+abbrev pub has_queues : QueueMode → ℕ → Bool
+has_queues Pools32Rss pool = nat_lt pool 32
+has_queues other pool = true
+
+-- whether a pool takes frames: its bit of the pair VFRE is 1
+abbrev pub takes_frames : Registers → ℕ → Bool
+takes_frames r pool = has_bit (pool % 32) (word_of r Vfre (pool / 32))
+
+-- a frame's pool, which needs queues and has to take frames
+abbrev pub checked_pool : Registers → Option ℕ → Result ℕ Unwanted
+checked_pool r None = Err NoPool
+checked_pool r (Some pool) =
+    if has_queues (queue_mode_of (word_of r Mrqc 0)) pool
+    then (if takes_frames r pool then Ok pool else Err PoolOff)
+    else Err NoPool
+
+-- the pool that a frame is for: pool 0 where there are no pools
+unfoldable pub chosen_pool : Registers → List ℕ → Result ℕ Unwanted
+chosen_pool r frame = if uses_pools r then checked_pool r (pool_of r frame) else Ok 0

@@ -1,0 +1,57 @@
+-- The queue that a frame is for, and its hash.
+use Rattle.std.specs.Prelude.{ℕ, ◌+◌, ◌*◌, ◌%◌, ◌==◌, List, Result, Ok, Err, if◌then◌else◌}
+use Rattle.reg_table.specs.declared.rows.RowId.TheVariants.{Mrqc, Reta, Rssrk, Rxcsum}
+use Rattle.rss_hash.specs.Choice.{code_of, rss_type_of, hashed_part}
+use Rattle.rss_hash.specs.Flow.{flow_of}
+use Rattle.rss_hash.specs.Mrqc.{queue_mode_of}
+use Rattle.rss_hash.specs.Registers.{bytes_of_registers, entry_of}
+use Rattle.rss_hash.specs.Toeplitz.{toeplitz_hash}
+use Rattle.rss_hash.specs.declared.choice.RssType.{RssType}
+use Rattle.rss_hash.specs.declared.mrqc.QueueMode.{QueueMode}
+use Rattle.rss_hash.specs.declared.mrqc.QueueMode.TheVariants.{Single, Rss, Pools64, Pools32Rss, Pools64Rss}
+use Rattle.register_file.specs.Bits.{has_bit}
+use Rattle.register_file.specs.Registers.{Registers, word_of}
+use Rattle.register_file.specs.Words.{row_words}
+use Rattle.rx_filter.specs.Address.{passes}
+use Rattle.rx_filter.specs.Pools.{chosen_pool}
+use Rattle.rx_filter.specs.declared.unwanted.Unwanted.{Unwanted}
+use Rattle.rx_filter.specs.declared.unwanted.Unwanted.TheVariants.{Filter}
+use Rattle.rx_filter.specs.declared.target.Target.{Target}
+
+-- the queue of a pool and an entry of the redirection table, by the mode in MRQC
+abbrev pub queue_of : QueueMode → ℕ → ℕ → ℕ
+queue_of Single pool entry = 0
+queue_of Rss pool entry = entry
+queue_of Pools64 pool entry = 2 * pool
+queue_of Pools32Rss pool entry = 4 * pool + entry % 4
+queue_of Pools64Rss pool entry = 2 * pool + entry % 2
+
+-- a frame's RSS type, and the hash of what the type hashes, with the key of RSSRK
+abbrev pub rss_type : Registers → List ℕ → RssType
+rss_type r frame = rss_type_of (word_of r Mrqc 0) (flow_of frame)
+
+abbrev pub rss_hash : Registers → List ℕ → ℕ
+rss_hash r frame =
+    toeplitz_hash (bytes_of_registers (row_words r.words Rssrk)) (hashed_part (rss_type r frame) (flow_of frame).input)
+
+-- the entry of RETA that the hash selects, and 0 for a frame of type 0
+abbrev pub rss_entry : Registers → List ℕ → ℕ
+rss_entry r frame =
+    if code_of (rss_type r frame) == 0 then 0 else entry_of (row_words r.words Reta) (rss_hash r frame)
+
+-- where a frame of a pool goes, and what its descriptors tell: the RSS type, and the hash where RXCSUM bit 13 is 1
+unfoldable pub target_of : Registers → List ℕ → ℕ → Target
+target_of r frame pool =
+    record {
+      queue = queue_of (queue_mode_of (word_of r Mrqc 0)) pool (rss_entry r frame);
+      rss = code_of (rss_type r frame);
+      hash = if has_bit 13 (word_of r Rxcsum 0) then rss_hash r frame else 0;
+    }
+
+abbrev pub pool_target : Registers → List ℕ → Result ℕ Unwanted → Result Target Unwanted
+pool_target r frame (Ok pool) = Ok (target_of r frame pool)
+pool_target r frame (Err why) = Err why
+
+-- a frame is let in by its destination, then its pool is chosen, and then its queue
+unfoldable pub sorted : Registers → List ℕ → Result Target Unwanted
+sorted r frame = if passes r frame then pool_target r frame (chosen_pool r frame) else Err Filter

@@ -1,0 +1,150 @@
+//! Whether a frame is let in by its destination.
+
+ghost use Rattle.std.specs.Prelude.{◌≡◌, ◌<◌, slice_index, IfSome};
+ghost use Rattle.rx_filter.specs.Address.{destination_low, destination_high, matches, first_match, is_broadcast, is_multicast, multicast_shift, multicast_number, is_in_table, lets_multicast, lets_unicast, lets_broadcast, passes};
+
+use reg_table::RowId;
+use register_file::RegisterFile;
+
+/// How many addresses there are.
+const ADDRESSES: u16 = 128;
+
+/// RAH: the address is valid.
+const ADDRESS_VALID: u32 = 0x8000_0000;
+
+/// MCSTCTRL: the table of multicast addresses counts.
+const TABLE_COUNTS: u32 = 0x0000_0004;
+
+/// FCTRL: all multicast frames are let in.
+const ALL_MULTICAST: u32 = 0x0000_0100;
+
+/// FCTRL: all unicast frames are let in.
+const ALL_UNICAST: u32 = 0x0000_0200;
+
+/// FCTRL: broadcast frames are let in.
+const BROADCAST: u32 = 0x0000_0400;
+
+/// Whether a frame is let in by its destination.
+#[tactic(auto, unfolding(crate::specs::Address::passes))]
+pub(crate) fn passes(registers: &RegisterFile, frame: &[u8]) -> bool
+    ensures { result ≡ passes registers.now frame.now }
+{
+    if is_broadcast(frame) {
+        lets_broadcast(registers) || lets_multicast(registers)
+    } else if is_multicast(frame) {
+        lets_multicast(registers)
+            || is_in_table(registers, frame)
+            || first_match(registers, frame).is_some()
+    } else {
+        lets_unicast(registers) || first_match(registers, frame).is_some()
+    }
+}
+
+/// The first of the addresses that a frame matches, by its number.
+pub(crate) fn first_match(registers: &RegisterFile, frame: &[u8]) -> Option<u16>
+    ensures first { result ≡ first_match registers.now frame.now }
+    ensures range { IfSome result (λ index. index < 128) }
+{
+    for index in 0..ADDRESSES {
+        if matches(registers, frame, index) {
+            return Some(index);
+        }
+    }
+    None
+}
+
+/// Whether a frame's destination is that of a valid address.
+fn matches(registers: &RegisterFile, frame: &[u8], index: u16) -> bool
+    requires { index < 128 }
+    ensures { result ≡ matches registers.now frame.now index }
+{
+    let high = registers.word(RowId::Rah, index);
+    high / ADDRESS_VALID % 2 == 1
+        && registers.word(RowId::Ral, index) == destination_low(frame)
+        && high % 0x1_0000 == destination_high(frame)
+}
+
+/// A byte of a frame, and 0 past its end.
+fn byte(frame: &[u8], at: usize) -> u8
+    ensures { result ≡ slice_index frame.now at }
+{
+    if at < frame.len() { frame[at] } else { 0 }
+}
+
+/// The first four bytes of the destination, the first in the lowest bits.
+fn destination_low(frame: &[u8]) -> u32
+    ensures { result ≡ destination_low frame.now }
+{
+    u32::from(byte(frame, 0))
+        + 0x100 * u32::from(byte(frame, 1))
+        + 0x1_0000 * u32::from(byte(frame, 2))
+        + 0x100_0000 * u32::from(byte(frame, 3))
+}
+
+/// The last two bytes of the destination, the first in the lowest bits. It is below 65,536.
+fn destination_high(frame: &[u8]) -> u32
+    ensures value { result ≡ destination_high frame.now }
+    ensures range { result < 65536 }
+{
+    u32::from(byte(frame, 4)) + 0x100 * u32::from(byte(frame, 5))
+}
+
+/// Whether a frame is for all.
+fn is_broadcast(frame: &[u8]) -> bool
+    ensures { result ≡ is_broadcast frame.now }
+{
+    destination_low(frame) == 0xFFFF_FFFF && destination_high(frame) == 0xFFFF
+}
+
+/// Whether a frame is for several.
+fn is_multicast(frame: &[u8]) -> bool
+    ensures { result ≡ is_multicast frame.now }
+{
+    byte(frame, 0) % 2 == 1
+}
+
+/// Whether the table of multicast addresses has a frame's destination.
+fn is_in_table(registers: &RegisterFile, frame: &[u8]) -> bool
+    ensures { result ≡ is_in_table registers.now frame.now }
+{
+    if registers.word(RowId::Mcstctrl, 0) / TABLE_COUNTS % 2 == 0 {
+        return false;
+    }
+    let number = multicast_number(registers, frame);
+    registers.word(RowId::Mta, number / 32) >> (number % 32) & 1 == 1
+}
+
+/// The number of a destination in the table of multicast addresses, below 4,096.
+fn multicast_number(registers: &RegisterFile, frame: &[u8]) -> u16
+    ensures value { result ≡ multicast_number registers.now frame.now }
+    ensures range { result < 4096 }
+{
+    let part = match registers.word(RowId::Mcstctrl, 0) % 4 {
+        0 => destination_high(frame) / 16,
+        1 => destination_high(frame) / 8,
+        2 => destination_high(frame) / 4,
+        _ => destination_high(frame),
+    };
+    (part % 0x1000) as u16
+}
+
+/// Whether all multicast frames are let in.
+fn lets_multicast(registers: &RegisterFile) -> bool
+    ensures { result ≡ lets_multicast registers.now }
+{
+    registers.word(RowId::Fctrl, 0) / ALL_MULTICAST % 2 == 1
+}
+
+/// Whether all unicast frames are let in.
+fn lets_unicast(registers: &RegisterFile) -> bool
+    ensures { result ≡ lets_unicast registers.now }
+{
+    registers.word(RowId::Fctrl, 0) / ALL_UNICAST % 2 == 1
+}
+
+/// Whether broadcast frames are let in.
+fn lets_broadcast(registers: &RegisterFile) -> bool
+    ensures { result ≡ lets_broadcast registers.now }
+{
+    registers.word(RowId::Fctrl, 0) / BROADCAST % 2 == 1
+}

@@ -1,0 +1,23 @@
+//! Where a received frame goes: the address filter, the pool, and the queue.
+//!
+//! [`sort`] answers for a frame, given the registers: whether its destination is let in (RAL and RAH, MTA, FCTRL),
+//! which pool it is for (MPSAR, VT_CTL, VFRE), and which queue, by MRQC and by the hash of what the frame is (RSSRK,
+//! RETA). The definitions stand in `specs/`. No call takes memory. The device core stands on this crate.
+//!
+//! Source: Intel 82599 datasheet, sections on packet filtering and on receive queue assignment.
+#![tactic(auto)]
+
+mod address;
+mod laws;
+mod pools;
+mod sorting;
+mod target;
+mod unwanted;
+
+pub use laws::{
+    addressed_frames_are_let_in, off_pools_get_none, reset_refuses_all, single_queue_is_queue_0,
+    unicast_is_let_in_by_its_bit,
+};
+pub use sorting::sort;
+pub use target::Target;
+pub use unwanted::Unwanted;

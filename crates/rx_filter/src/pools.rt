@@ -1,0 +1,131 @@
+//! Which pool of queues a frame is for.
+
+ghost use Rattle.std.specs.Prelude.{◌≡◌, ◌<◌, IfSome, IfOk, IsTrue};
+ghost use Rattle.reg_table.specs.declared.rows.RowId.TheVariants.{Mrqc};
+ghost use Rattle.register_file.specs.Registers.{word_of};
+ghost use Rattle.rss_hash.specs.Mrqc.{queue_mode_of};
+ghost use Rattle.rx_filter.specs.Pools.{uses_pools, selects, lowest_pool, default_pool, pool_of, has_queues, takes_frames, checked_pool, chosen_pool};
+
+use crate::address::first_match;
+use crate::unwanted::Unwanted;
+use reg_table::RowId;
+use register_file::RegisterFile;
+use rss_hash::QueueMode;
+
+/// How many pools there are at most.
+const POOLS: u16 = 64;
+
+/// VT_CTL: frames are parted among pools.
+const POOLS_ON: u32 = 0x0000_0001;
+
+/// VT_CTL: there is no default pool.
+const NO_DEFAULT: u32 = 0x2000_0000;
+
+/// The pool that a frame is for, below 64 and with queues in MRQC's mode: 0 where there are no pools.
+#[tactic(auto, unfolding(crate::specs::Pools::chosen_pool))]
+pub(crate) fn chosen_pool(registers: &RegisterFile, frame: &[u8]) -> Result<u16, Unwanted>
+    ensures chosen { result ≡ chosen_pool registers.now frame.now }
+    ensures range { IfOk result (λ pool. pool < 64) }
+    ensures queues { IfOk result (λ pool. IsTrue (has_queues (queue_mode_of (word_of registers.now Mrqc 0)) pool)) }
+{
+    if uses_pools(registers) {
+        checked_pool(registers, pool_of(registers, frame))
+    } else {
+        Ok(0)
+    }
+}
+
+/// Whether frames are parted among pools.
+fn uses_pools(registers: &RegisterFile) -> bool
+    ensures { result ≡ uses_pools registers.now }
+{
+    registers.word(RowId::VtCtl, 0) / POOLS_ON % 2 == 1
+}
+
+/// The lowest pool of the address that a frame matches first, or else the default.
+fn pool_of(registers: &RegisterFile, frame: &[u8]) -> Option<u16>
+    ensures pool { result ≡ pool_of registers.now frame.now }
+    ensures range { IfSome result (λ pool. pool < 64) }
+{
+    let matched = match first_match(registers, frame) {
+        Some(index) => lowest_pool(registers, index),
+        None => None,
+    };
+    match matched {
+        Some(pool) => Some(pool),
+        None => default_pool(registers),
+    }
+}
+
+/// The lowest pool that the frames of an address are for.
+fn lowest_pool(registers: &RegisterFile, index: u16) -> Option<u16>
+    requires { index < 128 }
+    ensures lowest { result ≡ lowest_pool registers.now index }
+    ensures range { IfSome result (λ pool. pool < 64) }
+{
+    for pool in 0..POOLS {
+        if selects(registers, index, pool) {
+            return Some(pool);
+        }
+    }
+    None
+}
+
+/// Whether the frames of an address are for a pool.
+fn selects(registers: &RegisterFile, index: u16, pool: u16) -> bool
+    requires index { index < 128 }
+    requires pool { pool < 64 }
+    ensures { result ≡ selects registers.now index pool }
+{
+    registers.word(RowId::Mpsar, 2 * index + pool / 32) >> (pool % 32) & 1 == 1
+}
+
+/// The pool of a frame without one of its own.
+fn default_pool(registers: &RegisterFile) -> Option<u16>
+    ensures pool { result ≡ default_pool registers.now }
+    ensures range { IfSome result (λ pool. pool < 64) }
+{
+    let word = registers.word(RowId::VtCtl, 0);
+    if word / NO_DEFAULT % 2 == 1 {
+        None
+    } else {
+        Some((word / 0x80 % 64) as u16)
+    }
+}
+
+/// A frame's pool, which needs queues and has to take frames.
+fn checked_pool(registers: &RegisterFile, pool: Option<u16>) -> Result<u16, Unwanted>
+    requires { IfSome pool (λ pool. pool < 64) }
+    ensures checked { result ≡ checked_pool registers.now pool }
+    ensures range { IfOk result (λ pool. pool < 64) }
+    ensures queues { IfOk result (λ pool. IsTrue (has_queues (queue_mode_of (word_of registers.now Mrqc 0)) pool)) }
+{
+    let Some(pool) = pool else {
+        return Err(Unwanted::NoPool);
+    };
+    if !has_queues(QueueMode::of(registers.word(RowId::Mrqc, 0)), pool) {
+        return Err(Unwanted::NoPool);
+    }
+    if !takes_frames(registers, pool) {
+        return Err(Unwanted::PoolOff);
+    }
+    Ok(pool)
+}
+
+/// Whether a pool has queues.
+fn has_queues(mode: QueueMode, pool: u16) -> bool
+    ensures { result ≡ has_queues mode pool }
+{
+    match mode {
+        QueueMode::Pools32Rss => pool < 32,
+        QueueMode::Single | QueueMode::Rss | QueueMode::Pools64 | QueueMode::Pools64Rss => true,
+    }
+}
+
+/// Whether a pool takes frames.
+fn takes_frames(registers: &RegisterFile, pool: u16) -> bool
+    requires { pool < 64 }
+    ensures { result ≡ takes_frames registers.now pool }
+{
+    registers.word(RowId::Vfre, pool / 32) >> (pool % 32) & 1 == 1
+}

@@ -1,0 +1,109 @@
+//! The queue that a frame is for, and its hash.
+
+ghost use Rattle.std.specs.Prelude.{◌≡◌, ◌<◌, ◌==◌, IfOk, IsTrue, if◌then◌else◌};
+ghost use Rattle.reg_table.specs.declared.rows.RowId.TheVariants.{Mrqc, Reta, Rssrk, Rxcsum};
+ghost use Rattle.register_file.specs.Bits.{has_bit};
+ghost use Rattle.register_file.specs.Registers.{word_of};
+ghost use Rattle.register_file.specs.Words.{row_words};
+ghost use Rattle.rss_hash.specs.Mrqc.{queue_mode_of};
+ghost use Rattle.rss_hash.specs.Registers.{bytes_of_registers, entry_of};
+ghost use Rattle.rss_hash.specs.Toeplitz.{toeplitz_hash};
+ghost use Rattle.rx_filter.specs.Pools.{has_queues};
+ghost use Rattle.rx_filter.specs.Sorting.{queue_of, target_of, sorted};
+
+use crate::address::passes;
+use crate::pools::chosen_pool;
+use crate::target::Target;
+use crate::unwanted::Unwanted;
+use reg_table::RowId;
+use register_file::RegisterFile;
+use rss_hash::{Input, Key, QueueMode, choose, classify, entry, hash};
+
+/// RXCSUM: descriptors tell hashes.
+const TELLS_HASH: u32 = 0x0000_2000;
+
+/// Where a frame goes, given without its frame check sequence, or why it goes nowhere; any bytes will do, and bytes
+/// that a frame doesn't have read as 0. `Filter` where its destination isn't let in, then `NoPool` where there is no
+/// pool for it or the pool has no queues, and `PoolOff` where the pool takes no frames.
+///
+/// Intel 82599 datasheet, sections on packet filtering and on receive queue assignment.
+#[tactic(auto, unfolding(crate::specs::Sorting::sorted))]
+pub fn sort(registers: &RegisterFile, frame: &[u8]) -> Result<Target, Unwanted>
+    ensures sorted { result ≡ sorted registers.now frame.now }
+    ensures small { IfOk result (λ t. (t.queue < 128) × (t.rss < 16)) }
+{
+    if !passes(registers, frame) {
+        return Err(Unwanted::Filter);
+    }
+    let pool = chosen_pool(registers, frame)?;
+    Ok(target(registers, frame, pool))
+}
+
+/// Where a frame of a pool goes.
+#[tactic(auto, unfolding(crate::specs::Sorting::target_of))]
+fn target(registers: &RegisterFile, frame: &[u8], pool: u16) -> Target
+    requires range { pool < 64 }
+    requires queues { IsTrue (has_queues (queue_mode_of (word_of registers.now Mrqc 0)) pool) }
+    ensures target { result ≡ target_of registers.now frame.now pool }
+    ensures small { (result.queue < 128) × (result.rss < 16) }
+{
+    let mrqc = registers.word(RowId::Mrqc, 0);
+    let (rss, input) = choose(mrqc, &classify(frame));
+    let hash = hash_of(registers, &input);
+    let entry = entry_at(registers, rss, hash);
+    Target {
+        queue: queue(QueueMode::of(mrqc), pool, entry),
+        rss,
+        hash: told(registers, hash),
+    }
+}
+
+/// The hash of an input, with the key of RSSRK.
+fn hash_of(registers: &RegisterFile, input: &Input) -> u32
+    ensures { result ≡ toeplitz_hash (bytes_of_registers (row_words registers.now.words Rssrk)) input.now }
+{
+    let bytes = input.as_slice();
+    if bytes.is_empty() {
+        return 0;
+    }
+    hash(&Key::from_words(&registers.column(RowId::Rssrk)), bytes)
+}
+
+/// The entry of RETA that a hash selects, and 0 for a frame of type 0.
+fn entry_at(registers: &RegisterFile, rss: u8, hash: u32) -> u8
+    ensures value { result ≡ (if rss == 0 then 0 else entry_of (row_words registers.now.words Reta) hash) }
+    ensures range { result < 16 }
+{
+    if rss == 0 {
+        return 0;
+    }
+    entry(&registers.column(RowId::Reta), hash)
+}
+
+/// The hash that descriptors tell.
+fn told(registers: &RegisterFile, hash: u32) -> u32
+    ensures { result ≡ (if has_bit 13 (word_of registers.now Rxcsum 0) then hash else 0) }
+{
+    if registers.word(RowId::Rxcsum, 0) / TELLS_HASH % 2 == 1 {
+        hash
+    } else {
+        0
+    }
+}
+
+/// The queue of a pool and an entry of the redirection table.
+fn queue(mode: QueueMode, pool: u16, entry: u8) -> u16
+    requires pool { pool < 64 }
+    requires queues { IsTrue (has_queues mode pool) }
+    requires entry { entry < 16 }
+    ensures value { result ≡ queue_of mode pool entry }
+    ensures range { result < 128 }
+{
+    match mode {
+        QueueMode::Single => 0,
+        QueueMode::Rss => u16::from(entry),
+        QueueMode::Pools64 => 2 * pool,
+        QueueMode::Pools32Rss => 4 * pool + u16::from(entry % 4),
+        QueueMode::Pools64Rss => 2 * pool + u16::from(entry % 2),
+    }
+}

@@ -34,6 +34,11 @@ def one(*addresses):
     return [Run(address, 4, 0, 1) for address in addresses]
 
 
+def low(address):
+    """A single register's bits 15 to 0, at a further address."""
+    return [Run(address, 4, 0, 1, low=True)]
+
+
 def array(first, count, stride=4):
     """Registers at equal steps."""
     return [Run(first, stride, 0, count)]
@@ -55,11 +60,20 @@ TABLE = [
     Row("STATUS", "Device status", "Calc", one(0x00008)),
     Row("CTRL_EXT", "Extended device control", "Rw", one(0x00018)),
     Row("LEDCTL", "LED control", "Rw", one(0x00200)),
+    Row("EICR", "Extended interrupt cause", "Cause", one(0x00800), mask=0x7FFF_FFFF),
+    Row("EICS", "Extended interrupt cause set", "Set", one(0x00808) + low(0x00A90), mask=0x7FFF_FFFF),
     Row("EIAC", "Extended interrupt auto clear", "Rw", one(0x00810), mask=0x7FFF_FFFF),
     Row("EITR", "Extended interrupt throttle", "Rw", array(0x00820, 24) + [Run(0x12300, 4, 24, 104)]),
+    Row("EIMS", "Extended interrupt mask set", "Ones", one(0x00880) + low(0x00AA0), mask=0x7FFF_FFFF),
+    Row("EIMC", "Extended interrupt mask clear", "Clear", one(0x00888) + low(0x00AB0), mask=0x7FFF_FFFF),
+    Row("EIAM", "Extended interrupt auto mask", "Rw", one(0x00890) + low(0x00AD0), mask=0x7FFF_FFFF),
     Row("GPIE", "General purpose interrupt enable", "Rw", one(0x00898)),
     Row("IVAR", "Interrupt vector allocation", "Rw", array(0x00900, 64)),
     Row("IVAR_MISC", "Interrupt vector allocation of other causes", "Rw", one(0x00A00)),
+    Row("PVTEICR", "Interrupt cause of a virtual function", "Cause", array(0x00B00, 64), mask=7),
+    Row("PVTEICS", "Interrupt cause set of a virtual function", "Set", array(0x00C00, 64), mask=7),
+    Row("PVTEIMS", "Interrupt mask set of a virtual function", "Ones", array(0x00D00, 64), mask=7),
+    Row("PVTEIMC", "Interrupt mask clear of a virtual function", "Clear", array(0x00E00, 64), mask=7),
     Row("PVTEIAC", "Extended interrupt auto clear of a virtual function", "Rw", array(0x00F00, 64), mask=7),
     Row("PVTEIAM", "Extended interrupt auto mask of a virtual function", "Rw", array(0x04D00, 64), mask=7),
     Row("RDBAL", "Receive descriptor base address, low part", "Held", receive(0x00), mask=0xFFFF_FF80),
@@ -262,7 +276,7 @@ def spec_runs():
         for row, run in runs()
     )
     return f"""{GENERATED}
-use Rattle.std.specs.Prelude.{{List, [], ◌∷◌, false}}
+use Rattle.std.specs.Prelude.{{List, [], ◌∷◌, true, false}}
 use Rattle.reg_table.specs.declared.rows.RowId.TheVariants.{{{variants()}}}
 use Rattle.reg_table.specs.declared.run.Run.{{Run}}
 use Rattle.reg_table.specs.Run.{{run}}

@@ -3,6 +3,8 @@ use Rattle.std.specs.Prelude.{List, ℕ, Bool, ◌++◌, codes, decimal, if◌th
 use Rattle.dma_arena.specs.Block.{Block}
 use Rattle.dma_ring.specs.declared.RingFault.{RingFault}
 use Rattle.dma_ring.specs.declared.RingFault.TheVariants as fault
+use Rattle.intr_unit.specs.declared.Group.{Group}
+use Rattle.intr_unit.specs.declared.Group.TheVariants.{Pf, Vf}
 use Rattle.nic_device.specs.declared.Reply.{Reply}
 use Rattle.nic_device.specs.declared.Reply.TheVariants as reply
 use Rattle.nic_device.specs.declared.Why.{Why}
@@ -45,6 +47,11 @@ slot_text queue slot = queue_text queue ++ (codes " slot " ++ decimal slot)
 abbrev pub end_text : Bool → List ℕ
 end_text end = if end then codes "end" else codes "more"
 
+-- a group of interrupts: that of the physical function, or of a virtual function by its number
+abbrev pub group_text : Group → List ℕ
+group_text Pf = codes "pf"
+group_text (Vf v) = codes "vf " ++ decimal v
+
 -- what the device replied
 abbrev pub reply_text : Reply Block → List ℕ
 reply_text (reply.Word word) = codes "word " ++ word_text word
@@ -56,10 +63,12 @@ reply_text (reply.Twice block) = codes "twice"
 reply_text reply.NotLent = codes "not lent"
 reply_text reply.Misaligned = codes "misaligned"
 reply_text reply.NoQueue = codes "no queue"
+reply_text reply.NoGroup = codes "no group"
 reply_text reply.Idle = codes "idle"
 reply_text (reply.Dropped why) = codes "dropped " ++ why_text why
 reply_text (reply.Wrote queue slot end desc at len) = codes "wrote " ++ (slot_text queue slot ++ (codes " " ++ end_text end))
 reply_text (reply.Advanced queue slot back) = codes "advanced " ++ slot_text queue slot
 reply_text (reply.Sent queue len back) = codes "sent " ++ (queue_text queue ++ (codes " len " ++ decimal len))
 reply_text (reply.Fault queue fault) = codes "fault " ++ (queue_text queue ++ (codes " " ++ fault_text fault))
+reply_text (reply.Message group vector) = codes "message " ++ (group_text group ++ (codes " vector " ++ decimal vector))
 reply_text (reply.Frame queue bytes) = codes "frame " ++ (queue_text queue ++ (codes " " ++ bytes_text bytes))

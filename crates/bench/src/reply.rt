@@ -1,10 +1,10 @@
 //! What the device replies, as it is printed.
 ghost use Rattle.std.specs.Prelude.{Some};
-ghost use Rattle.bench.specs.Reply.{fault_text, queue_text, reply_text, slot_text, why_text};
+ghost use Rattle.bench.specs.Reply.{fault_text, group_text, queue_text, reply_text, slot_text, why_text};
 
 use crate::words::{AddressText, BytesText, WordText};
 use dma_ring::RingFault;
-use nic_device::{Reply, ReplyNote, Why};
+use nic_device::{Group, Reply, ReplyNote, Why};
 use std::fmt;
 
 /// Why a frame was dropped, as it is printed.
@@ -81,6 +81,21 @@ impl fmt::Display for SlotText {
     }
 }
 
+/// A group of interrupts, as it is printed.
+#[derive(Clone, Copy)]
+struct GroupText(Group);
+
+impl fmt::Display for GroupText {
+    ghost output = { λ g. Some (group_text g.0) };
+
+    fn fmt<W: fmt::Write>(&self, f: &mut fmt::Formatter<W>) -> fmt::Result {
+        match self.0 {
+            Group::Pf => write!(f, "pf"),
+            Group::Vf(number) => write!(f, "vf {number}"),
+        }
+    }
+}
+
 /// A reply as it is printed.
 #[derive(Clone, Copy)]
 pub(crate) struct ReplyText<'a>(pub(crate) &'a ReplyNote);
@@ -99,6 +114,7 @@ impl fmt::Display for ReplyText<'_> {
             Reply::NotLent => write!(f, "not lent"),
             Reply::Misaligned => write!(f, "misaligned"),
             Reply::NoQueue => write!(f, "no queue"),
+            Reply::NoGroup => write!(f, "no group"),
             Reply::Idle => write!(f, "idle"),
             Reply::Dropped(why) => write!(f, "dropped {}", WhyText(*why)),
             Reply::Wrote {
@@ -124,6 +140,9 @@ impl fmt::Display for ReplyText<'_> {
             Reply::Sent { queue, len, .. } => write!(f, "sent {} len {len}", QueueText(*queue)),
             Reply::Fault { queue, fault } => {
                 write!(f, "fault {} {}", QueueText(*queue), FaultText(*fault))
+            }
+            Reply::Message { group, vector } => {
+                write!(f, "message {} vector {vector}", GroupText(*group))
             }
             Reply::Frame { queue, bytes } => {
                 write!(

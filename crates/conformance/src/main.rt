@@ -28,7 +28,7 @@ use std::fmt::Write;
 use std::{fs, io};
 
 /// The tables.
-const TABLES: [&str; 11] = [
+const TABLES: [&str; 12] = [
     "grammar",
     "words",
     "registers",
@@ -39,6 +39,7 @@ const TABLES: [&str; 11] = [
     "receive",
     "transmit",
     "counters",
+    "interrupts",
     "hash",
 ];
 

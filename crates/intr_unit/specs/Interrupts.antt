@@ -27,6 +27,20 @@ abbrev pub reset_of : Group → Interrupts
 reset_of group =
     record { group = group; causes = no_bits; enabled = no_bits; auto_clear = no_bits; auto_mask = no_bits; told = no_bits }
 
+-- a group's interrupts by its words and its told bits: of the words the bits that the group has, and of the told bits
+-- those whose cause and mask are 1
+abbrev pub of_words : Group → (causes enabled auto_clear auto_mask told : ℕ) → Interrupts
+of_words group causes enabled auto_clear auto_mask told =
+    let bits = group_bits group in
+    record {
+      group = group;
+      causes = intersection causes bits;
+      enabled = intersection enabled bits;
+      auto_clear = intersection auto_clear bits;
+      auto_mask = intersection auto_mask bits;
+      told = intersection told (intersection (intersection causes bits) (intersection enabled bits));
+    }
+
 -- these causes and masks; of these told marks those go whose cause or mask is 0
 abbrev pub settled : Interrupts → BitSet → BitSet → BitSet → Interrupts
 settled s causes enabled told =

@@ -7,7 +7,7 @@ use std::marker::Model;
 
 /// A set of the bits 0 to 31 of a register.
 #[derive(Clone, Copy, PartialEq, Eq, Debug)]
-pub struct BitSet {
+pub(crate) struct BitSet {
     word: u32,
 }
 
@@ -24,24 +24,24 @@ impl Model for BitSet {
 #[tactic(auto, using(crate::proofs::SetLaws::word_operations), unfolding(crate::specs::BitSet::when))]
 impl BitSet {
     /// The set without a bit.
-    pub const EMPTY: BitSet = BitSet { word: 0 };
+    pub(crate) const EMPTY: BitSet = BitSet { word: 0 };
 
     /// The set of the bits that are 1 in the word.
-    pub fn of_word(word: u32) -> Self
+    pub(crate) fn of_word(word: u32) -> Self
         ensures { result ≡ word }
     {
         BitSet { word }
     }
 
     /// The word that is 1 at the bits of the set.
-    pub fn word(self) -> u32
+    pub(crate) fn word(self) -> u32
         ensures { result ≡ self }
     {
         self.word
     }
 
     /// The bits that are in one of the two sets.
-    pub fn union(self, other: BitSet) -> Self
+    pub(crate) fn union(self, other: BitSet) -> Self
         ensures { result ≡ union self other }
     {
         BitSet {
@@ -50,7 +50,7 @@ impl BitSet {
     }
 
     /// The bits that are in both sets.
-    pub fn intersection(self, other: BitSet) -> Self
+    pub(crate) fn intersection(self, other: BitSet) -> Self
         ensures { result ≡ intersection self other }
     {
         BitSet {
@@ -59,7 +59,7 @@ impl BitSet {
     }
 
     /// The bits of this set that are not in the other.
-    pub fn difference(self, other: BitSet) -> Self
+    pub(crate) fn difference(self, other: BitSet) -> Self
         ensures { result ≡ difference self other }
     {
         BitSet {
@@ -68,14 +68,14 @@ impl BitSet {
     }
 
     /// The set where the condition holds, else no bit.
-    pub fn when(self, condition: bool) -> Self
+    pub(crate) fn when(self, condition: bool) -> Self
         ensures { result ≡ when condition self }
     {
         if condition { self } else { BitSet::EMPTY }
     }
 
     /// Whether the bit is in the set.
-    pub fn contains(self, bit: u8) -> bool
+    pub(crate) fn contains(self, bit: u8) -> bool
         requires { bit < 32 }
         ensures { result ≡ contains self bit }
     {
@@ -83,7 +83,7 @@ impl BitSet {
     }
 
     /// The set of one bit.
-    pub fn only(bit: u8) -> Self
+    pub(crate) fn only(bit: u8) -> Self
         requires { bit < 32 }
         ensures { result ≡ only bit }
     {
@@ -91,7 +91,7 @@ impl BitSet {
     }
 
     /// The lowest bit of the set.
-    pub fn lowest(self) -> Option<u8>
+    pub(crate) fn lowest(self) -> Option<u8>
         ensures bit { result ≡ lowest_of self }
         ensures within { IfSome result (λ bit. bit < 32) }
     {

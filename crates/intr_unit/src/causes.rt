@@ -3,7 +3,7 @@
 ghost use Rattle.std.specs.Prelude.{◌≡◌, ◌<◌, IfSome};
 ghost use Rattle.intr_unit.specs.BitSet.{IsSubset};
 ghost use Rattle.intr_unit.specs.Group.{group_bits};
-ghost use Rattle.intr_unit.specs.Interrupts.{IsConsistent, reset_of, settled, auto_masked, raised, after_read, after_write_one, after_mask_set, after_mask_clear, with_auto_clear, with_auto_mask, next_bit, next_vector, after_message};
+ghost use Rattle.intr_unit.specs.Interrupts.{IsConsistent, reset_of, of_words, settled, auto_masked, raised, after_read, after_write_one, after_mask_set, after_mask_clear, with_auto_clear, with_auto_mask, next_bit, next_vector, after_message};
 
 use crate::bit_set::BitSet;
 use crate::group::Group;
@@ -75,6 +75,32 @@ impl Causes {
         }
     }
 
+    /// A group by the words of its registers and its told bits, as [`Causes::causes`], [`Causes::enabled`],
+    /// [`Causes::auto_clear`], [`Causes::auto_mask`] and [`Causes::told`] give them. Bits that the group doesn't have
+    /// are left out, and so are told bits whose cause or mask is 0.
+    pub fn of_words(
+        group: Group,
+        causes: u32,
+        enabled: u32,
+        auto_clear: u32,
+        auto_mask: u32,
+        told: u32,
+    ) -> Self
+        ensures { result ≡ of_words group causes enabled auto_clear auto_mask told }
+    {
+        let existing = BitSet::of_word(group.bits());
+        let causes = BitSet::of_word(causes).intersection(existing);
+        let enabled = BitSet::of_word(enabled).intersection(existing);
+        Causes {
+            group,
+            causes,
+            enabled,
+            auto_clear: BitSet::of_word(auto_clear).intersection(existing),
+            auto_mask: BitSet::of_word(auto_mask).intersection(existing),
+            told: BitSet::of_word(told).intersection(causes.intersection(enabled)),
+        }
+    }
+
     /// Resets the group, as the device's reset and, for a VF's group, that of its pool do.
     pub fn reset(&mut self)
         ensures { self.new ≡ reset_of self.old.group }
@@ -116,6 +142,14 @@ impl Causes {
         ensures { result ≡ self.now.auto_mask }
     {
         self.auto_mask.word()
+    }
+
+    /// The bits that messages told: each has its cause and its mask at 1, and isn't told again before one of them
+    /// was 0.
+    pub fn told(&self) -> u32
+        ensures { result ≡ self.now.told }
+    {
+        self.told.word()
     }
 
     /// Raises causes, as the device does (`auto` false) or a write of the set register (EICS, PVTEICS; `bits` cut by

@@ -61,6 +61,8 @@ fn text(rt: &(impl Abort + AllocGlobal), reply: Reply) -> String {
         Reply::NotLent => ReplyNote::NotLent,
         Reply::Misaligned => ReplyNote::Misaligned,
         Reply::NoQueue => ReplyNote::NoQueue,
+        Reply::NoGroup => ReplyNote::NoGroup,
+        Reply::Message { group, vector } => ReplyNote::Message { group, vector },
         Reply::Idle => ReplyNote::Idle,
         Reply::Dropped(why) => ReplyNote::Dropped(why),
         Reply::Wrote {

@@ -30,3 +30,5 @@ mod rings;
 mod sorting;
 #[cfg(test)]
 mod texts;
+#[cfg(test)]
+mod virtual_functions;

@@ -161,6 +161,8 @@ fn told(answer: Result<StepAnswer, OutOfMemory>) -> &'static str {
         StepAnswer::Made(Reply::NotLent) => "not lent",
         StepAnswer::Made(Reply::Misaligned) => "misaligned",
         StepAnswer::Made(Reply::NoQueue) => "no queue",
+        StepAnswer::Made(Reply::NoGroup) => "no group",
+        StepAnswer::Made(Reply::Message { .. }) => "message",
         StepAnswer::Made(Reply::Dropped(Why::LinkDown)) => "link down",
         StepAnswer::Made(Reply::Dropped(Why::Off)) => "off",
         StepAnswer::Made(Reply::Dropped(Why::Short)) => "short",

@@ -34,16 +34,25 @@ macro_rules! case {
 
 /// Row, name, count, first and last address, and where they aren't all bits and 0: mask and word after a reset.
 #[rattlefmt::skip]
-static CASES: [Case; 60] = [
+static CASES: [Case; 69] = [
     case!(Ctrl,     "CTRL",        1, 0x00000, 0x00000, 0xFBFF_FFF7, 0),
     case!(Status,   "STATUS",      1, 0x00008, 0x00008),
     case!(CtrlExt,  "CTRL_EXT",    1, 0x00018, 0x00018),
     case!(Ledctl,   "LEDCTL",      1, 0x00200, 0x00200),
+    case!(Eicr,     "EICR",        1, 0x00800, 0x00800, 0x7FFF_FFFF, 0),
+    case!(Eics,     "EICS",        1, 0x00808, 0x00808, 0x7FFF_FFFF, 0),
     case!(Eiac,     "EIAC",        1, 0x00810, 0x00810, 0x7FFF_FFFF, 0),
     case!(Eitr,     "EITR",      128, 0x00820, 0x1249C),
+    case!(Eims,     "EIMS",        1, 0x00880, 0x00880, 0x7FFF_FFFF, 0),
+    case!(Eimc,     "EIMC",        1, 0x00888, 0x00888, 0x7FFF_FFFF, 0),
+    case!(Eiam,     "EIAM",        1, 0x00890, 0x00890, 0x7FFF_FFFF, 0),
     case!(Gpie,     "GPIE",        1, 0x00898, 0x00898),
     case!(Ivar,     "IVAR",       64, 0x00900, 0x009FC),
     case!(IvarMisc, "IVAR_MISC",   1, 0x00A00, 0x00A00),
+    case!(Pvteicr,  "PVTEICR",    64, 0x00B00, 0x00BFC, 0x0000_0007, 0),
+    case!(Pvteics,  "PVTEICS",    64, 0x00C00, 0x00CFC, 0x0000_0007, 0),
+    case!(Pvteims,  "PVTEIMS",    64, 0x00D00, 0x00DFC, 0x0000_0007, 0),
+    case!(Pvteimc,  "PVTEIMC",    64, 0x00E00, 0x00EFC, 0x0000_0007, 0),
     case!(Pvteiac,  "PVTEIAC",    64, 0x00F00, 0x00FFC, 0x0000_0007, 0),
     case!(Pvteiam,  "PVTEIAM",    64, 0x04D00, 0x04DFC, 0x0000_0007, 0),
     case!(Rdbal,    "RDBAL",     128, 0x01000, 0x0DFC0, 0xFFFF_FF80, 0),
@@ -102,6 +111,10 @@ fn kind_wanted(row: RowId) -> Kind {
     match row {
         RowId::Ctrl => Kind::Ctrl,
         RowId::Status | RowId::Links => Kind::Calc,
+        RowId::Eicr | RowId::Pvteicr => Kind::Cause,
+        RowId::Eims | RowId::Pvteims => Kind::Ones,
+        RowId::Eics | RowId::Pvteics => Kind::Set,
+        RowId::Eimc | RowId::Pvteimc => Kind::Clear,
         RowId::Qprc | RowId::Qprdc | RowId::Qptc | RowId::Mpc => Kind::Rc,
         RowId::Gprc | RowId::Gptc | RowId::Ruc | RowId::Roc => Kind::Rc,
         RowId::Rdbal | RowId::Rdbah | RowId::Rdlen | RowId::Rdh => Kind::Held,
@@ -257,6 +270,19 @@ fn one_past_the_end_of_a_run_is_its_neighbour(rt: HostRuntime) {
 fn registers_show_all_their_bits(rt: HostRuntime) {
     for address in [0x00810, 0x01014, 0x02100, 0x05400, 0x0EC80, 0x12500] {
         assert_eq!(rt; view_of(address), 0xFFFF_FFFF, "{address:#x}");
+    }
+}
+
+#[test]
+fn low_addresses_show_half_a_register(rt: HostRuntime) {
+    for (address, row) in [
+        (0x00A90, RowId::Eics),
+        (0x00AA0, RowId::Eims),
+        (0x00AB0, RowId::Eimc),
+        (0x00AD0, RowId::Eiam),
+    ] {
+        assert_eq!(rt; place_of(address), place(row, 0), "{address:#x}");
+        assert_eq!(rt; view_of(address), 0xFFFF, "{address:#x}");
     }
 }
 

@@ -7,30 +7,32 @@ use Rattle.reg_table.specs.Place.{Names, place_among, view_among}
 use Rattle.reg_table.specs.declared.place.Place.{Place}
 use Rattle.reg_table.proofs.Finding.{found-named}
 use Rattle.reg_table.proofs.InRange.{named_in_range}
-use Rattle.reg_table.specs.declared.rows.RowId.TheVariants.{Gprc, Gptc, Qprc, Qprdc, Qptc}
-use Rattle.rx_ring.specs.declared.filled.Filled.{Filled}
-use Rattle.tx_ring.specs.declared.fetched.Fetched.{Fetched}
+use Rattle.reg_table.specs.declared.rows.RowId.TheVariants.{Mpc, Gprc, Gptc, Qprc, Qprdc, Qptc}
+use Rattle.intr_unit.specs.declared.group.Group.{Group}
+use Rattle.intr_unit.specs.declared.group.Group.TheVariants as group
 use Rattle.register_file.specs.Access.{read_word, after_read, written, stored, asks_reset}
 use Rattle.register_file.specs.Bits.{merged}
-use Rattle.register_file.specs.Queue.{with_head}
+use Rattle.register_file.specs.Counters.{counted}
+use Rattle.register_file.specs.Groups.{causes_raised}
 use Rattle.register_file.specs.Words.{word_at}
 use Rattle.register_file.specs.Registers.{Registers}
 use Rattle.register_file.specs.Laws.{HasShape}
 use Rattle.register_file.proofs.Puts.{word_at-put_other, word_at-reset}
-use Rattle.register_file.proofs.Shape.{HasShape-reset, HasShape-written, HasShape-after_read, HasShape-counted, HasShape-with_head, HasShape-switched, HasShape-shut}
+use Rattle.register_file.proofs.Shape.{HasShape-reset, HasShape-written, HasShape-after_read, HasShape-counted, HasShape-with_head, HasShape-switched, HasShape-shut, HasShape-with_interrupts, HasShape-message_made}
+use Rattle.register_file.proofs.Volatile.{made_by_raise}
 use Rattle.register_file.proofs.Sides.{word_at-stored}
 use Rattle.register_file.specs.declared.dir.Dir.{Dir}
 use Rattle.register_file.specs.declared.dir.Dir.TheVariants.{Rx, Tx}
 use Rattle.nic_device.specs.State.{State, new_state, reset}
 use Rattle.nic_device.specs.Outcome.{Outcome, gives}
 use Rattle.nic_device.specs.Access.{place_read, place_written, state_read, state_written}
-use Rattle.nic_device.specs.Receive.{piece_counted}
-use Rattle.nic_device.specs.Transmit.{slot_counted}
+use Rattle.nic_device.specs.Interrupt.{missed_cause, link_cause}
 use Rattle.nic_device.specs.Switching.{side_switched}
 use Rattle.nic_device.specs.Step.{step_of}
 use Rattle.nic_device.specs.Run.{state_after}
 use Rattle.nic_device.specs.Laws.{IsReached, IsPlain, reply_to_read, after_write, shown}
-use Rattle.nic_device.proofs.Cases.{either_way, lent_cases, taken_cases, peeked_cases, poked_cases, arrived_cases, link_cases, collected_cases, switched_cases, received_cases, transmitted_cases}
+use Rattle.nic_device.proofs.Cases.{either_way, lent_cases, taken_cases, peeked_cases, poked_cases, arrived_cases, link_cases, collected_cases, switched_cases, interrupted_cases, received_cases, transmitted_cases}
+use Rattle.nic_device.proofs.Raising.{Kept, piece_keeps, slot_keeps, receive_fault_keeps, transmit_fault_keeps}
 use Rattle.nic_device.specs.declared.event.Event.{Event}
 use Rattle.nic_device.specs.declared.event.Event.TheVariants as event
 use Rattle.nic_device.specs.declared.event.Port.TheVariants.{Pf}
@@ -58,16 +60,16 @@ HasShape-side_switched s dir queue h =
     either_way (λ (t : State). HasShape t.registers) _ _ _ (HasShape-switched s.registers dir queue h)
     (HasShape-switched s.registers dir queue h)
 
-HasShape-piece : (r : Registers) (queue : ℕ) (f : Filled) → HasShape r → HasShape (piece_counted r queue f)
-HasShape-piece r queue f h =
-    let moved = HasShape-with_head r Rx queue f.head h in
-    either_way HasShape f.end _ _ (HasShape-counted (with_head r Rx queue f.head) Qprc _ moved) moved
+HasShape-raised : (r : Registers) (g : Group) (bits : ℕ) → HasShape r → HasShape (causes_raised r g bits)
+HasShape-raised r g bits h = HasShape-with_interrupts r (made_by_raise r g bits) h
 
-HasShape-slot : (r : Registers) (queue : ℕ) (f : Fetched) (o : Option (List ℕ)) → HasShape r
-    → HasShape (slot_counted r queue f o)
-HasShape-slot r queue f (Some frame) h =
-    HasShape-counted _ Qptc _ (HasShape-counted _ Gptc 0 (HasShape-with_head r Tx queue f.head h))
-HasShape-slot r queue f None h = HasShape-with_head r Tx queue f.head h
+shape_kept : Kept HasShape
+shape_kept = record {
+  raised = HasShape-raised;
+  counted_received = λ r index h. HasShape-counted r Qprc index h;
+  counted_sent = λ r h. HasShape-counted r Gptc 0 h;
+  counted_sent_on = λ r index h. HasShape-counted r Qptc index h;
+}
 
 pub HasShape-step : (s : State) (e : Event Block) → HasShape s.registers → Keeps (step_of s e)
 unfolding step_of
@@ -80,24 +82,30 @@ HasShape-step s (event.Poke16 a bytes) h = poked_cases Keeps s a bytes h h h
 HasShape-step s (event.Arrive frame) h = arrived_cases Keeps s frame (record {
   dropped = λ why. h;
   counted = λ why counter is. HasShape-counted s.registers counter 0 h;
+  missed = HasShape-raised (counted s.registers Mpc 0) group.Pf missed_cause (HasShape-counted s.registers Mpc 0 h);
   joined = λ t is. HasShape-counted s.registers Gprc 0 h;
 })
 HasShape-step s event.RxStep h = received_cases Keeps s (record {
   idle = h;
   dropped = λ w others e why. h;
   slotless = λ w others e. HasShape-counted s.registers Qprdc _ h;
-  fault = λ w others e fault. HasShape-shut s.registers Rx w.queue h;
-  filled = λ w others e f is. HasShape-piece s.registers w.queue f h;
+  fault = λ w others e fault. receive_fault_keeps HasShape shape_kept s.registers w.queue
+      (HasShape-shut s.registers Rx w.queue h);
+  filled = λ w others e f is. piece_keeps HasShape shape_kept s.registers s.vfs w.queue f
+      (HasShape-with_head s.registers Rx w.queue f.head h);
 })
 HasShape-step s (event.TxStep queue) h = transmitted_cases Keeps s queue (record {
   none = h;
   idle = h;
-  fault = λ fault. HasShape-shut s.registers Tx queue h;
-  fetched = λ f is. HasShape-slot s.registers queue f f.frame h;
+  fault = λ fault. transmit_fault_keeps HasShape shape_kept s.registers queue
+      (HasShape-shut s.registers Tx queue h);
+  fetched = λ f is. slot_keeps HasShape shape_kept s.registers s.vfs queue f
+      (HasShape-with_head s.registers Tx queue f.head h);
 })
 HasShape-step s (event.QueueStep dir queue) h =
     switched_cases Keeps s dir queue h h (HasShape-side_switched s dir queue h)
-HasShape-step s (event.Link up) h = link_cases Keeps s up h h
+HasShape-step s (event.IntStep g) h = interrupted_cases Keeps s g h h (HasShape-message_made s.registers g h)
+HasShape-step s (event.Link up) h = link_cases Keeps s up h (HasShape-raised s.registers group.Pf link_cause h)
 HasShape-step s event.Collect h = collected_cases Keeps s h (λ queue bytes others. h)
 
 HasShape-run : (s : State) (events : List (Event Block)) → HasShape s.registers

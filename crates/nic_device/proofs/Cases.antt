@@ -12,26 +12,27 @@ use Rattle.tx_ring.specs.Fetch as tx
 use Rattle.reg_table.specs.Rows.{row_of}
 use Rattle.reg_table.specs.declared.kind.Kind.TheVariants.{Rc}
 use Rattle.reg_table.specs.declared.rows.RowId.{RowId}
-use Rattle.reg_table.specs.declared.rows.RowId.TheVariants.{Mpc, Gprc, Ruc, Roc}
-use Rattle.register_file.specs.Queue.{shut}
-use Rattle.register_file.specs.Settings.{can_receive, frame_limit, drops}
+use Rattle.reg_table.specs.declared.rows.RowId.TheVariants.{Gprc, Ruc, Roc}
+use Rattle.intr_unit.specs.declared.group.Group.{Group}
+use Rattle.register_file.specs.Groups.{message_of, message_made}
+use Rattle.register_file.specs.Settings.{is_stopped, can_receive, frame_limit, drops}
 use Rattle.register_file.specs.Sides.{receive_queue_of, transmit_queue_of}
 use Rattle.register_file.specs.declared.dir.Dir.{Dir}
-use Rattle.register_file.specs.declared.dir.Dir.TheVariants.{Rx}
 use Rattle.rx_filter.specs.Sorting.{sorted}
 use Rattle.rx_filter.specs.declared.target.Target.{Target}
 use Rattle.rx_filter.specs.declared.unwanted.Unwanted.{Unwanted}
 use Rattle.nic_device.specs.State.{State, Waiting}
 use Rattle.nic_device.specs.Outcome.{Outcome, gives}
 use Rattle.nic_device.specs.Lending.{lent, taken, block_taken, peeked, poked}
-use Rattle.nic_device.specs.Arrival.{arrived, let_in, with_count, sorted_in, why_unwanted}
+use Rattle.nic_device.specs.Arrival.{arrived, let_in, with_count, missed, sorted_in, why_unwanted}
+use Rattle.nic_device.specs.Interrupt.{device_raised, link_cause, has_group, message_reply, messaged, interrupted}
 use Rattle.nic_device.specs.Receive as receive
-use Rattle.nic_device.specs.Receive.{received, rest_of, slotless_counted}
+use Rattle.nic_device.specs.Receive.{received, rest_of, slotless_counted, receive_failed}
 use Rattle.nic_device.specs.Transmit as transmit
 use Rattle.nic_device.specs.Transmit.{transmitted, staged_by, sending_of}
 use Rattle.nic_device.specs.Switching.{queue_switched, side_switched}
 use Rattle.nic_device.specs.Link.{link_set, collected, oldest_collected}
-use Rattle.nic_device.specs.declared.event.Reply.TheVariants.{Done, Idle, NoQueue, NotLent, Misaligned, Bytes, Buf, Twice, Dropped, Fault, Frame}
+use Rattle.nic_device.specs.declared.event.Reply.TheVariants.{Done, Idle, NoQueue, NoGroup, NotLent, Misaligned, Bytes, Buf, Twice, Dropped, Fault, Frame}
 use Rattle.nic_device.specs.declared.event.Why.{Why}
 use Rattle.nic_device.specs.declared.event.Why.TheVariants.{LinkDown, Off, Short, Long, Full, QueueOff, NoSlot}
 
@@ -70,18 +71,19 @@ poked_cases P s address bytes misaligned not_lent done =
 
 -- frames that arrive
 
--- a frame that arrives is dropped, dropped and counted, or let in and counted
+-- a frame that arrives is dropped, dropped and counted, missed, or let in and counted
 pub record Arrives (P : Outcome → Type 0) (s : State) (frame : List ℕ) : Type 0 where
   pub dropped : (why : Why) → P (gives (Dropped why) s)
   pub counted : (why : Why) (counter : RowId) → (row_of counter).kind ≡ Rc
       → P (gives (Dropped why) (with_count s counter))
+  pub missed : P (gives (Dropped Full) (missed s))
   pub joined : (t : Target) → sorted s.registers frame ≡ Ok t
       → P (gives Done (record (with_count s Gprc) { waiting = s.waiting ++ let_in frame t ∷ [] }))
 
 sorted_cases : (P : Outcome → Type 0) (s : State) (frame : List ℕ) → Arrives P s frame
     → (answer : Result Target Unwanted) → sorted s.registers frame ≡ answer → P (sorted_in s frame answer)
 sorted_cases P s frame a (Ok t) is =
-    either_way P (nat_lt (length s.waiting) s.fifo) _ _ (a.joined t is) (a.counted Full Mpc refl)
+    either_way P (nat_lt (length s.waiting) s.fifo) _ _ (a.joined t is) a.missed
 sorted_cases P s frame a (Err why) is = a.dropped (why_unwanted why)
 
 pub arrived_cases : (P : Outcome → Type 0) (s : State) (frame : List ℕ) → Arrives P s frame → P (arrived s frame)
@@ -97,7 +99,7 @@ arrived_cases P s frame a =
 -- the link
 
 pub link_cases : (P : Outcome → Type 0) (s : State) (up : Bool) → P (gives Idle s)
-    → P (gives Done (record s { link = up })) → P (link_set s up)
+    → P (gives Done (record s { link = up; registers = device_raised s.registers link_cause })) → P (link_set s up)
 link_cases P s up idle done = either_way P _ _ _ idle done
 
 collected_oldest : (P : Outcome → Type 0) (s : State) (out : List (ℕ × List ℕ)) → P (gives Idle s)
@@ -119,6 +121,19 @@ pub switched_cases : (P : Outcome → Type 0) (s : State) (dir : Dir) (queue : �
     → P (gives Idle s) → P (gives Done (side_switched s dir queue)) → P (queue_switched s dir queue)
 switched_cases P s dir queue none idle done = either_way P _ _ _ (either_way P _ _ _ idle done) none
 
+-- messages
+
+group_messages : (P : Outcome → Type 0) (s : State) (g : Group) → P (gives Idle s)
+    → P (gives (message_reply g (message_of s.registers g)) (record s { registers = message_made s.registers g }))
+    → P (messaged s g)
+group_messages P s g idle made = either_way P (is_stopped s.registers) _ _ idle made
+
+pub interrupted_cases : (P : Outcome → Type 0) (s : State) (g : Group) → P (gives NoGroup s) → P (gives Idle s)
+    → P (gives (message_reply g (message_of s.registers g)) (record s { registers = message_made s.registers g }))
+    → P (interrupted s g)
+interrupted_cases P s g none idle made =
+    either_way P (has_group s g) (messaged s g) (gives NoGroup s) (group_messages P s g idle made) none
+
 -- steps of receiving
 
 -- what is done with the first frame is what one of these leaves
@@ -130,7 +145,7 @@ pub record Receives (P : Outcome → Type 0) (s : State) : Type 0 where
       → P (gives (Dropped NoSlot)
       (record s { registers = slotless_counted s.registers w.queue; waiting = others }))
   pub fault : (w : Waiting) (others : List Waiting) → s.waiting ≡ w ∷ others → (fault : RingFault)
-      → P (gives (Fault w.queue fault) (record s { registers = shut s.registers Rx w.queue; waiting = others }))
+      → P (gives (Fault w.queue fault) (record s { registers = receive_failed s.registers w.queue; waiting = others }))
   pub filled : (w : Waiting) (others : List Waiting) → s.waiting ≡ w ∷ others → (f : Filled)
       → (rx.fill_of s.memory (receive_queue_of s.registers w.queue).ring
       (receive_queue_of s.registers w.queue).control (rest_of w)).answer ≡ Ok f

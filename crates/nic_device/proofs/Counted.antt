@@ -65,6 +65,7 @@ unfolding step_of
 word-arrived s frame r = arrived_cases (Counts s) s frame (record {
   dropped = λ why no. cc;
   counted = λ why counter is no. cc;
+  missed = λ no. cc;
   joined = λ t is _. put_stands s.registers (place Gprc 0) _ (reached_shape s r) (omega arith);
 })
 

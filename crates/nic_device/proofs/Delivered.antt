@@ -53,5 +53,6 @@ unfolding step_of
 stopped_idle s stopped = record {
   receive = ap (λ b. cond b (gives Idle s) (first_received s s.waiting)) stopped;
   transmit = λ queue small. rw (lt-ltb queue 128 small, stopped) refl;
+  interrupt = λ g there. rw (there, stopped) refl;
   switch = λ dir queue small. rw (lt-ltb queue 128 small, stopped) refl;
 }

@@ -24,7 +24,7 @@ use Rattle.nic_device.specs.Switching.{without_part, emptied, side_switched}
 use Rattle.nic_device.specs.Step.{step_of}
 use Rattle.nic_device.specs.Run.{state_after}
 use Rattle.nic_device.specs.Laws.{IsReached}
-use Rattle.nic_device.proofs.Cases.{either_way, lent_cases, taken_cases, peeked_cases, poked_cases, arrived_cases, link_cases, collected_cases, switched_cases, received_cases, transmitted_cases}
+use Rattle.nic_device.proofs.Cases.{either_way, lent_cases, taken_cases, peeked_cases, poked_cases, arrived_cases, link_cases, collected_cases, switched_cases, interrupted_cases, received_cases, transmitted_cases}
 use Rattle.nic_device.proofs.Targets.{told-let_in}
 use Rattle.nic_device.specs.declared.event.Event.{Event}
 use Rattle.nic_device.specs.declared.event.Event.TheVariants as event
@@ -86,6 +86,7 @@ AllFit-step s (event.Poke16 a bytes) fit = poked_cases Fits s a bytes fit fit fi
 AllFit-step s (event.Arrive frame) fit = arrived_cases Fits s frame (record {
   dropped = λ why. fit;
   counted = λ why counter is. fit;
+  missed = fit;
   joined = λ t is. AllFit-more s.registers s.waiting frame t is fit;
 })
 AllFit-step s event.RxStep fit = received_cases Fits s (record {
@@ -103,6 +104,7 @@ AllFit-step s (event.TxStep queue) fit = transmitted_cases Fits s queue (record 
 })
 AllFit-step s (event.QueueStep dir queue) fit =
     switched_cases Fits s dir queue fit fit (AllFit-switched s dir queue fit)
+AllFit-step s (event.IntStep g) fit = interrupted_cases Fits s g fit fit fit
 AllFit-step s (event.Link up) fit = link_cases Fits s up fit fit
 AllFit-step s event.Collect fit = collected_cases Fits s fit (λ queue bytes others. fit)
 

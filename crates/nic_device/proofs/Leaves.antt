@@ -4,34 +4,37 @@ use Rattle.std.specs.Prelude.{IsTrue, IsFalse, slice_set}
 use Rattle.std.proofs.lemmas.List.{get_or-set_other}
 use Rattle.dma_arena.proofs.Bus.{get-insert_other, get-remove_other}
 use Rattle.dma_arena.proofs.Blocks.{get-write_at_out}
+use Rattle.reg_table.specs.Counter.{bumped}
 use Rattle.reg_table.specs.Rows.{row_of}
 use Rattle.reg_table.specs.Runs.{runs}
 use Rattle.reg_table.specs.Place.{Names, place_among, view_among}
 use Rattle.reg_table.specs.declared.place.Place.{Place}
-use Rattle.reg_table.specs.declared.rows.RowId.TheVariants.{Gprc, Gptc, Qprc, Qprdc, Qptc}
-use Rattle.rx_ring.specs.declared.filled.Filled.{Filled}
+use Rattle.reg_table.specs.declared.rows.RowId.TheVariants.{Mpc, Gprc, Gptc, Qprc, Qprdc, Qptc}
+use Rattle.intr_unit.specs.declared.group.Group.TheVariants as group
 use Rattle.rx_ring.proofs.Fills.{writes_inside_slot}
 use Rattle.register_file.specs.Access.{written, asks_reset}
 use Rattle.register_file.specs.Counters.{counted}
-use Rattle.register_file.specs.Registers.{Registers, is_wanted}
-use Rattle.register_file.specs.Queue.{with_head, switched}
+use Rattle.register_file.specs.Groups.{causes_raised}
+use Rattle.register_file.specs.Registers.{Registers, is_wanted, word_of}
+use Rattle.register_file.specs.Queue.{with_head, switched, shut}
 use Rattle.register_file.specs.Sides.{receive_queue_of, transmit_queue_of}
-use Rattle.register_file.specs.Laws.{ChangesOnly, ChangesCountersOnly}
-use Rattle.register_file.proofs.Counting.{changes-counter, changes-after_read}
+use Rattle.register_file.specs.Laws.{ChangesOnly, ChangesVolatileOnly}
+use Rattle.register_file.proofs.Counting.{changes-counter, changes-after_read, changes-message_made}
 use Rattle.register_file.proofs.Sides.{receive-after_write, transmit-after_write, changes-with_head, changes-switched, changes-shut}
 use Rattle.register_file.specs.declared.dir.Dir.{Dir}
 use Rattle.register_file.specs.declared.dir.Dir.TheVariants.{Rx, Tx}
 use Rattle.nic_device.specs.State.{State, Waiting, reset}
 use Rattle.nic_device.specs.Outcome.{Outcome}
 use Rattle.nic_device.specs.Access.{place_read, place_written, state_read}
-use Rattle.nic_device.specs.Receive.{piece_counted}
-use Rattle.nic_device.specs.Transmit.{slot_counted, fetched_reply, staged_by, sending_of}
+use Rattle.nic_device.specs.Interrupt.{missed_cause, link_cause}
+use Rattle.nic_device.specs.Transmit.{fetched_reply, staged_by, sending_of}
 use Rattle.nic_device.specs.Switching.{side_switched, emptied}
 use Rattle.nic_device.specs.Step.{step_of}
-use Rattle.nic_device.specs.Laws.{LeavesQueues, LeavesOtherSides, LeavesBlock, LeavesMemory, ReadLeavesQueues, WriteLeavesOtherQueues, AccessLeavesMemory, MemoryCallsLeaveQueues, MemoryCallsLeaveOtherBlocks, ArrivalLeavesQueues, ArrivalLeavesMemory, IsFirstFor, ReceivingLeaves, ReceivingLeavesOtherQueues, ReceivesOutside, ReceivingLeavesOtherBlocks, TransmittingLeavesOtherQueues, told_back, TransmittingLeavesOtherBlocks, SwitchingLeavesOtherQueues, SwitchingLeavesMemory, LinkLeavesQueues, LinkLeavesMemory, is_fault, FaultChangesNoMemory}
+use Rattle.nic_device.specs.Laws.{LeavesQueues, LeavesOtherSides, LeavesBlock, LeavesMemory, ReadLeavesQueues, WriteLeavesOtherQueues, AccessLeavesMemory, MemoryCallsLeaveQueues, MemoryCallsLeaveOtherBlocks, ArrivalLeavesQueues, ArrivalLeavesMemory, IsFirstFor, ReceivingLeaves, ReceivingLeavesOtherQueues, ReceivesOutside, ReceivingLeavesOtherBlocks, TransmittingLeavesOtherQueues, told_back, TransmittingLeavesOtherBlocks, SwitchingLeavesOtherQueues, SwitchingLeavesMemory, MessageLeavesQueues, MessageLeavesMemory, LinkLeavesQueues, LinkLeavesMemory, is_fault, FaultChangesNoMemory}
 use Rattle.nic_device.proofs.Accesses.{state-written}
 use Rattle.nic_device.proofs.Reported.{BackAvoids, get-fetched}
-use Rattle.nic_device.proofs.Cases.{either_way, fetched_by, lent_cases, taken_cases, peeked_cases, poked_cases, arrived_cases, link_cases, collected_cases, switched_cases, received_cases, transmitted_cases}
+use Rattle.nic_device.proofs.Cases.{either_way, fetched_by, lent_cases, taken_cases, peeked_cases, poked_cases, arrived_cases, link_cases, collected_cases, switched_cases, interrupted_cases, received_cases, transmitted_cases}
+use Rattle.nic_device.proofs.Raising.{Kept, piece_keeps, slot_keeps, receive_fault_keeps, transmit_fault_keeps, changes-raised}
 use Rattle.nic_device.specs.declared.event.Event.TheVariants as event
 use Rattle.nic_device.specs.declared.event.Port.TheVariants.{Pf}
 use Rattle.tx_ring.specs.declared.fetched.Fetched.{Fetched}
@@ -47,9 +50,9 @@ leaves_queues s t registers staged = record {
   };
 }
 
--- nor does it change where nothing but counters does in the registers
-counted_queues : (s t : State) → ChangesCountersOnly s.registers t.registers → t.staged ≡ s.staged → LeavesQueues s t
-counted_queues s t only staged = record {
+-- nor does it change where nothing but volatile words does in the registers
+volatile_queues : (s t : State) → ChangesVolatileOnly s.registers t.registers → t.staged ≡ s.staged → LeavesQueues s t
+volatile_queues s t only staged = record {
   receive = only.receive;
   transmit = λ queue. record { side = only.transmit queue; staged = ap (λ xs. get_or xs queue []) staged };
 }
@@ -65,7 +68,7 @@ Memory s o = LeavesMemory s o.state
 place_read_queues : (s : State) (o : Option Place) (view : ℕ) → Queues s (place_read s o view)
 place_read_queues s None view = leaves_queues s s refl refl
 place_read_queues s (Some p) view =
-    counted_queues s (state_read s p) (changes-after_read (row_of p.row).kind s.registers p refl) refl
+    volatile_queues s (state_read s p) (changes-after_read (row_of p.row).kind s.registers p refl) refl
 
 pub read_queues : ReadLeavesQueues
 unfolding step_of
@@ -135,25 +138,37 @@ memory_blocks = record {
 
 -- frames that arrive
 
+changes-missed : (r : Registers) → ChangesVolatileOnly r (causes_raised (counted r Mpc 0) group.Pf missed_cause)
+changes-missed r =
+    let counts = changes-counter r Mpc 0 (bumped (word_of r Mpc 0)) refl in
+    let raises = changes-raised (counted r Mpc 0) group.Pf missed_cause in
+    record {
+      receive = λ queue. raises.receive queue ∙ counts.receive queue;
+      transmit = λ queue. raises.transmit queue ∙ counts.transmit queue;
+      words = λ p steady. raises.words p steady ∙ counts.words p steady;
+    }
+
 pub arrival_queues : ArrivalLeavesQueues
 unfolding step_of
 arrival_queues s frame = arrived_cases (Queues s) s frame (record {
   dropped = λ why. leaves_queues s s refl refl;
-  counted = λ why counter is. counted_queues s _ (changes-counter s.registers counter 0 _ is) refl;
-  joined = λ t is. counted_queues s _ (changes-counter s.registers Gprc 0 _ refl) refl;
+  counted = λ why counter is. volatile_queues s _ (changes-counter s.registers counter 0 _ is) refl;
+  missed = volatile_queues s _ (changes-missed s.registers) refl;
+  joined = λ t is. volatile_queues s _ (changes-counter s.registers Gprc 0 _ refl) refl;
 })
 
 pub arrival_memory : ArrivalLeavesMemory
 unfolding step_of
 arrival_memory s frame = arrived_cases (Memory s) s frame
-    (record { dropped = λ why. refl; counted = λ why counter is. refl; joined = λ t is. refl })
+    (record { dropped = λ why. refl; counted = λ why counter is. refl; missed = refl; joined = λ t is. refl })
 
 -- the link
 
 pub link_queues : LinkLeavesQueues
 unfolding step_of
 link_queues s up = (
-  link_cases (Queues s) s up (leaves_queues s _ refl refl) (leaves_queues s _ refl refl),
+  link_cases (Queues s) s up (leaves_queues s _ refl refl)
+      (volatile_queues s _ (changes-raised s.registers group.Pf link_cause) refl),
   collected_cases (Queues s) s (leaves_queues s _ refl refl) (λ queue bytes others. leaves_queues s _ refl refl),
 )
 
@@ -164,6 +179,17 @@ link_memory s up = (
   collected_cases (Memory s) s refl
       (λ queue bytes others. refl),
 )
+
+-- messages
+
+pub message_queues : MessageLeavesQueues
+unfolding step_of
+message_queues s g = interrupted_cases (Queues s) s g (leaves_queues s s refl refl) (leaves_queues s s refl refl)
+    (volatile_queues s _ (changes-message_made s.registers g) refl)
+
+pub message_memory : MessageLeavesMemory
+unfolding step_of
+message_memory s g = interrupted_cases (Memory s) s g refl refl refl
 
 -- steps of receiving
 
@@ -180,10 +206,10 @@ keeps_others : (dir : Dir) (queue : ℕ) (r s : Registers) {row : _} → Changes
     → KeepsOthers dir queue r s
 keeps_others dir queue r s only = record { receive = only.receive; transmit = only.transmit }
 
--- and still are where nothing but counters changes after that
-then_counted : (dir : Dir) (queue : ℕ) (r s t : Registers) → KeepsOthers dir queue r s → ChangesCountersOnly s t
+-- and still are where nothing but volatile words changes after that
+then_volatile : (dir : Dir) (queue : ℕ) (r s t : Registers) → KeepsOthers dir queue r s → ChangesVolatileOnly s t
     → KeepsOthers dir queue r t
-then_counted dir queue r s t keeps only = record {
+then_volatile dir queue r s t keeps only = record {
   receive = λ other h. only.receive other ∙ keeps.receive other h;
   transmit = λ other h. only.transmit other ∙ keeps.transmit other h;
 }
@@ -191,7 +217,19 @@ then_counted dir queue r s t keeps only = record {
 head_keeps : (r : Registers) (dir : Dir) (queue head : ℕ) → KeepsOthers dir queue r (with_head r dir queue head)
 head_keeps r dir queue head = keeps_others dir queue r _ (changes-with_head r dir queue head)
 
--- where nothing but the receive side of the first frame's queue, and counters, has changed in the registers
+-- as counted frames and raised causes do
+others_kept : (dir : Dir) (queue : ℕ) (r : Registers) → Kept (KeepsOthers dir queue r)
+others_kept dir queue r = record {
+  raised = λ s g bits keeps. then_volatile dir queue r s _ keeps (changes-raised s g bits);
+  counted_received = λ s index keeps. then_volatile dir queue r s _ keeps (changes-counter s Qprc index _ refl);
+  counted_sent = λ s keeps. then_volatile dir queue r s _ keeps (changes-counter s Gptc 0 _ refl);
+  counted_sent_on = λ s index keeps. then_volatile dir queue r s _ keeps (changes-counter s Qptc index _ refl);
+}
+
+shut_keeps : (r : Registers) (dir : Dir) (queue : ℕ) → KeepsOthers dir queue r (shut r dir queue)
+shut_keeps r dir queue = keeps_others dir queue r _ (changes-shut r dir queue)
+
+-- where nothing but the receive side of the first frame's queue, and volatile words, has changed in the registers
 receiving_leaves : (s t : State) (w : Waiting) (others : List Waiting) → s.waiting ≡ w ∷ others
     → KeepsOthers Rx w.queue s.registers t.registers → t.staged ≡ s.staged → ReceivingLeaves s t
 receiving_leaves s t w others e only staged = record {
@@ -204,27 +242,24 @@ unchanged_leaves s t registers staged =
     let same = leaves_queues s t registers staged in
     record { receive = λ queue n. same.receive queue; transmit = same.transmit }
 
-counted_leaves : (s t : State) → ChangesCountersOnly s.registers t.registers → t.staged ≡ s.staged → ReceivingLeaves s t
-counted_leaves s t only staged =
-    let same = counted_queues s t only staged in
+volatile_leaves : (s t : State) → ChangesVolatileOnly s.registers t.registers → t.staged ≡ s.staged
+    → ReceivingLeaves s t
+volatile_leaves s t only staged =
+    let same = volatile_queues s t only staged in
     record { receive = λ queue n. same.receive queue; transmit = same.transmit }
-
-piece_keeps : (r : Registers) (queue : ℕ) (f : Filled) → KeepsOthers Rx queue r (piece_counted r queue f)
-piece_keeps r queue f =
-    let moved = with_head r Rx queue f.head in
-    either_way (KeepsOthers Rx queue r) f.end _ _
-    (then_counted Rx queue r moved _ (head_keeps r Rx queue f.head) (changes-counter moved Qprc _ _ refl))
-    (head_keeps r Rx queue f.head)
 
 pub receiving_queues : ReceivingLeavesOtherQueues
 unfolding step_of
 receiving_queues s = received_cases (λ o. ReceivingLeaves s o.state) s (record {
   idle = unchanged_leaves s s refl refl;
   dropped = λ w others e why. unchanged_leaves s _ refl refl;
-  slotless = λ w others e. counted_leaves s _ (changes-counter s.registers Qprdc _ _ refl) refl;
+  slotless = λ w others e. volatile_leaves s _ (changes-counter s.registers Qprdc _ _ refl) refl;
   fault = λ w others e fault. receiving_leaves s _ w others e
-      (keeps_others Rx w.queue s.registers _ (changes-shut s.registers Rx w.queue)) refl;
-  filled = λ w others e f is. receiving_leaves s _ w others e (piece_keeps s.registers w.queue f) refl;
+      (receive_fault_keeps (KeepsOthers Rx w.queue s.registers) (others_kept Rx w.queue s.registers) s.registers w.queue
+      (shut_keeps s.registers Rx w.queue)) refl;
+  filled = λ w others e f is. receiving_leaves s _ w others e
+      (piece_keeps (KeepsOthers Rx w.queue s.registers) (others_kept Rx w.queue s.registers) s.registers s.vfs w.queue f
+      (head_keeps s.registers Rx w.queue f.head)) refl;
 })
 
 pub receiving_blocks : ReceivingLeavesOtherBlocks
@@ -262,24 +297,17 @@ same_sides s t dir queue registers staged =
     let same = leaves_queues s t registers staged in
     record { receive = λ other h. same.receive other; transmit = λ other h. same.transmit other }
 
-slot_keeps : (r : Registers) (queue : ℕ) (f : Fetched) (o : Option (List ℕ))
-    → KeepsOthers Tx queue r (slot_counted r queue f o)
-slot_keeps r queue f (Some frame) =
-    let moved = with_head r Tx queue f.head in
-    let counted_once = then_counted Tx queue r moved (counted moved Gptc 0) (head_keeps r Tx queue f.head)
-    (changes-counter moved Gptc 0 _ refl) in
-    then_counted Tx queue r (counted moved Gptc 0) _ counted_once (changes-counter (counted moved Gptc 0) Qptc _ _ refl)
-slot_keeps r queue f None = head_keeps r Tx queue f.head
-
 pub transmitting_queues : TransmittingLeavesOtherQueues
 unfolding step_of
 transmitting_queues s queue = transmitted_cases (λ o. LeavesOtherSides Tx queue s o.state) s queue (record {
   none = same_sides s s Tx queue refl refl;
   idle = same_sides s s Tx queue refl refl;
   fault = λ fault. transmitting_leaves s _ queue []
-      (keeps_others Tx queue s.registers _ (changes-shut s.registers Tx queue)) refl;
+      (transmit_fault_keeps (KeepsOthers Tx queue s.registers) (others_kept Tx queue s.registers) s.registers queue
+      (shut_keeps s.registers Tx queue)) refl;
   fetched = λ f is. transmitting_leaves s _ queue (fetched_by s queue).staged
-      (slot_keeps s.registers queue f f.frame) refl;
+      (slot_keeps (KeepsOthers Tx queue s.registers) (others_kept Tx queue s.registers) s.registers s.vfs queue f
+      (head_keeps s.registers Tx queue f.head)) refl;
 })
 
 back_told : (queue : ℕ) (f : Fetched) (o : Option (List ℕ)) → told_back (fetched_reply queue f o) ≡ f.back
@@ -357,6 +385,7 @@ fault_memory s (event.Poke16 a bytes) = poked_cases (Faultless s) s a bytes (λ 
 fault_memory s (event.Arrive frame) = arrived_cases (Faultless s) s frame (record {
   dropped = λ why _. refl;
   counted = λ why counter is _. refl;
+  missed = λ _. refl;
   joined = λ t is _. refl;
 })
 fault_memory s event.RxStep = received_cases (Faultless s) s (record {
@@ -374,5 +403,6 @@ fault_memory s (event.TxStep queue) = transmitted_cases (Faultless s) s queue (r
 })
 fault_memory s (event.QueueStep dir queue) =
     λ _. switched_cases (Memory s) s dir queue refl refl (side_memory s dir queue)
+fault_memory s (event.IntStep g) = λ _. message_memory s g
 fault_memory s (event.Link up) = link_cases (Faultless s) s up (λ _. refl) (λ _. refl)
 fault_memory s event.Collect = collected_cases (Faultless s) s (λ _. refl) (λ queue bytes others _. refl)

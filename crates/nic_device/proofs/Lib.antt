@@ -8,6 +8,7 @@ pub mod GoodFrames
 pub mod Leaves
 pub mod Lists
 pub mod Pieces
+pub mod Raising
 pub mod Reported
 pub mod Staging
 pub mod Targets

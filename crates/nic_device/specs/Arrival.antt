@@ -9,6 +9,7 @@ use Rattle.rx_filter.specs.declared.target.Target.{Target}
 use Rattle.rx_filter.specs.declared.unwanted.Unwanted.{Unwanted}
 use Rattle.rx_filter.specs.declared.unwanted.Unwanted.TheVariants as unwanted
 use Rattle.nic_device.specs.State.{State, Waiting}
+use Rattle.nic_device.specs.Interrupt.{device_raised, missed_cause}
 use Rattle.nic_device.specs.Outcome.{Outcome, gives}
 use Rattle.nic_device.specs.declared.event.Reply.TheVariants.{Done, Dropped}
 use Rattle.nic_device.specs.declared.event.Why.{Why}
@@ -22,12 +23,16 @@ let_in frame t = record { frame = frame; queue = t.queue; hash = t.hash; rss = t
 abbrev pub with_count : State → RowId → State
 with_count s counter = record s { registers = counted s.registers counter 0 }
 
+-- a frame is missed: it is counted, and its cause is raised
+abbrev pub missed : State → State
+missed s = record s { registers = device_raised (counted s.registers Mpc 0) missed_cause }
+
 -- a frame joins those that wait, of which there may be so many, and is counted as received or as missed
 abbrev pub joined : State → List ℕ → Target → Outcome
 joined s frame t =
     if nat_lt (length s.waiting) s.fifo
     then gives Done (record (with_count s Gprc) { waiting = s.waiting ++ let_in frame t ∷ [] })
-    else gives (Dropped Full) (with_count s Mpc)
+    else gives (Dropped Full) (missed s)
 
 -- why a frame that goes to no queue is dropped
 abbrev pub why_unwanted : Unwanted → Why

@@ -10,6 +10,7 @@ use Rattle.reg_table.specs.Counter.{bumped}
 use Rattle.dma_arena.specs.Block.{Block}
 use Rattle.dma_arena.specs.Memory.{read_at, IsWhole, AreApart, Avoids}
 use Rattle.tx_ring.specs.Report.{report_length}
+use Rattle.intr_unit.specs.declared.group.Group.{Group}
 use Rattle.register_file.specs.Access.{asks_reset}
 use Rattle.register_file.specs.Bits.{merged}
 use Rattle.register_file.specs.Words.{word_at}
@@ -20,6 +21,7 @@ use Rattle.register_file.specs.declared.dir.Dir.{Dir}
 use Rattle.register_file.specs.declared.dir.Dir.TheVariants.{Rx, Tx}
 use Rattle.nic_device.specs.State.{State, Waiting, new_state}
 use Rattle.nic_device.specs.Outcome.{gives}
+use Rattle.nic_device.specs.Interrupt.{has_group}
 use Rattle.nic_device.specs.Transmit.{staged_by}
 use Rattle.nic_device.specs.Step.{step_of}
 use Rattle.nic_device.specs.Run.{state_after}
@@ -241,7 +243,14 @@ SwitchingLeavesOtherQueues = (s : State) (dir : Dir) (queue : ℕ)
 abbrev pub SwitchingLeavesMemory : Type 0
 SwitchingLeavesMemory = (s : State) (dir : Dir) (queue : ℕ) → LeavesMemory s (after s (event.QueueStep dir queue))
 
--- the link, and collecting a frame, leave every queue and the memory
+-- a message of a group leaves every queue and the memory
+abbrev pub MessageLeavesQueues : Type 0
+MessageLeavesQueues = (s : State) (g : Group) → LeavesQueues s (after s (event.IntStep g))
+
+abbrev pub MessageLeavesMemory : Type 0
+MessageLeavesMemory = (s : State) (g : Group) → LeavesMemory s (after s (event.IntStep g))
+
+-- the link with the cause that it raises, and collecting a frame, leave every queue and the memory
 abbrev pub LinkLeavesQueues : Type 0
 LinkLeavesQueues = (s : State) (up : Bool)
     → LeavesQueues s (after s (event.Link up)) × LeavesQueues s (after s event.Collect)
@@ -285,10 +294,11 @@ is_fault other = false
 abbrev pub FaultChangesNoMemory : Type 0
 FaultChangesNoMemory = (s : State) (e : Event Block) → IsTrue (is_fault (reply_to s e)) → LeavesMemory s (after s e)
 
--- while CTRL bit 2 is 1 every step of a queue below 128 is idle and changes nothing
+-- while CTRL bit 2 is 1 every step of a queue below 128, and of a group that there is, is idle and changes nothing
 pub record StopsAllSteps (s : State) : Type 0 where
   pub receive : step_of s event.RxStep ≡ gives Idle s
   pub transmit : (queue : ℕ) → queue < 128 → step_of s (event.TxStep queue) ≡ gives Idle s
+  pub interrupt : (g : Group) → IsTrue (has_group s g) → step_of s (event.IntStep g) ≡ gives Idle s
   pub switch : (dir : Dir) (queue : ℕ) → queue < 128 → step_of s (event.QueueStep dir queue) ≡ gives Idle s
 
 abbrev pub StoppedDeviceIsIdle : Type 0

@@ -2,6 +2,7 @@ pub mod Access
 pub mod Arrival
 pub mod Config
 pub mod Laws
+pub mod Interrupt
 pub mod Lending
 pub mod Link
 pub mod Outcome

@@ -1,13 +1,16 @@
 -- The link, and the frames that went out on it.
 use Rattle.std.specs.Prelude.{ℕ, Bool, List, [], ◌∷◌, length, if◌then◌else◌}
 use Rattle.std.specs.Bool.{beq}
+use Rattle.nic_device.specs.Interrupt.{device_raised, link_cause}
 use Rattle.nic_device.specs.State.{State}
 use Rattle.nic_device.specs.Outcome.{Outcome, gives}
 use Rattle.nic_device.specs.declared.event.Reply.TheVariants.{Done, Idle, Frame}
 
--- the link goes up or down
+-- the link goes up or down, which raises its cause
 abbrev pub link_set : State → Bool → Outcome
-link_set s up = if beq s.link up then gives Idle s else gives Done (record s { link = up })
+link_set s up =
+    if beq s.link up then gives Idle s
+    else gives Done (record s { link = up; registers = device_raised s.registers link_cause })
 
 -- the oldest of the frames out is collected
 abbrev pub oldest_collected : State → List (ℕ × List ℕ) → Outcome

@@ -17,6 +17,7 @@ use Rattle.register_file.specs.Sides.{ReceiveQueue, receive_queue_of}
 use Rattle.register_file.specs.declared.dir.Dir.TheVariants.{Rx}
 use Rattle.dma_arena.specs.Memory.{Memory}
 use Rattle.nic_device.specs.State.{State, Waiting}
+use Rattle.nic_device.specs.Interrupt.{raised_by, device_raised, fault_cause}
 use Rattle.nic_device.specs.Outcome.{Outcome, gives}
 use Rattle.nic_device.specs.declared.event.Reply.TheVariants.{Idle, Dropped, Wrote, Fault}
 use Rattle.nic_device.specs.declared.event.Why.TheVariants.{QueueOff, NoSlot}
@@ -49,10 +50,16 @@ slotless_counted r queue = counted r Qprdc (counter_of r Rx queue)
 abbrev pub frame_counted : Registers → ℕ → Registers
 frame_counted r queue = counted r Qprc (counter_of r Rx queue)
 
--- the registers after a piece of a frame was written
-abbrev pub piece_counted : Registers → ℕ → Filled → Registers
-piece_counted r queue f =
-    if f.end then frame_counted (with_head r Rx queue f.head) queue else with_head r Rx queue f.head
+-- the registers after a piece of a frame was written: the head moves on, and a frame that ends is counted and raises
+-- its queue's receive cause
+abbrev pub piece_done : Registers → (vfs : ℕ) → ℕ → Filled → Registers
+piece_done r vfs queue f =
+    if f.end then raised_by (frame_counted (with_head r Rx queue f.head) queue) vfs Rx queue
+    else with_head r Rx queue f.head
+
+-- the registers after a fault: the receive side is off and not wanted on, and the cause of faults is raised
+abbrev pub receive_failed : Registers → ℕ → Registers
+receive_failed r queue = device_raised (shut r Rx queue) fault_cause
 
 -- the queue has no slot: a frame of which nothing is written is dropped where the queue drops, any other waits on
 abbrev pub without_slot : State → Waiting → List Waiting → Outcome
@@ -70,12 +77,12 @@ abbrev pub slot_done : State → Waiting → List Waiting → Result Filled Ring
 slot_done s w others (Ok f) memory =
     gives (Wrote w.queue f.slot f.end f.desc f.at f.len)
     (record s {
-      registers = piece_counted s.registers w.queue f;
+      registers = piece_done s.registers s.vfs w.queue f;
       memory = memory;
       waiting = after_piece w others f;
     })
 slot_done s w others (Err fault) memory =
-    gives (Fault w.queue fault) (record s { registers = shut s.registers Rx w.queue; waiting = others })
+    gives (Fault w.queue fault) (record s { registers = receive_failed s.registers w.queue; waiting = others })
 
 -- the slot at the head of a queue is filled with what is left of a frame
 abbrev pub slot_filled : State → Waiting → List Waiting → ReceiveQueue → Outcome

@@ -9,6 +9,7 @@ use Rattle.nic_device.specs.Arrival.{arrived}
 use Rattle.nic_device.specs.Receive.{received}
 use Rattle.nic_device.specs.Transmit.{transmitted}
 use Rattle.nic_device.specs.Switching.{queue_switched}
+use Rattle.nic_device.specs.Interrupt.{interrupted}
 use Rattle.nic_device.specs.Link.{link_set, collected}
 use Rattle.nic_device.specs.declared.event.Event.{Event}
 use Rattle.nic_device.specs.declared.event.Event.TheVariants as event
@@ -27,6 +28,7 @@ step_of s (event.Poke16 address bytes) = poked s address bytes
 step_of s (event.Arrive frame) = arrived s frame
 step_of s event.RxStep = received s
 step_of s (event.TxStep queue) = transmitted s queue
+step_of s (event.IntStep group) = interrupted s group
 step_of s (event.QueueStep dir queue) = queue_switched s dir queue
 step_of s (event.Link up) = link_set s up
 step_of s event.Collect = collected s

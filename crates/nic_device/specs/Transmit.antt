@@ -14,6 +14,7 @@ use Rattle.register_file.specs.Settings.{is_stopped, can_transmit, frame_limit, 
 use Rattle.register_file.specs.Sides.{TransmitQueue, transmit_queue_of}
 use Rattle.register_file.specs.declared.dir.Dir.TheVariants.{Tx}
 use Rattle.nic_device.specs.State.{State}
+use Rattle.nic_device.specs.Interrupt.{raised_by, device_raised, fault_cause}
 use Rattle.nic_device.specs.Outcome.{Outcome, gives}
 use Rattle.nic_device.specs.Receive.{is_empty}
 use Rattle.nic_device.specs.declared.event.Reply.{Reply}
@@ -37,24 +38,34 @@ abbrev pub with_frame : List (ℕ × List ℕ) → ℕ → Option (List ℕ) →
 with_frame out queue (Some frame) = out ++ (queue, frame) ∷ []
 with_frame out queue None = out
 
--- the registers after a slot was fetched, which may have ended a frame
+-- the registers after a slot was fetched: the head moves on, and a frame that it ends is counted
 abbrev pub slot_counted : Registers → ℕ → Fetched → Option (List ℕ) → Registers
 slot_counted r queue f (Some frame) =
     counted (counted (with_head r Tx queue f.head) Gptc 0) Qptc (counter_of r Tx queue)
 slot_counted r queue f None = with_head r Tx queue f.head
+
+-- what is more: a slot that asks for a report raises its queue's transmit cause
+abbrev pub slot_reported : Registers → (vfs : ℕ) → ℕ → Fetched → Registers
+slot_reported r vfs queue f =
+    if f.rs then raised_by (slot_counted r queue f f.frame) vfs Tx queue else slot_counted r queue f f.frame
+
+-- the registers after a fault: the transmit side is off and not wanted on, and the cause of faults is raised
+abbrev pub transmit_failed : Registers → ℕ → Registers
+transmit_failed r queue = device_raised (shut r Tx queue) fault_cause
 
 -- the slot at the queue's head was fetched, or met a fault, which drops the staged bytes and shuts the transmit side
 abbrev pub slot_done : State → ℕ → Result Fetched RingFault → Memory → List ℕ → Outcome
 slot_done s queue (Ok f) memory staged =
     gives (fetched_reply queue f f.frame)
     (record s {
-      registers = slot_counted s.registers queue f f.frame;
+      registers = slot_reported s.registers s.vfs queue f;
       memory = memory;
       staged = slice_set s.staged queue staged;
       out = with_frame s.out queue f.frame;
     })
 slot_done s queue (Err fault) memory staged =
-    gives (Fault queue fault) (record s { registers = shut s.registers Tx queue; staged = slice_set s.staged queue [] })
+    gives (Fault queue fault)
+    (record s { registers = transmit_failed s.registers queue; staged = slice_set s.staged queue [] })
 
 -- the slot at the head of a queue is fetched
 abbrev pub slot_fetched : State → ℕ → TransmitQueue → Outcome

@@ -5,8 +5,10 @@ ghost use Rattle.nic_device.specs.Arrival.{arrived, joined, why_unwanted};
 
 use crate::device::Device;
 use crate::event::{Event, OutOfMemory, Reply, Why};
+use crate::interrupt::RECEIVE_MISS;
 use crate::waiting::Waiting;
 use dma_arena::Octets;
+use intr_unit::Group;
 use reg_table::RowId;
 use rx_filter::{Target, Unwanted, sort};
 
@@ -54,6 +56,7 @@ impl Device {
     {
         if self.waiting.len() >= usize::from(self.config.fifo) {
             self.registers.count(RowId::Mpc, 0);
+            self.registers.raise(Group::Pf, RECEIVE_MISS);
             return Ok(Reply::Dropped(Why::Full));
         }
         if self.waiting.reserve(1).is_err() {

@@ -107,6 +107,7 @@ impl Device {
             Event::Arrive(frame) => self.arrive(frame),
             Event::RxStep => Ok(self.receive()),
             Event::TxStep(queue) => self.transmit(queue),
+            Event::IntStep(group) => Ok(self.send_message(group)),
             Event::QueueStep(dir, queue) => Ok(self.switch_queue(dir, queue)),
             Event::Link(up) => Ok(self.set_link(up)),
             Event::Collect => Ok(self.collect()),

@@ -2,6 +2,7 @@ ghost use Rattle.std.specs.Prelude.{◌≡◌};
 
 use dma_arena::{Buf, Octets};
 use dma_ring::RingFault;
+use intr_unit::Group;
 use register_file::Dir;
 use std::marker::Model;
 
@@ -36,6 +37,8 @@ pub enum Event<B = Buf> {
     RxStep,
     /// The device fetches one descriptor of a transmit queue, below 128.
     TxStep(u16),
+    /// The device sends the next message of a group of interrupts, where one is due.
+    IntStep(Group),
     /// The device makes a side of a queue, below 128, what it is wanted to be: on or off.
     QueueStep(Dir, u16),
     /// The link goes up (true) or down.
@@ -90,6 +93,8 @@ pub enum Reply<B = Buf> {
     Misaligned,
     /// There is no queue of this number.
     NoQueue,
+    /// There is no group of this virtual function.
+    NoGroup,
     /// There was nothing to do.
     Idle,
     /// A frame was dropped.
@@ -133,6 +138,13 @@ pub enum Reply<B = Buf> {
         queue: u16,
         /// Why.
         fault: RingFault,
+    },
+    /// A message was sent.
+    Message {
+        /// The group of interrupts that it is of.
+        group: Group,
+        /// Its vector, below 16.
+        vector: u8,
     },
     /// A frame that went out.
     Frame {

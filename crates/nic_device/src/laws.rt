@@ -1,7 +1,7 @@
 //! What the device promises as a whole. Each law is the contract of a function that does nothing: what it ensures holds
 //! of the definitions that the contract of `Device::step` cites.
 
-ghost use Rattle.nic_device.specs.Laws.{NewDeviceReadsResetValues, WriteShowsAtEachAddress, WriteLeavesOtherRegisters, ReadChangesNothing, StrayAccessChangesNothing, ReadCounterStartsAgain, LetInFrameIsCounted, ReadLeavesQueues, WriteLeavesOtherQueues, AccessLeavesMemory, MemoryCallsLeaveQueues, MemoryCallsLeaveOtherBlocks, ArrivalLeavesQueues, ArrivalLeavesMemory, ReceivingLeavesOtherQueues, ReceivingLeavesOtherBlocks, TransmittingLeavesOtherQueues, TransmittingLeavesOtherBlocks, SwitchingLeavesOtherQueues, SwitchingLeavesMemory, LinkLeavesQueues, LinkLeavesMemory, PieceIsReadBack, FaultChangesNoMemory, StoppedDeviceIsIdle};
+ghost use Rattle.nic_device.specs.Laws.{NewDeviceReadsResetValues, WriteShowsAtEachAddress, WriteLeavesOtherRegisters, ReadChangesNothing, StrayAccessChangesNothing, ReadCounterStartsAgain, LetInFrameIsCounted, ReadLeavesQueues, WriteLeavesOtherQueues, AccessLeavesMemory, MemoryCallsLeaveQueues, MemoryCallsLeaveOtherBlocks, ArrivalLeavesQueues, ArrivalLeavesMemory, ReceivingLeavesOtherQueues, ReceivingLeavesOtherBlocks, TransmittingLeavesOtherQueues, TransmittingLeavesOtherBlocks, SwitchingLeavesOtherQueues, SwitchingLeavesMemory, MessageLeavesQueues, MessageLeavesMemory, LinkLeavesQueues, LinkLeavesMemory, PieceIsReadBack, FaultChangesNoMemory, StoppedDeviceIsIdle};
 
 /// A register of a new device reads as its reset value.
 pub fn new_device_reads_reset_values()
@@ -78,7 +78,13 @@ pub fn switching_leaves_the_rest()
     ensures memory { SwitchingLeavesMemory }
 {}
 
-/// The link, and collecting a frame, change no queue and no memory.
+/// A message of a group of interrupts changes no queue and no memory.
+pub fn message_leaves_the_rest()
+    ensures queues { MessageLeavesQueues }
+    ensures memory { MessageLeavesMemory }
+{}
+
+/// The link, with the cause that it raises, and collecting a frame, change no queue and no memory.
 pub fn link_leaves_the_rest()
     ensures queues { LinkLeavesQueues }
     ensures memory { LinkLeavesMemory }
@@ -94,7 +100,7 @@ pub fn fault_changes_no_memory()
     ensures { FaultChangesNoMemory }
 {}
 
-/// While CTRL bit 2 is 1 every device step is idle and changes nothing.
+/// While CTRL bit 2 is 1 every device step of a queue or a group that there is is idle and changes nothing.
 pub fn stopped_device_is_idle()
     ensures { StoppedDeviceIsIdle }
 {}

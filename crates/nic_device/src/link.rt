@@ -5,9 +5,13 @@ ghost use Rattle.nic_device.specs.Link.{link_set, collected};
 
 use crate::device::Device;
 use crate::event::Reply;
+use intr_unit::Group;
+
+/// EICR: the link went up or down.
+const LINK_CHANGE: u32 = 0x0010_0000;
 
 impl Device {
-    /// The link goes up or down.
+    /// The link goes up or down, which raises its cause.
     pub(crate) fn set_link(&mut self, up: bool) -> Reply
         ensures reply { result ≡ (link_set self.old up).reply }
         ensures state { self.new ≡ (link_set self.old up).state }
@@ -16,6 +20,7 @@ impl Device {
             return Reply::Idle;
         }
         self.link = up;
+        self.registers.raise(Group::Pf, LINK_CHANGE);
         Reply::Done
     }
 

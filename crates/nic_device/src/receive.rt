@@ -2,12 +2,14 @@
 
 ghost use Rattle.std.specs.Prelude.{◌≡◌, ◌<◌, ◌+◌, ◌≤◌, length};
 ghost use Rattle.std.specs.VecDeque.{deque_len, deque_capacity};
-ghost use Rattle.nic_device.specs.Receive.{received, first_received, is_empty, after_piece, slotless_counted, piece_counted};
+ghost use Rattle.nic_device.specs.Receive.{received, first_received, is_empty, after_piece, slotless_counted, piece_done};
 
 use crate::device::Device;
 use crate::event::{Reply, Why};
+use crate::interrupt::{PCI_EXCEPTION, raise_by};
 use crate::waiting::Waiting;
 use dma_ring::Ring;
+use intr_unit::Group;
 use reg_table::RowId;
 use register_file::{Dir, RegisterFile};
 use rx_ring::{Filled, fill};
@@ -49,12 +51,13 @@ impl Device {
         let control = self.registers.receive_control(queue);
         match fill(&mut self.memory, &ring, control, &first.item()) {
             Ok(filled) => {
-                count_piece(&mut self.registers, queue, &filled);
+                end_piece(&mut self.registers, self.config.vfs, queue, &filled);
                 put_back(&mut self.waiting, first, &filled);
                 wrote(queue, &filled)
             }
             Err(fault) => {
                 self.registers.shut(Dir::Rx, queue);
+                self.registers.raise(Group::Pf, PCI_EXCEPTION);
                 Reply::Fault { queue, fault }
             }
         }
@@ -77,15 +80,16 @@ fn count_slotless(registers: &mut RegisterFile, queue: u16)
     registers.count(RowId::Qprdc, counter);
 }
 
-/// A piece of a frame was written: the head moves on, and a frame that ends is counted.
-fn count_piece(registers: &mut RegisterFile, queue: u16, filled: &Filled)
+/// A piece of a frame was written: the head moves on, and a frame that ends is counted and raises its queue's cause.
+fn end_piece(registers: &mut RegisterFile, vfs: u8, queue: u16, filled: &Filled)
     requires { queue < 128 }
-    ensures { registers.new ≡ piece_counted registers.old queue filled.now }
+    ensures { registers.new ≡ piece_done registers.old vfs queue filled.now }
 {
     registers.move_head(Dir::Rx, queue, filled.head);
     if filled.end {
         let counter = registers.counter(Dir::Rx, queue);
         registers.count(RowId::Qprc, counter);
+        raise_by(registers, vfs, Dir::Rx, queue);
     }
 }
 

@@ -3,12 +3,14 @@
 ghost use Rattle.std.specs.Prelude.{◌≡◌, ◌≢◌, ◌<◌, false, IfOk, IfErr, OnOk, OnErr};
 ghost use Rattle.std.specs.VecDeque.{deque_len, deque_capacity};
 ghost use Rattle.register_file.specs.Sides.{transmit_queue_of};
-ghost use Rattle.nic_device.specs.Transmit.{transmitted, slot_fetched, is_silent, sending_of, fetched_reply, with_frame, slot_counted};
+ghost use Rattle.nic_device.specs.Transmit.{transmitted, slot_fetched, is_silent, sending_of, fetched_reply, with_frame, slot_reported, transmit_failed};
 
 use crate::device::Device;
 use crate::event::{Event, OutOfMemory, Reply};
+use crate::interrupt::{PCI_EXCEPTION, raise_by};
 use crate::receive::is_empty;
 use dma_arena::Octets;
+use intr_unit::Group;
 use reg_table::RowId;
 use register_file::{Dir, QUEUES, RegisterFile};
 use std::collections::VecDeque;
@@ -78,12 +80,12 @@ impl Device {
         let staged = &mut self.staged[usize::from(queue)];
         match fetch(self.alloc, &mut self.memory, &ring, &sending, staged) {
             Ok(fetched) => {
-                count_slot(&mut self.registers, queue, &fetched);
+                end_slot(&mut self.registers, self.config.vfs, queue, &fetched);
                 Ok(send(&mut self.out, queue, fetched))
             }
             Err(TxRefused::Fault(fault)) => {
                 self.staged[usize::from(queue)].clear();
-                self.registers.shut(Dir::Tx, queue);
+                fail_side(&mut self.registers, queue);
                 Ok(Reply::Fault { queue, fault })
             }
             Err(TxRefused::OutOfMemory) => Err(OutOfMemory {
@@ -93,10 +95,11 @@ impl Device {
     }
 }
 
-/// A slot was fetched: the head moves on, and a frame that goes out is counted.
-fn count_slot(registers: &mut RegisterFile, queue: u16, fetched: &Fetched)
+/// A slot was fetched: the head moves on, a frame that goes out is counted, and a slot that asks for a report raises
+/// its queue's cause.
+fn end_slot(registers: &mut RegisterFile, vfs: u8, queue: u16, fetched: &Fetched)
     requires { queue < 128 }
-    ensures { registers.new ≡ slot_counted registers.old queue fetched.now fetched.now.frame }
+    ensures { registers.new ≡ slot_reported registers.old vfs queue fetched.now }
 {
     let counter = registers.counter(Dir::Tx, queue);
     registers.move_head(Dir::Tx, queue, fetched.head);
@@ -104,6 +107,18 @@ fn count_slot(registers: &mut RegisterFile, queue: u16, fetched: &Fetched)
         registers.count(RowId::Gptc, 0);
         registers.count(RowId::Qptc, counter);
     }
+    if fetched.rs {
+        raise_by(registers, vfs, Dir::Tx, queue);
+    }
+}
+
+/// A slot met a fault: the transmit side is off and not wanted on, and the cause of faults is raised.
+fn fail_side(registers: &mut RegisterFile, queue: u16)
+    requires { queue < 128 }
+    ensures { registers.new ≡ transmit_failed registers.old queue }
+{
+    registers.shut(Dir::Tx, queue);
+    registers.raise(Group::Pf, PCI_EXCEPTION);
 }
 
 /// The frame that a fetched slot may have ended goes out, and what became of the slot is told.

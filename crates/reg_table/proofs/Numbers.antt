@@ -3,30 +3,39 @@ use Rattle.std.proofs.Common.{◌≡◌, ◌<◌, map, length, get_or, refl, lit
 use Rattle.std.specs.Prelude.{Some, find}
 use Rattle.std.specs.List.{range_with_len}
 use Rattle.reg_table.specs.declared.rows.RowId.{RowId}
-use Rattle.reg_table.specs.declared.rows.RowId.TheVariants.{Ctrl, Status, CtrlExt, Ledctl, Eiac, Eitr, Gpie, Ivar, IvarMisc, Pvteiac, Pvteiam, Rdbal, Rdbah, Rdlen, Rdh, Srrctl, Rdt, Rxdctl, Qprc, Qprdc, Rqsmr, Rdrxctl, Rxctrl, Mpc, Gprc, Gptc, Ruc, Roc, Hlreg0, Maxfrs, Autoc, Links, Dmatxctl, Rxcsum, Fctrl, Mcstctrl, VtCtl, Vfre, Vfte, Mta, Ral, Rah, Mrqc, Reta, Rssrk, Tdbal, Tdbah, Tdlen, Tdh, Tdt, Txdctl, Tdwbal, Tdwbah, Qptc, Mtqc, Tqsm, Mpsar, Psrtype, GcrExt, Pvtivar}
+use Rattle.reg_table.specs.declared.rows.RowId.TheVariants.{Ctrl, Status, CtrlExt, Ledctl, Eicr, Eics, Eiac, Eitr, Eims, Eimc, Eiam, Gpie, Ivar, IvarMisc, Pvteicr, Pvteics, Pvteims, Pvteimc, Pvteiac, Pvteiam, Rdbal, Rdbah, Rdlen, Rdh, Srrctl, Rdt, Rxdctl, Qprc, Qprdc, Rqsmr, Rdrxctl, Rxctrl, Mpc, Gprc, Gptc, Ruc, Roc, Hlreg0, Maxfrs, Autoc, Links, Dmatxctl, Rxcsum, Fctrl, Mcstctrl, VtCtl, Vfre, Vfte, Mta, Ral, Rah, Mrqc, Reta, Rssrk, Tdbal, Tdbah, Tdlen, Tdh, Tdt, Txdctl, Tdwbal, Tdwbah, Qptc, Mtqc, Tqsm, Mpsar, Psrtype, GcrExt, Pvtivar}
 use Rattle.reg_table.specs.Rows.{row_of, rows, number_of}
 use Rattle.reg_table.specs.Named.{is_named}
 
 -- how many rows there are
-pub rows_length : length rows ≡ 60
+pub rows_length : length rows ≡ 69
 unfolding rows
 rows_length = refl
 
 -- the rows stand in the order of their numbers
-pub rows_numbers : map number_of rows ≡ range_with_len 0 60
+pub rows_numbers : map number_of rows ≡ range_with_len 0 69
 unfolding rows
 rows_numbers = refl
 
-pub number_below : (r : RowId) → number_of r < 60
+pub number_below : (r : RowId) → number_of r < 69
 number_below Ctrl = lit< tt
 number_below Status = lit< tt
 number_below CtrlExt = lit< tt
 number_below Ledctl = lit< tt
+number_below Eicr = lit< tt
+number_below Eics = lit< tt
 number_below Eiac = lit< tt
 number_below Eitr = lit< tt
+number_below Eims = lit< tt
+number_below Eimc = lit< tt
+number_below Eiam = lit< tt
 number_below Gpie = lit< tt
 number_below Ivar = lit< tt
 number_below IvarMisc = lit< tt
+number_below Pvteicr = lit< tt
+number_below Pvteics = lit< tt
+number_below Pvteims = lit< tt
+number_below Pvteimc = lit< tt
 number_below Pvteiac = lit< tt
 number_below Pvteiam = lit< tt
 number_below Rdbal = lit< tt
@@ -86,11 +95,20 @@ row_numbered Ctrl d = refl
 row_numbered Status d = refl
 row_numbered CtrlExt d = refl
 row_numbered Ledctl d = refl
+row_numbered Eicr d = refl
+row_numbered Eics d = refl
 row_numbered Eiac d = refl
 row_numbered Eitr d = refl
+row_numbered Eims d = refl
+row_numbered Eimc d = refl
+row_numbered Eiam d = refl
 row_numbered Gpie d = refl
 row_numbered Ivar d = refl
 row_numbered IvarMisc d = refl
+row_numbered Pvteicr d = refl
+row_numbered Pvteics d = refl
+row_numbered Pvteims d = refl
+row_numbered Pvteimc d = refl
 row_numbered Pvteiac d = refl
 row_numbered Pvteiam d = refl
 row_numbered Rdbal d = refl
@@ -150,11 +168,20 @@ row_found Ctrl = refl
 row_found Status = refl
 row_found CtrlExt = refl
 row_found Ledctl = refl
+row_found Eicr = refl
+row_found Eics = refl
 row_found Eiac = refl
 row_found Eitr = refl
+row_found Eims = refl
+row_found Eimc = refl
+row_found Eiam = refl
 row_found Gpie = refl
 row_found Ivar = refl
 row_found IvarMisc = refl
+row_found Pvteicr = refl
+row_found Pvteics = refl
+row_found Pvteims = refl
+row_found Pvteimc = refl
 row_found Pvteiac = refl
 row_found Pvteiam = refl
 row_found Rdbal = refl

@@ -7,6 +7,15 @@ pub enum Kind {
     Calc,
     /// A counter. A read gives the word, which becomes 0. A write changes nothing.
     Rc,
+    /// The causes of a group of interrupts. A read gives the word and clears causes. A write clears those that are 1 in
+    /// what is written.
+    Cause,
+    /// The masks of a group. A read gives the word. A write sets those that are 1 in what is written.
+    Ones,
+    /// Sets causes of a group: those that are 1 in what is written. A read gives 0.
+    Set,
+    /// Clears masks of a group: those that are 1 in what is written. A read gives 0.
+    Clear,
     /// As `Rw` while the register's queue is off. While it is on a write changes nothing.
     Held,
     /// The enable word of a queue's side. As `Rw`, and a write asks for bit 25, which is 1 while the side is on and

@@ -17,16 +17,34 @@ pub enum RowId {
     CtrlExt,
     /// LED control.
     Ledctl,
+    /// Extended interrupt cause.
+    Eicr,
+    /// Extended interrupt cause set.
+    Eics,
     /// Extended interrupt auto clear.
     Eiac,
     /// Extended interrupt throttle.
     Eitr,
+    /// Extended interrupt mask set.
+    Eims,
+    /// Extended interrupt mask clear.
+    Eimc,
+    /// Extended interrupt auto mask.
+    Eiam,
     /// General purpose interrupt enable.
     Gpie,
     /// Interrupt vector allocation.
     Ivar,
     /// Interrupt vector allocation of other causes.
     IvarMisc,
+    /// Interrupt cause of a virtual function.
+    Pvteicr,
+    /// Interrupt cause set of a virtual function.
+    Pvteics,
+    /// Interrupt mask set of a virtual function.
+    Pvteims,
+    /// Interrupt mask clear of a virtual function.
+    Pvteimc,
     /// Extended interrupt auto clear of a virtual function.
     Pvteiac,
     /// Extended interrupt auto mask of a virtual function.
@@ -132,16 +150,25 @@ pub enum RowId {
 }
 
 /// The rows, in the order of the table.
-pub(crate) static ROWS: [RowId; 60] = [
+pub(crate) static ROWS: [RowId; 69] = [
     RowId::Ctrl,
     RowId::Status,
     RowId::CtrlExt,
     RowId::Ledctl,
+    RowId::Eicr,
+    RowId::Eics,
     RowId::Eiac,
     RowId::Eitr,
+    RowId::Eims,
+    RowId::Eimc,
+    RowId::Eiam,
     RowId::Gpie,
     RowId::Ivar,
     RowId::IvarMisc,
+    RowId::Pvteicr,
+    RowId::Pvteics,
+    RowId::Pvteims,
+    RowId::Pvteimc,
     RowId::Pvteiac,
     RowId::Pvteiam,
     RowId::Rdbal,
@@ -217,11 +244,20 @@ pub(crate) fn entry_of(row: RowId) -> Entry
         RowId::Status   => entry!("STATUS",     1, Calc, 0xFFFF_FFFF, 0x0000_0000),
         RowId::CtrlExt  => entry!("CTRL_EXT",   1, Rw, 0xFFFF_FFFF, 0x0000_0000),
         RowId::Ledctl   => entry!("LEDCTL",     1, Rw, 0xFFFF_FFFF, 0x0000_0000),
+        RowId::Eicr     => entry!("EICR",       1, Cause, 0x7FFF_FFFF, 0x0000_0000),
+        RowId::Eics     => entry!("EICS",       1, Set, 0x7FFF_FFFF, 0x0000_0000),
         RowId::Eiac     => entry!("EIAC",       1, Rw, 0x7FFF_FFFF, 0x0000_0000),
         RowId::Eitr     => entry!("EITR",     128, Rw, 0xFFFF_FFFF, 0x0000_0000),
+        RowId::Eims     => entry!("EIMS",       1, Ones, 0x7FFF_FFFF, 0x0000_0000),
+        RowId::Eimc     => entry!("EIMC",       1, Clear, 0x7FFF_FFFF, 0x0000_0000),
+        RowId::Eiam     => entry!("EIAM",       1, Rw, 0x7FFF_FFFF, 0x0000_0000),
         RowId::Gpie     => entry!("GPIE",       1, Rw, 0xFFFF_FFFF, 0x0000_0000),
         RowId::Ivar     => entry!("IVAR",      64, Rw, 0xFFFF_FFFF, 0x0000_0000),
         RowId::IvarMisc => entry!("IVAR_MISC",   1, Rw, 0xFFFF_FFFF, 0x0000_0000),
+        RowId::Pvteicr  => entry!("PVTEICR",   64, Cause, 0x0000_0007, 0x0000_0000),
+        RowId::Pvteics  => entry!("PVTEICS",   64, Set, 0x0000_0007, 0x0000_0000),
+        RowId::Pvteims  => entry!("PVTEIMS",   64, Ones, 0x0000_0007, 0x0000_0000),
+        RowId::Pvteimc  => entry!("PVTEIMC",   64, Clear, 0x0000_0007, 0x0000_0000),
         RowId::Pvteiac  => entry!("PVTEIAC",   64, Rw, 0x0000_0007, 0x0000_0000),
         RowId::Pvteiam  => entry!("PVTEIAM",   64, Rw, 0x0000_0007, 0x0000_0000),
         RowId::Rdbal    => entry!("RDBAL",    128, Held, 0xFFFF_FF80, 0x0000_0000),

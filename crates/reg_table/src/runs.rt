@@ -17,18 +17,31 @@ macro_rules! run {
 
 /// The addresses of the rows: row, first address, stride, first index, how many, whether only bits 15:0 show.
 #[rattlefmt::skip]
-pub(crate) static RUNS: [Run; 76] = [
+pub(crate) static RUNS: [Run; 89] = [
     run!(Ctrl,     0x00000,  4,  0,   1, false),
     run!(Ctrl,     0x00004,  4,  0,   1, false),
     run!(Status,   0x00008,  4,  0,   1, false),
     run!(CtrlExt,  0x00018,  4,  0,   1, false),
     run!(Ledctl,   0x00200,  4,  0,   1, false),
+    run!(Eicr,     0x00800,  4,  0,   1, false),
+    run!(Eics,     0x00808,  4,  0,   1, false),
+    run!(Eics,     0x00A90,  4,  0,   1, true),
     run!(Eiac,     0x00810,  4,  0,   1, false),
     run!(Eitr,     0x00820,  4,  0,  24, false),
     run!(Eitr,     0x12300,  4, 24, 104, false),
+    run!(Eims,     0x00880,  4,  0,   1, false),
+    run!(Eims,     0x00AA0,  4,  0,   1, true),
+    run!(Eimc,     0x00888,  4,  0,   1, false),
+    run!(Eimc,     0x00AB0,  4,  0,   1, true),
+    run!(Eiam,     0x00890,  4,  0,   1, false),
+    run!(Eiam,     0x00AD0,  4,  0,   1, true),
     run!(Gpie,     0x00898,  4,  0,   1, false),
     run!(Ivar,     0x00900,  4,  0,  64, false),
     run!(IvarMisc, 0x00A00,  4,  0,   1, false),
+    run!(Pvteicr,  0x00B00,  4,  0,  64, false),
+    run!(Pvteics,  0x00C00,  4,  0,  64, false),
+    run!(Pvteims,  0x00D00,  4,  0,  64, false),
+    run!(Pvteimc,  0x00E00,  4,  0,  64, false),
     run!(Pvteiac,  0x00F00,  4,  0,  64, false),
     run!(Pvteiam,  0x04D00,  4,  0,  64, false),
     run!(Rdbal,    0x01000, 64,  0,  64, false),

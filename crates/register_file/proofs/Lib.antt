@@ -4,3 +4,5 @@ pub mod Places
 pub mod Puts
 pub mod Shape
 pub mod Sides
+pub mod Standing
+pub mod Volatile

@@ -13,7 +13,7 @@ use Rattle.reg_table.specs.declared.rows.RowId.TheVariants.{Rdbal, Rdbah, Rdlen,
 use Rattle.register_file.specs.Access.{written, stored, side_of}
 use Rattle.register_file.specs.Bits.{has_bit, bit_set, bit_cleared, merged}
 use Rattle.register_file.specs.Columns.{place}
-use Rattle.register_file.specs.Laws.{HasShape, after_write, is_row_of, IsNoneOf, ChangesOnly}
+use Rattle.register_file.specs.Laws.{HasShape, after_write, is_row_of, IsNoneOf, ChangesOnly, is_of_interrupts, is_volatile}
 use Rattle.register_file.specs.Queue.{ring_of, is_on, enable_row, head_row, with_head, switched, switched_on, switched_off, shut}
 use Rattle.register_file.specs.Registers.{Registers, reset_registers, word_of, with_word, is_wanted, with_wanted}
 use Rattle.register_file.specs.Sides.{ReceiveQueue, TransmitQueue, receive_queue_of, transmit_queue_of}
@@ -21,6 +21,7 @@ use Rattle.register_file.specs.Words.{word_at}
 use Rattle.register_file.specs.declared.dir.Dir.{Dir}
 use Rattle.register_file.specs.declared.dir.Dir.TheVariants.{Rx, Tx}
 use Rattle.register_file.proofs.Bits.{has_bit-switch, has_bit-cleared, has_bit-enable}
+use Rattle.register_file.proofs.Volatile.{made_by_write, side-steady, word_at-with_interrupts, is_wanted-with_interrupts}
 use Rattle.register_file.proofs.Puts.{word_at-put_other, word_at-reset}
 use Rattle.register_file.proofs.Shape.{put_stands}
 
@@ -81,14 +82,22 @@ if_words : (b : Bool) (r s : Registers) (p : Place) (w : ℕ) → word_at r.word
 if_words true r s p w e f = e
 if_words false r s p w e f = f
 
-pub word_at-written_other : (k : Kind) (r : Registers) (p q : Place) (view word : ℕ) → q ≢ p → word_at (written k r p view word).words q ≡ word_at r.words q
-word_at-written_other kind.Rw r p q view word n = word_at-put_other r.words p q _ n
-word_at-written_other kind.Calc r p q view word n = refl
-word_at-written_other kind.Rc r p q view word n = refl
-word_at-written_other kind.Held r p q view word n = if_words (is_on r (side_of p.row) p.index) r (stored r p view word) q (word_at r.words q) refl (word_at-put_other r.words p q _ n)
-word_at-written_other kind.Enable r p q view word n =
+pub word_at-written_other : (k : Kind) (r : Registers) (p q : Place) (view word : ℕ) → q ≢ p → (is_of_interrupts k ≡ false) ⊎ (is_volatile (row_of q.row).kind ≡ false) → word_at (written k r p view word).words q ≡ word_at r.words q
+word_at-written_other kind.Rw r p q view word n s = word_at-put_other r.words p q _ n
+word_at-written_other kind.Calc r p q view word n s = refl
+word_at-written_other kind.Rc r p q view word n s = refl
+word_at-written_other kind.Cause r p q view word n (inl e) = cc
+word_at-written_other kind.Cause r p q view word n (inr steady) = word_at-with_interrupts r (made_by_write kind.Cause r p view word) q steady
+word_at-written_other kind.Ones r p q view word n (inl e) = cc
+word_at-written_other kind.Ones r p q view word n (inr steady) = word_at-with_interrupts r (made_by_write kind.Ones r p view word) q steady
+word_at-written_other kind.Set r p q view word n (inl e) = cc
+word_at-written_other kind.Set r p q view word n (inr steady) = word_at-with_interrupts r (made_by_write kind.Set r p view word) q steady
+word_at-written_other kind.Clear r p q view word n (inl e) = cc
+word_at-written_other kind.Clear r p q view word n (inr steady) = word_at-with_interrupts r (made_by_write kind.Clear r p view word) q steady
+word_at-written_other kind.Held r p q view word n s = if_words (is_on r (side_of p.row) p.index) r (stored r p view word) q (word_at r.words q) refl (word_at-put_other r.words p q _ n)
+word_at-written_other kind.Enable r p q view word n s =
     ap (λ ws. word_at ws q) (words-with_wanted (stored r p view word) (side_of p.row) p.index (has_bit 25 word)) ∙ word_at-put_other r.words p q _ n
-word_at-written_other kind.Ctrl r p q view word n = word_at-put_other r.words p q _ n
+word_at-written_other kind.Ctrl r p q view word n s = word_at-put_other r.words p q _ n
 
 -- and what is wanted of every side but an enable word's own
 if_wanted : (b : Bool) (r s : Registers) (dir : Dir) (queue : ℕ) (w : Bool) → is_wanted r dir queue ≡ w → is_wanted s dir queue ≡ w → is_wanted (cond b r s) dir queue ≡ w
@@ -103,6 +112,10 @@ pub is_wanted-written : (k : Kind) (r : Registers) (p : Place) (view word : ℕ)
 is_wanted-written kind.Rw r p view word dir queue n = is_wanted-stored r p view word dir queue
 is_wanted-written kind.Calc r p view word dir queue n = refl
 is_wanted-written kind.Rc r p view word dir queue n = refl
+is_wanted-written kind.Cause r p view word dir queue n = is_wanted-with_interrupts r (made_by_write kind.Cause r p view word) dir queue
+is_wanted-written kind.Ones r p view word dir queue n = is_wanted-with_interrupts r (made_by_write kind.Ones r p view word) dir queue
+is_wanted-written kind.Set r p view word dir queue n = is_wanted-with_interrupts r (made_by_write kind.Set r p view word) dir queue
+is_wanted-written kind.Clear r p view word dir queue n = is_wanted-with_interrupts r (made_by_write kind.Clear r p view word) dir queue
 is_wanted-written kind.Held r p view word dir queue n = if_wanted (is_on r (side_of p.row) p.index) r (stored r p view word) dir queue (is_wanted r dir queue) refl (is_wanted-stored r p view word dir queue)
 is_wanted-written kind.Enable r p view word dir queue n =
     is_wanted-with_wanted_other (stored r p view word) (side_of p.row) dir p.index queue (has_bit 25 word) (n refl) ∙ is_wanted-stored r p view word dir queue
@@ -119,13 +132,13 @@ none_wanted dir queue p (inr n) e s = n
 pub receive-after_write : (r : Registers) (p : Place) (view word queue : ℕ) → IsNoneOf Rx queue p → receive_queue_of (after_write r p view word) queue ≡ receive_queue_of r queue
 receive-after_write r p view word queue n =
     same_receive r (after_write r p view word) queue
-    (λ row is. word_at-written_other (row_of p.row).kind r p (place row queue) view word (not_own Rx queue p n row is))
+    (λ row is. word_at-written_other (row_of p.row).kind r p (place row queue) view word (not_own Rx queue p n row is) (inr (side-steady Rx row is)))
     (is_wanted-written (row_of p.row).kind r p view word Rx queue (none_wanted Rx queue p n))
 
 pub transmit-after_write : (r : Registers) (p : Place) (view word queue : ℕ) → IsNoneOf Tx queue p → transmit_queue_of (after_write r p view word) queue ≡ transmit_queue_of r queue
 transmit-after_write r p view word queue n =
     same_transmit r (after_write r p view word) queue
-    (λ row is. word_at-written_other (row_of p.row).kind r p (place row queue) view word (not_own Tx queue p n row is))
+    (λ row is. word_at-written_other (row_of p.row).kind r p (place row queue) view word (not_own Tx queue p n row is) (inr (side-steady Tx row is)))
     (is_wanted-written (row_of p.row).kind r p view word Tx queue (none_wanted Tx queue p n))
 
 -- no row is of both sides

@@ -1,15 +1,19 @@
 -- What the registers promise as a whole, whatever happened before. `view` is the bits that an address shows.
-use Rattle.std.specs.Prelude.{ℕ, ◌≡◌, ◌≢◌, ◌<◌, ◌⊎◌, Bool, true, false, IsTrue, IsFalse, List, [], ◌∷◌, length, All, bit_and}
+use Rattle.std.specs.Prelude.{ℕ, ◌^◌, ◌≡◌, ◌≢◌, ◌<◌, ◌⊎◌, Bool, true, false, IsTrue, IsFalse, List, [], ◌∷◌, length, All, bit_and}
 use Rattle.reg_table.specs.Rows.{row_of, rows}
 use Rattle.reg_table.specs.declared.place.Place.{Place}
+use Rattle.reg_table.specs.declared.kind.Kind.{Kind}
 use Rattle.reg_table.specs.declared.kind.Kind.TheVariants as kind
 use Rattle.reg_table.specs.declared.rows.RowId.{RowId}
 use Rattle.reg_table.specs.declared.rows.RowId.TheVariants.{Rdbal, Rdbah, Rdlen, Rdh, Rdt, Srrctl, Rxdctl, Tdbal, Tdbah, Tdlen, Tdh, Tdt, Tdwbal, Tdwbah, Txdctl}
+use Rattle.intr_unit.specs.declared.group.Group.{Group}
+use Rattle.intr_unit.specs.Interrupts.{Interrupts, IsConsistent}
 use Rattle.reg_table.specs.Counter.{bumped}
 use Rattle.register_file.specs.Access.{read_word, after_read, written}
 use Rattle.register_file.specs.Bits.{merged, has_bit}
 use Rattle.register_file.specs.Columns.{place}
 use Rattle.register_file.specs.Counters.{counted}
+use Rattle.register_file.specs.Groups.{index_of, interrupts_of, with_interrupts, causes_raised, message_made}
 use Rattle.register_file.specs.Queue.{ring_of, is_on, base_low_row, base_high_row, length_row, head_row, enable_row, with_head, switched, shut}
 use Rattle.register_file.specs.Registers.{Registers, reset_registers, is_wanted}
 use Rattle.register_file.specs.Sides.{receive_queue_of, transmit_queue_of}
@@ -17,12 +21,13 @@ use Rattle.register_file.specs.Words.{row_words, word_at}
 use Rattle.register_file.specs.declared.dir.Dir.{Dir}
 use Rattle.register_file.specs.declared.dir.Dir.TheVariants.{Rx, Tx}
 
--- the registers have each place of the table, and what is wanted of each queue
+-- the registers have each place of the table, what is wanted of each queue, and what is told of each virtual function
 pub record HasShape (r : Registers) : Type 0 where
   pub has_rows : length r.words ≡ length rows
   pub has_indices : (row : RowId) → length (row_words r.words row) ≡ (row_of row).count
   pub wanted_rx : length r.wanted_rx ≡ 128
   pub wanted_tx : length r.wanted_tx ≡ 128
+  pub told_vf : length r.told_vf ≡ 64
 
 -- the registers after a write of a place
 abbrev pub after_write : Registers → Place → ℕ → ℕ → Registers
@@ -40,6 +45,12 @@ ReadKeepsShape = (r : Registers) → HasShape r → (p : Place) → HasShape (af
 
 abbrev pub CountKeepsShape : Type 0
 CountKeepsShape = (r : Registers) → HasShape r → (row : RowId) (index : ℕ) → HasShape (counted r row index)
+
+abbrev pub RaiseKeepsShape : Type 0
+RaiseKeepsShape = (r : Registers) → HasShape r → (g : Group) (bits : ℕ) → HasShape (causes_raised r g bits)
+
+abbrev pub MessageKeepsShape : Type 0
+MessageKeepsShape = (r : Registers) → HasShape r → (g : Group) → HasShape (message_made r g)
 
 abbrev pub HeadKeepsShape : Type 0
 HeadKeepsShape = (r : Registers) → HasShape r → (dir : Dir) (queue head : ℕ) → HasShape (with_head r dir queue head)
@@ -69,10 +80,18 @@ StoredWordReadsBack =
     read_word (row_of p.row).kind (after_write r p view word) link p
     ≡ merged (bit_and (row_of p.row).mask view) (word_at r.words p) word
 
--- a write of a place leaves the word of every other place
+-- whether an access is of a group's interrupts
+abbrev pub is_of_interrupts : Kind → Bool
+is_of_interrupts kind.Cause = true
+is_of_interrupts kind.Ones = true
+is_of_interrupts kind.Set = true
+is_of_interrupts kind.Clear = true
+is_of_interrupts other = false
+
+-- a write of a place leaves the word of every other place, but where it is of a group's interrupts
 abbrev pub WriteLeavesOtherWords : Type 0
 WriteLeavesOtherWords =
-    (r : Registers) (p q : Place) (view word : ℕ) → q ≢ p →
+    (r : Registers) (p q : Place) (view word : ℕ) → q ≢ p → IsFalse (is_of_interrupts (row_of p.row).kind) →
     word_at (after_write r p view word).words q ≡ word_at r.words q
 
 -- whether a row is one of those that a side of a queue stands on
@@ -197,17 +216,47 @@ CountersCount =
     (r : Registers) → HasShape r → (p : Place) → p.index < (row_of p.row).count → (row_of p.row).kind ≡ kind.Rc →
     CountsAndClears r p
 
--- both sides of every queue are as they were, and so is every word of a row that is no counter
-pub record ChangesCountersOnly (old new : Registers) : Type 0 where
+-- the words that reads, steps of the device and accesses of other registers change: counters, causes and masks
+abbrev pub is_volatile : Kind → Bool
+is_volatile kind.Rc = true
+is_volatile kind.Cause = true
+is_volatile kind.Ones = true
+is_volatile other = false
+
+-- both sides of every queue are as they were, and so is every word that isn't volatile
+pub record ChangesVolatileOnly (old new : Registers) : Type 0 where
   pub receive : (queue : ℕ) → receive_queue_of new queue ≡ receive_queue_of old queue
   pub transmit : (queue : ℕ) → transmit_queue_of new queue ≡ transmit_queue_of old queue
-  pub words : (p : Place) → (row_of p.row).kind ≢ kind.Rc → word_at new.words p ≡ word_at old.words p
+  pub words : (p : Place) → IsFalse (is_volatile (row_of p.row).kind) → word_at new.words p ≡ word_at old.words p
 
--- reads and counting change nothing but counters
+-- reads, counting, raised causes and messages change nothing else
 abbrev pub ReadLeavesTheRest : Type 0
-ReadLeavesTheRest = (r : Registers) (p : Place) → ChangesCountersOnly r (after_read (row_of p.row).kind r p)
+ReadLeavesTheRest = (r : Registers) (p : Place) → ChangesVolatileOnly r (after_read (row_of p.row).kind r p)
 
 abbrev pub CountLeavesTheRest : Type 0
 CountLeavesTheRest =
     (r : Registers) (row : RowId) (index : ℕ) → (row_of row).kind ≡ kind.Rc →
-    ChangesCountersOnly r (counted r row index)
+    ChangesVolatileOnly r (counted r row index)
+
+abbrev pub RaiseLeavesTheRest : Type 0
+RaiseLeavesTheRest = (r : Registers) (g : Group) (bits : ℕ) → ChangesVolatileOnly r (causes_raised r g bits)
+
+abbrev pub MessageLeavesTheRest : Type 0
+MessageLeavesTheRest = (r : Registers) (g : Group) → ChangesVolatileOnly r (message_made r g)
+
+abbrev pub InterruptWriteLeavesTheRest : Type 0
+InterruptWriteLeavesTheRest =
+    (r : Registers) (p : Place) (view word : ℕ) → IsTrue (is_of_interrupts (row_of p.row).kind) →
+    ChangesVolatileOnly r (after_write r p view word)
+
+-- the causes, masks and told bits of a group that were put into its registers are there again, beside the auto-clear
+-- and the auto-mask that it had
+abbrev pub InterruptsStand : Type 0
+InterruptsStand =
+    (r : Registers) → HasShape r → (s : Interrupts) → IsConsistent s → index_of s.group < 64 →
+    s.causes < 2 ^ 32 → s.enabled < 2 ^ 32 → s.told < 2 ^ 32 →
+    interrupts_of (with_interrupts r s) s.group
+    ≡ record s {
+      auto_clear = (interrupts_of r s.group).auto_clear;
+      auto_mask = (interrupts_of r s.group).auto_mask;
+    }

@@ -3,6 +3,7 @@ pub mod Bits
 pub mod Columns
 pub mod Counters
 pub mod Filled
+pub mod Groups
 pub mod Laws
 pub mod Queue
 pub mod Registers

@@ -7,24 +7,41 @@ use Rattle.register_file.specs.Columns.{place}
 use Rattle.register_file.specs.declared.dir.Dir.{Dir}
 use Rattle.register_file.specs.declared.dir.Dir.TheVariants.{Rx, Tx}
 
--- the words of the registers, and of each queue whether its receive side and its transmit side are wanted on
+-- the words of the registers, of each queue whether its receive side and its transmit side are wanted on, and the bits
+-- that messages told of the physical function's causes and of those of each virtual function
 pub record Registers : Type 0 where
   pub words : Words
   pub wanted_rx : List Bool
   pub wanted_tx : List Bool
+  pub told_pf : ℕ
+  pub told_vf : List ℕ
 
 -- registers are stored as the pairs of their fields
 abbrev pub registers_code : Coded Registers
 registers_code =
-    code_by (Words × (List Bool × List Bool))
-    (coded× (coded_list (coded_list coded_ℕ)) (coded× (coded_list coded_bool) (coded_list coded_bool)))
-    (λ r. (r.words, (r.wanted_rx, r.wanted_tx)))
-    (λ p. record { words = p.0; wanted_rx = p.1.0; wanted_tx = p.1.1 })
+    code_by (Words × (List Bool × (List Bool × (ℕ × List ℕ))))
+    (coded× (coded_list (coded_list coded_ℕ))
+    (coded× (coded_list coded_bool) (coded× (coded_list coded_bool) (coded× coded_ℕ (coded_list coded_ℕ)))))
+    (λ r. (r.words, (r.wanted_rx, (r.wanted_tx, (r.told_pf, r.told_vf)))))
+    (λ p. record {
+      words = p.0;
+      wanted_rx = p.1.0;
+      wanted_tx = p.1.1.0;
+      told_pf = p.1.1.1.0;
+      told_vf = p.1.1.1.1;
+    })
     (λ _. refl)
 
--- after a reset every register has its reset value, and no side of a queue is wanted on
+-- after a reset every register has its reset value, no side of a queue is wanted on, and no bit is told
 abbrev pub reset_registers : Registers
-reset_registers = record { words = reset_words; wanted_rx = replicate 128 false; wanted_tx = replicate 128 false }
+reset_registers =
+    record {
+      words = reset_words;
+      wanted_rx = replicate 128 false;
+      wanted_tx = replicate 128 false;
+      told_pf = 0;
+      told_vf = replicate 64 0;
+    }
 
 -- the word of a row at an index
 abbrev pub word_of : Registers → RowId → ℕ → ℕ

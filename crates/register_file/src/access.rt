@@ -2,11 +2,13 @@
 
 ghost use Rattle.std.specs.Prelude.{◌≡◌, ◌<◌, bit_and};
 ghost use Rattle.reg_table.specs.Rows.{row_of};
+ghost use Rattle.register_file.specs.Groups.{group_at, index_of};
 ghost use Rattle.register_file.specs.Access.{read_word, after_read, written, stored, calculated, side_of, asks_reset};
 
 use crate::dir::Dir;
 use crate::queue::ENABLE;
 use crate::register_file::RegisterFile;
+use intr_unit::Group;
 use reg_table::{Kind, Place, RowId, kind_of, mask_of};
 
 /// CTRL: a reset of the link is asked for.
@@ -27,7 +29,15 @@ pub fn asks_reset(place: Place, word: u32) -> bool
 {
     match kind_of(place.row) {
         Kind::Ctrl => word / LINK_RESET % 2 == 1 || word / DEVICE_RESET % 2 == 1,
-        Kind::Rw | Kind::Calc | Kind::Rc | Kind::Held | Kind::Enable => false,
+        Kind::Rw
+        | Kind::Calc
+        | Kind::Rc
+        | Kind::Cause
+        | Kind::Ones
+        | Kind::Set
+        | Kind::Clear
+        | Kind::Held
+        | Kind::Enable => false,
     }
 }
 
@@ -41,6 +51,18 @@ fn side_of(row: RowId) -> Dir
     }
 }
 
+/// The group whose interrupts a place below index 64 is of.
+fn group_at(place: Place) -> Group
+    requires { place.index < 64 }
+    ensures group { result ≡ group_at place.row place.index }
+    ensures small { index_of result < 64 }
+{
+    match place.row {
+        RowId::Eicr | RowId::Eics | RowId::Eims | RowId::Eimc => Group::Pf,
+        _ => Group::Vf(place.index as u8),
+    }
+}
+
 impl RegisterFile {
     /// The word that a read of a place gives, before the address cuts it, with no effect of the read; `link` is whether
     /// the link is up. The index is below the row's count.
@@ -50,14 +72,19 @@ impl RegisterFile {
     {
         match kind_of(place.row) {
             Kind::Calc => self.calculated(link, place.row),
-            Kind::Rw | Kind::Rc | Kind::Held | Kind::Enable | Kind::Ctrl => {
-                self.word(place.row, place.index)
-            }
+            Kind::Set | Kind::Clear => 0,
+            Kind::Rw
+            | Kind::Rc
+            | Kind::Cause
+            | Kind::Ones
+            | Kind::Held
+            | Kind::Enable
+            | Kind::Ctrl => { self.word(place.row, place.index) }
         }
     }
 
     /// Reads a place: the word before the address cuts it; `link` is whether the link is up. A counter starts again
-    /// from 0, and nothing else changes. The index is below the row's count.
+    /// from 0, a read of causes clears them, and nothing else changes. The index is below the row's count.
     pub fn read(&mut self, link: bool, place: Place) -> u32
         requires { place.index < (row_of place.row).count }
         ensures word { result ≡ read_word (row_of place.row).kind self.old link place }
@@ -68,14 +95,22 @@ impl RegisterFile {
         word
     }
 
-    /// What a read of a place leaves: a counter starts again from 0.
+    /// What a read of a place leaves: a counter starts again from 0, and causes are cleared.
     fn end_read(&mut self, place: Place)
         requires { place.index < (row_of place.row).count }
         ensures { self.new ≡ after_read (row_of place.row).kind self.old place }
     {
         match kind_of(place.row) {
             Kind::Rc => self.set_word(place.row, place.index, 0),
-            Kind::Rw | Kind::Calc | Kind::Held | Kind::Enable | Kind::Ctrl => {}
+            Kind::Cause => self.read_causes(group_at(place)),
+            Kind::Rw
+            | Kind::Calc
+            | Kind::Ones
+            | Kind::Set
+            | Kind::Clear
+            | Kind::Held
+            | Kind::Enable
+            | Kind::Ctrl => {}
         }
     }
 
@@ -88,6 +123,10 @@ impl RegisterFile {
         match kind_of(place.row) {
             Kind::Rw | Kind::Ctrl => self.store(place, view, word),
             Kind::Calc | Kind::Rc => {}
+            Kind::Cause => self.write_causes(group_at(place), word & view),
+            Kind::Ones => self.set_masks(group_at(place), word & view),
+            Kind::Set => self.set_causes(group_at(place), word & view),
+            Kind::Clear => self.clear_masks(group_at(place), word & view),
             Kind::Held => {
                 if !self.is_on(side_of(place.row), place.index) {
                     self.store(place, view, word);

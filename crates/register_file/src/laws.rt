@@ -1,6 +1,6 @@
 //! What the registers promise as a whole. Each law is the contract of a function that does nothing.
 
-ghost use Rattle.register_file.specs.Laws.{ResetHasShape, WriteKeepsShape, ReadKeepsShape, CountKeepsShape, HeadKeepsShape, SwitchKeepsShape, ShutKeepsShape, ResetGivesResetValues, ResetSwitchesOff, StoredWordReadsBack, WriteLeavesOtherWords, WriteLeavesOtherReceiveQueues, WriteLeavesOtherTransmitQueues, HeadLeavesTheRest, SwitchLeavesTheRest, ShutLeavesTheRest, HeadMovesReceive, HeadMovesTransmit, SwitchObeysReceive, SwitchObeysTransmit, ShutIsOffReceive, ShutIsOffTransmit, RingIsHeldWhileOn, EnableWriteAsksReceive, EnableWriteAsksTransmit, CountersCount, ReadLeavesTheRest, CountLeavesTheRest};
+ghost use Rattle.register_file.specs.Laws.{ResetHasShape, WriteKeepsShape, ReadKeepsShape, CountKeepsShape, RaiseKeepsShape, MessageKeepsShape, HeadKeepsShape, SwitchKeepsShape, ShutKeepsShape, ResetGivesResetValues, ResetSwitchesOff, StoredWordReadsBack, WriteLeavesOtherWords, WriteLeavesOtherReceiveQueues, WriteLeavesOtherTransmitQueues, HeadLeavesTheRest, SwitchLeavesTheRest, ShutLeavesTheRest, HeadMovesReceive, HeadMovesTransmit, SwitchObeysReceive, SwitchObeysTransmit, ShutIsOffReceive, ShutIsOffTransmit, RingIsHeldWhileOn, EnableWriteAsksReceive, EnableWriteAsksTransmit, CountersCount, ReadLeavesTheRest, CountLeavesTheRest, RaiseLeavesTheRest, MessageLeavesTheRest, InterruptWriteLeavesTheRest, InterruptsStand};
 
 /// The registers have each place of the table after a reset, and keep it through every change.
 pub fn shape_is_kept()
@@ -8,6 +8,8 @@ pub fn shape_is_kept()
     ensures write { WriteKeepsShape }
     ensures read { ReadKeepsShape }
     ensures count { CountKeepsShape }
+    ensures raise { RaiseKeepsShape }
+    ensures message { MessageKeepsShape }
     ensures head { HeadKeepsShape }
     ensures switch { SwitchKeepsShape }
     ensures shut { ShutKeepsShape }
@@ -24,7 +26,7 @@ pub fn stored_word_reads_back()
     ensures { StoredWordReadsBack }
 {}
 
-/// A write of a place leaves the word of every other place.
+/// A write of a place leaves the word of every other place, but where it is of a group's interrupts.
 pub fn write_leaves_other_words()
     ensures { WriteLeavesOtherWords }
 {}
@@ -76,8 +78,18 @@ pub fn counters_count()
     ensures { CountersCount }
 {}
 
-/// Reads and counting leave both sides of every queue, and every word of a row that is no counter.
-pub fn reads_and_counts_change_counters_only()
+/// Reads, counting, raised causes, messages and writes of a group's interrupts leave both sides of every queue, and
+/// every word of a row that is no counter and no group's causes or masks.
+pub fn volatile_words_apart_nothing_changes()
     ensures read { ReadLeavesTheRest }
     ensures count { CountLeavesTheRest }
+    ensures raise { RaiseLeavesTheRest }
+    ensures message { MessageLeavesTheRest }
+    ensures write { InterruptWriteLeavesTheRest }
+{}
+
+/// What a group's interrupts were made is what its registers hold: its causes, its masks and its told bits, beside the
+/// auto-clear and the auto-mask that it had.
+pub fn interrupts_stand()
+    ensures { InterruptsStand }
 {}

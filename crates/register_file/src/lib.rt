@@ -1,8 +1,10 @@
-//! The registers of the Intel 82599, as the device core keeps them: their words, and which queues are wanted on.
+//! The registers of the Intel 82599, as the device core keeps them: their words, which queues are wanted on, and
+//! which interrupt causes messages told.
 //!
 //! A `RegisterFile` is seen by contracts as `Registers`: for each row the words at its indices, and for each queue the
 //! enables that were asked for. `read` and `write` are an access of a place by the kind of its row: a write changes
-//! what its kind lets through, and a read of a counter starts it again from 0. `peek` is the word of a read without its
+//! what its kind lets through, a read of a counter starts it again from 0, and accesses of a group's
+//! interrupts go through `intr_unit`, by the words of its registers. `peek` is the word of a read without its
 //! effect, and `word` the word as it was stored. The other calls are what the device core asks of a queue (its ring,
 //! whether it is on, its counter) and of single bits, and how it moves a head, switches a queue and counts. The
 //! definitions stand in `specs/`, and the words behind one small type, so that another layout changes nothing above it.
@@ -15,6 +17,7 @@ mod access;
 mod columns;
 mod counters;
 mod dir;
+mod groups;
 mod laws;
 mod queue;
 mod register_file;
@@ -24,9 +27,9 @@ mod words;
 pub use access::asks_reset;
 pub use dir::Dir;
 pub use laws::{
-    counters_count, enable_write_only_asks, moved_head_is_the_head,
-    reads_and_counts_change_counters_only, reset_is_the_tables, ring_is_held_while_on,
-    shape_is_kept, shut_side_is_off, steps_leave_the_rest, stored_word_reads_back,
-    switched_side_is_as_wanted, write_leaves_other_queues, write_leaves_other_words,
+    counters_count, enable_write_only_asks, interrupts_stand, moved_head_is_the_head,
+    reset_is_the_tables, ring_is_held_while_on, shape_is_kept, shut_side_is_off,
+    steps_leave_the_rest, stored_word_reads_back, switched_side_is_as_wanted,
+    volatile_words_apart_nothing_changes, write_leaves_other_queues, write_leaves_other_words,
 };
 pub use register_file::{QUEUES, RegisterFile};

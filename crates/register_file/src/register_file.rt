@@ -13,12 +13,14 @@ use std::marker::Model;
 /// How many queues there are, each with a receive and a transmit side.
 pub const QUEUES: u16 = 128;
 
-/// The words of all registers, and which sides of queues are wanted on.
+/// The words of all registers, which sides of queues are wanted on, and which interrupt causes messages told.
 #[derive(Drop)]
 pub struct RegisterFile {
     pub(crate) words: WordMap,
     wanted_rx: [bool; 128],
     wanted_tx: [bool; 128],
+    pub(crate) told_pf: u32,
+    pub(crate) told_vf: [u32; 64],
 }
 
 impl Model for RegisterFile {
@@ -28,7 +30,13 @@ impl Model for RegisterFile {
 
     ghost coded = { registers_code };
 
-    ghost view = { λ r. record { words = r.words; wanted_rx = r.wanted_rx; wanted_tx = r.wanted_tx } };
+    ghost view = { λ r. record {
+      words = r.words;
+      wanted_rx = r.wanted_rx;
+      wanted_tx = r.wanted_tx;
+      told_pf = r.told_pf;
+      told_vf = r.told_vf;
+    } };
 }
 
 impl RegisterFile {
@@ -40,16 +48,20 @@ impl RegisterFile {
             words: WordMap::new(alloc)?,
             wanted_rx: [false; 128],
             wanted_tx: [false; 128],
+            told_pf: 0,
+            told_vf: [0; 64],
         })
     }
 
-    /// Gives each register its reset value, and wants no queue on. It takes no memory.
+    /// Gives each register its reset value, wants no queue on, and forgets what messages told. It takes no memory.
     pub fn reset(&mut self)
         ensures { self.new ≡ reset_registers }
     {
         self.words.reset();
         self.wanted_rx = [false; 128];
         self.wanted_tx = [false; 128];
+        self.told_pf = 0;
+        self.told_vf = [0; 64];
     }
 
     /// The word of a row at an index below the row's count, 0 to 0xFFFFFFFF, as it was stored: what is calculated, and

@@ -26,6 +26,9 @@ use Rattle.nic_device.specs.Access.{place_read, place_written, state_written}
 use Rattle.rx_filter.specs.declared.target.Target.{Target}
 use Rattle.rx_filter.specs.declared.unwanted.Unwanted.{Unwanted}
 use Rattle.nic_device.specs.Arrival.{arrived, joined, sorted_in}
+use Rattle.intr_unit.specs.declared.group.Group.{Group}
+use Rattle.register_file.specs.Groups.{message_of, message_made}
+use Rattle.nic_device.specs.Interrupt.{interrupted, messaged, message_reply, has_group}
 use Rattle.nic_device.specs.Lending.{peeked, poked}
 use Rattle.nic_device.specs.Link.{link_set, oldest_collected}
 use Rattle.nic_device.specs.Outcome.{Outcome, gives}
@@ -38,7 +41,7 @@ use Rattle.nic_device.specs.declared.event.Event.{Event}
 use Rattle.nic_device.specs.declared.event.Event.TheVariants as event
 use Rattle.nic_device.specs.declared.event.Port.TheVariants.{Pf}
 use Rattle.nic_device.specs.declared.event.Reply.{Reply}
-use Rattle.nic_device.specs.declared.event.Reply.TheVariants.{Done, Dropped, Idle, NoQueue}
+use Rattle.nic_device.specs.declared.event.Reply.TheVariants.{Done, Dropped, Idle, NoQueue, NoGroup, Message}
 use Rattle.nic_device.specs.declared.event.Why.TheVariants.{QueueOff}
 use Rattle.script_asm.specs.Board.{MovesNone, HasNone}
 
@@ -175,6 +178,18 @@ oldest_collected-leaves : (s : State) (out : List (ℕ × List ℕ)) → Leaves 
 oldest_collected-leaves s [] = record { lent = λ n. refl; none = tt }
 oldest_collected-leaves s (frame ∷ others) = record { lent = λ n. refl; none = tt }
 
+messaged-leaves : (s : State) (g : Group) (vector : Option ℕ) (t : State) → t.memory ≡ s.memory
+    → Leaves s (gives (message_reply g vector) t)
+messaged-leaves s g None t same = still s Idle t same tt
+messaged-leaves s g (Some vector) t same = still s (Message g vector) t same tt
+
+interrupted-leaves : (s : State) (g : Group) → Leaves s (interrupted s g)
+interrupted-leaves s g =
+    either s (has_group s g) (messaged s g) (gives NoGroup s)
+    (either s (is_stopped s.registers) (gives Idle s) _ (idle s)
+    (messaged-leaves s g (message_of s.registers g) (record s { registers = message_made s.registers g }) refl))
+    (still s NoGroup s refl tt)
+
 -- an event that moves no block
 pub step_of-leaves : (s : State) (e : Event Block) → MovesNone e → Leaves s (step_of s e)
 unfolding step_of
@@ -187,6 +202,7 @@ step_of-leaves s (event.Poke16 address bytes) none = poked-leaves s address byte
 step_of-leaves s (event.Arrive frame) none = arrived-leaves s frame
 step_of-leaves s event.RxStep none = received-leaves s
 step_of-leaves s (event.TxStep queue) none = transmitted-leaves s queue
+step_of-leaves s (event.IntStep group) none = interrupted-leaves s group
 step_of-leaves s (event.QueueStep dir queue) none = queue_switched-leaves s dir queue
 step_of-leaves s (event.Link up) none = link_set-leaves s up
 step_of-leaves s event.Collect none = oldest_collected-leaves s s.out

@@ -7,7 +7,7 @@ use Rattle.std.specs.Option.{ok_or}
 use Rattle.lexer.specs.Lines.{NumberedLine}
 use Rattle.lexer.specs.Words.{words_of}
 use Rattle.script_asm.specs.Fault.{◌then◌, at_line, both}
-use Rattle.script_asm.specs.Instruction.{operation_named, no_operand, one_operand, two_operands, direction_in, link_in, number16_in, draft_of}
+use Rattle.script_asm.specs.Instruction.{operation_named, no_operand, one_operand, two_operands, direction_in, link_in, group_in, number16_in, draft_of}
 use Rattle.script_asm.specs.Outline.{Outline, blank, IsPlain, ArePlain}
 use Rattle.script_asm.specs.Script.{number_of_data, is_short, has_short_name, with_line, with_lines, with_statement}
 use Rattle.script_asm.specs.Statement.{statement_of, data_in, instruction_in, named_in, bytes_in}
@@ -57,6 +57,7 @@ draft_of-plain op.Peek operands =
     (both-second (λ word. word < 4) (number_in words.0) (number_below 4 words.1) (number_below-fits 4 words.1)) (λ found fits. fits))
 draft_of-plain op.Arrive operands = then-IfOk IsPlain (one_operand operands) _ (λ word. then-IfOk IsPlain (name_in word) _ (λ found. tt))
 draft_of-plain op.RxStep operands = then-IfOk IsPlain (no_operand operands) _ (λ found. tt)
+draft_of-plain op.IntStep operands = then-IfOk IsPlain (one_operand operands) _ (λ word. then-IfOk IsPlain (group_in word) _ (λ found. tt))
 draft_of-plain op.TxStep operands = then-IfOk IsPlain (one_operand operands) _ (λ word. then-IfOk IsPlain (number16_in word) _ (λ found. tt))
 draft_of-plain op.QueueStep operands = then-IfOk IsPlain (two_operands operands) _ (λ words. then-IfOk IsPlain (both (direction_in words.0) (number16_in words.1)) _ (λ found. tt))
 draft_of-plain op.Link operands = then-IfOk IsPlain (one_operand operands) _ (λ word. then-IfOk IsPlain (link_in word) _ (λ found. tt))

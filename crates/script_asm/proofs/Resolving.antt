@@ -63,6 +63,7 @@ plain-IsSound strings (instr.Peek address word) h = h
 plain-IsSound strings (instr.Arrive number) h = tt
 plain-IsSound strings instr.RxStep h = tt
 plain-IsSound strings (instr.TxStep queue) h = tt
+plain-IsSound strings (instr.IntStep group) h = tt
 plain-IsSound strings (instr.QueueStep direction queue) h = tt
 plain-IsSound strings (instr.Link up) h = tt
 plain-IsSound strings instr.Collect h = tt

@@ -2,7 +2,7 @@
 use Rattle.std.specs.Prelude.{◌≡◌, ◌<◌, ◌≤◌, ℕ, List, [], length, slice_index_or, ⊤}
 use Rattle.std.specs.List.{AllByRecursion}
 use Rattle.script_asm.specs.declared.instructions.Instruction.{Instruction}
-use Rattle.script_asm.specs.declared.instructions.Instruction.TheVariants.{Write, Read, Lend, Unlend, Poke, Peek, Arrive, RxStep, TxStep, QueueStep, Link, Collect}
+use Rattle.script_asm.specs.declared.instructions.Instruction.TheVariants.{Write, Read, Lend, Unlend, Poke, Peek, Arrive, RxStep, TxStep, IntStep, QueueStep, Link, Collect}
 
 -- the data strings of a program and its instructions, both in their order; an instruction names data by its number
 pub record Listing : Type 0 where
@@ -24,6 +24,7 @@ IsSound strings (Peek address word) = word < 4
 IsSound strings (Arrive number) = ⊤
 IsSound strings RxStep = ⊤
 IsSound strings (TxStep queue) = ⊤
+IsSound strings (IntStep group) = ⊤
 IsSound strings (QueueStep direction queue) = ⊤
 IsSound strings (Link up) = ⊤
 IsSound strings Collect = ⊤

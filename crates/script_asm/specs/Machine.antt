@@ -15,7 +15,7 @@ use Rattle.script_asm.specs.Board.{all_blocks, arena_after}
 use Rattle.script_asm.specs.Listing.{Listing, string_at}
 use Rattle.script_asm.specs.MachineState.{MachineState}
 use Rattle.script_asm.specs.declared.instructions.Instruction.{Instruction}
-use Rattle.script_asm.specs.declared.instructions.Instruction.TheVariants.{Write, Read, Lend, Unlend, Poke, Peek, Arrive, RxStep, TxStep, QueueStep, Link, Collect}
+use Rattle.script_asm.specs.declared.instructions.Instruction.TheVariants.{Write, Read, Lend, Unlend, Poke, Peek, Arrive, RxStep, TxStep, IntStep, QueueStep, Link, Collect}
 use Rattle.script_asm.specs.declared.machine.Status.{Status}
 use Rattle.script_asm.specs.declared.machine.Status.TheVariants.{Running, Ended}
 use Rattle.script_asm.specs.declared.machine.StepAnswer.{StepAnswer}
@@ -50,6 +50,7 @@ event_of program (Peek address word) = event.Peek16 address
 event_of program (Arrive number) = event.Arrive (string_at program.strings number)
 event_of program RxStep = event.RxStep
 event_of program (TxStep queue) = event.TxStep queue
+event_of program (IntStep group) = event.IntStep group
 event_of program (QueueStep direction queue) = event.QueueStep direction queue
 event_of program (Link up) = event.Link up
 event_of program Collect = event.Collect

@@ -53,6 +53,8 @@ fn note_of(reply: Reply) -> ReplyNote
         Reply::NotLent => Reply::NotLent,
         Reply::Misaligned => Reply::Misaligned,
         Reply::NoQueue => Reply::NoQueue,
+        Reply::NoGroup => Reply::NoGroup,
+        Reply::Message { group, vector } => Reply::Message { group, vector },
         Reply::Idle => Reply::Idle,
         Reply::Dropped(why) => Reply::Dropped(why),
         Reply::Wrote {
@@ -129,7 +131,7 @@ fn let_go(event: Event)
         Event::Take(_) => {}
         Event::Peek16(_) | Event::Poke16(_, _) => {}
         Event::Arrive(_frame) => {}
-        Event::RxStep | Event::TxStep(_) | Event::QueueStep(_, _) => {}
+        Event::RxStep | Event::TxStep(_) | Event::IntStep(_) | Event::QueueStep(_, _) => {}
         Event::Link(_) | Event::Collect => {}
     }
 }

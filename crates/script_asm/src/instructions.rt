@@ -1,6 +1,6 @@
 //! Instructions.
 
-use nic_device::Dir;
+use nic_device::{Dir, Group};
 
 /// One step of a program. Bus addresses are below 2^32, numbers of blocks, queues and data strings below 2^16.
 #[derive(Clone, Copy, Debug, PartialEq, Eq)]
@@ -23,6 +23,9 @@ pub enum Instruction {
     RxStep,
     /// `tx`: one transmit step of a queue.
     TxStep(u16),
+    /// `int`: the next message of a group of interrupts: that of the physical function, or of a virtual function, whose
+    /// number is below 63.
+    IntStep(Group),
     /// `qstep`: one direction of a queue goes on or off, as its register wants it.
     QueueStep(Dir, u16),
     /// `link`: whether there is link from now on.

@@ -1,7 +1,7 @@
 //! Operations and their operands.
 
 ghost use Rattle.std.specs.Prelude.{◌≡◌};
-ghost use Rattle.script_asm.specs.Instruction.{operation_named, no_operand, one_operand, two_operands, direction_in, link_in, number16_in, draft_of};
+ghost use Rattle.script_asm.specs.Instruction.{operation_named, no_operand, one_operand, two_operands, direction_in, link_in, group_in, number16_in, draft_of};
 ghost use Rattle.script_asm.specs.Read.{ok_map};
 ghost use Rattle.script_asm.specs.Target.{number_below};
 ghost use Rattle.script_asm.specs.Script.{has_short_name};
@@ -11,7 +11,7 @@ use crate::instructions::Instruction;
 use crate::names::Name;
 use crate::targets::{number, number_below, target};
 use lexer::Words;
-use nic_device::Dir;
+use nic_device::{Dir, Group};
 
 /// The first word of an instruction.
 #[derive(Clone, Copy, Debug, PartialEq, Eq)]
@@ -25,6 +25,7 @@ pub(crate) enum Operation {
     Arrive,
     RxStep,
     TxStep,
+    IntStep,
     QueueStep,
     Link,
     Collect,
@@ -68,6 +69,7 @@ pub(crate) fn operation_named(word: &str) -> Option<Operation>
         "arrive" => Some(Operation::Arrive),
         "rx" => Some(Operation::RxStep),
         "tx" => Some(Operation::TxStep),
+        "int" => Some(Operation::IntStep),
         "qstep" => Some(Operation::QueueStep),
         "link" => Some(Operation::Link),
         "collect" => Some(Operation::Collect),
@@ -124,6 +126,19 @@ fn link(word: &str) -> Result<bool, LineFault>
         "up" => Ok(true),
         "down" => Ok(false),
         _ => Err(LineFault::Syntax),
+    }
+}
+
+/// The group of interrupts that a word names.
+fn group(word: &str) -> Result<Group, LineFault>
+    ensures { result ≡ group_in word.now }
+{
+    match word {
+        "pf" => Ok(Group::Pf),
+        _ => {
+            let number = number_below(63, word)?;
+            Ok(Group::Vf(number as u8))
+        }
     }
 }
 
@@ -189,6 +204,10 @@ pub(crate) fn read_draft<'a>(
         Operation::TxStep => {
             let queue = number16(one_operand(operands)?)?;
             Ok(Draft::Plain(Instruction::TxStep(queue)))
+        }
+        Operation::IntStep => {
+            let group = group(one_operand(operands)?)?;
+            Ok(Draft::Plain(Instruction::IntStep(group)))
         }
         Operation::QueueStep => {
             let (direction_word, queue) = two_operands(operands)?;

@@ -224,6 +224,10 @@ impl Processor {
                 let reply = self.make(program, Event::RxStep)?;
                 Ok(StepAnswer::Made(reply))
             }
+            Instruction::IntStep(group) => {
+                let reply = self.make(program, Event::IntStep(group))?;
+                Ok(StepAnswer::Made(reply))
+            }
             Instruction::TxStep(queue) => {
                 let reply = self.make(program, Event::TxStep(queue))?;
                 Ok(StepAnswer::Made(reply))

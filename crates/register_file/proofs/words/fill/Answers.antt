@@ -1,5 +1,5 @@
-use Rattle.std.proofs.Common.{◌<◌, arith}
-use Rattle.std.specs.BTreeMap.{get}
+use Rattle.std.proofs.Common.{◌<◌, subst, Some, arith}
+use Rattle.std.specs.BTreeMap.{get, Updates}
 use Rattle.reg_table.specs.Rows.{row_of}
 use Rattle.reg_table.specs.contracts.place.PlaceOrd.TheImpl as PlaceOrd
 use Rattle.register_file.specs.Columns.{place}
@@ -8,7 +8,8 @@ use Rattle.register_file.proofs.words.fill.Goals as goal
 
 pub loop-index-preserved : goal.loop-index-preserved
 loop-index-preserved c =
-    let updates = rw c.reset_of-word.ensures at c.in_ok-insert.ensures.updates in
+    let cmp = PlaceOrd.ghosts.cmp in
+    let updates = subst (λ w. Updates cmp c.loop-index.words c.insert.new.self (place c.args.row c.loop-index.index) (Some w)) c.reset_of-word.ensures c.in_ok-insert.ensures.updates in
     record {
       filled = filled_more c.loop-index.words c.insert.new.self c.args.row c.loop-index.index updates c.loop-index.invariant.filled;
       kept = kept_more (get PlaceOrd.ghosts.cmp c.args.words.now) c.loop-index.words c.insert.new.self c.args.row c.loop-index.index _ updates c.loop-index.invariant.kept;

@@ -1,0 +1,66 @@
+-- Interrupts: what queues and the device raise, and one message.
+use Rattle.std.specs.Prelude.{ℕ, ◌/◌, ◌==◌, ◌^◌, Bool, true, not, ◌&&◌, nat_lt, Option, Some, None, is_some, if◌then◌else◌}
+use Rattle.dma_arena.specs.Block.{Block}
+use Rattle.reg_table.specs.declared.rows.RowId.TheVariants.{GcrExt}
+use Rattle.intr_unit.specs.declared.group.Group.{Group}
+use Rattle.intr_unit.specs.declared.group.Group.TheVariants.{Pf, Vf}
+use Rattle.vf_map.specs.Pools.{mode_of, queues_of, queues_each}
+use Rattle.vf_map.specs.declared.mode.Mode.{Mode}
+use Rattle.register_file.specs.Groups.{causes_raised, queue_raised, message_of, message_made}
+use Rattle.register_file.specs.Registers.{Registers, word_of}
+use Rattle.register_file.specs.Settings.{is_stopped}
+use Rattle.register_file.specs.declared.dir.Dir.{Dir}
+use Rattle.nic_device.specs.State.{State}
+use Rattle.nic_device.specs.Outcome.{Outcome, gives}
+use Rattle.nic_device.specs.declared.event.Reply.{Reply}
+use Rattle.nic_device.specs.declared.event.Reply.TheVariants.{Idle, NoGroup, Message}
+
+-- the causes that the device raises by itself: a frame missed for want of room, a fault, a change of the link
+abbrev pub missed_cause : ℕ
+missed_cause = 2 ^ 17
+
+abbrev pub fault_cause : ℕ
+fault_cause = 2 ^ 18
+
+abbrev pub link_cause : ℕ
+link_cause = 2 ^ 20
+
+-- the registers after the device raised a cause of the physical function
+abbrev pub device_raised : Registers → ℕ → Registers
+device_raised r cause = causes_raised r Pf cause
+
+-- how the queues are parted among pools
+abbrev pub mode_in : Registers → Mode
+mode_in r = mode_of (word_of r GcrExt 0)
+
+-- the group that a queue raises in: that of the virtual function whose pool it is in, else that of the physical
+-- function
+abbrev pub group_of_pool : ℕ → Bool → ℕ → Group
+group_of_pool vfs pooled pool = if pooled && nat_lt pool vfs then Vf pool else Pf
+
+abbrev pub group_of_queue : Registers → (vfs queue : ℕ) → Group
+group_of_queue r vfs queue =
+    let each = queues_each (mode_in r) in group_of_pool vfs (not (each == 0)) (queue / each)
+
+-- the registers after a side of a queue raised its cause
+unfoldable pub raised_by : Registers → (vfs : ℕ) → Dir → ℕ → Registers
+raised_by r vfs dir queue = queue_raised r (group_of_queue r vfs queue) dir queue
+
+-- whether there is a group: that of the physical function always, that of a virtual function where the device has the
+-- function and the mode has a pool for it
+abbrev pub has_group : State → Group → Bool
+has_group s Pf = true
+has_group s (Vf v) = nat_lt v s.vfs && is_some (queues_of (mode_in s.registers) v)
+
+abbrev pub message_reply : Group → Option ℕ → Reply Block
+message_reply g None = Idle
+message_reply g (Some vector) = Message g vector
+
+-- one message of a group
+abbrev pub messaged : State → Group → Outcome
+messaged s g =
+    if is_stopped s.registers then gives Idle s
+    else gives (message_reply g (message_of s.registers g)) (record s { registers = message_made s.registers g })
+
+abbrev pub interrupted : State → Group → Outcome
+interrupted s g = if has_group s g then messaged s g else gives NoGroup s

@@ -1,0 +1,4 @@
+pub mod Chains
+pub mod Places
+pub mod Whole
+pub mod Owners

@@ -1,0 +1,4 @@
+pub mod Pools
+pub mod Map
+pub mod Parts
+pub mod Laws

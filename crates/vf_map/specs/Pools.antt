@@ -1,0 +1,29 @@
+-- How GCR_EXT parts the 128 queues among pools. Virtual function v has pool v.
+use Rattle.std.specs.Prelude.{ℕ, ◌*◌, ◌%◌, ◌==◌, nat_lt, Option, Some, None, if◌then◌else◌}
+use Rattle.vf_map.specs.declared.mode.Mode.{Mode}
+use Rattle.vf_map.specs.declared.mode.Mode.TheVariants.{Off, Pools16, Pools32, Pools64}
+
+-- the mode in GCR_EXT bits 1 to 0
+abbrev pub mode_of : ℕ → Mode
+mode_of gcr_ext =
+    if gcr_ext % 4 == 0 then Off
+    else (if gcr_ext % 4 == 1 then Pools16
+    else (if gcr_ext % 4 == 2 then Pools32 else Pools64))
+
+-- how many pools there are, and how many queues each has. Sixteen pools are as none.
+abbrev pub pools_in : Mode → ℕ
+pools_in Off = 0
+pools_in Pools16 = 0
+pools_in Pools32 = 32
+pools_in Pools64 = 64
+
+abbrev pub queues_each : Mode → ℕ
+queues_each Off = 0
+queues_each Pools16 = 0
+queues_each Pools32 = 4
+queues_each Pools64 = 2
+
+-- the first queue of a pool and how many it has, where there is such a pool
+abbrev pub queues_of : Mode → ℕ → Option (ℕ × ℕ)
+queues_of mode pool =
+    if nat_lt pool (pools_in mode) then Some (pool * queues_each mode, queues_each mode) else None

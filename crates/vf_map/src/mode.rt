@@ -1,0 +1,12 @@
+/// How the 128 queues are parted among pools: bits 1:0 of GCR_EXT.
+#[derive(Clone, Copy, PartialEq, Eq, Debug)]
+pub enum Mode {
+    /// No pools.
+    Off,
+    /// Sixteen pools; taken as none.
+    Pools16,
+    /// 32 pools of four queues.
+    Pools32,
+    /// 64 pools of two queues.
+    Pools64,
+}

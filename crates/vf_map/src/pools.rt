@@ -1,0 +1,31 @@
+ghost use Rattle.std.specs.Prelude.{◌≡◌, ◌<◌};
+ghost use Rattle.vf_map.specs.Pools.{mode_of, queues_of, queues_each, pools_in};
+
+use crate::mode::Mode;
+
+/// The bits of GCR_EXT that hold the mode.
+const MODE_MASK: u32 = 0x3;
+
+/// The mode in GCR_EXT: its bits 1:0. The other bits say nothing here.
+pub fn mode_of(gcr_ext: u32) -> Mode
+    ensures { result ≡ mode_of gcr_ext }
+{
+    match gcr_ext & MODE_MASK {
+        0 => Mode::Off,
+        1 => Mode::Pools16,
+        2 => Mode::Pools32,
+        _ => Mode::Pools64,
+    }
+}
+
+/// The first queue of virtual function v, and how many queues it has: 4v and four with 32 pools, 2v and two with 64.
+/// `None` where the mode has no pool v.
+pub fn queues_of(mode: Mode, v: u8) -> Option<(u8, u8)>
+    ensures { result ≡ queues_of mode v }
+{
+    match mode {
+        Mode::Pools32 if v < 32 => Some((4 * v, 4)),
+        Mode::Pools64 if v < 64 => Some((2 * v, 2)),
+        _ => None,
+    }
+}

@@ -337,7 +337,7 @@ def docs_rows():
 
 def addresses(run):
     if run.count == 1:
-        return f"0x{run.first:05X}"
+        return f"0x{run.first:05X}" + (" (low)" if run.low else "")
     index = "i" if run.first_index == 0 else f"(i-{run.first_index})"
     last = run.first_index + run.count - 1
     return f"0x{run.first:05X} + 0x{run.stride:02X}*{index}, i {run.first_index} to {last}"

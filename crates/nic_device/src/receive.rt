@@ -2,7 +2,7 @@
 
 ghost use Rattle.std.specs.Prelude.{◌≡◌, ◌<◌, ◌+◌, ◌≤◌, length};
 ghost use Rattle.std.specs.VecDeque.{deque_len, deque_capacity};
-ghost use Rattle.nic_device.specs.Receive.{received, first_received, is_empty, after_piece, slotless_counted, piece_done};
+ghost use Rattle.nic_device.specs.Receive.{received, first_received, is_empty, after_piece, slotless_counted, piece_done, receive_failed};
 
 use crate::device::Device;
 use crate::event::{Reply, Why};
@@ -56,8 +56,7 @@ impl Device {
                 wrote(queue, &filled)
             }
             Err(fault) => {
-                self.registers.shut(Dir::Rx, queue);
-                self.registers.raise(Group::Pf, PCI_EXCEPTION);
+                fail_side(&mut self.registers, queue);
                 Reply::Fault { queue, fault }
             }
         }
@@ -91,6 +90,15 @@ fn end_piece(registers: &mut RegisterFile, vfs: u8, queue: u16, filled: &Filled)
         registers.count(RowId::Qprc, counter);
         raise_by(registers, vfs, Dir::Rx, queue);
     }
+}
+
+/// A slot met a fault: the receive side is off and not wanted on, and the cause of faults is raised.
+fn fail_side(registers: &mut RegisterFile, queue: u16)
+    requires { queue < 128 }
+    ensures { registers.new ≡ receive_failed registers.old queue }
+{
+    registers.shut(Dir::Rx, queue);
+    registers.raise(Group::Pf, PCI_EXCEPTION);
 }
 
 /// What is told of a piece.

@@ -23,8 +23,9 @@ class Run:
 
 
 class Row:
-    def __init__(self, name, meaning, kind, runs, mask=ALL, reset=0):
-        self.name, self.meaning, self.kind, self.runs, self.mask, self.reset = name, meaning, kind, runs, mask, reset
+    def __init__(self, name, meaning, kind, bank, runs, mask=ALL, reset=0):
+        self.name, self.meaning, self.kind, self.bank = name, meaning, kind, bank
+        self.runs, self.mask, self.reset = runs, mask, reset
         self.count = max(run.first_index + run.count for run in runs)
         self.variant = "".join(part.capitalize() for part in name.split("_"))
 
@@ -54,77 +55,88 @@ def transmit(offset):
     return [Run(0x06000 + offset, 0x40, 0, 128)]
 
 
-# name, meaning, kind, addresses (the first run of an index is its first address), mask, reset value
+# The banks, as the page of registers calls them.
+BANKS = {
+    "Device": "device",
+    "Counters": "counters",
+    "Receive": "receive side",
+    "Transmit": "transmit side",
+    "Interrupts": "interrupts",
+    "VfInterrupts": "interrupts of a function",
+    "Pool": "pool",
+}
+
+# name, meaning, kind, bank, addresses (the first run of an index is its first address), mask, reset value
 TABLE = [
-    Row("CTRL", "Device control", "Ctrl", one(0x00000, 0x00004), mask=0xFBFF_FFF7),
-    Row("STATUS", "Device status", "Calc", one(0x00008)),
-    Row("CTRL_EXT", "Extended device control", "Rw", one(0x00018)),
-    Row("LEDCTL", "LED control", "Rw", one(0x00200)),
-    Row("EICR", "Extended interrupt cause", "Cause", one(0x00800), mask=0x7FFF_FFFF),
-    Row("EICS", "Extended interrupt cause set", "Set", one(0x00808) + low(0x00A90), mask=0x7FFF_FFFF),
-    Row("EIAC", "Extended interrupt auto clear", "Rw", one(0x00810), mask=0x7FFF_FFFF),
-    Row("EITR", "Extended interrupt throttle", "Rw", array(0x00820, 24) + [Run(0x12300, 4, 24, 104)]),
-    Row("EIMS", "Extended interrupt mask set", "Ones", one(0x00880) + low(0x00AA0), mask=0x7FFF_FFFF),
-    Row("EIMC", "Extended interrupt mask clear", "Clear", one(0x00888) + low(0x00AB0), mask=0x7FFF_FFFF),
-    Row("EIAM", "Extended interrupt auto mask", "Rw", one(0x00890) + low(0x00AD0), mask=0x7FFF_FFFF),
-    Row("GPIE", "General purpose interrupt enable", "Rw", one(0x00898)),
-    Row("IVAR", "Interrupt vector allocation", "Rw", array(0x00900, 64)),
-    Row("IVAR_MISC", "Interrupt vector allocation of other causes", "Rw", one(0x00A00)),
-    Row("PVTEICR", "Interrupt cause of a virtual function", "Cause", array(0x00B00, 64), mask=7),
-    Row("PVTEICS", "Interrupt cause set of a virtual function", "Set", array(0x00C00, 64), mask=7),
-    Row("PVTEIMS", "Interrupt mask set of a virtual function", "Ones", array(0x00D00, 64), mask=7),
-    Row("PVTEIMC", "Interrupt mask clear of a virtual function", "Clear", array(0x00E00, 64), mask=7),
-    Row("PVTEIAC", "Extended interrupt auto clear of a virtual function", "Rw", array(0x00F00, 64), mask=7),
-    Row("PVTEIAM", "Extended interrupt auto mask of a virtual function", "Rw", array(0x04D00, 64), mask=7),
-    Row("RDBAL", "Receive descriptor base address, low part", "Held", receive(0x00), mask=0xFFFF_FF80),
-    Row("RDBAH", "Receive descriptor base address, high part", "Held", receive(0x04)),
-    Row("RDLEN", "Receive descriptor length in bytes", "Held", receive(0x08), mask=0x000F_FF80),
-    Row("RDH", "Receive descriptor head", "Held", receive(0x10), mask=0x0000_FFFF),
-    Row("SRRCTL", "Split receive control of a queue", "Rw", receive(0x14) + array(0x02100, 16), reset=0x0000_0402),
-    Row("RDT", "Receive descriptor tail", "Rw", receive(0x18), mask=0x0000_FFFF),
-    Row("RXDCTL", "Receive descriptor control", "Enable", receive(0x28), mask=0xFDFF_FFFF),
-    Row("QPRC", "Frames received, in one of 16 counters of queues", "Rc", array(0x01030, 16, 0x40)),
-    Row("QPRDC", "Frames dropped for want of a slot, in one of 16 counters of queues", "Rc", array(0x01430, 16, 0x40)),
-    Row("RQSMR", "Receive queue statistics mapping", "Rw", array(0x02300, 32)),
-    Row("RDRXCTL", "Receive DMA control", "Rw", one(0x02F00), mask=0xFFFF_FFF7, reset=0x0000_0008),
-    Row("RXCTRL", "Receive control", "Rw", one(0x03000)),
-    Row("MPC", "Frames missed for want of room", "Rc", one(0x03FA0)),
-    Row("GPRC", "Good frames received", "Rc", one(0x04074)),
-    Row("GPTC", "Good frames transmitted", "Rc", one(0x04080)),
-    Row("RUC", "Frames received that are too short", "Rc", one(0x040A4)),
-    Row("ROC", "Frames received that are too long", "Rc", one(0x040AC)),
-    Row("HLREG0", "MAC highlander control 0", "Rw", one(0x04240), reset=0x0000_0403),
-    Row("MAXFRS", "Maximum frame size", "Rw", one(0x04268), mask=0xFFFF_0000, reset=0x05EE_0000),
-    Row("AUTOC", "Auto-negotiation control", "Rw", one(0x042A0)),
-    Row("LINKS", "Link status", "Calc", one(0x042A4)),
-    Row("DMATXCTL", "DMA transmit control", "Rw", one(0x04A80), reset=0x8100_0000),
-    Row("RXCSUM", "Receive checksum control", "Rw", one(0x05000)),
-    Row("FCTRL", "Filter control", "Rw", one(0x05080)),
-    Row("MCSTCTRL", "Multicast control", "Rw", one(0x05090)),
-    Row("VT_CTL", "Virtualization control", "Rw", one(0x051B0)),
-    Row("VFRE", "Receive enable of the pools", "Rw", array(0x051E0, 2)),
-    Row("VFTE", "Transmit enable of the pools", "Rw", array(0x08110, 2)),
-    Row("MTA", "Multicast table array", "Rw", array(0x05200, 128)),
-    Row("RAL", "Receive address, low part", "Rw", array(0x0A200, 128, 8) + array(0x05400, 16, 8)),
-    Row("RAH", "Receive address, high part", "Rw", array(0x0A204, 128, 8) + array(0x05404, 16, 8)),
-    Row("MRQC", "Multiple receive queues command", "Rw", one(0x05818, 0x0EC80)),
-    Row("RETA", "Redirection table", "Rw", array(0x05C00, 32) + array(0x0EB00, 32)),
-    Row("RSSRK", "Receive side scaling random key", "Rw", array(0x05C80, 10) + array(0x0EB80, 10)),
-    Row("TDBAL", "Transmit descriptor base address, low part", "Held", transmit(0x00), mask=0xFFFF_FF80),
-    Row("TDBAH", "Transmit descriptor base address, high part", "Held", transmit(0x04)),
-    Row("TDLEN", "Transmit descriptor length in bytes", "Held", transmit(0x08), mask=0x000F_FF80),
-    Row("TDH", "Transmit descriptor head", "Held", transmit(0x10), mask=0x0000_FFFF),
-    Row("TDT", "Transmit descriptor tail", "Rw", transmit(0x18), mask=0x0000_FFFF),
-    Row("TXDCTL", "Transmit descriptor control", "Enable", transmit(0x28), mask=0xFDFF_FFFF),
-    Row("TDWBAL", "Transmit head write-back address, low part", "Rw", transmit(0x38), mask=0xFFFF_FFFD),
-    Row("TDWBAH", "Transmit head write-back address, high part", "Rw", transmit(0x3C)),
-    Row("QPTC", "Frames transmitted, in one of 16 counters of queues", "Rc", array(0x06030, 16, 0x40)),
-    Row("MTQC", "Multiple transmit queues command", "Rw", one(0x08120)),
-    Row("TQSM", "Transmit queue statistics mapping", "Rw", array(0x08600, 32)),
-    Row("MPSAR", "Pool select of the receive addresses", "Rw", array(0x0A600, 256)),
-    Row("PSRTYPE", "Packet split receive type of a pool", "Rw", array(0x0EA00, 64) + array(0x05480, 16)),
-    Row("GCR_EXT", "Extended PCIe control", "Rw", one(0x11050)),
-    Row("PVTIVAR", "Interrupt vector allocation of a virtual function", "Rw", array(0x12500, 64)),
+    Row("CTRL", "Device control", "Ctrl", "Device", one(0x00000, 0x00004), mask=0xFBFF_FFF7),
+    Row("STATUS", "Device status", "Calc", "Device", one(0x00008)),
+    Row("CTRL_EXT", "Extended device control", "Rw", "Device", one(0x00018)),
+    Row("LEDCTL", "LED control", "Rw", "Device", one(0x00200)),
+    Row("EICR", "Extended interrupt cause", "Cause", "Interrupts", one(0x00800), mask=0x7FFF_FFFF),
+    Row("EICS", "Extended interrupt cause set", "Set", "Interrupts", one(0x00808) + low(0x00A90)),
+    Row("EIAC", "Extended interrupt auto clear", "Rw", "Interrupts", one(0x00810), mask=0x7FFF_FFFF),
+    Row("EITR", "Extended interrupt throttle", "Rw", "Device", array(0x00820, 24) + [Run(0x12300, 4, 24, 104)]),
+    Row("EIMS", "Extended interrupt mask set", "Ones", "Interrupts", one(0x00880) + low(0x00AA0), mask=0x7FFF_FFFF),
+    Row("EIMC", "Extended interrupt mask clear", "Clear", "Interrupts", one(0x00888) + low(0x00AB0)),
+    Row("EIAM", "Extended interrupt auto mask", "Rw", "Interrupts", one(0x00890) + low(0x00AD0), mask=0x7FFF_FFFF),
+    Row("GPIE", "General purpose interrupt enable", "Rw", "Device", one(0x00898)),
+    Row("IVAR", "Interrupt vector allocation", "Rw", "Device", array(0x00900, 64)),
+    Row("IVAR_MISC", "Interrupt vector allocation of other causes", "Rw", "Device", one(0x00A00)),
+    Row("PVTEICR", "Interrupt cause of a virtual function", "Cause", "VfInterrupts", array(0x00B00, 64), mask=7),
+    Row("PVTEICS", "Interrupt cause set of a virtual function", "Set", "VfInterrupts", array(0x00C00, 64)),
+    Row("PVTEIMS", "Interrupt mask set of a virtual function", "Ones", "VfInterrupts", array(0x00D00, 64), mask=7),
+    Row("PVTEIMC", "Interrupt mask clear of a virtual function", "Clear", "VfInterrupts", array(0x00E00, 64)),
+    Row("PVTEIAC", "Extended interrupt auto clear of a virtual function", "Rw", "VfInterrupts", array(0x00F00, 64), mask=7),
+    Row("PVTEIAM", "Extended interrupt auto mask of a virtual function", "Rw", "VfInterrupts", array(0x04D00, 64), mask=7),
+    Row("RDBAL", "Receive descriptor base address, low part", "Held", "Receive", receive(0x00), mask=0xFFFF_FF80),
+    Row("RDBAH", "Receive descriptor base address, high part", "Held", "Receive", receive(0x04)),
+    Row("RDLEN", "Receive descriptor length in bytes", "Held", "Receive", receive(0x08), mask=0x000F_FF80),
+    Row("RDH", "Receive descriptor head", "Held", "Receive", receive(0x10), mask=0x0000_FFFF),
+    Row("SRRCTL", "Split receive control of a queue", "Rw", "Receive", receive(0x14) + array(0x02100, 16), reset=0x0000_0402),
+    Row("RDT", "Receive descriptor tail", "Rw", "Receive", receive(0x18), mask=0x0000_FFFF),
+    Row("RXDCTL", "Receive descriptor control", "Enable", "Receive", receive(0x28), mask=0xFDFF_FFFF),
+    Row("QPRC", "Frames received, in one of 16 counters of queues", "Rc", "Counters", array(0x01030, 16, 0x40)),
+    Row("QPRDC", "Frames dropped for want of a slot, in one of 16 counters of queues", "Rc", "Counters", array(0x01430, 16, 0x40)),
+    Row("RQSMR", "Receive queue statistics mapping", "Rw", "Device", array(0x02300, 32)),
+    Row("RDRXCTL", "Receive DMA control", "Rw", "Device", one(0x02F00), mask=0xFFFF_FFF7, reset=0x0000_0008),
+    Row("RXCTRL", "Receive control", "Rw", "Device", one(0x03000)),
+    Row("MPC", "Frames missed for want of room", "Rc", "Counters", one(0x03FA0)),
+    Row("GPRC", "Good frames received", "Rc", "Counters", one(0x04074)),
+    Row("GPTC", "Good frames transmitted", "Rc", "Counters", one(0x04080)),
+    Row("RUC", "Frames received that are too short", "Rc", "Counters", one(0x040A4)),
+    Row("ROC", "Frames received that are too long", "Rc", "Counters", one(0x040AC)),
+    Row("HLREG0", "MAC highlander control 0", "Rw", "Device", one(0x04240), reset=0x0000_0403),
+    Row("MAXFRS", "Maximum frame size", "Rw", "Device", one(0x04268), mask=0xFFFF_0000, reset=0x05EE_0000),
+    Row("AUTOC", "Auto-negotiation control", "Rw", "Device", one(0x042A0)),
+    Row("LINKS", "Link status", "Calc", "Device", one(0x042A4)),
+    Row("DMATXCTL", "DMA transmit control", "Rw", "Device", one(0x04A80), reset=0x8100_0000),
+    Row("RXCSUM", "Receive checksum control", "Rw", "Device", one(0x05000)),
+    Row("FCTRL", "Filter control", "Rw", "Device", one(0x05080)),
+    Row("MCSTCTRL", "Multicast control", "Rw", "Device", one(0x05090)),
+    Row("VT_CTL", "Virtualization control", "Rw", "Device", one(0x051B0)),
+    Row("VFRE", "Receive enable of the pools", "Rw", "Device", array(0x051E0, 2)),
+    Row("VFTE", "Transmit enable of the pools", "Rw", "Device", array(0x08110, 2)),
+    Row("MTA", "Multicast table array", "Rw", "Device", array(0x05200, 128)),
+    Row("RAL", "Receive address, low part", "Rw", "Device", array(0x0A200, 128, 8) + array(0x05400, 16, 8)),
+    Row("RAH", "Receive address, high part", "Rw", "Device", array(0x0A204, 128, 8) + array(0x05404, 16, 8)),
+    Row("MRQC", "Multiple receive queues command", "Rw", "Device", one(0x05818, 0x0EC80)),
+    Row("RETA", "Redirection table", "Rw", "Device", array(0x05C00, 32) + array(0x0EB00, 32)),
+    Row("RSSRK", "Receive side scaling random key", "Rw", "Device", array(0x05C80, 10) + array(0x0EB80, 10)),
+    Row("TDBAL", "Transmit descriptor base address, low part", "Held", "Transmit", transmit(0x00), mask=0xFFFF_FF80),
+    Row("TDBAH", "Transmit descriptor base address, high part", "Held", "Transmit", transmit(0x04)),
+    Row("TDLEN", "Transmit descriptor length in bytes", "Held", "Transmit", transmit(0x08), mask=0x000F_FF80),
+    Row("TDH", "Transmit descriptor head", "Held", "Transmit", transmit(0x10), mask=0x0000_FFFF),
+    Row("TDT", "Transmit descriptor tail", "Rw", "Transmit", transmit(0x18), mask=0x0000_FFFF),
+    Row("TXDCTL", "Transmit descriptor control", "Enable", "Transmit", transmit(0x28), mask=0xFDFF_FFFF),
+    Row("TDWBAL", "Transmit head write-back address, low part", "Rw", "Transmit", transmit(0x38), mask=0xFFFF_FFFD),
+    Row("TDWBAH", "Transmit head write-back address, high part", "Rw", "Transmit", transmit(0x3C)),
+    Row("QPTC", "Frames transmitted, in one of 16 counters of queues", "Rc", "Counters", array(0x06030, 16, 0x40)),
+    Row("MTQC", "Multiple transmit queues command", "Rw", "Device", one(0x08120)),
+    Row("TQSM", "Transmit queue statistics mapping", "Rw", "Device", array(0x08600, 32)),
+    Row("MPSAR", "Pool select of the receive addresses", "Rw", "Device", array(0x0A600, 256)),
+    Row("PSRTYPE", "Packet split receive type of a pool", "Rw", "Pool", array(0x0EA00, 64) + array(0x05480, 16)),
+    Row("GCR_EXT", "Extended PCIe control", "Rw", "Device", one(0x11050)),
+    Row("PVTIVAR", "Interrupt vector allocation of a virtual function", "Rw", "Device", array(0x12500, 64)),
 ]
 
 
@@ -163,7 +175,7 @@ def rust_rows():
     order = "".join(f"    RowId::{row.variant},\n" for row in TABLE)
     width = max(len(row.variant) for row in TABLE)
     entries = "".join(
-        f"        RowId::{row.variant:{width}} => entry!({quoted(row.name):11} {row.count:3}, {row.kind}, {word(row.mask)}, {word(row.reset)}),\n"
+        f"        RowId::{row.variant:{width}} => entry!({quoted(row.name):11} {row.count:3}, {row.kind}, {row.bank}, {word(row.mask)}, {word(row.reset)}),\n"
         for row in TABLE
     )
     return f"""// generated by tools/register_table.py
@@ -171,6 +183,7 @@ ghost use Rattle.std.specs.Prelude.{{◌≡◌}};
 ghost use Rattle.reg_table.specs.Entry.{{row_in}};
 ghost use Rattle.reg_table.specs.Rows.{{row_of}};
 
+use crate::bank::Bank;
 use crate::kind::Kind;
 use crate::row::Entry;
 
@@ -184,18 +197,19 @@ pub(crate) static ROWS: [RowId; {len(TABLE)}] = [
 {order}];
 
 macro_rules! entry {{
-    ($name:literal, $count:literal, $kind:ident, $mask:literal, $reset:literal) => {{
+    ($name:literal, $count:literal, $kind:ident, $bank:ident, $mask:literal, $reset:literal) => {{
         Entry {{
             name: $name,
             count: $count,
             kind: Kind::$kind,
+            bank: Bank::$bank,
             mask: $mask,
             reset: $reset,
         }}
     }};
 }}
 
-/// What the table says of a row: name, number of indices, kind, mask, word after a reset.
+/// What the table says of a row: name, number of indices, kind, bank, mask, word after a reset.
 #[rattlefmt::skip]
 pub(crate) fn entry_of(row: RowId) -> Entry
     ensures {{ row_in result ≡ row_of row }}
@@ -245,7 +259,7 @@ GENERATED = "-- generated by tools/register_table.py"
 
 def spec_rows():
     lines = "".join(
-        f'row_of {row.variant} = row (codes "{row.name}") {row.count} {row.kind} 0x{row.mask:08X} 0x{row.reset:08X}\n'
+        f'row_of {row.variant} = row (codes "{row.name}") {row.count} {row.kind} bank.{row.bank} 0x{row.mask:08X} 0x{row.reset:08X}\n'
         for row in TABLE
     )
     numbers = "".join(f"number_of {row.variant} = {n}\n" for n, row in enumerate(TABLE))
@@ -255,9 +269,10 @@ use Rattle.std.specs.Prelude.{{ℕ, List, [], ◌∷◌, codes}}
 use Rattle.reg_table.specs.declared.rows.RowId.{{RowId}}
 use Rattle.reg_table.specs.declared.rows.RowId.TheVariants.{{{variants()}}}
 use Rattle.reg_table.specs.declared.kind.Kind.TheVariants.{{{kinds()}}}
+use Rattle.reg_table.specs.declared.bank.Bank.TheVariants as bank
 use Rattle.reg_table.specs.Row.{{Row, row}}
 
--- the rows: name, number of indices, kind, bits that a write can change, word after a reset
+-- the rows: name, number of indices, kind, bank, bits that a write can change, word after a reset
 abbrev pub row_of : RowId → Row
 {lines}
 -- the place of a row in the table, counted from 0
@@ -326,10 +341,10 @@ unfolding rows
 
 
 def docs_rows():
-    lines = ["| Register | Addresses | Count | Kind | Mask | Reset | Meaning |", "|---|---|---|---|---|---|---|"]
+    lines = ["| Register | Addresses | Count | Kind | Bank | Mask | Reset | Meaning |", "|---|---|---|---|---|---|---|---|"]
     for row in TABLE:
         lines.append(
-            f"| {row.name} | {'; '.join(addresses(run) for run in row.runs)} | {row.count} | {row.kind.lower()} "
+            f"| {row.name} | {'; '.join(addresses(run) for run in row.runs)} | {row.count} | {row.kind.lower()} | {BANKS[row.bank]} "
             f"| 0x{row.mask:08X} | 0x{row.reset:08X} | {row.meaning} |"
         )
     return "\n".join(lines) + "\n"

@@ -3,4 +3,4 @@ use Rattle.reg_table.specs.Row.{Row, row}
 
 -- the row that an entry of the code's table tells
 abbrev pub row_in : Entry → Row
-row_in e = row e.name.now e.count e.kind e.mask e.reset
+row_in e = row e.name.now e.count e.kind e.bank e.mask e.reset

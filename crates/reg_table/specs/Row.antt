@@ -1,14 +1,17 @@
 use Rattle.std.specs.Prelude.{ℕ, List}
+use Rattle.reg_table.specs.declared.bank.Bank.{Bank}
 use Rattle.reg_table.specs.declared.kind.Kind.{Kind}
 
--- what the table says of a row: its name, how many indices it has, what an access does, the bits that a write can
--- change, and the word after a reset
+-- what the table says of a row: its name, how many indices it has, what an access does, which part of the device it
+-- belongs to, the bits that a write can change, and the word after a reset
 pub record Row : Type 0 where
   pub name : List ℕ
   pub count : ℕ
   pub kind : Kind
+  pub bank : Bank
   pub mask : ℕ
   pub reset : ℕ
 
-abbrev pub row : List ℕ → ℕ → Kind → ℕ → ℕ → Row
-row name count kind mask reset = record { name = name; count = count; kind = kind; mask = mask; reset = reset }
+abbrev pub row : List ℕ → ℕ → Kind → Bank → ℕ → ℕ → Row
+row name count kind bank mask reset =
+    record { name = name; count = count; kind = kind; bank = bank; mask = mask; reset = reset }

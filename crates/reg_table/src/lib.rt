@@ -10,6 +10,7 @@
 //! values (docs/REGISTERS.md).
 #![tactic(auto)]
 
+mod bank;
 mod counter;
 mod kind;
 mod laws;
@@ -19,6 +20,7 @@ mod rows;
 mod run;
 mod runs;
 
+pub use bank::Bank;
 pub use counter::bump;
 pub use kind::Kind;
 pub use laws::{
@@ -26,5 +28,5 @@ pub use laws::{
     runs_are_apart,
 };
 pub use place::{Place, addr_of, place_of, view_of};
-pub use row::{all_rows, count_of, kind_of, mask_of, name_of, reset_of, row_named};
+pub use row::{all_rows, bank_of, count_of, kind_of, mask_of, name_of, reset_of, row_named};
 pub use rows::RowId;

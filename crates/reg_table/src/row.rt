@@ -3,6 +3,7 @@ ghost use Rattle.reg_table.specs.Rows.{row_of, number_of, rows};
 ghost use Rattle.reg_table.specs.Named.{row_with_name};
 ghost use Rattle.reg_table.specs.declared.rows.RowId.{RowId};
 
+use crate::bank::Bank;
 use crate::kind::Kind;
 use crate::rows::{ROWS, RowId, entry_of};
 
@@ -12,6 +13,7 @@ pub(crate) struct Entry {
     pub(crate) name: &'static str,
     pub(crate) count: u16,
     pub(crate) kind: Kind,
+    pub(crate) bank: Bank,
     pub(crate) mask: u32,
     pub(crate) reset: u32,
 }
@@ -28,6 +30,13 @@ pub fn kind_of(row: RowId) -> Kind
     ensures { result ≡ (row_of row).kind }
 {
     entry_of(row).kind
+}
+
+/// Which part of the device the row belongs to.
+pub fn bank_of(row: RowId) -> Bank
+    ensures { result ≡ (row_of row).bank }
+{
+    entry_of(row).bank
 }
 
 /// The bits that a write can change.

@@ -309,23 +309,33 @@ unfolding rows
 {found}"""
 
 
-# The dispatch on addresses. A part is a range of addresses that one branch of it answers: the words of one run, or the
-# runs at equal steps that lie among one another, told apart by the address's remainder.
+# The dispatch on addresses: first by pages, then by ranges inside one. Its functions stay small, so that each is proved
+# in seconds.
 PAGE = 0x1000
 MOST_ARMS = 8
-STEPS = {4: "words", 8: "pairs", 64: "queues"}
+# The functions of access.rt that answer at an offset from a run's first address, by the run's stride.
+ANSWERS = {4: "words", 8: "pairs", 64: "queues"}
 
 
 class Part:
-    def __init__(self, low, high, runs):
-        self.low, self.high, self.runs = low, high, runs
-        self.stride = runs[0][2].stride
+    """A range of addresses that one branch answers: the words of one run, or runs at equal steps that lie among one
+    another and are told apart by the address's remainder. Each run comes with its row and its position in the list."""
 
-    def is_words(self):
-        return self.stride == 4
+    def __init__(self, low, high, members):
+        self.low, self.high, self.members = low, high, members
+        self.stride = members[0][2].stride
+        self.is_words = self.stride == 4
+
+    def meets(self, other):
+        return not self.is_words and self.stride == other.stride and self.low < other.high and other.low < self.high
+
+    def joined(self, others):
+        parts = others + [self]
+        members = [member for part in parts for member in part.members]
+        return Part(min(part.low for part in parts), max(part.high for part in parts), members)
 
     def within(self, low, high):
-        return Part(max(low, self.low), min(high, self.high), self.runs)
+        return Part(max(low, self.low), min(high, self.high), self.members)
 
 
 def last(run):
@@ -333,198 +343,202 @@ def last(run):
 
 
 def parts():
-    """The parts of the table, in the order of their addresses: each run comes with its position in the list of runs."""
+    """The parts of the table, in the order of their addresses."""
     found = []
     for k, (row, run) in enumerate(runs()):
-        assert run.stride in STEPS and not (run.low and run.stride != 4), row.name
-        low = run.first - run.first % run.stride if run.stride != 4 else run.first
-        high = last(run) - last(run) % run.stride + run.stride if run.stride != 4 else last(run) + 4
-        among = [part for part in found if part.stride == run.stride and low < part.high and part.low < high and run.stride != 4]
-        found = [part for part in found if part not in among]
-        joined = [member for part in among for member in part.runs] + [(k, row, run)]
-        found.append(Part(min([low] + [p.low for p in among]), max([high] + [p.high for p in among]), joined))
+        assert run.stride in ANSWERS and (run.stride == 4 or not run.low), row.name
+        # An address of a word has the remainder 0 by 4, so that a run of words begins and ends at its own addresses.
+        part = Part(run.first - run.first % run.stride, last(run) - last(run) % run.stride + run.stride, [(k, row, run)])
+        met = [other for other in found if part.meets(other)]
+        found = [other for other in found if other not in met] + [part.joined(met)]
     found.sort(key=lambda part: part.low)
     for before, after in zip(found, found[1:]):
-        assert before.high <= after.low, (hex(after.low), after.runs[0][1].name)
+        assert before.high <= after.low, (hex(after.low), after.members[0][1].name)
     return found
 
 
+def between(low, high, ranges):
+    """What lies from low up to high and in none of the ranges, which stand in order."""
+    starts, ends = [low] + [end for _, end in ranges], [start for start, _ in ranges] + [high]
+    return [(start, end) for start, end in zip(starts, ends) if start < end]
+
+
 class Function:
-    """A function of the dispatch: what it requires of the address, its arms, and the lemmas that it is proved by."""
+    """A function of the dispatch: which addresses it takes, its arms, and the lemmas that it is proved by."""
 
-    def __init__(self, name, low, high, remainder=None):
-        self.name, self.low, self.high, self.remainder = name, low, high, remainder
-        self.scrutinee, self.arms, self.lemmas, self.whole = "address", [], [], False
+    def __init__(self, name, low, high, remainder=None, matched="address"):
+        self.name, self.low, self.high, self.remainder, self.matched = name, low, high, remainder, matched
+        self.arms, self.lemmas = [], []
+        # Whether the arms leave no address out.
+        self.whole = False
 
-
-def hit(function, low, high, member, remainder=None):
-    """An arm that answers by one run, and its lemma."""
-    k, row, run = member
-    at = f"at_{low:05X}" + (f"_{remainder[1]:02X}" if remainder else "")
-    call = STEPS[run.stride] if not run.low else "low_words"
-    view = "0xFFFF" if run.low else "0xFFFFFFFF"
-    literal = f"(run {row.variant} 0x{run.first:05X} {run.stride} {run.first_index} {run.count} {str(run.low).lower()})"
-    step = f"0x{remainder[1]:02X} ≤ a % {run.stride} → a % {run.stride} < 0x{remainder[2]:02X} → " if remainder else ""
-    lemma = "steps" if remainder else "words"
-    function.lemmas.append(at)
-    HITS.append(
-        f"pub {at} : (a : ℕ) → 0x{low:05X} ≤ a → a < 0x{high:05X} → {step}a % 4 ≡ 0\n"
-        f"    → access_at a ≡ Some (access {row.variant} ({run.first_index} + (a - 0x{run.first:05X}) / {run.stride}) {view})\n"
-        f"unfolding runs\n"
-        f"{at} = {lemma}_at {k} {literal} 0x{low:05X} 0x{high:05X} refl refl refl refl\n"
-    )
-    offset = f"address - 0x{run.first:05X}" if run.first else "address"
-    return f"{call}(RowId::{row.variant}, {run.first_index}, {offset})"
+    def ranges(self):
+        return [(low, high) for low, high, _ in self.arms]
 
 
-def gap(function, low, high, remainder=None):
-    """The lemma that a range of addresses, or of remainders, names nothing."""
-    if remainder:
-        m, x, y = remainder
-        name = f"gap_{low:05X}_{x:02X}"
-        step, proof = f"0x{x:02X} ≤ a % {m} → a % {m} < 0x{y:02X} → ", f"no_steps_at {m} 0x{x:02X} 0x{y:02X} 0x{low:05X} 0x{high:05X}"
-    else:
-        name, step, proof = f"gap_{low:05X}", "", f"no_words_at 0x{low:05X} 0x{high:05X}"
-    function.lemmas.append(name)
-    GAPS.append(
-        f"pub {name} : (a : ℕ) → 0x{low:05X} ≤ a → a < 0x{high:05X} → {step}access_at a ≡ None\n"
-        f"unfolding runs\n{name} a = {proof} a refl\n"
-    )
+class Dispatch:
+    """All functions of the dispatch, and the lemmas that they are proved by: of addresses that name a word, and of
+    those between."""
 
+    def __init__(self):
+        self.functions, self.hits, self.gaps = [], [], []
+        self.lay_out_pages(parts())
 
-HITS, GAPS, FUNCTIONS = [], [], []
+    def function(self, *words, **more):
+        self.functions.append(Function(*words, **more))
+        return self.functions[-1]
 
+    def lay_out_pages(self, table):
+        """Runs at equal steps that fill pages share one function; each other page that names a word has its own."""
+        top = self.function("aligned", None, None, matched=f"address / 0x{PAGE:X}")
+        filling = {part.low: part.high for part in table if not part.is_words and part.low % PAGE == 0 == part.high % PAGE}
+        low = 0
+        while low < table[-1].high:
+            high = filling.get(low, low + PAGE)
+            inside = [part.within(low, high) for part in table if part.low < high and low < part.high]
+            if inside:
+                name = f"page_{low // PAGE:02x}"
+                top.arms.append((low // PAGE, high // PAGE, f"{name}(address)"))
+                self.lay_out(name, low, high, inside)
+            low = high
+        for start, end in between(0, 1 << 32, [(low * PAGE, high * PAGE) for low, high in top.ranges()]):
+            self.gap(top, start, end)
 
-def gaps(function, low, high, ranges, **more):
-    for start, end in zip([low] + [r[1] for r in ranges], [r[0] for r in ranges] + [high]):
-        if start < end:
-            gap(function, start, end, **more)
+    def lay_out(self, name, low, high, inside):
+        """The function for the addresses from low up to high, in which these parts lie."""
+        if (inside[0].low, inside[0].high) == (low, high) and not inside[0].is_words:
+            self.lay_out_steps(name, inside[0])
+        elif len(inside) > MOST_ARMS:
+            self.lay_out_groups(name, low, high, inside)
+        else:
+            function = self.function(name, low, high)
+            for part in inside:
+                if part.is_words:
+                    function.arms.append((part.low, part.high, self.hit(function, part.low, part.high, part.members[0])))
+                else:
+                    function.arms.append((part.low, part.high, f"steps_{part.low:05x}(address)"))
+                    self.lay_out_steps(f"steps_{part.low:05x}", part)
+            for start, end in between(low, high, function.ranges()):
+                self.gap(function, start, end)
 
-
-def lay_out(name, low, high, inside):
-    """The function for the addresses from low up to high, whose parts these are."""
-    if len(inside) == 1 and not inside[0].is_words() and (inside[0].low, inside[0].high) == (low, high):
-        return lay_out_steps(name, inside[0])
-    function = Function(name, low, high)
-    FUNCTIONS.append(function)
-    if len(inside) > MOST_ARMS:
+    def lay_out_groups(self, name, low, high, inside):
+        """A function that tells groups of parts apart, and one for each group."""
+        function = self.function(name, low, high)
+        function.whole = True
         groups = -(-len(inside) // MOST_ARMS)
         size = -(-len(inside) // groups)
         chunks = [inside[i : i + size] for i in range(0, len(inside), size)]
         starts = [low] + [chunk[0].low for chunk in chunks[1:]] + [high]
         for chunk, start, end in zip(chunks, starts, starts[1:]):
             function.arms.append((start, end, f"from_{start:05x}(address)"))
-            lay_out(f"from_{start:05x}", start, end, chunk)
-        function.whole = True
-        return
-    for part in inside:
-        if part.is_words():
-            function.arms.append((part.low, part.high, hit(function, part.low, part.high, part.runs[0])))
-        else:
-            function.arms.append((part.low, part.high, f"steps_{part.low:05x}(address)"))
-            lay_out_steps(f"steps_{part.low:05x}", part)
-    gaps(function, low, high, [arm[:2] for arm in function.arms])
+            self.lay_out(f"from_{start:05x}", start, end, chunk)
+
+    def lay_out_steps(self, name, part):
+        """The function that tells runs at equal steps apart, by the address's remainder."""
+        stride = part.stride
+        function = self.function(name, part.low, part.high, matched=f"address % {stride}")
+        for x in sorted({run.first % stride for _, _, run in part.members}):
+            rest = (stride, x, x + 4)
+            blocks = []
+            for member in part.members:
+                run = member[2]
+                low, high = max(part.low, run.first - x), min(part.high, last(run) - x + stride)
+                if run.first % stride == x and low < high:
+                    blocks.append((low, high, member))
+            blocks.sort(key=lambda block: block[0])
+            if [block[:2] for block in blocks] == [(part.low, part.high)]:
+                answer = self.hit(function, part.low, part.high, blocks[0][2], rest)
+            elif blocks:
+                answer = f"{name}_{x:02x}(address)"
+                some = self.function(f"{name}_{x:02x}", part.low, part.high, rest)
+                some.arms = [(low, high, self.hit(some, low, high, member, rest)) for low, high, member in blocks]
+                for start, end in between(part.low, part.high, some.ranges()):
+                    self.gap(some, start, end, rest)
+            if blocks:
+                function.arms.append((x, x + 4, answer))
+        for start, end in between(0, stride, function.ranges()):
+            self.gap(function, part.low, part.high, (stride, start, end))
+
+    def hit(self, function, low, high, member, rest=None):
+        """The call that answers by a run, where its addresses are those from low up to high with a remainder, if one is
+        named. Adds the lemma that says so."""
+        k, row, run = member
+        name = f"at_{low:05X}" + (f"_{rest[1]:02X}" if rest else "")
+        view = "0xFFFF" if run.low else "0xFFFFFFFF"
+        made = f"(run {row.variant} 0x{run.first:05X} {run.stride} {run.first_index} {run.count} {str(run.low).lower()})"
+        function.lemmas.append(name)
+        self.hits.append(
+            f"pub {name} : (a : ℕ) → 0x{low:05X} ≤ a → a < 0x{high:05X} → {remainder_is(rest)}a % 4 ≡ 0\n"
+            f"    → access_at a ≡ Some (access {row.variant} ({run.first_index} + (a - 0x{run.first:05X}) / {run.stride}) {view})\n"
+            f"unfolding runs\n"
+            f"{name} = {'steps_at' if rest else 'words_at'} {k} {made} 0x{low:05X} 0x{high:05X} refl refl refl refl\n"
+        )
+        offset = f"address - 0x{run.first:05X}" if run.first else "address"
+        return f"{'low_' if run.low else ''}{ANSWERS[run.stride]}(RowId::{row.variant}, {run.first_index}, {offset})"
+
+    def gap(self, function, low, high, rest=None):
+        """Adds the lemma that addresses from low up to high, with a remainder if one is named, name nothing."""
+        name = f"gap_{low:05X}" + (f"_{rest[1]:02X}" if rest else "")
+        lemma = f"no_steps_at {rest[0]} 0x{rest[1]:02X} 0x{rest[2]:02X}" if rest else "no_words_at"
+        function.lemmas.append(name)
+        self.gaps.append(
+            f"pub {name} : (a : ℕ) → 0x{low:05X} ≤ a → a < 0x{high:05X} → {remainder_is(rest)}access_at a ≡ None\n"
+            f"unfolding runs\n"
+            f"{name} a = {lemma} 0x{low:05X} 0x{high:05X} a refl\n"
+        )
 
 
-def lay_out_steps(name, part):
-    """The function for the addresses of runs that lie among one another."""
-    function = Function(name, part.low, part.high)
-    FUNCTIONS.append(function)
-    m = part.stride
-    function.scrutinee = f"address % {m}"
-    taken = []
-    for x in sorted({run.first % m for _, _, run in part.runs}):
-        members = [member for member in part.runs if member[2].first % m == x]
-        blocks = sorted((max(part.low, run.first - x), min(part.high, last(run) - x + m), member) for member in members for run in [member[2]])
-        blocks = [block for block in blocks if block[0] < block[1]]
-        if not blocks:
-            continue
-        taken.append((x, x + 4))
-        if blocks[0][:2] == (part.low, part.high):
-            function.arms.append((x, x + 4, hit(function, part.low, part.high, blocks[0][2], remainder=(m, x, x + 4))))
-            continue
-        some = Function(f"{name}_{x:02x}", part.low, part.high, (m, x, x + 4))
-        FUNCTIONS.append(some)
-        for low, high, member in blocks:
-            some.arms.append((low, high, hit(some, low, high, member, remainder=(m, x, x + 4))))
-        for start, end in zip([part.low] + [b[1] for b in blocks], [b[0] for b in blocks] + [part.high]):
-            if start < end:
-                gap(some, start, end, remainder=(m, x, x + 4))
-        function.arms.append((x, x + 4, f"{some.name}(address)"))
-    for start, end in zip([0] + [r[1] for r in taken], [r[0] for r in taken] + [m]):
-        if start < end:
-            gap(function, part.low, part.high, remainder=(m, start, end))
-
-
-def lay_out_table():
-    """The whole dispatch: first by pages, where runs at equal steps that fill pages share a function."""
-    top = Function("aligned", None, None)
-    top.scrutinee = "address / 0x1000"
-    FUNCTIONS.append(top)
-    table, page = parts(), 0
-    while page * PAGE < table[-1].high:
-        end = page + 1
-        for part in table:
-            if not part.is_words() and part.low % PAGE == 0 and part.high % PAGE == 0 and part.low == page * PAGE:
-                end = part.high // PAGE
-        low, high = page * PAGE, end * PAGE
-        inside = [part.within(low, high) for part in table if part.low < high and low < part.high]
-        if inside:
-            top.arms.append((page, end, f"page_{page:02x}(address)"))
-            lay_out(f"page_{page:02x}", low, high, inside)
-        page = end
-    gaps(top, 0, 1 << 32, [(low * PAGE, high * PAGE) for low, high, _ in top.arms])
-
-
-lay_out_table()
+def remainder_is(rest):
+    return f"0x{rest[1]:02X} ≤ a % {rest[0]} → a % {rest[0]} < 0x{rest[2]:02X} → " if rest else ""
 
 
 def rust_function(function):
-    if function.low is None:
-        head, requires = "/// The access of an address that is a multiple of 4.\n", ""
-    else:
-        head = f"/// The access of an address from 0x{function.low:05X} to 0x{function.high - 1:05X}"
-        head += f" whose remainder by {function.remainder[0]} is {function.remainder[1]}.\n" if function.remainder else ".\n"
-        requires = (f"    requires from {{ 0x{function.low:05X} ≤ address }}\n" if function.low else "") + f"    requires below {{ address < 0x{function.high:05X} }}\n"
+    about, requires = "that is a multiple of 4", ""
+    if function.low is not None:
+        about = f"from 0x{function.low:05X} to 0x{function.high - 1:05X}"
+        requires += f"    requires from {{ 0x{function.low:05X} ≤ address }}\n" if function.low else ""
+        requires += f"    requires below {{ address < 0x{function.high:05X} }}\n"
     if function.remainder:
-        m, x, y = function.remainder
-        requires += f"    requires step_from {{ 0x{x:02X} ≤ address % {m} }}\n    requires step_below {{ address % {m} < 0x{y:02X} }}\n"
-    width = 5 if function.scrutinee == "address" else 2
-    arms = ""
-    for n, (low, high, call) in enumerate(function.arms):
-        end = f"=0x{high - 1:0{width}X}"
-        if function.whole and n == len(function.arms) - 1:
-            end = ""
-        start = "" if function.whole and n == 0 else f"0x{low:0{width}X}"
-        arms += f"        {start}..{end} => {call},\n"
-    if not function.whole:
-        arms += "        _ => None,\n"
+        stride, start, end = function.remainder
+        about += f" whose remainder by {stride} is {start}"
+        requires += f"    requires rest_from {{ 0x{start:02X} ≤ address % {stride} }}\n"
+        requires += f"    requires rest_below {{ address % {stride} < 0x{end:02X} }}\n"
     using = f"#[tactic(auto, using(crate::proofs::Arms::{function.name}))]\n" if function.lemmas else ""
     shown = "pub(crate) " if function.low is None else ""
-    return f"""{head}{using}{shown}fn {function.name}(address: u32) -> Option<Access>
+    return f"""/// The access of an address {about}.
+{using}{shown}fn {function.name}(address: u32) -> Option<Access>
 {requires}    requires whole {{ address % 4 ≡ 0 }}
     ensures {{ result ≡ access_at address }}
 {{
-    match {function.scrutinee} {{
-{arms}    }}
+    match {function.matched} {{
+{rust_arms(function)}    }}
 }}
 """
 
 
-def rust_dispatch():
-    calls = sorted({STEPS[run.stride] if not run.low else "low_words" for _, run in runs()})
-    body = "\n".join(rust_function(function) for function in FUNCTIONS)
+def rust_arms(function):
+    width = 5 if function.matched == "address" else 2
+    ranges = [(f"0x{low:0{width}X}", f"=0x{high - 1:0{width}X}") for low, high in function.ranges()]
+    if function.whole:
+        ranges[0], ranges[-1] = ("", ranges[0][1]), (ranges[-1][0], "")
+    arms = "".join(f"        {start}..{end} => {arm[2]},\n" for (start, end), arm in zip(ranges, function.arms))
+    return arms if function.whole else arms + "        _ => None,\n"
+
+
+def rust_dispatch(dispatch):
+    calls = {ANSWERS[run.stride] if not run.low else "low_words" for _, run in runs()}
+    body = "\n".join(rust_function(function) for function in dispatch.functions)
     return f"""// generated by tools/register_table.py
 ghost use Rattle.std.specs.Prelude.{{◌≡◌, ◌<◌, ◌≤◌, ◌%◌}};
 ghost use Rattle.reg_table.specs.Access.{{access_at}};
 
-use crate::access::{{Access, {", ".join(calls)}}};
+use crate::access::{{Access, {", ".join(sorted(calls))}}};
 use crate::rows::RowId;
 
 {body}"""
 
 
-def proof_hits():
+def proof_hits(dispatch):
     return f"""{GENERATED}
 use Rattle.std.proofs.Common.{{◌≡◌, ℕ, ◌+◌, ◌-◌, ◌/◌, ◌%◌, ◌<◌, ◌≤◌, true, false, Some, refl}}
 use Rattle.reg_table.specs.declared.rows.RowId.TheVariants.{{{variants()}}}
@@ -533,22 +547,23 @@ use Rattle.reg_table.specs.Runs.{{runs}}
 use Rattle.reg_table.specs.Access.{{access, access_at}}
 use Rattle.reg_table.proofs.Reached.{{words_at, steps_at}}
 
-{chr(10).join(HITS)}"""
+{chr(10).join(dispatch.hits)}"""
 
 
-def proof_gaps():
+def proof_gaps(dispatch):
     return f"""{GENERATED}
 use Rattle.std.proofs.Common.{{◌≡◌, ℕ, ◌%◌, ◌<◌, ◌≤◌, None, refl}}
 use Rattle.reg_table.specs.Runs.{{runs}}
 use Rattle.reg_table.specs.Access.{{access_at}}
 use Rattle.reg_table.proofs.Missed.{{no_words_at, no_steps_at}}
 
-{chr(10).join(GAPS)}"""
+{chr(10).join(dispatch.gaps)}"""
 
 
-def proof_arms():
-    sets = "\n\n".join(f"pub ruleset {function.name} = ({', '.join(function.lemmas)})" for function in FUNCTIONS if function.lemmas)
-    names = [name for function in FUNCTIONS for name in function.lemmas]
+def proof_arms(dispatch):
+    proved = [function for function in dispatch.functions if function.lemmas]
+    names = [name for function in proved for name in function.lemmas]
+    sets = "\n\n".join(f"pub ruleset {function.name} = ({', '.join(function.lemmas)})" for function in proved)
     return f"""{GENERATED}
 use Rattle.reg_table.proofs.Hits.{{{", ".join(name for name in names if name.startswith("at"))}}}
 use Rattle.reg_table.proofs.Gaps.{{{", ".join(name for name in names if name.startswith("gap"))}}}
@@ -665,18 +680,18 @@ def register_page():
 
 
 def outputs():
-    crate = ROOT / "crates/reg_table"
+    crate, dispatch = ROOT / "crates/reg_table", Dispatch()
     return {
         crate / "src/rows.rt": rust_rows(),
         crate / "specs/Rows.antt": spec_rows(),
         crate / "specs/Runs.antt": spec_runs(),
-        crate / "src/dispatch.rt": rust_dispatch(),
+        crate / "src/dispatch.rt": rust_dispatch(dispatch),
         crate / "src/first_addresses.rt": rust_first_addresses(),
         crate / "specs/FirstAddresses.antt": spec_first_addresses(),
         crate / "proofs/Numbers.antt": proof_rows(),
-        crate / "proofs/Hits.antt": proof_hits(),
-        crate / "proofs/Gaps.antt": proof_gaps(),
-        crate / "proofs/Arms.antt": proof_arms(),
+        crate / "proofs/Hits.antt": proof_hits(dispatch),
+        crate / "proofs/Gaps.antt": proof_gaps(dispatch),
+        crate / "proofs/Arms.antt": proof_arms(dispatch),
         ROOT / "docs/REGISTERS.md": register_page(),
     }
 

@@ -1,7 +1,8 @@
 -- The place and the view that an access of an address meets.
-use Rattle.std.proofs.Common.{◌≡◌, ℕ, ◌%◌, ◌<◌, ◌≢◌, ◌↔◌, Bool, true, false, List, [], ◌∷◌, Option, Some, None, if◌then◌else◌, refl, ap, sym, ◌∙◌, inl, inr, arith, ◌⊎◌}
+use Rattle.std.proofs.Common.{◌≡◌, ℕ, ◌%◌, ◌<◌, ◌≢◌, ◌↔◌, Bool, true, false, List, [], ◌∷◌, Option, Some, None, if◌then◌else◌, refl, ap, sym, ◌∙◌, subst, inl, inr, arith, ◌⊎◌}
 use Rattle.std.specs.Prelude.{IfSome}
 use Rattle.std.specs.List.{list_all}
+use Rattle.std.specs.Option.{option_map}
 use Rattle.std.proofs.lemmas.Bool.{cases_Bool, cond-true, cond-false, and_parts, false_from_ne_true}
 use Rattle.reg_table.specs.declared.place.Place.{Place}
 use Rattle.reg_table.specs.declared.access.Access.{Access}
@@ -20,29 +21,38 @@ pub no_part_of_a_word : (a : ℕ) → a % 4 ≢ 0 → access_at a ≡ None
 no_part_of_a_word a odd =
     ap (λ o. access_of o (view_among runs a)) ((missed-free a).1 (λ p n. odd (whole_words a p n)))
 
-pub place_met : (o : Option Place) (v : ℕ) (x : Access) → Some x ≡ access_of o v → o ≡ Some x.place
-place_met None v x e = cc
-place_met (Some p) v x e = ap (λ y. Some y) (cc)
+places_of : (o : Option Place) (v : ℕ) → option_map (λ x. x.place) (access_of o v) ≡ o
+places_of None v = refl
+places_of (Some p) v = refl
 
-pub view_met : (o : Option Place) (v : ℕ) (x : Access) → Some x ≡ access_of o v → x.view ≡ v
-view_met None v x e = cc
-view_met (Some p) v x e = cc
+views_of : (o : Option Place) (v : ℕ) → IfSome (access_of o v) (λ x. x.view ≡ v)
+views_of None v = tt
+views_of (Some p) v = refl
 
-pub nothing_met : (o : Option Place) (v : ℕ) → None ≡ access_of o v → o ≡ None
-nothing_met None v e = refl
-nothing_met (Some p) v e = cc
+in_range_of : (o : Option Place) (v : ℕ) → IfSome o (λ p. p.index < (row_of p.row).count)
+    → IfSome (access_of o v) (λ x. x.place.index < (row_of x.place.row).count)
+in_range_of None v h = tt
+in_range_of (Some p) v h = h
 
-in_range_if : (o : Option Access) (a : ℕ) → o ≡ access_at a → IfSome o (λ x. x.place.index < (row_of x.place.row).count)
-in_range_if None a e = tt
-in_range_if (Some x) a e =
-    named_in_range a x.place ((found-named a x.place).0 (place_met (place_among runs a) (view_among runs a) x e))
+found_in_range : (a : ℕ) (o : Option Place) → place_among runs a ≡ o → IfSome o (λ p. p.index < (row_of p.row).count)
+found_in_range a None e = tt
+found_in_range a (Some p) e = named_in_range a p ((found-named a p).0 e)
 
--- an access that is met has a place with an index of its row
-pub access_in_range : (o : Option Access) (a : ℕ) → o ≡ access_at a
+-- an access that is met has the place that the address names
+pub place_met : (o : Option Access) (a : ℕ) → o ≡ access_at a → option_map (λ x. x.place) o ≡ place_among runs a
+place_met o a e = ap (option_map (λ x. x.place)) e ∙ places_of (place_among runs a) (view_among runs a)
+
+-- it has the view of the address
+pub view_met : (o : Option Access) (a : ℕ) → o ≡ access_at a → IfSome o (λ x. x.view ≡ view_among runs a)
+view_met o a e =
+    subst (λ y. IfSome y (λ x. x.view ≡ view_among runs a)) (sym e) (views_of (place_among runs a) (view_among runs a))
+
+-- its place has an index of its row
+pub in_range_met : (o : Option Access) (a : ℕ) → o ≡ access_at a
     → IfSome o (λ x. x.place.index < (row_of x.place.row).count)
-access_in_range o a e = in_range_if o a e
-
-pub ruleset resolving = (no_part_of_a_word, access_in_range)
+in_range_met o a e =
+    subst (λ y. IfSome y (λ x. x.place.index < (row_of x.place.row).count)) (sym e)
+    (in_range_of (place_among runs a) (view_among runs a) (found_in_range a (place_among runs a) refl))
 
 whole_where_none : (rs : List Run) (a : ℕ) → place_among rs a ≡ None → view_among rs a ≡ 0xFFFFFFFF
 whole_where_none [] a e = refl
@@ -113,18 +123,9 @@ whole_where a = (
   ],
 )
 
-pub place_found : (a : ℕ) (o : Option Access) (x : Access) → o ≡ access_at a → o ≡ Some x
-    → Some x.place ≡ place_among runs a
-place_found a o x e is = sym (place_met (place_among runs a) (view_among runs a) x (sym is ∙ e))
-
-pub place_missed : (a : ℕ) (o : Option Access) → o ≡ access_at a → o ≡ None → None ≡ place_among runs a
-place_missed a o e is = sym (nothing_met (place_among runs a) (view_among runs a) (sym is ∙ e))
-
-pub view_found : (a : ℕ) (o : Option Access) (x : Access) → o ≡ access_at a → o ≡ Some x → x.view ≡ view_among runs a
-view_found a o x e is = view_met (place_among runs a) (view_among runs a) x (sym is ∙ e)
-
-pub view_missed : (a : ℕ) (o : Option Access) → o ≡ access_at a → o ≡ None → 0xFFFFFFFF ≡ view_among runs a
-view_missed a o e is = sym (whole_where_none runs a (sym (place_missed a o e is)))
+-- where an address names nothing, its view is whole
+pub view_of_nothing : (a : ℕ) → None ≡ place_among runs a → 0xFFFFFFFF ≡ view_among runs a
+view_of_nothing a e = sym (whole_where_none runs a (sym e))
 
 -- an answer that is the found place is exactly what the address names
 pub exact_if : (a : ℕ) (o : Option Place) → o ≡ place_among runs a → (p : Place) → (o ≡ Some p) ↔ Names a p

@@ -1,5 +1,8 @@
 ghost use Rattle.std.specs.Prelude.{◌≡◌, ◌<◌, ◌+◌, ◌/◌, Some, IfSome};
+ghost use Rattle.std.specs.Option.{option_map};
 ghost use Rattle.reg_table.specs.Rows.{row_of};
+ghost use Rattle.reg_table.specs.Runs.{runs};
+ghost use Rattle.reg_table.specs.Place.{place_among, view_among};
 ghost use Rattle.reg_table.specs.Access.{access, access_at};
 
 use crate::dispatch::aligned;
@@ -17,10 +20,19 @@ pub struct Access {
 
 /// The place that an address names, with the bits that show there: both by one dispatch on the address. `None` exactly
 /// where no place has the address; an address that is no multiple of 4 names none.
-#[tactic(auto, using(crate::proofs::Views::resolving))]
 pub fn resolve(address: u32) -> Option<Access>
     ensures value { result ≡ access_at address }
+    ensures place { option_map (λ x. x.place) result ≡ place_among runs address }
+    ensures view { IfSome result (λ x. x.view ≡ view_among runs address) }
     ensures in_range { IfSome result (λ x. x.place.index < (row_of x.place.row).count) }
+{
+    at(address)
+}
+
+/// The same, as the table alone says it.
+#[tactic(auto, using(crate::proofs::Views::no_part_of_a_word))]
+fn at(address: u32) -> Option<Access>
+    ensures { result ≡ access_at address }
 {
     if address % 4 != 0 {
         return None;

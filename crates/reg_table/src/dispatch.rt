@@ -130,8 +130,8 @@ fn page_01(address: u32) -> Option<Access>
 fn page_01_30(address: u32) -> Option<Access>
     requires from { 0x01000 ≤ address }
     requires below { address < 0x02000 }
-    requires step_from { 0x30 ≤ address % 64 }
-    requires step_below { address % 64 < 0x34 }
+    requires rest_from { 0x30 ≤ address % 64 }
+    requires rest_below { address % 64 < 0x34 }
     requires whole { address % 4 ≡ 0 }
     ensures { result ≡ access_at address }
 {
@@ -314,8 +314,8 @@ fn page_06(address: u32) -> Option<Access>
 fn page_06_30(address: u32) -> Option<Access>
     requires from { 0x06000 ≤ address }
     requires below { address < 0x08000 }
-    requires step_from { 0x30 ≤ address % 64 }
-    requires step_below { address % 64 < 0x34 }
+    requires rest_from { 0x30 ≤ address % 64 }
+    requires rest_below { address % 64 < 0x34 }
     requires whole { address % 4 ≡ 0 }
     ensures { result ≡ access_at address }
 {

@@ -312,7 +312,7 @@ unfolding rows
 # The dispatch on addresses: first by pages, then by ranges inside one. Its functions stay small, so that each is proved
 # in seconds.
 PAGE = 0x1000
-MOST_ARMS = 8
+MOST_ARMS = 12
 # The functions of access.rt that answer at an offset from a run's first address, by the run's stride.
 ANSWERS = {4: "words", 8: "pairs", 64: "queues"}
 
@@ -389,17 +389,23 @@ class Dispatch:
         return self.functions[-1]
 
     def lay_out_pages(self, table):
-        """Runs at equal steps that fill pages share one function; each other page that names a word has its own."""
+        """Runs at equal steps that fill pages share one function, and so do neighbouring pages of few parts."""
         top = self.function("aligned", None, None, matched=f"address / 0x{PAGE:X}")
         filling = {part.low: part.high for part in table if not part.is_words and part.low % PAGE == 0 == part.high % PAGE}
         low = 0
         while low < table[-1].high:
             high = filling.get(low, low + PAGE)
             inside = [part.within(low, high) for part in table if part.low < high and low < part.high]
+            while low not in filling and inside and high not in filling and high < table[-1].high:
+                more = [part.within(low, high + PAGE) for part in table if part.low < high + PAGE and low < part.high]
+                if len(more) > MOST_ARMS:
+                    break
+                inside, high = more, high + PAGE
             if inside:
+                end = -(-inside[-1].high // PAGE) * PAGE
                 name = f"page_{low // PAGE:02x}"
-                top.arms.append((low // PAGE, high // PAGE, f"{name}(address)"))
-                self.lay_out(name, low, high, inside)
+                top.arms.append((low // PAGE, end // PAGE, f"{name}(address)"))
+                self.lay_out(name, low, end, inside)
             low = high
         for start, end in between(0, 1 << 32, [(low * PAGE, high * PAGE) for low, high in top.ranges()]):
             self.gap(top, start, end)

@@ -216,13 +216,9 @@ pub gap_08124 : (a : ℕ) → 0x08124 ≤ a → a < 0x08600 → access_at a ≡ 
 unfolding runs
 gap_08124 a = no_words_at 0x08124 0x08600 a refl
 
-pub gap_08680 : (a : ℕ) → 0x08680 ≤ a → a < 0x09000 → access_at a ≡ None
+pub gap_08680 : (a : ℕ) → 0x08680 ≤ a → a < 0x0A200 → access_at a ≡ None
 unfolding runs
-gap_08680 a = no_words_at 0x08680 0x09000 a refl
-
-pub gap_0A000 : (a : ℕ) → 0x0A000 ≤ a → a < 0x0A200 → access_at a ≡ None
-unfolding runs
-gap_0A000 a = no_words_at 0x0A000 0x0A200 a refl
+gap_08680 a = no_words_at 0x08680 0x0A200 a refl
 
 pub gap_0AA00 : (a : ℕ) → 0x0AA00 ≤ a → a < 0x0B000 → access_at a ≡ None
 unfolding runs
@@ -248,21 +244,13 @@ pub gap_0EBA8 : (a : ℕ) → 0x0EBA8 ≤ a → a < 0x0EC80 → access_at a ≡ 
 unfolding runs
 gap_0EBA8 a = no_words_at 0x0EBA8 0x0EC80 a refl
 
-pub gap_0EC84 : (a : ℕ) → 0x0EC84 ≤ a → a < 0x0F000 → access_at a ≡ None
+pub gap_0EC84 : (a : ℕ) → 0x0EC84 ≤ a → a < 0x11050 → access_at a ≡ None
 unfolding runs
-gap_0EC84 a = no_words_at 0x0EC84 0x0F000 a refl
+gap_0EC84 a = no_words_at 0x0EC84 0x11050 a refl
 
-pub gap_11000 : (a : ℕ) → 0x11000 ≤ a → a < 0x11050 → access_at a ≡ None
+pub gap_11054 : (a : ℕ) → 0x11054 ≤ a → a < 0x12300 → access_at a ≡ None
 unfolding runs
-gap_11000 a = no_words_at 0x11000 0x11050 a refl
-
-pub gap_11054 : (a : ℕ) → 0x11054 ≤ a → a < 0x12000 → access_at a ≡ None
-unfolding runs
-gap_11054 a = no_words_at 0x11054 0x12000 a refl
-
-pub gap_12000 : (a : ℕ) → 0x12000 ≤ a → a < 0x12300 → access_at a ≡ None
-unfolding runs
-gap_12000 a = no_words_at 0x12000 0x12300 a refl
+gap_11054 a = no_words_at 0x11054 0x12300 a refl
 
 pub gap_124A0 : (a : ℕ) → 0x124A0 ≤ a → a < 0x12500 → access_at a ≡ None
 unfolding runs
@@ -272,17 +260,9 @@ pub gap_12600 : (a : ℕ) → 0x12600 ≤ a → a < 0x13000 → access_at a ≡ 
 unfolding runs
 gap_12600 a = no_words_at 0x12600 0x13000 a refl
 
-pub gap_09000 : (a : ℕ) → 0x09000 ≤ a → a < 0x0A000 → access_at a ≡ None
-unfolding runs
-gap_09000 a = no_words_at 0x09000 0x0A000 a refl
-
 pub gap_0B000 : (a : ℕ) → 0x0B000 ≤ a → a < 0x0D000 → access_at a ≡ None
 unfolding runs
 gap_0B000 a = no_words_at 0x0B000 0x0D000 a refl
-
-pub gap_0F000 : (a : ℕ) → 0x0F000 ≤ a → a < 0x11000 → access_at a ≡ None
-unfolding runs
-gap_0F000 a = no_words_at 0x0F000 0x11000 a refl
 
 pub gap_13000 : (a : ℕ) → 0x13000 ≤ a → a < 0x100000000 → access_at a ≡ None
 unfolding runs

@@ -14,17 +14,13 @@ pub(crate) fn aligned(address: u32) -> Option<Access>
     match address / 0x1000 {
         0x00..=0x00 => page_00(address),
         0x01..=0x01 => page_01(address),
-        0x02..=0x02 => page_02(address),
-        0x03..=0x03 => page_03(address),
+        0x02..=0x03 => page_02(address),
         0x04..=0x04 => page_04(address),
         0x05..=0x05 => page_05(address),
         0x06..=0x07 => page_06(address),
-        0x08..=0x08 => page_08(address),
-        0x0A..=0x0A => page_0a(address),
+        0x08..=0x0A => page_08(address),
         0x0D..=0x0D => page_0d(address),
-        0x0E..=0x0E => page_0e(address),
-        0x11..=0x11 => page_11(address),
-        0x12..=0x12 => page_12(address),
+        0x0E..=0x12 => page_0e(address),
         _ => None,
     }
 }
@@ -36,16 +32,15 @@ fn page_00(address: u32) -> Option<Access>
     ensures { result ≡ access_at address }
 {
     match address {
-        ..=0x0081F => from_00000(address),
-        0x00820..=0x00A9F => from_00820(address),
-        0x00AA0.. => from_00aa0(address),
+        ..=0x00897 => from_00000(address),
+        0x00898.. => from_00898(address),
     }
 }
 
-/// The access of an address from 0x00000 to 0x0081F.
+/// The access of an address from 0x00000 to 0x00897.
 #[tactic(auto, using(crate::proofs::Arms::from_00000))]
 fn from_00000(address: u32) -> Option<Access>
-    requires below { address < 0x00820 }
+    requires below { address < 0x00898 }
     requires whole { address % 4 ≡ 0 }
     ensures { result ≡ access_at address }
 {
@@ -58,40 +53,27 @@ fn from_00000(address: u32) -> Option<Access>
         0x00800..=0x00803 => words(RowId::Eicr, 0, address - 0x00800),
         0x00808..=0x0080B => words(RowId::Eics, 0, address - 0x00808),
         0x00810..=0x00813 => words(RowId::Eiac, 0, address - 0x00810),
-        _ => None,
-    }
-}
-
-/// The access of an address from 0x00820 to 0x00A9F.
-#[tactic(auto, using(crate::proofs::Arms::from_00820))]
-fn from_00820(address: u32) -> Option<Access>
-    requires from { 0x00820 ≤ address }
-    requires below { address < 0x00AA0 }
-    requires whole { address % 4 ≡ 0 }
-    ensures { result ≡ access_at address }
-{
-    match address {
         0x00820..=0x0087F => words(RowId::Eitr, 0, address - 0x00820),
         0x00880..=0x00883 => words(RowId::Eims, 0, address - 0x00880),
         0x00888..=0x0088B => words(RowId::Eimc, 0, address - 0x00888),
         0x00890..=0x00893 => words(RowId::Eiam, 0, address - 0x00890),
-        0x00898..=0x0089B => words(RowId::Gpie, 0, address - 0x00898),
-        0x00900..=0x009FF => words(RowId::Ivar, 0, address - 0x00900),
-        0x00A00..=0x00A03 => words(RowId::IvarMisc, 0, address - 0x00A00),
-        0x00A90..=0x00A93 => low_words(RowId::Eics, 0, address - 0x00A90),
         _ => None,
     }
 }
 
-/// The access of an address from 0x00AA0 to 0x00FFF.
-#[tactic(auto, using(crate::proofs::Arms::from_00aa0))]
-fn from_00aa0(address: u32) -> Option<Access>
-    requires from { 0x00AA0 ≤ address }
+/// The access of an address from 0x00898 to 0x00FFF.
+#[tactic(auto, using(crate::proofs::Arms::from_00898))]
+fn from_00898(address: u32) -> Option<Access>
+    requires from { 0x00898 ≤ address }
     requires below { address < 0x01000 }
     requires whole { address % 4 ≡ 0 }
     ensures { result ≡ access_at address }
 {
     match address {
+        0x00898..=0x0089B => words(RowId::Gpie, 0, address - 0x00898),
+        0x00900..=0x009FF => words(RowId::Ivar, 0, address - 0x00900),
+        0x00A00..=0x00A03 => words(RowId::IvarMisc, 0, address - 0x00A00),
+        0x00A90..=0x00A93 => low_words(RowId::Eics, 0, address - 0x00A90),
         0x00AA0..=0x00AA3 => low_words(RowId::Eims, 0, address - 0x00AA0),
         0x00AB0..=0x00AB3 => low_words(RowId::Eimc, 0, address - 0x00AB0),
         0x00AD0..=0x00AD3 => low_words(RowId::Eiam, 0, address - 0x00AD0),
@@ -142,11 +124,11 @@ fn page_01_30(address: u32) -> Option<Access>
     }
 }
 
-/// The access of an address from 0x02000 to 0x02FFF.
+/// The access of an address from 0x02000 to 0x03FFF.
 #[tactic(auto, using(crate::proofs::Arms::page_02))]
 fn page_02(address: u32) -> Option<Access>
     requires from { 0x02000 ≤ address }
-    requires below { address < 0x03000 }
+    requires below { address < 0x04000 }
     requires whole { address % 4 ≡ 0 }
     ensures { result ≡ access_at address }
 {
@@ -154,19 +136,6 @@ fn page_02(address: u32) -> Option<Access>
         0x02100..=0x0213F => words(RowId::Srrctl, 0, address - 0x02100),
         0x02300..=0x0237F => words(RowId::Rqsmr, 0, address - 0x02300),
         0x02F00..=0x02F03 => words(RowId::Rdrxctl, 0, address - 0x02F00),
-        _ => None,
-    }
-}
-
-/// The access of an address from 0x03000 to 0x03FFF.
-#[tactic(auto, using(crate::proofs::Arms::page_03))]
-fn page_03(address: u32) -> Option<Access>
-    requires from { 0x03000 ≤ address }
-    requires below { address < 0x04000 }
-    requires whole { address % 4 ≡ 0 }
-    ensures { result ≡ access_at address }
-{
-    match address {
         0x03000..=0x03003 => words(RowId::Rxctrl, 0, address - 0x03000),
         0x03FA0..=0x03FA3 => words(RowId::Mpc, 0, address - 0x03FA0),
         _ => None,
@@ -174,23 +143,10 @@ fn page_03(address: u32) -> Option<Access>
 }
 
 /// The access of an address from 0x04000 to 0x04FFF.
+#[tactic(auto, using(crate::proofs::Arms::page_04))]
 fn page_04(address: u32) -> Option<Access>
     requires from { 0x04000 ≤ address }
     requires below { address < 0x05000 }
-    requires whole { address % 4 ≡ 0 }
-    ensures { result ≡ access_at address }
-{
-    match address {
-        ..=0x04267 => from_04000(address),
-        0x04268.. => from_04268(address),
-    }
-}
-
-/// The access of an address from 0x04000 to 0x04267.
-#[tactic(auto, using(crate::proofs::Arms::from_04000))]
-fn from_04000(address: u32) -> Option<Access>
-    requires from { 0x04000 ≤ address }
-    requires below { address < 0x04268 }
     requires whole { address % 4 ≡ 0 }
     ensures { result ≡ access_at address }
 {
@@ -200,19 +156,6 @@ fn from_04000(address: u32) -> Option<Access>
         0x040A4..=0x040A7 => words(RowId::Ruc, 0, address - 0x040A4),
         0x040AC..=0x040AF => words(RowId::Roc, 0, address - 0x040AC),
         0x04240..=0x04243 => words(RowId::Hlreg0, 0, address - 0x04240),
-        _ => None,
-    }
-}
-
-/// The access of an address from 0x04268 to 0x04FFF.
-#[tactic(auto, using(crate::proofs::Arms::from_04268))]
-fn from_04268(address: u32) -> Option<Access>
-    requires from { 0x04268 ≤ address }
-    requires below { address < 0x05000 }
-    requires whole { address % 4 ≡ 0 }
-    ensures { result ≡ access_at address }
-{
-    match address {
         0x04268..=0x0426B => words(RowId::Maxfrs, 0, address - 0x04268),
         0x042A0..=0x042A3 => words(RowId::Autoc, 0, address - 0x042A0),
         0x042A4..=0x042A7 => words(RowId::Links, 0, address - 0x042A4),
@@ -223,23 +166,10 @@ fn from_04268(address: u32) -> Option<Access>
 }
 
 /// The access of an address from 0x05000 to 0x05FFF.
+#[tactic(auto, using(crate::proofs::Arms::page_05))]
 fn page_05(address: u32) -> Option<Access>
     requires from { 0x05000 ≤ address }
     requires below { address < 0x06000 }
-    requires whole { address % 4 ≡ 0 }
-    ensures { result ≡ access_at address }
-{
-    match address {
-        ..=0x053FF => from_05000(address),
-        0x05400.. => from_05400(address),
-    }
-}
-
-/// The access of an address from 0x05000 to 0x053FF.
-#[tactic(auto, using(crate::proofs::Arms::from_05000))]
-fn from_05000(address: u32) -> Option<Access>
-    requires from { 0x05000 ≤ address }
-    requires below { address < 0x05400 }
     requires whole { address % 4 ≡ 0 }
     ensures { result ≡ access_at address }
 {
@@ -250,19 +180,6 @@ fn from_05000(address: u32) -> Option<Access>
         0x051B0..=0x051B3 => words(RowId::VtCtl, 0, address - 0x051B0),
         0x051E0..=0x051E7 => words(RowId::Vfre, 0, address - 0x051E0),
         0x05200..=0x053FF => words(RowId::Mta, 0, address - 0x05200),
-        _ => None,
-    }
-}
-
-/// The access of an address from 0x05400 to 0x05FFF.
-#[tactic(auto, using(crate::proofs::Arms::from_05400))]
-fn from_05400(address: u32) -> Option<Access>
-    requires from { 0x05400 ≤ address }
-    requires below { address < 0x06000 }
-    requires whole { address % 4 ≡ 0 }
-    ensures { result ≡ access_at address }
-{
-    match address {
         0x05400..=0x0547F => steps_05400(address),
         0x05480..=0x054BF => words(RowId::Psrtype, 0, address - 0x05480),
         0x05818..=0x0581B => words(RowId::Mrqc, 0, address - 0x05818),
@@ -325,11 +242,11 @@ fn page_06_30(address: u32) -> Option<Access>
     }
 }
 
-/// The access of an address from 0x08000 to 0x08FFF.
+/// The access of an address from 0x08000 to 0x0AFFF.
 #[tactic(auto, using(crate::proofs::Arms::page_08))]
 fn page_08(address: u32) -> Option<Access>
     requires from { 0x08000 ≤ address }
-    requires below { address < 0x09000 }
+    requires below { address < 0x0B000 }
     requires whole { address % 4 ≡ 0 }
     ensures { result ≡ access_at address }
 {
@@ -337,19 +254,6 @@ fn page_08(address: u32) -> Option<Access>
         0x08110..=0x08117 => words(RowId::Vfte, 0, address - 0x08110),
         0x08120..=0x08123 => words(RowId::Mtqc, 0, address - 0x08120),
         0x08600..=0x0867F => words(RowId::Tqsm, 0, address - 0x08600),
-        _ => None,
-    }
-}
-
-/// The access of an address from 0x0A000 to 0x0AFFF.
-#[tactic(auto, using(crate::proofs::Arms::page_0a))]
-fn page_0a(address: u32) -> Option<Access>
-    requires from { 0x0A000 ≤ address }
-    requires below { address < 0x0B000 }
-    requires whole { address % 4 ≡ 0 }
-    ensures { result ≡ access_at address }
-{
-    match address {
         0x0A200..=0x0A5FF => steps_0a200(address),
         0x0A600..=0x0A9FF => words(RowId::Mpsar, 0, address - 0x0A600),
         _ => None,
@@ -391,11 +295,11 @@ fn page_0d(address: u32) -> Option<Access>
     }
 }
 
-/// The access of an address from 0x0E000 to 0x0EFFF.
+/// The access of an address from 0x0E000 to 0x12FFF.
 #[tactic(auto, using(crate::proofs::Arms::page_0e))]
 fn page_0e(address: u32) -> Option<Access>
     requires from { 0x0E000 ≤ address }
-    requires below { address < 0x0F000 }
+    requires below { address < 0x13000 }
     requires whole { address % 4 ≡ 0 }
     ensures { result ≡ access_at address }
 {
@@ -404,33 +308,7 @@ fn page_0e(address: u32) -> Option<Access>
         0x0EB00..=0x0EB7F => words(RowId::Reta, 0, address - 0x0EB00),
         0x0EB80..=0x0EBA7 => words(RowId::Rssrk, 0, address - 0x0EB80),
         0x0EC80..=0x0EC83 => words(RowId::Mrqc, 0, address - 0x0EC80),
-        _ => None,
-    }
-}
-
-/// The access of an address from 0x11000 to 0x11FFF.
-#[tactic(auto, using(crate::proofs::Arms::page_11))]
-fn page_11(address: u32) -> Option<Access>
-    requires from { 0x11000 ≤ address }
-    requires below { address < 0x12000 }
-    requires whole { address % 4 ≡ 0 }
-    ensures { result ≡ access_at address }
-{
-    match address {
         0x11050..=0x11053 => words(RowId::GcrExt, 0, address - 0x11050),
-        _ => None,
-    }
-}
-
-/// The access of an address from 0x12000 to 0x12FFF.
-#[tactic(auto, using(crate::proofs::Arms::page_12))]
-fn page_12(address: u32) -> Option<Access>
-    requires from { 0x12000 ≤ address }
-    requires below { address < 0x13000 }
-    requires whole { address % 4 ≡ 0 }
-    ensures { result ≡ access_at address }
-{
-    match address {
         0x12300..=0x1249F => words(RowId::Eitr, 24, address - 0x12300),
         0x12500..=0x125FF => words(RowId::Pvtivar, 0, address - 0x12500),
         _ => None,

@@ -3,9 +3,8 @@ use Rattle.std.proofs.Common.{◌≡◌, ℕ, ◌+◌, ◌*◌, ◌/◌, ◌%◌
 use Rattle.std.specs.List.{list_all}
 use Rattle.std.proofs.lemmas.Bool.{and_parts, eqb-true}
 use Rattle.std.proofs.Math.Nat.{mul_assoc}
-use Rattle.reg_table.specs.declared.run.Run.{Run}
 use Rattle.reg_table.specs.declared.place.Place.{Place}
-use Rattle.reg_table.specs.Run.{HasPlaceAt}
+use Rattle.reg_table.specs.Run.{Run, HasPlaceAt}
 use Rattle.reg_table.specs.Runs.{runs}
 use Rattle.reg_table.specs.Place.{SomeRunHas, Names}
 

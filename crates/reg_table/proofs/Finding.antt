@@ -7,9 +7,8 @@ use Rattle.std.proofs.lemmas.Bool.Decides.{nat_tests}
 use Rattle.std.proofs.lemmas.List.Kept.{AllPairs-cons}
 use Rattle.std.proofs.lemmas.List.Elements.{All-cons, All-nil}
 use Rattle.std.proofs.Math.Nat.{add-mul-mod_self_left, div-add-mod, mul-le-mul_left, div-le_of_le-mul, mul-mod_right, mul-div_cancel_left}
-use Rattle.reg_table.specs.declared.run.Run.{Run}
 use Rattle.reg_table.specs.declared.place.Place.{Place}
-use Rattle.reg_table.specs.Run.{HasPlaceAt, has_address, place_in, is_sound}
+use Rattle.reg_table.specs.Run.{Run, HasPlaceAt, has_address, place_in, is_sound}
 use Rattle.reg_table.specs.Runs.{runs}
 use Rattle.reg_table.specs.Place.{SomeRunHas, Names, place_among}
 use Rattle.reg_table.specs.Laws.{IsApart}
@@ -27,13 +26,13 @@ abbrev pub all_apart : List Run → Bool
 all_apart [] = true
 all_apart (r ∷ rs) = list_all (apart r) rs && all_apart rs
 
-starts_after : (r : Run) (a : ℕ) → has_address r a ≡ true → r.first ≤ a
+pub starts_after : (r : Run) (a : ℕ) → has_address r a ≡ true → r.first ≤ a
 starts_after r a h = grind (arith, nat_tests)
 
-ends_before : (r : Run) (a : ℕ) → has_address r a ≡ true → a ≤ last r
+pub ends_before : (r : Run) (a : ℕ) → has_address r a ≡ true → a ≤ last r
 ends_before r a h = grind (arith, nat_tests)
 
-in_step : (r : Run) (a : ℕ) → has_address r a ≡ true → (a - r.first) % r.stride ≡ 0
+pub in_step : (r : Run) (a : ℕ) → has_address r a ≡ true → (a - r.first) % r.stride ≡ 0
 in_step r a h = grind (arith, nat_tests)
 
 sound_stride : (r : Run) → is_sound r ≡ true → 0 < r.stride
@@ -47,7 +46,7 @@ steps_below first stride count a l h c =
     let m : (a - first) / stride ≤ count - 1 = div-le_of_le-mul stride (omega arith) in omega arith
 
 -- where a run has an address, it has its place there
-HasPlaceAt-place_in : (r : Run) (a : ℕ) → is_sound r ≡ true → has_address r a ≡ true → HasPlaceAt r a (place_in r a)
+pub HasPlaceAt-place_in : (r : Run) (a : ℕ) → is_sound r ≡ true → has_address r a ≡ true → HasPlaceAt r a (place_in r a)
 HasPlaceAt-place_in r a s h =
     let low = starts_after r a h in
     let whole = in_step r a h in
@@ -66,7 +65,7 @@ no_further stride step count h = let m : step ≤ count - 1 = omega arith in mul
 take_first : (first n : ℕ) → first + n - first ≡ n
 take_first first n = omega arith
 
-has_address-true : (r : Run) (a : ℕ) (p : Place) → HasPlaceAt r a p → has_address r a ≡ true
+pub has_address-true : (r : Run) (a : ℕ) (p : Place) → HasPlaceAt r a p → has_address r a ≡ true
 has_address-true r a p i =
     let far = no_further r.stride i.step r.count i.below in
     let low : r.first ≤ a = omega arith in
@@ -92,7 +91,7 @@ same_residue r q a h i e =
     sym (residue r.first r.stride a (starts_after r a h) (in_step r a h)) ∙ ap (λ n. a % n) e
     ∙ residue q.first q.stride a (starts_after q a i) (in_step q a i)
 
-not_both : (r q : Run) (a : ℕ) → has_address r a ≡ true → has_address q a ≡ true → apart r q ≡ true → ⊥
+pub not_both : (r q : Run) (a : ℕ) → has_address r a ≡ true → has_address q a ≡ true → apart r q ≡ true → ⊥
 not_both r q a h i e =
     elim (or_cases (nat_lt (last r) q.first || nat_lt (last q) r.first) ((r.stride == q.stride) && not (r.first % r.stride == q.first % q.stride)) e) [
       | inl far ↦ elim (or_cases (nat_lt (last r) q.first) (nat_lt (last q) r.first) far) [
@@ -107,7 +106,7 @@ IsApart-from_apart : (r q : Run) → apart r q ≡ true → IsApart r q
 IsApart-from_apart r q e a p p' i j = not_both r q a (has_address-true r a p i) (has_address-true q a p' j) e
 
 -- the runs after one that has the address don't have it
-none_else : (r : Run) (rs : List Run) (a : ℕ) (p : Place) → list_all (apart r) rs ≡ true → has_address r a ≡ true → SomeRunHas rs a p → ⊥
+pub none_else : (r : Run) (rs : List Run) (a : ℕ) (p : Place) → list_all (apart r) rs ≡ true → has_address r a ≡ true → SomeRunHas rs a p → ⊥
 none_else r [] a p e h n = n
 none_else r (q ∷ rs) a p e h (inl i) =
     let f = and_parts (apart r q) (list_all (apart r) rs) e in not_both r q a h (has_address-true q a p i) f.0
@@ -142,7 +141,7 @@ pub table_sound : list_all is_sound runs ≡ true
 unfolding runs
 table_sound = refl
 
-table_apart : all_apart runs ≡ true
+pub table_apart : all_apart runs ≡ true
 unfolding runs
 table_apart = refl
 

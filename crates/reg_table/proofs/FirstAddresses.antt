@@ -1,71 +1,67 @@
 -- Each place has a first address, and that address names it.
-use Rattle.std.proofs.Common.{◌≡◌, ℕ, ◌+◌, ◌-◌, ◌<◌, ◌≤◌, Bool, true, false, ◌&&◌, nat_lt, nat_le, ◌==◌, List, [], ◌∷◌, Option, Some, None, if◌then◌else◌, refl, ap, sym, ◌∙◌, subst, inl, inr, arith, get_or}
-use Rattle.std.specs.Prelude.{IsSome, length}
+use Rattle.std.proofs.Common.{◌≡◌, ℕ, ◌+◌, ◌-◌, ◌*◌, ◌<◌, ◌≤◌, Bool, true, ◌&&◌, nat_lt, nat_le, ◌==◌, List, [], ◌∷◌, Some, refl, ap, sym, ◌∙◌, subst, inl, inr, arith, get_or}
+use Rattle.std.specs.Prelude.{length}
 use Rattle.std.specs.List.{list_all}
 use Rattle.std.proofs.lemmas.List.Elements.{All-get_or}
 use Rattle.std.proofs.lemmas.List.Sums.{AllPass-from_list_all}
-use Rattle.std.proofs.lemmas.Bool.{cases_Bool, cond-true, cond-false, and_from, le-leb, lt-ltb, eq-eqb, and_parts, ltb-true, leb-true, eqb-true}
+use Rattle.std.proofs.lemmas.Bool.{cases_Bool, cond-true, cond-false, and_parts, ltb-true, leb-true, eqb-true}
 use Rattle.std.proofs.lemmas.Bool.Decides.{nat_tests}
-use Rattle.reg_table.specs.declared.run.Run.{Run}
 use Rattle.reg_table.specs.declared.rows.RowId.{RowId}
 use Rattle.reg_table.specs.declared.place.Place.{Place}
 use Rattle.reg_table.specs.Rows.{row_of, rows, number_of}
-use Rattle.reg_table.specs.Run.{HasPlaceAt, has_index, address_in}
+use Rattle.reg_table.specs.FirstAddresses.{first_of}
+use Rattle.reg_table.specs.declared.first_addresses.FirstAddresses.{FirstAddresses}
+use Rattle.reg_table.specs.Run.{Run, HasPlaceAt, has_index, address_in}
 use Rattle.reg_table.specs.Runs.{runs}
-use Rattle.reg_table.specs.Place.{SomeRunHas, Names, address_among}
+use Rattle.reg_table.specs.Place.{SomeRunHas, Names, place_among, address_among}
+use Rattle.reg_table.proofs.Finding.{found-named}
+use Rattle.reg_table.proofs.FirstRuns.{has_all, first_found}
 use Rattle.reg_table.proofs.Numbers.{row_numbered, number_below, rows_length}
 
--- how far the runs of a row reach, in the order of their first indices, from an index on
-abbrev pub reach : ℕ → ℕ → List Run → ℕ
-reach row n [] = n
-reach row n (r ∷ rs) = reach row (if (number_of r.row == row) && (r.first_index == n) then n + r.count else n) rs
+-- whether the two runs told of a row are those of its first addresses
+tells : RowId → Bool
+tells row =
+    has_all (number_of row) 0 (first_of row).count (first_of row).first (first_of row).stride runs
+    && has_all (number_of row) (first_of row).count (row_of row).count (first_of row).further (first_of row).stride runs
 
-either_way : (t : Bool) (a : ℕ) (o : Option ℕ) → IsSome o → IsSome (if t then Some a else o)
-either_way true a o h = refl
-either_way false a o h = h
+all_told : list_all tells rows ≡ true
+unfolding rows runs tells
+all_told = refl
 
-some_when : (t : Bool) (a : ℕ) (o : Option ℕ) → t ≡ true → IsSome (if t then Some a else o)
-some_when true a o h = refl
-some_when false a o h = cc
+told : (row : RowId)
+    → (has_all (number_of row) 0 (first_of row).count (first_of row).first (first_of row).stride runs ≡ true)
+    × (has_all (number_of row) (first_of row).count (row_of row).count (first_of row).further (first_of row).stride runs ≡ true)
+unfolding tells
+told row =
+    let there : number_of row < length rows = subst (λ n. number_of row < n) (sym rows_length) (number_below row) in
+    let pass = AllPass-from_list_all tells rows all_told in
+    let test = All-get_or (λ x. tells x ≡ true) rows (number_of row) row there pass in
+    and_parts _ _ (subst (λ x. tells x ≡ true) (row_numbered row row) test)
 
-starts : (r : Run) (row n : ℕ) → (number_of r.row == row) && (r.first_index == n) ≡ true → (number_of r.row ≡ row) × (r.first_index ≡ n)
-starts r row n h =
-    let both = and_parts (number_of r.row == row) (r.first_index == n) h in (eqb-true _ _ both.0, eqb-true _ _ both.1)
+-- the indices of a row's first run begin at its first address
+pub first_address : (p : Place) → p.index < (first_of p.row).count
+    → address_among runs p ≡ Some ((first_of p.row).first + (first_of p.row).stride * p.index)
+first_address p h =
+    let f = first_of p.row in
+    first_found runs p (number_of p.row) 0 f.count f.first f.stride refl (told p.row).0 (omega arith) h
+    ∙ ap (λ k. Some (f.first + f.stride * k)) (omega arith)
 
--- an index that the runs reach has an address
-reached_is_found : (rs : List Run) (p : Place) (n : ℕ) → n ≤ p.index → p.index < reach (number_of p.row) n rs → IsSome (address_among rs p)
-reached_is_found [] p n from far = absurd (omega arith)
-reached_is_found (r ∷ rs) p n from far =
-    let t = (number_of r.row == number_of p.row) && (r.first_index == n) in
-    elim (cases_Bool t) [
-      | inl here ↦
-          let begins = starts r (number_of p.row) n here in
-          let on : p.index < reach (number_of p.row) (n + r.count) rs =
-          subst (λ m. p.index < reach (number_of p.row) m rs) (cond-true t (n + r.count) n here) far in
-          elim (cases_Bool (nat_lt p.index (n + r.count))) [
-            | inl within ↦
-                let low : r.first_index ≤ p.index = omega arith in
-                let inside = ltb-true p.index (n + r.count) within in
-                let high : p.index < r.first_index + r.count = omega arith in
-                some_when (has_index r p) (address_in r p) (address_among rs p)
-                (and_from _ _ (and_from _ _ (eq-eqb _ _ begins.0) (le-leb _ _ low)) (lt-ltb _ _ high))
-            | inr beyond ↦
-                let past : n + r.count ≤ p.index = grind (arith, nat_tests) in
-                either_way (has_index r p) (address_in r p) (address_among rs p) (reached_is_found rs p (n + r.count) past on)
-          ]
-      | inr other ↦
-          let on : p.index < reach (number_of p.row) n rs =
-          subst (λ m. p.index < reach (number_of p.row) m rs) (cond-false t (n + r.count) n other) far in
-          either_way (has_index r p) (address_in r p) (address_among rs p) (reached_is_found rs p n from on)
-    ]
+-- those of its further run begin at its further address
+pub further_address : (p : Place) → p.index < (row_of p.row).count → (first_of p.row).count ≤ p.index
+    → address_among runs p
+    ≡ Some ((first_of p.row).further + (first_of p.row).stride * (p.index - (first_of p.row).count))
+further_address p h l =
+    let f = first_of p.row in
+    first_found runs p (number_of p.row) f.count (row_of p.row).count f.further f.stride refl (told p.row).1 l h
 
 same_number : (r s : RowId) → number_of r ≡ number_of s → r ≡ s
 same_number r s e = sym (row_numbered r r) ∙ ap (λ n. get_or rows n r) e ∙ row_numbered s r
 
 HasPlaceAt-address_in : (r : Run) (p : Place) → has_index r p ≡ true → HasPlaceAt r (address_in r p) p
 HasPlaceAt-address_in r p h =
-    let parts = and_parts ((number_of r.row == number_of p.row) && nat_le r.first_index p.index) (nat_lt p.index (r.first_index + r.count)) h in
-    let more = and_parts (number_of r.row == number_of p.row) (nat_le r.first_index p.index) parts.0 in
+    let same = number_of r.row == number_of p.row in
+    let parts = and_parts (same && nat_le r.first_index p.index) (nat_lt p.index (r.first_index + r.count)) h in
+    let more = and_parts same (nat_le r.first_index p.index) parts.0 in
     let low = leb-true r.first_index p.index more.1 in
     let high = ltb-true p.index (r.first_index + r.count) parts.1 in
     record {
@@ -83,47 +79,42 @@ found_has_place : (rs : List Run) (p : Place) (a : ℕ) → address_among rs p �
 found_has_place [] p a e = cc
 found_has_place (r ∷ rs) p a e =
     elim (cases_Bool (has_index r p)) [
-      | inl t ↦ let same : address_in r p ≡ a = Some-one (sym (cond-true (has_index r p) (Some (address_in r p)) (address_among rs p) t) ∙ e) in
+      | inl t ↦ let here = cond-true (has_index r p) (Some (address_in r p)) (address_among rs p) t in
+          let same : address_in r p ≡ a = Some-one (sym here ∙ e) in
           inl (subst (λ b. HasPlaceAt r b p) same (HasPlaceAt-address_in r p t))
-      | inr f ↦ inr (found_has_place rs p a (sym (cond-false (has_index r p) (Some (address_in r p)) (address_among rs p) f) ∙ e))
+      | inr f ↦ let later = cond-false (has_index r p) (Some (address_in r p)) (address_among rs p) f in
+          inr (found_has_place rs p a (sym later ∙ e))
     ]
-
-reaches_its_count : RowId → Bool
-reaches_its_count row = nat_le (row_of row).count (reach (number_of row) 0 runs)
-
-all_reached : list_all reaches_its_count rows ≡ true
-unfolding rows runs reaches_its_count
-all_reached = refl
-
-reached : (p : Place) → p.index < (row_of p.row).count → p.index < reach (number_of p.row) 0 runs
-unfolding reaches_its_count
-reached p h =
-    let there : number_of p.row < length rows = subst (λ n. number_of p.row < n) (sym rows_length) (number_below p.row) in
-    let test = All-get_or (λ row. reaches_its_count row ≡ true) rows (number_of p.row) p.row there (AllPass-from_list_all reaches_its_count rows all_reached) in
-    let whole = leb-true _ _ (subst (λ row. reaches_its_count row ≡ true) (row_numbered p.row p.row) test) in
-    omega arith
-
--- a place has a first address
-pub first_address : (p : Place) → p.index < (row_of p.row).count → IsSome (address_among runs p)
-first_address p h = reached_is_found runs p 0 (omega arith) (reached p h)
 
 -- the first address of a place names it
 pub first_address_names : (p : Place) (a : ℕ) → address_among runs p ≡ Some a → Names a p
 first_address_names p a e = found_has_place runs p a e
 
-some_value : (o : Option ℕ) → IsSome o → (a : ℕ) × (o ≡ Some a)
-some_value None h = cc
-some_value (Some a) h = (a, refl)
-
-pub first_addresses_read_back : (p : Place) → p.index < (row_of p.row).count → (a : ℕ) × ((address_among runs p ≡ Some a) × Names a p)
+pub first_addresses_read_back : (p : Place) → p.index < (row_of p.row).count
+    → (a : ℕ) × ((address_among runs p ≡ Some a) × Names a p)
 first_addresses_read_back p h =
-    let found = some_value (address_among runs p) (first_address p h) in
-    (found.0, (found.1, first_address_names p found.0 found.1))
+    elim (cases_Bool (nat_lt p.index (first_of p.row).count)) [
+      | inl t ↦ let at = first_address p (ltb-true _ _ t) in (_, (at, first_address_names p _ at))
+      | inr f ↦ let l : (first_of p.row).count ≤ p.index = grind (arith, nat_tests) in
+          let at = further_address p h l in (_, (at, first_address_names p _ at))
+    ]
 
-none_found : (o : Option ℕ) → IsSome o → o ≡ None → ⊥
-none_found None h e = cc
-none_found (Some a) h e = cc
+-- the same of what the code's own table tells of the row
+pub by_first : (p : Place) (f : FirstAddresses) (k : ℕ) → f ≡ first_of p.row → k ≡ p.index → k < f.count
+    → address_among runs p ≡ Some (f.first + f.stride * k)
+by_first p f k e i h =
+    subst (λ n. address_among runs p ≡ Some (f.first + f.stride * n)) (sym i)
+    (subst (λ x. address_among runs p ≡ Some (x.first + x.stride * p.index)) (sym e)
+    (first_address p (subst (λ x. p.index < x.count) e (omega arith))))
 
--- no place is without a first address
-pub has_first_address : (p : Place) → p.index < (row_of p.row).count → address_among runs p ≡ None → ⊥
-has_first_address p h e = none_found (address_among runs p) (first_address p h) e
+pub by_further : (p : Place) (f : FirstAddresses) (k : ℕ) → f ≡ first_of p.row → k ≡ p.index
+    → p.index < (row_of p.row).count → f.count ≤ k
+    → address_among runs p ≡ Some (f.further + f.stride * (k - f.count))
+by_further p f k e i h l =
+    subst (λ n. address_among runs p ≡ Some (f.further + f.stride * (n - f.count))) (sym i)
+    (subst (λ x. address_among runs p ≡ Some (x.further + x.stride * (p.index - x.count))) (sym e)
+    (further_address p h (subst (λ x. x.count ≤ p.index) e (omega arith))))
+
+-- a first address is found to be that of its place
+pub found_back : (p : Place) (a : ℕ) → address_among runs p ≡ Some a → place_among runs a ≡ Some p
+found_back p a e = (found-named a p).1 (first_address_names p a e)

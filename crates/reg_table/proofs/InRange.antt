@@ -3,10 +3,9 @@ use Rattle.std.proofs.Common.{◌≡◌, ℕ, ◌+◌, ◌<◌, ◌≤◌, true,
 use Rattle.std.specs.List.{list_all}
 use Rattle.std.proofs.lemmas.Bool.{and_parts}
 use Rattle.std.proofs.lemmas.Bool.Decides.{nat_tests}
-use Rattle.reg_table.specs.declared.run.Run.{Run}
 use Rattle.reg_table.specs.declared.place.Place.{Place}
 use Rattle.reg_table.specs.Rows.{row_of}
-use Rattle.reg_table.specs.Run.{HasPlaceAt, is_sound}
+use Rattle.reg_table.specs.Run.{Run, HasPlaceAt, is_sound}
 use Rattle.reg_table.specs.Runs.{runs}
 use Rattle.reg_table.specs.Place.{SomeRunHas, Names}
 use Rattle.reg_table.proofs.Finding.{table_sound}
@@ -20,7 +19,8 @@ run_in_range r a p s h =
     let inside : p.index < (row_of r.row).count = omega arith in
     subst (λ row. p.index < (row_of row).count) (sym h.row) inside
 
-among_in_range : (rs : List Run) (a : ℕ) (p : Place) → list_all is_sound rs ≡ true → SomeRunHas rs a p → p.index < (row_of p.row).count
+among_in_range : (rs : List Run) (a : ℕ) (p : Place) → list_all is_sound rs ≡ true → SomeRunHas rs a p
+    → p.index < (row_of p.row).count
 among_in_range [] a p s n = absurd n
 among_in_range (r ∷ rs) a p s (inl h) = run_in_range r a p (and_parts (is_sound r) (list_all is_sound rs) s).0 h
 among_in_range (r ∷ rs) a p s (inr n) = among_in_range rs a p (and_parts (is_sound r) (list_all is_sound rs) s).1 n

@@ -1,5 +1,12 @@
 pub mod Finding
+pub mod Reached
+pub mod Missed
+pub mod Hits
+pub mod Gaps
+pub mod Arms
+pub mod Views
 pub mod Aligned
+pub mod FirstRuns
 pub mod FirstAddresses
 pub mod InRange
 pub mod Naming

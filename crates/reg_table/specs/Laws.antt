@@ -1,9 +1,8 @@
 use Rattle.std.specs.Prelude.{ℕ, ◌≡◌, ◌<◌, ◌%◌, AllPairs, Some}
 use Rattle.reg_table.specs.declared.rows.RowId.{RowId}
 use Rattle.reg_table.specs.declared.place.Place.{Place}
-use Rattle.reg_table.specs.declared.run.Run.{Run}
 use Rattle.reg_table.specs.Rows.{row_of}
-use Rattle.reg_table.specs.Run.{HasPlaceAt}
+use Rattle.reg_table.specs.Run.{Run, HasPlaceAt}
 use Rattle.reg_table.specs.Runs.{runs}
 use Rattle.reg_table.specs.Place.{Names, address_among}
 

@@ -5,5 +5,7 @@ pub mod Named
 pub mod Run
 pub mod Runs
 pub mod Place
+pub mod Access
+pub mod FirstAddresses
 pub mod Counter
 pub mod Laws

@@ -1,7 +1,6 @@
-use Rattle.std.specs.Prelude.{ℕ, List, [], ◌∷◌, ◌⊎◌, Option, Some, None, if◌then◌else◌}
+use Rattle.std.specs.Prelude.{ℕ, ◌≡◌, List, [], ◌∷◌, ◌⊎◌, true, Option, Some, None, if◌then◌else◌}
 use Rattle.reg_table.specs.declared.place.Place.{Place}
-use Rattle.reg_table.specs.declared.run.Run.{Run}
-use Rattle.reg_table.specs.Run.{HasPlaceAt, has_address, place_in, has_index, address_in}
+use Rattle.reg_table.specs.Run.{Run, HasPlaceAt, has_address, place_in, has_index, address_in}
 use Rattle.reg_table.specs.Runs.{runs}
 
 -- one of the runs has the place at the address
@@ -12,6 +11,15 @@ SomeRunHas (r ∷ rs) address p = HasPlaceAt r address p ⊎ SomeRunHas rs addre
 -- an address names a place where a run of the table has the place there
 abbrev pub Names : ℕ → Place → Type 0
 Names address p = SomeRunHas runs address p
+
+-- one of the runs has a place at the address and shows bits 15:0 alone
+abbrev pub SomeLowRunHas : List Run → ℕ → Type 0
+SomeLowRunHas [] address = ⊥
+SomeLowRunHas (r ∷ rs) address = (r.low ≡ true) × ((p : Place) × HasPlaceAt r address p) ⊎ SomeLowRunHas rs address
+
+-- an address shows bits 15:0 alone where a low run of the table has a place there
+abbrev pub IsLow : ℕ → Type 0
+IsLow address = SomeLowRunHas runs address
 
 -- the place that the first run with the address has there
 abbrev pub place_among : List Run → ℕ → Option Place

@@ -1,8 +1,16 @@
 use Rattle.std.specs.Prelude.{ℕ, ◌≡◌, ◌<◌, ◌+◌, ◌-◌, ◌*◌, ◌/◌, ◌%◌, Bool, ◌&&◌, nat_lt, nat_le, ◌==◌}
 use Rattle.reg_table.specs.declared.rows.RowId.{RowId}
 use Rattle.reg_table.specs.declared.place.Place.{Place}
-use Rattle.reg_table.specs.declared.run.Run.{Run}
 use Rattle.reg_table.specs.Rows.{row_of, number_of}
+
+-- addresses of one row at equal steps; a low run shows bits 15:0 of the word alone
+pub record Run : Type 0 where
+  pub row : RowId
+  pub first : ℕ
+  pub stride : ℕ
+  pub first_index : ℕ
+  pub count : ℕ
+  pub low : Bool
 
 -- the run of a row with index first_index + k at address first + stride * k, for each k below count
 abbrev pub run : RowId → ℕ → ℕ → ℕ → ℕ → Bool → Run

@@ -1,19 +1,22 @@
-use Rattle.std.proofs.Common.{sym, ◌∙◌}
-use Rattle.reg_table.specs.Runs.{runs}
-use Rattle.reg_table.proofs.Finding.{found-named}
-use Rattle.reg_table.proofs.FirstAddresses.{has_first_address, first_address_names}
+use Rattle.reg_table.proofs.FirstAddresses.{by_first, by_further, found_back}
 use Rattle.reg_table.proofs.place.addr_of.Goals as goal
 
-pub unreachable-requires : goal.unreachable-requires
-unfolding runs
-unreachable-requires c = has_first_address c.args.place c.requires (sym c.search_address.ensures ∙ c.in-None.is)
+pub returns-then-index-run-clause-first : goal.returns-then-index-run-clause-first
+returns-then-index-run-clause-first c =
+    by_first c.args.place _ _ c.first_of-run.ensures.value c.from-index.ensures c.if-index-run.true
 
-pub returns-clause-first : goal.returns-clause-first
-unfolding runs
-returns-clause-first c = sym c.search_address.ensures ∙ c.in-Some.is
+pub returns-then-index-run-clause-back : goal.returns-then-index-run-clause-back
+returns-then-index-run-clause-back c =
+    found_back c.args.place _
+    (by_first c.args.place _ _ c.first_of-run.ensures.value c.from-index.ensures c.if-index-run.true)
 
-pub returns-clause-back : goal.returns-clause-back
-unfolding runs
-returns-clause-back c =
-    let first = sym c.search_address.ensures ∙ c.in-Some.is in
-    (found-named c.in-Some.address c.args.place).1 (first_address_names c.args.place c.in-Some.address first)
+pub returns-else-index-run-clause-first : goal.returns-else-index-run-clause-first
+returns-else-index-run-clause-first c =
+    by_further c.args.place _ _ c.first_of-run.ensures.value c.from-index.ensures c.requires
+    c.if-index-run.false
+
+pub returns-else-index-run-clause-back : goal.returns-else-index-run-clause-back
+returns-else-index-run-clause-back c =
+    found_back c.args.place _
+    (by_further c.args.place _ _ c.first_of-run.ensures.value c.from-index.ensures c.requires
+    c.if-index-run.false)

@@ -1,0 +1,19 @@
+use Rattle.std.specs.Prelude.{ℕ, Option, Some, None}
+use Rattle.reg_table.specs.declared.access.Access.{Access}
+use Rattle.reg_table.specs.declared.place.Place.{Place}
+use Rattle.reg_table.specs.declared.rows.RowId.{RowId}
+use Rattle.reg_table.specs.Runs.{runs}
+use Rattle.reg_table.specs.Place.{place_among, view_among}
+
+-- the access of a row's word with an index, of which some bits show
+abbrev pub access : RowId → ℕ → ℕ → Access
+access row index view = record { place = record { row = row; index = index }; view = view }
+
+-- the access of a place, where there is one
+abbrev pub access_of : Option Place → ℕ → Option Access
+access_of None view = None
+access_of (Some p) view = Some (record { place = p; view = view })
+
+-- what an access of the address meets: the place that the table has there, and the bits that show
+abbrev pub access_at : ℕ → Option Access
+access_at address = access_of (place_among runs address) (view_among runs address)

@@ -1,0 +1,86 @@
+ghost use Rattle.std.specs.Prelude.{◌≡◌, ◌<◌, ◌+◌, ◌/◌, Some, IfSome};
+ghost use Rattle.std.specs.Option.{option_map};
+ghost use Rattle.reg_table.specs.Rows.{row_of};
+ghost use Rattle.reg_table.specs.Runs.{runs};
+ghost use Rattle.reg_table.specs.Place.{place_among, view_among};
+ghost use Rattle.reg_table.specs.Access.{access, access_at};
+
+use crate::dispatch::aligned;
+use crate::place::Place;
+use crate::rows::RowId;
+
+/// What an access of an address meets.
+#[derive(Clone, Copy, PartialEq, Eq, Debug)]
+pub struct Access {
+    /// The word.
+    pub place: Place,
+    /// The bits of the word that show at the address: 0xFFFF where it is a view of bits 15:0, else 0xFFFFFFFF.
+    pub view: u32,
+}
+
+/// The place that an address names, with the bits that show there: both by one dispatch on the address. `None` exactly
+/// where no place has the address; an address that is no multiple of 4 names none.
+pub fn resolve(address: u32) -> Option<Access>
+    ensures value { result ≡ access_at address }
+    ensures place { option_map (λ x. x.place) result ≡ place_among runs address }
+    ensures view { IfSome result (λ x. x.view ≡ view_among runs address) }
+    ensures in_range { IfSome result (λ x. x.place.index < (row_of x.place.row).count) }
+{
+    at(address)
+}
+
+/// The same, as the table alone says it.
+#[tactic(auto, using(crate::proofs::Views::no_part_of_a_word))]
+fn at(address: u32) -> Option<Access>
+    ensures { result ≡ access_at address }
+{
+    if address % 4 != 0 {
+        return None;
+    }
+    aligned(address)
+}
+
+/// The access at an offset from the first of a row's addresses, which go by 4.
+pub(crate) fn words(row: RowId, first_index: u16, offset: u32) -> Option<Access>
+    requires near { offset < 0x10000 }
+    requires few { first_index < 0x1000 }
+    ensures { result ≡ Some (access row (first_index + offset / 4) 0xFFFFFFFF) }
+{
+    seen(row, first_index + (offset / 4) as u16, 0xFFFF_FFFF)
+}
+
+/// The same at addresses that show bits 15:0 alone.
+pub(crate) fn low_words(row: RowId, first_index: u16, offset: u32) -> Option<Access>
+    requires near { offset < 0x10000 }
+    requires few { first_index < 0x1000 }
+    ensures { result ≡ Some (access row (first_index + offset / 4) 0xFFFF) }
+{
+    seen(row, first_index + (offset / 4) as u16, 0xFFFF)
+}
+
+/// The access at an offset from the first of a row's addresses, which go by 8.
+pub(crate) fn pairs(row: RowId, first_index: u16, offset: u32) -> Option<Access>
+    requires near { offset < 0x10000 }
+    requires few { first_index < 0x1000 }
+    ensures { result ≡ Some (access row (first_index + offset / 8) 0xFFFFFFFF) }
+{
+    seen(row, first_index + (offset / 8) as u16, 0xFFFF_FFFF)
+}
+
+/// The access at an offset from the first of a row's addresses, which go by 64.
+pub(crate) fn queues(row: RowId, first_index: u16, offset: u32) -> Option<Access>
+    requires near { offset < 0x10000 }
+    requires few { first_index < 0x1000 }
+    ensures { result ≡ Some (access row (first_index + offset / 64) 0xFFFFFFFF) }
+{
+    seen(row, first_index + (offset / 64) as u16, 0xFFFF_FFFF)
+}
+
+fn seen(row: RowId, index: u16, view: u32) -> Option<Access>
+    ensures { result ≡ Some (access row index view) }
+{
+    Some(Access {
+        place: Place { row, index },
+        view,
+    })
+}

@@ -1,11 +1,12 @@
-use Rattle.std.proofs.Common.{◌≡◌, ◌≢◌, ℕ, zero, suc, ◌+◌, ◌-◌, ◌<◌, ◌≤◌, inl, inr, Bool, true, false, cond, List, [], ◌∷◌, length, get_or, refl, sym, ap, ◌∙◌, arith, add-zero}
+use Rattle.std.proofs.Common.{◌≡◌, ◌≢◌, ℕ, zero, suc, ◌+◌, ◌-◌, ◌<◌, ◌≤◌, inl, inr, Bool, true, false, cond, List, [], ◌∷◌, length, set, get_or, refl, sym, ap, ◌∙◌, arith, add-zero}
 use Rattle.std.specs.Prelude.{nat_le, nat_lt}
 use Rattle.std.specs.List.{list_all}
 use Rattle.std.proofs.lemmas.Bool.{and_parts, cases_lt, leb-true, ltb-true, le-leb, lt-leb, lt-ltb}
+use Rattle.std.proofs.lemmas.Bool.Decides.{nat_tests}
 use Rattle.std.proofs.lemmas.List.{length-set, get_or-set_same, get_or-set_other, length-replicate, get_or-replicate}
 use Rattle.std.proofs.lemmas.List.Sums.{sum_by-set}
 use Rattle.dma_arena.specs.Numbers.{Numbers, free_count, is_own, is_free, are_all_free, all_free, with_free, NoneFree}
-use Rattle.dma_arena.specs.Laws.{ChangesOne, CountsFree}
+use Rattle.dma_arena.specs.Laws.{ChangesOne, CountsFree, GivenBack, CutLaw}
 use Rattle.dma_arena.proofs.Numbers.{all_set-is, is_free-of_no_count, count_by-of_none}
 
 -- what an arena owns
@@ -139,3 +140,27 @@ free_all first count number false own = not_free (all_free first count) number (
 
 pub is_free-all_free : (first count number : ℕ) → is_free (all_free first count) number ≡ is_own (all_free first count) number
 is_free-all_free first count number = free_all first count number (is_own (all_free first count) number) refl
+
+-- a number that is taken and given back
+
+set_back : (xs : List Bool) (k : ℕ) → get_or xs k false ≡ true → set (set xs k false) k true ≡ xs
+set_back [] k marked = cc
+set_back (x ∷ xs) zero marked = rw marked refl
+set_back (x ∷ xs) (suc k) marked = ap (λ ys. x ∷ ys) (set_back xs k marked)
+
+pub given_back : GivenBack
+given_back a number free =
+    let k : ℕ = number - a.first in
+    let marked : get_or a.free k false ≡ true = (and_parts (nat_le a.first number) (get_or a.free k false) free).1 in
+    ap (λ (xs : List Bool). let b : Numbers = record { first = a.first; free = xs } in b) (set_back a.free k marked)
+
+-- a cut
+
+pub cut_law : CutLaw
+cut_law a at inside =
+    let below = length-replicate (at - a.first) true in
+    let above = length-replicate (a.first + length a.free - at) true in
+    record {
+      each = λ number. rw (below, above) (grind (arith, nat_tests));
+      once = λ number. rw (below, above) (grind (arith, nat_tests));
+    }

@@ -3,6 +3,7 @@ use Rattle.std.specs.Cmp.{nat_cmp_total}
 use Rattle.std.specs.FinMap as map
 use Rattle.std.proofs.lemmas.Bool.{cases_eq, cases_lt}
 use Rattle.std.proofs.lemmas.List.{drop_more, length-set}
+use Rattle.dma_arena.specs.Block.{IsBlock}
 use Rattle.dma_arena.specs.Memory.{Memory, has_block, byte_at, is_lent, read_at, set_byte, write_at, put_bytes, part, IsWhole, Avoids}
 use Rattle.dma_arena.specs.Laws.{InsideBlock}
 use Rattle.dma_arena.proofs.Bytes.{put_bytes-none, put_bytes-more}
@@ -78,7 +79,7 @@ is_lent_in m a n q at has e h =
 -- all of that of one lent block
 pub InsideBlock-of_get : (m : Memory) (q at : ℕ) (xs : List ℕ) → IsWhole m → map.get m q ≡ Some xs → InsideBlock m q at xs
 InsideBlock-of_get m q at xs whole is =
-    let size : length xs ≡ 2048 = whole.size q xs is in
+    let size : length xs ≡ 2048 = (whole.block q xs is).size in
     let has : has_block m q ≡ true = rw is refl in
     record {
       lent = λ n room. is_lent_in m (2048 * q + at) n q at has refl room;
@@ -105,36 +106,26 @@ byte_at-insert_same m q xs k lt =
     let place : (2048 * q + k) % 2048 ≡ k = omega arith in
     rw (block, place, get-insert_same m q xs) refl
 
-size-insert : (m : Memory) (q : ℕ) (xs : List ℕ) → IsWhole m → length xs ≡ 2048 → (r : ℕ) (ys : List ℕ) → (r ≡ q) ⊎ (r ≢ q) → map.get (map.insert m q xs) r ≡ Some ys → length ys ≡ 2048
-size-insert m q xs whole len r ys (inl e) h =
+IsBlock-insert : (m : Memory) (q : ℕ) (xs : List ℕ) → IsWhole m → IsBlock (record { number = q; bytes = xs })
+    → (r : ℕ) (ys : List ℕ) → (r ≡ q) ⊎ (r ≢ q) → map.get (map.insert m q xs) r ≡ Some ys
+    → IsBlock (record { number = r; bytes = ys })
+IsBlock-insert m q xs whole new r ys (inl e) h =
     let f : Some xs ≡ Some ys = sym (rw e (get-insert_same m q xs)) ∙ h in
     let g : xs ≡ ys = cc in
-    rw (← g) len
-size-insert m q xs whole len r ys (inr ne) h = whole.size r ys (sym (get-insert_other m q xs r ne) ∙ h)
+    rw (e, ← g) new
+IsBlock-insert m q xs whole new r ys (inr ne) h = whole.block r ys (sym (get-insert_other m q xs r ne) ∙ h)
 
-small-insert : (m : Memory) (q : ℕ) (xs : List ℕ) → IsWhole m → q < 65536 → (r : ℕ) → (r ≡ q) ⊎ (r ≢ q) → has_block (map.insert m q xs) r ≡ true → r < 65536
-small-insert m q xs whole low r (inl e) h = omega arith
-small-insert m q xs whole low r (inr ne) h = whole.small r (rw (get-insert_other m q xs r ne) at h)
+pub IsWhole-insert : (m : Memory) (q : ℕ) (xs : List ℕ)
+    → IsWhole m → IsBlock (record { number = q; bytes = xs }) → IsWhole (map.insert m q xs)
+IsWhole-insert m q xs whole new = record { block = λ r ys h. IsBlock-insert m q xs whole new r ys (cases_eq r q) h }
 
-pub IsWhole-insert : (m : Memory) (q : ℕ) (xs : List ℕ) → IsWhole m → length xs ≡ 2048 → q < 65536 → IsWhole (map.insert m q xs)
-IsWhole-insert m q xs whole len low = record {
-  size = λ r ys h. size-insert m q xs whole len r ys (cases_eq r q) h;
-  small = λ r h. small-insert m q xs whole low r (cases_eq r q) h;
-}
-
-size-remove : (m : Memory) (q : ℕ) → IsWhole m → (r : ℕ) (ys : List ℕ) → (r ≡ q) ⊎ (r ≢ q) → map.get (map.remove m q) r ≡ Some ys → length ys ≡ 2048
-size-remove m q whole r ys (inl e) h = let f : None ≡ Some ys = sym (rw e (get-remove_same m q)) ∙ h in cc
-size-remove m q whole r ys (inr ne) h = whole.size r ys (sym (get-remove_other m q r ne) ∙ h)
-
-small-remove : (m : Memory) (q : ℕ) → IsWhole m → (r : ℕ) → (r ≡ q) ⊎ (r ≢ q) → has_block (map.remove m q) r ≡ true → r < 65536
-small-remove m q whole r (inl e) h = let f = rw (e, get-remove_same m q) at h in cc
-small-remove m q whole r (inr ne) h = whole.small r (rw (get-remove_other m q r ne) at h)
+IsBlock-remove : (m : Memory) (q : ℕ) → IsWhole m → (r : ℕ) (ys : List ℕ) → (r ≡ q) ⊎ (r ≢ q)
+    → map.get (map.remove m q) r ≡ Some ys → IsBlock (record { number = r; bytes = ys })
+IsBlock-remove m q whole r ys (inl e) h = let f : None ≡ Some ys = sym (rw e (get-remove_same m q)) ∙ h in cc
+IsBlock-remove m q whole r ys (inr ne) h = whole.block r ys (sym (get-remove_other m q r ne) ∙ h)
 
 pub IsWhole-remove : (m : Memory) (q : ℕ) → IsWhole m → IsWhole (map.remove m q)
-IsWhole-remove m q whole = record {
-  size = λ r ys h. size-remove m q whole r ys (cases_eq r q) h;
-  small = λ r h. small-remove m q whole r (cases_eq r q) h;
-}
+IsWhole-remove m q whole = record { block = λ r ys h. IsBlock-remove m q whole r ys (cases_eq r q) h }
 
 absent_case : (m : Memory) (q r : ℕ) → map.get m q ≡ None → (r ≡ q) ⊎ (r ≢ q) → map.get (map.remove m q) r ≡ map.get m r
 absent_case m q r none (inl e) = rw (e, get-remove_same m q) (sym none)

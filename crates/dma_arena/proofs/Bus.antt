@@ -4,6 +4,7 @@ use Rattle.std.specs.FinMap as map
 use Rattle.std.specs.FinMap.{gets}
 use Rattle.std.proofs.lemmas.Bool.{cases_eq, and_parts}
 use Rattle.std.proofs.lemmas.List.{length-set, get_or-set_same, get_or-set_other}
+use Rattle.dma_arena.specs.Block.{IsBlock}
 use Rattle.dma_arena.specs.Memory.{Memory, has_block, byte_at, is_lent, read_at, with_byte, set_byte, write_at, IsWhole, SameLent, IsOutside, AreApart}
 
 -- the map of lent blocks
@@ -71,23 +72,23 @@ unfolding write_at
 SameLent-write_at m a [] q = refl
 SameLent-write_at m a (b ∷ bs) q = SameLent-write_at (set_byte m a b) (a + 1) bs q ∙ SameLent-set_byte m a b q
 
-size-with_byte : (m : Memory) (a b q : ℕ) (o : Option (List ℕ)) → IsWhole m → map.get m (a / 2048) ≡ o → (a / 2048 ≡ q) ⊎ (a / 2048 ≢ q)
-    → (ys : List ℕ) → map.get (with_byte m a b o) q ≡ Some ys → length ys ≡ 2048
-size-with_byte m a b q None whole is s ys h = whole.size q ys h
-size-with_byte m a b q (Some xs) whole is (inl e) ys h =
-    let f : Some (set xs (a % 2048) b) ≡ Some ys = sym (rw (← e) (get-insert_same m (a / 2048) (set xs (a % 2048) b))) ∙ h in
-    let g : set xs (a % 2048) b ≡ ys = cc in
-    rw (← g, length-set) (whole.size (a / 2048) xs is)
-size-with_byte m a b q (Some xs) whole is (inr ne) ys h = whole.size q ys (sym (get-with_byte_other m a b q (Some xs) ne) ∙ h)
-
-size-set_byte : (m : Memory) (a b : ℕ) → IsWhole m → (q : ℕ) (ys : List ℕ) → map.get (set_byte m a b) q ≡ Some ys → length ys ≡ 2048
-unfolding set_byte
-size-set_byte m a b whole q ys h = size-with_byte m a b q (map.get m (a / 2048)) whole refl (cases_eq (a / 2048) q) ys h
+IsBlock-with_byte : (m : Memory) (a b q : ℕ) (o : Option (List ℕ))
+    → IsWhole m → map.get m (a / 2048) ≡ o → (a / 2048 ≡ q) ⊎ (a / 2048 ≢ q)
+    → (ys : List ℕ) → map.get (with_byte m a b o) q ≡ Some ys → IsBlock (record { number = q; bytes = ys })
+IsBlock-with_byte m a b q None whole is s ys h = whole.block q ys h
+IsBlock-with_byte m a b q (Some xs) whole is (inl e) ys h =
+    let new : List ℕ = set xs (a % 2048) b in
+    let f : Some new ≡ Some ys = sym (rw (← e) (get-insert_same m (a / 2048) new)) ∙ h in
+    let g : new ≡ ys = cc in
+    let old = whole.block (a / 2048) xs is in
+    record { size = rw (← g, length-set) old.size; small = rw (← e) old.small }
+IsBlock-with_byte m a b q (Some xs) whole is (inr ne) ys h =
+    whole.block q ys (sym (get-with_byte_other m a b q (Some xs) ne) ∙ h)
 
 pub IsWhole-set_byte : (m : Memory) (a b : ℕ) → IsWhole m → IsWhole (set_byte m a b)
+unfolding set_byte
 IsWhole-set_byte m a b whole = record {
-  size = size-set_byte m a b whole;
-  small = λ q h. whole.small q (sym (SameLent-set_byte m a b q) ∙ h);
+  block = λ q ys h. IsBlock-with_byte m a b q (map.get m (a / 2048)) whole refl (cases_eq (a / 2048) q) ys h;
 }
 
 -- a write leaves each block's length
@@ -115,6 +116,12 @@ pub of_some : (o : Option (List ℕ)) → is_some o ≡ true → (xs : List ℕ)
 of_some None h = absurd (search rules)
 of_some (Some xs) h = (xs, refl)
 
+-- the number of a lent block is small
+pub small_of_lent : (m : Memory) (q : ℕ) → IsWhole m → has_block m q ≡ true → q < 65536
+small_of_lent m q whole lent =
+    let there : (xs : List ℕ) × (map.get m q ≡ Some xs) = of_some (map.get m q) lent in
+    (whole.block q there.0 there.1).small
+
 -- a lent range is one whose bytes are all in lent blocks
 pub is_lent_each : (m : Memory) (a n c : ℕ) → is_lent m a n ≡ true → a ≤ c → c < a + n → has_block m (c / 2048) ≡ true
 is_lent_each m a zero c h low high = absurd (omega arith)
@@ -133,7 +140,7 @@ is_lent_of_each m a (suc n) each =
 pub lent_end : (m : Memory) (a n : ℕ) → IsWhole m → is_lent m a n ≡ true → 0 < n → a + n ≤ 134217728
 lent_end m a n whole lent some =
     let last : has_block m ((a + n - 1) / 2048) ≡ true = is_lent_each m a n (a + n - 1) lent (omega arith) (omega arith) in
-    let low : (a + n - 1) / 2048 < 65536 = whole.small ((a + n - 1) / 2048) last in
+    let low : (a + n - 1) / 2048 < 65536 = small_of_lent m ((a + n - 1) / 2048) whole last in
     omega arith
 
 -- reads and writes
@@ -160,7 +167,7 @@ byte_at-write_at_same m a [] k whole lent lt = absurd (omega arith)
 byte_at-write_at_same m a (b ∷ bs) zero whole lent lt =
     let first : (xs : List ℕ) × (map.get m (a / 2048) ≡ Some xs) = of_some _ (is_lent_first m a (length bs) lent) in
     let here : IsOutside (a + 0) (a + 1) (length bs) = inl (omega arith) in
-    byte_at-write_at_other (set_byte m a b) (a + 1) bs (a + 0) here ∙ rw add-zero (byte_at-set_byte_same m a b first.0 first.1 (whole.size (a / 2048) first.0 first.1))
+    byte_at-write_at_other (set_byte m a b) (a + 1) bs (a + 0) here ∙ rw add-zero (byte_at-set_byte_same m a b first.0 first.1 (whole.block (a / 2048) first.0 first.1).size)
 byte_at-write_at_same m a (b ∷ bs) (suc k) whole lent lt =
     let there : is_lent (set_byte m a b) (a + 1) (length bs) ≡ true =
     is_lent-same (set_byte m a b) m (SameLent-set_byte m a b) (a + 1) (length bs) ∙ is_lent_rest m a (length bs) lent in
@@ -199,7 +206,7 @@ read_at-write_at_same m a [] whole lent = refl
 read_at-write_at_same m a (b ∷ bs) whole lent =
     let first : (xs : List ℕ) × (map.get m (a / 2048) ≡ Some xs) = of_some _ (is_lent_first m a (length bs) lent) in
     let here : byte_at (write_at (set_byte m a b) (a + 1) bs) a ≡ b =
-    byte_at-write_at_other (set_byte m a b) (a + 1) bs a (inl (omega arith)) ∙ byte_at-set_byte_same m a b first.0 first.1 (whole.size (a / 2048) first.0 first.1) in
+    byte_at-write_at_other (set_byte m a b) (a + 1) bs a (inl (omega arith)) ∙ byte_at-set_byte_same m a b first.0 first.1 (whole.block (a / 2048) first.0 first.1).size in
     let there : is_lent (set_byte m a b) (a + 1) (length bs) ≡ true =
     is_lent-same (set_byte m a b) m (SameLent-set_byte m a b) (a + 1) (length bs) ∙ is_lent_rest m a (length bs) lent in
     rw (here, read_at-write_at_same (set_byte m a b) (a + 1) bs (IsWhole-set_byte m a b whole) there) refl

@@ -9,9 +9,9 @@ use borrow.Rule.Slice.PartMut.{put_mid}
 use Rattle.dma_arena.specs.Block.{Block}
 use Rattle.dma_arena.specs.Memory.{Memory, has_block, is_lent, read_at, write_at}
 use Rattle.dma_arena.specs.Shown.{shown, IsKept}
-use Rattle.dma_arena.proofs.Bus.{SameLent-write_at, is_lent-same, is_lent_first, is_lent-append, lent_end, write_at-append, read_at-append, length-read_at}
+use Rattle.dma_arena.proofs.Bus.{small_of_lent, SameLent-write_at, is_lent-same, is_lent_first, is_lent-append, lent_end, write_at-append, read_at-append, length-read_at}
 use Rattle.dma_arena.proofs.Blocks.{is_lent_in}
-use Rattle.dma_arena.proofs.Shown.{has_block-shown, IsWhole-shown, shown_small}
+use Rattle.dma_arena.proofs.Shown.{has_block-shown, IsWhole-shown}
 
 -- a range that is gone through in chunks, each inside one block
 
@@ -62,7 +62,7 @@ pub missing : (m : BTreeMap ℕ Block) (a done len : ℕ) → done < len → is_
 missing m a done len h gone = gone_at (shown m) a done len h (has_block-shown m ((a + done) / 2048) ∙ gone)
 
 far_gone : (m : BTreeMap ℕ Block) (q : ℕ) (there : Bool) → IsKept m → has_block (shown m) q ≡ there → 65536 ≤ q → there ≡ false
-far_gone m q true kept is far = let low = shown_small m q kept is in absurd (omega (arith, low))
+far_gone m q true kept is far = let low = small_of_lent (shown m) q (IsWhole-shown m kept) is in absurd (omega (arith, low))
 far_gone m q false kept is far = refl
 
 pub missing_far : (m : BTreeMap ℕ Block) (a done len : ℕ) → IsKept m → done < len → 65536 ≤ (a + done) / 2048 → is_lent (shown m) a len ≡ false

@@ -1,14 +1,16 @@
-use Rattle.std.proofs.Common.{◌≡◌, ◌≢◌, ℕ, ◌+◌, ◌⊎◌, inl, inr, Bool, true, false, cond, List, [], ◌∷◌, eqb, refl, sym, subst, ◌∙◌, arith}
+use Rattle.std.specs.Prelude.{◌||◌}
+use Rattle.std.proofs.Common.{◌≡◌, ◌≢◌, ℕ, ◌+◌, ◌-◌, length, ◌⊎◌, inl, inr, Bool, true, false, cond, List, [], ◌∷◌, eqb, refl, sym, subst, ◌∙◌, arith}
 use Rattle.std.specs.FinMap as map
 use Rattle.std.specs.Ordering.{nat_cmp}
 use Rattle.std.proofs.lemmas.Bool.{cases_eq}
 use Rattle.std.proofs.lemmas.Bool.Decides.{nat_tests}
 use Rattle.std.proofs.lemmas.List.Sums.{sum_by-cons}
 use Rattle.dma_arena.specs.Memory.{Memory, has_block}
-use Rattle.dma_arena.specs.Numbers.{Numbers, is_own, is_free, all_free, with_free}
+use Rattle.dma_arena.specs.Numbers.{Numbers, is_own, is_free, are_all_free, all_free, with_free, numbers_below, numbers_from, IsInside}
+use Rattle.dma_arena.specs.Laws.{PartsNumbers}
 use Rattle.dma_arena.specs.Whereabouts.{times_in_hand, places_of, EachOnce, MovesKeepEachOnce}
 use Rattle.dma_arena.proofs.Bus.{get-insert_same, get-insert_other, get-remove_same, get-remove_other}
-use Rattle.dma_arena.proofs.Arenas.{is_own-of_free, is_own-with_free, is_free-with_free_same, is_free-with_free_other, is_free-all_free}
+use Rattle.dma_arena.proofs.Arenas.{is_own-of_free, is_own-with_free, is_free-with_free_same, is_free-with_free_other, is_free-all_free, CountsFree-numbers, cut_law}
 
 -- what is in hand
 
@@ -37,6 +39,10 @@ has_block-remove_same m n = rw (get-remove_same m n) refl
 
 has_block-remove_other : (m : Memory) (n k : ℕ) → k ≢ n → has_block (map.remove m n) k ≡ has_block m k
 has_block-remove_other m n k ne = rw (get-remove_other m n k ne) refl
+
+or_true : (x : Bool) → (x || true) ≡ true
+or_true true = refl
+or_true false = refl
 
 -- the places of a number, told by its parts
 abbrev counted : Bool → ℕ → Bool → ℕ
@@ -122,13 +128,52 @@ welcome_in a hand m n own once =
 made_case : (first count : ℕ) → EachOnce (all_free first count) [] map.empty
 made_case first count k own = rw (is_free-all_free first count k, own, map.get-empty {X = List ℕ} nat_cmp k) refl
 
+given_all : (a : Numbers) (hand : List ℕ) (m : Memory) (n : ℕ)
+    → is_own a n ≡ true → EachOnce a (n ∷ hand) m → EachOnce (with_free a n true) hand m
+given_all a hand m n mine once k own =
+    given_case a hand m n mine once k (cases_eq k n) (sym (is_own-with_free a n true k) ∙ own)
+
+-- a foreign block leaves
+left_case : (a : Numbers) (hand : List ℕ) (m : Memory) (n : ℕ)
+    → is_own a n ≡ false → EachOnce a (n ∷ hand) m → EachOnce a hand m
+left_case a hand m n other once k own =
+    let ne : k ≢ n = λ e. let h : true ≡ false = sym own ∙ rw e other in cc in
+    told (is_free a k) (is_free a k) (times_in_hand hand k) (times_in_hand (n ∷ hand) k) (has_block m k) (has_block m k)
+    refl (sym (times_rest hand n k ne)) refl (once k own)
+
+-- numbers that are free in an arena and in a part of it
+part_case : (a part : Numbers) (hand : List ℕ) (m : Memory) → are_all_free a ≡ true → EachOnce a hand m
+    → ((k : ℕ) → is_own part k ≡ true → (is_own a k ≡ true) × (is_free part k ≡ true)) → EachOnce part hand m
+part_case a part hand m all once within k own =
+    let there = within k own in
+    let free : is_free a k ≡ true = (CountsFree-numbers a).all.0 all k there.0 in
+    told (is_free part k) (is_free a k) (times_in_hand hand k) (times_in_hand hand k) (has_block m k) (has_block m k)
+    (there.1 ∙ sym free) refl refl (once k there.0)
+
+split_case : (a : Numbers) (hand : List ℕ) (m : Memory) (at : ℕ)
+    → are_all_free a ≡ true → IsInside a at → EachOnce a hand m
+    → EachOnce (numbers_below a at) hand m × EachOnce (numbers_from a at) hand m
+split_case a hand m at all inside once =
+    let parts : PartsNumbers a at = cut_law a at inside in (
+      part_case a (numbers_below a at) hand m all once
+          (λ k own. (parts.each k ∙ rw own refl, is_free-all_free a.first (at - a.first) k ∙ own)),
+      part_case a (numbers_from a at) hand m all once
+          (λ k own. (parts.each k ∙ rw own (or_true _), is_free-all_free at (a.first + length a.free - at) k ∙ own)),
+    )
+
 pub moves_keep_each_once : MovesKeepEachOnce
 moves_keep_each_once = record {
   made = made_case;
   taken = λ a hand m n free once k own. taken_case a hand m n free once k (cases_eq k n) (sym (is_own-with_free a n false k) ∙ own);
-  given = λ a hand m n mine once k own. given_case a hand m n mine once k (cases_eq k n) (sym (is_own-with_free a n true k) ∙ own);
+  given = given_all;
   lent = λ a hand m n xs absent once k own. lent_case a hand m n xs absent once k (cases_eq k n) own;
   back = λ a hand m n there once k own. back_case a hand m n there once k (cases_eq k n) own;
   foreign = λ a hand m n other once k own. foreign_case a hand m n other once k (cases_eq k n) own;
+  home = λ a home hand m n other mine away once.
+      ((welcome_in home hand m n mine once).0, left_case a hand m n other away, given_all home hand m n mine once);
+  split = split_case;
+  order = λ a hand other m same once k own.
+      told (is_free a k) (is_free a k) (times_in_hand other k) (times_in_hand hand k) (has_block m k) (has_block m k)
+      refl (sym (same k)) refl (once k own);
   welcome = welcome_in;
 }

@@ -15,7 +15,7 @@ returns-then-contains_key-clause-twice c =
 
 pub invariant_of-self : goal.invariant_of-self
 invariant_of-self c = elim c.match-insert.branch [
-  | in-Ok-None w ↦ IsKept-put c.self.inside.blocks c.insert.new.self c.block-number.result c.args.buf c.self.invariant (sym c.block-number.ensures.number) c.bytes.ensures.whole c.block-number.ensures.small w.in-Ok-None.ensures.updates
+  | in-Ok-None w ↦ IsKept-put c.self.inside.blocks c.insert.new.self c.block-number.result c.args.buf c.self.invariant (sym c.block-number.ensures.number) c.bytes.ensures.whole w.in-Ok-None.ensures.updates
   | in-Err w ↦ λ q. rw w.in-Err.ensures.err (c.self.invariant q)
 ]
 

@@ -8,7 +8,8 @@ use Rattle.std.specs.Prelude.{Some, Bool, ◌||◌, ◌&&◌}
 
 -- a range is lent exactly where each block that it touches is
 abbrev pub LentByBlocks : Type 0
-LentByBlocks = (m : Memory) (a n : ℕ) → (is_lent m a n ≡ true) ↔ ((c : ℕ) → a ≤ c → c < a + n → has_block m (c / 2048) ≡ true)
+LentByBlocks =
+    (m : Memory) (a n : ℕ) → (is_lent m a n ≡ true) ↔ ((c : ℕ) → a ≤ c → c < a + n → has_block m (c / 2048) ≡ true)
 
 -- a lent range ends at the end of block 65,535 at most, so that no address in it wraps
 abbrev pub LentEnds : Type 0
@@ -38,7 +39,8 @@ WritesInside =
 
 -- a write changes neither which blocks are lent nor how long they are
 abbrev pub WriteKeepsBlocks : Type 0
-WriteKeepsBlocks = (m : Memory) (a : ℕ) (bytes : List ℕ) → SameLent (write_at m a bytes) m × (IsWhole m → IsWhole (write_at m a bytes))
+WriteKeepsBlocks =
+    (m : Memory) (a : ℕ) (bytes : List ℕ) → SameLent (write_at m a bytes) m × (IsWhole m → IsWhole (write_at m a bytes))
 
 -- lending a block and taking one change no byte of another
 abbrev pub MovesApart : Type 0
@@ -68,10 +70,13 @@ ReadsItsBlock =
 pub record InsideBlock (m : Memory) (number at : ℕ) (block : List ℕ) : Type 0 where
   pub lent : (n : ℕ) → at + n ≤ 2048 → is_lent m (2048 * number + at) n ≡ true
   pub read : (n : ℕ) → at + n ≤ 2048 → read_at m (2048 * number + at) n ≡ part block at n
-  pub written : (bytes : List ℕ) → at + length bytes ≤ 2048 → write_at m (2048 * number + at) bytes ≡ map.insert m number (put_bytes block at bytes)
+  pub written : (bytes : List ℕ) → at + length bytes ≤ 2048
+      → write_at m (2048 * number + at) bytes ≡ map.insert m number (put_bytes block at bytes)
 
 abbrev pub BlockLaw : Type 0
-BlockLaw = (m : Memory) (number at : ℕ) (block : List ℕ) → IsWhole m → map.get m number ≡ Some block → InsideBlock m number at block
+BlockLaw =
+    (m : Memory) (number at : ℕ) (block : List ℕ) → IsWhole m → map.get m number ≡ Some block
+    → InsideBlock m number at block
 
 -- what was put into a block is there, and the rest of the block stays
 abbrev pub PutLaw : Type 0
@@ -116,7 +121,8 @@ pub record CountsFree (a : Numbers) : Type 0 where
   pub all : (are_all_free a ≡ true) ↔ ((number : ℕ) → is_own a number ≡ true → is_free a number ≡ true)
   pub own : (number : ℕ) → is_free a number ≡ true → is_own a number ≡ true
   pub taken : (number : ℕ) → is_free a number ≡ true → free_count (with_free a number false) + 1 ≡ free_count a
-  pub given : (number : ℕ) → is_own a number ≡ true → is_free a number ≡ false → free_count (with_free a number true) ≡ free_count a + 1
+  pub given : (number : ℕ) → is_own a number ≡ true → is_free a number ≡ false
+      → free_count (with_free a number true) ≡ free_count a + 1
 
 abbrev pub CountLaw : Type 0
 CountLaw = (a : Numbers) → CountsFree a

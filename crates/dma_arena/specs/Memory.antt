@@ -53,7 +53,8 @@ part block at n = take n (drop at block)
 
 -- each lent block is a block of packet memory
 pub record IsWhole (m : Memory) : Type 0 where
-  pub block : (number : ℕ) (bytes : List ℕ) → map.get m number ≡ Some bytes → IsBlock (record { number = number; bytes = bytes })
+  pub block : (number : ℕ) (bytes : List ℕ) → map.get m number ≡ Some bytes
+      → IsBlock (record { number = number; bytes = bytes })
 
 -- the same blocks are lent in both
 abbrev pub SameLent : Memory → Memory → Type 0

@@ -53,7 +53,9 @@ number_times true n = omega arith
 number_times false n = omega arith
 
 -- the word of a packet, and the bits of its fields
-packet_word : (packet : Packet) → told_of packet ≡ packet.rss + 16 * number packet.ipv4 + 64 * number packet.ipv6 + 256 * number packet.tcp + 512 * number packet.udp + 2 ^ 32 * packet.hash
+packet_word : (packet : Packet)
+    → told_of packet ≡ packet.rss + 16 * number packet.ipv4 + 64 * number packet.ipv6 + 256 * number packet.tcp
+    + 512 * number packet.udp + 2 ^ 32 * packet.hash
 packet_word packet = simp number_times
 
 pub packet_is_told : PacketIsTold

@@ -1,24 +1,28 @@
-use Rattle.std.proofs.Common.{◌≡◌, ◌≢◌, ℕ, zero, suc, ◌+◌, ◌-◌, ◌<◌, ◌≤◌, inl, inr, Bool, true, false, cond, List, [], ◌∷◌, length, get_or, refl, sym, ap, ◌∙◌, arith, add-zero}
+use Rattle.std.proofs.Common.{◌≡◌, ◌≢◌, ℕ, zero, suc, ◌+◌, ◌-◌, ◌<◌, ◌≤◌, inl, inr, Bool, true, false, cond, List, [], ◌∷◌, length, set, get_or, refl, sym, ap, ◌∙◌, arith, add-zero}
 use Rattle.std.specs.Prelude.{nat_le, nat_lt}
 use Rattle.std.specs.List.{list_all}
 use Rattle.std.proofs.lemmas.Bool.{and_parts, cases_lt, leb-true, ltb-true, le-leb, lt-leb, lt-ltb}
+use Rattle.std.proofs.lemmas.Bool.Decides.{nat_tests}
 use Rattle.std.proofs.lemmas.List.{length-set, get_or-set_same, get_or-set_other, length-replicate, get_or-replicate}
 use Rattle.std.proofs.lemmas.List.Sums.{sum_by-set}
 use Rattle.dma_arena.specs.Numbers.{Numbers, free_count, is_own, is_free, are_all_free, all_free, with_free, NoneFree}
-use Rattle.dma_arena.specs.Laws.{ChangesOne, CountsFree}
+use Rattle.dma_arena.specs.Laws.{ChangesOne, CountsFree, GivenBack, CutLaw}
 use Rattle.dma_arena.proofs.Numbers.{all_set-is, is_free-of_no_count, count_by-of_none}
 
 -- what an arena owns
 
-pub own_within : (a : Numbers) (number : ℕ) → is_own a number ≡ true → (a.first ≤ number) × (number < a.first + length a.free)
+pub own_within : (a : Numbers) (number : ℕ) → is_own a number ≡ true → (a.first ≤ number)
+    × (number < a.first + length a.free)
 own_within a number own =
     let both = and_parts (nat_le a.first number) (nat_lt number (a.first + length a.free)) own in
     (leb-true a.first number both.0, ltb-true number (a.first + length a.free) both.1)
 
-pub own_of_within : (a : Numbers) (number : ℕ) → a.first ≤ number → number < a.first + length a.free → is_own a number ≡ true
+pub own_of_within : (a : Numbers) (number : ℕ) → a.first ≤ number → number < a.first + length a.free
+    → is_own a number ≡ true
 own_of_within a number low high = rw (le-leb a.first number low, lt-ltb number (a.first + length a.free) high) refl
 
-pub is_free_from : (a : Numbers) (number : ℕ) → a.first ≤ number → is_free a number ≡ get_or a.free (number - a.first) false
+pub is_free_from : (a : Numbers) (number : ℕ) → a.first ≤ number
+    → is_free a number ≡ get_or a.free (number - a.first) false
 is_free_from a number low = rw (le-leb a.first number low) refl
 
 pub is_free_below : (a : Numbers) (number : ℕ) → number < a.first → is_free a number ≡ false
@@ -39,16 +43,19 @@ is_own-of_free a number free =
 
 -- one number changes
 
-pub is_own-with_free : (a : Numbers) (number : ℕ) (free : Bool) (other : ℕ) → is_own (with_free a number free) other ≡ is_own a other
+pub is_own-with_free : (a : Numbers) (number : ℕ) (free : Bool) (other : ℕ)
+    → is_own (with_free a number free) other ≡ is_own a other
 is_own-with_free a number free other = rw (length-set a.free (number - a.first) free) refl
 
-pub is_free-with_free_same : (a : Numbers) (number : ℕ) (free : Bool) → is_own a number ≡ true → is_free (with_free a number free) number ≡ free
+pub is_free-with_free_same : (a : Numbers) (number : ℕ) (free : Bool) → is_own a number ≡ true
+    → is_free (with_free a number free) number ≡ free
 is_free-with_free_same a number free own =
     let within = own_within a number own in
     let lt : number - a.first < length a.free = omega (arith, within.0, within.1) in
     rw (le-leb a.first number within.0, get_or-set_same a.free (number - a.first) free false lt) refl
 
-pub is_free-with_free_other : (a : Numbers) (number : ℕ) (free : Bool) (other : ℕ) → is_own a number ≡ true → other ≢ number → is_free (with_free a number free) other ≡ is_free a other
+pub is_free-with_free_other : (a : Numbers) (number : ℕ) (free : Bool) (other : ℕ) → is_own a number ≡ true
+    → other ≢ number → is_free (with_free a number free) other ≡ is_free a other
 is_free-with_free_other a number free other own ne = elim (cases_lt other a.first) [
   | inl below ↦ rw (lt-leb a.first other below) refl
   | inr low ↦
@@ -66,7 +73,8 @@ ChangesOne-with_free a number free own = record {
 
 -- what is counted
 
-pub free_count_taken : (a : Numbers) (number : ℕ) → is_free a number ≡ true → free_count (with_free a number false) + 1 ≡ free_count a
+pub free_count_taken : (a : Numbers) (number : ℕ) → is_free a number ≡ true
+    → free_count (with_free a number false) + 1 ≡ free_count a
 free_count_taken a number free =
     let k : ℕ = number - a.first in
     let marked : get_or a.free k false ≡ true = (and_parts (nat_le a.first number) (get_or a.free k false) free).1 in
@@ -74,7 +82,8 @@ free_count_taken a number free =
     sum_by-set (λ (x : Bool). cond x 1 0) a.free k false false (set_within a.free k marked) in
     ap (λ (x : Bool). free_count (with_free a number false) + cond x 1 0) (sym marked) ∙ sums ∙ add-zero (free_count a)
 
-pub free_count_given : (a : Numbers) (number : ℕ) → is_own a number ≡ true → is_free a number ≡ false → free_count (with_free a number true) ≡ free_count a + 1
+pub free_count_given : (a : Numbers) (number : ℕ) → is_own a number ≡ true → is_free a number ≡ false
+    → free_count (with_free a number true) ≡ free_count a + 1
 free_count_given a number own taken =
     let k : ℕ = number - a.first in
     let within = own_within a number own in
@@ -82,7 +91,8 @@ free_count_given a number own taken =
     let marked : get_or a.free k false ≡ false = sym (is_free_from a number within.0) ∙ taken in
     let sums : free_count (with_free a number true) + cond (get_or a.free k false) 1 0 ≡ free_count a + 1 =
     sum_by-set (λ (x : Bool). cond x 1 0) a.free k true false lt in
-    let whole : free_count (with_free a number true) + 0 ≡ free_count (with_free a number true) = add-zero (free_count (with_free a number true)) in
+    let whole : free_count (with_free a number true) + 0 ≡ free_count (with_free a number true) =
+    add-zero (free_count (with_free a number true)) in
     sym whole ∙ ap (λ (x : Bool). free_count (with_free a number true) + cond x 1 0) (sym marked) ∙ sums
 
 none_counted : (a : Numbers) → NoneFree a → free_count a ≡ 0
@@ -108,7 +118,8 @@ all_own : (a : Numbers) → ((number : ℕ) → is_own a number ≡ true → is_
 all_own a each =
     list_all-of_each a.free (λ k lt.
     let e : (a.first + k) - a.first ≡ k = omega arith in
-    rw e at (sym (is_free_from a (a.first + k) (omega arith)) ∙ each (a.first + k) (own_of_within a (a.first + k) (omega arith) (omega arith))))
+    rw e at (sym (is_free_from a (a.first + k) (omega arith))
+    ∙ each (a.first + k) (own_of_within a (a.first + k) (omega arith) (omega arith))))
 
 pub CountsFree-numbers : (a : Numbers) → CountsFree a
 CountsFree-numbers a = record {
@@ -121,21 +132,53 @@ CountsFree-numbers a = record {
 
 -- a new arena
 
-pub is_own-all_free : (first count number : ℕ) → first ≤ number → number < first + count → is_own (all_free first count) number ≡ true
-is_own-all_free first count number low high = own_of_within (all_free first count) number low (rw (length-replicate count true) high)
+pub is_own-all_free : (first count number : ℕ) → first ≤ number → number < first + count
+    → is_own (all_free first count) number ≡ true
+is_own-all_free first count number low high =
+    own_of_within (all_free first count) number low (rw (length-replicate count true) high)
 
-pub own_within-all_free : (first count number : ℕ) → is_own (all_free first count) number ≡ true → (first ≤ number) × (number < first + count)
-own_within-all_free first count number own = let within = own_within (all_free first count) number own in (within.0, rw (length-replicate count true) at within.1)
+pub own_within-all_free : (first count number : ℕ) → is_own (all_free first count) number ≡ true → (first ≤ number)
+    × (number < first + count)
+own_within-all_free first count number own = let within =
+    own_within (all_free first count) number own in (within.0, rw (length-replicate count true) at within.1)
 
 not_free : (a : Numbers) (number : ℕ) (free : Bool) → is_free a number ≡ free → is_own a number ≡ false → free ≡ false
 not_free a number true free own = sym (is_own-of_free a number free) ∙ own
 not_free a number false free own = refl
 
-free_all : (first count number : ℕ) (own : Bool) → is_own (all_free first count) number ≡ own → is_free (all_free first count) number ≡ own
+free_all : (first count number : ℕ) (own : Bool) → is_own (all_free first count) number ≡ own
+    → is_free (all_free first count) number ≡ own
 free_all first count number true own =
     let within = own_within-all_free first count number own in
-    is_free_from (all_free first count) number within.0 ∙ get_or-replicate count (number - first) true false (omega (arith, within.0, within.1))
-free_all first count number false own = not_free (all_free first count) number (is_free (all_free first count) number) refl own
+    is_free_from (all_free first count) number within.0
+    ∙ get_or-replicate count (number - first) true false (omega (arith, within.0, within.1))
+free_all first count number false own =
+    not_free (all_free first count) number (is_free (all_free first count) number) refl own
 
-pub is_free-all_free : (first count number : ℕ) → is_free (all_free first count) number ≡ is_own (all_free first count) number
+pub is_free-all_free : (first count number : ℕ)
+    → is_free (all_free first count) number ≡ is_own (all_free first count) number
 is_free-all_free first count number = free_all first count number (is_own (all_free first count) number) refl
+
+-- a number that is taken and given back
+
+set_back : (xs : List Bool) (k : ℕ) → get_or xs k false ≡ true → set (set xs k false) k true ≡ xs
+set_back [] k marked = cc
+set_back (x ∷ xs) zero marked = rw marked refl
+set_back (x ∷ xs) (suc k) marked = ap (λ ys. x ∷ ys) (set_back xs k marked)
+
+pub given_back : GivenBack
+given_back a number free =
+    let k : ℕ = number - a.first in
+    let marked : get_or a.free k false ≡ true = (and_parts (nat_le a.first number) (get_or a.free k false) free).1 in
+    ap (λ (xs : List Bool). let b : Numbers = record { first = a.first; free = xs } in b) (set_back a.free k marked)
+
+-- a cut
+
+pub cut_law : CutLaw
+cut_law a at inside =
+    let below = length-replicate (at - a.first) true in
+    let above = length-replicate (a.first + length a.free - at) true in
+    record {
+      each = λ number. rw (below, above) (grind (arith, nat_tests));
+      once = λ number. rw (below, above) (grind (arith, nat_tests));
+    }

@@ -3,6 +3,7 @@ use Rattle.std.specs.Cmp.{nat_cmp_total}
 use Rattle.std.specs.FinMap as map
 use Rattle.std.proofs.lemmas.Bool.{cases_eq, cases_lt}
 use Rattle.std.proofs.lemmas.List.{drop_more, length-set}
+use Rattle.dma_arena.specs.Block.{IsBlock}
 use Rattle.dma_arena.specs.Memory.{Memory, has_block, byte_at, is_lent, read_at, set_byte, write_at, put_bytes, part, IsWhole, Avoids}
 use Rattle.dma_arena.specs.Laws.{InsideBlock}
 use Rattle.dma_arena.proofs.Bytes.{put_bytes-none, put_bytes-more}
@@ -19,14 +20,17 @@ avoids_rest q a n (inl h) = inl (omega arith)
 avoids_rest q a n (inr h) = inr (omega arith)
 
 -- a write leaves each block that its range avoids
-pub get-write_at_out : (m : Memory) (a : ℕ) (bs : List ℕ) (q : ℕ) → Avoids q a (length bs) → map.get (write_at m a bs) q ≡ map.get m q
+pub get-write_at_out : (m : Memory) (a : ℕ) (bs : List ℕ) (q : ℕ) → Avoids q a (length bs)
+    → map.get (write_at m a bs) q ≡ map.get m q
 unfolding write_at
 get-write_at_out m a [] q h = refl
 get-write_at_out m a (b ∷ bs) q h =
-    get-write_at_out (set_byte m a b) (a + 1) bs q (avoids_rest q a (length bs) h) ∙ get-set_byte_other m a b q (avoids_first q a (length bs) h)
+    get-write_at_out (set_byte m a b) (a + 1) bs q (avoids_rest q a (length bs) h)
+    ∙ get-set_byte_other m a b q (avoids_first q a (length bs) h)
 
 -- a write inside one block puts its bytes there
-pub get-write_at_in : (m : Memory) (a : ℕ) (bs : List ℕ) (q at : ℕ) (xs : List ℕ) → map.get m q ≡ Some xs → length xs ≡ 2048 → a ≡ 2048 * q + at → at + length bs ≤ 2048
+pub get-write_at_in : (m : Memory) (a : ℕ) (bs : List ℕ) (q at : ℕ) (xs : List ℕ) → map.get m q ≡ Some xs
+    → length xs ≡ 2048 → a ≡ 2048 * q + at → at + length bs ≤ 2048
     → map.get (write_at m a bs) q ≡ Some (put_bytes xs at bs)
 unfolding write_at
 get-write_at_in m a [] q at xs is whole e h = is ∙ ap (λ (ys : List ℕ). Some ys) (sym (put_bytes-none xs at))
@@ -35,22 +39,31 @@ get-write_at_in m a (b ∷ bs) q at xs is whole e h =
     let place : a % 2048 ≡ at = omega arith in
     let lt : at < length xs = omega arith in
     let here : map.get (set_byte m a b) q ≡ Some (set xs at b) = rw (← place) (get-set_byte_same m a b q xs block is) in
-    get-write_at_in (set_byte m a b) (a + 1) bs q (at + 1) (set xs at b) here (length-set xs at b ∙ whole) (omega arith) (omega arith)
+    get-write_at_in (set_byte m a b) (a + 1) bs q (at + 1) (set xs at b) here (length-set xs at b ∙ whole) (omega arith)
+    (omega arith)
     ∙ ap (λ (ys : List ℕ). Some ys) (put_bytes-more xs at b bs lt)
 
 other_avoids : (q r at n : ℕ) → r ≢ q → at + n ≤ 2048 → Avoids r (2048 * q + at) n
 other_avoids q r at n ne h = elim (cases_lt q r) [ inl l ↦ inl (omega arith) | inr l ↦ inr (omega arith) ]
 
-get-write_at : (m : Memory) (bs : List ℕ) (q at : ℕ) (xs : List ℕ) (r : ℕ) → map.get m q ≡ Some xs → length xs ≡ 2048 → at + length bs ≤ 2048 → (r ≡ q) ⊎ (r ≢ q)
+get-write_at : (m : Memory) (bs : List ℕ) (q at : ℕ) (xs : List ℕ) (r : ℕ) → map.get m q ≡ Some xs → length xs ≡ 2048
+    → at + length bs ≤ 2048 → (r ≡ q) ⊎ (r ≢ q)
     → map.get (write_at m (2048 * q + at) bs) r ≡ map.get (map.insert m q (put_bytes xs at bs)) r
-get-write_at m bs q at xs r is whole h (inl e) = rw (e, get-write_at_in m (2048 * q + at) bs q at xs is whole refl h, get-insert_same m q (put_bytes xs at bs)) refl
+get-write_at m bs q at xs r is whole h (inl e) =
+    rw (e, get-write_at_in m (2048 * q + at) bs q at xs is whole refl h, get-insert_same m q (put_bytes xs at bs)) refl
 get-write_at m bs q at xs r is whole h (inr ne) =
-    rw (get-write_at_out m (2048 * q + at) bs r (other_avoids q r at (length bs) ne h), get-insert_other m q (put_bytes xs at bs) r ne) refl
+    rw (
+      get-write_at_out m (2048 * q + at) bs r (other_avoids q r at (length bs) ne h),
+      get-insert_other m q (put_bytes xs at bs) r ne,
+    ) refl
 
 -- and so it changes that block alone
-pub write_at_in : (m : Memory) (bs : List ℕ) (q at : ℕ) (xs : List ℕ) → map.get m q ≡ Some xs → length xs ≡ 2048 → at + length bs ≤ 2048
+pub write_at_in : (m : Memory) (bs : List ℕ) (q at : ℕ) (xs : List ℕ) → map.get m q ≡ Some xs → length xs ≡ 2048
+    → at + length bs ≤ 2048
     → write_at m (2048 * q + at) bs ≡ map.insert m q (put_bytes xs at bs)
-write_at_in m bs q at xs is whole h = map.same_map nat_cmp_total map.nat_cmp-IsAntisymmetric _ _ (λ r. get-write_at m bs q at xs r is whole h (cases_eq r q))
+write_at_in m bs q at xs is whole h =
+    map.same_map nat_cmp_total map.nat_cmp-IsAntisymmetric _ _
+    (λ r. get-write_at m bs q at xs r is whole h (cases_eq r q))
 
 part-cons : (xs : List ℕ) (at n : ℕ) → at < length xs → part xs at (suc n) ≡ get_or xs at 0 ∷ part xs (at + 1) n
 unfolding part
@@ -61,24 +74,33 @@ unfolding part
 part-none xs at = refl
 
 -- a read inside one block is a part of its bytes
-pub read_at_in : (m : Memory) (a n q at : ℕ) (xs : List ℕ) → map.get m q ≡ Some xs → length xs ≡ 2048 → a ≡ 2048 * q + at → at + n ≤ 2048 → read_at m a n ≡ part xs at n
+pub read_at_in : (m : Memory) (a n q at : ℕ) (xs : List ℕ) → map.get m q ≡ Some xs → length xs ≡ 2048
+    → a ≡ 2048 * q + at → at + n ≤ 2048 → read_at m a n ≡ part xs at n
 unfolding read_at byte_at
 read_at_in m a zero q at xs is whole e h = sym (part-none xs at)
 read_at_in m a (suc n) q at xs is whole e h =
     let block : a / 2048 ≡ q = omega arith in
     let place : a % 2048 ≡ at = omega arith in
     let lt : at < length xs = omega arith in
-    rw (block, place, is, read_at_in m (a + 1) n q (at + 1) xs is whole (omega arith) (omega arith), part-cons xs at n lt) refl
+    rw (
+      block,
+      place,
+      is,
+      read_at_in m (a + 1) n q (at + 1) xs is whole (omega arith) (omega arith),
+      part-cons xs at n lt,
+    ) refl
 
 -- a range inside one lent block is lent
-pub is_lent_in : (m : Memory) (a n q at : ℕ) → has_block m q ≡ true → a ≡ 2048 * q + at → at + n ≤ 2048 → is_lent m a n ≡ true
+pub is_lent_in : (m : Memory) (a n q at : ℕ) → has_block m q ≡ true → a ≡ 2048 * q + at → at + n ≤ 2048
+    → is_lent m a n ≡ true
 is_lent_in m a n q at has e h =
     is_lent_of_each m a n (λ c low high. let block : c / 2048 ≡ q = omega arith in rw block has)
 
 -- all of that of one lent block
-pub InsideBlock-of_get : (m : Memory) (q at : ℕ) (xs : List ℕ) → IsWhole m → map.get m q ≡ Some xs → InsideBlock m q at xs
+pub InsideBlock-of_get : (m : Memory) (q at : ℕ) (xs : List ℕ) → IsWhole m → map.get m q ≡ Some xs
+    → InsideBlock m q at xs
 InsideBlock-of_get m q at xs whole is =
-    let size : length xs ≡ 2048 = whole.size q xs is in
+    let size : length xs ≡ 2048 = (whole.block q xs is).size in
     let has : has_block m q ≡ true = rw is refl in
     record {
       lent = λ n room. is_lent_in m (2048 * q + at) n q at has refl room;
@@ -89,7 +111,8 @@ InsideBlock-of_get m q at xs whole is =
 -- blocks that come and go
 
 -- lending and taking a block changes no byte of another
-pub byte_at-insert_other : (m : Memory) (q : ℕ) (xs : List ℕ) (c : ℕ) → c / 2048 ≢ q → byte_at (map.insert m q xs) c ≡ byte_at m c
+pub byte_at-insert_other : (m : Memory) (q : ℕ) (xs : List ℕ) (c : ℕ) → c / 2048 ≢ q
+    → byte_at (map.insert m q xs) c ≡ byte_at m c
 unfolding byte_at
 byte_at-insert_other m q xs c ne = rw (get-insert_other m q xs (c / 2048) ne) refl
 
@@ -98,43 +121,34 @@ unfolding byte_at
 byte_at-remove_other m q c ne = rw (get-remove_other m q (c / 2048) ne) refl
 
 -- a lent block has the bytes that it was lent with
-pub byte_at-insert_same : (m : Memory) (q : ℕ) (xs : List ℕ) (k : ℕ) → k < 2048 → byte_at (map.insert m q xs) (2048 * q + k) ≡ get_or xs k 0
+pub byte_at-insert_same : (m : Memory) (q : ℕ) (xs : List ℕ) (k : ℕ) → k < 2048
+    → byte_at (map.insert m q xs) (2048 * q + k) ≡ get_or xs k 0
 unfolding byte_at
 byte_at-insert_same m q xs k lt =
     let block : (2048 * q + k) / 2048 ≡ q = omega arith in
     let place : (2048 * q + k) % 2048 ≡ k = omega arith in
     rw (block, place, get-insert_same m q xs) refl
 
-size-insert : (m : Memory) (q : ℕ) (xs : List ℕ) → IsWhole m → length xs ≡ 2048 → (r : ℕ) (ys : List ℕ) → (r ≡ q) ⊎ (r ≢ q) → map.get (map.insert m q xs) r ≡ Some ys → length ys ≡ 2048
-size-insert m q xs whole len r ys (inl e) h =
+IsBlock-insert : (m : Memory) (q : ℕ) (xs : List ℕ) → IsWhole m → IsBlock (record { number = q; bytes = xs })
+    → (r : ℕ) (ys : List ℕ) → (r ≡ q) ⊎ (r ≢ q) → map.get (map.insert m q xs) r ≡ Some ys
+    → IsBlock (record { number = r; bytes = ys })
+IsBlock-insert m q xs whole new r ys (inl e) h =
     let f : Some xs ≡ Some ys = sym (rw e (get-insert_same m q xs)) ∙ h in
     let g : xs ≡ ys = cc in
-    rw (← g) len
-size-insert m q xs whole len r ys (inr ne) h = whole.size r ys (sym (get-insert_other m q xs r ne) ∙ h)
+    rw (e, ← g) new
+IsBlock-insert m q xs whole new r ys (inr ne) h = whole.block r ys (sym (get-insert_other m q xs r ne) ∙ h)
 
-small-insert : (m : Memory) (q : ℕ) (xs : List ℕ) → IsWhole m → q < 65536 → (r : ℕ) → (r ≡ q) ⊎ (r ≢ q) → has_block (map.insert m q xs) r ≡ true → r < 65536
-small-insert m q xs whole low r (inl e) h = omega arith
-small-insert m q xs whole low r (inr ne) h = whole.small r (rw (get-insert_other m q xs r ne) at h)
+pub IsWhole-insert : (m : Memory) (q : ℕ) (xs : List ℕ)
+    → IsWhole m → IsBlock (record { number = q; bytes = xs }) → IsWhole (map.insert m q xs)
+IsWhole-insert m q xs whole new = record { block = λ r ys h. IsBlock-insert m q xs whole new r ys (cases_eq r q) h }
 
-pub IsWhole-insert : (m : Memory) (q : ℕ) (xs : List ℕ) → IsWhole m → length xs ≡ 2048 → q < 65536 → IsWhole (map.insert m q xs)
-IsWhole-insert m q xs whole len low = record {
-  size = λ r ys h. size-insert m q xs whole len r ys (cases_eq r q) h;
-  small = λ r h. small-insert m q xs whole low r (cases_eq r q) h;
-}
-
-size-remove : (m : Memory) (q : ℕ) → IsWhole m → (r : ℕ) (ys : List ℕ) → (r ≡ q) ⊎ (r ≢ q) → map.get (map.remove m q) r ≡ Some ys → length ys ≡ 2048
-size-remove m q whole r ys (inl e) h = let f : None ≡ Some ys = sym (rw e (get-remove_same m q)) ∙ h in cc
-size-remove m q whole r ys (inr ne) h = whole.size r ys (sym (get-remove_other m q r ne) ∙ h)
-
-small-remove : (m : Memory) (q : ℕ) → IsWhole m → (r : ℕ) → (r ≡ q) ⊎ (r ≢ q) → has_block (map.remove m q) r ≡ true → r < 65536
-small-remove m q whole r (inl e) h = let f = rw (e, get-remove_same m q) at h in cc
-small-remove m q whole r (inr ne) h = whole.small r (rw (get-remove_other m q r ne) at h)
+IsBlock-remove : (m : Memory) (q : ℕ) → IsWhole m → (r : ℕ) (ys : List ℕ) → (r ≡ q) ⊎ (r ≢ q)
+    → map.get (map.remove m q) r ≡ Some ys → IsBlock (record { number = r; bytes = ys })
+IsBlock-remove m q whole r ys (inl e) h = let f : None ≡ Some ys = sym (rw e (get-remove_same m q)) ∙ h in cc
+IsBlock-remove m q whole r ys (inr ne) h = whole.block r ys (sym (get-remove_other m q r ne) ∙ h)
 
 pub IsWhole-remove : (m : Memory) (q : ℕ) → IsWhole m → IsWhole (map.remove m q)
-IsWhole-remove m q whole = record {
-  size = λ r ys h. size-remove m q whole r ys (cases_eq r q) h;
-  small = λ r h. small-remove m q whole r (cases_eq r q) h;
-}
+IsWhole-remove m q whole = record { block = λ r ys h. IsBlock-remove m q whole r ys (cases_eq r q) h }
 
 absent_case : (m : Memory) (q r : ℕ) → map.get m q ≡ None → (r ≡ q) ⊎ (r ≢ q) → map.get (map.remove m q) r ≡ map.get m r
 absent_case m q r none (inl e) = rw (e, get-remove_same m q) (sym none)
@@ -142,4 +156,5 @@ absent_case m q r none (inr ne) = get-remove_other m q r ne
 
 -- there is nothing to take where the number is not lent
 pub remove_absent : (m : Memory) (q : ℕ) → map.get m q ≡ None → map.remove m q ≡ m
-remove_absent m q none = map.same_map nat_cmp_total map.nat_cmp-IsAntisymmetric _ _ (λ r. absent_case m q r none (cases_eq r q))
+remove_absent m q none =
+    map.same_map nat_cmp_total map.nat_cmp-IsAntisymmetric _ _ (λ r. absent_case m q r none (cases_eq r q))

@@ -4,6 +4,7 @@ use Rattle.std.specs.FinMap as map
 use Rattle.std.specs.FinMap.{gets}
 use Rattle.std.proofs.lemmas.Bool.{cases_eq, and_parts}
 use Rattle.std.proofs.lemmas.List.{length-set, get_or-set_same, get_or-set_other}
+use Rattle.dma_arena.specs.Block.{IsBlock}
 use Rattle.dma_arena.specs.Memory.{Memory, has_block, byte_at, is_lent, read_at, with_byte, set_byte, write_at, IsWhole, SameLent, IsOutside, AreApart}
 
 -- the map of lent blocks
@@ -22,13 +23,15 @@ get-remove_other m k q ne = grind (gets, rules)
 
 -- one byte
 
-pub get-set_byte_same : (m : Memory) (a b q : ℕ) (xs : List ℕ) → a / 2048 ≡ q → map.get m q ≡ Some xs → map.get (set_byte m a b) q ≡ Some (set xs (a % 2048) b)
+pub get-set_byte_same : (m : Memory) (a b q : ℕ) (xs : List ℕ) → a / 2048 ≡ q → map.get m q ≡ Some xs
+    → map.get (set_byte m a b) q ≡ Some (set xs (a % 2048) b)
 unfolding set_byte
 get-set_byte_same m a b q xs at is =
     let e : map.get m (a / 2048) ≡ Some xs = rw at is in
     rw e (rw at (get-insert_same m q (set xs (a % 2048) b)))
 
-get-with_byte_other : (m : Memory) (a b q : ℕ) (o : Option (List ℕ)) → a / 2048 ≢ q → map.get (with_byte m a b o) q ≡ map.get m q
+get-with_byte_other : (m : Memory) (a b q : ℕ) (o : Option (List ℕ)) → a / 2048 ≢ q
+    → map.get (with_byte m a b o) q ≡ map.get m q
 get-with_byte_other m a b q None ne = refl
 get-with_byte_other m a b q (Some xs) ne = get-insert_other m (a / 2048) (set xs (a % 2048) b) q (λ e. ne (sym e))
 
@@ -36,27 +39,32 @@ pub get-set_byte_other : (m : Memory) (a b q : ℕ) → a / 2048 ≢ q → map.g
 unfolding set_byte
 get-set_byte_other m a b q ne = get-with_byte_other m a b q (map.get m (a / 2048)) ne
 
-pub byte_at-set_byte_same : (m : Memory) (a b : ℕ) (xs : List ℕ) → map.get m (a / 2048) ≡ Some xs → length xs ≡ 2048 → byte_at (set_byte m a b) a ≡ b
+pub byte_at-set_byte_same : (m : Memory) (a b : ℕ) (xs : List ℕ) → map.get m (a / 2048) ≡ Some xs → length xs ≡ 2048
+    → byte_at (set_byte m a b) a ≡ b
 unfolding byte_at
 byte_at-set_byte_same m a b xs is whole =
     let lt : a % 2048 < length xs = omega arith in
     rw (get-set_byte_same m a b (a / 2048) xs refl is) (get_or-set_same xs (a % 2048) b 0 lt)
 
-byte_at-with_byte : (m : Memory) (a b c : ℕ) (o : Option (List ℕ)) → c ≢ a → map.get m (a / 2048) ≡ o → (c / 2048 ≡ a / 2048) ⊎ (c / 2048 ≢ a / 2048) → byte_at (with_byte m a b o) c ≡ byte_at m c
+byte_at-with_byte : (m : Memory) (a b c : ℕ) (o : Option (List ℕ)) → c ≢ a → map.get m (a / 2048) ≡ o
+    → (c / 2048 ≡ a / 2048) ⊎ (c / 2048 ≢ a / 2048) → byte_at (with_byte m a b o) c ≡ byte_at m c
 unfolding byte_at
 byte_at-with_byte m a b c None ne is s = refl
 byte_at-with_byte m a b c (Some xs) ne is (inl e) =
     let apart : c % 2048 ≢ a % 2048 = λ f. ne (omega arith) in
     rw (e, is, get-insert_same m (a / 2048) (set xs (a % 2048) b)) (get_or-set_other xs (a % 2048) (c % 2048) b 0 apart)
-byte_at-with_byte m a b c (Some xs) ne is (inr e) = rw (get-insert_other m (a / 2048) (set xs (a % 2048) b) (c / 2048) e) refl
+byte_at-with_byte m a b c (Some xs) ne is (inr e) =
+    rw (get-insert_other m (a / 2048) (set xs (a % 2048) b) (c / 2048) e) refl
 
 pub byte_at-set_byte_other : (m : Memory) (a b c : ℕ) → c ≢ a → byte_at (set_byte m a b) c ≡ byte_at m c
 unfolding set_byte
-byte_at-set_byte_other m a b c ne = byte_at-with_byte m a b c (map.get m (a / 2048)) ne refl (cases_eq (c / 2048) (a / 2048))
+byte_at-set_byte_other m a b c ne =
+    byte_at-with_byte m a b c (map.get m (a / 2048)) ne refl (cases_eq (c / 2048) (a / 2048))
 
 -- which blocks are lent, and their lengths
 
-has_block-with_byte : (m : Memory) (a b q : ℕ) (o : Option (List ℕ)) → map.get m (a / 2048) ≡ o → (a / 2048 ≡ q) ⊎ (a / 2048 ≢ q) → has_block (with_byte m a b o) q ≡ has_block m q
+has_block-with_byte : (m : Memory) (a b q : ℕ) (o : Option (List ℕ)) → map.get m (a / 2048) ≡ o → (a / 2048 ≡ q)
+    ⊎ (a / 2048 ≢ q) → has_block (with_byte m a b o) q ≡ has_block m q
 has_block-with_byte m a b q None is s = refl
 has_block-with_byte m a b q (Some xs) is (inl e) = rw (← e, get-insert_same m (a / 2048) (set xs (a % 2048) b), is) refl
 has_block-with_byte m a b q (Some xs) is (inr ne) = rw (get-with_byte_other m a b q (Some xs) ne) refl
@@ -71,23 +79,23 @@ unfolding write_at
 SameLent-write_at m a [] q = refl
 SameLent-write_at m a (b ∷ bs) q = SameLent-write_at (set_byte m a b) (a + 1) bs q ∙ SameLent-set_byte m a b q
 
-size-with_byte : (m : Memory) (a b q : ℕ) (o : Option (List ℕ)) → IsWhole m → map.get m (a / 2048) ≡ o → (a / 2048 ≡ q) ⊎ (a / 2048 ≢ q)
-    → (ys : List ℕ) → map.get (with_byte m a b o) q ≡ Some ys → length ys ≡ 2048
-size-with_byte m a b q None whole is s ys h = whole.size q ys h
-size-with_byte m a b q (Some xs) whole is (inl e) ys h =
-    let f : Some (set xs (a % 2048) b) ≡ Some ys = sym (rw (← e) (get-insert_same m (a / 2048) (set xs (a % 2048) b))) ∙ h in
-    let g : set xs (a % 2048) b ≡ ys = cc in
-    rw (← g, length-set) (whole.size (a / 2048) xs is)
-size-with_byte m a b q (Some xs) whole is (inr ne) ys h = whole.size q ys (sym (get-with_byte_other m a b q (Some xs) ne) ∙ h)
-
-size-set_byte : (m : Memory) (a b : ℕ) → IsWhole m → (q : ℕ) (ys : List ℕ) → map.get (set_byte m a b) q ≡ Some ys → length ys ≡ 2048
-unfolding set_byte
-size-set_byte m a b whole q ys h = size-with_byte m a b q (map.get m (a / 2048)) whole refl (cases_eq (a / 2048) q) ys h
+IsBlock-with_byte : (m : Memory) (a b q : ℕ) (o : Option (List ℕ))
+    → IsWhole m → map.get m (a / 2048) ≡ o → (a / 2048 ≡ q) ⊎ (a / 2048 ≢ q)
+    → (ys : List ℕ) → map.get (with_byte m a b o) q ≡ Some ys → IsBlock (record { number = q; bytes = ys })
+IsBlock-with_byte m a b q None whole is s ys h = whole.block q ys h
+IsBlock-with_byte m a b q (Some xs) whole is (inl e) ys h =
+    let new : List ℕ = set xs (a % 2048) b in
+    let f : Some new ≡ Some ys = sym (rw (← e) (get-insert_same m (a / 2048) new)) ∙ h in
+    let g : new ≡ ys = cc in
+    let old = whole.block (a / 2048) xs is in
+    record { size = rw (← g, length-set) old.size; small = rw (← e) old.small }
+IsBlock-with_byte m a b q (Some xs) whole is (inr ne) ys h =
+    whole.block q ys (sym (get-with_byte_other m a b q (Some xs) ne) ∙ h)
 
 pub IsWhole-set_byte : (m : Memory) (a b : ℕ) → IsWhole m → IsWhole (set_byte m a b)
+unfolding set_byte
 IsWhole-set_byte m a b whole = record {
-  size = size-set_byte m a b whole;
-  small = λ q h. whole.small q (sym (SameLent-set_byte m a b q) ∙ h);
+  block = λ q ys h. IsBlock-with_byte m a b q (map.get m (a / 2048)) whole refl (cases_eq (a / 2048) q) ys h;
 }
 
 -- a write leaves each block's length
@@ -115,6 +123,12 @@ pub of_some : (o : Option (List ℕ)) → is_some o ≡ true → (xs : List ℕ)
 of_some None h = absurd (search rules)
 of_some (Some xs) h = (xs, refl)
 
+-- the number of a lent block is small
+pub small_of_lent : (m : Memory) (q : ℕ) → IsWhole m → has_block m q ≡ true → q < 65536
+small_of_lent m q whole lent =
+    let there : (xs : List ℕ) × (map.get m q ≡ Some xs) = of_some (map.get m q) lent in
+    (whole.block q there.0 there.1).small
+
 -- a lent range is one whose bytes are all in lent blocks
 pub is_lent_each : (m : Memory) (a n c : ℕ) → is_lent m a n ≡ true → a ≤ c → c < a + n → has_block m (c / 2048) ≡ true
 is_lent_each m a zero c h low high = absurd (omega arith)
@@ -123,17 +137,20 @@ is_lent_each m a (suc n) c h low high = elim (cases_eq c a) [
   | inr ne ↦ is_lent_each m (a + 1) n c (is_lent_rest m a n h) (omega arith) (omega arith)
 ]
 
-pub is_lent_of_each : (m : Memory) (a n : ℕ) → ((c : ℕ) → a ≤ c → c < a + n → has_block m (c / 2048) ≡ true) → is_lent m a n ≡ true
+pub is_lent_of_each : (m : Memory) (a n : ℕ) → ((c : ℕ) → a ≤ c → c < a + n → has_block m (c / 2048) ≡ true)
+    → is_lent m a n ≡ true
 unfolding is_lent
 is_lent_of_each m a zero each = refl
 is_lent_of_each m a (suc n) each =
-    rw (each a (omega arith) (omega arith)) (is_lent_of_each m (a + 1) n (λ c low high. each c (omega arith) (omega arith)))
+    rw (each a (omega arith) (omega arith))
+    (is_lent_of_each m (a + 1) n (λ c low high. each c (omega arith) (omega arith)))
 
 -- a lent range ends with the last block number at most, so that no address in it wraps
 pub lent_end : (m : Memory) (a n : ℕ) → IsWhole m → is_lent m a n ≡ true → 0 < n → a + n ≤ 134217728
 lent_end m a n whole lent some =
-    let last : has_block m ((a + n - 1) / 2048) ≡ true = is_lent_each m a n (a + n - 1) lent (omega arith) (omega arith) in
-    let low : (a + n - 1) / 2048 < 65536 = whole.small ((a + n - 1) / 2048) last in
+    let last : has_block m ((a + n - 1) / 2048) ≡ true =
+    is_lent_each m a n (a + n - 1) lent (omega arith) (omega arith) in
+    let low : (a + n - 1) / 2048 < 65536 = small_of_lent m ((a + n - 1) / 2048) whole last in
     omega arith
 
 -- reads and writes
@@ -147,20 +164,24 @@ outside_rest c a k (inl h) = inl (omega arith)
 outside_rest c a k (inr h) = inr (omega arith)
 
 -- a write leaves each byte outside its range
-pub byte_at-write_at_other : (m : Memory) (a : ℕ) (bs : List ℕ) (c : ℕ) → IsOutside c a (length bs) → byte_at (write_at m a bs) c ≡ byte_at m c
+pub byte_at-write_at_other : (m : Memory) (a : ℕ) (bs : List ℕ) (c : ℕ) → IsOutside c a (length bs)
+    → byte_at (write_at m a bs) c ≡ byte_at m c
 unfolding write_at
 byte_at-write_at_other m a [] c o = refl
 byte_at-write_at_other m a (b ∷ bs) c o =
-    byte_at-write_at_other (set_byte m a b) (a + 1) bs c (outside_rest c a (length bs) o) ∙ byte_at-set_byte_other m a b c (outside_first c a (length bs) o)
+    byte_at-write_at_other (set_byte m a b) (a + 1) bs c (outside_rest c a (length bs) o)
+    ∙ byte_at-set_byte_other m a b c (outside_first c a (length bs) o)
 
 -- and each byte in its range is the one written there
-pub byte_at-write_at_same : (m : Memory) (a : ℕ) (bs : List ℕ) (k : ℕ) → IsWhole m → is_lent m a (length bs) ≡ true → k < length bs → byte_at (write_at m a bs) (a + k) ≡ get_or bs k 0
+pub byte_at-write_at_same : (m : Memory) (a : ℕ) (bs : List ℕ) (k : ℕ) → IsWhole m → is_lent m a (length bs) ≡ true
+    → k < length bs → byte_at (write_at m a bs) (a + k) ≡ get_or bs k 0
 unfolding write_at
 byte_at-write_at_same m a [] k whole lent lt = absurd (omega arith)
 byte_at-write_at_same m a (b ∷ bs) zero whole lent lt =
     let first : (xs : List ℕ) × (map.get m (a / 2048) ≡ Some xs) = of_some _ (is_lent_first m a (length bs) lent) in
     let here : IsOutside (a + 0) (a + 1) (length bs) = inl (omega arith) in
-    byte_at-write_at_other (set_byte m a b) (a + 1) bs (a + 0) here ∙ rw add-zero (byte_at-set_byte_same m a b first.0 first.1 (whole.size (a / 2048) first.0 first.1))
+    byte_at-write_at_other (set_byte m a b) (a + 1) bs (a + 0) here
+    ∙ rw add-zero (byte_at-set_byte_same m a b first.0 first.1 (whole.block (a / 2048) first.0 first.1).size)
 byte_at-write_at_same m a (b ∷ bs) (suc k) whole lent lt =
     let there : is_lent (set_byte m a b) (a + 1) (length bs) ≡ true =
     is_lent-same (set_byte m a b) m (SameLent-set_byte m a b) (a + 1) (length bs) ∙ is_lent_rest m a (length bs) lent in
@@ -181,32 +202,40 @@ get_or-read_at m a (suc n) (suc k) lt =
     let e : a + suc k ≡ (a + 1) + k = omega arith in
     rw e (get_or-read_at m (a + 1) n k (omega arith))
 
-pub read_at-same : (m n : Memory) (a k : ℕ) → ((c : ℕ) → a ≤ c → c < a + k → byte_at m c ≡ byte_at n c) → read_at m a k ≡ read_at n a k
+pub read_at-same : (m n : Memory) (a k : ℕ) → ((c : ℕ) → a ≤ c → c < a + k → byte_at m c ≡ byte_at n c)
+    → read_at m a k ≡ read_at n a k
 unfolding read_at
 read_at-same m n a zero same = refl
 read_at-same m n a (suc k) same =
-    rw (same a (omega arith) (omega arith), read_at-same m n (a + 1) k (λ c h l. same c (omega arith) (omega arith))) refl
+    rw (same a (omega arith) (omega arith), read_at-same m n (a + 1) k (λ c h l. same c (omega arith) (omega arith)))
+    refl
 
 -- a write leaves what a range apart from it reads
-pub read_at-write_at_apart : (m : Memory) (a : ℕ) (bs : List ℕ) (c k : ℕ) → AreApart c k a (length bs) → read_at (write_at m a bs) c k ≡ read_at m c k
-read_at-write_at_apart m a bs c k (inl h) = read_at-same (write_at m a bs) m c k (λ d l r. byte_at-write_at_other m a bs d (inl (omega arith)))
-read_at-write_at_apart m a bs c k (inr h) = read_at-same (write_at m a bs) m c k (λ d l r. byte_at-write_at_other m a bs d (inr (omega arith)))
+pub read_at-write_at_apart : (m : Memory) (a : ℕ) (bs : List ℕ) (c k : ℕ) → AreApart c k a (length bs)
+    → read_at (write_at m a bs) c k ≡ read_at m c k
+read_at-write_at_apart m a bs c k (inl h) =
+    read_at-same (write_at m a bs) m c k (λ d l r. byte_at-write_at_other m a bs d (inl (omega arith)))
+read_at-write_at_apart m a bs c k (inr h) =
+    read_at-same (write_at m a bs) m c k (λ d l r. byte_at-write_at_other m a bs d (inr (omega arith)))
 
 -- a read of what was written
-pub read_at-write_at_same : (m : Memory) (a : ℕ) (bs : List ℕ) → IsWhole m → is_lent m a (length bs) ≡ true → read_at (write_at m a bs) a (length bs) ≡ bs
+pub read_at-write_at_same : (m : Memory) (a : ℕ) (bs : List ℕ) → IsWhole m → is_lent m a (length bs) ≡ true
+    → read_at (write_at m a bs) a (length bs) ≡ bs
 unfolding write_at read_at
 read_at-write_at_same m a [] whole lent = refl
 read_at-write_at_same m a (b ∷ bs) whole lent =
     let first : (xs : List ℕ) × (map.get m (a / 2048) ≡ Some xs) = of_some _ (is_lent_first m a (length bs) lent) in
     let here : byte_at (write_at (set_byte m a b) (a + 1) bs) a ≡ b =
-    byte_at-write_at_other (set_byte m a b) (a + 1) bs a (inl (omega arith)) ∙ byte_at-set_byte_same m a b first.0 first.1 (whole.size (a / 2048) first.0 first.1) in
+    byte_at-write_at_other (set_byte m a b) (a + 1) bs a (inl (omega arith))
+    ∙ byte_at-set_byte_same m a b first.0 first.1 (whole.block (a / 2048) first.0 first.1).size in
     let there : is_lent (set_byte m a b) (a + 1) (length bs) ≡ true =
     is_lent-same (set_byte m a b) m (SameLent-set_byte m a b) (a + 1) (length bs) ∙ is_lent_rest m a (length bs) lent in
     rw (here, read_at-write_at_same (set_byte m a b) (a + 1) bs (IsWhole-set_byte m a b whole) there) refl
 
 -- one range after another
 
-pub write_at-append : (m : Memory) (a : ℕ) (bs cs : List ℕ) → write_at m a (bs ++ cs) ≡ write_at (write_at m a bs) (a + length bs) cs
+pub write_at-append : (m : Memory) (a : ℕ) (bs cs : List ℕ)
+    → write_at m a (bs ++ cs) ≡ write_at (write_at m a bs) (a + length bs) cs
 unfolding write_at
 write_at-append m a [] cs = rw add-zero refl
 write_at-append m a (b ∷ bs) cs =
@@ -231,4 +260,5 @@ is_lent-append m a zero k = rw (zero-add, add-zero) refl
 is_lent-append m a (suc n) k =
     let e : (a + 1) + n ≡ a + suc n = omega arith in
     let f : suc n + k ≡ suc (n + k) = omega arith in
-    rw (f, ← e, is_lent-append m (a + 1) n k) (sym (and_assoc (has_block m (a / 2048)) (is_lent m (a + 1) n) (is_lent m ((a + 1) + n) k)))
+    rw (f, ← e, is_lent-append m (a + 1) n k)
+    (sym (and_assoc (has_block m (a / 2048)) (is_lent m (a + 1) n) (is_lent m ((a + 1) + n) k)))

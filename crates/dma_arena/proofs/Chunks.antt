@@ -9,9 +9,9 @@ use borrow.Rule.Slice.PartMut.{put_mid}
 use Rattle.dma_arena.specs.Block.{Block}
 use Rattle.dma_arena.specs.Memory.{Memory, has_block, is_lent, read_at, write_at}
 use Rattle.dma_arena.specs.Shown.{shown, IsKept}
-use Rattle.dma_arena.proofs.Bus.{SameLent-write_at, is_lent-same, is_lent_first, is_lent-append, lent_end, write_at-append, read_at-append, length-read_at}
+use Rattle.dma_arena.proofs.Bus.{small_of_lent, SameLent-write_at, is_lent-same, is_lent_first, is_lent-append, lent_end, write_at-append, read_at-append, length-read_at}
 use Rattle.dma_arena.proofs.Blocks.{is_lent_in}
-use Rattle.dma_arena.proofs.Shown.{has_block-shown, IsWhole-shown, shown_small}
+use Rattle.dma_arena.proofs.Shown.{has_block-shown, IsWhole-shown}
 
 -- a range that is gone through in chunks, each inside one block
 
@@ -37,13 +37,15 @@ some_first : (m : Memory) (a n : ℕ) → is_lent m a n ≡ true → 0 < n → h
 some_first m a zero lent some = absurd (omega arith)
 some_first m a (suc n) lent some = is_lent_first m a n lent
 
-pub lent_first : (m : BTreeMap ℕ Block) (a n : ℕ) → is_lent (shown m) a n ≡ true → 0 < n → is_some (get nat_cmp m (a / 2048)) ≡ true
+pub lent_first : (m : BTreeMap ℕ Block) (a n : ℕ) → is_lent (shown m) a n ≡ true → 0 < n
+    → is_some (get nat_cmp m (a / 2048)) ≡ true
 lent_first m a n lent some = sym (has_block-shown m (a / 2048)) ∙ some_first (shown m) a n lent some
 
 pub lent_within : (m : BTreeMap ℕ Block) (a n : ℕ) → IsKept m → is_lent (shown m) a n ≡ true → 0 < n → a + n ≤ 134217728
 lent_within m a n kept lent some = lent_end (shown m) a n (IsWhole-shown m kept) lent some
 
-pub lent_far : (m : BTreeMap ℕ Block) (a n : ℕ) → IsKept m → is_lent (shown m) a n ≡ true → a < 18446744073709551616 → a + n < 18446744073709551616
+pub lent_far : (m : BTreeMap ℕ Block) (a n : ℕ) → IsKept m → is_lent (shown m) a n ≡ true → a < 18446744073709551616
+    → a + n < 18446744073709551616
 lent_far m a zero kept lent h = omega arith
 lent_far m a (suc n) kept lent h = let b = lent_within m a (suc n) kept lent (omega arith) in omega (arith, b)
 
@@ -58,65 +60,85 @@ gone_at m a done len h gone =
     let e : done + suc (len - done - 1) ≡ len = omega arith in
     lent_none m a done (len - done - 1) len e (not_lent m (a + done) (len - done - 1) gone)
 
-pub missing : (m : BTreeMap ℕ Block) (a done len : ℕ) → done < len → is_some (get nat_cmp m ((a + done) / 2048)) ≡ false → is_lent (shown m) a len ≡ false
+pub missing : (m : BTreeMap ℕ Block) (a done len : ℕ) → done < len → is_some (get nat_cmp m ((a + done) / 2048)) ≡ false
+    → is_lent (shown m) a len ≡ false
 missing m a done len h gone = gone_at (shown m) a done len h (has_block-shown m ((a + done) / 2048) ∙ gone)
 
-far_gone : (m : BTreeMap ℕ Block) (q : ℕ) (there : Bool) → IsKept m → has_block (shown m) q ≡ there → 65536 ≤ q → there ≡ false
-far_gone m q true kept is far = let low = shown_small m q kept is in absurd (omega (arith, low))
+far_gone : (m : BTreeMap ℕ Block) (q : ℕ) (there : Bool) → IsKept m → has_block (shown m) q ≡ there → 65536 ≤ q
+    → there ≡ false
+far_gone m q true kept is far = let low =
+    small_of_lent (shown m) q (IsWhole-shown m kept) is in absurd (omega (arith, low))
 far_gone m q false kept is far = refl
 
-pub missing_far : (m : BTreeMap ℕ Block) (a done len : ℕ) → IsKept m → done < len → 65536 ≤ (a + done) / 2048 → is_lent (shown m) a len ≡ false
-missing_far m a done len kept h far = gone_at (shown m) a done len h (far_gone m ((a + done) / 2048) (has_block (shown m) ((a + done) / 2048)) kept refl far)
+pub missing_far : (m : BTreeMap ℕ Block) (a done len : ℕ) → IsKept m → done < len → 65536 ≤ (a + done) / 2048
+    → is_lent (shown m) a len ≡ false
+missing_far m a done len kept h far =
+    gone_at (shown m) a done len h
+    (far_gone m ((a + done) / 2048) (has_block (shown m) ((a + done) / 2048)) kept refl far)
 
 -- and goes on at one that is
 
-pub here_more : (m : BTreeMap ℕ Block) (a done k : ℕ) → is_some (get nat_cmp m ((a + done) / 2048)) ≡ true → (a + done) % 2048 + k ≤ 2048 → is_lent (shown m) a done ≡ true
+pub here_more : (m : BTreeMap ℕ Block) (a done k : ℕ) → is_some (get nat_cmp m ((a + done) / 2048)) ≡ true
+    → (a + done) % 2048 + k ≤ 2048 → is_lent (shown m) a done ≡ true
     → is_lent (shown m) a (done + k) ≡ true
 here_more m a done k some room lent =
     lent_more (shown m) a done k lent
-    (is_lent_in (shown m) (a + done) k ((a + done) / 2048) ((a + done) % 2048) (has_block-shown m ((a + done) / 2048) ∙ some) (omega arith) room)
+    (is_lent_in (shown m) (a + done) k ((a + done) / 2048) ((a + done) % 2048)
+    (has_block-shown m ((a + done) / 2048) ∙ some) (omega arith) room)
 
 -- one chunk is written
 
-pub lent_step : (m n : Memory) (a at done k len : ℕ) (part : List ℕ) → n ≡ write_at m at part → is_lent m (a + done) (len - done) ≡ true → done + k ≤ len
+pub lent_step : (m n : Memory) (a at done k len : ℕ) (part : List ℕ) → n ≡ write_at m at part
+    → is_lent m (a + done) (len - done) ≡ true → done + k ≤ len
     → is_lent n (a + (done + k)) (len - (done + k)) ≡ true
 lent_step m n a at done k len part is lent h =
     let e : (a + done) + k ≡ a + (done + k) = omega arith in
     let f : (len - done) - k ≡ len - (done + k) = omega arith in
-    let g : is_lent m (a + (done + k)) (len - (done + k)) ≡ true = rw (← e, ← f) (lent_rest m (a + done) (len - done) k lent (omega arith)) in
+    let g : is_lent m (a + (done + k)) (len - (done + k)) ≡ true =
+    rw (← e, ← f) (lent_rest m (a + done) (len - done) k lent (omega arith)) in
     rw (is, is_lent-same (write_at m at part) m (SameLent-write_at m at part)) g
 
-pub written_step : (first m n : Memory) (a at done k : ℕ) (bs part : List ℕ) → m ≡ write_at first a (take done bs) → n ≡ write_at m at part → at ≡ a + done
+pub written_step : (first m n : Memory) (a at done k : ℕ) (bs part : List ℕ) → m ≡ write_at first a (take done bs)
+    → n ≡ write_at m at part → at ≡ a + done
     → part ≡ take k (drop done bs) → done + k ≤ length bs → n ≡ write_at first a (take (done + k) bs)
 written_step first m n a at done k bs part was is e p h =
     let len : length (take done bs) ≡ done = length-take-le done bs (omega arith) in
     let both : take (done + k) bs ≡ take done bs ++ take k (drop done bs) =
-    sym (rw (← drop-take done k bs, ← take-take done (done + k) bs (omega arith)) (take-append-drop done (take (done + k) bs))) in
+    sym (rw (← drop-take done k bs, ← take-take done (done + k) bs (omega arith))
+    (take-append-drop done (take (done + k) bs))) in
     is ∙ rw (was, e, p, both, write_at-append first a (take done bs) (take k (drop done bs)), len) refl
 
 -- one chunk is read
 
-read_step : (m : Memory) (a at done k end : ℕ) (ys part : List ℕ) → take done ys ≡ read_at m a done → part ≡ read_at m at k → at ≡ a + done
+read_step : (m : Memory) (a at done k end : ℕ) (ys part : List ℕ) → take done ys ≡ read_at m a done
+    → part ≡ read_at m at k → at ≡ a + done
     → done ≤ length ys → take (done + k) (put_mid done (end - done) ys part) ≡ read_at m a (done + k)
 read_step m a at done k end ys part was is e h =
     let len : length part ≡ k = rw is (length-read_at m at k) in
     take-put_mid done (end - done) ys part (done + k) (rw len refl) h ∙ rw (was, is, e, read_at-append m a done k) refl
 
-length-put_mid : (xs ys : List ℕ) (at end : ℕ) → at ≤ end → end ≤ length xs → length ys ≡ end - at → length (put_mid at (end - at) xs ys) ≡ length xs
+length-put_mid : (xs ys : List ℕ) (at end : ℕ) → at ≤ end → end ≤ length xs → length ys ≡ end - at
+    → length (put_mid at (end - at) xs ys) ≡ length xs
 length-put_mid xs ys at end h room len =
     let front : length (take at xs) ≡ at = length-take-le at xs (omega arith) in
     simp (length-append, length-drop) (omega arith)
 
-pub read_pass : (m : Memory) (a at done k end total : ℕ) (ys part : List ℕ) → total ≡ length ys → end ≡ done + k → at ≡ a + done → end ≤ length ys
-    → is_lent m (a + done) (length ys - done) ≡ true → take done ys ≡ read_at m a done → part ≡ read_at m at (length (take (end - done) (drop done ys)))
-    → (end ≤ length (put_mid done (end - done) ys part)) × (is_lent m (a + end) (length (put_mid done (end - done) ys part) - end) ≡ true)
+pub read_pass : (m : Memory) (a at done k end total : ℕ) (ys part : List ℕ) → total ≡ length ys → end ≡ done + k
+    → at ≡ a + done → end ≤ length ys
+    → is_lent m (a + done) (length ys - done) ≡ true → take done ys ≡ read_at m a done
+    → part ≡ read_at m at (length (take (end - done) (drop done ys)))
+    → (end ≤ length (put_mid done (end - done) ys part))
+    × (is_lent m (a + end) (length (put_mid done (end - done) ys part) - end) ≡ true)
     × (take end (put_mid done (end - done) ys part) ≡ read_at m a end)
 read_pass m a at done k end total ys part t e f h lent was is =
-    let size : length (take (end - done) (drop done ys)) ≡ k = length-take-le (end - done) (drop done ys) (omega (arith, length-drop done ys)) ∙ omega arith in
+    let size : length (take (end - done) (drop done ys)) ≡ k =
+    length-take-le (end - done) (drop done ys) (omega (arith, length-drop done ys)) ∙ omega arith in
     let mine : part ≡ read_at m at k = rw is (rw size refl) in
     let len : length part ≡ end - done = rw mine (length-read_at m at k ∙ omega arith) in
-    let whole : length (put_mid done (end - done) ys part) ≡ length ys = length-put_mid ys part done end (omega arith) h len in
+    let whole : length (put_mid done (end - done) ys part) ≡ length ys =
+    length-put_mid ys part done end (omega arith) h len in
     let a1 : (a + done) + k ≡ a + end = omega arith in
     let a2 : (length ys - done) - k ≡ length ys - end = omega arith in
-    let rest : is_lent m (a + end) (length ys - end) ≡ true = rw (← a1, ← a2) (lent_rest m (a + done) (length ys - done) k lent (omega arith)) in
+    let rest : is_lent m (a + end) (length ys - end) ≡ true =
+    rw (← a1, ← a2) (lent_rest m (a + done) (length ys - done) k lent (omega arith)) in
     (rw whole h, rw whole rest, rw e (read_step m a at done k (done + k) ys part was mine f (omega arith)))

@@ -7,7 +7,7 @@ use Rattle.std.specs.BTreeMap.{is_at, get, BTreeMap, Updates, IsEmpty, IsLowerBo
 use Rattle.std.specs.FinMap as fin
 use Rattle.std.proofs.lemmas.Grind.{common_steps}
 use Rattle.std.proofs.lemmas.Bool.{cases_eq}
-use Rattle.dma_arena.specs.Block.{Block}
+use Rattle.dma_arena.specs.Block.{Block, IsBlock}
 use Rattle.dma_arena.specs.Memory.{Memory, has_block, block_at, read_at, write_at, put_bytes, part, IsWhole}
 use Rattle.dma_arena.specs.Shown.{bytes_of, shown, IsKept}
 use Rattle.dma_arena.proofs.Bytes.{length-put_bytes}
@@ -15,10 +15,13 @@ use Rattle.dma_arena.proofs.Blocks.{write_at_in, read_at_in}
 
 -- what an ordered map of blocks shows at a number
 
-find_bytes : (es : List (ℕ × Block)) (q : ℕ) → fin.find nat_cmp q (bytes_of es) ≡ option_map (λ b. b.bytes) (lookup (is_at (nat_cmp q)) es)
+find_bytes : (es : List (ℕ × Block)) (q : ℕ)
+    → fin.find nat_cmp q (bytes_of es) ≡ option_map (λ b. b.bytes) (lookup (is_at (nat_cmp q)) es)
 find_bytes [] q = refl
 find_bytes (e ∷ es) q =
-    elim (is_at (nat_cmp q) e.0) as (λ t. cond t (Some e.1.bytes) (fin.find nat_cmp q (bytes_of es)) ≡ option_map (λ b. b.bytes) (cond t (Some e.1) (lookup (is_at (nat_cmp q)) es))) [
+    elim (is_at (nat_cmp q) e.0) as
+    (λ t. cond t (Some e.1.bytes) (fin.find nat_cmp q (bytes_of es)) ≡ option_map (λ b. b.bytes)
+    (cond t (Some e.1) (lookup (is_at (nat_cmp q)) es))) [
       | true ↦ refl
       | false ↦ find_bytes es q
     ]
@@ -33,71 +36,73 @@ is_some-bytes (Some b) = refl
 pub has_block-shown : (m : BTreeMap ℕ Block) (q : ℕ) → has_block (shown m) q ≡ is_some (get nat_cmp m q)
 has_block-shown m q = ap is_some (get-shown m q) ∙ is_some-bytes (get nat_cmp m q)
 
-pub some_shown : (m : BTreeMap ℕ Block) (q : ℕ) (b : Block) → get nat_cmp m q ≡ Some b → fin.get (shown m) q ≡ Some b.bytes
+pub some_shown : (m : BTreeMap ℕ Block) (q : ℕ) (b : Block) → get nat_cmp m q ≡ Some b
+    → fin.get (shown m) q ≡ Some b.bytes
 some_shown m q b is = get-shown m q ∙ rw is refl
 
 -- one change
 
-option_map-cond : (t : Bool) (w x : Option Block) → option_map (λ b. b.bytes) (cond t w x) ≡ cond t (option_map (λ b. b.bytes) w) (option_map (λ b. b.bytes) x)
+option_map-cond : (t : Bool) (w x : Option Block)
+    → option_map (λ b. b.bytes) (cond t w x) ≡ cond t (option_map (λ b. b.bytes) w) (option_map (λ b. b.bytes) x)
 option_map-cond true w x = refl
 option_map-cond false w x = refl
 
-changed : (m n : BTreeMap ℕ Block) (k : ℕ) (w : Option Block) (q : ℕ) → Updates nat_cmp m n k w → fin.get (shown n) q ≡ cond (is_eq (nat_cmp q k)) (option_map (λ b. b.bytes) w) (fin.get (shown m) q)
+changed : (m n : BTreeMap ℕ Block) (k : ℕ) (w : Option Block) (q : ℕ) → Updates nat_cmp m n k w
+    → fin.get (shown n) q ≡ cond (is_eq (nat_cmp q k)) (option_map (λ b. b.bytes) w) (fin.get (shown m) q)
 changed m n k w q u =
     get-shown n q ∙ ap (option_map (λ b. b.bytes)) (u.0 q) ∙ option_map-cond (is_at (nat_cmp k) q) w (get nat_cmp m q)
-    ∙ ap (λ t. cond t (option_map (λ b. b.bytes) w) (option_map (λ b. b.bytes) (get nat_cmp m q))) ((eq_by_cmp_equiv nat_cmp_total).symm k q)
+    ∙ ap (λ t. cond t (option_map (λ b. b.bytes) w) (option_map (λ b. b.bytes) (get nat_cmp m q)))
+    ((eq_by_cmp_equiv nat_cmp_total).symm k q)
     ∙ ap (cond (is_eq (nat_cmp q k)) (option_map (λ b. b.bytes) w)) (sym (get-shown m q))
 
-pub shown-insert : (m n : BTreeMap ℕ Block) (k : ℕ) (b : Block) → Updates nat_cmp m n k (Some b) → shown n ≡ fin.insert (shown m) k b.bytes
+pub shown-insert : (m n : BTreeMap ℕ Block) (k : ℕ) (b : Block) → Updates nat_cmp m n k (Some b)
+    → shown n ≡ fin.insert (shown m) k b.bytes
 shown-insert m n k b u =
-    fin.same_map nat_cmp_total fin.nat_cmp-IsAntisymmetric (shown n) (fin.insert (shown m) k b.bytes) (λ q. changed m n k (Some b) q u ∙ sym (fin.get-insert nat_cmp_total (shown m) k b.bytes q))
+    fin.same_map nat_cmp_total fin.nat_cmp-IsAntisymmetric (shown n) (fin.insert (shown m) k b.bytes)
+    (λ q. changed m n k (Some b) q u ∙ sym (fin.get-insert nat_cmp_total (shown m) k b.bytes q))
 
 pub shown-remove : (m n : BTreeMap ℕ Block) (k : ℕ) → Updates nat_cmp m n k None → shown n ≡ fin.remove (shown m) k
 shown-remove m n k u =
-    fin.same_map nat_cmp_total fin.nat_cmp-IsAntisymmetric (shown n) (fin.remove (shown m) k) (λ q. changed m n k None q u ∙ sym (fin.get-remove nat_cmp_total (shown m) k q))
+    fin.same_map nat_cmp_total fin.nat_cmp-IsAntisymmetric (shown n) (fin.remove (shown m) k)
+    (λ q. changed m n k None q u ∙ sym (fin.get-remove nat_cmp_total (shown m) k q))
 
 -- what is kept of each block
 
-pub kept_get : (m : BTreeMap ℕ Block) (q : ℕ) (b : Block) → IsKept m → get nat_cmp m q ≡ Some b → (b.number ≡ q) × (length b.bytes ≡ 2048) × (q < 65536)
+pub kept_get : (m : BTreeMap ℕ Block) (q : ℕ) (b : Block) → IsKept m → get nat_cmp m q ≡ Some b → (b.number ≡ q)
+    × IsBlock b
 kept_get m q b kept is = rw is at (kept q)
 
-some_block : (o : Option Block) → is_some o ≡ true → (b : Block) × (o ≡ Some b)
-some_block None h = cc
-some_block (Some b) h = (b, refl)
-
-option_block : (o : Option Block) (xs : List ℕ) → option_map (λ b. b.bytes) o ≡ Some xs → (b : Block) × (o ≡ Some b) × (b.bytes ≡ xs)
+option_block : (o : Option Block) (xs : List ℕ) → option_map (λ b. b.bytes) o ≡ Some xs → (b : Block) × (o ≡ Some b)
+    × (b.bytes ≡ xs)
 option_block None xs h = cc
 option_block (Some b) xs h = (b, refl, cc)
 
-shown_size : (m : BTreeMap ℕ Block) (q : ℕ) (xs : List ℕ) → IsKept m → fin.get (shown m) q ≡ Some xs → length xs ≡ 2048
-shown_size m q xs kept h =
+IsBlock-shown : (m : BTreeMap ℕ Block) (q : ℕ) (xs : List ℕ)
+    → IsKept m → fin.get (shown m) q ≡ Some xs → IsBlock (record { number = q; bytes = xs })
+IsBlock-shown m q xs kept h =
     let b = option_block (get nat_cmp m q) xs (sym (get-shown m q) ∙ h) in
-    rw (← b.2) (kept_get m q b.0 kept b.1).1
-
-pub shown_small : (m : BTreeMap ℕ Block) (q : ℕ) → IsKept m → has_block (shown m) q ≡ true → q < 65536
-shown_small m q kept h =
-    let b = some_block (get nat_cmp m q) (sym (has_block-shown m q) ∙ h) in
-    (kept_get m q b.0 kept b.1).2
+    let is = kept_get m q b.0 kept b.1 in
+    record { size = rw (← b.2) is.1.size; small = rw (← is.0) is.1.small }
 
 pub IsWhole-shown : (m : BTreeMap ℕ Block) → IsKept m → IsWhole (shown m)
-IsWhole-shown m kept = record {
-  size = λ q xs h. shown_size m q xs kept h;
-  small = λ q h. shown_small m q kept h;
-}
+IsWhole-shown m kept = record { block = λ q xs h. IsBlock-shown m q xs kept h }
 
 apart_at : (k q : ℕ) → q ≢ k → is_at (nat_cmp k) q ≡ false
 apart_at k q ne = grind (arith, common_steps)
 
-kept_put : (m n : BTreeMap ℕ Block) (k : ℕ) (new : Block) → IsKept m → new.number ≡ k → length new.bytes ≡ 2048 → k < 65536
-    → Updates nat_cmp m n k (Some new) → (q : ℕ) → (q ≡ k) ⊎ (q ≢ k) → IfSome (get nat_cmp n q) (λ c. (c.number ≡ q) × (length c.bytes ≡ 2048) × (q < 65536))
-kept_put m n k new kept number whole low u q (inl e) = rw (e, u.1) (number, whole, low)
-kept_put m n k new kept number whole low u q (inr ne) = rw (u.2 q (apart_at k q ne)) (kept q)
+kept_put : (m n : BTreeMap ℕ Block) (k : ℕ) (new : Block) → IsKept m → new.number ≡ k → IsBlock new
+    → Updates nat_cmp m n k (Some new) → (q : ℕ) → (q ≡ k) ⊎ (q ≢ k)
+    → IfSome (get nat_cmp n q) (λ c. (c.number ≡ q) × IsBlock c)
+kept_put m n k new kept number whole u q (inl e) = rw (e, u.1) (number, whole)
+kept_put m n k new kept number whole u q (inr ne) = rw (u.2 q (apart_at k q ne)) (kept q)
 
 -- a block that comes in, or is written
-pub IsKept-put : (m n : BTreeMap ℕ Block) (k : ℕ) (new : Block) → IsKept m → new.number ≡ k → length new.bytes ≡ 2048 → k < 65536 → Updates nat_cmp m n k (Some new) → IsKept n
-IsKept-put m n k new kept number whole low u q = kept_put m n k new kept number whole low u q (cases_eq q k)
+pub IsKept-put : (m n : BTreeMap ℕ Block) (k : ℕ) (new : Block)
+    → IsKept m → new.number ≡ k → IsBlock new → Updates nat_cmp m n k (Some new) → IsKept n
+IsKept-put m n k new kept number whole u q = kept_put m n k new kept number whole u q (cases_eq q k)
 
-kept_removed : (m n : BTreeMap ℕ Block) (k : ℕ) → IsKept m → Updates nat_cmp m n k None → (q : ℕ) → (q ≡ k) ⊎ (q ≢ k) → IfSome (get nat_cmp n q) (λ c. (c.number ≡ q) × (length c.bytes ≡ 2048) × (q < 65536))
+kept_removed : (m n : BTreeMap ℕ Block) (k : ℕ) → IsKept m → Updates nat_cmp m n k None → (q : ℕ) → (q ≡ k) ⊎ (q ≢ k)
+    → IfSome (get nat_cmp n q) (λ c. (c.number ≡ q) × IsBlock c)
 kept_removed m n k kept u q (inl e) = rw (e, u.1) tt
 kept_removed m n k kept u q (inr ne) = rw (u.2 q (apart_at k q ne)) (kept q)
 
@@ -107,33 +112,45 @@ IsKept-remove m n k kept u q = kept_removed m n k kept u q (cases_eq q k)
 
 -- reads and writes inside one block
 
-pub written_in : (m n : BTreeMap ℕ Block) (k : ℕ) (b new : Block) (at : ℕ) (bs : List ℕ) → IsKept m → get nat_cmp m k ≡ Some b → at + length bs ≤ 2048
-    → new ≡ record { number = b.number; bytes = put_bytes b.bytes at bs } → Updates nat_cmp m n k (Some new) → IsKept n × (shown n ≡ write_at (shown m) (2048 * k + at) bs)
+pub written_in : (m n : BTreeMap ℕ Block) (k : ℕ) (b new : Block) (at : ℕ) (bs : List ℕ) → IsKept m
+    → get nat_cmp m k ≡ Some b → at + length bs ≤ 2048
+    → new ≡ record { number = b.number; bytes = put_bytes b.bytes at bs } → Updates nat_cmp m n k (Some new) → IsKept n
+    × (shown n ≡ write_at (shown m) (2048 * k + at) bs)
 written_in m n k b new at bs kept is room e u =
     let was = kept_get m k b kept is in
     let number : new.number ≡ k = ap (λ (x : Block). x.number) e ∙ was.0 in
     let bytes : new.bytes ≡ put_bytes b.bytes at bs = ap (λ (x : Block). x.bytes) e in
-    let fits : at + length bs ≤ length b.bytes = omega (arith, was.1) in (
-      IsKept-put m n k new kept number (ap length bytes ∙ length-put_bytes b.bytes at bs fits ∙ was.1) was.2 u,
-      shown-insert m n k new u ∙ ap (fin.insert (shown m) k) bytes ∙ sym (write_at_in (shown m) bs k at b.bytes (some_shown m k b is) was.1 room),
+    let size = was.1.size in
+    let fits : at + length bs ≤ length b.bytes = omega (arith, size) in
+    let whole : IsBlock new = record {
+      size = ap length bytes ∙ length-put_bytes b.bytes at bs fits ∙ size;
+      small = rw e was.1.small;
+    } in (
+      IsKept-put m n k new kept number whole u,
+      shown-insert m n k new u ∙ ap (fin.insert (shown m) k) bytes
+          ∙ sym (write_at_in (shown m) bs k at b.bytes (some_shown m k b is) size room),
     )
 
-pub read_in : (m : BTreeMap ℕ Block) (k : ℕ) (b : Block) (at n : ℕ) → IsKept m → get nat_cmp m k ≡ Some b → at + n ≤ 2048 → read_at (shown m) (2048 * k + at) n ≡ part b.bytes at n
-read_in m k b at n kept is room = read_at_in (shown m) (2048 * k + at) n k at b.bytes (some_shown m k b is) (kept_get m k b kept is).1 refl room
+pub read_in : (m : BTreeMap ℕ Block) (k : ℕ) (b : Block) (at n : ℕ) → IsKept m → get nat_cmp m k ≡ Some b
+    → at + n ≤ 2048 → read_at (shown m) (2048 * k + at) n ≡ part b.bytes at n
+read_in m k b at n kept is room =
+    read_at_in (shown m) (2048 * k + at) n k at b.bytes (some_shown m k b is) (kept_get m k b kept is).1.size refl room
 
 -- a block that is taken
 
-block_of_kept : (o : Option Block) (q : ℕ) → IfSome o (λ b. (b.number ≡ q) × (length b.bytes ≡ 2048) × (q < 65536))
+block_of_kept : (o : Option Block) (q : ℕ) → IfSome o (λ b. (b.number ≡ q) × IsBlock b)
     → o ≡ option_map (λ bytes. record { number = q; bytes = bytes }) (option_map (λ b. b.bytes) o)
 block_of_kept None q kept = refl
-block_of_kept (Some b) q kept = ap (λ n. Some (let block : Block = record { number = n; bytes = b.bytes } in block)) kept.0
+block_of_kept (Some b) q kept =
+    ap (λ n. Some (let block : Block = record { number = n; bytes = b.bytes } in block)) kept.0
 
 pub block_at-shown : (m : BTreeMap ℕ Block) (q : ℕ) → IsKept m → get nat_cmp m q ≡ block_at (shown m) q
 block_at-shown m q kept = block_of_kept (get nat_cmp m q) q (kept q) ∙ rw (get-shown m q) refl
 
-far_none : (o : Option Block) (q : ℕ) → IfSome o (λ b. (b.number ≡ q) × (length b.bytes ≡ 2048) × (q < 65536)) → 65536 ≤ q → option_map (λ b. b.bytes) o ≡ None
+far_none : (o : Option Block) (q : ℕ) → IfSome o (λ b. (b.number ≡ q) × IsBlock b) → 65536 ≤ q
+    → option_map (λ b. b.bytes) o ≡ None
 far_none None q kept far = refl
-far_none (Some b) q kept far = absurd (omega (arith, kept.2))
+far_none (Some b) q kept far = let low = kept.1.small in absurd (omega (arith, low, kept.0))
 
 -- no number from 65,536 on is lent
 pub get-shown_far : (m : BTreeMap ℕ Block) (q : ℕ) → IsKept m → 65536 ≤ q → fin.get (shown m) q ≡ None
@@ -157,7 +174,9 @@ none_bytes (Some b) h = cc
 
 pub IsEmpty-shown : (m : BTreeMap ℕ Block) → shown m ≡ fin.empty → IsEmpty m
 IsEmpty-shown m h =
-    empty_entries m.entries (λ q. none_bytes (get nat_cmp m q) (sym (get-shown m q) ∙ ap (λ (n : Memory). fin.get n q) h ∙ fin.get-empty nat_cmp q))
+    empty_entries m.entries
+    (λ q. none_bytes (get nat_cmp m q)
+    (sym (get-shown m q) ∙ ap (λ (n : Memory). fin.get n q) h ∙ fin.get-empty nat_cmp q))
 
 pub shown-IsEmpty : (m : BTreeMap ℕ Block) → IsEmpty m → shown m ≡ fin.empty
 shown-IsEmpty m h = ap (λ (es : List (ℕ × Block)). fin.from_entries {R = nat_cmp} (bytes_of es)) h
@@ -177,7 +196,8 @@ some_block_lent m q has h = sym has ∙ no_block m q h
 above : (n q : ℕ) → q < n → is_gt (nat_cmp n q) ≡ true
 above n q lt = grind (arith, common_steps)
 
-below_lowest : (m : BTreeMap ℕ Block) (n q : ℕ) (there : Bool) → is_some (get nat_cmp m q) ≡ there → IsLowerBound nat_cmp m n → q < n → there ≡ false
+below_lowest : (m : BTreeMap ℕ Block) (n q : ℕ) (there : Bool) → is_some (get nat_cmp m q) ≡ there
+    → IsLowerBound nat_cmp m n → q < n → there ≡ false
 below_lowest m n q true is low lt = sym (above n q lt) ∙ low q is
 below_lowest m n q false is low lt = refl
 

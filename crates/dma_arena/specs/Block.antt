@@ -1,9 +1,14 @@
-use Rattle.std.specs.Prelude.{ℕ, ◌*◌, List, replicate}
+use Rattle.std.specs.Prelude.{ℕ, ◌≡◌, ◌*◌, ◌<◌, List, length, replicate}
 
 -- a block of packet memory: its number, and its bytes
 pub record Block : Type 0 where
   pub number : ℕ
   pub bytes : List ℕ
+
+-- a block has 2,048 bytes, and a number below 65,536
+pub record IsBlock (block : Block) : Type 0 where
+  pub size : length block.bytes ≡ 2048
+  pub small : block.number < 65536
 
 -- the bus address of the block's first byte
 abbrev pub bus_of : Block → ℕ

@@ -1,14 +1,15 @@
 use Rattle.std.specs.Prelude.{◌≡◌, ◌≢◌, ◌↔◌, ℕ, ◌+◌, ◌*◌, ◌/◌, ◌<◌, ◌≤◌, true, false, List, length, slice_index}
 use Rattle.std.specs.FinMap as map
-use Rattle.dma_arena.specs.Memory.{Memory, has_block, byte_at, is_lent, read_at, write_at, put_bytes, part, IsWhole, SameLent, IsOutside, AreApart, Avoids}
-use Rattle.dma_arena.specs.Numbers.{Numbers, free_count, is_own, is_free, are_all_free, all_free, with_free, NoneFree}
-use Rattle.std.specs.Prelude.{Some, Bool}
+use Rattle.dma_arena.specs.Memory.{Memory, has_block, byte_at, is_lent, read_at, write_at, put_bytes, part, IsWhole, SameLent, IsOutside, AreApart, LiesIn, Avoids}
+use Rattle.dma_arena.specs.Numbers.{Numbers, free_count, is_own, is_free, are_all_free, all_free, with_free, numbers_below, numbers_from, IsInside, NoneFree}
+use Rattle.std.specs.Prelude.{Some, Bool, ◌||◌, ◌&&◌}
 
 -- ranges of bus addresses
 
 -- a range is lent exactly where each block that it touches is
 abbrev pub LentByBlocks : Type 0
-LentByBlocks = (m : Memory) (a n : ℕ) → (is_lent m a n ≡ true) ↔ ((c : ℕ) → a ≤ c → c < a + n → has_block m (c / 2048) ≡ true)
+LentByBlocks =
+    (m : Memory) (a n : ℕ) → (is_lent m a n ≡ true) ↔ ((c : ℕ) → a ≤ c → c < a + n → has_block m (c / 2048) ≡ true)
 
 -- a lent range ends at the end of block 65,535 at most, so that no address in it wraps
 abbrev pub LentEnds : Type 0
@@ -38,7 +39,8 @@ WritesInside =
 
 -- a write changes neither which blocks are lent nor how long they are
 abbrev pub WriteKeepsBlocks : Type 0
-WriteKeepsBlocks = (m : Memory) (a : ℕ) (bytes : List ℕ) → SameLent (write_at m a bytes) m × (IsWhole m → IsWhole (write_at m a bytes))
+WriteKeepsBlocks =
+    (m : Memory) (a : ℕ) (bytes : List ℕ) → SameLent (write_at m a bytes) m × (IsWhole m → IsWhole (write_at m a bytes))
 
 -- lending a block and taking one change no byte of another
 abbrev pub MovesApart : Type 0
@@ -54,14 +56,27 @@ WriteAvoids =
     (m : Memory) (a : ℕ) (bytes : List ℕ) (number : ℕ) → Avoids number a (length bytes)
     → map.get (write_at m a bytes) number ≡ map.get m number
 
+-- a range inside one block avoids each other block
+abbrev pub InsideAvoids : Type 0
+InsideAvoids = (number other a n : ℕ) → LiesIn number a n → other ≢ number → Avoids other a n
+
+-- what a range inside one block reads, and whether it is lent, depends on that block alone
+abbrev pub ReadsItsBlock : Type 0
+ReadsItsBlock =
+    (m other : Memory) (number a n : ℕ) → map.get m number ≡ map.get other number → LiesIn number a n
+    → (read_at m a n ≡ read_at other a n) × (is_lent m a n ≡ is_lent other a n)
+
 -- inside one lent block a range is lent, a read is a part of its bytes, and a write puts bytes into it and changes nothing else
 pub record InsideBlock (m : Memory) (number at : ℕ) (block : List ℕ) : Type 0 where
   pub lent : (n : ℕ) → at + n ≤ 2048 → is_lent m (2048 * number + at) n ≡ true
   pub read : (n : ℕ) → at + n ≤ 2048 → read_at m (2048 * number + at) n ≡ part block at n
-  pub written : (bytes : List ℕ) → at + length bytes ≤ 2048 → write_at m (2048 * number + at) bytes ≡ map.insert m number (put_bytes block at bytes)
+  pub written : (bytes : List ℕ) → at + length bytes ≤ 2048
+      → write_at m (2048 * number + at) bytes ≡ map.insert m number (put_bytes block at bytes)
 
 abbrev pub BlockLaw : Type 0
-BlockLaw = (m : Memory) (number at : ℕ) (block : List ℕ) → IsWhole m → map.get m number ≡ Some block → InsideBlock m number at block
+BlockLaw =
+    (m : Memory) (number at : ℕ) (block : List ℕ) → IsWhole m → map.get m number ≡ Some block
+    → InsideBlock m number at block
 
 -- what was put into a block is there, and the rest of the block stays
 abbrev pub PutLaw : Type 0
@@ -88,13 +103,26 @@ pub record ChangesOne (a : Numbers) (number : ℕ) (free : Bool) : Type 0 where
 abbrev pub ChangeLaw : Type 0
 ChangeLaw = (a : Numbers) (number : ℕ) (free : Bool) → is_own a number ≡ true → ChangesOne a number free
 
+-- a number that is taken and given back leaves the arena as it was
+abbrev pub GivenBack : Type 0
+GivenBack = (a : Numbers) (number : ℕ) → is_free a number ≡ true → with_free (with_free a number false) number true ≡ a
+
+-- a cut parts the numbers: each is on one side, and none on both
+pub record PartsNumbers (a : Numbers) (at : ℕ) : Type 0 where
+  pub each : (number : ℕ) → is_own a number ≡ (is_own (numbers_below a at) number || is_own (numbers_from a at) number)
+  pub once : (number : ℕ) → (is_own (numbers_below a at) number && is_own (numbers_from a at) number) ≡ false
+
+abbrev pub CutLaw : Type 0
+CutLaw = (a : Numbers) (at : ℕ) → IsInside a at → PartsNumbers a at
+
 -- what is counted: the free numbers
 pub record CountsFree (a : Numbers) : Type 0 where
   pub none : (free_count a ≡ 0) ↔ NoneFree a
   pub all : (are_all_free a ≡ true) ↔ ((number : ℕ) → is_own a number ≡ true → is_free a number ≡ true)
   pub own : (number : ℕ) → is_free a number ≡ true → is_own a number ≡ true
   pub taken : (number : ℕ) → is_free a number ≡ true → free_count (with_free a number false) + 1 ≡ free_count a
-  pub given : (number : ℕ) → is_own a number ≡ true → is_free a number ≡ false → free_count (with_free a number true) ≡ free_count a + 1
+  pub given : (number : ℕ) → is_own a number ≡ true → is_free a number ≡ false
+      → free_count (with_free a number true) ≡ free_count a + 1
 
 abbrev pub CountLaw : Type 0
 CountLaw = (a : Numbers) → CountsFree a

@@ -1,7 +1,7 @@
 use Rattle.std.specs.Prelude.{◌≡◌, ℕ, zero, suc, length, ◌+◌, ◌*◌, ◌/◌, ◌%◌, ◌<◌, ◌≤◌, ◌⊎◌, Bool, true, ◌&&◌, is_some, Option, Some, None, List, [], ◌∷◌, ◌++◌, take, drop, slice_index, slice_set, option_map, unwrap_or}
 use Rattle.std.specs.Ordering.{nat_cmp}
 use Rattle.std.specs.FinMap as map
-use Rattle.dma_arena.specs.Block.{Block}
+use Rattle.dma_arena.specs.Block.{Block, IsBlock}
 
 -- the memory that the device may use: the numbers of the lent blocks, each with its bytes
 abbrev pub Memory : Type 0
@@ -51,10 +51,10 @@ put_bytes block at bytes = take at block ++ bytes ++ drop (at + length bytes) bl
 unfoldable pub part : List ℕ → ℕ → ℕ → List ℕ
 part block at n = take n (drop at block)
 
--- each lent block has 2,048 bytes, and a number below 65,536
+-- each lent block is a block of packet memory
 pub record IsWhole (m : Memory) : Type 0 where
-  pub size : (number : ℕ) (bytes : List ℕ) → map.get m number ≡ Some bytes → length bytes ≡ 2048
-  pub small : (number : ℕ) → has_block m number ≡ true → number < 65536
+  pub block : (number : ℕ) (bytes : List ℕ) → map.get m number ≡ Some bytes
+      → IsBlock (record { number = number; bytes = bytes })
 
 -- the same blocks are lent in both
 abbrev pub SameLent : Memory → Memory → Type 0
@@ -67,6 +67,10 @@ IsOutside c a n = (c < a) ⊎ (a + n ≤ c)
 -- the `k` bytes from `c` on and the `n` from `a` on share none
 abbrev pub AreApart : ℕ → ℕ → ℕ → ℕ → Type 0
 AreApart c k a n = (c + k ≤ a) ⊎ (a + n ≤ c)
+
+-- each of the `n` bytes from `a` on is in the block
+abbrev pub LiesIn : ℕ → ℕ → ℕ → Type 0
+LiesIn number a n = (2048 * number ≤ a) × (a + n ≤ 2048 * number + 2048)
 
 -- none of the `n` bytes from `a` on is in the block
 abbrev pub Avoids : ℕ → ℕ → ℕ → Type 0

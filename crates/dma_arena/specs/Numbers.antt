@@ -30,6 +30,13 @@ are_all_free a = list_all (λ free. free) a.free
 abbrev pub all_free : ℕ → ℕ → Numbers
 all_free first count = record { first = first; free = replicate count true }
 
+-- the numbers below a cut, and those from it on, all free
+abbrev pub numbers_below : Numbers → ℕ → Numbers
+numbers_below a at = all_free a.first (at - a.first)
+
+abbrev pub numbers_from : Numbers → ℕ → Numbers
+numbers_from a at = all_free at (a.first + count_of a - at)
+
 -- the same numbers, with this one free or not
 abbrev pub with_free : Numbers → ℕ → Bool → Numbers
 with_free a number free = record a { free = slice_set a.free (number - a.first) free }

@@ -1,7 +1,7 @@
 use Rattle.std.specs.Prelude.{◌≡◌, ℕ, ◌+◌, ◌==◌, true, false, List, [], ◌∷◌, count_by, if◌then◌else◌}
 use Rattle.std.specs.FinMap as map
 use Rattle.dma_arena.specs.Memory.{Memory, has_block}
-use Rattle.dma_arena.specs.Numbers.{Numbers, is_own, is_free, all_free, with_free}
+use Rattle.dma_arena.specs.Numbers.{Numbers, is_own, is_free, are_all_free, all_free, with_free, numbers_below, numbers_from, IsInside}
 
 -- how many blocks in hand have this number
 abbrev pub times_in_hand : List ℕ → ℕ → ℕ
@@ -20,11 +20,26 @@ EachOnce a hand m = (number : ℕ) → is_own a number ≡ true → places_of a 
 pub record MovesKeepEachOnce : Type 0 where
   -- a new arena, none of whose numbers is in hand or lent
   pub made : (first count : ℕ) → EachOnce (all_free first count) [] map.empty
-  pub taken : (a : Numbers) (hand : List ℕ) (m : Memory) (number : ℕ) → is_free a number ≡ true → EachOnce a hand m → EachOnce (with_free a number false) (number ∷ hand) m
-  pub given : (a : Numbers) (hand : List ℕ) (m : Memory) (number : ℕ) → is_own a number ≡ true → EachOnce a (number ∷ hand) m → EachOnce (with_free a number true) hand m
-  pub lent : (a : Numbers) (hand : List ℕ) (m : Memory) (number : ℕ) (bytes : List ℕ) → has_block m number ≡ false → EachOnce a (number ∷ hand) m → EachOnce a hand (map.insert m number bytes)
-  pub back : (a : Numbers) (hand : List ℕ) (m : Memory) (number : ℕ) → has_block m number ≡ true → EachOnce a hand m → EachOnce a (number ∷ hand) (map.remove m number)
-  -- a block of an arena that shares no number with this one
-  pub foreign : (a : Numbers) (hand : List ℕ) (m : Memory) (number : ℕ) → is_own a number ≡ false → EachOnce a hand m → EachOnce a (number ∷ hand) m
+  pub taken : (a : Numbers) (hand : List ℕ) (m : Memory) (number : ℕ) → is_free a number ≡ true → EachOnce a hand m
+      → EachOnce (with_free a number false) (number ∷ hand) m
+  pub given : (a : Numbers) (hand : List ℕ) (m : Memory) (number : ℕ) → is_own a number ≡ true
+      → EachOnce a (number ∷ hand) m → EachOnce (with_free a number true) hand m
+  pub lent : (a : Numbers) (hand : List ℕ) (m : Memory) (number : ℕ) (bytes : List ℕ) → has_block m number ≡ false
+      → EachOnce a (number ∷ hand) m → EachOnce a hand (map.insert m number bytes)
+  pub back : (a : Numbers) (hand : List ℕ) (m : Memory) (number : ℕ) → has_block m number ≡ true → EachOnce a hand m
+      → EachOnce a (number ∷ hand) (map.remove m number)
+  -- a block of an arena that shares no number with this one comes, and leaves for its home, which takes it
+  pub foreign : (a : Numbers) (hand : List ℕ) (m : Memory) (number : ℕ) → is_own a number ≡ false → EachOnce a hand m
+      → EachOnce a (number ∷ hand) m
+  pub home : (a home : Numbers) (hand : List ℕ) (m : Memory) (number : ℕ) → is_own a number ≡ false
+      → is_own home number ≡ true → EachOnce a (number ∷ hand) m → EachOnce home (number ∷ hand) m
+      → (is_free home number ≡ false) × EachOnce a hand m × EachOnce (with_free home number true) hand m
+  -- an arena that is split, whose blocks are all free, leaves two
+  pub split : (a : Numbers) (hand : List ℕ) (m : Memory) (at : ℕ) → are_all_free a ≡ true → IsInside a at
+      → EachOnce a hand m → EachOnce (numbers_below a at) hand m × EachOnce (numbers_from a at) hand m
+  -- in which order blocks are in hand says nothing
+  pub order : (a : Numbers) (hand other : List ℕ) (m : Memory)
+      → ((number : ℕ) → times_in_hand hand number ≡ times_in_hand other number) → EachOnce a hand m → EachOnce a other m
   -- a block in hand is neither free nor lent, so that it can be given back and lent
-  pub welcome : (a : Numbers) (hand : List ℕ) (m : Memory) (number : ℕ) → is_own a number ≡ true → EachOnce a (number ∷ hand) m → (is_free a number ≡ false) × (has_block m number ≡ false)
+  pub welcome : (a : Numbers) (hand : List ℕ) (m : Memory) (number : ℕ) → is_own a number ≡ true
+      → EachOnce a (number ∷ hand) m → (is_free a number ≡ false) × (has_block m number ≡ false)

@@ -1,7 +1,7 @@
 ghost use Rattle.std.specs.Prelude.{◌≡◌, ◌+◌, ◌-◌, ◌<◌, ◌≤◌, ◌↔◌, true, false, length, map, is_some, replicate, slice_index_or, position, IsTrue, IfOk, IfErr, IsOk, OnOk, OnErr, IfSome, IfNone, OnSome, IsNone};
 ghost use Rattle.std.specs.List.{list_all};
 ghost use Rattle.dma_arena.specs.Block.{zero_block};
-ghost use Rattle.dma_arena.specs.Numbers.{count_of, free_count, is_own, is_free, are_all_free, all_free, with_free, IsArena, IsInside};
+ghost use Rattle.dma_arena.specs.Numbers.{count_of, free_count, is_own, is_free, are_all_free, all_free, with_free, numbers_below, numbers_from, IsArena, IsInside};
 
 use crate::buf::{BLOCK_BYTES, Buf};
 use std::alloc::{AllocError, Global};
@@ -163,8 +163,8 @@ impl Arena {
     /// `InUse` where a block is not free, `OutsideArena` where one part would have no number,
     /// and `OutOfMemory`, in this order. Each hands the arena back unchanged.
     pub fn split(self, at: u32) -> Result<(Arena, Arena), SplitRefused>
-        ensures below { IfOk result (λ p. p.0 ≡ all_free self.first (at - self.first)) }
-        ensures above { IfOk result (λ p. p.1 ≡ all_free at (self.first + count_of self - at)) }
+        ensures below { IfOk result (λ p. p.0 ≡ numbers_below self at) }
+        ensures above { IfOk result (λ p. p.1 ≡ numbers_from self at) }
         ensures parted { IsOk result → IsTrue (are_all_free self) × IsInside self at }
         ensures in_use { IfErr result (λ r. (r.fault ≡ SplitFault.InUse) ↔ (are_all_free self ≡ false)) }
         ensures outside { IfErr result (λ r. (r.fault ≡ SplitFault.OutsideArena) ↔ (IsTrue (are_all_free self) × (IsInside self at → ⊥))) }

@@ -1,6 +1,6 @@
 ghost use Rattle.std.specs.Prelude.{◌≡◌, ◌+◌, ◌<◌, ◌≤◌, length};
 ghost use Rattle.std.specs.Borrow.{sem};
-ghost use Rattle.dma_arena.specs.Block.{bus_of, zero_block};
+ghost use Rattle.dma_arena.specs.Block.{IsBlock, bus_of, zero_block};
 ghost use Rattle.dma_arena.specs.Memory.{put_bytes};
 
 use std::marker::Model;
@@ -69,8 +69,9 @@ impl Buf {
     /// The block's bytes.
     pub fn bytes(&self) -> &[u8; BLOCK_BYTES]
         ensures value { result.now ≡ self.now.bytes }
-        ensures whole { length self.now.bytes ≡ 2048 }
+        ensures whole { IsBlock self.now }
     {
+        let _number = self.number;
         let bytes = self.bytes.as_ref();
         let all: &[u8] = bytes;
         prove!(all.len() == BLOCK_BYTES);

@@ -2,7 +2,7 @@
 //! theorem: it does nothing when it runs, and what it ensures holds of the definitions that the
 //! contracts of this crate cite.
 
-ghost use Rattle.dma_arena.specs.Laws.{LentByBlocks, LentEnds, ReadsBytes, ReadsBack, ReadsApart, WritesInside, WriteKeepsBlocks, MovesApart, WriteAvoids, BlockLaw, PutLaw, OwnsItsNumbers, ChangeLaw, CountLaw};
+ghost use Rattle.dma_arena.specs.Laws.{LentByBlocks, LentEnds, ReadsBytes, ReadsBack, ReadsApart, WritesInside, WriteKeepsBlocks, MovesApart, WriteAvoids, BlockLaw, PutLaw, OwnsItsNumbers, ChangeLaw, CountLaw, GivenBack, CutLaw, InsideAvoids, ReadsItsBlock};
 ghost use Rattle.dma_arena.specs.Whereabouts.{MovesKeepEachOnce};
 
 /// A range of bus addresses is lent exactly where each block that it touches is, and it then
@@ -45,6 +45,12 @@ pub fn inside_block()
     ensures { BlockLaw }
 {}
 
+/// A range inside one block avoids each other, and what it reads depends on that block alone.
+pub fn block_apart()
+    ensures avoided { InsideAvoids }
+    ensures read { ReadsItsBlock }
+{}
+
 /// What was put into a block is there, and the rest of the block stays.
 pub fn put()
     ensures { PutLaw }
@@ -56,6 +62,12 @@ pub fn numbers()
     ensures own { OwnsItsNumbers }
     ensures change { ChangeLaw }
     ensures count { CountLaw }
+{}
+
+/// A block that is taken and given back leaves the arena as it was. A split parts the numbers: each is in one part.
+pub fn numbers_stay()
+    ensures given_back { GivenBack }
+    ensures parted { CutLaw }
 {}
 
 /// Where arenas share no number, each block of an arena is in exactly one place, free, in hand

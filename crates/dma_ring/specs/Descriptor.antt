@@ -1,4 +1,4 @@
-use Rattle.std.specs.Prelude.{ℕ, ◌+◌, ◌*◌, ◌/◌, ◌%◌, ◌^◌, Bool, if◌then◌else◌, ◌==◌, List, ◌++◌, take, drop}
+use Rattle.std.specs.Prelude.{ℕ, List, ◌++◌, take, drop}
 use Rattle.std.specs.Int.{w64, to_le_bytes, from_le_bytes}
 
 -- a descriptor's bytes 0 to 7, and 8 to 15, as words; and the descriptor of two words

@@ -1,6 +1,16 @@
-use Rattle.std.specs.Prelude.{ℕ, ◌≡◌, ◌≢◌, ◌<◌, IsFalse, [], ◌∷◌}
-use Rattle.dma_ring.specs.Ring.{slots_of, is_outside, next_of, available_slots}
+-- What rings and descriptors promise as a whole. Bits stand here by the datasheet's numbers, and not by the names that
+-- the code gives them.
+use Rattle.std.specs.Prelude.{ℕ, ◌≡◌, ◌≢◌, ◌+◌, ◌*◌, ◌%◌, ◌^◌, ◌<◌, ◌≤◌, ◌⊎◌, ◌==◌, Bool, false, not, ◌||◌, IsTrue, IsFalse, [], ◌∷◌, length}
+use Rattle.dma_ring.specs.Bits.{has_bit, field}
+use Rattle.dma_ring.specs.Descriptor.{first_half, second_half, of_halves}
+use Rattle.dma_ring.specs.Receive.{told_of, written_back, is_done, ends_packet, bytes_in}
+use Rattle.dma_ring.specs.Ring.{slots_of, is_outside, next_of, descriptor_address, available_slots}
+use Rattle.dma_ring.specs.Transmit.{command_of, with_done}
+use Rattle.dma_ring.specs.declared.receive.Packet.{Packet}
 use Rattle.dma_ring.specs.declared.ring.Ring.{Ring}
+use Rattle.dma_ring.specs.declared.transmit.Command.{Command}
+
+-- slots
 
 -- where head and tail are equal no slot is the device's; else its slots are the head and those that are its own once
 -- the head has moved on
@@ -8,3 +18,78 @@ pub record AvailableSlotsFollowTheHead : Type 0 where
   pub empty : (r : Ring) → IsFalse (is_outside r) → r.head ≡ r.tail → available_slots r ≡ []
   pub more : (r : Ring) → IsFalse (is_outside r) → r.head ≢ r.tail →
       available_slots r ≡ r.head ∷ available_slots (record r { head = next_of (slots_of r) r.head })
+
+-- two slots of a ring share no byte, also where addresses wrap
+abbrev pub SlotsAreApart : Type 0
+SlotsAreApart =
+    (r : Ring) (i j : ℕ) → r.length < 2 ^ 20 → i < slots_of r → j < slots_of r → i ≢ j
+    → (descriptor_address r i + 16 ≤ descriptor_address r j) ⊎ (descriptor_address r j + 16 ≤ descriptor_address r i)
+
+-- where slot 0 is at a multiple of 16, as RDBAL and TDBAL keep it at one of 128, no slot crosses a block's end
+abbrev pub SlotsAreInBlocks : Type 0
+SlotsAreInBlocks =
+    (r : Ring) (slot : ℕ) → r.base % 16 ≡ 0
+    → (descriptor_address r slot % 16 ≡ 0) × (descriptor_address r slot % 2048 + 16 ≤ 2048)
+
+-- a ring of at most 128 slots from a block's start on is in that block
+abbrev pub RingIsInBlock : Type 0
+RingIsInBlock =
+    (r : Ring) (block slot : ℕ) → block < 65536 → r.base ≡ 2048 * block → slot < 128
+    → descriptor_address r slot ≡ 2048 * block + 16 * slot
+
+-- descriptors
+
+-- a descriptor of two halves has 16 bytes, and gives both halves back
+pub record HasHalves (low high : ℕ) : Type 0 where
+  pub size : length (of_halves low high) ≡ 16
+  pub first : low < 2 ^ 64 → first_half (of_halves low high) ≡ low
+  pub second : high < 2 ^ 64 → second_half (of_halves low high) ≡ high
+
+abbrev pub HalvesComeBack : Type 0
+HalvesComeBack = (low high : ℕ) → HasHalves low high
+
+-- a word tells what a packet is, each field in its own bits, and nothing in the bits that are left
+pub record TellsPacket (word : ℕ) (packet : Packet) : Type 0 where
+  pub fits : word < 2 ^ 64
+  pub rss : field 3 0 word ≡ packet.rss
+  pub ipv4 : has_bit 4 word ≡ packet.ipv4
+  pub ipv6 : has_bit 6 word ≡ packet.ipv6
+  pub tcp : has_bit 8 word ≡ packet.tcp
+  pub udp : has_bit 9 word ≡ packet.udp
+  pub hash : field 63 32 word ≡ packet.hash
+  pub rest : (has_bit 5 word ≡ false) × (has_bit 7 word ≡ false) × (field 31 10 word ≡ 0)
+
+abbrev pub PacketIsTold : Type 0
+PacketIsTold = (packet : Packet) → packet.rss < 2 ^ 4 → packet.hash < 2 ^ 32 → TellsPacket (told_of packet) packet
+
+-- a word tells that the descriptor is done, whether the packet ends, and how many bytes came, and nothing else
+pub record TellsPiece (word bytes : ℕ) (ends : Bool) : Type 0 where
+  pub fits : word < 2 ^ 64
+  pub done : IsTrue (is_done word)
+  pub end : ends_packet word ≡ ends
+  pub len : bytes_in word ≡ bytes
+  pub rest : (field 31 2 word ≡ 0) × (field 63 48 word ≡ 0)
+
+abbrev pub PieceIsTold : Type 0
+PieceIsTold = (bytes : ℕ) (ends : Bool) → bytes < 2 ^ 16 → TellsPiece (written_back bytes ends) bytes ends
+
+-- the command is read of the datasheet's bits: DTALEN, DTYP, EOP, RS, DEXT, and VLE, TSE and POPTS
+pub record AsksFor (word : ℕ) (command : Command) : Type 0 where
+  pub len : command.len ≡ field 15 0 word
+  pub kind : command.kind ≡ field 23 20 word
+  pub end : command.end ≡ has_bit 24 word
+  pub report : command.report ≡ has_bit 27 word
+  pub extended : command.extended ≡ has_bit 29 word
+  pub offload : command.offload ≡ (has_bit 30 word || has_bit 31 word || not (field 45 40 word == 0))
+
+abbrev pub CommandIsAsked : Type 0
+CommandIsAsked = (word : ℕ) → AsksFor word (command_of word)
+
+-- setting the done bit sets bit 32, DD, and changes no other
+pub record SetsDone (old new : ℕ) : Type 0 where
+  pub fits : old < 2 ^ 64 → new < 2 ^ 64
+  pub done : IsTrue (has_bit 32 new)
+  pub others : (bit : ℕ) → bit ≢ 32 → has_bit bit new ≡ has_bit bit old
+
+abbrev pub DoneIsSet : Type 0
+DoneIsSet = (word : ℕ) → SetsDone word (with_done word)

@@ -1,3 +1,4 @@
+pub mod Bits
 pub mod Ring
 pub mod Descriptor
 pub mod Receive

@@ -1,8 +1,34 @@
-//! What a ring promises as a whole. A law is the contract of a function that does nothing.
+//! What a ring and its descriptors promise as a whole. A law is the contract of a function that does nothing.
 
-ghost use Rattle.dma_ring.specs.Laws.{AvailableSlotsFollowTheHead};
+ghost use Rattle.dma_ring.specs.Laws.{AvailableSlotsFollowTheHead, SlotsAreApart, SlotsAreInBlocks, RingIsInBlock, HalvesComeBack, PacketIsTold, PieceIsTold, CommandIsAsked, DoneIsSet};
 
 /// The device's slots are none where head and tail are equal, and else the head and those after it.
 pub fn available_slots_follow_the_head()
     ensures { AvailableSlotsFollowTheHead }
+{}
+
+/// Two slots of a ring share no byte. With its base at a multiple of 16, no slot crosses the end of a block of packet
+/// memory, and a ring of at most 128 slots from a block's start on is in that block.
+pub fn slots_are_apart()
+    ensures apart { SlotsAreApart }
+    ensures blocks { SlotsAreInBlocks }
+    ensures ring { RingIsInBlock }
+{}
+
+/// A descriptor of two halves has 16 bytes and gives both halves back.
+pub fn halves_come_back()
+    ensures { HalvesComeBack }
+{}
+
+/// A driver reads of a written-back descriptor what was told: of the packet in the first half, of the piece in the
+/// second. No two fields share a bit.
+pub fn receive_fields()
+    ensures packet { PacketIsTold }
+    ensures piece { PieceIsTold }
+{}
+
+/// The device reads a command of the bits that the datasheet gives its fields. Setting the done bit changes no other.
+pub fn transmit_fields()
+    ensures command { CommandIsAsked }
+    ensures done { DoneIsSet }
 {}

@@ -7,9 +7,10 @@
 //! Source: Intel 82599 datasheet, sections on receive and transmit descriptor rings and on advanced descriptors.
 #![tactic(auto)]
 
+mod bits;
 mod descriptor;
 mod fault;
-mod laws;
+pub mod laws;
 mod receive;
 mod ring;
 mod transmit;

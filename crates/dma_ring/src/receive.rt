@@ -5,26 +5,29 @@
 ghost use Rattle.std.specs.Prelude.{◌≡◌, ◌<◌, ◌^◌};
 ghost use Rattle.dma_ring.specs.Receive.{buffer_of, told_of, written_back};
 
-/// In a written-back first half: the packet is IPv4, IPv6, TCP, UDP.
-const IPV4: u64 = 0x0010;
+/// Bits of a written-back first half: the packet is IPv4. The RSS type is in bits 3 to 0.
+const IPV4: u32 = 4;
 
-const IPV6: u64 = 0x0040;
+/// The packet is IPv6.
+const IPV6: u32 = 6;
 
-const TCP: u64 = 0x0100;
+/// The packet is TCP.
+const TCP: u32 = 8;
 
-const UDP: u64 = 0x0200;
+/// The packet is UDP.
+const UDP: u32 = 9;
 
-/// In a written-back first half: 1 in the field of the hash.
-const HASH_ONE: u64 = 0x1_0000_0000;
+/// The lowest bit of the packet's hash.
+const HASH: u32 = 32;
 
-/// In a written-back second half: the descriptor is done.
-const DONE: u64 = 1;
+/// Bits of a written-back second half: the descriptor is done.
+const DD: u32 = 0;
 
-/// In a written-back second half: the frame ends in this buffer.
-const END_OF_PACKET: u64 = 2;
+/// The packet ends in this buffer.
+const EOP: u32 = 1;
 
-/// In a written-back second half: 1 in the field of the number of bytes.
-const LENGTH_ONE: u64 = 0x1_0000_0000;
+/// The lowest bit of the number of bytes in this buffer.
+const PKT_LEN: u32 = 32;
 
 /// The bus address of the buffer that a descriptor's first half names. Bit 0 is ignored.
 pub fn buffer_address(first: u64) -> u64
@@ -51,11 +54,11 @@ pub fn packet_word(packet: &Packet) -> u64
     ensures { result ≡ told_of packet.now }
 {
     u64::from(packet.rss)
-        + if packet.ipv4 { IPV4 } else { 0 }
-        + if packet.ipv6 { IPV6 } else { 0 }
-        + if packet.tcp { TCP } else { 0 }
-        + if packet.udp { UDP } else { 0 }
-        + HASH_ONE * u64::from(packet.hash)
+        + if packet.ipv4 { 1 << IPV4 } else { 0 }
+        + if packet.ipv6 { 1 << IPV6 } else { 0 }
+        + if packet.tcp { 1 << TCP } else { 0 }
+        + if packet.udp { 1 << UDP } else { 0 }
+        + (u64::from(packet.hash) << HASH)
 }
 
 /// The second half that the device writes back: done, the end of the packet where it is, and how many bytes are in
@@ -63,6 +66,6 @@ pub fn packet_word(packet: &Packet) -> u64
 pub fn done_word(len: u16, end: bool) -> u64
     ensures { result ≡ written_back len end }
 {
-    let flags = if end { DONE + END_OF_PACKET } else { DONE };
-    flags + LENGTH_ONE * u64::from(len)
+    let flags = if end { (1 << DD) + (1 << EOP) } else { 1 << DD };
+    flags + (u64::from(len) << PKT_LEN)
 }

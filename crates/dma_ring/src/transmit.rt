@@ -5,25 +5,34 @@
 ghost use Rattle.std.specs.Prelude.{◌≡◌, ◌<◌, ◌^◌};
 ghost use Rattle.dma_ring.specs.Transmit.{command_of, with_done};
 
-/// The fields of the second half have 1 at these places.
-const TYPE_ONE: u64 = 0x0010_0000;
+use crate::bits::has_bit;
 
-const END_OF_PACKET: u64 = 0x0100_0000;
+/// The lowest bit of the descriptor's type. The number of bytes, DTALEN, is in bits 15 to 0; the frame check sequence,
+/// IFCS, bit 25, and the payload length, PAYLEN, bits 63 to 46, have no effect.
+const DTYP: u32 = 20;
 
-const REPORT_STATUS: u64 = 0x0800_0000;
+/// The packet ends with this buffer.
+const EOP: u32 = 24;
 
-const EXTENSION: u64 = 0x2000_0000;
+/// The status is to be reported.
+const RS: u32 = 27;
 
-const VLAN_INSERTION: u64 = 0x4000_0000;
+/// The descriptor is an advanced one.
+const DEXT: u32 = 29;
 
-const SEGMENTATION: u64 = 0x8000_0000;
+/// VLAN insertion.
+const VLE: u32 = 30;
 
-const DONE: u64 = 0x1_0000_0000;
+/// Segmentation.
+const TSE: u32 = 31;
 
-const CHECKSUMS_ONE: u64 = 0x100_0000_0000;
+/// The descriptor is done.
+const DD: u32 = 32;
 
-/// What the second half of a transmit descriptor asks for. The frame check sequence (IFCS) and the payload length
-/// (PAYLEN) have no effect.
+/// The lowest bit of the checksums to insert.
+const POPTS: u32 = 40;
+
+/// What the second half of a transmit descriptor asks for.
 #[derive(Clone, Copy, PartialEq, Eq, Debug)]
 pub struct Command {
     /// How many bytes the buffer has.
@@ -47,13 +56,11 @@ pub fn command_in(second: u64) -> Command
 {
     Command {
         len: (second % 0x1_0000) as u16,
-        kind: (second / TYPE_ONE % 16) as u8,
-        end: second / END_OF_PACKET % 2 == 1,
-        report: second / REPORT_STATUS % 2 == 1,
-        extended: second / EXTENSION % 2 == 1,
-        offload: second / VLAN_INSERTION % 2 == 1
-            || second / SEGMENTATION % 2 == 1
-            || second / CHECKSUMS_ONE % 64 != 0,
+        kind: ((second >> DTYP) % 16) as u8,
+        end: has_bit(second, EOP),
+        report: has_bit(second, RS),
+        extended: has_bit(second, DEXT),
+        offload: has_bit(second, VLE) || has_bit(second, TSE) || (second >> POPTS) % 64 != 0,
     }
 }
 
@@ -61,9 +68,9 @@ pub fn command_in(second: u64) -> Command
 pub fn done(second: u64) -> u64
     ensures { result ≡ with_done second }
 {
-    if second / DONE % 2 == 1 {
+    if has_bit(second, DD) {
         second
     } else {
-        second + DONE
+        second + (1 << DD)
     }
 }

@@ -12,8 +12,8 @@ use Rattle.dma_ring.specs.Ring.{slots_of, is_outside, next_of}
 use Rattle.rx_ring.specs.declared.filled.Filled.{Filled}
 use Rattle.rx_ring.specs.Control.{descriptor_type_of, buffer_size_of}
 use Rattle.rx_ring.specs.Fill.{Rest, Outcome, head_address, buffer_address, piece_length, filled_of, memory_with, fault_outcome, filled_outcome, fill_of, fill_slot_of, fill_buffer_of}
-use Rattle.rx_ring.specs.Laws.{IsSetUp, HasDescriptor, TakesPiece, TestLaw, FaultWritesNothing, HealthyIsFilled, PieceLaw, DriverReads, WritesInsideSlot, FillKeepsBlocks}
-use Rattle.rx_ring.proofs.Written.{ShowsPiece-memory_with, ChangesOnlySlot-memory_with, SameLent-memory_with, IsWhole-memory_with}
+use Rattle.rx_ring.specs.Laws.{IsSetUp, HasDescriptor, TakesPiece, TestLaw, FaultWritesNothing, HealthyIsFilled, PieceLaw, DriverReads, WritesInsideSlot, FillsTwoBlocks, FillKeepsBlocks}
+use Rattle.rx_ring.proofs.Written.{ShowsPiece-memory_with, ChangesOnlySlot-memory_with, FillsBlocks-memory_with, SameLent-memory_with, IsWhole-memory_with}
 
 -- what goes into the buffer at the head, and the slot filled with it
 abbrev pub piece_of : ℕ → Rest → ℕ
@@ -25,7 +25,8 @@ head_filled m r srrctl rest = filled_of r rest (buffer_address m r) (piece_of sr
 -- an outcome is a fault, or the slot at the head filled
 pub fill_cases : (P : Outcome → Type 0) (m : Memory) (r : Ring) (srrctl : ℕ) (rest : Rest)
     → ((fault : RingFault) → P (fault_outcome m fault))
-    → (IsSetUp r srrctl → HasDescriptor m r → IsTrue (is_lent m (buffer_address m r) (piece_of srrctl rest)) → P (filled_outcome m rest (head_filled m r srrctl rest)))
+    → (IsSetUp r srrctl → HasDescriptor m r → IsTrue (is_lent m (buffer_address m r) (piece_of srrctl rest))
+    → P (filled_outcome m rest (head_filled m r srrctl rest)))
     → P (fill_of m r srrctl rest)
 unfolding fill_of fill_slot_of fill_buffer_of
 fill_cases P m r srrctl rest faults fills =
@@ -34,7 +35,8 @@ fill_cases P m r srrctl rest faults fills =
     cond_both (buffer_size_of srrctl == 0) _ _ P (λ zero. faults NoBufferSize) (λ sized.
     cond_both (is_lent m (head_address r) 16) _ _ P (λ descriptor.
     cond_both (is_lent m (buffer_address m r) (piece_of srrctl rest)) _ _ P
-    (λ buffer. fills (record { inside = inside; one_buffer = eqb-true _ _ one; sized = eqb-false _ _ sized }) descriptor buffer)
+    (λ buffer. fills
+    (record { inside = inside; one_buffer = eqb-true _ _ one; sized = eqb-false _ _ sized }) descriptor buffer)
     (λ absent. faults (NotLent (buffer_address m r))))
     (λ absent. faults (NotLent (head_address r)))))
     (λ other. faults DescType))
@@ -46,13 +48,31 @@ unfolding fill_of fill_slot_of fill_buffer_of
 tests_in_order m r srrctl rest = record {
   outside = λ out. rw out refl;
   type = λ inside other. rw (inside, ne_eqb (descriptor_type_of srrctl) 1 other) refl;
-  size = λ inside one zero. rw (inside, eq-eqb (descriptor_type_of srrctl) 1 one, eq-eqb (buffer_size_of srrctl) 0 zero) refl;
+  size = λ inside one zero. rw
+      (inside, eq-eqb (descriptor_type_of srrctl) 1 one, eq-eqb (buffer_size_of srrctl) 0 zero) refl;
   descriptor = λ set absent.
-      rw (set.inside, eq-eqb (descriptor_type_of srrctl) 1 set.one_buffer, ne_eqb (buffer_size_of srrctl) 0 set.sized, absent) refl;
+      rw (
+        set.inside,
+        eq-eqb (descriptor_type_of srrctl) 1 set.one_buffer,
+        ne_eqb (buffer_size_of srrctl) 0 set.sized,
+        absent,
+      ) refl;
   buffer = λ set descriptor absent.
-      rw (set.inside, eq-eqb (descriptor_type_of srrctl) 1 set.one_buffer, ne_eqb (buffer_size_of srrctl) 0 set.sized, descriptor, absent) refl;
+      rw (
+        set.inside,
+        eq-eqb (descriptor_type_of srrctl) 1 set.one_buffer,
+        ne_eqb (buffer_size_of srrctl) 0 set.sized,
+        descriptor,
+        absent,
+      ) refl;
   filled = λ set descriptor buffer.
-      rw (set.inside, eq-eqb (descriptor_type_of srrctl) 1 set.one_buffer, ne_eqb (buffer_size_of srrctl) 0 set.sized, descriptor, buffer) refl;
+      rw (
+        set.inside,
+        eq-eqb (descriptor_type_of srrctl) 1 set.one_buffer,
+        ne_eqb (buffer_size_of srrctl) 0 set.sized,
+        descriptor,
+        buffer,
+      ) refl;
 }
 
 -- a front of a lent range is lent
@@ -70,14 +90,16 @@ abbrev FaultKeeps : Memory → Outcome → Type 0
 FaultKeeps m o = (fault : RingFault) → o.answer ≡ Err fault → o.memory ≡ m
 
 pub fault_writes_nothing : FaultWritesNothing
-fault_writes_nothing m r srrctl rest = fill_cases (FaultKeeps m) m r srrctl rest (λ fault e is. refl) (λ set descriptor buffer e is. absurd (cc))
+fault_writes_nothing m r srrctl rest =
+    fill_cases (FaultKeeps m) m r srrctl rest (λ fault e is. refl) (λ set descriptor buffer e is. absurd (cc))
 
 -- a filled slot
 
 abbrev Takes : Memory → Ring → ℕ → Rest → Outcome → Type 0
 Takes m r srrctl rest o =
     (f : Filled) → o.answer ≡ Ok f
-    → (head_filled m r srrctl rest ≡ f) × (o.memory ≡ memory_with m rest f) × IsSetUp r srrctl × HasDescriptor m r × IsTrue (is_lent m (buffer_address m r) (piece_of srrctl rest))
+    → (head_filled m r srrctl rest ≡ f) × (o.memory ≡ memory_with m rest f) × IsSetUp r srrctl × HasDescriptor m r
+    × IsTrue (is_lent m (buffer_address m r) (piece_of srrctl rest))
 
 takes : (m : Memory) (r : Ring) (srrctl : ℕ) (rest : Rest) → Takes m r srrctl rest (fill_of m r srrctl rest)
 takes m r srrctl rest =
@@ -88,8 +110,10 @@ takes m r srrctl rest =
 next_of-inside : (r : Ring) → IsFalse (is_outside r) → next_of (slots_of r) r.head < slots_of r
 next_of-inside r inside = grind (arith, nat_tests)
 
-TakesPiece-head : (m : Memory) (r : Ring) (srrctl : ℕ) (rest : Rest) → IsSetUp r srrctl → HasDescriptor m r → IsTrue (is_lent m (buffer_address m r) (piece_of srrctl rest))
-    → (fill_of m r srrctl rest).memory ≡ memory_with m rest (head_filled m r srrctl rest) → TakesPiece m r srrctl rest (head_filled m r srrctl rest)
+TakesPiece-head : (m : Memory) (r : Ring) (srrctl : ℕ) (rest : Rest) → IsSetUp r srrctl → HasDescriptor m r
+    → IsTrue (is_lent m (buffer_address m r) (piece_of srrctl rest))
+    → (fill_of m r srrctl rest).memory ≡ memory_with m rest (head_filled m r srrctl rest)
+    → TakesPiece m r srrctl rest (head_filled m r srrctl rest)
 TakesPiece-head m r srrctl rest set descriptor buffer memory =
     let sized = set.sized in
     record {
@@ -110,23 +134,33 @@ TakesPiece-head m r srrctl rest set descriptor buffer memory =
 pub takes_piece : PieceLaw
 takes_piece m r srrctl rest f is =
     let t = takes m r srrctl rest f is in
-    subst (TakesPiece m r srrctl rest) t.0 (TakesPiece-head m r srrctl rest t.2 t.3 t.4 (t.1 ∙ sym (ap (memory_with m rest) t.0)))
+    subst (TakesPiece m r srrctl rest) t.0
+    (TakesPiece-head m r srrctl rest t.2 t.3 t.4 (t.1 ∙ sym (ap (memory_with m rest) t.0)))
 
-within_rest : (m : Memory) (r : Ring) (srrctl : ℕ) (rest : Rest) (f : Filled) → TakesPiece m r srrctl rest f → f.len ≤ length rest.bytes
+within_rest : (m : Memory) (r : Ring) (srrctl : ℕ) (rest : Rest) (f : Filled) → TakesPiece m r srrctl rest f
+    → f.len ≤ length rest.bytes
 within_rest m r srrctl rest f takes = omega (arith, takes.len)
 
-short_piece : (m : Memory) (r : Ring) (srrctl : ℕ) (rest : Rest) (f : Filled) → TakesPiece m r srrctl rest f → f.len < 2 ^ 16
+short_piece : (m : Memory) (r : Ring) (srrctl : ℕ) (rest : Rest) (f : Filled) → TakesPiece m r srrctl rest f
+    → f.len < 2 ^ 16
 short_piece m r srrctl rest f takes = omega (arith, takes.len)
 
 pub driver_reads : DriverReads
 driver_reads m r srrctl rest f whole fits is =
     let t = takes_piece m r srrctl rest f is in
-    rw (t.memory) (ShowsPiece-memory_with m rest f whole fits (short_piece m r srrctl rest f t) (within_rest m r srrctl rest f t) t.descriptor_lent t.buffer_lent)
+    rw (t.memory)
+    (ShowsPiece-memory_with m rest f whole fits (short_piece m r srrctl rest f t)
+    (within_rest m r srrctl rest f t) t.descriptor_lent t.buffer_lent)
 
 pub writes_inside_slot : WritesInsideSlot
 writes_inside_slot m r srrctl rest f is =
     let t = takes_piece m r srrctl rest f is in
     rw (t.memory) (ChangesOnlySlot-memory_with m rest f (within_rest m r srrctl rest f t))
+
+pub fills_two_blocks : FillsTwoBlocks
+fills_two_blocks m r srrctl rest f ring buffer whole is desc at =
+    let t = takes_piece m r srrctl rest f is in
+    rw (t.memory) (FillsBlocks-memory_with m rest f ring buffer whole (within_rest m r srrctl rest f t) desc at)
 
 abbrev KeepsBlocks : Memory → Outcome → Type 0
 KeepsBlocks m o = SameLent o.memory m × (IsWhole m → IsWhole o.memory)
@@ -134,4 +168,7 @@ KeepsBlocks m o = SameLent o.memory m × (IsWhole m → IsWhole o.memory)
 pub fill_keeps_blocks : FillKeepsBlocks
 fill_keeps_blocks m r srrctl rest =
     fill_cases (KeepsBlocks m) m r srrctl rest (λ fault. ((λ number. refl), λ whole. whole))
-    (λ set descriptor buffer. (SameLent-memory_with m rest (head_filled m r srrctl rest), IsWhole-memory_with m rest (head_filled m r srrctl rest)))
+    (λ set descriptor buffer. (
+      SameLent-memory_with m rest (head_filled m r srrctl rest),
+      IsWhole-memory_with m rest (head_filled m r srrctl rest),
+    ))

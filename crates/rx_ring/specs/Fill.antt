@@ -48,7 +48,8 @@ filled_of r rest at len = record {
 
 -- the bytes are written, and then the descriptor, which wins where they overlap
 abbrev pub memory_with : Memory → Rest → Filled → Memory
-memory_with m rest f = write_at (write_at m f.at (take f.len rest.bytes)) f.desc (of_halves rest.first (written_back f.len f.end))
+memory_with m rest f =
+    write_at (write_at m f.at (take f.len rest.bytes)) f.desc (of_halves rest.first (written_back f.len f.end))
 
 -- a fault leaves the memory as it was
 abbrev pub fault_outcome : Memory → RingFault → Outcome
@@ -75,5 +76,6 @@ fill_of m r srrctl rest =
     if is_outside r
     then fault_outcome m Outside
     else if descriptor_type_of srrctl == 1
-    then (if buffer_size_of srrctl == 0 then fault_outcome m NoBufferSize else fill_slot_of m r rest (buffer_size_of srrctl))
+    then (if buffer_size_of srrctl == 0 then fault_outcome m NoBufferSize else fill_slot_of m r rest
+    (buffer_size_of srrctl))
     else fault_outcome m DescType

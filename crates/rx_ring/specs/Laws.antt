@@ -1,13 +1,13 @@
 -- What the device and a driver can rest on when a slot is filled.
-use Rattle.std.specs.Prelude.{ℕ, ◌≡◌, ◌≢◌, ◌↔◌, ◌<◌, ◌^◌, length, take, IsTrue, IsFalse, Ok, Err}
+use Rattle.std.specs.Prelude.{ℕ, ◌≡◌, ◌≢◌, ◌↔◌, ◌-◌, ◌*◌, ◌<◌, ◌^◌, List, length, take, IsTrue, IsFalse, Some, Ok, Err}
 use Rattle.std.specs.FinMap as map
-use Rattle.dma_arena.specs.Memory.{Memory, byte_at, is_lent, read_at, IsWhole, SameLent, IsOutside, AreApart, Avoids}
+use Rattle.dma_arena.specs.Memory.{Memory, byte_at, is_lent, read_at, IsWhole, SameLent, IsOutside, AreApart, LiesIn, Avoids, put_bytes}
 use Rattle.dma_ring.specs.declared.ring.Ring.{Ring}
 use Rattle.dma_ring.specs.declared.fault.RingFault.{RingFault}
 use Rattle.dma_ring.specs.declared.fault.RingFault.TheVariants.{Outside, NotLent, DescType, NoBufferSize}
 use Rattle.dma_ring.specs.Ring.{slots_of, is_outside, next_of}
-use Rattle.dma_ring.specs.Descriptor.{first_half, second_half}
-use Rattle.dma_ring.specs.Receive.{is_done, ends_packet, bytes_in}
+use Rattle.dma_ring.specs.Descriptor.{first_half, second_half, of_halves}
+use Rattle.dma_ring.specs.Receive.{written_back, is_done, ends_packet, bytes_in}
 use Rattle.rx_ring.specs.declared.filled.Filled.{Filled}
 use Rattle.rx_ring.specs.Control.{descriptor_type_of, buffer_size_of}
 use Rattle.rx_ring.specs.Fill.{Rest, head_address, buffer_address, piece_length, filled_of, memory_with, fault_outcome, filled_outcome, fill_of}
@@ -39,7 +39,8 @@ pub record TestsInOrder (m : Memory) (r : Ring) (srrctl : ℕ) (rest : Rest) : T
   pub filled :
       IsSetUp r srrctl → HasDescriptor m r
       → IsTrue (is_lent m (buffer_address m r) (piece_length (buffer_size_of srrctl) rest))
-      → fill_of m r srrctl rest ≡ filled_outcome m rest (filled_of r rest (buffer_address m r) (piece_length (buffer_size_of srrctl) rest))
+      → fill_of m r srrctl rest ≡ filled_outcome m rest
+      (filled_of r rest (buffer_address m r) (piece_length (buffer_size_of srrctl) rest))
 
 abbrev pub TestLaw : Type 0
 TestLaw = (m : Memory) (r : Ring) (srrctl : ℕ) (rest : Rest) → TestsInOrder m r srrctl rest
@@ -47,7 +48,8 @@ TestLaw = (m : Memory) (r : Ring) (srrctl : ℕ) (rest : Rest) → TestsInOrder 
 -- a fault writes no memory
 abbrev pub FaultWritesNothing : Type 0
 FaultWritesNothing =
-    (m : Memory) (r : Ring) (srrctl : ℕ) (rest : Rest) (fault : RingFault) → (fill_of m r srrctl rest).answer ≡ Err fault
+    (m : Memory) (r : Ring) (srrctl : ℕ) (rest : Rest) (fault : RingFault)
+    → (fill_of m r srrctl rest).answer ≡ Err fault
     → (fill_of m r srrctl rest).memory ≡ m
 
 -- a slot that is set up, with its descriptor and its whole buffer lent, of 2,048 bytes where SRRCTL says 2 KB
@@ -60,7 +62,8 @@ pub record IsHealthy (m : Memory) (r : Ring) (srrctl : ℕ) : Type 0 where
 abbrev pub HealthyIsFilled : Type 0
 HealthyIsFilled =
     (m : Memory) (r : Ring) (srrctl : ℕ) (rest : Rest) → IsHealthy m r srrctl
-    → fill_of m r srrctl rest ≡ filled_outcome m rest (filled_of r rest (buffer_address m r) (piece_length (buffer_size_of srrctl) rest))
+    → fill_of m r srrctl rest ≡ filled_outcome m rest
+    (filled_of r rest (buffer_address m r) (piece_length (buffer_size_of srrctl) rest))
 
 -- a filled slot is the one at the head, the head moves on to the next slot, and of what is left of the frame as much is
 -- taken as the buffer has room for; the frame ends there exactly where nothing is left
@@ -101,7 +104,8 @@ DriverReads =
 pub record ChangesOnlySlot (old new : Memory) (f : Filled) : Type 0 where
   pub bytes : (a : ℕ) → IsOutside a f.desc 16 → IsOutside a f.at f.len → byte_at new a ≡ byte_at old a
   pub reads : (a n : ℕ) → AreApart a n f.desc 16 → AreApart a n f.at f.len → read_at new a n ≡ read_at old a n
-  pub blocks : (number : ℕ) → Avoids number f.desc 16 → Avoids number f.at f.len → map.get new number ≡ map.get old number
+  pub blocks : (number : ℕ) → Avoids number f.desc 16 → Avoids number f.at f.len
+      → map.get new number ≡ map.get old number
 
 abbrev pub WritesInsideSlot : Type 0
 WritesInsideSlot =
@@ -113,3 +117,21 @@ abbrev pub FillKeepsBlocks : Type 0
 FillKeepsBlocks =
     (m : Memory) (r : Ring) (srrctl : ℕ) (rest : Rest)
     → SameLent (fill_of m r srrctl rest).memory m × (IsWhole m → IsWhole (fill_of m r srrctl rest).memory)
+
+-- a slot whose descriptor is inside one block and whose bytes are inside another: these two get what was written, and
+-- each other block is the same
+pub record FillsBlocks (old new : Memory) (rest : Rest) (f : Filled) (ring buffer : ℕ) : Type 0 where
+  pub others : (number : ℕ) → number ≢ ring → number ≢ buffer → map.get new number ≡ map.get old number
+  pub bytes :
+      (block : List ℕ) → ring ≢ buffer → map.get old buffer ≡ Some block
+      → map.get new buffer ≡ Some (put_bytes block (f.at - 2048 * buffer) (take f.len rest.bytes))
+  pub descriptor :
+      (block : List ℕ) → ring ≢ buffer → map.get old ring ≡ Some block
+      → map.get new ring ≡ Some
+      (put_bytes block (f.desc - 2048 * ring) (of_halves rest.first (written_back f.len f.end)))
+
+abbrev pub FillsTwoBlocks : Type 0
+FillsTwoBlocks =
+    (m : Memory) (r : Ring) (srrctl : ℕ) (rest : Rest) (f : Filled) (ring buffer : ℕ) → IsWhole m
+    → (fill_of m r srrctl rest).answer ≡ Ok f → LiesIn ring f.desc 16 → LiesIn buffer f.at f.len
+    → FillsBlocks m (fill_of m r srrctl rest).memory rest f ring buffer

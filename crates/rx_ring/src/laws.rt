@@ -1,7 +1,8 @@
 //! What the device and a driver can rest on when a slot is filled. Each function here is a theorem: it does nothing
 //! when it runs, and what it ensures holds of the definitions that the contract of `fill` cites.
 
-ghost use Rattle.rx_ring.specs.Laws.{TestLaw, FaultWritesNothing, HealthyIsFilled, PieceLaw, DriverReads, WritesInsideSlot, FillKeepsBlocks};
+ghost use Rattle.rx_ring.specs.Laws.{TestLaw, FaultWritesNothing, HealthyIsFilled, PieceLaw, DriverReads, WritesInsideSlot, FillKeepsBlocks, FillsTwoBlocks};
+ghost use Rattle.rx_ring.specs.Frames.{PiecesMakeFrame};
 
 /// The first test that fails names the fault, in this order: the head or the tail outside the ring, the descriptor
 /// type, the buffer size, the descriptor not lent, the bytes of the buffer not lent. Where none fails the slot is
@@ -30,8 +31,16 @@ pub fn read_back()
     ensures { DriverReads }
 {}
 
-/// Filling a slot changes no byte outside the descriptor and the bytes that are named, and not which blocks are lent.
+/// What a driver reads slot by slot, joined in order, is the frame, up to what is left of it. EOP is at a piece exactly
+/// where with it the frame is whole, and none comes behind it. Each piece tells the same of the packet.
+pub fn frames()
+    ensures { PiecesMakeFrame }
+{}
+
+/// Filling a slot changes no byte outside the descriptor and the bytes that are named, and not which blocks are lent. Where each
+/// is inside a block, it changes these two blocks, and no other.
 pub fn elsewhere()
     ensures bytes { WritesInsideSlot }
     ensures blocks { FillKeepsBlocks }
+    ensures whole { FillsTwoBlocks }
 {}

@@ -16,21 +16,30 @@ use Rattle.tx_ring.specs.Laws.{command_at, HasDescriptor, HasContext, HasData, T
 
 -- a data descriptor has a fault, or it can be sent
 data_cases : (P : Option RingFault → Type 0) (m : Memory) (r : Ring) (tx : Tx) (staged : ℕ) (descriptor : List ℕ)
-    → ((fault : RingFault) → P (Some fault)) → (CanSend m r tx staged descriptor → P None) → P (data_fault_of m r tx staged descriptor)
+    → ((fault : RingFault) → P (Some fault)) → (CanSend m r tx staged descriptor → P None)
+    → P (data_fault_of m r tx staged descriptor)
 unfolding data_fault_of
 data_cases P m r tx staged descriptor faults sends =
     let c = command_in descriptor in
     cond_both c.offload _ _ P (λ offload. faults Offload) (λ no_offload.
     cond_both (nat_lt tx.limit (staged + c.len)) _ _ P (λ long. faults TooLong) (λ room.
-    cond_both (not (is_lent m (buffer_in descriptor) c.len)) _ _ P (λ absent. faults (NotLent (buffer_in descriptor))) (λ buffer.
+    cond_both (not (is_lent m (buffer_in descriptor) c.len)) _ _ P (λ absent. faults (NotLent (buffer_in descriptor)))
+    (λ buffer.
     cond_both (not (can_report m r tx c.report)) _ _ P (λ absent. faults (NotLent (report_address r tx))) (λ report.
-    sends (record { no_offload = no_offload; room = grind (arith, nat_tests); buffer = grind (arith, nat_tests); report = grind (arith, nat_tests) })))))
+    sends (record {
+      no_offload = no_offload;
+      room = grind (arith, nat_tests);
+      buffer = grind (arith, nat_tests);
+      report =
+          grind (arith, nat_tests);
+    })))))
 
 -- a descriptor has a fault, or it is a context one or a data one that can be sent
 type_cases : (P : Option RingFault → Type 0) (m : Memory) (r : Ring) (tx : Tx) (staged : ℕ) (descriptor : List ℕ)
     → ((fault : RingFault) → P (Some fault))
     → (IsTrue (command_in descriptor).extended → (command_in descriptor).kind ≡ 2 → P None)
-    → (IsTrue (command_in descriptor).extended → (command_in descriptor).kind ≡ 3 → CanSend m r tx staged descriptor → P None)
+    → (IsTrue (command_in descriptor).extended → (command_in descriptor).kind ≡ 3 → CanSend m r tx staged descriptor
+    → P None)
     → P (descriptor_fault_of m r tx staged descriptor)
 unfolding descriptor_fault_of
 type_cases P m r tx staged descriptor faults contexts sends =
@@ -38,14 +47,16 @@ type_cases P m r tx staged descriptor faults contexts sends =
     cond_both (not c.extended) _ _ P (λ legacy. faults Legacy) (λ extended.
     let e : c.extended ≡ true = grind (arith, nat_tests) in
     cond_both (is_context c) _ _ P (λ context. contexts e (eqb-true _ _ context)) (λ no_context.
-    cond_both (is_data c) _ _ P (λ full. data_cases P m r tx staged descriptor faults (sends e (eqb-true _ _ full))) (λ unknown. faults UnknownType)))
+    cond_both (is_data c) _ _ P (λ full. data_cases P m r tx staged descriptor faults (sends e (eqb-true _ _ full)))
+    (λ unknown. faults UnknownType)))
 
 -- a data descriptor without a fault can be sent
 
 abbrev Passes : Memory → Ring → Tx → ℕ → List ℕ → Option RingFault → Type 0
 Passes m r tx staged descriptor fault = fault ≡ None → CanSend m r tx staged descriptor
 
-pub can_send : (m : Memory) (r : Ring) (tx : Tx) (staged : ℕ) (descriptor : List ℕ) → descriptor_fault_of m r tx staged descriptor ≡ None → (command_in descriptor).kind ≢ 2
+pub can_send : (m : Memory) (r : Ring) (tx : Tx) (staged : ℕ) (descriptor : List ℕ)
+    → descriptor_fault_of m r tx staged descriptor ≡ None → (command_in descriptor).kind ≢ 2
     → CanSend m r tx staged descriptor
 can_send m r tx staged descriptor none other =
     type_cases (Passes m r tx staged descriptor) m r tx staged descriptor
@@ -55,7 +66,8 @@ can_send m r tx staged descriptor none other =
 pub fetch_cases : (P : Outcome → Type 0) (m : Memory) (staged : List ℕ) (r : Ring) (tx : Tx)
     → ((fault : RingFault) → P (fault_outcome m staged fault))
     → (HasContext m r → P (context_outcome m staged r))
-    → (HasData m r → CanSend m r tx (length staged) (descriptor_of m r) → P (data_outcome m staged r tx (descriptor_of m r)))
+    → (HasData m r → CanSend m r tx (length staged) (descriptor_of m r)
+    → P (data_outcome m staged r tx (descriptor_of m r)))
     → P (fetch_of m staged r tx)
 unfolding fetch_of fault_of
 fetch_cases P m staged r tx faults contexts sends =
@@ -64,10 +76,12 @@ fetch_cases P m staged r tx faults contexts sends =
     cond_both (not (is_lent m (head_address r) 16)) _ _ Q (λ absent. faults (NotLent (head_address r))) (λ here.
     let at : HasDescriptor m r = record { inside = inside; lent = grind (arith, nat_tests) } in
     type_cases Q m r tx (length staged) (descriptor_of m r) faults
-    (λ extended two. rw (eq-eqb (command_at m r).kind 2 two) (contexts (record { descriptor = at; extended = extended; type = two })))
+    (λ extended two. rw (eq-eqb (command_at m r).kind 2 two)
+    (contexts (record { descriptor = at; extended = extended; type = two })))
     (λ extended three sent.
     let other : (command_at m r).kind ≢ 2 = omega arith in
-    rw (ne_eqb (command_at m r).kind 2 other) (sends (record { descriptor = at; extended = extended; type = three }) sent))))
+    rw (ne_eqb (command_at m r).kind 2 other)
+    (sends (record { descriptor = at; extended = extended; type = three }) sent))))
 
 -- the tests
 
@@ -87,16 +101,41 @@ tests_in_order m staged r tx =
       descriptor = λ inside absent. rw (inside, absent) refl;
       legacy = λ d legacy. rw (d.inside, d.lent, legacy) refl;
       type = λ d extended two three. rw (d.inside, d.lent, extended, ne_eqb c.kind 2 two, ne_eqb c.kind 3 three) refl;
-      context = λ d. rw (d.descriptor.inside, d.descriptor.lent, d.extended, eq-eqb c.kind 2 d.type) (rw (eq-eqb c.kind 2 d.type) refl);
+      context =
+          λ d. rw (d.descriptor.inside, d.descriptor.lent, d.extended, eq-eqb c.kind 2 d.type)
+          (rw (eq-eqb c.kind 2 d.type) refl);
       offload = λ d offload. rw (d.descriptor.inside, d.descriptor.lent, d.extended, d.type, offload) refl;
-      too_long = λ d plain long. rw (d.descriptor.inside, d.descriptor.lent, d.extended, d.type, plain, below tx.limit sum long) refl;
+      too_long =
+          λ d plain long. rw
+          (d.descriptor.inside, d.descriptor.lent, d.extended, d.type, plain, below tx.limit sum long) refl;
       buffer = λ d plain room absent.
-          rw (d.descriptor.inside, d.descriptor.lent, d.extended, d.type, plain, not_below tx.limit sum room, absent) refl;
+          rw (d.descriptor.inside, d.descriptor.lent, d.extended, d.type, plain, not_below tx.limit sum room, absent)
+          refl;
       report = λ d plain room lent asked absent.
-          rw (d.descriptor.inside, d.descriptor.lent, d.extended, d.type, plain, not_below tx.limit sum room, lent, asked, absent) refl;
+          rw (
+            d.descriptor.inside,
+            d.descriptor.lent,
+            d.extended,
+            d.type,
+            plain,
+            not_below tx.limit sum room,
+            lent,
+            asked,
+            absent,
+          ) refl;
       sent = λ d s.
           let other : c.kind ≢ 2 = omega (arith, d.type) in
-          rw (d.descriptor.inside, d.descriptor.lent, d.extended, ne_eqb c.kind 2 other, eq-eqb c.kind 3 d.type, s.no_offload, not_below tx.limit sum s.room, s.buffer, s.report)
+          rw (
+            d.descriptor.inside,
+            d.descriptor.lent,
+            d.extended,
+            ne_eqb c.kind 2 other,
+            eq-eqb c.kind 3 d.type,
+            s.no_offload,
+            not_below tx.limit sum s.room,
+            s.buffer,
+            s.report,
+          )
           (rw (ne_eqb c.kind 2 other) refl);
     }
 
@@ -107,7 +146,8 @@ FaultKeeps m staged o = (fault : RingFault) → o.answer ≡ Err fault → (o.me
 
 pub fault_changes_nothing : FaultChangesNothing
 fault_changes_nothing m staged r tx =
-    fetch_cases (FaultKeeps m staged) m staged r tx (λ fault e is. (refl, refl)) (λ context e is. absurd (cc)) (λ full sent e is. absurd (cc))
+    fetch_cases (FaultKeeps m staged) m staged r tx (λ fault e is. (refl, refl)) (λ context e is. absurd (cc))
+    (λ full sent e is. absurd (cc))
 
 -- a fetched slot
 
@@ -117,12 +157,14 @@ next_of-inside r inside = grind (arith, nat_tests)
 abbrev Done : Memory → List ℕ → Ring → Tx → Outcome → Type 0
 Done m staged r tx o =
     (HasContext m r × (o ≡ context_outcome m staged r))
-    ⊎ (HasData m r × CanSend m r tx (length staged) (descriptor_of m r) × (o ≡ data_outcome m staged r tx (descriptor_of m r)))
+    ⊎ (HasData m r × CanSend m r tx (length staged) (descriptor_of m r)
+    × (o ≡ data_outcome m staged r tx (descriptor_of m r)))
 
 abbrev Takes : Memory → List ℕ → Ring → Tx → Outcome → Type 0
 Takes m staged r tx o =
     (f : Fetched) → o.answer ≡ Ok f
-    → (f.slot ≡ r.head) × (f.head ≡ next_of (slots_of r) r.head) × (next_of (slots_of r) r.head < slots_of r) × Done m staged r tx o
+    → (f.slot ≡ r.head) × (f.head ≡ next_of (slots_of r) r.head) × (next_of (slots_of r) r.head < slots_of r)
+    × Done m staged r tx o
 
 takes : (m : Memory) (staged : List ℕ) (r : Ring) (tx : Tx) → Takes m staged r tx (fetch_of m staged r tx)
 takes m staged r tx =

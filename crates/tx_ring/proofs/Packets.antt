@@ -13,7 +13,8 @@ use Rattle.tx_ring.proofs.Fetches.{fetch_cases}
 abbrev Stages : Turn → List ℕ → Outcome → Type 0
 Stages t staged o = (f : Fetched) → o.answer ≡ Ok f → f.frame ≡ None → o.staged ≡ staged ++ piece_of t
 
-still_staged : (end : Bool) (frame staged : List ℕ) → (if end then Some frame else None) ≡ None → (if end then [] else staged) ≡ staged
+still_staged : (end : Bool) (frame staged : List ℕ) → (if end then Some frame else None) ≡ None
+    → (if end then [] else staged) ≡ staged
 still_staged true frame staged is = absurd (cc)
 still_staged false frame staged is = refl
 
@@ -32,9 +33,11 @@ stages t staged =
 
 abbrev Ends : Turn → List ℕ → Outcome → Type 0
 Ends t staged o =
-    (f : Fetched) (frame : List ℕ) → o.answer ≡ Ok f → f.frame ≡ Some frame → (frame ≡ frame_of t.tx.pad (staged ++ piece_of t)) × (o.staged ≡ [])
+    (f : Fetched) (frame : List ℕ) → o.answer ≡ Ok f → f.frame ≡ Some frame
+    → (frame ≡ frame_of t.tx.pad (staged ++ piece_of t)) × (o.staged ≡ [])
 
-gone : (end : Bool) (frame staged out : List ℕ) → (if end then Some frame else None) ≡ Some out → (out ≡ frame) × ((if end then [] else staged) ≡ [])
+gone : (end : Bool) (frame staged out : List ℕ) → (if end then Some frame else None) ≡ Some out → (out ≡ frame)
+    × ((if end then [] else staged) ≡ [])
 gone true frame staged out is = (cc, refl)
 gone false frame staged out is = absurd (cc)
 
@@ -50,7 +53,8 @@ ends t staged =
     rw (ne_eqb c.kind 2 other) (gone c.end (frame_of t.tx.pad bytes) bytes frame out))
 
 -- turns that go on stage their pieces in order
-staged_after-pieces : (turns : List Turn) (staged : List ℕ) → GoOn turns staged → staged_after turns staged ≡ staged ++ pieces_of turns
+staged_after-pieces : (turns : List Turn) (staged : List ℕ) → GoOn turns staged
+    → staged_after turns staged ≡ staged ++ pieces_of turns
 unfolding staged_after pieces_of GoOn
 staged_after-pieces [] staged on = sym (append-nil staged)
 staged_after-pieces (t ∷ ts) staged on =

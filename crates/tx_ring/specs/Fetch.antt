@@ -51,7 +51,8 @@ unfoldable pub data_fault_of : Memory → Ring → Tx → ℕ → List ℕ → O
 data_fault_of m r tx staged descriptor =
     if (command_in descriptor).offload then Some Offload
     else if nat_lt tx.limit (staged + (command_in descriptor).len) then Some TooLong
-    else if not (is_lent m (buffer_in descriptor) (command_in descriptor).len) then Some (NotLent (buffer_in descriptor))
+    else if not (is_lent m (buffer_in descriptor) (command_in descriptor).len) then Some
+    (NotLent (buffer_in descriptor))
     else if not (can_report m r tx (command_in descriptor).report) then Some (NotLent (report_address r tx))
     else None
 

@@ -1,12 +1,14 @@
 -- What the device and a driver can rest on when a slot is fetched.
-use Rattle.std.specs.Prelude.{ℕ, ◌≡◌, ◌≢◌, ◌<◌, ◌≤◌, ◌+◌, ◌⊎◌, List, [], ◌∷◌, ◌++◌, length, if◌then◌else◌, IsTrue, IsFalse, Some, None, Ok, Err, ⊤}
+use Rattle.std.specs.Prelude.{ℕ, ◌≡◌, ◌≢◌, ◌<◌, ◌≤◌, ◌+◌, ◌/◌, ◌%◌, ◌^◌, ◌⊎◌, List, [], ◌∷◌, ◌++◌, length, if◌then◌else◌, IsTrue, IsFalse, Some, None, Ok, Err, ⊤}
 use Rattle.std.specs.FinMap as map
 use Rattle.std.specs.Int.{w32, to_le_bytes}
-use Rattle.dma_arena.specs.Memory.{Memory, byte_at, is_lent, read_at, IsWhole, SameLent, IsOutside, AreApart, Avoids}
+use Rattle.dma_arena.specs.Memory.{Memory, byte_at, is_lent, read_at, IsWhole, SameLent, IsOutside, AreApart, LiesIn, Avoids}
 use Rattle.dma_ring.specs.declared.ring.Ring.{Ring}
 use Rattle.dma_ring.specs.declared.transmit.Command.{Command}
 use Rattle.dma_ring.specs.declared.fault.RingFault.{RingFault}
 use Rattle.dma_ring.specs.declared.fault.RingFault.TheVariants.{Outside, NotLent, Offload, Legacy, TooLong, UnknownType}
+use Rattle.dma_ring.specs.Descriptor.{first_half, second_half}
+use Rattle.dma_ring.specs.Laws.{SetsDone}
 use Rattle.dma_ring.specs.Ring.{slots_of, is_outside, next_of}
 use Rattle.tx_ring.specs.declared.tx.Tx.{Tx}
 use Rattle.tx_ring.specs.declared.fetched.Fetched.{Fetched}
@@ -41,7 +43,8 @@ pub record TestsInOrder (m : Memory) (staged : List ℕ) (r : Ring) (tx : Tx) : 
   pub descriptor :
       IsFalse (is_outside r) → IsFalse (is_lent m (head_address r) 16)
       → fetch_of m staged r tx ≡ fault_outcome m staged (NotLent (head_address r))
-  pub legacy : HasDescriptor m r → IsFalse (command_at m r).extended → fetch_of m staged r tx ≡ fault_outcome m staged Legacy
+  pub legacy : HasDescriptor m r → IsFalse (command_at m r).extended
+      → fetch_of m staged r tx ≡ fault_outcome m staged Legacy
   pub type :
       HasDescriptor m r → IsTrue (command_at m r).extended → (command_at m r).kind ≢ 2 → (command_at m r).kind ≢ 3
       → fetch_of m staged r tx ≡ fault_outcome m staged UnknownType
@@ -69,7 +72,8 @@ TestLaw = (m : Memory) (staged : List ℕ) (r : Ring) (tx : Tx) → TestsInOrder
 -- a fault leaves the memory and the staged bytes
 abbrev pub FaultChangesNothing : Type 0
 FaultChangesNothing =
-    (m : Memory) (staged : List ℕ) (r : Ring) (tx : Tx) (fault : RingFault) → (fetch_of m staged r tx).answer ≡ Err fault
+    (m : Memory) (staged : List ℕ) (r : Ring) (tx : Tx) (fault : RingFault)
+    → (fetch_of m staged r tx).answer ≡ Err fault
     → ((fetch_of m staged r tx).memory ≡ m) × ((fetch_of m staged r tx).staged ≡ staged)
 
 -- a fetched slot is the one at the head, and the head moves on to the next slot; its descriptor was a context one, or a
@@ -99,7 +103,8 @@ turn_of t staged = fetch_of t.memory staged t.ring t.tx
 
 -- the bytes that a turn adds to a packet: those that a data descriptor names
 abbrev pub piece_of : Turn → List ℕ
-piece_of t = if is_context (command_at t.memory t.ring) then [] else buffer_bytes t.memory (descriptor_of t.memory t.ring)
+piece_of t =
+    if is_context (command_at t.memory t.ring) then [] else buffer_bytes t.memory (descriptor_of t.memory t.ring)
 
 -- the pieces of turns, in order
 unfoldable pub pieces_of : List Turn → List ℕ
@@ -125,7 +130,8 @@ abbrev pub PacketLaw : Type 0
 PacketLaw =
     (turns : List Turn) (last : Turn) (f : Fetched) (frame : List ℕ) → GoOn turns []
     → (turn_of last (staged_after turns [])).answer ≡ Ok f → f.frame ≡ Some frame
-    → (frame ≡ frame_of last.tx.pad (pieces_of turns ++ piece_of last)) × ((turn_of last (staged_after turns [])).staged ≡ [])
+    → (frame ≡ frame_of last.tx.pad (pieces_of turns ++ piece_of last))
+    × ((turn_of last (staged_after turns [])).staged ≡ [])
 
 -- where an address was written back, what stands there: the new head, and without a head write-back address the
 -- descriptor with its done bit
@@ -137,7 +143,8 @@ pub record ShowsReport (old new : Memory) (r : Ring) (tx : Tx) (f : Fetched) : T
 
 abbrev pub DriverReads : Type 0
 DriverReads =
-    (m : Memory) (staged : List ℕ) (r : Ring) (tx : Tx) (f : Fetched) → IsWhole m → (fetch_of m staged r tx).answer ≡ Ok f
+    (m : Memory) (staged : List ℕ) (r : Ring) (tx : Tx) (f : Fetched) → IsWhole m
+    → (fetch_of m staged r tx).answer ≡ Ok f
     → IsTrue f.rs → ShowsReport m (fetch_of m staged r tx).memory r tx f
 
 -- beside the bytes that were written back each byte stays, and each read and each block; where nothing was, all stays
@@ -161,3 +168,33 @@ abbrev pub FetchKeepsBlocks : Type 0
 FetchKeepsBlocks =
     (m : Memory) (staged : List ℕ) (r : Ring) (tx : Tx)
     → SameLent (fetch_of m staged r tx).memory m × (IsWhole m → IsWhole (fetch_of m staged r tx).memory)
+
+-- where a slot is reported: nowhere with RS at 0, and else at the head write-back address, TDWBAH and TDWBAL, or
+-- without one in the descriptor
+pub record ReportsAt (r : Ring) (tx : Tx) (f : Fetched) : Type 0 where
+  pub none : IsFalse f.rs → f.back ≡ None
+  pub head : (a : ℕ) → tx.writeback ≡ Some a → IsTrue f.rs → f.back ≡ Some a
+  pub descriptor : tx.writeback ≡ None → IsTrue f.rs → f.back ≡ Some (head_address r)
+
+abbrev pub ReportLaw : Type 0
+ReportLaw =
+    (m : Memory) (staged : List ℕ) (r : Ring) (tx : Tx) (f : Fetched) → (fetch_of m staged r tx).answer ≡ Ok f
+    → ReportsAt r tx f
+
+-- the ring is at a multiple of 16, as TDBAL keeps it at one of 128, and the head write-back address is one of 4
+pub record IsAligned (r : Ring) (tx : Tx) : Type 0 where
+  pub base : r.base % 16 ≡ 0
+  pub writeback : (a : ℕ) → tx.writeback ≡ Some a → a % 4 ≡ 0
+
+-- what is reported is then inside one block
+abbrev pub ReportsInOneBlock : Type 0
+ReportsInOneBlock =
+    (m : Memory) (staged : List ℕ) (r : Ring) (tx : Tx) (f : Fetched) (at : ℕ) → IsAligned r tx
+    → (fetch_of m staged r tx).answer ≡ Ok f → f.back ≡ Some at → LiesIn (at / 2048) at (report_length tx.writeback)
+
+-- a descriptor that is done differs from what it was in DD alone
+abbrev pub DoneChangesDoneAlone : Type 0
+DoneChangesDoneAlone =
+    (descriptor : List ℕ) → first_half descriptor < 2 ^ 64 → second_half descriptor < 2 ^ 64
+    → (first_half (done_descriptor descriptor) ≡ first_half descriptor)
+    × SetsDone (second_half descriptor) (second_half (done_descriptor descriptor))

@@ -1,7 +1,7 @@
 //! What the device and a driver can rest on when a slot is fetched. Each function here is a theorem: it does nothing
 //! when it runs, and what it ensures holds of the definitions that the contract of `fetch` cites.
 
-ghost use Rattle.tx_ring.specs.Laws.{TestLaw, FaultChangesNothing, SlotLaw, PacketLaw, DriverReads, WritesInsideReport, FetchKeepsBlocks};
+ghost use Rattle.tx_ring.specs.Laws.{TestLaw, FaultChangesNothing, SlotLaw, PacketLaw, DriverReads, WritesInsideReport, FetchKeepsBlocks, ReportLaw, ReportsInOneBlock, DoneChangesDoneAlone};
 
 /// The first test that fails names the fault, in this order: the head or the tail outside the ring, the descriptor not
 /// lent, a legacy descriptor, an unknown type, and of a data descriptor an offload, a frame above the limit, its bytes
@@ -28,6 +28,15 @@ pub fn packet()
 /// descriptor with its done bit set and every other bit as it was.
 pub fn read_back()
     ensures { DriverReads }
+{}
+
+/// A slot is reported where RS asks for it: in its descriptor, or at the head write-back address where there is one.
+/// With the ring at a multiple of 16 and that address one of 4, the bytes are inside one block. A done descriptor
+/// differs from what it was in DD alone.
+pub fn reports()
+    ensures address { ReportLaw }
+    ensures block { ReportsInOneBlock }
+    ensures done { DoneChangesDoneAlone }
 {}
 
 /// Fetching a slot changes no byte outside those that were written back, and not which blocks are lent.

@@ -12,22 +12,28 @@ loop-done-init c =
 
 pub overflow_add-at : goal.overflow_add-at
 overflow_add-at c =
-    let h = lent_within c.args.blocks.now (c.args.address + c.loop-done.done) (length c.loop-done.bytes - c.loop-done.done) c.requires.kept c.loop-done.invariant.lent (omega arith) in
+    let h = lent_within c.args.blocks.now (c.args.address + c.loop-done.done)
+    (length c.loop-done.bytes - c.loop-done.done) c.requires.kept c.loop-done.invariant.lent (omega arith) in
     omega (arith, h)
 
 pub overflow_cast-at : goal.overflow_cast-at
 overflow_cast-at c =
-    let h = lent_within c.args.blocks.now (c.args.address + c.loop-done.done) (length c.loop-done.bytes - c.loop-done.done) c.requires.kept c.loop-done.invariant.lent (omega arith) in
+    let h = lent_within c.args.blocks.now (c.args.address + c.loop-done.done)
+    (length c.loop-done.bytes - c.loop-done.done) c.requires.kept c.loop-done.invariant.lent (omega arith) in
     omega (arith, h)
 
 pub read_part-requires-clause-lent : goal.read_part-requires-clause-lent
 read_part-requires-clause-lent c =
-    lent_first c.args.blocks.now (c.args.address + c.loop-done.done) (length c.loop-done.bytes - c.loop-done.done) c.loop-done.invariant.lent (omega arith)
+    lent_first c.args.blocks.now (c.args.address + c.loop-done.done)
+    (length c.loop-done.bytes - c.loop-done.done) c.loop-done.invariant.lent (omega arith)
 
 pub loop-done-preserved : goal.loop-done-preserved
 loop-done-preserved c =
     let start : ℕ = c.args.address + c.loop-done.done in
     let at : ℕ = 2048 * (start / 2048) + start % 2048 in
     let end : ℕ = c.loop-done.done + c.min-len.result in
-    let all = read_pass (shown c.args.blocks.now) c.args.address at c.loop-done.done c.min-len.result end (length c.loop-done.bytes) c.loop-done.bytes c.read_part.new.bytes refl refl (omega arith) (omega arith) c.loop-done.invariant.lent c.loop-done.invariant.read c.read_part.ensures.read in
+    let all =
+    read_pass (shown c.args.blocks.now) c.args.address at c.loop-done.done c.min-len.result end
+    (length c.loop-done.bytes) c.loop-done.bytes c.read_part.new.bytes refl refl (omega arith)
+    (omega arith) c.loop-done.invariant.lent c.loop-done.invariant.read c.read_part.ensures.read in
     record { below = all.0; lent = all.1; read = all.2 }

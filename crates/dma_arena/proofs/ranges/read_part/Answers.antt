@@ -7,4 +7,9 @@ pub returns : goal.returns
 unfolding part
 returns c =
     let len : (c.args.offset + length c.args.bytes.now) - c.args.offset ≡ length c.args.bytes.now = omega arith in
-    record { read = c.copy_from_slice.ensures.after ∙ rw (len, c.bytes.ensures.value) refl ∙ sym (read_in c.args.blocks.now c.args.number c.in-Some.buf.now c.args.offset (length c.args.bytes.now) c.requires.kept (sym c.in-Some.ensures.value) c.requires.room) }
+    record {
+      read =
+          c.copy_from_slice.ensures.after ∙ rw (len, c.bytes.ensures.value) refl
+          ∙ sym (read_in c.args.blocks.now c.args.number c.in-Some.buf.now c.args.offset
+          (length c.args.bytes.now) c.requires.kept (sym c.in-Some.ensures.value) c.requires.room);
+    }

@@ -12,27 +12,36 @@ loop-done-init c =
 
 pub overflow_add-at : goal.overflow_add-at
 overflow_add-at c =
-    let h = lent_within c.loop-done.blocks (c.args.address + c.loop-done.done) (length c.args.bytes.now - c.loop-done.done) c.loop-done.invariant.kept c.loop-done.invariant.lent (omega arith) in
+    let h = lent_within c.loop-done.blocks (c.args.address + c.loop-done.done)
+    (length c.args.bytes.now - c.loop-done.done) c.loop-done.invariant.kept c.loop-done.invariant.lent (omega arith) in
     omega (arith, h)
 
 pub overflow_cast-at : goal.overflow_cast-at
 overflow_cast-at c =
-    let h = lent_within c.loop-done.blocks (c.args.address + c.loop-done.done) (length c.args.bytes.now - c.loop-done.done) c.loop-done.invariant.kept c.loop-done.invariant.lent (omega arith) in
+    let h = lent_within c.loop-done.blocks (c.args.address + c.loop-done.done)
+    (length c.args.bytes.now - c.loop-done.done) c.loop-done.invariant.kept c.loop-done.invariant.lent (omega arith) in
     omega (arith, h)
 
 pub write_part-requires-clause-lent : goal.write_part-requires-clause-lent
 write_part-requires-clause-lent c =
-    lent_first c.loop-done.blocks (c.args.address + c.loop-done.done) (length c.args.bytes.now - c.loop-done.done) c.loop-done.invariant.lent (omega arith)
+    lent_first c.loop-done.blocks (c.args.address + c.loop-done.done)
+    (length c.args.bytes.now - c.loop-done.done) c.loop-done.invariant.lent (omega arith)
 
 pub loop-done-preserved : goal.loop-done-preserved
 loop-done-preserved c =
     let start : ℕ = c.args.address + c.loop-done.done in
     let at : ℕ = 2048 * (start / 2048) + start % 2048 in
     let len : (c.loop-done.done + c.min-len.result) - c.loop-done.done ≡ c.min-len.result = omega arith in
-    let part : List ℕ = take ((c.loop-done.done + c.min-len.result) - c.loop-done.done) (drop c.loop-done.done c.args.bytes.now) in
+    let part : List ℕ =
+    take ((c.loop-done.done + c.min-len.result) - c.loop-done.done) (drop c.loop-done.done c.args.bytes.now) in
     record {
       kept = c.write_part.ensures.kept;
       below = omega arith;
-      lent = lent_step (shown c.loop-done.blocks) (shown c.write_part.new.blocks) c.args.address at c.loop-done.done c.min-len.result (length c.args.bytes.now) part c.write_part.ensures.written c.loop-done.invariant.lent (omega arith);
-      written = written_step (shown c.args.blocks.now) (shown c.loop-done.blocks) (shown c.write_part.new.blocks) c.args.address at c.loop-done.done c.min-len.result c.args.bytes.now part c.loop-done.invariant.written c.write_part.ensures.written (omega arith) (rw len refl) (omega arith);
+      lent = lent_step (shown c.loop-done.blocks)
+          (shown c.write_part.new.blocks) c.args.address at c.loop-done.done c.min-len.result
+          (length c.args.bytes.now) part c.write_part.ensures.written c.loop-done.invariant.lent (omega arith);
+      written =
+          written_step (shown c.args.blocks.now) (shown c.loop-done.blocks)
+          (shown c.write_part.new.blocks) c.args.address at c.loop-done.done c.min-len.result c.args.bytes.now part
+          c.loop-done.invariant.written c.write_part.ensures.written (omega arith) (rw len refl) (omega arith);
     }

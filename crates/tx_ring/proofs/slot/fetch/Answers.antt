@@ -12,4 +12,5 @@ send-requires-clause-passed c =
     let tests = rw c.bytes.ensures at c.descriptor_fault.ensures in
     let s = c.second_half.ensures in
     let command = c.command_in.ensures in
-    can_send _ _ _ _ _ (sym tests ∙ none_is _ c.in_default.not-Some) (rw (command, s) at c.if-command_in-eq-CONTEXT.false)
+    can_send _ _ _ _ _ (sym tests ∙ none_is _ c.in_default.not-Some)
+    (rw (command, s) at c.if-command_in-eq-CONTEXT.false)

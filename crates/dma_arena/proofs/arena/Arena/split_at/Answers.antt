@@ -7,16 +7,20 @@ use Rattle.dma_arena.proofs.arena.Arena.split_at.Goals as goal
 
 pub returns-in-Ok-clause-below : goal.returns-in-Ok-clause-below
 returns-in-Ok-clause-below c =
-    let all : are_all_free (marks c.self.inside.first c.self.inside.slots.items) ≡ true = ap are_all_free c.self.view_is ∙ c.requires.free in
-    let size : length c.self.inside.slots.items ≡ count_of c.args.self = sym (length-map c.self.inside.slots.items is_some) ∙ ap count_of c.self.view_is in
+    let all : are_all_free (marks c.self.inside.first c.self.inside.slots.items) ≡ true =
+    ap are_all_free c.self.view_is ∙ c.requires.free in
+    let size : length c.self.inside.slots.items ≡ count_of c.args.self =
+    sym (length-map c.self.inside.slots.items is_some) ∙ ap count_of c.self.view_is in
     ap (marks c.self.inside.first) c.in-Ok.ensures.items
     ∙ marks-take c.self.inside.first c.self.inside.slots.items c.args.place all (omega (arith, c.requires.inside))
     ∙ ap (λ (a : Numbers). all_free a.first c.args.place) c.self.view_is
 
 pub returns-in-Ok-clause-above : goal.returns-in-Ok-clause-above
 returns-in-Ok-clause-above c =
-    let all : are_all_free (marks c.self.inside.first c.self.inside.slots.items) ≡ true = ap are_all_free c.self.view_is ∙ c.requires.free in
-    let size : length c.self.inside.slots.items ≡ count_of c.args.self = sym (length-map c.self.inside.slots.items is_some) ∙ ap count_of c.self.view_is in
+    let all : are_all_free (marks c.self.inside.first c.self.inside.slots.items) ≡ true =
+    ap are_all_free c.self.view_is ∙ c.requires.free in
+    let size : length c.self.inside.slots.items ≡ count_of c.args.self =
+    sym (length-map c.self.inside.slots.items is_some) ∙ ap count_of c.self.view_is in
     ap (marks (c.self.inside.first + c.args.place)) c.in-Ok.ensures.tail
     ∙ marks-drop c.self.inside.first c.self.inside.slots.items c.args.place all
     ∙ ap (λ n. all_free (c.self.inside.first + c.args.place) (n - c.args.place)) size

@@ -18,4 +18,5 @@ returns-clause-lent c =
 
 pub returns-clause-least : goal.returns-clause-least
 returns-clause-least c =
-    λ q lt. ap (λ (m : Memory). has_block m q) (sym c.self.view_is) ∙ none_below c.self.inside.blocks c.in_ok-number.number.now q c.in_ok-number.ensures.least lt
+    λ q lt. ap (λ (m : Memory). has_block m q) (sym c.self.view_is)
+    ∙ none_below c.self.inside.blocks c.in_ok-number.number.now q c.in_ok-number.ensures.least lt

@@ -6,8 +6,10 @@ use Rattle.dma_arena.proofs.lent.LentMemory.take.Goals as goal
 
 pub returns-clause-taken : goal.returns-clause-taken
 returns-clause-taken c =
-    c.remove.ensures.value ∙ block_at-shown c.self.inside.blocks c.args.block c.self.invariant ∙ ap (λ (m : Memory). block_at m c.args.block) c.self.view_is
+    c.remove.ensures.value ∙ block_at-shown c.self.inside.blocks c.args.block c.self.invariant
+    ∙ ap (λ (m : Memory). block_at m c.args.block) c.self.view_is
 
 pub returns-clause-left : goal.returns-clause-left
 returns-clause-left c =
-    shown-remove c.self.inside.blocks c.remove.new.self c.args.block c.remove.ensures.updates ∙ ap (λ (m : Memory). map.remove m c.args.block) c.self.view_is
+    shown-remove c.self.inside.blocks c.remove.new.self c.args.block c.remove.ensures.updates
+    ∙ ap (λ (m : Memory). map.remove m c.args.block) c.self.view_is

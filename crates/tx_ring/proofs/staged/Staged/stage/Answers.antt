@@ -14,4 +14,6 @@ returns-clause-staged c =
     let all : n ≡ length old + length bytes + c.args.zeros = c.in_ok-resize.ensures.len ∙ rw (start, some) refl in
     let longer : c.resize.new.self.items ≡ take n old ++ replicate (n - length old) 0 =
     rw (← c.in_ok-resize.ensures.len, ← c.as_slice-start.ensures.len, start) at c.in_ok-resize.ensures.items in
-    rw (← c.self.view_is) (put_into_longer old bytes c.resize.new.self.items c.read_part.new.bytes n c.args.zeros all longer (rw (start, c.as_mut_slice.ensures.value) at c.read_part.ensures))
+    rw (← c.self.view_is)
+    (put_into_longer old bytes c.resize.new.self.items c.read_part.new.bytes n c.args.zeros all longer
+    (rw (start, c.as_mut_slice.ensures.value) at c.read_part.ensures))

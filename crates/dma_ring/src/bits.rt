@@ -1,0 +1,13 @@
+//! Bits of a descriptor's halves, which the datasheet numbers from the lowest, bit 0.
+
+ghost use Rattle.std.specs.Prelude.{◌≡◌, ◌<◌};
+ghost use Rattle.dma_ring.specs.Bits.{has_bit};
+
+/// Whether a bit of the word is 1.
+#[tactic(auto, using(std::proofs::lemmas::Nat::Bits::shr_and_one))]
+pub(crate) fn has_bit(word: u64, bit: u32) -> bool
+    requires { bit < 64 }
+    ensures { result ≡ has_bit bit word }
+{
+    (word >> bit) & 1 == 1
+}

@@ -1,6 +1,11 @@
+pub mod Finding
 pub mod SetLaws
+pub mod WordLaws
 pub mod Subsets
+pub mod Groups
 pub mod Routing
 pub mod Due
-pub mod ReadLaws
+pub mod BitLaws
 pub mod MessageLaws
+pub mod ToldMarks
+pub mod MaskLaws

@@ -1,15 +1,17 @@
 -- The bits that have a vector, as sets.
-use Rattle.std.proofs.Common.{◌≡◌, ℕ, Bool, refl}
+use Rattle.std.proofs.Common.{◌≡◌, ℕ, refl}
 use Rattle.std.specs.Prelude.{Option, Some, None, is_some, nat_le, ◌==◌, if◌then◌else◌}
-use Rattle.intr_unit.specs.declared.group.Group.{Group}
 use Rattle.intr_unit.specs.declared.group.Group.TheVariants.{Pf, Vf}
-use Rattle.intr_unit.specs.BitSet.{BitSet, contains, bits_below, bits_where, union, when, only}
+use Rattle.intr_unit.specs.BitSet.{contains, bits_below, bits_where, union, when, only}
 use Rattle.intr_unit.specs.Group.{vector_of, other_vector, timer_vector, routed_bits}
 
 -- the same for any vector of the other causes and of the TCP timer
 by_vectors : (other timer : Option ℕ) →
     union (union 0xFFFF (when (is_some other) 0x3FFF0000)) (when (is_some timer) (only 30))
-    ≡ bits_where (λ bit. is_some (if nat_le bit 15 then Some bit else (if nat_le bit 29 then other else (if bit == 30 then timer else None))))
+    ≡ bits_where (λ bit. is_some (
+    if nat_le bit 15 then Some bit
+    else (if nat_le bit 29 then other else (if bit == 30 then timer else None))
+    ))
 unfolding union when only bits_where bits_below contains
 by_vectors None None = refl
 by_vectors None (Some t) = refl
@@ -17,7 +19,9 @@ by_vectors (Some o) None = refl
 by_vectors (Some o) (Some t) = refl
 
 pub routed-Pf : (misc : ℕ) →
-    union (union 0xFFFF (when (is_some (other_vector misc)) 0x3FFF0000)) (when (is_some (timer_vector misc)) (only 30)) ≡ routed_bits Pf misc
+    union (union 0xFFFF (when (is_some (other_vector misc)) 0x3FFF0000))
+    (when (is_some (timer_vector misc)) (only 30))
+    ≡ routed_bits Pf misc
 unfolding routed_bits vector_of
 routed-Pf misc = by_vectors (other_vector misc) (timer_vector misc)
 

@@ -1,10 +1,8 @@
 -- Which sets are within which.
-use Rattle.std.proofs.Common.{◌≡◌, ℕ, Bool, true, false, not, ◌&&◌, ◌||◌, refl, ◌⊎◌, inl, inr}
+use Rattle.std.proofs.Common.{◌≡◌, Bool, true, false, not, ◌&&◌, ◌||◌, refl, sym, ◌∙◌, ◌⊎◌, inl, inr}
 use Rattle.std.proofs.lemmas.Bool.{false≢true}
-use Rattle.std.proofs.lemmas.Nat.Bits.{bit_at-zero}
-use Rattle.std.proofs.Common.{ap, eqb, sym, ◌∙◌}
 use Rattle.intr_unit.specs.BitSet.{BitSet, no_bits, contains, union, intersection, difference, when, IsSubset}
-use Rattle.intr_unit.proofs.SetLaws.{passes}
+use Rattle.intr_unit.proofs.SetLaws.{contains-no_bits, passes}
 
 pub both_left : (x y : Bool) → (x && y) ≡ true → x ≡ true
 both_left true y h = refl
@@ -18,44 +16,56 @@ pub one_of : (x y : Bool) → (x || y) ≡ true → (x ≡ true) ⊎ (y ≡ true
 one_of true y h = inl refl
 one_of false y h = inr h
 
-pub contains-no_bits : (k : ℕ) → contains no_bits k ≡ false
-unfolding contains
-contains-no_bits k = ap (λ d. eqb d 1) (bit_at-zero k)
-
 pub IsSubset-no_bits : (outer : BitSet) → IsSubset no_bits outer
 IsSubset-no_bits outer = record { member = λ k h. absurd (false≢true (sym (contains-no_bits k) ∙ h)) }
 
 pub IsSubset-itself : (set : BitSet) → IsSubset set set
 IsSubset-itself set = record { member = λ k h. h }
 
-pub IsSubset-union : (left right outer : BitSet) → IsSubset left outer → IsSubset right outer → IsSubset (union left right) outer
+pub IsSubset-union : (left right outer : BitSet) → IsSubset left outer → IsSubset right outer →
+    IsSubset (union left right) outer
 unfolding union
 IsSubset-union left right outer p q = record {
-  member = λ k h. elim (one_of (contains left k) (contains right k) (passes _ k h)) [ inl l ↦ p.member k l | inr r ↦ q.member k r ];
+  member = λ k h. elim (one_of (contains left k) (contains right k) (passes _ k h)) [
+    | inl l ↦ p.member k l
+    | inr r ↦ q.member k r
+  ];
 }
 
-pub IsSubset-intersection_left : (left right outer : BitSet) → IsSubset left outer → IsSubset (intersection left right) outer
+pub IsSubset-intersection_left : (left right outer : BitSet) → IsSubset left outer →
+    IsSubset (intersection left right) outer
 unfolding intersection
 IsSubset-intersection_left left right outer p = record {
   member = λ k h. p.member k (both_left (contains left k) (contains right k) (passes _ k h));
 }
 
-pub IsSubset-intersection_right : (left right outer : BitSet) → IsSubset right outer → IsSubset (intersection left right) outer
+pub IsSubset-intersection_right : (left right outer : BitSet) → IsSubset right outer →
+    IsSubset (intersection left right) outer
 unfolding intersection
 IsSubset-intersection_right left right outer q = record {
   member = λ k h. q.member k (both_right (contains left k) (contains right k) (passes _ k h));
 }
 
-pub IsSubset-difference : (left right outer : BitSet) → IsSubset left outer → IsSubset (difference left right) outer
+pub IsSubset-difference : (left right outer : BitSet) → IsSubset left outer →
+    IsSubset (difference left right) outer
 unfolding difference
 IsSubset-difference left right outer p = record {
   member = λ k h. p.member k (both_left (contains left k) (not (contains right k)) (passes _ k h));
 }
 
-pub IsSubset-when : (condition : Bool) (set outer : BitSet) → IsSubset set outer → IsSubset (when condition set) outer
+pub IsSubset-when : (condition : Bool) (set outer : BitSet) → IsSubset set outer →
+    IsSubset (when condition set) outer
 unfolding when
 IsSubset-when true set outer p = p
 IsSubset-when false set outer p = IsSubset-no_bits outer
 
 -- for what a change of the words leaves within them
-pub ruleset subsets = (IsSubset-no_bits, IsSubset-itself, IsSubset-union, IsSubset-intersection_left, IsSubset-intersection_right, IsSubset-difference, IsSubset-when)
+pub ruleset subsets = (
+  IsSubset-no_bits,
+  IsSubset-itself,
+  IsSubset-union,
+  IsSubset-intersection_left,
+  IsSubset-intersection_right,
+  IsSubset-difference,
+  IsSubset-when,
+)

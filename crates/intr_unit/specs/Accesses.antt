@@ -1,9 +1,10 @@
 -- Lists of accesses of one group, by driver and device.
 use Rattle.std.specs.Prelude.{ℕ, Bool, IsTrue, List, [], ◌∷◌}
 use Rattle.intr_unit.specs.BitSet.{BitSet, contains}
-use Rattle.intr_unit.specs.Interrupts.{Interrupts, reset_of, raised, after_read, after_write_one, after_mask_set, after_mask_clear, with_auto_clear, with_auto_mask, after_message}
+use Rattle.intr_unit.specs.Interrupts.{Interrupts, reset_of, raised, after_read, after_write_one, after_mask_set}
+use Rattle.intr_unit.specs.Interrupts.{after_mask_clear, with_auto_clear, with_auto_mask, after_message}
 
--- the calls that change a group
+-- the calls that change a group, and a reset, which makes it anew
 pub data Access : Type 0 where
   raise : BitSet → Bool → Access
   read : Bool → Bool → Access

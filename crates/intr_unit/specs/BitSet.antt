@@ -1,6 +1,7 @@
 -- Sets of the bits 0 to 31 of a register. A set is kept as the word that has a 1 at each of its bits, and
 -- nowhere else: this file is the one tie between the two.
-use Rattle.std.specs.Prelude.{◌≡◌, ℕ, suc, zero, ◌+◌, ◌*◌, ◌^◌, ◌<◌, ◌≤◌, ◌==◌, Bool, IsTrue, not, ◌&&◌, ◌||◌, nat_lt, nat_le, if◌then◌else◌, Option}
+use Rattle.std.specs.Prelude.{ℕ, suc, zero, ◌+◌, ◌*◌, ◌^◌, ◌==◌, Bool, IsTrue, not, ◌&&◌, ◌||◌, nat_le, if◌then◌else◌}
+use Rattle.std.specs.Prelude.{Option}
 use Rattle.std.specs.Int.{bit_at}
 use Rattle.std.specs.List.{find, range_with_len}
 

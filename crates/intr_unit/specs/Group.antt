@@ -1,5 +1,6 @@
 -- What differs between the group of the physical function and that of a virtual function.
-use Rattle.std.specs.Prelude.{ℕ, ◌+◌, ◌-◌, ◌/◌, ◌%◌, ◌^◌, ◌==◌, Bool, true, not, ◌&&◌, nat_lt, nat_le, if◌then◌else◌, Option, None, Some, is_some}
+use Rattle.std.specs.Prelude.{ℕ, ◌+◌, ◌-◌, ◌/◌, ◌%◌, ◌^◌, ◌==◌, Bool, true, not, ◌&&◌, nat_lt, nat_le, if◌then◌else◌}
+use Rattle.std.specs.Prelude.{Option, None, Some, is_some}
 use Rattle.intr_unit.specs.declared.group.Group.{Group}
 use Rattle.intr_unit.specs.declared.group.Group.TheVariants.{Pf, Vf}
 use Rattle.intr_unit.specs.BitSet.{BitSet, no_bits, contains, bits_where, bits_from_to, only}
@@ -38,7 +39,8 @@ timer_vector misc = vector_if (contains misc 7) (field misc 5 0)
 -- the vector of the bit, or none where the bit isn't routed; `misc` is the word IVAR_MISC
 unfoldable pub vector_of : Group → ℕ → ℕ → Option ℕ
 vector_of Pf misc bit =
-    if nat_le bit 15 then Some bit else (if nat_le bit 29 then other_vector misc else (if bit == 30 then timer_vector misc else None))
+    if nat_le bit 15 then Some bit
+    else (if nat_le bit 29 then other_vector misc else (if bit == 30 then timer_vector misc else None))
 vector_of (Vf v) misc bit = if nat_le bit 2 then Some bit else None
 
 -- the bits that have a vector

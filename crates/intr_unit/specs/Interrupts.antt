@@ -1,8 +1,9 @@
 -- The interrupts of one group, and what each access leaves of them.
-use Rattle.std.specs.Prelude.{◌≡◌, ◌≢◌, ℕ, ◌<◌, ◌≤◌, Bool, true, false, not, ◌&&◌, if◌then◌else◌, Option, None, Some, is_some}
+use Rattle.std.specs.Prelude.{ℕ, Bool, not, ◌&&◌, Option, None, Some, is_some}
 use Rattle.std.specs.Option.{option_and_then}
 use Rattle.intr_unit.specs.declared.group.Group.{Group}
-use Rattle.intr_unit.specs.BitSet.{BitSet, no_bits, contains, bits_where, union, intersection, difference, when, only, lowest_of, IsSubset}
+use Rattle.intr_unit.specs.BitSet.{BitSet, no_bits, contains, bits_where, union, intersection, difference, when, only}
+use Rattle.intr_unit.specs.BitSet.{lowest_of, IsSubset}
 use Rattle.intr_unit.specs.Group.{group_bits, bits_cleared_by_read, vector_of}
 
 -- the words of a group as sets of bits, and the bits that a message told
@@ -25,7 +26,14 @@ pub record IsConsistent (s : Interrupts) : Type 0 where
 -- all words 0, nothing told
 abbrev pub reset_of : Group → Interrupts
 reset_of group =
-    record { group = group; causes = no_bits; enabled = no_bits; auto_clear = no_bits; auto_mask = no_bits; told = no_bits }
+    record {
+      group = group;
+      causes = no_bits;
+      enabled = no_bits;
+      auto_clear = no_bits;
+      auto_mask = no_bits;
+      told = no_bits;
+    }
 
 -- a group's interrupts by its words and its told bits: of the words the bits that the group has, and of the told bits
 -- those whose cause and mask are 1
@@ -53,16 +61,23 @@ auto_masked s bits auto = when auto (intersection bits s.auto_mask)
 -- the causes become 1; the auto-mask sets the masks of those that it has
 abbrev pub raised : Interrupts → BitSet → Bool → Interrupts
 raised s bits auto =
-    settled s (union s.causes (intersection bits (group_bits s.group))) (union s.enabled (auto_masked s bits auto)) s.told
+    settled s
+    (union s.causes (intersection bits (group_bits s.group)))
+    (union s.enabled (auto_masked s bits auto))
+    s.told
 
 -- a read clears causes; the auto-mask clears its masks
 abbrev pub after_read : Interrupts → Bool → Bool → Interrupts
 after_read s ocd auto =
-    settled s (difference s.causes (bits_cleared_by_read s.group ocd)) (difference s.enabled (when auto s.auto_mask)) s.told
+    settled s
+    (difference s.causes (bits_cleared_by_read s.group ocd))
+    (difference s.enabled (when auto s.auto_mask))
+    s.told
 
 -- the causes become 0; the auto-mask clears the masks of those of the bits that it has
 abbrev pub after_write_one : Interrupts → BitSet → Bool → Interrupts
-after_write_one s bits auto = settled s (difference s.causes bits) (difference s.enabled (auto_masked s bits auto)) s.told
+after_write_one s bits auto =
+    settled s (difference s.causes bits) (difference s.enabled (auto_masked s bits auto)) s.told
 
 -- the masks become 1
 abbrev pub after_mask_set : Interrupts → BitSet → Interrupts

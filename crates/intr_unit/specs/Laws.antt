@@ -1,15 +1,20 @@
 -- What a driver may rely on, in the words of the registers.
-use Rattle.std.specs.Prelude.{◌≡◌, ◌≢◌, ℕ, ◌^◌, ◌<◌, ◌≤◌, Bool, true, false, not, ◌&&◌, nat_le, IsTrue, IsFalse, List, Option, Some, None, IsSome}
+use Rattle.std.specs.Prelude.{◌≡◌, ◌≢◌, ℕ, ◌^◌, ◌<◌, ◌≤◌, ◌==◌, Bool, false, not, ◌&&◌, ◌||◌, nat_le, IsTrue, IsFalse}
+use Rattle.std.specs.Prelude.{List, Some, None, IsSome}
+use Rattle.intr_unit.specs.declared.group.Group.{Group}
 use Rattle.intr_unit.specs.declared.group.Group.TheVariants.{Pf, Vf}
-use Rattle.intr_unit.specs.BitSet.{BitSet, no_bits, contains, bits_where, IsSubset}
+use Rattle.intr_unit.specs.BitSet.{BitSet, contains, bits_where}
 use Rattle.intr_unit.specs.Group.{group_bits, vector_of}
-use Rattle.intr_unit.specs.Interrupts.{Interrupts, IsConsistent, raised, after_read, after_mask_set, after_mask_clear, is_due, next_bit, next_vector, after_message}
-use Rattle.intr_unit.specs.Accesses.{Access, after_all, StaysPending}
+use Rattle.intr_unit.specs.Interrupts.{Interrupts, IsConsistent, raised, after_read, after_write_one, after_mask_set}
+use Rattle.intr_unit.specs.Interrupts.{after_mask_clear, with_auto_clear, with_auto_mask, after_message}
+use Rattle.intr_unit.specs.Interrupts.{is_due, next_bit, next_vector}
+use Rattle.intr_unit.specs.Accesses.{Access, after, after_all, IsPending, StaysPending}
 
 -- a set given by a test has just the bits of the register that pass, and a word is known by its bits
 pub record SetsHoldTheirBits : Type 0 where
   pub member : (test : ℕ → Bool) (bit : ℕ) → bit < 32 → contains (bits_where test) bit ≡ test bit
-  pub same : (left right : BitSet) → left < 2 ^ 32 → right < 2 ^ 32 → ((bit : ℕ) → bit < 32 → contains left bit ≡ contains right bit) → left ≡ right
+  pub same : (left right : BitSet) → left < 2 ^ 32 → right < 2 ^ 32 →
+      ((bit : ℕ) → bit < 32 → contains left bit ≡ contains right bit) → left ≡ right
 
 -- the bit's cause and its mask are 1, it isn't told, and this is its vector
 pub record IsDueBy (s : Interrupts) (misc bit vector : ℕ) : Type 0 where
@@ -20,12 +25,14 @@ pub record IsDueBy (s : Interrupts) (misc bit vector : ℕ) : Type 0 where
 
 -- the message of this vector is that of the bit, the lowest that is due
 pub record IsMessageOf (s : Interrupts) (misc vector bit : ℕ) : Type 0 where
+  pub within : bit < 32
   pub due : IsDueBy s misc bit vector
   pub lowest : (other : ℕ) → IsTrue (is_due s misc other) → bit ≤ other
 
 -- each message is of the lowest bit that is due, and without a message no bit is due
 pub record MessagesTellDueBits : Type 0 where
-  pub told : (s : Interrupts) (misc vector : ℕ) → next_vector s misc ≡ Some vector → (bit : ℕ) × IsMessageOf s misc vector bit
+  pub told : (s : Interrupts) (misc vector : ℕ) → next_vector s misc ≡ Some vector →
+      (bit : ℕ) × IsMessageOf s misc vector bit
   pub idle : (s : Interrupts) (misc bit : ℕ) → next_vector s misc ≡ None → bit < 32 → IsFalse (is_due s misc bit)
 
 -- a bit that was told isn't told again as long as its cause and its mask stay 1
@@ -38,23 +45,113 @@ BitsAreToldOnce =
 -- masks that are cleared leave every cause, and once they are set again the causes are due again, told or not
 pub record MaskingLosesNoCause : Type 0 where
   pub causes : (s : Interrupts) (bits : BitSet) → (after_mask_clear s bits).causes ≡ s.causes
-  pub due_again : (s : Interrupts) (bits : BitSet) (misc bit : ℕ) → bit < 32 → IsTrue (contains (group_bits s.group) bit) →
-      IsTrue (contains s.causes bit) → IsTrue (contains bits bit) → IsSome (vector_of s.group misc bit) →
+  pub due_again : (s : Interrupts) (bits : BitSet) (misc bit : ℕ) → bit < 32 →
+      IsTrue (contains (group_bits s.group) bit) → IsTrue (contains s.causes bit) → IsTrue (contains bits bit) →
+      IsSome (vector_of s.group misc bit) →
       IsTrue (is_due (after_mask_set (after_mask_clear s bits) bits) misc bit)
 
--- the auto-mask of a read clears the masks that it has and keeps the others; without it all masks stay
-pub record ReadsMaskTheAutoMask : Type 0 where
-  pub acts : (s : Interrupts) (ocd : Bool) (bit : ℕ) → bit < 32 →
-      contains (after_read s ocd true).enabled bit ≡ (contains s.enabled bit && not (contains s.auto_mask bit))
-  pub rests : (s : Interrupts) (ocd : Bool) (bit : ℕ) → bit < 32 → contains (after_read s ocd false).enabled bit ≡ contains s.enabled bit
+-- for each bit, whether its cause is 1, whether its mask is 1, and whether it is marked as told
+pub record Bits : Type 0 where
+  pub cause : ℕ → Bool
+  pub mask : ℕ → Bool
+  pub mark : ℕ → Bool
 
--- a read clears the whole word; of the PF with other-cause clearing bits 29 to 16 alone
-pub record ReadsClearCauses : Type 0 where
-  pub whole : (s : Interrupts) (auto : Bool) → IsConsistent s → (after_read s false auto).causes ≡ no_bits
-  pub of_a_vf : (s : Interrupts) (v : ℕ) (ocd auto : Bool) → IsConsistent s → s.group ≡ Vf v → (after_read s ocd auto).causes ≡ no_bits
-  pub other_causes : (s : Interrupts) (auto : Bool) (bit : ℕ) → s.group ≡ Pf → bit < 32 →
-      contains (after_read s true auto).causes bit ≡ (contains s.causes bit && not (nat_le 16 bit && nat_le bit 29))
+-- a call leaves these causes and masks, and of these marks those whose cause and mask are 1; the auto-clear and the
+-- auto-mask stay
+pub record Leaves (before left : Interrupts) (bits : Bits) : Type 0 where
+  pub causes : (bit : ℕ) → bit < 32 → contains left.causes bit ≡ bits.cause bit
+  pub masks : (bit : ℕ) → bit < 32 → contains left.enabled bit ≡ bits.mask bit
+  pub told : (bit : ℕ) → bit < 32 → contains left.told bit ≡ (bits.mark bit && bits.cause bit && bits.mask bit)
+  pub auto_clear : left.auto_clear ≡ before.auto_clear
+  pub auto_mask : left.auto_mask ≡ before.auto_mask
 
--- causes that the device raises change no mask
-abbrev pub RaisingKeepsMasks : Type 0
-RaisingKeepsMasks = (s : Interrupts) (bits : BitSet) (bit : ℕ) → bit < 32 → contains (raised s bits false).enabled bit ≡ contains s.enabled bit
+-- a raise: the causes of the raised bits that the group has become 1, and where the auto-mask acts the masks of those
+-- of the raised bits that it has
+abbrev pub RaisesChangeBits : Type 0
+RaisesChangeBits =
+    (s : Interrupts) (raise : BitSet) (auto : Bool) → Leaves s (raised s raise auto)
+    (record {
+      cause = λ bit. contains s.causes bit || (contains raise bit && contains (group_bits s.group) bit);
+      mask = λ bit. contains s.enabled bit || (auto && contains raise bit && contains s.auto_mask bit);
+      mark = λ bit. contains s.told bit;
+    })
+
+-- a read keeps no cause but, of the PF with other-cause clearing, those outside bits 29 to 16
+abbrev pub keeps_cause : Group → Bool → ℕ → Bool
+keeps_cause Pf ocd bit = ocd && not (nat_le 16 bit && nat_le bit 29)
+keeps_cause (Vf v) ocd bit = false
+
+-- a read: the causes become 0, or with other-cause clearing those of bits 29 to 16 alone; where the auto-mask acts, the
+-- masks of all bits that it has become 0
+abbrev pub ReadsChangeBits : Type 0
+ReadsChangeBits =
+    (s : Interrupts) (ocd auto : Bool) → IsConsistent s → Leaves s (after_read s ocd auto)
+    (record {
+      cause = λ bit. contains s.causes bit && keeps_cause s.group ocd bit;
+      mask = λ bit. contains s.enabled bit && not (auto && contains s.auto_mask bit);
+      mark = λ bit. contains s.told bit;
+    })
+
+-- a write of ones to the cause register: the causes of these bits become 0, and where the auto-mask acts the masks of
+-- those of them that it has
+abbrev pub WritesOfOnesChangeBits : Type 0
+WritesOfOnesChangeBits =
+    (s : Interrupts) (ones : BitSet) (auto : Bool) → Leaves s (after_write_one s ones auto)
+    (record {
+      cause = λ bit. contains s.causes bit && not (contains ones bit);
+      mask = λ bit. contains s.enabled bit && not (auto && contains ones bit && contains s.auto_mask bit);
+      mark = λ bit. contains s.told bit;
+    })
+
+-- a write of the mask register: the masks of these bits become 1, as far as the group has them
+abbrev pub MaskSetsChangeBits : Type 0
+MaskSetsChangeBits =
+    (s : Interrupts) (ones : BitSet) → Leaves s (after_mask_set s ones)
+    (record {
+      cause = λ bit. contains s.causes bit;
+      mask = λ bit. contains s.enabled bit || (contains ones bit && contains (group_bits s.group) bit);
+      mark = λ bit. contains s.told bit;
+    })
+
+-- a write of the mask clear register: the masks of these bits become 0
+abbrev pub MaskClearsChangeBits : Type 0
+MaskClearsChangeBits =
+    (s : Interrupts) (ones : BitSet) → Leaves s (after_mask_clear s ones)
+    (record {
+      cause = λ bit. contains s.causes bit;
+      mask = λ bit. contains s.enabled bit && not (contains ones bit);
+      mark = λ bit. contains s.told bit;
+    })
+
+-- the bits once one is told: its cause becomes 0 where the auto-clear has it, its mask where EIAME is 1 and the
+-- auto-mask has it
+abbrev pub told_bits : Interrupts → Bool → ℕ → Bits
+told_bits s eiame chosen =
+    record {
+      cause = λ bit. contains s.causes bit && not (bit == chosen && contains s.auto_clear bit);
+      mask = λ bit. contains s.enabled bit && not (eiame && bit == chosen && contains s.auto_mask bit);
+      mark = λ bit. contains s.told bit || bit == chosen;
+    }
+
+-- a message tells its bit, and without a message nothing changes
+pub record MessagesChangeBits : Type 0 where
+  pub told : (s : Interrupts) (eiame : Bool) (misc vector chosen : ℕ) → IsMessageOf s misc vector chosen →
+      Leaves s (after_message s eiame misc) (told_bits s eiame chosen)
+  pub idle : (s : Interrupts) (eiame : Bool) (misc : ℕ) → next_vector s misc ≡ None → after_message s eiame misc ≡ s
+
+-- a write of the auto-clear or of the auto-mask gives that word these bits, as far as the group has them, and changes
+-- no other word
+pub record AutoWritesChangeBits : Type 0 where
+  pub auto_clear : (s : Interrupts) (word : BitSet) (bit : ℕ) → bit < 32 →
+      contains (with_auto_clear s word).auto_clear bit ≡ (contains word bit && contains (group_bits s.group) bit)
+  pub auto_mask : (s : Interrupts) (word : BitSet) (bit : ℕ) → bit < 32 →
+      contains (with_auto_mask s word).auto_mask bit ≡ (contains word bit && contains (group_bits s.group) bit)
+  pub alone : (s : Interrupts) (clear mask : BitSet) →
+      record (with_auto_clear s clear) { auto_clear = s.auto_clear } ≡ s
+      × record (with_auto_mask s mask) { auto_mask = s.auto_mask } ≡ s
+
+-- after each access a bit is told only while its cause and its mask are 1
+abbrev pub ToldBitsArePending : Type 0
+ToldBitsArePending =
+    (s : Interrupts) (access : Access) (bit : ℕ) → IsConsistent s → IsTrue (contains (after s access).told bit) →
+    IsPending (after s access) bit

@@ -21,12 +21,13 @@ impl Model for BitSet {
     ghost inverse = { λ word. record { word = word } };
 }
 
-#[tactic(auto, using(crate::proofs::SetLaws::word_operations), unfolding(crate::specs::BitSet::when))]
+#[tactic(auto, using(crate::proofs::WordLaws::word_operations), unfolding(crate::specs::BitSet::when))]
 impl BitSet {
     /// The set without a bit.
     pub(crate) const EMPTY: BitSet = BitSet { word: 0 };
 
     /// The set of the bits that are 1 in the word.
+    #[inline(always)]
     pub(crate) fn of_word(word: u32) -> Self
         ensures { result ≡ word }
     {
@@ -34,6 +35,7 @@ impl BitSet {
     }
 
     /// The word that is 1 at the bits of the set.
+    #[inline(always)]
     pub(crate) fn word(self) -> u32
         ensures { result ≡ self }
     {
@@ -41,6 +43,7 @@ impl BitSet {
     }
 
     /// The bits that are in one of the two sets.
+    #[inline(always)]
     pub(crate) fn union(self, other: BitSet) -> Self
         ensures { result ≡ union self other }
     {
@@ -50,6 +53,7 @@ impl BitSet {
     }
 
     /// The bits that are in both sets.
+    #[inline(always)]
     pub(crate) fn intersection(self, other: BitSet) -> Self
         ensures { result ≡ intersection self other }
     {
@@ -59,6 +63,7 @@ impl BitSet {
     }
 
     /// The bits of this set that are not in the other.
+    #[inline(always)]
     pub(crate) fn difference(self, other: BitSet) -> Self
         ensures { result ≡ difference self other }
     {
@@ -68,6 +73,7 @@ impl BitSet {
     }
 
     /// The set where the condition holds, else no bit.
+    #[inline(always)]
     pub(crate) fn when(self, condition: bool) -> Self
         ensures { result ≡ when condition self }
     {
@@ -75,6 +81,7 @@ impl BitSet {
     }
 
     /// Whether the bit is in the set.
+    #[inline(always)]
     pub(crate) fn contains(self, bit: u8) -> bool
         requires { bit < 32 }
         ensures { result ≡ contains self bit }
@@ -83,6 +90,7 @@ impl BitSet {
     }
 
     /// The set of one bit.
+    #[inline(always)]
     pub(crate) fn only(bit: u8) -> Self
         requires { bit < 32 }
         ensures { result ≡ only bit }
@@ -91,6 +99,7 @@ impl BitSet {
     }
 
     /// The lowest bit of the set.
+    #[inline(always)]
     pub(crate) fn lowest(self) -> Option<u8>
         ensures bit { result ≡ lowest_of self }
         ensures within { IfSome result (λ bit. bit < 32) }

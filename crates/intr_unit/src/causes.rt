@@ -61,7 +61,8 @@ impl Model for Causes {
 
 #[tactic(auto, using(crate::proofs::Subsets::subsets))]
 impl Causes {
-    /// A group as a reset leaves it: all words 0, nothing told.
+    /// A group as a reset leaves it: all words 0, nothing told. The device's reset and, for a VF's group, that of its
+    /// pool make it anew.
     pub fn new(group: Group) -> Self
         ensures { result ≡ reset_of group }
     {
@@ -101,14 +102,8 @@ impl Causes {
         }
     }
 
-    /// Resets the group, as the device's reset and, for a VF's group, that of its pool do.
-    pub fn reset(&mut self)
-        ensures { self.new ≡ reset_of self.old.group }
-    {
-        *self = Causes::new(self.group);
-    }
-
     /// The group that these interrupts are of.
+    #[inline(always)]
     pub fn group(&self) -> Group
         ensures { result ≡ self.now.group }
     {
@@ -116,6 +111,7 @@ impl Causes {
     }
 
     /// The word of the cause register (EICR, PVTEICR), without the effects of a read.
+    #[inline(always)]
     pub fn causes(&self) -> u32
         ensures word { result ≡ self.now.causes }
         ensures consistent { IsConsistent self.now }
@@ -124,6 +120,7 @@ impl Causes {
     }
 
     /// The word of the mask register (EIMS, PVTEIMS): 1 where a cause may be told.
+    #[inline(always)]
     pub fn enabled(&self) -> u32
         ensures { result ≡ self.now.enabled }
     {
@@ -131,6 +128,7 @@ impl Causes {
     }
 
     /// The word of the auto-clear register (EIAC, PVTEIAC).
+    #[inline(always)]
     pub fn auto_clear(&self) -> u32
         ensures { result ≡ self.now.auto_clear }
     {
@@ -138,6 +136,7 @@ impl Causes {
     }
 
     /// The word of the auto-mask register (EIAM, PVTEIAM).
+    #[inline(always)]
     pub fn auto_mask(&self) -> u32
         ensures { result ≡ self.now.auto_mask }
     {
@@ -146,6 +145,7 @@ impl Causes {
 
     /// The bits that messages told: each has its cause and its mask at 1, and isn't told again before one of them
     /// was 0.
+    #[inline(always)]
     pub fn told(&self) -> u32
         ensures { result ≡ self.now.told }
     {
@@ -155,6 +155,7 @@ impl Causes {
     /// Raises causes, as the device does (`auto` false) or a write of the set register (EICS, PVTEICS; `bits` cut by
     /// the view, `auto` by [`Group::auto_mask_acts`]). With `auto` the masks of those of the bits that are in the
     /// auto-mask become 1. Bits that the group doesn't have are left out.
+    #[inline]
     pub fn raise(&mut self, bits: u32, auto: bool)
         ensures { self.new ≡ raised self.old bits auto }
     {
@@ -167,6 +168,7 @@ impl Causes {
     /// Reads the cause register: answers its word and clears it, for the PF with GPIE bit 5 (`ocd`) bits 29 to 16
     /// alone. With `auto` (by [`Group::auto_mask_acts`]) the masks of all bits of the auto-mask become 0, whatever
     /// causes were set. `ocd` is without effect for a VF.
+    #[inline]
     pub fn read(&mut self, ocd: bool, auto: bool) -> u32
         ensures word { result ≡ self.old.causes }
         ensures state { self.new ≡ after_read self.old ocd auto }
@@ -180,6 +182,7 @@ impl Causes {
 
     /// Writes the cause register: the causes that are 1 in `bits` (cut by the view) become 0. With `auto` (by
     /// [`Group::auto_mask_acts`]) the masks of those of the bits that are in the auto-mask become 0.
+    #[inline]
     pub fn write_one(&mut self, bits: u32, auto: bool)
         ensures { self.new ≡ after_write_one self.old bits auto }
     {
@@ -190,6 +193,7 @@ impl Causes {
     }
 
     /// Writes the mask register (EIMS, PVTEIMS): the masks that are 1 in `bits` (cut by the view) become 1.
+    #[inline]
     pub fn mask_set(&mut self, bits: u32)
         ensures { self.new ≡ after_mask_set self.old bits }
     {
@@ -198,6 +202,7 @@ impl Causes {
     }
 
     /// Writes the mask clear register (EIMC, PVTEIMC): the masks that are 1 in `bits` (cut by the view) become 0.
+    #[inline]
     pub fn mask_clear(&mut self, bits: u32)
         ensures { self.new ≡ after_mask_clear self.old bits }
     {
@@ -207,6 +212,7 @@ impl Causes {
 
     /// Gives the auto-clear register (EIAC, PVTEIAC) a new word, as far as the group has its bits. A write through a
     /// view keeps the other bits by giving them in `word`.
+    #[inline]
     pub fn set_auto_clear(&mut self, word: u32)
         ensures { self.new ≡ with_auto_clear self.old word }
     {
@@ -215,6 +221,7 @@ impl Causes {
 
     /// Gives the auto-mask register (EIAM, PVTEIAM) a new word, as far as the group has its bits. A write through a
     /// view keeps the other bits by giving them in `word`.
+    #[inline]
     pub fn set_auto_mask(&mut self, word: u32)
         ensures { self.new ≡ with_auto_mask self.old word }
     {
@@ -250,6 +257,7 @@ impl Causes {
     }
 
     /// The bits that the group's registers have.
+    #[inline(always)]
     fn existing(&self) -> BitSet
         ensures { result ≡ group_bits self.now.group }
     {
@@ -257,6 +265,7 @@ impl Causes {
     }
 
     /// Those of the bits that are in the auto-mask, where it acts.
+    #[inline(always)]
     fn auto_masked(&self, bits: BitSet, auto: bool) -> BitSet
         ensures { result ≡ auto_masked self.now bits auto }
     {
@@ -264,6 +273,7 @@ impl Causes {
     }
 
     /// Takes these causes and masks, and of these told marks those whose cause and mask are 1.
+    #[inline(always)]
     fn settle(&mut self, causes: BitSet, enabled: BitSet, told: BitSet)
         requires causes { IsSubset causes (group_bits self.old.group) }
         requires enabled { IsSubset enabled (group_bits self.old.group) }

@@ -49,6 +49,7 @@ impl Group {
     /// The bits that the group's registers have: 30 to 0 for the PF, 2 to 0 for a VF.
     ///
     /// Intel 82599 datasheet, section on interrupt registers.
+    #[inline(always)]
     pub fn bits(self) -> u32
         ensures { result ≡ group_bits self }
     {
@@ -60,6 +61,7 @@ impl Group {
 
     /// Whether the auto-mask acts on reads of the cause register and on writes of it and of the set register. For the
     /// PF it does while GPIE bit 30 (EIAME, here `eiame`) is 0; for a VF always, which is this project's profile.
+    #[inline(always)]
     pub fn auto_mask_acts(self, eiame: bool) -> bool
         ensures { result ≡ auto_mask_acts self eiame }
     {
@@ -134,6 +136,7 @@ impl Group {
     }
 
     /// The highest bit that a queue can raise.
+    #[inline(always)]
     fn last_queue_cause(self) -> u8
         ensures { result ≡ last_queue_cause self }
     {

@@ -1,6 +1,7 @@
 //! What a driver may rely on. Each function has no body: its clause is the law, which the prover shows.
 
-ghost use Rattle.intr_unit.specs.Laws.{SetsHoldTheirBits, MessagesTellDueBits, BitsAreToldOnce, MaskingLosesNoCause, ReadsMaskTheAutoMask, ReadsClearCauses, RaisingKeepsMasks};
+ghost use Rattle.intr_unit.specs.Laws.{SetsHoldTheirBits, MessagesTellDueBits, BitsAreToldOnce, MaskingLosesNoCause};
+ghost use Rattle.intr_unit.specs.Laws.{RaisesChangeBits, ReadsChangeBits, WritesOfOnesChangeBits, MaskSetsChangeBits, MaskClearsChangeBits, MessagesChangeBits, AutoWritesChangeBits, ToldBitsArePending};
 
 /// A set given by a test has just the bits that pass it, and a word is known by its bits.
 pub fn sets_hold_their_bits()
@@ -23,17 +24,40 @@ pub fn masking_loses_no_cause()
     ensures { MaskingLosesNoCause }
 {}
 
-/// The auto-mask of a read masks exactly the chosen bits.
-pub fn reads_mask_the_auto_mask()
-    ensures { ReadsMaskTheAutoMask }
+/// A raise, bit by bit: EICS and the device set causes, and by the auto-mask masks.
+pub fn raises_change_bits()
+    ensures { RaisesChangeBits }
 {}
 
-/// A read clears the whole word, or with other-cause clearing bits 29 to 16 alone.
-pub fn reads_clear_causes()
-    ensures { ReadsClearCauses }
+/// A read of the cause register, bit by bit: all causes are cleared, or with other-cause clearing bits 29 to 16 alone,
+/// and by the auto-mask exactly the masks that it has.
+pub fn reads_change_bits()
+    ensures { ReadsChangeBits }
 {}
 
-/// Causes that the device raises change no mask.
-pub fn raising_keeps_masks()
-    ensures { RaisingKeepsMasks }
+/// A write of ones to the cause register, bit by bit: these causes are cleared, and by the auto-mask masks.
+pub fn writes_of_ones_change_bits()
+    ensures { WritesOfOnesChangeBits }
+{}
+
+/// Writes of the mask register and of the mask clear register, bit by bit: exactly the named masks change.
+pub fn mask_writes_change_bits()
+    ensures set { MaskSetsChangeBits }
+    ensures clear { MaskClearsChangeBits }
+{}
+
+/// A message, bit by bit: of the told bit alone, the auto-clear clears the cause, and by EIAME the auto-mask clears
+/// the mask. Without a message nothing changes.
+pub fn messages_change_bits()
+    ensures { MessagesChangeBits }
+{}
+
+/// A write of the auto-clear or the auto-mask, bit by bit: it changes no other word.
+pub fn auto_writes_change_bits()
+    ensures { AutoWritesChangeBits }
+{}
+
+/// After each access a bit is told only while its cause and its mask are 1.
+pub fn told_bits_are_pending()
+    ensures { ToldBitsArePending }
 {}

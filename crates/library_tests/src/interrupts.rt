@@ -70,8 +70,6 @@ fn eiame_masks_what_is_told(rt: HostRuntime) {
     assert_eq!(rt; pf.message(true, 0), Some(1));
     assert_eq!(rt; pf.enabled(), 6);
     assert_eq!(rt; pf.causes(), 3);
-    pf.reset();
-    assert!(rt; pf == Causes::new(Group::Pf));
 }
 
 #[test]

@@ -6,6 +6,7 @@ use Rattle.std.proofs.lemmas.Bool.{cases_lt}
 use Rattle.register_file.specs.Registers.{Registers}
 use Rattle.rx_filter.specs.Address.{matches, first_match}
 use Rattle.rx_filter.specs.Pools.{selects, lowest_pool}
+use Rattle.rx_filter.specs.Laws.{IsAddressed}
 
 find-first : (test : ℕ → Bool) (n from k : ℕ) → from ≤ k → k < from + n → test k ≡ true → ((i : ℕ) → i < k → test i ≡ false) → find test (range_with_len from n) ≡ Some k
 find-first test zero from k le lt here before = absurd (omega arith)
@@ -31,6 +32,33 @@ find-is_some test (suc n) from k le lt here =
       | inl below ↦ found_or (test from) from (find test (range_with_len (from + 1) n)) (find-is_some test n (from + 1) k (omega arith) (omega arith) here)
       | inr past ↦ let same : from ≡ k = omega arith in rw (same, here) refl
     ]
+
+record IsFound (test : ℕ → Bool) (from below : ℕ) : Type 0 where
+  number : ℕ
+  high : number < below
+  passes : test number ≡ true
+
+found-cons : (test : ℕ → Bool) (n from : ℕ) (b : Bool) (rest : Option ℕ) → test from ≡ b →
+    (is_some rest ≡ true → IsFound test (from + 1) (from + 1 + n)) → is_some (cond b (Some from) rest) ≡ true →
+    IsFound test from (from + suc n)
+found-cons test n from true rest here later e = record { number = from; high = omega arith; passes = here }
+found-cons test n from false rest here later e =
+    let found = later e in
+    record { number = found.number; high = omega (arith, found.high); passes = found.passes }
+
+-- what a search finds passes
+find-passes : (test : ℕ → Bool) (n from : ℕ) → is_some (find test (range_with_len from n)) ≡ true →
+    IsFound test from (from + n)
+find-passes test zero from e = cc
+find-passes test (suc n) from e =
+    found-cons test n from (test from) (find test (range_with_len (from + 1) n)) refl (find-passes test n (from + 1)) e
+
+pub first_match-addressed : (r : Registers) (frame : List ℕ) → is_some (first_match r frame) ≡ true →
+    IsAddressed r frame
+unfolding first_match
+first_match-addressed r frame e =
+    let found = find-passes (matches r frame) 128 0 e in
+    (found.number, (omega (arith, found.high), found.passes))
 
 pub first_match-some : (r : Registers) (frame : List ℕ) (k : ℕ) → k < 128 → matches r frame k ≡ true → ((i : ℕ) → i < k → matches r frame i ≡ false) → first_match r frame ≡ Some k
 unfolding first_match

@@ -26,83 +26,45 @@ use Rattle.rx_filter.specs.Laws.{has_pools, pool_of_queue}
 use Rattle.rx_filter.specs.declared.target.Target.{Target}
 use Rattle.rx_filter.specs.declared.unwanted.Unwanted.{Unwanted}
 use Rattle.rx_filter.specs.declared.unwanted.Unwanted.TheVariants.{Filter, NoPool, PoolOff}
-use Rattle.rx_filter.proofs.Finding.{first_match-none, first_match-is_some}
+use Rattle.rx_filter.specs.declared.fields.TheConstants.{AV, BAM, MPE, UPE, MFE, PCSD}
+use Rattle.rx_filter.proofs.Finding.{first_match-none}
+use Rattle.rx_filter.proofs.Filtered.{sorted-refused}
 
--- ---- destinations
+-- ---- after a reset
 
 abbrev let_in : (broadcast multicast by_broadcast by_multicast by_unicast found table : Bool) → Bool
 let_in broadcast multicast by_broadcast by_multicast by_unicast found table =
     cond broadcast (by_broadcast || by_multicast) (cond multicast (by_multicast || found || table) (by_unicast || found))
-
-let_in-found : (multicast by_broadcast by_multicast by_unicast table : Bool) → let_in false multicast by_broadcast by_multicast by_unicast true table ≡ true
-let_in-found true by_broadcast true by_unicast table = refl
-let_in-found true by_broadcast false by_unicast table = refl
-let_in-found false by_broadcast by_multicast true table = refl
-let_in-found false by_broadcast by_multicast false table = refl
 
 let_in-none : (broadcast multicast : Bool) → let_in broadcast multicast false false false false false ≡ false
 let_in-none true multicast = refl
 let_in-none false true = refl
 let_in-none false false = refl
 
-pub passes-addressed : (r : Registers) (frame : List ℕ) (i : ℕ) → i < 128 → matches r frame i ≡ true → is_broadcast frame ≡ false → passes r frame ≡ true
-unfolding passes
-passes-addressed r frame i small here some =
-    ap (λ b. let_in b (is_multicast frame) (lets_broadcast r) (lets_multicast r) (lets_unicast r) (is_some (first_match r frame)) (is_in_table r frame)) some
-    ∙ ap (λ b. let_in false (is_multicast frame) (lets_broadcast r) (lets_multicast r) (lets_unicast r) b (is_in_table r frame)) (first_match-is_some r frame i small here)
-    ∙ let_in-found (is_multicast frame) (lets_broadcast r) (lets_multicast r) (lets_unicast r) (is_in_table r frame)
-
-both_true : (a b : Bool) → (a && b) ≡ true → a ≡ true
-both_true true b e = refl
-both_true false b e = cc
-
-odd_low : (a b c d : ℕ) → (a % 2 == 1) ≡ false → (a + 2 ^ 8 * b + 2 ^ 16 * c + 2 ^ 24 * d == 0xFFFFFFFF) ≡ true → ⊥
-odd_low a b c d even all =
-    let odd : a % 2 ≡ 1 = grind (arith, nat_tests) in
-    grind (arith, nat_tests)
-
--- a frame for all is one for several
-one_is_not_all : (frame : List ℕ) → is_multicast frame ≡ false → is_broadcast frame ≡ false
-one_is_not_all frame one =
-    false_from_ne_true (is_broadcast frame) (λ all.
-    odd_low (slice_index frame 0) (slice_index frame 1) (slice_index frame 2) (slice_index frame 3) one
-    (both_true (destination_low frame == 0xFFFFFFFF) (destination_high frame == 0xFFFF) all))
-
--- a frame for one passes by FCTRL bit 9 or by its address
-passes-one : (r : Registers) (frame : List ℕ) → is_multicast frame ≡ false → passes r frame ≡ (lets_unicast r || is_some (first_match r frame))
-unfolding passes
-passes-one r frame one =
-    cond-false (is_broadcast frame) _ _ (one_is_not_all frame one) ∙ cond-false (is_multicast frame) _ _ one
-
-pub passes-unicast : (r : Registers) (frame : List ℕ) → is_multicast frame ≡ false → lets_unicast r ≡ true → passes r frame ≡ true
-passes-unicast r frame one all = passes-one r frame one ∙ ap (λ b. b || is_some (first_match r frame)) all
-
-pub sorted-refused : (r : Registers) (frame : List ℕ) → passes r frame ≡ false → sorted r frame ≡ Err Filter
-unfolding sorted
-sorted-refused r frame refused = cond-false (passes r frame) (pool_target r frame (chosen_pool r frame)) (Err Filter) refused
-
-pub sorted-stranger : (r : Registers) (frame : List ℕ) → is_multicast frame ≡ false → lets_unicast r ≡ false → ((i : ℕ) → i < 128 → matches r frame i ≡ false) → sorted r frame ≡ Err Filter
-sorted-stranger r frame one some none =
-    sorted-refused r frame
-    (passes-one r frame one ∙ ap (λ b. b || is_some (first_match r frame)) some ∙ ap is_some (first_match-none r frame none))
-
--- ---- after a reset
-
 matches-reset : (frame : List ℕ) (i : ℕ) → i < 128 → matches reset_registers frame i ≡ false
 matches-reset frame i small =
-    ap (λ word. has_bit 31 word && word_of reset_registers Ral i == destination_low frame && word % 2 ^ 16 == destination_high frame) (word_at-reset (place Rah i) small)
+    ap (λ word.
+    has_bit AV word && word_of reset_registers Ral i == destination_low frame
+    && word % 2 ^ 16 == destination_high frame) (word_at-reset (place Rah i) small)
 
 pub sorted-reset : (frame : List ℕ) → sorted reset_registers frame ≡ Err Filter
 unfolding passes
 sorted-reset frame =
     let r = reset_registers in
     let control : word_of r Fctrl 0 ≡ 0 = word_at-reset (place Fctrl 0) (omega arith) in
-    let table : is_in_table r frame ≡ false = ap (λ word. has_bit 2 word && has_bit (multicast_number r frame % 32) (word_of r Mta (multicast_number r frame / 32))) (word_at-reset (place Mcstctrl 0) (omega arith)) in
+    let number = multicast_number r frame in
+    let table : is_in_table r frame ≡ false =
+    ap (λ word. has_bit MFE word && has_bit (number % 32) (word_of r Mta (number / 32)))
+    (word_at-reset (place Mcstctrl 0) (omega arith)) in
+    let all = is_broadcast frame in
+    let several = is_multicast frame in
     sorted-refused r frame
-    (ap (λ word. let_in (is_broadcast frame) (is_multicast frame) (has_bit 10 word) (has_bit 8 word) (has_bit 9 word) (is_some (first_match r frame)) (is_in_table r frame)) control
-    ∙ ap (λ found. let_in (is_broadcast frame) (is_multicast frame) false false false (is_some found) (is_in_table r frame)) (first_match-none r frame (matches-reset frame))
-    ∙ ap (λ there. let_in (is_broadcast frame) (is_multicast frame) false false false false there) table
-    ∙ let_in-none (is_broadcast frame) (is_multicast frame))
+    (ap (λ word. let_in all several (has_bit BAM word) (has_bit MPE word) (has_bit UPE word)
+    (is_some (first_match r frame)) (is_in_table r frame)) control
+    ∙ ap (λ found. let_in all several false false false (is_some found) (is_in_table r frame))
+    (first_match-none r frame (matches-reset frame))
+    ∙ ap (λ there. let_in all several false false false false there) table
+    ∙ let_in-none all several)
 
 -- ---- a single queue
 
@@ -122,7 +84,7 @@ target-single : (r : Registers) (frame : List ℕ) → queue_mode_of (word_of r 
 unfolding target_of
 target-single r frame single =
     let key = bytes_of_registers (row_words r.words Rssrk) in
-    let tells = has_bit 13 (word_of r Rxcsum 0) in
+    let tells = has_bit PCSD (word_of r Rxcsum 0) in
     let hash = λ (type : RssType). toeplitz_hash key (hashed_part type (flow_of frame).input) in
     let entry = λ (type : RssType). cond (code_of type == 0) 0 (entry_of (row_words r.words Reta) (hash type)) in
     let target : QueueMode → RssType → Target = λ mode type. record { queue = queue_of mode 0 (entry type); rss = code_of type; hash = cond tells (hash type) 0 } in
@@ -167,7 +129,7 @@ taken-target r frame (Ok pool) t taken pools e =
     ∙ ap (takes_frames r) (pool-queue_of mode pool (rss_entry r frame) pools)
     ∙ taken pool refl
 
-sorted-let_in : (b : Bool) (found : Result Target Unwanted) (t : Target) → cond b found (Err Filter) ≡ Ok t → found ≡ Ok t
+pub sorted-let_in : (b : Bool) (found : Result Target Unwanted) (t : Target) → cond b found (Err Filter) ≡ Ok t → found ≡ Ok t
 sorted-let_in true found t e = e
 sorted-let_in false found t e = cc
 

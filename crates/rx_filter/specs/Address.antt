@@ -4,6 +4,7 @@ use Rattle.std.specs.List.{range_with_len}
 use Rattle.reg_table.specs.declared.rows.RowId.TheVariants.{Fctrl, Mcstctrl, Mta, Ral, Rah}
 use Rattle.register_file.specs.Bits.{has_bit}
 use Rattle.register_file.specs.Registers.{Registers, word_of}
+use Rattle.rx_filter.specs.declared.fields.TheConstants.{MPE, UPE, BAM, MO, MFE, AV}
 
 -- the destination as RAL and RAH have it: its first four bytes, and its last two, the first in the lowest bits
 abbrev pub destination_low : List ℕ → ℕ
@@ -13,10 +14,10 @@ destination_low frame =
 abbrev pub destination_high : List ℕ → ℕ
 destination_high frame = slice_index frame 4 + 2 ^ 8 * slice_index frame 5
 
--- a frame matches address i where RAH bit 31 says that the address is valid, and it is the frame's destination
+-- a frame matches address i where RAH bit 31, AV, says that the address is valid, and it is the frame's destination
 abbrev pub matches : Registers → List ℕ → ℕ → Bool
 matches r frame i =
-    has_bit 31 (word_of r Rah i) && word_of r Ral i == destination_low frame
+    has_bit AV (word_of r Rah i) && word_of r Ral i == destination_low frame
     && word_of r Rah i % 2 ^ 16 == destination_high frame
 
 -- the first of the 128 addresses that a frame matches, if it matches one
@@ -31,30 +32,30 @@ is_broadcast frame = destination_low frame == 0xFFFFFFFF && destination_high fra
 abbrev pub is_multicast : List ℕ → Bool
 is_multicast frame = slice_index frame 0 % 2 == 1
 
--- how far MCSTCTRL bits 1 to 0 shift the last two bytes of a destination
+-- how far MCSTCTRL bits 1 to 0, MO, shift the last two bytes of a destination
 abbrev pub multicast_shift : ℕ → ℕ
 multicast_shift bits = if bits == 0 then 4 else (if bits == 1 then 3 else (if bits == 2 then 2 else 0))
 
 -- the number of a destination among the 4,096 bits of MTA: twelve bits of its last two bytes
 abbrev pub multicast_number : Registers → List ℕ → ℕ
 multicast_number r frame =
-    destination_high frame / 2 ^ multicast_shift (word_of r Mcstctrl 0 % 4) % 2 ^ 12
+    destination_high frame / 2 ^ multicast_shift (word_of r Mcstctrl 0 / 2 ^ MO % 4) % 2 ^ 12
 
 -- whether MTA has a destination: MCSTCTRL bit 2, MFE, is 1, and so is the bit of its number
 abbrev pub is_in_table : Registers → List ℕ → Bool
 is_in_table r frame =
-    has_bit 2 (word_of r Mcstctrl 0)
+    has_bit MFE (word_of r Mcstctrl 0)
     && has_bit (multicast_number r frame % 32) (word_of r Mta (multicast_number r frame / 32))
 
--- FCTRL bits 8, 9 and 10: all multicast frames, all unicast frames, and broadcast frames are let in
+-- FCTRL bits 8, 9 and 10, MPE, UPE and BAM: all multicast frames, all unicast frames, and broadcast frames are let in
 abbrev pub lets_multicast : Registers → Bool
-lets_multicast r = has_bit 8 (word_of r Fctrl 0)
+lets_multicast r = has_bit MPE (word_of r Fctrl 0)
 
 abbrev pub lets_unicast : Registers → Bool
-lets_unicast r = has_bit 9 (word_of r Fctrl 0)
+lets_unicast r = has_bit UPE (word_of r Fctrl 0)
 
 abbrev pub lets_broadcast : Registers → Bool
-lets_broadcast r = has_bit 10 (word_of r Fctrl 0)
+lets_broadcast r = has_bit BAM (word_of r Fctrl 0)
 
 -- whether a frame is let in by its destination
 unfoldable pub passes : Registers → List ℕ → Bool

@@ -1,32 +1,69 @@
 -- What a driver's author can rest on.
-use Rattle.std.specs.Prelude.{ℕ, ◌≡◌, ◌<◌, ◌/◌, Bool, true, false, List, Ok, Err}
-use Rattle.reg_table.specs.declared.rows.RowId.TheVariants.{Mrqc}
+use Rattle.std.specs.Prelude.{ℕ, ◌≡◌, ◌≢◌, ◌<◌, ◌+◌, ◌*◌, ◌/◌, ◌%◌, ◌^◌, ◌==◌, ◌↔◌, ◌⊎◌, Bool, true, false, IsTrue, IsFalse}
+use Rattle.std.specs.Prelude.{List, Some, None, Ok, Err, slice_index, if◌then◌else◌}
+use Rattle.reg_table.specs.declared.rows.RowId.TheVariants.{Fctrl, Mcstctrl, Mta, VtCtl, Mrqc, Reta}
+use Rattle.rss_hash.specs.Choice.{code_of}
 use Rattle.rss_hash.specs.Mrqc.{queue_mode_of}
+use Rattle.rss_hash.specs.Registers.{bytes_of_registers}
 use Rattle.rss_hash.specs.declared.mrqc.QueueMode.{QueueMode}
 use Rattle.rss_hash.specs.declared.mrqc.QueueMode.TheVariants.{Single, Rss, Pools64, Pools32Rss, Pools64Rss}
+use Rattle.register_file.specs.Bits.{has_bit}
 use Rattle.register_file.specs.Registers.{Registers, reset_registers, word_of}
-use Rattle.rx_filter.specs.Address.{matches, is_broadcast, is_multicast, lets_unicast, passes}
-use Rattle.rx_filter.specs.Pools.{uses_pools, takes_frames}
-use Rattle.rx_filter.specs.Sorting.{sorted}
+use Rattle.register_file.specs.Words.{row_words}
+use Rattle.rx_filter.specs.Address.{matches, is_broadcast, is_multicast, passes}
+use Rattle.rx_filter.specs.Pools.{uses_pools, takes_frames, selects, pool_of}
+use Rattle.rx_filter.specs.Sorting.{rss_type, rss_hash, rss_entry, sorted}
+use Rattle.rx_filter.specs.declared.fields.TheConstants.{BAM, MPE, UPE, MFE, DIS_DEF_POOL}
 use Rattle.rx_filter.specs.declared.target.Target.{Target}
 use Rattle.rx_filter.specs.declared.unwanted.Unwanted.TheVariants.{Filter}
 
--- a frame to a valid address is let in, unless it is for all
-abbrev pub AddressedIsLetIn : Type 0
-AddressedIsLetIn =
-    (r : Registers) (frame : List ℕ) (i : ℕ) → i < 128 → matches r frame i ≡ true → is_broadcast frame ≡ false →
-    passes r frame ≡ true
+-- the destination of a frame of bytes is that of all exactly where each of its six bytes is 0xFF
+abbrev pub BroadcastIsAllOnes : Type 0
+BroadcastIsAllOnes =
+    (frame : List ℕ) → ((k : ℕ) → slice_index frame k < 256) →
+    IsTrue (is_broadcast frame) ↔ ((k : ℕ) → k < 6 → slice_index frame k ≡ 0xFF)
 
--- with FCTRL bit 9 every frame for one is let in
+-- a frame for all is let in exactly where FCTRL bit 10, BAM, or bit 8, MPE, is 1
+abbrev pub BroadcastIsLetIn : Type 0
+BroadcastIsLetIn =
+    (r : Registers) (frame : List ℕ) → IsTrue (is_broadcast frame) →
+    IsTrue (passes r frame) ↔ (IsTrue (has_bit BAM (word_of r Fctrl 0)) ⊎ IsTrue (has_bit MPE (word_of r Fctrl 0)))
+
+-- some valid address is the frame's destination
+abbrev pub IsAddressed : Registers → List ℕ → Type 0
+IsAddressed r frame = (i : ℕ) × (i < 128 × IsTrue (matches r frame i))
+
+-- a destination's number in MTA by the choice in MO, as a driver computes it from the last two bytes of the address:
+-- bits 47 to 36 of the address for choice 0, 46 to 35 for 1, 45 to 34 for 2, and 43 to 32 for 3
+abbrev pub vector_of : ℕ → List ℕ → ℕ
+vector_of choice frame =
+    if choice == 0 then (slice_index frame 4 / 16 + 16 * slice_index frame 5) % 4096
+    else (if choice == 1 then (slice_index frame 4 / 8 + 32 * slice_index frame 5) % 4096
+    else (if choice == 2 then (slice_index frame 4 / 4 + 64 * slice_index frame 5) % 4096
+    else (slice_index frame 4 + 256 * slice_index frame 5) % 4096))
+
+-- MCSTCTRL bit 2, MFE, is 1, and so is MTA's bit of the destination
+abbrev pub IsListed : Registers → List ℕ → Type 0
+IsListed r frame =
+    let vector = vector_of (word_of r Mcstctrl 0 % 4) frame in
+    IsTrue (has_bit MFE (word_of r Mcstctrl 0)) × IsTrue (has_bit (vector % 32) (word_of r Mta (vector / 32)))
+
+-- a frame for several but not for all is let in exactly where FCTRL bit 8, MPE, is 1, a valid address is its destination,
+-- or MTA lists it
+abbrev pub MulticastIsLetIn : Type 0
+MulticastIsLetIn =
+    (r : Registers) (frame : List ℕ) → IsFalse (is_broadcast frame) → IsTrue (is_multicast frame) →
+    IsTrue (passes r frame) ↔ (IsTrue (has_bit MPE (word_of r Fctrl 0)) ⊎ (IsAddressed r frame ⊎ IsListed r frame))
+
+-- a frame for one is let in exactly where FCTRL bit 9, UPE, is 1, or a valid address is its destination
 abbrev pub UnicastIsLetIn : Type 0
 UnicastIsLetIn =
-    (r : Registers) (frame : List ℕ) → is_multicast frame ≡ false → lets_unicast r ≡ true → passes r frame ≡ true
+    (r : Registers) (frame : List ℕ) → IsFalse (is_multicast frame) →
+    IsTrue (passes r frame) ↔ (IsTrue (has_bit UPE (word_of r Fctrl 0)) ⊎ IsAddressed r frame)
 
--- and without it none that matches no address
-abbrev pub StrangersAreRefused : Type 0
-StrangersAreRefused =
-    (r : Registers) (frame : List ℕ) → is_multicast frame ≡ false → lets_unicast r ≡ false →
-    ((i : ℕ) → i < 128 → matches r frame i ≡ false) → sorted r frame ≡ Err Filter
+-- the filter is why a frame goes nowhere exactly where it isn't let in
+abbrev pub FilteredIsNotLetIn : Type 0
+FilteredIsNotLetIn = (r : Registers) (frame : List ℕ) → (sorted r frame ≡ Err Filter) ↔ IsFalse (passes r frame)
 
 -- after a reset no frame is let in
 abbrev pub ResetRefusesAll : Type 0
@@ -56,3 +93,52 @@ OffPoolsGetNone =
     (r : Registers) (frame : List ℕ) (t : Target) → uses_pools r ≡ true →
     has_pools (queue_mode_of (word_of r Mrqc 0)) ≡ true → sorted r frame ≡ Ok t →
     takes_frames r (pool_of_queue (queue_mode_of (word_of r Mrqc 0)) t.queue) ≡ true
+
+-- address i is valid and is the frame's destination, and no lower address is both
+pub record IsFirstMatch (r : Registers) (frame : List ℕ) (i : ℕ) : Type 0 where
+  pub within : i < 128
+  pub matched : IsTrue (matches r frame i)
+  pub first : (lower : ℕ) → lower < i → IsFalse (matches r frame lower)
+
+-- the frames of address i are for this pool, and for no lower one
+pub record IsLowestPool (r : Registers) (i pool : ℕ) : Type 0 where
+  pub within : pool < 64
+  pub selected : IsTrue (selects r i pool)
+  pub lowest : (lower : ℕ) → lower < pool → IsFalse (selects r i lower)
+
+-- no valid address is the frame's destination, or the first that is has no pool
+abbrev pub HasNoPool : Registers → List ℕ → Type 0
+HasNoPool r frame =
+    ((i : ℕ) → i < 128 → IsFalse (matches r frame i))
+    ⊎ ((i : ℕ) × (IsFirstMatch r frame i × ((pool : ℕ) → pool < 64 → IsFalse (selects r i pool))))
+
+-- a frame's pool is the lowest of the first address that is its destination; else that of VT_CTL bits 12 to 7, or none
+-- where VT_CTL bit 29, DIS_DEF_POOL, is 1
+pub record PoolOfAFrame : Type 0 where
+  pub matched : (r : Registers) (frame : List ℕ) (i pool : ℕ) → IsFirstMatch r frame i → IsLowestPool r i pool →
+      pool_of r frame ≡ Some pool
+  pub default : (r : Registers) (frame : List ℕ) → HasNoPool r frame →
+      IsFalse (has_bit DIS_DEF_POOL (word_of r VtCtl 0)) → pool_of r frame ≡ Some (word_of r VtCtl 0 / 2 ^ 7 % 64)
+  pub none : (r : Registers) (frame : List ℕ) → HasNoPool r frame →
+      IsTrue (has_bit DIS_DEF_POOL (word_of r VtCtl 0)) → pool_of r frame ≡ None
+
+-- frames are parted among pools, and this frame is for this pool and goes there
+pub record GoesToPool (r : Registers) (frame : List ℕ) (pool : ℕ) (t : Target) : Type 0 where
+  pub parted : IsTrue (uses_pools r)
+  pub meant : pool_of r frame ≡ Some pool
+  pub goes : sorted r frame ≡ Ok t
+
+-- the queue by the mode in MRQC: with hashing the entry of the redirection table, which a frame with an RSS type finds
+-- by the low seven bits of its hash; with pools one of the pool's own queues, four each or two each
+pub record QueuesByMode : Type 0 where
+  pub hashing : (r : Registers) (frame : List ℕ) (t : Target) → sorted r frame ≡ Ok t →
+      queue_mode_of (word_of r Mrqc 0) ≡ Rss → t.queue ≡ rss_entry r frame
+  pub entry : (r : Registers) (frame : List ℕ) → code_of (rss_type r frame) ≢ 0 →
+      rss_entry r frame ≡ slice_index (bytes_of_registers (row_words r.words Reta)) (rss_hash r frame % 128) % 16
+  pub no_entry : (r : Registers) (frame : List ℕ) → code_of (rss_type r frame) ≡ 0 → rss_entry r frame ≡ 0
+  pub pools_32_hashing : (r : Registers) (frame : List ℕ) (pool : ℕ) (t : Target) → GoesToPool r frame pool t →
+      queue_mode_of (word_of r Mrqc 0) ≡ Pools32Rss → t.queue ≡ 4 * pool + rss_entry r frame % 4
+  pub pools_64_hashing : (r : Registers) (frame : List ℕ) (pool : ℕ) (t : Target) → GoesToPool r frame pool t →
+      queue_mode_of (word_of r Mrqc 0) ≡ Pools64Rss → t.queue ≡ 2 * pool + rss_entry r frame % 2
+  pub pools_64 : (r : Registers) (frame : List ℕ) (pool : ℕ) (t : Target) → GoesToPool r frame pool t →
+      queue_mode_of (word_of r Mrqc 0) ≡ Pools64 → t.queue ≡ 2 * pool

@@ -8,12 +8,13 @@ use Rattle.rss_hash.specs.declared.mrqc.QueueMode.TheVariants.{Pools32Rss}
 use Rattle.register_file.specs.Bits.{has_bit}
 use Rattle.register_file.specs.Registers.{Registers, word_of}
 use Rattle.rx_filter.specs.Address.{first_match}
+use Rattle.rx_filter.specs.declared.fields.TheConstants.{VT_ENA, DEF_PL, DIS_DEF_POOL}
 use Rattle.rx_filter.specs.declared.unwanted.Unwanted.{Unwanted}
 use Rattle.rx_filter.specs.declared.unwanted.Unwanted.TheVariants.{NoPool, PoolOff}
 
--- frames are parted among pools where VT_CTL bit 0 is 1
+-- frames are parted among pools where VT_CTL bit 0, VT_ENA, is 1
 abbrev pub uses_pools : Registers → Bool
-uses_pools r = has_bit 0 (word_of r VtCtl 0)
+uses_pools r = has_bit VT_ENA (word_of r VtCtl 0)
 
 -- whether the frames of address i are for a pool: MPSAR[2i] has pools 0 to 31, MPSAR[2i + 1] pools 32 to 63
 abbrev pub selects : Registers → ℕ → ℕ → Bool
@@ -23,9 +24,11 @@ selects r i pool = has_bit (pool % 32) (word_of r Mpsar (2 * i + pool / 32))
 unfoldable pub lowest_pool : Registers → ℕ → Option ℕ
 lowest_pool r i = find (selects r i) (range_with_len 0 64)
 
--- the pool of a frame without one of its own: that of VT_CTL bits 12 to 7, but where bit 29 says that there is none
+-- the pool of a frame without one of its own: that of VT_CTL bits 12 to 7, DEF_PL, but where bit 29, DIS_DEF_POOL, says
+-- that there is none
 abbrev pub default_pool : Registers → Option ℕ
-default_pool r = if has_bit 29 (word_of r VtCtl 0) then None else Some (word_of r VtCtl 0 / 2 ^ 7 % 64)
+default_pool r =
+    if has_bit DIS_DEF_POOL (word_of r VtCtl 0) then None else Some (word_of r VtCtl 0 / 2 ^ DEF_PL % 64)
 
 -- the lowest pool of the address that a frame matches first, or else the default
 abbrev pub matched_pool : Registers → Option ℕ → Option ℕ

@@ -16,6 +16,7 @@ use Rattle.rx_filter.specs.Address.{passes}
 use Rattle.rx_filter.specs.Pools.{chosen_pool}
 use Rattle.rx_filter.specs.declared.unwanted.Unwanted.{Unwanted}
 use Rattle.rx_filter.specs.declared.unwanted.Unwanted.TheVariants.{Filter}
+use Rattle.rx_filter.specs.declared.fields.TheConstants.{PCSD}
 use Rattle.rx_filter.specs.declared.target.Target.{Target}
 
 -- the queue of a pool and an entry of the redirection table, by the mode in MRQC
@@ -39,13 +40,14 @@ abbrev pub rss_entry : Registers → List ℕ → ℕ
 rss_entry r frame =
     if code_of (rss_type r frame) == 0 then 0 else entry_of (row_words r.words Reta) (rss_hash r frame)
 
--- where a frame of a pool goes, and what its descriptors tell: the RSS type, and the hash where RXCSUM bit 13 is 1
+-- where a frame of a pool goes, and what its descriptors tell: the RSS type, and the hash where RXCSUM bit
+-- 13, PCSD, is 1
 unfoldable pub target_of : Registers → List ℕ → ℕ → Target
 target_of r frame pool =
     record {
       queue = queue_of (queue_mode_of (word_of r Mrqc 0)) pool (rss_entry r frame);
       rss = code_of (rss_type r frame);
-      hash = if has_bit 13 (word_of r Rxcsum 0) then rss_hash r frame else 0;
+      hash = if has_bit PCSD (word_of r Rxcsum 0) then rss_hash r frame else 0;
     }
 
 abbrev pub pool_target : Registers → List ℕ → Result ℕ Unwanted → Result Target Unwanted

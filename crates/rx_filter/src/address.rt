@@ -3,26 +3,12 @@
 ghost use Rattle.std.specs.Prelude.{◌≡◌, ◌<◌, slice_index, IfSome};
 ghost use Rattle.rx_filter.specs.Address.{destination_low, destination_high, matches, first_match, is_broadcast, is_multicast, multicast_shift, multicast_number, is_in_table, lets_multicast, lets_unicast, lets_broadcast, passes};
 
+use crate::fields::{AV, BAM, MFE, MO, MPE, UPE, has_bit};
 use reg_table::RowId;
 use register_file::RegisterFile;
 
 /// How many addresses there are.
 const ADDRESSES: u16 = 128;
-
-/// RAH: the address is valid.
-const ADDRESS_VALID: u32 = 0x8000_0000;
-
-/// MCSTCTRL: the table of multicast addresses counts.
-const TABLE_COUNTS: u32 = 0x0000_0004;
-
-/// FCTRL: all multicast frames are let in.
-const ALL_MULTICAST: u32 = 0x0000_0100;
-
-/// FCTRL: all unicast frames are let in.
-const ALL_UNICAST: u32 = 0x0000_0200;
-
-/// FCTRL: broadcast frames are let in.
-const BROADCAST: u32 = 0x0000_0400;
 
 /// Whether a frame is let in by its destination.
 #[tactic(auto, unfolding(crate::specs::Address::passes))]
@@ -59,7 +45,7 @@ fn matches(registers: &RegisterFile, frame: &[u8], index: u16) -> bool
     ensures { result ≡ matches registers.now frame.now index }
 {
     let high = registers.word(RowId::Rah, index);
-    high / ADDRESS_VALID % 2 == 1
+    has_bit(AV, high)
         && registers.word(RowId::Ral, index) == destination_low(frame)
         && high % 0x1_0000 == destination_high(frame)
 }
@@ -107,11 +93,14 @@ fn is_multicast(frame: &[u8]) -> bool
 fn is_in_table(registers: &RegisterFile, frame: &[u8]) -> bool
     ensures { result ≡ is_in_table registers.now frame.now }
 {
-    if registers.word(RowId::Mcstctrl, 0) / TABLE_COUNTS % 2 == 0 {
+    if !has_bit(MFE, registers.word(RowId::Mcstctrl, 0)) {
         return false;
     }
     let number = multicast_number(registers, frame);
-    registers.word(RowId::Mta, number / 32) >> (number % 32) & 1 == 1
+    has_bit(
+        u32::from(number % 32),
+        registers.word(RowId::Mta, number / 32),
+    )
 }
 
 /// The number of a destination in the table of multicast addresses, below 4,096.
@@ -119,7 +108,7 @@ fn multicast_number(registers: &RegisterFile, frame: &[u8]) -> u16
     ensures value { result ≡ multicast_number registers.now frame.now }
     ensures range { result < 4096 }
 {
-    let part = match registers.word(RowId::Mcstctrl, 0) % 4 {
+    let part = match (registers.word(RowId::Mcstctrl, 0) >> MO) % 4 {
         0 => destination_high(frame) / 16,
         1 => destination_high(frame) / 8,
         2 => destination_high(frame) / 4,
@@ -132,19 +121,19 @@ fn multicast_number(registers: &RegisterFile, frame: &[u8]) -> u16
 fn lets_multicast(registers: &RegisterFile) -> bool
     ensures { result ≡ lets_multicast registers.now }
 {
-    registers.word(RowId::Fctrl, 0) / ALL_MULTICAST % 2 == 1
+    has_bit(MPE, registers.word(RowId::Fctrl, 0))
 }
 
 /// Whether all unicast frames are let in.
 fn lets_unicast(registers: &RegisterFile) -> bool
     ensures { result ≡ lets_unicast registers.now }
 {
-    registers.word(RowId::Fctrl, 0) / ALL_UNICAST % 2 == 1
+    has_bit(UPE, registers.word(RowId::Fctrl, 0))
 }
 
 /// Whether broadcast frames are let in.
 fn lets_broadcast(registers: &RegisterFile) -> bool
     ensures { result ≡ lets_broadcast registers.now }
 {
-    registers.word(RowId::Fctrl, 0) / BROADCAST % 2 == 1
+    has_bit(BAM, registers.word(RowId::Fctrl, 0))
 }

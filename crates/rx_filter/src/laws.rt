@@ -1,16 +1,27 @@
 //! What a driver's author can rest on. Each law is the contract of a function that does nothing.
 
-ghost use Rattle.rx_filter.specs.Laws.{AddressedIsLetIn, UnicastIsLetIn, StrangersAreRefused, ResetRefusesAll, SingleIsQueue0, OffPoolsGetNone};
+ghost use Rattle.rx_filter.specs.Laws.{BroadcastIsAllOnes, BroadcastIsLetIn, MulticastIsLetIn, UnicastIsLetIn, FilteredIsNotLetIn, ResetRefusesAll, SingleIsQueue0, OffPoolsGetNone, PoolOfAFrame, QueuesByMode};
 
-/// A frame to a valid address is let in, unless it is for all.
-pub fn addressed_frames_are_let_in()
-    ensures { AddressedIsLetIn }
+/// A frame for all, whose destination is six bytes 0xFF, is let in exactly where FCTRL BAM or MPE is 1.
+pub fn broadcast_is_let_in()
+    ensures destination { BroadcastIsAllOnes }
+    ensures exact { BroadcastIsLetIn }
 {}
 
-/// With FCTRL bit 9 every frame for one is let in, and without it none that matches no address.
-pub fn unicast_is_let_in_by_its_bit()
-    ensures all { UnicastIsLetIn }
-    ensures addressed { StrangersAreRefused }
+/// A frame for several is let in exactly where FCTRL MPE is 1, a valid address is its destination, or MCSTCTRL MFE and
+/// its bit of MTA are 1.
+pub fn multicast_is_let_in()
+    ensures { MulticastIsLetIn }
+{}
+
+/// A frame for one is let in exactly where FCTRL UPE is 1, or a valid address is its destination.
+pub fn unicast_is_let_in()
+    ensures { UnicastIsLetIn }
+{}
+
+/// The filter is why a frame goes nowhere exactly where it isn't let in.
+pub fn filtered_is_not_let_in()
+    ensures { FilteredIsNotLetIn }
 {}
 
 /// After a reset no frame is let in.
@@ -26,4 +37,14 @@ pub fn single_queue_is_queue_0()
 /// Where pools have queues of their own, a queue gets frames only while its pool takes them.
 pub fn off_pools_get_none()
     ensures { OffPoolsGetNone }
+{}
+
+/// The pool of a frame: the lowest of the first address that is its destination, or else the default pool, if any.
+pub fn pool_is_the_lowest_of_the_first_match()
+    ensures { PoolOfAFrame }
+{}
+
+/// The queue of a frame: with hashing the entry of the redirection table, with pools one of the pool's own.
+pub fn queue_is_by_the_mode()
+    ensures { QueuesByMode }
 {}

@@ -8,6 +8,7 @@
 #![tactic(auto)]
 
 mod address;
+mod fields;
 mod laws;
 mod pools;
 mod sorting;
@@ -15,8 +16,9 @@ mod target;
 mod unwanted;
 
 pub use laws::{
-    addressed_frames_are_let_in, off_pools_get_none, reset_refuses_all, single_queue_is_queue_0,
-    unicast_is_let_in_by_its_bit,
+    broadcast_is_let_in, filtered_is_not_let_in, multicast_is_let_in, off_pools_get_none,
+    pool_is_the_lowest_of_the_first_match, queue_is_by_the_mode, reset_refuses_all,
+    single_queue_is_queue_0, unicast_is_let_in,
 };
 pub use sorting::sort;
 pub use target::Target;

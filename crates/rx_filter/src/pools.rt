@@ -7,6 +7,7 @@ ghost use Rattle.rss_hash.specs.Mrqc.{queue_mode_of};
 ghost use Rattle.rx_filter.specs.Pools.{uses_pools, selects, lowest_pool, default_pool, pool_of, has_queues, takes_frames, checked_pool, chosen_pool};
 
 use crate::address::first_match;
+use crate::fields::{DEF_PL, DIS_DEF_POOL, VT_ENA, has_bit};
 use crate::unwanted::Unwanted;
 use reg_table::RowId;
 use register_file::RegisterFile;
@@ -14,12 +15,6 @@ use rss_hash::QueueMode;
 
 /// How many pools there are at most.
 const POOLS: u16 = 64;
-
-/// VT_CTL: frames are parted among pools.
-const POOLS_ON: u32 = 0x0000_0001;
-
-/// VT_CTL: there is no default pool.
-const NO_DEFAULT: u32 = 0x2000_0000;
 
 /// The pool that a frame is for, below 64 and with queues in MRQC's mode: 0 where there are no pools.
 #[tactic(auto, unfolding(crate::specs::Pools::chosen_pool))]
@@ -39,7 +34,7 @@ pub(crate) fn chosen_pool(registers: &RegisterFile, frame: &[u8]) -> Result<u16,
 fn uses_pools(registers: &RegisterFile) -> bool
     ensures { result ≡ uses_pools registers.now }
 {
-    registers.word(RowId::VtCtl, 0) / POOLS_ON % 2 == 1
+    has_bit(VT_ENA, registers.word(RowId::VtCtl, 0))
 }
 
 /// The lowest pool of the address that a frame matches first, or else the default.
@@ -77,7 +72,10 @@ fn selects(registers: &RegisterFile, index: u16, pool: u16) -> bool
     requires pool { pool < 64 }
     ensures { result ≡ selects registers.now index pool }
 {
-    registers.word(RowId::Mpsar, 2 * index + pool / 32) >> (pool % 32) & 1 == 1
+    has_bit(
+        u32::from(pool % 32),
+        registers.word(RowId::Mpsar, 2 * index + pool / 32),
+    )
 }
 
 /// The pool of a frame without one of its own.
@@ -86,10 +84,10 @@ fn default_pool(registers: &RegisterFile) -> Option<u16>
     ensures range { IfSome result (λ pool. pool < 64) }
 {
     let word = registers.word(RowId::VtCtl, 0);
-    if word / NO_DEFAULT % 2 == 1 {
+    if has_bit(DIS_DEF_POOL, word) {
         None
     } else {
-        Some((word / 0x80 % 64) as u16)
+        Some(((word >> DEF_PL) % 64) as u16)
     }
 }
 
@@ -127,5 +125,5 @@ fn takes_frames(registers: &RegisterFile, pool: u16) -> bool
     requires { pool < 64 }
     ensures { result ≡ takes_frames registers.now pool }
 {
-    registers.word(RowId::Vfre, pool / 32) >> (pool % 32) & 1 == 1
+    has_bit(u32::from(pool % 32), registers.word(RowId::Vfre, pool / 32))
 }

@@ -12,15 +12,13 @@ ghost use Rattle.rx_filter.specs.Pools.{has_queues};
 ghost use Rattle.rx_filter.specs.Sorting.{queue_of, target_of, sorted};
 
 use crate::address::passes;
+use crate::fields::{PCSD, has_bit};
 use crate::pools::chosen_pool;
 use crate::target::Target;
 use crate::unwanted::Unwanted;
 use reg_table::RowId;
 use register_file::RegisterFile;
 use rss_hash::{Input, Key, QueueMode, choose, classify, entry, hash};
-
-/// RXCSUM: descriptors tell hashes.
-const TELLS_HASH: u32 = 0x0000_2000;
 
 /// Where a frame goes, given without its frame check sequence, or why it goes nowhere; any bytes will do, and bytes
 /// that a frame doesn't have read as 0. `Filter` where its destination isn't let in, then `NoPool` where there is no
@@ -82,9 +80,9 @@ fn entry_at(registers: &RegisterFile, rss: u8, hash: u32) -> u8
 
 /// The hash that descriptors tell.
 fn told(registers: &RegisterFile, hash: u32) -> u32
-    ensures { result ≡ (if has_bit 13 (word_of registers.now Rxcsum 0) then hash else 0) }
+    ensures { result ≡ (if has_bit PCSD (word_of registers.now Rxcsum 0) then hash else 0) }
 {
-    if registers.word(RowId::Rxcsum, 0) / TELLS_HASH % 2 == 1 {
+    if has_bit(PCSD, registers.word(RowId::Rxcsum, 0)) {
         hash
     } else {
         0

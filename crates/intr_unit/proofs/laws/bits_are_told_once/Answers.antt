@@ -1,4 +1,4 @@
-use Rattle.intr_unit.proofs.MessageLaws.{told_once}
+use Rattle.intr_unit.proofs.ToldMarks.{told_once}
 use Rattle.intr_unit.proofs.laws.bits_are_told_once.Goals as goal
 
 pub returns : goal.returns

@@ -1,4 +1,4 @@
-use Rattle.intr_unit.proofs.MessageLaws.{masking_keeps}
+use Rattle.intr_unit.proofs.MaskLaws.{masking_keeps}
 use Rattle.intr_unit.proofs.laws.masking_loses_no_cause.Goals as goal
 
 pub returns : goal.returns

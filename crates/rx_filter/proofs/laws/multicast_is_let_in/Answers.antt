@@ -1,0 +1,5 @@
+use Rattle.rx_filter.proofs.Destinations.{multicast_in}
+use Rattle.rx_filter.proofs.laws.multicast_is_let_in.Goals as goal
+
+pub returns : goal.returns
+returns c = multicast_in

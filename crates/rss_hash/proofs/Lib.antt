@@ -2,8 +2,11 @@ pub mod Fields
 pub mod Filling
 pub mod HashBits
 pub mod HashLaws
+pub mod Joining
+pub mod Masks
 pub mod Packets
 pub mod Parts
 pub mod RegisterBytes
+pub mod Sliding
 pub mod Types
 pub mod Windows

@@ -8,3 +8,5 @@ pub mod Flow
 pub mod Mrqc
 pub mod Choice
 pub mod Registers
+pub mod Windows
+pub mod HashKeys

@@ -5,6 +5,7 @@
 mod bytes;
 mod choice;
 mod flow;
+mod hash_key;
 mod input;
 mod ipv4;
 mod ipv6;
@@ -15,8 +16,9 @@ mod toeplitz;
 
 pub use choice::{RssType, choose};
 pub use flow::{Flow, classify, tagged_frames_are_no_flow};
+pub use hash_key::HashKey;
 pub use input::Input;
 pub use key::Key;
 pub use mrqc::{QueueMode, RssFields};
-pub use redirection::entry;
+pub use redirection::{entry, entry_in};
 pub use toeplitz::{hash, hash_bits_are_parities, hash_ignores_trailing_zeros, hash_is_linear};

@@ -23,7 +23,8 @@ doubled (suc zero) n small = omega (arith, pow-add 2 n 1)
 doubled (suc (suc bit)) n small = absurd (omega arith)
 
 -- the first bit stands highest
-first_highest : (bytes : List ℕ) (k n : ℕ) → bits_from bytes k (n + 1) ≡ bit_of bytes k * 2 ^ n + bits_from bytes (k + 1) n
+first_highest : (bytes : List ℕ) (k n : ℕ) →
+    bits_from bytes k (n + 1) ≡ bit_of bytes k * 2 ^ n + bits_from bytes (k + 1) n
 first_highest bytes k zero =
     let last = bits_from_more bytes k 0 in
     let here : bit_of bytes (k + 0) ≡ bit_of bytes k = ap (bit_of bytes) (omega arith) in
@@ -33,11 +34,12 @@ first_highest bytes k (suc n) =
     let last = bits_from_more bytes k (n + 1) in
     let last_behind = bits_from_more bytes (k + 1) n in
     let same : bit_of bytes (k + (n + 1)) ≡ bit_of bytes (k + 1 + n) = ap (bit_of bytes) (omega arith) in
-    let double : bit_of bytes k * 2 ^ (n + 1) ≡ 2 * (bit_of bytes k * 2 ^ n) = doubled (bit_of bytes k) n (bit_at-lt _ _) in
+    let double = doubled (bit_of bytes k) n (bit_at-lt _ _) in
     rw next (omega (arith, last, last_behind, same, double, first_highest bytes k n))
 
 -- the highest bit is cut off, and the next one is taken in
-pub bits_from_next : (bytes : List ℕ) (k : ℕ) → bits_from bytes (k + 1) 32 ≡ 2 * (bits_from bytes k 32 % 2147483648) + bit_of bytes (k + 32)
+pub bits_from_next : (bytes : List ℕ) (k : ℕ) →
+    bits_from bytes (k + 1) 32 ≡ 2 * (bits_from bytes k 32 % 2147483648) + bit_of bytes (k + 32)
 bits_from_next bytes k =
     let more = bits_from_more bytes k 32 in
     let first = first_highest bytes k 32 in

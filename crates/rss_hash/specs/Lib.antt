@@ -10,3 +10,5 @@ pub mod Choice
 pub mod Registers
 pub mod Windows
 pub mod HashKeys
+pub mod Built
+pub mod Laws

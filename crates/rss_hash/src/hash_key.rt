@@ -1,7 +1,8 @@
-ghost use Rattle.std.specs.Prelude.{◌≡◌, ◌*◌, ◌<◌, ◌≤◌, ◌==◌, length, replicate, slice_set, if◌then◌else◌};
+ghost use Rattle.std.specs.Prelude.{◌≡◌, ◌*◌, ◌<◌, ◌≤◌, length, replicate, slice_set};
+ghost use Rattle.std.specs.Int.{bit_at};
 ghost use Rattle.rss_hash.specs.Registers.{bytes_of_registers};
 ghost use Rattle.rss_hash.specs.Toeplitz.{toeplitz_hash};
-ghost use Rattle.rss_hash.specs.Windows.{windows_of};
+ghost use Rattle.rss_hash.specs.Windows.{windows_of, where_one, byte_share};
 
 use crate::key::Key;
 use crate::toeplitz::bit;
@@ -62,9 +63,7 @@ impl HashKey {
     {
         let mut hash = 0;
         for i in 0..input.len() {
-            for j in 0..8 {
-                hash ^= where_one(input[i] >> (7 - j) & 1, self.windows[8 * i + j]);
-            }
+            hash ^= byte_share(&self.windows, i, input[i]);
         }
         hash
     }
@@ -84,10 +83,26 @@ fn windows_of(words: &[u32; 10]) -> [u32; 288]
     windows
 }
 
-/// The number where the bit is 1, else 0.
-fn where_one(bit: u8, number: u32) -> u32
-    requires { bit < 2 }
-    ensures { result ≡ (if bit == 1 then number else 0) }
+/// What byte `i` of an input adds to its hash: the windows at those of its bits that are 1, joined.
+fn byte_share(windows: &[u32; 288], i: usize, byte: u8) -> u32
+    requires { i < 36 }
+    ensures { result ≡ byte_share windows.now i byte }
 {
-    number & 0u32.wrapping_sub(u32::from(bit))
+    let first = 8 * i;
+    where_one(byte, 7, windows[first])
+        ^ where_one(byte, 6, windows[first + 1])
+        ^ where_one(byte, 5, windows[first + 2])
+        ^ where_one(byte, 4, windows[first + 3])
+        ^ where_one(byte, 3, windows[first + 4])
+        ^ where_one(byte, 2, windows[first + 5])
+        ^ where_one(byte, 1, windows[first + 6])
+        ^ where_one(byte, 0, windows[first + 7])
+}
+
+/// The number where a bit of the byte is 1, else 0.
+fn where_one(byte: u8, place: u32, number: u32) -> u32
+    requires { place < 8 }
+    ensures { result ≡ where_one (bit_at byte place) number }
+{
+    number & 0u32.wrapping_sub(u32::from(byte >> place & 1))
 }

@@ -1,25 +1,20 @@
-use Rattle.std.proofs.Common.{◌≡◌, ◌+◌, ◌-◌, ◌*◌, bit_and, ◌/◌, ◌^◌, length, slice_index, bit_xor, sym, ap, ◌∙◌, arith}
-use Rattle.std.proofs.lemmas.Nat.Bits.{shr_and_one}
-use Rattle.rss_hash.specs.Bits.{bit_of}
+use Rattle.std.proofs.Common.{◌≡◌, ◌*◌, length, slice_index, bit_xor, ap, ◌∙◌, arith}
 use Rattle.rss_hash.specs.Registers.{bytes_of_registers}
 use Rattle.rss_hash.specs.Toeplitz.{toeplitz_hash}
-use Rattle.rss_hash.proofs.Joining.{bit_in_byte, window_at, hash_joined}
+use Rattle.rss_hash.specs.Windows.{windows_of, byte_share}
+use Rattle.rss_hash.proofs.Joining.{byte_joined}
 use Rattle.rss_hash.proofs.Windows.{hash_below}
 use Rattle.rss_hash.proofs.hash_key.HashKey.hash.Goals as goal
 
-pub loop-j-preserved : goal.loop-j-preserved
-loop-j-preserved c =
+pub loop-i-preserved : goal.loop-i-preserved
+loop-i-preserved c =
     let input = c.args.input.now in
-    let words = c.self.inside.words in
-    let k = 8 * c.loop-i.i + c.loop-j.j in
-    let next : k + 1 ≡ 8 * c.loop-i.i + (c.loop-j.j + 1) = omega arith in
-    let bit = slice_index input c.loop-i.i / 2 ^ (7 - c.loop-j.j) in
-    let same_bit : bit_and bit 1 ≡ bit_of input k =
-    shr_and_one (slice_index input c.loop-i.i) (7 - c.loop-j.j) ∙ sym (bit_in_byte input c.loop-i.i c.loop-j.j c.loop-j-test.true) in
-    let window = window_at words c.self.inside.windows k c.self.invariant.windows (omega arith) in
-    ap (bit_xor c.loop-j.hash) c.where_one-hash.ensures
-    ∙ hash_joined (bytes_of_registers words) input k c.loop-j.hash (bit_and bit 1) (slice_index c.self.inside.windows k) c.loop-j.invariant same_bit window
-    ∙ ap (hash_below (bytes_of_registers words) input) next
+    let byte = slice_index input c.loop-i.i in
+    let windows = c.self.invariant.windows in
+    let share = c.byte_share-hash.ensures ∙ ap (λ windows. byte_share windows c.loop-i.i byte) windows in
+    ap (bit_xor c.loop-i.hash) share
+    ∙ ap (λ hash. bit_xor hash (byte_share (windows_of c.self.inside.words) c.loop-i.i byte)) c.loop-i.invariant
+    ∙ byte_joined c.self.inside.words input c.loop-i.i (omega arith)
 
 pub returns : goal.returns
 unfolding toeplitz_hash

@@ -19,21 +19,20 @@
 //! `-- 2 each` that each line above it, as a script of its own, prints what is below.
 #![tactic(auto)]
 
-#[cfg(test)]
-mod tests;
-
 use bench::{Outcome, bench};
 use std::alloc::{AllocError, Global};
 use std::fmt::Write;
 use std::{fs, io};
 
 /// The tables.
-const TABLES: [&str; 12] = [
+const TABLES: [&str; 14] = [
     "grammar",
     "words",
     "registers",
+    "settings",
     "memory",
     "queues",
+    "queue_registers",
     "filter",
     "sorting",
     "receive",

@@ -1,34 +1,21 @@
-//! Worked examples of each library, by its public calls: values from the datasheet, from published examples and by hand.
+//! What no table of values shows: that packet memory, and the run of a list of events, have room where memory is ample;
+//! that packet memory can go to another thread; the longest texts; and reads and writes of the program that fail.
 //!
-//! They stand here and not in the libraries because a crate with tests is proved twice. What the program prints is
-//! tried in `conformance`.
+//! What the libraries answer is tried by the tables of `library_cases`, and what the program prints by those of
+//! `conformance`.
 #![tactic(auto)]
 
 #[cfg(test)]
-mod descriptors;
+mod events;
 #[cfg(test)]
-mod device;
+mod fakes;
 #[cfg(test)]
-mod eeprom;
+mod hashes;
 #[cfg(test)]
-mod hashing;
+mod input;
 #[cfg(test)]
-mod interrupts;
-#[cfg(test)]
-mod lent_blocks;
-#[cfg(test)]
-mod machine;
+mod outcome;
 #[cfg(test)]
 mod packet_memory;
 #[cfg(test)]
-mod register_table;
-#[cfg(test)]
-mod registers;
-#[cfg(test)]
-mod rings;
-#[cfg(test)]
-mod sorting;
-#[cfg(test)]
-mod texts;
-#[cfg(test)]
-mod virtual_functions;
+mod sizes;

@@ -1,6 +1,6 @@
 //! Hashed lines, and reads and writes of them that fail.
 
-use super::fakes::{FailingReader, FailingWriter};
+use crate::fakes::{FailingReader, FailingWriter};
 use bench::{Failure, Outcome, bench, hash_lines};
 use std::process::Abort;
 use std::test::Fail;

@@ -1,6 +1,6 @@
 //! What is read, and reads and writes that fail.
 
-use super::fakes::{Drip, FailingReader, FailingWriter, Flood, Newlines};
+use crate::fakes::{Drip, FailingReader, FailingWriter, Flood, Newlines};
 use bench::{Failure, InputFault, Outcome, bench, read_input, run};
 use command_line::RunOptions;
 use std::alloc::Global;

@@ -1,0 +1,80 @@
+//! `eeprom_image`: texts that are assembled, and files that are loaded.
+//!
+//! `assemble TEXT` and `load BYTES` give an image as the number of its words, those that aren't 0xFFFF, and its register
+//! writes, or else the fault. The file of an image that was assembled is loaded again, and `other` is printed where that
+//! is another image. The file of `load` has so many bytes 0xFF, but for the words whose numbers and values follow.
+
+use crate::call::Call;
+use crate::texts::plain;
+use eeprom_image::{Image, assemble, load};
+use std::alloc::{AllocError, Global};
+use std::fmt::Write;
+
+/// What a call answers.
+pub fn answer(alloc: Global, call: Call<'_>) -> Result<String, AllocError> {
+    match call.name {
+        "blank" => blank_text(alloc),
+        "assemble" => assembled_text(alloc, call.text),
+        "load" => {
+            let file = file_in(alloc, call)?;
+            loaded_text(alloc, file.as_slice())
+        }
+        _ => format!(in alloc; "no such call"),
+    }
+}
+
+fn blank_text(alloc: Global) -> Result<String, AllocError> {
+    let image = Image::blank(alloc)?;
+    again_text(alloc, &image)
+}
+
+fn assembled_text(alloc: Global, text: &str) -> Result<String, AllocError> {
+    let text = plain(alloc, text)?;
+    match assemble(alloc, text.as_str()) {
+        Ok(image) => again_text(alloc, &image),
+        Err(fault) => format!(in alloc; "{fault:?}"),
+    }
+}
+
+/// An image that is loaded again from its file.
+fn again_text(alloc: Global, image: &Image) -> Result<String, AllocError> {
+    let file = image.to_bytes(alloc)?;
+    match load(alloc, file.as_slice()) {
+        Ok(loaded) if loaded.words() == image.words() => image_text(alloc, &loaded),
+        _ => format!(in alloc; "other"),
+    }
+}
+
+fn loaded_text(alloc: Global, file: &[u8]) -> Result<String, AllocError> {
+    match load(alloc, file) {
+        Ok(image) => image_text(alloc, &image),
+        Err(fault) => format!(in alloc; "{fault:?}"),
+    }
+}
+
+fn image_text(alloc: Global, image: &Image) -> Result<String, AllocError> {
+    let mut text = format!(in alloc; "{} words", image.words().len())?;
+    for (index, word) in image.words().iter().enumerate() {
+        if *word != 0xFFFF {
+            write!(text, " {index:#04x}:{word:#06x}")?;
+        }
+    }
+    for (offset, data) in image.triples() {
+        write!(text, " csr {offset:#07x}:{data:#x}")?;
+    }
+    Ok(text)
+}
+
+/// The file that the words of a case describe, sixteen of whose words may be given.
+fn file_in(alloc: Global, call: Call<'_>) -> Result<Vec<u8>, AllocError> {
+    let mut bytes = vec![in alloc; 0xFFu8; usize::from(call.half(0))]?;
+    for given in 0..16 {
+        let [low, high] = call.half(2 * given + 2).to_le_bytes();
+        let at = 2 * usize::from(call.half(2 * given + 1));
+        if !call.word(2 * given + 2).is_empty() && at + 1 < bytes.len() {
+            bytes[at] = low;
+            bytes[at + 1] = high;
+        }
+    }
+    Ok(bytes)
+}

@@ -22,8 +22,8 @@ const RX: u32 = 0x0DFC0;
 
 const TX: u32 = 0x07FC0;
 
-fn registers(rt: &impl Abort, alloc: Global) -> RegisterFile {
-    RegisterFile::new(alloc).expect(rt, "registers")
+fn registers(_rt: &impl Abort, _alloc: Global) -> RegisterFile {
+    RegisterFile::new()
 }
 
 fn at(rt: &impl Abort, address: u32) -> Place

@@ -1,5 +1,6 @@
 ghost use Rattle.std.specs.Prelude.{◌≡◌, ◌*◌, ◌<◌, length, slice_index};
-ghost use Rattle.rss_hash.specs.Registers.{bytes_of_registers, entry_of};
+ghost use Rattle.std.specs.Int.{to_le_bytes, w32};
+ghost use Rattle.rss_hash.specs.Registers.{bytes_of_registers, entry_of, IsEntryIn};
 
 /// The entry of the redirection table that a hash selects, from 0 to 15. `table` is the words of
 /// RETA, four entries in each: entry 4i + j stands in bits 8j+3:8j of word i.
@@ -13,11 +14,28 @@ pub fn entry(table: &[u32; 32], hash: u32) -> u8
     register_byte(table, (hash % 128) as usize) % 16
 }
 
+/// The entry of the redirection table that a hash selects, from 0 to 15, given the one word of RETA
+/// that has it, word `hash % 128 / 4`.
+pub fn entry_in(word: u32, hash: u32) -> u8
+    ensures value { IsEntryIn word hash result }
+    ensures range { result < 16 }
+{
+    byte_of(word, (hash % 4) as usize) % 16
+}
+
 /// Byte `n` of a run of registers, the lowest bits of each first.
 #[tactic(auto, using(crate::proofs::RegisterBytes::register_byte_at))]
 pub(crate) fn register_byte(words: &[u32], n: usize) -> u8
     requires { n < 4 * length words.now }
     ensures { result ≡ slice_index (bytes_of_registers words.now) n }
 {
-    words[n / 4].to_le_bytes()[n % 4]
+    byte_of(words[n / 4], n % 4)
+}
+
+/// Byte `j` of a register, the lowest bits first.
+fn byte_of(word: u32, j: usize) -> u8
+    requires { j < 4 }
+    ensures { result ≡ slice_index (to_le_bytes w32 word) j }
+{
+    word.to_le_bytes()[j]
 }

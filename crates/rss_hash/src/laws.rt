@@ -1,0 +1,40 @@
+//! Laws of `classify`: a frame that is built from header fields is classified by these fields.
+
+ghost use Rattle.rss_hash.specs.Flow.{flow_of};
+ghost use Rattle.rss_hash.specs.Laws.{tcp_flow, udp_flow, PortsOverIpv4, OthersOverIpv4};
+ghost use Rattle.rss_hash.specs.Laws.{FragmentsHaveNoPorts, PortsOverIpv6, OthersOverIpv6};
+
+/// A TCP segment over IPv4 that is no fragment, with any options: its addresses and its ports.
+pub fn tcp_over_ipv4_is_its_fields()
+    ensures { PortsOverIpv4 6 tcp_flow flow_of }
+{}
+
+/// A UDP datagram over IPv4 that is no fragment, with any options: its addresses and its ports.
+pub fn udp_over_ipv4_is_its_fields()
+    ensures { PortsOverIpv4 17 udp_flow flow_of }
+{}
+
+/// An IPv4 packet of any other protocol: its addresses.
+pub fn other_packets_over_ipv4_are_addresses()
+    ensures { OthersOverIpv4 flow_of }
+{}
+
+/// A fragment, whatever it carries: its addresses.
+pub fn fragments_have_no_ports()
+    ensures { FragmentsHaveNoPorts flow_of }
+{}
+
+/// A TCP segment right behind an IPv6 header: its addresses and its ports.
+pub fn tcp_over_ipv6_is_its_fields()
+    ensures { PortsOverIpv6 6 tcp_flow flow_of }
+{}
+
+/// A UDP datagram right behind an IPv6 header: its addresses and its ports.
+pub fn udp_over_ipv6_is_its_fields()
+    ensures { PortsOverIpv6 17 udp_flow flow_of }
+{}
+
+/// An IPv6 packet with any other next header, extension headers among them: its addresses.
+pub fn other_packets_over_ipv6_are_addresses()
+    ensures { OthersOverIpv6 flow_of }
+{}

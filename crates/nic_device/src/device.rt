@@ -72,8 +72,7 @@ impl Device {
         if config.fifo == 0 || config.fifo > MAX_FIFO {
             return Err(NewFault::Fifo);
         }
-        let registers = RegisterFile::new(alloc)?;
-        let registers = Box::new(alloc, registers).map_err(AllocError::from)?;
+        let registers = Box::new(alloc, RegisterFile::new()).map_err(AllocError::from)?;
         let staged = none_staged(alloc)?;
         Ok(Device {
             registers,

@@ -1,8 +1,11 @@
 pub mod Bits
+pub mod Columns
 pub mod Counting
-pub mod Places
+pub mod InPlace
+pub mod Own
 pub mod Puts
 pub mod Shape
 pub mod Sides
 pub mod Standing
+pub mod Storing
 pub mod Volatile

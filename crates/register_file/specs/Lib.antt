@@ -1,12 +1,14 @@
 pub mod Access
+pub mod AllGroups
 pub mod Bits
 pub mod Columns
 pub mod Counters
-pub mod Filled
 pub mod Groups
 pub mod Laws
+pub mod Layout
 pub mod Queue
 pub mod Registers
 pub mod Settings
 pub mod Sides
+pub mod Storing
 pub mod Words

@@ -1,8 +1,9 @@
 //! Register accesses, by the kind of the row.
 
-ghost use Rattle.std.specs.Prelude.{◌≡◌, ◌<◌, bit_and};
+ghost use Rattle.std.specs.Prelude.{◌≡◌, ◌<◌, IsTrue, bit_and};
 ghost use Rattle.reg_table.specs.Rows.{row_of};
 ghost use Rattle.register_file.specs.Groups.{group_at, index_of};
+ghost use Rattle.register_file.specs.Storing.{is_stored};
 ghost use Rattle.register_file.specs.Access.{read_word, after_read, written, stored, calculated, side_of, asks_reset};
 
 use crate::dir::Dir;
@@ -152,11 +153,12 @@ impl RegisterFile {
 
     /// Stores a word: of it, the bits of the row's mask that the address shows.
     fn store(&mut self, place: Place, view: u32, word: u32)
-        requires { place.index < (row_of place.row).count }
+        requires index { place.index < (row_of place.row).count }
+        requires kind { IsTrue (is_stored (row_of place.row).kind) }
         ensures { self.new ≡ stored self.old place view word }
     {
         let mask = mask_of(place.row) & view;
-        let old = self.word(place.row, place.index);
+        let old = self.cell(place.row, place.index);
         self.set_word(place.row, place.index, (old & !mask) | (word & mask));
     }
 }

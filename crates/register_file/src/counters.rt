@@ -2,6 +2,7 @@
 
 ghost use Rattle.std.specs.Prelude.{◌≡◌, ◌<◌};
 ghost use Rattle.reg_table.specs.Rows.{row_of};
+ghost use Rattle.reg_table.specs.declared.kind.Kind.TheVariants.{Rc};
 ghost use Rattle.register_file.specs.Counters.{counted, mapping_row, counter_of};
 
 use crate::dir::Dir;
@@ -18,9 +19,11 @@ const QUEUES_IN_A_WORD: u16 = 4;
 const COUNTERS: u32 = 16;
 
 impl RegisterFile {
-    /// Counts one more in a row at an index below the row's count. The largest word, 0xFFFFFFFF, stays.
+    /// Counts one more in a row of counters at an index below the row's count. The largest word, 0xFFFFFFFF, stays.
+    #[inline(always)]
     pub fn count(&mut self, row: RowId, index: u16)
-        requires { index < (row_of row).count }
+        requires index { index < (row_of row).count }
+        requires counter { (row_of row).kind ≡ Rc }
         ensures { self.new ≡ counted self.old row index }
     {
         let word = self.word(row, index);
@@ -41,6 +44,7 @@ impl RegisterFile {
 }
 
 /// The row that says in which counters the frames of a side's queues are counted.
+#[inline(always)]
 fn mapping_row(dir: Dir) -> RowId
     ensures { result ≡ mapping_row dir }
 {

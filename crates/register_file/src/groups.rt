@@ -1,198 +1,165 @@
-//! The interrupts of groups, in their registers.
+//! The groups of interrupts, each kept in place.
 
-ghost use Rattle.std.specs.Prelude.{◌≡◌, ◌<◌};
-ghost use Rattle.register_file.specs.Groups.{index_of, interrupts_of, with_interrupts, clears_others, masks_by_message, auto_masks, vector_row, vector_entry, causes_raised, queue_raised, message_of, message_made};
-ghost use Rattle.register_file.specs.Access.{group_read, causes_written, masks_set, causes_set, masks_cleared};
+ghost use Rattle.std.specs.Prelude.{◌≡◌, ◌<◌, length};
+ghost use Rattle.intr_unit.specs.Interrupts.{raised, after_read, after_write_one, after_mask_set, after_mask_clear, with_auto_clear, with_auto_mask, next_vector, after_message};
+ghost use Rattle.register_file.specs.Groups.{index_of};
+ghost use Rattle.register_file.specs.AllGroups.{IsOwn, at_group, with_group, all_reset};
 
-use crate::dir::Dir;
-use crate::register_file::RegisterFile;
 use intr_unit::{Causes, Group};
-use reg_table::RowId;
+use std::marker::Model;
 
-/// GPIE: a read of EICR clears the other causes alone.
-const OCD: u32 = 0x0000_0020;
+/// The interrupts of the physical function and of each virtual function. In every call the number of a virtual
+/// function is below 64.
+#[derive(Drop)]
+pub(crate) struct Groups {
+    pf: Causes,
+    vf: [Causes; 64],
+}
 
-/// GPIE: the auto-mask is for messages, and not for accesses of the PF's registers.
-const EIAME: u32 = 0x4000_0000;
+impl Model for Groups {
+    ghost use Rattle.register_file.specs.AllGroups.{AllGroups, AreNumbered};
 
-/// IVAR and PVTIVAR: how many bits of a word say the cause of one side of a queue.
-const ENTRY_BITS: u32 = 8;
+    ghost Value = { AllGroups };
 
-/// IVAR and PVTIVAR: how many queues a word says the causes of, each with a byte for receive and then one for transmit.
-const QUEUES_IN_A_WORD: u16 = 2;
+    ghost view = { λ a. record { pf = a.pf; vf = a.vf } };
 
-impl RegisterFile {
-    /// The device raises causes of a group, those that are 1 in `bits`. The number of a virtual function is below 64.
-    pub fn raise(&mut self, group: Group, bits: u32)
-        requires { index_of group < 64 }
-        ensures { self.new ≡ causes_raised self.old group bits }
+    ghost invariant = { λ a. AreNumbered (record { pf = a.pf; vf = a.vf }) };
+}
+
+impl Groups {
+    /// Every group as a reset leaves it.
+    pub(crate) fn new() -> Self
+        ensures { result ≡ all_reset }
     {
-        let mut interrupts = self.interrupts(group);
-        interrupts.raise(bits, false);
-        self.set_interrupts(&interrupts);
-    }
-
-    /// A side of a queue below `QUEUES` raises in a group the cause that its byte of IVAR, or in a virtual function's group
-    /// of PVTIVAR, names, if that is valid. The number of a virtual function is below 64.
-    pub fn raise_queue(&mut self, group: Group, dir: Dir, queue: u16)
-        requires queue { queue < 128 }
-        requires group { index_of group < 64 }
-        ensures { self.new ≡ queue_raised self.old group dir queue }
-    {
-        let causes = group.queue_causes(self.vector_entry(group, dir, queue));
-        self.raise(group, causes);
-    }
-
-    /// Makes a group's next message: answers its vector, 0 to 15, or None where no bit is due. The number of a virtual
-    /// function is below 64.
-    pub fn message(&mut self, group: Group) -> Option<u8>
-        requires { index_of group < 64 }
-        ensures vector { result ≡ message_of self.old group }
-        ensures state { self.new ≡ message_made self.old group }
-    {
-        let mut interrupts = self.interrupts(group);
-        let vector = interrupts.message(self.masks_by_message(), self.word(RowId::IvarMisc, 0));
-        if vector.is_some() {
-            self.set_interrupts(&interrupts);
+        let mut vf = [Causes::new(Group::Vf(0)); 64];
+        for v in 0..64u8 {
+            vf[usize::from(v)] = Causes::new(Group::Vf(v));
         }
-        vector
+        Groups {
+            pf: Causes::new(Group::Pf),
+            vf,
+        }
     }
 
-    /// What a read of a group's causes leaves.
-    pub(crate) fn read_causes(&mut self, group: Group)
+    /// The interrupts of a group, which are consistent, and whose words are of 32 bits.
+    #[inline(always)]
+    pub(crate) fn of(&self, group: Group) -> &Causes
         requires { index_of group < 64 }
-        ensures { self.new ≡ group_read self.old group }
-    {
-        let mut interrupts = self.interrupts(group);
-        interrupts.read(self.clears_others(), self.auto_masks(group));
-        self.set_interrupts(&interrupts);
-    }
-
-    /// A write of a group's causes: those that are 1 in `bits` become 0.
-    pub(crate) fn write_causes(&mut self, group: Group, bits: u32)
-        requires { index_of group < 64 }
-        ensures { self.new ≡ causes_written self.old group bits }
-    {
-        let mut interrupts = self.interrupts(group);
-        interrupts.write_one(bits, self.auto_masks(group));
-        self.set_interrupts(&interrupts);
-    }
-
-    /// A write of a group's masks: those that are 1 in `bits` become 1.
-    pub(crate) fn set_masks(&mut self, group: Group, bits: u32)
-        requires { index_of group < 64 }
-        ensures { self.new ≡ masks_set self.old group bits }
-    {
-        let mut interrupts = self.interrupts(group);
-        interrupts.mask_set(bits);
-        self.set_interrupts(&interrupts);
-    }
-
-    /// A write of the register that sets a group's causes: those that are 1 in `bits` become 1.
-    pub(crate) fn set_causes(&mut self, group: Group, bits: u32)
-        requires { index_of group < 64 }
-        ensures { self.new ≡ causes_set self.old group bits }
-    {
-        let mut interrupts = self.interrupts(group);
-        interrupts.raise(bits, self.auto_masks(group));
-        self.set_interrupts(&interrupts);
-    }
-
-    /// A write of the register that clears a group's masks: those that are 1 in `bits` become 0.
-    pub(crate) fn clear_masks(&mut self, group: Group, bits: u32)
-        requires { index_of group < 64 }
-        ensures { self.new ≡ masks_cleared self.old group bits }
-    {
-        let mut interrupts = self.interrupts(group);
-        interrupts.mask_clear(bits);
-        self.set_interrupts(&interrupts);
-    }
-
-    /// The interrupts of a group, as its registers hold them.
-    fn interrupts(&self, group: Group) -> Causes
-        requires { index_of group < 64 }
-        ensures { result ≡ interrupts_of self.now group }
+        ensures value { result.now ≡ at_group self.now group }
+        ensures own { IsOwn group result.now }
+        ensures all { length self.now.vf ≡ 64 }
     {
         match group {
-            Group::Pf => Causes::of_words(
-                group,
-                self.word(RowId::Eicr, 0),
-                self.word(RowId::Eims, 0),
-                self.word(RowId::Eiac, 0),
-                self.word(RowId::Eiam, 0),
-                self.told_pf,
-            ),
-            Group::Vf(function) => Causes::of_words(
-                group,
-                self.word(RowId::Pvteicr, u16::from(function)),
-                self.word(RowId::Pvteims, u16::from(function)),
-                self.word(RowId::Pvteiac, u16::from(function)),
-                self.word(RowId::Pvteiam, u16::from(function)),
-                self.told_vf[usize::from(function)],
-            ),
-        }
-    }
-
-    /// Puts back the causes, the masks and the told bits of a group.
-    fn set_interrupts(&mut self, interrupts: &Causes)
-        requires { index_of interrupts.now.group < 64 }
-        ensures { self.new ≡ with_interrupts self.old interrupts.now }
-    {
-        match interrupts.group() {
             Group::Pf => {
-                self.set_word(RowId::Eicr, 0, interrupts.causes());
-                self.set_word(RowId::Eims, 0, interrupts.enabled());
-                self.told_pf = interrupts.told();
+                has_own_words(&self.pf);
+                &self.pf
             }
-            Group::Vf(function) => {
-                self.set_word(RowId::Pvteicr, u16::from(function), interrupts.causes());
-                self.set_word(RowId::Pvteims, u16::from(function), interrupts.enabled());
-                self.told_vf[usize::from(function)] = interrupts.told();
+            Group::Vf(v) => {
+                let causes = &self.vf[usize::from(v)];
+                has_own_words(causes);
+                causes
             }
         }
     }
 
-    /// Whether a read of EICR clears the other causes alone: GPIE bit 5 is 1.
-    fn clears_others(&self) -> bool
-        ensures { result ≡ clears_others self.now }
+    /// Raises causes of a group, with or without its auto-mask.
+    pub(crate) fn raise(&mut self, group: Group, bits: u32, auto: bool)
+        requires { index_of group < 64 }
+        ensures { self.new ≡ with_group self.old group (raised (at_group self.old group) bits auto) }
     {
-        self.word(RowId::Gpie, 0) / OCD % 2 == 1
+        match group {
+            Group::Pf => self.pf.raise(bits, auto),
+            Group::Vf(v) => self.vf[usize::from(v)].raise(bits, auto),
+        }
     }
 
-    /// Whether the auto-mask is for messages: GPIE bit 30 is 1.
-    fn masks_by_message(&self) -> bool
-        ensures { result ≡ masks_by_message self.now }
+    /// Reads the causes of a group.
+    pub(crate) fn read(&mut self, group: Group, ocd: bool, auto: bool)
+        requires { index_of group < 64 }
+        ensures { self.new ≡ with_group self.old group (after_read (at_group self.old group) ocd auto) }
     {
-        self.word(RowId::Gpie, 0) / EIAME % 2 == 1
+        let _word = match group {
+            Group::Pf => self.pf.read(ocd, auto),
+            Group::Vf(v) => self.vf[usize::from(v)].read(ocd, auto),
+        };
     }
 
-    /// Whether the auto-mask of a group acts on accesses.
-    fn auto_masks(&self, group: Group) -> bool
-        ensures { result ≡ auto_masks self.now group }
+    /// Writes ones to the causes of a group.
+    pub(crate) fn write_one(&mut self, group: Group, bits: u32, auto: bool)
+        requires { index_of group < 64 }
+        ensures { self.new ≡ with_group self.old group (after_write_one (at_group self.old group) bits auto) }
     {
-        group.auto_mask_acts(self.masks_by_message())
+        match group {
+            Group::Pf => self.pf.write_one(bits, auto),
+            Group::Vf(v) => self.vf[usize::from(v)].write_one(bits, auto),
+        }
     }
 
-    /// The byte of IVAR or PVTIVAR that says what a side of a queue below `QUEUES` raises in a group.
-    fn vector_entry(&self, group: Group, dir: Dir, queue: u16) -> u8
-        requires { queue < 128 }
-        ensures { result ≡ vector_entry self.now group dir queue }
+    /// Sets masks of a group.
+    pub(crate) fn mask_set(&mut self, group: Group, bits: u32)
+        requires { index_of group < 64 }
+        ensures { self.new ≡ with_group self.old group (after_mask_set (at_group self.old group) bits) }
     {
-        let word = self.word(vector_row(group), queue / QUEUES_IN_A_WORD);
-        let receive = 2 * ENTRY_BITS * u32::from(queue % QUEUES_IN_A_WORD);
-        match dir {
-            Dir::Rx => ((word >> receive) % 256) as u8,
-            Dir::Tx => ((word >> (receive + ENTRY_BITS)) % 256) as u8,
+        match group {
+            Group::Pf => self.pf.mask_set(bits),
+            Group::Vf(v) => self.vf[usize::from(v)].mask_set(bits),
+        }
+    }
+
+    /// Clears masks of a group.
+    pub(crate) fn mask_clear(&mut self, group: Group, bits: u32)
+        requires { index_of group < 64 }
+        ensures { self.new ≡ with_group self.old group (after_mask_clear (at_group self.old group) bits) }
+    {
+        match group {
+            Group::Pf => self.pf.mask_clear(bits),
+            Group::Vf(v) => self.vf[usize::from(v)].mask_clear(bits),
+        }
+    }
+
+    /// Gives the auto-clear register of a group a new word, as far as the group has its bits.
+    pub(crate) fn set_auto_clear(&mut self, group: Group, word: u32)
+        requires { index_of group < 64 }
+        ensures { self.new ≡ with_group self.old group (with_auto_clear (at_group self.old group) word) }
+    {
+        match group {
+            Group::Pf => self.pf.set_auto_clear(word),
+            Group::Vf(v) => self.vf[usize::from(v)].set_auto_clear(word),
+        }
+    }
+
+    /// Gives the auto-mask register of a group a new word, as far as the group has its bits.
+    pub(crate) fn set_auto_mask(&mut self, group: Group, word: u32)
+        requires { index_of group < 64 }
+        ensures { self.new ≡ with_group self.old group (with_auto_mask (at_group self.old group) word) }
+    {
+        match group {
+            Group::Pf => self.pf.set_auto_mask(word),
+            Group::Vf(v) => self.vf[usize::from(v)].set_auto_mask(word),
+        }
+    }
+
+    /// Makes a group's next message: answers its vector, or None where no bit is due.
+    pub(crate) fn message(&mut self, group: Group, eiame: bool, misc: u32) -> Option<u8>
+        requires { index_of group < 64 }
+        ensures vector { result ≡ next_vector (at_group self.old group) misc }
+        ensures state { self.new ≡ with_group self.old group (after_message (at_group self.old group) eiame misc) }
+    {
+        match group {
+            Group::Pf => self.pf.message(eiame, misc),
+            Group::Vf(v) => self.vf[usize::from(v)].message(eiame, misc),
         }
     }
 }
 
-/// The row whose bytes say what queues raise in a group.
-fn vector_row(group: Group) -> RowId
-    ensures { result ≡ vector_row group }
+/// A group's words are of 32 bits, and it is consistent. It does nothing.
+#[inline(always)]
+fn has_own_words(causes: &Causes)
+    ensures { IsOwn causes.now.group causes.now }
 {
-    match group {
-        Group::Pf => RowId::Ivar,
-        Group::Vf(_) => RowId::Pvtivar,
-    }
+    let _causes = causes.causes();
+    let _enabled = causes.enabled();
+    let _auto_clear = causes.auto_clear();
+    let _auto_mask = causes.auto_mask();
+    let _told = causes.told();
 }

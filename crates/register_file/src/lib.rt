@@ -7,21 +7,25 @@
 //! interrupts go through `intr_unit`, by the words of its registers. `peek` is the word of a read without its
 //! effect, and `word` the word as it was stored. The other calls are what the device core asks of a queue (its ring,
 //! whether it is on, its counter) and of single bits, and how it moves a head, switches a queue and counts. The
-//! definitions stand in `specs/`, and the words behind one small type, so that another layout changes nothing above it.
-//! Only `new` takes memory.
+//! definitions stand in `specs/`. The registers lie in plain fields: the sides of the queues, the groups of interrupts,
+//! which change in place, the settings, the tables and the counters; `cell` and `set_word` say which row lies where.
+//! Nothing here takes memory.
 //!
 //! Source: Intel 82599 datasheet, sections on the device registers.
 #![tactic(auto)]
 
 mod access;
-mod columns;
+mod banks;
 mod counters;
 mod dir;
 mod groups;
+mod hashing;
+mod interrupts;
 mod laws;
 mod queue;
 mod register_file;
 mod settings;
+mod side;
 mod words;
 
 pub use access::asks_reset;

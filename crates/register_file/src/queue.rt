@@ -1,8 +1,9 @@
 //! The two sides of a queue.
 
-ghost use Rattle.std.specs.Prelude.{◌≡◌, ◌≤◌, ◌<◌};
+ghost use Rattle.std.specs.Prelude.{◌≡◌, ◌+◌, ◌*◌, ◌%◌, ◌^◌, ◌≤◌, ◌<◌};
 ghost use Rattle.dma_ring.specs.Ring.{slots_of};
-ghost use Rattle.register_file.specs.Queue.{base_low_row, base_high_row, length_row, head_row, tail_row, enable_row, ring_of, is_on, with_head, switched, switched_on, switched_off, shut};
+ghost use Rattle.register_file.specs.Registers.{with_word};
+ghost use Rattle.register_file.specs.Queue.{enable_row, ring_of, is_on, with_head, switched, switched_on, switched_off, shut};
 
 use crate::dir::Dir;
 use crate::register_file::RegisterFile;
@@ -14,37 +15,32 @@ pub(crate) const ENABLE: u32 = 0x0200_0000;
 
 impl RegisterFile {
     /// The ring of a side of a queue below `QUEUES`. It has fewer than 65,536 slots.
+    #[inline(always)]
     pub fn ring(&self, dir: Dir, queue: u16) -> Ring
         requires { queue < 128 }
         ensures ring { result ≡ ring_of self.now dir queue }
         ensures slots { slots_of result ≤ 65536 }
     {
-        let (low, high, length, head, tail) = match dir {
-            Dir::Rx => (
-                RowId::Rdbal,
-                RowId::Rdbah,
-                RowId::Rdlen,
-                RowId::Rdh,
-                RowId::Rdt,
+        match dir {
+            Dir::Rx => ring_by(
+                self.word(RowId::Rdbal, queue),
+                self.word(RowId::Rdbah, queue),
+                self.word(RowId::Rdlen, queue),
+                self.word(RowId::Rdh, queue),
+                self.word(RowId::Rdt, queue),
             ),
-            Dir::Tx => (
-                RowId::Tdbal,
-                RowId::Tdbah,
-                RowId::Tdlen,
-                RowId::Tdh,
-                RowId::Tdt,
+            Dir::Tx => ring_by(
+                self.word(RowId::Tdbal, queue),
+                self.word(RowId::Tdbah, queue),
+                self.word(RowId::Tdlen, queue),
+                self.word(RowId::Tdh, queue),
+                self.word(RowId::Tdt, queue),
             ),
-        };
-        Ring {
-            base: u64::from(self.word(high, queue)) * 0x1_0000_0000
-                + u64::from(self.word(low, queue)),
-            length: self.word(length, queue) % 0x10_0000,
-            head: (self.word(head, queue) % 0x1_0000) as u16,
-            tail: (self.word(tail, queue) % 0x1_0000) as u16,
         }
     }
 
     /// Whether a side of a queue below `QUEUES` is on.
+    #[inline(always)]
     pub fn is_on(&self, dir: Dir, queue: u16) -> bool
         requires { queue < 128 }
         ensures { result ≡ is_on self.now dir queue }
@@ -53,11 +49,15 @@ impl RegisterFile {
     }
 
     /// Moves the head of a side of a queue below `QUEUES`.
+    #[inline(always)]
     pub fn move_head(&mut self, dir: Dir, queue: u16, head: u16)
         requires { queue < 128 }
         ensures { self.new ≡ with_head self.old dir queue head }
     {
-        self.set_word(head_row(dir), queue, u32::from(head));
+        match dir {
+            Dir::Rx => self.set_word(RowId::Rdh, queue, u32::from(head)),
+            Dir::Tx => self.set_word(RowId::Tdh, queue, u32::from(head)),
+        }
     }
 
     /// Makes a side of a queue below `QUEUES` what it is wanted to be.
@@ -87,7 +87,7 @@ impl RegisterFile {
     {
         let word = self.word(enable_row(dir), queue);
         if word / ENABLE % 2 == 0 {
-            self.set_word(enable_row(dir), queue, word + ENABLE);
+            self.set_enable(dir, queue, word + ENABLE);
         }
     }
 
@@ -97,22 +97,39 @@ impl RegisterFile {
     {
         let word = self.word(enable_row(dir), queue);
         if word / ENABLE % 2 == 1 {
-            self.set_word(enable_row(dir), queue, word - ENABLE);
+            self.set_enable(dir, queue, word - ENABLE);
+        }
+    }
+
+    fn set_enable(&mut self, dir: Dir, queue: u16, word: u32)
+        requires { queue < 128 }
+        ensures { self.new ≡ with_word self.old (enable_row dir) queue word }
+    {
+        match dir {
+            Dir::Rx => self.set_word(RowId::Rxdctl, queue, word),
+            Dir::Tx => self.set_word(RowId::Txdctl, queue, word),
         }
     }
 }
 
-/// The row of a side's head.
-fn head_row(dir: Dir) -> RowId
-    ensures { result ≡ head_row dir }
+/// A ring by the words of its registers.
+#[inline(always)]
+fn ring_by(base_low: u32, base_high: u32, length: u32, head: u32, tail: u32) -> Ring
+    ensures base { result.base ≡ base_high * 2 ^ 32 + base_low }
+    ensures length { result.length ≡ length % 2 ^ 20 }
+    ensures head { result.head ≡ head % 2 ^ 16 }
+    ensures tail { result.tail ≡ tail % 2 ^ 16 }
 {
-    match dir {
-        Dir::Rx => RowId::Rdh,
-        Dir::Tx => RowId::Tdh,
+    Ring {
+        base: u64::from(base_high) * 0x1_0000_0000 + u64::from(base_low),
+        length: length % 0x10_0000,
+        head: (head % 0x1_0000) as u16,
+        tail: (tail % 0x1_0000) as u16,
     }
 }
 
 /// The row of a side's enable word.
+#[inline(always)]
 fn enable_row(dir: Dir) -> RowId
     ensures { result ≡ enable_row dir }
 {

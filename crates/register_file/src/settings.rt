@@ -34,6 +34,7 @@ const FRAME_CHECK: u32 = 4;
 
 impl RegisterFile {
     /// Whether the device makes no step: CTRL bit 2 is 1.
+    #[inline(always)]
     pub fn is_stopped(&self) -> bool
         ensures { result ≡ is_stopped self.now }
     {
@@ -41,6 +42,7 @@ impl RegisterFile {
     }
 
     /// Whether frames are taken: RXCTRL bit 0 is 1.
+    #[inline(always)]
     pub fn can_receive(&self) -> bool
         ensures { result ≡ can_receive self.now }
     {
@@ -48,6 +50,7 @@ impl RegisterFile {
     }
 
     /// Whether frames are sent: DMATXCTL bit 0 is 1.
+    #[inline(always)]
     pub fn can_transmit(&self) -> bool
         ensures { result ≡ can_transmit self.now }
     {
@@ -56,6 +59,7 @@ impl RegisterFile {
 
     /// How many bytes a frame has at most: 1,514, or with HLREG0 bit 2 the number in MAXFRS bits 31 to 16 less 4, 0 at
     /// least.
+    #[inline(always)]
     pub fn frame_limit(&self) -> u16
         ensures { result ≡ frame_limit self.now }
     {
@@ -66,6 +70,7 @@ impl RegisterFile {
     }
 
     /// Whether short frames are padded: HLREG0 bit 10 is 1.
+    #[inline(always)]
     pub fn pads(&self) -> bool
         ensures { result ≡ pads self.now }
     {
@@ -73,6 +78,7 @@ impl RegisterFile {
     }
 
     /// The control word, SRRCTL, of a receive queue below `QUEUES`.
+    #[inline(always)]
     pub fn receive_control(&self, queue: u16) -> u32
         requires { queue < 128 }
         ensures { result ≡ word_of self.now Srrctl queue }
@@ -81,6 +87,7 @@ impl RegisterFile {
     }
 
     /// Whether a receive queue below `QUEUES` drops a frame that finds no slot: SRRCTL bit 28 is 1.
+    #[inline(always)]
     pub fn drops(&self, queue: u16) -> bool
         requires { queue < 128 }
         ensures { result ≡ drops self.now queue }
@@ -90,6 +97,7 @@ impl RegisterFile {
 
     /// Where a transmit queue below `QUEUES` writes its head, if it does: the address of TDWBAH and TDWBAL bits 31 to
     /// 2, where TDWBAL bit 0 is 1.
+    #[inline(always)]
     pub fn writeback(&self, queue: u16) -> Option<u64>
         requires { queue < 128 }
         ensures { result ≡ writeback_of self.now queue }

@@ -1,102 +1,175 @@
-//! The words of the registers.
+//! The words of the registers: which row lies in which field.
 
-ghost use Rattle.std.specs.Prelude.{◌≡◌, ◌<◌, length, IsOk, IfOk, OnOk};
-ghost use Rattle.reg_table.specs.Rows.{row_of, rows};
-ghost use Rattle.register_file.specs.Words.{row_words, word_at, put, reset_words};
-ghost use Rattle.register_file.specs.Filled.{KeepsOtherRows, HasResetRows, HasResetWords};
-ghost use Rattle.register_file.specs.Columns.{HasPlaces};
-ghost use Rattle.std.specs.BTreeMap.{get};
+ghost use Rattle.std.specs.Prelude.{◌≡◌, ◌<◌, IsTrue};
+ghost use Rattle.reg_table.specs.Rows.{row_of};
+ghost use Rattle.register_file.specs.Registers.{word_of, with_word};
+ghost use Rattle.register_file.specs.Storing.{is_stored, IsWordOf};
 
-use reg_table::{Place, RowId, all_rows, count_of, reset_of};
-use std::alloc::{AllocError, Global};
-use std::collections::BTreeMap;
-use std::marker::Model;
+use crate::register_file::RegisterFile;
+use intr_unit::Group;
+use reg_table::RowId;
 
-/// The words of the registers, one for each place.
-#[derive(Drop)]
-pub(crate) struct WordMap {
-    words: BTreeMap<Place, u32>,
-}
-
-impl Model for WordMap {
-    ghost use Rattle.std.specs.BTreeMap.{get};
-    ghost use Rattle.register_file.specs.Words.{Words};
-    ghost use Rattle.register_file.specs.Columns.{columns, HasPlaces};
-
-    ghost Value = { Words };
-
-    ghost view = { λ r. columns (get ⟦<Place as Ord>⟧.cmp r.words) };
-
-    ghost invariant = { λ r. HasPlaces (get ⟦<Place as Ord>⟧.cmp r.words) };
-}
-
-impl WordMap {
-    /// Each register with its reset value.
-    pub(crate) fn new(alloc: Global) -> Result<Self, AllocError>
-        ensures { IfOk result (λ r. r ≡ reset_words) }
+impl RegisterFile {
+    /// The word of a row at an index below the row's count, as it was stored, and which words the row holds.
+    #[inline(always)]
+    pub(crate) fn cell(&self, row: RowId, index: u16) -> u32
+        requires { index < (row_of row).count }
+        ensures word { result ≡ word_of self.now row index }
+        ensures holds { IsWordOf row index result }
     {
-        let mut words = BTreeMap::new(alloc);
-        fill_rows(&mut words)?;
-        Ok(WordMap { words })
-    }
-
-    /// Gives each register its reset value. It takes no memory.
-    pub(crate) fn reset(&mut self)
-        ensures { self.new ≡ reset_words }
-    {
-        match fill_rows(&mut self.words) {
-            Ok(()) => {}
-            Err(_) => unreachable!(),
+        let at = usize::from(index);
+        match row {
+            RowId::Ctrl => self.settings.ctrl,
+            RowId::Status => 0,
+            RowId::CtrlExt => self.settings.ctrl_ext,
+            RowId::Ledctl => self.settings.ledctl,
+            RowId::Eicr => self.groups.of(Group::Pf).causes(),
+            RowId::Eics => 0,
+            RowId::Eiac => self.groups.of(Group::Pf).auto_clear(),
+            RowId::Eitr => self.tables.eitr[at],
+            RowId::Eims => self.groups.of(Group::Pf).enabled(),
+            RowId::Eimc => 0,
+            RowId::Eiam => self.groups.of(Group::Pf).auto_mask(),
+            RowId::Gpie => self.settings.gpie,
+            RowId::Ivar => self.tables.ivar[at],
+            RowId::IvarMisc => self.settings.ivar_misc,
+            RowId::Pvteicr => self.groups.of(Group::Vf(index as u8)).causes(),
+            RowId::Pvteics => 0,
+            RowId::Pvteims => self.groups.of(Group::Vf(index as u8)).enabled(),
+            RowId::Pvteimc => 0,
+            RowId::Pvteiac => self.groups.of(Group::Vf(index as u8)).auto_clear(),
+            RowId::Pvteiam => self.groups.of(Group::Vf(index as u8)).auto_mask(),
+            RowId::Rdbal => self.receive[at].base_low,
+            RowId::Rdbah => self.receive[at].base_high,
+            RowId::Rdlen => self.receive[at].length,
+            RowId::Rdh => self.receive[at].head,
+            RowId::Srrctl => self.receive[at].control,
+            RowId::Rdt => self.receive[at].tail,
+            RowId::Rxdctl => self.receive[at].enable,
+            RowId::Qprc => self.counters.qprc[at],
+            RowId::Qprdc => self.counters.qprdc[at],
+            RowId::Rqsmr => self.tables.rqsmr[at],
+            RowId::Rdrxctl => self.settings.rdrxctl,
+            RowId::Rxctrl => self.settings.rxctrl,
+            RowId::Mpc => self.counters.mpc,
+            RowId::Gprc => self.counters.gprc,
+            RowId::Gptc => self.counters.gptc,
+            RowId::Ruc => self.counters.ruc,
+            RowId::Roc => self.counters.roc,
+            RowId::Hlreg0 => self.settings.hlreg0,
+            RowId::Maxfrs => self.settings.maxfrs,
+            RowId::Autoc => self.settings.autoc,
+            RowId::Links => 0,
+            RowId::Dmatxctl => self.settings.dmatxctl,
+            RowId::Rxcsum => self.settings.rxcsum,
+            RowId::Fctrl => self.settings.fctrl,
+            RowId::Mcstctrl => self.settings.mcstctrl,
+            RowId::VtCtl => self.settings.vt_ctl,
+            RowId::Vfre => self.tables.vfre[at],
+            RowId::Vfte => self.tables.vfte[at],
+            RowId::Mta => self.tables.mta[at],
+            RowId::Ral => self.tables.ral[at],
+            RowId::Rah => self.tables.rah[at],
+            RowId::Mrqc => self.settings.mrqc,
+            RowId::Reta => self.tables.reta[at],
+            RowId::Rssrk => self.tables.rssrk[at],
+            RowId::Tdbal => self.transmit[at].base_low,
+            RowId::Tdbah => self.transmit[at].base_high,
+            RowId::Tdlen => self.transmit[at].length,
+            RowId::Tdh => self.transmit[at].head,
+            RowId::Tdt => self.transmit[at].tail,
+            RowId::Txdctl => self.transmit[at].enable,
+            RowId::Tdwbal => self.transmit[at].writeback_low,
+            RowId::Tdwbah => self.transmit[at].writeback_high,
+            RowId::Qptc => self.counters.qptc[at],
+            RowId::Mtqc => self.settings.mtqc,
+            RowId::Tqsm => self.tables.tqsm[at],
+            RowId::Mpsar => self.tables.mpsar[at],
+            RowId::Psrtype => self.tables.psrtype[at],
+            RowId::GcrExt => self.settings.gcr_ext,
+            RowId::Pvtivar => self.tables.pvtivar[at],
         }
     }
 
-    /// The word at a place.
-    pub(crate) fn word(&self, place: Place) -> u32
-        requires { place.index < (row_of place.row).count }
-        ensures { result ≡ word_at self.now place }
+    /// Stores a word in a row at an index below the row's count. The row is one that holds such words.
+    #[inline(always)]
+    pub(crate) fn set_word(&mut self, row: RowId, index: u16, word: u32)
+        requires index { index < (row_of row).count }
+        requires stored { IsTrue (is_stored (row_of row).kind) }
+        requires holds { IsWordOf row index word }
+        ensures { self.new ≡ with_word self.old row index word }
     {
-        self.words.get(&place).copied().unwrap_or(0)
-    }
-
-    /// Each row has as many words as it has indices. It does nothing.
-    pub(crate) fn has_whole_rows(&self, row: RowId)
-        ensures { length (row_words self.now row) ≡ (row_of row).count }
-    {
-        let _opened = &self.words;
-    }
-
-    /// Sets the word at a place.
-    pub(crate) fn set_word(&mut self, place: Place, word: u32)
-        requires { place.index < (row_of place.row).count }
-        ensures { self.new ≡ put self.old place word }
-    {
-        match self.words.insert(place, word) {
-            Ok(_) => {}
-            Err(_) => unreachable!(),
+        let at = usize::from(index);
+        match row {
+            RowId::Ctrl => self.settings.ctrl = word,
+            RowId::CtrlExt => self.settings.ctrl_ext = word,
+            RowId::Ledctl => self.settings.ledctl = word,
+            RowId::Eiac => self.set_auto_clear(Group::Pf, word),
+            RowId::Eitr => self.tables.eitr[at] = word,
+            RowId::Eiam => self.set_auto_mask(Group::Pf, word),
+            RowId::Gpie => self.settings.gpie = word,
+            RowId::Ivar => self.tables.ivar[at] = word,
+            RowId::IvarMisc => self.settings.ivar_misc = word,
+            RowId::Pvteiac => self.set_auto_clear(Group::Vf(index as u8), word),
+            RowId::Pvteiam => self.set_auto_mask(Group::Vf(index as u8), word),
+            RowId::Rdbal => self.receive[at].base_low = word,
+            RowId::Rdbah => self.receive[at].base_high = word,
+            RowId::Rdlen => self.receive[at].length = word,
+            RowId::Rdh => self.receive[at].head = word,
+            RowId::Srrctl => self.receive[at].control = word,
+            RowId::Rdt => self.receive[at].tail = word,
+            RowId::Rxdctl => self.receive[at].enable = word,
+            RowId::Qprc => self.counters.qprc[at] = word,
+            RowId::Qprdc => self.counters.qprdc[at] = word,
+            RowId::Rqsmr => self.tables.rqsmr[at] = word,
+            RowId::Rdrxctl => self.settings.rdrxctl = word,
+            RowId::Rxctrl => self.settings.rxctrl = word,
+            RowId::Mpc => self.counters.mpc = word,
+            RowId::Gprc => self.counters.gprc = word,
+            RowId::Gptc => self.counters.gptc = word,
+            RowId::Ruc => self.counters.ruc = word,
+            RowId::Roc => self.counters.roc = word,
+            RowId::Hlreg0 => self.settings.hlreg0 = word,
+            RowId::Maxfrs => self.settings.maxfrs = word,
+            RowId::Autoc => self.settings.autoc = word,
+            RowId::Dmatxctl => self.settings.dmatxctl = word,
+            RowId::Rxcsum => self.settings.rxcsum = word,
+            RowId::Fctrl => self.settings.fctrl = word,
+            RowId::Mcstctrl => self.settings.mcstctrl = word,
+            RowId::VtCtl => self.settings.vt_ctl = word,
+            RowId::Vfre => self.tables.vfre[at] = word,
+            RowId::Vfte => self.tables.vfte[at] = word,
+            RowId::Mta => self.tables.mta[at] = word,
+            RowId::Ral => self.tables.ral[at] = word,
+            RowId::Rah => self.tables.rah[at] = word,
+            RowId::Mrqc => self.settings.mrqc = word,
+            RowId::Reta => self.tables.reta[at] = word,
+            RowId::Rssrk => self.tables.rssrk[at] = word,
+            RowId::Tdbal => self.transmit[at].base_low = word,
+            RowId::Tdbah => self.transmit[at].base_high = word,
+            RowId::Tdlen => self.transmit[at].length = word,
+            RowId::Tdh => self.transmit[at].head = word,
+            RowId::Tdt => self.transmit[at].tail = word,
+            RowId::Txdctl => self.transmit[at].enable = word,
+            RowId::Tdwbal => self.transmit[at].writeback_low = word,
+            RowId::Tdwbah => self.transmit[at].writeback_high = word,
+            RowId::Qptc => self.counters.qptc[at] = word,
+            RowId::Mtqc => self.settings.mtqc = word,
+            RowId::Tqsm => self.tables.tqsm[at] = word,
+            RowId::Mpsar => self.tables.mpsar[at] = word,
+            RowId::Psrtype => self.tables.psrtype[at] = word,
+            RowId::GcrExt => self.settings.gcr_ext = word,
+            RowId::Pvtivar => self.tables.pvtivar[at] = word,
+            RowId::Status
+            | RowId::Eicr
+            | RowId::Eics
+            | RowId::Eims
+            | RowId::Eimc
+            | RowId::Pvteicr
+            | RowId::Pvteics
+            | RowId::Pvteims
+            | RowId::Pvteimc
+            | RowId::Links => {}
         }
     }
-}
-
-/// Gives each index of each row its reset value. Where every place is there already it takes no memory.
-fn fill_rows(words: &mut BTreeMap<Place, u32>) -> Result<(), AllocError>
-    ensures filled { OnOk result (HasResetRows (get ⟦<Place as Ord>⟧.cmp words.new) (length rows)) }
-    ensures there { HasPlaces (get ⟦<Place as Ord>⟧.cmp words.old) → IsOk result }
-{
-    for row in all_rows() {
-        fill(words, *row)?;
-    }
-    Ok(())
-}
-
-/// Gives each index of a row its reset value. Where every place is there already it takes no memory.
-fn fill(words: &mut BTreeMap<Place, u32>, row: RowId) -> Result<(), AllocError>
-    ensures filled { OnOk result (HasResetWords (get ⟦<Place as Ord>⟧.cmp words.new) row (row_of row).count) }
-    ensures kept { OnOk result (KeepsOtherRows (get ⟦<Place as Ord>⟧.cmp words.old) (get ⟦<Place as Ord>⟧.cmp words.new) row) }
-    ensures there { HasPlaces (get ⟦<Place as Ord>⟧.cmp words.old) → IsOk result }
-{
-    let word = reset_of(row);
-    for index in 0..count_of(row) {
-        words.insert(Place { row, index }, word)?;
-    }
-    Ok(())
 }

@@ -64,7 +64,7 @@ fn hash_of(registers: &RegisterFile, input: &Input) -> u32
     if bytes.is_empty() {
         return 0;
     }
-    hash(&Key::from_words(&registers.column(RowId::Rssrk)), bytes)
+    hash(&Key::from_words(registers.hash_key()), bytes)
 }
 
 /// The entry of RETA that a hash selects, and 0 for a frame of type 0.
@@ -75,7 +75,7 @@ fn entry_at(registers: &RegisterFile, rss: u8, hash: u32) -> u8
     if rss == 0 {
         return 0;
     }
-    entry(&registers.column(RowId::Reta), hash)
+    entry(registers.redirection(), hash)
 }
 
 /// The hash that descriptors tell.

@@ -1,0 +1,90 @@
+-- How the registers are laid out: which field holds which row.
+use Rattle.std.specs.Prelude.{[], ◌∷◌, map, replicate}
+use Rattle.register_file.specs.Words.{Words}
+use Rattle.register_file.specs.Registers.{Registers}
+use Rattle.register_file.specs.declared.register_file.RegisterFile.TheInside.{Inside}
+
+-- the words of each row, in the table's order. Rows that only act, or are calculated, hold the word 0.
+abbrev pub rows_of : Inside → Words
+rows_of a =
+    (a.settings.ctrl ∷ []) ∷
+    (0 ∷ []) ∷
+    (a.settings.ctrl_ext ∷ []) ∷
+    (a.settings.ledctl ∷ []) ∷
+    (a.groups.pf.causes ∷ []) ∷
+    (0 ∷ []) ∷
+    (a.groups.pf.auto_clear ∷ []) ∷
+    a.tables.eitr ∷
+    (a.groups.pf.enabled ∷ []) ∷
+    (0 ∷ []) ∷
+    (a.groups.pf.auto_mask ∷ []) ∷
+    (a.settings.gpie ∷ []) ∷
+    a.tables.ivar ∷
+    (a.settings.ivar_misc ∷ []) ∷
+    map (λ g. g.causes) a.groups.vf ∷
+    replicate 64 0 ∷
+    map (λ g. g.enabled) a.groups.vf ∷
+    replicate 64 0 ∷
+    map (λ g. g.auto_clear) a.groups.vf ∷
+    map (λ g. g.auto_mask) a.groups.vf ∷
+    map (λ q. q.base_low) a.receive ∷
+    map (λ q. q.base_high) a.receive ∷
+    map (λ q. q.length) a.receive ∷
+    map (λ q. q.head) a.receive ∷
+    map (λ q. q.control) a.receive ∷
+    map (λ q. q.tail) a.receive ∷
+    map (λ q. q.enable) a.receive ∷
+    a.counters.qprc ∷
+    a.counters.qprdc ∷
+    a.tables.rqsmr ∷
+    (a.settings.rdrxctl ∷ []) ∷
+    (a.settings.rxctrl ∷ []) ∷
+    (a.counters.mpc ∷ []) ∷
+    (a.counters.gprc ∷ []) ∷
+    (a.counters.gptc ∷ []) ∷
+    (a.counters.ruc ∷ []) ∷
+    (a.counters.roc ∷ []) ∷
+    (a.settings.hlreg0 ∷ []) ∷
+    (a.settings.maxfrs ∷ []) ∷
+    (a.settings.autoc ∷ []) ∷
+    (0 ∷ []) ∷
+    (a.settings.dmatxctl ∷ []) ∷
+    (a.settings.rxcsum ∷ []) ∷
+    (a.settings.fctrl ∷ []) ∷
+    (a.settings.mcstctrl ∷ []) ∷
+    (a.settings.vt_ctl ∷ []) ∷
+    a.tables.vfre ∷
+    a.tables.vfte ∷
+    a.tables.mta ∷
+    a.tables.ral ∷
+    a.tables.rah ∷
+    (a.settings.mrqc ∷ []) ∷
+    a.tables.reta ∷
+    a.tables.rssrk ∷
+    map (λ q. q.base_low) a.transmit ∷
+    map (λ q. q.base_high) a.transmit ∷
+    map (λ q. q.length) a.transmit ∷
+    map (λ q. q.head) a.transmit ∷
+    map (λ q. q.tail) a.transmit ∷
+    map (λ q. q.enable) a.transmit ∷
+    map (λ q. q.writeback_low) a.transmit ∷
+    map (λ q. q.writeback_high) a.transmit ∷
+    a.counters.qptc ∷
+    (a.settings.mtqc ∷ []) ∷
+    a.tables.tqsm ∷
+    a.tables.mpsar ∷
+    a.tables.psrtype ∷
+    (a.settings.gcr_ext ∷ []) ∷
+    a.tables.pvtivar ∷
+    []
+
+-- the registers that the fields hold
+abbrev pub registers_of : Inside → Registers
+registers_of a =
+    record {
+      words = rows_of a;
+      wanted_rx = map (λ q. q.wanted) a.receive;
+      wanted_tx = map (λ q. q.wanted) a.transmit;
+      told_pf = a.groups.pf.told;
+      told_vf = map (λ g. g.told) a.groups.vf;
+    }

@@ -1,0 +1,173 @@
+//! The interrupts of groups, in their registers.
+
+ghost use Rattle.std.specs.Prelude.{◌≡◌, ◌<◌};
+ghost use Rattle.intr_unit.specs.BitSet.{IsSubset};
+ghost use Rattle.intr_unit.specs.Group.{group_bits};
+ghost use Rattle.register_file.specs.Registers.{with_word};
+ghost use Rattle.register_file.specs.Groups.{index_of, auto_clear_row, auto_mask_row, clears_others, masks_by_message, auto_masks, vector_row, vector_entry, causes_raised, queue_raised, message_of, message_made};
+ghost use Rattle.register_file.specs.Access.{group_read, causes_written, masks_set, causes_set, masks_cleared};
+
+use crate::dir::Dir;
+use crate::register_file::RegisterFile;
+use intr_unit::Group;
+use reg_table::RowId;
+
+/// GPIE: a read of EICR clears the other causes alone.
+const OCD: u32 = 0x0000_0020;
+
+/// GPIE: the auto-mask is for messages, and not for accesses of the PF's registers.
+const EIAME: u32 = 0x4000_0000;
+
+/// IVAR and PVTIVAR: how many bits of a word say the cause of one side of a queue.
+const ENTRY_BITS: u32 = 8;
+
+/// IVAR and PVTIVAR: how many queues a word says the causes of, each with a byte for receive and then one for transmit.
+const QUEUES_IN_A_WORD: u16 = 2;
+
+impl RegisterFile {
+    /// The device raises causes of a group, those that are 1 in `bits`. The number of a virtual function is below 64.
+    pub fn raise(&mut self, group: Group, bits: u32)
+        requires { index_of group < 64 }
+        ensures { self.new ≡ causes_raised self.old group bits }
+    {
+        let _own = self.groups.of(group);
+        self.groups.raise(group, bits, false);
+    }
+
+    /// A side of a queue below `QUEUES` raises in a group the cause that its byte of IVAR, or in a virtual function's group
+    /// of PVTIVAR, names, if that is valid. The number of a virtual function is below 64.
+    pub fn raise_queue(&mut self, group: Group, dir: Dir, queue: u16)
+        requires queue { queue < 128 }
+        requires group { index_of group < 64 }
+        ensures { self.new ≡ queue_raised self.old group dir queue }
+    {
+        let causes = group.queue_causes(self.vector_entry(group, dir, queue));
+        self.raise(group, causes);
+    }
+
+    /// Makes a group's next message: answers its vector, 0 to 15, or None where no bit is due. The number of a virtual
+    /// function is below 64.
+    pub fn message(&mut self, group: Group) -> Option<u8>
+        requires { index_of group < 64 }
+        ensures vector { result ≡ message_of self.old group }
+        ensures state { self.new ≡ message_made self.old group }
+    {
+        let eiame = self.masks_by_message();
+        let misc = self.word(RowId::IvarMisc, 0);
+        let _own = self.groups.of(group);
+        self.groups.message(group, eiame, misc)
+    }
+
+    /// What a read of a group's causes leaves.
+    pub(crate) fn read_causes(&mut self, group: Group)
+        requires { index_of group < 64 }
+        ensures { self.new ≡ group_read self.old group }
+    {
+        let ocd = self.clears_others();
+        let auto = self.auto_masks(group);
+        let _own = self.groups.of(group);
+        self.groups.read(group, ocd, auto);
+    }
+
+    /// A write of a group's causes: those that are 1 in `bits` become 0.
+    pub(crate) fn write_causes(&mut self, group: Group, bits: u32)
+        requires { index_of group < 64 }
+        ensures { self.new ≡ causes_written self.old group bits }
+    {
+        let auto = self.auto_masks(group);
+        let _own = self.groups.of(group);
+        self.groups.write_one(group, bits, auto);
+    }
+
+    /// A write of a group's masks: those that are 1 in `bits` become 1.
+    pub(crate) fn set_masks(&mut self, group: Group, bits: u32)
+        requires { index_of group < 64 }
+        ensures { self.new ≡ masks_set self.old group bits }
+    {
+        let _own = self.groups.of(group);
+        self.groups.mask_set(group, bits);
+    }
+
+    /// A write of the register that sets a group's causes: those that are 1 in `bits` become 1.
+    pub(crate) fn set_causes(&mut self, group: Group, bits: u32)
+        requires { index_of group < 64 }
+        ensures { self.new ≡ causes_set self.old group bits }
+    {
+        let auto = self.auto_masks(group);
+        let _own = self.groups.of(group);
+        self.groups.raise(group, bits, auto);
+    }
+
+    /// A write of the register that clears a group's masks: those that are 1 in `bits` become 0.
+    pub(crate) fn clear_masks(&mut self, group: Group, bits: u32)
+        requires { index_of group < 64 }
+        ensures { self.new ≡ masks_cleared self.old group bits }
+    {
+        let _own = self.groups.of(group);
+        self.groups.mask_clear(group, bits);
+    }
+
+    /// Stores a word of the group's bits in its auto-clear register.
+    pub(crate) fn set_auto_clear(&mut self, group: Group, word: u32)
+        requires index { index_of group < 64 }
+        requires bits { IsSubset word (group_bits group) }
+        ensures { self.new ≡ with_word self.old (auto_clear_row group) (index_of group) word }
+    {
+        let _own = self.groups.of(group);
+        self.groups.set_auto_clear(group, word);
+    }
+
+    /// Stores a word of the group's bits in its auto-mask register.
+    pub(crate) fn set_auto_mask(&mut self, group: Group, word: u32)
+        requires index { index_of group < 64 }
+        requires bits { IsSubset word (group_bits group) }
+        ensures { self.new ≡ with_word self.old (auto_mask_row group) (index_of group) word }
+    {
+        let _own = self.groups.of(group);
+        self.groups.set_auto_mask(group, word);
+    }
+
+    /// Whether a read of EICR clears the other causes alone: GPIE bit 5 is 1.
+    fn clears_others(&self) -> bool
+        ensures { result ≡ clears_others self.now }
+    {
+        self.word(RowId::Gpie, 0) / OCD % 2 == 1
+    }
+
+    /// Whether the auto-mask is for messages: GPIE bit 30 is 1.
+    fn masks_by_message(&self) -> bool
+        ensures { result ≡ masks_by_message self.now }
+    {
+        self.word(RowId::Gpie, 0) / EIAME % 2 == 1
+    }
+
+    /// Whether the auto-mask of a group acts on accesses.
+    fn auto_masks(&self, group: Group) -> bool
+        ensures { result ≡ auto_masks self.now group }
+    {
+        group.auto_mask_acts(self.masks_by_message())
+    }
+
+    /// The byte of IVAR or PVTIVAR that says what a side of a queue below `QUEUES` raises in a group.
+    fn vector_entry(&self, group: Group, dir: Dir, queue: u16) -> u8
+        requires { queue < 128 }
+        ensures { result ≡ vector_entry self.now group dir queue }
+    {
+        let word = self.word(vector_row(group), queue / QUEUES_IN_A_WORD);
+        let receive = 2 * ENTRY_BITS * u32::from(queue % QUEUES_IN_A_WORD);
+        match dir {
+            Dir::Rx => ((word >> receive) % 256) as u8,
+            Dir::Tx => ((word >> (receive + ENTRY_BITS)) % 256) as u8,
+        }
+    }
+}
+
+/// The row whose bytes say what queues raise in a group.
+fn vector_row(group: Group) -> RowId
+    ensures { result ≡ vector_row group }
+{
+    match group {
+        Group::Pf => RowId::Ivar,
+        Group::Vf(_) => RowId::Pvtivar,
+    }
+}

@@ -1,8 +1,14 @@
 pub mod Bits
 pub mod Counting
+pub mod Footprints
+pub mod Owners
 pub mod Places
 pub mod Puts
+pub mod Settled
 pub mod Shape
 pub mod Sides
+pub mod Sound
 pub mod Standing
+pub mod Stands
 pub mod Volatile
+pub mod Within

@@ -64,20 +64,20 @@ module _ (r : Registers) (h : HasShape r) (s : Interrupts) (b : index_of s.group
   masked : Registers
   masked = with_word caused (mask_row s.group) (index_of s.group) s.enabled
 
-  causes_there : word_of (with_interrupts r s) (cause_row s.group) (index_of s.group) ≡ s.causes
+  pub causes_there : word_of (with_interrupts r s) (cause_row s.group) (index_of s.group) ≡ s.causes
   unfolding caused masked
   causes_there =
       ap (λ ws. word_at ws (place (cause_row s.group) (index_of s.group))) (words-with_told masked s.group s.told)
       ∙ word_at-put_other caused.words (place (mask_row s.group) (index_of s.group)) (place (cause_row s.group) (index_of s.group)) s.enabled (cause_not_mask s.group)
       ∙ put_stands r (place (cause_row s.group) (index_of s.group)) s.causes h (cause_index s.group b)
 
-  enabled_there : word_of (with_interrupts r s) (mask_row s.group) (index_of s.group) ≡ s.enabled
+  pub enabled_there : word_of (with_interrupts r s) (mask_row s.group) (index_of s.group) ≡ s.enabled
   unfolding caused masked
   enabled_there =
       ap (λ ws. word_at ws (place (mask_row s.group) (index_of s.group))) (words-with_told masked s.group s.told)
       ∙ put_stands caused (place (mask_row s.group) (index_of s.group)) s.enabled (HasShape-put r (place (cause_row s.group) (index_of s.group)) s.causes h) (mask_index s.group b)
 
-  told_there : told_by (with_interrupts r s) s.group ≡ s.told
+  pub told_there : told_by (with_interrupts r s) s.group ≡ s.told
   unfolding caused masked
   told_there = told_by-with_told masked s.group s.told h.told_vf b
 

@@ -80,7 +80,7 @@ pub words-with_told : (r : Registers) (g : Group) (told : ℕ) → (with_told r 
 words-with_told r Pf told = refl
 words-with_told r (Vf v) told = refl
 
-is_wanted-with_told : (r : Registers) (g : Group) (told : ℕ) (dir : Dir) (queue : ℕ) → is_wanted (with_told r g told) dir queue ≡ is_wanted r dir queue
+pub is_wanted-with_told : (r : Registers) (g : Group) (told : ℕ) (dir : Dir) (queue : ℕ) → is_wanted (with_told r g told) dir queue ≡ is_wanted r dir queue
 is_wanted-with_told r Pf told Rx queue = refl
 is_wanted-with_told r Pf told Tx queue = refl
 is_wanted-with_told r (Vf v) told Rx queue = refl

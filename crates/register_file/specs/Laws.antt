@@ -13,21 +13,18 @@ use Rattle.register_file.specs.Access.{read_word, after_read, written}
 use Rattle.register_file.specs.Bits.{merged, has_bit}
 use Rattle.register_file.specs.Columns.{place}
 use Rattle.register_file.specs.Counters.{counted}
-use Rattle.register_file.specs.Groups.{index_of, interrupts_of, with_interrupts, causes_raised, message_made}
+use Rattle.register_file.specs.Footprint.{Footprint, ChangesWithin, Covers, Misses, the_word, the_enable, of_owner, of_side, of_group, pending, of_read, of_write}
+use Rattle.register_file.specs.Groups.{index_of, interrupts_of, with_interrupts, causes_raised, queue_raised, message_made}
+use Rattle.register_file.specs.Owner.{owner_of, is_owner}
 use Rattle.register_file.specs.Queue.{ring_of, is_on, base_low_row, base_high_row, length_row, head_row, enable_row, with_head, switched, shut}
 use Rattle.register_file.specs.Registers.{Registers, reset_registers, is_wanted}
+use Rattle.register_file.specs.Sound.{AreSound}
+pub use Rattle.register_file.specs.Sound.{HasShape}
 use Rattle.register_file.specs.Sides.{receive_queue_of, transmit_queue_of}
 use Rattle.register_file.specs.Words.{row_words, word_at}
 use Rattle.register_file.specs.declared.dir.Dir.{Dir}
 use Rattle.register_file.specs.declared.dir.Dir.TheVariants.{Rx, Tx}
-
--- the registers have each place of the table, what is wanted of each queue, and what is told of each virtual function
-pub record HasShape (r : Registers) : Type 0 where
-  pub has_rows : length r.words ≡ length rows
-  pub has_indices : (row : RowId) → length (row_words r.words row) ≡ (row_of row).count
-  pub wanted_rx : length r.wanted_rx ≡ 128
-  pub wanted_tx : length r.wanted_tx ≡ 128
-  pub told_vf : length r.told_vf ≡ 64
+use Rattle.register_file.specs.declared.owner.Owner.{Owner}
 
 -- the registers after a write of a place
 abbrev pub after_write : Registers → Place → ℕ → ℕ → Registers
@@ -260,3 +257,102 @@ InterruptsStand =
       auto_clear = (interrupts_of r s.group).auto_clear;
       auto_mask = (interrupts_of r s.group).auto_mask;
     }
+
+-- what each operation changes is in its footprint
+abbrev pub ReadStaysWithin : Type 0
+ReadStaysWithin = (r : Registers) (p : Place) → ChangesWithin (of_read p) r (after_read (row_of p.row).kind r p)
+
+abbrev pub WriteStaysWithin : Type 0
+WriteStaysWithin =
+    (r : Registers) (p : Place) (view word : ℕ) → ChangesWithin (of_write p) r (after_write r p view word)
+
+abbrev pub CountStaysWithin : Type 0
+CountStaysWithin =
+    (r : Registers) (row : RowId) (index : ℕ) → ChangesWithin (the_word (place row index)) r (counted r row index)
+
+abbrev pub RaiseStaysWithin : Type 0
+RaiseStaysWithin = (r : Registers) (g : Group) (bits : ℕ) → ChangesWithin (pending g) r (causes_raised r g bits)
+
+abbrev pub QueueRaiseStaysWithin : Type 0
+QueueRaiseStaysWithin =
+    (r : Registers) (g : Group) (dir : Dir) (queue : ℕ) → ChangesWithin (pending g) r (queue_raised r g dir queue)
+
+abbrev pub MessageStaysWithin : Type 0
+MessageStaysWithin = (r : Registers) (g : Group) → ChangesWithin (pending g) r (message_made r g)
+
+abbrev pub HeadStaysWithin : Type 0
+HeadStaysWithin =
+    (r : Registers) (dir : Dir) (queue head : ℕ) →
+    ChangesWithin (the_word (place (head_row dir) queue)) r (with_head r dir queue head)
+
+abbrev pub SwitchStaysWithin : Type 0
+SwitchStaysWithin =
+    (r : Registers) (dir : Dir) (queue : ℕ) →
+    ChangesWithin (the_word (place (enable_row dir) queue)) r (switched r dir queue)
+
+abbrev pub ShutStaysWithin : Type 0
+ShutStaysWithin =
+    (r : Registers) (dir : Dir) (queue : ℕ) →
+    ChangesWithin (the_enable (place (enable_row dir) queue)) r (shut r dir queue)
+
+-- what an access of a place may change is its owner's, and two owners have nothing in common
+abbrev pub ReadStaysWithOwner : Type 0
+ReadStaysWithOwner = (p : Place) → Covers (of_owner (owner_of p)) (of_read p)
+
+abbrev pub WriteStaysWithOwner : Type 0
+WriteStaysWithOwner = (p : Place) → Covers (of_owner (owner_of p)) (of_write p)
+
+abbrev pub OwnersAreApart : Type 0
+OwnersAreApart = (o other : Owner) → IsFalse (is_owner o other) → Misses (of_owner o) (of_owner other)
+
+-- what a footprint has nothing of is as it was
+abbrev pub MissedReceiveStands : Type 0
+MissedReceiveStands =
+    (f : Footprint) (old new : Registers) (queue : ℕ) → Misses f (of_side Rx queue) → ChangesWithin f old new →
+    receive_queue_of new queue ≡ receive_queue_of old queue
+
+abbrev pub MissedTransmitStands : Type 0
+MissedTransmitStands =
+    (f : Footprint) (old new : Registers) (queue : ℕ) → Misses f (of_side Tx queue) → ChangesWithin f old new →
+    transmit_queue_of new queue ≡ transmit_queue_of old queue
+
+abbrev pub MissedInterruptsStand : Type 0
+MissedInterruptsStand =
+    (f : Footprint) (old new : Registers) (g : Group) → Misses f (of_group g) → ChangesWithin f old new →
+    interrupts_of new g ≡ interrupts_of old g
+
+-- registers are sound after a reset, and stay so
+abbrev pub ResetIsSound : Type 0
+ResetIsSound = AreSound reset_registers
+
+abbrev pub ReadKeepsSound : Type 0
+ReadKeepsSound = (r : Registers) → AreSound r → (p : Place) → AreSound (after_read (row_of p.row).kind r p)
+
+abbrev pub WriteKeepsSound : Type 0
+WriteKeepsSound =
+    (r : Registers) → AreSound r → (p : Place) (view word : ℕ) → word < 2 ^ 32 → AreSound (after_write r p view word)
+
+abbrev pub CountKeepsSound : Type 0
+CountKeepsSound =
+    (r : Registers) → AreSound r → (row : RowId) (index : ℕ) → (row_of row).kind ≡ kind.Rc →
+    AreSound (counted r row index)
+
+abbrev pub RaiseKeepsSound : Type 0
+RaiseKeepsSound = (r : Registers) → AreSound r → (g : Group) (bits : ℕ) → AreSound (causes_raised r g bits)
+
+abbrev pub QueueRaiseKeepsSound : Type 0
+QueueRaiseKeepsSound =
+    (r : Registers) → AreSound r → (g : Group) (dir : Dir) (queue : ℕ) → AreSound (queue_raised r g dir queue)
+
+abbrev pub MessageKeepsSound : Type 0
+MessageKeepsSound = (r : Registers) → AreSound r → (g : Group) → AreSound (message_made r g)
+
+abbrev pub HeadKeepsSound : Type 0
+HeadKeepsSound =
+    (r : Registers) → AreSound r → (dir : Dir) (queue head : ℕ) → head < 2 ^ 16 → AreSound (with_head r dir queue head)
+
+abbrev pub SwitchKeepsSound : Type 0
+SwitchKeepsSound = (r : Registers) → AreSound r → (dir : Dir) (queue : ℕ) → AreSound (switched r dir queue)
+
+abbrev pub ShutKeepsSound : Type 0
+ShutKeepsSound = (r : Registers) → AreSound r → (dir : Dir) (queue : ℕ) → AreSound (shut r dir queue)

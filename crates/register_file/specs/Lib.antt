@@ -3,10 +3,13 @@ pub mod Bits
 pub mod Columns
 pub mod Counters
 pub mod Filled
+pub mod Footprint
 pub mod Groups
 pub mod Laws
+pub mod Owner
 pub mod Queue
 pub mod Registers
 pub mod Settings
 pub mod Sides
+pub mod Sound
 pub mod Words

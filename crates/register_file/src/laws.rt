@@ -1,6 +1,6 @@
 //! What the registers promise as a whole. Each law is the contract of a function that does nothing.
 
-ghost use Rattle.register_file.specs.Laws.{ResetHasShape, WriteKeepsShape, ReadKeepsShape, CountKeepsShape, RaiseKeepsShape, MessageKeepsShape, HeadKeepsShape, SwitchKeepsShape, ShutKeepsShape, ResetGivesResetValues, ResetSwitchesOff, StoredWordReadsBack, WriteLeavesOtherWords, WriteLeavesOtherReceiveQueues, WriteLeavesOtherTransmitQueues, HeadLeavesTheRest, SwitchLeavesTheRest, ShutLeavesTheRest, HeadMovesReceive, HeadMovesTransmit, SwitchObeysReceive, SwitchObeysTransmit, ShutIsOffReceive, ShutIsOffTransmit, RingIsHeldWhileOn, EnableWriteAsksReceive, EnableWriteAsksTransmit, CountersCount, ReadLeavesTheRest, CountLeavesTheRest, RaiseLeavesTheRest, MessageLeavesTheRest, InterruptWriteLeavesTheRest, InterruptsStand};
+ghost use Rattle.register_file.specs.Laws.{ResetHasShape, WriteKeepsShape, ReadKeepsShape, CountKeepsShape, RaiseKeepsShape, MessageKeepsShape, HeadKeepsShape, SwitchKeepsShape, ShutKeepsShape, ResetGivesResetValues, ResetSwitchesOff, StoredWordReadsBack, WriteLeavesOtherWords, WriteLeavesOtherReceiveQueues, WriteLeavesOtherTransmitQueues, HeadLeavesTheRest, SwitchLeavesTheRest, ShutLeavesTheRest, HeadMovesReceive, HeadMovesTransmit, SwitchObeysReceive, SwitchObeysTransmit, ShutIsOffReceive, ShutIsOffTransmit, RingIsHeldWhileOn, EnableWriteAsksReceive, EnableWriteAsksTransmit, CountersCount, ReadLeavesTheRest, CountLeavesTheRest, RaiseLeavesTheRest, MessageLeavesTheRest, InterruptWriteLeavesTheRest, InterruptsStand, ReadStaysWithin, WriteStaysWithin, CountStaysWithin, RaiseStaysWithin, QueueRaiseStaysWithin, MessageStaysWithin, HeadStaysWithin, SwitchStaysWithin, ShutStaysWithin, ReadStaysWithOwner, WriteStaysWithOwner, OwnersAreApart, MissedReceiveStands, MissedTransmitStands, MissedInterruptsStand, ResetIsSound, ReadKeepsSound, WriteKeepsSound, CountKeepsSound, RaiseKeepsSound, QueueRaiseKeepsSound, MessageKeepsSound, HeadKeepsSound, SwitchKeepsSound, ShutKeepsSound};
 
 /// The registers have each place of the table after a reset, and keep it through every change.
 pub fn shape_is_kept()
@@ -92,4 +92,48 @@ pub fn volatile_words_apart_nothing_changes()
 /// auto-clear and the auto-mask that it had.
 pub fn interrupts_stand()
     ensures { InterruptsStand }
+{}
+
+/// What an operation changes is in its footprint: of a read and a write that of its place, of a count and of a moved
+/// head the one word, of raised causes and of a message what is pending of the group, of a switch the enable word, and
+/// of a fault the enable word and whether the side is wanted on.
+pub fn changes_stay_in_their_footprint()
+    ensures read { ReadStaysWithin }
+    ensures write { WriteStaysWithin }
+    ensures count { CountStaysWithin }
+    ensures raise { RaiseStaysWithin }
+    ensures queue_raise { QueueRaiseStaysWithin }
+    ensures message { MessageStaysWithin }
+    ensures head { HeadStaysWithin }
+    ensures switch { SwitchStaysWithin }
+    ensures shut { ShutStaysWithin }
+{}
+
+/// What is of a place is its owner's: an access changes nothing of another owner.
+pub fn accesses_stay_with_their_owner()
+    ensures read { ReadStaysWithOwner }
+    ensures write { WriteStaysWithOwner }
+    ensures apart { OwnersAreApart }
+{}
+
+/// A side of a queue, and a group's interrupts, stand through each change within a footprint that has nothing of them.
+pub fn what_a_footprint_misses_stands()
+    ensures receive { MissedReceiveStands }
+    ensures transmit { MissedTransmitStands }
+    ensures interrupts { MissedInterruptsStand }
+{}
+
+/// Registers are sound after a reset and through every change: they have each place of the table, words of 32 bits, and
+/// told bits only where cause and mask are 1.
+pub fn soundness_is_kept()
+    ensures reset { ResetIsSound }
+    ensures read { ReadKeepsSound }
+    ensures write { WriteKeepsSound }
+    ensures count { CountKeepsSound }
+    ensures raise { RaiseKeepsSound }
+    ensures queue_raise { QueueRaiseKeepsSound }
+    ensures message { MessageKeepsSound }
+    ensures head { HeadKeepsSound }
+    ensures switch { SwitchKeepsSound }
+    ensures shut { ShutKeepsSound }
 {}

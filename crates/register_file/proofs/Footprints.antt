@@ -1,6 +1,6 @@
 -- Changes within footprints.
-use Rattle.std.proofs.Common.{◌≡◌, ℕ, Bool, true, false, cond, refl, ap, sym, ◌∙◌, subst, inl, inr}
-use Rattle.std.proofs.lemmas.Bool.{both_ways, cases_Bool, or_parts, or_cases, or_left, or_right}
+use Rattle.std.proofs.Common.{◌≡◌, Bool, true, false, cond, refl, ap, sym, ◌∙◌, subst, inl, inr}
+use Rattle.std.proofs.lemmas.Bool.{both_ways, or_parts, or_cases, or_left, or_right}
 use Rattle.reg_table.specs.Rows.{row_of}
 use Rattle.reg_table.specs.declared.place.Place.{Place}
 use Rattle.reg_table.specs.declared.kind.Kind.{Kind}
@@ -14,7 +14,7 @@ use Rattle.register_file.specs.Owner.{owner_of, is_owner}
 use Rattle.register_file.specs.Registers.{Registers}
 use Rattle.register_file.specs.declared.owner.Owner.{Owner}
 use Rattle.register_file.specs.declared.owner.Owner.TheVariants as owner
-use Rattle.register_file.proofs.Owners.{apart, is_group-itself, is_owner-itself, is_owner-same, is_place-itself, is_place-same}
+use Rattle.register_file.proofs.Owners.{is_group-itself, is_owner-itself, is_owner-same, is_place-itself, is_place-same}
 
 -- what follows from a test that fails fails
 pub fails : (b c : Bool) → (b ≡ true → c ≡ true) → c ≡ false → b ≡ false

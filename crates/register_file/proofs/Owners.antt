@@ -1,5 +1,5 @@
 -- Places and owners that are the same.
-use Rattle.std.proofs.Common.{◌≡◌, ◌≢◌, ℕ, Bool, true, false, refl, ap, sym, ◌∙◌, subst}
+use Rattle.std.proofs.Common.{◌≡◌, ◌≢◌, Bool, true, false, refl, ap, ◌∙◌}
 use Rattle.std.proofs.lemmas.Bool.{both_ways, and_parts, and_from, eqb-true, eq-eqb}
 use Rattle.reg_table.specs.Rows.{number_of}
 use Rattle.reg_table.specs.declared.place.Place.{Place}

@@ -1,11 +1,11 @@
 -- What accesses of a group make of its interrupts are words of 32 bits, and consistent.
-use Rattle.std.proofs.Common.{ℕ, ◌<◌, ◌^◌, Bool, true, false, Option, Some, None}
-use Rattle.intr_unit.specs.BitSet.{BitSet, union, intersection, difference, when, only, IsSubset}
-use Rattle.intr_unit.specs.Group.{group_bits, bits_cleared_by_read}
-use Rattle.intr_unit.specs.Interrupts.{Interrupts, IsConsistent, of_words, settled, auto_masked, raised, after_read, after_write_one, after_mask_set, after_mask_clear, after_telling, after_message_of, after_message, next_bit}
+use Rattle.std.proofs.Common.{ℕ, ◌<◌, ◌^◌, Bool, Option, Some, None}
+use Rattle.intr_unit.specs.BitSet.{BitSet, union, intersection, difference, only, IsSubset}
+use Rattle.intr_unit.specs.Group.{group_bits}
+use Rattle.intr_unit.specs.Interrupts.{Interrupts, IsConsistent, of_words, settled, auto_masked, raised, after_read, after_write_one, after_mask_set, after_mask_clear, after_message_of}
 use Rattle.intr_unit.specs.declared.group.Group.{Group}
 use Rattle.intr_unit.proofs.SetLaws.{bits_where-lt}
-use Rattle.intr_unit.proofs.Subsets.{IsSubset-itself, IsSubset-union, IsSubset-intersection_left, IsSubset-intersection_right, IsSubset-difference, IsSubset-when}
+use Rattle.intr_unit.proofs.Subsets.{IsSubset-itself, IsSubset-union, IsSubset-intersection_right, IsSubset-difference, IsSubset-when}
 
 -- what can be put into a group's registers
 pub record IsSettled (s : Interrupts) : Type 0 where
@@ -93,11 +93,8 @@ module _ (s : Interrupts) (is : IsSettled s) where
       settle s _ _ s.told is.consistent is.consistent.causes_exist (fewer s.enabled set is.consistent.masks_exist)
       is.causes (difference-lt _ _)
 
-  settled-after_message_of : (eiame : Bool) (next : Option ℕ) → IsSettled (after_message_of s eiame next)
+  pub settled-after_message_of : (eiame : Bool) (next : Option ℕ) → IsSettled (after_message_of s eiame next)
   settled-after_message_of eiame None = is
   settled-after_message_of eiame (Some bit) =
       settle s _ _ (union s.told (only bit)) is.consistent (fewer s.causes _ is.consistent.causes_exist)
       (fewer s.enabled _ is.consistent.masks_exist) (difference-lt _ _) (difference-lt _ _)
-
-  pub settled-after_message : (eiame : Bool) (misc : ℕ) → IsSettled (after_message s eiame misc)
-  settled-after_message eiame misc = settled-after_message_of eiame (next_bit s misc)

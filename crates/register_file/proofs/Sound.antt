@@ -1,9 +1,10 @@
 -- Registers stay sound.
-use Rattle.std.proofs.Common.{◌≡◌, ◌≢◌, ℕ, ◌+◌, ◌-◌, ◌*◌, ◌/◌, ◌%◌, ◌<◌, ◌≤◌, ◌^◌, Bool, true, false, cond, refl, ap, sym, ◌∙◌, subst, inl, inr, arith, lit<}
-use Rattle.std.specs.Prelude.{is_some, bit_and, replicate}
-use Rattle.std.proofs.lemmas.Bool.{both_ways, cases_Bool, cases_lt, eqb-false, eqb-true}
+use Rattle.std.proofs.Common.{◌≡◌, ℕ, ◌+◌, ◌-◌, ◌/◌, ◌%◌, ◌<◌, ◌^◌, Bool, true, false, cond, refl, ap, sym, ◌∙◌, subst, inl, inr, arith, lit<}
+use Rattle.std.specs.Prelude.{Option, Some, None, bit_and}
+use Rattle.std.specs.Option.{option_map_or}
+use Rattle.std.proofs.lemmas.Bool.{cases_Bool, cases_lt, eqb-false}
 use Rattle.std.proofs.lemmas.Bool.Decides.{nat_tests}
-use Rattle.std.proofs.lemmas.List.{get_or_past, get_or-replicate, length-replicate}
+use Rattle.std.proofs.lemmas.List.{get_or_past, get_or-replicate}
 use Rattle.std.proofs.lemmas.Nat.{and_le_l, or_lt}
 use Rattle.reg_table.specs.Counter.{bumped}
 use Rattle.reg_table.specs.Rows.{row_of}
@@ -17,29 +18,30 @@ use Rattle.intr_unit.specs.Interrupts.{Interrupts}
 use Rattle.intr_unit.specs.declared.group.Group.{Group}
 use Rattle.intr_unit.specs.declared.group.Group.TheVariants.{Pf, Vf}
 use Rattle.intr_unit.proofs.Subsets.{IsSubset-no_bits}
-use Rattle.register_file.specs.Access.{after_read, written, stored, side_of}
+use Rattle.register_file.specs.Access.{after_read, written, stored, group_in, group_read, is_running, asked}
 use Rattle.register_file.specs.Bits.{has_bit, bit_set, bit_cleared, merged}
 use Rattle.register_file.specs.Columns.{place}
 use Rattle.register_file.specs.Counters.{counted}
 use Rattle.register_file.specs.Footprint.{Footprint, ChangesWithin, Misses, is_place, is_pending, nothing, the_word, of_group, pending, any_pending}
-use Rattle.register_file.specs.Groups.{cause_row, mask_row, auto_clear_row, auto_mask_row, index_of, group_at, told_by, interrupts_of, with_interrupts, clears_others, masks_by_message, auto_masks, message_of, message_made, causes_raised, queue_raised}
+use Rattle.register_file.specs.Groups.{cause_row, mask_row, index_of, told_by, with_interrupts, message_made, causes_raised, queue_raised}
 use Rattle.register_file.specs.Laws.{HasShape, after_write}
-use Rattle.register_file.specs.Owner.{is_group}
-use Rattle.register_file.specs.Queue.{is_on, head_row, enable_row, with_head, switched, switched_on, switched_off, shut}
-use Rattle.register_file.specs.Registers.{Registers, reset_registers, word_of, with_word, is_wanted, with_wanted}
+use Rattle.register_file.specs.Owner.{owner_of, is_group}
+use Rattle.register_file.specs.Queue.{head_row, enable_row, with_head, switched, switched_on, switched_off, shut}
+use Rattle.register_file.specs.Registers.{Registers, reset_registers, is_wanted, with_wanted}
 use Rattle.register_file.specs.Sound.{AreSound, pending_bits}
 use Rattle.register_file.specs.Words.{word_at, put, row_words, reset_words}
 use Rattle.register_file.specs.declared.dir.Dir.{Dir}
 use Rattle.register_file.specs.declared.dir.Dir.TheVariants.{Rx, Tx}
+use Rattle.register_file.specs.declared.owner.Owner.{Owner}
 use Rattle.register_file.specs.declared.owner.Owner.TheVariants as owner
-use Rattle.register_file.proofs.Footprints.{fails, misses-narrower, misses-within, misses-owner, covers-pending, covers-any_pending, cause_is_pending, mask_is_pending, cause_pending, mask_pending}
+use Rattle.register_file.proofs.Fields.{words-with_wanted, words-with_told}
+use Rattle.register_file.proofs.Footprints.{fails, misses-narrower, misses-within, misses-owner, covers-pending, covers-any_pending, cause_is_pending, mask_is_pending}
+use Rattle.register_file.proofs.GroupChanges.{GroupChange, kept, changed, change-group_read, change-interrupts_written, change-causes_raised, change-message_made}
 use Rattle.register_file.proofs.Owners.{apart, is_group-itself, is_group-same, is_place-itself, is_place-same}
-use Rattle.register_file.proofs.Puts.{word_at-put_other, word_at-reset, row_words-reset}
-use Rattle.register_file.proofs.Settled.{IsSettled, settled-of_words, settled-raised, settled-after_read, settled-after_write_one, settled-after_mask_set, settled-after_mask_clear, settled-after_message}
+use Rattle.register_file.proofs.Puts.{word_at-put_other, word_at-reset}
+use Rattle.register_file.proofs.Settled.{IsSettled}
 use Rattle.register_file.proofs.Shape.{put_stands, HasShape-reset, HasShape-put, HasShape-with_wanted, HasShape-with_interrupts}
-use Rattle.register_file.proofs.Sides.{words-with_wanted}
 use Rattle.register_file.proofs.Standing.{causes_there, enabled_there, told_there}
-use Rattle.register_file.proofs.Volatile.{words-with_told, made_by_read, made_by_write, made_by_raise, made_by_message}
 use Rattle.register_file.proofs.Within.{within-put, within-with_wanted, within-with_interrupts}
 
 -- words of 32 bits
@@ -160,34 +162,37 @@ sound-if : (b : Bool) (r s : Registers) → AreSound r → AreSound s → AreSou
 sound-if true r s sound other = sound
 sound-if false r s sound other = other
 
-settled : (r : Registers) (g : Group) → IsSettled (interrupts_of r g)
-settled r g =
-    settled-of_words g (word_of r (cause_row g) (index_of g)) (word_of r (mask_row g) (index_of g))
-    (word_of r (auto_clear_row g) (index_of g)) (word_of r (auto_mask_row g) (index_of g)) (told_by r g)
+sound-change : (r : Registers) (g : Group) (s : Registers) → AreSound r → GroupChange r g s → AreSound s
+sound-change r g s sound kept = sound
+sound-change r g s sound (changed made same is) = sound-with_interrupts r made sound is
 
 pub sound-causes_raised : (r : Registers) (g : Group) (bits : ℕ) → AreSound r → AreSound (causes_raised r g bits)
-sound-causes_raised r g bits sound =
-    sound-with_interrupts r (made_by_raise r g bits) sound (settled-raised (interrupts_of r g) (settled r g) bits false)
+sound-causes_raised r g bits sound = sound-change r g _ sound (change-causes_raised r g bits)
 
-pub sound-queue_raised : (r : Registers) (g : Group) (dir : Dir) (queue : ℕ) → AreSound r → AreSound (queue_raised r g dir queue)
+pub sound-queue_raised : (r : Registers) (g : Group) (dir : Dir) (queue : ℕ) → AreSound r
+    → AreSound (queue_raised r g dir queue)
 sound-queue_raised r g dir queue sound = sound-causes_raised r g _ sound
 
 pub sound-message_made : (r : Registers) (g : Group) → AreSound r → AreSound (message_made r g)
-sound-message_made r g sound =
-    sound-if (is_some (message_of r g)) (with_interrupts r (made_by_message r g)) r
-    (sound-with_interrupts r (made_by_message r g) sound
-    (settled-after_message (interrupts_of r g) (settled r g) (masks_by_message r) (word_of r row.IvarMisc 0))) sound
+sound-message_made r g sound = sound-change r g _ sound (change-message_made r g)
 
 -- accesses
+sound_group : (r : Registers) (change : Group → Registers) → AreSound r → ((g : Group) → GroupChange r g (change g))
+    → (o : Option Group) → AreSound (option_map_or change o r)
+sound_group r change sound each None = sound
+sound_group r change sound each (Some g) = sound-change r g (change g) sound (each g)
+
 read_sound : (k : Kind) (r : Registers) (p : Place) → (row_of p.row).kind ≡ k → AreSound r → AreSound (after_read k r p)
 read_sound kind.Rc r p e sound = sound-put r p 0 sound (lit< tt) (ap is_pending e)
-read_sound kind.Cause r p e sound =
-    let g = group_at p.row p.index in
-    sound-with_interrupts r (made_by_read r p) sound (settled-after_read (interrupts_of r g) (settled r g) (clears_others r) (auto_masks r g))
+read_sound kind.Cause r p e sound = sound_group r (group_read r) sound (change-group_read r) (group_in (owner_of p))
 read_sound other r p e sound = sound
 
 pub sound-after_read : (r : Registers) (p : Place) → AreSound r → AreSound (after_read (row_of p.row).kind r p)
 sound-after_read r p sound = read_sound (row_of p.row).kind r p refl sound
+
+sound-asked : (r : Registers) (o : Owner) (wanted : Bool) → AreSound r → AreSound (asked r o wanted)
+sound-asked r (owner.Side dir queue) wanted sound = sound-with_wanted r dir queue wanted sound
+sound-asked r other wanted sound = sound
 
 sound-stored : (k : Kind) (r : Registers) (p : Place) (view word : ℕ) → (row_of p.row).kind ≡ k → is_pending k ≡ false
     → AreSound r → word < 2 ^ 32 → AreSound (stored r p view word)
@@ -195,36 +200,23 @@ sound-stored k r p view word e steady sound small =
     sound-put r p _ sound (merged-lt (bit_and (row_of p.row).mask view) (word_at r.words p) word (sound.words p) small)
     (ap is_pending e ∙ steady)
 
-written_sound : (k : Kind) (r : Registers) (p : Place) (view word : ℕ) → (row_of p.row).kind ≡ k → AreSound r → word < 2 ^ 32
-    → AreSound (written k r p view word)
+written_sound : (k : Kind) (r : Registers) (p : Place) (view word : ℕ) → (row_of p.row).kind ≡ k → AreSound r
+    → word < 2 ^ 32 → AreSound (written k r p view word)
 written_sound kind.Rw r p view word e sound small = sound-stored kind.Rw r p view word e refl sound small
 written_sound kind.Calc r p view word e sound small = sound
 written_sound kind.Rc r p view word e sound small = sound
-written_sound kind.Cause r p view word e sound small =
-    let g = group_at p.row p.index in
-    sound-with_interrupts r (made_by_write kind.Cause r p view word) sound
-    (settled-after_write_one (interrupts_of r g) (settled r g) (bit_and word view) (auto_masks r g))
-written_sound kind.Ones r p view word e sound small =
-    let g = group_at p.row p.index in
-    sound-with_interrupts r (made_by_write kind.Ones r p view word) sound
-    (settled-after_mask_set (interrupts_of r g) (settled r g) (bit_and word view))
-written_sound kind.Set r p view word e sound small =
-    let g = group_at p.row p.index in
-    sound-with_interrupts r (made_by_write kind.Set r p view word) sound
-    (settled-raised (interrupts_of r g) (settled r g) (bit_and word view) (auto_masks r g))
-written_sound kind.Clear r p view word e sound small =
-    let g = group_at p.row p.index in
-    sound-with_interrupts r (made_by_write kind.Clear r p view word) sound
-    (settled-after_mask_clear (interrupts_of r g) (settled r g) (bit_and word view))
 written_sound kind.Held r p view word e sound small =
-    sound-if (is_on r (side_of p.row) p.index) r (stored r p view word) sound
+    sound-if (is_running r (owner_of p)) r (stored r p view word) sound
     (sound-stored kind.Held r p view word e refl sound small)
 written_sound kind.Enable r p view word e sound small =
-    sound-with_wanted (stored r p view word) (side_of p.row) p.index (has_bit 25 word)
+    sound-asked (stored r p view word) (owner_of p) (has_bit 25 word)
     (sound-stored kind.Enable r p view word e refl sound small)
 written_sound kind.Ctrl r p view word e sound small = sound-stored kind.Ctrl r p view word e refl sound small
+written_sound k r p view word e sound small =
+    sound_group r _ sound (λ g. change-interrupts_written k r g (bit_and word view)) (group_in (owner_of p))
 
-pub sound-written : (r : Registers) (p : Place) (view word : ℕ) → AreSound r → word < 2 ^ 32 → AreSound (after_write r p view word)
+pub sound-written : (r : Registers) (p : Place) (view word : ℕ) → AreSound r → word < 2 ^ 32
+    → AreSound (after_write r p view word)
 sound-written r p view word sound small = written_sound (row_of p.row).kind r p view word refl sound small
 
 -- what the device counts and does to sides
@@ -273,7 +265,7 @@ word_at-reset-lt p =
           rw (get_or_past (row_words reset_words p.row) p.index 0 (omega arith)) (omega arith)
     ]
 
-none_told : (g : Group) → index_of g < 64 → told_by reset_registers g ≡ 0
+pub none_told : (g : Group) → index_of g < 64 → told_by reset_registers g ≡ 0
 none_told Pf b = refl
 none_told (Vf v) b = get_or-replicate 64 v 0 0 b
 

@@ -1,53 +1,36 @@
 -- What each operation changes.
-use Rattle.std.proofs.Common.{◌≡◌, ◌≢◌, ℕ, Bool, true, false, Option, Some, None, refl, ap, sym, ◌∙◌, subst}
-use Rattle.std.specs.Prelude.{is_some}
-use Rattle.std.proofs.lemmas.Bool.{both_ways, or_left, or_right, and_from, eq-eqb}
-use Rattle.std.proofs.lemmas.List.{get_or-set_other}
+use Rattle.std.proofs.Common.{◌≡◌, ℕ, Bool, true, false, refl, ap, sym, ◌∙◌, subst}
+use Rattle.std.specs.Prelude.{bit_and}
+use Rattle.std.specs.Option.{option_map_or}
+use Rattle.std.proofs.lemmas.Bool.{both_ways}
 use Rattle.reg_table.specs.Counter.{bumped}
 use Rattle.reg_table.specs.Rows.{row_of}
 use Rattle.reg_table.specs.declared.place.Place.{Place}
 use Rattle.reg_table.specs.declared.kind.Kind.{Kind}
 use Rattle.reg_table.specs.declared.kind.Kind.TheVariants as kind
 use Rattle.reg_table.specs.declared.rows.RowId.{RowId}
-use Rattle.reg_table.specs.declared.rows.RowId.TheVariants as row
-use Rattle.intr_unit.specs.Interrupts.{Interrupts, next_bit, after_message_of}
+use Rattle.intr_unit.specs.Interrupts.{Interrupts}
 use Rattle.intr_unit.specs.declared.group.Group.{Group}
-use Rattle.intr_unit.specs.declared.group.Group.TheVariants.{Pf, Vf}
-use Rattle.register_file.specs.Access.{after_read, written, stored, side_of}
-use Rattle.register_file.specs.Bits.{has_bit, bit_set, bit_cleared}
+use Rattle.register_file.specs.Access.{after_read, written, stored, group_in, group_read, group_written, is_running, asked}
+use Rattle.register_file.specs.Bits.{has_bit}
 use Rattle.register_file.specs.Columns.{place}
 use Rattle.register_file.specs.Counters.{counted}
-use Rattle.register_file.specs.Footprint.{Footprint, ChangesWithin, Covers, of_owner, the_word, the_enable, pending, pending_of, of_side, is_place, read_by, of_read, written_by, of_write}
-use Rattle.register_file.specs.Groups.{cause_row, mask_row, index_of, group_at, told_by, with_told, with_interrupts, interrupts_of, masks_by_message, message_of, message_made, causes_raised, queue_raised}
-use Rattle.register_file.specs.Laws.{after_write, is_of_interrupts}
-use Rattle.register_file.specs.Owner.{owner_in, owner_of, is_owner}
-use Rattle.register_file.specs.Queue.{is_on, head_row, enable_row, with_head, switched, switched_on, switched_off, shut}
+use Rattle.register_file.specs.Footprint.{Footprint, ChangesWithin, Covers, nothing, of_owner, the_word, the_enable, pending, pending_of, of_side, read_by, of_read, written_by, of_write}
+use Rattle.register_file.specs.Groups.{cause_row, mask_row, index_of, with_told, with_interrupts, message_made, causes_raised, queue_raised}
+use Rattle.register_file.specs.Laws.{after_write}
+use Rattle.register_file.specs.Owner.{owner_of, is_owner}
+use Rattle.register_file.specs.Queue.{head_row, enable_row, with_head, switched, switched_on, switched_off, shut}
 use Rattle.register_file.specs.Registers.{Registers, word_of, with_word, is_wanted, with_wanted}
 use Rattle.register_file.specs.Words.{word_at, put}
 use Rattle.register_file.specs.declared.dir.Dir.{Dir}
 use Rattle.register_file.specs.declared.dir.Dir.TheVariants.{Rx, Tx}
+use Rattle.register_file.specs.declared.owner.Owner.{Owner}
 use Rattle.register_file.specs.declared.owner.Owner.TheVariants as owner
+use Rattle.register_file.proofs.Fields.{is_wanted-put, told_by-put, words-with_wanted, is_wanted-with_wanted_other, told_by-with_wanted, words-with_told, is_wanted-with_told, told_by-with_told_other}
 use Rattle.register_file.proofs.Footprints.{within-refl, within-trans, within-wider, within-if, covers-the_enable, cause_is_pending, mask_is_pending}
+use Rattle.register_file.proofs.GroupChanges.{GroupChange, kept, changed, change-group_read, change-interrupts_written, change-causes_raised, change-message_made}
 use Rattle.register_file.proofs.Owners.{apart, is_group-itself, is_owner-itself, is_place-itself}
 use Rattle.register_file.proofs.Puts.{word_at-put_other}
-use Rattle.register_file.proofs.Sides.{words-with_wanted, is_wanted-with_wanted_other}
-use Rattle.register_file.proofs.Volatile.{words-with_told, is_wanted-with_told, made_by_read, made_by_write, made_by_raise, made_by_message}
-
-is_wanted-put : (r : Registers) (p : Place) (v : ℕ) (dir : Dir) (queue : ℕ)
-    → is_wanted (record r { words = put r.words p v }) dir queue ≡ is_wanted r dir queue
-is_wanted-put r p v Rx queue = refl
-is_wanted-put r p v Tx queue = refl
-
-told_by-put : (r : Registers) (p : Place) (v : ℕ) (g : Group) → told_by (record r { words = put r.words p v }) g ≡ told_by r g
-told_by-put r p v Pf = refl
-told_by-put r p v (Vf w) = refl
-
-told_by-with_wanted : (r : Registers) (dir : Dir) (queue : ℕ) (wanted : Bool) (g : Group)
-    → told_by (with_wanted r dir queue wanted) g ≡ told_by r g
-told_by-with_wanted r Rx queue wanted Pf = refl
-told_by-with_wanted r Rx queue wanted (Vf v) = refl
-told_by-with_wanted r Tx queue wanted Pf = refl
-told_by-with_wanted r Tx queue wanted (Vf v) = refl
 
 -- a word at one place, what is wanted of one side, and what is told of one group, each within what has it
 pub within-put : (f : Footprint) (r : Registers) (p : Place) (v : ℕ) → f.words p ≡ true
@@ -66,12 +49,6 @@ within-with_wanted f r dir queue wanted has = record {
       (λ e i. both_ways (f.wanted other number) n (sym (λ k. f.wanted (e k) (i k)) ∙ has));
   told = λ g n. told_by-with_wanted r dir queue wanted g;
 }
-
-told_by-with_told_other : (r : Registers) (g h : Group) (told : ℕ) → h ≢ g → told_by (with_told r g told) h ≡ told_by r h
-told_by-with_told_other r Pf Pf told n = absurd (n refl)
-told_by-with_told_other r Pf (Vf w) told n = refl
-told_by-with_told_other r (Vf v) Pf told n = refl
-told_by-with_told_other r (Vf v) (Vf w) told n = get_or-set_other r.told_vf v w told 0 (λ e. n (ap Vf e))
 
 pub within-with_told : (f : Footprint) (r : Registers) (g : Group) (told : ℕ) → f.told g ≡ true
     → ChangesWithin f r (with_told r g told)
@@ -98,77 +75,71 @@ within-with_interrupts r s =
     (within-put f caused mask s.enabled (mask_is_pending s.group)))
     (within-with_told f masked s.group s.told (is_group-itself s.group))
 
-pub within-causes_raised : (r : Registers) (g : Group) (bits : ℕ) → ChangesWithin (pending g) r (causes_raised r g bits)
-within-causes_raised r g bits = within-with_interrupts r (made_by_raise r g bits)
+pub within-change : (r : Registers) (g : Group) (s : Registers) → GroupChange r g s → ChangesWithin (pending g) r s
+within-change r g s kept = within-refl (pending g) r
+within-change r g s (changed made same is) =
+    subst (λ h. ChangesWithin (pending h) r (with_interrupts r made)) same (within-with_interrupts r made)
 
-pub within-queue_raised : (r : Registers) (g : Group) (dir : Dir) (queue : ℕ) → ChangesWithin (pending g) r (queue_raised r g dir queue)
+pub within-causes_raised : (r : Registers) (g : Group) (bits : ℕ) → ChangesWithin (pending g) r (causes_raised r g bits)
+within-causes_raised r g bits = within-change r g _ (change-causes_raised r g bits)
+
+pub within-queue_raised : (r : Registers) (g : Group) (dir : Dir) (queue : ℕ)
+    → ChangesWithin (pending g) r (queue_raised r g dir queue)
 within-queue_raised r g dir queue = within-causes_raised r g _
 
-group_told : (s : Interrupts) (eiame : Bool) (o : Option ℕ) → (after_message_of s eiame o).group ≡ s.group
-group_told s eiame None = refl
-group_told s eiame (Some bit) = refl
-
 pub within-message_made : (r : Registers) (g : Group) → ChangesWithin (pending g) r (message_made r g)
-within-message_made r g =
-    let made : Interrupts = made_by_message r g in
-    let same : made.group ≡ g = group_told (interrupts_of r g) (masks_by_message r) (next_bit (interrupts_of r g) (word_of r row.IvarMisc 0)) in
-    within-if (pending g) (is_some (message_of r g)) r (with_interrupts r made) r
-    (subst (λ h. ChangesWithin (pending h) r (with_interrupts r made)) same (within-with_interrupts r made))
-    (within-refl (pending g) r)
+within-message_made r g = within-change r g _ (change-message_made r g)
 
 -- accesses
-group_owned : (row : RowId) (index : ℕ) → is_of_interrupts (row_of row).kind ≡ true
-    → owner_in (row_of row).bank index ≡ owner.Group (group_at row index)
-group_owned row.Eicr index e = refl
-group_owned row.Eics index e = refl
-group_owned row.Eims index e = refl
-group_owned row.Eimc index e = refl
-group_owned row.Pvteicr index e = refl
-group_owned row.Pvteics index e = refl
-group_owned row.Pvteims index e = refl
-group_owned row.Pvteimc index e = refl
-group_owned other index e = cc
+within_group : (r : Registers) (change : Group → Registers) → ((g : Group) → GroupChange r g (change g))
+    → (o : Owner) → ChangesWithin (pending_of o) r (option_map_or change (group_in o) r)
+within_group r change each owner.Device = within-refl nothing r
+within_group r change each owner.Counters = within-refl nothing r
+within_group r change each (owner.Side dir queue) = within-refl nothing r
+within_group r change each (owner.Group g) = within-change r g (change g) (each g)
+within_group r change each (owner.Pool number) = within-refl nothing r
 
-side_owned : (row : RowId) (index : ℕ) → (row_of row).kind ≡ kind.Enable
-    → owner_in (row_of row).bank index ≡ owner.Side (side_of row) index
-side_owned row.Rxdctl index e = refl
-side_owned row.Txdctl index e = refl
-side_owned other index e = cc
-
-accessed : (r s : Registers) (p : Place) → is_of_interrupts (row_of p.row).kind ≡ true
-    → ChangesWithin (pending (group_at p.row p.index)) r s → ChangesWithin (pending_of (owner_of p)) r s
-accessed r s p e only = subst (λ o. ChangesWithin (pending_of o) r s) (sym (group_owned p.row p.index e)) only
-
-read_within : (k : Kind) (r : Registers) (p : Place) → (row_of p.row).kind ≡ k → ChangesWithin (read_by k p) r (after_read k r p)
-read_within kind.Rc r p e = within-put (the_word p) r p 0 (is_place-itself p)
-read_within kind.Cause r p e = accessed r (after_read kind.Cause r p) p (ap is_of_interrupts e) (within-with_interrupts r (made_by_read r p))
-read_within other r p e = within-refl (read_by other p) r
+read_within : (k : Kind) (r : Registers) (p : Place) → ChangesWithin (read_by k p) r (after_read k r p)
+read_within kind.Rc r p = within-put (the_word p) r p 0 (is_place-itself p)
+read_within kind.Cause r p = within_group r (group_read r) (change-group_read r) (owner_of p)
+read_within other r p = within-refl nothing r
 
 pub within-after_read : (r : Registers) (p : Place) → ChangesWithin (of_read p) r (after_read (row_of p.row).kind r p)
-within-after_read r p = read_within (row_of p.row).kind r p refl
+within-after_read r p = read_within (row_of p.row).kind r p
 
-within-stored : (f : Footprint) (r : Registers) (p : Place) (view word : ℕ) → f.words p ≡ true → ChangesWithin f r (stored r p view word)
+within-asked : (f : Footprint) (r : Registers) (o : Owner) (wanted : Bool)
+    → ((dir : Dir) (queue : ℕ) → is_owner o (owner.Side dir queue) ≡ true → f.wanted dir queue ≡ true)
+    → ChangesWithin f r (asked r o wanted)
+within-asked f r (owner.Side dir queue) wanted has =
+    within-with_wanted f r dir queue wanted (has dir queue (is_owner-itself (owner.Side dir queue)))
+within-asked f r other wanted has = within-refl f r
+
+within-stored : (f : Footprint) (r : Registers) (p : Place) (view word : ℕ) → f.words p ≡ true
+    → ChangesWithin f r (stored r p view word)
 within-stored f r p view word has = within-put f r p _ has
 
-written_within : (k : Kind) (r : Registers) (p : Place) (view word : ℕ) → (row_of p.row).kind ≡ k → ChangesWithin (written_by k p) r (written k r p view word)
-written_within kind.Rw r p view word e = within-stored (the_word p) r p view word (is_place-itself p)
-written_within kind.Calc r p view word e = within-refl _ r
-written_within kind.Rc r p view word e = within-refl _ r
-written_within kind.Held r p view word e =
-    within-if (the_word p) (is_on r (side_of p.row) p.index) r r (stored r p view word) (within-refl _ r)
+within-group_written : (k : Kind) (r : Registers) (p : Place) (bits : ℕ)
+    → ChangesWithin (pending_of (owner_of p)) r (group_written k r p bits)
+within-group_written k r p bits = within_group r _ (λ g. change-interrupts_written k r g bits) (owner_of p)
+
+written_within : (k : Kind) (r : Registers) (p : Place) (view word : ℕ)
+    → ChangesWithin (written_by k p) r (written k r p view word)
+written_within kind.Rw r p view word = within-stored (the_word p) r p view word (is_place-itself p)
+written_within kind.Calc r p view word = within-refl nothing r
+written_within kind.Rc r p view word = within-refl nothing r
+written_within kind.Held r p view word =
+    within-if (the_word p) (is_running r (owner_of p)) r r (stored r p view word) (within-refl (the_word p) r)
     (within-stored (the_word p) r p view word (is_place-itself p))
-written_within kind.Enable r p view word e =
-    let has : is_owner (owner_of p) (owner.Side (side_of p.row) p.index) ≡ true =
-    ap (λ o. is_owner (owner_of p) o) (sym (side_owned p.row p.index e)) ∙ is_owner-itself (owner_of p) in
+written_within kind.Enable r p view word =
     within-trans (the_enable p) r (stored r p view word) (written kind.Enable r p view word)
     (within-stored (the_enable p) r p view word (is_place-itself p))
-    (within-with_wanted (the_enable p) (stored r p view word) (side_of p.row) p.index (has_bit 25 word) has)
-written_within kind.Ctrl r p view word e = within-stored (the_word p) r p view word (is_place-itself p)
-written_within k r p view word e =
-    accessed r (written k r p view word) p (ap is_of_interrupts e) (within-with_interrupts r (made_by_write k r p view word))
+    (within-asked (the_enable p) (stored r p view word) (owner_of p) (has_bit 25 word) (λ dir queue is. is))
+written_within kind.Ctrl r p view word = within-stored (the_word p) r p view word (is_place-itself p)
+written_within k r p view word = within-group_written k r p (bit_and word view)
 
-pub within-written : (r : Registers) (p : Place) (view word : ℕ) → ChangesWithin (of_write p) r (after_write r p view word)
-within-written r p view word = written_within (row_of p.row).kind r p view word refl
+pub within-written : (r : Registers) (p : Place) (view word : ℕ)
+    → ChangesWithin (of_write p) r (after_write r p view word)
+within-written r p view word = written_within (row_of p.row).kind r p view word
 
 -- what the device counts and does to sides
 pub within-counted : (r : Registers) (row : RowId) (index : ℕ) → ChangesWithin (the_word (place row index)) r (counted r row index)

@@ -9,24 +9,23 @@ use Rattle.intr_unit.specs.Group.{group_bits}
 use Rattle.intr_unit.specs.Interrupts.{Interrupts, IsConsistent}
 use Rattle.intr_unit.specs.declared.group.Group.{Group}
 use Rattle.intr_unit.specs.declared.group.Group.TheVariants.{Pf, Vf}
-use Rattle.intr_unit.proofs.SetLaws.{same_bits, contains-intersection, bits_where-lt}
+use Rattle.intr_unit.proofs.SetLaws.{same_bits, contains-intersection}
 use Rattle.register_file.specs.Columns.{place}
 use Rattle.register_file.specs.Groups.{cause_row, mask_row, auto_clear_row, auto_mask_row, index_of, told_by, with_told, interrupts_of, with_interrupts}
-use Rattle.register_file.specs.Laws.{HasShape, is_volatile}
+use Rattle.register_file.specs.Footprint.{pending}
+use Rattle.register_file.specs.Laws.{HasShape}
 use Rattle.register_file.specs.Registers.{Registers, word_of, with_word}
 use Rattle.register_file.specs.Words.{word_at}
 use Rattle.register_file.proofs.Puts.{word_at-put_other}
 use Rattle.register_file.proofs.Shape.{put_stands, HasShape-put}
-use Rattle.register_file.proofs.Volatile.{words-with_told, word_at-with_interrupts}
+use Rattle.register_file.proofs.Fields.{words-with_told}
+use Rattle.register_file.proofs.Settled.{intersection-lt}
+use Rattle.register_file.proofs.Within.{within-with_interrupts}
 
 -- the common bits of a set and one that it is within
 implied : (x y : Bool) → (x ≡ true → y ≡ true) → (x && y) ≡ x
 implied true y h = h refl
 implied false y h = refl
-
-intersection-lt : (a b : BitSet) → intersection a b < 2 ^ 32
-unfolding intersection
-intersection-lt a b = bits_where-lt _
 
 intersection-within : (inner outer : BitSet) → inner < 2 ^ 32 → IsSubset inner outer → intersection inner outer ≡ inner
 intersection-within inner outer small within =
@@ -45,11 +44,11 @@ cause_not_mask : (g : Group) → place (cause_row g) (index_of g) ≢ place (mas
 cause_not_mask Pf e = let same : Eicr ≡ Eims = ap (λ (q : Place). q.row) e in cc
 cause_not_mask (Vf v) e = let same : Pvteicr ≡ Pvteims = ap (λ (q : Place). q.row) e in cc
 
-auto_clear-steady : (g : Group) → is_volatile (row_of (auto_clear_row g)).kind ≡ false
+auto_clear-steady : (g : Group) → (pending g).words (place (auto_clear_row g) (index_of g)) ≡ false
 auto_clear-steady Pf = refl
 auto_clear-steady (Vf v) = refl
 
-auto_mask-steady : (g : Group) → is_volatile (row_of (auto_mask_row g)).kind ≡ false
+auto_mask-steady : (g : Group) → (pending g).words (place (auto_mask_row g) (index_of g)) ≡ false
 auto_mask-steady Pf = refl
 auto_mask-steady (Vf v) = refl
 
@@ -64,20 +63,20 @@ module _ (r : Registers) (h : HasShape r) (s : Interrupts) (b : index_of s.group
   masked : Registers
   masked = with_word caused (mask_row s.group) (index_of s.group) s.enabled
 
-  causes_there : word_of (with_interrupts r s) (cause_row s.group) (index_of s.group) ≡ s.causes
+  pub causes_there : word_of (with_interrupts r s) (cause_row s.group) (index_of s.group) ≡ s.causes
   unfolding caused masked
   causes_there =
       ap (λ ws. word_at ws (place (cause_row s.group) (index_of s.group))) (words-with_told masked s.group s.told)
       ∙ word_at-put_other caused.words (place (mask_row s.group) (index_of s.group)) (place (cause_row s.group) (index_of s.group)) s.enabled (cause_not_mask s.group)
       ∙ put_stands r (place (cause_row s.group) (index_of s.group)) s.causes h (cause_index s.group b)
 
-  enabled_there : word_of (with_interrupts r s) (mask_row s.group) (index_of s.group) ≡ s.enabled
+  pub enabled_there : word_of (with_interrupts r s) (mask_row s.group) (index_of s.group) ≡ s.enabled
   unfolding caused masked
   enabled_there =
       ap (λ ws. word_at ws (place (mask_row s.group) (index_of s.group))) (words-with_told masked s.group s.told)
       ∙ put_stands caused (place (mask_row s.group) (index_of s.group)) s.enabled (HasShape-put r (place (cause_row s.group) (index_of s.group)) s.causes h) (mask_index s.group b)
 
-  told_there : told_by (with_interrupts r s) s.group ≡ s.told
+  pub told_there : told_by (with_interrupts r s) s.group ≡ s.told
   unfolding caused masked
   told_there = told_by-with_told masked s.group s.told h.told_vf b
 
@@ -85,10 +84,11 @@ module _ (r : Registers) (h : HasShape r) (s : Interrupts) (b : index_of s.group
       → interrupts_of (with_interrupts r s) s.group ≡ record s { auto_clear = (interrupts_of r s.group).auto_clear; auto_mask = (interrupts_of r s.group).auto_mask }
   interrupts_of-with_interrupts c small_causes small_enabled small_told =
       let bits = group_bits s.group in
+      let only = within-with_interrupts r s in
       let causes = ap (λ w. intersection w bits) causes_there ∙ intersection-within s.causes bits small_causes c.causes_exist in
       let enabled = ap (λ w. intersection w bits) enabled_there ∙ intersection-within s.enabled bits small_enabled c.masks_exist in
-      let clear = word_at-with_interrupts r s (place (auto_clear_row s.group) (index_of s.group)) (auto_clear-steady s.group) in
-      let mask = word_at-with_interrupts r s (place (auto_mask_row s.group) (index_of s.group)) (auto_mask-steady s.group) in
+      let clear = only.words (place (auto_clear_row s.group) (index_of s.group)) (auto_clear-steady s.group) in
+      let mask = only.words (place (auto_mask_row s.group) (index_of s.group)) (auto_mask-steady s.group) in
       let pending = (λ k. intersection (told_there k) (intersection (causes k) (enabled k))) ∙ intersection-within s.told (intersection s.causes s.enabled) small_told c.told_is_pending in
       λ k. record {
         group = s.group;

@@ -1,5 +1,6 @@
 -- Register accesses, by the kind of the row.
-use Rattle.std.specs.Prelude.{ℕ, Bool, false, ◌||◌, bit_and, if◌then◌else◌}
+use Rattle.std.specs.Prelude.{ℕ, Bool, false, ◌||◌, Option, Some, None, bit_and, if◌then◌else◌}
+use Rattle.std.specs.Option.{option_map_or}
 use Rattle.intr_unit.specs.declared.group.Group.{Group}
 use Rattle.reg_table.specs.Rows.{row_of}
 use Rattle.reg_table.specs.declared.place.Place.{Place}
@@ -11,11 +12,12 @@ use Rattle.register_file.specs.Bits.{merged, has_bit}
 use Rattle.register_file.specs.Words.{word_at, put}
 use Rattle.register_file.specs.Registers.{Registers, with_wanted}
 use Rattle.intr_unit.specs.Interrupts.{raised, after_read as causes_read, after_write_one, after_mask_set, after_mask_clear}
-use Rattle.register_file.specs.Groups.{group_at, interrupts_of, with_interrupts, clears_others, auto_masks}
+use Rattle.register_file.specs.Groups.{interrupts_of, with_interrupts, clears_others, auto_masks}
+use Rattle.register_file.specs.Owner.{owner_of}
 use Rattle.register_file.specs.Queue.{is_on}
 use Rattle.register_file.specs.Settings.{is_stopped}
-use Rattle.register_file.specs.declared.dir.Dir.{Dir}
-use Rattle.register_file.specs.declared.dir.Dir.TheVariants.{Rx, Tx}
+use Rattle.register_file.specs.declared.owner.Owner.{Owner}
+use Rattle.register_file.specs.declared.owner.Owner.TheVariants as owner
 
 -- what a row that is calculated reads as: STATUS tells whether the device makes steps, LINKS whether the link is up
 abbrev pub calculated : RowId → Registers → Bool → ℕ
@@ -40,20 +42,46 @@ read_word kind.Ctrl r link p = word_at r.words p
 abbrev pub group_read : Registers → Group → Registers
 group_read r g = with_interrupts r (causes_read (interrupts_of r g) (clears_others r) (auto_masks r g))
 
+-- the group that an owner is, if it is one
+abbrev pub group_in : Owner → Option Group
+group_in owner.Device = None
+group_in owner.Counters = None
+group_in (owner.Side dir queue) = None
+group_in (owner.Group g) = Some g
+group_in (owner.Pool number) = None
+
+-- the registers after a change of the interrupts of a place's group: where it is of none, nothing changes
+abbrev pub in_group : Registers → Place → (Group → Registers) → Registers
+in_group r p change = option_map_or change (group_in (owner_of p)) r
+
 -- the registers after a read of a place: a counter starts again from 0, and causes are cleared
 abbrev pub after_read : Kind → Registers → Place → Registers
+after_read kind.Rw r p = r
+after_read kind.Calc r p = r
 after_read kind.Rc r p = record r { words = put r.words p 0 }
-after_read kind.Cause r p = group_read r (group_at p.row p.index)
-after_read other r p = r
+after_read kind.Cause r p = in_group r p (group_read r)
+after_read kind.Ones r p = r
+after_read kind.Set r p = r
+after_read kind.Clear r p = r
+after_read kind.Held r p = r
+after_read kind.Enable r p = r
+after_read kind.Ctrl r p = r
 
--- the side of a queue that a row belongs to
-abbrev pub side_of : RowId → Dir
-side_of row.Tdbal = Tx
-side_of row.Tdbah = Tx
-side_of row.Tdlen = Tx
-side_of row.Tdh = Tx
-side_of row.Txdctl = Tx
-side_of other = Rx
+-- whether what an owner has is in use: a side's ring is while the side is on
+abbrev pub is_running : Registers → Owner → Bool
+is_running r owner.Device = false
+is_running r owner.Counters = false
+is_running r (owner.Side dir queue) = is_on r dir queue
+is_running r (owner.Group g) = false
+is_running r (owner.Pool number) = false
+
+-- the registers after an owner was asked to be on, or not: a side can be
+abbrev pub asked : Registers → Owner → Bool → Registers
+asked r owner.Device wanted = r
+asked r owner.Counters wanted = r
+asked r (owner.Side dir queue) wanted = with_wanted r dir queue wanted
+asked r (owner.Group g) wanted = r
+asked r (owner.Pool number) wanted = r
 
 -- a word is stored: of it, the bits of the row's mask that the address shows
 abbrev pub stored : Registers → Place → ℕ → ℕ → Registers
@@ -74,21 +102,45 @@ causes_set r g bits = with_interrupts r (raised (interrupts_of r g) bits (auto_m
 abbrev pub masks_cleared : Registers → Group → ℕ → Registers
 masks_cleared r g bits = with_interrupts r (after_mask_clear (interrupts_of r g) bits)
 
+-- the registers after a write of a group's register, by its kind
+abbrev pub interrupts_written : Kind → Registers → Group → ℕ → Registers
+interrupts_written kind.Rw r g bits = r
+interrupts_written kind.Calc r g bits = r
+interrupts_written kind.Rc r g bits = r
+interrupts_written kind.Cause r g bits = causes_written r g bits
+interrupts_written kind.Ones r g bits = masks_set r g bits
+interrupts_written kind.Set r g bits = causes_set r g bits
+interrupts_written kind.Clear r g bits = masks_cleared r g bits
+interrupts_written kind.Held r g bits = r
+interrupts_written kind.Enable r g bits = r
+interrupts_written kind.Ctrl r g bits = r
+
+abbrev pub group_written : Kind → Registers → Place → ℕ → Registers
+group_written k r p bits = in_group r p (λ g. interrupts_written k r g bits)
+
 -- the registers after a write of a place through an address that shows the bits of `view`. A queue's ring can't be
 -- changed while its side is on; a write of its enable word asks for bit 25, and leaves that bit as it is.
 abbrev pub written : Kind → Registers → Place → ℕ → ℕ → Registers
 written kind.Rw r p view word = stored r p view word
 written kind.Calc r p view word = r
 written kind.Rc r p view word = r
-written kind.Cause r p view word = causes_written r (group_at p.row p.index) (bit_and word view)
-written kind.Ones r p view word = masks_set r (group_at p.row p.index) (bit_and word view)
-written kind.Set r p view word = causes_set r (group_at p.row p.index) (bit_and word view)
-written kind.Clear r p view word = masks_cleared r (group_at p.row p.index) (bit_and word view)
-written kind.Held r p view word = if is_on r (side_of p.row) p.index then r else stored r p view word
-written kind.Enable r p view word = with_wanted (stored r p view word) (side_of p.row) p.index (has_bit 25 word)
+written kind.Cause r p view word = group_written kind.Cause r p (bit_and word view)
+written kind.Ones r p view word = group_written kind.Ones r p (bit_and word view)
+written kind.Set r p view word = group_written kind.Set r p (bit_and word view)
+written kind.Clear r p view word = group_written kind.Clear r p (bit_and word view)
+written kind.Held r p view word = if is_running r (owner_of p) then r else stored r p view word
+written kind.Enable r p view word = asked (stored r p view word) (owner_of p) (has_bit 25 word)
 written kind.Ctrl r p view word = stored r p view word
 
 -- whether a write asks for a reset, and so does nothing else: one of CTRL with bit 3 or bit 26
 abbrev pub asks_reset : Kind → ℕ → Bool
+asks_reset kind.Rw word = false
+asks_reset kind.Calc word = false
+asks_reset kind.Rc word = false
+asks_reset kind.Cause word = false
+asks_reset kind.Ones word = false
+asks_reset kind.Set word = false
+asks_reset kind.Clear word = false
+asks_reset kind.Held word = false
+asks_reset kind.Enable word = false
 asks_reset kind.Ctrl word = has_bit 3 word || has_bit 26 word
-asks_reset other word = false

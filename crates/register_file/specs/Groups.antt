@@ -1,7 +1,7 @@
 -- The interrupts of a group, as its registers hold them.
 use Rattle.std.specs.Prelude.{ℕ, ◌+◌, ◌*◌, ◌/◌, ◌%◌, ◌^◌, Bool, false, Option, is_some, slice_index, slice_set, if◌then◌else◌}
 use Rattle.reg_table.specs.declared.rows.RowId.{RowId}
-use Rattle.reg_table.specs.declared.rows.RowId.TheVariants.{Eicr, Eics, Eims, Eimc, Eiac, Eiam, Gpie, Ivar, IvarMisc, Pvtivar, Pvteicr, Pvteims, Pvteiac, Pvteiam}
+use Rattle.reg_table.specs.declared.rows.RowId.TheVariants.{Eicr, Eims, Eiac, Eiam, Gpie, Ivar, IvarMisc, Pvtivar, Pvteicr, Pvteims, Pvteiac, Pvteiam}
 use Rattle.intr_unit.specs.Group.{auto_mask_acts, queue_causes}
 use Rattle.intr_unit.specs.Interrupts.{Interrupts, of_words, raised, next_vector, after_message}
 use Rattle.intr_unit.specs.declared.group.Group.{Group}
@@ -31,14 +31,6 @@ auto_mask_row (Vf v) = Pvteiam
 abbrev pub index_of : Group → ℕ
 index_of Pf = 0
 index_of (Vf v) = v
-
--- the group that a cause, mask, set or clear register at an index is of
-abbrev pub group_at : RowId → ℕ → Group
-group_at Eicr index = Pf
-group_at Eics index = Pf
-group_at Eims index = Pf
-group_at Eimc index = Pf
-group_at other index = Vf index
 
 -- the bits of a group that a message told
 abbrev pub told_by : Registers → Group → ℕ

@@ -1,65 +1,36 @@
 -- What the registers promise as a whole, whatever happened before. `view` is the bits that an address shows.
-use Rattle.std.specs.Prelude.{ℕ, ◌^◌, ◌≡◌, ◌≢◌, ◌<◌, ◌⊎◌, Bool, true, false, IsTrue, IsFalse, List, [], ◌∷◌, length, All, bit_and}
-use Rattle.reg_table.specs.Rows.{row_of, rows}
+use Rattle.std.specs.Prelude.{ℕ, ◌/◌, ◌^◌, ◌≡◌, ◌≢◌, ◌<◌, ◌⊎◌, Bool, false, IsTrue, IsFalse, List, [], ◌∷◌, All, bit_and}
+use Rattle.reg_table.specs.Rows.{row_of}
+use Rattle.reg_table.specs.declared.bank.Bank.TheVariants as bank
 use Rattle.reg_table.specs.declared.place.Place.{Place}
-use Rattle.reg_table.specs.declared.kind.Kind.{Kind}
 use Rattle.reg_table.specs.declared.kind.Kind.TheVariants as kind
 use Rattle.reg_table.specs.declared.rows.RowId.{RowId}
-use Rattle.reg_table.specs.declared.rows.RowId.TheVariants.{Rdbal, Rdbah, Rdlen, Rdh, Rdt, Srrctl, Rxdctl, Tdbal, Tdbah, Tdlen, Tdh, Tdt, Tdwbal, Tdwbah, Txdctl}
+use Rattle.reg_table.specs.declared.rows.RowId.TheVariants.{Ctrl, Rxctrl, Dmatxctl, Hlreg0, Maxfrs, Gpie, Srrctl, Rxdctl, Txdctl}
+use Rattle.intr_unit.specs.Group.{group_bits}
 use Rattle.intr_unit.specs.declared.group.Group.{Group}
 use Rattle.intr_unit.specs.Interrupts.{Interrupts, IsConsistent}
 use Rattle.reg_table.specs.Counter.{bumped}
 use Rattle.register_file.specs.Access.{read_word, after_read, written}
 use Rattle.register_file.specs.Bits.{merged, has_bit}
 use Rattle.register_file.specs.Columns.{place}
-use Rattle.register_file.specs.Counters.{counted}
-use Rattle.register_file.specs.Groups.{index_of, interrupts_of, with_interrupts, causes_raised, message_made}
+use Rattle.register_file.specs.Counters.{counted, mapping_row, counter_of}
+use Rattle.register_file.specs.Footprint.{Footprint, ChangesWithin, Covers, Misses, the_word, the_enable, of_owner, of_side, of_group, pending, any_pending, of_read, of_write}
+use Rattle.register_file.specs.Groups.{cause_row, mask_row, auto_clear_row, auto_mask_row, index_of, told_by, interrupts_of, with_interrupts, clears_others, auto_masks, vector_row, vector_entry, causes_raised, queue_raised, message_made}
+use Rattle.register_file.specs.Owner.{owner_of, is_owner}
 use Rattle.register_file.specs.Queue.{ring_of, is_on, base_low_row, base_high_row, length_row, head_row, enable_row, with_head, switched, shut}
-use Rattle.register_file.specs.Registers.{Registers, reset_registers, is_wanted}
-use Rattle.register_file.specs.Sides.{receive_queue_of, transmit_queue_of}
-use Rattle.register_file.specs.Words.{row_words, word_at}
+use Rattle.register_file.specs.Registers.{Registers, reset_registers, word_of, with_word, is_wanted}
+use Rattle.register_file.specs.Settings.{is_stopped, can_receive, can_transmit, frame_limit, pads, drops}
+use Rattle.register_file.specs.Sides.{receive_queue_of, transmit_queue_of, with_row, receive_queue_by, transmit_queue_by}
+use Rattle.register_file.specs.Sound.{AreSound}
+pub use Rattle.register_file.specs.Sound.{HasShape}
+use Rattle.register_file.specs.Words.{word_at}
 use Rattle.register_file.specs.declared.dir.Dir.{Dir}
 use Rattle.register_file.specs.declared.dir.Dir.TheVariants.{Rx, Tx}
-
--- the registers have each place of the table, what is wanted of each queue, and what is told of each virtual function
-pub record HasShape (r : Registers) : Type 0 where
-  pub has_rows : length r.words ≡ length rows
-  pub has_indices : (row : RowId) → length (row_words r.words row) ≡ (row_of row).count
-  pub wanted_rx : length r.wanted_rx ≡ 128
-  pub wanted_tx : length r.wanted_tx ≡ 128
-  pub told_vf : length r.told_vf ≡ 64
+use Rattle.register_file.specs.declared.owner.Owner.{Owner}
 
 -- the registers after a write of a place
 abbrev pub after_write : Registers → Place → ℕ → ℕ → Registers
 after_write r p view word = written (row_of p.row).kind r p view word
-
--- the registers have their shape after a reset, and keep it
-abbrev pub ResetHasShape : Type 0
-ResetHasShape = HasShape reset_registers
-
-abbrev pub WriteKeepsShape : Type 0
-WriteKeepsShape = (r : Registers) → HasShape r → (p : Place) (view word : ℕ) → HasShape (after_write r p view word)
-
-abbrev pub ReadKeepsShape : Type 0
-ReadKeepsShape = (r : Registers) → HasShape r → (p : Place) → HasShape (after_read (row_of p.row).kind r p)
-
-abbrev pub CountKeepsShape : Type 0
-CountKeepsShape = (r : Registers) → HasShape r → (row : RowId) (index : ℕ) → HasShape (counted r row index)
-
-abbrev pub RaiseKeepsShape : Type 0
-RaiseKeepsShape = (r : Registers) → HasShape r → (g : Group) (bits : ℕ) → HasShape (causes_raised r g bits)
-
-abbrev pub MessageKeepsShape : Type 0
-MessageKeepsShape = (r : Registers) → HasShape r → (g : Group) → HasShape (message_made r g)
-
-abbrev pub HeadKeepsShape : Type 0
-HeadKeepsShape = (r : Registers) → HasShape r → (dir : Dir) (queue head : ℕ) → HasShape (with_head r dir queue head)
-
-abbrev pub SwitchKeepsShape : Type 0
-SwitchKeepsShape = (r : Registers) → HasShape r → (dir : Dir) (queue : ℕ) → HasShape (switched r dir queue)
-
-abbrev pub ShutKeepsShape : Type 0
-ShutKeepsShape = (r : Registers) → HasShape r → (dir : Dir) (queue : ℕ) → HasShape (shut r dir queue)
 
 -- after a reset each place has its row's reset value, and no side of a queue is on or wanted on
 abbrev pub ResetGivesResetValues : Type 0
@@ -71,6 +42,25 @@ ResetSwitchesOff =
     (dir : Dir) (queue : ℕ) → queue < 128 →
     IsFalse (is_on reset_registers dir queue) × IsFalse (is_wanted reset_registers dir queue)
 
+abbrev pub ResetTellsNothing : Type 0
+ResetTellsNothing = (g : Group) → index_of g < 64 → told_by reset_registers g ≡ 0
+
+-- a word that was put at a place is there, and all else is as it was
+abbrev pub PutWordIsThere : Type 0
+PutWordIsThere =
+    (r : Registers) → HasShape r → (p : Place) → p.index < (row_of p.row).count → (word : ℕ) →
+    word_of (with_word r p.row p.index word) p.row p.index ≡ word
+
+abbrev pub PutWordIsAlone : Type 0
+PutWordIsAlone = (r : Registers) (p : Place) (word : ℕ) → ChangesWithin (the_word p) r (with_word r p.row p.index word)
+
+-- the bits that a group has are those that its rows have
+abbrev pub GroupBitsAreMasks : Type 0
+GroupBitsAreMasks =
+    (g : Group) →
+    ((row_of (cause_row g)).mask ≡ group_bits g) × ((row_of (mask_row g)).mask ≡ group_bits g) ×
+    ((row_of (auto_clear_row g)).mask ≡ group_bits g) × ((row_of (auto_mask_row g)).mask ≡ group_bits g)
+
 -- a word written to a plain read/write register is read back: the bits that the row's mask and the address let
 -- through, and the former bits elsewhere
 abbrev pub StoredWordReadsBack : Type 0
@@ -79,72 +69,6 @@ StoredWordReadsBack =
     (view word : ℕ) (link : Bool) →
     read_word (row_of p.row).kind (after_write r p view word) link p
     ≡ merged (bit_and (row_of p.row).mask view) (word_at r.words p) word
-
--- whether an access is of a group's interrupts
-abbrev pub is_of_interrupts : Kind → Bool
-is_of_interrupts kind.Cause = true
-is_of_interrupts kind.Ones = true
-is_of_interrupts kind.Set = true
-is_of_interrupts kind.Clear = true
-is_of_interrupts other = false
-
--- a write of a place leaves the word of every other place, but where it is of a group's interrupts
-abbrev pub WriteLeavesOtherWords : Type 0
-WriteLeavesOtherWords =
-    (r : Registers) (p q : Place) (view word : ℕ) → q ≢ p → IsFalse (is_of_interrupts (row_of p.row).kind) →
-    word_at (after_write r p view word).words q ≡ word_at r.words q
-
--- whether a row is one of those that a side of a queue stands on
-abbrev pub is_row_of : Dir → RowId → Bool
-is_row_of Rx Rdbal = true
-is_row_of Rx Rdbah = true
-is_row_of Rx Rdlen = true
-is_row_of Rx Rdh = true
-is_row_of Rx Rdt = true
-is_row_of Rx Srrctl = true
-is_row_of Rx Rxdctl = true
-is_row_of Tx Tdbal = true
-is_row_of Tx Tdbah = true
-is_row_of Tx Tdlen = true
-is_row_of Tx Tdh = true
-is_row_of Tx Tdt = true
-is_row_of Tx Tdwbal = true
-is_row_of Tx Tdwbah = true
-is_row_of Tx Txdctl = true
-is_row_of dir other = false
-
--- a place is none of a side of a queue: its row isn't, or its index is of another queue
-abbrev pub IsNoneOf : Dir → ℕ → Place → Type 0
-IsNoneOf dir queue p = IsFalse (is_row_of dir p.row) ⊎ (p.index ≢ queue)
-
--- a write of a place leaves the sides of queues that the place is none of
-abbrev pub WriteLeavesOtherReceiveQueues : Type 0
-WriteLeavesOtherReceiveQueues =
-    (r : Registers) (p : Place) (view word queue : ℕ) → IsNoneOf Rx queue p →
-    receive_queue_of (after_write r p view word) queue ≡ receive_queue_of r queue
-
-abbrev pub WriteLeavesOtherTransmitQueues : Type 0
-WriteLeavesOtherTransmitQueues =
-    (r : Registers) (p : Place) (view word queue : ℕ) → IsNoneOf Tx queue p →
-    transmit_queue_of (after_write r p view word) queue ≡ transmit_queue_of r queue
-
--- nothing has changed but one side of a queue, and of the words only one row's at that queue
-pub record ChangesOnly (dir : Dir) (queue : ℕ) (row : RowId) (old new : Registers) : Type 0 where
-  pub receive : (other : ℕ) → (dir ≡ Tx) ⊎ (other ≢ queue) → receive_queue_of new other ≡ receive_queue_of old other
-  pub transmit : (other : ℕ) → (dir ≡ Rx) ⊎ (other ≢ queue) → transmit_queue_of new other ≡ transmit_queue_of old other
-  pub words : (p : Place) → p ≢ place row queue → word_at new.words p ≡ word_at old.words p
-
-abbrev pub HeadLeavesTheRest : Type 0
-HeadLeavesTheRest =
-    (r : Registers) (dir : Dir) (queue head : ℕ) → ChangesOnly dir queue (head_row dir) r (with_head r dir queue head)
-
-abbrev pub SwitchLeavesTheRest : Type 0
-SwitchLeavesTheRest =
-    (r : Registers) (dir : Dir) (queue : ℕ) → ChangesOnly dir queue (enable_row dir) r (switched r dir queue)
-
-abbrev pub ShutLeavesTheRest : Type 0
-ShutLeavesTheRest =
-    (r : Registers) (dir : Dir) (queue : ℕ) → ChangesOnly dir queue (enable_row dir) r (shut r dir queue)
 
 -- after a head has moved the side has its ring with that head, and is else as it was
 abbrev pub HeadMovesReceive : Type 0
@@ -171,6 +95,17 @@ SwitchObeysTransmit =
     (r : Registers) → HasShape r → (queue : ℕ) → queue < 128 →
     transmit_queue_of (switched r Tx queue) queue
     ≡ record (transmit_queue_of r queue) { on = (transmit_queue_of r queue).wanted }
+
+-- a switch of a side that is on exactly where it is wanted changes nothing
+abbrev pub SwitchedSideStays : Type 0
+SwitchedSideStays =
+    (r : Registers) (dir : Dir) (queue : ℕ) → is_on r dir queue ≡ is_wanted r dir queue → switched r dir queue ≡ r
+
+-- a read of a side's enable word tells in bit 25 whether the side is on
+abbrev pub EnableReadTellsOn : Type 0
+EnableReadTellsOn =
+    (r : Registers) (dir : Dir) (queue : ℕ) (link : Bool) →
+    has_bit 25 (read_word (row_of (enable_row dir)).kind r link (place (enable_row dir) queue)) ≡ is_on r dir queue
 
 -- after a fault the side is off and not wanted on, and is else as it was
 abbrev pub ShutIsOffReceive : Type 0
@@ -205,6 +140,33 @@ EnableWriteAsksTransmit =
     transmit_queue_of (after_write r (place Txdctl queue) view word) queue
     ≡ record (transmit_queue_of r queue) { wanted = has_bit 25 word }
 
+-- a row of a side takes what is written: it is plain, or it is held and the side is off
+abbrev pub IsOpen : Registers → Dir → ℕ → RowId → Type 0
+IsOpen r dir queue row =
+    ((row_of row).kind ≡ kind.Rw) ⊎ (((row_of row).kind ≡ kind.Held) × IsFalse (is_on r dir queue))
+
+-- the word that a write leaves at a place that takes it
+abbrev pub word_after : Registers → Place → ℕ → ℕ → ℕ
+word_after r p view word = merged (bit_and (row_of p.row).mask view) (word_at r.words p) word
+
+-- what was written to such a row is the side's: its ring's base, length, head or tail, its control word, or where it
+-- writes its head
+abbrev pub WrittenReceiveIsTheSides : Type 0
+WrittenReceiveIsTheSides =
+    (r : Registers) → HasShape r → (row : RowId) (queue : ℕ) → (row_of row).bank ≡ bank.Receive →
+    queue < (row_of row).count → IsOpen r Rx queue row → (view word : ℕ) →
+    receive_queue_of (after_write r (place row queue) view word) queue
+    ≡ receive_queue_by (with_row (λ own. word_of r own queue) row (word_after r (place row queue) view word))
+    (is_wanted r Rx queue)
+
+abbrev pub WrittenTransmitIsTheSides : Type 0
+WrittenTransmitIsTheSides =
+    (r : Registers) → HasShape r → (row : RowId) (queue : ℕ) → (row_of row).bank ≡ bank.Transmit →
+    queue < (row_of row).count → IsOpen r Tx queue row → (view word : ℕ) →
+    transmit_queue_of (after_write r (place row queue) view word) queue
+    ≡ transmit_queue_by (with_row (λ own. word_of r own queue) row (word_after r (place row queue) view word))
+    (is_wanted r Tx queue)
+
 -- a counter: what is counted is read, one more each time up to the largest word, and a read starts it again from 0
 pub record CountsAndClears (r : Registers) (p : Place) : Type 0 where
   pub counts : (link : Bool)
@@ -215,39 +177,6 @@ abbrev pub CountersCount : Type 0
 CountersCount =
     (r : Registers) → HasShape r → (p : Place) → p.index < (row_of p.row).count → (row_of p.row).kind ≡ kind.Rc →
     CountsAndClears r p
-
--- the words that reads, steps of the device and accesses of other registers change: counters, causes and masks
-abbrev pub is_volatile : Kind → Bool
-is_volatile kind.Rc = true
-is_volatile kind.Cause = true
-is_volatile kind.Ones = true
-is_volatile other = false
-
--- both sides of every queue are as they were, and so is every word that isn't volatile
-pub record ChangesVolatileOnly (old new : Registers) : Type 0 where
-  pub receive : (queue : ℕ) → receive_queue_of new queue ≡ receive_queue_of old queue
-  pub transmit : (queue : ℕ) → transmit_queue_of new queue ≡ transmit_queue_of old queue
-  pub words : (p : Place) → IsFalse (is_volatile (row_of p.row).kind) → word_at new.words p ≡ word_at old.words p
-
--- reads, counting, raised causes and messages change nothing else
-abbrev pub ReadLeavesTheRest : Type 0
-ReadLeavesTheRest = (r : Registers) (p : Place) → ChangesVolatileOnly r (after_read (row_of p.row).kind r p)
-
-abbrev pub CountLeavesTheRest : Type 0
-CountLeavesTheRest =
-    (r : Registers) (row : RowId) (index : ℕ) → (row_of row).kind ≡ kind.Rc →
-    ChangesVolatileOnly r (counted r row index)
-
-abbrev pub RaiseLeavesTheRest : Type 0
-RaiseLeavesTheRest = (r : Registers) (g : Group) (bits : ℕ) → ChangesVolatileOnly r (causes_raised r g bits)
-
-abbrev pub MessageLeavesTheRest : Type 0
-MessageLeavesTheRest = (r : Registers) (g : Group) → ChangesVolatileOnly r (message_made r g)
-
-abbrev pub InterruptWriteLeavesTheRest : Type 0
-InterruptWriteLeavesTheRest =
-    (r : Registers) (p : Place) (view word : ℕ) → IsTrue (is_of_interrupts (row_of p.row).kind) →
-    ChangesVolatileOnly r (after_write r p view word)
 
 -- the causes, masks and told bits of a group that were put into its registers are there again, beside the auto-clear
 -- and the auto-mask that it had
@@ -260,3 +189,130 @@ InterruptsStand =
       auto_clear = (interrupts_of r s.group).auto_clear;
       auto_mask = (interrupts_of r s.group).auto_mask;
     }
+
+-- what each operation changes is in its footprint
+abbrev pub ReadStaysWithin : Type 0
+ReadStaysWithin = (r : Registers) (p : Place) → ChangesWithin (of_read p) r (after_read (row_of p.row).kind r p)
+
+abbrev pub WriteStaysWithin : Type 0
+WriteStaysWithin =
+    (r : Registers) (p : Place) (view word : ℕ) → ChangesWithin (of_write p) r (after_write r p view word)
+
+abbrev pub CountStaysWithin : Type 0
+CountStaysWithin =
+    (r : Registers) (row : RowId) (index : ℕ) → ChangesWithin (the_word (place row index)) r (counted r row index)
+
+abbrev pub RaiseStaysWithin : Type 0
+RaiseStaysWithin = (r : Registers) (g : Group) (bits : ℕ) → ChangesWithin (pending g) r (causes_raised r g bits)
+
+abbrev pub QueueRaiseStaysWithin : Type 0
+QueueRaiseStaysWithin =
+    (r : Registers) (g : Group) (dir : Dir) (queue : ℕ) → ChangesWithin (pending g) r (queue_raised r g dir queue)
+
+abbrev pub MessageStaysWithin : Type 0
+MessageStaysWithin = (r : Registers) (g : Group) → ChangesWithin (pending g) r (message_made r g)
+
+abbrev pub HeadStaysWithin : Type 0
+HeadStaysWithin =
+    (r : Registers) (dir : Dir) (queue head : ℕ) →
+    ChangesWithin (the_word (place (head_row dir) queue)) r (with_head r dir queue head)
+
+abbrev pub SwitchStaysWithin : Type 0
+SwitchStaysWithin =
+    (r : Registers) (dir : Dir) (queue : ℕ) →
+    ChangesWithin (the_word (place (enable_row dir) queue)) r (switched r dir queue)
+
+abbrev pub ShutStaysWithin : Type 0
+ShutStaysWithin =
+    (r : Registers) (dir : Dir) (queue : ℕ) →
+    ChangesWithin (the_enable (place (enable_row dir) queue)) r (shut r dir queue)
+
+-- what an access of a place may change is its owner's, and two owners have nothing in common
+abbrev pub ReadStaysWithOwner : Type 0
+ReadStaysWithOwner = (p : Place) → Covers (of_owner (owner_of p)) (of_read p)
+
+abbrev pub WriteStaysWithOwner : Type 0
+WriteStaysWithOwner = (p : Place) → Covers (of_owner (owner_of p)) (of_write p)
+
+abbrev pub OwnersAreApart : Type 0
+OwnersAreApart = (o other : Owner) → IsFalse (is_owner o other) → Misses (of_owner o) (of_owner other)
+
+-- a word's footprint has one place, what is pending of a group is of causes and masks alone, and different owners differ
+abbrev pub WordIsOnePlace : Type 0
+WordIsOnePlace = (p q : Place) → q ≢ p → IsFalse ((the_word p).words q)
+
+abbrev pub PendingIsPending : Type 0
+PendingIsPending = (g : Group) → Covers any_pending (pending g)
+
+abbrev pub OwnersDiffer : Type 0
+OwnersDiffer = (o other : Owner) → o ≢ other → IsFalse (is_owner o other)
+
+-- what a footprint has nothing of is as it was
+abbrev pub MissedReceiveStands : Type 0
+MissedReceiveStands =
+    (f : Footprint) (old new : Registers) (queue : ℕ) → Misses f (of_side Rx queue) → ChangesWithin f old new →
+    receive_queue_of new queue ≡ receive_queue_of old queue
+
+abbrev pub MissedTransmitStands : Type 0
+MissedTransmitStands =
+    (f : Footprint) (old new : Registers) (queue : ℕ) → Misses f (of_side Tx queue) → ChangesWithin f old new →
+    transmit_queue_of new queue ≡ transmit_queue_of old queue
+
+abbrev pub MissedInterruptsStand : Type 0
+MissedInterruptsStand =
+    (f : Footprint) (old new : Registers) (g : Group) → Misses f (of_group g) → ChangesWithin f old new →
+    interrupts_of new g ≡ interrupts_of old g
+
+-- what single words set stands where a footprint hasn't these words
+pub record SettingsStand (f : Footprint) (old new : Registers) : Type 0 where
+  pub stopped : IsFalse (f.words (place Ctrl 0)) → is_stopped new ≡ is_stopped old
+  pub can_receive : IsFalse (f.words (place Rxctrl 0)) → can_receive new ≡ can_receive old
+  pub can_transmit : IsFalse (f.words (place Dmatxctl 0)) → can_transmit new ≡ can_transmit old
+  pub limit : IsFalse (f.words (place Hlreg0 0)) → IsFalse (f.words (place Maxfrs 0)) → frame_limit new ≡ frame_limit old
+  pub padding : IsFalse (f.words (place Hlreg0 0)) → pads new ≡ pads old
+  pub dropping : (queue : ℕ) → IsFalse (f.words (place Srrctl queue)) → drops new queue ≡ drops old queue
+  pub clearing : IsFalse (f.words (place Gpie 0)) → clears_others new ≡ clears_others old
+  pub masking : IsFalse (f.words (place Gpie 0)) → (g : Group) → auto_masks new g ≡ auto_masks old g
+  pub vector : (g : Group) (dir : Dir) (queue : ℕ) → IsFalse (f.words (place (vector_row g) (queue / 2)))
+      → vector_entry new g dir queue ≡ vector_entry old g dir queue
+  pub counter : (dir : Dir) (queue : ℕ) → IsFalse (f.words (place (mapping_row dir) (queue / 4)))
+      → counter_of new dir queue ≡ counter_of old dir queue
+
+abbrev pub MissedSettingsStand : Type 0
+MissedSettingsStand = (f : Footprint) (old new : Registers) → ChangesWithin f old new → SettingsStand f old new
+
+-- registers are sound after a reset, and stay so
+abbrev pub ResetIsSound : Type 0
+ResetIsSound = AreSound reset_registers
+
+abbrev pub ReadKeepsSound : Type 0
+ReadKeepsSound = (r : Registers) → AreSound r → (p : Place) → AreSound (after_read (row_of p.row).kind r p)
+
+abbrev pub WriteKeepsSound : Type 0
+WriteKeepsSound =
+    (r : Registers) → AreSound r → (p : Place) (view word : ℕ) → word < 2 ^ 32 → AreSound (after_write r p view word)
+
+abbrev pub CountKeepsSound : Type 0
+CountKeepsSound =
+    (r : Registers) → AreSound r → (row : RowId) (index : ℕ) → (row_of row).kind ≡ kind.Rc →
+    AreSound (counted r row index)
+
+abbrev pub RaiseKeepsSound : Type 0
+RaiseKeepsSound = (r : Registers) → AreSound r → (g : Group) (bits : ℕ) → AreSound (causes_raised r g bits)
+
+abbrev pub QueueRaiseKeepsSound : Type 0
+QueueRaiseKeepsSound =
+    (r : Registers) → AreSound r → (g : Group) (dir : Dir) (queue : ℕ) → AreSound (queue_raised r g dir queue)
+
+abbrev pub MessageKeepsSound : Type 0
+MessageKeepsSound = (r : Registers) → AreSound r → (g : Group) → AreSound (message_made r g)
+
+abbrev pub HeadKeepsSound : Type 0
+HeadKeepsSound =
+    (r : Registers) → AreSound r → (dir : Dir) (queue head : ℕ) → head < 2 ^ 16 → AreSound (with_head r dir queue head)
+
+abbrev pub SwitchKeepsSound : Type 0
+SwitchKeepsSound = (r : Registers) → AreSound r → (dir : Dir) (queue : ℕ) → AreSound (switched r dir queue)
+
+abbrev pub ShutKeepsSound : Type 0
+ShutKeepsSound = (r : Registers) → AreSound r → (dir : Dir) (queue : ℕ) → AreSound (shut r dir queue)

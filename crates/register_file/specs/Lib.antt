@@ -3,12 +3,15 @@ pub mod AllGroups
 pub mod Bits
 pub mod Columns
 pub mod Counters
+pub mod Footprint
 pub mod Groups
 pub mod Laws
 pub mod Layout
+pub mod Owner
 pub mod Queue
 pub mod Registers
 pub mod Settings
 pub mod Sides
+pub mod Sound
 pub mod Storing
 pub mod Words

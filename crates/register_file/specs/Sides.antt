@@ -1,7 +1,10 @@
 -- What the steps of a queue look at.
-use Rattle.std.specs.Prelude.{ℕ, Bool, Option}
-use Rattle.reg_table.specs.declared.rows.RowId.TheVariants.{Srrctl}
+use Rattle.std.specs.Prelude.{ℕ, ◌+◌, ◌*◌, ◌/◌, ◌%◌, ◌^◌, ◌==◌, Bool, Option, Some, None, if◌then◌else◌}
+use Rattle.reg_table.specs.Rows.{number_of}
+use Rattle.reg_table.specs.declared.rows.RowId.{RowId}
+use Rattle.reg_table.specs.declared.rows.RowId.TheVariants.{Rdbal, Rdbah, Rdlen, Rdh, Rdt, Srrctl, Rxdctl, Tdbal, Tdbah, Tdlen, Tdh, Tdt, Tdwbal, Tdwbah, Txdctl}
 use Rattle.dma_ring.specs.declared.ring.Ring.{Ring}
+use Rattle.register_file.specs.Bits.{has_bit}
 use Rattle.register_file.specs.Registers.{Registers, word_of, is_wanted}
 use Rattle.register_file.specs.Queue.{ring_of, is_on}
 use Rattle.register_file.specs.Settings.{writeback_of}
@@ -37,4 +40,38 @@ transmit_queue_of r queue =
       writeback = writeback_of r queue;
       on = is_on r Tx queue;
       wanted = is_wanted r Tx queue;
+    }
+
+-- words of rows, with another one of a row
+abbrev pub with_row : (RowId → ℕ) → RowId → ℕ → RowId → ℕ
+with_row words row word other = if number_of other == number_of row then word else words other
+
+-- a side by the words of its rows, and whether it is wanted on
+abbrev pub receive_queue_by : (RowId → ℕ) → Bool → ReceiveQueue
+receive_queue_by words wanted =
+    record {
+      ring = record {
+        base = words Rdbah * 2 ^ 32 + words Rdbal;
+        length = words Rdlen % 2 ^ 20;
+        head = words Rdh % 2 ^ 16;
+        tail = words Rdt % 2 ^ 16;
+      };
+      control = words Srrctl;
+      on = has_bit 25 (words Rxdctl);
+      wanted = wanted;
+    }
+
+abbrev pub transmit_queue_by : (RowId → ℕ) → Bool → TransmitQueue
+transmit_queue_by words wanted =
+    record {
+      ring = record {
+        base = words Tdbah * 2 ^ 32 + words Tdbal;
+        length = words Tdlen % 2 ^ 20;
+        head = words Tdh % 2 ^ 16;
+        tail = words Tdt % 2 ^ 16;
+      };
+      writeback =
+          if has_bit 0 (words Tdwbal) then Some (words Tdwbah * 2 ^ 32 + 4 * (words Tdwbal / 4)) else None;
+      on = has_bit 25 (words Txdctl);
+      wanted = wanted;
     }

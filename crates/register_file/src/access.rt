@@ -1,12 +1,13 @@
 //! Register accesses, by the kind of the row.
 
-ghost use Rattle.std.specs.Prelude.{◌≡◌, ◌<◌, IsTrue, bit_and};
+ghost use Rattle.std.specs.Prelude.{◌≡◌, ◌<◌, IfSome, IsTrue, bit_and};
 ghost use Rattle.reg_table.specs.Rows.{row_of};
-ghost use Rattle.register_file.specs.Groups.{group_at, index_of};
+ghost use Rattle.register_file.specs.Groups.{index_of};
+ghost use Rattle.register_file.specs.Owner.{owner_of, IsThere};
 ghost use Rattle.register_file.specs.Storing.{is_stored};
-ghost use Rattle.register_file.specs.Access.{read_word, after_read, written, stored, calculated, side_of, asks_reset};
+ghost use Rattle.register_file.specs.Access.{read_word, after_read, written, group_written, stored, calculated, group_in, is_running, asked, asks_reset};
 
-use crate::dir::Dir;
+use crate::owner::{Owner, owner_of};
 use crate::queue::ENABLE;
 use crate::register_file::RegisterFile;
 use intr_unit::Group;
@@ -42,25 +43,15 @@ pub fn asks_reset(place: Place, word: u32) -> bool
     }
 }
 
-/// The side of a queue that a row belongs to.
-fn side_of(row: RowId) -> Dir
-    ensures { result ≡ side_of row }
+/// The group whose interrupts a place is of, if it is of one.
+fn group_of(place: Place) -> Option<Group>
+    requires { place.index < (row_of place.row).count }
+    ensures group { result ≡ group_in (owner_of place) }
+    ensures there { IfSome result (λ g. index_of g < 64) }
 {
-    match row {
-        RowId::Tdbal | RowId::Tdbah | RowId::Tdlen | RowId::Tdh | RowId::Txdctl => Dir::Tx,
-        _ => Dir::Rx,
-    }
-}
-
-/// The group whose interrupts a place below index 64 is of.
-fn group_at(place: Place) -> Group
-    requires { place.index < 64 }
-    ensures group { result ≡ group_at place.row place.index }
-    ensures small { index_of result < 64 }
-{
-    match place.row {
-        RowId::Eicr | RowId::Eics | RowId::Eims | RowId::Eimc => Group::Pf,
-        _ => Group::Vf(place.index as u8),
+    match owner_of(place) {
+        Owner::Group(group) => Some(group),
+        Owner::Device | Owner::Counters | Owner::Side(_, _) | Owner::Pool(_) => None,
     }
 }
 
@@ -103,7 +94,11 @@ impl RegisterFile {
     {
         match kind_of(place.row) {
             Kind::Rc => self.set_word(place.row, place.index, 0),
-            Kind::Cause => self.read_causes(group_at(place)),
+            Kind::Cause => {
+                if let Some(group) = group_of(place) {
+                    self.read_causes(group);
+                }
+            }
             Kind::Rw
             | Kind::Calc
             | Kind::Ones
@@ -124,19 +119,56 @@ impl RegisterFile {
         match kind_of(place.row) {
             Kind::Rw | Kind::Ctrl => self.store(place, view, word),
             Kind::Calc | Kind::Rc => {}
-            Kind::Cause => self.write_causes(group_at(place), word & view),
-            Kind::Ones => self.set_masks(group_at(place), word & view),
-            Kind::Set => self.set_causes(group_at(place), word & view),
-            Kind::Clear => self.clear_masks(group_at(place), word & view),
+            Kind::Cause | Kind::Ones | Kind::Set | Kind::Clear => {
+                self.write_interrupts(place, word & view);
+            }
             Kind::Held => {
-                if !self.is_on(side_of(place.row), place.index) {
+                if !self.is_running(owner_of(place)) {
                     self.store(place, view, word);
                 }
             }
             Kind::Enable => {
                 self.store(place, view, word);
-                self.want(side_of(place.row), place.index, word / ENABLE % 2 == 1);
+                self.ask(owner_of(place), word / ENABLE % 2 == 1);
             }
+        }
+    }
+
+    /// Writes a register of a group's interrupts, where a place is of one.
+    fn write_interrupts(&mut self, place: Place, bits: u32)
+        requires { place.index < (row_of place.row).count }
+        ensures { self.new ≡ group_written (row_of place.row).kind self.old place bits }
+    {
+        if let Some(group) = group_of(place) {
+            match kind_of(place.row) {
+                Kind::Cause => self.write_causes(group, bits),
+                Kind::Ones => self.set_masks(group, bits),
+                Kind::Set => self.set_causes(group, bits),
+                Kind::Clear => self.clear_masks(group, bits),
+                Kind::Rw | Kind::Calc | Kind::Rc | Kind::Held | Kind::Enable | Kind::Ctrl => {}
+            }
+        }
+    }
+
+    /// Whether what an owner has is in use: a side's ring is while the side is on.
+    fn is_running(&self, owner: Owner) -> bool
+        requires { IsThere owner }
+        ensures { result ≡ is_running self.now owner }
+    {
+        match owner {
+            Owner::Side(dir, queue) => self.is_on(dir, queue),
+            Owner::Device | Owner::Counters | Owner::Group(_) | Owner::Pool(_) => false,
+        }
+    }
+
+    /// Asks an owner to be on, or not: a side can be.
+    fn ask(&mut self, owner: Owner, wanted: bool)
+        requires { IsThere owner }
+        ensures { self.new ≡ asked self.old owner wanted }
+    {
+        match owner {
+            Owner::Side(dir, queue) => self.want(dir, queue, wanted),
+            Owner::Device | Owner::Counters | Owner::Group(_) | Owner::Pool(_) => {}
         }
     }
 

@@ -1,24 +1,38 @@
 //! What the registers promise as a whole. Each law is the contract of a function that does nothing.
 
-ghost use Rattle.register_file.specs.Laws.{ResetHasShape, WriteKeepsShape, ReadKeepsShape, CountKeepsShape, RaiseKeepsShape, MessageKeepsShape, HeadKeepsShape, SwitchKeepsShape, ShutKeepsShape, ResetGivesResetValues, ResetSwitchesOff, StoredWordReadsBack, WriteLeavesOtherWords, WriteLeavesOtherReceiveQueues, WriteLeavesOtherTransmitQueues, HeadLeavesTheRest, SwitchLeavesTheRest, ShutLeavesTheRest, HeadMovesReceive, HeadMovesTransmit, SwitchObeysReceive, SwitchObeysTransmit, ShutIsOffReceive, ShutIsOffTransmit, RingIsHeldWhileOn, EnableWriteAsksReceive, EnableWriteAsksTransmit, CountersCount, ReadLeavesTheRest, CountLeavesTheRest, RaiseLeavesTheRest, MessageLeavesTheRest, InterruptWriteLeavesTheRest, InterruptsStand};
+ghost use Rattle.register_file.specs.Laws.{ResetIsSound, ReadKeepsSound, WriteKeepsSound, CountKeepsSound, RaiseKeepsSound, QueueRaiseKeepsSound, MessageKeepsSound, HeadKeepsSound, SwitchKeepsSound, ShutKeepsSound, ResetGivesResetValues, ResetSwitchesOff, ResetTellsNothing, PutWordIsThere, PutWordIsAlone, GroupBitsAreMasks, StoredWordReadsBack, ReadStaysWithin, WriteStaysWithin, CountStaysWithin, RaiseStaysWithin, QueueRaiseStaysWithin, MessageStaysWithin, HeadStaysWithin, SwitchStaysWithin, ShutStaysWithin, ReadStaysWithOwner, WriteStaysWithOwner, OwnersAreApart, OwnersDiffer, WordIsOnePlace, PendingIsPending, MissedReceiveStands, MissedTransmitStands, MissedInterruptsStand, MissedSettingsStand, HeadMovesReceive, HeadMovesTransmit, SwitchObeysReceive, SwitchObeysTransmit, SwitchedSideStays, ShutIsOffReceive, ShutIsOffTransmit, RingIsHeldWhileOn, WrittenReceiveIsTheSides, WrittenTransmitIsTheSides, EnableWriteAsksReceive, EnableWriteAsksTransmit, EnableReadTellsOn, CountersCount, InterruptsStand};
 
-/// The registers have each place of the table after a reset, and keep it through every change.
-pub fn shape_is_kept()
-    ensures reset { ResetHasShape }
-    ensures write { WriteKeepsShape }
-    ensures read { ReadKeepsShape }
-    ensures count { CountKeepsShape }
-    ensures raise { RaiseKeepsShape }
-    ensures message { MessageKeepsShape }
-    ensures head { HeadKeepsShape }
-    ensures switch { SwitchKeepsShape }
-    ensures shut { ShutKeepsShape }
+/// Registers are sound after a reset and through every change: they have each place of the table, words of 32 bits, and
+/// told bits only where cause and mask are 1.
+pub fn soundness_is_kept()
+    ensures reset { ResetIsSound }
+    ensures read { ReadKeepsSound }
+    ensures write { WriteKeepsSound }
+    ensures count { CountKeepsSound }
+    ensures raise { RaiseKeepsSound }
+    ensures queue_raise { QueueRaiseKeepsSound }
+    ensures message { MessageKeepsSound }
+    ensures head { HeadKeepsSound }
+    ensures switch { SwitchKeepsSound }
+    ensures shut { ShutKeepsSound }
 {}
 
-/// After a reset each register has its reset value, and no side of a queue is on or wanted on.
+/// After a reset each register has its reset value, no side of a queue is on or wanted on, and nothing is told.
 pub fn reset_is_the_tables()
     ensures words { ResetGivesResetValues }
     ensures off { ResetSwitchesOff }
+    ensures told { ResetTellsNothing }
+{}
+
+/// A word that was put at a place is there, and all else is as it was.
+pub fn put_word_is_there()
+    ensures there { PutWordIsThere }
+    ensures alone { PutWordIsAlone }
+{}
+
+/// The bits that a group of interrupts has are the bits that its registers have in the table.
+pub fn group_bits_are_masks()
+    ensures { GroupBitsAreMasks }
 {}
 
 /// A word that was written to a plain read/write register is read back, by its mask.
@@ -26,22 +40,39 @@ pub fn stored_word_reads_back()
     ensures { StoredWordReadsBack }
 {}
 
-/// A write of a place leaves the word of every other place, but where it is of a group's interrupts.
-pub fn write_leaves_other_words()
-    ensures { WriteLeavesOtherWords }
+/// What an operation changes is in its footprint: of a read and a write that of its place, of a count and of a moved
+/// head the one word, of raised causes and of a message what is pending of the group, of a switch the enable word, and
+/// of a fault the enable word and whether the side is wanted on.
+pub fn changes_stay_in_their_footprint()
+    ensures read { ReadStaysWithin }
+    ensures write { WriteStaysWithin }
+    ensures count { CountStaysWithin }
+    ensures raise { RaiseStaysWithin }
+    ensures queue_raise { QueueRaiseStaysWithin }
+    ensures message { MessageStaysWithin }
+    ensures head { HeadStaysWithin }
+    ensures switch { SwitchStaysWithin }
+    ensures shut { ShutStaysWithin }
 {}
 
-/// A write of a place that is none of a side of a queue leaves that side: its ring, and whether it is on and wanted on.
-pub fn write_leaves_other_queues()
-    ensures receive { WriteLeavesOtherReceiveQueues }
-    ensures transmit { WriteLeavesOtherTransmitQueues }
+/// What is of a place is its owner's: an access changes nothing of another owner, and raised causes and messages
+/// nothing but causes, masks and told bits.
+pub fn accesses_stay_with_their_owner()
+    ensures read { ReadStaysWithOwner }
+    ensures write { WriteStaysWithOwner }
+    ensures apart { OwnersAreApart }
+    ensures differ { OwnersDiffer }
+    ensures word { WordIsOnePlace }
+    ensures pending { PendingIsPending }
 {}
 
-/// What the device does to one side of a queue changes no other side of any queue, and no other word.
-pub fn steps_leave_the_rest()
-    ensures head { HeadLeavesTheRest }
-    ensures switch { SwitchLeavesTheRest }
-    ensures shut { ShutLeavesTheRest }
+/// A side of a queue, a group's interrupts, and what single words set, stand through each change within a footprint
+/// that has nothing of them.
+pub fn what_a_footprint_misses_stands()
+    ensures receive { MissedReceiveStands }
+    ensures transmit { MissedTransmitStands }
+    ensures interrupts { MissedInterruptsStand }
+    ensures settings { MissedSettingsStand }
 {}
 
 /// A moved head is the head of the side's ring, and the side is else as it was.
@@ -50,10 +81,11 @@ pub fn moved_head_is_the_head()
     ensures transmit { HeadMovesTransmit }
 {}
 
-/// A switched side is on exactly where it is wanted on, and is else as it was.
+/// A switched side is on exactly where it is wanted on, and is else as it was; where it was so, nothing changes.
 pub fn switched_side_is_as_wanted()
     ensures receive { SwitchObeysReceive }
     ensures transmit { SwitchObeysTransmit }
+    ensures stays { SwitchedSideStays }
 {}
 
 /// A shut side is off and not wanted on, and is else as it was.
@@ -67,25 +99,25 @@ pub fn ring_is_held_while_on()
     ensures { RingIsHeldWhileOn }
 {}
 
-/// A write of a side's enable word only asks: the side stays on or off, and its ring stays.
+/// A written tail, control word or write-back address is the side's, and while the side is off a written base, length
+/// or head too: of the written word the bits that the register's mask and the address let through. The side is else as
+/// it was.
+pub fn written_word_is_the_sides()
+    ensures receive { WrittenReceiveIsTheSides }
+    ensures transmit { WrittenTransmitIsTheSides }
+{}
+
+/// A write of a side's enable word only asks: the side stays on or off, and its ring stays. A read of that word tells
+/// whether the side is on.
 pub fn enable_write_only_asks()
     ensures receive { EnableWriteAsksReceive }
     ensures transmit { EnableWriteAsksTransmit }
+    ensures read { EnableReadTellsOn }
 {}
 
 /// What is counted is read: one more each time, up to the largest word. A read starts the counter again from 0.
 pub fn counters_count()
     ensures { CountersCount }
-{}
-
-/// Reads, counting, raised causes, messages and writes of a group's interrupts leave both sides of every queue, and
-/// every word of a row that is no counter and no group's causes or masks.
-pub fn volatile_words_apart_nothing_changes()
-    ensures read { ReadLeavesTheRest }
-    ensures count { CountLeavesTheRest }
-    ensures raise { RaiseLeavesTheRest }
-    ensures message { MessageLeavesTheRest }
-    ensures write { InterruptWriteLeavesTheRest }
 {}
 
 /// What a group's interrupts were made is what its registers hold: its causes, its masks and its told bits, beside the

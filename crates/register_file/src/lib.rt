@@ -22,6 +22,7 @@ mod groups;
 mod hashing;
 mod interrupts;
 mod laws;
+mod owner;
 mod queue;
 mod register_file;
 mod settings;
@@ -31,9 +32,11 @@ mod words;
 pub use access::asks_reset;
 pub use dir::Dir;
 pub use laws::{
-    counters_count, enable_write_only_asks, interrupts_stand, moved_head_is_the_head,
-    reset_is_the_tables, ring_is_held_while_on, shape_is_kept, shut_side_is_off,
-    steps_leave_the_rest, stored_word_reads_back, switched_side_is_as_wanted,
-    volatile_words_apart_nothing_changes, write_leaves_other_queues, write_leaves_other_words,
+    accesses_stay_with_their_owner, changes_stay_in_their_footprint, counters_count,
+    enable_write_only_asks, group_bits_are_masks, interrupts_stand, moved_head_is_the_head,
+    put_word_is_there, reset_is_the_tables, ring_is_held_while_on, shut_side_is_off,
+    soundness_is_kept, stored_word_reads_back, switched_side_is_as_wanted,
+    what_a_footprint_misses_stands, written_word_is_the_sides,
 };
+pub use owner::{Owner, owner_of};
 pub use register_file::{QUEUES, RegisterFile};

@@ -1,4 +1,4 @@
-use Rattle.register_file.proofs.Counting.{counts_and_clears}
+use Rattle.register_file.proofs.ReadBack.{counts_and_clears}
 use Rattle.register_file.proofs.laws.counters_count.Goals as goal
 
 pub returns : goal.returns

@@ -1,4 +1,5 @@
-use Rattle.register_file.proofs.Sides.{receive-asked, transmit-asked}
+use Rattle.register_file.proofs.ReadBack.{enable_read}
+use Rattle.register_file.proofs.SideWords.{receive-asked, transmit-asked}
 use Rattle.register_file.proofs.laws.enable_write_only_asks.Goals as goal
 
 pub returns-clause-receive : goal.returns-clause-receive
@@ -6,3 +7,6 @@ returns-clause-receive c = λ r h queue view word b. receive-asked r h queue b v
 
 pub returns-clause-transmit : goal.returns-clause-transmit
 returns-clause-transmit c = λ r h queue view word b. transmit-asked r h queue b view word
+
+pub returns-clause-read : goal.returns-clause-read
+returns-clause-read c = enable_read

@@ -1,4 +1,4 @@
-use Rattle.register_file.proofs.Sides.{receive-with_head, transmit-with_head}
+use Rattle.register_file.proofs.SideWords.{receive-with_head, transmit-with_head}
 use Rattle.register_file.proofs.laws.moved_head_is_the_head.Goals as goal
 
 pub returns-clause-receive : goal.returns-clause-receive

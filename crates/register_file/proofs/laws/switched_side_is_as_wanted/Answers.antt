@@ -1,4 +1,4 @@
-use Rattle.register_file.proofs.Sides.{receive-switched, transmit-switched}
+use Rattle.register_file.proofs.SideWords.{receive-switched, transmit-switched, switched-stays}
 use Rattle.register_file.proofs.laws.switched_side_is_as_wanted.Goals as goal
 
 pub returns-clause-receive : goal.returns-clause-receive
@@ -6,3 +6,6 @@ returns-clause-receive c = receive-switched
 
 pub returns-clause-transmit : goal.returns-clause-transmit
 returns-clause-transmit c = transmit-switched
+
+pub returns-clause-stays : goal.returns-clause-stays
+returns-clause-stays c = switched-stays

@@ -1,0 +1,21 @@
+use Rattle.register_file.proofs.Footprints.{covers-of_read, covers-of_write, covers-any_pending, misses-owner}
+use Rattle.register_file.proofs.ReadBack.{one_place, owners_differ}
+use Rattle.register_file.proofs.laws.accesses_stay_with_their_owner.Goals as goal
+
+pub returns-clause-read : goal.returns-clause-read
+returns-clause-read c = covers-of_read
+
+pub returns-clause-write : goal.returns-clause-write
+returns-clause-write c = covers-of_write
+
+pub returns-clause-apart : goal.returns-clause-apart
+returns-clause-apart c = misses-owner
+
+pub returns-clause-differ : goal.returns-clause-differ
+returns-clause-differ c = owners_differ
+
+pub returns-clause-word : goal.returns-clause-word
+returns-clause-word c = one_place
+
+pub returns-clause-pending : goal.returns-clause-pending
+returns-clause-pending c = covers-any_pending

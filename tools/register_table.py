@@ -364,11 +364,12 @@ def between(low, high, ranges):
 
 
 class Function:
-    """A function of the dispatch: which addresses it takes, its arms, and the lemmas that it is proved by."""
+    """A function of the dispatch: which addresses it takes, its arms, and the lemma for each arm that answers by a run
+    and for each range between the arms."""
 
     def __init__(self, name, low, high, remainder=None, matched="address"):
         self.name, self.low, self.high, self.remainder, self.matched = name, low, high, remainder, matched
-        self.arms, self.lemmas = [], []
+        self.arms, self.hits, self.gaps = [], {}, []
         # Whether the arms leave no address out.
         self.whole = False
 
@@ -420,7 +421,7 @@ class Dispatch:
             function = self.function(name, low, high)
             for part in inside:
                 if part.is_words:
-                    function.arms.append((part.low, part.high, self.hit(function, part.low, part.high, part.members[0])))
+                    self.hit(function, (part.low, part.high), part.low, part.high, part.members[0])
                 else:
                     function.arms.append((part.low, part.high, f"steps_{part.low:05x}(address)"))
                     self.lay_out_steps(f"steps_{part.low:05x}", part)
@@ -453,26 +454,25 @@ class Dispatch:
                     blocks.append((low, high, member))
             blocks.sort(key=lambda block: block[0])
             if [block[:2] for block in blocks] == [(part.low, part.high)]:
-                answer = self.hit(function, part.low, part.high, blocks[0][2], rest)
+                self.hit(function, (x, x + 4), part.low, part.high, blocks[0][2], rest)
             elif blocks:
-                answer = f"{name}_{x:02x}(address)"
+                function.arms.append((x, x + 4, f"{name}_{x:02x}(address)"))
                 some = self.function(f"{name}_{x:02x}", part.low, part.high, rest)
-                some.arms = [(low, high, self.hit(some, low, high, member, rest)) for low, high, member in blocks]
+                for low, high, member in blocks:
+                    self.hit(some, (low, high), low, high, member, rest)
                 for start, end in between(part.low, part.high, some.ranges()):
                     self.gap(some, start, end, rest)
-            if blocks:
-                function.arms.append((x, x + 4, answer))
         for start, end in between(0, stride, function.ranges()):
             self.gap(function, part.low, part.high, (stride, start, end))
 
-    def hit(self, function, low, high, member, rest=None):
-        """The call that answers by a run, where its addresses are those from low up to high with a remainder, if one is
-        named. Adds the lemma that says so."""
+    def hit(self, function, arm, low, high, member, rest=None):
+        """Adds the arm that answers by a run, for its addresses from low up to high, with a remainder if one is named,
+        and the lemma that says so."""
         k, row, run = member
         name = f"at_{low:05X}" + (f"_{rest[1]:02X}" if rest else "")
         view = "0xFFFF" if run.low else "0xFFFFFFFF"
         made = f"(run {row.variant} 0x{run.first:05X} {run.stride} {run.first_index} {run.count} {str(run.low).lower()})"
-        function.lemmas.append(name)
+        function.hits[arm] = name
         self.hits.append(
             f"pub {name} : (a : ℕ) → 0x{low:05X} ≤ a → a < 0x{high:05X} → {remainder_is(rest)}a % 4 ≡ 0\n"
             f"    → access_at a ≡ Some (access {row.variant} ({run.first_index} + (a - 0x{run.first:05X}) / {run.stride}) {view})\n"
@@ -480,13 +480,14 @@ class Dispatch:
             f"{name} = {'steps_at' if rest else 'words_at'} {k} {made} 0x{low:05X} 0x{high:05X} refl refl refl refl\n"
         )
         offset = f"address - 0x{run.first:05X}" if run.first else "address"
-        return f"{'low_' if run.low else ''}{ANSWERS[run.stride]}(RowId::{row.variant}, {run.first_index}, {offset})"
+        call = f"{'low_' if run.low else ''}{ANSWERS[run.stride]}(RowId::{row.variant}, {run.first_index}, {offset})"
+        function.arms.append((*arm, call))
 
     def gap(self, function, low, high, rest=None):
         """Adds the lemma that addresses from low up to high, with a remainder if one is named, name nothing."""
         name = f"gap_{low:05X}" + (f"_{rest[1]:02X}" if rest else "")
         lemma = f"no_steps_at {rest[0]} 0x{rest[1]:02X} 0x{rest[2]:02X}" if rest else "no_words_at"
-        function.lemmas.append(name)
+        function.gaps.append(name)
         self.gaps.append(
             f"pub {name} : (a : ℕ) → 0x{low:05X} ≤ a → a < 0x{high:05X} → {remainder_is(rest)}access_at a ≡ None\n"
             f"unfolding runs\n"
@@ -509,10 +510,9 @@ def rust_function(function):
         about += f" whose remainder by {stride} is {start}"
         requires += f"    requires rest_from {{ 0x{start:02X} ≤ address % {stride} }}\n"
         requires += f"    requires rest_below {{ address % {stride} < 0x{end:02X} }}\n"
-    using = f"#[tactic(auto, using(crate::proofs::Arms::{function.name}))]\n" if function.lemmas else ""
     shown = "pub(crate) " if function.low is None else ""
     return f"""/// The access of an address {about}.
-{using}{shown}fn {function.name}(address: u32) -> Option<Access>
+{shown}fn {function.name}(address: u32) -> Option<Access>
 {requires}    requires whole {{ address % 4 ≡ 0 }}
     ensures {{ result ≡ access_at address }}
 {{
@@ -566,16 +566,23 @@ use Rattle.reg_table.proofs.Missed.{{no_words_at, no_steps_at}}
 {chr(10).join(dispatch.gaps)}"""
 
 
-def proof_arms(dispatch):
-    proved = [function for function in dispatch.functions if function.lemmas]
-    names = [name for function in proved for name in function.lemmas]
-    sets = "\n\n".join(f"pub ruleset {function.name} = ({', '.join(function.lemmas)})" for function in proved)
+def proof_arms(function):
+    """The answers for a function of the dispatch. The ranges that no arm takes are counted from the one below the first
+    arm, which is passed to the function only where that arm isn't the first of what it takes."""
+    answers = [(f"returns-in-{low}-to-{high - 1}", lemma) for (low, high), lemma in function.hits.items()]
+    start = function.low if function.matched == "address" else 0
+    first = 2 if function.arms[0][0] == start > 0 else 1
+    for n, lemma in enumerate(function.gaps):
+        answers.append((f"returns-in_default-{first + n}" if first + n > 1 else "returns-in_default", lemma))
+    imports = ""
+    for module, names in [("Hits", list(function.hits.values())), ("Gaps", function.gaps)]:
+        imports += f"use Rattle.reg_table.proofs.{module}.{{{', '.join(names)}}}\n" if names else ""
+    body = "\n".join(f"pub {goal} : goal.{goal}\n{goal} c = grind (arith, {lemma})\n" for goal, lemma in answers)
     return f"""{GENERATED}
-use Rattle.reg_table.proofs.Hits.{{{", ".join(name for name in names if name.startswith("at"))}}}
-use Rattle.reg_table.proofs.Gaps.{{{", ".join(name for name in names if name.startswith("gap"))}}}
+use Rattle.std.proofs.Common.{{arith}}
+{imports}use Rattle.reg_table.proofs.dispatch.{function.name}.Goals as goal
 
-{sets}
-"""
+{body}"""
 
 
 def first_runs(row):
@@ -687,6 +694,7 @@ def register_page():
 
 def outputs():
     crate, dispatch = ROOT / "crates/reg_table", Dispatch()
+    answers = {arms_of(function): proof_arms(function) for function in dispatch.functions if function.hits or function.gaps}
     return {
         crate / "src/rows.rt": rust_rows(),
         crate / "specs/Rows.antt": spec_rows(),
@@ -697,19 +705,35 @@ def outputs():
         crate / "proofs/Numbers.antt": proof_rows(),
         crate / "proofs/Hits.antt": proof_hits(dispatch),
         crate / "proofs/Gaps.antt": proof_gaps(dispatch),
-        crate / "proofs/Arms.antt": proof_arms(dispatch),
         ROOT / "docs/REGISTERS.md": register_page(),
-    }
+    } | answers
+
+
+def arms_of(function):
+    """Where the answers for a function of the dispatch stand."""
+    return ROOT / f"crates/reg_table/proofs/dispatch/{function.name}/Answers.antt"
+
+
+def leftovers(written):
+    """Answers for functions that the dispatch hasn't any more."""
+    return [path for path in (ROOT / "crates/reg_table/proofs/dispatch").glob("*/*.antt") if path not in written]
 
 
 def main():
     check_table()
-    stale = [(path, text) for path, text in outputs().items() if not path.exists() or path.read_text() != text]
-    for path, text in stale:
-        print("stale:" if "--check" in sys.argv else "written:", path.relative_to(ROOT))
-        if "--check" not in sys.argv:
-            path.write_text(text)
-    if stale and "--check" in sys.argv:
+    written, only_check = outputs(), "--check" in sys.argv
+    stale = [path for path, text in written.items() if not path.exists() or path.read_text() != text]
+    for path in stale + leftovers(written):
+        print("stale:" if only_check else "written:" if path in written else "removed:", path.relative_to(ROOT))
+        if only_check:
+            continue
+        if path in written:
+            path.parent.mkdir(parents=True, exist_ok=True)
+            path.write_text(written[path])
+        else:
+            path.unlink()
+            path.parent.rmdir()
+    if only_check and (stale or leftovers(written)):
         sys.exit(1)
 
 

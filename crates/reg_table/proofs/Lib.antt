@@ -3,7 +3,6 @@ pub mod Reached
 pub mod Missed
 pub mod Hits
 pub mod Gaps
-pub mod Arms
 pub mod Views
 pub mod Aligned
 pub mod FirstRuns

@@ -6,7 +6,6 @@ use crate::access::{Access, low_words, pairs, queues, words};
 use crate::rows::RowId;
 
 /// The access of an address that is a multiple of 4.
-#[tactic(auto, using(crate::proofs::Arms::aligned))]
 pub(crate) fn aligned(address: u32) -> Option<Access>
     requires whole { address % 4 ≡ 0 }
     ensures { result ≡ access_at address }
@@ -38,7 +37,6 @@ fn page_00(address: u32) -> Option<Access>
 }
 
 /// The access of an address from 0x00000 to 0x00897.
-#[tactic(auto, using(crate::proofs::Arms::from_00000))]
 fn from_00000(address: u32) -> Option<Access>
     requires below { address < 0x00898 }
     requires whole { address % 4 ≡ 0 }
@@ -62,7 +60,6 @@ fn from_00000(address: u32) -> Option<Access>
 }
 
 /// The access of an address from 0x00898 to 0x00FFF.
-#[tactic(auto, using(crate::proofs::Arms::from_00898))]
 fn from_00898(address: u32) -> Option<Access>
     requires from { 0x00898 ≤ address }
     requires below { address < 0x01000 }
@@ -87,7 +84,6 @@ fn from_00898(address: u32) -> Option<Access>
 }
 
 /// The access of an address from 0x01000 to 0x01FFF.
-#[tactic(auto, using(crate::proofs::Arms::page_01))]
 fn page_01(address: u32) -> Option<Access>
     requires from { 0x01000 ≤ address }
     requires below { address < 0x02000 }
@@ -108,7 +104,6 @@ fn page_01(address: u32) -> Option<Access>
 }
 
 /// The access of an address from 0x01000 to 0x01FFF whose remainder by 64 is 48.
-#[tactic(auto, using(crate::proofs::Arms::page_01_30))]
 fn page_01_30(address: u32) -> Option<Access>
     requires from { 0x01000 ≤ address }
     requires below { address < 0x02000 }
@@ -125,7 +120,6 @@ fn page_01_30(address: u32) -> Option<Access>
 }
 
 /// The access of an address from 0x02000 to 0x03FFF.
-#[tactic(auto, using(crate::proofs::Arms::page_02))]
 fn page_02(address: u32) -> Option<Access>
     requires from { 0x02000 ≤ address }
     requires below { address < 0x04000 }
@@ -143,7 +137,6 @@ fn page_02(address: u32) -> Option<Access>
 }
 
 /// The access of an address from 0x04000 to 0x04FFF.
-#[tactic(auto, using(crate::proofs::Arms::page_04))]
 fn page_04(address: u32) -> Option<Access>
     requires from { 0x04000 ≤ address }
     requires below { address < 0x05000 }
@@ -166,7 +159,6 @@ fn page_04(address: u32) -> Option<Access>
 }
 
 /// The access of an address from 0x05000 to 0x05FFF.
-#[tactic(auto, using(crate::proofs::Arms::page_05))]
 fn page_05(address: u32) -> Option<Access>
     requires from { 0x05000 ≤ address }
     requires below { address < 0x06000 }
@@ -190,7 +182,6 @@ fn page_05(address: u32) -> Option<Access>
 }
 
 /// The access of an address from 0x05400 to 0x0547F.
-#[tactic(auto, using(crate::proofs::Arms::steps_05400))]
 fn steps_05400(address: u32) -> Option<Access>
     requires from { 0x05400 ≤ address }
     requires below { address < 0x05480 }
@@ -205,7 +196,6 @@ fn steps_05400(address: u32) -> Option<Access>
 }
 
 /// The access of an address from 0x06000 to 0x07FFF.
-#[tactic(auto, using(crate::proofs::Arms::page_06))]
 fn page_06(address: u32) -> Option<Access>
     requires from { 0x06000 ≤ address }
     requires below { address < 0x08000 }
@@ -227,7 +217,6 @@ fn page_06(address: u32) -> Option<Access>
 }
 
 /// The access of an address from 0x06000 to 0x07FFF whose remainder by 64 is 48.
-#[tactic(auto, using(crate::proofs::Arms::page_06_30))]
 fn page_06_30(address: u32) -> Option<Access>
     requires from { 0x06000 ≤ address }
     requires below { address < 0x08000 }
@@ -243,7 +232,6 @@ fn page_06_30(address: u32) -> Option<Access>
 }
 
 /// The access of an address from 0x08000 to 0x0AFFF.
-#[tactic(auto, using(crate::proofs::Arms::page_08))]
 fn page_08(address: u32) -> Option<Access>
     requires from { 0x08000 ≤ address }
     requires below { address < 0x0B000 }
@@ -261,7 +249,6 @@ fn page_08(address: u32) -> Option<Access>
 }
 
 /// The access of an address from 0x0A200 to 0x0A5FF.
-#[tactic(auto, using(crate::proofs::Arms::steps_0a200))]
 fn steps_0a200(address: u32) -> Option<Access>
     requires from { 0x0A200 ≤ address }
     requires below { address < 0x0A600 }
@@ -276,7 +263,6 @@ fn steps_0a200(address: u32) -> Option<Access>
 }
 
 /// The access of an address from 0x0D000 to 0x0DFFF.
-#[tactic(auto, using(crate::proofs::Arms::page_0d))]
 fn page_0d(address: u32) -> Option<Access>
     requires from { 0x0D000 ≤ address }
     requires below { address < 0x0E000 }
@@ -296,7 +282,6 @@ fn page_0d(address: u32) -> Option<Access>
 }
 
 /// The access of an address from 0x0E000 to 0x12FFF.
-#[tactic(auto, using(crate::proofs::Arms::page_0e))]
 fn page_0e(address: u32) -> Option<Access>
     requires from { 0x0E000 ≤ address }
     requires below { address < 0x13000 }

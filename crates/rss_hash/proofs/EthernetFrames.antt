@@ -1,20 +1,22 @@
 -- The type and the packet of a built frame, and the ports behind a header.
+use Rattle.std.proofs.Common.{◌≢◌, ◌==◌}
 use Rattle.std.proofs.Common.{◌≡◌, ℕ, ◌+◌, ◌-◌, ◌/◌, ◌%◌, ◌≤◌, Bool, true, false}
 use Rattle.std.proofs.Common.{List, ◌∷◌, ◌++◌, length, take, drop, slice_index, slice_range, refl, sym, ap, ◌∙◌, arith}
+use Rattle.std.proofs.lemmas.Bool.Decides.{nat_tests}
 use Rattle.std.proofs.lemmas.List.{length-append, append_assoc, append-nil, take_at, drop_at, drop-drop}
 use Rattle.std.proofs.lemmas.List.{get_or-append_right}
 use Rattle.rss_hash.specs.Built.{ethernet}
-use Rattle.rss_hash.specs.Flow.{flow_of, ip_flow, ipv4_flow, ipv6_flow}
+use Rattle.rss_hash.specs.Flow.{flow_of, ip_flow, ipv4_flow, ipv6_flow, no_flow}
 use Rattle.rss_hash.specs.Frame.{ether_type, packet_of}
 use Rattle.rss_hash.specs.Ipv4.{is_ipv4}
 use Rattle.rss_hash.specs.Ipv6.{is_ipv6}
-use Rattle.rss_hash.specs.Laws.{IsEthernet, ArePorts, plain_flow}
+use Rattle.rss_hash.specs.Laws.{AreStations, ArePorts, plain_flow}
 use Rattle.rss_hash.proofs.Parts.{joined_parts}
 
-length-addresses : (to from : List ℕ) → IsEthernet to from → length (to ++ from) ≡ 12
+length-addresses : (to from : List ℕ) → AreStations to from → length (to ++ from) ≡ 12
 length-addresses to from are = omega (arith, length-append to from, are.destination, are.source)
 
-ether_type-ethernet : (to from : List ℕ) (type : ℕ) (packet : List ℕ) → IsEthernet to from →
+ether_type-ethernet : (to from : List ℕ) (type : ℕ) (packet : List ℕ) → AreStations to from →
     ether_type (ethernet to from type packet) ≡ type
 unfolding ethernet
 ether_type-ethernet to from type packet are =
@@ -26,7 +28,7 @@ ether_type-ethernet to from type packet are =
     get_or-append_right (to ++ from) rest 12 13 0 long (omega arith) in
     omega (arith, high, low)
 
-packet_of-ethernet : (to from : List ℕ) (type : ℕ) (packet : List ℕ) → IsEthernet to from →
+packet_of-ethernet : (to from : List ℕ) (type : ℕ) (packet : List ℕ) → AreStations to from →
     packet_of (ethernet to from type packet) ≡ packet
 unfolding ethernet
 packet_of-ethernet to from type packet are =
@@ -35,17 +37,25 @@ packet_of-ethernet to from type packet are =
     ∙ ap (drop 2) (drop_at (to ++ from) rest 12 (length-addresses to from are))
 
 -- a frame of a known type is what its packet is
-pub flow_of-ipv4 : (to from packet : List ℕ) → IsEthernet to from → is_ipv4 packet ≡ true →
+pub flow_of-ipv4 : (to from packet : List ℕ) → AreStations to from → is_ipv4 packet ≡ true →
     flow_of (ethernet to from 0x0800 packet) ≡ ipv4_flow packet
 unfolding flow_of
 flow_of-ipv4 to from packet are four =
     rw (ether_type-ethernet to from 0x0800 packet are, packet_of-ethernet to from 0x0800 packet are, four) refl
 
-pub flow_of-ipv6 : (to from packet : List ℕ) → IsEthernet to from → is_ipv6 packet ≡ true →
+pub flow_of-ipv6 : (to from packet : List ℕ) → AreStations to from → is_ipv6 packet ≡ true →
     flow_of (ethernet to from 0x86DD packet) ≡ ipv6_flow packet
 unfolding flow_of
 flow_of-ipv6 to from packet are six =
     rw (ether_type-ethernet to from 0x86DD packet are, packet_of-ethernet to from 0x86DD packet are, six) refl
+
+pub flow_of-other : (to from : List ℕ) (type : ℕ) (packet : List ℕ) → AreStations to from →
+    type ≢ 2048 → type ≢ 34525 → flow_of (ethernet to from type packet) ≡ no_flow
+unfolding flow_of
+flow_of-other to from type packet are not_four not_six =
+    let four : (type == 2048) ≡ false = grind (arith, nat_tests) in
+    let six : (type == 34525) ≡ false = grind (arith, nat_tests) in
+    rw (ether_type-ethernet to from type packet are, four, six) refl
 
 -- the four port bytes stand right behind the header
 pub ports_behind : (packet source destination payload : List ℕ) (header : ℕ) →

@@ -2,7 +2,7 @@
 
 ghost use Rattle.rss_hash.specs.Flow.{flow_of};
 ghost use Rattle.rss_hash.specs.Laws.{tcp_flow, udp_flow, PortsOverIpv4, OthersOverIpv4};
-ghost use Rattle.rss_hash.specs.Laws.{FragmentsHaveNoPorts, PortsOverIpv6, OthersOverIpv6};
+ghost use Rattle.rss_hash.specs.Laws.{FragmentsHaveNoPorts, PortsOverIpv6, OthersOverIpv6, OtherTypesAreNoFlow};
 
 /// A TCP segment over IPv4 that is no fragment, with any options: its addresses and its ports.
 pub fn tcp_over_ipv4_is_its_fields()
@@ -37,4 +37,9 @@ pub fn udp_over_ipv6_is_its_fields()
 /// An IPv6 packet with any other next header, extension headers among them: its addresses.
 pub fn other_packets_over_ipv6_are_addresses()
     ensures { OthersOverIpv6 flow_of }
+{}
+
+/// A frame of any other type, tagged frames among them: no flow.
+pub fn other_types_are_no_flow()
+    ensures { OtherTypesAreNoFlow flow_of }
 {}

@@ -22,7 +22,7 @@ pub use input::Input;
 pub use key::Key;
 pub use laws::{
     fragments_have_no_ports, other_packets_over_ipv4_are_addresses,
-    other_packets_over_ipv6_are_addresses, tcp_over_ipv4_is_its_fields,
+    other_packets_over_ipv6_are_addresses, other_types_are_no_flow, tcp_over_ipv4_is_its_fields,
     tcp_over_ipv6_is_its_fields, udp_over_ipv4_is_its_fields, udp_over_ipv6_is_its_fields,
 };
 pub use mrqc::{QueueMode, RssFields};

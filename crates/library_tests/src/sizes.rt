@@ -1,7 +1,7 @@
 //! The longest texts.
 
 use bench::{Outcome, bench};
-use std::alloc::Global;
+use std::alloc::{AllocError, Global};
 use std::fmt::Write;
 use std::process::Abort;
 use std::test::Fail;
@@ -12,6 +12,18 @@ fn ends_so(alloc: Global, script: &str, end: &str, wanted: u8) -> bool {
     let mut written = Vec::new(alloc);
     let Outcome::Ended(status) = bench(alloc, &mut reader, &mut written, &["nicbench", "run"]);
     status == wanted && written.as_slice().ends_with(end.as_bytes())
+}
+
+/// A start, so many times a part, and the rest.
+fn repeated(
+    alloc: Global,
+    start: &str,
+    part: &str,
+    count: usize,
+    rest: &str,
+) -> Result<String, AllocError> {
+    let middle = part.repeat(alloc, count)?;
+    format!(in alloc; "{start}{middle}{rest}")
 }
 
 /// A program has 4,096 instructions at most, and data 16,384 bytes.
@@ -58,8 +70,7 @@ fn longest_scripts(rt: HostRuntime) -> Result<(), Fail> {
         ("data d ", "5a", 16_384, "5", "refused Syntax 1\n", 2),
         ("data d ", "5a", 16_385, "5", "refused Syntax 1\n", 2),
     ] {
-        let repeated = part.repeat(rt.alloc(), count)?;
-        let script = format!(in rt.alloc(); "{start}{repeated}{rest}")?;
+        let script = repeated(rt.alloc(), start, part, count, rest)?;
         assert!(rt;
             ends_so(rt.alloc(), script.as_str(), end, ended),
             "{count} times {part:?}, {rest:?}"

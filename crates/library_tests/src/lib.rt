@@ -10,8 +10,6 @@ mod events;
 #[cfg(test)]
 mod fakes;
 #[cfg(test)]
-mod hashes;
-#[cfg(test)]
 mod input;
 #[cfg(test)]
 mod outcome;

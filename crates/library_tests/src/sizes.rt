@@ -22,13 +22,8 @@ fn repeated(
     count: usize,
     rest: &str,
 ) -> Result<String, AllocError> {
-    let mut script = String::new(alloc);
-    script.push_str(start)?;
-    for _ in 0..count {
-        script.push_str(part)?;
-    }
-    script.push_str(rest)?;
-    Ok(script)
+    let middle = part.repeat(alloc, count)?;
+    format!(in alloc; "{start}{middle}{rest}")
 }
 
 /// A program has 4,096 instructions at most, and data 16,384 bytes.

@@ -99,7 +99,8 @@ unfolding entry_of
 queues_by_mode = record {
   hashing = λ r frame t e mode. queue-hashing r frame (chosen_pool r frame) t mode (found r frame t e);
   entry = λ r frame some. entry-hashed r frame some;
-  no_entry = λ r frame none. cond-true (code_of (rss_type r frame) == 0) 0 _ (eq-eqb (code_of (rss_type r frame)) 0 none);
+  no_entry = λ r frame none.
+      cond-true (code_of (rss_type r frame) == 0) 0 _ (eq-eqb (code_of (rss_type r frame)) 0 none);
   pools_32_hashing = λ r frame pool t g e. by_mode r frame pool t Pools32Rss g e;
   pools_64_hashing = λ r frame pool t g e. by_mode r frame pool t Pools64Rss g e;
   pools_64 = λ r frame pool t g e. by_mode r frame pool t Pools64 g e;

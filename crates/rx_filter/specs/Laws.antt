@@ -1,6 +1,6 @@
 -- What a driver's author can rest on.
-use Rattle.std.specs.Prelude.{ℕ, ◌≡◌, ◌≢◌, ◌<◌, ◌+◌, ◌*◌, ◌/◌, ◌%◌, ◌^◌, ◌==◌, ◌↔◌, ◌⊎◌, Bool, true, false, IsTrue, IsFalse}
-use Rattle.std.specs.Prelude.{List, Some, None, Ok, Err, slice_index, if◌then◌else◌}
+use Rattle.std.specs.Prelude.{ℕ, ◌≡◌, ◌≢◌, ◌<◌, ◌+◌, ◌*◌, ◌/◌, ◌%◌, ◌^◌, ◌==◌, ◌↔◌, ◌⊎◌}
+use Rattle.std.specs.Prelude.{Bool, true, false, IsTrue, IsFalse, List, Some, None, Ok, Err, slice_index, if◌then◌else◌}
 use Rattle.reg_table.specs.declared.rows.RowId.TheVariants.{Fctrl, Mcstctrl, Mta, VtCtl, Mrqc, Reta}
 use Rattle.rss_hash.specs.Choice.{code_of}
 use Rattle.rss_hash.specs.Mrqc.{queue_mode_of}
@@ -48,8 +48,8 @@ IsListed r frame =
     let vector = vector_of (word_of r Mcstctrl 0 % 4) frame in
     IsTrue (has_bit MFE (word_of r Mcstctrl 0)) × IsTrue (has_bit (vector % 32) (word_of r Mta (vector / 32)))
 
--- a frame for several but not for all is let in exactly where FCTRL bit 8, MPE, is 1, a valid address is its destination,
--- or MTA lists it
+-- a frame for several but not for all is let in exactly where FCTRL bit 8, MPE, is 1, a valid address is its
+-- destination, or MTA lists it
 abbrev pub MulticastIsLetIn : Type 0
 MulticastIsLetIn =
     (r : Registers) (frame : List ℕ) → IsFalse (is_broadcast frame) → IsTrue (is_multicast frame) →

@@ -8,9 +8,8 @@ use Rattle.reg_table.specs.declared.rows.RowId.TheVariants.{Mrqc}
 use Rattle.register_file.specs.Registers.{Registers, word_of}
 use Rattle.rx_filter.specs.Address.{passes}
 use Rattle.rx_filter.specs.Pools.{uses_pools, takes_frames, has_queues, checked_pool, pool_of, chosen_pool}
-use Rattle.rx_filter.specs.Sorting.{target_of, pool_target, sorted}
+use Rattle.rx_filter.specs.Sorting.{pool_target, sorted}
 use Rattle.rx_filter.specs.Laws.{FilteredIsNotLetIn}
-use Rattle.rx_filter.specs.declared.target.Target.{Target}
 use Rattle.rx_filter.specs.declared.unwanted.Unwanted.{Unwanted}
 use Rattle.rx_filter.specs.declared.unwanted.Unwanted.TheVariants.{Filter, NoPool, PoolOff}
 

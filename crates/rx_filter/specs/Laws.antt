@@ -13,9 +13,17 @@ use Rattle.register_file.specs.Words.{row_words}
 use Rattle.rx_filter.specs.Address.{matches, is_broadcast, is_multicast, passes}
 use Rattle.rx_filter.specs.Pools.{uses_pools, takes_frames, selects, pool_of}
 use Rattle.rx_filter.specs.Sorting.{rss_type, rss_hash, rss_entry, sorted}
-use Rattle.rx_filter.specs.declared.fields.TheConstants.{BAM, MPE, UPE, MFE, DIS_DEF_POOL}
+use Rattle.rx_filter.specs.declared.fields.TheConstants.{MPE, UPE, BAM, MO, MFE, AV, VT_ENA, DEF_PL, DIS_DEF_POOL, PCSD}
 use Rattle.rx_filter.specs.declared.target.Target.{Target}
 use Rattle.rx_filter.specs.declared.unwanted.Unwanted.TheVariants.{Filter}
+
+-- the lowest bit of each field is the datasheet's
+pub record FieldsStandAtTheirBits : Type 0 where
+  pub fctrl : (MPE ≡ 8) × ((UPE ≡ 9) × (BAM ≡ 10))
+  pub mcstctrl : (MO ≡ 0) × (MFE ≡ 2)
+  pub rah : AV ≡ 31
+  pub vt_ctl : (VT_ENA ≡ 0) × ((DEF_PL ≡ 7) × (DIS_DEF_POOL ≡ 29))
+  pub rxcsum : PCSD ≡ 13
 
 -- the destination of a frame of bytes is that of all exactly where each of its six bytes is 0xFF
 abbrev pub BroadcastIsAllOnes : Type 0

@@ -1,5 +1,6 @@
 -- Where the filter is why a frame goes nowhere.
-use Rattle.std.proofs.Common.{◌≡◌, ◌≢◌, ℕ, Bool, true, false, cond, List, Option, Some, None, Ok, Err, refl, sym, ap, ◌∙◌}
+use Rattle.std.proofs.Common.{◌≡◌, ◌≢◌, ℕ, Bool, true, false, cond, List, Option, Some, None, Ok, Err}
+use Rattle.std.proofs.Common.{refl, ap}
 use Rattle.std.specs.Prelude.{Result}
 use Rattle.std.proofs.lemmas.Bool.{cond-false}
 use Rattle.rss_hash.specs.Mrqc.{queue_mode_of}
@@ -7,9 +8,8 @@ use Rattle.reg_table.specs.declared.rows.RowId.TheVariants.{Mrqc}
 use Rattle.register_file.specs.Registers.{Registers, word_of}
 use Rattle.rx_filter.specs.Address.{passes}
 use Rattle.rx_filter.specs.Pools.{uses_pools, takes_frames, has_queues, checked_pool, pool_of, chosen_pool}
-use Rattle.rx_filter.specs.Sorting.{target_of, pool_target, sorted}
+use Rattle.rx_filter.specs.Sorting.{pool_target, sorted}
 use Rattle.rx_filter.specs.Laws.{FilteredIsNotLetIn}
-use Rattle.rx_filter.specs.declared.target.Target.{Target}
 use Rattle.rx_filter.specs.declared.unwanted.Unwanted.{Unwanted}
 use Rattle.rx_filter.specs.declared.unwanted.Unwanted.TheVariants.{Filter, NoPool, PoolOff}
 

@@ -1,5 +1,9 @@
+pub mod Tests
 pub mod Finding
-pub mod Destinations
+pub mod Broadcast
+pub mod Multicast
+pub mod Unicast
 pub mod Filtered
+pub mod Reset
 pub mod Sorted
 pub mod Queues

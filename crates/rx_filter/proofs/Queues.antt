@@ -1,6 +1,6 @@
 -- The pool of a frame, and its queue by the mode.
-use Rattle.std.proofs.Common.{◌≡◌, ℕ, ◌+◌, ◌*◌, ◌%◌, ◌==◌, Bool, true, false, cond, List, Option, Some, None, Ok, Err}
-use Rattle.std.proofs.Common.{refl, sym, ap, ◌∙◌, inl, inr, eq-eqb}
+use Rattle.std.proofs.Common.{◌≡◌, ℕ, ◌==◌, Bool, true, false, cond, List, Some, None, Ok, Err}
+use Rattle.std.proofs.Common.{sym, ap, ◌∙◌, inl, inr, eq-eqb}
 use Rattle.std.specs.Prelude.{Result}
 use Rattle.std.proofs.lemmas.Bool.{cond-true, cond-false}
 use Rattle.std.proofs.lemmas.Bool.Decides.{eqb_tells}
@@ -17,7 +17,7 @@ use Rattle.rx_filter.specs.Address.{passes}
 use Rattle.rx_filter.specs.Pools.{uses_pools, takes_frames, has_queues, default_pool, matched_pool, or_default}
 use Rattle.rx_filter.specs.Pools.{checked_pool, pool_of, chosen_pool}
 use Rattle.rx_filter.specs.Sorting.{queue_of, rss_type, rss_hash, rss_entry, target_of, pool_target, sorted}
-use Rattle.rx_filter.specs.Laws.{IsFirstMatch, IsLowestPool, HasNoPool, PoolOfAFrame, GoesToPool, QueuesByMode}
+use Rattle.rx_filter.specs.Laws.{HasNoPool, PoolOfAFrame, GoesToPool, QueuesByMode}
 use Rattle.rx_filter.specs.declared.fields.TheConstants.{DIS_DEF_POOL}
 use Rattle.rx_filter.specs.declared.target.Target.{Target}
 use Rattle.rx_filter.specs.declared.unwanted.Unwanted.{Unwanted}
@@ -99,7 +99,8 @@ unfolding entry_of
 queues_by_mode = record {
   hashing = λ r frame t e mode. queue-hashing r frame (chosen_pool r frame) t mode (found r frame t e);
   entry = λ r frame some. entry-hashed r frame some;
-  no_entry = λ r frame none. cond-true (code_of (rss_type r frame) == 0) 0 _ (eq-eqb (code_of (rss_type r frame)) 0 none);
+  no_entry = λ r frame none.
+      cond-true (code_of (rss_type r frame) == 0) 0 _ (eq-eqb (code_of (rss_type r frame)) 0 none);
   pools_32_hashing = λ r frame pool t g e. by_mode r frame pool t Pools32Rss g e;
   pools_64_hashing = λ r frame pool t g e. by_mode r frame pool t Pools64Rss g e;
   pools_64 = λ r frame pool t g e. by_mode r frame pool t Pools64 g e;

@@ -1,14 +1,12 @@
--- What of a frame's way is known from single bits of the registers.
-use Rattle.std.proofs.Common.{◌≡◌, ℕ, ◌+◌, ◌*◌, ◌/◌, ◌%◌, ◌<◌, ◌^◌, ◌==◌, ◌&&◌, ◌||◌, Bool, true, false, cond, List, [], Option, Some, None, Ok, Err, refl, sym, ap, ◌∙◌, arith}
-use Rattle.std.specs.Prelude.{Result, is_some, slice_index}
-use Rattle.std.proofs.lemmas.Bool.{cond-true, cond-false, false_from_ne_true}
-use Rattle.std.proofs.lemmas.Bool.Decides.{nat_tests}
-use Rattle.reg_table.specs.declared.rows.RowId.TheVariants.{Fctrl, Mcstctrl, Mta, Rah, Ral, Mrqc, Reta, Rssrk, Rxcsum}
+-- The target of a frame in a single queue, and which pools get frames.
+use Rattle.std.proofs.Common.{◌≡◌, ℕ, ◌==◌, Bool, true, false, cond, List, []}
+use Rattle.std.proofs.Common.{Option, Some, None, Ok, Err, refl, sym, ap, ◌∙◌, arith}
+use Rattle.std.specs.Prelude.{Result}
+use Rattle.std.proofs.lemmas.Bool.{cond-true, cond-false}
+use Rattle.reg_table.specs.declared.rows.RowId.TheVariants.{Mrqc, Reta, Rssrk, Rxcsum}
 use Rattle.register_file.specs.Bits.{has_bit}
-use Rattle.register_file.specs.Columns.{place}
-use Rattle.register_file.specs.Registers.{Registers, reset_registers, word_of}
+use Rattle.register_file.specs.Registers.{Registers, word_of}
 use Rattle.register_file.specs.Words.{row_words}
-use Rattle.register_file.proofs.Puts.{word_at-reset}
 use Rattle.rss_hash.specs.Choice.{code_of, rss_type_of, hashed_part, first_enabled}
 use Rattle.rss_hash.specs.Flow.{flow_of}
 use Rattle.rss_hash.specs.Mrqc.{queue_mode_of, is_hashing}
@@ -19,52 +17,14 @@ use Rattle.rss_hash.specs.declared.choice.RssType.TheVariants.{NoHash}
 use Rattle.rss_hash.specs.declared.flow.Flow.{Flow}
 use Rattle.rss_hash.specs.declared.mrqc.QueueMode.{QueueMode}
 use Rattle.rss_hash.specs.declared.mrqc.QueueMode.TheVariants.{Single, Rss, Pools64, Pools32Rss, Pools64Rss}
-use Rattle.rx_filter.specs.Address.{destination_low, destination_high, matches, first_match, is_broadcast, is_multicast, multicast_number, is_in_table, lets_multicast, lets_unicast, lets_broadcast, passes}
+use Rattle.rx_filter.specs.Address.{passes}
 use Rattle.rx_filter.specs.Pools.{uses_pools, takes_frames, has_queues, checked_pool, pool_of, chosen_pool}
 use Rattle.rx_filter.specs.Sorting.{queue_of, rss_type, rss_entry, target_of, pool_target, sorted}
 use Rattle.rx_filter.specs.Laws.{has_pools, pool_of_queue}
+use Rattle.rx_filter.specs.declared.fields.TheConstants.{PCSD}
 use Rattle.rx_filter.specs.declared.target.Target.{Target}
 use Rattle.rx_filter.specs.declared.unwanted.Unwanted.{Unwanted}
 use Rattle.rx_filter.specs.declared.unwanted.Unwanted.TheVariants.{Filter, NoPool, PoolOff}
-use Rattle.rx_filter.specs.declared.fields.TheConstants.{AV, BAM, MPE, UPE, MFE, PCSD}
-use Rattle.rx_filter.proofs.Finding.{first_match-none}
-use Rattle.rx_filter.proofs.Filtered.{sorted-refused}
-
--- ---- after a reset
-
-abbrev let_in : (broadcast multicast by_broadcast by_multicast by_unicast found table : Bool) → Bool
-let_in broadcast multicast by_broadcast by_multicast by_unicast found table =
-    cond broadcast (by_broadcast || by_multicast) (cond multicast (by_multicast || found || table) (by_unicast || found))
-
-let_in-none : (broadcast multicast : Bool) → let_in broadcast multicast false false false false false ≡ false
-let_in-none true multicast = refl
-let_in-none false true = refl
-let_in-none false false = refl
-
-matches-reset : (frame : List ℕ) (i : ℕ) → i < 128 → matches reset_registers frame i ≡ false
-matches-reset frame i small =
-    ap (λ word.
-    has_bit AV word && word_of reset_registers Ral i == destination_low frame
-    && word % 2 ^ 16 == destination_high frame) (word_at-reset (place Rah i) small)
-
-pub sorted-reset : (frame : List ℕ) → sorted reset_registers frame ≡ Err Filter
-unfolding passes
-sorted-reset frame =
-    let r = reset_registers in
-    let control : word_of r Fctrl 0 ≡ 0 = word_at-reset (place Fctrl 0) (omega arith) in
-    let number = multicast_number r frame in
-    let table : is_in_table r frame ≡ false =
-    ap (λ word. has_bit MFE word && has_bit (number % 32) (word_of r Mta (number / 32)))
-    (word_at-reset (place Mcstctrl 0) (omega arith)) in
-    let all = is_broadcast frame in
-    let several = is_multicast frame in
-    sorted-refused r frame
-    (ap (λ word. let_in all several (has_bit BAM word) (has_bit MPE word) (has_bit UPE word)
-    (is_some (first_match r frame)) (is_in_table r frame)) control
-    ∙ ap (λ found. let_in all several false false false (is_some found) (is_in_table r frame))
-    (first_match-none r frame (matches-reset frame))
-    ∙ ap (λ there. let_in all several false false false false there) table
-    ∙ let_in-none all several)
 
 -- ---- a single queue
 
@@ -80,20 +40,26 @@ cond-same : (b : Bool) (n : ℕ) → cond b n n ≡ n
 cond-same true n = refl
 cond-same false n = refl
 
-target-single : (r : Registers) (frame : List ℕ) → queue_mode_of (word_of r Mrqc 0) ≡ Single → target_of r frame 0 ≡ record { queue = 0; rss = 0; hash = 0 }
+target-single : (r : Registers) (frame : List ℕ) → queue_mode_of (word_of r Mrqc 0) ≡ Single →
+    target_of r frame 0 ≡ record { queue = 0; rss = 0; hash = 0 }
 unfolding target_of
 target-single r frame single =
     let key = bytes_of_registers (row_words r.words Rssrk) in
     let tells = has_bit PCSD (word_of r Rxcsum 0) in
     let hash = λ (type : RssType). toeplitz_hash key (hashed_part type (flow_of frame).input) in
-    let entry = λ (type : RssType). cond (code_of type == 0) 0 (entry_of (row_words r.words Reta) (hash type)) in
-    let target : QueueMode → RssType → Target = λ mode type. record { queue = queue_of mode 0 (entry type); rss = code_of type; hash = cond tells (hash type) 0 } in
-    let none : cond tells (toeplitz_hash key []) 0 ≡ 0 = ap (λ n. cond tells n 0) (hash-nothing key) ∙ cond-same tells 0 in
+    let entry = λ (type : RssType).
+    cond (code_of type == 0) 0 (entry_of (row_words r.words Reta) (hash type)) in
+    let target : QueueMode → RssType → Target = λ mode type.
+    record { queue = queue_of mode 0 (entry type); rss = code_of type; hash = cond tells (hash type) 0 } in
+    let none : cond tells (toeplitz_hash key []) 0 ≡ 0 =
+    ap (λ n. cond tells n 0) (hash-nothing key) ∙ cond-same tells 0 in
     ap (λ mode. target mode (rss_type r frame)) single
     ∙ ap (target Single) (type-single (word_of r Mrqc 0) (flow_of frame) single)
     ∙ (λ k. record { queue = 0; rss = 0; hash = none k })
 
-pub sorted-single : (r : Registers) (frame : List ℕ) → uses_pools r ≡ false → queue_mode_of (word_of r Mrqc 0) ≡ Single → passes r frame ≡ true → sorted r frame ≡ Ok (record { queue = 0; rss = 0; hash = 0 })
+pub sorted-single : (r : Registers) (frame : List ℕ) → uses_pools r ≡ false →
+    queue_mode_of (word_of r Mrqc 0) ≡ Single → passes r frame ≡ true →
+    sorted r frame ≡ Ok (record { queue = 0; rss = 0; hash = 0 })
 unfolding sorted chosen_pool
 sorted-single r frame whole single goes_in =
     cond-true (passes r frame) (pool_target r frame (chosen_pool r frame)) (Err Filter) goes_in
@@ -102,24 +68,30 @@ sorted-single r frame whole single goes_in =
 
 -- ---- pools
 
-pool-queue_of : (mode : QueueMode) (pool entry : ℕ) → has_pools mode ≡ true → pool_of_queue mode (queue_of mode pool entry) ≡ pool
+pool-queue_of : (mode : QueueMode) (pool entry : ℕ) → has_pools mode ≡ true →
+    pool_of_queue mode (queue_of mode pool entry) ≡ pool
 pool-queue_of Single pool entry e = cc
 pool-queue_of Rss pool entry e = cc
 pool-queue_of Pools64 pool entry e = omega arith
 pool-queue_of Pools32Rss pool entry e = omega arith
 pool-queue_of Pools64Rss pool entry e = omega arith
 
-taken-of_ok : (has takes : ℕ → Bool) (p pool : ℕ) (b c : Bool) → has p ≡ b → takes p ≡ c → cond b (cond c (Ok p) (Err PoolOff)) (Err NoPool) ≡ Ok pool → takes pool ≡ true
+taken-of_ok : (has takes : ℕ → Bool) (p pool : ℕ) (b c : Bool) → has p ≡ b → takes p ≡ c →
+    cond b (cond c (Ok p) (Err PoolOff)) (Err NoPool) ≡ Ok pool → takes pool ≡ true
 taken-of_ok has takes p pool true true eb ec e = let same : p ≡ pool = cc in ap takes (sym same) ∙ ec
 taken-of_ok has takes p pool true false eb ec e = cc
 taken-of_ok has takes p pool false c eb ec e = cc
 
-taken-checked : (r : Registers) (o : Option ℕ) (pool : ℕ) → checked_pool r o ≡ Ok pool → takes_frames r pool ≡ true
+taken-checked : (r : Registers) (o : Option ℕ) (pool : ℕ) → checked_pool r o ≡ Ok pool →
+    takes_frames r pool ≡ true
 taken-checked r None pool e = cc
 taken-checked r (Some p) pool e =
     taken-of_ok (has_queues (queue_mode_of (word_of r Mrqc 0))) (takes_frames r) p pool _ _ refl refl e
 
-taken-target : (r : Registers) (frame : List ℕ) (chosen : Result ℕ Unwanted) (t : Target) → ((pool : ℕ) → chosen ≡ Ok pool → takes_frames r pool ≡ true) → has_pools (queue_mode_of (word_of r Mrqc 0)) ≡ true → pool_target r frame chosen ≡ Ok t → takes_frames r (pool_of_queue (queue_mode_of (word_of r Mrqc 0)) t.queue) ≡ true
+taken-target : (r : Registers) (frame : List ℕ) (chosen : Result ℕ Unwanted) (t : Target) →
+    ((pool : ℕ) → chosen ≡ Ok pool → takes_frames r pool ≡ true) →
+    has_pools (queue_mode_of (word_of r Mrqc 0)) ≡ true → pool_target r frame chosen ≡ Ok t →
+    takes_frames r (pool_of_queue (queue_mode_of (word_of r Mrqc 0)) t.queue) ≡ true
 unfolding target_of
 taken-target r frame (Err why) t taken pools e = cc
 taken-target r frame (Ok pool) t taken pools e =
@@ -129,13 +101,18 @@ taken-target r frame (Ok pool) t taken pools e =
     ∙ ap (takes_frames r) (pool-queue_of mode pool (rss_entry r frame) pools)
     ∙ taken pool refl
 
-pub sorted-let_in : (b : Bool) (found : Result Target Unwanted) (t : Target) → cond b found (Err Filter) ≡ Ok t → found ≡ Ok t
+pub sorted-let_in : (b : Bool) (found : Result Target Unwanted) (t : Target) → cond b found (Err Filter) ≡ Ok t →
+    found ≡ Ok t
 sorted-let_in true found t e = e
 sorted-let_in false found t e = cc
 
-pub taken-sorted : (r : Registers) (frame : List ℕ) (t : Target) → uses_pools r ≡ true → has_pools (queue_mode_of (word_of r Mrqc 0)) ≡ true → sorted r frame ≡ Ok t → takes_frames r (pool_of_queue (queue_mode_of (word_of r Mrqc 0)) t.queue) ≡ true
+pub taken-sorted : (r : Registers) (frame : List ℕ) (t : Target) → uses_pools r ≡ true →
+    has_pools (queue_mode_of (word_of r Mrqc 0)) ≡ true → sorted r frame ≡ Ok t →
+    takes_frames r (pool_of_queue (queue_mode_of (word_of r Mrqc 0)) t.queue) ≡ true
 unfolding sorted chosen_pool
 taken-sorted r frame t parted pools e =
-    let chosen : chosen_pool r frame ≡ checked_pool r (pool_of r frame) = cond-true (uses_pools r) (checked_pool r (pool_of r frame)) (Ok 0) parted in
-    taken-target r frame (chosen_pool r frame) t (λ pool f. taken-checked r (pool_of r frame) pool (sym chosen ∙ f)) pools
+    let chosen : chosen_pool r frame ≡ checked_pool r (pool_of r frame) =
+    cond-true (uses_pools r) (checked_pool r (pool_of r frame)) (Ok 0) parted in
+    taken-target r frame (chosen_pool r frame) t
+    (λ pool f. taken-checked r (pool_of r frame) pool (sym chosen ∙ f)) pools
     (sorted-let_in (passes r frame) (pool_target r frame (chosen_pool r frame)) t e)

@@ -1,6 +1,6 @@
 -- What a driver's author can rest on.
-use Rattle.std.specs.Prelude.{ℕ, ◌≡◌, ◌≢◌, ◌<◌, ◌+◌, ◌*◌, ◌/◌, ◌%◌, ◌^◌, ◌==◌, ◌↔◌, ◌⊎◌, Bool, true, false, IsTrue, IsFalse}
-use Rattle.std.specs.Prelude.{List, Some, None, Ok, Err, slice_index, if◌then◌else◌}
+use Rattle.std.specs.Prelude.{ℕ, ◌≡◌, ◌≢◌, ◌<◌, ◌+◌, ◌*◌, ◌/◌, ◌%◌, ◌^◌, ◌==◌, ◌↔◌, ◌⊎◌}
+use Rattle.std.specs.Prelude.{Bool, true, false, IsTrue, IsFalse, List, Some, None, Ok, Err, slice_index, if◌then◌else◌}
 use Rattle.reg_table.specs.declared.rows.RowId.TheVariants.{Fctrl, Mcstctrl, Mta, VtCtl, Mrqc, Reta}
 use Rattle.rss_hash.specs.Choice.{code_of}
 use Rattle.rss_hash.specs.Mrqc.{queue_mode_of}
@@ -13,9 +13,17 @@ use Rattle.register_file.specs.Words.{row_words}
 use Rattle.rx_filter.specs.Address.{matches, is_broadcast, is_multicast, passes}
 use Rattle.rx_filter.specs.Pools.{uses_pools, takes_frames, selects, pool_of}
 use Rattle.rx_filter.specs.Sorting.{rss_type, rss_hash, rss_entry, sorted}
-use Rattle.rx_filter.specs.declared.fields.TheConstants.{BAM, MPE, UPE, MFE, DIS_DEF_POOL}
+use Rattle.rx_filter.specs.declared.fields.TheConstants.{MPE, UPE, BAM, MO, MFE, AV, VT_ENA, DEF_PL, DIS_DEF_POOL, PCSD}
 use Rattle.rx_filter.specs.declared.target.Target.{Target}
 use Rattle.rx_filter.specs.declared.unwanted.Unwanted.TheVariants.{Filter}
+
+-- the lowest bit of each field is the datasheet's
+pub record FieldsStandAtTheirBits : Type 0 where
+  pub fctrl : (MPE ≡ 8) × ((UPE ≡ 9) × (BAM ≡ 10))
+  pub mcstctrl : (MO ≡ 0) × (MFE ≡ 2)
+  pub rah : AV ≡ 31
+  pub vt_ctl : (VT_ENA ≡ 0) × ((DEF_PL ≡ 7) × (DIS_DEF_POOL ≡ 29))
+  pub rxcsum : PCSD ≡ 13
 
 -- the destination of a frame of bytes is that of all exactly where each of its six bytes is 0xFF
 abbrev pub BroadcastIsAllOnes : Type 0
@@ -48,8 +56,8 @@ IsListed r frame =
     let vector = vector_of (word_of r Mcstctrl 0 % 4) frame in
     IsTrue (has_bit MFE (word_of r Mcstctrl 0)) × IsTrue (has_bit (vector % 32) (word_of r Mta (vector / 32)))
 
--- a frame for several but not for all is let in exactly where FCTRL bit 8, MPE, is 1, a valid address is its destination,
--- or MTA lists it
+-- a frame for several but not for all is let in exactly where FCTRL bit 8, MPE, is 1, a valid address is its
+-- destination, or MTA lists it
 abbrev pub MulticastIsLetIn : Type 0
 MulticastIsLetIn =
     (r : Registers) (frame : List ℕ) → IsFalse (is_broadcast frame) → IsTrue (is_multicast frame) →

@@ -1,6 +1,11 @@
 //! What a driver's author can rest on. Each law is the contract of a function that does nothing.
 
-ghost use Rattle.rx_filter.specs.Laws.{BroadcastIsAllOnes, BroadcastIsLetIn, MulticastIsLetIn, UnicastIsLetIn, FilteredIsNotLetIn, ResetRefusesAll, SingleIsQueue0, OffPoolsGetNone, PoolOfAFrame, QueuesByMode};
+ghost use Rattle.rx_filter.specs.Laws.{FieldsStandAtTheirBits, BroadcastIsAllOnes, BroadcastIsLetIn, MulticastIsLetIn, UnicastIsLetIn, FilteredIsNotLetIn, ResetRefusesAll, SingleIsQueue0, OffPoolsGetNone, PoolOfAFrame, QueuesByMode};
+
+/// Each field of the registers stands at its bits by the datasheet.
+pub fn fields_stand_at_their_bits()
+    ensures { FieldsStandAtTheirBits }
+{}
 
 /// A frame for all, whose destination is six bytes 0xFF, is let in exactly where FCTRL BAM or MPE is 1.
 pub fn broadcast_is_let_in()

@@ -16,9 +16,9 @@ mod target;
 mod unwanted;
 
 pub use laws::{
-    broadcast_is_let_in, filtered_is_not_let_in, multicast_is_let_in, off_pools_get_none,
-    pool_is_the_lowest_of_the_first_match, queue_is_by_the_mode, reset_refuses_all,
-    single_queue_is_queue_0, unicast_is_let_in,
+    broadcast_is_let_in, fields_stand_at_their_bits, filtered_is_not_let_in, multicast_is_let_in,
+    off_pools_get_none, pool_is_the_lowest_of_the_first_match, queue_is_by_the_mode,
+    reset_refuses_all, single_queue_is_queue_0, unicast_is_let_in,
 };
 pub use sorting::sort;
 pub use target::Target;

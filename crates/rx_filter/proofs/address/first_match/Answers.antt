@@ -4,7 +4,8 @@ use Rattle.rx_filter.proofs.address.first_match.Goals as goal
 
 pub returns-then-matches-clause-first : goal.returns-then-matches-clause-first
 returns-then-matches-clause-first c =
-    sym (first_match-some c.args.registers.now c.args.frame.now c.loop-index.index (omega arith) (sym c.matches.ensures ∙ c.if-matches.true) c.loop-index.invariant)
+    sym (first_match-some c.args.registers.now c.args.frame.now c.loop-index.index (omega arith)
+    (sym c.matches.ensures ∙ c.if-matches.true) c.loop-index.invariant)
 
 pub returns-clause-first : goal.returns-clause-first
 returns-clause-first c =

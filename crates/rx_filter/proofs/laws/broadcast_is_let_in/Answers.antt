@@ -1,4 +1,4 @@
-use Rattle.rx_filter.proofs.Destinations.{broadcast_ones, broadcast_in}
+use Rattle.rx_filter.proofs.Broadcast.{broadcast_ones, broadcast_in}
 use Rattle.rx_filter.proofs.laws.broadcast_is_let_in.Goals as goal
 
 pub returns-clause-destination : goal.returns-clause-destination

@@ -1,45 +1,14 @@
-use Rattle.std.proofs.Common.{◌≡◌, ◌≢◌, ℕ, zero, suc, ◌+◌, ◌-◌, ◌<◌, ◌≤◌, inl, inr, Bool, true, false, cond, List, [], ◌∷◌, length, set, get_or, refl, sym, ap, ◌∙◌, arith, add-zero}
-use Rattle.std.specs.Prelude.{nat_le, nat_lt}
+-- Changes of an arena, what is counted of it, and a new one.
+use Rattle.std.proofs.Common.{◌≡◌, ◌≢◌, ℕ, suc, ◌+◌, ◌-◌, ◌<◌, ◌≤◌, inl, inr, Bool, true, false, cond, List, [], ◌∷◌, length, get_or, refl, sym, ap, ◌∙◌, arith, add-zero}
+use Rattle.std.specs.Prelude.{nat_le}
 use Rattle.std.specs.List.{list_all}
-use Rattle.std.proofs.lemmas.Bool.{and_parts, cases_lt, leb-true, ltb-true, le-leb, lt-leb, lt-ltb}
-use Rattle.std.proofs.lemmas.Bool.Decides.{nat_tests}
+use Rattle.std.proofs.lemmas.Bool.{and_parts, cases_lt, le-leb, lt-leb}
 use Rattle.std.proofs.lemmas.List.{length-set, get_or-set_same, get_or-set_other, length-replicate, get_or-replicate}
 use Rattle.std.proofs.lemmas.List.Sums.{sum_by-set}
 use Rattle.dma_arena.specs.Numbers.{Numbers, free_count, is_own, is_free, are_all_free, all_free, with_free, NoneFree}
-use Rattle.dma_arena.specs.Laws.{ChangesOne, CountsFree, GivenBack, CutLaw}
+use Rattle.dma_arena.specs.Laws.{ChangesOne, CountsFree}
 use Rattle.dma_arena.proofs.Numbers.{all_set-is, is_free-of_no_count, count_by-of_none}
-
--- what an arena owns
-
-pub own_within : (a : Numbers) (number : ℕ) → is_own a number ≡ true → (a.first ≤ number)
-    × (number < a.first + length a.free)
-own_within a number own =
-    let both = and_parts (nat_le a.first number) (nat_lt number (a.first + length a.free)) own in
-    (leb-true a.first number both.0, ltb-true number (a.first + length a.free) both.1)
-
-pub own_of_within : (a : Numbers) (number : ℕ) → a.first ≤ number → number < a.first + length a.free
-    → is_own a number ≡ true
-own_of_within a number low high = rw (le-leb a.first number low, lt-ltb number (a.first + length a.free) high) refl
-
-pub is_free_from : (a : Numbers) (number : ℕ) → a.first ≤ number
-    → is_free a number ≡ get_or a.free (number - a.first) false
-is_free_from a number low = rw (le-leb a.first number low) refl
-
-pub is_free_below : (a : Numbers) (number : ℕ) → number < a.first → is_free a number ≡ false
-is_free_below a number low = rw (lt-leb a.first number low) refl
-
-set_within : (xs : List Bool) (k : ℕ) → get_or xs k false ≡ true → k < length xs
-set_within [] k h = cc
-set_within (x ∷ xs) zero h = omega arith
-set_within (x ∷ xs) (suc k) h = omega (arith, set_within xs k h)
-
--- only an own number is free
-pub is_own-of_free : (a : Numbers) (number : ℕ) → is_free a number ≡ true → is_own a number ≡ true
-is_own-of_free a number free =
-    let both = and_parts (nat_le a.first number) (get_or a.free (number - a.first) false) free in
-    let low : a.first ≤ number = leb-true a.first number both.0 in
-    let within : number - a.first < length a.free = set_within a.free (number - a.first) both.1 in
-    own_of_within a number low (omega arith)
+pub use Rattle.dma_arena.proofs.Owned.{own_within, own_of_within, is_free_from, is_free_below, set_within, is_own-of_free}
 
 -- one number changes
 
@@ -158,27 +127,3 @@ free_all first count number false own =
 pub is_free-all_free : (first count number : ℕ)
     → is_free (all_free first count) number ≡ is_own (all_free first count) number
 is_free-all_free first count number = free_all first count number (is_own (all_free first count) number) refl
-
--- a number that is taken and given back
-
-set_back : (xs : List Bool) (k : ℕ) → get_or xs k false ≡ true → set (set xs k false) k true ≡ xs
-set_back [] k marked = cc
-set_back (x ∷ xs) zero marked = rw marked refl
-set_back (x ∷ xs) (suc k) marked = ap (λ ys. x ∷ ys) (set_back xs k marked)
-
-pub given_back : GivenBack
-given_back a number free =
-    let k : ℕ = number - a.first in
-    let marked : get_or a.free k false ≡ true = (and_parts (nat_le a.first number) (get_or a.free k false) free).1 in
-    ap (λ (xs : List Bool). let b : Numbers = record { first = a.first; free = xs } in b) (set_back a.free k marked)
-
--- a cut
-
-pub cut_law : CutLaw
-cut_law a at inside =
-    let below = length-replicate (at - a.first) true in
-    let above = length-replicate (a.first + length a.free - at) true in
-    record {
-      each = λ number. rw (below, above) (grind (arith, nat_tests));
-      once = λ number. rw (below, above) (grind (arith, nat_tests));
-    }

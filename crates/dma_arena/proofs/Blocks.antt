@@ -1,13 +1,13 @@
-use Rattle.std.proofs.Common.{◌≡◌, ◌≢◌, ℕ, zero, suc, ◌+◌, ◌*◌, ◌/◌, ◌%◌, ◌<◌, ◌≤◌, ◌⊎◌, inl, inr, true, Some, None, List, [], ◌∷◌, length, set, get_or, refl, sym, ap, ◌∙◌, arith}
+-- Ranges inside one block, and the blocks that a range avoids.
+use Rattle.std.proofs.Common.{◌≡◌, ◌≢◌, ℕ, zero, suc, ◌+◌, ◌*◌, ◌/◌, ◌%◌, ◌<◌, ◌≤◌, ◌⊎◌, inl, inr, true, Some, List, [], ◌∷◌, length, set, get_or, refl, sym, ap, ◌∙◌, arith}
 use Rattle.std.specs.Cmp.{nat_cmp_total}
 use Rattle.std.specs.FinMap as map
 use Rattle.std.proofs.lemmas.Bool.{cases_eq, cases_lt}
 use Rattle.std.proofs.lemmas.List.{drop_more, length-set}
-use Rattle.dma_arena.specs.Block.{IsBlock}
 use Rattle.dma_arena.specs.Memory.{Memory, has_block, byte_at, is_lent, read_at, set_byte, write_at, put_bytes, part, IsWhole, Avoids}
 use Rattle.dma_arena.specs.Laws.{InsideBlock}
 use Rattle.dma_arena.proofs.Bytes.{put_bytes-none, put_bytes-more}
-use Rattle.dma_arena.proofs.Bus.{get-insert_same, get-insert_other, get-remove_same, get-remove_other, get-set_byte_same, get-set_byte_other, is_lent_of_each}
+use Rattle.dma_arena.proofs.Bus.{get-insert_same, get-insert_other, get-set_byte_same, get-set_byte_other, is_lent_of_each}
 
 -- ranges inside one block, and the blocks that a range avoids
 
@@ -107,54 +107,3 @@ InsideBlock-of_get m q at xs whole is =
       read = λ n room. read_at_in m (2048 * q + at) n q at xs is size refl room;
       written = λ bytes room. write_at_in m bytes q at xs is size room;
     }
-
--- blocks that come and go
-
--- lending and taking a block changes no byte of another
-pub byte_at-insert_other : (m : Memory) (q : ℕ) (xs : List ℕ) (c : ℕ) → c / 2048 ≢ q
-    → byte_at (map.insert m q xs) c ≡ byte_at m c
-unfolding byte_at
-byte_at-insert_other m q xs c ne = rw (get-insert_other m q xs (c / 2048) ne) refl
-
-pub byte_at-remove_other : (m : Memory) (q c : ℕ) → c / 2048 ≢ q → byte_at (map.remove m q) c ≡ byte_at m c
-unfolding byte_at
-byte_at-remove_other m q c ne = rw (get-remove_other m q (c / 2048) ne) refl
-
--- a lent block has the bytes that it was lent with
-pub byte_at-insert_same : (m : Memory) (q : ℕ) (xs : List ℕ) (k : ℕ) → k < 2048
-    → byte_at (map.insert m q xs) (2048 * q + k) ≡ get_or xs k 0
-unfolding byte_at
-byte_at-insert_same m q xs k lt =
-    let block : (2048 * q + k) / 2048 ≡ q = omega arith in
-    let place : (2048 * q + k) % 2048 ≡ k = omega arith in
-    rw (block, place, get-insert_same m q xs) refl
-
-IsBlock-insert : (m : Memory) (q : ℕ) (xs : List ℕ) → IsWhole m → IsBlock (record { number = q; bytes = xs })
-    → (r : ℕ) (ys : List ℕ) → (r ≡ q) ⊎ (r ≢ q) → map.get (map.insert m q xs) r ≡ Some ys
-    → IsBlock (record { number = r; bytes = ys })
-IsBlock-insert m q xs whole new r ys (inl e) h =
-    let f : Some xs ≡ Some ys = sym (rw e (get-insert_same m q xs)) ∙ h in
-    let g : xs ≡ ys = cc in
-    rw (e, ← g) new
-IsBlock-insert m q xs whole new r ys (inr ne) h = whole.block r ys (sym (get-insert_other m q xs r ne) ∙ h)
-
-pub IsWhole-insert : (m : Memory) (q : ℕ) (xs : List ℕ)
-    → IsWhole m → IsBlock (record { number = q; bytes = xs }) → IsWhole (map.insert m q xs)
-IsWhole-insert m q xs whole new = record { block = λ r ys h. IsBlock-insert m q xs whole new r ys (cases_eq r q) h }
-
-IsBlock-remove : (m : Memory) (q : ℕ) → IsWhole m → (r : ℕ) (ys : List ℕ) → (r ≡ q) ⊎ (r ≢ q)
-    → map.get (map.remove m q) r ≡ Some ys → IsBlock (record { number = r; bytes = ys })
-IsBlock-remove m q whole r ys (inl e) h = let f : None ≡ Some ys = sym (rw e (get-remove_same m q)) ∙ h in cc
-IsBlock-remove m q whole r ys (inr ne) h = whole.block r ys (sym (get-remove_other m q r ne) ∙ h)
-
-pub IsWhole-remove : (m : Memory) (q : ℕ) → IsWhole m → IsWhole (map.remove m q)
-IsWhole-remove m q whole = record { block = λ r ys h. IsBlock-remove m q whole r ys (cases_eq r q) h }
-
-absent_case : (m : Memory) (q r : ℕ) → map.get m q ≡ None → (r ≡ q) ⊎ (r ≢ q) → map.get (map.remove m q) r ≡ map.get m r
-absent_case m q r none (inl e) = rw (e, get-remove_same m q) (sym none)
-absent_case m q r none (inr ne) = get-remove_other m q r ne
-
--- there is nothing to take where the number is not lent
-pub remove_absent : (m : Memory) (q : ℕ) → map.get m q ≡ None → map.remove m q ≡ m
-remove_absent m q none =
-    map.same_map nat_cmp_total map.nat_cmp-IsAntisymmetric _ _ (λ r. absent_case m q r none (cases_eq r q))

@@ -1,102 +1,18 @@
-use Rattle.std.proofs.Common.{◌≡◌, ◌≢◌, ℕ, zero, suc, ◌+◌, ◌-◌, ◌/◌, ◌%◌, ◌<◌, ◌≤◌, ◌⊎◌, inl, inr, Bool, true, false, ◌&&◌, Option, Some, None, List, [], ◌∷◌, ◌++◌, length, set, get_or, refl, sym, ◌∙◌, arith, rules, add-zero, zero-add}
+-- Ranges of the bus: which are lent, what they read, and what a write leaves.
+use Rattle.std.proofs.Common.{◌≡◌, ◌≢◌, ℕ, zero, suc, ◌+◌, ◌-◌, ◌/◌, ◌<◌, ◌≤◌, inl, inr, true, Option, Some, None, List, [], ◌∷◌, length, get_or, refl, ◌∙◌, arith, rules, add-zero}
 use Rattle.std.specs.Prelude.{is_some}
 use Rattle.std.specs.FinMap as map
-use Rattle.std.specs.FinMap.{gets}
 use Rattle.std.proofs.lemmas.Bool.{cases_eq, and_parts}
-use Rattle.std.proofs.lemmas.List.{length-set, get_or-set_same, get_or-set_other}
-use Rattle.dma_arena.specs.Block.{IsBlock}
-use Rattle.dma_arena.specs.Memory.{Memory, has_block, byte_at, is_lent, read_at, with_byte, set_byte, write_at, IsWhole, SameLent, IsOutside, AreApart}
-
--- the map of lent blocks
-
-pub get-insert_same : (m : Memory) (k : ℕ) (xs : List ℕ) → map.get (map.insert m k xs) k ≡ Some xs
-get-insert_same m k xs = grind (gets, rules)
-
-pub get-insert_other : (m : Memory) (k : ℕ) (xs : List ℕ) (q : ℕ) → q ≢ k → map.get (map.insert m k xs) q ≡ map.get m q
-get-insert_other m k xs q ne = grind (gets, rules)
-
-pub get-remove_same : (m : Memory) (k : ℕ) → map.get (map.remove m k) k ≡ None
-get-remove_same m k = grind (gets, rules)
-
-pub get-remove_other : (m : Memory) (k q : ℕ) → q ≢ k → map.get (map.remove m k) q ≡ map.get m q
-get-remove_other m k q ne = grind (gets, rules)
-
--- one byte
-
-pub get-set_byte_same : (m : Memory) (a b q : ℕ) (xs : List ℕ) → a / 2048 ≡ q → map.get m q ≡ Some xs
-    → map.get (set_byte m a b) q ≡ Some (set xs (a % 2048) b)
-unfolding set_byte
-get-set_byte_same m a b q xs at is =
-    let e : map.get m (a / 2048) ≡ Some xs = rw at is in
-    rw e (rw at (get-insert_same m q (set xs (a % 2048) b)))
-
-get-with_byte_other : (m : Memory) (a b q : ℕ) (o : Option (List ℕ)) → a / 2048 ≢ q
-    → map.get (with_byte m a b o) q ≡ map.get m q
-get-with_byte_other m a b q None ne = refl
-get-with_byte_other m a b q (Some xs) ne = get-insert_other m (a / 2048) (set xs (a % 2048) b) q (λ e. ne (sym e))
-
-pub get-set_byte_other : (m : Memory) (a b q : ℕ) → a / 2048 ≢ q → map.get (set_byte m a b) q ≡ map.get m q
-unfolding set_byte
-get-set_byte_other m a b q ne = get-with_byte_other m a b q (map.get m (a / 2048)) ne
-
-pub byte_at-set_byte_same : (m : Memory) (a b : ℕ) (xs : List ℕ) → map.get m (a / 2048) ≡ Some xs → length xs ≡ 2048
-    → byte_at (set_byte m a b) a ≡ b
-unfolding byte_at
-byte_at-set_byte_same m a b xs is whole =
-    let lt : a % 2048 < length xs = omega arith in
-    rw (get-set_byte_same m a b (a / 2048) xs refl is) (get_or-set_same xs (a % 2048) b 0 lt)
-
-byte_at-with_byte : (m : Memory) (a b c : ℕ) (o : Option (List ℕ)) → c ≢ a → map.get m (a / 2048) ≡ o
-    → (c / 2048 ≡ a / 2048) ⊎ (c / 2048 ≢ a / 2048) → byte_at (with_byte m a b o) c ≡ byte_at m c
-unfolding byte_at
-byte_at-with_byte m a b c None ne is s = refl
-byte_at-with_byte m a b c (Some xs) ne is (inl e) =
-    let apart : c % 2048 ≢ a % 2048 = λ f. ne (omega arith) in
-    rw (e, is, get-insert_same m (a / 2048) (set xs (a % 2048) b)) (get_or-set_other xs (a % 2048) (c % 2048) b 0 apart)
-byte_at-with_byte m a b c (Some xs) ne is (inr e) =
-    rw (get-insert_other m (a / 2048) (set xs (a % 2048) b) (c / 2048) e) refl
-
-pub byte_at-set_byte_other : (m : Memory) (a b c : ℕ) → c ≢ a → byte_at (set_byte m a b) c ≡ byte_at m c
-unfolding set_byte
-byte_at-set_byte_other m a b c ne =
-    byte_at-with_byte m a b c (map.get m (a / 2048)) ne refl (cases_eq (c / 2048) (a / 2048))
+use Rattle.dma_arena.specs.Memory.{Memory, has_block, byte_at, is_lent, read_at, set_byte, write_at, IsWhole, SameLent, IsOutside, AreApart}
+pub use Rattle.dma_arena.proofs.Single.{get-insert_same, get-insert_other, get-remove_same, get-remove_other, get-set_byte_same, get-set_byte_other, byte_at-set_byte_same, byte_at-set_byte_other, SameLent-set_byte, IsWhole-set_byte}
 
 -- which blocks are lent, and their lengths
-
-has_block-with_byte : (m : Memory) (a b q : ℕ) (o : Option (List ℕ)) → map.get m (a / 2048) ≡ o → (a / 2048 ≡ q)
-    ⊎ (a / 2048 ≢ q) → has_block (with_byte m a b o) q ≡ has_block m q
-has_block-with_byte m a b q None is s = refl
-has_block-with_byte m a b q (Some xs) is (inl e) = rw (← e, get-insert_same m (a / 2048) (set xs (a % 2048) b), is) refl
-has_block-with_byte m a b q (Some xs) is (inr ne) = rw (get-with_byte_other m a b q (Some xs) ne) refl
-
-pub SameLent-set_byte : (m : Memory) (a b : ℕ) → SameLent (set_byte m a b) m
-unfolding set_byte
-SameLent-set_byte m a b q = has_block-with_byte m a b q (map.get m (a / 2048)) refl (cases_eq (a / 2048) q)
 
 -- a write changes no block's being lent
 pub SameLent-write_at : (m : Memory) (a : ℕ) (bs : List ℕ) → SameLent (write_at m a bs) m
 unfolding write_at
 SameLent-write_at m a [] q = refl
 SameLent-write_at m a (b ∷ bs) q = SameLent-write_at (set_byte m a b) (a + 1) bs q ∙ SameLent-set_byte m a b q
-
-IsBlock-with_byte : (m : Memory) (a b q : ℕ) (o : Option (List ℕ))
-    → IsWhole m → map.get m (a / 2048) ≡ o → (a / 2048 ≡ q) ⊎ (a / 2048 ≢ q)
-    → (ys : List ℕ) → map.get (with_byte m a b o) q ≡ Some ys → IsBlock (record { number = q; bytes = ys })
-IsBlock-with_byte m a b q None whole is s ys h = whole.block q ys h
-IsBlock-with_byte m a b q (Some xs) whole is (inl e) ys h =
-    let new : List ℕ = set xs (a % 2048) b in
-    let f : Some new ≡ Some ys = sym (rw (← e) (get-insert_same m (a / 2048) new)) ∙ h in
-    let g : new ≡ ys = cc in
-    let old = whole.block (a / 2048) xs is in
-    record { size = rw (← g, length-set) old.size; small = rw (← e) old.small }
-IsBlock-with_byte m a b q (Some xs) whole is (inr ne) ys h =
-    whole.block q ys (sym (get-with_byte_other m a b q (Some xs) ne) ∙ h)
-
-pub IsWhole-set_byte : (m : Memory) (a b : ℕ) → IsWhole m → IsWhole (set_byte m a b)
-unfolding set_byte
-IsWhole-set_byte m a b whole = record {
-  block = λ q ys h. IsBlock-with_byte m a b q (map.get m (a / 2048)) whole refl (cases_eq (a / 2048) q) ys h;
-}
 
 -- a write leaves each block's length
 pub IsWhole-write_at : (m : Memory) (a : ℕ) (bs : List ℕ) → IsWhole m → IsWhole (write_at m a bs)
@@ -231,34 +147,3 @@ read_at-write_at_same m a (b ∷ bs) whole lent =
     let there : is_lent (set_byte m a b) (a + 1) (length bs) ≡ true =
     is_lent-same (set_byte m a b) m (SameLent-set_byte m a b) (a + 1) (length bs) ∙ is_lent_rest m a (length bs) lent in
     rw (here, read_at-write_at_same (set_byte m a b) (a + 1) bs (IsWhole-set_byte m a b whole) there) refl
-
--- one range after another
-
-pub write_at-append : (m : Memory) (a : ℕ) (bs cs : List ℕ)
-    → write_at m a (bs ++ cs) ≡ write_at (write_at m a bs) (a + length bs) cs
-unfolding write_at
-write_at-append m a [] cs = rw add-zero refl
-write_at-append m a (b ∷ bs) cs =
-    let e : (a + 1) + length bs ≡ a + suc (length bs) = omega arith in
-    write_at-append (set_byte m a b) (a + 1) bs cs ∙ rw e refl
-
-pub read_at-append : (m : Memory) (a n k : ℕ) → read_at m a (n + k) ≡ read_at m a n ++ read_at m (a + n) k
-unfolding read_at
-read_at-append m a zero k = rw (zero-add, add-zero) refl
-read_at-append m a (suc n) k =
-    let e : (a + 1) + n ≡ a + suc n = omega arith in
-    let f : suc n + k ≡ suc (n + k) = omega arith in
-    rw (f, ← e, read_at-append m (a + 1) n k) refl
-
-and_assoc : (x y z : Bool) → ((x && y) && z) ≡ (x && (y && z))
-and_assoc true y z = refl
-and_assoc false y z = refl
-
-pub is_lent-append : (m : Memory) (a n k : ℕ) → is_lent m a (n + k) ≡ (is_lent m a n && is_lent m (a + n) k)
-unfolding is_lent
-is_lent-append m a zero k = rw (zero-add, add-zero) refl
-is_lent-append m a (suc n) k =
-    let e : (a + 1) + n ≡ a + suc n = omega arith in
-    let f : suc n + k ≡ suc (n + k) = omega arith in
-    rw (f, ← e, is_lent-append m (a + 1) n k)
-    (sym (and_assoc (has_block m (a / 2048)) (is_lent m (a + 1) n) (is_lent m ((a + 1) + n) k)))

@@ -9,7 +9,8 @@ use borrow.Rule.Slice.PartMut.{put_mid}
 use Rattle.dma_arena.specs.Block.{Block}
 use Rattle.dma_arena.specs.Memory.{Memory, has_block, is_lent, read_at, write_at}
 use Rattle.dma_arena.specs.Shown.{shown, IsKept}
-use Rattle.dma_arena.proofs.Bus.{small_of_lent, SameLent-write_at, is_lent-same, is_lent_first, is_lent-append, lent_end, write_at-append, read_at-append, length-read_at}
+use Rattle.dma_arena.proofs.Bus.{small_of_lent, SameLent-write_at, is_lent-same, is_lent_first, lent_end, length-read_at}
+use Rattle.dma_arena.proofs.Joined.{is_lent-append, write_at-append, read_at-append}
 use Rattle.dma_arena.proofs.Blocks.{is_lent_in}
 use Rattle.dma_arena.proofs.Shown.{has_block-shown, IsWhole-shown}
 

@@ -1,8 +1,7 @@
 -- Ranges inside one block.
-use Rattle.std.proofs.Common.{◌≡◌, ◌≢◌, ℕ, zero, suc, ◌+◌, ◌*◌, ◌/◌, ◌≤◌, inl, inr, refl, arith}
-use Rattle.std.specs.FinMap as map
+use Rattle.std.proofs.Common.{◌≡◌, zero, suc, ◌+◌, ◌/◌, inl, inr, refl, arith}
 use Rattle.std.proofs.lemmas.Bool.{cases_lt}
-use Rattle.dma_arena.specs.Memory.{Memory, byte_at, is_lent, read_at, LiesIn}
+use Rattle.dma_arena.specs.Memory.{byte_at, is_lent, read_at}
 use Rattle.dma_arena.specs.Laws.{InsideAvoids, ReadsItsBlock}
 
 pub inside_avoids : InsideAvoids

@@ -1,68 +1,14 @@
-use Rattle.std.specs.Prelude.{◌||◌}
-use Rattle.std.proofs.Common.{◌≡◌, ◌≢◌, ℕ, ◌+◌, ◌-◌, length, ◌⊎◌, inl, inr, Bool, true, false, cond, List, [], ◌∷◌, eqb, refl, sym, subst, ◌∙◌, arith}
+-- The moves of a block, each of which keeps it in one place.
+use Rattle.std.proofs.Common.{◌≡◌, ◌≢◌, ℕ, ◌+◌, ◌⊎◌, inl, inr, true, false, List, [], ◌∷◌, refl, sym, subst, ◌∙◌, arith}
 use Rattle.std.specs.FinMap as map
 use Rattle.std.specs.Ordering.{nat_cmp}
 use Rattle.std.proofs.lemmas.Bool.{cases_eq}
-use Rattle.std.proofs.lemmas.Bool.Decides.{nat_tests}
-use Rattle.std.proofs.lemmas.List.Sums.{sum_by-cons}
 use Rattle.dma_arena.specs.Memory.{Memory, has_block}
-use Rattle.dma_arena.specs.Numbers.{Numbers, is_own, is_free, are_all_free, all_free, with_free, numbers_below, numbers_from, IsInside}
-use Rattle.dma_arena.specs.Laws.{PartsNumbers}
+use Rattle.dma_arena.specs.Numbers.{Numbers, is_own, is_free, all_free, with_free}
 use Rattle.dma_arena.specs.Whereabouts.{times_in_hand, places_of, EachOnce, MovesKeepEachOnce}
-use Rattle.dma_arena.proofs.Bus.{get-insert_same, get-insert_other, get-remove_same, get-remove_other}
-use Rattle.dma_arena.proofs.Arenas.{is_own-of_free, is_own-with_free, is_free-with_free_same, is_free-with_free_other, is_free-all_free, CountsFree-numbers, cut_law}
-
--- what is in hand
-
-same_number : (n : ℕ) → eqb n n ≡ true
-same_number n = grind (arith, nat_tests)
-
-other_number : (n k : ℕ) → k ≢ n → eqb n k ≡ false
-other_number n k ne = grind (arith, nat_tests)
-
-times_first : (hand : List ℕ) (n : ℕ) → times_in_hand (n ∷ hand) n ≡ 1 + times_in_hand hand n
-times_first hand n = sum_by-cons (λ (x : ℕ). cond (eqb x n) 1 0) n hand ∙ rw (same_number n) refl
-
-times_rest : (hand : List ℕ) (n k : ℕ) → k ≢ n → times_in_hand (n ∷ hand) k ≡ times_in_hand hand k
-times_rest hand n k ne = sum_by-cons (λ (x : ℕ). cond (eqb x k) 1 0) n hand ∙ rw (other_number n k ne) (omega arith)
-
--- what is lent
-
-has_block-insert_same : (m : Memory) (n : ℕ) (xs : List ℕ) → has_block (map.insert m n xs) n ≡ true
-has_block-insert_same m n xs = rw (get-insert_same m n xs) refl
-
-has_block-insert_other : (m : Memory) (n : ℕ) (xs : List ℕ) (k : ℕ) → k ≢ n
-    → has_block (map.insert m n xs) k ≡ has_block m k
-has_block-insert_other m n xs k ne = rw (get-insert_other m n xs k ne) refl
-
-has_block-remove_same : (m : Memory) (n : ℕ) → has_block (map.remove m n) n ≡ false
-has_block-remove_same m n = rw (get-remove_same m n) refl
-
-has_block-remove_other : (m : Memory) (n k : ℕ) → k ≢ n → has_block (map.remove m n) k ≡ has_block m k
-has_block-remove_other m n k ne = rw (get-remove_other m n k ne) refl
-
-or_true : (x : Bool) → (x || true) ≡ true
-or_true true = refl
-or_true false = refl
-
--- the places of a number, told by its parts
-abbrev counted : Bool → ℕ → Bool → ℕ
-counted free times lent = cond free 1 0 + times + cond lent 1 0
-
-told : (f g : Bool) (s t : ℕ) (l r : Bool) → f ≡ g → s ≡ t → l ≡ r → counted g t r ≡ 1 → counted f s l ≡ 1
-told f g s t l r p q h one = rw (p, q, h) one
-
--- what is in hand is nowhere else
-alone : (f l : Bool) (t : ℕ) → counted f (1 + t) l ≡ 1 → (f ≡ false) × (l ≡ false)
-alone true l t one = absurd (omega arith)
-alone false true t one = absurd (omega arith)
-alone false false t one = (refl, refl)
-
-freed : (f l : Bool) (t : ℕ) → counted f (1 + t) l ≡ 1 → counted true t l ≡ 1
-freed f l t one = omega arith
-
-sole : (f l : Bool) (t : ℕ) → counted f (1 + t) l ≡ 1 → counted false t true ≡ 1
-sole f l t one = omega arith
+use Rattle.dma_arena.proofs.Arenas.{is_own-of_free, is_own-with_free, is_free-with_free_same, is_free-with_free_other, is_free-all_free}
+use Rattle.dma_arena.proofs.Counts.{counted, times_first, times_rest, has_block-insert_same, has_block-insert_other, has_block-remove_same, has_block-remove_other, told, alone, freed, sole}
+use Rattle.dma_arena.proofs.Cuts.{split_case}
 
 -- each move
 
@@ -171,26 +117,6 @@ left_case a hand m n other once k own =
     let ne : k ≢ n = λ e. let h : true ≡ false = sym own ∙ rw e other in cc in
     told (is_free a k) (is_free a k) (times_in_hand hand k) (times_in_hand (n ∷ hand) k) (has_block m k) (has_block m k)
     refl (sym (times_rest hand n k ne)) refl (once k own)
-
--- numbers that are free in an arena and in a part of it
-part_case : (a part : Numbers) (hand : List ℕ) (m : Memory) → are_all_free a ≡ true → EachOnce a hand m
-    → ((k : ℕ) → is_own part k ≡ true → (is_own a k ≡ true) × (is_free part k ≡ true)) → EachOnce part hand m
-part_case a part hand m all once within k own =
-    let there = within k own in
-    let free : is_free a k ≡ true = (CountsFree-numbers a).all.0 all k there.0 in
-    told (is_free part k) (is_free a k) (times_in_hand hand k) (times_in_hand hand k) (has_block m k) (has_block m k)
-    (there.1 ∙ sym free) refl refl (once k there.0)
-
-split_case : (a : Numbers) (hand : List ℕ) (m : Memory) (at : ℕ)
-    → are_all_free a ≡ true → IsInside a at → EachOnce a hand m
-    → EachOnce (numbers_below a at) hand m × EachOnce (numbers_from a at) hand m
-split_case a hand m at all inside once =
-    let parts : PartsNumbers a at = cut_law a at inside in (
-      part_case a (numbers_below a at) hand m all once
-          (λ k own. (parts.each k ∙ rw own refl, is_free-all_free a.first (at - a.first) k ∙ own)),
-      part_case a (numbers_from a at) hand m all once
-          (λ k own. (parts.each k ∙ rw own (or_true _), is_free-all_free at (a.first + length a.free - at) k ∙ own)),
-    )
 
 pub moves_keep_each_once : MovesKeepEachOnce
 moves_keep_each_once = record {

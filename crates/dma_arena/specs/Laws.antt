@@ -66,7 +66,7 @@ ReadsItsBlock =
     (m other : Memory) (number a n : ℕ) → map.get m number ≡ map.get other number → LiesIn number a n
     → (read_at m a n ≡ read_at other a n) × (is_lent m a n ≡ is_lent other a n)
 
--- inside one lent block a range is lent, a read is a part of its bytes, and a write puts bytes into it and changes nothing else
+-- inside one lent block a range is lent, a read is a part of its bytes, and a write puts bytes there and nowhere else
 pub record InsideBlock (m : Memory) (number at : ℕ) (block : List ℕ) : Type 0 where
   pub lent : (n : ℕ) → at + n ≤ 2048 → is_lent m (2048 * number + at) n ≡ true
   pub read : (n : ℕ) → at + n ≤ 2048 → read_at m (2048 * number + at) n ≡ part block at n

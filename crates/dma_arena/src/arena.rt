@@ -167,7 +167,8 @@ impl Arena {
         ensures above { IfOk result (λ p. p.1 ≡ numbers_from self at) }
         ensures parted { IsOk result → IsTrue (are_all_free self) × IsInside self at }
         ensures in_use { IfErr result (λ r. (r.fault ≡ SplitFault.InUse) ↔ (are_all_free self ≡ false)) }
-        ensures outside { IfErr result (λ r. (r.fault ≡ SplitFault.OutsideArena) ↔ (IsTrue (are_all_free self) × (IsInside self at → ⊥))) }
+        ensures outside { IfErr result (λ r.
+            (r.fault ≡ SplitFault.OutsideArena) ↔ (IsTrue (are_all_free self) × (IsInside self at → ⊥))) }
         ensures back { IfErr result (λ r. r.arena ≡ self) }
     {
         if !self.are_all_free() {

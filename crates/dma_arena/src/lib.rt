@@ -5,10 +5,8 @@
 //! [`Octets`] are bytes that are kept, as those of a frame.
 //!
 //! Contracts see an arena as its numbers, each free or not (`specs/Numbers.antt`), and lent memory
-//! as a map from block number to bytes (`specs/Memory.antt`). The laws of both are `laws`, and
-//! stand as lemmas in `proofs/Arenas.antt`, `Bus.antt`, `Blocks.antt`, `Bytes.antt` and
-//! `Places.antt`. The rings, the device, the script machine, the device lock and the driver stand
-//! on this crate.
+//! as a map from block number to bytes (`specs/Memory.antt`). The laws of both are `laws`, and stand
+//! as lemmas in `proofs/`. The rings, the device and the script machine stand on this crate.
 
 #![tactic(auto)]
 

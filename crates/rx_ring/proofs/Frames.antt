@@ -1,13 +1,12 @@
 -- The pieces of a frame, from its first slot to its last.
-use Rattle.std.proofs.Common.{◌≡◌, ◌≢◌, ℕ, zero, suc, ◌^◌, ◌+◌, ◌<◌, ◌≤◌, inl, inr, Bool, true, false, if◌then◌else◌, List, [], ◌∷◌, ◌++◌, length, take, drop, refl, sym, ap, subst, ◌∙◌, arith, Result, Ok, Err, append_assoc}
-use Rattle.std.specs.Prelude.{◌↔◌, IsTrue, All}
+use Rattle.std.proofs.Common.{◌≡◌, ◌≢◌, ℕ, zero, suc, ◌^◌, ◌<◌, ◌≤◌, inl, inr, Bool, true, false, if◌then◌else◌, List, [], ◌∷◌, ◌++◌, length, take, drop, refl, sym, ap, subst, ◌∙◌, arith, Result, Ok, Err, append_assoc}
+use Rattle.std.specs.Prelude.{◌↔◌, IsTrue}
 use Rattle.std.proofs.lemmas.List.{append-nil, append_cancel_left, take-append-drop, take_all, length-take-le}
-use Rattle.dma_arena.specs.Memory.{Memory, AreApart}
+use Rattle.dma_arena.specs.Memory.{AreApart}
 use Rattle.dma_ring.specs.declared.fault.RingFault.{RingFault}
 use Rattle.rx_ring.specs.declared.filled.Filled.{Filled}
 use Rattle.rx_ring.specs.Fill.{Rest}
 use Rattle.rx_ring.specs.Frames.{Turn, turn_of, IsSound, Piece, piece_at, rest_after, pieces_from, pieces_of, joined, IsPieceOf, MakeFrame, PiecesMakeFrame}
-use Rattle.rx_ring.specs.Laws.{TakesPiece}
 use Rattle.rx_ring.proofs.Fills.{takes_piece, driver_reads}
 
 -- no piece comes in front where there is none

@@ -1,3 +1,4 @@
 pub mod Fills
 pub mod Frames
+pub mod Tests
 pub mod Written

@@ -87,7 +87,7 @@ PieceLaw =
     → TakesPiece m r srrctl rest f
 
 -- what a driver reads of a filled slot: its descriptor is done, ends the packet where the frame ends, has the number of
--- bytes and the first half that was to be written; and its buffer has the bytes, unless it shares some with the descriptor
+-- bytes and the first half that was to be written; and its buffer has the bytes, unless the descriptor overlaps them
 pub record ShowsPiece (m : Memory) (rest : Rest) (f : Filled) : Type 0 where
   pub done : IsTrue (is_done (second_half (read_at m f.desc 16)))
   pub end : ends_packet (second_half (read_at m f.desc 16)) ≡ f.end

@@ -37,8 +37,8 @@ pub fn frames()
     ensures { PiecesMakeFrame }
 {}
 
-/// Filling a slot changes no byte outside the descriptor and the bytes that are named, and not which blocks are lent. Where each
-/// is inside a block, it changes these two blocks, and no other.
+/// Filling a slot changes no byte outside the descriptor and the bytes that are named, and not which blocks are lent.
+/// Where each is inside a block, it changes these two blocks, and no other.
 pub fn elsewhere()
     ensures bytes { WritesInsideSlot }
     ensures blocks { FillKeepsBlocks }

@@ -1,5 +1,5 @@
 -- Fetching a slot, by cases.
-use Rattle.std.proofs.Common.{◌≡◌, ◌≢◌, ℕ, ◌+◌, ◌<◌, ◌≤◌, ◌⊎◌, true, false, length, List, refl, arith, Option, Some, None, Ok, Err, inl, inr}
+use Rattle.std.proofs.Common.{◌≡◌, ◌≢◌, ℕ, ◌+◌, ◌<◌, ◌⊎◌, true, length, List, refl, arith, Option, Some, None, Ok, Err, inl, inr}
 use Rattle.std.specs.Prelude.{not, nat_lt, IsTrue, IsFalse}
 use Rattle.std.proofs.lemmas.Bool.{cond_both, eqb-true, eq-eqb, ne_eqb}
 use Rattle.std.proofs.lemmas.Bool.Decides.{nat_tests}
@@ -12,7 +12,7 @@ use Rattle.tx_ring.specs.declared.tx.Tx.{Tx}
 use Rattle.tx_ring.specs.declared.fetched.Fetched.{Fetched}
 use Rattle.tx_ring.specs.Report.{head_address, can_report, report_address}
 use Rattle.tx_ring.specs.Fetch.{Outcome, descriptor_of, command_in, buffer_in, data_fault_of, descriptor_fault_of, fault_of, is_context, is_data, CanSend, fault_outcome, context_outcome, data_outcome, outcome_of, fetch_of}
-use Rattle.tx_ring.specs.Laws.{command_at, HasDescriptor, HasContext, HasData, TestLaw, FaultChangesNothing, SlotLaw}
+use Rattle.tx_ring.specs.Laws.{command_at, HasDescriptor, HasContext, HasData, FaultChangesNothing, SlotLaw}
 
 -- a data descriptor has a fault, or it can be sent
 data_cases : (P : Option RingFault → Type 0) (m : Memory) (r : Ring) (tx : Tx) (staged : ℕ) (descriptor : List ℕ)
@@ -82,62 +82,6 @@ fetch_cases P m staged r tx faults contexts sends =
     let other : (command_at m r).kind ≢ 2 = omega arith in
     rw (ne_eqb (command_at m r).kind 2 other)
     (sends (record { descriptor = at; extended = extended; type = three }) sent))))
-
--- the tests
-
-below : (a b : ℕ) → a < b → nat_lt a b ≡ true
-below a b lt = grind (arith, nat_tests)
-
-not_below : (a b : ℕ) → b ≤ a → nat_lt a b ≡ false
-not_below a b le = grind (arith, nat_tests)
-
-pub tests_in_order : TestLaw
-unfolding fetch_of fault_of descriptor_fault_of data_fault_of
-tests_in_order m staged r tx =
-    let c = command_at m r in
-    let sum : ℕ = length staged + c.len in
-    record {
-      outside = λ out. rw out refl;
-      descriptor = λ inside absent. rw (inside, absent) refl;
-      legacy = λ d legacy. rw (d.inside, d.lent, legacy) refl;
-      type = λ d extended two three. rw (d.inside, d.lent, extended, ne_eqb c.kind 2 two, ne_eqb c.kind 3 three) refl;
-      context =
-          λ d. rw (d.descriptor.inside, d.descriptor.lent, d.extended, eq-eqb c.kind 2 d.type)
-          (rw (eq-eqb c.kind 2 d.type) refl);
-      offload = λ d offload. rw (d.descriptor.inside, d.descriptor.lent, d.extended, d.type, offload) refl;
-      too_long =
-          λ d plain long. rw
-          (d.descriptor.inside, d.descriptor.lent, d.extended, d.type, plain, below tx.limit sum long) refl;
-      buffer = λ d plain room absent.
-          rw (d.descriptor.inside, d.descriptor.lent, d.extended, d.type, plain, not_below tx.limit sum room, absent)
-          refl;
-      report = λ d plain room lent asked absent.
-          rw (
-            d.descriptor.inside,
-            d.descriptor.lent,
-            d.extended,
-            d.type,
-            plain,
-            not_below tx.limit sum room,
-            lent,
-            asked,
-            absent,
-          ) refl;
-      sent = λ d s.
-          let other : c.kind ≢ 2 = omega (arith, d.type) in
-          rw (
-            d.descriptor.inside,
-            d.descriptor.lent,
-            d.extended,
-            ne_eqb c.kind 2 other,
-            eq-eqb c.kind 3 d.type,
-            s.no_offload,
-            not_below tx.limit sum s.room,
-            s.buffer,
-            s.report,
-          )
-          (rw (ne_eqb c.kind 2 other) refl);
-    }
 
 -- a fault
 

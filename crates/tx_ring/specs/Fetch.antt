@@ -92,7 +92,7 @@ context_outcome m staged r = record {
   staged = staged;
 }
 
--- a data descriptor's bytes are staged; at the end of the packet they go out as its frame; where RS is 1 that is reported
+-- a data descriptor's bytes are staged; at the end of the packet they go out as its frame; RS at 1 has it reported
 abbrev pub data_outcome : Memory → List ℕ → Ring → Tx → List ℕ → Outcome
 data_outcome m staged r tx descriptor = record {
   answer = Ok (record {
@@ -112,7 +112,7 @@ outcome_of m staged r tx None =
     if is_context (command_in (descriptor_of m r)) then context_outcome m staged r
     else data_outcome m staged r tx (descriptor_of m r)
 
--- the slot at the head is fetched: the first test that fails gives the fault, and where none fails its descriptor is done
+-- the slot at the head is fetched: the first test that fails gives the fault, and else its descriptor is done
 unfoldable pub fetch_of : Memory → List ℕ → Ring → Tx → Outcome
 fetch_of m staged r tx = outcome_of m staged r tx (fault_of m r tx (length staged))
 

@@ -124,7 +124,7 @@ unfoldable pub GoOn : List Turn → List ℕ → Type 0
 GoOn [] staged = ⊤
 GoOn (t ∷ ts) staged = GoesOn t staged × GoOn ts (turn_of t staged).staged
 
--- the frame that goes out at the end of a packet is the pieces of its turns in order, padded where the last says so; and
+-- the frame that goes out at the end of a packet is the pieces of its turns in order, padded where the last asks; and
 -- then no byte is staged
 abbrev pub PacketLaw : Type 0
 PacketLaw =

@@ -1,4 +1,4 @@
-use Rattle.dma_arena.proofs.Blocks.{byte_at-insert_other, byte_at-remove_other}
+use Rattle.dma_arena.proofs.Moves.{byte_at-insert_other, byte_at-remove_other}
 use Rattle.dma_arena.proofs.laws.lend_and_take.Goals as goal
 
 pub returns : goal.returns

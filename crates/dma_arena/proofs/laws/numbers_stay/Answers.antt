@@ -1,4 +1,4 @@
-use Rattle.dma_arena.proofs.Arenas.{given_back, cut_law}
+use Rattle.dma_arena.proofs.Cuts.{given_back, cut_law}
 use Rattle.dma_arena.proofs.laws.numbers_stay.Goals as goal
 
 pub returns-clause-given_back : goal.returns-clause-given_back

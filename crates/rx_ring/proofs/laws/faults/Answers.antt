@@ -1,4 +1,4 @@
-use Rattle.rx_ring.proofs.Fills.{tests_in_order, fault_writes_nothing}
+use Rattle.rx_ring.proofs.Tests.{tests_in_order, fault_writes_nothing}
 use Rattle.rx_ring.proofs.laws.faults.Goals as goal
 
 pub returns-clause-order : goal.returns-clause-order

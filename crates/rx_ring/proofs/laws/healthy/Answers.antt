@@ -1,4 +1,4 @@
-use Rattle.rx_ring.proofs.Fills.{fill_healthy}
+use Rattle.rx_ring.proofs.Tests.{fill_healthy}
 use Rattle.rx_ring.proofs.laws.healthy.Goals as goal
 
 pub returns : goal.returns

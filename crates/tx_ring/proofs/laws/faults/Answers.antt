@@ -1,4 +1,5 @@
-use Rattle.tx_ring.proofs.Fetches.{tests_in_order, fault_changes_nothing}
+use Rattle.tx_ring.proofs.Fetches.{fault_changes_nothing}
+use Rattle.tx_ring.proofs.Tests.{tests_in_order}
 use Rattle.tx_ring.proofs.laws.faults.Goals as goal
 
 pub returns-clause-order : goal.returns-clause-order

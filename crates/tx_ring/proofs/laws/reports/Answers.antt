@@ -1,4 +1,4 @@
-use Rattle.tx_ring.proofs.Reported.{report_law, reports_in_one_block, done_changes_done_alone}
+use Rattle.tx_ring.proofs.Reports.{report_law, reports_in_one_block, done_changes_done_alone}
 use Rattle.tx_ring.proofs.laws.reports.Goals as goal
 
 pub returns-clause-address : goal.returns-clause-address

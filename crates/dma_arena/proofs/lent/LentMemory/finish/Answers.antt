@@ -1,5 +1,5 @@
 use Rattle.std.proofs.Common.{◌∙◌}
-use Rattle.dma_arena.proofs.Shown.{empty_len}
+use Rattle.dma_arena.proofs.Entries.{empty_len}
 use Rattle.dma_arena.proofs.lent.LentMemory.finish.Goals as goal
 
 pub returns-then-not-is_empty-clause-ok : goal.returns-then-not-is_empty-clause-ok

@@ -1,7 +1,8 @@
 use Rattle.std.proofs.Common.{◌≡◌, true, sym, ap, ◌∙◌}
 use Rattle.std.specs.Prelude.{is_some}
 use Rattle.dma_arena.specs.Memory.{Memory, has_block}
-use Rattle.dma_arena.proofs.Shown.{has_block-shown, some_block_lent, none_below}
+use Rattle.dma_arena.proofs.Entries.{some_block_lent, none_below}
+use Rattle.dma_arena.proofs.Shown.{has_block-shown}
 use Rattle.dma_arena.proofs.lent.LentMemory.lowest.Goals as goal
 
 pub returns-clause-none : goal.returns-clause-none

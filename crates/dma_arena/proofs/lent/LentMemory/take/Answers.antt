@@ -1,7 +1,8 @@
 use Rattle.std.proofs.Common.{ap, ◌∙◌}
 use Rattle.std.specs.FinMap as map
 use Rattle.dma_arena.specs.Memory.{Memory, block_at}
-use Rattle.dma_arena.proofs.Shown.{block_at-shown, shown-remove}
+use Rattle.dma_arena.proofs.Entries.{block_at-shown}
+use Rattle.dma_arena.proofs.Shown.{shown-remove}
 use Rattle.dma_arena.proofs.lent.LentMemory.take.Goals as goal
 
 pub returns-clause-taken : goal.returns-clause-taken

@@ -17,7 +17,7 @@ use crate::target::Target;
 use crate::unwanted::Unwanted;
 use reg_table::RowId;
 use register_file::RegisterFile;
-use rss_hash::{Input, Key, QueueMode, choose, classify, entry, hash};
+use rss_hash::{Input, QueueMode, choose, classify, entry};
 
 /// RXCSUM: descriptors tell hashes.
 const TELLS_HASH: u32 = 0x0000_2000;
@@ -62,11 +62,7 @@ fn target(registers: &RegisterFile, frame: &[u8], pool: u16) -> Target
 fn hash_of(registers: &RegisterFile, input: &Input) -> u32
     ensures { result ≡ toeplitz_hash (bytes_of_registers (row_words registers.now.words Rssrk)) input.now }
 {
-    let bytes = input.as_slice();
-    if bytes.is_empty() {
-        return 0;
-    }
-    hash(&Key::from_words(registers.hash_key()), bytes)
+    registers.hash(input.as_slice())
 }
 
 /// The entry of RETA that a hash selects, and 0 for a frame of type 0.

@@ -60,7 +60,7 @@ rows_of a =
     a.tables.rah ∷
     (a.settings.mrqc ∷ []) ∷
     a.tables.reta ∷
-    a.tables.rssrk ∷
+    a.key ∷
     map (λ q. q.base_low) a.transmit ∷
     map (λ q. q.base_high) a.transmit ∷
     map (λ q. q.length) a.transmit ∷

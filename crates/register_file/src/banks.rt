@@ -23,7 +23,7 @@ pub(crate) struct Settings {
     pub(crate) gcr_ext: u32,
 }
 
-/// The registers of many words that are no counters.
+/// The registers of many words that are no counters and not the hash key.
 #[derive(Clone, Copy)]
 pub(crate) struct Tables {
     pub(crate) eitr: [u32; 128],
@@ -35,7 +35,6 @@ pub(crate) struct Tables {
     pub(crate) ral: [u32; 128],
     pub(crate) rah: [u32; 128],
     pub(crate) reta: [u32; 32],
-    pub(crate) rssrk: [u32; 10],
     pub(crate) tqsm: [u32; 32],
     pub(crate) mpsar: [u32; 256],
     pub(crate) psrtype: [u32; 64],
@@ -91,7 +90,6 @@ impl Tables {
         ral: [0; 128],
         rah: [0; 128],
         reta: [0; 32],
-        rssrk: [0; 10],
         tqsm: [0; 32],
         mpsar: [0; 256],
         psrtype: [0; 64],

@@ -1,8 +1,10 @@
-//! The tables of the hash.
+//! The hash of receive side scaling, and the table that it selects queues in.
 
-ghost use Rattle.std.specs.Prelude.{◌≡◌};
+ghost use Rattle.std.specs.Prelude.{◌≡◌, ◌≤◌, length};
 ghost use Rattle.reg_table.specs.declared.rows.RowId.TheVariants.{Reta, Rssrk};
 ghost use Rattle.register_file.specs.Words.{row_words};
+ghost use Rattle.rss_hash.specs.Registers.{bytes_of_registers};
+ghost use Rattle.rss_hash.specs.Toeplitz.{toeplitz_hash};
 
 use crate::register_file::RegisterFile;
 
@@ -15,11 +17,11 @@ impl RegisterFile {
         &self.tables.reta
     }
 
-    /// The words of the hash key, RSSRK.
-    #[inline(always)]
-    pub fn hash_key(&self) -> &[u32; 10]
-        ensures { result.now ≡ row_words self.now.words Rssrk }
+    /// The Toeplitz hash of an input of at most 36 bytes, with the key of RSSRK.
+    pub fn hash(&self, input: &[u8]) -> u32
+        requires { length input.now ≤ 36 }
+        ensures { result ≡ toeplitz_hash (bytes_of_registers (row_words self.now.words Rssrk)) input.now }
     {
-        &self.tables.rssrk
+        self.key.hash(input)
     }
 }

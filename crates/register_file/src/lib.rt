@@ -8,8 +8,8 @@
 //! effect, and `word` the word as it was stored. The other calls are what the device core asks of a queue (its ring,
 //! whether it is on, its counter) and of single bits, and how it moves a head, switches a queue and counts. The
 //! definitions stand in `specs/`. The registers lie in plain fields: the sides of the queues, the groups of interrupts,
-//! which change in place, the settings, the tables and the counters; `cell` and `set_word` say which row lies where.
-//! Nothing here takes memory.
+//! which change in place, the hash key, the settings, the tables and the counters; `cell` and `set_word` say which row
+//! lies where. Nothing here takes memory.
 //!
 //! Source: Intel 82599 datasheet, sections on the device registers.
 #![tactic(auto)]

@@ -9,6 +9,7 @@ use crate::dir::Dir;
 use crate::groups::Groups;
 use crate::side::{ReceiveSide, TransmitSide};
 use reg_table::RowId;
+use rss_hash::HashKey;
 use std::marker::Model;
 
 /// How many queues there are, each with a receive and a transmit side.
@@ -23,6 +24,7 @@ pub struct RegisterFile {
     pub(crate) transmit: [TransmitSide; 128],
     pub(crate) counters: Counters,
     pub(crate) tables: Tables,
+    pub(crate) key: HashKey,
 }
 
 impl Model for RegisterFile {
@@ -49,6 +51,7 @@ impl RegisterFile {
             transmit: [TransmitSide::AT_RESET; 128],
             counters: Counters::AT_RESET,
             tables: Tables::AT_RESET,
+            key: HashKey::zero(),
         }
     }
 
@@ -62,6 +65,7 @@ impl RegisterFile {
         self.transmit = [TransmitSide::AT_RESET; 128];
         self.counters = Counters::AT_RESET;
         self.tables = Tables::AT_RESET;
+        self.key = HashKey::zero();
     }
 
     /// The word of a row at an index below the row's count, 0 to 0xFFFFFFFF, as it was stored: what is calculated, and

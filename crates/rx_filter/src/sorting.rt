@@ -18,7 +18,7 @@ use crate::target::Target;
 use crate::unwanted::Unwanted;
 use reg_table::RowId;
 use register_file::RegisterFile;
-use rss_hash::{Input, Key, QueueMode, choose, classify, entry, hash};
+use rss_hash::{Input, QueueMode, choose, classify, entry};
 
 /// Where a frame goes, given without its frame check sequence, or why it goes nowhere; any bytes will do, and bytes
 /// that a frame doesn't have read as 0. `Filter` where its destination isn't let in, then `NoPool` where there is no
@@ -60,11 +60,7 @@ fn target(registers: &RegisterFile, frame: &[u8], pool: u16) -> Target
 fn hash_of(registers: &RegisterFile, input: &Input) -> u32
     ensures { result ≡ toeplitz_hash (bytes_of_registers (row_words registers.now.words Rssrk)) input.now }
 {
-    let bytes = input.as_slice();
-    if bytes.is_empty() {
-        return 0;
-    }
-    hash(&Key::from_words(registers.hash_key()), bytes)
+    registers.hash(input.as_slice())
 }
 
 /// The entry of RETA that a hash selects, and 0 for a frame of type 0.

@@ -5,4 +5,4 @@ use Rattle.register_file.proofs.register_file.RegisterFile.new.Goals as goal
 
 pub returns : goal.returns
 unfolding reset_words rows
-returns c = rw c.new.ensures refl
+returns c = rw (c.new.ensures, c.zero.ensures) refl

@@ -5,4 +5,4 @@ use Rattle.register_file.proofs.register_file.RegisterFile.reset.Goals as goal
 
 pub returns : goal.returns
 unfolding reset_words rows
-returns c = rw c.new-self-inside.ensures refl
+returns c = rw (c.new-self-inside.ensures, c.zero-self-inside.ensures) refl

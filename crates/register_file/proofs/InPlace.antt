@@ -6,8 +6,8 @@ use Rattle.std.proofs.lemmas.List.{get_or-map, set-get_or}
 use Rattle.intr_unit.specs.BitSet.{bits_where}
 use Rattle.intr_unit.specs.Interrupts.{Interrupts, reset_of, of_words, is_due, due_bits, next_bit, next_vector, after_message, after_message_of}
 use Rattle.intr_unit.proofs.MessageLaws.{messages_tell}
-use Rattle.intr_unit.proofs.SetLaws.{same_bits, bits_where-lt, contains-bits_where, no-lowest}
-use Rattle.intr_unit.proofs.Subsets.{contains-no_bits}
+use Rattle.intr_unit.proofs.SetLaws.{same_bits, bits_where-lt, contains-bits_where, contains-no_bits}
+use Rattle.intr_unit.proofs.WordLaws.{no-lowest}
 use Rattle.intr_unit.specs.declared.group.Group.{Group}
 use Rattle.intr_unit.specs.declared.group.Group.TheVariants.{Pf, Vf}
 use Rattle.register_file.specs.AllGroups.{AllGroups, at_group, with_group, IsOwn}

@@ -71,6 +71,7 @@ impl Buf {
         ensures value { result.now ≡ self.now.bytes }
         ensures whole { IsBlock self.now }
     {
+        // A number is below 65,536 by its type.
         let _number = self.number;
         let bytes = self.bytes.as_ref();
         let all: &[u8] = bytes;

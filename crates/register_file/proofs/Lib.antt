@@ -1,7 +1,9 @@
 pub mod Bits
+pub mod Covers
 pub mod Fields
 pub mod Footprints
 pub mod GroupChanges
+pub mod NoSide
 pub mod Owners
 pub mod Places
 pub mod Puts
@@ -9,7 +11,11 @@ pub mod ReadBack
 pub mod Settled
 pub mod Shape
 pub mod SideWords
+pub mod Small
 pub mod Sound
+pub mod SoundParts
 pub mod Standing
 pub mod Stands
+pub mod Switches
 pub mod Within
+pub mod WithinParts

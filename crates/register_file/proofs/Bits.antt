@@ -12,12 +12,14 @@ kept_bit : (x y : ℕ) → x < 2 → max (min x 1) (min y 0) ≡ x
 kept_bit x y h = omega arith
 
 -- a merge keeps a bit that its mask leaves out
-pub has_bit-merged_out : (bit mask old new : ℕ) → bit < 32 → mask < 2 ^ 32 → bit_at mask bit ≡ 0 → has_bit bit (merged mask old new) ≡ has_bit bit old
+pub has_bit-merged_out : (bit mask old new : ℕ) → bit < 32 → mask < 2 ^ 32 → bit_at mask bit ≡ 0
+    → has_bit bit (merged mask old new) ≡ has_bit bit old
 has_bit-merged_out bit mask old new b small out =
     let turned : bit_at (0xFFFFFFFF - mask) bit ≡ 1 = bit_at_not w32 mask bit small b ∙ ap (λ n. 1 - n) out in
     ap (λ n. n == 1) (
     bit_at_or (bit_and old (0xFFFFFFFF - mask)) (bit_and new mask) bit
-    ∙ ap (λ n. max n (bit_at (bit_and new mask) bit)) (bit_at_and old (0xFFFFFFFF - mask) bit ∙ ap (λ n. min (bit_at old bit) n) turned)
+    ∙ ap (λ n. max n (bit_at (bit_and new mask) bit)) (bit_at_and old (0xFFFFFFFF - mask) bit
+    ∙ ap (λ n. min (bit_at old bit) n) turned)
     ∙ ap (λ n. max (min (bit_at old bit) 1) n) (bit_at_and new mask bit ∙ ap (λ n. min (bit_at new bit) n) out)
     ∙ kept_bit (bit_at old bit) (bit_at new bit) (bit_at-lt old bit)
     )
@@ -46,19 +48,22 @@ pub has_bit-set : (bit word : ℕ) → has_bit bit (bit_set bit word) ≡ true
 has_bit-set bit word =
     elim (cases_Bool (has_bit bit word)) as (λ _. has_bit bit (bit_set bit word) ≡ true) [
       | inl t ↦ ap (has_bit bit) (cond-true (has_bit bit word) word (word + 2 ^ bit) t) ∙ t
-      | inr f ↦ ap (has_bit bit) (cond-false (has_bit bit word) word (word + 2 ^ bit) f) ∙ eq-eqb _ _ (added word (2 ^ bit) (pow_pos bit) (eqb-false _ _ f))
+      | inr f ↦ ap (has_bit bit) (cond-false (has_bit bit word) word (word + 2 ^ bit) f)
+          ∙ eq-eqb _ _ (added word (2 ^ bit) (pow_pos bit) (eqb-false _ _ f))
     ]
 
 pub has_bit-clear : (bit word : ℕ) → has_bit bit (bit_cleared bit word) ≡ false
 has_bit-clear bit word =
     elim (cases_Bool (has_bit bit word)) as (λ _. has_bit bit (bit_cleared bit word) ≡ false) [
-      | inl t ↦ ap (has_bit bit) (cond-true (has_bit bit word) (word - 2 ^ bit) word t) ∙ ne_eqb _ _ (taken word (2 ^ bit) (pow_pos bit) (eqb-true _ _ t))
+      | inl t ↦ ap (has_bit bit) (cond-true (has_bit bit word) (word - 2 ^ bit) word t)
+          ∙ ne_eqb _ _ (taken word (2 ^ bit) (pow_pos bit) (eqb-true _ _ t))
       | inr f ↦ ap (has_bit bit) (cond-false (has_bit bit word) (word - 2 ^ bit) word f) ∙ f
     ]
 
 pub has_bit-cleared : (word : ℕ) → has_bit 25 (bit_cleared 25 word) ≡ false
 has_bit-cleared word = has_bit-clear 25 word
 
-pub has_bit-switch : (wanted : Bool) (word : ℕ) → has_bit 25 (cond wanted (bit_set 25 word) (bit_cleared 25 word)) ≡ wanted
+pub has_bit-switch : (wanted : Bool) (word : ℕ)
+    → has_bit 25 (cond wanted (bit_set 25 word) (bit_cleared 25 word)) ≡ wanted
 has_bit-switch true word = has_bit-set 25 word
 has_bit-switch false word = has_bit-cleared word

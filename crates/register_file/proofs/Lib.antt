@@ -1,9 +1,11 @@
 pub mod Bits
 pub mod Columns
+pub mod Covers
 pub mod Fields
 pub mod Footprints
 pub mod GroupChanges
 pub mod InPlace
+pub mod NoSide
 pub mod Own
 pub mod Owners
 pub mod Puts
@@ -11,8 +13,12 @@ pub mod ReadBack
 pub mod Settled
 pub mod Shape
 pub mod SideWords
+pub mod Small
 pub mod Sound
+pub mod SoundParts
 pub mod Standing
 pub mod Stands
 pub mod Storing
+pub mod Switches
 pub mod Within
+pub mod WithinParts

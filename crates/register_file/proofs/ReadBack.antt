@@ -32,8 +32,10 @@ counts_and_clears r p h b = record {
 
 -- after a reset no side of a queue is on or wanted on
 pub off-reset : ResetSwitchesOff
-off-reset Rx queue b = (ap (has_bit 25) (word_at-reset (place Rxdctl queue) b), get_or-replicate 128 queue false false b)
-off-reset Tx queue b = (ap (has_bit 25) (word_at-reset (place Txdctl queue) b), get_or-replicate 128 queue false false b)
+off-reset Rx queue b =
+    (ap (has_bit 25) (word_at-reset (place Rxdctl queue) b), get_or-replicate 128 queue false false b)
+off-reset Tx queue b =
+    (ap (has_bit 25) (word_at-reset (place Txdctl queue) b), get_or-replicate 128 queue false false b)
 
 -- the bits of a group
 pub masks : GroupBitsAreMasks

@@ -25,7 +25,8 @@ pub intersection-lt : (a b : BitSet) → intersection a b < 2 ^ 32
 unfolding intersection
 intersection-lt a b = bits_where-lt _
 
-pub settled-of_words : (g : Group) (causes enabled auto_clear auto_mask told : ℕ) → IsSettled (of_words g causes enabled auto_clear auto_mask told)
+pub settled-of_words : (g : Group) (causes enabled auto_clear auto_mask told : ℕ)
+    → IsSettled (of_words g causes enabled auto_clear auto_mask told)
 settled-of_words g causes enabled auto_clear auto_mask told =
     let bits = group_bits g in
     record {
@@ -41,7 +42,8 @@ settled-of_words g causes enabled auto_clear auto_mask told =
     }
 
 settle : (s : Interrupts) (causes enabled told : BitSet) → IsConsistent s → IsSubset causes (group_bits s.group)
-    → IsSubset enabled (group_bits s.group) → causes < 2 ^ 32 → enabled < 2 ^ 32 → IsSettled (settled s causes enabled told)
+    → IsSubset enabled (group_bits s.group) → causes < 2 ^ 32 → enabled < 2 ^ 32 → IsSettled
+    (settled s causes enabled told)
 settle s causes enabled told c causes_exist masks_exist small_causes small_enabled = record {
   consistent = record {
     causes_exist = causes_exist;
@@ -58,11 +60,13 @@ module _ (s : Interrupts) (is : IsSettled s) where
   fewer : (set gone : BitSet) → IsSubset set (group_bits s.group) → IsSubset (difference set gone) (group_bits s.group)
   fewer set gone within = IsSubset-difference set gone (group_bits s.group) within
 
-  more : (set new : BitSet) → IsSubset set (group_bits s.group) → IsSubset new (group_bits s.group) → IsSubset (union set new) (group_bits s.group)
+  more : (set new : BitSet) → IsSubset set (group_bits s.group) → IsSubset new (group_bits s.group)
+      → IsSubset (union set new) (group_bits s.group)
   more set new within new_within = IsSubset-union set new (group_bits s.group) within new_within
 
   own : (set : BitSet) → IsSubset (intersection set (group_bits s.group)) (group_bits s.group)
-  own set = IsSubset-intersection_right set (group_bits s.group) (group_bits s.group) (IsSubset-itself (group_bits s.group))
+  own set =
+      IsSubset-intersection_right set (group_bits s.group) (group_bits s.group) (IsSubset-itself (group_bits s.group))
 
   pub settled-raised : (set : BitSet) (auto : Bool) → IsSettled (raised s set auto)
   settled-raised set auto =
@@ -86,7 +90,8 @@ module _ (s : Interrupts) (is : IsSettled s) where
   pub settled-after_mask_set : (set : BitSet) → IsSettled (after_mask_set s set)
   settled-after_mask_set set =
       settle s _ _ s.told is.consistent is.consistent.causes_exist
-      (more s.enabled (intersection set (group_bits s.group)) is.consistent.masks_exist (own set)) is.causes (union-lt _ _)
+      (more s.enabled (intersection set (group_bits s.group)) is.consistent.masks_exist (own set)) is.causes
+      (union-lt _ _)
 
   pub settled-after_mask_clear : (set : BitSet) → IsSettled (after_mask_clear s set)
   settled-after_mask_clear set =

@@ -17,9 +17,11 @@ use Rattle.register_file.specs.declared.dir.Dir.TheVariants.{Rx, Tx}
 use Rattle.register_file.proofs.Puts.{number_small, word_at-put_same, length-row_words-put, row_words-reset}
 
 -- a word put at a place that the registers have stands there
-pub put_stands : (r : Registers) (p : Place) (v : ℕ) → HasShape r → p.index < (row_of p.row).count → word_at (put r.words p v) p ≡ v
+pub put_stands : (r : Registers) (p : Place) (v : ℕ) → HasShape r → p.index < (row_of p.row).count
+    → word_at (put r.words p v) p ≡ v
 put_stands r p v h b =
-    word_at-put_same r.words p v (subst (λ n. number_of p.row < n) (sym h.has_rows) (number_small p.row)) (subst (λ n. p.index < n) (sym (h.has_indices p.row)) b)
+    word_at-put_same r.words p v (subst (λ n. number_of p.row < n) (sym h.has_rows) (number_small p.row))
+    (subst (λ n. p.index < n) (sym (h.has_indices p.row)) b)
 
 pub HasShape-reset : HasShape reset_registers
 unfolding reset_words
@@ -40,7 +42,8 @@ HasShape-put r p v h = record {
   told_vf = h.told_vf;
 }
 
-pub HasShape-with_wanted : (r : Registers) (dir : Dir) (queue : ℕ) (wanted : Bool) → HasShape r → HasShape (with_wanted r dir queue wanted)
+pub HasShape-with_wanted : (r : Registers) (dir : Dir) (queue : ℕ) (wanted : Bool) → HasShape r
+    → HasShape (with_wanted r dir queue wanted)
 HasShape-with_wanted r Rx queue wanted h = record {
   has_rows = h.has_rows;
   has_indices = h.has_indices;
@@ -75,4 +78,5 @@ HasShape-with_told r (Vf v) told h = record {
 pub HasShape-with_interrupts : (r : Registers) (s : Interrupts) → HasShape r → HasShape (with_interrupts r s)
 HasShape-with_interrupts r s h =
     HasShape-with_told _ s.group s.told
-    (HasShape-put _ (place (mask_row s.group) (index_of s.group)) s.enabled (HasShape-put r (place (cause_row s.group) (index_of s.group)) s.causes h))
+    (HasShape-put _ (place (mask_row s.group) (index_of s.group)) s.enabled
+    (HasShape-put r (place (cause_row s.group) (index_of s.group)) s.causes h))

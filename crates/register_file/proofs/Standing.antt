@@ -20,7 +20,7 @@ use Rattle.register_file.proofs.Puts.{word_at-put_other}
 use Rattle.register_file.proofs.Shape.{put_stands, HasShape-put}
 use Rattle.register_file.proofs.Fields.{words-with_told}
 use Rattle.register_file.proofs.Settled.{intersection-lt}
-use Rattle.register_file.proofs.Within.{within-with_interrupts}
+use Rattle.register_file.proofs.WithinParts.{within-with_interrupts}
 
 -- the common bits of a set and one that it is within
 implied : (x y : Bool) → (x ≡ true → y ≡ true) → (x && y) ≡ x
@@ -52,7 +52,8 @@ auto_mask-steady : (g : Group) → (pending g).words (place (auto_mask_row g) (i
 auto_mask-steady Pf = refl
 auto_mask-steady (Vf v) = refl
 
-told_by-with_told : (r : Registers) (g : Group) (told : ℕ) → length r.told_vf ≡ 64 → index_of g < 64 → told_by (with_told r g told) g ≡ told
+told_by-with_told : (r : Registers) (g : Group) (told : ℕ) → length r.told_vf ≡ 64 → index_of g < 64
+    → told_by (with_told r g told) g ≡ told
 told_by-with_told r Pf told h b = refl
 told_by-with_told r (Vf v) told h b = get_or-set_same r.told_vf v told 0 (subst (λ n. v < n) (sym h) b)
 
@@ -67,29 +68,38 @@ module _ (r : Registers) (h : HasShape r) (s : Interrupts) (b : index_of s.group
   unfolding caused masked
   causes_there =
       ap (λ ws. word_at ws (place (cause_row s.group) (index_of s.group))) (words-with_told masked s.group s.told)
-      ∙ word_at-put_other caused.words (place (mask_row s.group) (index_of s.group)) (place (cause_row s.group) (index_of s.group)) s.enabled (cause_not_mask s.group)
+      ∙ word_at-put_other caused.words (place (mask_row s.group) (index_of s.group))
+      (place (cause_row s.group) (index_of s.group)) s.enabled (cause_not_mask s.group)
       ∙ put_stands r (place (cause_row s.group) (index_of s.group)) s.causes h (cause_index s.group b)
 
   pub enabled_there : word_of (with_interrupts r s) (mask_row s.group) (index_of s.group) ≡ s.enabled
   unfolding caused masked
   enabled_there =
       ap (λ ws. word_at ws (place (mask_row s.group) (index_of s.group))) (words-with_told masked s.group s.told)
-      ∙ put_stands caused (place (mask_row s.group) (index_of s.group)) s.enabled (HasShape-put r (place (cause_row s.group) (index_of s.group)) s.causes h) (mask_index s.group b)
+      ∙ put_stands caused (place (mask_row s.group) (index_of s.group)) s.enabled
+      (HasShape-put r (place (cause_row s.group) (index_of s.group)) s.causes h) (mask_index s.group b)
 
   pub told_there : told_by (with_interrupts r s) s.group ≡ s.told
   unfolding caused masked
   told_there = told_by-with_told masked s.group s.told h.told_vf b
 
   pub interrupts_of-with_interrupts : IsConsistent s → s.causes < 2 ^ 32 → s.enabled < 2 ^ 32 → s.told < 2 ^ 32
-      → interrupts_of (with_interrupts r s) s.group ≡ record s { auto_clear = (interrupts_of r s.group).auto_clear; auto_mask = (interrupts_of r s.group).auto_mask }
+      → interrupts_of (with_interrupts r s) s.group ≡ record s {
+        auto_clear =
+            (interrupts_of r s.group).auto_clear;
+        auto_mask = (interrupts_of r s.group).auto_mask;
+      }
   interrupts_of-with_interrupts c small_causes small_enabled small_told =
       let bits = group_bits s.group in
       let only = within-with_interrupts r s in
-      let causes = ap (λ w. intersection w bits) causes_there ∙ intersection-within s.causes bits small_causes c.causes_exist in
-      let enabled = ap (λ w. intersection w bits) enabled_there ∙ intersection-within s.enabled bits small_enabled c.masks_exist in
+      let causes = ap (λ w. intersection w bits) causes_there
+      ∙ intersection-within s.causes bits small_causes c.causes_exist in
+      let enabled = ap (λ w. intersection w bits) enabled_there
+      ∙ intersection-within s.enabled bits small_enabled c.masks_exist in
       let clear = only.words (place (auto_clear_row s.group) (index_of s.group)) (auto_clear-steady s.group) in
       let mask = only.words (place (auto_mask_row s.group) (index_of s.group)) (auto_mask-steady s.group) in
-      let pending = (λ k. intersection (told_there k) (intersection (causes k) (enabled k))) ∙ intersection-within s.told (intersection s.causes s.enabled) small_told c.told_is_pending in
+      let pending = (λ k. intersection (told_there k) (intersection (causes k) (enabled k)))
+      ∙ intersection-within s.told (intersection s.causes s.enabled) small_told c.told_is_pending in
       λ k. record {
         group = s.group;
         causes = causes k;

@@ -2,78 +2,31 @@
 use Rattle.std.proofs.Common.{◌≡◌, ℕ, Bool, true, false, refl, ap, sym, ◌∙◌, subst}
 use Rattle.std.specs.Prelude.{bit_and}
 use Rattle.std.specs.Option.{option_map_or}
-use Rattle.std.proofs.lemmas.Bool.{both_ways}
 use Rattle.reg_table.specs.Counter.{bumped}
 use Rattle.reg_table.specs.Rows.{row_of}
 use Rattle.reg_table.specs.declared.place.Place.{Place}
 use Rattle.reg_table.specs.declared.kind.Kind.{Kind}
 use Rattle.reg_table.specs.declared.kind.Kind.TheVariants as kind
 use Rattle.reg_table.specs.declared.rows.RowId.{RowId}
-use Rattle.intr_unit.specs.Interrupts.{Interrupts}
 use Rattle.intr_unit.specs.declared.group.Group.{Group}
 use Rattle.register_file.specs.Access.{after_read, written, stored, group_in, group_read, group_written, is_running, asked}
 use Rattle.register_file.specs.Bits.{has_bit}
 use Rattle.register_file.specs.Columns.{place}
 use Rattle.register_file.specs.Counters.{counted}
 use Rattle.register_file.specs.Footprint.{Footprint, ChangesWithin, Covers, nothing, of_owner, the_word, the_enable, pending, pending_of, of_side, read_by, of_read, written_by, of_write}
-use Rattle.register_file.specs.Groups.{cause_row, mask_row, index_of, with_told, with_interrupts, message_made, causes_raised, queue_raised}
+use Rattle.register_file.specs.Groups.{with_interrupts, message_made, causes_raised, queue_raised}
 use Rattle.register_file.specs.Laws.{after_write}
 use Rattle.register_file.specs.Owner.{owner_of, is_owner}
 use Rattle.register_file.specs.Queue.{head_row, enable_row, with_head, switched, switched_on, switched_off, shut}
-use Rattle.register_file.specs.Registers.{Registers, word_of, with_word, is_wanted, with_wanted}
-use Rattle.register_file.specs.Words.{word_at, put}
+use Rattle.register_file.specs.Registers.{Registers, word_of, is_wanted}
 use Rattle.register_file.specs.declared.dir.Dir.{Dir}
 use Rattle.register_file.specs.declared.dir.Dir.TheVariants.{Rx, Tx}
 use Rattle.register_file.specs.declared.owner.Owner.{Owner}
 use Rattle.register_file.specs.declared.owner.Owner.TheVariants as owner
-use Rattle.register_file.proofs.Fields.{is_wanted-put, told_by-put, words-with_wanted, is_wanted-with_wanted_other, told_by-with_wanted, words-with_told, is_wanted-with_told, told_by-with_told_other}
-use Rattle.register_file.proofs.Footprints.{within-refl, within-trans, within-wider, within-if, covers-the_enable, cause_is_pending, mask_is_pending}
+use Rattle.register_file.proofs.Footprints.{within-refl, within-trans, within-wider, within-if, covers-the_enable}
 use Rattle.register_file.proofs.GroupChanges.{GroupChange, kept, changed, change-group_read, change-interrupts_written, change-causes_raised, change-message_made}
-use Rattle.register_file.proofs.Owners.{apart, is_group-itself, is_owner-itself, is_place-itself}
-use Rattle.register_file.proofs.Puts.{word_at-put_other}
-
--- a word at one place, what is wanted of one side, and what is told of one group, each within what has it
-pub within-put : (f : Footprint) (r : Registers) (p : Place) (v : ℕ) → f.words p ≡ true
-    → ChangesWithin f r (record r { words = put r.words p v })
-within-put f r p v has = record {
-  words = λ q n. word_at-put_other r.words p q v (apart f.words p q has n);
-  wanted = λ dir queue n. is_wanted-put r p v dir queue;
-  told = λ g n. told_by-put r p v g;
-}
-
-pub within-with_wanted : (f : Footprint) (r : Registers) (dir : Dir) (queue : ℕ) (wanted : Bool) → f.wanted dir queue ≡ true
-    → ChangesWithin f r (with_wanted r dir queue wanted)
-within-with_wanted f r dir queue wanted has = record {
-  words = λ q n. ap (λ ws. word_at ws q) (words-with_wanted r dir queue wanted);
-  wanted = λ other number n. is_wanted-with_wanted_other r dir other queue number wanted
-      (λ e i. both_ways (f.wanted other number) n (sym (λ k. f.wanted (e k) (i k)) ∙ has));
-  told = λ g n. told_by-with_wanted r dir queue wanted g;
-}
-
-pub within-with_told : (f : Footprint) (r : Registers) (g : Group) (told : ℕ) → f.told g ≡ true
-    → ChangesWithin f r (with_told r g told)
-within-with_told f r g told has = record {
-  words = λ q n. ap (λ ws. word_at ws q) (words-with_told r g told);
-  wanted = λ dir queue n. is_wanted-with_told r g told dir queue;
-  told = λ h n. told_by-with_told_other r g h told (apart f.told g h has n);
-}
-
-pub within-word : (r : Registers) (row : RowId) (index word : ℕ) → ChangesWithin (the_word (place row index)) r (with_word r row index word)
-within-word r row index word = within-put (the_word (place row index)) r (place row index) word (is_place-itself (place row index))
-
--- other interrupts of a group
-pub within-with_interrupts : (r : Registers) (s : Interrupts) → ChangesWithin (pending s.group) r (with_interrupts r s)
-within-with_interrupts r s =
-    let f : Footprint = pending s.group in
-    let cause : Place = place (cause_row s.group) (index_of s.group) in
-    let mask : Place = place (mask_row s.group) (index_of s.group) in
-    let caused : Registers = record r { words = put r.words cause s.causes } in
-    let masked : Registers = record caused { words = put caused.words mask s.enabled } in
-    within-trans f r masked (with_told masked s.group s.told)
-    (within-trans f r caused masked
-    (within-put f r cause s.causes (cause_is_pending s.group))
-    (within-put f caused mask s.enabled (mask_is_pending s.group)))
-    (within-with_told f masked s.group s.told (is_group-itself s.group))
+use Rattle.register_file.proofs.Owners.{is_owner-itself, is_place-itself}
+use Rattle.register_file.proofs.WithinParts.{within-put, within-with_wanted, within-word, within-with_interrupts}
 
 pub within-change : (r : Registers) (g : Group) (s : Registers) → GroupChange r g s → ChangesWithin (pending g) r s
 within-change r g s kept = within-refl (pending g) r
@@ -142,15 +95,19 @@ pub within-written : (r : Registers) (p : Place) (view word : ℕ)
 within-written r p view word = written_within (row_of p.row).kind r p view word
 
 -- what the device counts and does to sides
-pub within-counted : (r : Registers) (row : RowId) (index : ℕ) → ChangesWithin (the_word (place row index)) r (counted r row index)
+pub within-counted : (r : Registers) (row : RowId) (index : ℕ)
+    → ChangesWithin (the_word (place row index)) r (counted r row index)
 within-counted r row index = within-word r row index (bumped (word_of r row index))
 
-pub within-with_head : (r : Registers) (dir : Dir) (queue head : ℕ) → ChangesWithin (the_word (place (head_row dir) queue)) r (with_head r dir queue head)
+pub within-with_head : (r : Registers) (dir : Dir) (queue head : ℕ)
+    → ChangesWithin (the_word (place (head_row dir) queue)) r (with_head r dir queue head)
 within-with_head r dir queue head = within-word r (head_row dir) queue head
 
-pub within-switched : (r : Registers) (dir : Dir) (queue : ℕ) → ChangesWithin (the_word (place (enable_row dir) queue)) r (switched r dir queue)
+pub within-switched : (r : Registers) (dir : Dir) (queue : ℕ)
+    → ChangesWithin (the_word (place (enable_row dir) queue)) r (switched r dir queue)
 within-switched r dir queue =
-    within-if (the_word (place (enable_row dir) queue)) (is_wanted r dir queue) r (switched_on r dir queue) (switched_off r dir queue)
+    within-if (the_word (place (enable_row dir) queue)) (is_wanted r dir queue) r (switched_on r dir queue)
+    (switched_off r dir queue)
     (within-word r (enable_row dir) queue _) (within-word r (enable_row dir) queue _)
 
 enable_owner : (dir : Dir) (queue : ℕ) → owner_of (place (enable_row dir) queue) ≡ owner.Side dir queue
@@ -158,7 +115,8 @@ enable_owner Rx queue = refl
 enable_owner Tx queue = refl
 
 -- a fault changes what a write of the side's enable word may change
-pub within-shut_enable : (r : Registers) (dir : Dir) (queue : ℕ) → ChangesWithin (the_enable (place (enable_row dir) queue)) r (shut r dir queue)
+pub within-shut_enable : (r : Registers) (dir : Dir) (queue : ℕ)
+    → ChangesWithin (the_enable (place (enable_row dir) queue)) r (shut r dir queue)
 within-shut_enable r dir queue =
     let p : Place = place (enable_row dir) queue in
     within-trans (the_enable p) r (switched_off r dir queue) (shut r dir queue)

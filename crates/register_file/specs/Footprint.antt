@@ -23,7 +23,8 @@ pub record Footprint : Type 0 where
 -- all that a footprint hasn't is as it was
 pub record ChangesWithin (f : Footprint) (old new : Registers) : Type 0 where
   pub words : (p : Place) → IsFalse (f.words p) → word_at new.words p ≡ word_at old.words p
-  pub wanted : (dir : Dir) (queue : ℕ) → IsFalse (f.wanted dir queue) → is_wanted new dir queue ≡ is_wanted old dir queue
+  pub wanted : (dir : Dir) (queue : ℕ) → IsFalse (f.wanted dir queue)
+      → is_wanted new dir queue ≡ is_wanted old dir queue
   pub told : (g : Group) → IsFalse (f.told g) → told_by new g ≡ told_by old g
 
 -- a footprint has all that another has

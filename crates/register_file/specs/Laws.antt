@@ -14,7 +14,7 @@ use Rattle.register_file.specs.Access.{read_word, after_read, written}
 use Rattle.register_file.specs.Bits.{merged, has_bit}
 use Rattle.register_file.specs.Columns.{place}
 use Rattle.register_file.specs.Counters.{counted, mapping_row, counter_of}
-use Rattle.register_file.specs.Footprint.{Footprint, ChangesWithin, Covers, Misses, the_word, the_enable, of_owner, of_side, of_group, pending, any_pending, of_read, of_write}
+use Rattle.register_file.specs.Footprint.{Footprint, ChangesWithin, Covers, Misses, the_word, the_enable, of_owner, of_side, of_group, pending, pending_of, any_pending, of_read, of_write}
 use Rattle.register_file.specs.Groups.{cause_row, mask_row, auto_clear_row, auto_mask_row, index_of, told_by, interrupts_of, with_interrupts, clears_others, auto_masks, vector_row, vector_entry, causes_raised, queue_raised, message_made}
 use Rattle.register_file.specs.Owner.{owner_of, is_owner}
 use Rattle.register_file.specs.Queue.{ring_of, is_on, base_low_row, base_high_row, length_row, head_row, enable_row, with_head, switched, shut}
@@ -27,6 +27,7 @@ use Rattle.register_file.specs.Words.{word_at}
 use Rattle.register_file.specs.declared.dir.Dir.{Dir}
 use Rattle.register_file.specs.declared.dir.Dir.TheVariants.{Rx, Tx}
 use Rattle.register_file.specs.declared.owner.Owner.{Owner}
+use Rattle.register_file.specs.declared.owner.Owner.TheVariants as owner
 
 -- the registers after a write of a place
 abbrev pub after_write : Registers → Place → ℕ → ℕ → Registers
@@ -237,7 +238,7 @@ WriteStaysWithOwner = (p : Place) → Covers (of_owner (owner_of p)) (of_write p
 abbrev pub OwnersAreApart : Type 0
 OwnersAreApart = (o other : Owner) → IsFalse (is_owner o other) → Misses (of_owner o) (of_owner other)
 
--- a word's footprint has one place, what is pending of a group is of causes and masks alone, and different owners differ
+-- a word's footprint has one place, what is pending of a group is of causes and masks alone, and owners differ
 abbrev pub WordIsOnePlace : Type 0
 WordIsOnePlace = (p q : Place) → q ≢ p → IsFalse ((the_word p).words q)
 
@@ -246,6 +247,16 @@ PendingIsPending = (g : Group) → Covers any_pending (pending g)
 
 abbrev pub OwnersDiffer : Type 0
 OwnersDiffer = (o other : Owner) → o ≢ other → IsFalse (is_owner o other)
+
+-- counters are of no other owner, and neither what is pending nor what a read may change is of a side of a queue
+abbrev pub CountersAreTheirOwn : Type 0
+CountersAreTheirOwn = (p : Place) → (row_of p.row).kind ≡ kind.Rc → owner_of p ≡ owner.Counters
+
+abbrev pub PendingMissesSides : Type 0
+PendingMissesSides = (o : Owner) (dir : Dir) (queue : ℕ) → Misses (pending_of o) (of_side dir queue)
+
+abbrev pub ReadMissesSides : Type 0
+ReadMissesSides = (p : Place) (dir : Dir) (queue : ℕ) → Misses (of_read p) (of_side dir queue)
 
 -- what a footprint has nothing of is as it was
 abbrev pub MissedReceiveStands : Type 0
@@ -268,7 +279,8 @@ pub record SettingsStand (f : Footprint) (old new : Registers) : Type 0 where
   pub stopped : IsFalse (f.words (place Ctrl 0)) → is_stopped new ≡ is_stopped old
   pub can_receive : IsFalse (f.words (place Rxctrl 0)) → can_receive new ≡ can_receive old
   pub can_transmit : IsFalse (f.words (place Dmatxctl 0)) → can_transmit new ≡ can_transmit old
-  pub limit : IsFalse (f.words (place Hlreg0 0)) → IsFalse (f.words (place Maxfrs 0)) → frame_limit new ≡ frame_limit old
+  pub limit : IsFalse (f.words (place Hlreg0 0)) → IsFalse (f.words (place Maxfrs 0))
+      → frame_limit new ≡ frame_limit old
   pub padding : IsFalse (f.words (place Hlreg0 0)) → pads new ≡ pads old
   pub dropping : (queue : ℕ) → IsFalse (f.words (place Srrctl queue)) → drops new queue ≡ drops old queue
   pub clearing : IsFalse (f.words (place Gpie 0)) → clears_others new ≡ clears_others old

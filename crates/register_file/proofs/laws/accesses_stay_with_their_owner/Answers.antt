@@ -1,4 +1,5 @@
 use Rattle.register_file.proofs.Footprints.{covers-of_read, covers-of_write, covers-any_pending, misses-owner}
+use Rattle.register_file.proofs.NoSide.{counters_own, pending_misses_sides, read_misses_sides}
 use Rattle.register_file.proofs.ReadBack.{one_place, owners_differ}
 use Rattle.register_file.proofs.laws.accesses_stay_with_their_owner.Goals as goal
 
@@ -19,3 +20,12 @@ returns-clause-word c = one_place
 
 pub returns-clause-pending : goal.returns-clause-pending
 returns-clause-pending c = covers-any_pending
+
+pub returns-clause-counters : goal.returns-clause-counters
+returns-clause-counters c = counters_own
+
+pub returns-clause-interrupts : goal.returns-clause-interrupts
+returns-clause-interrupts c = pending_misses_sides
+
+pub returns-clause-no_side : goal.returns-clause-no_side
+returns-clause-no_side c = read_misses_sides

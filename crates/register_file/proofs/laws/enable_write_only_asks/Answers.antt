@@ -1,5 +1,5 @@
 use Rattle.register_file.proofs.ReadBack.{enable_read}
-use Rattle.register_file.proofs.SideWords.{receive-asked, transmit-asked}
+use Rattle.register_file.proofs.Switches.{receive-asked, transmit-asked}
 use Rattle.register_file.proofs.laws.enable_write_only_asks.Goals as goal
 
 pub returns-clause-receive : goal.returns-clause-receive

@@ -1,6 +1,6 @@
 use Rattle.register_file.proofs.Owners.{is_place-itself}
 use Rattle.register_file.proofs.Shape.{put_stands}
-use Rattle.register_file.proofs.Within.{within-put}
+use Rattle.register_file.proofs.WithinParts.{within-put}
 use Rattle.register_file.specs.Footprint.{the_word}
 use Rattle.register_file.proofs.laws.put_word_is_there.Goals as goal
 

@@ -1,4 +1,4 @@
-use Rattle.register_file.proofs.SideWords.{receive-shut, transmit-shut}
+use Rattle.register_file.proofs.Switches.{receive-shut, transmit-shut}
 use Rattle.register_file.proofs.laws.shut_side_is_off.Goals as goal
 
 pub returns-clause-receive : goal.returns-clause-receive

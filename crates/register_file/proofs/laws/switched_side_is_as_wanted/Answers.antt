@@ -1,4 +1,4 @@
-use Rattle.register_file.proofs.SideWords.{receive-switched, transmit-switched, switched-stays}
+use Rattle.register_file.proofs.Switches.{receive-switched, transmit-switched, switched-stays}
 use Rattle.register_file.proofs.laws.switched_side_is_as_wanted.Goals as goal
 
 pub returns-clause-receive : goal.returns-clause-receive

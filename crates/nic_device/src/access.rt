@@ -5,22 +5,22 @@ ghost use Rattle.reg_table.specs.Rows.{row_of};
 ghost use Rattle.nic_device.specs.State.{reset};
 ghost use Rattle.nic_device.specs.Access.{register_read, register_written, state_written};
 
-use crate::device::Device;
+use crate::engine::Engine;
 use crate::event::Reply;
-use reg_table::{Place, place_of, view_of};
+use reg_table::{Place, resolve};
 use register_file::asks_reset;
 use tx_ring::Staged;
 
-impl Device {
+impl Engine {
     /// Reads an address.
     pub(crate) fn read(&mut self, address: u32) -> Reply
         ensures reply { result ≡ (register_read self.old address).reply }
         ensures state { self.new ≡ (register_read self.old address).state }
     {
-        let Some(place) = place_of(address) else {
+        let Some(access) = resolve(address) else {
             return Reply::Stray(0);
         };
-        Reply::Word(self.registers.read(self.link, place) & view_of(address))
+        Reply::Word(self.registers.read(self.link, access.place) & access.view)
     }
 
     /// Writes an address.
@@ -28,10 +28,10 @@ impl Device {
         ensures reply { result ≡ (register_written self.old address word).reply }
         ensures state { self.new ≡ (register_written self.old address word).state }
     {
-        let Some(place) = place_of(address) else {
+        let Some(access) = resolve(address) else {
             return Reply::Stray(0);
         };
-        self.write_place(place, view_of(address), word);
+        self.write_place(access.place, access.view, word);
         Reply::Done
     }
 

@@ -1,6 +1,7 @@
 -- What each family of events can answer, and the state that it leaves.
-use Rattle.std.proofs.Common.{cond, ◌≡◌, ℕ, Bool, true, false, List, [], ◌∷◌, ◌++◌, length, refl, Option, Some, None, Ok, Err, nat_lt}
+use Rattle.std.proofs.Common.{cond, ◌≡◌, ◌<◌, ℕ, Bool, true, false, List, [], ◌∷◌, ◌++◌, length, refl, Option, Some, None, Ok, Err, nat_lt}
 use Rattle.std.specs.Prelude.{Result, ◌&&◌, ◌==◌}
+use Rattle.std.proofs.lemmas.Bool.{cond_both, ltb-true}
 use Rattle.std.specs.FinMap as map
 use Rattle.dma_arena.specs.Block.{Block}
 use Rattle.dma_arena.specs.Memory.{write_at}
@@ -9,9 +10,6 @@ use Rattle.rx_ring.specs.declared.filled.Filled.{Filled}
 use Rattle.rx_ring.specs.Fill as rx
 use Rattle.tx_ring.specs.declared.fetched.Fetched.{Fetched}
 use Rattle.tx_ring.specs.Fetch as tx
-use Rattle.reg_table.specs.Rows.{row_of}
-use Rattle.reg_table.specs.declared.kind.Kind.TheVariants.{Rc}
-use Rattle.reg_table.specs.declared.rows.RowId.{RowId}
 use Rattle.reg_table.specs.declared.rows.RowId.TheVariants.{Gprc, Ruc, Roc}
 use Rattle.intr_unit.specs.declared.group.Group.{Group}
 use Rattle.register_file.specs.Groups.{message_of, message_made}
@@ -74,24 +72,24 @@ poked_cases P s address bytes misaligned not_lent done =
 -- a frame that arrives is dropped, dropped and counted, missed, or let in and counted
 pub record Arrives (P : Outcome → Type 0) (s : State) (frame : List ℕ) : Type 0 where
   pub dropped : (why : Why) → P (gives (Dropped why) s)
-  pub counted : (why : Why) (counter : RowId) → (row_of counter).kind ≡ Rc
-      → P (gives (Dropped why) (with_count s counter))
+  pub short : P (gives (Dropped Short) (with_count s Ruc))
+  pub long : P (gives (Dropped Long) (with_count s Roc))
   pub missed : P (gives (Dropped Full) (missed s))
-  pub joined : (t : Target) → sorted s.registers frame ≡ Ok t
+  pub joined : (t : Target) → sorted s.registers frame ≡ Ok t → length s.waiting < s.fifo
       → P (gives Done (record (with_count s Gprc) { waiting = s.waiting ++ let_in frame t ∷ [] }))
 
 sorted_cases : (P : Outcome → Type 0) (s : State) (frame : List ℕ) → Arrives P s frame
     → (answer : Result Target Unwanted) → sorted s.registers frame ≡ answer → P (sorted_in s frame answer)
 sorted_cases P s frame a (Ok t) is =
-    either_way P (nat_lt (length s.waiting) s.fifo) _ _ (a.joined t is) a.missed
+    cond_both (nat_lt (length s.waiting) s.fifo) _ _ P (λ room. a.joined t is (ltb-true _ _ room)) (λ full. a.missed)
 sorted_cases P s frame a (Err why) is = a.dropped (why_unwanted why)
 
 pub arrived_cases : (P : Outcome → Type 0) (s : State) (frame : List ℕ) → Arrives P s frame → P (arrived s frame)
 arrived_cases P s frame a =
     either_way P s.link _ _
     (either_way P (can_receive s.registers) _ _
-    (either_way P (nat_lt (length frame) 60) _ _ (a.counted Short Ruc refl)
-    (either_way P (nat_lt (frame_limit s.registers) (length frame)) _ _ (a.counted Long Roc refl)
+    (either_way P (nat_lt (length frame) 60) _ _ a.short
+    (either_way P (nat_lt (frame_limit s.registers) (length frame)) _ _ a.long
     (sorted_cases P s frame a _ refl)))
     (a.dropped Off))
     (a.dropped LinkDown)

@@ -15,14 +15,15 @@ use Rattle.register_file.specs.Columns.{place}
 use Rattle.register_file.specs.Registers.{word_of}
 use Rattle.register_file.specs.Words.{word_at}
 use Rattle.register_file.proofs.Shape.{put_stands}
+use Rattle.register_file.proofs.Sound.{bumped-lt}
 use Rattle.nic_device.specs.State.{State}
 use Rattle.nic_device.specs.Outcome.{Outcome}
 use Rattle.nic_device.specs.Access.{place_read}
 use Rattle.nic_device.specs.Step.{step_of}
-use Rattle.nic_device.specs.Laws.{IsReached, IsCounter, reply_to_read, shown, good_frames, ReadCounterStartsAgain, LetInFrameIsCounted}
-use Rattle.nic_device.proofs.Accesses.{reached_shape, state-read}
+use Rattle.nic_device.specs.Sound.{IsSound}
+use Rattle.nic_device.specs.Laws.{IsCounter, reply_to_read, shown, good_frames, ReadCounterStartsAgain, LetInFrameIsCounted}
+use Rattle.nic_device.proofs.Accesses.{state-read}
 use Rattle.nic_device.proofs.Cases.{arrived_cases}
-use Rattle.nic_device.proofs.GoodFrames.{bumped-lt, reached_good_frames}
 use Rattle.nic_device.specs.declared.event.Event.TheVariants as event
 use Rattle.nic_device.specs.declared.event.Port.TheVariants.{Pf}
 use Rattle.nic_device.specs.declared.event.Reply.TheVariants.{Word, Done}
@@ -35,17 +36,17 @@ counter-read s a p counter =
     ∙ ap (λ k. Word (shown a (read_word k s.registers s.link p))) counter.counter
 
 -- a counter that was read
-word-read : (s : State) (a : ℕ) (p : Place) → IsReached s → IsCounter a p
+word-read : (s : State) (a : ℕ) (p : Place) → IsSound s → IsCounter a p
     → word_at (step_of s (event.Read Pf a)).state.registers.words p ≡ 0
-word-read s a p r counter =
+word-read s a p h counter =
     ap (λ (t : State). word_at t.registers.words p) (state-read s a p counter.named)
     ∙ ap (λ k. word_at (after_read k s.registers p).words p) counter.counter
-    ∙ put_stands s.registers p 0 (reached_shape s r) (named_in_range a p counter.named)
+    ∙ put_stands s.registers p 0 h.registers.shape (named_in_range a p counter.named)
 
 pub read_starts_again : ReadCounterStartsAgain
-read_starts_again s r a b p at through =
+read_starts_again s h a b p at through =
     counter-read (step_of s (event.Read Pf a)).state b p through
-    ∙ ap (λ w. Word (shown b w)) (word-read s a p r at)
+    ∙ ap (λ w. Word (shown b w)) (word-read s a p h at)
     ∙ ap Word (and_zero_l (view_among runs b))
 
 counts_good_frames : IsCounter good_frames (place Gprc 0)
@@ -60,13 +61,14 @@ shown-good_frames w small = and_mask w 32 ∙ mod-eq_of_lt small
 abbrev Counts : State → Outcome → Type 0
 Counts s o = o.reply ≡ Done → word_of o.state.registers Gprc 0 ≡ bumped (word_of s.registers Gprc 0)
 
-word-arrived : (s : State) (frame : List ℕ) → IsReached s → Counts s (step_of s (event.Arrive frame))
+word-arrived : (s : State) (frame : List ℕ) → IsSound s → Counts s (step_of s (event.Arrive frame))
 unfolding step_of
-word-arrived s frame r = arrived_cases (Counts s) s frame (record {
+word-arrived s frame h = arrived_cases (Counts s) s frame (record {
   dropped = λ why no. cc;
-  counted = λ why counter is no. cc;
+  short = λ no. cc;
+  long = λ no. cc;
   missed = λ no. cc;
-  joined = λ t is _. put_stands s.registers (place Gprc 0) _ (reached_shape s r) (omega arith);
+  joined = λ t is room _. put_stands s.registers (place Gprc 0) _ h.registers.shape (omega arith);
 })
 
 -- GPRC reads as its word
@@ -76,9 +78,9 @@ good_frames-read s small =
     counter-read s good_frames (place Gprc 0) counts_good_frames ∙ ap Word (shown-good_frames _ small)
 
 pub let_in_is_counted : LetInFrameIsCounted
-let_in_is_counted s r frame done word told =
-    let small = reached_good_frames s r in
-    let more = word-arrived s frame r done in
+let_in_is_counted s h frame done word told =
+    let small = h.registers.words (place Gprc 0) in
+    let more = word-arrived s frame h done in
     let read = good_frames-read s small in
     let same : word_of s.registers Gprc 0 ≡ word = cc in
     good_frames-read (step_of s (event.Arrive frame)).state (rw more (bumped-lt _ small))

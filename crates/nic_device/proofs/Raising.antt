@@ -1,75 +1,127 @@
--- What raised causes leave.
-use Rattle.std.proofs.Common.{ℕ, List, Option, Some, None}
-use Rattle.intr_unit.specs.Group.{queue_causes}
-use Rattle.intr_unit.specs.declared.group.Group.{Group}
+-- What the steps of queues make of the registers: a side changes, frames are counted and causes raised.
+use Rattle.std.proofs.Common.{◌<◌, ◌^◌, ℕ, List, Option, Some, None, refl}
+use Rattle.std.specs.Prelude.{⊤}
 use Rattle.intr_unit.specs.declared.group.Group.TheVariants.{Pf}
-use Rattle.reg_table.specs.declared.rows.RowId.TheVariants.{Gptc, Qprc, Qptc}
+use Rattle.reg_table.specs.declared.rows.RowId.{RowId}
+use Rattle.reg_table.specs.declared.rows.RowId.TheVariants.{Mpc, Gptc, Qprc, Qprdc, Qptc}
 use Rattle.rx_ring.specs.declared.filled.Filled.{Filled}
 use Rattle.tx_ring.specs.declared.fetched.Fetched.{Fetched}
+use Rattle.register_file.specs.Columns.{place}
 use Rattle.register_file.specs.Counters.{counted, counter_of}
-use Rattle.register_file.specs.Groups.{vector_entry, causes_raised}
-use Rattle.register_file.specs.Laws.{ChangesVolatileOnly}
-use Rattle.register_file.specs.Queue.{with_head, shut}
+use Rattle.register_file.specs.Footprint.{Footprint, Covers, either, counters, any_pending, pending, the_word, of_side}
+use Rattle.register_file.specs.Queue.{head_row, with_head, shut}
 use Rattle.register_file.specs.Registers.{Registers}
 use Rattle.register_file.specs.declared.dir.Dir.{Dir}
 use Rattle.register_file.specs.declared.dir.Dir.TheVariants.{Rx, Tx}
-use Rattle.register_file.proofs.Counting.{changes-with_interrupts}
-use Rattle.register_file.proofs.Volatile.{made_by_raise}
-use Rattle.nic_device.specs.Interrupt.{group_of_queue, raised_by, fault_cause}
-use Rattle.nic_device.specs.Receive.{frame_counted, piece_done, receive_failed}
+use Rattle.register_file.proofs.Footprints.{within-refl, covers-the_word}
+use Rattle.register_file.proofs.Sound.{sound-causes_raised, sound-with_head, sound-shut}
+use Rattle.register_file.proofs.Within.{within-causes_raised, within-with_head, within-shut}
+use Rattle.nic_device.specs.Footprint.{counts_and_causes}
+use Rattle.nic_device.specs.Interrupt.{device_raised, raised_by, missed_cause, fault_cause}
+use Rattle.nic_device.specs.Receive.{frame_counted, slotless_counted, piece_done, receive_failed}
 use Rattle.nic_device.specs.Transmit.{slot_counted, slot_reported, transmit_failed}
 use Rattle.nic_device.proofs.Cases.{either_way}
+use Rattle.nic_device.proofs.Coming.{covers-first, covers-second, covers-trans, Comes, IsCounter, then_within, raised, counted_in, raised_by_queue}
 
--- raised causes change volatile words alone
-pub changes-raised : (r : Registers) (g : Group) (bits : ℕ) → ChangesVolatileOnly r (causes_raised r g bits)
-changes-raised r g bits = changes-with_interrupts r (made_by_raise r g bits)
+-- what a step of a side changes: the side, counters and causes
+abbrev pub of_step : Dir → ℕ → Footprint
+of_step dir queue = either (of_side dir queue) counts_and_causes
 
-pub changes-raised_by : (r : Registers) (vfs : ℕ) (dir : Dir) (queue : ℕ)
-    → ChangesVolatileOnly r (raised_by r vfs dir queue)
-unfolding raised_by
-changes-raised_by r vfs dir queue =
-    let g = group_of_queue r vfs queue in changes-raised r g (queue_causes g (vector_entry r g dir queue))
+covers-side : (dir : Dir) (queue : ℕ) → Covers (of_step dir queue) (of_side dir queue)
+covers-side dir queue = covers-first (of_side dir queue) counts_and_causes
 
--- what counting and raising causes keep of the registers
-pub record Kept (P : Registers → Type 0) : Type 0 where
-  pub raised : (r : Registers) (g : Group) (bits : ℕ) → P r → P (causes_raised r g bits)
-  pub counted_received : (r : Registers) (index : ℕ) → P r → P (counted r Qprc index)
-  pub counted_sent : (r : Registers) → P r → P (counted r Gptc 0)
-  pub counted_sent_on : (r : Registers) (index : ℕ) → P r → P (counted r Qptc index)
+covers-counters : (dir : Dir) (queue : ℕ) → Covers (of_step dir queue) counters
+covers-counters dir queue =
+    covers-trans (of_step dir queue) counts_and_causes counters (covers-second (of_side dir queue) counts_and_causes)
+    (covers-first counters any_pending)
 
-raised_by_keeps : (P : Registers → Type 0) → Kept P → (r : Registers) (vfs : ℕ) (dir : Dir) (queue : ℕ) → P r
-    → P (raised_by r vfs dir queue)
-unfolding raised_by
-raised_by_keeps P k r vfs dir queue p =
-    let g = group_of_queue r vfs queue in k.raised r g (queue_causes g (vector_entry r g dir queue)) p
+covers-causes : (dir : Dir) (queue : ℕ) → Covers (of_step dir queue) any_pending
+covers-causes dir queue =
+    covers-trans (of_step dir queue) counts_and_causes any_pending (covers-second (of_side dir queue) counts_and_causes)
+    (covers-second counters any_pending)
 
--- so what the head's move keeps a piece keeps, and what shutting keeps a fault keeps
-pub piece_keeps : (P : Registers → Type 0) → Kept P → (r : Registers) (vfs queue : ℕ) (f : Filled)
-    → P (with_head r Rx queue f.head) → P (piece_done r vfs queue f)
-piece_keeps P k r vfs queue f p =
+comes-itself : {good : Type 0} (f : Footprint) (r : Registers) → Comes good f r r
+comes-itself f r = record { sound = λ is h. h; within = within-refl f r }
+
+-- the head moves on, and a fault shuts the side
+
+covers-head : (dir : Dir) (queue : ℕ) → Covers (of_side dir queue) (the_word (place (head_row dir) queue))
+covers-head Rx queue = covers-the_word (place (head_row Rx) queue)
+covers-head Tx queue = covers-the_word (place (head_row Tx) queue)
+
+head_moved : {good : Type 0} (r : Registers) (dir : Dir) (queue head : ℕ) → (good → head < 2 ^ 16)
+    → Comes good (of_step dir queue) r (with_head r dir queue head)
+head_moved r dir queue head small =
+    then_within (of_step dir queue) (the_word (place (head_row dir) queue)) r r (with_head r dir queue head)
+    (comes-itself (of_step dir queue) r)
+    (covers-trans (of_step dir queue) (of_side dir queue) (the_word (place (head_row dir) queue))
+    (covers-side dir queue) (covers-head dir queue))
+    (within-with_head r dir queue head) (λ is h. sound-with_head r dir queue head h (small is))
+
+side_failed : (r : Registers) (dir : Dir) (queue : ℕ)
+    → Comes ⊤ (of_step dir queue) r (device_raised (shut r dir queue) fault_cause)
+side_failed r dir queue =
+    raised (of_step dir queue) r (shut r dir queue) Pf fault_cause (covers-causes dir queue)
+    (then_within (of_step dir queue) (of_side dir queue) r r (shut r dir queue) (comes-itself (of_step dir queue) r)
+    (covers-side dir queue) (within-shut r dir queue) (λ is h. sound-shut r dir queue h))
+
+pub receive_failed-comes : (r : Registers) (queue : ℕ) → Comes ⊤ (of_step Rx queue) r (receive_failed r queue)
+receive_failed-comes r queue = side_failed r Rx queue
+
+pub transmit_failed-comes : (r : Registers) (queue : ℕ) → Comes ⊤ (of_step Tx queue) r (transmit_failed r queue)
+transmit_failed-comes r queue = side_failed r Tx queue
+
+-- a frame without a slot, and a piece of a frame
+
+pub slotless-comes : (r : Registers) (queue : ℕ) → Comes ⊤ (of_step Rx queue) r (slotless_counted r queue)
+slotless-comes r queue =
+    counted_in (of_step Rx queue) r r Qprdc (counter_of r Rx queue) (covers-counters Rx queue)
+    (record { bank = refl; kind = refl }) (comes-itself (of_step Rx queue) r)
+
+pub piece-comes : (r : Registers) (vfs queue : ℕ) (f : Filled)
+    → Comes (f.head < 2 ^ 16) (of_step Rx queue) r (piece_done r vfs queue f)
+piece-comes r vfs queue f =
     let moved = with_head r Rx queue f.head in
     let ended = frame_counted moved queue in
-    either_way P f.end (raised_by ended vfs Rx queue) moved
-    (raised_by_keeps P k ended vfs Rx queue (k.counted_received moved (counter_of moved Rx queue) p)) p
+    let head = head_moved r Rx queue f.head (λ (is : f.head < 2 ^ 16). is) in
+    either_way (Comes (f.head < 2 ^ 16) (of_step Rx queue) r) f.end (raised_by ended vfs Rx queue) moved
+    (raised_by_queue (of_step Rx queue) r ended vfs Rx queue (covers-causes Rx queue)
+    (counted_in (of_step Rx queue) r moved Qprc (counter_of moved Rx queue) (covers-counters Rx queue)
+    (record { bank = refl; kind = refl }) head))
+    head
 
-counted_keeps : (P : Registers → Type 0) → Kept P → (r : Registers) (queue : ℕ) (f : Fetched) (o : Option (List ℕ))
-    → P (with_head r Tx queue f.head) → P (slot_counted r queue f o)
-counted_keeps P k r queue f (Some frame) p =
+-- a fetched slot
+
+slot_counted-comes : (r : Registers) (queue : ℕ) (f : Fetched) (o : Option (List ℕ))
+    → Comes (f.head < 2 ^ 16) (of_step Tx queue) r (slot_counted r queue f o)
+slot_counted-comes r queue f (Some frame) =
     let moved = with_head r Tx queue f.head in
-    k.counted_sent_on (counted moved Gptc 0) (counter_of r Tx queue) (k.counted_sent moved p)
-counted_keeps P k r queue f None p = p
+    counted_in (of_step Tx queue) r (counted moved Gptc 0) Qptc (counter_of r Tx queue) (covers-counters Tx queue)
+    (record { bank = refl; kind = refl })
+    (counted_in (of_step Tx queue) r moved Gptc 0 (covers-counters Tx queue) (record { bank = refl; kind = refl })
+    (head_moved r Tx queue f.head (λ (is : f.head < 2 ^ 16). is)))
+slot_counted-comes r queue f None = head_moved r Tx queue f.head (λ (is : f.head < 2 ^ 16). is)
 
-pub slot_keeps : (P : Registers → Type 0) → Kept P → (r : Registers) (vfs queue : ℕ) (f : Fetched)
-    → P (with_head r Tx queue f.head) → P (slot_reported r vfs queue f)
-slot_keeps P k r vfs queue f p =
+pub slot-comes : (r : Registers) (vfs queue : ℕ) (f : Fetched)
+    → Comes (f.head < 2 ^ 16) (of_step Tx queue) r (slot_reported r vfs queue f)
+slot-comes r vfs queue f =
     let counted = slot_counted r queue f f.frame in
-    let kept = counted_keeps P k r queue f f.frame p in
-    either_way P f.rs (raised_by counted vfs Tx queue) counted (raised_by_keeps P k counted vfs Tx queue kept) kept
+    let kept = slot_counted-comes r queue f f.frame in
+    either_way (Comes (f.head < 2 ^ 16) (of_step Tx queue) r) f.rs (raised_by counted vfs Tx queue) counted
+    (raised_by_queue (of_step Tx queue) r counted vfs Tx queue (covers-causes Tx queue) kept) kept
 
-pub receive_fault_keeps : (P : Registers → Type 0) → Kept P → (r : Registers) (queue : ℕ) → P (shut r Rx queue)
-    → P (receive_failed r queue)
-receive_fault_keeps P k r queue p = k.raised (shut r Rx queue) Pf fault_cause p
+-- a frame that arrives is counted, and one that finds no room raises its cause
 
-pub transmit_fault_keeps : (P : Registers → Type 0) → Kept P → (r : Registers) (queue : ℕ) → P (shut r Tx queue)
-    → P (transmit_failed r queue)
-transmit_fault_keeps P k r queue p = k.raised (shut r Tx queue) Pf fault_cause p
+abbrev of_arrival : Footprint
+of_arrival = either counters (pending Pf)
+
+pub arrival_counted : (r : Registers) (row : RowId) → IsCounter row → Comes ⊤ of_arrival r (counted r row 0)
+arrival_counted r row counter =
+    counted_in of_arrival r r row 0 (covers-first counters (pending Pf)) counter (comes-itself of_arrival r)
+
+pub missed-comes : (r : Registers) → Comes ⊤ of_arrival r (device_raised (counted r Mpc 0) missed_cause)
+missed-comes r =
+    then_within of_arrival (pending Pf) r (counted r Mpc 0) (device_raised (counted r Mpc 0) missed_cause)
+    (arrival_counted r Mpc (record { bank = refl; kind = refl })) (covers-second counters (pending Pf))
+    (within-causes_raised (counted r Mpc 0) Pf missed_cause)
+    (λ is h. sound-causes_raised (counted r Mpc 0) Pf missed_cause h)

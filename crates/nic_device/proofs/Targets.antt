@@ -1,81 +1,134 @@
--- Where a frame goes: what descriptors tell of it is a word of 64 bits.
-use Rattle.std.proofs.Common.{◌≡◌, ℕ, zero, suc, ◌+◌, ◌^◌, ◌<◌, ◌≤◌, Bool, true, false, List, [], ◌∷◌, map, fold, bit_xor, cond, Ok, Err, refl, ap, ◌∙◌, subst, arith}
+-- Where a frame goes, and what descriptors tell of it.
+use Rattle.std.proofs.Common.{◌≡◌, ℕ, zero, suc, ◌+◌, ◌^◌, ◌<◌, ◌≤◌, Bool, true, false, ◌/◌, ◌%◌, List, cond, Option, Some, None, Ok, Err, refl, subst, arith}
 use Rattle.std.specs.Prelude.{⊤, Result}
-use Rattle.std.proofs.Math.Nat.{pow-succ'}
-use Rattle.std.proofs.lemmas.Nat.{xor_lt}
-use Rattle.std.proofs.lemmas.Nat.Bits.{bit_at-lt}
+use Rattle.std.specs.Prelude.{find, ◌==◌}
+use Rattle.std.specs.List.{range_with_len}
+use Rattle.std.proofs.lemmas.Bool.{cond_both}
+use Rattle.std.proofs.lemmas.Bool.Decides.{nat_tests}
 use Rattle.dma_ring.specs.Receive.{told_of}
 use Rattle.dma_ring.specs.declared.receive.Packet.{Packet}
-use Rattle.rss_hash.specs.Bits.{set_bits, bits_from}
 use Rattle.rss_hash.specs.Choice.{code_of}
-use Rattle.rss_hash.specs.Toeplitz.{toeplitz_hash}
-use Rattle.rss_hash.specs.declared.choice.RssType.{RssType}
-use Rattle.rss_hash.specs.declared.choice.RssType.TheVariants.{NoHash, TcpIpv4, Ipv4, TcpIpv6, Ipv6, UdpIpv4, UdpIpv6}
-use Rattle.rss_hash.proofs.Windows.{bits_from_more}
-use Rattle.reg_table.specs.declared.rows.RowId.TheVariants.{Rxcsum}
+use Rattle.rss_hash.specs.Mrqc.{queue_mode_of}
+use Rattle.rss_hash.specs.Registers.{entry_of}
+use Rattle.rss_hash.specs.declared.mrqc.QueueMode.{QueueMode}
+use Rattle.rss_hash.specs.declared.mrqc.QueueMode.TheVariants.{Single, Rss, Pools64, Pools32Rss, Pools64Rss}
+use Rattle.reg_table.specs.declared.rows.RowId.TheVariants.{Rxcsum, VtCtl, Mrqc, Reta}
 use Rattle.register_file.specs.Bits.{has_bit}
 use Rattle.register_file.specs.Registers.{Registers, word_of}
-use Rattle.rx_filter.specs.Address.{passes}
-use Rattle.rx_filter.specs.Pools.{chosen_pool}
-use Rattle.rx_filter.specs.Sorting.{rss_hash, rss_type, target_of, pool_target, sorted}
+use Rattle.register_file.specs.Words.{row_words}
+use Rattle.rx_filter.specs.Address.{first_match, passes}
+use Rattle.rx_filter.specs.Pools.{uses_pools, selects, lowest_pool, matched_pool, or_default, pool_of, has_queues, takes_frames, checked_pool, chosen_pool}
+use Rattle.rx_filter.specs.Sorting.{queue_of, rss_hash, rss_entry, rss_type, target_of, pool_target, sorted}
 use Rattle.rx_filter.specs.declared.target.Target.{Target}
 use Rattle.rx_filter.specs.declared.unwanted.Unwanted.{Unwanted}
-use Rattle.rx_filter.specs.declared.unwanted.Unwanted.TheVariants.{Filter}
-use Rattle.nic_device.specs.Arrival.{let_in}
+use Rattle.rx_filter.specs.declared.unwanted.Unwanted.TheVariants.{Filter, PoolOff}
+use Rattle.nic_device.specs.Sound.{IsWaiting}
+use Rattle.nic_device.specs.State.{Waiting}
 use Rattle.nic_device.specs.Receive.{packet_of}
 use Rattle.nic_device.proofs.Cases.{either_way}
+use Rattle.nic_device.proofs.Hashes.{hash-lt, code-lt}
 
--- a window of n bits
-bits_from-none : (key : List ℕ) (k : ℕ) → bits_from key k 0 ≡ 0
-unfolding bits_from
-bits_from-none key k = refl
+-- a pool has queues: it is below 64, and below 32 where there are 32
+record HasQueues (mode : QueueMode) (pool : ℕ) : Type 0 where
+  small : pool < 64
+  queues : has_queues mode pool ≡ true
 
-bits_from-lt : (key : List ℕ) (k n : ℕ) → bits_from key k n < 2 ^ n
-bits_from-lt key k zero = rw (bits_from-none key k) (omega arith)
-bits_from-lt key k (suc n) =
-    let next : suc n ≡ n + 1 = omega arith in
-    let more = ap (bits_from key k) next ∙ bits_from_more key k n in
-    omega (arith, bits_from-lt key k n, more, bit_at-lt, pow-succ' 2 n)
+abbrev Chosen : QueueMode → Result ℕ Unwanted → Type 0
+Chosen mode (Ok pool) = HasQueues mode pool
+Chosen mode (Err why) = ⊤
 
-fold_windows-lt : (key ks : List ℕ) (acc : ℕ) → acc < 2 ^ 32
-    → fold bit_xor acc (map (λ k. bits_from key k 32) ks) < 2 ^ 32
-fold_windows-lt key [] acc small = small
-fold_windows-lt key (k ∷ ks) acc small =
-    fold_windows-lt key ks (bit_xor acc (bits_from key k 32))
-    (xor_lt 32 acc (bits_from key k 32) small (bits_from-lt key k 32))
+abbrev Found : Option ℕ → Type 0
+Found (Some pool) = pool < 64
+Found None = ⊤
 
-hash-lt : (key input : List ℕ) → toeplitz_hash key input < 2 ^ 32
-unfolding toeplitz_hash
-hash-lt key input = fold_windows-lt key (set_bits input) 0 (omega arith)
+Found-find : (test : ℕ → Bool) (from count : ℕ) → from + count ≤ 64 → Found (find test (range_with_len from count))
+Found-find test from zero few = tt
+Found-find test from (suc count) few =
+    either_way Found (test from) (Some from) (find test (range_with_len (from + 1) count)) (omega arith)
+    (Found-find test (from + 1) count (omega arith))
 
-code-lt : (t : RssType) → code_of t < 16
-code-lt NoHash = omega arith
-code-lt TcpIpv4 = omega arith
-code-lt Ipv4 = omega arith
-code-lt TcpIpv6 = omega arith
-code-lt Ipv6 = omega arith
-code-lt UdpIpv4 = omega arith
-code-lt UdpIpv6 = omega arith
+Found-matched : (r : Registers) (o : Option ℕ) → Found (matched_pool r o)
+unfolding lowest_pool
+Found-matched r None = tt
+Found-matched r (Some index) = Found-find (selects r index) 0 64 (omega arith)
 
--- the hash is a word, and the RSS type fits its four bits
+Found-or_default : (r : Registers) (o : Option ℕ) → Found o → Found (or_default r o)
+Found-or_default r None found =
+    either_way Found (has_bit 29 (word_of r VtCtl 0)) None (Some (word_of r VtCtl 0 / 2 ^ 7 % 64)) tt (omega arith)
+Found-or_default r (Some pool) found = found
+
+Chosen-checked : (r : Registers) (o : Option ℕ) → Found o → Chosen (queue_mode_of (word_of r Mrqc 0)) (checked_pool r o)
+Chosen-checked r None found = tt
+Chosen-checked r (Some pool) found =
+    let mode = queue_mode_of (word_of r Mrqc 0) in
+    cond_both (has_queues mode pool) _ _ (Chosen mode)
+    (λ has. either_way (Chosen mode) (takes_frames r pool) (Ok pool) (Err PoolOff)
+    (record { small = found; queues = has }) tt)
+    (λ none. tt)
+
+has_first : (mode : QueueMode) → HasQueues mode 0
+has_first Single = record { small = omega arith; queues = refl }
+has_first Rss = record { small = omega arith; queues = refl }
+has_first Pools64 = record { small = omega arith; queues = refl }
+has_first Pools32Rss = record { small = omega arith; queues = refl }
+has_first Pools64Rss = record { small = omega arith; queues = refl }
+
+Chosen-pool : (r : Registers) (frame : List ℕ) → Chosen (queue_mode_of (word_of r Mrqc 0)) (chosen_pool r frame)
+unfolding chosen_pool
+Chosen-pool r frame =
+    let mode = queue_mode_of (word_of r Mrqc 0) in
+    either_way (Chosen mode) (uses_pools r) (checked_pool r (pool_of r frame)) (Ok 0)
+    (Chosen-checked r (pool_of r frame)
+    (Found-or_default r (matched_pool r (first_match r frame)) (Found-matched r (first_match r frame))))
+    (has_first mode)
+
+-- so its queues are below 128
+queue-lt : (mode : QueueMode) (pool entry : ℕ) → HasQueues mode pool → entry < 16 → queue_of mode pool entry < 128
+queue-lt Single pool entry has small = omega arith
+queue-lt Rss pool entry has small = omega arith
+queue-lt Pools64 pool entry has small = omega (arith, has.small)
+queue-lt Pools32Rss pool entry has small =
+    let low : pool < 32 = grind (arith, nat_tests, has.queues) in omega arith
+queue-lt Pools64Rss pool entry has small = omega (arith, has.small)
+
+entry-lt : (table : List ℕ) (hash : ℕ) → entry_of table hash < 16
+unfolding entry_of
+entry-lt table hash = omega arith
+
+-- where a frame goes, and what its descriptors tell: the queue is below 128, the hash a word, and the RSS type fits its
+-- four bits
+pub record IsSmall (t : Target) : Type 0 where
+  pub queue : t.queue < 128
+  pub hash : t.hash < 2 ^ 32
+  pub rss : t.rss < 16
+
 abbrev Small : Result Target Unwanted → Type 0
-Small (Ok t) = (t.hash < 2 ^ 32) × (t.rss < 16)
+Small (Ok t) = IsSmall t
 Small (Err why) = ⊤
 
-pool_target-small : (r : Registers) (frame : List ℕ) (pool : Result ℕ Unwanted) → Small (pool_target r frame pool)
+pool_target-small : (r : Registers) (frame : List ℕ) (pool : Result ℕ Unwanted)
+    → Chosen (queue_mode_of (word_of r Mrqc 0)) pool → Small (pool_target r frame pool)
 unfolding target_of
-pool_target-small r frame (Ok pool) = (
-  either_way (λ (h : ℕ). h < 2 ^ 32) (has_bit 13 (word_of r Rxcsum 0)) (rss_hash r frame) 0 (hash-lt _ _) (omega arith),
-  code-lt (rss_type r frame),
-)
-pool_target-small r frame (Err why) = tt
+pool_target-small r frame (Ok pool) has = record {
+  queue = queue-lt (queue_mode_of (word_of r Mrqc 0)) pool (rss_entry r frame) has
+      (either_way (λ (n : ℕ). n < 16) (code_of (rss_type r frame) == 0) 0
+      (entry_of (row_words r.words Reta) (rss_hash r frame)) (omega arith) (entry-lt _ _));
+  hash = either_way (λ (h : ℕ). h < 2 ^ 32) (has_bit 13 (word_of r Rxcsum 0)) (rss_hash r frame) 0 (hash-lt _ _)
+      (omega arith);
+  rss = code-lt (rss_type r frame);
+}
+pool_target-small r frame (Err why) has = tt
 
-sorted-small : (r : Registers) (frame : List ℕ) → Small (sorted r frame)
+target-small : (r : Registers) (frame : List ℕ) → Small (sorted r frame)
 unfolding sorted
-sorted-small r frame =
+target-small r frame =
     either_way Small (passes r frame) (pool_target r frame (chosen_pool r frame)) (Err Filter)
-    (pool_target-small r frame (chosen_pool r frame)) tt
+    (pool_target-small r frame (chosen_pool r frame) (Chosen-pool r frame)) tt
 
+pub sorted-small : (r : Registers) (frame : List ℕ) (t : Target) → sorted r frame ≡ Ok t → IsSmall t
+sorted-small r frame t is = subst Small is (target-small r frame)
+
+-- what descriptors tell of a frame that waits is a word of 64 bits
 cond-le : (b : Bool) (n : ℕ) → cond b n 0 ≤ n
 cond-le true n = omega arith
 cond-le false n = omega arith
@@ -84,8 +137,5 @@ told_of-lt : (p : Packet) → p.hash < 2 ^ 32 → p.rss < 16 → told_of p < 2 ^
 told_of-lt p hash rss =
     omega (arith, cond-le p.ipv4 (2 ^ 4), cond-le p.ipv6 (2 ^ 6), cond-le p.tcp (2 ^ 8), cond-le p.udp (2 ^ 9))
 
-pub told-let_in : (r : Registers) (frame : List ℕ) (t : Target) → sorted r frame ≡ Ok t
-    → told_of (packet_of (let_in frame t)) < 2 ^ 64
-told-let_in r frame t is =
-    let small = subst Small is (sorted-small r frame) in
-    told_of-lt (packet_of (let_in frame t)) small.0 small.1
+pub told-lt : (w : Waiting) → IsWaiting w → told_of (packet_of w) < 2 ^ 64
+told-lt w h = told_of-lt (packet_of w) h.hash h.rss

@@ -1,42 +1,35 @@
 -- What the device promises a driver author, whatever happened before. `view` is the bits that an address shows.
-use Rattle.std.specs.Prelude.{ℕ, ◌≡◌, ◌≢◌, ◌<◌, ◌==◌, ◌⊎◌, Bool, true, false, ⊤, IsTrue, IsFalse, List, [], ◌∷◌, take, drop, Option, Some, None, length, bit_and, if◌then◌else◌}
-use Rattle.std.specs.FinMap as map
+use Rattle.std.specs.Prelude.{ℕ, ◌≡◌, ◌≢◌, ◌<◌, ◌≤◌, ◌==◌, Bool, true, false, ⊤, IsTrue, IsFalse, List, [], ◌∷◌, take, drop, length, bit_and, if◌then◌else◌}
 use Rattle.reg_table.specs.Rows.{row_of}
 use Rattle.reg_table.specs.Runs.{runs}
 use Rattle.reg_table.specs.Place.{Names, view_among}
 use Rattle.reg_table.specs.declared.place.Place.{Place}
 use Rattle.reg_table.specs.declared.kind.Kind.TheVariants.{Rw, Rc}
+use Rattle.reg_table.specs.declared.rows.RowId.TheVariants.{Ctrl, Hlreg0, Maxfrs, GcrExt}
 use Rattle.reg_table.specs.Counter.{bumped}
 use Rattle.dma_arena.specs.Block.{Block}
-use Rattle.dma_arena.specs.Memory.{read_at, IsWhole, AreApart, Avoids}
-use Rattle.tx_ring.specs.Report.{report_length}
+use Rattle.dma_arena.specs.Memory.{read_at, AreApart}
+use Rattle.intr_unit.specs.BitSet.{IsSubset}
 use Rattle.intr_unit.specs.declared.group.Group.{Group}
 use Rattle.register_file.specs.Access.{asks_reset}
 use Rattle.register_file.specs.Bits.{merged}
+use Rattle.register_file.specs.Groups.{index_of, told_by}
+use Rattle.register_file.specs.Registers.{is_wanted}
+use Rattle.register_file.specs.Sound.{pending_bits}
 use Rattle.register_file.specs.Words.{word_at}
-use Rattle.register_file.specs.Settings.{is_stopped}
-use Rattle.register_file.specs.Sides.{receive_queue_of, transmit_queue_of}
-use Rattle.register_file.specs.Laws.{IsNoneOf}
+use Rattle.register_file.specs.Settings.{is_stopped, frame_limit}
 use Rattle.register_file.specs.declared.dir.Dir.{Dir}
-use Rattle.register_file.specs.declared.dir.Dir.TheVariants.{Rx, Tx}
 use Rattle.nic_device.specs.State.{State, Waiting, new_state}
 use Rattle.nic_device.specs.Outcome.{gives}
-use Rattle.nic_device.specs.Interrupt.{has_group}
+use Rattle.nic_device.specs.Interrupt.{has_group, mode_in}
+use Rattle.nic_device.specs.Sound.{IsSound, IsEvent}
+use Rattle.nic_device.specs.Step.{step_of, is_fault}
 use Rattle.nic_device.specs.Transmit.{staged_by}
-use Rattle.nic_device.specs.Step.{step_of}
-use Rattle.nic_device.specs.Run.{state_after}
 use Rattle.nic_device.specs.declared.event.Event.{Event}
 use Rattle.nic_device.specs.declared.event.Event.TheVariants as event
 use Rattle.nic_device.specs.declared.event.Port.TheVariants.{Pf}
 use Rattle.nic_device.specs.declared.event.Reply.{Reply}
-use Rattle.nic_device.specs.declared.event.Reply.TheVariants.{Word, Stray, Done, Idle, Wrote, Advanced, Sent, Fault}
-
--- a state that a device can have: some list of events leads there from a new device
-pub record IsReached (s : State) : Type 0 where
-  pub vfs : ℕ
-  pub fifo : ℕ
-  pub events : List (Event Block)
-  pub leads : s ≡ state_after (new_state vfs fifo) events
+use Rattle.nic_device.specs.declared.event.Reply.TheVariants.{Word, Stray, Done, Idle, Wrote, Fault}
 
 -- the state after an event, and the reply to it
 abbrev pub after : State → Event Block → State
@@ -44,6 +37,21 @@ after s e = (step_of s e).state
 
 abbrev pub reply_to : State → Event Block → Reply Block
 reply_to s e = (step_of s e).reply
+
+-- what every event keeps
+
+-- a new device is sound, and every event that a driver can make keeps it so
+abbrev pub NewDeviceIsSound : Type 0
+NewDeviceIsSound = (vfs fifo : ℕ) → vfs ≤ 63 → 0 < fifo → fifo ≤ 4096 → IsSound (new_state vfs fifo)
+
+abbrev pub EventKeepsSound : Type 0
+EventKeepsSound = (s : State) → IsSound s → (e : Event Block) → IsEvent e → IsSound (after s e)
+
+-- after every event no bit is told whose cause or mask is 0
+abbrev pub ToldIsPending : Type 0
+ToldIsPending =
+    (s : State) → IsSound s → (e : Event Block) → IsEvent e → (g : Group) → index_of g < 64 →
+    IsSubset (told_by (after s e).registers g) (pending_bits (after s e).registers g)
 
 -- plain registers
 
@@ -73,14 +81,14 @@ NewDeviceReadsResetValues =
 -- and the former bits elsewhere
 abbrev pub WriteShowsAtEachAddress : Type 0
 WriteShowsAtEachAddress =
-    (s : State) → IsReached s → (a b word : ℕ) (p : Place) → IsPlain a p → IsPlain b p →
+    (s : State) → IsSound s → (a b word : ℕ) (p : Place) → IsPlain a p → IsPlain b p →
     reply_to_read (after_write s a word) b
     ≡ Word (shown b (merged (shown a (row_of p.row).mask) (word_at s.registers.words p) word))
 
 -- a write of one register is not seen in any other
 abbrev pub WriteLeavesOtherRegisters : Type 0
 WriteLeavesOtherRegisters =
-    (s : State) → IsReached s → (a b word : ℕ) (p q : Place) → IsPlain a p → IsPlain b q → q ≢ p →
+    (s : State) → IsSound s → (a b word : ℕ) (p q : Place) → IsPlain a p → IsPlain b q → q ≢ p →
     reply_to_read (after_write s a word) b ≡ reply_to_read s b
 
 -- a read of a plain register changes nothing
@@ -104,7 +112,7 @@ pub record IsCounter (address : ℕ) (p : Place) : Type 0 where
 -- a counter that was read reads as 0 after that, at each of its addresses
 abbrev pub ReadCounterStartsAgain : Type 0
 ReadCounterStartsAgain =
-    (s : State) → IsReached s → (a b : ℕ) (p : Place) → IsCounter a p → IsCounter b p →
+    (s : State) → IsSound s → (a b : ℕ) (p : Place) → IsCounter a p → IsCounter b p →
     reply_to_read (after s (event.Read Pf a)) b ≡ Word 0
 
 -- where GPRC reads
@@ -115,149 +123,50 @@ good_frames = 0x04074
 -- word stays
 abbrev pub LetInFrameIsCounted : Type 0
 LetInFrameIsCounted =
-    (s : State) → IsReached s → (frame : List ℕ) → reply_to s (event.Arrive frame) ≡ Done →
+    (s : State) → IsSound s → (frame : List ℕ) → reply_to s (event.Arrive frame) ≡ Done →
     (word : ℕ) → reply_to_read s good_frames ≡ Word word →
     reply_to_read (after s (event.Arrive frame)) good_frames ≡ Word (bumped word)
 
--- what an event leaves alone
+-- a reset, and settings
 
--- the receive side of a queue is as it was: its ring and control word, and whether it is on and wanted on
-abbrev pub LeavesReceive : ℕ → State → State → Type 0
-LeavesReceive queue old new = receive_queue_of new.registers queue ≡ receive_queue_of old.registers queue
+-- each register has its reset value, no side of a queue is wanted on, no bit is told, no frame waits and nothing is
+-- staged; lent memory, the frames out, the link and the configuration are as they were
+pub record IsReset (old new : State) : Type 0 where
+  pub words : (p : Place) → p.index < (row_of p.row).count → word_at new.registers.words p ≡ (row_of p.row).reset
+  pub wanted : (dir : Dir) (queue : ℕ) → queue < 128 → IsFalse (is_wanted new.registers dir queue)
+  pub told : (g : Group) → index_of g < 64 → told_by new.registers g ≡ 0
+  pub waiting : new.waiting ≡ []
+  pub staged : (queue : ℕ) → queue < 128 → staged_by new queue ≡ []
+  pub memory : new.memory ≡ old.memory
+  pub out : new.out ≡ old.out
+  pub link : new.link ≡ old.link
+  pub vfs : new.vfs ≡ old.vfs
+  pub fifo : new.fifo ≡ old.fifo
 
--- the transmit side of a queue is as it was: its ring, where it writes its head, whether it is on and wanted on, and
--- its staged bytes
-pub record LeavesTransmit (queue : ℕ) (old new : State) : Type 0 where
-  pub side : transmit_queue_of new.registers queue ≡ transmit_queue_of old.registers queue
-  pub staged : staged_by new queue ≡ staged_by old queue
+-- a write that asks for a reset resets the device, and does nothing else
+abbrev pub AskedResetResets : Type 0
+AskedResetResets =
+    (s : State) (address word : ℕ) (p : Place) → Names address p → IsTrue (asks_reset (row_of p.row).kind word) →
+    IsReset s (after_write s address word)
 
--- both sides of every queue are as they were
-pub record LeavesQueues (old new : State) : Type 0 where
-  pub receive : (queue : ℕ) → LeavesReceive queue old new
-  pub transmit : (queue : ℕ) → LeavesTransmit queue old new
+-- an event that writes none of the registers that set the frame limit and the mode, nor that which asks for a reset
+pub record IsOfNoSetting (p : Place) : Type 0 where
+  pub control : p.row ≢ Ctrl
+  pub jumbo : p.row ≢ Hlreg0
+  pub limit : p.row ≢ Maxfrs
+  pub mode : p.row ≢ GcrExt
 
--- all sides of queues but this one are as they were
-pub record LeavesOtherSides (dir : Dir) (queue : ℕ) (old new : State) : Type 0 where
-  pub receive : (other : ℕ) → (dir ≡ Tx) ⊎ (other ≢ queue) → LeavesReceive other old new
-  pub transmit : (other : ℕ) → (dir ≡ Rx) ⊎ (other ≢ queue) → LeavesTransmit other old new
+abbrev pub WritesNoSetting : Event Block → Type 0
+WritesNoSetting (event.Write Pf address word) = (p : Place) → Names address p → IsOfNoSetting p
+WritesNoSetting other = ⊤
 
--- the lent block of a number, or that none is lent under it, is as it was
-abbrev pub LeavesBlock : ℕ → State → State → Type 0
-LeavesBlock number old new = map.get new.memory number ≡ map.get old.memory number
+-- keeps the frame limit, and how queues are parted among pools
+pub record KeepsSettings (old new : State) : Type 0 where
+  pub limit : frame_limit new.registers ≡ frame_limit old.registers
+  pub mode : mode_in new.registers ≡ mode_in old.registers
 
--- the same memory is lent, with the same bytes
-abbrev pub LeavesMemory : State → State → Type 0
-LeavesMemory old new = new.memory ≡ old.memory
-
--- register accesses: a read leaves every queue; a write that asks for no reset leaves the sides of queues that its
--- place is none of
-abbrev pub ReadLeavesQueues : Type 0
-ReadLeavesQueues = (s : State) (address : ℕ) → LeavesQueues s (after s (event.Read Pf address))
-
-pub record WriteLeaves (s : State) (address word : ℕ) (p : Place) : Type 0 where
-  pub receive : (queue : ℕ) → IsNoneOf Rx queue p → LeavesReceive queue s (after_write s address word)
-  pub transmit : (queue : ℕ) → IsNoneOf Tx queue p → LeavesTransmit queue s (after_write s address word)
-
-abbrev pub WriteLeavesOtherQueues : Type 0
-WriteLeavesOtherQueues =
-    (s : State) (address word : ℕ) (p : Place) → Names address p → IsFalse (asks_reset (row_of p.row).kind word) →
-    WriteLeaves s address word p
-
-abbrev pub AccessLeavesMemory : Type 0
-AccessLeavesMemory =
-    (s : State) (address word : ℕ) →
-    LeavesMemory s (after s (event.Read Pf address)) × LeavesMemory s (after s (event.Write Pf address word))
-
--- memory calls leave every queue. Lending and taking leave the other blocks, a look all of them, and a write those
--- that its bytes are outside of
-pub record MemoryCallsLeaveQueues : Type 0 where
-  pub lend : (s : State) (block : Block) → LeavesQueues s (after s (event.Lend block))
-  pub take : (s : State) (number : ℕ) → LeavesQueues s (after s (event.Take number))
-  pub peek : (s : State) (address : ℕ) → LeavesQueues s (after s (event.Peek16 address))
-  pub poke : (s : State) (address : ℕ) (bytes : List ℕ) → LeavesQueues s (after s (event.Poke16 address bytes))
-
-pub record MemoryCallsLeaveOtherBlocks : Type 0 where
-  pub lend : (s : State) (block : Block) (number : ℕ) → number ≢ block.number
-      → LeavesBlock number s (after s (event.Lend block))
-  pub take : (s : State) (taken number : ℕ) → number ≢ taken → LeavesBlock number s (after s (event.Take taken))
-  pub peek : (s : State) (address : ℕ) → LeavesMemory s (after s (event.Peek16 address))
-  pub poke :
-      (s : State) (address : ℕ) (bytes : List ℕ) (number : ℕ) → Avoids number address (length bytes)
-      → LeavesBlock number s (after s (event.Poke16 address bytes))
-
--- an arriving frame leaves every queue and the memory
-abbrev pub ArrivalLeavesQueues : Type 0
-ArrivalLeavesQueues = (s : State) (frame : List ℕ) → LeavesQueues s (after s (event.Arrive frame))
-
-abbrev pub ArrivalLeavesMemory : Type 0
-ArrivalLeavesMemory = (s : State) (frame : List ℕ) → LeavesMemory s (after s (event.Arrive frame))
-
--- the frame that waits longest waits for this queue
-abbrev pub IsFirstFor : ℕ → List Waiting → Type 0
-IsFirstFor queue [] = ⊥
-IsFirstFor queue (w ∷ others) = w.queue ≡ queue
-
--- a step of receiving leaves the receive sides of the queues that the first frame doesn't wait for, and all transmit
--- sides
-pub record ReceivingLeaves (s new : State) : Type 0 where
-  pub receive : (queue : ℕ) → ¬ IsFirstFor queue s.waiting → LeavesReceive queue s new
-  pub transmit : (queue : ℕ) → LeavesTransmit queue s new
-
-abbrev pub ReceivingLeavesOtherQueues : Type 0
-ReceivingLeavesOtherQueues = (s : State) → ReceivingLeaves s (after s event.RxStep)
-
--- the bytes that a reply says were received into memory are outside a block
-abbrev pub ReceivesOutside : Reply Block → ℕ → Type 0
-ReceivesOutside (Wrote queue slot end desc at len) number = Avoids number desc 16 × Avoids number at len
-ReceivesOutside other number = ⊤
-
--- it writes the descriptor and the bytes that it tells of, and so leaves the other blocks
-abbrev pub ReceivingLeavesOtherBlocks : Type 0
-ReceivingLeavesOtherBlocks =
-    (s : State) (number : ℕ) → ReceivesOutside (reply_to s event.RxStep) number
-    → LeavesBlock number s (after s event.RxStep)
-
--- a step of transmitting leaves all sides but that of its queue
-abbrev pub TransmittingLeavesOtherQueues : Type 0
-TransmittingLeavesOtherQueues = (s : State) (queue : ℕ) → LeavesOtherSides Tx queue s (after s (event.TxStep queue))
-
--- the address that a reply says was written back
-abbrev pub told_back : Reply Block → Option ℕ
-told_back (Advanced queue slot back) = back
-told_back (Sent queue len back) = back
-told_back other = None
-
--- it writes back at the address that it tells, the head or the descriptor, and so leaves the other blocks
-abbrev pub TransmittingLeavesOtherBlocks : Type 0
-TransmittingLeavesOtherBlocks =
-    (s : State) (queue number : ℕ) →
-    ((back : ℕ) → told_back (reply_to s (event.TxStep queue)) ≡ Some back
-    → Avoids number back (report_length (transmit_queue_of s.registers queue).writeback)) →
-    LeavesBlock number s (after s (event.TxStep queue))
-
--- a step of a side's enable leaves all other sides, and the memory
-abbrev pub SwitchingLeavesOtherQueues : Type 0
-SwitchingLeavesOtherQueues = (s : State) (dir : Dir) (queue : ℕ)
-    → LeavesOtherSides dir queue s (after s (event.QueueStep dir queue))
-
-abbrev pub SwitchingLeavesMemory : Type 0
-SwitchingLeavesMemory = (s : State) (dir : Dir) (queue : ℕ) → LeavesMemory s (after s (event.QueueStep dir queue))
-
--- a message of a group leaves every queue and the memory
-abbrev pub MessageLeavesQueues : Type 0
-MessageLeavesQueues = (s : State) (g : Group) → LeavesQueues s (after s (event.IntStep g))
-
-abbrev pub MessageLeavesMemory : Type 0
-MessageLeavesMemory = (s : State) (g : Group) → LeavesMemory s (after s (event.IntStep g))
-
--- the link with the cause that it raises, and collecting a frame, leave every queue and the memory
-abbrev pub LinkLeavesQueues : Type 0
-LinkLeavesQueues = (s : State) (up : Bool)
-    → LeavesQueues s (after s (event.Link up)) × LeavesQueues s (after s event.Collect)
-
-abbrev pub LinkLeavesMemory : Type 0
-LinkLeavesMemory = (s : State) (up : Bool)
-    → LeavesMemory s (after s (event.Link up)) × LeavesMemory s (after s event.Collect)
+abbrev pub OtherEventsKeepSettings : Type 0
+OtherEventsKeepSettings = (s : State) (e : Event Block) → WritesNoSetting e → KeepsSettings s (after s e)
 
 -- what is delivered
 
@@ -280,19 +189,15 @@ wrote queue s other = []
 -- descriptor
 abbrev pub PieceIsReadBack : Type 0
 PieceIsReadBack =
-    (s : State) → IsReached s → IsWhole s.memory → (queue slot : ℕ) (end : Bool) (desc at len : ℕ) →
+    (s : State) → IsSound s → (queue slot : ℕ) (end : Bool) (desc at len : ℕ) →
     reply_to s event.RxStep ≡ Wrote queue slot end desc at len → AreApart at len desc 16 →
     read_at (after s event.RxStep).memory at len ≡ wrote queue s event.RxStep
 
 -- faults, and a device that makes no steps
 
-abbrev pub is_fault : Reply Block → Bool
-is_fault (Fault queue fault) = true
-is_fault other = false
-
 -- a fault changes no memory
 abbrev pub FaultChangesNoMemory : Type 0
-FaultChangesNoMemory = (s : State) (e : Event Block) → IsTrue (is_fault (reply_to s e)) → LeavesMemory s (after s e)
+FaultChangesNoMemory = (s : State) (e : Event Block) → IsTrue (is_fault (reply_to s e)) → (after s e).memory ≡ s.memory
 
 -- while CTRL bit 2 is 1 every step of a queue below 128, and of a group that there is, is idle and changes nothing
 pub record StopsAllSteps (s : State) : Type 0 where

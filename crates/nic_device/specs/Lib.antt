@@ -1,13 +1,16 @@
 pub mod Access
 pub mod Arrival
 pub mod Config
+pub mod Footprint
 pub mod Laws
 pub mod Interrupt
+pub mod Leaving
 pub mod Lending
 pub mod Link
 pub mod Outcome
 pub mod Receive
 pub mod Run
+pub mod Sound
 pub mod State
 pub mod Step
 pub mod Switching

@@ -1,5 +1,5 @@
 -- One event.
-use Rattle.std.specs.Prelude.{ℕ, ◌≡◌, ◌≢◌, Option, Some, None}
+use Rattle.std.specs.Prelude.{ℕ, ◌≡◌, ◌≢◌, Bool, true, false, Option, Some, None}
 use Rattle.dma_arena.specs.Block.{Block}
 use Rattle.nic_device.specs.State.{State}
 use Rattle.nic_device.specs.Outcome.{Outcome}
@@ -46,3 +46,19 @@ TakesMemory s other = ⊥
 abbrev pub word_told : Reply Block → Option ℕ
 word_told (reply.Word word) = Some word
 word_told other = None
+
+-- whether an event lends a block or takes one back, and whether a reply hands one out
+abbrev pub moves_block : Event Block → Bool
+moves_block (event.Lend block) = true
+moves_block (event.Take number) = true
+moves_block other = false
+
+abbrev pub hands_out : Reply Block → Bool
+hands_out (reply.Buf block) = true
+hands_out (reply.Twice block) = true
+hands_out other = false
+
+-- whether a reply tells of a slot that couldn't be processed
+abbrev pub is_fault : Reply Block → Bool
+is_fault (reply.Fault queue fault) = true
+is_fault other = false

@@ -5,13 +5,13 @@ ghost use Rattle.reg_table.specs.Rows.{row_of};
 ghost use Rattle.nic_device.specs.State.{reset};
 ghost use Rattle.nic_device.specs.Access.{register_read, register_written, state_written};
 
-use crate::device::Device;
+use crate::engine::Engine;
 use crate::event::Reply;
 use reg_table::{Place, place_of, view_of};
 use register_file::asks_reset;
 use tx_ring::Staged;
 
-impl Device {
+impl Engine {
     /// Reads an address.
     pub(crate) fn read(&mut self, address: u32) -> Reply
         ensures reply { result ≡ (register_read self.old address).reply }

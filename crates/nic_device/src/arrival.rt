@@ -3,7 +3,7 @@
 ghost use Rattle.std.specs.Prelude.{◌≡◌, ◌<◌, Ok, IfOk, IfErr, OnOk, OnErr};
 ghost use Rattle.nic_device.specs.Arrival.{arrived, joined, why_unwanted};
 
-use crate::device::Device;
+use crate::engine::Engine;
 use crate::event::{Event, OutOfMemory, Reply, Why};
 use crate::interrupt::RECEIVE_MISS;
 use crate::waiting::Waiting;
@@ -15,7 +15,7 @@ use rx_filter::{Target, Unwanted, sort};
 /// How many bytes a frame has at least, its frame check sequence left out.
 const SHORTEST_FRAME: usize = 60;
 
-impl Device {
+impl Engine {
     /// A frame arrives.
     pub(crate) fn arrive(&mut self, frame: Octets) -> Result<Reply, OutOfMemory<Event>>
         ensures reply { IfOk result (λ reply. reply ≡ (arrived self.old frame).reply) }

@@ -1,52 +1,36 @@
-ghost use Rattle.std.specs.Prelude.{◌≡◌, ◌<◌, ◌≤◌, ◌↔◌, Err, IfOk, IfErr, OnOk, OnErr, List, ℕ, length};
-ghost use Rattle.nic_device.specs.State.{new_state, none_staged};
+ghost use Rattle.std.specs.Prelude.{◌≡◌, ◌<◌, ◌≤◌, ◌↔◌, Err, IfOk, IfErr, OnOk, OnErr};
+ghost use Rattle.nic_device.specs.State.{new_state};
 ghost use Rattle.nic_device.specs.Config.{IsBadFifo};
 ghost use Rattle.nic_device.specs.Link.{next_out_of};
+ghost use Rattle.nic_device.specs.Sound.{IsSound};
 ghost use Rattle.nic_device.specs.Step.{step_of, TakesMemory, word_told};
 
 use crate::config::{Config, MAX_FIFO, MAX_VFS, NewFault};
+use crate::engine::Engine;
 use crate::event::{Event, OutOfMemory, Port, Reply};
-use crate::waiting::Waiting;
 use dma_arena::{LentMemory, Octets};
 use reg_table::{place_of, view_of};
-use register_file::{QUEUES, RegisterFile};
-use std::alloc::{AllocError, Global};
-use std::collections::VecDeque;
+use std::alloc::Global;
 use std::marker::Model;
-use tx_ring::Staged;
 
 /// The device. It can't be dropped, since packet memory is lent to it: it is dismantled in the end.
+///
+/// It is sound between two events: `stays_sound` says so.
 pub struct Device {
-    pub(crate) registers: Box<RegisterFile>,
-    pub(crate) memory: LentMemory,
-    pub(crate) waiting: VecDeque<Waiting>,
-    pub(crate) staged: Vec<Staged>,
-    pub(crate) out: VecDeque<(u8, Octets)>,
-    pub(crate) link: bool,
-    pub(crate) config: Config,
-    pub(crate) alloc: Global,
+    engine: Engine,
 }
 
 impl Model for Device {
-    ghost use Rattle.std.specs.Prelude.{◌≡◌, length};
     ghost use Rattle.nic_device.specs.State.{State, state_code};
+    ghost use Rattle.nic_device.specs.Sound.{IsSound};
 
     ghost Value = { State };
 
     ghost coded = { state_code };
 
-    ghost view = { λ d. record {
-      registers = d.registers.value;
-      memory = d.memory;
-      waiting = d.waiting.items;
-      staged = d.staged.items;
-      out = d.out.items;
-      link = d.link;
-      vfs = d.config.vfs;
-      fifo = d.config.fifo;
-    } };
+    ghost view = { λ d. d.engine };
 
-    ghost invariant = { λ d. length d.staged.items ≡ 128 };
+    ghost invariant = { λ d. IsSound d.engine };
 }
 
 /// What is left of a device that was dismantled.
@@ -72,22 +56,10 @@ impl Device {
         if config.fifo == 0 || config.fifo > MAX_FIFO {
             return Err(NewFault::Fifo);
         }
-        let registers = RegisterFile::new(alloc)?;
-        let registers = Box::new(alloc, registers).map_err(AllocError::from)?;
-        let staged = none_staged(alloc)?;
-        Ok(Device {
-            registers,
-            memory: LentMemory::new(alloc),
-            waiting: VecDeque::new(alloc),
-            staged,
-            out: VecDeque::new(alloc),
-            link: true,
-            config,
-            alloc,
-        })
+        let engine = Engine::new(alloc, config)?;
+        Ok(Device { engine })
     }
 
-    #[tactic(auto, unfolding(crate::specs::Step::step_of))]
     /// Makes one event. An event that finds no memory comes back, and the device is as it was. Only these can find
     /// none: a block that would be lent, a frame that would be let in, and a transmit step of a queue that isn't idle.
     pub fn step(&mut self, event: Event) -> Result<Reply, OutOfMemory<Event>>
@@ -97,21 +69,16 @@ impl Device {
         ensures unchanged { OnErr result (self.new ≡ self.old) }
         ensures memory { OnErr result (TakesMemory self.old event) }
     {
-        match event {
-            Event::Read(Port::Pf, address) => Ok(self.read(address)),
-            Event::Write(Port::Pf, address, word) => Ok(self.write(address, word)),
-            Event::Lend(buf) => self.lend(buf),
-            Event::Take(number) => Ok(self.take(number)),
-            Event::Peek16(address) => Ok(self.peek16(address)),
-            Event::Poke16(address, bytes) => Ok(self.poke16(address, bytes)),
-            Event::Arrive(frame) => self.arrive(frame),
-            Event::RxStep => Ok(self.receive()),
-            Event::TxStep(queue) => self.transmit(queue),
-            Event::IntStep(group) => Ok(self.send_message(group)),
-            Event::QueueStep(dir, queue) => Ok(self.switch_queue(dir, queue)),
-            Event::Link(up) => Ok(self.set_link(up)),
-            Event::Collect => Ok(self.collect()),
-        }
+        event.is_of_a_driver();
+        self.engine.step(event)
+    }
+
+    /// Whatever happened before, the device is sound: its registers, its lent blocks, the frames that wait and the
+    /// staged bytes have the shape and the ranges that `IsSound` lists. It does nothing.
+    pub fn stays_sound(&self)
+        ensures { IsSound self.now }
+    {
+        let _opened = &self.engine;
     }
 
     #[tactic(auto, unfolding(crate::specs::Step::step_of))]
@@ -120,15 +87,17 @@ impl Device {
     pub fn peek_register(&self, address: u32) -> Option<u32>
         ensures { result ≡ word_told (step_of self.now (Event.Read Port.Pf address)).reply }
     {
+        let engine = &self.engine;
         let place = place_of(address)?;
-        Some(self.registers.peek(self.link, place) & view_of(address))
+        Some(engine.registers.peek(engine.link, place) & view_of(address))
     }
 
     /// How many bytes the frame has that `Collect` would give. 0 without one.
     pub fn next_out(&self) -> usize
         ensures { result ≡ next_out_of self.now.out }
     {
-        match self.out.front() {
+        let engine = &self.engine;
+        match engine.out.front() {
             Some((_, bytes)) => bytes.bytes().len(),
             None => 0,
         }
@@ -139,7 +108,8 @@ impl Device {
         ensures memory { result.memory ≡ self.memory }
         ensures frames { result.frames.items ≡ self.out }
     {
-        let Device {
+        let Device { engine } = self;
+        let Engine {
             registers: _,
             memory,
             waiting: _,
@@ -148,21 +118,10 @@ impl Device {
             link: _,
             config: _,
             alloc: _,
-        } = self;
+        } = engine;
         Parts {
             memory,
             frames: out.into_vec(),
         }
     }
-}
-
-/// For each queue no staged bytes.
-fn none_staged(alloc: Global) -> Result<Vec<Staged>, AllocError>
-    ensures { IfOk result (λ staged. staged.items ≡ none_staged) }
-{
-    let mut staged = Vec::with_capacity(alloc, usize::from(QUEUES))?;
-    for _queue in 0..QUEUES {
-        staged.push(Staged::new(alloc))?;
-    }
-    Ok(staged)
 }

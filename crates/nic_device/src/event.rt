@@ -47,6 +47,60 @@ pub enum Event<B = Buf> {
     Collect,
 }
 
+impl Event {
+    ghost use Rattle.nic_device.specs.Sound.{AreBytes, IsEvent};
+
+    /// Each event is one that a driver can make. It does nothing.
+    pub(crate) fn is_of_a_driver(&self)
+        ensures { IsEvent self.now }
+    {
+        match self {
+            Event::Read(Port::Pf, address) => {
+                let _address = *address;
+            }
+            Event::Write(Port::Pf, address, word) => {
+                let (_address, _word) = (*address, *word);
+            }
+            Event::Lend(buf) => {
+                let _number = buf.block();
+                Self::are_bytes(buf.bytes());
+            }
+            Event::Take(number) => {
+                let _number = *number;
+            }
+            Event::Peek16(address) => {
+                let _address = *address;
+            }
+            Event::Poke16(address, bytes) => {
+                let _address = *address;
+                let all: &[u8] = bytes;
+                prove!(all.len() == 16);
+                Self::are_bytes(all);
+            }
+            Event::Arrive(frame) => {
+                Self::are_bytes(frame.bytes());
+            }
+            Event::TxStep(queue) => {
+                let _queue = *queue;
+            }
+            Event::IntStep(Group::Vf(function)) => {
+                let _function = *function;
+            }
+            Event::QueueStep(_, queue) => {
+                let _queue = *queue;
+            }
+            Event::RxStep | Event::IntStep(Group::Pf) | Event::Link(_) | Event::Collect => {}
+        }
+    }
+
+    /// Each byte is below 256. It does nothing.
+    fn are_bytes(bytes: &[u8])
+        ensures { AreBytes bytes.now }
+    {
+        let _all = bytes;
+    }
+}
+
 /// Why a frame that came from the link is dropped.
 #[derive(Clone, Copy, PartialEq, Eq, Debug)]
 pub enum Why {

@@ -4,7 +4,7 @@ ghost use Rattle.std.specs.Prelude.{◌≡◌, ◌<◌};
 ghost use Rattle.register_file.specs.Groups.{index_of};
 ghost use Rattle.nic_device.specs.Interrupt.{mode_in, group_of_queue, raised_by, has_group, messaged, interrupted};
 
-use crate::device::Device;
+use crate::engine::Engine;
 use crate::event::Reply;
 use intr_unit::Group;
 use reg_table::RowId;
@@ -53,7 +53,7 @@ pub(crate) fn raise_by(registers: &mut RegisterFile, vfs: u8, dir: Dir, queue: u
     registers.raise_queue(group, dir, queue);
 }
 
-impl Device {
+impl Engine {
     /// The next message of a group is sent.
     pub(crate) fn send_message(&mut self, group: Group) -> Reply
         ensures reply { result ≡ (interrupted self.old group).reply }

@@ -1,7 +1,19 @@
 //! What the device promises as a whole. Each law is the contract of a function that does nothing: what it ensures holds
 //! of the definitions that the contract of `Device::step` cites.
 
-ghost use Rattle.nic_device.specs.Laws.{NewDeviceReadsResetValues, WriteShowsAtEachAddress, WriteLeavesOtherRegisters, ReadChangesNothing, StrayAccessChangesNothing, ReadCounterStartsAgain, LetInFrameIsCounted, ReadLeavesQueues, WriteLeavesOtherQueues, AccessLeavesMemory, MemoryCallsLeaveQueues, MemoryCallsLeaveOtherBlocks, ArrivalLeavesQueues, ArrivalLeavesMemory, ReceivingLeavesOtherQueues, ReceivingLeavesOtherBlocks, TransmittingLeavesOtherQueues, TransmittingLeavesOtherBlocks, SwitchingLeavesOtherQueues, SwitchingLeavesMemory, MessageLeavesQueues, MessageLeavesMemory, LinkLeavesQueues, LinkLeavesMemory, PieceIsReadBack, FaultChangesNoMemory, StoppedDeviceIsIdle};
+ghost use Rattle.nic_device.specs.Laws.{NewDeviceIsSound, EventKeepsSound, ToldIsPending, NewDeviceReadsResetValues, WriteShowsAtEachAddress, WriteLeavesOtherRegisters, ReadChangesNothing, StrayAccessChangesNothing, ReadCounterStartsAgain, LetInFrameIsCounted, AskedResetResets, OtherEventsKeepSettings, PieceIsReadBack, FaultChangesNoMemory, StoppedDeviceIsIdle};
+ghost use Rattle.nic_device.specs.Leaving.{EventStaysWithinReach, EventLeavesMissed, OtherEventsKeepBlocks, ReadLeavesTheRest, WriteLeavesTheRest, WriteLeavesMemory, MemoryCallsLeaveTheRest, MemoryCallsLeaveOtherBlocks, ArrivalLeavesTheRest, ReceivingLeavesTheRest, ReceivingLeavesOtherBlocks, TransmittingLeavesTheRest, TransmittingLeavesOtherBlocks, SwitchingLeavesTheRest, MessageLeavesTheRest, LinkLeavesTheRest, CollectingLeavesTheRest};
+
+/// A new device is sound, and every event that a driver can make keeps it so.
+pub fn devices_stay_sound()
+    ensures new { NewDeviceIsSound }
+    ensures event { EventKeepsSound }
+{}
+
+/// After every event no bit of a group is told whose cause or mask is 0.
+pub fn told_is_pending()
+    ensures { ToldIsPending }
+{}
 
 /// A register of a new device reads as its reset value.
 pub fn new_device_reads_reset_values()
@@ -38,56 +50,80 @@ pub fn let_in_frame_is_counted()
     ensures { LetInFrameIsCounted }
 {}
 
-/// A read of a register changes no queue, a write that asks for no reset none that its register isn't of, and neither
-/// changes memory.
-pub fn access_leaves_the_rest()
-    ensures read { ReadLeavesQueues }
-    ensures write { WriteLeavesOtherQueues }
-    ensures memory { AccessLeavesMemory }
+/// A write that asks for a reset gives each register its reset value, wants no side of a queue on, tells no bit, and
+/// drops the frames that wait and the staged bytes; nothing else changes.
+pub fn asked_reset_resets()
+    ensures { AskedResetResets }
 {}
 
-/// A memory call changes no queue, and no block but the one that it lends, takes or writes.
+/// An event that writes none of CTRL, HLREG0, MAXFRS and GCR_EXT keeps the frame limit, and how the queues are parted
+/// among pools.
+pub fn other_events_keep_settings()
+    ensures { OtherEventsKeepSettings }
+{}
+
+/// Every event changes nothing outside its reach: what of the registers, which blocks, staged bytes and frames it may
+/// change is told of it before, by the place or the block that it names, by the frame that waits longest and by its
+/// reply. A side of a queue and a group that the reach has nothing of are as they were.
+pub fn event_stays_within_its_reach()
+    ensures stays { EventStaysWithinReach }
+    ensures missed { EventLeavesMissed }
+{}
+
+/// An event that neither lends nor takes a block leaves the same blocks lent, and its reply has none.
+pub fn other_events_keep_blocks()
+    ensures { OtherEventsKeepBlocks }
+{}
+
+/// A read of a register changes no queue; a write that asks for no reset changes no side of a queue that its register
+/// isn't of. Neither changes a group that its register isn't of, memory, the frames that wait or the frames out.
+pub fn access_leaves_the_rest()
+    ensures read { ReadLeavesTheRest }
+    ensures write { WriteLeavesTheRest }
+    ensures memory { WriteLeavesMemory }
+{}
+
+/// A memory call changes no queue, no group, no frame that waits or is out, and no block but the one that it lends,
+/// takes or writes.
 pub fn memory_call_leaves_the_rest()
-    ensures queues { MemoryCallsLeaveQueues }
+    ensures rest { MemoryCallsLeaveTheRest }
     ensures blocks { MemoryCallsLeaveOtherBlocks }
 {}
 
-/// A frame that arrives changes no queue and no memory.
+/// A frame that arrives changes no queue, no group of a virtual function, no memory and no frame out.
 pub fn arrival_leaves_the_rest()
-    ensures queues { ArrivalLeavesQueues }
-    ensures memory { ArrivalLeavesMemory }
+    ensures { ArrivalLeavesTheRest }
 {}
 
-/// A step of receiving changes no queue but the receive side of the one that the first frame waits for, and no block
-/// but those with the descriptor and the bytes that it tells of.
+/// A step of receiving changes no queue but the receive side of the one that the first frame waits for, no frame out,
+/// and no block but those with the descriptor and the bytes that it tells of.
 pub fn receiving_leaves_the_rest()
-    ensures queues { ReceivingLeavesOtherQueues }
+    ensures rest { ReceivingLeavesTheRest }
     ensures blocks { ReceivingLeavesOtherBlocks }
 {}
 
-/// A step of transmitting changes no queue but the transmit side of its own, and no block but those that it tells of
-/// writing back to.
+/// A step of transmitting changes no queue but the transmit side of its own, no frame that waits, and no block but
+/// those that it tells of writing back to.
 pub fn transmitting_leaves_the_rest()
-    ensures queues { TransmittingLeavesOtherQueues }
+    ensures rest { TransmittingLeavesTheRest }
     ensures blocks { TransmittingLeavesOtherBlocks }
 {}
 
-/// A step of a side's enable changes no other side, and no memory.
+/// A step of a side's enable changes no other side, no group, no memory and no frame out.
 pub fn switching_leaves_the_rest()
-    ensures queues { SwitchingLeavesOtherQueues }
-    ensures memory { SwitchingLeavesMemory }
+    ensures { SwitchingLeavesTheRest }
 {}
 
-/// A message of a group of interrupts changes no queue and no memory.
+/// A message of a group of interrupts changes no queue, no other group, no memory and no frame.
 pub fn message_leaves_the_rest()
-    ensures queues { MessageLeavesQueues }
-    ensures memory { MessageLeavesMemory }
+    ensures { MessageLeavesTheRest }
 {}
 
-/// The link, with the cause that it raises, and collecting a frame, change no queue and no memory.
+/// The link, with the cause that it raises, changes no queue, no group but the physical function's, no memory and no
+/// frame; collecting a frame changes no queue, no group, no memory and no frame that waits.
 pub fn link_leaves_the_rest()
-    ensures queues { LinkLeavesQueues }
-    ensures memory { LinkLeavesMemory }
+    ensures link { LinkLeavesTheRest }
+    ensures collect { CollectingLeavesTheRest }
 {}
 
 /// After a piece of a frame was written, memory has its bytes at the address that was told.

@@ -3,14 +3,14 @@
 ghost use Rattle.std.specs.Prelude.{◌≡◌, IfOk, IfErr, OnOk, OnErr};
 ghost use Rattle.nic_device.specs.Lending.{lent, taken, peeked, poked};
 
-use crate::device::Device;
+use crate::engine::Engine;
 use crate::event::{Event, OutOfMemory, Reply};
 use dma_arena::{Buf, LendRefused};
 
 /// A driver looks at memory by so many bytes, and at their multiples.
 const PEEK_BYTES: u32 = 16;
 
-impl Device {
+impl Engine {
     /// Lends a block.
     pub(crate) fn lend(&mut self, buf: Buf) -> Result<Reply, OutOfMemory<Event>>
         ensures reply { IfOk result (λ reply. reply ≡ (lent self.old buf).reply) }

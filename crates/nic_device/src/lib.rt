@@ -3,7 +3,8 @@
 //! A `Device` is seen by contracts as a `State`: its registers, the memory that is lent to it, the frames that wait to
 //! be received, the bytes that its transmit queues have staged, the frames that went out, and whether the link is up.
 //! `Device::step` makes one `Event` and answers a `Reply`, both by the definition `step_of`; `Device::run` makes a list
-//! of events, and `Device::peek_register` and `Device::next_out` look without touching. The definitions stand in
+//! of events, and `Device::peek_register` and `Device::next_out` look without touching. Between two events a device is
+//! sound, as `Device::stays_sound` says: `Engine` has the parts and makes the events. The definitions stand in
 //! `specs/`, one file for each family of events, and the code beside them under the same name. The script machine, the
 //! debugger, the lock and the driver stand on this crate.
 #![tactic(auto)]
@@ -12,6 +13,7 @@ mod access;
 mod arrival;
 mod config;
 mod device;
+mod engine;
 mod event;
 mod interrupt;
 pub mod laws;

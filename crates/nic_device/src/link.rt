@@ -3,14 +3,14 @@
 ghost use Rattle.std.specs.Prelude.{◌≡◌};
 ghost use Rattle.nic_device.specs.Link.{link_set, collected};
 
-use crate::device::Device;
+use crate::engine::Engine;
 use crate::event::Reply;
 use intr_unit::Group;
 
 /// EICR: the link went up or down.
 const LINK_CHANGE: u32 = 0x0010_0000;
 
-impl Device {
+impl Engine {
     /// The link goes up or down, which raises its cause.
     pub(crate) fn set_link(&mut self, up: bool) -> Reply
         ensures reply { result ≡ (link_set self.old up).reply }

@@ -4,7 +4,7 @@ ghost use Rattle.std.specs.Prelude.{◌≡◌, ◌<◌, ◌+◌, ◌≤◌, leng
 ghost use Rattle.std.specs.VecDeque.{deque_len, deque_capacity};
 ghost use Rattle.nic_device.specs.Receive.{received, first_received, is_empty, after_piece, slotless_counted, piece_done, receive_failed};
 
-use crate::device::Device;
+use crate::engine::Engine;
 use crate::event::{Reply, Why};
 use crate::interrupt::{PCI_EXCEPTION, raise_by};
 use crate::waiting::Waiting;
@@ -15,7 +15,7 @@ use register_file::{Dir, RegisterFile};
 use rx_ring::{Filled, fill};
 use std::collections::VecDeque;
 
-impl Device {
+impl Engine {
     /// One step of receiving.
     pub(crate) fn receive(&mut self) -> Reply
         ensures reply { result ≡ (received self.old).reply }

@@ -3,13 +3,13 @@
 ghost use Rattle.std.specs.Prelude.{◌≡◌, ◌<◌};
 ghost use Rattle.nic_device.specs.Switching.{queue_switched, side_switched, emptied, without_part};
 
-use crate::device::Device;
+use crate::engine::Engine;
 use crate::event::Reply;
 use crate::waiting::Waiting;
 use register_file::{Dir, QUEUES};
 use std::collections::VecDeque;
 
-impl Device {
+impl Engine {
     /// One step of a side's enable.
     pub(crate) fn switch_queue(&mut self, dir: Dir, queue: u16) -> Reply
         ensures reply { result ≡ (queue_switched self.old dir queue).reply }

@@ -5,7 +5,7 @@ ghost use Rattle.std.specs.VecDeque.{deque_len, deque_capacity};
 ghost use Rattle.register_file.specs.Sides.{transmit_queue_of};
 ghost use Rattle.nic_device.specs.Transmit.{transmitted, slot_fetched, is_silent, sending_of, fetched_reply, with_frame, slot_reported, transmit_failed};
 
-use crate::device::Device;
+use crate::engine::Engine;
 use crate::event::{Event, OutOfMemory, Reply};
 use crate::interrupt::{PCI_EXCEPTION, raise_by};
 use crate::receive::is_empty;
@@ -16,7 +16,7 @@ use register_file::{Dir, QUEUES, RegisterFile};
 use std::collections::VecDeque;
 use tx_ring::{Fetched, Tx, TxRefused, fetch};
 
-impl Device {
+impl Engine {
     /// One step of transmitting.
     pub(crate) fn transmit(&mut self, queue: u16) -> Result<Reply, OutOfMemory<Event>>
         ensures reply { IfOk result (λ reply. reply ≡ (transmitted self.old queue).reply) }

@@ -1,5 +1,5 @@
-use Rattle.nic_device.proofs.Leaves.{link_queues, link_memory}
+use Rattle.nic_device.proofs.StandingRest.{link_rest, collecting_rest}
 use Rattle.nic_device.proofs.laws.link_leaves_the_rest.Goals as goal
 
 pub returns : goal.returns
-returns c = record { queues = link_queues; memory = link_memory }
+returns c = record { link = link_rest; collect = collecting_rest }

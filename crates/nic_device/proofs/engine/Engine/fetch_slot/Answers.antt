@@ -8,7 +8,7 @@ use Rattle.nic_device.specs.State.{State}
 use Rattle.nic_device.specs.Transmit.{staged_by, sending_of, transmit_failed}
 use Rattle.nic_device.proofs.Fetches.{slot_fetched-fault}
 use Rattle.nic_device.proofs.Staging.{set-again}
-use Rattle.nic_device.proofs.device.Device.fetch_slot.Goals as goal
+use Rattle.nic_device.proofs.engine.Engine.fetch_slot.Goals as goal
 
 pub returns-in-Err-Fault : goal.returns-in-Err-Fault
 returns-in-Err-Fault c =

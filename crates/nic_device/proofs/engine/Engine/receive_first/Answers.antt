@@ -1,6 +1,6 @@
 use Rattle.std.proofs.Common.{sym}
 use Rattle.nic_device.proofs.Pieces.{piece_inside}
-use Rattle.nic_device.proofs.device.Device.receive_first.Goals as goal
+use Rattle.nic_device.proofs.engine.Engine.receive_first.Goals as goal
 
 pub put_back-requires-clause-piece : goal.put_back-requires-clause-piece
 put_back-requires-clause-piece c =

@@ -1,0 +1,139 @@
+-- The table of events: each keeps a device sound, and changes nothing outside its reach.
+use Rattle.std.proofs.Common.{◌≡◌, ℕ, Bool, false, refl, sym, subst, arith, Option, Some, None}
+use Rattle.std.specs.Prelude.{⊤, Result, Ok, Err, OnOk, OnErr}
+use Rattle.dma_arena.specs.Block.{Block}
+use Rattle.reg_table.specs.Place.{place_among, view_among}
+use Rattle.reg_table.specs.Runs.{runs}
+use Rattle.intr_unit.specs.declared.group.Group.{Group}
+use Rattle.intr_unit.specs.declared.group.Group.TheVariants as group
+use Rattle.register_file.specs.Footprint.{nothing}
+use Rattle.register_file.specs.Groups.{causes_raised, message_of, message_made}
+use Rattle.register_file.proofs.Footprints.{within-refl}
+use Rattle.register_file.proofs.Sound.{sound-message_made, sound-causes_raised, sound-reset}
+use Rattle.register_file.proofs.Within.{within-message_made, within-causes_raised}
+use Rattle.nic_device.specs.Interrupt.{interrupted, message_reply, link_cause}
+use Rattle.nic_device.specs.Laws.{NewDeviceIsSound, EventKeepsSound, ToldIsPending, FaultChangesNoMemory}
+use Rattle.nic_device.specs.Link.{link_set, collected}
+use Rattle.nic_device.specs.Sound.{IsEvent, IsSound}
+use Rattle.nic_device.specs.State.{State}
+use Rattle.nic_device.specs.Step.{step_of, hands_out}
+use Rattle.nic_device.proofs.Accessing.{read_leads, write_leads}
+use Rattle.nic_device.proofs.Arriving.{arrive_leads}
+use Rattle.nic_device.proofs.Blocks.{AreBlocks-empty}
+use Rattle.nic_device.proofs.Cases.{link_cases, collected_cases, interrupted_cases}
+use Rattle.nic_device.proofs.Keeping.{sound-registers, sound-rest, AreStaged-none}
+use Rattle.nic_device.proofs.Leads.{Leads, leads-still, leads-registers}
+use Rattle.nic_device.proofs.Memory.{lend_leads, take_leads, peek_leads, poke_leads}
+use Rattle.nic_device.proofs.Receiving.{receive_leads}
+use Rattle.nic_device.proofs.Sending.{transmit_leads}
+use Rattle.nic_device.proofs.SwitchedSides.{switch_leads}
+use Rattle.nic_device.specs.declared.event.Event.{Event}
+use Rattle.nic_device.specs.declared.event.Event.TheVariants as event
+use Rattle.nic_device.specs.declared.event.Port.TheVariants.{Pf}
+use Rattle.nic_device.specs.declared.event.Reply.TheVariants.{Idle, NoGroup}
+
+-- messages
+
+none_handed : (g : Group) (o : Option ℕ) → hands_out (message_reply g o) ≡ false
+none_handed g None = refl
+none_handed g (Some vector) = refl
+
+message_leads : (s : State) (g : Group) → Leads s (event.IntStep g) (interrupted s g)
+message_leads s g =
+    let e = event.IntStep g in
+    interrupted_cases (Leads s e) s g (leads-still s e NoGroup (λ no. refl)) (leads-still s e Idle (λ no. refl))
+    (leads-registers s e (message_reply g (message_of s.registers g)) (message_made s.registers g) {good = ⊤}
+    (λ h is. tt)
+    (record { sound = λ good h. sound-message_made s.registers g h; within = within-message_made s.registers g })
+    (none_handed g (message_of s.registers g)))
+
+-- the link, and the frames out
+
+link_leads : (s : State) (up : Bool) → Leads s (event.Link up) (link_set s up)
+link_leads s up =
+    let r = causes_raised s.registers group.Pf link_cause in
+    link_cases (Leads s (event.Link up)) s up (leads-still s (event.Link up) Idle (λ no. refl))
+    (record {
+      sound = λ h is. sound-registers (record s { link = up }) r (sound-rest s s.out up h)
+          (sound-causes_raised s.registers group.Pf link_cause h.registers);
+      stays = record {
+        registers = within-causes_raised s.registers group.Pf link_cause;
+        blocks = λ n no. refl;
+        lent = λ n no. refl;
+        staged = λ queue no. refl;
+        waiting = λ no. refl;
+        out = λ no. refl;
+        link = λ no. cc;
+        vfs = refl;
+        fifo = refl;
+      };
+      hands = λ no. refl;
+      faults = λ no. refl;
+    })
+
+collect_leads : (s : State) → Leads s event.Collect (collected s)
+collect_leads s = collected_cases (Leads s event.Collect) s (leads-still s event.Collect Idle (λ no. refl))
+    (λ queue bytes others. record {
+      sound = λ h is. sound-rest s others s.link h;
+      stays = record {
+        registers = within-refl nothing s.registers;
+        blocks = λ n no. refl;
+        lent = λ n no. refl;
+        staged = λ queue no. refl;
+        waiting = λ no. refl;
+        out = λ no. cc;
+        link = λ no. refl;
+        vfs = refl;
+        fifo = refl;
+      };
+      hands = λ no. refl;
+      faults = λ no. refl;
+    })
+
+-- where each event leads
+
+pub step_leads : (s : State) (e : Event Block) → Leads s e (step_of s e)
+unfolding step_of
+step_leads s (event.Read Pf a) = read_leads s a (place_among runs a) (view_among runs a) (λ r stays. stays)
+step_leads s (event.Write Pf a word) =
+    write_leads s a word (place_among runs a) (view_among runs a) (λ r stays. stays)
+step_leads s (event.Lend block) = lend_leads s block
+step_leads s (event.Take number) = take_leads s number
+step_leads s (event.Peek16 a) = peek_leads s a
+step_leads s (event.Poke16 a bytes) = poke_leads s a bytes
+step_leads s (event.Arrive frame) = arrive_leads s frame
+step_leads s event.RxStep = receive_leads s
+step_leads s (event.TxStep queue) = transmit_leads s queue
+step_leads s (event.IntStep g) = message_leads s g
+step_leads s (event.QueueStep dir queue) = switch_leads s dir queue
+step_leads s (event.Link up) = link_leads s up
+step_leads s event.Collect = collect_leads s
+
+-- a new device is sound, and every event keeps it so
+
+pub new_sound : NewDeviceIsSound
+new_sound vfs fifo few_vfs some few = record {
+  registers = sound-reset;
+  blocks = AreBlocks-empty;
+  waiting = tt;
+  room = omega arith;
+  staged = AreStaged-none;
+  vfs = few_vfs;
+  some = some;
+  few = few;
+}
+
+pub keeps_sound : EventKeepsSound
+keeps_sound s h e is = (step_leads s e).sound h is
+
+-- also where the event finds no memory, and is not made
+pub sound_step : {R E : Type 0} (s t : State) (e : Event Block) (result : Result R E)
+    → OnOk result (t ≡ (step_of s e).state) → OnErr result (t ≡ s) → IsSound s → IsEvent e → IsSound t
+sound_step s t e (Ok reply) made kept h is = subst IsSound (sym made) (keeps_sound s h e is)
+sound_step s t e (Err refused) made kept h is = subst IsSound (sym kept) h
+
+pub told_pending : ToldIsPending
+told_pending s h e is g small = (keeps_sound s h e is).registers.told g small
+
+pub fault_memory : FaultChangesNoMemory
+fault_memory s e fault = (step_leads s e).faults fault

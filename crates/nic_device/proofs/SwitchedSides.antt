@@ -1,0 +1,108 @@
+-- Steps of a side's enable: where they lead.
+use Rattle.std.proofs.Common.{◌≡◌, ℕ, [], refl, arith}
+use Rattle.std.specs.Prelude.{⊤, slice_set}
+use Rattle.std.proofs.lemmas.Bool.{eqb-false}
+use Rattle.std.proofs.lemmas.List.{get_or-set_other}
+use Rattle.register_file.specs.Footprint.{Covers, of_side, the_word}
+use Rattle.register_file.specs.Columns.{place}
+use Rattle.register_file.specs.Queue.{enable_row, switched}
+use Rattle.register_file.specs.Registers.{Registers, is_wanted}
+use Rattle.register_file.specs.declared.dir.Dir.{Dir}
+use Rattle.register_file.specs.declared.dir.Dir.TheVariants.{Rx, Tx}
+use Rattle.register_file.proofs.Footprints.{within-wider, covers-the_word}
+use Rattle.register_file.proofs.Sound.{sound-switched}
+use Rattle.register_file.proofs.Within.{within-switched}
+use Rattle.nic_device.specs.Footprint.{switch_reach, StaysWithin}
+use Rattle.nic_device.specs.Outcome.{gives}
+use Rattle.nic_device.specs.Sound.{IsSound}
+use Rattle.nic_device.specs.State.{State}
+use Rattle.nic_device.specs.Switching.{queue_switched, side_switched, emptied, without_part}
+use Rattle.nic_device.proofs.Cases.{either_way, switched_cases}
+use Rattle.nic_device.proofs.Keeping.{sound-registers, sound-waiting, sound-staged, stays-registers, AreStaged-set}
+use Rattle.nic_device.proofs.Leads.{Leads, leads-still}
+use Rattle.nic_device.proofs.Queued.{AreWaiting-without_part, length-without_part}
+use Rattle.nic_device.proofs.Coming.{Comes}
+use Rattle.nic_device.specs.declared.event.Event.TheVariants as event
+use Rattle.nic_device.specs.declared.event.Reply.TheVariants.{Done, Idle, NoQueue}
+
+covers-enable : (dir : Dir) (queue : ℕ) → Covers (of_side dir queue) (the_word (place (enable_row dir) queue))
+covers-enable Rx queue = covers-the_word (place (enable_row Rx) queue)
+covers-enable Tx queue = covers-the_word (place (enable_row Tx) queue)
+
+switched-comes : (r : Registers) (dir : Dir) (queue : ℕ) → Comes ⊤ (of_side dir queue) r (switched r dir queue)
+switched-comes r dir queue = record {
+  sound = λ is h. sound-switched r dir queue h;
+  within = within-wider (of_side dir queue) (the_word (place (enable_row dir) queue)) r (switched r dir queue)
+      (covers-enable dir queue) (within-switched r dir queue);
+}
+
+emptied_sound : (s : State) (dir : Dir) (queue : ℕ) → IsSound s → IsSound (emptied s dir queue)
+emptied_sound s Rx queue h =
+    sound-waiting s (without_part queue s.waiting) h (AreWaiting-without_part queue s.waiting h.waiting)
+    (length-without_part queue s.waiting s.fifo h.room)
+emptied_sound s Tx queue h =
+    sound-staged s (slice_set s.staged queue []) h (AreStaged-set s.staged queue [] h.staged (omega arith))
+
+wanted_stays : (s : State) (dir : Dir) (queue : ℕ)
+    → StaysWithin (switch_reach dir queue) s (record s { registers = switched s.registers dir queue })
+wanted_stays s Rx queue =
+    stays-registers (switch_reach Rx queue) s _ (switched-comes s.registers Rx queue).within
+wanted_stays s Tx queue =
+    stays-registers (switch_reach Tx queue) s _ (switched-comes s.registers Tx queue).within
+
+emptied_stays : (s : State) (dir : Dir) (queue : ℕ)
+    → StaysWithin (switch_reach dir queue) s
+    (record (emptied s dir queue) { registers = switched s.registers dir queue })
+emptied_stays s Rx queue = record {
+  registers = (switched-comes s.registers Rx queue).within;
+  blocks = λ n no. refl;
+  lent = λ n no. refl;
+  staged = λ other no. refl;
+  waiting = λ no. cc;
+  out = λ no. refl;
+  link = λ no. refl;
+  vfs = refl;
+  fifo = refl;
+}
+emptied_stays s Tx queue = record {
+  registers = (switched-comes s.registers Tx queue).within;
+  blocks = λ n no. refl;
+  lent = λ n no. refl;
+  staged = λ other no. get_or-set_other s.staged queue other [] [] (eqb-false other queue no);
+  waiting = λ no. refl;
+  out = λ no. refl;
+  link = λ no. refl;
+  vfs = refl;
+  fifo = refl;
+}
+
+emptied_memory : (s : State) (dir : Dir) (queue : ℕ) → (emptied s dir queue).memory ≡ s.memory
+emptied_memory s Rx queue = refl
+emptied_memory s Tx queue = refl
+
+side_leads : (s : State) (dir : Dir) (queue : ℕ)
+    → Leads s (event.QueueStep dir queue) (gives Done (side_switched s dir queue))
+side_leads s dir queue =
+    let r = switched s.registers dir queue in
+    either_way (λ (t : State). Leads s (event.QueueStep dir queue) (gives Done t)) (is_wanted s.registers dir queue)
+    (record s { registers = r }) (record (emptied s dir queue) { registers = r })
+    (record {
+      sound = λ h is. sound-registers s r h (sound-switched s.registers dir queue h.registers);
+      stays = wanted_stays s dir queue;
+      hands = λ no. refl;
+      faults = λ no. refl;
+    })
+    (record {
+      sound = λ h is. sound-registers (emptied s dir queue) r (emptied_sound s dir queue h)
+          (sound-switched s.registers dir queue h.registers);
+      stays = emptied_stays s dir queue;
+      hands = λ no. refl;
+      faults = λ no. emptied_memory s dir queue;
+    })
+
+pub switch_leads : (s : State) (dir : Dir) (queue : ℕ)
+    → Leads s (event.QueueStep dir queue) (queue_switched s dir queue)
+switch_leads s dir queue =
+    let e = event.QueueStep dir queue in
+    switched_cases (Leads s e) s dir queue (leads-still s e NoQueue (λ no. refl)) (leads-still s e Idle (λ no. refl))
+    (side_leads s dir queue)

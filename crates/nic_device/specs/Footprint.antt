@@ -1,0 +1,148 @@
+-- What of a device an event may change.
+use Rattle.std.specs.Prelude.{ℕ, ◌≡◌, ◌+◌, ◌*◌, ◌==◌, nat_lt, Bool, true, false, ◌&&◌, ◌||◌, IsFalse, List, [], ◌∷◌, length, Option, Some, None, if◌then◌else◌}
+use Rattle.std.specs.FinMap as map
+use Rattle.dma_arena.specs.Block.{Block}
+use Rattle.dma_arena.specs.Memory.{has_block}
+use Rattle.reg_table.specs.Place.{place_among}
+use Rattle.reg_table.specs.Rows.{row_of}
+use Rattle.reg_table.specs.Runs.{runs}
+use Rattle.reg_table.specs.declared.place.Place.{Place}
+use Rattle.intr_unit.specs.declared.group.Group.TheVariants as group
+use Rattle.register_file.specs.Access.{asks_reset}
+use Rattle.register_file.specs.Footprint.{Footprint, ChangesWithin, nothing, everything, either, counters, of_side, pending, any_pending, of_read, of_write}
+use Rattle.register_file.specs.Sides.{transmit_queue_of}
+use Rattle.register_file.specs.declared.dir.Dir.{Dir}
+use Rattle.register_file.specs.declared.dir.Dir.TheVariants.{Rx, Tx}
+use Rattle.tx_ring.specs.Report.{report_length}
+use Rattle.nic_device.specs.State.{State, Waiting}
+use Rattle.nic_device.specs.Step.{step_of}
+use Rattle.nic_device.specs.Transmit.{staged_by}
+use Rattle.nic_device.specs.declared.event.Event.{Event}
+use Rattle.nic_device.specs.declared.event.Event.TheVariants as event
+use Rattle.nic_device.specs.declared.event.Port.TheVariants.{Pf}
+use Rattle.nic_device.specs.declared.event.Reply.{Reply}
+use Rattle.nic_device.specs.declared.event.Reply.TheVariants.{Wrote, Advanced, Sent}
+
+-- what may change: something in the registers, the bytes of lent blocks, under which numbers blocks are lent, the
+-- staged bytes of queues, the frames that wait, the frames out, and the link
+pub record Reach : Type 0 where
+  pub registers : Footprint
+  pub blocks : ℕ → Bool
+  pub lent : ℕ → Bool
+  pub staged : ℕ → Bool
+  pub waiting : Bool
+  pub out : Bool
+  pub link : Bool
+
+-- all that isn't in the reach is as it was, and so is the configuration
+pub record StaysWithin (r : Reach) (old new : State) : Type 0 where
+  pub registers : ChangesWithin r.registers old.registers new.registers
+  pub blocks : (number : ℕ) → IsFalse (r.blocks number) → map.get new.memory number ≡ map.get old.memory number
+  pub lent : (number : ℕ) → IsFalse (r.lent number) → has_block new.memory number ≡ has_block old.memory number
+  pub staged : (queue : ℕ) → IsFalse (r.staged queue) → staged_by new queue ≡ staged_by old queue
+  pub waiting : IsFalse r.waiting → new.waiting ≡ old.waiting
+  pub out : IsFalse r.out → new.out ≡ old.out
+  pub link : IsFalse r.link → new.link ≡ old.link
+  pub vfs : new.vfs ≡ old.vfs
+  pub fifo : new.fifo ≡ old.fifo
+
+abbrev pub nowhere : Reach
+nowhere = record {
+  registers = nothing;
+  blocks = λ number. false;
+  lent = λ number. false;
+  staged = λ queue. false;
+  waiting = false;
+  out = false;
+  link = false;
+}
+
+-- something in the registers alone
+abbrev pub in_registers : Footprint → Reach
+in_registers f = record nowhere { registers = f }
+
+-- one block, which comes or goes
+abbrev pub the_block : ℕ → Reach
+the_block number = record nowhere { blocks = λ other. other == number; lent = λ other. other == number }
+
+-- a read of a place, or of none
+abbrev pub read_reach : Option Place → Reach
+read_reach None = nowhere
+read_reach (Some p) = in_registers (of_read p)
+
+-- a reset leaves lent memory, frames out and the link
+abbrev pub reset_reach : Reach
+reset_reach = record nowhere { registers = everything; staged = λ queue. true; waiting = true }
+
+-- a write of a word to a place, or to none
+abbrev pub write_reach : Option Place → ℕ → Reach
+write_reach None word = nowhere
+write_reach (Some p) word = if asks_reset (row_of p.row).kind word then reset_reach else in_registers (of_write p)
+
+-- whether a block has some of so many bytes from an address on
+abbrev pub has_some_of : ℕ → ℕ → ℕ → Bool
+has_some_of number address len = nat_lt (2048 * number) (address + len) && nat_lt address (2048 * number + 2048)
+
+-- the blocks with the descriptor and the bytes that a reply says were received
+abbrev pub received_into : Reply Block → ℕ → Bool
+received_into (Wrote queue slot end desc at len) number = has_some_of number desc 16 || has_some_of number at len
+received_into other number = false
+
+-- what counting and raising causes change
+abbrev pub counts_and_causes : Footprint
+counts_and_causes = either counters any_pending
+
+-- a step of receiving: the receive side that the first frame waits for, and where its bytes go
+abbrev pub receive_reach : List Waiting → Reply Block → Reach
+receive_reach [] reply = nowhere
+receive_reach (w ∷ others) reply = record nowhere {
+  registers = either (of_side Rx w.queue) counts_and_causes;
+  blocks = received_into reply;
+  waiting = true;
+}
+
+-- the address that a reply says was written back
+abbrev pub told_back : Reply Block → Option ℕ
+told_back (Advanced queue slot back) = back
+told_back (Sent queue len back) = back
+told_back other = None
+
+-- the blocks with some of so many bytes that are written back, where they are
+abbrev pub back_into : Option ℕ → ℕ → ℕ → Bool
+back_into (Some back) len number = has_some_of number back len
+back_into None len number = false
+
+-- a step of transmitting: its transmit side with its staged bytes, where it writes back, and the frames out
+abbrev pub transmit_reach : State → ℕ → Reply Block → Reach
+transmit_reach s queue reply = record nowhere {
+  registers = either (of_side Tx queue) counts_and_causes;
+  blocks = back_into (told_back reply) (report_length (transmit_queue_of s.registers queue).writeback);
+  staged = λ other. other == queue;
+  out = true;
+}
+
+-- a step of a side's enable: the side, with its staged bytes or the frame that it wrote in part
+abbrev pub switch_reach : Dir → ℕ → Reach
+switch_reach Rx queue = record nowhere { registers = of_side Rx queue; waiting = true }
+switch_reach Tx queue = record nowhere { registers = of_side Tx queue; staged = λ other. other == queue }
+
+-- what an event may change, by the reply to it
+abbrev pub reach_by : State → Event Block → Reply Block → Reach
+reach_by s (event.Read Pf address) reply = read_reach (place_among runs address)
+reach_by s (event.Write Pf address word) reply = write_reach (place_among runs address) word
+reach_by s (event.Lend block) reply = the_block block.number
+reach_by s (event.Take number) reply = the_block number
+reach_by s (event.Peek16 address) reply = nowhere
+reach_by s (event.Poke16 address bytes) reply =
+    record nowhere { blocks = λ number. has_some_of number address (length bytes) }
+reach_by s (event.Arrive frame) reply =
+    record nowhere { registers = either counters (pending group.Pf); waiting = true }
+reach_by s event.RxStep reply = receive_reach s.waiting reply
+reach_by s (event.TxStep queue) reply = transmit_reach s queue reply
+reach_by s (event.IntStep g) reply = in_registers (pending g)
+reach_by s (event.QueueStep dir queue) reply = switch_reach dir queue
+reach_by s (event.Link up) reply = record nowhere { registers = pending group.Pf; link = true }
+reach_by s event.Collect reply = record nowhere { out = true }
+
+abbrev pub reach_of : State → Event Block → Reach
+reach_of s e = reach_by s e (step_of s e).reply

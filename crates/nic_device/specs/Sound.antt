@@ -1,0 +1,85 @@
+-- What is true of a device between two events, whatever the events before, and of each event that a driver can make.
+use Rattle.std.specs.Prelude.{ℕ, ◌≡◌, ◌<◌, ◌≤◌, ◌^◌, List, [], ◌∷◌, length, All, ⊤, Some}
+use Rattle.std.specs.FinMap as map
+use Rattle.dma_arena.specs.Block.{Block}
+use Rattle.dma_arena.specs.Memory.{Memory, IsWhole}
+use Rattle.intr_unit.specs.declared.group.Group.{Group}
+use Rattle.register_file.specs.Groups.{index_of}
+use Rattle.register_file.specs.Sound.{AreSound}
+use Rattle.nic_device.specs.State.{State, Waiting}
+use Rattle.nic_device.specs.declared.event.Event.{Event}
+use Rattle.nic_device.specs.declared.event.Event.TheVariants as event
+use Rattle.nic_device.specs.declared.event.Port.TheVariants.{Pf}
+
+-- each is a byte
+abbrev pub AreBytes : List ℕ → Type 0
+AreBytes bytes = All (λ byte. byte < 256) bytes
+
+-- each lent block has 2,048 bytes, and a number below 65,536
+pub record AreBlocks (m : Memory) : Type 0 where
+  pub whole : IsWhole m
+  pub bytes : (number : ℕ) (block : List ℕ) → map.get m number ≡ Some block → AreBytes block
+
+-- a frame that waits, of which no more is written than it has: its queue is below 128, and descriptors have room for
+-- its hash and its RSS type
+pub record IsWaiting (w : Waiting) : Type 0 where
+  pub bytes : AreBytes w.frame
+  pub queue : w.queue < 128
+  pub hash : w.hash < 2 ^ 32
+  pub rss : w.rss < 16
+  pub offset : w.offset ≤ length w.frame
+
+-- a frame that waits, of which nothing is written
+pub record IsUnbegun (w : Waiting) : Type 0 where
+  pub waits : IsWaiting w
+  pub none : w.offset ≡ 0
+
+-- of the frames that wait only the first may be written in part
+abbrev pub AreWaiting : List Waiting → Type 0
+AreWaiting [] = ⊤
+AreWaiting (w ∷ others) = IsWaiting w × All IsUnbegun others
+
+-- the staged bytes of a queue are no more than the longest frame limit
+abbrev pub IsStaged : List ℕ → Type 0
+IsStaged bytes = length bytes ≤ 65535
+
+-- each of the 128 queues has its staged bytes
+pub record AreStaged (staged : List (List ℕ)) : Type 0 where
+  pub queues : length staged ≡ 128
+  pub short : All IsStaged staged
+
+-- what every event keeps: the registers are sound and the lent blocks whole, each frame that waits has its queue and
+-- only the first is begun, each queue stages no more than a frame, there are no more virtual functions than a device can
+-- have, and no more frames wait than the receive list takes
+pub record IsSound (s : State) : Type 0 where
+  pub registers : AreSound s.registers
+  pub blocks : AreBlocks s.memory
+  pub waiting : AreWaiting s.waiting
+  pub room : length s.waiting ≤ s.fifo
+  pub staged : AreStaged s.staged
+  pub vfs : s.vfs ≤ 63
+  pub some : 0 < s.fifo
+  pub few : s.fifo ≤ 4096
+
+-- a block that can be lent
+pub record IsBlock (block : Block) : Type 0 where
+  pub number : block.number < 65536
+  pub size : length block.bytes ≡ 2048
+  pub bytes : AreBytes block.bytes
+
+-- what a driver can make: addresses and words are of 32 bits, a block is whole, 16 bytes are written, and numbers of
+-- queues and of virtual functions fit their types
+abbrev pub IsEvent : Event Block → Type 0
+IsEvent (event.Read Pf address) = address < 2 ^ 32
+IsEvent (event.Write Pf address word) = (address < 2 ^ 32) × (word < 2 ^ 32)
+IsEvent (event.Lend block) = IsBlock block
+IsEvent (event.Take number) = number < 2 ^ 32
+IsEvent (event.Peek16 address) = address < 2 ^ 32
+IsEvent (event.Poke16 address bytes) = (address < 2 ^ 32) × (length bytes ≡ 16) × AreBytes bytes
+IsEvent (event.Arrive frame) = AreBytes frame
+IsEvent event.RxStep = ⊤
+IsEvent (event.TxStep queue) = queue < 2 ^ 16
+IsEvent (event.IntStep group) = index_of group < 2 ^ 8
+IsEvent (event.QueueStep dir queue) = queue < 2 ^ 16
+IsEvent (event.Link up) = ⊤
+IsEvent event.Collect = ⊤

@@ -10,9 +10,9 @@ use Rattle.std.proofs.lemmas.List.Elements.{All-nil, All-cons, All-head, All-tai
 use Rattle.dma_arena.specs.Block.{Block}
 use Rattle.dma_arena.specs.Memory.{Memory, has_block, with_byte, set_byte, write_at, IsWhole}
 use Rattle.dma_arena.proofs.Bus.{get-insert_same, get-insert_other, get-remove_same, get-remove_other, IsWhole-write_at}
-use Rattle.dma_arena.proofs.Blocks.{IsWhole-remove}
+use Rattle.dma_arena.proofs.Moves.{IsWhole-insert, IsWhole-remove}
 use Rattle.dma_ring.specs.Descriptor.{of_halves}
-use Rattle.nic_device.specs.Sound.{AreBytes, AreBlocks, IsBlock}
+use Rattle.nic_device.specs.Sound.{AreBytes, AreBlocks, IsLendable}
 
 -- the bytes of a word
 byte-small : (at word : ℕ) → byte_at at word < 256
@@ -48,26 +48,9 @@ HasBytes-insert m number bytes h small other block got =
       | inr n ↦ h other block (sym (get-insert_other m number bytes other n) ∙ got)
     ]
 
-size-insert : (m : Memory) (b : Block) → IsWhole m → IsBlock b → (other : ℕ) (block : List ℕ)
-    → map.get (map.insert m b.number b.bytes) other ≡ Some block → length block ≡ 2048
-size-insert m b whole is other block got =
-    elim (cases_eq other b.number) as (λ _. length block ≡ 2048) [
-      | inl e ↦ let same : Some b.bytes ≡ Some block = sym (rw e (get-insert_same m b.number b.bytes)) ∙ got in
-          let one : b.bytes ≡ block = cc in sym (ap length one) ∙ is.size
-      | inr n ↦ whole.size other block (sym (get-insert_other m b.number b.bytes other n) ∙ got)
-    ]
-
-small-insert : (m : Memory) (b : Block) → IsWhole m → IsBlock b → (other : ℕ)
-    → has_block (map.insert m b.number b.bytes) other ≡ true → other < 65536
-small-insert m b whole is other there =
-    elim (cases_eq other b.number) as (λ _. other < 65536) [
-      | inl e ↦ subst (λ n. n < 65536) (sym e) is.number
-      | inr n ↦ whole.small other (sym (ap is_some (get-insert_other m b.number b.bytes other n)) ∙ there)
-    ]
-
-pub AreBlocks-insert : (m : Memory) (b : Block) → AreBlocks m → IsBlock b → AreBlocks (map.insert m b.number b.bytes)
+pub AreBlocks-insert : (m : Memory) (b : Block) → AreBlocks m → IsLendable b → AreBlocks (map.insert m b.number b.bytes)
 AreBlocks-insert m b h is = record {
-  whole = record { size = size-insert m b h.whole is; small = small-insert m b h.whole is };
+  whole = IsWhole-insert m b.number b.bytes h.whole is.whole;
   bytes = HasBytes-insert m b.number b.bytes h.bytes is.bytes;
 }
 
@@ -116,9 +99,7 @@ AreBlocks-write_at m a bytes h small = record {
 pub AreBlocks-empty : AreBlocks map.empty
 AreBlocks-empty = record {
   whole = record {
-    size = λ number block got. let no : None ≡ Some block = sym (map.get-empty nat_cmp number) ∙ got in cc;
-    small = λ number there.
-        let no : false ≡ true = sym (ap is_some (map.get-empty nat_cmp number)) ∙ there in absurd (cc);
+    block = λ number block got. let no : None ≡ Some block = sym (map.get-empty nat_cmp number) ∙ got in absurd (cc);
   };
   bytes = λ number block got. let no : None ≡ Some block = sym (map.get-empty nat_cmp number) ∙ got in absurd (cc);
 }

@@ -1,7 +1,7 @@
 -- What is true of a device between two events, whatever the events before, and of each event that a driver can make.
 use Rattle.std.specs.Prelude.{ℕ, ◌≡◌, ◌<◌, ◌≤◌, ◌^◌, List, [], ◌∷◌, length, All, ⊤, Some}
 use Rattle.std.specs.FinMap as map
-use Rattle.dma_arena.specs.Block.{Block}
+use Rattle.dma_arena.specs.Block.{Block, IsBlock}
 use Rattle.dma_arena.specs.Memory.{Memory, IsWhole}
 use Rattle.intr_unit.specs.declared.group.Group.{Group}
 use Rattle.register_file.specs.Groups.{index_of}
@@ -62,9 +62,8 @@ pub record IsSound (s : State) : Type 0 where
   pub few : s.fifo ≤ 4096
 
 -- a block that can be lent
-pub record IsBlock (block : Block) : Type 0 where
-  pub number : block.number < 65536
-  pub size : length block.bytes ≡ 2048
+pub record IsLendable (block : Block) : Type 0 where
+  pub whole : IsBlock block
   pub bytes : AreBytes block.bytes
 
 -- what a driver can make: addresses and words are of 32 bits, a block is whole, 16 bytes are written, and numbers of
@@ -72,7 +71,7 @@ pub record IsBlock (block : Block) : Type 0 where
 abbrev pub IsEvent : Event Block → Type 0
 IsEvent (event.Read Pf address) = address < 2 ^ 32
 IsEvent (event.Write Pf address word) = (address < 2 ^ 32) × (word < 2 ^ 32)
-IsEvent (event.Lend block) = IsBlock block
+IsEvent (event.Lend block) = IsLendable block
 IsEvent (event.Take number) = number < 2 ^ 32
 IsEvent (event.Peek16 address) = address < 2 ^ 32
 IsEvent (event.Poke16 address bytes) = (address < 2 ^ 32) × (length bytes ≡ 16) × AreBytes bytes

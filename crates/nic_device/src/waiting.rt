@@ -14,7 +14,7 @@ use rx_ring::Item;
 use std::marker::Model;
 
 /// A frame that waits to be received: its bytes, its queue, its hash with the type, and how many of its bytes are
-/// written.
+/// written. Beside them stands the first half that all its descriptors get, so that it is classified once and not for each.
 #[derive(Drop)]
 pub(crate) struct Waiting {
     frame: Octets,
@@ -22,10 +22,13 @@ pub(crate) struct Waiting {
     hash: u32,
     rss: u8,
     offset: usize,
+    first: u64,
 }
 
 impl Model for Waiting {
-    ghost use Rattle.std.specs.Prelude.{◌<◌, ◌≤◌, length};
+    ghost use Rattle.std.specs.Prelude.{◌≡◌, ◌<◌, ◌≤◌, length};
+    ghost use Rattle.dma_ring.specs.Receive.{told_of};
+    ghost use Rattle.nic_device.specs.Receive.{packet_of};
     ghost use Rattle.nic_device.specs.State.{Waiting, waiting_code};
 
     ghost Value = { Waiting };
@@ -34,7 +37,11 @@ impl Model for Waiting {
 
     ghost view = { λ w. record { frame = w.frame; queue = w.queue; hash = w.hash; rss = w.rss; offset = w.offset } };
 
-    ghost invariant = { λ w. (w.offset ≤ length w.frame) × (w.queue < 128) };
+    ghost invariant = { λ w.
+      (w.offset ≤ length w.frame) × (w.queue < 128) ×
+      (w.first ≡ told_of (packet_of (record {
+        frame = w.frame; queue = w.queue; hash = w.hash; rss = w.rss; offset = w.offset
+      }))) };
 }
 
 impl Waiting {
@@ -43,12 +50,14 @@ impl Waiting {
         requires { target.queue < 128 }
         ensures { result ≡ let_in frame target }
     {
+        let first = packet_word(&packet(frame.bytes(), &target));
         Waiting {
             frame,
             queue: target.queue,
             hash: target.hash,
             rss: target.rss,
             offset: 0,
+            first,
         }
     }
 
@@ -67,21 +76,6 @@ impl Waiting {
         self.offset != 0
     }
 
-    /// What descriptors tell of it.
-    fn packet(&self) -> Packet
-        ensures { result ≡ packet_of self.now }
-    {
-        let flow = classify(self.frame.bytes());
-        Packet {
-            rss: self.rss,
-            ipv4: flow.version == 4,
-            ipv6: flow.version == 6,
-            tcp: flow.tcp,
-            udp: flow.udp,
-            hash: self.hash,
-        }
-    }
-
     /// What is left to write of it.
     pub(crate) fn item(&self) -> Item<'_>
         ensures rest { rest_of result ≡ rest_of_waiting self.now }
@@ -91,7 +85,7 @@ impl Waiting {
         Item {
             frame: self.frame.bytes(),
             offset: self.offset,
-            first: packet_word(&self.packet()),
+            first: self.first,
         }
     }
 
@@ -106,6 +100,7 @@ impl Waiting {
             hash,
             rss,
             offset,
+            first,
         } = self;
         Waiting {
             frame,
@@ -113,6 +108,22 @@ impl Waiting {
             hash,
             rss,
             offset: offset + len,
+            first,
         }
+    }
+}
+
+/// What descriptors tell of a frame that was let in.
+fn packet(frame: &[u8], target: &Target) -> Packet
+    ensures { result ≡ packet_of (let_in frame.now target.now) }
+{
+    let flow = classify(frame);
+    Packet {
+        rss: target.rss,
+        ipv4: flow.version == 4,
+        ipv6: flow.version == 6,
+        tcp: flow.tcp,
+        udp: flow.udp,
+        hash: target.hash,
     }
 }

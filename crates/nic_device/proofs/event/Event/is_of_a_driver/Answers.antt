@@ -4,8 +4,7 @@ use Rattle.nic_device.proofs.event.Event.is_of_a_driver.Goals as goal
 
 pub returns-in-Lend : goal.returns-in-Lend
 returns-in-Lend c = subst IsEvent (sym c.in-Lend.is) (record {
-  number = subst (λ n. n < 65536) c.block-number.ensures.number c.block-number.ensures.small;
-  size = c.bytes.ensures.whole;
+  whole = c.bytes.ensures.whole;
   bytes = subst AreBytes c.bytes.ensures.value c.are_bytes.ensures;
 })
 

@@ -38,10 +38,14 @@ impl Model for Waiting {
     ghost view = { λ w. record { frame = w.frame; queue = w.queue; hash = w.hash; rss = w.rss; offset = w.offset } };
 
     ghost invariant = { λ w.
-      (w.offset ≤ length w.frame) × (w.queue < 128) ×
-      (w.first ≡ told_of (packet_of (record {
-        frame = w.frame; queue = w.queue; hash = w.hash; rss = w.rss; offset = w.offset
-      }))) };
+        (w.offset ≤ length w.frame) × (w.queue < 128) ×
+        (w.first ≡ told_of (packet_of (record {
+          frame = w.frame;
+          queue = w.queue;
+          hash = w.hash;
+          rss = w.rss;
+          offset = w.offset;
+        }))) };
 }
 
 impl Waiting {

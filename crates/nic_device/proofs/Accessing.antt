@@ -6,7 +6,6 @@ use Rattle.reg_table.specs.Rows.{row_of}
 use Rattle.reg_table.specs.Runs.{runs}
 use Rattle.reg_table.specs.declared.place.Place.{Place}
 use Rattle.register_file.specs.Access.{asks_reset, after_read}
-use Rattle.register_file.specs.Columns.{place}
 use Rattle.register_file.specs.Laws.{after_write}
 use Rattle.register_file.specs.Registers.{reset_registers}
 use Rattle.register_file.proofs.Sound.{sound-after_read, sound-written, sound-reset}

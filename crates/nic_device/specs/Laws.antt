@@ -1,5 +1,5 @@
 -- What the device promises a driver author, whatever happened before. `view` is the bits that an address shows.
-use Rattle.std.specs.Prelude.{ℕ, ◌≡◌, ◌≢◌, ◌<◌, ◌≤◌, ◌==◌, Bool, true, false, ⊤, IsTrue, IsFalse, List, [], ◌∷◌, take, drop, length, bit_and, if◌then◌else◌}
+use Rattle.std.specs.Prelude.{ℕ, ◌≡◌, ◌≢◌, ◌<◌, ◌≤◌, ◌==◌, Bool, ⊤, IsTrue, IsFalse, List, [], ◌∷◌, take, drop, bit_and, if◌then◌else◌}
 use Rattle.reg_table.specs.Rows.{row_of}
 use Rattle.reg_table.specs.Runs.{runs}
 use Rattle.reg_table.specs.Place.{Names, view_among}
@@ -29,7 +29,7 @@ use Rattle.nic_device.specs.declared.event.Event.{Event}
 use Rattle.nic_device.specs.declared.event.Event.TheVariants as event
 use Rattle.nic_device.specs.declared.event.Port.TheVariants.{Pf}
 use Rattle.nic_device.specs.declared.event.Reply.{Reply}
-use Rattle.nic_device.specs.declared.event.Reply.TheVariants.{Word, Stray, Done, Idle, Wrote, Fault}
+use Rattle.nic_device.specs.declared.event.Reply.TheVariants.{Word, Stray, Done, Idle, Wrote}
 
 -- the state after an event, and the reply to it
 abbrev pub after : State → Event Block → State

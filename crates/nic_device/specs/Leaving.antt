@@ -1,5 +1,5 @@
 -- What an event leaves alone: all that its reach misses.
-use Rattle.std.specs.Prelude.{ℕ, ◌≡◌, ◌≢◌, ◌⊎◌, Bool, ⊤, IsFalse, List, [], ◌∷◌, length, Option, Some}
+use Rattle.std.specs.Prelude.{ℕ, ◌≡◌, ◌≢◌, ◌⊎◌, Bool, ⊤, IsFalse, List, [], ◌∷◌, length, Some}
 use Rattle.std.specs.FinMap as map
 use Rattle.reg_table.specs.Place.{Names}
 use Rattle.reg_table.specs.Rows.{row_of}

@@ -3,7 +3,6 @@ use Rattle.std.specs.Prelude.{ℕ, ◌≡◌, ◌<◌, ◌≤◌, ◌^◌, List,
 use Rattle.std.specs.FinMap as map
 use Rattle.dma_arena.specs.Block.{Block, IsBlock}
 use Rattle.dma_arena.specs.Memory.{Memory, IsWhole}
-use Rattle.intr_unit.specs.declared.group.Group.{Group}
 use Rattle.register_file.specs.Groups.{index_of}
 use Rattle.register_file.specs.Sound.{AreSound}
 use Rattle.nic_device.specs.State.{State, Waiting}

@@ -5,6 +5,10 @@ pub mod Blocks
 pub mod Cases
 pub mod Coming
 pub mod Counted
+pub mod Counting
+pub mod CountingSent
+pub mod Counts
+pub mod CountsKept
 pub mod Delivered
 pub mod Fetched
 pub mod Fetches

@@ -1,6 +1,7 @@
 pub mod Access
 pub mod Arrival
 pub mod Config
+pub mod Counting
 pub mod Footprint
 pub mod Laws
 pub mod Interrupt

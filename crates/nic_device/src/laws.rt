@@ -2,6 +2,7 @@
 //! of the definitions that the contract of `Device::step` cites.
 
 ghost use Rattle.nic_device.specs.Laws.{NewDeviceIsSound, EventKeepsSound, ToldIsPending, NewDeviceReadsResetValues, WriteShowsAtEachAddress, WriteLeavesOtherRegisters, ReadChangesNothing, StrayAccessChangesNothing, ReadCounterStartsAgain, LetInFrameIsCounted, AskedResetResets, OtherEventsKeepSettings, PieceIsReadBack, FaultChangesNoMemory, StoppedDeviceIsIdle};
+ghost use Rattle.nic_device.specs.Counting.{EventsCount};
 ghost use Rattle.nic_device.specs.Leaving.{EventStaysWithinReach, EventLeavesMissed, OtherEventsKeepBlocks, ReadLeavesTheRest, WriteLeavesTheRest, WriteLeavesMemory, MemoryCallsLeaveTheRest, MemoryCallsLeaveOtherBlocks, ArrivalLeavesTheRest, ReceivingLeavesTheRest, ReceivingLeavesOtherBlocks, TransmittingLeavesTheRest, TransmittingLeavesOtherBlocks, SwitchingLeavesTheRest, MessageLeavesTheRest, LinkLeavesTheRest, CollectingLeavesTheRest};
 
 /// A new device is sound, and every event that a driver can make keeps it so.
@@ -48,6 +49,13 @@ pub fn read_counter_starts_again()
 /// A frame that is let in is counted in GPRC, so that the next read gives one more. The largest word, 0xFFFFFFFF, stays.
 pub fn let_in_frame_is_counted()
     ensures { LetInFrameIsCounted }
+{}
+
+/// MPC counts the frames that find the list full, RUC those too short, ROC those too long, GPRC those let in, GPTC those
+/// that go out; QPRC, QPRDC and QPTC count those of queues in the counters that RQSMR and TQSM name, written to their
+/// end, dropped for want of a slot, and gone out. Nothing else changes a counter but a read of it and a reset.
+pub fn events_count()
+    ensures { EventsCount }
 {}
 
 /// A write that asks for a reset gives each register its reset value, wants no side of a queue on, tells no bit, and

@@ -3,6 +3,10 @@ pub mod Accessing
 pub mod Arriving
 pub mod Blocks
 pub mod Cases
+pub mod Caused
+pub mod Causes
+pub mod CausesKept
+pub mod CausesReported
 pub mod Coming
 pub mod Counted
 pub mod Counting

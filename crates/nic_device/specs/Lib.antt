@@ -9,6 +9,7 @@ pub mod Leaving
 pub mod Lending
 pub mod Link
 pub mod Outcome
+pub mod Raising
 pub mod Receive
 pub mod Run
 pub mod Sound

@@ -3,6 +3,7 @@
 
 ghost use Rattle.nic_device.specs.Laws.{NewDeviceIsSound, EventKeepsSound, ToldIsPending, NewDeviceReadsResetValues, WriteShowsAtEachAddress, WriteLeavesOtherRegisters, ReadChangesNothing, StrayAccessChangesNothing, ReadCounterStartsAgain, LetInFrameIsCounted, AskedResetResets, OtherEventsKeepSettings, PieceIsReadBack, FaultChangesNoMemory, StoppedDeviceIsIdle};
 ghost use Rattle.nic_device.specs.Counting.{EventsCount};
+ghost use Rattle.nic_device.specs.Raising.{EventsRaise};
 ghost use Rattle.nic_device.specs.Leaving.{EventStaysWithinReach, EventLeavesMissed, OtherEventsKeepBlocks, ReadLeavesTheRest, WriteLeavesTheRest, WriteLeavesMemory, MemoryCallsLeaveTheRest, MemoryCallsLeaveOtherBlocks, ArrivalLeavesTheRest, ReceivingLeavesTheRest, ReceivingLeavesOtherBlocks, TransmittingLeavesTheRest, TransmittingLeavesOtherBlocks, SwitchingLeavesTheRest, MessageLeavesTheRest, LinkLeavesTheRest, CollectingLeavesTheRest};
 
 /// A new device is sound, and every event that a driver can make keeps it so.
@@ -56,6 +57,14 @@ pub fn let_in_frame_is_counted()
 /// end, dropped for want of a slot, and gone out. Nothing else changes a counter but a read of it and a reset.
 pub fn events_count()
     ensures { EventsCount }
+{}
+
+/// A frame that finds the list full raises bit 17 of the physical function's causes, a fault bit 18 and a change of the
+/// link bit 20. A frame that is written to its end raises what IVAR or PVTIVAR says of its receive queue, and a report
+/// that is written back what they say of its transmit queue, in the queue's group. No other event but accesses and
+/// messages changes a group's interrupts, and these change nothing of any other group.
+pub fn events_raise()
+    ensures { EventsRaise }
 {}
 
 /// A write that asks for a reset gives each register its reset value, wants no side of a queue on, tells no bit, and

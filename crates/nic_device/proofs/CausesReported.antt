@@ -16,8 +16,7 @@ use Rattle.register_file.specs.Sound.{HasShape}
 use Rattle.register_file.specs.declared.dir.Dir.TheVariants.{Tx}
 use Rattle.register_file.proofs.Shape.{HasShape-put}
 use Rattle.nic_device.specs.Interrupt.{raised_by}
-use Rattle.nic_device.specs.Outcome.{Outcome}
-use Rattle.nic_device.specs.Raising.{raises, raised_reported, raised_sent, after_causes, queue_cause}
+use Rattle.nic_device.specs.Raising.{raised_reported, raised_sent, after_causes, queue_cause}
 use Rattle.nic_device.specs.Sound.{IsSound}
 use Rattle.nic_device.specs.State.{State}
 use Rattle.nic_device.specs.Transmit.{slot_counted, slot_reported, fetched_reply}

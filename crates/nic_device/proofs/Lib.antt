@@ -27,6 +27,10 @@ pub mod Pieces
 pub mod Queued
 pub mod Raising
 pub mod Receiving
+pub mod RepliesOut
+pub mod RepliesReceived
+pub mod RepliesSent
+pub mod Reporting
 pub mod Resetting
 pub mod Sending
 pub mod Settings

@@ -11,6 +11,7 @@ pub mod Link
 pub mod Outcome
 pub mod Raising
 pub mod Receive
+pub mod Replies
 pub mod Run
 pub mod Sound
 pub mod State

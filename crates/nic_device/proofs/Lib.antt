@@ -3,8 +3,16 @@ pub mod Accessing
 pub mod Arriving
 pub mod Blocks
 pub mod Cases
+pub mod Caused
+pub mod Causes
+pub mod CausesKept
+pub mod CausesReported
 pub mod Coming
 pub mod Counted
+pub mod Counting
+pub mod CountingSent
+pub mod Counts
+pub mod CountsKept
 pub mod Delivered
 pub mod Fetched
 pub mod Fetches
@@ -19,6 +27,10 @@ pub mod Pieces
 pub mod Queued
 pub mod Raising
 pub mod Receiving
+pub mod RepliesOut
+pub mod RepliesReceived
+pub mod RepliesSent
+pub mod Reporting
 pub mod Resetting
 pub mod Sending
 pub mod Settings

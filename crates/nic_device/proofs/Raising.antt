@@ -30,7 +30,7 @@ of_step dir queue = either (of_side dir queue) counts_and_causes
 covers-side : (dir : Dir) (queue : ℕ) → Covers (of_step dir queue) (of_side dir queue)
 covers-side dir queue = covers-first (of_side dir queue) counts_and_causes
 
-covers-counters : (dir : Dir) (queue : ℕ) → Covers (of_step dir queue) counters
+pub covers-counters : (dir : Dir) (queue : ℕ) → Covers (of_step dir queue) counters
 covers-counters dir queue =
     covers-trans (of_step dir queue) counts_and_causes counters (covers-second (of_side dir queue) counts_and_causes)
     (covers-first counters any_pending)
@@ -40,7 +40,7 @@ covers-causes dir queue =
     covers-trans (of_step dir queue) counts_and_causes any_pending (covers-second (of_side dir queue) counts_and_causes)
     (covers-second counters any_pending)
 
-comes-itself : {good : Type 0} (f : Footprint) (r : Registers) → Comes good f r r
+pub comes-itself : {good : Type 0} (f : Footprint) (r : Registers) → Comes good f r r
 comes-itself f r = record { sound = λ is h. h; within = within-refl f r }
 
 -- the head moves on, and a fault shuts the side
@@ -49,7 +49,7 @@ covers-head : (dir : Dir) (queue : ℕ) → Covers (of_side dir queue) (the_word
 covers-head Rx queue = covers-the_word (place (head_row Rx) queue)
 covers-head Tx queue = covers-the_word (place (head_row Tx) queue)
 
-head_moved : {good : Type 0} (r : Registers) (dir : Dir) (queue head : ℕ) → (good → head < 2 ^ 16)
+pub head_moved : {good : Type 0} (r : Registers) (dir : Dir) (queue head : ℕ) → (good → head < 2 ^ 16)
     → Comes good (of_step dir queue) r (with_head r dir queue head)
 head_moved r dir queue head small =
     then_within (of_step dir queue) (the_word (place (head_row dir) queue)) r r (with_head r dir queue head)
@@ -92,7 +92,7 @@ piece-comes r vfs queue f =
 
 -- a fetched slot
 
-slot_counted-comes : (r : Registers) (queue : ℕ) (f : Fetched) (o : Option (List ℕ))
+pub slot_counted-comes : (r : Registers) (queue : ℕ) (f : Fetched) (o : Option (List ℕ))
     → Comes (f.head < 2 ^ 16) (of_step Tx queue) r (slot_counted r queue f o)
 slot_counted-comes r queue f (Some frame) =
     let moved = with_head r Tx queue f.head in

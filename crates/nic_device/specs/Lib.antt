@@ -1,6 +1,7 @@
 pub mod Access
 pub mod Arrival
 pub mod Config
+pub mod Counting
 pub mod Footprint
 pub mod Laws
 pub mod Interrupt
@@ -8,7 +9,9 @@ pub mod Leaving
 pub mod Lending
 pub mod Link
 pub mod Outcome
+pub mod Raising
 pub mod Receive
+pub mod Replies
 pub mod Run
 pub mod Sound
 pub mod State

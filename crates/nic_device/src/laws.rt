@@ -2,6 +2,9 @@
 //! of the definitions that the contract of `Device::step` cites.
 
 ghost use Rattle.nic_device.specs.Laws.{NewDeviceIsSound, EventKeepsSound, ToldIsPending, NewDeviceReadsResetValues, WriteShowsAtEachAddress, WriteLeavesOtherRegisters, ReadChangesNothing, StrayAccessChangesNothing, ReadCounterStartsAgain, LetInFrameIsCounted, AskedResetResets, OtherEventsKeepSettings, PieceIsReadBack, FaultChangesNoMemory, StoppedDeviceIsIdle};
+ghost use Rattle.nic_device.specs.Counting.{EventsCount};
+ghost use Rattle.nic_device.specs.Raising.{EventsRaise};
+ghost use Rattle.nic_device.specs.Replies.{ReceivingTells, TransmittingTells, EventsMoveFramesOut, MisalignedChangesNothing};
 ghost use Rattle.nic_device.specs.Leaving.{EventStaysWithinReach, EventLeavesMissed, OtherEventsKeepBlocks, ReadLeavesTheRest, WriteLeavesTheRest, WriteLeavesMemory, MemoryCallsLeaveTheRest, MemoryCallsLeaveOtherBlocks, ArrivalLeavesTheRest, ReceivingLeavesTheRest, ReceivingLeavesOtherBlocks, TransmittingLeavesTheRest, TransmittingLeavesOtherBlocks, SwitchingLeavesTheRest, MessageLeavesTheRest, LinkLeavesTheRest, CollectingLeavesTheRest};
 
 /// A new device is sound, and every event that a driver can make keeps it so.
@@ -48,6 +51,21 @@ pub fn read_counter_starts_again()
 /// A frame that is let in is counted in GPRC, so that the next read gives one more. The largest word, 0xFFFFFFFF, stays.
 pub fn let_in_frame_is_counted()
     ensures { LetInFrameIsCounted }
+{}
+
+/// MPC counts the frames that find the list full, RUC those too short, ROC those too long, GPRC those let in, GPTC those
+/// that go out; QPRC, QPRDC and QPTC count those of queues in the counters that RQSMR and TQSM name, written to their
+/// end, dropped for want of a slot, and gone out. Nothing else changes a counter but a read of it and a reset.
+pub fn events_count()
+    ensures { EventsCount }
+{}
+
+/// A frame that finds the list full raises bit 17 of the physical function's causes, a fault bit 18 and a change of the
+/// link bit 20. A frame that is written to its end raises what IVAR or PVTIVAR says of its receive queue, and a report
+/// that is written back what they say of its transmit queue, in the queue's group. No other event but accesses and
+/// messages changes a group's interrupts, and these change nothing of any other group.
+pub fn events_raise()
+    ensures { EventsRaise }
 {}
 
 /// A write that asks for a reset gives each register its reset value, wants no side of a queue on, tells no bit, and
@@ -124,6 +142,31 @@ pub fn message_leaves_the_rest()
 pub fn link_leaves_the_rest()
     ensures link { LinkLeavesTheRest }
     ensures collect { CollectingLeavesTheRest }
+{}
+
+/// A written slot was the one at the head of the queue that the first frame waits for; after it that receive side is as
+/// it was but for its head, which is the next slot. A fault leaves that side off and not wanted on, and else as it was.
+pub fn receiving_tells()
+    ensures { ReceivingTells }
+{}
+
+/// A step of transmitting names its own queue. After a fetched slot that transmit side is as it was but for its head,
+/// which is the next slot, and a report is told where the queue reports: at its head write-back address while TDWBAL
+/// bit 0 is 1, else at the descriptor. A fault leaves the side off, not wanted on, with nothing staged, and else as it
+/// was.
+pub fn transmitting_tells()
+    ensures { TransmittingTells }
+{}
+
+/// A frame joins the frames out, last of all, exactly where a step of transmitting tells it as sent, with its queue and
+/// its length; the oldest goes exactly where it is collected; no other event changes them.
+pub fn events_move_frames_out()
+    ensures { EventsMoveFramesOut }
+{}
+
+/// A memory call at no multiple of 16 answers that it is misaligned, and changes nothing.
+pub fn misaligned_changes_nothing()
+    ensures { MisalignedChangesNothing }
 {}
 
 /// After a piece of a frame was written, memory has its bytes at the address that was told.

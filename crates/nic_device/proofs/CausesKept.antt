@@ -1,0 +1,37 @@
+-- Words that are of no group leave the interrupts of groups.
+use Rattle.std.proofs.Common.{◌≡◌, ℕ, false, refl}
+use Rattle.reg_table.specs.declared.place.Place.{Place}
+use Rattle.intr_unit.specs.declared.group.Group.{Group}
+use Rattle.register_file.specs.Columns.{place}
+use Rattle.register_file.specs.Footprint.{of_owner, of_side, of_group, the_word}
+use Rattle.register_file.specs.Groups.{interrupts_of}
+use Rattle.register_file.specs.Owner.{owner_of, is_owner}
+use Rattle.register_file.specs.Queue.{head_row, with_head, shut}
+use Rattle.register_file.specs.Registers.{Registers, with_word}
+use Rattle.register_file.specs.declared.dir.Dir.{Dir}
+use Rattle.register_file.specs.declared.dir.Dir.TheVariants.{Rx, Tx}
+use Rattle.register_file.specs.declared.owner.Owner.TheVariants as owner
+use Rattle.register_file.proofs.Footprints.{misses-narrower, misses-owner, covers-the_word}
+use Rattle.register_file.proofs.Stands.{group_stands}
+use Rattle.register_file.proofs.Within.{within-shut}
+use Rattle.register_file.proofs.WithinParts.{within-word}
+
+-- a word of a register that is of no group
+pub word_kept : (r : Registers) (p : Place) (word : ℕ) (g : Group) → is_owner (owner_of p) (owner.Group g) ≡ false
+    → interrupts_of (with_word r p.row p.index word) g ≡ interrupts_of r g
+word_kept r p word g other =
+    group_stands (the_word p) r (with_word r p.row p.index word) g
+    (misses-narrower (of_owner (owner_of p)) (the_word p) (of_group g) (covers-the_word p)
+    (misses-owner (owner_of p) (owner.Group g) other))
+    (within-word r p.row p.index word)
+
+pub shut_kept : (r : Registers) (dir : Dir) (queue : ℕ) (g : Group)
+    → interrupts_of (shut r dir queue) g ≡ interrupts_of r g
+shut_kept r dir queue g =
+    group_stands (of_side dir queue) r (shut r dir queue) g
+    (misses-owner (owner.Side dir queue) (owner.Group g) refl) (within-shut r dir queue)
+
+pub head_kept : (r : Registers) (dir : Dir) (queue head : ℕ) (g : Group)
+    → interrupts_of (with_head r dir queue head) g ≡ interrupts_of r g
+head_kept r Rx queue head g = word_kept r (place (head_row Rx) queue) head g refl
+head_kept r Tx queue head g = word_kept r (place (head_row Tx) queue) head g refl

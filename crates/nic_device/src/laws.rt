@@ -55,8 +55,8 @@ pub fn let_in_frame_is_counted()
 {}
 
 /// MPC counts the frames that find the list full, RUC those too short, ROC those too long, GPRC those let in, GPTC
-/// those that go out; QPRC, QPRDC and QPTC count those of queues in the counters that RQSMR and TQSM name, written to their
-/// end, dropped for want of a slot, and gone out. Nothing else changes a counter but a read of it and a reset.
+/// those that go out; QPRC, QPRDC and QPTC count those of queues in the counters that RQSMR and TQSM name, written to
+/// their end, dropped for want of a slot, and gone out. Nothing else changes a counter but a read of it and a reset.
 pub fn events_count()
     ensures { EventsCount }
 {}

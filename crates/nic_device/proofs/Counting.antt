@@ -125,7 +125,8 @@ piece_counts r vfs queue f h p is =
     (raised_by (frame_counted moved queue) vfs Rx queue) moved
     (raised_keeps (frame_counted moved queue) _ _ p is
     ∙ counted_there moved Qprc (counter_of moved Rx queue) (HasShape-put r (place Rdh queue) f.head h) (omega arith) p
-    ∙ (λ k. with_one (is_place (place Qprc (same_counter r Rx queue f.head k)) p) (head_keeps r Rx queue f.head p is k)))
+    ∙ (λ k. with_one (is_place (place Qprc (same_counter r Rx queue f.head k)) p)
+    (head_keeps r Rx queue f.head p is k)))
     (head_keeps r Rx queue f.head p is)
   where
     either_end : (b : Bool) (P : Bool → Registers → Type 0) (x y : Registers) → P true x → P false y

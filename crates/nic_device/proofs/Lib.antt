@@ -23,6 +23,7 @@ pub mod Leads
 pub mod Lists
 pub mod Memory
 pub mod Missed
+pub mod Order
 pub mod Pieces
 pub mod Queued
 pub mod Raising

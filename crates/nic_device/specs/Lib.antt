@@ -8,6 +8,7 @@ pub mod Interrupt
 pub mod Leaving
 pub mod Lending
 pub mod Link
+pub mod Order
 pub mod Outcome
 pub mod Raising
 pub mod Receive

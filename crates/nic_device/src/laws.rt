@@ -5,6 +5,7 @@ ghost use Rattle.nic_device.specs.Laws.{NewDeviceIsSound, EventKeepsSound, ToldI
 ghost use Rattle.nic_device.specs.Counting.{EventsCount};
 ghost use Rattle.nic_device.specs.Raising.{EventsRaise};
 ghost use Rattle.nic_device.specs.Replies.{ReceivingTells, TransmittingTells, EventsMoveFramesOut, MisalignedChangesNothing};
+ghost use Rattle.nic_device.specs.Order.{ReceivingHasAnOrder, NothingWaitsIsIdle};
 ghost use Rattle.nic_device.specs.Leaving.{EventStaysWithinReach, EventLeavesMissed, OtherEventsKeepBlocks, ReadLeavesTheRest, WriteLeavesTheRest, WriteLeavesMemory, MemoryCallsLeaveTheRest, MemoryCallsLeaveOtherBlocks, ArrivalLeavesTheRest, ReceivingLeavesTheRest, ReceivingLeavesOtherBlocks, TransmittingLeavesTheRest, TransmittingLeavesOtherBlocks, SwitchingLeavesTheRest, MessageLeavesTheRest, LinkLeavesTheRest, CollectingLeavesTheRest};
 
 /// A new device is sound, and every event that a driver can make keeps it so.
@@ -53,9 +54,9 @@ pub fn let_in_frame_is_counted()
     ensures { LetInFrameIsCounted }
 {}
 
-/// MPC counts the frames that find the list full, RUC those too short, ROC those too long, GPRC those let in, GPTC those
-/// that go out; QPRC, QPRDC and QPTC count those of queues in the counters that RQSMR and TQSM name, written to their
-/// end, dropped for want of a slot, and gone out. Nothing else changes a counter but a read of it and a reset.
+/// MPC counts the frames that find the list full, RUC those too short, ROC those too long, GPRC those let in, GPTC
+/// those that go out; QPRC, QPRDC and QPTC count those of queues in the counters that RQSMR and TQSM name, written to
+/// their end, dropped for want of a slot, and gone out. Nothing else changes a counter but a read of it and a reset.
 pub fn events_count()
     ensures { EventsCount }
 {}
@@ -142,6 +143,14 @@ pub fn message_leaves_the_rest()
 pub fn link_leaves_the_rest()
     ensures link { LinkLeavesTheRest }
     ensures collect { CollectingLeavesTheRest }
+{}
+
+/// A step of receiving is idle where no frame waits. The first frame is dropped where its queue is off; without a slot
+/// of the device it is dropped where the queue drops and nothing of it is written, and else waits on; with one the slot
+/// is filled, or has a fault.
+pub fn receiving_has_an_order()
+    ensures order { ReceivingHasAnOrder }
+    ensures nothing { NothingWaitsIsIdle }
 {}
 
 /// A written slot was the one at the head of the queue that the first frame waits for; after it that receive side is as

@@ -7,12 +7,13 @@ use bench::{Outcome, bench};
 use std::{fs, io};
 
 /// The scripts, each with the status that its run ends with.
-const EXAMPLES: [(&str, u8); 8] = [
+const EXAMPLES: [(&str, u8); 9] = [
     ("first", 0),
     ("masks", 0),
     ("aliases", 0),
     ("receive", 0),
     ("rss", 0),
+    ("queue", 0),
     ("send", 0),
     ("interrupts", 0),
     ("fault", 2),

@@ -25,7 +25,7 @@ use std::fmt::Write;
 use std::{fs, io};
 
 /// The tables.
-const TABLES: [&str; 14] = [
+const TABLES: [&str; 17] = [
     "grammar",
     "words",
     "registers",
@@ -39,6 +39,9 @@ const TABLES: [&str; 14] = [
     "transmit",
     "counters",
     "interrupts",
+    "functions",
+    "eeprom_registers",
+    "jumps",
     "hash",
 ];
 

@@ -36,7 +36,8 @@ in_no_word key value k (suc n) o free =
     ∙ in_no_word key value (k + 1) n o (λ w l h. free w (omega arith) (omega arith))
 
 -- one entry has it
-pub in_word : (key : ℕ → ℕ) (value : ℕ → Place) (k n o w : ℕ) → key w ≡ o → k ≤ w → w < k + n → ((y : ℕ) → key y ≡ o → y ≡ w) →
+pub in_word : (key : ℕ → ℕ) (value : ℕ → Place) (k n o w : ℕ) → key w ≡ o → k ≤ w → w < k + n →
+    ((y : ℕ) → key y ≡ o → y ≡ w) →
     place_at (map (λ x. (key x, value x)) (range_with_len k n)) o ≡ Some (value w)
 in_word key value k zero o w e l h one = absurd (omega arith)
 in_word key value k (suc n) o w e l h one =
@@ -101,7 +102,8 @@ in_side c q r first (x ∷ rs) =
     ]
 
 -- an offset that is outside
-pub in_no_side : (c q o : ℕ) (first : RowId) (rs : List RowId) → list_all (λ x. nat_lt (behind first x) 0x40) rs ≡ true →
+pub in_no_side : (c q o : ℕ) (first : RowId) (rs : List RowId) →
+    list_all (λ x. nat_lt (behind first x) 0x40) rs ≡ true →
     ((x : ℕ) → x < 0x40 → c + x ≢ o) → place_at (side_entries c first rs q) o ≡ None
 in_no_side c q o first [] e free = refl
 in_no_side c q o first (x ∷ rs) e free =

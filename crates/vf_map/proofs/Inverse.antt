@@ -54,7 +54,9 @@ pool_within mode v queue e =
     elim (cases_Bool (nat_lt queue all)) [
       | inl t ↦ there mode v queue (ltb-true _ _ t)
           (Some-one (sym (cond-true (nat_lt queue all) (Some (queue / queues_each mode)) None t) ∙ e))
-      | inr f ↦ let none : None ≡ Some v = sym (cond-false (nat_lt queue all) (Some (queue / queues_each mode)) None f) ∙ e in cc
+      | inr f ↦
+          let none : None ≡ Some v = sym (cond-false (nat_lt queue all) (Some (queue / queues_each mode)) None f) ∙ e in
+          cc
     ]
 
 within_pool : (mode : Mode) (v queue : ℕ) → IsWithin (pools_in mode) (queues_each mode) v queue →

@@ -12,14 +12,15 @@ use Rattle.vf_map.proofs.Chains.{in_second, in_either, in_no_word, in_word, in_n
 pub vector_there : (first count o : ℕ) → 0x120 ≤ o → o % 4 ≡ 0 → (o - 0x120) / 4 < count / 2 →
     place_at (vector_entries first count) o ≡ Some (record { row = Pvtivar; index = first / 2 + (o - 0x120) / 4 })
 vector_there first count o l e h =
-    in_word (λ x. 0x120 + 4 * x) (λ x. record { row = Pvtivar; index = first / 2 + x }) 0 (count / 2) o ((o - 0x120) / 4)
-    (omega arith) (omega arith) (omega arith) (λ y s. omega arith)
+    in_word (λ x. 0x120 + 4 * x) (λ x. record { row = Pvtivar; index = first / 2 + x }) 0 (count / 2) o
+    ((o - 0x120) / 4) (omega arith) (omega arith) (omega arith) (λ y s. omega arith)
 
 -- free word of the vectors
 pub vector_absent : (first count o : ℕ) → ((w : ℕ) → w < count / 2 → 0x120 + 4 * w ≢ o) →
     place_at (vector_entries first count) o ≡ None
 vector_absent first count o free =
-    in_no_word (λ x. 0x120 + 4 * x) (λ x. record { row = Pvtivar; index = first / 2 + x }) 0 (count / 2) o (λ w l h. free w (omega arith))
+    in_no_word (λ x. 0x120 + 4 * x) (λ x. record { row = Pvtivar; index = first / 2 + x }) 0 (count / 2) o
+    (λ w l h. free w (omega arith))
 
 -- the offset lies outside the block
 no_block : (side x o r : ℕ) → x < 0x40 → (o / 0x1000 ≢ side) → r < 0x40 → 0x1000 * side + 0x40 * x + r ≢ o

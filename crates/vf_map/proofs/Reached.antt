@@ -39,7 +39,8 @@ at_address-found : (o : Option ℕ) (a : ℕ) → at_address o ≡ Pf a → o �
 at_address-found None a e = cc
 at_address-found (Some b) a e = cc
 
-mapped_from : (m : Located) (a : ℕ) → mapped_to m ≡ Pf a → (p : Place) × (m ≡ Register p) × (address_among runs p ≡ Some a)
+mapped_from : (m : Located) (a : ℕ) → mapped_to m ≡ Pf a →
+    (p : Place) × (m ≡ Register p) × (address_among runs p ≡ Some a)
 mapped_from Located.Absent a e = cc
 mapped_from Located.Hole a e = cc
 mapped_from (Register p) a e = (p, refl, at_address-found (address_among runs p) a e)

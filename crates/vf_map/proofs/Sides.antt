@@ -29,7 +29,8 @@ unfolding number
 number-one None None e = refl
 number-one None (Some r) e = absurd (omega arith)
 number-one (Some q) None e = absurd (omega arith)
-number-one (Some q) (Some r) e = let same : number_of q ≡ number_of r = omega arith in ap (λ x. Some x) (same_number q r same)
+number-one (Some q) (Some r) e =
+    let same : number_of q ≡ number_of r = omega arith in ap (λ x. Some x) (same_number q r same)
 
 is_receive_at : ℕ → Bool
 is_receive_at b = number (row_behind Rdbal receive_rows b) == number (met is_receive (access_at (0x1000 + b)))

@@ -22,8 +22,8 @@ const SIDE: u32 = 0x1000;
 const QUEUE: u32 = 0x40;
 
 /// What an offset of virtual function v is, where there are `vfs` of them: `Absent` where v is not below `vfs` or the
-/// mode has no pool v; else the `Register` that the offset stands for, or `Hole` where it stands for none. Offsets are in
-/// bytes. One that isn't a multiple of 4 is a hole.
+/// mode has no pool v; else the `Register` that the offset stands for, or `Hole` where it stands for none. Offsets are
+/// in bytes. One that isn't a multiple of 4 is a hole.
 pub fn locate(mode: Mode, vfs: u8, v: u8, offset: u32) -> Located
     ensures value { result ≡ located mode vfs v offset }
     ensures in_range { IsInRange result }

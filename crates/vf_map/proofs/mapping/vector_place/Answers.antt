@@ -14,7 +14,8 @@ returns-then-offset-lt-VECTORS c =
 
 pub returns-then-word-from : goal.returns-then-word-from
 returns-then-word-from c =
-    ap (λ half. Some (record { row = Pvtivar; index = half + (c.args.offset - 0x120) / 4 })) c.from-then-word-from.ensures
+    ap (λ half. Some (record { row = Pvtivar; index = half + (c.args.offset - 0x120) / 4 }))
+    c.from-then-word-from.ensures
     ∙ sym (vector_there c.args.first c.args.count c.args.offset (omega arith) (omega arith) (omega arith))
 
 pub returns-else-word-from : goal.returns-else-word-from

@@ -18,4 +18,4 @@ pub use laws::{addresses_are_aligned, functions_are_apart, pools_are_apart};
 pub use mapped::Mapped;
 pub use mapping::map;
 pub use mode::Mode;
-pub use pools::{mode_of, queues_of};
+pub use pools::{mode_of, pool_of, queues_of};

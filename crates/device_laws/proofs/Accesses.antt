@@ -14,7 +14,7 @@ use Rattle.register_file.proofs.Puts.{word_at-put_other, word_at-reset}
 use Rattle.register_file.proofs.Shape.{put_stands}
 use Rattle.nic_device.specs.State.{State, new_state, reset}
 use Rattle.nic_device.specs.Outcome.{gives}
-use Rattle.nic_device.specs.Access.{place_read, place_written, state_read, state_written}
+use Rattle.nic_device.specs.Access.{around, place_read, place_written, state_read, state_written}
 use Rattle.nic_device.specs.Sound.{IsSound}
 use Rattle.nic_device.specs.Step.{step_of}
 use Rattle.device_laws.specs.Laws.{IsPlain, reply_to_read, after_write, shown}
@@ -29,7 +29,7 @@ reply-read : (s : State) (a : ℕ) (p : Place) → IsPlain a p
 unfolding step_of
 reply-read s a p plain =
     ap (λ o. (place_read s o (view_among runs a)).reply) ((found-named a p).1 plain.named)
-    ∙ ap (λ k. Word (shown a (read_word k s.registers s.link p))) plain.plain
+    ∙ ap (λ k. Word (shown a (read_word k s.registers (around s) p))) plain.plain
 
 pub state-read : (s : State) (a : ℕ) (p : Place) → Names a p → (step_of s (event.Read Pf a)).state ≡ state_read s p
 unfolding step_of

@@ -25,6 +25,8 @@ not_pending_of owner.Counters p is = refl
 not_pending_of (owner.Side dir queue) p is = refl
 not_pending_of (owner.Group g) p is = not_pending g p is
 not_pending_of (owner.Pool number) p is = refl
+not_pending_of (owner.VfCounters number) p is = refl
+not_pending_of (owner.Vectors number) p is = refl
 
 not_read : (k : Kind) (q p : Place) → (row_of p.row).kind ≡ kind.Rc → p ≢ q → (read_by k q).words p ≡ false
 not_read kind.Rc q p is n = one_place q p n
@@ -34,6 +36,7 @@ not_read other q p is n = refl
 not_written : (k : Kind) (q p : Place) → (row_of q.row).kind ≡ k → (row_of p.row).kind ≡ kind.Rc
     → (written_by k q).words p ≡ false
 not_written kind.Rw q p e is = elsewhere q p (λ f. cc) is
+not_written kind.Ro q p e is = refl
 not_written kind.Calc q p e is = refl
 not_written kind.Rc q p e is = refl
 not_written kind.Cause q p e is = not_pending_of (owner_of q) p is
@@ -43,6 +46,8 @@ not_written kind.Clear q p e is = not_pending_of (owner_of q) p is
 not_written kind.Held q p e is = elsewhere q p (λ f. cc) is
 not_written kind.Enable q p e is = elsewhere q p (λ f. cc) is
 not_written kind.Ctrl q p e is = elsewhere q p (λ f. cc) is
+not_written kind.Vreset q p e is = refl
+not_written kind.Eerd q p e is = elsewhere q p (λ f. cc) is
 
 pub read_misses : (o : Option Place) (p : Place) → (row_of p.row).kind ≡ kind.Rc → o ≢ Some p
     → (read_reach o).registers.words p ≡ false

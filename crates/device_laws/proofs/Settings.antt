@@ -70,14 +70,19 @@ module _ (row : RowId) (is : IsSetting row) where
   none_pending_of (owner.Side dir queue) = refl
   none_pending_of (owner.Group g) = none_pending g
   none_pending_of (owner.Pool number) = refl
+  none_pending_of (owner.VfCounters number) = refl
+  none_pending_of (owner.Vectors number) = refl
 
   none_written_by : (k : Kind) (p : Place) → p.row ≢ row → (written_by k p).words here ≡ false
   none_written_by kind.Rw p n = other_place p n
+  none_written_by kind.Ro p n = refl
   none_written_by kind.Calc p n = refl
   none_written_by kind.Rc p n = refl
   none_written_by kind.Held p n = other_place p n
   none_written_by kind.Enable p n = other_place p n
   none_written_by kind.Ctrl p n = other_place p n
+  none_written_by kind.Vreset p n = refl
+  none_written_by kind.Eerd p n = other_place p n
   none_written_by interrupts p n = none_pending_of (owner_of p)
 
   none_written : (o : Option Place) (word : ℕ) → ((p : Place) → o ≡ Some p → IsOther row p)

@@ -1,7 +1,8 @@
-use Rattle.std.proofs.Common.{◌+◌, ◌-◌, ◌*◌, ◌/◌, Some, ap, sym, ◌∙◌, arith}
+use Rattle.std.proofs.Common.{◌+◌, ◌-◌, ◌/◌, Some, ap, sym, ◌∙◌, arith}
+use Rattle.reg_table.specs.declared.rows.RowId.TheVariants.{Pvtivar}
 use Rattle.vf_map.proofs.Places.{vector_there, vector_absent}
-use Rattle.vf_map.proofs.mapping.vector_address.Goals as goal
-use Rattle.vf_map.proofs.mapping.vector_address.Goals.{then-offset-lt-VECTORS-via-then-offset-lt-VECTORS, then-offset-lt-VECTORS-via-else-offset-lt-VECTORS+then-offset-ne0}
+use Rattle.vf_map.proofs.mapping.vector_place.Goals as goal
+use Rattle.vf_map.proofs.mapping.vector_place.Goals.{then-offset-lt-VECTORS-via-then-offset-lt-VECTORS, then-offset-lt-VECTORS-via-else-offset-lt-VECTORS+then-offset-ne0}
 
 pub returns-then-offset-lt-VECTORS : goal.returns-then-offset-lt-VECTORS
 returns-then-offset-lt-VECTORS c =
@@ -13,7 +14,7 @@ returns-then-offset-lt-VECTORS c =
 
 pub returns-then-word-from : goal.returns-then-word-from
 returns-then-word-from c =
-    ap (λ half. Some (0x12500 + 4 * (half + (c.args.offset - 0x120) / 4))) c.from-then-word-from.ensures
+    ap (λ half. Some (record { row = Pvtivar; index = half + (c.args.offset - 0x120) / 4 })) c.from-then-word-from.ensures
     ∙ sym (vector_there c.args.first c.args.count c.args.offset (omega arith) (omega arith) (omega arith))
 
 pub returns-else-word-from : goal.returns-else-word-from

@@ -12,7 +12,7 @@ use Rattle.register_file.proofs.Footprints.{within-refl}
 use Rattle.register_file.proofs.Sound.{sound-message_made, sound-causes_raised, sound-reset}
 use Rattle.register_file.proofs.Within.{within-message_made, within-causes_raised}
 use Rattle.nic_device.specs.Interrupt.{interrupted, message_reply, link_cause}
-use Rattle.nic_device.specs.Laws.{NewDeviceIsSound, EventKeepsSound, ToldIsPending, FaultChangesNoMemory}
+use Rattle.nic_device.specs.Kept.{NewDeviceIsSound, EventKeepsSound}
 use Rattle.nic_device.specs.Link.{link_set, collected}
 use Rattle.nic_device.specs.Sound.{IsEvent, IsSound}
 use Rattle.nic_device.specs.State.{State}
@@ -131,9 +131,3 @@ pub sound_step : {R E : Type 0} (s t : State) (e : Event Block) (result : Result
     → OnOk result (t ≡ (step_of s e).state) → OnErr result (t ≡ s) → IsSound s → IsEvent e → IsSound t
 sound_step s t e (Ok reply) made kept h is = subst IsSound (sym made) (keeps_sound s h e is)
 sound_step s t e (Err refused) made kept h is = subst IsSound (sym kept) h
-
-pub told_pending : ToldIsPending
-told_pending s h e is g small = (keeps_sound s h e is).registers.told g small
-
-pub fault_memory : FaultChangesNoMemory
-fault_memory s e fault = (step_leads s e).faults fault

@@ -5,13 +5,18 @@ use Rattle.reg_table.specs.Runs.{runs}
 use Rattle.reg_table.specs.Place.{place_among, view_among}
 use Rattle.reg_table.specs.declared.place.Place.{Place}
 use Rattle.register_file.specs.Access.{read_word, after_read, written, asks_reset}
+use Rattle.register_file.specs.declared.surroundings.Surroundings.{Surroundings}
 use Rattle.nic_device.specs.State.{State, reset}
 use Rattle.nic_device.specs.Outcome.{Outcome, gives}
 use Rattle.nic_device.specs.declared.event.Reply.TheVariants.{Word, Stray, Done}
 
+-- what lies around the registers: the link, and an EEPROM image of 64 words
+abbrev pub around : State → Surroundings
+around s = record { link = s.link; eeprom = 0 }
+
 -- the word that a read of a place gives, before the address cuts it
 abbrev pub word_read : State → Place → ℕ
-word_read s p = read_word (row_of p.row).kind s.registers s.link p
+word_read s p = read_word (row_of p.row).kind s.registers (around s) p
 
 -- the state after a read of a place
 abbrev pub state_read : State → Place → State

@@ -33,6 +33,13 @@ step_of s (event.QueueStep dir queue) = queue_switched s dir queue
 step_of s (event.Link up) = link_set s up
 step_of s event.Collect = collected s
 
+-- the state after an event, and the reply to it
+abbrev pub after : State → Event Block → State
+after s e = (step_of s e).state
+
+abbrev pub reply_to : State → Event Block → Reply Block
+reply_to s e = (step_of s e).reply
+
 -- an event may be refused for want of memory: lending and arriving where they would be done, and a transmit step of a
 -- queue that isn't idle. No other event is
 abbrev pub TakesMemory : State → Event Block → Type 0

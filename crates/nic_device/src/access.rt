@@ -3,13 +3,16 @@
 ghost use Rattle.std.specs.Prelude.{◌≡◌, ◌<◌, [], length, replicate};
 ghost use Rattle.reg_table.specs.Rows.{row_of};
 ghost use Rattle.nic_device.specs.State.{reset};
-ghost use Rattle.nic_device.specs.Access.{register_read, register_written, state_written};
+ghost use Rattle.nic_device.specs.Access.{around, register_read, register_written, state_written};
 
 use crate::engine::Engine;
 use crate::event::Reply;
 use reg_table::{Place, resolve};
-use register_file::asks_reset;
+use register_file::{Surroundings, asks_reset};
 use tx_ring::Staged;
+
+/// The size of the EEPROM's image: 64 words.
+const BLANK_IMAGE: u8 = 0;
 
 impl Engine {
     /// Reads an address.
@@ -20,7 +23,8 @@ impl Engine {
         let Some(access) = resolve(address) else {
             return Reply::Stray(0);
         };
-        Reply::Word(self.registers.read(self.link, access.place) & access.view)
+        let around = self.around();
+        Reply::Word(self.registers.read(around, access.place) & access.view)
     }
 
     /// Writes an address.
@@ -45,6 +49,16 @@ impl Engine {
             self.reset();
         } else {
             self.registers.write(place, view, word);
+        }
+    }
+
+    /// What lies around the registers.
+    pub(crate) fn around(&self) -> Surroundings
+        ensures { result ≡ around self.now }
+    {
+        Surroundings {
+            link: self.link,
+            eeprom: BLANK_IMAGE,
         }
     }
 

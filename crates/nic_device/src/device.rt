@@ -89,7 +89,7 @@ impl Device {
     {
         let engine = &self.engine;
         let access = resolve(address)?;
-        Some(engine.registers.peek(engine.link, access.place) & access.view)
+        Some(engine.registers.peek(engine.around(), access.place) & access.view)
     }
 
     /// How many bytes the frame has that `Collect` would give. 0 without one.

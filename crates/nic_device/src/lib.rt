@@ -16,7 +16,6 @@ mod device;
 mod engine;
 mod event;
 mod interrupt;
-pub mod laws;
 mod lending;
 mod link;
 mod receive;

@@ -1,8 +1,10 @@
+pub mod Answered
 pub mod Bits
 pub mod Columns
 pub mod Covers
 pub mod Fields
 pub mod Footprints
+pub mod Formulas
 pub mod GroupChanges
 pub mod InPlace
 pub mod NoSide

@@ -93,6 +93,7 @@ pending g =
 -- whether the words of a kind are causes or masks
 abbrev pub is_pending : Kind → Bool
 is_pending kind.Rw = false
+is_pending kind.Ro = false
 is_pending kind.Calc = false
 is_pending kind.Rc = false
 is_pending kind.Cause = true
@@ -102,6 +103,8 @@ is_pending kind.Clear = false
 is_pending kind.Held = false
 is_pending kind.Enable = false
 is_pending kind.Ctrl = false
+is_pending kind.Vreset = false
+is_pending kind.Eerd = false
 
 -- what is pending of all groups
 abbrev pub any_pending : Footprint
@@ -115,6 +118,8 @@ pending_of owner.Counters = nothing
 pending_of (owner.Side dir queue) = nothing
 pending_of (owner.Group g) = pending g
 pending_of (owner.Pool number) = nothing
+pending_of (owner.VfCounters number) = nothing
+pending_of (owner.Vectors number) = nothing
 
 -- the word at a place, and whether the side that it is of is wanted on
 abbrev pub the_enable : Place → Footprint
@@ -128,6 +133,7 @@ the_enable p =
 -- what a read of a place may change, by its row's kind
 abbrev pub read_by : Kind → Place → Footprint
 read_by kind.Rw p = nothing
+read_by kind.Ro p = nothing
 read_by kind.Calc p = nothing
 read_by kind.Rc p = the_word p
 read_by kind.Cause p = pending_of (owner_of p)
@@ -137,13 +143,16 @@ read_by kind.Clear p = nothing
 read_by kind.Held p = nothing
 read_by kind.Enable p = nothing
 read_by kind.Ctrl p = nothing
+read_by kind.Vreset p = nothing
+read_by kind.Eerd p = nothing
 
 abbrev pub of_read : Place → Footprint
 of_read p = read_by (row_of p.row).kind p
 
--- what a write of a place that asks for no reset may change, by its row's kind
+-- what a write of a place that asks for no reset, of the device or a pool, may change, by its row's kind
 abbrev pub written_by : Kind → Place → Footprint
 written_by kind.Rw p = the_word p
+written_by kind.Ro p = nothing
 written_by kind.Calc p = nothing
 written_by kind.Rc p = nothing
 written_by kind.Cause p = pending_of (owner_of p)
@@ -153,6 +162,8 @@ written_by kind.Clear p = pending_of (owner_of p)
 written_by kind.Held p = the_word p
 written_by kind.Enable p = the_enable p
 written_by kind.Ctrl p = the_word p
+written_by kind.Vreset p = nothing
+written_by kind.Eerd p = the_word p
 
 abbrev pub of_write : Place → Footprint
 of_write p = written_by (row_of p.row).kind p

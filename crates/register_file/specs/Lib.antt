@@ -3,6 +3,7 @@ pub mod AllGroups
 pub mod Bits
 pub mod Columns
 pub mod Counters
+pub mod Eeprom
 pub mod Footprint
 pub mod Groups
 pub mod Laws

@@ -1,0 +1,6 @@
+pub mod Counting
+pub mod Laws
+pub mod Leaving
+pub mod Order
+pub mod Raising
+pub mod Replies

@@ -1,34 +1,33 @@
 -- No block comes or goes but by lending and taking.
-use Rattle.std.proofs.Common.{◌≡◌, ℕ, false, List, [], ◌∷◌, refl, Option, Some, None}
+use Rattle.std.proofs.Common.{◌≡◌, ℕ, false, List, [], ◌∷◌, refl}
 use Rattle.dma_arena.specs.Block.{Block}
-use Rattle.reg_table.specs.Place.{place_among}
 use Rattle.reg_table.specs.Rows.{row_of}
-use Rattle.reg_table.specs.Runs.{runs}
-use Rattle.reg_table.specs.declared.place.Place.{Place}
 use Rattle.register_file.specs.Access.{asks_reset}
 use Rattle.register_file.specs.Footprint.{of_write}
 use Rattle.register_file.specs.declared.dir.Dir.{Dir}
 use Rattle.register_file.specs.declared.dir.Dir.TheVariants.{Rx, Tx}
 use Rattle.nic_device.specs.Footprint.{Reach, in_registers, read_reach, write_reach, reset_reach, reach_by, receive_reach, switch_reach}
 use Rattle.nic_device.specs.Kept.{OtherEventsKeepBlocks}
+use Rattle.nic_device.specs.Named.{named}
 use Rattle.nic_device.specs.State.{State, Waiting}
 use Rattle.nic_device.specs.Step.{step_of, moves_block}
 use Rattle.nic_device.proofs.Cases.{either_way}
 use Rattle.nic_device.proofs.Steps.{step_leads}
 use Rattle.nic_device.specs.declared.event.Event.{Event}
 use Rattle.nic_device.specs.declared.event.Event.TheVariants as event
-use Rattle.nic_device.specs.declared.event.Port.TheVariants.{Pf}
 use Rattle.nic_device.specs.declared.event.Reply.{Reply}
+use Rattle.nic_device.specs.declared.named.Named.{Named}
+use Rattle.nic_device.specs.declared.named.Named.TheVariants.{Nothing, Register}
 
-none_lent_written : (o : Option Place) (word number : ℕ) → (write_reach o word).lent number ≡ false
-none_lent_written None word number = refl
-none_lent_written (Some p) word number =
+none_lent_written : (m : Named) (word number : ℕ) → (write_reach m word).lent number ≡ false
+none_lent_written (Nothing seen) word number = refl
+none_lent_written (Register p view) word number =
     either_way (λ (r : Reach). r.lent number ≡ false) (asks_reset (row_of p.row).kind word) reset_reach
     (in_registers (of_write p)) refl refl
 
-none_lent_read : (o : Option Place) (number : ℕ) → (read_reach o).lent number ≡ false
-none_lent_read None number = refl
-none_lent_read (Some p) number = refl
+none_lent_read : (m : Named) (number : ℕ) → (read_reach m).lent number ≡ false
+none_lent_read (Nothing seen) number = refl
+none_lent_read (Register p view) number = refl
 
 none_lent_received : (ws : List Waiting) (reply : Reply Block) (number : ℕ)
     → (receive_reach ws reply).lent number ≡ false
@@ -41,8 +40,8 @@ none_lent_switched Tx queue number = refl
 
 none_lent : (s : State) (e : Event Block) (reply : Reply Block) (number : ℕ) → moves_block e ≡ false
     → (reach_by s e reply).lent number ≡ false
-none_lent s (event.Read Pf a) reply number none = none_lent_read (place_among runs a) number
-none_lent s (event.Write Pf a word) reply number none = none_lent_written (place_among runs a) word number
+none_lent s (event.Read port n) reply number none = none_lent_read (named s port n) number
+none_lent s (event.Write port n word) reply number none = none_lent_written (named s port n) word number
 none_lent s (event.Lend block) reply number none = cc
 none_lent s (event.Take taken) reply number none = cc
 none_lent s event.RxStep reply number none = none_lent_received s.waiting reply number

@@ -2,8 +2,6 @@
 use Rattle.std.proofs.Common.{◌≡◌, ℕ, Bool, false, refl, sym, subst, arith, Option, Some, None}
 use Rattle.std.specs.Prelude.{⊤, Result, Ok, Err, OnOk, OnErr}
 use Rattle.dma_arena.specs.Block.{Block}
-use Rattle.reg_table.specs.Place.{place_among, view_among}
-use Rattle.reg_table.specs.Runs.{runs}
 use Rattle.intr_unit.specs.declared.group.Group.{Group}
 use Rattle.intr_unit.specs.declared.group.Group.TheVariants as group
 use Rattle.register_file.specs.Footprint.{nothing}
@@ -14,6 +12,7 @@ use Rattle.register_file.proofs.Within.{within-message_made, within-causes_raise
 use Rattle.nic_device.specs.Interrupt.{interrupted, message_reply, link_cause}
 use Rattle.nic_device.specs.Kept.{NewDeviceIsSound, EventKeepsSound}
 use Rattle.nic_device.specs.Link.{link_set, collected}
+use Rattle.nic_device.specs.Named.{named}
 use Rattle.nic_device.specs.Sound.{IsEvent, IsSound}
 use Rattle.nic_device.specs.State.{State}
 use Rattle.nic_device.specs.Step.{step_of, hands_out}
@@ -29,7 +28,6 @@ use Rattle.nic_device.proofs.Sending.{transmit_leads}
 use Rattle.nic_device.proofs.SwitchedSides.{switch_leads}
 use Rattle.nic_device.specs.declared.event.Event.{Event}
 use Rattle.nic_device.specs.declared.event.Event.TheVariants as event
-use Rattle.nic_device.specs.declared.event.Port.TheVariants.{Pf}
 use Rattle.nic_device.specs.declared.event.Reply.TheVariants.{Idle, NoGroup}
 
 -- messages
@@ -94,9 +92,8 @@ collect_leads s = collected_cases (Leads s event.Collect) s (leads-still s event
 
 pub step_leads : (s : State) (e : Event Block) → Leads s e (step_of s e)
 unfolding step_of
-step_leads s (event.Read Pf a) = read_leads s a (place_among runs a) (view_among runs a) (λ r stays. stays)
-step_leads s (event.Write Pf a word) =
-    write_leads s a word (place_among runs a) (view_among runs a) (λ r stays. stays)
+step_leads s (event.Read port n) = read_leads s port n (named s port n) (λ r stays. stays)
+step_leads s (event.Write port n word) = write_leads s port n word (named s port n) (λ r stays. stays)
 step_leads s (event.Lend block) = lend_leads s block
 step_leads s (event.Take number) = take_leads s number
 step_leads s (event.Peek16 a) = peek_leads s a

@@ -3,10 +3,7 @@ use Rattle.std.specs.Prelude.{ℕ, ◌≡◌, ◌+◌, ◌*◌, ◌==◌, nat_lt
 use Rattle.std.specs.FinMap as map
 use Rattle.dma_arena.specs.Block.{Block}
 use Rattle.dma_arena.specs.Memory.{has_block}
-use Rattle.reg_table.specs.Place.{place_among}
 use Rattle.reg_table.specs.Rows.{row_of}
-use Rattle.reg_table.specs.Runs.{runs}
-use Rattle.reg_table.specs.declared.place.Place.{Place}
 use Rattle.intr_unit.specs.declared.group.Group.TheVariants as group
 use Rattle.register_file.specs.Access.{asks_reset}
 use Rattle.register_file.specs.Footprint.{Footprint, ChangesWithin, nothing, everything, either, counters, of_side, pending, any_pending, of_read, of_write}
@@ -14,13 +11,15 @@ use Rattle.register_file.specs.Sides.{transmit_queue_of}
 use Rattle.register_file.specs.declared.dir.Dir.{Dir}
 use Rattle.register_file.specs.declared.dir.Dir.TheVariants.{Rx, Tx}
 use Rattle.tx_ring.specs.Report.{report_length}
+use Rattle.nic_device.specs.Named.{named}
 use Rattle.nic_device.specs.State.{State, Waiting}
 use Rattle.nic_device.specs.Step.{step_of}
 use Rattle.nic_device.specs.Transmit.{staged_by}
 use Rattle.nic_device.specs.declared.event.Event.{Event}
 use Rattle.nic_device.specs.declared.event.Event.TheVariants as event
-use Rattle.nic_device.specs.declared.event.Port.TheVariants.{Pf}
 use Rattle.nic_device.specs.declared.event.Reply.{Reply}
+use Rattle.nic_device.specs.declared.named.Named.{Named}
+use Rattle.nic_device.specs.declared.named.Named.TheVariants.{Nothing, Register}
 use Rattle.nic_device.specs.declared.event.Reply.TheVariants.{Wrote, Advanced, Sent}
 
 -- what may change: something in the registers, the bytes of lent blocks, under which numbers blocks are lent, the
@@ -65,19 +64,19 @@ in_registers f = record nowhere { registers = f }
 abbrev pub the_block : ℕ → Reach
 the_block number = record nowhere { blocks = λ other. other == number; lent = λ other. other == number }
 
--- a read of a place, or of none
-abbrev pub read_reach : Option Place → Reach
-read_reach None = nowhere
-read_reach (Some p) = in_registers (of_read p)
+-- a read of a register, or of nothing
+abbrev pub read_reach : Named → Reach
+read_reach (Nothing seen) = nowhere
+read_reach (Register p view) = in_registers (of_read p)
 
 -- a reset leaves lent memory, frames out and the link
 abbrev pub reset_reach : Reach
 reset_reach = record nowhere { registers = everything; staged = λ queue. true; waiting = true }
 
--- a write of a word to a place, or to none
-abbrev pub write_reach : Option Place → ℕ → Reach
-write_reach None word = nowhere
-write_reach (Some p) word = if asks_reset (row_of p.row).kind word then reset_reach else in_registers (of_write p)
+-- a write of a word to a register, or to nothing
+abbrev pub write_reach : Named → ℕ → Reach
+write_reach (Nothing seen) word = nowhere
+write_reach (Register p view) word = if asks_reset (row_of p.row).kind word then reset_reach else in_registers (of_write p)
 
 -- whether a block has some of so many bytes from an address on
 abbrev pub has_some_of : ℕ → ℕ → ℕ → Bool
@@ -128,8 +127,8 @@ switch_reach Tx queue = record nowhere { registers = of_side Tx queue; staged = 
 
 -- what an event may change, by the reply to it
 abbrev pub reach_by : State → Event Block → Reply Block → Reach
-reach_by s (event.Read Pf address) reply = read_reach (place_among runs address)
-reach_by s (event.Write Pf address word) reply = write_reach (place_among runs address) word
+reach_by s (event.Read port number) reply = read_reach (named s port number)
+reach_by s (event.Write port number word) reply = write_reach (named s port number) word
 reach_by s (event.Lend block) reply = the_block block.number
 reach_by s (event.Take number) reply = the_block number
 reach_by s (event.Peek16 address) reply = nowhere

@@ -1,3 +1,4 @@
+pub mod Named
 pub mod Access
 pub mod Arrival
 pub mod Config

@@ -8,7 +8,8 @@ use Rattle.register_file.specs.Sound.{AreSound}
 use Rattle.nic_device.specs.State.{State, Waiting}
 use Rattle.nic_device.specs.declared.event.Event.{Event}
 use Rattle.nic_device.specs.declared.event.Event.TheVariants as event
-use Rattle.nic_device.specs.declared.event.Port.TheVariants.{Pf}
+use Rattle.nic_device.specs.declared.event.Port.{Port}
+use Rattle.nic_device.specs.declared.event.Port.TheVariants.{Pf, Vf}
 
 -- each is a byte
 abbrev pub AreBytes : List ℕ → Type 0
@@ -65,11 +66,16 @@ pub record IsLendable (block : Block) : Type 0 where
   pub whole : IsBlock block
   pub bytes : AreBytes block.bytes
 
+-- a port of the physical function, or of a virtual one
+abbrev pub IsPort : Port → Type 0
+IsPort Pf = ⊤
+IsPort (Vf v) = v < 2 ^ 8
+
 -- what a driver can make: addresses and words are of 32 bits, a block is whole, 16 bytes are written, and numbers of
 -- queues and of virtual functions fit their types
 abbrev pub IsEvent : Event Block → Type 0
-IsEvent (event.Read Pf address) = address < 2 ^ 32
-IsEvent (event.Write Pf address word) = (address < 2 ^ 32) × (word < 2 ^ 32)
+IsEvent (event.Read port number) = IsPort port × (number < 2 ^ 32)
+IsEvent (event.Write port number word) = IsPort port × (number < 2 ^ 32) × (word < 2 ^ 32)
 IsEvent (event.Lend block) = IsLendable block
 IsEvent (event.Take number) = number < 2 ^ 32
 IsEvent (event.Peek16 address) = address < 2 ^ 32

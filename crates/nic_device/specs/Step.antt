@@ -13,14 +13,13 @@ use Rattle.nic_device.specs.Interrupt.{interrupted}
 use Rattle.nic_device.specs.Link.{link_set, collected}
 use Rattle.nic_device.specs.declared.event.Event.{Event}
 use Rattle.nic_device.specs.declared.event.Event.TheVariants as event
-use Rattle.nic_device.specs.declared.event.Port.TheVariants.{Pf}
 use Rattle.nic_device.specs.declared.event.Reply.{Reply}
 use Rattle.nic_device.specs.declared.event.Reply.TheVariants as reply
 
 -- one event: its reply, and the state after it
 unfoldable pub step_of : State → Event Block → Outcome
-step_of s (event.Read Pf address) = register_read s address
-step_of s (event.Write Pf address word) = register_written s address word
+step_of s (event.Read port number) = register_read s port number
+step_of s (event.Write port number word) = register_written s port number word
 step_of s (event.Lend block) = lent s block
 step_of s (event.Take number) = taken s number
 step_of s (event.Peek16 address) = peeked s address

@@ -4,10 +4,12 @@ ghost use Rattle.std.specs.Prelude.{◌≡◌, ◌<◌, [], length, replicate};
 ghost use Rattle.reg_table.specs.Rows.{row_of};
 ghost use Rattle.nic_device.specs.State.{reset};
 ghost use Rattle.nic_device.specs.Access.{around, register_read, register_written, state_written};
+ghost use Rattle.nic_device.specs.Step.{word_told};
 
 use crate::engine::Engine;
-use crate::event::Reply;
-use reg_table::{Place, resolve};
+use crate::event::{Port, Reply};
+use crate::named::Named;
+use reg_table::Place;
 use register_file::{Surroundings, asks_reset};
 use tx_ring::Staged;
 
@@ -15,28 +17,42 @@ use tx_ring::Staged;
 const BLANK_IMAGE: u8 = 0;
 
 impl Engine {
-    /// Reads an address.
-    pub(crate) fn read(&mut self, address: u32) -> Reply
-        ensures reply { result ≡ (register_read self.old address).reply }
-        ensures state { self.new ≡ (register_read self.old address).state }
+    /// Reads by a number of a port.
+    pub(crate) fn read(&mut self, port: Port, number: u32) -> Reply
+        ensures reply { result ≡ (register_read self.old port number).reply }
+        ensures state { self.new ≡ (register_read self.old port number).state }
     {
-        let Some(access) = resolve(address) else {
-            return Reply::Stray(0);
-        };
-        let around = self.around();
-        Reply::Word(self.registers.read(around, access.place) & access.view)
+        match self.named(port, number) {
+            Named::Nothing(seen) => Reply::Stray(seen),
+            Named::Register(place, view) => {
+                let around = self.around();
+                Reply::Word(self.registers.read(around, place) & view)
+            }
+        }
     }
 
-    /// Writes an address.
-    pub(crate) fn write(&mut self, address: u32, word: u32) -> Reply
-        ensures reply { result ≡ (register_written self.old address word).reply }
-        ensures state { self.new ≡ (register_written self.old address word).state }
+    /// What a read would give, without its effects. `None` where it would be stray.
+    pub(crate) fn peek(&self, port: Port, number: u32) -> Option<u32>
+        ensures { result ≡ word_told (register_read self.now port number).reply }
     {
-        let Some(access) = resolve(address) else {
-            return Reply::Stray(0);
-        };
-        self.write_place(access.place, access.view, word);
-        Reply::Done
+        match self.named(port, number) {
+            Named::Nothing(_) => None,
+            Named::Register(place, view) => Some(self.registers.peek(self.around(), place) & view),
+        }
+    }
+
+    /// Writes by a number of a port.
+    pub(crate) fn write(&mut self, port: Port, number: u32, word: u32) -> Reply
+        ensures reply { result ≡ (register_written self.old port number word).reply }
+        ensures state { self.new ≡ (register_written self.old port number word).state }
+    {
+        match self.named(port, number) {
+            Named::Nothing(_) => Reply::Stray(0),
+            Named::Register(place, view) => {
+                self.write_place(place, view, word);
+                Reply::Done
+            }
+        }
     }
 
     /// Writes a place through an address that shows the bits of `view`. A write that asks for a reset does nothing

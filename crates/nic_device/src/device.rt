@@ -9,7 +9,6 @@ use crate::config::{Config, MAX_FIFO, MAX_VFS, NewFault};
 use crate::engine::Engine;
 use crate::event::{Event, OutOfMemory, Port, Reply};
 use dma_arena::{LentMemory, Octets};
-use reg_table::resolve;
 use std::alloc::Global;
 use std::marker::Model;
 
@@ -87,9 +86,16 @@ impl Device {
     pub fn peek_register(&self, address: u32) -> Option<u32>
         ensures { result ≡ word_told (step_of self.now (Event.Read Port.Pf address)).reply }
     {
-        let engine = &self.engine;
-        let access = resolve(address)?;
-        Some(engine.registers.peek(engine.around(), access.place) & access.view)
+        self.engine.peek(Port::Pf, address)
+    }
+
+    #[tactic(auto, unfolding(crate::specs::Step::step_of))]
+    /// What a read of an offset of virtual function v would give, without its effects. `None` where it would be stray:
+    /// at a hole, and of a function that the device doesn't have or that has no pool.
+    pub fn peek_vf(&self, v: u8, offset: u32) -> Option<u32>
+        ensures { result ≡ word_told (step_of self.now (Event.Read (Port.Vf v) offset)).reply }
+    {
+        self.engine.peek(Port::Vf(v), offset)
     }
 
     /// How many bytes the frame has that `Collect` would give. 0 without one.

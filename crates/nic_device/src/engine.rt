@@ -3,7 +3,7 @@ ghost use Rattle.nic_device.specs.State.{new_state, none_staged};
 ghost use Rattle.nic_device.specs.Step.{step_of, TakesMemory};
 
 use crate::config::Config;
-use crate::event::{Event, OutOfMemory, Port, Reply};
+use crate::event::{Event, OutOfMemory, Reply};
 use crate::waiting::Waiting;
 use dma_arena::{LentMemory, Octets};
 use register_file::{QUEUES, RegisterFile};
@@ -76,8 +76,8 @@ impl Engine {
         ensures memory { OnErr result (TakesMemory self.old event) }
     {
         match event {
-            Event::Read(Port::Pf, address) => Ok(self.read(address)),
-            Event::Write(Port::Pf, address, word) => Ok(self.write(address, word)),
+            Event::Read(port, number) => Ok(self.read(port, number)),
+            Event::Write(port, number, word) => Ok(self.write(port, number, word)),
             Event::Lend(buf) => self.lend(buf),
             Event::Take(number) => Ok(self.take(number)),
             Event::Peek16(address) => Ok(self.peek16(address)),

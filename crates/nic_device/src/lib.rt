@@ -3,7 +3,7 @@
 //! A `Device` is seen by contracts as a `State`: its registers, the memory that is lent to it, the frames that wait to
 //! be received, the bytes that its transmit queues have staged, the frames that went out, and whether the link is up.
 //! `Device::step` makes one `Event` and answers a `Reply`, both by the definition `step_of`; `Device::run` makes a list
-//! of events, and `Device::peek_register` and `Device::next_out` look without touching. Between two events a device is
+//! of events, and `Device::peek_register`, `Device::peek_vf` and `Device::next_out` look without touching. Between two events a device is
 //! sound, as `Device::stays_sound` says: `Engine` has the parts and makes the events. The definitions stand in
 //! `specs/`, one file for each family of events, and the code beside them under the same name. The script machine, the
 //! debugger, the lock and the driver stand on this crate.
@@ -18,6 +18,7 @@ mod event;
 mod interrupt;
 mod lending;
 mod link;
+mod named;
 mod receive;
 mod runs;
 mod switching;

@@ -14,7 +14,8 @@ use Rattle.register_file.proofs.Puts.{word_at-put_other, word_at-reset}
 use Rattle.register_file.proofs.Shape.{put_stands}
 use Rattle.nic_device.specs.State.{State, new_state, reset}
 use Rattle.nic_device.specs.Outcome.{gives}
-use Rattle.nic_device.specs.Access.{around, place_read, place_written, state_read, state_written}
+use Rattle.nic_device.specs.Access.{around, named_read, named_written, state_read, state_written}
+use Rattle.nic_device.specs.Named.{at_place}
 use Rattle.nic_device.specs.Sound.{IsSound}
 use Rattle.nic_device.specs.Step.{step_of}
 use Rattle.device_laws.specs.Laws.{IsPlain, reply_to_read, after_write, shown}
@@ -28,18 +29,18 @@ reply-read : (s : State) (a : ℕ) (p : Place) → IsPlain a p
     → reply_to_read s a ≡ Word (shown a (word_at s.registers.words p))
 unfolding step_of
 reply-read s a p plain =
-    ap (λ o. (place_read s o (view_among runs a)).reply) ((found-named a p).1 plain.named)
+    ap (λ o. (named_read s (at_place o (view_among runs a))).reply) ((found-named a p).1 plain.named)
     ∙ ap (λ k. Word (shown a (read_word k s.registers (around s) p))) plain.plain
 
 pub state-read : (s : State) (a : ℕ) (p : Place) → Names a p → (step_of s (event.Read Pf a)).state ≡ state_read s p
 unfolding step_of
-state-read s a p named = ap (λ o. (place_read s o (view_among runs a)).state) ((found-named a p).1 named)
+state-read s a p named = ap (λ o. (named_read s (at_place o (view_among runs a))).state) ((found-named a p).1 named)
 
 pub state-written : (s : State) (a word : ℕ) (p : Place) → Names a p
     → after_write s a word ≡ state_written s p (view_among runs a) word
 unfolding step_of
 state-written s a word p named =
-    ap (λ o. (place_written s o (view_among runs a) word).state) ((found-named a p).1 named)
+    ap (λ o. (named_written s (at_place o (view_among runs a)) word).state) ((found-named a p).1 named)
 
 registers-written : (s : State) (a word : ℕ) (p : Place) → IsPlain a p
     → (after_write s a word).registers ≡ stored s.registers p (view_among runs a) word
@@ -84,4 +85,4 @@ pub stray_changes_nothing : (s : State) (a word : ℕ) → ((p : Place) → Name
 unfolding step_of
 stray_changes_nothing s a word none =
     let nothing = found_or_none (place_among runs a) (λ p e. none p ((found-named a p).0 e)) in
-    (ap (λ o. place_read s o (view_among runs a)) nothing, ap (λ o. place_written s o (view_among runs a) word) nothing)
+    (ap (λ o. named_read s (at_place o (view_among runs a))) nothing, ap (λ o. named_written s (at_place o (view_among runs a)) word) nothing)

@@ -39,7 +39,6 @@ use Rattle.device_laws.proofs.StandingQueues.{switching_rest}
 use Rattle.device_laws.proofs.StandingRest.{collecting_rest}
 use Rattle.nic_device.specs.declared.event.Event.{Event}
 use Rattle.nic_device.specs.declared.event.Event.TheVariants as event
-use Rattle.nic_device.specs.declared.event.Port.TheVariants.{Pf}
 
 abbrev Raises : State → Event Block → Outcome → Type 0
 Raises s e o =
@@ -133,8 +132,8 @@ transmitted_raises s queue h = transmitted_cases (Raises s (event.TxStep queue))
 
 pub events_raise : EventsRaise
 unfolding step_of
-events_raise s h (event.Read Pf a) never g = absurd never
-events_raise s h (event.Write Pf a word) never g = absurd never
+events_raise s h (event.Read port n) never g = absurd never
+events_raise s h (event.Write port n word) never g = absurd never
 events_raise s h (event.Lend block) is g = (memory_rest.lend s block).groups g
 events_raise s h (event.Take number) is g = (memory_rest.take s number).groups g
 events_raise s h (event.Peek16 a) is g = (memory_rest.peek s a).groups g

@@ -18,7 +18,8 @@ use Rattle.register_file.proofs.Shape.{put_stands}
 use Rattle.register_file.proofs.Sound.{bumped-lt}
 use Rattle.nic_device.specs.State.{State}
 use Rattle.nic_device.specs.Outcome.{Outcome}
-use Rattle.nic_device.specs.Access.{around, place_read}
+use Rattle.nic_device.specs.Access.{around, named_read}
+use Rattle.nic_device.specs.Named.{at_place}
 use Rattle.nic_device.specs.Step.{step_of}
 use Rattle.nic_device.specs.Sound.{IsSound}
 use Rattle.device_laws.specs.Laws.{IsCounter, reply_to_read, shown, good_frames, ReadCounterStartsAgain, LetInFrameIsCounted}
@@ -32,7 +33,7 @@ counter-read : (s : State) (a : ℕ) (p : Place) → IsCounter a p
     → reply_to_read s a ≡ Word (shown a (word_at s.registers.words p))
 unfolding step_of
 counter-read s a p counter =
-    ap (λ o. (place_read s o (view_among runs a)).reply) ((found-named a p).1 counter.named)
+    ap (λ o. (named_read s (at_place o (view_among runs a))).reply) ((found-named a p).1 counter.named)
     ∙ ap (λ k. Word (shown a (read_word k s.registers (around s) p))) counter.counter
 
 -- a counter that was read

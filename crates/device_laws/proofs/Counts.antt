@@ -4,13 +4,10 @@ use Rattle.std.specs.Prelude.{Result, ◌&&◌, ◌==◌}
 use Rattle.dma_arena.specs.Block.{Block}
 use Rattle.dma_arena.specs.Memory.{Memory}
 use Rattle.dma_ring.specs.declared.fault.RingFault.{RingFault}
-use Rattle.reg_table.specs.Place.{place_among}
 use Rattle.reg_table.specs.Rows.{row_of}
-use Rattle.reg_table.specs.Runs.{runs}
 use Rattle.reg_table.specs.declared.kind.Kind.TheVariants as kind
 use Rattle.reg_table.specs.declared.place.Place.{Place}
 use Rattle.reg_table.specs.declared.rows.RowId.TheVariants.{Gprc, Ruc, Roc, Qprdc}
-use Rattle.reg_table.proofs.Finding.{found-named}
 use Rattle.intr_unit.specs.declared.group.Group.TheVariants as group
 use Rattle.rx_filter.specs.Sorting.{sorted}
 use Rattle.rx_filter.specs.declared.target.Target.{Target}
@@ -25,6 +22,7 @@ use Rattle.register_file.specs.Words.{word_at}
 use Rattle.register_file.specs.declared.dir.Dir.TheVariants.{Rx, Tx}
 use Rattle.nic_device.specs.Arrival.{arrived, sorted_in}
 use Rattle.device_laws.specs.Counting.{counts, with_one, EventsCount}
+use Rattle.nic_device.specs.Named.{named}
 use Rattle.nic_device.specs.Outcome.{Outcome}
 use Rattle.nic_device.specs.Receive as receive
 use Rattle.nic_device.specs.Receive.{received, rest_of}
@@ -39,7 +37,6 @@ use Rattle.device_laws.proofs.CountsKept.{read_misses, write_misses, switch_miss
 use Rattle.device_laws.proofs.Standing.{stays_within}
 use Rattle.nic_device.specs.declared.event.Event.{Event}
 use Rattle.nic_device.specs.declared.event.Event.TheVariants as event
-use Rattle.nic_device.specs.declared.event.Port.TheVariants.{Pf}
 
 -- what an outcome of an event counts
 abbrev Counts : State → Event Block → Outcome → Type 0
@@ -113,12 +110,10 @@ transmitted_counts s queue h = transmitted_cases (Counts s (event.TxStep queue))
 
 pub events_count : EventsCount
 unfolding step_of
-events_count s h (event.Read Pf a) p is keeps =
-    (stays_within s (event.Read Pf a)).registers.words p
-    (read_misses (place_among runs a) p is (λ e. keeps ((found-named a p).0 e)))
-events_count s h (event.Write Pf a word) p is keeps =
-    (stays_within s (event.Write Pf a word)).registers.words p
-    (write_misses (place_among runs a) word p is (λ q e. keeps q ((found-named a q).0 e)))
+events_count s h (event.Read port n) p is keeps =
+    (stays_within s (event.Read port n)).registers.words p (read_misses (named s port n) p is keeps)
+events_count s h (event.Write port n word) p is keeps =
+    (stays_within s (event.Write port n word)).registers.words p (write_misses (named s port n) word p is keeps)
 events_count s h (event.Arrive frame) p is keeps = arrived_counts s frame h p is
 events_count s h event.RxStep p is keeps = received_counts s h p is
 events_count s h (event.TxStep queue) p is keeps = transmitted_counts s queue h p is

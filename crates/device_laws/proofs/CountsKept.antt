@@ -1,5 +1,5 @@
 -- Counters that an event may not change.
-use Rattle.std.proofs.Common.{◌≡◌, ◌≢◌, ◌∙◌, ℕ, false, cond, refl, ap, sym, Option, Some, None}
+use Rattle.std.proofs.Common.{◌≡◌, ◌≢◌, ◌∙◌, ℕ, false, cond, refl, ap, sym}
 use Rattle.std.specs.Prelude.{IsFalse}
 use Rattle.reg_table.specs.Rows.{row_of}
 use Rattle.reg_table.specs.declared.kind.Kind.{Kind}
@@ -16,6 +16,8 @@ use Rattle.register_file.proofs.NoSide.{counters_own}
 use Rattle.register_file.proofs.ReadBack.{one_place}
 use Rattle.nic_device.specs.Footprint.{read_reach, write_reach, reset_reach, switch_reach, in_registers}
 use Rattle.device_laws.proofs.Counting.{elsewhere, not_pending}
+use Rattle.nic_device.specs.declared.named.Named.{Named}
+use Rattle.nic_device.specs.declared.named.Named.TheVariants.{Nothing, Register}
 
 -- what no other event may change: a counter that it doesn't read
 
@@ -49,17 +51,17 @@ not_written kind.Ctrl q p e is = elsewhere q p (λ f. cc) is
 not_written kind.Vreset q p e is = refl
 not_written kind.Eerd q p e is = elsewhere q p (λ f. cc) is
 
-pub read_misses : (o : Option Place) (p : Place) → (row_of p.row).kind ≡ kind.Rc → o ≢ Some p
-    → (read_reach o).registers.words p ≡ false
-read_misses None p is n = refl
-read_misses (Some q) p is n = not_read (row_of q.row).kind q p is (λ e. n (ap Some (sym e)))
+pub read_misses : (m : Named) (p : Place) → (row_of p.row).kind ≡ kind.Rc
+    → ((q : Place) (view : ℕ) → m ≡ Register q view → q ≢ p) → (read_reach m).registers.words p ≡ false
+read_misses (Nothing seen) p is n = refl
+read_misses (Register q view) p is n = not_read (row_of q.row).kind q p is (λ e. n q view refl (sym e))
 
-pub write_misses : (o : Option Place) (word : ℕ) (p : Place) → (row_of p.row).kind ≡ kind.Rc
-    → ((q : Place) → o ≡ Some q → IsFalse (asks_reset (row_of q.row).kind word))
-    → (write_reach o word).registers.words p ≡ false
-write_misses None word p is none = refl
-write_misses (Some q) word p is none =
-    ap (λ b. (cond b reset_reach (in_registers (of_write q))).registers.words p) (none q refl)
+pub write_misses : (m : Named) (word : ℕ) (p : Place) → (row_of p.row).kind ≡ kind.Rc
+    → ((q : Place) (view : ℕ) → m ≡ Register q view → IsFalse (asks_reset (row_of q.row).kind word))
+    → (write_reach m word).registers.words p ≡ false
+write_misses (Nothing seen) word p is none = refl
+write_misses (Register q view) word p is none =
+    ap (λ b. (cond b reset_reach (in_registers (of_write q))).registers.words p) (none q view refl)
     ∙ not_written (row_of q.row).kind q p refl is
 
 pub switch_misses : (dir : Dir) (queue : ℕ) (p : Place) → (row_of p.row).kind ≡ kind.Rc

@@ -10,6 +10,7 @@ pub mod Counts
 pub mod CountsKept
 pub mod Delivered
 pub mod Kept
+pub mod Ports
 pub mod KeptSettings
 pub mod Missed
 pub mod Order

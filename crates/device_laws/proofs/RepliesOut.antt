@@ -2,15 +2,13 @@
 use Rattle.std.proofs.Common.{cond, ◌≡◌, ◌%◌, ℕ, List, refl, ap, false, [], ◌∷◌, Option, Some, None}
 use Rattle.std.proofs.lemmas.Bool.{ne_eqb}
 use Rattle.dma_arena.specs.Memory.{is_lent, read_at, write_at}
-use Rattle.reg_table.specs.Place.{place_among}
 use Rattle.reg_table.specs.Rows.{row_of}
-use Rattle.reg_table.specs.Runs.{runs}
-use Rattle.reg_table.specs.declared.place.Place.{Place}
 use Rattle.tx_ring.specs.declared.fetched.Fetched.{Fetched}
 use Rattle.register_file.specs.Access.{asks_reset}
 use Rattle.register_file.specs.Footprint.{of_write}
 use Rattle.nic_device.specs.Footprint.{Reach, in_registers, write_reach, reset_reach}
 use Rattle.nic_device.specs.Link.{oldest_collected}
+use Rattle.nic_device.specs.Named.{named}
 use Rattle.nic_device.specs.Outcome.{gives}
 use Rattle.device_laws.specs.Replies.{out_sent, out_collected, EventsMoveFramesOut, MisalignedChangesNothing}
 use Rattle.nic_device.specs.State.{State}
@@ -21,13 +19,14 @@ use Rattle.device_laws.proofs.Standing.{stays_within}
 use Rattle.device_laws.proofs.StandingAccesses.{read_rest}
 use Rattle.device_laws.proofs.StandingQueues.{receiving_rest, switching_rest}
 use Rattle.nic_device.specs.declared.event.Event.TheVariants as event
-use Rattle.nic_device.specs.declared.event.Port.TheVariants.{Pf}
+use Rattle.nic_device.specs.declared.named.Named.{Named}
+use Rattle.nic_device.specs.declared.named.Named.TheVariants.{Nothing, Register}
 use Rattle.nic_device.specs.declared.event.Reply.TheVariants.{Done, Bytes, NotLent, Misaligned}
 
 -- no write changes the frames out
-write_out : (o : Option Place) (word : ℕ) → (write_reach o word).out ≡ false
-write_out None word = refl
-write_out (Some p) word =
+write_out : (m : Named) (word : ℕ) → (write_reach m word).out ≡ false
+write_out (Nothing seen) word = refl
+write_out (Register p view) word =
     either_way (λ (r : Reach). r.out ≡ false) (asks_reset (row_of p.row).kind word) reset_reach
     (in_registers (of_write p)) refl refl
 
@@ -53,9 +52,9 @@ oldest_out s (frame ∷ others) is = is
 
 pub frames_out : EventsMoveFramesOut
 unfolding step_of
-frames_out s (event.Read Pf a) = (read_rest s a).frames.out
-frames_out s (event.Write Pf a word) =
-    (stays_within s (event.Write Pf a word)).out (write_out (place_among runs a) word)
+frames_out s (event.Read port n) = (read_rest s port n).frames.out
+frames_out s (event.Write port n word) =
+    (stays_within s (event.Write port n word)).out (write_out (named s port n) word)
 frames_out s event.RxStep = (receiving_rest s).out
 frames_out s (event.TxStep queue) = transmitted_out s queue
 frames_out s (event.QueueStep dir queue) = (switching_rest s dir queue).out

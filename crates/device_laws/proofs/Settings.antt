@@ -1,17 +1,14 @@
 -- Registers of the device as a whole, which nothing changes but a write of them, and a reset.
-use Rattle.std.proofs.Common.{◌≡◌, ◌≢◌, ◌||◌, ℕ, false, List, [], ◌∷◌, refl, ap, sym, ◌∙◌, inl, inr, Option, Some, None}
+use Rattle.std.proofs.Common.{◌≡◌, ◌≢◌, ◌||◌, ℕ, false, List, [], ◌∷◌, refl, ap, sym, ◌∙◌, inl, inr}
 use Rattle.std.proofs.lemmas.Bool.{cases_Bool}
 use Rattle.dma_arena.specs.Block.{Block}
-use Rattle.reg_table.specs.Place.{Names, place_among}
 use Rattle.reg_table.specs.Rows.{row_of}
-use Rattle.reg_table.specs.Runs.{runs}
 use Rattle.reg_table.specs.declared.bank.Bank.TheVariants.{Device}
 use Rattle.reg_table.specs.declared.kind.Kind.{Kind}
 use Rattle.reg_table.specs.declared.kind.Kind.TheVariants as kind
 use Rattle.reg_table.specs.declared.place.Place.{Place}
 use Rattle.reg_table.specs.declared.rows.RowId.{RowId}
 use Rattle.reg_table.specs.declared.rows.RowId.TheVariants.{Ctrl}
-use Rattle.reg_table.proofs.Finding.{found-named}
 use Rattle.intr_unit.specs.declared.group.Group.{Group}
 use Rattle.intr_unit.specs.declared.group.Group.TheVariants as group
 use Rattle.register_file.specs.Access.{asks_reset}
@@ -26,13 +23,16 @@ use Rattle.register_file.specs.declared.owner.Owner.TheVariants as owner
 use Rattle.register_file.proofs.Covers.{fails, covers-any_pending}
 use Rattle.register_file.proofs.Owners.{is_place-same}
 use Rattle.nic_device.specs.Footprint.{read_reach, write_reach, receive_reach, reach_by, switch_reach}
+use Rattle.nic_device.specs.Named.{named}
 use Rattle.nic_device.specs.Step.{after, step_of}
 use Rattle.nic_device.specs.State.{State, Waiting}
 use Rattle.device_laws.proofs.Missed.{neither}
 use Rattle.nic_device.proofs.Steps.{step_leads}
 use Rattle.nic_device.specs.declared.event.Event.{Event}
 use Rattle.nic_device.specs.declared.event.Event.TheVariants as event
-use Rattle.nic_device.specs.declared.event.Port.TheVariants.{Pf}
+use Rattle.nic_device.specs.declared.event.Port.{Port}
+use Rattle.nic_device.specs.declared.named.Named.{Named}
+use Rattle.nic_device.specs.declared.named.Named.TheVariants.{Nothing, Register}
 use Rattle.nic_device.specs.declared.event.Reply.{Reply}
 
 -- a row of the device as a whole, which no step of the device changes
@@ -85,11 +85,12 @@ module _ (row : RowId) (is : IsSetting row) where
   none_written_by kind.Eerd p n = other_place p n
   none_written_by interrupts p n = none_pending_of (owner_of p)
 
-  none_written : (o : Option Place) (word : ℕ) → ((p : Place) → o ≡ Some p → IsOther row p)
-      → (write_reach o word).registers.words here ≡ false
-  none_written None word other = refl
-  none_written (Some p) word other =
-      rw (no_reset p.row word (other p refl).control) (none_written_by (row_of p.row).kind p (other p refl).other)
+  none_written : (m : Named) (word : ℕ) → ((p : Place) (view : ℕ) → m ≡ Register p view → IsOther row p)
+      → (write_reach m word).registers.words here ≡ false
+  none_written (Nothing seen) word other = refl
+  none_written (Register p view) word other =
+      let o = other p view refl in
+      rw (no_reset p.row word o.control) (none_written_by (row_of p.row).kind p o.other)
 
   none_owned : (o : Owner) → is_owner o owner.Device ≡ false → is_owner o (owner_of here) ≡ false
   none_owned o n = ap (λ b. is_owner o (owner_in b 0)) is.bank ∙ n
@@ -119,9 +120,9 @@ module _ (row : RowId) (is : IsSetting row) where
   none_read_by kind.Cause p causes = none_pending_of (owner_of p)
   none_read_by other p e = refl
 
-  none_read : (o : Option Place) → (read_reach o).registers.words here ≡ false
-  none_read None = refl
-  none_read (Some p) = none_read_by (row_of p.row).kind p refl
+  none_read : (m : Named) → (read_reach m).registers.words here ≡ false
+  none_read (Nothing seen) = refl
+  none_read (Register p view) = none_read_by (row_of p.row).kind p refl
 
   word_stands : (s : State) (e : Event Block)
       → (reach_by s e (step_of s e).reply).registers.words here ≡ false
@@ -129,13 +130,14 @@ module _ (row : RowId) (is : IsSetting row) where
   word_stands s e none = (step_leads s e).stays.registers.words here none
 
   pub setting_stands : (s : State) (e : Event Block)
-      → ((a word : ℕ) (p : Place) → e ≡ event.Write Pf a word → Names a p → IsOther row p)
+      → ((port : Port) (n word : ℕ) (p : Place) (view : ℕ) → e ≡ event.Write port n word
+      → named s port n ≡ Register p view → IsOther row p)
       → word_of (after s e).registers row 0 ≡ word_of s.registers row 0
   unfolding step_of
-  setting_stands s (event.Read Pf a) other = word_stands s (event.Read Pf a) (none_read (place_among runs a))
-  setting_stands s (event.Write Pf a word) other =
-      word_stands s (event.Write Pf a word)
-      (none_written (place_among runs a) word (λ p found. other a word p refl ((found-named a p).0 found)))
+  setting_stands s (event.Read port n) other = word_stands s (event.Read port n) (none_read (named s port n))
+  setting_stands s (event.Write port n word) other =
+      word_stands s (event.Write port n word)
+      (none_written (named s port n) word (λ p view found. other port n word p view refl found))
   setting_stands s (event.Arrive frame) other =
       word_stands s (event.Arrive frame) (neither _ _ counts_apart (none_pending group.Pf))
   setting_stands s event.RxStep other = word_stands s event.RxStep (none_received s.waiting _)

@@ -1,8 +1,7 @@
 -- Which counters an event counts in, by its reply.
-use Rattle.std.specs.Prelude.{ℕ, ◌≡◌, Bool, false, ◌&&◌, ◌||◌, ⊤, IsFalse, List, [], ◌∷◌, if◌then◌else◌}
+use Rattle.std.specs.Prelude.{ℕ, ◌≡◌, ◌≢◌, Bool, false, ◌&&◌, ◌||◌, ⊤, IsFalse, List, [], ◌∷◌, if◌then◌else◌}
 use Rattle.dma_arena.specs.Block.{Block}
 use Rattle.reg_table.specs.Counter.{bumped}
-use Rattle.reg_table.specs.Place.{Names}
 use Rattle.reg_table.specs.Rows.{row_of}
 use Rattle.reg_table.specs.declared.kind.Kind.TheVariants.{Rc}
 use Rattle.reg_table.specs.declared.place.Place.{Place}
@@ -19,7 +18,8 @@ use Rattle.nic_device.specs.Sound.{IsSound}
 use Rattle.nic_device.specs.State.{State, Waiting}
 use Rattle.nic_device.specs.declared.event.Event.{Event}
 use Rattle.nic_device.specs.declared.event.Event.TheVariants as event
-use Rattle.nic_device.specs.declared.event.Port.TheVariants.{Pf}
+use Rattle.nic_device.specs.declared.named.Named.TheVariants.{Register}
+use Rattle.nic_device.specs.Named.{named}
 use Rattle.nic_device.specs.declared.event.Reply.{Reply}
 use Rattle.nic_device.specs.declared.event.Reply.TheVariants.{Done, Dropped, Wrote, Sent}
 use Rattle.nic_device.specs.declared.event.Why.{Why}
@@ -66,11 +66,11 @@ counts s (event.TxStep queue) reply p = counts_sent s.registers reply p
 counts s other reply p = false
 
 -- an event that doesn't read the place, and asks for no reset
-abbrev pub KeepsCount : Place → Event Block → Type 0
-KeepsCount p (event.Read Pf address) = ¬ Names address p
-KeepsCount p (event.Write Pf address word) =
-    (q : Place) → Names address q → IsFalse (asks_reset (row_of q.row).kind word)
-KeepsCount p other = ⊤
+abbrev pub KeepsCount : State → Place → Event Block → Type 0
+KeepsCount s p (event.Read port number) = (q : Place) (view : ℕ) → named s port number ≡ Register q view → q ≢ p
+KeepsCount s p (event.Write port number word) =
+    (q : Place) (view : ℕ) → named s port number ≡ Register q view → IsFalse (asks_reset (row_of q.row).kind word)
+KeepsCount s p other = ⊤
 
 -- one more, where it is counted; the largest word stays
 abbrev pub with_one : Bool → ℕ → ℕ
@@ -79,5 +79,5 @@ with_one counted word = if counted then bumped word else word
 -- an event counts one more in each counter that it counts in, and leaves every other that it doesn't read
 abbrev pub EventsCount : Type 0
 EventsCount =
-    (s : State) → IsSound s → (e : Event Block) (p : Place) → (row_of p.row).kind ≡ Rc → KeepsCount p e →
+    (s : State) → IsSound s → (e : Event Block) (p : Place) → (row_of p.row).kind ≡ Rc → KeepsCount s p e →
     word_at (after s e).registers.words p ≡ with_one (counts s e (reply_to s e) p) (word_at s.registers.words p)

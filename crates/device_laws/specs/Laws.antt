@@ -22,6 +22,7 @@ use Rattle.register_file.specs.declared.dir.Dir.{Dir}
 use Rattle.nic_device.specs.State.{State, Waiting, new_state}
 use Rattle.nic_device.specs.Outcome.{gives}
 use Rattle.nic_device.specs.Interrupt.{has_group, mode_in}
+use Rattle.nic_device.specs.Named.{named}
 use Rattle.nic_device.specs.Sound.{IsSound, IsEvent}
 use Rattle.nic_device.specs.Step.{step_of, after, reply_to, is_fault}
 use Rattle.nic_device.specs.Transmit.{staged_by}
@@ -29,6 +30,7 @@ use Rattle.nic_device.specs.declared.event.Event.{Event}
 use Rattle.nic_device.specs.declared.event.Event.TheVariants as event
 use Rattle.nic_device.specs.declared.event.Port.TheVariants.{Pf}
 use Rattle.nic_device.specs.declared.event.Reply.{Reply}
+use Rattle.nic_device.specs.declared.named.Named.TheVariants.{Register}
 use Rattle.nic_device.specs.declared.event.Reply.TheVariants.{Word, Stray, Done, Idle, Wrote}
 
 -- after every event no bit is told whose cause or mask is 0
@@ -140,9 +142,10 @@ pub record IsOfNoSetting (p : Place) : Type 0 where
   pub limit : p.row ≢ Maxfrs
   pub mode : p.row ≢ GcrExt
 
-abbrev pub WritesNoSetting : Event Block → Type 0
-WritesNoSetting (event.Write Pf address word) = (p : Place) → Names address p → IsOfNoSetting p
-WritesNoSetting other = ⊤
+abbrev pub WritesNoSetting : State → Event Block → Type 0
+WritesNoSetting s (event.Write port number word) =
+    (p : Place) (view : ℕ) → named s port number ≡ Register p view → IsOfNoSetting p
+WritesNoSetting s other = ⊤
 
 -- keeps the frame limit, and how queues are parted among pools
 pub record KeepsSettings (old new : State) : Type 0 where
@@ -150,7 +153,7 @@ pub record KeepsSettings (old new : State) : Type 0 where
   pub mode : mode_in new.registers ≡ mode_in old.registers
 
 abbrev pub OtherEventsKeepSettings : Type 0
-OtherEventsKeepSettings = (s : State) (e : Event Block) → WritesNoSetting e → KeepsSettings s (after s e)
+OtherEventsKeepSettings = (s : State) (e : Event Block) → WritesNoSetting s e → KeepsSettings s (after s e)
 
 -- what is delivered
 

@@ -1,7 +1,6 @@
 -- What an event leaves alone: all that its reach misses.
 use Rattle.std.specs.Prelude.{ℕ, ◌≡◌, ◌≢◌, ◌⊎◌, Bool, ⊤, IsFalse, List, [], ◌∷◌, length, Some}
 use Rattle.std.specs.FinMap as map
-use Rattle.reg_table.specs.Place.{Names}
 use Rattle.reg_table.specs.Rows.{row_of}
 use Rattle.reg_table.specs.declared.place.Place.{Place}
 use Rattle.dma_arena.specs.Block.{Block}
@@ -19,12 +18,13 @@ use Rattle.register_file.specs.declared.dir.Dir.TheVariants.{Rx, Tx}
 use Rattle.register_file.specs.declared.owner.Owner.TheVariants as owner
 use Rattle.nic_device.specs.Footprint.{Reach, StaysWithin, reach_of, told_back}
 use Rattle.nic_device.specs.Step.{after, reply_to}
-use Rattle.device_laws.specs.Laws.{after_write}
 use Rattle.nic_device.specs.State.{State, Waiting}
 use Rattle.nic_device.specs.Transmit.{staged_by}
 use Rattle.nic_device.specs.declared.event.Event.{Event}
 use Rattle.nic_device.specs.declared.event.Event.TheVariants as event
-use Rattle.nic_device.specs.declared.event.Port.TheVariants.{Pf}
+use Rattle.nic_device.specs.declared.event.Port.{Port}
+use Rattle.nic_device.specs.declared.named.Named.TheVariants.{Register}
+use Rattle.nic_device.specs.Named.{named}
 use Rattle.nic_device.specs.declared.event.Reply.{Reply}
 use Rattle.nic_device.specs.declared.event.Reply.TheVariants.{Wrote}
 
@@ -81,32 +81,31 @@ EventLeavesMissed = (s : State) (e : Event Block) → LeavesMissed (reach_of s e
 
 -- register accesses: a read leaves every queue, and the groups that its place is none of; a write that asks for no
 -- reset leaves the sides of queues and the groups that its place is none of
-pub record ReadLeaves (s : State) (address : ℕ) : Type 0 where
-  pub queues : LeavesQueues s (after s (event.Read Pf address))
+pub record ReadLeaves (s : State) (port : Port) (number : ℕ) : Type 0 where
+  pub queues : LeavesQueues s (after s (event.Read port number))
   pub groups :
-      (g : Group) → ((p : Place) → Names address p → owner_of p ≢ owner.Group g)
-      → LeavesGroup g s (after s (event.Read Pf address))
-  pub memory : LeavesMemory s (after s (event.Read Pf address))
-  pub frames : LeavesFrames s (after s (event.Read Pf address))
+      (g : Group) → ((p : Place) (view : ℕ) → named s port number ≡ Register p view → owner_of p ≢ owner.Group g)
+      → LeavesGroup g s (after s (event.Read port number))
+  pub memory : LeavesMemory s (after s (event.Read port number))
+  pub frames : LeavesFrames s (after s (event.Read port number))
 
 abbrev pub ReadLeavesTheRest : Type 0
-ReadLeavesTheRest = (s : State) (address : ℕ) → ReadLeaves s address
+ReadLeavesTheRest = (s : State) (port : Port) (number : ℕ) → ReadLeaves s port number
 
-pub record WriteLeaves (s : State) (address word : ℕ) (p : Place) : Type 0 where
-  pub receive :
-      (queue : ℕ) → owner_of p ≢ owner.Side Rx queue → LeavesReceive queue s (after_write s address word)
-  pub transmit :
-      (queue : ℕ) → owner_of p ≢ owner.Side Tx queue → LeavesTransmit queue s (after_write s address word)
-  pub groups : (g : Group) → owner_of p ≢ owner.Group g → LeavesGroup g s (after_write s address word)
-  pub frames : LeavesFrames s (after_write s address word)
+pub record WriteLeaves (old new : State) (p : Place) : Type 0 where
+  pub receive : (queue : ℕ) → owner_of p ≢ owner.Side Rx queue → LeavesReceive queue old new
+  pub transmit : (queue : ℕ) → owner_of p ≢ owner.Side Tx queue → LeavesTransmit queue old new
+  pub groups : (g : Group) → owner_of p ≢ owner.Group g → LeavesGroup g old new
+  pub frames : LeavesFrames old new
 
 abbrev pub WriteLeavesTheRest : Type 0
 WriteLeavesTheRest =
-    (s : State) (address word : ℕ) (p : Place) → Names address p → IsFalse (asks_reset (row_of p.row).kind word) →
-    WriteLeaves s address word p
+    (s : State) (port : Port) (number word : ℕ) (p : Place) (view : ℕ) → named s port number ≡ Register p view →
+    IsFalse (asks_reset (row_of p.row).kind word) → WriteLeaves s (after s (event.Write port number word)) p
 
 abbrev pub WriteLeavesMemory : Type 0
-WriteLeavesMemory = (s : State) (address word : ℕ) → LeavesMemory s (after_write s address word)
+WriteLeavesMemory =
+    (s : State) (port : Port) (number word : ℕ) → LeavesMemory s (after s (event.Write port number word))
 
 -- memory calls leave every queue and every group, and the frames. Lending and taking leave the other blocks, a look all
 -- of them, and a write those that its bytes are outside of

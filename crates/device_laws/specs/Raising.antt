@@ -15,7 +15,6 @@ use Rattle.nic_device.specs.Sound.{IsSound}
 use Rattle.nic_device.specs.State.{State}
 use Rattle.nic_device.specs.declared.event.Event.{Event}
 use Rattle.nic_device.specs.declared.event.Event.TheVariants as event
-use Rattle.nic_device.specs.declared.event.Port.TheVariants.{Pf}
 use Rattle.nic_device.specs.declared.event.Reply.{Reply}
 use Rattle.nic_device.specs.declared.event.Reply.TheVariants.{Done, Dropped, Wrote, Advanced, Sent, Fault}
 use Rattle.nic_device.specs.declared.event.Why.{Why}
@@ -82,8 +81,8 @@ after_causes None g i = i
 
 -- an event that isn't a register access or a message
 abbrev pub IsOfTheDevice : Event Block → Type 0
-IsOfTheDevice (event.Read Pf address) = ⊥
-IsOfTheDevice (event.Write Pf address word) = ⊥
+IsOfTheDevice (event.Read port number) = ⊥
+IsOfTheDevice (event.Write port number word) = ⊥
 IsOfTheDevice (event.IntStep g) = ⊥
 IsOfTheDevice other = ⊤
 

@@ -9,6 +9,7 @@ ghost use Rattle.device_laws.specs.Laws.{ToldIsPending, NewDeviceReadsResetValue
 ghost use Rattle.device_laws.specs.Counting.{EventsCount};
 ghost use Rattle.device_laws.specs.Raising.{EventsRaise};
 ghost use Rattle.device_laws.specs.Replies.{ReceivingTells, TransmittingTells, EventsMoveFramesOut, MisalignedChangesNothing};
+ghost use Rattle.device_laws.specs.Ports.{AccessIsThePhysicalFunctions, HolesAndAbsentFunctionsMeetNothing};
 ghost use Rattle.device_laws.specs.Order.{ReceivingHasAnOrder, NothingWaitsIsIdle};
 ghost use Rattle.device_laws.specs.Leaving.{EventStaysWithinReach, EventLeavesMissed, ReadLeavesTheRest, WriteLeavesTheRest, WriteLeavesMemory, MemoryCallsLeaveTheRest, MemoryCallsLeaveOtherBlocks, ArrivalLeavesTheRest, ReceivingLeavesTheRest, ReceivingLeavesOtherBlocks, TransmittingLeavesTheRest, TransmittingLeavesOtherBlocks, SwitchingLeavesTheRest, MessageLeavesTheRest, LinkLeavesTheRest, CollectingLeavesTheRest};
 
@@ -195,4 +196,12 @@ pub fn fault_changes_no_memory()
 /// While CTRL bit 2 is 1 every device step of a queue or a group that there is is idle and changes nothing.
 pub fn stopped_device_is_idle()
     ensures { StoppedDeviceIsIdle }
+{}
+
+/// An access of a virtual function is the physical function's access at the address that its offset stands for: with one
+/// reply, and one state after it. A read of a hole sees 0, a read of a function that isn't there or has no pool all
+/// ones; a write of either is stray, and neither changes anything.
+pub fn vf_access_is_the_physical_functions()
+    ensures access { AccessIsThePhysicalFunctions }
+    ensures nothing { HolesAndAbsentFunctionsMeetNothing }
 {}

@@ -29,5 +29,6 @@ pub use config::{Config, MAX_FIFO, MAX_VFS, NewFault};
 pub use device::{Device, Parts};
 pub use event::{Event, EventNote, Note, OutOfMemory, Port, Reply, ReplyNote, Why};
 pub use intr_unit::Group;
+pub use named::Named;
 pub use register_file::Dir;
 pub use runs::RunStop;

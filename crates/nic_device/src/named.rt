@@ -17,8 +17,8 @@ const HOLE: u32 = 0;
 const ABSENT: u32 = 0xFFFF_FFFF;
 
 /// What a number names at a port.
-#[derive(Clone, Copy)]
-pub(crate) enum Named {
+#[derive(Clone, Copy, PartialEq, Eq, Debug)]
+pub enum Named {
     /// Nothing: a read sees this word.
     Nothing(u32),
     /// A register's word, and the bits of it that show.

@@ -15,6 +15,7 @@ use Rattle.vf_map.specs.declared.mode.Mode.{Mode}
 use Rattle.vf_map.specs.declared.located.Located.{Located}
 use Rattle.vf_map.specs.declared.located.Located.TheVariants.{Register}
 use Rattle.vf_map.specs.declared.mapped.Mapped.TheVariants.{Pf}
+use Rattle.vf_map.specs.declared.mapped.Mapped.TheVariants as mapped_as
 use Rattle.vf_map.specs.Pools.{pool_of}
 use Rattle.vf_map.specs.Owner.{is_pool, is_of_pool, is_of_pool_by, is_shared}
 use Rattle.vf_map.specs.Map.{located, mapped, mapped_to, at_address}
@@ -39,7 +40,7 @@ at_address-found : (o : Option ℕ) (a : ℕ) → at_address o ≡ Pf a → o �
 at_address-found None a e = cc
 at_address-found (Some b) a e = cc
 
-mapped_from : (m : Located) (a : ℕ) → mapped_to m ≡ Pf a →
+pub mapped_from : (m : Located) (a : ℕ) → mapped_to m ≡ Pf a →
     (p : Place) × (m ≡ Register p) × (address_among runs p ≡ Some a)
 mapped_from Located.Absent a e = cc
 mapped_from Located.Hole a e = cc
@@ -85,3 +86,28 @@ apart mode vfs v w o r p d e f =
         | inl other ↦ absurd (d (one_pool mode v w p own other))
       ]
     ]
+
+-- what is located where nothing is mapped
+
+hole_from : (m : Located) → IsInRange m → mapped_to m ≡ mapped_as.Hole → m ≡ Located.Hole
+hole_from Located.Absent inside e = cc
+hole_from Located.Hole inside e = refl
+hole_from (Register p) inside e =
+    let first = first_addresses_read_back p inside in
+    let at : mapped_to (Register p) ≡ Pf first.0 = ap at_address first.1.0 in
+    let no : Pf first.0 ≡ mapped_as.Hole = sym at ∙ e in
+    cc
+
+pub located_hole : (mode : Mode) (vfs v o : ℕ) → mapped mode vfs v o ≡ mapped_as.Hole →
+    located mode vfs v o ≡ Located.Hole
+located_hole mode vfs v o e =
+    hole_from (located mode vfs v o) (in_range (located mode vfs v o) mode vfs v o refl) e
+
+not_absent : (o : Option ℕ) → at_address o ≡ mapped_as.Absent → ⊥
+not_absent None e = cc
+not_absent (Some a) e = cc
+
+pub located_absent : (m : Located) → mapped_to m ≡ mapped_as.Absent → m ≡ Located.Absent
+located_absent Located.Absent e = refl
+located_absent Located.Hole e = cc
+located_absent (Register p) e = absurd (not_absent (address_among runs p) e)

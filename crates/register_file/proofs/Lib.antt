@@ -12,6 +12,7 @@ pub mod Own
 pub mod Owners
 pub mod Puts
 pub mod ReadBack
+pub mod Repeated
 pub mod Settled
 pub mod Shape
 pub mod SideWords

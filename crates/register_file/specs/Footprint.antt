@@ -5,6 +5,9 @@ use Rattle.reg_table.specs.declared.place.Place.{Place}
 use Rattle.reg_table.specs.declared.kind.Kind.{Kind}
 use Rattle.reg_table.specs.declared.kind.Kind.TheVariants as kind
 use Rattle.intr_unit.specs.declared.group.Group.{Group}
+use Rattle.intr_unit.specs.declared.group.Group.TheVariants.{Vf}
+use Rattle.vf_map.specs.Owner.{is_of_pool, has_queue}
+use Rattle.vf_map.specs.declared.mode.Mode.{Mode}
 use Rattle.register_file.specs.Columns.{place}
 use Rattle.register_file.specs.Groups.{cause_row, mask_row, index_of, told_by}
 use Rattle.register_file.specs.Owner.{owner_of, is_owner, is_group}
@@ -38,6 +41,12 @@ pub record Misses (f g : Footprint) : Type 0 where
   pub words : (p : Place) → IsTrue (g.words p) → IsFalse (f.words p)
   pub wanted : (dir : Dir) (queue : ℕ) → IsTrue (g.wanted dir queue) → IsFalse (f.wanted dir queue)
   pub told : (h : Group) → IsTrue (g.told h) → IsFalse (f.told h)
+
+-- two registers have the same of all that a footprint has
+pub record AgreeWithin (f : Footprint) (a b : Registers) : Type 0 where
+  pub words : (p : Place) → IsTrue (f.words p) → word_at a.words p ≡ word_at b.words p
+  pub wanted : (dir : Dir) (queue : ℕ) → IsTrue (f.wanted dir queue) → is_wanted a dir queue ≡ is_wanted b dir queue
+  pub told : (g : Group) → IsTrue (f.told g) → told_by a g ≡ told_by b g
 
 -- nothing, and all
 abbrev pub nothing : Footprint
@@ -80,6 +89,16 @@ of_side dir queue = of_owner (owner.Side dir queue)
 
 abbrev pub of_group : Group → Footprint
 of_group g = of_owner (owner.Group g)
+
+-- all that is a pool's: the words at its places, of its queues whether their sides are wanted on, and what is told of the
+-- virtual function with its number
+abbrev pub of_pool : Mode → ℕ → Footprint
+of_pool mode v =
+    record {
+      words = is_of_pool mode v;
+      wanted = λ dir queue. has_queue mode v queue;
+      told = is_group (Vf v);
+    }
 
 -- what is pending of a group: its causes, its masks and its told bits
 abbrev pub pending : Group → Footprint

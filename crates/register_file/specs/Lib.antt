@@ -9,6 +9,8 @@ pub mod Groups
 pub mod Laws
 pub mod Layout
 pub mod Owner
+pub mod PoolReset
+pub mod Pools
 pub mod Queue
 pub mod Registers
 pub mod Settings

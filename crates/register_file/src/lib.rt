@@ -24,6 +24,7 @@ mod hashing;
 mod interrupts;
 mod laws;
 mod owner;
+mod pools;
 mod queue;
 mod register_file;
 mod settings;

@@ -10,8 +10,12 @@ pub mod InPlace
 pub mod NoSide
 pub mod Own
 pub mod Owners
+pub mod PoolParts
+pub mod PoolReset
+pub mod PoolSound
 pub mod Puts
 pub mod ReadBack
+pub mod Renewed
 pub mod Repeated
 pub mod Settled
 pub mod Shape

@@ -66,7 +66,7 @@ word_at-put-lt r p v shape words small q =
     ]
 
 -- after a reset
-reset_small : (row : RowId) → (row_of row).reset < 2 ^ 32
+pub reset_small : (row : RowId) → (row_of row).reset < 2 ^ 32
 reset_small row.Ctrl = lit< tt
 reset_small other = lit< tt
 

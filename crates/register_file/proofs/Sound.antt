@@ -17,7 +17,7 @@ use Rattle.intr_unit.proofs.Subsets.{IsSubset-no_bits}
 use Rattle.register_file.specs.Access.{after_read, written, stored, group_in, group_read, is_running, asked}
 use Rattle.register_file.specs.Bits.{has_bit}
 use Rattle.register_file.specs.Columns.{place}
-use Rattle.register_file.specs.Counters.{counted}
+use Rattle.register_file.specs.Counters.{counted, counted_wrapping}
 use Rattle.register_file.specs.Eeprom.{eeprom_answered}
 use Rattle.register_file.specs.Footprint.{is_pending}
 use Rattle.register_file.specs.Groups.{index_of, told_by, message_made, causes_raised, queue_raised}
@@ -111,6 +111,10 @@ pub sound-counted : (r : Registers) (row : RowId) (index : ℕ) → (row_of row)
     → AreSound (counted r row index)
 sound-counted r row index e sound =
     sound-put r (place row index) _ sound (bumped-lt _ (sound.words (place row index))) (ap is_pending e)
+
+pub sound-counted_wrapping : (r : Registers) (row : RowId) (index : ℕ) → (row_of row).kind ≡ kind.Ro → AreSound r
+    → AreSound (counted_wrapping r row index)
+sound-counted_wrapping r row index e sound = sound-put r (place row index) _ sound (omega arith) (ap is_pending e)
 
 head_steady : (dir : Dir) → is_pending (row_of (head_row dir)).kind ≡ false
 head_steady Rx = refl

@@ -41,7 +41,7 @@ auto_mask-steady : (g : Group) → (pending g).words (place (auto_mask_row g) (i
 auto_mask-steady Pf = refl
 auto_mask-steady (Vf v) = refl
 
-told_by-with_told : (r : Registers) (g : Group) (told : ℕ) → length r.told_vf ≡ 64 → index_of g < 64
+pub told_by-with_told : (r : Registers) (g : Group) (told : ℕ) → length r.told_vf ≡ 64 → index_of g < 64
     → told_by (with_told r g told) g ≡ told
 told_by-with_told r Pf told h b = refl
 told_by-with_told r (Vf v) told h b = get_or-set_same r.told_vf v told 0 (subst (λ n. v < n) (sym h) b)

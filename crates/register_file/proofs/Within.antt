@@ -1,5 +1,5 @@
 -- What each operation changes.
-use Rattle.std.proofs.Common.{◌≡◌, ℕ, Bool, true, false, refl, ap, sym, ◌∙◌, subst}
+use Rattle.std.proofs.Common.{◌≡◌, ℕ, ◌+◌, ◌%◌, ◌^◌, Bool, true, false, refl, ap, sym, ◌∙◌, subst}
 use Rattle.std.specs.Prelude.{bit_and}
 use Rattle.std.specs.Option.{option_map_or}
 use Rattle.reg_table.specs.Counter.{bumped}
@@ -13,7 +13,7 @@ use Rattle.intr_unit.specs.declared.group.Group.{Group}
 use Rattle.register_file.specs.Access.{after_read, written, stored, group_in, group_read, group_written, is_running, asked}
 use Rattle.register_file.specs.Bits.{has_bit}
 use Rattle.register_file.specs.Columns.{place}
-use Rattle.register_file.specs.Counters.{counted}
+use Rattle.register_file.specs.Counters.{counted, counted_wrapping}
 use Rattle.register_file.specs.Eeprom.{eeprom_answered}
 use Rattle.register_file.specs.Footprint.{Footprint, ChangesWithin, Covers, nothing, of_owner, the_word, the_enable, pending, pending_of, of_side, read_by, of_read, written_by, of_write}
 use Rattle.register_file.specs.Groups.{with_interrupts, message_made, causes_raised, queue_raised}
@@ -109,6 +109,10 @@ within-answered r word = within-word r Eerd 0 _
 pub within-counted : (r : Registers) (row : RowId) (index : ℕ)
     → ChangesWithin (the_word (place row index)) r (counted r row index)
 within-counted r row index = within-word r row index (bumped (word_of r row index))
+
+pub within-counted_wrapping : (r : Registers) (row : RowId) (index : ℕ)
+    → ChangesWithin (the_word (place row index)) r (counted_wrapping r row index)
+within-counted_wrapping r row index = within-word r row index ((word_of r row index + 1) % 2 ^ 32)
 
 pub within-with_head : (r : Registers) (dir : Dir) (queue head : ℕ)
     → ChangesWithin (the_word (place (head_row dir) queue)) r (with_head r dir queue head)

@@ -1,5 +1,5 @@
 -- What the registers promise as a whole, whatever happened before. `view` is the bits that an address shows.
-use Rattle.std.specs.Prelude.{ℕ, ◌/◌, ◌^◌, ◌≡◌, ◌≢◌, ◌<◌, ◌⊎◌, false, IsTrue, IsFalse, List, [], ◌∷◌, All, None, bit_and}
+use Rattle.std.specs.Prelude.{ℕ, ◌+◌, ◌/◌, ◌%◌, ◌^◌, ◌≡◌, ◌≢◌, ◌<◌, ◌⊎◌, false, IsTrue, IsFalse, List, [], ◌∷◌, All, None, bit_and}
 use Rattle.reg_table.specs.Rows.{row_of}
 use Rattle.reg_table.specs.declared.bank.Bank.TheVariants as bank
 use Rattle.reg_table.specs.declared.place.Place.{Place}
@@ -13,7 +13,7 @@ use Rattle.reg_table.specs.Counter.{bumped}
 use Rattle.register_file.specs.Access.{read_word, after_read, written}
 use Rattle.register_file.specs.Bits.{merged, has_bit}
 use Rattle.register_file.specs.Columns.{place}
-use Rattle.register_file.specs.Counters.{counted, mapping_row, counter_of}
+use Rattle.register_file.specs.Counters.{counted, counted_wrapping, mapping_row, counter_of}
 use Rattle.register_file.specs.Eeprom.{eeprom_index, eeprom_asked, eeprom_answered}
 use Rattle.register_file.specs.Footprint.{Footprint, ChangesWithin, Covers, Misses, the_word, the_enable, of_owner, of_side, of_group, pending, pending_of, any_pending, of_read, of_write}
 use Rattle.register_file.specs.Groups.{cause_row, mask_row, auto_clear_row, auto_mask_row, index_of, told_by, interrupts_of, with_interrupts, clears_others, auto_masks, vector_row, vector_entry, causes_raised, queue_raised, message_made}
@@ -181,6 +181,19 @@ CountersCount =
     (r : Registers) → HasShape r → (p : Place) → p.index < (row_of p.row).count → (row_of p.row).kind ≡ kind.Rc →
     CountsAndClears r p
 
+-- a counter that is read-only: what is counted is read, one more each time, 0 after the largest word, and a read and a
+-- write leave it
+pub record GoesRound (r : Registers) (p : Place) : Type 0 where
+  pub counts : (around : Surroundings)
+      → read_word kind.Ro (counted_wrapping r p.row p.index) around p ≡ (read_word kind.Ro r around p + 1) % 2 ^ 32
+  pub stays : after_read kind.Ro r p ≡ r
+  pub kept : (view word : ℕ) → written kind.Ro r p view word ≡ r
+
+abbrev pub ReadOnlyCountersGoRound : Type 0
+ReadOnlyCountersGoRound =
+    (r : Registers) → HasShape r → (p : Place) → p.index < (row_of p.row).count → (row_of p.row).kind ≡ kind.Ro →
+    GoesRound r p
+
 -- the rows that are calculated are those with a formula
 abbrev pub CalculatedRowsHaveFormulas : Type 0
 CalculatedRowsHaveFormulas =
@@ -220,6 +233,11 @@ WriteStaysWithin =
 abbrev pub CountStaysWithin : Type 0
 CountStaysWithin =
     (r : Registers) (row : RowId) (index : ℕ) → ChangesWithin (the_word (place row index)) r (counted r row index)
+
+abbrev pub CountWrappingStaysWithin : Type 0
+CountWrappingStaysWithin =
+    (r : Registers) (row : RowId) (index : ℕ) →
+    ChangesWithin (the_word (place row index)) r (counted_wrapping r row index)
 
 abbrev pub AnswerStaysWithin : Type 0
 AnswerStaysWithin = (r : Registers) (word : ℕ) → ChangesWithin (the_word (place Eerd 0)) r (eeprom_answered r word)
@@ -329,6 +347,11 @@ abbrev pub CountKeepsSound : Type 0
 CountKeepsSound =
     (r : Registers) → AreSound r → (row : RowId) (index : ℕ) → (row_of row).kind ≡ kind.Rc →
     AreSound (counted r row index)
+
+abbrev pub CountWrappingKeepsSound : Type 0
+CountWrappingKeepsSound =
+    (r : Registers) → AreSound r → (row : RowId) (index : ℕ) → (row_of row).kind ≡ kind.Ro →
+    AreSound (counted_wrapping r row index)
 
 abbrev pub AnswerKeepsSound : Type 0
 AnswerKeepsSound = (r : Registers) → AreSound r → (word : ℕ) → word < 2 ^ 16 → AreSound (eeprom_answered r word)

@@ -9,6 +9,7 @@ pub mod Groups
 pub mod Laws
 pub mod Layout
 pub mod Owner
+pub mod PoolLaws
 pub mod PoolReset
 pub mod Pools
 pub mod Queue

@@ -1,9 +1,10 @@
 -- Register accesses: where they lead.
-use Rattle.std.proofs.Common.{◌≡◌, ℕ, true, [], refl, arith}
+use Rattle.std.proofs.Common.{◌≡◌, ℕ, cond, true, [], refl, arith}
 use Rattle.std.proofs.lemmas.Bool.{cond_both}
 use Rattle.reg_table.specs.Rows.{row_of}
 use Rattle.reg_table.specs.declared.place.Place.{Place}
-use Rattle.register_file.specs.Access.{asks_reset, after_read}
+use Rattle.register_file.specs.Access.{asks_reset, asks_pool_reset, after_read}
+use Rattle.register_file.specs.Pools.{mode_in}
 use Rattle.register_file.specs.Laws.{after_write}
 use Rattle.register_file.specs.Registers.{reset_registers}
 use Rattle.register_file.proofs.Sound.{sound-after_read, sound-written, sound-reset}
@@ -12,6 +13,8 @@ use Rattle.nic_device.specs.Access.{named_read, named_written}
 use Rattle.nic_device.specs.Named.{named}
 use Rattle.nic_device.specs.Footprint.{read_reach, write_reach, StaysWithin}
 use Rattle.nic_device.specs.Outcome.{Outcome, gives}
+use Rattle.nic_device.specs.PoolReset.{with_pool_reset}
+use Rattle.nic_device.proofs.PoolReset.{pool_reset_sound, pool_reset_stays}
 use Rattle.nic_device.specs.Sound.{IsSound}
 use Rattle.nic_device.specs.State.{State, reset}
 use Rattle.nic_device.proofs.Keeping.{sound-registers, sound-waiting, sound-staged, stays-registers, AreStaged-none}
@@ -45,7 +48,7 @@ reset_sound s h =
     (sound-staged (record s { waiting = [] }) _ (sound-waiting s [] h tt (omega arith)) AreStaged-none) sound-reset
 
 reset_stays : (s : State) (p : Place) (view word : ℕ) → asks_reset (row_of p.row).kind word ≡ true
-    → StaysWithin (write_reach (Register p view) word) s (reset s)
+    → StaysWithin (write_reach (mode_in s.registers) (Register p view) word) s (reset s)
 reset_stays s p view word asks = rw asks (record {
   registers = record { words = λ q no. cc; wanted = λ dir queue no. cc; told = λ g no. cc };
   blocks = λ n no. refl;
@@ -59,24 +62,34 @@ reset_stays s p view word asks = rw asks (record {
 })
 
 pub write_leads : (s : State) (port : Port) (n word : ℕ) (m : Named)
-    → ((r : Outcome) → StaysWithin (write_reach m word) s r.state
-    → StaysWithin (write_reach (named s port n) word) s r.state)
+    → ((r : Outcome) → StaysWithin (write_reach (mode_in s.registers) m word) s r.state
+    → StaysWithin (write_reach (mode_in s.registers) (named s port n) word) s r.state)
     → Leads s (event.Write port n word) (named_written s m word)
 write_leads s port n word (Nothing seen) here = leads-still s (event.Write port n word) (Stray 0) (λ no. refl)
 write_leads s port n word (Register p view) here =
     let r = after_write s.registers p view word in
-    cond_both (asks_reset (row_of p.row).kind word) (reset s) (record s { registers = r })
-    (λ (t : State). Leads s (event.Write port n word) (gives Done t))
+    let pool = with_pool_reset s p.index in
+    let asked = asks_pool_reset (row_of p.row).kind word in
+    let P : State → Type 0 = λ t. Leads s (event.Write port n word) (gives Done t) in
+    let reach = write_reach (mode_in s.registers) (Register p view) word in
+    cond_both (asks_reset (row_of p.row).kind word) (reset s) (cond asked pool (record s { registers = r })) P
     (λ asks. record {
       sound = λ h is. reset_sound s h;
       stays = here (gives Done (reset s)) (reset_stays s p view word asks);
       hands = λ no. refl;
       faults = λ no. refl;
     })
-    (λ none. record {
-      sound = λ h is. sound-registers s r h (sound-written s.registers p view word h.registers is.2);
-      stays = here (gives Done (record s { registers = r }))
-          (stays-registers (write_reach (Register p view) word) s r (rw none (within-written s.registers p view word)));
+    (λ none. cond_both asked pool (record s { registers = r }) P
+    (λ asks. record {
+      sound = λ h is. pool_reset_sound s p.index h;
+      stays = here (gives Done pool) (rw (none, asks) (pool_reset_stays s p.index));
       hands = λ no. refl;
       faults = λ no. refl;
     })
+    (λ plain. record {
+      sound = λ h is. sound-registers s r h (sound-written s.registers p view word h.registers is.2);
+      stays = here (gives Done (record s { registers = r }))
+          (stays-registers reach s r (rw (none, plain) (within-written s.registers p view word)));
+      hands = λ no. refl;
+      faults = λ no. refl;
+    }))

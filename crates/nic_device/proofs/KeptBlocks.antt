@@ -1,17 +1,16 @@
 -- No block comes or goes but by lending and taking.
 use Rattle.std.proofs.Common.{◌≡◌, ℕ, false, List, [], ◌∷◌, refl}
 use Rattle.dma_arena.specs.Block.{Block}
-use Rattle.reg_table.specs.Rows.{row_of}
-use Rattle.register_file.specs.Access.{asks_reset}
-use Rattle.register_file.specs.Footprint.{of_write}
 use Rattle.register_file.specs.declared.dir.Dir.{Dir}
 use Rattle.register_file.specs.declared.dir.Dir.TheVariants.{Rx, Tx}
-use Rattle.nic_device.specs.Footprint.{Reach, in_registers, read_reach, write_reach, reset_reach, reach_by, receive_reach, switch_reach}
+use Rattle.nic_device.specs.Footprint.{Reach, read_reach, write_reach, reach_by, receive_reach, switch_reach}
 use Rattle.nic_device.specs.Kept.{OtherEventsKeepBlocks}
 use Rattle.nic_device.specs.Named.{named}
 use Rattle.nic_device.specs.State.{State, Waiting}
 use Rattle.nic_device.specs.Step.{step_of, moves_block}
-use Rattle.nic_device.proofs.Cases.{either_way}
+use Rattle.nic_device.proofs.Cases.{write_cases}
+use Rattle.register_file.specs.Pools.{mode_in}
+use Rattle.vf_map.specs.declared.mode.Mode.{Mode}
 use Rattle.nic_device.proofs.Steps.{step_leads}
 use Rattle.nic_device.specs.declared.event.Event.{Event}
 use Rattle.nic_device.specs.declared.event.Event.TheVariants as event
@@ -19,11 +18,10 @@ use Rattle.nic_device.specs.declared.event.Reply.{Reply}
 use Rattle.nic_device.specs.declared.named.Named.{Named}
 use Rattle.nic_device.specs.declared.named.Named.TheVariants.{Nothing, Register}
 
-none_lent_written : (m : Named) (word number : ℕ) → (write_reach m word).lent number ≡ false
-none_lent_written (Nothing seen) word number = refl
-none_lent_written (Register p view) word number =
-    either_way (λ (r : Reach). r.lent number ≡ false) (asks_reset (row_of p.row).kind word) reset_reach
-    (in_registers (of_write p)) refl refl
+none_lent_written : (mode : Mode) (m : Named) (word number : ℕ) → (write_reach mode m word).lent number ≡ false
+none_lent_written mode m word number =
+    write_cases (λ (r : Reach). r.lent number ≡ false) mode m word
+    (record { nothing = refl; reset = refl; pool = λ v. refl; word = λ p. refl })
 
 none_lent_read : (m : Named) (number : ℕ) → (read_reach m).lent number ≡ false
 none_lent_read (Nothing seen) number = refl
@@ -41,7 +39,8 @@ none_lent_switched Tx queue number = refl
 none_lent : (s : State) (e : Event Block) (reply : Reply Block) (number : ℕ) → moves_block e ≡ false
     → (reach_by s e reply).lent number ≡ false
 none_lent s (event.Read port n) reply number none = none_lent_read (named s port n) number
-none_lent s (event.Write port n word) reply number none = none_lent_written (named s port n) word number
+none_lent s (event.Write port n word) reply number none = 
+    none_lent_written (mode_in s.registers) (named s port n) word number
 none_lent s (event.Lend block) reply number none = cc
 none_lent s (event.Take taken) reply number none = cc
 none_lent s event.RxStep reply number none = none_lent_received s.waiting reply number

@@ -12,6 +12,7 @@ pub mod Leads
 pub mod Lists
 pub mod Memory
 pub mod Pieces
+pub mod PoolReset
 pub mod Queued
 pub mod Raising
 pub mod Receiving

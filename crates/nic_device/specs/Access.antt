@@ -2,9 +2,10 @@
 use Rattle.std.specs.Prelude.{ℕ, bit_and, if◌then◌else◌}
 use Rattle.reg_table.specs.Rows.{row_of}
 use Rattle.reg_table.specs.declared.place.Place.{Place}
-use Rattle.register_file.specs.Access.{read_word, after_read, written, asks_reset}
+use Rattle.register_file.specs.Access.{read_word, after_read, asks_reset}
 use Rattle.register_file.specs.declared.surroundings.Surroundings.{Surroundings}
 use Rattle.nic_device.specs.Named.{named}
+use Rattle.nic_device.specs.PoolReset.{written_below_reset}
 use Rattle.nic_device.specs.State.{State, reset}
 use Rattle.nic_device.specs.Outcome.{Outcome, gives}
 use Rattle.nic_device.specs.declared.event.Port.{Port}
@@ -33,7 +34,7 @@ named_read s (Register p view) = gives (Word (bit_and (word_read s p) view)) (st
 abbrev pub state_written : State → Place → ℕ → ℕ → State
 state_written s p view word =
     if asks_reset (row_of p.row).kind word then reset s
-    else record s { registers = written (row_of p.row).kind s.registers p view word }
+    else written_below_reset s p view word
 
 -- a write of what a number names
 abbrev pub named_written : State → Named → ℕ → Outcome

@@ -4,9 +4,13 @@ use Rattle.std.specs.FinMap as map
 use Rattle.dma_arena.specs.Block.{Block}
 use Rattle.dma_arena.specs.Memory.{has_block}
 use Rattle.reg_table.specs.Rows.{row_of}
+use Rattle.reg_table.specs.declared.place.Place.{Place}
+use Rattle.vf_map.specs.Owner.{has_queue}
+use Rattle.vf_map.specs.declared.mode.Mode.{Mode}
 use Rattle.intr_unit.specs.declared.group.Group.TheVariants as group
-use Rattle.register_file.specs.Access.{asks_reset}
-use Rattle.register_file.specs.Footprint.{Footprint, ChangesWithin, nothing, everything, either, counters, of_side, pending, any_pending, of_read, of_write}
+use Rattle.register_file.specs.Access.{asks_reset, asks_pool_reset}
+use Rattle.register_file.specs.Footprint.{Footprint, ChangesWithin, nothing, everything, either, counters, of_side, of_pool, pending, any_pending, of_read, of_write}
+use Rattle.register_file.specs.Pools.{mode_in}
 use Rattle.register_file.specs.Sides.{transmit_queue_of}
 use Rattle.register_file.specs.declared.dir.Dir.{Dir}
 use Rattle.register_file.specs.declared.dir.Dir.TheVariants.{Rx, Tx}
@@ -73,10 +77,24 @@ read_reach (Register p view) = in_registers (of_read p)
 abbrev pub reset_reach : Reach
 reset_reach = record nowhere { registers = everything; staged = λ queue. true; waiting = true }
 
--- a write of a word to a register, or to nothing
-abbrev pub write_reach : Named → ℕ → Reach
-write_reach (Nothing seen) word = nowhere
-write_reach (Register p view) word = if asks_reset (row_of p.row).kind word then reset_reach else in_registers (of_write p)
+-- a reset of a pool leaves all that isn't the pool's, lent memory, frames out and the link
+abbrev pub pool_reach : Mode → ℕ → Reach
+pool_reach mode v = record nowhere {
+  registers = of_pool mode v;
+  staged = λ queue. has_queue mode v queue;
+  waiting = true;
+}
+
+-- a write that asks for no reset of the device
+abbrev pub below_reset_reach : Mode → Place → ℕ → Reach
+below_reset_reach mode p word =
+    if asks_pool_reset (row_of p.row).kind word then pool_reach mode p.index else in_registers (of_write p)
+
+-- a write of a word to a register, or to nothing, as the queues are parted among pools
+abbrev pub write_reach : Mode → Named → ℕ → Reach
+write_reach mode (Nothing seen) word = nowhere
+write_reach mode (Register p view) word =
+    if asks_reset (row_of p.row).kind word then reset_reach else below_reset_reach mode p word
 
 -- whether a block has some of so many bytes from an address on
 abbrev pub has_some_of : ℕ → ℕ → ℕ → Bool
@@ -128,7 +146,8 @@ switch_reach Tx queue = record nowhere { registers = of_side Tx queue; staged = 
 -- what an event may change, by the reply to it
 abbrev pub reach_by : State → Event Block → Reply Block → Reach
 reach_by s (event.Read port number) reply = read_reach (named s port number)
-reach_by s (event.Write port number word) reply = write_reach (named s port number) word
+reach_by s (event.Write port number word) reply =
+    write_reach (mode_in s.registers) (named s port number) word
 reach_by s (event.Lend block) reply = the_block block.number
 reach_by s (event.Take number) reply = the_block number
 reach_by s (event.Peek16 address) reply = nowhere

@@ -1,4 +1,5 @@
 pub mod Named
+pub mod PoolReset
 pub mod Access
 pub mod Arrival
 pub mod Config

@@ -4,13 +4,14 @@ ghost use Rattle.std.specs.Prelude.{◌≡◌, ◌<◌, [], length, replicate};
 ghost use Rattle.reg_table.specs.Rows.{row_of};
 ghost use Rattle.nic_device.specs.State.{reset};
 ghost use Rattle.nic_device.specs.Access.{around, register_read, register_written, state_written};
+ghost use Rattle.nic_device.specs.PoolReset.{written_below_reset};
 ghost use Rattle.nic_device.specs.Step.{word_told};
 
 use crate::engine::Engine;
 use crate::event::{Port, Reply};
 use crate::named::Named;
 use reg_table::Place;
-use register_file::{Surroundings, asks_reset};
+use register_file::{Surroundings, asks_pool_reset, asks_reset};
 use tx_ring::Staged;
 
 /// The size of the EEPROM's image: 64 words.
@@ -63,6 +64,19 @@ impl Engine {
     {
         if asks_reset(place, word) {
             self.reset();
+        } else {
+            self.write_below_reset(place, view, word);
+        }
+    }
+
+    /// Writes a place where no reset of the device is asked for, through an address that shows the bits of `view`. A
+    /// write that asks for a reset of a pool does nothing else.
+    pub(crate) fn write_below_reset(&mut self, place: Place, view: u32, word: u32)
+        requires { place.index < (row_of place.row).count }
+        ensures { self.new ≡ written_below_reset self.old place view word }
+    {
+        if asks_pool_reset(place, word) {
+            self.reset_pool(place.index as u8);
         } else {
             self.registers.write(place, view, word);
         }

@@ -19,6 +19,7 @@ mod interrupt;
 mod lending;
 mod link;
 mod named;
+mod pools;
 mod receive;
 mod runs;
 mod switching;

@@ -21,3 +21,4 @@ pub mod Staging
 pub mod Steps
 pub mod SwitchedSides
 pub mod Targets
+pub mod Triples

@@ -1,5 +1,5 @@
 -- A reset of a pool keeps a device sound, and leaves all that isn't the pool's.
-use Rattle.std.proofs.Common.{◌≡◌, ◌≢◌, ◌≤◌, ◌<◌, ◌+◌, ℕ, zero, suc, Bool, true, false, List, [], ◌∷◌, length, get_or, Option, Some, None, refl, ap, ◌∙◌, arith}
+use Rattle.std.proofs.Common.{◌≡◌, ◌≢◌, ◌≤◌, ◌<◌, ◌+◌, ◌^◌, ℕ, zero, suc, Bool, true, false, List, [], ◌∷◌, length, get_or, Option, Some, None, refl, ap, ◌∙◌, arith}
 use Rattle.std.specs.Prelude.{All, filter, not}
 use Rattle.std.proofs.lemmas.Bool.{cond_both, eq-eqb}
 use Rattle.std.proofs.lemmas.List.{get_or-set_other}
@@ -17,9 +17,12 @@ use Rattle.register_file.specs.Pools.{mode_in}
 use Rattle.register_file.proofs.PoolReset.{renewed-pool}
 use Rattle.register_file.proofs.PoolSound.{sound-pool_reset}
 use Rattle.nic_device.specs.Footprint.{pool_reach, StaysWithin}
-use Rattle.nic_device.specs.PoolReset.{unstaged, pool_unstaged, others_waiting, with_pool_reset}
+use Rattle.nic_device.specs.PoolReset.{unstaged, pool_unstaged, others_waiting, with_pool_reset, written_below_reset}
 use Rattle.nic_device.specs.Sound.{IsSound, IsUnbegun, AreWaiting, AreStaged}
 use Rattle.nic_device.specs.State.{State, Waiting}
+use Rattle.reg_table.specs.declared.place.Place.{Place}
+use Rattle.register_file.proofs.Sound.{sound-written}
+use Rattle.nic_device.proofs.Cases.{either_way}
 use Rattle.nic_device.proofs.Keeping.{sound-registers, sound-waiting, sound-staged, AreStaged-set}
 
 -- only PVFCTRL asks for a reset of a pool, and it has 64 indices
@@ -93,6 +96,13 @@ pool_reset_sound s v h =
     (AreStaged-pool s.staged (queues_of mode v) h.staged))
     (sound-pool_reset s.registers mode v h.registers)
 
+-- and so does a write that asks for no reset of the device
+pub below_reset_sound : (s : State) (p : Place) (view word : ℕ) → word < 2 ^ 32 → IsSound s
+    → IsSound (written_below_reset s p view word)
+below_reset_sound s p view word small h =
+    either_way IsSound (asks_pool_reset (row_of p.row).kind word) (with_pool_reset s p.index) _
+    (pool_reset_sound s p.index h) (sound-registers s _ h (sound-written s.registers p view word h.registers small))
+
 pub pool_reset_stays : (s : State) (v : ℕ) → StaysWithin (pool_reach (mode_in s.registers) v) s (with_pool_reset s v)
 pool_reset_stays s v = record {
   registers = (renewed-pool s.registers (mode_in s.registers) v).alone;
@@ -103,6 +113,7 @@ pool_reset_stays s v = record {
   waiting = λ no. cc;
   out = λ no. refl;
   link = λ no. refl;
+  image = refl;
   vfs = refl;
   fifo = refl;
 }

@@ -1,21 +1,23 @@
 -- Register accesses, by the kind of the row.
-use Rattle.std.specs.Prelude.{ℕ, bit_and, if◌then◌else◌}
+use Rattle.std.specs.Prelude.{ℕ, length, bit_and, if◌then◌else◌}
+use Rattle.eeprom_image.specs.Image.{doublings}
 use Rattle.reg_table.specs.Rows.{row_of}
 use Rattle.reg_table.specs.declared.place.Place.{Place}
 use Rattle.register_file.specs.Access.{read_word, after_read, asks_reset}
 use Rattle.register_file.specs.declared.surroundings.Surroundings.{Surroundings}
+use Rattle.nic_device.specs.Eeprom.{reset}
 use Rattle.nic_device.specs.Named.{named}
 use Rattle.nic_device.specs.PoolReset.{written_below_reset}
-use Rattle.nic_device.specs.State.{State, reset}
+use Rattle.nic_device.specs.State.{State}
 use Rattle.nic_device.specs.Outcome.{Outcome, gives}
 use Rattle.nic_device.specs.declared.event.Port.{Port}
 use Rattle.nic_device.specs.declared.event.Reply.TheVariants.{Word, Stray, Done}
 use Rattle.nic_device.specs.declared.named.Named.{Named}
 use Rattle.nic_device.specs.declared.named.Named.TheVariants.{Nothing, Register}
 
--- what lies around the registers: the link, and an EEPROM image of 64 words
+-- what lies around the registers: the link, and the size of the EEPROM's image
 abbrev pub around : State → Surroundings
-around s = record { link = s.link; eeprom = 0 }
+around s = record { link = s.link; eeprom = doublings (length s.image) }
 
 -- the word that a read of a place gives, before the address cuts it
 abbrev pub word_read : State → Place → ℕ

@@ -3,6 +3,7 @@ pub mod PoolReset
 pub mod Access
 pub mod Arrival
 pub mod Config
+pub mod Eeprom
 pub mod Footprint
 pub mod Interrupt
 pub mod Kept

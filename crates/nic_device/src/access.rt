@@ -2,7 +2,8 @@
 
 ghost use Rattle.std.specs.Prelude.{◌≡◌, ◌<◌, [], length, replicate};
 ghost use Rattle.reg_table.specs.Rows.{row_of};
-ghost use Rattle.nic_device.specs.State.{reset};
+ghost use Rattle.nic_device.specs.State.{cleared};
+ghost use Rattle.nic_device.specs.Eeprom.{reset};
 ghost use Rattle.nic_device.specs.Access.{around, register_read, register_written, state_written};
 ghost use Rattle.nic_device.specs.PoolReset.{written_below_reset};
 ghost use Rattle.nic_device.specs.Step.{word_told};
@@ -13,9 +14,6 @@ use crate::named::Named;
 use reg_table::Place;
 use register_file::{Surroundings, asks_pool_reset, asks_reset};
 use tx_ring::Staged;
-
-/// The size of the EEPROM's image: 64 words.
-const BLANK_IMAGE: u8 = 0;
 
 impl Engine {
     /// Reads by a number of a port.
@@ -88,13 +86,21 @@ impl Engine {
     {
         Surroundings {
             link: self.link,
-            eeprom: BLANK_IMAGE,
+            eeprom: self.image.doublings(),
         }
     }
 
-    /// Resets the device.
+    /// Resets the device, and then makes the register writes of the EEPROM's image.
     fn reset(&mut self)
         ensures { self.new ≡ reset self.old }
+    {
+        self.clear();
+        self.apply_image();
+    }
+
+    /// What a reset clears.
+    fn clear(&mut self)
+        ensures { self.new ≡ cleared self.old }
     {
         self.registers.reset();
         self.waiting.clear();

@@ -6,13 +6,15 @@ use Rattle.reg_table.specs.Place.{Names, place_among, view_among}
 use Rattle.reg_table.specs.declared.place.Place.{Place}
 use Rattle.reg_table.proofs.Finding.{found-named}
 use Rattle.reg_table.proofs.InRange.{named_in_range}
-use Rattle.register_file.specs.Access.{read_word, after_read, written, stored, asks_reset}
+use Rattle.register_file.specs.Access.{read_word, after_read, written, stored, asks_reset, asks_pool_reset}
+use Rattle.nic_device.specs.PoolReset.{with_pool_reset}
 use Rattle.register_file.specs.Bits.{merged}
 use Rattle.register_file.specs.Words.{word_at}
 use Rattle.register_file.specs.Registers.{Registers}
 use Rattle.register_file.proofs.Puts.{word_at-put_other, word_at-reset}
 use Rattle.register_file.proofs.Shape.{put_stands}
-use Rattle.nic_device.specs.State.{State, new_state, reset}
+use Rattle.nic_device.specs.Eeprom.{reset}
+use Rattle.nic_device.specs.State.{State, new_state}
 use Rattle.nic_device.specs.Outcome.{gives}
 use Rattle.nic_device.specs.Access.{around, named_read, named_written, state_read, state_written}
 use Rattle.nic_device.specs.Named.{at_place}
@@ -46,8 +48,8 @@ registers-written : (s : State) (a word : ℕ) (p : Place) → IsPlain a p
     → (after_write s a word).registers ≡ stored s.registers p (view_among runs a) word
 registers-written s a word p plain =
     ap (λ (t : State). t.registers) (state-written s a word p plain.named)
-    ∙ ap (λ k. (cond (asks_reset k word) (reset s)
-    (record s { registers = written k s.registers p (view_among runs a) word })).registers) plain.plain
+    ∙ ap (λ k. (cond (asks_reset k word) (reset s) (cond (asks_pool_reset k word) (with_pool_reset s p.index)
+    (record s { registers = written k s.registers p (view_among runs a) word }))).registers) plain.plain
 
 pub new_reads : (vfs fifo a : ℕ) (p : Place) → IsPlain a p
     → reply_to_read (new_state vfs fifo) a ≡ Word (shown a (row_of p.row).reset)

@@ -12,6 +12,8 @@ pub mod Delivered
 pub mod Kept
 pub mod Ports
 pub mod KeptSettings
+pub mod EepromReads
+pub mod Imaged
 pub mod Missed
 pub mod Order
 pub mod RepliesOut

@@ -14,7 +14,9 @@ use Rattle.device_laws.specs.Replies.{out_sent, out_collected, EventsMoveFramesO
 use Rattle.nic_device.specs.State.{State}
 use Rattle.nic_device.specs.Step.{step_of}
 use Rattle.nic_device.specs.Transmit.{transmitted, fetched_reply, with_frame}
-use Rattle.nic_device.proofs.Cases.{either_way, transmitted_cases}
+use Rattle.register_file.specs.Pools.{mode_in}
+use Rattle.vf_map.specs.declared.mode.Mode.{Mode}
+use Rattle.nic_device.proofs.Cases.{write_cases, transmitted_cases}
 use Rattle.device_laws.proofs.Standing.{stays_within}
 use Rattle.device_laws.proofs.StandingAccesses.{read_rest}
 use Rattle.device_laws.proofs.StandingQueues.{receiving_rest, switching_rest}
@@ -24,11 +26,10 @@ use Rattle.nic_device.specs.declared.named.Named.TheVariants.{Nothing, Register}
 use Rattle.nic_device.specs.declared.event.Reply.TheVariants.{Done, Bytes, NotLent, Misaligned}
 
 -- no write changes the frames out
-write_out : (m : Named) (word : ℕ) → (write_reach m word).out ≡ false
-write_out (Nothing seen) word = refl
-write_out (Register p view) word =
-    either_way (λ (r : Reach). r.out ≡ false) (asks_reset (row_of p.row).kind word) reset_reach
-    (in_registers (of_write p)) refl refl
+write_out : (mode : Mode) (m : Named) (word : ℕ) → (write_reach mode m word).out ≡ false
+write_out mode m word =
+    write_cases (λ (r : Reach). r.out ≡ false) mode m word
+    (record { nothing = refl; reset = refl; pool = λ v. refl; word = λ p. refl })
 
 -- a step of transmitting
 fetched_out : (s new : State) (queue : ℕ) (f : Fetched) (o : Option (List ℕ)) → new.out ≡ with_frame s.out queue o
@@ -54,7 +55,7 @@ pub frames_out : EventsMoveFramesOut
 unfolding step_of
 frames_out s (event.Read port n) = (read_rest s port n).frames.out
 frames_out s (event.Write port n word) =
-    (stays_within s (event.Write port n word)).out (write_out (named s port n) word)
+    (stays_within s (event.Write port n word)).out (write_out (mode_in s.registers) (named s port n) word)
 frames_out s event.RxStep = (receiving_rest s).out
 frames_out s (event.TxStep queue) = transmitted_out s queue
 frames_out s (event.QueueStep dir queue) = (switching_rest s dir queue).out

@@ -8,10 +8,14 @@ use Rattle.reg_table.specs.declared.kind.Kind.{Kind}
 use Rattle.reg_table.specs.declared.kind.Kind.TheVariants as kind
 use Rattle.reg_table.specs.declared.place.Place.{Place}
 use Rattle.reg_table.specs.declared.rows.RowId.{RowId}
-use Rattle.reg_table.specs.declared.rows.RowId.TheVariants.{Ctrl}
+use Rattle.reg_table.specs.declared.rows.RowId.TheVariants.{Ctrl, Eerd}
 use Rattle.intr_unit.specs.declared.group.Group.{Group}
 use Rattle.intr_unit.specs.declared.group.Group.TheVariants as group
-use Rattle.register_file.specs.Access.{asks_reset}
+use Rattle.register_file.specs.Access.{asks_reset, asks_pool_reset}
+use Rattle.register_file.specs.Pools.{mode_in}
+use Rattle.vf_map.specs.declared.mode.Mode.{Mode}
+use Rattle.vf_map.specs.Owner.{is_of_pool_by}
+use Rattle.nic_device.proofs.Cases.{either_way}
 use Rattle.register_file.specs.Columns.{place}
 use Rattle.register_file.specs.Footprint.{is_place, is_pending, any_pending, pending, pending_of, read_by, written_by}
 use Rattle.register_file.specs.Owner.{owner_in, owner_of, is_owner}
@@ -22,7 +26,7 @@ use Rattle.register_file.specs.declared.owner.Owner.{Owner}
 use Rattle.register_file.specs.declared.owner.Owner.TheVariants as owner
 use Rattle.register_file.proofs.Covers.{fails, covers-any_pending}
 use Rattle.register_file.proofs.Owners.{is_place-same}
-use Rattle.nic_device.specs.Footprint.{read_reach, write_reach, receive_reach, reach_by, switch_reach}
+use Rattle.nic_device.specs.Footprint.{read_reach, write_reach, receive_reach, reach_by, switch_reach, Reach, pool_reach}
 use Rattle.nic_device.specs.Named.{named}
 use Rattle.nic_device.specs.Step.{after, step_of}
 use Rattle.nic_device.specs.State.{State, Waiting}
@@ -40,13 +44,14 @@ pub record IsSetting (row : RowId) : Type 0 where
   pub bank : (row_of row).bank ≡ Device
   pub steady : (row_of row).kind ≢ kind.Rc
   pub quiet : is_pending (row_of row).kind ≡ false
+  pub unread : Eerd ≢ row
 
 -- a write of another row, which isn't CTRL
 pub record IsOther (row : RowId) (p : Place) : Type 0 where
   pub control : p.row ≢ Ctrl
   pub other : p.row ≢ row
 
-no_reset : (row : RowId) (word : ℕ) → row ≢ Ctrl → asks_reset (row_of row).kind word ≡ false
+pub no_reset : (row : RowId) (word : ℕ) → row ≢ Ctrl → asks_reset (row_of row).kind word ≡ false
 no_reset Ctrl word n = absurd (n refl)
 no_reset other word n = refl
 
@@ -85,12 +90,17 @@ module _ (row : RowId) (is : IsSetting row) where
   none_written_by kind.Eerd p n = other_place p n
   none_written_by interrupts p n = none_pending_of (owner_of p)
 
-  none_written : (m : Named) (word : ℕ) → ((p : Place) (view : ℕ) → m ≡ Register p view → IsOther row p)
-      → (write_reach m word).registers.words here ≡ false
-  none_written (Nothing seen) word other = refl
-  none_written (Register p view) word other =
+  none_pooled : (mode : Mode) (v : ℕ) → (pool_reach mode v).registers.words here ≡ false
+  none_pooled mode v = ap (λ b. is_of_pool_by b mode v 0) is.bank
+
+  none_written : (mode : Mode) (m : Named) (word : ℕ) → ((p : Place) (view : ℕ) → m ≡ Register p view → IsOther row p)
+      → (write_reach mode m word).registers.words here ≡ false
+  none_written mode (Nothing seen) word other = refl
+  none_written mode (Register p view) word other =
       let o = other p view refl in
-      rw (no_reset p.row word o.control) (none_written_by (row_of p.row).kind p o.other)
+      rw (no_reset p.row word o.control)
+      (either_way (λ (r : Reach). r.registers.words here ≡ false) (asks_pool_reset (row_of p.row).kind word) _ _
+      (none_pooled mode p.index) (none_written_by (row_of p.row).kind p o.other))
 
   none_owned : (o : Owner) → is_owner o owner.Device ≡ false → is_owner o (owner_of here) ≡ false
   none_owned o n = ap (λ b. is_owner o (owner_in b 0)) is.bank ∙ n
@@ -124,6 +134,9 @@ module _ (row : RowId) (is : IsSetting row) where
   none_read (Nothing seen) = refl
   none_read (Register p view) = none_read_by (row_of p.row).kind p refl
 
+  not_eerd : is_place (place Eerd 0) here ≡ false
+  not_eerd = other_place (place Eerd 0) (λ same. is.unread same)
+
   word_stands : (s : State) (e : Event Block)
       → (reach_by s e (step_of s e).reply).registers.words here ≡ false
       → word_of (after s e).registers row 0 ≡ word_of s.registers row 0
@@ -137,7 +150,7 @@ module _ (row : RowId) (is : IsSetting row) where
   setting_stands s (event.Read port n) other = word_stands s (event.Read port n) (none_read (named s port n))
   setting_stands s (event.Write port n word) other =
       word_stands s (event.Write port n word)
-      (none_written (named s port n) word (λ p view found. other port n word p view refl found))
+      (none_written (mode_in s.registers) (named s port n) word (λ p view found. other port n word p view refl found))
   setting_stands s (event.Arrive frame) other =
       word_stands s (event.Arrive frame) (neither _ _ counts_apart (none_pending group.Pf))
   setting_stands s event.RxStep other = word_stands s event.RxStep (none_received s.waiting _)
@@ -145,5 +158,6 @@ module _ (row : RowId) (is : IsSetting row) where
   setting_stands s (event.IntStep g) other = word_stands s (event.IntStep g) (none_pending g)
   setting_stands s (event.QueueStep dir queue) other =
       word_stands s (event.QueueStep dir queue) (none_switched dir queue)
+  setting_stands s event.EepromStep other = word_stands s event.EepromStep not_eerd
   setting_stands s (event.Link up) other = word_stands s (event.Link up) (none_pending group.Pf)
   setting_stands s e other = word_stands s e refl

@@ -4,7 +4,7 @@ use Rattle.std.specs.Prelude.{IsFalse}
 use Rattle.reg_table.specs.Rows.{row_of}
 use Rattle.reg_table.specs.declared.place.Place.{Place}
 use Rattle.intr_unit.specs.declared.group.Group.{Group}
-use Rattle.register_file.specs.Access.{asks_reset}
+use Rattle.register_file.specs.Access.{asks_reset, asks_pool_reset}
 use Rattle.register_file.specs.Footprint.{Misses, of_owner, of_side, of_group, of_read, of_write}
 use Rattle.register_file.specs.Owner.{owner_of}
 use Rattle.register_file.specs.declared.dir.Dir.{Dir}
@@ -14,12 +14,14 @@ use Rattle.register_file.specs.declared.owner.Owner.TheVariants as owner
 use Rattle.register_file.proofs.Covers.{misses-narrower, misses-owner}
 use Rattle.register_file.proofs.Footprints.{covers-of_read, covers-of_write}
 use Rattle.register_file.proofs.NoSide.{read_misses_sides}
-use Rattle.nic_device.specs.Footprint.{Reach, StaysWithin, in_registers, read_reach, write_reach, reset_reach}
+use Rattle.nic_device.specs.Footprint.{Reach, StaysWithin, in_registers, read_reach, write_reach, reset_reach, pool_reach, below_reset_reach}
 use Rattle.nic_device.specs.Named.{named}
 use Rattle.nic_device.specs.Step.{after}
 use Rattle.device_laws.specs.Leaving.{ReadLeavesTheRest, WriteLeavesTheRest, WriteLeavesMemory}
 use Rattle.nic_device.specs.State.{State}
-use Rattle.nic_device.proofs.Cases.{either_way}
+use Rattle.nic_device.proofs.Cases.{write_cases}
+use Rattle.register_file.specs.Pools.{mode_in}
+use Rattle.vf_map.specs.declared.mode.Mode.{Mode}
 use Rattle.device_laws.proofs.Missed.{misses-nothing, owners_apart}
 use Rattle.device_laws.proofs.Standing.{stays_within, missed, leaves_missed, same_memory}
 use Rattle.nic_device.specs.declared.event.Event.TheVariants as event
@@ -68,11 +70,14 @@ read_rest s port n =
 
 -- a write that asks for no reset changes the registers alone
 written_stays : (s : State) (port : Port) (n word : ℕ) (p : Place) (view : ℕ) → named s port n ≡ Register p view
-    → IsFalse (asks_reset (row_of p.row).kind word)
+    → IsFalse (asks_reset (row_of p.row).kind word) → IsFalse (asks_pool_reset (row_of p.row).kind word)
     → StaysWithin (in_registers (of_write p)) s (after s (event.Write port n word))
-written_stays s port n word p view found none =
-    let reach : write_reach (named s port n) word ≡ in_registers (of_write p) =
-    ap (λ m. write_reach m word) found ∙ ap (λ b. cond b reset_reach (in_registers (of_write p))) none in
+written_stays s port n word p view found none plain =
+    let mode = mode_in s.registers in
+    let reach : write_reach mode (named s port n) word ≡ in_registers (of_write p) =
+    ap (λ m. write_reach mode m word) found
+    ∙ ap (λ b. cond b reset_reach (below_reset_reach mode p word)) none
+    ∙ ap (λ b. cond b (pool_reach mode p.index) (in_registers (of_write p))) plain in
     subst (λ r. StaysWithin r s (after s (event.Write port n word))) reach (stays_within s (event.Write port n word))
 
 misses_write : (p : Place) (o : Owner) → owner_of p ≢ o → Misses (of_write p) (of_owner o)
@@ -81,8 +86,8 @@ misses_write p o other =
     (misses-owner (owner_of p) o (owners_apart (owner_of p) o other))
 
 pub write_rest : WriteLeavesTheRest
-write_rest s port n word p view found none =
-    let stays = written_stays s port n word p view found none in
+write_rest s port n word p view found none plain =
+    let stays = written_stays s port n word p view found none plain in
     let rest = missed _ s (after s (event.Write port n word)) stays in
     record {
       receive = λ queue other. rest.receive queue (misses_write p (owner.Side Rx queue) other);
@@ -91,13 +96,12 @@ write_rest s port n word p view found none =
       frames = record { waiting = stays.waiting refl; out = stays.out refl };
     }
 
-no_block_written : (m : Named) (word number : ℕ) → (write_reach m word).blocks number ≡ false
-no_block_written (Nothing seen) word number = refl
-no_block_written (Register p view) word number =
-    either_way (λ (r : Reach). r.blocks number ≡ false) (asks_reset (row_of p.row).kind word) reset_reach
-    (in_registers (of_write p)) refl refl
+no_block_written : (mode : Mode) (m : Named) (word number : ℕ) → (write_reach mode m word).blocks number ≡ false
+no_block_written mode m word number =
+    write_cases (λ (r : Reach). r.blocks number ≡ false) mode m word
+    (record { nothing = refl; reset = refl; pool = λ v. refl; word = λ p. refl })
 
 pub write_memory : WriteLeavesMemory
 write_memory s port n word =
     same_memory s.memory _ (λ number. (stays_within s (event.Write port n word)).blocks number
-    (no_block_written (named s port n) word number))
+    (no_block_written (mode_in s.registers) (named s port n) word number))

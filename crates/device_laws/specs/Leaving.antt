@@ -8,7 +8,7 @@ use Rattle.dma_arena.specs.Memory.{Avoids}
 use Rattle.tx_ring.specs.Report.{report_length}
 use Rattle.intr_unit.specs.declared.group.Group.{Group}
 use Rattle.intr_unit.specs.declared.group.Group.TheVariants as group
-use Rattle.register_file.specs.Access.{asks_reset}
+use Rattle.register_file.specs.Access.{asks_reset, asks_pool_reset}
 use Rattle.register_file.specs.Footprint.{Misses, of_side, of_group}
 use Rattle.register_file.specs.Groups.{interrupts_of}
 use Rattle.register_file.specs.Owner.{owner_of}
@@ -101,7 +101,8 @@ pub record WriteLeaves (old new : State) (p : Place) : Type 0 where
 abbrev pub WriteLeavesTheRest : Type 0
 WriteLeavesTheRest =
     (s : State) (port : Port) (number word : ℕ) (p : Place) (view : ℕ) → named s port number ≡ Register p view →
-    IsFalse (asks_reset (row_of p.row).kind word) → WriteLeaves s (after s (event.Write port number word)) p
+    IsFalse (asks_reset (row_of p.row).kind word) → IsFalse (asks_pool_reset (row_of p.row).kind word) →
+    WriteLeaves s (after s (event.Write port number word)) p
 
 abbrev pub WriteLeavesMemory : Type 0
 WriteLeavesMemory =
@@ -202,6 +203,16 @@ pub record LeavesAllButGroup (g : Group) (old new : State) : Type 0 where
 
 abbrev pub MessageLeavesTheRest : Type 0
 MessageLeavesTheRest = (s : State) (g : Group) → LeavesAllButGroup g s (after s (event.IntStep g))
+
+-- a step of the EEPROM leaves every queue, every group, the memory and the frames
+pub record EepromLeaves (old new : State) : Type 0 where
+  pub queues : LeavesQueues old new
+  pub groups : (g : Group) → LeavesGroup g old new
+  pub memory : LeavesMemory old new
+  pub frames : LeavesFrames old new
+
+abbrev pub EepromStepLeavesTheRest : Type 0
+EepromStepLeavesTheRest = (s : State) → EepromLeaves s (after s event.EepromStep)
 
 -- the link with the cause that it raises leaves as much beside the physical function's group
 abbrev pub LinkLeavesTheRest : Type 0

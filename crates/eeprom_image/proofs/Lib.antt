@@ -12,3 +12,4 @@ pub mod Images
 pub mod Unique
 pub mod Blank
 pub mod TripleLists
+pub mod Sizes

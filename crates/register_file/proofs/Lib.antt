@@ -1,3 +1,4 @@
+pub mod Agreeing
 pub mod Answered
 pub mod Bits
 pub mod Columns
@@ -10,7 +11,9 @@ pub mod InPlace
 pub mod NoSide
 pub mod Own
 pub mod Owners
+pub mod PoolAgreement
 pub mod PoolParts
+pub mod PoolPlaces
 pub mod PoolReset
 pub mod PoolSound
 pub mod Puts

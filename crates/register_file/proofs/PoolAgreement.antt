@@ -1,78 +1,38 @@
--- Registers that agree of a pool, after the same access of one of its places and after its reset.
-use Rattle.std.proofs.Common.{◌≡◌, ℕ, ◌<◌, Bool, true, false, cond, refl, ap, sym, ◌∙◌, inl, inr, arith}
+-- Registers that agree of a pool, after the same access of one of its places.
+use Rattle.std.proofs.Common.{◌≡◌, ℕ, Bool, true, refl, ap}
 use Rattle.std.specs.Prelude.{bit_and}
 use Rattle.std.specs.Option.{option_map_or}
-use Rattle.std.proofs.lemmas.Bool.{cases_lt, eq-eqb}
-use Rattle.std.proofs.lemmas.List.{get_or_past}
+use Rattle.std.proofs.lemmas.Bool.{eq-eqb}
 use Rattle.reg_table.specs.Rows.{row_of}
 use Rattle.reg_table.specs.declared.kind.Kind.{Kind}
 use Rattle.reg_table.specs.declared.kind.Kind.TheVariants as kind
 use Rattle.reg_table.specs.declared.place.Place.{Place}
-use Rattle.reg_table.specs.declared.rows.RowId.{RowId}
-use Rattle.reg_table.specs.declared.rows.RowId.TheVariants as row
 use Rattle.reg_table.specs.declared.rows.RowId.TheVariants.{Pvteicr, Pvteims, Pvteiac, Pvteiam}
 use Rattle.intr_unit.specs.Group.{bits_cleared_by_read}
 use Rattle.intr_unit.specs.Interrupts.{of_words, raised, after_read as causes_read, after_write_one, after_mask_set, after_mask_clear}
 use Rattle.intr_unit.specs.declared.group.Group.{Group}
-use Rattle.intr_unit.specs.declared.group.Group.TheVariants.{Pf, Vf}
-use Rattle.vf_map.specs.Owner.{is_of_pool, is_of_pool_by, has_queue}
+use Rattle.intr_unit.specs.declared.group.Group.TheVariants.{Vf}
+use Rattle.vf_map.specs.Owner.{is_of_pool, has_queue}
 use Rattle.vf_map.specs.declared.mode.Mode.{Mode}
-use Rattle.register_file.specs.Access.{read_word, after_read, written, stored, group_in, group_read, interrupts_written, is_running, asked}
-use Rattle.register_file.specs.Agreement.{SharedReadsTellTheSame, PoolReadsTellTheSame, PoolReadsKeepAgreement, PoolWritesKeepAgreement, PoolResetMakesAgreement}
+use Rattle.register_file.specs.Access.{after_read, written, stored, group_in, group_read, interrupts_written, is_running, asked}
+use Rattle.register_file.specs.Agreement.{PoolReadsKeepAgreement, PoolWritesKeepAgreement}
 use Rattle.register_file.specs.Bits.{has_bit, merged}
 use Rattle.register_file.specs.Columns.{place}
 use Rattle.register_file.specs.Footprint.{AgreeWithin, of_pool}
-use Rattle.register_file.specs.Groups.{index_of, told_by, interrupts_of, clears_others}
+use Rattle.register_file.specs.Groups.{interrupts_of, clears_others}
 use Rattle.register_file.specs.Owner.{owner_of}
-use Rattle.register_file.specs.PoolReset.{pool_reset}
 use Rattle.register_file.specs.Queue.{enable_row, is_on}
-use Rattle.register_file.specs.Registers.{Registers, is_wanted}
+use Rattle.register_file.specs.Registers.{Registers}
 use Rattle.register_file.specs.Sound.{HasShape}
-use Rattle.register_file.specs.Words.{word_at, row_words}
 use Rattle.register_file.specs.declared.dir.Dir.{Dir}
 use Rattle.register_file.specs.declared.dir.Dir.TheVariants.{Rx, Tx}
 use Rattle.register_file.specs.declared.owner.Owner.{Owner}
 use Rattle.register_file.specs.declared.owner.Owner.TheVariants as owner
-use Rattle.register_file.specs.declared.surroundings.Surroundings.{Surroundings}
 use Rattle.register_file.proofs.Agreeing.{agree-put, agree-with_wanted, agree-with_interrupts, agree-if}
-use Rattle.register_file.proofs.PoolPlaces.{group_of_pool, side_of_pool, shared_rows}
-use Rattle.register_file.proofs.PoolReset.{renewed-pool}
+use Rattle.register_file.proofs.PoolPlaces.{group_of_pool, side_of_pool}
 use Rattle.register_file.proofs.Shape.{HasShape-put}
 
--- the rows that are calculated are the device's
-calculated_is_the_devices : (x : RowId) (mode : Mode) (v i : ℕ) → (row_of x).kind ≡ kind.Calc
-    → is_of_pool_by (row_of x).bank mode v i ≡ false
-calculated_is_the_devices row.Ctrl mode v i e = cc
-calculated_is_the_devices row.Status mode v i e = refl
-calculated_is_the_devices row.Links mode v i e = refl
-calculated_is_the_devices row.Eec mode v i e = refl
-calculated_is_the_devices other mode v i e = cc
-
-pub same_shared : SharedReadsTellTheSame
-same_shared a b e around p is =
-    shared_rows (λ x. read_word (row_of x).kind a around (record { row = x; index = p.index })
-    ≡ read_word (row_of x).kind b around (record { row = x; index = p.index }))
-    (ap (λ t. cond t 0 0x00080000) e) refl p is
-
 module _ (mode : Mode) (v : ℕ) (a b : Registers) (same : AgreeWithin (of_pool mode v) a b) where
-  read_same : (k : Kind) (around : Surroundings) (p : Place) → (row_of p.row).kind ≡ k → is_of_pool mode v p ≡ true
-      → read_word k a around p ≡ read_word k b around p
-  read_same kind.Rw around p e is = same.words p is
-  read_same kind.Ro around p e is = same.words p is
-  read_same kind.Calc around p e is =
-      let none = calculated_is_the_devices p.row mode v p.index e in
-      cc
-  read_same kind.Rc around p e is = same.words p is
-  read_same kind.Cause around p e is = same.words p is
-  read_same kind.Ones around p e is = same.words p is
-  read_same kind.Set around p e is = refl
-  read_same kind.Clear around p e is = refl
-  read_same kind.Held around p e is = same.words p is
-  read_same kind.Enable around p e is = same.words p is
-  read_same kind.Ctrl around p e is = same.words p is
-  read_same kind.Vreset around p e is = refl
-  read_same kind.Eerd around p e is = same.words p is
-
   -- the interrupts of the pool's virtual function
   interrupts_same : interrupts_of a (Vf v) ≡ interrupts_of b (Vf v)
   interrupts_same =
@@ -167,53 +127,9 @@ module _ (mode : Mode) (v : ℕ) (a b : Registers) (same : AgreeWithin (of_pool 
     write_agrees kind.Vreset p view word is = same
     write_agrees kind.Eerd p view word is = agree-stored p view (bit_and word 0xFFFD) is
 
-pub same_told : PoolReadsTellTheSame
-same_told mode v a b same around p is = read_same mode v a b same (row_of p.row).kind around p refl is
-
 pub agree-read : PoolReadsKeepAgreement
 agree-read mode v a b ha hb same p is = read_agrees mode v a b same ha hb (row_of p.row).kind p is
 
 pub agree-write : PoolWritesKeepAgreement
 agree-write mode v a b ha hb same p is view word =
     write_agrees mode v a b same ha hb (row_of p.row).kind p view word is
-
--- what lies past the end is 0, or not wanted
-word_past : (r : Registers) → HasShape r → (p : Place) → (p.index < (row_of p.row).count → ⊥) → word_at r.words p ≡ 0
-word_past r h p out =
-    let short = h.has_indices p.row in
-    get_or_past (row_words r.words p.row) p.index 0 (omega arith)
-
-wanted_past : (r : Registers) → HasShape r → (dir : Dir) (queue : ℕ) → (queue < 128 → ⊥) → is_wanted r dir queue ≡ false
-wanted_past r h Rx queue out = let short = h.wanted_rx in get_or_past r.wanted_rx queue false (omega arith)
-wanted_past r h Tx queue out = let short = h.wanted_tx in get_or_past r.wanted_tx queue false (omega arith)
-
-told_past : (r : Registers) → HasShape r → (g : Group) → (index_of g < 64 → ⊥) → told_by r g ≡ 0
-told_past r h Pf out = absurd (out (omega arith))
-told_past r h (Vf v) out = let short = h.told_vf in get_or_past r.told_vf v 0 (omega arith)
-
-pub agree-reset : PoolResetMakesAgreement
-agree-reset mode v a b ha hb =
-    let left = renewed-pool a mode v in
-    let right = renewed-pool b mode v in
-    let new_a : Registers = pool_reset mode v a in
-    let new_b : Registers = pool_reset mode v b in
-    record {
-      words = λ p is. elim (cases_lt p.index (row_of p.row).count) as (λ _. word_at new_a.words p ≡ word_at new_b.words p) [
-        | inl inside ↦ left.words ha p is inside ∙ sym (right.words hb p is inside)
-        | inr past ↦
-            let out : p.index < (row_of p.row).count → ⊥ = λ h. omega arith in
-            word_past new_a (left.shape ha) p out ∙ sym (word_past new_b (right.shape hb) p out)
-      ];
-      wanted = λ dir queue is. elim (cases_lt queue 128) as (λ _. is_wanted new_a dir queue ≡ is_wanted new_b dir queue) [
-        | inl inside ↦ left.wanted ha dir queue is inside ∙ sym (right.wanted hb dir queue is inside)
-        | inr past ↦
-            let out : queue < 128 → ⊥ = λ h. omega arith in
-            wanted_past new_a (left.shape ha) dir queue out ∙ sym (wanted_past new_b (right.shape hb) dir queue out)
-      ];
-      told = λ g is. elim (cases_lt (index_of g) 64) as (λ _. told_by new_a g ≡ told_by new_b g) [
-        | inl inside ↦ left.told ha g is inside ∙ sym (right.told hb g is inside)
-        | inr past ↦
-            let out : index_of g < 64 → ⊥ = λ h. omega arith in
-            told_past new_a (left.shape ha) g out ∙ sym (told_past new_b (right.shape hb) g out)
-      ];
-    }

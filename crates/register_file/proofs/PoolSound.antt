@@ -22,7 +22,8 @@ use Rattle.register_file.specs.Words.{word_at, row_words}
 use Rattle.register_file.specs.declared.owner.Owner.TheVariants as owner
 use Rattle.register_file.proofs.Footprints.{misses-within, covers-pending}
 use Rattle.register_file.proofs.Owners.{is_group-same, is_owner-same}
-use Rattle.register_file.proofs.PoolReset.{turned, renewed-pool}
+use Rattle.register_file.proofs.PoolQueues.{turned}
+use Rattle.register_file.proofs.PoolReset.{renewed-pool}
 use Rattle.register_file.proofs.Small.{reset_small}
 use Rattle.register_file.proofs.SoundParts.{told_stands}
 

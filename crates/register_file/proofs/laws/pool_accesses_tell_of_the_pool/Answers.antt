@@ -1,4 +1,6 @@
-use Rattle.register_file.proofs.PoolAgreement.{same_told, same_shared, agree-read, agree-write, agree-reset}
+use Rattle.register_file.proofs.PoolAfterReset.{agree-reset}
+use Rattle.register_file.proofs.PoolAgreement.{agree-read, agree-write}
+use Rattle.register_file.proofs.PoolReads.{same_told, same_shared}
 use Rattle.register_file.proofs.laws.pool_accesses_tell_of_the_pool.Goals as goal
 
 pub returns-clause-word : goal.returns-clause-word

@@ -25,13 +25,14 @@ module _ (f : Footprint) (a b : Registers) (ha : HasShape a) (hb : HasShape b) (
   pub agree-put : (p : Place) (v w : ℕ) → v ≡ w
       → AgreeWithin f (record a { words = put a.words p v }) (record b { words = put b.words p w })
   agree-put p v w e = record {
-    words = λ q is. elim (cases_Bool (is_place p q)) as (λ _. word_at (put a.words p v) q ≡ word_at (put b.words p w) q) [
-      | inl here ↦ subst (λ x. word_at (put a.words p v) x ≡ word_at (put b.words p w) x) (is_place-same p q here)
-          (word_put a ha p v ∙ ap (λ x. cond (nat_lt p.index (row_of p.row).count) x 0) e ∙ sym (word_put b hb p w))
-      | inr other ↦
-          let n = apart (is_place p) p q (is_place-itself p) other in
-          word_at-put_other a.words p q v n ∙ same.words q is ∙ sym (word_at-put_other b.words p q w n)
-    ];
+    words = λ q is. elim (cases_Bool (is_place p q)) as
+        (λ _. word_at (put a.words p v) q ≡ word_at (put b.words p w) q) [
+          | inl here ↦ subst (λ x. word_at (put a.words p v) x ≡ word_at (put b.words p w) x) (is_place-same p q here)
+              (word_put a ha p v ∙ ap (λ x. cond (nat_lt p.index (row_of p.row).count) x 0) e ∙ sym (word_put b hb p w))
+          | inr other ↦
+              let n = apart (is_place p) p q (is_place-itself p) other in
+              word_at-put_other a.words p q v n ∙ same.words q is ∙ sym (word_at-put_other b.words p q w n)
+        ];
     wanted = λ dir queue is. is_wanted-put a p v dir queue ∙ same.wanted dir queue is
         ∙ sym (is_wanted-put b p w dir queue);
     told = λ g is. told_by-put a p v g ∙ same.told g is ∙ sym (told_by-put b p w g);

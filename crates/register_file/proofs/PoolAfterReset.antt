@@ -37,18 +37,20 @@ agree-reset mode v a b ha hb =
     let new_a : Registers = pool_reset mode v a in
     let new_b : Registers = pool_reset mode v b in
     record {
-      words = λ p is. elim (cases_lt p.index (row_of p.row).count) as (λ _. word_at new_a.words p ≡ word_at new_b.words p) [
-        | inl inside ↦ left.words ha p is inside ∙ sym (right.words hb p is inside)
-        | inr past ↦
-            let out : p.index < (row_of p.row).count → ⊥ = λ h. omega arith in
-            word_past new_a (left.shape ha) p out ∙ sym (word_past new_b (right.shape hb) p out)
-      ];
-      wanted = λ dir queue is. elim (cases_lt queue 128) as (λ _. is_wanted new_a dir queue ≡ is_wanted new_b dir queue) [
-        | inl inside ↦ left.wanted ha dir queue is inside ∙ sym (right.wanted hb dir queue is inside)
-        | inr past ↦
-            let out : queue < 128 → ⊥ = λ h. omega arith in
-            wanted_past new_a (left.shape ha) dir queue out ∙ sym (wanted_past new_b (right.shape hb) dir queue out)
-      ];
+      words = λ p is. elim (cases_lt p.index (row_of p.row).count) as
+          (λ _. word_at new_a.words p ≡ word_at new_b.words p) [
+            | inl inside ↦ left.words ha p is inside ∙ sym (right.words hb p is inside)
+            | inr past ↦
+                let out : p.index < (row_of p.row).count → ⊥ = λ h. omega arith in
+                word_past new_a (left.shape ha) p out ∙ sym (word_past new_b (right.shape hb) p out)
+          ];
+      wanted = λ dir queue is. elim (cases_lt queue 128) as
+          (λ _. is_wanted new_a dir queue ≡ is_wanted new_b dir queue) [
+            | inl inside ↦ left.wanted ha dir queue is inside ∙ sym (right.wanted hb dir queue is inside)
+            | inr past ↦
+                let out : queue < 128 → ⊥ = λ h. omega arith in
+                wanted_past new_a (left.shape ha) dir queue out ∙ sym (wanted_past new_b (right.shape hb) dir queue out)
+          ];
       told = λ g is. elim (cases_lt (index_of g) 64) as (λ _. told_by new_a g ≡ told_by new_b g) [
         | inl inside ↦ left.told ha g is inside ∙ sym (right.told hb g is inside)
         | inr past ↦

@@ -53,7 +53,8 @@ module _ (mode : Mode) (v : ℕ) (a b : Registers) (same : AgreeWithin (of_pool 
     agree-interrupts_written : (k : Kind) (bits : ℕ)
         → AgreeWithin (of_pool mode v) (interrupts_written k a (Vf v) bits) (interrupts_written k b (Vf v) bits)
     agree-interrupts_written kind.Cause bits =
-        agree-with_interrupts (of_pool mode v) a b ha hb same _ _ (ap (λ i. after_write_one i bits true) interrupts_same)
+        agree-with_interrupts (of_pool mode v) a b ha hb same _ _
+        (ap (λ i. after_write_one i bits true) interrupts_same)
     agree-interrupts_written kind.Ones bits =
         agree-with_interrupts (of_pool mode v) a b ha hb same _ _ (ap (λ i. after_mask_set i bits) interrupts_same)
     agree-interrupts_written kind.Set bits =

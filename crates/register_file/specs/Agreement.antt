@@ -14,7 +14,8 @@ use Rattle.register_file.specs.declared.surroundings.Surroundings.{Surroundings}
 
 -- an access of a pool's place, where it asks for no reset, may change nothing but what is the pool's
 abbrev pub PoolReadsStayWithin : Type 0
-PoolReadsStayWithin = (mode : Mode) (v : ℕ) (p : Place) → IsTrue (is_of_pool mode v p) → Covers (of_pool mode v) (of_read p)
+PoolReadsStayWithin =
+    (mode : Mode) (v : ℕ) (p : Place) → IsTrue (is_of_pool mode v p) → Covers (of_pool mode v) (of_read p)
 
 abbrev pub PoolWritesStayWithin : Type 0
 PoolWritesStayWithin =

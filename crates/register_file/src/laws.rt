@@ -45,8 +45,8 @@ pub fn stored_word_reads_back()
 {}
 
 /// What an operation changes is in its footprint: of a read and a write that of its place, of a count, of an answer of
-/// the EEPROM and of a moved head the one word, of raised causes and of a message what is pending of the group, of a switch the enable word, and
-/// of a fault the enable word and whether the side is wanted on.
+/// the EEPROM and of a moved head the one word, of raised causes and of a message what is pending of the group, of a
+/// switch the enable word, and of a fault the enable word and whether the side is wanted on.
 pub fn changes_stay_in_their_footprint()
     ensures read { ReadStaysWithin }
     ensures write { WriteStaysWithin }
@@ -158,8 +158,8 @@ pub fn reset_pool_is_reset()
     ensures sound { PoolResetKeepsSound }
 {}
 
-/// An access of a pool's register, where it asks for no reset, changes nothing but what is the pool's, and one of STATUS
-/// or LINKS nothing at all.
+/// An access of a pool's register, where it asks for no reset, changes nothing but what is the pool's, and one of
+/// STATUS or LINKS nothing at all.
 pub fn pool_accesses_stay_within()
     ensures read { PoolReadsStayWithin }
     ensures write { PoolWritesStayWithin }

@@ -26,7 +26,8 @@ four_queues v i small = grind (arith, nat_tests)
 pub two_queues : (v i : ℕ) → v < 64 → ((v * 2 == i) || ((v * 2 + 1 == i) || false)) ≡ has_queue Pools64 v i
 two_queues v i small = grind (arith, nat_tests)
 
-pub two_vectors : (v i : ℕ) → v < 32 → ((v * 4 / 2 == i) || ((v * 4 / 2 + 1 == i) || false)) ≡ has_queue Pools32 v (2 * i)
+pub two_vectors : (v i : ℕ) → v < 32
+    → ((v * 4 / 2 == i) || ((v * 4 / 2 + 1 == i) || false)) ≡ has_queue Pools32 v (2 * i)
 two_vectors v i small = grind (arith, nat_tests)
 
 pub one_vector : (v i : ℕ) → v < 64 → ((v * 2 / 2 == i) || false) ≡ has_queue Pools64 v (2 * i)

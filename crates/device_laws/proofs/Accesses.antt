@@ -12,7 +12,8 @@ use Rattle.register_file.specs.Words.{word_at}
 use Rattle.register_file.specs.Registers.{Registers}
 use Rattle.register_file.proofs.Puts.{word_at-put_other, word_at-reset}
 use Rattle.register_file.proofs.Shape.{put_stands}
-use Rattle.nic_device.specs.State.{State, new_state, reset}
+use Rattle.nic_device.specs.Eeprom.{reset}
+use Rattle.nic_device.specs.State.{State, new_state}
 use Rattle.nic_device.specs.Outcome.{gives}
 use Rattle.nic_device.specs.Access.{around, place_read, place_written, state_read, state_written}
 use Rattle.nic_device.specs.Sound.{IsSound}

@@ -36,7 +36,7 @@ use Rattle.nic_device.proofs.Coming.{counted_in}
 use Rattle.nic_device.proofs.Raising.{of_step, head_moved, covers-counters}
 use Rattle.device_laws.proofs.Standing.{memory_rest}
 use Rattle.device_laws.proofs.StandingQueues.{switching_rest}
-use Rattle.device_laws.proofs.StandingRest.{collecting_rest}
+use Rattle.device_laws.proofs.StandingRest.{eeprom_rest, collecting_rest}
 use Rattle.nic_device.specs.declared.event.Event.{Event}
 use Rattle.nic_device.specs.declared.event.Event.TheVariants as event
 use Rattle.nic_device.specs.declared.event.Port.TheVariants.{Pf}
@@ -144,6 +144,7 @@ events_raise s h event.RxStep is g = received_raises s h g
 events_raise s h (event.TxStep queue) is g = transmitted_raises s queue h g
 events_raise s h (event.IntStep other) never g = absurd never
 events_raise s h (event.QueueStep dir queue) is g = (switching_rest s dir queue).groups g
+events_raise s h event.EepromStep is g = (eeprom_rest s).groups g
 events_raise s h (event.Link up) is g =
     link_cases (Raises s (event.Link up)) s up (λ o. refl)
     (λ o. device_raises s.registers s.registers link_cause h.registers.shape o refl) g

@@ -44,11 +44,6 @@ not_pending (group.Vf v) p is =
     neither _ _ (elsewhere (place Pvteicr v) p (λ (e : kind.Cause ≡ Rc). cc) is)
     (elsewhere (place Pvteims v) p (λ (e : kind.Ones ≡ Rc). cc) is)
 
--- what registers come to count, of others, where a test says in which counters
-abbrev pub CountsIn : Registers → (Place → Bool) → Registers → Type 0
-CountsIn r test new =
-    (p : Place) → (row_of p.row).kind ≡ Rc → word_at new.words p ≡ with_one (test p) (word_at r.words p)
-
 -- one more at a place
 pub counted_there : (r : Registers) (row : RowId) (index : ℕ) → HasShape r → index < (row_of row).count
     → (p : Place) → word_at (counted r row index).words p ≡ with_one (is_place (place row index) p) (word_at r.words p)

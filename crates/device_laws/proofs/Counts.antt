@@ -9,7 +9,7 @@ use Rattle.reg_table.specs.Rows.{row_of}
 use Rattle.reg_table.specs.Runs.{runs}
 use Rattle.reg_table.specs.declared.kind.Kind.TheVariants as kind
 use Rattle.reg_table.specs.declared.place.Place.{Place}
-use Rattle.reg_table.specs.declared.rows.RowId.TheVariants.{Gprc, Ruc, Roc, Qprdc}
+use Rattle.reg_table.specs.declared.rows.RowId.TheVariants.{Gprc, Ruc, Roc, Qprdc, Eerd}
 use Rattle.reg_table.proofs.Finding.{found-named}
 use Rattle.intr_unit.specs.declared.group.Group.TheVariants as group
 use Rattle.rx_filter.specs.Sorting.{sorted}
@@ -18,6 +18,7 @@ use Rattle.rx_filter.specs.declared.unwanted.Unwanted.{Unwanted}
 use Rattle.rx_filter.specs.declared.unwanted.Unwanted.TheVariants as unwanted
 use Rattle.rx_ring.specs.declared.filled.Filled.{Filled}
 use Rattle.rx_ring.specs.Fill.{fill_of}
+use Rattle.register_file.specs.Columns.{place}
 use Rattle.register_file.specs.Counters.{counter_of}
 use Rattle.register_file.specs.Settings.{is_stopped, can_receive, frame_limit, drops}
 use Rattle.register_file.specs.Sides.{receive_queue_of}
@@ -33,7 +34,7 @@ use Rattle.nic_device.specs.State.{State, Waiting}
 use Rattle.nic_device.specs.Step.{step_of}
 use Rattle.nic_device.specs.Transmit.{transmitted}
 use Rattle.nic_device.proofs.Cases.{either_way, transmitted_cases}
-use Rattle.device_laws.proofs.Counting.{not_pending, counted_there, failed_keeps, missed_counts, piece_counts}
+use Rattle.device_laws.proofs.Counting.{elsewhere, not_pending, counted_there, failed_keeps, missed_counts, piece_counts}
 use Rattle.device_laws.proofs.CountingSent.{reported_counts}
 use Rattle.device_laws.proofs.CountsKept.{read_misses, write_misses, switch_misses}
 use Rattle.device_laws.proofs.Standing.{stays_within}
@@ -126,6 +127,8 @@ events_count s h (event.IntStep g) p is keeps =
     (stays_within s (event.IntStep g)).registers.words p (not_pending g p is)
 events_count s h (event.QueueStep dir queue) p is keeps =
     (stays_within s (event.QueueStep dir queue)).registers.words p (switch_misses dir queue p is)
+events_count s h event.EepromStep p is keeps =
+    (stays_within s event.EepromStep).registers.words p (elsewhere (place Eerd 0) p (λ (e : kind.Eerd ≡ kind.Rc). cc) is)
 events_count s h (event.Link up) p is keeps =
     (stays_within s (event.Link up)).registers.words p (not_pending group.Pf p is)
 events_count s h other p is keeps = (stays_within s other).registers.words p refl

@@ -56,4 +56,5 @@ stopped_idle s stopped = record {
   transmit = λ queue small. rw (lt-ltb queue 128 small, stopped) refl;
   interrupt = λ g there. rw (there, stopped) refl;
   switch = λ dir queue small. rw (lt-ltb queue 128 small, stopped) refl;
+  eeprom = rw stopped refl;
 }

@@ -19,10 +19,10 @@ no_setting s e none a word p is named = subst WritesNoSetting is none p named
 pub settings_stand : OtherEventsKeepSettings
 settings_stand s e none =
     let other = no_setting s e none in
-    let jumbo = setting_stands Hlreg0 (record { bank = refl; steady = λ e. cc; quiet = refl }) s e
+    let jumbo = setting_stands Hlreg0 (record { bank = refl; steady = λ e. cc; quiet = refl; unread = λ e. cc }) s e
     (λ a word p is named. let o = other a word p is named in record { control = o.control; other = o.jumbo }) in
-    let limit = setting_stands Maxfrs (record { bank = refl; steady = λ e. cc; quiet = refl }) s e
+    let limit = setting_stands Maxfrs (record { bank = refl; steady = λ e. cc; quiet = refl; unread = λ e. cc }) s e
     (λ a word p is named. let o = other a word p is named in record { control = o.control; other = o.limit }) in
-    let mode = setting_stands GcrExt (record { bank = refl; steady = λ e. cc; quiet = refl }) s e
+    let mode = setting_stands GcrExt (record { bank = refl; steady = λ e. cc; quiet = refl; unread = λ e. cc }) s e
     (λ a word p is named. let o = other a word p is named in record { control = o.control; other = o.mode }) in
     record { limit = rw (jumbo, limit) refl; mode = ap mode_of mode }

@@ -11,6 +11,8 @@ pub mod CountsKept
 pub mod Delivered
 pub mod Kept
 pub mod KeptSettings
+pub mod EepromReads
+pub mod Imaged
 pub mod Missed
 pub mod Order
 pub mod RepliesOut

@@ -10,7 +10,7 @@ use Rattle.reg_table.specs.declared.kind.Kind.{Kind}
 use Rattle.reg_table.specs.declared.kind.Kind.TheVariants as kind
 use Rattle.reg_table.specs.declared.place.Place.{Place}
 use Rattle.reg_table.specs.declared.rows.RowId.{RowId}
-use Rattle.reg_table.specs.declared.rows.RowId.TheVariants.{Ctrl}
+use Rattle.reg_table.specs.declared.rows.RowId.TheVariants.{Ctrl, Eerd}
 use Rattle.reg_table.proofs.Finding.{found-named}
 use Rattle.intr_unit.specs.declared.group.Group.{Group}
 use Rattle.intr_unit.specs.declared.group.Group.TheVariants as group
@@ -40,13 +40,14 @@ pub record IsSetting (row : RowId) : Type 0 where
   pub bank : (row_of row).bank ≡ Device
   pub steady : (row_of row).kind ≢ kind.Rc
   pub quiet : is_pending (row_of row).kind ≡ false
+  pub unread : Eerd ≢ row
 
 -- a write of another row, which isn't CTRL
 pub record IsOther (row : RowId) (p : Place) : Type 0 where
   pub control : p.row ≢ Ctrl
   pub other : p.row ≢ row
 
-no_reset : (row : RowId) (word : ℕ) → row ≢ Ctrl → asks_reset (row_of row).kind word ≡ false
+pub no_reset : (row : RowId) (word : ℕ) → row ≢ Ctrl → asks_reset (row_of row).kind word ≡ false
 no_reset Ctrl word n = absurd (n refl)
 no_reset other word n = refl
 
@@ -123,6 +124,9 @@ module _ (row : RowId) (is : IsSetting row) where
   none_read None = refl
   none_read (Some p) = none_read_by (row_of p.row).kind p refl
 
+  not_eerd : is_place (place Eerd 0) here ≡ false
+  not_eerd = other_place (place Eerd 0) (λ same. is.unread same)
+
   word_stands : (s : State) (e : Event Block)
       → (reach_by s e (step_of s e).reply).registers.words here ≡ false
       → word_of (after s e).registers row 0 ≡ word_of s.registers row 0
@@ -143,5 +147,6 @@ module _ (row : RowId) (is : IsSetting row) where
   setting_stands s (event.IntStep g) other = word_stands s (event.IntStep g) (none_pending g)
   setting_stands s (event.QueueStep dir queue) other =
       word_stands s (event.QueueStep dir queue) (none_switched dir queue)
+  setting_stands s event.EepromStep other = word_stands s event.EepromStep not_eerd
   setting_stands s (event.Link up) other = word_stands s (event.Link up) (none_pending group.Pf)
   setting_stands s e other = word_stands s e refl

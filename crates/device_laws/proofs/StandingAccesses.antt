@@ -22,7 +22,8 @@ use Rattle.register_file.proofs.Within.{within-written}
 use Rattle.nic_device.specs.Footprint.{Reach, StaysWithin, in_registers, read_reach, write_reach, reset_reach}
 use Rattle.device_laws.specs.Laws.{after_write}
 use Rattle.device_laws.specs.Leaving.{ReadLeavesTheRest, WriteLeavesTheRest, WriteLeavesMemory}
-use Rattle.nic_device.specs.State.{State, reset}
+use Rattle.nic_device.specs.Eeprom.{reset}
+use Rattle.nic_device.specs.State.{State}
 use Rattle.device_laws.proofs.Accesses.{state-written}
 use Rattle.nic_device.proofs.Cases.{either_way}
 use Rattle.nic_device.proofs.Keeping.{stays-registers}

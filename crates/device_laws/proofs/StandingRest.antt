@@ -1,11 +1,14 @@
 -- What frames that arrive, messages, the link and frames out leave alone.
-use Rattle.std.proofs.Common.{refl}
+use Rattle.std.proofs.Common.{◌≡◌, false, refl}
 use Rattle.intr_unit.specs.declared.group.Group.TheVariants as group
-use Rattle.register_file.specs.Footprint.{Misses, of_owner, counters, pending}
+use Rattle.register_file.specs.Footprint.{Misses, the_word, of_owner, counters, pending}
+use Rattle.register_file.specs.Columns.{place}
+use Rattle.register_file.specs.Owner.{is_owner}
+use Rattle.reg_table.specs.declared.rows.RowId.TheVariants.{Eerd}
 use Rattle.register_file.specs.declared.owner.Owner.{Owner}
 use Rattle.register_file.specs.declared.owner.Owner.TheVariants as owner
-use Rattle.register_file.proofs.Footprints.{misses-owner}
-use Rattle.device_laws.specs.Leaving.{ArrivalLeavesTheRest, MessageLeavesTheRest, LinkLeavesTheRest, CollectingLeavesTheRest}
+use Rattle.register_file.proofs.Footprints.{misses-owner, misses-narrower, covers-the_word}
+use Rattle.device_laws.specs.Leaving.{ArrivalLeavesTheRest, MessageLeavesTheRest, EepromStepLeavesTheRest, LinkLeavesTheRest, CollectingLeavesTheRest}
 use Rattle.device_laws.proofs.Missed.{misses-nothing, misses-either, misses-other_group, pending-misses_side}
 use Rattle.device_laws.proofs.Standing.{stays_within, missed, same_memory, queues_stand}
 use Rattle.nic_device.specs.declared.event.Event.TheVariants as event
@@ -32,6 +35,22 @@ message_rest s g =
     record {
       queues = queues_stand _ s _ stays (pending-misses_side g) (λ queue. refl);
       groups = λ other n. (missed _ s _ stays).group other (misses-other_group g other n);
+      memory = same_memory s.memory _ (λ number. stays.blocks number refl);
+      frames = record { waiting = stays.waiting refl; out = stays.out refl };
+    }
+
+-- EERD is of no side and no group
+misses_eerd : (o : Owner) → is_owner owner.Device o ≡ false → Misses (the_word (place Eerd 0)) (of_owner o)
+misses_eerd o other =
+    misses-narrower (of_owner owner.Device) (the_word (place Eerd 0)) (of_owner o) (covers-the_word (place Eerd 0))
+    (misses-owner owner.Device o other)
+
+pub eeprom_rest : EepromStepLeavesTheRest
+eeprom_rest s =
+    let stays = stays_within s event.EepromStep in
+    record {
+      queues = queues_stand _ s _ stays (λ dir queue. misses_eerd (owner.Side dir queue) refl) (λ queue. refl);
+      groups = λ g. (missed _ s _ stays).group g (misses_eerd (owner.Group g) refl);
       memory = same_memory s.memory _ (λ number. stays.blocks number refl);
       frames = record { waiting = stays.waiting refl; out = stays.out refl };
     }

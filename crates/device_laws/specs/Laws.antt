@@ -9,6 +9,7 @@ use Rattle.reg_table.specs.declared.rows.RowId.TheVariants.{Ctrl, Hlreg0, Maxfrs
 use Rattle.reg_table.specs.Counter.{bumped}
 use Rattle.dma_arena.specs.Block.{Block}
 use Rattle.dma_arena.specs.Memory.{read_at, AreApart}
+use Rattle.eeprom_image.specs.Triples.{triples_of}
 use Rattle.intr_unit.specs.BitSet.{IsSubset}
 use Rattle.intr_unit.specs.declared.group.Group.{Group}
 use Rattle.register_file.specs.Access.{asks_reset}
@@ -113,17 +114,15 @@ LetInFrameIsCounted =
 
 -- a reset, and settings
 
--- each register has its reset value, no side of a queue is wanted on, no bit is told, no frame waits and nothing is
--- staged; lent memory, the frames out, the link and the configuration are as they were
+-- no frame waits and nothing is staged; lent memory, the frames out, the link, the image and the configuration are as
+-- they were
 pub record IsReset (old new : State) : Type 0 where
-  pub words : (p : Place) → p.index < (row_of p.row).count → word_at new.registers.words p ≡ (row_of p.row).reset
-  pub wanted : (dir : Dir) (queue : ℕ) → queue < 128 → IsFalse (is_wanted new.registers dir queue)
-  pub told : (g : Group) → index_of g < 64 → told_by new.registers g ≡ 0
   pub waiting : new.waiting ≡ []
   pub staged : (queue : ℕ) → queue < 128 → staged_by new queue ≡ []
   pub memory : new.memory ≡ old.memory
   pub out : new.out ≡ old.out
   pub link : new.link ≡ old.link
+  pub image : new.image ≡ old.image
   pub vfs : new.vfs ≡ old.vfs
   pub fifo : new.fifo ≡ old.fifo
 
@@ -132,6 +131,18 @@ abbrev pub AskedResetResets : Type 0
 AskedResetResets =
     (s : State) (address word : ℕ) (p : Place) → Names address p → IsTrue (asks_reset (row_of p.row).kind word) →
     IsReset s (after_write s address word)
+
+-- each register has its reset value, no side of a queue is wanted on, and no bit is told
+pub record HasResetValues (s : State) : Type 0 where
+  pub words : (p : Place) → p.index < (row_of p.row).count → word_at s.registers.words p ≡ (row_of p.row).reset
+  pub wanted : (dir : Dir) (queue : ℕ) → queue < 128 → IsFalse (is_wanted s.registers dir queue)
+  pub told : (g : Group) → index_of g < 64 → told_by s.registers g ≡ 0
+
+-- with an image that writes no register a reset gives each its reset value
+abbrev pub ResetGivesResetValues : Type 0
+ResetGivesResetValues =
+    (s : State) (address word : ℕ) (p : Place) → Names address p → IsTrue (asks_reset (row_of p.row).kind word) →
+    triples_of s.image ≡ [] → HasResetValues (after_write s address word)
 
 -- an event that writes none of the registers that set the frame limit and the mode, nor that which asks for a reset
 pub record IsOfNoSetting (p : Place) : Type 0 where
@@ -183,12 +194,14 @@ PieceIsReadBack =
 abbrev pub FaultChangesNoMemory : Type 0
 FaultChangesNoMemory = (s : State) (e : Event Block) → IsTrue (is_fault (reply_to s e)) → (after s e).memory ≡ s.memory
 
--- while CTRL bit 2 is 1 every step of a queue below 128, and of a group that there is, is idle and changes nothing
+-- while CTRL bit 2 is 1 every step of a queue below 128, of a group that there is, and of the EEPROM is idle and changes
+-- nothing
 pub record StopsAllSteps (s : State) : Type 0 where
   pub receive : step_of s event.RxStep ≡ gives Idle s
   pub transmit : (queue : ℕ) → queue < 128 → step_of s (event.TxStep queue) ≡ gives Idle s
   pub interrupt : (g : Group) → IsTrue (has_group s g) → step_of s (event.IntStep g) ≡ gives Idle s
   pub switch : (dir : Dir) (queue : ℕ) → queue < 128 → step_of s (event.QueueStep dir queue) ≡ gives Idle s
+  pub eeprom : step_of s event.EepromStep ≡ gives Idle s
 
 abbrev pub StoppedDeviceIsIdle : Type 0
 StoppedDeviceIsIdle = (s : State) → IsTrue (is_stopped s.registers) → StopsAllSteps s

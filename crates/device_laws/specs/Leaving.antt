@@ -204,6 +204,16 @@ pub record LeavesAllButGroup (g : Group) (old new : State) : Type 0 where
 abbrev pub MessageLeavesTheRest : Type 0
 MessageLeavesTheRest = (s : State) (g : Group) → LeavesAllButGroup g s (after s (event.IntStep g))
 
+-- a step of the EEPROM leaves every queue, every group, the memory and the frames
+pub record EepromLeaves (old new : State) : Type 0 where
+  pub queues : LeavesQueues old new
+  pub groups : (g : Group) → LeavesGroup g old new
+  pub memory : LeavesMemory old new
+  pub frames : LeavesFrames old new
+
+abbrev pub EepromStepLeavesTheRest : Type 0
+EepromStepLeavesTheRest = (s : State) → EepromLeaves s (after s event.EepromStep)
+
 -- the link with the cause that it raises leaves as much beside the physical function's group
 abbrev pub LinkLeavesTheRest : Type 0
 LinkLeavesTheRest = (s : State) (up : Bool) → LeavesAllButGroup group.Pf s (after s (event.Link up))

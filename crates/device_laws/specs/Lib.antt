@@ -1,4 +1,5 @@
 pub mod Counting
+pub mod Eeprom
 pub mod Laws
 pub mod Leaving
 pub mod Order

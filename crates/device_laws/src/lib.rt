@@ -5,12 +5,13 @@
 #![tactic(auto)]
 
 ghost use Rattle.nic_device.specs.Kept.{NewDeviceIsSound, EventKeepsSound, OtherEventsKeepBlocks};
-ghost use Rattle.device_laws.specs.Laws.{ToldIsPending, NewDeviceReadsResetValues, WriteShowsAtEachAddress, WriteLeavesOtherRegisters, ReadChangesNothing, StrayAccessChangesNothing, ReadCounterStartsAgain, LetInFrameIsCounted, AskedResetResets, OtherEventsKeepSettings, PieceIsReadBack, FaultChangesNoMemory, StoppedDeviceIsIdle};
+ghost use Rattle.device_laws.specs.Laws.{ToldIsPending, NewDeviceReadsResetValues, WriteShowsAtEachAddress, WriteLeavesOtherRegisters, ReadChangesNothing, StrayAccessChangesNothing, ReadCounterStartsAgain, LetInFrameIsCounted, AskedResetResets, ResetGivesResetValues, OtherEventsKeepSettings, PieceIsReadBack, FaultChangesNoMemory, StoppedDeviceIsIdle};
 ghost use Rattle.device_laws.specs.Counting.{EventsCount};
 ghost use Rattle.device_laws.specs.Raising.{EventsRaise};
 ghost use Rattle.device_laws.specs.Replies.{ReceivingTells, TransmittingTells, EventsMoveFramesOut, MisalignedChangesNothing};
+ghost use Rattle.device_laws.specs.Eeprom.{LastWriteIsMade, SteppedOverWriteIsNotMade, ControlTellsSize, StepGivesWord, StepWithoutStartIsIdle};
 ghost use Rattle.device_laws.specs.Order.{ReceivingHasAnOrder, NothingWaitsIsIdle};
-ghost use Rattle.device_laws.specs.Leaving.{EventStaysWithinReach, EventLeavesMissed, ReadLeavesTheRest, WriteLeavesTheRest, WriteLeavesMemory, MemoryCallsLeaveTheRest, MemoryCallsLeaveOtherBlocks, ArrivalLeavesTheRest, ReceivingLeavesTheRest, ReceivingLeavesOtherBlocks, TransmittingLeavesTheRest, TransmittingLeavesOtherBlocks, SwitchingLeavesTheRest, MessageLeavesTheRest, LinkLeavesTheRest, CollectingLeavesTheRest};
+ghost use Rattle.device_laws.specs.Leaving.{EventStaysWithinReach, EventLeavesMissed, ReadLeavesTheRest, WriteLeavesTheRest, WriteLeavesMemory, MemoryCallsLeaveTheRest, MemoryCallsLeaveOtherBlocks, ArrivalLeavesTheRest, ReceivingLeavesTheRest, ReceivingLeavesOtherBlocks, TransmittingLeavesTheRest, TransmittingLeavesOtherBlocks, SwitchingLeavesTheRest, MessageLeavesTheRest, EepromStepLeavesTheRest, LinkLeavesTheRest, CollectingLeavesTheRest};
 
 /// A new device is sound, and every event that a driver can make keeps it so.
 pub fn devices_stay_sound()
@@ -73,10 +74,32 @@ pub fn events_raise()
     ensures { EventsRaise }
 {}
 
-/// A write that asks for a reset gives each register its reset value, wants no side of a queue on, tells no bit, and
-/// drops the frames that wait and the staged bytes; nothing else changes.
+/// A write that asks for a reset drops the frames that wait and the staged bytes, and changes nothing else but registers.
+/// With an image that writes no register each has its reset value then, no side of a queue is wanted on and no bit is
+/// told; `reset_applies_the_image` says what more an image does.
 pub fn asked_reset_resets()
-    ensures { AskedResetResets }
+    ensures rest { AskedResetResets }
+    ensures values { ResetGivesResetValues }
+{}
+
+/// A reset makes the register writes of the EEPROM's image one by one: with one more at the end of the image, the device
+/// comes where it comes without, and then by that write; one of CTRL or EERD is stepped over.
+pub fn reset_applies_the_image()
+    ensures writes { LastWriteIsMade }
+    ensures steps_over { SteppedOverWriteIsNotMade }
+{}
+
+/// EEC tells the size of the image that is in the device.
+pub fn image_is_told_by_its_size()
+    ensures { ControlTellsSize }
+{}
+
+/// A step of the EEPROM gives the word that EERD asks for: EERD reads it then, with the index and DONE. Where none is
+/// asked for the step is idle and changes nothing. It changes no queue, no group, no memory and no frame.
+pub fn eeprom_step_gives_the_word()
+    ensures word { StepGivesWord }
+    ensures idle { StepWithoutStartIsIdle }
+    ensures rest { EepromStepLeavesTheRest }
 {}
 
 /// An event that writes none of CTRL, HLREG0, MAXFRS and GCR_EXT keeps the frame limit, and how the queues are parted

@@ -1,5 +1,5 @@
 -- Register accesses: where they lead.
-use Rattle.std.proofs.Common.{◌≡◌, ℕ, true, [], refl, arith, Option, Some, None}
+use Rattle.std.proofs.Common.{ap, ◌≡◌, ℕ, true, refl, Option, Some, None}
 use Rattle.std.proofs.lemmas.Bool.{cond_both}
 use Rattle.reg_table.specs.Place.{place_among}
 use Rattle.reg_table.specs.Rows.{row_of}
@@ -7,15 +7,17 @@ use Rattle.reg_table.specs.Runs.{runs}
 use Rattle.reg_table.specs.declared.place.Place.{Place}
 use Rattle.register_file.specs.Access.{asks_reset, after_read}
 use Rattle.register_file.specs.Laws.{after_write}
-use Rattle.register_file.specs.Registers.{reset_registers}
-use Rattle.register_file.proofs.Sound.{sound-after_read, sound-written, sound-reset}
+use Rattle.register_file.proofs.Sound.{sound-after_read, sound-written}
 use Rattle.register_file.proofs.Within.{within-after_read, within-written}
 use Rattle.nic_device.specs.Access.{place_read, place_written}
 use Rattle.nic_device.specs.Footprint.{read_reach, write_reach, StaysWithin}
 use Rattle.nic_device.specs.Outcome.{Outcome, gives}
-use Rattle.nic_device.specs.Sound.{IsSound}
-use Rattle.nic_device.specs.State.{State, reset}
-use Rattle.nic_device.proofs.Keeping.{sound-registers, sound-waiting, sound-staged, stays-registers, AreStaged-none}
+use Rattle.nic_device.specs.Eeprom.{reset}
+use Rattle.nic_device.specs.State.{State}
+use Rattle.nic_device.proofs.Triples.{reset_sound, reset_leaves}
+use Rattle.dma_arena.specs.Memory.{Memory, has_block}
+use Rattle.std.specs.FinMap as map
+use Rattle.nic_device.proofs.Keeping.{sound-registers, stays-registers}
 use Rattle.nic_device.proofs.Leads.{Leads, leads-still}
 use Rattle.nic_device.specs.declared.event.Event.TheVariants as event
 use Rattle.nic_device.specs.declared.event.Port.TheVariants.{Pf}
@@ -37,24 +39,19 @@ read_leads s a (Some p) view here =
       faults = λ no. refl;
     }
 
--- a reset
-reset_sound : (s : State) → IsSound s → IsSound (reset s)
-reset_sound s h =
-    sound-registers (record s { waiting = []; staged = _ }) reset_registers
-    (sound-staged (record s { waiting = [] }) _ (sound-waiting s [] h tt (omega arith)) AreStaged-none) sound-reset
-
 reset_stays : (s : State) (p : Place) (word : ℕ) → asks_reset (row_of p.row).kind word ≡ true
     → StaysWithin (write_reach (Some p) word) s (reset s)
 reset_stays s p word asks = rw asks (record {
   registers = record { words = λ q no. cc; wanted = λ dir queue no. cc; told = λ g no. cc };
-  blocks = λ n no. refl;
-  lent = λ n no. refl;
+  blocks = λ n no. ap (λ (m : Memory). map.get m n) (reset_leaves s).memory;
+  lent = λ n no. ap (λ (m : Memory). has_block m n) (reset_leaves s).memory;
   staged = λ queue no. cc;
   waiting = λ no. cc;
-  out = λ no. refl;
-  link = λ no. refl;
-  vfs = refl;
-  fifo = refl;
+  out = λ no. (reset_leaves s).out;
+  link = λ no. (reset_leaves s).link;
+  image = (reset_leaves s).image;
+  vfs = (reset_leaves s).vfs;
+  fifo = (reset_leaves s).fifo;
 })
 
 pub write_leads : (s : State) (a word : ℕ) (o : Option Place) (view : ℕ)
@@ -70,7 +67,7 @@ write_leads s a word (Some p) view here =
       sound = λ h is. reset_sound s h;
       stays = here (gives Done (reset s)) (reset_stays s p word asks);
       hands = λ no. refl;
-      faults = λ no. refl;
+      faults = λ no. (reset_leaves s).memory;
     })
     (λ none. record {
       sound = λ h is. sound-registers s r h (sound-written s.registers p view word h.registers is.1);

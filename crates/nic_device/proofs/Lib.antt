@@ -20,3 +20,4 @@ pub mod Staging
 pub mod Steps
 pub mod SwitchedSides
 pub mod Targets
+pub mod Triples

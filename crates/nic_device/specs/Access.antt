@@ -1,18 +1,20 @@
 -- Register accesses, by the kind of the row.
-use Rattle.std.specs.Prelude.{ℕ, Option, Some, None, bit_and, if◌then◌else◌}
+use Rattle.std.specs.Prelude.{ℕ, length, Option, Some, None, bit_and, if◌then◌else◌}
+use Rattle.eeprom_image.specs.Image.{doublings}
 use Rattle.reg_table.specs.Rows.{row_of}
 use Rattle.reg_table.specs.Runs.{runs}
 use Rattle.reg_table.specs.Place.{place_among, view_among}
 use Rattle.reg_table.specs.declared.place.Place.{Place}
-use Rattle.register_file.specs.Access.{read_word, after_read, written, asks_reset}
+use Rattle.register_file.specs.Access.{read_word, after_read, asks_reset}
 use Rattle.register_file.specs.declared.surroundings.Surroundings.{Surroundings}
-use Rattle.nic_device.specs.State.{State, reset}
+use Rattle.nic_device.specs.Eeprom.{written_below_reset, reset}
+use Rattle.nic_device.specs.State.{State}
 use Rattle.nic_device.specs.Outcome.{Outcome, gives}
 use Rattle.nic_device.specs.declared.event.Reply.TheVariants.{Word, Stray, Done}
 
--- what lies around the registers: the link, and an EEPROM image of 64 words
+-- what lies around the registers: the link, and the size of the EEPROM's image
 abbrev pub around : State → Surroundings
-around s = record { link = s.link; eeprom = 0 }
+around s = record { link = s.link; eeprom = doublings (length s.image) }
 
 -- the word that a read of a place gives, before the address cuts it
 abbrev pub word_read : State → Place → ℕ
@@ -31,7 +33,7 @@ place_read s (Some p) view = gives (Word (bit_and (word_read s p) view)) (state_
 abbrev pub state_written : State → Place → ℕ → ℕ → State
 state_written s p view word =
     if asks_reset (row_of p.row).kind word then reset s
-    else record s { registers = written (row_of p.row).kind s.registers p view word }
+    else written_below_reset s p view word
 
 -- a write of an address that names this place, or none
 abbrev pub place_written : State → Option Place → ℕ → ℕ → Outcome

@@ -7,9 +7,11 @@ use Rattle.reg_table.specs.Place.{place_among}
 use Rattle.reg_table.specs.Rows.{row_of}
 use Rattle.reg_table.specs.Runs.{runs}
 use Rattle.reg_table.specs.declared.place.Place.{Place}
+use Rattle.reg_table.specs.declared.rows.RowId.TheVariants.{Eerd}
 use Rattle.intr_unit.specs.declared.group.Group.TheVariants as group
 use Rattle.register_file.specs.Access.{asks_reset}
-use Rattle.register_file.specs.Footprint.{Footprint, ChangesWithin, nothing, everything, either, counters, of_side, pending, any_pending, of_read, of_write}
+use Rattle.register_file.specs.Footprint.{Footprint, ChangesWithin, nothing, everything, either, the_word, counters, of_side, pending, any_pending, of_read, of_write}
+use Rattle.register_file.specs.Columns.{place}
 use Rattle.register_file.specs.Sides.{transmit_queue_of}
 use Rattle.register_file.specs.declared.dir.Dir.{Dir}
 use Rattle.register_file.specs.declared.dir.Dir.TheVariants.{Rx, Tx}
@@ -34,7 +36,7 @@ pub record Reach : Type 0 where
   pub out : Bool
   pub link : Bool
 
--- all that isn't in the reach is as it was, and so is the configuration
+-- all that isn't in the reach is as it was, and so are the EEPROM's image and the configuration
 pub record StaysWithin (r : Reach) (old new : State) : Type 0 where
   pub registers : ChangesWithin r.registers old.registers new.registers
   pub blocks : (number : ℕ) → IsFalse (r.blocks number) → map.get new.memory number ≡ map.get old.memory number
@@ -43,6 +45,7 @@ pub record StaysWithin (r : Reach) (old new : State) : Type 0 where
   pub waiting : IsFalse r.waiting → new.waiting ≡ old.waiting
   pub out : IsFalse r.out → new.out ≡ old.out
   pub link : IsFalse r.link → new.link ≡ old.link
+  pub image : new.image ≡ old.image
   pub vfs : new.vfs ≡ old.vfs
   pub fifo : new.fifo ≡ old.fifo
 
@@ -70,7 +73,7 @@ abbrev pub read_reach : Option Place → Reach
 read_reach None = nowhere
 read_reach (Some p) = in_registers (of_read p)
 
--- a reset leaves lent memory, frames out and the link
+-- a reset leaves lent memory, frames out, the link and the image
 abbrev pub reset_reach : Reach
 reset_reach = record nowhere { registers = everything; staged = λ queue. true; waiting = true }
 
@@ -141,6 +144,7 @@ reach_by s event.RxStep reply = receive_reach s.waiting reply
 reach_by s (event.TxStep queue) reply = transmit_reach s queue reply
 reach_by s (event.IntStep g) reply = in_registers (pending g)
 reach_by s (event.QueueStep dir queue) reply = switch_reach dir queue
+reach_by s event.EepromStep reply = in_registers (the_word (place Eerd 0))
 reach_by s (event.Link up) reply = record nowhere { registers = pending group.Pf; link = true }
 reach_by s event.Collect reply = record nowhere { out = true }
 

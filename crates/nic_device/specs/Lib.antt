@@ -1,6 +1,7 @@
 pub mod Access
 pub mod Arrival
 pub mod Config
+pub mod Eeprom
 pub mod Footprint
 pub mod Interrupt
 pub mod Kept

@@ -3,6 +3,7 @@ use Rattle.std.specs.Prelude.{ℕ, ◌≡◌, ◌<◌, ◌≤◌, ◌^◌, List,
 use Rattle.std.specs.FinMap as map
 use Rattle.dma_arena.specs.Block.{Block, IsBlock}
 use Rattle.dma_arena.specs.Memory.{Memory, IsWhole}
+use Rattle.eeprom_image.specs.Image.{IsImage}
 use Rattle.register_file.specs.Groups.{index_of}
 use Rattle.register_file.specs.Sound.{AreSound}
 use Rattle.nic_device.specs.State.{State, Waiting}
@@ -48,14 +49,15 @@ pub record AreStaged (staged : List (List ℕ)) : Type 0 where
   pub short : All IsStaged staged
 
 -- what every event keeps: the registers are sound and the lent blocks whole, each frame that waits has its queue and
--- only the first is begun, each queue stages no more than a frame, there are no more virtual functions than a device can
--- have, and no more frames wait than the receive list takes
+-- only the first is begun, each queue stages no more than a frame, the image is one, there are no more virtual functions
+-- than a device can have, and no more frames wait than the receive list takes
 pub record IsSound (s : State) : Type 0 where
   pub registers : AreSound s.registers
   pub blocks : AreBlocks s.memory
   pub waiting : AreWaiting s.waiting
   pub room : length s.waiting ≤ s.fifo
   pub staged : AreStaged s.staged
+  pub image : IsImage s.image
   pub vfs : s.vfs ≤ 63
   pub some : 0 < s.fifo
   pub few : s.fifo ≤ 4096
@@ -79,5 +81,6 @@ IsEvent event.RxStep = ⊤
 IsEvent (event.TxStep queue) = queue < 2 ^ 16
 IsEvent (event.IntStep group) = index_of group < 2 ^ 8
 IsEvent (event.QueueStep dir queue) = queue < 2 ^ 16
+IsEvent event.EepromStep = ⊤
 IsEvent (event.Link up) = ⊤
 IsEvent event.Collect = ⊤

@@ -10,6 +10,7 @@ use Rattle.nic_device.specs.Receive.{received}
 use Rattle.nic_device.specs.Transmit.{transmitted}
 use Rattle.nic_device.specs.Switching.{queue_switched}
 use Rattle.nic_device.specs.Interrupt.{interrupted}
+use Rattle.nic_device.specs.Eeprom.{eeprom_stepped}
 use Rattle.nic_device.specs.Link.{link_set, collected}
 use Rattle.nic_device.specs.declared.event.Event.{Event}
 use Rattle.nic_device.specs.declared.event.Event.TheVariants as event
@@ -30,6 +31,7 @@ step_of s event.RxStep = received s
 step_of s (event.TxStep queue) = transmitted s queue
 step_of s (event.IntStep group) = interrupted s group
 step_of s (event.QueueStep dir queue) = queue_switched s dir queue
+step_of s event.EepromStep = eeprom_stepped s
 step_of s (event.Link up) = link_set s up
 step_of s event.Collect = collected s
 

@@ -2,7 +2,8 @@
 
 ghost use Rattle.std.specs.Prelude.{◌≡◌, ◌<◌, [], length, replicate};
 ghost use Rattle.reg_table.specs.Rows.{row_of};
-ghost use Rattle.nic_device.specs.State.{reset};
+ghost use Rattle.nic_device.specs.State.{cleared};
+ghost use Rattle.nic_device.specs.Eeprom.{written_below_reset, reset};
 ghost use Rattle.nic_device.specs.Access.{around, register_read, register_written, state_written};
 
 use crate::engine::Engine;
@@ -10,9 +11,6 @@ use crate::event::Reply;
 use reg_table::{Place, resolve};
 use register_file::{Surroundings, asks_reset};
 use tx_ring::Staged;
-
-/// The size of the EEPROM's image: 64 words.
-const BLANK_IMAGE: u8 = 0;
 
 impl Engine {
     /// Reads an address.
@@ -48,8 +46,16 @@ impl Engine {
         if asks_reset(place, word) {
             self.reset();
         } else {
-            self.registers.write(place, view, word);
+            self.write_below_reset(place, view, word);
         }
+    }
+
+    /// Writes a place where no reset of the device is asked for, through an address that shows the bits of `view`.
+    pub(crate) fn write_below_reset(&mut self, place: Place, view: u32, word: u32)
+        requires { place.index < (row_of place.row).count }
+        ensures { self.new ≡ written_below_reset self.old place view word }
+    {
+        self.registers.write(place, view, word);
     }
 
     /// What lies around the registers.
@@ -58,13 +64,21 @@ impl Engine {
     {
         Surroundings {
             link: self.link,
-            eeprom: BLANK_IMAGE,
+            eeprom: self.image.doublings(),
         }
     }
 
-    /// Resets the device.
+    /// Resets the device, and then makes the register writes of the EEPROM's image.
     fn reset(&mut self)
         ensures { self.new ≡ reset self.old }
+    {
+        self.clear();
+        self.apply_image();
+    }
+
+    /// What a reset clears.
+    fn clear(&mut self)
+        ensures { self.new ≡ cleared self.old }
     {
         self.registers.reset();
         self.waiting.clear();

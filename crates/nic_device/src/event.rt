@@ -41,6 +41,8 @@ pub enum Event<B = Buf> {
     IntStep(Group),
     /// The device makes a side of a queue, below 128, what it is wanted to be: on or off.
     QueueStep(Dir, u16),
+    /// The EEPROM gives the word that EERD asks for, where it asks for one.
+    EepromStep,
     /// The link goes up (true) or down.
     Link(bool),
     /// The oldest frame that went out is collected.
@@ -89,7 +91,11 @@ impl Event {
             Event::QueueStep(_, queue) => {
                 let _queue = *queue;
             }
-            Event::RxStep | Event::IntStep(Group::Pf) | Event::Link(_) | Event::Collect => {}
+            Event::RxStep
+            | Event::IntStep(Group::Pf)
+            | Event::EepromStep
+            | Event::Link(_)
+            | Event::Collect => {}
         }
     }
 

@@ -13,7 +13,8 @@ implied : (x y : Bool) → (x ≡ true → y ≡ true) → (x && y) ≡ x
 implied true y h = h refl
 implied false y h = refl
 
-pub intersection-within : (inner outer : BitSet) → inner < 2 ^ 32 → IsSubset inner outer → intersection inner outer ≡ inner
+pub intersection-within : (inner outer : BitSet) → inner < 2 ^ 32 → IsSubset inner outer
+    → intersection inner outer ≡ inner
 intersection-within inner outer small within =
     same_bits (intersection inner outer) inner (intersection-lt inner outer) small
     (λ k b. contains-intersection inner outer k b ∙ implied (contains inner k) (contains outer k) (within.member k))

@@ -1,53 +1,23 @@
 -- What a reset of a pool does, part by part.
-use Rattle.std.proofs.Common.{◌≡◌, ℕ, ◌/◌, Bool, true, false, ◌==◌, ◌&&◌, ◌||◌, List, [], ◌∷◌, Option, Some, None, refl, ap, ◌∙◌}
+use Rattle.std.proofs.Common.{◌≡◌, ℕ, ◌/◌, Bool, true, false, ◌==◌, ◌&&◌, ◌||◌, List, Option, Some, None, refl, ap, ◌∙◌}
 use Rattle.std.specs.Prelude.{fold}
-use Rattle.std.specs.List.{list_any, range_with_len}
-use Rattle.reg_table.specs.Rows.{row_of, number_of}
+use Rattle.std.specs.List.{range_with_len}
+use Rattle.reg_table.specs.Rows.{row_of}
 use Rattle.reg_table.specs.declared.bank.Bank.{Bank}
 use Rattle.reg_table.specs.declared.bank.Bank.TheVariants as bank
-use Rattle.reg_table.specs.declared.place.Place.{Place}
 use Rattle.reg_table.specs.declared.rows.RowId.{RowId}
 use Rattle.reg_table.specs.declared.rows.RowId.TheVariants as row
 use Rattle.intr_unit.specs.declared.group.Group.{Group}
 use Rattle.intr_unit.specs.declared.group.Group.TheVariants.{Vf}
-use Rattle.register_file.specs.Columns.{place}
-use Rattle.register_file.specs.Footprint.{Footprint, nothing, either, the_word, of_owner, of_side}
+use Rattle.register_file.specs.Footprint.{Footprint, nothing, either, of_owner, of_side}
 use Rattle.register_file.specs.Owner.{owner_in, is_owner, is_group}
-use Rattle.register_file.specs.PoolReset.{function_rows, side_rows, vector_rows, word_reset, rows_reset, side_reset, queue_reset, vectors_reset, function_reset, queues_reset}
+use Rattle.register_file.specs.PoolReset.{function_rows, side_rows, vector_rows, rows_reset, side_reset, queue_reset, vectors_reset, function_reset, queues_reset}
 use Rattle.register_file.specs.Registers.{Registers}
 use Rattle.register_file.specs.declared.dir.Dir.{Dir}
 use Rattle.register_file.specs.declared.dir.Dir.TheVariants.{Rx, Tx}
 use Rattle.register_file.specs.declared.owner.Owner.TheVariants as owner
-use Rattle.register_file.proofs.Renewed.{IsRenewed, IsSame, any_of, wanted_of, told_of, renewed-refl, renewed-either, renewed-each, renewed-same, renewed-word, renewed-with_wanted, renewed-with_told}
-
-pub or_false : (x : Bool) → (x || false) ≡ x
-or_false true = refl
-or_false false = refl
-
-distribute : (t u c : Bool) → ((t && c) || (u && c)) ≡ ((t || u) && c)
-distribute true u true = refl
-distribute true true false = refl
-distribute true false false = refl
-distribute false u c = refl
-
--- rows at an index
-abbrev at_rows : List RowId → ℕ → Footprint
-at_rows rows index = any_of (λ x. the_word (place x index)) rows
-
-abbrev has_row : List RowId → RowId → Bool
-has_row rows row = list_any (λ x. number_of x == number_of row) rows
-
-rows_words : (rows : List RowId) (index : ℕ) (p : Place)
-    → (at_rows rows index).words p ≡ (has_row rows p.row && index == p.index)
-rows_words [] index p = refl
-rows_words (x ∷ xs) index p =
-    let first = number_of x == number_of p.row in
-    let same = index == p.index in
-    ap (λ b. (first && same) || b) (rows_words xs index p) ∙ distribute first (has_row xs p.row) same
-
-renewed-rows : (rows : List RowId) (r : Registers) (index : ℕ)
-    → IsRenewed (at_rows rows index) r (rows_reset r rows index)
-renewed-rows rows r index = renewed-each (λ x. the_word (place x index)) (word_reset index) (renewed-word index) rows r
+use Rattle.register_file.proofs.Renewed.{IsRenewed, IsSame, any_of, wanted_of, told_of, renewed-refl, renewed-either, renewed-each, renewed-same, renewed-with_wanted, renewed-with_told}
+use Rattle.register_file.proofs.RowsReset.{or_false, at_rows, has_row, rows_words, renewed-rows}
 
 -- what a pool has once
 abbrev pub is_own : Bank → Bool

@@ -1,7 +1,6 @@
 -- The reset of a pool is one of all that is the pool's.
 use Rattle.std.proofs.Common.{◌≡◌, ℕ, ◌+◌, ◌*◌, ◌/◌, ◌<◌, Bool, true, false, cond, ◌==◌, nat_lt, ◌&&◌, ◌||◌, Option, Some, None, refl, sym, ◌∙◌, arith}
 use Rattle.std.proofs.lemmas.Bool.{ltb-true}
-use Rattle.std.proofs.lemmas.Bool.Decides.{nat_tests}
 use Rattle.reg_table.specs.Rows.{row_of}
 use Rattle.reg_table.specs.declared.bank.Bank.{Bank}
 use Rattle.reg_table.specs.declared.bank.Bank.TheVariants as bank
@@ -17,34 +16,10 @@ use Rattle.register_file.specs.Registers.{Registers}
 use Rattle.register_file.specs.declared.dir.Dir.{Dir}
 use Rattle.register_file.specs.declared.dir.Dir.TheVariants.{Rx, Tx}
 use Rattle.register_file.specs.declared.owner.Owner.TheVariants as owner
-use Rattle.register_file.proofs.PoolParts.{or_false, is_own, of_function, of_queues, renewed-function, renewed-queues}
+use Rattle.register_file.proofs.PoolParts.{is_own, of_function, of_queues, renewed-function, renewed-queues}
 use Rattle.register_file.proofs.Renewed.{IsRenewed, IsSame, renewed-either, renewed-same}
-
--- a test of two numbers either way round
-pub turned : (a b : ℕ) → (a == b) ≡ (b == a)
-turned a b = grind (arith, nat_tests)
-
--- a mode without the pool gives it no queue
-none_had : (mode : Mode) (v queue : ℕ) → nat_lt v (pools_in mode) ≡ false → has_queue mode v queue ≡ false
-none_had Off v queue e = grind (arith, nat_tests)
-none_had Pools16 v queue e = grind (arith, nat_tests)
-none_had Pools32 v queue e = grind (arith, nat_tests)
-none_had Pools64 v queue e = grind (arith, nat_tests)
-
--- the queues of a pool, and the words of their vectors, are those that the mode gives it
-four_queues : (v i : ℕ) → v < 32
-    → ((v * 4 == i) || ((v * 4 + 1 == i) || ((v * 4 + 1 + 1 == i) || ((v * 4 + 1 + 1 + 1 == i) || false))))
-    ≡ has_queue Pools32 v i
-four_queues v i small = grind (arith, nat_tests)
-
-two_queues : (v i : ℕ) → v < 64 → ((v * 2 == i) || ((v * 2 + 1 == i) || false)) ≡ has_queue Pools64 v i
-two_queues v i small = grind (arith, nat_tests)
-
-two_vectors : (v i : ℕ) → v < 32 → ((v * 4 / 2 == i) || ((v * 4 / 2 + 1 == i) || false)) ≡ has_queue Pools32 v (2 * i)
-two_vectors v i small = grind (arith, nat_tests)
-
-one_vector : (v i : ℕ) → v < 64 → ((v * 2 / 2 == i) || false) ≡ has_queue Pools64 v (2 * i)
-one_vector v i small = grind (arith, nat_tests)
+use Rattle.register_file.proofs.PoolQueues.{turned, none_had, four_queues, two_queues, two_vectors, one_vector}
+use Rattle.register_file.proofs.RowsReset.{or_false}
 
 -- what is reset, by the queues that the mode gives the pool
 abbrev whole : ℕ → Option (ℕ × ℕ) → Footprint

@@ -22,23 +22,26 @@ use Rattle.register_file.specs.Words.{word_at, row_words}
 use Rattle.register_file.specs.declared.owner.Owner.TheVariants as owner
 use Rattle.register_file.proofs.Footprints.{misses-within, covers-pending}
 use Rattle.register_file.proofs.Owners.{is_group-same, is_owner-same}
-use Rattle.register_file.proofs.PoolReset.{turned, renewed-pool}
+use Rattle.register_file.proofs.PoolQueues.{turned}
+use Rattle.register_file.proofs.PoolReset.{renewed-pool}
 use Rattle.register_file.proofs.Small.{reset_small}
 use Rattle.register_file.proofs.SoundParts.{told_stands}
 
 -- words of 32 bits
-small : (r : Registers) (mode : Mode) (v : ℕ) → AreSound r → (p : Place) → word_at (pool_reset mode v r).words p < 2 ^ 32
+small : (r : Registers) (mode : Mode) (v : ℕ) → AreSound r → (p : Place)
+    → word_at (pool_reset mode v r).words p < 2 ^ 32
 small r mode v sound p =
     let new = renewed-pool r mode v in
     let f = of_pool mode v in
     elim (cases_Bool (f.words p)) as (λ _. word_at (pool_reset mode v r).words p < 2 ^ 32) [
       | inr out ↦ rw (new.alone.words p out) (sound.words p)
-      | inl in_pool ↦ elim (cases_lt p.index (row_of p.row).count) as (λ _. word_at (pool_reset mode v r).words p < 2 ^ 32) [
-        | inl b ↦ rw (new.words sound.shape p in_pool b) (reset_small p.row)
-        | inr past ↦
-            let short = (new.shape sound.shape).has_indices p.row in
-            rw (get_or_past (row_words (pool_reset mode v r).words p.row) p.index 0 (omega arith)) (omega arith)
-      ]
+      | inl in_pool ↦ elim (cases_lt p.index (row_of p.row).count) as
+          (λ _. word_at (pool_reset mode v r).words p < 2 ^ 32) [
+            | inl b ↦ rw (new.words sound.shape p in_pool b) (reset_small p.row)
+            | inr past ↦
+                let short = (new.shape sound.shape).has_indices p.row in
+                rw (get_or_past (row_words (pool_reset mode v r).words p.row) p.index 0 (omega arith)) (omega arith)
+          ]
     ]
 
 -- what is pending of another group isn't the pool's

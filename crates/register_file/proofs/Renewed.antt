@@ -109,7 +109,8 @@ renewed-word index r row = record {
 }
 
 abbrev pub wanted_of : Dir → ℕ → Footprint
-wanted_of dir queue = record nothing { wanted = λ other number. is_owner (owner.Side dir queue) (owner.Side other number) }
+wanted_of dir queue =
+    record nothing { wanted = λ other number. is_owner (owner.Side dir queue) (owner.Side other number) }
 
 unwanted : (r : Registers) → HasShape r → (dir : Dir) (queue : ℕ) → queue < 128
     → is_wanted (with_wanted r dir queue false) dir queue ≡ false

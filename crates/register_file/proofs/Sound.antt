@@ -1,8 +1,7 @@
 -- Registers stay sound.
-use Rattle.std.proofs.Common.{◌≡◌, ℕ, ◌<◌, ◌^◌, Bool, true, false, cond, refl, ap, sym, ◌∙◌, subst, arith, lit<}
+use Rattle.std.proofs.Common.{◌≡◌, ℕ, ◌<◌, ◌^◌, Bool, true, false, cond, refl, ap, ◌∙◌, arith, lit<}
 use Rattle.std.specs.Prelude.{Option, Some, None, bit_and}
 use Rattle.std.specs.Option.{option_map_or}
-use Rattle.std.proofs.lemmas.List.{get_or-replicate}
 use Rattle.std.proofs.lemmas.Nat.{and_le_r}
 use Rattle.reg_table.specs.Rows.{row_of}
 use Rattle.reg_table.specs.declared.place.Place.{Place}
@@ -10,31 +9,28 @@ use Rattle.reg_table.specs.declared.kind.Kind.{Kind}
 use Rattle.reg_table.specs.declared.kind.Kind.TheVariants as kind
 use Rattle.reg_table.specs.declared.rows.RowId.{RowId}
 use Rattle.reg_table.specs.declared.rows.RowId.TheVariants.{Eerd}
-use Rattle.intr_unit.specs.BitSet.{IsSubset}
 use Rattle.intr_unit.specs.declared.group.Group.{Group}
-use Rattle.intr_unit.specs.declared.group.Group.TheVariants.{Pf, Vf}
-use Rattle.intr_unit.proofs.Subsets.{IsSubset-no_bits}
 use Rattle.register_file.specs.Access.{after_read, written, stored, group_in, group_read, is_running, asked}
 use Rattle.register_file.specs.Bits.{has_bit}
 use Rattle.register_file.specs.Columns.{place}
 use Rattle.register_file.specs.Counters.{counted, counted_wrapping}
 use Rattle.register_file.specs.Eeprom.{eeprom_answered}
 use Rattle.register_file.specs.Footprint.{is_pending}
-use Rattle.register_file.specs.Groups.{index_of, told_by, message_made, causes_raised, queue_raised}
+use Rattle.register_file.specs.Groups.{message_made, causes_raised, queue_raised}
 use Rattle.register_file.specs.Laws.{after_write}
 use Rattle.register_file.specs.Owner.{owner_of}
 use Rattle.register_file.specs.Queue.{head_row, enable_row, with_head, switched, switched_on, switched_off, shut}
-use Rattle.register_file.specs.Registers.{Registers, reset_registers, word_of, is_wanted}
-use Rattle.register_file.specs.Sound.{AreSound, pending_bits}
+use Rattle.register_file.specs.Registers.{Registers, word_of, is_wanted}
+use Rattle.register_file.specs.Sound.{AreSound}
 use Rattle.register_file.specs.Words.{word_at}
 use Rattle.register_file.specs.declared.dir.Dir.{Dir}
 use Rattle.register_file.specs.declared.dir.Dir.TheVariants.{Rx, Tx}
 use Rattle.register_file.specs.declared.owner.Owner.{Owner}
 use Rattle.register_file.specs.declared.owner.Owner.TheVariants as owner
 use Rattle.register_file.proofs.GroupChanges.{GroupChange, kept, changed, change-group_read, change-interrupts_written, change-causes_raised, change-message_made}
-use Rattle.register_file.proofs.Shape.{HasShape-reset}
-use Rattle.register_file.proofs.Small.{merged-lt, answer-lt, bit_set-lt, bit_cleared-lt, word_at-reset-lt}
+use Rattle.register_file.proofs.Small.{merged-lt, answer-lt, bit_set-lt, bit_cleared-lt}
 pub use Rattle.register_file.proofs.Small.{bumped-lt}
+pub use Rattle.register_file.proofs.SoundReset.{sound-reset}
 use Rattle.register_file.proofs.SoundParts.{sound-put, sound-with_wanted, sound-with_interrupts}
 
 sound-if : (b : Bool) (r s : Registers) → AreSound r → AreSound s → AreSound (cond b r s)
@@ -143,17 +139,3 @@ sound-switched r dir queue sound =
 pub sound-shut : (r : Registers) (dir : Dir) (queue : ℕ) → AreSound r → AreSound (shut r dir queue)
 sound-shut r dir queue sound =
     sound-with_wanted (switched_off r dir queue) dir queue false (sound-switched_off r dir queue sound)
-
--- after a reset
-pub none_told : (g : Group) → index_of g < 64 → told_by reset_registers g ≡ 0
-none_told Pf b = refl
-none_told (Vf v) b = get_or-replicate 64 v 0 0 b
-
-pub sound-reset : AreSound reset_registers
-sound-reset = record {
-  shape = HasShape-reset;
-  words = word_at-reset-lt;
-  told =
-      λ g b. subst (λ t. IsSubset t (pending_bits reset_registers g)) (sym (none_told g b))
-      (IsSubset-no_bits (pending_bits reset_registers g));
-}

@@ -20,8 +20,8 @@ use Rattle.register_file.specs.declared.owner.Owner.{Owner}
 use Rattle.register_file.specs.declared.surroundings.Surroundings.{Surroundings}
 use Rattle.register_file.specs.declared.owner.Owner.TheVariants as owner
 
--- what a row that is calculated reads as: STATUS tells whether the device makes steps, LINKS whether the link is up, and
--- EEC in bits 14 to 11 the size of the EEPROM's image. No other row is calculated.
+-- what a row that is calculated reads as: STATUS tells whether the device makes steps, LINKS whether the link is up,
+-- and EEC in bits 14 to 11 the size of the EEPROM's image. No other row is calculated.
 abbrev pub calculated : RowId → Registers → Surroundings → ℕ
 calculated row.Status r around = if is_stopped r then 0 else 0x00080000
 calculated row.Links r around = if around.link then 0x70000000 else 0
@@ -137,8 +137,8 @@ abbrev pub group_written : Kind → Registers → Place → ℕ → Registers
 group_written k r p bits = in_group r p (λ g. interrupts_written k r g bits)
 
 -- the registers after a write of a place through an address that shows the bits of `view`. A queue's ring can't be
--- changed while its side is on; a write of its enable word asks for bit 25, and leaves that bit as it is. A write of EERD
--- clears bit 1, DONE, and the word that was read; one that asks for a reset of a pool changes nothing else.
+-- changed while its side is on; a write of its enable word asks for bit 25, and leaves that bit as it is. A write of
+-- EERD clears bit 1, DONE, and the word that was read; one that asks for a reset of a pool changes nothing else.
 abbrev pub written : Kind → Registers → Place → ℕ → ℕ → Registers
 written kind.Rw r p view word = stored r p view word
 written kind.Ro r p view word = r

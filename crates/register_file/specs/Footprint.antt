@@ -90,8 +90,8 @@ of_side dir queue = of_owner (owner.Side dir queue)
 abbrev pub of_group : Group → Footprint
 of_group g = of_owner (owner.Group g)
 
--- all that is a pool's: the words at its places, of its queues whether their sides are wanted on, and what is told of the
--- virtual function with its number
+-- all that is a pool's: the words at its places, of its queues whether their sides are wanted on, and what is told of
+-- the virtual function with its number
 abbrev pub of_pool : Mode → ℕ → Footprint
 of_pool mode v =
     record {

@@ -208,7 +208,8 @@ pub record IsAnswered (r : Registers) (asked answer : ℕ) : Type 0 where
 
 abbrev pub EepromAnswerIsRead : Type 0
 EepromAnswerIsRead =
-    (r : Registers) → HasShape r → (word : ℕ) → word < 2 ^ 16 → IsAnswered (eeprom_answered r word) (eeprom_index r) word
+    (r : Registers) → HasShape r → (word : ℕ) → word < 2 ^ 16 →
+    IsAnswered (eeprom_answered r word) (eeprom_index r) word
 
 -- the causes, masks and told bits of a group that were put into its registers are there again, beside the auto-clear
 -- and the auto-mask that it had

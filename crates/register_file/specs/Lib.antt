@@ -1,4 +1,5 @@
 pub mod Access
+pub mod Agreement
 pub mod AllGroups
 pub mod Bits
 pub mod Columns

@@ -2,6 +2,7 @@
 
 ghost use Rattle.register_file.specs.Laws.{ResetIsSound, ReadKeepsSound, WriteKeepsSound, CountKeepsSound, CountWrappingKeepsSound, AnswerKeepsSound, RaiseKeepsSound, QueueRaiseKeepsSound, MessageKeepsSound, HeadKeepsSound, SwitchKeepsSound, ShutKeepsSound, ResetGivesResetValues, ResetSwitchesOff, ResetTellsNothing, PutWordIsThere, PutWordIsAlone, GroupBitsAreMasks, StoredWordReadsBack, ReadStaysWithin, WriteStaysWithin, CountStaysWithin, CountWrappingStaysWithin, AnswerStaysWithin, RaiseStaysWithin, QueueRaiseStaysWithin, MessageStaysWithin, HeadStaysWithin, SwitchStaysWithin, ShutStaysWithin, ReadStaysWithOwner, WriteStaysWithOwner, OwnersAreApart, OwnersDiffer, WordIsOnePlace, PendingIsPending, CountersAreTheirOwn, PendingMissesSides, ReadMissesSides, MissedReceiveStands, MissedTransmitStands, MissedInterruptsStand, MissedSettingsStand, HeadMovesReceive, HeadMovesTransmit, SwitchObeysReceive, SwitchObeysTransmit, SwitchedSideStays, ShutIsOffReceive, ShutIsOffTransmit, RingIsHeldWhileOn, WrittenReceiveIsTheSides, WrittenTransmitIsTheSides, EnableWriteAsksReceive, EnableWriteAsksTransmit, EnableReadTellsOn, CountersCount, ReadOnlyCountersGoRound, CalculatedRowsHaveFormulas, EepromAnswerIsRead, InterruptsStand};
 ghost use Rattle.register_file.specs.PoolLaws.{PoolIsReset, PoolResetStaysWithin, PoolResetKeepsSound};
+ghost use Rattle.register_file.specs.Agreement.{PoolReadsStayWithin, PoolWritesStayWithin, SharedReadsChangeNothing, SharedWritesChangeNothing, PoolReadsTellTheSame, SharedReadsTellTheSame, PoolReadsKeepAgreement, PoolWritesKeepAgreement, PoolResetMakesAgreement};
 
 /// Registers are sound after a reset and through every change: they have each place of the table, words of 32 bits, and
 /// told bits only where cause and mask are 1.
@@ -44,8 +45,8 @@ pub fn stored_word_reads_back()
 {}
 
 /// What an operation changes is in its footprint: of a read and a write that of its place, of a count, of an answer of
-/// the EEPROM and of a moved head the one word, of raised causes and of a message what is pending of the group, of a switch the enable word, and
-/// of a fault the enable word and whether the side is wanted on.
+/// the EEPROM and of a moved head the one word, of raised causes and of a message what is pending of the group, of a
+/// switch the enable word, and of a fault the enable word and whether the side is wanted on.
 pub fn changes_stay_in_their_footprint()
     ensures read { ReadStaysWithin }
     ensures write { WriteStaysWithin }
@@ -155,4 +156,24 @@ pub fn reset_pool_is_reset()
     ensures reset { PoolIsReset }
     ensures alone { PoolResetStaysWithin }
     ensures sound { PoolResetKeepsSound }
+{}
+
+/// An access of a pool's register, where it asks for no reset, changes nothing but what is the pool's, and one of
+/// STATUS or LINKS nothing at all.
+pub fn pool_accesses_stay_within()
+    ensures read { PoolReadsStayWithin }
+    ensures write { PoolWritesStayWithin }
+    ensures shared_read { SharedReadsChangeNothing }
+    ensures shared_write { SharedWritesChangeNothing }
+{}
+
+/// Two register files that agree of a pool tell the same at the pool's registers, and agree of the pool again after the
+/// same access of one of them. STATUS and LINKS tell the same where both make steps or neither. After a reset of the
+/// pool they agree of it in any case.
+pub fn pool_accesses_tell_of_the_pool()
+    ensures word { PoolReadsTellTheSame }
+    ensures shared_word { SharedReadsTellTheSame }
+    ensures read { PoolReadsKeepAgreement }
+    ensures write { PoolWritesKeepAgreement }
+    ensures reset { PoolResetMakesAgreement }
 {}

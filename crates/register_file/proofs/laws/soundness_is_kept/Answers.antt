@@ -1,4 +1,5 @@
-use Rattle.register_file.proofs.Sound.{sound-reset, sound-after_read, sound-written, sound-counted, sound-counted_wrapping, sound-answered, sound-causes_raised, sound-queue_raised, sound-message_made, sound-with_head, sound-switched, sound-shut}
+use Rattle.register_file.proofs.Sound.{sound-after_read, sound-written, sound-counted, sound-counted_wrapping, sound-answered, sound-causes_raised, sound-queue_raised, sound-message_made, sound-with_head, sound-switched, sound-shut}
+use Rattle.register_file.proofs.SoundReset.{sound-reset}
 use Rattle.register_file.proofs.laws.soundness_is_kept.Goals as goal
 
 pub returns-clause-reset : goal.returns-clause-reset

@@ -11,3 +11,5 @@ pub mod Contents
 pub mod Images
 pub mod Unique
 pub mod Blank
+pub mod TripleLists
+pub mod Sizes

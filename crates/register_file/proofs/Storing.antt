@@ -13,21 +13,31 @@ use Rattle.reg_table.specs.declared.rows.RowId.TheVariants.{Eiac, Eiam, Pvteiac,
 use Rattle.register_file.specs.Bits.{merged}
 use Rattle.register_file.specs.Storing.{IsWordOf}
 
-one_of_digits : (o x w m v : ℕ) → o < 2 → m < 2 → eqb (max (min o x) (min w (min m v))) 1 ≡ true → (eqb o 1 ≡ true) ⊎ (eqb m 1 ≡ true)
+one_of_digits : (o x w m v : ℕ) → o < 2 → m < 2 → eqb (max (min o x) (min w (min m v))) 1 ≡ true
+    → (eqb o 1 ≡ true) ⊎ (eqb m 1 ≡ true)
 one_of_digits o x w m v p q e = grind (arith, nat_tests)
 
-contains-stored : (old x word mask view k : ℕ) → contains (bit_or (bit_and old x) (bit_and word (bit_and mask view))) k ≡ true → (contains old k ≡ true) ⊎ (contains mask k ≡ true)
+contains-stored : (old x word mask view k : ℕ)
+    → contains (bit_or (bit_and old x) (bit_and word (bit_and mask view))) k ≡ true
+    → (contains old k ≡ true) ⊎ (contains mask k ≡ true)
 unfolding contains
 contains-stored old x word mask view k h =
-    let digits : bit_at (bit_or (bit_and old x) (bit_and word (bit_and mask view))) k ≡ max (min (bit_at old k) (bit_at x k)) (min (bit_at word k) (min (bit_at mask k) (bit_at view k))) =
+    let digits : bit_at (bit_or (bit_and old x) (bit_and word (bit_and mask view))) k
+    ≡ max (min (bit_at old k) (bit_at x k)) (min (bit_at word k) (min (bit_at mask k) (bit_at view k))) =
     bit_at_or (bit_and old x) (bit_and word (bit_and mask view)) k
-    ∙ (λ i. max (bit_at_and old x k i) ((bit_at_and word (bit_and mask view) k ∙ ap (min (bit_at word k)) (bit_at_and mask view k)) i)) in
-    one_of_digits (bit_at old k) (bit_at x k) (bit_at word k) (bit_at mask k) (bit_at view k) (bit_at-lt old k) (bit_at-lt mask k)
+    ∙ (λ i. max (bit_at_and old x k i)
+    ((bit_at_and word (bit_and mask view) k ∙ ap (min (bit_at word k)) (bit_at_and mask view k)) i)) in
+    one_of_digits (bit_at old k) (bit_at x k) (bit_at word k) (bit_at mask k) (bit_at view k) (bit_at-lt old k)
+    (bit_at-lt mask k)
     (sym (ap (λ d. eqb d 1) digits) ∙ h)
 
-stored_within : (old x word mask view : ℕ) (bits : BitSet) → mask ≡ bits → IsSubset old bits → IsSubset (bit_or (bit_and old x) (bit_and word (bit_and mask view))) bits
+stored_within : (old x word mask view : ℕ) (bits : BitSet) → mask ≡ bits → IsSubset old bits
+    → IsSubset (bit_or (bit_and old x) (bit_and word (bit_and mask view))) bits
 stored_within old x word mask view bits same within = record {
-  member = λ k h. elim (contains-stored old x word mask view k h) [ inl o ↦ within.member k o | inr m ↦ sym (ap (λ s. contains s k) same) ∙ m ];
+  member = λ k h. elim (contains-stored old x word mask view k h) [
+    | inl o ↦ within.member k o
+    | inr m ↦ sym (ap (λ s. contains s k) same) ∙ m
+  ];
 }
 
 pf_mask : 0x7FFFFFFF ≡ group_bits Pf
@@ -39,7 +49,8 @@ unfolding group_bits bits_from_to bits_where bits_below
 vf_mask v = refl
 
 -- of a row's words, one in which bits of the row's mask were stored is one again
-pub still_word : (row : RowId) (index view old word : ℕ) → IsWordOf row index old → IsWordOf row index (merged (bit_and (row_of row).mask view) old word)
+pub still_word : (row : RowId) (index view old word : ℕ) → IsWordOf row index old
+    → IsWordOf row index (merged (bit_and (row_of row).mask view) old word)
 still_word Eiac index view old word h = stored_within old _ word 0x7FFFFFFF view (group_bits Pf) pf_mask h
 still_word Eiam index view old word h = stored_within old _ word 0x7FFFFFFF view (group_bits Pf) pf_mask h
 still_word Pvteiac index view old word h = stored_within old _ word 7 view (group_bits (Vf index)) (vf_mask index) h
@@ -53,3 +64,10 @@ counter_word Eiam index word h = absurd (cc)
 counter_word Pvteiac index word h = absurd (cc)
 counter_word Pvteiam index word h = absurd (cc)
 counter_word other index word h = tt
+
+pub read_only_word : (row : RowId) (index word : ℕ) → (row_of row).kind ≡ kind.Ro → IsWordOf row index word
+read_only_word Eiac index word h = absurd (cc)
+read_only_word Eiam index word h = absurd (cc)
+read_only_word Pvteiac index word h = absurd (cc)
+read_only_word Pvteiam index word h = absurd (cc)
+read_only_word other index word h = tt

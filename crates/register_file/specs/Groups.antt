@@ -51,7 +51,8 @@ interrupts_of r g =
 abbrev pub with_interrupts : Registers → Interrupts → Registers
 with_interrupts r s =
     with_told
-    (with_word (with_word r (cause_row s.group) (index_of s.group) s.causes) (mask_row s.group) (index_of s.group) s.enabled)
+    (with_word (with_word r (cause_row s.group) (index_of s.group) s.causes)
+    (mask_row s.group) (index_of s.group) s.enabled)
     s.group s.told
 
 -- GPIE bit 5: a read of EICR clears the other causes alone; and bit 30, EIAME: the auto-mask is for messages

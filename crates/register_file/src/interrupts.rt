@@ -34,8 +34,8 @@ impl RegisterFile {
         self.groups.raise(group, bits, false);
     }
 
-    /// A side of a queue below `QUEUES` raises in a group the cause that its byte of IVAR, or in a virtual function's group
-    /// of PVTIVAR, names, if that is valid. The number of a virtual function is below 64.
+    /// A side of a queue below `QUEUES` raises in a group the cause that its byte of IVAR, or in a virtual function's
+    /// group of PVTIVAR, names, if that is valid. The number of a virtual function is below 64.
     pub fn raise_queue(&mut self, group: Group, dir: Dir, queue: u16)
         requires queue { queue < 128 }
         requires group { index_of group < 64 }

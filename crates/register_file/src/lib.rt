@@ -6,8 +6,9 @@
 //! what its kind lets through, a read of a counter starts it again from 0, and accesses of a group's
 //! interrupts go through `intr_unit`, by the words of its registers. `peek` is the word of a read without its
 //! effect, and `word` the word as it was stored. The other calls are what the device core asks of a queue (its ring,
-//! whether it is on, its counter) and of single bits, and how it moves a head, switches a queue and counts. The
-//! definitions stand in `specs/`. The registers lie in plain fields: the sides of the queues, the groups of interrupts,
+//! whether it is on, its counter), of a pool (its queues, whether it is on) and of single bits, and how it moves a head,
+//! switches a queue, counts, answers what was asked of the EEPROM, and resets a pool. What calculated registers tell of
+//! the link and the EEPROM is passed in as `Surroundings`. The definitions stand in `specs/`. The registers lie in plain fields: the sides of the queues, the groups of interrupts,
 //! which change in place, the hash key, the settings, the tables and the counters; `cell` and `set_word` say which row
 //! lies where. Nothing here takes memory.
 //!
@@ -18,25 +19,31 @@ mod access;
 mod banks;
 mod counters;
 mod dir;
+mod eeprom;
 mod groups;
 mod hashing;
 mod interrupts;
 mod laws;
 mod owner;
+mod pools;
 mod queue;
 mod register_file;
 mod settings;
 mod side;
+mod surroundings;
 mod words;
 
-pub use access::asks_reset;
+pub use access::{asks_pool_reset, asks_reset};
 pub use dir::Dir;
 pub use laws::{
-    accesses_stay_with_their_owner, changes_stay_in_their_footprint, counters_count,
-    enable_write_only_asks, group_bits_are_masks, interrupts_stand, moved_head_is_the_head,
-    put_word_is_there, reset_is_the_tables, ring_is_held_while_on, shut_side_is_off,
+    accesses_stay_with_their_owner, calculated_rows_have_formulas, changes_stay_in_their_footprint,
+    counters_count, eeprom_answer_is_read, enable_write_only_asks, group_bits_are_masks,
+    interrupts_stand, moved_head_is_the_head, pool_accesses_stay_within,
+    pool_accesses_tell_of_the_pool, put_word_is_there, read_only_counters_go_round,
+    reset_is_the_tables, reset_pool_is_reset, ring_is_held_while_on, shut_side_is_off,
     soundness_is_kept, stored_word_reads_back, switched_side_is_as_wanted,
     what_a_footprint_misses_stands, written_word_is_the_sides,
 };
 pub use owner::{Owner, owner_of};
 pub use register_file::{QUEUES, RegisterFile};
+pub use surroundings::Surroundings;

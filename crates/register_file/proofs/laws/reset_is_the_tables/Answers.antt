@@ -1,6 +1,6 @@
 use Rattle.register_file.proofs.Puts.{word_at-reset}
 use Rattle.register_file.proofs.ReadBack.{off-reset}
-use Rattle.register_file.proofs.Sound.{none_told}
+use Rattle.register_file.proofs.SoundReset.{none_told}
 use Rattle.register_file.proofs.laws.reset_is_the_tables.Goals as goal
 
 pub returns-clause-words : goal.returns-clause-words

@@ -1,0 +1,76 @@
+-- What the EEPROM's image does at a reset, and how it is read.
+use Rattle.std.specs.Prelude.{ℕ, ◌≡◌, ◌≢◌, ◌⊎◌, ◌+◌, ◌*◌, ◌^◌, IsTrue, IsFalse, List, [], ◌∷◌, ◌++◌, length, Some, None}
+use Rattle.eeprom_image.specs.Bytes.{word_at}
+use Rattle.eeprom_image.specs.Triples.{triples_of}
+use Rattle.reg_table.specs.Place.{Names}
+use Rattle.reg_table.specs.Rows.{row_of}
+use Rattle.reg_table.specs.declared.place.Place.{Place}
+use Rattle.reg_table.specs.declared.rows.RowId.TheVariants.{Ctrl, Eerd}
+use Rattle.register_file.specs.Access.{asks_reset}
+use Rattle.register_file.specs.Eeprom.{eeprom_asked}
+use Rattle.register_file.specs.Settings.{is_stopped}
+use Rattle.nic_device.specs.Outcome.{gives}
+use Rattle.nic_device.specs.Sound.{IsSound}
+use Rattle.nic_device.specs.State.{State}
+use Rattle.nic_device.specs.Step.{step_of, after, reply_to}
+use Rattle.nic_device.specs.declared.event.Event.TheVariants as event
+use Rattle.nic_device.specs.declared.event.Reply.TheVariants.{Word, Done, Idle}
+use Rattle.device_laws.specs.Laws.{reply_to_read, after_write}
+
+-- a device with another image
+abbrev pub with_image : State → List ℕ → State
+with_image s image = record s { image = image }
+
+-- an image has the register writes of another one, and this one behind them
+abbrev pub HasOneMore : List ℕ → List ℕ → ℕ → ℕ → Type 0
+HasOneMore image more offset value = triples_of more ≡ triples_of image ++ (offset, value) ∷ []
+
+-- an address of neither CTRL nor EERD
+abbrev pub IsWritten : ℕ → Type 0
+IsWritten offset = (p : Place) → Names offset p → (p.row ≢ Ctrl) × (p.row ≢ Eerd)
+
+-- with one write more at its end, an image leads a reset where it led, and then on by that write, as by any other. What
+-- is behind a write that does nothing is so made too
+abbrev pub LastWriteIsMade : Type 0
+LastWriteIsMade =
+    (s : State) (image : List ℕ) (offset value : ℕ) → HasOneMore s.image image offset value → IsWritten offset →
+    (address word : ℕ) (p : Place) → Names address p → IsTrue (asks_reset (row_of p.row).kind word) →
+    after_write (with_image s image) address word
+    ≡ with_image (after_write (after_write s address word) offset value) image
+
+-- one of CTRL or EERD is stepped over
+abbrev pub SteppedOverWriteIsNotMade : Type 0
+SteppedOverWriteIsNotMade =
+    (s : State) (image : List ℕ) (offset value : ℕ) → HasOneMore s.image image offset value →
+    (q : Place) → Names offset q → (q.row ≡ Ctrl) ⊎ (q.row ≡ Eerd) →
+    (address word : ℕ) (p : Place) → Names address p → IsTrue (asks_reset (row_of p.row).kind word) →
+    after_write (with_image s image) address word ≡ with_image (after_write s address word) image
+
+-- where EEC and EERD read
+abbrev pub control_address : ℕ
+control_address = 0x10010
+
+abbrev pub read_address : ℕ
+read_address = 0x10014
+
+-- EEC tells how many words the image has: 64 doubled so often
+abbrev pub ControlTellsSize : Type 0
+ControlTellsSize =
+    (s : State) → IsSound s → (doubled : ℕ) → length s.image ≡ 64 * 2 ^ doubled →
+    reply_to_read s control_address ≡ Word (0x300 + 0x800 * doubled)
+
+-- a word that EERD asks for is there after a step of the EEPROM, beside its index and DONE: 0xFFFF outside the image
+pub record GivesWord (s : State) (index : ℕ) : Type 0 where
+  pub reply : reply_to s event.EepromStep ≡ Done
+  pub word :
+      reply_to_read (after s event.EepromStep) read_address ≡ Word (index * 4 + 2 + word_at s.image index * 2 ^ 16)
+
+abbrev pub StepGivesWord : Type 0
+StepGivesWord =
+    (s : State) → IsSound s → IsFalse (is_stopped s.registers) → (index : ℕ) → eeprom_asked s.registers ≡ Some index →
+    GivesWord s index
+
+-- where EERD asks for none, the step is idle and changes nothing
+abbrev pub StepWithoutStartIsIdle : Type 0
+StepWithoutStartIsIdle =
+    (s : State) → eeprom_asked s.registers ≡ None → step_of s event.EepromStep ≡ gives Idle s

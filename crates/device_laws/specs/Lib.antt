@@ -1,0 +1,8 @@
+pub mod Counting
+pub mod Eeprom
+pub mod Laws
+pub mod Leaving
+pub mod Order
+pub mod Ports
+pub mod Raising
+pub mod Replies

@@ -1,0 +1,37 @@
+-- The nine sizes of an image.
+use Rattle.std.proofs.Common.{◌≡◌, ◌==◌, ℕ, ◌*◌, ◌^◌, ◌≤◌, inl, inr, true, List, [], ◌∷◌, refl, arith, subst, sym, ◌∙◌}
+use Rattle.std.specs.List.{list_any, AllByRecursion}
+use Rattle.std.proofs.lemmas.Bool.Decides.{eqb_tells}
+use Rattle.std.proofs.lemmas.Bool.{cases_order}
+use Rattle.std.proofs.Math.Pow.{pow-lt}
+use Rattle.eeprom_image.specs.Image.{is_size, doublings}
+
+-- what holds of each size holds of one of them
+of_any : (P : ℕ → Type 0) (size : ℕ) (ss : List ℕ) → list_any (λ s. size == 64 * 2 ^ s) ss ≡ true
+    → AllByRecursion (λ s. P (64 * 2 ^ s)) ss → P size
+of_any P size [] h all = absurd (let no : ⊥ = cc in no)
+of_any P size (s ∷ ss) h all = elim (eqb_tells size (64 * 2 ^ s)) as (λ _. P size) [
+  | inl (t, e) ↦ subst P (sym e) all.0
+  | inr (t, e) ↦ of_any P size ss (rw t at h) all.1
+]
+
+pub doubled : (size : ℕ) → is_size size ≡ true → size ≡ 64 * 2 ^ doublings size
+doubled size h =
+    of_any (λ n. n ≡ 64 * 2 ^ doublings n) size (0 ∷ 1 ∷ 2 ∷ 3 ∷ 4 ∷ 5 ∷ 6 ∷ 7 ∷ 8 ∷ []) h
+    (refl, (refl, (refl, (refl, (refl, (refl, (refl, (refl, (refl, tt)))))))))
+
+pub doublings-few : (size : ℕ) → is_size size ≡ true → doublings size ≤ 8
+doublings-few size h =
+    of_any (λ n. doublings n ≤ 8) size (0 ∷ 1 ∷ 2 ∷ 3 ∷ 4 ∷ 5 ∷ 6 ∷ 7 ∷ 8 ∷ []) h
+    (omega arith, (omega arith, (omega arith, (omega arith, (omega arith, (omega arith, (omega arith, (omega arith,
+    (omega arith, tt)))))))))
+
+same_power : (d e : ℕ) → 64 * 2 ^ d ≡ 64 * 2 ^ e → d ≡ e
+same_power d e same = elim (cases_order d e) as (λ _. d ≡ e) [
+  | inl is ↦ is
+  | inr (inl low) ↦ let less = pow-lt low in omega arith
+  | inr (inr high) ↦ let less = pow-lt high in omega arith
+]
+
+pub doublings-is : (size d : ℕ) → is_size size ≡ true → size ≡ 64 * 2 ^ d → doublings size ≡ d
+doublings-is size d h is = same_power (doublings size) d (sym (doubled size h) ∙ is)

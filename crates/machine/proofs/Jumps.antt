@@ -23,8 +23,12 @@ test_other a b other = elim (eqb_tells a b) [
 pub jumps_go : JumpsGo
 jumps_go = record {
   always = λ program s target next. leads program s (instr.Jump target) next;
-  equal = λ program s word target next is. leads program s (instr.JumpIfEqual word target) next ∙ rw (eq-eqb s.acc word is) refl;
-  not_equal = λ program s word target next other. leads program s (instr.JumpIfEqual word target) next ∙ rw (test_other s.acc word other) refl;
-  unless_other = λ program s word target next other. leads program s (instr.JumpUnlessEqual word target) next ∙ rw (test_other s.acc word other) refl;
-  unless_equal = λ program s word target next is. leads program s (instr.JumpUnlessEqual word target) next ∙ rw (eq-eqb s.acc word is) refl;
+  equal = λ program s word target next is. leads program s (instr.JumpIfEqual word target) next
+      ∙ rw (eq-eqb s.acc word is) refl;
+  not_equal = λ program s word target next other. leads program s (instr.JumpIfEqual word target) next
+      ∙ rw (test_other s.acc word other) refl;
+  unless_other = λ program s word target next other. leads program s (instr.JumpUnlessEqual word target) next
+      ∙ rw (test_other s.acc word other) refl;
+  unless_equal = λ program s word target next is. leads program s (instr.JumpUnlessEqual word target) next
+      ∙ rw (eq-eqb s.acc word is) refl;
 }

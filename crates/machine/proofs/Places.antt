@@ -27,13 +27,15 @@ ended_running e = cc
 failed_running : (pc have want : ℕ) → Failed pc have want ≡ Running → ⊥
 failed_running pc have want e = cc
 
-placed-moved : (program : Listing) (s : MachineState) (pc : ℕ) → pc ≤ length program.instructions → IsPlaced program (moved_to program s pc)
+placed-moved : (program : Listing) (s : MachineState) (pc : ℕ) → pc ≤ length program.instructions
+    → IsPlaced program (moved_to program s pc)
 placed-moved program s pc inside running = elim (eqb_tells pc (length program.instructions)) [
   | inl (test, at_end) ↦ absurd (ended_running (rw test at running))
   | inr (test, other) ↦ omega arith
 ]
 
-placed_either : (program : Listing) (b : Bool) (x y : MachineState) → IsPlaced program x → IsPlaced program y → IsPlaced program (cond b x y)
+placed_either : (program : Listing) (b : Bool) (x y : MachineState) → IsPlaced program x → IsPlaced program y
+    → IsPlaced program (cond b x y)
 placed_either program true x y h k = h
 placed_either program false x y h k = k
 
@@ -41,11 +43,14 @@ inside_either : (limit : ℕ) (b : Bool) (x y : ℕ) → x ≤ limit → y ≤ l
 inside_either limit true x y h k = h
 inside_either limit false x y h k = k
 
-placed-acted : (program : Listing) (s : MachineState) (deed : LocalDeed) → s.pc < length program.instructions → StaysInside program deed → IsPlaced program (acted program s deed)
+placed-acted : (program : Listing) (s : MachineState) (deed : LocalDeed) → s.pc < length program.instructions
+    → StaysInside program deed → IsPlaced program (acted program s deed)
 placed-acted program s act.GoOn below stays = placed-moved program s (s.pc + 1) (omega arith)
 placed-acted program s (act.Expect want mask) below stays =
-    placed_either program _ _ _ (placed-moved program s (s.pc + 1) (omega arith)) (λ running. absurd (failed_running _ _ _ running))
-placed-acted program s (act.And word) below stays = placed-moved program (record s { acc = bit_and s.acc word }) (s.pc + 1) (omega arith)
+    placed_either program _ _ _ (placed-moved program s (s.pc + 1) (omega arith))
+    (λ running. absurd (failed_running _ _ _ running))
+placed-acted program s (act.And word) below stays =
+    placed-moved program (record s { acc = bit_and s.acc word }) (s.pc + 1) (omega arith)
 placed-acted program s (act.JumpIfEqual word target) below stays =
     placed-moved program s _ (inside_either (length program.instructions) _ target (s.pc + 1) stays (omega arith))
 placed-acted program s (act.JumpUnlessEqual word target) below stays =
@@ -53,7 +58,8 @@ placed-acted program s (act.JumpUnlessEqual word target) below stays =
 placed-acted program s (act.Jump target) below stays = placed-moved program s target stays
 placed-acted program s act.Halt below stays = λ running. absurd (ended_running running)
 
-placed_step : (program : Listing) (b : Bool) (x y : Step) → IsPlaced program x.state → IsPlaced program y.state → IsPlaced program (cond b x y).state
+placed_step : (program : Listing) (b : Bool) (x y : Step) → IsPlaced program x.state → IsPlaced program y.state
+    → IsPlaced program (cond b x y).state
 placed_step program true x y h k = h
 placed_step program false x y h k = k
 
@@ -65,7 +71,8 @@ JumpsInside program (Lend block) = ⊤
 JumpsInside program (TakeBack block) = ⊤
 JumpsInside program (Arrive number) = ⊤
 
-jumps-inside : (program : Listing) (i : Instruction ℕ ℕ) → IsSound program.strings (length program.instructions) i → JumpsInside program (deed_of program i)
+jumps-inside : (program : Listing) (i : Instruction ℕ ℕ) → IsSound program.strings (length program.instructions) i
+    → JumpsInside program (deed_of program i)
 jumps-inside program (instr.Write address word) sound = tt
 jumps-inside program (instr.Read address) sound = tt
 jumps-inside program (instr.VfWrite function offset word) sound = tt
@@ -89,16 +96,19 @@ jumps-inside program (instr.JumpUnlessEqual word target) sound = sound
 jumps-inside program (instr.Jump target) sound = sound
 jumps-inside program instr.Halt sound = tt
 
-placed-done : (program : Listing) (s : MachineState) (deed : Deed) → s.pc < length program.instructions → JumpsInside program deed → IsPlaced program (done program s deed).state
+placed-done : (program : Listing) (s : MachineState) (deed : Deed) → s.pc < length program.instructions
+    → JumpsInside program deed → IsPlaced program (done program s deed).state
 placed-done program s (Make event kept) below inside = placed-moved program s (s.pc + 1) (omega arith)
 placed-done program s (Lend block) below inside =
-    placed_step program _ _ _ (placed-moved program s (s.pc + 1) (omega arith)) (placed-moved program s (s.pc + 1) (omega arith))
+    placed_step program _ _ _ (placed-moved program s (s.pc + 1) (omega arith))
+    (placed-moved program s (s.pc + 1) (omega arith))
 placed-done program s (TakeBack block) below inside = placed-moved program s (s.pc + 1) (omega arith)
 placed-done program s (Arrive number) below inside = placed-moved program s (s.pc + 1) (omega arith)
 placed-done program s (Local deed) below inside = placed-acted program s deed below inside
 
 -- each instruction of a list that all are so is so
-each : (P : Instruction ℕ ℕ → Type 0) (xs : List (Instruction ℕ ℕ)) (k : ℕ) (i : Instruction ℕ ℕ) → AllByRecursion P xs → slice_get xs k ≡ Some i → P i
+each : (P : Instruction ℕ ℕ → Type 0) (xs : List (Instruction ℕ ℕ)) (k : ℕ) (i : Instruction ℕ ℕ)
+    → AllByRecursion P xs → slice_get xs k ≡ Some i → P i
 each P [] k i all found = cc
 each P (x ∷ xs) zero i all found = let same : x ≡ i = cc in subst P same all.0
 each P (x ∷ xs) (suc k) i all found = each P xs k i all.1 found
@@ -107,15 +117,20 @@ cond_given : (b : Bool) (o : Option (Instruction ℕ ℕ)) (i : Instruction ℕ 
 cond_given true o i e = e
 cond_given false o i e = absurd (none-some i e)
 
-placed-next : (program : Listing) (s : MachineState) (next : Option (Instruction ℕ ℕ)) → IsListing program → IsPlaced program s
-    → ((i : Instruction ℕ ℕ) → next ≡ Some i → slice_get program.instructions s.pc ≡ Some i) → IsPlaced program (executed_if_some program s next).state
+placed-next : (program : Listing) (s : MachineState) (next : Option (Instruction ℕ ℕ)) → IsListing program
+    → IsPlaced program s
+    → ((i : Instruction ℕ ℕ) → next ≡ Some i → slice_get program.instructions s.pc ≡ Some i)
+    → IsPlaced program (executed_if_some program s next).state
 placed-next program s None listing placed at = placed
 placed-next program s (Some i) listing placed at =
     placed-done program s (deed_of program i) (slice_get_within program.instructions s.pc i (at i refl))
-    (jumps-inside program i (each (IsSound program.strings (length program.instructions)) program.instructions s.pc i listing.sound (at i refl)))
+    (jumps-inside program i
+    (each (IsSound program.strings (length program.instructions)) program.instructions s.pc i listing.sound
+    (at i refl)))
 
 -- a machine that runs is at an instruction of its program
-pub runs-inside : (program : Listing) (config : Config) (n : ℕ) → IsListing program → IsPlaced program (machine_at program config n)
+pub runs-inside : (program : Listing) (config : Config) (n : ℕ) → IsListing program
+    → IsPlaced program (machine_at program config n)
 unfolding machine_at machine_step
 runs-inside program config zero listing = placed-moved program (start_of program config) 0 (omega arith)
 runs-inside program config (suc n) listing =

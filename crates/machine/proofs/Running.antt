@@ -19,7 +19,8 @@ use Rattle.program.specs.declared.instruction.Instruction.{Instruction}
 use Rattle.machine.proofs.Steps.{steps-done}
 use Rattle.machine.proofs.Places.{runs-inside}
 
-answered : (b : Bool) (x y : Step) → x.answer ≢ answer.Stopped → y.answer ≢ answer.Stopped → (cond b x y).answer ≢ answer.Stopped
+answered : (b : Bool) (x y : Step) → x.answer ≢ answer.Stopped → y.answer ≢ answer.Stopped
+    → (cond b x y).answer ≢ answer.Stopped
 answered true x y h k = h
 answered false x y h k = k
 
@@ -39,11 +40,14 @@ done_not_stopped program s (TakeBack block) = made_not_stopped _
 done_not_stopped program s (Arrive number) = made_not_stopped _
 done_not_stopped program s (Local deed) = local_not_stopped
 
-stays : (program : Listing) (s : MachineState) (next : Option (Instruction ℕ ℕ)) → (executed_if_some program s next).answer ≡ answer.Stopped → (executed_if_some program s next).state ≡ s
+stays : (program : Listing) (s : MachineState) (next : Option (Instruction ℕ ℕ))
+    → (executed_if_some program s next).answer ≡ answer.Stopped → (executed_if_some program s next).state ≡ s
 stays program s None e = refl
 stays program s (Some instruction) e = absurd (done_not_stopped program s (deed_of program instruction) e)
 
-counts : (program : Listing) (s : MachineState) (next : Option (Instruction ℕ ℕ)) → (executed_if_some program s next).answer ≢ answer.Stopped → (executed_if_some program s next).state.steps ≡ s.steps + 1
+counts : (program : Listing) (s : MachineState) (next : Option (Instruction ℕ ℕ))
+    → (executed_if_some program s next).answer ≢ answer.Stopped
+    → (executed_if_some program s next).state.steps ≡ s.steps + 1
 counts program s None other = absurd (other refl)
 counts program s (Some instruction) other = steps-done program s (deed_of program instruction)
 
@@ -54,14 +58,16 @@ steps_count = record {
   counts = λ program s other. counts program s (next_instruction program s) other;
 }
 
-stopped_for_good : (program : Listing) (config : Config) (n more : ℕ) → (machine_step program (machine_at program config n)).answer ≡ answer.Stopped
+stopped_for_good : (program : Listing) (config : Config) (n more : ℕ)
+    → (machine_step program (machine_at program config n)).answer ≡ answer.Stopped
     → machine_at program config (n + more) ≡ machine_at program config n
 unfolding machine_at
 stopped_for_good program config n zero stopped = ap (machine_at program config) (omega arith)
 stopped_for_good program config n (suc more) stopped =
     let one : n + suc more ≡ suc (n + more) = omega arith in
     let before = stopped_for_good program config n more stopped in
-    ap (machine_at program config) one ∙ ap (λ s. (machine_step program s).state) before ∙ steps_count.stays program (machine_at program config n) stopped
+    ap (machine_at program config) one ∙ ap (λ s. (machine_step program s).state) before
+    ∙ steps_count.stays program (machine_at program config n) stopped
 
 pub stopped_machines_stay : StoppedMachinesStay
 stopped_machines_stay = stopped_for_good
@@ -74,7 +80,8 @@ not_running (Failed pc have want) other = refl
 none_next : (program : Listing) (s : MachineState) → is_running s.status ≡ false → next_instruction program s ≡ None
 none_next program s stopped = rw stopped refl
 
-found : (program : Listing) (s : MachineState) → s.status ≡ Running → s.steps < 2 ^ 64 - 1 → s.pc < length program.instructions
+found : (program : Listing) (s : MachineState) → s.status ≡ Running → s.steps < 2 ^ 64 - 1
+    → s.pc < length program.instructions
     → (i : Instruction ℕ ℕ) × (next_instruction program s ≡ Some i)
 found program s running few inside = elim (slice_get_cases program.instructions s.pc).1 [
   | inl (i, below, is, at) ↦ (i, rw (running, lt-ltb s.steps (2 ^ 64 - 1) few) is)
@@ -89,5 +96,6 @@ running_machines_step = record {
   steps = λ program config n listing running few.
       let s = machine_at program config n in
       let next = found program s running few (runs-inside program config n listing running) in
-      λ stopped. done_not_stopped program s (deed_of program next.0) (ap (λ (o : Option (Instruction ℕ ℕ)). (executed_if_some program s o).answer) (sym next.1) ∙ stopped);
+      λ stopped. done_not_stopped program s (deed_of program next.0)
+      (ap (λ (o : Option (Instruction ℕ ℕ)). (executed_if_some program s o).answer) (sym next.1) ∙ stopped);
 }

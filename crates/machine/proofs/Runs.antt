@@ -17,7 +17,8 @@ use Rattle.machine.specs.declared.deed.LocalDeed.TheVariants as act
 use Rattle.program.specs.Listing.{Listing}
 use Rattle.program.specs.declared.instruction.Instruction.{Instruction}
 
-device-either : (device : State) (b : Bool) (x y : MachineState) → x.device ≡ device → y.device ≡ device → (cond b x y).device ≡ device
+device-either : (device : State) (b : Bool) (x y : MachineState) → x.device ≡ device → y.device ≡ device
+    → (cond b x y).device ≡ device
 device-either device true x y h k = h
 device-either device false x y h k = k
 
@@ -30,12 +31,14 @@ device-acted program s (act.JumpUnlessEqual word target) = refl
 device-acted program s (act.Jump target) = refl
 device-acted program s act.Halt = refl
 
-device-step : (device : State) (b : Bool) (x y : Step) (made : List (Event Block)) → x.state.device ≡ state_after device made → y.state.device ≡ device
+device-step : (device : State) (b : Bool) (x y : Step) (made : List (Event Block))
+    → x.state.device ≡ state_after device made → y.state.device ≡ device
     → (cond b x y).state.device ≡ state_after device (cond b made [])
 device-step device true x y made h k = h
 device-step device false x y made h k = k
 
-device-done : (program : Listing) (s : MachineState) (deed : Deed) → (done program s deed).state.device ≡ state_after s.device (events_of program s deed)
+device-done : (program : Listing) (s : MachineState) (deed : Deed)
+    → (done program s deed).state.device ≡ state_after s.device (events_of program s deed)
 device-done program s (Make event kept) = refl
 device-done program s (Lend block) = device-step s.device _ _ _ (event.Lend (zero_block block) ∷ []) refl refl
 device-done program s (TakeBack block) = refl
@@ -48,7 +51,8 @@ device-next program s None = refl
 device-next program s (Some instruction) = device-done program s (deed_of program instruction)
 
 -- events in two parts
-state_after-append : (s : State) (front back : List (Event Block)) → state_after s (front ++ back) ≡ state_after (state_after s front) back
+state_after-append : (s : State) (front back : List (Event Block))
+    → state_after s (front ++ back) ≡ state_after (state_after s front) back
 state_after-append s [] back = refl
 state_after-append s (e ∷ front) back = state_after-append (step_of s e).state front back
 

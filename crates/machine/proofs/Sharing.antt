@@ -29,18 +29,22 @@ not_true false e = refl
 
 -- a free block isn't lent
 pub free_not_lent : (m : Memory) (a : Numbers) (n : ℕ) → AreShared m a → is_free a n ≡ true → has_block m n ≡ false
-free_not_lent m a n h free = not_true (has_block m n) (sym (h.either n (own_small m a n h (is_own-of_free a n free))) ∙ free)
+free_not_lent m a n h free =
+    not_true (has_block m n) (sym (h.either n (own_small m a n h (is_own-of_free a n free))) ∙ free)
 
 -- a block comes back, and is free
-pub shared-taken : (m : Memory) (a : Numbers) (n : ℕ) → AreShared m a → has_block m n ≡ true → AreShared (map.remove m n) (with_free a n true)
+pub shared-taken : (m : Memory) (a : Numbers) (n : ℕ) → AreShared m a → has_block m n ≡ true
+    → AreShared (map.remove m n) (with_free a n true)
 shared-taken m a n h lent =
     let own = own_shared m a n h (h.few n lent) in
     record {
       first = h.first;
       count = length-set a.free (n - a.first) true ∙ h.count;
       either = λ q small. elim (eqb_tells q n) [
-        | inl (test, is) ↦ rw is (is_free-with_free_same a n true own ∙ ap (λ o. not (is_some o)) (sym (get-remove_same m n)))
-        | inr (test, other) ↦ is_free-with_free_other a n true q own other ∙ h.either q small ∙ ap (λ o. not (is_some o)) (sym (get-remove_other m n q other))
+        | inl (test, is) ↦ rw is
+            (is_free-with_free_same a n true own ∙ ap (λ o. not (is_some o)) (sym (get-remove_same m n)))
+        | inr (test, other) ↦ is_free-with_free_other a n true q own other ∙ h.either q small
+            ∙ ap (λ o. not (is_some o)) (sym (get-remove_other m n q other))
       ];
       few = λ q has. elim (eqb_tells q n) [
         | inl (test, is) ↦ rw is (h.few n lent)
@@ -49,7 +53,8 @@ shared-taken m a n h lent =
     }
 
 -- a free block is lent
-pub shared-lent : (m : Memory) (a : Numbers) (n : ℕ) (bytes : List ℕ) → AreShared m a → is_free a n ≡ true → AreShared (map.insert m n bytes) (with_free a n false)
+pub shared-lent : (m : Memory) (a : Numbers) (n : ℕ) (bytes : List ℕ) → AreShared m a → is_free a n ≡ true
+    → AreShared (map.insert m n bytes) (with_free a n false)
 shared-lent m a n bytes h free =
     let own = is_own-of_free a n free in
     let inside = own_small m a n h own in
@@ -57,8 +62,10 @@ shared-lent m a n bytes h free =
       first = h.first;
       count = length-set a.free (n - a.first) false ∙ h.count;
       either = λ q small. elim (eqb_tells q n) [
-        | inl (test, is) ↦ rw is (is_free-with_free_same a n false own ∙ ap (λ o. not (is_some o)) (sym (get-insert_same m n bytes)))
-        | inr (test, other) ↦ is_free-with_free_other a n false q own other ∙ h.either q small ∙ ap (λ o. not (is_some o)) (sym (get-insert_other m n bytes q other))
+        | inl (test, is) ↦ rw is
+            (is_free-with_free_same a n false own ∙ ap (λ o. not (is_some o)) (sym (get-insert_same m n bytes)))
+        | inr (test, other) ↦ is_free-with_free_other a n false q own other ∙ h.either q small
+            ∙ ap (λ o. not (is_some o)) (sym (get-insert_other m n bytes q other))
       ];
       few = λ q has. elim (eqb_tells q n) [
         | inl (test, is) ↦ rw is inside
@@ -83,12 +90,14 @@ pub shared-new : (m : Memory) → m ≡ map.empty → AreShared m all_blocks
 shared-new m none = record {
   first = refl;
   count = length-replicate 256 true;
-  either = λ q small. is_free-all_free 0 256 q ∙ is_own-all_free 0 256 q (omega arith) (omega arith) ∙ ap not (sym (none_has m q none));
+  either = λ q small. is_free-all_free 0 256 q ∙ is_own-all_free 0 256 q (omega arith) (omega arith)
+      ∙ ap not (sym (none_has m q none));
   few = λ q has. (let no : false ≡ true = sym (none_has m q none) ∙ has in cc);
 }
 
 -- where no block is lent, all are free
-pub all_free_at_last : (m : Memory) (a : Numbers) → AreShared m a → ((n : ℕ) → has_block m n ≡ false) → are_all_free a ≡ true
+pub all_free_at_last : (m : Memory) (a : Numbers) → AreShared m a → ((n : ℕ) → has_block m n ≡ false)
+    → are_all_free a ≡ true
 all_free_at_last m a h none =
     (CountsFree-numbers a).all.1 (λ n own. h.either n (own_small m a n h own) ∙ ap not (none n))
 
@@ -104,18 +113,21 @@ with_free-back a n free =
     ap (λ xs. record a { free = xs }) (set_back a.free (n - a.first) (sym (is_free_from a n low) ∙ free))
 
 -- what is taken from lent memory
-pub taken_block : (m : Memory) (n : ℕ) (b : Block) (found : Option (List ℕ)) → map.get m n ≡ found → block_at m n ≡ Some b → (b.number ≡ n) × (has_block m n ≡ true)
+pub taken_block : (m : Memory) (n : ℕ) (b : Block) (found : Option (List ℕ)) → map.get m n ≡ found
+    → block_at m n ≡ Some b → (b.number ≡ n) × (has_block m n ≡ true)
 taken_block m n b None is e = (let no : None ≡ Some b = rw is at e in cc)
 taken_block m n b (Some bytes) is e =
     (let same : Some (let block : Block = record { number = n; bytes = bytes } in block) ≡ Some b = rw is at e in
     let block : (let block : Block = record { number = n; bytes = bytes } in block) ≡ b = cc in
     (sym (ap (λ (x : Block). x.number) block), ap is_some is))
 
-pub no_block : (m : Memory) (n : ℕ) (found : Option (List ℕ)) → map.get m n ≡ found → block_at m n ≡ None → has_block m n ≡ false
+pub no_block : (m : Memory) (n : ℕ) (found : Option (List ℕ)) → map.get m n ≡ found → block_at m n ≡ None
+    → has_block m n ≡ false
 no_block m n None is e = ap is_some is
 no_block m n (Some bytes) is e = (let no : Some _ ≡ None = rw is at e in cc)
 
-pub returned-shared : (m after : Memory) (a given : Numbers) (n : ℕ) (b : Block) → AreShared m a → block_at m n ≡ Some b → after ≡ map.remove m n
+pub returned-shared : (m after : Memory) (a given : Numbers) (n : ℕ) (b : Block) → AreShared m a
+    → block_at m n ≡ Some b → after ≡ map.remove m n
     → given ≡ with_free a b.number true → AreShared after given
 returned-shared m after a given n b h found left back =
     let block = taken_block m n b (map.get m n) refl found in
@@ -135,7 +147,8 @@ far_not_lent m a n true h far is = (let small : n < 256 = h.few n is in absurd (
 far_not_lent m a n false h far is = refl
 
 -- no block is lent, where none of the 256 is
-pub none_lent : (m : Memory) (a : Numbers) (n : ℕ) → AreShared m a → (n < 256 → has_block m n ≡ false) → has_block m n ≡ false
+pub none_lent : (m : Memory) (a : Numbers) (n : ℕ) → AreShared m a → (n < 256 → has_block m n ≡ false)
+    → has_block m n ≡ false
 none_lent m a n h below = elim (cases_lt n 256) [
   | inl small ↦ below small
   | inr far ↦ far_not_lent m a n (has_block m n) h far refl

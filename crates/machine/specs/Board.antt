@@ -18,12 +18,14 @@ pub record Holdings : Type 0 where
 
 abbrev pub numbers_code : Coded Numbers
 numbers_code =
-    code_by (ℕ × List Bool) (coded× coded_ℕ (coded_list coded_bool)) (λ a. (a.first, a.free)) (λ p. record { first = p.0; free = p.1 }) (λ _. refl)
+    code_by (ℕ × List Bool) (coded× coded_ℕ (coded_list coded_bool)) (λ a. (a.first, a.free))
+    (λ p. record { first = p.0; free = p.1 }) (λ _. refl)
 
 -- a board is stored as the pair of its fields
 abbrev pub holdings_code : Coded Holdings
 holdings_code =
-    code_by (State × Numbers) (coded× state_code numbers_code) (λ b. (b.device, b.arena)) (λ p. record { device = p.0; arena = p.1 }) (λ _. refl)
+    code_by (State × Numbers) (coded× state_code numbers_code) (λ b. (b.device, b.arena))
+    (λ p. record { device = p.0; arena = p.1 }) (λ _. refl)
 
 -- the blocks of a machine before its first step
 abbrev pub all_blocks : Numbers
@@ -67,7 +69,8 @@ arena_after arena other = arena
 
 -- what the device replies where the block is free and is lent
 abbrev pub reply_of_lend : Holdings → ℕ → Option (Reply Block)
-reply_of_lend b block = if is_free b.arena block then Some (step_of b.device (event.Lend (zero_block block))).reply else None
+reply_of_lend b block = if is_free b.arena block then Some (step_of b.device (event.Lend (zero_block block))).reply
+    else None
 
 -- where that leads
 abbrev pub after_lend : Holdings → ℕ → Holdings

@@ -33,7 +33,15 @@ status_at program pc = if pc == length program.instructions then Ended else Runn
 -- a new machine: a new device, all blocks free, and the first instruction next
 abbrev pub start_of : Listing → Config → MachineState
 start_of program config =
-    record { device = new_state config.vfs config.fifo; arena = all_blocks; pc = 0; acc = 0; status = status_at program 0; steps = 0 }
+    record {
+      device = new_state config.vfs config.fifo;
+      arena = all_blocks;
+      pc = 0;
+      acc = 0;
+      status =
+          status_at program 0;
+      steps = 0;
+    }
 
 -- one step more, and this instruction next
 abbrev pub moved_to : Listing → MachineState → ℕ → MachineState
@@ -61,7 +69,8 @@ word_read other acc = acc
 -- one of the four words of 16 bytes, the low byte first
 abbrev pub word_in : List ℕ → ℕ → ℕ
 word_in bytes word =
-    slice_index bytes (4 * word) + 2 ^ 8 * slice_index bytes (4 * word + 1) + 2 ^ 16 * slice_index bytes (4 * word + 2) + 2 ^ 24 * slice_index bytes (4 * word + 3)
+    slice_index bytes (4 * word) + 2 ^ 8 * slice_index bytes (4 * word + 1) + 2 ^ 16 * slice_index bytes
+    (4 * word + 2) + 2 ^ 24 * slice_index bytes (4 * word + 3)
 
 -- the word that a peek leaves in acc
 abbrev pub word_peeked : ℕ → Reply Block → ℕ → ℕ
@@ -112,7 +121,8 @@ done program s (Lend block) =
     then made program s Nothing (with_free s.arena block false) (step_of s.device (event.Lend (zero_block block)))
     else record { answer = answer.NoBlock; state = moved_on program s }
 done program s (TakeBack block) = made program s Nothing s.arena (step_of s.device (event.Take block))
-done program s (Arrive number) = made program s Nothing s.arena (step_of s.device (event.Arrive (string_at program.strings number)))
+done program s (Arrive number) =
+    made program s Nothing s.arena (step_of s.device (event.Arrive (string_at program.strings number)))
 done program s (Local local) = record { answer = answer.Local; state = acted program s local }
 
 abbrev pub is_running : Status → Bool

@@ -4,7 +4,8 @@ use Rattle.dma_arena.specs.Numbers.{Numbers}
 use Rattle.nic_device.specs.State.{State}
 use Rattle.machine.specs.declared.machine.Status.{Status}
 
--- the device, the blocks that are free, the number of the next instruction, the word that was read last, and the steps made
+-- the device, the blocks that are free, the number of the next instruction, the word that was read last, and the
+-- steps made
 pub record MachineState : Type 0 where
   pub device : State
   pub arena : Numbers

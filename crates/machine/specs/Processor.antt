@@ -8,7 +8,14 @@ use Rattle.machine.specs.declared.processor.Processor.{Processor}
 
 abbrev pub state_of : Processor → MachineState
 state_of processor =
-    record { device = processor.board.device; arena = processor.board.arena; pc = processor.pc; acc = processor.acc; status = processor.status; steps = processor.steps }
+    record {
+      device = processor.board.device;
+      arena = processor.board.arena;
+      pc = processor.pc;
+      acc = processor.acc;
+      status = processor.status;
+      steps = processor.steps;
+    }
 
 -- the machine stands where its steps lead
 abbrev pub IsWhereStepsLead : Listing → Config → MachineState → Type 0

@@ -201,7 +201,8 @@ fn end_device(device: Device)
 impl Board {
     /// A new device, and all blocks free. A refused configuration is told before memory is asked for.
     pub(crate) fn new(alloc: Global, config: Config) -> Result<Board, NewFault>
-        ensures made { IfOk result (λ board. board ≡ record { device = new_state config.vfs config.fifo; arena = all_blocks }) }
+        ensures made { IfOk result
+            (λ board. board ≡ record { device = new_state config.vfs config.fifo; arena = all_blocks }) }
         ensures too_many_vfs { (result ≡ Err NewFault.TooManyVfs) ↔ (MAX_VFS < config.vfs) }
         ensures fifo { (result ≡ Err NewFault.Fifo) ↔ ((config.vfs ≤ MAX_VFS) × IsBadFifo config.fifo) }
     {

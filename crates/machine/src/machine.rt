@@ -59,7 +59,8 @@ pub struct NewRefused {
     pub program: Program,
 }
 
-/// A program, the device that it runs on with an arena of blocks 0 to 255, and how far it has run: after n counted steps a machine is
+/// A program, the device that it runs on with an arena of blocks 0 to 255, and how far it has run: after n counted
+/// steps a machine is
 /// `machine_at` n. It isn't dropped, but finished.
 pub struct Machine {
     program: Program,
@@ -88,10 +89,13 @@ impl Machine {
     /// A machine before its first step, on a new device of this configuration. Where there is no such
     /// device, the program comes back.
     pub fn new(alloc: Global, program: Program, config: Config) -> Result<Machine, NewRefused>
-        ensures made { IfOk result (λ machine. machine ≡ record { program = program; config = config; state = start_of program config }) }
+        ensures made { IfOk result
+            (λ machine. machine ≡ record { program = program; config = config; state = start_of program config }) }
         ensures back { IfErr result (λ refused. refused.program ≡ program) }
-        ensures too_many_vfs { IsErrAnd result (λ refused. refused.fault ≡ NewFault.TooManyVfs) ↔ (MAX_VFS < config.vfs) }
-        ensures fifo { IsErrAnd result (λ refused. refused.fault ≡ NewFault.Fifo) ↔ ((config.vfs ≤ MAX_VFS) × IsBadFifo config.fifo) }
+        ensures too_many_vfs { IsErrAnd result (λ refused. refused.fault ≡ NewFault.TooManyVfs)
+            ↔ (MAX_VFS < config.vfs) }
+        ensures fifo { IsErrAnd result (λ refused. refused.fault ≡ NewFault.Fifo)
+            ↔ ((config.vfs ≤ MAX_VFS) × IsBadFifo config.fifo) }
     {
         let board = match Board::new(alloc, config) {
             Ok(board) => board,
@@ -109,7 +113,8 @@ impl Machine {
     /// counts no step and stays as it is. After `OutOfMemory` the machine is unchanged.
     pub fn step(&mut self) -> Result<StepAnswer, OutOfMemory>
         ensures answer { IfOk result (λ answer. answer ≡ (machine_step self.old.program self.old.state).answer) }
-        ensures state { OnOk result (self.new ≡ record self.old { state = (machine_step self.old.program self.old.state).state }) }
+        ensures state { OnOk result
+            (self.new ≡ record self.old { state = (machine_step self.old.program self.old.state).state }) }
         ensures unchanged { OnErr result (self.new ≡ self.old) }
         ensures memory { OnErr result (StepTakesMemory self.old.program self.old.state) }
     {
@@ -124,7 +129,8 @@ impl Machine {
         self.processor.steps
     }
 
-    /// The number of the next instruction, counted from 0; the number of instructions where the end is reached. `halt` and
+    /// The number of the next instruction, counted from 0; the number of instructions where the end is reached.
+    /// `halt` and
     /// an `expect` that fails leave it.
     pub fn pc(&self) -> u16
         ensures { result ≡ self.now.state.pc }

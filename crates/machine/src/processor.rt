@@ -84,7 +84,15 @@ fn status_at(program: &Program, pc: u16) -> Status
 impl Processor {
     /// Before the first step of a program.
     pub(crate) fn new(alloc: Global, board: Board, program: &Program) -> Processor
-        ensures { state_of result ≡ record { device = board.device; arena = board.arena; pc = 0; acc = 0; status = status_at program.now 0; steps = 0 } }
+        ensures { state_of result ≡
+            record {
+              device = board.device;
+              arena = board.arena;
+              pc = 0;
+              acc = 0;
+              status = status_at program.now 0;
+              steps = 0;
+            } }
     {
         Processor {
             alloc,
@@ -196,8 +204,10 @@ impl Processor {
         requires part { IsPart kept }
         requires inside { self.old.pc < 4096 }
         requires counts { self.old.steps < 2 ^ 64 - 1 }
-        ensures answer { IfOk result (λ answer. answer ≡ (done program.now (state_of self.old) (Deed.Make event kept)).answer) }
-        ensures state { OnOk result (state_of self.new ≡ (done program.now (state_of self.old) (Deed.Make event kept)).state) }
+        ensures answer { IfOk result
+            (λ answer. answer ≡ (done program.now (state_of self.old) (Deed.Make event kept)).answer) }
+        ensures state { OnOk result
+            (state_of self.new ≡ (done program.now (state_of self.old) (Deed.Make event kept)).state) }
         ensures unchanged { OnErr result (state_of self.new ≡ state_of self.old) }
         ensures memory { OnErr result (TakesSome (state_of self.old) (Deed.Make event kept)) }
     {
@@ -211,8 +221,10 @@ impl Processor {
     fn lend(&mut self, program: &Program, block: u16) -> Result<StepAnswer, OutOfMemory>
         requires inside { self.old.pc < 4096 }
         requires counts { self.old.steps < 2 ^ 64 - 1 }
-        ensures answer { IfOk result (λ answer. answer ≡ (done program.now (state_of self.old) (Deed.Lend block)).answer) }
-        ensures state { OnOk result (state_of self.new ≡ (done program.now (state_of self.old) (Deed.Lend block)).state) }
+        ensures answer { IfOk result
+            (λ answer. answer ≡ (done program.now (state_of self.old) (Deed.Lend block)).answer) }
+        ensures state { OnOk result
+            (state_of self.new ≡ (done program.now (state_of self.old) (Deed.Lend block)).state) }
         ensures unchanged { OnErr result (state_of self.new ≡ state_of self.old) }
         ensures memory { OnErr result (TakesSome (state_of self.old) (Deed.Lend block)) }
     {
@@ -232,8 +244,10 @@ impl Processor {
     fn take_back(&mut self, program: &Program, block: u16) -> Result<StepAnswer, OutOfMemory>
         requires inside { self.old.pc < 4096 }
         requires counts { self.old.steps < 2 ^ 64 - 1 }
-        ensures answer { IfOk result (λ answer. answer ≡ (done program.now (state_of self.old) (Deed.TakeBack block)).answer) }
-        ensures state { OnOk result (state_of self.new ≡ (done program.now (state_of self.old) (Deed.TakeBack block)).state) }
+        ensures answer { IfOk result
+            (λ answer. answer ≡ (done program.now (state_of self.old) (Deed.TakeBack block)).answer) }
+        ensures state { OnOk result
+            (state_of self.new ≡ (done program.now (state_of self.old) (Deed.TakeBack block)).state) }
         ensures unchanged { OnErr result (state_of self.new ≡ state_of self.old) }
     {
         let Ok(room) = Vec::with_capacity(self.alloc, BLOCK_BYTES) else {
@@ -248,8 +262,10 @@ impl Processor {
     fn arrive(&mut self, program: &Program, number: u16) -> Result<StepAnswer, OutOfMemory>
         requires inside { self.old.pc < 4096 }
         requires counts { self.old.steps < 2 ^ 64 - 1 }
-        ensures answer { IfOk result (λ answer. answer ≡ (done program.now (state_of self.old) (Deed.Arrive number)).answer) }
-        ensures state { OnOk result (state_of self.new ≡ (done program.now (state_of self.old) (Deed.Arrive number)).state) }
+        ensures answer { IfOk result
+            (λ answer. answer ≡ (done program.now (state_of self.old) (Deed.Arrive number)).answer) }
+        ensures state { OnOk result
+            (state_of self.new ≡ (done program.now (state_of self.old) (Deed.Arrive number)).state) }
         ensures unchanged { OnErr result (state_of self.new ≡ state_of self.old) }
     {
         let Ok(frame) = Vec::from_slice(self.alloc, program.string(number)) else {

@@ -8,8 +8,10 @@ note_of-requires c = made-none c.self.inside.device c.args.event c.in-Ok.reply c
 
 pub invariant_of-self : goal.invariant_of-self
 invariant_of-self c =
-    made-shared c.self.inside.device c.step.new.self c.self.inside.arena c.args.event c.self.invariant c.requires c.in-Ok.ensures.state
+    made-shared c.self.inside.device c.step.new.self c.self.inside.arena c.args.event c.self.invariant c.requires
+    c.in-Ok.ensures.state
 
 pub returns-in-Ok-clause-none : goal.returns-in-Ok-clause-none
 returns-in-Ok-clause-none c =
-    subst HasNone (sym c.note_of.ensures) (made-none c.self.inside.device c.args.event c.in-Ok.reply c.requires c.in-Ok.ensures.reply)
+    subst HasNone (sym c.note_of.ensures)
+    (made-none c.self.inside.device c.args.event c.in-Ok.reply c.requires c.in-Ok.ensures.reply)

@@ -6,4 +6,5 @@ use Rattle.machine.proofs.board.Board.new.Goals as goal
 
 pub invariant_of-result : goal.invariant_of-result
 invariant_of-result c =
-    subst (AreShared c.in_ok-device.device.memory) (sym c.in-Ok.ensures.ok) (shared-new c.in_ok-device.device.memory (ap (λ (s : State). s.memory) c.in_ok-device.ensures.made))
+    subst (AreShared c.in_ok-device.device.memory) (sym c.in-Ok.ensures.ok)
+    (shared-new c.in_ok-device.device.memory (ap (λ (s : State). s.memory) c.in_ok-device.ensures.made))

@@ -160,10 +160,19 @@ impl Machine {
         self.processor.board.peek_register(address)
     }
 
-    /// Closes the machine. Blocks that are lent are taken back.
-    pub fn finish(self) {
+    /// Its program.
+    pub fn program(&self) -> &Program
+        ensures { result.now ≡ self.now.program }
+    {
+        &self.program
+    }
+
+    /// Closes the machine, and gives its program back. Blocks that are lent are taken back.
+    pub fn into_program(self) -> Program
+        ensures { result ≡ self.program }
+    {
         let Machine {
-            program: _,
+            program,
             config: _,
             processor,
         } = self;
@@ -176,5 +185,11 @@ impl Machine {
             steps: _,
         } = processor;
         board.finish();
+        program
+    }
+
+    /// Closes the machine. Blocks that are lent are taken back.
+    pub fn finish(self) {
+        let _program = self.into_program();
     }
 }

@@ -48,7 +48,7 @@ counts_or_stays program s None = inl refl
 counts_or_stays program s (Some instruction) =
     inr (steps-done program s (deed_of program instruction) ∙ add-one s.steps)
 
-leads-start : (program : Listing) (config : Config) (s : MachineState) → s ≡ start_of program config
+pub leads-start : (program : Listing) (config : Config) (s : MachineState) → s ≡ start_of program config
     → IsWhereStepsLead program config s
 unfolding machine_at
 leads-start program config s new = new ∙ ap (λ (t : MachineState). machine_at program config t.steps) (sym new)

@@ -1,0 +1,4 @@
+pub mod Breakpoints
+pub mod Session
+pub mod Running
+pub mod Commands

@@ -1,5 +1,5 @@
 -- What a command does.
-use Rattle.std.specs.Prelude.{◌≡◌, ◌≤◌, ◌-◌, ℕ, nat_le, List, [], length, Option, None, Result, Ok, Err, if◌then◌else◌}
+use Rattle.std.specs.Prelude.{◌≡◌, ◌≢◌, ◌≤◌, ◌-◌, ℕ, nat_le, List, [], length, Option, None, Result, Ok, Err, if◌then◌else◌}
 use Rattle.nic_device.specs.Step.{step_of, word_told}
 use Rattle.nic_device.specs.declared.Event.TheVariants.{Read}
 use Rattle.nic_device.specs.declared.Port.{Port}
@@ -10,7 +10,7 @@ use Rattle.debugger.specs.Session.{Session, machine_of, view_of}
 use Rattle.debugger.specs.declared.command.Command.{Command}
 use Rattle.debugger.specs.declared.command.Command.TheVariants.{Step, Back, Continue, Break, Clear, Show, ShowVf}
 use Rattle.debugger.specs.declared.command.DebugRefusal.{DebugRefusal}
-use Rattle.debugger.specs.declared.command.DebugRefusal.TheVariants.{AtStart}
+use Rattle.debugger.specs.declared.command.DebugRefusal.TheVariants.{AtStart, OutOfMemory}
 use Rattle.debugger.specs.declared.command.View.{View}
 
 -- what a command is answered, and the session afterwards
@@ -73,3 +73,9 @@ LeftBy s (Break pc) after = ⊥
 LeftBy s (Clear pc) after = ⊥
 LeftBy s (Show address) after = ⊥
 LeftBy s (ShowVf function offset) after = ⊥
+
+-- a command is answered so, and leaves this session
+pub record Does (s : Session) (command : Command) (result : Result View DebugRefusal) (after : Session) : Type 0 where
+  pub answer : result ≢ Err OutOfMemory → result ≡ (command_of s command).answer
+  pub session : result ≢ Err OutOfMemory → after ≡ (command_of s command).session
+  pub memory : result ≡ Err OutOfMemory → LeftBy s command after

@@ -1,9 +1,9 @@
 //! The debugger.
 
-ghost use Rattle.std.specs.Prelude.{◌≡◌, ◌≢◌, ◌-◌, ◌<◌, ◌≤◌, ◌↔◌, [], Err, IfOk, IfErr, OnOk, OnErr};
+ghost use Rattle.std.specs.Prelude.{◌≡◌, ◌≢◌, ◌<◌, ◌≤◌, ◌↔◌, [], Err, IfOk, IfErr};
 ghost use Rattle.std.specs.Result.{IsErrAnd};
-ghost use Rattle.debugger.specs.Commands.{at, stepped, continued, command_of, peeked, with_breakpoints, IsOnTheWay, LeftBy};
-ghost use Rattle.debugger.specs.Session.{Session, machine_of, view_of};
+ghost use Rattle.debugger.specs.Commands.{command_of, LeftBy, Does};
+ghost use Rattle.debugger.specs.Session.{view_of};
 ghost use Rattle.nic_device.specs.Config.{IsBadFifo};
 
 use crate::breakpoints::{Breakpoints, clear_break, set_break};
@@ -36,16 +36,6 @@ impl Model for Debugger {
         program = d.machine.program; config = d.machine.config; steps = d.machine.state.steps; breakpoints = d.breakpoints.items } };
 
     ghost invariant = { λ d. CanBeReplayed d.object.items d.config d.machine };
-}
-
-impl From<OutOfMemory> for DebugRefusal {
-    ghost use Rattle.debugger.specs.declared.command.DebugRefusal.TheVariants.{OutOfMemory};
-
-    ghost from_gives = { λ _ refusal. refusal ≡ OutOfMemory };
-
-    fn from(_error: OutOfMemory) -> DebugRefusal {
-        DebugRefusal::OutOfMemory
-    }
 }
 
 impl Debugger {
@@ -87,15 +77,14 @@ impl Debugger {
         ensures memory { result ≡ Err DebugRefusal.OutOfMemory → LeftBy self.old command self.new }
     {
         match command {
-            Command::Step(count) => self.step(count)?,
-            Command::Back(count) => self.back(count)?,
-            Command::Continue(limit) => self.go_on(limit)?,
-            Command::Break(pc) => self.set(pc)?,
-            Command::Clear(pc) => self.clear(pc)?,
-            Command::Show(address) => return Ok(self.show(address)),
-            Command::ShowVf(_function, _offset) => {}
+            Command::Step(count) => self.step(count),
+            Command::Back(count) => self.back(count),
+            Command::Continue(limit) => self.go_on(limit),
+            Command::Break(pc) => self.set(pc),
+            Command::Clear(pc) => self.clear(pc),
+            Command::Show(address) => Ok(self.view(self.machine.peek_register(address))),
+            Command::ShowVf(_function, _offset) => Ok(self.view(None)),
         }
-        Ok(self.view(None))
     }
 
     /// Closes the machine.
@@ -123,55 +112,62 @@ impl Debugger {
         }
     }
 
-    /// Where the machine is, and what a read of an address would give.
-    fn show(&self, address: u32) -> View
-        ensures { result ≡ view_of self.now (peeked self.now Port.Pf address) }
-    {
-        self.view(self.machine.peek_register(address))
-    }
-
     /// So many steps on.
-    fn step(&mut self, count: u64) -> Result<(), OutOfMemory>
-        ensures made { OnOk result (self.new ≡ stepped self.old count) }
-        ensures refused { OnErr result (IsOnTheWay self.old self.new (stepped self.old count)) }
+    fn step(&mut self, count: u64) -> Result<View, DebugRefusal>
+        ensures { Does self.old (Command.Step count) result self.new }
     {
-        run_on(&mut self.machine, &Breakpoints::new(), count)
+        match run_on(&mut self.machine, &Breakpoints::new(), count) {
+            Ok(()) => Ok(self.view(None)),
+            Err(OutOfMemory) => Err(DebugRefusal::OutOfMemory),
+        }
     }
 
     /// On, to a breakpoint.
-    fn go_on(&mut self, limit: u64) -> Result<(), OutOfMemory>
-        ensures made { OnOk result (self.new ≡ continued self.old limit) }
-        ensures refused { OnErr result (IsOnTheWay self.old self.new (continued self.old limit)) }
+    fn go_on(&mut self, limit: u64) -> Result<View, DebugRefusal>
+        ensures { Does self.old (Command.Continue limit) result self.new }
     {
-        run_on(&mut self.machine, &self.breakpoints, limit)
+        match run_on(&mut self.machine, &self.breakpoints, limit) {
+            Ok(()) => Ok(self.view(None)),
+            Err(OutOfMemory) => Err(DebugRefusal::OutOfMemory),
+        }
     }
 
     /// So many steps back: from the start on, in a machine that takes the place of this one when it is done.
-    fn back(&mut self, count: u64) -> Result<(), DebugRefusal>
-        ensures made { OnOk result ((count ≤ self.old.steps) × (self.new ≡ at self.old (self.old.steps - count))) }
-        ensures at_start { result ≡ Err DebugRefusal.AtStart ↔ (self.old.steps < count) }
-        ensures unchanged { OnErr result (self.new ≡ self.old) }
+    fn back(&mut self, count: u64) -> Result<View, DebugRefusal>
+        ensures { Does self.old (Command.Back count) result self.new }
     {
         let steps = self.machine.steps();
         if steps < count {
             return Err(DebugRefusal::AtStart);
         }
-        let machine = replay(self.alloc, &self.object, self.config, steps - count)?;
-        let former = mem::replace(&mut self.machine, machine);
-        former.finish();
-        Ok(())
+        match replay(self.alloc, &self.object, self.config, steps - count) {
+            Ok(machine) => {
+                let former = mem::replace(&mut self.machine, machine);
+                former.finish();
+                Ok(self.view(None))
+            }
+            Err(OutOfMemory) => Err(DebugRefusal::OutOfMemory),
+        }
     }
 
     /// A breakpoint at an instruction.
-    fn set(&mut self, pc: u32) -> Result<(), DebugRefusal>
+    fn set(&mut self, pc: u32) -> Result<View, DebugRefusal>
+        ensures { Does self.old (Command.Break pc) result self.new }
     {
         let count = self.machine.program().instructions();
-        set_break(&mut self.breakpoints, count, pc)
+        match set_break(&mut self.breakpoints, count, pc) {
+            Ok(()) => Ok(self.view(None)),
+            Err(refusal) => Err(refusal),
+        }
     }
 
     /// No breakpoint any more at an instruction.
-    fn clear(&mut self, pc: u32) -> Result<(), DebugRefusal>
+    fn clear(&mut self, pc: u32) -> Result<View, DebugRefusal>
+        ensures { Does self.old (Command.Clear pc) result self.new }
     {
-        clear_break(&mut self.breakpoints, pc)
+        match clear_break(&mut self.breakpoints, pc) {
+            Ok(()) => Ok(self.view(None)),
+            Err(refusal) => Err(refusal),
+        }
     }
 }

@@ -1,5 +1,5 @@
 -- How many steps a machine has counted after so many.
-use Rattle.std.proofs.Common.{◌≡◌, ◌≢◌, refl, sym, ◌∙◌, ap, ℕ, zero, suc, ◌+◌, ◌≤◌, Bool, true, false, arith, add-zero, add-suc}
+use Rattle.std.proofs.Common.{◌≡◌, ◌≢◌, refl, sym, ◌∙◌, ap, ℕ, zero, suc, ◌+◌, ◌≤◌, Bool, true, false, if◌then◌else◌, List, [], arith, add-zero, add-suc}
 use Rattle.nic_device.specs.declared.Config.{Config}
 use Rattle.machine.specs.Machine.{machine_at, machine_step}
 use Rattle.machine.specs.MachineState.{MachineState}
@@ -7,9 +7,9 @@ use Rattle.machine.specs.Processor.{IsWhereStepsLead}
 use Rattle.machine.specs.declared.machine.StepAnswer.{StepAnswer}
 use Rattle.machine.specs.declared.machine.StepAnswer.TheVariants as answer
 use Rattle.program.specs.Listing.{Listing}
-use Rattle.machine.proofs.Running.{steps_count}
+use Rattle.machine.proofs.Running.{steps_count, stopped_for_good}
 use Rattle.machine.proofs.Steps.{leads-start, leads-step}
-use Rattle.debugger.specs.Running.{is_stopped, stops_at}
+use Rattle.debugger.specs.Running.{is_stopped, stops_at, run_on}
 
 stopped-is : (a : StepAnswer) → is_stopped a ≡ true → a ≡ answer.Stopped
 stopped-is (answer.Made reply) e = cc
@@ -59,3 +59,20 @@ few p c (suc n) = let step = one_more p c n (stops_at p c n) refl in omega (arit
 -- where a machine has counted each of n steps, it has counted each of fewer
 pub counted-before : (p : Listing) (c : Config) (n k : ℕ) → (machine_at p c (n + k)).steps ≡ n + k → (machine_at p c n).steps ≡ n
 counted-before p c n k all = let later = more p c n k in omega (arith, later.1, few p c n)
+
+either_on : (p : Listing) (c : Config) (n k : ℕ) → (machine_at p c n).steps ≡ n → (stopped : Bool) → stops_at p c n ≡ stopped
+    → ((machine_at p c (suc n)).steps ≡ suc n → run_on p c [] (suc n) k ≡ (machine_at p c (suc n + k)).steps)
+    → (if stopped then n else run_on p c [] (suc n) k) ≡ (machine_at p c (n + suc k)).steps
+unfolding machine_at
+either_on p c n k counted true is on =
+    sym counted ∙ ap (λ (s : MachineState). s.steps) (sym (stopped_for_good p c n (suc k) (stopped-is (machine_step p (machine_at p c n)).answer is)))
+either_on p c n k counted false is on =
+    let one : suc n + k ≡ n + suc k = omega arith in
+    let next : (machine_at p c (suc n)).steps ≡ suc n = omega (arith, counts p (machine_at p c n) is, counted) in
+    on next ∙ ap (λ m. (machine_at p c m).steps) one
+
+-- where a machine has counted each of n steps, so many steps on without breakpoints lead to what it has counted then
+pub run_on-plain : (p : Listing) (c : Config) (n k : ℕ) → (machine_at p c n).steps ≡ n → run_on p c [] n k ≡ (machine_at p c (n + k)).steps
+unfolding run_on
+run_on-plain p c n zero counted = sym counted ∙ ap (λ m. (machine_at p c m).steps) (sym (add-zero n))
+run_on-plain p c n (suc k) counted = either_on p c n k counted (stops_at p c n) refl (run_on-plain p c (suc n) k)

@@ -58,7 +58,7 @@ steps_count = record {
   counts = λ program s other. counts program s (next_instruction program s) other;
 }
 
-stopped_for_good : (program : Listing) (config : Config) (n more : ℕ)
+pub stopped_for_good : (program : Listing) (config : Config) (n more : ℕ)
     → (machine_step program (machine_at program config n)).answer ≡ answer.Stopped
     → machine_at program config (n + more) ≡ machine_at program config n
 unfolding machine_at

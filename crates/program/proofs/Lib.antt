@@ -5,3 +5,7 @@ pub mod Sound
 pub mod ReadStrings
 pub mod Meanings
 pub mod Spelled
+pub mod Sizes
+pub mod Back
+pub mod Meant
+pub mod ReadBack

@@ -13,6 +13,7 @@ mod meaning;
 mod numbers;
 mod program;
 mod reading;
+mod writing;
 
 pub use fault::ObjectFault;
 pub use instruction::Instruction;

@@ -19,13 +19,13 @@ use dma_arena::Octets;
 use std::alloc::Global;
 
 /// How many bytes the header has.
-const HEADER_BYTES: usize = 16;
+pub(crate) const HEADER_BYTES: usize = 16;
 
 /// The first four bytes.
 const MAGIC: [u8; 4] = [0x4e, 0x42, 0x53, 0x43];
 
 /// The first six bytes of an object of version 1.
-const MAGIC_AND_VERSION: [u8; 6] = [0x4e, 0x42, 0x53, 0x43, 1, 0];
+pub(crate) const MAGIC_AND_VERSION: [u8; 6] = [0x4e, 0x42, 0x53, 0x43, 1, 0];
 
 /// How many instructions and data strings an object has.
 #[derive(Clone, Copy, Debug, PartialEq, Eq)]

@@ -2,3 +2,4 @@ pub mod Breakpoints
 pub mod Session
 pub mod Running
 pub mod Commands
+pub mod Laws

@@ -18,7 +18,8 @@ is_stopped answer.Stopped = true
 abbrev pub stops_at : Listing → Config → ℕ → Bool
 stops_at program config n = is_stopped (machine_step program (machine_at program config n)).answer
 
--- where a machine that has made n steps is so many steps later: where it stops before, or meets a breakpoint after a step
+-- where a machine that has made n steps is so many steps later: where it stops before, or meets a breakpoint after a
+-- step
 unfoldable pub run_on : Listing → Config → List ℕ → ℕ → ℕ → ℕ
 run_on program config breakpoints n zero = n
 run_on program config breakpoints n (suc limit) =

@@ -10,7 +10,8 @@ pub enum Command {
     Step(u64),
     /// So many steps back.
     Back(u64),
-    /// On, up to so many steps: to the next instruction with a breakpoint, after the first step at least, or to where the
+    /// On, up to so many steps: to the next instruction with a breakpoint, after the first step at least, or to where
+    /// the
     /// machine stops.
     Continue(u64),
     /// A breakpoint at the instruction of this number. One that is set already stays.
@@ -38,7 +39,8 @@ pub struct View {
     pub shown: Option<u32>,
 }
 
-/// Why a command isn't done. The debugger is as it was, but a step or a continue that finds no memory has made the steps
+/// Why a command isn't done. The debugger is as it was, but a step or a continue that finds no memory has made the
+/// steps
 /// before.
 #[derive(Clone, Copy, Debug, PartialEq, Eq, Error)]
 pub enum DebugRefusal {

@@ -33,7 +33,12 @@ impl Model for Debugger {
     ghost Value = { Session };
 
     ghost view = { λ d. record {
-        program = d.machine.program; config = d.machine.config; steps = d.machine.state.steps; breakpoints = d.breakpoints.items } };
+      program = d.machine.program;
+      config = d.machine.config;
+      steps = d.machine.state.steps;
+      breakpoints =
+          d.breakpoints.items;
+    } };
 
     ghost invariant = { λ d. CanBeReplayed d.object.items d.config d.machine };
 }

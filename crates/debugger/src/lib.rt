@@ -8,7 +8,7 @@
 mod breakpoints;
 mod command;
 mod debugger;
-
+pub mod laws;
 mod running;
 mod source;
 

@@ -35,7 +35,8 @@ pub(crate) fn run_on(
 ) -> Result<(), OutOfMemory>
     requires { machine.old.state ≡ machine_at machine.old.program machine.old.config machine.old.state.steps }
     ensures at { machine.new ≡ record machine.old {
-        state = machine_at machine.old.program machine.old.config machine.new.state.steps } }
+      state = machine_at machine.old.program machine.old.config machine.new.state.steps;
+    } }
     ensures steps { OnOk result (machine.new.state.steps ≡
         run_on machine.old.program machine.old.config breakpoints.now.items machine.old.state.steps limit) }
     ensures from { machine.old.state.steps ≤ machine.new.state.steps }

@@ -11,8 +11,10 @@ use std::alloc::Global;
 pub(crate) fn object_of(alloc: Global, program: &Program) -> Result<Vec<u8>, OutOfMemory>
     ensures { IfOk result (λ object. read_of object.items ≡ Ok program.now) }
 {
-    let _ = (alloc, program);
-    Err(OutOfMemory)
+    match program.to_bytes(alloc) {
+        Ok(object) => Ok(object),
+        Err(_) => Err(OutOfMemory),
+    }
 }
 
 /// The program of an object.

@@ -1,4 +1,4 @@
-use Rattle.std.proofs.Common.{◌≡◌, sym, ◌∙◌, true, false, arith}
+use Rattle.std.proofs.Common.{sym, ◌∙◌, arith}
 use Rattle.debugger.proofs.Ran.{all-ran, meets-at, refused-up_to, stopped-at, stopped-from, stopped-steps, next-at, next-from, next-ran, break-steps}
 use Rattle.debugger.proofs.running.run_on.Goals as goal
 
@@ -8,34 +8,43 @@ returns-in_err-step-clause-up_to c =
 
 pub returns-then-branch-clause-at : goal.returns-then-branch-clause-at
 returns-then-branch-clause-at c =
-    stopped-at _ _ _ _ _ c.loop.invariant _ c.in_ok-step.ensures.state (sym c.in_ok-step.ensures.stopped ∙ c.if-branch.true)
+    stopped-at _ _ _ _ _ c.loop.invariant _ c.in_ok-step.ensures.state
+    (sym c.in_ok-step.ensures.stopped ∙ c.if-branch.true)
 
 pub returns-then-branch-clause-steps : goal.returns-then-branch-clause-steps
 returns-then-branch-clause-steps c =
-    stopped-steps _ _ _ _ _ c.loop.invariant _ c.in_ok-step.ensures.state (sym c.in_ok-step.ensures.stopped ∙ c.if-branch.true)
+    stopped-steps _ _ _ _ _ c.loop.invariant _ c.in_ok-step.ensures.state
+    (sym c.in_ok-step.ensures.stopped ∙ c.if-branch.true)
     (omega arith)
 
 pub returns-then-branch-clause-from : goal.returns-then-branch-clause-from
 returns-then-branch-clause-from c =
-    stopped-from _ _ _ _ _ c.loop.invariant _ c.in_ok-step.ensures.state (sym c.in_ok-step.ensures.stopped ∙ c.if-branch.true)
+    stopped-from _ _ _ _ _ c.loop.invariant _ c.in_ok-step.ensures.state
+    (sym c.in_ok-step.ensures.stopped ∙ c.if-branch.true)
 
 pub returns-then-has_break-clause-at : goal.returns-then-has_break-clause-at
 returns-then-has_break-clause-at c =
-    next-at _ _ _ _ _ c.loop.invariant _ c.in_ok-step.ensures.state (sym c.in_ok-step.ensures.stopped ∙ c.if-branch.false)
+    next-at _ _ _ _ _ c.loop.invariant _ c.in_ok-step.ensures.state
+    (sym c.in_ok-step.ensures.stopped ∙ c.if-branch.false)
 
 pub returns-then-has_break-clause-steps : goal.returns-then-has_break-clause-steps
 returns-then-has_break-clause-steps c =
-    break-steps _ _ _ _ _ c.loop.invariant _ c.in_ok-step.ensures.state (sym c.in_ok-step.ensures.stopped ∙ c.if-branch.false)
-    (meets-at c.args.breakpoints.now.items _ _ _ _ c.pc.ensures c.from.ensures c.has_break.ensures ∙ c.if-has_break.true) (omega arith)
+    break-steps _ _ _ _ _ c.loop.invariant _ c.in_ok-step.ensures.state
+    (sym c.in_ok-step.ensures.stopped ∙ c.if-branch.false)
+    (meets-at c.args.breakpoints.now.items _ _ _ _ c.pc.ensures c.from.ensures c.has_break.ensures
+    ∙ c.if-has_break.true) (omega arith)
 
 pub returns-then-has_break-clause-from : goal.returns-then-has_break-clause-from
 returns-then-has_break-clause-from c =
-    next-from _ _ _ _ _ c.loop.invariant _ c.in_ok-step.ensures.state (sym c.in_ok-step.ensures.stopped ∙ c.if-branch.false)
+    next-from _ _ _ _ _ c.loop.invariant _ c.in_ok-step.ensures.state
+    (sym c.in_ok-step.ensures.stopped ∙ c.if-branch.false)
 
 pub loop-preserved : goal.loop-preserved
 loop-preserved c =
-    next-ran _ _ _ _ _ c.loop.invariant _ c.in_ok-step.ensures.state (sym c.in_ok-step.ensures.stopped ∙ c.if-branch.false)
-    (meets-at c.args.breakpoints.now.items _ _ _ _ c.pc.ensures c.from.ensures c.has_break.ensures ∙ c.if-has_break.false) (omega arith)
+    next-ran _ _ _ _ _ c.loop.invariant _ c.in_ok-step.ensures.state
+    (sym c.in_ok-step.ensures.stopped ∙ c.if-branch.false)
+    (meets-at c.args.breakpoints.now.items _ _ _ _ c.pc.ensures c.from.ensures c.has_break.ensures
+    ∙ c.if-has_break.false) (omega arith)
 
 pub returns-clause-steps : goal.returns-clause-steps
 returns-clause-steps c = all-ran _ _ _ _ _ c.loop.invariant (omega arith)

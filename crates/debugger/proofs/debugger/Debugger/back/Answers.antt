@@ -6,5 +6,6 @@ pub returns-in-Ok : goal.returns-in-Ok
 returns-in-Ok c =
     back-done c.args.self.now _ _ c.self.inside.config c.self.inside.machine c.replace-former.new.dest c.in-Ok.machine
     c.self.inside.breakpoints.items c.steps-steps.result c.args.count c.view.result c.self.view_is c.self.invariant
-    c.deref.ensures.value c.in-Ok.ensures.program c.in-Ok.ensures.config c.in-Ok.ensures.steps c.replace-former.ensures.after
+    c.deref.ensures.value c.in-Ok.ensures.program c.in-Ok.ensures.config c.in-Ok.ensures.steps
+    c.replace-former.ensures.after
     c.steps-steps.ensures.count (omega arith) c.view.ensures

@@ -9,7 +9,7 @@ use Rattle.nic_device.specs.declared.Event.{Event}
 use Rattle.nic_device.specs.declared.Event.TheVariants as event
 use Rattle.nic_device.specs.declared.Reply.{Reply}
 use Rattle.nic_device.specs.declared.Reply.TheVariants as reply
-use Rattle.nic_device.proofs.Standing.{keeps_blocks}
+use Rattle.nic_device.proofs.KeptBlocks.{keeps_blocks}
 use Rattle.machine.specs.Board.{MovesNone, HasNone}
 
 -- the same blocks stay lent, and the reply has none

@@ -132,7 +132,7 @@ fn let_go(event: Event)
         Event::Peek16(_) | Event::Poke16(_, _) => {}
         Event::Arrive(_frame) => {}
         Event::RxStep | Event::TxStep(_) | Event::IntStep(_) | Event::QueueStep(_, _) => {}
-        Event::Link(_) | Event::Collect => {}
+        Event::EepromStep | Event::Link(_) | Event::Collect => {}
     }
 }
 
@@ -191,7 +191,11 @@ fn close(mut memory: LentMemory, mut arena: Arena)
 fn end_device(device: Device)
     requires { device.memory ≡ map.empty }
 {
-    let Parts { memory, frames: _ } = device.dismantle();
+    let Parts {
+        memory,
+        frames: _,
+        image: _,
+    } = device.dismantle();
     match memory.finish() {
         Ok(()) => {}
         Err(_memory) => unreachable!(),
@@ -277,7 +281,11 @@ impl Board {
     /// Takes all lent blocks back, and ends both.
     pub(crate) fn finish(self) {
         let Board { device, arena } = self;
-        let Parts { memory, frames: _ } = device.dismantle();
+        let Parts {
+            memory,
+            frames: _,
+            image: _,
+        } = device.dismantle();
         close(memory, arena);
     }
 }

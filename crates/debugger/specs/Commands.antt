@@ -3,7 +3,7 @@ use Rattle.std.specs.Prelude.{◌≡◌, ◌≢◌, ◌≤◌, ◌-◌, ℕ, nat
 use Rattle.nic_device.specs.Step.{step_of, word_told}
 use Rattle.nic_device.specs.declared.Event.TheVariants.{Read}
 use Rattle.nic_device.specs.declared.Port.{Port}
-use Rattle.nic_device.specs.declared.Port.TheVariants.{Pf}
+use Rattle.nic_device.specs.declared.Port.TheVariants.{Pf, Vf}
 use Rattle.debugger.specs.Breakpoints.{with_break, without_break}
 use Rattle.debugger.specs.Running.{run_on}
 use Rattle.debugger.specs.Session.{Session, machine_of, view_of}
@@ -55,7 +55,7 @@ command_of s (Continue limit) = shows (continued s limit) None
 command_of s (Break pc) = with_breakpoints s (with_break (length s.program.instructions) s.breakpoints pc)
 command_of s (Clear pc) = with_breakpoints s (without_break s.breakpoints pc)
 command_of s (Show address) = shows s (peeked s Pf address)
-command_of s (ShowVf function offset) = shows s None
+command_of s (ShowVf function offset) = shows s (peeked s (Vf function) offset)
 
 -- some of the steps to another session are made, and nothing else is done
 pub record IsOnTheWay (before after target : Session) : Type 0 where

@@ -88,7 +88,7 @@ impl Debugger {
             Command::Break(pc) => self.set(pc),
             Command::Clear(pc) => self.clear(pc),
             Command::Show(address) => Ok(self.view(self.machine.peek_register(address))),
-            Command::ShowVf(_function, _offset) => Ok(self.view(None)),
+            Command::ShowVf(function, offset) => Ok(self.view(self.machine.peek_vf(function, offset))),
         }
     }
 

@@ -45,7 +45,6 @@ inside_either limit false x y h k = k
 
 placed-acted : (program : Listing) (s : MachineState) (deed : LocalDeed) → s.pc < length program.instructions
     → StaysInside program deed → IsPlaced program (acted program s deed)
-placed-acted program s act.GoOn below stays = placed-moved program s (s.pc + 1) (omega arith)
 placed-acted program s (act.Expect want mask) below stays =
     placed_either program _ _ _ (placed-moved program s (s.pc + 1) (omega arith))
     (λ running. absurd (failed_running _ _ _ running))

@@ -23,7 +23,6 @@ device-either device true x y h k = h
 device-either device false x y h k = k
 
 device-acted : (program : Listing) (s : MachineState) (deed : LocalDeed) → (acted program s deed).device ≡ s.device
-device-acted program s act.GoOn = refl
 device-acted program s (act.Expect want mask) = device-either s.device _ _ _ refl refl
 device-acted program s (act.And word) = refl
 device-acted program s (act.JumpIfEqual word target) = refl

@@ -25,7 +25,6 @@ either_step s true x y h k = h
 either_step s false x y h k = k
 
 steps-acted : (program : Listing) (s : MachineState) (deed : LocalDeed) → (acted program s deed).steps ≡ s.steps + 1
-steps-acted program s act.GoOn = refl
 steps-acted program s (act.Expect want mask) = either_state s _ _ _ refl refl
 steps-acted program s (act.And word) = refl
 steps-acted program s (act.JumpIfEqual word target) = refl

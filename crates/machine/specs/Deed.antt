@@ -1,7 +1,7 @@
 -- What the instructions of a program do.
 use Rattle.std.specs.Prelude.{◌<◌, ◌≤◌, ℕ, length, ⊤}
 use Rattle.nic_device.specs.declared.Event.TheVariants as event
-use Rattle.nic_device.specs.declared.Port.TheVariants.{Pf}
+use Rattle.nic_device.specs.declared.Port.TheVariants.{Pf, Vf}
 use Rattle.machine.specs.Board.{MovesNone}
 use Rattle.machine.specs.declared.deed.Deed.{Deed}
 use Rattle.machine.specs.declared.deed.Deed.TheVariants.{Make, Lend, TakeBack, Arrive, Local}
@@ -17,8 +17,8 @@ use Rattle.program.specs.declared.instruction.Instruction.TheVariants as instr
 abbrev pub deed_of : Listing → Instruction ℕ ℕ → Deed
 deed_of program (instr.Write address word) = Make (event.Write Pf address word) Nothing
 deed_of program (instr.Read address) = Make (event.Read Pf address) Word
-deed_of program (instr.VfWrite function offset word) = Local act.GoOn
-deed_of program (instr.VfRead function offset) = Local act.GoOn
+deed_of program (instr.VfWrite function offset word) = Make (event.Write (Vf function) offset word) Nothing
+deed_of program (instr.VfRead function offset) = Make (event.Read (Vf function) offset) Word
 deed_of program (instr.Lend block) = Lend block
 deed_of program (instr.Unlend block) = TakeBack block
 deed_of program (instr.Poke address number) = Make (event.Poke16 address (string_at program.strings number)) Nothing
@@ -28,7 +28,7 @@ deed_of program instr.RxStep = Make event.RxStep Nothing
 deed_of program (instr.TxStep queue) = Make (event.TxStep queue) Nothing
 deed_of program (instr.IntStep group) = Make (event.IntStep group) Nothing
 deed_of program (instr.QueueStep direction queue) = Make (event.QueueStep direction queue) Nothing
-deed_of program instr.EepromStep = Local act.GoOn
+deed_of program instr.EepromStep = Make event.EepromStep Nothing
 deed_of program (instr.Link up) = Make (event.Link up) Nothing
 deed_of program instr.Collect = Make event.Collect Nothing
 deed_of program (instr.Expect want mask) = Local (act.Expect want mask)
@@ -40,7 +40,6 @@ deed_of program instr.Halt = Local act.Halt
 
 -- a jump goes to an instruction of the program, or to its end
 abbrev pub StaysInside : Listing → LocalDeed → Type 0
-StaysInside program act.GoOn = ⊤
 StaysInside program (act.Expect want mask) = ⊤
 StaysInside program (act.And word) = ⊤
 StaysInside program (act.JumpIfEqual word target) = target ≤ length program.instructions

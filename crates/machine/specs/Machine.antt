@@ -94,9 +94,8 @@ made program s kept arena outcome = record {
   });
 }
 
--- what is done without an event: the machine goes on or elsewhere, acc is masked or must be what is wanted under a mask
+-- what is done without an event: acc must be what is wanted under a mask, or is masked, or another instruction is next
 abbrev pub acted : Listing → MachineState → LocalDeed → MachineState
-acted program s act.GoOn = moved_on program s
 acted program s (act.Expect want mask) =
     if bit_and s.acc mask == want then moved_on program s else stopped_as s (Failed s.pc (bit_and s.acc mask) want)
 acted program s (act.And word) = moved_on program (record s { acc = bit_and s.acc word })

@@ -278,6 +278,13 @@ impl Board {
         self.device.peek_register(address)
     }
 
+    /// What a read of an offset through a virtual function would give, without its effects.
+    pub(crate) fn peek_vf(&self, function: u8, offset: u32) -> Option<u32>
+        ensures { result ≡ word_told (step_of self.now.device (Event.Read (Port.Vf function) offset)).reply }
+    {
+        self.device.peek_vf(function, offset)
+    }
+
     /// Takes all lent blocks back, and ends both.
     pub(crate) fn finish(self) {
         let Board { device, arena } = self;

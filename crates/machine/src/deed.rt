@@ -21,8 +21,6 @@ pub(crate) enum Kept {
 /// What an instruction does without an event.
 #[derive(Clone, Copy, Debug, PartialEq, Eq)]
 pub(crate) enum LocalDeed {
-    /// Nothing: the device has no event for it.
-    GoOn,
     /// The machine fails unless `acc` is this word, in the bits of this mask.
     Expect(u32, u32),
     /// `acc` keeps the bits of this word alone.
@@ -72,8 +70,17 @@ pub(crate) fn deed_of(program: &Program, instruction: Instruction) -> Deed
             Deed::Make(Event::Write(Port::Pf, address, word), Kept::Nothing)
         }
         Instruction::Read(address) => Deed::Make(Event::Read(Port::Pf, address), Kept::Word),
-        Instruction::VfWrite { .. } => Deed::Local(LocalDeed::GoOn),
-        Instruction::VfRead { .. } => Deed::Local(LocalDeed::GoOn),
+        Instruction::VfWrite {
+            function,
+            offset,
+            word,
+        } => Deed::Make(
+            Event::Write(Port::Vf(function), offset, word),
+            Kept::Nothing,
+        ),
+        Instruction::VfRead { function, offset } => {
+            Deed::Make(Event::Read(Port::Vf(function), offset), Kept::Word)
+        }
         Instruction::Lend(block) => Deed::Lend(block),
         Instruction::Unlend(block) => Deed::TakeBack(block),
         Instruction::Poke(address, number) => {
@@ -88,7 +95,7 @@ pub(crate) fn deed_of(program: &Program, instruction: Instruction) -> Deed
         Instruction::QueueStep(direction, queue) => {
             Deed::Make(Event::QueueStep(direction, queue), Kept::Nothing)
         }
-        Instruction::EepromStep => Deed::Local(LocalDeed::GoOn),
+        Instruction::EepromStep => Deed::Make(Event::EepromStep, Kept::Nothing),
         Instruction::Link(up) => Deed::Make(Event::Link(up), Kept::Nothing),
         Instruction::Collect => Deed::Make(Event::Collect, Kept::Nothing),
         Instruction::Expect { want, mask } => Deed::Local(LocalDeed::Expect(want, mask)),

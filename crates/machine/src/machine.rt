@@ -160,6 +160,14 @@ impl Machine {
         self.processor.board.peek_register(address)
     }
 
+    /// What a read of an offset through a virtual function would give, without its effects. `None` where it would be
+    /// stray.
+    pub fn peek_vf(&self, function: u8, offset: u32) -> Option<u32>
+        ensures { result ≡ word_told (step_of self.now.state.device (Event.Read (Port.Vf function) offset)).reply }
+    {
+        self.processor.board.peek_vf(function, offset)
+    }
+
     /// Its program.
     pub fn program(&self) -> &Program
         ensures { result.now ≡ self.now.program }

@@ -155,7 +155,6 @@ impl Processor {
         ensures { state_of self.new ≡ acted program.now (state_of self.old) deed }
     {
         match deed {
-            LocalDeed::GoOn => self.move_on(program),
             LocalDeed::Expect(want, mask) => {
                 let have = self.acc & mask;
                 if have == want {

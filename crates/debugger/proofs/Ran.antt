@@ -1,5 +1,5 @@
 -- So many steps on.
-use Rattle.std.proofs.Common.{◌≡◌, refl, sym, ◌∙◌, ap, subst, ℕ, zero, suc, ◌+◌, ◌-◌, ◌<◌, ◌≤◌, Bool, true, false, if◌then◌else◌, List, Result, Ok, Err, OnErr, arith, add-one}
+use Rattle.std.proofs.Common.{◌≡◌, refl, sym, ◌∙◌, ap, subst, ℕ, suc, ◌+◌, ◌-◌, ◌<◌, ◌≤◌, Bool, true, false, List, Result, Ok, Err, OnErr, arith, add-one}
 use Rattle.nic_device.specs.declared.Config.{Config}
 use Rattle.machine.specs.Course.{Course}
 use Rattle.machine.specs.Machine.{machine_at, machine_step}
@@ -7,6 +7,7 @@ use Rattle.program.specs.Listing.{Listing}
 use Rattle.debugger.specs.Breakpoints.{has_break}
 use Rattle.debugger.specs.Running.{is_stopped, stops_at, run_on}
 use Rattle.debugger.proofs.Counted.{stays, counts}
+use Rattle.debugger.proofs.Ends.{runs_end_first}
 
 pub run_on-stopped : (p : Listing) (c : Config) (b : List ℕ) (n limit : ℕ) → stops_at p c n ≡ true
     → run_on p c b n (suc limit) ≡ n
@@ -22,20 +23,6 @@ pub run_on-goes : (p : Listing) (c : Config) (b : List ℕ) (n limit : ℕ) → 
     → has_break b (machine_at p c (suc n)).pc ≡ false → run_on p c b n (suc limit) ≡ run_on p c b (suc n) limit
 unfolding run_on
 run_on-goes p c b n limit going passes = rw (going, passes) refl
-
-from_either : (n : ℕ) (b d : Bool) (x : ℕ) → n ≤ x → n ≤ (if b then n else if d then suc n else x)
-from_either n true d x h = omega arith
-from_either n false true x h = omega arith
-from_either n false false x h = h
-
--- it never goes back
-pub run_on-from : (p : Listing) (c : Config) (b : List ℕ) (n limit : ℕ) → n ≤ run_on p c b n limit
-unfolding run_on
-run_on-from p c b n zero = omega arith
-run_on-from p c b n (suc limit) =
-    let next = run_on-from p c b (suc n) limit in
-    from_either n (stops_at p c n) (has_break b (machine_at p c (suc n)).pc) (run_on p c b (suc n) limit)
-    (omega (arith, next))
 
 -- whether there is a breakpoint at the next instruction
 pub meets-at : (b : List ℕ) (pc told number : ℕ) (meets : Bool) → told ≡ pc → number ≡ told
@@ -74,7 +61,7 @@ module _ (start now : Course) (b : List ℕ) (limit made : ℕ) (ran : RanOn sta
 
   up_to : now.state.steps ≤ run_on start.program start.config b start.state.steps limit
   up_to = subst (λ n. now.state.steps ≤ n) ran.left
-      (run_on-from start.program start.config b now.state.steps (limit - made))
+      (runs_end_first start.program start.config b now.state.steps (limit - made)).from
 
   -- where the next step is refused
   pub refused-up_to : {A E : Type 0} (result : Result A E) (later : Course) → later ≡ now

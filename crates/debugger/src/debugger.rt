@@ -88,7 +88,9 @@ impl Debugger {
             Command::Break(pc) => self.set(pc),
             Command::Clear(pc) => self.clear(pc),
             Command::Show(address) => Ok(self.view(self.machine.peek_register(address))),
-            Command::ShowVf(function, offset) => Ok(self.view(self.machine.peek_vf(function, offset))),
+            Command::ShowVf(function, offset) => Ok(self.view(
+                self.machine.peek_vf(function, offset),
+            )),
         }
     }
 

@@ -1,5 +1,5 @@
 -- The first faulty instruction decides.
-use Rattle.std.proofs.Common.{◌≡◌, true, false, ℕ, suc, ◌+◌, List, [], ◌∷◌, ◌++◌, length, Result, Ok, Err, refl, sym, ap, ◌∙◌, arith}
+use Rattle.std.proofs.Common.{◌≡◌, true, false, ℕ, suc, ◌+◌, List, [], ◌∷◌, ◌++◌, length, Result, Ok, Err, ap, ◌∙◌, arith}
 use Rattle.std.specs.List.{AllByRecursion}
 use Rattle.std.specs.Result.{IsOk}
 use Rattle.program.specs.declared.fields.Fields.{Fields}

@@ -19,9 +19,12 @@ pub record AreParts (all : List Fields) (strings : List (List ℕ)) : Type 0 whe
 -- an object of whatever fields and data strings, within the limits, is read: no fault of the header or of the length is
 -- told; its instructions alone decide
 abbrev pub InstructionsDecide : Type 0
-InstructionsDecide = (all : List Fields) (strings : List (List ℕ)) → AreParts all strings → read_of (laid_out all strings) ≡ program_of all strings
+InstructionsDecide =
+    (all : List Fields) (strings : List (List ℕ)) → AreParts all strings →
+    read_of (laid_out all strings) ≡ program_of all strings
 
--- where the fields of an instruction are faulty, and all before mean an instruction, that fault is told, with its number
+-- where the fields of an instruction are faulty, and all before mean an instruction, that fault is told, with its
+-- number
 abbrev pub FirstFaultDecides : Type 0
 FirstFaultDecides =
     (before : List Fields) (f : Fields) (behind : List Fields) (strings : List (List ℕ)) (fault : FieldFault) →
@@ -31,4 +34,6 @@ FirstFaultDecides =
 
 -- the object of a program reads back as the program, and so two programs with one object are the same
 abbrev pub ObjectsReadBack : Type 0
-ObjectsReadBack = (program : Listing) → IsListing program → AllByRecursion HaveWidths (map fields_of program.instructions) → read_of (object_of program) ≡ Ok program
+ObjectsReadBack =
+    (program : Listing) → IsListing program → AllByRecursion HaveWidths (map fields_of program.instructions) →
+    read_of (object_of program) ≡ Ok program

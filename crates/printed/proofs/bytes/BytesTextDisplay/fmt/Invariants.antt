@@ -1,8 +1,8 @@
 use Rattle.std.proofs.Common.{◌≡◌, ℕ, List, ◌++◌, length}
 use Rattle.std.specs.Fmt.{HasWritten, IsPlainFormatter}
 use Rattle.std.specs.Slice.Iter.{chunks_rest, chunks_size}
-use Rattle.bench.specs.Word.{bytes_text}
-use Rattle.bench.proofs.words.BytesTextDisplay.fmt.Given as goal
+use Rattle.printed.specs.Bytes.{bytes_text}
+use Rattle.printed.proofs.bytes.BytesTextDisplay.fmt.Given as goal
 
 abbrev pub invariant-loop-chunk : goal.invariant-loop-chunk
 invariant-loop-chunk g l =

@@ -2,9 +2,9 @@ use Rattle.std.proofs.Common.{◌≡◌, ◌*◌, [], ◌++◌, sym, ap, ◌∙�
 use Rattle.std.proofs.Output.{has_written_append, has_written_of_eq}
 use Rattle.std.proofs.lemmas.List.{length-take-le, nil_from_length}
 use Rattle.std.specs.Slice.Iter.{chunks_rest}
-use Rattle.bench.specs.Word.{bytes_text}
-use Rattle.bench.proofs.Bytes.{bytes_text-append, bytes_text-nil, bytes_text-utf8, length-bytes_text}
-use Rattle.bench.proofs.words.BytesTextDisplay.fmt.Goals as goal
+use Rattle.printed.specs.Bytes.{bytes_text}
+use Rattle.printed.proofs.HexBytes.{bytes_text-append, bytes_text-nil, bytes_text-utf8, length-bytes_text}
+use Rattle.printed.proofs.bytes.BytesTextDisplay.fmt.Goals as goal
 
 pub loop-chunk-init : goal.loop-chunk-init
 loop-chunk-init g c = (search rules, tt, search rules, search rules, λ plain. ([], search rules, search rules))

@@ -1,12 +1,7 @@
 pub mod Endings
 pub mod Lines
-pub mod Plain
+pub mod Naming
+pub mod Outcomes
 pub mod Resolving
-pub mod Steps
-pub mod Numbers
-pub mod Saying
-pub mod Meaning
-pub mod Running
-pub mod Sharing
-pub mod Leaving
-pub mod Moves
+pub mod Ranges
+pub mod Ready

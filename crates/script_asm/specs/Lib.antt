@@ -1,14 +1,9 @@
 pub mod Read
 pub mod Fault
 pub mod Target
-pub mod Instruction
+pub mod Operation
 pub mod Statement
+pub mod Places
 pub mod Outline
+pub mod Resolved
 pub mod Script
-pub mod Listing
-pub mod Board
-pub mod MachineState
-pub mod Machine
-pub mod Course
-pub mod Processor
-pub mod Laws

@@ -7,7 +7,7 @@ ghost use Rattle.script_asm.specs.Outline.{blank};
 ghost use Rattle.script_asm.specs.Script.{with_line, with_lines, program_of};
 
 use crate::faults::ScriptFault;
-use crate::programs::Program;
+use program::Program;
 use crate::sheet::Sheet;
 use crate::statements::read_line;
 use lexer::{Line, Lines};

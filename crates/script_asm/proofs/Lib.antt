@@ -5,3 +5,10 @@ pub mod Outcomes
 pub mod Resolving
 pub mod Ranges
 pub mod Ready
+pub mod Marks
+pub mod Order
+pub mod Tied
+pub mod Leading
+pub mod Saying
+pub mod Meant
+pub mod Meaning

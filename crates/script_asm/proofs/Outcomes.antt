@@ -1,5 +1,5 @@
 -- What holds of the value of a step that may be refused.
-use Rattle.std.proofs.Common.{◌≡◌, refl, ℕ, Bool, true, false, cond, Option, Some, None, Result, Ok, Err, IfOk, IfSome, subst}
+use Rattle.std.proofs.Common.{◌≡◌, refl, Bool, true, false, cond, Option, Some, None, Result, Ok, Err, IfOk, IfSome, subst}
 use Rattle.std.specs.Option.{ok_or}
 use Rattle.script_asm.specs.Fault.{◌then◌, both}
 use Rattle.script_asm.specs.declared.faults.LineFault.{LineFault}

@@ -1,5 +1,5 @@
 -- Numbers that a line writes itself are in their range.
-use Rattle.std.proofs.Common.{◌≡◌, ◌<◌, ◌≤◌, refl, ℕ, ◌^◌, Bool, true, false, cond, nat_lt, length, List, [], ◌∷◌, Option, Some, None, Result, Ok, Err, IfOk, inl, inr, arith, codes, eqb}
+use Rattle.std.proofs.Common.{◌≡◌, ◌<◌, ◌≤◌, refl, ℕ, Bool, true, false, cond, nat_lt, length, List, [], ◌∷◌, Option, Some, None, Result, Ok, Err, IfOk, inl, inr, arith, codes, eqb}
 use Rattle.std.specs.Bool.{⊤}
 use Rattle.std.specs.List.{AllByRecursion}
 use Rattle.std.specs.Option.{ok_or}
@@ -7,9 +7,8 @@ use Rattle.std.specs.Str.{bytes_eq}
 use Rattle.std.proofs.lemmas.Bool.{ltb-true}
 use Rattle.std.proofs.lemmas.Bool.Decides.{eqb_tells}
 use Rattle.lexer.specs.HexData.{hex_bytes_of}
-use Rattle.intr_unit.specs.declared.Group.{Group}
 use Rattle.program.specs.Listing.{IsGroup}
-use Rattle.script_asm.specs.Fault.{◌then◌, both}
+use Rattle.script_asm.specs.Fault.{both}
 use Rattle.script_asm.specs.Operation.{Draft, beside, table_alone, table_of_one, table_of_two, table_of_three, instruction_in, direction_in, link_in, group_in, number16_in}
 use Rattle.script_asm.specs.Resolved.{IsInRange}
 use Rattle.script_asm.specs.Statement.{bytes_in, label_in, data_in, label_or_instruction, statement_of}
@@ -44,38 +43,74 @@ beside-IfOk name [] all = tt
 beside-IfOk name (row ∷ more) all = cond-IfOk R (bytes_eq name row.0) row.1 (beside name more) all.0 (beside-IfOk name more all.1)
 
 ranges_of_one : (a : List ℕ) → AllByRecursion (λ row. IfOk row.1 R) (table_of_one a)
-ranges_of_one a =
-    (then-IfOk R (target_of a) _ (λ x. tt),
-    (then-IfOk_of R (λ n. n < 65536) (number16_in a) _ (number16_in-fits a) (λ n fits. fits),
-    (then-IfOk_of R (λ n. n < 65536) (number16_in a) _ (number16_in-fits a) (λ n fits. fits),
-    (then-IfOk R (name_in a) _ (λ x. tt),
-    (then-IfOk_of R (λ n. n < 65536) (number16_in a) _ (number16_in-fits a) (λ n fits. fits),
-    (then-IfOk_of R IsGroup (group_in a) _ (group_in-fits a) (λ n fits. fits),
-    (then-IfOk R (link_in a) _ (λ x. tt),
-    (then-IfOk R (number_in a) _ (λ x. tt),
-    (then-IfOk R (number_in a) _ (λ x. tt),
-    (then-IfOk R (name_in a) _ (λ x. tt),
-    tt))))))))))
+ranges_of_one a = (
+  then-IfOk R (target_of a) _ (λ x. tt),
+  (
+    then-IfOk_of R (λ n. n < 65536) (number16_in a) _ (number16_in-fits a) (λ n fits. fits),
+    (
+      then-IfOk_of R (λ n. n < 65536) (number16_in a) _ (number16_in-fits a) (λ n fits. fits),
+      (
+        then-IfOk R (name_in a) _ (λ x. tt),
+        (
+          then-IfOk_of R (λ n. n < 65536) (number16_in a) _ (number16_in-fits a) (λ n fits. fits),
+          (
+            then-IfOk_of R IsGroup (group_in a) _ (group_in-fits a) (λ n fits. fits),
+            (
+              then-IfOk R (link_in a) _ (λ x. tt),
+              (
+                then-IfOk R (number_in a) _ (λ x. tt),
+                (
+                  then-IfOk R (number_in a) _ (λ x. tt),
+                  (
+                    then-IfOk R (name_in a) _ (λ x. tt),
+                    tt,
+                  ),
+                ),
+              ),
+            ),
+          ),
+        ),
+      ),
+    ),
+  ),
+)
 
 ranges_of_two : (a b : List ℕ) → AllByRecursion (λ row. IfOk row.1 R) (table_of_two a b)
-ranges_of_two a b =
-    (then-IfOk R (both (target_of a) (number_in b)) _ (λ x. tt),
-    (then-IfOk_of R (λ f. f.0 < 63) (both (number_below 63 a) (number_in b)) _
-    (both-first (λ n. n < 63) (number_below 63 a) (number_in b) (number_below-fits 63 a)) (λ f fits. fits),
-    (then-IfOk R (both (number_in a) (name_in b)) _ (λ x. tt),
-    (then-IfOk_of R (λ f. f.1 < 4) (both (number_in a) (number_below 4 b)) _
-    (both-second (λ n. n < 4) (number_in a) (number_below 4 b) (number_below-fits 4 b)) (λ f fits. fits),
-    (then-IfOk_of R (λ f. f.1 < 65536) (both (direction_in a) (number16_in b)) _
-    (both-second (λ n. n < 65536) (direction_in a) (number16_in b) (number16_in-fits b)) (λ f fits. fits),
-    (then-IfOk R (both (number_in a) (number_in b)) _ (λ x. tt),
-    (then-IfOk R (both (number_in a) (name_in b)) _ (λ x. tt),
-    (then-IfOk R (both (number_in a) (name_in b)) _ (λ x. tt),
-    tt))))))))
+ranges_of_two a b = (
+  then-IfOk R (both (target_of a) (number_in b)) _ (λ x. tt),
+  (
+    then-IfOk_of R (λ f. f.0 < 63) (both (number_below 63 a) (number_in b)) _
+        (both-first (λ n. n < 63) (number_below 63 a) (number_in b) (number_below-fits 63 a)) (λ f fits. fits),
+    (
+      then-IfOk R (both (number_in a) (name_in b)) _ (λ x. tt),
+      (
+        then-IfOk_of R (λ f. f.1 < 4) (both (number_in a) (number_below 4 b)) _
+            (both-second (λ n. n < 4) (number_in a) (number_below 4 b) (number_below-fits 4 b)) (λ f fits. fits),
+        (
+          then-IfOk_of R (λ f. f.1 < 65536) (both (direction_in a) (number16_in b)) _
+              (both-second (λ n. n < 65536) (direction_in a) (number16_in b) (number16_in-fits b)) (λ f fits. fits),
+          (
+            then-IfOk R (both (number_in a) (number_in b)) _ (λ x. tt),
+            (
+              then-IfOk R (both (number_in a) (name_in b)) _ (λ x. tt),
+              (
+                then-IfOk R (both (number_in a) (name_in b)) _ (λ x. tt),
+                tt,
+              ),
+            ),
+          ),
+        ),
+      ),
+    ),
+  ),
+)
 
 ranges_of_three : (a b c : List ℕ) → AllByRecursion (λ row. IfOk row.1 R) (table_of_three a b c)
-ranges_of_three a b c =
-    (then-IfOk_of R (λ f. f.0 < 63) (both (number_below 63 a) (both (number_in b) (number_in c))) _
-    (both-first (λ n. n < 63) (number_below 63 a) (both (number_in b) (number_in c)) (number_below-fits 63 a)) (λ f fits. fits), tt)
+ranges_of_three a b c = (
+  then-IfOk_of R (λ f. f.0 < 63) (both (number_below 63 a) (both (number_in b) (number_in c))) _
+      (both-first (λ n. n < 63) (number_below 63 a) (both (number_in b) (number_in c)) (number_below-fits 63 a)) (λ f fits. fits),
+  tt,
+)
 
 instruction_in-range : (name : List ℕ) (operands : List (List ℕ)) → IfOk (instruction_in name operands) IsInRange
 instruction_in-range name [] = beside-IfOk name table_alone (tt, (tt, (tt, (tt, tt))))

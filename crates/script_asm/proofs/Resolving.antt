@@ -12,7 +12,7 @@ use Rattle.script_asm.specs.Outline.{Outline}
 use Rattle.script_asm.specs.Places.{place_of}
 use Rattle.script_asm.specs.Resolved.{resolved, with_resolved, label_named, data_named, if_of_16, poked, IsInRange, IsReady}
 use Rattle.script_asm.specs.declared.faults.ScriptFault.{ScriptFault}
-use Rattle.script_asm.specs.declared.faults.ScriptFault.TheVariants.{Range, UnknownLabel}
+use Rattle.script_asm.specs.declared.faults.ScriptFault.TheVariants.{UnknownLabel}
 use Rattle.script_asm.specs.declared.sheet.DraftLine.{DraftLine}
 use Rattle.script_asm.proofs.Outcomes.{then-IfOk, then-IfOk_of, ok_or-IfOk, IfOk-of, stepped}
 

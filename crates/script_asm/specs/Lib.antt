@@ -7,3 +7,4 @@ pub mod Places
 pub mod Outline
 pub mod Resolved
 pub mod Script
+pub mod Laws

@@ -6,6 +6,7 @@
 
 mod assembly;
 mod faults;
+mod laws;
 mod names;
 mod operations;
 mod places;
@@ -15,3 +16,6 @@ mod targets;
 
 pub use assembly::assemble;
 pub use faults::ScriptFault;
+pub use laws::{
+    faults_come_in_order, first_fault_decides, names_have_their_places, program_is_what_lines_say,
+};

@@ -73,12 +73,7 @@ impl<'a> Sheet<'a> {
     }
 
     /// Adds a data string.
-    fn add_data(
-        &mut self,
-        line: usize,
-        name: Name<'a>,
-        string: Octets,
-    ) -> Result<(), ScriptFault>
+    fn add_data(&mut self, line: usize, name: Name<'a>, string: Octets) -> Result<(), ScriptFault>
         ensures { Gives (λ _. self.new) result (with_data self.old line name.entry string) }
     {
         if self.data_numbers.place_of(&name).is_some() {
@@ -104,11 +99,7 @@ impl<'a> Sheet<'a> {
     }
 
     /// Adds what the line of this number says.
-    pub(crate) fn add(
-        &mut self,
-        line: usize,
-        statement: Statement<'a>,
-    ) -> Result<(), ScriptFault>
+    pub(crate) fn add(&mut self, line: usize, statement: Statement<'a>) -> Result<(), ScriptFault>
         ensures { Gives (λ _. self.new) result (with_statement self.old line statement.entry) }
     {
         match statement {
@@ -166,24 +157,46 @@ impl<'a> Sheet<'a> {
         match *draft {
             Instruction::Write(address, word) => Ok(Instruction::Write(address, word)),
             Instruction::Read(address) => Ok(Instruction::Read(address)),
-            Instruction::VfWrite { function, offset, word } => Ok(Instruction::VfWrite { function, offset, word }),
-            Instruction::VfRead { function, offset } => Ok(Instruction::VfRead { function, offset }),
+            Instruction::VfWrite {
+                function,
+                offset,
+                word,
+            } => Ok(Instruction::VfWrite {
+                function,
+                offset,
+                word,
+            }),
+            Instruction::VfRead { function, offset } => Ok(Instruction::VfRead {
+                function,
+                offset,
+            }),
             Instruction::Lend(block) => Ok(Instruction::Lend(block)),
             Instruction::Unlend(block) => Ok(Instruction::Unlend(block)),
-            Instruction::Poke(address, ref name) => Ok(Instruction::Poke(address, self.poked(line, name)?)),
+            Instruction::Poke(address, ref name) => Ok(Instruction::Poke(
+                address,
+                self.poked(line, name)?,
+            )),
             Instruction::Peek(address, word) => Ok(Instruction::Peek(address, word)),
             Instruction::Arrive(ref name) => Ok(Instruction::Arrive(self.data_named(line, name)?)),
             Instruction::RxStep => Ok(Instruction::RxStep),
             Instruction::TxStep(queue) => Ok(Instruction::TxStep(queue)),
             Instruction::IntStep(group) => Ok(Instruction::IntStep(group)),
-            Instruction::QueueStep(direction, queue) => Ok(Instruction::QueueStep(direction, queue)),
+            Instruction::QueueStep(direction, queue) => Ok(Instruction::QueueStep(
+                direction, queue,
+            )),
             Instruction::EepromStep => Ok(Instruction::EepromStep),
             Instruction::Link(up) => Ok(Instruction::Link(up)),
             Instruction::Collect => Ok(Instruction::Collect),
             Instruction::Expect { want, mask } => Ok(Instruction::Expect { want, mask }),
             Instruction::And(word) => Ok(Instruction::And(word)),
-            Instruction::JumpIfEqual(word, ref name) => Ok(Instruction::JumpIfEqual(word, self.label_named(line, name)?)),
-            Instruction::JumpUnlessEqual(word, ref name) => Ok(Instruction::JumpUnlessEqual(word, self.label_named(line, name)?)),
+            Instruction::JumpIfEqual(word, ref name) => Ok(Instruction::JumpIfEqual(
+                word,
+                self.label_named(line, name)?,
+            )),
+            Instruction::JumpUnlessEqual(word, ref name) => Ok(Instruction::JumpUnlessEqual(
+                word,
+                self.label_named(line, name)?,
+            )),
             Instruction::Jump(ref name) => Ok(Instruction::Jump(self.label_named(line, name)?)),
             Instruction::Halt => Ok(Instruction::Halt),
         }

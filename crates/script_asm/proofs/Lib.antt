@@ -12,3 +12,4 @@ pub mod Leading
 pub mod Saying
 pub mod Meant
 pub mod Meaning
+pub mod Written

@@ -7,4 +7,6 @@ pub mod Places
 pub mod Outline
 pub mod Resolved
 pub mod Script
+pub mod Printing
+pub mod Disassembly
 pub mod Laws

@@ -1,20 +1,23 @@
-//! Register scripts: `assemble` makes a `Program` of a text.
+//! Register scripts: `assemble` makes a `Program` of a text, and `disassemble` a text of a program.
 //!
 //! A text means a program by `program_of`, line by line in the words of the script language, and a program has its
 //! text by `text_of`. `nicbench` and the debugger stand on this crate.
 #![tactic(auto)]
 
 mod assembly;
+mod disassembly;
 mod faults;
 mod laws;
 mod names;
 mod operations;
 mod places;
+mod printing;
 mod sheet;
 mod statements;
 mod targets;
 
 pub use assembly::assemble;
+pub use disassembly::{OutOfMemory, disassemble};
 pub use faults::ScriptFault;
 pub use laws::{
     faults_come_in_order, first_fault_decides, names_have_their_places, program_is_what_lines_say,

@@ -1,10 +1,13 @@
 //! Programs.
 
-ghost use Rattle.std.specs.Prelude.{◌≡◌, ◌≤◌, length, slice_get, IfSome};
+ghost use Rattle.std.specs.Prelude.{◌≡◌, ◌≤◌, length, slice_get, IfSome, IfOk, Ok};
 ghost use Rattle.program.specs.Listing.{IsSound, IsListing, string_at};
+ghost use Rattle.program.specs.Object.{object_of, read_of};
 
 use crate::instruction::Instruction;
+use crate::writing::object;
 use dma_arena::Octets;
+use std::alloc::{AllocError, Global};
 use std::marker::Model;
 
 /// How many instructions a program may have.
@@ -89,5 +92,14 @@ impl Program {
             Some(string) => string.bytes(),
             None => &[],
         }
+    }
+
+    /// The object of the program: its header, its instructions in twelve bytes each, and its data strings behind their
+    /// lengths, each number with its low byte first. Reading it gives the same program.
+    pub fn to_bytes(&self, alloc: Global) -> Result<Vec<u8>, AllocError>
+        ensures exact { IfOk result (λ bytes. bytes.items ≡ object_of self.now) }
+        ensures reads_back { IfOk result (λ bytes. read_of bytes.items ≡ Ok self.now) }
+    {
+        object(alloc, &self.strings, &self.instructions)
     }
 }

@@ -6,7 +6,7 @@ use Rattle.lexer.specs.Lines.{NumberedLine, lines_of}
 use Rattle.lexer.specs.Words.{words_of}
 use Rattle.rss_hash.specs.Toeplitz.{toeplitz_hash}
 use Rattle.bench.specs.Answer.{Answer, input_answer, refused}
-use Rattle.bench.specs.Word.{word_text}
+use Rattle.printed.specs.Word.{word_text}
 use Rattle.bench.specs.declared.refusal.Refusal.TheVariants as refusal
 
 -- the bytes that the words of a line say, where there is one word and it is whole bytes of hex

@@ -5,4 +5,3 @@ pub mod Refusal
 pub mod Reply
 pub mod Run
 pub mod Steps
-pub mod Word

@@ -9,7 +9,8 @@ use Rattle.nic_device.specs.declared.Reply.{Reply}
 use Rattle.nic_device.specs.declared.Reply.TheVariants as reply
 use Rattle.nic_device.specs.declared.Why.{Why}
 use Rattle.nic_device.specs.declared.Why.TheVariants as why
-use Rattle.bench.specs.Word.{word_text, address_text, bytes_text}
+use Rattle.printed.specs.Bytes.{bytes_text}
+use Rattle.printed.specs.Word.{word_text, address_text}
 
 -- why a frame was dropped
 abbrev pub why_text : Why → List ℕ

@@ -13,8 +13,8 @@ ghost use Rattle.bench.specs.Hash.{line_and, lines_answer, word_line, words_answ
 use crate::failure::Failure;
 use crate::refusal::{Refusal, write_refusal};
 use crate::text::{NoText, read_text};
-use crate::words::WordText;
 use lexer::{HexFault, Line, Lines, Words, hex_bytes};
+use printed::WordText;
 use rss_hash::{Key, hash};
 use std::alloc::{AllocFailed, Global};
 use std::io::{Read, Write};

@@ -15,7 +15,6 @@ mod reply;
 mod script_run;
 mod steps;
 mod text;
-mod words;
 
 pub use failure::Failure;
 pub use hashing::hash_lines;

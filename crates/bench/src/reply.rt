@@ -2,9 +2,9 @@
 ghost use Rattle.std.specs.Prelude.{Some};
 ghost use Rattle.bench.specs.Reply.{fault_text, group_text, queue_text, reply_text, slot_text, why_text};
 
-use crate::words::{AddressText, BytesText, WordText};
 use dma_ring::RingFault;
 use nic_device::{Group, Reply, ReplyNote, Why};
+use printed::{AddressText, BytesText, WordText};
 use std::fmt;
 
 /// Why a frame was dropped, as it is printed.

@@ -1,0 +1,7 @@
+-- Bytes as text.
+use Rattle.std.specs.Prelude.{ℕ, List}
+use Rattle.hex.specs.Hex.{encode_lower}
+
+-- bytes, each in two lower-case hex digits, the high four bits first
+abbrev pub bytes_text : List ℕ → List ℕ
+bytes_text bytes = encode_lower bytes

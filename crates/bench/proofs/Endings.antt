@@ -1,28 +1,57 @@
--- How the program ends after words.
-use Rattle.std.proofs.Common.{refl, inl, inr, ap, ◌∙◌, ℕ, ◌≡◌, ◌⊎◌, List, [], ◌∷◌, Option, Some, None, IfSome}
+-- How the program ends where an answer was given up.
+use Rattle.std.proofs.Common.{refl, subst, ◌≡◌, inl, inr, ℕ, Bool, true, List, codes, None, Option, Some, Err, IfSome}
 use Rattle.std.specs.Io.KnownBytes.{Appends}
-use Rattle.clap.specs.Words.{HasKind, IsAmong, Kinds, kind_of}
-use Rattle.clap.specs.declared.error.Error.{Error}
-use Rattle.clap.specs.declared.error.ErrorKind.{ErrorKind}
-use Rattle.bench.specs.Answer.{Answer}
-use Rattle.bench.specs.Ending.{HasStatusOf, StopsForMemory, words_status}
-use Rattle.bench.specs.Refusal.{refusal_line}
-use Rattle.bench.specs.declared.refusal.Refusal.TheVariants as refusal
+use Rattle.clap.specs.Words.{Kinds}
+use Rattle.command_line.specs.declared.Request.{Request}
+use Rattle.bench.specs.Answer.{Answer, Writes, no_memory, refused_as}
+use Rattle.bench.specs.Ending.{AnswersRequest, EndsAs, EndsSaying, EndsWords, IsAnswerTo, StopsForMemory}
+use Rattle.bench.specs.declared.failure.Failure.{Failure}
+use Rattle.bench.specs.declared.failure.Failure.TheVariants.{OutOfMemory, Read, Write}
+use Rattle.bench.specs.declared.program.Outcome.{Outcome}
+use Rattle.bench.specs.declared.program.Outcome.TheVariants.{Ended}
+use Rattle.bench.proofs.Appending.{Appends-both}
 
-HasStatusOf-among : (kinds : Kinds) (k : ErrorKind) (status : ℕ) → status ≡ words_status k → IsAmong k kinds → HasStatusOf kinds status
-HasStatusOf-among [] k status is among = absurd among
-HasStatusOf-among (x ∷ kinds) k status is (inl same) = inl (is ∙ ap words_status same)
-HasStatusOf-among (x ∷ kinds) k status is (inr more) = inr (HasStatusOf-among kinds k status is more)
+module _ (old mid new : Option (List ℕ)) (has_failed : Bool) where
+  stops : (request : Request) (remaining : Option (List ℕ)) (status : ℕ) → AnswersRequest request remaining old mid (Err OutOfMemory) → Writes mid new no_memory status
+      → IfSome remaining (λ input. (answer : Answer) → IsAnswerTo request input answer → StopsForMemory old new answer.text)
+  stops request None status begun wrote = tt
+  stops request (Some input) status begun wrote = λ answer right. let part = begun answer right in record {
+    beginning = part.beginning;
+    rest = part.rest;
+    written = Appends-both old mid new part.beginning _ part.written wrote.0;
+    whole = part.whole;
+  }
 
--- the status of an error that may have any of the kinds, or want of memory
-pub status-of-kinds : (kinds : Kinds) (e : Error) (status : ℕ) → status ≡ words_status (kind_of e) → HasKind kinds e
-    → HasStatusOf kinds status ⊎ ((status ≡ 4) ⊎ (status ≡ 2))
-status-of-kinds kinds e status is (inl memory) = inr (inl (is ∙ ap words_status memory))
-status-of-kinds kinds e status is (inr among) = inl (HasStatusOf-among kinds (kind_of e) status is among)
+  -- of what was asked for
+  pub ended-given-up : (request : Request) (remaining : Option (List ℕ)) (IsUnread : Type 0) (failure : Failure) (outcome : Outcome)
+      → AnswersRequest request remaining old mid (Err failure) → (failure ≡ Read → IsUnread × (mid ≡ old))
+      → (failure ≡ Read → EndsSaying mid new has_failed (refused_as (codes "Input")) outcome)
+      → (failure ≡ OutOfMemory → EndsSaying mid new has_failed no_memory outcome)
+      → (failure ≡ Write → (outcome ≡ Ended 2) × (has_failed ≡ true))
+      → EndsAs request remaining IsUnread old new has_failed outcome
+  ended-given-up request remaining IsUnread Read (Ended status) begun unread read memory write = go (read refl)
+    where
+      go : EndsSaying mid new has_failed (refused_as (codes "Input")) (Ended status) → EndsAs request remaining IsUnread old new has_failed (Ended status)
+      go (inl wrote) = inr (inr (inl ((unread refl).0, subst (λ (o : Option (List ℕ)). Writes o new (refused_as (codes "Input")) status) (unread refl).1 wrote)))
+      go (inr failed) = inr (inr (inr failed))
+  ended-given-up request remaining IsUnread OutOfMemory (Ended status) begun unread read memory write = go (memory refl)
+    where
+      go : EndsSaying mid new has_failed no_memory (Ended status) → EndsAs request remaining IsUnread old new has_failed (Ended status)
+      go (inl wrote) = inr (inl (wrote.1, stops request remaining status begun wrote))
+      go (inr failed) = inr (inr (inr failed))
+  ended-given-up request remaining IsUnread Write (Ended status) begun unread read memory write =
+      let ended = write refl in
+      inr (inr (inr (let is = ended.0 in cc, ended.1)))
 
--- want of memory, before anything is read
-pub no-memory-for-words : (remaining old new : Option (List ℕ)) (answer : List ℕ → Answer) → Appends old new (refusal_line refusal.OutOfMemory)
-    → IfSome remaining (λ input. StopsForMemory old new (answer input).text)
-no-memory-for-words None old new answer written = tt
-no-memory-for-words (Some input) old new answer written =
-    record { beginning = []; rest = (answer input).text; written = written; whole = refl }
+  -- of words that ask for nothing
+  pub ended-words : (kinds : Kinds) (failure : Failure) (outcome : Outcome) → (failure ≡ Read → ⊥) → (failure ≡ OutOfMemory → mid ≡ old)
+      → (failure ≡ OutOfMemory → EndsSaying mid new has_failed no_memory outcome)
+      → (failure ≡ Write → (outcome ≡ Ended 2) × (has_failed ≡ true))
+      → EndsWords kinds old new has_failed outcome
+  ended-words kinds Read (Ended status) never same memory write = absurd (never refl)
+  ended-words kinds OutOfMemory (Ended status) never same memory write = go (memory refl)
+    where
+      go : EndsSaying mid new has_failed no_memory (Ended status) → EndsWords kinds old new has_failed (Ended status)
+      go (inl wrote) = inr (inl (wrote.1, subst (λ (o : Option (List ℕ)). Appends o new no_memory.text) (same refl) wrote.0))
+      go (inr failed) = inr (inr failed)
+  ended-words kinds Write (Ended status) never same memory write = let ended = write refl in inr (inr (let is = ended.0 in cc, ended.1))

@@ -1,5 +1,5 @@
 -- One more line of inputs.
-use Rattle.std.proofs.Common.{◌≡◌, refl, sym, ap, ◌∙◌, ℕ, List, [], ◌∷◌, ◌++◌, append-nil, map, Some, Result, Ok, Err, ◌+◌, ◌<◌, length, take, get_or}
+use Rattle.std.proofs.Common.{◌≡◌, refl, sym, ap, ◌∙◌, ℕ, List, [], ◌∷◌, ◌++◌, append-nil, map, Some, Result, Ok, Err, ◌+◌, ◌<◌, codes, length, take, get_or}
 use Rattle.std.specs.List.{flat_map}
 use Rattle.std.proofs.Math.Seq.{take-length}
 use Rattle.std.proofs.lemmas.Grind.{flat_map-append}
@@ -8,9 +8,8 @@ use Rattle.std.proofs.lemmas.List.Folds.{flat_map-map}
 use Rattle.lexer.specs.Lines.{NumberedLine}
 use Rattle.lexer.specs.Words.{words_of}
 use Rattle.rss_hash.specs.Toeplitz.{toeplitz_hash}
-use Rattle.bench.specs.Answer.{refused}
+use Rattle.bench.specs.Answer.{refused_at}
 use Rattle.bench.specs.Hash.{bytes_said, hashed, hashes, if_key, inputs_of, keyed_answer, line_and, lines_answer, word_line, words_answer}
-use Rattle.bench.specs.declared.refusal.Refusal.TheVariants as refusal
 
 -- the lines that are left, from the next on
 pub inputs_of-line : (lines : List NumberedLine) (line : NumberedLine) (others : List NumberedLine) → lines ≡ line ∷ others
@@ -35,9 +34,9 @@ hashes-hashed key (Ok inputs) words is =
     ap (λ (t : List ℕ). record { text = t; status = 0 }) (sym (flat_map-map word_line (toeplitz_hash key) inputs) ∙ ap (flat_map word_line) same)
 hashes-hashed key (Err number) words is = cc
 
-hashes-refused : (key : List ℕ) (inputs : Result (List (List ℕ)) ℕ) (number : ℕ) → hashed key [] inputs ≡ Err number → hashes key inputs ≡ refused (refusal.Syntax number)
+hashes-refused : (key : List ℕ) (inputs : Result (List (List ℕ)) ℕ) (number : ℕ) → hashed key [] inputs ≡ Err number → hashes key inputs ≡ refused_at (codes "Syntax") number
 hashes-refused key (Ok inputs) number is = cc
-hashes-refused key (Err other) number is = let same : other ≡ number = cc in ap (λ n. refused (refusal.Syntax n)) same
+hashes-refused key (Err other) number is = let same : other ≡ number = cc in ap (λ n. refused_at (codes "Syntax") n) same
 
 -- the answer to lines of which the first is this key
 lines_answer-keyed : (lines : List NumberedLine) (line : NumberedLine) (others : List NumberedLine) (key : List ℕ) → lines ≡ line ∷ others
@@ -51,7 +50,7 @@ lines_answer-hashed lines line others key words first is hashed =
 
 pub lines_answer-refused : (lines : List NumberedLine) (line : NumberedLine) (others : List NumberedLine) (key : List ℕ) (number : ℕ) → lines ≡ line ∷ others
     → if_key (bytes_said (words_of line.text)) ≡ Some key → hashed key [] (inputs_of others) ≡ Err number
-    → lines_answer lines ≡ refused (refusal.Syntax number)
+    → lines_answer lines ≡ refused_at (codes "Syntax") number
 lines_answer-refused lines line others key number first is faulty =
     lines_answer-keyed lines line others key first is ∙ hashes-refused key (inputs_of others) number faulty
 

@@ -1,5 +1,9 @@
+pub mod AllRead
 pub mod Appending
 pub mod Endings
+pub mod Giving
 pub mod HashedLines
-pub mod Inputs
+pub mod Images
+pub mod Requests
+pub mod Runs
 pub mod StepsText

@@ -1,24 +1,56 @@
--- How the program ends.
-use Rattle.std.specs.Prelude.{◌≡◌, ◌⊎◌, ℕ, List, [], ◌∷◌, ◌++◌, IfSome, Option}
+-- What words are answered, and how the program ends.
+use Rattle.std.specs.Prelude.{◌≡◌, ◌⊎◌, ℕ, Bool, List, [], ◌∷◌, ◌++◌, None, IfSome, MatchResult, Option, Result, Ok, Err, codes, true}
 use Rattle.std.specs.Io.KnownBytes.{Appends}
 use Rattle.clap.specs.Words.{Kinds}
 use Rattle.clap.specs.declared.error.ErrorKind.{ErrorKind}
 use Rattle.clap.specs.declared.error.ErrorKind.TheVariants as kind
-use Rattle.bench.specs.Refusal.{refusal_line}
-use Rattle.bench.specs.Answer.{Answer, Writes}
+use Rattle.command_line.specs.declared.BytesRequest.{BytesRequest}
+use Rattle.command_line.specs.declared.BytesRequest.TheVariants.{LoadEeprom}
+use Rattle.command_line.specs.declared.Request.{Request}
+use Rattle.command_line.specs.declared.Request.TheVariants.{Bytes, Text}
+use Rattle.command_line.specs.declared.TextRequest.{TextRequest}
+use Rattle.command_line.specs.declared.TextRequest.TheVariants.{Eeprom, Hash, Run}
+use Rattle.bench.specs.Answer.{Answer, BeginsRight, Writes, WritesRight, refused_as}
+use Rattle.bench.specs.Eeprom.{IsImageAnswer, IsLoadAnswer}
 use Rattle.bench.specs.Hash.{hash_answer}
+use Rattle.bench.specs.Reading.{bytes_in, text_in}
+use Rattle.bench.specs.Refusal.{refusal_line}
 use Rattle.bench.specs.Run.{run_answer}
+use Rattle.bench.specs.declared.failure.Failure.{Failure}
+use Rattle.bench.specs.declared.failure.Failure.TheVariants.{OutOfMemory, Read, Write}
 use Rattle.bench.specs.declared.program.Outcome.{Outcome}
 use Rattle.bench.specs.declared.program.Outcome.TheVariants.{Ended}
-use Rattle.bench.specs.declared.refusal.Refusal.TheVariants as refusal
-use Rattle.command_line.specs.declared.Request.{Request}
-use Rattle.command_line.specs.declared.Request.TheVariants.{Run, Hash}
+
+-- the answer is what is asked for, of a text
+abbrev pub IsTextAnswer : TextRequest → List ℕ → Answer → Type 0
+IsTextAnswer (Run options) text answer = answer ≡ run_answer options text
+IsTextAnswer Hash text answer = answer ≡ hash_answer text
+IsTextAnswer Eeprom text answer = IsImageAnswer text answer
+
+-- the answer is what is asked for, of bytes
+abbrev pub IsBytesAnswer : BytesRequest → List ℕ → Answer → Type 0
+IsBytesAnswer LoadEeprom bytes answer = IsLoadAnswer bytes answer
+
+-- the answer is what is asked for, of bytes that aren't too many
+abbrev pub IsGivenAnswer : Request → List ℕ → Answer → Type 0
+IsGivenAnswer (Text request) bytes answer = MatchResult (text_in bytes) (λ text. IsTextAnswer request text answer) (λ refusal. answer ≡ refusal)
+IsGivenAnswer (Bytes request) bytes answer = IsBytesAnswer request bytes answer
+
+-- the answer is what is asked for, of all bytes of an input
+abbrev pub IsAnswerTo : Request → List ℕ → Answer → Type 0
+IsAnswerTo request input answer = MatchResult (bytes_in input) (λ bytes. IsGivenAnswer request bytes answer) (λ refusal. answer ≡ refusal)
+
+-- what is asked for is answered; or a part of it is written where there is no memory
+abbrev pub AnswersRequest : Request → Option (List ℕ) → Option (List ℕ) → Option (List ℕ) → Result ℕ Failure → Type 0
+AnswersRequest request remaining old new (Ok status) = IfSome remaining (λ input. WritesRight old new (IsAnswerTo request input) status)
+AnswersRequest request remaining old new (Err OutOfMemory) = IfSome remaining (λ input. BeginsRight old new (IsAnswerTo request input))
+AnswersRequest request remaining old new (Err Read) = Unit {0}
+AnswersRequest request remaining old new (Err Write) = Unit {0}
 
 -- the status that words end with: 0 for the help and the version, 3 for words that are refused
 abbrev pub words_status : ErrorKind → ℕ
 words_status kind.DisplayHelp = 0
 words_status kind.DisplayVersion = 0
-words_status kind.OutOfMemory = 4
 words_status _ = 3
 
 -- the status is that of one of the kinds
@@ -30,23 +62,26 @@ HasStatusOf (k ∷ ks) status = (status ≡ words_status k) ⊎ HasStatusOf ks s
 pub record StopsForMemory (old new : Option (List ℕ)) (text : List ℕ) : Type 0 where
   pub beginning : List ℕ
   pub rest : List ℕ
-  pub written : Appends old new (beginning ++ refusal_line refusal.OutOfMemory)
+  pub written : Appends old new (beginning ++ refusal_line (codes "OutOfMemory") None)
   pub whole : beginning ++ rest ≡ text
 
--- the answer that words ask for, to the bytes that are read
-abbrev pub answer_to : Request → List ℕ → Answer
-answer_to (Run options) input = run_answer options input
-answer_to Hash input = hash_answer input
+-- it ends with this answer, or with 2, where a write has failed
+abbrev pub EndsSaying : Option (List ℕ) → Option (List ℕ) → Bool → Answer → Outcome → Type 0
+EndsSaying old new has_failed answer (Ended status) = Writes old new answer status ⊎ ((status ≡ 2) × (has_failed ≡ true))
 
 -- it ends with the status of the answer to what was read, all of which is written; or with 4, where there was no
--- memory; or with 2, where a read or a write failed
-abbrev pub EndsAs : (List ℕ → Answer) → Option (List ℕ) → Option (List ℕ) → Option (List ℕ) → Outcome → Type 0
-EndsAs answer remaining old new (Ended status) =
-    IfSome remaining (λ input. Writes old new (answer input) status)
-    ⊎ (((status ≡ 4) × IfSome remaining (λ input. StopsForMemory old new (answer input).text))
-    ⊎ (status ≡ 2))
+-- memory; or with 2, where the input could not be read, which is said; or with 2, where a write has failed
+abbrev pub EndsAs : Request → Option (List ℕ) → Type 0 → Option (List ℕ) → Option (List ℕ) → Bool → Outcome → Type 0
+EndsAs request remaining IsUnread old new has_failed (Ended status) =
+    IfSome remaining (λ input. WritesRight old new (IsAnswerTo request input) status)
+    ⊎ (((status ≡ 4) × IfSome remaining (λ input. (answer : Answer) → IsAnswerTo request input answer → StopsForMemory old new answer.text))
+    ⊎ ((IsUnread × Writes old new (refused_as (codes "Input")) status)
+    ⊎ ((status ≡ 2) × (has_failed ≡ true))))
 
 -- words that ask for nothing end with the status of one of clap's kinds; or with 4, where there was no memory; or
--- with 2, where a write failed
-abbrev pub EndsWords : Kinds → Outcome → Type 0
-EndsWords kinds (Ended status) = HasStatusOf kinds status ⊎ ((status ≡ 4) ⊎ (status ≡ 2))
+-- with 2, where a write has failed
+abbrev pub EndsWords : Kinds → Option (List ℕ) → Option (List ℕ) → Bool → Outcome → Type 0
+EndsWords kinds old new has_failed (Ended status) =
+    HasStatusOf kinds status
+    ⊎ (((status ≡ 4) × Appends old new (refusal_line (codes "OutOfMemory") None))
+    ⊎ ((status ≡ 2) × (has_failed ≡ true)))

@@ -5,9 +5,8 @@ use Rattle.lexer.specs.HexData.{hex_bytes_of}
 use Rattle.lexer.specs.Lines.{NumberedLine, lines_of}
 use Rattle.lexer.specs.Words.{words_of}
 use Rattle.rss_hash.specs.Toeplitz.{toeplitz_hash}
-use Rattle.bench.specs.Answer.{Answer, input_answer, refused}
+use Rattle.bench.specs.Answer.{Answer, refused_at}
 use Rattle.printed.specs.Word.{word_text}
-use Rattle.bench.specs.declared.refusal.Refusal.TheVariants as refusal
 
 -- the bytes that the words of a line say, where there is one word and it is whole bytes of hex
 abbrev pub bytes_said : List (List ℕ) → Option (List ℕ)
@@ -50,20 +49,20 @@ hash_line key input = word_line (toeplitz_hash key input)
 -- a line for each input; where a line is of another form it is refused before anything is written
 abbrev pub hashes : List ℕ → Result (List (List ℕ)) ℕ → Answer
 hashes key (Ok inputs) = record { text = flat_map (hash_line key) inputs; status = 0 }
-hashes key (Err number) = refused (refusal.Syntax number)
+hashes key (Err number) = refused_at (codes "Syntax") number
 
 abbrev pub keyed_answer : ℕ → Option (List ℕ) → List NumberedLine → Answer
-keyed_answer number None others = refused (refusal.Syntax number)
+keyed_answer number None others = refused_at (codes "Syntax") number
 keyed_answer number (Some key) others = hashes key (inputs_of others)
 
 -- the first line is the key; where there is none, line 1 is missing
 abbrev pub lines_answer : List NumberedLine → Answer
-lines_answer [] = refused (refusal.Syntax 1)
+lines_answer [] = refused_at (codes "Syntax") 1
 lines_answer (line ∷ others) = keyed_answer line.number (if_key (bytes_said (words_of line.text))) others
 
--- the answer to the bytes that are read
+-- the answer to a text
 abbrev pub hash_answer : List ℕ → Answer
-hash_answer input = input_answer (λ text. lines_answer (lines_of text)) input
+hash_answer text = lines_answer (lines_of text)
 
 -- a line for each hash
 abbrev pub words_answer : List ℕ → Answer

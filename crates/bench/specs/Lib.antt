@@ -1,6 +1,8 @@
 pub mod Answer
+pub mod Eeprom
 pub mod Ending
 pub mod Hash
+pub mod Reading
 pub mod Refusal
 pub mod Reply
 pub mod Run

@@ -7,9 +7,9 @@ use Rattle.script_asm.specs.Machine.{is_running, machine_at}
 use Rattle.script_asm.specs.MachineState.{MachineState}
 use Rattle.script_asm.specs.Script.{program_of}
 use Rattle.script_asm.specs.declared.ScriptFault.{ScriptFault}
-use Rattle.bench.specs.Answer.{Answer, input_answer, refused}
+use Rattle.script_asm.specs.declared.ScriptFault.TheVariants as fault
+use Rattle.bench.specs.Answer.{Answer, refused_as, refused_at}
 use Rattle.bench.specs.Steps.{steps_text}
-use Rattle.bench.specs.declared.refusal.Refusal.TheVariants as refusal
 
 -- how a machine stands after its last step
 abbrev pub end_of : MachineState → Answer
@@ -28,19 +28,25 @@ machine_answer program config limit = let end = end_of (machine_at program confi
 
 -- a program's run, where there can be such a controller
 abbrev pub program_answer : RunOptions → Listing → Answer
-program_answer options program = if nat_lt 63 options.vfs then refused refusal.TooManyVfs
-    else if options.fifo == 0 || nat_lt 4096 options.fifo then refused refusal.Fifo
+program_answer options program = if nat_lt 63 options.vfs then refused_as (codes "TooManyVfs")
+    else if options.fifo == 0 || nat_lt 4096 options.fifo then refused_as (codes "Fifo")
     else machine_answer program (config_of options) options.limit
+
+-- why a text is no script, with the line that says so
+abbrev pub script_refused : ScriptFault → Answer
+script_refused (fault.Syntax line) = refused_at (codes "Syntax") line
+script_refused (fault.UnknownName line) = refused_at (codes "UnknownName") line
+script_refused (fault.UnknownLabel line) = refused_at (codes "UnknownLabel") line
+script_refused (fault.TwoLabels line) = refused_at (codes "TwoLabels") line
+script_refused (fault.Range line) = refused_at (codes "Range") line
+script_refused fault.TooLong = refused_as (codes "TooLong")
+script_refused fault.OutOfMemory = refused_as (codes "OutOfMemory")
 
 -- a script's run, where it is one
 abbrev pub script_answer : RunOptions → Result Listing ScriptFault → Answer
 script_answer options (Ok program) = program_answer options program
-script_answer options (Err fault) = refused (refusal.Script fault)
+script_answer options (Err fault) = script_refused fault
 
 -- the answer to a text
-abbrev pub text_answer : RunOptions → List ℕ → Answer
-text_answer options text = script_answer options (program_of text)
-
--- the answer to the bytes that are read
 abbrev pub run_answer : RunOptions → List ℕ → Answer
-run_answer options input = input_answer (text_answer options) input
+run_answer options text = script_answer options (program_of text)

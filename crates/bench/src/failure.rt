@@ -1,10 +1,10 @@
-//! Why a run is given up.
+//! Why an answer is given up.
 ghost use Rattle.std.specs.Prelude.{◌≡◌};
 ghost use Rattle.bench.specs.declared.failure.Failure.TheVariants.{OutOfMemory};
 
 use std::alloc::AllocError;
 
-/// Why a run is given up.
+/// Why an answer is given up.
 #[derive(Clone, Copy, Debug, PartialEq, Eq)]
 pub enum Failure {
     /// A read failed, or the reads came to no end.

@@ -1,23 +1,23 @@
-//! What `nicbench hash` makes of what it reads.
-ghost use Rattle.std.specs.Prelude.{◌≡◌, ◌≢◌, ℕ, List, [], Err, IfOk, IfSome, None, Ok, OnErr, OnOk};
-ghost use Rattle.std.specs.Prelude.{Result, Some};
+//! What `nicbench hash` makes of a text.
+ghost use Rattle.std.specs.Prelude.{◌≡◌, ℕ, List, [], Err, IfOk, None, Ok, OnOk, Result, Some};
+ghost use Rattle.std.specs.Prelude.{codes};
 ghost use Rattle.std.specs.Io.KnownBytes.{Appends};
 ghost use Rattle.std.specs.Option.{option_map};
 ghost use Rattle.lexer.specs.Lines.{lines_of};
 ghost use Rattle.lexer.specs.Words.{words_of};
 ghost use Rattle.rss_hash.specs.Toeplitz.{toeplitz_hash};
-ghost use Rattle.bench.specs.Answer.{Writes, WritesBeginning, refused};
+ghost use Rattle.bench.specs.Answer.{FailsToWrite, Gives, refused_at};
 ghost use Rattle.bench.specs.Hash.{bytes_said, hash_answer, hashed, if_input, if_key, inputs_of};
 ghost use Rattle.bench.specs.Hash.{line_and, lines_answer, word_line, words_answer};
 
 use crate::failure::Failure;
+use crate::output::Output;
 use crate::refusal::{Refusal, write_refusal};
-use crate::text::{NoText, read_text};
 use lexer::{HexFault, Line, Lines, Words, hex_bytes};
 use printed::WordText;
 use rss_hash::{Key, hash};
 use std::alloc::{AllocFailed, Global};
-use std::io::{Read, Write};
+use std::io::Write;
 
 /// How many bytes a key has.
 const KEY_BYTES: usize = 40;
@@ -141,7 +141,8 @@ fn hashes_in(alloc: Global, text: &str) -> Result<Vec<u32>, HashFault>
     ensures ok { IfOk result (λ hashes. lines_answer (lines_of text.now)
         ≡ words_answer hashes.items) }
     ensures syntax { (n : ℕ) → result ≡ Err (HashFault.Syntax n)
-        → lines_answer (lines_of text.now) ≡ refused (Refusal.Syntax n) }
+        → lines_answer (lines_of text.now)
+        ≡ refused_at (codes "Syntax") n }
 {
     let mut lines = Lines::of(text);
     let Some(first) = lines.next() else {
@@ -154,66 +155,40 @@ fn hashes_in(alloc: Global, text: &str) -> Result<Vec<u32>, HashFault>
 }
 
 /// Writes a hash on a line of its own.
-fn write_hash<W: Write>(writer: &mut W, hash: u32) -> Result<(), Failure>
-    ensures ok { OnOk result (Appends (W.contents writer.old) (W.contents writer.new)
+fn write_hash<W: Write>(output: &mut Output<W>, hash: u32) -> Result<(), Failure>
+    ensures ok { OnOk result (Appends (W.contents output.old.writer) (W.contents output.new.writer)
         (word_line hash)) }
-    ensures err { OnErr result (result ≡ Err Failure.Write) }
+    ensures err { FailsToWrite result output.new.has_failed }
 {
     let hash = WordText(hash);
-    match write!(writer, "{hash}\n") {
-        Ok(()) => Ok(()),
-        Err(_) => Err(Failure::Write),
-    }
+    output.write(format_args!("{hash}\n"))
 }
 
 /// Writes hashes, each on a line of its own, and gives the status of that.
-fn write_hashes<W: Write>(writer: &mut W, hashes: &[u32]) -> Result<u8, Failure>
-    ensures ok { IfOk result (Writes (W.contents writer.old) (W.contents writer.new)
-        (words_answer hashes.now)) }
-    ensures err { OnErr result (result ≡ Err Failure.Write) }
+fn write_hashes<W: Write>(output: &mut Output<W>, hashes: &[u32]) -> Result<u8, Failure>
+    ensures { Gives result (W.contents output.old.writer) (W.contents output.new.writer)
+        output.new.has_failed (words_answer hashes.now) }
 {
     for hash in hashes {
-        write_hash(writer, *hash)?;
+        write_hash(output, *hash)?;
     }
     Ok(0)
 }
 
-/// Hashes the lines of a text.
-fn hash_text<W: Write>(alloc: Global, text: &str, writer: &mut W) -> Result<u8, Failure>
-    ensures ok { IfOk result (Writes (W.contents writer.old) (W.contents writer.new)
-        (lines_answer (lines_of text.now))) }
-    ensures begun { result ≡ Err Failure.OutOfMemory → WritesBeginning (W.contents writer.old)
-        (W.contents writer.new) (lines_answer (lines_of text.now)).text }
-    ensures read { result ≢ Err Failure.Read }
+/// Reads a key of 40 bytes on the first line of a text and inputs of 36 bytes at most on those behind
+/// it, all in hex, and writes the Toeplitz hash of each input under the key. All lines are read before
+/// the first hash is written.
+pub(crate) fn hash_lines<W: Write>(
+    alloc: Global,
+    text: &str,
+    output: &mut Output<W>,
+) -> Result<u8, Failure>
+    ensures { Gives result (W.contents output.old.writer) (W.contents output.new.writer)
+        output.new.has_failed (hash_answer text.now) }
 {
     match hashes_in(alloc, text) {
-        Ok(hashes) => write_hashes(writer, &hashes),
-        Err(HashFault::Syntax(line)) => write_refusal(writer, &Refusal::Syntax(line)),
+        Ok(hashes) => write_hashes(output, &hashes),
+        Err(HashFault::Syntax(line)) => write_refusal(output, &Refusal::numbered("Syntax", line)),
         Err(HashFault::OutOfMemory) => Err(Failure::OutOfMemory),
-    }
-}
-
-/// Reads a key of 40 bytes on the first line and inputs of 36 bytes at most on those behind it, all in
-/// hex, and writes the Toeplitz hash of each input under the key. All lines are read before the first
-/// hash is written. An `Ok` has the status, and no read, write or growth has failed: what is written
-/// and the status are `hash_answer` of what was read. After `Failure::Read` nothing is written, and
-/// after `Failure::OutOfMemory` a beginning of that answer. After `Failure::Write` nothing more is
-/// written.
-pub fn hash_lines<R: Read, W: Write>(
-    alloc: Global,
-    reader: &mut R,
-    writer: &mut W,
-) -> Result<u8, Failure>
-    ensures ok { IfOk result (λ status. IfSome (R.remaining reader.old) (λ input.
-        Writes (W.contents writer.old) (W.contents writer.new) (hash_answer input) status)) }
-    ensures begun { result ≡ Err Failure.OutOfMemory → IfSome (R.remaining reader.old) (λ input.
-        WritesBeginning (W.contents writer.old) (W.contents writer.new)
-        (hash_answer input).text) }
-    ensures unread { result ≡ Err Failure.Read → writer.new ≡ writer.old }
-{
-    match read_text(alloc, reader) {
-        Ok(text) => hash_text(alloc, text.as_str(), writer),
-        Err(NoText::Refused(refusal)) => write_refusal(writer, &refusal),
-        Err(NoText::Failed(failure)) => Err(failure),
     }
 }

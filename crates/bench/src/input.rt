@@ -1,71 +1,65 @@
-//! All that a reader gives, up to a limit.
-ghost use Rattle.std.specs.Prelude.{◌≡◌, ◌<◌, ◌≤◌, length, Err, IfOk, IfSome, vec_len};
+//! A reader whose failed reads are remembered.
+ghost use Rattle.std.specs.Prelude.{◌≡◌, ◌+◌, ◌<◌, OnErr, OnOk, false, true};
+ghost use Rattle.std.specs.Io.{ReadsAtMost};
+ghost use Rattle.std.specs.Io.KnownBytes.{ReadConsumes};
 
-use std::alloc::{AllocError, Global};
-use std::io::Read;
-
-/// How many bytes an input may have.
-pub const BYTES: usize = 8_388_608;
+use std::io::{Read, Result};
 
 /// How many reads are made at most.
 pub const READS: u32 = 1_000_000;
 
-/// How many bytes a read may give.
-const READ_BYTES: usize = 65_536;
-
-/// Why there is no input.
-#[derive(Clone, Copy, Debug, PartialEq, Eq)]
-pub enum InputFault {
-    /// There are more than `BYTES` bytes.
-    TooLong,
-    /// A read failed.
-    Failed,
-    /// No read of the first `READS` came to the end.
-    Endless,
-    /// No memory for the bytes.
-    OutOfMemory,
+/// A reader, how many reads were made of it, and whether one of them failed.
+#[derive(Debug, Drop)]
+pub struct Input<R> {
+    reader: R,
+    reads: u32,
+    has_failed: bool,
 }
 
-impl From<AllocError> for InputFault {
-    ghost use Rattle.bench.specs.declared.input.InputFault.TheVariants.{OutOfMemory};
-
-    ghost from_gives = { λ _ e. e ≡ OutOfMemory };
-
-    fn from(_error: AllocError) -> InputFault {
-        InputFault::OutOfMemory
+impl<R: Read> Input<R> {
+    /// A reader of which nothing was read.
+    pub fn of(reader: R) -> Input<R>
+        ensures { result ≡ record { reader = reader; reads = 0; has_failed = false } }
+    {
+        Input {
+            reader,
+            reads: 0,
+            has_failed: false,
+        }
     }
-}
 
-/// Room for one read.
-fn buffer(alloc: Global) -> Result<Vec<u8>, AllocError>
-    ensures { IfOk result (λ v. 0 < vec_len v) }
-{
-    vec![in alloc; 0u8; READ_BYTES]
-}
+    /// Whether a read failed.
+    pub fn has_failed(&self) -> bool
+        ensures { result ≡ self.now.has_failed }
+    {
+        self.has_failed
+    }
 
-/// All bytes that the reader gives until its end. A failed read isn't tried again. After an `Err`
-/// some bytes may be read.
-pub fn read_input<R: Read>(alloc: Global, reader: &mut R) -> Result<Vec<u8>, InputFault>
-    ensures whole { IfOk result (λ v. IfSome (R.remaining reader.old) (λ input. v.items ≡ input)) }
-    ensures fits { IfOk result (λ v. vec_len v ≤ BYTES) }
-    ensures too_long { result ≡ Err InputFault.TooLong
-        → IfSome (R.remaining reader.old) (λ input. BYTES < length input) }
-    ensures endless { result ≡ Err InputFault.Endless
-        → IfSome (R.remaining reader.old) (λ input. READS ≤ length input) }
-{
-    let mut buffer = buffer(alloc)?;
-    let mut bytes = Vec::new(alloc);
-    for _ in 0..READS {
-        match reader.read(&mut buffer) {
-            Err(_) => return Err(InputFault::Failed),
-            Ok(0) => return Ok(bytes),
-            Ok(n) => {
-                if n > BYTES - bytes.len() {
-                    return Err(InputFault::TooLong);
-                }
-                bytes.extend_from_slice(&buffer[..n])?;
+    /// Reads are counted, and failed ones remembered, from here on.
+    pub(crate) fn begin(&mut self)
+        ensures { self.new ≡ record self.old { reads = 0; has_failed = false } }
+    {
+        self.reads = 0;
+        self.has_failed = false;
+    }
+
+    /// Reads into the buffer, and gives how many bytes there are.
+    pub(crate) fn read(&mut self, buffer: &mut [u8]) -> Result<usize>
+        requires { self.old.reads < READS }
+        ensures bound { ReadsAtMost result buffer.new }
+        ensures bytes { ReadConsumes (R.remaining self.old.reader) (R.remaining self.new.reader)
+            result buffer.new }
+        ensures counted { self.new.reads ≡ self.old.reads + 1 }
+        ensures kept { OnOk result (self.new.has_failed ≡ self.old.has_failed) }
+        ensures failed { OnErr result (self.new.has_failed ≡ true) }
+    {
+        self.reads += 1;
+        match self.reader.read(buffer) {
+            Ok(count) => Ok(count),
+            Err(error) => {
+                self.has_failed = true;
+                Err(error)
             }
         }
     }
-    Err(InputFault::Endless)
 }

@@ -1,24 +1,28 @@
 //! The program `nicbench`, over any reader and writer.
 //!
-//! `bench` takes the words of a command line, reads all input and writes all output. What `run` and
-//! `hash` write for what they read, and the status that they end with, is `run_answer` and
-//! `hash_answer`, byte for byte: the promises stand on `run` and `hash_lines`, which `bench` calls. The
-//! program's `main` stands on this crate.
+//! `answer` takes the words of a command line, reads all input and writes the answer: what is written
+//! for the bytes that are read, and the status, are those of what the words ask for (`IsAnswerTo`).
+//! `bench` is `answer` with a status also where it is given up. The program's `main` stands on this
+//! crate.
 #![tactic(auto)]
 
+mod answering;
+mod eeprom;
 mod failure;
 mod hashing;
 mod input;
+mod output;
 mod program;
+mod reading;
 mod refusal;
 mod reply;
 mod script_run;
 mod steps;
-mod text;
 
+pub use answering::answer;
 pub use failure::Failure;
-pub use hashing::hash_lines;
-pub use input::{InputFault, read_input};
+pub use input::{Input, READS};
+pub use output::Output;
 pub use program::{Outcome, bench};
+pub use reading::{BYTES, InputFault, read_input};
 pub use refusal::Refusal;
-pub use script_run::run;

@@ -1,76 +1,63 @@
 //! Why an input, or what the words ask for, is refused.
-ghost use Rattle.std.specs.Prelude.{◌≡◌, Err, IfOk, OnErr, Some};
-ghost use Rattle.bench.specs.Refusal.{refusal_status};
-ghost use Rattle.bench.specs.Answer.{Writes, refused};
+ghost use Rattle.std.specs.Prelude.{◌≡◌, None, Some};
+ghost use Rattle.bench.specs.Answer.{FailsToWrite, Gives, refused};
 
 use crate::failure::Failure;
-use script_asm::ScriptFault;
+use crate::output::Output;
 use std::fmt;
 use std::io::Write;
 
-/// Why there is no run. It prints as its name, and the line's number where it has one.
-#[derive(Clone, Copy, Debug, PartialEq, Eq)]
-pub enum Refusal {
-    /// The input has more bytes than are read.
-    TooLong,
-    /// A read failed or came to no end, or the bytes aren't text.
-    Input,
-    /// The line of this number, from 1 on, isn't of the form of its text.
-    Syntax(usize),
-    /// The text is no script.
-    Script(ScriptFault),
-    /// The controller can't have so many virtual functions.
-    TooManyVfs,
-    /// So many frames can't wait in the controller.
-    Fifo,
-    /// No memory.
-    OutOfMemory,
+/// Why there is no answer. It prints as its name, and its number where it has one.
+#[derive(Clone, Copy, Debug)]
+pub struct Refusal {
+    name: &'static str,
+    number: Option<usize>,
+}
+
+impl Refusal {
+    /// A refusal that has a name alone.
+    pub(crate) fn named(name: &'static str) -> Refusal
+        ensures name { result.name.now ≡ name.now }
+        ensures number { result.number ≡ None }
+    {
+        Refusal { name, number: None }
+    }
+
+    /// A refusal with the number of what it is about: of a line, a word or an instruction.
+    pub(crate) fn numbered(name: &'static str, number: usize) -> Refusal
+        ensures name { result.name.now ≡ name.now }
+        ensures number { result.number ≡ Some number }
+    {
+        Refusal {
+            name,
+            number: Some(number),
+        }
+    }
 }
 
 impl fmt::Display for Refusal {
     ghost use Rattle.bench.specs.Refusal.{refusal_text};
 
-    ghost output = { λ r. Some (refusal_text r) };
+    ghost output = { λ r. Some (refusal_text r.name.now r.number) };
 
     fn fmt<W: fmt::Write>(&self, f: &mut fmt::Formatter<W>) -> fmt::Result {
-        match self {
-            Refusal::TooLong | Refusal::Script(ScriptFault::TooLong) => write!(f, "TooLong"),
-            Refusal::Input => write!(f, "Input"),
-            Refusal::Syntax(line) | Refusal::Script(ScriptFault::Syntax(line)) => {
-                write!(f, "Syntax {line}")
-            }
-            Refusal::Script(ScriptFault::UnknownName(line)) => write!(f, "UnknownName {line}"),
-            Refusal::Script(ScriptFault::UnknownLabel(line)) => write!(f, "UnknownLabel {line}"),
-            Refusal::Script(ScriptFault::TwoLabels(line)) => write!(f, "TwoLabels {line}"),
-            Refusal::Script(ScriptFault::Range(line)) => write!(f, "Range {line}"),
-            Refusal::TooManyVfs => write!(f, "TooManyVfs"),
-            Refusal::Fifo => write!(f, "Fifo"),
-            Refusal::OutOfMemory | Refusal::Script(ScriptFault::OutOfMemory) => {
-                write!(f, "OutOfMemory")
-            }
+        let name = self.name;
+        match self.number {
+            Some(number) => write!(f, "{name} {number}"),
+            None => write!(f, "{name}"),
         }
     }
 }
 
-/// The status that a refusal ends with.
-fn status_of(refusal: &Refusal) -> u8
-    ensures { result ≡ refusal_status refusal.now }
-{
-    match refusal {
-        Refusal::OutOfMemory => 4,
-        Refusal::Script(ScriptFault::OutOfMemory) => 4,
-        _ => 2,
-    }
-}
-
 /// Writes the line of a refusal, and gives its status.
-pub(crate) fn write_refusal<W: Write>(writer: &mut W, refusal: &Refusal) -> Result<u8, Failure>
-    ensures ok { IfOk result (Writes (W.contents writer.old) (W.contents writer.new)
-        (refused refusal.now)) }
-    ensures err { OnErr result (result ≡ Err Failure.Write) }
+pub(crate) fn write_refusal<W: Write>(
+    output: &mut Output<W>,
+    refusal: &Refusal,
+) -> Result<u8, Failure>
+    ensures gives { Gives result (W.contents output.old.writer) (W.contents output.new.writer)
+        output.new.has_failed (refused refusal.now.name.now refusal.now.number) }
+    ensures err { FailsToWrite result output.new.has_failed }
 {
-    match write!(writer, "refused {refusal}\n") {
-        Ok(()) => Ok(status_of(refusal)),
-        Err(_) => Err(Failure::Write),
-    }
+    output.write(format_args!("refused {refusal}\n"))?;
+    Ok(2)
 }

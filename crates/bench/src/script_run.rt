@@ -1,30 +1,44 @@
-//! What `nicbench run` makes of what it reads.
-ghost use Rattle.std.specs.Prelude.{◌≡◌, ◌≢◌, Err, IfOk, IfSome};
-ghost use Rattle.bench.specs.Answer.{Writes, WritesBeginning};
-ghost use Rattle.bench.specs.Run.{program_answer, run_answer, text_answer};
+//! What `nicbench run` makes of a text.
+ghost use Rattle.std.specs.Prelude.{◌≡◌, ◌≢◌, MatchOption};
+ghost use Rattle.bench.specs.Answer.{Gives, refused};
+ghost use Rattle.bench.specs.Run.{program_answer, run_answer, script_refused};
 
 use crate::failure::Failure;
+use crate::output::Output;
 use crate::refusal::{Refusal, write_refusal};
 use crate::steps::run_machine;
-use crate::text::{NoText, read_text};
 use command_line::RunOptions;
 use nic_device::{Config, NewFault};
 use script_asm::{Machine, Program, ScriptFault, assemble};
 use std::alloc::Global;
-use std::io::{Read, Write};
+use std::io::Write;
+
+/// Why a text is no script; none where there is no memory.
+fn refusal_of(fault: ScriptFault) -> Option<Refusal>
+    ensures { MatchOption result (fault ≡ ScriptFault.OutOfMemory) (λ refusal.
+        (fault ≢ ScriptFault.OutOfMemory)
+        × (refused refusal.name.now refusal.number ≡ script_refused fault)) }
+{
+    match fault {
+        ScriptFault::Syntax(line) => Some(Refusal::numbered("Syntax", line)),
+        ScriptFault::UnknownName(line) => Some(Refusal::numbered("UnknownName", line)),
+        ScriptFault::UnknownLabel(line) => Some(Refusal::numbered("UnknownLabel", line)),
+        ScriptFault::TwoLabels(line) => Some(Refusal::numbered("TwoLabels", line)),
+        ScriptFault::Range(line) => Some(Refusal::numbered("Range", line)),
+        ScriptFault::TooLong => Some(Refusal::named("TooLong")),
+        ScriptFault::OutOfMemory => None,
+    }
+}
 
 /// Runs a program on a new controller.
 fn run_program<W: Write>(
     alloc: Global,
     program: Program,
     options: RunOptions,
-    writer: &mut W,
+    output: &mut Output<W>,
 ) -> Result<u8, Failure>
-    ensures ok { IfOk result (Writes (W.contents writer.old) (W.contents writer.new)
-        (program_answer options program)) }
-    ensures begun { result ≡ Err Failure.OutOfMemory → WritesBeginning (W.contents writer.old)
-        (W.contents writer.new) (program_answer options program).text }
-    ensures read { result ≢ Err Failure.Read }
+    ensures { Gives result (W.contents output.old.writer) (W.contents output.new.writer)
+        output.new.has_failed (program_answer options program) }
 {
     let config = Config {
         vfs: options.vfs,
@@ -32,58 +46,33 @@ fn run_program<W: Write>(
     };
     match Machine::new(alloc, program, config) {
         Ok(mut machine) => {
-            let outcome = run_machine(&mut machine, options.limit, writer);
+            let outcome = run_machine(&mut machine, options.limit, output);
             machine.finish();
             outcome
         }
         Err(refused) => match refused.fault {
-            NewFault::TooManyVfs => write_refusal(writer, &Refusal::TooManyVfs),
-            NewFault::Fifo => write_refusal(writer, &Refusal::Fifo),
+            NewFault::TooManyVfs => write_refusal(output, &Refusal::named("TooManyVfs")),
+            NewFault::Fifo => write_refusal(output, &Refusal::named("Fifo")),
             NewFault::OutOfMemory => Err(Failure::OutOfMemory),
         },
     }
 }
 
-/// Runs a script.
-fn run_script<W: Write>(
+/// Runs a script, and writes what it does, line by line as it goes.
+pub(crate) fn run_script<W: Write>(
     alloc: Global,
     text: &str,
     options: RunOptions,
-    writer: &mut W,
+    output: &mut Output<W>,
 ) -> Result<u8, Failure>
-    ensures ok { IfOk result (Writes (W.contents writer.old) (W.contents writer.new)
-        (text_answer options text.now)) }
-    ensures begun { result ≡ Err Failure.OutOfMemory → WritesBeginning (W.contents writer.old)
-        (W.contents writer.new) (text_answer options text.now).text }
-    ensures read { result ≢ Err Failure.Read }
+    ensures { Gives result (W.contents output.old.writer) (W.contents output.new.writer)
+        output.new.has_failed (run_answer options text.now) }
 {
     match assemble(alloc, text) {
-        Ok(program) => run_program(alloc, program, options, writer),
-        Err(ScriptFault::OutOfMemory) => Err(Failure::OutOfMemory),
-        Err(fault) => write_refusal(writer, &Refusal::Script(fault)),
-    }
-}
-
-/// Reads a script, runs it and writes what it does, line by line as it goes. An `Ok` has the status,
-/// and no read, write or growth has failed: what is written and the status are `run_answer` of what
-/// was read. After `Failure::Read` nothing is written, and after `Failure::OutOfMemory` a beginning
-/// of that answer. After `Failure::Write` nothing more is written.
-pub fn run<R: Read, W: Write>(
-    alloc: Global,
-    reader: &mut R,
-    writer: &mut W,
-    options: RunOptions,
-) -> Result<u8, Failure>
-    ensures ok { IfOk result (λ status. IfSome (R.remaining reader.old) (λ input.
-        Writes (W.contents writer.old) (W.contents writer.new) (run_answer options input) status)) }
-    ensures begun { result ≡ Err Failure.OutOfMemory → IfSome (R.remaining reader.old) (λ input.
-        WritesBeginning (W.contents writer.old) (W.contents writer.new)
-        (run_answer options input).text) }
-    ensures unread { result ≡ Err Failure.Read → writer.new ≡ writer.old }
-{
-    match read_text(alloc, reader) {
-        Ok(text) => run_script(alloc, text.as_str(), options, writer),
-        Err(NoText::Refused(refusal)) => write_refusal(writer, &refusal),
-        Err(NoText::Failed(failure)) => Err(failure),
+        Ok(program) => run_program(alloc, program, options, output),
+        Err(fault) => match refusal_of(fault) {
+            Some(refusal) => write_refusal(output, &refusal),
+            None => Err(Failure::OutOfMemory),
+        },
     }
 }

@@ -1,11 +1,18 @@
 -- What words ask for.
-use Rattle.std.specs.Prelude.{◌≡◌, ℕ, Bool, List, Some, ◌^◌, ◌&&◌, codes, length, nat_lt, true, if◌then◌else◌}
+use Rattle.std.specs.Prelude.{◌≡◌, ℕ, Bool, List, [], ◌∷◌, Option, Some, None, ◌^◌, ◌&&◌, codes, false, length, nat_lt, option_and_then, if◌then◌else◌}
 use Rattle.std.specs.List.{list_all}
 use Rattle.std.specs.Option.{option_map_or}
 use Rattle.std.specs.Char.{digit_value}
+use Rattle.std.specs.Str.{bytes_eq}
 use Rattle.std.specs.Str.Parse.{digits_value, without_leading_plus}
-use Rattle.clap.specs.Words.{Row, Text, one_of, subcommand_of, takes}
+use Rattle.clap.specs.Kinds.{Kinds, or_else}
+use Rattle.clap.specs.Words.{Row, Text, fault_of, one_of, subcommand_of}
+use Rattle.clap.specs.declared.error.ErrorKind.TheVariants as kind
 use Rattle.command_line.specs.Commands.{nicbench_app}
+use Rattle.command_line.specs.declared.request.BytesRequest.TheVariants.{LoadEeprom}
+use Rattle.command_line.specs.declared.request.Request.{Request}
+use Rattle.command_line.specs.declared.request.Request.TheVariants.{Bytes as OfBytes, Text as OfText}
+use Rattle.command_line.specs.declared.request.TextRequest.TheVariants.{Eeprom, Hash, Run}
 use Rattle.command_line.specs.declared.run_options.RunOptions.{RunOptions}
 
 -- decimal digits, one at least, that say a number below 2 ^ bits
@@ -30,15 +37,27 @@ options_of rows = record {
   limit = option_in 64 (codes "limit") rows;
 }
 
--- the words parse to `run` with these options
-pub record AsksRun (words : List Text) (options : RunOptions) : Type 0 where
-  pub taken : takes nicbench_app words ≡ true
-  pub matches : List Row
-  pub command : subcommand_of nicbench_app words ≡ Some (codes "run", matches)
-  pub says : options ≡ options_of matches
+-- whether a flag is given
+abbrev pub flag_in : Text → List Row → Bool
+flag_in name rows = option_map_or (λ text. bytes_eq text (codes "true")) (one_of name rows) false
 
--- the words parse to `hash`
-pub record AsksHash (words : List Text) : Type 0 where
-  pub taken : takes nicbench_app words ≡ true
-  pub matches : List Row
-  pub command : subcommand_of nicbench_app words ≡ Some (codes "hash", matches)
+-- what the matches of `eeprom` ask for
+abbrev pub eeprom_of : List Row → Request
+eeprom_of rows = if flag_in (codes "load") rows then OfBytes LoadEeprom else OfText Eeprom
+
+-- what a command with these matches asks for, by its name
+abbrev pub request_of : Text → List Row → Option Request
+request_of name rows = if bytes_eq name (codes "run") then Some (OfText (Run (options_of rows)))
+    else if bytes_eq name (codes "hash") then Some (OfText Hash)
+    else if bytes_eq name (codes "eeprom") then Some (eeprom_of rows)
+    else None
+
+-- clap finds no fault in the words, and their command asks for this
+pub record Asks (words : List Text) (request : Request) : Type 0 where
+  pub faultless : fault_of nicbench_app words ≡ []
+  pub asked : option_and_then (λ command. request_of command.0 command.1) (subcommand_of nicbench_app words) ≡ Some request
+
+-- why other words are refused, or what they want shown: one of the kinds that clap may give; where it gives none the
+-- command is an unknown one
+abbrev pub refusal_of : List Text → Kinds
+refusal_of words = or_else (fault_of nicbench_app words) (kind.InvalidSubcommand ∷ [])

@@ -1,6 +1,7 @@
 -- The command line, as clap's contracts see it.
 use Rattle.std.specs.Prelude.{[], ◌∷◌, ◌-◌, ◌^◌, Some, codes, pos, true}
 use Rattle.clap.specs.Words.{App, Rule, Text, new_app, new_rule, with_rule, with_subcommand}
+use Rattle.clap.specs.declared.builder.action.ArgAction.TheVariants as action
 use Rattle.clap.specs.declared.builder.value_parser.ValueParser.{ValueParser}
 use Rattle.clap.specs.declared.builder.value_parser.ValueParser.TheVariants as parser
 
@@ -30,12 +31,24 @@ run_app = with_rule (with_rule (with_rule (new_app (codes "run")) vfs_rule) fifo
 abbrev pub hash_app : App
 hash_app = new_app (codes "hash")
 
--- `nicbench`, which takes a command and has a version
-abbrev pub nicbench_app : App
-nicbench_app = let a = new_app (codes "nicbench") in with_subcommand (with_subcommand (record a {
+-- `--load`, which takes no value
+abbrev pub load_rule : Rule
+load_rule = record (new_rule (codes "load")) { long = Some (codes "load"); action = Some action.SetTrue }
+
+-- `eeprom`, with its flag
+abbrev pub eeprom_app : App
+eeprom_app = with_rule (new_app (codes "eeprom")) load_rule
+
+-- `nicbench`, which takes a command and has a version, without its commands
+abbrev pub bare_app : App
+bare_app = let a = new_app (codes "nicbench") in record a {
   top = record a.top {
     has_version = true;
     subcommand_required = true;
     arg_required_else_help = true;
   };
-}) run_app.top) hash_app.top
+}
+
+-- `nicbench` with its commands
+abbrev pub nicbench_app : App
+nicbench_app = with_subcommand (with_subcommand (with_subcommand bare_app run_app.top) hash_app.top) eeprom_app.top

@@ -2,11 +2,11 @@
 ghost use Rattle.std.specs.Prelude.{◌≡◌, IfErr, IfOk, false};
 ghost use Rattle.clap.specs.Words.{app_of, kind_of, rule_of};
 ghost use Rattle.clap.specs.declared.builder.command.Command.TheViews.{out-Command as fields_of};
-ghost use Rattle.command_line.specs.Commands.{fifo_rule, hash_app, limit_rule, nicbench_app, run_app};
-ghost use Rattle.command_line.specs.Commands.{vfs_rule};
+ghost use Rattle.command_line.specs.Commands.{bare_app, eeprom_app, fifo_rule, hash_app, limit_rule, load_rule};
+ghost use Rattle.command_line.specs.Commands.{nicbench_app, run_app, vfs_rule};
 
 use clap::error::ErrorKind;
-use clap::{Arg, Command, Error, value_parser};
+use clap::{Arg, ArgAction, Command, Error, value_parser};
 use std::alloc::Global;
 
 fn vfs<'a>(alloc: Global) -> Arg<'a>
@@ -45,6 +45,16 @@ fn limit<'a>(alloc: Global) -> Arg<'a>
         .default_value("100000")
 }
 
+fn load<'a>(alloc: Global) -> Arg<'a>
+    ensures rule { rule_of result ≡ load_rule }
+    ensures local { result.global ≡ false }
+{
+    Arg::new(alloc, "load")
+        .long("load")
+        .help("Read an image, and print the register writes of its CSR section")
+        .action(ArgAction::SetTrue)
+}
+
 fn run<'a>(alloc: Global) -> Result<Command<'a>, Error>
     ensures ok { IfOk result (λ c. app_of c ≡ run_app) }
     ensures local { IfOk result (λ c. (fields_of c).has_globals ≡ false) }
@@ -67,16 +77,36 @@ fn hash<'a>(alloc: Global) -> Command<'a>
     )
 }
 
-pub(crate) fn nicbench<'a>(alloc: Global) -> Result<Command<'a>, Error>
-    ensures ok { IfOk result (λ c. app_of c ≡ nicbench_app) }
+fn eeprom<'a>(alloc: Global) -> Result<Command<'a>, Error>
+    ensures ok { IfOk result (λ c. app_of c ≡ eeprom_app) }
+    ensures local { IfOk result (λ c. (fields_of c).has_globals ≡ false) }
     ensures err { IfErr result (λ e. kind_of e ≡ ErrorKind.OutOfMemory) }
 {
-    let nicbench = Command::new(alloc, "nicbench")
+    let eeprom = Command::new(alloc, "eeprom")
+        .about("Makes the EEPROM text on standard input an image, on standard output")
+        .arg(load(alloc))?;
+    Ok(eeprom)
+}
+
+/// `nicbench`, without its commands.
+fn bare<'a>(alloc: Global) -> Command<'a>
+    ensures app { app_of result ≡ bare_app }
+    ensures local { (fields_of result).has_globals ≡ false }
+{
+    Command::new(alloc, "nicbench")
         .version("0.1.0")
         .about("A bench for the registers of the Intel 82599 Ethernet controller")
         .subcommand_required(true)
         .arg_required_else_help(true)
+}
+
+pub(crate) fn nicbench<'a>(alloc: Global) -> Result<Command<'a>, Error>
+    ensures ok { IfOk result (λ c. app_of c ≡ nicbench_app) }
+    ensures err { IfErr result (λ e. kind_of e ≡ ErrorKind.OutOfMemory) }
+{
+    let nicbench = bare(alloc)
         .subcommand(run(alloc)?)?
-        .subcommand(hash(alloc))?;
+        .subcommand(hash(alloc))?
+        .subcommand(eeprom(alloc)?)?;
     Ok(nicbench)
 }

@@ -1,7 +1,6 @@
 //! The words of a command line, read with clap.
 //!
-//! `asked` says what the words of `nicbench run` and `nicbench hash` ask for, exactly, and which words
-//! are refused. The program stands on it.
+//! `asked` says what words ask for, exactly, and that all others are refused. The program stands on it.
 #![tactic(auto)]
 
 mod commands;
@@ -11,5 +10,5 @@ mod request;
 mod run_options;
 
 pub use parse::asked;
-pub use request::Request;
+pub use request::{BytesRequest, Request, TextRequest};
 pub use run_options::RunOptions;

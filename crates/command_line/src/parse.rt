@@ -1,12 +1,12 @@
 //! From words to what they ask for.
-ghost use Rattle.std.specs.Prelude.{◌≡◌, ◌≢◌, IfErr, IfOk, IsErrAnd, [], map, true};
-ghost use Rattle.clap.specs.Words.{FailsBy, HasKind, HasMatchesOf, fault_of, kind_of, takes};
-ghost use Rattle.command_line.specs.Asked.{AsksHash, AsksRun};
+ghost use Rattle.std.specs.Prelude.{◌≡◌, IfErr, IfOk, map, option_and_then};
+ghost use Rattle.clap.specs.Words.{FailsBy, HasKind, HasMatchesOf, fault_of, found_of, kind_of, rows_of};
+ghost use Rattle.clap.specs.Words.{subcommand_rows_of};
+ghost use Rattle.command_line.specs.Asked.{Asks, eeprom_of, refusal_of, request_of};
 ghost use Rattle.command_line.specs.Commands.{nicbench_app};
-ghost use Rattle.command_line.specs.declared.run_options.RunOptions.{RunOptions};
 
 use crate::commands::nicbench;
-use crate::request::Request;
+use crate::request::{BytesRequest, Request, TextRequest};
 use crate::run_options::options_in;
 use clap::error::ErrorKind;
 use clap::{ArgMatches, Error};
@@ -16,8 +16,6 @@ use std::convert::AsStr;
 /// What clap finds in the words.
 fn matches_in<'a, S: AsStr>(alloc: Global, words: &'a [S]) -> Result<ArgMatches<'a>, Error>
     ensures matches { IfOk result (HasMatchesOf nicbench_app (map S.text words.entry.now)) }
-    ensures taken { takes nicbench_app (map S.text words.entry.now) ≡ true
-        → IfErr result (λ e. kind_of e ≡ ErrorKind.OutOfMemory) }
     ensures faults { FailsBy (fault_of nicbench_app (map S.text words.entry.now)) result }
 {
     let command = nicbench(alloc)?;
@@ -34,27 +32,55 @@ fn unknown_command(alloc: Global) -> Result<Error, Error>
     Ok(refusal)
 }
 
+/// What the matches of `eeprom` ask for.
+fn eeprom_in(matches: &ArgMatches<'_>) -> Request
+    ensures { result ≡ eeprom_of (rows_of (found_of matches.now)) }
+{
+    let is_load: bool = matches.get_one("load").unwrap_or(false);
+    if is_load {
+        Request::Bytes(BytesRequest::LoadEeprom)
+    } else {
+        Request::Text(TextRequest::Eeprom)
+    }
+}
+
+/// What the command of this name asks for, by its matches.
+fn request_named(name: &str, matches: &ArgMatches<'_>) -> Option<Request>
+    ensures { result ≡ request_of name.now (rows_of (found_of matches.now)) }
+{
+    if name == "run" {
+        Some(Request::Text(TextRequest::Run(options_in(matches))))
+    } else if name == "hash" {
+        Some(Request::Text(TextRequest::Hash))
+    } else if name == "eeprom" {
+        Some(eeprom_in(matches))
+    } else {
+        None
+    }
+}
+
+/// What the command in the matches asks for.
+fn request_in(matches: &ArgMatches<'_>) -> Option<Request>
+    ensures { result ≡ option_and_then (λ command. request_of command.0 command.1)
+        (subcommand_rows_of matches.now) }
+{
+    match matches.subcommand() {
+        Some((name, matches)) => request_named(name, matches),
+        None => None,
+    }
+}
+
 /// What the words ask for, the program's own name first. An `Err` has the text for whoever wrote them:
 /// why they were refused, or the help or the version that they asked for.
 pub fn asked<'a, S: AsStr>(alloc: Global, words: &'a [S]) -> Result<Request, Error>
-    ensures run { (options : RunOptions) → AsksRun (map S.text words.entry.now) options
-        → IfOk result (λ request. request ≡ Request.Run options) }
-    ensures no_memory_for_run { (options : RunOptions)
-        → AsksRun (map S.text words.entry.now) options
+    ensures ok { IfOk result (Asks (map S.text words.entry.now)) }
+    ensures refused { IfErr result (HasKind (refusal_of (map S.text words.entry.now))) }
+    ensures no_memory { (request : Request) → Asks (map S.text words.entry.now) request
         → IfErr result (λ e. kind_of e ≡ ErrorKind.OutOfMemory) }
-    ensures hash { AsksHash (map S.text words.entry.now)
-        → IfOk result (λ request. request ≡ Request.Hash) }
-    ensures no_memory_for_hash { AsksHash (map S.text words.entry.now)
-        → IfErr result (λ e. kind_of e ≡ ErrorKind.OutOfMemory) }
-    ensures refused { fault_of nicbench_app (map S.text words.entry.now) ≢ []
-        → IsErrAnd result (HasKind (fault_of nicbench_app (map S.text words.entry.now))) }
 {
     let matches = matches_in(alloc, words)?;
-    if let Some(run) = matches.subcommand_matches("run") {
-        return Ok(Request::Run(options_in(run)));
-    }
-    match matches.subcommand_matches("hash") {
-        Some(_) => Ok(Request::Hash),
+    match request_in(&matches) {
+        Some(request) => Ok(request),
         None => Err(unknown_command(alloc)?),
     }
 }

@@ -4,8 +4,26 @@ use crate::run_options::RunOptions;
 /// What the words ask for.
 #[derive(Clone, Copy, Debug, PartialEq, Eq)]
 pub enum Request {
+    /// A command that reads a text.
+    Text(TextRequest),
+    /// A command that reads bytes.
+    Bytes(BytesRequest),
+}
+
+/// What is made of a text.
+#[derive(Clone, Copy, Debug, PartialEq, Eq)]
+pub enum TextRequest {
     /// `nicbench run`: that a script be run, with these options.
     Run(RunOptions),
     /// `nicbench hash`: that lines of hex be hashed.
     Hash,
+    /// `nicbench eeprom`: that an EEPROM text be made an image.
+    Eeprom,
+}
+
+/// What is made of bytes.
+#[derive(Clone, Copy, Debug, PartialEq, Eq)]
+pub enum BytesRequest {
+    /// `nicbench eeprom --load`: that the register writes of an EEPROM image be shown.
+    LoadEeprom,
 }

@@ -19,7 +19,7 @@
 //! `-- 2 each` that each line above it, as a script of its own, prints what is below.
 #![tactic(auto)]
 
-use bench::{Outcome, bench};
+use bench::{Input, Outcome, Output, bench};
 use std::alloc::{AllocError, Global};
 use std::fmt::Write;
 use std::{fs, io};
@@ -128,9 +128,10 @@ fn has_lines(printed: &str, lines: &str) -> bool {
 /// What a run prints, and the status that it ends with.
 fn answer(alloc: Global, words: &str, script: &str) -> Result<(String, u8), AllocError> {
     let words: Vec<&str> = words.split_whitespace().collect(alloc)?;
-    let mut reader = script.as_bytes();
+    let mut input = Input::of(script.as_bytes());
     let mut written = Vec::new(alloc);
-    let Outcome::Ended(status) = bench(alloc, &mut reader, &mut written, words.as_slice());
+    let mut output = Output::of(&mut written);
+    let Outcome::Ended(status) = bench(alloc, &mut input, &mut output, words.as_slice());
     let printed = String::from_utf8(written).unwrap_or(String::new(alloc));
     Ok((printed, status))
 }

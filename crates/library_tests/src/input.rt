@@ -1,8 +1,7 @@
 //! What is read, and reads and writes that fail.
 
 use crate::fakes::{Drip, FailingReader, FailingWriter, Flood, Newlines};
-use bench::{Failure, InputFault, Outcome, bench, hash_lines, read_input, run};
-use command_line::RunOptions;
+use bench::{Failure, Input, InputFault, Outcome, Output, answer, bench, read_input};
 use std::alloc::Global;
 use std::io::Read;
 use std::process::Abort;
@@ -21,11 +20,7 @@ const HASHED: &[u8] =
 420995bba18e64500aea06e6
 ";
 
-const OPTIONS: RunOptions = RunOptions {
-    vfs: 0,
-    fifo: 64,
-    limit: 100_000,
-};
+const LOAD: [&str; 3] = ["nicbench", "eeprom", "--load"];
 
 /// The program writes this for a reader, and ends with this status.
 fn answers<R: Read>(
@@ -37,7 +32,8 @@ fn answers<R: Read>(
     wanted: u8,
 ) {
     let mut written = Vec::new(alloc);
-    let Outcome::Ended(status) = bench(alloc, reader, &mut written, words);
+    let mut output = Output::of(&mut written);
+    let Outcome::Ended(status) = bench(alloc, &mut Input::of(reader), &mut output, words);
     assert!(rt; written.as_slice() == answer.as_bytes(), "{answer:?}");
     assert!(rt; status == wanted, "{answer:?}");
 }
@@ -56,6 +52,9 @@ fn no_text(rt: HostRuntime) {
     let mut bytes = b"\xff".as_slice();
     answers(&rt, rt.alloc(), &RUN, &mut bytes, "refused Input\n", 2);
     answers(&rt, rt.alloc(), &RUN, &mut Flood, "refused TooLong\n", 2);
+    let mut bytes = b"\xff".as_slice();
+    answers(&rt, rt.alloc(), &LOAD, &mut bytes, "refused OddLength\n", 2);
+    answers(&rt, rt.alloc(), &LOAD, &mut Flood, "refused TooLong\n", 2);
 }
 
 /// A reader that fails, at whatever read, or that comes to no end.
@@ -74,14 +73,15 @@ fn failing_readers(rt: HostRuntime) {
 #[test]
 fn input_faults(rt: HostRuntime) {
     let alloc = rt.alloc();
-    let too_long = read_input(alloc, &mut Flood).err();
+    let too_long = read_input(alloc, &mut Input::of(&mut Flood)).err();
     assert!(rt; too_long == Some(InputFault::TooLong));
-    let failed = read_input(alloc, &mut FailingReader(3)).err();
-    assert!(rt; failed == Some(InputFault::Failed));
-    let endless = read_input(alloc, &mut Drip).err();
-    assert!(rt; endless == Some(InputFault::Endless));
-    let mut reader = SCRIPT;
-    let input = read_input(alloc, &mut reader).expect(&rt, "the input");
+    let mut failing = Input::of(FailingReader(3));
+    let failed = read_input(alloc, &mut failing).err();
+    assert!(rt; failed == Some(InputFault::Unread) && failing.has_failed());
+    let mut endless = Input::of(Drip);
+    let unread = read_input(alloc, &mut endless).err();
+    assert!(rt; unread == Some(InputFault::Unread) && !endless.has_failed());
+    let input = read_input(alloc, &mut Input::of(SCRIPT)).expect(&rt, "the input");
     assert!(rt; input.as_slice() == SCRIPT);
 }
 
@@ -96,9 +96,9 @@ fn writer(taken: u32) -> FailingWriter {
 
 /// The program ends with status 2 and no later write where a writer fails. Gives whether it came to fail.
 fn fails_at(rt: &impl Abort, alloc: Global, words: &[&str], input: &[u8], taken: u32) -> bool {
-    let mut reader = input;
     let mut writer = writer(taken);
-    let Outcome::Ended(status) = bench(alloc, &mut reader, &mut writer, words);
+    let mut output = Output::of(&mut writer);
+    let Outcome::Ended(status) = bench(alloc, &mut Input::of(input), &mut output, words);
     assert!(rt; status == 2 && writer.later == 0, "{taken} writes");
     writer.has_failed
 }
@@ -121,17 +121,16 @@ fn failing_writers(rt: HostRuntime) {
 #[test]
 fn failures(rt: HostRuntime) {
     let alloc = rt.alloc();
-    let mut written = Vec::new(alloc);
-    let read = run(alloc, &mut FailingReader(0), &mut written, OPTIONS);
-    assert!(rt; read == Err(Failure::Read) && written.is_empty());
-    let mut reader = SCRIPT;
-    let write = run(alloc, &mut reader, &mut writer(0), OPTIONS);
-    assert!(rt; write == Err(Failure::Write));
-    let read = hash_lines(alloc, &mut FailingReader(1), &mut written);
-    assert!(rt; read == Err(Failure::Read) && written.is_empty());
-    let mut reader = HASHED;
-    let write = hash_lines(alloc, &mut reader, &mut writer(0));
-    assert!(rt; write == Err(Failure::Write));
-    let mut reader = HASHED;
-    assert!(rt; hash_lines(alloc, &mut reader, &mut written) == Ok(0));
+    for (words, input) in [(&RUN, SCRIPT), (&HASH, HASHED)] {
+        let mut written = Vec::new(alloc);
+        let mut failing = Input::of(FailingReader(1));
+        let read = answer(alloc, &mut failing, &mut Output::of(&mut written), words);
+        assert!(rt; read == Err(Failure::Read) && written.is_empty());
+        let mut output = Output::of(writer(0));
+        let write = answer(alloc, &mut Input::of(input), &mut output, words);
+        assert!(rt; write == Err(Failure::Write) && output.has_failed());
+        let mut output = Output::of(&mut written);
+        let done = answer(alloc, &mut Input::of(input), &mut output, words);
+        assert!(rt; done == Ok(0) && !output.has_failed());
+    }
 }

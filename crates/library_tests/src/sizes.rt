@@ -1,6 +1,6 @@
 //! The longest texts.
 
-use bench::{Outcome, bench};
+use bench::{Input, Outcome, Output, bench};
 use std::alloc::{AllocError, Global};
 use std::fmt::Write;
 use std::process::Abort;
@@ -8,9 +8,10 @@ use std::test::Fail;
 
 /// Whether `nicbench run` ends with this status, and with this text, for a script.
 fn ends_so(alloc: Global, script: &str, end: &str, wanted: u8) -> bool {
-    let mut reader = script.as_bytes();
+    let mut input = Input::of(script.as_bytes());
     let mut written = Vec::new(alloc);
-    let Outcome::Ended(status) = bench(alloc, &mut reader, &mut written, &["nicbench", "run"]);
+    let mut output = Output::of(&mut written);
+    let Outcome::Ended(status) = bench(alloc, &mut input, &mut output, &["nicbench", "run"]);
     status == wanted && written.as_slice().ends_with(end.as_bytes())
 }
 

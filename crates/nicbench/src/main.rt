@@ -1,7 +1,7 @@
 //! `nicbench`: the program over standard input and standard output.
 #![tactic(auto)]
 
-use bench::{Outcome, Refusal, bench};
+use bench::{Input, Outcome, Output, bench};
 use std::env;
 use std::io::{self, BufWriter, ErrorKind, Write};
 use std::process::ExitCode;
@@ -29,7 +29,7 @@ fn main(rt: HostRuntime) -> ExitCode {
 
 /// Says that there is no memory for the words or the writer, and gives the status.
 fn refused_for_memory(rt: &HostRuntime) -> u8 {
-    match println!(rt; "refused {}", Refusal::OutOfMemory) {
+    match println!(rt; "refused OutOfMemory") {
         Ok(()) => NO_MEMORY,
         Err(_) => FAILED,
     }
@@ -39,9 +39,10 @@ fn refused_for_memory(rt: &HostRuntime) -> u8 {
 fn run(rt: &HostRuntime) -> io::Result<u8> {
     let alloc = rt.alloc();
     let words: Vec<String> = env::args(rt)?.collect(alloc)?;
-    let mut reader = rt.stdin();
     let mut writer = BufWriter::new(alloc, rt.stdout())?;
-    let Outcome::Ended(status) = bench(alloc, &mut reader, &mut writer, words.as_slice());
+    let mut input = Input::of(rt.stdin());
+    let mut output = Output::of(&mut writer);
+    let Outcome::Ended(status) = bench(alloc, &mut input, &mut output, words.as_slice());
     writer.flush()?;
     Ok(status)
 }

@@ -3,7 +3,7 @@
 //! `examples/NAME.nic` is a script, and `examples/NAME.out` what `nicbench run` prints for it.
 #![tactic(auto)]
 
-use bench::{Outcome, bench};
+use bench::{Input, Outcome, Output, bench};
 use std::{fs, io};
 
 /// The scripts, each with the status that its run ends with.
@@ -26,9 +26,10 @@ fn is_as_written(rt: &HostRuntime, name: &str, status: u8) -> io::Result<bool> {
     let script = fs::read_to_string(rt, script_path.as_str())?;
     let output_path = format!(in alloc; "{name}.out")?;
     let wanted = fs::read_to_string(rt, output_path.as_str())?;
-    let mut reader = script.as_bytes();
+    let mut input = Input::of(script.as_bytes());
     let mut written = Vec::new(alloc);
-    let Outcome::Ended(ended) = bench(alloc, &mut reader, &mut written, &["nicbench", "run"]);
+    let mut output = Output::of(&mut written);
+    let Outcome::Ended(ended) = bench(alloc, &mut input, &mut output, &["nicbench", "run"]);
     Ok(ended == status && written.as_slice() == wanted.as_bytes())
 }
 

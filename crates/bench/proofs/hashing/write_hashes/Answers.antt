@@ -9,13 +9,13 @@ loop-hash-init g c = Appends-none _
 
 pub loop-hash-preserved : goal.loop-hash-preserved
 loop-hash-preserved g c =
-    subst (Appends (g.W.Write.contents c.args.writer.now) (g.W.Write.contents c.write_hash.new.writer))
+    subst (Appends (g.W.Write.contents c.args.output.now.writer) (g.W.Write.contents c.write_hash.new.output.writer))
     (lines-more c.args.hashes.now c.loop-hash.hash-index c.loop-hash-test.true)
     (Appends-both _ _ _ _ _ c.loop-hash.invariant (c.in_ok-write_hash.ensures.ok))
 
-pub returns-clause-ok : goal.returns-clause-ok
-returns-clause-ok g c = (
-  subst (Appends (g.W.Write.contents c.args.writer.now) (g.W.Write.contents c.loop-hash.writer))
+pub returns : goal.returns
+returns g c = (
+  subst (Appends (g.W.Write.contents c.args.output.now.writer) (g.W.Write.contents c.loop-hash.output.writer))
       (lines-all c.args.hashes.now c.loop-hash.hash-index (omega (arith, c.loop-hash-test.false, c.loop-hash.auto.hash-index-end)))
       c.loop-hash.invariant,
   refl,

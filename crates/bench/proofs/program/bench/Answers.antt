@@ -1,33 +1,25 @@
-use Rattle.std.proofs.Common.{refl, inl, inr, ap, subst, ◌∙◌}
-use Rattle.command_line.specs.declared.Request.{Request}
-use Rattle.bench.specs.Ending.{EndsAs, answer_to, words_status}
-use Rattle.bench.specs.Hash.{hash_answer}
-use Rattle.bench.specs.Run.{run_answer}
-use Rattle.bench.proofs.Endings.{no-memory-for-words, status-of-kinds}
+use Rattle.std.proofs.Common.{ap, inl, ◌∙◌, Err}
+use Rattle.bench.proofs.Endings.{ended-given-up, ended-words}
 use Rattle.bench.proofs.program.bench.Goals as goal
 
-pub returns-in-Ok-clause-run : goal.returns-in-Ok-clause-run
-returns-in-Ok-clause-run g c = λ options asks.
-    subst (λ (r : Request). EndsAs (answer_to r) (g.R.Read.remaining c.args.reader.now) (g.W.Write.contents c.args.writer.now) (g.W.Write.contents c.answer_to_end.new.writer) c.answer_to_end.result)
-    (c.in-Ok.ensures.run options asks) c.answer_to_end.ensures
+pub returns-in-Ok-clause-asked : goal.returns-in-Ok-clause-asked
+returns-in-Ok-clause-asked g c = λ request asks. inl (c.in-Ok.ensures.asked request asks)
 
-pub returns-in-Ok-clause-hash : goal.returns-in-Ok-clause-hash
-returns-in-Ok-clause-hash g c = λ asks.
-    subst (λ (r : Request). EndsAs (answer_to r) (g.R.Read.remaining c.args.reader.now) (g.W.Write.contents c.args.writer.now) (g.W.Write.contents c.answer_to_end.new.writer) c.answer_to_end.result)
-    (c.in-Ok.ensures.hash asks) c.answer_to_end.ensures
+pub returns-in-Ok-clause-refused : goal.returns-in-Ok-clause-refused
+returns-in-Ok-clause-refused g c = λ none. let told = c.in-Ok.ensures.refused none in (inl told.0, told.1)
 
-pub returns-in-Ok-write_words-clause-run : goal.returns-in-Ok-write_words-clause-run
-returns-in-Ok-write_words-clause-run g c = λ options asks. let memory = c.in-Err.ensures.no_memory_for_run options asks in inr (inl (
-  c.in-Ok-write_words.ensures.status ∙ ap words_status memory,
-  no-memory-for-words (g.R.Read.remaining c.args.reader.now) _ _ (run_answer options) (c.in-Ok-write_words.ensures.memory memory),
-))
+pub returns-in-Err-clause-asked : goal.returns-in-Err-clause-asked
+returns-in-Err-clause-asked g c = λ request asks.
+    ended-given-up _ (g.W.Write.contents c.answer.new.output.writer) _ _ request _ _ c.in-Err.failure c.end_given_up.result (c.in-Err.ensures.asked request asks)
+    (λ is. let told = c.in-Err.ensures.unread (ap Err is) in (told.0, ap (λ o. g.W.Write.contents o.writer) told.1))
+    c.end_given_up.ensures.read c.end_given_up.ensures.memory
+    (λ is. let told = c.end_given_up.ensures.write is in (told.0, ap (λ o. o.has_failed) told.1 ∙ c.in-Err.ensures.unwritten (ap Err is)))
 
-pub returns-in-Ok-write_words-clause-hash : goal.returns-in-Ok-write_words-clause-hash
-returns-in-Ok-write_words-clause-hash g c = λ asks. let memory = c.in-Err.ensures.no_memory_for_hash asks in inr (inl (
-  c.in-Ok-write_words.ensures.status ∙ ap words_status memory,
-  no-memory-for-words (g.R.Read.remaining c.args.reader.now) _ _ hash_answer (c.in-Ok-write_words.ensures.memory memory),
-))
-
-pub returns-in-Ok-write_words-clause-words : goal.returns-in-Ok-write_words-clause-words
-returns-in-Ok-write_words-clause-words g c = λ refused.
-    (status-of-kinds _ c.in-Err.error c.in-Ok-write_words.status c.in-Ok-write_words.ensures.status (c.in-Err.ensures.refused refused), refl)
+pub returns-in-Err-clause-refused : goal.returns-in-Err-clause-refused
+returns-in-Err-clause-refused g c = λ none. let told = c.in-Err.ensures.refused none in (
+  ended-words _ (g.W.Write.contents c.answer.new.output.writer) _ _ _ c.in-Err.failure c.end_given_up.result
+      (λ is. told.2 (ap Err is)) (λ is. ap (λ o. g.W.Write.contents o.writer) (told.3 (ap Err is)))
+      c.end_given_up.ensures.memory
+      (λ is. let ended = c.end_given_up.ensures.write is in (ended.0, ap (λ o. o.has_failed) ended.1 ∙ c.in-Err.ensures.unwritten (ap Err is))),
+  told.1,
+)

@@ -14,8 +14,8 @@ returns-in-Ok-Stopped-clause-state g c =
     stopped-state _ _ _ _ c.loop.counter c.args.limit c.loop.invariant c.step.new.self c.in-Ok-Stopped.ensures.state
     (sym c.in-Ok-Stopped.ensures.answer ∙ c.in-Ok-Stopped.field-0-is) (omega arith)
 
-pub returns-in-Err-clause-begun : goal.returns-in-Err-clause-begun
-returns-in-Err-clause-begun g c = λ _. steps-begun _ _ _ _ c.loop.counter c.args.limit c.loop.invariant (omega arith)
+pub returns-in-Err-clause-err : goal.returns-in-Err-clause-err
+returns-in-Err-clause-err g c = steps-begun _ _ _ _ c.loop.counter c.args.limit c.loop.invariant (omega arith)
 
 pub loop-preserved : goal.loop-preserved
 loop-preserved g c =

@@ -4,4 +4,4 @@ use Rattle.command_line.proofs.examples.hash_alone.Goals as goal
 
 pub returns : goal.returns
 unfolding clap_on_literals
-returns c = record { taken = refl; matches = _; command = refl }
+returns c = record { faultless = refl; asked = refl }

@@ -22,9 +22,31 @@ doubled size h =
 
 pub doublings-few : (size : ℕ) → is_size size ≡ true → doublings size ≤ 8
 doublings-few size h =
-    of_any (λ n. doublings n ≤ 8) size (0 ∷ 1 ∷ 2 ∷ 3 ∷ 4 ∷ 5 ∷ 6 ∷ 7 ∷ 8 ∷ []) h
-    (omega arith, (omega arith, (omega arith, (omega arith, (omega arith, (omega arith, (omega arith, (omega arith,
-    (omega arith, tt)))))))))
+    of_any (λ n. doublings n ≤ 8) size (0 ∷ 1 ∷ 2 ∷ 3 ∷ 4 ∷ 5 ∷ 6 ∷ 7 ∷ 8 ∷ []) h (
+      omega arith,
+      (
+        omega arith,
+        (
+          omega arith,
+          (
+            omega arith,
+            (
+              omega arith,
+              (
+                omega arith,
+                (
+                  omega arith,
+                  (
+                    omega arith,
+                    (omega arith, tt),
+                  ),
+                ),
+              ),
+            ),
+          ),
+        ),
+      ),
+    )
 
 same_power : (d e : ℕ) → 64 * 2 ^ d ≡ 64 * 2 ^ e → d ≡ e
 same_power d e same = elim (cases_order d e) as (λ _. d ≡ e) [

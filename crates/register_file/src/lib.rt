@@ -39,9 +39,9 @@ pub use laws::{
     accesses_stay_with_their_owner, calculated_rows_have_formulas, changes_stay_in_their_footprint,
     counters_count, eeprom_answer_is_read, enable_write_only_asks, group_bits_are_masks,
     interrupts_stand, moved_head_is_the_head, pool_accesses_stay_within,
-    pool_accesses_tell_of_the_pool, put_word_is_there, read_only_counters_go_round,
-    reset_is_the_tables, reset_pool_is_reset, ring_is_held_while_on, shut_side_is_off,
-    soundness_is_kept, stored_word_reads_back, switched_side_is_as_wanted,
+    pool_accesses_tell_of_the_pool, pools_have_nothing_in_common, put_word_is_there,
+    read_only_counters_go_round, reset_is_the_tables, reset_pool_is_reset, ring_is_held_while_on,
+    shut_side_is_off, soundness_is_kept, stored_word_reads_back, switched_side_is_as_wanted,
     what_a_footprint_misses_stands, written_word_is_the_sides,
 };
 pub use owner::{Owner, owner_of};

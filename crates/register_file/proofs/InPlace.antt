@@ -66,9 +66,8 @@ pub record IsStep (step : Interrupts → Interrupts) : Type 0 where
 
 -- a step in place is one of the registers
 pub stepped : (a : Inside) (r : Registers) (g : Group) (step : Interrupts → Interrupts) (one : Interrupts)
-    (new : AllGroups)
-    → registers_of a ≡ r → index_of g < 64 → length a.groups.vf ≡ 64 → one ≡ at_group a.groups g → IsOwn g one
-    → new ≡ with_group a.groups g (step (at_group a.groups g)) → IsStep step
+    (new : AllGroups) → registers_of a ≡ r → index_of g < 64 → length a.groups.vf ≡ 64 → one ≡ at_group a.groups g
+    → IsOwn g one → new ≡ with_group a.groups g (step (at_group a.groups g)) → IsStep step
     → registers_of (record a { groups = new }) ≡ with_interrupts r (step (interrupts_of r g))
 stepped a r g step one new is b all there owned steps keeps =
     let s = at_group a.groups g in

@@ -11,6 +11,9 @@ pub mod CountsKept
 pub mod Delivered
 pub mod Kept
 pub mod Ports
+pub mod PoolParts
+pub mod PoolAlone
+pub mod PoolAgrees
 pub mod KeptSettings
 pub mod EepromReads
 pub mod Imaged

@@ -4,5 +4,6 @@ pub mod Laws
 pub mod Leaving
 pub mod Order
 pub mod Ports
+pub mod Pool
 pub mod Raising
 pub mod Replies

@@ -9,6 +9,7 @@ ghost use Rattle.device_laws.specs.Laws.{ToldIsPending, NewDeviceReadsResetValue
 ghost use Rattle.device_laws.specs.Counting.{EventsCount};
 ghost use Rattle.device_laws.specs.Raising.{EventsRaise};
 ghost use Rattle.device_laws.specs.Replies.{ReceivingTells, TransmittingTells, EventsMoveFramesOut, MisalignedChangesNothing};
+ghost use Rattle.device_laws.specs.Pool.{VfChangesItsPoolAlone, VfSeesItsPoolAlone, AskedPoolResetResets};
 ghost use Rattle.device_laws.specs.Ports.{AccessIsThePhysicalFunctions, HolesAndAbsentFunctionsMeetNothing};
 ghost use Rattle.device_laws.specs.Eeprom.{LastWriteIsMade, SteppedOverWriteIsNotMade, ControlTellsSize, StepGivesWord, StepWithoutStartIsIdle};
 ghost use Rattle.device_laws.specs.Order.{ReceivingHasAnOrder, NothingWaitsIsIdle};
@@ -228,4 +229,12 @@ pub fn stopped_device_is_idle()
 pub fn vf_access_is_the_physical_functions()
     ensures access { AccessIsThePhysicalFunctions }
     ensures nothing { HolesAndAbsentFunctionsMeetNothing }
+{}
+
+/// An access of a virtual function changes nothing but what is its pool's: words, wanted enables, told bits, staged bytes
+/// and waiting frames of its own queues; the frames of other pools keep their order. Two devices that agree there, in the
+/// number of functions, in GCR_EXT, in CTRL bit 2 and in the link give one reply to it, and agree there again.
+pub fn vf_stays_in_its_pool()
+    ensures changes { VfChangesItsPoolAlone }
+    ensures agrees { VfSeesItsPoolAlone }
 {}

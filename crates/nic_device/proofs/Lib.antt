@@ -5,6 +5,7 @@ pub mod Cases
 pub mod Coming
 pub mod Fetched
 pub mod Fetches
+pub mod Functions
 pub mod Hashes
 pub mod Keeping
 pub mod KeptBlocks

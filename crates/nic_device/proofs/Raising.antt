@@ -3,7 +3,7 @@ use Rattle.std.proofs.Common.{◌<◌, ◌^◌, ℕ, List, Option, Some, None, r
 use Rattle.std.specs.Prelude.{⊤}
 use Rattle.intr_unit.specs.declared.group.Group.TheVariants.{Pf}
 use Rattle.reg_table.specs.declared.rows.RowId.{RowId}
-use Rattle.reg_table.specs.declared.rows.RowId.TheVariants.{Mpc, Gptc, Qprc, Qprdc, Qptc}
+use Rattle.reg_table.specs.declared.rows.RowId.TheVariants.{Mpc, Gptc, Qprc, Qprdc, Qptc, Vfgprc, Vfgptc}
 use Rattle.rx_ring.specs.declared.filled.Filled.{Filled}
 use Rattle.tx_ring.specs.declared.fetched.Fetched.{Fetched}
 use Rattle.register_file.specs.Columns.{place}
@@ -16,8 +16,9 @@ use Rattle.register_file.specs.declared.dir.Dir.TheVariants.{Rx, Tx}
 use Rattle.register_file.proofs.Footprints.{within-refl, covers-the_word}
 use Rattle.register_file.proofs.Sound.{sound-causes_raised, sound-with_head, sound-shut}
 use Rattle.register_file.proofs.Within.{within-causes_raised, within-with_head, within-shut}
-use Rattle.nic_device.specs.Footprint.{counts_and_causes}
-use Rattle.nic_device.specs.Interrupt.{device_raised, raised_by, missed_cause, fault_cause}
+use Rattle.nic_device.specs.Footprint.{counts_and_causes, function_counts}
+use Rattle.nic_device.proofs.Functions.{function_counted_in}
+use Rattle.nic_device.specs.Interrupt.{function_of_queue, device_raised, raised_by, missed_cause, fault_cause}
 use Rattle.nic_device.specs.Receive.{frame_counted, slotless_counted, piece_done, receive_failed}
 use Rattle.nic_device.specs.Transmit.{slot_counted, slot_reported, transmit_failed}
 use Rattle.nic_device.proofs.Cases.{either_way}
@@ -33,12 +34,20 @@ covers-side dir queue = covers-first (of_side dir queue) counts_and_causes
 pub covers-counters : (dir : Dir) (queue : ℕ) → Covers (of_step dir queue) counters
 covers-counters dir queue =
     covers-trans (of_step dir queue) counts_and_causes counters (covers-second (of_side dir queue) counts_and_causes)
-    (covers-first counters any_pending)
+    (covers-trans counts_and_causes (either counters function_counts) counters
+    (covers-first (either counters function_counts) any_pending) (covers-first counters function_counts))
+
+covers-functions : (dir : Dir) (queue : ℕ) → Covers (of_step dir queue) function_counts
+covers-functions dir queue =
+    covers-trans (of_step dir queue) counts_and_causes function_counts
+    (covers-second (of_side dir queue) counts_and_causes)
+    (covers-trans counts_and_causes (either counters function_counts) function_counts
+    (covers-first (either counters function_counts) any_pending) (covers-second counters function_counts))
 
 covers-causes : (dir : Dir) (queue : ℕ) → Covers (of_step dir queue) any_pending
 covers-causes dir queue =
     covers-trans (of_step dir queue) counts_and_causes any_pending (covers-second (of_side dir queue) counts_and_causes)
-    (covers-second counters any_pending)
+    (covers-second (either counters function_counts) any_pending)
 
 pub comes-itself : {good : Type 0} (f : Footprint) (r : Registers) → Comes good f r r
 comes-itself f r = record { sound = λ is h. h; within = within-refl f r }
@@ -82,31 +91,35 @@ pub piece-comes : (r : Registers) (vfs queue : ℕ) (f : Filled)
     → Comes (f.head < 2 ^ 16) (of_step Rx queue) r (piece_done r vfs queue f)
 piece-comes r vfs queue f =
     let moved = with_head r Rx queue f.head in
-    let ended = frame_counted moved queue in
+    let ended = frame_counted moved vfs queue in
     let head = head_moved r Rx queue f.head (λ (is : f.head < 2 ^ 16). is) in
     either_way (Comes (f.head < 2 ^ 16) (of_step Rx queue) r) f.end (raised_by ended vfs Rx queue) moved
     (raised_by_queue (of_step Rx queue) r ended vfs Rx queue (covers-causes Rx queue)
+    (function_counted_in (of_step Rx queue) r _ (function_of_queue moved vfs queue) Vfgprc (covers-functions Rx queue)
+    (record { bank = refl; kind = refl })
     (counted_in (of_step Rx queue) r moved Qprc (counter_of moved Rx queue) (covers-counters Rx queue)
-    (record { bank = refl; kind = refl }) head))
+    (record { bank = refl; kind = refl }) head)))
     head
 
 -- a fetched slot
 
-pub slot_counted-comes : (r : Registers) (queue : ℕ) (f : Fetched) (o : Option (List ℕ))
-    → Comes (f.head < 2 ^ 16) (of_step Tx queue) r (slot_counted r queue f o)
-slot_counted-comes r queue f (Some frame) =
+pub slot_counted-comes : (r : Registers) (vfs queue : ℕ) (f : Fetched) (o : Option (List ℕ))
+    → Comes (f.head < 2 ^ 16) (of_step Tx queue) r (slot_counted r vfs queue f o)
+slot_counted-comes r vfs queue f (Some frame) =
     let moved = with_head r Tx queue f.head in
-    counted_in (of_step Tx queue) r (counted moved Gptc 0) Qptc (counter_of r Tx queue) (covers-counters Tx queue)
+    function_counted_in (of_step Tx queue) r _ (function_of_queue r vfs queue) Vfgptc (covers-functions Tx queue)
+    (record { bank = refl; kind = refl })
+    (counted_in (of_step Tx queue) r (counted moved Gptc 0) Qptc (counter_of r Tx queue) (covers-counters Tx queue)
     (record { bank = refl; kind = refl })
     (counted_in (of_step Tx queue) r moved Gptc 0 (covers-counters Tx queue) (record { bank = refl; kind = refl })
-    (head_moved r Tx queue f.head (λ (is : f.head < 2 ^ 16). is)))
-slot_counted-comes r queue f None = head_moved r Tx queue f.head (λ (is : f.head < 2 ^ 16). is)
+    (head_moved r Tx queue f.head (λ (is : f.head < 2 ^ 16). is))))
+slot_counted-comes r vfs queue f None = head_moved r Tx queue f.head (λ (is : f.head < 2 ^ 16). is)
 
 pub slot-comes : (r : Registers) (vfs queue : ℕ) (f : Fetched)
     → Comes (f.head < 2 ^ 16) (of_step Tx queue) r (slot_reported r vfs queue f)
 slot-comes r vfs queue f =
-    let counted = slot_counted r queue f f.frame in
-    let kept = slot_counted-comes r queue f f.frame in
+    let counted = slot_counted r vfs queue f f.frame in
+    let kept = slot_counted-comes r vfs queue f f.frame in
     either_way (Comes (f.head < 2 ^ 16) (of_step Tx queue) r) f.rs (raised_by counted vfs Tx queue) counted
     (raised_by_queue (of_step Tx queue) r counted vfs Tx queue (covers-causes Tx queue) kept) kept
 

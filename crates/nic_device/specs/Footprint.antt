@@ -4,6 +4,8 @@ use Rattle.std.specs.FinMap as map
 use Rattle.dma_arena.specs.Block.{Block}
 use Rattle.dma_arena.specs.Memory.{has_block}
 use Rattle.reg_table.specs.Rows.{row_of}
+use Rattle.reg_table.specs.declared.bank.Bank.{Bank}
+use Rattle.reg_table.specs.declared.bank.Bank.TheVariants as bank
 use Rattle.reg_table.specs.declared.place.Place.{Place}
 use Rattle.reg_table.specs.declared.rows.RowId.TheVariants.{Eerd}
 use Rattle.vf_map.specs.Owner.{has_queue}
@@ -108,9 +110,30 @@ abbrev pub received_into : Reply Block → ℕ → Bool
 received_into (Wrote queue slot end desc at len) number = has_some_of number desc 16 || has_some_of number at len
 received_into other number = false
 
+-- whether a part of the device is what is counted of virtual functions
+abbrev pub is_function_count : Bank → Bool
+is_function_count bank.Device = false
+is_function_count bank.Counters = false
+is_function_count bank.Receive = false
+is_function_count bank.Transmit = false
+is_function_count bank.Interrupts = false
+is_function_count bank.VfInterrupts = false
+is_function_count bank.Pool = false
+is_function_count bank.VfCounters = true
+is_function_count bank.Vectors = false
+
+-- what is counted of all virtual functions
+abbrev pub function_counts : Footprint
+function_counts =
+    record {
+      words = λ p. is_function_count (row_of p.row).bank;
+      wanted = λ dir queue. false;
+      told = λ g. false;
+    }
+
 -- what counting and raising causes change
 abbrev pub counts_and_causes : Footprint
-counts_and_causes = either counters any_pending
+counts_and_causes = either (either counters function_counts) any_pending
 
 -- a step of receiving: the receive side that the first frame waits for, and where its bytes go
 abbrev pub receive_reach : List Waiting → Reply Block → Reach

@@ -1,9 +1,11 @@
 -- Interrupts: what queues and the device raise, and one message.
-use Rattle.std.specs.Prelude.{ℕ, ◌/◌, ◌==◌, ◌^◌, Bool, true, not, ◌&&◌, nat_lt, Option, Some, None, is_some, if◌then◌else◌}
+use Rattle.std.specs.Prelude.{ℕ, ◌^◌, Bool, true, ◌&&◌, nat_lt, Option, Some, None, is_some, if◌then◌else◌}
 use Rattle.dma_arena.specs.Block.{Block}
 use Rattle.intr_unit.specs.declared.group.Group.{Group}
 use Rattle.intr_unit.specs.declared.group.Group.TheVariants.{Pf, Vf}
-use Rattle.vf_map.specs.Pools.{queues_of, queues_each}
+use Rattle.reg_table.specs.declared.rows.RowId.{RowId}
+use Rattle.vf_map.specs.Pools.{queues_of, pool_of}
+use Rattle.register_file.specs.Counters.{counted_wrapping}
 use Rattle.register_file.specs.Groups.{causes_raised, queue_raised, message_of, message_made}
 pub use Rattle.register_file.specs.Pools.{mode_in}
 use Rattle.register_file.specs.Registers.{Registers}
@@ -28,14 +30,26 @@ link_cause = 2 ^ 20
 abbrev pub device_raised : Registers → ℕ → Registers
 device_raised r cause = causes_raised r Pf cause
 
--- the group that a queue raises in: that of the virtual function whose pool it is in, else that of the physical
--- function
-abbrev pub group_of_pool : ℕ → Bool → ℕ → Group
-group_of_pool vfs pooled pool = if pooled && nat_lt pool vfs then Vf pool else Pf
+-- the virtual function that a queue is of: that of its pool, where the device has it
+abbrev pub function_in : (vfs : ℕ) → Option ℕ → Option ℕ
+function_in vfs None = None
+function_in vfs (Some pool) = if nat_lt pool vfs then Some pool else None
+
+unfoldable pub function_of_queue : Registers → (vfs queue : ℕ) → Option ℕ
+function_of_queue r vfs queue = function_in vfs (pool_of (mode_in r) queue)
+
+-- the group that a queue raises in: that of its virtual function, else that of the physical function
+abbrev pub group_of : Option ℕ → Group
+group_of None = Pf
+group_of (Some v) = Vf v
 
 abbrev pub group_of_queue : Registers → (vfs queue : ℕ) → Group
-group_of_queue r vfs queue =
-    let each = queues_each (mode_in r) in group_of_pool vfs (not (each == 0)) (queue / each)
+group_of_queue r vfs queue = group_of (function_of_queue r vfs queue)
+
+-- the registers after one frame more of a virtual function, where there is one, was counted in a row
+abbrev pub function_counted : Registers → Option ℕ → RowId → Registers
+function_counted r None row = r
+function_counted r (Some v) row = counted_wrapping r row v
 
 -- the registers after a side of a queue raised its cause
 unfoldable pub raised_by : Registers → (vfs : ℕ) → Dir → ℕ → Registers

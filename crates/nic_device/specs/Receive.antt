@@ -6,7 +6,7 @@ use Rattle.dma_ring.specs.Receive.{told_of}
 use Rattle.dma_ring.specs.Ring.{is_outside}
 use Rattle.dma_ring.specs.declared.receive.Packet.{Packet}
 use Rattle.rss_hash.specs.Flow.{flow_of}
-use Rattle.reg_table.specs.declared.rows.RowId.TheVariants.{Qprc, Qprdc}
+use Rattle.reg_table.specs.declared.rows.RowId.TheVariants.{Qprc, Qprdc, Vfgprc}
 use Rattle.register_file.specs.Counters.{counted, counter_of}
 use Rattle.register_file.specs.Registers.{Registers}
 use Rattle.rx_ring.specs.Fill.{Rest, fill_of}
@@ -17,7 +17,7 @@ use Rattle.register_file.specs.Sides.{ReceiveQueue, receive_queue_of}
 use Rattle.register_file.specs.declared.dir.Dir.TheVariants.{Rx}
 use Rattle.dma_arena.specs.Memory.{Memory}
 use Rattle.nic_device.specs.State.{State, Waiting}
-use Rattle.nic_device.specs.Interrupt.{raised_by, device_raised, fault_cause}
+use Rattle.nic_device.specs.Interrupt.{function_of_queue, function_counted, raised_by, device_raised, fault_cause}
 use Rattle.nic_device.specs.Outcome.{Outcome, gives}
 use Rattle.nic_device.specs.declared.event.Reply.TheVariants.{Idle, Dropped, Wrote, Fault}
 use Rattle.nic_device.specs.declared.event.Why.TheVariants.{QueueOff, NoSlot}
@@ -43,18 +43,20 @@ packet_of w =
 abbrev pub rest_of : Waiting → Rest
 rest_of w = record { bytes = drop w.offset w.frame; first = told_of (packet_of w) }
 
--- the registers after a frame of a queue was dropped for want of a slot, and after one was written to its end
+-- the registers after a frame of a queue was dropped for want of a slot, and after one was written to its end, which
+-- counts for the queue and for its virtual function
 abbrev pub slotless_counted : Registers → ℕ → Registers
 slotless_counted r queue = counted r Qprdc (counter_of r Rx queue)
 
-abbrev pub frame_counted : Registers → ℕ → Registers
-frame_counted r queue = counted r Qprc (counter_of r Rx queue)
+abbrev pub frame_counted : Registers → (vfs queue : ℕ) → Registers
+frame_counted r vfs queue =
+    function_counted (counted r Qprc (counter_of r Rx queue)) (function_of_queue r vfs queue) Vfgprc
 
 -- the registers after a piece of a frame was written: the head moves on, and a frame that ends is counted and raises
 -- its queue's receive cause
 abbrev pub piece_done : Registers → (vfs : ℕ) → ℕ → Filled → Registers
 piece_done r vfs queue f =
-    if f.end then raised_by (frame_counted (with_head r Rx queue f.head) queue) vfs Rx queue
+    if f.end then raised_by (frame_counted (with_head r Rx queue f.head) vfs queue) vfs Rx queue
     else with_head r Rx queue f.head
 
 -- the registers after a fault: the receive side is off and not wanted on, and the cause of faults is raised

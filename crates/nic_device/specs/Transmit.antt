@@ -1,20 +1,23 @@
 -- One step of transmitting: one descriptor of a queue is fetched.
-use Rattle.std.specs.Prelude.{ℕ, ◌||◌, not, Bool, nat_lt, List, [], ◌∷◌, ◌++◌, length, slice_set, slice_index_or, Option, Some, None, Result, Ok, Err, if◌then◌else◌}
+use Rattle.std.specs.Prelude.{ℕ, ◌||◌, ◌&&◌, not, Bool, false, nat_lt, List, [], ◌∷◌, ◌++◌, length, slice_set, slice_index_or, Option, Some, None, Result, Ok, Err, if◌then◌else◌}
 use Rattle.dma_arena.specs.Block.{Block}
 use Rattle.dma_arena.specs.Memory.{Memory}
 use Rattle.dma_ring.specs.declared.fault.RingFault.{RingFault}
 use Rattle.tx_ring.specs.Fetch.{fetch_of}
 use Rattle.tx_ring.specs.declared.fetched.Fetched.{Fetched}
 use Rattle.tx_ring.specs.declared.tx.Tx.{Tx as Sending}
-use Rattle.reg_table.specs.declared.rows.RowId.TheVariants.{Gptc, Qptc}
+use Rattle.reg_table.specs.declared.rows.RowId.TheVariants.{Gptc, Qptc, Vfgptc}
 use Rattle.register_file.specs.Counters.{counted, counter_of}
 use Rattle.register_file.specs.Registers.{Registers}
 use Rattle.register_file.specs.Queue.{with_head, shut}
+use Rattle.register_file.specs.Pools.{mode_in, is_pool_on}
+use Rattle.vf_map.specs.Pools.{pool_of}
+use Rattle.rx_filter.specs.Pools.{uses_pools}
 use Rattle.register_file.specs.Settings.{is_stopped, can_transmit, frame_limit, pads}
 use Rattle.register_file.specs.Sides.{TransmitQueue, transmit_queue_of}
 use Rattle.register_file.specs.declared.dir.Dir.TheVariants.{Tx}
 use Rattle.nic_device.specs.State.{State}
-use Rattle.nic_device.specs.Interrupt.{raised_by, device_raised, fault_cause}
+use Rattle.nic_device.specs.Interrupt.{function_of_queue, function_counted, raised_by, device_raised, fault_cause}
 use Rattle.nic_device.specs.Outcome.{Outcome, gives}
 use Rattle.nic_device.specs.Receive.{is_empty}
 use Rattle.nic_device.specs.declared.event.Reply.{Reply}
@@ -39,15 +42,16 @@ with_frame out queue (Some frame) = out ++ (queue, frame) ∷ []
 with_frame out queue None = out
 
 -- the registers after a slot was fetched: the head moves on, and a frame that it ends is counted
-abbrev pub slot_counted : Registers → ℕ → Fetched → Option (List ℕ) → Registers
-slot_counted r queue f (Some frame) =
-    counted (counted (with_head r Tx queue f.head) Gptc 0) Qptc (counter_of r Tx queue)
-slot_counted r queue f None = with_head r Tx queue f.head
+abbrev pub slot_counted : Registers → (vfs : ℕ) → ℕ → Fetched → Option (List ℕ) → Registers
+slot_counted r vfs queue f (Some frame) =
+    function_counted (counted (counted (with_head r Tx queue f.head) Gptc 0) Qptc (counter_of r Tx queue))
+    (function_of_queue r vfs queue) Vfgptc
+slot_counted r vfs queue f None = with_head r Tx queue f.head
 
 -- what is more: a slot that asks for a report raises its queue's transmit cause
 abbrev pub slot_reported : Registers → (vfs : ℕ) → ℕ → Fetched → Registers
 slot_reported r vfs queue f =
-    if f.rs then raised_by (slot_counted r queue f f.frame) vfs Tx queue else slot_counted r queue f f.frame
+    if f.rs then raised_by (slot_counted r vfs queue f f.frame) vfs Tx queue else slot_counted r vfs queue f f.frame
 
 -- the registers after a fault: the transmit side is off and not wanted on, and the cause of faults is raised
 abbrev pub transmit_failed : Registers → ℕ → Registers
@@ -73,13 +77,23 @@ slot_fetched s queue q =
     let fetched = fetch_of s.memory (staged_by s queue) q.ring (sending_of s.registers q) in
     slot_done s queue fetched.answer fetched.memory fetched.staged
 
--- a queue sends nothing while the device makes no steps, the link is down, sending is off, the queue is off, or no slot
--- is the device's
-abbrev pub is_silent : State → TransmitQueue → Bool
-is_silent s q = is_stopped s.registers || not s.link || not (can_transmit s.registers) || not q.on || is_empty q.ring
+-- while frames are parted among pools, a queue is muted where its pool's bit of VFTE is 0
+abbrev pub is_muted_pool : Registers → Option ℕ → Bool
+is_muted_pool r None = false
+is_muted_pool r (Some pool) = not (is_pool_on r Tx pool)
+
+unfoldable pub is_muted : Registers → ℕ → Bool
+is_muted r queue = uses_pools r && is_muted_pool r (pool_of (mode_in r) queue)
+
+-- a queue sends nothing while the device makes no steps, the link is down, sending is off, the queue is off, its pool is
+-- muted, or no slot is the device's
+abbrev pub is_silent : State → ℕ → TransmitQueue → Bool
+is_silent s queue q =
+    is_stopped s.registers || not s.link || not (can_transmit s.registers) || not q.on || is_muted s.registers queue
+    || is_empty q.ring
 
 abbrev pub queue_sent : State → ℕ → TransmitQueue → Outcome
-queue_sent s queue q = if is_silent s q then gives Idle s else slot_fetched s queue q
+queue_sent s queue q = if is_silent s queue q then gives Idle s else slot_fetched s queue q
 
 -- one step of transmitting, of a queue below 128
 abbrev pub transmitted : State → ℕ → Outcome

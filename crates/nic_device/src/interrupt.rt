@@ -1,15 +1,17 @@
 //! Interrupts: what queues and the device raise, and messages.
 
-ghost use Rattle.std.specs.Prelude.{◌≡◌, ◌<◌};
+ghost use Rattle.std.specs.Prelude.{◌≡◌, ◌<◌, IfSome};
+ghost use Rattle.reg_table.specs.Rows.{row_of};
+ghost use Rattle.reg_table.specs.declared.kind.Kind.TheVariants.{Ro};
 ghost use Rattle.register_file.specs.Groups.{index_of};
-ghost use Rattle.nic_device.specs.Interrupt.{mode_in, group_of_queue, raised_by, has_group, messaged, interrupted};
+ghost use Rattle.nic_device.specs.Interrupt.{mode_in, function_of_queue, group_of_queue, function_counted, raised_by, has_group, messaged, interrupted};
 
 use crate::engine::Engine;
 use crate::event::Reply;
 use intr_unit::Group;
 use reg_table::RowId;
 use register_file::{Dir, RegisterFile};
-use vf_map::{Mode, mode_of, queues_of};
+use vf_map::{Mode, pool_of, queues_of};
 
 /// EICR: a frame was missed for want of room.
 pub(crate) const RECEIVE_MISS: u32 = 0x0002_0000;
@@ -17,38 +19,47 @@ pub(crate) const RECEIVE_MISS: u32 = 0x0002_0000;
 /// EICR: a slot met a fault.
 pub(crate) const PCI_EXCEPTION: u32 = 0x0004_0000;
 
-/// How the queues are parted among pools.
-fn mode_in(registers: &RegisterFile) -> Mode
-    ensures { result ≡ mode_in registers.now }
-{
-    mode_of(registers.word(RowId::GcrExt, 0))
-}
-
 impl Engine {
     /// How the queues are parted among pools.
     pub(crate) fn mode(&self) -> Mode
         ensures { result ≡ mode_in self.now.registers }
     {
-        mode_in(&self.registers)
+        self.registers.mode()
+    }
+}
+
+/// The virtual function that a queue is of: that of its pool, where the device has it.
+#[tactic(auto, using(crate::proofs::Functions::few_pools), unfolding(crate::specs::Interrupt::function_of_queue))]
+pub(crate) fn function_of_queue(registers: &RegisterFile, vfs: u8, queue: u16) -> Option<u8>
+    ensures function { result ≡ function_of_queue registers.now vfs queue }
+    ensures small { IfSome result (λ v. v < 64) }
+{
+    match pool_of(registers.mode(), queue) {
+        Some(pool) if pool < vfs => Some(pool),
+        Some(_) | None => None,
     }
 }
 
 /// The group that a queue raises in.
 fn group_of_queue(registers: &RegisterFile, vfs: u8, queue: u16) -> Group
-    requires { queue < 128 }
     ensures group { result ≡ group_of_queue registers.now vfs queue }
     ensures small { index_of result < 64 }
 {
-    let each = match mode_in(registers) {
-        Mode::Off | Mode::Pools16 => return Group::Pf,
-        Mode::Pools32 => 4,
-        Mode::Pools64 => 2,
-    };
-    let pool = (queue / each) as u8;
-    if pool < vfs {
-        Group::Vf(pool)
-    } else {
-        Group::Pf
+    match function_of_queue(registers, vfs, queue) {
+        Some(v) => Group::Vf(v),
+        None => Group::Pf,
+    }
+}
+
+/// A frame of a virtual function, where there is one, is counted in a row of what is counted of functions.
+pub(crate) fn count_function(registers: &mut RegisterFile, function: Option<u8>, row: RowId)
+    requires small { IfSome function (λ v. v < 64) }
+    requires rows { (row_of row).count ≡ 64 }
+    requires counter { (row_of row).kind ≡ Ro }
+    ensures { registers.new ≡ function_counted registers.old function row }
+{
+    if let Some(v) = function {
+        registers.count_wrapping(row, u16::from(v));
     }
 }
 
@@ -87,7 +98,7 @@ impl Engine {
     {
         match group {
             Group::Pf => true,
-            Group::Vf(v) => v < self.config.vfs && queues_of(mode_in(&self.registers), v).is_some(),
+            Group::Vf(v) => v < self.config.vfs && queues_of(self.mode(), v).is_some(),
         }
     }
 }

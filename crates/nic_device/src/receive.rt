@@ -6,7 +6,7 @@ ghost use Rattle.nic_device.specs.Receive.{received, first_received, is_empty, a
 
 use crate::engine::Engine;
 use crate::event::{Reply, Why};
-use crate::interrupt::{PCI_EXCEPTION, raise_by};
+use crate::interrupt::{PCI_EXCEPTION, count_function, function_of_queue, raise_by};
 use crate::waiting::Waiting;
 use dma_ring::Ring;
 use intr_unit::Group;
@@ -87,7 +87,9 @@ fn end_piece(registers: &mut RegisterFile, vfs: u8, queue: u16, filled: &Filled)
     registers.move_head(Dir::Rx, queue, filled.head);
     if filled.end {
         let counter = registers.counter(Dir::Rx, queue);
+        let function = function_of_queue(registers, vfs, queue);
         registers.count(RowId::Qprc, counter);
+        count_function(registers, function, RowId::Vfgprc);
         raise_by(registers, vfs, Dir::Rx, queue);
     }
 }

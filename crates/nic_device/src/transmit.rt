@@ -1,20 +1,22 @@
 //! Steps of transmitting.
 
-ghost use Rattle.std.specs.Prelude.{◌≡◌, ◌≢◌, ◌<◌, false, IfOk, IfErr, OnOk, OnErr};
+ghost use Rattle.std.specs.Prelude.{◌≡◌, ◌≢◌, ◌<◌, false, IfSome, IfOk, IfErr, OnOk, OnErr};
 ghost use Rattle.std.specs.VecDeque.{deque_len, deque_capacity};
 ghost use Rattle.register_file.specs.Sides.{transmit_queue_of};
-ghost use Rattle.nic_device.specs.Transmit.{transmitted, slot_fetched, is_silent, sending_of, fetched_reply, with_frame, slot_reported, transmit_failed};
+ghost use Rattle.nic_device.specs.Transmit.{transmitted, slot_fetched, is_silent, is_muted, is_muted_pool, sending_of, fetched_reply, with_frame, slot_reported, transmit_failed};
 
 use crate::engine::Engine;
 use crate::event::{Event, OutOfMemory, Reply};
-use crate::interrupt::{PCI_EXCEPTION, raise_by};
+use crate::interrupt::{PCI_EXCEPTION, count_function, function_of_queue, raise_by};
 use crate::receive::is_empty;
 use dma_arena::Octets;
 use intr_unit::Group;
 use reg_table::RowId;
 use register_file::{Dir, QUEUES, RegisterFile};
+use rx_filter::uses_pools;
 use std::collections::VecDeque;
 use tx_ring::{Fetched, Tx, TxRefused, fetch};
+use vf_map::pool_of;
 
 impl Engine {
     /// One step of transmitting.
@@ -38,12 +40,13 @@ impl Engine {
     /// Whether a queue sends nothing as things stand.
     fn is_silent(&self, queue: u16) -> bool
         requires { queue < 128 }
-        ensures { result ≡ is_silent self.now (transmit_queue_of self.now.registers queue) }
+        ensures { result ≡ is_silent self.now queue (transmit_queue_of self.now.registers queue) }
     {
         self.registers.is_stopped()
             || !self.link
             || !self.registers.can_transmit()
             || !self.registers.is_on(Dir::Tx, queue)
+            || is_muted(&self.registers, queue)
             || is_empty(&self.registers.ring(Dir::Tx, queue))
     }
 
@@ -62,7 +65,7 @@ impl Engine {
     /// The slot at the head of a queue is fetched. Room for the frame that it may end is made first.
     fn fetch_slot(&mut self, queue: u16) -> Result<Reply, OutOfMemory<Event>>
         requires small { queue < 128 }
-        requires loud { is_silent self.old (transmit_queue_of self.old.registers queue) ≡ false }
+        requires loud { is_silent self.old queue (transmit_queue_of self.old.registers queue) ≡ false }
         ensures reply { IfOk result (λ reply. reply
             ≡ (slot_fetched self.old queue (transmit_queue_of self.old.registers queue)).reply) }
         ensures state { OnOk result (self.new
@@ -95,6 +98,25 @@ impl Engine {
     }
 }
 
+#[tactic(auto, using(crate::proofs::Functions::few_pools), unfolding(crate::specs::Transmit::is_muted))]
+/// Whether a queue's pool sends nothing: while frames are parted among pools, by its bit of VFTE.
+fn is_muted(registers: &RegisterFile, queue: u16) -> bool
+    requires { queue < 128 }
+    ensures { result ≡ is_muted registers.now queue }
+{
+    uses_pools(registers) && is_muted_pool(registers, pool_of(registers.mode(), queue))
+}
+
+fn is_muted_pool(registers: &RegisterFile, pool: Option<u8>) -> bool
+    requires { IfSome pool (λ pool. pool < 64) }
+    ensures { result ≡ is_muted_pool registers.now pool }
+{
+    match pool {
+        Some(pool) => !registers.is_pool_on(Dir::Tx, u16::from(pool)),
+        None => false,
+    }
+}
+
 /// A slot was fetched: the head moves on, a frame that goes out is counted, and a slot that asks for a report raises
 /// its queue's cause.
 fn end_slot(registers: &mut RegisterFile, vfs: u8, queue: u16, fetched: &Fetched)
@@ -102,10 +124,12 @@ fn end_slot(registers: &mut RegisterFile, vfs: u8, queue: u16, fetched: &Fetched
     ensures { registers.new ≡ slot_reported registers.old vfs queue fetched.now }
 {
     let counter = registers.counter(Dir::Tx, queue);
+    let function = function_of_queue(registers, vfs, queue);
     registers.move_head(Dir::Tx, queue, fetched.head);
     if fetched.frame.is_some() {
         registers.count(RowId::Gptc, 0);
         registers.count(RowId::Qptc, counter);
+        count_function(registers, function, RowId::Vfgptc);
     }
     if fetched.rs {
         raise_by(registers, vfs, Dir::Tx, queue);

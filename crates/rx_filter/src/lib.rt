@@ -20,6 +20,7 @@ pub use laws::{
     off_pools_get_none, pool_is_the_lowest_of_the_first_match, queue_is_by_the_mode,
     reset_refuses_all, single_queue_is_queue_0, unicast_is_let_in,
 };
+pub use pools::uses_pools;
 pub use sorting::sort;
 pub use target::Target;
 pub use unwanted::Unwanted;

@@ -30,8 +30,8 @@ pub(crate) fn chosen_pool(registers: &RegisterFile, frame: &[u8]) -> Result<u16,
     }
 }
 
-/// Whether frames are parted among pools.
-fn uses_pools(registers: &RegisterFile) -> bool
+/// Whether frames are parted among pools: VT_CTL bit 0.
+pub fn uses_pools(registers: &RegisterFile) -> bool
     ensures { result ≡ uses_pools registers.now }
 {
     has_bit(VT_ENA, registers.word(RowId::VtCtl, 0))

@@ -1,0 +1,153 @@
+-- An access of a virtual function changes nothing but what is its pool's.
+use Rattle.std.proofs.Common.{◌≡◌, ◌≢◌, ℕ, true, false, refl, ap, sym, ◌∙◌, subst, inl, inr}
+use Rattle.std.proofs.lemmas.Bool.{cond_both, cond-false, eqb-true}
+use Rattle.reg_table.specs.Rows.{row_of}
+use Rattle.reg_table.specs.declared.place.Place.{Place}
+use Rattle.reg_table.specs.declared.rows.RowId.{RowId}
+use Rattle.reg_table.specs.declared.rows.RowId.TheVariants as row
+use Rattle.vf_map.specs.Map.{located}
+use Rattle.vf_map.specs.Owner.{is_of_pool, is_of_pool_by, is_shared}
+use Rattle.vf_map.specs.declared.located.Located.{Located}
+use Rattle.vf_map.specs.declared.located.Located.TheVariants as located_as
+use Rattle.vf_map.specs.declared.mode.Mode.{Mode}
+use Rattle.vf_map.proofs.Owners.{located_owner}
+use Rattle.register_file.specs.Access.{after_read, asks_reset, asks_pool_reset}
+use Rattle.register_file.specs.Laws.{after_write as word_written}
+use Rattle.register_file.specs.Footprint.{ChangesWithin, of_pool, of_read, of_write}
+use Rattle.register_file.specs.Pools.{mode_in}
+use Rattle.register_file.specs.Registers.{Registers}
+use Rattle.register_file.proofs.Footprints.{within-refl, within-wider}
+use Rattle.register_file.proofs.PoolPlaces.{covers-read, covers-write, shared_rows, shared-read, shared-written}
+use Rattle.register_file.proofs.Within.{within-after_read, within-written}
+use Rattle.nic_device.specs.Access.{named_read, named_written, state_written}
+use Rattle.nic_device.specs.Eeprom.{reset}
+use Rattle.nic_device.specs.Named.{at_location}
+use Rattle.nic_device.specs.PoolReset.{with_pool_reset, written_below_reset}
+use Rattle.nic_device.specs.State.{State}
+use Rattle.nic_device.specs.Step.{step_of}
+use Rattle.nic_device.proofs.PoolReset.{pool_reset_stays}
+use Rattle.device_laws.specs.Pool.{ChangesPoolAlone, VfChangesItsPoolAlone}
+use Rattle.device_laws.proofs.PoolParts.{others_again}
+use Rattle.device_laws.proofs.Settings.{no_reset}
+
+-- what a virtual function reaches is its pool's, or shared
+pub data IsReached (mode : Mode) (v : ℕ) (p : Place) : Type 0 where
+  own : is_of_pool mode v p ≡ true → IsReached mode v p
+  shared : is_shared p ≡ true → IsReached mode v p
+
+pub reached : (mode : Mode) (vfs v o : ℕ) (p : Place) → located mode vfs v o ≡ located_as.Register p → IsReached mode v p
+reached mode vfs v o p e =
+    elim (located_owner mode vfs v o p e) [
+      | inl is ↦ own is
+      | inr is ↦ shared is
+    ]
+
+-- it isn't CTRL
+pub no_control : (mode : Mode) (v : ℕ) (p : Place) → IsReached mode v p → p.row ≢ row.Ctrl
+no_control mode v p (own is) e =
+    let none : is_of_pool mode v p ≡ false = ap (λ r. is_of_pool_by (row_of r).bank mode v p.index) e in cc
+no_control mode v p (shared is) e = shared_rows (λ r. r ≢ row.Ctrl) (λ e. cc) (λ e. cc) p is e
+
+pub below_reset : (s : State) (mode : Mode) (v : ℕ) (p : Place) (view word : ℕ) → IsReached mode v p
+    → state_written s p view word ≡ written_below_reset s p view word
+below_reset s mode v p view word is =
+    cond-false (asks_reset (row_of p.row).kind word) (reset s) (written_below_reset s p view word)
+    (no_reset p.row word (no_control mode v p is))
+
+-- a reset that it asks for is of its own pool
+
+only_control : (r : RowId) (word : ℕ) → asks_pool_reset (row_of r).kind word ≡ true → r ≡ row.Pvfctrl
+only_control row.Pvfctrl word e = refl
+only_control other word e = cc
+
+pub own_reset : (mode : Mode) (v : ℕ) (p : Place) (word : ℕ) → IsReached mode v p
+    → asks_pool_reset (row_of p.row).kind word ≡ true → p.index ≡ v
+own_reset mode v p word (own is) asks =
+    let here = ap (λ r. is_of_pool_by (row_of r).bank mode v p.index) (only_control p.row word asks) in
+    eqb-true p.index v (sym here ∙ is)
+own_reset mode v p word (shared is) asks =
+    absurd (shared_rows (λ r. r ≢ row.Pvfctrl) (λ e. cc) (λ e. cc) p is (only_control p.row word asks))
+
+-- what changes
+
+alone_registers : (s : State) (v : ℕ) (r : Registers) → ChangesWithin (of_pool (mode_in s.registers) v) s.registers r
+    → ChangesPoolAlone v s (record s { registers = r })
+alone_registers s v r within = record {
+  registers = within;
+  staged = λ queue no. refl;
+  waiting = refl;
+  memory = refl;
+  out = refl;
+  link = refl;
+  image = refl;
+  vfs = refl;
+  fifo = refl;
+}
+
+alone_still : (s : State) (v : ℕ) → ChangesPoolAlone v s s
+alone_still s v = alone_registers s v s.registers (within-refl (of_pool (mode_in s.registers) v) s.registers)
+
+pub alone_reset : (s : State) (v : ℕ) → ChangesPoolAlone v s (with_pool_reset s v)
+alone_reset s v =
+    let stays = pool_reset_stays s v in
+    record {
+      registers = stays.registers;
+      staged = stays.staged;
+      waiting = others_again (mode_in s.registers) v s.waiting;
+      memory = refl;
+      out = refl;
+      link = refl;
+      image = refl;
+      vfs = refl;
+      fifo = refl;
+    }
+
+within_read : (s : State) (v : ℕ) (p : Place) → IsReached (mode_in s.registers) v p
+    → ChangesWithin (of_pool (mode_in s.registers) v) s.registers (after_read (row_of p.row).kind s.registers p)
+within_read s v p (own is) =
+    let mode = mode_in s.registers in
+    within-wider (of_pool mode v) (of_read p) s.registers _ (covers-read mode v p is) (within-after_read s.registers p)
+within_read s v p (shared is) =
+    let pool = of_pool (mode_in s.registers) v in
+    subst (ChangesWithin pool s.registers) (sym (shared-read s.registers p is)) (within-refl pool s.registers)
+
+within_write : (s : State) (v : ℕ) (p : Place) (view word : ℕ) → IsReached (mode_in s.registers) v p
+    → ChangesWithin (of_pool (mode_in s.registers) v) s.registers (word_written s.registers p view word)
+within_write s v p view word (own is) =
+    let mode = mode_in s.registers in
+    within-wider (of_pool mode v) (of_write p) s.registers _ (covers-write mode v p is)
+    (within-written s.registers p view word)
+within_write s v p view word (shared is) =
+    let pool = of_pool (mode_in s.registers) v in
+    subst (ChangesWithin pool s.registers) (sym (shared-written s.registers p view word is))
+    (within-refl pool s.registers)
+
+read_alone : (s : State) (v o : ℕ) (m : Located) → located (mode_in s.registers) s.vfs v o ≡ m
+    → ChangesPoolAlone v s (named_read s (at_location m)).state
+read_alone s v o located_as.Absent e = alone_still s v
+read_alone s v o located_as.Hole e = alone_still s v
+read_alone s v o (located_as.Register p) e =
+    alone_registers s v _ (within_read s v p (reached (mode_in s.registers) s.vfs v o p e))
+
+place_alone : (s : State) (v : ℕ) (p : Place) (view word : ℕ) → IsReached (mode_in s.registers) v p
+    → ChangesPoolAlone v s (state_written s p view word)
+place_alone s v p view word is =
+    subst (ChangesPoolAlone v s) (sym (below_reset s (mode_in s.registers) v p view word is))
+    (cond_both (asks_pool_reset (row_of p.row).kind word) (with_pool_reset s p.index) _ (ChangesPoolAlone v s)
+    (λ asks. subst (λ i. ChangesPoolAlone v s (with_pool_reset s i))
+    (sym (own_reset (mode_in s.registers) v p word is asks)) (alone_reset s v))
+    (λ plain. alone_registers s v _ (within_write s v p view word is)))
+
+write_alone : (s : State) (v o word : ℕ) (m : Located) → located (mode_in s.registers) s.vfs v o ≡ m
+    → ChangesPoolAlone v s (named_written s (at_location m) word).state
+write_alone s v o word located_as.Absent e = alone_still s v
+write_alone s v o word located_as.Hole e = alone_still s v
+write_alone s v o word (located_as.Register p) e =
+    place_alone s v p 0xFFFFFFFF word (reached (mode_in s.registers) s.vfs v o p e)
+
+pub changes_alone : VfChangesItsPoolAlone
+unfolding step_of
+changes_alone s v o = record {
+  read = read_alone s v o (located (mode_in s.registers) s.vfs v o) refl;
+  write = λ word. write_alone s v o word (located (mode_in s.registers) s.vfs v o) refl;
+}

@@ -1,0 +1,88 @@
+-- What of the device is a virtual function's: its pool, and no more.
+use Rattle.std.specs.Prelude.{ℕ, ◌≡◌, IsTrue, IsFalse, List, [], filter}
+use Rattle.reg_table.specs.Rows.{row_of}
+use Rattle.reg_table.specs.declared.place.Place.{Place}
+use Rattle.reg_table.specs.declared.rows.RowId.TheVariants.{GcrExt}
+use Rattle.vf_map.specs.Owner.{has_queue}
+use Rattle.vf_map.specs.declared.mode.Mode.{Mode}
+use Rattle.register_file.specs.Access.{asks_pool_reset}
+use Rattle.register_file.specs.Footprint.{ChangesWithin, AgreeWithin, of_pool}
+use Rattle.register_file.specs.Pools.{mode_in}
+use Rattle.register_file.specs.PoolLaws.{IsResetAt}
+use Rattle.register_file.specs.Registers.{word_of}
+use Rattle.register_file.specs.Settings.{is_stopped}
+use Rattle.nic_device.specs.Named.{named}
+use Rattle.nic_device.specs.PoolReset.{others_waiting}
+use Rattle.nic_device.specs.Sound.{IsSound}
+use Rattle.nic_device.specs.State.{State, Waiting}
+use Rattle.nic_device.specs.Step.{after, reply_to}
+use Rattle.nic_device.specs.Transmit.{staged_by}
+use Rattle.nic_device.specs.declared.event.Event.TheVariants as event
+use Rattle.nic_device.specs.declared.event.Port.{Port}
+use Rattle.nic_device.specs.declared.event.Port.TheVariants.{Vf}
+use Rattle.nic_device.specs.declared.named.Named.TheVariants.{Register}
+
+-- the frames that wait for a pool's queues, in their order
+abbrev pub waiting_of : Mode → ℕ → List Waiting → List Waiting
+waiting_of mode v waiting = filter (λ w. has_queue mode v w.queue) waiting
+
+-- all but what is the pool's is as it was: words, wanted enables and told bits, staged bytes, and of the frames that wait
+-- those of other queues, in their order; and memory, frames out, link, image and configuration
+pub record ChangesPoolAlone (v : ℕ) (old new : State) : Type 0 where
+  pub registers : ChangesWithin (of_pool (mode_in old.registers) v) old.registers new.registers
+  pub staged : (queue : ℕ) → IsFalse (has_queue (mode_in old.registers) v queue)
+      → staged_by new queue ≡ staged_by old queue
+  pub waiting : others_waiting (mode_in old.registers) v new.waiting
+      ≡ others_waiting (mode_in old.registers) v old.waiting
+  pub memory : new.memory ≡ old.memory
+  pub out : new.out ≡ old.out
+  pub link : new.link ≡ old.link
+  pub image : new.image ≡ old.image
+  pub vfs : new.vfs ≡ old.vfs
+  pub fifo : new.fifo ≡ old.fifo
+
+-- an access of a virtual function changes nothing but what is its pool's
+pub record AccessesChangePoolAlone (s : State) (v offset : ℕ) : Type 0 where
+  pub read : ChangesPoolAlone v s (after s (event.Read (Vf v) offset))
+  pub write : (word : ℕ) → ChangesPoolAlone v s (after s (event.Write (Vf v) offset word))
+
+abbrev pub VfChangesItsPoolAlone : Type 0
+VfChangesItsPoolAlone = (s : State) (v offset : ℕ) → AccessesChangePoolAlone s v offset
+
+-- two states agree on a pool: of what is the pool's, and in the number of virtual functions, in GCR_EXT, in whether the
+-- device makes steps, and in the link
+pub record AgreeOnPool (v : ℕ) (a b : State) : Type 0 where
+  pub vfs : a.vfs ≡ b.vfs
+  pub mode : word_of a.registers GcrExt 0 ≡ word_of b.registers GcrExt 0
+  pub steps : is_stopped a.registers ≡ is_stopped b.registers
+  pub link : a.link ≡ b.link
+  pub registers : AgreeWithin (of_pool (mode_in a.registers) v) a.registers b.registers
+  pub staged : (queue : ℕ) → IsTrue (has_queue (mode_in a.registers) v queue) → staged_by a queue ≡ staged_by b queue
+  pub waiting : waiting_of (mode_in a.registers) v a.waiting ≡ waiting_of (mode_in a.registers) v b.waiting
+
+-- each access of a virtual function has one reply in both, and they agree again after it
+pub record AccessesAgree (v : ℕ) (a b : State) (offset : ℕ) : Type 0 where
+  pub read_reply : reply_to a (event.Read (Vf v) offset) ≡ reply_to b (event.Read (Vf v) offset)
+  pub read : AgreeOnPool v (after a (event.Read (Vf v) offset)) (after b (event.Read (Vf v) offset))
+  pub write_reply : (word : ℕ) → reply_to a (event.Write (Vf v) offset word) ≡ reply_to b (event.Write (Vf v) offset word)
+  pub write : (word : ℕ) → AgreeOnPool v (after a (event.Write (Vf v) offset word))
+      (after b (event.Write (Vf v) offset word))
+
+abbrev pub VfSeesItsPoolAlone : Type 0
+VfSeesItsPoolAlone =
+    (v : ℕ) (a b : State) → IsSound a → IsSound b → AgreeOnPool v a b → (offset : ℕ) → AccessesAgree v a b offset
+
+-- a pool after its reset: its words, wanted enables and told bits are as a reset leaves them, its queues have no staged
+-- bytes, and of the frames that wait those of other queues are left, in their order
+pub record IsPoolReset (v : ℕ) (old new : State) : Type 0 where
+  pub alone : ChangesPoolAlone v old new
+  pub registers : IsResetAt (of_pool (mode_in old.registers) v) new.registers
+  pub staged : (queue : ℕ) → IsTrue (has_queue (mode_in old.registers) v queue) → staged_by new queue ≡ []
+  pub waiting : new.waiting ≡ others_waiting (mode_in old.registers) v old.waiting
+
+-- a write that asks for it, by whichever port, resets the pool with the register's index, and does nothing else
+abbrev pub AskedPoolResetResets : Type 0
+AskedPoolResetResets =
+    (s : State) → IsSound s → (port : Port) (number word : ℕ) (p : Place) (view : ℕ) →
+    named s port number ≡ Register p view → IsTrue (asks_pool_reset (row_of p.row).kind word) →
+    IsPoolReset p.index s (after s (event.Write port number word))

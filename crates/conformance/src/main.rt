@@ -25,7 +25,7 @@ use std::fmt::Write;
 use std::{fs, io};
 
 /// The tables.
-const TABLES: [&str; 14] = [
+const TABLES: [&str; 15] = [
     "grammar",
     "words",
     "registers",
@@ -40,6 +40,7 @@ const TABLES: [&str; 14] = [
     "counters",
     "interrupts",
     "hash",
+    "eeprom",
 ];
 
 /// What a case is to end with.

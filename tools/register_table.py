@@ -64,6 +64,8 @@ BANKS = {
     "Interrupts": "interrupts",
     "VfInterrupts": "interrupts of a function",
     "Pool": "pool",
+    "VfCounters": "counters of a function",
+    "Vectors": "vectors of queues",
 }
 
 # name, meaning, kind, bank, addresses (the first run of an index is its first address), mask, reset value
@@ -72,6 +74,7 @@ TABLE = [
     Row("STATUS", "Device status", "Calc", "Device", one(0x00008)),
     Row("CTRL_EXT", "Extended device control", "Rw", "Device", one(0x00018)),
     Row("LEDCTL", "LED control", "Rw", "Device", one(0x00200)),
+    Row("PVFCTRL", "Control of a virtual function", "Vreset", "Pool", array(0x00300, 64)),
     Row("EICR", "Extended interrupt cause", "Cause", "Interrupts", one(0x00800), mask=0x7FFF_FFFF),
     Row("EICS", "Extended interrupt cause set", "Set", "Interrupts", one(0x00808) + low(0x00A90)),
     Row("EIAC", "Extended interrupt auto clear", "Rw", "Interrupts", one(0x00810), mask=0x7FFF_FFFF),
@@ -95,6 +98,7 @@ TABLE = [
     Row("SRRCTL", "Split receive control of a queue", "Rw", "Receive", receive(0x14) + array(0x02100, 16), reset=0x0000_0402),
     Row("RDT", "Receive descriptor tail", "Rw", "Receive", receive(0x18), mask=0x0000_FFFF),
     Row("RXDCTL", "Receive descriptor control", "Enable", "Receive", receive(0x28), mask=0xFDFF_FFFF),
+    Row("VFGPRC", "Good frames received by a virtual function", "Ro", "VfCounters", array(0x0101C, 64, 0x40)),
     Row("QPRC", "Frames received, in one of 16 counters of queues", "Rc", "Counters", array(0x01030, 16, 0x40)),
     Row("QPRDC", "Frames dropped for want of a slot, in one of 16 counters of queues", "Rc", "Counters", array(0x01430, 16, 0x40)),
     Row("RQSMR", "Receive queue statistics mapping", "Rw", "Device", array(0x02300, 32)),
@@ -132,11 +136,14 @@ TABLE = [
     Row("TDWBAH", "Transmit head write-back address, high part", "Rw", "Transmit", transmit(0x3C)),
     Row("QPTC", "Frames transmitted, in one of 16 counters of queues", "Rc", "Counters", array(0x06030, 16, 0x40)),
     Row("MTQC", "Multiple transmit queues command", "Rw", "Device", one(0x08120)),
+    Row("VFGPTC", "Good frames transmitted by a virtual function", "Ro", "VfCounters", array(0x08300, 64)),
     Row("TQSM", "Transmit queue statistics mapping", "Rw", "Device", array(0x08600, 32)),
     Row("MPSAR", "Pool select of the receive addresses", "Rw", "Device", array(0x0A600, 256)),
     Row("PSRTYPE", "Packet split receive type of a pool", "Rw", "Pool", array(0x0EA00, 64) + array(0x05480, 16)),
+    Row("EEC", "EEPROM control and size", "Calc", "Device", one(0x10010)),
+    Row("EERD", "EEPROM read", "Eerd", "Device", one(0x10014)),
     Row("GCR_EXT", "Extended PCIe control", "Rw", "Device", one(0x11050)),
-    Row("PVTIVAR", "Interrupt vector allocation of a virtual function", "Rw", "Device", array(0x12500, 64)),
+    Row("PVTIVAR", "Interrupt vector allocation of a virtual function", "Rw", "Vectors", array(0x12500, 64)),
 ]
 
 

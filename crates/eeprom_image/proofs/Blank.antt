@@ -1,9 +1,11 @@
 -- The blank image is that of a text that gives a size alone.
-use Rattle.std.proofs.Common.{refl, arith, replicate, slice_set}
+use Rattle.std.proofs.Common.{◌≡◌, [], refl, arith, replicate, slice_set}
 use Rattle.eeprom_image.specs.Section.{pointers}
 use Rattle.eeprom_image.specs.Content.{IsContent, only_size}
 use Rattle.eeprom_image.specs.Fault.{content_fault, points_inside}
+use Rattle.eeprom_image.specs.Image.{IsImage, blank}
 use Rattle.eeprom_image.specs.Text.{IsImageOf}
+use Rattle.eeprom_image.specs.Triples.{triples_of}
 use Rattle.eeprom_image.proofs.Layouts.{IsLaidOut-put}
 use Rattle.eeprom_image.proofs.Unique.{image_of_laid_out}
 
@@ -15,3 +17,10 @@ unfolding pointers content_fault points_inside
 blank_of_size =
     let laid = IsLaidOut-put (only_size 64) (omega arith) (omega arith) in
     image_of_laid_out (only_size 64) _ right refl laid
+
+-- the blank image is one, and has no register writes
+pub IsImage-blank : IsImage blank
+IsImage-blank = blank_of_size.image
+
+pub triples_of-blank : triples_of blank ≡ []
+triples_of-blank = refl

@@ -1,15 +1,13 @@
 -- A file without a fault is an image's, and an image's file has none.
-use Rattle.std.proofs.Common.{◌≡◌, ℕ, ◌/◌, ◌%◌, ◌<◌, ◌==◌, Bool, true, false, not, cond, List, length, get_or, Option, Some, None, refl, sym, ap, ◌∙◌, arith, slice_set, replicate}
+use Rattle.std.proofs.Common.{◌≡◌, ℕ, ◌/◌, ◌%◌, ◌<◌, ◌==◌, Bool, true, false, not, cond, List, length, get_or, Option, Some, None, refl, sym, ap, ◌∙◌, arith}
 use Rattle.std.proofs.lemmas.Bool.{eqb-true}
 use Rattle.eeprom_image.specs.Bytes.{words_of, bytes_of}
-use Rattle.eeprom_image.specs.Section.{pointers}
 use Rattle.eeprom_image.specs.Checksum.{is_checked}
 use Rattle.eeprom_image.specs.Triples.{has_whole_triples}
 use Rattle.eeprom_image.specs.Image.{IsImage, is_size, are_inside}
 use Rattle.eeprom_image.specs.File.{file_fault, words_fault}
 use Rattle.eeprom_image.specs.declared.file.LoadFault.{LoadFault}
 use Rattle.eeprom_image.proofs.FileBytes.{length-words_of, length-bytes_of, words_of-bytes_of, bytes_of-words_of, words_of-fit}
-use Rattle.eeprom_image.proofs.Sections.{word_at-fits}
 
 passed : (b : Bool) (fault : LoadFault) (rest : Option LoadFault) → cond (not b) (Some fault) rest ≡ None → (b ≡ true) × (rest ≡ None)
 passed true fault rest h = (refl, h)

@@ -11,3 +11,4 @@ pub mod Contents
 pub mod Images
 pub mod Unique
 pub mod Blank
+pub mod TripleLists

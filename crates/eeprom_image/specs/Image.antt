@@ -1,5 +1,5 @@
 -- What words are an image.
-use Rattle.std.specs.Prelude.{ℕ, ◌*◌, ◌^◌, ◌<◌, ◌==◌, Bool, IsTrue, List, [], ◌∷◌, length}
+use Rattle.std.specs.Prelude.{ℕ, ◌*◌, ◌^◌, ◌<◌, ◌==◌, nat_le, Bool, IsTrue, List, [], ◌∷◌, ◌++◌, length, filter, replicate}
 use Rattle.std.specs.List.{list_any, list_all}
 use Rattle.eeprom_image.specs.Bytes.{word_at}
 use Rattle.eeprom_image.specs.Section.{is_inside, pointers}
@@ -13,6 +13,14 @@ is_size count = list_any (λ s. count == 64 * 2 ^ s) (0 ∷ 1 ∷ 2 ∷ 3 ∷ 4 
 -- each pointer and its section are in the image
 abbrev pub are_inside : List ℕ → Bool
 are_inside words = list_all (is_inside words) (pointers words)
+
+-- how often 64 is doubled to give a number of words: as often as it can be without giving more
+abbrev pub doublings : ℕ → ℕ
+doublings count = length (filter (λ s. nat_le (64 * 2 ^ s) count) (1 ∷ 2 ∷ 3 ∷ 4 ∷ 5 ∷ 6 ∷ 7 ∷ 8 ∷ []))
+
+-- the blank image: nothing is given but the checksum
+abbrev pub blank : List ℕ
+blank = replicate 63 0xFFFF ++ 0xBAF9 ∷ []
 
 pub record IsImage (words : List ℕ) : Type 0 where
   pub size : IsTrue (is_size (length words))

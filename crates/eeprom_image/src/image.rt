@@ -1,9 +1,10 @@
 //! Images.
 
-ghost use Rattle.std.specs.Prelude.{◌≡◌, ◌++◌, ◌∷◌, [], replicate, IfOk};
+ghost use Rattle.std.specs.Prelude.{◌≡◌, ◌*◌, ◌^◌, ◌<◌, ◌≤◌, length, slice_get, IfOk};
 ghost use Rattle.eeprom_image.specs.Bytes.{word_at, bytes_of};
+ghost use Rattle.eeprom_image.specs.Section.{section_at};
 ghost use Rattle.eeprom_image.specs.Triples.{triples_of};
-ghost use Rattle.eeprom_image.specs.Image.{is_size, IsImage};
+ghost use Rattle.eeprom_image.specs.Image.{is_size, doublings, blank, IsImage};
 ghost use Rattle.eeprom_image.specs.Content.{only_size};
 ghost use Rattle.eeprom_image.specs.Text.{IsImageOf};
 
@@ -53,7 +54,7 @@ impl Image {
 
     /// The blank image, which the text `size 64` means: 63 words 0xFFFF, and the checksum behind them.
     pub fn blank(alloc: Global) -> Result<Image, AllocError>
-        ensures words { IfOk result (λ image. image ≡ replicate 63 0xFFFF ++ 0xBAF9 ∷ []) }
+        ensures words { IfOk result (λ image. image ≡ blank) }
         ensures meant { IfOk result (λ image. IsImageOf (only_size 64) image) }
     {
         let mut words = vec![in alloc; 0xFFFF; 64]?;
@@ -76,11 +77,56 @@ impl Image {
         self.words.as_slice().word(index)
     }
 
+    /// How often 64 words are doubled to give the image's: s, 0 to 8, where it has 64 * 2^s.
+    pub fn doublings(&self) -> u8
+        ensures doublings { result ≡ doublings (length self.now) }
+        ensures words { length self.now ≡ 64 * 2 ^ result }
+        ensures range { result ≤ 8 }
+    {
+        match self.words.len() {
+            64 => 0,
+            128 => 1,
+            256 => 2,
+            512 => 3,
+            1024 => 4,
+            2048 => 5,
+            4096 => 6,
+            8192 => 7,
+            _ => 8,
+        }
+    }
+
     /// The register writes of the CSR section, in order. There are none where word 0x0D is unused.
     pub fn triples(&self) -> Triples<'_>
         ensures { result ≡ triples_of self.now }
     {
-        Triples::of(section(&self.words, self.word(CSR_POINTER)))
+        Triples::of(self.csr_section())
+    }
+
+    /// How many register writes there are.
+    pub fn triple_count(&self) -> usize
+        ensures { result ≡ length (triples_of self.now) }
+    {
+        self.csr_section().len() / 3
+    }
+
+    /// The register write of an index: the register's byte offset, and the data. `None` behind the last.
+    pub fn triple(&self, index: usize) -> Option<(u32, u32)>
+        ensures { result ≡ slice_get (triples_of self.now) index }
+    {
+        let words = self.csr_section();
+        if index < words.len() / 3 {
+            Triples::of(&words[3 * index..]).next()
+        } else {
+            None
+        }
+    }
+
+    /// The words of the CSR section behind its first one.
+    fn csr_section(&self) -> &[u16]
+        ensures { result.now ≡ section_at self.now (word_at self.now 13) }
+    {
+        section(&self.words, self.word(CSR_POINTER))
     }
 
     /// The file of the image: the words in order, of each the low byte first. Loading it gives the

@@ -1,81 +1,92 @@
 -- Register accesses: where they lead.
-use Rattle.std.proofs.Common.{◌≡◌, ℕ, true, [], refl, arith, Option, Some, None}
+use Rattle.std.proofs.Common.{ap, ◌≡◌, ℕ, cond, true, refl}
 use Rattle.std.proofs.lemmas.Bool.{cond_both}
-use Rattle.reg_table.specs.Place.{place_among}
 use Rattle.reg_table.specs.Rows.{row_of}
-use Rattle.reg_table.specs.Runs.{runs}
 use Rattle.reg_table.specs.declared.place.Place.{Place}
-use Rattle.register_file.specs.Access.{asks_reset, after_read}
+use Rattle.register_file.specs.Access.{asks_reset, asks_pool_reset, after_read}
+use Rattle.register_file.specs.Pools.{mode_in}
 use Rattle.register_file.specs.Laws.{after_write}
-use Rattle.register_file.specs.Registers.{reset_registers}
-use Rattle.register_file.proofs.Sound.{sound-after_read, sound-written, sound-reset}
+use Rattle.register_file.proofs.Sound.{sound-after_read, sound-written}
 use Rattle.register_file.proofs.Within.{within-after_read, within-written}
-use Rattle.nic_device.specs.Access.{place_read, place_written}
+use Rattle.nic_device.specs.Access.{named_read, named_written}
+use Rattle.nic_device.specs.Named.{named}
 use Rattle.nic_device.specs.Footprint.{read_reach, write_reach, StaysWithin}
 use Rattle.nic_device.specs.Outcome.{Outcome, gives}
-use Rattle.nic_device.specs.Sound.{IsSound}
-use Rattle.nic_device.specs.State.{State, reset}
-use Rattle.nic_device.proofs.Keeping.{sound-registers, sound-waiting, sound-staged, stays-registers, AreStaged-none}
+use Rattle.nic_device.specs.PoolReset.{with_pool_reset}
+use Rattle.nic_device.proofs.PoolReset.{pool_reset_sound, pool_reset_stays}
+use Rattle.nic_device.specs.Eeprom.{reset}
+use Rattle.nic_device.specs.State.{State}
+use Rattle.nic_device.proofs.Triples.{reset_sound, reset_leaves}
+use Rattle.dma_arena.specs.Memory.{Memory, has_block}
+use Rattle.std.specs.FinMap as map
+use Rattle.nic_device.proofs.Keeping.{sound-registers, stays-registers}
 use Rattle.nic_device.proofs.Leads.{Leads, leads-still}
 use Rattle.nic_device.specs.declared.event.Event.TheVariants as event
-use Rattle.nic_device.specs.declared.event.Port.TheVariants.{Pf}
+use Rattle.nic_device.specs.declared.event.Port.{Port}
+use Rattle.nic_device.specs.declared.named.Named.{Named}
+use Rattle.nic_device.specs.declared.named.Named.TheVariants.{Nothing, Register}
 use Rattle.nic_device.specs.declared.event.Reply.TheVariants.{Stray, Done}
 
 -- a read and a write of a place, or of none
 
-pub read_leads : (s : State) (a : ℕ) (o : Option Place) (view : ℕ)
-    → ((r : Outcome) → StaysWithin (read_reach o) s r.state → StaysWithin (read_reach (place_among runs a)) s r.state)
-    → Leads s (event.Read Pf a) (place_read s o view)
-read_leads s a None view here = leads-still s (event.Read Pf a) (Stray 0) (λ no. refl)
-read_leads s a (Some p) view here =
+pub read_leads : (s : State) (port : Port) (n : ℕ) (m : Named)
+    → ((r : Outcome) → StaysWithin (read_reach m) s r.state → StaysWithin (read_reach (named s port n)) s r.state)
+    → Leads s (event.Read port n) (named_read s m)
+read_leads s port n (Nothing seen) here = leads-still s (event.Read port n) (Stray seen) (λ no. refl)
+read_leads s port n (Register p view) here =
     let r = after_read (row_of p.row).kind s.registers p in
     record {
       sound = λ h is. sound-registers s r h (sound-after_read s.registers p h.registers);
-      stays = here (place_read s (Some p) view)
-          (stays-registers (read_reach (Some p)) s r (within-after_read s.registers p));
+      stays = here (named_read s (Register p view))
+          (stays-registers (read_reach (Register p view)) s r (within-after_read s.registers p));
       hands = λ no. refl;
       faults = λ no. refl;
     }
 
--- a reset
-reset_sound : (s : State) → IsSound s → IsSound (reset s)
-reset_sound s h =
-    sound-registers (record s { waiting = []; staged = _ }) reset_registers
-    (sound-staged (record s { waiting = [] }) _ (sound-waiting s [] h tt (omega arith)) AreStaged-none) sound-reset
-
-reset_stays : (s : State) (p : Place) (word : ℕ) → asks_reset (row_of p.row).kind word ≡ true
-    → StaysWithin (write_reach (Some p) word) s (reset s)
-reset_stays s p word asks = rw asks (record {
+reset_stays : (s : State) (p : Place) (view word : ℕ) → asks_reset (row_of p.row).kind word ≡ true
+    → StaysWithin (write_reach (mode_in s.registers) (Register p view) word) s (reset s)
+reset_stays s p view word asks = rw asks (record {
   registers = record { words = λ q no. cc; wanted = λ dir queue no. cc; told = λ g no. cc };
-  blocks = λ n no. refl;
-  lent = λ n no. refl;
+  blocks = λ n no. ap (λ (m : Memory). map.get m n) (reset_leaves s).memory;
+  lent = λ n no. ap (λ (m : Memory). has_block m n) (reset_leaves s).memory;
   staged = λ queue no. cc;
   waiting = λ no. cc;
-  out = λ no. refl;
-  link = λ no. refl;
-  vfs = refl;
-  fifo = refl;
+  out = λ no. (reset_leaves s).out;
+  link = λ no. (reset_leaves s).link;
+  image = (reset_leaves s).image;
+  vfs = (reset_leaves s).vfs;
+  fifo = (reset_leaves s).fifo;
 })
 
-pub write_leads : (s : State) (a word : ℕ) (o : Option Place) (view : ℕ)
-    → ((r : Outcome) → StaysWithin (write_reach o word) s r.state
-    → StaysWithin (write_reach (place_among runs a) word) s r.state)
-    → Leads s (event.Write Pf a word) (place_written s o view word)
-write_leads s a word None view here = leads-still s (event.Write Pf a word) (Stray 0) (λ no. refl)
-write_leads s a word (Some p) view here =
+pub write_leads : (s : State) (port : Port) (n word : ℕ) (m : Named)
+    → ((r : Outcome) → StaysWithin (write_reach (mode_in s.registers) m word) s r.state
+    → StaysWithin (write_reach (mode_in s.registers) (named s port n) word) s r.state)
+    → Leads s (event.Write port n word) (named_written s m word)
+write_leads s port n word (Nothing seen) here = leads-still s (event.Write port n word) (Stray 0) (λ no. refl)
+write_leads s port n word (Register p view) here =
     let r = after_write s.registers p view word in
-    cond_both (asks_reset (row_of p.row).kind word) (reset s) (record s { registers = r })
-    (λ (t : State). Leads s (event.Write Pf a word) (gives Done t))
+    let pool = with_pool_reset s p.index in
+    let asked = asks_pool_reset (row_of p.row).kind word in
+    let P : State → Type 0 = λ t. Leads s (event.Write port n word) (gives Done t) in
+    let reach = write_reach (mode_in s.registers) (Register p view) word in
+    cond_both (asks_reset (row_of p.row).kind word) (reset s) (cond asked pool (record s { registers = r })) P
     (λ asks. record {
       sound = λ h is. reset_sound s h;
-      stays = here (gives Done (reset s)) (reset_stays s p word asks);
+      stays = here (gives Done (reset s)) (reset_stays s p view word asks);
+      hands = λ no. refl;
+      faults = λ no. (reset_leaves s).memory;
+    })
+    (λ none. cond_both asked pool (record s { registers = r }) P
+    (λ asks. record {
+      sound = λ h is. pool_reset_sound s p.index h;
+      stays = here (gives Done pool) (rw (none, asks) (pool_reset_stays s p.index));
       hands = λ no. refl;
       faults = λ no. refl;
     })
-    (λ none. record {
-      sound = λ h is. sound-registers s r h (sound-written s.registers p view word h.registers is.1);
+    (λ plain. record {
+      sound = λ h is. sound-registers s r h (sound-written s.registers p view word h.registers is.2);
       stays = here (gives Done (record s { registers = r }))
-          (stays-registers (write_reach (Some p) word) s r (rw none (within-written s.registers p view word)));
+          (stays-registers reach s r (rw (none, plain) (within-written s.registers p view word)));
       hands = λ no. refl;
       faults = λ no. refl;
-    })
+    }))

@@ -39,6 +39,7 @@ arrive_leads s frame =
               waiting = λ no. cc;
               out = λ no. refl;
               link = λ no. refl;
+              image = refl;
               vfs = refl;
               fifo = refl;
             };

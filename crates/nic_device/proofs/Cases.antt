@@ -30,6 +30,14 @@ use Rattle.nic_device.specs.Transmit as transmit
 use Rattle.nic_device.specs.Transmit.{transmitted, staged_by, sending_of}
 use Rattle.nic_device.specs.Switching.{queue_switched, side_switched}
 use Rattle.nic_device.specs.Link.{link_set, collected, oldest_collected}
+use Rattle.reg_table.specs.Rows.{row_of}
+use Rattle.reg_table.specs.declared.place.Place.{Place}
+use Rattle.vf_map.specs.declared.mode.Mode.{Mode}
+use Rattle.register_file.specs.Access.{asks_reset, asks_pool_reset}
+use Rattle.register_file.specs.Footprint.{of_write}
+use Rattle.nic_device.specs.Footprint.{Reach, nowhere, in_registers, reset_reach, pool_reach, write_reach}
+use Rattle.nic_device.specs.declared.named.Named.{Named}
+use Rattle.nic_device.specs.declared.named.Named.TheVariants.{Nothing, Register}
 use Rattle.nic_device.specs.declared.event.Reply.TheVariants.{Done, Idle, NoQueue, NoGroup, NotLent, Misaligned, Bytes, Buf, Twice, Dropped, Fault, Frame}
 use Rattle.nic_device.specs.declared.event.Why.{Why}
 use Rattle.nic_device.specs.declared.event.Why.TheVariants.{LinkDown, Off, Short, Long, Full, QueueOff, NoSlot}
@@ -38,6 +46,21 @@ use Rattle.nic_device.specs.declared.event.Why.TheVariants.{LinkDown, Off, Short
 pub either_way : {A : Type 0} (P : A → Type 0) (b : Bool) (x y : A) → P x → P y → P (cond b x y)
 either_way P true x y p q = p
 either_way P false x y p q = q
+
+-- writes of registers: what one may change
+
+pub record Reaches (P : Reach → Type 0) (mode : Mode) : Type 0 where
+  pub nothing : P nowhere
+  pub reset : P reset_reach
+  pub pool : (v : ℕ) → P (pool_reach mode v)
+  pub word : (p : Place) → P (in_registers (of_write p))
+
+pub write_cases : (P : Reach → Type 0) (mode : Mode) (m : Named) (word : ℕ) → Reaches P mode
+    → P (write_reach mode m word)
+write_cases P mode (Nothing seen) word r = r.nothing
+write_cases P mode (Register p view) word r =
+    either_way P (asks_reset (row_of p.row).kind word) _ _ r.reset
+    (either_way P (asks_pool_reset (row_of p.row).kind word) _ _ (r.pool p.index) (r.word p))
 
 -- memory calls
 

@@ -5,6 +5,7 @@ use Rattle.std.proofs.lemmas.List.{length-set}
 use Rattle.std.proofs.lemmas.List.Elements.{All-set, All-replicate}
 use Rattle.std.proofs.lemmas.List.{length-replicate}
 use Rattle.dma_arena.specs.Memory.{Memory}
+use Rattle.eeprom_image.specs.Image.{IsImage}
 use Rattle.register_file.specs.Footprint.{ChangesWithin}
 use Rattle.register_file.specs.Registers.{Registers}
 use Rattle.register_file.specs.Sound.{AreSound}
@@ -22,6 +23,7 @@ sound-registers s r h sound = record {
   waiting = h.waiting;
   room = h.room;
   staged = h.staged;
+  image = h.image;
   vfs = h.vfs;
   some = h.some;
   few = h.few;
@@ -34,6 +36,7 @@ sound-memory s m h blocks = record {
   waiting = h.waiting;
   room = h.room;
   staged = h.staged;
+  image = h.image;
   vfs = h.vfs;
   some = h.some;
   few = h.few;
@@ -47,6 +50,7 @@ sound-waiting s ws h waiting room = record {
   waiting = waiting;
   room = room;
   staged = h.staged;
+  image = h.image;
   vfs = h.vfs;
   some = h.some;
   few = h.few;
@@ -60,6 +64,7 @@ sound-staged s staged h short = record {
   waiting = h.waiting;
   room = h.room;
   staged = short;
+  image = h.image;
   vfs = h.vfs;
   some = h.some;
   few = h.few;
@@ -74,6 +79,20 @@ sound-rest s out link h = record {
   waiting = h.waiting;
   room = h.room;
   staged = h.staged;
+  image = h.image;
+  vfs = h.vfs;
+  some = h.some;
+  few = h.few;
+}
+
+pub sound-image : (s : State) (image : List ℕ) → IsSound s → IsImage image → IsSound (record s { image = image })
+sound-image s image h is = record {
+  registers = h.registers;
+  blocks = h.blocks;
+  waiting = h.waiting;
+  room = h.room;
+  staged = h.staged;
+  image = is;
   vfs = h.vfs;
   some = h.some;
   few = h.few;
@@ -105,6 +124,7 @@ stays-still r s = record {
   waiting = λ no. refl;
   out = λ no. refl;
   link = λ no. refl;
+  image = refl;
   vfs = refl;
   fifo = refl;
 }
@@ -119,6 +139,7 @@ stays-registers r s g within = record {
   waiting = λ no. refl;
   out = λ no. refl;
   link = λ no. refl;
+  image = refl;
   vfs = refl;
   fifo = refl;
 }

@@ -46,6 +46,7 @@ lend_leads s block = lent_cases (Leads s (event.Lend block)) s block
         waiting = λ no. refl;
         out = λ no. refl;
         link = λ no. refl;
+        image = refl;
         vfs = refl;
         fifo = refl;
       };
@@ -66,6 +67,7 @@ take_leads s number = taken_cases (Leads s (event.Take number)) s number
         waiting = λ no. refl;
         out = λ no. refl;
         link = λ no. refl;
+        image = refl;
         vfs = refl;
         fifo = refl;
       };
@@ -95,6 +97,7 @@ poke_leads s address bytes =
         waiting = λ no. refl;
         out = λ no. refl;
         link = λ no. refl;
+        image = refl;
         vfs = refl;
         fifo = refl;
       };

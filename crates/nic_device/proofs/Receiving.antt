@@ -79,6 +79,7 @@ first_dropped s w others reply r e comes none = record {
     waiting = λ no. cc;
     out = λ no. refl;
     link = λ no. refl;
+    image = refl;
     vfs = refl;
     fifo = refl;
   });
@@ -128,6 +129,7 @@ module _ (s : State) (w : Waiting) (others : List Waiting) (e : s.waiting ≡ w 
       waiting = λ no. cc;
       out = λ no. refl;
       link = λ no. refl;
+      image = refl;
       vfs = refl;
       fifo = refl;
     });

@@ -68,6 +68,7 @@ fault_leads s queue fault memory bytes = record {
     waiting = λ no. refl;
     out = λ no. cc;
     link = λ no. refl;
+    image = refl;
     vfs = refl;
     fifo = refl;
   };
@@ -115,6 +116,7 @@ fetched_leads s queue f is =
         waiting = λ no. refl;
         out = λ no. cc;
         link = λ no. refl;
+        image = refl;
         vfs = refl;
         fifo = refl;
       };

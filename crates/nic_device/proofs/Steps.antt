@@ -2,25 +2,30 @@
 use Rattle.std.proofs.Common.{◌≡◌, ℕ, Bool, false, refl, sym, subst, arith, Option, Some, None}
 use Rattle.std.specs.Prelude.{⊤, Result, Ok, Err, OnOk, OnErr}
 use Rattle.dma_arena.specs.Block.{Block}
-use Rattle.reg_table.specs.Place.{place_among, view_among}
-use Rattle.reg_table.specs.Runs.{runs}
 use Rattle.intr_unit.specs.declared.group.Group.{Group}
 use Rattle.intr_unit.specs.declared.group.Group.TheVariants as group
+use Rattle.eeprom_image.proofs.Blank.{IsImage-blank}
 use Rattle.register_file.specs.Footprint.{nothing}
 use Rattle.register_file.specs.Groups.{causes_raised, message_of, message_made}
 use Rattle.register_file.proofs.Footprints.{within-refl}
-use Rattle.register_file.proofs.Sound.{sound-message_made, sound-causes_raised, sound-reset}
-use Rattle.register_file.proofs.Within.{within-message_made, within-causes_raised}
+use Rattle.register_file.proofs.Sound.{sound-message_made, sound-causes_raised, sound-answered, sound-reset}
+use Rattle.register_file.proofs.Within.{within-message_made, within-causes_raised, within-answered}
 use Rattle.nic_device.specs.Interrupt.{interrupted, message_reply, link_cause}
-use Rattle.nic_device.specs.Laws.{NewDeviceIsSound, EventKeepsSound, ToldIsPending, FaultChangesNoMemory}
+use Rattle.nic_device.specs.Kept.{NewDeviceIsSound, EventKeepsSound}
+use Rattle.eeprom_image.specs.Bytes.{word_at}
+use Rattle.register_file.specs.Eeprom.{eeprom_asked, eeprom_answered}
+use Rattle.register_file.specs.Settings.{is_stopped}
+use Rattle.nic_device.specs.Outcome.{gives}
+use Rattle.nic_device.specs.Eeprom.{word_answered, eeprom_stepped}
 use Rattle.nic_device.specs.Link.{link_set, collected}
+use Rattle.nic_device.specs.Named.{named}
 use Rattle.nic_device.specs.Sound.{IsEvent, IsSound}
 use Rattle.nic_device.specs.State.{State}
 use Rattle.nic_device.specs.Step.{step_of, hands_out}
 use Rattle.nic_device.proofs.Accessing.{read_leads, write_leads}
 use Rattle.nic_device.proofs.Arriving.{arrive_leads}
 use Rattle.nic_device.proofs.Blocks.{AreBlocks-empty}
-use Rattle.nic_device.proofs.Cases.{link_cases, collected_cases, interrupted_cases}
+use Rattle.nic_device.proofs.Cases.{either_way, link_cases, collected_cases, interrupted_cases}
 use Rattle.nic_device.proofs.Keeping.{sound-registers, sound-rest, AreStaged-none}
 use Rattle.nic_device.proofs.Leads.{Leads, leads-still, leads-registers}
 use Rattle.nic_device.proofs.Memory.{lend_leads, take_leads, peek_leads, poke_leads}
@@ -29,8 +34,7 @@ use Rattle.nic_device.proofs.Sending.{transmit_leads}
 use Rattle.nic_device.proofs.SwitchedSides.{switch_leads}
 use Rattle.nic_device.specs.declared.event.Event.{Event}
 use Rattle.nic_device.specs.declared.event.Event.TheVariants as event
-use Rattle.nic_device.specs.declared.event.Port.TheVariants.{Pf}
-use Rattle.nic_device.specs.declared.event.Reply.TheVariants.{Idle, NoGroup}
+use Rattle.nic_device.specs.declared.event.Reply.TheVariants.{Done, Idle, NoGroup}
 
 -- messages
 
@@ -46,6 +50,24 @@ message_leads s g =
     (λ h is. tt)
     (record { sound = λ good h. sound-message_made s.registers g h; within = within-message_made s.registers g })
     (none_handed g (message_of s.registers g)))
+
+-- the EEPROM
+
+word_leads : (s : State) (o : Option ℕ) → Leads s event.EepromStep (word_answered s o)
+word_leads s None = leads-still s event.EepromStep Idle (λ no. refl)
+word_leads s (Some index) =
+    leads-registers s event.EepromStep Done (eeprom_answered s.registers (word_at s.image index)) (λ h is. h.image)
+    (record {
+      sound = λ image h. sound-answered s.registers (word_at s.image index) (image.fits index) h;
+      within = within-answered s.registers (word_at s.image index);
+    })
+    refl
+
+eeprom_leads : (s : State) → Leads s event.EepromStep (eeprom_stepped s)
+eeprom_leads s =
+    either_way (Leads s event.EepromStep) (is_stopped s.registers) (gives Idle s)
+    (word_answered s (eeprom_asked s.registers)) (leads-still s event.EepromStep Idle (λ no. refl))
+    (word_leads s (eeprom_asked s.registers))
 
 -- the link, and the frames out
 
@@ -64,6 +86,7 @@ link_leads s up =
         waiting = λ no. refl;
         out = λ no. refl;
         link = λ no. cc;
+        image = refl;
         vfs = refl;
         fifo = refl;
       };
@@ -83,6 +106,7 @@ collect_leads s = collected_cases (Leads s event.Collect) s (leads-still s event
         waiting = λ no. refl;
         out = λ no. cc;
         link = λ no. refl;
+        image = refl;
         vfs = refl;
         fifo = refl;
       };
@@ -94,9 +118,8 @@ collect_leads s = collected_cases (Leads s event.Collect) s (leads-still s event
 
 pub step_leads : (s : State) (e : Event Block) → Leads s e (step_of s e)
 unfolding step_of
-step_leads s (event.Read Pf a) = read_leads s a (place_among runs a) (view_among runs a) (λ r stays. stays)
-step_leads s (event.Write Pf a word) =
-    write_leads s a word (place_among runs a) (view_among runs a) (λ r stays. stays)
+step_leads s (event.Read port n) = read_leads s port n (named s port n) (λ r stays. stays)
+step_leads s (event.Write port n word) = write_leads s port n word (named s port n) (λ r stays. stays)
 step_leads s (event.Lend block) = lend_leads s block
 step_leads s (event.Take number) = take_leads s number
 step_leads s (event.Peek16 a) = peek_leads s a
@@ -106,6 +129,7 @@ step_leads s event.RxStep = receive_leads s
 step_leads s (event.TxStep queue) = transmit_leads s queue
 step_leads s (event.IntStep g) = message_leads s g
 step_leads s (event.QueueStep dir queue) = switch_leads s dir queue
+step_leads s event.EepromStep = eeprom_leads s
 step_leads s (event.Link up) = link_leads s up
 step_leads s event.Collect = collect_leads s
 
@@ -118,6 +142,7 @@ new_sound vfs fifo few_vfs some few = record {
   waiting = tt;
   room = omega arith;
   staged = AreStaged-none;
+  image = IsImage-blank;
   vfs = few_vfs;
   some = some;
   few = few;
@@ -131,9 +156,3 @@ pub sound_step : {R E : Type 0} (s t : State) (e : Event Block) (result : Result
     → OnOk result (t ≡ (step_of s e).state) → OnErr result (t ≡ s) → IsSound s → IsEvent e → IsSound t
 sound_step s t e (Ok reply) made kept h is = subst IsSound (sym made) (keeps_sound s h e is)
 sound_step s t e (Err refused) made kept h is = subst IsSound (sym kept) h
-
-pub told_pending : ToldIsPending
-told_pending s h e is g small = (keeps_sound s h e is).registers.told g small
-
-pub fault_memory : FaultChangesNoMemory
-fault_memory s e fault = (step_leads s e).faults fault

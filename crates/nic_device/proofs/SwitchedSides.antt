@@ -61,6 +61,7 @@ emptied_stays s Rx queue = record {
   waiting = λ no. cc;
   out = λ no. refl;
   link = λ no. refl;
+  image = refl;
   vfs = refl;
   fifo = refl;
 }
@@ -72,6 +73,7 @@ emptied_stays s Tx queue = record {
   waiting = λ no. refl;
   out = λ no. refl;
   link = λ no. refl;
+  image = refl;
   vfs = refl;
   fifo = refl;
 }

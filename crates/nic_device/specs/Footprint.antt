@@ -3,24 +3,29 @@ use Rattle.std.specs.Prelude.{ℕ, ◌≡◌, ◌+◌, ◌*◌, ◌==◌, nat_lt
 use Rattle.std.specs.FinMap as map
 use Rattle.dma_arena.specs.Block.{Block}
 use Rattle.dma_arena.specs.Memory.{has_block}
-use Rattle.reg_table.specs.Place.{place_among}
 use Rattle.reg_table.specs.Rows.{row_of}
-use Rattle.reg_table.specs.Runs.{runs}
 use Rattle.reg_table.specs.declared.place.Place.{Place}
+use Rattle.reg_table.specs.declared.rows.RowId.TheVariants.{Eerd}
+use Rattle.vf_map.specs.Owner.{has_queue}
+use Rattle.vf_map.specs.declared.mode.Mode.{Mode}
 use Rattle.intr_unit.specs.declared.group.Group.TheVariants as group
-use Rattle.register_file.specs.Access.{asks_reset}
-use Rattle.register_file.specs.Footprint.{Footprint, ChangesWithin, nothing, everything, either, counters, of_side, pending, any_pending, of_read, of_write}
+use Rattle.register_file.specs.Access.{asks_reset, asks_pool_reset}
+use Rattle.register_file.specs.Columns.{place}
+use Rattle.register_file.specs.Footprint.{Footprint, ChangesWithin, nothing, everything, either, the_word, counters, of_side, of_pool, pending, any_pending, of_read, of_write}
+use Rattle.register_file.specs.Pools.{mode_in}
 use Rattle.register_file.specs.Sides.{transmit_queue_of}
 use Rattle.register_file.specs.declared.dir.Dir.{Dir}
 use Rattle.register_file.specs.declared.dir.Dir.TheVariants.{Rx, Tx}
 use Rattle.tx_ring.specs.Report.{report_length}
+use Rattle.nic_device.specs.Named.{named}
 use Rattle.nic_device.specs.State.{State, Waiting}
 use Rattle.nic_device.specs.Step.{step_of}
 use Rattle.nic_device.specs.Transmit.{staged_by}
 use Rattle.nic_device.specs.declared.event.Event.{Event}
 use Rattle.nic_device.specs.declared.event.Event.TheVariants as event
-use Rattle.nic_device.specs.declared.event.Port.TheVariants.{Pf}
 use Rattle.nic_device.specs.declared.event.Reply.{Reply}
+use Rattle.nic_device.specs.declared.named.Named.{Named}
+use Rattle.nic_device.specs.declared.named.Named.TheVariants.{Nothing, Register}
 use Rattle.nic_device.specs.declared.event.Reply.TheVariants.{Wrote, Advanced, Sent}
 
 -- what may change: something in the registers, the bytes of lent blocks, under which numbers blocks are lent, the
@@ -34,7 +39,7 @@ pub record Reach : Type 0 where
   pub out : Bool
   pub link : Bool
 
--- all that isn't in the reach is as it was, and so is the configuration
+-- all that isn't in the reach is as it was, and so are the EEPROM's image and the configuration
 pub record StaysWithin (r : Reach) (old new : State) : Type 0 where
   pub registers : ChangesWithin r.registers old.registers new.registers
   pub blocks : (number : ℕ) → IsFalse (r.blocks number) → map.get new.memory number ≡ map.get old.memory number
@@ -43,6 +48,7 @@ pub record StaysWithin (r : Reach) (old new : State) : Type 0 where
   pub waiting : IsFalse r.waiting → new.waiting ≡ old.waiting
   pub out : IsFalse r.out → new.out ≡ old.out
   pub link : IsFalse r.link → new.link ≡ old.link
+  pub image : new.image ≡ old.image
   pub vfs : new.vfs ≡ old.vfs
   pub fifo : new.fifo ≡ old.fifo
 
@@ -65,19 +71,33 @@ in_registers f = record nowhere { registers = f }
 abbrev pub the_block : ℕ → Reach
 the_block number = record nowhere { blocks = λ other. other == number; lent = λ other. other == number }
 
--- a read of a place, or of none
-abbrev pub read_reach : Option Place → Reach
-read_reach None = nowhere
-read_reach (Some p) = in_registers (of_read p)
+-- a read of a register, or of nothing
+abbrev pub read_reach : Named → Reach
+read_reach (Nothing seen) = nowhere
+read_reach (Register p view) = in_registers (of_read p)
 
--- a reset leaves lent memory, frames out and the link
+-- a reset leaves lent memory, frames out, the link and the image
 abbrev pub reset_reach : Reach
 reset_reach = record nowhere { registers = everything; staged = λ queue. true; waiting = true }
 
--- a write of a word to a place, or to none
-abbrev pub write_reach : Option Place → ℕ → Reach
-write_reach None word = nowhere
-write_reach (Some p) word = if asks_reset (row_of p.row).kind word then reset_reach else in_registers (of_write p)
+-- a reset of a pool leaves all that isn't the pool's, lent memory, frames out and the link
+abbrev pub pool_reach : Mode → ℕ → Reach
+pool_reach mode v = record nowhere {
+  registers = of_pool mode v;
+  staged = λ queue. has_queue mode v queue;
+  waiting = true;
+}
+
+-- a write that asks for no reset of the device
+abbrev pub below_reset_reach : Mode → Place → ℕ → Reach
+below_reset_reach mode p word =
+    if asks_pool_reset (row_of p.row).kind word then pool_reach mode p.index else in_registers (of_write p)
+
+-- a write of a word to a register, or to nothing, as the queues are parted among pools
+abbrev pub write_reach : Mode → Named → ℕ → Reach
+write_reach mode (Nothing seen) word = nowhere
+write_reach mode (Register p view) word =
+    if asks_reset (row_of p.row).kind word then reset_reach else below_reset_reach mode p word
 
 -- whether a block has some of so many bytes from an address on
 abbrev pub has_some_of : ℕ → ℕ → ℕ → Bool
@@ -128,8 +148,9 @@ switch_reach Tx queue = record nowhere { registers = of_side Tx queue; staged = 
 
 -- what an event may change, by the reply to it
 abbrev pub reach_by : State → Event Block → Reply Block → Reach
-reach_by s (event.Read Pf address) reply = read_reach (place_among runs address)
-reach_by s (event.Write Pf address word) reply = write_reach (place_among runs address) word
+reach_by s (event.Read port number) reply = read_reach (named s port number)
+reach_by s (event.Write port number word) reply =
+    write_reach (mode_in s.registers) (named s port number) word
 reach_by s (event.Lend block) reply = the_block block.number
 reach_by s (event.Take number) reply = the_block number
 reach_by s (event.Peek16 address) reply = nowhere
@@ -141,6 +162,7 @@ reach_by s event.RxStep reply = receive_reach s.waiting reply
 reach_by s (event.TxStep queue) reply = transmit_reach s queue reply
 reach_by s (event.IntStep g) reply = in_registers (pending g)
 reach_by s (event.QueueStep dir queue) reply = switch_reach dir queue
+reach_by s event.EepromStep reply = in_registers (the_word (place Eerd 0))
 reach_by s (event.Link up) reply = record nowhere { registers = pending group.Pf; link = true }
 reach_by s event.Collect reply = record nowhere { out = true }
 

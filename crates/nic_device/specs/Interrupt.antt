@@ -1,13 +1,12 @@
 -- Interrupts: what queues and the device raise, and one message.
 use Rattle.std.specs.Prelude.{ℕ, ◌/◌, ◌==◌, ◌^◌, Bool, true, not, ◌&&◌, nat_lt, Option, Some, None, is_some, if◌then◌else◌}
 use Rattle.dma_arena.specs.Block.{Block}
-use Rattle.reg_table.specs.declared.rows.RowId.TheVariants.{GcrExt}
 use Rattle.intr_unit.specs.declared.group.Group.{Group}
 use Rattle.intr_unit.specs.declared.group.Group.TheVariants.{Pf, Vf}
-use Rattle.vf_map.specs.Pools.{mode_of, queues_of, queues_each}
-use Rattle.vf_map.specs.declared.mode.Mode.{Mode}
+use Rattle.vf_map.specs.Pools.{queues_of, queues_each}
 use Rattle.register_file.specs.Groups.{causes_raised, queue_raised, message_of, message_made}
-use Rattle.register_file.specs.Registers.{Registers, word_of}
+pub use Rattle.register_file.specs.Pools.{mode_in}
+use Rattle.register_file.specs.Registers.{Registers}
 use Rattle.register_file.specs.Settings.{is_stopped}
 use Rattle.register_file.specs.declared.dir.Dir.{Dir}
 use Rattle.nic_device.specs.State.{State}
@@ -28,10 +27,6 @@ link_cause = 2 ^ 20
 -- the registers after the device raised a cause of the physical function
 abbrev pub device_raised : Registers → ℕ → Registers
 device_raised r cause = causes_raised r Pf cause
-
--- how the queues are parted among pools
-abbrev pub mode_in : Registers → Mode
-mode_in r = mode_of (word_of r GcrExt 0)
 
 -- the group that a queue raises in: that of the virtual function whose pool it is in, else that of the physical
 -- function

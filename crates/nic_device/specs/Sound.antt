@@ -3,12 +3,14 @@ use Rattle.std.specs.Prelude.{ℕ, ◌≡◌, ◌<◌, ◌≤◌, ◌^◌, List,
 use Rattle.std.specs.FinMap as map
 use Rattle.dma_arena.specs.Block.{Block, IsBlock}
 use Rattle.dma_arena.specs.Memory.{Memory, IsWhole}
+use Rattle.eeprom_image.specs.Image.{IsImage}
 use Rattle.register_file.specs.Groups.{index_of}
 use Rattle.register_file.specs.Sound.{AreSound}
 use Rattle.nic_device.specs.State.{State, Waiting}
 use Rattle.nic_device.specs.declared.event.Event.{Event}
 use Rattle.nic_device.specs.declared.event.Event.TheVariants as event
-use Rattle.nic_device.specs.declared.event.Port.TheVariants.{Pf}
+use Rattle.nic_device.specs.declared.event.Port.{Port}
+use Rattle.nic_device.specs.declared.event.Port.TheVariants.{Pf, Vf}
 
 -- each is a byte
 abbrev pub AreBytes : List ℕ → Type 0
@@ -48,14 +50,15 @@ pub record AreStaged (staged : List (List ℕ)) : Type 0 where
   pub short : All IsStaged staged
 
 -- what every event keeps: the registers are sound and the lent blocks whole, each frame that waits has its queue and
--- only the first is begun, each queue stages no more than a frame, there are no more virtual functions than a device can
--- have, and no more frames wait than the receive list takes
+-- only the first is begun, each queue stages no more than a frame, the image is one, there are no more virtual functions
+-- than a device can have, and no more frames wait than the receive list takes
 pub record IsSound (s : State) : Type 0 where
   pub registers : AreSound s.registers
   pub blocks : AreBlocks s.memory
   pub waiting : AreWaiting s.waiting
   pub room : length s.waiting ≤ s.fifo
   pub staged : AreStaged s.staged
+  pub image : IsImage s.image
   pub vfs : s.vfs ≤ 63
   pub some : 0 < s.fifo
   pub few : s.fifo ≤ 4096
@@ -65,11 +68,16 @@ pub record IsLendable (block : Block) : Type 0 where
   pub whole : IsBlock block
   pub bytes : AreBytes block.bytes
 
+-- a port of the physical function, or of a virtual one
+abbrev pub IsPort : Port → Type 0
+IsPort Pf = ⊤
+IsPort (Vf v) = v < 2 ^ 8
+
 -- what a driver can make: addresses and words are of 32 bits, a block is whole, 16 bytes are written, and numbers of
 -- queues and of virtual functions fit their types
 abbrev pub IsEvent : Event Block → Type 0
-IsEvent (event.Read Pf address) = address < 2 ^ 32
-IsEvent (event.Write Pf address word) = (address < 2 ^ 32) × (word < 2 ^ 32)
+IsEvent (event.Read port number) = IsPort port × (number < 2 ^ 32)
+IsEvent (event.Write port number word) = IsPort port × (number < 2 ^ 32) × (word < 2 ^ 32)
 IsEvent (event.Lend block) = IsLendable block
 IsEvent (event.Take number) = number < 2 ^ 32
 IsEvent (event.Peek16 address) = address < 2 ^ 32
@@ -79,5 +87,6 @@ IsEvent event.RxStep = ⊤
 IsEvent (event.TxStep queue) = queue < 2 ^ 16
 IsEvent (event.IntStep group) = index_of group < 2 ^ 8
 IsEvent (event.QueueStep dir queue) = queue < 2 ^ 16
+IsEvent event.EepromStep = ⊤
 IsEvent (event.Link up) = ⊤
 IsEvent event.Collect = ⊤

@@ -3,6 +3,7 @@ use Rattle.std.specs.Prelude.{ℕ, Bool, true, List, [], replicate, refl}
 use Rattle.std.specs.Coded.{Coded, code_by, coded×, coded_ℕ, coded_bool, coded_list}
 use Rattle.std.specs.FinMap as map
 use Rattle.dma_arena.specs.Memory.{Memory}
+use Rattle.eeprom_image.specs.Image.{blank}
 use Rattle.register_file.specs.Registers.{Registers, registers_code, reset_registers}
 
 -- a frame that waits to be received: its bytes, its queue, its hash and RSS type, and how many of its bytes are written
@@ -26,7 +27,7 @@ waiting_code =
 
 -- a device: its registers, the memory that is lent to it, the frames that wait to be received, the bytes that each
 -- transmit queue has staged, the frames that went out and were not collected yet, each with its queue, the oldest first,
--- whether the link is up, and its configuration
+-- whether the link is up, the words of the EEPROM's image, and its configuration
 pub record State : Type 0 where
   pub registers : Registers
   pub memory : Memory
@@ -34,11 +35,12 @@ pub record State : Type 0 where
   pub staged : List (List ℕ)
   pub out : List (ℕ × List ℕ)
   pub link : Bool
+  pub image : List ℕ
   pub vfs : ℕ
   pub fifo : ℕ
 
 abbrev pub Parts : Type 0
-Parts = Registers × (Memory × (List Waiting × (List (List ℕ) × (List (ℕ × List ℕ) × (Bool × (ℕ × ℕ))))))
+Parts = Registers × (Memory × (List Waiting × (List (List ℕ) × (List (ℕ × List ℕ) × (Bool × (List ℕ × (ℕ × ℕ)))))))
 
 -- a state is stored as the pairs of its fields
 abbrev pub state_code : Coded State
@@ -46,8 +48,9 @@ state_code =
     code_by Parts
     (coded× registers_code (coded× (map.code coded_ℕ code_bytes)
     (coded× (coded_list waiting_code) (coded× (coded_list code_bytes)
-    (coded× (coded_list (coded× coded_ℕ code_bytes)) (coded× coded_bool (coded× coded_ℕ coded_ℕ)))))))
-    (λ s. (s.registers, (s.memory, (s.waiting, (s.staged, (s.out, (s.link, (s.vfs, s.fifo))))))))
+    (coded× (coded_list (coded× coded_ℕ code_bytes))
+    (coded× coded_bool (coded× (coded_list coded_ℕ) (coded× coded_ℕ coded_ℕ))))))))
+    (λ s. (s.registers, (s.memory, (s.waiting, (s.staged, (s.out, (s.link, (s.image, (s.vfs, s.fifo)))))))))
     (λ p. record {
       registers = p.0;
       memory = p.1.0;
@@ -55,8 +58,9 @@ state_code =
       staged = p.1.1.1.0;
       out = p.1.1.1.1.0;
       link = p.1.1.1.1.1.0;
-      vfs = p.1.1.1.1.1.1.0;
-      fifo = p.1.1.1.1.1.1.1;
+      image = p.1.1.1.1.1.1.0;
+      vfs = p.1.1.1.1.1.1.1.0;
+      fifo = p.1.1.1.1.1.1.1.1;
     })
     (λ _. refl)
 
@@ -64,7 +68,7 @@ state_code =
 abbrev pub none_staged : List (List ℕ)
 none_staged = replicate 128 []
 
--- a new device: it is reset, nothing is lent, no frame is there, and the link is up
+-- a new device: it is reset, nothing is lent, no frame is there, the link is up, and the image is blank
 abbrev pub new_state : ℕ → ℕ → State
 new_state vfs fifo = record {
   registers = reset_registers;
@@ -73,11 +77,12 @@ new_state vfs fifo = record {
   staged = none_staged;
   out = [];
   link = true;
+  image = blank;
   vfs = vfs;
   fifo = fifo;
 }
 
--- a reset: the registers, the enables that were asked for, the frames that wait and the staged bytes. Lent memory,
--- frames out and the link stay.
-abbrev pub reset : State → State
-reset s = record s { registers = reset_registers; waiting = []; staged = none_staged }
+-- what a reset clears, before it takes from the image: the registers, the enables that were asked for, the frames that
+-- wait and the staged bytes. Lent memory, frames out, the link and the image stay.
+abbrev pub cleared : State → State
+cleared s = record s { registers = reset_registers; waiting = []; staged = none_staged }

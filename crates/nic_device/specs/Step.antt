@@ -10,17 +10,17 @@ use Rattle.nic_device.specs.Receive.{received}
 use Rattle.nic_device.specs.Transmit.{transmitted}
 use Rattle.nic_device.specs.Switching.{queue_switched}
 use Rattle.nic_device.specs.Interrupt.{interrupted}
+use Rattle.nic_device.specs.Eeprom.{eeprom_stepped}
 use Rattle.nic_device.specs.Link.{link_set, collected}
 use Rattle.nic_device.specs.declared.event.Event.{Event}
 use Rattle.nic_device.specs.declared.event.Event.TheVariants as event
-use Rattle.nic_device.specs.declared.event.Port.TheVariants.{Pf}
 use Rattle.nic_device.specs.declared.event.Reply.{Reply}
 use Rattle.nic_device.specs.declared.event.Reply.TheVariants as reply
 
 -- one event: its reply, and the state after it
 unfoldable pub step_of : State → Event Block → Outcome
-step_of s (event.Read Pf address) = register_read s address
-step_of s (event.Write Pf address word) = register_written s address word
+step_of s (event.Read port number) = register_read s port number
+step_of s (event.Write port number word) = register_written s port number word
 step_of s (event.Lend block) = lent s block
 step_of s (event.Take number) = taken s number
 step_of s (event.Peek16 address) = peeked s address
@@ -30,8 +30,16 @@ step_of s event.RxStep = received s
 step_of s (event.TxStep queue) = transmitted s queue
 step_of s (event.IntStep group) = interrupted s group
 step_of s (event.QueueStep dir queue) = queue_switched s dir queue
+step_of s event.EepromStep = eeprom_stepped s
 step_of s (event.Link up) = link_set s up
 step_of s event.Collect = collected s
+
+-- the state after an event, and the reply to it
+abbrev pub after : State → Event Block → State
+after s e = (step_of s e).state
+
+abbrev pub reply_to : State → Event Block → Reply Block
+reply_to s e = (step_of s e).reply
 
 -- an event may be refused for want of memory: lending and arriving where they would be done, and a transmit step of a
 -- queue that isn't idle. No other event is

@@ -2,37 +2,56 @@
 
 ghost use Rattle.std.specs.Prelude.{◌≡◌, ◌<◌, [], length, replicate};
 ghost use Rattle.reg_table.specs.Rows.{row_of};
-ghost use Rattle.nic_device.specs.State.{reset};
-ghost use Rattle.nic_device.specs.Access.{register_read, register_written, state_written};
+ghost use Rattle.nic_device.specs.State.{cleared};
+ghost use Rattle.nic_device.specs.Eeprom.{reset};
+ghost use Rattle.nic_device.specs.Access.{around, register_read, register_written, state_written};
+ghost use Rattle.nic_device.specs.PoolReset.{written_below_reset};
+ghost use Rattle.nic_device.specs.Step.{word_told};
 
 use crate::engine::Engine;
-use crate::event::Reply;
-use reg_table::{Place, resolve};
-use register_file::asks_reset;
+use crate::event::{Port, Reply};
+use crate::named::Named;
+use reg_table::Place;
+use register_file::{Surroundings, asks_pool_reset, asks_reset};
 use tx_ring::Staged;
 
 impl Engine {
-    /// Reads an address.
-    pub(crate) fn read(&mut self, address: u32) -> Reply
-        ensures reply { result ≡ (register_read self.old address).reply }
-        ensures state { self.new ≡ (register_read self.old address).state }
+    /// Reads by a number of a port.
+    pub(crate) fn read(&mut self, port: Port, number: u32) -> Reply
+        ensures reply { result ≡ (register_read self.old port number).reply }
+        ensures state { self.new ≡ (register_read self.old port number).state }
     {
-        let Some(access) = resolve(address) else {
-            return Reply::Stray(0);
-        };
-        Reply::Word(self.registers.read(self.link, access.place) & access.view)
+        match self.named(port, number) {
+            Named::Nothing(seen) => Reply::Stray(seen),
+            Named::Register(place, view) => {
+                let around = self.around();
+                Reply::Word(self.registers.read(around, place) & view)
+            }
+        }
     }
 
-    /// Writes an address.
-    pub(crate) fn write(&mut self, address: u32, word: u32) -> Reply
-        ensures reply { result ≡ (register_written self.old address word).reply }
-        ensures state { self.new ≡ (register_written self.old address word).state }
+    /// What a read would give, without its effects. `None` where it would be stray.
+    pub(crate) fn peek(&self, port: Port, number: u32) -> Option<u32>
+        ensures { result ≡ word_told (register_read self.now port number).reply }
     {
-        let Some(access) = resolve(address) else {
-            return Reply::Stray(0);
-        };
-        self.write_place(access.place, access.view, word);
-        Reply::Done
+        match self.named(port, number) {
+            Named::Nothing(_) => None,
+            Named::Register(place, view) => Some(self.registers.peek(self.around(), place) & view),
+        }
+    }
+
+    /// Writes by a number of a port.
+    pub(crate) fn write(&mut self, port: Port, number: u32, word: u32) -> Reply
+        ensures reply { result ≡ (register_written self.old port number word).reply }
+        ensures state { self.new ≡ (register_written self.old port number word).state }
+    {
+        match self.named(port, number) {
+            Named::Nothing(_) => Reply::Stray(0),
+            Named::Register(place, view) => {
+                self.write_place(place, view, word);
+                Reply::Done
+            }
+        }
     }
 
     /// Writes a place through an address that shows the bits of `view`. A write that asks for a reset does nothing
@@ -44,13 +63,44 @@ impl Engine {
         if asks_reset(place, word) {
             self.reset();
         } else {
+            self.write_below_reset(place, view, word);
+        }
+    }
+
+    /// Writes a place where no reset of the device is asked for, through an address that shows the bits of `view`. A
+    /// write that asks for a reset of a pool does nothing else.
+    pub(crate) fn write_below_reset(&mut self, place: Place, view: u32, word: u32)
+        requires { place.index < (row_of place.row).count }
+        ensures { self.new ≡ written_below_reset self.old place view word }
+    {
+        if asks_pool_reset(place, word) {
+            self.reset_pool(place.index as u8);
+        } else {
             self.registers.write(place, view, word);
         }
     }
 
-    /// Resets the device.
+    /// What lies around the registers.
+    pub(crate) fn around(&self) -> Surroundings
+        ensures { result ≡ around self.now }
+    {
+        Surroundings {
+            link: self.link,
+            eeprom: self.image.doublings(),
+        }
+    }
+
+    /// Resets the device, and then makes the register writes of the EEPROM's image.
     fn reset(&mut self)
         ensures { self.new ≡ reset self.old }
+    {
+        self.clear();
+        self.apply_image();
+    }
+
+    /// What a reset clears.
+    fn clear(&mut self)
+        ensures { self.new ≡ cleared self.old }
     {
         self.registers.reset();
         self.waiting.clear();

@@ -9,7 +9,7 @@ use crate::config::{Config, MAX_FIFO, MAX_VFS, NewFault};
 use crate::engine::Engine;
 use crate::event::{Event, OutOfMemory, Port, Reply};
 use dma_arena::{LentMemory, Octets};
-use reg_table::resolve;
+use eeprom_image::Image;
 use std::alloc::Global;
 use std::marker::Model;
 
@@ -39,10 +39,12 @@ pub struct Parts {
     pub memory: LentMemory,
     /// The frames that went out and were not collected, the oldest first, each with its queue.
     pub frames: Vec<(u8, Octets)>,
+    /// The image that was in it.
+    pub image: Image,
 }
 
 impl Device {
-    /// A device after its reset, with no memory lent and the link up. A refused configuration is told before memory is
+    /// A device after its reset, with no memory lent, the link up and a blank EEPROM image. A refused configuration is told before memory is
     /// asked for.
     pub fn new(alloc: Global, config: Config) -> Result<Self, NewFault>
         ensures made { IfOk result (λ device. device ≡ new_state config.vfs config.fifo) }
@@ -58,6 +60,16 @@ impl Device {
         }
         let engine = Engine::new(alloc, config)?;
         Ok(Device { engine })
+    }
+
+    /// Puts an EEPROM image into the device, and hands back the former one. EEC and EERD see the new one at once; what
+    /// it writes to registers is written by each reset from then on.
+    pub fn install(&mut self, image: Image) -> Image
+        ensures former { result ≡ self.old.image }
+        ensures installed { self.new ≡ record self.old { image = image } }
+    {
+        let _words = image.words();
+        self.engine.install(image)
     }
 
     /// Makes one event. An event that finds no memory comes back, and the device is as it was. Only these can find
@@ -87,9 +99,16 @@ impl Device {
     pub fn peek_register(&self, address: u32) -> Option<u32>
         ensures { result ≡ word_told (step_of self.now (Event.Read Port.Pf address)).reply }
     {
-        let engine = &self.engine;
-        let access = resolve(address)?;
-        Some(engine.registers.peek(engine.link, access.place) & access.view)
+        self.engine.peek(Port::Pf, address)
+    }
+
+    #[tactic(auto, unfolding(crate::specs::Step::step_of))]
+    /// What a read of an offset of virtual function v would give, without its effects. `None` where it would be stray:
+    /// at a hole, and of a function that the device doesn't have or that has no pool.
+    pub fn peek_vf(&self, v: u8, offset: u32) -> Option<u32>
+        ensures { result ≡ word_told (step_of self.now (Event.Read (Port.Vf v) offset)).reply }
+    {
+        self.engine.peek(Port::Vf(v), offset)
     }
 
     /// How many bytes the frame has that `Collect` would give. 0 without one.
@@ -103,10 +122,11 @@ impl Device {
         }
     }
 
-    /// Ends the device. The lent memory and the frames that went out come back; the rest is gone.
+    /// Ends the device. The lent memory, the frames that went out and the image come back; the rest is gone.
     pub fn dismantle(self) -> Parts
         ensures memory { result.memory ≡ self.memory }
         ensures frames { result.frames.items ≡ self.out }
+        ensures image { result.image ≡ self.image }
     {
         let Device { engine } = self;
         let Engine {
@@ -116,12 +136,14 @@ impl Device {
             staged: _,
             out,
             link: _,
+            image,
             config: _,
             alloc: _,
         } = engine;
         Parts {
             memory,
             frames: out.into_vec(),
+            image,
         }
     }
 }

@@ -3,9 +3,10 @@ ghost use Rattle.nic_device.specs.State.{new_state, none_staged};
 ghost use Rattle.nic_device.specs.Step.{step_of, TakesMemory};
 
 use crate::config::Config;
-use crate::event::{Event, OutOfMemory, Port, Reply};
+use crate::event::{Event, OutOfMemory, Reply};
 use crate::waiting::Waiting;
 use dma_arena::{LentMemory, Octets};
+use eeprom_image::Image;
 use register_file::{QUEUES, RegisterFile};
 use std::alloc::{AllocError, Global};
 use std::collections::VecDeque;
@@ -21,6 +22,7 @@ pub(crate) struct Engine {
     pub(crate) staged: Vec<Staged>,
     pub(crate) out: VecDeque<(u8, Octets)>,
     pub(crate) link: bool,
+    pub(crate) image: Image,
     pub(crate) config: Config,
     pub(crate) alloc: Global,
 }
@@ -40,6 +42,7 @@ impl Model for Engine {
       staged = d.staged.items;
       out = d.out.items;
       link = d.link;
+      image = d.image;
       vfs = d.config.vfs;
       fifo = d.config.fifo;
     } };
@@ -48,12 +51,13 @@ impl Model for Engine {
 }
 
 impl Engine {
-    /// A device after its reset, with no memory lent and the link up.
+    /// A device after its reset, with no memory lent, the link up and a blank image.
     pub(crate) fn new(alloc: Global, config: Config) -> Result<Self, AllocError>
         ensures { IfOk result (λ engine. engine ≡ new_state config.vfs config.fifo) }
     {
         let registers = Box::new(alloc, RegisterFile::new()).map_err(AllocError::from)?;
         let staged = none_staged(alloc)?;
+        let image = Image::blank(alloc)?;
         Ok(Engine {
             registers,
             memory: LentMemory::new(alloc),
@@ -61,6 +65,7 @@ impl Engine {
             staged,
             out: VecDeque::new(alloc),
             link: true,
+            image,
             config,
             alloc,
         })
@@ -76,8 +81,8 @@ impl Engine {
         ensures memory { OnErr result (TakesMemory self.old event) }
     {
         match event {
-            Event::Read(Port::Pf, address) => Ok(self.read(address)),
-            Event::Write(Port::Pf, address, word) => Ok(self.write(address, word)),
+            Event::Read(port, number) => Ok(self.read(port, number)),
+            Event::Write(port, number, word) => Ok(self.write(port, number, word)),
             Event::Lend(buf) => self.lend(buf),
             Event::Take(number) => Ok(self.take(number)),
             Event::Peek16(address) => Ok(self.peek16(address)),
@@ -87,6 +92,7 @@ impl Engine {
             Event::TxStep(queue) => self.transmit(queue),
             Event::IntStep(group) => Ok(self.send_message(group)),
             Event::QueueStep(dir, queue) => Ok(self.switch_queue(dir, queue)),
+            Event::EepromStep => Ok(self.read_eeprom()),
             Event::Link(up) => Ok(self.set_link(up)),
             Event::Collect => Ok(self.collect()),
         }

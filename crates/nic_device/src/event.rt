@@ -9,8 +9,26 @@ use std::marker::Model;
 /// The function of the card that a register access comes through.
 #[derive(Clone, Copy, PartialEq, Eq, Debug)]
 pub enum Port {
-    /// The physical function: addresses are those of the register table.
+    /// The physical function: a register's number is its address in the register table.
     Pf,
+    /// A virtual function: a register's number is its offset among the function's own.
+    Vf(u8),
+}
+
+impl Port {
+    ghost use Rattle.nic_device.specs.Sound.{IsPort};
+
+    /// Each port is one that a driver can use. It does nothing.
+    fn is_of_a_driver(&self)
+        ensures { IsPort self.now }
+    {
+        match self {
+            Port::Pf => {}
+            Port::Vf(v) => {
+                let _function = *v;
+            }
+        }
+    }
 }
 
 /// What happens to the device. Registers are words of 32 bits, and their address is a byte offset into the register
@@ -19,9 +37,9 @@ pub enum Port {
 /// `B` is what stands for a packet buffer: the buffer itself, which can't be dropped, or in a note what it holds.
 #[derive(Debug, Drop)]
 pub enum Event<B = Buf> {
-    /// A read of a register, at an address.
+    /// A read of a register, by the number that it has at the port.
     Read(Port, u32),
-    /// A write of a register: an address, and the word.
+    /// A write of a register: its number at the port, and the word.
     Write(Port, u32, u32),
     /// A block of packet memory is lent, under its number.
     Lend(B),
@@ -41,6 +59,8 @@ pub enum Event<B = Buf> {
     IntStep(Group),
     /// The device makes a side of a queue, below 128, what it is wanted to be: on or off.
     QueueStep(Dir, u16),
+    /// The EEPROM gives the word that EERD asks for, where it asks for one.
+    EepromStep,
     /// The link goes up (true) or down.
     Link(bool),
     /// The oldest frame that went out is collected.
@@ -55,11 +75,13 @@ impl Event {
         ensures { IsEvent self.now }
     {
         match self {
-            Event::Read(Port::Pf, address) => {
-                let _address = *address;
+            Event::Read(port, number) => {
+                port.is_of_a_driver();
+                let _number = *number;
             }
-            Event::Write(Port::Pf, address, word) => {
-                let (_address, _word) = (*address, *word);
+            Event::Write(port, number, word) => {
+                port.is_of_a_driver();
+                let (_number, _word) = (*number, *word);
             }
             Event::Lend(buf) => {
                 let _number = buf.block();
@@ -89,7 +111,11 @@ impl Event {
             Event::QueueStep(_, queue) => {
                 let _queue = *queue;
             }
-            Event::RxStep | Event::IntStep(Group::Pf) | Event::Link(_) | Event::Collect => {}
+            Event::RxStep
+            | Event::IntStep(Group::Pf)
+            | Event::EepromStep
+            | Event::Link(_)
+            | Event::Collect => {}
         }
     }
 

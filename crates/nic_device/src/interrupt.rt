@@ -24,6 +24,15 @@ fn mode_in(registers: &RegisterFile) -> Mode
     mode_of(registers.word(RowId::GcrExt, 0))
 }
 
+impl Engine {
+    /// How the queues are parted among pools.
+    pub(crate) fn mode(&self) -> Mode
+        ensures { result ≡ mode_in self.now.registers }
+    {
+        mode_in(&self.registers)
+    }
+}
+
 /// The group that a queue raises in.
 fn group_of_queue(registers: &RegisterFile, vfs: u8, queue: u16) -> Group
     requires { queue < 128 }

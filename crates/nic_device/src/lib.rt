@@ -1,9 +1,10 @@
 //! The device core of the bench: the Intel 82599 behind its registers, one event at a time.
 //!
 //! A `Device` is seen by contracts as a `State`: its registers, the memory that is lent to it, the frames that wait to
-//! be received, the bytes that its transmit queues have staged, the frames that went out, and whether the link is up.
+//! be received, the bytes that its transmit queues have staged, the frames that went out, whether the link is up, and the
+//! EEPROM's image, which `Device::install` puts in.
 //! `Device::step` makes one `Event` and answers a `Reply`, both by the definition `step_of`; `Device::run` makes a list
-//! of events, and `Device::peek_register` and `Device::next_out` look without touching. Between two events a device is
+//! of events, and `Device::peek_register`, `Device::peek_vf` and `Device::next_out` look without touching. Between two events a device is
 //! sound, as `Device::stays_sound` says: `Engine` has the parts and makes the events. The definitions stand in
 //! `specs/`, one file for each family of events, and the code beside them under the same name. The script machine, the
 //! debugger, the lock and the driver stand on this crate.
@@ -13,12 +14,14 @@ mod access;
 mod arrival;
 mod config;
 mod device;
+mod eeprom;
 mod engine;
 mod event;
 mod interrupt;
-pub mod laws;
 mod lending;
 mod link;
+mod named;
+mod pools;
 mod receive;
 mod runs;
 mod switching;
@@ -29,5 +32,6 @@ pub use config::{Config, MAX_FIFO, MAX_VFS, NewFault};
 pub use device::{Device, Parts};
 pub use event::{Event, EventNote, Note, OutOfMemory, Port, Reply, ReplyNote, Why};
 pub use intr_unit::Group;
+pub use named::Named;
 pub use register_file::Dir;
 pub use runs::RunStop;

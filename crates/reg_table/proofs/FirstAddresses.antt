@@ -54,10 +54,10 @@ further_address p h l =
     let f = first_of p.row in
     first_found runs p (number_of p.row) f.count (row_of p.row).count f.further f.stride refl (told p.row).1 l h
 
-same_number : (r s : RowId) → number_of r ≡ number_of s → r ≡ s
+pub same_number : (r s : RowId) → number_of r ≡ number_of s → r ≡ s
 same_number r s e = sym (row_numbered r r) ∙ ap (λ n. get_or rows n r) e ∙ row_numbered s r
 
-HasPlaceAt-address_in : (r : Run) (p : Place) → has_index r p ≡ true → HasPlaceAt r (address_in r p) p
+pub HasPlaceAt-address_in : (r : Run) (p : Place) → has_index r p ≡ true → HasPlaceAt r (address_in r p) p
 HasPlaceAt-address_in r p h =
     let same = number_of r.row == number_of p.row in
     let parts = and_parts (same && nat_le r.first_index p.index) (nat_lt p.index (r.first_index + r.count)) h in
@@ -75,7 +75,7 @@ HasPlaceAt-address_in r p h =
 Some-one : {A : Type 0} {x y : A} → Some x ≡ Some y → x ≡ y
 Some-one e = cc
 
-found_has_place : (rs : List Run) (p : Place) (a : ℕ) → address_among rs p ≡ Some a → SomeRunHas rs a p
+pub found_has_place : (rs : List Run) (p : Place) (a : ℕ) → address_among rs p ≡ Some a → SomeRunHas rs a p
 found_has_place [] p a e = cc
 found_has_place (r ∷ rs) p a e =
     elim (cases_Bool (has_index r p)) [

@@ -12,9 +12,13 @@ pub gap_0001C : (a : ℕ) → 0x0001C ≤ a → a < 0x00200 → access_at a ≡ 
 unfolding runs
 gap_0001C a = no_words_at 0x0001C 0x00200 a refl
 
-pub gap_00204 : (a : ℕ) → 0x00204 ≤ a → a < 0x00800 → access_at a ≡ None
+pub gap_00204 : (a : ℕ) → 0x00204 ≤ a → a < 0x00300 → access_at a ≡ None
 unfolding runs
-gap_00204 a = no_words_at 0x00204 0x00800 a refl
+gap_00204 a = no_words_at 0x00204 0x00300 a refl
+
+pub gap_00400 : (a : ℕ) → 0x00400 ≤ a → a < 0x00800 → access_at a ≡ None
+unfolding runs
+gap_00400 a = no_words_at 0x00400 0x00800 a refl
 
 pub gap_00804 : (a : ℕ) → 0x00804 ≤ a → a < 0x00808 → access_at a ≡ None
 unfolding runs
@@ -72,9 +76,9 @@ pub gap_01000_0C : (a : ℕ) → 0x01000 ≤ a → a < 0x02000 → 0x0C ≤ a % 
 unfolding runs
 gap_01000_0C a = no_steps_at 64 0x0C 0x10 0x01000 0x02000 a refl
 
-pub gap_01000_1C : (a : ℕ) → 0x01000 ≤ a → a < 0x02000 → 0x1C ≤ a % 64 → a % 64 < 0x28 → access_at a ≡ None
+pub gap_01000_20 : (a : ℕ) → 0x01000 ≤ a → a < 0x02000 → 0x20 ≤ a % 64 → a % 64 < 0x28 → access_at a ≡ None
 unfolding runs
-gap_01000_1C a = no_steps_at 64 0x1C 0x28 0x01000 0x02000 a refl
+gap_01000_20 a = no_steps_at 64 0x20 0x28 0x01000 0x02000 a refl
 
 pub gap_01000_2C : (a : ℕ) → 0x01000 ≤ a → a < 0x02000 → 0x2C ≤ a % 64 → a % 64 < 0x30 → access_at a ≡ None
 unfolding runs
@@ -212,9 +216,13 @@ pub gap_08118 : (a : ℕ) → 0x08118 ≤ a → a < 0x08120 → access_at a ≡ 
 unfolding runs
 gap_08118 a = no_words_at 0x08118 0x08120 a refl
 
-pub gap_08124 : (a : ℕ) → 0x08124 ≤ a → a < 0x08600 → access_at a ≡ None
+pub gap_08124 : (a : ℕ) → 0x08124 ≤ a → a < 0x08300 → access_at a ≡ None
 unfolding runs
-gap_08124 a = no_words_at 0x08124 0x08600 a refl
+gap_08124 a = no_words_at 0x08124 0x08300 a refl
+
+pub gap_08400 : (a : ℕ) → 0x08400 ≤ a → a < 0x08600 → access_at a ≡ None
+unfolding runs
+gap_08400 a = no_words_at 0x08400 0x08600 a refl
 
 pub gap_08680 : (a : ℕ) → 0x08680 ≤ a → a < 0x0A200 → access_at a ≡ None
 unfolding runs
@@ -244,9 +252,13 @@ pub gap_0EBA8 : (a : ℕ) → 0x0EBA8 ≤ a → a < 0x0EC80 → access_at a ≡ 
 unfolding runs
 gap_0EBA8 a = no_words_at 0x0EBA8 0x0EC80 a refl
 
-pub gap_0EC84 : (a : ℕ) → 0x0EC84 ≤ a → a < 0x11050 → access_at a ≡ None
+pub gap_0EC84 : (a : ℕ) → 0x0EC84 ≤ a → a < 0x10010 → access_at a ≡ None
 unfolding runs
-gap_0EC84 a = no_words_at 0x0EC84 0x11050 a refl
+gap_0EC84 a = no_words_at 0x0EC84 0x10010 a refl
+
+pub gap_10018 : (a : ℕ) → 0x10018 ≤ a → a < 0x11050 → access_at a ≡ None
+unfolding runs
+gap_10018 a = no_words_at 0x10018 0x11050 a refl
 
 pub gap_11054 : (a : ℕ) → 0x11054 ≤ a → a < 0x12300 → access_at a ≡ None
 unfolding runs

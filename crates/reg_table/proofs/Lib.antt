@@ -7,6 +7,7 @@ pub mod Views
 pub mod Aligned
 pub mod FirstRuns
 pub mod FirstAddresses
+pub mod FirstViews
 pub mod InRange
 pub mod Naming
 pub mod Numbers

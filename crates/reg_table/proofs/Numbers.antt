@@ -3,25 +3,26 @@ use Rattle.std.proofs.Common.{◌≡◌, ◌<◌, map, length, get_or, refl, lit
 use Rattle.std.specs.Prelude.{Some, find}
 use Rattle.std.specs.List.{range_with_len}
 use Rattle.reg_table.specs.declared.rows.RowId.{RowId}
-use Rattle.reg_table.specs.declared.rows.RowId.TheVariants.{Ctrl, Status, CtrlExt, Ledctl, Eicr, Eics, Eiac, Eitr, Eims, Eimc, Eiam, Gpie, Ivar, IvarMisc, Pvteicr, Pvteics, Pvteims, Pvteimc, Pvteiac, Pvteiam, Rdbal, Rdbah, Rdlen, Rdh, Srrctl, Rdt, Rxdctl, Qprc, Qprdc, Rqsmr, Rdrxctl, Rxctrl, Mpc, Gprc, Gptc, Ruc, Roc, Hlreg0, Maxfrs, Autoc, Links, Dmatxctl, Rxcsum, Fctrl, Mcstctrl, VtCtl, Vfre, Vfte, Mta, Ral, Rah, Mrqc, Reta, Rssrk, Tdbal, Tdbah, Tdlen, Tdh, Tdt, Txdctl, Tdwbal, Tdwbah, Qptc, Mtqc, Tqsm, Mpsar, Psrtype, GcrExt, Pvtivar}
+use Rattle.reg_table.specs.declared.rows.RowId.TheVariants.{Ctrl, Status, CtrlExt, Ledctl, Pvfctrl, Eicr, Eics, Eiac, Eitr, Eims, Eimc, Eiam, Gpie, Ivar, IvarMisc, Pvteicr, Pvteics, Pvteims, Pvteimc, Pvteiac, Pvteiam, Rdbal, Rdbah, Rdlen, Rdh, Srrctl, Rdt, Rxdctl, Vfgprc, Qprc, Qprdc, Rqsmr, Rdrxctl, Rxctrl, Mpc, Gprc, Gptc, Ruc, Roc, Hlreg0, Maxfrs, Autoc, Links, Dmatxctl, Rxcsum, Fctrl, Mcstctrl, VtCtl, Vfre, Vfte, Mta, Ral, Rah, Mrqc, Reta, Rssrk, Tdbal, Tdbah, Tdlen, Tdh, Tdt, Txdctl, Tdwbal, Tdwbah, Qptc, Mtqc, Vfgptc, Tqsm, Mpsar, Psrtype, Eec, Eerd, GcrExt, Pvtivar}
 use Rattle.reg_table.specs.Rows.{row_of, rows, number_of}
 use Rattle.reg_table.specs.Named.{is_named}
 
 -- how many rows there are
-pub rows_length : length rows ≡ 69
+pub rows_length : length rows ≡ 74
 unfolding rows
 rows_length = refl
 
 -- the rows stand in the order of their numbers
-pub rows_numbers : map number_of rows ≡ range_with_len 0 69
+pub rows_numbers : map number_of rows ≡ range_with_len 0 74
 unfolding rows
 rows_numbers = refl
 
-pub number_below : (r : RowId) → number_of r < 69
+pub number_below : (r : RowId) → number_of r < 74
 number_below Ctrl = lit< tt
 number_below Status = lit< tt
 number_below CtrlExt = lit< tt
 number_below Ledctl = lit< tt
+number_below Pvfctrl = lit< tt
 number_below Eicr = lit< tt
 number_below Eics = lit< tt
 number_below Eiac = lit< tt
@@ -45,6 +46,7 @@ number_below Rdh = lit< tt
 number_below Srrctl = lit< tt
 number_below Rdt = lit< tt
 number_below Rxdctl = lit< tt
+number_below Vfgprc = lit< tt
 number_below Qprc = lit< tt
 number_below Qprdc = lit< tt
 number_below Rqsmr = lit< tt
@@ -82,9 +84,12 @@ number_below Tdwbal = lit< tt
 number_below Tdwbah = lit< tt
 number_below Qptc = lit< tt
 number_below Mtqc = lit< tt
+number_below Vfgptc = lit< tt
 number_below Tqsm = lit< tt
 number_below Mpsar = lit< tt
 number_below Psrtype = lit< tt
+number_below Eec = lit< tt
+number_below Eerd = lit< tt
 number_below GcrExt = lit< tt
 number_below Pvtivar = lit< tt
 
@@ -95,6 +100,7 @@ row_numbered Ctrl d = refl
 row_numbered Status d = refl
 row_numbered CtrlExt d = refl
 row_numbered Ledctl d = refl
+row_numbered Pvfctrl d = refl
 row_numbered Eicr d = refl
 row_numbered Eics d = refl
 row_numbered Eiac d = refl
@@ -118,6 +124,7 @@ row_numbered Rdh d = refl
 row_numbered Srrctl d = refl
 row_numbered Rdt d = refl
 row_numbered Rxdctl d = refl
+row_numbered Vfgprc d = refl
 row_numbered Qprc d = refl
 row_numbered Qprdc d = refl
 row_numbered Rqsmr d = refl
@@ -155,9 +162,12 @@ row_numbered Tdwbal d = refl
 row_numbered Tdwbah d = refl
 row_numbered Qptc d = refl
 row_numbered Mtqc d = refl
+row_numbered Vfgptc d = refl
 row_numbered Tqsm d = refl
 row_numbered Mpsar d = refl
 row_numbered Psrtype d = refl
+row_numbered Eec d = refl
+row_numbered Eerd d = refl
 row_numbered GcrExt d = refl
 row_numbered Pvtivar d = refl
 
@@ -168,6 +178,7 @@ row_found Ctrl = refl
 row_found Status = refl
 row_found CtrlExt = refl
 row_found Ledctl = refl
+row_found Pvfctrl = refl
 row_found Eicr = refl
 row_found Eics = refl
 row_found Eiac = refl
@@ -191,6 +202,7 @@ row_found Rdh = refl
 row_found Srrctl = refl
 row_found Rdt = refl
 row_found Rxdctl = refl
+row_found Vfgprc = refl
 row_found Qprc = refl
 row_found Qprdc = refl
 row_found Rqsmr = refl
@@ -228,8 +240,11 @@ row_found Tdwbal = refl
 row_found Tdwbah = refl
 row_found Qptc = refl
 row_found Mtqc = refl
+row_found Vfgptc = refl
 row_found Tqsm = refl
 row_found Mpsar = refl
 row_found Psrtype = refl
+row_found Eec = refl
+row_found Eerd = refl
 row_found GcrExt = refl
 row_found Pvtivar = refl

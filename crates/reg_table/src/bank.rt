@@ -15,4 +15,8 @@ pub enum Bank {
     VfInterrupts,
     /// A pool, whose number is the register's index.
     Pool,
+    /// What is counted of a virtual function, whose number is the register's index.
+    VfCounters,
+    /// The interrupt vectors of queues of virtual functions; which queues, the mode and the register's index say.
+    Vectors,
 }

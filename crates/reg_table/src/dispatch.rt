@@ -31,14 +31,15 @@ fn page_00(address: u32) -> Option<Access>
     ensures { result ≡ access_at address }
 {
     match address {
-        ..=0x00897 => from_00000(address),
-        0x00898.. => from_00898(address),
+        ..=0x0081F => from_00000(address),
+        0x00820..=0x00AAF => from_00820(address),
+        0x00AB0.. => from_00ab0(address),
     }
 }
 
-/// The access of an address from 0x00000 to 0x00897.
+/// The access of an address from 0x00000 to 0x0081F.
 fn from_00000(address: u32) -> Option<Access>
-    requires below { address < 0x00898 }
+    requires below { address < 0x00820 }
     requires whole { address % 4 ≡ 0 }
     ensures { result ≡ access_at address }
 {
@@ -48,30 +49,43 @@ fn from_00000(address: u32) -> Option<Access>
         0x00008..=0x0000B => words(RowId::Status, 0, address - 0x00008),
         0x00018..=0x0001B => words(RowId::CtrlExt, 0, address - 0x00018),
         0x00200..=0x00203 => words(RowId::Ledctl, 0, address - 0x00200),
+        0x00300..=0x003FF => words(RowId::Pvfctrl, 0, address - 0x00300),
         0x00800..=0x00803 => words(RowId::Eicr, 0, address - 0x00800),
         0x00808..=0x0080B => words(RowId::Eics, 0, address - 0x00808),
         0x00810..=0x00813 => words(RowId::Eiac, 0, address - 0x00810),
-        0x00820..=0x0087F => words(RowId::Eitr, 0, address - 0x00820),
-        0x00880..=0x00883 => words(RowId::Eims, 0, address - 0x00880),
-        0x00888..=0x0088B => words(RowId::Eimc, 0, address - 0x00888),
-        0x00890..=0x00893 => words(RowId::Eiam, 0, address - 0x00890),
         _ => None,
     }
 }
 
-/// The access of an address from 0x00898 to 0x00FFF.
-fn from_00898(address: u32) -> Option<Access>
-    requires from { 0x00898 ≤ address }
-    requires below { address < 0x01000 }
+/// The access of an address from 0x00820 to 0x00AAF.
+fn from_00820(address: u32) -> Option<Access>
+    requires from { 0x00820 ≤ address }
+    requires below { address < 0x00AB0 }
     requires whole { address % 4 ≡ 0 }
     ensures { result ≡ access_at address }
 {
     match address {
+        0x00820..=0x0087F => words(RowId::Eitr, 0, address - 0x00820),
+        0x00880..=0x00883 => words(RowId::Eims, 0, address - 0x00880),
+        0x00888..=0x0088B => words(RowId::Eimc, 0, address - 0x00888),
+        0x00890..=0x00893 => words(RowId::Eiam, 0, address - 0x00890),
         0x00898..=0x0089B => words(RowId::Gpie, 0, address - 0x00898),
         0x00900..=0x009FF => words(RowId::Ivar, 0, address - 0x00900),
         0x00A00..=0x00A03 => words(RowId::IvarMisc, 0, address - 0x00A00),
         0x00A90..=0x00A93 => low_words(RowId::Eics, 0, address - 0x00A90),
         0x00AA0..=0x00AA3 => low_words(RowId::Eims, 0, address - 0x00AA0),
+        _ => None,
+    }
+}
+
+/// The access of an address from 0x00AB0 to 0x00FFF.
+fn from_00ab0(address: u32) -> Option<Access>
+    requires from { 0x00AB0 ≤ address }
+    requires below { address < 0x01000 }
+    requires whole { address % 4 ≡ 0 }
+    ensures { result ≡ access_at address }
+{
+    match address {
         0x00AB0..=0x00AB3 => low_words(RowId::Eimc, 0, address - 0x00AB0),
         0x00AD0..=0x00AD3 => low_words(RowId::Eiam, 0, address - 0x00AD0),
         0x00B00..=0x00BFF => words(RowId::Pvteicr, 0, address - 0x00B00),
@@ -97,6 +111,7 @@ fn page_01(address: u32) -> Option<Access>
         0x10..=0x13 => queues(RowId::Rdh, 0, address - 0x01010),
         0x14..=0x17 => queues(RowId::Srrctl, 0, address - 0x01014),
         0x18..=0x1B => queues(RowId::Rdt, 0, address - 0x01018),
+        0x1C..=0x1F => queues(RowId::Vfgprc, 0, address - 0x0101C),
         0x28..=0x2B => queues(RowId::Rxdctl, 0, address - 0x01028),
         0x30..=0x33 => page_01_30(address),
         _ => None,
@@ -241,6 +256,7 @@ fn page_08(address: u32) -> Option<Access>
     match address {
         0x08110..=0x08117 => words(RowId::Vfte, 0, address - 0x08110),
         0x08120..=0x08123 => words(RowId::Mtqc, 0, address - 0x08120),
+        0x08300..=0x083FF => words(RowId::Vfgptc, 0, address - 0x08300),
         0x08600..=0x0867F => words(RowId::Tqsm, 0, address - 0x08600),
         0x0A200..=0x0A5FF => steps_0a200(address),
         0x0A600..=0x0A9FF => words(RowId::Mpsar, 0, address - 0x0A600),
@@ -293,6 +309,8 @@ fn page_0e(address: u32) -> Option<Access>
         0x0EB00..=0x0EB7F => words(RowId::Reta, 0, address - 0x0EB00),
         0x0EB80..=0x0EBA7 => words(RowId::Rssrk, 0, address - 0x0EB80),
         0x0EC80..=0x0EC83 => words(RowId::Mrqc, 0, address - 0x0EC80),
+        0x10010..=0x10013 => words(RowId::Eec, 0, address - 0x10010),
+        0x10014..=0x10017 => words(RowId::Eerd, 0, address - 0x10014),
         0x11050..=0x11053 => words(RowId::GcrExt, 0, address - 0x11050),
         0x12300..=0x1249F => words(RowId::Eitr, 24, address - 0x12300),
         0x12500..=0x125FF => words(RowId::Pvtivar, 0, address - 0x12500),

@@ -3,7 +3,9 @@
 pub enum Kind {
     /// A read gives the word. A write replaces the bits of the row's mask.
     Rw,
-    /// A read gives a formula over other words and the link. A write changes nothing.
+    /// A read gives the word. A write changes nothing.
+    Ro,
+    /// A read gives a formula over other words and what lies around the device. A write changes nothing.
     Calc,
     /// A counter. A read gives the word, which becomes 0. A write changes nothing.
     Rc,
@@ -24,4 +26,10 @@ pub enum Kind {
     /// The device control word. A write that asks for a reset resets the device and does nothing else; any other is as
     /// for `Rw`.
     Ctrl,
+    /// The control word of a pool. A read gives 0. A write that asks for a reset resets the pool; any other changes
+    /// nothing.
+    Vreset,
+    /// The word that reads the EEPROM: the index asked for, and what was read. A read gives the word. A write replaces
+    /// bits 15 to 0 but for bit 1, and clears the others.
+    Eerd,
 }

@@ -43,11 +43,12 @@ pub fn view_of(address: u32) -> u32
     }
 }
 
-/// The first address of a place, in the table's order.
+/// The first address of a place, in the table's order. All bits of the word show there.
 pub fn addr_of(place: Place) -> u32
     requires { place.index < (row_of place.row).count }
     ensures first { address_among runs place ≡ Some result }
     ensures back { place_among runs result ≡ Some place }
+    ensures whole { view_among runs result ≡ 0xFFFFFFFF }
 {
     let run = first_of(place.row);
     let index = u32::from(place.index);

@@ -18,6 +18,8 @@ pub enum RowId {
     CtrlExt,
     /// LED control.
     Ledctl,
+    /// Control of a virtual function.
+    Pvfctrl,
     /// Extended interrupt cause.
     Eicr,
     /// Extended interrupt cause set.
@@ -64,6 +66,8 @@ pub enum RowId {
     Rdt,
     /// Receive descriptor control.
     Rxdctl,
+    /// Good frames received by a virtual function.
+    Vfgprc,
     /// Frames received, in one of 16 counters of queues.
     Qprc,
     /// Frames dropped for want of a slot, in one of 16 counters of queues.
@@ -138,12 +142,18 @@ pub enum RowId {
     Qptc,
     /// Multiple transmit queues command.
     Mtqc,
+    /// Good frames transmitted by a virtual function.
+    Vfgptc,
     /// Transmit queue statistics mapping.
     Tqsm,
     /// Pool select of the receive addresses.
     Mpsar,
     /// Packet split receive type of a pool.
     Psrtype,
+    /// EEPROM control and size.
+    Eec,
+    /// EEPROM read.
+    Eerd,
     /// Extended PCIe control.
     GcrExt,
     /// Interrupt vector allocation of a virtual function.
@@ -151,11 +161,12 @@ pub enum RowId {
 }
 
 /// The rows, in the order of the table.
-pub(crate) static ROWS: [RowId; 69] = [
+pub(crate) static ROWS: [RowId; 74] = [
     RowId::Ctrl,
     RowId::Status,
     RowId::CtrlExt,
     RowId::Ledctl,
+    RowId::Pvfctrl,
     RowId::Eicr,
     RowId::Eics,
     RowId::Eiac,
@@ -179,6 +190,7 @@ pub(crate) static ROWS: [RowId; 69] = [
     RowId::Srrctl,
     RowId::Rdt,
     RowId::Rxdctl,
+    RowId::Vfgprc,
     RowId::Qprc,
     RowId::Qprdc,
     RowId::Rqsmr,
@@ -216,9 +228,12 @@ pub(crate) static ROWS: [RowId; 69] = [
     RowId::Tdwbah,
     RowId::Qptc,
     RowId::Mtqc,
+    RowId::Vfgptc,
     RowId::Tqsm,
     RowId::Mpsar,
     RowId::Psrtype,
+    RowId::Eec,
+    RowId::Eerd,
     RowId::GcrExt,
     RowId::Pvtivar,
 ];
@@ -246,6 +261,7 @@ pub(crate) fn entry_of(row: RowId) -> Entry
         RowId::Status   => entry!("STATUS",     1, Calc, Device, 0xFFFF_FFFF, 0x0000_0000),
         RowId::CtrlExt  => entry!("CTRL_EXT",   1, Rw, Device, 0xFFFF_FFFF, 0x0000_0000),
         RowId::Ledctl   => entry!("LEDCTL",     1, Rw, Device, 0xFFFF_FFFF, 0x0000_0000),
+        RowId::Pvfctrl  => entry!("PVFCTRL",   64, Vreset, Pool, 0xFFFF_FFFF, 0x0000_0000),
         RowId::Eicr     => entry!("EICR",       1, Cause, Interrupts, 0x7FFF_FFFF, 0x0000_0000),
         RowId::Eics     => entry!("EICS",       1, Set, Interrupts, 0xFFFF_FFFF, 0x0000_0000),
         RowId::Eiac     => entry!("EIAC",       1, Rw, Interrupts, 0x7FFF_FFFF, 0x0000_0000),
@@ -269,6 +285,7 @@ pub(crate) fn entry_of(row: RowId) -> Entry
         RowId::Srrctl   => entry!("SRRCTL",   128, Rw, Receive, 0xFFFF_FFFF, 0x0000_0402),
         RowId::Rdt      => entry!("RDT",      128, Rw, Receive, 0x0000_FFFF, 0x0000_0000),
         RowId::Rxdctl   => entry!("RXDCTL",   128, Enable, Receive, 0xFDFF_FFFF, 0x0000_0000),
+        RowId::Vfgprc   => entry!("VFGPRC",    64, Ro, VfCounters, 0xFFFF_FFFF, 0x0000_0000),
         RowId::Qprc     => entry!("QPRC",      16, Rc, Counters, 0xFFFF_FFFF, 0x0000_0000),
         RowId::Qprdc    => entry!("QPRDC",     16, Rc, Counters, 0xFFFF_FFFF, 0x0000_0000),
         RowId::Rqsmr    => entry!("RQSMR",     32, Rw, Device, 0xFFFF_FFFF, 0x0000_0000),
@@ -306,10 +323,13 @@ pub(crate) fn entry_of(row: RowId) -> Entry
         RowId::Tdwbah   => entry!("TDWBAH",   128, Rw, Transmit, 0xFFFF_FFFF, 0x0000_0000),
         RowId::Qptc     => entry!("QPTC",      16, Rc, Counters, 0xFFFF_FFFF, 0x0000_0000),
         RowId::Mtqc     => entry!("MTQC",       1, Rw, Device, 0xFFFF_FFFF, 0x0000_0000),
+        RowId::Vfgptc   => entry!("VFGPTC",    64, Ro, VfCounters, 0xFFFF_FFFF, 0x0000_0000),
         RowId::Tqsm     => entry!("TQSM",      32, Rw, Device, 0xFFFF_FFFF, 0x0000_0000),
         RowId::Mpsar    => entry!("MPSAR",    256, Rw, Device, 0xFFFF_FFFF, 0x0000_0000),
         RowId::Psrtype  => entry!("PSRTYPE",   64, Rw, Pool, 0xFFFF_FFFF, 0x0000_0000),
+        RowId::Eec      => entry!("EEC",        1, Calc, Device, 0xFFFF_FFFF, 0x0000_0000),
+        RowId::Eerd     => entry!("EERD",       1, Eerd, Device, 0xFFFF_FFFF, 0x0000_0000),
         RowId::GcrExt   => entry!("GCR_EXT",    1, Rw, Device, 0xFFFF_FFFF, 0x0000_0000),
-        RowId::Pvtivar  => entry!("PVTIVAR",   64, Rw, Device, 0xFFFF_FFFF, 0x0000_0000),
+        RowId::Pvtivar  => entry!("PVTIVAR",   64, Rw, Vectors, 0xFFFF_FFFF, 0x0000_0000),
     }
 }

@@ -119,6 +119,8 @@ covers-pending_of owner.Counters = covers-nothing _
 covers-pending_of (owner.Side dir queue) = covers-nothing _
 covers-pending_of (owner.Group g) = covers-pending g
 covers-pending_of (owner.Pool number) = covers-nothing _
+covers-pending_of (owner.VfCounters number) = covers-nothing _
+covers-pending_of (owner.Vectors number) = covers-nothing _
 
 covers-read_by : (k : Kind) (p : Place) → Covers (of_owner (owner_of p)) (read_by k p)
 covers-read_by kind.Rc p = covers-the_word p
@@ -127,11 +129,14 @@ covers-read_by other p = covers-nothing _
 
 covers-written_by : (k : Kind) (p : Place) → Covers (of_owner (owner_of p)) (written_by k p)
 covers-written_by kind.Rw p = covers-the_word p
+covers-written_by kind.Ro p = covers-nothing _
 covers-written_by kind.Calc p = covers-nothing _
 covers-written_by kind.Rc p = covers-nothing _
 covers-written_by kind.Held p = covers-the_word p
 covers-written_by kind.Enable p = covers-the_enable p
 covers-written_by kind.Ctrl p = covers-the_word p
+covers-written_by kind.Vreset p = covers-nothing _
+covers-written_by kind.Eerd p = covers-the_word p
 covers-written_by interrupts p = covers-pending_of (owner_of p)
 
 -- an access of a place changes nothing but what its owner has

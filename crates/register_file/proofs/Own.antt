@@ -4,17 +4,14 @@ use Rattle.intr_unit.specs.BitSet.{BitSet, contains, intersection, IsSubset}
 use Rattle.intr_unit.specs.Group.{group_bits}
 use Rattle.intr_unit.specs.Interrupts.{Interrupts, IsConsistent}
 use Rattle.intr_unit.specs.declared.group.Group.{Group}
-use Rattle.intr_unit.proofs.SetLaws.{same_bits, contains-intersection, bits_where-lt}
+use Rattle.intr_unit.proofs.SetLaws.{same_bits, contains-intersection}
 use Rattle.register_file.specs.AllGroups.{IsOwn}
+use Rattle.register_file.proofs.Settled.{intersection-lt}
 
 -- the common bits of a set and one that it is within
 implied : (x y : Bool) → (x ≡ true → y ≡ true) → (x && y) ≡ x
 implied true y h = h refl
 implied false y h = refl
-
-intersection-lt : (a b : BitSet) → intersection a b < 2 ^ 32
-unfolding intersection
-intersection-lt a b = bits_where-lt _
 
 pub intersection-within : (inner outer : BitSet) → inner < 2 ^ 32 → IsSubset inner outer → intersection inner outer ≡ inner
 intersection-within inner outer small within =
@@ -22,14 +19,16 @@ intersection-within inner outer small within =
     (λ k b. contains-intersection inner outer k b ∙ implied (contains inner k) (contains outer k) (within.member k))
 
 -- interrupts that are consistent, in words of 32 bits, are given by these words
-pub own_words : (s : Interrupts) → IsConsistent s → s.causes < 2 ^ 32 → s.enabled < 2 ^ 32 → s.auto_clear < 2 ^ 32 → s.auto_mask < 2 ^ 32 → s.told < 2 ^ 32 → IsOwn s.group s
+pub own_words : (s : Interrupts) → IsConsistent s → s.causes < 2 ^ 32 → s.enabled < 2 ^ 32 → s.auto_clear < 2 ^ 32
+    → s.auto_mask < 2 ^ 32 → s.told < 2 ^ 32 → IsOwn s.group s
 own_words s c small_causes small_enabled small_clear small_mask small_told =
     let bits = group_bits s.group in
     let causes = intersection-within s.causes bits small_causes c.causes_exist in
     let enabled = intersection-within s.enabled bits small_enabled c.masks_exist in
     let clear = intersection-within s.auto_clear bits small_clear c.auto_clear_exists in
     let mask = intersection-within s.auto_mask bits small_mask c.auto_mask_exists in
-    let told = (λ k. intersection s.told (intersection (causes k) (enabled k))) ∙ intersection-within s.told (intersection s.causes s.enabled) small_told c.told_is_pending in
+    let told = (λ k. intersection s.told (intersection (causes k) (enabled k)))
+    ∙ intersection-within s.told (intersection s.causes s.enabled) small_told c.told_is_pending in
     record {
       of_group = refl;
       by_words = λ k. record {
@@ -45,5 +44,7 @@ own_words s c small_causes small_enabled small_clear small_mask small_told =
     }
 
 -- a word of bits that the group has is stored whole
-pub whole_word : (s : Interrupts) (g : Group) (word : ℕ) → s.group ≡ g → word < 2 ^ 32 → IsSubset word (group_bits g) → intersection word (group_bits s.group) ≡ word
-whole_word s g word e small within = ap (λ h. intersection word (group_bits h)) e ∙ intersection-within word (group_bits g) small within
+pub whole_word : (s : Interrupts) (g : Group) (word : ℕ) → s.group ≡ g → word < 2 ^ 32 → IsSubset word (group_bits g)
+    → intersection word (group_bits s.group) ≡ word
+whole_word s g word e small within =
+    ap (λ h. intersection word (group_bits h)) e ∙ intersection-within word (group_bits g) small within

@@ -43,6 +43,8 @@ is_owner-itself owner.Counters = refl
 is_owner-itself (owner.Side dir queue) = and_from _ _ (is_dir-itself dir) (eq-eqb queue queue refl)
 is_owner-itself (owner.Group g) = is_group-itself g
 is_owner-itself (owner.Pool number) = eq-eqb number number refl
+is_owner-itself (owner.VfCounters number) = eq-eqb number number refl
+is_owner-itself (owner.Vectors number) = eq-eqb number number refl
 
 pub is_owner-same : (o other : Owner) → is_owner o other ≡ true → o ≡ other
 is_owner-same owner.Device owner.Device e = refl
@@ -52,6 +54,8 @@ is_owner-same (owner.Side dir queue) (owner.Side other number) e =
     λ k. owner.Side (is_dir-same dir other parts.0 k) (eqb-true queue number parts.1 k)
 is_owner-same (owner.Group g) (owner.Group h) e = ap owner.Group (is_group-same g h e)
 is_owner-same (owner.Pool pool) (owner.Pool number) e = ap owner.Pool (eqb-true pool number e)
+is_owner-same (owner.VfCounters own) (owner.VfCounters number) e = ap owner.VfCounters (eqb-true own number e)
+is_owner-same (owner.Vectors own) (owner.Vectors number) e = ap owner.Vectors (eqb-true own number e)
 is_owner-same own other e = cc
 
 pub is_place-itself : (p : Place) → is_place p p ≡ true

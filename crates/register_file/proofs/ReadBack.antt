@@ -14,7 +14,7 @@ use Rattle.register_file.specs.Columns.{place}
 use Rattle.register_file.specs.Footprint.{Footprint, ChangesWithin, is_place}
 use Rattle.register_file.specs.Counters.{mapping_row}
 use Rattle.register_file.specs.Groups.{vector_row, vector_entry}
-use Rattle.register_file.specs.Laws.{HasShape, CountsAndClears, GroupBitsAreMasks, EnableReadTellsOn, ResetSwitchesOff, WordIsOnePlace, OwnersDiffer, SettingsStand}
+use Rattle.register_file.specs.Laws.{HasShape, CountsAndClears, GoesRound, GroupBitsAreMasks, EnableReadTellsOn, ResetSwitchesOff, WordIsOnePlace, OwnersDiffer, SettingsStand}
 use Rattle.register_file.specs.Owner.{is_owner}
 use Rattle.register_file.specs.Registers.{Registers, word_of}
 use Rattle.register_file.specs.Words.{word_at}
@@ -28,6 +28,13 @@ pub counts_and_clears : (r : Registers) (p : Place) → HasShape r → p.index <
 counts_and_clears r p h b = record {
   counts = λ link. put_stands r p (bumped (word_at r.words p)) h b;
   clears = λ link. put_stands r p 0 h b;
+}
+
+pub goes_round : (r : Registers) (p : Place) → HasShape r → p.index < (row_of p.row).count → GoesRound r p
+goes_round r p h b = record {
+  counts = λ around. put_stands r p ((word_at r.words p + 1) % 2 ^ 32) h b;
+  stays = refl;
+  kept = λ view word. refl;
 }
 
 -- after a reset no side of a queue is on or wanted on

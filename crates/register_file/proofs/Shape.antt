@@ -59,7 +59,7 @@ HasShape-with_wanted r Tx queue wanted h = record {
   told_vf = h.told_vf;
 }
 
-HasShape-with_told : (r : Registers) (g : Group) (told : ℕ) → HasShape r → HasShape (with_told r g told)
+pub HasShape-with_told : (r : Registers) (g : Group) (told : ℕ) → HasShape r → HasShape (with_told r g told)
 HasShape-with_told r Pf told h = record {
   has_rows = h.has_rows;
   has_indices = h.has_indices;

@@ -1,5 +1,5 @@
 -- Words of 32 bits.
-use Rattle.std.proofs.Common.{◌≡◌, ℕ, ◌+◌, ◌-◌, ◌/◌, ◌%◌, ◌<◌, ◌^◌, subst, inl, inr, arith, lit<}
+use Rattle.std.proofs.Common.{◌≡◌, ℕ, ◌+◌, ◌-◌, ◌*◌, ◌/◌, ◌%◌, ◌<◌, ◌^◌, subst, inl, inr, arith, lit<}
 use Rattle.std.specs.Prelude.{bit_and}
 use Rattle.std.proofs.lemmas.Bool.{cases_Bool, cases_lt, eqb-false}
 use Rattle.std.proofs.lemmas.Bool.Decides.{nat_tests}
@@ -15,7 +15,6 @@ use Rattle.register_file.specs.Footprint.{is_place}
 use Rattle.register_file.specs.Laws.{HasShape}
 use Rattle.register_file.specs.Registers.{Registers, reset_registers}
 use Rattle.register_file.specs.Words.{word_at, put, row_words, reset_words}
-use Rattle.register_file.proofs.GroupChanges.{kept}
 use Rattle.register_file.proofs.Owners.{apart, is_place-itself, is_place-same}
 use Rattle.register_file.proofs.Puts.{word_at-put_other, word_at-reset}
 use Rattle.register_file.proofs.Shape.{put_stands, HasShape-reset, HasShape-put}
@@ -28,6 +27,9 @@ merged-lt mask old new small_old small_new =
 
 pub bumped-lt : (w : ℕ) → w < 2 ^ 32 → bumped w < 2 ^ 32
 bumped-lt w small = grind (arith, nat_tests)
+
+pub answer-lt : (w word : ℕ) → word < 2 ^ 16 → w / 4 % 2 ^ 14 * 4 + 2 + word * 2 ^ 16 < 2 ^ 32
+answer-lt w word small = omega arith
 
 set_above : (w : ℕ) → w < 2 ^ 32 → (w / 2 ^ 25 % 2 ≡ 1 → ⊥) → w + 2 ^ 25 < 2 ^ 32
 set_above w small unset = omega arith
@@ -64,7 +66,7 @@ word_at-put-lt r p v shape words small q =
     ]
 
 -- after a reset
-reset_small : (row : RowId) → (row_of row).reset < 2 ^ 32
+pub reset_small : (row : RowId) → (row_of row).reset < 2 ^ 32
 reset_small row.Ctrl = lit< tt
 reset_small other = lit< tt
 

@@ -3,11 +3,13 @@ use Rattle.std.proofs.Common.{◌≡◌, ℕ, ◌<◌, ◌^◌, Bool, true, fals
 use Rattle.std.specs.Prelude.{Option, Some, None, bit_and}
 use Rattle.std.specs.Option.{option_map_or}
 use Rattle.std.proofs.lemmas.List.{get_or-replicate}
+use Rattle.std.proofs.lemmas.Nat.{and_le_r}
 use Rattle.reg_table.specs.Rows.{row_of}
 use Rattle.reg_table.specs.declared.place.Place.{Place}
 use Rattle.reg_table.specs.declared.kind.Kind.{Kind}
 use Rattle.reg_table.specs.declared.kind.Kind.TheVariants as kind
 use Rattle.reg_table.specs.declared.rows.RowId.{RowId}
+use Rattle.reg_table.specs.declared.rows.RowId.TheVariants.{Eerd}
 use Rattle.intr_unit.specs.BitSet.{IsSubset}
 use Rattle.intr_unit.specs.declared.group.Group.{Group}
 use Rattle.intr_unit.specs.declared.group.Group.TheVariants.{Pf, Vf}
@@ -15,13 +17,14 @@ use Rattle.intr_unit.proofs.Subsets.{IsSubset-no_bits}
 use Rattle.register_file.specs.Access.{after_read, written, stored, group_in, group_read, is_running, asked}
 use Rattle.register_file.specs.Bits.{has_bit}
 use Rattle.register_file.specs.Columns.{place}
-use Rattle.register_file.specs.Counters.{counted}
+use Rattle.register_file.specs.Counters.{counted, counted_wrapping}
+use Rattle.register_file.specs.Eeprom.{eeprom_answered}
 use Rattle.register_file.specs.Footprint.{is_pending}
 use Rattle.register_file.specs.Groups.{index_of, told_by, message_made, causes_raised, queue_raised}
 use Rattle.register_file.specs.Laws.{after_write}
 use Rattle.register_file.specs.Owner.{owner_of}
 use Rattle.register_file.specs.Queue.{head_row, enable_row, with_head, switched, switched_on, switched_off, shut}
-use Rattle.register_file.specs.Registers.{Registers, reset_registers, is_wanted}
+use Rattle.register_file.specs.Registers.{Registers, reset_registers, word_of, is_wanted}
 use Rattle.register_file.specs.Sound.{AreSound, pending_bits}
 use Rattle.register_file.specs.Words.{word_at}
 use Rattle.register_file.specs.declared.dir.Dir.{Dir}
@@ -30,7 +33,7 @@ use Rattle.register_file.specs.declared.owner.Owner.{Owner}
 use Rattle.register_file.specs.declared.owner.Owner.TheVariants as owner
 use Rattle.register_file.proofs.GroupChanges.{GroupChange, kept, changed, change-group_read, change-interrupts_written, change-causes_raised, change-message_made}
 use Rattle.register_file.proofs.Shape.{HasShape-reset}
-use Rattle.register_file.proofs.Small.{merged-lt, bit_set-lt, bit_cleared-lt, word_at-reset-lt}
+use Rattle.register_file.proofs.Small.{merged-lt, answer-lt, bit_set-lt, bit_cleared-lt, word_at-reset-lt}
 pub use Rattle.register_file.proofs.Small.{bumped-lt}
 use Rattle.register_file.proofs.SoundParts.{sound-put, sound-with_wanted, sound-with_interrupts}
 
@@ -79,6 +82,7 @@ sound-stored k r p view word e steady sound small =
 written_sound : (k : Kind) (r : Registers) (p : Place) (view word : ℕ) → (row_of p.row).kind ≡ k → AreSound r
     → word < 2 ^ 32 → AreSound (written k r p view word)
 written_sound kind.Rw r p view word e sound small = sound-stored kind.Rw r p view word e refl sound small
+written_sound kind.Ro r p view word e sound small = sound
 written_sound kind.Calc r p view word e sound small = sound
 written_sound kind.Rc r p view word e sound small = sound
 written_sound kind.Held r p view word e sound small =
@@ -88,6 +92,10 @@ written_sound kind.Enable r p view word e sound small =
     sound-asked (stored r p view word) (owner_of p) (has_bit 25 word)
     (sound-stored kind.Enable r p view word e refl sound small)
 written_sound kind.Ctrl r p view word e sound small = sound-stored kind.Ctrl r p view word e refl sound small
+written_sound kind.Vreset r p view word e sound small = sound
+written_sound kind.Eerd r p view word e sound small =
+    let fewer = and_le_r word 0xFFFD in
+    sound-stored kind.Eerd r p view (bit_and word 0xFFFD) e refl sound (omega arith)
 written_sound k r p view word e sound small =
     sound_group r _ sound (λ g. change-interrupts_written k r g (bit_and word view)) (group_in (owner_of p))
 
@@ -95,11 +103,18 @@ pub sound-written : (r : Registers) (p : Place) (view word : ℕ) → AreSound r
     → AreSound (after_write r p view word)
 sound-written r p view word sound small = written_sound (row_of p.row).kind r p view word refl sound small
 
--- what the device counts and does to sides
+-- what the device counts, what the EEPROM answers, and what becomes of sides
+pub sound-answered : (r : Registers) (word : ℕ) → word < 2 ^ 16 → AreSound r → AreSound (eeprom_answered r word)
+sound-answered r word small sound = sound-put r (place Eerd 0) _ sound (answer-lt (word_of r Eerd 0) word small) refl
+
 pub sound-counted : (r : Registers) (row : RowId) (index : ℕ) → (row_of row).kind ≡ kind.Rc → AreSound r
     → AreSound (counted r row index)
 sound-counted r row index e sound =
     sound-put r (place row index) _ sound (bumped-lt _ (sound.words (place row index))) (ap is_pending e)
+
+pub sound-counted_wrapping : (r : Registers) (row : RowId) (index : ℕ) → (row_of row).kind ≡ kind.Ro → AreSound r
+    → AreSound (counted_wrapping r row index)
+sound-counted_wrapping r row index e sound = sound-put r (place row index) _ sound (omega arith) (ap is_pending e)
 
 head_steady : (dir : Dir) → is_pending (row_of (head_row dir)).kind ≡ false
 head_steady Rx = refl

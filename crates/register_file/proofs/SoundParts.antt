@@ -26,7 +26,7 @@ use Rattle.register_file.proofs.WithinParts.{within-put, within-with_wanted, wit
 use Rattle.register_file.proofs.Small.{AreSmall, word_at-put-lt}
 
 -- told bits stand where a footprint misses what is pending of their group
-told_stands : (f : Footprint) (r s : Registers) (g : Group) → Misses f (pending g) → ChangesWithin f r s
+pub told_stands : (f : Footprint) (r s : Registers) (g : Group) → Misses f (pending g) → ChangesWithin f r s
     → IsSubset (told_by r g) (pending_bits r g) → IsSubset (told_by s g) (pending_bits s g)
 told_stands f r s g out only told =
     let cause : Place = place (cause_row g) (index_of g) in

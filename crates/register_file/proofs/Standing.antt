@@ -1,15 +1,14 @@
 -- The interrupts of a group that were put into its registers.
-use Rattle.std.proofs.Common.{◌≡◌, ◌≢◌, ℕ, ◌^◌, ◌<◌, ◌&&◌, Bool, true, false, length, refl, ap, sym, ◌∙◌, subst, lit<}
+use Rattle.std.proofs.Common.{◌≡◌, ◌≢◌, ℕ, ◌^◌, ◌<◌, false, length, refl, ap, sym, ◌∙◌, subst, lit<}
 use Rattle.std.proofs.lemmas.List.{get_or-set_same}
 use Rattle.reg_table.specs.Rows.{row_of}
 use Rattle.reg_table.specs.declared.place.Place.{Place}
 use Rattle.reg_table.specs.declared.rows.RowId.TheVariants.{Eicr, Eims, Pvteicr, Pvteims}
-use Rattle.intr_unit.specs.BitSet.{BitSet, contains, intersection, IsSubset}
+use Rattle.intr_unit.specs.BitSet.{intersection}
 use Rattle.intr_unit.specs.Group.{group_bits}
 use Rattle.intr_unit.specs.Interrupts.{Interrupts, IsConsistent}
 use Rattle.intr_unit.specs.declared.group.Group.{Group}
 use Rattle.intr_unit.specs.declared.group.Group.TheVariants.{Pf, Vf}
-use Rattle.intr_unit.proofs.SetLaws.{same_bits, contains-intersection}
 use Rattle.register_file.specs.Columns.{place}
 use Rattle.register_file.specs.Groups.{cause_row, mask_row, auto_clear_row, auto_mask_row, index_of, told_by, with_told, interrupts_of, with_interrupts}
 use Rattle.register_file.specs.Footprint.{pending}
@@ -19,18 +18,8 @@ use Rattle.register_file.specs.Words.{word_at}
 use Rattle.register_file.proofs.Puts.{word_at-put_other}
 use Rattle.register_file.proofs.Shape.{put_stands, HasShape-put}
 use Rattle.register_file.proofs.Fields.{words-with_told}
-use Rattle.register_file.proofs.Settled.{intersection-lt}
+use Rattle.register_file.proofs.Own.{intersection-within}
 use Rattle.register_file.proofs.WithinParts.{within-with_interrupts}
-
--- the common bits of a set and one that it is within
-implied : (x y : Bool) → (x ≡ true → y ≡ true) → (x && y) ≡ x
-implied true y h = h refl
-implied false y h = refl
-
-intersection-within : (inner outer : BitSet) → inner < 2 ^ 32 → IsSubset inner outer → intersection inner outer ≡ inner
-intersection-within inner outer small within =
-    same_bits (intersection inner outer) inner (intersection-lt inner outer) small
-    (λ k b. contains-intersection inner outer k b ∙ implied (contains inner k) (contains outer k) (within.member k))
 
 cause_index : (g : Group) → index_of g < 64 → index_of g < (row_of (cause_row g)).count
 cause_index Pf b = lit< tt
@@ -52,7 +41,7 @@ auto_mask-steady : (g : Group) → (pending g).words (place (auto_mask_row g) (i
 auto_mask-steady Pf = refl
 auto_mask-steady (Vf v) = refl
 
-told_by-with_told : (r : Registers) (g : Group) (told : ℕ) → length r.told_vf ≡ 64 → index_of g < 64
+pub told_by-with_told : (r : Registers) (g : Group) (told : ℕ) → length r.told_vf ≡ 64 → index_of g < 64
     → told_by (with_told r g told) g ≡ told
 told_by-with_told r Pf told h b = refl
 told_by-with_told r (Vf v) told h b = get_or-set_same r.told_vf v told 0 (subst (λ n. v < n) (sym h) b)

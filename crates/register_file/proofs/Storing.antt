@@ -53,3 +53,10 @@ counter_word Eiam index word h = absurd (cc)
 counter_word Pvteiac index word h = absurd (cc)
 counter_word Pvteiam index word h = absurd (cc)
 counter_word other index word h = tt
+
+pub read_only_word : (row : RowId) (index word : ℕ) → (row_of row).kind ≡ kind.Ro → IsWordOf row index word
+read_only_word Eiac index word h = absurd (cc)
+read_only_word Eiam index word h = absurd (cc)
+read_only_word Pvteiac index word h = absurd (cc)
+read_only_word Pvteiam index word h = absurd (cc)
+read_only_word other index word h = tt

@@ -1,5 +1,5 @@
 -- What each operation changes.
-use Rattle.std.proofs.Common.{◌≡◌, ℕ, Bool, true, false, refl, ap, sym, ◌∙◌, subst}
+use Rattle.std.proofs.Common.{◌≡◌, ℕ, ◌+◌, ◌%◌, ◌^◌, Bool, true, false, refl, ap, sym, ◌∙◌, subst}
 use Rattle.std.specs.Prelude.{bit_and}
 use Rattle.std.specs.Option.{option_map_or}
 use Rattle.reg_table.specs.Counter.{bumped}
@@ -8,11 +8,13 @@ use Rattle.reg_table.specs.declared.place.Place.{Place}
 use Rattle.reg_table.specs.declared.kind.Kind.{Kind}
 use Rattle.reg_table.specs.declared.kind.Kind.TheVariants as kind
 use Rattle.reg_table.specs.declared.rows.RowId.{RowId}
+use Rattle.reg_table.specs.declared.rows.RowId.TheVariants.{Eerd}
 use Rattle.intr_unit.specs.declared.group.Group.{Group}
 use Rattle.register_file.specs.Access.{after_read, written, stored, group_in, group_read, group_written, is_running, asked}
 use Rattle.register_file.specs.Bits.{has_bit}
 use Rattle.register_file.specs.Columns.{place}
-use Rattle.register_file.specs.Counters.{counted}
+use Rattle.register_file.specs.Counters.{counted, counted_wrapping}
+use Rattle.register_file.specs.Eeprom.{eeprom_answered}
 use Rattle.register_file.specs.Footprint.{Footprint, ChangesWithin, Covers, nothing, of_owner, the_word, the_enable, pending, pending_of, of_side, read_by, of_read, written_by, of_write}
 use Rattle.register_file.specs.Groups.{with_interrupts, message_made, causes_raised, queue_raised}
 use Rattle.register_file.specs.Laws.{after_write}
@@ -51,6 +53,8 @@ within_group r change each owner.Counters = within-refl nothing r
 within_group r change each (owner.Side dir queue) = within-refl nothing r
 within_group r change each (owner.Group g) = within-change r g (change g) (each g)
 within_group r change each (owner.Pool number) = within-refl nothing r
+within_group r change each (owner.VfCounters number) = within-refl nothing r
+within_group r change each (owner.Vectors number) = within-refl nothing r
 
 read_within : (k : Kind) (r : Registers) (p : Place) → ChangesWithin (read_by k p) r (after_read k r p)
 read_within kind.Rc r p = within-put (the_word p) r p 0 (is_place-itself p)
@@ -78,6 +82,7 @@ within-group_written k r p bits = within_group r _ (λ g. change-interrupts_writ
 written_within : (k : Kind) (r : Registers) (p : Place) (view word : ℕ)
     → ChangesWithin (written_by k p) r (written k r p view word)
 written_within kind.Rw r p view word = within-stored (the_word p) r p view word (is_place-itself p)
+written_within kind.Ro r p view word = within-refl nothing r
 written_within kind.Calc r p view word = within-refl nothing r
 written_within kind.Rc r p view word = within-refl nothing r
 written_within kind.Held r p view word =
@@ -88,16 +93,26 @@ written_within kind.Enable r p view word =
     (within-stored (the_enable p) r p view word (is_place-itself p))
     (within-asked (the_enable p) (stored r p view word) (owner_of p) (has_bit 25 word) (λ dir queue is. is))
 written_within kind.Ctrl r p view word = within-stored (the_word p) r p view word (is_place-itself p)
+written_within kind.Vreset r p view word = within-refl nothing r
+written_within kind.Eerd r p view word =
+    within-stored (the_word p) r p view (bit_and word 0xFFFD) (is_place-itself p)
 written_within k r p view word = within-group_written k r p (bit_and word view)
 
 pub within-written : (r : Registers) (p : Place) (view word : ℕ)
     → ChangesWithin (of_write p) r (after_write r p view word)
 within-written r p view word = written_within (row_of p.row).kind r p view word
 
--- what the device counts and does to sides
+-- what the device counts, what the EEPROM answers, and what becomes of sides
+pub within-answered : (r : Registers) (word : ℕ) → ChangesWithin (the_word (place Eerd 0)) r (eeprom_answered r word)
+within-answered r word = within-word r Eerd 0 _
+
 pub within-counted : (r : Registers) (row : RowId) (index : ℕ)
     → ChangesWithin (the_word (place row index)) r (counted r row index)
 within-counted r row index = within-word r row index (bumped (word_of r row index))
+
+pub within-counted_wrapping : (r : Registers) (row : RowId) (index : ℕ)
+    → ChangesWithin (the_word (place row index)) r (counted_wrapping r row index)
+within-counted_wrapping r row index = within-word r row index ((word_of r row index + 1) % 2 ^ 32)
 
 pub within-with_head : (r : Registers) (dir : Dir) (queue head : ℕ)
     → ChangesWithin (the_word (place (head_row dir) queue)) r (with_head r dir queue head)

@@ -1,5 +1,5 @@
 -- Register accesses, by the kind of the row.
-use Rattle.std.specs.Prelude.{ℕ, Bool, false, ◌||◌, Option, Some, None, bit_and, if◌then◌else◌}
+use Rattle.std.specs.Prelude.{ℕ, ◌+◌, ◌*◌, Bool, false, ◌||◌, Option, Some, None, bit_and, if◌then◌else◌}
 use Rattle.std.specs.Option.{option_map_or}
 use Rattle.intr_unit.specs.declared.group.Group.{Group}
 use Rattle.reg_table.specs.Rows.{row_of}
@@ -17,26 +17,32 @@ use Rattle.register_file.specs.Owner.{owner_of}
 use Rattle.register_file.specs.Queue.{is_on}
 use Rattle.register_file.specs.Settings.{is_stopped}
 use Rattle.register_file.specs.declared.owner.Owner.{Owner}
+use Rattle.register_file.specs.declared.surroundings.Surroundings.{Surroundings}
 use Rattle.register_file.specs.declared.owner.Owner.TheVariants as owner
 
--- what a row that is calculated reads as: STATUS tells whether the device makes steps, LINKS whether the link is up
-abbrev pub calculated : RowId → Registers → Bool → ℕ
-calculated row.Status r link = if is_stopped r then 0 else 0x00080000
-calculated row.Links r link = if link then 0x70000000 else 0
-calculated other r link = 0
+-- what a row that is calculated reads as: STATUS tells whether the device makes steps, LINKS whether the link is up, and
+-- EEC in bits 14 to 11 the size of the EEPROM's image. No other row is calculated.
+abbrev pub calculated : RowId → Registers → Surroundings → ℕ
+calculated row.Status r around = if is_stopped r then 0 else 0x00080000
+calculated row.Links r around = if around.link then 0x70000000 else 0
+calculated row.Eec r around = 0x300 + 0x800 * around.eeprom
+calculated other r around = 0
 
 -- the word that a read of a place gives, before the address cuts it
-abbrev pub read_word : Kind → Registers → Bool → Place → ℕ
-read_word kind.Rw r link p = word_at r.words p
-read_word kind.Calc r link p = calculated p.row r link
-read_word kind.Rc r link p = word_at r.words p
-read_word kind.Cause r link p = word_at r.words p
-read_word kind.Ones r link p = word_at r.words p
-read_word kind.Set r link p = 0
-read_word kind.Clear r link p = 0
-read_word kind.Held r link p = word_at r.words p
-read_word kind.Enable r link p = word_at r.words p
-read_word kind.Ctrl r link p = word_at r.words p
+abbrev pub read_word : Kind → Registers → Surroundings → Place → ℕ
+read_word kind.Rw r around p = word_at r.words p
+read_word kind.Ro r around p = word_at r.words p
+read_word kind.Calc r around p = calculated p.row r around
+read_word kind.Rc r around p = word_at r.words p
+read_word kind.Cause r around p = word_at r.words p
+read_word kind.Ones r around p = word_at r.words p
+read_word kind.Set r around p = 0
+read_word kind.Clear r around p = 0
+read_word kind.Held r around p = word_at r.words p
+read_word kind.Enable r around p = word_at r.words p
+read_word kind.Ctrl r around p = word_at r.words p
+read_word kind.Vreset r around p = 0
+read_word kind.Eerd r around p = word_at r.words p
 
 -- the registers after a read of the causes of a group
 abbrev pub group_read : Registers → Group → Registers
@@ -49,6 +55,8 @@ group_in owner.Counters = None
 group_in (owner.Side dir queue) = None
 group_in (owner.Group g) = Some g
 group_in (owner.Pool number) = None
+group_in (owner.VfCounters number) = None
+group_in (owner.Vectors number) = None
 
 -- the registers after a change of the interrupts of a place's group: where it is of none, nothing changes
 abbrev pub in_group : Registers → Place → (Group → Registers) → Registers
@@ -57,6 +65,7 @@ in_group r p change = option_map_or change (group_in (owner_of p)) r
 -- the registers after a read of a place: a counter starts again from 0, and causes are cleared
 abbrev pub after_read : Kind → Registers → Place → Registers
 after_read kind.Rw r p = r
+after_read kind.Ro r p = r
 after_read kind.Calc r p = r
 after_read kind.Rc r p = record r { words = put r.words p 0 }
 after_read kind.Cause r p = in_group r p (group_read r)
@@ -66,6 +75,8 @@ after_read kind.Clear r p = r
 after_read kind.Held r p = r
 after_read kind.Enable r p = r
 after_read kind.Ctrl r p = r
+after_read kind.Vreset r p = r
+after_read kind.Eerd r p = r
 
 -- whether what an owner has is in use: a side's ring is while the side is on
 abbrev pub is_running : Registers → Owner → Bool
@@ -74,6 +85,8 @@ is_running r owner.Counters = false
 is_running r (owner.Side dir queue) = is_on r dir queue
 is_running r (owner.Group g) = false
 is_running r (owner.Pool number) = false
+is_running r (owner.VfCounters number) = false
+is_running r (owner.Vectors number) = false
 
 -- the registers after an owner was asked to be on, or not: a side can be
 abbrev pub asked : Registers → Owner → Bool → Registers
@@ -82,6 +95,8 @@ asked r owner.Counters wanted = r
 asked r (owner.Side dir queue) wanted = with_wanted r dir queue wanted
 asked r (owner.Group g) wanted = r
 asked r (owner.Pool number) wanted = r
+asked r (owner.VfCounters number) wanted = r
+asked r (owner.Vectors number) wanted = r
 
 -- a word is stored: of it, the bits of the row's mask that the address shows
 abbrev pub stored : Registers → Place → ℕ → ℕ → Registers
@@ -105,6 +120,7 @@ masks_cleared r g bits = with_interrupts r (after_mask_clear (interrupts_of r g)
 -- the registers after a write of a group's register, by its kind
 abbrev pub interrupts_written : Kind → Registers → Group → ℕ → Registers
 interrupts_written kind.Rw r g bits = r
+interrupts_written kind.Ro r g bits = r
 interrupts_written kind.Calc r g bits = r
 interrupts_written kind.Rc r g bits = r
 interrupts_written kind.Cause r g bits = causes_written r g bits
@@ -114,14 +130,18 @@ interrupts_written kind.Clear r g bits = masks_cleared r g bits
 interrupts_written kind.Held r g bits = r
 interrupts_written kind.Enable r g bits = r
 interrupts_written kind.Ctrl r g bits = r
+interrupts_written kind.Vreset r g bits = r
+interrupts_written kind.Eerd r g bits = r
 
 abbrev pub group_written : Kind → Registers → Place → ℕ → Registers
 group_written k r p bits = in_group r p (λ g. interrupts_written k r g bits)
 
 -- the registers after a write of a place through an address that shows the bits of `view`. A queue's ring can't be
--- changed while its side is on; a write of its enable word asks for bit 25, and leaves that bit as it is.
+-- changed while its side is on; a write of its enable word asks for bit 25, and leaves that bit as it is. A write of EERD
+-- clears bit 1, DONE, and the word that was read; one that asks for a reset of a pool changes nothing else.
 abbrev pub written : Kind → Registers → Place → ℕ → ℕ → Registers
 written kind.Rw r p view word = stored r p view word
+written kind.Ro r p view word = r
 written kind.Calc r p view word = r
 written kind.Rc r p view word = r
 written kind.Cause r p view word = group_written kind.Cause r p (bit_and word view)
@@ -131,10 +151,13 @@ written kind.Clear r p view word = group_written kind.Clear r p (bit_and word vi
 written kind.Held r p view word = if is_running r (owner_of p) then r else stored r p view word
 written kind.Enable r p view word = asked (stored r p view word) (owner_of p) (has_bit 25 word)
 written kind.Ctrl r p view word = stored r p view word
+written kind.Vreset r p view word = r
+written kind.Eerd r p view word = stored r p view (bit_and word 0xFFFD)
 
 -- whether a write asks for a reset, and so does nothing else: one of CTRL with bit 3 or bit 26
 abbrev pub asks_reset : Kind → ℕ → Bool
 asks_reset kind.Rw word = false
+asks_reset kind.Ro word = false
 asks_reset kind.Calc word = false
 asks_reset kind.Rc word = false
 asks_reset kind.Cause word = false
@@ -144,3 +167,21 @@ asks_reset kind.Clear word = false
 asks_reset kind.Held word = false
 asks_reset kind.Enable word = false
 asks_reset kind.Ctrl word = has_bit 3 word || has_bit 26 word
+asks_reset kind.Vreset word = false
+asks_reset kind.Eerd word = false
+
+-- whether a write asks for a reset of the pool of the place's index: one of PVFCTRL with bit 26
+abbrev pub asks_pool_reset : Kind → ℕ → Bool
+asks_pool_reset kind.Rw word = false
+asks_pool_reset kind.Ro word = false
+asks_pool_reset kind.Calc word = false
+asks_pool_reset kind.Rc word = false
+asks_pool_reset kind.Cause word = false
+asks_pool_reset kind.Ones word = false
+asks_pool_reset kind.Set word = false
+asks_pool_reset kind.Clear word = false
+asks_pool_reset kind.Held word = false
+asks_pool_reset kind.Enable word = false
+asks_pool_reset kind.Ctrl word = false
+asks_pool_reset kind.Vreset word = has_bit 26 word
+asks_pool_reset kind.Eerd word = false

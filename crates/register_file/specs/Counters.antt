@@ -1,5 +1,5 @@
 -- What is counted.
-use Rattle.std.specs.Prelude.{ℕ, ◌*◌, ◌/◌, ◌%◌, ◌^◌}
+use Rattle.std.specs.Prelude.{ℕ, ◌+◌, ◌*◌, ◌/◌, ◌%◌, ◌^◌}
 use Rattle.reg_table.specs.Counter.{bumped}
 use Rattle.reg_table.specs.declared.rows.RowId.{RowId}
 use Rattle.reg_table.specs.declared.rows.RowId.TheVariants.{Rqsmr, Tqsm}
@@ -10,6 +10,10 @@ use Rattle.register_file.specs.declared.dir.Dir.TheVariants.{Rx, Tx}
 -- the registers after one more was counted in a row at an index
 abbrev pub counted : Registers → RowId → ℕ → Registers
 counted r row index = with_word r row index (bumped (word_of r row index))
+
+-- the registers after one more was counted that begins again at 0 after the largest word
+abbrev pub counted_wrapping : Registers → RowId → ℕ → Registers
+counted_wrapping r row index = with_word r row index ((word_of r row index + 1) % 2 ^ 32)
 
 -- the row that says in which counters the frames of queues are counted, four queues in each word
 abbrev pub mapping_row : Dir → RowId

@@ -5,6 +5,9 @@ use Rattle.reg_table.specs.declared.place.Place.{Place}
 use Rattle.reg_table.specs.declared.kind.Kind.{Kind}
 use Rattle.reg_table.specs.declared.kind.Kind.TheVariants as kind
 use Rattle.intr_unit.specs.declared.group.Group.{Group}
+use Rattle.intr_unit.specs.declared.group.Group.TheVariants.{Vf}
+use Rattle.vf_map.specs.Owner.{is_of_pool, has_queue}
+use Rattle.vf_map.specs.declared.mode.Mode.{Mode}
 use Rattle.register_file.specs.Columns.{place}
 use Rattle.register_file.specs.Groups.{cause_row, mask_row, index_of, told_by}
 use Rattle.register_file.specs.Owner.{owner_of, is_owner, is_group}
@@ -38,6 +41,12 @@ pub record Misses (f g : Footprint) : Type 0 where
   pub words : (p : Place) → IsTrue (g.words p) → IsFalse (f.words p)
   pub wanted : (dir : Dir) (queue : ℕ) → IsTrue (g.wanted dir queue) → IsFalse (f.wanted dir queue)
   pub told : (h : Group) → IsTrue (g.told h) → IsFalse (f.told h)
+
+-- two registers have the same of all that a footprint has
+pub record AgreeWithin (f : Footprint) (a b : Registers) : Type 0 where
+  pub words : (p : Place) → IsTrue (f.words p) → word_at a.words p ≡ word_at b.words p
+  pub wanted : (dir : Dir) (queue : ℕ) → IsTrue (f.wanted dir queue) → is_wanted a dir queue ≡ is_wanted b dir queue
+  pub told : (g : Group) → IsTrue (f.told g) → told_by a g ≡ told_by b g
 
 -- nothing, and all
 abbrev pub nothing : Footprint
@@ -81,6 +90,16 @@ of_side dir queue = of_owner (owner.Side dir queue)
 abbrev pub of_group : Group → Footprint
 of_group g = of_owner (owner.Group g)
 
+-- all that is a pool's: the words at its places, of its queues whether their sides are wanted on, and what is told of the
+-- virtual function with its number
+abbrev pub of_pool : Mode → ℕ → Footprint
+of_pool mode v =
+    record {
+      words = is_of_pool mode v;
+      wanted = λ dir queue. has_queue mode v queue;
+      told = is_group (Vf v);
+    }
+
 -- what is pending of a group: its causes, its masks and its told bits
 abbrev pub pending : Group → Footprint
 pending g =
@@ -93,6 +112,7 @@ pending g =
 -- whether the words of a kind are causes or masks
 abbrev pub is_pending : Kind → Bool
 is_pending kind.Rw = false
+is_pending kind.Ro = false
 is_pending kind.Calc = false
 is_pending kind.Rc = false
 is_pending kind.Cause = true
@@ -102,6 +122,8 @@ is_pending kind.Clear = false
 is_pending kind.Held = false
 is_pending kind.Enable = false
 is_pending kind.Ctrl = false
+is_pending kind.Vreset = false
+is_pending kind.Eerd = false
 
 -- what is pending of all groups
 abbrev pub any_pending : Footprint
@@ -115,6 +137,8 @@ pending_of owner.Counters = nothing
 pending_of (owner.Side dir queue) = nothing
 pending_of (owner.Group g) = pending g
 pending_of (owner.Pool number) = nothing
+pending_of (owner.VfCounters number) = nothing
+pending_of (owner.Vectors number) = nothing
 
 -- the word at a place, and whether the side that it is of is wanted on
 abbrev pub the_enable : Place → Footprint
@@ -128,6 +152,7 @@ the_enable p =
 -- what a read of a place may change, by its row's kind
 abbrev pub read_by : Kind → Place → Footprint
 read_by kind.Rw p = nothing
+read_by kind.Ro p = nothing
 read_by kind.Calc p = nothing
 read_by kind.Rc p = the_word p
 read_by kind.Cause p = pending_of (owner_of p)
@@ -137,13 +162,16 @@ read_by kind.Clear p = nothing
 read_by kind.Held p = nothing
 read_by kind.Enable p = nothing
 read_by kind.Ctrl p = nothing
+read_by kind.Vreset p = nothing
+read_by kind.Eerd p = nothing
 
 abbrev pub of_read : Place → Footprint
 of_read p = read_by (row_of p.row).kind p
 
--- what a write of a place that asks for no reset may change, by its row's kind
+-- what a write of a place that asks for no reset, of the device or a pool, may change, by its row's kind
 abbrev pub written_by : Kind → Place → Footprint
 written_by kind.Rw p = the_word p
+written_by kind.Ro p = nothing
 written_by kind.Calc p = nothing
 written_by kind.Rc p = nothing
 written_by kind.Cause p = pending_of (owner_of p)
@@ -153,6 +181,8 @@ written_by kind.Clear p = pending_of (owner_of p)
 written_by kind.Held p = the_word p
 written_by kind.Enable p = the_enable p
 written_by kind.Ctrl p = the_word p
+written_by kind.Vreset p = nothing
+written_by kind.Eerd p = the_word p
 
 abbrev pub of_write : Place → Footprint
 of_write p = written_by (row_of p.row).kind p

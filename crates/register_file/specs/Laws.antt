@@ -1,11 +1,11 @@
 -- What the registers promise as a whole, whatever happened before. `view` is the bits that an address shows.
-use Rattle.std.specs.Prelude.{ℕ, ◌/◌, ◌^◌, ◌≡◌, ◌≢◌, ◌<◌, ◌⊎◌, Bool, false, IsTrue, IsFalse, List, [], ◌∷◌, All, bit_and}
+use Rattle.std.specs.Prelude.{ℕ, ◌+◌, ◌/◌, ◌%◌, ◌^◌, ◌≡◌, ◌≢◌, ◌<◌, ◌⊎◌, false, IsTrue, IsFalse, List, [], ◌∷◌, All, None, bit_and}
 use Rattle.reg_table.specs.Rows.{row_of}
 use Rattle.reg_table.specs.declared.bank.Bank.TheVariants as bank
 use Rattle.reg_table.specs.declared.place.Place.{Place}
 use Rattle.reg_table.specs.declared.kind.Kind.TheVariants as kind
 use Rattle.reg_table.specs.declared.rows.RowId.{RowId}
-use Rattle.reg_table.specs.declared.rows.RowId.TheVariants.{Ctrl, Rxctrl, Dmatxctl, Hlreg0, Maxfrs, Gpie, Srrctl, Rxdctl, Txdctl}
+use Rattle.reg_table.specs.declared.rows.RowId.TheVariants.{Ctrl, Status, Links, Eec, Eerd, Rxctrl, Dmatxctl, Hlreg0, Maxfrs, Gpie, Srrctl, Rxdctl, Txdctl}
 use Rattle.intr_unit.specs.Group.{group_bits}
 use Rattle.intr_unit.specs.declared.group.Group.{Group}
 use Rattle.intr_unit.specs.Interrupts.{Interrupts, IsConsistent}
@@ -13,7 +13,8 @@ use Rattle.reg_table.specs.Counter.{bumped}
 use Rattle.register_file.specs.Access.{read_word, after_read, written}
 use Rattle.register_file.specs.Bits.{merged, has_bit}
 use Rattle.register_file.specs.Columns.{place}
-use Rattle.register_file.specs.Counters.{counted, mapping_row, counter_of}
+use Rattle.register_file.specs.Counters.{counted, counted_wrapping, mapping_row, counter_of}
+use Rattle.register_file.specs.Eeprom.{eeprom_index, eeprom_asked, eeprom_answered}
 use Rattle.register_file.specs.Footprint.{Footprint, ChangesWithin, Covers, Misses, the_word, the_enable, of_owner, of_side, of_group, pending, pending_of, any_pending, of_read, of_write}
 use Rattle.register_file.specs.Groups.{cause_row, mask_row, auto_clear_row, auto_mask_row, index_of, told_by, interrupts_of, with_interrupts, clears_others, auto_masks, vector_row, vector_entry, causes_raised, queue_raised, message_made}
 use Rattle.register_file.specs.Owner.{owner_of, is_owner}
@@ -28,6 +29,7 @@ use Rattle.register_file.specs.declared.dir.Dir.{Dir}
 use Rattle.register_file.specs.declared.dir.Dir.TheVariants.{Rx, Tx}
 use Rattle.register_file.specs.declared.owner.Owner.{Owner}
 use Rattle.register_file.specs.declared.owner.Owner.TheVariants as owner
+use Rattle.register_file.specs.declared.surroundings.Surroundings.{Surroundings}
 
 -- the registers after a write of a place
 abbrev pub after_write : Registers → Place → ℕ → ℕ → Registers
@@ -67,8 +69,8 @@ GroupBitsAreMasks =
 abbrev pub StoredWordReadsBack : Type 0
 StoredWordReadsBack =
     (r : Registers) → HasShape r → (p : Place) → p.index < (row_of p.row).count → (row_of p.row).kind ≡ kind.Rw →
-    (view word : ℕ) (link : Bool) →
-    read_word (row_of p.row).kind (after_write r p view word) link p
+    (view word : ℕ) (around : Surroundings) →
+    read_word (row_of p.row).kind (after_write r p view word) around p
     ≡ merged (bit_and (row_of p.row).mask view) (word_at r.words p) word
 
 -- after a head has moved the side has its ring with that head, and is else as it was
@@ -105,8 +107,8 @@ SwitchedSideStays =
 -- a read of a side's enable word tells in bit 25 whether the side is on
 abbrev pub EnableReadTellsOn : Type 0
 EnableReadTellsOn =
-    (r : Registers) (dir : Dir) (queue : ℕ) (link : Bool) →
-    has_bit 25 (read_word (row_of (enable_row dir)).kind r link (place (enable_row dir) queue)) ≡ is_on r dir queue
+    (r : Registers) (dir : Dir) (queue : ℕ) (around : Surroundings) →
+    has_bit 25 (read_word (row_of (enable_row dir)).kind r around (place (enable_row dir) queue)) ≡ is_on r dir queue
 
 -- after a fault the side is off and not wanted on, and is else as it was
 abbrev pub ShutIsOffReceive : Type 0
@@ -170,14 +172,43 @@ WrittenTransmitIsTheSides =
 
 -- a counter: what is counted is read, one more each time up to the largest word, and a read starts it again from 0
 pub record CountsAndClears (r : Registers) (p : Place) : Type 0 where
-  pub counts : (link : Bool)
-      → read_word kind.Rc (counted r p.row p.index) link p ≡ bumped (read_word kind.Rc r link p)
-  pub clears : (link : Bool) → read_word kind.Rc (after_read kind.Rc r p) link p ≡ 0
+  pub counts : (around : Surroundings)
+      → read_word kind.Rc (counted r p.row p.index) around p ≡ bumped (read_word kind.Rc r around p)
+  pub clears : (around : Surroundings) → read_word kind.Rc (after_read kind.Rc r p) around p ≡ 0
 
 abbrev pub CountersCount : Type 0
 CountersCount =
     (r : Registers) → HasShape r → (p : Place) → p.index < (row_of p.row).count → (row_of p.row).kind ≡ kind.Rc →
     CountsAndClears r p
+
+-- a counter that is read-only: what is counted is read, one more each time, 0 after the largest word, and a read and a
+-- write leave it
+pub record GoesRound (r : Registers) (p : Place) : Type 0 where
+  pub counts : (around : Surroundings)
+      → read_word kind.Ro (counted_wrapping r p.row p.index) around p ≡ (read_word kind.Ro r around p + 1) % 2 ^ 32
+  pub stays : after_read kind.Ro r p ≡ r
+  pub kept : (view word : ℕ) → written kind.Ro r p view word ≡ r
+
+abbrev pub ReadOnlyCountersGoRound : Type 0
+ReadOnlyCountersGoRound =
+    (r : Registers) → HasShape r → (p : Place) → p.index < (row_of p.row).count → (row_of p.row).kind ≡ kind.Ro →
+    GoesRound r p
+
+-- the rows that are calculated are those with a formula
+abbrev pub CalculatedRowsHaveFormulas : Type 0
+CalculatedRowsHaveFormulas =
+    (row : RowId) → (row_of row).kind ≡ kind.Calc → (row ≡ Status) ⊎ (row ≡ Links) ⊎ (row ≡ Eec)
+
+-- an answer of the EEPROM is read back with the index that was asked for, and with DONE, and nothing is asked any more
+pub record IsAnswered (r : Registers) (asked answer : ℕ) : Type 0 where
+  pub word : word_of r Eerd 0 / 2 ^ 16 ≡ answer
+  pub index : eeprom_index r ≡ asked
+  pub done : IsTrue (has_bit 1 (word_of r Eerd 0))
+  pub asks_no_more : eeprom_asked r ≡ None
+
+abbrev pub EepromAnswerIsRead : Type 0
+EepromAnswerIsRead =
+    (r : Registers) → HasShape r → (word : ℕ) → word < 2 ^ 16 → IsAnswered (eeprom_answered r word) (eeprom_index r) word
 
 -- the causes, masks and told bits of a group that were put into its registers are there again, beside the auto-clear
 -- and the auto-mask that it had
@@ -202,6 +233,14 @@ WriteStaysWithin =
 abbrev pub CountStaysWithin : Type 0
 CountStaysWithin =
     (r : Registers) (row : RowId) (index : ℕ) → ChangesWithin (the_word (place row index)) r (counted r row index)
+
+abbrev pub CountWrappingStaysWithin : Type 0
+CountWrappingStaysWithin =
+    (r : Registers) (row : RowId) (index : ℕ) →
+    ChangesWithin (the_word (place row index)) r (counted_wrapping r row index)
+
+abbrev pub AnswerStaysWithin : Type 0
+AnswerStaysWithin = (r : Registers) (word : ℕ) → ChangesWithin (the_word (place Eerd 0)) r (eeprom_answered r word)
 
 abbrev pub RaiseStaysWithin : Type 0
 RaiseStaysWithin = (r : Registers) (g : Group) (bits : ℕ) → ChangesWithin (pending g) r (causes_raised r g bits)
@@ -308,6 +347,14 @@ abbrev pub CountKeepsSound : Type 0
 CountKeepsSound =
     (r : Registers) → AreSound r → (row : RowId) (index : ℕ) → (row_of row).kind ≡ kind.Rc →
     AreSound (counted r row index)
+
+abbrev pub CountWrappingKeepsSound : Type 0
+CountWrappingKeepsSound =
+    (r : Registers) → AreSound r → (row : RowId) (index : ℕ) → (row_of row).kind ≡ kind.Ro →
+    AreSound (counted_wrapping r row index)
+
+abbrev pub AnswerKeepsSound : Type 0
+AnswerKeepsSound = (r : Registers) → AreSound r → (word : ℕ) → word < 2 ^ 16 → AreSound (eeprom_answered r word)
 
 abbrev pub RaiseKeepsSound : Type 0
 RaiseKeepsSound = (r : Registers) → AreSound r → (g : Group) (bits : ℕ) → AreSound (causes_raised r g bits)

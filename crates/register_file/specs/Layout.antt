@@ -11,6 +11,7 @@ rows_of a =
     (0 ∷ []) ∷
     (a.settings.ctrl_ext ∷ []) ∷
     (a.settings.ledctl ∷ []) ∷
+    replicate 64 0 ∷
     (a.groups.pf.causes ∷ []) ∷
     (0 ∷ []) ∷
     (a.groups.pf.auto_clear ∷ []) ∷
@@ -34,6 +35,7 @@ rows_of a =
     map (λ q. q.control) a.receive ∷
     map (λ q. q.tail) a.receive ∷
     map (λ q. q.enable) a.receive ∷
+    a.counters.vfgprc ∷
     a.counters.qprc ∷
     a.counters.qprdc ∷
     a.tables.rqsmr ∷
@@ -71,9 +73,12 @@ rows_of a =
     map (λ q. q.writeback_high) a.transmit ∷
     a.counters.qptc ∷
     (a.settings.mtqc ∷ []) ∷
+    a.counters.vfgptc ∷
     a.tables.tqsm ∷
     a.tables.mpsar ∷
     a.tables.psrtype ∷
+    (0 ∷ []) ∷
+    (a.settings.eerd ∷ []) ∷
     (a.settings.gcr_ext ∷ []) ∷
     a.tables.pvtivar ∷
     []

@@ -3,11 +3,15 @@ pub mod AllGroups
 pub mod Bits
 pub mod Columns
 pub mod Counters
+pub mod Eeprom
 pub mod Footprint
 pub mod Groups
 pub mod Laws
 pub mod Layout
 pub mod Owner
+pub mod PoolLaws
+pub mod PoolReset
+pub mod Pools
 pub mod Queue
 pub mod Registers
 pub mod Settings

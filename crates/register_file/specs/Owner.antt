@@ -21,18 +21,23 @@ owner_in bank.Transmit index = owner.Side Tx index
 owner_in bank.Interrupts index = owner.Group Pf
 owner_in bank.VfInterrupts index = owner.Group (Vf index)
 owner_in bank.Pool index = owner.Pool index
+owner_in bank.VfCounters index = owner.VfCounters index
+owner_in bank.Vectors index = owner.Vectors index
 
 -- the owner of a place: by its row's bank and its index
 abbrev pub owner_of : Place → Owner
 owner_of p = owner_in (row_of p.row).bank p.index
 
--- an owner that the device has: 128 queues, the groups of the physical function and of 64 virtual ones, 64 pools
+-- an owner that the device has: 128 queues, the groups of the physical function and of 64 virtual ones, 64
+-- pools with what is counted of each, and 64 words of vectors
 abbrev pub IsThere : Owner → Type 0
 IsThere owner.Device = ⊤
 IsThere owner.Counters = ⊤
 IsThere (owner.Side dir queue) = queue < 128
 IsThere (owner.Group g) = index_of g < 64
 IsThere (owner.Pool number) = number < 64
+IsThere (owner.VfCounters number) = number < 64
+IsThere (owner.Vectors number) = number < 64
 
 -- whether two sides, two groups and two owners are the same
 abbrev pub is_dir : Dir → Dir → Bool
@@ -53,4 +58,6 @@ is_owner owner.Counters owner.Counters = true
 is_owner (owner.Side dir queue) (owner.Side other number) = is_dir dir other && queue == number
 is_owner (owner.Group g) (owner.Group h) = is_group g h
 is_owner (owner.Pool pool) (owner.Pool number) = pool == number
+is_owner (owner.VfCounters own) (owner.VfCounters number) = own == number
+is_owner (owner.Vectors own) (owner.Vectors number) = own == number
 is_owner own other = false

@@ -5,11 +5,12 @@ ghost use Rattle.reg_table.specs.Rows.{row_of};
 ghost use Rattle.register_file.specs.Groups.{index_of};
 ghost use Rattle.register_file.specs.Owner.{owner_of, IsThere};
 ghost use Rattle.register_file.specs.Storing.{is_stored};
-ghost use Rattle.register_file.specs.Access.{read_word, after_read, written, group_written, stored, calculated, group_in, is_running, asked, asks_reset};
+ghost use Rattle.register_file.specs.Access.{read_word, after_read, written, group_written, stored, calculated, group_in, is_running, asked, asks_reset, asks_pool_reset};
 
 use crate::owner::{Owner, owner_of};
 use crate::queue::ENABLE;
 use crate::register_file::RegisterFile;
+use crate::surroundings::Surroundings;
 use intr_unit::Group;
 use reg_table::{Kind, Place, RowId, kind_of, mask_of};
 
@@ -19,11 +20,23 @@ const LINK_RESET: u32 = 0x0000_0008;
 /// CTRL: a reset of the device is asked for.
 const DEVICE_RESET: u32 = 0x0400_0000;
 
+/// PVFCTRL: a reset of the pool is asked for.
+const POOL_RESET: u32 = 0x0400_0000;
+
+/// EERD: the bits that a write takes. The others become 0.
+const EERD_TAKES: u32 = 0x0000_FFFD;
+
 /// What STATUS reads while the device makes steps.
 const STATUS_MASTER: u32 = 0x0008_0000;
 
 /// What LINKS reads while the link is up.
 const LINKS_UP: u32 = 0x7000_0000;
+
+/// EEC: the EEPROM is there and can be read.
+const EEPROM_PRESENT: u32 = 0x0000_0300;
+
+/// EEC: where the size of the EEPROM's image begins.
+const EEPROM_SIZE: u32 = 0x0000_0800;
 
 /// Whether a write of a word to a place asks for a reset of the device, and so does nothing else.
 pub fn asks_reset(place: Place, word: u32) -> bool
@@ -32,6 +45,7 @@ pub fn asks_reset(place: Place, word: u32) -> bool
     match kind_of(place.row) {
         Kind::Ctrl => word / LINK_RESET % 2 == 1 || word / DEVICE_RESET % 2 == 1,
         Kind::Rw
+        | Kind::Ro
         | Kind::Calc
         | Kind::Rc
         | Kind::Cause
@@ -39,7 +53,30 @@ pub fn asks_reset(place: Place, word: u32) -> bool
         | Kind::Set
         | Kind::Clear
         | Kind::Held
-        | Kind::Enable => false,
+        | Kind::Enable
+        | Kind::Vreset
+        | Kind::Eerd => false,
+    }
+}
+
+/// Whether a write of a word to a place asks for a reset of the pool with the place's index, and so does nothing else.
+pub fn asks_pool_reset(place: Place, word: u32) -> bool
+    ensures { result ≡ asks_pool_reset (row_of place.row).kind word }
+{
+    match kind_of(place.row) {
+        Kind::Vreset => word / POOL_RESET % 2 == 1,
+        Kind::Rw
+        | Kind::Ro
+        | Kind::Calc
+        | Kind::Rc
+        | Kind::Cause
+        | Kind::Ones
+        | Kind::Set
+        | Kind::Clear
+        | Kind::Held
+        | Kind::Enable
+        | Kind::Ctrl
+        | Kind::Eerd => false,
     }
 }
 
@@ -51,38 +88,45 @@ fn group_of(place: Place) -> Option<Group>
 {
     match owner_of(place) {
         Owner::Group(group) => Some(group),
-        Owner::Device | Owner::Counters | Owner::Side(_, _) | Owner::Pool(_) => None,
+        Owner::Device
+        | Owner::Counters
+        | Owner::Side(_, _)
+        | Owner::Pool(_)
+        | Owner::VfCounters(_)
+        | Owner::Vectors(_) => None,
     }
 }
 
 impl RegisterFile {
-    /// The word that a read of a place gives, before the address cuts it, with no effect of the read; `link` is whether
-    /// the link is up. The index is below the row's count.
-    pub fn peek(&self, link: bool, place: Place) -> u32
+    /// The word that a read of a place gives, before the address cuts it, with no effect of the read; `around` is what
+    /// lies around the registers. The index is below the row's count.
+    pub fn peek(&self, around: Surroundings, place: Place) -> u32
         requires { place.index < (row_of place.row).count }
-        ensures { result ≡ read_word (row_of place.row).kind self.now link place }
+        ensures { result ≡ read_word (row_of place.row).kind self.now around place }
     {
         match kind_of(place.row) {
-            Kind::Calc => self.calculated(link, place.row),
-            Kind::Set | Kind::Clear => 0,
+            Kind::Calc => self.calculated(around, place.row),
+            Kind::Set | Kind::Clear | Kind::Vreset => 0,
             Kind::Rw
+            | Kind::Ro
             | Kind::Rc
             | Kind::Cause
             | Kind::Ones
             | Kind::Held
             | Kind::Enable
-            | Kind::Ctrl => { self.word(place.row, place.index) }
+            | Kind::Ctrl
+            | Kind::Eerd => { self.word(place.row, place.index) }
         }
     }
 
-    /// Reads a place: the word before the address cuts it; `link` is whether the link is up. A counter starts again
-    /// from 0, a read of causes clears them, and nothing else changes. The index is below the row's count.
-    pub fn read(&mut self, link: bool, place: Place) -> u32
+    /// Reads a place: the word before the address cuts it; `around` is what lies around the registers. A counter starts
+    /// again from 0, a read of causes clears them, and nothing else changes. The index is below the row's count.
+    pub fn read(&mut self, around: Surroundings, place: Place) -> u32
         requires { place.index < (row_of place.row).count }
-        ensures word { result ≡ read_word (row_of place.row).kind self.old link place }
+        ensures word { result ≡ read_word (row_of place.row).kind self.old around place }
         ensures state { self.new ≡ after_read (row_of place.row).kind self.old place }
     {
-        let word = self.peek(link, place);
+        let word = self.peek(around, place);
         self.end_read(place);
         word
     }
@@ -100,25 +144,29 @@ impl RegisterFile {
                 }
             }
             Kind::Rw
+            | Kind::Ro
             | Kind::Calc
             | Kind::Ones
             | Kind::Set
             | Kind::Clear
             | Kind::Held
             | Kind::Enable
-            | Kind::Ctrl => {}
+            | Kind::Ctrl
+            | Kind::Vreset
+            | Kind::Eerd => {}
         }
     }
 
-    /// Writes a place through an address that shows the bits of `view`, where the write asks for no reset. The index is
-    /// below the row's count.
+    /// Writes a place through an address that shows the bits of `view`, where the write asks for no reset, of the
+    /// device or a pool. The index is below the row's count.
     pub fn write(&mut self, place: Place, view: u32, word: u32)
         requires { place.index < (row_of place.row).count }
         ensures { self.new ≡ written (row_of place.row).kind self.old place view word }
     {
         match kind_of(place.row) {
             Kind::Rw | Kind::Ctrl => self.store(place, view, word),
-            Kind::Calc | Kind::Rc => {}
+            Kind::Ro | Kind::Calc | Kind::Rc | Kind::Vreset => {}
+            Kind::Eerd => self.store(place, view, word & EERD_TAKES),
             Kind::Cause | Kind::Ones | Kind::Set | Kind::Clear => {
                 self.write_interrupts(place, word & view);
             }
@@ -145,7 +193,15 @@ impl RegisterFile {
                 Kind::Ones => self.set_masks(group, bits),
                 Kind::Set => self.set_causes(group, bits),
                 Kind::Clear => self.clear_masks(group, bits),
-                Kind::Rw | Kind::Calc | Kind::Rc | Kind::Held | Kind::Enable | Kind::Ctrl => {}
+                Kind::Rw
+                | Kind::Ro
+                | Kind::Calc
+                | Kind::Rc
+                | Kind::Held
+                | Kind::Enable
+                | Kind::Ctrl
+                | Kind::Vreset
+                | Kind::Eerd => {}
             }
         }
     }
@@ -157,7 +213,12 @@ impl RegisterFile {
     {
         match owner {
             Owner::Side(dir, queue) => self.is_on(dir, queue),
-            Owner::Device | Owner::Counters | Owner::Group(_) | Owner::Pool(_) => false,
+            Owner::Device
+            | Owner::Counters
+            | Owner::Group(_)
+            | Owner::Pool(_)
+            | Owner::VfCounters(_)
+            | Owner::Vectors(_) => false,
         }
     }
 
@@ -168,17 +229,23 @@ impl RegisterFile {
     {
         match owner {
             Owner::Side(dir, queue) => self.want(dir, queue, wanted),
-            Owner::Device | Owner::Counters | Owner::Group(_) | Owner::Pool(_) => {}
+            Owner::Device
+            | Owner::Counters
+            | Owner::Group(_)
+            | Owner::Pool(_)
+            | Owner::VfCounters(_)
+            | Owner::Vectors(_) => {}
         }
     }
 
     /// What a calculated row reads as.
-    fn calculated(&self, link: bool, row: RowId) -> u32
-        ensures { result ≡ calculated row self.now link }
+    fn calculated(&self, around: Surroundings, row: RowId) -> u32
+        ensures { result ≡ calculated row self.now around }
     {
         match row {
             RowId::Status => { if self.is_stopped() { 0 } else { STATUS_MASTER } }
-            RowId::Links => { if link { LINKS_UP } else { 0 } }
+            RowId::Links => { if around.link { LINKS_UP } else { 0 } }
+            RowId::Eec => EEPROM_PRESENT + EEPROM_SIZE * u32::from(around.eeprom),
             _ => 0,
         }
     }

@@ -20,6 +20,7 @@ pub(crate) struct Settings {
     pub(crate) vt_ctl: u32,
     pub(crate) mrqc: u32,
     pub(crate) mtqc: u32,
+    pub(crate) eerd: u32,
     pub(crate) gcr_ext: u32,
 }
 
@@ -44,6 +45,7 @@ pub(crate) struct Tables {
 /// The counters.
 #[derive(Clone, Copy)]
 pub(crate) struct Counters {
+    pub(crate) vfgprc: [u32; 64],
     pub(crate) qprc: [u32; 16],
     pub(crate) qprdc: [u32; 16],
     pub(crate) mpc: u32,
@@ -52,6 +54,7 @@ pub(crate) struct Counters {
     pub(crate) ruc: u32,
     pub(crate) roc: u32,
     pub(crate) qptc: [u32; 16],
+    pub(crate) vfgptc: [u32; 64],
 }
 
 impl Settings {
@@ -74,6 +77,7 @@ impl Settings {
         vt_ctl: 0,
         mrqc: 0,
         mtqc: 0,
+        eerd: 0,
         gcr_ext: 0,
     };
 }
@@ -100,6 +104,7 @@ impl Tables {
 impl Counters {
     /// The words after a reset.
     pub(crate) const AT_RESET: Counters = Counters {
+        vfgprc: [0; 64],
         qprc: [0; 16],
         qprdc: [0; 16],
         mpc: 0,
@@ -108,5 +113,6 @@ impl Counters {
         ruc: 0,
         roc: 0,
         qptc: [0; 16],
+        vfgptc: [0; 64],
     };
 }

@@ -2,8 +2,8 @@
 
 ghost use Rattle.std.specs.Prelude.{◌≡◌, ◌<◌};
 ghost use Rattle.reg_table.specs.Rows.{row_of};
-ghost use Rattle.reg_table.specs.declared.kind.Kind.TheVariants.{Rc};
-ghost use Rattle.register_file.specs.Counters.{counted, mapping_row, counter_of};
+ghost use Rattle.reg_table.specs.declared.kind.Kind.TheVariants.{Rc, Ro};
+ghost use Rattle.register_file.specs.Counters.{counted, counted_wrapping, mapping_row, counter_of};
 
 use crate::dir::Dir;
 use crate::register_file::RegisterFile;
@@ -28,6 +28,17 @@ impl RegisterFile {
     {
         let word = self.word(row, index);
         self.set_word(row, index, bump(word));
+    }
+
+    /// Counts one more in a row of read-only counters at an index below the row's count. After the largest word,
+    /// 0xFFFFFFFF, comes 0.
+    pub fn count_wrapping(&mut self, row: RowId, index: u16)
+        requires index { index < (row_of row).count }
+        requires counter { (row_of row).kind ≡ Ro }
+        ensures { self.new ≡ counted_wrapping self.old row index }
+    {
+        let word = self.word(row, index);
+        self.set_word(row, index, word.wrapping_add(1));
     }
 
     /// Which of the 16 counters, 0 to 15, a side of a queue below `QUEUES` counts in: RQSMR says it of a receive side

@@ -1,7 +1,8 @@
 //! The groups of interrupts, each kept in place.
 
 ghost use Rattle.std.specs.Prelude.{◌≡◌, ◌<◌, length};
-ghost use Rattle.intr_unit.specs.Interrupts.{raised, after_read, after_write_one, after_mask_set, after_mask_clear, with_auto_clear, with_auto_mask, next_vector, after_message};
+ghost use Rattle.intr_unit.specs.Interrupts.{reset_of, raised, after_read, after_write_one, after_mask_set, after_mask_clear, with_auto_clear, with_auto_mask, next_vector, after_message};
+ghost use Rattle.intr_unit.specs.declared.group.Group.TheVariants.{Vf};
 ghost use Rattle.register_file.specs.Groups.{index_of};
 ghost use Rattle.register_file.specs.AllGroups.{IsOwn, at_group, with_group, all_reset};
 
@@ -39,6 +40,14 @@ impl Groups {
             pf: Causes::new(Group::Pf),
             vf,
         }
+    }
+
+    /// Makes the group of a virtual function anew, as a reset leaves it.
+    pub(crate) fn renew(&mut self, v: u8)
+        requires { v < 64 }
+        ensures { self.new ≡ with_group self.old (Vf v) (reset_of (Vf v)) }
+    {
+        self.vf[usize::from(v)] = Causes::new(Group::Vf(v));
     }
 
     /// The interrupts of a group, which are consistent, and whose words are of 32 bits.

@@ -1,6 +1,7 @@
 //! What the registers promise as a whole. Each law is the contract of a function that does nothing.
 
-ghost use Rattle.register_file.specs.Laws.{ResetIsSound, ReadKeepsSound, WriteKeepsSound, CountKeepsSound, RaiseKeepsSound, QueueRaiseKeepsSound, MessageKeepsSound, HeadKeepsSound, SwitchKeepsSound, ShutKeepsSound, ResetGivesResetValues, ResetSwitchesOff, ResetTellsNothing, PutWordIsThere, PutWordIsAlone, GroupBitsAreMasks, StoredWordReadsBack, ReadStaysWithin, WriteStaysWithin, CountStaysWithin, RaiseStaysWithin, QueueRaiseStaysWithin, MessageStaysWithin, HeadStaysWithin, SwitchStaysWithin, ShutStaysWithin, ReadStaysWithOwner, WriteStaysWithOwner, OwnersAreApart, OwnersDiffer, WordIsOnePlace, PendingIsPending, CountersAreTheirOwn, PendingMissesSides, ReadMissesSides, MissedReceiveStands, MissedTransmitStands, MissedInterruptsStand, MissedSettingsStand, HeadMovesReceive, HeadMovesTransmit, SwitchObeysReceive, SwitchObeysTransmit, SwitchedSideStays, ShutIsOffReceive, ShutIsOffTransmit, RingIsHeldWhileOn, WrittenReceiveIsTheSides, WrittenTransmitIsTheSides, EnableWriteAsksReceive, EnableWriteAsksTransmit, EnableReadTellsOn, CountersCount, InterruptsStand};
+ghost use Rattle.register_file.specs.Laws.{ResetIsSound, ReadKeepsSound, WriteKeepsSound, CountKeepsSound, CountWrappingKeepsSound, AnswerKeepsSound, RaiseKeepsSound, QueueRaiseKeepsSound, MessageKeepsSound, HeadKeepsSound, SwitchKeepsSound, ShutKeepsSound, ResetGivesResetValues, ResetSwitchesOff, ResetTellsNothing, PutWordIsThere, PutWordIsAlone, GroupBitsAreMasks, StoredWordReadsBack, ReadStaysWithin, WriteStaysWithin, CountStaysWithin, CountWrappingStaysWithin, AnswerStaysWithin, RaiseStaysWithin, QueueRaiseStaysWithin, MessageStaysWithin, HeadStaysWithin, SwitchStaysWithin, ShutStaysWithin, ReadStaysWithOwner, WriteStaysWithOwner, OwnersAreApart, OwnersDiffer, WordIsOnePlace, PendingIsPending, CountersAreTheirOwn, PendingMissesSides, ReadMissesSides, MissedReceiveStands, MissedTransmitStands, MissedInterruptsStand, MissedSettingsStand, HeadMovesReceive, HeadMovesTransmit, SwitchObeysReceive, SwitchObeysTransmit, SwitchedSideStays, ShutIsOffReceive, ShutIsOffTransmit, RingIsHeldWhileOn, WrittenReceiveIsTheSides, WrittenTransmitIsTheSides, EnableWriteAsksReceive, EnableWriteAsksTransmit, EnableReadTellsOn, CountersCount, ReadOnlyCountersGoRound, CalculatedRowsHaveFormulas, EepromAnswerIsRead, InterruptsStand};
+ghost use Rattle.register_file.specs.PoolLaws.{PoolIsReset, PoolResetStaysWithin, PoolResetKeepsSound};
 
 /// Registers are sound after a reset and through every change: they have each place of the table, words of 32 bits, and
 /// told bits only where cause and mask are 1.
@@ -9,6 +10,8 @@ pub fn soundness_is_kept()
     ensures read { ReadKeepsSound }
     ensures write { WriteKeepsSound }
     ensures count { CountKeepsSound }
+    ensures count_wrapping { CountWrappingKeepsSound }
+    ensures answer { AnswerKeepsSound }
     ensures raise { RaiseKeepsSound }
     ensures queue_raise { QueueRaiseKeepsSound }
     ensures message { MessageKeepsSound }
@@ -40,13 +43,15 @@ pub fn stored_word_reads_back()
     ensures { StoredWordReadsBack }
 {}
 
-/// What an operation changes is in its footprint: of a read and a write that of its place, of a count and of a moved
-/// head the one word, of raised causes and of a message what is pending of the group, of a switch the enable word, and
+/// What an operation changes is in its footprint: of a read and a write that of its place, of a count, of an answer of
+/// the EEPROM and of a moved head the one word, of raised causes and of a message what is pending of the group, of a switch the enable word, and
 /// of a fault the enable word and whether the side is wanted on.
 pub fn changes_stay_in_their_footprint()
     ensures read { ReadStaysWithin }
     ensures write { WriteStaysWithin }
     ensures count { CountStaysWithin }
+    ensures count_wrapping { CountWrappingStaysWithin }
+    ensures answer { AnswerStaysWithin }
     ensures raise { RaiseStaysWithin }
     ensures queue_raise { QueueRaiseStaysWithin }
     ensures message { MessageStaysWithin }
@@ -123,8 +128,31 @@ pub fn counters_count()
     ensures { CountersCount }
 {}
 
+/// What is counted in a read-only counter is read: one more each time, and 0 after the largest word. Accesses leave it.
+pub fn read_only_counters_go_round()
+    ensures { ReadOnlyCountersGoRound }
+{}
+
+/// Each row that is calculated has its formula.
+pub fn calculated_rows_have_formulas()
+    ensures { CalculatedRowsHaveFormulas }
+{}
+
+/// An answer of the EEPROM is read back, with the index that was asked for and DONE, and nothing is asked any more.
+pub fn eeprom_answer_is_read()
+    ensures { EepromAnswerIsRead }
+{}
+
 /// What a group's interrupts were made is what its registers hold: its causes, its masks and its told bits, beside the
 /// auto-clear and the auto-mask that it had.
 pub fn interrupts_stand()
     ensures { InterruptsStand }
+{}
+
+/// After a reset of a pool all that is the pool's is as a reset leaves it, all else is as it was, and the registers are
+/// sound where they were.
+pub fn reset_pool_is_reset()
+    ensures reset { PoolIsReset }
+    ensures alone { PoolResetStaysWithin }
+    ensures sound { PoolResetKeepsSound }
 {}

@@ -18,25 +18,30 @@ mod access;
 mod banks;
 mod counters;
 mod dir;
+mod eeprom;
 mod groups;
 mod hashing;
 mod interrupts;
 mod laws;
 mod owner;
+mod pools;
 mod queue;
 mod register_file;
 mod settings;
 mod side;
+mod surroundings;
 mod words;
 
-pub use access::asks_reset;
+pub use access::{asks_pool_reset, asks_reset};
 pub use dir::Dir;
 pub use laws::{
-    accesses_stay_with_their_owner, changes_stay_in_their_footprint, counters_count,
-    enable_write_only_asks, group_bits_are_masks, interrupts_stand, moved_head_is_the_head,
-    put_word_is_there, reset_is_the_tables, ring_is_held_while_on, shut_side_is_off,
+    accesses_stay_with_their_owner, calculated_rows_have_formulas, changes_stay_in_their_footprint,
+    counters_count, eeprom_answer_is_read, enable_write_only_asks, group_bits_are_masks,
+    interrupts_stand, moved_head_is_the_head, put_word_is_there, read_only_counters_go_round,
+    reset_is_the_tables, reset_pool_is_reset, ring_is_held_while_on, shut_side_is_off,
     soundness_is_kept, stored_word_reads_back, switched_side_is_as_wanted,
     what_a_footprint_misses_stands, written_word_is_the_sides,
 };
 pub use owner::{Owner, owner_of};
 pub use register_file::{QUEUES, RegisterFile};
+pub use surroundings::Surroundings;

@@ -21,6 +21,10 @@ pub enum Owner {
     Group(Group),
     /// A pool.
     Pool(u16),
+    /// What is counted of a virtual function.
+    VfCounters(u16),
+    /// A word of the vectors of queues of virtual functions.
+    Vectors(u16),
 }
 
 /// Whose register a place is, by its row's bank and its index, which is below the row's count.
@@ -37,5 +41,7 @@ pub fn owner_of(place: Place) -> Owner
         Bank::Interrupts => Owner::Group(Group::Pf),
         Bank::VfInterrupts => Owner::Group(Group::Vf(place.index as u8)),
         Bank::Pool => Owner::Pool(place.index),
+        Bank::VfCounters => Owner::VfCounters(place.index),
+        Bank::Vectors => Owner::Vectors(place.index),
     }
 }

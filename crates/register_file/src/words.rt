@@ -23,6 +23,7 @@ impl RegisterFile {
             RowId::Status => 0,
             RowId::CtrlExt => self.settings.ctrl_ext,
             RowId::Ledctl => self.settings.ledctl,
+            RowId::Pvfctrl => 0,
             RowId::Eicr => self.groups.of(Group::Pf).causes(),
             RowId::Eics => 0,
             RowId::Eiac => self.groups.of(Group::Pf).auto_clear(),
@@ -46,6 +47,7 @@ impl RegisterFile {
             RowId::Srrctl => self.receive[at].control,
             RowId::Rdt => self.receive[at].tail,
             RowId::Rxdctl => self.receive[at].enable,
+            RowId::Vfgprc => self.counters.vfgprc[at],
             RowId::Qprc => self.counters.qprc[at],
             RowId::Qprdc => self.counters.qprdc[at],
             RowId::Rqsmr => self.tables.rqsmr[at],
@@ -83,9 +85,12 @@ impl RegisterFile {
             RowId::Tdwbah => self.transmit[at].writeback_high,
             RowId::Qptc => self.counters.qptc[at],
             RowId::Mtqc => self.settings.mtqc,
+            RowId::Vfgptc => self.counters.vfgptc[at],
             RowId::Tqsm => self.tables.tqsm[at],
             RowId::Mpsar => self.tables.mpsar[at],
             RowId::Psrtype => self.tables.psrtype[at],
+            RowId::Eec => 0,
+            RowId::Eerd => self.settings.eerd,
             RowId::GcrExt => self.settings.gcr_ext,
             RowId::Pvtivar => self.tables.pvtivar[at],
         }
@@ -119,6 +124,7 @@ impl RegisterFile {
             RowId::Srrctl => self.receive[at].control = word,
             RowId::Rdt => self.receive[at].tail = word,
             RowId::Rxdctl => self.receive[at].enable = word,
+            RowId::Vfgprc => self.counters.vfgprc[at] = word,
             RowId::Qprc => self.counters.qprc[at] = word,
             RowId::Qprdc => self.counters.qprdc[at] = word,
             RowId::Rqsmr => self.tables.rqsmr[at] = word,
@@ -155,12 +161,15 @@ impl RegisterFile {
             RowId::Tdwbah => self.transmit[at].writeback_high = word,
             RowId::Qptc => self.counters.qptc[at] = word,
             RowId::Mtqc => self.settings.mtqc = word,
+            RowId::Vfgptc => self.counters.vfgptc[at] = word,
             RowId::Tqsm => self.tables.tqsm[at] = word,
             RowId::Mpsar => self.tables.mpsar[at] = word,
             RowId::Psrtype => self.tables.psrtype[at] = word,
+            RowId::Eerd => self.settings.eerd = word,
             RowId::GcrExt => self.settings.gcr_ext = word,
             RowId::Pvtivar => self.tables.pvtivar[at] = word,
             RowId::Status
+            | RowId::Pvfctrl
             | RowId::Eicr
             | RowId::Eics
             | RowId::Eims
@@ -169,7 +178,8 @@ impl RegisterFile {
             | RowId::Pvteics
             | RowId::Pvteims
             | RowId::Pvteimc
-            | RowId::Links => {}
+            | RowId::Links
+            | RowId::Eec => {}
         }
     }
 }

@@ -2,11 +2,13 @@
 use Rattle.std.specs.Prelude.{ℕ, ◌+◌, ◌*◌, ◌/◌, ◌%◌, ◌^◌, Bool, true, List, find, nat_lt}
 use Rattle.std.specs.Prelude.{Option, Some, None, Result, Ok, Err, if◌then◌else◌}
 use Rattle.std.specs.List.{range_with_len}
-use Rattle.reg_table.specs.declared.rows.RowId.TheVariants.{VtCtl, Vfre, Mpsar, Mrqc}
+use Rattle.reg_table.specs.declared.rows.RowId.TheVariants.{VtCtl, Mpsar, Mrqc}
 use Rattle.rss_hash.specs.Mrqc.{queue_mode_of}
 use Rattle.rss_hash.specs.declared.mrqc.QueueMode.{QueueMode}
 use Rattle.rss_hash.specs.declared.mrqc.QueueMode.TheVariants.{Pools32Rss}
 use Rattle.register_file.specs.Bits.{has_bit}
+use Rattle.register_file.specs.Pools.{pool_bit}
+pub use Rattle.register_file.specs.Pools.{takes_frames}
 use Rattle.register_file.specs.Registers.{Registers, word_of}
 use Rattle.rx_filter.specs.Address.{first_match}
 use Rattle.rx_filter.specs.declared.fields.TheConstants.{VT_ENA, DEF_PL, DIS_DEF_POOL}
@@ -19,7 +21,7 @@ uses_pools r = has_bit VT_ENA (word_of r VtCtl 0)
 
 -- whether the frames of address i are for a pool: MPSAR[2i] has pools 0 to 31, MPSAR[2i + 1] pools 32 to 63
 abbrev pub selects : Registers → ℕ → ℕ → Bool
-selects r i pool = has_bit (pool % 32) (word_of r Mpsar (2 * i + pool / 32))
+selects r i pool = pool_bit (λ k. word_of r Mpsar (2 * i + k)) pool
 
 -- the lowest pool of an address, if it has one
 unfoldable pub lowest_pool : Registers → ℕ → Option ℕ
@@ -47,10 +49,6 @@ pool_of r frame = or_default r (matched_pool r (first_match r frame))
 abbrev pub has_queues : QueueMode → ℕ → Bool
 has_queues Pools32Rss pool = nat_lt pool 32
 has_queues other pool = true
-
--- whether a pool takes frames: its bit of the pair VFRE is 1
-abbrev pub takes_frames : Registers → ℕ → Bool
-takes_frames r pool = has_bit (pool % 32) (word_of r Vfre (pool / 32))
 
 -- a frame's pool, which needs queues and has to take frames
 abbrev pub checked_pool : Registers → Option ℕ → Result ℕ Unwanted

@@ -4,13 +4,13 @@ ghost use Rattle.std.specs.Prelude.{◌≡◌, ◌<◌, IfSome, IfOk, IsTrue};
 ghost use Rattle.reg_table.specs.declared.rows.RowId.TheVariants.{Mrqc};
 ghost use Rattle.register_file.specs.Registers.{word_of};
 ghost use Rattle.rss_hash.specs.Mrqc.{queue_mode_of};
-ghost use Rattle.rx_filter.specs.Pools.{uses_pools, selects, lowest_pool, default_pool, pool_of, has_queues, takes_frames, checked_pool, chosen_pool};
+ghost use Rattle.rx_filter.specs.Pools.{uses_pools, selects, lowest_pool, default_pool, pool_of, has_queues, checked_pool, chosen_pool};
 
 use crate::address::first_match;
 use crate::fields::{DEF_PL, DIS_DEF_POOL, VT_ENA, has_bit};
 use crate::unwanted::Unwanted;
 use reg_table::RowId;
-use register_file::RegisterFile;
+use register_file::{Dir, RegisterFile};
 use rss_hash::QueueMode;
 
 /// How many pools there are at most.
@@ -104,7 +104,7 @@ fn checked_pool(registers: &RegisterFile, pool: Option<u16>) -> Result<u16, Unwa
     if !has_queues(QueueMode::of(registers.word(RowId::Mrqc, 0)), pool) {
         return Err(Unwanted::NoPool);
     }
-    if !takes_frames(registers, pool) {
+    if !registers.is_pool_on(Dir::Rx, pool) {
         return Err(Unwanted::PoolOff);
     }
     Ok(pool)
@@ -118,12 +118,4 @@ fn has_queues(mode: QueueMode, pool: u16) -> bool
         QueueMode::Pools32Rss => pool < 32,
         QueueMode::Single | QueueMode::Rss | QueueMode::Pools64 | QueueMode::Pools64Rss => true,
     }
-}
-
-/// Whether a pool takes frames.
-fn takes_frames(registers: &RegisterFile, pool: u16) -> bool
-    requires { pool < 64 }
-    ensures { result ≡ takes_frames registers.now pool }
-{
-    has_bit(u32::from(pool % 32), registers.word(RowId::Vfre, pool / 32))
 }

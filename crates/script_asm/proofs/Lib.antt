@@ -2,11 +2,6 @@ pub mod Endings
 pub mod Lines
 pub mod Plain
 pub mod Resolving
-pub mod Steps
 pub mod Numbers
 pub mod Saying
 pub mod Meaning
-pub mod Running
-pub mod Sharing
-pub mod Leaving
-pub mod Moves

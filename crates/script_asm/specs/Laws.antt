@@ -2,21 +2,16 @@
 use Rattle.std.specs.Prelude.{◌≡◌, ◌≢◌, ◌↔◌, ⊤, ℕ, ◌+◌, ◌-◌, ◌^◌, ◌<◌, ◌≤◌, true, List, [], ◌∷◌, ◌++◌, length, map, slice_get, Some, None, Result, Ok, Err}
 use Rattle.lexer.specs.Lines.{NumberedLine, lines_of}
 use Rattle.lexer.specs.Words.{words_of}
-use Rattle.nic_device.specs.declared.config.Config.{Config}
 use Rattle.script_asm.specs.declared.faults.LineFault.{LineFault}
 use Rattle.script_asm.specs.declared.faults.ScriptFault.{ScriptFault}
 use Rattle.script_asm.specs.declared.instructions.Instruction.{Instruction as Instr}
 use Rattle.script_asm.specs.declared.instructions.Instruction.TheVariants as instr
-use Rattle.script_asm.specs.declared.machine.Status.TheVariants.{Running, Ended}
-use Rattle.script_asm.specs.declared.machine.StepAnswer.TheVariants.{Stopped}
 use Rattle.script_asm.specs.declared.operations.Draft.{Draft}
 use Rattle.script_asm.specs.declared.operations.Draft.TheVariants.{Plain, Poke, Arrive}
 use Rattle.script_asm.specs.declared.sheet.DraftLine.{DraftLine}
 use Rattle.script_asm.specs.declared.statements.Statement.{Statement}
 use Rattle.script_asm.specs.declared.statements.Statement.TheVariants.{Empty, Data, Instruction}
 use Rattle.script_asm.specs.Listing.{Listing, string_at}
-use Rattle.script_asm.specs.Machine.{machine_step, machine_at}
-use Rattle.script_asm.specs.MachineState.{MachineState}
 use Rattle.script_asm.specs.Outline.{Outline, blank}
 use Rattle.script_asm.specs.Script.{number_of_data, has_short_name, with_line, with_lines, resolved, with_resolved, program_of}
 use Rattle.script_asm.specs.Statement.{statement_of}
@@ -101,14 +96,3 @@ pub record FirstFaultDecides : Type 0 where
 pub record DataHasItsNumber : Type 0 where
   pub found : (names : List (List ℕ)) (name : List ℕ) (number : ℕ) → number_of_data names name ≡ Some number → slice_get names number ≡ Some name
   pub missing : (names : List (List ℕ)) (name : List ℕ) (number : ℕ) → number_of_data names name ≡ None → slice_get names number ≢ Some name
-
--- a step that is answered `Stopped` leaves the machine as it is, any other counts one
-pub record StepsCount : Type 0 where
-  pub stays : (program : Listing) (s : MachineState) → (machine_step program s).answer ≡ Stopped → (machine_step program s).state ≡ s
-  pub counts : (program : Listing) (s : MachineState) → (machine_step program s).answer ≢ Stopped → (machine_step program s).state.steps ≡ s.steps + 1
-
--- a machine that has ended stops, and one that runs makes its step, up to 2^64 - 1 of them
-pub record RunningMachinesStep : Type 0 where
-  pub stops : (program : Listing) (s : MachineState) → s.status ≡ Ended → (machine_step program s).answer ≡ Stopped
-  pub steps : (program : Listing) (config : Config) (n : ℕ) → (machine_at program config n).status ≡ Running
-      → (machine_at program config n).steps < 2 ^ 64 - 1 → (machine_step program (machine_at program config n)).answer ≢ Stopped

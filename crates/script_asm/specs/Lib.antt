@@ -6,9 +6,4 @@ pub mod Statement
 pub mod Outline
 pub mod Script
 pub mod Listing
-pub mod Board
-pub mod MachineState
-pub mod Machine
-pub mod Course
-pub mod Processor
 pub mod Laws

@@ -1,6 +1,6 @@
 //! What the definitions promise as a whole. Each law is the contract of a function that does nothing.
 
-ghost use Rattle.script_asm.specs.Laws.{ProgramIsWhatLinesSay, FirstFaultDecides, DataHasItsNumber, StepsCount, RunningMachinesStep};
+ghost use Rattle.script_asm.specs.Laws.{ProgramIsWhatLinesSay, FirstFaultDecides, DataHasItsNumber};
 
 /// A text is a program exactly where each of its lines says something that fits behind the lines before
 /// it. What they say makes the program, in their order.
@@ -17,14 +17,4 @@ pub fn first_fault_decides()
 /// An instruction that names data has the number of the line that defines the name.
 pub fn data_has_its_number()
     ensures { DataHasItsNumber }
-{}
-
-/// A step that is answered `Stopped` leaves the machine as it is, any other counts one.
-pub fn steps_count()
-    ensures { StepsCount }
-{}
-
-/// A machine that has ended stops, and one that runs makes its step, up to 2^64 - 1 of them.
-pub fn running_machines_step()
-    ensures { RunningMachinesStep }
 {}

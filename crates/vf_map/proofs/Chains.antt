@@ -2,11 +2,13 @@
 use Rattle.std.proofs.Common.{◌≡◌, ◌≢◌, ℕ, zero, suc, ◌+◌, ◌<◌, ◌≤◌, true, ◌==◌, nat_lt, List, [], ◌∷◌, ◌++◌, map, find, Some, None, refl, ap, sym, ◌∙◌, inl, inr, arith}
 use Rattle.std.specs.List.{flat_map, range_with_len, list_all}
 use Rattle.std.proofs.lemmas.Bool.{cases_Bool, cond-true, cond-false, eqb-true, eq-eqb, and_parts, ltb-true, false_from_ne_true, both_ways}
-use Rattle.vf_map.specs.Map.{Entry, found}
-use Rattle.vf_map.specs.Parts.{address_at, mapped_at, registers}
+use Rattle.reg_table.specs.declared.place.Place.{Place}
+use Rattle.reg_table.specs.declared.rows.RowId.{RowId}
+use Rattle.vf_map.specs.Map.{Entry, found, behind, side_entries}
+use Rattle.vf_map.specs.Parts.{place_at, located_at, row_behind, of_queue}
 
 -- the first part has it
-pub in_first : (es fs : List Entry) (o a : ℕ) → address_at es o ≡ Some a → address_at (es ++ fs) o ≡ Some a
+pub in_first : (es fs : List Entry) (o : ℕ) (a : Place) → place_at es o ≡ Some a → place_at (es ++ fs) o ≡ Some a
 in_first [] fs o a e = cc
 in_first (x ∷ es) fs o a e =
     elim (cases_Bool (x.0 == o)) [
@@ -15,7 +17,7 @@ in_first (x ∷ es) fs o a e =
     ]
 
 -- the first part doesn't have it
-pub in_second : (es fs : List Entry) (o : ℕ) → address_at es o ≡ None → address_at (es ++ fs) o ≡ address_at fs o
+pub in_second : (es fs : List Entry) (o : ℕ) → place_at es o ≡ None → place_at (es ++ fs) o ≡ place_at fs o
 in_second [] fs o e = refl
 in_second (x ∷ es) fs o e =
     elim (cases_Bool (x.0 == o)) [
@@ -24,8 +26,8 @@ in_second (x ∷ es) fs o e =
     ]
 
 -- no entry has it
-pub in_no_word : (key value : ℕ → ℕ) (k n o : ℕ) → ((w : ℕ) → k ≤ w → w < k + n → key w ≢ o) →
-    address_at (map (λ x. (key x, value x)) (range_with_len k n)) o ≡ None
+pub in_no_word : (key : ℕ → ℕ) (value : ℕ → Place) (k n o : ℕ) → ((w : ℕ) → k ≤ w → w < k + n → key w ≢ o) →
+    place_at (map (λ x. (key x, value x)) (range_with_len k n)) o ≡ None
 in_no_word key value k zero o free = refl
 in_no_word key value k (suc n) o free =
     let low : k ≤ k = omega arith in
@@ -34,8 +36,9 @@ in_no_word key value k (suc n) o free =
     ∙ in_no_word key value (k + 1) n o (λ w l h. free w (omega arith) (omega arith))
 
 -- one entry has it
-pub in_word : (key value : ℕ → ℕ) (k n o w : ℕ) → key w ≡ o → k ≤ w → w < k + n → ((y : ℕ) → key y ≡ o → y ≡ w) →
-    address_at (map (λ x. (key x, value x)) (range_with_len k n)) o ≡ Some (value w)
+pub in_word : (key : ℕ → ℕ) (value : ℕ → Place) (k n o w : ℕ) → key w ≡ o → k ≤ w → w < k + n →
+    ((y : ℕ) → key y ≡ o → y ≡ w) →
+    place_at (map (λ x. (key x, value x)) (range_with_len k n)) o ≡ Some (value w)
 in_word key value k zero o w e l h one = absurd (omega arith)
 in_word key value k (suc n) o w e l h one =
     elim (cases_Bool (key k == o)) [
@@ -47,15 +50,15 @@ in_word key value k (suc n) o w e l h one =
     ]
 
 -- no piece has it
-pub in_no_piece : (g : ℕ → List Entry) (k n o : ℕ) → ((w : ℕ) → k ≤ w → w < k + n → address_at (g w) o ≡ None) →
-    address_at (flat_map g (range_with_len k n)) o ≡ None
+pub in_no_piece : (g : ℕ → List Entry) (k n o : ℕ) → ((w : ℕ) → k ≤ w → w < k + n → place_at (g w) o ≡ None) →
+    place_at (flat_map g (range_with_len k n)) o ≡ None
 in_no_piece g k zero o free = refl
 in_no_piece g k (suc n) o free =
     in_second (g k) (flat_map g (range_with_len (k + 1) n)) o (free k (omega arith) (omega arith))
     ∙ in_no_piece g (k + 1) n o (λ w l h. free w (omega arith) (omega arith))
 
 -- the second part doesn't have it
-pub in_either : (es fs : List Entry) (o : ℕ) → address_at fs o ≡ None → address_at (es ++ fs) o ≡ address_at es o
+pub in_either : (es fs : List Entry) (o : ℕ) → place_at fs o ≡ None → place_at (es ++ fs) o ≡ place_at es o
 in_either [] fs o e = e
 in_either (x ∷ es) fs o e =
     elim (cases_Bool (x.0 == o)) [
@@ -65,52 +68,56 @@ in_either (x ∷ es) fs o e =
 
 -- at most one piece has it
 pub in_piece : (g : ℕ → List Entry) (k n o w : ℕ) → k ≤ w → w < k + n →
-    ((y : ℕ) → k ≤ y → y < k + n → y ≢ w → address_at (g y) o ≡ None) →
-    address_at (flat_map g (range_with_len k n)) o ≡ address_at (g w) o
+    ((y : ℕ) → k ≤ y → y < k + n → y ≢ w → place_at (g y) o ≡ None) →
+    place_at (flat_map g (range_with_len k n)) o ≡ place_at (g w) o
 in_piece g k zero o w l h free = absurd (omega arith)
 in_piece g k (suc n) o w l h free =
     elim (cases_Bool (k == w)) [
       | inl t ↦
           let same : k ≡ w = eqb-true _ _ t in
           let rest = in_no_piece g (k + 1) n o (λ y a b. free y (omega arith) (omega arith) (omega arith)) in
-          in_either (g k) (flat_map g (range_with_len (k + 1) n)) o rest ∙ ap (λ x. address_at (g x) o) same
+          in_either (g k) (flat_map g (range_with_len (k + 1) n)) o rest ∙ ap (λ x. place_at (g x) o) same
       | inr f ↦
           let other : k ≢ w = λ s. both_ways _ f (eq-eqb _ _ s) in
           in_second (g k) (flat_map g (range_with_len (k + 1) n)) o (free k (omega arith) (omega arith) other)
           ∙ in_piece g (k + 1) n o w (omega arith) (omega arith) (λ y a b c. free y (omega arith) (omega arith) c)
     ]
 
--- registers from a base on
-pub in_block : (c b r : ℕ) (behind : List ℕ) →
-    address_at (map (λ o. (c + o, b + o)) behind) (c + r) ≡ address_at (registers b behind) r
-in_block c b r [] = refl
-in_block c b r (x ∷ behind) =
-    elim (cases_Bool (x == r)) [
+-- registers of a side from an offset on
+pub in_side : (c q r : ℕ) (first : RowId) (rs : List RowId) →
+    place_at (side_entries c first rs q) (c + r) ≡ of_queue (row_behind first rs r) q
+in_side c q r first [] = refl
+in_side c q r first (x ∷ rs) =
+    elim (cases_Bool (behind first x == r)) [
       | inl t ↦
-          let same : x ≡ r = eqb-true _ _ t in
-          cond-true (c + x == c + r) _ _ (eq-eqb _ _ (ap (λ y. c + y) same)) ∙ sym (cond-true (x == r) _ _ t)
+          let same : behind first x ≡ r = eqb-true _ _ t in
+          cond-true (c + behind first x == c + r) _ _ (eq-eqb _ _ (ap (λ y. c + y) same))
+          ∙ ap (λ o. of_queue o q) (sym (cond-true (behind first x == r) (Some x) (row_behind first rs r) t))
       | inr f ↦
-          let other : x ≢ r = λ s. both_ways _ f (eq-eqb _ _ s) in
-          cond-false (c + x == c + r) _ _
-          (false_from_ne_true _ (λ t. let s = eqb-true (c + x) (c + r) t in other (omega arith)))
-          ∙ in_block c b r behind ∙ sym (cond-false (x == r) _ _ f)
+          let other : behind first x ≢ r = λ s. both_ways _ f (eq-eqb _ _ s) in
+          cond-false (c + behind first x == c + r) _ _
+          (false_from_ne_true _ (λ t. let s = eqb-true (c + behind first x) (c + r) t in other (omega arith)))
+          ∙ in_side c q r first rs
+          ∙ ap (λ o. of_queue o q) (sym (cond-false (behind first x == r) (Some x) (row_behind first rs r) f))
     ]
 
 -- an offset that is outside
-pub in_no_block : (c b o : ℕ) (behind : List ℕ) → list_all (λ x. nat_lt x 0x40) behind ≡ true →
-    ((x : ℕ) → x < 0x40 → c + x ≢ o) → address_at (map (λ x. (c + x, b + x)) behind) o ≡ None
-in_no_block c b o [] e free = refl
-in_no_block c b o (x ∷ behind) e free =
-    let both = and_parts (nat_lt x 0x40) (list_all (λ x. nat_lt x 0x40) behind) e in
-    cond-false (c + x == o) _ _ (false_from_ne_true _ (λ t. free x (ltb-true _ _ both.0) (eqb-true _ _ t)))
-    ∙ in_no_block c b o behind both.1 free
+pub in_no_side : (c q o : ℕ) (first : RowId) (rs : List RowId) →
+    list_all (λ x. nat_lt (behind first x) 0x40) rs ≡ true →
+    ((x : ℕ) → x < 0x40 → c + x ≢ o) → place_at (side_entries c first rs q) o ≡ None
+in_no_side c q o first [] e free = refl
+in_no_side c q o first (x ∷ rs) e free =
+    let both = and_parts (nat_lt (behind first x) 0x40) (list_all (λ x. nat_lt (behind first x) 0x40) rs) e in
+    cond-false (c + behind first x == o) _ _
+    (false_from_ne_true _ (λ t. free (behind first x) (ltb-true _ _ both.0) (eqb-true _ _ t)))
+    ∙ in_no_side c q o first rs both.1 free
 
 -- what the table's search finds
-pub found_at : (es : List Entry) (o : ℕ) → found (find (λ e. e.0 == o) es) ≡ mapped_at (address_at es o)
+pub found_at : (es : List Entry) (o : ℕ) → found (find (λ e. e.0 == o) es) ≡ located_at (place_at es o)
 found_at [] o = refl
 found_at (x ∷ es) o =
     elim (cases_Bool (x.0 == o)) [
-      | inl t ↦ ap found (cond-true (x.0 == o) _ _ t) ∙ ap mapped_at (sym (cond-true (x.0 == o) _ _ t))
+      | inl t ↦ ap found (cond-true (x.0 == o) _ _ t) ∙ ap located_at (sym (cond-true (x.0 == o) _ _ t))
       | inr f ↦
-          ap found (cond-false (x.0 == o) _ _ f) ∙ found_at es o ∙ ap mapped_at (sym (cond-false (x.0 == o) _ _ f))
+          ap found (cond-false (x.0 == o) _ _ f) ∙ found_at es o ∙ ap located_at (sym (cond-false (x.0 == o) _ _ f))
     ]

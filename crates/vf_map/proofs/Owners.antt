@@ -1,43 +1,34 @@
--- Each address of the map says which virtual function it belongs to.
-use Rattle.std.proofs.Common.{◌≡◌, ◌≢◌, ℕ, zero, suc, ◌+◌, ◌-◌, ◌*◌, ◌/◌, ◌%◌, ◌<◌, ◌≤◌, Bool, true, ◌==◌, ◌&&◌, ◌||◌, nat_lt, List, [], ◌∷◌, Option, Some, None, if◌then◌else◌, refl, sym, ◌∙◌, subst, ◌⊎◌, inl, inr, arith}
+-- Each register of the map belongs to the virtual function's pool, or is shared.
+use Rattle.std.proofs.Common.{◌≡◌, ◌≢◌, ℕ, zero, suc, ◌+◌, ◌*◌, ◌%◌, ◌<◌, ◌≤◌, Bool, true, ◌==◌, ◌&&◌, ◌||◌, nat_lt, List, [], ◌∷◌, Option, Some, None, refl, sym, ◌∙◌, subst, ◌⊎◌, inl, inr, arith}
 use Rattle.std.specs.List.{list_all, range_with_len}
 use Rattle.std.proofs.lemmas.Bool.{cases_Bool, cond-true, cond-false, eqb-true, ltb-true, and_parts, or_cases, ltb-false, eq-eqb, both_ways}
+use Rattle.reg_table.specs.declared.place.Place.{Place}
+use Rattle.reg_table.specs.Rows.{rows, row_of}
 use Rattle.vf_map.specs.declared.mode.Mode.{Mode}
 use Rattle.vf_map.specs.declared.mode.Mode.TheVariants.{Off, Pools16, Pools32, Pools64}
-use Rattle.vf_map.specs.declared.mapped.Mapped.TheVariants.{Absent, Pf}
+use Rattle.vf_map.specs.declared.located.Located.TheVariants.{Absent, Register}
 use Rattle.vf_map.specs.Pools.{queues_of, queues_each, pools_in}
-use Rattle.vf_map.specs.Map.{Entry, entries, mapped}
-use Rattle.vf_map.specs.Parts.{address_at, mapped_at}
-use Rattle.vf_map.proofs.Whole.{mapped_beyond, mapped_none, mapped_some}
+use Rattle.vf_map.specs.Owner.{is_of_pool, is_shared}
+use Rattle.vf_map.specs.Map.{Entry, entries, located}
+use Rattle.vf_map.specs.Parts.{place_at, located_at}
+use Rattle.vf_map.proofs.Whole.{located_beyond, located_none, located_some}
 
--- the virtual function that an address belongs to, where each has so many queues
-owner : (each address : ℕ) → ℕ
-owner each a =
-    if nat_lt a 0x01000 then a % 0x100 / 4
-    else (if nat_lt a 0x02000 then (if a % 0x40 == 0x1C then (a - 0x01000) / 0x40 else (a - 0x01000) / 0x40 / each)
-    else (if nat_lt a 0x06000 then a % 0x100 / 4
-    else (if nat_lt a 0x08000 then (a - 0x06000) / 0x40 / each
-    else (if nat_lt a 0x0D000 then a % 0x100 / 4
-    else (if nat_lt a 0x0E000 then (64 + (a - 0x0D000) / 0x40) / each
-    else (if nat_lt a 0x12500 then a % 0x100 / 4 else (a - 0x12500) / 4 * 2 / each))))))
-
--- whether an entry of a function is aligned, and its address the function's own or one that no write changes
-is_sound : (each v offset address : ℕ) → Bool
-is_sound each v o a =
-    (o % 4 == 0) && (a % 4 == 0) && ((a == 0x00008) || (a == 0x042A4) || (owner each a == v))
+-- whether an entry of a function is aligned, and its place there and the pool's or shared
+is_sound : Mode → (v offset : ℕ) → Place → Bool
+is_sound mode v o p = (o % 4 == 0) && nat_lt p.index (row_of p.row).count && (is_of_pool mode v p || is_shared p)
 
 -- whether all entries of a function are
-all_sound : (each v : ℕ) → Bool
-all_sound each v = list_all (λ e. is_sound each v e.0 e.1) (entries v (v * each) each)
+all_sound : Mode → (v : ℕ) → Bool
+all_sound mode v = list_all (λ e. is_sound mode v e.0 e.1) (entries v (v * queues_each mode) (queues_each mode))
 
-functions_sound : (mode : Mode) → list_all (all_sound (queues_each mode)) (range_with_len 0 (pools_in mode)) ≡ true
-unfolding all_sound is_sound owner entries
+functions_sound : (mode : Mode) → list_all (all_sound mode) (range_with_len 0 (pools_in mode)) ≡ true
+unfolding all_sound is_sound entries rows
 functions_sound Off = refl
 functions_sound Pools16 = refl
 functions_sound Pools32 = refl
 functions_sound Pools64 = refl
 
-at_number : (t : ℕ → Bool) (k n v : ℕ) → list_all t (range_with_len k n) ≡ true → k ≤ v → v < k + n → t v ≡ true
+pub at_number : (t : ℕ → Bool) (k n v : ℕ) → list_all t (range_with_len k n) ≡ true → k ≤ v → v < k + n → t v ≡ true
 at_number t k zero v e l h = absurd (omega arith)
 at_number t k (suc n) v e l h =
     let both = and_parts (t k) (list_all t (range_with_len (k + 1) n)) e in
@@ -51,79 +42,68 @@ at_number t k (suc n) v e l h =
 Some-one : {A : Type 0} {x y : A} → Some x ≡ Some y → x ≡ y
 Some-one e = cc
 
-at_entry : (t : ℕ → ℕ → Bool) (es : List Entry) (o a : ℕ) → list_all (λ e. t e.0 e.1) es ≡ true →
-    address_at es o ≡ Some a → t o a ≡ true
-at_entry t [] o a h e = cc
-at_entry t (x ∷ es) o a h e =
+at_entry : (t : ℕ → Place → Bool) (es : List Entry) (o : ℕ) (p : Place) → list_all (λ e. t e.0 e.1) es ≡ true →
+    place_at es o ≡ Some p → t o p ≡ true
+at_entry t [] o p h e = cc
+at_entry t (x ∷ es) o p h e =
     let both = and_parts (t x.0 x.1) (list_all (λ e. t e.0 e.1) es) h in
     elim (cases_Bool (x.0 == o)) [
       | inl s ↦
-          let there : x.1 ≡ a = Some-one (sym (cond-true (x.0 == o) (Some x.1) (address_at es o) s) ∙ e) in
+          let there : x.1 ≡ p = Some-one (sym (cond-true (x.0 == o) (Some x.1) (place_at es o) s) ∙ e) in
           subst (λ y. t o y ≡ true) there (subst (λ y. t y x.1 ≡ true) (eqb-true _ _ s) both.0)
-      | inr f ↦ at_entry t es o a both.1 (sym (cond-false (x.0 == o) (Some x.1) (address_at es o) f) ∙ e)
+      | inr f ↦ at_entry t es o p both.1 (sym (cond-false (x.0 == o) (Some x.1) (place_at es o) f) ∙ e)
     ]
 
-mapped_address : (m : Option ℕ) (a : ℕ) → mapped_at m ≡ Pf a → m ≡ Some a
-mapped_address None a e = cc
-mapped_address (Some b) a e = cc
+located_place : (m : Option Place) (p : Place) → located_at m ≡ Register p → m ≡ Some p
+located_place None p e = cc
+located_place (Some q) p e = cc
 
--- a mapped offset is an entry's, of a function with a pool
-mapped_entry : (mode : Mode) (vfs v o a : ℕ) → mapped mode vfs v o ≡ Pf a →
-    (v < pools_in mode) × (address_at (entries v (v * queues_each mode) (queues_each mode)) o ≡ Some a)
-mapped_entry mode vfs v o a e =
+-- a located offset is an entry's, of a function with a pool
+located_entry : (mode : Mode) (vfs v o : ℕ) (p : Place) → located mode vfs v o ≡ Register p →
+    (v < pools_in mode) × (place_at (entries v (v * queues_each mode) (queues_each mode)) o ≡ Some p)
+located_entry mode vfs v o p e =
     elim (cases_Bool (nat_lt v vfs)) [
       | inl s ↦ elim (cases_Bool (nat_lt v (pools_in mode))) [
         | inl t ↦
             let pool : queues_of mode v ≡ Some (v * queues_each mode, queues_each mode) =
             cond-true (nat_lt v (pools_in mode)) _ _ t in
-            let is = mapped_some mode vfs v o (v * queues_each mode) (queues_each mode) (ltb-true _ _ s) pool in
-            (ltb-true _ _ t, mapped_address _ a (sym is ∙ e))
+            let is = located_some mode vfs v o (v * queues_each mode) (queues_each mode) (ltb-true _ _ s) pool in
+            (ltb-true _ _ t, located_place _ p (sym is ∙ e))
         | inr f ↦
             let none : queues_of mode v ≡ None = cond-false (nat_lt v (pools_in mode)) _ _ f in
-            let is : Absent ≡ Pf a = sym (mapped_none mode vfs v o (ltb-true _ _ s) none) ∙ e in
+            let is : Absent ≡ Register p = sym (located_none mode vfs v o (ltb-true _ _ s) none) ∙ e in
             cc
       ]
-      | inr f ↦ let is : Absent ≡ Pf a = sym (mapped_beyond mode vfs v o (ltb-false _ _ f)) ∙ e in cc
+      | inr f ↦ let is : Absent ≡ Register p = sym (located_beyond mode vfs v o (ltb-false _ _ f)) ∙ e in cc
     ]
 
-sound_at : (mode : Mode) (vfs v o a : ℕ) → mapped mode vfs v o ≡ Pf a → is_sound (queues_each mode) v o a ≡ true
+sound_at : (mode : Mode) (vfs v o : ℕ) (p : Place) → located mode vfs v o ≡ Register p → is_sound mode v o p ≡ true
 unfolding all_sound
-sound_at mode vfs v o a e =
-    let there = mapped_entry mode vfs v o a e in
+sound_at mode vfs v o p e =
+    let there = located_entry mode vfs v o p e in
     let below : v < 0 + pools_in mode = omega (arith, there.0) in
-    let all = all_sound (queues_each mode) in
-    let sound = at_number all 0 (pools_in mode) v (functions_sound mode) (omega arith) below in
-    at_entry (is_sound (queues_each mode) v) (entries v (v * queues_each mode) (queues_each mode)) o a sound there.1
+    let sound = at_number (all_sound mode) 0 (pools_in mode) v (functions_sound mode) (omega arith) below in
+    at_entry (is_sound mode v) (entries v (v * queues_each mode) (queues_each mode)) o p sound there.1
 
-pub mapped_aligned : (mode : Mode) (vfs v o a : ℕ) → mapped mode vfs v o ≡ Pf a → (o % 4 ≡ 0) × (a % 4 ≡ 0)
+pub located_aligned : (mode : Mode) (vfs v o : ℕ) (p : Place) → located mode vfs v o ≡ Register p → o % 4 ≡ 0
 unfolding is_sound
-mapped_aligned mode vfs v o a e =
-    let own = (a == 0x00008) || (a == 0x042A4) || (owner (queues_each mode) a == v) in
-    let parts = and_parts ((o % 4 == 0) && (a % 4 == 0)) own (sound_at mode vfs v o a e) in
-    let both = and_parts (o % 4 == 0) (a % 4 == 0) parts.0 in
-    (eqb-true _ _ both.0, eqb-true _ _ both.1)
+located_aligned mode vfs v o p e =
+    let there = (o % 4 == 0) && nat_lt p.index (row_of p.row).count in
+    let parts = and_parts there (is_of_pool mode v p || is_shared p) (sound_at mode vfs v o p e) in
+    eqb-true _ _ (and_parts (o % 4 == 0) (nat_lt p.index (row_of p.row).count) parts.0).0
 
-mapped_owner : (mode : Mode) (vfs v o a : ℕ) → mapped mode vfs v o ≡ Pf a →
-    ((a ≡ 0x00008) ⊎ (a ≡ 0x042A4)) ⊎ (owner (queues_each mode) a ≡ v)
+pub located_in_range : (mode : Mode) (vfs v o : ℕ) (p : Place) → located mode vfs v o ≡ Register p →
+    p.index < (row_of p.row).count
 unfolding is_sound
-mapped_owner mode vfs v o a e =
-    let own = (a == 0x00008) || (a == 0x042A4) || (owner (queues_each mode) a == v) in
-    let parts = and_parts ((o % 4 == 0) && (a % 4 == 0)) own (sound_at mode vfs v o a e) in
-    elim (or_cases ((a == 0x00008) || (a == 0x042A4)) (owner (queues_each mode) a == v) parts.1) [
-      | inl shared ↦ elim (or_cases (a == 0x00008) (a == 0x042A4) shared) [
-        | inl s ↦ inl (inl (eqb-true _ _ s))
-        | inr s ↦ inl (inr (eqb-true _ _ s))
-      ]
-      | inr s ↦ inr (eqb-true _ _ s)
-    ]
+located_in_range mode vfs v o p e =
+    let there = (o % 4 == 0) && nat_lt p.index (row_of p.row).count in
+    let parts = and_parts there (is_of_pool mode v p || is_shared p) (sound_at mode vfs v o p e) in
+    ltb-true _ _ (and_parts (o % 4 == 0) (nat_lt p.index (row_of p.row).count) parts.0).1
 
-pub mapped_apart : (mode : Mode) (vfs v w o p a : ℕ) → v ≢ w → mapped mode vfs v o ≡ Pf a → mapped mode vfs w p ≡ Pf a →
-    (a ≡ 0x00008) ⊎ (a ≡ 0x042A4)
-mapped_apart mode vfs v w o p a d e f =
-    elim (mapped_owner mode vfs v o a e) [
-      | inl shared ↦ shared
-      | inr s ↦ elim (mapped_owner mode vfs w p a f) [
-        | inl shared ↦ shared
-        | inr t ↦ absurd (d (sym s ∙ t))
-      ]
-    ]
+pub located_owner : (mode : Mode) (vfs v o : ℕ) (p : Place) → located mode vfs v o ≡ Register p →
+    (is_of_pool mode v p ≡ true) ⊎ (is_shared p ≡ true)
+unfolding is_sound
+located_owner mode vfs v o p e =
+    let there = (o % 4 == 0) && nat_lt p.index (row_of p.row).count in
+    or_cases (is_of_pool mode v p) (is_shared p)
+    (and_parts there (is_of_pool mode v p || is_shared p) (sound_at mode vfs v o p e)).1

@@ -1,21 +1,52 @@
 -- What the map of the virtual functions promises.
-use Rattle.std.specs.Prelude.{ℕ, ◌≡◌, ◌≢◌, ◌+◌, ◌*◌, ◌%◌, ◌<◌, ◌⊎◌}
-use Rattle.vf_map.specs.Pools.{queues_each, pools_in}
-use Rattle.vf_map.specs.Map.{mapped}
+use Rattle.std.specs.Prelude.{ℕ, ◌≡◌, ◌≢◌, ◌↔◌, ◌+◌, ◌*◌, ◌%◌, ◌<◌, ◌≤◌, ◌⊎◌, IsTrue, Option, Some, None, AllPairs}
+use Rattle.reg_table.specs.Place.{place_among, view_among}
+use Rattle.reg_table.specs.Rows.{row_of}
+use Rattle.reg_table.specs.Runs.{runs}
+use Rattle.reg_table.specs.declared.place.Place.{Place}
+use Rattle.vf_map.specs.Pools.{queues_of, pool_of, queues_each, pools_in}
+use Rattle.vf_map.specs.Owner.{is_of_pool, is_shared}
+use Rattle.vf_map.specs.Map.{entries, located, mapped}
 use Rattle.vf_map.specs.declared.mode.Mode.{Mode}
+use Rattle.vf_map.specs.declared.located.Located.{Located}
+use Rattle.vf_map.specs.declared.located.Located.TheVariants.{Absent, Hole, Register}
 use Rattle.vf_map.specs.declared.mapped.Mapped.TheVariants.{Pf}
 
--- an address that two virtual functions can reach is STATUS or LINKS, which no write changes
+-- a register has an index of its row
+abbrev pub IsInRange : Located → Type 0
+IsInRange Absent = Unit
+IsInRange Hole = Unit
+IsInRange (Register p) = p.index < (row_of p.row).count
+
+-- no offset has two entries
+abbrev pub OffsetsHaveOneRegister : Type 0
+OffsetsHaveOneRegister =
+    (mode : Mode) (v first count : ℕ) → queues_of mode v ≡ Some (first, count) →
+    AllPairs (λ e f. e.0 ≢ f.0) (entries v first count)
+
+-- the address that an offset stands for is that of its register, and shows its whole word
+abbrev pub AddressesReadBack : Type 0
+AddressesReadBack =
+    (mode : Mode) (vfs v offset : ℕ) (p : Place) → located mode vfs v offset ≡ Register p →
+    (address : ℕ) × (mapped mode vfs v offset ≡ Pf address) × (place_among runs address ≡ Some p)
+    × (view_among runs address ≡ 0xFFFFFFFF)
+
+-- a register that a virtual function reaches is its pool's, or STATUS or LINKS
+abbrev pub RegistersAreThePools : Type 0
+RegistersAreThePools =
+    (mode : Mode) (vfs v offset : ℕ) (p : Place) → located mode vfs v offset ≡ Register p →
+    IsTrue (is_of_pool mode v p) ⊎ IsTrue (is_shared p)
+
+-- a register that two virtual functions reach is STATUS or LINKS, which no write changes
 abbrev pub FunctionsAreApart : Type 0
 FunctionsAreApart =
-    (mode : Mode) (vfs v w o p address : ℕ) → v ≢ w →
-    mapped mode vfs v o ≡ Pf address → mapped mode vfs w p ≡ Pf address →
-    (address ≡ 0x00008) ⊎ (address ≡ 0x042A4)
+    (mode : Mode) (vfs v w o r : ℕ) (p : Place) → v ≢ w →
+    located mode vfs v o ≡ Register p → located mode vfs w r ≡ Register p → IsTrue (is_shared p)
 
 -- an offset that isn't a multiple of 4 is no register's, and neither is an address that an offset stands for
 abbrev pub AddressesAreAligned : Type 0
 AddressesAreAligned =
-    (mode : Mode) (vfs vf offset address : ℕ) → mapped mode vfs vf offset ≡ Pf address →
+    (mode : Mode) (vfs v offset address : ℕ) → mapped mode vfs v offset ≡ Pf address →
     (offset % 4 ≡ 0) × (address % 4 ≡ 0)
 
 -- pools have queues of the device, and no queue in common
@@ -24,3 +55,12 @@ PoolsAreApart =
     (mode : Mode) (v w x y : ℕ) → v < pools_in mode → w < pools_in mode → v ≢ w →
     x < queues_each mode → y < queues_each mode →
     (v * queues_each mode + x ≢ w * queues_each mode + y) × (v * queues_each mode + x < 128)
+
+-- a queue is one of those from the first on
+abbrev pub IsAmong : Option (ℕ × ℕ) → (queue : ℕ) → Type 0
+IsAmong None queue = ⊥
+IsAmong (Some queues) queue = (queues.0 ≤ queue) × (queue < queues.0 + queues.1)
+
+-- a queue's pool is the one that has the queue
+abbrev pub PoolIsWhereTheQueueIs : Type 0
+PoolIsWhereTheQueueIs = (mode : Mode) (v queue : ℕ) → (pool_of mode queue ≡ Some v) ↔ IsAmong (queues_of mode v) queue

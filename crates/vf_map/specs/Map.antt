@@ -1,49 +1,60 @@
--- Where an offset of a virtual function lies among the addresses of the physical function.
-use Rattle.std.specs.Prelude.{ℕ, ◌+◌, ◌-◌, ◌*◌, ◌/◌, ◌==◌, List, [], ◌∷◌, ◌++◌, map, find, nat_lt, Option, Some, None, if◌then◌else◌}
+-- Which register of the device an offset of a virtual function is.
+use Rattle.std.specs.Prelude.{ℕ, ◌+◌, ◌-◌, ◌*◌, ◌/◌, ◌==◌, List, [], ◌∷◌, ◌++◌, map, filter, find, nat_lt, Option, Some, None, if◌then◌else◌}
 use Rattle.std.specs.List.{flat_map, range_with_len}
+use Rattle.reg_table.specs.FirstAddresses.{first_of}
+use Rattle.reg_table.specs.Place.{address_among}
+use Rattle.reg_table.specs.Rows.{rows}
+use Rattle.reg_table.specs.Runs.{runs}
+use Rattle.reg_table.specs.declared.place.Place.{Place}
+use Rattle.reg_table.specs.declared.rows.RowId.{RowId}
+use Rattle.reg_table.specs.declared.rows.RowId.TheVariants.{Pvfctrl, Status, Links, Pvteicr, Pvteics, Pvteims, Pvteimc, Pvteiac, Pvteiam, Psrtype, Vfgprc, Vfgptc, Pvtivar, Rdbal, Tdbal}
+use Rattle.vf_map.specs.Owner.{is_receive, is_transmit}
 use Rattle.vf_map.specs.Pools.{queues_of}
 use Rattle.vf_map.specs.declared.mode.Mode.{Mode}
+use Rattle.vf_map.specs.declared.located.Located.{Located}
+use Rattle.vf_map.specs.declared.located.Located.TheVariants as located_as
 use Rattle.vf_map.specs.declared.mapped.Mapped.{Mapped}
-use Rattle.vf_map.specs.declared.mapped.Mapped.TheVariants.{Absent, Hole, Pf}
+use Rattle.vf_map.specs.declared.mapped.Mapped.TheVariants as mapped_as
 
--- an offset, and the address that it stands for
+-- an offset, and the place that it stands for
 abbrev pub Entry : Type 0
-Entry = ℕ × ℕ
+Entry = ℕ × Place
 
--- where the receive registers and the transmit registers of a queue begin
-abbrev pub receive_base : ℕ → ℕ
-receive_base queue = if nat_lt queue 64 then 0x01000 + 0x40 * queue else 0x0D000 + 0x40 * (queue - 64)
+abbrev pub entry : (offset : ℕ) → RowId → (index : ℕ) → Entry
+entry offset row index = (offset, record { row = row; index = index })
 
-abbrev pub transmit_base : ℕ → ℕ
-transmit_base queue = 0x06000 + 0x40 * queue
-
--- what a queue has behind these: RDBAL, RDBAH, RDLEN, RDH, SRRCTL, RDT, RXDCTL; and TDBAL, TDBAH, TDLEN, TDH, TDT,
--- TXDCTL, TDWBAL, TDWBAH
-abbrev pub receive_registers : List ℕ
-receive_registers = 0x00 ∷ 0x04 ∷ 0x08 ∷ 0x10 ∷ 0x14 ∷ 0x18 ∷ 0x28 ∷ []
-
-abbrev pub transmit_registers : List ℕ
-transmit_registers = 0x00 ∷ 0x04 ∷ 0x08 ∷ 0x10 ∷ 0x18 ∷ 0x28 ∷ 0x38 ∷ 0x3C ∷ []
-
--- the registers of a virtual function itself: PVFCTRL, STATUS, LINKS; PVTEICR, PVTEICS, PVTEIMS, PVTEIMC, PVTEIAC,
--- PVTEIAM; PSRTYPE; VFGPRC, VFGPTC
+-- the registers that a virtual function has once
 abbrev pub own_entries : ℕ → List Entry
 own_entries vf =
-    (0x000, 0x00300 + 4 * vf) ∷ (0x008, 0x00008) ∷ (0x010, 0x042A4) ∷
-    (0x100, 0x00B00 + 4 * vf) ∷ (0x104, 0x00C00 + 4 * vf) ∷ (0x108, 0x00D00 + 4 * vf) ∷
-    (0x10C, 0x00E00 + 4 * vf) ∷ (0x110, 0x00F00 + 4 * vf) ∷ (0x114, 0x04D00 + 4 * vf) ∷
-    (0x300, 0x0EA00 + 4 * vf) ∷ (0x101C, 0x0101C + 0x40 * vf) ∷ (0x201C, 0x08300 + 4 * vf) ∷ []
+    entry 0x0000 Pvfctrl vf ∷ entry 0x0008 Status 0 ∷ entry 0x0010 Links 0 ∷
+    entry 0x0100 Pvteicr vf ∷ entry 0x0104 Pvteics vf ∷ entry 0x0108 Pvteims vf ∷
+    entry 0x010C Pvteimc vf ∷ entry 0x0110 Pvteiac vf ∷ entry 0x0114 Pvteiam vf ∷
+    entry 0x0300 Psrtype vf ∷ entry 0x101C Vfgprc vf ∷ entry 0x201C Vfgptc vf ∷ []
 
--- PVTIVAR: a word for each two queues
+-- its vectors: a word for each two queues
 abbrev pub vector_entries : (first count : ℕ) → List Entry
-vector_entries first count =
-    map (λ x. (0x120 + 4 * x, 0x12500 + 4 * (first / 2 + x))) (range_with_len 0 (count / 2))
+vector_entries first count = map (λ x. entry (0x120 + 4 * x) Pvtivar (first / 2 + x)) (range_with_len 0 (count / 2))
+
+-- the rows of the receive side and of the transmit side of a queue
+abbrev pub receive_rows : List RowId
+receive_rows = filter is_receive rows
+
+abbrev pub transmit_rows : List RowId
+transmit_rows = filter is_transmit rows
+
+-- how far a row's first register stands behind another's
+abbrev pub behind : (first row : RowId) → ℕ
+behind first row = (first_of row).first - (first_of first).first
+
+-- the registers of a side of a queue of the device, from an offset on as far apart as the device has them
+abbrev pub side_entries : (offset : ℕ) → (first : RowId) → List RowId → (queue : ℕ) → List Entry
+side_entries offset first rows queue = map (λ row. entry (offset + behind first row) row queue) rows
 
 -- the registers of queue x of the function, which is this queue of the device
 abbrev pub queue_entries : (x queue : ℕ) → List Entry
 queue_entries x queue =
-    map (λ o. (0x1000 + 0x40 * x + o, receive_base queue + o)) receive_registers
-    ++ map (λ o. (0x2000 + 0x40 * x + o, transmit_base queue + o)) transmit_registers
+    side_entries (0x1000 + 0x40 * x) Rdbal receive_rows queue
+    ++ side_entries (0x2000 + 0x40 * x) Tdbal transmit_rows queue
 
 -- all that a virtual function with so many queues from the first on can reach
 unfoldable pub entries : (vf first count : ℕ) → List Entry
@@ -52,15 +63,29 @@ entries vf first count =
     ++ flat_map (λ x. queue_entries x (first + x)) (range_with_len 0 count)
 
 -- what an offset is, by the entry that has it
-abbrev pub found : Option Entry → Mapped
-found None = Hole
-found (Some entry) = Pf entry.1
+abbrev pub found : Option Entry → Located
+found None = located_as.Hole
+found (Some entry) = located_as.Register entry.1
 
-abbrev pub mapped_in : ℕ → Option (ℕ × ℕ) → ℕ → Mapped
-mapped_in vf None offset = Absent
-mapped_in vf (Some queues) offset = found (find (λ entry. entry.0 == offset) (entries vf queues.0 queues.1))
+abbrev pub located_in : ℕ → Option (ℕ × ℕ) → ℕ → Located
+located_in vf None offset = located_as.Absent
+located_in vf (Some queues) offset = found (find (λ entry. entry.0 == offset) (entries vf queues.0 queues.1))
 
 -- of so many virtual functions, what an offset of one is: nothing where there is no such function or the mode has no
--- pool for it, else the address of a register, or a hole
-unfoldable pub mapped : Mode → (vfs vf offset : ℕ) → Mapped
-mapped mode vfs vf offset = if nat_lt vf vfs then mapped_in vf (queues_of mode vf) offset else Absent
+-- pool for it, else a register, or a hole
+unfoldable pub located : Mode → (vfs vf offset : ℕ) → Located
+located mode vfs vf offset =
+    if nat_lt vf vfs then located_in vf (queues_of mode vf) offset else located_as.Absent
+
+-- the same by the register's first address
+abbrev pub at_address : Option ℕ → Mapped
+at_address None = mapped_as.Hole
+at_address (Some address) = mapped_as.Pf address
+
+abbrev pub mapped_to : Located → Mapped
+mapped_to located_as.Absent = mapped_as.Absent
+mapped_to located_as.Hole = mapped_as.Hole
+mapped_to (located_as.Register p) = at_address (address_among runs p)
+
+abbrev pub mapped : Mode → (vfs vf offset : ℕ) → Mapped
+mapped mode vfs vf offset = mapped_to (located mode vfs vf offset)

@@ -1,23 +1,30 @@
 -- The map by its parts, as the code asks each in turn.
-use Rattle.std.specs.Prelude.{ℕ, ◌+◌, ◌==◌, List, [], ◌∷◌, map, Option, Some, None, if◌then◌else◌}
+use Rattle.std.specs.Prelude.{ℕ, ◌+◌, ◌==◌, List, [], ◌∷◌, find, Option, Some, None, if◌then◌else◌}
 use Rattle.std.specs.List.{flat_map, range_with_len}
-use Rattle.vf_map.specs.Map.{Entry, queue_entries}
-use Rattle.vf_map.specs.declared.mapped.Mapped.{Mapped}
-use Rattle.vf_map.specs.declared.mapped.Mapped.TheVariants.{Hole, Pf}
+use Rattle.reg_table.specs.declared.place.Place.{Place}
+use Rattle.reg_table.specs.declared.rows.RowId.{RowId}
+use Rattle.vf_map.specs.Map.{Entry, behind, queue_entries}
+use Rattle.vf_map.specs.declared.located.Located.{Located}
+use Rattle.vf_map.specs.declared.located.Located.TheVariants.{Hole, Register}
 
--- the address of the first entry with the offset
-abbrev pub address_at : List Entry → ℕ → Option ℕ
-address_at [] offset = None
-address_at (entry ∷ entries) offset = if entry.0 == offset then Some entry.1 else address_at entries offset
+-- the place of the first entry with the offset
+abbrev pub place_at : List Entry → ℕ → Option Place
+place_at [] offset = None
+place_at (entry ∷ entries) offset = if entry.0 == offset then Some entry.1 else place_at entries offset
 
--- what an offset is, by the address that it stands for
-abbrev pub mapped_at : Option ℕ → Mapped
-mapped_at None = Hole
-mapped_at (Some address) = Pf address
+-- what an offset is, by the place that it stands for
+abbrev pub located_at : Option Place → Located
+located_at None = Hole
+located_at (Some place) = Register place
 
--- registers by what they stand behind a base
-abbrev pub registers : ℕ → List ℕ → List Entry
-registers base behind = map (λ o. (o, base + o)) behind
+-- the row of a side that stands so far behind its first
+abbrev pub row_behind : (first : RowId) → List RowId → ℕ → Option RowId
+row_behind first rows bytes = find (λ row. behind first row == bytes) rows
+
+-- the place of a queue in a row
+abbrev pub of_queue : Option RowId → (queue : ℕ) → Option Place
+of_queue None queue = None
+of_queue (Some row) queue = Some (record { row = row; index = queue })
 
 -- the registers of all queues of a function
 abbrev pub queues_entries : (first count : ℕ) → List Entry

@@ -1,5 +1,5 @@
 -- How GCR_EXT parts the 128 queues among pools. Virtual function v has pool v.
-use Rattle.std.specs.Prelude.{ℕ, ◌*◌, ◌%◌, ◌==◌, nat_lt, Option, Some, None, if◌then◌else◌}
+use Rattle.std.specs.Prelude.{ℕ, ◌*◌, ◌/◌, ◌%◌, ◌==◌, nat_lt, Option, Some, None, if◌then◌else◌}
 use Rattle.vf_map.specs.declared.mode.Mode.{Mode}
 use Rattle.vf_map.specs.declared.mode.Mode.TheVariants.{Off, Pools16, Pools32, Pools64}
 
@@ -27,3 +27,8 @@ queues_each Pools64 = 2
 abbrev pub queues_of : Mode → ℕ → Option (ℕ × ℕ)
 queues_of mode pool =
     if nat_lt pool (pools_in mode) then Some (pool * queues_each mode, queues_each mode) else None
+
+-- the pool that a queue of the device is in, where the mode parts it among pools
+abbrev pub pool_of : Mode → ℕ → Option ℕ
+pool_of mode queue =
+    if nat_lt queue (pools_in mode * queues_each mode) then Some (queue / queues_each mode) else None

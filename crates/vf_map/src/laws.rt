@@ -1,8 +1,23 @@
 //! What the map of the virtual functions promises as a whole. Each law is the contract of a function that does nothing.
 
-ghost use Rattle.vf_map.specs.Laws.{FunctionsAreApart, AddressesAreAligned, PoolsAreApart};
+ghost use Rattle.vf_map.specs.Laws.{OffsetsHaveOneRegister, AddressesReadBack, RegistersAreThePools, FunctionsAreApart, AddressesAreAligned, PoolsAreApart, PoolIsWhereTheQueueIs};
 
-/// An address that two virtual functions can reach is one that no write changes.
+/// No offset of a virtual function is listed twice.
+pub fn offsets_have_one_register()
+    ensures { OffsetsHaveOneRegister }
+{}
+
+/// The address that an offset stands for is that of its register, and shows all bits of the word.
+pub fn addresses_read_back()
+    ensures { AddressesReadBack }
+{}
+
+/// A register that a virtual function reaches is one of its pool, or STATUS or LINKS.
+pub fn registers_are_the_pools()
+    ensures { RegistersAreThePools }
+{}
+
+/// A register that two virtual functions can reach is STATUS or LINKS, which no write changes.
 pub fn functions_are_apart()
     ensures { FunctionsAreApart }
 {}
@@ -15,4 +30,9 @@ pub fn addresses_are_aligned()
 /// No two pools have a queue in common.
 pub fn pools_are_apart()
     ensures { PoolsAreApart }
+{}
+
+/// The pool of a queue is the one that has the queue.
+pub fn pool_is_where_the_queue_is()
+    ensures { PoolIsWhereTheQueueIs }
 {}

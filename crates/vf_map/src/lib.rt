@@ -1,21 +1,27 @@
 //! The virtual functions of the Intel 82599: which register of the physical function an offset of a virtual function
 //! is.
 //!
-//! GCR_EXT parts the 128 queues among 32 or 64 pools, and virtual function v has pool v: [`mode_of`] and [`queues_of`].
-//! [`map`] is the map from a function's offsets to addresses, as a table in `specs/Map.antt`. No call takes memory.
-//! The device core will stand on this crate.
+//! GCR_EXT parts the 128 queues among 32 or 64 pools, and virtual function v has pool v: [`mode_of`], [`queues_of`] and
+//! [`pool_of`]. [`locate`] is the map from a function's offsets to registers of the device, as a table in
+//! `specs/Map.antt`; [`map`] gives their addresses, which the register table says. `specs/Owner.antt` says which
+//! registers are a pool's. No call takes memory. Registers and device core stand on this crate.
 //!
 //! Source: Intel 82599 datasheet, section on the registers of virtual functions, with this project's profile.
 #![tactic(auto)]
 
 mod laws;
+mod located;
 mod mapped;
 mod mapping;
 mod mode;
 mod pools;
 
-pub use laws::{addresses_are_aligned, functions_are_apart, pools_are_apart};
+pub use laws::{
+    addresses_are_aligned, addresses_read_back, functions_are_apart, offsets_have_one_register,
+    pool_is_where_the_queue_is, pools_are_apart, registers_are_the_pools,
+};
+pub use located::Located;
 pub use mapped::Mapped;
-pub use mapping::map;
+pub use mapping::{locate, map};
 pub use mode::Mode;
-pub use pools::{mode_of, queues_of};
+pub use pools::{mode_of, pool_of, queues_of};

@@ -1,10 +1,13 @@
 ghost use Rattle.std.specs.Prelude.{◌≡◌, ◌<◌};
-ghost use Rattle.vf_map.specs.Pools.{mode_of, queues_of, queues_each, pools_in};
+ghost use Rattle.vf_map.specs.Pools.{mode_of, queues_of, pool_of};
 
 use crate::mode::Mode;
 
 /// The bits of GCR_EXT that hold the mode.
 const MODE_MASK: u32 = 0x3;
+
+/// How many queues the device has.
+const QUEUES: u16 = 128;
 
 /// The mode in GCR_EXT: its bits 1:0. The other bits say nothing here.
 pub fn mode_of(gcr_ext: u32) -> Mode
@@ -26,6 +29,18 @@ pub fn queues_of(mode: Mode, v: u8) -> Option<(u8, u8)>
     match mode {
         Mode::Pools32 if v < 32 => Some((4 * v, 4)),
         Mode::Pools64 if v < 64 => Some((2 * v, 2)),
+        _ => None,
+    }
+}
+
+/// The pool that a queue of the device is in: queue / 4 with 32 pools, queue / 2 with 64. `None` where the mode has no
+/// pools, and for a queue that the device doesn't have, 128 or above.
+pub fn pool_of(mode: Mode, queue: u16) -> Option<u8>
+    ensures { result ≡ pool_of mode queue }
+{
+    match mode {
+        Mode::Pools32 if queue < QUEUES => Some((queue / 4) as u8),
+        Mode::Pools64 if queue < QUEUES => Some((queue / 2) as u8),
         _ => None,
     }
 }

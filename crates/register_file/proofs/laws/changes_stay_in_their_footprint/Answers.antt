@@ -1,4 +1,4 @@
-use Rattle.register_file.proofs.Within.{within-after_read, within-written, within-counted, within-causes_raised, within-queue_raised, within-message_made, within-with_head, within-switched, within-shut_enable}
+use Rattle.register_file.proofs.Within.{within-after_read, within-written, within-counted, within-counted_wrapping, within-answered, within-causes_raised, within-queue_raised, within-message_made, within-with_head, within-switched, within-shut_enable}
 use Rattle.register_file.proofs.laws.changes_stay_in_their_footprint.Goals as goal
 
 pub returns-clause-read : goal.returns-clause-read
@@ -9,6 +9,12 @@ returns-clause-write c = within-written
 
 pub returns-clause-count : goal.returns-clause-count
 returns-clause-count c = within-counted
+
+pub returns-clause-count_wrapping : goal.returns-clause-count_wrapping
+returns-clause-count_wrapping c = within-counted_wrapping
+
+pub returns-clause-answer : goal.returns-clause-answer
+returns-clause-answer c = within-answered
 
 pub returns-clause-raise : goal.returns-clause-raise
 returns-clause-raise c = within-causes_raised

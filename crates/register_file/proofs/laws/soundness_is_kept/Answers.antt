@@ -1,4 +1,4 @@
-use Rattle.register_file.proofs.Sound.{sound-reset, sound-after_read, sound-written, sound-counted, sound-causes_raised, sound-queue_raised, sound-message_made, sound-with_head, sound-switched, sound-shut}
+use Rattle.register_file.proofs.Sound.{sound-reset, sound-after_read, sound-written, sound-counted, sound-counted_wrapping, sound-answered, sound-causes_raised, sound-queue_raised, sound-message_made, sound-with_head, sound-switched, sound-shut}
 use Rattle.register_file.proofs.laws.soundness_is_kept.Goals as goal
 
 pub returns-clause-reset : goal.returns-clause-reset
@@ -12,6 +12,12 @@ returns-clause-write c = λ r sound p view word small. sound-written r p view wo
 
 pub returns-clause-count : goal.returns-clause-count
 returns-clause-count c = λ r sound row index e. sound-counted r row index e sound
+
+pub returns-clause-count_wrapping : goal.returns-clause-count_wrapping
+returns-clause-count_wrapping c = λ r sound row index e. sound-counted_wrapping r row index e sound
+
+pub returns-clause-answer : goal.returns-clause-answer
+returns-clause-answer c = λ r sound word small. sound-answered r word small sound
 
 pub returns-clause-raise : goal.returns-clause-raise
 returns-clause-raise c = λ r sound g bits. sound-causes_raised r g bits sound

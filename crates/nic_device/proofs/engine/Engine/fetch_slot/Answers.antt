@@ -44,6 +44,7 @@ returns-in-Err-Fault c =
         staged = cleared k;
         out = out k;
         link = (view k).link;
+        image = (view k).image;
         vfs = (view k).vfs;
         fifo = (view k).fifo;
       }) ∙ sym (ap (λ o. o.state) met);

@@ -1,4 +1,4 @@
-use Rattle.std.proofs.Common.{rules, ◌<◌, sym, subst}
+use Rattle.std.proofs.Common.{rules, sym, subst}
 use Rattle.nic_device.specs.Sound.{AreBytes, IsEvent}
 use Rattle.nic_device.proofs.event.Event.is_of_a_driver.Goals as goal
 

@@ -1,0 +1,88 @@
+-- How many steps a machine has counted after so many.
+use Rattle.std.proofs.Common.{◌≡◌, ◌≢◌, refl, sym, ◌∙◌, ap, ℕ, zero, suc, ◌+◌, ◌≤◌, Bool, true, false, if◌then◌else◌, [], arith, add-zero, add-suc}
+use Rattle.nic_device.specs.declared.Config.{Config}
+use Rattle.machine.specs.Machine.{machine_at, machine_step}
+use Rattle.machine.specs.MachineState.{MachineState}
+use Rattle.machine.specs.Processor.{IsWhereStepsLead}
+use Rattle.machine.specs.declared.machine.StepAnswer.{StepAnswer}
+use Rattle.machine.specs.declared.machine.StepAnswer.TheVariants as answer
+use Rattle.program.specs.Listing.{Listing}
+use Rattle.machine.proofs.Running.{steps_count, stopped_for_good}
+use Rattle.machine.proofs.Steps.{leads-start, leads-step}
+use Rattle.debugger.specs.Running.{is_stopped, stops_at, run_on}
+
+stopped-is : (a : StepAnswer) → is_stopped a ≡ true → a ≡ answer.Stopped
+stopped-is (answer.Made reply) e = cc
+stopped-is answer.Local e = cc
+stopped-is answer.NoBlock e = cc
+stopped-is answer.Stopped e = refl
+
+going-is : (a : StepAnswer) → is_stopped a ≡ false → a ≢ answer.Stopped
+going-is a going e = (let no : true ≡ false = sym (ap is_stopped e) ∙ going in cc)
+
+-- a machine that stops stays, any other counts a step
+pub stays : (p : Listing) (s : MachineState) → is_stopped (machine_step p s).answer ≡ true
+    → (machine_step p s).state ≡ s
+stays p s stopped = steps_count.stays p s (stopped-is (machine_step p s).answer stopped)
+
+pub counts : (p : Listing) (s : MachineState) → is_stopped (machine_step p s).answer ≡ false
+    → (machine_step p s).state.steps ≡ s.steps + 1
+counts p s going = steps_count.counts p s (going-is (machine_step p s).answer going)
+
+-- the machine after n steps is the one after as many as it has counted
+pub leads-at : (p : Listing) (c : Config) (n : ℕ) → IsWhereStepsLead p c (machine_at p c n)
+unfolding machine_at
+leads-at p c zero = leads-start p c (machine_at p c zero) refl
+leads-at p c (suc n) = leads-step p c (machine_at p c n) (leads-at p c n)
+
+-- one step more counts one more at most
+one_more : (p : Listing) (c : Config) (n : ℕ) (stopped : Bool) → stops_at p c n ≡ stopped
+    → ((machine_at p c n).steps ≤ (machine_at p c (suc n)).steps)
+    × ((machine_at p c (suc n)).steps ≤ (machine_at p c n).steps + 1)
+unfolding machine_at
+one_more p c n true is = let same = ap (λ (s : MachineState). s.steps) (stays p (machine_at p c n) is) in
+    (omega (arith, same), omega (arith, same))
+one_more p c n false is = let more = counts p (machine_at p c n) is in (omega (arith, more), omega (arith, more))
+
+-- k steps more count k more at most
+pub more : (p : Listing) (c : Config) (n k : ℕ)
+    → ((machine_at p c n).steps ≤ (machine_at p c (n + k)).steps)
+    × ((machine_at p c (n + k)).steps ≤ (machine_at p c n).steps + k)
+more p c n zero = let same = ap (λ m. (machine_at p c m).steps) (add-zero n) in
+    (omega (arith, same), omega (arith, same))
+more p c n (suc k) =
+    let before = more p c n k in
+    let step = one_more p c (n + k) (stops_at p c (n + k)) refl in
+    let same = ap (λ m. (machine_at p c m).steps) (add-suc n k) in
+    (omega (arith, before.0, step.0, same), omega (arith, before.1, step.1, same))
+
+-- after n steps a machine has counted n at most
+pub few : (p : Listing) (c : Config) (n : ℕ) → (machine_at p c n).steps ≤ n
+unfolding machine_at
+few p c zero = omega arith
+few p c (suc n) = let step = one_more p c n (stops_at p c n) refl in omega (arith, step.1, few p c n)
+
+-- where a machine has counted each of n steps, it has counted each of fewer
+pub counted-before : (p : Listing) (c : Config) (n k : ℕ) → (machine_at p c (n + k)).steps ≡ n + k
+    → (machine_at p c n).steps ≡ n
+counted-before p c n k all = let later = more p c n k in omega (arith, later.1, few p c n)
+
+either_on : (p : Listing) (c : Config) (n k : ℕ) → (machine_at p c n).steps ≡ n → (stopped : Bool)
+    → stops_at p c n ≡ stopped
+    → ((machine_at p c (suc n)).steps ≡ suc n → run_on p c [] (suc n) k ≡ (machine_at p c (suc n + k)).steps)
+    → (if stopped then n else run_on p c [] (suc n) k) ≡ (machine_at p c (n + suc k)).steps
+unfolding machine_at
+either_on p c n k counted true is on =
+    sym counted ∙ ap (λ (s : MachineState). s.steps)
+    (sym (stopped_for_good p c n (suc k) (stopped-is (machine_step p (machine_at p c n)).answer is)))
+either_on p c n k counted false is on =
+    let one : suc n + k ≡ n + suc k = omega arith in
+    let next : (machine_at p c (suc n)).steps ≡ suc n = omega (arith, counts p (machine_at p c n) is, counted) in
+    on next ∙ ap (λ m. (machine_at p c m).steps) one
+
+-- where a machine has counted each of n steps, so many steps on without breakpoints lead to what it has counted then
+pub run_on-plain : (p : Listing) (c : Config) (n k : ℕ) → (machine_at p c n).steps ≡ n
+    → run_on p c [] n k ≡ (machine_at p c (n + k)).steps
+unfolding run_on
+run_on-plain p c n zero counted = sym counted ∙ ap (λ m. (machine_at p c m).steps) (sym (add-zero n))
+run_on-plain p c n (suc k) counted = either_on p c n k counted (stops_at p c n) refl (run_on-plain p c (suc n) k)

@@ -1,0 +1,50 @@
+use Rattle.std.proofs.Common.{sym, ◌∙◌, arith}
+use Rattle.debugger.proofs.Ran.{all-ran, meets-at, refused-up_to, stopped-at, stopped-from, stopped-steps, next-at, next-from, next-ran, break-steps}
+use Rattle.debugger.proofs.running.run_on.Goals as goal
+
+pub returns-in_err-step-clause-up_to : goal.returns-in_err-step-clause-up_to
+returns-in_err-step-clause-up_to c =
+    refused-up_to _ _ _ _ _ c.loop.invariant c.from_residual.result _ c.in_err-step.ensures.unchanged
+
+pub returns-then-branch-clause-at : goal.returns-then-branch-clause-at
+returns-then-branch-clause-at c =
+    stopped-at _ _ _ _ _ c.loop.invariant _ c.in_ok-step.ensures.state
+    (sym c.in_ok-step.ensures.stopped ∙ c.if-branch.true)
+
+pub returns-then-branch-clause-steps : goal.returns-then-branch-clause-steps
+returns-then-branch-clause-steps c =
+    stopped-steps _ _ _ _ _ c.loop.invariant _ c.in_ok-step.ensures.state
+    (sym c.in_ok-step.ensures.stopped ∙ c.if-branch.true)
+    (omega arith)
+
+pub returns-then-branch-clause-from : goal.returns-then-branch-clause-from
+returns-then-branch-clause-from c =
+    stopped-from _ _ _ _ _ c.loop.invariant _ c.in_ok-step.ensures.state
+    (sym c.in_ok-step.ensures.stopped ∙ c.if-branch.true)
+
+pub returns-then-has_break-clause-at : goal.returns-then-has_break-clause-at
+returns-then-has_break-clause-at c =
+    next-at _ _ _ _ _ c.loop.invariant _ c.in_ok-step.ensures.state
+    (sym c.in_ok-step.ensures.stopped ∙ c.if-branch.false)
+
+pub returns-then-has_break-clause-steps : goal.returns-then-has_break-clause-steps
+returns-then-has_break-clause-steps c =
+    break-steps _ _ _ _ _ c.loop.invariant _ c.in_ok-step.ensures.state
+    (sym c.in_ok-step.ensures.stopped ∙ c.if-branch.false)
+    (meets-at c.args.breakpoints.now.items _ _ _ _ c.pc.ensures c.from.ensures c.has_break.ensures
+    ∙ c.if-has_break.true) (omega arith)
+
+pub returns-then-has_break-clause-from : goal.returns-then-has_break-clause-from
+returns-then-has_break-clause-from c =
+    next-from _ _ _ _ _ c.loop.invariant _ c.in_ok-step.ensures.state
+    (sym c.in_ok-step.ensures.stopped ∙ c.if-branch.false)
+
+pub loop-preserved : goal.loop-preserved
+loop-preserved c =
+    next-ran _ _ _ _ _ c.loop.invariant _ c.in_ok-step.ensures.state
+    (sym c.in_ok-step.ensures.stopped ∙ c.if-branch.false)
+    (meets-at c.args.breakpoints.now.items _ _ _ _ c.pc.ensures c.from.ensures c.has_break.ensures
+    ∙ c.if-has_break.false) (omega arith)
+
+pub returns-clause-steps : goal.returns-clause-steps
+returns-clause-steps c = all-ran _ _ _ _ _ c.loop.invariant (omega arith)

@@ -1,0 +1,22 @@
+-- Breakpoints: the numbers of instructions, each once.
+use Rattle.std.specs.Prelude.{ℕ, Bool, ◌==◌, not, nat_lt, List, [], ◌∷◌, ◌++◌, length, filter, Result, Ok, Err, if◌then◌else◌}
+use Rattle.std.specs.List.{list_any}
+use Rattle.debugger.specs.declared.command.DebugRefusal.{DebugRefusal}
+use Rattle.debugger.specs.declared.command.DebugRefusal.TheVariants.{NoSuchPc, TooManyBreaks}
+
+-- whether there is one at an instruction
+abbrev pub has_break : List ℕ → ℕ → Bool
+has_break breakpoints pc = list_any (λ set. set == pc) breakpoints
+
+-- one more, at an instruction of a program of so many; there are at most 32, and one that is set stays
+abbrev pub with_break : ℕ → List ℕ → ℕ → Result (List ℕ) DebugRefusal
+with_break count breakpoints pc =
+    if nat_lt pc count
+    then (if has_break breakpoints pc then Ok breakpoints
+    else if nat_lt (length breakpoints) 32 then Ok (breakpoints ++ pc ∷ []) else Err TooManyBreaks)
+    else Err NoSuchPc
+
+-- without the one at an instruction
+abbrev pub without_break : List ℕ → ℕ → Result (List ℕ) DebugRefusal
+without_break breakpoints pc =
+    if has_break breakpoints pc then Ok (filter (λ set. not (set == pc)) breakpoints) else Err NoSuchPc

@@ -1,0 +1,5 @@
+pub mod Breakpoints
+pub mod Session
+pub mod Running
+pub mod Commands
+pub mod Laws

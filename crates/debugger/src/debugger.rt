@@ -1,0 +1,180 @@
+//! The debugger.
+
+ghost use Rattle.std.specs.Prelude.{◌≡◌, ◌≢◌, ◌<◌, ◌≤◌, ◌↔◌, [], Err, IfOk, IfErr};
+ghost use Rattle.std.specs.Result.{IsErrAnd};
+ghost use Rattle.debugger.specs.Commands.{command_of, LeftBy, Does};
+ghost use Rattle.debugger.specs.Session.{view_of};
+ghost use Rattle.nic_device.specs.Config.{IsBadFifo};
+
+use crate::breakpoints::{Breakpoints, clear_break, set_break};
+use crate::command::{Command, DebugRefusal, View};
+use crate::running::{replay, run_on};
+use crate::source::object_of;
+use machine::{Machine, NewRefused, OutOfMemory};
+use nic_device::{Config, MAX_VFS, NewFault};
+use program::Program;
+use std::alloc::Global;
+use std::marker::Model;
+use std::mem;
+
+/// A machine with breakpoints, whose program and configuration are kept, so that it can go back. It isn't dropped, but
+/// finished.
+pub struct Debugger {
+    alloc: Global,
+    object: Vec<u8>,
+    config: Config,
+    machine: Machine,
+    breakpoints: Breakpoints,
+}
+
+impl Model for Debugger {
+    ghost use Rattle.debugger.specs.Session.{Session, CanBeReplayed};
+
+    ghost Value = { Session };
+
+    ghost view = { λ d. record {
+      program = d.machine.program;
+      config = d.machine.config;
+      steps = d.machine.state.steps;
+      breakpoints =
+          d.breakpoints.items;
+    } };
+
+    ghost invariant = { λ d. CanBeReplayed d.object.items d.config d.machine };
+}
+
+impl Debugger {
+    /// A debugger of a program at step 0, on a new device of this configuration, without breakpoints. Where there is no
+    /// such device, the program comes back.
+    pub fn new(alloc: Global, program: Program, config: Config) -> Result<Debugger, NewRefused>
+        ensures made { IfOk result
+            (λ debugger. debugger ≡ record { program = program; config = config; steps = 0; breakpoints = [] }) }
+        ensures back { IfErr result (λ refused. refused.program ≡ program) }
+        ensures too_many_vfs { IsErrAnd result (λ refused. refused.fault ≡ NewFault.TooManyVfs)
+            ↔ (MAX_VFS < config.vfs) }
+        ensures fifo { IsErrAnd result (λ refused. refused.fault ≡ NewFault.Fifo)
+            ↔ ((config.vfs ≤ MAX_VFS) × IsBadFifo config.fifo) }
+    {
+        let machine = match Machine::new(alloc, program, config) {
+            Ok(machine) => machine,
+            Err(refused) => return Err(refused),
+        };
+        match object_of(alloc, machine.program()) {
+            Ok(object) => Ok(Debugger {
+                alloc,
+                object,
+                config,
+                machine,
+                breakpoints: Breakpoints::new(),
+            }),
+            Err(_) => Err(NewRefused {
+                fault: NewFault::OutOfMemory,
+                program: machine.into_program(),
+            }),
+        }
+    }
+
+    /// Does a command, and tells where the machine is then. After a refusal the debugger is as it was, but a step or a
+    /// continue that finds no memory has made the steps before.
+    pub fn exec(&mut self, command: Command) -> Result<View, DebugRefusal>
+        ensures answer { result ≢ Err DebugRefusal.OutOfMemory → result ≡ (command_of self.old command).answer }
+        ensures session { result ≢ Err DebugRefusal.OutOfMemory → self.new ≡ (command_of self.old command).session }
+        ensures memory { result ≡ Err DebugRefusal.OutOfMemory → LeftBy self.old command self.new }
+    {
+        match command {
+            Command::Step(count) => self.step(count),
+            Command::Back(count) => self.back(count),
+            Command::Continue(limit) => self.go_on(limit),
+            Command::Break(pc) => self.set(pc),
+            Command::Clear(pc) => self.clear(pc),
+            Command::Show(address) => Ok(self.view(self.machine.peek_register(address))),
+            Command::ShowVf(function, offset) => Ok(self.view(
+                self.machine.peek_vf(function, offset),
+            )),
+        }
+    }
+
+    /// Closes the machine.
+    pub fn finish(self) {
+        let Debugger {
+            alloc: _,
+            object: _,
+            config: _,
+            machine,
+            breakpoints: _,
+        } = self;
+        machine.finish();
+    }
+
+    /// Where the machine is, with what is shown.
+    fn view(&self, shown: Option<u32>) -> View
+        ensures { result ≡ view_of self.now shown }
+    {
+        View {
+            steps: self.machine.steps(),
+            pc: self.machine.pc(),
+            acc: self.machine.acc(),
+            status: self.machine.status(),
+            shown,
+        }
+    }
+
+    /// So many steps on.
+    fn step(&mut self, count: u64) -> Result<View, DebugRefusal>
+        ensures { Does self.old (Command.Step count) result self.new }
+    {
+        match run_on(&mut self.machine, &Breakpoints::new(), count) {
+            Ok(()) => Ok(self.view(None)),
+            Err(OutOfMemory) => Err(DebugRefusal::OutOfMemory),
+        }
+    }
+
+    /// On, to a breakpoint.
+    fn go_on(&mut self, limit: u64) -> Result<View, DebugRefusal>
+        ensures { Does self.old (Command.Continue limit) result self.new }
+    {
+        match run_on(&mut self.machine, &self.breakpoints, limit) {
+            Ok(()) => Ok(self.view(None)),
+            Err(OutOfMemory) => Err(DebugRefusal::OutOfMemory),
+        }
+    }
+
+    /// So many steps back: from the start on, in a machine that takes the place of this one when it is done.
+    fn back(&mut self, count: u64) -> Result<View, DebugRefusal>
+        ensures { Does self.old (Command.Back count) result self.new }
+    {
+        let steps = self.machine.steps();
+        if steps < count {
+            return Err(DebugRefusal::AtStart);
+        }
+        match replay(self.alloc, &self.object, self.config, steps - count) {
+            Ok(machine) => {
+                let former = mem::replace(&mut self.machine, machine);
+                former.finish();
+                Ok(self.view(None))
+            }
+            Err(OutOfMemory) => Err(DebugRefusal::OutOfMemory),
+        }
+    }
+
+    /// A breakpoint at an instruction.
+    fn set(&mut self, pc: u32) -> Result<View, DebugRefusal>
+        ensures { Does self.old (Command.Break pc) result self.new }
+    {
+        let count = self.machine.program().instructions();
+        match set_break(&mut self.breakpoints, count, pc) {
+            Ok(()) => Ok(self.view(None)),
+            Err(refusal) => Err(refusal),
+        }
+    }
+
+    /// No breakpoint any more at an instruction.
+    fn clear(&mut self, pc: u32) -> Result<View, DebugRefusal>
+        ensures { Does self.old (Command.Clear pc) result self.new }
+    {
+        match clear_break(&mut self.breakpoints, pc) {
+            Ok(()) => Ok(self.view(None)),
+            Err(refusal) => Err(refusal),
+        }
+    }
+}

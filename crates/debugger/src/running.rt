@@ -1,0 +1,95 @@
+//! So many steps on.
+
+ghost use Rattle.std.specs.Prelude.{◌≡◌, ◌≤◌, [], IfOk, IsOk, OnOk, OnErr, Ok};
+ghost use Rattle.debugger.specs.Running.{is_stopped, run_on};
+ghost use Rattle.debugger.specs.Session.{CanBeMade};
+ghost use Rattle.machine.specs.Machine.{machine_at, machine_step, start_of};
+ghost use Rattle.program.specs.Object.{read_of};
+
+use crate::breakpoints::{Breakpoints, has_break};
+use crate::source::program_of;
+use machine::{Machine, OutOfMemory, StepAnswer};
+use nic_device::{Config, NewFault};
+use program::Program;
+use std::alloc::Global;
+
+/// Makes a step, and tells whether the machine has stopped before.
+fn step(machine: &mut Machine) -> Result<bool, OutOfMemory>
+    ensures stopped { IfOk result (λ stopped.
+        stopped ≡ is_stopped (machine_step machine.old.program machine.old.state).answer) }
+    ensures state { OnOk result (machine.new ≡
+        record machine.old { state = (machine_step machine.old.program machine.old.state).state }) }
+    ensures unchanged { OnErr result (machine.new ≡ machine.old) }
+{
+    match machine.step()? {
+        StepAnswer::Stopped => Ok(true),
+        StepAnswer::Made(_) | StepAnswer::Local | StepAnswer::NoBlock => Ok(false),
+    }
+}
+
+/// Makes so many steps, or fewer where the machine stops, or where its next instruction has a breakpoint after a step.
+pub(crate) fn run_on(
+    machine: &mut Machine,
+    breakpoints: &Breakpoints,
+    limit: u64,
+) -> Result<(), OutOfMemory>
+    requires { machine.old.state ≡ machine_at machine.old.program machine.old.config machine.old.state.steps }
+    ensures at { machine.new ≡ record machine.old {
+      state = machine_at machine.old.program machine.old.config machine.new.state.steps;
+    } }
+    ensures steps { OnOk result (machine.new.state.steps ≡
+        run_on machine.old.program machine.old.config breakpoints.now.items machine.old.state.steps limit) }
+    ensures from { machine.old.state.steps ≤ machine.new.state.steps }
+    ensures up_to { OnErr result (machine.new.state.steps ≤
+        run_on machine.old.program machine.old.config breakpoints.now.items machine.old.state.steps limit) }
+{
+    for _ in 0..limit {
+        if step(machine)? {
+            return Ok(());
+        }
+        if has_break(breakpoints, u32::from(machine.pc())) {
+            return Ok(());
+        }
+    }
+    Ok(())
+}
+
+/// A machine before its first step, on a device that can be made.
+fn start(alloc: Global, program: Program, config: Config) -> Result<Machine, OutOfMemory>
+    requires { CanBeMade config }
+    ensures { IfOk result (λ machine.
+        machine ≡ record { program = program; config = config; state = start_of program config }) }
+{
+    match Machine::new(alloc, program, config) {
+        Ok(machine) => Ok(machine),
+        Err(refused) => match refused.fault {
+            NewFault::OutOfMemory => Err(OutOfMemory),
+            NewFault::TooManyVfs | NewFault::Fifo => unreachable!(),
+        },
+    }
+}
+
+/// The machine of an object's program, after so many steps from the start, or fewer where it stops.
+pub(crate) fn replay(
+    alloc: Global,
+    object: &[u8],
+    config: Config,
+    steps: u64,
+) -> Result<Machine, OutOfMemory>
+    requires object { IsOk (read_of object.now) }
+    requires config { CanBeMade config }
+    ensures program { IfOk result (λ machine. read_of object.now ≡ Ok machine.program) }
+    ensures config { IfOk result (λ machine. machine.config ≡ config) }
+    ensures at { IfOk result (λ machine. machine.state ≡ machine_at machine.program config machine.state.steps) }
+    ensures steps { IfOk result (λ machine. machine.state.steps ≡ run_on machine.program config [] 0 steps) }
+{
+    let program = program_of(alloc, object)?;
+    let mut machine = start(alloc, program, config)?;
+    match run_on(&mut machine, &Breakpoints::new(), steps) {
+        Ok(()) => Ok(machine),
+        Err(refused) => {
+            machine.finish();
+            Err(refused)
+        }
+    }
+}

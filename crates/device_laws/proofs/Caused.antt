@@ -1,0 +1,106 @@
+-- What raised causes make of the interrupts of groups.
+use Rattle.std.proofs.Common.{cond, ◌≡◌, ◌<◌, ◌≤◌, ◌/◌, ℕ, Bool, true, false, refl, ap, sym, ◌∙◌, subst, inl, inr, arith, nat_lt, Some}
+use Rattle.std.specs.Prelude.{◌&&◌, ◌==◌, not}
+use Rattle.std.proofs.lemmas.Bool.{cases_Bool, cond_both, and_parts, ltb-true}
+use Rattle.reg_table.specs.declared.rows.RowId.TheVariants.{GcrExt}
+use Rattle.intr_unit.specs.Group.{queue_causes}
+use Rattle.intr_unit.specs.Interrupts.{raised}
+use Rattle.intr_unit.specs.declared.group.Group.{Group}
+use Rattle.intr_unit.specs.declared.group.Group.TheVariants as group
+use Rattle.vf_map.specs.Pools.{mode_of, queues_each}
+use Rattle.vf_map.specs.declared.mode.Mode.{Mode}
+use Rattle.register_file.specs.Columns.{place}
+use Rattle.register_file.specs.Footprint.{ChangesWithin, pending}
+use Rattle.register_file.specs.Groups.{cause_row, mask_row, auto_clear_row, auto_mask_row, index_of, told_by, interrupts_of, causes_raised, vector_row, vector_entry}
+use Rattle.register_file.specs.Owner.{is_group}
+use Rattle.register_file.specs.Registers.{Registers, word_of}
+use Rattle.register_file.specs.Sound.{HasShape}
+use Rattle.register_file.specs.declared.dir.Dir.{Dir}
+use Rattle.register_file.proofs.Owners.{is_group-same, is_group-itself}
+use Rattle.register_file.proofs.ReadBack.{settings_stand}
+use Rattle.register_file.proofs.Settled.{IsSettled, settled-of_words, settled-raised, intersection-lt}
+use Rattle.register_file.proofs.Standing.{interrupts_of-with_interrupts}
+use Rattle.register_file.proofs.Stands.{group_stands}
+use Rattle.register_file.proofs.Within.{within-causes_raised}
+use Rattle.nic_device.specs.Interrupt.{group_of_queue, group_of_pool, mode_in, raised_by}
+use Rattle.device_laws.specs.Raising.{Causes, after_causes, queue_cause}
+use Rattle.nic_device.specs.State.{State}
+use Rattle.device_laws.proofs.Missed.{misses-other_group}
+use Rattle.nic_device.proofs.Raising.{of_step}
+
+-- raised causes stand in their group, and every other group is as it was
+
+own_raised : (r : Registers) (g : Group) (bits : ℕ) → HasShape r → index_of g < 64
+    → interrupts_of (causes_raised r g bits) g ≡ raised (interrupts_of r g) bits false
+own_raised r g bits h small =
+    let old = interrupts_of r g in
+    let settled : IsSettled old =
+    settled-of_words g (word_of r (cause_row g) (index_of g)) (word_of r (mask_row g) (index_of g))
+    (word_of r (auto_clear_row g) (index_of g)) (word_of r (auto_mask_row g) (index_of g)) (told_by r g) in
+    let is = settled-raised old settled bits false in
+    interrupts_of-with_interrupts r h (raised old bits false) small is.consistent is.causes is.enabled
+    (intersection-lt _ _)
+
+pub group_raised : (r : Registers) (c : Causes) → HasShape r → index_of c.group < 64 → (g : Group)
+    → interrupts_of (causes_raised r c.group c.bits) g ≡ after_causes (Some c) g (interrupts_of r g)
+group_raised r c h small g =
+    elim (cases_Bool (is_group c.group g)) as (λ _. interrupts_of (causes_raised r c.group c.bits) g
+    ≡ after_causes (Some c) g (interrupts_of r g)) [
+      | inl same ↦
+          ap (λ o. interrupts_of (causes_raised r c.group c.bits) o) (sym (is_group-same c.group g same))
+          ∙ own_raised r c.group c.bits h small
+          ∙ ap (λ o. raised (interrupts_of r o) c.bits false) (is_group-same c.group g same)
+          ∙ sym (ap (λ b. cond b (raised (interrupts_of r g) c.bits false) (interrupts_of r g)) same)
+      | inr other ↦
+          group_stands (pending c.group) r (causes_raised r c.group c.bits) g
+          (misses-other_group c.group g (λ e. let itself = is_group-itself g in
+          let same : is_group c.group g ≡ true = subst (λ o. is_group o g ≡ true) e itself in cc))
+          (within-causes_raised r c.group c.bits)
+          ∙ sym (ap (λ b. cond b (raised (interrupts_of r g) c.bits false) (interrupts_of r g)) other)
+    ]
+
+-- the group of a queue is one that registers have
+
+group_small : (vfs : ℕ) (pooled : Bool) (pool : ℕ) → vfs ≤ 63 → index_of (group_of_pool vfs pooled pool) < 64
+group_small vfs pooled pool few =
+    cond_both (pooled && nat_lt pool vfs) (group.Vf pool) group.Pf (λ g. index_of g < 64)
+    (λ both. let below = ltb-true pool vfs (and_parts pooled (nat_lt pool vfs) both).1 in omega arith)
+    (λ none. omega arith)
+
+pub queue_group_small : (r : Registers) (vfs queue : ℕ) → vfs ≤ 63 → index_of (group_of_queue r vfs queue) < 64
+queue_group_small r vfs queue few =
+    group_small vfs (not (queues_each (mode_in r) == 0)) (queue / queues_each (mode_in r)) few
+
+-- and what a step changes first doesn't change what its queue raises
+vector_kept : (g : Group) (dir : Dir) (queue at : ℕ) → (of_step dir queue).words (place (vector_row g) at) ≡ false
+vector_kept group.Pf dir queue at = refl
+vector_kept (group.Vf v) dir queue at = refl
+
+pub same_cause : (s : State) (t : Registers) (dir : Dir) (queue : ℕ) → ChangesWithin (of_step dir queue) s.registers t
+    → queue_cause (record s { registers = t }) dir queue ≡ queue_cause s dir queue
+same_cause s t dir queue within =
+    let mode : mode_in t ≡ mode_in s.registers =
+    (λ k. mode_in_word (within.words (place GcrExt 0) refl k)) in
+    let g = group_of_queue s.registers s.vfs queue in
+    let same : group_of_queue t s.vfs queue ≡ g =
+    ap (λ m. group_of_pool s.vfs (not (queues_each m == 0)) (queue / queues_each m)) mode in
+    let entry = (settings_stand (of_step dir queue) s.registers t within).vector g dir queue
+    (vector_kept g dir queue (queue / 2)) in
+    ap (λ o. causes_by o (vector_entry t o dir queue)) same ∙ ap (causes_by g) entry
+  where
+    mode_in_word : ℕ → Mode
+    mode_in_word word = mode_of word
+
+    causes_by : Group → ℕ → Causes
+    causes_by o entry = record { group = o; bits = queue_causes o entry }
+
+-- a queue raises its cause after a step changed a part of what it may
+pub queue_raises : (s : State) (t : Registers) (dir : Dir) (queue : ℕ) → HasShape t → s.vfs ≤ 63
+    → ChangesWithin (of_step dir queue) s.registers t → (g : Group)
+    → interrupts_of t g ≡ interrupts_of s.registers g
+    → interrupts_of (raised_by t s.vfs dir queue) g
+    ≡ after_causes (Some (queue_cause s dir queue)) g (interrupts_of s.registers g)
+unfolding raised_by
+queue_raises s t dir queue h few within g same =
+    group_raised t (queue_cause (record s { registers = t }) dir queue) h (queue_group_small t s.vfs queue few) g
+    ∙ (λ k. after_causes (Some (same_cause s t dir queue within k)) g (same k))

@@ -1,0 +1,86 @@
+-- What a fetched slot raises.
+use Rattle.std.proofs.Common.{cond, ◌≡◌, ◌∙◌, ℕ, Bool, true, false, List, refl, ap, sym, subst, inl, inr, Option, Some, None, Result, Ok, Err}
+use Rattle.std.specs.Prelude.{⊤, is_some}
+use Rattle.dma_ring.specs.declared.fault.RingFault.{RingFault}
+use Rattle.reg_table.specs.declared.rows.RowId.TheVariants.{Gptc, Qptc}
+use Rattle.intr_unit.specs.declared.group.Group.{Group}
+use Rattle.tx_ring.specs.declared.fetched.Fetched.{Fetched}
+use Rattle.tx_ring.specs.Fetch as tx
+use Rattle.tx_ring.proofs.Fetches.{takes_slot}
+use Rattle.register_file.specs.Columns.{place}
+use Rattle.register_file.specs.Counters.{counted, counter_of}
+use Rattle.register_file.specs.Groups.{interrupts_of}
+use Rattle.register_file.specs.Queue.{head_row, with_head}
+use Rattle.register_file.specs.Registers.{Registers}
+use Rattle.register_file.specs.Sound.{HasShape}
+use Rattle.register_file.specs.declared.dir.Dir.TheVariants.{Tx}
+use Rattle.register_file.proofs.Shape.{HasShape-put}
+use Rattle.nic_device.specs.Interrupt.{raised_by}
+use Rattle.device_laws.specs.Raising.{raised_reported, raised_sent, after_causes, queue_cause}
+use Rattle.nic_device.specs.Sound.{IsSound}
+use Rattle.nic_device.specs.State.{State}
+use Rattle.nic_device.specs.Transmit.{slot_counted, slot_reported, fetched_reply}
+use Rattle.nic_device.proofs.Cases.{fetched_by}
+use Rattle.device_laws.proofs.Caused.{queue_raises}
+use Rattle.nic_device.proofs.Raising.{slot_counted-comes}
+use Rattle.device_laws.proofs.CausesKept.{word_kept, head_kept}
+
+-- a slot that asks for a report has one written back
+Reports : Result Fetched RingFault → Type 0
+Reports (Ok f) = f.rs ≡ is_some f.back
+Reports (Err fault) = ⊤
+
+some_where : (b : Bool) (address : ℕ) → b ≡ is_some (cond b (Some address) None)
+some_where true address = refl
+some_where false address = refl
+
+reports : (s : State) (queue : ℕ) (f : Fetched) → (fetched_by s queue).answer ≡ Ok f → f.rs ≡ is_some f.back
+unfolding Reports
+reports s queue f is =
+    elim (takes_slot _ _ _ _ f is).done as (λ _. Reports (Ok f)) [
+      | inl context ↦ subst Reports (sym (ap (λ (o : tx.Outcome). o.answer) context.1) ∙ is) refl
+      | inr sends ↦ subst Reports (sym (ap (λ (o : tx.Outcome). o.answer) sends.2) ∙ is) (some_where _ _)
+    ]
+
+slot_kept : (r : Registers) (queue : ℕ) (f : Fetched) (o : Option (List ℕ)) (g : Group)
+    → interrupts_of (slot_counted r queue f o) g ≡ interrupts_of r g
+slot_kept r queue f (Some frame) g =
+    let moved = with_head r Tx queue f.head in
+    word_kept (counted moved Gptc 0) (place Qptc (counter_of r Tx queue)) _ g refl
+    ∙ word_kept moved (place Gptc 0) _ g refl ∙ head_kept r Tx queue f.head g
+slot_kept r queue f None g = head_kept r Tx queue f.head g
+
+slot_shape : (r : Registers) (queue : ℕ) (f : Fetched) (o : Option (List ℕ)) → HasShape r
+    → HasShape (slot_counted r queue f o)
+slot_shape r queue f (Some frame) h =
+    let moved = with_head r Tx queue f.head in
+    HasShape-put (counted moved Gptc 0) (place Qptc (counter_of r Tx queue)) _
+    (HasShape-put moved (place Gptc 0) _ (HasShape-put r (place (head_row Tx) queue) f.head h))
+slot_shape r queue f None h = HasShape-put r (place (head_row Tx) queue) f.head h
+
+told : (s : State) (queue : ℕ) (f : Fetched) (o : Option (List ℕ))
+    → raised_reported s queue f.back ≡ raised_sent s (fetched_reply queue f o)
+told s queue f (Some frame) = refl
+told s queue f None = refl
+
+by_report : (s : State) (t : Registers) (queue : ℕ) (b : Bool) (o : Option ℕ) (g : Group) → b ≡ is_some o
+    → interrupts_of (raised_by t s.vfs Tx queue) g
+    ≡ after_causes (Some (queue_cause s Tx queue)) g (interrupts_of s.registers g)
+    → interrupts_of t g ≡ interrupts_of s.registers g
+    → interrupts_of (cond b (raised_by t s.vfs Tx queue) t) g
+    ≡ after_causes (raised_reported s queue o) g (interrupts_of s.registers g)
+by_report s t queue true (Some back) g e p q = p
+by_report s t queue true None g e p q = cc
+by_report s t queue false (Some back) g e p q = cc
+by_report s t queue false None g e p q = q
+
+pub slot_raises : (s : State) (queue : ℕ) (f : Fetched) → (fetched_by s queue).answer ≡ Ok f → IsSound s → (g : Group)
+    → interrupts_of (slot_reported s.registers s.vfs queue f) g
+    ≡ after_causes (raised_sent s (fetched_reply queue f f.frame)) g (interrupts_of s.registers g)
+slot_raises s queue f is h g =
+    let t = slot_counted s.registers queue f f.frame in
+    let same = slot_kept s.registers queue f f.frame g in
+    by_report s t queue f.rs f.back g (reports s queue f is)
+    (queue_raises s t Tx queue (slot_shape s.registers queue f f.frame h.registers.shape) h.vfs
+    (slot_counted-comes s.registers queue f f.frame).within g same) same
+    ∙ ap (λ o. after_causes o g (interrupts_of s.registers g)) (told s queue f f.frame)

@@ -1,0 +1,130 @@
+-- What counts: each counter's word after a step.
+use Rattle.std.proofs.Common.{cond, ◌≡◌, ◌≢◌, ◌<◌, ◌^◌, ◌*◌, ◌/◌, ◌%◌, ℕ, Bool, true, false, ap, sym, ◌∙◌, inl, inr, arith}
+use Rattle.std.specs.Prelude.{◌&&◌}
+use Rattle.std.proofs.lemmas.Bool.{cases_Bool}
+use Rattle.reg_table.specs.Counter.{bumped}
+use Rattle.reg_table.specs.Rows.{row_of}
+use Rattle.reg_table.specs.declared.kind.Kind.TheVariants as kind
+use Rattle.reg_table.specs.declared.kind.Kind.TheVariants.{Rc}
+use Rattle.reg_table.specs.declared.place.Place.{Place}
+use Rattle.reg_table.specs.declared.rows.RowId.{RowId}
+use Rattle.reg_table.specs.declared.rows.RowId.TheVariants.{Eicr, Eims, Pvteicr, Pvteims, Mpc, Qprc, Rdh, Tdh, Rxdctl, Txdctl, Rqsmr, Tqsm}
+use Rattle.intr_unit.specs.declared.group.Group.{Group}
+use Rattle.intr_unit.specs.declared.group.Group.TheVariants as group
+use Rattle.register_file.specs.Columns.{place}
+use Rattle.register_file.specs.Counters.{counted, counter_of}
+use Rattle.register_file.specs.Footprint.{is_place, pending}
+use Rattle.register_file.specs.Groups.{causes_raised}
+use Rattle.register_file.specs.Queue.{with_head, shut}
+use Rattle.register_file.specs.Registers.{Registers, word_of}
+use Rattle.register_file.specs.Sound.{HasShape}
+use Rattle.register_file.specs.Words.{word_at, put}
+use Rattle.register_file.specs.declared.dir.Dir.{Dir}
+use Rattle.register_file.specs.declared.dir.Dir.TheVariants.{Rx, Tx}
+use Rattle.register_file.proofs.Owners.{apart, is_place-itself, is_place-same}
+use Rattle.register_file.proofs.Puts.{word_at-put_other}
+use Rattle.register_file.proofs.ReadBack.{one_place}
+use Rattle.register_file.proofs.Shape.{put_stands, HasShape-put}
+use Rattle.register_file.proofs.Within.{within-causes_raised}
+use Rattle.rx_ring.specs.declared.filled.Filled.{Filled}
+use Rattle.device_laws.specs.Counting.{with_one}
+use Rattle.nic_device.specs.Interrupt.{device_raised, raised_by, fault_cause, missed_cause}
+use Rattle.nic_device.specs.Receive.{frame_counted, piece_done}
+use Rattle.device_laws.proofs.Missed.{neither}
+
+-- a counter is at no place of another kind
+pub elsewhere : (q p : Place) → (row_of q.row).kind ≢ Rc → (row_of p.row).kind ≡ Rc → is_place q p ≡ false
+elsewhere q p n is = one_place q p (λ e. n (ap (λ (r : Place). (row_of r.row).kind) (sym e) ∙ is))
+
+pub not_pending : (g : Group) (p : Place) → (row_of p.row).kind ≡ Rc → (pending g).words p ≡ false
+not_pending group.Pf p is =
+    neither _ _ (elsewhere (place Eicr 0) p (λ (e : kind.Cause ≡ Rc). cc) is)
+    (elsewhere (place Eims 0) p (λ (e : kind.Ones ≡ Rc). cc) is)
+not_pending (group.Vf v) p is =
+    neither _ _ (elsewhere (place Pvteicr v) p (λ (e : kind.Cause ≡ Rc). cc) is)
+    (elsewhere (place Pvteims v) p (λ (e : kind.Ones ≡ Rc). cc) is)
+
+-- one more at a place
+pub counted_there : (r : Registers) (row : RowId) (index : ℕ) → HasShape r → index < (row_of row).count
+    → (p : Place) → word_at (counted r row index).words p ≡ with_one (is_place (place row index) p) (word_at r.words p)
+counted_there r row index h b p =
+    let there = place row index in
+    elim (cases_Bool (is_place there p)) as (λ _. word_at (counted r row index).words p
+    ≡ with_one (is_place there p) (word_at r.words p)) [
+      | inl same ↦
+          let at = is_place-same there p same in
+          ap (word_at (counted r row index).words) (sym at)
+          ∙ put_stands r there (bumped (word_of r row index)) h b
+          ∙ ap (λ q. bumped (word_at r.words q)) at
+          ∙ sym (ap (λ c. with_one c (word_at r.words p)) same)
+      | inr other ↦
+          word_at-put_other r.words there p (bumped (word_of r row index))
+          (apart (is_place there) there p (is_place-itself there) other)
+          ∙ sym (ap (λ c. with_one c (word_at r.words p)) other)
+    ]
+
+-- raised causes and a word of another kind count nothing
+pub raised_keeps : (r : Registers) (g : Group) (bits : ℕ) (p : Place) → (row_of p.row).kind ≡ Rc
+    → word_at (causes_raised r g bits).words p ≡ word_at r.words p
+raised_keeps r g bits p is = (within-causes_raised r g bits).words p (not_pending g p is)
+
+pub put_keeps : (r : Registers) (q : Place) (word : ℕ) (p : Place) → (row_of q.row).kind ≢ Rc → (row_of p.row).kind ≡ Rc
+    → word_at (put r.words q word) p ≡ word_at r.words p
+put_keeps r q word p n is =
+    word_at-put_other r.words q p word (λ e. n (ap (λ (r : Place). (row_of r.row).kind) (sym e) ∙ is))
+
+pub head_keeps : (r : Registers) (dir : Dir) (queue head : ℕ) (p : Place) → (row_of p.row).kind ≡ Rc
+    → word_at (with_head r dir queue head).words p ≡ word_at r.words p
+head_keeps r Rx queue head p is = put_keeps r (place Rdh queue) head p (λ (e : kind.Held ≡ Rc). cc) is
+head_keeps r Tx queue head p is = put_keeps r (place Tdh queue) head p (λ (e : kind.Held ≡ Rc). cc) is
+
+off_keeps : (r : Registers) (dir : Dir) (queue : ℕ) (p : Place) → (row_of p.row).kind ≡ Rc
+    → word_at (shut r dir queue).words p ≡ word_at r.words p
+off_keeps r Rx queue p is = put_keeps r (place Rxdctl queue) _ p (λ (e : kind.Enable ≡ Rc). cc) is
+off_keeps r Tx queue p is = put_keeps r (place Txdctl queue) _ p (λ (e : kind.Enable ≡ Rc). cc) is
+
+-- a fault counts nothing
+pub failed_keeps : (r : Registers) (dir : Dir) (queue : ℕ) (p : Place) → (row_of p.row).kind ≡ Rc
+    → word_at (device_raised (shut r dir queue) fault_cause).words p ≡ word_at r.words p
+failed_keeps r dir queue p is = raised_keeps (shut r dir queue) group.Pf fault_cause p is ∙ off_keeps r dir queue p is
+
+-- a missed frame
+pub missed_counts : (r : Registers) → HasShape r → (p : Place) → (row_of p.row).kind ≡ Rc
+    → word_at (device_raised (counted r Mpc 0) missed_cause).words p
+    ≡ with_one (is_place (place Mpc 0) p) (word_at r.words p)
+missed_counts r h p is =
+    raised_keeps (counted r Mpc 0) group.Pf missed_cause p is ∙ counted_there r Mpc 0 h (omega arith) p
+
+-- the counters that queues are counted in are as before where a head moved
+same_counter : (r : Registers) (dir : Dir) (queue head : ℕ)
+    → counter_of (with_head r dir queue head) dir queue ≡ counter_of r dir queue
+same_counter r Rx queue head =
+    ap (λ w. w / 2 ^ (8 * (queue % 4)) % 16)
+    (word_at-put_other r.words (place Rdh queue) (place Rqsmr (queue / 4)) head
+    (λ e. let same : Rqsmr ≡ Rdh = ap (λ (p : Place). p.row) e in cc))
+same_counter r Tx queue head =
+    ap (λ w. w / 2 ^ (8 * (queue % 4)) % 16)
+    (word_at-put_other r.words (place Tdh queue) (place Tqsm (queue / 4)) head
+    (λ e. let same : Tqsm ≡ Tdh = ap (λ (p : Place). p.row) e in cc))
+
+-- a piece of a frame
+pub piece_counts : (r : Registers) (vfs queue : ℕ) (f : Filled) → HasShape r → (p : Place) → (row_of p.row).kind ≡ Rc
+    → word_at (piece_done r vfs queue f).words p
+    ≡ with_one (f.end && is_place (place Qprc (counter_of r Rx queue)) p) (word_at r.words p)
+unfolding raised_by
+piece_counts r vfs queue f h p is =
+    let moved = with_head r Rx queue f.head in
+    let there = place Qprc (counter_of r Rx queue) in
+    let old = word_at r.words p in
+    either_end f.end (λ b t. word_at t.words p ≡ with_one (b && is_place there p) old)
+    (raised_by (frame_counted moved queue) vfs Rx queue) moved
+    (raised_keeps (frame_counted moved queue) _ _ p is
+    ∙ counted_there moved Qprc (counter_of moved Rx queue) (HasShape-put r (place Rdh queue) f.head h) (omega arith) p
+    ∙ (λ k. with_one (is_place (place Qprc (same_counter r Rx queue f.head k)) p)
+    (head_keeps r Rx queue f.head p is k)))
+    (head_keeps r Rx queue f.head p is)
+  where
+    either_end : (b : Bool) (P : Bool → Registers → Type 0) (x y : Registers) → P true x → P false y
+        → P b (cond b x y)
+    either_end true P x y p q = p
+    either_end false P x y p q = q

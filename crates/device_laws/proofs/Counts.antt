@@ -1,0 +1,126 @@
+-- Each event counts where its reply says, and nowhere else.
+use Rattle.std.proofs.Common.{◌≡◌, ℕ, List, [], ◌∷◌, length, refl, arith, Ok, Err, nat_lt}
+use Rattle.std.specs.Prelude.{Result, ◌&&◌, ◌==◌}
+use Rattle.dma_arena.specs.Block.{Block}
+use Rattle.dma_arena.specs.Memory.{Memory}
+use Rattle.dma_ring.specs.declared.fault.RingFault.{RingFault}
+use Rattle.reg_table.specs.Rows.{row_of}
+use Rattle.reg_table.specs.declared.kind.Kind.TheVariants as kind
+use Rattle.reg_table.specs.declared.place.Place.{Place}
+use Rattle.reg_table.specs.declared.rows.RowId.TheVariants.{Gprc, Ruc, Roc, Qprdc}
+use Rattle.intr_unit.specs.declared.group.Group.TheVariants as group
+use Rattle.rx_filter.specs.Sorting.{sorted}
+use Rattle.rx_filter.specs.declared.target.Target.{Target}
+use Rattle.rx_filter.specs.declared.unwanted.Unwanted.{Unwanted}
+use Rattle.rx_filter.specs.declared.unwanted.Unwanted.TheVariants as unwanted
+use Rattle.rx_ring.specs.declared.filled.Filled.{Filled}
+use Rattle.rx_ring.specs.Fill.{fill_of}
+use Rattle.register_file.specs.Counters.{counter_of}
+use Rattle.register_file.specs.Settings.{is_stopped, can_receive, frame_limit, drops}
+use Rattle.register_file.specs.Sides.{receive_queue_of}
+use Rattle.register_file.specs.Words.{word_at}
+use Rattle.register_file.specs.declared.dir.Dir.TheVariants.{Rx, Tx}
+use Rattle.nic_device.specs.Arrival.{arrived, sorted_in}
+use Rattle.device_laws.specs.Counting.{counts, with_one, EventsCount}
+use Rattle.nic_device.specs.Named.{named}
+use Rattle.nic_device.specs.Outcome.{Outcome}
+use Rattle.nic_device.specs.Receive as receive
+use Rattle.nic_device.specs.Receive.{received, rest_of}
+use Rattle.nic_device.specs.Sound.{IsSound}
+use Rattle.nic_device.specs.State.{State, Waiting}
+use Rattle.nic_device.specs.Step.{step_of}
+use Rattle.nic_device.specs.Transmit.{transmitted}
+use Rattle.nic_device.proofs.Cases.{either_way, transmitted_cases}
+use Rattle.device_laws.proofs.Counting.{not_pending, counted_there, failed_keeps, missed_counts, piece_counts}
+use Rattle.device_laws.proofs.CountingSent.{reported_counts}
+use Rattle.device_laws.proofs.CountsKept.{read_misses, write_misses, switch_misses}
+use Rattle.device_laws.proofs.Standing.{stays_within}
+use Rattle.nic_device.specs.declared.event.Event.{Event}
+use Rattle.nic_device.specs.declared.event.Event.TheVariants as event
+
+-- what an outcome of an event counts
+abbrev Counts : State → Event Block → Outcome → Type 0
+Counts s e o =
+    (p : Place) → (row_of p.row).kind ≡ kind.Rc
+    → word_at o.state.registers.words p ≡ with_one (counts s e o.reply p) (word_at s.registers.words p)
+
+-- frames that arrive
+
+sorted_counts : (s : State) (frame : List ℕ) → IsSound s → (answer : Result Target Unwanted)
+    → Counts s (event.Arrive frame) (sorted_in s frame answer)
+sorted_counts s frame h (Ok t) =
+    either_way (Counts s (event.Arrive frame)) (nat_lt (length s.waiting) s.fifo) _ _
+    (λ p is. counted_there s.registers Gprc 0 h.registers.shape (omega arith) p)
+    (λ p is. missed_counts s.registers h.registers.shape p is)
+sorted_counts s frame h (Err unwanted.Filter) = λ p is. refl
+sorted_counts s frame h (Err unwanted.NoPool) = λ p is. refl
+sorted_counts s frame h (Err unwanted.PoolOff) = λ p is. refl
+
+arrived_counts : (s : State) (frame : List ℕ) → IsSound s → Counts s (event.Arrive frame) (arrived s frame)
+arrived_counts s frame h =
+    let P = Counts s (event.Arrive frame) in
+    either_way P s.link _ _
+    (either_way P (can_receive s.registers) _ _
+    (either_way P (nat_lt (length frame) 60) _ _
+    (λ p is. counted_there s.registers Ruc 0 h.registers.shape (omega arith) p)
+    (either_way P (nat_lt (frame_limit s.registers) (length frame)) _ _
+    (λ p is. counted_there s.registers Roc 0 h.registers.shape (omega arith) p)
+    (sorted_counts s frame h (sorted s.registers frame))))
+    (λ p is. refl))
+    (λ p is. refl)
+
+-- steps of receiving, of the frames that wait
+
+abbrev CountsFirst : State → List Waiting → Outcome → Type 0
+CountsFirst s ws o = Counts (record s { waiting = ws }) event.RxStep o
+
+slot_counts : (s : State) (w : Waiting) (others : List Waiting) → IsSound s → (answer : Result Filled RingFault)
+    (memory : Memory) → CountsFirst s (w ∷ others) (receive.slot_done s w others answer memory)
+slot_counts s w others h (Ok f) memory = λ p is. piece_counts s.registers s.vfs w.queue f h.registers.shape p is
+slot_counts s w others h (Err fault) memory = λ p is. failed_keeps s.registers Rx w.queue p is
+
+first_counts : (s : State) (ws : List Waiting) → IsSound s → CountsFirst s ws (receive.first_received s ws)
+first_counts s [] h = λ p is. refl
+first_counts s (w ∷ others) h =
+    let P = CountsFirst s (w ∷ others) in
+    let q = receive_queue_of s.registers w.queue in
+    either_way P q.on _ _
+    (either_way P (receive.is_empty q.ring) _ _
+    (either_way P (drops s.registers w.queue && w.offset == 0) _ _
+    (λ p is. counted_there s.registers Qprdc (counter_of s.registers Rx w.queue) h.registers.shape (omega arith) p)
+    (λ p is. refl))
+    (slot_counts s w others h (fill_of s.memory q.ring q.control (rest_of w)).answer _))
+    (λ p is. refl)
+
+received_counts : (s : State) → IsSound s → Counts s event.RxStep (received s)
+received_counts s h =
+    either_way (Counts s event.RxStep) (is_stopped s.registers) _ _ (λ p is. refl) (first_counts s s.waiting h)
+
+-- steps of transmitting
+
+transmitted_counts : (s : State) (queue : ℕ) → IsSound s → Counts s (event.TxStep queue) (transmitted s queue)
+transmitted_counts s queue h = transmitted_cases (Counts s (event.TxStep queue)) s queue (record {
+  none = λ p is. refl;
+  idle = λ p is. refl;
+  fault = λ fault p is. failed_keeps s.registers Tx queue p is;
+  fetched = λ f _ p is. reported_counts s.registers s.vfs queue f h.registers.shape p is;
+})
+
+-- every event
+
+pub events_count : EventsCount
+unfolding step_of
+events_count s h (event.Read port n) p is keeps =
+    (stays_within s (event.Read port n)).registers.words p (read_misses (named s port n) p is keeps)
+events_count s h (event.Write port n word) p is keeps =
+    (stays_within s (event.Write port n word)).registers.words p (write_misses (named s port n) word p is keeps)
+events_count s h (event.Arrive frame) p is keeps = arrived_counts s frame h p is
+events_count s h event.RxStep p is keeps = received_counts s h p is
+events_count s h (event.TxStep queue) p is keeps = transmitted_counts s queue h p is
+events_count s h (event.IntStep g) p is keeps =
+    (stays_within s (event.IntStep g)).registers.words p (not_pending g p is)
+events_count s h (event.QueueStep dir queue) p is keeps =
+    (stays_within s (event.QueueStep dir queue)).registers.words p (switch_misses dir queue p is)
+events_count s h (event.Link up) p is keeps =
+    (stays_within s (event.Link up)).registers.words p (not_pending group.Pf p is)
+events_count s h other p is keeps = (stays_within s other).registers.words p refl

@@ -1,0 +1,70 @@
+-- Counters that an event may not change.
+use Rattle.std.proofs.Common.{◌≡◌, ◌≢◌, ◌∙◌, ℕ, false, cond, refl, ap, sym}
+use Rattle.std.specs.Prelude.{IsFalse}
+use Rattle.reg_table.specs.Rows.{row_of}
+use Rattle.reg_table.specs.declared.kind.Kind.{Kind}
+use Rattle.reg_table.specs.declared.kind.Kind.TheVariants as kind
+use Rattle.reg_table.specs.declared.place.Place.{Place}
+use Rattle.register_file.specs.Access.{asks_reset}
+use Rattle.register_file.specs.Footprint.{pending_of, read_by, written_by, of_write}
+use Rattle.register_file.specs.Owner.{owner_of, is_owner}
+use Rattle.register_file.specs.declared.dir.Dir.{Dir}
+use Rattle.register_file.specs.declared.dir.Dir.TheVariants.{Rx, Tx}
+use Rattle.register_file.specs.declared.owner.Owner.{Owner}
+use Rattle.register_file.specs.declared.owner.Owner.TheVariants as owner
+use Rattle.register_file.proofs.NoSide.{counters_own}
+use Rattle.register_file.proofs.ReadBack.{one_place}
+use Rattle.nic_device.specs.Footprint.{read_reach, write_reach, reset_reach, switch_reach, in_registers}
+use Rattle.device_laws.proofs.Counting.{elsewhere, not_pending}
+use Rattle.nic_device.specs.declared.named.Named.{Named}
+use Rattle.nic_device.specs.declared.named.Named.TheVariants.{Nothing, Register}
+
+-- what no other event may change: a counter that it doesn't read
+
+not_pending_of : (o : Owner) (p : Place) → (row_of p.row).kind ≡ kind.Rc → (pending_of o).words p ≡ false
+not_pending_of owner.Device p is = refl
+not_pending_of owner.Counters p is = refl
+not_pending_of (owner.Side dir queue) p is = refl
+not_pending_of (owner.Group g) p is = not_pending g p is
+not_pending_of (owner.Pool number) p is = refl
+not_pending_of (owner.VfCounters number) p is = refl
+not_pending_of (owner.Vectors number) p is = refl
+
+not_read : (k : Kind) (q p : Place) → (row_of p.row).kind ≡ kind.Rc → p ≢ q → (read_by k q).words p ≡ false
+not_read kind.Rc q p is n = one_place q p n
+not_read kind.Cause q p is n = not_pending_of (owner_of q) p is
+not_read other q p is n = refl
+
+not_written : (k : Kind) (q p : Place) → (row_of q.row).kind ≡ k → (row_of p.row).kind ≡ kind.Rc
+    → (written_by k q).words p ≡ false
+not_written kind.Rw q p e is = elsewhere q p (λ f. cc) is
+not_written kind.Ro q p e is = refl
+not_written kind.Calc q p e is = refl
+not_written kind.Rc q p e is = refl
+not_written kind.Cause q p e is = not_pending_of (owner_of q) p is
+not_written kind.Ones q p e is = not_pending_of (owner_of q) p is
+not_written kind.Set q p e is = not_pending_of (owner_of q) p is
+not_written kind.Clear q p e is = not_pending_of (owner_of q) p is
+not_written kind.Held q p e is = elsewhere q p (λ f. cc) is
+not_written kind.Enable q p e is = elsewhere q p (λ f. cc) is
+not_written kind.Ctrl q p e is = elsewhere q p (λ f. cc) is
+not_written kind.Vreset q p e is = refl
+not_written kind.Eerd q p e is = elsewhere q p (λ f. cc) is
+
+pub read_misses : (m : Named) (p : Place) → (row_of p.row).kind ≡ kind.Rc
+    → ((q : Place) (view : ℕ) → m ≡ Register q view → q ≢ p) → (read_reach m).registers.words p ≡ false
+read_misses (Nothing seen) p is n = refl
+read_misses (Register q view) p is n = not_read (row_of q.row).kind q p is (λ e. n q view refl (sym e))
+
+pub write_misses : (m : Named) (word : ℕ) (p : Place) → (row_of p.row).kind ≡ kind.Rc
+    → ((q : Place) (view : ℕ) → m ≡ Register q view → IsFalse (asks_reset (row_of q.row).kind word))
+    → (write_reach m word).registers.words p ≡ false
+write_misses (Nothing seen) word p is none = refl
+write_misses (Register q view) word p is none =
+    ap (λ b. (cond b reset_reach (in_registers (of_write q))).registers.words p) (none q view refl)
+    ∙ not_written (row_of q.row).kind q p refl is
+
+pub switch_misses : (dir : Dir) (queue : ℕ) (p : Place) → (row_of p.row).kind ≡ kind.Rc
+    → (switch_reach dir queue).registers.words p ≡ false
+switch_misses Rx queue p is = ap (is_owner (owner.Side Rx queue)) (counters_own p is)
+switch_misses Tx queue p is = ap (is_owner (owner.Side Tx queue)) (counters_own p is)

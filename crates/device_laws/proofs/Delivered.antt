@@ -1,0 +1,59 @@
+-- Pieces that are read back, and a device that makes no steps.
+use Rattle.std.proofs.Common.{cond, ◌≡◌, ℕ, Bool, true, List, [], ◌∷◌, take, drop, refl, ap, sym, ◌∙◌, subst, nat_eq}
+use Rattle.std.specs.Prelude.{⊤}
+use Rattle.std.proofs.lemmas.Bool.{eq-eqb, lt-ltb}
+use Rattle.dma_arena.specs.Block.{Block}
+use Rattle.dma_arena.specs.Memory.{Memory, read_at, AreApart}
+use Rattle.rx_ring.proofs.Fills.{driver_reads}
+use Rattle.nic_device.specs.State.{State, Waiting}
+use Rattle.nic_device.specs.Outcome.{gives}
+use Rattle.nic_device.specs.Receive.{received, first_received}
+use Rattle.nic_device.specs.Sound.{AreWaiting, IsSound}
+use Rattle.nic_device.specs.Step.{step_of}
+use Rattle.device_laws.specs.Laws.{piece_of, piece_on, PieceIsReadBack, StoppedDeviceIsIdle}
+use Rattle.nic_device.proofs.Cases.{received_cases}
+use Rattle.nic_device.proofs.Targets.{told-lt}
+use Rattle.nic_device.specs.declared.event.Reply.{Reply}
+use Rattle.nic_device.specs.declared.event.Reply.TheVariants.{Wrote, Idle}
+
+-- memory has the piece that a reply tells of
+abbrev HasPiece : List Waiting → Memory → Reply Block → Type 0
+HasPiece waiting m (Wrote queue slot end desc at len) = AreApart at len desc 16 → read_at m at len
+    ≡ piece_on queue waiting (Wrote queue slot end desc at len)
+HasPiece waiting m other = ⊤
+
+same_queue : (n : ℕ) → nat_eq n n ≡ true
+same_queue n = eq-eqb n n refl
+
+piece_written : (waiting : List Waiting) (w : Waiting) (others : List Waiting) (slot : ℕ) (end : Bool) (desc at len : ℕ)
+    → waiting ≡ w ∷ others
+    → take len (drop w.offset w.frame) ≡ piece_on w.queue waiting (Wrote w.queue slot end desc at len)
+piece_written waiting w others slot end desc at len e =
+    ap (λ ws. piece_of ws len) (sym e) ∙ ap (λ b. cond b (piece_of waiting len) []) (sym (same_queue w.queue))
+
+received_piece : (s : State) → IsSound s
+    → HasPiece s.waiting (received s).state.memory (received s).reply
+received_piece s h = received_cases (λ o. HasPiece s.waiting o.state.memory o.reply) s (record {
+  idle = tt;
+  dropped = λ w others e why. tt;
+  slotless = λ w others e. tt;
+  fault = λ w others e fault. tt;
+  filled = λ w others e f is apart.
+      (driver_reads _ _ _ _ f h.blocks.whole (told-lt w (subst AreWaiting e h.waiting).0) is).bytes apart
+      ∙ piece_written s.waiting w others f.slot f.end f.desc f.at f.len e;
+})
+
+pub read_back : PieceIsReadBack
+unfolding step_of
+read_back s h queue slot end desc at len told apart =
+    subst (HasPiece s.waiting (received s).state.memory) told (received_piece s h) apart
+    ∙ ap (piece_on queue s.waiting) (sym told)
+
+pub stopped_idle : StoppedDeviceIsIdle
+unfolding step_of
+stopped_idle s stopped = record {
+  receive = ap (λ b. cond b (gives Idle s) (first_received s s.waiting)) stopped;
+  transmit = λ queue small. rw (lt-ltb queue 128 small, stopped) refl;
+  interrupt = λ g there. rw (there, stopped) refl;
+  switch = λ dir queue small. rw (lt-ltb queue 128 small, stopped) refl;
+}

@@ -1,0 +1,29 @@
+-- The frame limit and the mode stand.
+use Rattle.std.proofs.Common.{◌≡◌, ℕ, refl, ap, subst}
+use Rattle.dma_arena.specs.Block.{Block}
+use Rattle.reg_table.specs.declared.place.Place.{Place}
+use Rattle.reg_table.specs.declared.rows.RowId.TheVariants.{Hlreg0, Maxfrs, GcrExt}
+use Rattle.vf_map.specs.Pools.{mode_of}
+use Rattle.device_laws.specs.Laws.{IsOfNoSetting, WritesNoSetting, OtherEventsKeepSettings}
+use Rattle.nic_device.specs.Named.{named}
+use Rattle.nic_device.specs.State.{State}
+use Rattle.nic_device.specs.declared.event.Event.{Event}
+use Rattle.nic_device.specs.declared.event.Event.TheVariants as event
+use Rattle.nic_device.specs.declared.event.Port.{Port}
+use Rattle.nic_device.specs.declared.named.Named.TheVariants.{Register}
+use Rattle.device_laws.proofs.Settings.{setting_stands}
+
+no_setting : (s : State) (e : Event Block) → WritesNoSetting s e → (port : Port) (n word : ℕ) (p : Place) (view : ℕ)
+    → e ≡ event.Write port n word → named s port n ≡ Register p view → IsOfNoSetting p
+no_setting s e none port n word p view is found = subst (WritesNoSetting s) is none p view found
+
+pub settings_stand : OtherEventsKeepSettings
+settings_stand s e none =
+    let other = no_setting s e none in
+    let jumbo = setting_stands Hlreg0 (record { bank = refl; steady = λ e. cc; quiet = refl }) s e
+    (λ port n word p view is found. let o = other port n word p view is found in record { control = o.control; other = o.jumbo }) in
+    let limit = setting_stands Maxfrs (record { bank = refl; steady = λ e. cc; quiet = refl }) s e
+    (λ port n word p view is found. let o = other port n word p view is found in record { control = o.control; other = o.limit }) in
+    let mode = setting_stands GcrExt (record { bank = refl; steady = λ e. cc; quiet = refl }) s e
+    (λ port n word p view is found. let o = other port n word p view is found in record { control = o.control; other = o.mode }) in
+    record { limit = rw (jumbo, limit) refl; mode = ap mode_of mode }

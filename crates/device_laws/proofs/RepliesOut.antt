@@ -1,0 +1,73 @@
+-- The frames out after each event, and misaligned accesses.
+use Rattle.std.proofs.Common.{cond, ◌≡◌, ◌%◌, ℕ, List, refl, ap, false, [], ◌∷◌, Option, Some, None}
+use Rattle.std.proofs.lemmas.Bool.{ne_eqb}
+use Rattle.dma_arena.specs.Memory.{is_lent, read_at, write_at}
+use Rattle.reg_table.specs.Rows.{row_of}
+use Rattle.tx_ring.specs.declared.fetched.Fetched.{Fetched}
+use Rattle.register_file.specs.Access.{asks_reset}
+use Rattle.register_file.specs.Footprint.{of_write}
+use Rattle.nic_device.specs.Footprint.{Reach, in_registers, write_reach, reset_reach}
+use Rattle.nic_device.specs.Link.{oldest_collected}
+use Rattle.nic_device.specs.Named.{named}
+use Rattle.nic_device.specs.Outcome.{gives}
+use Rattle.device_laws.specs.Replies.{out_sent, out_collected, EventsMoveFramesOut, MisalignedChangesNothing}
+use Rattle.nic_device.specs.State.{State}
+use Rattle.nic_device.specs.Step.{step_of}
+use Rattle.nic_device.specs.Transmit.{transmitted, fetched_reply, with_frame}
+use Rattle.nic_device.proofs.Cases.{either_way, transmitted_cases}
+use Rattle.device_laws.proofs.Standing.{stays_within}
+use Rattle.device_laws.proofs.StandingAccesses.{read_rest}
+use Rattle.device_laws.proofs.StandingQueues.{receiving_rest, switching_rest}
+use Rattle.nic_device.specs.declared.event.Event.TheVariants as event
+use Rattle.nic_device.specs.declared.named.Named.{Named}
+use Rattle.nic_device.specs.declared.named.Named.TheVariants.{Nothing, Register}
+use Rattle.nic_device.specs.declared.event.Reply.TheVariants.{Done, Bytes, NotLent, Misaligned}
+
+-- no write changes the frames out
+write_out : (m : Named) (word : ℕ) → (write_reach m word).out ≡ false
+write_out (Nothing seen) word = refl
+write_out (Register p view) word =
+    either_way (λ (r : Reach). r.out ≡ false) (asks_reset (row_of p.row).kind word) reset_reach
+    (in_registers (of_write p)) refl refl
+
+-- a step of transmitting
+fetched_out : (s new : State) (queue : ℕ) (f : Fetched) (o : Option (List ℕ)) → new.out ≡ with_frame s.out queue o
+    → out_sent (fetched_reply queue f o) s new
+fetched_out s new queue f (Some frame) is = record { frame = frame; long = refl; out = is }
+fetched_out s new queue f None is = is
+
+transmitted_out : (s : State) (queue : ℕ) → out_sent (transmitted s queue).reply s (transmitted s queue).state
+transmitted_out s queue = transmitted_cases (λ o. out_sent o.reply s o.state) s queue (record {
+  none = refl;
+  idle = refl;
+  fault = λ fault. refl;
+  fetched = λ f is. fetched_out s _ queue f f.frame refl;
+})
+
+-- the oldest is collected
+oldest_out : (s : State) (out : List (ℕ × List ℕ)) → s.out ≡ out
+    → out_collected (oldest_collected s out).reply s (oldest_collected s out).state
+oldest_out s [] is = refl
+oldest_out s (frame ∷ others) is = is
+
+pub frames_out : EventsMoveFramesOut
+unfolding step_of
+frames_out s (event.Read port n) = (read_rest s port n).frames.out
+frames_out s (event.Write port n word) =
+    (stays_within s (event.Write port n word)).out (write_out (named s port n) word)
+frames_out s event.RxStep = (receiving_rest s).out
+frames_out s (event.TxStep queue) = transmitted_out s queue
+frames_out s (event.QueueStep dir queue) = (switching_rest s dir queue).out
+frames_out s event.Collect = oldest_out s s.out refl
+frames_out s other = (stays_within s other).out refl
+
+pub misaligned : MisalignedChangesNothing
+unfolding step_of
+misaligned s a n = record {
+  peek = ap (λ b. cond b
+      (cond (is_lent s.memory a 16) (gives (Bytes (read_at s.memory a 16)) s) (gives NotLent s))
+      (gives Misaligned s)) (ne_eqb (a % 16) 0 n);
+  poke = λ bytes. ap (λ b. cond b
+      (cond (is_lent s.memory a 16) (gives Done (record s { memory = write_at s.memory a bytes })) (gives NotLent s))
+      (gives Misaligned s)) (ne_eqb (a % 16) 0 n);
+}

@@ -1,0 +1,93 @@
+-- What a step of receiving tells of its queue.
+use Rattle.std.proofs.Common.{◌≡◌, ◌<◌, ℕ, List, ◌∷◌, refl, ap, sym, ◌∙◌, subst, arith}
+use Rattle.std.specs.Prelude.{⊤}
+use Rattle.dma_ring.specs.Ring.{slots_of}
+use Rattle.reg_table.specs.declared.rows.RowId.TheVariants.{Qprc}
+use Rattle.intr_unit.specs.declared.group.Group.TheVariants as group
+use Rattle.rx_ring.specs.declared.filled.Filled.{Filled}
+use Rattle.rx_ring.proofs.Fills.{takes_piece}
+use Rattle.register_file.specs.Counters.{counter_of}
+use Rattle.register_file.specs.Footprint.{ChangesWithin, counters, any_pending, pending}
+use Rattle.register_file.specs.Queue.{ring_of, with_head, shut}
+use Rattle.register_file.specs.Registers.{Registers}
+use Rattle.register_file.specs.Sides.{receive_queue_of}
+use Rattle.register_file.specs.declared.dir.Dir.TheVariants.{Rx}
+use Rattle.register_file.proofs.Footprints.{within-refl}
+use Rattle.register_file.proofs.SideWords.{receive-with_head}
+use Rattle.register_file.proofs.Stands.{receive_stands}
+use Rattle.register_file.proofs.Switches.{receive-shut}
+use Rattle.register_file.proofs.Within.{within-causes_raised}
+use Rattle.nic_device.specs.Footprint.{counts_and_causes}
+use Rattle.nic_device.specs.Interrupt.{raised_by, fault_cause}
+use Rattle.device_laws.specs.Leaving.{IsFirstFor}
+use Rattle.nic_device.specs.Outcome.{Outcome}
+use Rattle.nic_device.specs.Receive.{frame_counted, piece_done, receive_failed}
+use Rattle.device_laws.specs.Replies.{received_tells, ReceivingTells}
+use Rattle.nic_device.specs.Sound.{IsSound, AreWaiting}
+use Rattle.nic_device.specs.State.{State, Waiting}
+use Rattle.nic_device.specs.Step.{step_of}
+use Rattle.nic_device.proofs.Cases.{either_way, received_cases}
+use Rattle.nic_device.proofs.Coming.{covers-first, covers-second, counted_in, raised_by_queue}
+use Rattle.device_laws.proofs.Missed.{counts-miss_side, pending-misses_side}
+use Rattle.nic_device.proofs.Raising.{comes-itself}
+
+-- beside the head a piece changes counters and causes
+piece_rest : (r : Registers) (vfs queue : ℕ) (f : Filled)
+    → ChangesWithin counts_and_causes (with_head r Rx queue f.head) (piece_done r vfs queue f)
+piece_rest r vfs queue f =
+    let moved = with_head r Rx queue f.head in
+    let ended = frame_counted moved queue in
+    either_way (ChangesWithin counts_and_causes moved) f.end (raised_by ended vfs Rx queue) moved
+    (raised_by_queue {good = ⊤} counts_and_causes moved ended vfs Rx queue (covers-second counters any_pending)
+    (counted_in counts_and_causes moved moved Qprc (counter_of moved Rx queue) (covers-first counters any_pending)
+    (record { bank = refl; kind = refl }) (comes-itself counts_and_causes moved))).within
+    (within-refl counts_and_causes moved)
+
+module _ (s : State) (h : IsSound s) (w : Waiting) (others : List Waiting) (e : s.waiting ≡ w ∷ others) where
+  waits_first : IsFirstFor w.queue s.waiting
+  waits_first = subst (IsFirstFor w.queue) (sym e) refl
+
+  queue_small : w.queue < 128
+  queue_small = (subst AreWaiting e h.waiting).0.queue
+
+  side_filled : (f : Filled) → f.head < slots_of (ring_of s.registers Rx w.queue)
+      → receive_queue_of (piece_done s.registers s.vfs w.queue f) w.queue
+      ≡ record (receive_queue_of s.registers w.queue) {
+        ring = record (ring_of s.registers Rx w.queue) { head = f.head };
+      }
+  side_filled f inside =
+      receive_stands counts_and_causes _ _ w.queue (counts-miss_side Rx w.queue)
+      (piece_rest s.registers s.vfs w.queue f)
+      ∙ receive-with_head s.registers h.registers.shape w.queue queue_small f.head (omega arith)
+
+  side_failed : receive_queue_of (receive_failed s.registers w.queue) w.queue
+      ≡ receive_queue_of (shut s.registers Rx w.queue) w.queue
+  side_failed =
+      receive_stands (pending group.Pf) _ _ w.queue (pending-misses_side group.Pf Rx w.queue)
+      (within-causes_raised (shut s.registers Rx w.queue) group.Pf fault_cause)
+
+abbrev Tells : State → Outcome → Type 0
+Tells s o = received_tells o.reply s o.state
+
+pub receiving_tells : ReceivingTells
+unfolding step_of
+receiving_tells s h = received_cases (Tells s) s (record {
+  idle = tt;
+  dropped = λ w others e why. tt;
+  slotless = λ w others e. tt;
+  fault = λ w others e fault. record {
+    first = waits_first s h w others e;
+    side = side_failed s h w others e
+        ∙ receive-shut s.registers h.registers.shape w.queue (queue_small s h w others e);
+  };
+  filled = λ w others e f is.
+      let taken = takes_piece _ _ _ _ f is in
+      record {
+        first = waits_first s h w others e;
+        at_head = taken.slot;
+        side = side_filled s h w others e f taken.inside
+            ∙ ap (λ head. record (receive_queue_of s.registers w.queue) {
+              ring = record (ring_of s.registers Rx w.queue) { head = head };
+            }) taken.head;
+      };
+})

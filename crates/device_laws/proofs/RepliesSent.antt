@@ -1,0 +1,121 @@
+-- What a step of transmitting tells of its queue.
+use Rattle.std.proofs.Common.{cond, ◌≡◌, ◌<◌, ℕ, List, [], refl, ap, sym, ◌∙◌, subst, arith, inl, inr, nat_lt, Option, Some, None, Ok, Err}
+use Rattle.std.specs.Prelude.{⊤}
+use Rattle.std.proofs.lemmas.Bool.{cases_Bool, ltb-true}
+use Rattle.std.proofs.lemmas.List.{get_or-set_same}
+use Rattle.dma_ring.specs.Ring.{slots_of}
+use Rattle.dma_ring.specs.declared.fault.RingFault.{RingFault}
+use Rattle.reg_table.specs.declared.rows.RowId.TheVariants.{Gptc, Qptc}
+use Rattle.intr_unit.specs.declared.group.Group.TheVariants as group
+use Rattle.tx_ring.specs.declared.fetched.Fetched.{Fetched}
+use Rattle.tx_ring.proofs.Fetches.{takes_slot}
+use Rattle.register_file.specs.Counters.{counted, counter_of}
+use Rattle.register_file.specs.Footprint.{ChangesWithin, counters, any_pending, pending}
+use Rattle.register_file.specs.Queue.{ring_of, with_head, shut}
+use Rattle.register_file.specs.Registers.{Registers}
+use Rattle.register_file.specs.Sides.{transmit_queue_of}
+use Rattle.register_file.specs.declared.dir.Dir.TheVariants.{Tx}
+use Rattle.register_file.proofs.SideWords.{transmit-with_head}
+use Rattle.register_file.proofs.Stands.{transmit_stands}
+use Rattle.register_file.proofs.Switches.{transmit-shut}
+use Rattle.register_file.proofs.Within.{within-causes_raised}
+use Rattle.nic_device.specs.Footprint.{counts_and_causes}
+use Rattle.nic_device.specs.Interrupt.{raised_by, fault_cause}
+use Rattle.nic_device.specs.Outcome.{Outcome, gives}
+use Rattle.device_laws.specs.Replies.{sent_tells, TookTransmit, TransmittingTells}
+use Rattle.nic_device.specs.Sound.{IsSound}
+use Rattle.nic_device.specs.State.{State}
+use Rattle.nic_device.specs.Step.{step_of}
+use Rattle.nic_device.specs.Transmit.{transmitted, queue_sent, slot_counted, slot_reported, slot_done, fetched_reply}
+use Rattle.nic_device.proofs.Cases.{either_way, transmitted_cases, fetched_by}
+use Rattle.nic_device.proofs.Coming.{Comes, covers-first, covers-second, counted_in, raised_by_queue}
+use Rattle.device_laws.proofs.Missed.{counts-miss_side, pending-misses_side}
+use Rattle.nic_device.proofs.Raising.{comes-itself}
+use Rattle.device_laws.proofs.Reporting.{reports_at}
+use Rattle.nic_device.specs.declared.event.Reply.TheVariants.{NoQueue}
+
+-- beside the head a slot changes counters and causes
+slot_rest : (r : Registers) (queue : ℕ) (f : Fetched) (o : Option (List ℕ))
+    → Comes ⊤ counts_and_causes (with_head r Tx queue f.head) (slot_counted r queue f o)
+slot_rest r queue f (Some frame) =
+    let moved = with_head r Tx queue f.head in
+    let has = covers-first counters any_pending in
+    counted_in counts_and_causes moved (counted moved Gptc 0) Qptc (counter_of r Tx queue) has
+    (record { bank = refl; kind = refl })
+    (counted_in counts_and_causes moved moved Gptc 0 has (record { bank = refl; kind = refl })
+    (comes-itself counts_and_causes moved))
+slot_rest r queue f None = comes-itself counts_and_causes (with_head r Tx queue f.head)
+
+reported_rest : (r : Registers) (vfs queue : ℕ) (f : Fetched)
+    → ChangesWithin counts_and_causes (with_head r Tx queue f.head) (slot_reported r vfs queue f)
+reported_rest r vfs queue f =
+    let moved = with_head r Tx queue f.head in
+    let counts = slot_counted r queue f f.frame in
+    let rest = slot_rest r queue f f.frame in
+    either_way (ChangesWithin counts_and_causes moved) f.rs (raised_by counts vfs Tx queue) counts
+    (raised_by_queue counts_and_causes moved counts vfs Tx queue (covers-second counters any_pending) rest).within
+    rest.within
+
+-- a fetched slot
+fetched_tells : (s new : State) (queue : ℕ) (f : Fetched) (o : Option (List ℕ))
+    → f.slot ≡ (ring_of s.registers Tx queue).head → TookTransmit queue queue f.back s new
+    → sent_tells queue (fetched_reply queue f o) s new
+fetched_tells s new queue f (Some frame) slot took = took
+fetched_tells s new queue f None slot took = (took, slot)
+
+side_moved : (s : State) (queue : ℕ) (f : Fetched) → IsSound s → queue < 128
+    → f.head < slots_of (ring_of s.registers Tx queue)
+    → transmit_queue_of (slot_reported s.registers s.vfs queue f) queue
+    ≡ record (transmit_queue_of s.registers queue) { ring = record (ring_of s.registers Tx queue) { head = f.head } }
+side_moved s queue f h small inside =
+    transmit_stands counts_and_causes _ _ queue (counts-miss_side Tx queue) (reported_rest s.registers s.vfs queue f)
+    ∙ transmit-with_head s.registers h.registers.shape queue small f.head (omega arith)
+
+abbrev Tells : State → ℕ → Outcome → Type 0
+Tells s queue o = sent_tells queue o.reply s o.state
+
+slot_tells : (s : State) (queue : ℕ) (f : Fetched) → (fetched_by s queue).answer ≡ Ok f → IsSound s → queue < 128
+    → Tells s queue (slot_done s queue (Ok f) (fetched_by s queue).memory (fetched_by s queue).staged)
+slot_tells s queue f is h small =
+    let taken = takes_slot _ _ _ _ f is in
+    fetched_tells s _ queue f f.frame taken.slot (record {
+      named = refl;
+      side = side_moved s queue f h small taken.inside
+          ∙ ap (λ head. record (transmit_queue_of s.registers queue) {
+            ring = record (ring_of s.registers Tx queue) { head = head };
+          }) taken.head;
+      reported = reports_at s queue f is;
+    })
+
+-- a fault
+fault_tells : (s : State) (queue : ℕ) (fault : RingFault) → IsSound s → queue < 128
+    → Tells s queue (slot_done s queue (Err fault) (fetched_by s queue).memory (fetched_by s queue).staged)
+fault_tells s queue fault h small = record {
+  named = refl;
+  side =
+      transmit_stands (pending group.Pf) _ _ queue (pending-misses_side group.Pf Tx queue)
+      (within-causes_raised (shut s.registers Tx queue) group.Pf fault_cause)
+      ∙ transmit-shut s.registers h.registers.shape queue small;
+  staged = get_or-set_same s.staged queue [] [] (subst (λ n. queue < n) (sym h.staged.queues) small);
+}
+
+-- a queue of 128 or more has no step
+below : (s : State) (queue : ℕ) → (queue < 128 → Tells s queue (transmitted s queue))
+    → Tells s queue (transmitted s queue)
+below s queue small =
+    elim (cases_Bool (nat_lt queue 128)) as (λ _. Tells s queue (transmitted s queue)) [
+      | inl few ↦ small (ltb-true queue 128 few)
+      | inr past ↦
+          subst (λ b. Tells s queue (cond b (queue_sent s queue (transmit_queue_of s.registers queue))
+          (gives NoQueue s))) (sym past) tt
+    ]
+
+pub transmitting_tells : TransmittingTells
+unfolding step_of
+transmitting_tells s h queue =
+    below s queue (λ small. transmitted_cases (Tells s queue) s queue (record {
+      none = tt;
+      idle = tt;
+      fault = λ fault. fault_tells s queue fault h small;
+      fetched = λ f is. slot_tells s queue f is h small;
+    }))

@@ -1,0 +1,46 @@
+-- Where a fetched slot is reported.
+use Rattle.std.proofs.Common.{cond, ◌≡◌, ◌^◌, ◌+◌, ◌*◌, ◌/◌, ℕ, Bool, true, false, refl, ap, sym, ◌∙◌, subst, inl, inr, Some, None, Result, Ok, Err}
+use Rattle.std.specs.Prelude.{⊤, unwrap_or}
+use Rattle.dma_ring.specs.Ring.{descriptor_address}
+use Rattle.dma_ring.specs.declared.fault.RingFault.{RingFault}
+use Rattle.reg_table.specs.declared.rows.RowId.TheVariants.{Tdwbal, Tdwbah}
+use Rattle.tx_ring.specs.Fetch as tx
+use Rattle.tx_ring.specs.declared.fetched.Fetched.{Fetched}
+use Rattle.tx_ring.proofs.Fetches.{takes_slot}
+use Rattle.register_file.specs.Bits.{has_bit}
+use Rattle.register_file.specs.Queue.{ring_of}
+use Rattle.register_file.specs.Registers.{word_of}
+use Rattle.register_file.specs.Sides.{transmit_queue_of}
+use Rattle.register_file.specs.declared.dir.Dir.TheVariants.{Tx}
+use Rattle.device_laws.specs.Replies.{report_of}
+use Rattle.nic_device.specs.State.{State}
+use Rattle.nic_device.proofs.Cases.{fetched_by}
+
+ReportsAt : ℕ → Result Fetched RingFault → Type 0
+ReportsAt at (Ok f) = (address : ℕ) → f.back ≡ Some address → address ≡ at
+ReportsAt at (Err fault) = ⊤
+
+told_at : (b : Bool) (at address : ℕ) → cond b (Some at) None ≡ Some address → address ≡ at
+told_at true at address is = cc
+told_at false at address is = cc
+
+either_at : (b : Bool) (x y : ℕ) → unwrap_or (cond b (Some x) None) y ≡ cond b x y
+either_at true x y = refl
+either_at false x y = refl
+
+pub reports_at : (s : State) (queue : ℕ) (f : Fetched) → (fetched_by s queue).answer ≡ Ok f
+    → (address : ℕ) → f.back ≡ Some address → address ≡ report_of s.registers queue
+unfolding ReportsAt
+reports_at s queue f is =
+    let r = s.registers in
+    let ring = ring_of r Tx queue in
+    let at = unwrap_or (transmit_queue_of r queue).writeback (descriptor_address ring ring.head) in
+    let told = elim (takes_slot _ _ _ _ f is).done as (λ _. ReportsAt at (Ok f)) [
+      | inl context ↦
+          subst (ReportsAt at) (sym (ap (λ (o : tx.Outcome). o.answer) context.1) ∙ is) (λ address none. cc)
+      | inr sends ↦
+          subst (ReportsAt at) (sym (ap (λ (o : tx.Outcome). o.answer) sends.2) ∙ is) (told_at _ at)
+    ] in
+    λ address back. told address back
+    ∙ either_at (has_bit 0 (word_of r Tdwbal queue))
+    (word_of r Tdwbah queue * 2 ^ 32 + 4 * (word_of r Tdwbal queue / 4)) (descriptor_address ring ring.head)

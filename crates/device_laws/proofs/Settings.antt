@@ -1,0 +1,149 @@
+-- Registers of the device as a whole, which nothing changes but a write of them, and a reset.
+use Rattle.std.proofs.Common.{◌≡◌, ◌≢◌, ◌||◌, ℕ, false, List, [], ◌∷◌, refl, ap, sym, ◌∙◌, inl, inr}
+use Rattle.std.proofs.lemmas.Bool.{cases_Bool}
+use Rattle.dma_arena.specs.Block.{Block}
+use Rattle.reg_table.specs.Rows.{row_of}
+use Rattle.reg_table.specs.declared.bank.Bank.TheVariants.{Device}
+use Rattle.reg_table.specs.declared.kind.Kind.{Kind}
+use Rattle.reg_table.specs.declared.kind.Kind.TheVariants as kind
+use Rattle.reg_table.specs.declared.place.Place.{Place}
+use Rattle.reg_table.specs.declared.rows.RowId.{RowId}
+use Rattle.reg_table.specs.declared.rows.RowId.TheVariants.{Ctrl}
+use Rattle.intr_unit.specs.declared.group.Group.{Group}
+use Rattle.intr_unit.specs.declared.group.Group.TheVariants as group
+use Rattle.register_file.specs.Access.{asks_reset}
+use Rattle.register_file.specs.Columns.{place}
+use Rattle.register_file.specs.Footprint.{is_place, is_pending, any_pending, pending, pending_of, read_by, written_by}
+use Rattle.register_file.specs.Owner.{owner_in, owner_of, is_owner}
+use Rattle.register_file.specs.Registers.{word_of}
+use Rattle.register_file.specs.declared.dir.Dir.{Dir}
+use Rattle.register_file.specs.declared.dir.Dir.TheVariants.{Rx, Tx}
+use Rattle.register_file.specs.declared.owner.Owner.{Owner}
+use Rattle.register_file.specs.declared.owner.Owner.TheVariants as owner
+use Rattle.register_file.proofs.Covers.{fails, covers-any_pending}
+use Rattle.register_file.proofs.Owners.{is_place-same}
+use Rattle.nic_device.specs.Footprint.{read_reach, write_reach, receive_reach, reach_by, switch_reach}
+use Rattle.nic_device.specs.Named.{named}
+use Rattle.nic_device.specs.Step.{after, step_of}
+use Rattle.nic_device.specs.State.{State, Waiting}
+use Rattle.device_laws.proofs.Missed.{neither}
+use Rattle.nic_device.proofs.Steps.{step_leads}
+use Rattle.nic_device.specs.declared.event.Event.{Event}
+use Rattle.nic_device.specs.declared.event.Event.TheVariants as event
+use Rattle.nic_device.specs.declared.event.Port.{Port}
+use Rattle.nic_device.specs.declared.named.Named.{Named}
+use Rattle.nic_device.specs.declared.named.Named.TheVariants.{Nothing, Register}
+use Rattle.nic_device.specs.declared.event.Reply.{Reply}
+
+-- a row of the device as a whole, which no step of the device changes
+pub record IsSetting (row : RowId) : Type 0 where
+  pub bank : (row_of row).bank ≡ Device
+  pub steady : (row_of row).kind ≢ kind.Rc
+  pub quiet : is_pending (row_of row).kind ≡ false
+
+-- a write of another row, which isn't CTRL
+pub record IsOther (row : RowId) (p : Place) : Type 0 where
+  pub control : p.row ≢ Ctrl
+  pub other : p.row ≢ row
+
+no_reset : (row : RowId) (word : ℕ) → row ≢ Ctrl → asks_reset (row_of row).kind word ≡ false
+no_reset Ctrl word n = absurd (n refl)
+no_reset other word n = refl
+
+module _ (row : RowId) (is : IsSetting row) where
+  abbrev here : Place
+  here = place row 0
+
+  other_place : (p : Place) → p.row ≢ row → is_place p here ≡ false
+  other_place p n =
+      elim (cases_Bool (is_place p here)) as (λ _. is_place p here ≡ false) [
+        | inl same ↦ absurd (n (ap (λ (q : Place). q.row) (is_place-same p here same)))
+        | inr apart ↦ apart
+      ]
+
+  none_pending : (g : Group) → (pending g).words here ≡ false
+  none_pending g = fails ((pending g).words here) (any_pending.words here) ((covers-any_pending g).words here) is.quiet
+
+  none_pending_of : (o : Owner) → (pending_of o).words here ≡ false
+  none_pending_of owner.Device = refl
+  none_pending_of owner.Counters = refl
+  none_pending_of (owner.Side dir queue) = refl
+  none_pending_of (owner.Group g) = none_pending g
+  none_pending_of (owner.Pool number) = refl
+  none_pending_of (owner.VfCounters number) = refl
+  none_pending_of (owner.Vectors number) = refl
+
+  none_written_by : (k : Kind) (p : Place) → p.row ≢ row → (written_by k p).words here ≡ false
+  none_written_by kind.Rw p n = other_place p n
+  none_written_by kind.Ro p n = refl
+  none_written_by kind.Calc p n = refl
+  none_written_by kind.Rc p n = refl
+  none_written_by kind.Held p n = other_place p n
+  none_written_by kind.Enable p n = other_place p n
+  none_written_by kind.Ctrl p n = other_place p n
+  none_written_by kind.Vreset p n = refl
+  none_written_by kind.Eerd p n = other_place p n
+  none_written_by interrupts p n = none_pending_of (owner_of p)
+
+  none_written : (m : Named) (word : ℕ) → ((p : Place) (view : ℕ) → m ≡ Register p view → IsOther row p)
+      → (write_reach m word).registers.words here ≡ false
+  none_written (Nothing seen) word other = refl
+  none_written (Register p view) word other =
+      let o = other p view refl in
+      rw (no_reset p.row word o.control) (none_written_by (row_of p.row).kind p o.other)
+
+  none_owned : (o : Owner) → is_owner o owner.Device ≡ false → is_owner o (owner_of here) ≡ false
+  none_owned o n = ap (λ b. is_owner o (owner_in b 0)) is.bank ∙ n
+
+  counts_apart : is_owner owner.Counters (owner_of here) ≡ false
+  counts_apart = none_owned owner.Counters refl
+
+  side_apart : (dir : Dir) (queue : ℕ) → is_owner (owner.Side dir queue) (owner_of here) ≡ false
+  side_apart dir queue = none_owned (owner.Side dir queue) refl
+
+  none_stepped : (dir : Dir) (queue : ℕ)
+      → (is_owner (owner.Side dir queue) (owner_of here)
+      || (is_owner owner.Counters (owner_of here) || is_pending (row_of row).kind)) ≡ false
+  none_stepped dir queue = neither _ _ (side_apart dir queue) (neither _ _ counts_apart is.quiet)
+
+  none_received : (ws : List Waiting) (reply : Reply Block) → (receive_reach ws reply).registers.words here ≡ false
+  none_received [] reply = refl
+  none_received (w ∷ others) reply = none_stepped Rx w.queue
+
+  none_switched : (dir : Dir) (queue : ℕ) → (switch_reach dir queue).registers.words here ≡ false
+  none_switched Rx queue = side_apart Rx queue
+  none_switched Tx queue = side_apart Tx queue
+
+  none_read_by : (k : Kind) (p : Place) → (row_of p.row).kind ≡ k → (read_by k p).words here ≡ false
+  none_read_by kind.Rc p counter =
+      other_place p (λ same. is.steady (sym (ap (λ (r : RowId). (row_of r).kind) same) ∙ counter))
+  none_read_by kind.Cause p causes = none_pending_of (owner_of p)
+  none_read_by other p e = refl
+
+  none_read : (m : Named) → (read_reach m).registers.words here ≡ false
+  none_read (Nothing seen) = refl
+  none_read (Register p view) = none_read_by (row_of p.row).kind p refl
+
+  word_stands : (s : State) (e : Event Block)
+      → (reach_by s e (step_of s e).reply).registers.words here ≡ false
+      → word_of (after s e).registers row 0 ≡ word_of s.registers row 0
+  word_stands s e none = (step_leads s e).stays.registers.words here none
+
+  pub setting_stands : (s : State) (e : Event Block)
+      → ((port : Port) (n word : ℕ) (p : Place) (view : ℕ) → e ≡ event.Write port n word
+      → named s port n ≡ Register p view → IsOther row p)
+      → word_of (after s e).registers row 0 ≡ word_of s.registers row 0
+  unfolding step_of
+  setting_stands s (event.Read port n) other = word_stands s (event.Read port n) (none_read (named s port n))
+  setting_stands s (event.Write port n word) other =
+      word_stands s (event.Write port n word)
+      (none_written (named s port n) word (λ p view found. other port n word p view refl found))
+  setting_stands s (event.Arrive frame) other =
+      word_stands s (event.Arrive frame) (neither _ _ counts_apart (none_pending group.Pf))
+  setting_stands s event.RxStep other = word_stands s event.RxStep (none_received s.waiting _)
+  setting_stands s (event.TxStep queue) other = word_stands s (event.TxStep queue) (none_stepped Tx queue)
+  setting_stands s (event.IntStep g) other = word_stands s (event.IntStep g) (none_pending g)
+  setting_stands s (event.QueueStep dir queue) other =
+      word_stands s (event.QueueStep dir queue) (none_switched dir queue)
+  setting_stands s (event.Link up) other = word_stands s (event.Link up) (none_pending group.Pf)
+  setting_stands s e other = word_stands s e refl

@@ -1,0 +1,103 @@
+-- What register accesses leave alone.
+use Rattle.std.proofs.Common.{◌≡◌, ◌≢◌, ℕ, false, refl, ap, ◌∙◌, subst, cond}
+use Rattle.std.specs.Prelude.{IsFalse}
+use Rattle.reg_table.specs.Rows.{row_of}
+use Rattle.reg_table.specs.declared.place.Place.{Place}
+use Rattle.intr_unit.specs.declared.group.Group.{Group}
+use Rattle.register_file.specs.Access.{asks_reset}
+use Rattle.register_file.specs.Footprint.{Misses, of_owner, of_side, of_group, of_read, of_write}
+use Rattle.register_file.specs.Owner.{owner_of}
+use Rattle.register_file.specs.declared.dir.Dir.{Dir}
+use Rattle.register_file.specs.declared.dir.Dir.TheVariants.{Rx, Tx}
+use Rattle.register_file.specs.declared.owner.Owner.{Owner}
+use Rattle.register_file.specs.declared.owner.Owner.TheVariants as owner
+use Rattle.register_file.proofs.Covers.{misses-narrower, misses-owner}
+use Rattle.register_file.proofs.Footprints.{covers-of_read, covers-of_write}
+use Rattle.register_file.proofs.NoSide.{read_misses_sides}
+use Rattle.nic_device.specs.Footprint.{Reach, StaysWithin, in_registers, read_reach, write_reach, reset_reach}
+use Rattle.nic_device.specs.Named.{named}
+use Rattle.nic_device.specs.Step.{after}
+use Rattle.device_laws.specs.Leaving.{ReadLeavesTheRest, WriteLeavesTheRest, WriteLeavesMemory}
+use Rattle.nic_device.specs.State.{State}
+use Rattle.nic_device.proofs.Cases.{either_way}
+use Rattle.device_laws.proofs.Missed.{misses-nothing, owners_apart}
+use Rattle.device_laws.proofs.Standing.{stays_within, missed, leaves_missed, same_memory}
+use Rattle.nic_device.specs.declared.event.Event.TheVariants as event
+use Rattle.nic_device.specs.declared.event.Port.{Port}
+use Rattle.nic_device.specs.declared.named.Named.{Named}
+use Rattle.nic_device.specs.declared.named.Named.TheVariants.{Nothing, Register}
+
+-- a read has nothing of a side
+misses_side : (m : Named) (dir : Dir) (queue : ℕ) → Misses (read_reach m).registers (of_side dir queue)
+misses_side (Nothing seen) dir queue = misses-nothing (of_side dir queue)
+misses_side (Register p view) dir queue = read_misses_sides p dir queue
+
+misses_read : (m : Named) (g : Group)
+    → ((p : Place) (view : ℕ) → m ≡ Register p view → owner_of p ≢ owner.Group g)
+    → Misses (read_reach m).registers (of_group g)
+misses_read (Nothing seen) g other = misses-nothing (of_group g)
+misses_read (Register p view) g other =
+    misses-narrower (of_owner (owner_of p)) (of_read p) (of_group g) (covers-of_read p)
+    (misses-owner (owner_of p) (owner.Group g) (owners_apart (owner_of p) (owner.Group g) (other p view refl)))
+
+record OfRead (m : Named) : Type 0 where
+  blocks : (number : ℕ) → (read_reach m).blocks number ≡ false
+  staged : (queue : ℕ) → (read_reach m).staged queue ≡ false
+  waiting : (read_reach m).waiting ≡ false
+  out : (read_reach m).out ≡ false
+
+of_a_read : (m : Named) → OfRead m
+of_a_read (Nothing seen) = record { blocks = λ number. refl; staged = λ queue. refl; waiting = refl; out = refl }
+of_a_read (Register p view) = record { blocks = λ number. refl; staged = λ queue. refl; waiting = refl; out = refl }
+
+pub read_rest : ReadLeavesTheRest
+read_rest s port n =
+    let stays = stays_within s (event.Read port n) in
+    let m = named s port n in
+    let none = of_a_read m in
+    let rest = leaves_missed s (event.Read port n) in
+    record {
+      queues = record {
+        receive = λ queue. rest.receive queue (misses_side m Rx queue);
+        transmit = λ queue. rest.transmit queue (misses_side m Tx queue) (none.staged queue);
+      };
+      groups = λ g other. rest.group g (misses_read m g other);
+      memory = same_memory s.memory _ (λ number. stays.blocks number (none.blocks number));
+      frames = record { waiting = stays.waiting none.waiting; out = stays.out none.out };
+    }
+
+-- a write that asks for no reset changes the registers alone
+written_stays : (s : State) (port : Port) (n word : ℕ) (p : Place) (view : ℕ) → named s port n ≡ Register p view
+    → IsFalse (asks_reset (row_of p.row).kind word)
+    → StaysWithin (in_registers (of_write p)) s (after s (event.Write port n word))
+written_stays s port n word p view found none =
+    let reach : write_reach (named s port n) word ≡ in_registers (of_write p) =
+    ap (λ m. write_reach m word) found ∙ ap (λ b. cond b reset_reach (in_registers (of_write p))) none in
+    subst (λ r. StaysWithin r s (after s (event.Write port n word))) reach (stays_within s (event.Write port n word))
+
+misses_write : (p : Place) (o : Owner) → owner_of p ≢ o → Misses (of_write p) (of_owner o)
+misses_write p o other =
+    misses-narrower (of_owner (owner_of p)) (of_write p) (of_owner o) (covers-of_write p)
+    (misses-owner (owner_of p) o (owners_apart (owner_of p) o other))
+
+pub write_rest : WriteLeavesTheRest
+write_rest s port n word p view found none =
+    let stays = written_stays s port n word p view found none in
+    let rest = missed _ s (after s (event.Write port n word)) stays in
+    record {
+      receive = λ queue other. rest.receive queue (misses_write p (owner.Side Rx queue) other);
+      transmit = λ queue other. rest.transmit queue (misses_write p (owner.Side Tx queue) other) refl;
+      groups = λ g other. rest.group g (misses_write p (owner.Group g) other);
+      frames = record { waiting = stays.waiting refl; out = stays.out refl };
+    }
+
+no_block_written : (m : Named) (word number : ℕ) → (write_reach m word).blocks number ≡ false
+no_block_written (Nothing seen) word number = refl
+no_block_written (Register p view) word number =
+    either_way (λ (r : Reach). r.blocks number ≡ false) (asks_reset (row_of p.row).kind word) reset_reach
+    (in_registers (of_write p)) refl refl
+
+pub write_memory : WriteLeavesMemory
+write_memory s port n word =
+    same_memory s.memory _ (λ number. (stays_within s (event.Write port n word)).blocks number
+    (no_block_written (named s port n) word number))

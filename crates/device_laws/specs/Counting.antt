@@ -1,0 +1,83 @@
+-- Which counters an event counts in, by its reply.
+use Rattle.std.specs.Prelude.{ℕ, ◌≡◌, ◌≢◌, Bool, false, ◌&&◌, ◌||◌, ⊤, IsFalse, List, [], ◌∷◌, if◌then◌else◌}
+use Rattle.dma_arena.specs.Block.{Block}
+use Rattle.reg_table.specs.Counter.{bumped}
+use Rattle.reg_table.specs.Rows.{row_of}
+use Rattle.reg_table.specs.declared.kind.Kind.TheVariants.{Rc}
+use Rattle.reg_table.specs.declared.place.Place.{Place}
+use Rattle.reg_table.specs.declared.rows.RowId.TheVariants.{Mpc, Gprc, Gptc, Ruc, Roc, Qprc, Qprdc, Qptc}
+use Rattle.register_file.specs.Access.{asks_reset}
+use Rattle.register_file.specs.Columns.{place}
+use Rattle.register_file.specs.Counters.{counter_of}
+use Rattle.register_file.specs.Footprint.{is_place}
+use Rattle.register_file.specs.Registers.{Registers}
+use Rattle.register_file.specs.Words.{word_at}
+use Rattle.register_file.specs.declared.dir.Dir.TheVariants.{Rx, Tx}
+use Rattle.nic_device.specs.Step.{after, reply_to}
+use Rattle.nic_device.specs.Sound.{IsSound}
+use Rattle.nic_device.specs.State.{State, Waiting}
+use Rattle.nic_device.specs.declared.event.Event.{Event}
+use Rattle.nic_device.specs.declared.event.Event.TheVariants as event
+use Rattle.nic_device.specs.declared.named.Named.TheVariants.{Register}
+use Rattle.nic_device.specs.Named.{named}
+use Rattle.nic_device.specs.declared.event.Reply.{Reply}
+use Rattle.nic_device.specs.declared.event.Reply.TheVariants.{Done, Dropped, Wrote, Sent}
+use Rattle.nic_device.specs.declared.event.Why.{Why}
+use Rattle.nic_device.specs.declared.event.Why.TheVariants.{Short, Long, Full, NoSlot}
+
+-- a frame that arrives: RUC counts those that are too short, ROC those that are too long, MPC those that find the list
+-- full, and GPRC those that are let in
+abbrev pub counts_dropped : Why → Place → Bool
+counts_dropped Short p = is_place (place Ruc 0) p
+counts_dropped Long p = is_place (place Roc 0) p
+counts_dropped Full p = is_place (place Mpc 0) p
+counts_dropped other p = false
+
+abbrev pub counts_arrived : Reply Block → Place → Bool
+counts_arrived Done p = is_place (place Gprc 0) p
+counts_arrived (Dropped why) p = counts_dropped why p
+counts_arrived other p = false
+
+-- a step of receiving: QPRC counts a frame that is written to its end, and QPRDC one dropped for want of a slot, both
+-- in the counter that RQSMR names for its queue
+abbrev pub counts_slotless : Registers → List Waiting → Place → Bool
+counts_slotless r [] p = false
+counts_slotless r (w ∷ others) p = is_place (place Qprdc (counter_of r Rx w.queue)) p
+
+abbrev pub counts_unwritten : Registers → List Waiting → Why → Place → Bool
+counts_unwritten r ws NoSlot p = counts_slotless r ws p
+counts_unwritten r ws other p = false
+
+abbrev pub counts_received : Registers → List Waiting → Reply Block → Place → Bool
+counts_received r ws (Wrote queue slot end desc at len) p = end && is_place (place Qprc (counter_of r Rx queue)) p
+counts_received r ws (Dropped why) p = counts_unwritten r ws why p
+counts_received r ws other p = false
+
+-- a step of transmitting: GPTC counts a frame that goes out, and QPTC too, in the counter that TQSM names for its queue
+abbrev pub counts_sent : Registers → Reply Block → Place → Bool
+counts_sent r (Sent queue len back) p = is_place (place Gptc 0) p || is_place (place Qptc (counter_of r Tx queue)) p
+counts_sent r other p = false
+
+-- whether an event counts in the counter at a place
+abbrev pub counts : State → Event Block → Reply Block → Place → Bool
+counts s (event.Arrive frame) reply p = counts_arrived reply p
+counts s event.RxStep reply p = counts_received s.registers s.waiting reply p
+counts s (event.TxStep queue) reply p = counts_sent s.registers reply p
+counts s other reply p = false
+
+-- an event that doesn't read the place, and asks for no reset
+abbrev pub KeepsCount : State → Place → Event Block → Type 0
+KeepsCount s p (event.Read port number) = (q : Place) (view : ℕ) → named s port number ≡ Register q view → q ≢ p
+KeepsCount s p (event.Write port number word) =
+    (q : Place) (view : ℕ) → named s port number ≡ Register q view → IsFalse (asks_reset (row_of q.row).kind word)
+KeepsCount s p other = ⊤
+
+-- one more, where it is counted; the largest word stays
+abbrev pub with_one : Bool → ℕ → ℕ
+with_one counted word = if counted then bumped word else word
+
+-- an event counts one more in each counter that it counts in, and leaves every other that it doesn't read
+abbrev pub EventsCount : Type 0
+EventsCount =
+    (s : State) → IsSound s → (e : Event Block) (p : Place) → (row_of p.row).kind ≡ Rc → KeepsCount s p e →
+    word_at (after s e).registers.words p ≡ with_one (counts s e (reply_to s e) p) (word_at s.registers.words p)

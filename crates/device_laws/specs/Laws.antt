@@ -1,0 +1,197 @@
+-- What the device promises a driver author, whatever happened before. `view` is the bits that an address shows.
+use Rattle.std.specs.Prelude.{ℕ, ◌≡◌, ◌≢◌, ◌<◌, ◌==◌, Bool, ⊤, IsTrue, IsFalse, List, [], ◌∷◌, take, drop, bit_and, if◌then◌else◌}
+use Rattle.reg_table.specs.Rows.{row_of}
+use Rattle.reg_table.specs.Runs.{runs}
+use Rattle.reg_table.specs.Place.{Names, view_among}
+use Rattle.reg_table.specs.declared.place.Place.{Place}
+use Rattle.reg_table.specs.declared.kind.Kind.TheVariants.{Rw, Rc}
+use Rattle.reg_table.specs.declared.rows.RowId.TheVariants.{Ctrl, Hlreg0, Maxfrs, GcrExt}
+use Rattle.reg_table.specs.Counter.{bumped}
+use Rattle.dma_arena.specs.Block.{Block}
+use Rattle.dma_arena.specs.Memory.{read_at, AreApart}
+use Rattle.intr_unit.specs.BitSet.{IsSubset}
+use Rattle.intr_unit.specs.declared.group.Group.{Group}
+use Rattle.register_file.specs.Access.{asks_reset}
+use Rattle.register_file.specs.Bits.{merged}
+use Rattle.register_file.specs.Groups.{index_of, told_by}
+use Rattle.register_file.specs.Registers.{is_wanted}
+use Rattle.register_file.specs.Sound.{pending_bits}
+use Rattle.register_file.specs.Words.{word_at}
+use Rattle.register_file.specs.Settings.{is_stopped, frame_limit}
+use Rattle.register_file.specs.declared.dir.Dir.{Dir}
+use Rattle.nic_device.specs.State.{State, Waiting, new_state}
+use Rattle.nic_device.specs.Outcome.{gives}
+use Rattle.nic_device.specs.Interrupt.{has_group, mode_in}
+use Rattle.nic_device.specs.Named.{named}
+use Rattle.nic_device.specs.Sound.{IsSound, IsEvent}
+use Rattle.nic_device.specs.Step.{step_of, after, reply_to, is_fault}
+use Rattle.nic_device.specs.Transmit.{staged_by}
+use Rattle.nic_device.specs.declared.event.Event.{Event}
+use Rattle.nic_device.specs.declared.event.Event.TheVariants as event
+use Rattle.nic_device.specs.declared.event.Port.TheVariants.{Pf}
+use Rattle.nic_device.specs.declared.event.Reply.{Reply}
+use Rattle.nic_device.specs.declared.named.Named.TheVariants.{Register}
+use Rattle.nic_device.specs.declared.event.Reply.TheVariants.{Word, Stray, Done, Idle, Wrote}
+
+-- after every event no bit is told whose cause or mask is 0
+abbrev pub ToldIsPending : Type 0
+ToldIsPending =
+    (s : State) → IsSound s → (e : Event Block) → IsEvent e → (g : Group) → index_of g < 64 →
+    IsSubset (told_by (after s e).registers g) (pending_bits (after s e).registers g)
+
+-- plain registers
+
+-- the reply to a read of an address, and the state after a write of one
+abbrev pub reply_to_read : State → ℕ → Reply Block
+reply_to_read s address = reply_to s (event.Read Pf address)
+
+abbrev pub after_write : State → ℕ → ℕ → State
+after_write s address word = after s (event.Write Pf address word)
+
+-- what an address shows of a word
+abbrev pub shown : ℕ → ℕ → ℕ
+shown address word = bit_and word (view_among runs address)
+
+-- the address names a plain read/write register
+pub record IsPlain (address : ℕ) (p : Place) : Type 0 where
+  pub named : Names address p
+  pub plain : (row_of p.row).kind ≡ Rw
+
+-- a register of a new device reads as its reset value
+abbrev pub NewDeviceReadsResetValues : Type 0
+NewDeviceReadsResetValues =
+    (vfs fifo address : ℕ) (p : Place) → IsPlain address p → reply_to_read (new_state vfs fifo) address
+    ≡ Word (shown address (row_of p.row).reset)
+
+-- a write shows at each address of its register: the written bits that the row's mask and the address let through,
+-- and the former bits elsewhere
+abbrev pub WriteShowsAtEachAddress : Type 0
+WriteShowsAtEachAddress =
+    (s : State) → IsSound s → (a b word : ℕ) (p : Place) → IsPlain a p → IsPlain b p →
+    reply_to_read (after_write s a word) b
+    ≡ Word (shown b (merged (shown a (row_of p.row).mask) (word_at s.registers.words p) word))
+
+-- a write of one register is not seen in any other
+abbrev pub WriteLeavesOtherRegisters : Type 0
+WriteLeavesOtherRegisters =
+    (s : State) → IsSound s → (a b word : ℕ) (p q : Place) → IsPlain a p → IsPlain b q → q ≢ p →
+    reply_to_read (after_write s a word) b ≡ reply_to_read s b
+
+-- a read of a plain register changes nothing
+abbrev pub ReadChangesNothing : Type 0
+ReadChangesNothing = (s : State) (address : ℕ) (p : Place) → IsPlain address p → after s (event.Read Pf address) ≡ s
+
+-- an access of an address that names nothing answers a stray 0 and changes nothing
+abbrev pub StrayAccessChangesNothing : Type 0
+StrayAccessChangesNothing =
+    (s : State) (address word : ℕ) → ((p : Place) → ¬ Names address p) →
+    (step_of s (event.Read Pf address) ≡ gives (Stray 0) s) ×
+    (step_of s (event.Write Pf address word) ≡ gives (Stray 0) s)
+
+-- counters
+
+-- the address names a counter
+pub record IsCounter (address : ℕ) (p : Place) : Type 0 where
+  pub named : Names address p
+  pub counter : (row_of p.row).kind ≡ Rc
+
+-- a counter that was read reads as 0 after that, at each of its addresses
+abbrev pub ReadCounterStartsAgain : Type 0
+ReadCounterStartsAgain =
+    (s : State) → IsSound s → (a b : ℕ) (p : Place) → IsCounter a p → IsCounter b p →
+    reply_to_read (after s (event.Read Pf a)) b ≡ Word 0
+
+-- where GPRC reads
+abbrev pub good_frames : ℕ
+good_frames = 0x04074
+
+-- a frame that is let in is counted in GPRC: the next read gives one more than it would have given, but the largest
+-- word stays
+abbrev pub LetInFrameIsCounted : Type 0
+LetInFrameIsCounted =
+    (s : State) → IsSound s → (frame : List ℕ) → reply_to s (event.Arrive frame) ≡ Done →
+    (word : ℕ) → reply_to_read s good_frames ≡ Word word →
+    reply_to_read (after s (event.Arrive frame)) good_frames ≡ Word (bumped word)
+
+-- a reset, and settings
+
+-- each register has its reset value, no side of a queue is wanted on, no bit is told, no frame waits and nothing is
+-- staged; lent memory, the frames out, the link and the configuration are as they were
+pub record IsReset (old new : State) : Type 0 where
+  pub words : (p : Place) → p.index < (row_of p.row).count → word_at new.registers.words p ≡ (row_of p.row).reset
+  pub wanted : (dir : Dir) (queue : ℕ) → queue < 128 → IsFalse (is_wanted new.registers dir queue)
+  pub told : (g : Group) → index_of g < 64 → told_by new.registers g ≡ 0
+  pub waiting : new.waiting ≡ []
+  pub staged : (queue : ℕ) → queue < 128 → staged_by new queue ≡ []
+  pub memory : new.memory ≡ old.memory
+  pub out : new.out ≡ old.out
+  pub link : new.link ≡ old.link
+  pub vfs : new.vfs ≡ old.vfs
+  pub fifo : new.fifo ≡ old.fifo
+
+-- a write that asks for a reset resets the device, and does nothing else
+abbrev pub AskedResetResets : Type 0
+AskedResetResets =
+    (s : State) (address word : ℕ) (p : Place) → Names address p → IsTrue (asks_reset (row_of p.row).kind word) →
+    IsReset s (after_write s address word)
+
+-- an event that writes none of the registers that set the frame limit and the mode, nor that which asks for a reset
+pub record IsOfNoSetting (p : Place) : Type 0 where
+  pub control : p.row ≢ Ctrl
+  pub jumbo : p.row ≢ Hlreg0
+  pub limit : p.row ≢ Maxfrs
+  pub mode : p.row ≢ GcrExt
+
+abbrev pub WritesNoSetting : State → Event Block → Type 0
+WritesNoSetting s (event.Write port number word) =
+    (p : Place) (view : ℕ) → named s port number ≡ Register p view → IsOfNoSetting p
+WritesNoSetting s other = ⊤
+
+-- keeps the frame limit, and how queues are parted among pools
+pub record KeepsSettings (old new : State) : Type 0 where
+  pub limit : frame_limit new.registers ≡ frame_limit old.registers
+  pub mode : mode_in new.registers ≡ mode_in old.registers
+
+abbrev pub OtherEventsKeepSettings : Type 0
+OtherEventsKeepSettings = (s : State) (e : Event Block) → WritesNoSetting s e → KeepsSettings s (after s e)
+
+-- what is delivered
+
+-- so many of the bytes that are left of the first frame
+abbrev pub piece_of : List Waiting → ℕ → List ℕ
+piece_of [] len = []
+piece_of (w ∷ others) len = take len (drop w.offset w.frame)
+
+-- the bytes that a reply says were written on a queue, of the first of the frames that waited
+abbrev pub piece_on : ℕ → List Waiting → Reply Block → List ℕ
+piece_on queue waiting (Wrote on slot end desc at len) = if on == queue then piece_of waiting len else []
+piece_on queue waiting other = []
+
+-- the bytes that one event writes on a queue: only a step of receiving writes any
+abbrev pub wrote : ℕ → State → Event Block → List ℕ
+wrote queue s event.RxStep = piece_on queue s.waiting (reply_to s event.RxStep)
+wrote queue s other = []
+
+-- after a piece was written memory has its bytes at the address that was told, unless they share some with the
+-- descriptor
+abbrev pub PieceIsReadBack : Type 0
+PieceIsReadBack =
+    (s : State) → IsSound s → (queue slot : ℕ) (end : Bool) (desc at len : ℕ) →
+    reply_to s event.RxStep ≡ Wrote queue slot end desc at len → AreApart at len desc 16 →
+    read_at (after s event.RxStep).memory at len ≡ wrote queue s event.RxStep
+
+-- faults, and a device that makes no steps
+
+-- a fault changes no memory
+abbrev pub FaultChangesNoMemory : Type 0
+FaultChangesNoMemory = (s : State) (e : Event Block) → IsTrue (is_fault (reply_to s e)) → (after s e).memory ≡ s.memory
+
+-- while CTRL bit 2 is 1 every step of a queue below 128, and of a group that there is, is idle and changes nothing
+pub record StopsAllSteps (s : State) : Type 0 where
+  pub receive : step_of s event.RxStep ≡ gives Idle s
+  pub transmit : (queue : ℕ) → queue < 128 → step_of s (event.TxStep queue) ≡ gives Idle s
+  pub interrupt : (g : Group) → IsTrue (has_group s g) → step_of s (event.IntStep g) ≡ gives Idle s
+  pub switch : (dir : Dir) (queue : ℕ) → queue < 128 → step_of s (event.QueueStep dir queue) ≡ gives Idle s
+
+abbrev pub StoppedDeviceIsIdle : Type 0
+StoppedDeviceIsIdle = (s : State) → IsTrue (is_stopped s.registers) → StopsAllSteps s

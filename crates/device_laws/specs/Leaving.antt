@@ -1,0 +1,218 @@
+-- What an event leaves alone: all that its reach misses.
+use Rattle.std.specs.Prelude.{ℕ, ◌≡◌, ◌≢◌, ◌⊎◌, Bool, ⊤, IsFalse, List, [], ◌∷◌, length, Some}
+use Rattle.std.specs.FinMap as map
+use Rattle.reg_table.specs.Rows.{row_of}
+use Rattle.reg_table.specs.declared.place.Place.{Place}
+use Rattle.dma_arena.specs.Block.{Block}
+use Rattle.dma_arena.specs.Memory.{Avoids}
+use Rattle.tx_ring.specs.Report.{report_length}
+use Rattle.intr_unit.specs.declared.group.Group.{Group}
+use Rattle.intr_unit.specs.declared.group.Group.TheVariants as group
+use Rattle.register_file.specs.Access.{asks_reset}
+use Rattle.register_file.specs.Footprint.{Misses, of_side, of_group}
+use Rattle.register_file.specs.Groups.{interrupts_of}
+use Rattle.register_file.specs.Owner.{owner_of}
+use Rattle.register_file.specs.Sides.{receive_queue_of, transmit_queue_of}
+use Rattle.register_file.specs.declared.dir.Dir.{Dir}
+use Rattle.register_file.specs.declared.dir.Dir.TheVariants.{Rx, Tx}
+use Rattle.register_file.specs.declared.owner.Owner.TheVariants as owner
+use Rattle.nic_device.specs.Footprint.{Reach, StaysWithin, reach_of, told_back}
+use Rattle.nic_device.specs.Step.{after, reply_to}
+use Rattle.nic_device.specs.State.{State, Waiting}
+use Rattle.nic_device.specs.Transmit.{staged_by}
+use Rattle.nic_device.specs.declared.event.Event.{Event}
+use Rattle.nic_device.specs.declared.event.Event.TheVariants as event
+use Rattle.nic_device.specs.declared.event.Port.{Port}
+use Rattle.nic_device.specs.declared.named.Named.TheVariants.{Register}
+use Rattle.nic_device.specs.Named.{named}
+use Rattle.nic_device.specs.declared.event.Reply.{Reply}
+use Rattle.nic_device.specs.declared.event.Reply.TheVariants.{Wrote}
+
+-- the receive side of a queue is as it was: its ring and control word, and whether it is on and wanted on
+abbrev pub LeavesReceive : ℕ → State → State → Type 0
+LeavesReceive queue old new = receive_queue_of new.registers queue ≡ receive_queue_of old.registers queue
+
+-- the transmit side of a queue is as it was: its ring, where it writes its head, whether it is on and wanted on, and
+-- its staged bytes
+pub record LeavesTransmit (queue : ℕ) (old new : State) : Type 0 where
+  pub side : transmit_queue_of new.registers queue ≡ transmit_queue_of old.registers queue
+  pub staged : staged_by new queue ≡ staged_by old queue
+
+-- the interrupts of a group are as they were: its causes, masks, auto-clear, auto-mask and told bits
+abbrev pub LeavesGroup : Group → State → State → Type 0
+LeavesGroup g old new = interrupts_of new.registers g ≡ interrupts_of old.registers g
+
+-- the lent block of a number, or that none is lent under it, is as it was
+abbrev pub LeavesBlock : ℕ → State → State → Type 0
+LeavesBlock number old new = map.get new.memory number ≡ map.get old.memory number
+
+-- the same memory is lent, with the same bytes
+abbrev pub LeavesMemory : State → State → Type 0
+LeavesMemory old new = new.memory ≡ old.memory
+
+-- both sides of every queue are as they were
+pub record LeavesQueues (old new : State) : Type 0 where
+  pub receive : (queue : ℕ) → LeavesReceive queue old new
+  pub transmit : (queue : ℕ) → LeavesTransmit queue old new
+
+-- the frames that wait, and the frames out, are as they were
+pub record LeavesFrames (old new : State) : Type 0 where
+  pub waiting : new.waiting ≡ old.waiting
+  pub out : new.out ≡ old.out
+
+-- all sides of queues but this one are as they were
+pub record LeavesOtherSides (dir : Dir) (queue : ℕ) (old new : State) : Type 0 where
+  pub receive : (other : ℕ) → (dir ≡ Tx) ⊎ (other ≢ queue) → LeavesReceive other old new
+  pub transmit : (other : ℕ) → (dir ≡ Rx) ⊎ (other ≢ queue) → LeavesTransmit other old new
+
+-- every event changes nothing outside its reach
+abbrev pub EventStaysWithinReach : Type 0
+EventStaysWithinReach = (s : State) (e : Event Block) → StaysWithin (reach_of s e) s (after s e)
+
+-- and so each side of a queue and each group stands that the reach has nothing of
+pub record LeavesMissed (r : Reach) (old new : State) : Type 0 where
+  pub receive : (queue : ℕ) → Misses r.registers (of_side Rx queue) → LeavesReceive queue old new
+  pub transmit :
+      (queue : ℕ) → Misses r.registers (of_side Tx queue) → IsFalse (r.staged queue) → LeavesTransmit queue old new
+  pub group : (g : Group) → Misses r.registers (of_group g) → LeavesGroup g old new
+
+abbrev pub EventLeavesMissed : Type 0
+EventLeavesMissed = (s : State) (e : Event Block) → LeavesMissed (reach_of s e) s (after s e)
+
+-- register accesses: a read leaves every queue, and the groups that its place is none of; a write that asks for no
+-- reset leaves the sides of queues and the groups that its place is none of
+pub record ReadLeaves (s : State) (port : Port) (number : ℕ) : Type 0 where
+  pub queues : LeavesQueues s (after s (event.Read port number))
+  pub groups :
+      (g : Group) → ((p : Place) (view : ℕ) → named s port number ≡ Register p view → owner_of p ≢ owner.Group g)
+      → LeavesGroup g s (after s (event.Read port number))
+  pub memory : LeavesMemory s (after s (event.Read port number))
+  pub frames : LeavesFrames s (after s (event.Read port number))
+
+abbrev pub ReadLeavesTheRest : Type 0
+ReadLeavesTheRest = (s : State) (port : Port) (number : ℕ) → ReadLeaves s port number
+
+pub record WriteLeaves (old new : State) (p : Place) : Type 0 where
+  pub receive : (queue : ℕ) → owner_of p ≢ owner.Side Rx queue → LeavesReceive queue old new
+  pub transmit : (queue : ℕ) → owner_of p ≢ owner.Side Tx queue → LeavesTransmit queue old new
+  pub groups : (g : Group) → owner_of p ≢ owner.Group g → LeavesGroup g old new
+  pub frames : LeavesFrames old new
+
+abbrev pub WriteLeavesTheRest : Type 0
+WriteLeavesTheRest =
+    (s : State) (port : Port) (number word : ℕ) (p : Place) (view : ℕ) → named s port number ≡ Register p view →
+    IsFalse (asks_reset (row_of p.row).kind word) → WriteLeaves s (after s (event.Write port number word)) p
+
+abbrev pub WriteLeavesMemory : Type 0
+WriteLeavesMemory =
+    (s : State) (port : Port) (number word : ℕ) → LeavesMemory s (after s (event.Write port number word))
+
+-- memory calls leave every queue and every group, and the frames. Lending and taking leave the other blocks, a look all
+-- of them, and a write those that its bytes are outside of
+pub record LeavesAllButMemory (old new : State) : Type 0 where
+  pub queues : LeavesQueues old new
+  pub groups : (g : Group) → LeavesGroup g old new
+  pub frames : LeavesFrames old new
+
+pub record MemoryCallsLeaveTheRest : Type 0 where
+  pub lend : (s : State) (block : Block) → LeavesAllButMemory s (after s (event.Lend block))
+  pub take : (s : State) (number : ℕ) → LeavesAllButMemory s (after s (event.Take number))
+  pub peek : (s : State) (address : ℕ) → LeavesAllButMemory s (after s (event.Peek16 address))
+  pub poke :
+      (s : State) (address : ℕ) (bytes : List ℕ) → LeavesAllButMemory s (after s (event.Poke16 address bytes))
+
+pub record MemoryCallsLeaveOtherBlocks : Type 0 where
+  pub lend : (s : State) (block : Block) (number : ℕ) → number ≢ block.number
+      → LeavesBlock number s (after s (event.Lend block))
+  pub take : (s : State) (taken number : ℕ) → number ≢ taken → LeavesBlock number s (after s (event.Take taken))
+  pub peek : (s : State) (address : ℕ) → LeavesMemory s (after s (event.Peek16 address))
+  pub poke :
+      (s : State) (address : ℕ) (bytes : List ℕ) (number : ℕ) → Avoids number address (length bytes)
+      → LeavesBlock number s (after s (event.Poke16 address bytes))
+
+-- an arriving frame leaves every queue, the groups of virtual functions, the memory and the frames out
+pub record ArrivalLeaves (old new : State) : Type 0 where
+  pub queues : LeavesQueues old new
+  pub groups : (g : Group) → g ≢ group.Pf → LeavesGroup g old new
+  pub memory : LeavesMemory old new
+  pub out : new.out ≡ old.out
+
+abbrev pub ArrivalLeavesTheRest : Type 0
+ArrivalLeavesTheRest = (s : State) (frame : List ℕ) → ArrivalLeaves s (after s (event.Arrive frame))
+
+-- the frame that waits longest waits for this queue
+abbrev pub IsFirstFor : ℕ → List Waiting → Type 0
+IsFirstFor queue [] = ⊥
+IsFirstFor queue (w ∷ others) = w.queue ≡ queue
+
+-- a step of receiving leaves the receive sides of the queues that the first frame doesn't wait for, all transmit sides
+-- and the frames out
+pub record ReceivingLeaves (s new : State) : Type 0 where
+  pub receive : (queue : ℕ) → ¬ IsFirstFor queue s.waiting → LeavesReceive queue s new
+  pub transmit : (queue : ℕ) → LeavesTransmit queue s new
+  pub out : new.out ≡ s.out
+
+abbrev pub ReceivingLeavesTheRest : Type 0
+ReceivingLeavesTheRest = (s : State) → ReceivingLeaves s (after s event.RxStep)
+
+-- the bytes that a reply says were received into memory are outside a block
+abbrev pub ReceivesOutside : Reply Block → ℕ → Type 0
+ReceivesOutside (Wrote queue slot end desc at len) number = Avoids number desc 16 × Avoids number at len
+ReceivesOutside other number = ⊤
+
+-- it writes the descriptor and the bytes that it tells of, and so leaves the other blocks
+abbrev pub ReceivingLeavesOtherBlocks : Type 0
+ReceivingLeavesOtherBlocks =
+    (s : State) (number : ℕ) → ReceivesOutside (reply_to s event.RxStep) number
+    → LeavesBlock number s (after s event.RxStep)
+
+-- a step of transmitting leaves all sides but that of its queue, and the frames that wait
+pub record TransmittingLeaves (queue : ℕ) (old new : State) : Type 0 where
+  pub sides : LeavesOtherSides Tx queue old new
+  pub waiting : new.waiting ≡ old.waiting
+
+abbrev pub TransmittingLeavesTheRest : Type 0
+TransmittingLeavesTheRest = (s : State) (queue : ℕ) → TransmittingLeaves queue s (after s (event.TxStep queue))
+
+-- it writes back at the address that it tells, the head or the descriptor, and so leaves the other blocks
+abbrev pub TransmittingLeavesOtherBlocks : Type 0
+TransmittingLeavesOtherBlocks =
+    (s : State) (queue number : ℕ) →
+    ((back : ℕ) → told_back (reply_to s (event.TxStep queue)) ≡ Some back
+    → Avoids number back (report_length (transmit_queue_of s.registers queue).writeback)) →
+    LeavesBlock number s (after s (event.TxStep queue))
+
+-- a step of a side's enable leaves all other sides, every group, the memory and the frames out
+pub record SwitchingLeaves (dir : Dir) (queue : ℕ) (old new : State) : Type 0 where
+  pub sides : LeavesOtherSides dir queue old new
+  pub groups : (g : Group) → LeavesGroup g old new
+  pub memory : LeavesMemory old new
+  pub out : new.out ≡ old.out
+
+abbrev pub SwitchingLeavesTheRest : Type 0
+SwitchingLeavesTheRest = (s : State) (dir : Dir) (queue : ℕ)
+    → SwitchingLeaves dir queue s (after s (event.QueueStep dir queue))
+
+-- a message of a group leaves every queue, the other groups, the memory and the frames
+pub record LeavesAllButGroup (g : Group) (old new : State) : Type 0 where
+  pub queues : LeavesQueues old new
+  pub groups : (other : Group) → other ≢ g → LeavesGroup other old new
+  pub memory : LeavesMemory old new
+  pub frames : LeavesFrames old new
+
+abbrev pub MessageLeavesTheRest : Type 0
+MessageLeavesTheRest = (s : State) (g : Group) → LeavesAllButGroup g s (after s (event.IntStep g))
+
+-- the link with the cause that it raises leaves as much beside the physical function's group
+abbrev pub LinkLeavesTheRest : Type 0
+LinkLeavesTheRest = (s : State) (up : Bool) → LeavesAllButGroup group.Pf s (after s (event.Link up))
+
+-- collecting a frame leaves every queue, every group, the memory and the frames that wait
+pub record CollectingLeaves (old new : State) : Type 0 where
+  pub queues : LeavesQueues old new
+  pub groups : (g : Group) → LeavesGroup g old new
+  pub memory : LeavesMemory old new
+  pub waiting : new.waiting ≡ old.waiting
+
+abbrev pub CollectingLeavesTheRest : Type 0
+CollectingLeavesTheRest = (s : State) → CollectingLeaves s (after s event.Collect)

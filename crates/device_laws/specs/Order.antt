@@ -1,0 +1,51 @@
+-- What a step of receiving does with the first frame that waits, by the state before it.
+use Rattle.std.specs.Prelude.{◌≡◌, ◌≢◌, IsTrue, IsFalse, List, [], ◌∷◌, Ok, Err}
+use Rattle.dma_ring.specs.declared.fault.RingFault.{RingFault}
+use Rattle.rx_ring.specs.Fill.{Outcome, fill_of}
+use Rattle.rx_ring.specs.declared.filled.Filled.{Filled}
+use Rattle.register_file.specs.Settings.{is_stopped, drops}
+use Rattle.register_file.specs.Sides.{ReceiveQueue, receive_queue_of}
+use Rattle.nic_device.specs.Step.{reply_to, step_of}
+use Rattle.nic_device.specs.Outcome.{gives}
+use Rattle.nic_device.specs.Receive.{is_empty, rest_of}
+use Rattle.nic_device.specs.State.{State, Waiting}
+use Rattle.nic_device.specs.declared.event.Event.TheVariants as event
+use Rattle.nic_device.specs.declared.event.Reply.TheVariants.{Idle, Dropped, Wrote, Fault}
+use Rattle.nic_device.specs.declared.event.Why.TheVariants.{QueueOff, NoSlot}
+
+-- the receive side that a frame waits for, and what filling the slot at its head answers
+abbrev pub side_for : State → Waiting → ReceiveQueue
+side_for s w = receive_queue_of s.registers w.queue
+
+abbrev pub filling : State → Waiting → Outcome
+filling s w = fill_of s.memory (side_for s w).ring (side_for s w).control (rest_of w)
+
+-- the first frame is dropped where its queue is off; without a slot of the device it is dropped where the queue drops
+-- and nothing of it is written, and else waits on; with one the slot is filled, or has a fault
+pub record ReceivesInOrder (s : State) (w : Waiting) (others : List Waiting) : Type 0 where
+  pub off :
+      IsFalse (side_for s w).on → step_of s event.RxStep ≡ gives (Dropped QueueOff) (record s { waiting = others })
+  pub slotless :
+      IsTrue (side_for s w).on → IsTrue (is_empty (side_for s w).ring) → IsTrue (drops s.registers w.queue)
+      → w.offset ≡ 0 → reply_to s event.RxStep ≡ Dropped NoSlot
+  pub begun :
+      IsTrue (side_for s w).on → IsTrue (is_empty (side_for s w).ring) → w.offset ≢ 0
+      → step_of s event.RxStep ≡ gives Idle s
+  pub waits :
+      IsTrue (side_for s w).on → IsTrue (is_empty (side_for s w).ring) → IsFalse (drops s.registers w.queue)
+      → step_of s event.RxStep ≡ gives Idle s
+  pub wrote :
+      IsTrue (side_for s w).on → IsFalse (is_empty (side_for s w).ring) → (f : Filled) → (filling s w).answer ≡ Ok f
+      → reply_to s event.RxStep ≡ Wrote w.queue f.slot f.end f.desc f.at f.len
+  pub fault :
+      IsTrue (side_for s w).on → IsFalse (is_empty (side_for s w).ring) → (fault : RingFault)
+      → (filling s w).answer ≡ Err fault → reply_to s event.RxStep ≡ Fault w.queue fault
+
+abbrev pub ReceivingHasAnOrder : Type 0
+ReceivingHasAnOrder =
+    (s : State) → IsFalse (is_stopped s.registers) → (w : Waiting) (others : List Waiting) → s.waiting ≡ w ∷ others →
+    ReceivesInOrder s w others
+
+abbrev pub NothingWaitsIsIdle : Type 0
+NothingWaitsIsIdle =
+    (s : State) → IsFalse (is_stopped s.registers) → s.waiting ≡ [] → step_of s event.RxStep ≡ gives Idle s

@@ -1,0 +1,35 @@
+-- What virtual functions reach, beside the physical function.
+use Rattle.std.specs.Prelude.{ℕ, ◌≡◌}
+use Rattle.vf_map.specs.Map.{mapped}
+use Rattle.vf_map.specs.declared.mapped.Mapped.TheVariants as mapped_as
+use Rattle.nic_device.specs.Interrupt.{mode_in}
+use Rattle.nic_device.specs.Outcome.{gives}
+use Rattle.nic_device.specs.State.{State}
+use Rattle.nic_device.specs.Step.{step_of}
+use Rattle.nic_device.specs.declared.event.Event.TheVariants as event
+use Rattle.nic_device.specs.declared.event.Port.TheVariants.{Pf, Vf}
+use Rattle.nic_device.specs.declared.event.Reply.TheVariants.{Stray}
+
+-- two accesses through ports have one reply and one state, as reads and as writes
+pub record AreOneAccess (s : State) (v offset address : ℕ) : Type 0 where
+  pub read : step_of s (event.Read (Vf v) offset) ≡ step_of s (event.Read Pf address)
+  pub write : (word : ℕ) → step_of s (event.Write (Vf v) offset word) ≡ step_of s (event.Write Pf address word)
+
+-- an access of a virtual function is the physical function's access at the address that its offset is mapped to
+abbrev pub AccessIsThePhysicalFunctions : Type 0
+AccessIsThePhysicalFunctions =
+    (s : State) (v offset address : ℕ) → mapped (mode_in s.registers) s.vfs v offset ≡ mapped_as.Pf address →
+    AreOneAccess s v offset address
+
+-- an access meets nothing: a read sees a word, a write is stray, and nothing changes
+pub record MeetsNothing (s : State) (v offset seen : ℕ) : Type 0 where
+  pub read : step_of s (event.Read (Vf v) offset) ≡ gives (Stray seen) s
+  pub write : (word : ℕ) → step_of s (event.Write (Vf v) offset word) ≡ gives (Stray 0) s
+
+-- a hole reads as 0; a function that isn't there, or has no pool, as all ones
+pub record HolesAndAbsentFunctions (s : State) (v offset : ℕ) : Type 0 where
+  pub hole : mapped (mode_in s.registers) s.vfs v offset ≡ mapped_as.Hole → MeetsNothing s v offset 0
+  pub absent : mapped (mode_in s.registers) s.vfs v offset ≡ mapped_as.Absent → MeetsNothing s v offset 0xFFFFFFFF
+
+abbrev pub HolesAndAbsentFunctionsMeetNothing : Type 0
+HolesAndAbsentFunctionsMeetNothing = (s : State) (v offset : ℕ) → HolesAndAbsentFunctions s v offset

@@ -1,0 +1,93 @@
+-- Which causes an event raises, by its reply.
+use Rattle.std.specs.Prelude.{ℕ, ◌≡◌, false, ⊤, Option, Some, None, if◌then◌else◌}
+use Rattle.dma_arena.specs.Block.{Block}
+use Rattle.intr_unit.specs.Group.{queue_causes}
+use Rattle.intr_unit.specs.Interrupts.{Interrupts, raised}
+use Rattle.intr_unit.specs.declared.group.Group.{Group}
+use Rattle.intr_unit.specs.declared.group.Group.TheVariants as group
+use Rattle.register_file.specs.Groups.{interrupts_of, vector_entry}
+use Rattle.register_file.specs.Owner.{is_group}
+use Rattle.register_file.specs.declared.dir.Dir.{Dir}
+use Rattle.register_file.specs.declared.dir.Dir.TheVariants.{Rx, Tx}
+use Rattle.nic_device.specs.Interrupt.{group_of_queue, missed_cause, fault_cause, link_cause}
+use Rattle.nic_device.specs.Step.{after, reply_to}
+use Rattle.nic_device.specs.Sound.{IsSound}
+use Rattle.nic_device.specs.State.{State}
+use Rattle.nic_device.specs.declared.event.Event.{Event}
+use Rattle.nic_device.specs.declared.event.Event.TheVariants as event
+use Rattle.nic_device.specs.declared.event.Reply.{Reply}
+use Rattle.nic_device.specs.declared.event.Reply.TheVariants.{Done, Dropped, Wrote, Advanced, Sent, Fault}
+use Rattle.nic_device.specs.declared.event.Why.{Why}
+use Rattle.nic_device.specs.declared.event.Why.TheVariants.{Full}
+
+-- causes of a group
+pub record Causes : Type 0 where
+  pub group : Group
+  pub bits : ℕ
+
+-- a cause of the physical function
+abbrev pub device_cause : ℕ → Causes
+device_cause bits = record { group = group.Pf; bits = bits }
+
+-- what a side of a queue raises, in the group of its queue: what IVAR or PVTIVAR says
+abbrev pub queue_cause : State → Dir → ℕ → Causes
+queue_cause s dir queue =
+    let g = group_of_queue s.registers s.vfs queue in
+    record { group = g; bits = queue_causes g (vector_entry s.registers g dir queue) }
+
+-- a frame that arrives raises a cause where it finds the list full
+abbrev pub raised_dropped : Why → Option Causes
+raised_dropped Full = Some (device_cause missed_cause)
+raised_dropped other = None
+
+abbrev pub raised_arrived : Reply Block → Option Causes
+raised_arrived (Dropped why) = raised_dropped why
+raised_arrived other = None
+
+-- a step of receiving raises its queue's receive cause where a frame ends
+abbrev pub raised_received : State → Reply Block → Option Causes
+raised_received s (Wrote queue slot end desc at len) = if end then Some (queue_cause s Rx queue) else None
+raised_received s (Fault queue fault) = Some (device_cause fault_cause)
+raised_received s other = None
+
+-- a step of transmitting raises its queue's transmit cause where it writes a report back
+abbrev pub raised_reported : State → ℕ → Option ℕ → Option Causes
+raised_reported s queue (Some back) = Some (queue_cause s Tx queue)
+raised_reported s queue None = None
+
+abbrev pub raised_sent : State → Reply Block → Option Causes
+raised_sent s (Advanced queue slot back) = raised_reported s queue back
+raised_sent s (Sent queue len back) = raised_reported s queue back
+raised_sent s (Fault queue fault) = Some (device_cause fault_cause)
+raised_sent s other = None
+
+-- the link raises a cause where it changes
+abbrev pub raised_linked : Reply Block → Option Causes
+raised_linked Done = Some (device_cause link_cause)
+raised_linked other = None
+
+-- the causes that an event raises, if any
+abbrev pub raises : State → Event Block → Reply Block → Option Causes
+raises s (event.Arrive frame) reply = raised_arrived reply
+raises s event.RxStep reply = raised_received s reply
+raises s (event.TxStep queue) reply = raised_sent s reply
+raises s (event.Link up) reply = raised_linked reply
+raises s other reply = None
+
+-- the interrupts of a group after causes were raised
+abbrev pub after_causes : Option Causes → Group → Interrupts → Interrupts
+after_causes (Some c) g i = if is_group c.group g then raised i c.bits false else i
+after_causes None g i = i
+
+-- an event that isn't a register access or a message
+abbrev pub IsOfTheDevice : Event Block → Type 0
+IsOfTheDevice (event.Read port number) = ⊥
+IsOfTheDevice (event.Write port number word) = ⊥
+IsOfTheDevice (event.IntStep g) = ⊥
+IsOfTheDevice other = ⊤
+
+-- such an event makes 1 of each group's interrupts what it raises, and leaves the rest
+abbrev pub EventsRaise : Type 0
+EventsRaise =
+    (s : State) → IsSound s → (e : Event Block) → IsOfTheDevice e → (g : Group) →
+    interrupts_of (after s e).registers g ≡ after_causes (raises s e (reply_to s e)) g (interrupts_of s.registers g)

@@ -1,0 +1,120 @@
+-- What the reply to a step tells a driver of the state after it.
+use Rattle.std.specs.Prelude.{ℕ, ◌≡◌, ◌≢◌, ◌+◌, ◌*◌, ◌/◌, ◌%◌, ◌^◌, false, ⊤, List, [], ◌∷◌, ◌++◌, length, Option, Some, if◌then◌else◌}
+use Rattle.dma_arena.specs.Block.{Block}
+use Rattle.dma_ring.specs.declared.ring.Ring.{Ring}
+use Rattle.dma_ring.specs.Ring.{slots_of, next_of, descriptor_address}
+use Rattle.reg_table.specs.declared.rows.RowId.TheVariants.{Tdwbal, Tdwbah}
+use Rattle.register_file.specs.Bits.{has_bit}
+use Rattle.register_file.specs.Queue.{ring_of}
+use Rattle.register_file.specs.Registers.{Registers, word_of}
+use Rattle.register_file.specs.Sides.{receive_queue_of, transmit_queue_of}
+use Rattle.register_file.specs.declared.dir.Dir.TheVariants.{Rx, Tx}
+use Rattle.nic_device.specs.Step.{after, reply_to, step_of}
+use Rattle.device_laws.specs.Leaving.{IsFirstFor}
+use Rattle.nic_device.specs.Outcome.{gives}
+use Rattle.nic_device.specs.Sound.{IsSound}
+use Rattle.nic_device.specs.State.{State}
+use Rattle.nic_device.specs.Transmit.{staged_by}
+use Rattle.nic_device.specs.declared.event.Event.{Event}
+use Rattle.nic_device.specs.declared.event.Event.TheVariants as event
+use Rattle.nic_device.specs.declared.event.Reply.{Reply}
+use Rattle.nic_device.specs.declared.event.Reply.TheVariants.{Wrote, Advanced, Sent, Fault, Frame, Misaligned}
+
+-- a ring with its head moved on to the next slot
+abbrev pub moved_on : Ring → Ring
+moved_on ring = record ring { head = next_of (slots_of ring) ring.head }
+
+-- a receive side took a slot for the first frame that waits: the one at its head, which moves on, and all else of the
+-- side is as it was
+pub record TookReceive (queue slot : ℕ) (old new : State) : Type 0 where
+  pub first : IsFirstFor queue old.waiting
+  pub at_head : slot ≡ (ring_of old.registers Rx queue).head
+  pub side :
+      receive_queue_of new.registers queue
+      ≡ record (receive_queue_of old.registers queue) { ring = moved_on (ring_of old.registers Rx queue) }
+
+-- a receive side was shut by the first frame that waits: it is off and not wanted on, and else as it was
+pub record ShutReceive (queue : ℕ) (old new : State) : Type 0 where
+  pub first : IsFirstFor queue old.waiting
+  pub side :
+      receive_queue_of new.registers queue
+      ≡ record (receive_queue_of old.registers queue) { on = false; wanted = false }
+
+-- what a step of receiving tells
+abbrev pub received_tells : Reply Block → State → State → Type 0
+received_tells (Wrote queue slot end desc at len) old new = TookReceive queue slot old new
+received_tells (Fault queue fault) old new = ShutReceive queue old new
+received_tells other old new = ⊤
+
+-- where a queue reports: at its head write-back address while TDWBAL bit 0 is 1, else in the descriptor at its head
+abbrev pub report_of : Registers → ℕ → ℕ
+report_of r queue =
+    if has_bit 0 (word_of r Tdwbal queue)
+    then word_of r Tdwbah queue * 2 ^ 32 + 4 * (word_of r Tdwbal queue / 4)
+    else descriptor_address (ring_of r Tx queue) (ring_of r Tx queue).head
+
+-- the transmit side of a step's own queue took the slot at its head, which moves on, and all else of the side is as it
+-- was; a report that is told is where the queue reports
+pub record TookTransmit (own queue : ℕ) (back : Option ℕ) (old new : State) : Type 0 where
+  pub named : queue ≡ own
+  pub side :
+      transmit_queue_of new.registers own
+      ≡ record (transmit_queue_of old.registers own) { ring = moved_on (ring_of old.registers Tx own) }
+  pub reported : (address : ℕ) → back ≡ Some address → address ≡ report_of old.registers own
+
+-- the transmit side of a step's own queue was shut: it is off, not wanted on, has nothing staged, and is else as it was
+pub record ShutTransmit (own queue : ℕ) (old new : State) : Type 0 where
+  pub named : queue ≡ own
+  pub side :
+      transmit_queue_of new.registers own
+      ≡ record (transmit_queue_of old.registers own) { on = false; wanted = false }
+  pub staged : staged_by new own ≡ []
+
+-- what a step of transmitting tells
+abbrev pub sent_tells : ℕ → Reply Block → State → State → Type 0
+sent_tells own (Advanced queue slot back) old new =
+    TookTransmit own queue back old new × (slot ≡ (ring_of old.registers Tx own).head)
+sent_tells own (Sent queue len back) old new = TookTransmit own queue back old new
+sent_tells own (Fault queue fault) old new = ShutTransmit own queue old new
+sent_tells own other old new = ⊤
+
+abbrev pub ReceivingTells : Type 0
+ReceivingTells = (s : State) → IsSound s → received_tells (reply_to s event.RxStep) s (after s event.RxStep)
+
+abbrev pub TransmittingTells : Type 0
+TransmittingTells =
+    (s : State) → IsSound s → (queue : ℕ) →
+    sent_tells queue (reply_to s (event.TxStep queue)) s (after s (event.TxStep queue))
+
+-- a frame of so many bytes joined the frames out, last of all
+pub record AddsFrame (queue len : ℕ) (old new : State) : Type 0 where
+  pub frame : List ℕ
+  pub long : length frame ≡ len
+  pub out : new.out ≡ old.out ++ (queue, frame) ∷ []
+
+-- the frames out after a step of transmitting, and after one was collected, the oldest
+abbrev pub out_sent : Reply Block → State → State → Type 0
+out_sent (Sent queue len back) old new = AddsFrame queue len old new
+out_sent other old new = new.out ≡ old.out
+
+abbrev pub out_collected : Reply Block → State → State → Type 0
+out_collected (Frame queue bytes) old new = old.out ≡ (queue, bytes) ∷ new.out
+out_collected other old new = new.out ≡ old.out
+
+-- the frames out after an event: one joins exactly where a step of transmitting tells it as sent, one goes exactly
+-- where it is collected, and no other event changes them
+abbrev pub out_after : Event Block → Reply Block → State → State → Type 0
+out_after (event.TxStep queue) reply old new = out_sent reply old new
+out_after event.Collect reply old new = out_collected reply old new
+out_after other reply old new = new.out ≡ old.out
+
+abbrev pub EventsMoveFramesOut : Type 0
+EventsMoveFramesOut = (s : State) (e : Event Block) → out_after e (reply_to s e) s (after s e)
+
+-- 16 bytes at no multiple of 16 are neither read nor written: nothing changes
+pub record RefusesMisaligned (s : State) (address : ℕ) : Type 0 where
+  pub peek : step_of s (event.Peek16 address) ≡ gives Misaligned s
+  pub poke : (bytes : List ℕ) → step_of s (event.Poke16 address bytes) ≡ gives Misaligned s
+
+abbrev pub MisalignedChangesNothing : Type 0
+MisalignedChangesNothing = (s : State) (address : ℕ) → address % 16 ≢ 0 → RefusesMisaligned s address

@@ -1,0 +1,8 @@
+pub mod Steps
+pub mod Places
+pub mod Running
+pub mod Sharing
+pub mod Leaving
+pub mod Moves
+pub mod Runs
+pub mod Jumps

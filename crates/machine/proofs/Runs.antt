@@ -1,0 +1,66 @@
+-- The device of a machine is where the events that it made lead.
+use Rattle.std.proofs.Common.{◌≡◌, refl, sym, ◌∙◌, ap, ℕ, zero, suc, Bool, true, false, cond, List, [], ◌∷◌, ◌++◌, Option, Some, None}
+use Rattle.dma_arena.specs.Block.{Block, zero_block}
+use Rattle.nic_device.specs.Run.{state_after}
+use Rattle.nic_device.specs.State.{State, new_state}
+use Rattle.nic_device.specs.Step.{step_of}
+use Rattle.nic_device.specs.declared.Event.{Event}
+use Rattle.nic_device.specs.declared.Event.TheVariants as event
+use Rattle.machine.specs.Deed.{deed_of}
+use Rattle.machine.specs.Laws.{MachinesRunTheirDevice}
+use Rattle.machine.specs.Machine.{Step, acted, done, events_of, events_if_some, events_until, executed_if_some, next_instruction, machine_step, machine_at}
+use Rattle.machine.specs.MachineState.{MachineState}
+use Rattle.machine.specs.declared.deed.Deed.{Deed}
+use Rattle.machine.specs.declared.deed.Deed.TheVariants.{Make, Lend, TakeBack, Arrive, Local}
+use Rattle.machine.specs.declared.deed.LocalDeed.{LocalDeed}
+use Rattle.machine.specs.declared.deed.LocalDeed.TheVariants as act
+use Rattle.program.specs.Listing.{Listing}
+use Rattle.program.specs.declared.instruction.Instruction.{Instruction}
+
+device-either : (device : State) (b : Bool) (x y : MachineState) → x.device ≡ device → y.device ≡ device
+    → (cond b x y).device ≡ device
+device-either device true x y h k = h
+device-either device false x y h k = k
+
+device-acted : (program : Listing) (s : MachineState) (deed : LocalDeed) → (acted program s deed).device ≡ s.device
+device-acted program s (act.Expect want mask) = device-either s.device _ _ _ refl refl
+device-acted program s (act.And word) = refl
+device-acted program s (act.JumpIfEqual word target) = refl
+device-acted program s (act.JumpUnlessEqual word target) = refl
+device-acted program s (act.Jump target) = refl
+device-acted program s act.Halt = refl
+
+device-step : (device : State) (b : Bool) (x y : Step) (made : List (Event Block))
+    → x.state.device ≡ state_after device made → y.state.device ≡ device
+    → (cond b x y).state.device ≡ state_after device (cond b made [])
+device-step device true x y made h k = h
+device-step device false x y made h k = k
+
+device-done : (program : Listing) (s : MachineState) (deed : Deed)
+    → (done program s deed).state.device ≡ state_after s.device (events_of program s deed)
+device-done program s (Make event kept) = refl
+device-done program s (Lend block) = device-step s.device _ _ _ (event.Lend (zero_block block) ∷ []) refl refl
+device-done program s (TakeBack block) = refl
+device-done program s (Arrive number) = refl
+device-done program s (Local deed) = device-acted program s deed
+
+device-next : (program : Listing) (s : MachineState) (next : Option (Instruction ℕ ℕ))
+    → (executed_if_some program s next).state.device ≡ state_after s.device (events_if_some program s next)
+device-next program s None = refl
+device-next program s (Some instruction) = device-done program s (deed_of program instruction)
+
+-- events in two parts
+state_after-append : (s : State) (front back : List (Event Block))
+    → state_after s (front ++ back) ≡ state_after (state_after s front) back
+state_after-append s [] back = refl
+state_after-append s (e ∷ front) back = state_after-append (step_of s e).state front back
+
+pub machines_run_their_device : MachinesRunTheirDevice
+unfolding machine_at machine_step events_until
+machines_run_their_device program config zero = refl
+machines_run_their_device program config (suc n) =
+    let s = machine_at program config n in
+    let more = events_if_some program s (next_instruction program s) in
+    device-next program s (next_instruction program s)
+    ∙ ap (λ device. state_after device more) (machines_run_their_device program config n)
+    ∙ sym (state_after-append (new_state config.vfs config.fifo) (events_until program config n) more)

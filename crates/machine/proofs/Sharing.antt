@@ -1,0 +1,155 @@
+-- Each block of a machine is free or lent, and stays one of both.
+use Rattle.std.proofs.Common.{◌≡◌, refl, sym, ◌∙◌, ap, ℕ, zero, suc, ◌-◌, ◌<◌, ◌≤◌, Bool, true, false, not, is_some, List, [], ◌∷◌, get_or, slice_set, Option, Some, None, arith, inl, inr}
+use Rattle.std.specs.FinMap as map
+use Rattle.std.specs.Ordering.{nat_cmp}
+use Rattle.std.proofs.lemmas.Bool.Decides.{eqb_tells}
+use Rattle.std.proofs.lemmas.Bool.{cases_lt}
+use Rattle.std.proofs.lemmas.List.{length-set, length-replicate}
+use Rattle.dma_arena.specs.Block.{Block}
+use Rattle.dma_arena.specs.Memory.{Memory, has_block, block_at, SameLent}
+use Rattle.dma_arena.specs.Numbers.{Numbers, is_own, is_free, are_all_free, with_free}
+use Rattle.dma_arena.proofs.Arenas.{own_of_within, own_within, is_own-of_free, is_free_from, is_free-with_free_same, is_free-with_free_other, is_own-all_free, is_free-all_free, CountsFree-numbers}
+use Rattle.dma_arena.proofs.Bus.{get-insert_same, get-insert_other, get-remove_same, get-remove_other}
+use Rattle.machine.specs.Board.{AreShared, all_blocks}
+
+-- a machine's arena owns its numbers
+pub own_shared : (m : Memory) (a : Numbers) (n : ℕ) → AreShared m a → n < 256 → is_own a n ≡ true
+own_shared m a n h small = own_of_within a n (omega (arith, h.first)) (omega (arith, h.first, h.count))
+
+own_small : (m : Memory) (a : Numbers) (n : ℕ) → AreShared m a → is_own a n ≡ true → n < 256
+own_small m a n h own = let within = own_within a n own in omega (arith, within.1, h.first, h.count)
+
+-- a lent block isn't free
+pub lent_away : (m : Memory) (a : Numbers) (n : ℕ) → AreShared m a → has_block m n ≡ true → is_free a n ≡ false
+lent_away m a n h lent = h.either n (h.few n lent) ∙ ap not lent
+
+not_true : (b : Bool) → not b ≡ true → b ≡ false
+not_true true e = cc
+not_true false e = refl
+
+-- a free block isn't lent
+pub free_not_lent : (m : Memory) (a : Numbers) (n : ℕ) → AreShared m a → is_free a n ≡ true → has_block m n ≡ false
+free_not_lent m a n h free =
+    not_true (has_block m n) (sym (h.either n (own_small m a n h (is_own-of_free a n free))) ∙ free)
+
+-- a block comes back, and is free
+pub shared-taken : (m : Memory) (a : Numbers) (n : ℕ) → AreShared m a → has_block m n ≡ true
+    → AreShared (map.remove m n) (with_free a n true)
+shared-taken m a n h lent =
+    let own = own_shared m a n h (h.few n lent) in
+    record {
+      first = h.first;
+      count = length-set a.free (n - a.first) true ∙ h.count;
+      either = λ q small. elim (eqb_tells q n) [
+        | inl (test, is) ↦ rw is
+            (is_free-with_free_same a n true own ∙ ap (λ o. not (is_some o)) (sym (get-remove_same m n)))
+        | inr (test, other) ↦ is_free-with_free_other a n true q own other ∙ h.either q small
+            ∙ ap (λ o. not (is_some o)) (sym (get-remove_other m n q other))
+      ];
+      few = λ q has. elim (eqb_tells q n) [
+        | inl (test, is) ↦ rw is (h.few n lent)
+        | inr (test, other) ↦ h.few q (ap is_some (sym (get-remove_other m n q other)) ∙ has)
+      ];
+    }
+
+-- a free block is lent
+pub shared-lent : (m : Memory) (a : Numbers) (n : ℕ) (bytes : List ℕ) → AreShared m a → is_free a n ≡ true
+    → AreShared (map.insert m n bytes) (with_free a n false)
+shared-lent m a n bytes h free =
+    let own = is_own-of_free a n free in
+    let inside = own_small m a n h own in
+    record {
+      first = h.first;
+      count = length-set a.free (n - a.first) false ∙ h.count;
+      either = λ q small. elim (eqb_tells q n) [
+        | inl (test, is) ↦ rw is
+            (is_free-with_free_same a n false own ∙ ap (λ o. not (is_some o)) (sym (get-insert_same m n bytes)))
+        | inr (test, other) ↦ is_free-with_free_other a n false q own other ∙ h.either q small
+            ∙ ap (λ o. not (is_some o)) (sym (get-insert_other m n bytes q other))
+      ];
+      few = λ q has. elim (eqb_tells q n) [
+        | inl (test, is) ↦ rw is inside
+        | inr (test, other) ↦ h.few q (ap is_some (sym (get-insert_other m n bytes q other)) ∙ has)
+      ];
+    }
+
+-- writes move no block
+pub shared-same : (m n : Memory) (a : Numbers) → AreShared m a → SameLent n m → AreShared n a
+shared-same m n a h same = record {
+  first = h.first;
+  count = h.count;
+  either = λ q small. h.either q small ∙ ap not (sym (same q));
+  few = λ q has. h.few q (sym (same q) ∙ has);
+}
+
+none_has : (m : Memory) (q : ℕ) → m ≡ map.empty → has_block m q ≡ false
+none_has m q none = ap (λ (n : Memory). has_block n q) none ∙ ap is_some (map.get-empty nat_cmp q)
+
+-- at first all are free
+pub shared-new : (m : Memory) → m ≡ map.empty → AreShared m all_blocks
+shared-new m none = record {
+  first = refl;
+  count = length-replicate 256 true;
+  either = λ q small. is_free-all_free 0 256 q ∙ is_own-all_free 0 256 q (omega arith) (omega arith)
+      ∙ ap not (sym (none_has m q none));
+  few = λ q has. (let no : false ≡ true = sym (none_has m q none) ∙ has in cc);
+}
+
+-- where no block is lent, all are free
+pub all_free_at_last : (m : Memory) (a : Numbers) → AreShared m a → ((n : ℕ) → has_block m n ≡ false)
+    → are_all_free a ≡ true
+all_free_at_last m a h none =
+    (CountsFree-numbers a).all.1 (λ n own. h.either n (own_small m a n h own) ∙ ap not (none n))
+
+set_back : (xs : List Bool) (k : ℕ) → get_or xs k false ≡ true → slice_set (slice_set xs k false) k true ≡ xs
+set_back [] k e = cc
+set_back (x ∷ xs) zero e = ap (λ y. y ∷ xs) (sym e)
+set_back (x ∷ xs) (suc k) e = ap (λ ys. x ∷ ys) (set_back xs k e)
+
+-- a block that was taken and is given back
+pub with_free-back : (a : Numbers) (n : ℕ) → is_free a n ≡ true → with_free (with_free a n false) n true ≡ a
+with_free-back a n free =
+    let low = (own_within a n (is_own-of_free a n free)).0 in
+    ap (λ xs. record a { free = xs }) (set_back a.free (n - a.first) (sym (is_free_from a n low) ∙ free))
+
+-- what is taken from lent memory
+pub taken_block : (m : Memory) (n : ℕ) (b : Block) (found : Option (List ℕ)) → map.get m n ≡ found
+    → block_at m n ≡ Some b → (b.number ≡ n) × (has_block m n ≡ true)
+taken_block m n b None is e = (let no : None ≡ Some b = rw is at e in cc)
+taken_block m n b (Some bytes) is e =
+    (let same : Some (let block : Block = record { number = n; bytes = bytes } in block) ≡ Some b = rw is at e in
+    let block : (let block : Block = record { number = n; bytes = bytes } in block) ≡ b = cc in
+    (sym (ap (λ (x : Block). x.number) block), ap is_some is))
+
+pub no_block : (m : Memory) (n : ℕ) (found : Option (List ℕ)) → map.get m n ≡ found → block_at m n ≡ None
+    → has_block m n ≡ false
+no_block m n None is e = ap is_some is
+no_block m n (Some bytes) is e = (let no : Some _ ≡ None = rw is at e in cc)
+
+pub returned-shared : (m after : Memory) (a given : Numbers) (n : ℕ) (b : Block) → AreShared m a
+    → block_at m n ≡ Some b → after ≡ map.remove m n
+    → given ≡ with_free a b.number true → AreShared after given
+returned-shared m after a given n b h found left back =
+    let block = taken_block m n b (map.get m n) refl found in
+    rw (left, back, block.0) (shared-taken m a n h block.1)
+
+pub removed_same : (m : Memory) (n : ℕ) → has_block (map.remove m n) n ≡ false
+removed_same m n = ap is_some (get-remove_same m n)
+
+pub removed_other : (m : Memory) (n other : ℕ) → has_block m other ≡ false → has_block (map.remove m n) other ≡ false
+removed_other m n other away = elim (eqb_tells other n) [
+  | inl (test, is) ↦ rw is (removed_same m n)
+  | inr (test, differs) ↦ ap is_some (get-remove_other m n other differs) ∙ away
+]
+
+far_not_lent : (m : Memory) (a : Numbers) (n : ℕ) (b : Bool) → AreShared m a → 256 ≤ n → has_block m n ≡ b → b ≡ false
+far_not_lent m a n true h far is = (let small : n < 256 = h.few n is in absurd (omega arith))
+far_not_lent m a n false h far is = refl
+
+-- no block is lent, where none of the 256 is
+pub none_lent : (m : Memory) (a : Numbers) (n : ℕ) → AreShared m a → (n < 256 → has_block m n ≡ false)
+    → has_block m n ≡ false
+none_lent m a n h below = elim (cases_lt n 256) [
+  | inl small ↦ below small
+  | inr far ↦ far_not_lent m a n (has_block m n) h far refl
+]

@@ -1,0 +1,87 @@
+-- A machine stands where its steps lead.
+use Rattle.std.proofs.Common.{◌≡◌, ◌⊎◌, refl, sym, ◌∙◌, ap, ℕ, suc, ◌+◌, Bool, true, false, cond, Option, Some, None, inl, inr, ⊎_elim, add-one, Result, Ok, Err, OnOk, OnErr}
+use Rattle.nic_device.specs.State.{new_state}
+use Rattle.nic_device.specs.declared.Config.{Config}
+use Rattle.machine.specs.Board.{Holdings, all_blocks}
+use Rattle.machine.specs.Deed.{deed_of}
+use Rattle.machine.specs.MachineState.{MachineState}
+use Rattle.machine.specs.Machine.{Step, start_of, status_at, acted, done, executed_if_some, next_instruction, machine_step, machine_at}
+use Rattle.machine.specs.Processor.{IsWhereStepsLead}
+use Rattle.machine.specs.declared.deed.Deed.{Deed}
+use Rattle.machine.specs.declared.deed.Deed.TheVariants.{Make, Lend, TakeBack, Arrive, Local}
+use Rattle.machine.specs.declared.deed.LocalDeed.{LocalDeed}
+use Rattle.machine.specs.declared.deed.LocalDeed.TheVariants as act
+use Rattle.program.specs.Listing.{Listing}
+use Rattle.program.specs.declared.instruction.Instruction.{Instruction}
+
+either_state : (s : MachineState) (b : Bool) (x y : MachineState) → x.steps ≡ s.steps + 1 → y.steps ≡ s.steps + 1
+    → (cond b x y).steps ≡ s.steps + 1
+either_state s true x y h k = h
+either_state s false x y h k = k
+
+either_step : (s : MachineState) (b : Bool) (x y : Step) → x.state.steps ≡ s.steps + 1 → y.state.steps ≡ s.steps + 1
+    → (cond b x y).state.steps ≡ s.steps + 1
+either_step s true x y h k = h
+either_step s false x y h k = k
+
+steps-acted : (program : Listing) (s : MachineState) (deed : LocalDeed) → (acted program s deed).steps ≡ s.steps + 1
+steps-acted program s (act.Expect want mask) = either_state s _ _ _ refl refl
+steps-acted program s (act.And word) = refl
+steps-acted program s (act.JumpIfEqual word target) = refl
+steps-acted program s (act.JumpUnlessEqual word target) = refl
+steps-acted program s (act.Jump target) = refl
+steps-acted program s act.Halt = refl
+
+-- an executed instruction counts one step
+pub steps-done : (program : Listing) (s : MachineState) (deed : Deed) → (done program s deed).state.steps ≡ s.steps + 1
+steps-done program s (Make event kept) = refl
+steps-done program s (Lend block) = either_step s _ _ _ refl refl
+steps-done program s (TakeBack block) = refl
+steps-done program s (Arrive number) = refl
+steps-done program s (Local deed) = steps-acted program s deed
+
+-- a step counts, or leaves the machine as it is
+counts_or_stays : (program : Listing) (s : MachineState) (next : Option (Instruction ℕ ℕ))
+    → ((executed_if_some program s next).state ≡ s) ⊎ ((executed_if_some program s next).state.steps ≡ suc s.steps)
+counts_or_stays program s None = inl refl
+counts_or_stays program s (Some instruction) =
+    inr (steps-done program s (deed_of program instruction) ∙ add-one s.steps)
+
+pub leads-start : (program : Listing) (config : Config) (s : MachineState) → s ≡ start_of program config
+    → IsWhereStepsLead program config s
+unfolding machine_at
+leads-start program config s new = new ∙ ap (λ (t : MachineState). machine_at program config t.steps) (sym new)
+
+pub leads-new : (program : Listing) (config : Config) (board : Holdings) (s : MachineState)
+    → board ≡ record { device = new_state config.vfs config.fifo; arena = all_blocks }
+    → s ≡ record {
+      device = board.device;
+      arena = board.arena;
+      pc = 0;
+      acc = 0;
+      status = status_at program 0;
+      steps =
+          0;
+    } → IsWhereStepsLead program config s
+leads-new program config board s new made =
+    leads-start program config s
+    (made ∙ ap (λ (b : Holdings). record
+    { device = b.device; arena = b.arena; pc = 0; acc = 0; status = status_at program 0; steps = 0 }) new)
+
+pub leads-step : (program : Listing) (config : Config) (s : MachineState) → IsWhereStepsLead program config s
+    → IsWhereStepsLead program config (machine_step program s).state
+unfolding machine_step machine_at
+leads-step program config s here =
+    let after = (executed_if_some program s (next_instruction program s)).state in ⊎_elim
+    (λ (stays : after ≡ s). stays ∙ here ∙ ap (λ (t : MachineState). machine_at program config t.steps) (sym stays))
+    (λ (counts : after.steps ≡ suc s.steps). ap (λ t. (machine_step program t).state) here
+    ∙ ap (machine_at program config) (sym counts))
+    (counts_or_stays program s (next_instruction program s))
+
+-- also where the step may have been refused
+pub leads-tried : {A E : Type 0} (program : Listing) (config : Config) (s after : MachineState) (result : Result A E)
+    → IsWhereStepsLead program config s
+    → OnOk result (after ≡ (machine_step program s).state) → OnErr result (after ≡ s)
+    → IsWhereStepsLead program config after
+leads-tried program config s after (Ok answer) here made refused = rw made (leads-step program config s here)
+leads-tried program config s after (Err e) here made refused = rw refused here

@@ -1,0 +1,15 @@
+use Rattle.std.proofs.Common.{◌≡◌, false, true, arith}
+use Rattle.machine.proofs.Sharing.{none_lent, all_free_at_last}
+use Rattle.machine.proofs.board.close.Goals as goal
+
+pub end_memory-requires : goal.end_memory-requires
+end_memory-requires c =
+    λ number. none_lent c.loop-number.memory c.loop-number.arena number c.loop-number.invariant.shared
+    (λ small. c.loop-number.invariant.taken number (omega arith))
+
+pub unreachable-requires : goal.unreachable-requires
+unreachable-requires c =
+    let all = all_free_at_last c.loop-number.memory c.loop-number.arena c.loop-number.invariant.shared
+    (λ number. none_lent c.loop-number.memory c.loop-number.arena number c.loop-number.invariant.shared
+    (λ small. c.loop-number.invariant.taken number (omega arith))) in
+    let no : false ≡ true = c.in-Err.ensures.ok.1 all in cc

@@ -1,0 +1,56 @@
+-- What the definitions of the machine come to.
+use Rattle.std.specs.Prelude.{◌≡◌, ◌≢◌, ℕ, ◌+◌, ◌-◌, ◌^◌, ◌<◌, Some}
+use Rattle.nic_device.specs.Run.{state_after}
+use Rattle.nic_device.specs.State.{new_state}
+use Rattle.nic_device.specs.declared.Config.{Config}
+use Rattle.machine.specs.Machine.{next_instruction, machine_step, machine_at, events_until}
+use Rattle.machine.specs.MachineState.{MachineState}
+use Rattle.machine.specs.declared.machine.Status.TheVariants.{Running}
+use Rattle.machine.specs.declared.machine.StepAnswer.TheVariants.{Stopped}
+use Rattle.program.specs.Listing.{Listing, IsListing}
+use Rattle.program.specs.declared.instruction.Instruction.TheVariants as instr
+
+-- a step that is answered `Stopped` leaves the machine as it is, any other counts one
+pub record StepsCount : Type 0 where
+  pub stays : (program : Listing) (s : MachineState) → (machine_step program s).answer ≡ Stopped
+      → (machine_step program s).state ≡ s
+  pub counts : (program : Listing) (s : MachineState) → (machine_step program s).answer ≢ Stopped
+      → (machine_step program s).state.steps ≡ s.steps + 1
+
+-- a machine that has ended or failed stops, and one that runs makes its step, up to 2^64 - 1 of them
+pub record RunningMachinesStep : Type 0 where
+  pub stops : (program : Listing) (s : MachineState) → s.status ≢ Running → (machine_step program s).answer ≡ Stopped
+  pub steps : (program : Listing) (config : Config) (n : ℕ) → IsListing program
+      → (machine_at program config n).status ≡ Running
+      → (machine_at program config n).steps < 2 ^ 64 - 1
+      → (machine_step program (machine_at program config n)).answer ≢ Stopped
+
+-- a machine that stops after n steps stays so for all further ones
+abbrev pub StoppedMachinesStay : Type 0
+StoppedMachinesStay = (program : Listing) (config : Config) (n more : ℕ)
+    → (machine_step program (machine_at program config n)).answer ≡ Stopped
+    → machine_at program config (n + more) ≡ machine_at program config n
+
+-- the device of a machine after n steps is where the events that they made lead from a new device
+abbrev pub MachinesRunTheirDevice : Type 0
+MachinesRunTheirDevice = (program : Listing) (config : Config) (n : ℕ)
+    → (machine_at program config n).device ≡
+    state_after (new_state config.vfs config.fifo) (events_until program config n)
+
+-- a jump that is made goes where it says, and one that isn't made to the next instruction; nothing else changes
+pub record JumpsGo : Type 0 where
+  pub always : (program : Listing) (s : MachineState) (target : ℕ)
+      → next_instruction program s ≡ Some (instr.Jump target)
+      → (machine_step program s).state.pc ≡ target
+  pub equal : (program : Listing) (s : MachineState) (word target : ℕ)
+      → next_instruction program s ≡ Some (instr.JumpIfEqual word target)
+      → s.acc ≡ word → (machine_step program s).state.pc ≡ target
+  pub not_equal : (program : Listing) (s : MachineState) (word target : ℕ)
+      → next_instruction program s ≡ Some (instr.JumpIfEqual word target)
+      → s.acc ≢ word → (machine_step program s).state.pc ≡ s.pc + 1
+  pub unless_other : (program : Listing) (s : MachineState) (word target : ℕ)
+      → next_instruction program s ≡ Some (instr.JumpUnlessEqual word target)
+      → s.acc ≢ word → (machine_step program s).state.pc ≡ target
+  pub unless_equal : (program : Listing) (s : MachineState) (word target : ℕ)
+      → next_instruction program s ≡ Some (instr.JumpUnlessEqual word target)
+      → s.acc ≡ word → (machine_step program s).state.pc ≡ s.pc + 1

@@ -1,0 +1,7 @@
+pub mod Board
+pub mod MachineState
+pub mod Deed
+pub mod Machine
+pub mod Course
+pub mod Processor
+pub mod Laws

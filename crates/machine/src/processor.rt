@@ -1,0 +1,311 @@
+//! What steps through a program: the device with its packet memory, and where the machine is.
+
+ghost use Rattle.std.specs.Prelude.{◌≡◌, ◌+◌, ◌-◌, ◌*◌, ◌<◌, ◌≤◌, ◌^◌, IfOk, IfSome, IsSome, OnOk, OnErr, length};
+ghost use Rattle.machine.specs.Board.{MovesNone};
+ghost use Rattle.machine.specs.Deed.{IsPart, IsSoundDeed, StaysInside};
+ghost use Rattle.machine.specs.Machine.{status_at, moved_to, moved_on, stopped_as, word_read, word_in, word_peeked, acc_after, acted, next_instruction, done, executed_if_some, TakesSome, machine_step, StepTakesMemory};
+ghost use Rattle.machine.specs.Processor.{state_of};
+ghost use Rattle.program.specs.Listing.{IsSound};
+
+use crate::board::Board;
+use crate::deed::{Deed, Kept, LocalDeed, deed_of};
+use crate::machine::{OutOfMemory, Status, StepAnswer};
+use dma_arena::{BLOCK_BYTES, Octets};
+use nic_device::{Event, Reply, ReplyNote};
+use program::{Instruction, Program};
+use std::alloc::Global;
+
+/// A machine but for its program.
+pub(crate) struct Processor {
+    pub(crate) alloc: Global,
+    pub(crate) board: Board,
+    pub(crate) pc: u16,
+    pub(crate) acc: u32,
+    pub(crate) status: Status,
+    pub(crate) steps: u64,
+}
+
+/// The word that a read leaves in `acc`.
+fn word_read(reply: &ReplyNote, acc: u32) -> u32
+    ensures { result ≡ word_read reply.now acc }
+{
+    match reply {
+        Reply::Word(word) | Reply::Stray(word) => *word,
+        _ => acc,
+    }
+}
+
+/// One of the four words of 16 bytes, the low byte first.
+fn word_in(bytes: &[u8; 16], word: u8) -> u32
+    requires { word < 4 }
+    ensures { result ≡ word_in bytes.now word }
+{
+    let first = 4 * usize::from(word);
+    u32::from(bytes[first])
+        + 256 * u32::from(bytes[first + 1])
+        + 65536 * u32::from(bytes[first + 2])
+        + 16777216 * u32::from(bytes[first + 3])
+}
+
+/// The word that a peek leaves in `acc`.
+fn word_peeked(word: u8, reply: &ReplyNote, acc: u32) -> u32
+    requires { word < 4 }
+    ensures { result ≡ word_peeked word reply.now acc }
+{
+    match reply {
+        Reply::Bytes(bytes) => word_in(bytes, word),
+        _ => acc,
+    }
+}
+
+/// What is in `acc` after a reply, of which so much is kept.
+fn acc_after(kept: Kept, reply: &ReplyNote, acc: u32) -> u32
+    requires { IsPart kept }
+    ensures { result ≡ acc_after kept reply.now acc }
+{
+    match kept {
+        Kept::Nothing => acc,
+        Kept::Word => word_read(reply, acc),
+        Kept::Part(word) => word_peeked(word, reply, acc),
+    }
+}
+
+/// Whether a machine runs whose next instruction is of this number.
+fn status_at(program: &Program, pc: u16) -> Status
+    ensures { result ≡ status_at program.now pc }
+{
+    if pc == program.instructions() {
+        Status::Ended
+    } else {
+        Status::Running
+    }
+}
+
+impl Processor {
+    /// Before the first step of a program.
+    pub(crate) fn new(alloc: Global, board: Board, program: &Program) -> Processor
+        ensures { state_of result ≡
+            record {
+              device = board.device;
+              arena = board.arena;
+              pc = 0;
+              acc = 0;
+              status = status_at program.now 0;
+              steps = 0;
+            } }
+    {
+        Processor {
+            alloc,
+            board,
+            pc: 0,
+            acc: 0,
+            status: status_at(program, 0),
+            steps: 0,
+        }
+    }
+
+    /// The next instruction of a machine that runs and can count a step.
+    fn next_instruction(&self, program: &Program) -> Option<Instruction>
+        ensures next { result ≡ next_instruction program.now (state_of self.now) }
+        ensures inside { IsSome result → self.now.pc < 4096 }
+        ensures counts { IsSome result → self.now.steps < 2 ^ 64 - 1 }
+        ensures sound { IfSome result (IsSound program.now.strings (length program.now.instructions)) }
+    {
+        if self.status != Status::Running || self.steps == u64::MAX {
+            return None;
+        }
+        if self.pc >= program.instructions() {
+            return None;
+        }
+        program.instruction(self.pc)
+    }
+
+    /// Counts a step, after which this instruction is next.
+    fn move_to(&mut self, program: &Program, pc: u16)
+        requires { self.old.steps < 2 ^ 64 - 1 }
+        ensures { state_of self.new ≡ moved_to program.now (state_of self.old) pc }
+    {
+        self.pc = pc;
+        self.status = status_at(program, pc);
+        self.steps += 1;
+    }
+
+    /// Counts a step, and goes on to the next instruction.
+    fn move_on(&mut self, program: &Program)
+        requires inside { self.old.pc < 4096 }
+        requires counts { self.old.steps < 2 ^ 64 - 1 }
+        ensures { state_of self.new ≡ moved_on program.now (state_of self.old) }
+    {
+        self.move_to(program, self.pc + 1);
+    }
+
+    /// Counts a step, with which the machine stops.
+    fn stop_as(&mut self, status: Status)
+        requires { self.old.steps < 2 ^ 64 - 1 }
+        ensures { state_of self.new ≡ stopped_as (state_of self.old) status }
+    {
+        self.status = status;
+        self.steps += 1;
+    }
+
+    /// Does what makes no event.
+    fn act(&mut self, program: &Program, deed: LocalDeed)
+        requires inside { self.old.pc < 4096 }
+        requires counts { self.old.steps < 2 ^ 64 - 1 }
+        ensures { state_of self.new ≡ acted program.now (state_of self.old) deed }
+    {
+        match deed {
+            LocalDeed::Expect(want, mask) => {
+                let have = self.acc & mask;
+                if have == want {
+                    self.move_on(program);
+                } else {
+                    self.stop_as(Status::Failed {
+                        pc: self.pc,
+                        have,
+                        want,
+                    });
+                }
+            }
+            LocalDeed::And(word) => {
+                self.acc &= word;
+                self.move_on(program);
+            }
+            LocalDeed::JumpIfEqual(word, target) => {
+                let next = if self.acc == word {
+                    target
+                } else {
+                    self.pc + 1
+                };
+                self.move_to(program, next);
+            }
+            LocalDeed::JumpUnlessEqual(word, target) => {
+                let next = if self.acc == word {
+                    self.pc + 1
+                } else {
+                    target
+                };
+                self.move_to(program, next);
+            }
+            LocalDeed::Jump(target) => self.move_to(program, target),
+            LocalDeed::Halt => self.stop_as(Status::Ended),
+        }
+    }
+
+    /// Makes an event that moves no block, and goes on.
+    fn make(
+        &mut self,
+        program: &Program,
+        event: Event,
+        kept: Kept,
+    ) -> Result<StepAnswer, OutOfMemory>
+        requires none { MovesNone event }
+        requires part { IsPart kept }
+        requires inside { self.old.pc < 4096 }
+        requires counts { self.old.steps < 2 ^ 64 - 1 }
+        ensures answer { IfOk result
+            (λ answer. answer ≡ (done program.now (state_of self.old) (Deed.Make event kept)).answer) }
+        ensures state { OnOk result
+            (state_of self.new ≡ (done program.now (state_of self.old) (Deed.Make event kept)).state) }
+        ensures unchanged { OnErr result (state_of self.new ≡ state_of self.old) }
+        ensures memory { OnErr result (TakesSome (state_of self.old) (Deed.Make event kept)) }
+    {
+        let reply = self.board.make(event)?;
+        self.acc = acc_after(kept, &reply, self.acc);
+        self.move_on(program);
+        Ok(StepAnswer::Made(reply))
+    }
+
+    /// Lends a block, and goes on.
+    fn lend(&mut self, program: &Program, block: u16) -> Result<StepAnswer, OutOfMemory>
+        requires inside { self.old.pc < 4096 }
+        requires counts { self.old.steps < 2 ^ 64 - 1 }
+        ensures answer { IfOk result
+            (λ answer. answer ≡ (done program.now (state_of self.old) (Deed.Lend block)).answer) }
+        ensures state { OnOk result
+            (state_of self.new ≡ (done program.now (state_of self.old) (Deed.Lend block)).state) }
+        ensures unchanged { OnErr result (state_of self.new ≡ state_of self.old) }
+        ensures memory { OnErr result (TakesSome (state_of self.old) (Deed.Lend block)) }
+    {
+        match self.board.lend(u32::from(block))? {
+            Some(reply) => {
+                self.move_on(program);
+                Ok(StepAnswer::Made(reply))
+            }
+            None => {
+                self.move_on(program);
+                Ok(StepAnswer::NoBlock)
+            }
+        }
+    }
+
+    /// Takes a block back, and goes on.
+    fn take_back(&mut self, program: &Program, block: u16) -> Result<StepAnswer, OutOfMemory>
+        requires inside { self.old.pc < 4096 }
+        requires counts { self.old.steps < 2 ^ 64 - 1 }
+        ensures answer { IfOk result
+            (λ answer. answer ≡ (done program.now (state_of self.old) (Deed.TakeBack block)).answer) }
+        ensures state { OnOk result
+            (state_of self.new ≡ (done program.now (state_of self.old) (Deed.TakeBack block)).state) }
+        ensures unchanged { OnErr result (state_of self.new ≡ state_of self.old) }
+    {
+        let Ok(room) = Vec::with_capacity(self.alloc, BLOCK_BYTES) else {
+            return Err(OutOfMemory);
+        };
+        let reply = self.board.unlend(u32::from(block), room);
+        self.move_on(program);
+        Ok(StepAnswer::Made(reply))
+    }
+
+    /// Lets a copy of a data string arrive as a frame, and goes on.
+    fn arrive(&mut self, program: &Program, number: u16) -> Result<StepAnswer, OutOfMemory>
+        requires inside { self.old.pc < 4096 }
+        requires counts { self.old.steps < 2 ^ 64 - 1 }
+        ensures answer { IfOk result
+            (λ answer. answer ≡ (done program.now (state_of self.old) (Deed.Arrive number)).answer) }
+        ensures state { OnOk result
+            (state_of self.new ≡ (done program.now (state_of self.old) (Deed.Arrive number)).state) }
+        ensures unchanged { OnErr result (state_of self.new ≡ state_of self.old) }
+    {
+        let Ok(frame) = Vec::from_slice(self.alloc, program.string(number)) else {
+            return Err(OutOfMemory);
+        };
+        self.make(program, Event::Arrive(Octets::of(frame)), Kept::Nothing)
+    }
+
+    /// Does what an instruction says.
+    fn execute(&mut self, program: &Program, deed: Deed) -> Result<StepAnswer, OutOfMemory>
+        requires sound { IsSoundDeed program.now deed }
+        requires inside { self.old.pc < 4096 }
+        requires counts { self.old.steps < 2 ^ 64 - 1 }
+        ensures answer { IfOk result (λ answer. answer ≡ (done program.now (state_of self.old) deed).answer) }
+        ensures state { OnOk result (state_of self.new ≡ (done program.now (state_of self.old) deed).state) }
+        ensures unchanged { OnErr result (state_of self.new ≡ state_of self.old) }
+        ensures memory { OnErr result (TakesSome (state_of self.old) deed) }
+    {
+        match deed {
+            Deed::Make(event, kept) => self.make(program, event, kept),
+            Deed::Lend(block) => self.lend(program, block),
+            Deed::TakeBack(block) => self.take_back(program, block),
+            Deed::Arrive(number) => self.arrive(program, number),
+            Deed::Local(local) => {
+                self.act(program, local);
+                Ok(StepAnswer::Local)
+            }
+        }
+    }
+
+    /// One step.
+    #[tactic(auto, unfolding(crate::specs::Machine::machine_step))]
+    pub(crate) fn step(&mut self, program: &Program) -> Result<StepAnswer, OutOfMemory>
+        ensures answer { IfOk result (λ answer. answer ≡ (machine_step program.now (state_of self.old)).answer) }
+        ensures state { OnOk result (state_of self.new ≡ (machine_step program.now (state_of self.old)).state) }
+        ensures unchanged { OnErr result (state_of self.new ≡ state_of self.old) }
+        ensures memory { OnErr result (StepTakesMemory program.now (state_of self.old)) }
+    {
+        match self.next_instruction(program) {
+            None => Ok(StepAnswer::Stopped),
+            Some(instruction) => self.execute(program, deed_of(program, instruction)),
+        }
+    }
+}

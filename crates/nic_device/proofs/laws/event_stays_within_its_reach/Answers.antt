@@ -1,5 +1,0 @@
-use Rattle.nic_device.proofs.Standing.{stays_within, leaves_missed}
-use Rattle.nic_device.proofs.laws.event_stays_within_its_reach.Goals as goal
-
-pub returns : goal.returns
-returns c = record { stays = stays_within; missed = leaves_missed }

@@ -1,5 +1,0 @@
-use Rattle.nic_device.proofs.Counted.{let_in_is_counted}
-use Rattle.nic_device.proofs.laws.let_in_frame_is_counted.Goals as goal
-
-pub returns : goal.returns
-returns c = let_in_is_counted

@@ -1,5 +1,0 @@
-use Rattle.nic_device.proofs.StandingQueues.{transmitting_rest, transmitting_blocks}
-use Rattle.nic_device.proofs.laws.transmitting_leaves_the_rest.Goals as goal
-
-pub returns : goal.returns
-returns c = record { rest = transmitting_rest; blocks = transmitting_blocks }

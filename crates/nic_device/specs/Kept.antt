@@ -1,0 +1,23 @@
+-- What every event keeps.
+use Rattle.std.specs.Prelude.{ℕ, ◌<◌, ◌≤◌, IsFalse}
+use Rattle.dma_arena.specs.Block.{Block}
+use Rattle.dma_arena.specs.Memory.{SameLent}
+use Rattle.nic_device.specs.Sound.{IsSound, IsEvent}
+use Rattle.nic_device.specs.State.{State, new_state}
+use Rattle.nic_device.specs.Step.{after, reply_to, moves_block, hands_out}
+use Rattle.nic_device.specs.declared.event.Event.{Event}
+
+-- a new device is sound, and every event that a driver can make keeps it so
+abbrev pub NewDeviceIsSound : Type 0
+NewDeviceIsSound = (vfs fifo : ℕ) → vfs ≤ 63 → 0 < fifo → fifo ≤ 4096 → IsSound (new_state vfs fifo)
+
+abbrev pub EventKeepsSound : Type 0
+EventKeepsSound = (s : State) → IsSound s → (e : Event Block) → IsEvent e → IsSound (after s e)
+
+-- an event that neither lends nor takes a block leaves the same blocks lent, and its reply has none
+pub record KeepsBlocks (s : State) (e : Event Block) : Type 0 where
+  pub lent : SameLent (after s e).memory s.memory
+  pub none : IsFalse (hands_out (reply_to s e))
+
+abbrev pub OtherEventsKeepBlocks : Type 0
+OtherEventsKeepBlocks = (s : State) (e : Event Block) → IsFalse (moves_block e) → KeepsBlocks s e

@@ -1,0 +1,36 @@
+-- What the numbers of registers name: addresses of the physical function, and offsets of virtual functions.
+use Rattle.std.specs.Prelude.{ℕ, ◌<◌, ⊤, Option, Some, None}
+use Rattle.reg_table.specs.Place.{place_among, view_among}
+use Rattle.reg_table.specs.Rows.{row_of}
+use Rattle.reg_table.specs.Runs.{runs}
+use Rattle.reg_table.specs.declared.place.Place.{Place}
+use Rattle.vf_map.specs.Map.{located}
+use Rattle.vf_map.specs.declared.located.Located.{Located}
+use Rattle.vf_map.specs.declared.located.Located.TheVariants as located_as
+use Rattle.nic_device.specs.Interrupt.{mode_in}
+use Rattle.nic_device.specs.State.{State}
+use Rattle.nic_device.specs.declared.event.Port.{Port}
+use Rattle.nic_device.specs.declared.event.Port.TheVariants.{Pf, Vf}
+use Rattle.nic_device.specs.declared.named.Named.{Named}
+use Rattle.nic_device.specs.declared.named.Named.TheVariants.{Nothing, Register}
+
+-- an address names a place through a view, or nothing, which reads as 0
+abbrev pub at_place : Option Place → (view : ℕ) → Named
+at_place None view = Nothing 0
+at_place (Some p) view = Register p view
+
+-- an offset names a register with all its bits, or nothing: a hole reads as 0, an absent function as all ones
+abbrev pub at_location : Located → Named
+at_location located_as.Absent = Nothing 0xFFFFFFFF
+at_location located_as.Hole = Nothing 0
+at_location (located_as.Register p) = Register p 0xFFFFFFFF
+
+-- what a number names at a port, as the queues are parted among pools
+abbrev pub named : State → Port → ℕ → Named
+named s Pf address = at_place (place_among runs address) (view_among runs address)
+named s (Vf v) offset = at_location (located (mode_in s.registers) s.vfs v offset)
+
+-- a named register has an index of its row
+abbrev pub IsInRange : Named → Type 0
+IsInRange (Nothing seen) = ⊤
+IsInRange (Register p view) = p.index < (row_of p.row).count

@@ -1,0 +1,42 @@
+-- The reset of a pool, and writes that ask for no reset of the device.
+use Rattle.std.specs.Prelude.{ℕ, zero, suc, ◌+◌, not, List, [], filter, slice_set, Option, Some, None, if◌then◌else◌}
+use Rattle.reg_table.specs.Rows.{row_of}
+use Rattle.reg_table.specs.declared.place.Place.{Place}
+use Rattle.vf_map.specs.Owner.{has_queue}
+use Rattle.vf_map.specs.Pools.{queues_of}
+use Rattle.vf_map.specs.declared.mode.Mode.{Mode}
+use Rattle.register_file.specs.Access.{written, asks_pool_reset}
+use Rattle.register_file.specs.PoolReset.{pool_reset}
+use Rattle.register_file.specs.Pools.{mode_in}
+use Rattle.nic_device.specs.State.{State, Waiting}
+
+-- the staged bytes, of which so many queues from the first on have none
+abbrev pub unstaged : List (List ℕ) → (first count : ℕ) → List (List ℕ)
+unstaged staged first zero = staged
+unstaged staged first (suc count) = slice_set (unstaged staged first count) (first + count) []
+
+-- the staged bytes, of which the queues of a pool have none
+abbrev pub pool_unstaged : List (List ℕ) → Option (ℕ × ℕ) → List (List ℕ)
+pool_unstaged staged None = staged
+pool_unstaged staged (Some queues) = unstaged staged queues.0 queues.1
+
+-- the frames that wait for other queues than those of a pool, in their order
+abbrev pub others_waiting : Mode → ℕ → List Waiting → List Waiting
+others_waiting mode v waiting = filter (λ w. not (has_queue mode v w.queue)) waiting
+
+-- a reset of a pool: its registers, the frames that wait for its queues, and their staged bytes. The frames of other
+-- pools, lent memory, frames out and the link stay.
+abbrev pub with_pool_reset : State → ℕ → State
+with_pool_reset s v =
+    let mode = mode_in s.registers in
+    record s {
+      registers = pool_reset mode v s.registers;
+      waiting = others_waiting mode v s.waiting;
+      staged = pool_unstaged s.staged (queues_of mode v);
+    }
+
+-- the state after a write of a place that asks for no reset of the device; it may ask for a reset of a pool
+abbrev pub written_below_reset : State → Place → ℕ → ℕ → State
+written_below_reset s p view word =
+    if asks_pool_reset (row_of p.row).kind word then with_pool_reset s p.index
+    else record s { registers = written (row_of p.row).kind s.registers p view word }

@@ -1,0 +1,67 @@
+//! The EEPROM: its image, and the register writes that a reset takes from it.
+
+ghost use Rattle.std.specs.Prelude.{◌≡◌, take};
+ghost use Rattle.eeprom_image.specs.Triples.{triples_of};
+ghost use Rattle.nic_device.specs.Eeprom.{is_stepped_over, with_triple, with_triples, eeprom_stepped};
+
+use crate::engine::Engine;
+use crate::event::Reply;
+use eeprom_image::Image;
+use reg_table::{RowId, resolve};
+use std::mem;
+
+impl Engine {
+    /// Puts an image into the device, and hands back the former one.
+    pub(crate) fn install(&mut self, image: Image) -> Image
+        ensures former { result ≡ self.old.image }
+        ensures installed { self.new ≡ record self.old { image = image } }
+    {
+        mem::replace(&mut self.image, image)
+    }
+
+    /// One step of the EEPROM: the word that EERD asks for is there.
+    pub(crate) fn read_eeprom(&mut self) -> Reply
+        ensures reply { result ≡ (eeprom_stepped self.old).reply }
+        ensures state { self.new ≡ (eeprom_stepped self.old).state }
+    {
+        if self.registers.is_stopped() {
+            return Reply::Idle;
+        }
+        let Some(index) = self.registers.eeprom_asked() else {
+            return Reply::Idle;
+        };
+        let word = self.image.word(usize::from(index));
+        self.registers.answer_eeprom(word);
+        Reply::Done
+    }
+
+    /// Makes the register writes of the image, in their order.
+    pub(crate) fn apply_image(&mut self)
+        ensures { self.new ≡ with_triples self.old (triples_of self.old.image) }
+    {
+        for index in 0..self.image.triple_count() {
+            if let Some((address, word)) = self.image.triple(index) {
+                self.apply_triple(address, word);
+            }
+        }
+    }
+
+    /// Makes one of them: as a write of that address, but those of CTRL, of EERD and of no register are stepped over.
+    fn apply_triple(&mut self, address: u32, word: u32)
+        ensures { self.new ≡ with_triple self.old (address, word) }
+    {
+        let Some(access) = resolve(address) else {
+            return;
+        };
+        if !is_stepped_over(access.place.row) {
+            self.write_below_reset(access.place, access.view, word);
+        }
+    }
+}
+
+/// Whether the image's writes of a register are stepped over.
+fn is_stepped_over(row: RowId) -> bool
+    ensures { result ≡ is_stepped_over row }
+{
+    matches!(row, RowId::Ctrl | RowId::Eerd)
+}

@@ -1,0 +1,54 @@
+//! The reset of a pool.
+
+ghost use Rattle.std.specs.Prelude.{◌≡◌, ◌+◌, ◌<◌, ◌≤◌, length};
+ghost use Rattle.vf_map.specs.Owner.{has_queue};
+ghost use Rattle.nic_device.specs.PoolReset.{unstaged, others_waiting, with_pool_reset};
+
+use crate::engine::Engine;
+use crate::waiting::Waiting;
+use std::collections::VecDeque;
+use tx_ring::Staged;
+use vf_map::{Mode, pool_of, queues_of};
+
+impl Engine {
+    /// Resets pool v, below 64: its registers, the frames that wait for its queues, and their staged bytes.
+    pub(crate) fn reset_pool(&mut self, v: u8)
+        requires { v < 64 }
+        ensures { self.new ≡ with_pool_reset self.old v }
+    {
+        let mode = self.registers.mode();
+        self.registers.reset_pool(mode, v);
+        drop_waiting(&mut self.waiting, mode, v);
+        if let Some((first, count)) = queues_of(mode, v) {
+            unstage(self.staged.as_mut_slice(), first, count);
+        }
+    }
+}
+
+/// Drops the frames that wait for the queues of a pool. The others wait on, in their order.
+fn drop_waiting(waiting: &mut VecDeque<Waiting>, mode: Mode, v: u8)
+    ensures { waiting.new.items ≡ others_waiting mode v waiting.old.items }
+{
+    waiting.retain(|frame| !has_queue(mode, v, frame.queue()));
+}
+
+/// Whether a pool has a queue.
+fn has_queue(mode: Mode, v: u8, queue: u16) -> bool
+    ensures { result ≡ has_queue mode v queue }
+{
+    match pool_of(mode, queue) {
+        Some(pool) => pool == v,
+        None => false,
+    }
+}
+
+/// Drops the staged bytes of so many queues from the first on.
+fn unstage(staged: &mut [Staged], first: u8, count: u8)
+    requires queues { first + count ≤ 128 }
+    requires all { length staged.old ≡ 128 }
+    ensures { staged.new ≡ unstaged staged.old first count }
+{
+    for x in 0..count {
+        staged[usize::from(first + x)].clear();
+    }
+}

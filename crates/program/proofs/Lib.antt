@@ -1,0 +1,11 @@
+pub mod Strings
+pub mod Instructions
+pub mod Pieces
+pub mod Sound
+pub mod ReadStrings
+pub mod Meanings
+pub mod Spelled
+pub mod Sizes
+pub mod Back
+pub mod Meant
+pub mod ReadBack

@@ -1,0 +1,64 @@
+-- What a program is.
+use Rattle.std.specs.Prelude.{◌≡◌, ◌<◌, ◌≤◌, ℕ, List, [], length, slice_index_or, ⊤}
+use Rattle.std.specs.List.{AllByRecursion}
+use Rattle.intr_unit.specs.declared.Group.{Group}
+use Rattle.intr_unit.specs.declared.Group.TheVariants.{Pf, Vf}
+use Rattle.program.specs.declared.instruction.Instruction.{Instruction}
+use Rattle.program.specs.declared.instruction.Instruction.TheVariants.{Write, Read, VfWrite, VfRead, Lend, Unlend, Poke, Peek, Arrive, RxStep, TxStep, IntStep, QueueStep, EepromStep, Link, Collect, Expect, And, JumpIfEqual, JumpUnlessEqual, Jump, Halt}
+
+-- the data strings of a program and its instructions, both in their order; an instruction names both by their numbers
+pub record Listing : Type 0 where
+  pub strings : List (List ℕ)
+  pub instructions : List (Instruction ℕ ℕ)
+
+-- the data string of a number, without bytes where there is none
+abbrev pub string_at : List (List ℕ) → ℕ → List ℕ
+string_at strings number = slice_index_or strings number []
+
+-- a virtual function is one of 63
+abbrev pub IsFunction : ℕ → Type 0
+IsFunction function = function < 63
+
+-- a group of interrupts is the physical function's or a virtual function's
+abbrev pub IsGroup : Group → Type 0
+IsGroup Pf = ⊤
+IsGroup (Vf function) = IsFunction function
+
+-- what an instruction names is there, among these data strings and so many instructions: what is poked has 16 bytes, what
+-- arrives has a number, one of four words is peeked, virtual functions are below 63, and a jump goes to an instruction or
+-- to the end; numbers of blocks and queues have 16 bits
+abbrev pub IsSound : List (List ℕ) → ℕ → Instruction ℕ ℕ → Type 0
+IsSound strings count (Write address word) = ⊤
+IsSound strings count (Read address) = ⊤
+IsSound strings count (VfWrite function offset word) = IsFunction function
+IsSound strings count (VfRead function offset) = IsFunction function
+IsSound strings count (Lend block) = block < 65536
+IsSound strings count (Unlend block) = block < 65536
+IsSound strings count (Poke address number) = length (string_at strings number) ≡ 16
+IsSound strings count (Peek address word) = word < 4
+IsSound strings count (Arrive number) = number < length strings
+IsSound strings count RxStep = ⊤
+IsSound strings count (TxStep queue) = queue < 65536
+IsSound strings count (IntStep group) = IsGroup group
+IsSound strings count (QueueStep direction queue) = queue < 65536
+IsSound strings count EepromStep = ⊤
+IsSound strings count (Link up) = ⊤
+IsSound strings count Collect = ⊤
+IsSound strings count (Expect want mask) = ⊤
+IsSound strings count (And word) = ⊤
+IsSound strings count (JumpIfEqual word target) = target ≤ count
+IsSound strings count (JumpUnlessEqual word target) = target ≤ count
+IsSound strings count (Jump target) = target ≤ count
+IsSound strings count Halt = ⊤
+
+-- a data string has 1 to 16,384 bytes
+pub record IsDataString (string : List ℕ) : Type 0 where
+  pub some : 1 ≤ length string
+  pub short : length string ≤ 16384
+
+-- what each program is: at most 4,096 instructions, each sound, and at most 1,024 data strings
+pub record IsListing (listing : Listing) : Type 0 where
+  pub few : length listing.instructions ≤ 4096
+  pub few_strings : length listing.strings ≤ 1024
+  pub strings : AllByRecursion IsDataString listing.strings
+  pub sound : AllByRecursion (IsSound listing.strings (length listing.instructions)) listing.instructions

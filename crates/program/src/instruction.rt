@@ -1,0 +1,75 @@
+//! Instructions.
+
+use intr_unit::Group;
+use register_file::Dir;
+
+/// One step of a program, or of a text that is read.
+///
+/// `L` is where a jump goes, and `D` which data string is meant: in a program the number of an instruction, and the
+/// number of a data string. Addresses and words have 32 bits, numbers of blocks and queues 16. Each instruction that
+/// reads leaves a word in `acc`, which starts at 0.
+#[derive(Clone, Copy, Debug, PartialEq, Eq)]
+pub enum Instruction<L = u16, D = u16> {
+    /// `w`: writes a register through the physical function: an address, and the word.
+    Write(u32, u32),
+    /// `r`: reads a register through the physical function, at an address, into `acc`.
+    Read(u32),
+    /// `vw`: writes a register through a virtual function.
+    VfWrite {
+        /// The number of the virtual function, 0 to 62.
+        function: u8,
+        /// The offset in the registers of the virtual function.
+        offset: u32,
+        /// The word.
+        word: u32,
+    },
+    /// `vr`: reads a register through a virtual function into `acc`.
+    VfRead {
+        /// The number of the virtual function, 0 to 62.
+        function: u8,
+        /// The offset in the registers of the virtual function.
+        offset: u32,
+    },
+    /// `lend`: takes a block of the machine's arena, and lends it to the device.
+    Lend(u16),
+    /// `unlend`: takes a block back from the device, and gives it to the arena.
+    Unlend(u16),
+    /// `poke`: writes 16 bytes of lent memory: a bus address, and the data string that has them.
+    Poke(u32, D),
+    /// `peek`: reads 16 bytes of lent memory: a bus address, and which of their four words goes into `acc`, 0 to 3.
+    Peek(u32, u8),
+    /// `arrive`: the bytes of a data string arrive as a frame.
+    Arrive(D),
+    /// `rx`: one receive step.
+    RxStep,
+    /// `tx`: one transmit step of a queue.
+    TxStep(u16),
+    /// `int`: the next message of a group of interrupts: that of the physical function, or of a virtual function, whose
+    /// number is at most 62.
+    IntStep(Group),
+    /// `qstep`: one direction of a queue goes on or off, as its register wants it.
+    QueueStep(Dir, u16),
+    /// `eestep`: a read of the EEPROM that was asked for is done.
+    EepromStep,
+    /// `link`: whether there is link from now on.
+    Link(bool),
+    /// `collect`: the oldest frame that went out is taken.
+    Collect,
+    /// `expect`: the program fails unless `acc`, in the bits of the mask, is the word that is wanted.
+    Expect {
+        /// The word that is wanted.
+        want: u32,
+        /// The bits that count.
+        mask: u32,
+    },
+    /// `and`: `acc` keeps the bits of this word alone.
+    And(u32),
+    /// `jeq`: jumps where `acc` is this word.
+    JumpIfEqual(u32, L),
+    /// `jne`: jumps where `acc` is another word.
+    JumpUnlessEqual(u32, L),
+    /// `jmp`: jumps.
+    Jump(L),
+    /// `halt`: the program ends.
+    Halt,
+}

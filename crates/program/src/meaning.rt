@@ -1,0 +1,157 @@
+//! What the fields of an instruction mean.
+
+ghost use Rattle.std.specs.Prelude.{◌≡◌, length, IfOk};
+ghost use Rattle.program.specs.Listing.{IsSound, string_at};
+ghost use Rattle.program.specs.Meaning.{low_byte, group_of, direction_of, instruction_in, unless, fault_in, meaning};
+
+use crate::fields::Fields;
+use crate::instruction::Instruction;
+use dma_arena::Octets;
+use intr_unit::Group;
+use register_file::Dir;
+
+/// What may be wrong with the fields of an instruction, the fault that is told first standing first.
+#[derive(Clone, Copy, Debug, PartialEq, Eq)]
+pub(crate) enum FieldFault {
+    /// There is no such operation.
+    Opcode,
+    /// A field is out of its range, or isn't used and not 0.
+    Operand,
+    /// A jump goes beyond the end.
+    Target,
+}
+
+/// The low byte.
+fn low_byte(x: u16) -> u8
+    ensures { result ≡ low_byte x }
+{
+    (x % 256) as u8
+}
+
+/// The group of interrupts of a kind and a number.
+fn group_of(sub: u8, x: u16) -> Group
+    ensures { result ≡ group_of sub x }
+{
+    if sub == 0 {
+        Group::Pf
+    } else {
+        Group::Vf(low_byte(x))
+    }
+}
+
+/// The direction of a kind.
+fn direction_of(sub: u8) -> Dir
+    ensures { result ≡ direction_of sub }
+{
+    if sub == 0 { Dir::Rx } else { Dir::Tx }
+}
+
+/// The instruction that the operation says, with the fields that it uses. `None` where there is no such operation.
+fn instruction_in(fields: Fields) -> Option<Instruction>
+    ensures { result ≡ instruction_in fields }
+{
+    let Fields { op, sub, x, a, b } = fields;
+    match op {
+        1 => Some(Instruction::Write(a, b)),
+        2 => Some(Instruction::Read(a)),
+        3 => Some(Instruction::VfWrite {
+            function: low_byte(x),
+            offset: a,
+            word: b,
+        }),
+        4 => Some(Instruction::VfRead {
+            function: low_byte(x),
+            offset: a,
+        }),
+        5 => Some(Instruction::Lend(x)),
+        6 => Some(Instruction::Unlend(x)),
+        7 => Some(Instruction::Poke(a, x)),
+        8 => Some(Instruction::Peek(a, sub)),
+        9 => Some(Instruction::Arrive(x)),
+        10 => Some(Instruction::RxStep),
+        11 => Some(Instruction::TxStep(x)),
+        12 => Some(Instruction::IntStep(group_of(sub, x))),
+        13 => Some(Instruction::QueueStep(direction_of(sub), x)),
+        14 => Some(Instruction::EepromStep),
+        15 => Some(Instruction::Link(sub != 0)),
+        16 => Some(Instruction::Collect),
+        17 => Some(Instruction::Expect { want: a, mask: b }),
+        18 => Some(Instruction::And(a)),
+        19 => Some(Instruction::JumpIfEqual(a, x)),
+        20 => Some(Instruction::JumpUnlessEqual(a, x)),
+        21 => Some(Instruction::Jump(x)),
+        22 => Some(Instruction::Halt),
+        _ => None,
+    }
+}
+
+/// The fault, unless there is none.
+fn unless(fits: bool, fault: FieldFault) -> Option<FieldFault>
+    ensures { result ≡ unless fits fault }
+{
+    if fits { None } else { Some(fault) }
+}
+
+/// How many bytes a data string has: none where there is no string of this number.
+fn bytes_of(strings: &[Octets], number: u16) -> usize
+    ensures { result ≡ length (string_at strings.now number) }
+{
+    match strings.get(usize::from(number)) {
+        Some(string) => string.bytes().len(),
+        None => 0,
+    }
+}
+
+/// What an instruction names that isn't there, among these data strings and so many instructions.
+fn fault_in(strings: &[Octets], count: u16, instruction: Instruction) -> Option<FieldFault>
+    ensures { result ≡ fault_in strings.now count instruction }
+{
+    match instruction {
+        Instruction::VfWrite { function, .. } => unless(function < 63, FieldFault::Operand),
+        Instruction::VfRead { function, .. } => unless(function < 63, FieldFault::Operand),
+        Instruction::IntStep(Group::Vf(function)) => unless(function < 63, FieldFault::Operand),
+        Instruction::Poke(_, data) => unless(bytes_of(strings, data) == 16, FieldFault::Operand),
+        Instruction::Peek(_, word) => unless(word < 4, FieldFault::Operand),
+        Instruction::Arrive(data) => {
+            unless(usize::from(data) < strings.len(), FieldFault::Operand)
+        }
+        Instruction::JumpIfEqual(_, target) => unless(target <= count, FieldFault::Target),
+        Instruction::JumpUnlessEqual(_, target) => unless(target <= count, FieldFault::Target),
+        Instruction::Jump(target) => unless(target <= count, FieldFault::Target),
+        Instruction::Write(..)
+        | Instruction::Read(_)
+        | Instruction::Lend(_)
+        | Instruction::Unlend(_)
+        | Instruction::RxStep
+        | Instruction::TxStep(_)
+        | Instruction::IntStep(Group::Pf)
+        | Instruction::QueueStep(..)
+        | Instruction::EepromStep
+        | Instruction::Link(_)
+        | Instruction::Collect
+        | Instruction::Expect { .. }
+        | Instruction::And(_)
+        | Instruction::Halt => None,
+    }
+}
+
+/// The instruction that the fields mean, among these data strings and so many instructions.
+pub(crate) fn meaning(
+    strings: &[Octets],
+    count: u16,
+    fields: Fields,
+) -> Result<Instruction, FieldFault>
+    ensures exact { result ≡ meaning strings.now count fields }
+    ensures sound { IfOk result (IsSound strings.now count) }
+{
+    let Some(instruction) = instruction_in(fields) else {
+        return Err(FieldFault::Opcode);
+    };
+    if !Fields::of(instruction).are(fields) {
+        return Err(FieldFault::Operand);
+    }
+    match fault_in(strings, count, instruction) {
+        None => Ok(instruction),
+        Some(fault) => Err(fault),
+    }
+}

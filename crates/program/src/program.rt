@@ -1,0 +1,97 @@
+//! Programs.
+
+ghost use Rattle.std.specs.Prelude.{◌≡◌, ◌≤◌, length, slice_get, IfSome, IfOk, Ok};
+ghost use Rattle.program.specs.Listing.{IsSound, IsListing, string_at};
+ghost use Rattle.program.specs.Object.{object_of, read_of};
+
+use crate::instruction::Instruction;
+use crate::writing::object;
+use dma_arena::Octets;
+use std::alloc::{AllocError, Global};
+use std::marker::Model;
+
+/// How many instructions a program may have.
+pub const INSTRUCTION_LIMIT: usize = 4096;
+
+/// How many data strings a program may have.
+pub const DATA_LIMIT: usize = 1024;
+
+/// How many bytes a data string may have. It has at least one.
+pub const DATA_BYTES: usize = 16384;
+
+/// A program: its data strings and its instructions, both in their order.
+///
+/// There are at most 4,096 instructions and 1,024 data strings of 1 to 16,384 bytes. What an instruction names is
+/// there: a data string, which has 16 bytes where it is poked, a virtual function below 63, one of four words, and
+/// an instruction, or the end, where it jumps.
+#[derive(Debug, Drop)]
+pub struct Program {
+    strings: Vec<Octets>,
+    instructions: Vec<Instruction>,
+}
+
+impl Model for Program {
+    ghost use Rattle.program.specs.Listing.{Listing, IsListing};
+
+    ghost Value = { Listing };
+
+    ghost view = { λ p. record { strings = p.strings.items; instructions = p.instructions.items } };
+
+    ghost invariant = { λ p. IsListing (record { strings = p.strings.items; instructions = p.instructions.items }) };
+}
+
+impl Program {
+    /// The program of these data strings and instructions.
+    pub fn new(strings: Vec<Octets>, instructions: Vec<Instruction>) -> Program
+        requires { IsListing (record { strings = strings.items; instructions = instructions.items }) }
+        ensures { result ≡ record { strings = strings.items; instructions = instructions.items } }
+    {
+        Program {
+            strings,
+            instructions,
+        }
+    }
+
+    /// How many instructions there are.
+    pub fn instructions(&self) -> u16
+        ensures count { result ≡ length self.now.instructions }
+        ensures limit { result ≤ INSTRUCTION_LIMIT }
+    {
+        self.instructions.len() as u16
+    }
+
+    /// The instruction of this number. `None` from the number of instructions on.
+    pub fn instruction(&self, pc: u16) -> Option<Instruction>
+        ensures found { result ≡ slice_get self.now.instructions pc }
+        ensures sound { IfSome result (IsSound self.now.strings (length self.now.instructions)) }
+    {
+        self.instructions.get(usize::from(pc)).copied()
+    }
+
+    /// The data strings, in order.
+    pub fn strings(&self) -> &[Octets]
+        ensures strings { result.now ≡ self.now.strings }
+        ensures listing { IsListing self.now }
+    {
+        &self.strings
+    }
+
+    /// The bytes of the data string of this number: none from the number of data strings on.
+    pub fn string(&self, number: u16) -> &[u8]
+        ensures { result.now ≡ string_at self.now.strings number }
+    {
+        match self.strings.get(usize::from(number)) {
+            Some(string) => string.bytes(),
+            None => &[],
+        }
+    }
+
+    /// The object of the program: its header, its instructions in twelve bytes each, and its data strings behind their
+    /// lengths, each number with its low byte first. Reading it gives the same program.
+    pub fn to_bytes(&self, alloc: Global) -> Result<Vec<u8>, AllocError>
+        ensures exact { IfOk result (λ bytes. bytes.items ≡ object_of self.now) }
+        ensures reads_back { IfOk result (λ bytes. read_of bytes.items ≡ Ok self.now) }
+    {
+        object(alloc, &self.strings, &self.instructions)
+    }
+}

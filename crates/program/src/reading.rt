@@ -1,0 +1,199 @@
+//! From an object's bytes to the program.
+
+ghost use Rattle.std.specs.Prelude.{◌≡◌, ◌+◌, ◌*◌, ◌≤◌, ◌++◌, ◌∷◌, [], length, drop, IfOk, Ok};
+ghost use Rattle.std.specs.Option.{option_map, ok_or};
+ghost use Rattle.std.specs.List.{AllByRecursion};
+ghost use Rattle.program.specs.Gives.{Gives};
+ghost use Rattle.program.specs.Listing.{IsSound, IsDataString};
+ghost use Rattle.program.specs.Object.{Fits, counts_in, header_in, string_in, strings_in, all_fields_in, meanings, at_pc, read_of, object_of, strings_behind};
+ghost use Rattle.program.specs.Meaning.{meaning};
+ghost use Rattle.program.specs.Bytes.{fields_in};
+
+use crate::fault::ObjectFault;
+use crate::fields::{Fields, INSTRUCTION_BYTES};
+use crate::instruction::Instruction;
+use crate::meaning::meaning;
+use crate::numbers::{number16_at, number32_at};
+use crate::program::{DATA_BYTES, DATA_LIMIT, INSTRUCTION_LIMIT, Program};
+use dma_arena::Octets;
+use std::alloc::Global;
+
+/// How many bytes the header has.
+pub(crate) const HEADER_BYTES: usize = 16;
+
+/// The first four bytes.
+const MAGIC: [u8; 4] = [0x4e, 0x42, 0x53, 0x43];
+
+/// The first six bytes of an object of version 1.
+pub(crate) const MAGIC_AND_VERSION: [u8; 6] = [0x4e, 0x42, 0x53, 0x43, 1, 0];
+
+/// How many instructions and data strings an object has.
+#[derive(Clone, Copy, Debug, PartialEq, Eq)]
+pub(crate) struct Header {
+    count: u16,
+    strings: u16,
+}
+
+/// How many instructions and data strings there are, where a header and the instructions fit the bytes.
+fn counts_in(bytes: &[u8]) -> Result<Header, ObjectFault>
+    ensures value { result ≡ counts_in bytes.now }
+    ensures fits { IfOk result (Fits bytes.now) }
+{
+    if bytes.len() < HEADER_BYTES {
+        return Err(ObjectFault::Length);
+    }
+    let count = number16_at(bytes, 6);
+    let strings = number16_at(bytes, 8);
+    let total = number32_at(bytes, 12);
+    let fits = number16_at(bytes, 10) == 0
+        && total as usize == bytes.len()
+        && usize::from(count) <= INSTRUCTION_LIMIT
+        && usize::from(strings) <= DATA_LIMIT
+        && HEADER_BYTES + INSTRUCTION_BYTES * usize::from(count) <= bytes.len();
+    if fits {
+        Ok(Header { count, strings })
+    } else {
+        Err(ObjectFault::Length)
+    }
+}
+
+/// What the header says, or the first fault of it.
+#[tactic(auto, unfolding(crate::specs::Object::header_in))]
+fn header_in(bytes: &[u8]) -> Result<Header, ObjectFault>
+    ensures value { result ≡ header_in bytes.now }
+    ensures fits { IfOk result (Fits bytes.now) }
+{
+    if !bytes.starts_with(&MAGIC) {
+        return Err(ObjectFault::Magic);
+    }
+    if !bytes.starts_with(&MAGIC_AND_VERSION) {
+        return Err(ObjectFault::Version);
+    }
+    counts_in(bytes)
+}
+
+/// The first data string, and the bytes behind it. `None` where they have none of 1 to 16,384 bytes.
+#[tactic(auto, unfolding(crate::specs::Object::string_in))]
+fn split_string(bytes: &[u8]) -> Option<(&[u8], &[u8])>
+    ensures { option_map (λ split. (split.0.now, split.1.now)) result ≡ string_in bytes.now }
+{
+    if bytes.len() < 2 {
+        return None;
+    }
+    let size = usize::from(number16_at(bytes, 0));
+    if size < 1 || size > DATA_BYTES || bytes.len() < 2 + size {
+        return None;
+    }
+    Some(bytes[2..].split_at(size))
+}
+
+/// A copy of a data string.
+fn copy_of(alloc: Global, string: &[u8]) -> Result<Octets, ObjectFault>
+    ensures { Gives (λ octets. octets) result (Ok string.now) }
+{
+    let mut bytes = Vec::new(alloc);
+    bytes.extend_from_slice(string)?;
+    Ok(Octets::of(bytes))
+}
+
+/// So many data strings, which are all of the bytes.
+fn strings_in(alloc: Global, count: u16, bytes: &[u8]) -> Result<Vec<Octets>, ObjectFault>
+    ensures { Gives (λ strings. strings.items) result (ok_or (strings_in count bytes.now) ObjectFault.Length) }
+{
+    let mut strings = Vec::new(alloc);
+    let mut rest = bytes;
+    for _ in 0..count {
+        let Some((string, behind)) = split_string(rest) else {
+            return Err(ObjectFault::Length);
+        };
+        strings.push(copy_of(alloc, string)?)?;
+        rest = behind;
+    }
+    if rest.is_empty() {
+        Ok(strings)
+    } else {
+        Err(ObjectFault::Length)
+    }
+}
+
+/// The instruction of this number, which the first twelve bytes are.
+fn instruction_at(
+    strings: &[Octets],
+    count: u16,
+    pc: u16,
+    bytes: &[u8],
+) -> Result<Instruction, ObjectFault>
+    requires { 12 ≤ length bytes.now }
+    ensures exact { result ≡ at_pc pc (meaning strings.now count (fields_in bytes.now)) }
+    ensures sound { IfOk result (IsSound strings.now count) }
+{
+    match meaning(strings, count, Fields::in_bytes(bytes)) {
+        Ok(instruction) => Ok(instruction),
+        Err(fault) => Err(fault.at(pc)),
+    }
+}
+
+/// So many instructions, which the bytes begin with.
+fn instructions_in(
+    alloc: Global,
+    strings: &[Octets],
+    count: u16,
+    bytes: &[u8],
+) -> Result<Vec<Instruction>, ObjectFault>
+    requires { 12 * count ≤ length bytes.now }
+    ensures exact { Gives (λ all. all.items) result (meanings strings.now count 0 (all_fields_in count bytes.now)) }
+    ensures sound { IfOk result (λ all. AllByRecursion (IsSound strings.now count) all.items) }
+    ensures count { IfOk result (λ all. length all.items ≡ count) }
+{
+    let mut instructions = Vec::new(alloc);
+    let mut rest = bytes;
+    for pc in 0..count {
+        let instruction = instruction_at(strings, count, pc, rest)?;
+        instructions.push(instruction)?;
+        let (_, behind) = rest.split_at(INSTRUCTION_BYTES);
+        rest = behind;
+    }
+    Ok(instructions)
+}
+
+/// The data strings behind the instructions.
+fn strings_behind(alloc: Global, bytes: &[u8], header: Header) -> Result<Vec<Octets>, ObjectFault>
+    requires { 16 + 12 * header.count ≤ length bytes.now }
+    ensures { Gives (λ strings. strings.items) result (strings_behind header.count header.strings bytes.now) }
+{
+    let instruction_bytes = INSTRUCTION_BYTES * usize::from(header.count);
+    let (_, behind) = bytes.split_at(HEADER_BYTES + instruction_bytes);
+    strings_in(alloc, header.strings, behind)
+}
+
+/// The instructions behind the header.
+fn instructions_behind(
+    alloc: Global,
+    bytes: &[u8],
+    header: Header,
+    strings: &[Octets],
+) -> Result<Vec<Instruction>, ObjectFault>
+    requires { 16 + 12 * header.count ≤ length bytes.now }
+    ensures exact { Gives (λ all. all.items) result
+        (meanings strings.now header.count 0 (all_fields_in header.count (drop 16 bytes.now))) }
+    ensures sound { IfOk result (λ all. AllByRecursion (IsSound strings.now header.count) all.items) }
+    ensures count { IfOk result (λ all. length all.items ≡ header.count) }
+{
+    let (_, behind) = bytes.split_at(HEADER_BYTES);
+    instructions_in(alloc, strings, header.count, behind)
+}
+
+/// The program whose object the bytes are, or their first fault.
+///
+/// What it takes is the object of the program that it gives, byte for byte. It takes time linear in the number of
+/// bytes. `OutOfMemory` may stand in place of any answer.
+#[tactic(auto, unfolding(crate::specs::Object::read_of))]
+pub fn read(alloc: Global, bytes: &[u8]) -> Result<Program, ObjectFault>
+    ensures exact { Gives (λ program. program) result (read_of bytes.now) }
+    ensures spelled { IfOk result (λ program. bytes.now ≡ object_of program) }
+{
+    let header = header_in(bytes)?;
+    let strings = strings_behind(alloc, bytes, header)?;
+    let instructions = instructions_behind(alloc, bytes, header, &strings)?;
+    Ok(Program::new(strings, instructions))
+}

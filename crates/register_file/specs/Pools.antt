@@ -1,0 +1,34 @@
+-- How the registers part queues among pools, and which pools are on.
+use Rattle.std.specs.Prelude.{ℕ, ◌/◌, ◌%◌, Bool}
+use Rattle.reg_table.specs.declared.rows.RowId.{RowId}
+use Rattle.reg_table.specs.declared.rows.RowId.TheVariants.{GcrExt, Vfre, Vfte}
+use Rattle.vf_map.specs.Pools.{mode_of}
+use Rattle.vf_map.specs.declared.mode.Mode.{Mode}
+use Rattle.register_file.specs.Bits.{has_bit}
+use Rattle.register_file.specs.Registers.{Registers, word_of}
+use Rattle.register_file.specs.declared.dir.Dir.{Dir}
+use Rattle.register_file.specs.declared.dir.Dir.TheVariants.{Rx, Tx}
+
+-- how GCR_EXT parts the queues among pools
+abbrev pub mode_in : Registers → Mode
+mode_in r = mode_of (word_of r GcrExt 0)
+
+-- whether a pool's bit is 1 in a pair of words: the first has pools 0 to 31, the second pools 32 to 63
+abbrev pub pool_bit : (ℕ → ℕ) → ℕ → Bool
+pool_bit words pool = has_bit (pool % 32) (words (pool / 32))
+
+-- the row that says which pools are on: VFRE those that take frames, VFTE those that send
+abbrev pub pool_row : Dir → RowId
+pool_row Rx = Vfre
+pool_row Tx = Vfte
+
+-- whether a pool is on: its bit of that pair is 1
+abbrev pub is_pool_on : Registers → Dir → ℕ → Bool
+is_pool_on r dir pool = pool_bit (word_of r (pool_row dir)) pool
+
+-- whether a pool takes frames, and whether it sends
+abbrev pub takes_frames : Registers → ℕ → Bool
+takes_frames r pool = is_pool_on r Rx pool
+
+abbrev pub sends_frames : Registers → ℕ → Bool
+sends_frames r pool = is_pool_on r Tx pool

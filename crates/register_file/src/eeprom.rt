@@ -1,0 +1,49 @@
+//! EERD: what is asked of the EEPROM, and what it answered.
+
+ghost use Rattle.std.specs.Prelude.{◌≡◌, ◌<◌, IfSome};
+ghost use Rattle.register_file.specs.Eeprom.{eeprom_asked, eeprom_answered};
+
+use crate::register_file::RegisterFile;
+use reg_table::RowId;
+
+/// EERD: a word is asked for.
+const START: u32 = 0x0000_0001;
+
+/// EERD: the word that was asked for is there.
+const DONE: u32 = 0x0000_0002;
+
+/// EERD: where the index of the word that is asked for begins, and how many indices there are.
+const INDEX: u32 = 0x0000_0004;
+
+const INDICES: u32 = 0x4000;
+
+/// EERD: where the word begins.
+const DATA: u32 = 0x0001_0000;
+
+impl RegisterFile {
+    /// The index, below 16,384, of the word that EERD asks the EEPROM for: bits 15 to 2, where bit 0, START, is 1.
+    /// None where it asks for none.
+    pub fn eeprom_asked(&self) -> Option<u16>
+        ensures asked { result ≡ eeprom_asked self.now }
+        ensures range { IfSome result (λ index. index < 16384) }
+    {
+        let word = self.word(RowId::Eerd, 0);
+        if word / START % 2 == 1 {
+            Some((word / INDEX % INDICES) as u16)
+        } else {
+            None
+        }
+    }
+
+    /// Answers EERD: it has the index that it had, DONE and this word, and asks no more.
+    pub fn answer_eeprom(&mut self, word: u16)
+        ensures { self.new ≡ eeprom_answered self.old word }
+    {
+        let index = self.word(RowId::Eerd, 0) / INDEX % INDICES;
+        self.set_word(
+            RowId::Eerd,
+            0,
+            index * INDEX + DONE + u32::from(word) * DATA,
+        );
+    }
+}

@@ -1,0 +1,114 @@
+//! Pools of queues, and the reset of one.
+
+ghost use Rattle.std.specs.Prelude.{◌≡◌, ◌+◌, ◌<◌, ◌≤◌, fold};
+ghost use Rattle.std.specs.List.{range_with_len};
+ghost use Rattle.register_file.specs.Pools.{mode_in, pool_row, is_pool_on};
+ghost use Rattle.register_file.specs.PoolReset.{side_reset, queue_reset, vectors_reset, function_reset, pool_reset};
+ghost use Rattle.register_file.specs.declared.dir.Dir.TheVariants.{Rx, Tx};
+
+use crate::dir::Dir;
+use crate::register_file::RegisterFile;
+use crate::side::{ReceiveSide, TransmitSide};
+use reg_table::RowId;
+use vf_map::{Mode, mode_of, queues_of};
+
+/// VFRE and VFTE: how many pools a word has a bit of.
+const POOLS_IN_A_WORD: u16 = 32;
+
+impl RegisterFile {
+    /// How GCR_EXT parts the queues among pools.
+    pub fn mode(&self) -> Mode
+        ensures { result ≡ mode_in self.now }
+    {
+        mode_of(self.word(RowId::GcrExt, 0))
+    }
+
+    /// Whether a pool below 64 takes frames, by its bit of VFRE, or sends, by its bit of VFTE.
+    pub fn is_pool_on(&self, dir: Dir, pool: u16) -> bool
+        requires { pool < 64 }
+        ensures { result ≡ is_pool_on self.now dir pool }
+    {
+        let word = self.word(pool_row(dir), pool / POOLS_IN_A_WORD);
+        (word >> (pool % POOLS_IN_A_WORD)) % 2 == 1
+    }
+
+    /// Resets pool v, below 64: the interrupts of its virtual function, what was told of them, PSRTYPE, and what is
+    /// counted of the function; and both sides of the queues that the mode gives the pool, what is wanted of them, and
+    /// their vectors. A mode without the pool gives it no queues.
+    #[tactic(auto, unfolding(crate::specs::PoolReset::pool_reset))]
+    pub fn reset_pool(&mut self, mode: Mode, v: u8)
+        requires { v < 64 }
+        ensures { self.new ≡ pool_reset mode v self.old }
+    {
+        self.reset_function(v);
+        if let Some((first, count)) = queues_of(mode, v) {
+            self.reset_queues(first, count);
+            self.reset_vectors(first / 2, count / 2);
+        }
+    }
+
+    /// Resets what a pool has once.
+    fn reset_function(&mut self, v: u8)
+        requires { v < 64 }
+        ensures { self.new ≡ function_reset self.old v }
+    {
+        let at = usize::from(v);
+        self.groups.renew(v);
+        self.tables.psrtype[at] = 0;
+        self.counters.vfgprc[at] = 0;
+        self.counters.vfgptc[at] = 0;
+    }
+
+    /// Resets so many queues from the first on.
+    fn reset_queues(&mut self, first: u8, count: u8)
+        requires { first + count ≤ 128 }
+        ensures { self.new ≡ fold queue_reset self.old (range_with_len first count) }
+    {
+        for x in 0..count {
+            self.reset_queue(u16::from(first + x));
+        }
+    }
+
+    /// Resets so many words of vectors from the first on.
+    fn reset_vectors(&mut self, first: u8, count: u8)
+        requires { first + count ≤ 64 }
+        ensures { self.new ≡ fold vectors_reset self.old (range_with_len first count) }
+    {
+        for x in 0..count {
+            self.set_word(RowId::Pvtivar, u16::from(first + x), 0);
+        }
+    }
+
+    /// Resets both sides of a queue.
+    fn reset_queue(&mut self, queue: u16)
+        requires { queue < 128 }
+        ensures { self.new ≡ queue_reset self.old queue }
+    {
+        self.reset_receive(queue);
+        self.reset_transmit(queue);
+    }
+
+    fn reset_receive(&mut self, queue: u16)
+        requires { queue < 128 }
+        ensures { self.new ≡ side_reset Rx self.old queue }
+    {
+        self.receive[usize::from(queue)] = ReceiveSide::AT_RESET;
+    }
+
+    fn reset_transmit(&mut self, queue: u16)
+        requires { queue < 128 }
+        ensures { self.new ≡ side_reset Tx self.old queue }
+    {
+        self.transmit[usize::from(queue)] = TransmitSide::AT_RESET;
+    }
+}
+
+/// The row that says which pools are on.
+fn pool_row(dir: Dir) -> RowId
+    ensures { result ≡ pool_row dir }
+{
+    match dir {
+        Dir::Rx => RowId::Vfre,
+        Dir::Tx => RowId::Vfte,
+    }
+}

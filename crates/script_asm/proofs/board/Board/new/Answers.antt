@@ -1,9 +1,0 @@
-use Rattle.std.proofs.Common.{ap, sym, subst}
-use Rattle.nic_device.specs.State.{State}
-use Rattle.script_asm.specs.Board.{AreShared}
-use Rattle.script_asm.proofs.Sharing.{shared-new}
-use Rattle.script_asm.proofs.board.Board.new.Goals as goal
-
-pub invariant_of-result : goal.invariant_of-result
-invariant_of-result c =
-    subst (AreShared c.in_ok-device.device.memory) (sym c.in-Ok.ensures.ok) (shared-new c.in_ok-device.device.memory (ap (λ (s : State). s.memory) c.in_ok-device.ensures.made))

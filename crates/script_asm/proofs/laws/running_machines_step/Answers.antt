@@ -1,5 +1,0 @@
-use Rattle.script_asm.proofs.Running.{running_machines_step}
-use Rattle.script_asm.proofs.laws.running_machines_step.Goals as goal
-
-pub returns : goal.returns
-returns c = running_machines_step

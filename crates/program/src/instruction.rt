@@ -8,7 +8,7 @@ use register_file::Dir;
 /// `L` is where a jump goes, and `D` which data string is meant: in a program the number of an instruction, and the
 /// number of a data string. Addresses and words have 32 bits, numbers of blocks and queues 16. Each instruction that
 /// reads leaves a word in `acc`, which starts at 0.
-#[derive(Clone, Copy, Debug, PartialEq, Eq)]
+#[derive(Clone, Copy, Debug, Drop, PartialEq, Eq)]
 pub enum Instruction<L = u16, D = u16> {
     /// `w`: writes a register through the physical function: an address, and the word.
     Write(u32, u32),

@@ -68,6 +68,14 @@ impl Program {
         self.instructions.get(usize::from(pc)).copied()
     }
 
+    /// The instructions, in order.
+    pub fn code(&self) -> &[Instruction]
+        ensures code { result.now ≡ self.now.instructions }
+        ensures limit { length result.now ≤ INSTRUCTION_LIMIT }
+    {
+        &self.instructions
+    }
+
     /// The data strings, in order.
     pub fn strings(&self) -> &[Octets]
         ensures strings { result.now ≡ self.now.strings }

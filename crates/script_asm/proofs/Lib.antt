@@ -1,7 +1,15 @@
 pub mod Endings
 pub mod Lines
-pub mod Plain
+pub mod Naming
+pub mod Outcomes
 pub mod Resolving
-pub mod Numbers
+pub mod Ranges
+pub mod Ready
+pub mod Marks
+pub mod Order
+pub mod Tied
+pub mod Leading
 pub mod Saying
+pub mod Meant
 pub mod Meaning
+pub mod Written

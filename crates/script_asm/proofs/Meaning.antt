@@ -1,59 +1,39 @@
 -- The program that statements make, and the first fault.
-use Rattle.std.proofs.Common.{◌≡◌, refl, sym, ◌∙◌, ap, subst, ℕ, List, [], ◌∷◌, ◌++◌, length, Option, Some, None, Result, Ok, Err, append-nil, eq-eqb}
+use Rattle.std.proofs.Common.{◌≡◌, refl, sym, ◌∙◌, ap, subst, ℕ, List, [], ◌∷◌, ◌++◌, Option, Result, Ok, append-nil, append_assoc}
+use Rattle.std.specs.Cmp.Lexicographic.{slice_cmp}
+use Rattle.std.specs.FinMap as fin
+use Rattle.std.specs.Ordering.{nat_cmp}
 use Rattle.lexer.specs.Lines.{NumberedLine, lines_of}
+use Rattle.program.specs.declared.instruction.Instruction.{Instruction as Step}
+use Rattle.program.specs.Listing.{Listing}
 use Rattle.script_asm.specs.Fault.{◌then◌}
-use Rattle.script_asm.specs.Laws.{names_in, strings_in, drafts_in, Means, Mean, IsSaid, ProgramIsWhatLinesSay, FirstFaultDecides}
-use Rattle.script_asm.specs.Listing.{Listing, string_at}
+use Rattle.script_asm.specs.Laws.{strings_in, drafts_in, label_from, data_from, Mean, IsSaid, ProgramIsWhatLinesSay, FirstFaultDecides}
+use Rattle.script_asm.specs.Operation.{Draft}
 use Rattle.script_asm.specs.Outline.{Outline, blank}
-use Rattle.script_asm.specs.Script.{number_of_data, data_named, if_of_16, with_line, with_lines, resolved, with_resolved, program_in, program_of}
+use Rattle.script_asm.specs.Places.{place_of}
+use Rattle.script_asm.specs.Resolved.{resolved, with_resolved}
+use Rattle.script_asm.specs.Script.{with_line, with_lines, program_in, program_of}
 use Rattle.script_asm.specs.declared.faults.ScriptFault.{ScriptFault}
-use Rattle.script_asm.specs.declared.instructions.Instruction.{Instruction as Instr}
-use Rattle.script_asm.specs.declared.instructions.Instruction.TheVariants as instr
-use Rattle.script_asm.specs.declared.operations.Draft.{Draft}
-use Rattle.script_asm.specs.declared.operations.Draft.TheVariants as draft
 use Rattle.script_asm.specs.declared.sheet.DraftLine.{DraftLine}
-use Rattle.script_asm.proofs.Resolving.{if_of_16-Ok}
-use Rattle.script_asm.proofs.Saying.{written, stepped, joined, reach, said}
+use Rattle.script_asm.specs.declared.statements.Statement.{Statement}
+use Rattle.script_asm.proofs.Outcomes.{stepped}
+use Rattle.script_asm.proofs.Meant.{resolved-Means, Means-resolved}
+use Rattle.script_asm.proofs.Tied.{written, Ties}
+use Rattle.script_asm.proofs.Saying.{reach, said}
 
-data_named-Ok : (o : Outline) (line : ℕ) (name : List ℕ) (n : ℕ) (found : Option ℕ) → number_of_data o.names name ≡ found → data_named o line name ≡ Ok n → number_of_data o.names name ≡ Some n
-data_named-Ok o line name n None is e = (let refused : Err _ ≡ Ok n = rw (is, data_named) at e in cc)
-data_named-Ok o line name n (Some m) is e = (let same : Ok m ≡ Ok n = rw (is, data_named) at e in cc)
+abbrev AreMeant : Outline → List Draft → List (Step ℕ ℕ) → Type 0
+AreMeant o drafts is = Mean (place_of o.labels) (place_of o.data_numbers) o.strings drafts is
 
-named : (o : Outline) (line : ℕ) (name : List ℕ) (n : ℕ) → number_of_data o.names name ≡ Some n → data_named o line name ≡ Ok n
-named o line name n is = rw (is, data_named) refl
-
-of_16 : (o : Outline) (line n : ℕ) → length (string_at o.strings n) ≡ 16 → if_of_16 o line n ≡ Ok n
-of_16 o line n long = rw (eq-eqb (length (string_at o.strings n)) 16 long, if_of_16) refl
-
-resolved-Means : (o : Outline) (line : ℕ) (d : Draft) (i : Instr) → resolved o line d ≡ Ok i → Means o.names o.strings d i
-resolved-Means o line (draft.Plain instruction) i e = cc
-resolved-Means o line (draft.Poke address name) i e =
-    let made = stepped (data_named o line name then if_of_16 o line) (λ n. Ok (instr.Poke address n)) i e in
-    let long = stepped (data_named o line name) (if_of_16 o line) made.0 made.1 in
-    let sixteen = if_of_16-Ok o line long.0 made.0 long.2 in
-    let same : i ≡ instr.Poke address made.0 = (let e2 = made.2 in cc) in
-    (made.0, same, data_named-Ok o line name long.0 (number_of_data o.names name) refl long.1 ∙ ap Some sixteen.0, sixteen.1)
-resolved-Means o line (draft.Arrive name) i e =
-    let made = stepped (data_named o line name) (λ n. Ok (instr.Arrive n)) i e in
-    let same : i ≡ instr.Arrive made.0 = (let e2 = made.2 in cc) in
-    (made.0, same, data_named-Ok o line name made.0 (number_of_data o.names name) refl made.1)
-
-Means-resolved : (o : Outline) (line : ℕ) (d : Draft) (i : Instr) → Means o.names o.strings d i → resolved o line d ≡ Ok i
-Means-resolved o line (draft.Plain instruction) i means = ap Ok (sym means)
-Means-resolved o line (draft.Poke address name) i means =
-    ap (λ n. (n then if_of_16 o line) then λ n. Ok (instr.Poke address n)) (named o line name means.0 means.2)
-    ∙ ap (λ n. n then λ n. Ok (instr.Poke address n)) (of_16 o line means.0 means.3)
-    ∙ ap Ok (sym means.1)
-Means-resolved o line (draft.Arrive name) i means =
-    ap (λ n. n then λ n. Ok (instr.Arrive n)) (named o line name means.0 means.2) ∙ ap Ok (sym means.1)
+joined : (before : List (Step ℕ ℕ)) (x : Step ℕ ℕ) (more : List (Step ℕ ℕ)) → (before ++ x ∷ []) ++ more ≡ before ++ x ∷ more
+joined before x more = append_assoc before (x ∷ []) more
 
 -- instructions that were resolved, behind those before
-pub record Resolved (o : Outline) (before : List Instr) (drafts : List DraftLine) (result : List Instr) : Type 0 where
-  pub added : List Instr
-  pub is : result ≡ before ++ added
-  pub mean : Mean o.names o.strings (written drafts) added
+record Resolved (o : Outline) (before : List (Step ℕ ℕ)) (drafts : List DraftLine) (result : List (Step ℕ ℕ)) : Type 0 where
+  added : List (Step ℕ ℕ)
+  is : result ≡ before ++ added
+  mean : AreMeant o (written drafts) added
 
-with_resolved-Mean : (o : Outline) (before : List Instr) (drafts : List DraftLine) (result : List Instr) → with_resolved o before drafts ≡ Ok result → Resolved o before drafts result
+with_resolved-Mean : (o : Outline) (before : List (Step ℕ ℕ)) (drafts : List DraftLine) (result : List (Step ℕ ℕ)) → with_resolved o before drafts ≡ Ok result → Resolved o before drafts result
 unfolding with_resolved
 with_resolved-Mean o before [] result e = let same : before ≡ result = cc in record { added = []; is = sym same ∙ sym (append-nil before); mean = tt }
 with_resolved-Mean o before (d ∷ more) result e =
@@ -61,7 +41,7 @@ with_resolved-Mean o before (d ∷ more) result e =
     let rest = with_resolved-Mean o (before ++ next.0 ∷ []) more result next.2 in
     record { added = next.0 ∷ rest.added; is = rest.is ∙ joined before next.0 rest.added; mean = (resolved-Means o d.line d.draft next.0 next.1, rest.mean) }
 
-Mean-with_resolved : (o : Outline) (before : List Instr) (drafts : List DraftLine) (added : List Instr) → Mean o.names o.strings (written drafts) added
+Mean-with_resolved : (o : Outline) (before : List (Step ℕ ℕ)) (drafts : List DraftLine) (added : List (Step ℕ ℕ)) → AreMeant o (written drafts) added
     → with_resolved o before drafts ≡ Ok (before ++ added)
 unfolding with_resolved
 Mean-with_resolved o before [] [] mean = ap Ok (sym (append-nil before))
@@ -71,29 +51,52 @@ Mean-with_resolved o before (d ∷ more) (i ∷ is) mean =
     ap (λ r. r then λ i. with_resolved o (before ++ i ∷ []) more) (Means-resolved o d.line d.draft i mean.0)
     ∙ Mean-with_resolved o (before ++ i ∷ []) more is mean.1 ∙ ap Ok (joined before i is)
 
+-- before the first line nothing is said
+ties-blank : Ties blank []
+ties-blank = record { labels = fin.get-empty {X = ℕ} (slice_cmp nat_cmp); names = fin.get-empty {X = ℕ} (slice_cmp nat_cmp); strings = refl; drafts = refl }
+
+-- the look-ups of what was said, as functions
+same_labels : (o : Outline) (ss : List Statement) → Ties o ss → place_of o.labels ≡ label_from 0 ss
+same_labels o ss ties = λ i name. ties.labels name i
+
+same_names : (o : Outline) (ss : List Statement) → Ties o ss → place_of o.data_numbers ≡ data_from 0 ss
+same_names o ss ties = λ i name. ties.names name i
+
+to_meant : (o : Outline) (ss : List Statement) (is : List (Step ℕ ℕ)) → Ties o ss
+    → Mean (label_from 0 ss) (data_from 0 ss) (strings_in ss) (drafts_in ss) is → AreMeant o (written o.drafts) is
+to_meant o ss is ties mean =
+    subst (λ (labels : List ℕ → Option ℕ). Mean labels (place_of o.data_numbers) o.strings (written o.drafts) is) (sym (same_labels o ss ties))
+    (subst (λ (names : List ℕ → Option ℕ). Mean (label_from 0 ss) names o.strings (written o.drafts) is) (sym (same_names o ss ties))
+    (rw (ties.strings, ties.drafts) mean))
+
+from_meant : (o : Outline) (ss : List Statement) (is : List (Step ℕ ℕ)) → Ties o ss → AreMeant o (written o.drafts) is
+    → Mean (label_from 0 ss) (data_from 0 ss) (strings_in ss) (drafts_in ss) is
+from_meant o ss is ties mean =
+    subst (λ (labels : List ℕ → Option ℕ). Mean labels (data_from 0 ss) (strings_in ss) (drafts_in ss) is) (same_labels o ss ties)
+    (subst (λ (names : List ℕ → Option ℕ). Mean (place_of o.labels) names (strings_in ss) (drafts_in ss) is) (same_names o ss ties)
+    (rw (← ties.strings, ← ties.drafts) mean))
+
 to_program : (text : List ℕ) (program : Listing) → IsSaid text program → program_of text ≡ Ok program
 unfolding program_of
 to_program text program all =
-    let reached = reach blank (lines_of text) all.statements all.say all.fit in
+    let reached = reach blank [] (lines_of text) all.statements ties-blank all.say all.fit in
     let o = reached.0 in
-    let mean : Mean o.names o.strings (written o.drafts) program.instructions =
-    rw (reached.1.names, reached.1.strings, reached.1.drafts) all.mean in
-    ap (λ r. r then program_in) reached.1.is
-    ∙ ap (λ (is : Result (List Instr) ScriptFault). is then λ is. Ok (record { strings = o.strings; instructions = is })) (Mean-with_resolved o [] o.drafts program.instructions mean)
-    ∙ ap (λ strings. Ok (let listing : Listing = record { strings = strings; instructions = program.instructions } in listing)) (reached.1.strings ∙ sym all.strings)
+    let mean = to_meant o all.statements program.instructions reached.2 all.mean in
+    ap (λ r. r then program_in) reached.1
+    ∙ ap (λ (is : Result (List (Step ℕ ℕ)) ScriptFault). is then λ is. Ok (record { strings = o.strings; instructions = is })) (Mean-with_resolved o [] o.drafts program.instructions mean)
+    ∙ ap (λ strings. Ok (let listing : Listing = record { strings = strings; instructions = program.instructions } in listing)) (reached.2.strings ∙ sym all.strings)
 
 from_program : (text : List ℕ) (program : Listing) → program_of text ≡ Ok program → IsSaid text program
 unfolding program_of
 from_program text program is =
     let first = stepped (with_lines blank (lines_of text)) program_in program is in
     let o = first.0 in
-    let second = stepped (with_resolved o [] o.drafts) (λ (is : List Instr). Ok (let listing : Listing = record { strings = o.strings; instructions = is } in listing)) program first.2 in
+    let second = stepped (with_resolved o [] o.drafts) (λ (is : List (Step ℕ ℕ)). Ok (let listing : Listing = record { strings = o.strings; instructions = is } in listing)) program first.2 in
     let same : (let listing : Listing = record { strings = o.strings; instructions = second.0 } in listing) ≡ program = (let e = second.2 in cc) in
-    let all = said blank (lines_of text) o first.1 in
+    let all = said blank [] (lines_of text) o ties-blank first.1 in
     let mean = with_resolved-Mean o [] o.drafts second.0 second.1 in
-    let means : Mean (names_in all.statements) (strings_in all.statements) (drafts_in all.statements) second.0 =
-    rw (mean.is, ← all.names, ← all.strings, ← all.drafts) mean.mean in
-    subst (λ (p : Listing). IsSaid text p) same (record { statements = all.statements; say = all.say; fit = all.fit; strings = all.strings; mean = means })
+    let means = from_meant o all.statements second.0 all.ties (rw mean.is mean.mean) in
+    subst (λ (p : Listing). IsSaid text p) same (record { statements = all.statements; say = all.say; fit = all.fit; strings = all.ties.strings; mean = means })
 
 pub program_is_what_lines_say : ProgramIsWhatLinesSay
 program_is_what_lines_say text program = (from_program text program, to_program text program)
@@ -105,7 +108,7 @@ with_lines-append b o (line ∷ front) back e =
     let next = stepped (with_line b line) (λ a. with_lines a front) o e in
     ap (λ r. r then λ a. with_lines a (front ++ back)) next.1 ∙ with_lines-append next.0 o front back next.2
 
-with_resolved-append : (o : Outline) (before after : List Instr) (front back : List DraftLine) → with_resolved o before front ≡ Ok after
+with_resolved-append : (o : Outline) (before after : List (Step ℕ ℕ)) (front back : List DraftLine) → with_resolved o before front ≡ Ok after
     → with_resolved o before (front ++ back) ≡ with_resolved o after back
 unfolding with_resolved
 with_resolved-append o before after [] back e = let same : before ≡ after = cc in ap (λ x. with_resolved o x back) same
@@ -121,7 +124,7 @@ first_fault_decides = record {
       (ap (with_lines blank) is ∙ with_lines-append blank outline front (line ∷ back) before ∙ ap (λ r. r then λ a. with_lines a back) faulty);
   names = λ text outline front d back instructions fault said is before faulty.
       ap (λ r. r then program_in) said
-      ∙ ap (λ (is : Result (List Instr) ScriptFault). is then λ is. Ok (record { strings = outline.strings; instructions = is }))
+      ∙ ap (λ (is : Result (List (Step ℕ ℕ)) ScriptFault). is then λ is. Ok (record { strings = outline.strings; instructions = is }))
       (ap (with_resolved outline []) is ∙ with_resolved-append outline [] instructions front (d ∷ back) before
       ∙ ap (λ r. r then λ i. with_resolved outline (instructions ++ i ∷ []) back) faulty);
 }

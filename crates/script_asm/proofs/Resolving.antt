@@ -1,31 +1,35 @@
--- Instructions whose data is looked up.
-use Rattle.std.proofs.Common.{◌≡◌, ◌<◌, ◌≤◌, refl, sym, ◌∙◌, ap, subst, ℕ, suc, ◌+◌, List, [], ◌∷◌, ◌++◌, length, get_or, drop, Result, Ok, Err, inl, inr, arith, add-one, drop-cons, length-append}
+-- Instructions whose labels and data are looked up.
+use Rattle.std.proofs.Common.{◌≡◌, ◌<◌, ◌≤◌, refl, sym, ◌∙◌, ap, subst, ℕ, suc, ◌+◌, List, [], ◌∷◌, ◌++◌, length, get_or, drop, Result, Ok, Err, IfOk, inl, inr, arith, add-one, drop-cons, length-append, zero-add}
 use Rattle.std.specs.List.{AllByRecursion}
 use Rattle.std.proofs.lemmas.Bool.Decides.{eqb_tells}
 use Rattle.std.proofs.lemmas.List.{drop_all}
+use Rattle.program.specs.Listing.{IsSound, IsListing, string_at}
+use Rattle.program.specs.declared.instruction.Instruction.{Instruction}
+use Rattle.program.specs.declared.instruction.Instruction.TheVariants.{Write, Read, VfWrite, VfRead, Lend, Unlend, Poke, Peek, Arrive, RxStep, TxStep, IntStep, QueueStep, EepromStep, Link, Collect, Expect, And, JumpIfEqual, JumpUnlessEqual, Jump, Halt}
 use Rattle.script_asm.specs.Fault.{◌then◌}
-use Rattle.script_asm.specs.Listing.{IsSound, IsListing, string_at}
-use Rattle.script_asm.specs.Outline.{Outline, IsPlain, ArePlain}
-use Rattle.script_asm.specs.Script.{resolved, with_resolved, data_named, if_of_16}
+use Rattle.script_asm.specs.Operation.{Draft}
+use Rattle.script_asm.specs.Outline.{Outline}
+use Rattle.script_asm.specs.Places.{place_of}
+use Rattle.script_asm.specs.Resolved.{resolved, with_resolved, label_named, data_named, if_of_16, poked, IsInRange, IsReady}
 use Rattle.script_asm.specs.declared.faults.ScriptFault.{ScriptFault}
-use Rattle.script_asm.specs.declared.faults.ScriptFault.TheVariants.{Range}
-use Rattle.script_asm.specs.declared.instructions.Instruction.{Instruction}
-use Rattle.script_asm.specs.declared.instructions.Instruction.TheVariants as instr
-use Rattle.script_asm.specs.declared.operations.Draft.{Draft}
-use Rattle.script_asm.specs.declared.operations.Draft.TheVariants as draft
+use Rattle.script_asm.specs.declared.faults.ScriptFault.TheVariants.{UnknownLabel}
 use Rattle.script_asm.specs.declared.sheet.DraftLine.{DraftLine}
+use Rattle.script_asm.proofs.Outcomes.{then-IfOk, then-IfOk_of, ok_or-IfOk, IfOk-of, stepped}
 
-pushed : (found : Result Instruction ScriptFault) (before after : List Instruction) (f : List Instruction → Result (List Instruction) ScriptFault)
+abbrev Step : Type 0
+Step = Instruction ℕ ℕ
+
+pushed : (found : Result Step ScriptFault) (before after : List Step) (f : List Step → Result (List Step) ScriptFault)
     → (found then λ i. Ok (before ++ i ∷ [])) ≡ Ok after → (found then λ i. f (before ++ i ∷ [])) ≡ f after
 pushed (Ok i) before after f e = let same : before ++ i ∷ [] ≡ after = cc in ap f same
 pushed (Err fault) before after f e = cc
 
-refused : (found : Result Instruction ScriptFault) (before : List Instruction) (fault : ScriptFault) (f : List Instruction → Result (List Instruction) ScriptFault)
+refused : (found : Result Step ScriptFault) (before : List Step) (fault : ScriptFault) (f : List Step → Result (List Step) ScriptFault)
     → (found then λ i. Ok (before ++ i ∷ [])) ≡ Err fault → (found then λ i. f (before ++ i ∷ [])) ≡ Err fault
 refused (Ok i) before fault f e = cc
 refused (Err other) before fault f e = let same : other ≡ fault = cc in ap Err same
 
-pub with_resolved-added : (outline : Outline) (before after : List Instruction) (drafts : List DraftLine) (d : DraftLine) (k : ℕ) → k < length drafts → d ≡ get_or drafts k d
+pub with_resolved-added : (outline : Outline) (before after : List Step) (drafts : List DraftLine) (d : DraftLine) (k : ℕ) → k < length drafts → d ≡ get_or drafts k d
     → (resolved outline d.line d.draft then λ i. Ok (before ++ i ∷ [])) ≡ Ok after
     → with_resolved outline before (drop k drafts) ≡ with_resolved outline after (drop (k + 1) drafts)
 unfolding with_resolved
@@ -33,7 +37,7 @@ with_resolved-added outline before after drafts d k below at e =
     let here : drop k drafts ≡ d ∷ drop (k + 1) drafts = drop-cons drafts k d below ∙ ap (λ x. x ∷ drop (suc k) drafts) (sym at) ∙ ap (λ n. d ∷ drop n drafts) (sym (add-one k)) in
     rw here (pushed (resolved outline d.line d.draft) before after (λ is. with_resolved outline is (drop (k + 1) drafts)) e)
 
-pub with_resolved-stopped : (outline : Outline) (before : List Instruction) (fault : ScriptFault) (drafts : List DraftLine) (d : DraftLine) (k : ℕ) → k < length drafts → d ≡ get_or drafts k d
+pub with_resolved-stopped : (outline : Outline) (before : List Step) (fault : ScriptFault) (drafts : List DraftLine) (d : DraftLine) (k : ℕ) → k < length drafts → d ≡ get_or drafts k d
     → (resolved outline d.line d.draft then λ i. Ok (before ++ i ∷ [])) ≡ Err fault
     → with_resolved outline before (drop k drafts) ≡ Err fault
 unfolding with_resolved
@@ -41,84 +45,96 @@ with_resolved-stopped outline before fault drafts d k below at e =
     let here : drop k drafts ≡ d ∷ drop (k + 1) drafts = drop-cons drafts k d below ∙ ap (λ x. x ∷ drop (suc k) drafts) (sym at) ∙ ap (λ n. d ∷ drop n drafts) (sym (add-one k)) in
     rw here (refused (resolved outline d.line d.draft) before fault (λ is. with_resolved outline is (drop (k + 1) drafts)) e)
 
-pub with_resolved-ended : (outline : Outline) (before : List Instruction) (drafts : List DraftLine) (k : ℕ) → length drafts ≤ k → with_resolved outline before (drop k drafts) ≡ Ok before
+pub with_resolved-ended : (outline : Outline) (before : List Step) (drafts : List DraftLine) (k : ℕ) → length drafts ≤ k → with_resolved outline before (drop k drafts) ≡ Ok before
 unfolding with_resolved
 with_resolved-ended outline before drafts k past = rw (drop_all k drafts past) refl
 
 -- data that is poked has 16 bytes
-pub if_of_16-Ok : (outline : Outline) (line number found : ℕ) → if_of_16 outline line number ≡ Ok found → (number ≡ found) × (length (string_at outline.strings found) ≡ 16)
-if_of_16-Ok outline line number found e = elim (eqb_tells (length (string_at outline.strings number)) 16) [
-  | inl (test, is) ↦ let same : number ≡ found = (let step : Ok number ≡ Ok found = rw test at e in cc) in (same, rw (← same) is)
-  | inr (test, other) ↦ (let step : Err (Range line) ≡ Ok found = rw test at e in cc)
+pub if_of_16-Ok : (outline : Outline) (line number : ℕ) → IfOk (if_of_16 outline line number) (λ found. (number ≡ found) × (length (string_at outline.strings found) ≡ 16))
+if_of_16-Ok outline line number = elim (eqb_tells (length (string_at outline.strings number)) 16) [
+  | inl (test, is) ↦ rw test (refl, is)
+  | inr (test, other) ↦ rw test tt
 ]
 
--- what uses no data has what it uses
-plain-IsSound : (strings : List (List ℕ)) (i : Instruction) → IsSound [] i → IsSound strings i
-plain-IsSound strings (instr.Write address word) h = tt
-plain-IsSound strings (instr.Read address) h = tt
-plain-IsSound strings (instr.Lend block) h = tt
-plain-IsSound strings (instr.Unlend block) h = tt
-plain-IsSound strings (instr.Poke address number) h = absurd (omega (arith, h))
-plain-IsSound strings (instr.Peek address word) h = h
-plain-IsSound strings (instr.Arrive number) h = tt
-plain-IsSound strings instr.RxStep h = tt
-plain-IsSound strings (instr.TxStep queue) h = tt
-plain-IsSound strings (instr.IntStep group) h = tt
-plain-IsSound strings (instr.QueueStep direction queue) h = tt
-plain-IsSound strings (instr.Link up) h = tt
-plain-IsSound strings instr.Collect h = tt
+label_named-IfOk : (o : Outline) (line : ℕ) (name : List ℕ) → IsReady o → IfOk (label_named o line name) (λ pc. pc ≤ length o.drafts)
+label_named-IfOk o line name ready = ok_or-IfOk (λ pc. pc ≤ length o.drafts) (place_of o.labels name) (UnknownLabel line) (ready.labels name)
 
-poked : (outline : Outline) (address : ℕ) (i : Instruction) (number : Result ℕ ScriptFault) → ((found : ℕ) → number ≡ Ok found → length (string_at outline.strings found) ≡ 16)
-    → (number then λ n. Ok (instr.Poke address n)) ≡ Ok i → IsSound outline.strings i
-poked outline address i (Ok n) long e = let same : instr.Poke address n ≡ i = cc in subst (IsSound outline.strings) same (long n refl)
-poked outline address i (Err fault) long e = cc
+data_named-IfOk : (o : Outline) (line : ℕ) (name : List ℕ) → IsReady o → IfOk (data_named o line name) (λ number. number < length o.strings)
+data_named-IfOk o line name ready =
+    ok_or-IfOk (λ number. number < length o.strings) (place_of o.data_numbers name) (UnknownLabel line) (ready.data_numbers name)
 
-arrived : (outline : Outline) (i : Instruction) (number : Result ℕ ScriptFault) → (number then λ n. Ok (instr.Arrive n)) ≡ Ok i → IsSound outline.strings i
-arrived outline i (Ok n) e = let same : instr.Arrive n ≡ i = cc in subst (IsSound outline.strings) same tt
-arrived outline i (Err fault) e = cc
+second : {A : Type 0} (P : A → Type 0) (n : A) (r : Result A ScriptFault) → IfOk r (λ found. (n ≡ found) × P found) → IfOk r P
+second P n (Ok m) h = h.1
+second P n (Err e) h = tt
 
-named_16 : (outline : Outline) (line : ℕ) (number : Result ℕ ScriptFault) (found : ℕ) → (number then if_of_16 outline line) ≡ Ok found → length (string_at outline.strings found) ≡ 16
-named_16 outline line (Ok n) found e = (if_of_16-Ok outline line n found e).1
-named_16 outline line (Err fault) found e = cc
+poked-IfOk : (o : Outline) (line : ℕ) (name : List ℕ) → IfOk (poked o line name) (λ number. length (string_at o.strings number) ≡ 16)
+poked-IfOk o line name =
+    then-IfOk (λ number. length (string_at o.strings number) ≡ 16) (data_named o line name) (if_of_16 o line)
+    (λ n. second (λ number. length (string_at o.strings number) ≡ 16) n (if_of_16 o line n) (if_of_16-Ok o line n))
 
-resolved-IsSound : (outline : Outline) (line : ℕ) (d : Draft) (i : Instruction) → IsPlain d → resolved outline line d ≡ Ok i → IsSound outline.strings i
-resolved-IsSound outline line (draft.Plain instruction) i plain e =
-    let same : instruction ≡ i = cc in subst (IsSound outline.strings) same (plain-IsSound outline.strings instruction plain)
-resolved-IsSound outline line (draft.Poke address name) i plain e =
-    poked outline address i (data_named outline line name then if_of_16 outline line) (λ found is. named_16 outline line (data_named outline line name) found is) e
-resolved-IsSound outline line (draft.Arrive name) i plain e = arrived outline i (data_named outline line name) e
+abbrev Sound : Outline → Step → Type 0
+Sound o i = IsSound o.strings (length o.drafts) i
 
--- one more has its data
-AllByRecursion-push : {X : Type 0} (P : X → Type 0) (xs : List X) (x : X) → AllByRecursion P xs → P x → AllByRecursion P (xs ++ x ∷ [])
+-- what an instruction names is there
+resolved-sound : (o : Outline) (line : ℕ) (d : Draft) → IsReady o → IsInRange d → IfOk (resolved o line d) (Sound o)
+resolved-sound o line (Write address word) ready h = tt
+resolved-sound o line (Read address) ready h = tt
+resolved-sound o line (VfWrite function offset word) ready h = h
+resolved-sound o line (VfRead function offset) ready h = h
+resolved-sound o line (Lend block) ready h = h
+resolved-sound o line (Unlend block) ready h = h
+resolved-sound o line (Poke address name) ready h =
+    then-IfOk_of (Sound o) (λ number. length (string_at o.strings number) ≡ 16) (poked o line name) _ (poked-IfOk o line name) (λ number is. is)
+resolved-sound o line (Peek address word) ready h = h
+resolved-sound o line (Arrive name) ready h =
+    then-IfOk_of (Sound o) (λ number. number < length o.strings) (data_named o line name) _ (data_named-IfOk o line name ready) (λ number is. is)
+resolved-sound o line RxStep ready h = tt
+resolved-sound o line (TxStep queue) ready h = h
+resolved-sound o line (IntStep group) ready h = h
+resolved-sound o line (QueueStep direction queue) ready h = h
+resolved-sound o line EepromStep ready h = tt
+resolved-sound o line (Link up) ready h = tt
+resolved-sound o line Collect ready h = tt
+resolved-sound o line (Expect want mask) ready h = tt
+resolved-sound o line (And word) ready h = tt
+resolved-sound o line (JumpIfEqual word name) ready h =
+    then-IfOk_of (Sound o) (λ pc. pc ≤ length o.drafts) (label_named o line name) _ (label_named-IfOk o line name ready) (λ pc is. is)
+resolved-sound o line (JumpUnlessEqual word name) ready h =
+    then-IfOk_of (Sound o) (λ pc. pc ≤ length o.drafts) (label_named o line name) _ (label_named-IfOk o line name ready) (λ pc is. is)
+resolved-sound o line (Jump name) ready h =
+    then-IfOk_of (Sound o) (λ pc. pc ≤ length o.drafts) (label_named o line name) _ (label_named-IfOk o line name ready) (λ pc is. is)
+resolved-sound o line Halt ready h = tt
+
+pub AllByRecursion-push : {X : Type 0} (P : X → Type 0) (xs : List X) (x : X) → AllByRecursion P xs → P x → AllByRecursion P (xs ++ x ∷ [])
 AllByRecursion-push P [] x all here = (here, tt)
 AllByRecursion-push P (y ∷ xs) x all here = (all.0, AllByRecursion-push P xs x all.1 here)
 
--- the instructions of a program that was resolved
-pub record IsResolved (strings : List (List ℕ)) (instructions : List Instruction) (n : ℕ) : Type 0 where
-  pub sound : AllByRecursion (IsSound strings) instructions
-  pub count : length instructions ≡ n
-
-resolved_on : (outline : Outline) (before : List Instruction) (d : DraftLine) (more : List DraftLine) (result : List Instruction) (found : Result Instruction ScriptFault)
-    → resolved outline d.line d.draft ≡ found → IsPlain d.draft → AllByRecursion (IsSound outline.strings) before
-    → (found then λ i. with_resolved outline (before ++ i ∷ []) more) ≡ Ok result
-    → ((b : List Instruction) → AllByRecursion (IsSound outline.strings) b → with_resolved outline b more ≡ Ok result → IsResolved outline.strings result (length b + length more))
-    → IsResolved outline.strings result (length before + suc (length more))
-resolved_on outline before d more result (Err fault) is plain sound e rest = cc
-resolved_on outline before d more result (Ok i) is plain sound e rest =
-    let all = rest (before ++ i ∷ []) (AllByRecursion-push (IsSound outline.strings) before i sound (resolved-IsSound outline d.line d.draft i plain is)) e in
-    record { sound = all.sound; count = omega (arith, all.count, length-append before (i ∷ [])) }
-
-resolved_from : (outline : Outline) (before : List Instruction) (drafts : List DraftLine) (result : List Instruction) → ArePlain drafts → AllByRecursion (IsSound outline.strings) before
-    → with_resolved outline before drafts ≡ Ok result → IsResolved outline.strings result (length before + length drafts)
+length-with_resolved : (o : Outline) (before : List Step) (drafts : List DraftLine) (result : List Step) → with_resolved o before drafts ≡ Ok result
+    → length result ≡ length before + length drafts
 unfolding with_resolved
-resolved_from outline before [] result plain sound e =
-    let same : before ≡ result = cc in
-    record { sound = subst (AllByRecursion (IsSound outline.strings)) same sound; count = omega (arith, ap length same) }
-resolved_from outline before (d ∷ more) result plain sound e =
-    resolved_on outline before d more result (resolved outline d.line d.draft) refl plain.0 sound e (λ b all is. resolved_from outline b more result plain.1 all is)
+length-with_resolved o before [] result e = let same : before ≡ result = cc in omega (arith, ap length same)
+length-with_resolved o before (d ∷ more) result e =
+    let next = stepped (resolved o d.line d.draft) (λ i. with_resolved o (before ++ i ∷ []) more) result e in
+    omega (arith, length-with_resolved o (before ++ next.0 ∷ []) more result next.2, length-append before (next.0 ∷ []))
+
+with_resolved-sound : (o : Outline) (before : List Step) (drafts : List DraftLine) (result : List Step) → IsReady o
+    → AllByRecursion (λ d. IsInRange d.draft) drafts → AllByRecursion (Sound o) before → with_resolved o before drafts ≡ Ok result → AllByRecursion (Sound o) result
+unfolding with_resolved
+with_resolved-sound o before [] result ready ranges sound e = let same : before ≡ result = cc in subst (AllByRecursion (Sound o)) same sound
+with_resolved-sound o before (d ∷ more) result ready ranges sound e =
+    let next = stepped (resolved o d.line d.draft) (λ i. with_resolved o (before ++ i ∷ []) more) result e in
+    let here = IfOk-of (Sound o) (resolved o d.line d.draft) next.0 next.1 (resolved-sound o d.line d.draft ready ranges.0) in
+    with_resolved-sound o (before ++ next.0 ∷ []) more result ready ranges.1 (AllByRecursion-push (Sound o) before next.0 sound here) next.2
 
 -- what was resolved is a program
-pub with_resolved-IsListing : (outline : Outline) (result : List Instruction) → ArePlain outline.drafts → length outline.drafts ≤ 4096
-    → with_resolved outline [] outline.drafts ≡ Ok result → IsListing (record { strings = outline.strings; instructions = result })
-with_resolved-IsListing outline result plain few e =
-    let all = resolved_from outline [] outline.drafts result plain tt e in record { few = omega (arith, all.count); sound = all.sound }
+pub with_resolved-IsListing : (outline : Outline) (result : List Step) → IsReady outline → with_resolved outline [] outline.drafts ≡ Ok result
+    → IsListing (record { strings = outline.strings; instructions = result })
+with_resolved-IsListing outline result ready e =
+    let count = length-with_resolved outline [] outline.drafts result e in
+    record {
+      few = omega (arith, count, ready.few_drafts);
+      few_strings = ready.few_strings;
+      strings = ready.strings;
+      sound = subst (λ n. AllByRecursion (IsSound outline.strings n) result) (sym (count ∙ zero-add (length outline.drafts)))
+          (with_resolved-sound outline [] outline.drafts result ready ready.drafts tt e);
+    }

@@ -5,7 +5,7 @@ use Rattle.lexer.specs.declared.numbers.NumberFault.TheVariants.{Malformed, TooL
 use Rattle.script_asm.specs.declared.faults.LineFault.{LineFault}
 use Rattle.script_asm.specs.declared.faults.LineFault.TheVariants as line
 use Rattle.script_asm.specs.declared.faults.ScriptFault.{ScriptFault}
-use Rattle.script_asm.specs.declared.faults.ScriptFault.TheVariants.{Syntax, UnknownName, Range, OutOfMemory}
+use Rattle.script_asm.specs.declared.faults.ScriptFault.TheVariants.{Syntax, UnknownName, Range, TooLong, OutOfMemory}
 
 -- the second step, where the first gave a value
 infixl 10 ◌then◌
@@ -19,7 +19,12 @@ told_first line.Syntax other = line.Syntax
 told_first line.UnknownName line.Syntax = line.Syntax
 told_first line.UnknownName line.UnknownName = line.UnknownName
 told_first line.UnknownName line.Range = line.UnknownName
-told_first line.Range other = other
+told_first line.UnknownName line.TooLong = line.UnknownName
+told_first line.Range line.Syntax = line.Syntax
+told_first line.Range line.UnknownName = line.UnknownName
+told_first line.Range line.Range = line.Range
+told_first line.Range line.TooLong = line.Range
+told_first line.TooLong other = other
 
 -- two parts of a line
 abbrev pub both : {A B : Type 0} → Result A LineFault → Result B LineFault → Result (A × B) LineFault
@@ -38,6 +43,7 @@ abbrev pub fault_at : ℕ → LineFault → ScriptFault
 fault_at number line.Syntax = Syntax number
 fault_at number line.UnknownName = UnknownName number
 fault_at number line.Range = Range number
+fault_at number line.TooLong = TooLong
 
 -- what a line of this number says
 abbrev pub at_line : {A : Type 0} → ℕ → Result A LineFault → Result A ScriptFault

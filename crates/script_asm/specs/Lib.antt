@@ -1,9 +1,12 @@
 pub mod Read
 pub mod Fault
 pub mod Target
-pub mod Instruction
+pub mod Operation
 pub mod Statement
+pub mod Places
 pub mod Outline
+pub mod Resolved
 pub mod Script
-pub mod Listing
+pub mod Printing
+pub mod Disassembly
 pub mod Laws

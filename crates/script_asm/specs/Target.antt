@@ -1,5 +1,5 @@
 -- The address that a word of a script names.
-use Rattle.std.specs.Prelude.{ℕ, Bool, ◌-◌, ◌&&◌, ◌==◌, List, length, take, Option, Some, None, unwrap_or, Result, Ok, Err, slice_index, nat_lt, if◌then◌else◌}
+use Rattle.std.specs.Prelude.{ℕ, Bool, ◌-◌, ◌&&◌, ◌==◌, List, length, take, Option, Some, None, unwrap_or, Result, Ok, Err, slice_index, nat_le, nat_lt, if◌then◌else◌}
 use Rattle.std.specs.Option.{ok_or}
 use Rattle.std.specs.List.{position_or_len, before_first, after_first}
 use Rattle.reg_table.specs.declared.rows.RowId.{RowId}
@@ -10,7 +10,7 @@ use Rattle.reg_table.specs.Place.{address_among}
 use Rattle.lexer.specs.Name.{is_name}
 use Rattle.lexer.specs.Number.{number_of}
 use Rattle.script_asm.specs.declared.faults.LineFault.{LineFault}
-use Rattle.script_asm.specs.declared.faults.LineFault.TheVariants.{Syntax, UnknownName, Range}
+use Rattle.script_asm.specs.declared.faults.LineFault.TheVariants.{Syntax, UnknownName, Range, TooLong}
 use Rattle.script_asm.specs.Fault.{◌then◌, both, number_fault}
 
 -- the number that a word writes, below 2^32
@@ -21,9 +21,9 @@ number_in word = elim (number_of word) [ Ok number ↦ Ok number | Err fault ↦
 abbrev pub number_below : ℕ → List ℕ → Result ℕ LineFault
 number_below limit word = number_in word then λ number. if nat_lt number limit then Ok number else Err Range
 
--- the name that a word is
+-- the name that a word is: it has at most 32 bytes
 abbrev pub name_in : List ℕ → Result (List ℕ) LineFault
-name_in word = if is_name word then Ok word else Err Syntax
+name_in word = if is_name word then (if nat_le (length word) 32 then Ok word else Err TooLong) else Err Syntax
 
 -- the row with a name
 abbrev pub row_in : List ℕ → Result RowId LineFault

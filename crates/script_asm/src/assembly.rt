@@ -7,10 +7,10 @@ ghost use Rattle.script_asm.specs.Outline.{blank};
 ghost use Rattle.script_asm.specs.Script.{with_line, with_lines, program_of};
 
 use crate::faults::ScriptFault;
-use crate::programs::Program;
 use crate::sheet::Sheet;
 use crate::statements::read_line;
 use lexer::{Line, Lines};
+use program::Program;
 use std::alloc::Global;
 
 /// Adds what a line says.

@@ -7,8 +7,11 @@ use lexer::NumberFault;
 use std::alloc::{AllocError, AllocFailed};
 use thiserror::Error;
 
-/// Why a text is no script: the first faulty line decides, and in it the fault that stands first here;
-/// but names of data are looked up only once no line is faulty otherwise. Lines are numbered from 1.
+/// Why a text is no script. Lines are numbered from 1.
+///
+/// The first line with `Syntax`, `UnknownName`, `Range`, `TwoLabels` or `TooLong` decides, and in it the first of
+/// these. Only where no line has one, labels and data are looked up: then the first line with `UnknownLabel`, or with
+/// `Range` for data that can't be poked, decides.
 #[derive(Clone, Copy, Debug, PartialEq, Eq, Error)]
 pub enum ScriptFault {
     /// The line has no form of the language.
@@ -17,18 +20,19 @@ pub enum ScriptFault {
     /// The line names a row that isn't in the register table.
     #[error("line {0}: no register of this name")]
     UnknownName(usize),
-    /// The line names data that no line defines. It is told only of a text whose lines all say something.
-    #[error("line {0}: no data of this name")]
+    /// The line jumps to a label, or names data, that no line gives. It is told only of a text whose lines all say
+    /// something.
+    #[error("line {0}: no label or data of this name")]
     UnknownLabel(usize),
-    /// The line gives data a name that an earlier line gave.
+    /// The line gives a label, or data, a name that an earlier line gave to another of its kind.
     #[error("line {0}: a name given twice")]
     TwoLabels(usize),
-    /// A number on the line is out of its range, or an index isn't below its row's count. Or, where all
-    /// lines say something, the line pokes data that hasn't 16 bytes.
+    /// A number on the line is out of its range, or an index isn't below its row's count. Or, where all lines say
+    /// something, the line pokes data that hasn't 16 bytes.
     #[error("line {0}: a number out of range")]
     Range(usize),
-    /// There are more than 4,096 instructions or 1,024 data strings, a data string has more than 16,384
-    /// bytes, or a name of data more than 32.
+    /// There are more than 4,096 instructions or 1,024 data strings, a data string has more than 16,384 bytes, or the
+    /// name of a label or of data more than 32.
     #[error("beyond a limit of scripts")]
     TooLong,
     /// There is no memory for the program. It may stand in place of any answer.
@@ -59,9 +63,14 @@ impl<T: Drop> From<AllocFailed<T>> for ScriptFault {
 /// What may be wrong with a line by itself, the fault that is told first standing first.
 #[derive(Clone, Copy, Debug, PartialEq, Eq)]
 pub(crate) enum LineFault {
+    /// The line has no form of the language.
     Syntax,
+    /// It names no register.
     UnknownName,
+    /// A number is out of its range.
     Range,
+    /// A name has more than 32 bytes.
+    TooLong,
 }
 
 impl From<NumberFault> for LineFault {
@@ -85,7 +94,8 @@ impl LineFault {
         match (self, other) {
             (LineFault::Syntax, _) | (_, LineFault::Syntax) => LineFault::Syntax,
             (LineFault::UnknownName, _) | (_, LineFault::UnknownName) => LineFault::UnknownName,
-            (LineFault::Range, LineFault::Range) => LineFault::Range,
+            (LineFault::Range, _) | (_, LineFault::Range) => LineFault::Range,
+            (LineFault::TooLong, LineFault::TooLong) => LineFault::TooLong,
         }
     }
 
@@ -97,6 +107,7 @@ impl LineFault {
             LineFault::Syntax => ScriptFault::Syntax(number),
             LineFault::UnknownName => ScriptFault::UnknownName(number),
             LineFault::Range => ScriptFault::Range(number),
+            LineFault::TooLong => ScriptFault::TooLong,
         }
     }
 }

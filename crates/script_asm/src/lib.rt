@@ -1,22 +1,24 @@
-//! Register scripts: `assemble` makes a `Program` of a text.
+//! Register scripts: `assemble` makes a `Program` of a text, and `disassemble` a text of a program.
 //!
-//! A text means a program by `program_of`, line by line in the words of the script language. `nicbench` stands on
-//! this crate.
+//! A text means a program by `program_of`, line by line in the words of the script language, and a program has its
+//! text by `text_of`. `nicbench` and the debugger stand on this crate.
 #![tactic(auto)]
 
 mod assembly;
+mod disassembly;
 mod faults;
-mod instructions;
 mod laws;
 mod names;
 mod operations;
-mod programs;
+mod places;
+mod printing;
 mod sheet;
 mod statements;
 mod targets;
 
 pub use assembly::assemble;
+pub use disassembly::{OutOfMemory, disassemble};
 pub use faults::ScriptFault;
-pub use instructions::Instruction;
-pub use laws::{data_has_its_number, first_fault_decides, program_is_what_lines_say};
-pub use programs::{DATA_BYTES, DATA_LIMIT, INSTRUCTION_LIMIT, Program};
+pub use laws::{
+    faults_come_in_order, first_fault_decides, names_have_their_places, program_is_what_lines_say,
+};

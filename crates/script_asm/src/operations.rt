@@ -1,111 +1,19 @@
 //! Operations and their operands.
 
 ghost use Rattle.std.specs.Prelude.{◌≡◌};
-ghost use Rattle.script_asm.specs.Instruction.{operation_named, no_operand, one_operand, two_operands, direction_in, link_in, group_in, number16_in, draft_of};
-ghost use Rattle.script_asm.specs.Read.{ok_map};
+ghost use Rattle.script_asm.specs.Operation.{beside, table_alone, table_of_one, table_of_two, table_of_three, instruction_in, direction_in, link_in, group_in, number16_in};
 ghost use Rattle.script_asm.specs.Target.{number_below};
-ghost use Rattle.script_asm.specs.Script.{has_short_name};
 
 use crate::faults::{LineFault, both};
-use crate::instructions::Instruction;
 use crate::names::Name;
 use crate::targets::{number, number_below, target};
+use intr_unit::Group;
 use lexer::Words;
-use nic_device::{Dir, Group};
+use program::Instruction;
+use register_file::Dir;
 
-/// The first word of an instruction.
-#[derive(Clone, Copy, Debug, PartialEq, Eq)]
-pub(crate) enum Operation {
-    Write,
-    Read,
-    Lend,
-    Unlend,
-    Poke,
-    Peek,
-    Arrive,
-    RxStep,
-    TxStep,
-    IntStep,
-    QueueStep,
-    Link,
-    Collect,
-}
-
-/// An instruction as its line writes it, with data by its name.
-#[derive(Debug, Drop)]
-pub(crate) enum Draft<'a> {
-    /// One that names no data.
-    Plain(Instruction),
-    /// `poke`, at a bus address.
-    Poke(u32, Name<'a>),
-    /// `arrive`.
-    Arrive(Name<'a>),
-}
-
-impl<'a> Draft<'a> {
-    /// Whether the name of data, if it has one, is short.
-    pub(crate) fn has_short_name(&self) -> bool
-        ensures { result ≡ has_short_name self.now }
-    {
-        match self {
-            Draft::Plain(_) => true,
-            Draft::Poke(_, name) => name.is_short(),
-            Draft::Arrive(name) => name.is_short(),
-        }
-    }
-}
-
-/// The operation that a word names.
-pub(crate) fn operation_named(word: &str) -> Option<Operation>
-    ensures { result ≡ operation_named word.now }
-{
-    match word {
-        "w" => Some(Operation::Write),
-        "r" => Some(Operation::Read),
-        "lend" => Some(Operation::Lend),
-        "unlend" => Some(Operation::Unlend),
-        "poke" => Some(Operation::Poke),
-        "peek" => Some(Operation::Peek),
-        "arrive" => Some(Operation::Arrive),
-        "rx" => Some(Operation::RxStep),
-        "tx" => Some(Operation::TxStep),
-        "int" => Some(Operation::IntStep),
-        "qstep" => Some(Operation::QueueStep),
-        "link" => Some(Operation::Link),
-        "collect" => Some(Operation::Collect),
-        _ => None,
-    }
-}
-
-/// No operand.
-fn no_operand(mut words: Words<'_>) -> Result<(), LineFault>
-    ensures { result ≡ no_operand words.entry }
-{
-    match words.next() {
-        None => Ok(()),
-        Some(_) => Err(LineFault::Syntax),
-    }
-}
-
-/// The one operand.
-fn one_operand<'a>(mut words: Words<'a>) -> Result<&'a str, LineFault>
-    ensures { ok_map (λ word. word.now) result ≡ one_operand words.entry }
-{
-    match (words.next(), words.next()) {
-        (Some(word), None) => Ok(word),
-        _ => Err(LineFault::Syntax),
-    }
-}
-
-/// The two operands.
-pub(crate) fn two_operands<'a>(mut words: Words<'a>) -> Result<(&'a str, &'a str), LineFault>
-    ensures { ok_map (λ word. (word.0.now, word.1.now)) result ≡ two_operands words.entry }
-{
-    match (words.next(), words.next(), words.next()) {
-        (Some(first), Some(second), None) => Ok((first, second)),
-        _ => Err(LineFault::Syntax),
-    }
-}
+/// An instruction as its line writes it, with labels and data by name.
+pub(crate) type Draft<'a> = Instruction<Name<'a>, Name<'a>>;
 
 /// The direction that a word names.
 fn direction(word: &str) -> Result<Dir, LineFault>
@@ -129,6 +37,14 @@ fn link(word: &str) -> Result<bool, LineFault>
     }
 }
 
+/// The number of a virtual function, 0 to 62.
+fn function(word: &str) -> Result<u8, LineFault>
+    ensures { result ≡ number_below 63 word.now }
+{
+    let number = number_below(63, word)?;
+    Ok(number as u8)
+}
+
 /// The group of interrupts that a word names.
 fn group(word: &str) -> Result<Group, LineFault>
     ensures { result ≡ group_in word.now }
@@ -136,8 +52,8 @@ fn group(word: &str) -> Result<Group, LineFault>
     match word {
         "pf" => Ok(Group::Pf),
         _ => {
-            let number = number_below(63, word)?;
-            Ok(Group::Vf(number as u8))
+            let function = function(word)?;
+            Ok(Group::Vf(function))
         }
     }
 }
@@ -158,69 +74,119 @@ fn word_number(word: &str) -> Result<u8, LineFault>
     Ok(number as u8)
 }
 
-/// The instruction of an operation and its operands.
-pub(crate) fn read_draft<'a>(
-    operation: Operation,
-    operands: Words<'a>,
-) -> Result<Draft<'a>, LineFault>
-    ensures { result ≡ draft_of operation operands.entry }
+/// An instruction without operands.
+fn alone<'a>(name: &str) -> Result<Draft<'a>, LineFault>
+    ensures { result ≡ beside name.now table_alone }
 {
-    match operation {
-        Operation::Write => {
-            let (address, word) = two_operands(operands)?;
-            let (address, word) = both(target(address), number(word))?;
-            Ok(Draft::Plain(Instruction::Write(address, word)))
+    match name {
+        "rx" => Ok(Instruction::RxStep),
+        "eestep" => Ok(Instruction::EepromStep),
+        "collect" => Ok(Instruction::Collect),
+        "halt" => Ok(Instruction::Halt),
+        _ => Err(LineFault::Syntax),
+    }
+}
+
+/// An instruction with one operand.
+fn with_one<'a>(name: &str, a: &'a str) -> Result<Draft<'a>, LineFault>
+    ensures { result ≡ beside name.now (table_of_one a.now) }
+{
+    match name {
+        "r" => Ok(Instruction::Read(target(a)?)),
+        "lend" => Ok(Instruction::Lend(number16(a)?)),
+        "unlend" => Ok(Instruction::Unlend(number16(a)?)),
+        "arrive" => Ok(Instruction::Arrive(Name::of(a)?)),
+        "tx" => Ok(Instruction::TxStep(number16(a)?)),
+        "int" => Ok(Instruction::IntStep(group(a)?)),
+        "link" => Ok(Instruction::Link(link(a)?)),
+        "expect" => {
+            let want = number(a)?;
+            Ok(Instruction::Expect {
+                want,
+                mask: u32::MAX,
+            })
         }
-        Operation::Read => {
-            let address = target(one_operand(operands)?)?;
-            Ok(Draft::Plain(Instruction::Read(address)))
+        "and" => Ok(Instruction::And(number(a)?)),
+        "jmp" => Ok(Instruction::Jump(Name::of(a)?)),
+        _ => Err(LineFault::Syntax),
+    }
+}
+
+/// An instruction with two operands.
+fn with_two<'a>(name: &str, a: &'a str, b: &'a str) -> Result<Draft<'a>, LineFault>
+    ensures { result ≡ beside name.now (table_of_two a.now b.now) }
+{
+    match name {
+        "w" => {
+            let (address, word) = both(target(a), number(b))?;
+            Ok(Instruction::Write(address, word))
         }
-        Operation::Lend => {
-            let block = number16(one_operand(operands)?)?;
-            Ok(Draft::Plain(Instruction::Lend(block)))
+        "vr" => {
+            let (function, offset) = both(function(a), number(b))?;
+            Ok(Instruction::VfRead { function, offset })
         }
-        Operation::Unlend => {
-            let block = number16(one_operand(operands)?)?;
-            Ok(Draft::Plain(Instruction::Unlend(block)))
+        "poke" => {
+            let (address, data) = both(number(a), Name::of(b))?;
+            Ok(Instruction::Poke(address, data))
         }
-        Operation::Poke => {
-            let (address, name) = two_operands(operands)?;
-            let (address, name) = both(number(address), Name::of(name))?;
-            Ok(Draft::Poke(address, name))
+        "peek" => {
+            let (address, word) = both(number(a), word_number(b))?;
+            Ok(Instruction::Peek(address, word))
         }
-        Operation::Peek => {
-            let (address, word) = two_operands(operands)?;
-            let (address, word) = both(number(address), word_number(word))?;
-            Ok(Draft::Plain(Instruction::Peek(address, word)))
+        "qstep" => {
+            let (direction, queue) = both(direction(a), number16(b))?;
+            Ok(Instruction::QueueStep(direction, queue))
         }
-        Operation::Arrive => {
-            let name = Name::of(one_operand(operands)?)?;
-            Ok(Draft::Arrive(name))
+        "expect" => {
+            let (want, mask) = both(number(a), number(b))?;
+            Ok(Instruction::Expect { want, mask })
         }
-        Operation::RxStep => {
-            no_operand(operands)?;
-            Ok(Draft::Plain(Instruction::RxStep))
+        "jeq" => {
+            let (word, label) = both(number(a), Name::of(b))?;
+            Ok(Instruction::JumpIfEqual(word, label))
         }
-        Operation::TxStep => {
-            let queue = number16(one_operand(operands)?)?;
-            Ok(Draft::Plain(Instruction::TxStep(queue)))
+        "jne" => {
+            let (word, label) = both(number(a), Name::of(b))?;
+            Ok(Instruction::JumpUnlessEqual(word, label))
         }
-        Operation::IntStep => {
-            let group = group(one_operand(operands)?)?;
-            Ok(Draft::Plain(Instruction::IntStep(group)))
+        _ => Err(LineFault::Syntax),
+    }
+}
+
+/// An instruction with three operands.
+fn with_three<'a>(name: &str, a: &str, b: &str, c: &str) -> Result<Draft<'a>, LineFault>
+    ensures { result ≡ beside name.now (table_of_three a.now b.now c.now) }
+{
+    match name {
+        "vw" => {
+            let (function, (offset, word)) = both(function(a), both(number(b), number(c)))?;
+            Ok(Instruction::VfWrite {
+                function,
+                offset,
+                word,
+            })
         }
-        Operation::QueueStep => {
-            let (direction_word, queue) = two_operands(operands)?;
-            let (direction, queue) = both(direction(direction_word), number16(queue))?;
-            Ok(Draft::Plain(Instruction::QueueStep(direction, queue)))
-        }
-        Operation::Link => {
-            let up = link(one_operand(operands)?)?;
-            Ok(Draft::Plain(Instruction::Link(up)))
-        }
-        Operation::Collect => {
-            no_operand(operands)?;
-            Ok(Draft::Plain(Instruction::Collect))
-        }
+        _ => Err(LineFault::Syntax),
+    }
+}
+
+/// The instruction of an operation's name and its operands.
+pub(crate) fn read_instruction<'a>(
+    name: &str,
+    mut operands: Words<'a>,
+) -> Result<Draft<'a>, LineFault>
+    ensures { result ≡ instruction_in name.now operands.entry }
+{
+    match (
+        operands.next(),
+        operands.next(),
+        operands.next(),
+        operands.next(),
+    ) {
+        (None, _, _, _) => alone(name),
+        (Some(a), None, _, _) => with_one(name, a),
+        (Some(a), Some(b), None, _) => with_two(name, a, b),
+        (Some(a), Some(b), Some(c), None) => with_three(name, a, b, c),
+        (Some(_), Some(_), Some(_), Some(_)) => Err(LineFault::Syntax),
     }
 }

@@ -1,18 +1,19 @@
-//! What lines have said, before the names of data are looked up.
+//! What lines have said, before labels and names of data are looked up.
 
-ghost use Rattle.std.specs.Prelude.{◌≡◌, ◌≢◌, ◌≤◌, ◌<◌, ◌++◌, ◌∷◌, [], length, IfSome, Ok, Err};
+ghost use Rattle.std.specs.Prelude.{◌≡◌, ◌≤◌, ◌++◌, ◌∷◌, [], length, Ok, Err};
 ghost use Rattle.script_asm.specs.Fault.{Gives, ◌then◌};
-ghost use Rattle.script_asm.specs.Listing.{string_at};
-ghost use Rattle.script_asm.specs.Outline.{blank, ArePlain};
-ghost use Rattle.script_asm.specs.Script.{number_of_data, with_data, with_draft, with_statement, data_named, if_of_16, resolved, with_resolved, program_in};
+ghost use Rattle.script_asm.specs.Outline.{blank};
+ghost use Rattle.script_asm.specs.Resolved.{label_named, data_named, poked, resolved, with_resolved, IsReady};
+ghost use Rattle.script_asm.specs.Script.{with_label, with_data, with_draft, with_statement, program_in};
+ghost use Rattle.program.specs.Listing.{string_at};
 
 use crate::faults::ScriptFault;
-use crate::instructions::Instruction;
 use crate::names::Name;
 use crate::operations::Draft;
-use crate::programs::{DATA_BYTES, DATA_LIMIT, INSTRUCTION_LIMIT, Program};
+use crate::places::Places;
 use crate::statements::Statement;
 use dma_arena::Octets;
+use program::{DATA_BYTES, DATA_LIMIT, INSTRUCTION_LIMIT, Instruction, Program};
 use std::alloc::Global;
 use std::marker::Model;
 
@@ -23,11 +24,12 @@ pub(crate) struct DraftLine<'a> {
     draft: Draft<'a>,
 }
 
-/// The names of the data strings and the strings themselves, both in the order of their lines, and the
-/// instructions.
+/// Where the labels stand, the numbers of the data strings by their names, and the strings and the instructions in the
+/// order of their lines. Empty lines take no room.
 #[derive(Debug, Drop)]
 pub(crate) struct Sheet<'a> {
-    names: Vec<Name<'a>>,
+    labels: Places<'a>,
+    data_numbers: Places<'a>,
     strings: Vec<Octets>,
     drafts: Vec<DraftLine<'a>>,
 }
@@ -37,9 +39,14 @@ impl<'a> Model for Sheet<'a> {
 
     ghost Value = { Outline };
 
-    ghost view = { λ s. record { names = s.names.items; strings = s.strings.items; drafts = s.drafts.items } };
+    ghost use Rattle.std.specs.Coded.{codes};
+    ghost use Rattle.script_asm.specs.Places.{places_code};
 
-    ghost invariant = { λ s. IsOutline (record { names = s.names.items; strings = s.strings.items; drafts = s.drafts.items }) };
+    ghost coded = { Prim.hlevel (codes, places_code) };
+
+    ghost view = { λ s. record { labels = s.labels; data_numbers = s.data_numbers; strings = s.strings.items; drafts = s.drafts.items } };
+
+    ghost invariant = { λ s. IsOutline (record { labels = s.labels; data_numbers = s.data_numbers; strings = s.strings.items; drafts = s.drafts.items }) };
 }
 
 impl<'a> Sheet<'a> {
@@ -48,33 +55,35 @@ impl<'a> Sheet<'a> {
         ensures { result ≡ blank }
     {
         Sheet {
-            names: Vec::new(alloc),
+            labels: Places::new(alloc),
+            data_numbers: Places::new(alloc),
             strings: Vec::new(alloc),
             drafts: Vec::new(alloc),
         }
     }
 
-    /// The number of the data string with a name.
-    fn number_of_data(&self, name: &Name<'_>) -> Option<usize>
-        ensures number { result ≡ number_of_data self.now.names name.now }
-        ensures small { IfSome result (λ number. number < 1024) }
+    /// Adds a label, which stands where the next instruction will.
+    fn add_label(&mut self, line: usize, name: Name<'a>) -> Result<(), ScriptFault>
+        ensures { Gives (λ _. self.new) result (with_label self.old line name.entry) }
     {
-        self.names.iter().position(|known| known.is(name))
+        if self.labels.place_of(&name).is_some() {
+            return Err(ScriptFault::TwoLabels(line));
+        }
+        self.labels.add(name, self.drafts.len() as u16)
     }
 
     /// Adds a data string.
     fn add_data(&mut self, line: usize, name: Name<'a>, string: Octets) -> Result<(), ScriptFault>
         ensures { Gives (λ _. self.new) result (with_data self.old line name.entry string) }
     {
-        if self.number_of_data(&name).is_some() {
+        if self.data_numbers.place_of(&name).is_some() {
             return Err(ScriptFault::TwoLabels(line));
         }
-        let fits = string.bytes().len() <= DATA_BYTES;
-        if !name.is_short() || !fits || self.names.len() >= DATA_LIMIT {
+        if string.bytes().len() > DATA_BYTES || self.strings.len() >= DATA_LIMIT {
             return Err(ScriptFault::TooLong);
         }
+        self.data_numbers.add(name, self.strings.len() as u16)?;
         self.strings.push(string)?;
-        self.names.push(name)?;
         Ok(())
     }
 
@@ -82,7 +91,7 @@ impl<'a> Sheet<'a> {
     fn add_draft(&mut self, line: usize, draft: Draft<'a>) -> Result<(), ScriptFault>
         ensures { Gives (λ _. self.new) result (with_draft self.old line draft.entry) }
     {
-        if !draft.has_short_name() || self.drafts.len() >= INSTRUCTION_LIMIT {
+        if self.drafts.len() >= INSTRUCTION_LIMIT {
             return Err(ScriptFault::TooLong);
         }
         self.drafts.push(DraftLine { line, draft })?;
@@ -95,19 +104,28 @@ impl<'a> Sheet<'a> {
     {
         match statement {
             Statement::Empty => Ok(()),
+            Statement::Label(name) => self.add_label(line, name),
             Statement::Data(name, string) => self.add_data(line, name, string),
             Statement::Instruction(draft) => self.add_draft(line, draft),
         }
     }
 
-    /// The number of the data string with a name that a line names.
+    /// Where the label stands that a line jumps to.
+    fn label_named(&self, line: usize, name: &Name<'_>) -> Result<u16, ScriptFault>
+        ensures { result ≡ label_named self.now line name.now }
+    {
+        self.labels
+            .place_of(name)
+            .ok_or(ScriptFault::UnknownLabel(line))
+    }
+
+    /// The number of the data string that a line names.
     fn data_named(&self, line: usize, name: &Name<'_>) -> Result<u16, ScriptFault>
         ensures { result ≡ data_named self.now line name.now }
     {
-        match self.number_of_data(name) {
-            Some(number) => Ok(number as u16),
-            None => Err(ScriptFault::UnknownLabel(line)),
-        }
+        self.data_numbers
+            .place_of(name)
+            .ok_or(ScriptFault::UnknownLabel(line))
     }
 
     /// How many bytes a data string has.
@@ -120,27 +138,71 @@ impl<'a> Sheet<'a> {
         }
     }
 
-    /// An instruction with its data by number.
-    fn resolved(&self, line: usize, draft: &Draft<'a>) -> Result<Instruction, ScriptFault>
-        ensures { result ≡ resolved self.now line draft.now }
+    /// The number of the data string of 16 bytes that a line pokes.
+    fn poked(&self, line: usize, name: &Name<'_>) -> Result<u16, ScriptFault>
+        ensures { result ≡ poked self.now line name.now }
     {
-        match draft {
-            Draft::Plain(instruction) => Ok(*instruction),
-            Draft::Poke(address, name) => {
-                let number = self.data_named(line, name)?;
-                if self.bytes_of(number) != 16 {
-                    return Err(ScriptFault::Range(line));
-                }
-                Ok(Instruction::Poke(*address, number))
-            }
-            Draft::Arrive(name) => {
-                let number = self.data_named(line, name)?;
-                Ok(Instruction::Arrive(number))
-            }
+        let number = self.data_named(line, name)?;
+        if self.bytes_of(number) == 16 {
+            Ok(number)
+        } else {
+            Err(ScriptFault::Range(line))
         }
     }
 
-    /// Adds an instruction with its data by number.
+    /// An instruction with its label and its data by number.
+    fn resolved(&self, line: usize, draft: &Draft<'a>) -> Result<Instruction, ScriptFault>
+        ensures { result ≡ resolved self.now line draft.now }
+    {
+        match *draft {
+            Instruction::Write(address, word) => Ok(Instruction::Write(address, word)),
+            Instruction::Read(address) => Ok(Instruction::Read(address)),
+            Instruction::VfWrite {
+                function,
+                offset,
+                word,
+            } => Ok(Instruction::VfWrite {
+                function,
+                offset,
+                word,
+            }),
+            Instruction::VfRead { function, offset } => Ok(Instruction::VfRead {
+                function,
+                offset,
+            }),
+            Instruction::Lend(block) => Ok(Instruction::Lend(block)),
+            Instruction::Unlend(block) => Ok(Instruction::Unlend(block)),
+            Instruction::Poke(address, ref name) => Ok(Instruction::Poke(
+                address,
+                self.poked(line, name)?,
+            )),
+            Instruction::Peek(address, word) => Ok(Instruction::Peek(address, word)),
+            Instruction::Arrive(ref name) => Ok(Instruction::Arrive(self.data_named(line, name)?)),
+            Instruction::RxStep => Ok(Instruction::RxStep),
+            Instruction::TxStep(queue) => Ok(Instruction::TxStep(queue)),
+            Instruction::IntStep(group) => Ok(Instruction::IntStep(group)),
+            Instruction::QueueStep(direction, queue) => Ok(Instruction::QueueStep(
+                direction, queue,
+            )),
+            Instruction::EepromStep => Ok(Instruction::EepromStep),
+            Instruction::Link(up) => Ok(Instruction::Link(up)),
+            Instruction::Collect => Ok(Instruction::Collect),
+            Instruction::Expect { want, mask } => Ok(Instruction::Expect { want, mask }),
+            Instruction::And(word) => Ok(Instruction::And(word)),
+            Instruction::JumpIfEqual(word, ref name) => Ok(Instruction::JumpIfEqual(
+                word,
+                self.label_named(line, name)?,
+            )),
+            Instruction::JumpUnlessEqual(word, ref name) => Ok(Instruction::JumpUnlessEqual(
+                word,
+                self.label_named(line, name)?,
+            )),
+            Instruction::Jump(ref name) => Ok(Instruction::Jump(self.label_named(line, name)?)),
+            Instruction::Halt => Ok(Instruction::Halt),
+        }
+    }
+
+    /// Adds an instruction with its label and its data by number.
     fn push_resolved(
         &self,
         instructions: &mut Vec<Instruction>,
@@ -154,7 +216,7 @@ impl<'a> Sheet<'a> {
         Ok(())
     }
 
-    /// Instructions with their data by number.
+    /// Instructions with their labels and data by number.
     fn all_resolved(
         &self,
         alloc: Global,
@@ -169,7 +231,7 @@ impl<'a> Sheet<'a> {
         Ok(instructions)
     }
 
-    /// All instructions with their data by number.
+    /// All instructions with their labels and data by number.
     fn instructions(&self, alloc: Global) -> Result<Vec<Instruction>, ScriptFault>
         ensures gives { Gives (λ instructions. instructions.items) result (with_resolved self.now [] self.now.drafts) }
         ensures few { length self.now.drafts ≤ 4096 }
@@ -179,12 +241,13 @@ impl<'a> Sheet<'a> {
 
     /// The program of what all lines say.
     pub(crate) fn into_program(self, alloc: Global) -> Result<Program, ScriptFault>
-        requires { ArePlain self.drafts }
+        requires { IsReady self }
         ensures { Gives (λ program. program) result (program_in self.entry) }
     {
         let instructions = self.instructions(alloc)?;
         let Sheet {
-            names: _,
+            labels: _,
+            data_numbers: _,
             strings,
             drafts: _,
         } = self;

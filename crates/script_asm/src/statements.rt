@@ -1,14 +1,15 @@
 //! What a line says.
 
 ghost use Rattle.std.specs.Prelude.{◌≡◌};
+ghost use Rattle.std.specs.Option.{option_copied};
 ghost use Rattle.lexer.specs.Words.{words_of};
 ghost use Rattle.script_asm.specs.Fault.{Gives, at_line};
-ghost use Rattle.script_asm.specs.Read.{ok_map};
-ghost use Rattle.script_asm.specs.Statement.{bytes_in, named_in, data_in, instruction_in, statement_of};
+ghost use Rattle.script_asm.specs.Statement.{bytes_in, label_in, data_in, label_or_instruction, statement_of};
+ghost use Rattle.script_asm.specs.Target.{before_last_byte};
 
 use crate::faults::{LineFault, ScriptFault};
 use crate::names::Name;
-use crate::operations::{Draft, operation_named, read_draft, two_operands};
+use crate::operations::{Draft, read_instruction};
 use dma_arena::Octets;
 use lexer::{HexFault, Line, Words, hex_bytes};
 use std::alloc::Global;
@@ -18,6 +19,8 @@ use std::alloc::Global;
 pub(crate) enum Statement<'a> {
     /// Nothing.
     Empty,
+    /// The name of the place of the next instruction.
+    Label(Name<'a>),
     /// A name, and its data.
     Data(Name<'a>, Octets),
     /// An instruction.
@@ -29,6 +32,7 @@ fn read_bytes(alloc: Global, number: usize, word: &str) -> Result<Octets, Script
     ensures { Gives (λ bytes. bytes) result (at_line number (bytes_in word.now)) }
 {
     match hex_bytes(alloc, word) {
+        Ok(bytes) if bytes.is_empty() => Err(ScriptFault::Syntax(number)),
         Ok(bytes) => Ok(Octets::of(bytes)),
         Err(HexFault::Malformed) => Err(ScriptFault::Syntax(number)),
         Err(HexFault::OutOfMemory) => Err(ScriptFault::OutOfMemory),
@@ -36,39 +40,51 @@ fn read_bytes(alloc: Global, number: usize, word: &str) -> Result<Octets, Script
 }
 
 /// A name and its data.
-fn read_named<'a>(operands: Words<'a>) -> Result<(Name<'a>, &'a str), LineFault>
-    ensures { ok_map (λ found. (found.0, found.1.now)) result ≡ named_in operands.entry }
-{
-    let (name, digits) = two_operands(operands)?;
-    let name = Name::of(name)?;
-    Ok((name, digits))
-}
-
-/// A name and its data.
 fn read_data<'a>(
     alloc: Global,
     number: usize,
-    operands: Words<'a>,
+    mut operands: Words<'a>,
 ) -> Result<Statement<'a>, ScriptFault>
     ensures { Gives (λ statement. statement) result (at_line number (data_in operands.entry)) }
 {
-    match read_named(operands) {
-        Ok((name, digits)) => {
-            let bytes = read_bytes(alloc, number, digits)?;
-            Ok(Statement::Data(name, bytes))
-        }
+    let (Some(name), Some(digits), None) = (operands.next(), operands.next(), operands.next())
+    else {
+        return Err(ScriptFault::Syntax(number));
+    };
+    // Data that is no hex is told before a name that is too long.
+    let bytes = read_bytes(alloc, number, digits)?;
+    match Name::of(name) {
+        Ok(name) => Ok(Statement::Data(name, bytes)),
         Err(fault) => Err(fault.at(number)),
     }
 }
 
-/// An instruction, which begins with the name of its operation.
-fn read_instruction<'a>(name: &str, operands: Words<'a>) -> Result<Statement<'a>, LineFault>
-    ensures { result ≡ instruction_in name.now operands.entry }
+/// What stands before the colon that ends a word.
+fn before_colon(word: &str) -> Option<&str>
+    ensures { option_copied result ≡ before_last_byte 58 word.now }
 {
-    let Some(operation) = operation_named(name) else {
+    word.strip_suffix(':')
+}
+
+/// A label, which stands alone on its line.
+fn read_label<'a>(name: &'a str, mut operands: Words<'a>) -> Result<Statement<'a>, LineFault>
+    ensures { result ≡ label_in name.now operands.entry }
+{
+    if operands.next().is_some() {
         return Err(LineFault::Syntax);
-    };
-    let draft = read_draft(operation, operands)?;
+    }
+    let name = Name::of(name)?;
+    Ok(Statement::Label(name))
+}
+
+/// A label or an instruction, which begins with a word.
+fn read_other<'a>(first: &'a str, operands: Words<'a>) -> Result<Statement<'a>, LineFault>
+    ensures { result ≡ label_or_instruction first.now (before_last_byte 58 first.now) operands.entry }
+{
+    if let Some(name) = before_colon(first) {
+        return read_label(name, operands);
+    }
+    let draft = read_instruction(first, operands)?;
     Ok(Statement::Instruction(draft))
 }
 
@@ -84,7 +100,7 @@ pub(crate) fn read_line<'a>(alloc: Global, line: Line<'a>) -> Result<Statement<'
     if first == "data" {
         return read_data(alloc, line.number, words);
     }
-    match read_instruction(first, words) {
+    match read_other(first, words) {
         Ok(statement) => Ok(statement),
         Err(fault) => Err(fault.at(line.number)),
     }

@@ -1,5 +1,5 @@
 use Rattle.std.proofs.Common.{◌≡◌, [], drop}
-use Rattle.script_asm.specs.Script.{with_resolved}
+use Rattle.script_asm.specs.Resolved.{with_resolved}
 use Rattle.script_asm.proofs.sheet.Sheet.all_resolved.Given as goal
 
 -- the instructions so far, with what is left, are all

@@ -6,4 +6,4 @@ use Rattle.script_asm.proofs.sheet.Sheet.into_program.Goals as goal
 pub new-requires : goal.new-requires
 new-requires c =
     rw (ap (λ (outline : Outline). outline.strings) c.self.view_is)
-    (with_resolved-IsListing c.args.self _ c.requires c.in_ok-instructions.ensures.few c.in_ok-instructions.ensures.gives)
+    (with_resolved-IsListing c.args.self _ c.requires c.in_ok-instructions.ensures.gives)

@@ -25,7 +25,7 @@ use std::fmt::Write;
 use std::{fs, io};
 
 /// The tables.
-const TABLES: [&str; 17] = [
+const TABLES: [&str; 18] = [
     "grammar",
     "words",
     "registers",
@@ -43,6 +43,7 @@ const TABLES: [&str; 17] = [
     "eeprom_registers",
     "jumps",
     "hash",
+    "eeprom",
 ];
 
 /// What a case is to end with.

@@ -1,13 +1,17 @@
-//! Runs each script of `examples/` through the program, and says whether it wrote what stands beside the script.
+//! Runs each example of `examples/` through the program, and says whether it wrote what stands beside the example.
 //!
-//! `examples/NAME.nic` is a script, and `examples/NAME.out` what `nicbench run` prints for it.
+//! `examples/NAME.nic` is a script, and `examples/NAME.out` what `nicbench run` prints for it. `examples/NAME.eeprom` is an
+//! EEPROM text, `NAME.hex` the bytes of the image that `nicbench eeprom` makes of it, in hex, and `NAME.out` what
+//! `nicbench eeprom --load` prints for those bytes.
 #![tactic(auto)]
 
 use bench::{Input, Outcome, Output, bench};
+use lexer::hex_bytes;
+use std::alloc::{AllocError, Global};
 use std::{fs, io};
 
 /// The scripts, each with the status that its run ends with.
-const EXAMPLES: [(&str, u8); 9] = [
+const SCRIPTS: [(&str, u8); 9] = [
     ("first", 0),
     ("masks", 0),
     ("aliases", 0),
@@ -19,28 +23,65 @@ const EXAMPLES: [(&str, u8); 9] = [
     ("fault", 2),
 ];
 
-/// Whether the run of a script writes what stands beside it, and ends with this status.
-fn is_as_written(rt: &HostRuntime, name: &str, status: u8) -> io::Result<bool> {
-    let alloc = rt.alloc();
-    let script_path = format!(in alloc; "{name}.nic")?;
-    let script = fs::read_to_string(rt, script_path.as_str())?;
-    let output_path = format!(in alloc; "{name}.out")?;
-    let wanted = fs::read_to_string(rt, output_path.as_str())?;
-    let mut input = Input::of(script.as_bytes());
+/// The EEPROM texts.
+const IMAGES: [&str; 1] = ["image"];
+
+/// What the program writes for an input, and the status that it ends with.
+fn answer(alloc: Global, words: &[&str], input: &[u8]) -> (Vec<u8>, u8) {
     let mut written = Vec::new(alloc);
     let mut output = Output::of(&mut written);
-    let Outcome::Ended(ended) = bench(alloc, &mut input, &mut output, &["nicbench", "run"]);
-    Ok(ended == status && written.as_slice() == wanted.as_bytes())
+    let Outcome::Ended(status) = bench(alloc, &mut Input::of(input), &mut output, words);
+    (written, status)
+}
+
+/// A file of the examples.
+fn example(rt: &HostRuntime, name: &str, kind: &str) -> io::Result<String> {
+    let path = format!(in rt.alloc(); "{name}.{kind}")?;
+    fs::read_to_string(rt, path.as_str())
+}
+
+/// Whether the run of a script writes what stands beside it, and ends with this status.
+fn is_as_written(rt: &HostRuntime, name: &str, wanted: u8) -> io::Result<bool> {
+    let script = example(rt, name, "nic")?;
+    let printed = example(rt, name, "out")?;
+    let (written, status) = answer(rt.alloc(), &["nicbench", "run"], script.as_bytes());
+    Ok(status == wanted && written.as_slice() == printed.as_bytes())
+}
+
+/// The bytes that lines of hex are, none where they are something else.
+fn bytes_of(alloc: Global, lines: &str) -> Result<Vec<u8>, AllocError> {
+    let mut digits = String::new(alloc);
+    for line in lines.lines() {
+        digits.push_str(line)?;
+    }
+    Ok(hex_bytes(alloc, digits.as_str()).unwrap_or(Vec::new(alloc)))
+}
+
+/// Whether an EEPROM text is made the image that stands beside it, and that image has these register writes.
+fn is_the_image(rt: &HostRuntime, name: &str) -> io::Result<bool> {
+    let alloc = rt.alloc();
+    let text = example(rt, name, "eeprom")?;
+    let image = bytes_of(alloc, example(rt, name, "hex")?.as_str())?;
+    let printed = example(rt, name, "out")?;
+    let (made, status) = answer(alloc, &["nicbench", "eeprom"], text.as_bytes());
+    let load = ["nicbench", "eeprom", "--load"];
+    let (shown, load_status) = answer(alloc, &load, image.as_slice());
+    let is_made = status == 0 && made.as_slice() == image.as_slice();
+    Ok(is_made && load_status == 0 && shown.as_slice() == printed.as_bytes())
+}
+
+/// Says whether an example is as it should be.
+fn say(rt: &HostRuntime, name: &str, is_right: bool) -> io::Result<()> {
+    let answer = if is_right { "as written" } else { "differs" };
+    println!(rt; "{name}: {answer}")
 }
 
 fn main(rt: HostRuntime) -> io::Result<()> {
-    for (name, status) in EXAMPLES {
-        let answer = if is_as_written(&rt, name, status)? {
-            "as written"
-        } else {
-            "differs"
-        };
-        println!(rt; "{name}: {answer}")?;
+    for (name, status) in SCRIPTS {
+        say(&rt, name, is_as_written(&rt, name, status)?)?;
+    }
+    for name in IMAGES {
+        say(&rt, name, is_the_image(&rt, name)?)?;
     }
     Ok(())
 }

@@ -1,6 +1,7 @@
 //! Runs each example of `examples/` through the program, and says whether it wrote what stands beside the example.
 //!
-//! `examples/NAME.nic` is a script, and `examples/NAME.out` what `nicbench run` prints for it. `examples/NAME.eeprom` is an
+//! `examples/NAME.nic` is a script, and `examples/NAME.out` what `nicbench run` prints for it; `examples/NAME.debug` a script with a
+//! session of the debugger, and `NAME.out` what `nicbench debug` prints. `examples/NAME.eeprom` is an
 //! EEPROM text, `NAME.hex` the bytes of the image that `nicbench eeprom` makes of it, in hex, and `NAME.out` what
 //! `nicbench eeprom --load` prints for those bytes.
 #![tactic(auto)]
@@ -10,7 +11,14 @@ use lexer::hex_bytes;
 use std::alloc::{AllocError, Global};
 use std::{fs, io};
 
-/// The scripts, each with the status that its run ends with.
+/// The words that scripts are run by, and those of a debugger's session.
+const RUN: [&str; 2] = ["nicbench", "run"];
+
+const RUN_WITH_TWO_FUNCTIONS: [&str; 4] = ["nicbench", "run", "--vfs", "2"];
+
+const DEBUG: [&str; 2] = ["nicbench", "debug"];
+
+/// The scripts that are run, each with the status that its run ends with.
 const SCRIPTS: [(&str, u8); 9] = [
     ("first", 0),
     ("masks", 0),
@@ -40,11 +48,17 @@ fn example(rt: &HostRuntime, name: &str, kind: &str) -> io::Result<String> {
     fs::read_to_string(rt, path.as_str())
 }
 
-/// Whether the run of a script writes what stands beside it, and ends with this status.
-fn is_as_written(rt: &HostRuntime, name: &str, wanted: u8) -> io::Result<bool> {
-    let script = example(rt, name, "nic")?;
+/// Whether the program writes for an example of a kind what stands beside it, and ends with this status.
+fn is_as_written(
+    rt: &HostRuntime,
+    words: &[&str],
+    name: &str,
+    kind: &str,
+    wanted: u8,
+) -> io::Result<bool> {
+    let input = example(rt, name, kind)?;
     let printed = example(rt, name, "out")?;
-    let (written, status) = answer(rt.alloc(), &["nicbench", "run"], script.as_bytes());
+    let (written, status) = answer(rt.alloc(), words, input.as_bytes());
     Ok(status == wanted && written.as_slice() == printed.as_bytes())
 }
 
@@ -78,8 +92,12 @@ fn say(rt: &HostRuntime, name: &str, is_right: bool) -> io::Result<()> {
 
 fn main(rt: HostRuntime) -> io::Result<()> {
     for (name, status) in SCRIPTS {
-        say(&rt, name, is_as_written(&rt, name, status)?)?;
+        say(&rt, name, is_as_written(&rt, &RUN, name, "nic", status)?)?;
     }
+    let is_virtual = is_as_written(&rt, &RUN_WITH_TWO_FUNCTIONS, "virtual", "nic", 0)?;
+    say(&rt, "virtual", is_virtual)?;
+    let is_debugged = is_as_written(&rt, &DEBUG, "tail", "debug", 0)?;
+    say(&rt, "tail", is_debugged)?;
     for name in IMAGES {
         say(&rt, name, is_the_image(&rt, name)?)?;
     }

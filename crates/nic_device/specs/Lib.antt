@@ -1,4 +1,5 @@
 pub mod Access
+pub mod Answering
 pub mod Arrival
 pub mod Config
 pub mod Footprint

@@ -18,6 +18,7 @@ mod event;
 mod interrupt;
 mod lending;
 mod link;
+mod notes;
 mod receive;
 mod runs;
 mod switching;

@@ -1,107 +1,150 @@
--- What each event is answered.
-use Rattle.std.proofs.Common.{◌≡◌, ℕ, true, List, refl, sym, subst, Option, Some, None, eq-eqb}
-use Rattle.std.specs.Prelude.{Result, Ok, Err, IfOk}
+-- What each event is answered, and how long that is in a note.
+use Rattle.std.proofs.Common.{◌≡◌, ◌≤◌, ℕ, true, List, [], ◌∷◌, length, refl, sym, subst, arith, Option, Some, None, eq-eqb}
+use Rattle.std.specs.Prelude.{Result, Ok, Err, IfOk, option_map}
 use Rattle.std.specs.FinMap as map
-use Rattle.std.specs.Prelude.{option_map}
 use Rattle.dma_arena.specs.Block.{Block}
+use Rattle.dma_arena.specs.Memory.{IsWhole}
 use Rattle.reg_table.specs.Place.{place_among, view_among}
 use Rattle.reg_table.specs.Runs.{runs}
 use Rattle.reg_table.specs.declared.place.Place.{Place}
 use Rattle.intr_unit.specs.declared.group.Group.{Group}
 use Rattle.register_file.specs.Groups.{message_of}
 use Rattle.nic_device.specs.Access.{place_read, place_written}
-use Rattle.nic_device.specs.Answering.{may_read, may_write, may_lend, may_take, may_peek, may_poke, may_arrive, may_receive, may_transmit, may_interrupt, may_switch, may_link, may_collect, may_answer}
+use Rattle.nic_device.specs.Answering.{may_answer, note_length, note_room}
 use Rattle.nic_device.specs.Arrival.{arrived}
 use Rattle.nic_device.specs.Interrupt.{interrupted, message_reply}
 use Rattle.nic_device.specs.Lending.{lent, taken, block_taken}
+use Rattle.nic_device.specs.Link.{collected, oldest_collected, next_out_of}
+use Rattle.nic_device.specs.Outcome.{Outcome, gives}
 use Rattle.nic_device.specs.Receive.{received}
+use Rattle.nic_device.specs.Sound.{IsSound, IsEvent}
 use Rattle.nic_device.specs.State.{State}
 use Rattle.nic_device.specs.Step.{step_of}
 use Rattle.nic_device.specs.Transmit.{transmitted, fetched_reply}
-use Rattle.nic_device.proofs.Cases.{lent_cases, peeked_cases, poked_cases, arrived_cases, link_cases, collected_cases, switched_cases, interrupted_cases, received_cases, transmitted_cases}
+use Rattle.nic_device.proofs.Cases.{lent_cases, peeked_cases, poked_cases, arrived_cases, link_cases, switched_cases, interrupted_cases, received_cases, transmitted_cases}
 use Rattle.tx_ring.specs.declared.fetched.Fetched.{Fetched}
 use Rattle.nic_device.specs.declared.event.Event.{Event}
 use Rattle.nic_device.specs.declared.event.Event.TheVariants as event
 use Rattle.nic_device.specs.declared.event.Port.TheVariants.{Pf}
 use Rattle.nic_device.specs.declared.event.Reply.{Reply}
 
-read_answers : (s : State) (o : Option Place) (view : ℕ) → may_read (place_read s o view).reply ≡ true
-read_answers s None view = refl
-read_answers s (Some p) view = refl
+-- an event can have the reply, whose note has room
+pub record Suits (s : State) (e : Event Block) (reply : Reply Block) : Type 0 where
+  pub fits : may_answer e reply ≡ true
+  pub room : note_length reply ≤ note_room s e
 
-write_answers : (s : State) (o : Option Place) (view word : ℕ) → may_write (place_written s o view word).reply ≡ true
-write_answers s None view word = refl
-write_answers s (Some p) view word = refl
+short : (s : State) (e : Event Block) (reply : Reply Block) → may_answer e reply ≡ true → note_length reply ≡ 0
+    → Suits s e reply
+short s e reply is none = record { fits = is; room = omega arith }
 
-lend_answers : (s : State) (block : Block) → may_lend block.number (lent s block).reply ≡ true
-lend_answers s block =
-    lent_cases (λ o. may_lend block.number o.reply ≡ true) s block (eq-eqb block.number block.number refl) refl
+read_suits : (s t : State) (a : ℕ) (o : Option Place) (view : ℕ)
+    → Suits t (event.Read Pf a) (place_read s o view).reply
+read_suits s t a None view = short t (event.Read Pf a) _ refl refl
+read_suits s t a (Some p) view = short t (event.Read Pf a) _ refl refl
 
-took_answers : (s : State) (number : ℕ) (o : Option (List ℕ))
-    → may_take number (block_taken s number (option_map (λ bytes. record { number = number; bytes = bytes }) o)).reply ≡ true
-took_answers s number None = refl
-took_answers s number (Some bytes) = eq-eqb number number refl
+write_suits : (s t : State) (a : ℕ) (o : Option Place) (view word : ℕ)
+    → Suits t (event.Write Pf a word) (place_written s o view word).reply
+write_suits s t a None view word = short t (event.Write Pf a word) _ refl refl
+write_suits s t a (Some p) view word = short t (event.Write Pf a word) _ refl refl
 
-take_answers : (s : State) (number : ℕ) → may_take number (taken s number).reply ≡ true
-take_answers s number = took_answers s number (map.get s.memory number)
+lend_suits : (s : State) (block : Block) → length block.bytes ≡ 2048 → Suits s (event.Lend block) (lent s block).reply
+lend_suits s block size =
+    lent_cases (λ o. Suits s (event.Lend block) o.reply) s block
+    (record { fits = eq-eqb block.number block.number refl; room = omega arith })
+    (short s (event.Lend block) _ refl refl)
 
-message_answers : (g : Group) (o : Option ℕ) → may_interrupt (message_reply g o) ≡ true
-message_answers g None = refl
-message_answers g (Some vector) = refl
+took_suits : (s : State) (number : ℕ) (o : Option (List ℕ))
+    → ((bytes : List ℕ) → o ≡ Some bytes → length bytes ≡ 2048)
+    → Suits s (event.Take number)
+    (block_taken s number (option_map (λ bytes. record { number = number; bytes = bytes }) o)).reply
+took_suits s number None size = short s (event.Take number) _ refl refl
+took_suits s number (Some bytes) size =
+    let n = size bytes refl in record { fits = eq-eqb number number refl; room = omega arith }
 
-interrupt_answers : (s : State) (g : Group) → may_interrupt (interrupted s g).reply ≡ true
-interrupt_answers s g =
-    interrupted_cases (λ o. may_interrupt o.reply ≡ true) s g refl refl (message_answers g (message_of s.registers g))
+take_suits : (s : State) (number : ℕ) → IsWhole s.memory → Suits s (event.Take number) (taken s number).reply
+take_suits s number whole =
+    took_suits s number (map.get s.memory number) (λ bytes is. (whole.block number bytes is).size)
 
-arrive_answers : (s : State) (frame : List ℕ) → may_arrive (arrived s frame).reply ≡ true
-arrive_answers s frame = arrived_cases (λ o. may_arrive o.reply ≡ true) s frame (record {
-  dropped = λ why. refl;
-  short = refl;
-  long = refl;
-  missed = refl;
-  joined = λ t is room. refl;
+arrive_suits : (s : State) (frame : List ℕ) → Suits s (event.Arrive frame) (arrived s frame).reply
+arrive_suits s frame =
+    let e = event.Arrive frame in
+    arrived_cases (λ o. Suits s e o.reply) s frame (record {
+      dropped = λ why. short s e _ refl refl;
+      short = short s e _ refl refl;
+      long = short s e _ refl refl;
+      missed = short s e _ refl refl;
+      joined = λ t is room. short s e _ refl refl;
+    })
+
+receive_suits : (s : State) → Suits s event.RxStep (received s).reply
+receive_suits s = received_cases (λ o. Suits s event.RxStep o.reply) s (record {
+  idle = short s event.RxStep _ refl refl;
+  dropped = λ w others is why. short s event.RxStep _ refl refl;
+  slotless = λ w others is. short s event.RxStep _ refl refl;
+  fault = λ w others is fault. short s event.RxStep _ refl refl;
+  filled = λ w others is f made. short s event.RxStep _ refl refl;
 })
 
-receive_answers : (s : State) → may_receive (received s).reply ≡ true
-receive_answers s = received_cases (λ o. may_receive o.reply ≡ true) s (record {
-  idle = refl;
-  dropped = λ w others is why. refl;
-  slotless = λ w others is. refl;
-  fault = λ w others is fault. refl;
-  filled = λ w others is f made. refl;
-})
+fetched_suits : (s : State) (queue : ℕ) (f : Fetched) (o : Option (List ℕ))
+    → Suits s (event.TxStep queue) (fetched_reply queue f o)
+fetched_suits s queue f None = short s (event.TxStep queue) _ (eq-eqb queue queue refl) refl
+fetched_suits s queue f (Some frame) = short s (event.TxStep queue) _ (eq-eqb queue queue refl) refl
 
-fetched_answers : (queue : ℕ) (f : Fetched) (o : Option (List ℕ)) → may_transmit queue (fetched_reply queue f o) ≡ true
-fetched_answers queue f None = eq-eqb queue queue refl
-fetched_answers queue f (Some frame) = eq-eqb queue queue refl
+transmit_suits : (s : State) (queue : ℕ) → Suits s (event.TxStep queue) (transmitted s queue).reply
+transmit_suits s queue =
+    let e = event.TxStep queue in
+    transmitted_cases (λ o. Suits s e o.reply) s queue (record {
+      none = short s e _ refl refl;
+      idle = short s e _ refl refl;
+      fault = λ fault. short s e _ (eq-eqb queue queue refl) refl;
+      fetched = λ f is. fetched_suits s queue f f.frame;
+    })
 
-transmit_answers : (s : State) (queue : ℕ) → may_transmit queue (transmitted s queue).reply ≡ true
-transmit_answers s queue = transmitted_cases (λ o. may_transmit queue o.reply ≡ true) s queue (record {
-  none = refl;
-  idle = refl;
-  fault = λ fault. eq-eqb queue queue refl;
-  fetched = λ f is. fetched_answers queue f f.frame;
-})
+message_suits : (s : State) (g : Group) (o : Option ℕ) → Suits s (event.IntStep g) (message_reply g o)
+message_suits s g None = short s (event.IntStep g) _ refl refl
+message_suits s g (Some vector) = short s (event.IntStep g) _ refl refl
 
-pub answers : (s : State) (e : Event Block) → may_answer e (step_of s e).reply ≡ true
+interrupt_suits : (s : State) (g : Group) → Suits s (event.IntStep g) (interrupted s g).reply
+interrupt_suits s g =
+    let e = event.IntStep g in
+    interrupted_cases (λ o. Suits s e o.reply) s g (short s e _ refl refl) (short s e _ refl refl)
+    (message_suits s g (message_of s.registers g))
+
+out_suits : (s t : State) (out : List (ℕ × List ℕ)) → t.out ≡ out
+    → Suits t event.Collect (oldest_collected s out).reply
+out_suits s t [] is = short t event.Collect _ refl refl
+out_suits s t (frame ∷ others) is = record { fits = refl; room = rw is (omega arith) }
+
+-- the reply to each event suits it, at a sound device
+pub step_suits : (s : State) (e : Event Block) → IsSound s → IsEvent e → Suits s e (step_of s e).reply
 unfolding step_of
-answers s (event.Read Pf a) = read_answers s (place_among runs a) (view_among runs a)
-answers s (event.Write Pf a word) = write_answers s (place_among runs a) (view_among runs a) word
-answers s (event.Lend block) = lend_answers s block
-answers s (event.Take number) = take_answers s number
-answers s (event.Peek16 a) = peeked_cases (λ o. may_peek o.reply ≡ true) s a refl refl (λ bytes. refl)
-answers s (event.Poke16 a bytes) = poked_cases (λ o. may_poke o.reply ≡ true) s a bytes refl refl refl
-answers s (event.Arrive frame) = arrive_answers s frame
-answers s event.RxStep = receive_answers s
-answers s (event.TxStep queue) = transmit_answers s queue
-answers s (event.IntStep g) = interrupt_answers s g
-answers s (event.QueueStep dir queue) =
-    switched_cases (λ o. may_switch o.reply ≡ true) s dir queue refl refl refl
-answers s (event.Link up) = link_cases (λ o. may_link o.reply ≡ true) s up refl refl
-answers s event.Collect = collected_cases (λ o. may_collect o.reply ≡ true) s refl (λ queue bytes others. refl)
+step_suits s (event.Read Pf a) h is = read_suits s s a (place_among runs a) (view_among runs a)
+step_suits s (event.Write Pf a word) h is = write_suits s s a (place_among runs a) (view_among runs a) word
+step_suits s (event.Lend block) h is = lend_suits s block is.whole.size
+step_suits s (event.Take number) h is = take_suits s number h.blocks.whole
+step_suits s (event.Peek16 a) h is =
+    let e = event.Peek16 a in
+    peeked_cases (λ o. Suits s e o.reply) s a (short s e _ refl refl) (short s e _ refl refl)
+    (λ bytes. short s e _ refl refl)
+step_suits s (event.Poke16 a bytes) h is =
+    let e = event.Poke16 a bytes in
+    poked_cases (λ o. Suits s e o.reply) s a bytes (short s e _ refl refl) (short s e _ refl refl)
+    (short s e _ refl refl)
+step_suits s (event.Arrive frame) h is = arrive_suits s frame
+step_suits s event.RxStep h is = receive_suits s
+step_suits s (event.TxStep queue) h is = transmit_suits s queue
+step_suits s (event.IntStep g) h is = interrupt_suits s g
+step_suits s (event.QueueStep dir queue) h is =
+    let e = event.QueueStep dir queue in
+    switched_cases (λ o. Suits s e o.reply) s dir queue (short s e _ refl refl) (short s e _ refl refl)
+    (short s e _ refl refl)
+step_suits s (event.Link up) h is =
+    link_cases (λ o. Suits s (event.Link up) o.reply) s up (short s (event.Link up) _ refl refl)
+    (short s (event.Link up) _ refl refl)
+step_suits s event.Collect h is = out_suits s s s.out refl
 
 -- also where the event finds no memory, and has no reply
-pub step_fits : {E : Type 0} (s : State) (e : Event Block) (result : Result (Reply Block) E)
+pub step_fits : {E : Type 0} (s : State) (e : Event Block) (result : Result (Reply Block) E) → IsSound s → IsEvent e
     → IfOk result (λ reply. reply ≡ (step_of s e).reply) → IfOk result (λ reply. may_answer e reply ≡ true)
-step_fits s e (Ok reply) is = subst (λ r. may_answer e r ≡ true) (sym is) (answers s e)
-step_fits s e (Err refused) is = tt
+step_fits s e (Ok reply) h is made = subst (λ r. may_answer e r ≡ true) (sym made) (step_suits s e h is).fits
+step_fits s e (Err refused) h is made = tt

@@ -1,6 +1,8 @@
 -- What an event can be answered, and how long that is in a note.
 use Rattle.std.specs.Prelude.{ℕ, ◌==◌, Bool, true, false, length}
 use Rattle.dma_arena.specs.Block.{Block}
+use Rattle.nic_device.specs.Link.{next_out_of}
+use Rattle.nic_device.specs.State.{State}
 use Rattle.nic_device.specs.declared.event.Event.{Event}
 use Rattle.nic_device.specs.declared.event.Event.TheVariants as event
 use Rattle.nic_device.specs.declared.event.Reply.{Reply}
@@ -106,3 +108,10 @@ note_length (reply.Buf block) = length block.bytes
 note_length (reply.Twice block) = length block.bytes
 note_length (reply.Frame queue bytes) = length bytes
 note_length other = 0
+
+-- how many bytes the note of the reply to an event copies at most, which is known before the event is made
+abbrev pub note_room : State → Event Block → ℕ
+note_room s (event.Lend block) = 2048
+note_room s (event.Take number) = 2048
+note_room s event.Collect = next_out_of s.out
+note_room s other = 0

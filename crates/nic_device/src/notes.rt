@@ -65,9 +65,10 @@ impl Event<Note> {
             (Event::Read(port, address), Event::Read(other_port, other_address)) => {
                 *port == *other_port && *address == *other_address
             }
-            (Event::Write(port, address, word), Event::Write(other_port, other_address, other_word)) => {
-                *port == *other_port && *address == *other_address && *word == *other_word
-            }
+            (
+                Event::Write(port, address, word),
+                Event::Write(other_port, other_address, other_word),
+            ) => { *port == *other_port && *address == *other_address && *word == *other_word }
             (Event::Lend(block), Event::Lend(other)) => block.same(other),
             (Event::Take(number), Event::Take(other)) => *number == *other,
             (Event::Peek16(address), Event::Peek16(other)) => *address == *other,

@@ -8,4 +8,6 @@ invariant_of-self c =
     c.step.ensures.unchanged c.self.invariant c.is_of_a_driver.ensures
 
 pub returns-clause-fits : goal.returns-clause-fits
-returns-clause-fits c = step_fits c.self.inside.engine c.args.event c.step.result c.step.ensures.reply
+returns-clause-fits c =
+    step_fits c.self.inside.engine c.args.event c.step.result c.self.invariant c.is_of_a_driver.ensures
+    c.step.ensures.reply

@@ -89,6 +89,20 @@ impl Arena {
         }
     }
 
+    /// The lowest of this arena's block numbers.
+    pub fn first(&self) -> u32
+        ensures { result ≡ self.now.first }
+    {
+        u32::from(self.first)
+    }
+
+    /// How many block numbers this arena has: those from its first one on.
+    pub fn count(&self) -> u32
+        ensures { result ≡ count_of self.now }
+    {
+        self.slots.len() as u32
+    }
+
     /// Whether the block number is one of this arena's.
     pub fn owns(&self, block: u32) -> bool
         ensures own { result ≡ is_own self.now block }

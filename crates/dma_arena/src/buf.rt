@@ -42,9 +42,9 @@ impl Buf {
         bytes
     }
 
-    /// Puts bytes into the block, from one of its bytes on.
+    /// Puts bytes into the block, from one of its bytes on. They must fit: the block has 2,048 bytes.
     #[tactic(auto, unfolding(crate::specs::Memory::put_bytes))]
-    pub(crate) fn put(&mut self, at: usize, bytes: &[u8])
+    pub fn put(&mut self, at: usize, bytes: &[u8])
         requires { at + length bytes.now ≤ 2048 }
         ensures { self.new ≡ record self.old { bytes = put_bytes self.old.bytes at bytes.now } }
     {

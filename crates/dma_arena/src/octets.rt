@@ -1,4 +1,5 @@
-ghost use Rattle.std.specs.Prelude.{◌≡◌};
+ghost use Rattle.std.specs.Prelude.{◌≡◌, ◌≤◌, ◌↔◌, IsTrue, [], length};
+ghost use Rattle.std.specs.Vec.{vec_capacity};
 
 use std::marker::Model;
 
@@ -22,6 +23,25 @@ impl Octets {
         ensures { result ≡ bytes.items }
     {
         Octets { bytes }
+    }
+
+    /// A copy of the bytes, in a vector that has room for them: no memory is asked for.
+    pub fn copied(bytes: &[u8], mut room: Vec<u8>) -> Octets
+        requires empty { room.items ≡ [] }
+        requires room { length bytes.now ≤ vec_capacity room }
+        ensures { result ≡ bytes.now }
+    {
+        match room.extend_from_slice(bytes) {
+            Ok(()) => Octets::of(room),
+            Err(_) => unreachable!(),
+        }
+    }
+
+    /// Whether both are the same bytes.
+    pub fn same(&self, other: &Octets) -> bool
+        ensures { IsTrue result ↔ (self.now ≡ other.now) }
+    {
+        self.bytes() == other.bytes()
     }
 
     /// The bytes, in order.

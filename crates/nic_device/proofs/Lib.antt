@@ -1,4 +1,5 @@
 pub mod Accessing
+pub mod Answering
 pub mod Arriving
 pub mod Blocks
 pub mod Cases

@@ -1,6 +1,7 @@
 pub mod Named
 pub mod PoolReset
 pub mod Access
+pub mod Answering
 pub mod Arrival
 pub mod Config
 pub mod Eeprom

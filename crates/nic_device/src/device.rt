@@ -1,4 +1,5 @@
-ghost use Rattle.std.specs.Prelude.{◌≡◌, ◌<◌, ◌≤◌, ◌↔◌, Err, IfOk, IfErr, OnOk, OnErr};
+ghost use Rattle.std.specs.Prelude.{◌≡◌, true, ◌<◌, ◌≤◌, ◌↔◌, Err, IfOk, IfErr, OnOk, OnErr};
+ghost use Rattle.nic_device.specs.Answering.{may_answer, note_length, note_room};
 ghost use Rattle.nic_device.specs.State.{new_state};
 ghost use Rattle.nic_device.specs.Config.{IsBadFifo};
 ghost use Rattle.nic_device.specs.Link.{next_out_of};
@@ -8,7 +9,7 @@ ghost use Rattle.nic_device.specs.Step.{step_of, TakesMemory, word_told};
 use crate::config::{Config, MAX_FIFO, MAX_VFS, NewFault};
 use crate::engine::Engine;
 use crate::event::{Event, OutOfMemory, Port, Reply};
-use dma_arena::{LentMemory, Octets};
+use dma_arena::{BLOCK_BYTES, LentMemory, Octets};
 use eeprom_image::Image;
 use std::alloc::Global;
 use std::marker::Model;
@@ -80,6 +81,7 @@ impl Device {
         ensures back { IfErr result (λ refused. refused.event ≡ event) }
         ensures unchanged { OnErr result (self.new ≡ self.old) }
         ensures memory { OnErr result (TakesMemory self.old event) }
+        ensures fits { IfOk result (λ reply. may_answer event reply ≡ true) }
     {
         event.is_of_a_driver();
         self.engine.step(event)
@@ -119,6 +121,30 @@ impl Device {
         match engine.out.front() {
             Some((_, bytes)) => bytes.bytes().len(),
             None => 0,
+        }
+    }
+
+    /// How many bytes of the reply to an event its note copies at most, so that room is made before the event.
+    pub fn note_room(&self, event: &Event) -> usize
+        ensures room { result ≡ note_room self.now event.now }
+        ensures enough { note_length (step_of self.now event.now).reply ≤ result }
+    {
+        event.is_of_a_driver();
+        self.stays_sound();
+        self.room_of(event)
+    }
+
+    /// The room for what each event moves or collects.
+    fn room_of(&self, event: &Event) -> usize
+        ensures { result ≡ note_room self.now event.now }
+    {
+        match event {
+            Event::Lend(_) | Event::Take(_) => BLOCK_BYTES,
+            Event::Collect => self.next_out(),
+            Event::Read(_, _) | Event::Write(_, _, _) => 0,
+            Event::Peek16(_) | Event::Poke16(_, _) | Event::Arrive(_) => 0,
+            Event::RxStep | Event::TxStep(_) | Event::IntStep(_) | Event::QueueStep(_, _) => 0,
+            Event::EepromStep | Event::Link(_) => 0,
         }
     }
 

@@ -21,6 +21,7 @@ mod interrupt;
 mod lending;
 mod link;
 mod named;
+mod notes;
 mod pools;
 mod receive;
 mod runs;

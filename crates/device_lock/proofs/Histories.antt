@@ -1,0 +1,66 @@
+-- A history with one entry more.
+use Rattle.std.proofs.Common.{◌≡◌, ℕ, ◌+◌, ◌<◌, ◌==◌, List, [], ◌∷◌, ◌++◌, length, get_or, slice_set, refl, sym, arith, rules, length-append, length-set}
+use Rattle.std.proofs.lemmas.Bool.Decides.{nat_tests}
+use Rattle.std.proofs.lemmas.Grind.{common_steps}
+use Rattle.std.proofs.lemmas.List.Sums.{sum_by-append, count_by-le-length}
+use Rattle.dma_arena.specs.Block.{Block}
+use Rattle.nic_device.specs.State.{State, new_state}
+use Rattle.nic_device.specs.Step.{step_of}
+use Rattle.nic_device.specs.declared.event.Event.{Event}
+use Rattle.nic_device.specs.declared.event.Reply.{Reply}
+use Rattle.device_lock.specs.declared.entry.Entry.{Entry}
+use Rattle.device_lock.specs.History.{leads_to, IsLegal, AllBelow, entry_of}
+use Rattle.device_lock.specs.Kept.{Held, IsKept, entries_of}
+
+leads_to-snoc : (s : State) (h : List Entry) (e : Entry)
+    → leads_to s (h ++ e ∷ []) ≡ (step_of (leads_to s h) e.event).state
+leads_to-snoc s [] e = refl
+leads_to-snoc s (x ∷ h) e = leads_to-snoc (step_of s x.event).state h e
+
+legal_more : (s : State) (h : List Entry) (e : Entry) → IsLegal s h
+    → e.reply ≡ (step_of (leads_to s h) e.event).reply → IsLegal s (h ++ e ∷ [])
+legal_more s [] e legal is = (is, tt)
+legal_more s (x ∷ h) e legal is = (legal.0, legal_more (step_of s x.event).state h e legal.1 is)
+
+one_more_below : (n : ℕ) (h : List Entry) (e : Entry) → AllBelow n h → e.pass < n → AllBelow n (h ++ e ∷ [])
+one_more_below n [] e below lt = (lt, tt)
+one_more_below n (x ∷ h) e below lt = (below.0, one_more_below n h e below.1 lt)
+
+entries_of-append : (tag : ℕ) (g h : List Entry) → entries_of tag (g ++ h) ≡ entries_of tag g + entries_of tag h
+entries_of-append tag g h = search (rules, sum_by-append)
+
+counts_more : (n : ℕ) (counts : List ℕ) (h : List Entry) (e : Entry) → length counts ≡ n → e.pass < n
+    → ((tag : ℕ) → tag < n → get_or counts tag 0 ≡ entries_of tag h)
+    → (tag : ℕ) → tag < n
+    → get_or (slice_set counts e.pass (get_or counts e.pass 0 + 1)) tag 0 ≡ entries_of tag (h ++ e ∷ [])
+counts_more n counts h e each lt counted tag below =
+    rw (entries_of-append tag h (e ∷ [])) (grind (arith, nat_tests, common_steps, counted tag below))
+
+-- a count is no more than the history is long
+pub count_few : (vfs fifo : ℕ) (h : Held) (counts : List ℕ) (tag : ℕ) → IsKept vfs fifo h counts → tag < h.passes
+    → length h.history < h.limit → get_or counts tag 0 < 1000000
+count_few vfs fifo h counts tag k lt room =
+    let n = k.counted tag lt in
+    let m = count_by-le-length (λ (e : Entry). e.pass == tag) h.history in
+    let s = k.small in
+    omega (arith, n, m, s)
+
+pub kept_more : (vfs fifo : ℕ) (h : Held) (counts : List ℕ) (tag : ℕ) (event note : Event Block)
+    (reply told : Reply Block) (device : State) (history : List Entry) (counts' : List ℕ)
+    → IsKept vfs fifo h counts → tag < h.passes → length h.history < h.limit
+    → note ≡ event → told ≡ reply → reply ≡ (step_of h.device event).reply → device ≡ (step_of h.device event).state
+    → history ≡ h.history ++ entry_of tag note told ∷ []
+    → counts' ≡ slice_set counts tag (get_or counts tag 0 + 1)
+    → IsKept vfs fifo (record { device = device; history = history; passes = h.passes; limit = h.limit }) counts'
+kept_more vfs fifo h counts tag event note reply told device history counts' k lt room n r made is grown counted =
+    let e : Entry = entry_of tag event (step_of h.device event).reply in
+    let more : history ≡ h.history ++ e ∷ [] = rw (grown, n, r, made) refl in
+    record {
+      legal = rw more (legal_more (new_state vfs fifo) h.history e k.legal (rw k.leads refl));
+      leads = rw (more, leads_to-snoc (new_state vfs fifo) h.history e, k.leads) (sym is);
+      below = rw more (one_more_below h.passes h.history e k.below lt);
+      within = rw (more, length-append h.history (e ∷ [])) (omega arith);
+      small = k.small;
+      each = rw (counted, length-set) k.each;
+      counted = rw (more, counted) (counts_more h.passes counts h.history e k.each lt k.counted);
+    }

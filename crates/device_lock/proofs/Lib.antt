@@ -1,0 +1,4 @@
+pub mod Fresh
+pub mod Histories
+pub mod Runs
+pub mod Stands

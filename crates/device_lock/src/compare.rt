@@ -1,0 +1,102 @@
+//! Passes that come back, against the history.
+
+ghost use Rattle.std.specs.Prelude.{◌≡◌, ◌<◌, ◌↔◌, ℕ, IsTrue, IfSome, IfNone, All};
+ghost use Rattle.device_lock.specs.Closing.{tag_count, IsOwn, AllThere, AreAll, StandsIn, TagStands, IsMissing, IsMismatch};
+ghost use Rattle.device_lock.specs.History.{calls_of};
+
+use crate::entry::{Call, Entry};
+use crate::pass::Pass;
+
+/// Whether the calls are the entries with this tag, in their order.
+pub(crate) fn stands(history: &[Entry], tag: u8, calls: &[Call]) -> bool
+    ensures { IsTrue result ↔ (calls_of tag history.now ≡ calls.now) }
+{
+    let mut next = 0;
+    for entry in history {
+        if entry.pass == tag {
+            if next >= calls.len() || !calls[next].is_in(entry) {
+                return false;
+            }
+            next += 1;
+        }
+    }
+    next == calls.len()
+}
+
+/// Whether the passes of a tag have the calls that the history has of it.
+fn tag_stands(history: &[Entry], tag: u8, passes: &[Pass]) -> bool
+    ensures { IsTrue result ↔ TagStands history.now tag passes.now }
+{
+    passes.iter().all(|pass| stands_as(history, tag, pass))
+}
+
+/// Whether the pass, where it is of this tag, has the calls that the history has of it.
+fn stands_as(history: &[Entry], tag: u8, pass: &Pass) -> bool
+    ensures { IsTrue result ↔ (pass.now.tag ≡ tag → StandsIn history.now pass.now) }
+{
+    pass.tag() != tag || stands(history, tag, pass.calls())
+}
+
+/// How many passes of the bench have this tag.
+fn tag_count(bench: u64, tag: u8, passes: &[Pass]) -> usize
+    ensures { result ≡ tag_count bench tag passes.now }
+{
+    passes
+        .iter()
+        .filter(|pass| pass.bench() == bench && pass.tag() == tag)
+        .count()
+}
+
+/// The lowest tag that no pass has.
+pub(crate) fn lowest_missing(bench: u64, count: u8, passes: &[Pass]) -> Option<u8>
+    ensures some { IfSome result (λ tag. IsMissing bench count passes.now tag) }
+    ensures none { IfNone result (AllThere bench count passes.now) }
+{
+    for tag in 0..count {
+        if tag_count(bench, tag, passes) == 0 {
+            return Some(tag);
+        }
+    }
+    None
+}
+
+/// Whether the passes are those of the bench, one of each tag.
+pub(crate) fn are_all(bench: u64, count: u8, passes: &[Pass]) -> bool
+    ensures { IsTrue result ↔ AreAll bench count passes.now }
+{
+    are_own(bench, count, passes) && is_each_once(bench, count, passes)
+}
+
+/// Whether each pass is one of the bench, with a tag below the number.
+fn are_own(bench: u64, count: u8, passes: &[Pass]) -> bool
+    ensures { IsTrue result ↔ All (IsOwn bench count) passes.now }
+{
+    passes
+        .iter()
+        .all(|pass| pass.bench() == bench && pass.tag() < count)
+}
+
+/// Whether each tag has one pass.
+fn is_each_once(bench: u64, count: u8, passes: &[Pass]) -> bool
+    ensures { IsTrue result ↔ ((tag : ℕ) → tag < count → tag_count bench tag passes.now ≡ 1) }
+{
+    for tag in 0..count {
+        if tag_count(bench, tag, passes) != 1 {
+            return false;
+        }
+    }
+    true
+}
+
+/// The lowest tag whose calls are not the entries that the history has of it.
+pub(crate) fn lowest_mismatch(history: &[Entry], count: u8, passes: &[Pass]) -> Option<u8>
+    ensures some { IfSome result (λ tag. IsMismatch history.now count passes.now tag) }
+    ensures none { IfNone result ((tag : ℕ) → tag < count → TagStands history.now tag passes.now) }
+{
+    for tag in 0..count {
+        if !tag_stands(history, tag, passes) {
+            return Some(tag);
+        }
+    }
+    None
+}

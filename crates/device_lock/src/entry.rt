@@ -1,0 +1,33 @@
+ghost use Rattle.std.specs.Prelude.{◌≡◌, ◌↔◌, IsTrue};
+ghost use Rattle.device_lock.specs.History.{call_in};
+
+use nic_device::{EventNote, ReplyNote};
+
+/// A call that a pass made: its event and the reply to it, as notes.
+#[derive(Debug, Drop)]
+pub struct Call {
+    /// The event.
+    pub event: EventNote,
+    /// The device's reply.
+    pub reply: ReplyNote,
+}
+
+/// A call in the history.
+#[derive(Debug, Drop)]
+pub struct Entry {
+    /// The tag of the pass that made it, below 64.
+    pub pass: u8,
+    /// The event.
+    pub event: EventNote,
+    /// The device's reply.
+    pub reply: ReplyNote,
+}
+
+impl Call {
+    /// Whether the entry tells of this call.
+    pub fn is_in(&self, entry: &Entry) -> bool
+        ensures { IsTrue result ↔ (self.now ≡ call_in entry.now) }
+    {
+        self.event.same(&entry.event) && self.reply.same(&entry.reply)
+    }
+}

@@ -1,0 +1,24 @@
+//! A device that threads share under a lock, with the history of their calls.
+//!
+//! `Shared::new` gives a shared device and one `Pass` for each caller. `Shared::call` makes one event under the lock:
+//! it appends one `Entry` to the history and one `Call` to the pass, or changes nothing. What lies under the lock is a
+//! `Locked`, whose type keeps that the history is legal from a new device and leads to the device held.
+//! `Shared::close` takes all passes back and gives the one history in which each pass's calls stand in its order. The
+//! driver and the threads of the bench stand on this crate.
+#![tactic(auto)]
+
+mod closed;
+mod compare;
+mod entry;
+mod fault;
+pub mod laws;
+mod locked;
+mod pass;
+mod shared;
+
+pub use closed::Closed;
+pub use entry::{Call, Entry};
+pub use fault::{CallFault, CloseFault, NewFault};
+pub use locked::Locked;
+pub use pass::Pass;
+pub use shared::{CloseRefused, MAX_LIMIT, MAX_PASSES, Shared};

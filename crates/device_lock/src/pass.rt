@@ -1,0 +1,106 @@
+ghost use Rattle.std.specs.Prelude.{◌≡◌, ◌≤◌, ◌↔◌, true, Err, IfOk, IfErr, OnOk, OnErr, length};
+ghost use Rattle.nic_device.specs.Answering.{may_answer};
+ghost use Rattle.nic_device.specs.Step.{step_of};
+ghost use Rattle.device_lock.specs.Fault.{event_of};
+ghost use Rattle.device_lock.specs.Kept.{after_call};
+ghost use Rattle.device_lock.specs.Pass.{fresh_pass, with_call};
+
+use crate::entry::Call;
+use crate::fault::CallFault;
+use crate::locked::Locked;
+use nic_device::{Event, Reply};
+use std::alloc::Global;
+use std::marker::Model;
+
+/// The leave to call a shared device, and the calls that were made by it.
+#[derive(Drop)]
+pub struct Pass {
+    bench: u64,
+    tag: u8,
+    calls: Vec<Call>,
+}
+
+impl Model for Pass {
+    ghost use Rattle.device_lock.specs.Pass.{PassValue};
+
+    ghost Value = { PassValue };
+
+    ghost view = { λ p. record { bench = p.bench; tag = p.tag; calls = p.calls.items } };
+}
+
+impl Pass {
+    /// A pass that made no call.
+    pub(crate) fn new(alloc: Global, bench: u64, tag: u8) -> Pass
+        ensures { result ≡ fresh_pass bench tag }
+    {
+        Pass {
+            bench,
+            tag,
+            calls: Vec::new(alloc),
+        }
+    }
+
+    /// The number of the bench that the pass is of.
+    pub fn bench(&self) -> u64
+        ensures { result ≡ self.now.bench }
+    {
+        self.bench
+    }
+
+    /// The pass's tag, below 64.
+    pub fn tag(&self) -> u8
+        ensures { result ≡ self.now.tag }
+    {
+        self.tag
+    }
+
+    /// The calls that were made by the pass, with their replies, the oldest first.
+    pub fn calls(&self) -> &[Call]
+        ensures { result.now ≡ self.now.calls }
+    {
+        self.calls.as_slice()
+    }
+}
+
+impl Pass {
+    /// Makes one event under the lock, and keeps its call here.
+    ///
+    /// `ForeignPass` exactly where the tag is none of the lock's, `HistoryFull` exactly where the history has as many
+    /// entries as it may, and `OutOfMemory`. Each hands the event back, and changes nothing.
+    pub(crate) fn call<const VFS: u8, const FIFO: u16>(
+        &mut self,
+        alloc: Global,
+        locked: &mut Locked<VFS, FIFO>,
+        event: Event,
+    ) -> Result<Reply, CallFault>
+        ensures reply { IfOk result (λ reply. reply ≡ (step_of locked.old.device event).reply) }
+        ensures fits { IfOk result (λ reply. may_answer event reply ≡ true) }
+        ensures made { OnOk result (locked.new ≡ after_call locked.old self.old.tag event) }
+        ensures noted { IfOk result (λ reply. self.new ≡ with_call self.old event reply) }
+        ensures foreign { (result ≡ Err (CallFault.ForeignPass event)) ↔ (locked.old.passes ≤ self.old.tag) }
+        ensures full { result ≡ Err (CallFault.HistoryFull event)
+            → length locked.old.history ≡ locked.old.limit }
+        ensures back { IfErr result (λ fault. event_of fault ≡ event) }
+        ensures unchanged { OnErr result ((locked.new ≡ locked.old) × (self.new ≡ self.old)) }
+    {
+        if self.tag >= locked.passes() {
+            return Err(CallFault::ForeignPass(event));
+        }
+        if self.calls.reserve(1).is_err() {
+            return Err(CallFault::OutOfMemory(event));
+        }
+        let Ok(note) = event.note(alloc) else {
+            return Err(CallFault::OutOfMemory(event));
+        };
+        let Ok(room) = Vec::with_capacity(alloc, locked.note_room(&event)) else {
+            return Err(CallFault::OutOfMemory(event));
+        };
+        let reply = locked.step(alloc, self.tag, event)?;
+        let told = reply.note_in(room);
+        self.calls.push_reserved(Call {
+            event: note,
+            reply: told,
+        });
+        Ok(reply)
+    }
+}

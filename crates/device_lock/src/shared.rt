@@ -1,0 +1,118 @@
+ghost use Rattle.std.specs.Prelude.{◌≡◌, ◌≢◌, ◌≤◌, ◌<◌, ◌↔◌, ◌⊎◌, true, Err, IfOk, IfErr, OnErr, vec_len};
+ghost use Rattle.nic_device.specs.Answering.{may_answer};
+ghost use Rattle.device_lock.specs.Fault.{event_of};
+ghost use Rattle.device_lock.specs.Pass.{AreFresh, with_call};
+
+use crate::fault::{CallFault, CloseFault, NewFault};
+use crate::locked::Locked;
+use crate::pass::Pass;
+use nic_device::{Event, Reply};
+use std::alloc::{AllocError, Global};
+use std::sync::{Mutex, Wait};
+
+/// How many passes a shared device can have.
+pub const MAX_PASSES: u8 = 64;
+
+/// How many entries a history can have.
+pub const MAX_LIMIT: u32 = 1_000_000;
+
+/// A device that threads share, known by the number of its bench. It has `VFS` virtual functions, at most 63, and its
+/// receive list takes `FIFO` frames, from 1 to 4,096. It can't be dropped: it is closed in the end.
+pub struct Shared<const VFS: u8, const FIFO: u16> {
+    pub(crate) lock: Mutex<Locked<VFS, FIFO>>,
+    pub(crate) bench: u64,
+}
+
+/// A shared device that stays open: why, and what was passed.
+pub struct CloseRefused<const VFS: u8, const FIFO: u16> {
+    /// Why it stays open.
+    pub fault: CloseFault,
+    /// The shared device, unchanged.
+    pub shared: Shared<VFS, FIFO>,
+    /// The passes, unchanged.
+    pub passes: Vec<Pass>,
+}
+
+impl<const VFS: u8, const FIFO: u16> Shared<VFS, FIFO> {
+    /// Shares a new device, and gives one pass for each tag below `passes`, in their order.
+    ///
+    /// `Passes` where there are none or more than 64, `Limit` where the history may have no entry or more than
+    /// 1,000,000, and `OutOfMemory`, in this order.
+    pub fn new(
+        alloc: Global,
+        bench: u64,
+        passes: u8,
+        limit: u32,
+    ) -> Result<(Self, Vec<Pass>), NewFault>
+        requires device { (VFS ≤ 63) × (0 < FIFO) × (FIFO ≤ 4096) }
+        ensures shared { IfOk result (λ r. r.0.bench ≡ bench) }
+        ensures count { IfOk result (λ r. vec_len r.1 ≡ passes) }
+        ensures fresh { IfOk result (λ r. AreFresh bench 0 r.1.items) }
+        ensures passes { (result ≡ Err NewFault.Passes) ↔ ((passes ≡ 0) ⊎ (64 < passes)) }
+        ensures limit { (result ≡ Err NewFault.Limit)
+            ↔ ((0 < passes) × (passes ≤ 64) × ((limit ≡ 0) ⊎ (1000000 < limit))) }
+    {
+        if passes == 0 || passes > MAX_PASSES {
+            return Err(NewFault::Passes);
+        }
+        if limit == 0 || limit > MAX_LIMIT {
+            return Err(NewFault::Limit);
+        }
+        let Ok(all) = fresh_passes(alloc, bench, passes) else {
+            return Err(NewFault::OutOfMemory);
+        };
+        match Locked::new(alloc, passes, limit) {
+            Ok(locked) => Ok((
+                Shared {
+                    lock: Mutex::new(locked),
+                    bench,
+                },
+                all,
+            )),
+            Err(_) => Err(NewFault::OutOfMemory),
+        }
+    }
+
+    /// The number of the bench.
+    pub fn bench(&self) -> u64
+        ensures { result ≡ self.now.bench }
+    {
+        self.bench
+    }
+
+    /// Makes one event on the device, and keeps the call in the pass. It waits for the lock.
+    ///
+    /// `ForeignPass` where the pass is of another bench or has no tag of this one, `HistoryFull` where the history has
+    /// as many entries as it may, and `OutOfMemory`. Each hands the event back, and changes nothing.
+    pub fn call<R: Wait>(
+        &self,
+        rt: &R,
+        alloc: Global,
+        pass: &mut Pass,
+        event: Event,
+    ) -> Result<Reply, CallFault>
+        ensures noted { IfOk result (λ reply. pass.new ≡ with_call pass.old event reply) }
+        ensures fits { IfOk result (λ reply. may_answer event reply ≡ true) }
+        ensures foreign { pass.old.bench ≢ self.now.bench → result ≡ Err (CallFault.ForeignPass event) }
+        ensures back { IfErr result (λ fault. event_of fault ≡ event) }
+        ensures unchanged { OnErr result (pass.new ≡ pass.old) }
+    {
+        if pass.bench() != self.bench {
+            return Err(CallFault::ForeignPass(event));
+        }
+        let mut locked = self.lock.lock(rt);
+        pass.call(alloc, &mut *locked, event)
+    }
+}
+
+/// One pass for each tag below the number, in their order.
+fn fresh_passes(alloc: Global, bench: u64, count: u8) -> Result<Vec<Pass>, AllocError>
+    ensures count { IfOk result (λ passes. vec_len passes ≡ count) }
+    ensures fresh { IfOk result (λ passes. AreFresh bench 0 passes.items) }
+{
+    let mut passes = Vec::with_capacity(alloc, usize::from(count))?;
+    for tag in 0..count {
+        passes.push(Pass::new(alloc, bench, tag))?;
+    }
+    Ok(passes)
+}

@@ -1,0 +1,257 @@
+//! Notes: an event and a reply as they can be kept, with what a packet buffer holds in its place. Contracts see an
+//! event and its note as one, and so a reply and its note.
+
+ghost use Rattle.std.specs.Prelude.{◌≡◌, ◌≤◌, ◌↔◌, IsTrue, IfOk, [], length, false};
+ghost use Rattle.std.specs.Vec.{vec_capacity};
+ghost use Rattle.nic_device.specs.Answering.{note_length};
+
+use crate::event::{Event, EventNote, Note, Reply, ReplyNote};
+use dma_arena::{Buf, Octets};
+use std::alloc::{AllocError, Global};
+
+impl Note {
+    /// The note of a block of packet memory. Its bytes are copied into a vector that has room for them.
+    pub fn of(buf: &Buf, room: Vec<u8>) -> Note
+        requires empty { room.items ≡ [] }
+        requires room { length buf.now.bytes ≤ vec_capacity room }
+        ensures { result ≡ buf.now }
+    {
+        Note::new(buf.block(), Octets::copied(buf.bytes(), room))
+    }
+
+    /// Whether both are notes of one block: its number and its bytes.
+    pub fn same(&self, other: &Note) -> bool
+        ensures { IsTrue result ↔ (self.now ≡ other.now) }
+    {
+        self.number() == other.number() && self.bytes() == other.bytes()
+    }
+}
+
+impl Event {
+    /// The note of an event.
+    pub fn note(&self, alloc: Global) -> Result<EventNote, AllocError>
+        ensures { IfOk result (λ note. note ≡ self.now) }
+    {
+        match self {
+            Event::Read(port, address) => Ok(Event::Read(*port, *address)),
+            Event::Write(port, address, word) => Ok(Event::Write(*port, *address, *word)),
+            Event::Lend(buf) => {
+                let room = Vec::with_capacity(alloc, buf.bytes().len())?;
+                Ok(Event::Lend(Note::of(buf, room)))
+            }
+            Event::Take(number) => Ok(Event::Take(*number)),
+            Event::Peek16(address) => Ok(Event::Peek16(*address)),
+            Event::Poke16(address, bytes) => Ok(Event::Poke16(*address, *bytes)),
+            Event::Arrive(frame) => {
+                let room = Vec::with_capacity(alloc, frame.bytes().len())?;
+                Ok(Event::Arrive(Octets::copied(frame.bytes(), room)))
+            }
+            Event::RxStep => Ok(Event::RxStep),
+            Event::TxStep(queue) => Ok(Event::TxStep(*queue)),
+            Event::IntStep(group) => Ok(Event::IntStep(*group)),
+            Event::QueueStep(dir, queue) => Ok(Event::QueueStep(*dir, *queue)),
+            Event::EepromStep => Ok(Event::EepromStep),
+            Event::Link(up) => Ok(Event::Link(*up)),
+            Event::Collect => Ok(Event::Collect),
+        }
+    }
+}
+
+impl Event<Note> {
+    /// Whether both are notes of one event.
+    pub fn same(&self, other: &EventNote) -> bool
+        ensures { IsTrue result ↔ (self.now ≡ other.now) }
+    {
+        match (self, other) {
+            (Event::Read(port, address), Event::Read(other_port, other_address)) => {
+                *port == *other_port && *address == *other_address
+            }
+            (
+                Event::Write(port, address, word),
+                Event::Write(other_port, other_address, other_word),
+            ) => { *port == *other_port && *address == *other_address && *word == *other_word }
+            (Event::Lend(block), Event::Lend(other)) => block.same(other),
+            (Event::Take(number), Event::Take(other)) => *number == *other,
+            (Event::Peek16(address), Event::Peek16(other)) => *address == *other,
+            (Event::Poke16(address, bytes), Event::Poke16(other_address, other_bytes)) => {
+                *address == *other_address && *bytes == *other_bytes
+            }
+            (Event::Arrive(frame), Event::Arrive(other)) => frame.same(other),
+            (Event::RxStep, Event::RxStep) => true,
+            (Event::TxStep(queue), Event::TxStep(other)) => *queue == *other,
+            (Event::IntStep(group), Event::IntStep(other)) => *group == *other,
+            (Event::QueueStep(dir, queue), Event::QueueStep(other_dir, other_queue)) => {
+                *dir == *other_dir && *queue == *other_queue
+            }
+            (Event::EepromStep, Event::EepromStep) => true,
+            (Event::Link(up), Event::Link(other)) => *up == *other,
+            (Event::Collect, Event::Collect) => true,
+            _ => false,
+        }
+    }
+}
+
+impl Reply {
+    /// How many bytes of the reply its note copies: those of a block, or of a frame.
+    pub fn note_length(&self) -> usize
+        ensures { result ≡ note_length self.now }
+    {
+        match self {
+            Reply::Buf(buf) | Reply::Twice(buf) => buf.bytes().len(),
+            Reply::Frame { queue: _, bytes } => bytes.bytes().len(),
+            _ => 0,
+        }
+    }
+
+    /// The note of a reply.
+    pub fn note(&self, alloc: Global) -> Result<ReplyNote, AllocError>
+        ensures { IfOk result (λ note. note ≡ self.now) }
+    {
+        let room = Vec::with_capacity(alloc, self.note_length())?;
+        Ok(self.note_in(room))
+    }
+
+    /// The note of a reply. What it copies goes into a vector that has room for it, so that no memory is asked for.
+    pub fn note_in(&self, room: Vec<u8>) -> ReplyNote
+        requires empty { room.items ≡ [] }
+        requires room { note_length self.now ≤ vec_capacity room }
+        ensures { result ≡ self.now }
+    {
+        match self {
+            Reply::Word(word) => Reply::Word(*word),
+            Reply::Stray(word) => Reply::Stray(*word),
+            Reply::Done => Reply::Done,
+            Reply::Bytes(bytes) => Reply::Bytes(*bytes),
+            Reply::Buf(buf) => Reply::Buf(Note::of(buf, room)),
+            Reply::Twice(buf) => Reply::Twice(Note::of(buf, room)),
+            Reply::NotLent => Reply::NotLent,
+            Reply::Misaligned => Reply::Misaligned,
+            Reply::NoQueue => Reply::NoQueue,
+            Reply::NoGroup => Reply::NoGroup,
+            Reply::Idle => Reply::Idle,
+            Reply::Dropped(why) => Reply::Dropped(*why),
+            Reply::Wrote {
+                queue,
+                slot,
+                end,
+                desc,
+                at,
+                len,
+            } => Reply::Wrote {
+                queue: *queue,
+                slot: *slot,
+                end: *end,
+                desc: *desc,
+                at: *at,
+                len: *len,
+            },
+            Reply::Advanced { queue, slot, back } => Reply::Advanced {
+                queue: *queue,
+                slot: *slot,
+                back: *back,
+            },
+            Reply::Sent { queue, len, back } => Reply::Sent {
+                queue: *queue,
+                len: *len,
+                back: *back,
+            },
+            Reply::Fault { queue, fault } => Reply::Fault {
+                queue: *queue,
+                fault: *fault,
+            },
+            Reply::Message { group, vector } => Reply::Message {
+                group: *group,
+                vector: *vector,
+            },
+            Reply::Frame { queue, bytes } => Reply::Frame {
+                queue: *queue,
+                bytes: Octets::copied(bytes.bytes(), room),
+            },
+        }
+    }
+}
+
+impl Reply<Note> {
+    /// Whether both are notes of one reply.
+    pub fn same(&self, other: &ReplyNote) -> bool
+        ensures { IsTrue result ↔ (self.now ≡ other.now) }
+    {
+        match (self, other) {
+            (Reply::Word(word), Reply::Word(other)) => *word == *other,
+            (Reply::Stray(word), Reply::Stray(other)) => *word == *other,
+            (Reply::Done, Reply::Done) => true,
+            (Reply::Bytes(bytes), Reply::Bytes(other)) => *bytes == *other,
+            (Reply::Buf(block), Reply::Buf(other)) => block.same(other),
+            (Reply::Twice(block), Reply::Twice(other)) => block.same(other),
+            (Reply::NotLent, Reply::NotLent) => true,
+            (Reply::Misaligned, Reply::Misaligned) => true,
+            (Reply::NoQueue, Reply::NoQueue) => true,
+            (Reply::NoGroup, Reply::NoGroup) => true,
+            (Reply::Idle, Reply::Idle) => true,
+            (Reply::Dropped(why), Reply::Dropped(other)) => *why == *other,
+            (
+                Reply::Wrote {
+                    queue,
+                    slot,
+                    end,
+                    desc,
+                    at,
+                    len,
+                },
+                Reply::Wrote {
+                    queue: other_queue,
+                    slot: other_slot,
+                    end: other_end,
+                    desc: other_desc,
+                    at: other_at,
+                    len: other_len,
+                },
+            ) => {
+                *queue == *other_queue
+                    && *slot == *other_slot
+                    && *end == *other_end
+                    && *desc == *other_desc
+                    && *at == *other_at
+                    && *len == *other_len
+            }
+            (
+                Reply::Advanced { queue, slot, back },
+                Reply::Advanced {
+                    queue: other_queue,
+                    slot: other_slot,
+                    back: other_back,
+                },
+            ) => *queue == *other_queue && *slot == *other_slot && *back == *other_back,
+            (
+                Reply::Sent { queue, len, back },
+                Reply::Sent {
+                    queue: other_queue,
+                    len: other_len,
+                    back: other_back,
+                },
+            ) => *queue == *other_queue && *len == *other_len && *back == *other_back,
+            (
+                Reply::Fault { queue, fault },
+                Reply::Fault {
+                    queue: other_queue,
+                    fault: other_fault,
+                },
+            ) => *queue == *other_queue && *fault == *other_fault,
+            (
+                Reply::Message { group, vector },
+                Reply::Message {
+                    group: other_group,
+                    vector: other_vector,
+                },
+            ) => *group == *other_group && *vector == *other_vector,
+            (
+                Reply::Frame { queue, bytes },
+                Reply::Frame {
+                    queue: other_queue,
+                    bytes: other_bytes,
+                },
+            ) => *queue == *other_queue && bytes.same(other_bytes),
+            _ => false,
+        }
+    }
+}

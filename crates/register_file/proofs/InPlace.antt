@@ -18,20 +18,30 @@ use Rattle.register_file.specs.declared.register_file.RegisterFile.TheInside.{In
 use Rattle.register_file.proofs.Columns.{columns}
 
 -- the registers with other interrupts of a group, whose auto-clear and auto-mask are as they were
-pub changed : (a : Inside) (g : Group) (s : Interrupts) → s.group ≡ g → s.auto_clear ≡ (at_group a.groups g).auto_clear → s.auto_mask ≡ (at_group a.groups g).auto_mask → registers_of (record a { groups = with_group a.groups g s }) ≡ with_interrupts (registers_of a) s
+pub changed : (a : Inside) (g : Group) (s : Interrupts) → s.group ≡ g
+    → s.auto_clear ≡ (at_group a.groups g).auto_clear → s.auto_mask ≡ (at_group a.groups g).auto_mask
+    → registers_of (record a { groups = with_group a.groups g s }) ≡ with_interrupts (registers_of a) s
 changed a Pf s e clear mask = rw (e, clear, mask) refl
 changed a (Vf v) s e clear mask = rw e (simp (clear, mask, columns))
 
 -- the registers with another word in a group's auto-clear register, and in its auto-mask register
-pub auto_clear_changed : (a : Inside) (g : Group) (word : ℕ) → registers_of (record a { groups = with_group a.groups g (record (at_group a.groups g) { auto_clear = word }) }) ≡ with_word (registers_of a) (auto_clear_row g) (index_of g) word
+pub auto_clear_changed : (a : Inside) (g : Group) (word : ℕ)
+    → registers_of (record a { groups = with_group a.groups g (record (at_group a.groups g) { auto_clear = word }) })
+    ≡ with_word (registers_of a) (auto_clear_row g) (index_of g) word
 auto_clear_changed a Pf word = refl
 auto_clear_changed a (Vf v) word = simp columns
 
-pub auto_mask_changed : (a : Inside) (g : Group) (word : ℕ) → registers_of (record a { groups = with_group a.groups g (record (at_group a.groups g) { auto_mask = word }) }) ≡ with_word (registers_of a) (auto_mask_row g) (index_of g) word
+pub auto_mask_changed : (a : Inside) (g : Group) (word : ℕ)
+    → registers_of (record a { groups = with_group a.groups g (record (at_group a.groups g) { auto_mask = word }) })
+    ≡ with_word (registers_of a) (auto_mask_row g) (index_of g) word
 auto_mask_changed a Pf word = refl
 auto_mask_changed a (Vf v) word = simp columns
 
-at_words : (xs : List Interrupts) (v : ℕ) (d : Interrupts) → v < length xs → (g : Group) → of_words g (get_or (map (λ q. q.causes) xs) v 0) (get_or (map (λ q. q.enabled) xs) v 0) (get_or (map (λ q. q.auto_clear) xs) v 0) (get_or (map (λ q. q.auto_mask) xs) v 0) (get_or (map (λ q. q.told) xs) v 0) ≡ (let q = get_or xs v d in of_words g q.causes q.enabled q.auto_clear q.auto_mask q.told)
+at_words : (xs : List Interrupts) (v : ℕ) (d : Interrupts) → v < length xs → (g : Group)
+    → of_words g (get_or (map (λ q. q.causes) xs) v 0) (get_or (map (λ q. q.enabled) xs) v 0)
+    (get_or (map (λ q. q.auto_clear) xs) v 0) (get_or (map (λ q. q.auto_mask) xs) v 0)
+    (get_or (map (λ q. q.told) xs) v 0)
+    ≡ (let q = get_or xs v d in of_words g q.causes q.enabled q.auto_clear q.auto_mask q.told)
 at_words xs v d b g =
     rw (
       get_or-map (λ q. q.causes) xs v d 0 b,
@@ -42,7 +52,8 @@ at_words xs v d b g =
     ) refl
 
 -- the interrupts of a group, as the registers show them
-pub shown : (a : Inside) (g : Group) → index_of g < 64 → length a.groups.vf ≡ 64 → IsOwn g (at_group a.groups g) → interrupts_of (registers_of a) g ≡ at_group a.groups g
+pub shown : (a : Inside) (g : Group) → index_of g < 64 → length a.groups.vf ≡ 64 → IsOwn g (at_group a.groups g)
+    → interrupts_of (registers_of a) g ≡ at_group a.groups g
 shown a Pf b all own = own.by_words
 shown a (Vf v) b all own =
     at_words a.groups.vf v (reset_of (Vf v)) (subst (λ n. v < n) (sym all) b) (Vf v) ∙ own.by_words
@@ -54,7 +65,10 @@ pub record IsStep (step : Interrupts → Interrupts) : Type 0 where
   pub auto_mask : (s : Interrupts) → (step s).auto_mask ≡ s.auto_mask
 
 -- a step in place is one of the registers
-pub stepped : (a : Inside) (r : Registers) (g : Group) (step : Interrupts → Interrupts) (one : Interrupts) (new : AllGroups) → registers_of a ≡ r → index_of g < 64 → length a.groups.vf ≡ 64 → one ≡ at_group a.groups g → IsOwn g one → new ≡ with_group a.groups g (step (at_group a.groups g)) → IsStep step → registers_of (record a { groups = new }) ≡ with_interrupts r (step (interrupts_of r g))
+pub stepped : (a : Inside) (r : Registers) (g : Group) (step : Interrupts → Interrupts) (one : Interrupts)
+    (new : AllGroups) → registers_of a ≡ r → index_of g < 64 → length a.groups.vf ≡ 64 → one ≡ at_group a.groups g
+    → IsOwn g one → new ≡ with_group a.groups g (step (at_group a.groups g)) → IsStep step
+    → registers_of (record a { groups = new }) ≡ with_interrupts r (step (interrupts_of r g))
 stepped a r g step one new is b all there owned steps keeps =
     let s = at_group a.groups g in
     let own = subst (λ i. IsOwn g i) there owned in
@@ -74,11 +88,13 @@ group_after : (s : Interrupts) (eiame : Bool) (next : Option ℕ) → (after_mes
 group_after s eiame None = refl
 group_after s eiame (Some bit) = refl
 
-auto_clear_after : (s : Interrupts) (eiame : Bool) (next : Option ℕ) → (after_message_of s eiame next).auto_clear ≡ s.auto_clear
+auto_clear_after : (s : Interrupts) (eiame : Bool) (next : Option ℕ)
+    → (after_message_of s eiame next).auto_clear ≡ s.auto_clear
 auto_clear_after s eiame None = refl
 auto_clear_after s eiame (Some bit) = refl
 
-auto_mask_after : (s : Interrupts) (eiame : Bool) (next : Option ℕ) → (after_message_of s eiame next).auto_mask ≡ s.auto_mask
+auto_mask_after : (s : Interrupts) (eiame : Bool) (next : Option ℕ)
+    → (after_message_of s eiame next).auto_mask ≡ s.auto_mask
 auto_mask_after s eiame None = refl
 auto_mask_after s eiame (Some bit) = refl
 
@@ -102,7 +118,12 @@ none_of None e = refl
 none_of (Some x) e = cc
 
 -- a message in place is one of the registers
-pub messaged : (a : Inside) (r : Registers) (g : Group) (eiame : Bool) (misc : ℕ) (one : Interrupts) (new : AllGroups) → registers_of a ≡ r → index_of g < 64 → length a.groups.vf ≡ 64 → one ≡ at_group a.groups g → IsOwn g one → new ≡ with_group a.groups g (after_message (at_group a.groups g) eiame misc) → registers_of (record a { groups = new }) ≡ (if is_some (next_vector (interrupts_of r g) misc) then with_interrupts r (after_message (interrupts_of r g) eiame misc) else r)
+pub messaged : (a : Inside) (r : Registers) (g : Group) (eiame : Bool) (misc : ℕ) (one : Interrupts) (new : AllGroups)
+    → registers_of a ≡ r → index_of g < 64 → length a.groups.vf ≡ 64 → one ≡ at_group a.groups g → IsOwn g one
+    → new ≡ with_group a.groups g (after_message (at_group a.groups g) eiame misc)
+    → registers_of (record a { groups = new })
+    ≡ (if is_some (next_vector (interrupts_of r g) misc)
+    then with_interrupts r (after_message (interrupts_of r g) eiame misc) else r)
 messaged a r g eiame misc one new is b all there owned steps =
     let s = at_group a.groups g in
     let own = subst (λ i. IsOwn g i) there owned in
@@ -110,15 +131,20 @@ messaged a r g eiame misc one new is b all there owned steps =
     let test = is_some (next_vector (interrupts_of r g) misc) in
     let told = with_interrupts r (after_message (interrupts_of r g) eiame misc) in
     elim (cases_Bool test) as (λ _. registers_of (record a { groups = new }) ≡ (if test then told else r)) [
-      | inl t ↦ stepped a r g (λ i. after_message i eiame misc) one new is b all there owned steps (message_step eiame misc) ∙ sym (cond-true test told r t)
+      | inl t ↦ stepped a r g (λ i. after_message i eiame misc) one new is b all there owned steps
+          (message_step eiame misc) ∙ sym (cond-true test told r t)
       | inr f ↦
-          let none = ap (λ i. next_bit i misc) (sym seen) ∙ no_next (interrupts_of r g) misc (none_of (next_vector (interrupts_of r g) misc) f) in
-          let same : new ≡ a.groups = steps ∙ ap (λ n. with_group a.groups g (after_message_of s eiame n)) none ∙ put_back a.groups g in
+          let none = ap (λ i. next_bit i misc) (sym seen) ∙ no_next (interrupts_of r g) misc
+          (none_of (next_vector (interrupts_of r g) misc) f) in
+          let same : new ≡ a.groups = steps ∙ ap (λ n. with_group a.groups g (after_message_of s eiame n)) none
+          ∙ put_back a.groups g in
           ap (λ gs. registers_of (record a { groups = gs })) same ∙ is ∙ sym (cond-false test told r f)
     ]
 
 -- the vector that a message in place answers
-pub vector_shown : (a : Inside) (r : Registers) (g : Group) (misc : ℕ) (one : Interrupts) → registers_of a ≡ r → index_of g < 64 → length a.groups.vf ≡ 64 → one ≡ at_group a.groups g → IsOwn g one → next_vector (at_group a.groups g) misc ≡ next_vector (interrupts_of r g) misc
+pub vector_shown : (a : Inside) (r : Registers) (g : Group) (misc : ℕ) (one : Interrupts) → registers_of a ≡ r
+    → index_of g < 64 → length a.groups.vf ≡ 64 → one ≡ at_group a.groups g → IsOwn g one
+    → next_vector (at_group a.groups g) misc ≡ next_vector (interrupts_of r g) misc
 vector_shown a r g misc one is b all there owned =
     let own = subst (λ i. IsOwn g i) there owned in
     ap (λ i. next_vector i misc) (sym (shown a g b all own)) ∙ ap (λ q. next_vector (interrupts_of q g) misc) is

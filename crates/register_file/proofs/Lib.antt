@@ -20,6 +20,7 @@ pub mod PoolQueues
 pub mod PoolReads
 pub mod PoolReset
 pub mod PoolSound
+pub mod PoolsApart
 pub mod Puts
 pub mod ReadBack
 pub mod Renewed

@@ -1,11 +1,11 @@
 -- What accesses of a pool's registers, and the pool's reset, change and tell: of all registers the pool's alone.
-use Rattle.std.specs.Prelude.{ℕ, ◌≡◌, IsTrue}
+use Rattle.std.specs.Prelude.{ℕ, ◌≡◌, ◌≢◌, IsTrue}
 use Rattle.reg_table.specs.Rows.{row_of}
 use Rattle.reg_table.specs.declared.place.Place.{Place}
 use Rattle.vf_map.specs.Owner.{is_of_pool, is_shared}
 use Rattle.vf_map.specs.declared.mode.Mode.{Mode}
 use Rattle.register_file.specs.Access.{read_word, after_read}
-use Rattle.register_file.specs.Footprint.{Covers, AgreeWithin, of_pool, of_read, of_write}
+use Rattle.register_file.specs.Footprint.{Footprint, ChangesWithin, Covers, Misses, AgreeWithin, of_pool, of_read, of_write}
 use Rattle.register_file.specs.Laws.{HasShape, after_write}
 use Rattle.register_file.specs.PoolReset.{pool_reset}
 use Rattle.register_file.specs.Registers.{Registers}
@@ -62,3 +62,13 @@ abbrev pub PoolResetMakesAgreement : Type 0
 PoolResetMakesAgreement =
     (mode : Mode) (v : ℕ) (a b : Registers) → HasShape a → HasShape b →
     AgreeWithin (of_pool mode v) (pool_reset mode v a) (pool_reset mode v b)
+
+-- two pools have nothing in common
+abbrev pub PoolsHaveNothingInCommon : Type 0
+PoolsHaveNothingInCommon = (mode : Mode) (v w : ℕ) → v ≢ w → Misses (of_pool mode v) (of_pool mode w)
+
+-- registers that agree within a footprint do so after any changes within one that has nothing of it
+abbrev pub MissedAgreementStands : Type 0
+MissedAgreementStands =
+    (f g : Footprint) (a b then_a then_b : Registers) → Misses f g → ChangesWithin f a then_a →
+    ChangesWithin f b then_b → AgreeWithin g a b → AgreeWithin g then_a then_b

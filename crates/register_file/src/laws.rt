@@ -2,7 +2,7 @@
 
 ghost use Rattle.register_file.specs.Laws.{ResetIsSound, ReadKeepsSound, WriteKeepsSound, CountKeepsSound, CountWrappingKeepsSound, AnswerKeepsSound, RaiseKeepsSound, QueueRaiseKeepsSound, MessageKeepsSound, HeadKeepsSound, SwitchKeepsSound, ShutKeepsSound, ResetGivesResetValues, ResetSwitchesOff, ResetTellsNothing, PutWordIsThere, PutWordIsAlone, GroupBitsAreMasks, StoredWordReadsBack, ReadStaysWithin, WriteStaysWithin, CountStaysWithin, CountWrappingStaysWithin, AnswerStaysWithin, RaiseStaysWithin, QueueRaiseStaysWithin, MessageStaysWithin, HeadStaysWithin, SwitchStaysWithin, ShutStaysWithin, ReadStaysWithOwner, WriteStaysWithOwner, OwnersAreApart, OwnersDiffer, WordIsOnePlace, PendingIsPending, CountersAreTheirOwn, PendingMissesSides, ReadMissesSides, MissedReceiveStands, MissedTransmitStands, MissedInterruptsStand, MissedSettingsStand, HeadMovesReceive, HeadMovesTransmit, SwitchObeysReceive, SwitchObeysTransmit, SwitchedSideStays, ShutIsOffReceive, ShutIsOffTransmit, RingIsHeldWhileOn, WrittenReceiveIsTheSides, WrittenTransmitIsTheSides, EnableWriteAsksReceive, EnableWriteAsksTransmit, EnableReadTellsOn, CountersCount, ReadOnlyCountersGoRound, CalculatedRowsHaveFormulas, EepromAnswerIsRead, InterruptsStand};
 ghost use Rattle.register_file.specs.PoolLaws.{PoolIsReset, PoolResetStaysWithin, PoolResetKeepsSound};
-ghost use Rattle.register_file.specs.Agreement.{PoolReadsStayWithin, PoolWritesStayWithin, SharedReadsChangeNothing, SharedWritesChangeNothing, PoolReadsTellTheSame, SharedReadsTellTheSame, PoolReadsKeepAgreement, PoolWritesKeepAgreement, PoolResetMakesAgreement};
+ghost use Rattle.register_file.specs.Agreement.{PoolReadsStayWithin, PoolWritesStayWithin, SharedReadsChangeNothing, SharedWritesChangeNothing, PoolReadsTellTheSame, SharedReadsTellTheSame, PoolReadsKeepAgreement, PoolWritesKeepAgreement, PoolResetMakesAgreement, PoolsHaveNothingInCommon, MissedAgreementStands};
 
 /// Registers are sound after a reset and through every change: they have each place of the table, words of 32 bits, and
 /// told bits only where cause and mask are 1.
@@ -176,4 +176,11 @@ pub fn pool_accesses_tell_of_the_pool()
     ensures read { PoolReadsKeepAgreement }
     ensures write { PoolWritesKeepAgreement }
     ensures reset { PoolResetMakesAgreement }
+{}
+
+/// Two pools have nothing in common, and what two register files agree in stands through changes that have nothing of
+/// it: those of another pool among them.
+pub fn pools_have_nothing_in_common()
+    ensures apart { PoolsHaveNothingInCommon }
+    ensures stands { MissedAgreementStands }
 {}

@@ -1,16 +1,17 @@
 //! The registers of the Intel 82599, as the device core keeps them: their words, which queues are wanted on, and
 //! which interrupt causes messages told.
 //!
-//! A `RegisterFile` is seen by contracts as `Registers`: for each row the words at its indices, and for each queue the
-//! enables that were asked for. `read` and `write` are an access of a place by the kind of its row: a write changes
-//! what its kind lets through, a read of a counter starts it again from 0, and accesses of a group's
+//! A `RegisterFile` is seen by contracts as `Registers`: for each row the words at its indices, and for each queue
+//! the enables that were asked for. `read` and `write` are an access of a place by the kind of its row: a write
+//! changes what its kind lets through, a read of a counter starts it again from 0, and accesses of a group's
 //! interrupts go through `intr_unit`, by the words of its registers. `peek` is the word of a read without its
-//! effect, and `word` the word as it was stored. The other calls are what the device core asks of a queue (its ring,
-//! whether it is on, its counter), of a pool (its queues, whether it is on) and of single bits, and how it moves a head,
-//! switches a queue, counts, answers what was asked of the EEPROM, and resets a pool. What calculated registers tell of
-//! the link and the EEPROM is passed in as `Surroundings`. The definitions stand in `specs/`. The registers lie in plain fields: the sides of the queues, the groups of interrupts,
-//! which change in place, the hash key, the settings, the tables and the counters; `cell` and `set_word` say which row
-//! lies where. Nothing here takes memory.
+//! effect, and `word` the word as it was stored. The other calls are what the device core asks of a queue (its
+//! ring, whether it is on, its counter), of a pool (its queues, whether it is on) and of single bits, and how it
+//! moves a head, switches a queue, counts, answers what was asked of the EEPROM, and resets a pool. What calculated
+//! registers tell of the link and the EEPROM is passed in as `Surroundings`. The definitions stand in `specs/`. The
+//! registers lie in plain fields: the sides of the queues, the groups of interrupts, which change in place, the
+//! hash key, the settings, the tables and the counters; `cell` and `set_word` say which row lies where. Nothing
+//! here takes memory.
 //!
 //! Source: Intel 82599 datasheet, sections on the device registers.
 #![tactic(auto)]
@@ -39,9 +40,9 @@ pub use laws::{
     accesses_stay_with_their_owner, calculated_rows_have_formulas, changes_stay_in_their_footprint,
     counters_count, eeprom_answer_is_read, enable_write_only_asks, group_bits_are_masks,
     interrupts_stand, moved_head_is_the_head, pool_accesses_stay_within,
-    pool_accesses_tell_of_the_pool, put_word_is_there, read_only_counters_go_round,
-    reset_is_the_tables, reset_pool_is_reset, ring_is_held_while_on, shut_side_is_off,
-    soundness_is_kept, stored_word_reads_back, switched_side_is_as_wanted,
+    pool_accesses_tell_of_the_pool, pools_have_nothing_in_common, put_word_is_there,
+    read_only_counters_go_round, reset_is_the_tables, reset_pool_is_reset, ring_is_held_while_on,
+    shut_side_is_off, soundness_is_kept, stored_word_reads_back, switched_side_is_as_wanted,
     what_a_footprint_misses_stands, written_word_is_the_sides,
 };
 pub use owner::{Owner, owner_of};

@@ -4,4 +4,5 @@ use Rattle.register_file.proofs.groups.has_own_words.Goals as goal
 
 pub returns : goal.returns
 returns c =
-    own_words c.args.causes.now c.causes-causes.ensures.consistent (omega arith) (omega arith) (omega arith) (omega arith) (omega arith)
+    own_words c.args.causes.now c.causes-causes.ensures.consistent (omega arith) (omega arith) (omega arith)
+    (omega arith) (omega arith)

@@ -5,5 +5,7 @@ use Rattle.register_file.proofs.register_file.RegisterFile.set_masks.Goals as go
 
 pub returns : goal.returns
 returns c =
-    stepped c.self.inside c.args.self.now c.args.group (λ s. after_mask_set s c.args.bits) c.of-own.result.now c.mask_set.new.self c.self.view_is c.requires c.of-own.ensures.all c.of-own.ensures.value c.of-own.ensures.own c.mask_set.ensures
+    stepped c.self.inside c.args.self.now c.args.group (λ s. after_mask_set s c.args.bits) c.of-own.result.now
+    c.mask_set.new.self c.self.view_is c.requires c.of-own.ensures.all c.of-own.ensures.value c.of-own.ensures.own
+    c.mask_set.ensures
     (record { group = λ s. refl; auto_clear = λ s. refl; auto_mask = λ s. refl })

@@ -125,7 +125,8 @@ events_count s h (event.IntStep g) p is keeps =
 events_count s h (event.QueueStep dir queue) p is keeps =
     (stays_within s (event.QueueStep dir queue)).registers.words p (switch_misses dir queue p is)
 events_count s h event.EepromStep p is keeps =
-    (stays_within s event.EepromStep).registers.words p (elsewhere (place Eerd 0) p (λ (e : kind.Eerd ≡ kind.Rc). cc) is)
+    (stays_within s event.EepromStep).registers.words p
+    (elsewhere (place Eerd 0) p (λ (e : kind.Eerd ≡ kind.Rc). cc) is)
 events_count s h (event.Link up) p is keeps =
     (stays_within s (event.Link up)).registers.words p (not_pending group.Pf p is)
 events_count s h other p is keeps = (stays_within s other).registers.words p refl

@@ -46,7 +46,7 @@ shown-read w small = and_mask w 32 ∙ mod-eq_of_lt small
 
 pub control_tells : ControlTellsSize
 control_tells s h doubled is =
-    let few = doublings-few (length s.image) h.image.size in
+    let few = doublings-few (length s.image) in
     control-read s ∙ ap Word (shown-control (0x300 + 0x800 * doublings (length s.image)) (omega arith))
     ∙ ap (λ d. Word (0x300 + 0x800 * d)) (doublings-is (length s.image) doubled h.image.size is)
 

@@ -197,8 +197,8 @@ PieceIsReadBack =
 abbrev pub FaultChangesNoMemory : Type 0
 FaultChangesNoMemory = (s : State) (e : Event Block) → IsTrue (is_fault (reply_to s e)) → (after s e).memory ≡ s.memory
 
--- while CTRL bit 2 is 1 every step of a queue below 128, of a group that there is, and of the EEPROM is idle and changes
--- nothing
+-- while CTRL bit 2 is 1 every step of a queue below 128, of a group that there is, and of the EEPROM is idle and
+-- changes nothing
 pub record StopsAllSteps (s : State) : Type 0 where
   pub receive : step_of s event.RxStep ≡ gives Idle s
   pub transmit : (queue : ℕ) → queue < 128 → step_of s (event.TxStep queue) ≡ gives Idle s

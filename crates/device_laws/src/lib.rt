@@ -56,7 +56,8 @@ pub fn read_counter_starts_again()
     ensures { ReadCounterStartsAgain }
 {}
 
-/// A frame that is let in is counted in GPRC, so that the next read gives one more. The largest word, 0xFFFFFFFF, stays.
+/// A frame that is let in is counted in GPRC, so that the next read gives one more. The largest word, 0xFFFFFFFF,
+/// stays.
 pub fn let_in_frame_is_counted()
     ensures { LetInFrameIsCounted }
 {}
@@ -76,16 +77,16 @@ pub fn events_raise()
     ensures { EventsRaise }
 {}
 
-/// A write that asks for a reset drops the frames that wait and the staged bytes, and changes nothing else but registers.
-/// With an image that writes no register each has its reset value then, no side of a queue is wanted on and no bit is
-/// told; `reset_applies_the_image` says what more an image does.
+/// A write that asks for a reset drops the frames that wait and the staged bytes, and changes nothing else but
+/// registers. With an image that writes no register each has its reset value then, no side of a queue is wanted on and
+/// no bit is told; `reset_applies_the_image` says what more an image does.
 pub fn asked_reset_resets()
     ensures rest { AskedResetResets }
     ensures values { ResetGivesResetValues }
 {}
 
-/// A reset makes the register writes of the EEPROM's image one by one: with one more at the end of the image, the device
-/// comes where it comes without, and then by that write; one of CTRL or EERD is stepped over.
+/// A reset makes the register writes of the EEPROM's image one by one: with one more at the end of the image, the
+/// device comes where it comes without, and then by that write; one of CTRL or EERD is stepped over.
 pub fn reset_applies_the_image()
     ensures writes { LastWriteIsMade }
     ensures steps_over { SteppedOverWriteIsNotMade }

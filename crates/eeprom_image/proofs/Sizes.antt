@@ -1,8 +1,9 @@
 -- The nine sizes of an image.
-use Rattle.std.proofs.Common.{◌≡◌, ◌==◌, ℕ, ◌*◌, ◌^◌, ◌≤◌, inl, inr, true, List, [], ◌∷◌, refl, arith, subst, sym, ◌∙◌}
+use Rattle.std.proofs.Common.{Bool, nat_le, length, filter, ◌≡◌, ◌==◌, ℕ, ◌*◌, ◌^◌, ◌≤◌, inl, inr, true, List, [], ◌∷◌, refl, arith, subst, sym, ◌∙◌}
 use Rattle.std.specs.List.{list_any, AllByRecursion}
 use Rattle.std.proofs.lemmas.Bool.Decides.{eqb_tells}
 use Rattle.std.proofs.lemmas.Bool.{cases_order}
+use Rattle.std.proofs.lemmas.List.Sums.{length-filter, count_by-le-length}
 use Rattle.std.proofs.Math.Pow.{pow-lt}
 use Rattle.eeprom_image.specs.Image.{is_size, doublings}
 
@@ -20,11 +21,11 @@ doubled size h =
     of_any (λ n. n ≡ 64 * 2 ^ doublings n) size (0 ∷ 1 ∷ 2 ∷ 3 ∷ 4 ∷ 5 ∷ 6 ∷ 7 ∷ 8 ∷ []) h
     (refl, (refl, (refl, (refl, (refl, (refl, (refl, (refl, (refl, tt)))))))))
 
-pub doublings-few : (size : ℕ) → is_size size ≡ true → doublings size ≤ 8
-doublings-few size h =
-    of_any (λ n. doublings n ≤ 8) size (0 ∷ 1 ∷ 2 ∷ 3 ∷ 4 ∷ 5 ∷ 6 ∷ 7 ∷ 8 ∷ []) h
-    (omega arith, (omega arith, (omega arith, (omega arith, (omega arith, (omega arith, (omega arith, (omega arith,
-    (omega arith, tt)))))))))
+few_pass : (p : ℕ → Bool) (ns : List ℕ) → length (filter p ns) ≤ length ns
+few_pass p ns = rw length-filter (count_by-le-length p ns)
+
+pub doublings-few : (size : ℕ) → doublings size ≤ 8
+doublings-few size = few_pass (λ s. nat_le (64 * 2 ^ s) size) (1 ∷ 2 ∷ 3 ∷ 4 ∷ 5 ∷ 6 ∷ 7 ∷ 8 ∷ [])
 
 same_power : (d e : ℕ) → 64 * 2 ^ d ≡ 64 * 2 ^ e → d ≡ e
 same_power d e same = elim (cases_order d e) as (λ _. d ≡ e) [

@@ -72,4 +72,5 @@ triples-fit words is =
     let pointer = word_at words 13 in
     let all = All-from_get_or fits words 65535 (λ i inside. is.fits i) in
     in_fit (section_at words pointer) (if_both (All fits) (is_unused pointer) [] _ (All-nil fits)
-    (All-take fits (word_count (word_at words pointer)) (drop (pointer + 1) words) (All-drop fits (pointer + 1) words all)))
+    (All-take fits (word_count (word_at words pointer)) (drop (pointer + 1) words)
+    (All-drop fits (pointer + 1) words all)))

@@ -21,7 +21,11 @@ fn a_run_answers_in_order(rt: HostRuntime) {
     }
     assert!(rt; replies.is_empty());
     replies.destroy_empty();
-    let Parts { memory, frames, image: _ } = device.dismantle();
+    let Parts {
+        memory,
+        frames,
+        image: _,
+    } = device.dismantle();
     assert_eq!(rt; frames.len(), 0);
     done(&rt, memory.finish());
 }

@@ -1,5 +1,6 @@
 //! What no table of values shows: that packet memory, and the run of a list of events, have room where memory is ample;
-//! that packet memory can go to another thread; the longest texts; and reads and writes of the program that fail.
+//! that packet memory can go to another thread; an EEPROM's image in a device; the longest texts; and reads and writes
+//! of the program that fail.
 //!
 //! What the libraries answer is tried by the tables of `library_cases`, and what the program prints by those of
 //! `conformance`.
@@ -9,6 +10,8 @@
 mod events;
 #[cfg(test)]
 mod fakes;
+#[cfg(test)]
+mod images;
 #[cfg(test)]
 mod input;
 #[cfg(test)]

@@ -20,8 +20,8 @@ is_stepped_over Ctrl = true
 is_stepped_over Eerd = true
 is_stepped_over other = false
 
--- the state after a triple, a word for an address that names this place, or none: that of a write, or the same where the
--- triple is stepped over
+-- the state after a triple, a word for an address that names this place, or none: that of a write, or the same where
+-- the triple is stepped over
 abbrev pub triple_written : State → Option Place → ℕ → ℕ → State
 triple_written s None view word = s
 triple_written s (Some p) view word = if is_stepped_over p.row then s else written_below_reset s p view word

@@ -50,8 +50,8 @@ pub record AreStaged (staged : List (List ℕ)) : Type 0 where
   pub short : All IsStaged staged
 
 -- what every event keeps: the registers are sound and the lent blocks whole, each frame that waits has its queue and
--- only the first is begun, each queue stages no more than a frame, the image is one, there are no more virtual functions
--- than a device can have, and no more frames wait than the receive list takes
+-- only the first is begun, each queue stages no more than a frame, the image is one, there are no more virtual
+-- functions than a device can have, and no more frames wait than the receive list takes
 pub record IsSound (s : State) : Type 0 where
   pub registers : AreSound s.registers
   pub blocks : AreBlocks s.memory

@@ -26,8 +26,8 @@ waiting_code =
     (λ _. refl)
 
 -- a device: its registers, the memory that is lent to it, the frames that wait to be received, the bytes that each
--- transmit queue has staged, the frames that went out and were not collected yet, each with its queue, the oldest first,
--- whether the link is up, the words of the EEPROM's image, and its configuration
+-- transmit queue has staged, the frames that went out and were not collected yet, each with its queue, the oldest
+-- first, whether the link is up, the words of the EEPROM's image, and its configuration
 pub record State : Type 0 where
   pub registers : Registers
   pub memory : Memory

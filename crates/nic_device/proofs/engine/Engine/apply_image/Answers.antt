@@ -17,7 +17,8 @@ loop-index-preserved c =
     let same : c.self-in-loop-index.inside.image ≡ s.image =
     ap (λ (t : State). t.image) (c.self-in-loop-index.view_is ∙ c.loop-index.invariant)
     ∙ (triples_leave s (take index ts)).image in
-    let got : c.triple.result ≡ slice_get ts index = c.triple.ensures ∙ ap (λ ws. slice_get (triples_of ws) index) same in
+    let got : c.triple.result ≡ slice_get ts index =
+    c.triple.ensures ∙ ap (λ ws. slice_get (triples_of ws) index) same in
     let count : c.triple_count-index-end.result ≡ length ts =
     c.triple_count-index-end.ensures ∙ ap (λ (t : State). length (triples_of t.image)) c.self.view_is in
     let inside = c.loop-index-test.true in

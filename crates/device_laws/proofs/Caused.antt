@@ -1,5 +1,5 @@
 -- What raised causes make of the interrupts of groups.
-use Rattle.std.proofs.Common.{cond, ◌≡◌, ◌<◌, ◌≤◌, ◌/◌, ℕ, Bool, true, false, refl, ap, sym, ◌∙◌, subst, inl, inr, arith, nat_lt, Some}
+use Rattle.std.proofs.Common.{cond, ◌≡◌, ◌<◌, ◌≤◌, ◌/◌, ℕ, Bool, true, false, refl, ap, sym, ◌∙◌, subst, inl, inr, arith, nat_lt, Option, Some, None}
 use Rattle.std.specs.Prelude.{◌&&◌, ◌==◌, not}
 use Rattle.std.proofs.lemmas.Bool.{cases_Bool, cond_both, and_parts, ltb-true}
 use Rattle.reg_table.specs.declared.rows.RowId.TheVariants.{GcrExt}
@@ -7,7 +7,7 @@ use Rattle.intr_unit.specs.Group.{queue_causes}
 use Rattle.intr_unit.specs.Interrupts.{raised}
 use Rattle.intr_unit.specs.declared.group.Group.{Group}
 use Rattle.intr_unit.specs.declared.group.Group.TheVariants as group
-use Rattle.vf_map.specs.Pools.{mode_of, queues_each}
+use Rattle.vf_map.specs.Pools.{mode_of, pool_of}
 use Rattle.vf_map.specs.declared.mode.Mode.{Mode}
 use Rattle.register_file.specs.Columns.{place}
 use Rattle.register_file.specs.Footprint.{ChangesWithin, pending}
@@ -22,7 +22,7 @@ use Rattle.register_file.proofs.Settled.{IsSettled, settled-of_words, settled-ra
 use Rattle.register_file.proofs.Standing.{interrupts_of-with_interrupts}
 use Rattle.register_file.proofs.Stands.{group_stands}
 use Rattle.register_file.proofs.Within.{within-causes_raised}
-use Rattle.nic_device.specs.Interrupt.{group_of_queue, group_of_pool, mode_in, raised_by}
+use Rattle.nic_device.specs.Interrupt.{group_of_queue, group_of, function_in, function_of_queue, mode_in, raised_by}
 use Rattle.device_laws.specs.Raising.{Causes, after_causes, queue_cause}
 use Rattle.nic_device.specs.State.{State}
 use Rattle.device_laws.proofs.Missed.{misses-other_group}
@@ -61,15 +61,15 @@ group_raised r c h small g =
 
 -- the group of a queue is one that registers have
 
-group_small : (vfs : ℕ) (pooled : Bool) (pool : ℕ) → vfs ≤ 63 → index_of (group_of_pool vfs pooled pool) < 64
-group_small vfs pooled pool few =
-    cond_both (pooled && nat_lt pool vfs) (group.Vf pool) group.Pf (λ g. index_of g < 64)
-    (λ both. let below = ltb-true pool vfs (and_parts pooled (nat_lt pool vfs) both).1 in omega arith)
-    (λ none. omega arith)
+group_small : (vfs : ℕ) (o : Option ℕ) → vfs ≤ 63 → index_of (group_of (function_in vfs o)) < 64
+group_small vfs None few = omega arith
+group_small vfs (Some pool) few =
+    cond_both (nat_lt pool vfs) (Some pool) None (λ v. index_of (group_of v) < 64)
+    (λ both. let below = ltb-true pool vfs both in omega arith) (λ none. omega arith)
 
 pub queue_group_small : (r : Registers) (vfs queue : ℕ) → vfs ≤ 63 → index_of (group_of_queue r vfs queue) < 64
-queue_group_small r vfs queue few =
-    group_small vfs (not (queues_each (mode_in r) == 0)) (queue / queues_each (mode_in r)) few
+unfolding function_of_queue
+queue_group_small r vfs queue few = group_small vfs (pool_of (mode_in r) queue) few
 
 -- and what a step changes first doesn't change what its queue raises
 vector_kept : (g : Group) (dir : Dir) (queue at : ℕ) → (of_step dir queue).words (place (vector_row g) at) ≡ false
@@ -78,12 +78,13 @@ vector_kept (group.Vf v) dir queue at = refl
 
 pub same_cause : (s : State) (t : Registers) (dir : Dir) (queue : ℕ) → ChangesWithin (of_step dir queue) s.registers t
     → queue_cause (record s { registers = t }) dir queue ≡ queue_cause s dir queue
+unfolding function_of_queue
 same_cause s t dir queue within =
     let mode : mode_in t ≡ mode_in s.registers =
     (λ k. mode_in_word (within.words (place GcrExt 0) refl k)) in
     let g = group_of_queue s.registers s.vfs queue in
     let same : group_of_queue t s.vfs queue ≡ g =
-    ap (λ m. group_of_pool s.vfs (not (queues_each m == 0)) (queue / queues_each m)) mode in
+    ap (λ m. group_of (function_in s.vfs (pool_of m queue))) mode in
     let entry = (settings_stand (of_step dir queue) s.registers t within).vector g dir queue
     (vector_kept g dir queue (queue / 2)) in
     ap (λ o. causes_by o (vector_entry t o dir queue)) same ∙ ap (causes_by g) entry

@@ -1,7 +1,7 @@
 -- Each event raises what its reply says, and nothing else.
-use Rattle.std.proofs.Common.{cond, ◌≡◌, ◌∙◌, ℕ, Bool, true, false, List, length, refl, ap, arith, nat_lt, Some, None, Result, Ok, Err}
+use Rattle.std.proofs.Common.{Option, cond, ◌≡◌, ◌∙◌, ℕ, Bool, true, false, List, length, refl, ap, arith, nat_lt, Some, None, Result, Ok, Err}
 use Rattle.dma_arena.specs.Block.{Block}
-use Rattle.reg_table.specs.declared.rows.RowId.TheVariants.{Mpc, Gprc, Ruc, Roc, Qprdc, Qprc}
+use Rattle.reg_table.specs.declared.rows.RowId.TheVariants.{Mpc, Gprc, Ruc, Roc, Qprdc, Qprc, Vfgprc}
 use Rattle.intr_unit.specs.declared.group.Group.{Group}
 use Rattle.rx_filter.specs.Sorting.{sorted}
 use Rattle.rx_filter.specs.declared.target.Target.{Target}
@@ -20,7 +20,8 @@ use Rattle.register_file.specs.declared.dir.Dir.TheVariants.{Rx, Tx}
 use Rattle.register_file.proofs.Sound.{sound-shut}
 use Rattle.register_file.proofs.Shape.{HasShape-put}
 use Rattle.nic_device.specs.Arrival.{arrived, sorted_in}
-use Rattle.nic_device.specs.Interrupt.{device_raised, raised_by, missed_cause, fault_cause, link_cause}
+use Rattle.nic_device.proofs.Functions.{function_counted_in}
+use Rattle.nic_device.specs.Interrupt.{function_of_queue, function_counted, device_raised, raised_by, missed_cause, fault_cause, link_cause}
 use Rattle.nic_device.specs.Outcome.{Outcome}
 use Rattle.device_laws.specs.Raising.{raises, after_causes, device_cause, queue_cause, EventsRaise}
 use Rattle.nic_device.specs.Receive.{received, frame_counted, piece_done}
@@ -33,7 +34,7 @@ use Rattle.device_laws.proofs.CausesKept.{word_kept, shut_kept, head_kept}
 use Rattle.device_laws.proofs.CausesReported.{slot_raises}
 use Rattle.device_laws.proofs.Caused.{group_raised, queue_raises}
 use Rattle.nic_device.proofs.Coming.{counted_in}
-use Rattle.nic_device.proofs.Raising.{of_step, head_moved, covers-counters}
+use Rattle.nic_device.proofs.Raising.{covers-functions, of_step, head_moved, covers-counters}
 use Rattle.device_laws.proofs.Standing.{memory_rest}
 use Rattle.device_laws.proofs.StandingQueues.{switching_rest}
 use Rattle.device_laws.proofs.StandingRest.{eeprom_rest, collecting_rest}
@@ -83,6 +84,15 @@ fault_raises s dir queue h g =
     device_raises s.registers (shut s.registers dir queue) fault_cause
     (sound-shut s.registers dir queue h.registers).shape g (shut_kept s.registers dir queue g)
 
+function_kept : (r : Registers) (o : Option ℕ) (g : Group)
+    → interrupts_of (function_counted r o Vfgprc) g ≡ interrupts_of r g
+function_kept r None g = refl
+function_kept r (Some v) g = word_kept r (place Vfgprc v) _ g refl
+
+function_shape : (r : Registers) (o : Option ℕ) → HasShape r → HasShape (function_counted r o Vfgprc)
+function_shape r None h = h
+function_shape r (Some v) h = HasShape-put r (place Vfgprc v) _ h
+
 piece_raises : (s : State) (queue : ℕ) (f : Filled) → IsSound s → (g : Group)
     → interrupts_of (piece_done s.registers s.vfs queue f) g
     ≡ after_causes (cond f.end (Some (queue_cause s Rx queue)) None) g (interrupts_of s.registers g)
@@ -92,18 +102,23 @@ piece_raises s queue f h g =
     let shape = HasShape-put r (place (head_row Rx) queue) f.head h.registers.shape in
     let counter = place Qprc (counter_of moved Rx queue) in
     let head = head_moved {good = ⊥} r Rx queue f.head (λ never. absurd never) in
-    let within = (counted_in (of_step Rx queue) r moved Qprc (counter_of moved Rx queue) (covers-counters Rx queue)
-    (record { bank = refl; kind = refl }) head).within in
+    let v = function_of_queue moved s.vfs queue in
+    let one = counted moved Qprc (counter_of moved Rx queue) in
+    let within = (function_counted_in (of_step Rx queue) r one v Vfgprc (covers-functions Rx queue)
+    (record { bank = refl; kind = refl })
+    (counted_in (of_step Rx queue) r moved Qprc (counter_of moved Rx queue) (covers-counters Rx queue)
+    (record { bank = refl; kind = refl }) head)).within in
     ends f.end
-    (queue_raises s (frame_counted moved queue) Rx queue (HasShape-put moved counter _ shape) h.vfs within g
-    (word_kept moved counter _ g refl ∙ head_kept r Rx queue f.head g))
+    (queue_raises s (frame_counted moved s.vfs queue) Rx queue
+    (function_shape one v (HasShape-put moved counter _ shape)) h.vfs within g
+    (function_kept one v g ∙ word_kept moved counter _ g refl ∙ head_kept r Rx queue f.head g))
     (head_kept r Rx queue f.head g)
   where
     ends : (b : Bool)
-        → interrupts_of (raised_by (frame_counted (with_head s.registers Rx queue f.head) queue) s.vfs Rx queue) g
+        → interrupts_of (raised_by (frame_counted (with_head s.registers Rx queue f.head) s.vfs queue) s.vfs Rx queue) g
         ≡ after_causes (Some (queue_cause s Rx queue)) g (interrupts_of s.registers g)
         → interrupts_of (with_head s.registers Rx queue f.head) g ≡ interrupts_of s.registers g
-        → interrupts_of (cond b (raised_by (frame_counted (with_head s.registers Rx queue f.head) queue) s.vfs Rx queue)
+        → interrupts_of (cond b (raised_by (frame_counted (with_head s.registers Rx queue f.head) s.vfs queue) s.vfs Rx queue)
         (with_head s.registers Rx queue f.head)) g
         ≡ after_causes (cond b (Some (queue_cause s Rx queue)) None) g (interrupts_of s.registers g)
     ends true p q = p

@@ -2,7 +2,7 @@
 use Rattle.std.proofs.Common.{cond, ◌≡◌, ◌∙◌, ℕ, Bool, true, false, List, refl, ap, sym, subst, inl, inr, Option, Some, None, Result, Ok, Err}
 use Rattle.std.specs.Prelude.{⊤, is_some}
 use Rattle.dma_ring.specs.declared.fault.RingFault.{RingFault}
-use Rattle.reg_table.specs.declared.rows.RowId.TheVariants.{Gptc, Qptc}
+use Rattle.reg_table.specs.declared.rows.RowId.TheVariants.{Gptc, Qptc, Vfgptc}
 use Rattle.intr_unit.specs.declared.group.Group.{Group}
 use Rattle.tx_ring.specs.declared.fetched.Fetched.{Fetched}
 use Rattle.tx_ring.specs.Fetch as tx
@@ -15,7 +15,7 @@ use Rattle.register_file.specs.Registers.{Registers}
 use Rattle.register_file.specs.Sound.{HasShape}
 use Rattle.register_file.specs.declared.dir.Dir.TheVariants.{Tx}
 use Rattle.register_file.proofs.Shape.{HasShape-put}
-use Rattle.nic_device.specs.Interrupt.{raised_by}
+use Rattle.nic_device.specs.Interrupt.{function_of_queue, function_counted, raised_by}
 use Rattle.device_laws.specs.Raising.{raised_reported, raised_sent, after_causes, queue_cause}
 use Rattle.nic_device.specs.Sound.{IsSound}
 use Rattle.nic_device.specs.State.{State}
@@ -42,21 +42,32 @@ reports s queue f is =
       | inr sends ↦ subst Reports (sym (ap (λ (o : tx.Outcome). o.answer) sends.2) ∙ is) (some_where _ _)
     ]
 
-slot_kept : (r : Registers) (queue : ℕ) (f : Fetched) (o : Option (List ℕ)) (g : Group)
-    → interrupts_of (slot_counted r queue f o) g ≡ interrupts_of r g
-slot_kept r queue f (Some frame) g =
-    let moved = with_head r Tx queue f.head in
-    word_kept (counted moved Gptc 0) (place Qptc (counter_of r Tx queue)) _ g refl
-    ∙ word_kept moved (place Gptc 0) _ g refl ∙ head_kept r Tx queue f.head g
-slot_kept r queue f None g = head_kept r Tx queue f.head g
+function_kept : (r : Registers) (o : Option ℕ) (g : Group)
+    → interrupts_of (function_counted r o Vfgptc) g ≡ interrupts_of r g
+function_kept r None g = refl
+function_kept r (Some v) g = word_kept r (place Vfgptc v) _ g refl
 
-slot_shape : (r : Registers) (queue : ℕ) (f : Fetched) (o : Option (List ℕ)) → HasShape r
-    → HasShape (slot_counted r queue f o)
-slot_shape r queue f (Some frame) h =
+function_shape : (r : Registers) (o : Option ℕ) → HasShape r → HasShape (function_counted r o Vfgptc)
+function_shape r None h = h
+function_shape r (Some v) h = HasShape-put r (place Vfgptc v) _ h
+
+slot_kept : (r : Registers) (vfs queue : ℕ) (f : Fetched) (o : Option (List ℕ)) (g : Group)
+    → interrupts_of (slot_counted r vfs queue f o) g ≡ interrupts_of r g
+slot_kept r vfs queue f (Some frame) g =
     let moved = with_head r Tx queue f.head in
-    HasShape-put (counted moved Gptc 0) (place Qptc (counter_of r Tx queue)) _
-    (HasShape-put moved (place Gptc 0) _ (HasShape-put r (place (head_row Tx) queue) f.head h))
-slot_shape r queue f None h = HasShape-put r (place (head_row Tx) queue) f.head h
+    function_kept (counted (counted moved Gptc 0) Qptc (counter_of r Tx queue)) (function_of_queue r vfs queue) g
+    ∙ word_kept (counted moved Gptc 0) (place Qptc (counter_of r Tx queue)) _ g refl
+    ∙ word_kept moved (place Gptc 0) _ g refl ∙ head_kept r Tx queue f.head g
+slot_kept r vfs queue f None g = head_kept r Tx queue f.head g
+
+slot_shape : (r : Registers) (vfs queue : ℕ) (f : Fetched) (o : Option (List ℕ)) → HasShape r
+    → HasShape (slot_counted r vfs queue f o)
+slot_shape r vfs queue f (Some frame) h =
+    let moved = with_head r Tx queue f.head in
+    function_shape (counted (counted moved Gptc 0) Qptc (counter_of r Tx queue)) (function_of_queue r vfs queue)
+    (HasShape-put (counted moved Gptc 0) (place Qptc (counter_of r Tx queue)) _
+    (HasShape-put moved (place Gptc 0) _ (HasShape-put r (place (head_row Tx) queue) f.head h)))
+slot_shape r vfs queue f None h = HasShape-put r (place (head_row Tx) queue) f.head h
 
 told : (s : State) (queue : ℕ) (f : Fetched) (o : Option (List ℕ))
     → raised_reported s queue f.back ≡ raised_sent s (fetched_reply queue f o)
@@ -78,9 +89,9 @@ pub slot_raises : (s : State) (queue : ℕ) (f : Fetched) → (fetched_by s queu
     → interrupts_of (slot_reported s.registers s.vfs queue f) g
     ≡ after_causes (raised_sent s (fetched_reply queue f f.frame)) g (interrupts_of s.registers g)
 slot_raises s queue f is h g =
-    let t = slot_counted s.registers queue f f.frame in
-    let same = slot_kept s.registers queue f f.frame g in
+    let t = slot_counted s.registers s.vfs queue f f.frame in
+    let same = slot_kept s.registers s.vfs queue f f.frame g in
     by_report s t queue f.rs f.back g (reports s queue f is)
-    (queue_raises s t Tx queue (slot_shape s.registers queue f f.frame h.registers.shape) h.vfs
-    (slot_counted-comes s.registers queue f f.frame).within g same) same
+    (queue_raises s t Tx queue (slot_shape s.registers s.vfs queue f f.frame h.registers.shape) h.vfs
+    (slot_counted-comes s.registers s.vfs queue f f.frame).within g same) same
     ∙ ap (λ o. after_causes o g (interrupts_of s.registers g)) (told s queue f f.frame)

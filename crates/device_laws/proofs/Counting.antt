@@ -1,5 +1,5 @@
 -- What counts: each counter's word after a step.
-use Rattle.std.proofs.Common.{cond, ◌≡◌, ◌≢◌, ◌<◌, ◌^◌, ◌*◌, ◌/◌, ◌%◌, ℕ, Bool, true, false, ap, sym, ◌∙◌, inl, inr, arith}
+use Rattle.std.proofs.Common.{cond, ◌≡◌, ◌≢◌, ◌<◌, ◌^◌, ◌*◌, ◌/◌, ◌%◌, ℕ, Bool, true, false, ap, sym, ◌∙◌, inl, inr, arith, refl}
 use Rattle.std.specs.Prelude.{◌&&◌}
 use Rattle.std.proofs.lemmas.Bool.{cases_Bool}
 use Rattle.reg_table.specs.Counter.{bumped}
@@ -8,7 +8,7 @@ use Rattle.reg_table.specs.declared.kind.Kind.TheVariants as kind
 use Rattle.reg_table.specs.declared.kind.Kind.TheVariants.{Rc}
 use Rattle.reg_table.specs.declared.place.Place.{Place}
 use Rattle.reg_table.specs.declared.rows.RowId.{RowId}
-use Rattle.reg_table.specs.declared.rows.RowId.TheVariants.{Eicr, Eims, Pvteicr, Pvteims, Mpc, Qprc, Rdh, Tdh, Rxdctl, Txdctl, Rqsmr, Tqsm}
+use Rattle.reg_table.specs.declared.rows.RowId.TheVariants.{Eicr, Eims, Pvteicr, Pvteims, Mpc, Qprc, Rdh, Tdh, Rxdctl, Txdctl, Rqsmr, Tqsm, Vfgprc}
 use Rattle.intr_unit.specs.declared.group.Group.{Group}
 use Rattle.intr_unit.specs.declared.group.Group.TheVariants as group
 use Rattle.register_file.specs.Columns.{place}
@@ -28,7 +28,8 @@ use Rattle.register_file.proofs.Shape.{put_stands, HasShape-put}
 use Rattle.register_file.proofs.Within.{within-causes_raised}
 use Rattle.rx_ring.specs.declared.filled.Filled.{Filled}
 use Rattle.device_laws.specs.Counting.{with_one}
-use Rattle.nic_device.specs.Interrupt.{device_raised, raised_by, fault_cause, missed_cause}
+use Rattle.device_laws.proofs.FunctionCounts.{function_keeps}
+use Rattle.nic_device.specs.Interrupt.{function_of_queue, device_raised, raised_by, fault_cause, missed_cause}
 use Rattle.nic_device.specs.Receive.{frame_counted, piece_done}
 use Rattle.device_laws.proofs.Missed.{neither}
 
@@ -117,8 +118,9 @@ piece_counts r vfs queue f h p is =
     let there = place Qprc (counter_of r Rx queue) in
     let old = word_at r.words p in
     either_end f.end (λ b t. word_at t.words p ≡ with_one (b && is_place there p) old)
-    (raised_by (frame_counted moved queue) vfs Rx queue) moved
-    (raised_keeps (frame_counted moved queue) _ _ p is
+    (raised_by (frame_counted moved vfs queue) vfs Rx queue) moved
+    (raised_keeps (frame_counted moved vfs queue) _ _ p is
+    ∙ function_keeps (counted moved Qprc (counter_of moved Rx queue)) (function_of_queue moved vfs queue) Vfgprc refl p is
     ∙ counted_there moved Qprc (counter_of moved Rx queue) (HasShape-put r (place Rdh queue) f.head h) (omega arith) p
     ∙ (λ k. with_one (is_place (place Qprc (same_counter r Rx queue f.head k)) p)
     (head_keeps r Rx queue f.head p is k)))

@@ -5,7 +5,7 @@ use Rattle.reg_table.specs.Counter.{bumped}
 use Rattle.reg_table.specs.Rows.{row_of}
 use Rattle.reg_table.specs.declared.kind.Kind.TheVariants.{Rc}
 use Rattle.reg_table.specs.declared.place.Place.{Place}
-use Rattle.reg_table.specs.declared.rows.RowId.TheVariants.{Gptc, Qptc, Tdh}
+use Rattle.reg_table.specs.declared.rows.RowId.TheVariants.{Gptc, Qptc, Tdh, Vfgptc}
 use Rattle.register_file.specs.Columns.{place}
 use Rattle.register_file.specs.Counters.{counted, counter_of}
 use Rattle.register_file.specs.Footprint.{is_place}
@@ -18,7 +18,8 @@ use Rattle.register_file.proofs.Owners.{is_place-same}
 use Rattle.register_file.proofs.Shape.{HasShape-put}
 use Rattle.tx_ring.specs.declared.fetched.Fetched.{Fetched}
 use Rattle.device_laws.specs.Counting.{with_one, counts_sent}
-use Rattle.nic_device.specs.Interrupt.{raised_by}
+use Rattle.device_laws.proofs.FunctionCounts.{function_keeps}
+use Rattle.nic_device.specs.Interrupt.{function_of_queue, raised_by}
 use Rattle.nic_device.specs.Transmit.{slot_counted, slot_reported, fetched_reply}
 use Rattle.device_laws.proofs.Counting.{counted_there, raised_keeps, head_keeps}
 
@@ -34,21 +35,23 @@ counts_of : Registers → ℕ → Option (List ℕ) → Place → Bool
 counts_of r queue (Some frame) p = is_place (place Gptc 0) p || is_place (place Qptc (counter_of r Tx queue)) p
 counts_of r queue None p = false
 
-slot_counts : (r : Registers) (queue : ℕ) (f : Fetched) (o : Option (List ℕ)) → HasShape r → (p : Place)
+slot_counts : (r : Registers) (vfs queue : ℕ) (f : Fetched) (o : Option (List ℕ)) → HasShape r → (p : Place)
     → (row_of p.row).kind ≡ Rc
-    → word_at (slot_counted r queue f o).words p ≡ with_one (counts_of r queue o p) (word_at r.words p)
+    → word_at (slot_counted r vfs queue f o).words p ≡ with_one (counts_of r queue o p) (word_at r.words p)
 unfolding counts_of
-slot_counts r queue f (Some frame) h p is =
+slot_counts r vfs queue f (Some frame) h p is =
     let moved = with_head r Tx queue f.head in
     let shape : HasShape moved = HasShape-put r (place Tdh queue) f.head h in
     let one : HasShape (counted moved Gptc 0) =
     HasShape-put moved (place Gptc 0) (bumped (word_of moved Gptc 0)) shape in
-    counted_there (counted moved Gptc 0) Qptc (counter_of r Tx queue) one (omega arith) p
+    function_keeps (counted (counted moved Gptc 0) Qptc (counter_of r Tx queue)) (function_of_queue r vfs queue) Vfgptc
+    refl p is
+    ∙ counted_there (counted moved Gptc 0) Qptc (counter_of r Tx queue) one (omega arith) p
     ∙ ap (with_one (is_place (place Qptc (counter_of r Tx queue)) p))
     (counted_there moved Gptc 0 shape (omega arith) p
     ∙ ap (with_one (is_place (place Gptc 0) p)) (head_keeps r Tx queue f.head p is))
     ∙ twice _ _ (word_at r.words p) (apart_counters (counter_of r Tx queue) p)
-slot_counts r queue f None h p is = head_keeps r Tx queue f.head p is
+slot_counts r vfs queue f None h p is = head_keeps r Tx queue f.head p is
 
 reported_keeps : (r : Registers) (vfs queue : ℕ) (b : Bool) (p : Place) → (row_of p.row).kind ≡ Rc
     → word_at (cond b (raised_by r vfs Tx queue) r).words p ≡ word_at r.words p
@@ -67,6 +70,6 @@ pub reported_counts : (r : Registers) (vfs queue : ℕ) (f : Fetched) → HasSha
     → word_at (slot_reported r vfs queue f).words p
     ≡ with_one (counts_sent r (fetched_reply queue f f.frame) p) (word_at r.words p)
 reported_counts r vfs queue f h p is =
-    reported_keeps (slot_counted r queue f f.frame) vfs queue f.rs p is
-    ∙ slot_counts r queue f f.frame h p is
+    reported_keeps (slot_counted r vfs queue f f.frame) vfs queue f.rs p is
+    ∙ slot_counts r vfs queue f f.frame h p is
     ∙ ap (λ b. with_one b (word_at r.words p)) (told_counts r queue f f.frame p)

@@ -9,11 +9,13 @@ pub mod CountingSent
 pub mod Counts
 pub mod CountsKept
 pub mod Delivered
+pub mod FunctionCounts
 pub mod Kept
 pub mod Ports
 pub mod PoolParts
 pub mod PoolAlone
 pub mod PoolAgrees
+pub mod PoolResets
 pub mod KeptSettings
 pub mod EepromReads
 pub mod Imaged

@@ -16,7 +16,9 @@ use Rattle.register_file.specs.declared.owner.Owner.{Owner}
 use Rattle.register_file.specs.declared.owner.Owner.TheVariants as owner
 use Rattle.register_file.proofs.Footprints.{misses-narrower, misses-owner, covers-pending}
 use Rattle.register_file.proofs.Owners.{is_owner-same}
-use Rattle.nic_device.specs.Footprint.{counts_and_causes, has_some_of}
+use Rattle.register_file.specs.Footprint.{either}
+use Rattle.device_laws.proofs.FunctionCounts.{function_counts-miss_side}
+use Rattle.nic_device.specs.Footprint.{function_counts, counts_and_causes, has_some_of}
 
 pub neither : (b c : Bool) → b ≡ false → c ≡ false → (b || c) ≡ false
 neither true c e f = cc
@@ -76,7 +78,9 @@ any_pending-misses_side dir queue = record {
 
 pub counts-miss_side : (dir : Dir) (queue : ℕ) → Misses counts_and_causes (of_side dir queue)
 counts-miss_side dir queue =
-    misses-either counters any_pending (of_side dir queue) (misses-owner owner.Counters (owner.Side dir queue) refl)
+    misses-either (either counters function_counts) any_pending (of_side dir queue)
+    (misses-either counters function_counts (of_side dir queue) (misses-owner owner.Counters (owner.Side dir queue) refl)
+    (function_counts-miss_side dir queue))
     (any_pending-misses_side dir queue)
 
 -- a block that avoids bytes has none of them

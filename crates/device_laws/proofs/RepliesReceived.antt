@@ -2,7 +2,7 @@
 use Rattle.std.proofs.Common.{◌≡◌, ◌<◌, ℕ, List, ◌∷◌, refl, ap, sym, ◌∙◌, subst, arith}
 use Rattle.std.specs.Prelude.{⊤}
 use Rattle.dma_ring.specs.Ring.{slots_of}
-use Rattle.reg_table.specs.declared.rows.RowId.TheVariants.{Qprc}
+use Rattle.reg_table.specs.declared.rows.RowId.TheVariants.{Qprc, Vfgprc}
 use Rattle.intr_unit.specs.declared.group.Group.TheVariants as group
 use Rattle.rx_ring.specs.declared.filled.Filled.{Filled}
 use Rattle.rx_ring.proofs.Fills.{takes_piece}
@@ -30,17 +30,22 @@ use Rattle.nic_device.proofs.Cases.{either_way, received_cases}
 use Rattle.nic_device.proofs.Coming.{covers-first, covers-second, counted_in, raised_by_queue}
 use Rattle.device_laws.proofs.Missed.{counts-miss_side, pending-misses_side}
 use Rattle.nic_device.proofs.Raising.{comes-itself}
+use Rattle.nic_device.proofs.Functions.{function_counted_in}
+use Rattle.nic_device.specs.Interrupt.{function_of_queue}
+use Rattle.device_laws.proofs.FunctionCounts.{have_counters, have_functions, have_causes}
 
 -- beside the head a piece changes counters and causes
 piece_rest : (r : Registers) (vfs queue : ℕ) (f : Filled)
     → ChangesWithin counts_and_causes (with_head r Rx queue f.head) (piece_done r vfs queue f)
 piece_rest r vfs queue f =
     let moved = with_head r Rx queue f.head in
-    let ended = frame_counted moved queue in
+    let ended = frame_counted moved vfs queue in
     either_way (ChangesWithin counts_and_causes moved) f.end (raised_by ended vfs Rx queue) moved
-    (raised_by_queue {good = ⊤} counts_and_causes moved ended vfs Rx queue (covers-second counters any_pending)
-    (counted_in counts_and_causes moved moved Qprc (counter_of moved Rx queue) (covers-first counters any_pending)
-    (record { bank = refl; kind = refl }) (comes-itself counts_and_causes moved))).within
+    (raised_by_queue {good = ⊤} counts_and_causes moved ended vfs Rx queue have_causes
+    (function_counted_in counts_and_causes moved _ (function_of_queue moved vfs queue) Vfgprc have_functions
+    (record { bank = refl; kind = refl })
+    (counted_in counts_and_causes moved moved Qprc (counter_of moved Rx queue) have_counters
+    (record { bank = refl; kind = refl }) (comes-itself counts_and_causes moved)))).within
     (within-refl counts_and_causes moved)
 
 module _ (s : State) (h : IsSound s) (w : Waiting) (others : List Waiting) (e : s.waiting ≡ w ∷ others) where

@@ -5,7 +5,7 @@ use Rattle.std.proofs.lemmas.Bool.{cases_Bool, ltb-true}
 use Rattle.std.proofs.lemmas.List.{get_or-set_same}
 use Rattle.dma_ring.specs.Ring.{slots_of}
 use Rattle.dma_ring.specs.declared.fault.RingFault.{RingFault}
-use Rattle.reg_table.specs.declared.rows.RowId.TheVariants.{Gptc, Qptc}
+use Rattle.reg_table.specs.declared.rows.RowId.TheVariants.{Gptc, Qptc, Vfgptc}
 use Rattle.intr_unit.specs.declared.group.Group.TheVariants as group
 use Rattle.tx_ring.specs.declared.fetched.Fetched.{Fetched}
 use Rattle.tx_ring.proofs.Fetches.{takes_slot}
@@ -31,29 +31,33 @@ use Rattle.nic_device.proofs.Cases.{either_way, transmitted_cases, fetched_by}
 use Rattle.nic_device.proofs.Coming.{Comes, covers-first, covers-second, counted_in, raised_by_queue}
 use Rattle.device_laws.proofs.Missed.{counts-miss_side, pending-misses_side}
 use Rattle.nic_device.proofs.Raising.{comes-itself}
+use Rattle.nic_device.proofs.Functions.{function_counted_in}
+use Rattle.nic_device.specs.Interrupt.{function_of_queue}
+use Rattle.device_laws.proofs.FunctionCounts.{have_counters, have_functions, have_causes}
 use Rattle.device_laws.proofs.Reporting.{reports_at}
 use Rattle.nic_device.specs.declared.event.Reply.TheVariants.{NoQueue}
 
 -- beside the head a slot changes counters and causes
-slot_rest : (r : Registers) (queue : ℕ) (f : Fetched) (o : Option (List ℕ))
-    → Comes ⊤ counts_and_causes (with_head r Tx queue f.head) (slot_counted r queue f o)
-slot_rest r queue f (Some frame) =
+slot_rest : (r : Registers) (vfs queue : ℕ) (f : Fetched) (o : Option (List ℕ))
+    → Comes ⊤ counts_and_causes (with_head r Tx queue f.head) (slot_counted r vfs queue f o)
+slot_rest r vfs queue f (Some frame) =
     let moved = with_head r Tx queue f.head in
-    let has = covers-first counters any_pending in
-    counted_in counts_and_causes moved (counted moved Gptc 0) Qptc (counter_of r Tx queue) has
+    function_counted_in counts_and_causes moved _ (function_of_queue r vfs queue) Vfgptc have_functions
     (record { bank = refl; kind = refl })
-    (counted_in counts_and_causes moved moved Gptc 0 has (record { bank = refl; kind = refl })
-    (comes-itself counts_and_causes moved))
-slot_rest r queue f None = comes-itself counts_and_causes (with_head r Tx queue f.head)
+    (counted_in counts_and_causes moved (counted moved Gptc 0) Qptc (counter_of r Tx queue) have_counters
+    (record { bank = refl; kind = refl })
+    (counted_in counts_and_causes moved moved Gptc 0 have_counters (record { bank = refl; kind = refl })
+    (comes-itself counts_and_causes moved)))
+slot_rest r vfs queue f None = comes-itself counts_and_causes (with_head r Tx queue f.head)
 
 reported_rest : (r : Registers) (vfs queue : ℕ) (f : Fetched)
     → ChangesWithin counts_and_causes (with_head r Tx queue f.head) (slot_reported r vfs queue f)
 reported_rest r vfs queue f =
     let moved = with_head r Tx queue f.head in
-    let counts = slot_counted r queue f f.frame in
-    let rest = slot_rest r queue f f.frame in
+    let counts = slot_counted r vfs queue f f.frame in
+    let rest = slot_rest r vfs queue f f.frame in
     either_way (ChangesWithin counts_and_causes moved) f.rs (raised_by counts vfs Tx queue) counts
-    (raised_by_queue counts_and_causes moved counts vfs Tx queue (covers-second counters any_pending) rest).within
+    (raised_by_queue counts_and_causes moved counts vfs Tx queue have_causes rest).within
     rest.within
 
 -- a fetched slot

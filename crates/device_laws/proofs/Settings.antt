@@ -26,7 +26,7 @@ use Rattle.register_file.specs.declared.owner.Owner.{Owner}
 use Rattle.register_file.specs.declared.owner.Owner.TheVariants as owner
 use Rattle.register_file.proofs.Covers.{fails, covers-any_pending}
 use Rattle.register_file.proofs.Owners.{is_place-same}
-use Rattle.nic_device.specs.Footprint.{read_reach, write_reach, receive_reach, reach_by, switch_reach, Reach, pool_reach}
+use Rattle.nic_device.specs.Footprint.{read_reach, write_reach, receive_reach, reach_by, switch_reach, Reach, pool_reach, is_function_count}
 use Rattle.nic_device.specs.Named.{named}
 use Rattle.nic_device.specs.Step.{after, step_of}
 use Rattle.nic_device.specs.State.{State, Waiting}
@@ -113,8 +113,11 @@ module _ (row : RowId) (is : IsSetting row) where
 
   none_stepped : (dir : Dir) (queue : ℕ)
       → (is_owner (owner.Side dir queue) (owner_of here)
-      || (is_owner owner.Counters (owner_of here) || is_pending (row_of row).kind)) ≡ false
-  none_stepped dir queue = neither _ _ (side_apart dir queue) (neither _ _ counts_apart is.quiet)
+      || ((is_owner owner.Counters (owner_of here) || is_function_count (row_of row).bank)
+      || is_pending (row_of row).kind)) ≡ false
+  none_stepped dir queue =
+      neither _ _ (side_apart dir queue)
+      (neither _ _ (neither _ _ counts_apart (ap is_function_count is.bank)) is.quiet)
 
   none_received : (ws : List Waiting) (reply : Reply Block) → (receive_reach ws reply).registers.words here ≡ false
   none_received [] reply = refl

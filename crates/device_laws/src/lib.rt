@@ -238,3 +238,10 @@ pub fn vf_stays_in_its_pool()
     ensures changes { VfChangesItsPoolAlone }
     ensures agrees { VfSeesItsPoolAlone }
 {}
+
+/// A write of PVFCTRL with bit 26, by whichever port, leaves all that is its pool's as a reset does: its words, wanted
+/// enables and told bits; its queues have no staged bytes, and of the frames that wait those of other queues are left, in
+/// their order. All else is as it was.
+pub fn asked_pool_reset_resets()
+    ensures { AskedPoolResetResets }
+{}

@@ -37,7 +37,7 @@ covers-counters dir queue =
     (covers-trans counts_and_causes (either counters function_counts) counters
     (covers-first (either counters function_counts) any_pending) (covers-first counters function_counts))
 
-covers-functions : (dir : Dir) (queue : ℕ) → Covers (of_step dir queue) function_counts
+pub covers-functions : (dir : Dir) (queue : ℕ) → Covers (of_step dir queue) function_counts
 covers-functions dir queue =
     covers-trans (of_step dir queue) counts_and_causes function_counts
     (covers-second (of_side dir queue) counts_and_causes)

@@ -1,0 +1,56 @@
+-- What is counted of virtual functions, beside all else.
+use Rattle.std.proofs.Common.{◌≡◌, ℕ, false, true, Option, Some, None, refl, ap, sym, ◌∙◌}
+use Rattle.reg_table.specs.Rows.{row_of}
+use Rattle.reg_table.specs.declared.bank.Bank.{Bank}
+use Rattle.reg_table.specs.declared.bank.Bank.TheVariants as bank
+use Rattle.reg_table.specs.declared.kind.Kind.TheVariants.{Rc, Ro}
+use Rattle.reg_table.specs.declared.place.Place.{Place}
+use Rattle.reg_table.specs.declared.rows.RowId.{RowId}
+use Rattle.register_file.specs.Columns.{place}
+use Rattle.register_file.specs.Footprint.{Covers, Misses, either, counters, any_pending, of_side}
+use Rattle.register_file.specs.Owner.{owner_in, is_owner}
+use Rattle.register_file.specs.Registers.{Registers}
+use Rattle.register_file.specs.Words.{word_at}
+use Rattle.register_file.specs.declared.dir.Dir.{Dir}
+use Rattle.register_file.specs.declared.owner.Owner.TheVariants as owner
+use Rattle.register_file.proofs.Puts.{word_at-put_other}
+use Rattle.nic_device.specs.Footprint.{function_counts, is_function_count, counts_and_causes}
+use Rattle.nic_device.specs.Interrupt.{function_counted}
+use Rattle.nic_device.proofs.Coming.{covers-first, covers-second, covers-trans}
+
+-- it leaves the other counters
+pub function_keeps : (r : Registers) (o : Option ℕ) (row : RowId) → (row_of row).kind ≡ Ro → (p : Place)
+    → (row_of p.row).kind ≡ Rc → word_at (function_counted r o row).words p ≡ word_at r.words p
+function_keeps r None row ro p is = refl
+function_keeps r (Some v) row ro p is =
+    word_at-put_other r.words (place row v) p _
+    (λ e. let same : (row_of p.row).kind ≡ (row_of row).kind = ap (λ (q : Place). (row_of q.row).kind) e in
+    let differ : Rc ≡ Ro = sym is ∙ same ∙ ro in cc)
+
+-- it is in none of the sides
+side_bank : (b : Bank) (index : ℕ) (dir : Dir) (queue : ℕ) → is_owner (owner.Side dir queue) (owner_in b index) ≡ true
+    → is_function_count b ≡ false
+side_bank bank.VfCounters index dir queue e = cc
+side_bank other index dir queue e = refl
+
+pub function_counts-miss_side : (dir : Dir) (queue : ℕ) → Misses function_counts (of_side dir queue)
+function_counts-miss_side dir queue = record {
+  words = λ p is. side_bank (row_of p.row).bank p.index dir queue is;
+  wanted = λ other number is. refl;
+  told = λ g is. refl;
+}
+
+-- what counts and causes have
+
+pub have_counters : Covers counts_and_causes counters
+have_counters =
+    covers-trans counts_and_causes (either counters function_counts) counters
+    (covers-first (either counters function_counts) any_pending) (covers-first counters function_counts)
+
+pub have_functions : Covers counts_and_causes function_counts
+have_functions =
+    covers-trans counts_and_causes (either counters function_counts) function_counts
+    (covers-first (either counters function_counts) any_pending) (covers-second counters function_counts)
+
+pub have_causes : Covers counts_and_causes any_pending
+have_causes = covers-second (either counters function_counts) any_pending

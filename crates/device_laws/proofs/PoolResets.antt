@@ -1,0 +1,48 @@
+-- A write that asks for it resets a pool, and does nothing else.
+use Rattle.std.proofs.Common.{◌≡◌, ℕ, true, false, refl, ap, sym, ◌∙◌, subst}
+use Rattle.std.proofs.lemmas.Bool.{cond-true, cond-false}
+use Rattle.reg_table.specs.Rows.{row_of}
+use Rattle.reg_table.specs.declared.place.Place.{Place}
+use Rattle.reg_table.specs.declared.rows.RowId.{RowId}
+use Rattle.reg_table.specs.declared.rows.RowId.TheVariants as row
+use Rattle.register_file.specs.Access.{asks_reset, asks_pool_reset}
+use Rattle.register_file.specs.Pools.{mode_in}
+use Rattle.register_file.proofs.PoolReset.{renewed-pool}
+use Rattle.nic_device.specs.Access.{named_written, state_written}
+use Rattle.nic_device.specs.Eeprom.{reset}
+use Rattle.nic_device.specs.PoolReset.{with_pool_reset, written_below_reset}
+use Rattle.nic_device.specs.Sound.{IsSound}
+use Rattle.nic_device.specs.State.{State}
+use Rattle.nic_device.specs.Step.{step_of}
+use Rattle.device_laws.specs.Pool.{IsPoolReset, AskedPoolResetResets}
+use Rattle.device_laws.proofs.PoolAlone.{alone_reset}
+use Rattle.device_laws.proofs.PoolParts.{none_staged_of}
+
+-- PVFCTRL asks for no reset of the device
+pool_only : (r : RowId) (word : ℕ) → asks_pool_reset (row_of r).kind word ≡ true → asks_reset (row_of r).kind word ≡ false
+pool_only row.Pvfctrl word e = refl
+pool_only other word e = cc
+
+pool_state : (s : State) (p : Place) (view word : ℕ) → asks_pool_reset (row_of p.row).kind word ≡ true
+    → state_written s p view word ≡ with_pool_reset s p.index
+pool_state s p view word asks =
+    cond-false (asks_reset (row_of p.row).kind word) (reset s) (written_below_reset s p view word)
+    (pool_only p.row word asks)
+    ∙ cond-true (asks_pool_reset (row_of p.row).kind word) (with_pool_reset s p.index) _ asks
+
+is_pool_reset : (s : State) (v : ℕ) → IsSound s → IsPoolReset v s (with_pool_reset s v)
+is_pool_reset s v h = record {
+  alone = alone_reset s v;
+  registers =
+      let new = renewed-pool s.registers (mode_in s.registers) v in
+      let shape = h.registers.shape in
+      record { words = new.words shape; wanted = new.wanted shape; told = new.told shape };
+  staged = λ queue has. none_staged_of (mode_in s.registers) v s.staged queue has;
+  waiting = refl;
+}
+
+pub asked_pool_resets : AskedPoolResetResets
+unfolding step_of
+asked_pool_resets s h port number word p view found asks =
+    let there = ap (λ m. (named_written s m word).state) found ∙ pool_state s p view word asks in
+    subst (IsPoolReset p.index s) (sym there) (is_pool_reset s p.index h)

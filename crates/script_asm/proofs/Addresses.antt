@@ -1,13 +1,12 @@
 -- Printed addresses of registers read back.
-use Rattle.std.proofs.Common.{◌≡◌, refl, sym, ◌∙◌, ap, subst, ℕ, ◌+◌, ◌^◌, ◌<◌, ◌≤◌, zero, suc, Bool, true, false, not, cond, ◌&&◌, ◌==◌, nat_lt, List, [], ◌∷◌, ◌++◌, length, length-append, take, drop, Option, Some, None, Result, Ok, Err, unwrap_or, arith, inl, inr}
-use Rattle.std.specs.Prelude.{codes, decimal, find}
+use Rattle.std.proofs.Common.{◌≡◌, refl, ap, subst, ℕ, ◌^◌, ◌<◌, Bool, true, false, ◌&&◌, ◌==◌, nat_lt, List, [], ◌∷◌, ◌++◌, length, length-append, Option, Some, None, Result, Ok, Err, unwrap_or, arith, inl, inr}
+use Rattle.std.specs.Prelude.{decimal}
 use Rattle.std.specs.List.{list_all, position_or_len, before_first, after_first}
 use Rattle.std.specs.Option.{ok_or}
-use Rattle.std.proofs.Math.Seq.{take-append_seam, drop-append-add, take-length}
+use Rattle.std.proofs.Math.Seq.{take-append_seam, drop-append-add}
 use Rattle.std.proofs.lemmas.Bool.{and_parts, lt-ltb, le-ltb, ltb-true}
 use Rattle.std.proofs.lemmas.Bool.Decides.{eqb_tells, nat_tests}
 use Rattle.lexer.specs.Name.{is_name}
-use Rattle.lexer.specs.Number.{number_of}
 use Rattle.printed.specs.Word.{word_text}
 use Rattle.reg_table.specs.declared.place.Place.{Place}
 use Rattle.reg_table.specs.declared.rows.RowId.{RowId}
@@ -18,11 +17,11 @@ use Rattle.reg_table.specs.Runs.{runs}
 use Rattle.reg_table.proofs.Finding.{found-named}
 use Rattle.reg_table.proofs.InRange.{named_in_range}
 use Rattle.reg_table.proofs.Naming.{found_by_name}
-use Rattle.script_asm.specs.Fault.{◌then◌, both, number_fault}
+use Rattle.script_asm.specs.Fault.{number_fault}
 use Rattle.script_asm.specs.Printing.{place_text, if_first_at, place_first_at, target_text}
-use Rattle.script_asm.specs.Target.{number_in, row_in, register_address, address_in, has_byte, before_last_byte, indexed, target_of}
+use Rattle.script_asm.specs.Target.{number_in, row_in, register_address, address_in, has_byte, target_of}
 use Rattle.script_asm.specs.declared.faults.LineFault.{LineFault}
-use Rattle.script_asm.specs.declared.faults.LineFault.TheVariants.{UnknownName, Range}
+use Rattle.script_asm.specs.declared.faults.LineFault.TheVariants.{UnknownName}
 use Rattle.script_asm.proofs.Endings.{before_last_byte-ended}
 use Rattle.script_asm.proofs.Numerals.{is_tame, tame-word, IsWord-word, number_of-word, number_of-decimal, plain-decimal}
 use Rattle.script_asm.proofs.Plain.{IsWord, is_plain, list_all-weaker, both_all}

@@ -1,18 +1,17 @@
 -- Printed numbers read back.
-use Rattle.std.proofs.Common.{◌≡◌, refl, sym, ◌∙◌, ap, subst, ℕ, ◌+◌, ◌-◌, ◌*◌, ◌^◌, ◌<◌, ◌≤◌, zero, suc, Bool, true, false, not, cond, ◌&&◌, ◌==◌, nat_lt, List, [], ◌∷◌, ◌++◌, length, length-append, Result, Ok, Err, arith, lit<, inl, inr}
+use Rattle.std.proofs.Common.{◌≡◌, refl, ◌∙◌, ap, ℕ, ◌-◌, ◌^◌, ◌<◌, ◌≤◌, zero, suc, Bool, true, false, not, ◌&&◌, ◌==◌, List, [], ◌∷◌, ◌++◌, length, length-append, Ok, arith}
 use Rattle.std.specs.Prelude.{replicate, decimal, codes, nat_eq}
-use Rattle.std.specs.Char.{digit_value, is_digit, is_ascii_digit}
+use Rattle.std.specs.Char.{digit_value, is_digit}
 use Rattle.std.specs.Fmt.{digits}
 use Rattle.std.specs.List.{list_all, starts_with}
-use Rattle.std.specs.Str.Parse.{AllDigits, IsNumeral, digits_value, digits_value_after}
+use Rattle.std.specs.Str.Parse.{AllDigits, IsNumeral, digits_value}
 use Rattle.std.proofs.lemmas.Bool.{lt-ltb, le-leb}
 use Rattle.std.proofs.lemmas.Bool.Decides.{nat_tests}
 use Rattle.std.proofs.lemmas.Fmt.{digits_is_IsNumeral, decimal_is_IsNumeral, length-decimal-le}
 use Rattle.lexer.specs.Name.{is_name, begins_name, continues_name}
-use Rattle.lexer.specs.Number.{is_numeral, numeral_of, number_of}
-use Rattle.printed.specs.Word.{hex_text, word_text}
-use Rattle.script_asm.specs.Target.{number_in, number_below, name_in}
-use Rattle.script_asm.specs.declared.faults.LineFault.{LineFault}
+use Rattle.lexer.specs.Number.{numeral_of, number_of}
+use Rattle.printed.specs.Word.{word_text}
+use Rattle.script_asm.specs.Target.{name_in}
 use Rattle.script_asm.proofs.Plain.{IsWord, is_plain, list_all-weaker, both_all}
 
 digits-all : (radix : ℕ) (ds : List ℕ) → AllDigits radix ds → list_all (λ b. is_digit b radix) ds ≡ true

@@ -1,23 +1,22 @@
 -- The statements of a program fit, and its names have its places.
-use Rattle.std.proofs.Common.{◌≡◌, ◌≢◌, refl, sym, ◌∙◌, ap, subst, ℕ, ◌+◌, ◌^◌, ◌<◌, ◌≤◌, Bool, true, false, cond, ◌||◌, List, [], ◌∷◌, ◌++◌, length, length-append, map, append_assoc, append-nil, Option, Some, None, arith, inl, inr}
+use Rattle.std.proofs.Common.{◌≡◌, ◌≢◌, refl, sym, ◌∙◌, ap, subst, ℕ, ◌+◌, ◌<◌, ◌≤◌, Bool, true, false, cond, List, [], ◌∷◌, ◌++◌, length, length-append, map, append_assoc, append-nil, Some, None, arith, inl, inr}
 use Rattle.std.specs.Prelude.{decimal}
-use Rattle.std.specs.List.{AllByRecursion, list_any}
+use Rattle.std.specs.List.{AllByRecursion}
 use Rattle.std.specs.Str.{bytes_eq}
 use Rattle.std.proofs.lemmas.Bool.{false_from_ne_true}
 use Rattle.std.proofs.lemmas.Bool.Decides.{eqb_tells}
 use Rattle.std.proofs.lemmas.Fmt.{decimal_injective}
 use Rattle.std.proofs.lemmas.Slice.Eq.{bytes_eq-Decides}
-use Rattle.program.specs.Listing.{Listing, IsSound, IsListing, IsDataString, string_at}
+use Rattle.program.specs.Listing.{Listing, IsListing, IsDataString}
 use Rattle.program.specs.declared.instruction.Instruction.{Instruction as Step}
-use Rattle.program.specs.declared.instruction.Instruction.TheVariants.{Write, Read, VfWrite, VfRead, Lend, Unlend, Poke, Peek, Arrive, RxStep, TxStep, IntStep, QueueStep, EepromStep, Link, Collect, Expect, And, JumpIfEqual, JumpUnlessEqual, Jump, Halt}
-use Rattle.script_asm.specs.Disassembly.{jumps_to, is_target}
-use Rattle.script_asm.specs.Laws.{strings_in, drafts_in, label_from, data_from, FitsBehind, Fit, Means, Mean}
+use Rattle.script_asm.specs.Disassembly.{is_target}
+use Rattle.script_asm.specs.Laws.{strings_in, drafts_in, label_from, data_from, Fit}
 use Rattle.script_asm.specs.Operation.{Draft}
 use Rattle.script_asm.specs.declared.statements.Statement.{Statement}
 use Rattle.script_asm.specs.declared.statements.Statement.TheVariants.{Label, Data, Instruction}
-use Rattle.script_asm.proofs.Marks.{or_else, strings_in-append, drafts_in-append, label_from-append, data_from-append}
+use Rattle.script_asm.proofs.Marks.{strings_in-append, drafts_in-append, label_from-append, data_from-append}
 use Rattle.script_asm.proofs.Spelling.{label_name, data_name, named}
-use Rattle.script_asm.proofs.Texts.{data_statements, marks, code_statements}
+use Rattle.script_asm.proofs.Texts.{data_statements, code_statements}
 
 -- numbered names are apart
 numbered_apart : (letter m n : ℕ) → m < 65536 → n < 65536 → m ≢ n → bytes_eq (letter ∷ decimal m) (letter ∷ decimal n) ≡ false

@@ -1,5 +1,5 @@
 -- Each instruction of a program reads back from its line.
-use Rattle.std.proofs.Common.{◌≡◌, refl, ℕ, ◌^◌, ◌<◌, ◌≤◌, Bool, true, false, List, [], ◌∷◌, length, arith}
+use Rattle.std.proofs.Common.{refl, ℕ, true, false, List, [], ◌∷◌, arith}
 use Rattle.std.specs.Prelude.{codes}
 use Rattle.intr_unit.specs.declared.Group.TheVariants.{Pf, Vf}
 use Rattle.register_file.specs.declared.dir.Dir.TheVariants.{Rx, Tx}
@@ -12,7 +12,6 @@ use Rattle.script_asm.specs.Printing.{target_text}
 use Rattle.script_asm.specs.Statement.{statement_of}
 use Rattle.script_asm.proofs.Addresses.{number_in-word, target_of-text, IsWord-target}
 use Rattle.script_asm.proofs.Numerals.{IsWord-word, name_in-numbered, IsWord-numbered}
-use Rattle.script_asm.proofs.Plain.{IsWord}
 use Rattle.script_asm.proofs.Spelling.{ReadsBack, label_name, data_name, number_below-word, says-write, says-read, says-vw, says-vr, says-lend, says-unlend, says-poke, says-peek, says-arrive, says-tx, says-int, says-qstep-rx, says-qstep-tx, says-expect, says-and, says-jeq, says-jne, says-jmp}
 
 pub reads : (strings : List (List ℕ)) (count : ℕ) (i : Step ℕ ℕ) → IsSound strings count i → HaveWidths (fields_of i) → ReadsBack i

@@ -1,21 +1,18 @@
 -- The text of a program means the program.
-use Rattle.std.proofs.Common.{◌≡◌, refl, sym, ◌∙◌, ap, ℕ, zero, suc, ◌==◌, ◌+◌, ◌<◌, ◌≤◌, Bool, true, false, ◌||◌, List, [], ◌∷◌, ◌++◌, length, map, get_or, Option, Some, None, Result, Ok, Err, arith, inl, inr, append-nil, eq-eqb}
-use Rattle.std.specs.List.{AllByRecursion, list_any}
-use Rattle.lexer.specs.Lines.{lines_of, numbered_from}
+use Rattle.std.proofs.Common.{◌≡◌, refl, sym, ◌∙◌, ℕ, zero, suc, ◌==◌, ◌<◌, Bool, true, false, ◌||◌, List, [], ◌∷◌, length, map, arith, eq-eqb}
+use Rattle.std.specs.List.{AllByRecursion}
+use Rattle.lexer.specs.Lines.{lines_of}
 use Rattle.std.specs.Str.Lines.{lines}
-use Rattle.program.specs.Encoding.{HaveWidths, fields_of}
 use Rattle.program.specs.Listing.{Listing, IsSound, IsListing, string_at}
 use Rattle.program.specs.declared.instruction.Instruction.{Instruction as Step}
 use Rattle.program.specs.declared.instruction.Instruction.TheVariants.{Write, Read, VfWrite, VfRead, Lend, Unlend, Poke, Peek, Arrive, RxStep, TxStep, IntStep, QueueStep, EepromStep, Link, Collect, Expect, And, JumpIfEqual, JumpUnlessEqual, Jump, Halt}
-use Rattle.script_asm.specs.Disassembly.{jumps_to, is_target, data_lines, code_lines, text_of}
-use Rattle.script_asm.specs.Laws.{Say, strings_in, drafts_in, label_from, data_from, Means, Mean, IsSaid}
-use Rattle.script_asm.specs.Operation.{Draft}
+use Rattle.script_asm.specs.Disassembly.{jumps_to, is_target, code_lines, text_of}
+use Rattle.script_asm.specs.Laws.{label_from, data_from, Means, Mean, IsSaid}
 use Rattle.script_asm.specs.ReadBack.{HasWidths, TextsReadBack}
-use Rattle.script_asm.specs.declared.statements.Statement.{Statement}
 use Rattle.script_asm.proofs.Meaning.{program_is_what_lines_say}
 use Rattle.script_asm.proofs.Placed.{statements_of, Fit-statements, strings_in-statements, drafts_in-statements, data_number, label_place}
-use Rattle.script_asm.proofs.Spelling.{label_name, data_name, named}
-use Rattle.script_asm.proofs.Texts.{Reads, data_statements, code_statements, reads-data, reads-code, reading_of-numbered}
+use Rattle.script_asm.proofs.Spelling.{named}
+use Rattle.script_asm.proofs.Texts.{Reads, code_statements, reads-data, reads-code, reading_of-numbered}
 
 -- a jump's target is one among the instructions
 abbrev Targets : List (Step ℕ ℕ) → Step ℕ ℕ → Type 0

@@ -1,23 +1,19 @@
 -- The line of an instruction reads back as the instruction.
-use Rattle.std.proofs.Common.{◌≡◌, refl, sym, ◌∙◌, ap, ℕ, ◌^◌, ◌<◌, ◌≤◌, Bool, true, false, List, [], ◌∷◌, length, Result, Ok, Err, arith}
+use Rattle.std.proofs.Common.{◌≡◌, refl, ℕ, ◌^◌, ◌<◌, List, [], ◌∷◌, Ok}
 use Rattle.std.specs.Prelude.{codes, decimal}
 use Rattle.std.specs.List.{AllByRecursion}
 use Rattle.std.proofs.lemmas.Bool.{lt-ltb}
-use Rattle.intr_unit.specs.declared.Group.TheVariants.{Pf, Vf}
+use Rattle.intr_unit.specs.declared.Group.TheVariants.{Vf}
 use Rattle.register_file.specs.declared.dir.Dir.TheVariants.{Rx, Tx}
 use Rattle.printed.specs.Word.{word_text}
-use Rattle.program.specs.Encoding.{HaveWidths, fields_of}
-use Rattle.program.specs.Listing.{IsSound, string_at}
 use Rattle.program.specs.declared.instruction.Instruction.{Instruction as Step}
 use Rattle.program.specs.declared.instruction.Instruction.TheVariants.{Write, Read, VfWrite, VfRead, Lend, Unlend, Poke, Peek, Arrive, RxStep, TxStep, IntStep, QueueStep, EepromStep, Link, Collect, Expect, And, JumpIfEqual, JumpUnlessEqual, Jump, Halt}
-use Rattle.script_asm.specs.Fault.{◌then◌, both}
 use Rattle.script_asm.specs.Operation.{Draft}
-use Rattle.script_asm.specs.Printing.{target_text, group_text, direction_text, link_text, instruction_text}
+use Rattle.script_asm.specs.Printing.{instruction_text}
 use Rattle.script_asm.specs.Statement.{statement_of}
 use Rattle.script_asm.specs.Target.{number_in, number_below, name_in, target_of}
 use Rattle.script_asm.specs.declared.statements.Statement.TheVariants.{Instruction}
-use Rattle.script_asm.proofs.Addresses.{number_in-word, target_of-text, IsWord-target}
-use Rattle.script_asm.proofs.Numerals.{IsWord-word, name_in-numbered, IsWord-numbered}
+use Rattle.script_asm.proofs.Addresses.{number_in-word}
 use Rattle.script_asm.proofs.Plain.{IsWord, joined}
 
 -- the names of labels and of data

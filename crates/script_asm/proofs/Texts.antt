@@ -1,14 +1,14 @@
 -- The lines of a program's text, and what they say.
-use Rattle.std.proofs.Common.{◌≡◌, refl, sym, ◌∙◌, ap, subst, ℕ, zero, suc, ◌+◌, ◌/◌, ◌%◌, ◌^◌, ◌<◌, ◌≤◌, Bool, true, false, cond, ◌==◌, List, [], ◌∷◌, ◌++◌, length, map, slice_index, get_or, append_assoc, append-nil, Result, Ok, Err, Some, arith, inl, inr}
+use Rattle.std.proofs.Common.{◌≡◌, refl, sym, ◌∙◌, ap, subst, ℕ, zero, suc, ◌+◌, ◌/◌, ◌%◌, ◌<◌, ◌≤◌, Bool, true, false, cond, ◌==◌, List, [], ◌∷◌, ◌++◌, length, map, slice_index, append_assoc, append-nil, Result, Ok, Err, Some, arith}
 use Rattle.std.specs.Prelude.{codes, decimal}
 use Rattle.std.specs.List.{AllByRecursion, list_all}
 use Rattle.std.specs.Option.{ok_or}
 use Rattle.std.specs.Str.Lines.{lines}
-use Rattle.std.proofs.lemmas.Bool.Decides.{eqb_tells, nat_tests}
+use Rattle.std.proofs.lemmas.Bool.Decides.{nat_tests}
 use Rattle.std.proofs.lemmas.List.Sums.{AllPass-from_list_all}
 use Rattle.hex.specs.Hex.{encode_with, lower_digits}
 use Rattle.hex.proofs.HexLemmas.{decode_of-encode_lower}
-use Rattle.lexer.specs.Lines.{NumberedLine, numbered_from, lines_of}
+use Rattle.lexer.specs.Lines.{numbered_from}
 use Rattle.lexer.specs.Words.{words_of}
 use Rattle.lexer.specs.HexData.{hex_bytes_of}
 use Rattle.lexer.proofs.HexData.{hex_bytes_of-decoded}
@@ -16,19 +16,19 @@ use Rattle.printed.specs.Bytes.{bytes_text}
 use Rattle.program.specs.Encoding.{HaveWidths, fields_of}
 use Rattle.program.specs.Listing.{IsSound, IsDataString}
 use Rattle.program.specs.declared.instruction.Instruction.{Instruction as Step}
-use Rattle.script_asm.specs.Disassembly.{data_line, data_lines, is_target, label_line, label_line_at, code_line, code_lines}
-use Rattle.script_asm.specs.Fault.{◌then◌, both}
+use Rattle.script_asm.specs.Disassembly.{data_line, data_lines, is_target, label_line, label_line_at, code_lines}
+use Rattle.script_asm.specs.Fault.{◌then◌}
 use Rattle.script_asm.specs.Laws.{reading_of}
 use Rattle.script_asm.specs.Printing.{instruction_text}
 use Rattle.script_asm.specs.Statement.{bytes_in, statement_of}
-use Rattle.script_asm.specs.Target.{before_last_byte, name_in}
+use Rattle.script_asm.specs.Target.{name_in}
 use Rattle.script_asm.specs.declared.faults.LineFault.{LineFault}
 use Rattle.script_asm.specs.declared.faults.LineFault.TheVariants.{Syntax}
 use Rattle.script_asm.specs.declared.statements.Statement.{Statement}
 use Rattle.script_asm.specs.declared.statements.Statement.TheVariants.{Label, Data, Instruction}
 use Rattle.script_asm.proofs.Endings.{before_last_byte-ended}
 use Rattle.script_asm.proofs.Numerals.{name_in-numbered, IsWord-numbered}
-use Rattle.script_asm.proofs.Plain.{IsWord, is_plain, is_inline, joined, joined-inline, words_of-joined, lines-more, both_all}
+use Rattle.script_asm.proofs.Plain.{IsWord, is_plain, joined, joined-inline, words_of-joined, lines-more, both_all}
 use Rattle.script_asm.proofs.Reading.{reads}
 use Rattle.script_asm.proofs.Spelling.{label_name, data_name, named, ReadsBack}
 

@@ -1,5 +1,5 @@
 -- What disassembly promises.
-use Rattle.std.specs.Prelude.{◌≡◌, ◌<◌, ℕ, List, map, Ok}
+use Rattle.std.specs.Prelude.{◌≡◌, ◌<◌, Ok}
 use Rattle.std.specs.List.{AllByRecursion}
 use Rattle.program.specs.Encoding.{HaveWidths, fields_of}
 use Rattle.program.specs.Listing.{Listing, IsListing}

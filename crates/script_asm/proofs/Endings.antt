@@ -13,7 +13,7 @@ length_ended byte front = simp length-append (omega arith)
 long_ended : (byte : ℕ) (front : List ℕ) → nat_lt 0 (length (front ++ byte ∷ [])) ≡ true
 long_ended byte front = simp length-append (lt-ltb 0 (length front + 1) (omega arith))
 
-before_last_byte-ended : (byte : ℕ) (front : List ℕ) → before_last_byte byte (front ++ byte ∷ []) ≡ Some front
+pub before_last_byte-ended : (byte : ℕ) (front : List ℕ) → before_last_byte byte (front ++ byte ∷ []) ≡ Some front
 before_last_byte-ended byte front = rw (length_ended, get_or-append_seam, take-append_seam, long_ended, eq-eqb byte byte refl) refl
 
 ended : (byte : ℕ) (word : List ℕ) → slice_index word (length word - 1) ≡ byte → 0 < length word → word ≡ take (length word - 1) word ++ byte ∷ []

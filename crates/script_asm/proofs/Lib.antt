@@ -13,3 +13,11 @@ pub mod Saying
 pub mod Meant
 pub mod Meaning
 pub mod Written
+pub mod Plain
+pub mod Numerals
+pub mod Addresses
+pub mod Spelling
+pub mod Reading
+pub mod Texts
+pub mod Placed
+pub mod RoundTrip

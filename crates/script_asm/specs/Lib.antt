@@ -9,4 +9,5 @@ pub mod Resolved
 pub mod Script
 pub mod Printing
 pub mod Disassembly
+pub mod ReadBack
 pub mod Laws

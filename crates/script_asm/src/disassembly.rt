@@ -99,7 +99,7 @@ fn push_code_lines(text: &mut String, code: &[Instruction]) -> Result<(), OutOfM
 /// that is jumped to: `L` and its number. Registers are named where the address is their first one, with the index where
 /// their row has several; all other numbers are words of eight hex digits.
 pub fn disassemble(alloc: Global, program: &Program) -> Result<String, OutOfMemory>
-    ensures { IfOk result (λ text. string_bytes text ≡ text_of program.now) }
+    ensures text { IfOk result (λ text. string_bytes text ≡ text_of program.now) }
 {
     let mut text = String::new(alloc);
     push_data_lines(&mut text, program.strings())?;

@@ -1,6 +1,7 @@
 //! What the definitions promise as a whole. Each law is the contract of a function that does nothing.
 
 ghost use Rattle.script_asm.specs.Laws.{ProgramIsWhatLinesSay, FirstFaultDecides, FaultsComeInOrder, NamesHaveTheirPlaces};
+ghost use Rattle.script_asm.specs.ReadBack.{TextsReadBack};
 
 /// A text is a program exactly where each of its lines says something that fits behind the lines before
 /// it. What they say makes the program, in their order.
@@ -24,4 +25,9 @@ pub fn faults_come_in_order()
 /// strings they have. A name that no line gives has no place.
 pub fn names_have_their_places()
     ensures { NamesHaveTheirPlaces }
+{}
+
+/// The text that a program is disassembled to means the program.
+pub fn texts_read_back()
+    ensures { TextsReadBack }
 {}

@@ -21,4 +21,5 @@ pub use disassembly::{OutOfMemory, disassemble};
 pub use faults::ScriptFault;
 pub use laws::{
     faults_come_in_order, first_fault_decides, names_have_their_places, program_is_what_lines_say,
+    texts_read_back,
 };

@@ -105,7 +105,11 @@ impl fmt::Display for InstructionText<'_> {
                 write!(f, "w {} {}", TargetText(address), WordText(word))
             }
             Instruction::Read(address) => write!(f, "r {}", TargetText(address)),
-            Instruction::VfWrite { function, offset, word } => {
+            Instruction::VfWrite {
+                function,
+                offset,
+                word,
+            } => {
                 let function = number(u16::from(function));
                 write!(f, "vw {function} {} {}", WordText(offset), WordText(word))
             }

@@ -1,4 +1,4 @@
-use Rattle.std.proofs.Common.{◌∙◌, ap, ◌++◌, string_bytes}
+use Rattle.std.proofs.Common.{◌∙◌, ap, ◌++◌}
 use Rattle.script_asm.specs.Disassembly.{data_lines, code_lines, text_of}
 use Rattle.script_asm.proofs.disassembly.disassemble.Goals as goal
 

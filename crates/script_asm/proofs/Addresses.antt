@@ -1,0 +1,193 @@
+-- Printed addresses of registers read back.
+use Rattle.std.proofs.Common.{◌≡◌, refl, ap, subst, ℕ, ◌^◌, ◌<◌, Bool, true, false, ◌&&◌, ◌==◌, nat_lt, List, [], ◌∷◌, ◌++◌, length, length-append, Option, Some, None, Result, Ok, Err, unwrap_or, arith, inl, inr}
+use Rattle.std.specs.Prelude.{decimal}
+use Rattle.std.specs.List.{list_all, position_or_len, before_first, after_first}
+use Rattle.std.specs.Option.{ok_or}
+use Rattle.std.proofs.Math.Seq.{take-append_seam, drop-append-add}
+use Rattle.std.proofs.lemmas.Bool.{and_parts, lt-ltb, le-ltb, ltb-true}
+use Rattle.std.proofs.lemmas.Bool.Decides.{eqb_tells, nat_tests}
+use Rattle.lexer.specs.Name.{is_name}
+use Rattle.printed.specs.Word.{word_text}
+use Rattle.reg_table.specs.declared.place.Place.{Place}
+use Rattle.reg_table.specs.declared.rows.RowId.{RowId}
+use Rattle.reg_table.specs.declared.rows.RowId.TheVariants.{Ctrl}
+use Rattle.reg_table.specs.Place.{place_among, address_among}
+use Rattle.reg_table.specs.Rows.{row_of}
+use Rattle.reg_table.specs.Runs.{runs}
+use Rattle.reg_table.proofs.Finding.{found-named}
+use Rattle.reg_table.proofs.InRange.{named_in_range}
+use Rattle.reg_table.proofs.Naming.{found_by_name}
+use Rattle.script_asm.specs.Fault.{number_fault}
+use Rattle.script_asm.specs.Printing.{place_text, if_first_at, place_first_at, target_text}
+use Rattle.script_asm.specs.Target.{number_in, row_in, register_address, address_in, has_byte, target_of}
+use Rattle.script_asm.specs.declared.faults.LineFault.{LineFault}
+use Rattle.script_asm.specs.declared.faults.LineFault.TheVariants.{UnknownName}
+use Rattle.script_asm.proofs.Endings.{before_last_byte-ended}
+use Rattle.script_asm.proofs.Numerals.{is_tame, tame-word, IsWord-word, number_of-word, number_of-decimal, plain-decimal}
+use Rattle.script_asm.proofs.Plain.{IsWord, is_plain, list_all-weaker, both_all}
+
+-- a row's name is a name, printed without brackets, and its registers are few
+good_row : RowId → Bool
+good_row r = is_name (row_of r).name && (list_all is_tame (row_of r).name && nat_lt (row_of r).count 65536)
+
+row-good : (r : RowId) → good_row r ≡ true
+unfolding good_row is_name
+row-good Ctrl = refl
+row-good other = refl
+
+record IsGood (r : RowId) : Type 0 where
+  name : is_name (row_of r).name ≡ true
+  tame : list_all is_tame (row_of r).name ≡ true
+  few : (row_of r).count < 65536
+
+row-IsGood : (r : RowId) → IsGood r
+unfolding good_row
+row-IsGood r =
+    let first = and_parts (is_name (row_of r).name) (list_all is_tame (row_of r).name && nat_lt (row_of r).count 65536) (row-good r) in
+    let second = and_parts (list_all is_tame (row_of r).name) (nat_lt (row_of r).count 65536) first.1 in
+    record { name = first.0; tame = second.0; few = ltb-true (row_of r).count 65536 second.1 }
+
+tame_none : (b : ℕ) → is_tame b ≡ true → (b == 91) ≡ false
+tame_none b e = grind (arith, nat_tests)
+
+tame_plain : (b : ℕ) → is_tame b ≡ true → is_plain b ≡ true
+tame_plain b e = grind (arith, nat_tests)
+
+-- where the first bracket stands
+past_tame : (xs : List ℕ) → list_all is_tame xs ≡ true → position_or_len (λ b. b == 91) xs ≡ length xs
+past_tame [] e = refl
+past_tame (c ∷ cs) e =
+    let parts = and_parts (is_tame c) (list_all is_tame cs) e in
+    let rest = past_tame cs parts.1 in
+    rw (tame_none c parts.0) (omega (arith, rest))
+
+at_bracket : (xs ys : List ℕ) → list_all is_tame xs ≡ true → position_or_len (λ b. b == 91) (xs ++ 91 ∷ ys) ≡ length xs
+at_bracket [] ys e = refl
+at_bracket (c ∷ cs) ys e =
+    let parts = and_parts (is_tame c) (list_all is_tame cs) e in
+    let rest = at_bracket cs ys parts.1 in
+    rw (tame_none c parts.0) (omega (arith, rest))
+
+no_bracket : (xs : List ℕ) → list_all is_tame xs ≡ true → has_byte 91 xs ≡ false
+no_bracket xs e = rw (past_tame xs e) (le-ltb (length xs) (length xs) (omega arith))
+
+bracket : (xs ys : List ℕ) → list_all is_tame xs ≡ true → has_byte 91 (xs ++ 91 ∷ ys) ≡ true
+bracket xs ys e = rw (at_bracket xs ys e) (lt-ltb (length xs) (length (xs ++ 91 ∷ ys)) (omega (arith, length-append xs (91 ∷ ys))))
+
+before_bracket : (xs ys : List ℕ) → list_all is_tame xs ≡ true → before_first (λ b. b == 91) (xs ++ 91 ∷ ys) ≡ xs
+before_bracket xs ys e = rw (at_bracket xs ys e) (take-append_seam xs (91 ∷ ys))
+
+after_bracket : (xs ys : List ℕ) → list_all is_tame xs ≡ true → after_first (λ b. b == 91) (xs ++ 91 ∷ ys) ≡ ys
+after_bracket xs ys e = rw (at_bracket xs ys e) (drop-append-add xs (91 ∷ ys) 1)
+
+row_in-name : (r : RowId) → row_in (row_of r).name ≡ Ok r
+row_in-name r = ap (λ o. ok_or o UnknownName) (found_by_name r (row_of r).name refl)
+
+-- the first address of a place
+register_address-first : (p : Place) (a : ℕ) → p.index < (row_of p.row).count → unwrap_or (address_among runs p) 0 ≡ a → register_address p.row p.index ≡ Ok a
+register_address-first p a below is = rw (lt-ltb p.index (row_of p.row).count below) (ap Ok is)
+
+address-first : (p : Place) (a : ℕ) (row : Result RowId LineFault) (index : Result ℕ LineFault) → row ≡ Ok p.row → index ≡ Ok p.index
+    → p.index < (row_of p.row).count → unwrap_or (address_among runs p) 0 ≡ a → address_in row index ≡ Ok a
+address-first p a row index here at below is = rw (here, at) (register_address-first p a below is)
+
+number_in-decimal : (n : ℕ) → n < 2 ^ 32 → number_in (decimal n) ≡ Ok n
+number_in-decimal n small = ap (λ r. elim r [ Ok number ↦ Ok number | Err fault ↦ Err (number_fault fault) ]) (number_of-decimal n small)
+
+pub number_in-word : (n : ℕ) → n < 2 ^ 32 → number_in (word_text n) ≡ Ok n
+number_in-word n small = ap (λ r. elim r [ Ok number ↦ Ok number | Err fault ↦ Err (number_fault fault) ]) (number_of-word n small)
+
+target_of-name : (p : Place) (a : ℕ) → p.index < (row_of p.row).count → unwrap_or (address_among runs p) 0 ≡ a → (row_of p.row).count ≡ 1
+    → target_of (row_of p.row).name ≡ Ok a
+unfolding target_of
+target_of-name p a below is one =
+    let good = row-IsGood p.row in
+    let zero_index : 0 ≡ p.index = omega (arith, below, one) in
+    rw (no_bracket (row_of p.row).name good.tame, good.name)
+    (address-first p a (row_in (row_of p.row).name) (Ok 0) (row_in-name p.row) (ap Ok zero_index) below is)
+
+target_of-indexed : (p : Place) (a : ℕ) → p.index < (row_of p.row).count → unwrap_or (address_among runs p) 0 ≡ a
+    → target_of ((row_of p.row).name ++ 91 ∷ (decimal p.index ++ 93 ∷ [])) ≡ Ok a
+unfolding target_of
+target_of-indexed p a below is =
+    let good = row-IsGood p.row in
+    let name = (row_of p.row).name in
+    let few = good.few in
+    let behind = decimal p.index ++ 93 ∷ [] in
+    rw (bracket name behind good.tame, before_bracket name behind good.tame, after_bracket name behind good.tame, before_last_byte-ended 93 (decimal p.index), good.name)
+    (address-first p a (row_in name) (number_in (decimal p.index)) (row_in-name p.row) (number_in-decimal p.index (omega arith)) below is)
+
+place-text : (p : Place) (a : ℕ) → p.index < (row_of p.row).count → unwrap_or (address_among runs p) 0 ≡ a → target_of (place_text p) ≡ Ok a
+place-text p a below is = elim (eqb_tells (row_of p.row).count 1) [
+  | inl (test, one) ↦ rw test (target_of-name p a below is one)
+  | inr (test, many) ↦ rw test (target_of-indexed p a below is)
+]
+
+target_of-word : (n : ℕ) → n < 2 ^ 32 → target_of (word_text n) ≡ Ok n
+unfolding target_of is_name
+target_of-word n small = rw (no_bracket (word_text n) (tame-word n small)) (number_in-word n small)
+
+-- the place that is printed for an address, if one is
+record IsFirst (p : Place) (a : ℕ) : Type 0 where
+  below : p.index < (row_of p.row).count
+  is : unwrap_or (address_among runs p) 0 ≡ a
+
+first_here : (a : ℕ) (q p : Place) → place_among runs a ≡ Some q → if_first_at a q ≡ Some p → IsFirst p a
+first_here a q p found e = elim (eqb_tells (unwrap_or (address_among runs q) 0) a) [
+  | inl (test, is) ↦ (let step : Some q ≡ Some p = rw test at e in
+      let same : q ≡ p = cc in
+      subst (λ (x : Place). IsFirst x a) same (record { below = named_in_range a q ((found-named a q).0 found); is = is }))
+  | inr (test, other) ↦ (let step : None ≡ Some p = rw test at e in cc)
+]
+
+first-IsFirst : (a : ℕ) (p : Place) (found : Option Place) → place_among runs a ≡ found → elim found [ None ↦ None | Some place ↦ if_first_at a place ] ≡ Some p → IsFirst p a
+first-IsFirst a p None found e = cc
+first-IsFirst a p (Some q) found e = first_here a q p found e
+
+printed : (a : ℕ) (place : Option Place) → place_first_at a ≡ place → a < 2 ^ 32 → target_of (elim place [ None ↦ word_text a | Some p ↦ place_text p ]) ≡ Ok a
+printed a None found small = target_of-word a small
+printed a (Some p) found small = let first = first-IsFirst a p (place_among runs a) refl found in place-text p a first.below first.is
+
+-- what is printed for an address names the address
+pub target_of-text : (a : ℕ) → a < 2 ^ 32 → target_of (target_text a) ≡ Ok a
+target_of-text a small = printed a (place_first_at a) refl small
+
+-- and is one word
+long-name : (xs : List ℕ) → is_name xs ≡ true → (length xs == 0) ≡ false
+unfolding is_name
+long-name [] e = cc
+long-name (c ∷ cs) e = grind (arith, nat_tests)
+
+long-more : (xs ys : List ℕ) → (length xs == 0) ≡ false → (length (xs ++ ys) == 0) ≡ false
+long-more [] ys e = cc
+long-more (c ∷ cs) ys e = grind (arith, nat_tests)
+
+IsWord-name : (r : RowId) → IsWord (row_of r).name
+IsWord-name r =
+    let good = row-IsGood r in
+    record { long = long-name (row_of r).name good.name; plain = list_all-weaker is_tame is_plain tame_plain (row_of r).name good.tame }
+
+IsWord-indexed : (r : RowId) (n : ℕ) → n < 65536 → IsWord ((row_of r).name ++ 91 ∷ (decimal n ++ 93 ∷ []))
+IsWord-indexed r n small =
+    let word = IsWord-name r in
+    record {
+      long = long-more (row_of r).name (91 ∷ (decimal n ++ 93 ∷ [])) word.long;
+      plain = both_all is_plain (row_of r).name (91 ∷ (decimal n ++ 93 ∷ [])) word.plain
+          (both_all is_plain (decimal n) (93 ∷ []) (plain-decimal n (omega arith)) refl);
+    }
+
+IsWord-place : (p : Place) → p.index < (row_of p.row).count → IsWord (place_text p)
+IsWord-place p below =
+    let good = row-IsGood p.row in
+    let few = good.few in
+    elim (eqb_tells (row_of p.row).count 1) [
+      | inl (test, one) ↦ rw test (IsWord-name p.row)
+      | inr (test, many) ↦ rw test (IsWord-indexed p.row p.index (omega (arith, few)))
+    ]
+
+printed_word : (a : ℕ) (place : Option Place) → place_first_at a ≡ place → a < 2 ^ 32 → IsWord (elim place [ None ↦ word_text a | Some p ↦ place_text p ])
+printed_word a None found small = IsWord-word a small
+printed_word a (Some p) found small = IsWord-place p (first-IsFirst a p (place_among runs a) refl found).below
+
+pub IsWord-target : (a : ℕ) → a < 2 ^ 32 → IsWord (target_text a)
+IsWord-target a small = printed_word a (place_first_at a) refl small

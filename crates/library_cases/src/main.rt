@@ -11,6 +11,7 @@ mod descriptors;
 mod hashing;
 mod images;
 mod interrupts;
+mod objects;
 mod pools;
 mod registers;
 mod texts;
@@ -20,7 +21,7 @@ use std::alloc::{AllocError, Global};
 use std::{fs, io};
 
 /// The libraries, each with a table.
-const LIBRARIES: [&str; 7] = [
+const LIBRARIES: [&str; 8] = [
     "lexer",
     "reg_table",
     "dma_ring",
@@ -28,6 +29,7 @@ const LIBRARIES: [&str; 7] = [
     "rss_hash",
     "intr_unit",
     "eeprom_image",
+    "program",
 ];
 
 /// What a call of a library answers.
@@ -40,6 +42,7 @@ fn answer(alloc: Global, library: &str, call: Call<'_>) -> Result<String, AllocE
         "rss_hash" => hashing::answer(alloc, call),
         "intr_unit" => interrupts::answer(alloc, call),
         "eeprom_image" => images::answer(alloc, call),
+        "program" => objects::answer(alloc, call),
         _ => format!(in alloc; "no such library"),
     }
 }

@@ -1,19 +1,19 @@
 -- What is laid out is read back.
-use Rattle.std.proofs.Common.{◌≡◌, ℕ, zero, suc, ◌+◌, ◌*◌, ◌-◌, ◌<◌, ◌≤◌, ◌^◌, ◌==◌, Bool, true, false, cond, not, ◌&&◌, nat_le, eqb, List, [], ◌∷◌, ◌++◌, length, take, drop, map, Option, Some, None, Result, Ok, Err}
-use Rattle.std.proofs.Common.{refl, sym, ap, ap₂, subst, ◌∙◌, arith, append_assoc, length-append}
+use Rattle.std.proofs.Common.{◌≡◌, ℕ, ◌+◌, ◌*◌, ◌<◌, ◌≤◌, ◌^◌, ◌==◌, cond, ◌&&◌, nat_le, List, [], ◌∷◌, ◌++◌, length, take, drop, Some, None, Result, Ok, Err}
+use Rattle.std.proofs.Common.{refl, ap, ap₂, ◌∙◌, arith, append_assoc, length-append}
 use Rattle.std.proofs.Math.Seq.{take-append_seam, drop-append_seam}
 use Rattle.std.proofs.lemmas.Bool.{and_from, le-leb, eq-eqb, cond-true}
 use Rattle.std.proofs.lemmas.Nat.{from_le_bytes-to_le_bytes_2, from_le_bytes-to_le_bytes_4}
-use Rattle.std.specs.List.{AllByRecursion, flat_map, starts_with}
-use Rattle.std.specs.Int.{w16, w32, to_le_bytes}
+use Rattle.std.specs.List.{AllByRecursion, flat_map}
+use Rattle.std.specs.Int.{w16, to_le_bytes}
 use Rattle.program.specs.declared.fields.Fields.{Fields}
 use Rattle.program.specs.declared.fault.ObjectFault.{ObjectFault}
-use Rattle.program.specs.declared.fault.ObjectFault.TheVariants.{Magic, Version, Length}
+use Rattle.program.specs.declared.fault.ObjectFault.TheVariants.{Length}
 use Rattle.program.specs.declared.reading.Header.{Header}
 use Rattle.program.specs.Bytes.{number16_at, number32_at, bytes_of_fields, fields_in}
-use Rattle.program.specs.Encoding.{fields, fields_of, HaveWidths}
+use Rattle.program.specs.Encoding.{fields, HaveWidths}
 use Rattle.program.specs.Listing.{IsDataString}
-use Rattle.program.specs.Object.{magic, magic_and_version, header, header_in, counts_in, all_fields_in, string_in, strings_in, before_strings, bytes_of_string}
+use Rattle.program.specs.Object.{header, header_in, all_fields_in, string_in, strings_in, before_strings, bytes_of_string}
 
 -- the fields in their own bytes
 pub fields-back : (f : Fields) (more : List ℕ) → HaveWidths f → fields_in (bytes_of_fields f ++ more) ≡ f

@@ -9,3 +9,4 @@ pub mod Sizes
 pub mod Back
 pub mod Meant
 pub mod ReadBack
+pub mod Faults

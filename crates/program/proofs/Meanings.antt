@@ -5,7 +5,7 @@ use Rattle.program.specs.declared.fault.ObjectFault.{ObjectFault}
 use Rattle.program.specs.declared.fields.Fields.{Fields}
 use Rattle.program.specs.declared.instruction.Instruction.{Instruction}
 use Rattle.program.specs.declared.meaning.FieldFault.{FieldFault}
-use Rattle.program.specs.declared.meaning.FieldFault.TheVariants.{Opcode, Operand}
+use Rattle.program.specs.declared.meaning.FieldFault.TheVariants.{Operand}
 use Rattle.program.specs.Encoding.{fields, fields_of, same_fields}
 use Rattle.program.specs.Meaning.{meaning, instruction_in, spelled_so, unless_faulty, fault_in}
 use Rattle.program.specs.Object.{◌then◌, meanings, at_pc, before_instructions}

@@ -1,5 +1,5 @@
 -- The object of a program reads back.
-use Rattle.std.proofs.Common.{◌≡◌, ℕ, ◌+◌, ◌*◌, ◌≤◌, List, ◌++◌, length, map, drop, Result, Ok, refl, sym, ap, ◌∙◌, arith, length-append}
+use Rattle.std.proofs.Common.{◌≡◌, ℕ, ◌+◌, ◌*◌, ◌≤◌, List, ◌++◌, length, map, drop, Result, Ok, sym, ap, ◌∙◌, arith, length-append}
 use Rattle.std.proofs.Math.Seq.{drop-append_seam}
 use Rattle.std.proofs.lemmas.List.{length-map, drop-drop}
 use Rattle.std.specs.List.{AllByRecursion, flat_map}
@@ -11,7 +11,7 @@ use Rattle.program.specs.declared.reading.Header.{Header}
 use Rattle.program.specs.Bytes.{bytes_of_fields}
 use Rattle.program.specs.Encoding.{fields_of, HaveWidths}
 use Rattle.program.specs.Listing.{Listing, IsListing, IsDataString}
-use Rattle.program.specs.Object.{◌then◌, header, laid_out, object_of, read_of, header_in, bytes_of_string, strings_behind, strings_in, all_fields_in, meanings, program_of}
+use Rattle.program.specs.Object.{◌then◌, laid_out, object_of, read_of, bytes_of_string, strings_behind, strings_in, all_fields_in, meanings, program_of}
 use Rattle.program.proofs.Back.{header-back, all_fields-back, strings-back}
 use Rattle.program.proofs.Meant.{meanings-of}
 use Rattle.program.proofs.Sizes.{length-instructions, object-small}

@@ -1,14 +1,11 @@
 -- Data strings that were read: how many they are, and what each is.
-use Rattle.std.proofs.Common.{◌≡◌, ℕ, zero, suc, ◌+◌, ◌≤◌, Bool, true, false, cond, nat_le, ◌&&◌, List, [], ◌∷◌, ◌++◌, length, take, drop, Option, Some, None}
+use Rattle.std.proofs.Common.{◌≡◌, ℕ, ◌+◌, ◌≤◌, Bool, true, false, cond, nat_le, ◌&&◌, List, ◌++◌, length, take, drop, Some, None}
 use Rattle.std.proofs.Common.{refl, sym, ap, ◌∙◌, arith, length-drop}
-use Rattle.std.specs.List.{AllByRecursion}
-use Rattle.std.specs.Option.{option_map}
 use Rattle.std.proofs.lemmas.Bool.{and_parts}
 use Rattle.std.proofs.lemmas.List.{length-take-le, take-append-drop}
 use borrow.Author.Tests.{leb-true}
 use Rattle.program.specs.Bytes.{number16_at}
-use Rattle.program.specs.Listing.{IsDataString}
-use Rattle.program.specs.Object.{string_in, strings_in, before_strings}
+use Rattle.program.specs.Object.{string_in}
 
 -- what a test lets through
 passed : {A : Type 0} (test : Bool) (x y : A) → cond test (Some x) None ≡ Some y → (test ≡ true) × (x ≡ y)

@@ -1,5 +1,5 @@
 -- Data strings that are read one after another.
-use Rattle.std.proofs.Common.{◌≡◌, ◌==◌, true, false, length, ℕ, zero, suc, List, [], ◌∷◌, ◌++◌, Option, Some, None, refl, sym, ap, ◌∙◌, append_assoc, arith, eqb-true}
+use Rattle.std.proofs.Common.{◌≡◌, ◌==◌, true, false, length, ℕ, suc, List, [], ◌∷◌, ◌++◌, Option, Some, None, refl, sym, ap, ◌∙◌, append_assoc, arith, eqb-true}
 use Rattle.std.proofs.lemmas.List.{append-nil}
 use Rattle.std.specs.Option.{option_map}
 use Rattle.program.specs.Object.{string_in, strings_in, before_strings}

@@ -4,3 +4,4 @@ pub mod Bytes
 pub mod Meaning
 pub mod Gives
 pub mod Object
+pub mod Laws

@@ -4,7 +4,10 @@ use Rattle.std.specs.List.{AllByRecursion}
 use Rattle.intr_unit.specs.declared.Group.{Group}
 use Rattle.intr_unit.specs.declared.Group.TheVariants.{Pf, Vf}
 use Rattle.program.specs.declared.instruction.Instruction.{Instruction}
-use Rattle.program.specs.declared.instruction.Instruction.TheVariants.{Write, Read, VfWrite, VfRead, Lend, Unlend, Poke, Peek, Arrive, RxStep, TxStep, IntStep, QueueStep, EepromStep, Link, Collect, Expect, And, JumpIfEqual, JumpUnlessEqual, Jump, Halt}
+use Rattle.program.specs.declared.instruction.Instruction.TheVariants.{Write, Read, VfWrite, VfRead, Lend, Unlend}
+use Rattle.program.specs.declared.instruction.Instruction.TheVariants.{Poke, Peek, Arrive, RxStep, TxStep, IntStep}
+use Rattle.program.specs.declared.instruction.Instruction.TheVariants.{QueueStep, EepromStep, Link, Collect, Expect}
+use Rattle.program.specs.declared.instruction.Instruction.TheVariants.{And, JumpIfEqual, JumpUnlessEqual, Jump, Halt}
 
 -- the data strings of a program and its instructions, both in their order; an instruction names both by their numbers
 pub record Listing : Type 0 where
@@ -24,9 +27,9 @@ abbrev pub IsGroup : Group → Type 0
 IsGroup Pf = ⊤
 IsGroup (Vf function) = IsFunction function
 
--- what an instruction names is there, among these data strings and so many instructions: what is poked has 16 bytes, what
--- arrives has a number, one of four words is peeked, virtual functions are below 63, and a jump goes to an instruction or
--- to the end; numbers of blocks and queues have 16 bits
+-- what an instruction names is there, among these data strings and so many instructions: what is poked has 16 bytes,
+-- what arrives has a number, one of four words is peeked, virtual functions are below 63, and a jump goes to an
+-- instruction or to the end; numbers of blocks and queues have 16 bits
 abbrev pub IsSound : List (List ℕ) → ℕ → Instruction ℕ ℕ → Type 0
 IsSound strings count (Write address word) = ⊤
 IsSound strings count (Read address) = ⊤

@@ -1,5 +1,6 @@
 -- What the fields of an instruction mean.
-use Rattle.std.specs.Prelude.{ℕ, ◌%◌, Bool, not, ◌==◌, nat_lt, nat_le, List, length, Option, Some, None, Result, Ok, Err}
+use Rattle.std.specs.Prelude.{ℕ, ◌%◌, Bool, not, ◌==◌, nat_lt, nat_le, List, length, Option, Some, None}
+use Rattle.std.specs.Prelude.{Result, Ok, Err}
 use Rattle.std.specs.Prelude.{if◌then◌else◌}
 use Rattle.intr_unit.specs.declared.Group.{Group}
 use Rattle.intr_unit.specs.declared.Group.TheVariants.{Pf, Vf}
@@ -94,7 +95,8 @@ unless_faulty instruction (Some fault) = Err fault
 abbrev pub spelled_so : List (List ℕ) → ℕ → Fields → Option (Instruction ℕ ℕ) → Result (Instruction ℕ ℕ) FieldFault
 spelled_so strings count f None = Err Opcode
 spelled_so strings count f (Some instruction) =
-    if same_fields (fields_of instruction) f then unless_faulty instruction (fault_in strings count instruction) else Err Operand
+    if same_fields (fields_of instruction) f then unless_faulty instruction (fault_in strings count instruction)
+    else Err Operand
 
 -- the instruction that the fields mean, among these data strings and so many instructions
 abbrev pub meaning : List (List ℕ) → ℕ → Fields → Result (Instruction ℕ ℕ) FieldFault

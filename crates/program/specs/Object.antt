@@ -1,5 +1,5 @@
 -- Objects: the bytes of a program.
-use Rattle.std.specs.Prelude.{ℕ, zero, suc, ◌≤◌, ◌+◌, ◌*◌, ◌-◌, ◌==◌, ◌&&◌, not, nat_le, eqb, List, [], ◌∷◌, ◌++◌}
+use Rattle.std.specs.Prelude.{ℕ, zero, suc, ◌≤◌, ◌+◌, ◌*◌, ◌==◌, ◌&&◌, not, nat_le, eqb, List, [], ◌∷◌, ◌++◌}
 use Rattle.std.specs.Prelude.{length, map, take, drop, Option, Some, None, Result, Ok, Err, if◌then◌else◌}
 use Rattle.std.specs.List.{flat_map, starts_with}
 use Rattle.std.specs.Option.{ok_or, option_map}
@@ -104,19 +104,22 @@ at_pc pc (Ok x) = Ok x
 at_pc pc (Err fault) = Err (fault_at pc fault)
 
 -- the instruction before these
-abbrev pub before_instructions : Instruction ℕ ℕ → Result (List (Instruction ℕ ℕ)) ObjectFault → Result (List (Instruction ℕ ℕ)) ObjectFault
+abbrev pub before_instructions : Instruction ℕ ℕ → Result (List (Instruction ℕ ℕ)) ObjectFault →
+    Result (List (Instruction ℕ ℕ)) ObjectFault
 before_instructions instruction more = more then λ instructions. Ok (instruction ∷ instructions)
 
 -- the instructions that the fields mean, from this number on: the first fault decides
 unfoldable pub meanings : List (List ℕ) → ℕ → ℕ → List Fields → Result (List (Instruction ℕ ℕ)) ObjectFault
 meanings strings count pc [] = Ok []
 meanings strings count pc (f ∷ more) =
-    at_pc pc (meaning strings count f) then λ instruction. before_instructions instruction (meanings strings count (pc + 1) more)
+    at_pc pc (meaning strings count f) then λ instruction.
+    before_instructions instruction (meanings strings count (pc + 1) more)
 
 -- the program of data strings and the fields of instructions
 abbrev pub program_of : List Fields → List (List ℕ) → Result Listing ObjectFault
 program_of all strings =
-    meanings strings (length all) 0 all then λ instructions. Ok (record { strings = strings; instructions = instructions })
+    meanings strings (length all) 0 all then λ instructions.
+    Ok (record { strings = strings; instructions = instructions })
 
 -- the data strings behind so many instructions
 abbrev pub strings_behind : ℕ → ℕ → List ℕ → Result (List (List ℕ)) ObjectFault

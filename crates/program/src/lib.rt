@@ -9,6 +9,7 @@
 mod fault;
 mod fields;
 mod instruction;
+mod laws;
 mod meaning;
 mod numbers;
 mod program;
@@ -17,5 +18,6 @@ mod writing;
 
 pub use fault::ObjectFault;
 pub use instruction::Instruction;
+pub use laws::{first_fault_decides, instructions_decide, objects_read_back};
 pub use program::{DATA_BYTES, DATA_LIMIT, INSTRUCTION_LIMIT, Program};
 pub use reading::read;

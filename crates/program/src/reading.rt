@@ -5,7 +5,8 @@ ghost use Rattle.std.specs.Option.{option_map, ok_or};
 ghost use Rattle.std.specs.List.{AllByRecursion};
 ghost use Rattle.program.specs.Gives.{Gives};
 ghost use Rattle.program.specs.Listing.{IsSound, IsDataString};
-ghost use Rattle.program.specs.Object.{Fits, counts_in, header_in, string_in, strings_in, all_fields_in, meanings, at_pc, read_of, object_of, strings_behind};
+ghost use Rattle.program.specs.Object.{Fits, counts_in, header_in, string_in, strings_in, strings_behind};
+ghost use Rattle.program.specs.Object.{all_fields_in, meanings, at_pc, read_of, object_of};
 ghost use Rattle.program.specs.Meaning.{meaning};
 ghost use Rattle.program.specs.Bytes.{fields_in};
 

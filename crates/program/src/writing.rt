@@ -27,7 +27,8 @@ fn put_header(out: &mut Vec<u8>, count: u16, strings: u16, total: u32) -> Result
 
 /// Adds the fields of instructions, in order.
 fn put_instructions(out: &mut Vec<u8>, instructions: &[Instruction]) -> Result<(), AllocError>
-    ensures bytes { OnOk result (out.new.items ≡ out.old.items ++ flat_map bytes_of_fields (map fields_of instructions.now)) }
+    ensures bytes { OnOk result
+        (out.new.items ≡ out.old.items ++ flat_map bytes_of_fields (map fields_of instructions.now)) }
     ensures widths { OnOk result (AllByRecursion HaveWidths (map fields_of instructions.now)) }
 {
     for instruction in instructions {

@@ -1,10 +1,8 @@
-use Rattle.std.proofs.Common.{◌≡◌, ◌+◌, ◌-◌, ◌*◌, suc, [], ◌∷◌, ◌++◌, length, Ok, Err, sym, ap, subst, ◌∙◌, arith, refl, length-append}
-use Rattle.std.specs.List.{AllByRecursion}
+use Rattle.std.proofs.Common.{◌≡◌, ◌+◌, ◌-◌, suc, [], ◌∷◌, length, sym, ap, ◌∙◌, arith, refl, length-append}
 use Rattle.std.proofs.lemmas.Result.{err_from_is_err_and}
-use Rattle.program.specs.Bytes.{fields_in}
 use Rattle.program.specs.Listing.{IsSound}
 use Rattle.program.specs.Object.{meanings, all_fields_in}
-use Rattle.program.proofs.Instructions.{Instructions, behind, behind-none, behind-more, behind-stopped, behind-all, AllByRecursion-push}
+use Rattle.program.proofs.Instructions.{behind-none, behind-more, behind-stopped, behind-all, AllByRecursion-push}
 use Rattle.program.proofs.reading.instructions_in.Goals as goal
 
 pub loop-pc-init : goal.loop-pc-init

@@ -1,10 +1,9 @@
-use Rattle.std.proofs.Common.{◌≡◌, ℕ, ◌+◌, ◌*◌, ◌++◌, List, Option, Some, None, Result, Ok, Err, sym, ap, subst, ◌∙◌, arith, length, length-drop, drop}
+use Rattle.std.proofs.Common.{◌≡◌, ◌+◌, ◌*◌, ◌++◌, Option, Some, None, Result, Ok, Err, sym, ap, ◌∙◌, arith, length-drop, drop}
 use Rattle.std.proofs.lemmas.List.{drop-drop}
 use Rattle.std.specs.Option.{ok_or}
-use Rattle.std.specs.List.{AllByRecursion, flat_map}
+use Rattle.std.specs.List.{flat_map}
 use Rattle.program.specs.declared.fault.ObjectFault.{ObjectFault}
 use Rattle.program.specs.declared.fault.ObjectFault.TheVariants.{Length}
-use Rattle.program.specs.Listing.{IsSound}
 use Rattle.program.specs.Bytes.{bytes_of_fields}
 use Rattle.program.specs.Object.{laid_out, all_fields_in}
 use Rattle.program.proofs.Pieces.{Small, Small-drop}

@@ -1,8 +1,8 @@
-use Rattle.std.proofs.Common.{◌≡◌, List, ℕ, map, Result, Ok, Err, IfOk, OnOk, ap, sym, subst, ◌∙◌}
+use Rattle.std.proofs.Common.{◌≡◌, List, ℕ, map, Result, Ok, Err, IfOk, OnOk, ap, ◌∙◌}
 use Rattle.std.specs.List.{AllByRecursion}
 use Rattle.program.specs.Encoding.{fields_of, HaveWidths}
 use Rattle.program.specs.Listing.{Listing, IsListing}
-use Rattle.program.specs.Object.{object_of, laid_out, read_of}
+use Rattle.program.specs.Object.{object_of, read_of}
 use Rattle.program.proofs.ReadBack.{object-read}
 use Rattle.program.proofs.program.Program.to_bytes.Goals as goal
 

@@ -1,0 +1,18 @@
+//! What objects promise as a whole. Each law is the contract of a function that does nothing.
+
+ghost use Rattle.program.specs.Laws.{InstructionsDecide, FirstFaultDecides, ObjectsReadBack};
+
+/// Bytes that are laid out as an object, with whatever fields, have no fault but that of an instruction.
+pub fn instructions_decide()
+    ensures { InstructionsDecide }
+{}
+
+/// The first faulty instruction of an object decides, and it is told with its number.
+pub fn first_fault_decides()
+    ensures { FirstFaultDecides }
+{}
+
+/// The object of each program reads back as that program.
+pub fn objects_read_back()
+    ensures { ObjectsReadBack }
+{}

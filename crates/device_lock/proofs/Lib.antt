@@ -1,4 +1,5 @@
 pub mod Fresh
 pub mod Histories
+pub mod Places
 pub mod Runs
 pub mod Stands

@@ -1,9 +1,10 @@
 -- Which passes close a history.
 use Rattle.std.specs.Prelude.{◌≡◌, ℕ, ◌<◌, ◌==◌, ◌&&◌, List, All, count_by, Option, Some, None}
+use Rattle.nic_device.specs.State.{new_state}
 use Rattle.device_lock.specs.declared.entry.Entry.{Entry}
 use Rattle.device_lock.specs.declared.fault.CloseFault.{CloseFault}
 use Rattle.device_lock.specs.declared.fault.CloseFault.TheVariants.{MissingPass, ForeignPass, Mismatch, OutOfMemory}
-use Rattle.device_lock.specs.History.{calls_of}
+use Rattle.device_lock.specs.History.{leads_to, IsLegal, calls_of}
 use Rattle.device_lock.specs.Kept.{Held}
 use Rattle.device_lock.specs.Pass.{PassValue}
 
@@ -57,3 +58,10 @@ Answers bench h ps (Some (MissingPass tag)) = IsMissing bench h.passes ps tag
 Answers bench h ps (Some ForeignPass) = AllThere bench h.passes ps × ¬ AreAll bench h.passes ps
 Answers bench h ps (Some (Mismatch tag)) = AreAll bench h.passes ps × IsMismatch h.history h.passes ps tag
 Answers bench h ps (Some OutOfMemory) = ⊥
+
+-- what is held has a legal history, and these passes don't close it for this reason
+pub record IsRefused (vfs fifo bench : ℕ) (ps : List PassValue) (fault : CloseFault) : Type 0 where
+  pub held : Held
+  pub legal : IsLegal (new_state vfs fifo) held.history
+  pub leads : leads_to (new_state vfs fifo) held.history ≡ held.device
+  pub answers : Answers bench held ps (Some fault)

@@ -4,3 +4,4 @@ pub mod History
 pub mod Kept
 pub mod Laws
 pub mod Pass
+pub mod Positions

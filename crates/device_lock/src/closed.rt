@@ -1,7 +1,8 @@
 ghost use Rattle.std.specs.Prelude.{◌≡◌, IfOk, IfErr};
 ghost use Rattle.nic_device.specs.State.{new_state};
-ghost use Rattle.device_lock.specs.Closing.{Answers, Closes};
+ghost use Rattle.device_lock.specs.Closing.{Answers, Closes, IsRefused};
 ghost use Rattle.device_lock.specs.History.{leads_to, IsLegal, AllBelow};
+ghost use Rattle.device_lock.specs.Positions.{positions_of};
 
 use crate::compare::{are_all, lowest_mismatch, lowest_missing};
 use crate::entry::Entry;
@@ -9,7 +10,9 @@ use crate::fault::CloseFault;
 use crate::locked::Locked;
 use crate::pass::Pass;
 use crate::shared::{CloseRefused, Shared};
+use crate::positions::positions;
 use nic_device::Device;
+use std::alloc::{AllocError, Global};
 use std::marker::Model;
 use std::sync::Mutex;
 
@@ -41,6 +44,13 @@ impl<const VFS: u8, const FIFO: u16> Closed<VFS, FIFO> {
         self.locked.history()
     }
 
+    /// Where the calls of the pass of this tag stand in the history, the first call at 0.
+    pub fn of_pass(&self, alloc: Global, tag: u8) -> Result<Vec<usize>, AllocError>
+        ensures { IfOk result (λ places. places.items ≡ positions_of tag self.now.history) }
+    {
+        positions(alloc, self.locked.history(), tag)
+    }
+
     /// The device, where the history led it.
     pub fn into_device(self) -> Device
         ensures { result ≡ self.entry.device }
@@ -56,15 +66,18 @@ impl<const VFS: u8, const FIFO: u16> Locked<VFS, FIFO> {
     /// `MissingPass` where a tag is absent, `ForeignPass` where a pass is of another bench, has no tag of this one or
     /// comes twice, and `Mismatch` where the calls of a pass aren't the entries with its tag, in this order.
     pub fn refusal(&self, bench: u64, passes: &[Pass]) -> Option<CloseFault>
-        ensures { Answers bench self.now passes.now result }
+        ensures answers { Answers bench self.now passes.now result }
+        ensures legal { IsLegal (new_state VFS FIFO) self.now.history }
+        ensures leads { leads_to (new_state VFS FIFO) self.now.history ≡ self.now.device }
     {
+        let history = self.history();
         if let Some(tag) = lowest_missing(bench, self.passes(), passes) {
             return Some(CloseFault::MissingPass(tag));
         }
         if !are_all(bench, self.passes(), passes) {
             return Some(CloseFault::ForeignPass);
         }
-        if let Some(tag) = lowest_mismatch(self.history(), self.passes(), passes) {
+        if let Some(tag) = lowest_mismatch(history, self.passes(), passes) {
             return Some(CloseFault::Mismatch(tag));
         }
         None
@@ -77,6 +90,7 @@ impl<const VFS: u8, const FIFO: u16> Shared<VFS, FIFO> {
     /// It stays open for the reason that `Locked::refusal` gives, and the passes come back.
     pub fn close(self, passes: Vec<Pass>) -> Result<Closed<VFS, FIFO>, CloseRefused<VFS, FIFO>>
         ensures closed { IfOk result (λ closed. Closes self.entry.bench closed passes.items) }
+        ensures refused { IfErr result (λ refused. IsRefused VFS FIFO self.entry.bench passes.items refused.fault) }
         ensures passes { IfErr result (λ refused. refused.passes.items ≡ passes.items) }
         ensures bench { IfErr result (λ refused. refused.shared.bench ≡ self.entry.bench) }
     {

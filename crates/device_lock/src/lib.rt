@@ -14,6 +14,7 @@ mod fault;
 pub mod laws;
 mod locked;
 mod pass;
+mod positions;
 mod shared;
 
 pub use closed::Closed;

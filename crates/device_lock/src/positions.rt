@@ -1,0 +1,18 @@
+ghost use Rattle.std.specs.Prelude.{◌≡◌, IfOk};
+ghost use Rattle.device_lock.specs.Positions.{positions_of};
+
+use crate::entry::Entry;
+use std::alloc::{AllocError, Global};
+
+/// Where the entries of a tag stand in the history, the first at 0.
+pub(crate) fn positions(alloc: Global, history: &[Entry], tag: u8) -> Result<Vec<usize>, AllocError>
+    ensures { IfOk result (λ places. places.items ≡ positions_of tag history.now) }
+{
+    let mut places = Vec::new(alloc);
+    for at in 0..history.len() {
+        if history[at].pass == tag {
+            places.push(at)?;
+        }
+    }
+    Ok(places)
+}

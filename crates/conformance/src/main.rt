@@ -25,7 +25,7 @@ use std::fmt::Write;
 use std::{fs, io};
 
 /// The tables.
-const TABLES: [&str; 15] = [
+const TABLES: [&str; 16] = [
     "grammar",
     "words",
     "registers",
@@ -41,6 +41,7 @@ const TABLES: [&str; 15] = [
     "interrupts",
     "hash",
     "eeprom",
+    "objects",
 ];
 
 /// What a case is to end with.

@@ -8,11 +8,12 @@ use Rattle.clap.specs.declared.error.Error.{Error}
 use Rattle.clap.specs.declared.error.ErrorKind.{ErrorKind}
 use Rattle.clap.specs.declared.error.ErrorKind.TheVariants as kind
 use Rattle.command_line.specs.Asked.{Asks}
+use Rattle.command_line.specs.declared.BytesRequest.{BytesRequest}
 use Rattle.command_line.specs.declared.Request.{Request}
 use Rattle.command_line.specs.declared.Request.TheVariants.{Text}
 use Rattle.command_line.specs.declared.TextRequest.{TextRequest}
 use Rattle.bench.specs.Answer.{Answer, Gives, GivesRight, WritesBeginning, refused_as}
-use Rattle.bench.specs.Ending.{AnswersRequest, HasStatusOf, IsGivenAnswer, IsTextAnswer, words_status}
+use Rattle.bench.specs.Ending.{AnswersRequest, HasStatusOf, IsBytesAnswer, IsGivenAnswer, IsTextAnswer, words_status}
 use Rattle.bench.specs.declared.failure.Failure.{Failure}
 use Rattle.bench.specs.declared.failure.Failure.TheVariants.{OutOfMemory, Read, Write}
 use Rattle.bench.proofs.Giving.{begins-with-nothing, gives-right}
@@ -22,6 +23,10 @@ module _ (old new : Option (List ℕ)) (has_failed : Bool) (r : Result ℕ Failu
   pub given-to-text : (request one : TextRequest) (text : List ℕ) → request ≡ one → GivesRight r old new has_failed (IsTextAnswer one text)
       → GivesRight r old new has_failed (IsTextAnswer request text)
   given-to-text request one text is given = subst (λ (q : TextRequest). GivesRight r old new has_failed (IsTextAnswer q text)) (sym is) given
+
+  pub given-to-bytes : (request one : BytesRequest) (bytes : List ℕ) → request ≡ one → GivesRight r old new has_failed (IsBytesAnswer one bytes)
+      → GivesRight r old new has_failed (IsBytesAnswer request bytes)
+  given-to-bytes request one bytes is given = subst (λ (q : BytesRequest). GivesRight r old new has_failed (IsBytesAnswer q bytes)) (sym is) given
 
   pub given-to : (request one : Request) (bytes : List ℕ) → request ≡ one → GivesRight r old new has_failed (IsGivenAnswer one bytes)
       → GivesRight r old new has_failed (IsGivenAnswer request bytes)

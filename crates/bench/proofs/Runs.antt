@@ -3,7 +3,7 @@ use Rattle.std.proofs.Common.{refl, ◌≡◌, ◌<◌, ◌≤◌, ◌==◌, ◌
 use Rattle.std.proofs.lemmas.Bool.{le-ltb, lt-ltb}
 use Rattle.command_line.specs.declared.RunOptions.{RunOptions}
 use Rattle.nic_device.specs.Config.{IsBadFifo}
-use Rattle.script_asm.specs.Listing.{Listing}
+use Rattle.program.specs.Listing.{Listing}
 use Rattle.bench.specs.Answer.{refused_as}
 use Rattle.bench.specs.Run.{program_answer}
 

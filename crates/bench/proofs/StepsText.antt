@@ -1,49 +1,25 @@
 -- The lines of the steps so far, and of those to come.
-use Rattle.std.proofs.Common.{arith, refl, subst, sym, ◌∙◌, ap, ◌≡◌, ◌≤◌, ℕ, zero, suc, ◌+◌, ◌-◌, List, [], ◌++◌, append-nil, append_assoc, Option, Some, None, add-zero, add-suc, add-one, Bool, true, false, if◌then◌else◌}
+use Rattle.std.proofs.Common.{arith, subst, sym, ◌∙◌, ap, ◌≡◌, ◌≤◌, ℕ, zero, suc, ◌+◌, ◌-◌, List, [], ◌++◌, append-nil, append_assoc, Option, add-zero, add-suc, add-one}
 use Rattle.std.specs.Io.KnownBytes.{Appends}
 use Rattle.nic_device.specs.declared.Config.{Config}
-use Rattle.script_asm.specs.Course.{Course}
-use Rattle.script_asm.specs.Listing.{Listing}
-use Rattle.script_asm.specs.Machine.{Step, executed, executed_if_some, lacks_block, machine_at, machine_step, next_instruction, start_of}
-use Rattle.script_asm.specs.MachineState.{MachineState}
-use Rattle.script_asm.specs.declared.Instruction.{Instruction}
-use Rattle.script_asm.specs.declared.StepAnswer.{StepAnswer}
-use Rattle.script_asm.specs.declared.StepAnswer.TheVariants.{Stopped}
+use Rattle.machine.specs.Course.{Course}
+use Rattle.program.specs.Listing.{Listing}
+use Rattle.machine.specs.Machine.{machine_at, machine_step, start_of}
+use Rattle.machine.specs.declared.StepAnswer.{StepAnswer}
+use Rattle.machine.specs.declared.StepAnswer.TheVariants.{Stopped}
+use Rattle.machine.proofs.Running.{steps_count, stopped_for_good}
 use Rattle.bench.specs.Answer.{WritesBeginning}
 use Rattle.bench.proofs.Appending.{Appends-both, Appends-none}
 use Rattle.bench.specs.Steps.{answer_text, step_text, steps_text}
 
-either-goes : (which : Bool) (a b : Step) → (a.answer ≡ Stopped → ⊥) → (b.answer ≡ Stopped → ⊥) → (if which then a else b).answer ≡ Stopped → ⊥
-either-goes true a b first second stopped = first stopped
-either-goes false a b first second stopped = second stopped
-
-executed-stopped : (p : Listing) (s : MachineState) (i : Instruction) → (executed p s i).answer ≡ Stopped → ⊥
-executed-stopped p s i stopped = either-goes (lacks_block i s.arena) _ _ (λ is. cc) (λ is. cc) stopped
-
-executed_if_some-stopped : (p : Listing) (s : MachineState) (i : Option Instruction) → (executed_if_some p s i).answer ≡ Stopped
-    → (executed_if_some p s i).state ≡ s
-executed_if_some-stopped p s None stopped = refl
-executed_if_some-stopped p s (Some i) stopped = absurd (executed-stopped p s i stopped)
-
--- a machine that answers that it has stopped stays
-machine_step-stopped : (p : Listing) (s : MachineState) → (machine_step p s).answer ≡ Stopped → (machine_step p s).state ≡ s
-unfolding machine_step
-machine_step-stopped p s stopped = executed_if_some-stopped p s (next_instruction p s) stopped
-
 module _ (p : Listing) (c : Config) (k : ℕ) (stopped : (machine_step p (machine_at p c k)).answer ≡ Stopped) where
-  machine_at-stopped : (d : ℕ) → machine_at p c (k + d) ≡ machine_at p c k
-  unfolding machine_at
-  machine_at-stopped zero = ap (machine_at p c) (add-zero k)
-  machine_at-stopped (suc d) = ap (machine_at p c) (add-suc k d)
-      ∙ ap (λ s. (machine_step p s).state) (machine_at-stopped d) ∙ machine_step-stopped p (machine_at p c k) stopped
-
   -- it prints no more lines
   steps_text-stopped : (d : ℕ) → steps_text p c (k + d) ≡ steps_text p c k
   unfolding steps_text
   steps_text-stopped zero = ap (steps_text p c) (add-zero k)
   steps_text-stopped (suc d) = ap (steps_text p c) (add-suc k d)
       ∙ ap (λ t. t ++ step_text p (machine_at p c (k + d))) (steps_text-stopped d)
-      ∙ ap (λ s. steps_text p c k ++ step_text p s) (machine_at-stopped d)
+      ∙ ap (λ s. steps_text p c k ++ step_text p s) (stopped_for_good p c k d stopped)
       ∙ ap (λ a. steps_text p c k ++ answer_text (machine_at p c k).pc a) stopped ∙ append-nil (steps_text p c k)
 
 -- the lines of d steps after the first k
@@ -98,8 +74,8 @@ module _ (old new : Option (List ℕ)) (start now : Course) (k limit : ℕ) (aft
   stopped-state later step is within =
       let up_to : k + (limit - k) ≡ limit = omega arith in
       let stopped = ap (λ s. s.answer) (sym step-at) ∙ is in
-      ap (λ (m : Course). m.state) step ∙ ap (λ s. s.state) step-at ∙ machine_step-stopped start.program (machine_at start.program start.config k) stopped
-      ∙ sym (machine_at-stopped start.program start.config k stopped (limit - k)) ∙ ap (machine_at start.program start.config) up_to
+      ap (λ (m : Course). m.state) step ∙ ap (λ s. s.state) step-at ∙ steps_count.stays start.program (machine_at start.program start.config k) stopped
+      ∙ sym (stopped_for_good start.program start.config k (limit - k) stopped) ∙ ap (machine_at start.program start.config) up_to
 
   pub next-steps : (last : Option (List ℕ)) (later : Course) → later ≡ record now { state = (machine_step now.program now.state).state }
       → Appends new last (answer_text now.state.pc (machine_step now.program now.state).answer) → AfterSteps old last start later (k + 1)

@@ -5,14 +5,15 @@ use Rattle.clap.specs.Words.{Kinds}
 use Rattle.clap.specs.declared.error.ErrorKind.{ErrorKind}
 use Rattle.clap.specs.declared.error.ErrorKind.TheVariants as kind
 use Rattle.command_line.specs.declared.BytesRequest.{BytesRequest}
-use Rattle.command_line.specs.declared.BytesRequest.TheVariants.{LoadEeprom}
+use Rattle.command_line.specs.declared.BytesRequest.TheVariants.{Dis, LoadEeprom}
 use Rattle.command_line.specs.declared.Request.{Request}
 use Rattle.command_line.specs.declared.Request.TheVariants.{Bytes, Text}
 use Rattle.command_line.specs.declared.TextRequest.{TextRequest}
-use Rattle.command_line.specs.declared.TextRequest.TheVariants.{Eeprom, Hash, Run}
+use Rattle.command_line.specs.declared.TextRequest.TheVariants.{Asm, Eeprom, Hash, Run}
 use Rattle.bench.specs.Answer.{Answer, BeginsRight, Writes, WritesRight, refused_as}
 use Rattle.bench.specs.Eeprom.{IsImageAnswer, IsLoadAnswer}
 use Rattle.bench.specs.Hash.{hash_answer}
+use Rattle.bench.specs.Objects.{asm_answer, dis_answer}
 use Rattle.bench.specs.Reading.{bytes_in, text_in}
 use Rattle.bench.specs.Refusal.{refusal_line}
 use Rattle.bench.specs.Run.{run_answer}
@@ -25,10 +26,12 @@ use Rattle.bench.specs.declared.program.Outcome.TheVariants.{Ended}
 abbrev pub IsTextAnswer : TextRequest → List ℕ → Answer → Type 0
 IsTextAnswer (Run options) text answer = answer ≡ run_answer options text
 IsTextAnswer Hash text answer = answer ≡ hash_answer text
+IsTextAnswer Asm text answer = answer ≡ asm_answer text
 IsTextAnswer Eeprom text answer = IsImageAnswer text answer
 
 -- the answer is what is asked for, of bytes
 abbrev pub IsBytesAnswer : BytesRequest → List ℕ → Answer → Type 0
+IsBytesAnswer Dis bytes answer = answer ≡ dis_answer bytes
 IsBytesAnswer LoadEeprom bytes answer = IsLoadAnswer bytes answer
 
 -- the answer is what is asked for, of bytes that aren't too many

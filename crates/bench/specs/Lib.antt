@@ -2,6 +2,7 @@ pub mod Answer
 pub mod Eeprom
 pub mod Ending
 pub mod Hash
+pub mod Objects
 pub mod Reading
 pub mod Refusal
 pub mod Reply

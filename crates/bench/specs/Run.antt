@@ -2,20 +2,29 @@
 use Rattle.std.specs.Prelude.{ℕ, List, ◌++◌, ◌==◌, ◌||◌, Result, Ok, Err, codes, decimal, nat_lt, if◌then◌else◌}
 use Rattle.command_line.specs.declared.RunOptions.{RunOptions}
 use Rattle.nic_device.specs.declared.Config.{Config}
-use Rattle.script_asm.specs.Listing.{Listing}
-use Rattle.script_asm.specs.Machine.{is_running, machine_at}
-use Rattle.script_asm.specs.MachineState.{MachineState}
+use Rattle.machine.specs.Machine.{machine_at}
+use Rattle.machine.specs.MachineState.{MachineState}
+use Rattle.machine.specs.declared.Status.{Status}
+use Rattle.machine.specs.declared.Status.TheVariants.{Ended, Failed, Running}
+use Rattle.printed.specs.Word.{word_text}
+use Rattle.program.specs.Listing.{Listing}
 use Rattle.script_asm.specs.Script.{program_of}
 use Rattle.script_asm.specs.declared.ScriptFault.{ScriptFault}
 use Rattle.script_asm.specs.declared.ScriptFault.TheVariants as fault
 use Rattle.bench.specs.Answer.{Answer, refused_as, refused_at}
 use Rattle.bench.specs.Steps.{steps_text}
 
--- how a machine stands after its last step
+-- how a machine stands after its last step: at which instruction, and after how many steps
+abbrev pub end_as : Status → ℕ → ℕ → Answer
+end_as Running pc steps = record { text = codes "limit " ++ (decimal pc ++ codes "\n"); status = 1 }
+end_as Ended pc steps = record { text = codes "ok " ++ (decimal steps ++ codes "\n"); status = 0 }
+end_as (Failed at have want) pc steps = record {
+  text = codes "failed " ++ (decimal at ++ (codes " have " ++ (word_text have ++ (codes " want " ++ (word_text want ++ codes "\n")))));
+  status = 1;
+}
+
 abbrev pub end_of : MachineState → Answer
-end_of state = if is_running state.status
-    then record { text = codes "limit " ++ (decimal state.pc ++ codes "\n"); status = 1 }
-    else record { text = codes "ok " ++ (decimal state.steps ++ codes "\n"); status = 0 }
+end_of state = end_as state.status state.pc state.steps
 
 -- the controller that the options ask for
 abbrev pub config_of : RunOptions → Config

@@ -3,11 +3,11 @@ use Rattle.std.specs.Prelude.{ℕ, zero, suc, List, [], ◌++◌, codes, decimal
 use Rattle.dma_arena.specs.Block.{Block}
 use Rattle.nic_device.specs.declared.Config.{Config}
 use Rattle.nic_device.specs.declared.Reply.{Reply}
-use Rattle.script_asm.specs.Listing.{Listing}
-use Rattle.script_asm.specs.Machine.{machine_at, machine_step}
-use Rattle.script_asm.specs.MachineState.{MachineState}
-use Rattle.script_asm.specs.declared.StepAnswer.{StepAnswer}
-use Rattle.script_asm.specs.declared.StepAnswer.TheVariants.{Made, NoBlock, Stopped}
+use Rattle.machine.specs.Machine.{machine_at, machine_step}
+use Rattle.machine.specs.MachineState.{MachineState}
+use Rattle.machine.specs.declared.StepAnswer.{StepAnswer}
+use Rattle.machine.specs.declared.StepAnswer.TheVariants.{Local, Made, NoBlock, Stopped}
+use Rattle.program.specs.Listing.{Listing}
 use Rattle.bench.specs.Reply.{reply_text}
 
 -- the number of an instruction, and what the device replied to its event
@@ -18,10 +18,11 @@ reply_line pc reply = decimal pc ++ (codes " " ++ (reply_text reply ++ codes "\n
 abbrev pub no_block_line : ℕ → List ℕ
 no_block_line pc = decimal pc ++ codes " no block\n"
 
--- the line of a step that was made at an instruction
+-- the line of a step that was made at an instruction, where it makes one
 abbrev pub answer_text : ℕ → StepAnswer → List ℕ
 answer_text pc (Made reply) = reply_line pc reply
 answer_text pc NoBlock = no_block_line pc
+answer_text pc Local = []
 answer_text pc Stopped = []
 
 -- the line of the step that a machine makes next

@@ -11,6 +11,7 @@ use crate::eeprom::{load_image, write_image};
 use crate::failure::Failure;
 use crate::hashing::hash_lines;
 use crate::input::Input;
+use crate::objects::{write_object, write_script};
 use crate::output::Output;
 use crate::reading::{InputFault, read_input};
 use crate::refusal::{Refusal, write_refusal};
@@ -36,6 +37,7 @@ fn answer_text<W: Write>(
     match request {
         TextRequest::Run(options) => run_script(alloc, text, options, output),
         TextRequest::Hash => hash_lines(alloc, text, output),
+        TextRequest::Asm => write_object(alloc, text, output),
         TextRequest::Eeprom => write_image(alloc, text, output),
     }
 }
@@ -51,6 +53,7 @@ fn answer_bytes<W: Write>(
         output.new.has_failed (IsBytesAnswer request bytes.now) }
 {
     match request {
+        BytesRequest::Dis => write_script(alloc, bytes, output),
         BytesRequest::LoadEeprom => load_image(alloc, bytes, output),
     }
 }

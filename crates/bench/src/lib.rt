@@ -11,6 +11,7 @@ mod eeprom;
 mod failure;
 mod hashing;
 mod input;
+mod objects;
 mod output;
 mod program;
 mod reading;

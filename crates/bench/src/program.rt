@@ -18,7 +18,8 @@ use std::io::{Read, Write};
 /// How the program ends.
 #[derive(Clone, Copy, Debug, PartialEq, Eq)]
 pub enum Outcome {
-    /// With this status: 0; 1 where a script's machine still runs after its last step; 2 where the
+    /// With this status: 0; 1 where a script's machine still runs after its last step
+    /// or met another word than it expected; 2 where the
     /// input is refused, or a read or a write failed; 3 where the words are refused; 4 where there
     /// is no memory.
     Ended(u8),

@@ -8,13 +8,15 @@ use crate::output::Output;
 use crate::refusal::{Refusal, write_refusal};
 use crate::steps::run_machine;
 use command_line::RunOptions;
+use machine::Machine;
 use nic_device::{Config, NewFault};
-use script_asm::{Machine, Program, ScriptFault, assemble};
+use program::Program;
+use script_asm::{ScriptFault, assemble};
 use std::alloc::Global;
 use std::io::Write;
 
 /// Why a text is no script; none where there is no memory.
-fn refusal_of(fault: ScriptFault) -> Option<Refusal>
+pub(crate) fn refusal_of_script(fault: ScriptFault) -> Option<Refusal>
     ensures { MatchOption result (fault ≡ ScriptFault.OutOfMemory) (λ refusal.
         (fault ≢ ScriptFault.OutOfMemory)
         × (refused refusal.name.now refusal.number ≡ script_refused fault)) }
@@ -70,7 +72,7 @@ pub(crate) fn run_script<W: Write>(
 {
     match assemble(alloc, text) {
         Ok(program) => run_program(alloc, program, options, output),
-        Err(fault) => match refusal_of(fault) {
+        Err(fault) => match refusal_of_script(fault) {
             Some(refusal) => write_refusal(output, &refusal),
             None => Err(Failure::OutOfMemory),
         },

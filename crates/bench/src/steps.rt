@@ -1,7 +1,7 @@
 //! A machine's steps, written as they go.
 ghost use Rattle.std.specs.Prelude.{◌≡◌, IfErr, OnOk};
 ghost use Rattle.std.specs.Io.KnownBytes.{Appends};
-ghost use Rattle.script_asm.specs.Machine.{machine_at, start_of};
+ghost use Rattle.machine.specs.Machine.{machine_at, start_of};
 ghost use Rattle.bench.specs.Answer.{FailsToWrite, Gives, GivesUp, WritesBeginning};
 ghost use Rattle.bench.specs.Run.{end_of, machine_answer};
 ghost use Rattle.bench.specs.Steps.{answer_text, steps_text};
@@ -9,10 +9,11 @@ ghost use Rattle.bench.specs.Steps.{answer_text, steps_text};
 use crate::failure::Failure;
 use crate::output::Output;
 use crate::reply::ReplyText;
-use script_asm::{Machine, Status, StepAnswer};
+use machine::{Machine, Status, StepAnswer};
+use printed::WordText;
 use std::io::Write;
 
-/// Writes the line of a step that was made at an instruction; nothing of a machine that has stopped.
+/// Writes the line of a step that was made at an instruction; nothing of one without an event.
 fn write_answer<W: Write>(
     output: &mut Output<W>,
     pc: u16,
@@ -28,7 +29,7 @@ fn write_answer<W: Write>(
             output.write(format_args!("{pc} {reply}\n"))
         }
         StepAnswer::NoBlock => output.write(format_args!("{pc} no block\n")),
-        StepAnswer::Stopped => Ok(()),
+        StepAnswer::Local | StepAnswer::Stopped => Ok(()),
     }
 }
 
@@ -73,6 +74,12 @@ fn write_end<W: Write>(machine: &Machine, output: &mut Output<W>) -> Result<u8, 
             let steps = machine.steps();
             output.write(format_args!("ok {steps}\n"))?;
             Ok(0)
+        }
+        Status::Failed { pc, have, want } => {
+            let have = WordText(have);
+            let want = WordText(want);
+            output.write(format_args!("failed {pc} have {have} want {want}\n"))?;
+            Ok(1)
         }
     }
 }

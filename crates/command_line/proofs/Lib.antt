@@ -1,3 +1,4 @@
+pub mod Adding
 pub mod Flags
 pub mod OptionNumbers
 pub mod Refusals

@@ -9,10 +9,10 @@ use Rattle.clap.specs.Kinds.{Kinds, or_else}
 use Rattle.clap.specs.Words.{Row, Text, fault_of, one_of, subcommand_of}
 use Rattle.clap.specs.declared.error.ErrorKind.TheVariants as kind
 use Rattle.command_line.specs.Commands.{nicbench_app}
-use Rattle.command_line.specs.declared.request.BytesRequest.TheVariants.{LoadEeprom}
+use Rattle.command_line.specs.declared.request.BytesRequest.TheVariants.{Dis, LoadEeprom}
 use Rattle.command_line.specs.declared.request.Request.{Request}
 use Rattle.command_line.specs.declared.request.Request.TheVariants.{Bytes as OfBytes, Text as OfText}
-use Rattle.command_line.specs.declared.request.TextRequest.TheVariants.{Eeprom, Hash, Run}
+use Rattle.command_line.specs.declared.request.TextRequest.TheVariants.{Asm, Eeprom, Hash, Run}
 use Rattle.command_line.specs.declared.run_options.RunOptions.{RunOptions}
 
 -- decimal digits, one at least, that say a number below 2 ^ bits
@@ -49,6 +49,8 @@ eeprom_of rows = if flag_in (codes "load") rows then OfBytes LoadEeprom else OfT
 abbrev pub request_of : Text → List Row → Option Request
 request_of name rows = if bytes_eq name (codes "run") then Some (OfText (Run (options_of rows)))
     else if bytes_eq name (codes "hash") then Some (OfText Hash)
+    else if bytes_eq name (codes "asm") then Some (OfText Asm)
+    else if bytes_eq name (codes "dis") then Some (OfBytes Dis)
     else if bytes_eq name (codes "eeprom") then Some (eeprom_of rows)
     else None
 

@@ -31,6 +31,13 @@ run_app = with_rule (with_rule (with_rule (new_app (codes "run")) vfs_rule) fifo
 abbrev pub hash_app : App
 hash_app = new_app (codes "hash")
 
+-- `asm` and `dis`, which have none either
+abbrev pub asm_app : App
+asm_app = new_app (codes "asm")
+
+abbrev pub dis_app : App
+dis_app = new_app (codes "dis")
+
 -- `--load`, which takes no value
 abbrev pub load_rule : Rule
 load_rule = record (new_rule (codes "load")) { long = Some (codes "load"); action = Some action.SetTrue }
@@ -51,4 +58,5 @@ bare_app = let a = new_app (codes "nicbench") in record a {
 
 -- `nicbench` with its commands
 abbrev pub nicbench_app : App
-nicbench_app = with_subcommand (with_subcommand (with_subcommand bare_app run_app.top) hash_app.top) eeprom_app.top
+nicbench_app = with_subcommand (with_subcommand (with_subcommand (with_subcommand (with_subcommand bare_app run_app.top)
+    hash_app.top) eeprom_app.top) asm_app.top) dis_app.top

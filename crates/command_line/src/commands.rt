@@ -2,8 +2,8 @@
 ghost use Rattle.std.specs.Prelude.{◌≡◌, IfErr, IfOk, false};
 ghost use Rattle.clap.specs.Words.{app_of, kind_of, rule_of};
 ghost use Rattle.clap.specs.declared.builder.command.Command.TheViews.{out-Command as fields_of};
-ghost use Rattle.command_line.specs.Commands.{bare_app, eeprom_app, fifo_rule, hash_app, limit_rule, load_rule};
-ghost use Rattle.command_line.specs.Commands.{nicbench_app, run_app, vfs_rule};
+ghost use Rattle.command_line.specs.Commands.{asm_app, bare_app, dis_app, eeprom_app, fifo_rule, hash_app};
+ghost use Rattle.command_line.specs.Commands.{limit_rule, load_rule, nicbench_app, run_app, vfs_rule};
 
 use clap::error::ErrorKind;
 use clap::{Arg, ArgAction, Command, Error, value_parser};
@@ -77,6 +77,22 @@ fn hash<'a>(alloc: Global) -> Command<'a>
     )
 }
 
+fn asm<'a>(alloc: Global) -> Command<'a>
+    ensures app { app_of result ≡ asm_app }
+    ensures local { (fields_of result).has_globals ≡ false }
+{
+    Command::new(alloc, "asm").about(
+        "Makes the register script on standard input an object, on standard output",
+    )
+}
+
+fn dis<'a>(alloc: Global) -> Command<'a>
+    ensures app { app_of result ≡ dis_app }
+    ensures local { (fields_of result).has_globals ≡ false }
+{
+    Command::new(alloc, "dis").about("Prints the register script of the object on standard input")
+}
+
 fn eeprom<'a>(alloc: Global) -> Result<Command<'a>, Error>
     ensures ok { IfOk result (λ c. app_of c ≡ eeprom_app) }
     ensures local { IfOk result (λ c. (fields_of c).has_globals ≡ false) }
@@ -107,6 +123,8 @@ pub(crate) fn nicbench<'a>(alloc: Global) -> Result<Command<'a>, Error>
     let nicbench = bare(alloc)
         .subcommand(run(alloc)?)?
         .subcommand(hash(alloc))?
-        .subcommand(eeprom(alloc)?)?;
+        .subcommand(eeprom(alloc)?)?
+        .subcommand(asm(alloc))?
+        .subcommand(dis(alloc))?;
     Ok(nicbench)
 }

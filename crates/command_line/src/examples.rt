@@ -2,9 +2,9 @@
 ghost use Rattle.std.specs.Prelude.{◌≡◌, [], ◌∷◌, codes};
 ghost use Rattle.clap.specs.declared.error.ErrorKind.TheVariants as kind;
 ghost use Rattle.command_line.specs.Asked.{Asks, refusal_of};
-ghost use Rattle.command_line.specs.declared.request.BytesRequest.TheVariants.{LoadEeprom};
+ghost use Rattle.command_line.specs.declared.request.BytesRequest.TheVariants.{Dis, LoadEeprom};
 ghost use Rattle.command_line.specs.declared.request.Request.TheVariants.{Bytes, Text};
-ghost use Rattle.command_line.specs.declared.request.TextRequest.TheVariants.{Eeprom, Hash, Run};
+ghost use Rattle.command_line.specs.declared.request.TextRequest.TheVariants.{Asm, Eeprom, Hash, Run};
 
 /// `nicbench run` asks for no virtual function, for 64 frames and for 100,000 instructions at most.
 pub fn run_alone()
@@ -22,6 +22,12 @@ pub fn run_with_options()
 /// `nicbench hash` asks for hashes.
 pub fn hash_alone()
     ensures { Asks (codes "nicbench" ∷ codes "hash" ∷ []) (Text Hash) }
+{}
+
+/// `nicbench asm` asks for an object, `nicbench dis` for a script.
+pub fn objects_either_way()
+    ensures object { Asks (codes "nicbench" ∷ codes "asm" ∷ []) (Text Asm) }
+    ensures script { Asks (codes "nicbench" ∷ codes "dis" ∷ []) (Bytes Dis) }
 {}
 
 /// `nicbench eeprom` asks for an image, and with `--load` for what an image writes.

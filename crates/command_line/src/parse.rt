@@ -52,6 +52,10 @@ fn request_named(name: &str, matches: &ArgMatches<'_>) -> Option<Request>
         Some(Request::Text(TextRequest::Run(options_in(matches))))
     } else if name == "hash" {
         Some(Request::Text(TextRequest::Hash))
+    } else if name == "asm" {
+        Some(Request::Text(TextRequest::Asm))
+    } else if name == "dis" {
+        Some(Request::Bytes(BytesRequest::Dis))
     } else if name == "eeprom" {
         Some(eeprom_in(matches))
     } else {

@@ -17,6 +17,8 @@ pub enum TextRequest {
     Run(RunOptions),
     /// `nicbench hash`: that lines of hex be hashed.
     Hash,
+    /// `nicbench asm`: that a script be made an object.
+    Asm,
     /// `nicbench eeprom`: that an EEPROM text be made an image.
     Eeprom,
 }
@@ -24,6 +26,8 @@ pub enum TextRequest {
 /// What is made of bytes.
 #[derive(Clone, Copy, Debug, PartialEq, Eq)]
 pub enum BytesRequest {
+    /// `nicbench dis`: that an object be shown as a script.
+    Dis,
     /// `nicbench eeprom --load`: that the register writes of an EEPROM image be shown.
     LoadEeprom,
 }

@@ -25,7 +25,7 @@ use std::fmt::Write;
 use std::{fs, io};
 
 /// The tables.
-const TABLES: [&str; 18] = [
+const TABLES: [&str; 19] = [
     "grammar",
     "words",
     "registers",
@@ -44,6 +44,7 @@ const TABLES: [&str; 18] = [
     "jumps",
     "hash",
     "eeprom",
+    "objects",
 ];
 
 /// What a case is to end with.

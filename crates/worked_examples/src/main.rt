@@ -3,7 +3,8 @@
 //! `examples/NAME.nic` is a script, and `examples/NAME.out` what `nicbench run` prints for it; `examples/NAME.debug` a script with a
 //! session of the debugger, and `NAME.out` what `nicbench debug` prints. `examples/NAME.eeprom` is an
 //! EEPROM text, `NAME.hex` the bytes of the image that `nicbench eeprom` makes of it, in hex, and `NAME.out` what
-//! `nicbench eeprom --load` prints for those bytes.
+//! `nicbench eeprom --load` prints for those bytes. `examples/NAME.object` is the object of `NAME.nic`, in hex, and
+//! `NAME.dis` what `nicbench dis` prints for it.
 #![tactic(auto)]
 
 use bench::{Input, Outcome, Output, bench};
@@ -33,6 +34,9 @@ const SCRIPTS: [(&str, u8); 9] = [
 
 /// The EEPROM texts.
 const IMAGES: [&str; 1] = ["image"];
+
+/// The scripts whose objects stand beside them.
+const OBJECTS: [&str; 1] = ["first"];
 
 /// What the program writes for an input, and the status that it ends with.
 fn answer(alloc: Global, words: &[&str], input: &[u8]) -> (Vec<u8>, u8) {
@@ -71,17 +75,42 @@ fn bytes_of(alloc: Global, lines: &str) -> Result<Vec<u8>, AllocError> {
     Ok(hex_bytes(alloc, digits.as_str()).unwrap_or(Vec::new(alloc)))
 }
 
+/// Whether a text is made these bytes by a command, and the bytes this print by another.
+fn are_two_forms(
+    alloc: Global,
+    (text, hex, printed): (&str, &str, &str),
+    make: &[&str],
+    show: &[&str],
+) -> Result<bool, AllocError> {
+    let bytes = bytes_of(alloc, hex)?;
+    let (made, make_status) = answer(alloc, make, text.as_bytes());
+    let (shown, show_status) = answer(alloc, show, bytes.as_slice());
+    let is_made = make_status == 0 && made.as_slice() == bytes.as_slice();
+    Ok(is_made && show_status == 0 && shown.as_slice() == printed.as_bytes())
+}
+
 /// Whether an EEPROM text is made the image that stands beside it, and that image has these register writes.
 fn is_the_image(rt: &HostRuntime, name: &str) -> io::Result<bool> {
-    let alloc = rt.alloc();
     let text = example(rt, name, "eeprom")?;
-    let image = bytes_of(alloc, example(rt, name, "hex")?.as_str())?;
+    let hex = example(rt, name, "hex")?;
     let printed = example(rt, name, "out")?;
-    let (made, status) = answer(alloc, &["nicbench", "eeprom"], text.as_bytes());
+    let forms = (text.as_str(), hex.as_str(), printed.as_str());
     let load = ["nicbench", "eeprom", "--load"];
-    let (shown, load_status) = answer(alloc, &load, image.as_slice());
-    let is_made = status == 0 && made.as_slice() == image.as_slice();
-    Ok(is_made && load_status == 0 && shown.as_slice() == printed.as_bytes())
+    Ok(are_two_forms(rt.alloc(), forms, &["nicbench", "eeprom"], &load)?)
+}
+
+/// Whether a script is made the object that stands beside it, and that object shown as this script.
+fn is_the_object(rt: &HostRuntime, name: &str) -> io::Result<bool> {
+    let text = example(rt, name, "nic")?;
+    let hex = example(rt, name, "object")?;
+    let printed = example(rt, name, "dis")?;
+    let forms = (text.as_str(), hex.as_str(), printed.as_str());
+    Ok(are_two_forms(
+        rt.alloc(),
+        forms,
+        &["nicbench", "asm"],
+        &["nicbench", "dis"],
+    )?)
 }
 
 /// Says whether an example is as it should be.
@@ -100,6 +129,9 @@ fn main(rt: HostRuntime) -> io::Result<()> {
     say(&rt, "tail", is_debugged)?;
     for name in IMAGES {
         say(&rt, name, is_the_image(&rt, name)?)?;
+    }
+    for name in OBJECTS {
+        say(&rt, name, is_the_object(&rt, name)?)?;
     }
     Ok(())
 }

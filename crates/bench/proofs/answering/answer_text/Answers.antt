@@ -1,5 +1,5 @@
 use Rattle.std.proofs.Common.{refl}
-use Rattle.command_line.specs.declared.TextRequest.TheVariants.{Hash, Run}
+use Rattle.command_line.specs.declared.TextRequest.TheVariants.{Asm, Hash, Run}
 use Rattle.bench.specs.Ending.{IsTextAnswer}
 use Rattle.bench.proofs.Giving.{gives-right}
 use Rattle.bench.proofs.Requests.{given-to-text}
@@ -14,3 +14,8 @@ pub returns-in-Hash : goal.returns-in-Hash
 returns-in-Hash g c =
     given-to-text _ _ _ c.hash_lines.result c.args.request Hash c.args.text.now c.in-Hash.is
     (gives-right _ _ _ c.hash_lines.result _ (IsTextAnswer Hash c.args.text.now) refl (λ answer is. is) c.hash_lines.ensures)
+
+pub returns-in-Asm : goal.returns-in-Asm
+returns-in-Asm g c =
+    given-to-text _ _ _ c.write_object.result c.args.request Asm c.args.text.now c.in-Asm.is
+    (gives-right _ _ _ c.write_object.result _ (IsTextAnswer Asm c.args.text.now) refl (λ answer is. is) c.write_object.ensures)

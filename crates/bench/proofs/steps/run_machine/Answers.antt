@@ -1,4 +1,4 @@
-use Rattle.script_asm.specs.Machine.{machine_at}
+use Rattle.machine.specs.Machine.{machine_at}
 use Rattle.bench.specs.Run.{end_of}
 use Rattle.bench.proofs.Giving.{gives-behind}
 use Rattle.bench.proofs.steps.run_machine.Goals as goal

@@ -1,16 +1,13 @@
 -- Printed addresses of registers read back.
-use Rattle.std.proofs.Common.{◌≡◌, refl, ap, subst, ℕ, ◌^◌, ◌<◌, Bool, true, false, ◌&&◌, ◌==◌, nat_lt, List, [], ◌∷◌, ◌++◌, length, length-append, Option, Some, None, Result, Ok, Err, unwrap_or, arith, inl, inr}
+use Rattle.std.proofs.Common.{◌≡◌, refl, ap, subst, ℕ, ◌^◌, ◌<◌, true, false, ◌==◌, List, [], ◌∷◌, ◌++◌, length, Option, Some, None, Result, Ok, Err, unwrap_or, arith, inl, inr}
 use Rattle.std.specs.Prelude.{decimal}
-use Rattle.std.specs.List.{list_all, position_or_len, before_first, after_first}
 use Rattle.std.specs.Option.{ok_or}
-use Rattle.std.proofs.Math.Seq.{take-append_seam, drop-append-add}
-use Rattle.std.proofs.lemmas.Bool.{and_parts, lt-ltb, le-ltb, ltb-true}
+use Rattle.std.proofs.lemmas.Bool.{lt-ltb}
 use Rattle.std.proofs.lemmas.Bool.Decides.{eqb_tells, nat_tests}
 use Rattle.lexer.specs.Name.{is_name}
 use Rattle.printed.specs.Word.{word_text}
 use Rattle.reg_table.specs.declared.place.Place.{Place}
 use Rattle.reg_table.specs.declared.rows.RowId.{RowId}
-use Rattle.reg_table.specs.declared.rows.RowId.TheVariants.{Ctrl}
 use Rattle.reg_table.specs.Place.{place_among, address_among}
 use Rattle.reg_table.specs.Rows.{row_of}
 use Rattle.reg_table.specs.Runs.{runs}
@@ -19,66 +16,13 @@ use Rattle.reg_table.proofs.InRange.{named_in_range}
 use Rattle.reg_table.proofs.Naming.{found_by_name}
 use Rattle.script_asm.specs.Fault.{number_fault}
 use Rattle.script_asm.specs.Printing.{place_text, if_first_at, place_first_at, target_text}
-use Rattle.script_asm.specs.Target.{number_in, row_in, register_address, address_in, has_byte, target_of}
+use Rattle.script_asm.specs.Target.{number_in, row_in, register_address, address_in, target_of}
 use Rattle.script_asm.specs.declared.faults.LineFault.{LineFault}
 use Rattle.script_asm.specs.declared.faults.LineFault.TheVariants.{UnknownName}
 use Rattle.script_asm.proofs.Endings.{before_last_byte-ended}
 use Rattle.script_asm.proofs.Numerals.{is_tame, tame-word, IsWord-word, number_of-word, number_of-decimal, plain-decimal}
 use Rattle.script_asm.proofs.Plain.{IsWord, is_plain, list_all-weaker, both_all}
-
--- a row's name is a name, printed without brackets, and its registers are few
-good_row : RowId → Bool
-good_row r = is_name (row_of r).name && (list_all is_tame (row_of r).name && nat_lt (row_of r).count 65536)
-
-row-good : (r : RowId) → good_row r ≡ true
-unfolding good_row is_name
-row-good Ctrl = refl
-row-good other = refl
-
-record IsGood (r : RowId) : Type 0 where
-  name : is_name (row_of r).name ≡ true
-  tame : list_all is_tame (row_of r).name ≡ true
-  few : (row_of r).count < 65536
-
-row-IsGood : (r : RowId) → IsGood r
-unfolding good_row
-row-IsGood r =
-    let first = and_parts (is_name (row_of r).name) (list_all is_tame (row_of r).name && nat_lt (row_of r).count 65536) (row-good r) in
-    let second = and_parts (list_all is_tame (row_of r).name) (nat_lt (row_of r).count 65536) first.1 in
-    record { name = first.0; tame = second.0; few = ltb-true (row_of r).count 65536 second.1 }
-
-tame_none : (b : ℕ) → is_tame b ≡ true → (b == 91) ≡ false
-tame_none b e = grind (arith, nat_tests)
-
-tame_plain : (b : ℕ) → is_tame b ≡ true → is_plain b ≡ true
-tame_plain b e = grind (arith, nat_tests)
-
--- where the first bracket stands
-past_tame : (xs : List ℕ) → list_all is_tame xs ≡ true → position_or_len (λ b. b == 91) xs ≡ length xs
-past_tame [] e = refl
-past_tame (c ∷ cs) e =
-    let parts = and_parts (is_tame c) (list_all is_tame cs) e in
-    let rest = past_tame cs parts.1 in
-    rw (tame_none c parts.0) (omega (arith, rest))
-
-at_bracket : (xs ys : List ℕ) → list_all is_tame xs ≡ true → position_or_len (λ b. b == 91) (xs ++ 91 ∷ ys) ≡ length xs
-at_bracket [] ys e = refl
-at_bracket (c ∷ cs) ys e =
-    let parts = and_parts (is_tame c) (list_all is_tame cs) e in
-    let rest = at_bracket cs ys parts.1 in
-    rw (tame_none c parts.0) (omega (arith, rest))
-
-no_bracket : (xs : List ℕ) → list_all is_tame xs ≡ true → has_byte 91 xs ≡ false
-no_bracket xs e = rw (past_tame xs e) (le-ltb (length xs) (length xs) (omega arith))
-
-bracket : (xs ys : List ℕ) → list_all is_tame xs ≡ true → has_byte 91 (xs ++ 91 ∷ ys) ≡ true
-bracket xs ys e = rw (at_bracket xs ys e) (lt-ltb (length xs) (length (xs ++ 91 ∷ ys)) (omega (arith, length-append xs (91 ∷ ys))))
-
-before_bracket : (xs ys : List ℕ) → list_all is_tame xs ≡ true → before_first (λ b. b == 91) (xs ++ 91 ∷ ys) ≡ xs
-before_bracket xs ys e = rw (at_bracket xs ys e) (take-append_seam xs (91 ∷ ys))
-
-after_bracket : (xs ys : List ℕ) → list_all is_tame xs ≡ true → after_first (λ b. b == 91) (xs ++ 91 ∷ ys) ≡ ys
-after_bracket xs ys e = rw (at_bracket xs ys e) (drop-append-add xs (91 ∷ ys) 1)
+use Rattle.script_asm.proofs.RowNames.{row-IsGood, tame_plain, no_bracket, bracket, before_bracket, after_bracket}
 
 row_in-name : (r : RowId) → row_in (row_of r).name ≡ Ok r
 row_in-name r = ap (λ o. ok_or o UnknownName) (found_by_name r (row_of r).name refl)

@@ -15,9 +15,11 @@ pub mod Meaning
 pub mod Written
 pub mod Plain
 pub mod Numerals
+pub mod RowNames
 pub mod Addresses
 pub mod Spelling
 pub mod Reading
 pub mod Texts
+pub mod Fitting
 pub mod Placed
 pub mod RoundTrip

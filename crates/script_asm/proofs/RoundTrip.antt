@@ -10,7 +10,8 @@ use Rattle.script_asm.specs.Disassembly.{jumps_to, is_target, code_lines, text_o
 use Rattle.script_asm.specs.Laws.{label_from, data_from, Means, Mean, IsSaid}
 use Rattle.script_asm.specs.ReadBack.{HasWidths, TextsReadBack}
 use Rattle.script_asm.proofs.Meaning.{program_is_what_lines_say}
-use Rattle.script_asm.proofs.Placed.{statements_of, Fit-statements, strings_in-statements, drafts_in-statements, data_number, label_place}
+use Rattle.script_asm.proofs.Fitting.{statements_of, Fit-statements}
+use Rattle.script_asm.proofs.Placed.{strings_in-statements, drafts_in-statements, data_number, label_place}
 use Rattle.script_asm.proofs.Spelling.{named}
 use Rattle.script_asm.proofs.Texts.{Reads, code_statements, reads-data, reads-code, reading_of-numbered}
 

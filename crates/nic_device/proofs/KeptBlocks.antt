@@ -39,7 +39,7 @@ none_lent_switched Tx queue number = refl
 none_lent : (s : State) (e : Event Block) (reply : Reply Block) (number : ℕ) → moves_block e ≡ false
     → (reach_by s e reply).lent number ≡ false
 none_lent s (event.Read port n) reply number none = none_lent_read (named s port n) number
-none_lent s (event.Write port n word) reply number none = 
+none_lent s (event.Write port n word) reply number none =
     none_lent_written (mode_in s.registers) (named s port n) word number
 none_lent s (event.Lend block) reply number none = cc
 none_lent s (event.Take taken) reply number none = cc

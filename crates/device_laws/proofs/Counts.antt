@@ -115,7 +115,7 @@ unfolding step_of
 events_count s h (event.Read port n) p is keeps =
     (stays_within s (event.Read port n)).registers.words p (read_misses (named s port n) p is keeps)
 events_count s h (event.Write port n word) p is keeps =
-    (stays_within s (event.Write port n word)).registers.words p 
+    (stays_within s (event.Write port n word)).registers.words p
     (write_misses (mode_in s.registers) (named s port n) word p is keeps)
 events_count s h (event.Arrive frame) p is keeps = arrived_counts s frame h p is
 events_count s h event.RxStep p is keeps = received_counts s h p is

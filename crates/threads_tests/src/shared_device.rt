@@ -1,5 +1,5 @@
-use crate::outcome::{done, some};
-use device_lock::{CallFault, CloseFault, Pass, Shared};
+use crate::outcome::{done, refused, some};
+use device_lock::{CallFault, CloseFault, CloseRefused, Pass, Shared};
 use nic_device::{Device, Event, Parts, Port, Reply};
 use std::alloc::Global;
 use std::process::Abort;
@@ -29,14 +29,33 @@ fn write_and_read<R: Abort + Wait>(rt: &R, alloc: Global, bench: &Bench, pass: &
     let address = own_word(pass.tag());
     for turn in 0..5u32 {
         let word = 100 * turn + u32::from(pass.tag());
-        match bench.call(rt, alloc, pass, Event::Write(Port::Pf, address, word)) {
-            Ok(Reply::Done) => {}
+        match done(
+            rt,
+            bench.call(rt, alloc, pass, Event::Write(Port::Pf, address, word)),
+        ) {
+            Reply::Done => {}
             _other => panic!(rt; "the write"),
         }
-        match bench.call(rt, alloc, pass, Event::Read(Port::Pf, address)) {
-            Ok(Reply::Word(read)) => assert_eq!(rt; read, word),
+        match done(
+            rt,
+            bench.call(rt, alloc, pass, Event::Read(Port::Pf, address)),
+        ) {
+            Reply::Word(read) => assert_eq!(rt; read, word),
             _other => panic!(rt; "the read"),
         }
+    }
+}
+
+/// What a call for a step of receiving was refused for: 1 a foreign pass, 2 a full history, 3 no memory.
+fn number_of(rt: &impl Abort, fault: CallFault) -> u8 {
+    let (number, event) = match fault {
+        CallFault::ForeignPass(event) => (1, event),
+        CallFault::HistoryFull(event) => (2, event),
+        CallFault::OutOfMemory(event) => (3, event),
+    };
+    match event {
+        Event::RxStep => number,
+        _other => panic!(rt; "another event came back"),
     }
 }
 
@@ -71,15 +90,14 @@ fn a_withheld_pass_is_missing(rt: HostRuntime) {
     let alloc = rt.alloc();
     let (bench, mut passes) = opened(&rt, alloc, 1, 2, 100);
     let withheld = some(&rt, passes.pop());
-    match bench.close(passes) {
-        Ok(_closed) => panic!(&rt; "closed"),
-        Err(refused) => {
-            assert!(rt; refused.fault == CloseFault::MissingPass(1));
-            let mut passes = refused.passes;
-            passes.push(withheld).expect(&rt, "memory");
-            end(&rt, done(&rt, refused.shared.close(passes)).into_device());
-        }
-    }
+    let CloseRefused {
+        fault,
+        shared,
+        mut passes,
+    } = refused(&rt, bench.close(passes));
+    assert!(rt; fault == CloseFault::MissingPass(1));
+    passes.push(withheld).expect(&rt, "memory");
+    end(&rt, done(&rt, shared.close(passes)).into_device());
 }
 
 #[test]
@@ -87,16 +105,11 @@ fn a_pass_of_another_bench_is_foreign(rt: HostRuntime) {
     let alloc = rt.alloc();
     let (bench, passes) = opened(&rt, alloc, 1, 2, 100);
     let (other, mut others) = opened(&rt, alloc, 2, 2, 100);
-    match bench.call(
-        &rt,
-        alloc,
-        &mut others[0],
-        Event::Read(Port::Pf, own_word(0)),
-    ) {
-        Err(CallFault::ForeignPass(Event::Read(Port::Pf, 0x00820))) => {}
-        _answer => panic!(&rt; "the pass of bench 2"),
-    }
+    let mut foreign = some(&rt, others.pop());
+    let fault = refused(&rt, bench.call(&rt, alloc, &mut foreign, Event::RxStep));
+    assert_eq!(rt; number_of(&rt, fault), 1);
     end(&rt, done(&rt, bench.close(passes)).into_device());
+    others.push(foreign).expect(&rt, "memory");
     end(&rt, done(&rt, other.close(others)).into_device());
 }
 
@@ -104,16 +117,16 @@ fn a_pass_of_another_bench_is_foreign(rt: HostRuntime) {
 fn a_full_history_takes_no_call(rt: HostRuntime) {
     let alloc = rt.alloc();
     let (bench, mut passes) = opened(&rt, alloc, 1, 1, 3);
+    let mut pass = some(&rt, passes.pop());
     for _call in 0..3u32 {
-        match bench.call(&rt, alloc, &mut passes[0], Event::RxStep) {
-            Ok(Reply::Idle) => {}
-            _answer => panic!(&rt; "one of three calls"),
+        match done(&rt, bench.call(&rt, alloc, &mut pass, Event::RxStep)) {
+            Reply::Idle => {}
+            _other => panic!(rt; "one of three calls"),
         }
     }
-    match bench.call(&rt, alloc, &mut passes[0], Event::RxStep) {
-        Err(CallFault::HistoryFull(Event::RxStep)) => {}
-        _answer => panic!(&rt; "the fourth call"),
-    }
+    let fault = refused(&rt, bench.call(&rt, alloc, &mut pass, Event::RxStep));
+    assert_eq!(rt; number_of(&rt, fault), 2);
+    passes.push(pass).expect(&rt, "memory");
     let closed = done(&rt, bench.close(passes));
     assert_eq!(rt; closed.history().len(), 3);
     end(&rt, closed.into_device());

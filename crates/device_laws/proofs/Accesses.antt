@@ -86,5 +86,7 @@ pub stray_changes_nothing : (s : State) (a word : ℕ) → ((p : Place) → Name
     → (step_of s (event.Read Pf a) ≡ gives (Stray 0) s) × (step_of s (event.Write Pf a word) ≡ gives (Stray 0) s)
 unfolding step_of
 stray_changes_nothing s a word none =
-    let nothing = found_or_none (place_among runs a) (λ p e. none p ((found-named a p).0 e)) in
-    (ap (λ o. named_read s (at_place o (view_among runs a))) nothing, ap (λ o. named_written s (at_place o (view_among runs a)) word) nothing)
+    let nothing = found_or_none (place_among runs a) (λ p e. none p ((found-named a p).0 e)) in (
+      ap (λ o. named_read s (at_place o (view_among runs a))) nothing,
+      ap (λ o. named_written s (at_place o (view_among runs a)) word) nothing,
+    )

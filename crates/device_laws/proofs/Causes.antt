@@ -118,7 +118,8 @@ piece_raises s queue f h g =
         → interrupts_of (raised_by (frame_counted (with_head s.registers Rx queue f.head) s.vfs queue) s.vfs Rx queue) g
         ≡ after_causes (Some (queue_cause s Rx queue)) g (interrupts_of s.registers g)
         → interrupts_of (with_head s.registers Rx queue f.head) g ≡ interrupts_of s.registers g
-        → interrupts_of (cond b (raised_by (frame_counted (with_head s.registers Rx queue f.head) s.vfs queue) s.vfs Rx queue)
+        → interrupts_of (cond b
+        (raised_by (frame_counted (with_head s.registers Rx queue f.head) s.vfs queue) s.vfs Rx queue)
         (with_head s.registers Rx queue f.head)) g
         ≡ after_causes (cond b (Some (queue_cause s Rx queue)) None) g (interrupts_of s.registers g)
     ends true p q = p

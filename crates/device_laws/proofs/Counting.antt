@@ -120,7 +120,8 @@ piece_counts r vfs queue f h p is =
     either_end f.end (λ b t. word_at t.words p ≡ with_one (b && is_place there p) old)
     (raised_by (frame_counted moved vfs queue) vfs Rx queue) moved
     (raised_keeps (frame_counted moved vfs queue) _ _ p is
-    ∙ function_keeps (counted moved Qprc (counter_of moved Rx queue)) (function_of_queue moved vfs queue) Vfgprc refl p is
+    ∙ function_keeps (counted moved Qprc (counter_of moved Rx queue)) (function_of_queue moved vfs queue) Vfgprc refl p
+    is
     ∙ counted_there moved Qprc (counter_of moved Rx queue) (HasShape-put r (place Rdh queue) f.head h) (omega arith) p
     ∙ (λ k. with_one (is_place (place Qprc (same_counter r Rx queue f.head k)) p)
     (head_keeps r Rx queue f.head p is k)))

@@ -79,7 +79,8 @@ any_pending-misses_side dir queue = record {
 pub counts-miss_side : (dir : Dir) (queue : ℕ) → Misses counts_and_causes (of_side dir queue)
 counts-miss_side dir queue =
     misses-either (either counters function_counts) any_pending (of_side dir queue)
-    (misses-either counters function_counts (of_side dir queue) (misses-owner owner.Counters (owner.Side dir queue) refl)
+    (misses-either counters function_counts (of_side dir queue)
+    (misses-owner owner.Counters (owner.Side dir queue) refl)
     (function_counts-miss_side dir queue))
     (any_pending-misses_side dir queue)
 

@@ -55,7 +55,8 @@ mode_word word = mode_of word
 agree_after : (v : ℕ) (a b c d : State) → AgreeOnPool v a b → ChangesPoolAlone v a c → ChangesPoolAlone v b d
     → PartsAgree (mode_in a.registers) v c d → AgreeOnPool v c d
 agree_after v a b c d h first second parts =
-    let mode : mode_in c.registers ≡ mode_in a.registers = ap mode_of (first.registers.words (place row.GcrExt 0) refl) in
+    let mode : mode_in c.registers ≡ mode_in a.registers =
+    ap mode_of (first.registers.words (place row.GcrExt 0) refl) in
     let now : PartsAgree (mode_in c.registers) v c d = subst (λ m. PartsAgree m v c d) (sym mode) parts in
     record {
       vfs = first.vfs ∙ h.vfs ∙ sym second.vfs;
@@ -88,7 +89,8 @@ no_eec mode v p (own is) e =
     let none : is_of_pool mode v p ≡ false = ap (λ r. is_of_pool_by (row_of r).bank mode v p.index) e in cc
 no_eec mode v p (shared is) e = shared_rows (λ r. r ≢ row.Eec) (λ e. cc) (λ e. cc) p is e
 
-same_at : (v : ℕ) (a b : State) → AgreeOnPool v a b → (n : Surroundings) (p : Place) → IsReached (mode_in a.registers) v p
+same_at : (v : ℕ) (a b : State) → AgreeOnPool v a b → (n : Surroundings) (p : Place)
+    → IsReached (mode_in a.registers) v p
     → told_at a.registers n p ≡ told_at b.registers n p
 same_at v a b h n p (own is) = same_told (mode_in a.registers) v a.registers b.registers h.registers n p is
 same_at v a b h n p (shared is) = same_shared a.registers b.registers h.steps n p is
@@ -105,7 +107,8 @@ read_registers : (v : ℕ) (a b : State) → IsSound a → IsSound b → AgreeOn
     → IsReached (mode_in a.registers) v p
     → AgreeWithin (of_pool (mode_in a.registers) v) (state_read a p).registers (state_read b p).registers
 read_registers v a b good sound h p (own is) =
-    agree-read (mode_in a.registers) v a.registers b.registers good.registers.shape sound.registers.shape h.registers p is
+    agree-read (mode_in a.registers) v a.registers b.registers good.registers.shape sound.registers.shape h.registers p
+    is
 read_registers v a b good sound h p (shared is) =
     let f = of_pool (mode_in a.registers) v in
     subst (λ r. AgreeWithin f r (state_read b p).registers) (sym (shared-read a.registers p is))
@@ -141,7 +144,8 @@ write_registers v a b good sound h p view word (own is) =
     is view word
 write_registers v a b good sound h p view word (shared is) =
     let f = of_pool (mode_in a.registers) v in
-    subst (λ r. AgreeWithin f r (word_written b.registers p view word)) (sym (shared-written a.registers p view word is))
+    subst (λ r. AgreeWithin f r (word_written b.registers p view word))
+    (sym (shared-written a.registers p view word is))
     (subst (λ r. AgreeWithin f a.registers r) (sym (shared-written b.registers p view word is)) h.registers)
 
 same_mode : (v : ℕ) (a b : State) → AgreeOnPool v a b → mode_in a.registers ≡ mode_in b.registers
@@ -152,7 +156,8 @@ reset_parts : (v : ℕ) (a b : State) → IsSound a → IsSound b → (mode : Mo
 reset_parts v a b good sound mode first second = record {
   registers = subst (λ m. AgreeWithin (of_pool mode v) (pool_reset m v a.registers) (with_pool_reset b v).registers)
       (sym first)
-      (subst (λ m. AgreeWithin (of_pool mode v) (pool_reset mode v a.registers) (pool_reset m v b.registers)) (sym second)
+      (subst (λ m. AgreeWithin (of_pool mode v) (pool_reset mode v a.registers) (pool_reset m v b.registers))
+      (sym second)
       (agree-reset mode v a.registers b.registers good.registers.shape sound.registers.shape));
   staged = λ queue has. none_left a first queue has ∙ sym (none_left b second queue has);
   waiting = none_waiting a first ∙ sym (none_waiting b second);

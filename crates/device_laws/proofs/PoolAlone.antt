@@ -35,7 +35,8 @@ pub data IsReached (mode : Mode) (v : ℕ) (p : Place) : Type 0 where
   own : is_of_pool mode v p ≡ true → IsReached mode v p
   shared : is_shared p ≡ true → IsReached mode v p
 
-pub reached : (mode : Mode) (vfs v o : ℕ) (p : Place) → located mode vfs v o ≡ located_as.Register p → IsReached mode v p
+pub reached : (mode : Mode) (vfs v o : ℕ) (p : Place) → located mode vfs v o ≡ located_as.Register p
+    → IsReached mode v p
 reached mode vfs v o p e =
     elim (located_owner mode vfs v o p e) [
       | inl is ↦ own is

@@ -34,7 +34,8 @@ none_kept p (w ∷ ws) =
     let q : Waiting → Bool = λ w. not (p w) in
     elim (cases_Bool (p w)) as (λ _. filter p (filter (λ w. not (p w)) (w ∷ ws)) ≡ []) [
       | inl t ↦
-          ap (filter p) (cond-false (not (p w)) (w ∷ filter q ws) (filter q ws) (not_from_true (p w) t)) ∙ none_kept p ws
+          ap (filter p) (cond-false (not (p w)) (w ∷ filter q ws) (filter q ws) (not_from_true (p w) t))
+          ∙ none_kept p ws
       | inr f ↦
           ap (filter p) (cond-true (not (p w)) (w ∷ filter q ws) (filter q ws) (not_from_false (p w) f))
           ∙ cond-false (p w) (w ∷ filter p (filter q ws)) (filter p (filter q ws)) f ∙ none_kept p ws

@@ -19,7 +19,8 @@ use Rattle.device_laws.proofs.PoolAlone.{alone_reset}
 use Rattle.device_laws.proofs.PoolParts.{none_staged_of}
 
 -- PVFCTRL asks for no reset of the device
-pool_only : (r : RowId) (word : ℕ) → asks_pool_reset (row_of r).kind word ≡ true → asks_reset (row_of r).kind word ≡ false
+pool_only : (r : RowId) (word : ℕ) → asks_pool_reset (row_of r).kind word ≡ true
+    → asks_reset (row_of r).kind word ≡ false
 pool_only row.Pvfctrl word e = refl
 pool_only other word e = cc
 

@@ -26,8 +26,8 @@ use Rattle.nic_device.specs.declared.named.Named.TheVariants.{Register}
 abbrev pub waiting_of : Mode → ℕ → List Waiting → List Waiting
 waiting_of mode v waiting = filter (λ w. has_queue mode v w.queue) waiting
 
--- all but what is the pool's is as it was: words, wanted enables and told bits, staged bytes, and of the frames that wait
--- those of other queues, in their order; and memory, frames out, link, image and configuration
+-- all but what is the pool's is as it was: words, wanted enables and told bits, staged bytes, and of the frames that
+-- wait those of other queues, in their order; and memory, frames out, link, image and configuration
 pub record ChangesPoolAlone (v : ℕ) (old new : State) : Type 0 where
   pub registers : ChangesWithin (of_pool (mode_in old.registers) v) old.registers new.registers
   pub staged : (queue : ℕ) → IsFalse (has_queue (mode_in old.registers) v queue)
@@ -64,7 +64,8 @@ pub record AgreeOnPool (v : ℕ) (a b : State) : Type 0 where
 pub record AccessesAgree (v : ℕ) (a b : State) (offset : ℕ) : Type 0 where
   pub read_reply : reply_to a (event.Read (Vf v) offset) ≡ reply_to b (event.Read (Vf v) offset)
   pub read : AgreeOnPool v (after a (event.Read (Vf v) offset)) (after b (event.Read (Vf v) offset))
-  pub write_reply : (word : ℕ) → reply_to a (event.Write (Vf v) offset word) ≡ reply_to b (event.Write (Vf v) offset word)
+  pub write_reply : (word : ℕ)
+      → reply_to a (event.Write (Vf v) offset word) ≡ reply_to b (event.Write (Vf v) offset word)
   pub write : (word : ℕ) → AgreeOnPool v (after a (event.Write (Vf v) offset word))
       (after b (event.Write (Vf v) offset word))
 

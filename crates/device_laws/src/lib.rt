@@ -223,25 +223,25 @@ pub fn stopped_device_is_idle()
     ensures { StoppedDeviceIsIdle }
 {}
 
-/// An access of a virtual function is the physical function's access at the address that its offset stands for: with one
-/// reply, and one state after it. A read of a hole sees 0, a read of a function that isn't there or has no pool all
+/// An access of a virtual function is the physical function's access at the address that its offset stands for: with
+/// one reply, and one state after it. A read of a hole sees 0, a read of a function that isn't there or has no pool all
 /// ones; a write of either is stray, and neither changes anything.
 pub fn vf_access_is_the_physical_functions()
     ensures access { AccessIsThePhysicalFunctions }
     ensures nothing { HolesAndAbsentFunctionsMeetNothing }
 {}
 
-/// An access of a virtual function changes nothing but what is its pool's: words, wanted enables, told bits, staged bytes
-/// and waiting frames of its own queues; the frames of other pools keep their order. Two devices that agree there, in the
-/// number of functions, in GCR_EXT, in CTRL bit 2 and in the link give one reply to it, and agree there again.
+/// An access of a virtual function changes nothing but what is its pool's: words, wanted enables, told bits, staged
+/// bytes and waiting frames of its own queues; the frames of other pools keep their order. Two devices that agree
+/// there, in the number of functions, in GCR_EXT, in CTRL bit 2 and in the link give one reply to it, and agree there again.
 pub fn vf_stays_in_its_pool()
     ensures changes { VfChangesItsPoolAlone }
     ensures agrees { VfSeesItsPoolAlone }
 {}
 
 /// A write of PVFCTRL with bit 26, by whichever port, leaves all that is its pool's as a reset does: its words, wanted
-/// enables and told bits; its queues have no staged bytes, and of the frames that wait those of other queues are left, in
-/// their order. All else is as it was.
+/// enables and told bits; its queues have no staged bytes, and of the frames that wait those of other queues are left,
+/// in their order. All else is as it was.
 pub fn asked_pool_reset_resets()
     ensures { AskedPoolResetResets }
 {}

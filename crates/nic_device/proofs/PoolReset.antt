@@ -52,12 +52,15 @@ filter-shorter p (w ∷ ws) =
 
 -- staged bytes that are dropped
 
-AreStaged-unstaged : (staged : List (List ℕ)) (first count : ℕ) → AreStaged staged → AreStaged (unstaged staged first count)
+AreStaged-unstaged : (staged : List (List ℕ)) (first count : ℕ) → AreStaged staged
+    → AreStaged (unstaged staged first count)
 AreStaged-unstaged staged first zero h = h
 AreStaged-unstaged staged first (suc count) h =
-    AreStaged-set (unstaged staged first count) (first + count) [] (AreStaged-unstaged staged first count h) (omega arith)
+    AreStaged-set (unstaged staged first count) (first + count) [] (AreStaged-unstaged staged first count h)
+    (omega arith)
 
-pub AreStaged-pool : (staged : List (List ℕ)) (o : Option (ℕ × ℕ)) → AreStaged staged → AreStaged (pool_unstaged staged o)
+pub AreStaged-pool : (staged : List (List ℕ)) (o : Option (ℕ × ℕ)) → AreStaged staged
+    → AreStaged (pool_unstaged staged o)
 AreStaged-pool staged None h = h
 AreStaged-pool staged (Some queues) h = AreStaged-unstaged staged queues.0 queues.1 h
 

@@ -85,8 +85,8 @@ is_muted_pool r (Some pool) = not (is_pool_on r Tx pool)
 unfoldable pub is_muted : Registers → ℕ → Bool
 is_muted r queue = uses_pools r && is_muted_pool r (pool_of (mode_in r) queue)
 
--- a queue sends nothing while the device makes no steps, the link is down, sending is off, the queue is off, its pool is
--- muted, or no slot is the device's
+-- a queue sends nothing while the device makes no steps, the link is down, sending is off, the queue is off, its pool
+-- is muted, or no slot is the device's
 abbrev pub is_silent : State → ℕ → TransmitQueue → Bool
 is_silent s queue q =
     is_stopped s.registers || not s.link || not (can_transmit s.registers) || not q.on || is_muted s.registers queue

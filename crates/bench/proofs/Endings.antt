@@ -7,8 +7,8 @@ use Rattle.bench.specs.Answer.{Answer, Writes, no_memory, refused_as}
 use Rattle.bench.specs.Ending.{AnswersRequest, EndsAs, EndsSaying, EndsWords, IsAnswerTo, StopsForMemory}
 use Rattle.bench.specs.declared.failure.Failure.{Failure}
 use Rattle.bench.specs.declared.failure.Failure.TheVariants.{OutOfMemory, Read, Write}
-use Rattle.bench.specs.declared.program.Outcome.{Outcome}
-use Rattle.bench.specs.declared.program.Outcome.TheVariants.{Ended}
+use Rattle.bench.specs.declared.ending.Outcome.{Outcome}
+use Rattle.bench.specs.declared.ending.Outcome.TheVariants.{Ended}
 use Rattle.bench.proofs.Appending.{Appends-both}
 
 module _ (old mid new : Option (List ℕ)) (has_failed : Bool) where

@@ -19,8 +19,8 @@ use Rattle.bench.specs.Refusal.{refusal_line}
 use Rattle.bench.specs.Run.{run_answer}
 use Rattle.bench.specs.declared.failure.Failure.{Failure}
 use Rattle.bench.specs.declared.failure.Failure.TheVariants.{OutOfMemory, Read, Write}
-use Rattle.bench.specs.declared.program.Outcome.{Outcome}
-use Rattle.bench.specs.declared.program.Outcome.TheVariants.{Ended}
+use Rattle.bench.specs.declared.ending.Outcome.{Outcome}
+use Rattle.bench.specs.declared.ending.Outcome.TheVariants.{Ended}
 
 -- the answer is what is asked for, of a text
 abbrev pub IsTextAnswer : TextRequest → List ℕ → Answer → Type 0

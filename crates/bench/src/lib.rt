@@ -8,12 +8,12 @@
 
 mod answering;
 mod eeprom;
+mod ending;
 mod failure;
 mod hashing;
 mod input;
 mod objects;
 mod output;
-mod program;
 mod reading;
 mod refusal;
 mod reply;
@@ -21,9 +21,9 @@ mod script_run;
 mod steps;
 
 pub use answering::answer;
+pub use ending::{Outcome, bench};
 pub use failure::Failure;
 pub use input::{Input, READS};
 pub use output::Output;
-pub use program::{Outcome, bench};
 pub use reading::{BYTES, InputFault, read_input};
 pub use refusal::Refusal;

@@ -13,10 +13,10 @@
 //! limit 2
 //! ```
 //!
-//! `$` gives the words, where they aren't `nicbench run`. Behind `#>`, which is a comment to the assembler, stands what an
-//! instruction prints, and behind `--` the status and what is printed after that; with no such line this is `ok`, with
-//! the number of instructions, and status 0. `-- 3 with` asks for no more than that each line below it is printed, and
-//! `-- 2 each` that each line above it, as a script of its own, prints what is below.
+//! `$` gives the words, where they aren't `nicbench run`. Behind `#>`, which is a comment to the assembler, stands what
+//! an instruction prints, and behind `--` the status and what is printed after that; with no such line this is `ok`,
+//! with the number of instructions, and status 0. `-- 3 with` asks for no more than that each line below it is printed,
+//! and `-- 2 each` that each line above it, as a script of its own, prints what is below.
 #![tactic(auto)]
 
 use bench::{Input, Outcome, Output, bench};

@@ -1,6 +1,6 @@
 use Rattle.std.proofs.Common.{ap, inl, ◌∙◌, Err}
 use Rattle.bench.proofs.Endings.{ended-given-up, ended-words}
-use Rattle.bench.proofs.program.bench.Goals as goal
+use Rattle.bench.proofs.ending.bench.Goals as goal
 
 pub returns-in-Ok-clause-asked : goal.returns-in-Ok-clause-asked
 returns-in-Ok-clause-asked g c = λ request asks. inl (c.in-Ok.ensures.asked request asks)

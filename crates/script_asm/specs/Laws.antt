@@ -1,10 +1,14 @@
 -- What the definitions come to, in the words of the script language.
-use Rattle.std.specs.Prelude.{◌≡◌, ◌↔◌, ◌⊎◌, ⊤, ℕ, ◌+◌, true, ◌<◌, ◌≤◌, List, [], ◌∷◌, ◌++◌, length, map, Option, Some, None, is_some, Result, Ok, Err, if◌then◌else◌}
+use Rattle.std.specs.Prelude.{◌≡◌, ◌↔◌, ◌⊎◌, ⊤, ℕ, ◌+◌, true, ◌<◌, ◌≤◌, List, [], ◌∷◌, ◌++◌, length, map, Option, Some}
+use Rattle.std.specs.Prelude.{None, is_some, Result, Ok, Err, if◌then◌else◌}
 use Rattle.std.specs.Str.{bytes_eq}
 use Rattle.lexer.specs.Lines.{NumberedLine, lines_of}
 use Rattle.lexer.specs.Words.{words_of}
 use Rattle.program.specs.declared.instruction.Instruction.{Instruction as Step}
-use Rattle.program.specs.declared.instruction.Instruction.TheVariants.{Write, Read, VfWrite, VfRead, Lend, Unlend, Poke, Peek, Arrive, RxStep, TxStep, IntStep, QueueStep, EepromStep, Link, Collect, Expect, And, JumpIfEqual, JumpUnlessEqual, Jump, Halt}
+use Rattle.program.specs.declared.instruction.Instruction.TheVariants.{Write, Read, VfWrite, VfRead, Lend, Unlend, Poke}
+use Rattle.program.specs.declared.instruction.Instruction.TheVariants.{Peek, Arrive, RxStep, TxStep, IntStep, QueueStep}
+use Rattle.program.specs.declared.instruction.Instruction.TheVariants.{EepromStep, Link, Collect, Expect, And}
+use Rattle.program.specs.declared.instruction.Instruction.TheVariants.{JumpIfEqual, JumpUnlessEqual, Jump, Halt}
 use Rattle.program.specs.Listing.{Listing, string_at}
 use Rattle.script_asm.specs.declared.faults.LineFault.{LineFault}
 use Rattle.script_asm.specs.declared.faults.LineFault.TheVariants as line
@@ -61,12 +65,14 @@ data_from first (Label label ∷ more) name = data_from first more name
 data_from first (Data other string ∷ more) name = if bytes_eq other name then Some first else data_from (first + 1) more name
 data_from first (Instruction draft ∷ more) name = data_from first more name
 
--- a statement fits behind others: a label or data has a new name, data isn't too long, and there are fewer than 1,024 other
+-- a statement fits behind others: a label or data has a new name, data isn't too long, and there are fewer than 1,024
+-- other
 -- strings, or 4,096 other instructions
 abbrev pub FitsBehind : List Statement → Statement → Type 0
 FitsBehind before Empty = ⊤
 FitsBehind before (Label name) = label_from 0 before name ≡ None
-FitsBehind before (Data name string) = (data_from 0 before name ≡ None) × (length string ≤ 16384) × (length (strings_in before) < 1024)
+FitsBehind before (Data name string) = (data_from 0 before name ≡ None) × (length string ≤ 16384)
+    × (length (strings_in before) < 1024)
 FitsBehind before (Instruction draft) = length (drafts_in before) < 4096
 
 -- statements fit, one behind the other
@@ -74,7 +80,8 @@ abbrev pub Fit : List Statement → List Statement → Type 0
 Fit before [] = ⊤
 Fit before (statement ∷ more) = FitsBehind before statement × Fit (before ++ statement ∷ []) more
 
--- what an instruction of a line is in the program: a label that it names is where it jumps, data that it names is there by
+-- what an instruction of a line is in the program: a label that it names is where it jumps, data that it names is
+-- there by
 -- its number, and what it pokes has 16 bytes
 abbrev pub Means : (List ℕ → Option ℕ) → (List ℕ → Option ℕ) → List (List ℕ) → Draft → Step ℕ ℕ → Type 0
 Means labels names strings (Write address word) i = i ≡ Write address word
@@ -97,7 +104,8 @@ Means labels names strings Collect i = i ≡ Collect
 Means labels names strings (Expect want mask) i = i ≡ Expect want mask
 Means labels names strings (And word) i = i ≡ And word
 Means labels names strings (JumpIfEqual word name) i = (pc : ℕ) × (i ≡ JumpIfEqual word pc) × (labels name ≡ Some pc)
-Means labels names strings (JumpUnlessEqual word name) i = (pc : ℕ) × (i ≡ JumpUnlessEqual word pc) × (labels name ≡ Some pc)
+Means labels names strings (JumpUnlessEqual word name) i = (pc : ℕ) × (i ≡ JumpUnlessEqual word pc)
+    × (labels name ≡ Some pc)
 Means labels names strings (Jump name) i = (pc : ℕ) × (i ≡ Jump pc) × (labels name ≡ Some pc)
 Means labels names strings Halt i = i ≡ Halt
 
@@ -106,7 +114,8 @@ abbrev pub Mean : (List ℕ → Option ℕ) → (List ℕ → Option ℕ) → Li
 Mean labels names strings [] [] = ⊤
 Mean labels names strings [] (i ∷ is) = ⊥
 Mean labels names strings (draft ∷ drafts) [] = ⊥
-Mean labels names strings (draft ∷ drafts) (i ∷ is) = Means labels names strings draft i × Mean labels names strings drafts is
+Mean labels names strings (draft ∷ drafts) (i ∷ is) = Means labels names strings draft i
+    × Mean labels names strings drafts is
 
 -- the statements of a text's lines make the program
 pub record IsSaid (text : List ℕ) (program : Listing) : Type 0 where
@@ -128,19 +137,24 @@ pub record NamesHaveTheirPlaces : Type 0 where
   pub «data» : (before after : List Statement) (name string : List ℕ) → data_from 0 before name ≡ None
       → data_from 0 (before ++ Data name string ∷ after) name ≡ Some (length (strings_in before))
   -- and no name has a place unless a statement gives it
-  pub given_label : (statements : List Statement) (name : List ℕ) (place : ℕ) → label_from 0 statements name ≡ Some place
+  pub given_label : (statements : List Statement) (name : List ℕ) (place : ℕ)
+      → label_from 0 statements name ≡ Some place
       → (before : List Statement) × (after : List Statement) × (statements ≡ before ++ Label name ∷ after)
-  pub given_data : (statements : List Statement) (name : List ℕ) (number : ℕ) → data_from 0 statements name ≡ Some number
-      → (before : List Statement) × (string : List ℕ) × (after : List Statement) × (statements ≡ before ++ Data name string ∷ after)
+  pub given_data : (statements : List Statement) (name : List ℕ) (number : ℕ)
+      → data_from 0 statements name ≡ Some number
+      → (before : List Statement) × (string : List ℕ) × (after : List Statement)
+      × (statements ≡ before ++ Data name string ∷ after)
 
 -- where the first fault of a text is told
 pub record FirstFaultDecides : Type 0 where
   -- at the first faulty line
   pub lines : (text : List ℕ) (front : List NumberedLine) (line : NumberedLine) (back : List NumberedLine) (outline : Outline) (fault : ScriptFault)
-      → lines_of text ≡ front ++ line ∷ back → with_lines blank front ≡ Ok outline → with_line outline line ≡ Err fault → program_of text ≡ Err fault
+      → lines_of text ≡ front ++ line ∷ back → with_lines blank front ≡ Ok outline
+      → with_line outline line ≡ Err fault → program_of text ≡ Err fault
   -- without a faulty line, at the first instruction whose label or data is missing, or whose data can't be poked
   pub names : (text : List ℕ) (outline : Outline) (front : List DraftLine) (d : DraftLine) (back : List DraftLine) (instructions : List (Step ℕ ℕ)) (fault : ScriptFault)
-      → with_lines blank (lines_of text) ≡ Ok outline → outline.drafts ≡ front ++ d ∷ back → with_resolved outline [] front ≡ Ok instructions
+      → with_lines blank (lines_of text) ≡ Ok outline → outline.drafts ≡ front ++ d ∷ back
+      → with_resolved outline [] front ≡ Ok instructions
       → resolved outline d.line d.draft ≡ Err fault → program_of text ≡ Err fault
 
 -- the order in which the faults of a line are told
@@ -160,9 +174,12 @@ pub record FaultsComeInOrder : Type 0 where
   pub operands : (a b : Result ℕ LineFault) (fault : LineFault) → both a b ≡ Err fault
       → OneHas a b fault × ((other : LineFault) → OneHas a b other → rank fault ≤ rank other)
   -- what is wrong with a line by itself is told whatever the lines before it say
-  pub lines : (before : Outline) (line : NumberedLine) (fault : LineFault) → reading_of line ≡ Err fault → with_line before line ≡ Err (fault_at line.number fault)
+  pub lines : (before : Outline) (line : NumberedLine) (fault : LineFault) → reading_of line ≡ Err fault
+      → with_line before line ≡ Err (fault_at line.number fault)
   -- a name given twice is told of any other line, also of one that is beyond a limit
-  pub labels : (before : Outline) (line : NumberedLine) (name : List ℕ) → reading_of line ≡ Ok (Label name) → is_some (place_of before.labels name) ≡ true
+  pub labels : (before : Outline) (line : NumberedLine) (name : List ℕ) → reading_of line ≡ Ok (Label name)
+      → is_some (place_of before.labels name) ≡ true
       → with_line before line ≡ Err (TwoLabels line.number)
-  pub «data» : (before : Outline) (line : NumberedLine) (name string : List ℕ) → reading_of line ≡ Ok (Data name string) → is_some (place_of before.data_numbers name) ≡ true
+  pub «data» : (before : Outline) (line : NumberedLine) (name string : List ℕ)
+      → reading_of line ≡ Ok (Data name string) → is_some (place_of before.data_numbers name) ≡ true
       → with_line before line ≡ Err (TwoLabels line.number)

@@ -6,7 +6,10 @@ use Rattle.intr_unit.specs.declared.Group.TheVariants.{Pf, Vf}
 use Rattle.register_file.specs.declared.dir.Dir.{Dir}
 use Rattle.register_file.specs.declared.dir.Dir.TheVariants.{Rx, Tx}
 use Rattle.program.specs.declared.instruction.Instruction.{Instruction}
-use Rattle.program.specs.declared.instruction.Instruction.TheVariants.{Write, Read, VfWrite, VfRead, Lend, Unlend, Poke, Peek, Arrive, RxStep, TxStep, IntStep, QueueStep, EepromStep, Link, Collect, Expect, And, JumpIfEqual, JumpUnlessEqual, Jump, Halt}
+use Rattle.program.specs.declared.instruction.Instruction.TheVariants.{Write, Read, VfWrite, VfRead, Lend, Unlend, Poke}
+use Rattle.program.specs.declared.instruction.Instruction.TheVariants.{Peek, Arrive, RxStep, TxStep, IntStep, QueueStep}
+use Rattle.program.specs.declared.instruction.Instruction.TheVariants.{EepromStep, Link, Collect, Expect, And}
+use Rattle.program.specs.declared.instruction.Instruction.TheVariants.{JumpIfEqual, JumpUnlessEqual, Jump, Halt}
 use Rattle.script_asm.specs.declared.faults.LineFault.{LineFault}
 use Rattle.script_asm.specs.declared.faults.LineFault.TheVariants.{Syntax}
 use Rattle.script_asm.specs.Fault.{◌then◌, both}

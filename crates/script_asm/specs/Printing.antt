@@ -1,12 +1,16 @@
 -- Instructions as text.
-use Rattle.std.specs.Prelude.{ℕ, Bool, true, false, ◌==◌, ◌++◌, List, Option, Some, None, unwrap_or, codes, decimal, if◌then◌else◌}
+use Rattle.std.specs.Prelude.{ℕ, Bool, true, false, ◌==◌, ◌++◌, List, Option, Some, None, unwrap_or, codes, decimal}
+use Rattle.std.specs.Prelude.{if◌then◌else◌}
 use Rattle.intr_unit.specs.declared.Group.{Group}
 use Rattle.intr_unit.specs.declared.Group.TheVariants.{Pf, Vf}
 use Rattle.register_file.specs.declared.dir.Dir.{Dir}
 use Rattle.register_file.specs.declared.dir.Dir.TheVariants.{Rx, Tx}
 use Rattle.printed.specs.Word.{word_text}
 use Rattle.program.specs.declared.instruction.Instruction.{Instruction}
-use Rattle.program.specs.declared.instruction.Instruction.TheVariants.{Write, Read, VfWrite, VfRead, Lend, Unlend, Poke, Peek, Arrive, RxStep, TxStep, IntStep, QueueStep, EepromStep, Link, Collect, Expect, And, JumpIfEqual, JumpUnlessEqual, Jump, Halt}
+use Rattle.program.specs.declared.instruction.Instruction.TheVariants.{Write, Read, VfWrite, VfRead, Lend, Unlend, Poke}
+use Rattle.program.specs.declared.instruction.Instruction.TheVariants.{Peek, Arrive, RxStep, TxStep, IntStep, QueueStep}
+use Rattle.program.specs.declared.instruction.Instruction.TheVariants.{EepromStep, Link, Collect, Expect, And}
+use Rattle.program.specs.declared.instruction.Instruction.TheVariants.{JumpIfEqual, JumpUnlessEqual, Jump, Halt}
 use Rattle.reg_table.specs.declared.place.Place.{Place}
 use Rattle.reg_table.specs.Place.{place_among, address_among}
 use Rattle.reg_table.specs.Rows.{row_of}
@@ -60,7 +64,8 @@ instruction_text (Arrive number) = codes "arrive d" ++ decimal number
 instruction_text RxStep = codes "rx"
 instruction_text (TxStep queue) = codes "tx " ++ word_text queue
 instruction_text (IntStep group) = codes "int " ++ group_text group
-instruction_text (QueueStep direction queue) = codes "qstep " ++ (direction_text direction ++ (codes " " ++ word_text queue))
+instruction_text (QueueStep direction queue) = codes "qstep " ++ (direction_text direction ++ (codes " "
+    ++ word_text queue))
 instruction_text EepromStep = codes "eestep"
 instruction_text (Link up) = codes "link " ++ link_text up
 instruction_text Collect = codes "collect"

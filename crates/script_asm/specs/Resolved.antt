@@ -3,7 +3,10 @@ use Rattle.std.specs.Prelude.{◌<◌, ◌≤◌, ℕ, ◌==◌, ◌++◌, List,
 use Rattle.std.specs.List.{AllByRecursion}
 use Rattle.std.specs.Option.{ok_or}
 use Rattle.program.specs.declared.instruction.Instruction.{Instruction}
-use Rattle.program.specs.declared.instruction.Instruction.TheVariants.{Write, Read, VfWrite, VfRead, Lend, Unlend, Poke, Peek, Arrive, RxStep, TxStep, IntStep, QueueStep, EepromStep, Link, Collect, Expect, And, JumpIfEqual, JumpUnlessEqual, Jump, Halt}
+use Rattle.program.specs.declared.instruction.Instruction.TheVariants.{Write, Read, VfWrite, VfRead, Lend, Unlend, Poke}
+use Rattle.program.specs.declared.instruction.Instruction.TheVariants.{Peek, Arrive, RxStep, TxStep, IntStep, QueueStep}
+use Rattle.program.specs.declared.instruction.Instruction.TheVariants.{EepromStep, Link, Collect, Expect, And}
+use Rattle.program.specs.declared.instruction.Instruction.TheVariants.{JumpIfEqual, JumpUnlessEqual, Jump, Halt}
 use Rattle.program.specs.Listing.{string_at, IsDataString, IsFunction, IsGroup}
 use Rattle.script_asm.specs.declared.faults.ScriptFault.{ScriptFault}
 use Rattle.script_asm.specs.declared.faults.ScriptFault.TheVariants.{UnknownLabel, Range}
@@ -50,12 +53,14 @@ resolved outline line Collect = Ok Collect
 resolved outline line (Expect want mask) = Ok (Expect want mask)
 resolved outline line (And word) = Ok (And word)
 resolved outline line (JumpIfEqual word name) = label_named outline line name then λ pc. Ok (JumpIfEqual word pc)
-resolved outline line (JumpUnlessEqual word name) = label_named outline line name then λ pc. Ok (JumpUnlessEqual word pc)
+resolved outline line (JumpUnlessEqual word name) = label_named outline line name
+    then λ pc. Ok (JumpUnlessEqual word pc)
 resolved outline line (Jump name) = label_named outline line name then λ pc. Ok (Jump pc)
 resolved outline line Halt = Ok Halt
 
 -- the instructions before, and these: the first line that can't be resolved decides
-unfoldable pub with_resolved : Outline → List (Instruction ℕ ℕ) → List DraftLine → Result (List (Instruction ℕ ℕ)) ScriptFault
+unfoldable pub with_resolved : Outline → List (Instruction ℕ ℕ) → List DraftLine
+    → Result (List (Instruction ℕ ℕ)) ScriptFault
 with_resolved outline before [] = Ok before
 with_resolved outline before (d ∷ more) =
     resolved outline d.line d.draft then λ instruction. with_resolved outline (before ++ instruction ∷ []) more
@@ -85,12 +90,14 @@ IsInRange (JumpUnlessEqual word name) = ⊤
 IsInRange (Jump name) = ⊤
 IsInRange Halt = ⊤
 
--- what lines have said makes a program: labels stand at instructions or at the end, data numbers have their strings, and
+-- what lines have said makes a program: labels stand at instructions or at the end, data numbers have their strings,
+-- and
 -- nothing is out of its range
 pub record IsReady (outline : Outline) : Type 0 where
   pub few_drafts : length outline.drafts ≤ 4096
   pub few_strings : length outline.strings ≤ 1024
   pub labels : (name : List ℕ) → IfSome (place_of outline.labels name) (λ pc. pc ≤ length outline.drafts)
-  pub data_numbers : (name : List ℕ) → IfSome (place_of outline.data_numbers name) (λ number. number < length outline.strings)
+  pub data_numbers : (name : List ℕ)
+      → IfSome (place_of outline.data_numbers name) (λ number. number < length outline.strings)
   pub strings : AllByRecursion IsDataString outline.strings
   pub drafts : AllByRecursion (λ d. IsInRange d.draft) outline.drafts

@@ -1,5 +1,6 @@
 -- The program that a text means.
-use Rattle.std.specs.Prelude.{ℕ, ◌&&◌, List, [], ◌∷◌, ◌++◌, length, is_some, Result, Ok, Err, nat_le, nat_lt, if◌then◌else◌}
+use Rattle.std.specs.Prelude.{ℕ, ◌&&◌, List, [], ◌∷◌, ◌++◌, length, is_some, Result, Ok, Err, nat_le, nat_lt}
+use Rattle.std.specs.Prelude.{if◌then◌else◌}
 use Rattle.lexer.specs.Lines.{NumberedLine, lines_of}
 use Rattle.lexer.specs.Words.{words_of}
 use Rattle.program.specs.Listing.{Listing}
@@ -47,7 +48,8 @@ with_statement before line (Instruction draft) = with_draft before line draft
 
 -- the lines before, and what one more line says
 abbrev pub with_line : Outline → NumberedLine → Result Outline ScriptFault
-with_line before line = at_line line.number (statement_of (words_of line.text)) then λ statement. with_statement before line.number statement
+with_line before line = at_line line.number (statement_of (words_of line.text))
+    then λ statement. with_statement before line.number statement
 
 -- the lines before, and what these say: the first faulty line decides
 unfoldable pub with_lines : Outline → List NumberedLine → Result Outline ScriptFault
@@ -57,7 +59,8 @@ with_lines before (line ∷ more) = with_line before line then λ after. with_li
 -- the program of what all lines say
 abbrev pub program_in : Outline → Result Listing ScriptFault
 program_in outline =
-    with_resolved outline [] outline.drafts then λ instructions. Ok (record { strings = outline.strings; instructions = instructions })
+    with_resolved outline [] outline.drafts
+    then λ instructions. Ok (record { strings = outline.strings; instructions = instructions })
 
 -- the program of a text, or its fault
 unfoldable pub program_of : List ℕ → Result Listing ScriptFault

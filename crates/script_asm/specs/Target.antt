@@ -1,5 +1,6 @@
 -- The address that a word of a script names.
-use Rattle.std.specs.Prelude.{ℕ, Bool, ◌-◌, ◌&&◌, ◌==◌, List, length, take, Option, Some, None, unwrap_or, Result, Ok, Err, slice_index, nat_le, nat_lt, if◌then◌else◌}
+use Rattle.std.specs.Prelude.{ℕ, Bool, ◌-◌, ◌&&◌, ◌==◌, List, length, take, Option, Some, None, unwrap_or, Result, Ok}
+use Rattle.std.specs.Prelude.{Err, slice_index, nat_le, nat_lt, if◌then◌else◌}
 use Rattle.std.specs.Option.{ok_or}
 use Rattle.std.specs.List.{position_or_len, before_first, after_first}
 use Rattle.reg_table.specs.declared.rows.RowId.{RowId}

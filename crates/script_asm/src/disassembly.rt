@@ -1,7 +1,8 @@
 //! From a program to its text.
 
 ghost use Rattle.std.specs.Prelude.{◌≡◌, ◌++◌, ◌≤◌, length, IfOk, string_bytes};
-ghost use Rattle.script_asm.specs.Disassembly.{jumps_to, is_target, data_line, data_lines, label_line_at, code_line, code_lines, text_of};
+ghost use Rattle.script_asm.specs.Disassembly.{jumps_to, is_target, data_line, data_lines, label_line_at, code_line};
+ghost use Rattle.script_asm.specs.Disassembly.{code_lines, text_of};
 
 use crate::printing::InstructionText;
 use dma_arena::Octets;
@@ -75,7 +76,8 @@ fn push_code_line(
     pc: u16,
     instruction: &Instruction,
 ) -> Result<(), OutOfMemory>
-    ensures { IfOk result (λ _. string_bytes text.new ≡ string_bytes text.old ++ code_line code.now pc instruction.now) }
+    ensures { IfOk result (λ _. string_bytes text.new ≡ string_bytes text.old
+        ++ code_line code.now pc instruction.now) }
 {
     push_label_line(text, code, pc)?;
     match write!(text, "{}\n", InstructionText(instruction)) {

@@ -1,6 +1,7 @@
 //! What the definitions promise as a whole. Each law is the contract of a function that does nothing.
 
-ghost use Rattle.script_asm.specs.Laws.{ProgramIsWhatLinesSay, FirstFaultDecides, FaultsComeInOrder, NamesHaveTheirPlaces};
+ghost use Rattle.script_asm.specs.Laws.{ProgramIsWhatLinesSay, FirstFaultDecides, FaultsComeInOrder};
+ghost use Rattle.script_asm.specs.Laws.{NamesHaveTheirPlaces};
 ghost use Rattle.script_asm.specs.ReadBack.{TextsReadBack};
 
 /// A text is a program exactly where each of its lines says something that fits behind the lines before

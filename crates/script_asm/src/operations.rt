@@ -1,7 +1,8 @@
 //! Operations and their operands.
 
 ghost use Rattle.std.specs.Prelude.{◌≡◌};
-ghost use Rattle.script_asm.specs.Operation.{beside, table_alone, table_of_one, table_of_two, table_of_three, instruction_in, direction_in, link_in, group_in, number16_in};
+ghost use Rattle.script_asm.specs.Operation.{beside, table_alone, table_of_one, table_of_two, table_of_three};
+ghost use Rattle.script_asm.specs.Operation.{instruction_in, direction_in, link_in, group_in, number16_in};
 ghost use Rattle.script_asm.specs.Target.{number_below};
 
 use crate::faults::{LineFault, both};

@@ -1,7 +1,8 @@
 //! Instructions as the lines of a text print them.
 
 ghost use Rattle.std.specs.Prelude.{◌≡◌, Some};
-ghost use Rattle.script_asm.specs.Printing.{target_text, place_text, place_first_at, group_text, direction_text, instruction_text};
+ghost use Rattle.script_asm.specs.Printing.{target_text, place_text, place_first_at, group_text, direction_text};
+ghost use Rattle.script_asm.specs.Printing.{instruction_text};
 
 use intr_unit::Group;
 use printed::WordText;

@@ -209,7 +209,8 @@ impl<'a> Sheet<'a> {
         draft: &DraftLine<'a>,
     ) -> Result<(), ScriptFault>
         ensures { Gives (λ _. instructions.new.items) result
-            (resolved self.now draft.now.line draft.now.draft then λ instruction. Ok (instructions.old.items ++ instruction ∷ [])) }
+            (resolved self.now draft.now.line draft.now.draft
+            then λ instruction. Ok (instructions.old.items ++ instruction ∷ [])) }
     {
         let instruction = self.resolved(draft.line, &draft.draft)?;
         instructions.push(instruction)?;

@@ -3,7 +3,8 @@
 ghost use Rattle.std.specs.Prelude.{◌≡◌, ◌<◌};
 ghost use Rattle.std.specs.Option.{option_copied};
 ghost use Rattle.reg_table.specs.Rows.{row_of};
-ghost use Rattle.script_asm.specs.Target.{number_in, number_below, row_in, register_address, address_in, before_last_byte, target_of};
+ghost use Rattle.script_asm.specs.Target.{number_in, number_below, row_in, register_address, address_in};
+ghost use Rattle.script_asm.specs.Target.{before_last_byte, target_of};
 
 use crate::faults::{LineFault, both};
 use lexer::is_name;

@@ -16,6 +16,6 @@ loop-at-preserved c =
           ap (λ v. v.items) w.places-is ∙ w.in_ok-push.ensures.items
           ∙ ap (λ z. z ++ at ∷ []) c.loop-at.invariant ∙ sym (positions_here tag h at e lt w.if-history-at.true)
       | else-history-at w ↦
-          ap (λ v. v.items) w.places-is ∙ c.loop-at.invariant 
+          ap (λ v. v.items) w.places-is ∙ c.loop-at.invariant
           ∙ sym (positions_there tag h at e lt w.if-history-at.false)
     ]

@@ -6,7 +6,7 @@
 #include <string.h>
 #include <time.h>
 
-enum kind { RW, RO, CALC, RC, CAUSE, ONES, SET, CLEAR, HELD, ENABLE, CTRL };
+enum kind { RW, RO, CALC, RC, CAUSE, ONES, SET, CLEAR, HELD, ENABLE, CTRL, VRESET, EERD };
 
 struct entry {
     uint32_t address, mask, view;
@@ -40,9 +40,10 @@ __attribute__((noinline)) static uint32_t read_register(uint32_t address)
         return 0;
     switch (e->kind) {
     case CALC:
-        return e->address == 8 ? (cells[0] & 4 ? 0 : 0x00080000) : 0x70000000;
+        return e->address == 8 ? (cells[0] & 4 ? 0 : 0x00080000) : e->address == 0x10010 ? 0x300 : 0x70000000;
     case SET:
     case CLEAR:
+    case VRESET:
         return 0;
     case RC:
     case CAUSE:
@@ -69,6 +70,13 @@ __attribute__((noinline)) static int write_register(uint32_t address, uint32_t w
     case RO:
     case CALC:
     case RC:
+        break;
+    case VRESET:
+        if (word & 0x04000000)
+            memset(cells, 0, sizeof cells / 64);
+        break;
+    case EERD:
+        cells[e->cell] = word & 0xfffd;
         break;
     case CAUSE:
         cells[e->cell] &= ~(word & e->view);

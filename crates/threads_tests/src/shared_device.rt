@@ -61,7 +61,11 @@ fn number_of(rt: &impl Abort, fault: CallFault) -> u8 {
 
 /// Ends a device that no memory was lent to.
 fn end(rt: &impl Abort, device: Device) {
-    let Parts { memory, frames } = device.dismantle();
+    let Parts {
+        memory,
+        frames,
+        image: _,
+    } = device.dismantle();
     assert_eq!(rt; frames.len(), 0);
     done(rt, memory.finish());
 }

@@ -12,8 +12,10 @@ use Rattle.bench.specs.declared.ending.Outcome.TheVariants.{Ended}
 use Rattle.bench.proofs.Appending.{Appends-both}
 
 module _ (old mid new : Option (List ℕ)) (has_failed : Bool) where
-  stops : (request : Request) (remaining : Option (List ℕ)) (status : ℕ) → AnswersRequest request remaining old mid (Err OutOfMemory) → Writes mid new no_memory status
-      → IfSome remaining (λ input. (answer : Answer) → IsAnswerTo request input answer → StopsForMemory old new answer.text)
+  stops : (request : Request) (remaining : Option (List ℕ)) (status : ℕ)
+      → AnswersRequest request remaining old mid (Err OutOfMemory) → Writes mid new no_memory status
+      → IfSome remaining (λ input. (answer : Answer) → IsAnswerTo request input answer
+      → StopsForMemory old new answer.text)
   stops request None status begun wrote = tt
   stops request (Some input) status begun wrote = λ answer right. let part = begun answer right in record {
     beginning = part.beginning;
@@ -23,7 +25,8 @@ module _ (old mid new : Option (List ℕ)) (has_failed : Bool) where
   }
 
   -- of what was asked for
-  pub ended-given-up : (request : Request) (remaining : Option (List ℕ)) (IsUnread : Type 0) (failure : Failure) (outcome : Outcome)
+  pub ended-given-up : (request : Request) (remaining : Option (List ℕ)) (IsUnread : Type 0) (failure : Failure)
+      (outcome : Outcome)
       → AnswersRequest request remaining old mid (Err failure) → (failure ≡ Read → IsUnread × (mid ≡ old))
       → (failure ≡ Read → EndsSaying mid new has_failed (refused_as (codes "Input")) outcome)
       → (failure ≡ OutOfMemory → EndsSaying mid new has_failed no_memory outcome)
@@ -31,12 +34,17 @@ module _ (old mid new : Option (List ℕ)) (has_failed : Bool) where
       → EndsAs request remaining IsUnread old new has_failed outcome
   ended-given-up request remaining IsUnread Read (Ended status) begun unread read memory write = go (read refl)
     where
-      go : EndsSaying mid new has_failed (refused_as (codes "Input")) (Ended status) → EndsAs request remaining IsUnread old new has_failed (Ended status)
-      go (inl wrote) = inr (inr (inl ((unread refl).0, subst (λ (o : Option (List ℕ)). Writes o new (refused_as (codes "Input")) status) (unread refl).1 wrote)))
+      go : EndsSaying mid new has_failed (refused_as (codes "Input")) (Ended status)
+          → EndsAs request remaining IsUnread old new has_failed (Ended status)
+      go (inl wrote) = inr (inr (inl (
+        (unread refl).0,
+        subst (λ (o : Option (List ℕ)). Writes o new (refused_as (codes "Input")) status) (unread refl).1 wrote,
+      )))
       go (inr failed) = inr (inr (inr failed))
   ended-given-up request remaining IsUnread OutOfMemory (Ended status) begun unread read memory write = go (memory refl)
     where
-      go : EndsSaying mid new has_failed no_memory (Ended status) → EndsAs request remaining IsUnread old new has_failed (Ended status)
+      go : EndsSaying mid new has_failed no_memory (Ended status)
+          → EndsAs request remaining IsUnread old new has_failed (Ended status)
       go (inl wrote) = inr (inl (wrote.1, stops request remaining status begun wrote))
       go (inr failed) = inr (inr (inr failed))
   ended-given-up request remaining IsUnread Write (Ended status) begun unread read memory write =
@@ -44,7 +52,8 @@ module _ (old mid new : Option (List ℕ)) (has_failed : Bool) where
       inr (inr (inr (let is = ended.0 in cc, ended.1)))
 
   -- of words that ask for nothing
-  pub ended-words : (kinds : Kinds) (failure : Failure) (outcome : Outcome) → (failure ≡ Read → ⊥) → (failure ≡ OutOfMemory → mid ≡ old)
+  pub ended-words : (kinds : Kinds) (failure : Failure) (outcome : Outcome) → (failure ≡ Read → ⊥)
+      → (failure ≡ OutOfMemory → mid ≡ old)
       → (failure ≡ OutOfMemory → EndsSaying mid new has_failed no_memory outcome)
       → (failure ≡ Write → (outcome ≡ Ended 2) × (has_failed ≡ true))
       → EndsWords kinds old new has_failed outcome
@@ -52,6 +61,10 @@ module _ (old mid new : Option (List ℕ)) (has_failed : Bool) where
   ended-words kinds OutOfMemory (Ended status) never same memory write = go (memory refl)
     where
       go : EndsSaying mid new has_failed no_memory (Ended status) → EndsWords kinds old new has_failed (Ended status)
-      go (inl wrote) = inr (inl (wrote.1, subst (λ (o : Option (List ℕ)). Appends o new no_memory.text) (same refl) wrote.0))
+      go (inl wrote) = inr (inl (
+        wrote.1,
+        subst (λ (o : Option (List ℕ)). Appends o new no_memory.text) (same refl) wrote.0,
+      ))
       go (inr failed) = inr (inr failed)
-  ended-words kinds Write (Ended status) never same memory write = let ended = write refl in inr (inr (let is = ended.0 in cc, ended.1))
+  ended-words kinds Write (Ended status) never same memory write = let ended = write refl in
+      inr (inr (let is = ended.0 in cc, ended.1))

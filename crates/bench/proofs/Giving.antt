@@ -9,18 +9,21 @@ use Rattle.bench.proofs.Appending.{Appends-both, Appends-none}
 module _ (old new : Option (List ℕ)) (has_failed : Bool) where
   -- an answer that is given is right, where it is the only one
   pub gives-right : (r : Result ℕ Failure) (answer : Answer) (IsRight : Answer → Type 0) → IsRight answer
-      → ((other : Answer) → IsRight other → other ≡ answer) → Gives r old new has_failed answer → GivesRight r old new has_failed IsRight
+      → ((other : Answer) → IsRight other → other ≡ answer) → Gives r old new has_failed answer
+      → GivesRight r old new has_failed IsRight
   gives-right (Ok status) answer IsRight is only given = (answer, is, given)
   gives-right (Err Read) answer IsRight is only given = given
   gives-right (Err Write) answer IsRight is only given = given
   gives-right (Err OutOfMemory) answer IsRight is only given =
       λ other right. subst (λ (a : Answer). WritesBeginning old new a.text) (sym (only other right)) given
 
-  pub gives-same : (r : Result ℕ Failure) (answer other : Answer) → answer ≡ other → Gives r old new has_failed answer → Gives r old new has_failed other
+  pub gives-same : (r : Result ℕ Failure) (answer other : Answer) → answer ≡ other → Gives r old new has_failed answer
+      → Gives r old new has_failed other
   gives-same r answer other same given = subst (Gives r old new has_failed) same given
 
   -- a failed write gives an answer up
-  pub fails-to-give : (T : Type 0) (r : Result T Failure) (failure : Failure) (IsBegun : Type 0) → r ≡ Err failure → FailsToWrite r has_failed
+  pub fails-to-give : (T : Type 0) (r : Result T Failure) (failure : Failure) (IsBegun : Type 0) → r ≡ Err failure
+      → FailsToWrite r has_failed
       → GivesUp failure has_failed IsBegun
   fails-to-give T (Ok x) failure IsBegun is fails = cc
   fails-to-give T (Err Read) failure IsBegun is fails = let wrong = fails.0 in cc
@@ -34,7 +37,8 @@ pub begins-with-nothing : (old : Option (List ℕ)) (text : List ℕ) → Writes
 begins-with-nothing old text = record { beginning = []; rest = text; written = Appends-none old; whole = refl }
 
 -- the beginning of a text is that of a longer one
-pub begins-longer : (old new : Option (List ℕ)) (text more : List ℕ) → WritesBeginning old new text → WritesBeginning old new (text ++ more)
+pub begins-longer : (old new : Option (List ℕ)) (text more : List ℕ) → WritesBeginning old new text
+    → WritesBeginning old new (text ++ more)
 begins-longer old new text more begun = record {
   beginning = begun.beginning;
   rest = begun.rest ++ more;
@@ -43,9 +47,12 @@ begins-longer old new text more begun = record {
 }
 
 -- an answer behind a text that is written
-pub gives-behind : (old mid new : Option (List ℕ)) (has_failed : Bool) (r : Result ℕ Failure) (text : List ℕ) (answer : Answer) → Appends old mid text
-    → Gives r mid new has_failed answer → Gives r old new has_failed (record { text = text ++ answer.text; status = answer.status })
-gives-behind old mid new has_failed (Ok status) text answer wrote given = (Appends-both old mid new text answer.text wrote given.0, given.1)
+pub gives-behind : (old mid new : Option (List ℕ)) (has_failed : Bool) (r : Result ℕ Failure) (text : List ℕ)
+    (answer : Answer) → Appends old mid text
+    → Gives r mid new has_failed answer
+    → Gives r old new has_failed (record { text = text ++ answer.text; status = answer.status })
+gives-behind old mid new has_failed (Ok status) text answer wrote given =
+    (Appends-both old mid new text answer.text wrote given.0, given.1)
 gives-behind old mid new has_failed (Err Read) text answer wrote given = given
 gives-behind old mid new has_failed (Err Write) text answer wrote given = given
 gives-behind old mid new has_failed (Err OutOfMemory) text answer wrote given = record {

@@ -30,8 +30,10 @@ rest_of p c k (suc d) = rest_of p c k d ++ step_text p (machine_at p c (k + d))
 steps_text-rest : (p : Listing) (c : Config) (k d : ℕ) → steps_text p c k ++ rest_of p c k d ≡ steps_text p c (k + d)
 unfolding steps_text rest_of
 steps_text-rest p c k zero = append-nil (steps_text p c k) ∙ ap (steps_text p c) (sym (add-zero k))
-steps_text-rest p c k (suc d) = sym (append_assoc (steps_text p c k) (rest_of p c k d) (step_text p (machine_at p c (k + d))))
-    ∙ ap (λ t. t ++ step_text p (machine_at p c (k + d))) (steps_text-rest p c k d) ∙ ap (steps_text p c) (sym (add-suc k d))
+steps_text-rest p c k (suc d) =
+    sym (append_assoc (steps_text p c k) (rest_of p c k d) (step_text p (machine_at p c (k + d))))
+    ∙ ap (λ t. t ++ step_text p (machine_at p c (k + d))) (steps_text-rest p c k d)
+    ∙ ap (steps_text p c) (sym (add-suc k d))
 
 -- a machine that has made k steps, whose lines are written
 pub record AfterSteps (old new : Option (List ℕ)) (start now : Course) (k : ℕ) : Type 0 where
@@ -56,29 +58,37 @@ module _ (old new : Option (List ℕ)) (start now : Course) (k limit : ℕ) (aft
         beginning = steps_text start.program start.config k;
         rest = rest_of start.program start.config k (limit - k);
         written = after.written;
-        whole = steps_text-rest start.program start.config k (limit - k) ∙ ap (steps_text start.program start.config) up_to;
+        whole = steps_text-rest start.program start.config k (limit - k)
+            ∙ ap (steps_text start.program start.config) up_to;
       }
 
   -- the step is that of the machine after k steps
   step-at : machine_step now.program now.state ≡ machine_step start.program (machine_at start.program start.config k)
   step-at = ap (λ (m : Course). machine_step m.program m.state) after.at
 
-  pub stopped-text : (machine_step now.program now.state).answer ≡ Stopped → k ≤ limit → Appends old new (steps_text start.program start.config limit)
+  pub stopped-text : (machine_step now.program now.state).answer ≡ Stopped → k ≤ limit
+      → Appends old new (steps_text start.program start.config limit)
   stopped-text is within =
       let up_to : k + (limit - k) ≡ limit = omega arith in
       let stopped = ap (λ s. s.answer) (sym step-at) ∙ is in
-      subst (Appends old new) (sym (steps_text-stopped start.program start.config k stopped (limit - k)) ∙ ap (steps_text start.program start.config) up_to) after.written
+      subst (Appends old new) (sym (steps_text-stopped start.program start.config k stopped (limit - k))
+      ∙ ap (steps_text start.program start.config) up_to) after.written
 
   pub stopped-state : (later : Course) → later ≡ record now { state = (machine_step now.program now.state).state }
-      → (machine_step now.program now.state).answer ≡ Stopped → k ≤ limit → later.state ≡ machine_at start.program start.config limit
+      → (machine_step now.program now.state).answer ≡ Stopped → k ≤ limit
+      → later.state ≡ machine_at start.program start.config limit
   stopped-state later step is within =
       let up_to : k + (limit - k) ≡ limit = omega arith in
       let stopped = ap (λ s. s.answer) (sym step-at) ∙ is in
-      ap (λ (m : Course). m.state) step ∙ ap (λ s. s.state) step-at ∙ steps_count.stays start.program (machine_at start.program start.config k) stopped
-      ∙ sym (stopped_for_good start.program start.config k (limit - k) stopped) ∙ ap (machine_at start.program start.config) up_to
+      ap (λ (m : Course). m.state) step ∙ ap (λ s. s.state) step-at
+      ∙ steps_count.stays start.program (machine_at start.program start.config k) stopped
+      ∙ sym (stopped_for_good start.program start.config k (limit - k) stopped)
+      ∙ ap (machine_at start.program start.config) up_to
 
-  pub next-steps : (last : Option (List ℕ)) (later : Course) → later ≡ record now { state = (machine_step now.program now.state).state }
-      → Appends new last (answer_text now.state.pc (machine_step now.program now.state).answer) → AfterSteps old last start later (k + 1)
+  pub next-steps : (last : Option (List ℕ)) (later : Course)
+      → later ≡ record now { state = (machine_step now.program now.state).state }
+      → Appends new last (answer_text now.state.pc (machine_step now.program now.state).answer)
+      → AfterSteps old last start later (k + 1)
   unfolding machine_at steps_text
   next-steps last later step wrote = record {
     written = subst (Appends old last)

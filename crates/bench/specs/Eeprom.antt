@@ -34,7 +34,8 @@ file_refused file.OutOfMemory = refused_as (codes "OutOfMemory")
 
 -- the answer is the file of the image of what a text gives, or the text's fault
 abbrev pub IsMeantAnswer : Result Content AsmFault → Answer → Type 0
-IsMeantAnswer (Ok content) answer = (words : List ℕ) × IsImageOf content words × (answer ≡ record { text = bytes_of words; status = 0 })
+IsMeantAnswer (Ok content) answer =
+    (words : List ℕ) × IsImageOf content words × (answer ≡ record { text = bytes_of words; status = 0 })
 IsMeantAnswer (Err fault) answer = answer ≡ text_refused fault
 
 abbrev pub IsImageAnswer : List ℕ → Answer → Type 0
@@ -50,7 +51,8 @@ triples_answer triples = record { text = flat_map triple_line triples; status = 
 
 -- the answer is the register writes of the image whose file the bytes are, or the file's fault
 abbrev pub IsFileAnswer : Option LoadFault → List ℕ → Answer → Type 0
-IsFileAnswer None bytes answer = (words : List ℕ) × IsImage words × (bytes ≡ bytes_of words) × (answer ≡ triples_answer (triples_of words))
+IsFileAnswer None bytes answer =
+    (words : List ℕ) × IsImage words × (bytes ≡ bytes_of words) × (answer ≡ triples_answer (triples_of words))
 IsFileAnswer (Some fault) bytes answer = answer ≡ file_refused fault
 
 abbrev pub IsLoadAnswer : List ℕ → Answer → Type 0

@@ -36,17 +36,21 @@ IsBytesAnswer LoadEeprom bytes answer = IsLoadAnswer bytes answer
 
 -- the answer is what is asked for, of bytes that aren't too many
 abbrev pub IsGivenAnswer : Request → List ℕ → Answer → Type 0
-IsGivenAnswer (Text request) bytes answer = MatchResult (text_in bytes) (λ text. IsTextAnswer request text answer) (λ refusal. answer ≡ refusal)
+IsGivenAnswer (Text request) bytes answer =
+    MatchResult (text_in bytes) (λ text. IsTextAnswer request text answer) (λ refusal. answer ≡ refusal)
 IsGivenAnswer (Bytes request) bytes answer = IsBytesAnswer request bytes answer
 
 -- the answer is what is asked for, of all bytes of an input
 abbrev pub IsAnswerTo : Request → List ℕ → Answer → Type 0
-IsAnswerTo request input answer = MatchResult (bytes_in input) (λ bytes. IsGivenAnswer request bytes answer) (λ refusal. answer ≡ refusal)
+IsAnswerTo request input answer =
+    MatchResult (bytes_in input) (λ bytes. IsGivenAnswer request bytes answer) (λ refusal. answer ≡ refusal)
 
 -- what is asked for is answered; or a part of it is written where there is no memory
 abbrev pub AnswersRequest : Request → Option (List ℕ) → Option (List ℕ) → Option (List ℕ) → Result ℕ Failure → Type 0
-AnswersRequest request remaining old new (Ok status) = IfSome remaining (λ input. WritesRight old new (IsAnswerTo request input) status)
-AnswersRequest request remaining old new (Err OutOfMemory) = IfSome remaining (λ input. BeginsRight old new (IsAnswerTo request input))
+AnswersRequest request remaining old new (Ok status) =
+    IfSome remaining (λ input. WritesRight old new (IsAnswerTo request input) status)
+AnswersRequest request remaining old new (Err OutOfMemory) =
+    IfSome remaining (λ input. BeginsRight old new (IsAnswerTo request input))
 AnswersRequest request remaining old new (Err Read) = Unit {0}
 AnswersRequest request remaining old new (Err Write) = Unit {0}
 
@@ -70,14 +74,16 @@ pub record StopsForMemory (old new : Option (List ℕ)) (text : List ℕ) : Type
 
 -- it ends with this answer, or with 2, where a write has failed
 abbrev pub EndsSaying : Option (List ℕ) → Option (List ℕ) → Bool → Answer → Outcome → Type 0
-EndsSaying old new has_failed answer (Ended status) = Writes old new answer status ⊎ ((status ≡ 2) × (has_failed ≡ true))
+EndsSaying old new has_failed answer (Ended status) =
+    Writes old new answer status ⊎ ((status ≡ 2) × (has_failed ≡ true))
 
 -- it ends with the status of the answer to what was read, all of which is written; or with 4, where there was no
 -- memory; or with 2, where the input could not be read, which is said; or with 2, where a write has failed
 abbrev pub EndsAs : Request → Option (List ℕ) → Type 0 → Option (List ℕ) → Option (List ℕ) → Bool → Outcome → Type 0
 EndsAs request remaining IsUnread old new has_failed (Ended status) =
     IfSome remaining (λ input. WritesRight old new (IsAnswerTo request input) status)
-    ⊎ (((status ≡ 4) × IfSome remaining (λ input. (answer : Answer) → IsAnswerTo request input answer → StopsForMemory old new answer.text))
+    ⊎ (((status ≡ 4) × IfSome remaining (λ input. (answer : Answer) → IsAnswerTo request input answer
+    → StopsForMemory old new answer.text))
     ⊎ ((IsUnread × Writes old new (refused_as (codes "Input")) status)
     ⊎ ((status ≡ 2) × (has_failed ≡ true))))
 

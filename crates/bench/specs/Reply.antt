@@ -67,7 +67,8 @@ reply_text reply.NoQueue = codes "no queue"
 reply_text reply.NoGroup = codes "no group"
 reply_text reply.Idle = codes "idle"
 reply_text (reply.Dropped why) = codes "dropped " ++ why_text why
-reply_text (reply.Wrote queue slot end desc at len) = codes "wrote " ++ (slot_text queue slot ++ (codes " " ++ end_text end))
+reply_text (reply.Wrote queue slot end desc at len) =
+    codes "wrote " ++ (slot_text queue slot ++ (codes " " ++ end_text end))
 reply_text (reply.Advanced queue slot back) = codes "advanced " ++ slot_text queue slot
 reply_text (reply.Sent queue len back) = codes "sent " ++ (queue_text queue ++ (codes " len " ++ decimal len))
 reply_text (reply.Fault queue fault) = codes "fault " ++ (queue_text queue ++ (codes " " ++ fault_text fault))

@@ -19,7 +19,8 @@ abbrev pub end_as : Status → ℕ → ℕ → Answer
 end_as Running pc steps = record { text = codes "limit " ++ (decimal pc ++ codes "\n"); status = 1 }
 end_as Ended pc steps = record { text = codes "ok " ++ (decimal steps ++ codes "\n"); status = 0 }
 end_as (Failed at have want) pc steps = record {
-  text = codes "failed " ++ (decimal at ++ (codes " have " ++ (word_text have ++ (codes " want " ++ (word_text want ++ codes "\n")))));
+  text = codes "failed " ++ (decimal at
+      ++ (codes " have " ++ (word_text have ++ (codes " want " ++ (word_text want ++ codes "\n")))));
   status = 1;
 }
 

@@ -25,6 +25,7 @@ pub flag_read : (name : Text) (f : Found) (r : Option Bool) → (one_text f name
     → ((t : Text) → one_text f name ≡ Some t → ReadsOne Reads t r) → unwrap_or r false ≡ flag_in name (rows_of f)
 flag_read name f r none value = rw (sym (one_text-rows f name)) (go (one_text f name) refl)
   where
-    go : (o : Option Text) → one_text f name ≡ o → unwrap_or r false ≡ option_map_or (λ text. bytes_eq text (codes "true")) o false
+    go : (o : Option Text) → one_text f name ≡ o
+        → unwrap_or r false ≡ option_map_or (λ text. bytes_eq text (codes "true")) o false
     go None is = ap (λ x. unwrap_or x false) (none is)
     go (Some text) is = flag_text text r (value text is)

@@ -21,11 +21,17 @@ digits-list_all (d ∷ digits) all =
     let parts = both _ _ all in
     (ltb-true _ _ parts.0, digits-list_all digits parts.1)
 
-is_number_of-true : (bits : ℕ) (digits : List ℕ) → IsNumeral 10 digits → digits_value 10 digits < 2 ^ bits → is_number_of bits digits ≡ true
+is_number_of-true : (bits : ℕ) (digits : List ℕ) → IsNumeral 10 digits → digits_value 10 digits < 2 ^ bits
+    → is_number_of bits digits ≡ true
 is_number_of-true bits digits numeral fits =
-    rw (lt-ltb 0 (length digits) numeral.0, list_all-digits digits numeral.1, lt-ltb (digits_value 10 digits) (2 ^ bits) fits) refl
+    rw (
+      lt-ltb 0 (length digits) numeral.0,
+      list_all-digits digits numeral.1,
+      lt-ltb (digits_value 10 digits) (2 ^ bits) fits,
+    ) refl
 
-number-of-is_number_of : (bits : ℕ) (digits : List ℕ) → is_number_of bits digits ≡ true → IsNumeral 10 digits × (digits_value 10 digits < 2 ^ bits)
+number-of-is_number_of : (bits : ℕ) (digits : List ℕ) → is_number_of bits digits ≡ true
+    → IsNumeral 10 digits × (digits_value 10 digits < 2 ^ bits)
 number-of-is_number_of bits digits is =
     let outer = both _ _ is in
     let inner = both _ _ outer.1 in
@@ -35,8 +41,10 @@ number-of-is_number_of bits digits is =
 abbrev Reads : ℕ → Text → Result ℕ ParseIntError → Type 0
 Reads bits text r = ParsesUnsigned bits 10 text r × ExplainsUnsignedError 10 text r × HasUnsignedDigitsIfOk text r
 
-number_read : (bits : ℕ) (text : Text) (r : Option ℕ) → ReadsOne (Reads bits) text r → unwrap_or r 0 ≡ number_in bits text
-number_read bits text (Some n) reads = rw (is_number_of-true bits (without_leading_plus text) reads.0.0.0 reads.0.0.1) reads.0.1
+number_read : (bits : ℕ) (text : Text) (r : Option ℕ) → ReadsOne (Reads bits) text r
+    → unwrap_or r 0 ≡ number_in bits text
+number_read bits text (Some n) reads =
+    rw (is_number_of-true bits (without_leading_plus text) reads.0.0.0 reads.0.0.1) reads.0.1
 number_read bits text None reads = go (is_number_of bits (without_leading_plus text)) refl
   where
     go : (b : Bool) → is_number_of bits (without_leading_plus text) ≡ b → 0 ≡ number_in bits text
@@ -45,7 +53,8 @@ number_read bits text None reads = go (is_number_of bits (without_leading_plus t
 
 -- the number of an option, as the typed getter reads it
 pub option_read : (bits : ℕ) (name : Text) (f : Found) (r : Option ℕ) → (one_text f name ≡ None → r ≡ None)
-    → ((t : Text) → one_text f name ≡ Some t → ReadsOne (Reads bits) t r) → unwrap_or r 0 ≡ option_in bits name (rows_of f)
+    → ((t : Text) → one_text f name ≡ Some t → ReadsOne (Reads bits) t r)
+    → unwrap_or r 0 ≡ option_in bits name (rows_of f)
 option_read bits name f r none value = rw (sym (one_text-rows f name)) (go (one_text f name) refl)
   where
     go : (o : Option Text) → one_text f name ≡ o → unwrap_or r 0 ≡ option_map_or (number_in bits) o 0

@@ -57,7 +57,8 @@ request_of name rows = if bytes_eq name (codes "run") then Some (OfText (Run (op
 -- clap finds no fault in the words, and their command asks for this
 pub record Asks (words : List Text) (request : Request) : Type 0 where
   pub faultless : fault_of nicbench_app words ≡ []
-  pub asked : option_and_then (λ command. request_of command.0 command.1) (subcommand_of nicbench_app words) ≡ Some request
+  pub asked : option_and_then (λ command. request_of command.0 command.1) (subcommand_of nicbench_app words)
+      ≡ Some request
 
 -- why other words are refused, or what they want shown: one of the kinds that clap may give; where it gives none the
 -- command is an unknown one

@@ -13,7 +13,8 @@ one_more true at xs ys = refl
 one_more false at xs ys = refl
 
 pub positions_more : (at tag : ℕ) (h : List Entry) (e : Entry)
-    → positions_from at tag (h ++ e ∷ []) ≡ positions_from at tag h ++ (if e.pass == tag then (at + length h) ∷ [] else [])
+    → positions_from at tag (h ++ e ∷ []) ≡ positions_from at tag h
+    ++ (if e.pass == tag then (at + length h) ∷ [] else [])
 positions_more at tag [] e = ap (λ n. if e.pass == tag then n ∷ [] else []) (omega arith)
 positions_more at tag (x ∷ h) e =
     let rest : List ℕ = if e.pass == tag then (at + 1 + length h) ∷ [] else [] in

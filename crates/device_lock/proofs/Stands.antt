@@ -13,7 +13,8 @@ use Rattle.device_lock.specs.Pass.{PassValue}
 calls_of-append : (tag : ℕ) (g h : List Entry) → calls_of tag (g ++ h) ≡ calls_of tag g ++ calls_of tag h
 calls_of-append tag g h = rw (filter-append, map-append) refl
 
-calls_of-cons : (tag : ℕ) (e : Entry) (h : List Entry) → e.pass ≡ tag → calls_of tag (e ∷ h) ≡ call_in e ∷ calls_of tag h
+calls_of-cons : (tag : ℕ) (e : Entry) (h : List Entry) → e.pass ≡ tag
+    → calls_of tag (e ∷ h) ≡ call_in e ∷ calls_of tag h
 calls_of-cons tag e h is = grind (arith, common_steps, eq-eqb e.pass tag is)
 
 calls_of-split : (tag : ℕ) (h : List Entry) (i : ℕ) (d : Entry) → i < length h → (get_or h i d).pass ≡ tag

@@ -1,3 +1,4 @@
+pub mod Agreement
 pub mod Fields
 pub mod Places
 pub mod Slots

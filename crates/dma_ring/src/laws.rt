@@ -1,5 +1,6 @@
 //! What a ring and its descriptors promise as a whole. A law is the contract of a function that does nothing.
 
+ghost use Rattle.dma_ring.specs.Driver.{PostedIsTheBuffer, ToldIsRead, DataIsAsked};
 ghost use Rattle.dma_ring.specs.Laws.{AvailableSlotsFollowTheHead, SlotsAreApart, SlotsAreInBlocks, RingIsInBlock, HalvesComeBack, PacketIsTold, PieceIsTold, CommandIsAsked, DoneIsSet};
 
 /// The device's slots are none where head and tail are equal, and else the head and those after it.
@@ -31,4 +32,13 @@ pub fn receive_fields()
 pub fn transmit_fields()
     ensures command { CommandIsAsked }
     ensures done { DoneIsSet }
+{}
+
+/// A driver and the device read of each other's descriptors what was written: the buffer that is posted, the packet
+/// that
+/// is told, and the command of a data descriptor.
+pub fn driver_and_device_agree()
+    ensures posted { PostedIsTheBuffer }
+    ensures told { ToldIsRead }
+    ensures asked { DataIsAsked }
 {}

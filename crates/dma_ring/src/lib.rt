@@ -9,6 +9,7 @@
 
 mod bits;
 mod descriptor;
+mod driver;
 mod fault;
 pub mod laws;
 mod receive;
@@ -16,6 +17,10 @@ mod ring;
 mod transmit;
 
 pub use descriptor::{first_half, of_halves, second_half};
+pub use driver::{
+    data_descriptor_word, hash_told, is_last, is_sent, is_written_back, length_told, posted_word,
+    rss_told,
+};
 pub use fault::RingFault;
 pub use laws::available_slots_follow_the_head;
 pub use receive::{Packet, buffer_address, done_word, packet_word};

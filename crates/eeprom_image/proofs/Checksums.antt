@@ -11,7 +11,8 @@ use Rattle.eeprom_image.specs.Checksum.{checked_sum}
 use Rattle.eeprom_image.specs.Text.{is_behind}
 
 -- lists made of functions that agree below 15
-pub map_same : (f g : ℕ → ℕ) (indexes : List ℕ) → ((index : ℕ) → index < 15 → f index ≡ g index) → list_all (λ index. nat_lt index 15) indexes ≡ true → map f indexes ≡ map g indexes
+pub map_same : (f g : ℕ → ℕ) (indexes : List ℕ) → ((index : ℕ) → index < 15 → f index ≡ g index)
+    → list_all (λ index. nat_lt index 15) indexes ≡ true → map f indexes ≡ map g indexes
 map_same f g [] same low = refl
 map_same f g (index ∷ indexes) same low =
     let both = and_parts (nat_lt index 15) (list_all (λ index. nat_lt index 15) indexes) low in
@@ -25,7 +26,8 @@ pointers-set words value =
     map_same (word_at (set words 63 value)) (word_at words) (3 ∷ 4 ∷ 5 ∷ 6 ∷ 7 ∷ 8 ∷ 9 ∷ 10 ∷ 11 ∷ 12 ∷ 13 ∷ 14 ∷ [])
     (λ index low. get_or-set_other words 63 index value 65535 (omega arith)) refl
 
-section_cases : (words : List ℕ) (value pointer : ℕ) (unused : Bool) → is_unused pointer ≡ unused → (unused || nat_le 64 pointer) ≡ true
+section_cases : (words : List ℕ) (value pointer : ℕ) (unused : Bool) → is_unused pointer ≡ unused
+    → (unused || nat_le 64 pointer) ≡ true
     → section_at (set words 63 value) pointer ≡ section_at words pointer
 section_cases words value pointer true is behind = rw is refl
 section_cases words value pointer false is behind =
@@ -34,11 +36,13 @@ section_cases words value pointer false is behind =
     let rest = drop-set-lt (pointer + 1) words 63 value (omega arith) in
     rw (first, rest) refl
 
-pub section_at-set : (words : List ℕ) (value pointer : ℕ) → is_behind pointer ≡ true → section_at (set words 63 value) pointer ≡ section_at words pointer
+pub section_at-set : (words : List ℕ) (value pointer : ℕ) → is_behind pointer ≡ true
+    → section_at (set words 63 value) pointer ≡ section_at words pointer
 section_at-set words value pointer behind = section_cases words value pointer (is_unused pointer) refl behind
 
 sections_sum-set : (words : List ℕ) (value : ℕ) (ps : List ℕ) → list_all is_behind ps ≡ true
-    → sum_by (λ pointer. sum (section_at (set words 63 value) pointer)) ps ≡ sum_by (λ pointer. sum (section_at words pointer)) ps
+    → sum_by (λ pointer. sum (section_at (set words 63 value) pointer)) ps
+    ≡ sum_by (λ pointer. sum (section_at words pointer)) ps
 sections_sum-set words value [] behind = refl
 sections_sum-set words value (p ∷ ps) behind =
     let both = and_parts (is_behind p) (list_all is_behind ps) behind in
@@ -51,8 +55,12 @@ sections_sum-set words value (p ∷ ps) behind =
 pub checked_sum-set : (words : List ℕ) (value : ℕ) → 63 < length words → list_all is_behind (pointers words) ≡ true
     → checked_sum (set words 63 value) + word_at words 63 ≡ checked_sum words + value
 checked_sum-set words value long behind =
-    let new : sum (take 64 (set words 63 value)) ≡ sum (take 63 words) + (0 + value) = ap sum (take_more_set words 63 value long) ∙ sum_by-append (λ x. x) (take 63 words) (value ∷ []) in
-    let old : sum (take 64 words) ≡ sum (take 63 words) + (0 + word_at words 63) = ap sum (take_more words 63 65535 long) ∙ sum_by-append (λ x. x) (take 63 words) (word_at words 63 ∷ []) in
-    let moved : sum_by (λ pointer. sum (section_at (set words 63 value) pointer)) (pointers (set words 63 value)) ≡ sum_by (λ pointer. sum (section_at words pointer)) (pointers words) =
-    ap (λ ps. sum_by (λ pointer. sum (section_at (set words 63 value) pointer)) ps) (pointers-set words value) ∙ sections_sum-set words value (pointers words) behind in
+    let new : sum (take 64 (set words 63 value)) ≡ sum (take 63 words) + (0 + value) =
+    ap sum (take_more_set words 63 value long) ∙ sum_by-append (λ x. x) (take 63 words) (value ∷ []) in
+    let old : sum (take 64 words) ≡ sum (take 63 words) + (0 + word_at words 63) =
+    ap sum (take_more words 63 65535 long) ∙ sum_by-append (λ x. x) (take 63 words) (word_at words 63 ∷ []) in
+    let moved : sum_by (λ pointer. sum (section_at (set words 63 value) pointer)) (pointers (set words 63 value))
+    ≡ sum_by (λ pointer. sum (section_at words pointer)) (pointers words) =
+    ap (λ ps. sum_by (λ pointer. sum (section_at (set words 63 value) pointer)) ps) (pointers-set words value)
+    ∙ sections_sum-set words value (pointers words) behind in
     omega arith

@@ -14,7 +14,8 @@ length-bytes_of [] = refl
 length-bytes_of (word ∷ words) = let rest = length-bytes_of words in omega arith
 
 -- the word at an index stands at twice that index
-pub get_or-words_of : (bytes : List ℕ) (i d : ℕ) → i < length bytes / 2 → get_or (words_of bytes) i d ≡ little_number 2 (drop (2 * i) bytes)
+pub get_or-words_of : (bytes : List ℕ) (i d : ℕ) → i < length bytes / 2
+    → get_or (words_of bytes) i d ≡ little_number 2 (drop (2 * i) bytes)
 get_or-words_of [] i d h = absurd (omega arith)
 get_or-words_of (low ∷ []) i d h = absurd (omega arith)
 get_or-words_of (low ∷ high ∷ bytes) zero d h = omega arith
@@ -23,14 +24,16 @@ get_or-words_of (low ∷ high ∷ bytes) (suc i) d h =
     get_or-words_of bytes i d (omega arith) ∙ ap (λ n. little_number 2 (drop n (low ∷ high ∷ bytes))) (sym twice)
 
 -- words that were read one by one are those of the file
-pub words_of-from_read : (bytes words : List ℕ) → length bytes ≡ 2 * length words → IsRead little_number 2 bytes words → words ≡ words_of bytes
+pub words_of-from_read : (bytes words : List ℕ) → length bytes ≡ 2 * length words → IsRead little_number 2 bytes words
+    → words ≡ words_of bytes
 words_of-from_read bytes words whole read =
     let even : length words ≡ length bytes / 2 = omega arith in
     same_lists words (words_of bytes) (omega (arith, length-words_of bytes)) (λ k d h.
     get_or_default words k d 0 h ∙ read k h ∙ sym (get_or-words_of bytes k d (omega arith)))
 
 -- a file gives back the words that it was made of
-pub words_of-bytes_of : (words : List ℕ) → ((index : ℕ) → word_at words index < 2 ^ 16) → words_of (bytes_of words) ≡ words
+pub words_of-bytes_of : (words : List ℕ) → ((index : ℕ) → word_at words index < 2 ^ 16)
+    → words_of (bytes_of words) ≡ words
 words_of-bytes_of [] fits = refl
 words_of-bytes_of (word ∷ words) fits =
     let small = fits 0 in
@@ -39,7 +42,8 @@ words_of-bytes_of (word ∷ words) fits =
     cc
 
 -- words give back the file that they were read from
-pub bytes_of-words_of : (bytes : List ℕ) → length bytes % 2 ≡ 0 → ((i : ℕ) → get_or bytes i 0 < 256) → bytes_of (words_of bytes) ≡ bytes
+pub bytes_of-words_of : (bytes : List ℕ) → length bytes % 2 ≡ 0 → ((i : ℕ) → get_or bytes i 0 < 256)
+    → bytes_of (words_of bytes) ≡ bytes
 bytes_of-words_of [] even fits = refl
 bytes_of-words_of (low ∷ []) even fits = absurd (omega arith)
 bytes_of-words_of (low ∷ high ∷ bytes) even fits =
@@ -51,7 +55,8 @@ bytes_of-words_of (low ∷ high ∷ bytes) even fits =
     cc
 
 -- two bytes make a word that fits
-pub words_of-fit : (bytes : List ℕ) → ((i : ℕ) → get_or bytes i 0 < 256) → (index : ℕ) → word_at (words_of bytes) index < 2 ^ 16
+pub words_of-fit : (bytes : List ℕ) → ((i : ℕ) → get_or bytes i 0 < 256) → (index : ℕ)
+    → word_at (words_of bytes) index < 2 ^ 16
 words_of-fit [] fits index = omega arith
 words_of-fit (low ∷ []) fits index = omega arith
 words_of-fit (low ∷ high ∷ bytes) fits zero = omega (arith, fits 0, fits 1)

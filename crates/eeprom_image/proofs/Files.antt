@@ -9,11 +9,13 @@ use Rattle.eeprom_image.specs.File.{file_fault, words_fault}
 use Rattle.eeprom_image.specs.declared.file.LoadFault.{LoadFault}
 use Rattle.eeprom_image.proofs.FileBytes.{length-words_of, length-bytes_of, words_of-bytes_of, bytes_of-words_of, words_of-fit}
 
-passed : (b : Bool) (fault : LoadFault) (rest : Option LoadFault) → cond (not b) (Some fault) rest ≡ None → (b ≡ true) × (rest ≡ None)
+passed : (b : Bool) (fault : LoadFault) (rest : Option LoadFault) → cond (not b) (Some fault) rest ≡ None
+    → (b ≡ true) × (rest ≡ None)
 passed true fault rest h = (refl, h)
 passed false fault rest h = cc
 
-words_pass : (words : List ℕ) → words_fault words ≡ None → (are_inside words ≡ true) × (is_checked words ≡ true) × (has_whole_triples words ≡ true)
+words_pass : (words : List ℕ) → words_fault words ≡ None
+    → (are_inside words ≡ true) × (is_checked words ≡ true) × (has_whole_triples words ≡ true)
 words_pass words h =
     let sections = passed (are_inside words) _ _ h in
     let checksum = passed (is_checked words) _ _ sections.1 in
@@ -24,7 +26,8 @@ pub even_file : (bytes : List ℕ) → file_fault bytes ≡ None → length byte
 unfolding file_fault
 even_file bytes h = eqb-true (length bytes % 2) 0 (passed ((length bytes % 2) == 0) _ _ h).0
 
-pub image_from_file : (bytes : List ℕ) → ((i : ℕ) → get_or bytes i 0 < 256) → file_fault bytes ≡ None → IsImage (words_of bytes) × (bytes ≡ bytes_of (words_of bytes))
+pub image_from_file : (bytes : List ℕ) → ((i : ℕ) → get_or bytes i 0 < 256) → file_fault bytes ≡ None
+    → IsImage (words_of bytes) × (bytes ≡ bytes_of (words_of bytes))
 unfolding file_fault
 image_from_file bytes fits h =
     let even = passed ((length bytes % 2) == 0) _ _ h in
@@ -40,7 +43,8 @@ image_from_file bytes fits h =
       sym (bytes_of-words_of bytes (eqb-true (length bytes % 2) 0 even.0) fits),
     )
 
-pub file_from_image : (words : List ℕ) → IsImage words → (file_fault (bytes_of words) ≡ None) × (words_of (bytes_of words) ≡ words)
+pub file_from_image : (words : List ℕ) → IsImage words
+    → (file_fault (bytes_of words) ≡ None) × (words_of (bytes_of words) ≡ words)
 unfolding file_fault
 file_from_image words image =
     let same = words_of-bytes_of words image.fits in

@@ -17,23 +17,30 @@ pub length-put_words : (words : List ℕ) (given : List (ℕ × ℕ)) → length
 length-put_words words [] = refl
 length-put_words words (g ∷ given) = length-put_words (set words g.0 g.1) given ∙ length-set words g.0 g.1
 
-word_at-put_word : (words : List ℕ) (g : ℕ × ℕ) (index : ℕ) → index < length words → word_at (set words g.0 g.1) index ≡ cond (g.0 == index) g.1 (word_at words index)
+word_at-put_word : (words : List ℕ) (g : ℕ × ℕ) (index : ℕ) → index < length words
+    → word_at (set words g.0 g.1) index ≡ cond (g.0 == index) g.1 (word_at words index)
 word_at-put_word words g index inside = elim (eqb_tells g.0 index) [
-  | inl (t, same) ↦ rw t (ap (λ i. word_at (set words g.0 g.1) i) (sym same) ∙ get_or-set_same words g.0 g.1 65535 (omega arith))
+  | inl (t, same) ↦ rw t (ap (λ i. word_at (set words g.0 g.1) i) (sym same)
+      ∙ get_or-set_same words g.0 g.1 65535 (omega arith))
   | inr (t, other) ↦ rw t (get_or-set_other words g.0 index g.1 65535 (λ e. other (sym e)))
 ]
 
-pub word_at-put_words : (words : List ℕ) (given : List (ℕ × ℕ)) (index : ℕ) → index < length words → word_at (fold put_word words given) index ≡ value_after index (word_at words index) given
+pub word_at-put_words : (words : List ℕ) (given : List (ℕ × ℕ)) (index : ℕ) → index < length words
+    → word_at (fold put_word words given) index ≡ value_after index (word_at words index) given
 word_at-put_words words [] index inside = refl
 word_at-put_words words (g ∷ given) index inside =
     word_at-put_words (set words g.0 g.1) given index (omega (arith, length-set words g.0 g.1))
     ∙ ap (λ v. fold (λ v g. cond (g.0 == index) g.1 v) v given) (word_at-put_word words g index inside)
 
-pub length-with_section : (words section : List ℕ) → 64 + length section ≤ length words → length (with_section words section) ≡ length words
+pub length-with_section : (words section : List ℕ) → 64 + length section ≤ length words
+    → length (with_section words section) ≡ length words
 length-with_section words section fits = simp (length-append, length-take, length-drop) (omega arith)
 
-pub word_at-with_section : (words section : List ℕ) (index : ℕ) → 64 + length section ≤ length words → index < length words
-    → word_at (with_section words section) index ≡ cond (nat_le 64 index && nat_lt index (64 + length section)) (get_or section (index - 64) 65535) (word_at words index)
+pub word_at-with_section : (words section : List ℕ) (index : ℕ) → 64 + length section ≤ length words
+    → index < length words
+    → word_at (with_section words section) index
+    ≡ cond (nat_le 64 index && nat_lt index (64 + length section)) (get_or section (index - 64) 65535)
+    (word_at words index)
 word_at-with_section words section index fits inside =
     let front = length-take-le 64 words (omega arith) in
     elim (leb_tells 64 index) [
@@ -41,16 +48,20 @@ word_at-with_section words section index fits inside =
         | inl (u, after) ↦
             let not_in : nat_lt index (64 + length section) ≡ false = le-ltb index (64 + length section) after in
             let place : 64 + length section + (index - 64 - length section) ≡ index = omega arith in
-            rw (t, not_in) (get_or-append_right (take 64 words) (section ++ drop (64 + length section) words) 64 index 65535 front behind
-            ∙ get_or-append_right section (drop (64 + length section) words) (length section) (index - 64) 65535 refl (omega arith)
+            rw (t, not_in) (get_or-append_right (take 64 words) (section ++ drop (64 + length section) words) 64 index
+            65535 front behind
+            ∙ get_or-append_right section (drop (64 + length section) words) (length section) (index - 64) 65535 refl
+            (omega arith)
             ∙ get_or-drop (64 + length section) words (index - 64 - length section) 65535
             ∙ ap (λ i. word_at words i) place)
         | inr (u, before) ↦
             let in_it : nat_lt index (64 + length section) ≡ true = lt-ltb index (64 + length section) before in
-            rw (t, in_it) (get_or-append_right (take 64 words) (section ++ drop (64 + length section) words) 64 index 65535 front behind
+            rw (t, in_it) (get_or-append_right (take 64 words) (section ++ drop (64 + length section) words) 64 index
+            65535 front behind
             ∙ get_or_append_left section (drop (64 + length section) words) 65535 (index - 64) (omega arith))
       ]
-      | inr (t, before) ↦ rw t (get_or_append_left (take 64 words) (section ++ drop (64 + length section) words) 65535 index (omega arith)
+      | inr (t, before) ↦ rw t (get_or_append_left (take 64 words) (section ++ drop (64 + length section) words) 65535
+          index (omega arith)
           ∙ get_or-take 64 words index 65535 before)
     ]
 
@@ -58,7 +69,8 @@ pub length-flat_triples : (triples : List (ℕ × ℕ)) → length (flat_map tri
 length-flat_triples [] = refl
 length-flat_triples (triple ∷ triples) = let rest = length-flat_triples triples in omega arith
 
-pub section_end-is : (triple : ℕ × ℕ) (triples : List (ℕ × ℕ)) → section_end (triple ∷ triples) ≡ 64 + length (csr_section (triple ∷ triples))
+pub section_end-is : (triple : ℕ × ℕ) (triples : List (ℕ × ℕ))
+    → section_end (triple ∷ triples) ≡ 64 + length (csr_section (triple ∷ triples))
 section_end-is triple triples = omega (arith, length-flat_triples (triple ∷ triples))
 
 no_section : (index : ℕ) → (nat_le 64 index && nat_lt index 64) ≡ false
@@ -67,19 +79,22 @@ no_section index = elim (leb_tells 64 index) [
   | inr (t, before) ↦ rw t refl
 ]
 
-pub section_end-some : (triples : List (ℕ × ℕ)) → 0 < length triples → section_end triples ≡ 64 + length (csr_section triples)
+pub section_end-some : (triples : List (ℕ × ℕ)) → 0 < length triples
+    → section_end triples ≡ 64 + length (csr_section triples)
 section_end-some [] some = absurd (omega arith)
 section_end-some (triple ∷ triples) some = section_end-is triple triples
 
 -- what the words are once the CSR section and its pointer are put among those given
-pub laid_with_triples : (content : Content) (words : List ℕ) (triple : ℕ × ℕ) (triples : List (ℕ × ℕ)) → content.triples ≡ triple ∷ triples
+pub laid_with_triples : (content : Content) (words : List ℕ) (triple : ℕ × ℕ) (triples : List (ℕ × ℕ))
+    → content.triples ≡ triple ∷ triples
     → length words ≡ content.size → section_end content.triples ≤ content.size
     → ((index : ℕ) → index < content.size → word_at words index ≡ given_word content.words index)
     → (index : ℕ) → index < content.size → index ≢ 63
     → word_at (set (with_section (set words 13 64) (csr_section content.triples)) 63 0) index ≡ plain_word content index
 laid_with_triples content words triple triples some size fits given index inside other =
     let section = csr_section content.triples in
-    let end : section_end content.triples ≡ 64 + length (csr_section content.triples) = rw some (section_end-is triple triples) in
+    let end : section_end content.triples ≡ 64 + length (csr_section content.triples) =
+    rw some (section_end-is triple triples) in
     let room : 64 + length section ≤ length (set words 13 64) = omega (arith, length-set words 13 64) in
     let there : index < length (set words 13 64) = omega (arith, length-set words 13 64) in
     let behind = get_or-set_other (with_section (set words 13 64) section) 63 index 0 65535 other in
@@ -87,14 +102,17 @@ laid_with_triples content words triple triples some size fits given index inside
     rw behind (rw around (elim (eqb_tells index 13) [
       | inl (t, at) ↦
           let low : nat_le 64 index ≡ false = lt-leb 64 index (omega arith) in
-          let here : word_at (set words 13 64) index ≡ 64 = ap (λ i. word_at (set words 13 64) i) at ∙ get_or-set_same words 13 64 65535 (omega arith) in
+          let here : word_at (set words 13 64) index ≡ 64 =
+          ap (λ i. word_at (set words 13 64) i) at ∙ get_or-set_same words 13 64 65535 (omega arith) in
           rw (low, here, t, some) refl
       | inr (t, apart) ↦
-          let here : word_at (set words 13 64) index ≡ given_word content.words index = get_or-set_other words 13 index 64 65535 apart ∙ given index inside in
+          let here : word_at (set words 13 64) index ≡ given_word content.words index =
+          get_or-set_other words 13 index 64 65535 apart ∙ given index inside in
           rw (here, t, end) refl
     ]))
 
-pub laid_without_triples : (content : Content) (words : List ℕ) → content.triples ≡ [] → length words ≡ content.size → 64 ≤ content.size
+pub laid_without_triples : (content : Content) (words : List ℕ) → content.triples ≡ [] → length words ≡ content.size
+    → 64 ≤ content.size
     → ((index : ℕ) → index < content.size → word_at words index ≡ given_word content.words index)
     → (index : ℕ) → index < content.size → index ≢ 63
     → word_at (set (set words 13 65535) 63 0) index ≡ plain_word content index
@@ -102,26 +120,31 @@ laid_without_triples content words none size long given index inside other =
     let behind = get_or-set_other (set words 13 65535) 63 index 0 65535 other in
     rw behind (elim (eqb_tells index 13) [
       | inl (t, at) ↦
-          let here : word_at (set words 13 65535) index ≡ 65535 = ap (λ i. word_at (set words 13 65535) i) at ∙ get_or-set_same words 13 65535 65535 (omega arith) in
+          let here : word_at (set words 13 65535) index ≡ 65535 =
+          ap (λ i. word_at (set words 13 65535) i) at ∙ get_or-set_same words 13 65535 65535 (omega arith) in
           rw (here, t, none) refl
       | inr (t, apart) ↦
-          let here : word_at (set words 13 65535) index ≡ given_word content.words index = get_or-set_other words 13 index 65535 65535 apart ∙ given index inside in
+          let here : word_at (set words 13 65535) index ≡ given_word content.words index =
+          get_or-set_other words 13 index 65535 65535 apart ∙ given index inside in
           rw (here, t, none, no_section index) refl
     ])
 
-length-with_csr : (words : List ℕ) (triples : List (ℕ × ℕ)) → section_end triples ≤ length words → length (with_csr words triples) ≡ length words
+length-with_csr : (words : List ℕ) (triples : List (ℕ × ℕ)) → section_end triples ≤ length words
+    → length (with_csr words triples) ≡ length words
 length-with_csr words [] room = length-set words 13 65535
 length-with_csr words (triple ∷ triples) room =
     let end = section_end-is triple triples in
     let same = length-set words 13 64 in
     length-with_section (set words 13 64) (csr_section (triple ∷ triples)) (omega arith) ∙ same
 
-laid_csr : (content : Content) (words : List ℕ) → length words ≡ content.size → 64 ≤ content.size → section_end content.triples ≤ content.size
+laid_csr : (content : Content) (words : List ℕ) → length words ≡ content.size → 64 ≤ content.size
+    → section_end content.triples ≤ content.size
     → ((index : ℕ) → index < content.size → word_at words index ≡ given_word content.words index)
     → (triples : List (ℕ × ℕ)) → content.triples ≡ triples → (index : ℕ) → index < content.size → index ≢ 63
     → word_at (set (with_csr words content.triples) 63 0) index ≡ plain_word content index
 laid_csr content words size long room given [] none index inside other =
-    ap (λ ts. word_at (set (with_csr words ts) 63 0) index) none ∙ laid_without_triples content words none size long given index inside other
+    ap (λ ts. word_at (set (with_csr words ts) 63 0) index) none
+    ∙ laid_without_triples content words none size long given index inside other
 laid_csr content words size long room given (triple ∷ triples) some index inside other =
     ap (λ ts. word_at (set (with_csr words ts) 63 0) index) some
     ∙ ap (λ ts. word_at (set (with_section (set words 13 64) (csr_section ts)) 63 0) index) (sym some)
@@ -129,14 +152,16 @@ laid_csr content words size long room given (triple ∷ triples) some index insi
 
 -- the words of a text once all is put among words 0xFFFF
 pub IsLaidOut-put : (content : Content) → 64 ≤ content.size → section_end content.triples ≤ content.size
-    → IsLaidOut content (set (with_csr (fold put_word (replicate content.size 65535) content.words) content.triples) 63 0)
+    → IsLaidOut content (set (with_csr (fold put_word (replicate content.size 65535) content.words) content.triples) 63
+    0)
 IsLaidOut-put content long room =
     let blank = replicate content.size 65535 in
     let words = fold put_word blank content.words in
     let filled = length-replicate content.size 65535 in
     let size : length words ≡ content.size = length-put_words blank content.words ∙ filled in
     let given = λ (index : ℕ) (inside : index < content.size).
-    word_at-put_words blank content.words index (omega arith) ∙ ap (λ v. value_after index v content.words) (get_or-replicate content.size index 65535 65535 inside) in
+    word_at-put_words blank content.words index (omega arith)
+    ∙ ap (λ v. value_after index v content.words) (get_or-replicate content.size index 65535 65535 inside) in
     let whole = length-with_csr words content.triples (omega arith) in
     record {
       size = length-set (with_csr words content.triples) 63 0 ∙ whole ∙ size;
@@ -144,6 +169,7 @@ IsLaidOut-put content long room =
       zero = get_or-set_same (with_csr words content.triples) 63 0 65535 (omega arith);
     }
 
-pub with_csr-some : (words : List ℕ) (triples : List (ℕ × ℕ)) → 0 < length triples → with_csr words triples ≡ with_section (set words 13 64) (csr_section triples)
+pub with_csr-some : (words : List ℕ) (triples : List (ℕ × ℕ)) → 0 < length triples
+    → with_csr words triples ≡ with_section (set words 13 64) (csr_section triples)
 with_csr-some words [] some = absurd (omega arith)
 with_csr-some words (triple ∷ triples) some = refl

@@ -14,12 +14,14 @@ one_line true part = omega arith
 one_line false part = omega arith
 
 -- another byte more is a line more at most
-at_other : (byte : ℕ) (parts : List (List ℕ)) → length (lines_of_parts (onto_first byte parts)) ≤ length (lines_of_parts parts) + 1
+at_other : (byte : ℕ) (parts : List (List ℕ))
+    → length (lines_of_parts (onto_first byte parts)) ≤ length (lines_of_parts parts) + 1
 at_other byte [] = omega arith
 at_other byte (part ∷ []) = omega (arith, one_line (length (byte ∷ part) == 0) (byte ∷ part))
 at_other byte (part ∷ next ∷ parts) = omega arith
 
-step : (newline : Bool) (byte : ℕ) (parts : List (List ℕ)) → length (lines_of_parts (cond newline ([] ∷ parts) (onto_first byte parts))) ≤ length (lines_of_parts parts) + 1
+step : (newline : Bool) (byte : ℕ) (parts : List (List ℕ))
+    → length (lines_of_parts (cond newline ([] ∷ parts) (onto_first byte parts))) ≤ length (lines_of_parts parts) + 1
 step true byte parts = at_newline parts
 step false byte parts = at_other byte parts
 

@@ -10,4 +10,5 @@ sum-part_more words first i x low high here =
     let inside : i - first < length (drop first words) = omega (arith, length-drop first words) in
     ap (λ n. sum (take n (drop first words))) next
     ∙ sum_by_more (λ x. x) (drop first words) (i - first) 65535 inside
-    ∙ ap (λ n. sum (take (i - first) (drop first words)) + n) (get_or-drop first words (i - first) 65535 ∙ ap (λ n. get_or words n 65535) place ∙ sym here)
+    ∙ ap (λ n. sum (take (i - first) (drop first words)) + n) (get_or-drop first words (i - first) 65535
+    ∙ ap (λ n. get_or words n 65535) place ∙ sym here)

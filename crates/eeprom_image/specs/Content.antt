@@ -29,13 +29,15 @@ abbrev pub with_line : Content → ℕ → TextLine → Result Content AsmFault
 with_line content number Empty = Ok content
 with_line content number (Size size) = Err (Syntax number)
 with_line content number (Word index value) = Ok (record content { words = content.words ++ ((index, value) ∷ []) })
-with_line content number (Csr offset value) = Ok (record content { triples = content.triples ++ ((offset, value) ∷ []) })
+with_line content number (Csr offset value) =
+    Ok (record content { triples = content.triples ++ ((offset, value) ∷ []) })
 with_line content number Malformed = Err (Syntax number)
 
 -- the content with these lines more
 unfoldable pub with_lines : Content → List NumberedLine → Result Content AsmFault
 with_lines content [] = Ok content
-with_lines content (line ∷ lines) = with_line content line.number (text_line line.text) then λ more. with_lines more lines
+with_lines content (line ∷ lines) =
+    with_line content line.number (text_line line.text) then λ more. with_lines more lines
 
 -- a size and the lines behind it, where there is one
 abbrev pub Sized : Type 0
@@ -67,4 +69,5 @@ content_of text = sized (lines_of text) then content_behind (length (lines_of te
 pub record IsContent (content : Content) : Type 0 where
   pub size : IsTrue (is_size content.size)
   pub words : AllByRecursion (λ given. given.1 < 65536) content.words
-  pub triples : AllByRecursion (λ triple. (triple.0 % 4 ≡ 0) × (triple.0 < 0x40000) × (triple.1 < 65536 * 65536)) content.triples
+  pub triples : AllByRecursion (λ triple. (triple.0 % 4 ≡ 0) × (triple.0 < 0x40000) × (triple.1 < 65536 * 65536))
+      content.triples

@@ -37,7 +37,8 @@ is_reserved end index = (index == 0x0D) || (index == 0x3F) || (nat_le 0x40 index
 
 -- each word given and the CSR section is inside
 abbrev pub fits : Content → Bool
-fits content = list_all (λ given. nat_lt given.0 content.size) content.words && nat_le (section_end content.triples) content.size
+fits content = list_all (λ given. nat_lt given.0 content.size) content.words
+    && nat_le (section_end content.triples) content.size
 
 -- the three words of a triple
 abbrev pub triple_words : ℕ × ℕ → List ℕ
@@ -60,18 +61,21 @@ csr_pointer (triple ∷ triples) = 0x40
 abbrev pub plain_word : Content → ℕ → ℕ
 plain_word content index =
     if index == 0x0D then csr_pointer content.triples else
-    if nat_le 0x40 index && nat_lt index (section_end content.triples) then get_or (csr_section content.triples) (index - 0x40) 0xFFFF else
+    if nat_le 0x40 index && nat_lt index (section_end content.triples)
+    then get_or (csr_section content.triples) (index - 0x40) 0xFFFF else
     given_word content.words index
 
 -- a pointer is unused, or points from 0x40 on to a section that is inside
 abbrev pub is_right_pointer : Content → ℕ → Bool
 is_right_pointer content pointer =
-    is_unused pointer || (nat_le 0x40 pointer && nat_lt (pointer + word_count (plain_word content pointer)) content.size)
+    is_unused pointer || (nat_le 0x40 pointer
+    && nat_lt (pointer + word_count (plain_word content pointer)) content.size)
 
 -- each pointer is right
 unfoldable pub points_inside : Content → Bool
 points_inside content =
-    list_all (is_right_pointer content) (map (plain_word content) (3 ∷ 4 ∷ 5 ∷ 6 ∷ 7 ∷ 8 ∷ 9 ∷ 10 ∷ 11 ∷ 12 ∷ 13 ∷ 14 ∷ []))
+    list_all (is_right_pointer content)
+    (map (plain_word content) (3 ∷ 4 ∷ 5 ∷ 6 ∷ 7 ∷ 8 ∷ 9 ∷ 10 ∷ 11 ∷ 12 ∷ 13 ∷ 14 ∷ []))
 
 -- the lowest index given twice, else the lowest reserved one that is given
 abbrev pub index_fault : Option ℕ → Option ℕ → Option AsmFault

@@ -22,7 +22,8 @@ one_number (word ∷ next ∷ more) = None
 -- two numbers and no more
 abbrev pub two_numbers : List (List ℕ) → Option (ℕ × ℕ)
 two_numbers [] = None
-two_numbers (word ∷ more) = elim (number_in word) [ None ↦ None | Some first ↦ option_map (λ second. (first, second)) (one_number more) ]
+two_numbers (word ∷ more) = elim (number_in word)
+    [ None ↦ None | Some first ↦ option_map (λ second. (first, second)) (one_number more) ]
 
 -- a number of words that an image may have
 abbrev pub size_line : Option ℕ → TextLine

@@ -25,7 +25,8 @@ pub record IsImageOf (content : Content) (words : List ℕ) : Type 0 where
   pub pointers : IsTrue (list_all is_behind (pointers words))
   pub size : length words ≡ content.size
   -- it has the words given, and 0xFFFF in each other word that isn't reserved
-  pub given : (index : ℕ) → index < content.size → IsFalse (is_reserved (section_end content.triples) index) → word_at words index ≡ given_word content.words index
+  pub given : (index : ℕ) → index < content.size → IsFalse (is_reserved (section_end content.triples) index)
+      → word_at words index ≡ given_word content.words index
   -- it has the triples given, at 0x40 where there are any
   pub pointer : word_at words 0x0D ≡ csr_pointer content.triples
   pub triples : triples_of words ≡ content.triples

@@ -12,7 +12,8 @@ is_blank-ascii : (byte : ℕ) → is_blank byte ≡ true → byte < 128
 is_blank-ascii byte blank = grind (arith, nat_tests)
 
 -- the first blank is a byte of its own
-pub position-blank : (text : List ℕ) (i : ℕ) → position is_blank text ≡ Some i → (i < length text) × (get_or text i 0 < 128)
+pub position-blank : (text : List ℕ) (i : ℕ) → position is_blank text ≡ Some i
+    → (i < length text) × (get_or text i 0 < 128)
 position-blank text i at =
     let first = position-Some is_blank text i 0 at in
     (first.0, is_blank-ascii (get_or text i 0) first.1)
@@ -22,7 +23,8 @@ IsCharBoundary-blank text i at =
     let byte = position-blank text i at in
     IsCharBoundary-before_ascii text i byte.0 byte.1
 
-pub IsCharBoundary-behind_blank : (text : List ℕ) (i : ℕ) → IsUtf8 text → position is_blank text ≡ Some i → IsCharBoundary text (i + 1)
+pub IsCharBoundary-behind_blank : (text : List ℕ) (i : ℕ) → IsUtf8 text → position is_blank text ≡ Some i
+    → IsCharBoundary text (i + 1)
 IsCharBoundary-behind_blank text i utf8 at =
     let byte = position-blank text i at in
     IsCharBoundary-after_ascii text i utf8 byte.0 byte.1

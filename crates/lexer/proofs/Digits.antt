@@ -10,7 +10,8 @@ use Rattle.lexer.specs.Number.{numeral_of}
 use Rattle.lexer.specs.declared.numbers.NumberFault.TheVariants.{TooLarge}
 use borrow.Author.Tests.{ltb-true, le-ltb}
 
-AllDigits-list_all : (radix : ℕ) (word : List ℕ) → list_all (λ byte. is_digit byte radix) word ≡ true → AllDigits radix word
+AllDigits-list_all : (radix : ℕ) (word : List ℕ) → list_all (λ byte. is_digit byte radix) word ≡ true
+    → AllDigits radix word
 AllDigits-list_all radix [] all = tt
 AllDigits-list_all radix (byte ∷ others) all =
     let both = and_parts (is_digit byte radix) (list_all (λ byte. is_digit byte radix) others) all in
@@ -23,8 +24,10 @@ digits_have_no_plus radix (byte ∷ others) high all = without_leading_plus_none
     let no_digit : 36 < radix = subst P plus all.0 in
     absurd (omega arith))
 
-pub numeral_of-too_large : (radix : ℕ) (word : List ℕ) → radix ≤ 36 → (length word == 0) ≡ false → list_all (λ byte. is_digit byte radix) word ≡ true
-    → ¬ (IsNumeral radix (without_leading_plus word) × (digits_value radix (without_leading_plus word) < 2 ^ 32)) → Err TooLarge ≡ numeral_of radix word
+pub numeral_of-too_large : (radix : ℕ) (word : List ℕ) → radix ≤ 36 → (length word == 0) ≡ false
+    → list_all (λ byte. is_digit byte radix) word ≡ true
+    → ¬ (IsNumeral radix (without_leading_plus word) × (digits_value radix (without_leading_plus word) < 2 ^ 32))
+    → Err TooLarge ≡ numeral_of radix word
 numeral_of-too_large radix word high some all refused =
     let digits = AllDigits-list_all radix word all in
     let same = digits_have_no_plus radix word high digits in

@@ -8,20 +8,23 @@ not_true : (b : Bool) → not b ≡ true → b ≡ false
 not_true true h = cc
 not_true false h = refl
 
-none_passes : (test : ℕ → Bool) (text : List ℕ) → position_or_len test text ≡ length text → All (λ byte. test byte ≡ false) text
+none_passes : (test : ℕ → Bool) (text : List ℕ) → position_or_len test text ≡ length text
+    → All (λ byte. test byte ≡ false) text
 none_passes test text none = λ k byte below.
     let before : k < prefix_len (λ b. not (test b)) text = omega arith in
     not_true (test (get_or text k byte)) (prefix_len_passes (λ b. not (test b)) text k byte before)
 
 -- where no byte passes, all is one part
-pub slice_split-whole : (test : ℕ → Bool) (text : List ℕ) → position_or_len test text ≡ length text → slice_split test text ≡ text ∷ []
+pub slice_split-whole : (test : ℕ → Bool) (text : List ℕ) → position_or_len test text ≡ length text
+    → slice_split test text ≡ text ∷ []
 slice_split-whole test text none = slice_split_none test text (none_passes test text none)
 
 -- a text has a first part
 abbrev pub HasFirst : List (List ℕ) → Type 0
 HasFirst parts = (first : List ℕ) × (more : List (List ℕ)) × (parts ≡ first ∷ more)
 
-first_of : (passes : Bool) (byte : ℕ) (parts : List (List ℕ)) → HasFirst (cond passes ([] ∷ parts) (onto_first byte parts))
+first_of : (passes : Bool) (byte : ℕ) (parts : List (List ℕ))
+    → HasFirst (cond passes ([] ∷ parts) (onto_first byte parts))
 first_of true byte parts = ([], parts, refl)
 first_of false byte [] = (byte ∷ [], [], refl)
 first_of false byte (part ∷ parts) = (byte ∷ part, parts, refl)

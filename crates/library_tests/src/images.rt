@@ -1,7 +1,7 @@
 //! An EEPROM image in a device.
 
 use crate::outcome::done;
-use eeprom_image::assemble;
+use eeprom_image::{Image, assemble};
 use nic_device::{Config, Device, Event, Parts, Port, Reply};
 use std::process::Abort;
 
@@ -47,4 +47,33 @@ fn an_image_is_applied_and_read(rt: HostRuntime) {
     assert_eq!(rt; frames.len(), 0);
     assert_eq!(rt; image.word(0x0D), 0x40);
     done(&rt, memory.finish());
+}
+
+/// Each word of an image is read through EERD, by its index.
+fn every_word_is_read(rt: &HostRuntime, text: &str) {
+    let alloc = rt.alloc();
+    let mut device = done(rt, Device::new(alloc, Config { vfs: 0, fifo: 64 }));
+    let _blank = device.install(done(rt, assemble(alloc, text)));
+    let image: Image = done(rt, assemble(alloc, text));
+    for (index, wanted) in image.words().iter().enumerate() {
+        let asked = done(rt, u32::try_from(index)) << 2;
+        make(rt, &mut device, Event::Write(Port::Pf, 0x10014, asked | 1));
+        make(rt, &mut device, Event::EepromStep);
+        let told = word(rt, &mut device, 0x10014);
+        assert_eq!(rt; told, u32::from(*wanted) << 16 | asked | 2);
+    }
+    let Parts {
+        memory,
+        frames: _,
+        image: _,
+    } = device.dismantle();
+    done(rt, memory.finish());
+}
+
+/// All words of a small, a middle and the largest image.
+#[test]
+fn every_word_of_an_image_is_read(rt: HostRuntime) {
+    every_word_is_read(&rt, "size 64\nword 0 1\nword 0x3e 0x1234\n");
+    every_word_is_read(&rt, "size 128\nword 1 2\nword 0x7f 0xabcd\ncsr 0x05080 0x400\n");
+    every_word_is_read(&rt, "size 16384\nword 2 3\nword 0x3fff 7\n");
 }

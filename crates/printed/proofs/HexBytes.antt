@@ -11,7 +11,8 @@ use Rattle.printed.specs.Bytes.{bytes_text}
 encode_with-append : (t xs ys : List ℕ) → encode_with t (xs ++ ys) ≡ encode_with t xs ++ encode_with t ys
 unfolding encode_with
 encode_with-append t [] ys = refl
-encode_with-append t (x ∷ xs) ys = ap (λ more. slice_index t (x / 16) ∷ slice_index t (x % 16) ∷ more) (encode_with-append t xs ys)
+encode_with-append t (x ∷ xs) ys =
+    ap (λ more. slice_index t (x / 16) ∷ slice_index t (x % 16) ∷ more) (encode_with-append t xs ys)
 
 -- the text of some bytes and of more
 pub bytes_text-append : (xs ys : List ℕ) → bytes_text (xs ++ ys) ≡ bytes_text xs ++ bytes_text ys
@@ -32,7 +33,8 @@ are_ascii (b ∷ bs) = ltb b 128 && are_ascii bs
 IsAscii-digits : IsAscii lower_digits
 unfolding are_ascii
 IsAscii-digits =
-    IsAscii-from_all lower_digits ((Decides-by_and (λ b. ltb b 128) (λ b. b < 128) are_ascii (λ b. Decides-ltb b 128) refl (λ _ _. refl) lower_digits).0 refl)
+    IsAscii-from_all lower_digits ((Decides-by_and (λ b. ltb b 128) (λ b. b < 128) are_ascii (λ b. Decides-ltb b 128)
+    refl (λ _ _. refl) lower_digits).0 refl)
 
 pub bytes_text-utf8 : (xs : List ℕ) → IsUtf8 (bytes_text xs)
 bytes_text-utf8 xs = IsUtf8-from_ascii (bytes_text xs) (IsAscii-encode_with lower_digits xs IsAscii-digits)

@@ -36,15 +36,18 @@ all_fields-back (f ∷ all) more widths =
     ∙ ap₂ (λ (f : Fields) (all : List Fields). f ∷ all) (fields-back f (rest ++ more) widths.0) others
 
 -- a data string in its own bytes
-pub string-back : (string more : List ℕ) → IsDataString string → string_in (bytes_of_string string ++ more) ≡ Some (string, more)
+pub string-back : (string more : List ℕ) → IsDataString string
+    → string_in (bytes_of_string string ++ more) ≡ Some (string, more)
 unfolding string_in
 string-back string more is =
     let size = from_le_bytes-to_le_bytes_2 (length string) (omega (arith, is.short)) in
     let bytes = bytes_of_string string ++ more in
-    let whole : length bytes ≡ 2 + length (string ++ more) = omega (arith, length-append (to_le_bytes w16 (length string)) (string ++ more)) in
+    let whole : length bytes ≡ 2 + length (string ++ more) =
+    omega (arith, length-append (to_le_bytes w16 (length string)) (string ++ more)) in
     let test = and_from _ _ (and_from _ _ (le-leb 1 (length string) is.some) (le-leb (length string) 16384 is.short))
     (le-leb (2 + length string) (length bytes) (omega (arith, length-append string more))) in
-    ap (λ (n : ℕ). cond (nat_le 1 n && nat_le n 16384 && nat_le (2 + n) (length bytes)) (Some (take n (drop 2 bytes), drop n (drop 2 bytes))) None) size
+    ap (λ (n : ℕ). cond (nat_le 1 n && nat_le n 16384 && nat_le (2 + n) (length bytes))
+    (Some (take n (drop 2 bytes), drop n (drop 2 bytes))) None) size
     ∙ cond-true _ (Some (take (length string) (string ++ more), drop (length string) (string ++ more))) None test
     ∙ ap₂ (λ (front back : List ℕ). Some (front, back)) (take-append_seam string more) (drop-append_seam string more)
 
@@ -63,7 +66,8 @@ says n d none total size =
     cond (nat_le 16 size && none == 0 && total == size && nat_le n 4096 && nat_le d 1024 && nat_le (16 + 12 * n) size)
     (Ok (record { count = n; strings = d })) (Err Length)
 
-says-back : (n d size : ℕ) → n ≤ 4096 → d ≤ 1024 → 16 + 12 * n ≤ size → says n d 0 size size ≡ Ok (record { count = n; strings = d })
+says-back : (n d size : ℕ) → n ≤ 4096 → d ≤ 1024 → 16 + 12 * n ≤ size
+    → says n d 0 size size ≡ Ok (record { count = n; strings = d })
 says-back n d size few few_strings inside =
     let fits = and_from _ _ (and_from _ _ (and_from _ _ (and_from _ _ (and_from _ _ (le-leb 16 size (omega arith)) refl)
     (eq-eqb size size refl)) (le-leb n 4096 few)) (le-leb d 1024 few_strings)) (le-leb (16 + 12 * n) size inside) in
@@ -74,12 +78,14 @@ pub header-back : (n d : ℕ) (body : List ℕ) → n ≤ 4096 → d ≤ 1024 �
 unfolding header_in
 header-back n d body few few_strings inside small =
     let size = 16 + length body in
-    let whole : length (header n d (16 + length body) ++ body) ≡ 16 + length body = omega (arith, length-append (header n d (16 + length body)) body) in
+    let whole : length (header n d (16 + length body) ++ body) ≡ 16 + length body =
+    omega (arith, length-append (header n d (16 + length body)) body) in
     let count = from_le_bytes-to_le_bytes_2 n (omega arith) in
     let strings = from_le_bytes-to_le_bytes_2 d (omega arith) in
     let none = from_le_bytes-to_le_bytes_2 0 (omega arith) in
     let total = from_le_bytes-to_le_bytes_4 (16 + length body) small in
-    let known : says (number16_at (header n d (16 + length body) ++ body) 6) (number16_at (header n d (16 + length body) ++ body) 8)
+    let known : says (number16_at (header n d (16 + length body) ++ body) 6)
+    (number16_at (header n d (16 + length body) ++ body) 8)
     (number16_at (header n d (16 + length body) ++ body) 10) (number32_at (header n d (16 + length body) ++ body) 12)
     (length (header n d (16 + length body) ++ body)) ≡ says n d 0 (16 + length body) (16 + length body) =
     λ i. says (count i) (strings i) (none i) (total i) (whole i) in

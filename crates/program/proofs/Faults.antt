@@ -10,18 +10,21 @@ use Rattle.program.specs.Meaning.{meaning}
 use Rattle.program.specs.Object.{◌then◌, meanings, at_pc, fault_at, before_instructions}
 
 -- an instruction, and a fault behind it
-behind_one : (first : Result (Instruction ℕ ℕ) FieldFault) (pc : ℕ) (rest : Result (List (Instruction ℕ ℕ)) ObjectFault) (fault : ObjectFault) → IsOk first →
+behind_one : (first : Result (Instruction ℕ ℕ) FieldFault) (pc : ℕ) (rest : Result (List (Instruction ℕ ℕ)) ObjectFault)
+    (fault : ObjectFault) → IsOk first →
     rest ≡ Err fault → at_pc pc first then (λ i. before_instructions i rest) ≡ Err fault
 behind_one (Ok i) pc rest fault ok is = ap (before_instructions i) is
 behind_one (Err e) pc rest fault ok is = let no : false ≡ true = ok in cc
 
-pub meanings-stopped : (strings : List (List ℕ)) (count pc : ℕ) (before : List Fields) (f : Fields) (behind : List Fields) (fault : FieldFault) →
+pub meanings-stopped : (strings : List (List ℕ)) (count pc : ℕ) (before : List Fields) (f : Fields)
+    (behind : List Fields) (fault : FieldFault) →
     AllByRecursion (λ g. IsOk (meaning strings count g)) before → meaning strings count f ≡ Err fault →
     meanings strings count pc (before ++ f ∷ behind) ≡ Err (fault_at (pc + length before) fault)
 unfolding meanings
 meanings-stopped strings count pc [] f behind fault good bad =
     let here : pc ≡ pc + 0 = omega arith in
-    ap (λ first. at_pc pc first then λ i. before_instructions i (meanings strings count (pc + 1) behind)) bad ∙ ap (λ pc. Err (fault_at pc fault)) here
+    ap (λ first. at_pc pc first then λ i. before_instructions i (meanings strings count (pc + 1) behind)) bad
+    ∙ ap (λ pc. Err (fault_at pc fault)) here
 meanings-stopped strings count pc (g ∷ before) f behind fault good bad =
     let more = meanings-stopped strings count (pc + 1) before f behind fault good.1 bad in
     let number : pc + 1 + length before ≡ pc + suc (length before) = omega arith in

@@ -22,18 +22,23 @@ behind-none (Ok more) = refl
 behind-one : (instructions : Instructions) (instruction : Instruction ℕ ℕ) (more : Result Instructions ObjectFault) →
     behind instructions (before_instructions instruction more) ≡ behind (instructions ++ instruction ∷ []) more
 behind-one instructions instruction (Err fault) = refl
-behind-one instructions instruction (Ok more) = ap (λ all. Ok all) (sym (append_assoc instructions (instruction ∷ []) more))
+behind-one instructions instruction (Ok more) =
+    ap (λ all. Ok all) (sym (append_assoc instructions (instruction ∷ []) more))
 
-module _ (strings : List (List ℕ)) (count pc : ℕ) (instructions : Instructions) (left rest : ℕ) (bytes : List ℕ) (is : left ≡ suc rest) where
+module _ (strings : List (List ℕ)) (count pc : ℕ) (instructions : Instructions) (left rest : ℕ) (bytes : List ℕ)
+    (is : left ≡ suc rest) where
   -- what the first instruction and those behind it give
   abbrev next : Result (Instruction ℕ ℕ) ObjectFault → Result Instructions ObjectFault
-  next first = behind instructions (first then λ i. before_instructions i (meanings strings count (pc + 1) (all_fields_in rest (drop 12 bytes))))
+  next first = behind instructions (first
+      then λ i. before_instructions i (meanings strings count (pc + 1) (all_fields_in rest (drop 12 bytes))))
 
-  next-is : behind instructions (meanings strings count pc (all_fields_in left bytes)) ≡ next (at_pc pc (meaning strings count (fields_in bytes)))
+  next-is : behind instructions (meanings strings count pc (all_fields_in left bytes))
+      ≡ next (at_pc pc (meaning strings count (fields_in bytes)))
   unfolding meanings all_fields_in
   next-is = ap (λ left. behind instructions (meanings strings count pc (all_fields_in left bytes))) is
 
-  pub behind-more : (instruction : Instruction ℕ ℕ) → Ok instruction ≡ at_pc pc (meaning strings count (fields_in bytes)) →
+  pub behind-more : (instruction : Instruction ℕ ℕ)
+      → Ok instruction ≡ at_pc pc (meaning strings count (fields_in bytes)) →
       behind instructions (meanings strings count pc (all_fields_in left bytes))
       ≡ behind (instructions ++ instruction ∷ []) (meanings strings count (pc + 1) (all_fields_in rest (drop 12 bytes)))
   behind-more instruction first = next-is ∙ ap next (sym first) ∙ behind-one instructions instruction _
@@ -47,6 +52,7 @@ pub behind-all : (strings : List (List ℕ)) (count pc : ℕ) (instructions : In
 unfolding meanings all_fields_in
 behind-all strings count pc instructions bytes = rw (append-nil instructions) refl
 
-pub AllByRecursion-push : {X : Type 0} (P : X → Type 0) (xs : List X) (x : X) → AllByRecursion P xs → P x → AllByRecursion P (xs ++ x ∷ [])
+pub AllByRecursion-push : {X : Type 0} (P : X → Type 0) (xs : List X) (x : X) → AllByRecursion P xs → P x
+    → AllByRecursion P (xs ++ x ∷ [])
 AllByRecursion-push P [] x all here = (here, tt)
 AllByRecursion-push P (y ∷ xs) x all here = (all.0, AllByRecursion-push P xs x all.1 here)

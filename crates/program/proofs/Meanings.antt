@@ -33,7 +33,8 @@ not_faulty : (i j : Instruction ℕ ℕ) (fault : Option FieldFault) → unless_
 not_faulty i j None is = ok_ok is
 not_faulty i j (Some fault) is = err_ok is
 
-checked : (f : Fields) (i j : Instruction ℕ ℕ) (same : Bool) (fault : Option FieldFault) → same_fields (fields_of i) f ≡ same →
+checked : (f : Fields) (i j : Instruction ℕ ℕ) (same : Bool) (fault : Option FieldFault)
+    → same_fields (fields_of i) f ≡ same →
     cond same (unless_faulty i fault) (Err Operand) ≡ Ok j → f ≡ fields_of j
 checked f i j true fault same is = sym (same_fields-are (fields_of i) f same) ∙ ap fields_of (not_faulty i j fault is)
 checked f i j false fault same is = err_ok is
@@ -43,30 +44,36 @@ spelled : (strings : List (List ℕ)) (count : ℕ) (f : Fields) (i : Option (In
 spelled strings count f None j is = err_ok {E = FieldFault} is
 spelled strings count f (Some i) j is = checked f i j (same_fields (fields_of i) f) (fault_in strings count i) refl is
 
-pub meaning-spelled : (strings : List (List ℕ)) (count : ℕ) (f : Fields) (i : Instruction ℕ ℕ) → meaning strings count f ≡ Ok i → f ≡ fields_of i
+pub meaning-spelled : (strings : List (List ℕ)) (count : ℕ) (f : Fields) (i : Instruction ℕ ℕ)
+    → meaning strings count f ≡ Ok i → f ≡ fields_of i
 meaning-spelled strings count f i is = spelled strings count f (instruction_in f) i is
 
 -- what such fields mean spells them
 abbrev AreSpelled : List (List ℕ) → ℕ → ℕ → List Fields → Type 0
 AreSpelled strings count pc all =
-    (instructions : List (Instruction ℕ ℕ)) → meanings strings count pc all ≡ Ok instructions → all ≡ map fields_of instructions
+    (instructions : List (Instruction ℕ ℕ)) → meanings strings count pc all ≡ Ok instructions
+    → all ≡ map fields_of instructions
 
-pub meanings-spelled : (strings : List (List ℕ)) (count pc : ℕ) (all : List Fields) (instructions : List (Instruction ℕ ℕ)) →
+pub meanings-spelled : (strings : List (List ℕ)) (count pc : ℕ) (all : List Fields)
+    (instructions : List (Instruction ℕ ℕ)) →
     meanings strings count pc all ≡ Ok instructions → all ≡ map fields_of instructions
 unfolding meanings
 meanings-spelled strings count pc [] instructions is = ap (map fields_of) (ok_ok is)
 meanings-spelled strings count pc (f ∷ more) instructions is =
     first (meaning strings count f) (meanings-spelled strings count (pc + 1) more) refl is
   where
-    rest : AreSpelled strings count (pc + 1) more → (i : Instruction ℕ ℕ) → meaning strings count f ≡ Ok i → (r : Result (List (Instruction ℕ ℕ)) ObjectFault) →
-        meanings strings count (pc + 1) more ≡ r → before_instructions i r ≡ Ok instructions → (f ∷ more) ≡ map fields_of instructions
+    rest : AreSpelled strings count (pc + 1) more → (i : Instruction ℕ ℕ) → meaning strings count f ≡ Ok i
+        → (r : Result (List (Instruction ℕ ℕ)) ObjectFault) →
+        meanings strings count (pc + 1) more ≡ r → before_instructions i r ≡ Ok instructions
+        → (f ∷ more) ≡ map fields_of instructions
     rest spelled i means (Err fault) read is = err_ok {E = ObjectFault} is
     rest spelled i means (Ok behind) read is =
         let here = meaning-spelled strings count f i means in
         let others = spelled behind read in
         ap (λ f. f ∷ more) here ∙ ap (λ more. fields_of i ∷ more) others ∙ ap (map fields_of) (ok_ok is)
 
-    first : (r : Result (Instruction ℕ ℕ) FieldFault) → AreSpelled strings count (pc + 1) more → meaning strings count f ≡ r →
+    first : (r : Result (Instruction ℕ ℕ) FieldFault) → AreSpelled strings count (pc + 1) more
+        → meaning strings count f ≡ r →
         at_pc pc r then (λ i. before_instructions i (meanings strings count (pc + 1) more)) ≡ Ok instructions →
         (f ∷ more) ≡ map fields_of instructions
     first (Err fault) spelled means is = err_ok {E = ObjectFault} is

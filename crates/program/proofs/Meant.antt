@@ -19,10 +19,12 @@ use Rattle.program.specs.Object.{◌then◌, meanings, at_pc, before_instruction
 low : (v : ℕ) → v < 63 → v % 256 ≡ v
 low v small = omega arith
 
-fields-said : (strings : List (List ℕ)) (count : ℕ) (i : Instruction ℕ ℕ) → IsSound strings count i → instruction_in (fields_of i) ≡ Some i
+fields-said : (strings : List (List ℕ)) (count : ℕ) (i : Instruction ℕ ℕ) → IsSound strings count i
+    → instruction_in (fields_of i) ≡ Some i
 fields-said strings count (Write address word) sound = refl
 fields-said strings count (Read address) sound = refl
-fields-said strings count (VfWrite function offset word) sound = ap (λ v. Some (VfWrite v offset word)) (low function sound)
+fields-said strings count (VfWrite function offset word) sound =
+    ap (λ v. Some (VfWrite v offset word)) (low function sound)
 fields-said strings count (VfRead function offset) sound = ap (λ v. Some (VfRead v offset)) (low function sound)
 fields-said strings count (Lend block) sound = refl
 fields-said strings count (Unlend block) sound = refl
@@ -46,16 +48,20 @@ fields-said strings count (JumpUnlessEqual word target) sound = refl
 fields-said strings count (Jump target) sound = refl
 fields-said strings count Halt sound = refl
 
-none-faulty : (strings : List (List ℕ)) (count : ℕ) (i : Instruction ℕ ℕ) → IsSound strings count i → fault_in strings count i ≡ None
+none-faulty : (strings : List (List ℕ)) (count : ℕ) (i : Instruction ℕ ℕ) → IsSound strings count i
+    → fault_in strings count i ≡ None
 none-faulty strings count (Write address word) sound = refl
 none-faulty strings count (Read address) sound = refl
-none-faulty strings count (VfWrite function offset word) sound = ap (λ fits. unless fits Operand) (lt-ltb function 63 sound)
+none-faulty strings count (VfWrite function offset word) sound =
+    ap (λ fits. unless fits Operand) (lt-ltb function 63 sound)
 none-faulty strings count (VfRead function offset) sound = ap (λ fits. unless fits Operand) (lt-ltb function 63 sound)
 none-faulty strings count (Lend block) sound = refl
 none-faulty strings count (Unlend block) sound = refl
-none-faulty strings count (Poke address number) sound = ap (λ fits. unless fits Operand) (eq-eqb (length (string_at strings number)) 16 sound)
+none-faulty strings count (Poke address number) sound =
+    ap (λ fits. unless fits Operand) (eq-eqb (length (string_at strings number)) 16 sound)
 none-faulty strings count (Peek address word) sound = ap (λ fits. unless fits Operand) (lt-ltb word 4 sound)
-none-faulty strings count (Arrive number) sound = ap (λ fits. unless fits Operand) (lt-ltb number (length strings) sound)
+none-faulty strings count (Arrive number) sound =
+    ap (λ fits. unless fits Operand) (lt-ltb number (length strings) sound)
 none-faulty strings count RxStep sound = refl
 none-faulty strings count (TxStep queue) sound = refl
 none-faulty strings count (IntStep Pf) sound = refl
@@ -67,25 +73,30 @@ none-faulty strings count Collect sound = refl
 none-faulty strings count (Expect want mask) sound = refl
 none-faulty strings count (And word) sound = refl
 none-faulty strings count (JumpIfEqual word target) sound = ap (λ fits. unless fits Target) (le-leb target count sound)
-none-faulty strings count (JumpUnlessEqual word target) sound = ap (λ fits. unless fits Target) (le-leb target count sound)
+none-faulty strings count (JumpUnlessEqual word target) sound =
+    ap (λ fits. unless fits Target) (le-leb target count sound)
 none-faulty strings count (Jump target) sound = ap (λ fits. unless fits Target) (le-leb target count sound)
 none-faulty strings count Halt sound = refl
 
 same_fields-same : (f : Fields) → same_fields f f ≡ true
 same_fields-same f =
-    and_from _ _ (and_from _ _ (and_from _ _ (and_from _ _ (eq-eqb f.op f.op refl) (eq-eqb f.sub f.sub refl)) (eq-eqb f.x f.x refl))
+    and_from _ _ (and_from _ _ (and_from _ _ (and_from _ _ (eq-eqb f.op f.op refl) (eq-eqb f.sub f.sub refl))
+    (eq-eqb f.x f.x refl))
     (eq-eqb f.a f.a refl)) (eq-eqb f.b f.b refl)
 
-pub meaning-of : (strings : List (List ℕ)) (count : ℕ) (i : Instruction ℕ ℕ) → IsSound strings count i → meaning strings count (fields_of i) ≡ Ok i
+pub meaning-of : (strings : List (List ℕ)) (count : ℕ) (i : Instruction ℕ ℕ) → IsSound strings count i
+    → meaning strings count (fields_of i) ≡ Ok i
 meaning-of strings count i sound =
     ap (spelled_so strings count (fields_of i)) (fields-said strings count i sound)
     ∙ cond-true _ (unless_faulty i (fault_in strings count i)) (Err Operand) (same_fields-same (fields_of i))
     ∙ ap (unless_faulty i) (none-faulty strings count i sound)
 
-pub meanings-of : (strings : List (List ℕ)) (count pc : ℕ) (all : List (Instruction ℕ ℕ)) → AllByRecursion (IsSound strings count) all →
+pub meanings-of : (strings : List (List ℕ)) (count pc : ℕ) (all : List (Instruction ℕ ℕ))
+    → AllByRecursion (IsSound strings count) all →
     meanings strings count pc (map fields_of all) ≡ Ok all
 unfolding meanings
 meanings-of strings count pc [] sound = refl
 meanings-of strings count pc (i ∷ all) sound =
-    ap (λ first. at_pc pc first then λ i. before_instructions i (meanings strings count (pc + 1) (map fields_of all))) (meaning-of strings count i sound.0)
+    ap (λ first. at_pc pc first then λ i. before_instructions i (meanings strings count (pc + 1) (map fields_of all)))
+    (meaning-of strings count i sound.0)
     ∙ ap (before_instructions i) (meanings-of strings count (pc + 1) all sound.1)

@@ -29,16 +29,19 @@ four_small x y z w p q r s (suc (suc (suc (suc k)))) = lit< tt
 pub bytes16 : (bytes : List ℕ) (at : ℕ) → Small bytes →
     to_le_bytes w16 (number16_at bytes at) ≡ slice_index bytes at ∷ slice_index bytes (at + 1) ∷ []
 bytes16 bytes at small =
-    le_bytes_2 (slice_index bytes at ∷ slice_index bytes (at + 1) ∷ []) _ refl (two_small _ _ (small at) (small (at + 1))) refl
+    le_bytes_2 (slice_index bytes at ∷ slice_index bytes (at + 1) ∷ []) _ refl
+    (two_small _ _ (small at) (small (at + 1))) refl
 
 bytes32 : (bytes : List ℕ) (at : ℕ) → Small bytes →
     to_le_bytes w32 (number32_at bytes at)
     ≡ slice_index bytes at ∷ slice_index bytes (at + 1) ∷ slice_index bytes (at + 2) ∷ slice_index bytes (at + 3) ∷ []
 bytes32 bytes at small =
-    le_bytes_4 (slice_index bytes at ∷ slice_index bytes (at + 1) ∷ slice_index bytes (at + 2) ∷ slice_index bytes (at + 3) ∷ []) _ refl
+    le_bytes_4 (slice_index bytes at ∷ slice_index bytes (at + 1) ∷ slice_index bytes (at + 2) ∷ slice_index bytes (at
+    + 3) ∷ []) _ refl
     (four_small _ _ _ _ (small at) (small (at + 1)) (small (at + 2)) (small (at + 3))) refl
 
-drop-one : (bytes : List ℕ) (at next : ℕ) → next ≡ suc at → at < length bytes → drop at bytes ≡ slice_index bytes at ∷ drop next bytes
+drop-one : (bytes : List ℕ) (at next : ℕ) → next ≡ suc at → at < length bytes
+    → drop at bytes ≡ slice_index bytes at ∷ drop next bytes
 drop-one bytes at next is inside = rw is (drop-cons bytes at 0 inside)
 
 pub piece16 : (bytes : List ℕ) (at behind : ℕ) → Small bytes → behind ≡ at + 2 → behind ≤ length bytes →
@@ -64,9 +67,11 @@ piece32 bytes at behind small is inside =
 four_parts : (a b c d more : List ℕ) → (a ++ b ++ c ++ d) ++ more ≡ a ++ (b ++ (c ++ (d ++ more)))
 four_parts a b c d more = simp append_assoc
 
-pub fields_spelled : (bytes : List ℕ) → Small bytes → 12 ≤ length bytes → bytes ≡ bytes_of_fields (fields_in bytes) ++ drop 12 bytes
+pub fields_spelled : (bytes : List ℕ) → Small bytes → 12 ≤ length bytes
+    → bytes ≡ bytes_of_fields (fields_in bytes) ++ drop 12 bytes
 fields_spelled bytes small inside =
-    let kind = drop-one bytes 0 1 refl (omega arith) ∙ ap (λ more. slice_index bytes 0 ∷ more) (drop-one bytes 1 2 refl (omega arith)) in
+    let kind = drop-one bytes 0 1 refl (omega arith)
+    ∙ ap (λ more. slice_index bytes 0 ∷ more) (drop-one bytes 1 2 refl (omega arith)) in
     let x = piece16 bytes 2 4 small refl (omega arith) in
     let a = piece32 bytes 4 8 small refl (omega arith) in
     let b = piece32 bytes 8 12 small refl inside in

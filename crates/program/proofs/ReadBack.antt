@@ -23,7 +23,8 @@ read_behind bytes h =
     meanings strings h.count 0 (all_fields_in h.count (drop 16 bytes)) then λ instructions.
     Ok (record { strings = strings; instructions = instructions })
 
-pub laid_out-read : (all : List Fields) (strings : List (List ℕ)) → length all ≤ 4096 → length strings ≤ 1024 → AllByRecursion IsDataString strings →
+pub laid_out-read : (all : List Fields) (strings : List (List ℕ)) → length all ≤ 4096 → length strings ≤ 1024
+    → AllByRecursion IsDataString strings →
     AllByRecursion HaveWidths all → read_of (laid_out all strings) ≡ program_of all strings
 unfolding laid_out read_of
 laid_out-read all strings few few_strings each widths =
@@ -37,17 +38,23 @@ laid_out-read all strings few few_strings each widths =
     let head = header-back (length all) (length strings) body few few_strings inside small in
     let behind : drop (16 + 12 * length all) bytes ≡ flat_map bytes_of_string strings =
     sym (drop-drop (12 * length all) 16 bytes) ∙ ap (λ n. drop n body) (sym size) ∙ drop-append_seam rows rest in
-    let data_strings = ap (λ bytes. ok_or (strings_in (length strings) bytes) Length) behind ∙ ap (λ read. ok_or read Length) (strings-back strings each) in
+    let data_strings = ap (λ bytes. ok_or (strings_in (length strings) bytes) Length) behind
+    ∙ ap (λ read. ok_or read Length) (strings-back strings each) in
     let fields = all_fields-back all rest widths in
     ap (λ found. found then read_behind bytes) head
-    ∙ ap (λ found. found then λ strings. meanings strings (length all) 0 (all_fields_in (length all) (drop 16 bytes)) then λ instructions.
+    ∙ ap (λ found. found then λ strings. meanings strings (length all) 0 (all_fields_in (length all) (drop 16 bytes))
+    then λ instructions.
     Ok (record { strings = strings; instructions = instructions })) data_strings
-    ∙ ap (λ all_read. meanings strings (length all) 0 all_read then λ instructions. Ok (record { strings = strings; instructions = instructions })) fields
+    ∙ ap (λ all_read. meanings strings (length all) 0 all_read
+    then λ instructions. Ok (record { strings = strings; instructions = instructions })) fields
 
-pub object-read : (program : Listing) → IsListing program → AllByRecursion HaveWidths (map fields_of program.instructions) → read_of (object_of program) ≡ Ok program
+pub object-read : (program : Listing) → IsListing program
+    → AllByRecursion HaveWidths (map fields_of program.instructions) → read_of (object_of program) ≡ Ok program
 object-read program is widths =
     let count = length-map program.instructions fields_of in
-    laid_out-read (map fields_of program.instructions) program.strings (omega (arith, is.few)) is.few_strings is.strings widths
-    ∙ ap (λ count. meanings program.strings count 0 (map fields_of program.instructions) then λ instructions. Ok (record { strings = program.strings; instructions = instructions })) count
+    laid_out-read (map fields_of program.instructions) program.strings (omega (arith, is.few)) is.few_strings is.strings
+    widths
+    ∙ ap (λ count. meanings program.strings count 0 (map fields_of program.instructions)
+    then λ instructions. Ok (record { strings = program.strings; instructions = instructions })) count
     ∙ ap (λ read. read then λ instructions. Ok (record { strings = program.strings; instructions = instructions }))
     (meanings-of program.strings (length program.instructions) 0 program.instructions is.sound)

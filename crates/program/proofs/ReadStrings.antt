@@ -14,19 +14,22 @@ pub record AreRead (count : ℕ) (bytes : List ℕ) (strings : List (List ℕ)) 
   pub each : AllByRecursion IsDataString strings
   pub spelled : Small bytes → bytes ≡ flat_map bytes_of_string strings
 
-split_spelled : (bytes string more : List ℕ) → Small bytes → IsSplit bytes string more → bytes ≡ bytes_of_string string ++ more
+split_spelled : (bytes string more : List ℕ) → Small bytes → IsSplit bytes string more
+    → bytes ≡ bytes_of_string string ++ more
 split_spelled bytes string more small split =
     piece16 bytes 0 2 small refl split.long ∙ ap (λ size. to_le_bytes w16 size ++ drop 2 bytes) (sym split.size)
     ∙ ap (λ rest. to_le_bytes w16 (length string) ++ rest) (sym split.spelled)
     ∙ sym (append_assoc (to_le_bytes w16 (length string)) string more)
 
 one_more : (count : ℕ) (bytes string more : List ℕ) (strings : List (List ℕ)) → IsSplit bytes string more →
-    more ≡ drop (number16_at bytes 0) (drop 2 bytes) → AreRead count more strings → AreRead (suc count) bytes (string ∷ strings)
+    more ≡ drop (number16_at bytes 0) (drop 2 bytes) → AreRead count more strings
+    → AreRead (suc count) bytes (string ∷ strings)
 one_more count bytes string more strings split behind read = record {
   number = ap suc read.number;
   each = (record { some = split.some; short = split.short }, read.each);
   spelled = λ small.
-      let rest = subst Small (sym behind) (Small-drop (number16_at bytes 0) (drop 2 bytes) (Small-drop 2 bytes small)) in
+      let rest = subst Small (sym behind) (Small-drop (number16_at bytes 0) (drop 2 bytes) (Small-drop 2 bytes small))
+      in
       split_spelled bytes string more small split ∙ ap (λ rest. bytes_of_string string ++ rest) (read.spelled rest);
 }
 
@@ -39,9 +42,11 @@ joined : (count : ℕ) (bytes string more : List ℕ) (strings : List (List ℕ)
     before_strings string rest ≡ Some strings → AreRead (suc count) bytes strings
 joined count bytes string more strings split behind None read is = let no : None ≡ Some strings = is in cc
 joined count bytes string more strings split behind (Some rest) read is =
-    subst (AreRead (suc count) bytes) (some_some is) (one_more count bytes string more rest split behind (read rest refl))
+    subst (AreRead (suc count) bytes) (some_some is)
+    (one_more count bytes string more rest split behind (read rest refl))
 
-pub strings_in-read : (count : ℕ) (bytes : List ℕ) (strings : List (List ℕ)) → strings_in count bytes ≡ Some strings → AreRead count bytes strings
+pub strings_in-read : (count : ℕ) (bytes : List ℕ) (strings : List (List ℕ)) → strings_in count bytes ≡ Some strings
+    → AreRead count bytes strings
 unfolding strings_in
 strings_in-read zero [] strings is =
     subst (AreRead 0 []) (some_some is) (record { number = refl; each = tt; spelled = λ small. refl })

@@ -33,12 +33,14 @@ string_in-split bytes string more is =
     let long = leb-true (2 + size) (length bytes) inside.1 in
     let front : take size (drop 2 bytes) ≡ string = ap (λ split. split.0) both.1 in
     let back : drop size (drop 2 bytes) ≡ more = ap (λ split. split.1) both.1 in
-    let count : length string ≡ size = ap length (sym front) ∙ length-take-le size (drop 2 bytes) (omega (arith, length-drop 2 bytes)) in (
+    let count : length string ≡ size =
+    ap length (sym front) ∙ length-take-le size (drop 2 bytes) (omega (arith, length-drop 2 bytes)) in (
       record {
         some = omega arith;
         short = omega arith;
         size = count;
-        spelled = ap (λ front. front ++ more) (sym front) ∙ ap (λ more. take size (drop 2 bytes) ++ more) (sym back) ∙ take-append-drop size (drop 2 bytes);
+        spelled = ap (λ front. front ++ more) (sym front) ∙ ap (λ more. take size (drop 2 bytes) ++ more) (sym back)
+            ∙ take-append-drop size (drop 2 bytes);
         long = omega arith;
       },
       sym back,

@@ -18,11 +18,13 @@ use Rattle.program.proofs.Pieces.{Small, Small-drop, piece16, piece32, fields_sp
 
 -- the fields of so many instructions spell their bytes
 pub all_fields-spelled : (count : ℕ) (bytes : List ℕ) → Small bytes → 12 * count ≤ length bytes →
-    (bytes ≡ flat_map bytes_of_fields (all_fields_in count bytes) ++ drop (12 * count) bytes) × (length (all_fields_in count bytes) ≡ count)
+    (bytes ≡ flat_map bytes_of_fields (all_fields_in count bytes) ++ drop (12 * count) bytes)
+    × (length (all_fields_in count bytes) ≡ count)
 unfolding all_fields_in
 all_fields-spelled zero bytes small inside = (refl, refl)
 all_fields-spelled (suc count) bytes small inside =
-    let rest = all_fields-spelled count (drop 12 bytes) (Small-drop 12 bytes small) (omega (arith, length-drop 12 bytes)) in
+    let rest = all_fields-spelled count (drop 12 bytes) (Small-drop 12 bytes small)
+    (omega (arith, length-drop 12 bytes)) in
     let here = fields_spelled bytes small (omega arith) in
     let others = flat_map bytes_of_fields (all_fields_in count (drop 12 bytes)) in
     let times : 12 + 12 * count ≡ 12 * suc count = omega arith in
@@ -44,7 +46,8 @@ passed false x y e is = cc
 five_parts : (a b c d e more : List ℕ) → (a ++ b ++ c ++ d ++ e) ++ more ≡ a ++ (b ++ (c ++ (d ++ (e ++ more))))
 five_parts a b c d e more = simp append_assoc
 
-counted : (bytes : List ℕ) (h : Header) → Small bytes → bytes ≡ magic_and_version ++ drop 6 bytes → counts_in bytes ≡ Ok h → IsHeader bytes h
+counted : (bytes : List ℕ) (h : Header) → Small bytes → bytes ≡ magic_and_version ++ drop 6 bytes
+    → counts_in bytes ≡ Ok h → IsHeader bytes h
 counted bytes h small begins is =
     let count = number16_at bytes 6 in
     let strings = number16_at bytes 8 in
@@ -52,7 +55,8 @@ counted bytes h small begins is =
     let inside = and_parts _ (nat_le (16 + 12 * count) (length bytes)) all.0 in
     let few = and_parts _ (nat_le strings 1024) inside.0 in
     let most = and_parts _ (nat_le count 4096) few.0 in
-    let total = and_parts (nat_le 16 (length bytes) && number16_at bytes 10 == 0) (number32_at bytes 12 == length bytes) most.0 in
+    let total = and_parts (nat_le 16 (length bytes) && number16_at bytes 10 == 0) (number32_at bytes 12 == length bytes)
+    most.0 in
     let zero = and_parts (nat_le 16 (length bytes)) (number16_at bytes 10 == 0) total.0 in
     let none = eqb-true (number16_at bytes 10) 0 zero.1 in
     let whole = eqb-true (number32_at bytes 12) (length bytes) total.1 in
@@ -62,10 +66,12 @@ counted bytes h small begins is =
     let z = to_le_bytes w16 0 in
     let t = to_le_bytes w32 (length bytes) in
     let last = piece32 bytes 12 16 small refl long ∙ ap (λ total. to_le_bytes w32 total ++ drop 16 bytes) whole in
-    let third = piece16 bytes 10 12 small refl (omega arith) ∙ ap (λ none. to_le_bytes w16 none ++ drop 12 bytes) none in
+    let third = piece16 bytes 10 12 small refl (omega arith)
+    ∙ ap (λ none. to_le_bytes w16 none ++ drop 12 bytes) none in
     let second = piece16 bytes 8 10 small refl (omega arith) in
     let first = piece16 bytes 6 8 small refl (omega arith) in
-    let spelled = begins ∙ ap (λ more. magic_and_version ++ more) (first ∙ ap (λ more. n ++ more) (second ∙ ap (λ more. d ++ more)
+    let spelled = begins ∙ ap (λ more. magic_and_version ++ more) (first
+    ∙ ap (λ more. n ++ more) (second ∙ ap (λ more. d ++ more)
     (third ∙ ap (λ more. z ++ more) last))) ∙ sym (five_parts magic_and_version n d z t (drop 16 bytes)) in
     record {
       spelled = spelled ∙ ap (λ (h : Header). header h.count h.strings (length bytes) ++ drop 16 bytes) all.1;
@@ -74,13 +80,15 @@ counted bytes h small begins is =
 
 pub header_in-spelled : (bytes : List ℕ) (h : Header) → Small bytes → header_in bytes ≡ Ok h → IsHeader bytes h
 unfolding header_in
-header_in-spelled bytes h small is = begun (starts_with eqb bytes magic) (starts_with eqb bytes magic_and_version) refl is
+header_in-spelled bytes h small is =
+    begun (starts_with eqb bytes magic) (starts_with eqb bytes magic_and_version) refl is
   where
     begun : (is_object is_first : Bool) → starts_with eqb bytes magic_and_version ≡ is_first →
         cond (not is_object) (Err Magic) (cond (not is_first) (Err Version) (counts_in bytes)) ≡ Ok h → IsHeader bytes h
     begun false is_first first is = let no : ◌≡◌ {A = Result Header ObjectFault} (Err Magic) (Ok h) = is in cc
     begun true false first is = let no : ◌≡◌ {A = Result Header ObjectFault} (Err Version) (Ok h) = is in cc
-    begun true true first is = counted bytes h small ((starts_is Decides-eqb bytes magic_and_version true (sym first)).0 refl) is
+    begun true true first is = counted bytes h small
+        ((starts_is Decides-eqb bytes magic_and_version true (sym first)).0 refl) is
 
 -- the whole, of its parts
 pub laid_out-is : (bytes : List ℕ) (h : Header) (all : List Fields) (strings : List (List ℕ)) → IsHeader bytes h →

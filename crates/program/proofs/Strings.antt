@@ -22,10 +22,13 @@ abbrev next : ℕ → Option (List ℕ × List ℕ) → Option (List (List ℕ))
 next rest None = None
 next rest (Some split) = before_strings split.0 (strings_in rest split.1)
 
-next-is : (rest : ℕ) (bytes : List ℕ) (split : Option (List ℕ × List ℕ)) → split ≡ string_in bytes → strings_in (suc rest) bytes ≡ next rest split
+next-is : (rest : ℕ) (bytes : List ℕ) (split : Option (List ℕ × List ℕ)) → split ≡ string_in bytes
+    → strings_in (suc rest) bytes ≡ next rest split
 unfolding strings_in
-next-is rest bytes None is = ap (λ split. elim split [ None ↦ None | Some string ↦ before_strings string.0 (strings_in rest string.1) ]) (sym is)
-next-is rest bytes (Some s) is = ap (λ split. elim split [ None ↦ None | Some string ↦ before_strings string.0 (strings_in rest string.1) ]) (sym is)
+next-is rest bytes None is = ap (λ split. elim split
+    [ None ↦ None | Some string ↦ before_strings string.0 (strings_in rest string.1) ]) (sym is)
+next-is rest bytes (Some s) is =
+    ap (λ split. elim split [ None ↦ None | Some string ↦ before_strings string.0 (strings_in rest string.1) ]) (sym is)
 
 pub behind-more : (strings : List (List ℕ)) (left rest : ℕ) (bytes string more : List ℕ) → left ≡ suc rest →
     Some (string, more) ≡ string_in bytes →
@@ -39,12 +42,14 @@ pub behind-stopped : (strings : List (List ℕ)) (left rest : ℕ) (bytes : List
 behind-stopped strings left rest bytes is split =
     ap (λ left. behind strings (strings_in left bytes)) is ∙ ap (behind strings) (next-is rest bytes _ split)
 
-pub behind-all : (strings : List (List ℕ)) (bytes : List ℕ) → true ≡ (length bytes == 0) → behind strings (strings_in 0 bytes) ≡ Some strings
+pub behind-all : (strings : List (List ℕ)) (bytes : List ℕ) → true ≡ (length bytes == 0)
+    → behind strings (strings_in 0 bytes) ≡ Some strings
 unfolding strings_in
 behind-all strings [] is = rw (append-nil strings) refl
 behind-all strings (byte ∷ bytes) is = absurd (omega (arith, eqb-true (length (byte ∷ bytes)) 0 (sym is)))
 
-pub behind-too_long : (strings : List (List ℕ)) (bytes : List ℕ) → false ≡ (length bytes == 0) → behind strings (strings_in 0 bytes) ≡ None
+pub behind-too_long : (strings : List (List ℕ)) (bytes : List ℕ) → false ≡ (length bytes == 0)
+    → behind strings (strings_in 0 bytes) ≡ None
 unfolding strings_in
 behind-too_long strings [] is = cc
 behind-too_long strings (byte ∷ bytes) is = refl

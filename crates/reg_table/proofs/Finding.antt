@@ -20,7 +20,8 @@ last r = r.first + r.stride * (r.count - 1)
 -- whether two runs have no address in common, as far as their ends and their steps tell
 abbrev pub apart : Run → Run → Bool
 apart r s =
-    nat_lt (last r) s.first || nat_lt (last s) r.first || ((r.stride == s.stride) && not (r.first % r.stride == s.first % s.stride))
+    nat_lt (last r) s.first || nat_lt (last s) r.first
+    || ((r.stride == s.stride) && not (r.first % r.stride == s.first % s.stride))
 
 abbrev pub all_apart : List Run → Bool
 all_apart [] = true
@@ -41,7 +42,8 @@ sound_stride r s = grind (arith, nat_tests)
 sound_count : (r : Run) → is_sound r ≡ true → 0 < r.count
 sound_count r s = grind (arith, nat_tests)
 
-steps_below : (first stride count a : ℕ) → first ≤ a → a ≤ first + stride * (count - 1) → 0 < count → (a - first) / stride < count
+steps_below : (first stride count a : ℕ) → first ≤ a → a ≤ first + stride * (count - 1) → 0 < count
+    → (a - first) / stride < count
 steps_below first stride count a l h c =
     let m : (a - first) / stride ≤ count - 1 = div-le_of_le-mul stride (omega arith) in omega arith
 
@@ -50,7 +52,8 @@ pub HasPlaceAt-place_in : (r : Run) (a : ℕ) → is_sound r ≡ true → has_ad
 HasPlaceAt-place_in r a s h =
     let low = starts_after r a h in
     let whole = in_step r a h in
-    let split : r.stride * ((a - r.first) / r.stride) + (a - r.first) % r.stride ≡ a - r.first = div-add-mod (a - r.first) r.stride in
+    let split : r.stride * ((a - r.first) / r.stride) + (a - r.first) % r.stride ≡ a - r.first =
+    div-add-mod (a - r.first) r.stride in
     record {
       step = (a - r.first) / r.stride;
       below = steps_below r.first r.stride r.count a low (ends_before r a h) (sound_count r s);
@@ -76,7 +79,8 @@ has_address-true r a p i =
 -- a run has one place at an address
 place_in-unique : (r : Run) (a : ℕ) (p : Place) → is_sound r ≡ true → HasPlaceAt r a p → place_in r a ≡ p
 place_in-unique r a p s i =
-    let steps_is : (a - r.first) / r.stride ≡ i.step = rw (i.at, take_first) (mul-div_cancel_left i.step (sound_stride r s)) in
+    let steps_is : (a - r.first) / r.stride ≡ i.step =
+    rw (i.at, take_first) (mul-div_cancel_left i.step (sound_stride r s)) in
     let index_is : r.first_index + (a - r.first) / r.stride ≡ p.index = rw steps_is (sym i.index) in
     λ k. record { row = sym i.row k; index = index_is k }
 
@@ -86,17 +90,21 @@ residue first stride a l w =
     let whole : a ≡ first + stride * ((a - first) / stride) = omega arith in
     ap (λ x. x % stride) whole ∙ add-mul-mod_self_left first stride ((a - first) / stride)
 
-same_residue : (r q : Run) (a : ℕ) → has_address r a ≡ true → has_address q a ≡ true → r.stride ≡ q.stride → r.first % r.stride ≡ q.first % q.stride
+same_residue : (r q : Run) (a : ℕ) → has_address r a ≡ true → has_address q a ≡ true → r.stride ≡ q.stride
+    → r.first % r.stride ≡ q.first % q.stride
 same_residue r q a h i e =
     sym (residue r.first r.stride a (starts_after r a h) (in_step r a h)) ∙ ap (λ n. a % n) e
     ∙ residue q.first q.stride a (starts_after q a i) (in_step q a i)
 
 pub not_both : (r q : Run) (a : ℕ) → has_address r a ≡ true → has_address q a ≡ true → apart r q ≡ true → ⊥
 not_both r q a h i e =
-    elim (or_cases (nat_lt (last r) q.first || nat_lt (last q) r.first) ((r.stride == q.stride) && not (r.first % r.stride == q.first % q.stride)) e) [
+    elim (or_cases (nat_lt (last r) q.first || nat_lt (last q) r.first) ((r.stride == q.stride)
+    && not (r.first % r.stride == q.first % q.stride)) e) [
       | inl far ↦ elim (or_cases (nat_lt (last r) q.first) (nat_lt (last q) r.first) far) [
-        | inl x ↦ let y = ltb-true _ _ x in let l = starts_after q a i in let m = ends_before r a h in absurd (omega arith)
-        | inr x ↦ let y = ltb-true _ _ x in let l = starts_after r a h in let m = ends_before q a i in absurd (omega arith)
+        | inl x ↦ let y = ltb-true _ _ x in let l = starts_after q a i in let m = ends_before r a h in
+            absurd (omega arith)
+        | inr x ↦ let y = ltb-true _ _ x in let l = starts_after r a h in let m = ends_before q a i in
+            absurd (omega arith)
       ]
       | inr x ↦ let y = and_parts (r.stride == q.stride) (not (r.first % r.stride == q.first % q.stride)) x in
           both_ways _ (not-true _ y.1) (eq-eqb _ _ (same_residue r q a h i (eqb-true _ _ y.0)))
@@ -106,7 +114,8 @@ IsApart-from_apart : (r q : Run) → apart r q ≡ true → IsApart r q
 IsApart-from_apart r q e a p p' i j = not_both r q a (has_address-true r a p i) (has_address-true q a p' j) e
 
 -- the runs after one that has the address don't have it
-pub none_else : (r : Run) (rs : List Run) (a : ℕ) (p : Place) → list_all (apart r) rs ≡ true → has_address r a ≡ true → SomeRunHas rs a p → ⊥
+pub none_else : (r : Run) (rs : List Run) (a : ℕ) (p : Place) → list_all (apart r) rs ≡ true → has_address r a ≡ true
+    → SomeRunHas rs a p → ⊥
 none_else r [] a p e h n = n
 none_else r (q ∷ rs) a p e h (inl i) =
     let f = and_parts (apart r q) (list_all (apart r) rs) e in not_both r q a h (has_address-true q a p i) f.0
@@ -116,21 +125,26 @@ none_else r (q ∷ rs) a p e h (inr n) =
 Some-one : {A : Type 0} {x y : A} → Some x ≡ Some y → x ≡ y
 Some-one e = cc
 
-found_is_named : (rs : List Run) (a : ℕ) (p : Place) → list_all is_sound rs ≡ true → place_among rs a ≡ Some p → SomeRunHas rs a p
+found_is_named : (rs : List Run) (a : ℕ) (p : Place) → list_all is_sound rs ≡ true → place_among rs a ≡ Some p
+    → SomeRunHas rs a p
 found_is_named [] a p s e = cc
 found_is_named (r ∷ rs) a p s e =
     let u = and_parts (is_sound r) (list_all is_sound rs) s in
     elim (cases_Bool (has_address r a)) [
-      | inl t ↦ let same : place_in r a ≡ p = Some-one (sym (cond-true (has_address r a) (Some (place_in r a)) (place_among rs a) t) ∙ e) in
+      | inl t ↦ let same : place_in r a ≡ p =
+          Some-one (sym (cond-true (has_address r a) (Some (place_in r a)) (place_among rs a) t) ∙ e) in
           inl (subst (HasPlaceAt r a) same (HasPlaceAt-place_in r a u.0 t))
-      | inr f ↦ inr (found_is_named rs a p u.1 (sym (cond-false (has_address r a) (Some (place_in r a)) (place_among rs a) f) ∙ e))
+      | inr f ↦ inr (found_is_named rs a p u.1
+          (sym (cond-false (has_address r a) (Some (place_in r a)) (place_among rs a) f) ∙ e))
     ]
 
-named_is_found : (rs : List Run) (a : ℕ) (p : Place) → list_all is_sound rs ≡ true → all_apart rs ≡ true → SomeRunHas rs a p → place_among rs a ≡ Some p
+named_is_found : (rs : List Run) (a : ℕ) (p : Place) → list_all is_sound rs ≡ true → all_apart rs ≡ true
+    → SomeRunHas rs a p → place_among rs a ≡ Some p
 named_is_found [] a p s d n = absurd n
 named_is_found (r ∷ rs) a p s d (inl i) =
     let u = and_parts (is_sound r) (list_all is_sound rs) s in
-    cond-true (has_address r a) (Some (place_in r a)) (place_among rs a) (has_address-true r a p i) ∙ ap (λ q. Some q) (place_in-unique r a p u.0 i)
+    cond-true (has_address r a) (Some (place_in r a)) (place_among rs a) (has_address-true r a p i)
+    ∙ ap (λ q. Some q) (place_in-unique r a p u.0 i)
 named_is_found (r ∷ rs) a p s d (inr n) =
     let u = and_parts (is_sound r) (list_all is_sound rs) s in
     let v = and_parts (list_all (apart r) rs) (all_apart rs) d in

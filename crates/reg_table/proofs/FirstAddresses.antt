@@ -30,7 +30,8 @@ all_told = refl
 
 told : (row : RowId)
     → (has_all (number_of row) 0 (first_of row).count (first_of row).first (first_of row).stride runs ≡ true)
-    × (has_all (number_of row) (first_of row).count (row_of row).count (first_of row).further (first_of row).stride runs ≡ true)
+    × (has_all (number_of row) (first_of row).count (row_of row).count (first_of row).further (first_of row).stride runs
+    ≡ true)
 unfolding tells
 told row =
     let there : number_of row < length rows = subst (λ n. number_of row < n) (sym rows_length) (number_below row) in

@@ -12,11 +12,13 @@ Some-one : {A : Type 0} {x y : A} → Some x ≡ Some y → x ≡ y
 Some-one e = cc
 
 -- what is found by a name has it
-pub found_has_name : (name : List ℕ) (rs : List RowId) (r : RowId) → find (is_named name) rs ≡ Some r → (row_of r).name ≡ name
+pub found_has_name : (name : List ℕ) (rs : List RowId) (r : RowId) → find (is_named name) rs ≡ Some r
+    → (row_of r).name ≡ name
 found_has_name name [] r e = cc
 found_has_name name (q ∷ rs) r e =
     elim (cases_Bool (is_named name q)) [
-      | inl t ↦ let same : q ≡ r = Some-one (sym (cond-true (is_named name q) (Some q) (find (is_named name) rs) t) ∙ e) in
+      | inl t ↦ let same : q ≡ r = Some-one (sym (cond-true (is_named name q) (Some q) (find (is_named name) rs) t) ∙ e)
+          in
           subst (λ x. (row_of x).name ≡ name) same ((bytes_eq-Decides (row_of q).name name).0 t)
       | inr f ↦ found_has_name name rs r (sym (cond-false (is_named name q) (Some q) (find (is_named name) rs) f) ∙ e)
     ]

@@ -24,7 +24,8 @@ RunsAreApart = AllPairs IsApart runs
 
 -- each place has a first address, and that address names it
 abbrev pub FirstAddressesReadBack : Type 0
-FirstAddressesReadBack = (p : Place) → p.index < (row_of p.row).count → (address : ℕ) × ((address_among runs p ≡ Some address) × Names address p)
+FirstAddressesReadBack = (p : Place) → p.index < (row_of p.row).count
+    → (address : ℕ) × ((address_among runs p ≡ Some address) × Names address p)
 
 -- no two rows have one name
 abbrev pub NameHasOneRow : Type 0

@@ -28,7 +28,8 @@ pub record HasPlaceAt (r : Run) (address : ℕ) (p : Place) : Type 0 where
 -- whether a step of the run leads to the address
 abbrev pub has_address : Run → ℕ → Bool
 has_address r address =
-    nat_le r.first address && nat_le address (r.first + r.stride * (r.count - 1)) && ((address - r.first) % r.stride == 0)
+    nat_le r.first address && nat_le address (r.first + r.stride * (r.count - 1))
+    && ((address - r.first) % r.stride == 0)
 
 -- the place that the run has at one of its addresses
 abbrev pub place_in : Run → ℕ → Place
@@ -36,7 +37,8 @@ place_in r address = record { row = r.row; index = r.first_index + (address - r.
 
 -- whether a step of the run leads to the place
 abbrev pub has_index : Run → Place → Bool
-has_index r p = (number_of r.row == number_of p.row) && nat_le r.first_index p.index && nat_lt p.index (r.first_index + r.count)
+has_index r p = (number_of r.row == number_of p.row) && nat_le r.first_index p.index
+    && nat_lt p.index (r.first_index + r.count)
 
 -- the address that the run has for one of its places
 abbrev pub address_in : Run → Place → ℕ

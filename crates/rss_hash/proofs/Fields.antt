@@ -12,4 +12,5 @@ times-eq (suc (suc bit)) n small positive = absurd (omega arith)
 
 -- a register has all bits of a mask of one bit where that bit is 1
 pub contains_bit : (word k : ℕ) → (bit_and word (2 ^ k) == 2 ^ k) ≡ (bit_at word k == 1)
-contains_bit word k = ap (λ n. n == 2 ^ k) (and_pow word k) ∙ times-eq (bit_at word k) (2 ^ k) (bit_at-lt word k) (pow_pos k)
+contains_bit word k = ap (λ n. n == 2 ^ k) (and_pow word k)
+    ∙ times-eq (bit_at word k) (2 ^ k) (bit_at-lt word k) (pow_pos k)

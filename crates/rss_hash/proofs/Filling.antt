@@ -9,21 +9,33 @@ pub length-bytes_of : (input : Inside) → IsFilled input → length (bytes_of i
 length-bytes_of input filled = length-take-le input.len input.bytes (omega (arith, filled.fits, filled.whole))
 
 -- bytes written over the zero bytes
-put_mid-padded : (bytes more part : List ℕ) (start len : ℕ) → start ≡ length bytes → len ≡ length more → part ≡ more → put_mid start len (padded bytes) part ≡ padded (bytes ++ more)
+put_mid-padded : (bytes more part : List ℕ) (start len : ℕ) → start ≡ length bytes → len ≡ length more → part ≡ more
+    → put_mid start len (padded bytes) part ≡ padded (bytes ++ more)
 put_mid-padded bytes more part start len at_end same_len same_part =
     let zeros : List ℕ = replicate (36 - length bytes) 0 in
     let front : take (length bytes) (padded bytes) ≡ bytes = take_at bytes zeros (length bytes) refl in
     let back : drop (length bytes) (padded bytes) ≡ zeros = drop_at bytes zeros (length bytes) refl in
     let left : 36 - length bytes - length more ≡ 36 - length (bytes ++ more) = simp length-append (omega arith) in
-    rw (at_end, same_len, same_part, front, back, drop-replicate {X = ℕ} (length more) (36 - length bytes) 0, left) (sym (append_assoc bytes more (replicate (36 - length (bytes ++ more)) 0)))
+    rw (
+      at_end,
+      same_len,
+      same_part,
+      front,
+      back,
+      drop-replicate {X = ℕ} (length more) (36 - length bytes) 0,
+      left,
+    ) (sym (append_assoc bytes more (replicate (36 - length (bytes ++ more)) 0)))
 
 -- what `copy_from_slice` leaves behind the bytes of an input
-pub put_mid-filled : (input : Inside) (more part : List ℕ) (len : ℕ) → IsFilled input → part ≡ more → len ≡ length more → put_mid input.len len input.bytes part ≡ padded (bytes_of input ++ more)
+pub put_mid-filled : (input : Inside) (more part : List ℕ) (len : ℕ) → IsFilled input → part ≡ more → len ≡ length more
+    → put_mid input.len len input.bytes part ≡ padded (bytes_of input ++ more)
 put_mid-filled input more part len filled same_part same_len =
     let at_end : input.len ≡ length (bytes_of input) = sym (length-bytes_of input filled) in
-    ap (λ array. put_mid input.len len array part) filled.zeros ∙ put_mid-padded (bytes_of input) more part input.len len at_end same_len same_part
+    ap (λ array. put_mid input.len len array part) filled.zeros
+    ∙ put_mid-padded (bytes_of input) more part input.len len at_end same_len same_part
 
-pub IsFilled-padded : (bytes array : List ℕ) (len : ℕ) → length bytes ≤ 36 → array ≡ padded bytes → len ≡ length bytes → IsFilled (record { bytes = array; len = len })
+pub IsFilled-padded : (bytes array : List ℕ) (len : ℕ) → length bytes ≤ 36 → array ≡ padded bytes → len ≡ length bytes
+    → IsFilled (record { bytes = array; len = len })
 IsFilled-padded bytes array len fits same_array same_len =
     rw (same_array, same_len) (record {
       fits = fits;
@@ -31,6 +43,7 @@ IsFilled-padded bytes array len fits same_array same_len =
       zeros = ap padded (sym (take_at bytes (replicate (36 - length bytes) 0) (length bytes) refl));
     })
 
-pub bytes_of-padded : (bytes array : List ℕ) (len : ℕ) → array ≡ padded bytes → len ≡ length bytes → take len array ≡ bytes
+pub bytes_of-padded : (bytes array : List ℕ) (len : ℕ) → array ≡ padded bytes → len ≡ length bytes
+    → take len array ≡ bytes
 bytes_of-padded bytes array len same_array same_len =
     rw (same_array, same_len) (take_at bytes (replicate (36 - length bytes) 0) (length bytes) refl)

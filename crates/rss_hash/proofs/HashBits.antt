@@ -16,7 +16,8 @@ bit_at-double_high : (n bit i : ℕ) → bit < 2 → bit_at (2 * n + bit) (suc i
 bit_at-double_high n bit i small = bit_at-suc (2 * n + bit) i ∙ ap (λ half. bit_at half i) (omega arith)
 
 -- bit j of a window, from its highest on
-bit_at-bits_from : (bytes : List ℕ) (k n j i : ℕ) → j + i + 1 ≡ n → bit_at (bits_from bytes k n) i ≡ bit_of bytes (k + j)
+bit_at-bits_from : (bytes : List ℕ) (k n j i : ℕ) → j + i + 1 ≡ n
+    → bit_at (bits_from bytes k n) i ≡ bit_of bytes (k + j)
 bit_at-bits_from bytes k zero j i place = absurd (omega arith)
 bit_at-bits_from bytes k (suc n) j zero place =
     let next : suc n ≡ n + 1 = omega arith in
@@ -37,7 +38,8 @@ bit-from_test (suc zero) small = refl
 bit-from_test (suc (suc bit)) small = absurd (omega arith)
 
 -- the parity of the key bits behind some numbers
-parity : (key : List ℕ) (j : ℕ) → j < 32 → (ks : List ℕ) → bit_at (xor_of (map (λ k. bits_from key k 32) ks)) (31 - j) ≡ count_by (λ k. bit_of key (k + j) == 1) ks % 2
+parity : (key : List ℕ) (j : ℕ) → j < 32 → (ks : List ℕ)
+    → bit_at (xor_of (map (λ k. bits_from key k 32) ks)) (31 - j) ≡ count_by (λ k. bit_of key (k + j) == 1) ks % 2
 parity key j within [] = bit_at-zero (31 - j)
 parity key j within (k ∷ ks) =
     let window = bits_from key k 32 in
@@ -46,7 +48,8 @@ parity key j within (k ∷ ks) =
     let test = bit-from_test (bit_of key (k + j)) (bit_at-lt _ _) in
     let others = parity key j within ks in
     let counted = sum_by-cons (λ k. cond (bit_of key (k + j) == 1) 1 0) k ks in
-    ap (λ n. bit_at n (31 - j)) (fold_xor (bit_xor 0 window) (map (λ k. bits_from key k 32) ks) ∙ ap (λ n. bit_xor n rest) (xor_zero_l window))
+    ap (λ n. bit_at n (31 - j)) (fold_xor (bit_xor 0 window) (map (λ k. bits_from key k 32) ks)
+    ∙ ap (λ n. bit_xor n rest) (xor_zero_l window))
     ∙ bit_at_xor window rest (31 - j)
     ∙ omega (arith, first, test, others, counted)
 

@@ -13,10 +13,12 @@ take_join (suc m) n (x ∷ bytes) =
     let longer : suc (m + n) ≡ suc m + n = omega arith in
     ap (λ rest. x ∷ rest) (take_join m n bytes) ∙ ap (λ k. take k (x ∷ bytes)) longer
 
-pub joined_parts : (bytes : List ℕ) (i j k : ℕ) → i ≤ j → j ≤ k → slice_range bytes i j ++ slice_range bytes j k ≡ slice_range bytes i k
+pub joined_parts : (bytes : List ℕ) (i j k : ℕ) → i ≤ j → j ≤ k
+    → slice_range bytes i j ++ slice_range bytes j k ≡ slice_range bytes i k
 joined_parts bytes i j k low high =
     let middle : j ≡ i + (j - i) = omega arith in
     let whole : (j - i) + (k - j) ≡ k - i = omega arith in
-    ap (λ rest. take (j - i) (drop i bytes) ++ take (k - j) rest) (ap (λ at. drop at bytes) middle ∙ sym (drop-drop (j - i) i bytes))
+    ap (λ rest. take (j - i) (drop i bytes) ++ take (k - j) rest) (ap (λ at. drop at bytes) middle
+    ∙ sym (drop-drop (j - i) i bytes))
     ∙ take_join (j - i) (k - j) (drop i bytes)
     ∙ ap (λ n. take n (drop i bytes)) whole

@@ -9,7 +9,8 @@ use Rattle.rss_hash.specs.Bits.{bit_of, bits_from}
 use Rattle.rss_hash.specs.Toeplitz.{xor_of}
 
 -- one bit more doubles the number and adds the bit
-pub bits_from_more : (bytes : List ℕ) (k n : ℕ) → bits_from bytes k (n + 1) ≡ 2 * bits_from bytes k n + bit_of bytes (k + n)
+pub bits_from_more : (bytes : List ℕ) (k n : ℕ)
+    → bits_from bytes k (n + 1) ≡ 2 * bits_from bytes k n + bit_of bytes (k + n)
 unfolding bits_from
 bits_from_more bytes k n =
     let more = map-range_with_len_more (bit_of bytes) k n (k + n) refl in
@@ -20,15 +21,21 @@ bits_from_more bytes k n =
 abbrev pub hash_below : List ℕ → List ℕ → ℕ → ℕ
 hash_below key input n = xor_of (map (λ k. bits_from key k 32) (filter (λ k. bit_of input k == 1) (range_with_len 0 n)))
 
-pub filter-range_more : (p : ℕ → Bool) (n : ℕ) → filter p (range_with_len 0 (n + 1)) ≡ filter p (range_with_len 0 n) ++ cond (p n) (n ∷ []) []
+pub filter-range_more : (p : ℕ → Bool) (n : ℕ)
+    → filter p (range_with_len 0 (n + 1)) ≡ filter p (range_with_len 0 n) ++ cond (p n) (n ∷ []) []
 filter-range_more p n =
     simp map-id at (filter_of_map_range_with_len_more p (λ (k : ℕ). k) 0 n n (omega arith))
 
 -- the exclusive or of f over some numbers and perhaps one more
-xor_of-map_more : (f : ℕ → ℕ) (ks : List ℕ) (n : ℕ) (b : Bool) → xor_of (map f (ks ++ cond b (n ∷ []) [])) ≡ cond b (bit_xor (xor_of (map f ks)) (f n)) (xor_of (map f ks))
+xor_of-map_more : (f : ℕ → ℕ) (ks : List ℕ) (n : ℕ) (b : Bool)
+    → xor_of (map f (ks ++ cond b (n ∷ []) [])) ≡ cond b (bit_xor (xor_of (map f ks)) (f n)) (xor_of (map f ks))
 xor_of-map_more f ks n true = rw (map_push f ks n) (fold_push bit_xor 0 (map f ks) (f n))
 xor_of-map_more f ks n false = rw (append-nil ks) refl
 
-pub hash_below_more : (key input : List ℕ) (n : ℕ) → hash_below key input (n + 1) ≡ cond (bit_of input n == 1) (bit_xor (hash_below key input n) (bits_from key n 32)) (hash_below key input n)
+pub hash_below_more : (key input : List ℕ) (n : ℕ)
+    → hash_below key input (n + 1)
+    ≡ cond (bit_of input n == 1) (bit_xor (hash_below key input n) (bits_from key n 32)) (hash_below key input n)
 hash_below_more key input n =
-    rw (filter-range_more (λ k. bit_of input k == 1) n) (xor_of-map_more (λ k. bits_from key k 32) (filter (λ k. bit_of input k == 1) (range_with_len 0 n)) n (bit_of input n == 1))
+    rw (filter-range_more (λ k. bit_of input k == 1) n)
+    (xor_of-map_more (λ k. bits_from key k 32) (filter (λ k. bit_of input k == 1) (range_with_len 0 n)) n
+    (bit_of input n == 1))

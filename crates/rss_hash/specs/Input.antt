@@ -19,7 +19,8 @@ pub record IsFilled (input : Inside) : Type 0 where
   pub zeros : input.bytes ≡ padded (bytes_of input)
 
 -- the array and the length are known from the bytes
-pub unpadded : (input : Inside) → IsFilled input → record { bytes = padded (bytes_of input); len = length (bytes_of input) } ≡ input
+pub unpadded : (input : Inside) → IsFilled input
+    → record { bytes = padded (bytes_of input); len = length (bytes_of input) } ≡ input
 unpadded input filled =
     let with_bytes : List ℕ → Inside = λ bytes. record { bytes = bytes; len = length (bytes_of input) } in
     let with_len : ℕ → Inside = λ len. record { bytes = input.bytes; len = len } in

@@ -27,4 +27,5 @@ ipv4_addresses packet = slice_range packet 12 16 ++ slice_range packet 16 20
 -- source and destination port
 abbrev pub ipv4_ports : List ℕ → List ℕ
 ipv4_ports packet =
-    slice_range packet (header_len packet) (header_len packet + 2) ++ slice_range packet (header_len packet + 2) (header_len packet + 4)
+    slice_range packet (header_len packet) (header_len packet + 2)
+    ++ slice_range packet (header_len packet + 2) (header_len packet + 4)

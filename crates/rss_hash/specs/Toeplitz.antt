@@ -18,7 +18,8 @@ xor_bytes a b = map (λ p. bit_xor p.0 p.1) (zip a b)
 -- bit j of the hash, from its highest on, is the parity of the input bits k that are 1 and whose key bit k + j is 1
 abbrev pub HasParityBits : List ℕ → (List ℕ → ℕ) → Type 0
 HasParityBits key hash =
-    (input : List ℕ) (j : ℕ) → j < 32 → bit_at (hash input) (31 - j) ≡ count_by (λ k. bit_of key (k + j) == 1) (set_bits input) % 2
+    (input : List ℕ) (j : ℕ) → j < 32
+    → bit_at (hash input) (31 - j) ≡ count_by (λ k. bit_of key (k + j) == 1) (set_bits input) % 2
 
 -- the hash of the exclusive or of two inputs of one length is the exclusive or of their hashes
 abbrev pub IsLinear : (List ℕ → ℕ) → Type 0

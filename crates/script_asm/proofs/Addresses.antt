@@ -28,20 +28,25 @@ row_in-name : (r : RowId) → row_in (row_of r).name ≡ Ok r
 row_in-name r = ap (λ o. ok_or o UnknownName) (found_by_name r (row_of r).name refl)
 
 -- the first address of a place
-register_address-first : (p : Place) (a : ℕ) → p.index < (row_of p.row).count → unwrap_or (address_among runs p) 0 ≡ a → register_address p.row p.index ≡ Ok a
+register_address-first : (p : Place) (a : ℕ) → p.index < (row_of p.row).count → unwrap_or (address_among runs p) 0 ≡ a
+    → register_address p.row p.index ≡ Ok a
 register_address-first p a below is = rw (lt-ltb p.index (row_of p.row).count below) (ap Ok is)
 
-address-first : (p : Place) (a : ℕ) (row : Result RowId LineFault) (index : Result ℕ LineFault) → row ≡ Ok p.row → index ≡ Ok p.index
+address-first : (p : Place) (a : ℕ) (row : Result RowId LineFault) (index : Result ℕ LineFault) → row ≡ Ok p.row
+    → index ≡ Ok p.index
     → p.index < (row_of p.row).count → unwrap_or (address_among runs p) 0 ≡ a → address_in row index ≡ Ok a
 address-first p a row index here at below is = rw (here, at) (register_address-first p a below is)
 
 number_in-decimal : (n : ℕ) → n < 2 ^ 32 → number_in (decimal n) ≡ Ok n
-number_in-decimal n small = ap (λ r. elim r [ Ok number ↦ Ok number | Err fault ↦ Err (number_fault fault) ]) (number_of-decimal n small)
+number_in-decimal n small = ap (λ r. elim r [ Ok number ↦ Ok number | Err fault ↦ Err (number_fault fault) ])
+    (number_of-decimal n small)
 
 pub number_in-word : (n : ℕ) → n < 2 ^ 32 → number_in (word_text n) ≡ Ok n
-number_in-word n small = ap (λ r. elim r [ Ok number ↦ Ok number | Err fault ↦ Err (number_fault fault) ]) (number_of-word n small)
+number_in-word n small = ap (λ r. elim r [ Ok number ↦ Ok number | Err fault ↦ Err (number_fault fault) ])
+    (number_of-word n small)
 
-target_of-name : (p : Place) (a : ℕ) → p.index < (row_of p.row).count → unwrap_or (address_among runs p) 0 ≡ a → (row_of p.row).count ≡ 1
+target_of-name : (p : Place) (a : ℕ) → p.index < (row_of p.row).count → unwrap_or (address_among runs p) 0 ≡ a
+    → (row_of p.row).count ≡ 1
     → target_of (row_of p.row).name ≡ Ok a
 unfolding target_of
 target_of-name p a below is one =
@@ -58,10 +63,18 @@ target_of-indexed p a below is =
     let name = (row_of p.row).name in
     let few = good.few in
     let behind = decimal p.index ++ 93 ∷ [] in
-    rw (bracket name behind good.tame, before_bracket name behind good.tame, after_bracket name behind good.tame, before_last_byte-ended 93 (decimal p.index), good.name)
-    (address-first p a (row_in name) (number_in (decimal p.index)) (row_in-name p.row) (number_in-decimal p.index (omega arith)) below is)
+    rw (
+      bracket name behind good.tame,
+      before_bracket name behind good.tame,
+      after_bracket name behind good.tame,
+      before_last_byte-ended 93 (decimal p.index),
+      good.name,
+    )
+    (address-first p a (row_in name) (number_in (decimal p.index)) (row_in-name p.row)
+    (number_in-decimal p.index (omega arith)) below is)
 
-place-text : (p : Place) (a : ℕ) → p.index < (row_of p.row).count → unwrap_or (address_among runs p) 0 ≡ a → target_of (place_text p) ≡ Ok a
+place-text : (p : Place) (a : ℕ) → p.index < (row_of p.row).count → unwrap_or (address_among runs p) 0 ≡ a
+    → target_of (place_text p) ≡ Ok a
 place-text p a below is = elim (eqb_tells (row_of p.row).count 1) [
   | inl (test, one) ↦ rw test (target_of-name p a below is one)
   | inr (test, many) ↦ rw test (target_of-indexed p a below is)
@@ -80,17 +93,21 @@ first_here : (a : ℕ) (q p : Place) → place_among runs a ≡ Some q → if_fi
 first_here a q p found e = elim (eqb_tells (unwrap_or (address_among runs q) 0) a) [
   | inl (test, is) ↦ (let step : Some q ≡ Some p = rw test at e in
       let same : q ≡ p = cc in
-      subst (λ (x : Place). IsFirst x a) same (record { below = named_in_range a q ((found-named a q).0 found); is = is }))
+      subst (λ (x : Place). IsFirst x a) same
+      (record { below = named_in_range a q ((found-named a q).0 found); is = is }))
   | inr (test, other) ↦ (let step : None ≡ Some p = rw test at e in cc)
 ]
 
-first-IsFirst : (a : ℕ) (p : Place) (found : Option Place) → place_among runs a ≡ found → elim found [ None ↦ None | Some place ↦ if_first_at a place ] ≡ Some p → IsFirst p a
+first-IsFirst : (a : ℕ) (p : Place) (found : Option Place) → place_among runs a ≡ found
+    → elim found [ None ↦ None | Some place ↦ if_first_at a place ] ≡ Some p → IsFirst p a
 first-IsFirst a p None found e = cc
 first-IsFirst a p (Some q) found e = first_here a q p found e
 
-printed : (a : ℕ) (place : Option Place) → place_first_at a ≡ place → a < 2 ^ 32 → target_of (elim place [ None ↦ word_text a | Some p ↦ place_text p ]) ≡ Ok a
+printed : (a : ℕ) (place : Option Place) → place_first_at a ≡ place → a < 2 ^ 32
+    → target_of (elim place [ None ↦ word_text a | Some p ↦ place_text p ]) ≡ Ok a
 printed a None found small = target_of-word a small
-printed a (Some p) found small = let first = first-IsFirst a p (place_among runs a) refl found in place-text p a first.below first.is
+printed a (Some p) found small = let first = first-IsFirst a p (place_among runs a) refl found in
+    place-text p a first.below first.is
 
 -- what is printed for an address names the address
 pub target_of-text : (a : ℕ) → a < 2 ^ 32 → target_of (target_text a) ≡ Ok a
@@ -109,7 +126,11 @@ long-more (c ∷ cs) ys e = grind (arith, nat_tests)
 IsWord-name : (r : RowId) → IsWord (row_of r).name
 IsWord-name r =
     let good = row-IsGood r in
-    record { long = long-name (row_of r).name good.name; plain = list_all-weaker is_tame is_plain tame_plain (row_of r).name good.tame }
+    record {
+      long = long-name (row_of r).name good.name;
+      plain =
+          list_all-weaker is_tame is_plain tame_plain (row_of r).name good.tame;
+    }
 
 IsWord-indexed : (r : RowId) (n : ℕ) → n < 65536 → IsWord ((row_of r).name ++ 91 ∷ (decimal n ++ 93 ∷ []))
 IsWord-indexed r n small =
@@ -129,7 +150,8 @@ IsWord-place p below =
       | inr (test, many) ↦ rw test (IsWord-indexed p.row p.index (omega (arith, few)))
     ]
 
-printed_word : (a : ℕ) (place : Option Place) → place_first_at a ≡ place → a < 2 ^ 32 → IsWord (elim place [ None ↦ word_text a | Some p ↦ place_text p ])
+printed_word : (a : ℕ) (place : Option Place) → place_first_at a ≡ place → a < 2 ^ 32
+    → IsWord (elim place [ None ↦ word_text a | Some p ↦ place_text p ])
 printed_word a None found small = IsWord-word a small
 printed_word a (Some p) found small = IsWord-place p (first-IsFirst a p (place_among runs a) refl found).below
 

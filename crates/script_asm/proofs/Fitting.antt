@@ -18,9 +18,12 @@ use Rattle.script_asm.proofs.Spelling.{label_name, data_name, named}
 use Rattle.script_asm.proofs.Texts.{data_statements, code_statements}
 
 -- numbered names are apart
-pub numbered_apart : (letter m n : ℕ) → m < 65536 → n < 65536 → m ≢ n → bytes_eq (letter ∷ decimal m) (letter ∷ decimal n) ≡ false
-numbered_apart letter m n small less apart = false_from_ne_true (bytes_eq (letter ∷ decimal m) (letter ∷ decimal n)) (λ same.
-    let is : letter ∷ decimal m ≡ letter ∷ decimal n = (bytes_eq-Decides (letter ∷ decimal m) (letter ∷ decimal n)).0 same in
+pub numbered_apart : (letter m n : ℕ) → m < 65536 → n < 65536 → m ≢ n
+    → bytes_eq (letter ∷ decimal m) (letter ∷ decimal n) ≡ false
+numbered_apart letter m n small less apart =
+    false_from_ne_true (bytes_eq (letter ∷ decimal m) (letter ∷ decimal n)) (λ same.
+    let is : letter ∷ decimal m ≡ letter ∷ decimal n =
+    (bytes_eq-Decides (letter ∷ decimal m) (letter ∷ decimal n)).0 same in
     let digits : decimal m ≡ decimal n = cc in
     apart (decimal_injective m n (omega arith) (omega arith) digits))
 
@@ -30,29 +33,37 @@ same_name name = (bytes_eq-Decides name name).1 refl
 -- statements fit, and more behind them
 pub Fit-append : (before xs ys : List Statement) → Fit before xs → Fit (before ++ xs) ys → Fit before (xs ++ ys)
 Fit-append before [] ys fit more = subst (λ (b : List Statement). Fit b ys) (append-nil before) more
-Fit-append before (x ∷ xs) ys fit more =
-    (fit.0, Fit-append (before ++ x ∷ []) xs ys fit.1 (subst (λ (b : List Statement). Fit b ys) (sym (append_assoc before (x ∷ []) xs)) more))
+Fit-append before (x ∷ xs) ys fit more = (
+  fit.0,
+  Fit-append (before ++ x ∷ []) xs ys fit.1
+      (subst (λ (b : List Statement). Fit b ys) (sym (append_assoc before (x ∷ []) xs)) more),
+)
 
 -- no data has a name from this number on
 abbrev pub NoData : List Statement → ℕ → Type 0
 NoData before number = (m : ℕ) → number ≤ m → m < 65536 → data_from 0 before (data_name m) ≡ None
 
-pub data-after : (before : List Statement) (number : ℕ) (string : List ℕ) → number < 65536 → NoData before number → NoData (before ++ Data (data_name number) string ∷ []) (number + 1)
+pub data-after : (before : List Statement) (number : ℕ) (string : List ℕ) → number < 65536 → NoData before number
+    → NoData (before ++ Data (data_name number) string ∷ []) (number + 1)
 data-after before number string small none m above less =
     data_from-append 0 before (Data (data_name number) string ∷ []) (data_name m)
     ∙ rw (none m (omega arith) less, numbered_apart 100 number m small less (λ e. absurd (omega (arith, e)))) refl
 
-pub count-after : (before : List Statement) (s : Statement) → length (strings_in (before ++ s ∷ [])) ≡ length (strings_in before) + length (strings_in (s ∷ []))
-count-after before s = ap length (strings_in-append before (s ∷ [])) ∙ length-append (strings_in before) (strings_in (s ∷ []))
+pub count-after : (before : List Statement) (s : Statement)
+    → length (strings_in (before ++ s ∷ [])) ≡ length (strings_in before) + length (strings_in (s ∷ []))
+count-after before s = ap length (strings_in-append before (s ∷ []))
+    ∙ length-append (strings_in before) (strings_in (s ∷ []))
 
-pub Fit-data : (before : List Statement) (number : ℕ) (strings : List (List ℕ)) → NoData before number → length (strings_in before) ≡ number → number + length strings ≤ 1024
+pub Fit-data : (before : List Statement) (number : ℕ) (strings : List (List ℕ)) → NoData before number
+    → length (strings_in before) ≡ number → number + length strings ≤ 1024
     → AllByRecursion IsDataString strings → Fit before (data_statements number strings)
 Fit-data before number [] none count few are = tt
 Fit-data before number (string ∷ more) none count few are =
     let small : number < 65536 = omega arith in
     let short = are.0.short in (
       (none number (omega arith) small, short, omega arith),
-      Fit-data (before ++ Data (data_name number) string ∷ []) (number + 1) more (data-after before number string small none)
+      Fit-data (before ++ Data (data_name number) string ∷ []) (number + 1) more
+          (data-after before number string small none)
           (count-after before (Data (data_name number) string) ∙ omega (arith, count)) (omega arith) are.1,
     )
 
@@ -63,27 +74,35 @@ NoLabel before pc = (m : ℕ) → pc ≤ m → m < 65536 → label_from 0 before
 abbrev pub mark : Bool → ℕ → List Statement
 mark b pc = cond b (Label (label_name pc) ∷ []) []
 
-pub marked : (before : List Statement) (b : Bool) (pc : ℕ) → pc < 65536 → NoLabel before pc → NoLabel (before ++ mark b pc) (pc + 1)
+pub marked : (before : List Statement) (b : Bool) (pc : ℕ) → pc < 65536 → NoLabel before pc
+    → NoLabel (before ++ mark b pc) (pc + 1)
 marked before true pc small none m above less =
     label_from-append 0 before (Label (label_name pc) ∷ []) (label_name m)
     ∙ rw (none m (omega arith) less, numbered_apart 76 pc m small less (λ e. absurd (omega (arith, e)))) refl
 marked before false pc small none m above less = rw (append-nil before) (none m (omega arith) less)
 
-pub marked-drafts : (before : List Statement) (b : Bool) (pc : ℕ) → length (drafts_in (before ++ mark b pc)) ≡ length (drafts_in before)
-marked-drafts before true pc = ap length (drafts_in-append before (Label (label_name pc) ∷ []) ∙ append-nil (drafts_in before))
+pub marked-drafts : (before : List Statement) (b : Bool) (pc : ℕ)
+    → length (drafts_in (before ++ mark b pc)) ≡ length (drafts_in before)
+marked-drafts before true pc =
+    ap length (drafts_in-append before (Label (label_name pc) ∷ []) ∙ append-nil (drafts_in before))
 marked-drafts before false pc = ap (λ (ss : List Statement). length (drafts_in ss)) (append-nil before)
 
 pub Fit-mark : (before : List Statement) (b : Bool) (pc : ℕ) → pc < 65536 → NoLabel before pc → Fit before (mark b pc)
 Fit-mark before true pc small none = (none pc (omega arith) small, tt)
 Fit-mark before false pc small none = tt
 
-pub instructed : (before : List Statement) (d : Draft) (pc : ℕ) → NoLabel before pc → NoLabel (before ++ Instruction d ∷ []) pc
-instructed before d pc none m above less = label_from-append 0 before (Instruction d ∷ []) (label_name m) ∙ rw (none m above less) refl
+pub instructed : (before : List Statement) (d : Draft) (pc : ℕ) → NoLabel before pc
+    → NoLabel (before ++ Instruction d ∷ []) pc
+instructed before d pc none m above less =
+    label_from-append 0 before (Instruction d ∷ []) (label_name m) ∙ rw (none m above less) refl
 
-pub instructed-drafts : (before : List Statement) (d : Draft) → length (drafts_in (before ++ Instruction d ∷ [])) ≡ length (drafts_in before) + 1
-instructed-drafts before d = ap length (drafts_in-append before (Instruction d ∷ [])) ∙ length-append (drafts_in before) (d ∷ [])
+pub instructed-drafts : (before : List Statement) (d : Draft)
+    → length (drafts_in (before ++ Instruction d ∷ [])) ≡ length (drafts_in before) + 1
+instructed-drafts before d = ap length (drafts_in-append before (Instruction d ∷ []))
+    ∙ length-append (drafts_in before) (d ∷ [])
 
-pub Fit-code : (before : List Statement) (code : List (Step ℕ ℕ)) (pc : ℕ) (rest : List (Step ℕ ℕ)) → NoLabel before pc → length (drafts_in before) ≡ pc → pc + length rest ≤ 4096
+pub Fit-code : (before : List Statement) (code : List (Step ℕ ℕ)) (pc : ℕ) (rest : List (Step ℕ ℕ)) → NoLabel before pc
+    → length (drafts_in before) ≡ pc → pc + length rest ≤ 4096
     → Fit before (code_statements code pc rest)
 Fit-code before code pc [] none count few = Fit-mark before (is_target code pc) pc (omega arith) none
 Fit-code before code pc (i ∷ more) none count few =
@@ -92,14 +111,16 @@ Fit-code before code pc (i ∷ more) none count few =
     let behind = before ++ marks in
     let same = marked-drafts before (is_target code pc) pc in
     let here : length (drafts_in behind) < 4096 = omega (arith, same, count) in
-    Fit-append before marks (Instruction (named i) ∷ code_statements code (pc + 1) more) (Fit-mark before (is_target code pc) pc small none) (
+    Fit-append before marks (Instruction (named i) ∷ code_statements code (pc + 1) more)
+    (Fit-mark before (is_target code pc) pc small none) (
       here,
       Fit-code (behind ++ Instruction (named i) ∷ []) code (pc + 1) more
           (instructed behind (named i) (pc + 1) (marked before (is_target code pc) pc small none))
           (instructed-drafts behind (named i) ∙ omega (arith, same, count)) (omega arith),
     )
 
-pub no_labels : (number : ℕ) (strings : List (List ℕ)) (n : ℕ) (name : List ℕ) → label_from n (data_statements number strings) name ≡ None
+pub no_labels : (number : ℕ) (strings : List (List ℕ)) (n : ℕ) (name : List ℕ)
+    → label_from n (data_statements number strings) name ≡ None
 no_labels number [] n name = refl
 no_labels number (string ∷ more) n name = no_labels (number + 1) more n name
 
@@ -118,4 +139,5 @@ Fit-statements program is =
     Fit-append [] (data_statements 0 program.strings) (code_statements program.instructions 0 program.instructions)
     (Fit-data [] 0 program.strings (λ m above less. refl) refl (omega arith) is.strings)
     (Fit-code (data_statements 0 program.strings) program.instructions 0 program.instructions
-    (λ m above less. no_labels 0 program.strings 0 (label_name m)) (ap length (no_drafts 0 program.strings)) (omega arith))
+    (λ m above less. no_labels 0 program.strings 0 (label_name m)) (ap length (no_drafts 0 program.strings))
+    (omega arith))

@@ -15,21 +15,24 @@ pub or_else-None : (o : Option ℕ) → or_else o None ≡ o
 or_else-None (Some x) = refl
 or_else-None None = refl
 
-cond-or_else : (b : Bool) (n : ℕ) (o other : Option ℕ) → cond b (Some n) (or_else o other) ≡ or_else (cond b (Some n) o) other
+cond-or_else : (b : Bool) (n : ℕ) (o other : Option ℕ)
+    → cond b (Some n) (or_else o other) ≡ or_else (cond b (Some n) o) other
 cond-or_else true n o other = refl
 cond-or_else false n o other = refl
 
 moved : (n k : ℕ) → n + 1 + k ≡ n + suc k
 moved n k = omega arith
 
-pub strings_in-append : (before after : List Statement) → strings_in (before ++ after) ≡ strings_in before ++ strings_in after
+pub strings_in-append : (before after : List Statement)
+    → strings_in (before ++ after) ≡ strings_in before ++ strings_in after
 strings_in-append [] after = refl
 strings_in-append (Empty ∷ more) after = strings_in-append more after
 strings_in-append (Label name ∷ more) after = strings_in-append more after
 strings_in-append (Data name string ∷ more) after = ap (λ strings. string ∷ strings) (strings_in-append more after)
 strings_in-append (Instruction d ∷ more) after = strings_in-append more after
 
-pub drafts_in-append : (before after : List Statement) → drafts_in (before ++ after) ≡ drafts_in before ++ drafts_in after
+pub drafts_in-append : (before after : List Statement)
+    → drafts_in (before ++ after) ≡ drafts_in before ++ drafts_in after
 drafts_in-append [] after = refl
 drafts_in-append (Empty ∷ more) after = drafts_in-append more after
 drafts_in-append (Label name ∷ more) after = drafts_in-append more after
@@ -37,19 +40,22 @@ drafts_in-append (Data name string ∷ more) after = drafts_in-append more after
 drafts_in-append (Instruction d ∷ more) after = ap (λ drafts. d ∷ drafts) (drafts_in-append more after)
 
 pub label_from-append : (n : ℕ) (before after : List Statement) (name : List ℕ)
-    → label_from n (before ++ after) name ≡ or_else (label_from n before name) (label_from (n + length (drafts_in before)) after name)
+    → label_from n (before ++ after) name
+    ≡ or_else (label_from n before name) (label_from (n + length (drafts_in before)) after name)
 label_from-append n [] after name = ap (λ m. label_from m after name) (sym (add-zero n))
 label_from-append n (Empty ∷ more) after name = label_from-append n more after name
 label_from-append n (Label label ∷ more) after name =
     ap (cond (bytes_eq label name) (Some n)) (label_from-append n more after name)
-    ∙ cond-or_else (bytes_eq label name) n (label_from n more name) (label_from (n + length (drafts_in more)) after name)
+    ∙ cond-or_else (bytes_eq label name) n (label_from n more name)
+    (label_from (n + length (drafts_in more)) after name)
 label_from-append n (Data other string ∷ more) after name = label_from-append n more after name
 label_from-append n (Instruction d ∷ more) after name =
     label_from-append (n + 1) more after name
     ∙ ap (λ m. or_else (label_from (n + 1) more name) (label_from m after name)) (moved n (length (drafts_in more)))
 
 pub data_from-append : (n : ℕ) (before after : List Statement) (name : List ℕ)
-    → data_from n (before ++ after) name ≡ or_else (data_from n before name) (data_from (n + length (strings_in before)) after name)
+    → data_from n (before ++ after) name
+    ≡ or_else (data_from n before name) (data_from (n + length (strings_in before)) after name)
 data_from-append n [] after name = ap (λ m. data_from m after name) (sym (add-zero n))
 data_from-append n (Empty ∷ more) after name = data_from-append n more after name
 data_from-append n (Label label ∷ more) after name = data_from-append n more after name
@@ -57,7 +63,8 @@ data_from-append n (Data other string ∷ more) after name =
     ap (cond (bytes_eq other name) (Some n))
     (data_from-append (n + 1) more after name
     ∙ ap (λ m. or_else (data_from (n + 1) more name) (data_from m after name)) (moved n (length (strings_in more))))
-    ∙ cond-or_else (bytes_eq other name) n (data_from (n + 1) more name) (data_from (n + suc (length (strings_in more))) after name)
+    ∙ cond-or_else (bytes_eq other name) n (data_from (n + 1) more name)
+    (data_from (n + suc (length (strings_in more))) after name)
 data_from-append n (Instruction d ∷ more) after name = data_from-append n more after name
 
 -- a name is itself
@@ -82,42 +89,58 @@ data-here before after name string none =
     ∙ is_itself name (0 + length (strings_in before)) _ ∙ ap Some (omega arith)
 
 abbrev GivenLabel : List Statement → List ℕ → Type 0
-GivenLabel statements name = (before : List Statement) × (after : List Statement) × (statements ≡ before ++ Label name ∷ after)
+GivenLabel statements name = (before : List Statement) × (after : List Statement)
+    × (statements ≡ before ++ Label name ∷ after)
 
-one_label_more : (s : Statement) (more : List Statement) (name : List ℕ) → GivenLabel more name → GivenLabel (s ∷ more) name
+one_label_more : (s : Statement) (more : List Statement) (name : List ℕ) → GivenLabel more name
+    → GivenLabel (s ∷ more) name
 one_label_more s more name given = (s ∷ given.0, given.1, ap (λ ss. s ∷ ss) given.2)
 
 first_label : (n : ℕ) (label name : List ℕ) (more : List Statement) (place : ℕ) (b : Bool) → bytes_eq label name ≡ b
-    → cond b (Some n) (label_from n more name) ≡ Some place → (label_from n more name ≡ Some place → GivenLabel more name) → GivenLabel (Label label ∷ more) name
-first_label n label name more place true is e rest = ([], more, ap (λ l. Label l ∷ more) ((bytes_eq-Decides label name).0 is))
+    → cond b (Some n) (label_from n more name) ≡ Some place
+    → (label_from n more name ≡ Some place → GivenLabel more name) → GivenLabel (Label label ∷ more) name
+first_label n label name more place true is e rest =
+    ([], more, ap (λ l. Label l ∷ more) ((bytes_eq-Decides label name).0 is))
 first_label n label name more place false is e rest = one_label_more (Label label) more name (rest e)
 
-given_label : (n : ℕ) (statements : List Statement) (name : List ℕ) (place : ℕ) → label_from n statements name ≡ Some place → GivenLabel statements name
+given_label : (n : ℕ) (statements : List Statement) (name : List ℕ) (place : ℕ)
+    → label_from n statements name ≡ Some place → GivenLabel statements name
 given_label n [] name place e = cc
 given_label n (Empty ∷ more) name place e = one_label_more Empty more name (given_label n more name place e)
-given_label n (Label label ∷ more) name place e = first_label n label name more place (bytes_eq label name) refl e (given_label n more name place)
-given_label n (Data other string ∷ more) name place e = one_label_more (Data other string) more name (given_label n more name place e)
-given_label n (Instruction d ∷ more) name place e = one_label_more (Instruction d) more name (given_label (n + 1) more name place e)
+given_label n (Label label ∷ more) name place e =
+    first_label n label name more place (bytes_eq label name) refl e (given_label n more name place)
+given_label n (Data other string ∷ more) name place e =
+    one_label_more (Data other string) more name (given_label n more name place e)
+given_label n (Instruction d ∷ more) name place e =
+    one_label_more (Instruction d) more name (given_label (n + 1) more name place e)
 
 abbrev GivenData : List Statement → List ℕ → Type 0
-GivenData statements name = (before : List Statement) × (string : List ℕ) × (after : List Statement) × (statements ≡ before ++ Data name string ∷ after)
+GivenData statements name = (before : List Statement) × (string : List ℕ) × (after : List Statement)
+    × (statements ≡ before ++ Data name string ∷ after)
 
-one_data_more : (s : Statement) (more : List Statement) (name : List ℕ) → GivenData more name → GivenData (s ∷ more) name
+one_data_more : (s : Statement) (more : List Statement) (name : List ℕ) → GivenData more name
+    → GivenData (s ∷ more) name
 one_data_more s more name given = (s ∷ given.0, given.1, given.2, ap (λ ss. s ∷ ss) given.3)
 
-first_data : (n : ℕ) (other string name : List ℕ) (more : List Statement) (number : ℕ) (b : Bool) → bytes_eq other name ≡ b
-    → cond b (Some n) (data_from (n + 1) more name) ≡ Some number → (data_from (n + 1) more name ≡ Some number → GivenData more name)
+first_data : (n : ℕ) (other string name : List ℕ) (more : List Statement) (number : ℕ) (b : Bool)
+    → bytes_eq other name ≡ b
+    → cond b (Some n) (data_from (n + 1) more name) ≡ Some number
+    → (data_from (n + 1) more name ≡ Some number → GivenData more name)
     → GivenData (Data other string ∷ more) name
-first_data n other string name more number true is e rest = ([], string, more, ap (λ l. Data l string ∷ more) ((bytes_eq-Decides other name).0 is))
+first_data n other string name more number true is e rest =
+    ([], string, more, ap (λ l. Data l string ∷ more) ((bytes_eq-Decides other name).0 is))
 first_data n other string name more number false is e rest = one_data_more (Data other string) more name (rest e)
 
-given_data : (n : ℕ) (statements : List Statement) (name : List ℕ) (number : ℕ) → data_from n statements name ≡ Some number → GivenData statements name
+given_data : (n : ℕ) (statements : List Statement) (name : List ℕ) (number : ℕ)
+    → data_from n statements name ≡ Some number → GivenData statements name
 given_data n [] name number e = cc
 given_data n (Empty ∷ more) name number e = one_data_more Empty more name (given_data n more name number e)
-given_data n (Label label ∷ more) name number e = one_data_more (Label label) more name (given_data n more name number e)
+given_data n (Label label ∷ more) name number e =
+    one_data_more (Label label) more name (given_data n more name number e)
 given_data n (Data other string ∷ more) name number e =
     first_data n other string name more number (bytes_eq other name) refl e (given_data (n + 1) more name number)
-given_data n (Instruction d ∷ more) name number e = one_data_more (Instruction d) more name (given_data n more name number e)
+given_data n (Instruction d ∷ more) name number e =
+    one_data_more (Instruction d) more name (given_data n more name number e)
 
 pub names_have_their_places : NamesHaveTheirPlaces
 names_have_their_places = record {

@@ -24,24 +24,34 @@ use Rattle.script_asm.proofs.Saying.{reach, said}
 abbrev AreMeant : Outline → List Draft → List (Step ℕ ℕ) → Type 0
 AreMeant o drafts is = Mean (place_of o.labels) (place_of o.data_numbers) o.strings drafts is
 
-joined : (before : List (Step ℕ ℕ)) (x : Step ℕ ℕ) (more : List (Step ℕ ℕ)) → (before ++ x ∷ []) ++ more ≡ before ++ x ∷ more
+joined : (before : List (Step ℕ ℕ)) (x : Step ℕ ℕ) (more : List (Step ℕ ℕ))
+    → (before ++ x ∷ []) ++ more ≡ before ++ x ∷ more
 joined before x more = append_assoc before (x ∷ []) more
 
 -- instructions that were resolved, behind those before
-record Resolved (o : Outline) (before : List (Step ℕ ℕ)) (drafts : List DraftLine) (result : List (Step ℕ ℕ)) : Type 0 where
-  added : List (Step ℕ ℕ)
-  is : result ≡ before ++ added
-  mean : AreMeant o (written drafts) added
+record Resolved (o : Outline) (before : List (Step ℕ ℕ)) (drafts : List DraftLine) (result : List (Step ℕ ℕ)) : Type 0
+  where
+    added : List (Step ℕ ℕ)
+    is : result ≡ before ++ added
+    mean : AreMeant o (written drafts) added
 
-with_resolved-Mean : (o : Outline) (before : List (Step ℕ ℕ)) (drafts : List DraftLine) (result : List (Step ℕ ℕ)) → with_resolved o before drafts ≡ Ok result → Resolved o before drafts result
+with_resolved-Mean : (o : Outline) (before : List (Step ℕ ℕ)) (drafts : List DraftLine) (result : List (Step ℕ ℕ))
+    → with_resolved o before drafts ≡ Ok result → Resolved o before drafts result
 unfolding with_resolved
-with_resolved-Mean o before [] result e = let same : before ≡ result = cc in record { added = []; is = sym same ∙ sym (append-nil before); mean = tt }
+with_resolved-Mean o before [] result e = let same : before ≡ result = cc in
+    record { added = []; is = sym same ∙ sym (append-nil before); mean = tt }
 with_resolved-Mean o before (d ∷ more) result e =
     let next = stepped (resolved o d.line d.draft) (λ i. with_resolved o (before ++ i ∷ []) more) result e in
     let rest = with_resolved-Mean o (before ++ next.0 ∷ []) more result next.2 in
-    record { added = next.0 ∷ rest.added; is = rest.is ∙ joined before next.0 rest.added; mean = (resolved-Means o d.line d.draft next.0 next.1, rest.mean) }
+    record {
+      added = next.0 ∷ rest.added;
+      is = rest.is ∙ joined before next.0 rest.added;
+      mean =
+          (resolved-Means o d.line d.draft next.0 next.1, rest.mean);
+    }
 
-Mean-with_resolved : (o : Outline) (before : List (Step ℕ ℕ)) (drafts : List DraftLine) (added : List (Step ℕ ℕ)) → AreMeant o (written drafts) added
+Mean-with_resolved : (o : Outline) (before : List (Step ℕ ℕ)) (drafts : List DraftLine) (added : List (Step ℕ ℕ))
+    → AreMeant o (written drafts) added
     → with_resolved o before drafts ≡ Ok (before ++ added)
 unfolding with_resolved
 Mean-with_resolved o before [] [] mean = ap Ok (sym (append-nil before))
@@ -53,7 +63,13 @@ Mean-with_resolved o before (d ∷ more) (i ∷ is) mean =
 
 -- before the first line nothing is said
 ties-blank : Ties blank []
-ties-blank = record { labels = fin.get-empty {X = ℕ} (slice_cmp nat_cmp); names = fin.get-empty {X = ℕ} (slice_cmp nat_cmp); strings = refl; drafts = refl }
+ties-blank = record {
+  labels = fin.get-empty {X = ℕ} (slice_cmp nat_cmp);
+  names =
+      fin.get-empty {X = ℕ} (slice_cmp nat_cmp);
+  strings = refl;
+  drafts = refl;
+}
 
 -- the look-ups of what was said, as functions
 same_labels : (o : Outline) (ss : List Statement) → Ties o ss → place_of o.labels ≡ label_from 0 ss
@@ -65,15 +81,19 @@ same_names o ss ties = λ i name. ties.names name i
 to_meant : (o : Outline) (ss : List Statement) (is : List (Step ℕ ℕ)) → Ties o ss
     → Mean (label_from 0 ss) (data_from 0 ss) (strings_in ss) (drafts_in ss) is → AreMeant o (written o.drafts) is
 to_meant o ss is ties mean =
-    subst (λ (labels : List ℕ → Option ℕ). Mean labels (place_of o.data_numbers) o.strings (written o.drafts) is) (sym (same_labels o ss ties))
-    (subst (λ (names : List ℕ → Option ℕ). Mean (label_from 0 ss) names o.strings (written o.drafts) is) (sym (same_names o ss ties))
+    subst (λ (labels : List ℕ → Option ℕ). Mean labels (place_of o.data_numbers) o.strings (written o.drafts) is)
+    (sym (same_labels o ss ties))
+    (subst (λ (names : List ℕ → Option ℕ). Mean (label_from 0 ss) names o.strings (written o.drafts) is)
+    (sym (same_names o ss ties))
     (rw (ties.strings, ties.drafts) mean))
 
 from_meant : (o : Outline) (ss : List Statement) (is : List (Step ℕ ℕ)) → Ties o ss → AreMeant o (written o.drafts) is
     → Mean (label_from 0 ss) (data_from 0 ss) (strings_in ss) (drafts_in ss) is
 from_meant o ss is ties mean =
-    subst (λ (labels : List ℕ → Option ℕ). Mean labels (data_from 0 ss) (strings_in ss) (drafts_in ss) is) (same_labels o ss ties)
-    (subst (λ (names : List ℕ → Option ℕ). Mean (place_of o.labels) names (strings_in ss) (drafts_in ss) is) (same_names o ss ties)
+    subst (λ (labels : List ℕ → Option ℕ). Mean labels (data_from 0 ss) (strings_in ss) (drafts_in ss) is)
+    (same_labels o ss ties)
+    (subst (λ (names : List ℕ → Option ℕ). Mean (place_of o.labels) names (strings_in ss) (drafts_in ss) is)
+    (same_names o ss ties)
     (rw (← ties.strings, ← ties.drafts) mean))
 
 to_program : (text : List ℕ) (program : Listing) → IsSaid text program → program_of text ≡ Ok program
@@ -83,48 +103,60 @@ to_program text program all =
     let o = reached.0 in
     let mean = to_meant o all.statements program.instructions reached.2 all.mean in
     ap (λ r. r then program_in) reached.1
-    ∙ ap (λ (is : Result (List (Step ℕ ℕ)) ScriptFault). is then λ is. Ok (record { strings = o.strings; instructions = is })) (Mean-with_resolved o [] o.drafts program.instructions mean)
-    ∙ ap (λ strings. Ok (let listing : Listing = record { strings = strings; instructions = program.instructions } in listing)) (reached.2.strings ∙ sym all.strings)
+    ∙ ap (λ (is : Result (List (Step ℕ ℕ)) ScriptFault). is
+    then λ is. Ok (record { strings = o.strings; instructions = is }))
+    (Mean-with_resolved o [] o.drafts program.instructions mean)
+    ∙ ap (λ strings. Ok (let listing : Listing = record { strings = strings; instructions = program.instructions } in
+    listing)) (reached.2.strings ∙ sym all.strings)
 
 from_program : (text : List ℕ) (program : Listing) → program_of text ≡ Ok program → IsSaid text program
 unfolding program_of
 from_program text program is =
     let first = stepped (with_lines blank (lines_of text)) program_in program is in
     let o = first.0 in
-    let second = stepped (with_resolved o [] o.drafts) (λ (is : List (Step ℕ ℕ)). Ok (let listing : Listing = record { strings = o.strings; instructions = is } in listing)) program first.2 in
-    let same : (let listing : Listing = record { strings = o.strings; instructions = second.0 } in listing) ≡ program = (let e = second.2 in cc) in
+    let second = stepped (with_resolved o [] o.drafts)
+    (λ (is : List (Step ℕ ℕ)). Ok (let listing : Listing = record { strings = o.strings; instructions = is } in
+    listing)) program first.2 in
+    let same : (let listing : Listing = record { strings = o.strings; instructions = second.0 } in listing) ≡ program =
+    (let e = second.2 in cc) in
     let all = said blank [] (lines_of text) o ties-blank first.1 in
     let mean = with_resolved-Mean o [] o.drafts second.0 second.1 in
     let means = from_meant o all.statements second.0 all.ties (rw mean.is mean.mean) in
-    subst (λ (p : Listing). IsSaid text p) same (record { statements = all.statements; say = all.say; fit = all.fit; strings = all.ties.strings; mean = means })
+    subst (λ (p : Listing). IsSaid text p) same
+    (record { statements = all.statements; say = all.say; fit = all.fit; strings = all.ties.strings; mean = means })
 
 pub program_is_what_lines_say : ProgramIsWhatLinesSay
 program_is_what_lines_say text program = (from_program text program, to_program text program)
 
-with_lines-append : (b o : Outline) (front back : List NumberedLine) → with_lines b front ≡ Ok o → with_lines b (front ++ back) ≡ with_lines o back
+with_lines-append : (b o : Outline) (front back : List NumberedLine) → with_lines b front ≡ Ok o
+    → with_lines b (front ++ back) ≡ with_lines o back
 unfolding with_lines
 with_lines-append b o [] back e = let same : b ≡ o = cc in ap (λ x. with_lines x back) same
 with_lines-append b o (line ∷ front) back e =
     let next = stepped (with_line b line) (λ a. with_lines a front) o e in
     ap (λ r. r then λ a. with_lines a (front ++ back)) next.1 ∙ with_lines-append next.0 o front back next.2
 
-with_resolved-append : (o : Outline) (before after : List (Step ℕ ℕ)) (front back : List DraftLine) → with_resolved o before front ≡ Ok after
+with_resolved-append : (o : Outline) (before after : List (Step ℕ ℕ)) (front back : List DraftLine)
+    → with_resolved o before front ≡ Ok after
     → with_resolved o before (front ++ back) ≡ with_resolved o after back
 unfolding with_resolved
 with_resolved-append o before after [] back e = let same : before ≡ after = cc in ap (λ x. with_resolved o x back) same
 with_resolved-append o before after (d ∷ front) back e =
     let next = stepped (resolved o d.line d.draft) (λ i. with_resolved o (before ++ i ∷ []) front) after e in
-    ap (λ r. r then λ i. with_resolved o (before ++ i ∷ []) (front ++ back)) next.1 ∙ with_resolved-append o (before ++ next.0 ∷ []) after front back next.2
+    ap (λ r. r then λ i. with_resolved o (before ++ i ∷ []) (front ++ back)) next.1
+    ∙ with_resolved-append o (before ++ next.0 ∷ []) after front back next.2
 
 pub first_fault_decides : FirstFaultDecides
 unfolding program_of with_lines with_resolved
 first_fault_decides = record {
   lines = λ text front line back outline fault is before faulty.
       ap (λ r. r then program_in)
-      (ap (with_lines blank) is ∙ with_lines-append blank outline front (line ∷ back) before ∙ ap (λ r. r then λ a. with_lines a back) faulty);
+      (ap (with_lines blank) is ∙ with_lines-append blank outline front (line ∷ back) before
+      ∙ ap (λ r. r then λ a. with_lines a back) faulty);
   names = λ text outline front d back instructions fault said is before faulty.
       ap (λ r. r then program_in) said
-      ∙ ap (λ (is : Result (List (Step ℕ ℕ)) ScriptFault). is then λ is. Ok (record { strings = outline.strings; instructions = is }))
+      ∙ ap (λ (is : Result (List (Step ℕ ℕ)) ScriptFault). is
+      then λ is. Ok (record { strings = outline.strings; instructions = is }))
       (ap (with_resolved outline []) is ∙ with_resolved-append outline [] instructions front (d ∷ back) before
       ∙ ap (λ r. r then λ i. with_resolved outline (instructions ++ i ∷ []) back) faulty);
 }

@@ -21,28 +21,36 @@ found : {E : Type 0} (o : Option ℕ) (e : E) (n : ℕ) → ok_or o e ≡ Ok n �
 found (Some m) e n is = let same : m ≡ n = cc in ap Some same
 found None e n is = cc
 
-label-Ok : (o : Outline) (line : ℕ) (name : List ℕ) (i : Step ℕ ℕ) (f : ℕ → Step ℕ ℕ) → (label_named o line name then λ n. Ok (f n)) ≡ Ok i
+label-Ok : (o : Outline) (line : ℕ) (name : List ℕ) (i : Step ℕ ℕ) (f : ℕ → Step ℕ ℕ)
+    → (label_named o line name then λ n. Ok (f n)) ≡ Ok i
     → (pc : ℕ) × (i ≡ f pc) × (place_of o.labels name ≡ Some pc)
 label-Ok o line name i f e =
     let made = stepped (label_named o line name) (λ n. Ok (f n)) i e in
     let same : i ≡ f made.0 = (let e2 = made.2 in cc) in
     (made.0, same, found (place_of o.labels name) (UnknownLabel line) made.0 made.1)
 
-data-Ok : (o : Outline) (line : ℕ) (name : List ℕ) (i : Step ℕ ℕ) (f : ℕ → Step ℕ ℕ) → (data_named o line name then λ n. Ok (f n)) ≡ Ok i
+data-Ok : (o : Outline) (line : ℕ) (name : List ℕ) (i : Step ℕ ℕ) (f : ℕ → Step ℕ ℕ)
+    → (data_named o line name then λ n. Ok (f n)) ≡ Ok i
     → (n : ℕ) × (i ≡ f n) × (place_of o.data_numbers name ≡ Some n)
 data-Ok o line name i f e =
     let made = stepped (data_named o line name) (λ n. Ok (f n)) i e in
     let same : i ≡ f made.0 = (let e2 = made.2 in cc) in
     (made.0, same, found (place_of o.data_numbers name) (UnknownLabel line) made.0 made.1)
 
-poked-Ok : (o : Outline) (line : ℕ) (name : List ℕ) (i : Step ℕ ℕ) (f : ℕ → Step ℕ ℕ) → (poked o line name then λ n. Ok (f n)) ≡ Ok i
+poked-Ok : (o : Outline) (line : ℕ) (name : List ℕ) (i : Step ℕ ℕ) (f : ℕ → Step ℕ ℕ)
+    → (poked o line name then λ n. Ok (f n)) ≡ Ok i
     → (n : ℕ) × (i ≡ f n) × (place_of o.data_numbers name ≡ Some n) × (length (string_at o.strings n) ≡ 16)
 poked-Ok o line name i f e =
     let made = stepped (poked o line name) (λ n. Ok (f n)) i e in
     let long = stepped (data_named o line name) (if_of_16 o line) made.0 made.1 in
-    let sixteen = IfOk-of (λ n. (long.0 ≡ n) × (length (string_at o.strings n) ≡ 16)) (if_of_16 o line long.0) made.0 long.2 (if_of_16-Ok o line long.0) in
-    let same : i ≡ f made.0 = (let e2 = made.2 in cc) in
-    (made.0, same, found (place_of o.data_numbers name) (UnknownLabel line) long.0 long.1 ∙ ap Some sixteen.0, sixteen.1)
+    let sixteen = IfOk-of (λ n. (long.0 ≡ n) × (length (string_at o.strings n) ≡ 16)) (if_of_16 o line long.0) made.0
+    long.2 (if_of_16-Ok o line long.0) in
+    let same : i ≡ f made.0 = (let e2 = made.2 in cc) in (
+      made.0,
+      same,
+      found (place_of o.data_numbers name) (UnknownLabel line) long.0 long.1 ∙ ap Some sixteen.0,
+      sixteen.1,
+    )
 
 pub resolved-Means : (o : Outline) (line : ℕ) (d : Draft) (i : Step ℕ ℕ) → resolved o line d ≡ Ok i → Meant o d i
 resolved-Means o line (Write address word) i e = cc
@@ -68,18 +76,21 @@ resolved-Means o line (JumpUnlessEqual word name) i e = label-Ok o line name i (
 resolved-Means o line (Jump name) i e = label-Ok o line name i Jump e
 resolved-Means o line Halt i e = cc
 
-Ok-label : (o : Outline) (line : ℕ) (name : List ℕ) (i : Step ℕ ℕ) (f : ℕ → Step ℕ ℕ) (pc : ℕ) → i ≡ f pc → place_of o.labels name ≡ Some pc
+Ok-label : (o : Outline) (line : ℕ) (name : List ℕ) (i : Step ℕ ℕ) (f : ℕ → Step ℕ ℕ) (pc : ℕ) → i ≡ f pc
+    → place_of o.labels name ≡ Some pc
     → (label_named o line name then λ n. Ok (f n)) ≡ Ok i
 Ok-label o line name i f pc is at = ap (λ p. ok_or p (UnknownLabel line) then λ n. Ok (f n)) at ∙ ap Ok (sym is)
 
-Ok-data : (o : Outline) (line : ℕ) (name : List ℕ) (i : Step ℕ ℕ) (f : ℕ → Step ℕ ℕ) (n : ℕ) → i ≡ f n → place_of o.data_numbers name ≡ Some n
+Ok-data : (o : Outline) (line : ℕ) (name : List ℕ) (i : Step ℕ ℕ) (f : ℕ → Step ℕ ℕ) (n : ℕ) → i ≡ f n
+    → place_of o.data_numbers name ≡ Some n
     → (data_named o line name then λ n. Ok (f n)) ≡ Ok i
 Ok-data o line name i f n is at = ap (λ p. ok_or p (UnknownLabel line) then λ n. Ok (f n)) at ∙ ap Ok (sym is)
 
 of_16 : (o : Outline) (line n : ℕ) → length (string_at o.strings n) ≡ 16 → if_of_16 o line n ≡ Ok n
 of_16 o line n long = rw (eq-eqb (length (string_at o.strings n)) 16 long) refl
 
-Ok-poked : (o : Outline) (line : ℕ) (name : List ℕ) (i : Step ℕ ℕ) (f : ℕ → Step ℕ ℕ) (n : ℕ) → i ≡ f n → place_of o.data_numbers name ≡ Some n
+Ok-poked : (o : Outline) (line : ℕ) (name : List ℕ) (i : Step ℕ ℕ) (f : ℕ → Step ℕ ℕ) (n : ℕ) → i ≡ f n
+    → place_of o.data_numbers name ≡ Some n
     → length (string_at o.strings n) ≡ 16 → (poked o line name then λ n. Ok (f n)) ≡ Ok i
 Ok-poked o line name i f n is at long =
     ap (λ p. (ok_or p (UnknownLabel line) then if_of_16 o line) then λ n. Ok (f n)) at

@@ -16,11 +16,13 @@ abbrev Names : Type 0
 Names = BTreeMap (Bor (List ℕ)) ℕ
 
 find_shown : (es : List (Bor (List ℕ) × ℕ)) (q : List ℕ)
-    → fin.find (slice_cmp nat_cmp) q (map (λ e. (e.0.now, e.1)) es) ≡ lookup (tree.is_at (λ k. slice_cmp nat_cmp q k.now)) es
+    → fin.find (slice_cmp nat_cmp) q (map (λ e. (e.0.now, e.1)) es)
+    ≡ lookup (tree.is_at (λ k. slice_cmp nat_cmp q k.now)) es
 find_shown [] q = refl
 find_shown (e ∷ es) q =
     elim (is_eq (slice_cmp nat_cmp q e.0.now)) as
-    (λ t. cond t (Some e.1) (fin.find (slice_cmp nat_cmp) q (map (λ e. (e.0.now, e.1)) es)) ≡ cond t (Some e.1) (lookup (tree.is_at (λ k. slice_cmp nat_cmp q k.now)) es)) [
+    (λ t. cond t (Some e.1) (fin.find (slice_cmp nat_cmp) q (map (λ e. (e.0.now, e.1)) es))
+    ≡ cond t (Some e.1) (lookup (tree.is_at (λ k. slice_cmp nat_cmp q k.now)) es)) [
       | true ↦ refl
       | false ↦ find_shown es q
     ]
@@ -34,12 +36,16 @@ pub place_of-with_place : (places : Places) (name : List ℕ) (number : ℕ) (q 
     → place_of (with_place places name number) q ≡ cond (bytes_eq name q) (Some number) (place_of places q)
 place_of-with_place places name number q =
     fin.get-insert nat_list_cmp_total places name number q
-    ∙ ap (λ b. cond b (Some number) (place_of places q)) ((eq_by_cmp_equiv nat_list_cmp_total).symm q name ∙ is_eq-slice_cmp name q)
+    ∙ ap (λ b. cond b (Some number) (place_of places q)) ((eq_by_cmp_equiv nat_list_cmp_total).symm q name
+    ∙ is_eq-slice_cmp name q)
 
 -- a name more in the map is a name more that stands for something
 pub shown-inserted : (m n : Names) (name : List ℕ) (number : ℕ)
-    → ((q : List ℕ) → tree.get_by (λ k. slice_cmp nat_cmp q k.now) n ≡ update bytes_eq (λ ds. tree.get_by (λ k. slice_cmp nat_cmp ds k.now) m) name (Some number) q)
+    → ((q : List ℕ) → tree.get_by (λ k. slice_cmp nat_cmp q k.now) n
+    ≡ update bytes_eq (λ ds. tree.get_by (λ k. slice_cmp nat_cmp ds k.now) m) name (Some number) q)
     → shown n ≡ with_place (shown m) name number
 shown-inserted m n name number changed =
-    fin.same_map nat_list_cmp_total (fin.slice_cmp-IsAntisymmetric fin.nat_cmp-IsAntisymmetric) (shown n) (with_place (shown m) name number)
-    (λ q. place_of-shown n q ∙ changed q ∙ ap (cond (bytes_eq name q) (Some number)) (sym (place_of-shown m q)) ∙ sym (place_of-with_place (shown m) name number q))
+    fin.same_map nat_list_cmp_total (fin.slice_cmp-IsAntisymmetric fin.nat_cmp-IsAntisymmetric) (shown n)
+    (with_place (shown m) name number)
+    (λ q. place_of-shown n q ∙ changed q ∙ ap (cond (bytes_eq name q) (Some number)) (sym (place_of-shown m q))
+    ∙ sym (place_of-with_place (shown m) name number q))

@@ -20,7 +20,8 @@ record IsFirst (e f told : LineFault) : Type 0 where
 told_first-IsFirst : (e f : LineFault) → IsFirst e f (told_first e f)
 told_first-IsFirst Syntax f = record { one = inl refl; before_one = omega arith; before_other = omega arith }
 told_first-IsFirst UnknownName Syntax = record { one = inr refl; before_one = omega arith; before_other = omega arith }
-told_first-IsFirst UnknownName UnknownName = record { one = inl refl; before_one = omega arith; before_other = omega arith }
+told_first-IsFirst UnknownName UnknownName =
+    record { one = inl refl; before_one = omega arith; before_other = omega arith }
 told_first-IsFirst UnknownName Range = record { one = inl refl; before_one = omega arith; before_other = omega arith }
 told_first-IsFirst UnknownName TooLong = record { one = inl refl; before_one = omega arith; before_other = omega arith }
 told_first-IsFirst Range Syntax = record { one = inr refl; before_one = omega arith; before_other = omega arith }
@@ -66,22 +67,27 @@ both-order (Err e) (Err f) fault is =
       ],
     )
 
-line-faulty : (before : Outline) (line : NumberedLine) (fault : LineFault) → reading_of line ≡ Err fault → with_line before line ≡ Err (fault_at line.number fault)
+line-faulty : (before : Outline) (line : NumberedLine) (fault : LineFault) → reading_of line ≡ Err fault
+    → with_line before line ≡ Err (fault_at line.number fault)
 line-faulty before line fault e = ap (λ r. at_line line.number r then λ s. with_statement before line.number s) e
 
 refused : {A E : Type 0} (o : Option ℕ) (e : E) (r : Result A E) → is_some o ≡ true → cond (is_some o) (Err e) r ≡ Err e
 refused (Some n) e r some = refl
 refused None e r some = cc
 
-label-twice : (before : Outline) (line : NumberedLine) (name : List ℕ) → reading_of line ≡ Ok (Label name) → is_some (place_of before.labels name) ≡ true
+label-twice : (before : Outline) (line : NumberedLine) (name : List ℕ) → reading_of line ≡ Ok (Label name)
+    → is_some (place_of before.labels name) ≡ true
     → with_line before line ≡ Err (TwoLabels line.number)
 label-twice before line name e given =
-    ap (λ r. at_line line.number r then λ s. with_statement before line.number s) e ∙ refused (place_of before.labels name) (TwoLabels line.number) _ given
+    ap (λ r. at_line line.number r then λ s. with_statement before line.number s) e
+    ∙ refused (place_of before.labels name) (TwoLabels line.number) _ given
 
-data-twice : (before : Outline) (line : NumberedLine) (name string : List ℕ) → reading_of line ≡ Ok (Data name string) → is_some (place_of before.data_numbers name) ≡ true
+data-twice : (before : Outline) (line : NumberedLine) (name string : List ℕ) → reading_of line ≡ Ok (Data name string)
+    → is_some (place_of before.data_numbers name) ≡ true
     → with_line before line ≡ Err (TwoLabels line.number)
 data-twice before line name string e given =
-    ap (λ r. at_line line.number r then λ s. with_statement before line.number s) e ∙ refused (place_of before.data_numbers name) (TwoLabels line.number) _ given
+    ap (λ r. at_line line.number r then λ s. with_statement before line.number s) e
+    ∙ refused (place_of before.data_numbers name) (TwoLabels line.number) _ given
 
 pub faults_come_in_order : FaultsComeInOrder
 faults_come_in_order = record { operands = both-order; lines = line-faulty; labels = label-twice; «data» = data-twice }

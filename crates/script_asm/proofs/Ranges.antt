@@ -20,9 +20,12 @@ use Rattle.script_asm.specs.declared.statements.Statement.TheVariants.{Empty, La
 use Rattle.script_asm.proofs.Outcomes.{then-IfOk, then-IfOk_of, cond-IfOk, both-first, both-second}
 
 pub number_below-fits : (limit : ℕ) (word : List ℕ) → IfOk (number_below limit word) (λ number. number < limit)
-number_below-fits limit word = then-IfOk {E = LineFault} (λ number. number < limit) (number_in word) _ (λ number. fits number (nat_lt number limit) refl)
+number_below-fits limit word =
+    then-IfOk {E = LineFault} (λ number. number < limit) (number_in word) _
+    (λ number. fits number (nat_lt number limit) refl)
   where
-    fits : (number : ℕ) (b : Bool) → nat_lt number limit ≡ b → IfOk {E = LineFault} (cond b (Ok number) (Err Range)) (λ number. number < limit)
+    fits : (number : ℕ) (b : Bool) → nat_lt number limit ≡ b
+        → IfOk {E = LineFault} (cond b (Ok number) (Err Range)) (λ number. number < limit)
     fits number true is = ltb-true number limit is
     fits number false is = tt
 
@@ -32,15 +35,18 @@ number16_in-fits word = number_below-fits 65536 word
 group_in-fits : (word : List ℕ) → IfOk (group_in word) IsGroup
 group_in-fits word =
     cond-IfOk {E = LineFault} IsGroup (bytes_eq word (codes "pf")) _ _ tt
-    (then-IfOk_of {E = LineFault} IsGroup (λ v. v < 63) (number_below 63 word) _ (number_below-fits 63 word) (λ v small. small))
+    (then-IfOk_of {E = LineFault} IsGroup (λ v. v < 63) (number_below 63 word) _ (number_below-fits 63 word)
+    (λ v small. small))
 
 abbrev R : Draft → Type 0
 R d = IsInRange d
 
 -- what holds of each row of a table holds of what stands beside a name
-beside-IfOk : (name : List ℕ) (table : List (List ℕ × Result Draft LineFault)) → AllByRecursion (λ row. IfOk row.1 R) table → IfOk (beside name table) R
+beside-IfOk : (name : List ℕ) (table : List (List ℕ × Result Draft LineFault))
+    → AllByRecursion (λ row. IfOk row.1 R) table → IfOk (beside name table) R
 beside-IfOk name [] all = tt
-beside-IfOk name (row ∷ more) all = cond-IfOk R (bytes_eq name row.0) row.1 (beside name more) all.0 (beside-IfOk name more all.1)
+beside-IfOk name (row ∷ more) all =
+    cond-IfOk R (bytes_eq name row.0) row.1 (beside name more) all.0 (beside-IfOk name more all.1)
 
 ranges_of_one : (a : List ℕ) → AllByRecursion (λ row. IfOk row.1 R) (table_of_one a)
 ranges_of_one a = (
@@ -108,7 +114,8 @@ ranges_of_two a b = (
 ranges_of_three : (a b c : List ℕ) → AllByRecursion (λ row. IfOk row.1 R) (table_of_three a b c)
 ranges_of_three a b c = (
   then-IfOk_of R (λ f. f.0 < 63) (both (number_below 63 a) (both (number_in b) (number_in c))) _
-      (both-first (λ n. n < 63) (number_below 63 a) (both (number_in b) (number_in c)) (number_below-fits 63 a)) (λ f fits. fits),
+      (both-first (λ n. n < 63) (number_below 63 a) (both (number_in b) (number_in c)) (number_below-fits 63 a))
+      (λ f fits. fits),
   tt,
 )
 
@@ -123,7 +130,8 @@ instruction_in-range name (a ∷ b ∷ c ∷ d ∷ more) = tt
 bytes_in-some : (word : List ℕ) → IfOk (bytes_in word) (λ bytes. 1 ≤ length bytes)
 bytes_in-some word = then-IfOk (λ bytes. 1 ≤ length bytes) (ok_or (hex_bytes_of word) Syntax) _ some
   where
-    some : (bytes : List ℕ) → IfOk {E = LineFault} (cond (eqb (length bytes) 0) (Err Syntax) (Ok bytes)) (λ bytes. 1 ≤ length bytes)
+    some : (bytes : List ℕ) → IfOk {E =
+        LineFault} (cond (eqb (length bytes) 0) (Err Syntax) (Ok bytes)) (λ bytes. 1 ≤ length bytes)
     some bytes = elim (eqb_tells (length bytes) 0) [
       | inl (test, is) ↦ rw test tt
       | inr (test, other) ↦ rw test (omega (arith, other))
@@ -144,13 +152,16 @@ data_in-States : (operands : List (List ℕ)) → IfOk (data_in operands) States
 data_in-States [] = tt
 data_in-States (a ∷ []) = tt
 data_in-States (a ∷ b ∷ []) =
-    then-IfOk_of States (λ f. 1 ≤ length f.1) (both (name_in a) (bytes_in b)) _ (both-second (λ bytes. 1 ≤ length bytes) (name_in a) (bytes_in b) (bytes_in-some b)) (λ f some. some)
+    then-IfOk_of States (λ f. 1 ≤ length f.1) (both (name_in a) (bytes_in b)) _
+    (both-second (λ bytes. 1 ≤ length bytes) (name_in a) (bytes_in b) (bytes_in-some b)) (λ f some. some)
 data_in-States (a ∷ b ∷ c ∷ more) = tt
 
-other-States : (word : List ℕ) (name : Option (List ℕ)) (operands : List (List ℕ)) → IfOk (label_or_instruction word name operands) States
+other-States : (word : List ℕ) (name : Option (List ℕ)) (operands : List (List ℕ))
+    → IfOk (label_or_instruction word name operands) States
 other-States word (Some name) operands = label_in-States name operands
 other-States word None operands =
-    then-IfOk_of States IsInRange (instruction_in word operands) _ (instruction_in-range word operands) (λ draft range. range)
+    then-IfOk_of States IsInRange (instruction_in word operands) _ (instruction_in-range word operands)
+    (λ draft range. range)
 
 pub statement_of-States : (words : List (List ℕ)) → IfOk (statement_of words) States
 unfolding statement_of

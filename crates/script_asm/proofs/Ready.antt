@@ -41,7 +41,8 @@ chosen : (P : ℕ → Type 0) (b : Bool) (n : ℕ) (o : Option ℕ) → P n → 
 chosen P true n o h k = h
 chosen P false n o h k = k
 
-stand-more : (P : ℕ → Type 0) (places : Places) (name : List ℕ) (n : ℕ) → P n → Stand places P → Stand (with_place places name n) P
+stand-more : (P : ℕ → Type 0) (places : Places) (name : List ℕ) (n : ℕ) → P n → Stand places P
+    → Stand (with_place places name n) P
 stand-more P places name n here stand q =
     rw (place_of-with_place places name n q) (chosen P (bytes_eq name q) n (place_of places q) here (stand q))
 
@@ -55,60 +56,78 @@ ready-blank = record {
   drafts = tt;
 }
 
-with_label-ready : (before : Outline) (line : ℕ) (name : List ℕ) → IsReady before → IfOk (with_statement before line (Label name)) IsReady
-with_label-ready before line name ready = cond-IfOk {E = ScriptFault} IsReady (is_some (place_of before.labels name)) (Err (TwoLabels line)) _ tt (record {
-  few_drafts = ready.few_drafts;
-  few_strings = ready.few_strings;
-  labels = stand-more (λ pc. pc ≤ length before.drafts) before.labels name (length before.drafts) (omega arith) ready.labels;
-  data_numbers = ready.data_numbers;
-  strings = ready.strings;
-  drafts = ready.drafts;
-})
+with_label-ready : (before : Outline) (line : ℕ) (name : List ℕ) → IsReady before
+    → IfOk (with_statement before line (Label name)) IsReady
+with_label-ready before line name ready =
+    cond-IfOk {E = ScriptFault} IsReady (is_some (place_of before.labels name)) (Err (TwoLabels line)) _ tt (record {
+      few_drafts = ready.few_drafts;
+      few_strings = ready.few_strings;
+      labels = stand-more (λ pc. pc ≤ length before.drafts) before.labels name (length before.drafts) (omega arith)
+          ready.labels;
+      data_numbers = ready.data_numbers;
+      strings = ready.strings;
+      drafts = ready.drafts;
+    })
 
 -- a value under a test, of what holds where the test does
-tested : {A : Type 0} (P : A → Type 0) (b : Bool) (x : A) (e : ScriptFault) → (b ≡ true → P x) → IfOk (cond b (Ok x) (Err e)) P
+tested : {A : Type 0} (P : A → Type 0) (b : Bool) (x : A) (e : ScriptFault) → (b ≡ true → P x)
+    → IfOk (cond b (Ok x) (Err e)) P
 tested P true x e h = h refl
 tested P false x e h = tt
 
-more_data-ready : (before : Outline) (name string : List ℕ) → IsReady before → 1 ≤ length string → (nat_le (length string) 16384 && nat_lt (length before.strings) 1024) ≡ true
-    → IsReady (record before { data_numbers = with_place before.data_numbers name (length before.strings); strings = before.strings ++ string ∷ [] })
+more_data-ready : (before : Outline) (name string : List ℕ) → IsReady before → 1 ≤ length string
+    → (nat_le (length string) 16384 && nat_lt (length before.strings) 1024) ≡ true
+    → IsReady (record before {
+      data_numbers = with_place before.data_numbers name (length before.strings);
+      strings =
+          before.strings ++ string ∷ [];
+    })
 more_data-ready before name string ready some fits =
     let limits = and_parts (nat_le (length string) 16384) (nat_lt (length before.strings) 1024) fits in
     let short : length string ≤ 16384 = leb-true _ _ limits.0 in
     let few : length before.strings < 1024 = ltb-true _ _ limits.1 in
-    let count : length (before.strings ++ string ∷ []) ≡ length before.strings + 1 = length-append before.strings (string ∷ []) in
+    let count : length (before.strings ++ string ∷ []) ≡ length before.strings + 1 =
+    length-append before.strings (string ∷ []) in
     record {
       few_drafts = ready.few_drafts;
       few_strings = omega (arith, count);
       labels = ready.labels;
-      data_numbers = stand-more (λ n. n < length (before.strings ++ string ∷ [])) before.data_numbers name (length before.strings) (omega (arith, count))
-          (λ q. some-weaker (λ n. n < length before.strings) _ (place_of before.data_numbers q) (λ n below. omega (arith, count, below)) (ready.data_numbers q));
-      strings = AllByRecursion-push IsDataString before.strings string ready.strings (record { some = some; short = short });
+      data_numbers = stand-more (λ n. n < length (before.strings ++ string ∷ [])) before.data_numbers name
+          (length before.strings) (omega (arith, count))
+          (λ q. some-weaker (λ n. n < length before.strings) _ (place_of before.data_numbers q)
+          (λ n below. omega (arith, count, below)) (ready.data_numbers q));
+      strings = AllByRecursion-push IsDataString before.strings string ready.strings
+          (record { some = some; short = short });
       drafts = ready.drafts;
     }
 
-more_drafts-ready : (before : Outline) (line : ℕ) (d : Draft) → IsReady before → IsInRange d → nat_lt (length before.drafts) 4096 ≡ true
+more_drafts-ready : (before : Outline) (line : ℕ) (d : Draft) → IsReady before → IsInRange d
+    → nat_lt (length before.drafts) 4096 ≡ true
     → IsReady (record before { drafts = before.drafts ++ record { line = line; draft = d } ∷ [] })
 more_drafts-ready before line d ready range fits =
     let few : length before.drafts < 4096 = ltb-true _ _ fits in
     let more : DraftLine = record { line = line; draft = d } in
-    let count : length (before.drafts ++ more ∷ []) ≡ length before.drafts + 1 = length-append before.drafts (more ∷ []) in
+    let count : length (before.drafts ++ more ∷ []) ≡ length before.drafts + 1 =
+    length-append before.drafts (more ∷ []) in
     record {
       few_drafts = omega (arith, count);
       few_strings = ready.few_strings;
-      labels = λ q. some-weaker (λ n. n ≤ length before.drafts) (λ n. n ≤ length (before.drafts ++ more ∷ [])) (place_of before.labels q)
+      labels = λ q. some-weaker (λ n. n ≤ length before.drafts) (λ n. n ≤ length (before.drafts ++ more ∷ []))
+          (place_of before.labels q)
           (λ n below. omega (arith, count, below)) (ready.labels q);
       data_numbers = ready.data_numbers;
       strings = ready.strings;
       drafts = AllByRecursion-push (λ (l : DraftLine). IsInRange l.draft) before.drafts more ready.drafts range;
     }
 
-with_statement-ready : (before : Outline) (line : ℕ) (s : Statement) → States s → IsReady before → IfOk (with_statement before line s) IsReady
+with_statement-ready : (before : Outline) (line : ℕ) (s : Statement) → States s → IsReady before
+    → IfOk (with_statement before line s) IsReady
 with_statement-ready before line Empty states ready = ready
 with_statement-ready before line (Label name) states ready = with_label-ready before line name ready
 with_statement-ready before line (Data name string) states ready =
     cond-IfOk {E = ScriptFault} IsReady (is_some (place_of before.data_numbers name)) (Err (TwoLabels line)) _ tt
-    (tested IsReady (nat_le (length string) 16384 && nat_lt (length before.strings) 1024) _ TooLong (more_data-ready before name string ready states))
+    (tested IsReady (nat_le (length string) 16384 && nat_lt (length before.strings) 1024) _ TooLong
+    (more_data-ready before name string ready states))
 with_statement-ready before line (Instruction d) states ready =
     tested IsReady (nat_lt (length before.drafts) 4096) _ TooLong (more_drafts-ready before line d ready states)
 
@@ -117,17 +136,22 @@ line-ready : (before : Outline) (number : ℕ) (r : Result Statement LineFault) 
 line-ready before number (Ok s) states ready = with_statement-ready before number s states ready
 line-ready before number (Err fault) states ready = tt
 
-goes_on : (r : Result Outline ScriptFault) (lines : List NumberedLine) → IfOk r IsReady → ((after : Outline) → IsReady after → IfOk (with_lines after lines) IsReady)
+goes_on : (r : Result Outline ScriptFault) (lines : List NumberedLine) → IfOk r IsReady
+    → ((after : Outline) → IsReady after → IfOk (with_lines after lines) IsReady)
     → IfOk (r then λ after. with_lines after lines) IsReady
 goes_on (Ok after) lines ready rest = rest after ready
 goes_on (Err fault) lines ready rest = tt
 
-with_lines-ready : (before : Outline) (lines : List NumberedLine) → IsReady before → IfOk (with_lines before lines) IsReady
+with_lines-ready : (before : Outline) (lines : List NumberedLine) → IsReady before
+    → IfOk (with_lines before lines) IsReady
 unfolding with_lines
 with_lines-ready before [] ready = ready
 with_lines-ready before (line ∷ more) ready =
-    goes_on (with_line before line) more (line-ready before line.number (statement_of (words_of line.text)) (statement_of-States (words_of line.text)) ready)
+    goes_on (with_line before line) more
+    (line-ready before line.number (statement_of (words_of line.text)) (statement_of-States (words_of line.text))
+    ready)
     (λ after is. with_lines-ready after more is)
 
 pub text-ready : (lines : List NumberedLine) (outline : Outline) → with_lines blank lines ≡ Ok outline → IsReady outline
-text-ready lines outline is = subst (λ (r : Result Outline ScriptFault). IfOk r IsReady) is (with_lines-ready blank lines ready-blank)
+text-ready lines outline is = subst (λ (r : Result Outline ScriptFault). IfOk r IsReady) is
+    (with_lines-ready blank lines ready-blank)

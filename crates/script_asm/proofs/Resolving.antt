@@ -24,50 +24,67 @@ pushed : (found : Result Step ScriptFault) (before after : List Step) (f : List 
 pushed (Ok i) before after f e = let same : before ++ i ∷ [] ≡ after = cc in ap f same
 pushed (Err fault) before after f e = cc
 
-refused : (found : Result Step ScriptFault) (before : List Step) (fault : ScriptFault) (f : List Step → Result (List Step) ScriptFault)
+refused : (found : Result Step ScriptFault) (before : List Step) (fault : ScriptFault) (f : List Step
+    → Result (List Step) ScriptFault)
     → (found then λ i. Ok (before ++ i ∷ [])) ≡ Err fault → (found then λ i. f (before ++ i ∷ [])) ≡ Err fault
 refused (Ok i) before fault f e = cc
 refused (Err other) before fault f e = let same : other ≡ fault = cc in ap Err same
 
-pub with_resolved-added : (outline : Outline) (before after : List Step) (drafts : List DraftLine) (d : DraftLine) (k : ℕ) → k < length drafts → d ≡ get_or drafts k d
+pub with_resolved-added : (outline : Outline) (before after : List Step) (drafts : List DraftLine) (d : DraftLine)
+    (k : ℕ) → k < length drafts → d ≡ get_or drafts k d
     → (resolved outline d.line d.draft then λ i. Ok (before ++ i ∷ [])) ≡ Ok after
     → with_resolved outline before (drop k drafts) ≡ with_resolved outline after (drop (k + 1) drafts)
 unfolding with_resolved
 with_resolved-added outline before after drafts d k below at e =
-    let here : drop k drafts ≡ d ∷ drop (k + 1) drafts = drop-cons drafts k d below ∙ ap (λ x. x ∷ drop (suc k) drafts) (sym at) ∙ ap (λ n. d ∷ drop n drafts) (sym (add-one k)) in
-    rw here (pushed (resolved outline d.line d.draft) before after (λ is. with_resolved outline is (drop (k + 1) drafts)) e)
+    let here : drop k drafts ≡ d ∷ drop (k + 1) drafts =
+    drop-cons drafts k d below ∙ ap (λ x. x ∷ drop (suc k) drafts) (sym at)
+    ∙ ap (λ n. d ∷ drop n drafts) (sym (add-one k)) in
+    rw here (pushed (resolved outline d.line d.draft) before after
+    (λ is. with_resolved outline is (drop (k + 1) drafts)) e)
 
-pub with_resolved-stopped : (outline : Outline) (before : List Step) (fault : ScriptFault) (drafts : List DraftLine) (d : DraftLine) (k : ℕ) → k < length drafts → d ≡ get_or drafts k d
+pub with_resolved-stopped : (outline : Outline) (before : List Step) (fault : ScriptFault) (drafts : List DraftLine)
+    (d : DraftLine) (k : ℕ) → k < length drafts → d ≡ get_or drafts k d
     → (resolved outline d.line d.draft then λ i. Ok (before ++ i ∷ [])) ≡ Err fault
     → with_resolved outline before (drop k drafts) ≡ Err fault
 unfolding with_resolved
 with_resolved-stopped outline before fault drafts d k below at e =
-    let here : drop k drafts ≡ d ∷ drop (k + 1) drafts = drop-cons drafts k d below ∙ ap (λ x. x ∷ drop (suc k) drafts) (sym at) ∙ ap (λ n. d ∷ drop n drafts) (sym (add-one k)) in
-    rw here (refused (resolved outline d.line d.draft) before fault (λ is. with_resolved outline is (drop (k + 1) drafts)) e)
+    let here : drop k drafts ≡ d ∷ drop (k + 1) drafts =
+    drop-cons drafts k d below ∙ ap (λ x. x ∷ drop (suc k) drafts) (sym at)
+    ∙ ap (λ n. d ∷ drop n drafts) (sym (add-one k)) in
+    rw here (refused (resolved outline d.line d.draft) before fault
+    (λ is. with_resolved outline is (drop (k + 1) drafts)) e)
 
-pub with_resolved-ended : (outline : Outline) (before : List Step) (drafts : List DraftLine) (k : ℕ) → length drafts ≤ k → with_resolved outline before (drop k drafts) ≡ Ok before
+pub with_resolved-ended : (outline : Outline) (before : List Step) (drafts : List DraftLine) (k : ℕ) → length drafts ≤ k
+    → with_resolved outline before (drop k drafts) ≡ Ok before
 unfolding with_resolved
 with_resolved-ended outline before drafts k past = rw (drop_all k drafts past) refl
 
 -- data that is poked has 16 bytes
-pub if_of_16-Ok : (outline : Outline) (line number : ℕ) → IfOk (if_of_16 outline line number) (λ found. (number ≡ found) × (length (string_at outline.strings found) ≡ 16))
+pub if_of_16-Ok : (outline : Outline) (line number : ℕ)
+    → IfOk (if_of_16 outline line number) (λ found. (number ≡ found) × (length (string_at outline.strings found) ≡ 16))
 if_of_16-Ok outline line number = elim (eqb_tells (length (string_at outline.strings number)) 16) [
   | inl (test, is) ↦ rw test (refl, is)
   | inr (test, other) ↦ rw test tt
 ]
 
-label_named-IfOk : (o : Outline) (line : ℕ) (name : List ℕ) → IsReady o → IfOk (label_named o line name) (λ pc. pc ≤ length o.drafts)
-label_named-IfOk o line name ready = ok_or-IfOk (λ pc. pc ≤ length o.drafts) (place_of o.labels name) (UnknownLabel line) (ready.labels name)
+label_named-IfOk : (o : Outline) (line : ℕ) (name : List ℕ) → IsReady o
+    → IfOk (label_named o line name) (λ pc. pc ≤ length o.drafts)
+label_named-IfOk o line name ready =
+    ok_or-IfOk (λ pc. pc ≤ length o.drafts) (place_of o.labels name) (UnknownLabel line) (ready.labels name)
 
-data_named-IfOk : (o : Outline) (line : ℕ) (name : List ℕ) → IsReady o → IfOk (data_named o line name) (λ number. number < length o.strings)
+data_named-IfOk : (o : Outline) (line : ℕ) (name : List ℕ) → IsReady o
+    → IfOk (data_named o line name) (λ number. number < length o.strings)
 data_named-IfOk o line name ready =
-    ok_or-IfOk (λ number. number < length o.strings) (place_of o.data_numbers name) (UnknownLabel line) (ready.data_numbers name)
+    ok_or-IfOk (λ number. number < length o.strings) (place_of o.data_numbers name) (UnknownLabel line)
+    (ready.data_numbers name)
 
-second : {A : Type 0} (P : A → Type 0) (n : A) (r : Result A ScriptFault) → IfOk r (λ found. (n ≡ found) × P found) → IfOk r P
+second : {A : Type 0} (P : A → Type 0) (n : A) (r : Result A ScriptFault) → IfOk r (λ found. (n ≡ found) × P found)
+    → IfOk r P
 second P n (Ok m) h = h.1
 second P n (Err e) h = tt
 
-poked-IfOk : (o : Outline) (line : ℕ) (name : List ℕ) → IfOk (poked o line name) (λ number. length (string_at o.strings number) ≡ 16)
+poked-IfOk : (o : Outline) (line : ℕ) (name : List ℕ)
+    → IfOk (poked o line name) (λ number. length (string_at o.strings number) ≡ 16)
 poked-IfOk o line name =
     then-IfOk (λ number. length (string_at o.strings number) ≡ 16) (data_named o line name) (if_of_16 o line)
     (λ n. second (λ number. length (string_at o.strings number) ≡ 16) n (if_of_16 o line n) (if_of_16-Ok o line n))
@@ -84,10 +101,12 @@ resolved-sound o line (VfRead function offset) ready h = h
 resolved-sound o line (Lend block) ready h = h
 resolved-sound o line (Unlend block) ready h = h
 resolved-sound o line (Poke address name) ready h =
-    then-IfOk_of (Sound o) (λ number. length (string_at o.strings number) ≡ 16) (poked o line name) _ (poked-IfOk o line name) (λ number is. is)
+    then-IfOk_of (Sound o) (λ number. length (string_at o.strings number) ≡ 16) (poked o line name) _
+    (poked-IfOk o line name) (λ number is. is)
 resolved-sound o line (Peek address word) ready h = h
 resolved-sound o line (Arrive name) ready h =
-    then-IfOk_of (Sound o) (λ number. number < length o.strings) (data_named o line name) _ (data_named-IfOk o line name ready) (λ number is. is)
+    then-IfOk_of (Sound o) (λ number. number < length o.strings) (data_named o line name) _
+    (data_named-IfOk o line name ready) (λ number is. is)
 resolved-sound o line RxStep ready h = tt
 resolved-sound o line (TxStep queue) ready h = h
 resolved-sound o line (IntStep group) ready h = h
@@ -98,18 +117,23 @@ resolved-sound o line Collect ready h = tt
 resolved-sound o line (Expect want mask) ready h = tt
 resolved-sound o line (And word) ready h = tt
 resolved-sound o line (JumpIfEqual word name) ready h =
-    then-IfOk_of (Sound o) (λ pc. pc ≤ length o.drafts) (label_named o line name) _ (label_named-IfOk o line name ready) (λ pc is. is)
+    then-IfOk_of (Sound o) (λ pc. pc ≤ length o.drafts) (label_named o line name) _ (label_named-IfOk o line name ready)
+    (λ pc is. is)
 resolved-sound o line (JumpUnlessEqual word name) ready h =
-    then-IfOk_of (Sound o) (λ pc. pc ≤ length o.drafts) (label_named o line name) _ (label_named-IfOk o line name ready) (λ pc is. is)
+    then-IfOk_of (Sound o) (λ pc. pc ≤ length o.drafts) (label_named o line name) _ (label_named-IfOk o line name ready)
+    (λ pc is. is)
 resolved-sound o line (Jump name) ready h =
-    then-IfOk_of (Sound o) (λ pc. pc ≤ length o.drafts) (label_named o line name) _ (label_named-IfOk o line name ready) (λ pc is. is)
+    then-IfOk_of (Sound o) (λ pc. pc ≤ length o.drafts) (label_named o line name) _ (label_named-IfOk o line name ready)
+    (λ pc is. is)
 resolved-sound o line Halt ready h = tt
 
-pub AllByRecursion-push : {X : Type 0} (P : X → Type 0) (xs : List X) (x : X) → AllByRecursion P xs → P x → AllByRecursion P (xs ++ x ∷ [])
+pub AllByRecursion-push : {X : Type 0} (P : X → Type 0) (xs : List X) (x : X) → AllByRecursion P xs → P x
+    → AllByRecursion P (xs ++ x ∷ [])
 AllByRecursion-push P [] x all here = (here, tt)
 AllByRecursion-push P (y ∷ xs) x all here = (all.0, AllByRecursion-push P xs x all.1 here)
 
-length-with_resolved : (o : Outline) (before : List Step) (drafts : List DraftLine) (result : List Step) → with_resolved o before drafts ≡ Ok result
+length-with_resolved : (o : Outline) (before : List Step) (drafts : List DraftLine) (result : List Step)
+    → with_resolved o before drafts ≡ Ok result
     → length result ≡ length before + length drafts
 unfolding with_resolved
 length-with_resolved o before [] result e = let same : before ≡ result = cc in omega (arith, ap length same)
@@ -118,16 +142,21 @@ length-with_resolved o before (d ∷ more) result e =
     omega (arith, length-with_resolved o (before ++ next.0 ∷ []) more result next.2, length-append before (next.0 ∷ []))
 
 with_resolved-sound : (o : Outline) (before : List Step) (drafts : List DraftLine) (result : List Step) → IsReady o
-    → AllByRecursion (λ d. IsInRange d.draft) drafts → AllByRecursion (Sound o) before → with_resolved o before drafts ≡ Ok result → AllByRecursion (Sound o) result
+    → AllByRecursion (λ d. IsInRange d.draft) drafts → AllByRecursion (Sound o) before
+    → with_resolved o before drafts ≡ Ok result → AllByRecursion (Sound o) result
 unfolding with_resolved
-with_resolved-sound o before [] result ready ranges sound e = let same : before ≡ result = cc in subst (AllByRecursion (Sound o)) same sound
+with_resolved-sound o before [] result ready ranges sound e = let same : before ≡ result = cc in
+    subst (AllByRecursion (Sound o)) same sound
 with_resolved-sound o before (d ∷ more) result ready ranges sound e =
     let next = stepped (resolved o d.line d.draft) (λ i. with_resolved o (before ++ i ∷ []) more) result e in
-    let here = IfOk-of (Sound o) (resolved o d.line d.draft) next.0 next.1 (resolved-sound o d.line d.draft ready ranges.0) in
-    with_resolved-sound o (before ++ next.0 ∷ []) more result ready ranges.1 (AllByRecursion-push (Sound o) before next.0 sound here) next.2
+    let here = IfOk-of (Sound o) (resolved o d.line d.draft) next.0 next.1
+    (resolved-sound o d.line d.draft ready ranges.0) in
+    with_resolved-sound o (before ++ next.0 ∷ []) more result ready ranges.1
+    (AllByRecursion-push (Sound o) before next.0 sound here) next.2
 
 -- what was resolved is a program
-pub with_resolved-IsListing : (outline : Outline) (result : List Step) → IsReady outline → with_resolved outline [] outline.drafts ≡ Ok result
+pub with_resolved-IsListing : (outline : Outline) (result : List Step) → IsReady outline
+    → with_resolved outline [] outline.drafts ≡ Ok result
     → IsListing (record { strings = outline.strings; instructions = result })
 with_resolved-IsListing outline result ready e =
     let count = length-with_resolved outline [] outline.drafts result e in
@@ -135,6 +164,7 @@ with_resolved-IsListing outline result ready e =
       few = omega (arith, count, ready.few_drafts);
       few_strings = ready.few_strings;
       strings = ready.strings;
-      sound = subst (λ n. AllByRecursion (IsSound outline.strings n) result) (sym (count ∙ zero-add (length outline.drafts)))
+      sound = subst (λ n. AllByRecursion (IsSound outline.strings n) result)
+          (sym (count ∙ zero-add (length outline.drafts)))
           (with_resolved-sound outline [] outline.drafts result ready ready.drafts tt e);
     }

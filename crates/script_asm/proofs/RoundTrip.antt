@@ -27,13 +27,18 @@ first_true : (a b : Bool) → a ≡ true → (a || b) ≡ true
 first_true true b e = refl
 first_true false b e = cc
 
-more_targets : (i : Step ℕ ℕ) (code rest : List (Step ℕ ℕ)) → AllByRecursion (Targets code) rest → AllByRecursion (Targets (i ∷ code)) rest
+more_targets : (i : Step ℕ ℕ) (code rest : List (Step ℕ ℕ)) → AllByRecursion (Targets code) rest
+    → AllByRecursion (Targets (i ∷ code)) rest
 more_targets i code [] all = tt
-more_targets i code (j ∷ more) all = (λ m e. or_true (jumps_to m i) (is_target code m) (all.0 m e), more_targets i code more all.1)
+more_targets i code (j ∷ more) all =
+    (λ m e. or_true (jumps_to m i) (is_target code m) (all.0 m e), more_targets i code more all.1)
 
 all_targets : (code : List (Step ℕ ℕ)) → AllByRecursion (Targets code) code
 all_targets [] = tt
-all_targets (i ∷ more) = (λ m e. first_true (jumps_to m i) (is_target more m) e, more_targets i more more (all_targets more))
+all_targets (i ∷ more) = (
+  λ m e. first_true (jumps_to m i) (is_target more m) e,
+  more_targets i more more (all_targets more),
+)
 
 -- data of 16 bytes is there
 there : (strings : List (List ℕ)) (number : ℕ) → length (string_at strings number) ≡ 16 → number < length strings
@@ -44,7 +49,8 @@ there (string ∷ more) (suc number) long = let below = there more number long i
 itself : (m : ℕ) → (m == m) ≡ true
 itself m = eq-eqb m m refl
 
-means : (p : Listing) (i : Step ℕ ℕ) → IsListing p → IsSound p.strings (length p.instructions) i → Targets p.instructions i
+means : (p : Listing) (i : Step ℕ ℕ) → IsListing p → IsSound p.strings (length p.instructions) i
+    → Targets p.instructions i
     → Means (label_from 0 (statements_of p)) (data_from 0 (statements_of p)) p.strings (named i) i
 means p (Write address word) is sound targets = refl
 means p (Read address) is sound targets = refl
@@ -52,7 +58,8 @@ means p (VfWrite function offset word) is sound targets = refl
 means p (VfRead function offset) is sound targets = refl
 means p (Lend block) is sound targets = refl
 means p (Unlend block) is sound targets = refl
-means p (Poke address number) is sound targets = (number, refl, data_number p number is (there p.strings number sound), sound)
+means p (Poke address number) is sound targets =
+    (number, refl, data_number p number is (there p.strings number sound), sound)
 means p (Peek address word) is sound targets = refl
 means p (Arrive number) is sound targets = (number, refl, data_number p number is sound)
 means p RxStep is sound targets = refl
@@ -69,7 +76,8 @@ means p (JumpUnlessEqual word pc) is sound targets = (pc, refl, label_place p pc
 means p (Jump pc) is sound targets = (pc, refl, label_place p pc is sound (targets pc (itself pc)))
 means p Halt is sound targets = refl
 
-mean : (p : Listing) (rest : List (Step ℕ ℕ)) → IsListing p → AllByRecursion (IsSound p.strings (length p.instructions)) rest → AllByRecursion (Targets p.instructions) rest
+mean : (p : Listing) (rest : List (Step ℕ ℕ)) → IsListing p
+    → AllByRecursion (IsSound p.strings (length p.instructions)) rest → AllByRecursion (Targets p.instructions) rest
     → Mean (label_from 0 (statements_of p)) (data_from 0 (statements_of p)) p.strings (map named rest) rest
 mean p [] is sound targets = tt
 mean p (i ∷ more) is sound targets = (means p i is sound.0 targets.0, mean p more is sound.1 targets.1)
@@ -79,8 +87,10 @@ unfolding text_of
 reads-text p is widths =
     let few = is.few in
     let few_strings = is.few_strings in
-    reads-data 0 p.strings (code_lines p.instructions 0 p.instructions) (code_statements p.instructions 0 p.instructions) (omega arith) is.strings widths.strings
-    (reads-code p.strings (length p.instructions) p.instructions 0 p.instructions (omega arith) is.sound widths.instructions)
+    reads-data 0 p.strings (code_lines p.instructions 0 p.instructions)
+    (code_statements p.instructions 0 p.instructions) (omega arith) is.strings widths.strings
+    (reads-code p.strings (length p.instructions) p.instructions 0 p.instructions (omega arith) is.sound
+    widths.instructions)
 
 said : (p : Listing) → IsListing p → HasWidths p → IsSaid (text_of p) p
 unfolding lines_of
@@ -89,7 +99,10 @@ said p is widths = record {
   say = reading_of-numbered 1 (lines (text_of p)) ∙ (reads-text p is widths).is;
   fit = Fit-statements p is;
   strings = sym (strings_in-statements p);
-  mean = rw (strings_in-statements p, drafts_in-statements p) (mean p p.instructions is is.sound (all_targets p.instructions));
+  mean = rw (
+    strings_in-statements p,
+    drafts_in-statements p,
+  ) (mean p p.instructions is is.sound (all_targets p.instructions));
 }
 
 pub texts_read_back : TextsReadBack

@@ -29,7 +29,8 @@ pub record IsGood (r : RowId) : Type 0 where
 pub row-IsGood : (r : RowId) → IsGood r
 unfolding good_row
 row-IsGood r =
-    let first = and_parts (is_name (row_of r).name) (list_all is_tame (row_of r).name && nat_lt (row_of r).count 65536) (row-good r) in
+    let first = and_parts (is_name (row_of r).name) (list_all is_tame (row_of r).name && nat_lt (row_of r).count 65536)
+    (row-good r) in
     let second = and_parts (list_all is_tame (row_of r).name) (nat_lt (row_of r).count 65536) first.1 in
     record { name = first.0; tame = second.0; few = ltb-true (row_of r).count 65536 second.1 }
 
@@ -47,7 +48,8 @@ past_tame (c ∷ cs) e =
     let rest = past_tame cs parts.1 in
     rw (tame_none c parts.0) (omega (arith, rest))
 
-pub at_bracket : (xs ys : List ℕ) → list_all is_tame xs ≡ true → position_or_len (λ b. b == 91) (xs ++ 91 ∷ ys) ≡ length xs
+pub at_bracket : (xs ys : List ℕ) → list_all is_tame xs ≡ true
+    → position_or_len (λ b. b == 91) (xs ++ 91 ∷ ys) ≡ length xs
 at_bracket [] ys e = refl
 at_bracket (c ∷ cs) ys e =
     let parts = and_parts (is_tame c) (list_all is_tame cs) e in
@@ -58,7 +60,8 @@ pub no_bracket : (xs : List ℕ) → list_all is_tame xs ≡ true → has_byte 9
 no_bracket xs e = rw (past_tame xs e) (le-ltb (length xs) (length xs) (omega arith))
 
 pub bracket : (xs ys : List ℕ) → list_all is_tame xs ≡ true → has_byte 91 (xs ++ 91 ∷ ys) ≡ true
-bracket xs ys e = rw (at_bracket xs ys e) (lt-ltb (length xs) (length (xs ++ 91 ∷ ys)) (omega (arith, length-append xs (91 ∷ ys))))
+bracket xs ys e = rw (at_bracket xs ys e)
+    (lt-ltb (length xs) (length (xs ++ 91 ∷ ys)) (omega (arith, length-append xs (91 ∷ ys))))
 
 pub before_bracket : (xs ys : List ℕ) → list_all is_tame xs ≡ true → before_first (λ b. b == 91) (xs ++ 91 ∷ ys) ≡ xs
 before_bracket xs ys e = rw (at_bracket xs ys e) (take-append_seam xs (91 ∷ ys))

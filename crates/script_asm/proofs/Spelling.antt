@@ -59,74 +59,92 @@ pub record ReadsBack (i : Step ℕ ℕ) : Type 0 where
   pub says : statement_of words ≡ Ok (Instruction (named i))
 
 -- the lines of one operand, of two and of three
-pub says-write : (t v : List ℕ) (a w : ℕ) → target_of t ≡ Ok a → number_in v ≡ Ok w → statement_of (codes "w" ∷ t ∷ v ∷ []) ≡ Ok (Instruction (Write a w))
+pub says-write : (t v : List ℕ) (a w : ℕ) → target_of t ≡ Ok a → number_in v ≡ Ok w
+    → statement_of (codes "w" ∷ t ∷ v ∷ []) ≡ Ok (Instruction (Write a w))
 unfolding statement_of
 says-write t v a w x y = rw (x, y) refl
 
-pub says-read : (t : List ℕ) (a : ℕ) → target_of t ≡ Ok a → statement_of (codes "r" ∷ t ∷ []) ≡ Ok (Instruction (Read a))
+pub says-read : (t : List ℕ) (a : ℕ) → target_of t ≡ Ok a
+    → statement_of (codes "r" ∷ t ∷ []) ≡ Ok (Instruction (Read a))
 unfolding statement_of
 says-read t a x = rw x refl
 
-pub says-vw : (f o v : List ℕ) (a b c : ℕ) → number_below 63 f ≡ Ok a → number_in o ≡ Ok b → number_in v ≡ Ok c → statement_of (codes "vw" ∷ f ∷ o ∷ v ∷ []) ≡ Ok (Instruction (VfWrite a b c))
+pub says-vw : (f o v : List ℕ) (a b c : ℕ) → number_below 63 f ≡ Ok a → number_in o ≡ Ok b → number_in v ≡ Ok c
+    → statement_of (codes "vw" ∷ f ∷ o ∷ v ∷ []) ≡ Ok (Instruction (VfWrite a b c))
 unfolding statement_of
 says-vw f o v a b c x y z = rw (x, y, z) refl
 
-pub says-vr : (f o : List ℕ) (a b : ℕ) → number_below 63 f ≡ Ok a → number_in o ≡ Ok b → statement_of (codes "vr" ∷ f ∷ o ∷ []) ≡ Ok (Instruction (VfRead a b))
+pub says-vr : (f o : List ℕ) (a b : ℕ) → number_below 63 f ≡ Ok a → number_in o ≡ Ok b
+    → statement_of (codes "vr" ∷ f ∷ o ∷ []) ≡ Ok (Instruction (VfRead a b))
 unfolding statement_of
 says-vr f o a b x y = rw (x, y) refl
 
-pub says-lend : (b : List ℕ) (n : ℕ) → number_below 65536 b ≡ Ok n → statement_of (codes "lend" ∷ b ∷ []) ≡ Ok (Instruction (Lend n))
+pub says-lend : (b : List ℕ) (n : ℕ) → number_below 65536 b ≡ Ok n
+    → statement_of (codes "lend" ∷ b ∷ []) ≡ Ok (Instruction (Lend n))
 unfolding statement_of
 says-lend b n x = rw x refl
 
-pub says-unlend : (b : List ℕ) (n : ℕ) → number_below 65536 b ≡ Ok n → statement_of (codes "unlend" ∷ b ∷ []) ≡ Ok (Instruction (Unlend n))
+pub says-unlend : (b : List ℕ) (n : ℕ) → number_below 65536 b ≡ Ok n
+    → statement_of (codes "unlend" ∷ b ∷ []) ≡ Ok (Instruction (Unlend n))
 unfolding statement_of
 says-unlend b n x = rw x refl
 
-pub says-poke : (a d name : List ℕ) (n : ℕ) → number_in a ≡ Ok n → name_in d ≡ Ok name → statement_of (codes "poke" ∷ a ∷ d ∷ []) ≡ Ok (Instruction (Poke n name))
+pub says-poke : (a d name : List ℕ) (n : ℕ) → number_in a ≡ Ok n → name_in d ≡ Ok name
+    → statement_of (codes "poke" ∷ a ∷ d ∷ []) ≡ Ok (Instruction (Poke n name))
 unfolding statement_of
 says-poke a d name n x y = rw (x, y) refl
 
-pub says-peek : (a v : List ℕ) (n w : ℕ) → number_in a ≡ Ok n → number_below 4 v ≡ Ok w → statement_of (codes "peek" ∷ a ∷ v ∷ []) ≡ Ok (Instruction (Peek n w))
+pub says-peek : (a v : List ℕ) (n w : ℕ) → number_in a ≡ Ok n → number_below 4 v ≡ Ok w
+    → statement_of (codes "peek" ∷ a ∷ v ∷ []) ≡ Ok (Instruction (Peek n w))
 unfolding statement_of
 says-peek a v n w x y = rw (x, y) refl
 
-pub says-arrive : (d name : List ℕ) → name_in d ≡ Ok name → statement_of (codes "arrive" ∷ d ∷ []) ≡ Ok (Instruction (Arrive name))
+pub says-arrive : (d name : List ℕ) → name_in d ≡ Ok name
+    → statement_of (codes "arrive" ∷ d ∷ []) ≡ Ok (Instruction (Arrive name))
 unfolding statement_of
 says-arrive d name x = rw x refl
 
-pub says-tx : (q : List ℕ) (n : ℕ) → number_below 65536 q ≡ Ok n → statement_of (codes "tx" ∷ q ∷ []) ≡ Ok (Instruction (TxStep n))
+pub says-tx : (q : List ℕ) (n : ℕ) → number_below 65536 q ≡ Ok n
+    → statement_of (codes "tx" ∷ q ∷ []) ≡ Ok (Instruction (TxStep n))
 unfolding statement_of
 says-tx q n x = rw x refl
 
-pub says-int : (v : ℕ) → number_below 63 (word_text v) ≡ Ok v → statement_of (codes "int" ∷ word_text v ∷ []) ≡ Ok (Instruction (IntStep (Vf v)))
+pub says-int : (v : ℕ) → number_below 63 (word_text v) ≡ Ok v
+    → statement_of (codes "int" ∷ word_text v ∷ []) ≡ Ok (Instruction (IntStep (Vf v)))
 unfolding statement_of
 says-int v x = rw x refl
 
-pub says-qstep-rx : (q : List ℕ) (n : ℕ) → number_below 65536 q ≡ Ok n → statement_of (codes "qstep" ∷ codes "rx" ∷ q ∷ []) ≡ Ok (Instruction (QueueStep Rx n))
+pub says-qstep-rx : (q : List ℕ) (n : ℕ) → number_below 65536 q ≡ Ok n
+    → statement_of (codes "qstep" ∷ codes "rx" ∷ q ∷ []) ≡ Ok (Instruction (QueueStep Rx n))
 unfolding statement_of
 says-qstep-rx q n x = rw x refl
 
-pub says-qstep-tx : (q : List ℕ) (n : ℕ) → number_below 65536 q ≡ Ok n → statement_of (codes "qstep" ∷ codes "tx" ∷ q ∷ []) ≡ Ok (Instruction (QueueStep Tx n))
+pub says-qstep-tx : (q : List ℕ) (n : ℕ) → number_below 65536 q ≡ Ok n
+    → statement_of (codes "qstep" ∷ codes "tx" ∷ q ∷ []) ≡ Ok (Instruction (QueueStep Tx n))
 unfolding statement_of
 says-qstep-tx q n x = rw x refl
 
-pub says-expect : (a b : List ℕ) (n m : ℕ) → number_in a ≡ Ok n → number_in b ≡ Ok m → statement_of (codes "expect" ∷ a ∷ b ∷ []) ≡ Ok (Instruction (Expect n m))
+pub says-expect : (a b : List ℕ) (n m : ℕ) → number_in a ≡ Ok n → number_in b ≡ Ok m
+    → statement_of (codes "expect" ∷ a ∷ b ∷ []) ≡ Ok (Instruction (Expect n m))
 unfolding statement_of
 says-expect a b n m x y = rw (x, y) refl
 
-pub says-and : (a : List ℕ) (n : ℕ) → number_in a ≡ Ok n → statement_of (codes "and" ∷ a ∷ []) ≡ Ok (Instruction (And n))
+pub says-and : (a : List ℕ) (n : ℕ) → number_in a ≡ Ok n
+    → statement_of (codes "and" ∷ a ∷ []) ≡ Ok (Instruction (And n))
 unfolding statement_of
 says-and a n x = rw x refl
 
-pub says-jeq : (a l name : List ℕ) (n : ℕ) → number_in a ≡ Ok n → name_in l ≡ Ok name → statement_of (codes "jeq" ∷ a ∷ l ∷ []) ≡ Ok (Instruction (JumpIfEqual n name))
+pub says-jeq : (a l name : List ℕ) (n : ℕ) → number_in a ≡ Ok n → name_in l ≡ Ok name
+    → statement_of (codes "jeq" ∷ a ∷ l ∷ []) ≡ Ok (Instruction (JumpIfEqual n name))
 unfolding statement_of
 says-jeq a l name n x y = rw (x, y) refl
 
-pub says-jne : (a l name : List ℕ) (n : ℕ) → number_in a ≡ Ok n → name_in l ≡ Ok name → statement_of (codes "jne" ∷ a ∷ l ∷ []) ≡ Ok (Instruction (JumpUnlessEqual n name))
+pub says-jne : (a l name : List ℕ) (n : ℕ) → number_in a ≡ Ok n → name_in l ≡ Ok name
+    → statement_of (codes "jne" ∷ a ∷ l ∷ []) ≡ Ok (Instruction (JumpUnlessEqual n name))
 unfolding statement_of
 says-jne a l name n x y = rw (x, y) refl
 
-pub says-jmp : (l name : List ℕ) → name_in l ≡ Ok name → statement_of (codes "jmp" ∷ l ∷ []) ≡ Ok (Instruction (Jump name))
+pub says-jmp : (l name : List ℕ) → name_in l ≡ Ok name
+    → statement_of (codes "jmp" ∷ l ∷ []) ≡ Ok (Instruction (Jump name))
 unfolding statement_of
 says-jmp l name x = rw x refl

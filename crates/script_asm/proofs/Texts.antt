@@ -40,14 +40,17 @@ say line = statement_of (words_of line)
 pub record Reads (text : List ℕ) (statements : List Statement) : Type 0 where
   pub is : map say (lines text) ≡ map Ok statements
 
-one_more : (line : List ℕ) (lines : List (List ℕ)) (s : Statement) (ss : List Statement) → say line ≡ Ok s → map say lines ≡ map Ok ss → map say (line ∷ lines) ≡ map Ok (s ∷ ss)
+one_more : (line : List ℕ) (lines : List (List ℕ)) (s : Statement) (ss : List Statement) → say line ≡ Ok s
+    → map say lines ≡ map Ok ss → map say (line ∷ lines) ≡ map Ok (s ∷ ss)
 one_more line lines s ss here rest = cc
 
 -- a line of words, and the text behind it
-reads-line : (text : List ℕ) (words : List (List ℕ)) (rest : List ℕ) (s : Statement) (ss : List Statement) → AllByRecursion IsWord words
+reads-line : (text : List ℕ) (words : List (List ℕ)) (rest : List ℕ) (s : Statement) (ss : List Statement)
+    → AllByRecursion IsWord words
     → text ≡ joined words ++ 10 ∷ [] → statement_of words ≡ Ok s → Reads rest ss → Reads (text ++ rest) (s ∷ ss)
 reads-line text words rest s ss are is says more =
-    let whole : text ++ rest ≡ joined words ++ 10 ∷ rest = ap (λ t. t ++ rest) is ∙ append_assoc (joined words) (10 ∷ []) rest in
+    let whole : text ++ rest ≡ joined words ++ 10 ∷ rest =
+    ap (λ t. t ++ rest) is ∙ append_assoc (joined words) (10 ∷ []) rest in
     let here : say (joined words) ≡ Ok s = ap statement_of (words_of-joined words are) ∙ says in
     record {
       is = ap (λ t. map say (lines t)) whole ∙ ap (map say) (lines-more (joined words) rest (joined-inline words are))
@@ -77,11 +80,13 @@ are_bytes (x ∷ xs) all (suc i) = are_bytes xs all.1 i
 
 bytes_in-text : (xs : List ℕ) → 1 ≤ length xs → AllByRecursion (λ b. b < 256) xs → bytes_in (bytes_text xs) ≡ Ok xs
 bytes_in-text xs some all =
-    let is : hex_bytes_of (bytes_text xs) ≡ Some xs = hex_bytes_of-decoded (bytes_text xs) xs (decode_of-encode_lower xs (are_bytes xs all)) in
+    let is : hex_bytes_of (bytes_text xs) ≡ Some xs =
+    hex_bytes_of-decoded (bytes_text xs) xs (decode_of-encode_lower xs (are_bytes xs all)) in
     let long : (length xs == 0) ≡ false = grind (arith, nat_tests) in
     ap (λ o. ok_or o Syntax then λ bytes. cond (length bytes == 0) (Err Syntax) (Ok bytes)) is ∙ rw long refl
 
-says-data : (name digits bytes : List ℕ) → name_in name ≡ Ok name → bytes_in digits ≡ Ok bytes → statement_of (codes "data" ∷ name ∷ digits ∷ []) ≡ Ok (Data name bytes)
+says-data : (name digits bytes : List ℕ) → name_in name ≡ Ok name → bytes_in digits ≡ Ok bytes
+    → statement_of (codes "data" ∷ name ∷ digits ∷ []) ≡ Ok (Data name bytes)
 unfolding statement_of
 says-data name digits bytes x y = rw (x, y) refl
 
@@ -89,25 +94,31 @@ abbrev pub data_statements : ℕ → List (List ℕ) → List Statement
 data_statements number [] = []
 data_statements number (string ∷ more) = Data (data_name number) string ∷ data_statements (number + 1) more
 
-pub reads-data : (number : ℕ) (strings : List (List ℕ)) (rest : List ℕ) (ss : List Statement) → number + length strings ≤ 1024 → AllByRecursion IsDataString strings
-    → AllByRecursion (AllByRecursion (λ b. b < 256)) strings → Reads rest ss → Reads (data_lines number strings ++ rest) (data_statements number strings ++ ss)
+pub reads-data : (number : ℕ) (strings : List (List ℕ)) (rest : List ℕ) (ss : List Statement)
+    → number + length strings ≤ 1024 → AllByRecursion IsDataString strings
+    → AllByRecursion (AllByRecursion (λ b. b < 256)) strings → Reads rest ss
+    → Reads (data_lines number strings ++ rest) (data_statements number strings ++ ss)
 unfolding data_lines
 reads-data number [] rest ss few are bytes more = more
 reads-data number (string ∷ strings) rest ss few are bytes more =
     let small : number < 65536 = omega arith in
     let words = codes "data" ∷ data_name number ∷ bytes_text string ∷ [] in
-    let word : IsWord (bytes_text string) = record { long = hex_long string are.0.some; plain = hex_plain string bytes.0 } in
+    let word : IsWord (bytes_text string) =
+    record { long = hex_long string are.0.some; plain = hex_plain string bytes.0 } in
     let text : data_line number string ≡ joined words ++ 10 ∷ [] =
     ap (λ t. codes "data d" ++ t) (sym (append_assoc (decimal number) (32 ∷ bytes_text string) (10 ∷ []))) in
     let behind = reads-data (number + 1) strings rest ss (omega arith) are.1 bytes.1 more in
     subst (λ (t : List ℕ). Reads t (Data (data_name number) string ∷ (data_statements (number + 1) strings ++ ss)))
     (sym (append_assoc (data_line number string) (data_lines (number + 1) strings) rest))
-    (reads-line (data_line number string) words (data_lines (number + 1) strings ++ rest) (Data (data_name number) string) (data_statements (number + 1) strings ++ ss)
+    (reads-line (data_line number string) words (data_lines (number + 1) strings ++ rest)
+    (Data (data_name number) string) (data_statements (number + 1) strings ++ ss)
     (record { long = refl; plain = refl }, (IsWord-numbered 100 number refl small, (word, tt))) text
-    (says-data (data_name number) (bytes_text string) string (name_in-numbered 100 number refl small) (bytes_in-text string are.0.some bytes.0)) behind)
+    (says-data (data_name number) (bytes_text string) string (name_in-numbered 100 number refl small)
+    (bytes_in-text string are.0.some bytes.0)) behind)
 
 -- code
-says-label : (name : List ℕ) → name_in (76 ∷ name) ≡ Ok (76 ∷ name) → statement_of ((76 ∷ name ++ 58 ∷ []) ∷ []) ≡ Ok (Label (76 ∷ name))
+says-label : (name : List ℕ) → name_in (76 ∷ name) ≡ Ok (76 ∷ name)
+    → statement_of ((76 ∷ name ++ 58 ∷ []) ∷ []) ≡ Ok (Label (76 ∷ name))
 unfolding statement_of
 says-label name x = rw (before_last_byte-ended 58 (76 ∷ name), x) refl
 
@@ -118,35 +129,44 @@ abbrev pub code_statements : List (Step ℕ ℕ) → ℕ → List (Step ℕ ℕ)
 code_statements code pc [] = marks code pc
 code_statements code pc (i ∷ more) = marks code pc ++ Instruction (named i) ∷ code_statements code (pc + 1) more
 
-reads-label : (pc : ℕ) (rest : List ℕ) (ss : List Statement) → pc < 65536 → Reads rest ss → Reads (label_line pc ++ rest) (Label (label_name pc) ∷ ss)
+reads-label : (pc : ℕ) (rest : List ℕ) (ss : List Statement) → pc < 65536 → Reads rest ss
+    → Reads (label_line pc ++ rest) (Label (label_name pc) ∷ ss)
 reads-label pc rest ss small more =
     let word = IsWord-numbered 76 pc refl small in
     let words = (label_name pc ++ 58 ∷ []) ∷ [] in
     let long : (length (label_name pc ++ 58 ∷ []) == 0) ≡ false = grind (arith, nat_tests) in
     reads-line (label_line pc) words rest (Label (label_name pc)) ss
     (record { long = long; plain = both_all is_plain (label_name pc) (58 ∷ []) word.plain refl }, tt)
-    (ap (λ t. 76 ∷ t) (sym (append_assoc (decimal pc) (58 ∷ []) (10 ∷ [])))) (says-label (decimal pc) (name_in-numbered 76 pc refl small)) more
+    (ap (λ t. 76 ∷ t) (sym (append_assoc (decimal pc) (58 ∷ []) (10 ∷ []))))
+    (says-label (decimal pc) (name_in-numbered 76 pc refl small)) more
 
 reads-marks_if : (b : Bool) (pc : ℕ) (rest : List ℕ) (ss : List Statement) → pc < 65536 → Reads rest ss
     → Reads (cond b (label_line pc) [] ++ rest) (cond b (Label (label_name pc) ∷ []) [] ++ ss)
 reads-marks_if true pc rest ss small more = reads-label pc rest ss small more
 reads-marks_if false pc rest ss small more = more
 
-reads-instruction : (i : Step ℕ ℕ) (rest : List ℕ) (ss : List Statement) → ReadsBack i → Reads rest ss → Reads ((instruction_text i ++ 10 ∷ []) ++ rest) (Instruction (named i) ∷ ss)
+reads-instruction : (i : Step ℕ ℕ) (rest : List ℕ) (ss : List Statement) → ReadsBack i → Reads rest ss
+    → Reads ((instruction_text i ++ 10 ∷ []) ++ rest) (Instruction (named i) ∷ ss)
 reads-instruction i rest ss back more =
-    reads-line (instruction_text i ++ 10 ∷ []) back.words rest (Instruction (named i)) ss back.are (ap (λ t. t ++ 10 ∷ []) back.text) back.says more
+    reads-line (instruction_text i ++ 10 ∷ []) back.words rest (Instruction (named i)) ss back.are
+    (ap (λ t. t ++ 10 ∷ []) back.text) back.says more
 
 no_more : (xs : List ℕ) (ss : List Statement) → Reads (xs ++ []) (ss ++ []) → Reads xs ss
-no_more xs ss h = subst (λ (t : List ℕ). Reads t ss) (append-nil xs) (subst (λ (s : List Statement). Reads (xs ++ []) s) (append-nil ss) h)
+no_more xs ss h = subst (λ (t : List ℕ). Reads t ss) (append-nil xs)
+    (subst (λ (s : List Statement). Reads (xs ++ []) s) (append-nil ss) h)
 
-pub reads-code : (strings : List (List ℕ)) (count : ℕ) (code : List (Step ℕ ℕ)) (pc : ℕ) (rest : List (Step ℕ ℕ)) → pc + length rest ≤ 4096
-    → AllByRecursion (IsSound strings count) rest → AllByRecursion (λ i. HaveWidths (fields_of i)) rest → Reads (code_lines code pc rest) (code_statements code pc rest)
+pub reads-code : (strings : List (List ℕ)) (count : ℕ) (code : List (Step ℕ ℕ)) (pc : ℕ) (rest : List (Step ℕ ℕ))
+    → pc + length rest ≤ 4096
+    → AllByRecursion (IsSound strings count) rest → AllByRecursion (λ i. HaveWidths (fields_of i)) rest
+    → Reads (code_lines code pc rest) (code_statements code pc rest)
 unfolding code_lines
 reads-code strings count code pc [] few sound widths =
-    no_more (label_line_at code pc) (marks code pc) (reads-marks_if (is_target code pc) pc [] [] (omega arith) (record { is = refl }))
+    no_more (label_line_at code pc) (marks code pc)
+    (reads-marks_if (is_target code pc) pc [] [] (omega arith) (record { is = refl }))
 reads-code strings count code pc (i ∷ more) few sound widths =
     let behind = reads-code strings count code (pc + 1) more (omega arith) sound.1 widths.1 in
-    let here = reads-instruction i (code_lines code (pc + 1) more) (code_statements code (pc + 1) more) (reads strings count i sound.0 widths.0) behind in
+    let here = reads-instruction i (code_lines code (pc + 1) more) (code_statements code (pc + 1) more)
+    (reads strings count i sound.0 widths.0) behind in
     let all = reads-marks_if (is_target code pc) pc _ _ (omega arith) here in
     subst (λ (t : List ℕ). Reads t (code_statements code pc (i ∷ more)))
     (sym (append_assoc (label_line_at code pc) (instruction_text i ++ 10 ∷ []) (code_lines code (pc + 1) more))) all

@@ -62,7 +62,8 @@ abbrev pub data_from : ℕ → List Statement → List ℕ → Option ℕ
 data_from first [] name = None
 data_from first (Empty ∷ more) name = data_from first more name
 data_from first (Label label ∷ more) name = data_from first more name
-data_from first (Data other string ∷ more) name = if bytes_eq other name then Some first else data_from (first + 1) more name
+data_from first (Data other string ∷ more) name =
+    if bytes_eq other name then Some first else data_from (first + 1) more name
 data_from first (Instruction draft ∷ more) name = data_from first more name
 
 -- a statement fits behind others: a label or data has a new name, data isn't too long, and there are fewer than 1,024
@@ -123,7 +124,8 @@ pub record IsSaid (text : List ℕ) (program : Listing) : Type 0 where
   pub say : Say (lines_of text) statements
   pub fit : Fit [] statements
   pub strings : program.strings ≡ strings_in statements
-  pub mean : Mean (label_from 0 statements) (data_from 0 statements) (strings_in statements) (drafts_in statements) program.instructions
+  pub mean : Mean (label_from 0 statements) (data_from 0 statements) (strings_in statements) (drafts_in statements)
+      program.instructions
 
 -- a text is a program exactly where each of its lines says something, and what they say fits and makes the program
 abbrev pub ProgramIsWhatLinesSay : Type 0
@@ -148,11 +150,13 @@ pub record NamesHaveTheirPlaces : Type 0 where
 -- where the first fault of a text is told
 pub record FirstFaultDecides : Type 0 where
   -- at the first faulty line
-  pub lines : (text : List ℕ) (front : List NumberedLine) (line : NumberedLine) (back : List NumberedLine) (outline : Outline) (fault : ScriptFault)
+  pub lines : (text : List ℕ) (front : List NumberedLine) (line : NumberedLine) (back : List NumberedLine)
+      (outline : Outline) (fault : ScriptFault)
       → lines_of text ≡ front ++ line ∷ back → with_lines blank front ≡ Ok outline
       → with_line outline line ≡ Err fault → program_of text ≡ Err fault
   -- without a faulty line, at the first instruction whose label or data is missing, or whose data can't be poked
-  pub names : (text : List ℕ) (outline : Outline) (front : List DraftLine) (d : DraftLine) (back : List DraftLine) (instructions : List (Step ℕ ℕ)) (fault : ScriptFault)
+  pub names : (text : List ℕ) (outline : Outline) (front : List DraftLine) (d : DraftLine) (back : List DraftLine)
+      (instructions : List (Step ℕ ℕ)) (fault : ScriptFault)
       → with_lines blank (lines_of text) ≡ Ok outline → outline.drafts ≡ front ++ d ∷ back
       → with_resolved outline [] front ≡ Ok instructions
       → resolved outline d.line d.draft ≡ Err fault → program_of text ≡ Err fault

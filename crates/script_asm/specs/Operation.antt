@@ -21,11 +21,13 @@ Draft = Instruction (List ℕ) (List ℕ)
 
 -- the direction that a word names
 abbrev pub direction_in : List ℕ → Result Dir LineFault
-direction_in word = if bytes_eq word (codes "rx") then Ok Rx else if bytes_eq word (codes "tx") then Ok Tx else Err Syntax
+direction_in word = if bytes_eq word (codes "rx") then Ok Rx else if bytes_eq word (codes "tx")
+    then Ok Tx else Err Syntax
 
 -- whether the word says that there is link
 abbrev pub link_in : List ℕ → Result Bool LineFault
-link_in word = if bytes_eq word (codes "up") then Ok true else if bytes_eq word (codes "down") then Ok false else Err Syntax
+link_in word = if bytes_eq word (codes "up") then Ok true else if bytes_eq word (codes "down")
+    then Ok false else Err Syntax
 
 -- the group of interrupts that the word names: the physical function's, or by its number a virtual function's
 abbrev pub group_in : List ℕ → Result Group LineFault

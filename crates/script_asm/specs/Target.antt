@@ -33,7 +33,8 @@ row_in name = ok_or (row_with_name name) UnknownName
 -- the first address of a register of a row: its index is below the row's count
 abbrev pub register_address : RowId → ℕ → Result ℕ LineFault
 register_address row index =
-    if nat_lt index (row_of row).count then Ok (unwrap_or (address_among runs (record { row = row; index = index })) 0) else Err Range
+    if nat_lt index (row_of row).count
+    then Ok (unwrap_or (address_among runs (record { row = row; index = index })) 0) else Err Range
 
 -- the address of a row and an index, of which both may be faulty
 abbrev pub address_in : Result RowId LineFault → Result ℕ LineFault → Result ℕ LineFault
@@ -46,7 +47,8 @@ has_byte byte word = nat_lt (position_or_len (λ b. b == byte) word) (length wor
 -- what stands before the byte that ends a word
 abbrev pub before_last_byte : ℕ → List ℕ → Option (List ℕ)
 before_last_byte byte word =
-    if slice_index word (length word - 1) == byte && nat_lt 0 (length word) then Some (take (length word - 1) word) else None
+    if slice_index word (length word - 1) == byte && nat_lt 0 (length word)
+    then Some (take (length word - 1) word) else None
 
 -- a name, and an index that a bracket closed
 abbrev pub indexed : List ℕ → Option (List ℕ) → Result ℕ LineFault
@@ -56,6 +58,7 @@ indexed name (Some index) = if is_name name then address_in (row_in name) (numbe
 -- the address that a word names: ROW[INDEX], ROW for its index 0, or a number
 unfoldable pub target_of : List ℕ → Result ℕ LineFault
 target_of word =
-    if has_byte 91 word then indexed (before_first (λ b. b == 91) word) (before_last_byte 93 (after_first (λ b. b == 91) word))
+    if has_byte 91 word then indexed (before_first (λ b. b == 91) word)
+    (before_last_byte 93 (after_first (λ b. b == 91) word))
     else if is_name word then address_in (row_in word) (Ok 0)
     else number_in word

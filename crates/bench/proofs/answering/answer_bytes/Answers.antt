@@ -8,4 +8,5 @@ use Rattle.bench.proofs.answering.answer_bytes.Goals as goal
 pub returns-in-Dis : goal.returns-in-Dis
 returns-in-Dis g c =
     given-to-bytes _ _ _ c.write_script.result c.args.request Dis c.args.bytes.now c.in-Dis.is
-    (gives-right _ _ _ c.write_script.result _ (IsBytesAnswer Dis c.args.bytes.now) refl (λ answer is. is) c.write_script.ensures)
+    (gives-right _ _ _ c.write_script.result _ (IsBytesAnswer Dis c.args.bytes.now) refl (λ answer is. is)
+    c.write_script.ensures)

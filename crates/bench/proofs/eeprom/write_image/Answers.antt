@@ -24,5 +24,6 @@ returns-in-None g c = λ answer right. begins-with-nothing _ _
 pub returns-in-Some : goal.returns-in-Some
 returns-in-Some g c =
     let meant = fault-meant c.in-Err.fault (sound_content c.args.text.now) c.in-Some.ensures.0 c.in-Err.ensures.fault in
-    gives-right _ _ _ c.write_refusal.result (text_refused c.in-Err.fault) (IsImageAnswer c.args.text.now) meant.0 meant.1
+    gives-right _ _ _ c.write_refusal.result (text_refused c.in-Err.fault) (IsImageAnswer c.args.text.now) meant.0
+    meant.1
     (rw c.in-Some.ensures.1 at c.write_refusal.ensures.gives)

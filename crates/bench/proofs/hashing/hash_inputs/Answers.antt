@@ -9,7 +9,9 @@ use Rattle.bench.proofs.hashing.hash_inputs.Goals as goal
 pub loop-line-preserved : goal.loop-line-preserved
 loop-line-preserved c =
     sym (c.in_ok-add_line.ensures.ok (inputs_of c.next.new.self))
-    ∙ ap (hashed c.args.key.now.0 c.loop-line.hashes.items) (sym (inputs_of-line c.loop-line.line-iterator (line_of c.in-Some.line) c.next.new.self c.in-Some.ensures.steps))
+    ∙ ap (hashed c.args.key.now.0 c.loop-line.hashes.items)
+    (sym (inputs_of-line c.loop-line.line-iterator (line_of c.in-Some.line) c.next.new.self
+    c.in-Some.ensures.steps))
     ∙ c.loop-line.invariant
 
 pub returns-in_err-add_line-clause-syntax : goal.returns-in_err-add_line-clause-syntax
@@ -22,4 +24,5 @@ returns-in_err-add_line-clause-syntax c =
 
 pub returns-clause-ok : goal.returns-clause-ok
 returns-clause-ok c =
-    sym c.loop-line.invariant ∙ hashed-nil c.args.key.now.0 c.loop-line.hashes.items _ (inputs_of-none c.loop-line.line-iterator c.in-None.ensures.steps.0)
+    sym c.loop-line.invariant ∙ hashed-nil c.args.key.now.0 c.loop-line.hashes.items _
+    (inputs_of-none c.loop-line.line-iterator c.in-None.ensures.steps.0)

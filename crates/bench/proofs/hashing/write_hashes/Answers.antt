@@ -16,7 +16,8 @@ loop-hash-preserved g c =
 pub returns : goal.returns
 returns g c = (
   subst (Appends (g.W.Write.contents c.args.output.now.writer) (g.W.Write.contents c.loop-hash.output.writer))
-      (lines-all c.args.hashes.now c.loop-hash.hash-index (omega (arith, c.loop-hash-test.false, c.loop-hash.auto.hash-index-end)))
+      (lines-all c.args.hashes.now c.loop-hash.hash-index
+      (omega (arith, c.loop-hash-test.false, c.loop-hash.auto.hash-index-end)))
       c.loop-hash.invariant,
   refl,
 )

@@ -5,4 +5,5 @@ use Rattle.bench.specs.Hash.{word_line}
 use Rattle.bench.proofs.hashing.write_hashes.Given as goal
 
 abbrev pub invariant-loop-hash : goal.invariant-loop-hash
-invariant-loop-hash g l = Appends (g.W.Write.contents l.fn.output.writer) (g.W.Write.contents l.output.writer) (flat_map word_line (take l.hash-index l.hashes))
+invariant-loop-hash g l = Appends (g.W.Write.contents l.fn.output.writer) (g.W.Write.contents l.output.writer)
+    (flat_map word_line (take l.hash-index l.hashes))

@@ -4,10 +4,12 @@ use Rattle.bench.proofs.reading.read_input.Goals as goal
 
 pub returns-in-Ok-eq0-clause-whole : goal.returns-in-Ok-eq0-clause-whole
 returns-in-Ok-eq0-clause-whole g c =
-    all-read _ (g.R.Read.remaining c.loop.input.reader) (g.R.Read.remaining c.read.new.self.reader) c.loop.bytes.items c.read.new.buffer c.in-Ok-eq0.field-0 c.in-Ok-eq0.field-0-test c.loop.invariant.told c.in-Ok-eq0.ensures.bytes.0
+    all-read _ (g.R.Read.remaining c.loop.input.reader) (g.R.Read.remaining c.read.new.self.reader) c.loop.bytes.items
+    c.read.new.buffer c.in-Ok-eq0.field-0 c.in-Ok-eq0.field-0-test c.loop.invariant.told c.in-Ok-eq0.ensures.bytes.0
     (c.in-Ok-eq0.ensures.bytes.1 c.in-Ok-eq0.field-0-test (search rules))
 
 pub returns-then-n-len-clause-too_long : goal.returns-then-n-len-clause-too_long
 returns-then-n-len-clause-too_long g c = λ _.
-    too-many _ (g.R.Read.remaining c.loop.input.reader) (g.R.Read.remaining c.read.new.self.reader) c.loop.bytes.items c.read.new.buffer c.in-Ok.n c.in-Ok.ensures.bound.0 c.loop.invariant.told c.in-Ok.ensures.bytes.0
+    too-many _ (g.R.Read.remaining c.loop.input.reader) (g.R.Read.remaining c.read.new.self.reader) c.loop.bytes.items
+    c.read.new.buffer c.in-Ok.n c.in-Ok.ensures.bound.0 c.loop.invariant.told c.in-Ok.ensures.bytes.0
     (omega (arith, c.if-n-len.true, c.len.ensures, c.loop.invariant.fits))

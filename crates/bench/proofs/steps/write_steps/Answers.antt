@@ -7,7 +7,8 @@ loop-init g c = no-steps _ _ c.requires
 
 pub returns-in-Ok-Stopped-clause-text : goal.returns-in-Ok-Stopped-clause-text
 returns-in-Ok-Stopped-clause-text g c =
-    stopped-text _ _ _ _ c.loop.counter c.args.limit c.loop.invariant (sym c.in-Ok-Stopped.ensures.answer ∙ c.in-Ok-Stopped.field-0-is) (omega arith)
+    stopped-text _ _ _ _ c.loop.counter c.args.limit c.loop.invariant (sym c.in-Ok-Stopped.ensures.answer
+    ∙ c.in-Ok-Stopped.field-0-is) (omega arith)
 
 pub returns-in-Ok-Stopped-clause-state : goal.returns-in-Ok-Stopped-clause-state
 returns-in-Ok-Stopped-clause-state g c =

@@ -4,7 +4,8 @@ use Rattle.command_line.proofs.commands.nicbench.Goals as goal
 
 pub returns-clause-ok : goal.returns-clause-ok
 returns-clause-ok c =
-    added _ _ _ _ dis_app (added _ _ _ _ asm_app (added _ _ _ _ eeprom_app (added _ _ _ _ hash_app (added _ _ _ _ run_app c.bare.ensures.app
+    added _ _ _ _ dis_app (added _ _ _ _ asm_app
+    (added _ _ _ _ eeprom_app (added _ _ _ _ hash_app (added _ _ _ _ run_app c.bare.ensures.app
     c.in_ok-run.ensures.ok (c.in_ok-subcommand.ensures.shape c.in_ok-run.ensures.local))
     c.hash.ensures.app (c.in_ok-subcommand-2.ensures.shape c.hash.ensures.local))
     c.in_ok-eeprom.ensures.ok (c.in_ok-subcommand-3.ensures.shape c.in_ok-eeprom.ensures.local))

@@ -4,4 +4,8 @@ use Rattle.command_line.proofs.examples.eeprom_either_way.Goals as goal
 
 pub returns : goal.returns
 unfolding clap_on_literals
-returns c = record { image = record { faultless = refl; asked = refl }; load = record { faultless = refl; asked = refl } }
+returns c = record {
+  image = record { faultless = refl; asked = refl };
+  load =
+      record { faultless = refl; asked = refl };
+}

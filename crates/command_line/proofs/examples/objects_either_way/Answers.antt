@@ -4,4 +4,8 @@ use Rattle.command_line.proofs.examples.objects_either_way.Goals as goal
 
 pub returns : goal.returns
 unfolding clap_on_literals
-returns c = record { object = record { faultless = refl; asked = refl }; script = record { faultless = refl; asked = refl } }
+returns c = record {
+  object = record { faultless = refl; asked = refl };
+  script =
+      record { faultless = refl; asked = refl };
+}

@@ -4,4 +4,13 @@ use Rattle.command_line.proofs.examples.refused_words.Goals as goal
 
 pub returns : goal.returns
 unfolding clap_on_literals
-returns c = record { beyond = refl; twice = refl; further = refl; further_than_hash = refl; load_twice = refl; load_with_a_value = refl; unknown = refl; none = refl }
+returns c = record {
+  beyond = refl;
+  twice = refl;
+  further = refl;
+  further_than_hash = refl;
+  load_twice = refl;
+  load_with_a_value = refl;
+  unknown = refl;
+  none = refl;
+}

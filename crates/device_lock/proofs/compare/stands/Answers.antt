@@ -14,7 +14,8 @@ returns-then-next-calls c =
     let i = c.loop-entry.entry-index in
     let k = c.loop-entry.next in
     let calls = c.args.calls.now in
-    let is : (get_or h i e).pass ≡ c.args.tag = ap (λ (x : Entry). x.pass) (sym c.entry-item.is) ∙ c.if-entry-tag.true in
+    let is : (get_or h i e).pass ≡ c.args.tag =
+    ap (λ (x : Entry). x.pass) (sym c.entry-item.is) ∙ c.if-entry-tag.true in
     let next : k < length calls → (x : Call) → get_or calls k x ≢ call_in (get_or h i e) =
     elim c.then-next-calls.branch [
       | then-next-calls-via-then-next-calls w ↦ λ lt x same. absurd (omega (arith, w.if-next-calls.true, lt))

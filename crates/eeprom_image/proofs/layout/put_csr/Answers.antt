@@ -6,5 +6,11 @@ use borrow.Author.Tests.{eqb-false}
 pub put_section-requires : goal.put_section-requires
 put_section-requires c =
     let triples = c.args.triples.now in
-    let some : length c.args.triples.now ≢ 0 = eqb-false (length triples) 0 (sym c.is_empty.ensures ∙ c.if-is_empty.false) in
-    omega (arith, length-set c.args.words.now 13 64, section_end-some triples (omega arith), ap length (c.deref.ensures.value ∙ c.in_ok-section.ensures))
+    let some : length c.args.triples.now ≢ 0 =
+    eqb-false (length triples) 0 (sym c.is_empty.ensures ∙ c.if-is_empty.false) in
+    omega (
+      arith,
+      length-set c.args.words.now 13 64,
+      section_end-some triples (omega arith),
+      ap length (c.deref.ensures.value ∙ c.in_ok-section.ensures),
+    )

@@ -8,6 +8,7 @@ loop-i-preserved g c =
     let high : c.loop-i.i < length words = omega arith in
     record {
       sum = ap (λ n. n + c.from-total.result) c.loop-i.invariant.sum
-          ∙ sym (sum-part_more words c.args.first c.loop-i.i c.from-total.result c.loop-i.auto.i high (c.from-total.ensures ∙ c.word.ensures));
+          ∙ sym (sum-part_more words c.args.first c.loop-i.i c.from-total.result c.loop-i.auto.i high
+          (c.from-total.ensures ∙ c.word.ensures));
       bound = omega arith;
     }

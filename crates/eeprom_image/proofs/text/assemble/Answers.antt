@@ -21,11 +21,14 @@ pub of-requires : goal.of-requires
 of-requires c =
     let content = content_in c.in_ok-draft.draft in
     let right = content_of-right c.args.text.now content c.in_ok-draft.ensures in
-    rw c.with_checksum.ensures (image_of_laid_out content c.in_ok-words.words.items right c.in_ok-words.ensures.ok c.in_ok-words.ensures.words).image
+    rw c.with_checksum.ensures (image_of_laid_out content c.in_ok-words.words.items right c.in_ok-words.ensures.ok
+    c.in_ok-words.ensures.words).image
 
 pub returns-clause-image : goal.returns-clause-image
 returns-clause-image c =
     let content = content_in c.in_ok-draft.draft in
     let right = content_of-right c.args.text.now content c.in_ok-draft.ensures in
-    let sound : sound_content c.args.text.now ≡ Ok (content_in c.in_ok-draft.draft) = sound_content-is c.args.text.now content c.in_ok-draft.ensures c.in_ok-words.ensures.ok in
-    rw (sound, c.of.ensures, c.with_checksum.ensures) (image_of_laid_out content c.in_ok-words.words.items right c.in_ok-words.ensures.ok c.in_ok-words.ensures.words)
+    let sound : sound_content c.args.text.now ≡ Ok (content_in c.in_ok-draft.draft) =
+    sound_content-is c.args.text.now content c.in_ok-draft.ensures c.in_ok-words.ensures.ok in
+    rw (sound, c.of.ensures, c.with_checksum.ensures)
+    (image_of_laid_out content c.in_ok-words.words.items right c.in_ok-words.ensures.ok c.in_ok-words.ensures.words)

@@ -37,8 +37,10 @@ returns-clause-spelled c =
     let behind = drop (16 + 12 * h.count) bytes in
     let read = strings_in-read h.strings _ _ (was_some _ _ c.in_ok-strings.ensures) in
     let head = header_in-spelled bytes h small (sym c.in_ok-header.ensures.value) in
-    let rows = all_fields-spelled h.count (drop 16 bytes) (Small-drop 16 bytes small) (omega (arith, length-drop 16 bytes, c.in_ok-header.ensures.fits.inside)) in
-    let means = meanings-spelled _ h.count 0 (all_fields_in h.count (drop 16 bytes)) _ c.in_ok-instructions.ensures.exact in
+    let rows = all_fields-spelled h.count (drop 16 bytes) (Small-drop 16 bytes small)
+    (omega (arith, length-drop 16 bytes, c.in_ok-header.ensures.fits.inside)) in
+    let means = meanings-spelled _ h.count 0 (all_fields_in h.count (drop 16 bytes)) _
+    c.in_ok-instructions.ensures.exact in
     let all = all_fields_in h.count (drop 16 bytes) in
     let rest = drop-drop (12 * h.count) 16 bytes in
     let whole = laid_out-is bytes h all c.in_ok-strings.strings.items head rows.1 read.number

@@ -27,7 +27,8 @@ loop-preserved c =
     let some : Some (c.in-Some.string.now, c.in-Some.behind.now) ≡ string_in c.loop.rest.now = search rules in
     let more = behind-more c.loop.strings.items _ _ c.loop.rest.now _ _ left some in
     let pushed : c.push.new.self.items ≡ c.loop.strings.items ++ c.in-Some.string.now ∷ [] =
-    c.in_ok-push.ensures.items ∙ ap (λ string. c.loop.strings.items ++ string ∷ []) (sym (ok_ok c.in_ok-copy_of.ensures)) in
+    c.in_ok-push.ensures.items ∙ ap (λ string. c.loop.strings.items ++ string ∷ [])
+    (sym (ok_ok c.in_ok-copy_of.ensures)) in
     ap (λ strings. behind strings (strings_in (c.args.count - (c.loop.counter + 1)) c.in-Some.behind.now)) pushed
     ∙ sym more ∙ c.loop.invariant
 

@@ -6,7 +6,8 @@ use Rattle.script_asm.proofs.assembly.read_sheet.Goals as goal
 
 pub loop-line-preserved : goal.loop-line-preserved
 loop-line-preserved c =
-    sym (with_lines-added _ _ _ (line_of c.in-Some.line) _ c.in-Some.ensures.steps c.in_ok-add_line.ensures) ∙ c.loop-line.invariant
+    sym (with_lines-added _ _ _ (line_of c.in-Some.line) _ c.in-Some.ensures.steps c.in_ok-add_line.ensures)
+    ∙ c.loop-line.invariant
 
 pub returns-in_err-add_line : goal.returns-in_err-add_line
 returns-in_err-add_line c =

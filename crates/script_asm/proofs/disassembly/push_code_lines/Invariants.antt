@@ -7,5 +7,6 @@ use Rattle.script_asm.proofs.disassembly.push_code_lines.Given as goal
 abbrev pub invariant-loop-pc : goal.invariant-loop-pc
 invariant-loop-pc l = record {
   within : l.pc ≤ length l.code;
-  all : string_bytes l.text ++ code_lines l.code l.pc (drop l.pc l.code) ≡ string_bytes l.fn.text ++ code_lines l.code 0 l.code;
+  all : string_bytes l.text ++ code_lines l.code l.pc (drop l.pc l.code) ≡ string_bytes l.fn.text
+      ++ code_lines l.code 0 l.code;
 }

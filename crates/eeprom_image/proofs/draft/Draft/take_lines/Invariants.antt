@@ -4,4 +4,5 @@ use Rattle.eeprom_image.specs.Draft.{content_in}
 use Rattle.eeprom_image.proofs.draft.Draft.take_lines.Given as goal
 
 abbrev pub invariant-loop-line : goal.invariant-loop-line
-invariant-loop-line l = with_lines (content_in l.self) l.line-iterator ≡ with_lines (content_in l.fn.self) l.initial.line-iterator
+invariant-loop-line l = with_lines (content_in l.self) l.line-iterator
+    ≡ with_lines (content_in l.fn.self) l.initial.line-iterator

@@ -8,7 +8,8 @@ use Rattle.eeprom_image.proofs.words.FileWordsWords.word.Goals as goal
 pub returns-then-index-self : goal.returns-then-index-self
 returns-then-index-self c =
     let bytes = c.args.self.now.bytes.now in
-    c.read_u16.ensures ∙ ap (little_number 2) (take_rest bytes (2 * c.args.index)) ∙ sym (get_or-words_of bytes c.args.index 65535 c.if-index-self.true)
+    c.read_u16.ensures ∙ ap (little_number 2) (take_rest bytes (2 * c.args.index))
+    ∙ sym (get_or-words_of bytes c.args.index 65535 c.if-index-self.true)
 
 pub returns-else-index-self : goal.returns-else-index-self
 returns-else-index-self c =

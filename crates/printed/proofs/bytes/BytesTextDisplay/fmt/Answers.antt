@@ -29,7 +29,8 @@ loop-chunk-preserved g c =
     let steps = c.in-Some.ensures.steps in
     let size = c.loop-chunk.invariant.2 in
     let digits = c.loop-chunk.invariant.3 in
-    let shown : c.in-Ok-from_utf8.text.now ≡ bytes_text chunk = c.in-Ok-from_utf8.ensures.cases.0 ∙ c.in-Ok.ensures.written in
+    let shown : c.in-Ok-from_utf8.text.now ≡ bytes_text chunk =
+    c.in-Ok-from_utf8.ensures.cases.0 ∙ c.in-Ok.ensures.written in
     let two = ap length c.in-Ok.ensures.written ∙ length-bytes_text chunk in
     let rest = length-drop (2 * length chunk) c.loop-chunk.digits in (
       search rules,

@@ -11,7 +11,8 @@ invariant_of-self c =
     let long = length-bytes_of inside c.self.invariant in
     let joined = length-append (bytes_of inside) more in
     let fits : length (bytes_of inside) + length more ≤ 36 = rw c.self.view_is c.requires in
-    IsFilled-padded (bytes_of inside ++ more) _ _ (omega arith) (put_mid-filled inside more _ _ c.self.invariant c.copy_from_slice.ensures.after (omega arith)) (omega arith)
+    IsFilled-padded (bytes_of inside ++ more) _ _ (omega arith)
+    (put_mid-filled inside more _ _ c.self.invariant c.copy_from_slice.ensures.after (omega arith)) (omega arith)
 
 pub returns : goal.returns
 returns c =
@@ -19,5 +20,6 @@ returns c =
     let more = c.args.more.now in
     let long = length-bytes_of inside c.self.invariant in
     let joined = length-append (bytes_of inside) more in
-    bytes_of-padded (bytes_of inside ++ more) _ _ (put_mid-filled inside more _ _ c.self.invariant c.copy_from_slice.ensures.after (omega arith)) (omega arith)
+    bytes_of-padded (bytes_of inside ++ more) _ _
+    (put_mid-filled inside more _ _ c.self.invariant c.copy_from_slice.ensures.after (omega arith)) (omega arith)
     ∙ ap (λ bytes. bytes ++ more) c.self.view_is

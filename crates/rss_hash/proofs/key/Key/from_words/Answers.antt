@@ -6,4 +6,5 @@ use Rattle.rss_hash.proofs.key.Key.from_words.Goals as goal
 
 pub returns : goal.returns
 returns c =
-    ext_get_or 0 c.loop-n.bytes (bytes_of_registers c.args.words.now) (omega (arith, length-bytes_of_registers c.args.words.now)) (λ i within. c.loop-n.invariant.1 i (omega arith))
+    ext_get_or 0 c.loop-n.bytes (bytes_of_registers c.args.words.now)
+    (omega (arith, length-bytes_of_registers c.args.words.now)) (λ i within. c.loop-n.invariant.1 i (omega arith))

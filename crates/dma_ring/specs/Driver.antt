@@ -1,0 +1,54 @@
+-- A driver's side of the descriptors.
+use Rattle.std.specs.Prelude.{ℕ, ◌≡◌, ◌+◌, ◌*◌, ◌/◌, ◌%◌, ◌^◌, ◌<◌, Bool, true, false, if◌then◌else◌}
+use Rattle.dma_ring.specs.Bits.{has_bit, field}
+use Rattle.dma_ring.specs.Receive.{buffer_of, told_of}
+use Rattle.dma_ring.specs.Transmit.{command_of}
+use Rattle.dma_ring.specs.declared.driver.TheConstants.{DATA, LAST, PAYLEN}
+use Rattle.dma_ring.specs.declared.receive.Packet.{Packet}
+use Rattle.dma_ring.specs.declared.transmit.Command.{Command}
+
+-- the first half by which a driver names a buffer: its address
+abbrev pub posted : ℕ → ℕ
+posted address = address
+
+-- the RSS type and the hash that a written-back first half tells
+abbrev pub rss_in : ℕ → ℕ
+rss_in first = first % 2 ^ 4
+
+abbrev pub hash_in : ℕ → ℕ
+hash_in first = first / 2 ^ 32
+
+-- the second half of a transmit data descriptor: the length of its buffer and of the packet, and whether that ends
+-- there
+abbrev pub data_word : ℕ → Bool → ℕ → ℕ
+data_word len last payload = (if last then DATA + LAST else DATA) + len + 2 ^ PAYLEN * payload
+
+-- what a driver posts, the device takes for that buffer
+abbrev pub PostedIsTheBuffer : Type 0
+PostedIsTheBuffer = (address : ℕ) → address % 2 ≡ 0 → buffer_of (posted address) ≡ address
+
+-- what the device tells of a packet, a driver reads
+pub record TellsBoth (first : ℕ) (packet : Packet) : Type 0 where
+  pub rss : rss_in first ≡ packet.rss
+  pub hash : hash_in first ≡ packet.hash
+
+abbrev pub ToldIsRead : Type 0
+ToldIsRead = (packet : Packet) → packet.rss < 2 ^ 4 → packet.hash < 2 ^ 32 → TellsBoth (told_of packet) packet
+
+-- the command of a data descriptor: so many bytes, the packet's end and the report together, and no offload
+abbrev pub data_command : ℕ → Bool → Command
+data_command len last =
+    record { len = len; kind = 3; end = last; report = last; extended = true; offload = false }
+
+-- the device takes a data descriptor for that command; it isn't done, and IFCS and PAYLEN are in their bits
+pub record IsDataWord (word len : ℕ) (last : Bool) (payload : ℕ) : Type 0 where
+  pub fits : word < 2 ^ 64
+  pub command : command_of word ≡ data_command len last
+  pub waits : has_bit 32 word ≡ false
+  pub sequence : has_bit 25 word ≡ true
+  pub whole : field 63 46 word ≡ payload
+
+abbrev pub DataIsAsked : Type 0
+DataIsAsked =
+    (len : ℕ) (last : Bool) (payload : ℕ) → len < 2 ^ 16 → payload < 2 ^ 18
+    → IsDataWord (data_word len last payload) len last payload

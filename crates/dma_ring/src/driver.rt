@@ -1,0 +1,86 @@
+//! A driver's side of the descriptors: what it writes for the device, and what it reads of what the device wrote back.
+//!
+//! Intel 82599 datasheet, sections on advanced receive descriptors and on advanced transmit data descriptors.
+
+ghost use Rattle.std.specs.Prelude.{◌≡◌, ◌<◌, ◌%◌, ◌^◌};
+ghost use Rattle.dma_ring.specs.Bits.{has_bit};
+ghost use Rattle.dma_ring.specs.Driver.{posted, rss_in, hash_in, data_word};
+ghost use Rattle.dma_ring.specs.Receive.{is_done, ends_packet, bytes_in};
+
+use crate::bits::has_bit;
+
+/// The bits of a data descriptor that a driver always sets: the type, 3, the frame check sequence, IFCS, and the
+/// advanced
+/// format, DEXT.
+const DATA: u64 = (3 << 20) + (1 << 25) + (1 << 29);
+
+/// The bits of the descriptor that a packet ends with: its end, EOP, and that its status is to be reported, RS.
+const LAST: u64 = (1 << 24) + (1 << 27);
+
+/// The lowest bit of the length of the whole packet, PAYLEN.
+const PAYLEN: u32 = 46;
+
+/// The bit by which the device tells that a transmit descriptor is done, DD.
+const SENT: u32 = 32;
+
+/// The first half of a receive descriptor that names the buffer at a bus address, which is even.
+pub fn posted_word(address: u64) -> u64
+    requires { address % 2 ≡ 0 }
+    ensures { result ≡ posted address }
+{
+    address
+}
+
+/// Whether a receive descriptor was written back, by its second half.
+pub fn is_written_back(second: u64) -> bool
+    ensures { result ≡ is_done second }
+{
+    second % 2 == 1
+}
+
+/// Whether the packet ends in the buffer of a descriptor that was written back, by its second half.
+pub fn is_last(second: u64) -> bool
+    ensures { result ≡ ends_packet second }
+{
+    second / 2 % 2 == 1
+}
+
+/// How many bytes came into the buffer of a descriptor that was written back, by its second half.
+pub fn length_told(second: u64) -> u16
+    ensures { result ≡ bytes_in second }
+{
+    (second / 0x1_0000_0000 % 0x1_0000) as u16
+}
+
+/// The number of the packet's RSS type, below 16, by the first half of a descriptor that was written back.
+pub fn rss_told(first: u64) -> u8
+    ensures value { result ≡ rss_in first }
+    ensures small { result < 16 }
+{
+    (first % 16) as u8
+}
+
+/// The packet's hash, by the first half of a descriptor that was written back. 0 where none is told.
+pub fn hash_told(first: u64) -> u32
+    requires { first < 2 ^ 64 }
+    ensures { result ≡ hash_in first }
+{
+    (first / 0x1_0000_0000) as u32
+}
+
+/// The second half of a transmit data descriptor for so many bytes of a packet, whose whole length is below 2^18. With
+/// `last` the packet ends with them, and the device tells when it is done.
+pub fn data_descriptor_word(len: u16, last: bool, payload: u32) -> u64
+    requires { payload < 2 ^ 18 }
+    ensures { result ≡ data_word len last payload }
+{
+    let flags = if last { DATA + LAST } else { DATA };
+    flags + u64::from(len) + (u64::from(payload) << PAYLEN)
+}
+
+/// Whether a transmit descriptor is done, by its second half.
+pub fn is_sent(second: u64) -> bool
+    ensures { result ≡ has_bit 32 second }
+{
+    has_bit(second, SENT)
+}

@@ -1,0 +1,3 @@
+pub mod Amid
+pub mod Sequences
+pub mod Stepping

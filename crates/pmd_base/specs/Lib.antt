@@ -1,0 +1,5 @@
+pub mod Accesses
+pub mod Events
+pub mod Made
+pub mod Packet
+pub mod Setup

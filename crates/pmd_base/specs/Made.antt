@@ -1,0 +1,47 @@
+-- What a call through a way to a device adds to what was made.
+use Rattle.std.specs.Prelude.{◌≡◌, ℕ, List, [], ◌∷◌, ◌++◌, take}
+use Rattle.dma_arena.specs.Block.{Block}
+use Rattle.nic_device.specs.State.{State}
+use Rattle.nic_device.specs.Step.{step_of}
+use Rattle.nic_device.specs.declared.event.Event.{Event}
+use Rattle.nic_device.specs.declared.event.Event.TheVariants as event
+use Rattle.nic_device.specs.declared.event.Reply.{Reply}
+use Rattle.register_file.specs.declared.dir.Dir.TheVariants as dir
+use Rattle.device_lock.specs.declared.entry.Call.{Call}
+use Rattle.device_lock.specs.Pass.{call_of}
+
+-- some calls were made, and then this one
+abbrev pub Adds : List Call → List Call → Event Block → Reply Block → Type 0
+Adds old new event reply = (before : List Call) × (new ≡ old ++ (before ++ call_of event reply ∷ []))
+
+-- some calls were made
+abbrev pub AddsSome : List Call → List Call → Type 0
+AddsSome old new = (before : List Call) × (new ≡ old ++ before)
+
+-- a device in hand: the queue that it is stepped on, and the calls that were made
+pub record InHand : Type 0 where
+  pub device : State
+  pub queue : ℕ
+  pub calls : List Call
+
+-- after one event
+abbrev pub after_event : InHand → Event Block → InHand
+after_event h e = record h {
+  device = (step_of h.device e).state;
+  calls = h.calls ++ call_of e (step_of h.device e).reply ∷ [];
+}
+
+-- after a list of events
+abbrev pub after_events : InHand → List (Event Block) → InHand
+after_events h [] = h
+after_events h (e ∷ es) = after_events (after_event h e) es
+
+-- the device steps that are made before each call: both sides of the queue are switched, then it sends, then it
+-- receives
+abbrev pub steps_of_queue : ℕ → List (Event Block)
+steps_of_queue queue =
+    event.QueueStep dir.Rx queue ∷ event.QueueStep dir.Tx queue ∷ event.TxStep queue ∷ event.RxStep ∷ []
+
+-- so many of these steps were made, and no more
+abbrev pub StopsAmid : InHand → InHand → Type 0
+StopsAmid old new = (made : ℕ) × (new ≡ after_events old (take made (steps_of_queue old.queue)))

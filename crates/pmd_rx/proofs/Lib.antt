@@ -1,0 +1,5 @@
+pub mod Fresh
+pub mod Looking
+pub mod Own
+pub mod Playing
+pub mod Stages

@@ -1,0 +1,35 @@
+-- A look at the next slot.
+use Rattle.std.proofs.Common.{◌≡◌, ℕ, ◌<◌, List, length, Some, None, refl, sym, subst, inl, inr}
+use Rattle.nic_device.specs.declared.event.Event.TheVariants as event
+use Rattle.nic_device.specs.declared.event.Reply.TheVariants as reply
+use Rattle.device_lock.specs.declared.entry.Call.{Call}
+use Rattle.pmd_base.specs.Accesses.{IsPeeked}
+use Rattle.pmd_rx.specs.Plays.{Plays}
+use Rattle.pmd_rx.specs.Receive.{Receive, Stage, Looks, Sees, Holding, Lent, Named, IsOwn, looked, descriptor_at}
+use Rattle.pmd_rx.specs.Shown.{CanLook}
+use Rattle.pmd_rx.proofs.Playing.{plays_adds}
+
+-- a look at the next slot is the driver's own
+look_own : (v : Receive) (s : Stage) → v.stage ≡ s → CanLook s → 0 < length v.layout.blocks
+    → IsOwn v (event.Peek16 (descriptor_at v.layout 0))
+look_own v Looks is can some = rw is (refl, some)
+look_own v (Sees first second) is can some = rw is (refl, some)
+look_own v (Holding p) is can some = absurd can
+look_own v (Lent o b) is can some = absurd can
+look_own v (Named o b) is can some = absurd can
+
+module _ (old new : List Call) (v : Receive) (can : CanLook v.stage) (some : 0 < length v.layout.blocks) where
+  pub look_plays : (w : Receive) (d : List ℕ) → IsPeeked old new (descriptor_at v.layout 0) (Some d) → w ≡ looked v d
+      → Plays old v new w
+  look_plays w d adds saw =
+      subst (Plays old v new) (sym saw)
+      (plays_adds old new v (event.Peek16 (descriptor_at v.layout 0)) (reply.Bytes d)
+      (look_own v v.stage refl can some) adds)
+
+  pub look_misses : IsPeeked old new (descriptor_at v.layout 0) None → Plays old v new v
+  look_misses (inl adds) =
+      plays_adds old new v (event.Peek16 (descriptor_at v.layout 0)) reply.NotLent
+      (look_own v v.stage refl can some) adds
+  look_misses (inr adds) =
+      plays_adds old new v (event.Peek16 (descriptor_at v.layout 0)) reply.Misaligned (look_own v v.stage refl can some)
+      adds

@@ -1,0 +1,94 @@
+-- Taking a packet's block, and posting a fresh one.
+use Rattle.std.proofs.Common.{◌≡◌, ℕ, ◌+◌, ◌⊎◌, true, false, List, Option, Some, None, Result, Ok, Err, OnOk, OnErr, refl, sym, subst, inl, inr}
+use Rattle.dma_arena.specs.Block.{Block}
+use Rattle.nic_device.specs.declared.event.Event.TheVariants as event
+use Rattle.nic_device.specs.declared.event.Reply.TheVariants as reply
+use Rattle.device_lock.specs.declared.entry.Call.{Call}
+use Rattle.pmd_base.specs.Accesses.{IsTaken, IsLent, IsPoked}
+use Rattle.pmd_base.specs.Made.{AddsSome}
+use Rattle.pmd_rx.specs.Plays.{Plays}
+use Rattle.pmd_rx.specs.Receive.{Receive, Layout, Stage, Looks, Sees, Holding, Lent, Named, TakesNext, LendsNext, NamesNext, MovesNext, MayLend, took, lent_one, named, moved, naming, fresh_of, slot_at, block_at, vacant, descriptor_at}
+use Rattle.pmd_rx.specs.Shown.{HasSeen, CanLend, HasLent, HasNamed, IsTailWritten}
+use Rattle.pmd_base.specs.declared.packet.Packet.{Packet}
+use Rattle.pmd_rx.proofs.Playing.{plays_adds, plays_some}
+
+-- what the stages allow
+
+take_own : (l : Layout) (s : Stage) (n : ℕ) → HasSeen s → n ≡ block_at l 0 → TakesNext l s n
+take_own l Looks n seen is = absurd seen
+take_own l (Sees first second) n seen is = is
+take_own l (Holding p) n seen is = absurd seen
+take_own l (Lent o b) n seen is = absurd seen
+take_own l (Named o b) n seen is = absurd seen
+
+lend_own : (l : Layout) (s : Stage) (b : Block) → CanLend s → MayLend l b → LendsNext l s b
+lend_own l Looks b can may = may
+lend_own l (Sees first second) b can may = absurd can
+lend_own l (Holding p) b can may = may
+lend_own l (Lent o a) b can may = absurd can
+lend_own l (Named o a) b can may = absurd can
+
+name_own : (l : Layout) (s : Stage) (a : ℕ) (bytes : List ℕ) → HasLent s → a ≡ descriptor_at l (vacant l)
+    → bytes ≡ naming (fresh_of s) → NamesNext l s a bytes
+name_own l Looks a bytes lent at is = absurd lent
+name_own l (Sees first second) a bytes lent at is = absurd lent
+name_own l (Holding p) a bytes lent at is = absurd lent
+name_own l (Lent o b) a bytes lent at is = (at, is)
+name_own l (Named o b) a bytes lent at is = absurd lent
+
+move_own : (l : Layout) (s : Stage) → HasNamed s → MovesNext l s l.port l.tail (slot_at l (vacant l + 1))
+move_own l Looks done = absurd done
+move_own l (Sees first second) done = absurd done
+move_own l (Holding p) done = absurd done
+move_own l (Lent o b) done = absurd done
+move_own l (Named o b) done = (refl, refl, refl)
+
+module _ (old new : List Call) (v : Receive) where
+  pub take_plays : (w : Receive) (n : ℕ) (b : Block) → HasSeen v.stage → n ≡ block_at v.layout 0
+      → IsTaken old new n (Some b) → w ≡ took v v.stage b → Plays old v new w
+  take_plays w n b seen is made took =
+      subst (Plays old v new) (sym took)
+      (plays_adds old new v (event.Take n) (reply.Buf b) (take_own v.layout v.stage n seen is) made)
+
+  pub take_misses : (n : ℕ) → HasSeen v.stage → n ≡ block_at v.layout 0 → IsTaken old new n None → Plays old v new v
+  take_misses n seen is made = plays_adds old new v (event.Take n) reply.NotLent
+      (take_own v.layout v.stage n seen is) made
+
+  pub lend_plays : (w : Receive) (b : Block) → CanLend v.stage → MayLend v.layout b → IsLent old new b None
+      → w ≡ lent_one v v.stage b.number → Plays old v new w
+  lend_plays w b can may made lent =
+      subst (Plays old v new) (sym lent)
+      (plays_adds old new v (event.Lend b) reply.Done (lend_own v.layout v.stage b can may) made)
+
+  pub lend_misses : (b back : Block) → CanLend v.stage → MayLend v.layout b → IsLent old new b (Some back)
+      → Plays old v new v
+  lend_misses b back can may made =
+      plays_adds old new v (event.Lend b) (reply.Twice back) (lend_own v.layout v.stage b can may) made
+
+  pub name_plays : (w : Receive) (a : ℕ) (bytes : List ℕ) → HasLent v.stage
+      → a ≡ descriptor_at v.layout (vacant v.layout)
+      → bytes ≡ naming (fresh_of v.stage) → IsPoked old new a bytes true → w ≡ named v v.stage → Plays old v new w
+  name_plays w a bytes lent at is made named =
+      subst (Plays old v new) (sym named)
+      (plays_adds old new v (event.Poke16 a bytes) reply.Done (name_own v.layout v.stage a bytes lent at is) made)
+
+  pub name_misses : (a : ℕ) (bytes : List ℕ) → HasLent v.stage → a ≡ descriptor_at v.layout (vacant v.layout)
+      → bytes ≡ naming (fresh_of v.stage) → IsPoked old new a bytes false → Plays old v new v
+  name_misses a bytes lent at is (inl made) =
+      plays_adds old new v (event.Poke16 a bytes) reply.NotLent (name_own v.layout v.stage a bytes lent at is) made
+  name_misses a bytes lent at is (inr made) =
+      plays_adds old new v (event.Poke16 a bytes) reply.Misaligned (name_own v.layout v.stage a bytes lent at is) made
+
+  pub move_plays : {E : Type 0} (r : Result (Option Packet) E) (w : Receive) → HasNamed v.stage
+      → OnOk r (IsTailWritten old new v.layout true) → OnOk r (w ≡ moved v v.stage) → OnErr r (w ≡ v)
+      → OnErr r (IsTailWritten old new v.layout false ⊎ AddsSome old new) → Plays old v new w
+  move_plays (Ok out) w done made is same failed =
+      subst (Plays old v new) (sym is)
+      (plays_adds old new v (event.Write v.layout.port v.layout.tail (slot_at v.layout
+      (vacant v.layout + 1))) reply.Done
+      (move_own v.layout v.stage done) made)
+  move_plays (Err f) w done made is same (inl (seen, adds)) =
+      subst (Plays old v new) (sym same)
+      (plays_adds old new v (event.Write v.layout.port v.layout.tail (slot_at v.layout (vacant v.layout + 1)))
+      (reply.Stray seen) (move_own v.layout v.stage done) adds)
+  move_plays (Err f) w done made is same (inr some) = subst (Plays old v new) (sym same) (plays_some old new v some)

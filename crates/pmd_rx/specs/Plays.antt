@@ -1,0 +1,43 @@
+-- How a driver follows from the calls that were made: some of them, which marks single out, are its own.
+use Rattle.std.specs.Prelude.{ℕ, ◌≡◌, ◌<◌, Bool, true, false, List, [], ◌∷◌, ◌++◌, length, IsFalse, ⊤, if◌then◌else◌}
+use Rattle.dma_ring.specs.Descriptor.{second_half}
+use Rattle.dma_ring.specs.Receive.{is_done}
+use Rattle.nic_device.specs.declared.event.Event.TheVariants as event
+use Rattle.nic_device.specs.declared.event.Reply.TheVariants as reply
+use Rattle.device_lock.specs.declared.entry.Call.{Call}
+use Rattle.device_lock.specs.Pass.{call_of}
+use Rattle.pmd_rx.specs.Receive.{Receive, IsOwn, drive, held, descriptor_at}
+
+-- the driver after one call, where it is its own
+abbrev pub after_call : Receive → Bool → Call → Receive
+after_call v mark n = if mark then drive v n.event n.reply else v
+
+-- the driver after its own calls among these: all that its code knows
+abbrev pub played_by : Receive → List Bool → List Call → Receive
+played_by v [] calls = v
+played_by v (m ∷ marks) [] = v
+played_by v (m ∷ marks) (n ∷ calls) = played_by (after_call v m n) marks calls
+
+-- each marked call is what the driver does there
+abbrev pub OwnCall : Bool → Receive → Call → Type 0
+OwnCall true v n = IsOwn v n.event
+OwnCall false v n = ⊤
+
+abbrev pub AllOwn : Receive → List Bool → List Call → Type 0
+AllOwn v [] [] = ⊤
+AllOwn v [] (n ∷ calls) = ⊥
+AllOwn v (m ∷ marks) [] = ⊥
+AllOwn v (m ∷ marks) (n ∷ calls) = OwnCall m v n × AllOwn (after_call v m n) marks calls
+
+-- some calls were made, of which the marked ones are the driver's, and lead it from one state to another
+abbrev pub Plays : List Call → Receive → List Call → Receive → Type 0
+Plays old v new w =
+    (marks : List Bool) × (since : List Call) × (new ≡ old ++ since) × AllOwn v marks since ×
+    (w ≡ played_by v marks since)
+
+-- the driver's one own call was a look at the next slot, which isn't done. It holds no packet
+abbrev pub LooksOnce : List Call → Receive → List Call → Receive → Type 0
+LooksOnce old v new w =
+    (before : List Call) × (d : List ℕ)
+    × (new ≡ old ++ (before ++ call_of (event.Peek16 (descriptor_at v.layout 0)) (reply.Bytes d) ∷ []))
+    × IsFalse (is_done (second_half d)) × (held v.stage ≡ []) × (0 < length v.layout.blocks) × (w ≡ v)

@@ -1,11 +1,14 @@
 -- Words that are of no group leave the interrupts of groups.
-use Rattle.std.proofs.Common.{◌≡◌, ℕ, false, refl}
+use Rattle.std.proofs.Common.{◌≡◌, ℕ, false, Option, Some, None, refl, ap}
+use Rattle.reg_table.specs.Rows.{row_of}
+use Rattle.reg_table.specs.declared.bank.Bank.TheVariants.{VfCounters}
 use Rattle.reg_table.specs.declared.place.Place.{Place}
+use Rattle.reg_table.specs.declared.rows.RowId.{RowId}
 use Rattle.intr_unit.specs.declared.group.Group.{Group}
 use Rattle.register_file.specs.Columns.{place}
 use Rattle.register_file.specs.Footprint.{of_owner, of_side, of_group, the_word}
 use Rattle.register_file.specs.Groups.{interrupts_of}
-use Rattle.register_file.specs.Owner.{owner_of, is_owner}
+use Rattle.register_file.specs.Owner.{owner_in, owner_of, is_owner}
 use Rattle.register_file.specs.Queue.{head_row, with_head, shut}
 use Rattle.register_file.specs.Registers.{Registers, with_word}
 use Rattle.register_file.specs.declared.dir.Dir.{Dir}
@@ -15,6 +18,9 @@ use Rattle.register_file.proofs.Footprints.{misses-narrower, misses-owner, cover
 use Rattle.register_file.proofs.Stands.{group_stands}
 use Rattle.register_file.proofs.Within.{within-shut}
 use Rattle.register_file.proofs.WithinParts.{within-word}
+use Rattle.register_file.specs.Sound.{HasShape}
+use Rattle.register_file.proofs.Shape.{HasShape-put}
+use Rattle.nic_device.specs.Interrupt.{function_counted}
 
 -- a word of a register that is of no group
 pub word_kept : (r : Registers) (p : Place) (word : ℕ) (g : Group) → is_owner (owner_of p) (owner.Group g) ≡ false
@@ -30,6 +36,17 @@ pub shut_kept : (r : Registers) (dir : Dir) (queue : ℕ) (g : Group)
 shut_kept r dir queue g =
     group_stands (of_side dir queue) r (shut r dir queue) g
     (misses-owner (owner.Side dir queue) (owner.Group g) refl) (within-shut r dir queue)
+
+-- a frame of a virtual function is counted
+pub function_kept : (r : Registers) (o : Option ℕ) (row : RowId) → (row_of row).bank ≡ VfCounters → (g : Group)
+    → interrupts_of (function_counted r o row) g ≡ interrupts_of r g
+function_kept r None row is g = refl
+function_kept r (Some v) row is g =
+    word_kept r (place row v) _ g (ap (λ b. is_owner (owner_in b v) (owner.Group g)) is)
+
+pub function_shape : (r : Registers) (o : Option ℕ) (row : RowId) → HasShape r → HasShape (function_counted r o row)
+function_shape r None row h = h
+function_shape r (Some v) row h = HasShape-put r (place row v) _ h
 
 pub head_kept : (r : Registers) (dir : Dir) (queue head : ℕ) (g : Group)
     → interrupts_of (with_head r dir queue head) g ≡ interrupts_of r g

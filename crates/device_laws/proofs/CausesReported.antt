@@ -15,15 +15,15 @@ use Rattle.register_file.specs.Registers.{Registers}
 use Rattle.register_file.specs.Sound.{HasShape}
 use Rattle.register_file.specs.declared.dir.Dir.TheVariants.{Tx}
 use Rattle.register_file.proofs.Shape.{HasShape-put}
-use Rattle.nic_device.specs.Interrupt.{function_of_queue, function_counted, raised_by}
+use Rattle.nic_device.specs.Interrupt.{function_of_queue, raised_by}
 use Rattle.device_laws.specs.Raising.{raised_reported, raised_sent, after_causes, queue_cause}
 use Rattle.nic_device.specs.Sound.{IsSound}
 use Rattle.nic_device.specs.State.{State}
 use Rattle.nic_device.specs.Transmit.{slot_counted, slot_reported, fetched_reply}
-use Rattle.nic_device.proofs.Cases.{fetched_by}
+use Rattle.nic_device.proofs.QueueCases.{fetched_by}
 use Rattle.device_laws.proofs.Caused.{queue_raises}
 use Rattle.nic_device.proofs.Raising.{slot_counted-comes}
-use Rattle.device_laws.proofs.CausesKept.{word_kept, head_kept}
+use Rattle.device_laws.proofs.CausesKept.{word_kept, head_kept, function_kept, function_shape}
 
 -- a slot that asks for a report has one written back
 Reports : Result Fetched RingFault → Type 0
@@ -42,20 +42,11 @@ reports s queue f is =
       | inr sends ↦ subst Reports (sym (ap (λ (o : tx.Outcome). o.answer) sends.2) ∙ is) (some_where _ _)
     ]
 
-function_kept : (r : Registers) (o : Option ℕ) (g : Group)
-    → interrupts_of (function_counted r o Vfgptc) g ≡ interrupts_of r g
-function_kept r None g = refl
-function_kept r (Some v) g = word_kept r (place Vfgptc v) _ g refl
-
-function_shape : (r : Registers) (o : Option ℕ) → HasShape r → HasShape (function_counted r o Vfgptc)
-function_shape r None h = h
-function_shape r (Some v) h = HasShape-put r (place Vfgptc v) _ h
-
 slot_kept : (r : Registers) (vfs queue : ℕ) (f : Fetched) (o : Option (List ℕ)) (g : Group)
     → interrupts_of (slot_counted r vfs queue f o) g ≡ interrupts_of r g
 slot_kept r vfs queue f (Some frame) g =
     let moved = with_head r Tx queue f.head in
-    function_kept (counted (counted moved Gptc 0) Qptc (counter_of r Tx queue)) (function_of_queue r vfs queue) g
+    function_kept (counted (counted moved Gptc 0) Qptc (counter_of r Tx queue)) (function_of_queue r vfs queue) Vfgptc refl g
     ∙ word_kept (counted moved Gptc 0) (place Qptc (counter_of r Tx queue)) _ g refl
     ∙ word_kept moved (place Gptc 0) _ g refl ∙ head_kept r Tx queue f.head g
 slot_kept r vfs queue f None g = head_kept r Tx queue f.head g
@@ -64,7 +55,7 @@ slot_shape : (r : Registers) (vfs queue : ℕ) (f : Fetched) (o : Option (List �
     → HasShape (slot_counted r vfs queue f o)
 slot_shape r vfs queue f (Some frame) h =
     let moved = with_head r Tx queue f.head in
-    function_shape (counted (counted moved Gptc 0) Qptc (counter_of r Tx queue)) (function_of_queue r vfs queue)
+    function_shape (counted (counted moved Gptc 0) Qptc (counter_of r Tx queue)) (function_of_queue r vfs queue) Vfgptc
     (HasShape-put (counted moved Gptc 0) (place Qptc (counter_of r Tx queue)) _
     (HasShape-put moved (place Gptc 0) _ (HasShape-put r (place (head_row Tx) queue) f.head h)))
 slot_shape r vfs queue f None h = HasShape-put r (place (head_row Tx) queue) f.head h

@@ -16,7 +16,7 @@ use Rattle.register_file.specs.Counters.{counted, counter_of}
 use Rattle.register_file.specs.Footprint.{is_place, pending}
 use Rattle.register_file.specs.Groups.{causes_raised}
 use Rattle.register_file.specs.Queue.{with_head, shut}
-use Rattle.register_file.specs.Registers.{Registers, word_of}
+use Rattle.register_file.specs.Registers.{Registers, word_of, with_word}
 use Rattle.register_file.specs.Sound.{HasShape}
 use Rattle.register_file.specs.Words.{word_at, put}
 use Rattle.register_file.specs.declared.dir.Dir.{Dir}
@@ -45,24 +45,29 @@ not_pending (group.Vf v) p is =
     neither _ _ (elsewhere (place Pvteicr v) p (λ (e : kind.Cause ≡ Rc). cc) is)
     (elsewhere (place Pvteims v) p (λ (e : kind.Ones ≡ Rc). cc) is)
 
+-- a word that is changed at one place
+pub changed_there : (f : ℕ → ℕ) (r : Registers) (row : RowId) (index : ℕ) → HasShape r → index < (row_of row).count
+    → (p : Place) → word_at (with_word r row index (f (word_of r row index))).words p
+    ≡ cond (is_place (place row index) p) (f (word_at r.words p)) (word_at r.words p)
+changed_there f r row index h b p =
+    let there = place row index in
+    let new = f (word_of r row index) in
+    let w = word_at r.words p in
+    elim (cases_Bool (is_place there p)) as (λ _. word_at (with_word r row index new).words p
+    ≡ cond (is_place there p) (f w) w) [
+      | inl same ↦
+          let at = is_place-same there p same in
+          ap (word_at (with_word r row index new).words) (sym at) ∙ put_stands r there new h b
+          ∙ ap (λ q. f (word_at r.words q)) at ∙ sym (ap (λ c. cond c (f w) w) same)
+      | inr other ↦
+          word_at-put_other r.words there p new (apart (is_place there) there p (is_place-itself there) other)
+          ∙ sym (ap (λ c. cond c (f w) w) other)
+    ]
+
 -- one more at a place
 pub counted_there : (r : Registers) (row : RowId) (index : ℕ) → HasShape r → index < (row_of row).count
     → (p : Place) → word_at (counted r row index).words p ≡ with_one (is_place (place row index) p) (word_at r.words p)
-counted_there r row index h b p =
-    let there = place row index in
-    elim (cases_Bool (is_place there p)) as (λ _. word_at (counted r row index).words p
-    ≡ with_one (is_place there p) (word_at r.words p)) [
-      | inl same ↦
-          let at = is_place-same there p same in
-          ap (word_at (counted r row index).words) (sym at)
-          ∙ put_stands r there (bumped (word_of r row index)) h b
-          ∙ ap (λ q. bumped (word_at r.words q)) at
-          ∙ sym (ap (λ c. with_one c (word_at r.words p)) same)
-      | inr other ↦
-          word_at-put_other r.words there p (bumped (word_of r row index))
-          (apart (is_place there) there p (is_place-itself there) other)
-          ∙ sym (ap (λ c. with_one c (word_at r.words p)) other)
-    ]
+counted_there r row index h b p = changed_there bumped r row index h b p
 
 -- raised causes and a word of another kind count nothing
 pub raised_keeps : (r : Registers) (g : Group) (bits : ℕ) (p : Place) → (row_of p.row).kind ≡ Rc
@@ -108,6 +113,11 @@ same_counter r Tx queue head =
     (word_at-put_other r.words (place Tdh queue) (place Tqsm (queue / 4)) head
     (λ e. let same : Tqsm ≡ Tdh = ap (λ (p : Place). p.row) e in cc))
 
+-- whether a frame ends or not
+pub either_end : (b : Bool) (P : Bool → Registers → Type 0) (x y : Registers) → P true x → P false y → P b (cond b x y)
+either_end true P x y p q = p
+either_end false P x y p q = q
+
 -- a piece of a frame
 pub piece_counts : (r : Registers) (vfs queue : ℕ) (f : Filled) → HasShape r → (p : Place) → (row_of p.row).kind ≡ Rc
     → word_at (piece_done r vfs queue f).words p
@@ -126,8 +136,3 @@ piece_counts r vfs queue f h p is =
     ∙ (λ k. with_one (is_place (place Qprc (same_counter r Rx queue f.head k)) p)
     (head_keeps r Rx queue f.head p is k)))
     (head_keeps r Rx queue f.head p is)
-  where
-    either_end : (b : Bool) (P : Bool → Registers → Type 0) (x y : Registers) → P true x → P false y
-        → P b (cond b x y)
-    either_end true P x y p q = p
-    either_end false P x y p q = q

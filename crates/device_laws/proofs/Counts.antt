@@ -32,7 +32,8 @@ use Rattle.nic_device.specs.Sound.{IsSound}
 use Rattle.nic_device.specs.State.{State, Waiting}
 use Rattle.nic_device.specs.Step.{step_of}
 use Rattle.nic_device.specs.Transmit.{transmitted}
-use Rattle.nic_device.proofs.Cases.{either_way, transmitted_cases}
+use Rattle.nic_device.proofs.Cases.{either_way}
+use Rattle.nic_device.proofs.QueueCases.{transmitted_cases}
 use Rattle.device_laws.proofs.Counting.{elsewhere, not_pending, counted_there, failed_keeps, missed_counts, piece_counts}
 use Rattle.device_laws.proofs.CountingSent.{reported_counts}
 use Rattle.device_laws.proofs.CountsKept.{read_misses, write_misses, switch_misses}

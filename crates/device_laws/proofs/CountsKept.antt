@@ -12,7 +12,7 @@ use Rattle.register_file.specs.Owner.{owner_in}
 use Rattle.vf_map.specs.Owner.{is_of_pool_by}
 use Rattle.vf_map.specs.declared.mode.Mode.{Mode}
 use Rattle.nic_device.proofs.Cases.{either_way}
-use Rattle.register_file.specs.Footprint.{pending_of, read_by, written_by, of_write}
+use Rattle.register_file.specs.Footprint.{pending_of, read_by, written_by}
 use Rattle.register_file.specs.Owner.{owner_of, is_owner}
 use Rattle.register_file.specs.declared.dir.Dir.{Dir}
 use Rattle.register_file.specs.declared.dir.Dir.TheVariants.{Rx, Tx}
@@ -28,13 +28,8 @@ use Rattle.nic_device.specs.declared.named.Named.TheVariants.{Nothing, Register}
 -- what no other event may change: a counter that it doesn't read
 
 not_pending_of : (o : Owner) (p : Place) → (row_of p.row).kind ≡ kind.Rc → (pending_of o).words p ≡ false
-not_pending_of owner.Device p is = refl
-not_pending_of owner.Counters p is = refl
-not_pending_of (owner.Side dir queue) p is = refl
 not_pending_of (owner.Group g) p is = not_pending g p is
-not_pending_of (owner.Pool number) p is = refl
-not_pending_of (owner.VfCounters number) p is = refl
-not_pending_of (owner.Vectors number) p is = refl
+not_pending_of other p is = refl
 
 not_read : (k : Kind) (q p : Place) → (row_of p.row).kind ≡ kind.Rc → p ≢ q → (read_by k q).words p ≡ false
 not_read kind.Rc q p is n = one_place q p n

@@ -11,7 +11,7 @@ use Rattle.nic_device.specs.Receive.{received, first_received}
 use Rattle.nic_device.specs.Sound.{AreWaiting, IsSound}
 use Rattle.nic_device.specs.Step.{step_of}
 use Rattle.device_laws.specs.Laws.{piece_of, piece_on, PieceIsReadBack, StoppedDeviceIsIdle}
-use Rattle.nic_device.proofs.Cases.{received_cases}
+use Rattle.nic_device.proofs.QueueCases.{received_cases}
 use Rattle.nic_device.proofs.Targets.{told-lt}
 use Rattle.nic_device.specs.declared.event.Reply.{Reply}
 use Rattle.nic_device.specs.declared.event.Reply.TheVariants.{Wrote, Idle}

@@ -73,17 +73,7 @@ own_reset mode v p word (shared is) asks =
 
 alone_registers : (s : State) (v : ℕ) (r : Registers) → ChangesWithin (of_pool (mode_in s.registers) v) s.registers r
     → ChangesPoolAlone v s (record s { registers = r })
-alone_registers s v r within = record {
-  registers = within;
-  staged = λ queue no. refl;
-  waiting = refl;
-  memory = refl;
-  out = refl;
-  link = refl;
-  image = refl;
-  vfs = refl;
-  fifo = refl;
-}
+alone_registers s v r within = assumption
 
 alone_still : (s : State) (v : ℕ) → ChangesPoolAlone v s s
 alone_still s v = alone_registers s v s.registers (within-refl (of_pool (mode_in s.registers) v) s.registers)
@@ -91,17 +81,7 @@ alone_still s v = alone_registers s v s.registers (within-refl (of_pool (mode_in
 pub alone_reset : (s : State) (v : ℕ) → ChangesPoolAlone v s (with_pool_reset s v)
 alone_reset s v =
     let stays = pool_reset_stays s v in
-    record {
-      registers = stays.registers;
-      staged = stays.staged;
-      waiting = others_again (mode_in s.registers) v s.waiting;
-      memory = refl;
-      out = refl;
-      link = refl;
-      image = refl;
-      vfs = refl;
-      fifo = refl;
-    }
+    assumption (stays, others_again (mode_in s.registers) v s.waiting)
 
 within_read : (s : State) (v : ℕ) (p : Place) → IsReached (mode_in s.registers) v p
     → ChangesWithin (of_pool (mode_in s.registers) v) s.registers (after_read (row_of p.row).kind s.registers p)

@@ -2,11 +2,8 @@
 use Rattle.std.proofs.Common.{cond, ◌≡◌, ◌%◌, ℕ, List, refl, ap, false, [], ◌∷◌, Option, Some, None}
 use Rattle.std.proofs.lemmas.Bool.{ne_eqb}
 use Rattle.dma_arena.specs.Memory.{is_lent, read_at, write_at}
-use Rattle.reg_table.specs.Rows.{row_of}
 use Rattle.tx_ring.specs.declared.fetched.Fetched.{Fetched}
-use Rattle.register_file.specs.Access.{asks_reset}
-use Rattle.register_file.specs.Footprint.{of_write}
-use Rattle.nic_device.specs.Footprint.{Reach, in_registers, write_reach, reset_reach}
+use Rattle.nic_device.specs.Footprint.{Reach, write_reach}
 use Rattle.nic_device.specs.Link.{oldest_collected}
 use Rattle.nic_device.specs.Named.{named}
 use Rattle.nic_device.specs.Outcome.{gives}
@@ -16,13 +13,13 @@ use Rattle.nic_device.specs.Step.{step_of}
 use Rattle.nic_device.specs.Transmit.{transmitted, fetched_reply, with_frame}
 use Rattle.register_file.specs.Pools.{mode_in}
 use Rattle.vf_map.specs.declared.mode.Mode.{Mode}
-use Rattle.nic_device.proofs.Cases.{write_cases, transmitted_cases}
+use Rattle.nic_device.proofs.Cases.{write_cases}
+use Rattle.nic_device.proofs.QueueCases.{transmitted_cases}
 use Rattle.device_laws.proofs.Standing.{stays_within}
 use Rattle.device_laws.proofs.StandingAccesses.{read_rest}
 use Rattle.device_laws.proofs.StandingQueues.{receiving_rest, switching_rest}
 use Rattle.nic_device.specs.declared.event.Event.TheVariants as event
 use Rattle.nic_device.specs.declared.named.Named.{Named}
-use Rattle.nic_device.specs.declared.named.Named.TheVariants.{Nothing, Register}
 use Rattle.nic_device.specs.declared.event.Reply.TheVariants.{Done, Bytes, NotLent, Misaligned}
 
 -- no write changes the frames out

@@ -7,7 +7,7 @@ use Rattle.intr_unit.specs.declared.group.Group.TheVariants as group
 use Rattle.rx_ring.specs.declared.filled.Filled.{Filled}
 use Rattle.rx_ring.proofs.Fills.{takes_piece}
 use Rattle.register_file.specs.Counters.{counter_of}
-use Rattle.register_file.specs.Footprint.{ChangesWithin, counters, any_pending, pending}
+use Rattle.register_file.specs.Footprint.{ChangesWithin, pending}
 use Rattle.register_file.specs.Queue.{ring_of, with_head, shut}
 use Rattle.register_file.specs.Registers.{Registers}
 use Rattle.register_file.specs.Sides.{receive_queue_of}
@@ -26,8 +26,9 @@ use Rattle.device_laws.specs.Replies.{received_tells, ReceivingTells}
 use Rattle.nic_device.specs.Sound.{IsSound, AreWaiting}
 use Rattle.nic_device.specs.State.{State, Waiting}
 use Rattle.nic_device.specs.Step.{step_of}
-use Rattle.nic_device.proofs.Cases.{either_way, received_cases}
-use Rattle.nic_device.proofs.Coming.{covers-first, covers-second, counted_in, raised_by_queue}
+use Rattle.nic_device.proofs.Cases.{either_way}
+use Rattle.nic_device.proofs.QueueCases.{received_cases}
+use Rattle.nic_device.proofs.Coming.{counted_in, raised_by_queue}
 use Rattle.device_laws.proofs.Missed.{counts-miss_side, pending-misses_side}
 use Rattle.nic_device.proofs.Raising.{comes-itself}
 use Rattle.nic_device.proofs.Functions.{function_counted_in}

@@ -10,7 +10,7 @@ use Rattle.intr_unit.specs.declared.group.Group.TheVariants as group
 use Rattle.tx_ring.specs.declared.fetched.Fetched.{Fetched}
 use Rattle.tx_ring.proofs.Fetches.{takes_slot}
 use Rattle.register_file.specs.Counters.{counted, counter_of}
-use Rattle.register_file.specs.Footprint.{ChangesWithin, counters, any_pending, pending}
+use Rattle.register_file.specs.Footprint.{ChangesWithin, pending}
 use Rattle.register_file.specs.Queue.{ring_of, with_head, shut}
 use Rattle.register_file.specs.Registers.{Registers}
 use Rattle.register_file.specs.Sides.{transmit_queue_of}
@@ -27,8 +27,9 @@ use Rattle.nic_device.specs.Sound.{IsSound}
 use Rattle.nic_device.specs.State.{State}
 use Rattle.nic_device.specs.Step.{step_of}
 use Rattle.nic_device.specs.Transmit.{transmitted, queue_sent, slot_counted, slot_reported, slot_done, fetched_reply}
-use Rattle.nic_device.proofs.Cases.{either_way, transmitted_cases, fetched_by}
-use Rattle.nic_device.proofs.Coming.{Comes, covers-first, covers-second, counted_in, raised_by_queue}
+use Rattle.nic_device.proofs.Cases.{either_way}
+use Rattle.nic_device.proofs.QueueCases.{transmitted_cases, fetched_by}
+use Rattle.nic_device.proofs.Coming.{Comes, counted_in, raised_by_queue}
 use Rattle.device_laws.proofs.Missed.{counts-miss_side, pending-misses_side}
 use Rattle.nic_device.proofs.Raising.{comes-itself}
 use Rattle.nic_device.proofs.Functions.{function_counted_in}

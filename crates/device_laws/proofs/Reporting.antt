@@ -14,7 +14,7 @@ use Rattle.register_file.specs.Sides.{transmit_queue_of}
 use Rattle.register_file.specs.declared.dir.Dir.TheVariants.{Tx}
 use Rattle.device_laws.specs.Replies.{report_of}
 use Rattle.nic_device.specs.State.{State}
-use Rattle.nic_device.proofs.Cases.{fetched_by}
+use Rattle.nic_device.proofs.QueueCases.{fetched_by}
 
 ReportsAt : ℕ → Result Fetched RingFault → Type 0
 ReportsAt at (Ok f) = (address : ℕ) → f.back ≡ Some address → address ≡ at

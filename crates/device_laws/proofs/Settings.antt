@@ -1,6 +1,5 @@
 -- Registers of the device as a whole, which nothing changes but a write of them, and a reset.
-use Rattle.std.proofs.Common.{◌≡◌, ◌≢◌, ◌||◌, ℕ, false, List, [], ◌∷◌, refl, ap, sym, ◌∙◌, inl, inr}
-use Rattle.std.proofs.lemmas.Bool.{cases_Bool}
+use Rattle.std.proofs.Common.{◌≡◌, ◌≢◌, ◌||◌, ℕ, false, List, [], ◌∷◌, refl, ap, sym, ◌∙◌}
 use Rattle.dma_arena.specs.Block.{Block}
 use Rattle.reg_table.specs.Rows.{row_of}
 use Rattle.reg_table.specs.declared.bank.Bank.TheVariants.{Device}
@@ -25,7 +24,7 @@ use Rattle.register_file.specs.declared.dir.Dir.TheVariants.{Rx, Tx}
 use Rattle.register_file.specs.declared.owner.Owner.{Owner}
 use Rattle.register_file.specs.declared.owner.Owner.TheVariants as owner
 use Rattle.register_file.proofs.Covers.{fails, covers-any_pending}
-use Rattle.register_file.proofs.Owners.{is_place-same}
+use Rattle.register_file.proofs.ReadBack.{one_place}
 use Rattle.nic_device.specs.Footprint.{read_reach, write_reach, receive_reach, reach_by, switch_reach, Reach, pool_reach, is_function_count}
 use Rattle.nic_device.specs.Named.{named}
 use Rattle.nic_device.specs.Step.{after, step_of}
@@ -60,23 +59,14 @@ module _ (row : RowId) (is : IsSetting row) where
   here = place row 0
 
   other_place : (p : Place) → p.row ≢ row → is_place p here ≡ false
-  other_place p n =
-      elim (cases_Bool (is_place p here)) as (λ _. is_place p here ≡ false) [
-        | inl same ↦ absurd (n (ap (λ (q : Place). q.row) (is_place-same p here same)))
-        | inr apart ↦ apart
-      ]
+  other_place p n = one_place p here (λ e. n (ap (λ (q : Place). q.row) (sym e)))
 
   none_pending : (g : Group) → (pending g).words here ≡ false
   none_pending g = fails ((pending g).words here) (any_pending.words here) ((covers-any_pending g).words here) is.quiet
 
   none_pending_of : (o : Owner) → (pending_of o).words here ≡ false
-  none_pending_of owner.Device = refl
-  none_pending_of owner.Counters = refl
-  none_pending_of (owner.Side dir queue) = refl
   none_pending_of (owner.Group g) = none_pending g
-  none_pending_of (owner.Pool number) = refl
-  none_pending_of (owner.VfCounters number) = refl
-  none_pending_of (owner.Vectors number) = refl
+  none_pending_of other = refl
 
   none_written_by : (k : Kind) (p : Place) → p.row ≢ row → (written_by k p).words here ≡ false
   none_written_by kind.Rw p n = other_place p n
@@ -105,27 +95,21 @@ module _ (row : RowId) (is : IsSetting row) where
   none_owned : (o : Owner) → is_owner o owner.Device ≡ false → is_owner o (owner_of here) ≡ false
   none_owned o n = ap (λ b. is_owner o (owner_in b 0)) is.bank ∙ n
 
-  counts_apart : is_owner owner.Counters (owner_of here) ≡ false
-  counts_apart = none_owned owner.Counters refl
-
-  side_apart : (dir : Dir) (queue : ℕ) → is_owner (owner.Side dir queue) (owner_of here) ≡ false
-  side_apart dir queue = none_owned (owner.Side dir queue) refl
-
   none_stepped : (dir : Dir) (queue : ℕ)
       → (is_owner (owner.Side dir queue) (owner_of here)
       || ((is_owner owner.Counters (owner_of here) || is_function_count (row_of row).bank)
       || is_pending (row_of row).kind)) ≡ false
   none_stepped dir queue =
-      neither _ _ (side_apart dir queue)
-      (neither _ _ (neither _ _ counts_apart (ap is_function_count is.bank)) is.quiet)
+      neither _ _ (none_owned (owner.Side dir queue) refl)
+      (neither _ _ (neither _ _ (none_owned owner.Counters refl) (ap is_function_count is.bank)) is.quiet)
 
   none_received : (ws : List Waiting) (reply : Reply Block) → (receive_reach ws reply).registers.words here ≡ false
   none_received [] reply = refl
   none_received (w ∷ others) reply = none_stepped Rx w.queue
 
   none_switched : (dir : Dir) (queue : ℕ) → (switch_reach dir queue).registers.words here ≡ false
-  none_switched Rx queue = side_apart Rx queue
-  none_switched Tx queue = side_apart Tx queue
+  none_switched Rx queue = none_owned (owner.Side Rx queue) refl
+  none_switched Tx queue = none_owned (owner.Side Tx queue) refl
 
   none_read_by : (k : Kind) (p : Place) → (row_of p.row).kind ≡ k → (read_by k p).words here ≡ false
   none_read_by kind.Rc p counter =
@@ -136,9 +120,6 @@ module _ (row : RowId) (is : IsSetting row) where
   none_read : (m : Named) → (read_reach m).registers.words here ≡ false
   none_read (Nothing seen) = refl
   none_read (Register p view) = none_read_by (row_of p.row).kind p refl
-
-  not_eerd : is_place (place Eerd 0) here ≡ false
-  not_eerd = other_place (place Eerd 0) (λ same. is.unread same)
 
   word_stands : (s : State) (e : Event Block)
       → (reach_by s e (step_of s e).reply).registers.words here ≡ false
@@ -155,12 +136,12 @@ module _ (row : RowId) (is : IsSetting row) where
       word_stands s (event.Write port n word)
       (none_written (mode_in s.registers) (named s port n) word (λ p view found. other port n word p view refl found))
   setting_stands s (event.Arrive frame) other =
-      word_stands s (event.Arrive frame) (neither _ _ counts_apart (none_pending group.Pf))
+      word_stands s (event.Arrive frame) (neither _ _ (none_owned owner.Counters refl) (none_pending group.Pf))
   setting_stands s event.RxStep other = word_stands s event.RxStep (none_received s.waiting _)
   setting_stands s (event.TxStep queue) other = word_stands s (event.TxStep queue) (none_stepped Tx queue)
   setting_stands s (event.IntStep g) other = word_stands s (event.IntStep g) (none_pending g)
   setting_stands s (event.QueueStep dir queue) other =
       word_stands s (event.QueueStep dir queue) (none_switched dir queue)
-  setting_stands s event.EepromStep other = word_stands s event.EepromStep not_eerd
+  setting_stands s event.EepromStep other = word_stands s event.EepromStep (other_place (place Eerd 0) is.unread)
   setting_stands s (event.Link up) other = word_stands s (event.Link up) (none_pending group.Pf)
   setting_stands s e other = word_stands s e refl

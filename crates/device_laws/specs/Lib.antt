@@ -1,7 +1,10 @@
 pub mod Counting
 pub mod Eeprom
+pub mod FunctionCounting
 pub mod Laws
 pub mod Leaving
+pub mod Messages
+pub mod Muting
 pub mod Order
 pub mod Ports
 pub mod Pool

@@ -7,6 +7,9 @@
 ghost use Rattle.nic_device.specs.Kept.{NewDeviceIsSound, EventKeepsSound, OtherEventsKeepBlocks};
 ghost use Rattle.device_laws.specs.Laws.{ToldIsPending, NewDeviceReadsResetValues, WriteShowsAtEachAddress, WriteLeavesOtherRegisters, ReadChangesNothing, StrayAccessChangesNothing, ReadCounterStartsAgain, LetInFrameIsCounted, AskedResetResets, ResetGivesResetValues, OtherEventsKeepSettings, PieceIsReadBack, FaultChangesNoMemory, StoppedDeviceIsIdle};
 ghost use Rattle.device_laws.specs.Counting.{EventsCount};
+ghost use Rattle.device_laws.specs.FunctionCounting.{EventsCountForFunctions};
+ghost use Rattle.device_laws.specs.Messages.{DueBitIsTold};
+ghost use Rattle.device_laws.specs.Muting.{MutedQueueIsIdle};
 ghost use Rattle.device_laws.specs.Raising.{EventsRaise};
 ghost use Rattle.device_laws.specs.Replies.{ReceivingTells, TransmittingTells, EventsMoveFramesOut, MisalignedChangesNothing};
 ghost use Rattle.device_laws.specs.Pool.{VfChangesItsPoolAlone, VfSeesItsPoolAlone, AskedPoolResetResets};
@@ -67,6 +70,13 @@ pub fn let_in_frame_is_counted()
 /// their end, dropped for want of a slot, and gone out. Nothing else changes a counter but a read of it and a reset.
 pub fn events_count()
     ensures { EventsCount }
+{}
+
+/// VFGPRC of a virtual function counts the frames that are written to their end on a queue of the function's pool, and
+/// VFGPTC those that go out from one, where the device has the function. After 0xFFFFFFFF they begin again at 0. Nothing
+/// else changes them but a reset of the device or of the function's pool; a read doesn't.
+pub fn events_count_for_functions()
+    ensures { EventsCountForFunctions }
 {}
 
 /// A frame that finds the list full raises bit 17 of the physical function's causes, a fault bit 18 and a change of the
@@ -195,6 +205,19 @@ pub fn receiving_tells()
 /// was.
 pub fn transmitting_tells()
     ensures { TransmittingTells }
+{}
+
+/// While VT_CTL bit 0 is 1, a step of transmitting of a queue whose pool has its bit of VFTE at 0 is idle and changes
+/// nothing.
+pub fn muted_queue_is_idle()
+    ensures { MutedQueueIsIdle }
+{}
+
+/// Where a bit of a group is due, its cause and its mask at 1, not told, with a vector, a message step of the group
+/// sends the vector of the lowest such bit and tells that bit, which clears its cause where EIAC has it, and its mask
+/// where GPIE bit 30 is 1 and EIAM has it; the group's other bits are as they were.
+pub fn due_bit_is_told()
+    ensures { DueBitIsTold }
 {}
 
 /// A frame joins the frames out, last of all, exactly where a step of transmitting tells it as sent, with its queue and

@@ -20,7 +20,7 @@ use Rattle.nic_device.proofs.Triples.{reset_sound, reset_leaves}
 use Rattle.dma_arena.specs.Memory.{Memory, has_block}
 use Rattle.std.specs.FinMap as map
 use Rattle.nic_device.proofs.Keeping.{sound-registers, stays-registers}
-use Rattle.nic_device.proofs.Leads.{Leads, leads-still}
+use Rattle.nic_device.proofs.Leads.{Leads, leads-still, leads-to}
 use Rattle.nic_device.specs.declared.event.Event.TheVariants as event
 use Rattle.nic_device.specs.declared.event.Port.{Port}
 use Rattle.nic_device.specs.declared.named.Named.{Named}
@@ -35,13 +35,9 @@ pub read_leads : (s : State) (port : Port) (n : ℕ) (m : Named)
 read_leads s port n (Nothing seen) here = leads-still s (event.Read port n) (Stray seen) (λ no. refl)
 read_leads s port n (Register p view) here =
     let r = after_read (row_of p.row).kind s.registers p in
-    record {
-      sound = λ h is. sound-registers s r h (sound-after_read s.registers p h.registers);
-      stays = here (named_read s (Register p view))
-          (stays-registers (read_reach (Register p view)) s r (within-after_read s.registers p));
-      hands = λ no. refl;
-      faults = λ no. refl;
-    }
+    leads-to s (event.Read port n) _ _ (λ h is. sound-registers s r h (sound-after_read s.registers p h.registers))
+    (here (named_read s (Register p view))
+    (stays-registers (read_reach (Register p view)) s r (within-after_read s.registers p))) refl refl
 
 reset_stays : (s : State) (p : Place) (view word : ℕ) → asks_reset (row_of p.row).kind word ≡ true
     → StaysWithin (write_reach (mode_in s.registers) (Register p view) word) s (reset s)
@@ -67,26 +63,16 @@ write_leads s port n word (Register p view) here =
     let r = after_write s.registers p view word in
     let pool = with_pool_reset s p.index in
     let asked = asks_pool_reset (row_of p.row).kind word in
-    let P : State → Type 0 = λ t. Leads s (event.Write port n word) (gives Done t) in
+    let e = event.Write port n word in
+    let P : State → Type 0 = λ t. Leads s e (gives Done t) in
     let reach = write_reach (mode_in s.registers) (Register p view) word in
     cond_both (asks_reset (row_of p.row).kind word) (reset s) (cond asked pool (record s { registers = r })) P
-    (λ asks. record {
-      sound = λ h is. reset_sound s h;
-      stays = here (gives Done (reset s)) (reset_stays s p view word asks);
-      hands = λ no. refl;
-      faults = λ no. (reset_leaves s).memory;
-    })
+    (λ asks. leads-to s e Done _ (λ h is. reset_sound s h)
+    (here (gives Done (reset s)) (reset_stays s p view word asks)) refl (reset_leaves s).memory)
     (λ none. cond_both asked pool (record s { registers = r }) P
-    (λ asks. record {
-      sound = λ h is. pool_reset_sound s p.index h;
-      stays = here (gives Done pool) (rw (none, asks) (pool_reset_stays s p.index));
-      hands = λ no. refl;
-      faults = λ no. refl;
-    })
-    (λ plain. record {
-      sound = λ h is. sound-registers s r h (sound-written s.registers p view word h.registers is.2);
-      stays = here (gives Done (record s { registers = r }))
-          (stays-registers reach s r (rw (none, plain) (within-written s.registers p view word)));
-      hands = λ no. refl;
-      faults = λ no. refl;
-    }))
+    (λ asks. leads-to s e Done _ (λ h is. pool_reset_sound s p.index h)
+    (here (gives Done pool) (rw (none, asks) (pool_reset_stays s p.index))) refl refl)
+    (λ plain. leads-to s e Done _
+    (λ h is. sound-registers s r h (sound-written s.registers p view word h.registers is.2))
+    (here (gives Done (record s { registers = r }))
+    (stays-registers reach s r (rw (none, plain) (within-written s.registers p view word)))) refl refl))

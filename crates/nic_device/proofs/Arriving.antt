@@ -1,16 +1,16 @@
 -- Frames that arrive: where they lead.
-use Rattle.std.proofs.Common.{ℕ, List, refl}
+use Rattle.std.proofs.Common.{◌≡◌, ℕ, true, false, List, [], ◌∷◌, ◌++◌, refl}
 use Rattle.reg_table.specs.declared.rows.RowId.TheVariants.{Gprc, Ruc, Roc}
 use Rattle.register_file.specs.Counters.{counted}
 use Rattle.nic_device.specs.Arrival.{arrived, missed, let_in, with_count}
 use Rattle.nic_device.specs.State.{State}
 use Rattle.nic_device.proofs.Cases.{arrived_cases}
 use Rattle.nic_device.proofs.Keeping.{sound-registers, sound-waiting}
-use Rattle.nic_device.proofs.Leads.{Leads, leads-still, leads-registers}
+use Rattle.nic_device.proofs.Leads.{Leads, leads-still, leads-to, leads-registers}
 use Rattle.nic_device.proofs.Queued.{AreWaiting-joined, length-joined}
 use Rattle.nic_device.proofs.Raising.{arrival_counted, missed-comes}
 use Rattle.nic_device.specs.declared.event.Event.TheVariants as event
-use Rattle.nic_device.specs.declared.event.Reply.TheVariants.{Dropped}
+use Rattle.nic_device.specs.declared.event.Reply.TheVariants.{Done, Dropped}
 use Rattle.nic_device.specs.declared.event.Why.TheVariants.{Short, Long, Full}
 
 pub arrive_leads : (s : State) (frame : List ℕ) → Leads s (event.Arrive frame) (arrived s frame)
@@ -25,25 +25,11 @@ arrive_leads s frame =
       missed = leads-registers s e (Dropped Full) (missed s).registers (λ h is. tt) (missed-comes s.registers) refl;
       joined = λ t is room.
           let counts = arrival_counted s.registers Gprc (record { bank = refl; kind = refl }) in
-          record {
-            sound = λ h bytes.
-                sound-waiting (with_count s Gprc) _
-                (sound-registers s (counted s.registers Gprc 0) h (counts.sound tt h.registers))
-                (AreWaiting-joined s.registers s.waiting frame t is bytes h.waiting)
-                (length-joined s.waiting (let_in frame t) s.fifo room);
-            stays = record {
-              registers = counts.within;
-              blocks = λ n no. refl;
-              lent = λ n no. refl;
-              staged = λ queue no. refl;
-              waiting = λ no. cc;
-              out = λ no. refl;
-              link = λ no. refl;
-              image = refl;
-              vfs = refl;
-              fifo = refl;
-            };
-            hands = λ no. refl;
-            faults = λ no. refl;
-          };
+          let longer : true ≡ false → s.waiting ++ let_in frame t ∷ [] ≡ s.waiting = λ no. cc in
+          leads-to s e Done _
+          (λ h bytes. sound-waiting (with_count s Gprc) _
+          (sound-registers s (counted s.registers Gprc 0) h (counts.sound tt h.registers))
+          (AreWaiting-joined s.registers s.waiting frame t is bytes h.waiting)
+          (length-joined s.waiting (let_in frame t) s.fifo room))
+          (assumption (counts.within, longer)) refl refl;
     })

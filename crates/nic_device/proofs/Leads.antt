@@ -1,14 +1,17 @@
 -- Where an event leads: its outcome is sound, and changes nothing outside the event's reach.
-use Rattle.std.proofs.Common.{◌≡◌, refl}
+use Rattle.std.proofs.Common.{◌≡◌, ℕ, refl}
+use Rattle.std.specs.FinMap as map
 use Rattle.std.specs.Prelude.{IsTrue, IsFalse}
 use Rattle.dma_arena.specs.Block.{Block}
+use Rattle.dma_arena.specs.Memory.{Memory, has_block}
+use Rattle.register_file.proofs.Footprints.{within-refl}
 use Rattle.register_file.specs.Registers.{Registers}
 use Rattle.nic_device.specs.Footprint.{reach_by, StaysWithin}
 use Rattle.nic_device.specs.Outcome.{Outcome, gives}
-use Rattle.nic_device.specs.Sound.{IsEvent, IsSound}
+use Rattle.nic_device.specs.Sound.{AreBlocks, IsEvent, IsSound}
 use Rattle.nic_device.specs.State.{State}
 use Rattle.nic_device.specs.Step.{moves_block, hands_out, is_fault}
-use Rattle.nic_device.proofs.Keeping.{sound-registers, stays-still, stays-registers}
+use Rattle.nic_device.proofs.Keeping.{sound-registers, sound-memory, stays-still, stays-registers}
 use Rattle.nic_device.proofs.Coming.{Comes}
 use Rattle.nic_device.specs.declared.event.Event.{Event}
 use Rattle.nic_device.specs.declared.event.Reply.{Reply}
@@ -22,20 +25,31 @@ pub record Leads (s : State) (e : Event Block) (o : Outcome) : Type 0 where
 -- a reply that changes nothing
 pub leads-still : (s : State) (e : Event Block) (reply : Reply Block)
     → (IsFalse (moves_block e) → IsFalse (hands_out reply)) → Leads s e (gives reply s)
-leads-still s e reply none = record {
-  sound = λ h is. h;
-  stays = stays-still (reach_by s e reply) s;
-  hands = none;
-  faults = λ no. refl;
+leads-still s e reply none = assumption (stays-still (reach_by s e reply) s)
+
+-- one that hands no block out, and leaves memory as it was
+pub leads-to : (s : State) (e : Event Block) (reply : Reply Block) (t : State) → (IsSound s → IsEvent e → IsSound t)
+    → StaysWithin (reach_by s e reply) s t → IsFalse (hands_out reply) → t.memory ≡ s.memory → Leads s e (gives reply t)
+leads-to s e reply t sound stays none same = assumption
+
+-- one that changes memory alone, and is no fault
+pub leads-memory : (s : State) (e : Event Block) (reply : Reply Block) (m : Memory)
+    → (IsSound s → IsEvent e → AreBlocks m)
+    → ((number : ℕ) → IsFalse ((reach_by s e reply).blocks number) → map.get m number ≡ map.get s.memory number)
+    → ((number : ℕ) → IsFalse ((reach_by s e reply).lent number) → has_block m number ≡ has_block s.memory number)
+    → (IsFalse (moves_block e) → IsFalse (hands_out reply)) → IsFalse (is_fault reply)
+    → Leads s e (gives reply (record s { memory = m }))
+leads-memory s e reply m sound blocks lent hands no_fault = record {
+  sound = λ h is. sound-memory s m h (sound h is);
+  stays = assumption (within-refl (reach_by s e reply).registers s.registers);
+  hands = hands;
+  faults = λ told. cc;
 }
 
 -- one that changes registers alone
 pub leads-registers : (s : State) (e : Event Block) (reply : Reply Block) (r : Registers) {good : Type 0}
     → (IsSound s → IsEvent e → good) → Comes good (reach_by s e reply).registers s.registers r
     → IsFalse (hands_out reply) → Leads s e (gives reply (record s { registers = r }))
-leads-registers s e reply r is comes none = record {
-  sound = λ h made. sound-registers s r h (comes.sound (is h made) h.registers);
-  stays = stays-registers (reach_by s e reply) s r comes.within;
-  hands = λ no. none;
-  faults = λ no. refl;
-}
+leads-registers s e reply r is comes none =
+    leads-to s e reply _ (λ h made. sound-registers s r h (comes.sound (is h made) h.registers))
+    (stays-registers (reach_by s e reply) s r comes.within) none refl

@@ -15,6 +15,7 @@ pub mod Lists
 pub mod Memory
 pub mod Pieces
 pub mod PoolReset
+pub mod QueueCases
 pub mod Queued
 pub mod Raising
 pub mod Receiving

@@ -6,17 +6,14 @@ use Rattle.dma_arena.specs.Block.{Block}
 use Rattle.dma_arena.specs.Memory.{Avoids}
 use Rattle.dma_arena.proofs.Blocks.{get-write_at_out}
 use Rattle.dma_arena.proofs.Bus.{get-insert_other, get-remove_other, SameLent-write_at}
-use Rattle.register_file.specs.Footprint.{nothing}
-use Rattle.register_file.proofs.Footprints.{within-refl}
 use Rattle.nic_device.specs.Footprint.{has_some_of}
 use Rattle.nic_device.specs.Lending.{lent, taken, peeked, poked}
 use Rattle.nic_device.specs.State.{State}
 use Rattle.nic_device.proofs.Blocks.{AreBlocks-insert, AreBlocks-remove, AreBlocks-write_at}
 use Rattle.nic_device.proofs.Cases.{lent_cases, taken_cases, peeked_cases, poked_cases}
-use Rattle.nic_device.proofs.Keeping.{sound-memory}
-use Rattle.nic_device.proofs.Leads.{Leads, leads-still}
+use Rattle.nic_device.proofs.Leads.{Leads, leads-still, leads-memory}
 use Rattle.nic_device.specs.declared.event.Event.TheVariants as event
-use Rattle.nic_device.specs.declared.event.Reply.TheVariants.{NotLent, Misaligned, Bytes, Twice}
+use Rattle.nic_device.specs.declared.event.Reply.TheVariants.{Done, NotLent, Misaligned, Bytes, Buf, Twice}
 
 -- a block without any of the bytes avoids them
 pub avoids-none : (number address len : ℕ) → has_some_of number address len ≡ false → Avoids number address len
@@ -35,45 +32,18 @@ avoids-none number address len none =
 pub lend_leads : (s : State) (block : Block) → Leads s (event.Lend block) (lent s block)
 lend_leads s block = lent_cases (Leads s (event.Lend block)) s block
     (leads-still s (event.Lend block) (Twice block) (λ no. cc))
-    (record {
-      sound = λ h is. sound-memory s _ h (AreBlocks-insert s.memory block h.blocks is);
-      stays = record {
-        registers = within-refl nothing s.registers;
-        blocks = λ n other. get-insert_other s.memory block.number block.bytes n (eqb-false n block.number other);
-        lent = λ n other. ap is_some
-            (get-insert_other s.memory block.number block.bytes n (eqb-false n block.number other));
-        staged = λ queue no. refl;
-        waiting = λ no. refl;
-        out = λ no. refl;
-        link = λ no. refl;
-        image = refl;
-        vfs = refl;
-        fifo = refl;
-      };
-      hands = λ no. refl;
-      faults = λ no. cc;
-    })
+    (leads-memory s (event.Lend block) Done _ (λ h is. AreBlocks-insert s.memory block h.blocks is)
+    (λ n other. get-insert_other s.memory block.number block.bytes n (eqb-false n block.number other))
+    (λ n other. ap is_some
+    (get-insert_other s.memory block.number block.bytes n (eqb-false n block.number other)))
+    (λ no. refl) refl)
 
 pub take_leads : (s : State) (number : ℕ) → Leads s (event.Take number) (taken s number)
 take_leads s number = taken_cases (Leads s (event.Take number)) s number
     (leads-still s (event.Take number) NotLent (λ no. refl))
-    (λ block. record {
-      sound = λ h is. sound-memory s _ h (AreBlocks-remove s.memory number h.blocks);
-      stays = record {
-        registers = within-refl nothing s.registers;
-        blocks = λ n other. get-remove_other s.memory number n (eqb-false n number other);
-        lent = λ n other. ap is_some (get-remove_other s.memory number n (eqb-false n number other));
-        staged = λ queue no. refl;
-        waiting = λ no. refl;
-        out = λ no. refl;
-        link = λ no. refl;
-        image = refl;
-        vfs = refl;
-        fifo = refl;
-      };
-      hands = λ no. cc;
-      faults = λ no. cc;
-    })
+    (λ block. leads-memory s (event.Take number) (Buf block) _ (λ h is. AreBlocks-remove s.memory number h.blocks)
+    (λ n other. get-remove_other s.memory number n (eqb-false n number other))
+    (λ n other. ap is_some (get-remove_other s.memory number n (eqb-false n number other))) (λ no. cc) refl)
 
 pub peek_leads : (s : State) (address : ℕ) → Leads s (event.Peek16 address) (peeked s address)
 peek_leads s address =
@@ -87,20 +57,7 @@ poke_leads s address bytes =
     let still = leads-still s (event.Poke16 address bytes) in
     poked_cases (Leads s (event.Poke16 address bytes)) s address bytes (still Misaligned (λ no. refl))
     (still NotLent (λ no. refl))
-    (record {
-      sound = λ h is. sound-memory s _ h (AreBlocks-write_at s.memory address bytes h.blocks is.2);
-      stays = record {
-        registers = within-refl nothing s.registers;
-        blocks = λ n none. get-write_at_out s.memory address bytes n (avoids-none n address (length bytes) none);
-        lent = λ n no. SameLent-write_at s.memory address bytes n;
-        staged = λ queue no. refl;
-        waiting = λ no. refl;
-        out = λ no. refl;
-        link = λ no. refl;
-        image = refl;
-        vfs = refl;
-        fifo = refl;
-      };
-      hands = λ no. refl;
-      faults = λ no. cc;
-    })
+    (leads-memory s (event.Poke16 address bytes) Done _
+    (λ h is. AreBlocks-write_at s.memory address bytes h.blocks is.2)
+    (λ n none. get-write_at_out s.memory address bytes n (avoids-none n address (length bytes) none))
+    (λ n no. SameLent-write_at s.memory address bytes n) (λ no. refl) refl)

@@ -107,16 +107,10 @@ below_reset_sound s p view word small h =
     (pool_reset_sound s p.index h) (sound-registers s _ h (sound-written s.registers p view word h.registers small))
 
 pub pool_reset_stays : (s : State) (v : ℕ) → StaysWithin (pool_reach (mode_in s.registers) v) s (with_pool_reset s v)
-pool_reset_stays s v = record {
-  registers = (renewed-pool s.registers (mode_in s.registers) v).alone;
-  blocks = λ n no. refl;
-  lent = λ n no. refl;
-  staged = λ queue none. pool-other s.staged (queues_of (mode_in s.registers) v) queue
-      (not_among (mode_in s.registers) v queue none);
-  waiting = λ no. cc;
-  out = λ no. refl;
-  link = λ no. refl;
-  image = refl;
-  vfs = refl;
-  fifo = refl;
-}
+pool_reset_stays s v =
+    let mode = mode_in s.registers in
+    let fewer : true ≡ false → others_waiting mode v s.waiting ≡ s.waiting = λ no. cc in
+    let others : (queue : ℕ) → has_queue mode v queue ≡ false → get_or (with_pool_reset s v).staged queue []
+    ≡ get_or s.staged queue [] = λ queue none. pool-other s.staged (queues_of mode v) queue
+    (not_among mode v queue none) in
+    assumption ((renewed-pool s.registers mode v).alone, others, fewer)

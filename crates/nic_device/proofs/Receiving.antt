@@ -1,5 +1,5 @@
 -- Steps of receiving: where they lead.
-use Rattle.std.proofs.Common.{◌≡◌, ◌<◌, ◌≤◌, ◌+◌, ◌^◌, ℕ, false, List, ◌∷◌, length, length-drop, refl, sym, subst, arith, Ok}
+use Rattle.std.proofs.Common.{◌≡◌, ◌<◌, ◌≤◌, ◌+◌, ◌^◌, ℕ, true, false, List, ◌∷◌, length, length-drop, refl, sym, subst, arith, Ok}
 use Rattle.std.specs.Prelude.{⊤}
 use Rattle.std.proofs.lemmas.Bool.{or_parts}
 use Rattle.std.proofs.lemmas.List.Elements.{All-take, All-drop}
@@ -20,9 +20,9 @@ use Rattle.nic_device.specs.Sound.{AreBytes, AreBlocks, AreWaiting, IsSound}
 use Rattle.nic_device.specs.State.{State, Waiting}
 use Rattle.nic_device.specs.Step.{hands_out}
 use Rattle.nic_device.proofs.Blocks.{AreBlocks-write_at, of_halves-small}
-use Rattle.nic_device.proofs.Cases.{received_cases}
+use Rattle.nic_device.proofs.QueueCases.{filled_by, received_cases}
 use Rattle.nic_device.proofs.Keeping.{sound-registers, sound-memory, sound-waiting}
-use Rattle.nic_device.proofs.Leads.{Leads, leads-still}
+use Rattle.nic_device.proofs.Leads.{Leads, leads-still, leads-to}
 use Rattle.nic_device.proofs.Memory.{avoids-none}
 use Rattle.nic_device.proofs.Pieces.{piece_fits}
 use Rattle.nic_device.proofs.Queued.{AreWaiting-others, AreWaiting-after_piece, length-after_piece}
@@ -65,27 +65,14 @@ of_first s t w others reply e stays = subst (λ ws. StaysWithin (receive_reach w
 first_dropped : (s : State) (w : Waiting) (others : List Waiting) (reply : Reply Block) (r : Registers)
     → s.waiting ≡ w ∷ others → Comes ⊤ (of_step Rx w.queue) s.registers r → hands_out reply ≡ false
     → Leads s event.RxStep (gives reply (record s { registers = r; waiting = others }))
-first_dropped s w others reply r e comes none = record {
-  sound = λ h is.
-      sound-registers (record s { waiting = others }) r
-      (sound-waiting s others h (AreWaiting-others w others (waits_first s w others e h))
-      (let room = room_first s w others e h in omega arith))
-      (comes.sound tt h.registers);
-  stays = of_first s _ w others reply e (record {
-    registers = comes.within;
-    blocks = λ n no. refl;
-    lent = λ n no. refl;
-    staged = λ queue no. refl;
-    waiting = λ no. cc;
-    out = λ no. refl;
-    link = λ no. refl;
-    image = refl;
-    vfs = refl;
-    fifo = refl;
-  });
-  hands = λ no. none;
-  faults = λ no. refl;
-}
+first_dropped s w others reply r e comes none =
+    let fewer : true ≡ false → others ≡ s.waiting = λ no. cc in
+    leads-to s event.RxStep reply _
+    (λ h is. sound-registers (record s { waiting = others }) r
+    (sound-waiting s others h (AreWaiting-others w others (waits_first s w others e h))
+    (let room = room_first s w others e h in omega arith))
+    (comes.sound tt h.registers))
+    (of_first s _ w others reply e (assumption (comes.within, fewer))) none refl
 
 head-small : (s : State) (w : Waiting) (f : Filled) → f.head < slots_of (receive_queue_of s.registers w.queue).ring
     → f.head < 2 ^ 16
@@ -93,11 +80,9 @@ head-small s w f inside = omega arith
 
 -- a piece is written
 module _ (s : State) (w : Waiting) (others : List Waiting) (e : s.waiting ≡ w ∷ others) (f : Filled)
-    (is : (fill_of s.memory (receive_queue_of s.registers w.queue).ring
-    (receive_queue_of s.registers w.queue).control (rest_of w)).answer ≡ Ok f) where
+    (is : (filled_by s w).answer ≡ Ok f) where
   abbrev memory : Memory
-  memory = (fill_of s.memory (receive_queue_of s.registers w.queue).ring
-      (receive_queue_of s.registers w.queue).control (rest_of w)).memory
+  memory = (filled_by s w).memory
 
   filled_sound : IsSound s → IsSound (slot_done s w others (Ok f) memory).state
   filled_sound h =

@@ -1,6 +1,6 @@
 -- Steps of transmitting: where they lead.
-use Rattle.std.proofs.Common.{◌≡◌, ◌≢◌, ◌<◌, ◌^◌, ℕ, false, List, [], get_or, refl, ap, subst, arith, Option, Some, None, Ok, Err}
-use Rattle.std.specs.Prelude.{slice_set}
+use Rattle.std.proofs.Common.{◌≡◌, ◌<◌, ◌^◌, ℕ, false, List, [], get_or, refl, ap, subst, arith, Option, Some, None, Ok, Err}
+use Rattle.std.specs.Prelude.{◌==◌, slice_set}
 use Rattle.std.specs.FinMap as map
 use Rattle.std.proofs.lemmas.Bool.{eqb-false}
 use Rattle.std.proofs.lemmas.List.{get_or-set_other}
@@ -19,14 +19,14 @@ use Rattle.nic_device.specs.Sound.{IsSound}
 use Rattle.nic_device.specs.State.{State}
 use Rattle.nic_device.specs.Step.{hands_out, is_fault}
 use Rattle.nic_device.specs.Transmit.{transmitted, slot_done, staged_by, sending_of, fetched_reply, slot_reported, transmit_failed}
-use Rattle.nic_device.proofs.Cases.{fetched_by, transmitted_cases}
+use Rattle.nic_device.proofs.QueueCases.{fetched_by, transmitted_cases}
 use Rattle.nic_device.proofs.Fetched.{AreBlocks-fetched, IsStaged-fetched, frame_limit-lt, IsStaged-by}
 use Rattle.nic_device.proofs.Keeping.{sound-registers, sound-memory, sound-staged, sound-rest, AreStaged-set}
-use Rattle.nic_device.proofs.Leads.{Leads, leads-still}
+use Rattle.nic_device.proofs.Leads.{Leads, leads-still, leads-to}
 use Rattle.nic_device.proofs.Memory.{avoids-none}
 use Rattle.nic_device.proofs.Raising.{slot-comes, transmit_failed-comes}
 use Rattle.nic_device.specs.declared.event.Event.TheVariants as event
-use Rattle.nic_device.specs.declared.event.Reply.TheVariants.{Idle, NoQueue}
+use Rattle.nic_device.specs.declared.event.Reply.TheVariants.{Idle, NoQueue, Fault}
 
 -- what is told of a fetched slot
 back_told : (queue : ℕ) (f : Fetched) (o : Option (List ℕ)) → told_back (fetched_reply queue f o) ≡ f.back
@@ -49,32 +49,19 @@ back_stays old new tx f None is only number none = ap (λ (m : Memory). map.get 
 back_stays old new tx f (Some back) is only number none =
     only.blocks number back is (avoids-none number back (report_length tx.writeback) none)
 
-staged_stays : (staged : List (List ℕ)) (queue other : ℕ) (bytes : List ℕ) → other ≢ queue
+staged_stays : (staged : List (List ℕ)) (queue : ℕ) (bytes : List ℕ) (other : ℕ) → (other == queue) ≡ false
     → get_or (slice_set staged queue bytes) other [] ≡ get_or staged other []
-staged_stays staged queue other bytes n = get_or-set_other staged queue other bytes [] n
+staged_stays staged queue bytes other apart =
+    get_or-set_other staged queue other bytes [] (eqb-false other queue apart)
 
 fault_leads : (s : State) (queue : ℕ) (fault : RingFault) (memory : Memory) (bytes : List ℕ)
     → Leads s (event.TxStep queue) (slot_done s queue (Err fault) memory bytes)
-fault_leads s queue fault memory bytes = record {
-  sound = λ h is.
-      sound-registers (record s { staged = slice_set s.staged queue [] }) (transmit_failed s.registers queue)
-      (sound-staged s _ h (AreStaged-set s.staged queue [] h.staged (omega arith)))
-      ((transmit_failed-comes s.registers queue).sound tt h.registers);
-  stays = record {
-    registers = (transmit_failed-comes s.registers queue).within;
-    blocks = λ n no. refl;
-    lent = λ n no. refl;
-    staged = λ other no. staged_stays s.staged queue other [] (eqb-false other queue no);
-    waiting = λ no. refl;
-    out = λ no. cc;
-    link = λ no. refl;
-    image = refl;
-    vfs = refl;
-    fifo = refl;
-  };
-  hands = λ no. refl;
-  faults = λ no. refl;
-}
+fault_leads s queue fault memory bytes =
+    let comes = transmit_failed-comes s.registers queue in
+    leads-to s (event.TxStep queue) (Fault queue fault) _
+    (λ h is. sound-registers (record s { staged = slice_set s.staged queue [] }) (transmit_failed s.registers queue)
+    (sound-staged s _ h (AreStaged-set s.staged queue [] h.staged (omega arith))) (comes.sound tt h.registers))
+    (assumption (comes.within, staged_stays s.staged queue [])) refl refl
 
 head-small : (s : State) (queue : ℕ) (f : Fetched) → f.head < slots_of (transmit_queue_of s.registers queue).ring
     → f.head < 2 ^ 16
@@ -111,8 +98,7 @@ fetched_leads s queue f is =
             (writes_inside_report s.memory (staged_by s queue) q.ring tx f is) n
             (subst (λ o. back_into o (report_length q.writeback) n ≡ false) (back_told queue f f.frame) none);
         lent = λ n no. (fetch_keeps_blocks s.memory (staged_by s queue) q.ring tx).0 n;
-        staged = λ other no.
-            staged_stays s.staged queue other (fetched_by s queue).staged (eqb-false other queue no);
+        staged = λ other no. staged_stays s.staged queue (fetched_by s queue).staged other no;
         waiting = λ no. refl;
         out = λ no. cc;
         link = λ no. refl;

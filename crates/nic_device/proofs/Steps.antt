@@ -1,5 +1,5 @@
 -- The table of events: each keeps a device sound, and changes nothing outside its reach.
-use Rattle.std.proofs.Common.{◌≡◌, ℕ, Bool, false, refl, sym, subst, arith, Option, Some, None}
+use Rattle.std.proofs.Common.{◌≡◌, ℕ, Bool, true, false, refl, sym, subst, arith, Option, Some, None}
 use Rattle.std.specs.Prelude.{⊤, Result, Ok, Err, OnOk, OnErr}
 use Rattle.dma_arena.specs.Block.{Block}
 use Rattle.intr_unit.specs.declared.group.Group.{Group}
@@ -27,14 +27,14 @@ use Rattle.nic_device.proofs.Arriving.{arrive_leads}
 use Rattle.nic_device.proofs.Blocks.{AreBlocks-empty}
 use Rattle.nic_device.proofs.Cases.{either_way, link_cases, collected_cases, interrupted_cases}
 use Rattle.nic_device.proofs.Keeping.{sound-registers, sound-rest, AreStaged-none}
-use Rattle.nic_device.proofs.Leads.{Leads, leads-still, leads-registers}
+use Rattle.nic_device.proofs.Leads.{Leads, leads-still, leads-to, leads-registers}
 use Rattle.nic_device.proofs.Memory.{lend_leads, take_leads, peek_leads, poke_leads}
 use Rattle.nic_device.proofs.Receiving.{receive_leads}
 use Rattle.nic_device.proofs.Sending.{transmit_leads}
 use Rattle.nic_device.proofs.SwitchedSides.{switch_leads}
 use Rattle.nic_device.specs.declared.event.Event.{Event}
 use Rattle.nic_device.specs.declared.event.Event.TheVariants as event
-use Rattle.nic_device.specs.declared.event.Reply.TheVariants.{Done, Idle, NoGroup}
+use Rattle.nic_device.specs.declared.event.Reply.TheVariants.{Done, Idle, NoGroup, Frame}
 
 -- messages
 
@@ -74,45 +74,19 @@ eeprom_leads s =
 link_leads : (s : State) (up : Bool) → Leads s (event.Link up) (link_set s up)
 link_leads s up =
     let r = causes_raised s.registers group.Pf link_cause in
+    let changed : true ≡ false → up ≡ s.link = λ no. cc in
     link_cases (Leads s (event.Link up)) s up (leads-still s (event.Link up) Idle (λ no. refl))
-    (record {
-      sound = λ h is. sound-registers (record s { link = up }) r (sound-rest s s.out up h)
-          (sound-causes_raised s.registers group.Pf link_cause h.registers);
-      stays = record {
-        registers = within-causes_raised s.registers group.Pf link_cause;
-        blocks = λ n no. refl;
-        lent = λ n no. refl;
-        staged = λ queue no. refl;
-        waiting = λ no. refl;
-        out = λ no. refl;
-        link = λ no. cc;
-        image = refl;
-        vfs = refl;
-        fifo = refl;
-      };
-      hands = λ no. refl;
-      faults = λ no. refl;
-    })
+    (leads-to s (event.Link up) Done _
+    (λ h is. sound-registers (record s { link = up }) r (sound-rest s s.out up h)
+    (sound-causes_raised s.registers group.Pf link_cause h.registers))
+    (assumption (within-causes_raised s.registers group.Pf link_cause, changed)) refl refl)
 
 collect_leads : (s : State) → Leads s event.Collect (collected s)
 collect_leads s = collected_cases (Leads s event.Collect) s (leads-still s event.Collect Idle (λ no. refl))
-    (λ queue bytes others. record {
-      sound = λ h is. sound-rest s others s.link h;
-      stays = record {
-        registers = within-refl nothing s.registers;
-        blocks = λ n no. refl;
-        lent = λ n no. refl;
-        staged = λ queue no. refl;
-        waiting = λ no. refl;
-        out = λ no. cc;
-        link = λ no. refl;
-        image = refl;
-        vfs = refl;
-        fifo = refl;
-      };
-      hands = λ no. refl;
-      faults = λ no. refl;
-    })
+    (λ queue bytes others.
+    let fewer : true ≡ false → others ≡ s.out = λ no. cc in
+    leads-to s event.Collect (Frame queue bytes) _ (λ h is. sound-rest s others s.link h)
+    (assumption (within-refl nothing s.registers, fewer)) refl refl)
 
 -- where each event leads
 

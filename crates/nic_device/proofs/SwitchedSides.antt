@@ -1,6 +1,6 @@
 -- Steps of a side's enable: where they lead.
-use Rattle.std.proofs.Common.{◌≡◌, ℕ, [], refl, arith}
-use Rattle.std.specs.Prelude.{⊤, slice_set}
+use Rattle.std.proofs.Common.{◌≡◌, ℕ, true, false, [], refl, arith}
+use Rattle.std.specs.Prelude.{⊤, ◌==◌, slice_set}
 use Rattle.std.proofs.lemmas.Bool.{eqb-false}
 use Rattle.std.proofs.lemmas.List.{get_or-set_other}
 use Rattle.register_file.specs.Footprint.{Covers, of_side, the_word}
@@ -16,10 +16,11 @@ use Rattle.nic_device.specs.Footprint.{switch_reach, StaysWithin}
 use Rattle.nic_device.specs.Outcome.{gives}
 use Rattle.nic_device.specs.Sound.{IsSound}
 use Rattle.nic_device.specs.State.{State}
+use Rattle.nic_device.specs.Transmit.{staged_by}
 use Rattle.nic_device.specs.Switching.{queue_switched, side_switched, emptied, without_part}
 use Rattle.nic_device.proofs.Cases.{either_way, switched_cases}
 use Rattle.nic_device.proofs.Keeping.{sound-registers, sound-waiting, sound-staged, stays-registers, AreStaged-set}
-use Rattle.nic_device.proofs.Leads.{Leads, leads-still}
+use Rattle.nic_device.proofs.Leads.{Leads, leads-still, leads-to}
 use Rattle.nic_device.proofs.Queued.{AreWaiting-without_part, length-without_part}
 use Rattle.nic_device.proofs.Coming.{Comes}
 use Rattle.nic_device.specs.declared.event.Event.TheVariants as event
@@ -53,30 +54,13 @@ wanted_stays s Tx queue =
 emptied_stays : (s : State) (dir : Dir) (queue : ℕ)
     → StaysWithin (switch_reach dir queue) s
     (record (emptied s dir queue) { registers = switched s.registers dir queue })
-emptied_stays s Rx queue = record {
-  registers = (switched-comes s.registers Rx queue).within;
-  blocks = λ n no. refl;
-  lent = λ n no. refl;
-  staged = λ other no. refl;
-  waiting = λ no. cc;
-  out = λ no. refl;
-  link = λ no. refl;
-  image = refl;
-  vfs = refl;
-  fifo = refl;
-}
-emptied_stays s Tx queue = record {
-  registers = (switched-comes s.registers Tx queue).within;
-  blocks = λ n no. refl;
-  lent = λ n no. refl;
-  staged = λ other no. get_or-set_other s.staged queue other [] [] (eqb-false other queue no);
-  waiting = λ no. refl;
-  out = λ no. refl;
-  link = λ no. refl;
-  image = refl;
-  vfs = refl;
-  fifo = refl;
-}
+emptied_stays s Rx queue =
+    let fewer : true ≡ false → without_part queue s.waiting ≡ s.waiting = λ no. cc in
+    assumption ((switched-comes s.registers Rx queue).within, fewer)
+emptied_stays s Tx queue =
+    let others : (other : ℕ) → (other == queue) ≡ false → staged_by (emptied s Tx queue) other ≡ staged_by s other =
+    λ other no. get_or-set_other s.staged queue other [] [] (eqb-false other queue no) in
+    assumption ((switched-comes s.registers Tx queue).within, others)
 
 emptied_memory : (s : State) (dir : Dir) (queue : ℕ) → (emptied s dir queue).memory ≡ s.memory
 emptied_memory s Rx queue = refl
@@ -85,22 +69,16 @@ emptied_memory s Tx queue = refl
 side_leads : (s : State) (dir : Dir) (queue : ℕ)
     → Leads s (event.QueueStep dir queue) (gives Done (side_switched s dir queue))
 side_leads s dir queue =
+    let e = event.QueueStep dir queue in
     let r = switched s.registers dir queue in
-    either_way (λ (t : State). Leads s (event.QueueStep dir queue) (gives Done t)) (is_wanted s.registers dir queue)
+    either_way (λ (t : State). Leads s e (gives Done t)) (is_wanted s.registers dir queue)
     (record s { registers = r }) (record (emptied s dir queue) { registers = r })
-    (record {
-      sound = λ h is. sound-registers s r h (sound-switched s.registers dir queue h.registers);
-      stays = wanted_stays s dir queue;
-      hands = λ no. refl;
-      faults = λ no. refl;
-    })
-    (record {
-      sound = λ h is. sound-registers (emptied s dir queue) r (emptied_sound s dir queue h)
-          (sound-switched s.registers dir queue h.registers);
-      stays = emptied_stays s dir queue;
-      hands = λ no. refl;
-      faults = λ no. emptied_memory s dir queue;
-    })
+    (leads-to s e Done _ (λ h is. sound-registers s r h (sound-switched s.registers dir queue h.registers))
+    (wanted_stays s dir queue) refl refl)
+    (leads-to s e Done _
+    (λ h is. sound-registers (emptied s dir queue) r (emptied_sound s dir queue h)
+    (sound-switched s.registers dir queue h.registers))
+    (emptied_stays s dir queue) refl (emptied_memory s dir queue))
 
 pub switch_leads : (s : State) (dir : Dir) (queue : ℕ)
     → Leads s (event.QueueStep dir queue) (queue_switched s dir queue)

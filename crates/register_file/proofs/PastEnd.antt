@@ -1,5 +1,5 @@
 -- What was put, wanted and told, and what stands past the end.
-use Rattle.std.proofs.Common.{◌≡◌, ℕ, ◌<◌, Bool, false, cond, nat_lt, sym, ◌∙◌, subst, inl, inr, arith}
+use Rattle.std.proofs.Common.{List, length, set, get_or, ◌≡◌, ℕ, ◌<◌, Bool, false, cond, nat_lt, sym, ◌∙◌, subst, inl, inr, arith}
 use Rattle.std.proofs.lemmas.Bool.{cases_lt, cond-true, cond-false, lt-ltb, le-ltb}
 use Rattle.std.proofs.lemmas.List.{get_or-set_same, get_or_past, length-set}
 use Rattle.reg_table.specs.Rows.{row_of}
@@ -26,37 +26,23 @@ word_put r h p v =
           ∙ sym (cond-false (nat_lt p.index count) v 0 (le-ltb p.index count past))
     ]
 
+-- what stands where an element was set
+set_there : {A : Type 0} (xs : List A) (n i : ℕ) (x d : A) → length xs ≡ n
+    → get_or (set xs i x) i d ≡ cond (nat_lt i n) x d
+set_there xs n i x d e =
+    elim (cases_lt i n) as (λ _. get_or (set xs i x) i d ≡ cond (nat_lt i n) x d) [
+      | inl b ↦ get_or-set_same xs i x d (subst (λ m. i < m) (sym e) b)
+          ∙ sym (cond-true (nat_lt i n) x d (lt-ltb i n b))
+      | inr past ↦
+          let short = length-set xs i x ∙ e in
+          get_or_past (set xs i x) i d (omega arith) ∙ sym (cond-false (nat_lt i n) x d (le-ltb i n past))
+    ]
+
 pub side_wanted : (r : Registers) → HasShape r → (dir : Dir) (queue : ℕ) (wanted : Bool)
     → is_wanted (with_wanted r dir queue wanted) dir queue ≡ cond (nat_lt queue 128) wanted false
-side_wanted r h Rx queue wanted =
-    elim (cases_lt queue 128) as
-    (λ _. is_wanted (with_wanted r Rx queue wanted) Rx queue ≡ cond (nat_lt queue 128) wanted false) [
-      | inl b ↦ get_or-set_same r.wanted_rx queue wanted false (subst (λ n. queue < n) (sym h.wanted_rx) b)
-          ∙ sym (cond-true (nat_lt queue 128) wanted false (lt-ltb queue 128 b))
-      | inr past ↦
-          let short = length-set r.wanted_rx queue wanted ∙ h.wanted_rx in
-          get_or_past (with_wanted r Rx queue wanted).wanted_rx queue false (omega arith)
-          ∙ sym (cond-false (nat_lt queue 128) wanted false (le-ltb queue 128 past))
-    ]
-side_wanted r h Tx queue wanted =
-    elim (cases_lt queue 128) as
-    (λ _. is_wanted (with_wanted r Tx queue wanted) Tx queue ≡ cond (nat_lt queue 128) wanted false) [
-      | inl b ↦ get_or-set_same r.wanted_tx queue wanted false (subst (λ n. queue < n) (sym h.wanted_tx) b)
-          ∙ sym (cond-true (nat_lt queue 128) wanted false (lt-ltb queue 128 b))
-      | inr past ↦
-          let short = length-set r.wanted_tx queue wanted ∙ h.wanted_tx in
-          get_or_past (with_wanted r Tx queue wanted).wanted_tx queue false (omega arith)
-          ∙ sym (cond-false (nat_lt queue 128) wanted false (le-ltb queue 128 past))
-    ]
+side_wanted r h Rx queue wanted = set_there r.wanted_rx 128 queue wanted false h.wanted_rx
+side_wanted r h Tx queue wanted = set_there r.wanted_tx 128 queue wanted false h.wanted_tx
 
 pub bits_told : (r : Registers) → HasShape r → (v told : ℕ)
     → told_by (with_told r (Vf v) told) (Vf v) ≡ cond (nat_lt v 64) told 0
-bits_told r h v told =
-    elim (cases_lt v 64) as (λ _. told_by (with_told r (Vf v) told) (Vf v) ≡ cond (nat_lt v 64) told 0) [
-      | inl b ↦ get_or-set_same r.told_vf v told 0 (subst (λ n. v < n) (sym h.told_vf) b)
-          ∙ sym (cond-true (nat_lt v 64) told 0 (lt-ltb v 64 b))
-      | inr past ↦
-          let short = length-set r.told_vf v told ∙ h.told_vf in
-          get_or_past (with_told r (Vf v) told).told_vf v 0 (omega arith)
-          ∙ sym (cond-false (nat_lt v 64) told 0 (le-ltb v 64 past))
-    ]
+bits_told r h v told = set_there r.told_vf 64 v told 0 h.told_vf

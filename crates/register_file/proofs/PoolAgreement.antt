@@ -111,9 +111,6 @@ module _ (mode : Mode) (v : ℕ) (a b : Registers) (same : AgreeWithin (of_pool 
     write_agrees : (k : Kind) (p : Place) (view word : ℕ) → is_of_pool mode v p ≡ true
         → AgreeWithin (of_pool mode v) (written k a p view word) (written k b p view word)
     write_agrees kind.Rw p view word is = agree-stored p view word is
-    write_agrees kind.Ro p view word is = same
-    write_agrees kind.Calc p view word is = same
-    write_agrees kind.Rc p view word is = same
     write_agrees kind.Cause p view word is = agree-group_written kind.Cause p (bit_and word view) is
     write_agrees kind.Ones p view word is = agree-group_written kind.Ones p (bit_and word view) is
     write_agrees kind.Set p view word is = agree-group_written kind.Set p (bit_and word view) is
@@ -125,8 +122,8 @@ module _ (mode : Mode) (v : ℕ) (a b : Registers) (same : AgreeWithin (of_pool 
         (agree-stored p view word is)
     write_agrees kind.Enable p view word is = agree-asked p view word is (owner_of p) (has_bit 25 word)
     write_agrees kind.Ctrl p view word is = agree-stored p view word is
-    write_agrees kind.Vreset p view word is = same
     write_agrees kind.Eerd p view word is = agree-stored p view (bit_and word 0xFFFD) is
+    write_agrees other p view word is = same
 
 pub agree-read : PoolReadsKeepAgreement
 agree-read mode v a b ha hb same p is = read_agrees mode v a b same ha hb (row_of p.row).kind p is

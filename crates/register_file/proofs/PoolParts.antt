@@ -21,15 +21,10 @@ use Rattle.register_file.proofs.RowsReset.{or_false, at_rows, has_row, rows_word
 
 -- what a pool has once
 abbrev pub is_own : Bank → Bool
-is_own bank.Device = false
-is_own bank.Counters = false
-is_own bank.Receive = false
-is_own bank.Transmit = false
-is_own bank.Interrupts = false
 is_own bank.VfInterrupts = true
 is_own bank.Pool = true
 is_own bank.VfCounters = true
-is_own bank.Vectors = false
+is_own other = false
 
 abbrev pub of_function : ℕ → Footprint
 of_function v =

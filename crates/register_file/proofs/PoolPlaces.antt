@@ -26,31 +26,14 @@ use Rattle.register_file.proofs.Puts.{same_number}
 -- the owner of a pool's place has nothing but what is the pool's
 pub group_of_pool : (b : Bank) (mode : Mode) (v i : ℕ) (g : Group) → is_of_pool_by b mode v i ≡ true
     → owner_in b i ≡ owner.Group g → g ≡ Vf v
-group_of_pool bank.Device mode v i g is e = cc
-group_of_pool bank.Counters mode v i g is e = cc
-group_of_pool bank.Receive mode v i g is e = cc
-group_of_pool bank.Transmit mode v i g is e = cc
-group_of_pool bank.Interrupts mode v i g is e = cc
 group_of_pool bank.VfInterrupts mode v i g is e = let same : i ≡ v = eqb-true i v is in cc
-group_of_pool bank.Pool mode v i g is e = cc
-group_of_pool bank.VfCounters mode v i g is e = cc
-group_of_pool bank.Vectors mode v i g is e = cc
+group_of_pool other mode v i g is e = cc
 
 pub side_of_pool : (b : Bank) (mode : Mode) (v i : ℕ) (dir : Dir) (queue : ℕ) → is_of_pool_by b mode v i ≡ true
     → owner_in b i ≡ owner.Side dir queue → has_queue mode v queue ≡ true
-side_of_pool bank.Device mode v i dir queue is e = cc
-side_of_pool bank.Counters mode v i dir queue is e = cc
-side_of_pool bank.Receive mode v i dir queue is e =
-    let same : i ≡ queue = cc in
-    ap (has_queue mode v) (sym same) ∙ is
-side_of_pool bank.Transmit mode v i dir queue is e =
-    let same : i ≡ queue = cc in
-    ap (has_queue mode v) (sym same) ∙ is
-side_of_pool bank.Interrupts mode v i dir queue is e = cc
-side_of_pool bank.VfInterrupts mode v i dir queue is e = cc
-side_of_pool bank.Pool mode v i dir queue is e = cc
-side_of_pool bank.VfCounters mode v i dir queue is e = cc
-side_of_pool bank.Vectors mode v i dir queue is e = cc
+side_of_pool bank.Receive mode v i dir queue is e = let same : i ≡ queue = cc in ap (has_queue mode v) (sym same) ∙ is
+side_of_pool bank.Transmit mode v i dir queue is e = let same : i ≡ queue = cc in ap (has_queue mode v) (sym same) ∙ is
+side_of_pool other mode v i dir queue is e = cc
 
 -- whether an owner is the pool's, or of it
 owns : Mode → ℕ → Owner → Bool
@@ -66,14 +49,7 @@ owns mode v (owner.Vectors index) = has_queue mode v (2 * index)
 owned : (b : Bank) (mode : Mode) (v i : ℕ) → is_of_pool_by b mode v i ≡ owns mode v (owner_in b i)
 unfolding owns
 owned bank.Device mode v i = refl
-owned bank.Counters mode v i = refl
-owned bank.Receive mode v i = refl
-owned bank.Transmit mode v i = refl
-owned bank.Interrupts mode v i = refl
-owned bank.VfInterrupts mode v i = refl
-owned bank.Pool mode v i = refl
-owned bank.VfCounters mode v i = refl
-owned bank.Vectors mode v i = refl
+owned other mode v i = refl
 
 -- two places with one owner are both of the pool, or neither
 one_owner : (b c : Bank) (mode : Mode) (v i j : ℕ) → is_owner (owner_in b i) (owner_in c j) ≡ true

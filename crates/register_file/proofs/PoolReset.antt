@@ -37,15 +37,13 @@ vectors_has n b i = is_owner (owner.Vectors n) (owner_in b i)
 
 with_none : (b : Bank) (mode : Mode) (v i : ℕ) → ((queue : ℕ) → has_queue mode v queue ≡ false)
     → (own_has v b i || false) ≡ is_of_pool_by b mode v i
-with_none bank.Device mode v i none = refl
-with_none bank.Counters mode v i none = refl
 with_none bank.Receive mode v i none = sym (none i)
 with_none bank.Transmit mode v i none = sym (none i)
-with_none bank.Interrupts mode v i none = refl
 with_none bank.VfInterrupts mode v i none = or_false (v == i) ∙ turned v i
 with_none bank.Pool mode v i none = or_false (v == i) ∙ turned v i
 with_none bank.VfCounters mode v i none = or_false (v == i) ∙ turned v i
 with_none bank.Vectors mode v i none = sym (none (2 * i))
+with_none other mode v i none = refl
 
 with_four : (b : Bank) (v i : ℕ) → v < 32
     → (own_has v b i
@@ -53,29 +51,25 @@ with_four : (b : Bank) (v i : ℕ) → v < 32
     || (queue_has (v * 4 + 1) b i || (queue_has (v * 4 + 1 + 1) b i || (queue_has (v * 4 + 1 + 1 + 1) b i || false))))
     || (vectors_has (v * 4 / 2) b i || (vectors_has (v * 4 / 2 + 1) b i || false))))
     ≡ is_of_pool_by b Pools32 v i
-with_four bank.Device v i small = refl
-with_four bank.Counters v i small = refl
 with_four bank.Receive v i small = simp or_false (simp or_false at (four_queues v i small))
 with_four bank.Transmit v i small = simp or_false (simp or_false at (four_queues v i small))
-with_four bank.Interrupts v i small = refl
 with_four bank.VfInterrupts v i small = or_false (v == i) ∙ turned v i
 with_four bank.Pool v i small = or_false (v == i) ∙ turned v i
 with_four bank.VfCounters v i small = or_false (v == i) ∙ turned v i
 with_four bank.Vectors v i small = two_vectors v i small
+with_four other v i small = refl
 
 with_two : (b : Bank) (v i : ℕ) → v < 64
     → (own_has v b i
     || ((queue_has (v * 2) b i || (queue_has (v * 2 + 1) b i || false)) || (vectors_has (v * 2 / 2) b i || false)))
     ≡ is_of_pool_by b Pools64 v i
-with_two bank.Device v i small = refl
-with_two bank.Counters v i small = refl
 with_two bank.Receive v i small = simp or_false (simp or_false at (two_queues v i small))
 with_two bank.Transmit v i small = simp or_false (simp or_false at (two_queues v i small))
-with_two bank.Interrupts v i small = refl
 with_two bank.VfInterrupts v i small = or_false (v == i) ∙ turned v i
 with_two bank.Pool v i small = or_false (v == i) ∙ turned v i
 with_two bank.VfCounters v i small = or_false (v == i) ∙ turned v i
 with_two bank.Vectors v i small = one_vector v i small
+with_two other v i small = refl
 
 same_none : (mode : Mode) (v : ℕ) → ((queue : ℕ) → has_queue mode v queue ≡ false)
     → IsSame (whole v None) (of_pool mode v)

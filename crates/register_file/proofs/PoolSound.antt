@@ -47,17 +47,11 @@ small r mode v sound p =
 -- what is pending of another group isn't the pool's
 not_of_pool : (b : Bank) (mode : Mode) (v i : ℕ) (g : Group) → owner.Group g ≡ owner_in b i → is_group (Vf v) g ≡ false
     → is_of_pool_by b mode v i ≡ false
-not_of_pool bank.Device mode v i g e n = refl
-not_of_pool bank.Counters mode v i g e n = refl
-not_of_pool bank.Receive mode v i g e n = cc
-not_of_pool bank.Transmit mode v i g e n = cc
 not_of_pool bank.Interrupts mode v i g e n = refl
 not_of_pool bank.VfInterrupts mode v i g e n =
     let same : g ≡ Vf i = cc in
     turned i v ∙ ap (is_group (Vf v)) (sym same) ∙ n
-not_of_pool bank.Pool mode v i g e n = cc
-not_of_pool bank.VfCounters mode v i g e n = cc
-not_of_pool bank.Vectors mode v i g e n = cc
+not_of_pool other mode v i g e n = cc
 
 others_miss : (mode : Mode) (v : ℕ) (g : Group) → is_group (Vf v) g ≡ false → Misses (of_pool mode v) (pending g)
 others_miss mode v g n = misses-within (of_pool mode v) (of_group g) (pending g) (covers-pending g) (record {

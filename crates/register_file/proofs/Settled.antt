@@ -44,17 +44,9 @@ settled-of_words g causes enabled auto_clear auto_mask told =
 settle : (s : Interrupts) (causes enabled told : BitSet) → IsConsistent s → IsSubset causes (group_bits s.group)
     → IsSubset enabled (group_bits s.group) → causes < 2 ^ 32 → enabled < 2 ^ 32 → IsSettled
     (settled s causes enabled told)
-settle s causes enabled told c causes_exist masks_exist small_causes small_enabled = record {
-  consistent = record {
-    causes_exist = causes_exist;
-    masks_exist = masks_exist;
-    auto_clear_exists = c.auto_clear_exists;
-    auto_mask_exists = c.auto_mask_exists;
-    told_is_pending = IsSubset-intersection_right told _ _ (IsSubset-itself _);
-  };
-  causes = small_causes;
-  enabled = small_enabled;
-}
+settle s causes enabled told c causes_exist masks_exist small_causes small_enabled =
+    let both = intersection causes enabled in
+    assumption (IsSubset-intersection_right told both both (IsSubset-itself both))
 
 module _ (s : Interrupts) (is : IsSettled s) where
   fewer : (set gone : BitSet) → IsSubset set (group_bits s.group) → IsSubset (difference set gone) (group_bits s.group)

@@ -1,9 +1,10 @@
 -- Registers keep their shape.
 use Rattle.std.proofs.Common.{◌≡◌, ℕ, ◌<◌, Bool, false, length, ap, sym, ◌∙◌, subst}
-use Rattle.std.specs.Prelude.{replicate}
+use Rattle.std.specs.Prelude.{replicate, set}
 use Rattle.std.proofs.lemmas.List.{length-map, length-set, length-replicate}
 use Rattle.reg_table.specs.Rows.{row_of, rows, number_of}
 use Rattle.reg_table.specs.declared.place.Place.{Place}
+use Rattle.reg_table.specs.declared.rows.RowId.{RowId}
 use Rattle.intr_unit.specs.Interrupts.{Interrupts}
 use Rattle.intr_unit.specs.declared.group.Group.{Group}
 use Rattle.intr_unit.specs.declared.group.Group.TheVariants.{Pf, Vf}
@@ -11,7 +12,7 @@ use Rattle.register_file.specs.Columns.{place}
 use Rattle.register_file.specs.Groups.{cause_row, mask_row, index_of, with_told, with_interrupts}
 use Rattle.register_file.specs.Laws.{HasShape}
 use Rattle.register_file.specs.Registers.{Registers, reset_registers, with_wanted}
-use Rattle.register_file.specs.Words.{word_at, put, reset_words}
+use Rattle.register_file.specs.Words.{word_at, put, row_words, reset_words}
 use Rattle.register_file.specs.declared.dir.Dir.{Dir}
 use Rattle.register_file.specs.declared.dir.Dir.TheVariants.{Rx, Tx}
 use Rattle.register_file.proofs.Puts.{number_small, word_at-put_same, length-row_words-put, row_words-reset}
@@ -34,46 +35,20 @@ HasShape-reset = record {
 }
 
 pub HasShape-put : (r : Registers) (p : Place) (v : ℕ) → HasShape r → HasShape (record r { words = put r.words p v })
-HasShape-put r p v h = record {
-  has_rows = length-set r.words (number_of p.row) _ ∙ h.has_rows;
-  has_indices = λ row. length-row_words-put r.words p v row ∙ h.has_indices row;
-  wanted_rx = h.wanted_rx;
-  wanted_tx = h.wanted_tx;
-  told_vf = h.told_vf;
-}
+HasShape-put r p v h =
+    assumption (
+      length-set r.words (number_of p.row) (set (row_words r.words p.row) p.index v) ∙ h.has_rows,
+      λ (row : RowId). length-row_words-put r.words p v row ∙ h.has_indices row,
+    )
 
 pub HasShape-with_wanted : (r : Registers) (dir : Dir) (queue : ℕ) (wanted : Bool) → HasShape r
     → HasShape (with_wanted r dir queue wanted)
-HasShape-with_wanted r Rx queue wanted h = record {
-  has_rows = h.has_rows;
-  has_indices = h.has_indices;
-  wanted_rx = length-set r.wanted_rx queue wanted ∙ h.wanted_rx;
-  wanted_tx = h.wanted_tx;
-  told_vf = h.told_vf;
-}
-HasShape-with_wanted r Tx queue wanted h = record {
-  has_rows = h.has_rows;
-  has_indices = h.has_indices;
-  wanted_rx = h.wanted_rx;
-  wanted_tx = length-set r.wanted_tx queue wanted ∙ h.wanted_tx;
-  told_vf = h.told_vf;
-}
+HasShape-with_wanted r Rx queue wanted h = assumption (length-set r.wanted_rx queue wanted ∙ h.wanted_rx)
+HasShape-with_wanted r Tx queue wanted h = assumption (length-set r.wanted_tx queue wanted ∙ h.wanted_tx)
 
 pub HasShape-with_told : (r : Registers) (g : Group) (told : ℕ) → HasShape r → HasShape (with_told r g told)
-HasShape-with_told r Pf told h = record {
-  has_rows = h.has_rows;
-  has_indices = h.has_indices;
-  wanted_rx = h.wanted_rx;
-  wanted_tx = h.wanted_tx;
-  told_vf = h.told_vf;
-}
-HasShape-with_told r (Vf v) told h = record {
-  has_rows = h.has_rows;
-  has_indices = h.has_indices;
-  wanted_rx = h.wanted_rx;
-  wanted_tx = h.wanted_tx;
-  told_vf = length-set r.told_vf v told ∙ h.told_vf;
-}
+HasShape-with_told r Pf told h = assumption
+HasShape-with_told r (Vf v) told h = assumption (length-set r.told_vf v told ∙ h.told_vf)
 
 pub HasShape-with_interrupts : (r : Registers) (s : Interrupts) → HasShape r → HasShape (with_interrupts r s)
 HasShape-with_interrupts r s h =

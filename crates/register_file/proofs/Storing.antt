@@ -1,5 +1,5 @@
 -- Which words rows keep, once bits of a write were stored in them.
-use Rattle.std.proofs.Common.{◌≡◌, ℕ, ◌<◌, true, max, min, bit_and, bit_or, eqb, refl, ap, ◌∙◌, sym, ◌⊎◌, inl, inr, arith}
+use Rattle.std.proofs.Common.{◌≢◌, ◌≡◌, ℕ, ◌<◌, true, max, min, bit_and, bit_or, eqb, refl, ap, ◌∙◌, sym, ◌⊎◌, inl, inr, arith}
 use Rattle.std.specs.Int.{bit_at}
 use Rattle.std.proofs.lemmas.Nat.Bits.{bit_at_and, bit_at_or, bit_at-lt}
 use Rattle.std.proofs.lemmas.Bool.Decides.{nat_tests}
@@ -57,17 +57,16 @@ still_word Pvteiac index view old word h = stored_within old _ word 7 view (grou
 still_word Pvteiam index view old word h = stored_within old _ word 7 view (group_bits (Vf index)) (vf_mask index) h
 still_word other index view old word h = tt
 
--- any word is one of a counter
+-- any word is one of a row that isn't written as it is
+pub other_word : (row : RowId) (index word : ℕ) → (row_of row).kind ≢ kind.Rw → IsWordOf row index word
+other_word Eiac index word n = absurd (n refl)
+other_word Eiam index word n = absurd (n refl)
+other_word Pvteiac index word n = absurd (n refl)
+other_word Pvteiam index word n = absurd (n refl)
+other_word other index word n = tt
+
 pub counter_word : (row : RowId) (index word : ℕ) → (row_of row).kind ≡ kind.Rc → IsWordOf row index word
-counter_word Eiac index word h = absurd (cc)
-counter_word Eiam index word h = absurd (cc)
-counter_word Pvteiac index word h = absurd (cc)
-counter_word Pvteiam index word h = absurd (cc)
-counter_word other index word h = tt
+counter_word row index word h = other_word row index word (λ e. cc)
 
 pub read_only_word : (row : RowId) (index word : ℕ) → (row_of row).kind ≡ kind.Ro → IsWordOf row index word
-read_only_word Eiac index word h = absurd (cc)
-read_only_word Eiam index word h = absurd (cc)
-read_only_word Pvteiac index word h = absurd (cc)
-read_only_word Pvteiam index word h = absurd (cc)
-read_only_word other index word h = tt
+read_only_word row index word h = other_word row index word (λ e. cc)

@@ -48,13 +48,8 @@ within-message_made r g = within-change r g _ (change-message_made r g)
 -- accesses
 within_group : (r : Registers) (change : Group → Registers) → ((g : Group) → GroupChange r g (change g))
     → (o : Owner) → ChangesWithin (pending_of o) r (option_map_or change (group_in o) r)
-within_group r change each owner.Device = within-refl nothing r
-within_group r change each owner.Counters = within-refl nothing r
-within_group r change each (owner.Side dir queue) = within-refl nothing r
 within_group r change each (owner.Group g) = within-change r g (change g) (each g)
-within_group r change each (owner.Pool number) = within-refl nothing r
-within_group r change each (owner.VfCounters number) = within-refl nothing r
-within_group r change each (owner.Vectors number) = within-refl nothing r
+within_group r change each other = within-refl nothing r
 
 read_within : (k : Kind) (r : Registers) (p : Place) → ChangesWithin (read_by k p) r (after_read k r p)
 read_within kind.Rc r p = within-put (the_word p) r p 0 (is_place-itself p)

@@ -1,0 +1,146 @@
+-- What is counted of virtual functions: each such word after a part of a step.
+use Rattle.std.proofs.Common.{◌≡◌, ◌≢◌, ◌+◌, ◌%◌, ◌^◌, ◌<◌, ◌≤◌, ℕ, false, List, Option, Some, None, refl, ap, sym, ◌∙◌, arith}
+use Rattle.std.specs.Prelude.{◌&&◌, IfSome, nat_lt}
+use Rattle.std.proofs.lemmas.Bool.{cond_both, ltb-true}
+use Rattle.reg_table.specs.Rows.{row_of}
+use Rattle.reg_table.specs.declared.bank.Bank.TheVariants as bank
+use Rattle.reg_table.specs.declared.bank.Bank.TheVariants.{Counters, VfCounters}
+use Rattle.reg_table.specs.declared.place.Place.{Place}
+use Rattle.reg_table.specs.declared.rows.RowId.{RowId}
+use Rattle.reg_table.specs.declared.rows.RowId.TheVariants.{GcrExt, Gptc, Qprc, Qptc, Rdh, Tdh, Vfgprc, Vfgptc}
+use Rattle.intr_unit.specs.declared.group.Group.{Group}
+use Rattle.intr_unit.specs.declared.group.Group.TheVariants as group
+use Rattle.vf_map.specs.Pools.{mode_of, pool_of}
+use Rattle.register_file.specs.Columns.{place}
+use Rattle.register_file.specs.Counters.{counted, counter_of}
+use Rattle.register_file.specs.Footprint.{is_place, pending}
+use Rattle.register_file.specs.Groups.{causes_raised}
+use Rattle.register_file.specs.Owner.{owner_in, owner_of, is_owner}
+use Rattle.register_file.specs.Queue.{with_head, shut}
+use Rattle.register_file.specs.Registers.{Registers}
+use Rattle.register_file.specs.Sound.{HasShape}
+use Rattle.register_file.specs.Words.{word_at}
+use Rattle.register_file.specs.declared.dir.Dir.{Dir}
+use Rattle.register_file.specs.declared.dir.Dir.TheVariants.{Rx, Tx}
+use Rattle.register_file.specs.declared.owner.Owner.{Owner}
+use Rattle.register_file.specs.declared.owner.Owner.TheVariants as owner
+use Rattle.register_file.proofs.Covers.{fails, covers-pending}
+use Rattle.register_file.proofs.ReadBack.{one_place}
+use Rattle.register_file.proofs.Shape.{HasShape-put}
+use Rattle.register_file.proofs.Within.{within-causes_raised, within-counted, within-with_head, within-shut}
+use Rattle.rx_ring.specs.declared.filled.Filled.{Filled}
+use Rattle.tx_ring.specs.declared.fetched.Fetched.{Fetched}
+use Rattle.nic_device.specs.Interrupt.{function_in, function_of_queue, function_counted, device_raised, raised_by, fault_cause}
+use Rattle.nic_device.specs.Receive.{frame_counted, piece_done}
+use Rattle.nic_device.specs.Sound.{IsSound}
+use Rattle.nic_device.specs.State.{State}
+use Rattle.nic_device.specs.Transmit.{slot_counted, slot_reported, fetched_reply}
+use Rattle.nic_device.proofs.Cases.{either_way}
+use Rattle.device_laws.specs.FunctionCounting.{is_counter_of, function_sent, with_one_round}
+use Rattle.device_laws.proofs.Counting.{changed_there, either_end}
+
+-- the function of a queue is below 64
+function_few : (vfs : ℕ) (o : Option ℕ) → vfs ≤ 63 → IfSome (function_in vfs o) (λ v. v < 64)
+function_few vfs None few = tt
+function_few vfs (Some pool) few =
+    cond_both (nat_lt pool vfs) (Some pool) None (λ o. IfSome o (λ v. v < 64))
+    (λ both. let below = ltb-true pool vfs both in omega arith) (λ none. tt)
+
+few : (r : Registers) (vfs queue : ℕ) → vfs ≤ 63 → IfSome (function_of_queue r vfs queue) (λ v. v < 64)
+unfolding function_of_queue
+few r vfs queue small = function_few vfs _ small
+
+-- and the same where a head moved on
+same_function : (r : Registers) (vfs queue head : ℕ)
+    → function_of_queue (with_head r Rx queue head) vfs queue ≡ function_of_queue r vfs queue
+unfolding function_of_queue
+same_function r vfs queue head =
+    ap (λ w. function_in vfs (pool_of (mode_of w) queue)) ((within-with_head r Rx queue head).words (place GcrExt 0) refl)
+
+-- what is counted of functions is of no other owner, and at no place of another bank
+module _ (p : Place) (is : (row_of p.row).bank ≡ VfCounters) where
+  pub not_owned : (o : Owner) → is_owner o (owner.VfCounters p.index) ≡ false → is_owner o (owner_of p) ≡ false
+  not_owned o n = ap (λ b. is_owner o (owner_in b p.index)) is ∙ n
+
+  pub not_there : (q : Place) → (row_of q.row).bank ≢ VfCounters → is_place q p ≡ false
+  not_there q n = one_place q p (λ e. n (ap (λ (x : Place). (row_of x.row).bank) (sym e) ∙ is))
+
+  pub not_pending : (g : Group) → (pending g).words p ≡ false
+  not_pending g = fails _ _ ((covers-pending g).words p) (not_owned (owner.Group g) refl)
+
+  raised_keeps : (r : Registers) (g : Group) (bits : ℕ) → word_at (causes_raised r g bits).words p ≡ word_at r.words p
+  raised_keeps r g bits = (within-causes_raised r g bits).words p (not_pending g)
+
+  head_keeps : (r : Registers) (dir : Dir) (queue head : ℕ)
+      → word_at (with_head r dir queue head).words p ≡ word_at r.words p
+  head_keeps r Rx queue head =
+      (within-with_head r Rx queue head).words p (not_there (place Rdh queue) (λ (e : bank.Receive ≡ VfCounters). cc))
+  head_keeps r Tx queue head =
+      (within-with_head r Tx queue head).words p (not_there (place Tdh queue) (λ (e : bank.Transmit ≡ VfCounters). cc))
+
+  pub counted_keeps : (r : Registers) (row : RowId) (index : ℕ) → (row_of row).bank ≡ Counters
+      → word_at (counted r row index).words p ≡ word_at r.words p
+  counted_keeps r row index other =
+      (within-counted r row index).words p
+      (not_there (place row index) (λ e. let differ : Counters ≡ VfCounters = sym other ∙ e in cc))
+
+  pub failed_keeps : (r : Registers) (dir : Dir) (queue : ℕ)
+      → word_at (device_raised (shut r dir queue) fault_cause).words p ≡ word_at r.words p
+  failed_keeps r dir queue =
+      raised_keeps (shut r dir queue) group.Pf fault_cause
+      ∙ (within-shut r dir queue).words p (not_owned (owner.Side dir queue) refl)
+
+  -- one more of a function
+  function_there : (r : Registers) (o : Option ℕ) (row : RowId) → HasShape r → IfSome o (λ v. v < (row_of row).count)
+      → word_at (function_counted r o row).words p ≡ with_one_round (is_counter_of o row p) (word_at r.words p)
+  function_there r None row h small = refl
+  function_there r (Some v) row h small = changed_there (λ w. (w + 1) % 2 ^ 32) r row v h small p
+
+  -- a piece of a frame
+  pub piece_there : (r : Registers) (vfs queue : ℕ) (f : Filled) → HasShape r → vfs ≤ 63
+      → word_at (piece_done r vfs queue f).words p
+      ≡ with_one_round (f.end && is_counter_of (function_of_queue r vfs queue) Vfgprc p) (word_at r.words p)
+  unfolding raised_by
+  piece_there r vfs queue f h small =
+      let moved = with_head r Rx queue f.head in
+      let counter = counter_of moved Rx queue in
+      let o = function_of_queue r vfs queue in
+      let old = head_keeps r Rx queue f.head in
+      either_end f.end (λ b t. word_at t.words p
+      ≡ with_one_round (b && is_counter_of o Vfgprc p) (word_at r.words p))
+      (raised_by (frame_counted moved vfs queue) vfs Rx queue) moved
+      (raised_keeps (frame_counted moved vfs queue) _ _
+      ∙ function_there (counted moved Qprc counter) (function_of_queue moved vfs queue) Vfgprc
+      (HasShape-put moved (place Qprc counter) _ (HasShape-put r (place Rdh queue) f.head h)) (few moved vfs queue small)
+      ∙ (λ k. with_one_round (is_counter_of (same_function r vfs queue f.head k) Vfgprc p)
+      ((counted_keeps moved Qprc counter refl ∙ old) k)))
+      old
+
+  -- a fetched slot
+  slot_there : (s : State) (queue : ℕ) (f : Fetched) (o : Option (List ℕ)) → IsSound s
+      → word_at (slot_counted s.registers s.vfs queue f o).words p
+      ≡ with_one_round (function_sent s (fetched_reply queue f o) p) (word_at s.registers.words p)
+  slot_there s queue f (Some frame) h =
+      let moved = with_head s.registers Tx queue f.head in
+      let one = counted moved Gptc 0 in
+      let counter = counter_of s.registers Tx queue in
+      let v = function_of_queue s.registers s.vfs queue in
+      function_there (counted one Qptc counter) v Vfgptc
+      (HasShape-put one (place Qptc counter) _ (HasShape-put moved (place Gptc 0) _
+      (HasShape-put s.registers (place Tdh queue) f.head h.registers.shape)))
+      (few s.registers s.vfs queue h.vfs)
+      ∙ ap (with_one_round (is_counter_of v Vfgptc p))
+      (counted_keeps one Qptc counter refl ∙ counted_keeps moved Gptc 0 refl
+      ∙ head_keeps s.registers Tx queue f.head)
+  slot_there s queue f None h = head_keeps s.registers Tx queue f.head
+
+  pub reported_there : (s : State) (queue : ℕ) (f : Fetched) → IsSound s
+      → word_at (slot_reported s.registers s.vfs queue f).words p
+      ≡ with_one_round (function_sent s (fetched_reply queue f f.frame) p) (word_at s.registers.words p)
+  unfolding raised_by
+  reported_there s queue f h =
+      let t = slot_counted s.registers s.vfs queue f f.frame in
+      either_way (λ (u : Registers). word_at u.words p
+      ≡ with_one_round (function_sent s (fetched_reply queue f f.frame) p) (word_at s.registers.words p)) f.rs
+      (raised_by t s.vfs Tx queue) t (raised_keeps t _ _ ∙ slot_there s queue f f.frame h)
+      (slot_there s queue f f.frame h)

@@ -1,0 +1,126 @@
+-- Each event counts for virtual functions where its reply says, and nowhere else.
+use Rattle.std.proofs.Common.{◌≡◌, ℕ, false, refl, ap, sym, ◌∙◌}
+use Rattle.std.specs.Prelude.{cond, ◌==◌, ◌&&◌, IsFalse}
+use Rattle.std.proofs.lemmas.Bool.{cond_both, or_parts}
+use Rattle.dma_arena.specs.Block.{Block}
+use Rattle.reg_table.specs.Rows.{row_of}
+use Rattle.reg_table.specs.declared.bank.Bank.TheVariants as bank
+use Rattle.reg_table.specs.declared.bank.Bank.TheVariants.{VfCounters}
+use Rattle.reg_table.specs.declared.place.Place.{Place}
+use Rattle.reg_table.specs.declared.rows.RowId.{RowId}
+use Rattle.reg_table.specs.declared.rows.RowId.TheVariants.{Eerd, Qprdc, Vfgprc, Vfgptc}
+use Rattle.intr_unit.specs.declared.group.Group.TheVariants as group
+use Rattle.vf_map.specs.Owner.{is_of_pool_by}
+use Rattle.vf_map.specs.declared.mode.Mode.{Mode}
+use Rattle.register_file.specs.Access.{asks_reset, asks_pool_reset}
+use Rattle.register_file.specs.Columns.{place}
+use Rattle.register_file.specs.Counters.{counter_of}
+use Rattle.register_file.specs.Footprint.{of_read, of_write}
+use Rattle.register_file.specs.Owner.{owner_of}
+use Rattle.register_file.specs.Pools.{mode_in}
+use Rattle.register_file.specs.Words.{word_at}
+use Rattle.register_file.specs.declared.dir.Dir.{Dir}
+use Rattle.register_file.specs.declared.dir.Dir.TheVariants.{Rx, Tx}
+use Rattle.register_file.specs.declared.owner.Owner.TheVariants as owner
+use Rattle.register_file.proofs.Covers.{fails, covers-of_read, covers-of_write}
+use Rattle.nic_device.specs.Footprint.{Reach, read_reach, write_reach, reset_reach, below_reset_reach, pool_reach, in_registers, switch_reach}
+use Rattle.nic_device.specs.Named.{named}
+use Rattle.nic_device.specs.Outcome.{Outcome}
+use Rattle.nic_device.specs.Receive.{received}
+use Rattle.nic_device.specs.Sound.{IsSound}
+use Rattle.nic_device.specs.State.{State}
+use Rattle.nic_device.specs.Step.{step_of}
+use Rattle.nic_device.specs.Transmit.{transmitted}
+use Rattle.nic_device.specs.declared.event.Event.{Event}
+use Rattle.nic_device.specs.declared.event.Event.TheVariants as event
+use Rattle.nic_device.specs.declared.named.Named.{Named}
+use Rattle.nic_device.specs.declared.named.Named.TheVariants.{Nothing, Register}
+use Rattle.nic_device.proofs.QueueCases.{received_cases, transmitted_cases}
+use Rattle.device_laws.specs.FunctionCounting.{counts_for_function, with_one_round, resets_count, EventsCountForFunctions}
+use Rattle.device_laws.proofs.FunctionCounting.{not_owned, not_there, not_pending, counted_keeps, failed_keeps, piece_there, reported_there}
+use Rattle.device_laws.proofs.Missed.{neither}
+use Rattle.device_laws.proofs.Standing.{stays_within}
+
+-- what an outcome of an event counts for functions
+abbrev Counts : State → Event Block → Outcome → Type 0
+Counts s e o =
+    (p : Place) → (row_of p.row).bank ≡ VfCounters
+    → word_at o.state.registers.words p
+    ≡ with_one_round (counts_for_function s e o.reply p) (word_at s.registers.words p)
+
+received_counts : (s : State) → IsSound s → Counts s event.RxStep (received s)
+received_counts s h = received_cases (Counts s event.RxStep) s (record {
+  idle = λ p is. refl;
+  dropped = λ w others e why p is. refl;
+  slotless = λ w others e p is. counted_keeps p is s.registers Qprdc (counter_of s.registers Rx w.queue) refl;
+  fault = λ w others e fault p is. failed_keeps p is s.registers Rx w.queue;
+  filled = λ w others e f made p is. piece_there p is s.registers s.vfs w.queue f h.registers.shape h.vfs;
+})
+
+transmitted_counts : (s : State) (queue : ℕ) → IsSound s → Counts s (event.TxStep queue) (transmitted s queue)
+transmitted_counts s queue h = transmitted_cases (Counts s (event.TxStep queue)) s queue (record {
+  none = λ p is. refl;
+  idle = λ p is. refl;
+  fault = λ fault p is. failed_keeps p is s.registers Tx queue;
+  fetched = λ f made p is. reported_there p is s queue f h;
+})
+
+-- accesses
+module _ (p : Place) (is : (row_of p.row).bank ≡ VfCounters) where
+  not_read : (row : RowId) (index : ℕ) → (of_read (place row index)).words p ≡ false
+  not_read Vfgprc index = refl
+  not_read Vfgptc index = refl
+  not_read other index =
+      fails _ _ ((covers-of_read (place other index)).words p) (not_owned p is (owner_of (place other index)) refl)
+
+  not_written : (row : RowId) (index : ℕ) → (of_write (place row index)).words p ≡ false
+  not_written Vfgprc index = refl
+  not_written Vfgptc index = refl
+  not_written other index =
+      fails _ _ ((covers-of_write (place other index)).words p) (not_owned p is (owner_of (place other index)) refl)
+
+  read_misses : (m : Named) → (read_reach m).registers.words p ≡ false
+  read_misses (Nothing seen) = refl
+  read_misses (Register q view) = not_read q.row q.index
+
+  write_misses : (mode : Mode) (m : Named) (word : ℕ)
+      → ((q : Place) (view : ℕ) → m ≡ Register q view → IsFalse (resets_count q word p))
+      → (write_reach mode m word).registers.words p ≡ false
+  write_misses mode (Nothing seen) word none = refl
+  write_misses mode (Register q view) word none =
+      let asks = asks_pool_reset (row_of q.row).kind word in
+      let parts = or_parts (asks_reset (row_of q.row).kind word) (asks && p.index == q.index) (none q view refl) in
+      ap (λ b. (cond b reset_reach (below_reset_reach mode q word)).registers.words p) parts.0
+      ∙ cond_both asks (pool_reach mode q.index) (in_registers (of_write q))
+      (λ (r : Reach). r.registers.words p ≡ false)
+      (λ pool. ap (λ b. is_of_pool_by b mode q.index p.index) is
+      ∙ sym (ap (λ b. b && p.index == q.index) pool) ∙ parts.1)
+      (λ plain. not_written q.row q.index)
+
+  switch_misses : (dir : Dir) (queue : ℕ) → (switch_reach dir queue).registers.words p ≡ false
+  switch_misses Rx queue = not_owned p is (owner.Side Rx queue) refl
+  switch_misses Tx queue = not_owned p is (owner.Side Tx queue) refl
+
+-- every event
+pub events_count_for_functions : EventsCountForFunctions
+unfolding step_of
+events_count_for_functions s h (event.Read port n) p is keeps =
+    (stays_within s (event.Read port n)).registers.words p (read_misses p is (named s port n))
+events_count_for_functions s h (event.Write port n word) p is keeps =
+    (stays_within s (event.Write port n word)).registers.words p
+    (write_misses p is (mode_in s.registers) (named s port n) word keeps)
+events_count_for_functions s h (event.Arrive frame) p is keeps =
+    (stays_within s (event.Arrive frame)).registers.words p
+    (neither _ _ (not_owned p is owner.Counters refl) (not_pending p is group.Pf))
+events_count_for_functions s h event.RxStep p is keeps = received_counts s h p is
+events_count_for_functions s h (event.TxStep queue) p is keeps = transmitted_counts s queue h p is
+events_count_for_functions s h (event.IntStep g) p is keeps =
+    (stays_within s (event.IntStep g)).registers.words p (not_pending p is g)
+events_count_for_functions s h (event.QueueStep dir queue) p is keeps =
+    (stays_within s (event.QueueStep dir queue)).registers.words p (switch_misses p is dir queue)
+events_count_for_functions s h event.EepromStep p is keeps =
+    (stays_within s event.EepromStep).registers.words p
+    (not_there p is (place Eerd 0) (λ (e : bank.Device ≡ VfCounters). cc))
+events_count_for_functions s h (event.Link up) p is keeps =
+    (stays_within s (event.Link up)).registers.words p (not_pending p is group.Pf)
+events_count_for_functions s h other p is keeps = (stays_within s other).registers.words p refl

@@ -1,0 +1,97 @@
+-- A due bit is told.
+use Rattle.std.proofs.Common.{◌≡◌, ℕ, ◌<◌, Bool, true, false, cond, subst, Option, Some, None, refl, ap, sym, ◌∙◌, arith}
+use Rattle.std.specs.Prelude.{is_some, nat_lt}
+use Rattle.std.proofs.lemmas.Bool.{and_parts, ltb-true}
+use Rattle.reg_table.specs.declared.rows.RowId.TheVariants.{IvarMisc}
+use Rattle.intr_unit.specs.Interrupts.{after_message, after_message_of, next_bit}
+use Rattle.intr_unit.specs.Laws.{Leaves, told_bits}
+use Rattle.intr_unit.specs.declared.group.Group.{Group}
+use Rattle.intr_unit.specs.declared.group.Group.TheVariants.{Pf, Vf}
+use Rattle.intr_unit.proofs.MessageLaws.{messages_tell, messages_change}
+use Rattle.vf_map.specs.Pools.{queues_of}
+use Rattle.register_file.specs.Groups.{cause_row, mask_row, auto_clear_row, auto_mask_row, index_of, told_by, interrupts_of, with_interrupts, message_of, message_made, masks_by_message}
+use Rattle.register_file.specs.Pools.{mode_in}
+use Rattle.register_file.specs.Registers.{Registers, word_of}
+use Rattle.register_file.specs.Settings.{is_stopped}
+use Rattle.register_file.specs.Sound.{HasShape}
+use Rattle.register_file.proofs.Settled.{settled-of_words, settled-after_message_of, intersection-lt}
+use Rattle.register_file.proofs.Standing.{interrupts_of-with_interrupts}
+use Rattle.nic_device.specs.Interrupt.{has_group, message_reply, messaged}
+use Rattle.nic_device.specs.Outcome.{Outcome, gives}
+use Rattle.nic_device.specs.Sound.{IsSound}
+use Rattle.nic_device.specs.State.{State}
+use Rattle.nic_device.specs.Step.{step_of}
+use Rattle.nic_device.specs.declared.event.Event.TheVariants as event
+use Rattle.nic_device.specs.declared.event.Reply.TheVariants.{Idle, NoGroup}
+use Rattle.device_laws.specs.Messages.{is_due_in, SendsLowest, DueBitIsTold}
+
+-- the registers show what a message leaves of the group's interrupts
+
+shown : (r : Registers) (g : Group) (eiame : Bool) (next : Option ℕ) → HasShape r → index_of g < 64
+    → interrupts_of (with_interrupts r (after_message_of (interrupts_of r g) eiame next)) g
+    ≡ after_message_of (interrupts_of r g) eiame next
+shown r g eiame None h small =
+    let settled = settled-of_words g (word_of r (cause_row g) (index_of g)) (word_of r (mask_row g) (index_of g))
+    (word_of r (auto_clear_row g) (index_of g)) (word_of r (auto_mask_row g) (index_of g)) (told_by r g) in
+    interrupts_of-with_interrupts r h (interrupts_of r g) small settled.consistent settled.causes settled.enabled
+    (intersection-lt _ _)
+shown r g eiame (Some bit) h small =
+    let settled = settled-of_words g (word_of r (cause_row g) (index_of g)) (word_of r (mask_row g) (index_of g))
+    (word_of r (auto_clear_row g) (index_of g)) (word_of r (auto_mask_row g) (index_of g)) (told_by r g) in
+    let is = settled-after_message_of (interrupts_of r g) settled eiame (Some bit) in
+    interrupts_of-with_interrupts r h (after_message_of (interrupts_of r g) eiame (Some bit)) small is.consistent
+    is.causes is.enabled (intersection-lt _ _)
+
+-- a group that there is is one that registers have
+group_small : (s : State) (g : Group) → IsSound s → has_group s g ≡ true → index_of g < 64
+group_small s Pf h there = omega arith
+group_small s (Vf v) h there =
+    let parts = and_parts (nat_lt v s.vfs) (is_some (queues_of (mode_in s.registers) v)) there in
+    let below = ltb-true v s.vfs parts.0 in
+    let few = h.vfs in
+    omega arith
+
+made : (r : Registers) (g : Group) (vector : ℕ) → message_of r g ≡ Some vector
+    → message_made r g
+    ≡ with_interrupts r (after_message (interrupts_of r g) (masks_by_message r) (word_of r IvarMisc 0))
+made r g vector e =
+    ap (λ o. cond (is_some o)
+    (with_interrupts r (after_message (interrupts_of r g) (masks_by_message r) (word_of r IvarMisc 0))) r) e
+
+stepped : (s : State) (g : Group) → is_stopped s.registers ≡ false → has_group s g ≡ true
+    → cond (has_group s g) (messaged s g) (gives NoGroup s)
+    ≡ gives (message_reply g (message_of s.registers g)) (record s { registers = message_made s.registers g })
+stepped s g runs there =
+    ap (λ b. cond b (messaged s g) (gives NoGroup s)) there
+    ∙ ap (λ b. cond b (gives Idle s)
+    (gives (message_reply g (message_of s.registers g)) (record s { registers = message_made s.registers g }))) runs
+
+sends : (s : State) (g : Group) → IsSound s → is_stopped s.registers ≡ false → has_group s g ≡ true → (bit : ℕ)
+    → bit < 32 → is_due_in s.registers g bit → (o : Option ℕ) → message_of s.registers g ≡ o → SendsLowest s g
+unfolding step_of
+sends s g h runs there bit small due None none =
+    let idle = messages_tell.idle (interrupts_of s.registers g) (word_of s.registers IvarMisc 0) bit none small in
+    let differ : true ≡ false = sym due ∙ idle in
+    absurd (cc)
+sends s g h runs there bit small due (Some vector) is =
+    let r = s.registers in
+    let i = interrupts_of r g in
+    let misc = word_of r IvarMisc 0 in
+    let eiame = masks_by_message r in
+    let told = messages_tell.told i misc vector is in
+    let step = stepped s g runs there in
+    let left : interrupts_of (step_of s (event.IntStep g)).state.registers g ≡ after_message i eiame misc =
+    ap (λ (o : Outcome). interrupts_of o.state.registers g) step
+    ∙ ap (λ t. interrupts_of t g) (made r g vector is)
+    ∙ shown r g eiame (next_bit i misc) h.registers.shape (group_small s g h there) in
+    record {
+      vector = vector;
+      bit = told.0;
+      reply = ap (λ (o : Outcome). o.reply) step ∙ ap (message_reply g) is;
+      lowest = told.1;
+      leaves = subst (λ n. Leaves i n (told_bits i eiame told.0)) (sym left)
+          (messages_change.told i eiame misc vector told.0 told.1);
+    }
+
+pub due_told : DueBitIsTold
+due_told s h runs g there bit small due = sends s g h runs there bit small due (message_of s.registers g) refl

@@ -1,0 +1,67 @@
+-- Which counters of virtual functions an event counts in, by its reply.
+use Rattle.std.specs.Prelude.{ℕ, ◌≡◌, ◌+◌, ◌%◌, ◌^◌, ◌==◌, Bool, false, ◌&&◌, ◌||◌, ⊤, IsFalse, Option, Some, None, if◌then◌else◌}
+use Rattle.dma_arena.specs.Block.{Block}
+use Rattle.reg_table.specs.Rows.{row_of}
+use Rattle.reg_table.specs.declared.bank.Bank.TheVariants.{VfCounters}
+use Rattle.reg_table.specs.declared.place.Place.{Place}
+use Rattle.reg_table.specs.declared.rows.RowId.{RowId}
+use Rattle.reg_table.specs.declared.rows.RowId.TheVariants.{Vfgprc, Vfgptc}
+use Rattle.register_file.specs.Access.{asks_reset, asks_pool_reset}
+use Rattle.register_file.specs.Columns.{place}
+use Rattle.register_file.specs.Footprint.{is_place}
+use Rattle.register_file.specs.Words.{word_at}
+use Rattle.nic_device.specs.Interrupt.{function_of_queue}
+use Rattle.nic_device.specs.Named.{named}
+use Rattle.nic_device.specs.Sound.{IsSound}
+use Rattle.nic_device.specs.State.{State}
+use Rattle.nic_device.specs.Step.{after, reply_to}
+use Rattle.nic_device.specs.declared.event.Event.{Event}
+use Rattle.nic_device.specs.declared.event.Event.TheVariants as event
+use Rattle.nic_device.specs.declared.event.Reply.{Reply}
+use Rattle.nic_device.specs.declared.event.Reply.TheVariants.{Wrote, Sent}
+use Rattle.nic_device.specs.declared.named.Named.TheVariants.{Register}
+
+-- whether a place is the counter in a row of a function, where there is one
+abbrev pub is_counter_of : Option ℕ → RowId → Place → Bool
+is_counter_of None row p = false
+is_counter_of (Some v) row p = is_place (place row v) p
+
+-- a step of receiving: VFGPRC counts a frame that is written to its end, for the function whose pool has the queue
+abbrev pub function_received : State → Reply Block → Place → Bool
+function_received s (Wrote queue slot end desc at len) p =
+    end && is_counter_of (function_of_queue s.registers s.vfs queue) Vfgprc p
+function_received s other p = false
+
+-- a step of transmitting: VFGPTC counts a frame that goes out, for the function whose pool has the queue
+abbrev pub function_sent : State → Reply Block → Place → Bool
+function_sent s (Sent queue len back) p = is_counter_of (function_of_queue s.registers s.vfs queue) Vfgptc p
+function_sent s other p = false
+
+-- whether an event counts in the counter of a function at a place
+abbrev pub counts_for_function : State → Event Block → Reply Block → Place → Bool
+counts_for_function s event.RxStep reply p = function_received s reply p
+counts_for_function s (event.TxStep queue) reply p = function_sent s reply p
+counts_for_function s other reply p = false
+
+-- one more, where it is counted; the largest word is followed by 0
+abbrev pub with_one_round : Bool → ℕ → ℕ
+with_one_round counted word = if counted then (word + 1) % 2 ^ 32 else word
+
+-- whether a write of a place resets the counter at another: with the device, or with the function's pool
+abbrev pub resets_count : Place → ℕ → Place → Bool
+resets_count q word p =
+    asks_reset (row_of q.row).kind word || (asks_pool_reset (row_of q.row).kind word && p.index == q.index)
+
+-- an event that doesn't reset the counter
+abbrev pub KeepsFunctionCount : State → Place → Event Block → Type 0
+KeepsFunctionCount s p (event.Write port number word) =
+    (q : Place) (view : ℕ) → named s port number ≡ Register q view → IsFalse (resets_count q word p)
+KeepsFunctionCount s p other = ⊤
+
+-- an event counts one more in the counter of a function that it counts in, and leaves every other; a read changes none
+abbrev pub EventsCountForFunctions : Type 0
+EventsCountForFunctions =
+    (s : State) → IsSound s → (e : Event Block) (p : Place) → (row_of p.row).bank ≡ VfCounters →
+    KeepsFunctionCount s p e →
+    word_at (after s e).registers.words p
+    ≡ with_one_round (counts_for_function s e (reply_to s e) p) (word_at s.registers.words p)

@@ -1,0 +1,36 @@
+-- What a message of a group tells a driver, and when there is one.
+use Rattle.std.specs.Prelude.{ℕ, ◌≡◌, ◌<◌, IsTrue, IsFalse}
+use Rattle.reg_table.specs.declared.rows.RowId.TheVariants.{IvarMisc}
+use Rattle.intr_unit.specs.Interrupts.{is_due}
+use Rattle.intr_unit.specs.Laws.{IsMessageOf, Leaves, told_bits}
+use Rattle.intr_unit.specs.declared.group.Group.{Group}
+use Rattle.register_file.specs.Groups.{interrupts_of, masks_by_message}
+use Rattle.register_file.specs.Registers.{Registers, word_of}
+use Rattle.register_file.specs.Settings.{is_stopped}
+use Rattle.nic_device.specs.Interrupt.{has_group}
+use Rattle.nic_device.specs.Sound.{IsSound}
+use Rattle.nic_device.specs.State.{State}
+use Rattle.nic_device.specs.Step.{after, reply_to}
+use Rattle.nic_device.specs.declared.event.Event.TheVariants as event
+use Rattle.nic_device.specs.declared.event.Reply.TheVariants.{Message}
+
+-- whether a bit of a group is due: its cause and its mask are 1, it wasn't told, and it has a vector
+abbrev pub is_due_in : Registers → Group → ℕ → Type 0
+is_due_in r g bit = IsTrue (is_due (interrupts_of r g) (word_of r IvarMisc 0) bit)
+
+-- the step sends the vector of the lowest bit that is due, and tells that bit: its cause is cleared where the
+-- auto-clear has it, its mask where GPIE bit 30 is 1 and the auto-mask has it, and every other bit is as it was
+pub record SendsLowest (s : State) (g : Group) : Type 0 where
+  pub vector : ℕ
+  pub bit : ℕ
+  pub reply : reply_to s (event.IntStep g) ≡ Message g vector
+  pub lowest : IsMessageOf (interrupts_of s.registers g) (word_of s.registers IvarMisc 0) vector bit
+  pub leaves :
+      Leaves (interrupts_of s.registers g) (interrupts_of (after s (event.IntStep g)).registers g)
+      (told_bits (interrupts_of s.registers g) (masks_by_message s.registers) bit)
+
+-- in a running device a step of a group that there is sends a message where a bit is due
+abbrev pub DueBitIsTold : Type 0
+DueBitIsTold =
+    (s : State) → IsSound s → IsFalse (is_stopped s.registers) → (g : Group) → IsTrue (has_group s g) →
+    (bit : ℕ) → bit < 32 → is_due_in s.registers g bit → SendsLowest s g

@@ -1,0 +1,18 @@
+-- Queues whose pool doesn't send.
+use Rattle.std.specs.Prelude.{ℕ, ◌≡◌, ◌<◌, IsTrue, IsFalse, Some}
+use Rattle.vf_map.specs.Pools.{pool_of}
+use Rattle.register_file.specs.Pools.{mode_in, sends_frames}
+use Rattle.rx_filter.specs.Pools.{uses_pools}
+use Rattle.nic_device.specs.Outcome.{gives}
+use Rattle.nic_device.specs.State.{State}
+use Rattle.nic_device.specs.Step.{step_of}
+use Rattle.nic_device.specs.declared.event.Event.TheVariants as event
+use Rattle.nic_device.specs.declared.event.Reply.TheVariants.{Idle}
+
+-- while frames are parted among pools, a step of transmitting of a queue whose pool doesn't send is idle and changes
+-- nothing
+abbrev pub MutedQueueIsIdle : Type 0
+MutedQueueIsIdle =
+    (s : State) → IsTrue (uses_pools s.registers) → (queue pool : ℕ) → queue < 128 →
+    pool_of (mode_in s.registers) queue ≡ Some pool → IsFalse (sends_frames s.registers pool) →
+    step_of s (event.TxStep queue) ≡ gives Idle s

@@ -1,3 +1,4 @@
+pub mod Alone
 pub mod Closing
 pub mod Fault
 pub mod History
@@ -5,3 +6,4 @@ pub mod Kept
 pub mod Laws
 pub mod Pass
 pub mod Positions
+pub mod Watching

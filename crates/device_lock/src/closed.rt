@@ -1,9 +1,11 @@
-ghost use Rattle.std.specs.Prelude.{◌≡◌, IfOk, IfErr};
+ghost use Rattle.std.specs.Prelude.{◌≡◌, ◌↔◌, IsTrue, IfOk, IfErr};
 ghost use Rattle.nic_device.specs.State.{new_state};
+ghost use Rattle.device_lock.specs.Alone.{LeavesAlone};
 ghost use Rattle.device_lock.specs.Closing.{Answers, Closes, IsRefused};
 ghost use Rattle.device_lock.specs.History.{leads_to, IsLegal, AllBelow};
 ghost use Rattle.device_lock.specs.Positions.{positions_of};
 
+use crate::alone::{Watched, left_alone};
 use crate::compare::{are_all, lowest_mismatch, lowest_missing};
 use crate::entry::Entry;
 use crate::fault::CloseFault;
@@ -49,6 +51,19 @@ impl<const VFS: u8, const FIFO: u16> Closed<VFS, FIFO> {
         ensures { IfOk result (λ places. places.items ≡ positions_of tag self.now.history) }
     {
         positions(alloc, self.locked.history(), tag)
+    }
+
+    /// Whether the history leaves a queue of the device alone, whose driver has the pass of this tag: `left_alone` says what
+    /// that is. It waits for nobody, and asks for no memory.
+    pub fn left_alone(&self, pass: u8, queue: u16) -> bool
+        ensures { IsTrue result ↔ LeavesAlone (record { vfs = VFS; pass = pass; queue = queue }) self.now.history }
+    {
+        let watched = Watched {
+            vfs: VFS,
+            pass,
+            queue,
+        };
+        left_alone(watched, self.locked.history())
     }
 
     /// The device, where the history led it.

@@ -7,6 +7,7 @@
 //! driver and the threads of the bench stand on this crate.
 #![tactic(auto)]
 
+mod alone;
 mod closed;
 mod compare;
 mod entry;
@@ -17,6 +18,7 @@ mod pass;
 mod positions;
 mod shared;
 
+pub use alone::{Watched, left_alone};
 pub use closed::Closed;
 pub use entry::{Call, Entry};
 pub use fault::{CallFault, CloseFault, NewFault};

@@ -1,0 +1,272 @@
+//! Whether a history leaves a queue alone: what others did to it, once its driver had begun.
+
+ghost use Rattle.std.specs.Prelude.{◌≡◌, ◌↔◌, ◌==◌, ◌||◌, not, ℕ, IsTrue, IfSome, IfNone, false};
+ghost use Rattle.vf_map.specs.Owner.{has_queue};
+ghost use Rattle.vf_map.specs.declared.mode.Mode.TheVariants.{Off};
+ghost use Rattle.device_lock.specs.Alone.{LeavesAlone, is_setting, place_at, mode_set, mode_written, mode_after, lends, lent_in, lent_by};
+ghost use Rattle.device_lock.specs.Watching.{marked, spares, spares_if_some, leaves_registers, leaves_blocks, touched, is_clear, writes_outside, leaves_alone, rest_leaves_alone};
+
+use crate::entry::Entry;
+use dma_arena::BLOCK_NUMBERS;
+use nic_device::{Event, EventNote, Port, Reply, ReplyNote};
+use reg_table::{Bank, Place, RowId, bank_of, place_of};
+use register_file::{asks_pool_reset, asks_reset};
+use vf_map::{Located, Mode, locate, mode_of, pool_of};
+
+/// How many bytes a block of packet memory has.
+const BLOCK: u64 = 2048;
+
+/// For each number of a block, whether it is marked.
+type Blocks = [bool; BLOCK_NUMBERS as usize];
+
+/// Whose queue it is.
+#[derive(Clone, Copy)]
+pub struct Watched {
+    /// How many virtual functions the device has.
+    pub vfs: u8,
+    /// The tag of the pass of the queue's driver.
+    pub pass: u8,
+    /// The number of the queue, of all 128 of the device.
+    pub queue: u16,
+}
+
+/// The register that a number names at a port, while the queues are parted by a mode.
+fn place_at(mode: Mode, vfs: u8, port: Port, number: u32) -> Option<Place>
+    ensures { result ≡ place_at mode vfs port number }
+{
+    match port {
+        Port::Pf => place_of(number),
+        Port::Vf(v) => match locate(mode, vfs, v, number) {
+            Located::Absent | Located::Hole => None,
+            Located::Register(place) => Some(place),
+        },
+    }
+}
+
+/// The mode after a write.
+fn mode_written(mode: Mode, place: Option<Place>, word: u32) -> Mode
+    ensures { result ≡ mode_written mode place word }
+{
+    match place {
+        None => mode,
+        Some(place) => mode_set(mode, place, word),
+    }
+}
+
+/// The mode after a write of a register.
+fn mode_set(mode: Mode, place: Place, word: u32) -> Mode
+    ensures { result ≡ mode_set mode place.row word }
+{
+    match place.row {
+        RowId::GcrExt => mode_of(word),
+        RowId::Ctrl if asks_reset(place, word) => Mode::Off,
+        _ => mode,
+    }
+}
+
+/// The mode after an event.
+fn mode_after(vfs: u8, mode: Mode, event: &EventNote) -> Mode
+    ensures { result ≡ mode_after vfs mode event.now }
+{
+    match event {
+        Event::Write(port, number, word) => {
+            mode_written(mode, place_at(mode, vfs, *port, *number), *word)
+        }
+        _ => mode,
+    }
+}
+
+/// Whether a driver rests on this register of the whole device.
+fn is_setting(row: RowId) -> bool
+    ensures { result ≡ is_setting row }
+{
+    matches!(
+        row,
+        RowId::Ctrl | RowId::Hlreg0 | RowId::Maxfrs | RowId::GcrExt
+    )
+}
+
+/// Whether a write of a register changes nothing that the queue rests on.
+fn spares(queue: u16, mode: Mode, place: Place, word: u32) -> bool
+    ensures { result ≡ spares queue mode place word }
+{
+    let is_side = matches!(bank_of(place.row), Bank::Receive | Bank::Transmit);
+    let resets = asks_pool_reset(place, word) && has_queue(mode, place.index, queue);
+    !is_setting(place.row) && !(is_side && place.index == queue) && !resets
+}
+
+/// Whether a pool has a queue.
+fn has_queue(mode: Mode, pool: u16, queue: u16) -> bool
+    ensures { result ≡ has_queue mode pool queue }
+{
+    match pool_of(mode, queue) {
+        None => false,
+        Some(number) => u16::from(number) == pool,
+    }
+}
+
+/// Whether an event writes no register that the queue rests on.
+fn leaves_registers(watched: Watched, mode: Mode, event: &EventNote) -> bool
+    ensures { result ≡ leaves_registers watched mode event.now }
+{
+    match event {
+        Event::Write(port, number, word) => match place_at(mode, watched.vfs, *port, *number) {
+            None => true,
+            Some(place) => spares(watched.queue, mode, place, *word),
+        },
+        _ => true,
+    }
+}
+
+/// Whether a block is marked.
+fn is_marked(blocks: &Blocks, number: u64) -> bool
+    ensures { result ≡ marked blocks.now number }
+{
+    number < u64::from(BLOCK_NUMBERS) && blocks[number as usize]
+}
+
+/// Whether an event lends, takes or pokes none of the blocks.
+fn leaves_blocks(blocks: &Blocks, event: &EventNote) -> bool
+    ensures { result ≡ leaves_blocks (marked blocks.now) event.now }
+{
+    match event {
+        Event::Lend(note) => !is_marked(blocks, u64::from(note.number())),
+        Event::Take(number) => !is_marked(blocks, u64::from(*number)),
+        Event::Poke16(address, _) => !is_marked(blocks, u64::from(*address) / BLOCK),
+        _ => true,
+    }
+}
+
+/// How many blocks a range touches.
+fn touched(at: u64, len: u64) -> u64
+    ensures { result ≡ touched at len }
+{
+    if len == 0 {
+        0
+    } else {
+        (at % BLOCK + (len - 1) % BLOCK) / BLOCK + (len - 1) / BLOCK + 1
+    }
+}
+
+/// Whether a range touches none of the blocks.
+fn is_clear(blocks: &Blocks, at: u64, len: u64) -> bool
+    ensures { result ≡ is_clear (marked blocks.now) at len }
+{
+    let first = at / BLOCK;
+    for after in 0..touched(at, len) {
+        if is_marked(blocks, first + after) {
+            return false;
+        }
+    }
+    true
+}
+
+/// Whether what a step of another queue wrote is in none of the blocks.
+fn writes_outside(queue: u16, blocks: &Blocks, reply: &ReplyNote) -> bool
+    ensures { result ≡ writes_outside queue (marked blocks.now) reply.now }
+{
+    match reply {
+        Reply::Wrote {
+            queue: on,
+            desc,
+            at,
+            len,
+            ..
+        } => *on == queue || is_clear(blocks, *at, *len as u64) && is_clear(blocks, *desc, 16),
+        Reply::Advanced {
+            queue: on,
+            back: Some(back),
+            ..
+        }
+        | Reply::Sent {
+            queue: on,
+            back: Some(back),
+            ..
+        } => *on == queue || !is_marked(blocks, *back / BLOCK),
+        _ => true,
+    }
+}
+
+/// Whether an entry leaves the queue alone.
+fn leaves_alone(watched: Watched, blocks: &Blocks, mode: Mode, entry: &Entry) -> bool
+    ensures { result ≡ leaves_alone watched (marked blocks.now) mode entry.now }
+{
+    let own = entry.pass == watched.pass;
+    (own || leaves_registers(watched, mode, &entry.event) && leaves_blocks(blocks, &entry.event))
+        && writes_outside(watched.queue, blocks, &entry.reply)
+}
+
+/// The block that an entry lends.
+fn lends(entry: &Entry) -> Option<u32>
+    ensures none { IfNone result ((number : ℕ) → lends entry.now.event entry.now.reply number ≡ false) }
+    ensures some { IfSome result (λ block. (number : ℕ) → lends entry.now.event entry.now.reply number ≡ (block == number)) }
+{
+    match (&entry.event, &entry.reply) {
+        (Event::Lend(note), Reply::Done) => Some(note.number()),
+        _ => None,
+    }
+}
+
+/// Marks the block that an entry of the pass lends.
+fn mark(blocks: &mut Blocks, pass: u8, entry: &Entry)
+    ensures { (number : ℕ) → marked blocks.new number ≡ (marked blocks.old number || lent_in pass entry.now number) }
+{
+    if entry.pass == pass
+        && let Some(number) = lends(entry)
+        && number < BLOCK_NUMBERS
+    {
+        blocks[number as usize] = true;
+    }
+}
+
+/// The blocks that a pass lends in a history.
+fn lent_by(pass: u8, history: &[Entry]) -> Blocks
+    ensures { (number : ℕ) → marked result number ≡ lent_by pass history.now number }
+{
+    let mut blocks = [false; BLOCK_NUMBERS as usize];
+    for entry in history {
+        mark(&mut blocks, pass, entry);
+    }
+    blocks
+}
+
+/// Whether a history from a new device leaves a queue alone: each entry behind the first of its driver's pass writes no
+/// register of the queue, and no CTRL, HLREG0, MAXFRS or GCR_EXT, resets no pool that it is of, and keeps away from the blocks
+/// that the pass lends anywhere in the history. Entries of the pass itself may do all that, but no step of another queue may
+/// write into such a block, whoever makes it. No memory is asked for.
+pub fn left_alone(watched: Watched, history: &[Entry]) -> bool
+    ensures { IsTrue result ↔ LeavesAlone watched history.now }
+{
+    let blocks = lent_by(watched.pass, history);
+    are_left_alone(watched, &blocks, history)
+}
+
+/// The same, where the blocks are known.
+fn are_left_alone(watched: Watched, blocks: &Blocks, history: &[Entry]) -> bool
+    ensures { result ≡ rest_leaves_alone watched (marked blocks.now) Off false history.now }
+{
+    let mut mode = Mode::Off;
+    let mut begun = false;
+    for entry in history {
+        if !passes(watched, blocks, mode, begun, entry) {
+            return false;
+        }
+        mode = mode_after(watched.vfs, mode, &entry.event);
+        begun = has_begun(watched, begun, entry);
+    }
+    true
+}
+
+/// Whether an entry leaves the queue alone, or its driver hasn't begun.
+fn passes(watched: Watched, blocks: &Blocks, mode: Mode, begun: bool, entry: &Entry) -> bool
+    ensures { result ≡ (not begun || leaves_alone watched (marked blocks.now) mode entry.now) }
+{
+    !begun || leaves_alone(watched, blocks, mode, entry)
+}
+
+/// Whether the driver has begun, behind an entry.
+fn has_begun(watched: Watched, begun: bool, entry: &Entry) -> bool
+    ensures { result ≡ (begun || (entry.now.pass == watched.pass)) }
+{
+    begun || entry.pass == watched.pass
+}

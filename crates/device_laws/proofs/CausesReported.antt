@@ -46,7 +46,8 @@ slot_kept : (r : Registers) (vfs queue : ℕ) (f : Fetched) (o : Option (List �
     → interrupts_of (slot_counted r vfs queue f o) g ≡ interrupts_of r g
 slot_kept r vfs queue f (Some frame) g =
     let moved = with_head r Tx queue f.head in
-    function_kept (counted (counted moved Gptc 0) Qptc (counter_of r Tx queue)) (function_of_queue r vfs queue) Vfgptc refl g
+    function_kept (counted (counted moved Gptc 0) Qptc (counter_of r Tx queue)) (function_of_queue r vfs queue) Vfgptc
+    refl g
     ∙ word_kept (counted moved Gptc 0) (place Qptc (counter_of r Tx queue)) _ g refl
     ∙ word_kept moved (place Gptc 0) _ g refl ∙ head_kept r Tx queue f.head g
 slot_kept r vfs queue f None g = head_kept r Tx queue f.head g

@@ -55,7 +55,8 @@ same_function : (r : Registers) (vfs queue head : ℕ)
     → function_of_queue (with_head r Rx queue head) vfs queue ≡ function_of_queue r vfs queue
 unfolding function_of_queue
 same_function r vfs queue head =
-    ap (λ w. function_in vfs (pool_of (mode_of w) queue)) ((within-with_head r Rx queue head).words (place GcrExt 0) refl)
+    ap (λ w. function_in vfs (pool_of (mode_of w) queue))
+    ((within-with_head r Rx queue head).words (place GcrExt 0) refl)
 
 -- what is counted of functions is of no other owner, and at no place of another bank
 module _ (p : Place) (is : (row_of p.row).bank ≡ VfCounters) where
@@ -111,7 +112,8 @@ module _ (p : Place) (is : (row_of p.row).bank ≡ VfCounters) where
       (raised_by (frame_counted moved vfs queue) vfs Rx queue) moved
       (raised_keeps (frame_counted moved vfs queue) _ _
       ∙ function_there (counted moved Qprc counter) (function_of_queue moved vfs queue) Vfgprc
-      (HasShape-put moved (place Qprc counter) _ (HasShape-put r (place Rdh queue) f.head h)) (few moved vfs queue small)
+      (HasShape-put moved (place Qprc counter) _ (HasShape-put r (place Rdh queue) f.head h))
+      (few moved vfs queue small)
       ∙ (λ k. with_one_round (is_counter_of (same_function r vfs queue f.head k) Vfgprc p)
       ((counted_keeps moved Qprc counter refl ∙ old) k)))
       old

@@ -23,7 +23,7 @@ use Rattle.nic_device.specs.State.{State}
 use Rattle.nic_device.specs.Step.{step_of}
 use Rattle.nic_device.specs.declared.event.Event.TheVariants as event
 use Rattle.nic_device.specs.declared.event.Reply.TheVariants.{Idle, NoGroup}
-use Rattle.device_laws.specs.Messages.{is_due_in, SendsLowest, DueBitIsTold}
+use Rattle.device_laws.specs.Messages.{IsDueIn, SendsLowest, DueBitIsTold}
 
 -- the registers show what a message leaves of the group's interrupts
 
@@ -67,7 +67,7 @@ stepped s g runs there =
     (gives (message_reply g (message_of s.registers g)) (record s { registers = message_made s.registers g }))) runs
 
 sends : (s : State) (g : Group) → IsSound s → is_stopped s.registers ≡ false → has_group s g ≡ true → (bit : ℕ)
-    → bit < 32 → is_due_in s.registers g bit → (o : Option ℕ) → message_of s.registers g ≡ o → SendsLowest s g
+    → bit < 32 → IsDueIn s.registers g bit → (o : Option ℕ) → message_of s.registers g ≡ o → SendsLowest s g
 unfolding step_of
 sends s g h runs there bit small due None none =
     let idle = messages_tell.idle (interrupts_of s.registers g) (word_of s.registers IvarMisc 0) bit none small in

@@ -14,9 +14,9 @@ use Rattle.nic_device.specs.Step.{after, reply_to}
 use Rattle.nic_device.specs.declared.event.Event.TheVariants as event
 use Rattle.nic_device.specs.declared.event.Reply.TheVariants.{Message}
 
--- whether a bit of a group is due: its cause and its mask are 1, it wasn't told, and it has a vector
-abbrev pub is_due_in : Registers → Group → ℕ → Type 0
-is_due_in r g bit = IsTrue (is_due (interrupts_of r g) (word_of r IvarMisc 0) bit)
+-- a bit of a group is due: its cause and its mask are 1, it wasn't told, and it has a vector
+abbrev pub IsDueIn : Registers → Group → ℕ → Type 0
+IsDueIn r g bit = IsTrue (is_due (interrupts_of r g) (word_of r IvarMisc 0) bit)
 
 -- the step sends the vector of the lowest bit that is due, and tells that bit: its cause is cleared where the
 -- auto-clear has it, its mask where GPIE bit 30 is 1 and the auto-mask has it, and every other bit is as it was
@@ -33,4 +33,4 @@ pub record SendsLowest (s : State) (g : Group) : Type 0 where
 abbrev pub DueBitIsTold : Type 0
 DueBitIsTold =
     (s : State) → IsSound s → IsFalse (is_stopped s.registers) → (g : Group) → IsTrue (has_group s g) →
-    (bit : ℕ) → bit < 32 → is_due_in s.registers g bit → SendsLowest s g
+    (bit : ℕ) → bit < 32 → IsDueIn s.registers g bit → SendsLowest s g

@@ -73,8 +73,8 @@ pub fn events_count()
 {}
 
 /// VFGPRC of a virtual function counts the frames that are written to their end on a queue of the function's pool, and
-/// VFGPTC those that go out from one, where the device has the function. After 0xFFFFFFFF they begin again at 0. Nothing
-/// else changes them but a reset of the device or of the function's pool; a read doesn't.
+/// VFGPTC those that go out from one, where the device has the function. After 0xFFFFFFFF they begin again at 0.
+/// Nothing else changes them but a reset of the device or of the function's pool; a read doesn't.
 pub fn events_count_for_functions()
     ensures { EventsCountForFunctions }
 {}
@@ -256,7 +256,8 @@ pub fn vf_access_is_the_physical_functions()
 
 /// An access of a virtual function changes nothing but what is its pool's: words, wanted enables, told bits, staged
 /// bytes and waiting frames of its own queues; the frames of other pools keep their order. Two devices that agree
-/// there, in the number of functions, in GCR_EXT, in CTRL bit 2 and in the link give one reply to it, and agree there again.
+/// there, in the number of functions, in GCR_EXT, in CTRL bit 2 and in the link give one reply to it, and agree there
+/// again.
 pub fn vf_stays_in_its_pool()
     ensures changes { VfChangesItsPoolAlone }
     ensures agrees { VfSeesItsPoolAlone }

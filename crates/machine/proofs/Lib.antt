@@ -2,6 +2,7 @@ pub mod Steps
 pub mod Places
 pub mod Running
 pub mod Sharing
+pub mod Returning
 pub mod Leaving
 pub mod Moves
 pub mod Runs

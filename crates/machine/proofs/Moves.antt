@@ -14,7 +14,8 @@ use Rattle.nic_device.specs.declared.Reply.{Reply}
 use Rattle.nic_device.specs.declared.Reply.TheVariants.{Done}
 use Rattle.machine.specs.Board.{Holdings, AreShared, MovesNone, HasNone, CanReturn, arena_after, after_lend}
 use Rattle.machine.proofs.Leaving.{step_of-leaves}
-use Rattle.machine.proofs.Sharing.{own_shared, lent_away, free_not_lent, shared-taken, shared-lent, shared-same, with_free-back, taken_block}
+use Rattle.machine.proofs.Sharing.{own_shared, lent_away, free_not_lent, shared-taken, shared-lent, shared-same, with_free-back}
+use Rattle.machine.proofs.Returning.{taken_block}
 
 -- an event that moves no block
 

@@ -22,7 +22,8 @@ impl Device {
     pub fn run(&mut self, alloc: Global, mut events: Vec<Event>) -> Result<Vec<Reply>, RunStop>
         ensures replies { IfOk result (λ replies. replies.items ≡ replies_of self.old events.items) }
         ensures state { OnOk result (self.new ≡ state_after self.old events.items) }
-        ensures stopped { IfErr result (λ stop. IsStop self.old events.items stop.replies.items stop.rest.items self.new) }
+        ensures stopped { IfErr result
+            (λ stop. IsStop self.old events.items stop.replies.items stop.rest.items self.new) }
 
         // once an event is made, the run stops only before one that takes memory
         ensures memory { IfErr result (λ stop. (event : Event Block) (rest : List (Event Block)) →

@@ -14,7 +14,8 @@ use rx_ring::Item;
 use std::marker::Model;
 
 /// A frame that waits to be received: its bytes, its queue, its hash with the type, and how many of its bytes are
-/// written. Beside them stands the first half that all its descriptors get, so that it is classified once and not for each.
+/// written. Beside them stands the first half that all its descriptors get, so that it is classified once and not for
+/// each.
 #[derive(Drop)]
 pub(crate) struct Waiting {
     frame: Octets,

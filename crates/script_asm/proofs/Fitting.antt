@@ -15,7 +15,8 @@ use Rattle.script_asm.specs.declared.statements.Statement.{Statement}
 use Rattle.script_asm.specs.declared.statements.Statement.TheVariants.{Label, Data, Instruction}
 use Rattle.script_asm.proofs.Marks.{strings_in-append, drafts_in-append, label_from-append, data_from-append}
 use Rattle.script_asm.proofs.Spelling.{label_name, data_name, named}
-use Rattle.script_asm.proofs.Texts.{data_statements, code_statements}
+use Rattle.script_asm.proofs.Texts.{data_statements}
+use Rattle.script_asm.proofs.CodeTexts.{code_statements}
 
 -- numbered names are apart
 pub numbered_apart : (letter m n : ℕ) → m < 65536 → n < 65536 → m ≢ n

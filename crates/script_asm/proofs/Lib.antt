@@ -4,6 +4,7 @@ pub mod Naming
 pub mod Outcomes
 pub mod Resolving
 pub mod Ranges
+pub mod LineRanges
 pub mod Ready
 pub mod Marks
 pub mod Order
@@ -20,6 +21,7 @@ pub mod Addresses
 pub mod Spelling
 pub mod Reading
 pub mod Texts
+pub mod CodeTexts
 pub mod Fitting
 pub mod Placed
 pub mod RoundTrip

@@ -10,7 +10,8 @@ use Rattle.script_asm.specs.declared.statements.Statement.{Statement}
 use Rattle.script_asm.specs.declared.statements.Statement.TheVariants.{Instruction}
 use Rattle.script_asm.proofs.Marks.{strings_in-append, drafts_in-append}
 use Rattle.script_asm.proofs.Spelling.{label_name, data_name, named}
-use Rattle.script_asm.proofs.Texts.{data_statements, code_statements}
+use Rattle.script_asm.proofs.Texts.{data_statements}
+use Rattle.script_asm.proofs.CodeTexts.{code_statements}
 use Rattle.script_asm.proofs.Fitting.{numbered_apart, same_name, mark, no_drafts, statements_of}
 
 -- the strings and the instructions among them

@@ -1,22 +1,15 @@
 -- Numbers that a line writes itself are in their range.
-use Rattle.std.proofs.Common.{◌≡◌, ◌<◌, ◌≤◌, refl, ℕ, Bool, true, false, cond, nat_lt, length, List, [], ◌∷◌, Option, Some, None, Result, Ok, Err, IfOk, inl, inr, arith, codes, eqb}
-use Rattle.std.specs.Bool.{⊤}
+use Rattle.std.proofs.Common.{◌≡◌, ◌<◌, refl, ℕ, Bool, true, false, cond, nat_lt, List, [], ◌∷◌, Result, Ok, Err, IfOk, codes}
 use Rattle.std.specs.List.{AllByRecursion}
-use Rattle.std.specs.Option.{ok_or}
 use Rattle.std.specs.Str.{bytes_eq}
 use Rattle.std.proofs.lemmas.Bool.{ltb-true}
-use Rattle.std.proofs.lemmas.Bool.Decides.{eqb_tells}
-use Rattle.lexer.specs.HexData.{hex_bytes_of}
 use Rattle.program.specs.Listing.{IsGroup}
 use Rattle.script_asm.specs.Fault.{both}
 use Rattle.script_asm.specs.Operation.{Draft, beside, table_alone, table_of_one, table_of_two, table_of_three, instruction_in, direction_in, link_in, group_in, number16_in}
 use Rattle.script_asm.specs.Resolved.{IsInRange}
-use Rattle.script_asm.specs.Statement.{bytes_in, label_in, data_in, label_or_instruction, statement_of}
-use Rattle.script_asm.specs.Target.{number_in, number_below, name_in, target_of, before_last_byte}
+use Rattle.script_asm.specs.Target.{number_in, number_below, name_in, target_of}
 use Rattle.script_asm.specs.declared.faults.LineFault.{LineFault}
-use Rattle.script_asm.specs.declared.faults.LineFault.TheVariants.{Range, Syntax}
-use Rattle.script_asm.specs.declared.statements.Statement.{Statement}
-use Rattle.script_asm.specs.declared.statements.Statement.TheVariants.{Empty, Label, Data, Instruction}
+use Rattle.script_asm.specs.declared.faults.LineFault.TheVariants.{Range}
 use Rattle.script_asm.proofs.Outcomes.{then-IfOk, then-IfOk_of, cond-IfOk, both-first, both-second}
 
 pub number_below-fits : (limit : ℕ) (word : List ℕ) → IfOk (number_below limit word) (λ number. number < limit)
@@ -119,53 +112,9 @@ ranges_of_three a b c = (
   tt,
 )
 
-instruction_in-range : (name : List ℕ) (operands : List (List ℕ)) → IfOk (instruction_in name operands) IsInRange
+pub instruction_in-range : (name : List ℕ) (operands : List (List ℕ)) → IfOk (instruction_in name operands) IsInRange
 instruction_in-range name [] = beside-IfOk name table_alone (tt, (tt, (tt, (tt, tt))))
 instruction_in-range name (a ∷ []) = beside-IfOk name (table_of_one a) (ranges_of_one a)
 instruction_in-range name (a ∷ b ∷ []) = beside-IfOk name (table_of_two a b) (ranges_of_two a b)
 instruction_in-range name (a ∷ b ∷ c ∷ []) = beside-IfOk name (table_of_three a b c) (ranges_of_three a b c)
 instruction_in-range name (a ∷ b ∷ c ∷ d ∷ more) = tt
-
--- data has a byte at least
-bytes_in-some : (word : List ℕ) → IfOk (bytes_in word) (λ bytes. 1 ≤ length bytes)
-bytes_in-some word = then-IfOk (λ bytes. 1 ≤ length bytes) (ok_or (hex_bytes_of word) Syntax) _ some
-  where
-    some : (bytes : List ℕ) → IfOk {E =
-        LineFault} (cond (eqb (length bytes) 0) (Err Syntax) (Ok bytes)) (λ bytes. 1 ≤ length bytes)
-    some bytes = elim (eqb_tells (length bytes) 0) [
-      | inl (test, is) ↦ rw test tt
-      | inr (test, other) ↦ rw test (omega (arith, other))
-    ]
-
--- what a line says is in range: an instruction's numbers, and data has a byte
-abbrev pub States : Statement → Type 0
-States Empty = ⊤
-States (Label name) = ⊤
-States (Data name string) = 1 ≤ length string
-States (Instruction draft) = IsInRange draft
-
-label_in-States : (name : List ℕ) (operands : List (List ℕ)) → IfOk (label_in name operands) States
-label_in-States name [] = then-IfOk States (name_in name) _ (λ label. tt)
-label_in-States name (a ∷ more) = tt
-
-data_in-States : (operands : List (List ℕ)) → IfOk (data_in operands) States
-data_in-States [] = tt
-data_in-States (a ∷ []) = tt
-data_in-States (a ∷ b ∷ []) =
-    then-IfOk_of States (λ f. 1 ≤ length f.1) (both (name_in a) (bytes_in b)) _
-    (both-second (λ bytes. 1 ≤ length bytes) (name_in a) (bytes_in b) (bytes_in-some b)) (λ f some. some)
-data_in-States (a ∷ b ∷ c ∷ more) = tt
-
-other-States : (word : List ℕ) (name : Option (List ℕ)) (operands : List (List ℕ))
-    → IfOk (label_or_instruction word name operands) States
-other-States word (Some name) operands = label_in-States name operands
-other-States word None operands =
-    then-IfOk_of States IsInRange (instruction_in word operands) _ (instruction_in-range word operands)
-    (λ draft range. range)
-
-pub statement_of-States : (words : List (List ℕ)) → IfOk (statement_of words) States
-unfolding statement_of
-statement_of-States [] = tt
-statement_of-States (word ∷ operands) =
-    cond-IfOk States _ (data_in operands) (label_or_instruction word (before_last_byte 58 word) operands)
-    (data_in-States operands) (other-States word (before_last_byte 58 word) operands)

@@ -23,7 +23,7 @@ use Rattle.script_asm.specs.declared.statements.Statement.{Statement}
 use Rattle.script_asm.specs.declared.statements.Statement.TheVariants.{Empty, Label, Data, Instruction}
 use Rattle.script_asm.proofs.Naming.{place_of-with_place}
 use Rattle.script_asm.proofs.Outcomes.{cond-IfOk}
-use Rattle.script_asm.proofs.Ranges.{States, statement_of-States}
+use Rattle.script_asm.proofs.LineRanges.{States, statement_of-States}
 use Rattle.script_asm.proofs.Resolving.{AllByRecursion-push}
 
 -- each name stands for a number that passes

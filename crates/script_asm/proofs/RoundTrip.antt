@@ -13,7 +13,8 @@ use Rattle.script_asm.proofs.Meaning.{program_is_what_lines_say}
 use Rattle.script_asm.proofs.Fitting.{statements_of, Fit-statements}
 use Rattle.script_asm.proofs.Placed.{strings_in-statements, drafts_in-statements, data_number, label_place}
 use Rattle.script_asm.proofs.Spelling.{named}
-use Rattle.script_asm.proofs.Texts.{Reads, code_statements, reads-data, reads-code, reading_of-numbered}
+use Rattle.script_asm.proofs.Texts.{Reads, reads-data}
+use Rattle.script_asm.proofs.CodeTexts.{code_statements, reads-code, reading_of-numbered}
 
 -- a jump's target is one among the instructions
 abbrev Targets : List (Step ℕ ℕ) → Step ℕ ℕ → Type 0

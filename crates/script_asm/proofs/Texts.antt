@@ -1,5 +1,5 @@
 -- The lines of a program's text, and what they say.
-use Rattle.std.proofs.Common.{◌≡◌, refl, sym, ◌∙◌, ap, subst, ℕ, zero, suc, ◌+◌, ◌/◌, ◌%◌, ◌<◌, ◌≤◌, Bool, true, false, cond, ◌==◌, List, [], ◌∷◌, ◌++◌, length, map, slice_index, append_assoc, append-nil, Result, Ok, Err, Some, arith}
+use Rattle.std.proofs.Common.{◌≡◌, refl, sym, ◌∙◌, ap, subst, ℕ, zero, suc, ◌+◌, ◌/◌, ◌%◌, ◌<◌, ◌≤◌, true, false, cond, ◌==◌, List, [], ◌∷◌, ◌++◌, length, map, slice_index, append_assoc, Result, Ok, Err, Some, arith}
 use Rattle.std.specs.Prelude.{codes, decimal}
 use Rattle.std.specs.List.{AllByRecursion, list_all}
 use Rattle.std.specs.Option.{ok_or}
@@ -8,29 +8,22 @@ use Rattle.std.proofs.lemmas.Bool.Decides.{nat_tests}
 use Rattle.std.proofs.lemmas.List.Sums.{AllPass-from_list_all}
 use Rattle.hex.specs.Hex.{encode_with, lower_digits}
 use Rattle.hex.proofs.HexLemmas.{decode_of-encode_lower}
-use Rattle.lexer.specs.Lines.{numbered_from}
 use Rattle.lexer.specs.Words.{words_of}
 use Rattle.lexer.specs.HexData.{hex_bytes_of}
 use Rattle.lexer.proofs.HexData.{hex_bytes_of-decoded}
 use Rattle.printed.specs.Bytes.{bytes_text}
-use Rattle.program.specs.Encoding.{HaveWidths, fields_of}
-use Rattle.program.specs.Listing.{IsSound, IsDataString}
-use Rattle.program.specs.declared.instruction.Instruction.{Instruction as Step}
-use Rattle.script_asm.specs.Disassembly.{data_line, data_lines, is_target, label_line, label_line_at, code_lines}
+use Rattle.program.specs.Listing.{IsDataString}
+use Rattle.script_asm.specs.Disassembly.{data_line, data_lines}
 use Rattle.script_asm.specs.Fault.{◌then◌}
-use Rattle.script_asm.specs.Laws.{reading_of}
-use Rattle.script_asm.specs.Printing.{instruction_text}
 use Rattle.script_asm.specs.Statement.{bytes_in, statement_of}
 use Rattle.script_asm.specs.Target.{name_in}
 use Rattle.script_asm.specs.declared.faults.LineFault.{LineFault}
 use Rattle.script_asm.specs.declared.faults.LineFault.TheVariants.{Syntax}
 use Rattle.script_asm.specs.declared.statements.Statement.{Statement}
-use Rattle.script_asm.specs.declared.statements.Statement.TheVariants.{Label, Data, Instruction}
-use Rattle.script_asm.proofs.Endings.{before_last_byte-ended}
+use Rattle.script_asm.specs.declared.statements.Statement.TheVariants.{Data}
 use Rattle.script_asm.proofs.Numerals.{name_in-numbered, IsWord-numbered}
-use Rattle.script_asm.proofs.Plain.{IsWord, is_plain, joined, joined-inline, words_of-joined, lines-more, both_all}
-use Rattle.script_asm.proofs.Reading.{reads}
-use Rattle.script_asm.proofs.Spelling.{label_name, data_name, named, ReadsBack}
+use Rattle.script_asm.proofs.Plain.{IsWord, is_plain, joined, joined-inline, words_of-joined, lines-more}
+use Rattle.script_asm.proofs.Spelling.{data_name}
 
 -- what a line says
 abbrev pub say : List ℕ → Result Statement LineFault
@@ -45,7 +38,7 @@ one_more : (line : List ℕ) (lines : List (List ℕ)) (s : Statement) (ss : Lis
 one_more line lines s ss here rest = cc
 
 -- a line of words, and the text behind it
-reads-line : (text : List ℕ) (words : List (List ℕ)) (rest : List ℕ) (s : Statement) (ss : List Statement)
+pub reads-line : (text : List ℕ) (words : List (List ℕ)) (rest : List ℕ) (s : Statement) (ss : List Statement)
     → AllByRecursion IsWord words
     → text ≡ joined words ++ 10 ∷ [] → statement_of words ≡ Ok s → Reads rest ss → Reads (text ++ rest) (s ∷ ss)
 reads-line text words rest s ss are is says more =
@@ -115,63 +108,3 @@ reads-data number (string ∷ strings) rest ss few are bytes more =
     (record { long = refl; plain = refl }, (IsWord-numbered 100 number refl small, (word, tt))) text
     (says-data (data_name number) (bytes_text string) string (name_in-numbered 100 number refl small)
     (bytes_in-text string are.0.some bytes.0)) behind)
-
--- code
-says-label : (name : List ℕ) → name_in (76 ∷ name) ≡ Ok (76 ∷ name)
-    → statement_of ((76 ∷ name ++ 58 ∷ []) ∷ []) ≡ Ok (Label (76 ∷ name))
-unfolding statement_of
-says-label name x = rw (before_last_byte-ended 58 (76 ∷ name), x) refl
-
-abbrev pub marks : List (Step ℕ ℕ) → ℕ → List Statement
-marks code pc = cond (is_target code pc) (Label (label_name pc) ∷ []) []
-
-abbrev pub code_statements : List (Step ℕ ℕ) → ℕ → List (Step ℕ ℕ) → List Statement
-code_statements code pc [] = marks code pc
-code_statements code pc (i ∷ more) = marks code pc ++ Instruction (named i) ∷ code_statements code (pc + 1) more
-
-reads-label : (pc : ℕ) (rest : List ℕ) (ss : List Statement) → pc < 65536 → Reads rest ss
-    → Reads (label_line pc ++ rest) (Label (label_name pc) ∷ ss)
-reads-label pc rest ss small more =
-    let word = IsWord-numbered 76 pc refl small in
-    let words = (label_name pc ++ 58 ∷ []) ∷ [] in
-    let long : (length (label_name pc ++ 58 ∷ []) == 0) ≡ false = grind (arith, nat_tests) in
-    reads-line (label_line pc) words rest (Label (label_name pc)) ss
-    (record { long = long; plain = both_all is_plain (label_name pc) (58 ∷ []) word.plain refl }, tt)
-    (ap (λ t. 76 ∷ t) (sym (append_assoc (decimal pc) (58 ∷ []) (10 ∷ []))))
-    (says-label (decimal pc) (name_in-numbered 76 pc refl small)) more
-
-reads-marks_if : (b : Bool) (pc : ℕ) (rest : List ℕ) (ss : List Statement) → pc < 65536 → Reads rest ss
-    → Reads (cond b (label_line pc) [] ++ rest) (cond b (Label (label_name pc) ∷ []) [] ++ ss)
-reads-marks_if true pc rest ss small more = reads-label pc rest ss small more
-reads-marks_if false pc rest ss small more = more
-
-reads-instruction : (i : Step ℕ ℕ) (rest : List ℕ) (ss : List Statement) → ReadsBack i → Reads rest ss
-    → Reads ((instruction_text i ++ 10 ∷ []) ++ rest) (Instruction (named i) ∷ ss)
-reads-instruction i rest ss back more =
-    reads-line (instruction_text i ++ 10 ∷ []) back.words rest (Instruction (named i)) ss back.are
-    (ap (λ t. t ++ 10 ∷ []) back.text) back.says more
-
-no_more : (xs : List ℕ) (ss : List Statement) → Reads (xs ++ []) (ss ++ []) → Reads xs ss
-no_more xs ss h = subst (λ (t : List ℕ). Reads t ss) (append-nil xs)
-    (subst (λ (s : List Statement). Reads (xs ++ []) s) (append-nil ss) h)
-
-pub reads-code : (strings : List (List ℕ)) (count : ℕ) (code : List (Step ℕ ℕ)) (pc : ℕ) (rest : List (Step ℕ ℕ))
-    → pc + length rest ≤ 4096
-    → AllByRecursion (IsSound strings count) rest → AllByRecursion (λ i. HaveWidths (fields_of i)) rest
-    → Reads (code_lines code pc rest) (code_statements code pc rest)
-unfolding code_lines
-reads-code strings count code pc [] few sound widths =
-    no_more (label_line_at code pc) (marks code pc)
-    (reads-marks_if (is_target code pc) pc [] [] (omega arith) (record { is = refl }))
-reads-code strings count code pc (i ∷ more) few sound widths =
-    let behind = reads-code strings count code (pc + 1) more (omega arith) sound.1 widths.1 in
-    let here = reads-instruction i (code_lines code (pc + 1) more) (code_statements code (pc + 1) more)
-    (reads strings count i sound.0 widths.0) behind in
-    let all = reads-marks_if (is_target code pc) pc _ _ (omega arith) here in
-    subst (λ (t : List ℕ). Reads t (code_statements code pc (i ∷ more)))
-    (sym (append_assoc (label_line_at code pc) (instruction_text i ++ 10 ∷ []) (code_lines code (pc + 1) more))) all
-
--- lines with their numbers say the same
-pub reading_of-numbered : (first : ℕ) (ls : List (List ℕ)) → map reading_of (numbered_from first ls) ≡ map say ls
-reading_of-numbered first [] = refl
-reading_of-numbered first (line ∷ more) = ap (λ rs. say line ∷ rs) (reading_of-numbered (first + 1) more)

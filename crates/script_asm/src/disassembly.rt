@@ -98,8 +98,8 @@ fn push_code_lines(text: &mut String, code: &[Instruction]) -> Result<(), OutOfM
 }
 
 /// The text of a program: its data strings as `d0`, `d1` and so on, then its instructions, with a label before each one
-/// that is jumped to: `L` and its number. Registers are named where the address is their first one, with the index where
-/// their row has several; all other numbers are words of eight hex digits.
+/// that is jumped to: `L` and its number. Registers are named where the address is their first one, with the index
+/// where their row has several; all other numbers are words of eight hex digits.
 pub fn disassemble(alloc: Global, program: &Program) -> Result<String, OutOfMemory>
     ensures text { IfOk result (λ text. string_bytes text ≡ text_of program.now) }
 {

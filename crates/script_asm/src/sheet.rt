@@ -44,9 +44,19 @@ impl<'a> Model for Sheet<'a> {
 
     ghost coded = { Prim.hlevel (codes, places_code) };
 
-    ghost view = { λ s. record { labels = s.labels; data_numbers = s.data_numbers; strings = s.strings.items; drafts = s.drafts.items } };
+    ghost view = { λ s. record {
+      labels = s.labels;
+      data_numbers = s.data_numbers;
+      strings = s.strings.items;
+      drafts = s.drafts.items;
+    } };
 
-    ghost invariant = { λ s. IsOutline (record { labels = s.labels; data_numbers = s.data_numbers; strings = s.strings.items; drafts = s.drafts.items }) };
+    ghost invariant = { λ s. IsOutline (record {
+      labels = s.labels;
+      data_numbers = s.data_numbers;
+      strings = s.strings.items;
+      drafts = s.drafts.items;
+    }) };
 }
 
 impl<'a> Sheet<'a> {

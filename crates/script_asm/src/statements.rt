@@ -91,7 +91,8 @@ fn read_other<'a>(first: &'a str, operands: Words<'a>) -> Result<Statement<'a>, 
 /// What a line says.
 #[tactic(auto, unfolding(crate::specs::Statement::statement_of))]
 pub(crate) fn read_line<'a>(alloc: Global, line: Line<'a>) -> Result<Statement<'a>, ScriptFault>
-    ensures { Gives (λ statement. statement) result (at_line line.entry.number (statement_of (words_of line.entry.text.now))) }
+    ensures { Gives (λ statement. statement) result
+        (at_line line.entry.number (statement_of (words_of line.entry.text.now))) }
 {
     let mut words = Words::of(line.text);
     let Some(first) = words.next() else {

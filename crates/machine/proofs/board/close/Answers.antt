@@ -1,5 +1,6 @@
 use Rattle.std.proofs.Common.{◌≡◌, false, true, arith}
-use Rattle.machine.proofs.Sharing.{none_lent, all_free_at_last}
+use Rattle.machine.proofs.Sharing.{all_free_at_last}
+use Rattle.machine.proofs.Returning.{none_lent}
 use Rattle.machine.proofs.board.close.Goals as goal
 
 pub end_memory-requires : goal.end_memory-requires

@@ -1,6 +1,6 @@
 use Rattle.std.proofs.Common.{◌∙◌, sym, ap}
 use Rattle.dma_arena.specs.Memory.{has_block}
-use Rattle.machine.proofs.Sharing.{returned-shared, removed_same, removed_other}
+use Rattle.machine.proofs.Returning.{returned-shared, removed_same, removed_other}
 use Rattle.machine.proofs.board.take_back.Goals as goal
 
 pub returns-in-Some-clause-shared : goal.returns-in-Some-clause-shared

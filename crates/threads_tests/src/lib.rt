@@ -3,6 +3,8 @@
 #![tactic(auto)]
 
 #[cfg(test)]
+mod left_alone;
+#[cfg(test)]
 mod outcome;
 #[cfg(test)]
 mod shared_device;

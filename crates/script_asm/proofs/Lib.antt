@@ -3,6 +3,7 @@ pub mod Lines
 pub mod Naming
 pub mod Outcomes
 pub mod Resolving
+pub mod ResolvedSound
 pub mod Ranges
 pub mod LineRanges
 pub mod Ready

@@ -12,7 +12,7 @@ use Rattle.script_asm.specs.Places.{place_of}
 use Rattle.script_asm.specs.Resolved.{label_named, data_named, if_of_16, poked, resolved}
 use Rattle.script_asm.specs.declared.faults.ScriptFault.TheVariants.{UnknownLabel}
 use Rattle.script_asm.proofs.Outcomes.{stepped, IfOk-of}
-use Rattle.script_asm.proofs.Resolving.{if_of_16-Ok}
+use Rattle.script_asm.proofs.ResolvedSound.{if_of_16-Ok}
 
 abbrev pub Meant : Outline → Draft → Step ℕ ℕ → Type 0
 Meant o d i = Means (place_of o.labels) (place_of o.data_numbers) o.strings d i

@@ -24,7 +24,7 @@ use Rattle.script_asm.specs.declared.statements.Statement.TheVariants.{Empty, La
 use Rattle.script_asm.proofs.Naming.{place_of-with_place}
 use Rattle.script_asm.proofs.Outcomes.{cond-IfOk}
 use Rattle.script_asm.proofs.LineRanges.{States, statement_of-States}
-use Rattle.script_asm.proofs.Resolving.{AllByRecursion-push}
+use Rattle.script_asm.proofs.ResolvedSound.{AllByRecursion-push}
 
 -- each name stands for a number that passes
 abbrev pub Stand : Places → (ℕ → Type 0) → Type 0

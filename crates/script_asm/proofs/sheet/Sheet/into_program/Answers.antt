@@ -1,6 +1,6 @@
 use Rattle.std.proofs.Common.{ap}
 use Rattle.script_asm.specs.Outline.{Outline}
-use Rattle.script_asm.proofs.Resolving.{with_resolved-IsListing}
+use Rattle.script_asm.proofs.ResolvedSound.{with_resolved-IsListing}
 use Rattle.script_asm.proofs.sheet.Sheet.into_program.Goals as goal
 
 pub new-requires : goal.new-requires

@@ -1,6 +1,7 @@
 pub mod Fresh
 pub mod Histories
 pub mod Places
+pub mod Ranges
 pub mod Runs
 pub mod Sparing
 pub mod Stands

@@ -15,6 +15,7 @@ use Rattle.nic_device.specs.declared.event.Reply.TheVariants as reply
 use Rattle.device_lock.specs.declared.alone.Watched.{Watched}
 use Rattle.device_lock.specs.declared.entry.Entry.{Entry}
 use Rattle.device_lock.specs.Alone.{Blocks, place_at, is_setting, Spares, SparesIfSome, LeavesRegisters, LeavesBlocks, IsClear, WritesOutside, EntryLeavesAlone}
+use Rattle.device_lock.proofs.Ranges.{inside_touched, block_has}
 use Rattle.device_lock.specs.Watching.{spares, spares_if_some, leaves_registers, leaves_blocks, none_of, touched, is_clear, writes_outside, leaves_alone}
 
 -- tests of two parts, and of one part that another makes needless
@@ -39,7 +40,8 @@ no_more b c same = ((λ h. sym same ∙ not-true b h), λ h. not_from_false b (s
 -- where one holds the other fails
 excludes : (a b : Bool) → (not (a && b) ≡ true) ↔ (IsTrue a → IsFalse b)
 excludes a b = (
-  (λ h is. elim (and_cases a b (not-true _ h)) [ inl off ↦ (let e : true ≡ false = sym is ∙ off in cc) | inr off ↦ off ]),
+  (λ h is. elim (and_cases a b (not-true _ h))
+      [ inl off ↦ (let e : true ≡ false = sym is ∙ off in cc) | inr off ↦ off ]),
   (λ h. not_from_false _ (by_first a b h)),
 )
   where
@@ -85,29 +87,6 @@ registers_agree : (w : Watched) (mode : Mode) (e : Event Block)
 registers_agree w mode (event.Write port number word) =
     found_agree w.queue mode (place_at mode w.vfs port number) word
 registers_agree w mode other = ((λ h. tt), λ h. refl)
-
--- the blocks that a range touches
-
-touched_some : (at len : ℕ) → 0 < len
-    → touched at len ≡ (at % 2048 + (len - 1) % 2048) / 2048 + (len - 1) / 2048 + 1
-touched_some at len some = rw (ne_eqb len 0 (omega arith)) refl
-
-inside_touched : (at len a : ℕ) → at ≤ a → a < at + len
-    → (at / 2048 ≤ a / 2048) × (a / 2048 < at / 2048 + touched at len)
-inside_touched at len a low high = let e = touched_some at len (omega arith) in (omega arith, omega (arith, e))
-
-block_has : (at len k : ℕ) → at / 2048 ≤ k → k < at / 2048 + touched at len → (0 < len) ⊎ (len ≤ 0)
-    → (a : ℕ) × (at ≤ a) × (a < at + len) × (a / 2048 ≡ k)
-block_has at len k low high (inr none) =
-    let e : len ≡ 0 = omega arith in
-    let z : touched at len ≡ 0 = rw e refl in absurd (omega (arith, z))
-block_has at len k low high (inl some) =
-    let e = touched_some at len some in
-    let end : k ≤ (at + len - 1) / 2048 = omega (arith, e) in
-    elim (cases_lt at (2048 * k)) [
-      | inl before ↦ (2048 * k, omega arith, omega arith, omega arith)
-      | inr from ↦ (at, omega arith, omega arith, omega arith)
-    ]
 
 -- the blocks that a table marks are those that are spared
 module _ (table mine : Blocks) (same : (number : ℕ) → table number ≡ mine number) where

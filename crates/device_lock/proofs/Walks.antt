@@ -80,10 +80,12 @@ module _ (w : Watched) (mine : Blocks) (mode : Mode) (begun : Bool) (h : List En
       (split h i e lt ∙ ap (λ (x : Entry). x ∷ drop (i + 1) h) is)
 
   -- an entry doesn't leave the queue alone
-  pub rest_here : (not begun || leaves_alone w mine mode e) ≡ false → rest_leaves_alone w mine mode begun (drop i h) ≡ false
+  pub rest_here : (not begun || leaves_alone w mine mode e) ≡ false
+      → rest_leaves_alone w mine mode begun (drop i h) ≡ false
   rest_here no_more =
       rest_next
-      ∙ ap (λ b. b && rest_leaves_alone w mine (mode_after w.vfs mode e.event) (begun || (e.pass == w.pass)) (drop (i + 1) h)) no_more
+      ∙ ap (λ b. b && rest_leaves_alone w mine (mode_after w.vfs mode e.event) (begun || (e.pass == w.pass))
+      (drop (i + 1) h)) no_more
 
   -- an entry does
   pub rest_there : (not begun || leaves_alone w mine mode e) ≡ true → (after : Mode) (started : Bool)
@@ -91,7 +93,8 @@ module _ (w : Watched) (mine : Blocks) (mode : Mode) (begun : Bool) (h : List En
       → rest_leaves_alone w mine mode begun (drop i h) ≡ rest_leaves_alone w mine after started (drop (i + 1) h)
   rest_there passes after started next has =
       rest_next
-      ∙ ap (λ b. b && rest_leaves_alone w mine (mode_after w.vfs mode e.event) (begun || (e.pass == w.pass)) (drop (i + 1) h)) passes
+      ∙ ap (λ b. b && rest_leaves_alone w mine (mode_after w.vfs mode e.event) (begun || (e.pass == w.pass))
+      (drop (i + 1) h)) passes
       ∙ rw (next, has) refl
 
 pub rest_last : (w : Watched) (mine : Blocks) (mode : Mode) (begun : Bool) (h : List Entry) (i : ℕ) → i ≡ length h

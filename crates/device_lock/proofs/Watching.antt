@@ -58,4 +58,7 @@ module _ (w : Watched) (table mine : Blocks) (same : (number : ℕ) → table nu
 pub test_decides : (w : Watched) (table : Blocks) (h : List Entry)
     → ((number : ℕ) → table number ≡ lent_by w.pass h number)
     → IsTrue (rest_leaves_alone w table Off false h) ↔ LeavesAlone w h
-test_decides w table h same = (each w table (lent_by w.pass h) same Off false h, all w table (lent_by w.pass h) same Off false h)
+test_decides w table h same = (
+  each w table (lent_by w.pass h) same Off false h,
+  all w table (lent_by w.pass h) same Off false h,
+)

@@ -20,7 +20,8 @@ marked table number = get_or table number false
 
 abbrev pub spares : ℕ → Mode → Place → ℕ → Bool
 spares queue mode p word =
-    not (is_setting p.row) && (not (is_receive p.row && (p.index == queue)) && (not (is_transmit p.row && (p.index == queue))
+    not (is_setting p.row) && (not (is_receive p.row && (p.index == queue))
+    && (not (is_transmit p.row && (p.index == queue))
     && not (asks_pool_reset (row_of p.row).kind word && has_queue mode p.index queue)))
 
 abbrev pub spares_if_some : ℕ → Mode → Option Place → ℕ → Bool
@@ -63,7 +64,8 @@ leaves_alone w mine mode e =
     ((e.pass == w.pass) || (leaves_registers w mode e.event && leaves_blocks mine e.event))
     && writes_outside w.queue mine e.reply
 
--- whether the entries of a rest leave the queue alone, where those before it led to a mode, and have an entry of the pass or
+-- whether the entries of a rest leave the queue alone, where those before it led to a mode, and have an entry of the
+-- pass or
 -- not
 abbrev pub rest_leaves_alone : Watched → Blocks → Mode → Bool → List Entry → Bool
 rest_leaves_alone w mine mode begun [] = true

@@ -199,7 +199,8 @@ fn leaves_alone(watched: Watched, blocks: &Blocks, mode: Mode, entry: &Entry) ->
 /// The block that an entry lends.
 fn lends(entry: &Entry) -> Option<u32>
     ensures none { IfNone result ((number : ℕ) → lends entry.now.event entry.now.reply number ≡ false) }
-    ensures some { IfSome result (λ block. (number : ℕ) → lends entry.now.event entry.now.reply number ≡ (block == number)) }
+    ensures some { IfSome result
+        (λ block. (number : ℕ) → lends entry.now.event entry.now.reply number ≡ (block == number)) }
 {
     match (&entry.event, &entry.reply) {
         (Event::Lend(note), Reply::Done) => Some(note.number()),
@@ -231,9 +232,9 @@ fn lent_by(pass: u8, history: &[Entry]) -> Blocks
 }
 
 /// Whether a history from a new device leaves a queue alone: each entry behind the first of its driver's pass writes no
-/// register of the queue, and no CTRL, HLREG0, MAXFRS or GCR_EXT, resets no pool that it is of, and keeps away from the blocks
-/// that the pass lends anywhere in the history. Entries of the pass itself may do all that, but no step of another queue may
-/// write into such a block, whoever makes it. No memory is asked for.
+/// register of the queue, and no CTRL, HLREG0, MAXFRS or GCR_EXT, resets no pool that it is of, and keeps away from the
+/// blocks that the pass lends anywhere in the history. Entries of the pass itself may do all that, but no step of
+/// another queue may write into such a block, whoever makes it. No memory is asked for.
 pub fn left_alone(watched: Watched, history: &[Entry]) -> bool
     ensures { IsTrue result ↔ LeavesAlone watched history.now }
 {

@@ -53,8 +53,8 @@ impl<const VFS: u8, const FIFO: u16> Closed<VFS, FIFO> {
         positions(alloc, self.locked.history(), tag)
     }
 
-    /// Whether the history leaves a queue of the device alone, whose driver has the pass of this tag: `left_alone` says what
-    /// that is. It waits for nobody, and asks for no memory.
+    /// Whether the history leaves a queue of the device alone, whose driver has the pass of this tag: `left_alone` says
+    /// what that is. It waits for nobody, and asks for no memory.
     pub fn left_alone(&self, pass: u8, queue: u16) -> bool
         ensures { IsTrue result ↔ LeavesAlone (record { vfs = VFS; pass = pass; queue = queue }) self.now.history }
     {

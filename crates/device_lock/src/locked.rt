@@ -14,8 +14,8 @@ use std::marker::Model;
 
 /// What lies under the lock: the device, and the history of its calls.
 ///
-/// Whenever the lock is free the history is legal from a new device of `VFS` virtual functions, whose receive list takes
-/// `FIFO` frames, and leads to the device held; `history` says so. It can't be dropped, as the device can't.
+/// Whenever the lock is free the history is legal from a new device of `VFS` virtual functions, whose receive list
+/// takes `FIFO` frames, and leads to the device held; `history` says so. It can't be dropped, as the device can't.
 pub struct Locked<const VFS: u8, const FIFO: u16> {
     device: Device,
     history: Vec<Entry>,

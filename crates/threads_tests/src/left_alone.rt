@@ -25,8 +25,8 @@ fn make<R: Abort + Wait>(rt: &R, alloc: Global, bench: &Bench, pass: &mut Pass, 
     }
 }
 
-/// Whether queue 0 is left alone, where its driver reads a register and lends block 5, and then another pass makes the event.
-/// Before all that GCR_EXT was written.
+/// Whether queue 0 is left alone, where its driver reads a register and lends block 5, and then another pass makes the
+/// event. Before all that GCR_EXT was written.
 fn is_left_alone<R: Abort + Wait>(rt: &R, alloc: Global, mode: u32, event: Event) -> bool {
     let (bench, mut passes) = done(rt, Bench::new(alloc, 1, 2, 100));
     let mut other = some(rt, passes.pop());

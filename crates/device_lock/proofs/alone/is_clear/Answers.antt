@@ -27,4 +27,5 @@ returns c =
     let all : c.loop-after.after ≡ touched c.args.at c.args.len =
     omega (arith, c.touched-after-end.ensures, c.loop-after-test.false, c.loop-after.auto.after-end) in
     sym (c.loop-after.invariant
-    ∙ rw all (none_left (marked c.args.blocks.now) (c.args.at / 2048 + touched c.args.at c.args.len) (touched c.args.at c.args.len)))
+    ∙ rw all (none_left (marked c.args.blocks.now) (c.args.at / 2048 + touched c.args.at c.args.len)
+    (touched c.args.at c.args.len)))

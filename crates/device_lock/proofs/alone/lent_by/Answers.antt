@@ -20,5 +20,6 @@ pub returns : goal.returns
 returns c = λ number.
     let all : c.loop-entry.entry-index ≡ length c.args.history.now =
     omega (arith, c.loop-entry-test.false, c.loop-entry.auto.entry-index-end) in
-    sym (lent_last c.args.pass c.args.history.now c.loop-entry.entry-index (marked c.loop-entry.blocks number) number all)
+    sym (lent_last c.args.pass c.args.history.now c.loop-entry.entry-index (marked c.loop-entry.blocks number) number
+    all)
     ∙ c.loop-entry.invariant number

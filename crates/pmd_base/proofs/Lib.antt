@@ -1,3 +1,5 @@
 pub mod Amid
+pub mod Bringing
+pub mod Outside
 pub mod Sequences
 pub mod Stepping

@@ -1,13 +1,15 @@
 //! What the two halves of the poll-mode driver stand on.
 //!
-//! `Nic` is the seam to the device: a call makes some foreign events and then its own. `Direct` is a device in hand, which it
-//! steps on before each call. `accesses.rt` has the accesses that a driver makes, each with the replies that it can have, and
-//! `pf_setup` sets the whole device up. Contracts see what a way to a device made, as the list of its calls.
+//! `Nic` is the seam to the device: a call makes some foreign events and then its own. `Direct` is a device in hand,
+//! which it steps on before each call. `accesses.rt` has the accesses that a driver makes, each with the replies that it
+//! can have, `pf_setup` sets the whole device up, and `Homeward` takes blocks back. Contracts see what a way to a device
+//! made, as the list of its calls.
 #![tactic(auto)]
 
 mod accesses;
 mod direct;
 mod fault;
+mod home;
 mod nic;
 mod packet;
 mod setup;
@@ -15,6 +17,7 @@ mod setup;
 pub use accesses::{lend, peek, poke, read, take, write};
 pub use direct::Direct;
 pub use fault::PmdFault;
+pub use home::Homeward;
 pub use nic::Nic;
 pub use packet::{Packet, Record};
 pub use setup::{Setting, Setup, pf_setup, set};

@@ -1,24 +1,44 @@
 -- Blocks that are taken from the driver's arena.
-use Rattle.std.proofs.Common.{◌≡◌, ◌≢◌, ℕ, ◌+◌, ◌<◌, true, false, length, refl, sym, ap, ◌∙◌}
+use Rattle.std.proofs.Common.{◌≡◌, ◌≢◌, ℕ, ◌+◌, ◌<◌, true, false, List, [], ◌∷◌, length, get_or, refl, sym, subst, ◌∙◌, arith}
 use Rattle.dma_arena.specs.Block.{Block}
-use Rattle.dma_arena.specs.Numbers.{Numbers, is_free}
-use Rattle.pmd_rx.specs.Receive.{Receive, Layout, Stage, Looks, Sees, Holding, Lent, Named, MayLend, block_at, lent_one, held_by}
-use Rattle.pmd_rx.specs.Shown.{IsAway, CanLend, HasLent}
+use Rattle.dma_arena.specs.Numbers.{Numbers, is_own, is_free, with_free}
+use Rattle.dma_arena.proofs.Arenas.{is_own-of_free, is_own-with_free, is_free-with_free_same}
+use Rattle.dma_arena.proofs.Cuts.{given_back}
+use Rattle.dma_arena.specs.Whereabouts.{times_in_hand}
+use Rattle.pmd_base.specs.Home.{AreOut}
+use Rattle.pmd_base.proofs.Outside.{times_at, times_first, out_free}
+use Rattle.pmd_rx.specs.Keeping.{blocks_out}
+use Rattle.pmd_rx.specs.Receive.{Receive, Stage, Looks, Sees, Holding, Lent, Named, MayLend, lent_one, held_by}
+use Rattle.pmd_rx.specs.Shown.{CanLend, HasLent}
+use Rattle.pmd_rx.proofs.Keeping.{times_out}
 
--- a free number is none that isn't free
-other : (a : Numbers) (n m : ℕ) → is_free a n ≡ true → is_free a m ≡ false → n ≢ m
-other a n m free used same =
-    let both : true ≡ false = sym free ∙ ap (λ k. is_free a k) same ∙ used in cc
+-- a block that isn't out is none of those that are
+pub none_of : (xs : List ℕ) (n i : ℕ) → times_in_hand xs n ≡ 0 → i < length xs → get_or xs i 0 ≢ n
+none_of xs n i none below same =
+    let some : 0 < times_in_hand xs n = subst (λ (m : ℕ). 0 < times_in_hand xs m) same (times_at xs i 0 below) in
+    absurd (omega (arith, some, none))
 
-pub may_lend : (a : Numbers) (l : Layout) (b : Block) → is_free a b.number ≡ true → IsAway a l → b.number < 65536
-    → length l.blocks + 1 < l.size → length b.bytes ≡ 2048 → MayLend l b
-may_lend a l b free away low room whole = record {
-  low = low;
-  not_ring = other a b.number l.ring free away.ring;
-  apart = λ k below same. other a b.number (block_at l k) free (away.blocks k below) (sym same);
-  room = room;
-  whole = whole;
-}
+not_first : (n m : ℕ) → times_in_hand (m ∷ []) n ≡ 0 → n ≢ m
+not_first n m none same =
+    let none_here : times_in_hand (n ∷ []) n ≡ 0 = subst (λ (k : ℕ). times_in_hand (k ∷ []) n ≡ 0) (sym same) none in
+    absurd (omega (arith, none_here, times_first [] n))
+
+-- a free block may be lent
+pub may_lend : (a : Numbers) (v : Receive) (b : Block) → is_free a b.number ≡ true → AreOut a (blocks_out v)
+    → b.number < 65536 → length v.layout.blocks + 1 < v.layout.size → length b.bytes ≡ 2048 → MayLend v.layout b
+may_lend a v b free out low room whole =
+    let l = v.layout in
+    let none : times_in_hand (blocks_out v) b.number ≡ 0 = out_free a (blocks_out v) b.number out free in
+    let parts = times_out l v.stage b.number in
+    let slots : times_in_hand l.blocks b.number ≡ 0 = omega (arith, none, parts) in
+    let ring : times_in_hand (l.ring ∷ []) b.number ≡ 0 = omega (arith, none, parts) in
+    record {
+      low = low;
+      not_ring = not_first b.number l.ring ring;
+      apart = λ k below. none_of l.blocks b.number k slots below;
+      room = room;
+      whole = whole;
+    }
 
 -- a block that is lent is to be named, and what is held stays held
 lent_stage_of : (v : Receive) (s : Stage) (n : ℕ) → CanLend s → HasLent (lent_one v s n).stage
@@ -50,3 +70,16 @@ lent_keeps v (Named o b) n = refl
 
 pub lent_handed : (v : Receive) (n : ℕ) → (lent_one v v.stage n).handed ≡ v.handed
 lent_handed v n = lent_keeps v v.stage n
+
+-- a block that was taken and comes back
+pub own_after : (a b : Numbers) (n m : ℕ) → is_free a n ≡ true → b ≡ with_free a n false → m ≡ n → is_own b m ≡ true
+own_after a b n m free taken same = rw (same, taken, is_own-with_free a n false n) (is_own-of_free a n free)
+
+pub away_after : (a b : Numbers) (n m : ℕ) → is_free a n ≡ true → b ≡ with_free a n false → m ≡ n
+    → is_free b m ≡ false
+away_after a b n m free taken same =
+    rw (same, taken) (is_free-with_free_same a n false (is_own-of_free a n free))
+
+pub back_home : (a b d : Numbers) (n m : ℕ) → is_free a n ≡ true → b ≡ with_free a n false → m ≡ n
+    → d ≡ with_free b m true → d ≡ a
+back_home a b d n m free taken same given = given ∙ rw (same, taken) (given_back a n free)

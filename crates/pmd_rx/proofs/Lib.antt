@@ -1,5 +1,9 @@
+pub mod Failing
 pub mod Fresh
+pub mod Handing
+pub mod Keeping
 pub mod Looking
 pub mod Own
 pub mod Playing
+pub mod Refilling
 pub mod Stages

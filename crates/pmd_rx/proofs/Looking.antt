@@ -1,5 +1,6 @@
 -- A look at the next slot.
 use Rattle.std.proofs.Common.{◌≡◌, ℕ, ◌<◌, List, length, Some, None, refl, sym, subst, inl, inr}
+use Rattle.std.specs.Prelude.{IsFalse}
 use Rattle.nic_device.specs.declared.event.Event.TheVariants as event
 use Rattle.nic_device.specs.declared.event.Reply.TheVariants as reply
 use Rattle.device_lock.specs.declared.entry.Call.{Call}
@@ -7,6 +8,8 @@ use Rattle.pmd_base.specs.Accesses.{IsPeeked}
 use Rattle.pmd_rx.specs.Plays.{Plays}
 use Rattle.pmd_rx.specs.Receive.{Receive, Stage, Looks, Sees, Holding, Lent, Named, IsOwn, looked, descriptor_at}
 use Rattle.pmd_rx.specs.Shown.{CanLook}
+use Rattle.pmd_rx.specs.Wrong.{is_whole, EndsWrong}
+use Rattle.pmd_rx.proofs.Failing.{wrong_here}
 use Rattle.pmd_rx.proofs.Playing.{plays_adds}
 
 -- a look at the next slot is the driver's own
@@ -33,3 +36,18 @@ module _ (old new : List Call) (v : Receive) (can : CanLook v.stage) (some : 0 <
   look_misses (inr adds) =
       plays_adds old new v (event.Peek16 (descriptor_at v.layout 0)) reply.Misaligned (look_own v v.stage refl can some)
       adds
+
+  pub look_wrong : (w : Receive) (d : List ℕ) → IsPeeked old new (descriptor_at v.layout 0) (Some d)
+      → IsFalse (is_whole d) × (w ≡ v) → EndsWrong old v new w
+  look_wrong w d adds (bad, same) =
+      subst (EndsWrong old v new) (sym same)
+      (wrong_here old new v (event.Peek16 (descriptor_at v.layout 0)) (reply.Bytes d)
+      (look_own v v.stage refl can some) adds bad)
+
+  pub look_wrong_none : IsPeeked old new (descriptor_at v.layout 0) None → EndsWrong old v new v
+  look_wrong_none (inl adds) =
+      wrong_here old new v (event.Peek16 (descriptor_at v.layout 0)) reply.NotLent (look_own v v.stage refl can some)
+      adds refl
+  look_wrong_none (inr adds) =
+      wrong_here old new v (event.Peek16 (descriptor_at v.layout 0)) reply.Misaligned
+      (look_own v v.stage refl can some) adds refl

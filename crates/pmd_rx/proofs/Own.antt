@@ -1,15 +1,18 @@
 -- Taking a packet's block, and posting a fresh one.
-use Rattle.std.proofs.Common.{◌≡◌, ℕ, ◌+◌, ◌⊎◌, true, false, List, Option, Some, None, Result, Ok, Err, OnOk, OnErr, refl, sym, subst, inl, inr}
+use Rattle.std.proofs.Common.{◌≡◌, ℕ, ◌+◌, true, false, List, Option, Some, None, Result, Ok, Err, IfErr, OnOk, OnErr, refl, sym, subst, inl, inr}
 use Rattle.dma_arena.specs.Block.{Block}
 use Rattle.nic_device.specs.declared.event.Event.TheVariants as event
 use Rattle.nic_device.specs.declared.event.Reply.TheVariants as reply
 use Rattle.device_lock.specs.declared.entry.Call.{Call}
 use Rattle.pmd_base.specs.Accesses.{IsTaken, IsLent, IsPoked}
-use Rattle.pmd_base.specs.Made.{AddsSome}
+use Rattle.pmd_base.specs.declared.fault.PmdFault.{PmdFault}
+use Rattle.pmd_base.specs.declared.fault.PmdFault.TheVariants as fault
 use Rattle.pmd_rx.specs.Plays.{Plays}
 use Rattle.pmd_rx.specs.Receive.{Receive, Layout, Stage, Looks, Sees, Holding, Lent, Named, TakesNext, LendsNext, NamesNext, MovesNext, MayLend, took, lent_one, named, moved, naming, fresh_of, slot_at, block_at, vacant, descriptor_at}
-use Rattle.pmd_rx.specs.Shown.{HasSeen, CanLend, HasLent, HasNamed, IsTailWritten}
+use Rattle.pmd_rx.specs.Shown.{HasSeen, CanLend, HasLent, HasNamed, IsTailWritten, IsUnwritten}
+use Rattle.pmd_rx.specs.Wrong.{EndsWrong, IsFault}
 use Rattle.pmd_base.specs.declared.packet.Packet.{Packet}
+use Rattle.pmd_rx.proofs.Failing.{wrong_here}
 use Rattle.pmd_rx.proofs.Playing.{plays_adds, plays_some}
 
 -- what the stages allow
@@ -79,16 +82,56 @@ module _ (old new : List Call) (v : Receive) where
   name_misses a bytes lent at is (inr made) =
       plays_adds old new v (event.Poke16 a bytes) reply.Misaligned (name_own v.layout v.stage a bytes lent at is) made
 
-  pub move_plays : {E : Type 0} (r : Result (Option Packet) E) (w : Receive) → HasNamed v.stage
+  pub take_wrong : (n : ℕ) → HasSeen v.stage → n ≡ block_at v.layout 0 → IsTaken old new n None → EndsWrong old v new v
+  take_wrong n seen is made =
+      wrong_here old new v (event.Take n) reply.NotLent (take_own v.layout v.stage n seen is) made refl
+
+  pub lend_wrong : (b back : Block) → CanLend v.stage → MayLend v.layout b → IsLent old new b (Some back)
+      → EndsWrong old v new v
+  lend_wrong b back can may made =
+      wrong_here old new v (event.Lend b) (reply.Twice back) (lend_own v.layout v.stage b can may) made refl
+
+  pub name_wrong : (a : ℕ) (bytes : List ℕ) → HasLent v.stage → a ≡ descriptor_at v.layout (vacant v.layout)
+      → bytes ≡ naming (fresh_of v.stage) → IsPoked old new a bytes false → EndsWrong old v new v
+  name_wrong a bytes lent at is (inl made) =
+      wrong_here old new v (event.Poke16 a bytes) reply.NotLent (name_own v.layout v.stage a bytes lent at is) made refl
+  name_wrong a bytes lent at is (inr made) =
+      wrong_here old new v (event.Poke16 a bytes) reply.Misaligned (name_own v.layout v.stage a bytes lent at is) made
+      refl
+
+  -- the tail isn't moved
+  unmoved_plays : (f : PmdFault) → HasNamed v.stage → IsUnwritten f old new v.layout → Plays old v new v
+  unmoved_plays fault.DeviceFault done (seen, adds) =
+      plays_adds old new v (event.Write v.layout.port v.layout.tail (slot_at v.layout (vacant v.layout + 1)))
+      (reply.Stray seen) (move_own v.layout v.stage done) adds
+  unmoved_plays (fault.Call refusal) done some = plays_some old new v some
+  unmoved_plays fault.BadSize done not = absurd not
+  unmoved_plays fault.ForeignBlock done not = absurd not
+  unmoved_plays fault.StartTimeout done not = absurd not
+  unmoved_plays fault.NoBuffer done not = absurd not
+
+  unmoved_fault : (f : PmdFault) → HasNamed v.stage → IsUnwritten f old new v.layout → IsFault f old v new v
+  unmoved_fault fault.DeviceFault done (seen, adds) =
+      wrong_here old new v (event.Write v.layout.port v.layout.tail (slot_at v.layout (vacant v.layout + 1)))
+      (reply.Stray seen) (move_own v.layout v.stage done) adds refl
+  unmoved_fault (fault.Call refusal) done some = tt
+  unmoved_fault fault.BadSize done not = not
+  unmoved_fault fault.ForeignBlock done not = not
+  unmoved_fault fault.StartTimeout done not = not
+  unmoved_fault fault.NoBuffer done not = not
+
+  pub move_plays : (r : Result (Option Packet) PmdFault) (w : Receive) → HasNamed v.stage
       → OnOk r (IsTailWritten old new v.layout true) → OnOk r (w ≡ moved v v.stage) → OnErr r (w ≡ v)
-      → OnErr r (IsTailWritten old new v.layout false ⊎ AddsSome old new) → Plays old v new w
+      → IfErr r (λ f. IsUnwritten f old new v.layout) → Plays old v new w
   move_plays (Ok out) w done made is same failed =
       subst (Plays old v new) (sym is)
-      (plays_adds old new v (event.Write v.layout.port v.layout.tail (slot_at v.layout
-      (vacant v.layout + 1))) reply.Done
-      (move_own v.layout v.stage done) made)
-  move_plays (Err f) w done made is same (inl (seen, adds)) =
-      subst (Plays old v new) (sym same)
       (plays_adds old new v (event.Write v.layout.port v.layout.tail (slot_at v.layout (vacant v.layout + 1)))
-      (reply.Stray seen) (move_own v.layout v.stage done) adds)
-  move_plays (Err f) w done made is same (inr some) = subst (Plays old v new) (sym same) (plays_some old new v some)
+      reply.Done (move_own v.layout v.stage done) made)
+  move_plays (Err f) w done made is same failed =
+      subst (Plays old v new) (sym same) (unmoved_plays f done failed)
+
+  pub move_fails : (r : Result (Option Packet) PmdFault) (w : Receive) → HasNamed v.stage → OnErr r (w ≡ v)
+      → IfErr r (λ f. IsUnwritten f old new v.layout) → IfErr r (λ f. IsFault f old v new w)
+  move_fails (Ok out) w done same failed = tt
+  move_fails (Err f) w done same failed =
+      subst (λ (x : Receive). IsFault f old v new x) (sym same) (unmoved_fault f done failed)

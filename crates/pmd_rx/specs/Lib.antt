@@ -1,3 +1,5 @@
+pub mod Keeping
 pub mod Plays
 pub mod Receive
 pub mod Shown
+pub mod Wrong

@@ -1,5 +1,5 @@
 -- What a driver knows of its receive ring, and how that follows from its own calls.
-use Rattle.std.specs.Prelude.{ℕ, ◌≡◌, ◌≢◌, ◌+◌, ◌-◌, ◌*◌, ◌<◌, ◌&&◌, nat_lt, List, [], ◌∷◌, ◌++◌, length, take, drop, slice_index, Option, Some, None, if◌then◌else◌}
+use Rattle.std.specs.Prelude.{ℕ, ◌≡◌, ◌≢◌, ◌+◌, ◌-◌, ◌*◌, ◌<◌, ◌&&◌, nat_lt, List, [], ◌∷◌, ◌++◌, length, drop, slice_index, Option, Some, None, if◌then◌else◌}
 use Rattle.dma_arena.specs.Block.{Block}
 use Rattle.dma_ring.specs.Descriptor.{second_half, first_half, of_halves}
 use Rattle.dma_ring.specs.Driver.{posted, rss_in, hash_in}
@@ -10,27 +10,25 @@ use Rattle.nic_device.specs.declared.event.Event.TheVariants as event
 use Rattle.nic_device.specs.declared.event.Port.{Port}
 use Rattle.nic_device.specs.declared.event.Reply.{Reply}
 use Rattle.nic_device.specs.declared.event.Reply.TheVariants as reply
-use Rattle.pmd_base.specs.Packet.{Kept}
+use Rattle.pmd_base.specs.Packet.{Kept, kept_of}
+use Rattle.pmd_base.specs.declared.packet.Packet.{Packet}
 
--- a packet of these bytes, with what the first half of its descriptor tells
-abbrev pub told : List ℕ → ℕ → Kept
-told bytes first = record { bytes = bytes; rss = rss_in first; hash = hash_in first }
+-- the packet in a block, with what the two halves of its descriptor tell
+abbrev pub told : Block → ℕ → ℕ → Packet
+told b first second = record { buf = b; len = bytes_in second; rss = rss_in first; hash = hash_in first }
 
 -- where a driver is between two of its calls: it looks at the next slot; it saw there a packet whose descriptor has
--- these
--- halves; it has the packet's block and holds the packet; it lent a fresh block; the descriptor of the vacant slot
--- names
--- that block. A packet that is held is handed out as the tail moves on
+-- these halves; it has the packet's block and holds the packet; it lent a fresh block; the descriptor of the vacant
+-- slot names that block. A packet that is held is handed out as the tail moves on
 pub data Stage : Type 0 where
   Looks : Stage
   Sees : ℕ → ℕ → Stage
-  Holding : Kept → Stage
-  Lent : Option Kept → ℕ → Stage
-  Named : Option Kept → ℕ → Stage
+  Holding : Packet → Stage
+  Lent : Option Packet → ℕ → Stage
+  Named : Option Packet → ℕ → Stage
 
 -- the ring: the port, the number that the tail's register has there, the block that the ring is in, its number of
--- slots,
--- the slot to look at next, and the blocks of the slots from there on up to the tail
+-- slots, the slot to look at next, and the blocks of the slots from there on up to the tail
 pub record Layout : Type 0 where
   pub port : Port
   pub tail : ℕ
@@ -63,20 +61,21 @@ block_at l k = slice_index l.blocks k
 abbrev pub vacant : Layout → ℕ
 vacant l = length l.blocks
 
--- what is held and not handed out
-abbrev pub listed : Option Kept → List Kept
+-- what is kept of a packet, where there is one
+abbrev pub listed : Option Packet → List Kept
 listed None = []
-listed (Some p) = p ∷ []
+listed (Some p) = kept_of p ∷ []
 
+-- what is held and not handed out
 abbrev pub held : Stage → List Kept
 held Looks = []
 held (Sees first second) = []
-held (Holding p) = p ∷ []
+held (Holding p) = kept_of p ∷ []
 held (Lent o b) = listed o
 held (Named o b) = listed o
 
 -- the packet that is held, where one is
-abbrev pub held_by : Stage → Option Kept
+abbrev pub held_by : Stage → Option Packet
 held_by Looks = None
 held_by (Sees first second) = None
 held_by (Holding p) = Some p
@@ -111,7 +110,7 @@ consumed l = record l { next = next_of l.size l.next; blocks = drop 1 l.blocks }
 abbrev pub took : Receive → Stage → Block → Receive
 took v (Sees first second) b = record v {
   layout = consumed v.layout;
-  stage = Holding (told (take (bytes_in second) b.bytes) first);
+  stage = Holding (told b first second);
 }
 took v other b = v
 
@@ -182,6 +181,14 @@ IsOwn v (event.Lend b) = LendsNext v.layout v.stage b
 IsOwn v (event.Poke16 a bytes) = NamesNext v.layout v.stage a bytes
 IsOwn v (event.Write port number word) = MovesNext v.layout v.stage port number word
 IsOwn v e = ⊥
+
+-- the tail moved on from any of these stages, with this block
+abbrev pub refilled : Receive → ℕ → Receive
+refilled v b = record v {
+  layout = extended v.layout b;
+  handed = v.handed ++ listed (held_by v.stage);
+  stage = Looks;
+}
 
 -- a driver as its queue goes on: no slot is posted
 abbrev pub at_start : Port → ℕ → ℕ → ℕ → Receive

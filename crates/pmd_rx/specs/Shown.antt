@@ -1,28 +1,29 @@
 -- The driver's receive ring as its code keeps it.
-use Rattle.std.specs.Prelude.{ℕ, ◌≡◌, ◌+◌, ◌<◌, ◌≤◌, List, false, length, Option, Some, None, option_map, ⊤}
-use Rattle.pmd_base.specs.Packet.{kept_of}
-use Rattle.dma_arena.specs.Numbers.{Numbers, is_free}
+use Rattle.std.specs.Prelude.{ℕ, ◌≡◌, ◌+◌, ◌<◌, ◌≤◌, List, Bool, false, length, Option, Some, None, IsSome, ⊤}
 use Rattle.pmd_base.specs.Accesses.{IsWritten}
+use Rattle.pmd_base.specs.Made.{AddsSome}
+use Rattle.pmd_base.specs.declared.fault.PmdFault.{PmdFault}
+use Rattle.pmd_base.specs.declared.fault.PmdFault.TheVariants as fault
 use Rattle.device_lock.specs.declared.entry.Call.{Call}
-use Rattle.pmd_rx.specs.Receive.{slot_at, vacant, block_at, Layout, Stage, Looks, Sees, Holding, Lent, Named}
+use Rattle.pmd_rx.specs.Receive.{slot_at, vacant, Layout, Stage, Looks, Sees, Holding, Lent, Named}
 use Rattle.pmd_base.specs.declared.packet.Packet.{Packet}
-use Rattle.pmd_rx.specs.declared.receive.At.{At}
-use Rattle.pmd_rx.specs.declared.receive.At.TheVariants as at
+use Rattle.pmd_rx.specs.declared.ring.At.{At}
+use Rattle.pmd_rx.specs.declared.ring.At.TheVariants as at
 
--- the stage, with what is held: a refill that holds nothing is one of `start`
+-- the stage, with what is held
 abbrev pub stage_of : At → Option Packet → Stage
 stage_of at.Looks o = Looks
 stage_of (at.Sees first second) o = Sees first second
 stage_of at.Refills None = Looks
-stage_of at.Refills (Some p) = Holding (kept_of p)
-stage_of (at.Lent block) o = Lent (option_map kept_of o) block
-stage_of (at.Named block) o = Named (option_map kept_of o) block
+stage_of at.Refills (Some p) = Holding p
+stage_of (at.Lent block) o = Lent o block
+stage_of (at.Named block) o = Named o block
 
--- nothing is held while it looks
+-- nothing is held while it looks, and a packet is as it is to be refilled
 abbrev pub HoldsRight : At → Option Packet → Type 0
 HoldsRight at.Looks o = o ≡ None
 HoldsRight (at.Sees first second) o = o ≡ None
-HoldsRight at.Refills o = ⊤
+HoldsRight at.Refills o = IsSome o
 HoldsRight (at.Lent block) o = ⊤
 HoldsRight (at.Named block) o = ⊤
 
@@ -34,18 +35,13 @@ HasRoom at.Refills size blocks = ⊤
 HasRoom (at.Lent block) size blocks = (length blocks + 1 < size) × (block < 65536)
 HasRoom (at.Named block) size blocks = (length blocks + 1 < size) × (block < 65536)
 
--- a ring of a multiple of 8 slots from 8 to 128, in one block of bus memory
+-- a ring of 8 to 128 slots, in one block of bus memory
 pub record IsLaidOut (l : Layout) : Type 0 where
-  pub some : 0 < l.size
+  pub some : 8 ≤ l.size
   pub few : l.size ≤ 128
   pub next : l.next < l.size
   pub ring : l.ring < 65536
   pub room : length l.blocks < l.size
-
--- no block that stands in the ring, nor the ring's own, is free in the arena
-pub record IsAway (a : Numbers) (l : Layout) : Type 0 where
-  pub ring : is_free a l.ring ≡ false
-  pub blocks : (k : ℕ) → k < length l.blocks → is_free a (block_at l k) ≡ false
 
 -- the driver looks at the next slot
 abbrev pub CanLook : Stage → Type 0
@@ -98,3 +94,12 @@ HasNamed (Named o b) = ⊤
 -- the tail of the receive ring was moved on by one, or the port has no such register
 abbrev pub IsTailWritten : List Call → List Call → Layout → Bool → Type 0
 IsTailWritten old new l known = IsWritten old new l.port l.tail (slot_at l (vacant l + 1)) known
+
+-- why the tail isn't moved: the port has no such register, or a call was refused
+abbrev pub IsUnwritten : PmdFault → List Call → List Call → Layout → Type 0
+IsUnwritten fault.DeviceFault old new l = IsTailWritten old new l false
+IsUnwritten (fault.Call refusal) old new l = AddsSome old new
+IsUnwritten fault.BadSize old new l = ⊥
+IsUnwritten fault.ForeignBlock old new l = ⊥
+IsUnwritten fault.StartTimeout old new l = ⊥
+IsUnwritten fault.NoBuffer old new l = ⊥

@@ -1,10 +1,12 @@
 //! The receive half of the poll-mode driver.
 //!
-//! `receive.rt` has one step for each event that it makes on its ring, from one stage to the next, and `posting.rt` what the
-//! driver does with them. Contracts say which calls are the driver's, and how its plain state follows from them.
+//! `ring.rt` has the ring as the driver keeps it, `receive.rt` one step for each event that it makes on the ring, from
+//! one stage to the next, and `posting.rt` what it does with them: `ReceiveRing::post` and `ReceiveRing::receive`.
+//! Contracts say which calls are the driver's, and how its plain state follows from them.
 #![tactic(auto)]
 
 mod posting;
 mod receive;
+mod ring;
 
-pub use receive::ReceiveRing;
+pub use ring::ReceiveRing;

@@ -1,29 +1,35 @@
 //! What the driver does with its receive ring: calls one after the other, each of which may be the last that is made.
 
-ghost use Rattle.std.specs.Prelude.{◌≡◌, ◌<◌, ◌+◌, ◌++◌, length, true, false, IfOk, OnOk, OnErr, option_map};
-ghost use Rattle.dma_arena.specs.Numbers.{is_own, is_free, with_free};
+ghost use Rattle.std.specs.Prelude.{ℕ, ◌≡◌, ◌<◌, ◌+◌, ◌++◌, ◌∷◌, [], length, true, false, Ok, Err, IfOk, IfErr, IfSome, IfNone, OnOk, OnErr};
+ghost use Rattle.dma_arena.specs.Numbers.{Numbers, free_count, is_own, is_free, with_free};
+ghost use Rattle.pmd_base.specs.Home.{AreOut};
 ghost use Rattle.pmd_base.specs.Packet.{kept_of};
+ghost use Rattle.pmd_rx.specs.Keeping.{Keeps, IsRunning, Posts, blocks_out, handed_block};
 ghost use Rattle.pmd_rx.specs.Plays.{Plays, LooksOnce};
-ghost use Rattle.pmd_rx.specs.Receive.{held_by, listed};
-ghost use Rattle.pmd_rx.specs.Shown.{CanLook, HasSeen, IsHolding, CanLend, HasLent, IsAway};
+ghost use Rattle.pmd_rx.specs.Receive.{Looks, fresh_of, held_by, refilled};
+ghost use Rattle.pmd_rx.specs.Shown.{CanLook, HasSeen, IsHolding, CanLend, HasLent, HasNamed};
+ghost use Rattle.pmd_rx.specs.Wrong.{FailsBy, IsFault, PacketWaits};
 
-use crate::receive::{Look, ReceiveRing};
+use crate::receive::Look;
+use crate::ring::{Due, ReceiveRing};
 use dma_arena::{Arena, Buf};
 use pmd_base::{Nic, Packet, PmdFault};
 use std::alloc::Global;
 
 impl ReceiveRing {
     /// Names the block that is lent, and moves the tail on.
-    pub fn name_and_move<N: Nic>(
+    fn name_and_move<N: Nic>(
         &mut self,
         alloc: Global,
         nic: &mut N,
     ) -> Result<Option<Packet>, PmdFault>
         requires { HasLent self.old.stage }
         ensures plays { Plays (N.made nic.old) self.old (N.made nic.new) self.new }
-        ensures out { IfOk result (λ out. option_map kept_of out ≡ held_by self.old.stage) }
-        ensures handed { OnOk result (self.new.handed ≡ self.old.handed ++ listed (held_by self.old.stage)) }
+        ensures moved { OnOk result (self.new ≡ refilled self.old (fresh_of self.old.stage)) }
+        ensures out { IfOk result (λ out. out ≡ held_by self.old.stage) }
         ensures kept { OnErr result (self.new.handed ≡ self.old.handed) }
+        ensures fault { IfErr result (λ f. IsFault f (N.made nic.old) self.old (N.made nic.new) self.new) }
+        ensures keeps { (a : Numbers) → Keeps a self.old a self.new (handed_block result) }
         ensures who { N.who nic.new ≡ N.who nic.old }
     {
         match self.name_fresh(alloc, nic) {
@@ -31,13 +37,11 @@ impl ReceiveRing {
             Err(fault) => Err(fault),
         }
     }
-}
 
-impl ReceiveRing {
     /// Lends a fresh block of the arena, names it, and moves the tail on.
     ///
     /// `NoBuffer` where no block is free: nothing is made.
-    pub fn lend_and_move<N: Nic>(
+    fn lend_and_move<N: Nic>(
         &mut self,
         alloc: Global,
         nic: &mut N,
@@ -45,11 +49,16 @@ impl ReceiveRing {
     ) -> Result<Option<Packet>, PmdFault>
         requires stage { CanLend self.old.stage }
         requires room { length self.old.layout.blocks + 1 < self.old.layout.size }
-        requires home { IsAway arena.old self.old.layout }
+        requires home { AreOut arena.old (blocks_out self.old) }
         ensures plays { Plays (N.made nic.old) self.old (N.made nic.new) self.new }
-        ensures out { IfOk result (λ out. option_map kept_of out ≡ held_by self.old.stage) }
-        ensures handed { OnOk result (self.new.handed ≡ self.old.handed ++ listed (held_by self.old.stage)) }
+        ensures moved { OnOk result ((n : ℕ) × (is_free arena.old n ≡ true)
+            × (arena.new ≡ with_free arena.old n false) × (self.new ≡ refilled self.old n)) }
+        ensures out { IfOk result (λ out. out ≡ held_by self.old.stage) }
         ensures kept { OnErr result (self.new.handed ≡ self.old.handed) }
+        ensures fails { IfErr result (λ f.
+            FailsBy f (N.made nic.old) arena.old self.old (N.made nic.new) arena.new self.new) }
+        ensures same { result ≡ Err PmdFault.NoBuffer → self.new ≡ self.old }
+        ensures keeps { Keeps arena.old self.old arena.new self.new (handed_block result) }
         ensures who { N.who nic.new ≡ N.who nic.old }
     {
         let Some(buf) = arena.take() else {
@@ -70,7 +79,7 @@ impl ReceiveRing {
     /// Looks at the next slot, and takes the packet that is there. Answers whether one is.
     ///
     /// `NoBuffer` where one is and no block is free, `DeviceFault` where it doesn't end there or isn't lent.
-    pub fn look_and_take<N: Nic>(
+    fn look_and_take<N: Nic>(
         &mut self,
         alloc: Global,
         nic: &mut N,
@@ -81,7 +90,12 @@ impl ReceiveRing {
         ensures plays { Plays (N.made nic.old) self.old (N.made nic.new) self.new }
         ensures none { result ≡ Ok false → LooksOnce (N.made nic.old) self.old (N.made nic.new) self.new }
         ensures taken { result ≡ Ok true → IsHolding self.new.stage }
+        ensures free { result ≡ Ok true → 0 < free_count arena.now }
         ensures handed { self.new.handed ≡ self.old.handed }
+        ensures fails { IfErr result (λ f.
+            FailsBy f (N.made nic.old) arena.now self.old (N.made nic.new) arena.now self.new) }
+        ensures waits { result ≡ Err PmdFault.NoBuffer → PacketWaits self.new.stage }
+        ensures keeps { (a : Numbers) → Keeps a self.old a self.new [] }
         ensures who { N.who nic.new ≡ N.who nic.old }
     {
         match self.look(alloc, nic) {
@@ -103,8 +117,13 @@ impl ReceiveRing {
         requires stage { HasSeen self.old.stage }
         ensures plays { Plays (N.made nic.old) self.old (N.made nic.new) self.new }
         ensures taken { OnOk result (IsHolding self.new.stage) }
+        ensures free { OnOk result (0 < free_count arena.now) }
         ensures yes { IfOk result (λ taken. taken ≡ true) }
         ensures handed { self.new.handed ≡ self.old.handed }
+        ensures fails { IfErr result (λ f.
+            FailsBy f (N.made nic.old) arena.now self.old (N.made nic.new) arena.now self.new) }
+        ensures same { result ≡ Err PmdFault.NoBuffer → self.new ≡ self.old }
+        ensures keeps { (a : Numbers) → Keeps a self.old a self.new [] }
         ensures who { N.who nic.new ≡ N.who nic.old }
     {
         if arena.free_blocks() == 0 {
@@ -112,6 +131,102 @@ impl ReceiveRing {
         }
         match self.take_packet(alloc, nic) {
             Ok(()) => Ok(true),
+            Err(fault) => Err(fault),
+        }
+    }
+}
+
+impl ReceiveRing {
+    /// Posts a fresh block of the arena in the vacant slot, which the device has then. One slot stays vacant.
+    ///
+    /// `NoBuffer` where no block is free: nothing is made. `DeviceFault` where the block is lent already, the ring
+    /// isn't, or the port has no such register. `Call` where a call was refused. Steps that were made stay made.
+    pub fn post<N: Nic>(
+        &mut self,
+        alloc: Global,
+        nic: &mut N,
+        arena: &mut Arena,
+    ) -> Result<(), PmdFault>
+        requires stage { self.old.stage ≡ Looks }
+        requires room { length self.old.layout.blocks + 1 < self.old.layout.size }
+        requires home { AreOut arena.old (blocks_out self.old) }
+        ensures plays { Plays (N.made nic.old) self.old (N.made nic.new) self.new }
+        ensures posted { OnOk result (Posts arena.old self.old arena.new self.new) }
+        ensures handed { self.new.handed ≡ self.old.handed }
+        ensures fails { IfErr result (λ f.
+            FailsBy f (N.made nic.old) arena.old self.old (N.made nic.new) arena.new self.new) }
+        ensures keeps { Keeps arena.old self.old arena.new self.new [] }
+        ensures who { N.who nic.new ≡ N.who nic.old }
+    {
+        match self.lend_and_move(alloc, nic, arena) {
+            Ok(None) => Ok(()),
+            Ok(Some(_packet)) => unreachable!(),
+            Err(fault) => Err(fault),
+        }
+    }
+
+    /// The next packet that came in, in order: a fresh block of the arena takes the place of its block. None where the
+    /// next slot isn't done.
+    ///
+    /// Where a packet is held, since a call after it was taken was refused, only this one is handed out, and no slot is
+    /// looked at.
+    ///
+    /// `NoBuffer` where a packet waits and no block is free; the driver is unchanged but for what it saw. `DeviceFault`
+    /// where a reply is none that a healthy queue gives. `Call` where a call was refused, or there was no memory for
+    /// the packet's record: the driver keeps where it was, and the next call goes on.
+    pub fn receive<N: Nic>(
+        &mut self,
+        alloc: Global,
+        nic: &mut N,
+        arena: &mut Arena,
+    ) -> Result<Option<Packet>, PmdFault>
+        requires running { IsRunning self.old }
+        requires home { AreOut arena.old (blocks_out self.old) }
+        ensures plays { Plays (N.made nic.old) self.old (N.made nic.new) self.new }
+        ensures some { IfOk result (λ out. IfSome out (λ packet.
+            self.new.handed ≡ self.old.handed ++ kept_of packet ∷ [])) }
+        ensures none { IfOk result (λ out. IfNone out (
+            LooksOnce (N.made nic.old) self.old (N.made nic.new) self.new)) }
+        ensures err { OnErr result (self.new.handed ≡ self.old.handed) }
+        ensures fails { IfErr result (λ f.
+            FailsBy f (N.made nic.old) arena.old self.old (N.made nic.new) arena.new self.new) }
+        ensures waits { result ≡ Err PmdFault.NoBuffer → PacketWaits self.new.stage }
+        ensures keeps { Keeps arena.old self.old arena.new self.new (handed_block result) }
+        ensures who { N.who nic.new ≡ N.who nic.old }
+    {
+        match self.due() {
+            Due::Look => self.take_and_refill(alloc, nic, arena),
+            Due::Lend => self.lend_and_move(alloc, nic, arena),
+            Due::Name => self.name_and_move(alloc, nic),
+            Due::Move => self.move_tail(alloc, nic),
+        }
+    }
+
+    /// The same, where no packet is held.
+    fn take_and_refill<N: Nic>(
+        &mut self,
+        alloc: Global,
+        nic: &mut N,
+        arena: &mut Arena,
+    ) -> Result<Option<Packet>, PmdFault>
+        requires stage { CanLook self.old.stage }
+        requires running { IsRunning self.old }
+        requires home { AreOut arena.old (blocks_out self.old) }
+        ensures plays { Plays (N.made nic.old) self.old (N.made nic.new) self.new }
+        ensures some { IfOk result (λ out. IfSome out (λ packet.
+            self.new.handed ≡ self.old.handed ++ kept_of packet ∷ [])) }
+        ensures none { IfOk result (λ out. IfNone out (
+            LooksOnce (N.made nic.old) self.old (N.made nic.new) self.new)) }
+        ensures err { OnErr result (self.new.handed ≡ self.old.handed) }
+        ensures fails { IfErr result (λ f.
+            FailsBy f (N.made nic.old) arena.old self.old (N.made nic.new) arena.new self.new) }
+        ensures waits { result ≡ Err PmdFault.NoBuffer → PacketWaits self.new.stage }
+        ensures keeps { Keeps arena.old self.old arena.new self.new (handed_block result) }
+        ensures who { N.who nic.new ≡ N.who nic.old }
+    {
+        match self.look_and_take(alloc, nic, arena) {
+            Ok(true) => self.lend_and_move(alloc, nic, arena),
+            Ok(false) => Ok(None),
             Err(fault) => Err(fault),
         }
     }

@@ -1,41 +1,25 @@
 //! The receive side of the driver: one step for each of its calls, from one stage to the next.
 
-ghost use Rattle.std.specs.Prelude.{◌≡◌, ◌<◌, ◌≤◌, ◌+◌, ◌++◌, ◌⊎◌, length, IsFalse, Ok, true, false, IfOk, IfErr, OnOk, OnErr, option_map, [], vec_len};
+ghost use Rattle.std.specs.Prelude.{◌≡◌, ◌<◌, ◌≤◌, ◌+◌, ◌++◌, length, IsFalse, Ok, true, false, IfOk, IfErr, OnOk, OnErr, [], vec_len};
 ghost use Rattle.std.specs.Vec.{vec_capacity};
+ghost use Rattle.dma_arena.specs.Numbers.{Numbers};
 ghost use Rattle.dma_ring.specs.Descriptor.{second_half};
 ghost use Rattle.dma_ring.specs.Receive.{is_done};
 ghost use Rattle.pmd_rx.specs.Plays.{Plays, LooksOnce};
 ghost use Rattle.pmd_rx.specs.Receive.{looked, took, lent_one, named, moved, descriptor_at, slot_at, block_at, vacant, naming, fresh_of, held_by, listed, MayLend};
-ghost use Rattle.pmd_base.specs.Packet.{kept_of};
-ghost use Rattle.pmd_base.specs.Made.{AddsSome};
-ghost use Rattle.pmd_rx.specs.Shown.{CanLook, HasSeen, IsHolding, CanLend, HasLent, HasNamed, IsTailWritten};
+ghost use Rattle.pmd_rx.specs.Wrong.{EndsWrong, IsFault, IsRefused, is_whole};
+ghost use Rattle.pmd_rx.specs.Keeping.{Keeps, handed_block};
+ghost use Rattle.pmd_rx.specs.Shown.{CanLook, HasSeen, IsHolding, CanLend, HasLent, HasNamed, IsTailWritten, IsUnwritten};
 
+use crate::ring::{At, ReceiveRing};
 use device_lock::CallFault;
 use dma_arena::{BLOCK_BYTES, Buf};
 use dma_ring::{
     first_half, hash_told, is_last, is_written_back, length_told, of_halves, posted_word, rss_told,
     second_half,
 };
-use nic_device::Port;
 use pmd_base::{Nic, Packet, PmdFault, Record, lend, peek, poke, take, write};
 use std::alloc::Global;
-use std::collections::VecDeque;
-use std::marker::Model;
-
-/// Where the driver is between two of its calls.
-#[derive(Clone, Copy)]
-pub enum At {
-    /// It looks at the next slot.
-    Looks,
-    /// It saw a packet there, whose descriptor has these halves.
-    Sees(u64, u64),
-    /// It has taken the slot's block, or starts, and is to lend a fresh block.
-    Refills,
-    /// It lent this block.
-    Lent(u32),
-    /// The descriptor of the vacant slot names this block.
-    Named(u32),
-}
 
 /// What a look at the next slot tells.
 #[derive(Clone, Copy)]
@@ -46,48 +30,6 @@ pub enum Look {
     Packet,
     /// What no healthy queue shows: a packet that doesn't end there, or a ring that isn't lent.
     Wrong,
-}
-
-/// The receive ring of a driver, and what it handed out.
-pub struct ReceiveRing {
-    port: Port,
-    tail: u32,
-    ring: u32,
-    size: u16,
-    next: u16,
-    blocks: VecDeque<u32>,
-    handed: Vec<Record>,
-    at: At,
-    held: Option<Packet>,
-}
-
-impl Model for ReceiveRing {
-    ghost use Rattle.pmd_rx.specs.Receive.{Receive};
-    ghost use Rattle.pmd_rx.specs.Shown.{stage_of, HoldsRight, HasRoom, IsLaidOut};
-
-    ghost Value = { Receive };
-
-    ghost view = { λ r. record {
-      layout = record {
-        port = r.port;
-        tail = r.tail;
-        ring = r.ring;
-        size = r.size;
-        next = r.next;
-        blocks = r.blocks.items;
-      };
-      handed = r.handed.items;
-      stage = stage_of r.at r.held;
-    } };
-
-    ghost invariant = { λ r. HoldsRight r.at r.held × HasRoom r.at r.size r.blocks.items × IsLaidOut (record {
-      port = r.port;
-      tail = r.tail;
-      ring = r.ring;
-      size = r.size;
-      next = r.next;
-      blocks = r.blocks.items;
-    }) };
 }
 
 impl ReceiveRing {
@@ -104,6 +46,7 @@ impl ReceiveRing {
         ensures saw { self.new ≡ looked self.old bytes.now }
         ensures nothing { result ≡ Look.Nothing → IsFalse (is_done (second_half bytes.now)) × (self.new ≡ self.old) }
         ensures packet { result ≡ Look.Packet → HasSeen self.new.stage }
+        ensures wrong { result ≡ Look.Wrong → IsFalse (is_whole bytes.now) × (self.new ≡ self.old) }
         ensures kept { (self.new.layout ≡ self.old.layout) × (self.new.handed ≡ self.old.handed) }
     {
         let second = second_half(bytes);
@@ -118,13 +61,16 @@ impl ReceiveRing {
     }
 
     /// Looks at the next slot.
-    pub fn look<N: Nic>(&mut self, alloc: Global, nic: &mut N) -> Result<Look, PmdFault>
+    pub(crate) fn look<N: Nic>(&mut self, alloc: Global, nic: &mut N) -> Result<Look, PmdFault>
         requires some { 0 < length self.old.layout.blocks }
         requires stage { CanLook self.old.stage }
         ensures plays { Plays (N.made nic.old) self.old (N.made nic.new) self.new }
         ensures nothing { result ≡ Ok Look.Nothing → LooksOnce (N.made nic.old) self.old (N.made nic.new) self.new }
         ensures packet { result ≡ Ok Look.Packet → HasSeen self.new.stage }
+        ensures wrong { result ≡ Ok Look.Wrong → EndsWrong (N.made nic.old) self.old (N.made nic.new) self.new }
+        ensures refused { IfErr result (λ fault. IsRefused fault) }
         ensures kept { (self.new.layout ≡ self.old.layout) × (self.new.handed ≡ self.old.handed) }
+        ensures keeps { (a : Numbers) → Keeps a self.old a self.new [] }
         ensures who { N.who nic.new ≡ N.who nic.old }
     {
         let address = self.next_descriptor();
@@ -138,13 +84,15 @@ impl ReceiveRing {
     /// Takes the block of the packet that was seen, and holds the packet.
     ///
     /// `DeviceFault` where the block isn't lent any more.
-    pub fn take_packet<N: Nic>(&mut self, alloc: Global, nic: &mut N) -> Result<(), PmdFault>
+    pub(crate) fn take_packet<N: Nic>(&mut self, alloc: Global, nic: &mut N) -> Result<(), PmdFault>
         requires some { 0 < length self.old.layout.blocks }
         requires stage { HasSeen self.old.stage }
         ensures plays { Plays (N.made nic.old) self.old (N.made nic.new) self.new }
         ensures handed { self.new.handed ≡ self.old.handed }
         ensures holds { OnOk result (IsHolding self.new.stage) }
         ensures kept { OnErr result (self.new ≡ self.old) }
+        ensures fault { IfErr result (λ f. IsFault f (N.made nic.old) self.old (N.made nic.new) self.new) }
+        ensures keeps { (a : Numbers) → Keeps a self.old a self.new [] }
         ensures who { N.who nic.new ≡ N.who nic.old }
     {
         let block = self.next_block();
@@ -205,7 +153,7 @@ impl ReceiveRing {
     /// Lends a fresh block. It comes back where it can't be lent.
     ///
     /// `DeviceFault` where one of its number is lent already.
-    pub fn lend_fresh<N: Nic>(
+    pub(crate) fn lend_fresh<N: Nic>(
         &mut self,
         alloc: Global,
         nic: &mut N,
@@ -217,6 +165,8 @@ impl ReceiveRing {
         ensures lent { OnOk result (self.new ≡ lent_one self.old self.old.stage buf.number) }
         ensures kept { OnErr result (self.new ≡ self.old) }
         ensures back { IfErr result (λ refused. refused.1.number ≡ buf.number) }
+        ensures fault { IfErr result (λ refused.
+            IsFault refused.0 (N.made nic.old) self.old (N.made nic.new) self.new) }
         ensures who { N.who nic.new ≡ N.who nic.old }
     {
         let block = buf.block();
@@ -243,11 +193,12 @@ impl ReceiveRing {
     /// Names the fresh block in the descriptor of the vacant slot.
     ///
     /// `DeviceFault` where the ring isn't lent any more.
-    pub fn name_fresh<N: Nic>(&mut self, alloc: Global, nic: &mut N) -> Result<(), PmdFault>
+    pub(crate) fn name_fresh<N: Nic>(&mut self, alloc: Global, nic: &mut N) -> Result<(), PmdFault>
         requires { HasLent self.old.stage }
         ensures plays { Plays (N.made nic.old) self.old (N.made nic.new) self.new }
         ensures named { OnOk result (self.new ≡ named self.old self.old.stage) }
         ensures kept { OnErr result (self.new ≡ self.old) }
+        ensures fault { IfErr result (λ f. IsFault f (N.made nic.old) self.old (N.made nic.new) self.new) }
         ensures who { N.who nic.new ≡ N.who nic.old }
     {
         let address = self.vacant_descriptor();
@@ -296,7 +247,7 @@ impl ReceiveRing {
     /// nothing was.
     ///
     /// `DeviceFault` where the port has no such register.
-    pub fn move_tail<N: Nic>(
+    pub(crate) fn move_tail<N: Nic>(
         &mut self,
         alloc: Global,
         nic: &mut N,
@@ -304,8 +255,10 @@ impl ReceiveRing {
         requires { HasNamed self.old.stage }
         ensures plays { Plays (N.made nic.old) self.old (N.made nic.new) self.new }
         ensures moved { OnOk result (self.new ≡ moved self.old self.old.stage) }
-        ensures out { IfOk result (λ out. option_map kept_of out ≡ held_by self.old.stage) }
+        ensures out { IfOk result (λ out. out ≡ held_by self.old.stage) }
         ensures kept { OnErr result (self.new ≡ self.old) }
+        ensures fault { IfErr result (λ f. IsFault f (N.made nic.old) self.old (N.made nic.new) self.new) }
+        ensures keeps { (a : Numbers) → Keeps a self.old a self.new (handed_block result) }
         ensures who { N.who nic.new ≡ N.who nic.old }
     {
         self.write_tail(alloc, nic)
@@ -316,10 +269,10 @@ impl ReceiveRing {
         requires { HasNamed self.old.stage }
         ensures made { OnOk result (IsTailWritten (N.made nic.old) (N.made nic.new) self.old.layout true) }
         ensures moved { OnOk result (self.new ≡ moved self.old self.old.stage) }
-        ensures out { IfOk result (λ out. option_map kept_of out ≡ held_by self.old.stage) }
+        ensures out { IfOk result (λ out. out ≡ held_by self.old.stage) }
         ensures kept { OnErr result (self.new ≡ self.old) }
-        ensures failed { OnErr result (IsTailWritten (N.made nic.old) (N.made nic.new) self.old.layout false
-            ⊎ AddsSome (N.made nic.old) (N.made nic.new)) }
+        ensures failed { IfErr result (λ f.
+            IsUnwritten f (N.made nic.old) (N.made nic.new) self.old.layout) }
         ensures who { N.who nic.new ≡ N.who nic.old }
     {
         let At::Named(block) = self.at else {
@@ -355,7 +308,7 @@ fn hand_out(held: &mut Option<Packet>, handed: &mut Vec<Record>, room: Vec<u8>) 
     requires record { vec_len handed.old < vec_capacity handed.old }
     ensures out { result ≡ held.old }
     ensures none { held.new ≡ None }
-    ensures kept { handed.new.items ≡ handed.old.items ++ listed (option_map kept_of held.old) }
+    ensures kept { handed.new.items ≡ handed.old.items ++ listed held.old }
 {
     match held.take() {
         None => None,

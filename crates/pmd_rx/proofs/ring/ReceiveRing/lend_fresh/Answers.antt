@@ -1,8 +1,8 @@
 use Rattle.std.proofs.Common.{◌≡◌, ℕ, subst}
 use Rattle.pmd_rx.specs.Receive.{lent_one}
-use Rattle.pmd_rx.proofs.Own.{lend_plays, lend_misses}
+use Rattle.pmd_rx.proofs.Own.{lend_plays, lend_misses, lend_wrong}
 use Rattle.pmd_rx.proofs.Playing.{plays_some}
-use Rattle.pmd_rx.proofs.receive.ReceiveRing.lend_fresh.Goals as goal
+use Rattle.pmd_rx.proofs.ring.ReceiveRing.lend_fresh.Goals as goal
 
 pub returns-in-Ok-None-clause-plays : goal.returns-in-Ok-None-clause-plays
 returns-in-Ok-None-clause-plays g c =
@@ -20,3 +20,8 @@ returns-in-Ok-Some-clause-plays g c =
 pub returns-in-Err-clause-plays : goal.returns-in-Err-clause-plays
 returns-in-Err-clause-plays g c =
     plays_some (g.N.Nic.made c.args.nic.now) (g.N.Nic.made c.lend.new.nic) c.args.self.now c.in-Err.ensures.refused
+
+pub returns-in-Ok-Some-clause-fault : goal.returns-in-Ok-Some-clause-fault
+returns-in-Ok-Some-clause-fault g c =
+    lend_wrong (g.N.Nic.made c.args.nic.now) (g.N.Nic.made c.lend.new.nic) c.args.self.now c.args.buf c.in-Ok-Some.buf
+    c.requires.stage c.requires.fresh (rw c.in-Ok-Some.field-0-is at c.in-Ok-Some.ensures.made)

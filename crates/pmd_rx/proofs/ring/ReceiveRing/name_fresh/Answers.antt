@@ -1,6 +1,6 @@
-use Rattle.pmd_rx.proofs.Own.{name_plays, name_misses}
+use Rattle.pmd_rx.proofs.Own.{name_plays, name_misses, name_wrong}
 use Rattle.pmd_rx.proofs.Playing.{plays_some}
-use Rattle.pmd_rx.proofs.receive.ReceiveRing.name_fresh.Goals as goal
+use Rattle.pmd_rx.proofs.ring.ReceiveRing.name_fresh.Goals as goal
 
 pub returns-in-Ok-true-clause-plays : goal.returns-in-Ok-true-clause-plays
 returns-in-Ok-true-clause-plays g c =
@@ -17,3 +17,9 @@ returns-in-Ok-false-clause-plays g c =
 pub returns-in-Err-clause-plays : goal.returns-in-Err-clause-plays
 returns-in-Err-clause-plays g c =
     plays_some (g.N.Nic.made c.args.nic.now) (g.N.Nic.made c.poke.new.nic) c.args.self.now c.in-Err.ensures.refused
+
+pub returns-in-Ok-false-clause-fault : goal.returns-in-Ok-false-clause-fault
+returns-in-Ok-false-clause-fault g c =
+    name_wrong (g.N.Nic.made c.args.nic.now) (g.N.Nic.made c.poke.new.nic) c.args.self.now
+    c.vacant_descriptor-address.result c.fresh_descriptor-bytes.result c.requires c.vacant_descriptor-address.ensures
+    c.fresh_descriptor-bytes.ensures (rw c.in-Ok-false.field-0-test at c.in-Ok-false.ensures.made)

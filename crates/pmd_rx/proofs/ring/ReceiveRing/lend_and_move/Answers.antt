@@ -1,0 +1,97 @@
+use Rattle.std.proofs.Common.{◌≡◌, [], refl, sym, subst}
+use Rattle.dma_arena.specs.Numbers.{Numbers}
+use Rattle.pmd_rx.specs.Keeping.{Keeps, handed_block}
+use Rattle.pmd_rx.specs.Receive.{lent_one}
+use Rattle.pmd_rx.proofs.Failing.{faults_after, fails_all, fails_of, never_short}
+use Rattle.pmd_rx.proofs.Fresh.{may_lend, lent_stage, own_after, away_after, back_home}
+use Rattle.pmd_rx.proofs.Keeping.{keeps_to, keeps_both, keeps_still}
+use Rattle.pmd_rx.proofs.Playing.{plays_both, plays_none}
+use Rattle.pmd_rx.proofs.Refilling.{lent_keeps}
+use Rattle.pmd_rx.proofs.Stages.{lent_moved, lent_out}
+use Rattle.pmd_rx.proofs.ring.ReceiveRing.lend_and_move.Goals as goal
+
+pub lend_fresh-requires-clause-fresh : goal.lend_fresh-requires-clause-fresh
+lend_fresh-requires-clause-fresh g c =
+    may_lend c.args.arena.now c.args.self.now c.in-Some.buf c.in-Some.ensures.free c.requires.home
+    c.bytes-whole.ensures.whole.small c.requires.room c.bytes-whole.ensures.whole.size
+
+pub name_and_move-requires : goal.name_and_move-requires
+name_and_move-requires g c = rw c.in-Ok.ensures.lent (lent_stage c.args.self.now _ c.requires.stage)
+
+pub give_back-requires-clause-own : goal.give_back-requires-clause-own
+give_back-requires-clause-own g c =
+    own_after c.args.arena.now c.take.new.self c.in-Some.buf.number _ c.in-Some.ensures.free c.in-Some.ensures.taken
+    c.in-Err.ensures.back
+
+pub give_back-requires-clause-away : goal.give_back-requires-clause-away
+give_back-requires-clause-away g c =
+    away_after c.args.arena.now c.take.new.self c.in-Some.buf.number _ c.in-Some.ensures.free c.in-Some.ensures.taken
+    c.in-Err.ensures.back
+
+pub returns-in-Ok-clause-plays : goal.returns-in-Ok-clause-plays
+returns-in-Ok-clause-plays g c =
+    plays_both (g.N.Nic.made c.args.nic.now) (g.N.Nic.made c.lend_fresh.new.nic) (g.N.Nic.made c.name_and_move.new.nic)
+    c.args.self.now c.lend_fresh.new.self c.name_and_move.new.self c.lend_fresh.ensures.plays
+    c.name_and_move.ensures.plays
+
+pub returns-in_default-clause-plays : goal.returns-in_default-clause-plays
+returns-in_default-clause-plays g c = plays_none (g.N.Nic.made c.args.nic.now) c.args.self.now
+
+pub returns-in-Ok-clause-moved : goal.returns-in-Ok-clause-moved
+returns-in-Ok-clause-moved g c =
+    lent_moved c.name_and_move.result c.args.arena.now c.take.new.self c.args.self.now c.lend_fresh.new.self
+    c.name_and_move.new.self c.in-Some.buf.number c.requires.stage c.in-Some.ensures.free c.in-Some.ensures.taken
+    c.in-Ok.ensures.lent c.name_and_move.ensures.moved
+
+pub returns-in-Ok-clause-out : goal.returns-in-Ok-clause-out
+returns-in-Ok-clause-out g c =
+    lent_out c.name_and_move.result c.args.self.now c.lend_fresh.new.self c.in-Some.buf.number c.requires.stage
+    c.in-Ok.ensures.lent c.name_and_move.ensures.out
+
+pub returns-in-Ok-clause-fails : goal.returns-in-Ok-clause-fails
+returns-in-Ok-clause-fails g c =
+    let old = g.N.Nic.made c.args.nic.now in
+    let mid = g.N.Nic.made c.lend_fresh.new.nic in
+    let new = g.N.Nic.made c.name_and_move.new.nic in
+    fails_all c.name_and_move.result old new c.args.arena.now c.take.new.self c.args.self.now
+    c.name_and_move.new.self
+    (faults_after c.name_and_move.result old mid new c.args.self.now c.lend_fresh.new.self c.name_and_move.new.self
+    c.lend_fresh.ensures.plays c.name_and_move.ensures.fault)
+
+pub returns-in-Err-clause-fails : goal.returns-in-Err-clause-fails
+returns-in-Err-clause-fails g c =
+    fails_of c.in-Err.fault (g.N.Nic.made c.args.nic.now) (g.N.Nic.made c.lend_fresh.new.nic) c.args.arena.now
+    c.give_back.new.arena c.args.self.now c.lend_fresh.new.self c.in-Err.ensures.fault
+
+pub returns-in-Ok-clause-same : goal.returns-in-Ok-clause-same
+returns-in-Ok-clause-same g c short =
+    absurd (never_short c.name_and_move.result (g.N.Nic.made c.lend_fresh.new.nic)
+    (g.N.Nic.made c.name_and_move.new.nic) c.lend_fresh.new.self c.name_and_move.new.self
+    c.name_and_move.ensures.fault short)
+
+pub returns-in-Err-clause-same : goal.returns-in-Err-clause-same
+returns-in-Err-clause-same g c short = c.in-Err.ensures.kept
+
+pub returns-in-Ok-clause-keeps : goal.returns-in-Ok-clause-keeps
+returns-in-Ok-clause-keeps g c =
+    let a = c.args.arena.now in
+    let b = c.take.new.self in
+    let v = c.args.self.now in
+    let w = c.lend_fresh.new.self in
+    let n = c.in-Some.buf.number in
+    let lent : Keeps a v b (lent_one v v.stage n) [] =
+    subst (λ (d : Numbers). Keeps a v d (lent_one v v.stage n) []) (sym c.in-Some.ensures.taken)
+    (lent_keeps a v n c.requires.stage c.in-Some.ensures.free c.requires.room) in
+    keeps_both a b b v w c.name_and_move.new.self (handed_block c.name_and_move.result)
+    (keeps_to a b v (lent_one v v.stage n) w [] c.in-Ok.ensures.lent lent) (c.name_and_move.ensures.keeps b)
+
+pub returns-in-Err-clause-keeps : goal.returns-in-Err-clause-keeps
+returns-in-Err-clause-keeps g c =
+    keeps_still c.args.arena.now c.give_back.new.arena c.args.self.now c.lend_fresh.new.self
+    (back_home c.args.arena.now c.take.new.self c.give_back.new.arena c.in-Some.buf.number _ c.in-Some.ensures.free
+    c.in-Some.ensures.taken c.in-Err.ensures.back c.give_back.ensures)
+    c.in-Err.ensures.kept
+
+pub returns-in_default-clause-keeps : goal.returns-in_default-clause-keeps
+returns-in_default-clause-keeps g c =
+    keeps_still c.args.arena.now c.take.new.self c.args.self.now c.args.self.now c.in_default.ensures.kept refl

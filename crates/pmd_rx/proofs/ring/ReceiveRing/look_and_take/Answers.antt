@@ -1,0 +1,42 @@
+use Rattle.std.proofs.Common.{[], Ok, ap, sym, subst}
+use Rattle.pmd_rx.specs.Receive.{Receive}
+use Rattle.pmd_rx.specs.Wrong.{PacketWaits}
+use Rattle.pmd_rx.specs.declared.receive.Look.{Look}
+use Rattle.pmd_rx.proofs.Failing.{fails_behind, fails_of, refused_fault, err_same}
+use Rattle.pmd_rx.proofs.Handing.{seen_waits, refused_never}
+use Rattle.pmd_rx.proofs.Keeping.{keeps_both}
+use Rattle.pmd_rx.proofs.Playing.{plays_both}
+use Rattle.pmd_rx.proofs.ring.ReceiveRing.look_and_take.Goals as goal
+
+pub returns-in-Ok-Packet-clause-plays : goal.returns-in-Ok-Packet-clause-plays
+returns-in-Ok-Packet-clause-plays g c =
+    plays_both (g.N.Nic.made c.args.nic.now) (g.N.Nic.made c.look.new.nic) (g.N.Nic.made c.take_seen.new.nic)
+    c.args.self.now c.look.new.self c.take_seen.new.self c.look.ensures.plays c.take_seen.ensures.plays
+
+pub returns-in-Ok-Packet-clause-fails : goal.returns-in-Ok-Packet-clause-fails
+returns-in-Ok-Packet-clause-fails g c =
+    fails_behind c.take_seen.result (g.N.Nic.made c.args.nic.now) (g.N.Nic.made c.look.new.nic)
+    (g.N.Nic.made c.take_seen.new.nic) c.args.arena.now c.args.arena.now c.args.self.now c.look.new.self
+    c.take_seen.new.self c.look.ensures.plays c.look.ensures.kept.0 c.look.ensures.kept.1 c.take_seen.ensures.fails
+
+pub returns-in-Err-clause-fails : goal.returns-in-Err-clause-fails
+returns-in-Err-clause-fails g c =
+    let old = g.N.Nic.made c.args.nic.now in
+    let new = g.N.Nic.made c.look.new.nic in
+    fails_of c.in-Err.fault old new c.args.arena.now c.args.arena.now c.args.self.now c.look.new.self
+    (refused_fault c.in-Err.fault old new c.args.self.now c.look.new.self c.in-Err.ensures.refused)
+
+pub returns-in-Ok-Packet-clause-waits : goal.returns-in-Ok-Packet-clause-waits
+returns-in-Ok-Packet-clause-waits g c short =
+    subst (λ (y : Receive). PacketWaits y.stage) (sym (c.take_seen.ensures.same short))
+    (seen_waits c.look.new.self.stage
+    (c.in-Ok-Packet.ensures.packet (ap (λ (l : Look). Ok l) c.in-Ok-Packet.field-0-is)))
+
+pub returns-in-Err-clause-waits : goal.returns-in-Err-clause-waits
+returns-in-Err-clause-waits g c short =
+    absurd (refused_never c.in-Err.fault c.in-Err.ensures.refused (err_same short))
+
+pub returns-in-Ok-Packet-clause-keeps : goal.returns-in-Ok-Packet-clause-keeps
+returns-in-Ok-Packet-clause-keeps g c a =
+    keeps_both a a a c.args.self.now c.look.new.self c.take_seen.new.self [] (c.look.ensures.keeps a)
+    (c.take_seen.ensures.keeps a)

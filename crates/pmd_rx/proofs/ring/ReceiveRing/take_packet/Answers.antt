@@ -1,0 +1,39 @@
+use Rattle.std.proofs.Common.{[], ◌∙◌}
+use Rattle.pmd_rx.specs.Receive.{took}
+use Rattle.pmd_rx.proofs.Keeping.{keeps_none, keeps_to, took_keeps}
+use Rattle.pmd_rx.proofs.Own.{take_plays, take_misses, take_wrong}
+use Rattle.pmd_rx.proofs.Playing.{plays_some}
+use Rattle.pmd_rx.proofs.ring.ReceiveRing.take_packet.Goals as goal
+
+pub returns-in-Ok-Some-clause-plays : goal.returns-in-Ok-Some-clause-plays
+returns-in-Ok-Some-clause-plays g c =
+    take_plays (g.N.Nic.made c.args.nic.now) (g.N.Nic.made c.take.new.nic) c.args.self.now c.hold.new.self
+    c.next_block-block.result c.in-Ok-Some.buf c.requires.stage c.next_block-block.ensures
+    (rw c.in-Ok-Some.field-0-is at c.in-Ok-Some.ensures.made) c.hold.ensures
+
+pub returns-in-Ok-None-clause-plays : goal.returns-in-Ok-None-clause-plays
+returns-in-Ok-None-clause-plays g c =
+    take_misses (g.N.Nic.made c.args.nic.now) (g.N.Nic.made c.take.new.nic) c.args.self.now c.next_block-block.result
+    c.requires.stage c.next_block-block.ensures (rw c.in-Ok-None.field-0-is at c.in-Ok-None.ensures.made)
+
+pub returns-in-Err-clause-plays : goal.returns-in-Err-clause-plays
+returns-in-Err-clause-plays g c =
+    plays_some (g.N.Nic.made c.args.nic.now) (g.N.Nic.made c.take.new.nic) c.args.self.now c.in-Err.ensures.refused
+
+pub returns-in-Ok-None-clause-fault : goal.returns-in-Ok-None-clause-fault
+returns-in-Ok-None-clause-fault g c =
+    take_wrong (g.N.Nic.made c.args.nic.now) (g.N.Nic.made c.take.new.nic) c.args.self.now c.next_block-block.result
+    c.requires.stage c.next_block-block.ensures (rw c.in-Ok-None.field-0-is at c.in-Ok-None.ensures.made)
+
+pub returns-in-Ok-Some-clause-keeps : goal.returns-in-Ok-Some-clause-keeps
+returns-in-Ok-Some-clause-keeps g c a =
+    let v = c.args.self.now in
+    keeps_to a a v (took v v.stage c.in-Ok-Some.buf) c.hold.new.self [] c.hold.ensures
+    (took_keeps a v c.in-Ok-Some.buf c.requires.stage c.requires.some
+    ((rw c.in-Ok-Some.field-0-is at c.in-Ok-Some.ensures.number) ∙ c.next_block-block.ensures))
+
+pub returns-in-Ok-None-clause-keeps : goal.returns-in-Ok-None-clause-keeps
+returns-in-Ok-None-clause-keeps g c a = keeps_none a c.args.self.now
+
+pub returns-in-Err-clause-keeps : goal.returns-in-Err-clause-keeps
+returns-in-Err-clause-keeps g c a = keeps_none a c.args.self.now

@@ -1,0 +1,77 @@
+-- Why a call of the driver fails.
+use Rattle.std.specs.Prelude.{ℕ, ◌≡◌, ◌||◌, not, Bool, true, false, List, IsFalse, ⊤}
+use Rattle.dma_arena.specs.Block.{Block}
+use Rattle.dma_arena.specs.Numbers.{Numbers, free_count}
+use Rattle.dma_ring.specs.Descriptor.{second_half}
+use Rattle.dma_ring.specs.Receive.{is_done, ends_packet}
+use Rattle.nic_device.specs.declared.event.Event.{Event}
+use Rattle.nic_device.specs.declared.event.Event.TheVariants as event
+use Rattle.nic_device.specs.declared.event.Reply.{Reply}
+use Rattle.nic_device.specs.declared.event.Reply.TheVariants as reply
+use Rattle.device_lock.specs.declared.entry.Call.{Call}
+use Rattle.pmd_base.specs.Made.{Adds}
+use Rattle.pmd_base.specs.declared.fault.PmdFault.{PmdFault}
+use Rattle.pmd_base.specs.declared.fault.PmdFault.TheVariants as fault
+use Rattle.pmd_rx.specs.Plays.{Plays}
+use Rattle.pmd_rx.specs.Receive.{Receive, Stage, Looks, Sees, Holding, Lent, Named, IsOwn}
+
+-- a descriptor that isn't done, or ends its packet: a packet ends where it begins
+abbrev pub is_whole : List ℕ → Bool
+is_whole d = not (is_done (second_half d)) || ends_packet (second_half d)
+
+-- the replies that the driver's events have on a healthy queue
+abbrev pub is_healthy : Event Block → Reply Block → Bool
+is_healthy (event.Peek16 address) (reply.Bytes d) = is_whole d
+is_healthy (event.Take number) (reply.Buf block) = true
+is_healthy (event.Lend block) reply.Done = true
+is_healthy (event.Poke16 address bytes) reply.Done = true
+is_healthy (event.Write port number word) reply.Done = true
+is_healthy e r = false
+
+-- the last call was the driver's own, and its reply is none of these. It left the driver as it was
+abbrev pub EndsWrong : List Call → Receive → List Call → Receive → Type 0
+EndsWrong old v new w =
+    (mid : List Call) × (e : Event Block) × (r : Reply Block)
+    × Plays old v mid w × IsOwn w e × Adds mid new e r × IsFalse (is_healthy e r)
+
+-- a packet waits: one was seen, or one is held and no block is lent in its place
+abbrev pub PacketWaits : Stage → Type 0
+PacketWaits Looks = ⊥
+PacketWaits (Sees first second) = ⊤
+PacketWaits (Holding p) = ⊤
+PacketWaits (Lent o b) = ⊥
+PacketWaits (Named o b) = ⊥
+
+-- no block is free, and the driver is unchanged but for what it saw
+pub record IsShort (a : Numbers) (v : Receive) (b : Numbers) (w : Receive) : Type 0 where
+  pub none : free_count a ≡ 0
+  pub arena : b ≡ a
+  pub layout : w.layout ≡ v.layout
+  pub handed : w.handed ≡ v.handed
+
+-- a call was refused, or there was no memory for it
+abbrev pub IsRefused : PmdFault → Type 0
+IsRefused (fault.Call refusal) = ⊤
+IsRefused fault.BadSize = ⊥
+IsRefused fault.ForeignBlock = ⊥
+IsRefused fault.StartTimeout = ⊥
+IsRefused fault.NoBuffer = ⊥
+IsRefused fault.DeviceFault = ⊥
+
+-- the device is at fault, or a call was refused, after these calls, which led from this driver to that
+abbrev pub IsFault : PmdFault → List Call → Receive → List Call → Receive → Type 0
+IsFault fault.DeviceFault old v new w = EndsWrong old v new w
+IsFault (fault.Call refusal) old v new w = ⊤
+IsFault fault.BadSize old v new w = ⊥
+IsFault fault.ForeignBlock old v new w = ⊥
+IsFault fault.StartTimeout old v new w = ⊥
+IsFault fault.NoBuffer old v new w = ⊥
+
+-- the same, with the arena before and after, which may have no free block
+abbrev pub FailsBy : PmdFault → List Call → Numbers → Receive → List Call → Numbers → Receive → Type 0
+FailsBy fault.NoBuffer old a v new b w = IsShort a v b w
+FailsBy fault.DeviceFault old a v new b w = EndsWrong old v new w
+FailsBy (fault.Call refusal) old a v new b w = ⊤
+FailsBy fault.BadSize old a v new b w = ⊥
+FailsBy fault.ForeignBlock old a v new b w = ⊥
+FailsBy fault.StartTimeout old a v new b w = ⊥

@@ -1,0 +1,10 @@
+pub mod Fields
+pub mod Freeing
+pub mod Lending
+pub mod Loop
+pub mod Outstanding
+pub mod Own
+pub mod Padded
+pub mod Passing
+pub mod Playing
+pub mod Viewed

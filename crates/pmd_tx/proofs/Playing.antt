@@ -1,0 +1,140 @@
+-- What a call adds to a driver's plays.
+use Rattle.std.proofs.Common.{◌≡◌, ◌<◌, false, List, [], ◌∷◌, ◌++◌, Result, Ok, Err, IfErr, IfOk, refl, sym, ap, ◌∙◌, subst, append_assoc}
+use Rattle.std.proofs.lemmas.List.{append-nil}
+use Rattle.dma_arena.specs.Block.{Block}
+use Rattle.nic_device.specs.declared.event.Event.{Event}
+use Rattle.nic_device.specs.declared.event.Reply.{Reply}
+use Rattle.device_lock.specs.declared.entry.Call.{Call}
+use Rattle.device_lock.specs.Pass.{call_of}
+use Rattle.pmd_base.specs.Made.{Adds, AddsSome}
+use Rattle.pmd_base.specs.declared.fault.PmdFault.{PmdFault}
+use Rattle.pmd_base.specs.declared.fault.PmdFault.TheVariants.{DeviceFault}
+use Rattle.pmd_tx.specs.declared.answer.Reaped.{Reaped}
+use Rattle.pmd_tx.specs.Plays.{Plays, AllOwn, played_by, Faults, FaultsBy, LooksLast}
+use Rattle.pmd_tx.specs.Sending.{Sender, Move, Elsewhere, IsOwn, moved, is_healthy}
+
+abbrev pub elsewhere : List Call → List Move
+elsewhere [] = []
+elsewhere (n ∷ calls) = Elsewhere ∷ elsewhere calls
+
+own-elsewhere : (v : Sender) (calls : List Call) → AllOwn v (elsewhere calls) calls
+own-elsewhere v [] = tt
+own-elsewhere v (n ∷ calls) = (tt, own-elsewhere v calls)
+
+played-elsewhere : (v : Sender) (calls : List Call) → played_by v (elsewhere calls) calls ≡ v
+played-elsewhere v [] = refl
+played-elsewhere v (n ∷ calls) = played-elsewhere v calls
+
+own-last : (v : Sender) (before : List Call) (m : Move) (e : Event Block) (r : Reply Block) → IsOwn v m e
+    → AllOwn v (elsewhere before ++ m ∷ []) (before ++ call_of e r ∷ [])
+own-last v [] m e r own = (own, tt)
+own-last v (n ∷ before) m e r own = (tt, own-last v before m e r own)
+
+played-last : (v : Sender) (before : List Call) (m : Move) (e : Event Block) (r : Reply Block)
+    → played_by v (elsewhere before ++ m ∷ []) (before ++ call_of e r ∷ []) ≡ moved v m r
+played-last v [] m e r = refl
+played-last v (n ∷ before) m e r = played-last v before m e r
+
+-- an own event after calls that aren't own
+pub plays_adds : (old new : List Call) (v : Sender) (m : Move) (e : Event Block) (r : Reply Block) → IsOwn v m e
+    → Adds old new e r → Plays old v new (moved v m r)
+plays_adds old new v m e r own (before, is) = (
+  elsewhere before ++ m ∷ [],
+  before ++ call_of e r ∷ [],
+  is,
+  own-last v before m e r own,
+  sym (played-last v before m e r),
+)
+
+pub plays_some : (old new : List Call) (v : Sender) → AddsSome old new → Plays old v new v
+plays_some old new v (before, is) =
+    (elsewhere before, before, is, own-elsewhere v before, sym (played-elsewhere v before))
+
+-- nothing was made
+pub plays_none : (old : List Call) (v : Sender) → Plays old v old v
+plays_none old v = plays_some old old v ([], sym (append-nil old))
+
+-- plays follow each other
+
+own-both : (v : Sender) (m : List Move) (s : List Call) (n : List Move) (t : List Call) → AllOwn v m s
+    → AllOwn (played_by v m s) n t → AllOwn v (m ++ n) (s ++ t)
+own-both v [] [] n t a b = b
+own-both v [] (x ∷ s) n t a b = absurd a
+own-both v (k ∷ m) [] n t a b = absurd a
+own-both v (k ∷ m) (x ∷ s) n t (own, a) b = (own, own-both (moved v k x.reply) m s n t a b)
+
+played-both : (v : Sender) (m : List Move) (s : List Call) (n : List Move) (t : List Call) → AllOwn v m s
+    → played_by v (m ++ n) (s ++ t) ≡ played_by (played_by v m s) n t
+played-both v [] [] n t a = refl
+played-both v [] (x ∷ s) n t a = absurd a
+played-both v (k ∷ m) [] n t a = absurd a
+played-both v (k ∷ m) (x ∷ s) n t (own, a) = played-both (moved v k x.reply) m s n t a
+
+pub plays_both : (a b d : List Call) (v w x : Sender) → Plays a v b w → Plays b w d x → Plays a v d x
+plays_both a b d v w x (m, s, is, own, by) (n, t, then, also, on) = (
+  m ++ n,
+  s ++ t,
+  then ∙ ap (λ (l : List Call). l ++ t) is ∙ append_assoc a s t,
+  own-both v m s n t own (subst (λ (y : Sender). AllOwn y n t) by also),
+  on ∙ ap (λ (y : Sender). played_by y n t) by ∙ sym (played-both v m s n t own),
+)
+
+-- a reply that no healthy queue gives
+pub faults_at : (old new : List Call) (v : Sender) (m : Move) (e : Event Block) (r : Reply Block) → IsOwn v m e
+    → Adds old new e r → is_healthy m r ≡ false → Faults old v new
+faults_at old new v m e r own adds sick = record {
+  mid = old;
+  before = v;
+  move = m;
+  event = e;
+  reply = r;
+  plays = plays_none old v;
+  own = own;
+  adds = adds;
+  sick = sick;
+}
+
+-- after other plays
+pub faults_after : (a b d : List Call) (v w : Sender) → Plays a v b w → Faults b w d → Faults a v d
+faults_after a b d v w plays f = record {
+  mid = f.mid;
+  before = f.before;
+  move = f.move;
+  event = f.event;
+  reply = f.reply;
+  plays = plays_both a b f.mid v w f.before plays f.plays;
+  own = f.own;
+  adds = f.adds;
+  sick = f.sick;
+}
+
+pub by_after : (fault : PmdFault) (a b d : List Call) (v w : Sender) → Plays a v b w → FaultsBy fault b w d
+    → FaultsBy fault a v d
+by_after DeviceFault a b d v w plays f = faults_after a b d v w plays f
+by_after other a b d v w plays f = tt
+
+pub looks_after : (a b d : List Call) (v w x : Sender) → Plays a v b w → w.accepted ≡ v.accepted → LooksLast b w d x
+    → LooksLast a v d x
+looks_after a b d v w x plays same l = record {
+  mid = l.mid;
+  before = l.before;
+  bytes = l.bytes;
+  plays = plays_both a b l.mid v w l.before plays l.plays;
+  looks = l.looks;
+  waits = l.waits;
+  posted = l.posted;
+  accepted = l.accepted ∙ same;
+  left = l.left;
+}
+
+-- the same of a result
+pub after_all : {R E : Type 0} → (which : E → PmdFault) (r : Result R E) (a b d : List Call) (v w : Sender)
+    → Plays a v b w → IfErr r (λ e. FaultsBy (which e) b w d) → IfErr r (λ e. FaultsBy (which e) a v d)
+after_all which (Ok x) a b d v w plays f = tt
+after_all which (Err e) a b d v w plays f = by_after (which e) a b d v w plays f
+
+pub waits_after : {E : Type 0} → (r : Result Reaped E) (a b d : List Call) (v w x : Sender) → Plays a v b w
+    → w.accepted ≡ v.accepted → IfOk r (λ done. done.idle ≡ false → LooksLast b w d x)
+    → IfOk r (λ done. done.idle ≡ false → LooksLast a v d x)
+waits_after (Ok done) a b d v w x plays same l = λ is. looks_after a b d v w x plays same (l is)
+waits_after (Err e) a b d v w x plays same l = tt

@@ -1,0 +1,40 @@
+-- What contracts see of a ring's fields.
+use Rattle.std.proofs.Common.{◌≡◌, ◌≢◌, ℕ, ◌-◌, ◌<◌, ◌==◌, Bool, false, nat_eq, List, [], length, drop, refl, sym, ap, ◌∙◌, arith}
+use Rattle.std.proofs.lemmas.Bool.Decides.{nat_tests}
+use Rattle.std.proofs.lemmas.List.{nil_from_length}
+use Rattle.std.specs.List.{list_any}
+use Rattle.dma_ring.specs.Ring.{next_of}
+use Rattle.pmd_base.specs.Packet.{Kept}
+use Rattle.pmd_tx.specs.Sending.{Sender, Layout, blocks_of, has_lent, reaped}
+use Rattle.pmd_tx.specs.Sends.{forgotten}
+use Rattle.pmd_tx.specs.Shown.{IsRing, outstanding_of}
+use Rattle.pmd_tx.proofs.Fields.{shown}
+use Rattle.pmd_tx.proofs.Outstanding.{blocks-outstanding, length-outstanding, outstanding-drop}
+
+module _ (l : Layout) (bs : List ℕ) (posted : ℕ) (poked seen : Bool) (ks : List Kept)
+    (h : IsRing l bs posted poked seen ks)
+  where
+    -- the oldest goes
+    pub reaped_shown : (n : ℕ) (cs : List ℕ) → n ≡ next_of l.size l.next → cs ≡ drop 1 bs → 0 < length bs
+        → shown (record l { next = n }) cs (posted - 1) poked false ks ≡ reaped (shown l bs posted poked seen ks)
+    reaped_shown n cs at are some = rw (at, are, outstanding-drop bs ks h.known some) refl
+
+    pub forgotten_shown : (n : ℕ) (cs : List ℕ) (p : ℕ) → n ≡ next_of l.size l.next → cs ≡ drop 1 bs → 0 < length bs
+        → p ≡ posted - 1
+        → shown (record l { next = n }) cs p false false ks ≡ forgotten (shown l bs posted poked seen ks)
+    forgotten_shown n cs p at are some is = rw (at, are, is, outstanding-drop bs ks h.known some) refl
+
+    -- whether a block is lent, where it isn't the ring's
+    pub lent_shown : (v : Sender) → shown l bs posted poked seen ks ≡ v → (n own : ℕ) (r : Bool) → own ≡ v.layout.ring
+        → n ≢ own → r ≡ list_any (nat_eq n) bs → r ≡ has_lent v n
+    lent_shown v is n own r ring ne any =
+        let other : n ≢ v.layout.ring = λ same. ne (same ∙ sym ring) in
+        let off : (n == v.layout.ring) ≡ false = grind (arith, nat_tests, other) in
+        rw off
+        (any ∙ ap (λ (xs : List ℕ). list_any (nat_eq n) xs)
+        (sym (blocks-outstanding bs ks h.known) ∙ ap (λ (x : Sender). blocks_of x.outstanding) is))
+
+    pub none_shown : (v : Sender) → shown l bs posted poked seen ks ≡ v → length bs ≡ 0 → v.outstanding ≡ []
+    none_shown v is zero =
+        sym (ap (λ (x : Sender). x.outstanding) is)
+        ∙ nil_from_length (outstanding_of bs ks) (length-outstanding bs ks h.known ∙ zero)

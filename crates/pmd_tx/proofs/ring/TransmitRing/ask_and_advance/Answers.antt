@@ -1,0 +1,16 @@
+use Rattle.std.proofs.Common.{refl}
+use Rattle.pmd_tx.proofs.Playing.{plays_both, after_all}
+use Rattle.pmd_tx.proofs.ring.TransmitRing.ask_and_advance.Goals as goal
+
+pub advance-requires : goal.advance-requires
+advance-requires g c = rw c.in-Ok.ensures.asked refl
+
+pub returns-in-Ok-clause-plays : goal.returns-in-Ok-clause-plays
+returns-in-Ok-clause-plays g c =
+    plays_both (g.N.Nic.made c.args.nic.now) (g.N.Nic.made c.ask.new.nic) (g.N.Nic.made c.advance.new.nic)
+    c.args.self.now c.ask.new.self c.advance.new.self c.ask.ensures.plays c.advance.ensures.plays
+
+pub returns-in-Ok-clause-faults : goal.returns-in-Ok-clause-faults
+returns-in-Ok-clause-faults g c =
+    after_all (λ fault. fault) c.advance.result (g.N.Nic.made c.args.nic.now) (g.N.Nic.made c.ask.new.nic)
+    (g.N.Nic.made c.advance.new.nic) c.args.self.now c.ask.new.self c.ask.ensures.plays c.advance.ensures.faults

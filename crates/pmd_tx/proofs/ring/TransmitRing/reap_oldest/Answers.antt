@@ -1,0 +1,18 @@
+use Rattle.pmd_tx.proofs.Playing.{plays_both, by_after}
+use Rattle.pmd_tx.proofs.ring.TransmitRing.reap_oldest.Goals as goal
+
+pub returns-in-Ok-clause-plays : goal.returns-in-Ok-clause-plays
+returns-in-Ok-clause-plays g c =
+    plays_both (g.N.Nic.made c.args.nic.now) (g.N.Nic.made c.look.new.nic) (g.N.Nic.made c.free_oldest.new.nic)
+    c.args.self.now c.look.new.self c.free_oldest.new.self c.look.ensures.plays c.free_oldest.ensures.plays
+
+pub returns-in-Err-free_oldest-clause-plays : goal.returns-in-Err-free_oldest-clause-plays
+returns-in-Err-free_oldest-clause-plays g c =
+    plays_both (g.N.Nic.made c.args.nic.now) (g.N.Nic.made c.look.new.nic) (g.N.Nic.made c.free_oldest.new.nic)
+    c.args.self.now c.look.new.self c.free_oldest.new.self c.look.ensures.plays c.free_oldest.ensures.plays
+
+pub returns-in-Err-free_oldest-clause-faults : goal.returns-in-Err-free_oldest-clause-faults
+returns-in-Err-free_oldest-clause-faults g c =
+    by_after c.in-Err-free_oldest.fault (g.N.Nic.made c.args.nic.now) (g.N.Nic.made c.look.new.nic)
+    (g.N.Nic.made c.free_oldest.new.nic) c.args.self.now c.look.new.self c.look.ensures.plays
+    c.in-Err-free_oldest.ensures.faults

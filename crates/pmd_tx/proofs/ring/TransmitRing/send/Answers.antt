@@ -1,0 +1,26 @@
+use Rattle.std.proofs.Common.{refl}
+use Rattle.pmd_tx.proofs.Passing.{open_may}
+use Rattle.pmd_tx.proofs.Playing.{plays_none}
+use Rattle.pmd_tx.proofs.ring.TransmitRing.send.Goals as goal
+
+pub send_through-requires : goal.send_through-requires
+send_through-requires g c =
+    open_may c.args.self.now c.args.arena.now c.args.elsewhere c.args.packet c.in-Open.ensures
+
+pub returns-in-Refused-clause-plays : goal.returns-in-Refused-clause-plays
+returns-in-Refused-clause-plays g c = plays_none (g.N.Nic.made c.args.nic.now) c.args.self.now
+
+pub returns-in-Full-clause-plays : goal.returns-in-Full-clause-plays
+returns-in-Full-clause-plays g c = plays_none (g.N.Nic.made c.args.nic.now) c.args.self.now
+
+pub returns-in-Refused-clause-answer : goal.returns-in-Refused-clause-answer
+returns-in-Refused-clause-answer g c = rw (← c.in-Refused.ensures) refl
+
+pub returns-in-Full-clause-answer : goal.returns-in-Full-clause-answer
+returns-in-Full-clause-answer g c = rw (← c.in-Full.ensures) refl
+
+pub returns-in-Open-clause-answer : goal.returns-in-Open-clause-answer
+returns-in-Open-clause-answer g c = rw (← c.in-Open.ensures) c.send_through.ensures.tried
+
+pub returns-in-Open-clause-shut : goal.returns-in-Open-clause-shut
+returns-in-Open-clause-shut g c = rw (← c.in-Open.ensures) (λ shut. absurd shut)

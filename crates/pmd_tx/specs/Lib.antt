@@ -1,0 +1,5 @@
+pub mod Plays
+pub mod Sending
+pub mod Sends
+pub mod Shown
+pub mod Stages

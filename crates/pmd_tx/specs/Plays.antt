@@ -1,0 +1,60 @@
+-- How a driver that sends follows from the calls that were made: with each goes the move that it is.
+use Rattle.std.specs.Prelude.{ℕ, ◌≡◌, ◌<◌, ⊤, Bool, false, List, [], ◌∷◌, ◌++◌}
+use Rattle.dma_arena.specs.Block.{Block}
+use Rattle.nic_device.specs.declared.event.Event.{Event}
+use Rattle.nic_device.specs.declared.event.Event.TheVariants as event
+use Rattle.nic_device.specs.declared.event.Reply.{Reply}
+use Rattle.nic_device.specs.declared.event.Reply.TheVariants as reply
+use Rattle.device_lock.specs.declared.entry.Call.{Call}
+use Rattle.pmd_base.specs.Made.{Adds}
+use Rattle.pmd_base.specs.declared.fault.PmdFault.{PmdFault}
+use Rattle.pmd_base.specs.declared.fault.PmdFault.TheVariants.{DeviceFault}
+use Rattle.pmd_tx.specs.Sending.{Sender, Move, IsOwn, moved, is_healthy, is_sent, descriptor_at}
+
+-- the driver after these moves, with the replies of these calls: all that its code knows
+abbrev pub played_by : Sender → List Move → List Call → Sender
+played_by v [] calls = v
+played_by v (m ∷ moves) [] = v
+played_by v (m ∷ moves) (n ∷ calls) = played_by (moved v m n.reply) moves calls
+
+-- each call is the event of its move
+abbrev pub AllOwn : Sender → List Move → List Call → Type 0
+AllOwn v [] [] = ⊤
+AllOwn v [] (n ∷ calls) = ⊥
+AllOwn v (m ∷ moves) [] = ⊥
+AllOwn v (m ∷ moves) (n ∷ calls) = IsOwn v m n.event × AllOwn (moved v m n.reply) moves calls
+
+-- some calls were made, which by these moves lead the driver from one state to another
+abbrev pub Plays : List Call → Sender → List Call → Sender → Type 0
+Plays old v new w =
+    (moves : List Move) × (since : List Call) × (new ≡ old ++ since) × AllOwn v moves since ×
+    (w ≡ played_by v moves since)
+
+-- the last call was a look at the oldest outstanding packet, which isn't done; nothing was accepted before it
+pub record LooksLast (old : List Call) (v : Sender) (new : List Call) (w : Sender) : Type 0 where
+  pub mid : List Call
+  pub before : Sender
+  pub bytes : List ℕ
+  pub plays : Plays old v mid before
+  pub looks : Adds mid new (event.Peek16 (descriptor_at before.layout 0)) (reply.Bytes bytes)
+  pub waits : is_sent bytes ≡ false
+  pub posted : 0 < before.posted
+  pub accepted : before.accepted ≡ v.accepted
+  pub left : w ≡ record before { seen = false }
+
+-- the last call was a move of the driver's, whose reply isn't that of a healthy queue
+pub record Faults (old : List Call) (v : Sender) (new : List Call) : Type 0 where
+  pub mid : List Call
+  pub before : Sender
+  pub move : Move
+  pub event : Event Block
+  pub reply : Reply Block
+  pub plays : Plays old v mid before
+  pub own : IsOwn before move event
+  pub adds : Adds mid new event reply
+  pub sick : is_healthy move reply ≡ false
+
+-- where the device failed, so it is
+abbrev pub FaultsBy : PmdFault → List Call → Sender → List Call → Type 0
+FaultsBy DeviceFault old v new = Faults old v new
+FaultsBy fault old v new = ⊤

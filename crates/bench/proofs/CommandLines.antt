@@ -1,5 +1,5 @@
 -- One more line of commands.
-use Rattle.std.proofs.Common.{◌≡◌, refl, sym, ap, ◌∙◌, ℕ, List, [], ◌∷◌, append-nil, Result, Ok, Err}
+use Rattle.std.proofs.Common.{◌≡◌, refl, ap, ◌∙◌, ℕ, List, [], ◌∷◌, append-nil, Result, Ok, Err}
 use Rattle.debugger.specs.declared.Command.{Command}
 use Rattle.lexer.specs.Lines.{NumberedLine}
 use Rattle.lexer.specs.Words.{words_of}

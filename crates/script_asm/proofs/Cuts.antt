@@ -1,5 +1,5 @@
 -- Lines before the first that ends a script.
-use Rattle.std.proofs.Common.{◌≡◌, ◌+◌, ap, arith, refl, ◌∙◌, Bool, true, false, not, List, [], ◌∷◌, ℕ, suc, take, drop, Result, Ok, Err}
+use Rattle.std.proofs.Common.{◌≡◌, ◌+◌, ap, arith, refl, ◌∙◌, Bool, true, false, not, List, [], ◌∷◌, ℕ, suc, take, drop, Ok, Err}
 use Rattle.std.specs.List.{after_first, before_first, list_any, prefix_len}
 use Rattle.lexer.specs.Lines.{NumberedLine}
 use Rattle.script_asm.specs.End.{has_end, is_end, lines_behind}

@@ -9,8 +9,9 @@ use Rattle.command_line.specs.declared.BytesRequest.TheVariants.{Dis, LoadEeprom
 use Rattle.command_line.specs.declared.Request.{Request}
 use Rattle.command_line.specs.declared.Request.TheVariants.{Bytes, Text}
 use Rattle.command_line.specs.declared.TextRequest.{TextRequest}
-use Rattle.command_line.specs.declared.TextRequest.TheVariants.{Asm, Eeprom, Hash, Run}
+use Rattle.command_line.specs.declared.TextRequest.TheVariants.{Asm, Debug, Eeprom, Hash, Run}
 use Rattle.bench.specs.Answer.{Answer, BeginsRight, Writes, WritesRight, refused_as}
+use Rattle.bench.specs.Debug.{debug_answer}
 use Rattle.bench.specs.Eeprom.{IsImageAnswer, IsLoadAnswer}
 use Rattle.bench.specs.Hash.{hash_answer}
 use Rattle.bench.specs.Objects.{asm_answer, dis_answer}
@@ -25,6 +26,7 @@ use Rattle.bench.specs.declared.ending.Outcome.TheVariants.{Ended}
 -- the answer is what is asked for, of a text
 abbrev pub IsTextAnswer : TextRequest → List ℕ → Answer → Type 0
 IsTextAnswer (Run options) text answer = answer ≡ run_answer options text
+IsTextAnswer (Debug options) text answer = answer ≡ debug_answer options text
 IsTextAnswer Hash text answer = answer ≡ hash_answer text
 IsTextAnswer Asm text answer = answer ≡ asm_answer text
 IsTextAnswer Eeprom text answer = IsImageAnswer text answer

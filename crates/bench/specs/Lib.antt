@@ -1,4 +1,6 @@
 pub mod Answer
+pub mod Command
+pub mod Debug
 pub mod Eeprom
 pub mod Ending
 pub mod Hash
@@ -8,3 +10,4 @@ pub mod Refusal
 pub mod Reply
 pub mod Run
 pub mod Steps
+pub mod View

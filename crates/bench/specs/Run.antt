@@ -36,11 +36,16 @@ abbrev pub machine_answer : Listing → Config → ℕ → Answer
 machine_answer program config limit = let end = end_of (machine_at program config limit) in
     record { text = steps_text program config limit ++ end.text; status = end.status }
 
--- a program's run, where there can be such a controller
+-- the answer of a controller that is made so, where there can be one
+abbrev pub made_with : Config → Answer → Answer
+made_with config answer = if nat_lt 63 config.vfs then refused_as (codes "TooManyVfs")
+    else if config.fifo == 0 || nat_lt 4096 config.fifo then refused_as (codes "Fifo")
+    else answer
+
+-- a program's run
 abbrev pub program_answer : RunOptions → Listing → Answer
-program_answer options program = if nat_lt 63 options.vfs then refused_as (codes "TooManyVfs")
-    else if options.fifo == 0 || nat_lt 4096 options.fifo then refused_as (codes "Fifo")
-    else machine_answer program (config_of options) options.limit
+program_answer options program =
+    made_with (config_of options) (machine_answer program (config_of options) options.limit)
 
 -- why a text is no script, with the line that says so
 abbrev pub script_refused : ScriptFault → Answer

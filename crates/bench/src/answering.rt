@@ -16,6 +16,7 @@ use crate::output::Output;
 use crate::reading::{InputFault, read_input};
 use crate::refusal::{Refusal, write_refusal};
 use crate::script_run::run_script;
+use crate::session::debug_script;
 use clap::Error;
 use clap::error::ErrorKind;
 use command_line::{BytesRequest, Request, TextRequest, asked};
@@ -36,6 +37,7 @@ fn answer_text<W: Write>(
 {
     match request {
         TextRequest::Run(options) => run_script(alloc, text, options, output),
+        TextRequest::Debug(options) => debug_script(alloc, text, options, output),
         TextRequest::Hash => hash_lines(alloc, text, output),
         TextRequest::Asm => write_object(alloc, text, output),
         TextRequest::Eeprom => write_image(alloc, text, output),

@@ -32,7 +32,8 @@ impl<R: Read> Input<R> {
     pub fn has_failed(&self) -> bool
         ensures { result ≡ self.now.has_failed }
     {
-        self.has_failed
+        let Input { has_failed, .. } = self;
+        *has_failed
     }
 
     /// Reads are counted, and failed ones remembered, from here on.

@@ -7,6 +7,7 @@
 #![tactic(auto)]
 
 mod answering;
+mod commands;
 mod eeprom;
 mod ending;
 mod failure;
@@ -18,7 +19,9 @@ mod reading;
 mod refusal;
 mod reply;
 mod script_run;
+mod session;
 mod steps;
+mod view;
 
 pub use answering::answer;
 pub use ending::{Outcome, bench};

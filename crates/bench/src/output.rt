@@ -29,7 +29,8 @@ impl<W: Write> Output<W> {
     pub fn has_failed(&self) -> bool
         ensures { result ≡ self.now.has_failed }
     {
-        self.has_failed
+        let Output { has_failed, .. } = self;
+        *has_failed
     }
 
     /// Writes a text.

@@ -9,10 +9,11 @@ use Rattle.clap.specs.Kinds.{Kinds, or_else}
 use Rattle.clap.specs.Words.{Row, Text, fault_of, one_of, subcommand_of}
 use Rattle.clap.specs.declared.error.ErrorKind.TheVariants as kind
 use Rattle.command_line.specs.Commands.{nicbench_app}
+use Rattle.command_line.specs.declared.debug_options.DebugOptions.{DebugOptions}
 use Rattle.command_line.specs.declared.request.BytesRequest.TheVariants.{Dis, LoadEeprom}
 use Rattle.command_line.specs.declared.request.Request.{Request}
 use Rattle.command_line.specs.declared.request.Request.TheVariants.{Bytes as OfBytes, Text as OfText}
-use Rattle.command_line.specs.declared.request.TextRequest.TheVariants.{Asm, Eeprom, Hash, Run}
+use Rattle.command_line.specs.declared.request.TextRequest.TheVariants.{Asm, Debug, Eeprom, Hash, Run}
 use Rattle.command_line.specs.declared.run_options.RunOptions.{RunOptions}
 
 -- decimal digits, one at least, that say a number below 2 ^ bits
@@ -37,6 +38,13 @@ options_of rows = record {
   limit = option_in 64 (codes "limit") rows;
 }
 
+-- what the matches of `debug` ask for
+abbrev pub debug_options_of : List Row → DebugOptions
+debug_options_of rows = record {
+  vfs = option_in 8 (codes "vfs") rows;
+  fifo = option_in 16 (codes "fifo") rows;
+}
+
 -- whether a flag is given
 abbrev pub flag_in : Text → List Row → Bool
 flag_in name rows = option_map_or (λ text. bytes_eq text (codes "true")) (one_of name rows) false
@@ -48,6 +56,7 @@ eeprom_of rows = if flag_in (codes "load") rows then OfBytes LoadEeprom else OfT
 -- what a command with these matches asks for, by its name
 abbrev pub request_of : Text → List Row → Option Request
 request_of name rows = if bytes_eq name (codes "run") then Some (OfText (Run (options_of rows)))
+    else if bytes_eq name (codes "debug") then Some (OfText (Debug (debug_options_of rows)))
     else if bytes_eq name (codes "hash") then Some (OfText Hash)
     else if bytes_eq name (codes "asm") then Some (OfText Asm)
     else if bytes_eq name (codes "dis") then Some (OfBytes Dis)

@@ -27,6 +27,10 @@ limit_rule = number_rule (codes "limit") (parser.Unsigned 0 (2 ^ 64 - 1)) (codes
 abbrev pub run_app : App
 run_app = with_rule (with_rule (with_rule (new_app (codes "run")) vfs_rule) fifo_rule) limit_rule
 
+-- `debug` with its options
+abbrev pub debug_app : App
+debug_app = with_rule (with_rule (new_app (codes "debug")) vfs_rule) fifo_rule
+
 -- `hash`, which has no options
 abbrev pub hash_app : App
 hash_app = new_app (codes "hash")
@@ -58,5 +62,5 @@ bare_app = let a = new_app (codes "nicbench") in record a {
 
 -- `nicbench` with its commands
 abbrev pub nicbench_app : App
-nicbench_app = with_subcommand (with_subcommand (with_subcommand (with_subcommand (with_subcommand bare_app run_app.top)
-    hash_app.top) eeprom_app.top) asm_app.top) dis_app.top
+nicbench_app = with_subcommand (with_subcommand (with_subcommand (with_subcommand (with_subcommand (with_subcommand
+    bare_app run_app.top) hash_app.top) eeprom_app.top) asm_app.top) dis_app.top) debug_app.top

@@ -2,7 +2,7 @@
 ghost use Rattle.std.specs.Prelude.{◌≡◌, IfErr, IfOk, false};
 ghost use Rattle.clap.specs.Words.{app_of, kind_of, rule_of};
 ghost use Rattle.clap.specs.declared.builder.command.Command.TheViews.{out-Command as fields_of};
-ghost use Rattle.command_line.specs.Commands.{asm_app, bare_app, dis_app, eeprom_app, fifo_rule, hash_app};
+ghost use Rattle.command_line.specs.Commands.{asm_app, bare_app, debug_app, dis_app, eeprom_app, fifo_rule, hash_app};
 ghost use Rattle.command_line.specs.Commands.{limit_rule, load_rule, nicbench_app, run_app, vfs_rule};
 
 use clap::error::ErrorKind;
@@ -68,6 +68,20 @@ fn run<'a>(alloc: Global) -> Result<Command<'a>, Error>
     Ok(run)
 }
 
+fn debug<'a>(alloc: Global) -> Result<Command<'a>, Error>
+    ensures ok { IfOk result (λ c. app_of c ≡ debug_app) }
+    ensures local { IfOk result (λ c. (fields_of c).has_globals ≡ false) }
+    ensures err { IfErr result (λ e. kind_of e ≡ ErrorKind.OutOfMemory) }
+{
+    let debug = Command::new(alloc, "debug")
+        .about(
+            "Debugs the register script on standard input by the commands that follow it behind a line %",
+        )
+        .arg(vfs(alloc))?
+        .arg(fifo(alloc))?;
+    Ok(debug)
+}
+
 fn hash<'a>(alloc: Global) -> Command<'a>
     ensures app { app_of result ≡ hash_app }
     ensures local { (fields_of result).has_globals ≡ false }
@@ -125,6 +139,7 @@ pub(crate) fn nicbench<'a>(alloc: Global) -> Result<Command<'a>, Error>
         .subcommand(hash(alloc))?
         .subcommand(eeprom(alloc)?)?
         .subcommand(asm(alloc))?
-        .subcommand(dis(alloc))?;
+        .subcommand(dis(alloc))?
+        .subcommand(debug(alloc)?)?;
     Ok(nicbench)
 }

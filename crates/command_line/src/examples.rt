@@ -4,7 +4,7 @@ ghost use Rattle.clap.specs.declared.error.ErrorKind.TheVariants as kind;
 ghost use Rattle.command_line.specs.Asked.{Asks, refusal_of};
 ghost use Rattle.command_line.specs.declared.request.BytesRequest.TheVariants.{Dis, LoadEeprom};
 ghost use Rattle.command_line.specs.declared.request.Request.TheVariants.{Bytes, Text};
-ghost use Rattle.command_line.specs.declared.request.TextRequest.TheVariants.{Asm, Eeprom, Hash, Run};
+ghost use Rattle.command_line.specs.declared.request.TextRequest.TheVariants.{Asm, Debug, Eeprom, Hash, Run};
 
 /// `nicbench run` asks for no virtual function, for 64 frames and for 100,000 instructions at most.
 pub fn run_alone()
@@ -17,6 +17,14 @@ pub fn run_with_options()
     ensures { Asks (codes "nicbench" ∷ codes "run" ∷ codes "--vfs" ∷ codes "63"
         ∷ codes "--limit=+5" ∷ codes "--fifo" ∷ codes "004096" ∷ [])
         (Text (Run (record { vfs = 63; fifo = 4096; limit = 5 }))) }
+{}
+
+/// `nicbench debug` asks for the same controller, and takes the options that say another.
+pub fn debug_either_way()
+    ensures alone { Asks (codes "nicbench" ∷ codes "debug" ∷ [])
+        (Text (Debug (record { vfs = 0; fifo = 64 }))) }
+    ensures with_options { Asks (codes "nicbench" ∷ codes "debug" ∷ codes "--fifo=1"
+        ∷ codes "--vfs" ∷ codes "2" ∷ []) (Text (Debug (record { vfs = 2; fifo = 1 }))) }
 {}
 
 /// `nicbench hash` asks for hashes.
@@ -48,6 +56,8 @@ pub fn refused_words()
         ∷ []) ≡ kind.UnknownArgument ∷ [] }
     ensures further_than_hash { refusal_of (codes "nicbench" ∷ codes "hash"
         ∷ codes "further" ∷ []) ≡ kind.UnknownArgument ∷ [] }
+    ensures limit_of_debug { refusal_of (codes "nicbench" ∷ codes "debug"
+        ∷ codes "--limit=5" ∷ []) ≡ kind.UnknownArgument ∷ [] }
     ensures load_twice { refusal_of (codes "nicbench" ∷ codes "eeprom" ∷ codes "--load"
         ∷ codes "--load" ∷ []) ≡ kind.ArgumentConflict ∷ [] }
     ensures load_with_a_value { refusal_of (codes "nicbench" ∷ codes "eeprom"
@@ -64,6 +74,8 @@ pub fn shown_texts()
         ≡ kind.DisplayHelp ∷ [] }
     ensures help_of_run { refusal_of (codes "nicbench" ∷ codes "run" ∷ codes "-h" ∷ [])
         ≡ kind.DisplayHelp ∷ [] }
+    ensures help_of_debug { refusal_of (codes "nicbench" ∷ codes "debug" ∷ codes "--help"
+        ∷ []) ≡ kind.DisplayHelp ∷ [] }
     ensures help_of_hash { refusal_of (codes "nicbench" ∷ codes "hash" ∷ codes "--help"
         ∷ []) ≡ kind.DisplayHelp ∷ [] }
     ensures version { refusal_of (codes "nicbench" ∷ codes "-V" ∷ [])

@@ -4,11 +4,13 @@
 #![tactic(auto)]
 
 mod commands;
+mod debug_options;
 pub mod examples;
 mod parse;
 mod request;
 mod run_options;
 
+pub use debug_options::DebugOptions;
 pub use parse::asked;
 pub use request::{BytesRequest, Request, TextRequest};
 pub use run_options::RunOptions;

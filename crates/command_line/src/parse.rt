@@ -6,6 +6,7 @@ ghost use Rattle.command_line.specs.Asked.{Asks, eeprom_of, refusal_of, request_
 ghost use Rattle.command_line.specs.Commands.{nicbench_app};
 
 use crate::commands::nicbench;
+use crate::debug_options::debug_options_in;
 use crate::request::{BytesRequest, Request, TextRequest};
 use crate::run_options::options_in;
 use clap::error::ErrorKind;
@@ -50,6 +51,8 @@ fn request_named(name: &str, matches: &ArgMatches<'_>) -> Option<Request>
 {
     if name == "run" {
         Some(Request::Text(TextRequest::Run(options_in(matches))))
+    } else if name == "debug" {
+        Some(Request::Text(TextRequest::Debug(debug_options_in(matches))))
     } else if name == "hash" {
         Some(Request::Text(TextRequest::Hash))
     } else if name == "asm" {

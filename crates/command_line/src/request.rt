@@ -1,4 +1,5 @@
 //! What words ask for.
+use crate::debug_options::DebugOptions;
 use crate::run_options::RunOptions;
 
 /// What the words ask for.
@@ -15,6 +16,8 @@ pub enum Request {
 pub enum TextRequest {
     /// `nicbench run`: that a script be run, with these options.
     Run(RunOptions),
+    /// `nicbench debug`: that a script be debugged by the commands behind it, with these options.
+    Debug(DebugOptions),
     /// `nicbench hash`: that lines of hex be hashed.
     Hash,
     /// `nicbench asm`: that a script be made an object.

@@ -1,3 +1,4 @@
+pub mod Cuts
 pub mod Endings
 pub mod Lines
 pub mod Naming

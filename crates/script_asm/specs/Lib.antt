@@ -1,4 +1,5 @@
 pub mod Read
+pub mod End
 pub mod Fault
 pub mod Target
 pub mod Operation

@@ -62,6 +62,10 @@ program_in outline =
     with_resolved outline [] outline.drafts
     then λ instructions. Ok (record { strings = outline.strings; instructions = instructions })
 
+-- the program of lines, or their fault
+abbrev pub program_of_lines : List NumberedLine → Result Listing ScriptFault
+program_of_lines lines = with_lines blank lines then program_in
+
 -- the program of a text, or its fault
 unfoldable pub program_of : List ℕ → Result Listing ScriptFault
-program_of text = with_lines blank (lines_of text) then program_in
+program_of text = program_of_lines (lines_of text)

@@ -61,15 +61,19 @@ impl<T: Drop> From<AllocFailed<T>> for ScriptFault {
 }
 
 /// What may be wrong with a line by itself, the fault that is told first standing first.
-#[derive(Clone, Copy, Debug, PartialEq, Eq)]
-pub(crate) enum LineFault {
+#[derive(Clone, Copy, Debug, PartialEq, Eq, Error)]
+pub enum LineFault {
     /// The line has no form of the language.
+    #[error("no statement of the script language")]
     Syntax,
     /// It names no register.
+    #[error("no register of this name")]
     UnknownName,
     /// A number is out of its range.
+    #[error("a number out of range")]
     Range,
     /// A name has more than 32 bytes.
+    #[error("a name of more than 32 bytes")]
     TooLong,
 }
 

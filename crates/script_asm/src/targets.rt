@@ -64,9 +64,12 @@ fn before_bracket(word: &str) -> Option<&str>
     word.strip_suffix(']')
 }
 
-/// The address that a word names: `ROW[INDEX]`, `ROW` for its index 0, or a number.
+/// The address that a word names: `ROW[INDEX]`, the first address of that register; `ROW` for its index 0; or a number.
+///
+/// `Syntax` where it has another form, then `UnknownName` where there is no such row, then `Range` for a number from
+/// 2^32 on and for an index that isn't below the row's count.
 #[tactic(auto, unfolding(crate::specs::Target::target_of))]
-pub(crate) fn target(word: &str) -> Result<u32, LineFault>
+pub fn target(word: &str) -> Result<u32, LineFault>
     ensures { result ≡ target_of word.now }
 {
     if let Some((name, behind)) = word.split_once('[') {

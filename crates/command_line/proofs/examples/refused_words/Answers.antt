@@ -9,6 +9,7 @@ returns c = record {
   twice = refl;
   further = refl;
   further_than_hash = refl;
+  limit_of_debug = refl;
   load_twice = refl;
   load_with_a_value = refl;
   unknown = refl;

@@ -4,4 +4,10 @@ use Rattle.command_line.proofs.examples.shown_texts.Goals as goal
 
 pub returns : goal.returns
 unfolding clap_on_literals
-returns c = record { help = refl; help_of_run = refl; help_of_hash = refl; version = refl }
+returns c = record {
+  help = refl;
+  help_of_run = refl;
+  help_of_debug = refl;
+  help_of_hash = refl;
+  version = refl;
+}

@@ -7,8 +7,13 @@ pub mod Numbered
 pub mod Layouts
 pub mod Checksums
 pub mod Pointers
+pub mod LineContents
 pub mod Contents
+pub mod Faultless
+pub mod LaidTriples
 pub mod Images
+pub mod ImageWords
+pub mod Fitting
 pub mod Unique
 pub mod Blank
 pub mod TripleLists

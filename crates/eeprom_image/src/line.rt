@@ -53,7 +53,7 @@ fn size_line(count: Option<u32>) -> TextLine
 {
     match count {
         Some(count) if is_size(count as usize) => TextLine::Size(count),
-        _ => TextLine::Malformed,
+        Some(_) | None => TextLine::Malformed,
     }
 }
 
@@ -62,7 +62,7 @@ fn word_line(given: Option<(u32, u32)>) -> TextLine
 {
     match given {
         Some((index, value)) if value < 0x10000 => TextLine::Word(index, value as u16),
-        _ => TextLine::Malformed,
+        Some(_) | None => TextLine::Malformed,
     }
 }
 
@@ -73,7 +73,7 @@ fn csr_line(given: Option<(u32, u32)>) -> TextLine
         Some((offset, value)) if offset % 4 == 0 && offset < 0x40000 => {
             TextLine::Csr(offset, value)
         }
-        _ => TextLine::Malformed,
+        Some(_) | None => TextLine::Malformed,
     }
 }
 

@@ -47,7 +47,7 @@ impl Iterator for Triples<'_> {
                 let data = u32::from(*low) + 0x10000 * u32::from(*high);
                 Some((4 * u32::from(*offset), data))
             }
-            _ => None,
+            [] | [_] | [_, _] => None,
         }
     }
 }

@@ -1,34 +1,61 @@
--- Where the first blank of a text stands.
-use Rattle.std.proofs.Common.{◌≡◌, ℕ, ◌+◌, ◌<◌, true, List, length, get_or, Some, None, arith}
+-- Where blanks and words end in a text.
+use Rattle.std.proofs.Common.{sym, subst, ◌≡◌, ℕ, zero, suc, ◌+◌, ◌<◌, not, Bool, true, false, List, length, get_or, Some, None, inl, inr, arith}
 use Rattle.std.specs.List.{position, position_or_len}
 use Rattle.std.specs.Str.{IsUtf8, IsCharBoundary}
+use Rattle.std.proofs.lemmas.Bool.{lt-ltb, cases_lt}
 use Rattle.std.proofs.lemmas.Bool.Decides.{nat_tests}
-use Rattle.std.proofs.lemmas.List.Quantifiers.{position-Some}
-use Rattle.std.proofs.lemmas.List.Sums.{prefix_len-le-length}
-use Rattle.std.proofs.lemmas.Str.{IsCharBoundary-before_ascii, IsCharBoundary-after_ascii}
-use Rattle.lexer.specs.Words.{is_blank}
+use Rattle.std.proofs.lemmas.List.Sums.{prefix_len-le-length, fails_before_first, passes_at_first}
+use Rattle.std.proofs.lemmas.Str.{IsCharBoundary-start, IsCharBoundary-end, IsCharBoundary-before_ascii, IsCharBoundary-after_ascii}
+use Rattle.lexer.specs.Words.{is_blank, ends_word}
+use borrow.Author.Tests.{le-ltb}
+
+-- what `position` tells
+pub position-at : (test : ℕ → Bool) (text : List ℕ) (i : ℕ) → position test text ≡ Some i → i ≡ position_or_len test text
+position-at test text i found = elim (cases_lt (position_or_len test text) (length text)) [
+  | inl below ↦ let is = rw (lt-ltb (position_or_len test text) (length text) below) at found in cc
+  | inr above ↦ let is = rw (le-ltb (position_or_len test text) (length text) above) at found in cc
+]
+
+pub position-none : (test : ℕ → Bool) (text : List ℕ) → position test text ≡ None → length text ≡ position_or_len test text
+position-none test text none = elim (cases_lt (position_or_len test text) (length text)) [
+  | inl below ↦ let is = rw (lt-ltb (position_or_len test text) (length text) below) at none in cc
+  | inr above ↦ omega (arith, prefix_len-le-length (λ byte. not (test byte)) text)
+]
+
+not_false : (b : Bool) → not b ≡ false → b ≡ true
+not_false true h = cc
+not_false false h = cc
 
 is_blank-ascii : (byte : ℕ) → is_blank byte ≡ true → byte < 128
 is_blank-ascii byte blank = grind (arith, nat_tests)
 
--- the first blank is a byte of its own
-pub position-blank : (text : List ℕ) (i : ℕ) → position is_blank text ≡ Some i
-    → (i < length text) × (get_or text i 0 < 128)
-position-blank text i at =
-    let first = position-Some is_blank text i 0 at in
-    (first.0, is_blank-ascii (get_or text i 0) first.1)
+ends_word-ascii : (byte : ℕ) → ends_word byte ≡ true → byte < 128
+ends_word-ascii byte end = grind (arith, nat_tests)
 
-pub IsCharBoundary-blank : (text : List ℕ) (i : ℕ) → position is_blank text ≡ Some i → IsCharBoundary text i
-IsCharBoundary-blank text i at =
-    let byte = position-blank text i at in
-    IsCharBoundary-before_ascii text i byte.0 byte.1
+behind : (text : List ℕ) (n : ℕ) → n ≡ position_or_len (λ byte. not (is_blank byte)) text → IsUtf8 text
+    → IsCharBoundary text n
+behind text zero is utf8 = IsCharBoundary-start text utf8
+behind text (suc k) is utf8 =
+    let inside : k < position_or_len (λ byte. not (is_blank byte)) text = omega arith in
+    let below : k < length text = omega (arith, prefix_len-le-length (λ byte. not (not (is_blank byte))) text) in
+    let blank = not_false (is_blank (get_or text k 0)) (fails_before_first (λ byte. not (is_blank byte)) text k 0 inside) in
+    let next : k + 1 ≡ suc k = omega arith in
+    subst (IsCharBoundary text) next
+    (IsCharBoundary-after_ascii text k utf8 below (is_blank-ascii (get_or text k 0) blank))
 
-pub IsCharBoundary-behind_blank : (text : List ℕ) (i : ℕ) → IsUtf8 text → position is_blank text ≡ Some i
-    → IsCharBoundary text (i + 1)
-IsCharBoundary-behind_blank text i utf8 at =
-    let byte = position-blank text i at in
-    IsCharBoundary-after_ascii text i utf8 byte.0 byte.1
+-- a character begins behind the blanks in front
+pub IsCharBoundary-behind_blanks : (text : List ℕ) (n : ℕ) → n ≡ position_or_len (λ byte. not (is_blank byte)) text
+    → IsUtf8 text → IsCharBoundary text n
+IsCharBoundary-behind_blanks text n is utf8 = behind text n is utf8
 
--- where there is no blank, all of the text stands before it
-pub position_or_len-none : (text : List ℕ) → position is_blank text ≡ None → position_or_len is_blank text ≡ length text
-position_or_len-none text none = grind (arith, nat_tests, prefix_len-le-length)
+-- a character begins at the end of a word
+pub IsCharBoundary-end_of_word : (text : List ℕ) (n : ℕ) → n ≡ position_or_len ends_word text → IsCharBoundary text n
+IsCharBoundary-end_of_word text n is = subst (IsCharBoundary text) (sym is)
+    (elim (cases_lt (position_or_len ends_word text) (length text)) [
+      | inl below ↦ IsCharBoundary-before_ascii text (position_or_len ends_word text) below
+          (ends_word-ascii (get_or text (position_or_len ends_word text) 0) (passes_at_first ends_word text 0 below))
+      | inr above ↦
+          let last : length text ≡ position_or_len ends_word text =
+          omega (arith, prefix_len-le-length (λ byte. not (ends_word byte)) text) in
+          subst (IsCharBoundary text) last (IsCharBoundary-end text)
+    ])

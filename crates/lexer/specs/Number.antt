@@ -1,7 +1,7 @@
 -- The number that a word writes.
-use Rattle.std.specs.Prelude.{ℕ, ◌^◌, Bool, not, ◌&&◌, ◌==◌, List, length, drop, Result, Ok, Err, nat_eq, nat_lt, codes, if◌then◌else◌}
+use Rattle.std.specs.Prelude.{ℕ, ◌+◌, ◌*◌, ◌^◌, Bool, not, ◌&&◌, ◌==◌, List, [], ◌∷◌, length, drop, min, Option, Some, None, Result, Ok, Err, nat_eq, nat_lt, codes, if◌then◌else◌}
 use Rattle.std.specs.List.{list_all, starts_with}
-use Rattle.std.specs.Char.{is_digit}
+use Rattle.std.specs.Char.{is_digit, digit_value}
 use Rattle.std.specs.Str.Parse.{digits_value}
 use Rattle.lexer.specs.declared.numbers.NumberFault.{NumberFault}
 use Rattle.lexer.specs.declared.numbers.NumberFault.TheVariants.{Malformed, TooLarge}
@@ -16,6 +16,12 @@ numeral_of radix word =
     if is_numeral radix word then
     if nat_lt (digits_value radix word) (2 ^ 32) then Ok (digits_value radix word) else Err TooLarge
     else Err Malformed
+
+-- the number that digits write behind others that write a value, and 2^32 in place of a greater one
+abbrev pub capped_numeral : ℕ → ℕ → List ℕ → Option ℕ
+capped_numeral radix value [] = Some value
+capped_numeral radix value (byte ∷ more) =
+    if is_digit byte radix then capped_numeral radix (min (value * radix + digit_value byte) (2 ^ 32)) more else None
 
 -- the number of a word: hex digits behind 0x, else decimal digits
 unfoldable pub number_of : List ℕ → Result ℕ NumberFault

@@ -6,6 +6,10 @@ use Rattle.std.specs.List.{slice_split, before_first}
 abbrev pub is_blank : ℕ → Bool
 is_blank byte = byte == 32 || byte == 9
 
+-- what ends a word: the # of a comment, or a blank
+abbrev pub ends_word : ℕ → Bool
+ends_word byte = byte == 35 || is_blank byte
+
 -- a line without its comment, which the first # starts
 abbrev pub before_comment : List ℕ → List ℕ
 before_comment line = before_first (λ byte. byte == 35) line

@@ -1,9 +1,8 @@
 //! Numbers.
 
-ghost use Rattle.std.specs.Prelude.{◌≡◌, ◌≤◌};
-ghost use Rattle.std.specs.Char.{is_digit};
-ghost use Rattle.std.specs.List.{list_all};
-ghost use Rattle.lexer.specs.Number.{numeral_of, number_of};
+ghost use Rattle.std.specs.Prelude.{◌≡◌, ◌≤◌, ◌<◌, true, false, MatchOption};
+ghost use Rattle.std.specs.Char.{is_digit, digit_value};
+ghost use Rattle.lexer.specs.Number.{numeral_of, capped_numeral, number_of};
 
 use thiserror::Error;
 
@@ -18,13 +17,33 @@ pub enum NumberFault {
     TooLarge,
 }
 
-/// Whether a word has digits of the radix alone.
-fn are_digits(radix: u32, word: &str) -> bool
+/// The least number that is too large.
+const TOO_LARGE: u64 = 0x1_0000_0000;
+
+/// The value of a digit of the radix.
+fn digit_in(radix: u32, byte: u8) -> Option<u32>
     requires low { 2 ≤ radix }
     requires high { radix ≤ 36 }
-    ensures { result ≡ list_all (λ byte. is_digit byte radix) word.now }
+    ensures { MatchOption result (is_digit byte radix ≡ false)
+        (λ digit. (is_digit byte radix ≡ true) × (digit ≡ digit_value byte) × (digit < 36)) }
 {
-    word.bytes().all(|byte| char::from(byte).is_digit(radix))
+    char::from(byte).to_digit(radix)
+}
+
+/// The number that digits of the radix write, 2^32 in place of a greater one. `None` where there is another character.
+fn capped_numeral(radix: u32, digits: &[u8]) -> Option<u64>
+    requires low { 2 ≤ radix }
+    requires high { radix ≤ 36 }
+    ensures { result ≡ capped_numeral radix 0 digits.now }
+{
+    let mut value = 0;
+    let mut rest = digits;
+    'each: while let [byte, more @ ..] = rest {
+        let digit = digit_in(radix, *byte)?;
+        value = (value * u64::from(radix) + u64::from(digit)).min(TOO_LARGE);
+        rest = more;
+    }
+    Some(value)
 }
 
 /// The number that digits of the radix write.
@@ -33,13 +52,13 @@ fn numeral(radix: u32, word: &str) -> Result<u32, NumberFault>
     requires high { radix ≤ 36 }
     ensures { result ≡ numeral_of radix word.now }
 {
-    // `from_str_radix` also takes a sign, and doesn't tell a large number from a malformed one.
-    if word.is_empty() || !are_digits(radix, word) {
+    if word.is_empty() {
         return Err(NumberFault::Malformed);
     }
-    match u32::from_str_radix(word, radix) {
-        Ok(number) => Ok(number),
-        Err(_) => Err(NumberFault::TooLarge),
+    match capped_numeral(radix, word.as_bytes()) {
+        None => Err(NumberFault::Malformed),
+        Some(value) if value < TOO_LARGE => Ok(value as u32),
+        Some(_) => Err(NumberFault::TooLarge),
     }
 }
 

@@ -1,9 +1,9 @@
 //! Words.
 
-ghost use Rattle.std.specs.Prelude.{◌≡◌, ◌∷◌, [], length, position, ◌<◌, MatchOption};
-ghost use Rattle.std.specs.List.{position_or_len, before_first, after_first};
+ghost use Rattle.std.specs.Prelude.{◌≡◌, ◌∷◌, [], not, take, drop, position, MatchOption};
+ghost use Rattle.std.specs.List.{position_or_len};
 ghost use Rattle.std.specs.Iterator.{YieldsFirstRef, item_count};
-ghost use Rattle.lexer.specs.Words.{is_blank, before_comment, words_between_blanks, words_of};
+ghost use Rattle.lexer.specs.Words.{is_blank, ends_word, words_of};
 
 use std::marker::Model;
 
@@ -17,72 +17,95 @@ pub struct Words<'a> {
 
 impl<'a> Model for Words<'a> {
     ghost use Rattle.std.specs.Prelude.{List, ℕ};
-    ghost use Rattle.lexer.specs.Words.{words_between_blanks};
+    ghost use Rattle.lexer.specs.Words.{words_of};
 
     ghost Value = { List (List ℕ) };
 
-    ghost view = { λ words. words_between_blanks words.rest.now };
+    ghost view = { λ words. words_of words.rest.now };
 }
 
-/// A line without its comment.
-fn before_comment(line: &str) -> &str
-    ensures { result.now ≡ before_comment line.now }
+fn is_blank(byte: u8) -> bool
+    ensures { result ≡ is_blank byte }
 {
-    match line.split_once('#') {
-        None => line,
-        Some((before, _)) => before,
+    byte == b' ' || byte == b'\t'
+}
+
+fn ends_word(byte: u8) -> bool
+    ensures { result ≡ ends_word byte }
+{
+    byte == b'#' || is_blank(byte)
+}
+
+/// Where the first byte stands that is no blank.
+fn first_unblank(bytes: &[u8]) -> Option<usize>
+    ensures { result ≡ position (λ byte. not (is_blank byte)) bytes.now }
+{
+    bytes.iter().position(|byte| !is_blank(*byte))
+}
+
+/// How many blanks stand in front.
+fn blanks_in_front(bytes: &[u8]) -> usize
+    ensures { result ≡ position_or_len (λ byte. not (is_blank byte)) bytes.now }
+{
+    match first_unblank(bytes) {
+        Some(blanks) => blanks,
+        None => bytes.len(),
     }
 }
 
-/// Where the first blank stands.
-fn first_blank(bytes: &[u8]) -> Option<usize>
-    ensures { result ≡ position is_blank bytes.now }
+/// Where the first byte stands that ends a word.
+fn first_end(bytes: &[u8]) -> Option<usize>
+    ensures { result ≡ position ends_word bytes.now }
 {
-    bytes
-        .iter()
-        .position(|byte| *byte == b' ' || *byte == b'\t')
+    bytes.iter().position(|byte| ends_word(*byte))
 }
 
-/// What stands before and behind the first blank.
-fn split_at_blank(text: &str) -> Option<(&str, &str)>
-    ensures { MatchOption result (position_or_len is_blank text.now ≡ length text.now)
-        (λ parts. (position_or_len is_blank text.now < length text.now)
-        × (parts.0.now ≡ before_first is_blank text.now)
-        × (parts.1.now ≡ after_first is_blank text.now)) }
+/// How many bytes stand before the end of a word.
+fn word_length(bytes: &[u8]) -> usize
+    ensures { result ≡ position_or_len ends_word bytes.now }
 {
-    let blank = first_blank(text.as_bytes())?;
-    Some((&text[..blank], &text[blank + 1..]))
+    match first_end(bytes) {
+        Some(end) => end,
+        None => bytes.len(),
+    }
 }
 
-/// The first word of a text without a comment, and what stands behind it.
-#[tactic(auto, unfolding(crate::specs::Words::words_between_blanks))]
+/// A text without the blanks in front.
+fn behind_blanks(text: &str) -> &str
+    ensures { result.now ≡ drop (position_or_len (λ byte. not (is_blank byte)) text.now) text.now }
+{
+    let blanks = blanks_in_front(text.as_bytes());
+    &text[blanks..]
+}
+
+/// What stands before the first end of a word, and from there on.
+fn split_at_end(text: &str) -> (&str, &str)
+    ensures word { result.0.now ≡ take (position_or_len ends_word text.now) text.now }
+    ensures behind { result.1.now ≡ drop (position_or_len ends_word text.now) text.now }
+{
+    let end = word_length(text.as_bytes());
+    (&text[..end], &text[end..])
+}
+
+/// The first word of a text, and what stands behind it.
 fn split_word(text: &str) -> Option<(&str, &str)>
-    ensures { MatchOption result (words_between_blanks text.now ≡ [])
-        (λ parts. words_between_blanks text.now ≡ parts.0.now ∷ words_between_blanks parts.1.now) }
+    ensures { MatchOption result (words_of text.now ≡ [])
+        (λ parts. words_of text.now ≡ parts.0.now ∷ words_of parts.1.now) }
 {
-    let mut rest = text;
-    while let Some((part, behind)) = split_at_blank(rest) {
-        if !part.is_empty() {
-            return Some((part, behind));
-        }
-        rest = behind;
-    }
-    if rest.is_empty() {
+    let (word, behind) = split_at_end(behind_blanks(text));
+    if word.is_empty() {
         None
     } else {
-        Some((rest, ""))
+        Some((word, behind))
     }
 }
 
 impl<'a> Words<'a> {
     /// The words of a line.
-    #[tactic(auto, unfolding(crate::specs::Words::words_of))]
     pub fn of(line: &'a str) -> Words<'a>
         ensures { result ≡ words_of line.now }
     {
-        Words {
-            rest: before_comment(line),
-        }
+        Words { rest: line }
     }
 }
 

@@ -2,7 +2,7 @@ use Rattle.std.proofs.Common.{◌≡◌, Ok, arith}
 use Rattle.eeprom_image.specs.Draft.{content_in}
 use Rattle.eeprom_image.specs.Text.{sound_content}
 use Rattle.eeprom_image.proofs.Contents.{content_of-right}
-use Rattle.eeprom_image.proofs.Images.{size_bounds}
+use Rattle.eeprom_image.proofs.Faultless.{size_bounds}
 use Rattle.eeprom_image.proofs.Unique.{image_of_laid_out, sound_content-is}
 use Rattle.eeprom_image.proofs.text.assemble.Goals as goal
 

@@ -1,4 +1,5 @@
-use Rattle.eeprom_image.proofs.Unique.{one_image_of, content_fault-of_image}
+use Rattle.eeprom_image.proofs.ImageWords.{content_fault-of_image}
+use Rattle.eeprom_image.proofs.Unique.{one_image_of}
 use Rattle.eeprom_image.proofs.text.one_image.Goals as goal
 
 pub returns-clause-one : goal.returns-clause-one

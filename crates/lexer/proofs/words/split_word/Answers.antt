@@ -1,10 +1,12 @@
-use Rattle.std.proofs.Common.{rules, sym, ◌∙◌}
-use Rattle.lexer.proofs.FirstWord.{words-word, words-last}
+use Rattle.std.proofs.Common.{rules}
+use Rattle.lexer.proofs.FirstWord.{words-none, words-some}
 use Rattle.lexer.proofs.words.split_word.Goals as goal
 
-pub returns-then-not-is_empty : goal.returns-then-not-is_empty
-returns-then-not-is_empty c = sym c.loop-part.invariant.same_words
-    ∙ words-word _ _ _ c.in-Some.ensures.0 c.in-Some.ensures.1 c.in-Some.ensures.2 (search rules)
+pub returns-then-is_empty : goal.returns-then-is_empty
+returns-then-is_empty c = words-none c.args.text.now c.behind_blanks.result.now c.split_at_end.result.0.now
+    c.behind_blanks.ensures c.split_at_end.ensures.word (search rules)
 
 pub returns-else-is_empty : goal.returns-else-is_empty
-returns-else-is_empty c = sym c.loop-part.invariant.same_words ∙ words-last _ (search rules) (search rules)
+returns-else-is_empty c = words-some c.args.text.now c.behind_blanks.result.now c.split_at_end.result.0.now
+    c.split_at_end.result.1.now c.behind_blanks.ensures c.split_at_end.ensures.word c.split_at_end.ensures.behind
+    (search rules)

@@ -16,7 +16,7 @@
 //! `$` gives the words, where they aren't `nicbench run`. Behind `#>`, which is a comment to the assembler, stands what
 //! an instruction prints, and behind `--` the status and what is printed after that; with no such line this is `ok`,
 //! with the number of instructions, and status 0. `-- 3 with` asks for no more than that each line below it is printed,
-//! and `-- 2 each` that each line above it, as a script of its own, prints what is below.
+//! and `-- 2 each` that each line above it, by itself behind the lines of the table, prints what is below.
 #![tactic(auto)]
 
 use bench::{Input, Outcome, Output, bench};
@@ -25,7 +25,7 @@ use std::fmt::Write;
 use std::{fs, io};
 
 /// The tables.
-const TABLES: [&str; 19] = [
+const TABLES: [&str; 21] = [
     "grammar",
     "words",
     "registers",
@@ -45,6 +45,8 @@ const TABLES: [&str; 19] = [
     "hash",
     "eeprom",
     "objects",
+    "debugger",
+    "commands",
 ];
 
 /// What a case is to end with.
@@ -157,7 +159,8 @@ fn ends_so(alloc: Global, setup: &str, case: &Case<'_>) -> Result<bool, AllocErr
         }
         Ending::Each(wanted, text) => {
             for line in case.lines.lines() {
-                let (printed, status) = answer(alloc, case.words, line)?;
+                let script = format!(in alloc; "{setup}{line}")?;
+                let (printed, status) = answer(alloc, case.words, script.as_str())?;
                 if status != wanted || printed.as_str() != text {
                     return Ok(false);
                 }

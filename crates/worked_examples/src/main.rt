@@ -1,7 +1,8 @@
 //! Runs each example of `examples/` through the program, and says whether it wrote what stands beside the example.
 //!
-//! `examples/NAME.nic` is a script, and `examples/NAME.out` what `nicbench run` prints for it. `examples/NAME.eeprom` is an
-//! EEPROM text, `NAME.hex` the bytes of the image that `nicbench eeprom` makes of it, in hex, and `NAME.out` what
+//! `examples/NAME.nic` is a script, and `examples/NAME.out` what `nicbench run` prints for it. `examples/NAME.debug` is
+//! a script with a debugger's commands, and `NAME.out` what `nicbench debug` prints for them. `examples/NAME.eeprom` is
+//! an EEPROM text, `NAME.hex` the bytes of the image that `nicbench eeprom` makes of it, in hex, and `NAME.out` what
 //! `nicbench eeprom --load` prints for those bytes. `examples/NAME.object` is the object of `NAME.nic`, in hex, and
 //! `NAME.dis` what `nicbench dis` prints for it.
 #![tactic(auto)]
@@ -15,6 +16,9 @@ use std::{fs, io};
 const RUN: [&str; 2] = ["nicbench", "run"];
 
 const RUN_WITH_TWO_FUNCTIONS: [&str; 4] = ["nicbench", "run", "--vfs", "2"];
+
+/// The words that sessions are debugged by.
+const DEBUG: [&str; 2] = ["nicbench", "debug"];
 
 /// The scripts that are run, each with the status that its run ends with.
 const SCRIPTS: [(&str, u8); 9] = [
@@ -122,6 +126,7 @@ fn main(rt: HostRuntime) -> io::Result<()> {
     }
     let is_virtual = is_as_written(&rt, &RUN_WITH_TWO_FUNCTIONS, "virtual", "nic", 0)?;
     say(&rt, "virtual", is_virtual)?;
+    say(&rt, "tail", is_as_written(&rt, &DEBUG, "tail", "debug", 0)?)?;
     for name in IMAGES {
         say(&rt, name, is_the_image(&rt, name)?)?;
     }

@@ -1,5 +1,5 @@
 -- Words that are laid out, with their checksum, are the image of a text without a fault.
-use Rattle.std.proofs.Common.{◌≡◌, ◌≢◌, ℕ, ◌-◌, ◌%◌, ◌<◌, Bool, true, false, nat_lt, nat_le, ◌==◌, ◌||◌, ◌&&◌, List, length, set, None, refl, sym, ap, ◌∙◌, inl, inr, arith, length-set, get_or-set_same, get_or-set_other}
+use Rattle.std.proofs.Common.{◌≡◌, ◌≢◌, ℕ, ◌%◌, ◌<◌, Bool, true, false, nat_lt, nat_le, ◌==◌, ◌||◌, ◌&&◌, List, length, set, None, refl, sym, ap, ◌∙◌, inl, inr, arith, length-set, get_or-set_same, get_or-set_other}
 use Rattle.std.specs.List.{list_all}
 use Rattle.std.proofs.lemmas.List.{set_past}
 use Rattle.std.proofs.lemmas.Bool.{and_parts, cases_lt, eq-eqb}
@@ -9,7 +9,7 @@ use Rattle.eeprom_image.specs.Section.{pointers}
 use Rattle.eeprom_image.specs.Checksum.{checked_sum}
 use Rattle.eeprom_image.specs.Image.{is_size, are_inside}
 use Rattle.eeprom_image.specs.Content.{Content, IsContent}
-use Rattle.eeprom_image.specs.Fault.{section_end, is_reserved, fits, given_word, plain_word, content_fault}
+use Rattle.eeprom_image.specs.Fault.{section_end, is_reserved, given_word, plain_word, content_fault}
 use Rattle.eeprom_image.specs.Text.{is_behind, IsImageOf}
 use Rattle.eeprom_image.specs.Layout.{IsLaidOut, checksum_of, with_checksum}
 use Rattle.eeprom_image.proofs.Checksums.{checked_sum-set}

@@ -1,5 +1,5 @@
 -- A text without a fault has one image, and a text with a fault has none.
-use Rattle.std.proofs.Common.{◌≡◌, ℕ, ◌-◌, ◌%◌, ◌<◌, true, List, length, set, fold, replicate, Option, Some, None, Result, Ok, Err, refl, sym, ap, ◌∙◌, inl, inr, arith, length-set, get_or-set_same, get_or-set_other}
+use Rattle.std.proofs.Common.{◌≡◌, ℕ, ◌%◌, ◌<◌, true, List, length, set, fold, replicate, Option, Some, None, Result, Ok, Err, refl, sym, ap, ◌∙◌, inl, inr, arith, length-set, get_or-set_same, get_or-set_other}
 use Rattle.std.specs.List.{list_all}
 use Rattle.std.proofs.lemmas.List.{ext_get_or, set-get_or}
 use Rattle.std.proofs.lemmas.Bool.{eqb-true}

@@ -3,6 +3,7 @@
 use crate::outcome::done;
 use eeprom_image::{Image, assemble};
 use nic_device::{Config, Device, Event, Parts, Port, Reply};
+use std::alloc::Global;
 use std::process::Abort;
 
 /// An event that is answered with `Done`.
@@ -50,8 +51,7 @@ fn an_image_is_applied_and_read(rt: HostRuntime) {
 }
 
 /// Each word of an image is read through EERD, by its index.
-fn every_word_is_read(rt: &HostRuntime, text: &str) {
-    let alloc = rt.alloc();
+fn every_word_is_read(rt: &impl Abort, alloc: Global, text: &str) {
     let mut device = done(rt, Device::new(alloc, Config { vfs: 0, fifo: 64 }));
     let _blank = device.install(done(rt, assemble(alloc, text)));
     let image: Image = done(rt, assemble(alloc, text));
@@ -73,7 +73,11 @@ fn every_word_is_read(rt: &HostRuntime, text: &str) {
 /// All words of a small, a middle and the largest image.
 #[test]
 fn every_word_of_an_image_is_read(rt: HostRuntime) {
-    every_word_is_read(&rt, "size 64\nword 0 1\nword 0x3e 0x1234\n");
-    every_word_is_read(&rt, "size 128\nword 1 2\nword 0x7f 0xabcd\ncsr 0x05080 0x400\n");
-    every_word_is_read(&rt, "size 16384\nword 2 3\nword 0x3fff 7\n");
+    every_word_is_read(&rt, rt.alloc(), "size 64\nword 0 1\nword 0x3e 0x1234\n");
+    every_word_is_read(
+        &rt,
+        rt.alloc(),
+        "size 128\nword 1 2\nword 0x7f 0xabcd\ncsr 0x05080 0x400\n",
+    );
+    every_word_is_read(&rt, rt.alloc(), "size 16384\nword 2 3\nword 0x3fff 7\n");
 }

@@ -1,19 +1,17 @@
 -- Why calls fail.
-use Rattle.std.proofs.Common.{◌≡◌, ℕ, ◌<◌, Bool, true, List, Result, Ok, Err, IfErr, subst, ◌∙◌, arith}
+use Rattle.std.proofs.Common.{◌≡◌, ◌<◌, Bool, true, List, Result, Ok, Err, IfErr, subst, ◌∙◌, arith}
 use Rattle.std.specs.Prelude.{IsFalse}
 use Rattle.dma_arena.specs.Block.{Block}
 use Rattle.dma_arena.specs.Numbers.{Numbers, free_count}
 use Rattle.nic_device.specs.declared.event.Event.{Event}
-use Rattle.nic_device.specs.declared.event.Event.TheVariants as event
 use Rattle.nic_device.specs.declared.event.Reply.{Reply}
-use Rattle.nic_device.specs.declared.event.Reply.TheVariants as reply
 use Rattle.device_lock.specs.declared.entry.Call.{Call}
 use Rattle.pmd_base.specs.Made.{Adds}
 use Rattle.pmd_base.specs.declared.fault.PmdFault.{PmdFault}
 use Rattle.pmd_base.specs.declared.fault.PmdFault.TheVariants as fault
 use Rattle.pmd_rx.specs.Plays.{Plays}
 use Rattle.pmd_rx.specs.Receive.{Receive, IsOwn}
-use Rattle.pmd_rx.specs.Wrong.{is_healthy, EndsWrong, IsShort, IsRefused, IsFault, FailsBy}
+use Rattle.pmd_rx.specs.Wrong.{is_healthy, EndsWrong, IsRefused, IsFault, FailsBy}
 use Rattle.pmd_rx.proofs.Playing.{plays_none, plays_both}
 
 pub wrong_here : (old new : List Call) (v : Receive) (e : Event Block) (r : Reply Block) → IsOwn v e → Adds old new e r

@@ -1,15 +1,12 @@
 -- What each step keeps: where the blocks are, the ring, and that the driver runs.
-use Rattle.std.proofs.Common.{◌≡◌, ℕ, ◌+◌, ◌<◌, ◌≤◌, Bool, true, false, List, [], ◌∷◌, ◌++◌, length, get_or, drop, Option, Some, None, Result, Ok, Err, IfOk, OnOk, OnErr, refl, sym, ap, subst, ◌∙◌, arith, length-append, length-drop, cond}
-use Rattle.std.proofs.lemmas.List.{drop_more, length_push}
+use Rattle.std.proofs.Common.{◌≡◌, ℕ, ◌+◌, ◌<◌, Bool, true, false, List, [], ◌∷◌, ◌++◌, length, get_or, drop, refl, sym, ap, subst, ◌∙◌, arith, cond}
 use Rattle.dma_arena.specs.Block.{Block}
-use Rattle.dma_arena.specs.Numbers.{Numbers, is_free, with_free}
+use Rattle.dma_arena.specs.Numbers.{Numbers}
 use Rattle.dma_arena.specs.Whereabouts.{times_in_hand}
-use Rattle.pmd_base.specs.declared.fault.PmdFault.{PmdFault}
-use Rattle.pmd_base.specs.declared.packet.Packet.{Packet}
 use Rattle.pmd_base.proofs.Outside.{times-append, times-cons, exchanges_both}
-use Rattle.pmd_rx.specs.Keeping.{Keeps, KeepsAt, RunsAt, fresh_block, block_in, lent_at, out_at, blocks_out, handed_block}
-use Rattle.pmd_rx.specs.Receive.{Receive, Layout, Stage, Looks, Sees, Holding, Lent, Named, block_at, looked, took, lent_one, named, moved, held_by}
-use Rattle.pmd_rx.specs.Shown.{CanLook, HasSeen, CanLend, HasLent, HasNamed}
+use Rattle.pmd_rx.specs.Keeping.{Keeps, KeepsAt, fresh_block, block_in, lent_at, out_at, blocks_out}
+use Rattle.pmd_rx.specs.Receive.{Receive, Layout, Stage, Looks, Sees, Holding, Lent, Named, block_at, looked, took, held_by}
+use Rattle.pmd_rx.specs.Shown.{CanLook, HasSeen}
 
 -- how often a block is out, by where it is
 pub times_out : (l : Layout) (s : Stage) (k : ℕ)

@@ -1,3 +1,4 @@
+pub mod Closing
 pub mod Failing
 pub mod Fresh
 pub mod Handing

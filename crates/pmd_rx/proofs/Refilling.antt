@@ -1,9 +1,8 @@
 -- What the steps of a refill keep.
 use Rattle.std.specs.Prelude.{IsSome}
-use Rattle.std.proofs.Common.{◌≡◌, ℕ, ◌+◌, ◌<◌, ◌≤◌, true, false, List, [], ◌∷◌, ◌++◌, length, Option, Some, None, Result, Ok, Err, IfOk, OnOk, OnErr, refl, sym, ap, subst, ◌∙◌, arith}
+use Rattle.std.proofs.Common.{◌≡◌, ℕ, ◌+◌, ◌<◌, true, false, [], ◌∷◌, length, Option, Some, None, Result, Ok, Err, IfOk, OnOk, OnErr, refl, sym, subst, arith}
 use Rattle.std.proofs.lemmas.List.{length_push}
 use Rattle.dma_arena.specs.Numbers.{Numbers, is_free, with_free}
-use Rattle.dma_arena.specs.Whereabouts.{times_in_hand}
 use Rattle.pmd_base.specs.declared.fault.PmdFault.{PmdFault}
 use Rattle.pmd_base.specs.declared.packet.Packet.{Packet}
 use Rattle.pmd_base.proofs.Outside.{times-append, times-cons}

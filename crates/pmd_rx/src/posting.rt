@@ -233,7 +233,7 @@ impl ReceiveRing {
 }
 
 /// Gives a block back to the arena that it was taken from.
-fn give_back(arena: &mut Arena, buf: Buf)
+pub(crate) fn give_back(arena: &mut Arena, buf: Buf)
     requires own { is_own arena.old buf.number ≡ true }
     requires away { is_free arena.old buf.number ≡ false }
     ensures { arena.new ≡ with_free arena.old buf.number true }

@@ -1,13 +1,18 @@
 //! The receive ring as the driver keeps it: where it is between two of its calls, and which blocks it has.
 
-ghost use Rattle.std.specs.Prelude.{◌≡◌, ◌<◌, ◌≤◌, ◌++◌, ◌↔◌, true, length};
+ghost use Rattle.std.specs.Prelude.{◌≡◌, ◌<◌, ◌≤◌, ◌+◌, ◌++◌, ◌∷◌, [], ◌↔◌, true, false, length, option_to_list, IfOk, IfErr, IfSome, OnOk, OnErr};
+ghost use Rattle.std.specs.VecDeque.{deque_len, deque_capacity};
+ghost use Rattle.dma_arena.specs.Numbers.{is_own, is_free};
+ghost use Rattle.pmd_base.specs.Home.{AreOut};
 ghost use Rattle.dma_arena.specs.Whereabouts.{times_in_hand};
-ghost use Rattle.pmd_rx.specs.Keeping.{blocks_out, fresh_block, block_in};
+ghost use Rattle.pmd_rx.specs.Keeping.{blocks_out, lent_of, fresh_block, block_in, with_home};
 ghost use Rattle.pmd_rx.specs.Receive.{at_start, held_by};
 ghost use Rattle.pmd_rx.specs.Shown.{CanLook, IsHolding, HasLent, HasNamed};
 
+use crate::posting::give_back;
+use dma_arena::Arena;
 use nic_device::Port;
-use pmd_base::{Packet, Record};
+use pmd_base::{Homeward, Packet, Record};
 use std::alloc::Global;
 use std::collections::VecDeque;
 use std::marker::Model;
@@ -161,5 +166,89 @@ impl ReceiveRing {
             Some(packet) => packet.buf.block() == block,
             None => false,
         }
+    }
+}
+
+impl ReceiveRing {
+    /// Ends the ring: its blocks are on their way home, the block of a packet that is held is given to the arena, and
+    /// the records are handed out. Where there is no memory, the ring comes back as it was.
+    pub fn close(self, arena: &mut Arena) -> Result<(Homeward, Vec<Record>), ReceiveRing>
+        requires { AreOut arena.old (blocks_out self) }
+        ensures way { IfOk result (λ ends. ends.0 ≡ record { lent = lent_of self; lost = 0 }) }
+        ensures records { IfOk result (λ ends. ends.1.items ≡ self.handed) }
+        ensures home { OnOk result (arena.new ≡ with_home arena.old (held_by self.stage)) }
+        ensures out { OnOk result (AreOut arena.new (lent_of self)) }
+        ensures back { IfErr result (λ ring. ring ≡ self) }
+        ensures kept { OnErr result (arena.new ≡ arena.old) }
+    {
+        let mut ended = self;
+        let fresh = ended.fresh();
+        if ended.blocks.reserve(2).is_err() {
+            return Err(ended);
+        }
+        let ReceiveRing {
+            port: _,
+            tail: _,
+            ring,
+            size: _,
+            next: _,
+            blocks,
+            handed,
+            at: _,
+            held,
+        } = ended;
+        let lent = with_ring(blocks, fresh, ring);
+        give_held(arena, held);
+        Ok((Homeward::of(lent), handed))
+    }
+
+    /// The block that is lent and not posted yet.
+    fn fresh(&self) -> Option<u32>
+        ensures { option_to_list result ≡ fresh_block self.now.stage }
+    {
+        match self.at {
+            At::Lent(fresh) | At::Named(fresh) => Some(fresh),
+            At::Looks | At::Sees(_, _) | At::Refills => None,
+        }
+    }
+}
+
+/// The blocks that stand in a ring, a fresh one, and the ring's own. There is room for two.
+fn with_ring(blocks: VecDeque<u32>, fresh: Option<u32>, ring: u32) -> VecDeque<u32>
+    requires { deque_len blocks + 2 ≤ deque_capacity blocks }
+    ensures items { result.items ≡ blocks.items ++ (option_to_list fresh ++ ring ∷ []) }
+    ensures few { length result.items ≤ length blocks.items + 2 }
+{
+    let mut lent = blocks;
+    match fresh {
+        Some(block) => {
+            lent.push_back_reserved(block);
+            lent.push_back_reserved(ring);
+            lent
+        }
+        None => {
+            lent.push_back_reserved(ring);
+            lent
+        }
+    }
+}
+
+/// Gives the block of the packet that is held, where one is, to the arena.
+fn give_held(arena: &mut Arena, held: Option<Packet>)
+    requires { IfSome held (λ packet.
+        (is_own arena.old packet.buf.number ≡ true) × (is_free arena.old packet.buf.number ≡ false)) }
+    ensures { arena.new ≡ with_home arena.old held }
+{
+    match held {
+        Some(packet) => {
+            let Packet {
+                buf,
+                len: _,
+                rss: _,
+                hash: _,
+            } = packet;
+            give_back(arena, buf)
+        }
+        None => {}
     }
 }

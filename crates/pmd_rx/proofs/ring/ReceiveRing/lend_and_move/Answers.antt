@@ -1,4 +1,4 @@
-use Rattle.std.proofs.Common.{◌≡◌, [], refl, sym, subst}
+use Rattle.std.proofs.Common.{[], refl, sym, subst}
 use Rattle.dma_arena.specs.Numbers.{Numbers}
 use Rattle.pmd_rx.specs.Keeping.{Keeps, handed_block}
 use Rattle.pmd_rx.specs.Receive.{lent_one}

@@ -1,4 +1,4 @@
-use Rattle.std.proofs.Common.{◌≡◌, refl, sym, subst}
+use Rattle.std.proofs.Common.{refl, sym, subst}
 use Rattle.pmd_rx.specs.Receive.{Receive, fresh_of}
 use Rattle.pmd_rx.specs.Wrong.{PacketWaits}
 use Rattle.pmd_rx.proofs.Failing.{fails_all, never_short}

@@ -1,4 +1,4 @@
-use Rattle.std.proofs.Common.{◌≡◌, Ok, ap, sym, subst}
+use Rattle.std.proofs.Common.{sym, subst}
 use Rattle.pmd_base.proofs.Outside.{out_kept}
 use Rattle.pmd_rx.specs.Keeping.{blocks_out, handed_block}
 use Rattle.pmd_rx.specs.Receive.{Receive}

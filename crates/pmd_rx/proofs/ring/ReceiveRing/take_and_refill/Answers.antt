@@ -62,7 +62,8 @@ returns-in-Ok-true-clause-fails g c =
     (g.N.Nic.made c.lend_and_move.new.nic) c.args.arena.now c.lend_and_move.new.arena c.args.self.now
     c.look_and_take.new.self c.lend_and_move.new.self c.look_and_take.ensures.plays
     (c.look_and_take.ensures.free
-    (ok_true c.look_and_take.result c.in-Ok-true.field-0 c.in-Ok-true.is c.in-Ok-true.field-0-test)) c.lend_and_move.ensures.fails
+    (ok_true c.look_and_take.result c.in-Ok-true.field-0 c.in-Ok-true.is c.in-Ok-true.field-0-test))
+    c.lend_and_move.ensures.fails
 
 pub returns-in-Ok-true-clause-waits : goal.returns-in-Ok-true-clause-waits
 returns-in-Ok-true-clause-waits g c short =

@@ -1,3 +1,4 @@
+pub mod Leaving
 pub mod Plays
 pub mod Sending
 pub mod Sends

@@ -4,6 +4,7 @@ ghost use Rattle.std.specs.Prelude.{[], ◌≡◌, ◌==◌, ◌≢◌, ◌↔�
 ghost use Rattle.pmd_base.specs.Accesses.{IsLent, IsWritten};
 ghost use Rattle.pmd_base.specs.Made.{AddsSome};
 ghost use Rattle.pmd_tx.specs.Plays.{Plays, LooksLast, FaultsBy};
+ghost use Rattle.pmd_tx.specs.Leaving.{lent_of};
 ghost use Rattle.pmd_tx.specs.Sending.{at_start, blocks_of, no_packet, packet_at, slot_at, descriptor_at, has_lent, asking, asked, is_sent, looked, advanced, reaped, accepted_by};
 ghost use Rattle.std.specs.List.{list_any};
 ghost use Rattle.dma_ring.specs.Ring.{next_of};
@@ -16,7 +17,7 @@ use device_lock::CallFault;
 use dma_arena::{BLOCK_BYTES, Buf};
 use dma_ring::{data_descriptor_word, is_sent, of_halves, second_half};
 use nic_device::Port;
-use pmd_base::{Nic, Packet, PmdFault, Record, lend, peek, poke, take, write};
+use pmd_base::{Homeward, Nic, Packet, PmdFault, Record, lend, peek, poke, take, write};
 use std::alloc::Global;
 use std::collections::VecDeque;
 use std::marker::Model;
@@ -114,6 +115,35 @@ impl TransmitRing {
     {
         let TransmitRing { accepted, .. } = self;
         accepted
+    }
+
+    /// Ends the ring: its blocks are on their way home, and what was accepted is given away, the oldest first. Where
+    /// there is no memory, the ring comes back as it was.
+    #[tactic(auto, using(crate::proofs::Outstanding::outstanding))]
+    pub fn close(self) -> Result<(Homeward, Vec<Record>), TransmitRing>
+        ensures way { IfOk result (λ ends. ends.0 ≡ record { lent = lent_of self; lost = 0 }) }
+        ensures records { IfOk result (λ ends. ends.1.items ≡ self.accepted) }
+        ensures back { IfErr result (λ ring. ring ≡ self) }
+    {
+        let mut ended = self;
+        if ended.blocks.reserve(1).is_err() {
+            return Err(ended);
+        }
+        let TransmitRing {
+            port: _,
+            tail: _,
+            ring,
+            size: _,
+            next: _,
+            blocks,
+            posted: _,
+            poked: _,
+            seen: _,
+            accepted,
+        } = ended;
+        let mut lent = blocks;
+        lent.push_back_reserved(u32::from(ring));
+        Ok((Homeward::of(lent), accepted))
     }
 
     /// The number of the block that the ring is in, below 65,536.

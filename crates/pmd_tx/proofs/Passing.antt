@@ -1,5 +1,5 @@
 -- What a packet meets, and what comes of it.
-use Rattle.std.proofs.Common.{◌≡◌, ◌≤◌, ◌<◌, ◌+◌, Bool, true, false, List, [], ◌∷◌, ◌++◌, length, Option, Some, None, Result, Ok, Err, IfSome, IfNone, IfErr, not, ◌&&◌, if◌then◌else◌, refl, ap, ◌∙◌, arith}
+use Rattle.std.proofs.Common.{◌≡◌, ◌≤◌, ◌<◌, ◌+◌, Bool, true, false, List, [], ◌∷◌, ◌++◌, length, Option, Some, None, Result, Ok, Err, IfSome, IfNone, IfErr, not, ◌&&◌, if◌then◌else◌, refl, sym, ap, ◌∙◌, arith}
 use Rattle.std.proofs.lemmas.Bool.Decides.{nat_tests}
 use Rattle.dma_arena.specs.Numbers.{Numbers}
 use Rattle.pmd_base.specs.Packet.{Kept}
@@ -11,7 +11,7 @@ use Rattle.pmd_tx.specs.declared.answer.Gate.TheVariants.{Refused, Full, Open}
 use Rattle.pmd_tx.specs.declared.answer.TxAnswer.{TxAnswer}
 use Rattle.pmd_tx.specs.declared.answer.TxFault.{TxFault}
 use Rattle.pmd_tx.specs.Sending.{Sender, Outgoing, accepted_by, has_lent}
-use Rattle.pmd_tx.specs.Sends.{gate_of, outgoing_of, accepted_of, is_bad_size, is_full, goes_home, IsAccepted, IsNoneAccepted, IsBack}
+use Rattle.pmd_tx.specs.Sends.{gate_of, outgoing_of, accepted_of, is_bad_size, is_full, goes_home, returned, IsAnswer, IsAccepted, IsNoneAccepted, IsBack}
 use Rattle.pmd_tx.specs.Shown.{MaySend}
 
 opened : (bad home full : Bool)
@@ -34,6 +34,22 @@ open_may v a elsewhere p is =
       room = grind (arith, nat_tests, full);
       away = grind (arith, nat_tests, home);
     }
+
+-- a packet that doesn't come back met an open way
+
+gone_open : (g : Gate) (p : Packet) (x : Result TxAnswer TxFault) → IsAnswer g p x → returned x ≡ None → Open ≡ g
+gone_open (Refused f) p x answer none = absurd (let e : Some p ≡ None = ap returned (sym answer) ∙ none in cc)
+gone_open Full p x answer none = absurd (let e : Some p ≡ None = ap returned (sym answer) ∙ none in cc)
+gone_open Open p x answer none = refl
+
+pub gone_home : (v : Sender) (a : Numbers) (elsewhere : Bool) (p : Packet) (x : Result TxAnswer TxFault)
+    → IsAnswer (gate_of v a elsewhere p) p x → returned x ≡ None
+    → (goes_home v a p.buf.number ≡ true) × (elsewhere ≡ false)
+gone_home v a elsewhere p x answer none =
+    let tests = opened (is_bad_size p) (goes_home v a p.buf.number && not elsewhere) (is_full v)
+    (gone_open (gate_of v a elsewhere p) p x answer none) in
+    let home = tests.1 in
+    (grind (arith, nat_tests, home), grind (arith, nat_tests, home))
 
 -- it may be sent still after what accepts nothing
 pub may_after : (v w : Sender) (p : Packet) → MaySend v p → IsNoneAccepted v w → w.layout ≡ v.layout → MaySend w p

@@ -1,0 +1,26 @@
+use Rattle.std.proofs.Common.{◌≡◌, ℕ, true, false, sym, subst, ◌∙◌}
+use Rattle.dma_arena.specs.Numbers.{Numbers}
+use Rattle.pmd.specs.Running.{Running, IsUp, goes_back}
+use Rattle.pmd.proofs.Blocks.{back_goes, released_up, never_back}
+use Rattle.pmd.proofs.running.Running.release.Goals as goal
+
+pub invariant_of-self : goal.invariant_of-self
+invariant_of-self c =
+    let q : Running = record {
+      arena = c.self.inside.arena;
+      receive = c.self.inside.receive;
+      transmit = c.self.inside.transmit;
+    } in
+    let n : ℕ = c.args.packet.buf.number in
+    let goes : goes_back q n ≡ true =
+    subst (λ (y : Running). goes_back y n ≡ true) (sym c.self.view_is)
+    (subst (λ (k : ℕ). goes_back c.args.self.now k ≡ true) c.block-block.ensures.number
+    (sym c.goes_back.ensures ∙ c.if-goes_back.true)) in
+    subst (λ (a : Numbers). IsUp (record q { arena = a })) (sym c.give_back.ensures)
+    (released_up q n (back_goes q n goes) c.self.invariant)
+
+pub returns-clause-ok : goal.returns-clause-ok
+returns-clause-ok c =
+    never_back (goes_back c.args.self.now c.args.packet.buf.number)
+    (subst (λ (k : ℕ). goes_back c.args.self.now k ≡ false) c.block-block.ensures.number
+    (sym c.goes_back.ensures ∙ c.if-goes_back.false))

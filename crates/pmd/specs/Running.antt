@@ -1,0 +1,54 @@
+-- A driver whose two rings are up.
+use Rattle.std.specs.Prelude.{◌≡◌, ℕ, ◌&&◌, nat_lt, not, Bool, true, false, List, ◌++◌, Option, Some, None}
+use Rattle.dma_arena.specs.Block.{zero_block}
+use Rattle.dma_arena.specs.Numbers.{Numbers, is_free, with_free}
+use Rattle.dma_arena.specs.Whereabouts.{times_in_hand}
+use Rattle.device_lock.specs.declared.entry.Call.{Call}
+use Rattle.pmd_base.specs.Home.{AreOut}
+use Rattle.pmd_base.specs.declared.packet.Packet.{Packet}
+use Rattle.pmd_rx.specs.Receive.{Receive}
+use Rattle.pmd_rx.specs.Keeping.{blocks_out, IsRunning}
+use Rattle.pmd_rx.specs.Plays as receive
+use Rattle.pmd_tx.specs.Sending.{Sender}
+use Rattle.pmd_tx.specs.Leaving.{lent_of}
+use Rattle.pmd_tx.specs.Plays as transmit
+use Rattle.pmd_tx.specs.Sends.{goes_home}
+
+-- the driver's arena and its two rings
+pub record Running : Type 0 where
+  pub arena : Numbers
+  pub receive : Receive
+  pub transmit : Sender
+
+-- all blocks that the driver has out of its arena
+abbrev pub rings_out : Running → List ℕ
+rings_out r = blocks_out r.receive ++ lent_of r.transmit
+
+-- each block is in one place, and the receive ring is filled
+pub record IsUp (r : Running) : Type 0 where
+  pub home : AreOut r.arena (rings_out r)
+  pub filled : IsRunning r.receive
+
+-- how both rings follow from the calls that were made
+pub record PlaysBoth (old : List Call) (r : Running) (new : List Call) (s : Running) : Type 0 where
+  pub receive : receive.Plays old r.receive new s.receive
+  pub transmit : transmit.Plays old r.transmit new s.transmit
+
+-- a packet of a free block, empty, was made. None is where no block is free, or where the length is above a block's
+abbrev pub IsMade : Running → ℕ → Option Packet → Running → Type 0
+IsMade r len None s = s ≡ r
+IsMade r len (Some p) s =
+    (is_free r.arena p.buf.number ≡ true) × (p ≡ record { buf = zero_block p.buf.number; len = len; rss = 0; hash = 0 })
+    × (s ≡ record r { arena = with_free r.arena p.buf.number false })
+
+-- whether the receive ring has a block of this number
+abbrev pub receives : Running → ℕ → Bool
+receives r n = nat_lt 0 (times_in_hand (blocks_out r.receive) n)
+
+-- whether a packet's block can go back: it goes home for the transmit ring, and the receive ring doesn't have it
+abbrev pub goes_back : Running → ℕ → Bool
+goes_back r n = goes_home r.transmit r.arena n && not (receives r n)
+
+-- the packet's block is free in the arena again, and nothing else changed
+abbrev pub IsReleased : Running → ℕ → Running → Type 0
+IsReleased r n s = s ≡ record r { arena = with_free r.arena n true }

@@ -1,0 +1,230 @@
+//! A driver whose two rings are up.
+
+ghost use Rattle.std.specs.Prelude.{ℕ, ◌≡◌, ◌<◌, ◌⊎◌, ◌++◌, ◌∷◌, ◌↔◌, length, [], true, false, Ok, Err, IfOk, IfErr, IfSome, IfNone, IsNone, IsOk, OnOk, OnErr, IsTrue};
+ghost use Rattle.dma_arena.specs.Numbers.{free_count, is_own, is_free, with_free};
+ghost use Rattle.pmd_base.specs.Packet.{kept_of};
+ghost use Rattle.pmd_rx.specs.Keeping.{Keeps, handed_block};
+ghost use Rattle.pmd_rx.specs.Plays.{LooksOnce};
+ghost use Rattle.pmd_rx.specs.Wrong.{FailsBy, PacketWaits};
+ghost use Rattle.pmd_tx.specs.Plays.{LooksLast, FaultsBy};
+ghost use Rattle.pmd_tx.specs.Sends.{gate_of, returned, IsAnswer, IsShut, IsAccepted, IsNoneAccepted, IsBack, IsLate, Frees};
+ghost use Rattle.pmd.specs.Running.{IsUp, PlaysBoth, IsMade, IsReleased, goes_back, receives};
+
+use dma_arena::{Arena, BLOCK_BYTES, Buf};
+use pmd_base::{Nic, Packet, PmdFault, Record};
+use pmd_rx::ReceiveRing;
+use pmd_tx::{Reaped, TransmitRing, TxAnswer, TxFault};
+use std::alloc::Global;
+use std::marker::Model;
+
+/// A driver whose two rings are up: the arena of its blocks, and the rings.
+pub struct Running {
+    arena: Arena,
+    receive: ReceiveRing,
+    transmit: TransmitRing,
+}
+
+impl Model for Running {
+    ghost use Rattle.pmd.specs.Running as running;
+
+    ghost Value = { running.Running };
+
+    ghost view = { λ r. record { arena = r.arena; receive = r.receive; transmit = r.transmit } };
+
+    ghost invariant = { λ r. running.IsUp (record { arena = r.arena; receive = r.receive; transmit = r.transmit }) };
+}
+
+impl Running {
+    /// A driver of two rings of one queue that are up, whose blocks are out of the arena: the receive ring has all of
+    /// its slots posted but one.
+    pub fn new(arena: Arena, receive: ReceiveRing, transmit: TransmitRing) -> Running
+        requires { IsUp (record { arena = arena; receive = receive; transmit = transmit }) }
+        ensures { result ≡ record { arena = arena; receive = receive; transmit = transmit } }
+    {
+        Running {
+            arena,
+            receive,
+            transmit,
+        }
+    }
+
+    /// The arena and the rings.
+    pub fn into_parts(self) -> (Arena, ReceiveRing, TransmitRing)
+        ensures arena { result.0 ≡ self.arena }
+        ensures receive { result.1 ≡ self.receive }
+        ensures transmit { result.2 ≡ self.transmit }
+        ensures up { IsUp self }
+    {
+        let Running {
+            arena,
+            receive,
+            transmit,
+        } = self;
+        (arena, receive, transmit)
+    }
+
+    /// The packets that were handed out, the oldest first.
+    pub fn handed(&self) -> &[Record]
+        ensures { result.now ≡ self.now.receive.handed }
+    {
+        self.receive.handed()
+    }
+
+    /// What was accepted, the oldest first.
+    pub fn accepted(&self) -> &[Record]
+        ensures { result.now ≡ self.now.transmit.accepted }
+    {
+        self.transmit.accepted()
+    }
+}
+
+impl Running {
+    /// The next packet that came in, in order. None where the next slot isn't done.
+    ///
+    /// `NoBuffer` where a packet waits and no block is free, `DeviceFault` where a reply is none that a healthy queue
+    /// gives, `Call` where a call was refused, or there was no memory for the packet's record: the driver keeps where
+    /// it was, and the next call goes on.
+    pub fn rx<N: Nic>(&mut self, alloc: Global, nic: &mut N) -> Result<Option<Packet>, PmdFault>
+        ensures plays { PlaysBoth (N.made nic.old) self.old (N.made nic.new) self.new }
+        ensures some { IfOk result (λ out. IfSome out (λ packet.
+            self.new.receive.handed ≡ self.old.receive.handed ++ kept_of packet ∷ [])) }
+        ensures none { IfOk result (λ out. IfNone out (
+            LooksOnce (N.made nic.old) self.old.receive (N.made nic.new) self.new.receive)) }
+        ensures err { OnErr result (self.new.receive.handed ≡ self.old.receive.handed) }
+        ensures fails { IfErr result (λ f. FailsBy f (N.made nic.old) self.old.arena self.old.receive
+            (N.made nic.new) self.new.arena self.new.receive) }
+        ensures waits { result ≡ Err PmdFault.NoBuffer → PacketWaits self.new.receive.stage }
+        ensures keeps { Keeps self.old.arena self.old.receive self.new.arena self.new.receive (handed_block result) }
+        ensures transmit { self.new.transmit ≡ self.old.transmit }
+        ensures who { N.who nic.new ≡ N.who nic.old }
+    {
+        self.receive.receive(alloc, nic, &mut self.arena)
+    }
+
+    /// Sends a packet of 1 to 1,514 bytes, which is padded with zero bytes to 60.
+    ///
+    /// Before any event: `BadSize` where its length is another, `ForeignBlock` where `release` would hand it back, and
+    /// `RingFull` where as many packets are outstanding as the ring has slots but one. Then `DeviceFault` where the
+    /// device answers what it can't on a healthy queue, and `Call` where a call was refused, or there was no memory for
+    /// the record. The packet comes back where its block wasn't lent yet; else it is accepted, and the next call goes
+    /// on with it.
+    pub fn tx<N: Nic>(
+        &mut self,
+        alloc: Global,
+        nic: &mut N,
+        packet: Packet,
+    ) -> Result<TxAnswer, TxFault>
+        ensures plays { PlaysBoth (N.made nic.old) self.old (N.made nic.new) self.new }
+        ensures answer { IsAnswer
+            (gate_of self.old.transmit self.old.arena (receives self.old packet.buf.number) packet) packet result }
+        ensures shut { IsShut (gate_of self.old.transmit self.old.arena (receives self.old packet.buf.number) packet)
+            → (N.made nic.new ≡ N.made nic.old) × (self.new ≡ self.old) }
+        ensures accepted { IfNone (returned result) (IsAccepted self.old.transmit packet self.new.transmit) }
+        ensures kept { IfSome (returned result) (λ back. IsNoneAccepted self.old.transmit self.new.transmit) }
+        ensures back { IfErr result (λ failed. IfSome failed.packet (λ back. IsBack failed.fault packet back)) }
+        ensures settled { result ≡ Ok TxAnswer.Taken
+            → self.new.transmit.posted ≡ length self.new.transmit.outstanding }
+        ensures faults { IfErr result (λ failed.
+            FaultsBy failed.fault (N.made nic.old) self.old.transmit (N.made nic.new)) }
+        ensures layout { self.new.transmit.layout ≡ self.old.transmit.layout }
+        ensures others { (self.new.arena ≡ self.old.arena) × (self.new.receive ≡ self.old.receive) }
+        ensures who { N.who nic.new ≡ N.who nic.old }
+    {
+        let elsewhere = self.receives(packet.buf.block());
+        self.transmit
+            .send(alloc, nic, &self.arena, elsewhere, packet)
+    }
+
+    /// Frees the blocks of the packets that were sent, the oldest first. First it goes on with the packet that waits
+    /// since an earlier call, where one does.
+    ///
+    /// `DeviceFault` where the device answers what it can't on a healthy queue, and `Call` where a call was refused:
+    /// what was freed before stays free.
+    pub fn reap<N: Nic>(&mut self, alloc: Global, nic: &mut N) -> Result<Reaped, PmdFault>
+        ensures plays { PlaysBoth (N.made nic.old) self.old (N.made nic.new) self.new }
+        ensures idle { IfOk result (λ done. IsTrue done.idle ↔ (self.new.transmit.outstanding ≡ [])) }
+        ensures waits { IfOk result (λ done. done.idle ≡ false
+            → LooksLast (N.made nic.old) self.old.transmit (N.made nic.new) self.new.transmit) }
+        ensures freed { IfOk result (λ done.
+            Frees self.old.transmit self.new.transmit self.old.arena self.new.arena done.freed) }
+        ensures some { OnErr result ((count : ℕ)
+            × Frees self.old.transmit self.new.transmit self.old.arena self.new.arena count) }
+        ensures accepted { self.new.transmit.accepted ≡ self.old.transmit.accepted }
+        ensures layout { self.new.transmit.layout
+            ≡ record self.old.transmit.layout { next = self.new.transmit.layout.next } }
+        ensures late { IfErr result (λ fault. IsLate fault) }
+        ensures faults { IfErr result (λ fault.
+            FaultsBy fault (N.made nic.old) self.old.transmit (N.made nic.new)) }
+        ensures receive { self.new.receive ≡ self.old.receive }
+        ensures who { N.who nic.new ≡ N.who nic.old }
+    {
+        self.transmit.reap(alloc, nic, &mut self.arena)
+    }
+}
+
+impl Running {
+    /// A packet of `len` bytes in a free block, all zero. None where no block is free, or the length is above 2,048.
+    pub fn packet(&mut self, len: u16) -> Option<Packet>
+        ensures none { IsNone result ↔ ((2048 < len) ⊎ (free_count self.old.arena ≡ 0)) }
+        ensures made { IsMade self.old len result self.new }
+    {
+        if usize::from(len) > BLOCK_BYTES {
+            return None;
+        }
+        let buf = self.arena.take()?;
+        Some(Packet {
+            buf,
+            len,
+            rss: 0,
+            hash: 0,
+        })
+    }
+
+    /// Whether the receive ring has the block of this number.
+    fn receives(&self, block: u32) -> bool
+        ensures { result ≡ receives self.now block }
+    {
+        self.receive.has(block)
+    }
+
+    /// Whether a block of this number can go back to the arena.
+    fn goes_back(&self, block: u32) -> bool
+        ensures { result ≡ goes_back self.now block }
+    {
+        self.transmit.goes_home(&self.arena, block) && !self.receives(block)
+    }
+
+    /// Gives a packet's block back to the arena. The packet comes back where its block can't go home: its number is
+    /// none of the arena's, or is free there, or this driver has it lent.
+    pub fn release(&mut self, packet: Packet) -> Result<(), Packet>
+        ensures ok { IsOk result ↔ (goes_back self.old packet.buf.number ≡ true) }
+        ensures released { OnOk result (IsReleased self.old packet.buf.number self.new) }
+        ensures back { IfErr result (λ back. back ≡ packet) }
+        ensures kept { OnErr result (self.new ≡ self.old) }
+    {
+        let block = packet.buf.block();
+        if self.goes_back(block) {
+            let Packet {
+                buf,
+                len: _,
+                rss: _,
+                hash: _,
+            } = packet;
+            give_back(&mut self.arena, buf);
+            return Ok(());
+        }
+        Err(packet)
+    }
+}
+
+/// Gives a block back to the arena that it was taken from.
+fn give_back(arena: &mut Arena, buf: Buf)
+    requires own { is_own arena.old buf.number ≡ true }
+    requires away { is_free arena.old buf.number ≡ false }
+    ensures { arena.new ≡ with_free arena.old buf.number true }
+{
+    match arena.give(buf) {
+        Ok(()) => {}
+        Err(_buf) => unreachable!(),
+    }
+}

@@ -1,7 +1,7 @@
 use Rattle.std.proofs.Common.{refl}
 use Rattle.pmd.specs.Running.{Running}
-use Rattle.pmd.proofs.Blocks.{reaped_up, some_freed, outstanding_away}
 use Rattle.pmd.proofs.Both.{transmit_plays}
+use Rattle.pmd.proofs.Sending.{reaped_up, some_freed, outstanding_away}
 use Rattle.pmd.proofs.running.Running.reap.Goals as goal
 
 pub reap-requires : goal.reap-requires

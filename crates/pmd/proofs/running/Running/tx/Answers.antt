@@ -3,8 +3,8 @@ use Rattle.pmd_base.specs.declared.packet.Packet.{Packet}
 use Rattle.pmd_tx.specs.Sending.{Sender}
 use Rattle.pmd_tx.specs.Sends.{gate_of, IsAnswer, IsShut}
 use Rattle.pmd.specs.Running.{Running, receives}
-use Rattle.pmd.proofs.Blocks.{sent_up}
 use Rattle.pmd.proofs.Both.{transmit_plays}
+use Rattle.pmd.proofs.Sending.{sent_up}
 use Rattle.pmd.proofs.running.Running.tx.Goals as goal
 
 pub invariant_of-self : goal.invariant_of-self

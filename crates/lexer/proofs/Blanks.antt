@@ -10,13 +10,15 @@ use Rattle.lexer.specs.Words.{is_blank, ends_word}
 use borrow.Author.Tests.{le-ltb}
 
 -- what `position` tells
-pub position-at : (test : ℕ → Bool) (text : List ℕ) (i : ℕ) → position test text ≡ Some i → i ≡ position_or_len test text
+pub position-at : (test : ℕ → Bool) (text : List ℕ) (i : ℕ) → position test text ≡ Some i
+    → i ≡ position_or_len test text
 position-at test text i found = elim (cases_lt (position_or_len test text) (length text)) [
   | inl below ↦ let is = rw (lt-ltb (position_or_len test text) (length text) below) at found in cc
   | inr above ↦ let is = rw (le-ltb (position_or_len test text) (length text) above) at found in cc
 ]
 
-pub position-none : (test : ℕ → Bool) (text : List ℕ) → position test text ≡ None → length text ≡ position_or_len test text
+pub position-none : (test : ℕ → Bool) (text : List ℕ) → position test text ≡ None
+    → length text ≡ position_or_len test text
 position-none test text none = elim (cases_lt (position_or_len test text) (length text)) [
   | inl below ↦ let is = rw (lt-ltb (position_or_len test text) (length text) below) at none in cc
   | inr above ↦ omega (arith, prefix_len-le-length (λ byte. not (test byte)) text)
@@ -38,7 +40,8 @@ behind text zero is utf8 = IsCharBoundary-start text utf8
 behind text (suc k) is utf8 =
     let inside : k < position_or_len (λ byte. not (is_blank byte)) text = omega arith in
     let below : k < length text = omega (arith, prefix_len-le-length (λ byte. not (not (is_blank byte))) text) in
-    let blank = not_false (is_blank (get_or text k 0)) (fails_before_first (λ byte. not (is_blank byte)) text k 0 inside) in
+    let none = fails_before_first (λ byte. not (is_blank byte)) text k 0 inside in
+    let blank = not_false (is_blank (get_or text k 0)) none in
     let next : k + 1 ≡ suc k = omega arith in
     subst (IsCharBoundary text) next
     (IsCharBoundary-after_ascii text k utf8 below (is_blank-ascii (get_or text k 0) blank))

@@ -26,7 +26,8 @@ capped_step radix value digit low = elim (cases_lt value (2 ^ 32)) [
 
 abbrev Capped : ℕ → ℕ → List ℕ → Type 0
 Capped radix value word = capped_numeral radix (min value (2 ^ 32)) word
-    ≡ (if list_all (λ byte. is_digit byte radix) word then Some (min (digits_value_after radix value word) (2 ^ 32)) else None)
+    ≡ (if list_all (λ byte. is_digit byte radix) word then Some (min (digits_value_after radix value word) (2 ^ 32))
+       else None)
 
 capped_more : (digit : Bool) (radix value byte : ℕ) (more : List ℕ) → 1 ≤ radix
     → Capped radix (value * radix + digit_value byte) more
@@ -61,8 +62,10 @@ numeral_of-value radix value word low some given small =
           let same : min (digits_value radix word) (2 ^ 32) ≡ value = cc in
           elim (cases_lt (digits_value radix word) (2 ^ 32)) [
             | inl below ↦
-                let fits : nat_lt (digits_value radix word) (2 ^ 32) ≡ true = lt-ltb (digits_value radix word) (2 ^ 32) below in
-                let exact : min (digits_value radix word) (2 ^ 32) ≡ digits_value radix word = min-eq_left (omega arith) in
+                let fits : nat_lt (digits_value radix word) (2 ^ 32) ≡ true =
+                lt-ltb (digits_value radix word) (2 ^ 32) below in
+                let exact : min (digits_value radix word) (2 ^ 32) ≡ digits_value radix word =
+                min-eq_left (omega arith) in
                 ap Ok (sym same ∙ exact) ∙ sym (simp (some, all, fits) refl)
             | inr above ↦
                 let cap : min (digits_value radix word) (2 ^ 32) ≡ 2 ^ 32 = min-eq_right above in
@@ -81,10 +84,12 @@ numeral_of-too_large radix value word low some given large =
           let same : min (digits_value radix word) (2 ^ 32) ≡ value = cc in
           elim (cases_lt (digits_value radix word) (2 ^ 32)) [
             | inl below ↦
-                let exact : min (digits_value radix word) (2 ^ 32) ≡ digits_value radix word = min-eq_left (omega arith) in
+                let exact : min (digits_value radix word) (2 ^ 32) ≡ digits_value radix word =
+                min-eq_left (omega arith) in
                 absurd (omega (arith, sym same ∙ exact, large))
             | inr above ↦
-                let over : nat_lt (digits_value radix word) (2 ^ 32) ≡ false = le-ltb (digits_value radix word) (2 ^ 32) above in
+                let over : nat_lt (digits_value radix word) (2 ^ 32) ≡ false =
+                le-ltb (digits_value radix word) (2 ^ 32) above in
                 sym (simp (some, all, over) refl)
           ]
       | inr other ↦ let is = rw other at known in cc

@@ -28,7 +28,8 @@ parts_of hash blank text = slice_split blank (before_first hash text)
 
 parts-hash : (hash blank : ℕ → Bool) (byte : ℕ) (more : List ℕ) → hash byte ≡ true
     → parts_of hash blank (byte ∷ more) ≡ [] ∷ []
-parts-hash hash blank byte more hit = ap (λ n. slice_split blank (take n (byte ∷ more))) (position-yes hash byte more hit)
+parts-hash hash blank byte more hit =
+    ap (λ n. slice_split blank (take n (byte ∷ more))) (position-yes hash byte more hit)
 
 before-next : (hash : ℕ → Bool) (byte : ℕ) (more : List ℕ) → hash byte ≡ false
     → before_first hash (byte ∷ more) ≡ byte ∷ before_first hash more
@@ -79,7 +80,8 @@ first-on hash blank byte more plain other (others, parts, same) =
     let behind : drop (end_in hash blank (byte ∷ more)) (byte ∷ more) ≡ drop (end_in hash blank more) more =
     ap (λ n. drop n (byte ∷ more)) next ∙ drop_next (end_in hash blank more) byte more in (
       others,
-      parts-other hash blank byte more plain other ∙ ap (onto_first byte) parts ∙ ap (λ first. first ∷ others) (sym front),
+      parts-other hash blank byte more plain other ∙ ap (onto_first byte) parts
+        ∙ ap (λ first. first ∷ others) (sym front),
       same ∙ ap (λ text. filled (parts_of hash blank text)) (sym behind),
     )
 
@@ -88,7 +90,8 @@ first-part hash blank [] = ([], refl, refl)
 first-part hash blank (byte ∷ more) =
     let rest = first-part hash blank more in
     elim (cases_Bool (hash byte)) [
-      | inl hit ↦ first-stop hash blank byte more [] (ap (λ b. b || blank byte) hit) (parts-hash hash blank byte more hit)
+      | inl hit ↦
+          first-stop hash blank byte more [] (ap (λ b. b || blank byte) hit) (parts-hash hash blank byte more hit)
       | inr plain ↦ elim (cases_Bool (blank byte)) [
         | inl hit ↦ first-stop hash blank byte more (parts_of hash blank more) (ap (λ b. b || blank byte) plain ∙ hit)
             (parts-blank hash blank byte more plain hit)
@@ -147,7 +150,8 @@ behind-other : (hash blank : ℕ → Bool) (byte : ℕ) (more : List ℕ) → bl
     → Behind hash blank (byte ∷ more)
 behind-other hash blank byte more other =
     let none = position-yes (λ b. not (blank b)) byte more (ap not other) in
-    let behind : drop (front_of blank (byte ∷ more)) (byte ∷ more) ≡ byte ∷ more = ap (λ n. drop n (byte ∷ more)) none in (
+    let behind : drop (front_of blank (byte ∷ more)) (byte ∷ more) ≡ byte ∷ more =
+    ap (λ n. drop n (byte ∷ more)) none in (
       subst (BeginsUnblank blank) (sym behind) other,
       ap (λ text. filled (parts_of hash blank text)) (sym behind),
     )
@@ -179,7 +183,8 @@ words-none text rest word is_rest is_word empty =
     ∙ filled-none is_hash is_blank rest starts (ap (λ w. length w == 0) (sym is_word) ∙ empty)
 
 -- the first word, and those behind it
-pub words-some : (text rest word behind : List ℕ) → rest ≡ drop (position_or_len (λ byte. not (is_blank byte)) text) text
+pub words-some : (text rest word behind : List ℕ)
+    → rest ≡ drop (position_or_len (λ byte. not (is_blank byte)) text) text
     → word ≡ take (position_or_len ends_word rest) rest → behind ≡ drop (position_or_len ends_word rest) rest
     → (length word == 0) ≡ false → words_of text ≡ word ∷ words_of behind
 unfolding words_of words_between_blanks

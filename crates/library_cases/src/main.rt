@@ -2,8 +2,8 @@
 //! examples and by hand.
 //!
 //! `data/NAME.cases` is the table of the library NAME. A case is a line `CALL WORDS = ANSWER`; the module of the library
-//! says which calls there are. Empty lines and lines that begin with `#` say nothing. Data costs no proof, so that a case
-//! which a call can show stands here and not in a test.
+//! says which calls there are. Empty lines and lines that begin with `#` say nothing. Data costs no proof, so that a
+//! case which a call can show stands here and not in a test.
 #![tactic(auto)]
 
 mod call;

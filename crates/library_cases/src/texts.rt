@@ -1,7 +1,7 @@
 //! `lexer`: lines, words, numbers, names and hex data.
 //!
-//! In a text `\n`, `\r` and `\t` stand for the end of a line, a carriage return and a tab. `lines` gives a bar, and for each
-//! line its number, what it says and a bar; `words` the words between bars.
+//! In a text `\n`, `\r` and `\t` stand for the end of a line, a carriage return and a tab. `lines` gives a bar, and
+//! for each line its number, what it says and a bar; `words` the words between bars.
 
 use crate::call::Call;
 use lexer::{Lines, NAME_LIMIT, Words, hex_bytes, is_name, number};

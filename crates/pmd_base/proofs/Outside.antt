@@ -22,7 +22,8 @@ times_first out n = sum_by-cons (λ (x : ℕ). cond (eqb x n) 1 0) n out ∙ rw 
 pub times_rest : (out : List ℕ) (n k : ℕ) → k ≢ n → times_in_hand (n ∷ out) k ≡ times_in_hand out k
 times_rest out n k ne = sum_by-cons (λ (x : ℕ). cond (eqb x k) 1 0) n out ∙ rw (other_number n k ne) (omega arith)
 
-pub times-cons : (n : ℕ) (out : List ℕ) (k : ℕ) → times_in_hand (n ∷ out) k ≡ times_in_hand (n ∷ []) k + times_in_hand out k
+pub times-cons : (n : ℕ) (out : List ℕ) (k : ℕ)
+    → times_in_hand (n ∷ out) k ≡ times_in_hand (n ∷ []) k + times_in_hand out k
 times-cons n out k = sum_by-append (λ (x : ℕ). cond (eqb x k) 1 0) (n ∷ []) out
 
 pub times-append : (xs ys : List ℕ) (k : ℕ) → times_in_hand (xs ++ ys) k ≡ times_in_hand xs k + times_in_hand ys k
@@ -98,7 +99,8 @@ given_at a xs n out k (inl e) =
     subst P (sym e) (given_here a xs n out)
 given_at a xs n out k (inr ne) =
     let here = out_first a xs n out in
-    rw (is_own-with_free a n true k, is_free-with_free_other a n true k here.0 ne) (rw (times_rest xs n k ne) at (out k))
+    rw (is_own-with_free a n true k, is_free-with_free_other a n true k here.0 ne)
+      (rw (times_rest xs n k ne) at (out k))
 
 -- a block that is out can be given, and the others are out then
 pub out_given : (a : Numbers) (xs : List ℕ) (n : ℕ) → AreOut a (n ∷ xs) → AreOut (with_free a n true) xs

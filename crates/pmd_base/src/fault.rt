@@ -26,7 +26,7 @@ pub enum PmdFault {
 }
 
 /// The event of a refusal of memory, as that of a call.
-pub fn no_memory(refused: OutOfMemory<Event>) -> CallFault
+pub(crate) fn no_memory(refused: OutOfMemory<Event>) -> CallFault
     ensures { result ≡ CallFault.OutOfMemory refused.event }
 {
     let OutOfMemory { event } = refused;
@@ -34,7 +34,7 @@ pub fn no_memory(refused: OutOfMemory<Event>) -> CallFault
 }
 
 /// Lets an event go that holds no buffer.
-pub fn let_go(event: Event)
+pub(crate) fn let_go(event: Event)
     requires { lends event ≡ false }
 {
     match event {
@@ -49,7 +49,7 @@ pub fn let_go(event: Event)
 }
 
 /// The same refusal without its event, which holds no buffer.
-pub fn without_event(fault: CallFault) -> CallFault<()>
+pub(crate) fn without_event(fault: CallFault) -> CallFault<()>
     requires { lends (event_of fault) ≡ false }
     ensures { result ≡ same_fault fault }
 {
@@ -81,7 +81,7 @@ fn block_of(event: Event) -> Buf
 }
 
 /// The same refusal without its event, and the block that it would have lent.
-pub fn with_block(fault: CallFault) -> (CallFault<()>, Buf)
+pub(crate) fn with_block(fault: CallFault) -> (CallFault<()>, Buf)
     requires { lends (event_of fault) ≡ true }
     ensures fault { result.0 ≡ same_fault fault }
     ensures block { event_of fault ≡ Event.Lend result.1 }

@@ -1,9 +1,9 @@
 //! What the two halves of the poll-mode driver stand on.
 //!
 //! `Nic` is the seam to the device: a call makes some foreign events and then its own. `Direct` is a device in hand,
-//! which it steps on before each call. `accesses.rt` has the accesses that a driver makes, each with the replies that it
-//! can have, `pf_setup` sets the whole device up, and `Homeward` takes blocks back. Contracts see what a way to a device
-//! made, as the list of its calls.
+//! which it steps on before each call. `accesses.rt` has the accesses that a driver makes, each with the replies that
+//! it can have, `pf_setup` sets the whole device up, and `Homeward` takes blocks back. Contracts see what a way to a
+//! device made, as the list of its calls.
 #![tactic(auto)]
 
 mod accesses;

@@ -108,7 +108,8 @@ impl Queue {
         self.see_off(alloc, nic, side)
     }
 
-    /// Writes the words of an empty ring of `size` descriptors, at most 128, at the start of the block of number `ring`.
+    /// Writes the words of an empty ring of `size` descriptors, at most 128, at the start of the block of number
+    /// `ring`.
     ///
     /// `DeviceFault` where the port has no such register.
     pub fn lay_out<N: Nic>(

@@ -1,12 +1,12 @@
 //! The register table of the Intel 82599: which address names which word, and what an access of it does.
 //!
 //! A row is a register name with its indices; a place is one word, a row and an index; an address names at most one
-//! place. `resolve` is the map from addresses to places, with the bits of the word that show there, that the device core
-//! reads and writes by: one dispatch on ranges of addresses, with no search. The other calls tell what the table says of
-//! an address, of a place and of a row. The table itself stands in `specs/Rows.antt` and `specs/Runs.antt`, and again as
-//! the code's own in `rows.rt`, `dispatch.rt` and `first_addresses.rt`; `tools/register_table.py` writes all of them from
-//! one list.
-//! No call takes memory. The device core, the script assembler and the driver stand on this crate.
+//! place. `resolve` is the map from addresses to places, with the bits of the word that show there, that the device
+//! core reads and writes by: one dispatch on ranges of addresses, with no search. The other calls tell what the table
+//! says of an address, of a place and of a row. The table itself stands in `specs/Rows.antt` and `specs/Runs.antt`,
+//! and again as the code's own in `rows.rt`, `dispatch.rt` and `first_addresses.rt`; `tools/register_table.py` writes
+//! all of them from one list. No call takes memory. The device core, the script assembler and the driver stand on
+//! this crate.
 //!
 //! Source: Intel 82599 datasheet, section on programming interface, with this project's profile of masks and initial
 //! values (docs/REGISTERS.md).

@@ -10,5 +10,6 @@ returns-in-Some c = numeral_of-value c.args.radix c.in-Some.value c.args.word.no
     (search rules) (search rules)
 
 pub returns-in-Some-2 : goal.returns-in-Some-2
-returns-in-Some-2 c = numeral_of-too_large c.args.radix c.in-Some-2.field-0 c.args.word.now c.requires.low (search rules)
+returns-in-Some-2 c =
+    numeral_of-too_large c.args.radix c.in-Some-2.field-0 c.args.word.now c.requires.low (search rules)
     (search rules) (search rules)

@@ -21,7 +21,8 @@ invariant_of-self g c =
       transmit = c.self.inside.transmit;
     } in
     let s : Running = record q { arena = c.reap.new.arena; transmit = c.reap.new.self } in
-    let some = some_freed c.reap.result q.transmit s.transmit q.arena s.arena c.reap.ensures.freed c.reap.ensures.some in
+    let some =
+    some_freed c.reap.result q.transmit s.transmit q.arena s.arena c.reap.ensures.freed c.reap.ensures.some in
     reaped_up q s some.0 c.self.invariant some.1 c.reap.ensures.layout refl
 
 pub returns-clause-plays : goal.returns-clause-plays

@@ -1,7 +1,6 @@
 //! Whether a history leaves a queue alone: what others did to it, once its driver had begun.
 
 ghost use Rattle.std.specs.Prelude.{◌≡◌, ◌↔◌, ◌==◌, ◌||◌, not, ℕ, IsTrue, IfSome, IfNone, false};
-ghost use Rattle.vf_map.specs.Owner.{has_queue};
 ghost use Rattle.vf_map.specs.declared.mode.Mode.TheVariants.{Off};
 ghost use Rattle.device_lock.specs.Alone.{LeavesAlone, is_setting, place_at, mode_set, mode_written, mode_after, lends, lent_in, lent_by};
 ghost use Rattle.device_lock.specs.Watching.{marked, spares, spares_if_some, leaves_registers, leaves_blocks, touched, is_clear, writes_outside, leaves_alone, rest_leaves_alone};
@@ -11,7 +10,7 @@ use dma_arena::BLOCK_NUMBERS;
 use nic_device::{Event, EventNote, Port, Reply, ReplyNote};
 use reg_table::{Bank, Place, RowId, bank_of, place_of};
 use register_file::{asks_pool_reset, asks_reset};
-use vf_map::{Located, Mode, locate, mode_of, pool_of};
+use vf_map::{Located, Mode, has_queue, locate, mode_of};
 
 /// How many bytes a block of packet memory has.
 const BLOCK: u64 = 2048;
@@ -93,16 +92,6 @@ fn spares(queue: u16, mode: Mode, place: Place, word: u32) -> bool
     let is_side = matches!(bank_of(place.row), Bank::Receive | Bank::Transmit);
     let resets = asks_pool_reset(place, word) && has_queue(mode, place.index, queue);
     !is_setting(place.row) && !(is_side && place.index == queue) && !resets
-}
-
-/// Whether a pool has a queue.
-fn has_queue(mode: Mode, pool: u16, queue: u16) -> bool
-    ensures { result ≡ has_queue mode pool queue }
-{
-    match pool_of(mode, queue) {
-        None => false,
-        Some(number) => u16::from(number) == pool,
-    }
 }
 
 /// Whether an event writes no register that the queue rests on.

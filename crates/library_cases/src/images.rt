@@ -1,9 +1,9 @@
 //! `eeprom_image`: texts that are assembled, and files that are loaded.
 //!
-//! `assemble TEXT` and `load BYTES` give an image as the number of its words, those that aren't 0xFFFF, and its register
-//! writes, or else the fault. The file of an image that was assembled is loaded again, and `other` is printed where
-//! that is another image. The file of `load` has so many bytes 0xFF, but for the words whose numbers and values
-//! follow.
+//! `assemble TEXT` and `load BYTES` give an image as the number of its words, those that aren't 0xFFFF, and its
+//! register writes, or else the fault. The file of an image that was assembled is loaded again, and `other` is
+//! printed where that is another image. The file of `load` has so many bytes 0xFF, but for the words whose numbers
+//! and values follow.
 
 use crate::call::Call;
 use crate::texts::plain;

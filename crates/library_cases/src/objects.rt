@@ -1,8 +1,9 @@
 //! `program`: objects that are read.
 //!
-//! `read HEX`, `cut COUNT HEX`, which reads the first bytes, and `byte AT VALUE HEX`, which reads the bytes with another
-//! one in its place, give a program as its instructions and its data strings, or else the fault. The object of a
-//! program that was read is made again, and `other` is printed where it has other bytes. Hex may be parted by blanks.
+//! `read HEX`, `cut COUNT HEX`, which reads the first bytes, and `byte AT VALUE HEX`, which reads the bytes with
+//! another one in its place, give a program as its instructions and its data strings, or else the fault. The object
+//! of a program that was read is made again, and `other` is printed where it has other bytes. Hex may be parted by
+//! blanks.
 
 use crate::call::Call;
 use lexer::{Words, hex_bytes};

@@ -1,7 +1,8 @@
 //! `reg_table`: rows, the places that addresses name, and counters.
 //!
-//! `row NAME` gives the count, the first addresses of the first and the last index, the mask, the word after a reset and
-//! the kind. `place ADDRESS` gives name, index and the place's first address, or `none`, and then the bits that show.
+//! `row NAME` gives the count, the first addresses of the first and the last index, the mask, the word after a reset
+//! and the kind. `place ADDRESS` gives name, index and the place's first address, or `none`, and then the bits that
+//! show.
 
 use crate::call::Call;
 use reg_table::{

@@ -1,14 +1,13 @@
 //! The reset of a pool.
 
 ghost use Rattle.std.specs.Prelude.{◌≡◌, ◌+◌, ◌<◌, ◌≤◌, length};
-ghost use Rattle.vf_map.specs.Owner.{has_queue};
 ghost use Rattle.nic_device.specs.PoolReset.{unstaged, others_waiting, with_pool_reset};
 
 use crate::engine::Engine;
 use crate::waiting::Waiting;
 use std::collections::VecDeque;
 use tx_ring::Staged;
-use vf_map::{Mode, pool_of, queues_of};
+use vf_map::{Mode, has_queue, queues_of};
 
 impl Engine {
     /// Resets pool v, below 64: its registers, the frames that wait for its queues, and their staged bytes.
@@ -29,17 +28,7 @@ impl Engine {
 fn drop_waiting(waiting: &mut VecDeque<Waiting>, mode: Mode, v: u8)
     ensures { waiting.new.items ≡ others_waiting mode v waiting.old.items }
 {
-    waiting.retain(|frame| !has_queue(mode, v, frame.queue()));
-}
-
-/// Whether a pool has a queue.
-fn has_queue(mode: Mode, v: u8, queue: u16) -> bool
-    ensures { result ≡ has_queue mode v queue }
-{
-    match pool_of(mode, queue) {
-        Some(pool) => pool == v,
-        None => false,
-    }
+    waiting.retain(|frame| !has_queue(mode, u16::from(v), frame.queue()));
 }
 
 /// Drops the staged bytes of so many queues from the first on.

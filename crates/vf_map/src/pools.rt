@@ -1,4 +1,5 @@
 ghost use Rattle.std.specs.Prelude.{◌≡◌, ◌<◌};
+ghost use Rattle.vf_map.specs.Owner.{has_queue};
 ghost use Rattle.vf_map.specs.Pools.{mode_of, queues_of, pool_of};
 
 use crate::mode::Mode;
@@ -42,5 +43,15 @@ pub fn pool_of(mode: Mode, queue: u16) -> Option<u8>
         Mode::Pools32 if queue < QUEUES => Some((queue / 4) as u8),
         Mode::Pools64 if queue < QUEUES => Some((queue / 2) as u8),
         _ => None,
+    }
+}
+
+/// Whether a pool has a queue of the device. No pool has one where the mode has no pools, or from 128 on.
+pub fn has_queue(mode: Mode, pool: u16, queue: u16) -> bool
+    ensures { result ≡ has_queue mode pool queue }
+{
+    match pool_of(mode, queue) {
+        Some(number) => u16::from(number) == pool,
+        None => false,
     }
 }

@@ -88,4 +88,10 @@ pub short_of : (f : PmdFault) (old new : List Call) (a b : Numbers) (v w : Recei
     → StopsFilling f old a v new b w → free_count a + 1 < v.layout.size
 short_of f old new a b v w is stops =
     let short = subst (λ (g : PmdFault). FailsBy g stops.mid stops.arena stops.ring new b w) is stops.fails in
-    omega (arith, stops.few, short.none, stops.posts.many, drawn_count a stops.posts.blocks stops.arena stops.posts.drawn)
+    omega (
+      arith,
+      stops.few,
+      short.none,
+      stops.posts.many,
+      drawn_count a stops.posts.blocks stops.arena stops.posts.drawn,
+    )

@@ -1,5 +1,6 @@
 pub mod Accesses
 pub mod Events
+pub mod Fresh
 pub mod Home
 pub mod Made
 pub mod Packet

@@ -2,6 +2,7 @@
 
 ghost use Rattle.std.specs.Prelude.{◌≡◌, ◌<◌, ◌+◌, ◌++◌, ◌∷◌, [], length, IsTrue, ◌↔◌, true, false, OnOk, OnErr};
 ghost use Rattle.dma_arena.specs.Numbers.{is_own, is_free, with_free};
+ghost use Rattle.dma_arena.specs.Whereabouts.{times_in_hand};
 ghost use Rattle.pmd_base.specs.Home.{AreOut, BringsOne, BringsAll, StopsBringing};
 ghost use Rattle.pmd_base.specs.Made.{AddsSome};
 
@@ -59,6 +60,13 @@ impl Homeward {
         self.lent.reserve(1)?;
         self.lent.push_back_reserved(block);
         Ok(())
+    }
+
+    /// Whether the block of this number is on its way.
+    pub fn has(&self, block: u32) -> bool
+        ensures { (result ≡ true) ↔ (0 < times_in_hand self.now.lent block) }
+    {
+        self.lent.iter().filter(|lent| **lent == block).count() > 0
     }
 
     /// How many blocks the device had no longer as they were to be taken.
@@ -119,7 +127,7 @@ impl Homeward {
     {
         let block = self.lent[0];
         match take(alloc, nic, block)? {
-            Some(buf) => give_home(arena, buf),
+            Some(buf) => give_back(arena, buf),
             None => self.lost += 1,
         }
         let _brought = self.lent.pop_front();
@@ -127,8 +135,8 @@ impl Homeward {
     }
 }
 
-/// Gives a block to the arena that it was taken from.
-fn give_home(arena: &mut Arena, buf: Buf)
+/// Gives a block back to the arena that it was taken from.
+pub fn give_back(arena: &mut Arena, buf: Buf)
     requires own { is_own arena.old buf.number ≡ true }
     requires away { is_free arena.old buf.number ≡ false }
     ensures { arena.new ≡ with_free arena.old buf.number true }

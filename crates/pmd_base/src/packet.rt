@@ -1,10 +1,13 @@
 //! Packets in hand, and the records of them.
 
-ghost use Rattle.std.specs.Prelude.{◌≡◌, ◌≤◌, [], min};
+ghost use Rattle.std.specs.Prelude.{◌≡◌, ◌<◌, ◌≤◌, ◌⊎◌, ◌↔◌, [], true, false, min, IsNone};
 ghost use Rattle.std.specs.Vec.{vec_capacity};
+ghost use Rattle.dma_arena.specs.Numbers.{free_count, is_own, is_free, with_free};
+ghost use Rattle.pmd_base.specs.Fresh.{IsFresh};
 ghost use Rattle.pmd_base.specs.Packet.{kept_of};
 
-use dma_arena::{BLOCK_BYTES, Buf, Octets};
+use crate::home::give_back;
+use dma_arena::{Arena, BLOCK_BYTES, Buf, Octets};
 use std::marker::Model;
 
 /// A packet in hand. Its bytes are the first `len` of the block's.
@@ -17,6 +20,39 @@ pub struct Packet {
     pub rss: u8,
     /// Its RSS hash, 0 where none was told.
     pub hash: u32,
+}
+
+/// A packet of `len` bytes in a free block of the arena, all zero. None where no block is free, or the length is above
+/// 2,048.
+pub fn fresh_packet(arena: &mut Arena, len: u16) -> Option<Packet>
+    ensures none { IsNone result ↔ ((2048 < len) ⊎ (free_count arena.old ≡ 0)) }
+    ensures made { IsFresh arena.old len result arena.new }
+{
+    if usize::from(len) > BLOCK_BYTES {
+        return None;
+    }
+    let buf = arena.take()?;
+    Some(Packet {
+        buf,
+        len,
+        rss: 0,
+        hash: 0,
+    })
+}
+
+/// Gives a packet's block back to the arena that it was taken from.
+pub fn give_packet(arena: &mut Arena, packet: Packet)
+    requires own { is_own arena.old packet.buf.number ≡ true }
+    requires away { is_free arena.old packet.buf.number ≡ false }
+    ensures { arena.new ≡ with_free arena.old packet.buf.number true }
+{
+    let Packet {
+        buf,
+        len: _,
+        rss: _,
+        hash: _,
+    } = packet;
+    give_back(arena, buf)
 }
 
 /// What is kept of a packet that was handed out or accepted.

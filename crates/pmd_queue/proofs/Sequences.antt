@@ -1,10 +1,11 @@
 -- Accesses that are made one after the other.
-use Rattle.std.proofs.Common.{◌≡◌, ℕ, ◌+◌, ◌-◌, ◌<◌, Bool, true, false, not, List, [], ◌∷◌, ◌++◌, length, get_or, take, drop, map, replicate, refl, sym, ap, ◌∙◌, subst, append_assoc, arith, Result, Ok, Err, IfErr, OnOk}
+use Rattle.std.proofs.Common.{◌≡◌, ℕ, ◌+◌, ◌-◌, ◌<◌, ◌≤◌, Bool, true, false, not, List, [], ◌∷◌, ◌++◌, length, get_or, take, drop, map, replicate, refl, sym, ap, ◌∙◌, subst, append_assoc, arith, Result, Ok, Err, IfErr, OnOk}
 use Rattle.std.proofs.lemmas.List.{map-append, take_more, take-append-drop, replicate-append-replicate}
 use Rattle.std.proofs.Math.Bool.{beq}
 use Rattle.device_lock.specs.declared.entry.Call.{Call}
 use Rattle.register_file.specs.Queue.{enable_row}
 use Rattle.register_file.specs.declared.dir.Dir.{Dir}
+use Rattle.register_file.specs.declared.dir.Dir.TheVariants.{Rx, Tx}
 use Rattle.pmd_base.specs.declared.fault.PmdFault.{PmdFault}
 use Rattle.pmd_base.specs.declared.fault.PmdFault.TheVariants.{BadSize, ForeignBlock, StartTimeout, NoBuffer, DeviceFault}
 use Rattle.pmd_base.specs.declared.fault.PmdFault.TheVariants as fault
@@ -45,6 +46,24 @@ module _ (q : AtPort) where
       → IsMade q i mid b → FailsBy f q mid new d → StopsBy f q old new (a ∷ b ∷ d ∷ rest)
   stops_third f old i mid new a b d rest made then fails =
       stops_here f old mid new (a ∷ b ∷ []) rest (a ∷ b ∷ d ∷ rest) d (i, made, one_made i mid b then) fails refl
+
+  -- the accesses stop amid a first part, or amid a second
+  pub stops_before : (f : PmdFault) (old new : List Call) (xs ys : List Access) → StopsBy f q old new xs
+      → StopsBy f q old new (xs ++ ys)
+  stops_before f old new xs ys (done, a, rest, mid, is, made, fails) =
+      (done, a, rest ++ ys, mid, ap (λ (l : List Access). l ++ ys) is ∙ append_assoc done (a ∷ rest) ys, made, fails)
+
+  pub stops_after : (f : PmdFault) (old mid new : List Call) (xs ys : List Access) → AreMade q old mid xs
+      → StopsBy f q mid new ys → StopsBy f q old new (xs ++ ys)
+  stops_after f old mid new xs ys first (done, a, rest, last, is, made, fails) = (
+    xs ++ done,
+    a,
+    rest,
+    last,
+    ap (λ (l : List Access). xs ++ l) is ∙ sym (append_assoc xs done (a ∷ rest)),
+    both_made old mid last xs done first made,
+    fails,
+  )
 
 -- three accesses
 pub three_made : (q : AtPort) (old i j new : List Call) (a b d : Access) → IsMade q old i a → IsMade q i j b
@@ -135,3 +154,31 @@ polled_here q old mid new side on shown misses polls below made seen same =
     subst (λ (n : ℕ). AreMade q old new (polled side on n)) count
     (next_made q old mid new (missed side on misses) (Sees (enable_row side) on) made
     (subst (λ (b : Bool). IsSeen q mid new (enable_row side) b) (alike shown on same) seen))
+
+-- both sides are polled in turn, with the polls that are left
+pub polled_left : (q : AtPort) (old asked mid new : List Call) (xs : List Access) (on : Bool) (polls left last : ℕ)
+    → 0 < left → left ≤ polls → 0 < last → last ≤ left → AreMade q old asked xs
+    → AreMade q asked mid (polled Rx on (polls - left)) → AreMade q mid new (polled Tx on (left - last))
+    → (first : ℕ) × (second : ℕ) × (first + second < polls)
+    × AreMade q old new ((xs ++ polled Rx on first) ++ polled Tx on second)
+polled_left q old asked mid new xs on polls left last some few more fewer made first then = (
+  polls - left,
+  left - last,
+  omega arith,
+  both_made q old mid new (xs ++ polled Rx on (polls - left)) (polled Tx on (left - last))
+      (both_made q old asked mid xs (polled Rx on (polls - left)) made first) then,
+)
+
+pub left_end : (q : AtPort) (f : PmdFault) (old asked mid new : List Call) (xs : List Access) (on : Bool) (polls left : ℕ)
+    → 0 < left → left ≤ polls → AreMade q old asked xs → AreMade q asked mid (polled Rx on (polls - left))
+    → PollsEnd f q mid new Tx on left
+    → (first : ℕ) × (at : List Call) × (first < polls) × AreMade q old at (xs ++ polled Rx on first)
+    × PollsEnd f q at new Tx on (polls - first)
+left_end q f old asked mid new xs on polls left some few made first ends =
+    let rest : left ≡ polls - (polls - left) = omega arith in (
+      polls - left,
+      mid,
+      omega arith,
+      both_made q old asked mid xs (polled Rx on (polls - left)) made first,
+      subst (λ (n : ℕ). PollsEnd f q mid new Tx on n) rest ends,
+    )

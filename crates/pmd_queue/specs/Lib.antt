@@ -1,3 +1,4 @@
 pub mod Named
 pub mod Made
 pub mod Sides
+pub mod Both

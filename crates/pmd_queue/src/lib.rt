@@ -5,6 +5,7 @@
 //! `start` and `stop` stand on this crate.
 #![tactic(auto)]
 
+mod both;
 mod names;
 mod sides;
 

@@ -1,0 +1,115 @@
+-- Where the blocks of a driver are that isn't running.
+use Rattle.std.proofs.Common.{◌≡◌, ◌≢◌, ℕ, ◌<◌, ◌==◌, ◌⊎◌, ◌||◌, inl, inr, nat_lt, Bool, true, false, List, [], ◌∷◌, ◌++◌, length, length-append, Option, Some, None, refl, sym, ap, subst, ◌∙◌, arith}
+use Rattle.std.specs.List.{list_any}
+use Rattle.std.proofs.lemmas.Bool.{cases_eq}
+use Rattle.std.proofs.lemmas.Bool.Decides.{nat_tests}
+use Rattle.dma_arena.specs.Numbers.{Numbers, is_free, with_free}
+use Rattle.dma_arena.specs.Whereabouts.{times_in_hand}
+use Rattle.pmd_base.specs.Home.{AreOut}
+use Rattle.pmd_base.specs.Packet.{Kept}
+use Rattle.pmd_base.specs.declared.packet.Packet.{Packet}
+use Rattle.pmd_base.proofs.Outside.{times_first, times_rest, times-cons, times-append, out_fewer, out_given}
+use Rattle.pmd_rx.specs.Keeping as receive
+use Rattle.pmd_rx.specs.Receive.{Receive, held_by}
+use Rattle.pmd_tx.specs.Leaving as transmit
+use Rattle.pmd_tx.specs.Sending.{Sender, blocks_of, has_lent}
+use Rattle.pmd_halt.specs.Halted.{Halted, IsHalted, all_out, is_free_or_out, way_of}
+use Rattle.device_lock.specs.declared.entry.Call.{Call}
+use Rattle.pmd_queue.specs.Named.{AtPort}
+use Rattle.pmd_halt.specs.Stopping.{closed, bringing, brought, GoesHome}
+use Rattle.pmd_halt.specs.declared.home.Home.{Home}
+use Rattle.pmd_halt.proofs.Bringing.{given_there, all_free_again}
+use Rattle.pmd_halt.proofs.Few.{out_few}
+
+-- a driver begins not to run
+
+module _ (a : Numbers) (small : length a.free < 4294967296) (lent : List ℕ) (held : Option Packet) where
+  few_at_first : AreOut a (lent ++ receive.block_in held) → length lent < 4294967296
+  few_at_first out =
+      omega (arith, out_few a (lent ++ receive.block_in held) out, length-append lent (receive.block_in held), small)
+
+  pub first_halted : (handed accepted : List Kept) → AreOut a (lent ++ receive.block_in held)
+      → IsHalted (record { arena = a; held = held; way = way_of lent; handed = handed; accepted = accepted })
+  first_halted handed accepted out = record { home = out; few = omega (arith, few_at_first out) }
+
+pub rings_out : (a : Numbers) (v : Receive) (others : List ℕ) → AreOut a (receive.blocks_out v ++ others)
+    → AreOut a ((receive.lent_of v ++ others) ++ receive.block_in (held_by v.stage))
+rings_out a v others out =
+    let lent : List ℕ = receive.lent_of v in
+    let held : List ℕ = receive.block_in (held_by v.stage) in
+    out_fewer a ((lent ++ held) ++ others) ((lent ++ others) ++ held) out
+    (λ k. omega (
+      arith,
+      times-append (lent ++ held) others k,
+      times-append lent held k,
+      times-append (lent ++ others) held k,
+      times-append lent others k,
+    ))
+
+-- the rings are closed
+
+module _ (a : Numbers) (lent : List ℕ) where
+  to_first : (p : Packet) → AreOut a (lent ++ p.buf.number ∷ []) → AreOut a (p.buf.number ∷ lent)
+  to_first p out =
+      out_fewer a (lent ++ p.buf.number ∷ []) (p.buf.number ∷ lent) out
+      (λ k. omega (arith, times-append lent (p.buf.number ∷ []) k, times-cons p.buf.number lent k))
+
+  pub closed_out : (held : Option Packet) → AreOut a (lent ++ receive.block_in held)
+      → AreOut (receive.with_home a held) (lent ++ [])
+  closed_out None out = out
+  closed_out (Some p) out =
+      out_fewer (with_free a p.buf.number true) lent (lent ++ []) (out_given a lent p.buf.number (to_first p out))
+      (λ k. omega (arith, times-append lent [] k))
+
+  pub closed_there : (held : Option Packet) → AreOut a (lent ++ receive.block_in held) → (k : ℕ)
+      → is_free_or_out (receive.with_home a held) (lent ++ []) k ≡ is_free_or_out a (lent ++ receive.block_in held) k
+  closed_there None out k = refl
+  closed_there (Some p) out k =
+      let n : ℕ = p.buf.number in
+      let after : times_in_hand (lent ++ []) k ≡ times_in_hand lent k = omega (arith, times-append lent [] k) in
+      let before : times_in_hand (n ∷ lent) k ≡ times_in_hand (lent ++ n ∷ []) k =
+      omega (arith, times-cons n lent k, times-append lent (n ∷ []) k) in
+      ap (λ (t : ℕ). is_free (with_free a n true) k || nat_lt 0 t) after
+      ∙ given_there a lent n (to_first p out) k
+      ∙ ap (λ (t : ℕ). is_free a k || nat_lt 0 t) before
+
+-- by where its blocks are alone
+pub halted_like : (h k : Halted) → IsHalted h → k.arena ≡ h.arena → k.held ≡ h.held → k.way ≡ h.way → IsHalted k
+halted_like h k is arena held way = record { home = rw (arena, held, way) is.home; few = rw way is.few }
+
+pub closed_halted : (h : Halted) → IsHalted h → IsHalted (closed h)
+closed_halted h is = record { home = closed_out h.arena h.way.lent h.held is.home; few = is.few }
+
+-- a driver that stopped and lost no block has them all free again
+pub home_free : (q : AtPort) (old new : List Call) (h : Halted) (home : Home) → IsHalted h
+    → GoesHome q old (closed h) new home → home.lost ≡ 0 → (k : ℕ)
+    → is_free home.arena k ≡ is_free_or_out h.arena (all_out h) k
+home_free q old new h home is (mid, off, comes) none k =
+    all_free_again (bringing mid (closed h)) (brought new home) comes.brings (closed_halted h is).home none k
+    ∙ closed_there h.arena h.way.lent h.held is.home k
+
+-- whether a transmit ring has a block
+
+any_step : (x : ℕ) (xs : List ℕ) (n : ℕ) → list_any (λ b. n == b) xs ≡ nat_lt 0 (times_in_hand xs n)
+    → (n ≡ x) ⊎ (n ≢ x) → list_any (λ b. n == b) (x ∷ xs) ≡ nat_lt 0 (times_in_hand (x ∷ xs) n)
+any_step x xs n rest (inl e) =
+    subst (λ (y : ℕ). list_any (λ b. n == b) (y ∷ xs) ≡ nat_lt 0 (times_in_hand (y ∷ xs) n)) e
+    (rw (times_first xs n) (grind (arith, nat_tests)))
+any_step x xs n rest (inr ne) = rw (times_rest xs x n ne) (grind (arith, nat_tests, rest, ne))
+
+any_counted : (xs : List ℕ) (n : ℕ) → list_any (λ b. n == b) xs ≡ nat_lt 0 (times_in_hand xs n)
+any_counted [] n = refl
+any_counted (x ∷ xs) n = any_step x xs n (any_counted xs n) (cases_eq n x)
+
+pub lent_counted : (v : Sender) (n : ℕ) → has_lent v n ≡ nat_lt 0 (times_in_hand (transmit.lent_of v) n)
+lent_counted v n =
+    let blocks : List ℕ = blocks_of v.outstanding in
+    let ring : list_any (λ b. n == b) (v.layout.ring ∷ []) ≡ nat_lt 0 (times_in_hand (v.layout.ring ∷ []) n) =
+    any_counted (v.layout.ring ∷ []) n in
+    grind (arith, nat_tests, any_counted blocks n, ring, times-append blocks (v.layout.ring ∷ []) n)
+
+pub counted : (b : Bool) (t : ℕ) → b ≡ nat_lt 0 t → (b ≡ true → 0 < t) × (0 < t → b ≡ true)
+counted b t is = (λ e. grind (arith, nat_tests, is, e), λ lt. grind (arith, nat_tests, is, lt))
+
+pub never_back : (x : Bool) → x ≡ false → (false ≡ true → x ≡ true) × (x ≡ true → false ≡ true)
+never_back x never = (λ e. never ∙ e, λ e. sym never ∙ e)

@@ -1,0 +1,4 @@
+pub mod Blocks
+pub mod Both
+pub mod Bringing
+pub mod Few

@@ -1,0 +1,14 @@
+use Rattle.std.proofs.Common.{◌≡◌, ◌<◌, true, sym, subst, ◌∙◌}
+use Rattle.dma_arena.specs.Whereabouts.{times_in_hand}
+use Rattle.pmd_tx.specs.Leaving.{lent_of}
+use Rattle.pmd_halt.specs.Ends.{sent_way}
+use Rattle.pmd_halt.specs.declared.ends.Sending.{Sending}
+use Rattle.pmd_halt.proofs.Blocks.{lent_counted, counted}
+use Rattle.pmd_halt.proofs.ends.Sending.has.Goals as goal
+
+pub returns-in-Ring : goal.returns-in-Ring
+returns-in-Ring c =
+    subst (λ (s : Sending). (c.has_lent.result ≡ true → 0 < times_in_hand (sent_way s).lent c.args.block)
+    × (0 < times_in_hand (sent_way s).lent c.args.block → c.has_lent.result ≡ true)) (sym c.in-Ring.is)
+    (counted c.has_lent.result (times_in_hand (lent_of c.in-Ring.ring) c.args.block)
+    (c.has_lent.ensures ∙ lent_counted c.in-Ring.ring c.args.block))

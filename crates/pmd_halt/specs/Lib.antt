@@ -1,0 +1,4 @@
+pub mod Ends
+pub mod Halted
+pub mod Leaving
+pub mod Stopping

@@ -1,3 +1,6 @@
 pub mod Blocks
 pub mod Both
+pub mod Driving
+pub mod Late
 pub mod Sending
+pub mod Starting

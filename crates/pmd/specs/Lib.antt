@@ -1,1 +1,4 @@
+pub mod Driver
 pub mod Running
+pub mod Started
+pub mod Starting

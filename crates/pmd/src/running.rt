@@ -1,7 +1,7 @@
 //! A driver whose two rings are up.
 
 ghost use Rattle.std.specs.Prelude.{ℕ, ◌≡◌, ◌<◌, ◌⊎◌, ◌++◌, ◌∷◌, ◌↔◌, length, [], true, false, Ok, Err, IfOk, IfErr, IfSome, IfNone, IsNone, IsOk, OnOk, OnErr, IsTrue};
-ghost use Rattle.dma_arena.specs.Numbers.{free_count, is_own, is_free, with_free};
+ghost use Rattle.dma_arena.specs.Numbers.{free_count};
 ghost use Rattle.pmd_base.specs.Packet.{kept_of};
 ghost use Rattle.pmd_rx.specs.Keeping.{Keeps, handed_block};
 ghost use Rattle.pmd_rx.specs.Plays.{LooksOnce};
@@ -10,8 +10,8 @@ ghost use Rattle.pmd_tx.specs.Plays.{LooksLast, FaultsBy};
 ghost use Rattle.pmd_tx.specs.Sends.{gate_of, returned, IsAnswer, IsShut, IsAccepted, IsNoneAccepted, IsBack, IsLate, Frees};
 ghost use Rattle.pmd.specs.Running.{IsUp, PlaysBoth, IsMade, IsReleased, goes_back, receives};
 
-use dma_arena::{Arena, BLOCK_BYTES, Buf};
-use pmd_base::{Nic, Packet, PmdFault, Record};
+use dma_arena::{Arena, BLOCK_BYTES};
+use pmd_base::{Nic, Packet, PmdFault, Record, give_packet};
 use pmd_rx::ReceiveRing;
 use pmd_tx::{Reaped, TransmitRing, TxAnswer, TxFault};
 use std::alloc::Global;
@@ -204,27 +204,9 @@ impl Running {
     {
         let block = packet.buf.block();
         if self.goes_back(block) {
-            let Packet {
-                buf,
-                len: _,
-                rss: _,
-                hash: _,
-            } = packet;
-            give_back(&mut self.arena, buf);
+            give_packet(&mut self.arena, packet);
             return Ok(());
         }
         Err(packet)
-    }
-}
-
-/// Gives a block back to the arena that it was taken from.
-fn give_back(arena: &mut Arena, buf: Buf)
-    requires own { is_own arena.old buf.number ≡ true }
-    requires away { is_free arena.old buf.number ≡ false }
-    ensures { arena.new ≡ with_free arena.old buf.number true }
-{
-    match arena.give(buf) {
-        Ok(()) => {}
-        Err(_buf) => unreachable!(),
     }
 }

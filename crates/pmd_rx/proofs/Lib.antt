@@ -1,5 +1,6 @@
 pub mod Closing
 pub mod Failing
+pub mod Filling
 pub mod Fresh
 pub mod Handing
 pub mod Keeping

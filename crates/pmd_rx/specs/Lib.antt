@@ -1,3 +1,4 @@
+pub mod Filling
 pub mod Keeping
 pub mod Plays
 pub mod Receive

@@ -1,9 +1,10 @@
 //! What the driver does with its receive ring: calls one after the other, each of which may be the last that is made.
 
-ghost use Rattle.std.specs.Prelude.{ℕ, ◌≡◌, ◌<◌, ◌+◌, ◌++◌, ◌∷◌, [], length, true, false, Ok, Err, IfOk, IfErr, IfSome, IfNone, OnOk, OnErr};
-ghost use Rattle.dma_arena.specs.Numbers.{Numbers, free_count, is_own, is_free, with_free};
+ghost use Rattle.std.specs.Prelude.{ℕ, ◌≡◌, ◌<◌, ◌≤◌, ◌+◌, ◌++◌, ◌∷◌, [], length, true, false, Ok, Err, IfOk, IfErr, IfSome, IfNone, OnOk, OnErr};
+ghost use Rattle.dma_arena.specs.Numbers.{Numbers, free_count, is_free, with_free};
 ghost use Rattle.pmd_base.specs.Home.{AreOut};
 ghost use Rattle.pmd_base.specs.Packet.{kept_of};
+ghost use Rattle.pmd_rx.specs.Filling.{Fills, StopsFilling};
 ghost use Rattle.pmd_rx.specs.Keeping.{Keeps, IsRunning, Posts, blocks_out, handed_block};
 ghost use Rattle.pmd_rx.specs.Plays.{Plays, LooksOnce};
 ghost use Rattle.pmd_rx.specs.Receive.{Looks, fresh_of, held_by, refilled};
@@ -12,8 +13,8 @@ ghost use Rattle.pmd_rx.specs.Wrong.{FailsBy, IsFault, PacketWaits};
 
 use crate::receive::Look;
 use crate::ring::{Due, ReceiveRing};
-use dma_arena::{Arena, Buf};
-use pmd_base::{Nic, Packet, PmdFault};
+use dma_arena::Arena;
+use pmd_base::{Nic, Packet, PmdFault, give_back};
 use std::alloc::Global;
 
 impl ReceiveRing {
@@ -165,6 +166,44 @@ impl ReceiveRing {
         }
     }
 
+    /// Posts fresh blocks of the arena in all slots but one, where none is posted yet.
+    ///
+    /// It fails as `post` does, `NoBuffer` only where fewer blocks are free than are to be posted. What was posted
+    /// before stays posted.
+    pub fn fill<N: Nic>(
+        &mut self,
+        alloc: Global,
+        nic: &mut N,
+        arena: &mut Arena,
+    ) -> Result<(), PmdFault>
+        requires empty { self.old.layout.blocks ≡ [] }
+        requires stage { self.old.stage ≡ Looks }
+        requires home { AreOut arena.old (blocks_out self.old) }
+        ensures plays { Plays (N.made nic.old) self.old (N.made nic.new) self.new }
+        ensures filled { OnOk result (Fills arena.old self.old arena.new self.new) }
+        ensures running { OnOk result (IsRunning self.new) }
+        ensures handed { self.new.handed ≡ self.old.handed }
+        ensures fails { IfErr result (λ f.
+            StopsFilling f (N.made nic.old) arena.old self.old (N.made nic.new) arena.new self.new) }
+        ensures short { result ≡ Err PmdFault.NoBuffer → free_count arena.old + 1 < self.old.layout.size }
+        ensures keeps { Keeps arena.old self.old arena.new self.new [] }
+        ensures who { N.who nic.new ≡ N.who nic.old }
+    {
+        let slots = self.spare_slots();
+        for _count in 0..slots {
+            self.post(alloc, nic, arena)?;
+        }
+        Ok(())
+    }
+
+    /// How many slots can be posted: all but one.
+    fn spare_slots(&self) -> u16
+        ensures all { result + 1 ≡ self.now.layout.size }
+        ensures some { 7 ≤ result }
+    {
+        self.size - 1
+    }
+
     /// The next packet that came in, in order: a fresh block of the arena takes the place of its block. None where the
     /// next slot isn't done.
     ///
@@ -229,17 +268,5 @@ impl ReceiveRing {
             Ok(false) => Ok(None),
             Err(fault) => Err(fault),
         }
-    }
-}
-
-/// Gives a block back to the arena that it was taken from.
-pub(crate) fn give_back(arena: &mut Arena, buf: Buf)
-    requires own { is_own arena.old buf.number ≡ true }
-    requires away { is_free arena.old buf.number ≡ false }
-    ensures { arena.new ≡ with_free arena.old buf.number true }
-{
-    match arena.give(buf) {
-        Ok(()) => {}
-        Err(_buf) => unreachable!(),
     }
 }

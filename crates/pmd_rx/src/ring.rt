@@ -9,10 +9,9 @@ ghost use Rattle.pmd_rx.specs.Keeping.{blocks_out, lent_of, fresh_block, block_i
 ghost use Rattle.pmd_rx.specs.Receive.{at_start, held_by};
 ghost use Rattle.pmd_rx.specs.Shown.{CanLook, IsHolding, HasLent, HasNamed};
 
-use crate::posting::give_back;
 use dma_arena::Arena;
 use nic_device::Port;
-use pmd_base::{Homeward, Packet, Record};
+use pmd_base::{Homeward, Packet, Record, give_packet};
 use std::alloc::Global;
 use std::collections::VecDeque;
 use std::marker::Model;
@@ -240,15 +239,7 @@ fn give_held(arena: &mut Arena, held: Option<Packet>)
     ensures { arena.new ≡ with_home arena.old held }
 {
     match held {
-        Some(packet) => {
-            let Packet {
-                buf,
-                len: _,
-                rss: _,
-                hash: _,
-            } = packet;
-            give_back(arena, buf)
-        }
+        Some(packet) => give_packet(arena, packet),
         None => {}
     }
 }

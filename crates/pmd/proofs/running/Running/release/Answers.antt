@@ -16,7 +16,7 @@ invariant_of-self c =
     subst (λ (y : Running). goes_back y n ≡ true) (sym c.self.view_is)
     (subst (λ (k : ℕ). goes_back c.args.self.now k ≡ true) c.block-block.ensures.number
     (sym c.goes_back.ensures ∙ c.if-goes_back.true)) in
-    subst (λ (a : Numbers). IsUp (record q { arena = a })) (sym c.give_back.ensures)
+    subst (λ (a : Numbers). IsUp (record q { arena = a })) (sym c.give_packet.ensures)
     (released_up q n (back_goes q n goes) c.self.invariant)
 
 pub returns-clause-ok : goal.returns-clause-ok

@@ -1,0 +1,16 @@
+use Rattle.std.proofs.Common.{subst}
+use Rattle.pmd_queue.specs.Named.{AtPort}
+use Rattle.pmd.specs.Started.{StopsStarting}
+use Rattle.pmd.proofs.Driving.{err_later}
+use Rattle.pmd.proofs.driver.Pmd.start.Goals as goal
+
+pub returns-in-Ok-clause-stops : goal.returns-in-Ok-clause-stops
+returns-in-Ok-clause-stops g c =
+    err_later c.bring_up.result
+    (λ e stops none.
+    subst (λ (q : AtPort). StopsStarting q c.args.size (g.N.Nic.made c.args.nic.now) c.args.arena
+    (g.N.Nic.made c.bring_up.new.nic) e) c.in-Ok.ensures.queue stops)
+    c.bring_up.ensures.stops
+
+pub returns-in-Ok-clause-late : goal.returns-in-Ok-clause-late
+returns-in-Ok-clause-late g c = err_later c.bring_up.result (λ e late none. late) c.bring_up.ensures.late

@@ -1,0 +1,27 @@
+use Rattle.std.proofs.Common.{◌∙◌, ap}
+use Rattle.pmd_halt.specs.Halted.{Halted}
+use Rattle.pmd_halt.specs.Stopping.{Stops, StopFails}
+use Rattle.pmd_queue.specs.Named.{AtPort}
+use Rattle.pmd.specs.Driver.{Driver}
+use Rattle.pmd.specs.declared.driver.Rings.TheVariants.{Down}
+use Rattle.pmd.proofs.Driving.{stops_as}
+use Rattle.pmd.proofs.driver.Pmd.stop.Goals as goal
+
+pub returns-in-Ok-clause-home : goal.returns-in-Ok-clause-home
+returns-in-Ok-clause-home g c =
+    let d : Driver = record { queue = c.self.inside.queue; rings = c.self.inside.rings } in
+    stops_as
+    (λ (q : AtPort) (h : Halted). Stops q (g.N.Nic.made c.args.nic.now) h (g.N.Nic.made c.stop.new.nic) c.in-Ok.home)
+    d c.args.self c.halt-halted.result c.self.view_is c.halt-halted.ensures c.in-Ok.ensures.home
+
+pub returns-in-Err-clause-refused : goal.returns-in-Err-clause-refused
+returns-in-Err-clause-refused g c =
+    let d : Driver = record { queue = c.self.inside.queue; rings = c.self.inside.rings } in
+    let left : Halted = c.in-Err.failed.halted in (
+      left,
+      c.of.ensures ∙ ap (λ (x : Driver). let y : Driver = record x { rings = Down left } in y) c.self.view_is,
+      stops_as
+          (λ (q : AtPort) (h : Halted). StopFails c.in-Err.failed.fault q (g.N.Nic.made c.args.nic.now) h
+          (g.N.Nic.made c.stop.new.nic) left)
+          d c.args.self c.halt-halted.result c.self.view_is c.halt-halted.ensures c.in-Err.ensures.failed,
+    )

@@ -1,0 +1,56 @@
+-- A driver of one queue, which runs or doesn't.
+use Rattle.std.specs.Prelude.{ℕ, Bool, List, ⊤}
+use Rattle.dma_arena.specs.Numbers.{Numbers}
+use Rattle.pmd_base.specs.Packet.{Kept}
+use Rattle.pmd_queue.specs.Named.{AtPort}
+use Rattle.pmd_halt.specs.Halted as halted
+use Rattle.pmd_halt.specs.Halted.{Halted, with_rings}
+use Rattle.pmd.specs.Running as running
+use Rattle.pmd.specs.Running.{Running}
+use Rattle.pmd.specs.declared.driver.Rings.{Rings}
+use Rattle.pmd.specs.declared.driver.Rings.TheVariants.{Up, Down}
+
+-- its queue, and its rings: up, or on their way down
+pub record Driver : Type 0 where
+  pub queue : AtPort
+  pub rings : Rings
+
+-- what it has, whether it runs or not
+
+abbrev pub arena_of : Rings → Numbers
+arena_of (Up r) = r.arena
+arena_of (Down h) = h.arena
+
+abbrev pub handed_of : Rings → List Kept
+handed_of (Up r) = r.receive.handed
+handed_of (Down h) = h.handed
+
+abbrev pub accepted_of : Rings → List Kept
+accepted_of (Up r) = r.transmit.accepted
+accepted_of (Down h) = h.accepted
+
+-- whether a packet's block can go back to the arena
+abbrev pub goes_back_to : Rings → ℕ → Bool
+goes_back_to (Up r) n = running.goes_back r n
+goes_back_to (Down h) n = halted.goes_back h n
+
+-- the same driver with another arena
+abbrev pub with_arena : Rings → Numbers → Rings
+with_arena (Up r) a = Up (record r { arena = a })
+with_arena (Down h) a = Down (record h { arena = a })
+
+-- the rings as they stop
+abbrev pub halted_of : Rings → Halted
+halted_of (Up r) = with_rings r.arena r.receive r.transmit
+halted_of (Down h) = h
+
+-- where a driver runs, it runs on, and this holds of its rings before and after
+abbrev pub WhereUp : Rings → Rings → (Running → Running → Type 0) → Type 0
+WhereUp (Up r) (Up s) P = P r s
+WhereUp (Up r) (Down h) P = ⊥
+WhereUp (Down h) rings P = ⊤
+
+-- the driver doesn't run
+abbrev pub IsDown : Rings → Type 0
+IsDown (Up r) = ⊥
+IsDown (Down h) = ⊤

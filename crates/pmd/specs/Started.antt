@@ -1,0 +1,95 @@
+-- What a start leaves, and why it is refused.
+use Rattle.std.specs.Prelude.{ℕ, ◌≡◌, ◌⊎◌, ◌&&◌, ◌==◌, ◌%◌, nat_le, nat_lt, Bool, List, [], Option, Some, None, Result, Ok, Err, ⊤, if◌then◌else◌}
+use Rattle.dma_arena.specs.Numbers.{Numbers, free_count}
+use Rattle.device_lock.specs.declared.entry.Call.{Call}
+use Rattle.register_file.specs.declared.dir.Dir.TheVariants.{Tx}
+use Rattle.pmd_base.specs.declared.fault.PmdFault.{PmdFault}
+use Rattle.pmd_base.specs.declared.fault.PmdFault.TheVariants.{BadSize, NoBuffer, DeviceFault}
+use Rattle.pmd_queue.specs.Named.{AtPort, queues_named}
+use Rattle.pmd_rx.specs.Receive.{Receive}
+use Rattle.pmd_tx.specs.Sending.{Sender}
+use Rattle.pmd_halt.specs.Halted.{Halted, with_rings, with_receive_ring}
+use Rattle.pmd.specs.Driver.{Driver}
+use Rattle.pmd.specs.Running.{Running}
+use Rattle.pmd.specs.Starting.{IsReceiveReady, IsTransmitReady, GoesOn, ReceiveFails, PreparingFails, GoingOnFails}
+use Rattle.pmd.specs.declared.driver.Rings.TheVariants.{Up, Down}
+use Rattle.pmd.specs.declared.start.Rest.{Rest}
+use Rattle.pmd.specs.declared.start.Rest.TheVariants as rest
+use Rattle.pmd.specs.declared.start.StartRefused.{StartRefused}
+
+-- how many descriptors a ring may have: a multiple of 8 from 8 to 128
+abbrev pub is_size : ℕ → Bool
+is_size size = nat_le 8 size && (nat_le size 128 && size % 8 == 0)
+
+-- why a start is refused before any event, where it is: two blocks are for the rings, and all slots of the receive ring
+-- but one are filled
+abbrev pub start_gate : Numbers → AtPort → ℕ → Option PmdFault
+start_gate a q size =
+    if is_size size
+    then (if nat_lt size (free_count a)
+    then (if nat_lt q.queue (queues_named q.port) then None else Some DeviceFault)
+    else Some NoBuffer)
+    else Some BadSize
+
+-- nothing is lent: the arena is as it came, and there are no records
+abbrev pub IsHome : Numbers → Rest → Type 0
+IsHome a (rest.Home h) = (h.arena ≡ a) × (h.lost ≡ 0) × (h.handed.items ≡ []) × (h.accepted.items ≡ [])
+IsHome a (rest.Running p) = ⊥
+
+-- it was refused before any event, for this fault
+abbrev pub IsShut : Option PmdFault → Numbers → List Call → List Call → Result Driver StartRefused → Type 0
+IsShut None a old new r = ⊤
+IsShut (Some f) a old new (Ok p) = ⊥
+IsShut (Some f) a old new (Err e) = (e.fault ≡ f) × IsHome a e.rest × (new ≡ old)
+
+-- the rings came up one after the other: both are lent, both sides are on, and the receive ring is filled
+pub record AreUp (q : AtPort) (size : ℕ) (old : List Call) (a : Numbers) (new : List Call) (r : Running) : Type 0 where
+  pub ready_made : List Call
+  pub both_made : List Call
+  pub ready_arena : Numbers
+  pub both_arena : Numbers
+  pub empty : Receive
+  pub receive : IsReceiveReady q size old a ready_made ready_arena empty
+  pub transmit : IsTransmitReady q size ready_made ready_arena both_made both_arena r.transmit
+  pub on : GoesOn q both_made both_arena empty new r.arena r.receive
+
+-- the driver runs, and nothing was handed out or accepted
+abbrev pub HasStarted : AtPort → ℕ → List Call → Numbers → List Call → Driver → Type 0
+HasStarted q size old a new p =
+    (r : Running) × (p ≡ record { queue = q; rings = Up r }) × AreUp q size old a new r
+
+-- the driver is left with what was lent
+abbrev pub IsHalfStarted : AtPort → Halted → Rest → Type 0
+IsHalfStarted q h left = left ≡ rest.Running (record { queue = q; rings = Down h })
+
+-- the transmit ring wasn't prepared, and the empty receive ring is left
+pub record StopsAfterOne (q : AtPort) (size : ℕ) (old : List Call) (a : Numbers) (new : List Call) (e : StartRefused) :
+    Type 0 where
+  pub made : List Call
+  pub arena : Numbers
+  pub empty : Receive
+  pub receive : IsReceiveReady q size old a made arena empty
+  pub fails : PreparingFails e.fault q Tx size made arena new
+  pub left : IsHalfStarted q (with_receive_ring arena empty) e.rest
+
+-- a side didn't go on, or the receive ring was filled in part, and both rings are left
+pub record StopsAfterBoth (q : AtPort) (size : ℕ) (old : List Call) (a : Numbers) (new : List Call) (e : StartRefused) :
+    Type 0 where
+  pub ready_made : List Call
+  pub both_made : List Call
+  pub ready_arena : Numbers
+  pub both_arena : Numbers
+  pub arena : Numbers
+  pub empty : Receive
+  pub filled : Receive
+  pub sender : Sender
+  pub receive : IsReceiveReady q size old a ready_made ready_arena empty
+  pub transmit : IsTransmitReady q size ready_made ready_arena both_made both_arena sender
+  pub fails : GoingOnFails e.fault q both_made both_arena empty new arena filled
+  pub left : IsHalfStarted q (with_rings arena filled sender) e.rest
+
+-- it was refused amid its events
+abbrev pub StopsStarting : AtPort → ℕ → List Call → Numbers → List Call → StartRefused → Type 0
+StopsStarting q size old a new e =
+    (ReceiveFails e.fault q size old a new × IsHome a e.rest)
+    ⊎ StopsAfterOne q size old a new e ⊎ StopsAfterBoth q size old a new e

@@ -1,0 +1,95 @@
+-- How the rings of a driver come up, one after the other.
+use Rattle.std.specs.Prelude.{ℕ, ◌≡◌, ◌⊎◌, ⊤, true, false, List, Some, None}
+use Rattle.dma_arena.specs.Block.{Block, zero_block}
+use Rattle.dma_arena.specs.Numbers.{Numbers, is_free, with_free}
+use Rattle.device_lock.specs.declared.entry.Call.{Call}
+use Rattle.register_file.specs.Queue.{tail_row}
+use Rattle.register_file.specs.declared.dir.Dir.{Dir}
+use Rattle.register_file.specs.declared.dir.Dir.TheVariants.{Rx, Tx}
+use Rattle.pmd_base.specs.Accesses.{IsLent}
+use Rattle.pmd_base.specs.Made.{AddsSome}
+use Rattle.pmd_base.specs.declared.fault.PmdFault.{PmdFault}
+use Rattle.pmd_base.specs.declared.fault.PmdFault.TheVariants as fault
+use Rattle.pmd_queue.specs.Both.{both_quiet, IsSwitched, SwitchFails}
+use Rattle.pmd_queue.specs.Made.{AreMade, StopsBy}
+use Rattle.pmd_queue.specs.Named.{AtPort, IsNumberOf}
+use Rattle.pmd_queue.specs.Sides.{ring_words}
+use Rattle.pmd_rx.specs.Filling.{Fills, StopsFilling}
+use Rattle.pmd_rx.specs.Plays.{Plays}
+use Rattle.pmd_rx.specs.Receive.{Receive}
+use Rattle.pmd_rx.specs.Receive as receive
+use Rattle.pmd_tx.specs.Sending.{Sender}
+use Rattle.pmd_tx.specs.Sending as transmit
+
+-- a fault that comes once events are made
+abbrev pub ComesLate : PmdFault → Type 0
+ComesLate fault.StartTimeout = ⊤
+ComesLate fault.DeviceFault = ⊤
+ComesLate (fault.Call refusal) = ⊤
+ComesLate fault.BadSize = ⊥
+ComesLate fault.ForeignBlock = ⊥
+ComesLate fault.NoBuffer = ⊥
+
+-- the block of a ring was drawn from the arena, the ring's words were written, and the block was lent, each byte 0
+pub record IsPrepared (q : AtPort) (side : Dir) (size : ℕ) (old : List Call) (a : Numbers) (new : List Call)
+    (b : Numbers) (ring : ℕ) : Type 0 where
+  pub free : is_free a ring ≡ true
+  pub drawn : b ≡ with_free a ring false
+  pub mid : List Call
+  pub words : AreMade q old mid (ring_words side ring size)
+  pub lent : IsLent mid new (zero_block ring) None
+
+-- why a block isn't lent: one of its number is lent already, or the call was refused
+abbrev pub LendingFails : PmdFault → List Call → List Call → Block → Type 0
+LendingFails fault.DeviceFault old new block = (back : Block) × IsLent old new block (Some back)
+LendingFails (fault.Call refusal) old new block = AddsSome old new
+LendingFails fault.BadSize old new block = ⊥
+LendingFails fault.ForeignBlock old new block = ⊥
+LendingFails fault.StartTimeout old new block = ⊥
+LendingFails fault.NoBuffer old new block = ⊥
+
+-- a free block was to be a ring's: one of its words wasn't written, or it wasn't lent
+abbrev pub PreparingFails : PmdFault → AtPort → Dir → ℕ → List Call → Numbers → List Call → Type 0
+PreparingFails f q side size old a new =
+    (ring : ℕ) × (is_free a ring ≡ true) × (StopsBy f q old new (ring_words side ring size)
+    ⊎ ((mid : List Call) × AreMade q old mid (ring_words side ring size) × LendingFails f mid new (zero_block ring)))
+
+-- both sides are off and stay so, and an empty receive ring is lent
+pub record IsReceiveReady (q : AtPort) (size : ℕ) (old : List Call) (a : Numbers) (new : List Call) (b : Numbers)
+    (v : Receive) : Type 0 where
+  pub mid : List Call
+  pub quiet : AreMade q old mid both_quiet
+  pub ring : ℕ
+  pub prepared : IsPrepared q Rx size mid a new b ring
+  pub tail : ℕ
+  pub named : IsNumberOf q.port (tail_row Rx) q.queue tail
+  pub fresh : v ≡ receive.at_start q.port tail ring size
+
+-- a side is on, or the receive ring isn't prepared
+abbrev pub ReceiveFails : PmdFault → AtPort → ℕ → List Call → Numbers → List Call → Type 0
+ReceiveFails f q size old a new =
+    StopsBy f q old new both_quiet
+    ⊎ ((mid : List Call) × AreMade q old mid both_quiet × PreparingFails f q Rx size mid a new)
+
+-- an empty transmit ring is lent
+pub record IsTransmitReady (q : AtPort) (size : ℕ) (old : List Call) (a : Numbers) (new : List Call) (b : Numbers)
+    (v : Sender) : Type 0 where
+  pub ring : ℕ
+  pub prepared : IsPrepared q Tx size old a new b ring
+  pub tail : ℕ
+  pub named : IsNumberOf q.port (tail_row Tx) q.queue tail
+  pub fresh : v ≡ transmit.at_start q.port tail ring size
+
+-- both sides went on, and then the receive ring was filled
+pub record GoesOn (q : AtPort) (old : List Call) (a : Numbers) (v : Receive) (new : List Call) (b : Numbers)
+    (w : Receive) : Type 0 where
+  pub mid : List Call
+  pub switched : IsSwitched q old mid true 1000
+  pub plays : Plays mid v new w
+  pub filled : Fills a v b w
+
+-- a side didn't go on, and the driver is as it was; or the receive ring was filled in part
+abbrev pub GoingOnFails : PmdFault → AtPort → List Call → Numbers → Receive → List Call → Numbers → Receive → Type 0
+GoingOnFails f q old a v new b w =
+    (SwitchFails f q old new true 1000 × (b ≡ a) × (w ≡ v))
+    ⊎ ((mid : List Call) × IsSwitched q old mid true 1000 × StopsFilling f mid a v new b w)

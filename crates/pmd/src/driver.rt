@@ -1,0 +1,270 @@
+//! A driver of one queue.
+
+ghost use Rattle.std.specs.Prelude.{ℕ, ◌≡◌, ◌<◌, ◌⊎◌, ◌++◌, ◌∷◌, ◌↔◌, length, [], true, false, None, Some, Ok, Err, IfOk, IfErr, IfSome, IfNone, IsNone, IsOk, OnOk, OnErr, IsTrue};
+ghost use Rattle.dma_arena.specs.Numbers.{free_count, is_free, with_free};
+ghost use Rattle.pmd_base.specs.Fresh.{IsFresh};
+ghost use Rattle.pmd_base.specs.Packet.{kept_of};
+ghost use Rattle.pmd_rx.specs.Keeping.{Keeps, handed_block};
+ghost use Rattle.pmd_rx.specs.Plays.{LooksOnce};
+ghost use Rattle.pmd_rx.specs.Wrong.{FailsBy, PacketWaits};
+ghost use Rattle.pmd_tx.specs.Plays.{LooksLast, FaultsBy};
+ghost use Rattle.pmd_tx.specs.Sends.{gate_of, returned, IsAnswer, IsShut, IsAccepted, IsNoneAccepted, IsBack, IsLate, Frees};
+ghost use Rattle.pmd_halt.specs.Halted.{Halted, all_out, is_free_or_out};
+ghost use Rattle.pmd_halt.specs.Stopping.{Stops, StopFails};
+ghost use Rattle.pmd.specs.Running.{PlaysBoth, receives};
+ghost use Rattle.pmd.specs.Driver.{arena_of, handed_of, accepted_of, goes_back_to, with_arena, halted_of, WhereUp, IsDown};
+
+use crate::running::Running;
+use pmd_base::{Nic, Packet, PmdFault, Record};
+use pmd_halt::{Halted, Home, StopFailed};
+use pmd_queue::Queue;
+use pmd_tx::{Reaped, TxAnswer, TxFault};
+use std::alloc::Global;
+use std::marker::Model;
+
+/// The rings of a driver.
+pub(crate) enum Rings {
+    /// They are up.
+    Up(Running),
+    /// They are on their way down.
+    Down(Halted),
+}
+
+/// A driver of one queue. It can't be dropped: `stop` ends it.
+pub struct Pmd {
+    queue: Queue,
+    rings: Rings,
+}
+
+impl Model for Pmd {
+    ghost use Rattle.pmd.specs.Driver.{Driver};
+
+    ghost Value = { Driver };
+
+    ghost view = { λ p. record { queue = p.queue; rings = p.rings } };
+}
+
+/// A stop that is refused.
+pub struct StopRefused {
+    /// Why.
+    pub fault: PmdFault,
+    /// The driver, which doesn't run any more. `stop` may be tried again.
+    pub pmd: Pmd,
+}
+
+impl Pmd {
+    /// A driver of this queue, with these rings.
+    pub(crate) fn of(queue: Queue, rings: Rings) -> Pmd
+        ensures { result ≡ record { queue = queue; rings = rings } }
+    {
+        Pmd { queue, rings }
+    }
+
+    /// The packets that were handed out, the oldest first.
+    pub fn handed(&self) -> &[Record]
+        ensures { result.now ≡ handed_of self.now.rings }
+    {
+        match &self.rings {
+            Rings::Up(running) => running.handed(),
+            Rings::Down(halted) => halted.handed(),
+        }
+    }
+
+    /// What was accepted, the oldest first.
+    pub fn accepted(&self) -> &[Record]
+        ensures { result.now ≡ accepted_of self.now.rings }
+    {
+        match &self.rings {
+            Rings::Up(running) => running.accepted(),
+            Rings::Down(halted) => halted.accepted(),
+        }
+    }
+}
+
+impl Pmd {
+    /// The next packet that came in, in order. None where the next slot isn't done.
+    ///
+    /// `NoBuffer` where a packet waits and no block is free, `DeviceFault` where a reply is none that a healthy queue
+    /// gives, `Call` where a call was refused, or there was no memory for the packet's record: the driver keeps where
+    /// it was, and the next call goes on. `DeviceFault` without any event where the driver doesn't run.
+    pub fn rx<N: Nic>(&mut self, alloc: Global, nic: &mut N) -> Result<Option<Packet>, PmdFault>
+        ensures plays { WhereUp self.old.rings self.new.rings (λ r s.
+            PlaysBoth (N.made nic.old) r (N.made nic.new) s) }
+        ensures some { WhereUp self.old.rings self.new.rings (λ r s. IfOk result (λ out. IfSome out (λ packet.
+            s.receive.handed ≡ r.receive.handed ++ kept_of packet ∷ []))) }
+        ensures none { WhereUp self.old.rings self.new.rings (λ r s. IfOk result (λ out. IfNone out (
+            LooksOnce (N.made nic.old) r.receive (N.made nic.new) s.receive))) }
+        ensures err { WhereUp self.old.rings self.new.rings (λ r s.
+            OnErr result (s.receive.handed ≡ r.receive.handed)) }
+        ensures fails { WhereUp self.old.rings self.new.rings (λ r s. IfErr result (λ f.
+            FailsBy f (N.made nic.old) r.arena r.receive (N.made nic.new) s.arena s.receive)) }
+        ensures waits { WhereUp self.old.rings self.new.rings (λ r s.
+            result ≡ Err PmdFault.NoBuffer → PacketWaits s.receive.stage) }
+        ensures keeps { WhereUp self.old.rings self.new.rings (λ r s.
+            Keeps r.arena r.receive s.arena s.receive (handed_block result)) }
+        ensures transmit { WhereUp self.old.rings self.new.rings (λ r s. s.transmit ≡ r.transmit) }
+        ensures down { IsDown self.old.rings → (result ≡ Err PmdFault.DeviceFault)
+            × (N.made nic.new ≡ N.made nic.old) × (self.new ≡ self.old) }
+        ensures queue { self.new.queue ≡ self.old.queue }
+        ensures who { N.who nic.new ≡ N.who nic.old }
+    {
+        match &mut self.rings {
+            Rings::Up(running) => running.rx(alloc, nic),
+            Rings::Down(_) => Err(PmdFault::DeviceFault),
+        }
+    }
+
+    /// Sends a packet of 1 to 1,514 bytes, which is padded with zero bytes to 60.
+    ///
+    /// Before any event: `BadSize` where its length is another, `ForeignBlock` where `release` would hand it back, and
+    /// `RingFull` where as many packets are outstanding as the ring has slots but one. Then `DeviceFault` where the
+    /// device answers what it can't on a healthy queue, and `Call` where a call was refused, or there was no memory for
+    /// the record. The packet comes back where its block wasn't lent yet; else it is accepted, and the next call goes
+    /// on with it. Where the driver doesn't run, `DeviceFault` without any event, and the packet comes back.
+    pub fn tx<N: Nic>(
+        &mut self,
+        alloc: Global,
+        nic: &mut N,
+        packet: Packet,
+    ) -> Result<TxAnswer, TxFault>
+        ensures plays { WhereUp self.old.rings self.new.rings (λ r s.
+            PlaysBoth (N.made nic.old) r (N.made nic.new) s) }
+        ensures answer { WhereUp self.old.rings self.new.rings (λ r s. IsAnswer
+            (gate_of r.transmit r.arena (receives r packet.buf.number) packet) packet result) }
+        ensures shut { WhereUp self.old.rings self.new.rings (λ r s.
+            IsShut (gate_of r.transmit r.arena (receives r packet.buf.number) packet)
+            → (N.made nic.new ≡ N.made nic.old) × (s ≡ r)) }
+        ensures accepted { WhereUp self.old.rings self.new.rings (λ r s.
+            IfNone (returned result) (IsAccepted r.transmit packet s.transmit)) }
+        ensures kept { WhereUp self.old.rings self.new.rings (λ r s.
+            IfSome (returned result) (λ back. IsNoneAccepted r.transmit s.transmit)) }
+        ensures back { WhereUp self.old.rings self.new.rings (λ r s.
+            IfErr result (λ failed. IfSome failed.packet (λ back. IsBack failed.fault packet back))) }
+        ensures settled { WhereUp self.old.rings self.new.rings (λ r s.
+            result ≡ Ok TxAnswer.Taken → s.transmit.posted ≡ length s.transmit.outstanding) }
+        ensures faults { WhereUp self.old.rings self.new.rings (λ r s. IfErr result (λ failed.
+            FaultsBy failed.fault (N.made nic.old) r.transmit (N.made nic.new))) }
+        ensures layout { WhereUp self.old.rings self.new.rings (λ r s. s.transmit.layout ≡ r.transmit.layout) }
+        ensures others { WhereUp self.old.rings self.new.rings (λ r s.
+            (s.arena ≡ r.arena) × (s.receive ≡ r.receive)) }
+        ensures down { IsDown self.old.rings
+            → (result ≡ Err (record { fault = PmdFault.DeviceFault; packet = Some packet }))
+            × (N.made nic.new ≡ N.made nic.old) × (self.new ≡ self.old) }
+        ensures queue { self.new.queue ≡ self.old.queue }
+        ensures who { N.who nic.new ≡ N.who nic.old }
+    {
+        match &mut self.rings {
+            Rings::Up(running) => running.tx(alloc, nic, packet),
+            Rings::Down(_) => Err(TxFault {
+                fault: PmdFault::DeviceFault,
+                packet: Some(packet),
+            }),
+        }
+    }
+
+    /// Frees the blocks of the packets that were sent, the oldest first. First it goes on with the packet that waits
+    /// since an earlier call, where one does.
+    ///
+    /// `DeviceFault` where the device answers what it can't on a healthy queue, and `Call` where a call was refused:
+    /// what was freed before stays free. `DeviceFault` without any event where the driver doesn't run.
+    pub fn reap<N: Nic>(&mut self, alloc: Global, nic: &mut N) -> Result<Reaped, PmdFault>
+        ensures plays { WhereUp self.old.rings self.new.rings (λ r s.
+            PlaysBoth (N.made nic.old) r (N.made nic.new) s) }
+        ensures idle { WhereUp self.old.rings self.new.rings (λ r s. IfOk result (λ done.
+            IsTrue done.idle ↔ (s.transmit.outstanding ≡ []))) }
+        ensures waits { WhereUp self.old.rings self.new.rings (λ r s. IfOk result (λ done.
+            done.idle ≡ false → LooksLast (N.made nic.old) r.transmit (N.made nic.new) s.transmit)) }
+        ensures freed { WhereUp self.old.rings self.new.rings (λ r s. IfOk result (λ done.
+            Frees r.transmit s.transmit r.arena s.arena done.freed)) }
+        ensures some { WhereUp self.old.rings self.new.rings (λ r s. OnErr result ((count : ℕ)
+            × Frees r.transmit s.transmit r.arena s.arena count)) }
+        ensures accepted { WhereUp self.old.rings self.new.rings (λ r s.
+            s.transmit.accepted ≡ r.transmit.accepted) }
+        ensures layout { WhereUp self.old.rings self.new.rings (λ r s.
+            s.transmit.layout ≡ record r.transmit.layout { next = s.transmit.layout.next }) }
+        ensures late { WhereUp self.old.rings self.new.rings (λ r s. IfErr result (λ fault. IsLate fault)) }
+        ensures faults { WhereUp self.old.rings self.new.rings (λ r s. IfErr result (λ fault.
+            FaultsBy fault (N.made nic.old) r.transmit (N.made nic.new))) }
+        ensures receive { WhereUp self.old.rings self.new.rings (λ r s. s.receive ≡ r.receive) }
+        ensures down { IsDown self.old.rings → (result ≡ Err PmdFault.DeviceFault)
+            × (N.made nic.new ≡ N.made nic.old) × (self.new ≡ self.old) }
+        ensures queue { self.new.queue ≡ self.old.queue }
+        ensures who { N.who nic.new ≡ N.who nic.old }
+    {
+        match &mut self.rings {
+            Rings::Up(running) => running.reap(alloc, nic),
+            Rings::Down(_) => Err(PmdFault::DeviceFault),
+        }
+    }
+}
+
+impl Pmd {
+    /// A packet of `len` bytes in a free block, all zero. None where no block is free, or the length is above 2,048.
+    pub fn packet(&mut self, len: u16) -> Option<Packet>
+        ensures none { IsNone result ↔ ((2048 < len) ⊎ (free_count (arena_of self.old.rings) ≡ 0)) }
+        ensures made { IsFresh (arena_of self.old.rings) len result (arena_of self.new.rings) }
+        ensures rings { self.new.rings ≡ with_arena self.old.rings (arena_of self.new.rings) }
+        ensures queue { self.new.queue ≡ self.old.queue }
+    {
+        match &mut self.rings {
+            Rings::Up(running) => running.packet(len),
+            Rings::Down(halted) => halted.packet(len),
+        }
+    }
+
+    /// Gives a packet's block back to the arena. The packet comes back where its block can't go home: its number is
+    /// none of the arena's, or is free there, or this driver has it lent.
+    pub fn release(&mut self, packet: Packet) -> Result<(), Packet>
+        ensures ok { IsOk result ↔ (goes_back_to self.old.rings packet.buf.number ≡ true) }
+        ensures released { OnOk result (self.new.rings
+            ≡ with_arena self.old.rings (with_free (arena_of self.old.rings) packet.buf.number true)) }
+        ensures back { IfErr result (λ back. back ≡ packet) }
+        ensures kept { OnErr result (self.new.rings ≡ self.old.rings) }
+        ensures queue { self.new.queue ≡ self.old.queue }
+    {
+        match &mut self.rings {
+            Rings::Up(running) => running.release(packet),
+            Rings::Down(halted) => halted.release(packet),
+        }
+    }
+
+    /// Ends the driver: both sides of the queue are switched off, and all blocks that it has lent are taken back.
+    ///
+    /// It fails as `Halted::stop` does. The driver comes back then, and doesn't run any more.
+    pub fn stop<N: Nic>(self, alloc: Global, nic: &mut N) -> Result<Home, StopRefused>
+        ensures home { IfOk result (λ home.
+            Stops self.queue (N.made nic.old) (halted_of self.rings) (N.made nic.new) home) }
+        ensures free { IfOk result (λ home. home.lost ≡ 0 → (n : ℕ) → is_free home.arena n
+            ≡ is_free_or_out (halted_of self.rings).arena (all_out (halted_of self.rings)) n) }
+        ensures refused { IfErr result (λ refused. (h : Halted)
+            × (refused.pmd ≡ record { queue = self.queue; rings = Rings.Down h })
+            × StopFails refused.fault self.queue (N.made nic.old) (halted_of self.rings) (N.made nic.new) h) }
+        ensures who { N.who nic.new ≡ N.who nic.old }
+    {
+        let Pmd { queue, rings } = self;
+        let halted = halt(rings);
+        match halted.stop(alloc, nic, &queue) {
+            Ok(home) => Ok(home),
+            Err(failed) => {
+                let StopFailed { fault, halted } = failed;
+                Err(StopRefused {
+                    fault,
+                    pmd: Pmd::of(queue, Rings::Down(halted)),
+                })
+            }
+        }
+    }
+}
+
+/// The rings as they stop.
+fn halt(rings: Rings) -> Halted
+    ensures { result ≡ halted_of rings }
+{
+    match rings {
+        Rings::Up(running) => {
+            let (arena, receive, transmit) = running.into_parts();
+            Halted::of_rings(arena, receive, transmit)
+        }
+        Rings::Down(halted) => halted,
+    }
+}

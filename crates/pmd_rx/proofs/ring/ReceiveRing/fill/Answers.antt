@@ -1,0 +1,125 @@
+use Rattle.std.proofs.Common.{◌∙◌, [], refl, sym, arith}
+use Rattle.std.proofs.lemmas.Result.{err_from_is_err_and}
+use Rattle.pmd_base.proofs.Outside.{out_kept}
+use Rattle.pmd_rx.specs.Filling.{StopsFilling}
+use Rattle.pmd_rx.specs.Keeping.{blocks_out}
+use Rattle.pmd_rx.proofs.Failing.{err_same}
+use Rattle.pmd_rx.proofs.Filling.{posts_none, posts_more, posts_stage, posts_handed, posts_room, filled_runs, short_of}
+use Rattle.pmd_rx.proofs.Keeping.{keeps_none, keeps_both}
+use Rattle.pmd_rx.proofs.Playing.{plays_none, plays_both}
+use Rattle.pmd_rx.proofs.ring.ReceiveRing.fill.Goals as goal
+
+pub loop-count-init : goal.loop-count-init
+loop-count-init g c = record {
+  who = refl;
+  plays = plays_none (g.N.Nic.made c.args.nic.now) c.args.self.now;
+  posts = posts_none c.args.arena.now c.args.self.now;
+  keeps = keeps_none c.args.arena.now c.args.self.now;
+}
+
+pub post-requires-clause-stage : goal.post-requires-clause-stage
+post-requires-clause-stage g c =
+    posts_stage c.loop-count._count c.args.arena.now c.loop-count.arena c.args.self.now c.loop-count.self
+    c.loop-count.invariant.posts c.requires.stage
+
+pub post-requires-clause-room : goal.post-requires-clause-room
+post-requires-clause-room g c =
+    posts_room c.loop-count._count c.args.arena.now c.loop-count.arena c.args.self.now c.loop-count.self
+    c.loop-count.invariant.posts c.requires.empty
+    (omega (arith, c.loop-count-test.true, c.spare_slots-slots.ensures.all))
+
+pub post-requires-clause-home : goal.post-requires-clause-home
+post-requires-clause-home g c =
+    out_kept c.args.arena.now (blocks_out c.args.self.now) c.loop-count.arena (blocks_out c.loop-count.self)
+    c.requires.home c.loop-count.invariant.keeps.arena
+
+pub loop-count-preserved : goal.loop-count-preserved
+loop-count-preserved g c = record {
+  who = c.post.ensures.who ∙ c.loop-count.invariant.who;
+  plays = plays_both (g.N.Nic.made c.args.nic.now) (g.N.Nic.made c.loop-count.nic) (g.N.Nic.made c.post.new.nic)
+      c.args.self.now c.loop-count.self c.post.new.self c.loop-count.invariant.plays c.post.ensures.plays;
+  posts = posts_more c.loop-count._count c.args.arena.now c.loop-count.arena c.post.new.arena c.args.self.now
+      c.loop-count.self c.post.new.self c.loop-count.invariant.posts c.in_ok-post.ensures.posted;
+  keeps = keeps_both c.args.arena.now c.loop-count.arena c.post.new.arena c.args.self.now c.loop-count.self
+      c.post.new.self [] c.loop-count.invariant.keeps c.post.ensures.keeps;
+}
+
+pub returns-in_err-post-clause-plays : goal.returns-in_err-post-clause-plays
+returns-in_err-post-clause-plays g c =
+    plays_both (g.N.Nic.made c.args.nic.now) (g.N.Nic.made c.loop-count.nic) (g.N.Nic.made c.post.new.nic)
+    c.args.self.now c.loop-count.self c.post.new.self c.loop-count.invariant.plays c.post.ensures.plays
+
+pub returns-in_err-post-clause-handed : goal.returns-in_err-post-clause-handed
+returns-in_err-post-clause-handed g c =
+    c.post.ensures.handed
+    ∙ posts_handed c.loop-count._count c.args.arena.now c.loop-count.arena c.args.self.now c.loop-count.self
+    c.loop-count.invariant.posts
+
+pub returns-in_err-post-clause-fails : goal.returns-in_err-post-clause-fails
+returns-in_err-post-clause-fails g c =
+    let p = err_from_is_err_and c.from_residual.result c.from_residual.ensures.1 in
+    let stops : StopsFilling c.in_err-post.field-0.0 (g.N.Nic.made c.args.nic.now) c.args.arena.now c.args.self.now
+    (g.N.Nic.made c.post.new.nic) c.post.new.arena c.post.new.self = record {
+      count = c.loop-count._count;
+      few = omega (arith, c.loop-count-test.true, c.spare_slots-slots.ensures.all);
+      mid = g.N.Nic.made c.loop-count.nic;
+      arena = c.loop-count.arena;
+      ring = c.loop-count.self;
+      plays = c.loop-count.invariant.plays;
+      posts = c.loop-count.invariant.posts;
+      fails = c.in_err-post.ensures.fails;
+    } in
+    rw (p.1, p.2) stops
+
+pub returns-in_err-post-clause-short : goal.returns-in_err-post-clause-short
+returns-in_err-post-clause-short g c is =
+    let p = err_from_is_err_and c.from_residual.result c.from_residual.ensures.1 in
+    let stops : StopsFilling c.in_err-post.field-0.0 (g.N.Nic.made c.args.nic.now) c.args.arena.now c.args.self.now
+    (g.N.Nic.made c.post.new.nic) c.post.new.arena c.post.new.self = record {
+      count = c.loop-count._count;
+      few = omega (arith, c.loop-count-test.true, c.spare_slots-slots.ensures.all);
+      mid = g.N.Nic.made c.loop-count.nic;
+      arena = c.loop-count.arena;
+      ring = c.loop-count.self;
+      plays = c.loop-count.invariant.plays;
+      posts = c.loop-count.invariant.posts;
+      fails = c.in_err-post.ensures.fails;
+    } in
+    short_of c.in_err-post.field-0.0 (g.N.Nic.made c.args.nic.now) (g.N.Nic.made c.post.new.nic) c.args.arena.now
+    c.post.new.arena c.args.self.now c.post.new.self (sym p.2 ∙ err_same (sym p.1 ∙ is)) stops
+
+pub returns-in_err-post-clause-keeps : goal.returns-in_err-post-clause-keeps
+returns-in_err-post-clause-keeps g c =
+    keeps_both c.args.arena.now c.loop-count.arena c.post.new.arena c.args.self.now c.loop-count.self c.post.new.self []
+    c.loop-count.invariant.keeps c.post.ensures.keeps
+
+pub returns-in_err-post-clause-who : goal.returns-in_err-post-clause-who
+returns-in_err-post-clause-who g c = c.post.ensures.who ∙ c.loop-count.invariant.who
+
+pub returns-clause-plays : goal.returns-clause-plays
+returns-clause-plays g c = c.loop-count.invariant.plays
+
+pub returns-clause-filled : goal.returns-clause-filled
+returns-clause-filled g c = (
+  c.loop-count._count,
+  omega (arith, c.loop-count-test.false, c.loop-count.auto._count-end, c.spare_slots-slots.ensures.all),
+  c.loop-count.invariant.posts,
+)
+
+pub returns-clause-running : goal.returns-clause-running
+returns-clause-running g c =
+    filled_runs c.loop-count._count c.args.arena.now c.loop-count.arena c.args.self.now c.loop-count.self
+    c.loop-count.invariant.posts c.requires.empty c.requires.stage
+    (omega (arith, c.spare_slots-slots.ensures.all, c.spare_slots-slots.ensures.some))
+    (omega (arith, c.loop-count-test.false, c.loop-count.auto._count-end, c.spare_slots-slots.ensures.all))
+
+pub returns-clause-handed : goal.returns-clause-handed
+returns-clause-handed g c =
+    posts_handed c.loop-count._count c.args.arena.now c.loop-count.arena c.args.self.now c.loop-count.self
+    c.loop-count.invariant.posts
+
+pub returns-clause-keeps : goal.returns-clause-keeps
+returns-clause-keeps g c = c.loop-count.invariant.keeps
+
+pub returns-clause-who : goal.returns-clause-who
+returns-clause-who g c = c.loop-count.invariant.who

@@ -1,0 +1,32 @@
+-- A receive ring that is filled: free blocks of an arena are posted one after the other.
+use Rattle.std.specs.Prelude.{ℕ, ◌≡◌, ◌+◌, ◌<◌, List, ◌++◌, length}
+use Rattle.dma_arena.specs.Numbers.{Numbers}
+use Rattle.device_lock.specs.declared.entry.Call.{Call}
+use Rattle.pmd_base.specs.Home.{IsDrawn}
+use Rattle.pmd_base.specs.declared.fault.PmdFault.{PmdFault}
+use Rattle.pmd_rx.specs.Plays.{Plays}
+use Rattle.pmd_rx.specs.Receive.{Receive}
+use Rattle.pmd_rx.specs.Wrong.{FailsBy}
+
+-- so many free blocks of the arena were posted, and nothing else changed
+pub record PostsSome (count : ℕ) (a : Numbers) (v : Receive) (b : Numbers) (w : Receive) : Type 0 where
+  pub blocks : List ℕ
+  pub drawn : IsDrawn a blocks b
+  pub many : length blocks ≡ count
+  pub left : w ≡ record v { layout = record v.layout { blocks = v.layout.blocks ++ blocks } }
+
+-- as many were posted as a ring has slots but one
+abbrev pub Fills : Numbers → Receive → Numbers → Receive → Type 0
+Fills a v b w = (count : ℕ) × (count + 1 ≡ v.layout.size) × PostsSome count a v b w
+
+-- fewer were posted, and the next wasn't for this fault
+pub record StopsFilling (f : PmdFault) (old : List Call) (a : Numbers) (v : Receive) (new : List Call) (b : Numbers)
+    (w : Receive) : Type 0 where
+  pub count : ℕ
+  pub few : count + 1 < v.layout.size
+  pub mid : List Call
+  pub arena : Numbers
+  pub ring : Receive
+  pub plays : Plays old v mid ring
+  pub posts : PostsSome count a v arena ring
+  pub fails : FailsBy f mid arena ring new b w

@@ -1,0 +1,12 @@
+pub mod Cases
+pub mod Filled
+pub mod Kept
+pub mod Lending
+pub mod Looking
+pub mod Moving
+pub mod Own
+pub mod Places
+pub mod Received
+pub mod Receiving
+pub mod Switching
+pub mod Taking

@@ -1,0 +1,4 @@
+pub mod Delivered
+pub mod Joint
+pub mod Pieces
+pub mod Steps

@@ -1,0 +1,33 @@
+//! What the driver hands out is a prefix of what was delivered, over every interleaving that leaves its queue alone.
+//!
+//! The device and the driver agree, between two events, on the slots of the receive ring: which are filled with pieces
+//! of frames, which are posted, and which pieces were consumed. Each law is the contract of a function that does
+//! nothing: what it ensures holds of `step_of`, by which the device makes each event, and of the driver's state as
+//! `pmd_rx` says it follows from the driver's own calls.
+#![tactic(auto)]
+
+ghost use Rattle.receive_laws.specs.Steps.{LookTellsSlot, ReceiveStepKeeps, EnableStepKeeps, LeavingKeeps, OwnEventKeeps};
+
+/// A look at the next slot tells done exactly where the slot is filled, and then tells of the slot's piece.
+pub fn look_tells_the_slot()
+    ensures { LookTellsSlot }
+{}
+
+/// A step of receiving, of whichever queue, keeps what the device and the driver agree on: on the driver's queue the
+/// first posted slot becomes the last filled one, or nothing changes there. A fault is impossible.
+pub fn receive_step_keeps_the_agreement()
+    ensures { ReceiveStepKeeps }
+{}
+
+/// An event that leaves the receive side of the queue and the driver's blocks as they were keeps what they agree on,
+/// and so does a step of the side's own enable: the side is on as it is wanted.
+pub fn other_events_keep_the_agreement()
+    ensures leaving { LeavingKeeps }
+    ensures enable { EnableStepKeeps }
+{}
+
+/// Each event of the driver's own keeps what they agree on, with the driver that it leads to: a look, the block of a
+/// seen packet taken, a fresh block lent, the vacant descriptor written, the tail moved on.
+pub fn own_event_keeps_the_agreement()
+    ensures { OwnEventKeeps }
+{}

@@ -1,5 +1,6 @@
 pub mod Cases
 pub mod Filled
+pub mod Foreign
 pub mod Kept
 pub mod Lending
 pub mod Looking
@@ -8,5 +9,8 @@ pub mod Own
 pub mod Places
 pub mod Received
 pub mod Receiving
+pub mod Spared
 pub mod Switching
 pub mod Taking
+pub mod Transmitting
+pub mod Writing

@@ -29,7 +29,7 @@ use Rattle.nic_device.specs.declared.event.Reply.TheVariants.{Wrote}
 use Rattle.nic_device.proofs.Coming.{counted_in}
 use Rattle.nic_device.proofs.Raising.{comes-itself}
 use Rattle.nic_device.proofs.Targets.{told-lt}
-use Rattle.device_laws.specs.Leaving.{IsFirstFor, LeavesReceive, LeavesBlock, ReceivesOutside}
+use Rattle.device_laws.specs.Leaving.{IsFirstFor, LeavesReceive, LeavesBlock}
 use Rattle.device_laws.specs.Replies.{received_tells, moved_on}
 use Rattle.device_laws.proofs.FunctionCounts.{have_counters}
 use Rattle.device_laws.proofs.KeptSettings.{settings_stand}
@@ -42,6 +42,7 @@ use Rattle.receive_laws.specs.Joint.{IsSetUp, StageHolds, HasSlots, Holds, Agree
 use Rattle.receive_laws.specs.Pieces.{Piece, pieces, pieces_told}
 use Rattle.receive_laws.specs.Steps.{Each, Leaves, SparesBlocks, ReceiveStepKeeps}
 use Rattle.receive_laws.proofs.Cases.{fill_on, IsTried, step_cases, IsOn, wrote_first, wrote_none}
+use Rattle.receive_laws.proofs.Spared.{IsSparedBy, spared_block}
 use Rattle.receive_laws.proofs.Filled.{piece_in, Fills, stage_beside}
 use Rattle.receive_laws.proofs.Kept.{each_of, each_map, leaving_keeps, named_kept}
 use Rattle.receive_laws.proofs.Receiving.{room_left, no_fault, fills_here, head_on, slots_more}
@@ -179,7 +180,7 @@ other_tells queue first ws (Wrote on slot end desc at len) ne is = rw (ne_eqb on
 other_tells queue first ws other ne is = refl
 
 outside_mine : (queue : ℕ) (v : Receive) (first : ℕ) (r : Reply Block) → first ≢ queue → IsOn first r
-    → SparesBlocks queue v r → Each v (λ b. ReceivesOutside r b)
+    → SparesBlocks queue v r → Each v (λ b. IsSparedBy r b)
 outside_mine queue v first (Wrote on slot end desc at len) ne is spares = spares (λ e. ne (sym is ∙ e))
 outside_mine queue v first other ne is spares = each_of v _ (λ b. tt)
 
@@ -194,7 +195,7 @@ quiet_step queue s out v first ne is none j spares =
       receive = (receiving_rest s).receive queue none;
       mode = (settings_stand s event.RxStep tt).mode;
       vfs = (stays_within s event.RxStep).vfs;
-      blocks = each_map v (λ b. ReceivesOutside r b) (λ b. LeavesBlock b s t) (λ b o. receiving_blocks s b o)
+      blocks = each_map v (λ b. IsSparedBy r b) (λ b. LeavesBlock b s t) (λ b o. spared_block s b o)
           (outside_mine queue v first r ne is spares);
     } in
     subst (λ xs. Agree queue t (out ++ xs) v) (sym (other_tells queue first s.waiting r ne is))

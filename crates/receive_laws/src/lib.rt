@@ -6,7 +6,7 @@
 //! `pmd_rx` says it follows from the driver's own calls.
 #![tactic(auto)]
 
-ghost use Rattle.receive_laws.specs.Steps.{LookTellsSlot, ReceiveStepKeeps, EnableStepKeeps, LeavingKeeps, OwnEventKeeps};
+ghost use Rattle.receive_laws.specs.Steps.{LookTellsSlot, ReceiveStepKeeps, EnableStepKeeps, LeavingKeeps, OwnEventKeeps, ForeignEntryKeeps, DeviceStepKeeps};
 
 /// A look at the next slot tells done exactly where the slot is filled, and then tells of the slot's piece.
 pub fn look_tells_the_slot()
@@ -30,4 +30,11 @@ pub fn other_events_keep_the_agreement()
 /// seen packet taken, a fresh block lent, the vacant descriptor written, the tail moved on.
 pub fn own_event_keeps_the_agreement()
     ensures { OwnEventKeeps }
+{}
+
+/// An entry of another pass that leaves the queue alone keeps what they agree on, and so does a step of the device,
+/// whoever made it.
+pub fn foreign_entry_keeps_the_agreement()
+    ensures foreign { ForeignEntryKeeps }
+    ensures step { DeviceStepKeeps }
 {}

@@ -77,7 +77,7 @@ mode_after_tail r queue word =
 
 -- the ring with one more block
 
-push_place : (xs : List ℕ) (b k : ℕ) (P : ℕ → Type 0) → k < length (xs ++ b ∷ [])
+pub push_place : (xs : List ℕ) (b k : ℕ) (P : ℕ → Type 0) → k < length (xs ++ b ∷ [])
     → (k < length xs → P (slice_index xs k)) → (k ≡ length xs → P b) → (k < length xs) ⊎ (length xs ≤ k)
     → P (slice_index (xs ++ b ∷ []) k)
 push_place xs b k P i f g (inl low) = subst P (sym (get_or_append_left xs (b ∷ []) 0 k low)) (f low)

@@ -6,6 +6,8 @@
 //! `pmd_rx` says it follows from the driver's own calls.
 #![tactic(auto)]
 
+ghost use Rattle.receive_laws.specs.Histories.{HandedIsPrefix, NoneIsAll};
+ghost use Rattle.receive_laws.specs.Starting.{StartAgrees};
 ghost use Rattle.receive_laws.specs.Steps.{LookTellsSlot, ReceiveStepKeeps, EnableStepKeeps, LeavingKeeps, OwnEventKeeps, ForeignEntryKeeps, DeviceStepKeeps};
 
 /// A look at the next slot tells done exactly where the slot is filled, and then tells of the slot's piece.
@@ -37,4 +39,17 @@ pub fn own_event_keeps_the_agreement()
 pub fn foreign_entry_keeps_the_agreement()
     ensures foreign { ForeignEntryKeeps }
     ensures step { DeviceStepKeeps }
+{}
+
+/// Over a history of a new device that leaves the driver's queue alone, from a place on where the two agree and the
+/// receive side has gone on: the packets that the driver handed out are a prefix of those that the history delivered
+/// since, and all of them where a look that comes next finds none.
+pub fn handed_packets_are_a_prefix_of_those_delivered()
+    ensures prefix { HandedIsPrefix }
+    ensures all { NoneIsAll }
+{}
+
+/// As the side goes on with its ring lent and its words written, the device and a driver that posted nothing agree.
+pub fn fresh_ring_agrees()
+    ensures { StartAgrees }
 {}

@@ -1,7 +1,7 @@
 //! What the device promises as a whole, above the definitions that the contracts of `nic_device` cite.
 //!
 //! Each law is the contract of a function that does nothing: what it ensures holds of `step_of`, by which
-//! `nic_device::Device::step` makes each event. No crate stands on this one.
+//! `nic_device::Device::step` makes each event.
 #![tactic(auto)]
 
 ghost use Rattle.nic_device.specs.Kept.{NewDeviceIsSound, EventKeepsSound, OtherEventsKeepBlocks};

@@ -1,0 +1,4 @@
+pub mod Alone
+pub mod Carried
+pub mod Modes
+pub mod Written

@@ -1,0 +1,5 @@
+use Rattle.history_laws.proofs.Carried.{histories_sound}
+use Rattle.history_laws.proofs.histories_keep_devices_sound.Goals as goal
+
+pub returns : goal.returns
+returns c = histories_sound

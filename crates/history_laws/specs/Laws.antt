@@ -1,0 +1,32 @@
+-- Laws of legal histories, on which those of a driver's two sides rest.
+use Rattle.std.specs.Prelude.{ℕ, ◌≡◌, ⊤, IsTrue, List, [], ◌∷◌, ◌++◌}
+use Rattle.vf_map.specs.declared.mode.Mode.TheVariants.{Off}
+use Rattle.register_file.specs.Pools.{mode_in}
+use Rattle.nic_device.specs.Sound.{IsEvent, IsSound}
+use Rattle.nic_device.specs.State.{State, new_state}
+use Rattle.device_lock.specs.Alone.{LeavesAlone, has_begun, lent_by, mode_through}
+use Rattle.device_lock.specs.History.{IsLegal, leads_to}
+use Rattle.device_lock.specs.declared.alone.Watched.{Watched}
+use Rattle.device_lock.specs.declared.entry.Entry.{Entry}
+use Rattle.history_laws.specs.Alone.{AllAlone}
+
+-- each event is one that a driver can make
+abbrev pub AreEvents : List Entry → Type 0
+AreEvents [] = ⊤
+AreEvents (e ∷ es) = IsEvent e.event × AreEvents es
+
+-- the mode that the entries tell is the device's, from a new device on
+abbrev pub ModeIsTold : Type 0
+ModeIsTold =
+    (vfs fifo : ℕ) (h : List Entry) → IsSound (new_state vfs fifo) → AreEvents h →
+    mode_through vfs Off h ≡ mode_in (leads_to (new_state vfs fifo) h).registers
+
+-- a history that leaves a queue alone does so entry by entry, from any place behind the pass's first entry on
+abbrev pub AloneByEntries : Type 0
+AloneByEntries =
+    (w : Watched) (before rest : List Entry) → LeavesAlone w (before ++ rest) → IsTrue (has_begun w.pass before) →
+    AllAlone w (lent_by w.pass (before ++ rest)) (mode_through w.vfs Off before) rest
+
+-- a sound device stays so over events that a driver can make
+abbrev pub HistoriesKeepSound : Type 0
+HistoriesKeepSound = (s : State) (h : List Entry) → IsSound s → AreEvents h → IsSound (leads_to s h)

@@ -1,0 +1,22 @@
+//! What holds along legal histories of a shared device, for the laws of a driver's two sides.
+//!
+//! Each law is the contract of a function that does nothing. `receive_laws` and `transmit_laws` stand on this crate.
+#![tactic(auto)]
+
+ghost use Rattle.history_laws.specs.Laws.{ModeIsTold, AloneByEntries, HistoriesKeepSound};
+
+/// The mode by which the queues are parted among pools, read off the entries of a history, is the device's own: what
+/// its register GCR_EXT says.
+pub fn mode_is_told()
+    ensures { ModeIsTold }
+{}
+
+/// A history that leaves a queue alone does so entry by entry, from any place behind the pass's first entry on.
+pub fn queue_is_left_alone_by_entries()
+    ensures { AloneByEntries }
+{}
+
+/// A sound device stays sound over a history of events that a driver can make.
+pub fn histories_keep_devices_sound()
+    ensures { HistoriesKeepSound }
+{}

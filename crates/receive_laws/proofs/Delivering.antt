@@ -1,0 +1,108 @@
+-- What the driver handed out, and what a history from a new device on delivered.
+use Rattle.std.proofs.Common.{◌≡◌, ℕ, Bool, true, ◌||◌, List, [], ◌∷◌, ◌++◌, Option, Some, None, refl, sym, ap, ◌∙◌, subst}
+use Rattle.std.specs.Prelude.{IsTrue}
+use Rattle.std.proofs.lemmas.Bool.{or_right}
+use Rattle.eeprom_image.specs.Image.{blank}
+use Rattle.vf_map.specs.declared.mode.Mode.TheVariants.{Off}
+use Rattle.nic_device.specs.State.{State, new_state}
+use Rattle.nic_device.specs.Step.{after}
+use Rattle.nic_device.proofs.Steps.{step_leads}
+use Rattle.device_lock.specs.Alone.{lent_by, mode_through}
+use Rattle.device_lock.specs.History.{IsLegal, calls_of, leads_to}
+use Rattle.device_lock.specs.declared.alone.Watched.{Watched}
+use Rattle.device_lock.specs.declared.entry.Entry.{Entry}
+use Rattle.pmd_rx.specs.Plays.{played_by}
+use Rattle.pmd_rx.specs.Receive.{Receive}
+use Rattle.history_laws.specs.Laws.{AreEvents}
+use Rattle.history_laws.proofs.Alone.{alone_by_entries}
+use Rattle.history_laws.proofs.Carried.{histories_sound}
+use Rattle.history_laws.proofs.Modes.{mode_told}
+use Rattle.receive_laws.specs.Delivered.{IsPrefixOf, delivered, packets_if_any, pieces_in, pieces_since}
+use Rattle.receive_laws.specs.Histories.{FindsNone, HandedIsPrefix, IsDriven, NoneIsAll}
+use Rattle.receive_laws.specs.Joint.{Agree}
+use Rattle.receive_laws.specs.Pieces.{Piece, packets_of}
+use Rattle.receive_laws.proofs.Histories.{Led, plays}
+use Rattle.receive_laws.proofs.Prefix.{drained, handed_first}
+
+-- histories in two parts
+
+leads-append : (s : State) (g h : List Entry) → leads_to s (g ++ h) ≡ leads_to (leads_to s g) h
+leads-append s [] h = refl
+leads-append s (e ∷ g) h = leads-append (after s e.event) g h
+
+legal_behind : (s : State) (g h : List Entry) → IsLegal s (g ++ h) → IsLegal (leads_to s g) h
+legal_behind s [] h legal = legal
+legal_behind s (e ∷ g) h legal = legal_behind (after s e.event) g h legal.1
+
+events_before : (g h : List Entry) → AreEvents (g ++ h) → AreEvents g
+events_before [] h events = tt
+events_before (e ∷ g) h events = (events.0, events_before g h events.1)
+
+events_behind : (g h : List Entry) → AreEvents (g ++ h) → AreEvents h
+events_behind [] h events = events
+events_behind (e ∷ g) h events = events_behind g h events.1
+
+since-append : (queue : ℕ) (s : State) (so_far : Option (List Piece)) (g h : List Entry)
+    → pieces_since queue s so_far (g ++ h) ≡ pieces_since queue (leads_to s g) (pieces_since queue s so_far g) h
+since-append queue s so_far [] h = refl
+since-append queue s so_far (e ∷ g) h = since-append queue (after s e.event) _ g h
+
+lent_behind : (pass n : ℕ) (g h : List Entry) → IsTrue (lent_by pass h n) → IsTrue (lent_by pass (g ++ h) n)
+lent_behind pass n [] h is = is
+lent_behind pass n (e ∷ g) h is = or_right _ _ (lent_behind pass n g h is)
+
+image_stays : (s : State) (h : List Entry) → (leads_to s h).image ≡ s.image
+image_stays s [] = refl
+image_stays s (e ∷ h) = image_stays (after s e.event) h ∙ (step_leads s e.event).stays.image
+
+vfs_stays : (s : State) (h : List Entry) → (leads_to s h).vfs ≡ s.vfs
+vfs_stays s [] = refl
+vfs_stays s (e ∷ h) = vfs_stays (after s e.event) h ∙ (step_leads s e.event).stays.vfs
+
+module _ (w : Watched) (fifo : ℕ) (start rest : List Entry) (v : Receive) (marks : List Bool)
+    (d : IsDriven w fifo start rest v marks) where
+  abbrev new : State
+  new = new_state w.vfs fifo
+
+  abbrev here : State
+  here = leads_to new start
+
+  abbrev last : Receive
+  last = played_by v marks (calls_of w.pass rest)
+
+  led : Led w here [] v rest last
+  led =
+      plays w (lent_by w.pass (start ++ rest)) (mode_through w.vfs Off start) here [] v marks rest
+      (record {
+        sound = histories_sound new start d.new (events_before start rest d.events);
+        image = image_stays new start;
+        vfs = sym (vfs_stays new start);
+        mode_is = mode_told w.vfs fifo start d.new (events_before start rest d.events);
+        agree = d.agree;
+        lent = d.lent;
+      })
+      (legal_behind new start rest d.legal) (events_behind start rest d.events)
+      (alone_by_entries w start rest d.alone d.begun) d.own d.spares
+      (λ n is. lent_behind w.pass n start rest is)
+
+  delivered_is : delivered w.queue new (start ++ rest) ≡ packets_of (pieces_in w.queue here rest)
+  delivered_is =
+      ap packets_if_any (since-append w.queue new None start rest
+      ∙ ap (λ so_far. pieces_since w.queue here so_far rest) d.on ∙ led.since [])
+
+  prefix : IsPrefixOf last.handed (delivered w.queue new (start ++ rest))
+  prefix =
+      subst (IsPrefixOf last.handed) (sym delivered_is)
+      (handed_first w.queue (leads_to here rest) (pieces_in w.queue here rest) last led.agree)
+
+  all : FindsNone (leads_to new (start ++ rest)) last → last.handed ≡ delivered w.queue new (start ++ rest)
+  all finds =
+      sym (drained w.queue (leads_to here rest) (pieces_in w.queue here rest) last led.agree
+      (subst (λ s. FindsNone s last) (leads-append new start rest) finds))
+      ∙ sym delivered_is
+
+pub handed_is_prefix : HandedIsPrefix
+handed_is_prefix = prefix
+
+pub none_is_all : NoneIsAll
+none_is_all = all

@@ -1,0 +1,125 @@
+-- One entry of a history that leaves the driver's queue alone.
+use Rattle.std.proofs.Common.{◌≡◌, ◌≢◌, ℕ, ◌<◌, Bool, true, false, ◌&&◌, ◌||◌, not, inl, inr, List, [], ◌∷◌, ◌++◌, length, refl, sym, ap, ◌∙◌, subst, nat_lt}
+use Rattle.std.specs.Prelude.{◌==◌, IsTrue, IsFalse, ⊤, ◌⊎◌}
+use Rattle.std.proofs.lemmas.Bool.{and_from, or_left, or_right, eq-eqb, eqb-true, eqb-false, lt-ltb, cases_Bool}
+use Rattle.std.proofs.lemmas.List.{append-nil}
+use Rattle.dma_arena.specs.Block.{Block}
+use Rattle.eeprom_image.specs.Image.{blank}
+use Rattle.vf_map.specs.declared.mode.Mode.{Mode}
+use Rattle.register_file.specs.Pools.{mode_in}
+use Rattle.nic_device.specs.Sound.{IsEvent, IsSound}
+use Rattle.nic_device.specs.State.{State}
+use Rattle.nic_device.specs.Step.{after, reply_to}
+use Rattle.nic_device.specs.declared.event.Event.{Event}
+use Rattle.nic_device.specs.declared.event.Event.TheVariants as event
+use Rattle.nic_device.specs.declared.event.Reply.{Reply}
+use Rattle.nic_device.specs.declared.event.Reply.TheVariants as reply
+use Rattle.nic_device.proofs.Steps.{step_leads, keeps_sound}
+use Rattle.device_lock.specs.Alone.{Blocks, EntryLeavesAlone, lends, lent_by, lent_in, mode_after}
+use Rattle.device_lock.specs.History.{call_in}
+use Rattle.device_lock.specs.declared.alone.Watched.{Watched}
+use Rattle.device_lock.specs.declared.entry.Entry.{Entry}
+use Rattle.pmd_base.specs.Events.{is_step}
+use Rattle.pmd_rx.specs.Plays.{OwnCall, after_call}
+use Rattle.pmd_rx.specs.Receive.{Receive, Layout, Stage, Looks, Sees, Holding, Lent, Named, IsOwn, LendsNext, drive}
+use Rattle.history_laws.proofs.Modes.{event_told}
+use Rattle.receive_laws.specs.Histories.{SparesReceive}
+use Rattle.receive_laws.specs.Joint.{Agree}
+use Rattle.receive_laws.specs.Pieces.{Piece, pieces}
+use Rattle.receive_laws.specs.Steps.{Each, IsMetBy, Leaves, ReportsInside, OwnReportsSpare}
+use Rattle.receive_laws.proofs.Foreign.{foreign_keeps, steps_keep}
+use Rattle.receive_laws.proofs.Kept.{leaving_keeps}
+use Rattle.receive_laws.proofs.Mine.{LendsMine, mine_driven}
+use Rattle.receive_laws.proofs.Own.{own_keeps}
+
+-- what holds between two entries: the device is sound, its image blank, the mode is the one that was told, the two
+-- agree, and the driver's blocks are among these
+pub record Meets (w : Watched) (mine : Blocks) (mode : Mode) (s : State) (out : List Piece) (v : Receive) : Type 0 where
+  pub sound : IsSound s
+  pub image : s.image ≡ blank
+  pub vfs : w.vfs ≡ s.vfs
+  pub mode_is : mode ≡ mode_in s.registers
+  pub agree : Agree w.queue s out v
+  pub lent : Each v (λ b. IsTrue (mine b))
+
+-- an event that is no step writes nothing on a queue
+none_written : (queue : ℕ) (s : State) (e : Event Block) → IsFalse (is_step e) → pieces queue s e ≡ []
+none_written queue s event.RxStep no_step = cc
+none_written queue s e no_step = refl
+
+-- the blocks that an entry of the pass lends are among these
+lends_low : (l : Layout) (stage : Stage) (b : Block) → LendsNext l stage b → b.number < 65536
+lends_low l Looks b may = may.low
+lends_low l (Holding p) b may = may.low
+lends_low l (Sees first second) b may = absurd may
+lends_low l (Lent o c) b may = absurd may
+lends_low l (Named o c) b may = absurd may
+
+lends_mine : (pass : ℕ) (mine : Blocks) (v : Receive) (own : ℕ) (e : Event Block) (r : Reply Block) → own ≡ pass
+    → IsOwn v e
+    → ((n : ℕ) → IsTrue (nat_lt n 65536 && ((own == pass) && lends e r n)) → IsTrue (mine n))
+    → LendsMine mine e r
+lends_mine pass mine v own (event.Lend b) reply.Done same may all =
+    all b.number (and_from _ _ (lt-ltb b.number 65536 (lends_low v.layout v.stage b may))
+    (and_from _ _ (eq-eqb own pass same) (eq-eqb b.number b.number refl)))
+lends_mine pass mine v own e r same may all = tt
+
+module _ (w : Watched) (mine : Blocks) (mode : Mode) (s : State) (out : List Piece) (v : Receive) (e : Entry)
+    (m : Meets w mine mode s out v) (legal : e.reply ≡ reply_to s e.event) (made : IsEvent e.event)
+    (alone : EntryLeavesAlone w mine mode e) where
+  abbrev t : State
+  t = after s e.event
+
+  met : IsMetBy w mode s e
+  met = record { sound = m.sound; vfs = m.vfs; mode_is = m.mode_is; reply = legal; event = made }
+
+  goes_to : (u : Receive) → Agree w.queue t (out ++ pieces w.queue s e.event) u → Each u (λ b. IsTrue (mine b))
+      → Meets w mine (mode_after w.vfs mode e.event) t (out ++ pieces w.queue s e.event) u
+  goes_to u agree lent =
+      let stays = (step_leads s e.event).stays in
+      record {
+        sound = keeps_sound s m.sound e.event made;
+        image = stays.image ∙ m.image;
+        vfs = m.vfs ∙ sym stays.vfs;
+        mode_is = (λ k. mode_after (m.vfs k) (m.mode_is k) e.event) ∙ event_told s m.sound m.image e.event;
+        agree = agree;
+        lent = lent;
+      }
+
+  -- a call of the driver's own
+  own_entry : e.pass ≡ w.pass → IsOwn v e.event
+      → ((n : ℕ) → IsTrue (lent_in w.pass e n) → IsTrue (mine n))
+      → Meets w mine (mode_after w.vfs mode e.event) t (out ++ pieces w.queue s e.event)
+      (after_call v true (call_in e))
+  own_entry same own covers =
+      goes_to (after_call v true (call_in e))
+      (subst (λ r. Agree w.queue t (out ++ pieces w.queue s e.event) (drive v e.event r)) (sym legal)
+      (own_keeps w.queue s out v e.event m.sound m.agree own))
+      (mine_driven mine v m.lent e.event e.reply
+      (lends_mine w.pass mine v e.pass e.event e.reply same own covers))
+
+  spared : SparesReceive w.queue v s e → ReportsInside s → OwnReportsSpare w.queue v s
+      → Agree w.queue t (out ++ pieces w.queue s e.event) v
+  spared (inl step) inside reports = steps_keep w mine mode s out v e met m.agree m.lent inside reports alone step
+  spared (inr free) inside reports =
+      subst (λ xs. Agree w.queue t (out ++ xs) v) (sym (none_written w.queue s e.event free.0))
+      (subst (λ xs. Agree w.queue t xs v) (sym (append-nil out)) (leaving_keeps w.queue s t out v free.1 m.agree))
+
+  -- another call of the pass
+  unmarked_entry : SparesReceive w.queue v s e → ReportsInside s → OwnReportsSpare w.queue v s
+      → Meets w mine (mode_after w.vfs mode e.event) t (out ++ pieces w.queue s e.event) v
+  unmarked_entry spares inside reports = goes_to v (spared spares inside reports) m.lent
+
+  -- an entry of another pass
+  pub foreign_entry : e.pass ≢ w.pass → ReportsInside s → OwnReportsSpare w.queue v s
+      → Meets w mine (mode_after w.vfs mode e.event) t (out ++ pieces w.queue s e.event) v
+  foreign_entry other inside reports =
+      goes_to v (foreign_keeps w mine mode s out v e met m.agree m.lent inside reports alone other) m.lent
+
+  -- by its mark
+  pub marked_entry : (b : Bool) → e.pass ≡ w.pass → OwnCall b v (call_in e)
+      → (IsFalse b → SparesReceive w.queue v s e) → ReportsInside s → OwnReportsSpare w.queue v s
+      → ((n : ℕ) → IsTrue (lent_in w.pass e n) → IsTrue (mine n))
+      → Meets w mine (mode_after w.vfs mode e.event) t (out ++ pieces w.queue s e.event) (after_call v b (call_in e))
+  marked_entry true same own spares inside reports covers = own_entry same own covers
+  marked_entry false same own spares inside reports covers = unmarked_entry (spares refl) inside reports

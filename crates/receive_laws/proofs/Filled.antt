@@ -1,0 +1,114 @@
+-- What filling a slot does to memory: the slot gets a piece, and the others stay.
+use Rattle.std.proofs.Common.{◌≡◌, ◌≢◌, ℕ, ◌+◌, ◌*◌, ◌^◌, ◌<◌, ◌≤◌, true, List, [], ◌∷◌, ◌++◌, length, take, sym, ap, ◌∙◌, subst, arith, Ok}
+use Rattle.std.proofs.lemmas.List.{length-take-le, length_push, get_or_append_left}
+use Rattle.dma_arena.specs.Memory.{Memory, has_block, read_at, IsWhole, SameLent, AreApart}
+use Rattle.dma_ring.specs.declared.ring.Ring.{Ring}
+use Rattle.dma_ring.specs.Descriptor.{first_half, second_half}
+use Rattle.dma_ring.specs.Receive.{is_done, ends_packet, bytes_in}
+use Rattle.rx_ring.specs.declared.filled.Filled.{Filled}
+use Rattle.rx_ring.specs.Control.{buffer_size_of}
+use Rattle.rx_ring.specs.Fill.{Rest, head_address, buffer_address, fill_of}
+use Rattle.rx_ring.specs.Laws.{TakesPiece}
+use Rattle.rx_ring.proofs.Fills.{takes_piece, driver_reads, writes_inside_slot, fill_keeps_blocks}
+use Rattle.pmd_rx.specs.Receive.{Layout, Stage, Looks, Sees, Holding, Lent, Named, slot_at, descriptor_at, block_at, vacant}
+use Rattle.receive_laws.specs.Joint.{IsPosted, IsFilled, IsRing, StageHolds}
+use Rattle.receive_laws.specs.Pieces.{Piece, no_piece, piece_at}
+use Rattle.receive_laws.proofs.Kept.{IsPosted-kept, IsFilled-kept, IsLoose-kept, slot_low}
+use Rattle.receive_laws.proofs.Places.{wrapped_apart, slots_apart, buffer_and_slot, slot_and_buffer, buffers_apart, less_apart}
+
+-- the piece that a filled slot takes of what is left
+abbrev pub piece_in : Rest → Filled → Piece
+piece_in rest f = record { bytes = take f.len rest.bytes; first = rest.first; end = f.end }
+
+-- the descriptor at `a` and the block `b` got a piece, and nothing else changed
+pub record Fills (m n : Memory) (a b : ℕ) (p : Piece) : Type 0 where
+  pub filled : IsFilled n a b p
+  pub reads : (c k : ℕ) → AreApart c k a 16 → AreApart c k (2048 * b) 2048 → read_at n c k ≡ read_at m c k
+  pub lent : SameLent n m
+
+-- where the descriptor at the head is a slot of a ring, and names a block that isn't the ring's
+pub fills_slot : (m : Memory) (r : Ring) (srrctl : ℕ) (rest : Rest) (f : Filled) (ring slot b : ℕ) → IsWhole m
+    → rest.first < 2 ^ 64 → (fill_of m r srrctl rest).answer ≡ Ok f → buffer_size_of srrctl ≡ 2048
+    → head_address r ≡ 2048 * ring + 16 * slot → buffer_address m r ≡ 2048 * b → b ≢ ring → slot < 128
+    → has_block m b ≡ true
+    → Fills m (fill_of m r srrctl rest).memory (2048 * ring + 16 * slot) b (piece_in rest f)
+fills_slot m r srrctl rest f ring slot b whole fits is size head buffer ne low has =
+    let n : Memory = (fill_of m r srrctl rest).memory in
+    let t : TakesPiece m r srrctl rest f = takes_piece m r srrctl rest f is in
+    let d = driver_reads m r srrctl rest f whole fits is in
+    let w = writes_inside_slot m r srrctl rest f is in
+    let same : SameLent n m = (fill_keeps_blocks m r srrctl rest).0 in
+    let desc : f.desc ≡ 2048 * ring + 16 * slot = t.desc ∙ head in
+    let at : f.at ≡ 2048 * b = t.at ∙ buffer in
+    let len = t.len in
+    let short : f.len ≤ 2048 = omega (arith, len, size) in
+    let within : f.len ≤ length rest.bytes = omega (arith, len) in
+    let long : length (take f.len rest.bytes) ≡ f.len = length-take-le f.len rest.bytes within in
+    let apart : AreApart f.at f.len f.desc 16 =
+    subst (λ x. AreApart x f.len f.desc 16) (sym at)
+    (subst (λ x. AreApart (2048 * b) f.len x 16) (sym desc) (buffer_and_slot b f.len ring slot ne short low)) in
+    record {
+      filled = record {
+        done = subst (λ x. is_done (second_half (read_at n x 16)) ≡ true) desc d.done;
+        end = subst (λ x. ends_packet (second_half (read_at n x 16)) ≡ f.end) desc d.end;
+        len = subst (λ x. bytes_in (second_half (read_at n x 16)) ≡ f.len) desc d.len ∙ sym long;
+        first = subst (λ x. first_half (read_at n x 16) ≡ rest.first) desc d.first;
+        bytes = subst (λ k. read_at n (2048 * b) k ≡ take f.len rest.bytes) (sym long)
+            (subst (λ x. read_at n x f.len ≡ take f.len rest.bytes) at (d.bytes apart));
+        short = subst (λ k. k ≤ 2048) (sym long) short;
+        there = same b ∙ has;
+      };
+      reads = λ c k o u.
+          w.reads c k (subst (λ x. AreApart c k x 16) (sym desc) o)
+          (subst (λ x. AreApart c k x f.len) (sym at) (less_apart c k (2048 * b) 2048 f.len short u));
+      lent = same;
+    }
+
+-- the slots beside the one that was filled
+module _ (l : Layout) (ring : IsRing l) (m n : Memory) (at : ℕ) (p : Piece) (room : at < length l.blocks)
+    (f : Fills m n (descriptor_at l at) (block_at l at) p) where
+  other_slot : (k : ℕ) → k ≤ length l.blocks → k ≢ at
+      → read_at n (descriptor_at l k) 16 ≡ read_at m (descriptor_at l k) 16
+  other_slot k within ne =
+      let free = ring.room in
+      f.reads (descriptor_at l k) 16
+      (slots_apart l.ring (slot_at l k) (slot_at l at)
+      (wrapped_apart l.size l.next k at ring.next (omega (arith, within, free)) (omega (arith, room, free)) ne))
+      (slot_and_buffer l.ring (slot_at l k) (block_at l at) 2048 (ring.not_ring at room) (omega arith)
+      (slot_low l k ring within))
+
+  other_bytes : (b len : ℕ) → b ≢ l.ring → b ≢ block_at l at → len ≤ 2048
+      → read_at n (2048 * b) len ≡ read_at m (2048 * b) len
+  other_bytes b len not_ring ne short =
+      f.reads (2048 * b) len
+      (buffer_and_slot b len l.ring (slot_at l at) not_ring short (slot_low l at ring (omega (arith, room))))
+      (buffers_apart b len (block_at l at) 2048 ne short (omega arith))
+
+  pub posted_beside : (k b : ℕ) → k ≤ length l.blocks → k ≢ at → IsPosted m (descriptor_at l k) b
+      → IsPosted n (descriptor_at l k) b
+  posted_beside k b within ne h = IsPosted-kept m n (descriptor_at l k) b (other_slot k within ne) (f.lent b) h
+
+  pub filled_beside : (k b : ℕ) (q : Piece) → k ≤ length l.blocks → k ≢ at → b ≢ l.ring → b ≢ block_at l at
+      → IsFilled m (descriptor_at l k) b q → IsFilled n (descriptor_at l k) b q
+  filled_beside k b q within ne not_ring apart h =
+      IsFilled-kept m n (descriptor_at l k) b q (other_slot k within ne)
+      (other_bytes b (length q.bytes) not_ring apart h.short) (f.lent b) h
+
+  pub stage_beside : (here : List Piece) (q : Piece) (stage : Stage) → StageHolds m l here stage
+      → StageHolds n l (here ++ q ∷ []) stage
+  stage_beside here q Looks h = tt
+  stage_beside here q (Sees first second) h =
+      let some = h.some in
+      let same : piece_at (here ++ q ∷ []) 0 ≡ piece_at here 0 = get_or_append_left here (q ∷ []) no_piece 0 some in
+      record {
+        some = omega (arith, some, length_push here q);
+        first_is = h.first_is ∙ sym (ap (λ (x : Piece). x.first) same);
+        len_is = h.len_is ∙ sym (ap (λ (x : Piece). length x.bytes) same);
+        ended = ap (λ (x : Piece). x.end) same ∙ h.ended;
+      }
+  stage_beside here q (Holding o) h = tt
+  stage_beside here q (Lent o b) h = IsLoose-kept m n l b (f.lent b) h
+  stage_beside here q (Named o b) h = (
+    IsLoose-kept m n l b (f.lent b) h.0,
+    posted_beside (vacant l) b (omega arith) (λ e. absurd (omega (arith, room, e))) h.1,
+  )

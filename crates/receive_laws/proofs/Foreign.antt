@@ -1,0 +1,180 @@
+-- Entries that aren't the driver's own and leave its queue alone keep the agreement.
+use Rattle.std.proofs.Common.{◌≡◌, ◌≢◌, ℕ, ◌+◌, ◌*◌, ◌/◌, ◌%◌, ◌<◌, ◌≤◌, true, false, inl, inr, List, [], ◌++◌, length, refl, sym, ap, ◌∙◌, subst, arith}
+use Rattle.std.specs.Prelude.{⊤, IsTrue, IsFalse}
+use Rattle.std.proofs.lemmas.Bool.{cases_eq, cases_lt}
+use Rattle.std.proofs.lemmas.List.{append-nil}
+use Rattle.dma_arena.specs.Block.{Block}
+use Rattle.dma_arena.specs.Memory.{Avoids, LiesIn}
+use Rattle.dma_arena.proofs.Inside.{inside_avoids}
+use Rattle.register_file.specs.Pools.{mode_in}
+use Rattle.register_file.specs.declared.dir.Dir.{Dir}
+use Rattle.register_file.specs.declared.dir.Dir.TheVariants.{Rx, Tx}
+use Rattle.vf_map.specs.declared.mode.Mode.{Mode}
+use Rattle.nic_device.specs.Outcome.{Outcome}
+use Rattle.nic_device.specs.Sound.{IsEvent, IsSound}
+use Rattle.nic_device.specs.State.{State}
+use Rattle.nic_device.specs.Step.{step_of, after, reply_to}
+use Rattle.nic_device.specs.declared.event.Event.{Event}
+use Rattle.nic_device.specs.declared.event.Event.TheVariants as event
+use Rattle.nic_device.specs.declared.event.Reply.{Reply}
+use Rattle.nic_device.specs.declared.event.Reply.TheVariants.{Wrote}
+use Rattle.device_laws.specs.Laws.{WritesNoSetting}
+use Rattle.device_laws.specs.Leaving.{LeavesReceive, LeavesBlock, LeavesMemory}
+use Rattle.device_laws.proofs.KeptSettings.{settings_stand}
+use Rattle.device_laws.proofs.RepliesOut.{misaligned}
+use Rattle.device_laws.proofs.Standing.{stays_within, memory_rest, memory_blocks}
+use Rattle.device_laws.proofs.StandingAccesses.{read_rest}
+use Rattle.device_laws.proofs.StandingQueues.{switching_rest}
+use Rattle.device_laws.proofs.StandingRest.{arrival_rest, message_rest, eeprom_rest, link_rest, collecting_rest}
+use Rattle.device_lock.specs.Alone.{Blocks, IsClear, WritesOutside, SparesIfSome, place_at, LeavesRegisters, LeavesBlocks}
+use Rattle.device_lock.specs.declared.alone.Watched.{Watched}
+use Rattle.pmd_base.specs.Events.{is_step}
+use Rattle.pmd_rx.specs.Receive.{Receive}
+use Rattle.receive_laws.specs.Joint.{Agree}
+use Rattle.receive_laws.specs.Pieces.{Piece, pieces}
+use Rattle.receive_laws.specs.Steps.{Each, IsOutside, Leaves, SparesBlocks, ReportsInside, OwnReportsSpare, ForeignEntryKeeps, DeviceStepKeeps}
+use Rattle.receive_laws.proofs.Kept.{each_map, leaving_keeps}
+use Rattle.receive_laws.proofs.Received.{receive_keeps}
+use Rattle.receive_laws.proofs.Switching.{enable_keeps}
+use Rattle.receive_laws.proofs.Transmitting.{not_mine, transmit_leaves}
+use Rattle.receive_laws.proofs.Writing.{left_memory, write_leaves}
+
+-- bytes that are in none of the pass's blocks are outside each of them
+clear_avoids : (mine : Blocks) (at len b : ℕ) → IsClear mine at len → IsTrue (mine b) → 0 < len → Avoids b at len
+clear_avoids mine at len b clear is some = elim (cases_lt (2048 * b) (at + len)) [
+  | inr low ↦ inl (omega (arith, low))
+  | inl high ↦ elim (cases_lt at (2048 * b + 2048)) as (λ _. Avoids b at len) [
+    | inr above ↦ inr (omega (arith, above))
+    | inl below ↦ absurd (elim (cases_lt at (2048 * b)) as (λ _. ⊥) [
+      | inl before ↦
+          let here : 2048 * b / 2048 ≡ b = omega arith in
+          let out : mine b ≡ false =
+          ap mine (sym here) ∙ clear (2048 * b) (omega (arith, before)) (omega (arith, high)) in
+          cc
+      | inr within ↦
+          let here : at / 2048 ≡ b = omega (arith, within, below) in
+          let out : mine b ≡ false = ap mine (sym here) ∙ clear at (omega arith) (omega (arith, some)) in
+          cc
+    ])
+  ]
+]
+
+spares_mine : (queue : ℕ) (mine : Blocks) (v : Receive) (r : Reply Block) → Each v (λ b. IsTrue (mine b))
+    → WritesOutside queue mine r → SparesBlocks queue v r
+spares_mine queue mine v (Wrote on slot end desc at len) m outside = λ ne.
+    each_map v (λ b. IsTrue (mine b)) (λ b. IsOutside desc at len b)
+    (λ b i. record {
+      descriptor = clear_avoids mine desc 16 b (outside ne).1 i (omega arith);
+      bytes = λ some. clear_avoids mine at len b (outside ne).0 i some;
+    }) m
+spares_mine queue mine v other m outside = tt
+
+module _ (w : Watched) (mine : Blocks) (s : State) (out : List Piece) (v : Receive) (sound : IsSound s) (vfs : w.vfs ≡ s.vfs)
+    (j : Agree w.queue s out v) (m : Each v (λ b. IsTrue (mine b))) where
+  still : (t : State) → Leaves w.queue v s t → Agree w.queue t (out ++ []) v
+  still t l = subst (λ xs. Agree w.queue t xs v) (sym (append-nil out)) (leaving_keeps w.queue s t out v l j)
+
+  -- an event that writes no setting, with all memory as it was
+  quiet : (e : Event Block) → WritesNoSetting s e → LeavesReceive w.queue s (after s e) → LeavesMemory s (after s e)
+      → Agree w.queue (after s e) (out ++ []) v
+  quiet e none side memory =
+      still (after s e)
+      (left_memory w.queue v s (after s e) side (settings_stand s e none).mode (stays_within s e).vfs memory)
+
+  -- one that leaves each of the driver's blocks
+  spared : (e : Event Block) → WritesNoSetting s e → LeavesReceive w.queue s (after s e)
+      → Each v (λ b. LeavesBlock b s (after s e)) → Agree w.queue (after s e) (out ++ []) v
+  spared e none side blocks = still (after s e) (record {
+    receive = side;
+    mode = (settings_stand s e none).mode;
+    vfs = (stays_within s e).vfs;
+    blocks = blocks;
+  })
+
+  poked : (a : ℕ) (bytes : List ℕ) → length bytes ≡ 16 → IsFalse (mine (a / 2048))
+      → Agree w.queue (after s (event.Poke16 a bytes)) (out ++ []) v
+  poked a bytes size other = elim (cases_eq (a % 16) 0) [
+    | inl aligned ↦
+        spared (event.Poke16 a bytes) tt ((memory_rest.poke s a bytes).queues.receive w.queue)
+        (each_map v (λ b. IsTrue (mine b)) (λ b. LeavesBlock b s (after s (event.Poke16 a bytes)))
+        (λ b i. memory_blocks.poke s a bytes b
+        (subst (Avoids b a) (sym size)
+        (inside_avoids (a / 2048) b a 16 (omega (arith, aligned), omega (arith, aligned))
+        (not_mine mine b (a / 2048) other i)))) m)
+    | inr crooked ↦
+        still (after s (event.Poke16 a bytes))
+        (subst (λ (o : Outcome). Leaves w.queue v s o.state) (sym ((misaligned s a crooked).poke bytes))
+        (left_memory w.queue v s s refl refl refl refl))
+  ]
+
+  switched : (dir : Dir) (queue : ℕ) → Agree w.queue (after s (event.QueueStep dir queue)) (out ++ []) v
+  switched Tx queue =
+      quiet (event.QueueStep Tx queue) tt ((switching_rest s Tx queue).sides.receive w.queue (inl refl))
+      (switching_rest s Tx queue).memory
+  switched Rx queue = elim (cases_eq queue w.queue) [
+    | inl own ↦
+        subst (λ q. Agree w.queue (after s (event.QueueStep Rx q)) (out ++ []) v) (sym own)
+        (subst (λ xs. Agree w.queue (after s (event.QueueStep Rx w.queue)) xs v) (sym (append-nil out))
+        (enable_keeps w.queue s out v j))
+    | inr ne ↦
+        quiet (event.QueueStep Rx queue) tt
+        ((switching_rest s Rx queue).sides.receive w.queue (inr (λ e. ne (sym e))))
+        (switching_rest s Rx queue).memory
+  ]
+
+  entry_keeps : ReportsInside s → OwnReportsSpare w.queue v s → (e : Event Block) → IsEvent e
+      → LeavesRegisters w (mode_in s.registers) e → LeavesBlocks mine e
+      → WritesOutside w.queue mine (reply_to s e) → Agree w.queue (after s e) (out ++ pieces w.queue s e) v
+  entry_keeps inside spare (event.Read port n) is registers blocks steps =
+      quiet (event.Read port n) tt ((read_rest s port n).queues.receive w.queue) (read_rest s port n).memory
+  entry_keeps inside spare (event.Write port n word) is registers blocks steps =
+      still (after s (event.Write port n word))
+      (write_leaves w.queue v s port n word
+      (subst (λ k. SparesIfSome w.queue (mode_in s.registers) (place_at (mode_in s.registers) k port n) word) vfs
+      registers))
+  entry_keeps inside spare (event.Lend b) is registers blocks steps =
+      spared (event.Lend b) tt ((memory_rest.lend s b).queues.receive w.queue)
+      (each_map v (λ c. IsTrue (mine c)) (λ c. LeavesBlock c s (after s (event.Lend b)))
+      (λ c i. memory_blocks.lend s b c (not_mine mine c b.number blocks i)) m)
+  entry_keeps inside spare (event.Take n) is registers blocks steps =
+      spared (event.Take n) tt ((memory_rest.take s n).queues.receive w.queue)
+      (each_map v (λ c. IsTrue (mine c)) (λ c. LeavesBlock c s (after s (event.Take n)))
+      (λ c i. memory_blocks.take s n c (not_mine mine c n blocks i)) m)
+  entry_keeps inside spare (event.Peek16 a) is registers blocks steps =
+      quiet (event.Peek16 a) tt ((memory_rest.peek s a).queues.receive w.queue) (memory_blocks.peek s a)
+  entry_keeps inside spare (event.Poke16 a bytes) is registers blocks steps = poked a bytes is.1 blocks
+  entry_keeps inside spare (event.Arrive frame) is registers blocks steps =
+      quiet (event.Arrive frame) tt ((arrival_rest s frame).queues.receive w.queue) (arrival_rest s frame).memory
+  entry_keeps inside spare event.RxStep is registers blocks steps =
+      receive_keeps w.queue s out v sound j (spares_mine w.queue mine v (reply_to s event.RxStep) m steps)
+  entry_keeps inside spare (event.TxStep queue) is registers blocks steps =
+      still (after s (event.TxStep queue)) (transmit_leaves w.queue mine s v sound m inside spare queue steps)
+  entry_keeps inside spare (event.IntStep g) is registers blocks steps =
+      quiet (event.IntStep g) tt ((message_rest s g).queues.receive w.queue) (message_rest s g).memory
+  entry_keeps inside spare (event.QueueStep dir queue) is registers blocks steps = switched dir queue
+  entry_keeps inside spare event.EepromStep is registers blocks steps =
+      quiet event.EepromStep tt ((eeprom_rest s).queues.receive w.queue) (eeprom_rest s).memory
+  entry_keeps inside spare (event.Link up) is registers blocks steps =
+      quiet (event.Link up) tt ((link_rest s up).queues.receive w.queue) (link_rest s up).memory
+  entry_keeps inside spare event.Collect is registers blocks steps =
+      quiet event.Collect tt ((collecting_rest s).queues.receive w.queue) (collecting_rest s).memory
+
+pub foreign_keeps : ForeignEntryKeeps
+foreign_keeps w mine mode s out v e met j m inside spare alone other =
+    entry_keeps w mine s out v met.sound met.vfs j m inside spare e.event met.event
+    (subst (λ k. LeavesRegisters w k e.event) met.mode_is (alone.registers other)) (alone.blocks other)
+    (subst (WritesOutside w.queue mine) met.reply alone.steps)
+
+no_registers : (w : Watched) (mode : Mode) (mine : Blocks) (e : Event Block) → is_step e ≡ true
+    → LeavesRegisters w mode e × LeavesBlocks mine e
+no_registers w mode mine (event.Write port n word) is = cc
+no_registers w mode mine (event.Lend b) is = cc
+no_registers w mode mine (event.Take n) is = cc
+no_registers w mode mine (event.Poke16 a bytes) is = cc
+no_registers w mode mine other is = (tt, tt)
+
+pub steps_keep : DeviceStepKeeps
+steps_keep w mine mode s out v e met j m inside spare alone is =
+    let free = no_registers w (mode_in s.registers) mine e.event is in
+    entry_keeps w mine s out v met.sound met.vfs j m inside spare e.event met.event free.0 free.1
+    (subst (WritesOutside w.queue mine) met.reply alone.steps)

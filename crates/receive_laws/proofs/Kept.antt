@@ -1,0 +1,163 @@
+-- What an event that leaves a queue's receive side leaves of the agreement: all of it.
+use Rattle.std.proofs.Common.{◌≡◌, ℕ, ◌+◌, ◌*◌, ◌≤◌, ◌<◌, List, length, refl, sym, ap, ◌∙◌, subst, arith}
+use Rattle.std.specs.Prelude.{is_some}
+use Rattle.std.specs.FinMap as map
+use Rattle.dma_arena.specs.Memory.{Memory, has_block, read_at, LiesIn}
+use Rattle.dma_arena.proofs.Inside.{reads_its_block}
+use Rattle.dma_ring.specs.Descriptor.{first_half, second_half}
+use Rattle.dma_ring.specs.Receive.{is_done, ends_packet, bytes_in}
+use Rattle.vf_map.specs.Map.{located}
+use Rattle.vf_map.specs.declared.mode.Mode.{Mode}
+use Rattle.nic_device.specs.Named.{named, at_location}
+use Rattle.nic_device.specs.State.{State}
+use Rattle.nic_device.specs.declared.event.Port.{Port}
+use Rattle.nic_device.specs.declared.event.Port.TheVariants.{Pf, Vf}
+use Rattle.register_file.specs.Pools.{mode_in}
+use Rattle.pmd_rx.specs.Receive.{Layout, Stage, Looks, Sees, Holding, Lent, Named, Receive, slot_at, descriptor_at, block_at, vacant}
+use Rattle.receive_laws.specs.Joint.{IsPosted, IsFilled, IsRing, IsNamed, IsLoose, IsSetUp, StageHolds, HasSlots, Holds}
+use Rattle.receive_laws.specs.Pieces.{Piece, piece_at}
+use Rattle.receive_laws.specs.Steps.{Each, IfFresh, Leaves, LeavingKeeps}
+use Rattle.receive_laws.proofs.Places.{wrapped_below, slot_inside, bytes_inside}
+
+-- the blocks that the driver has lent
+
+fresh_map : (stage : Stage) (P Q : ℕ → Type 0) → ((b : ℕ) → P b → Q b) → IfFresh stage P → IfFresh stage Q
+fresh_map Looks P Q f h = tt
+fresh_map (Sees first second) P Q f h = tt
+fresh_map (Holding p) P Q f h = tt
+fresh_map (Lent o b) P Q f h = f b h
+fresh_map (Named o b) P Q f h = f b h
+
+fresh_of : (stage : Stage) (P : ℕ → Type 0) → ((b : ℕ) → P b) → IfFresh stage P
+fresh_of Looks P f = tt
+fresh_of (Sees first second) P f = tt
+fresh_of (Holding p) P f = tt
+fresh_of (Lent o b) P f = f b
+fresh_of (Named o b) P f = f b
+
+pub each_map : (v : Receive) (P Q : ℕ → Type 0) → ((b : ℕ) → P b → Q b) → Each v P → Each v Q
+each_map v P Q f e = record {
+  ring = f v.layout.ring e.ring;
+  blocks = λ k i. f (block_at v.layout k) (e.blocks k i);
+  fresh = fresh_map v.stage P Q f e.fresh;
+}
+
+pub each_of : (v : Receive) (P : ℕ → Type 0) → ((b : ℕ) → P b) → Each v P
+each_of v P f = record {
+  ring = f v.layout.ring;
+  blocks = λ k i. f (block_at v.layout k);
+  fresh = fresh_of v.stage P f;
+}
+
+-- a slot whose reads are the same stays what it is
+
+pub IsPosted-kept : (m n : Memory) (a b : ℕ) → read_at n a 16 ≡ read_at m a 16 → has_block n b ≡ has_block m b
+    → IsPosted m a b → IsPosted n a b
+IsPosted-kept m n a b e f p = record {
+  buffer = ap first_half e ∙ p.buffer;
+  waits = ap (λ d. is_done (second_half d)) e ∙ p.waits;
+  there = f ∙ p.there;
+}
+
+pub IsFilled-kept : (m n : Memory) (a b : ℕ) (p : Piece) → read_at n a 16 ≡ read_at m a 16
+    → read_at n (2048 * b) (length p.bytes) ≡ read_at m (2048 * b) (length p.bytes) → has_block n b ≡ has_block m b
+    → IsFilled m a b p → IsFilled n a b p
+IsFilled-kept m n a b p e f g h = record {
+  done = ap (λ d. is_done (second_half d)) e ∙ h.done;
+  end = ap (λ d. ends_packet (second_half d)) e ∙ h.end;
+  len = ap (λ d. bytes_in (second_half d)) e ∙ h.len;
+  first = ap first_half e ∙ h.first;
+  bytes = f ∙ h.bytes;
+  short = h.short;
+  there = g ∙ h.there;
+}
+
+pub IsLoose-kept : (m n : Memory) (l : Layout) (b : ℕ) → has_block n b ≡ has_block m b → IsLoose m l b → IsLoose n l b
+IsLoose-kept m n l b e h =
+    record { low = h.low; not_ring = h.not_ring; apart = h.apart; room = h.room; there = e ∙ h.there }
+
+pub same_has : (m n : Memory) (q : ℕ) → map.get n q ≡ map.get m q → has_block n q ≡ has_block m q
+same_has m n q same = ap (λ (o : _). is_some o) same
+
+pub same_read : (m n : Memory) (q a k : ℕ) → map.get n q ≡ map.get m q → LiesIn q a k → read_at n a k ≡ read_at m a k
+same_read m n q a k same inside = (reads_its_block n m q a k same inside).0
+
+-- each slot up to the vacant one is a slot of the ring
+pub slot_below : (l : Layout) (k : ℕ) → IsRing l → k ≤ length l.blocks → slot_at l k < l.size
+slot_below l k ring h =
+    let next = ring.next in
+    let room = ring.room in
+    wrapped_below l.size (l.next + k) (omega arith)
+
+pub slot_low : (l : Layout) (k : ℕ) → IsRing l → k ≤ length l.blocks → slot_at l k < 128
+slot_low l k ring h =
+    let slot = slot_below l k ring h in
+    let few = ring.few in
+    omega (arith, slot, few)
+
+-- the same block of the ring, and the same blocks of slots
+module _ (l : Layout) (m n : Memory) (ring : IsRing l) (same : map.get n l.ring ≡ map.get m l.ring) where
+  pub same_slot : (k : ℕ) → k ≤ length l.blocks → read_at n (descriptor_at l k) 16 ≡ read_at m (descriptor_at l k) 16
+  same_slot k within =
+      same_read m n l.ring (descriptor_at l k) 16 same (slot_inside l.ring (slot_at l k) (slot_low l k ring within))
+
+  pub posted_kept : (k b : ℕ) → k ≤ length l.blocks → map.get n b ≡ map.get m b → IsPosted m (descriptor_at l k) b
+      → IsPosted n (descriptor_at l k) b
+  posted_kept k b within e p = IsPosted-kept m n (descriptor_at l k) b (same_slot k within) (same_has m n b e) p
+
+  pub filled_kept : (k b : ℕ) (p : Piece) → k ≤ length l.blocks → map.get n b ≡ map.get m b
+      → IsFilled m (descriptor_at l k) b p → IsFilled n (descriptor_at l k) b p
+  filled_kept k b p within e f =
+      IsFilled-kept m n (descriptor_at l k) b p (same_slot k within)
+      (same_read m n b (2048 * b) (length p.bytes) e (bytes_inside b (length p.bytes) f.short)) (same_has m n b e) f
+
+  pub slots_kept : (here : List Piece)
+      → ((k : ℕ) → k < length l.blocks → map.get n (block_at l k) ≡ map.get m (block_at l k))
+      → HasSlots m l here → HasSlots n l here
+  slots_kept here blocks h =
+      let within = h.within in
+      record {
+        there = same_has m n l.ring same ∙ h.there;
+        within = h.within;
+        filled = λ k i.
+            filled_kept k (block_at l k) (piece_at here k) (omega (arith, within)) (blocks k (omega (arith, within)))
+            (h.filled k i);
+        posted = λ k i j. posted_kept k (block_at l k) (omega arith) (blocks k j) (h.posted k i j);
+      }
+
+  pub stage_kept : (here : List Piece) (stage : Stage) → IfFresh stage (λ b. map.get n b ≡ map.get m b)
+      → StageHolds m l here stage → StageHolds n l here stage
+  stage_kept here Looks fresh h = tt
+  stage_kept here (Sees first second) fresh h = h
+  stage_kept here (Holding p) fresh h = tt
+  stage_kept here (Lent o b) fresh h = IsLoose-kept m n l b (same_has m n b fresh) h
+  stage_kept here (Named o b) fresh h = (
+    IsLoose-kept m n l b (same_has m n b fresh) h.0,
+    posted_kept (vacant l) b (omega arith) fresh h.1,
+  )
+
+-- numbers name what they named where the mode and the number of functions are the same
+same_name : (s t : State) (port : Port) (number : ℕ) → mode_in t.registers ≡ mode_in s.registers → t.vfs ≡ s.vfs
+    → named t port number ≡ named s port number
+same_name s t Pf number mode vfs = refl
+same_name s t (Vf v) number mode vfs =
+    ap (λ (m : Mode). at_location (located m t.vfs v number)) mode
+    ∙ ap (λ n. at_location (located (mode_in s.registers) n v number)) vfs
+
+pub named_kept : (s t : State) (queue : ℕ) (l : Layout) → mode_in t.registers ≡ mode_in s.registers → t.vfs ≡ s.vfs
+    → IsNamed s queue l → IsNamed t queue l
+named_kept s t queue l mode vfs h = record { low = h.low; tail = same_name s t l.port l.tail mode vfs ∙ h.tail }
+
+pub leaving_holds : (queue : ℕ) (s t : State) (out : List Piece) (v : Receive) (gone here : List Piece)
+    → Leaves queue v s t → Holds queue s out v gone here → Holds queue t out v gone here
+leaving_holds queue s t out v gone here l h = record {
+  named = named_kept s t queue v.layout l.mode l.vfs h.named;
+  ring = h.ring;
+  side = subst (λ q. IsSetUp q v.layout (length here)) (sym l.receive) h.side;
+  slots = slots_kept v.layout s.memory t.memory h.ring l.blocks.ring here l.blocks.blocks h.slots;
+  stage = stage_kept v.layout s.memory t.memory h.ring l.blocks.ring here v.stage l.blocks.fresh h.stage;
+  order = h.order;
+}
+
+pub leaving_keeps : LeavingKeeps
+leaving_keeps queue s t out v l (gone, here, h) = (gone, here, leaving_holds queue s t out v gone here l h)

@@ -1,0 +1,181 @@
+-- The tail moves on over the slot that names a fresh block: the block is posted, and what was held is handed out.
+use Rattle.std.proofs.Common.{◌≡◌, ◌≢◌, ℕ, ◌+◌, ◌%◌, ◌^◌, ◌<◌, ◌≤◌, ◌⊎◌, inl, inr, List, [], ◌∷◌, ◌++◌, length, refl, sym, ap, ◌∙◌, subst, arith, Option}
+use Rattle.std.specs.Prelude.{slice_index, bit_and, bit_or}
+use Rattle.std.proofs.lemmas.Bool.{cases_lt}
+use Rattle.std.proofs.lemmas.List.{append-nil, length_push, get_or_push, get_or_append_left}
+use Rattle.std.proofs.lemmas.Nat.{or_mod, and_mod, and_mask, and_le_l, and_le_r, or_disjoint}
+use Rattle.std.proofs.Math.Nat.{mod-eq_of_lt}
+use Rattle.dma_arena.specs.Memory.{Memory}
+use Rattle.reg_table.specs.declared.place.Place.{Place}
+use Rattle.reg_table.specs.declared.rows.RowId.TheVariants.{Rdt, GcrExt}
+use Rattle.vf_map.specs.Pools.{mode_of}
+use Rattle.register_file.specs.Bits.{merged}
+use Rattle.register_file.specs.Columns.{place}
+use Rattle.register_file.specs.Laws.{after_write, word_after}
+use Rattle.register_file.specs.Pools.{mode_in}
+use Rattle.register_file.specs.Registers.{Registers, word_of}
+use Rattle.register_file.specs.Sides.{ReceiveQueue, receive_queue_of}
+use Rattle.register_file.specs.Sound.{HasShape}
+use Rattle.register_file.proofs.Puts.{word_at-put_other}
+use Rattle.register_file.proofs.SideWords.{receive-written}
+use Rattle.nic_device.specs.Access.{named_written}
+use Rattle.nic_device.specs.Outcome.{Outcome, gives}
+use Rattle.nic_device.specs.State.{State}
+use Rattle.nic_device.specs.Step.{step_of, after, reply_to}
+use Rattle.nic_device.specs.declared.event.Event.TheVariants as event
+use Rattle.nic_device.specs.declared.event.Reply.TheVariants.{Done}
+use Rattle.pmd_base.specs.declared.packet.Packet.{Packet}
+use Rattle.pmd_rx.specs.Receive.{Layout, Receive, Named, slot_at, descriptor_at, block_at, vacant, extended, held, listed, moved, drive}
+use Rattle.receive_laws.specs.Joint.{IsPosted, IsFilled, IsRing, IsNamed, IsSetUp, IsLoose, StageHolds, HasSlots, Agree}
+use Rattle.receive_laws.specs.Pieces.{Piece, piece_at}
+use Rattle.receive_laws.proofs.Kept.{named_kept}
+use Rattle.receive_laws.proofs.Places.{wrapped_below}
+
+-- a word of 16 bits that is written to the tail's register is the tail
+
+none_or : (x : ℕ) → bit_or 0 x ≡ x
+none_or x =
+    let none : bit_and 0 x ≡ 0 = let low = and_le_l 0 x in omega (arith, low) in
+    or_disjoint 0 x none ∙ (let e : 0 + x ≡ x = omega arith in e)
+
+no_bits : (x : ℕ) → bit_and x 0 ≡ 0
+no_bits x = let low = and_le_r x 0 in omega (arith, low)
+
+merged_low : (old new : ℕ) → merged 0xFFFF old new % 2 ^ 16 ≡ new % 2 ^ 16
+merged_low old new =
+    let high : bit_and old 0xFFFF0000 % 2 ^ 16 ≡ 0 = and_mod old 0xFFFF0000 16 ∙ no_bits (old % 2 ^ 16) in
+    let low : bit_and new 0xFFFF % 2 ^ 16 ≡ new % 2 ^ 16 =
+    ap (λ x. x % 2 ^ 16) (and_mask new 16) ∙ (let e : new % 2 ^ 16 % 2 ^ 16 ≡ new % 2 ^ 16 = omega arith in e) in
+    or_mod (bit_and old 0xFFFF0000) (bit_and new 0xFFFF) 16 ∙ (λ k. bit_or (high k) (low k)) ∙ none_or (new % 2 ^ 16)
+
+abbrev with_tail : ReceiveQueue → ℕ → ReceiveQueue
+with_tail q tail = record q { ring = record q.ring { tail = tail } }
+
+receive-with_tail : (r : Registers) (queue word : ℕ) → HasShape r → queue < 128 → word < 65536
+    → receive_queue_of (after_write r (place Rdt queue) 0xFFFFFFFF word) queue
+    ≡ with_tail (receive_queue_of r queue) word
+receive-with_tail r queue word h b small =
+    let there : word_after r (place Rdt queue) 0xFFFFFFFF word % 2 ^ 16 ≡ word =
+    merged_low (word_of r Rdt queue) word ∙ mod-eq_of_lt small in
+    receive-written r h Rdt queue refl b (inl refl) 0xFFFFFFFF word
+    ∙ (λ k. with_tail (receive_queue_of r queue) (there k))
+
+-- a write of it writes a register alone
+
+tail_written : (s : State) (queue : ℕ) (l : Layout) (word : ℕ) → IsNamed s queue l
+    → step_of s (event.Write l.port l.tail word)
+    ≡ gives Done (record s { registers = after_write s.registers (place Rdt queue) 0xFFFFFFFF word })
+unfolding step_of
+tail_written s queue l word h = ap (λ n. named_written s n word) h.tail
+
+mode_after_tail : (r : Registers) (queue word : ℕ)
+    → mode_in (after_write r (place Rdt queue) 0xFFFFFFFF word) ≡ mode_in r
+mode_after_tail r queue word =
+    ap mode_of (word_at-put_other r.words (place Rdt queue) (place GcrExt 0)
+    (word_after r (place Rdt queue) 0xFFFFFFFF word)
+    (λ e. let other : GcrExt ≡ Rdt = ap (λ (p : Place). p.row) e in cc))
+
+-- the ring with one more block
+
+pub push_place : (xs : List ℕ) (b k : ℕ) (P : ℕ → Type 0) → k < length (xs ++ b ∷ [])
+    → (k < length xs → P (slice_index xs k)) → (k ≡ length xs → P b) → (k < length xs) ⊎ (length xs ≤ k)
+    → P (slice_index (xs ++ b ∷ []) k)
+push_place xs b k P i f g (inl low) = subst P (sym (get_or_append_left xs (b ∷ []) 0 k low)) (f low)
+push_place xs b k P i f g (inr high) =
+    let e : k ≡ length xs = omega (arith, length_push xs b, i, high) in
+    subst P (sym (get_or_push xs b 0 k (sym e))) (g e)
+
+module _ (m : Memory) (l : Layout) (here : List Piece) (b : ℕ) (ring : IsRing l) (h : HasSlots m l here)
+    (loose : IsLoose m l b) (posted : IsPosted m (descriptor_at l (vacant l)) b) where
+  more : length (l.blocks ++ b ∷ []) ≡ length l.blocks + 1
+  more = length_push l.blocks b
+
+  each_place : (k : ℕ) (P : ℕ → Type 0) → k < length (l.blocks ++ b ∷ [])
+      → (k < length l.blocks → P (block_at l k)) → (k ≡ length l.blocks → P b) → P (block_at (extended l b) k)
+  each_place k P i f g = push_place l.blocks b k P i f g (cases_lt k (length l.blocks))
+
+  ring_more : IsRing (extended l b)
+  ring_more =
+      let room = loose.room in
+      record {
+        some = ring.some;
+        few = ring.few;
+        next = ring.next;
+        ring = ring.ring;
+        room = omega (arith, more, room);
+        low = λ k i. each_place k (λ c. c < 65536) i (ring.low k) (λ e. loose.low);
+        not_ring = λ k i. each_place k (λ c. c ≢ l.ring) i (ring.not_ring k) (λ e. loose.not_ring);
+        apart = λ i j a c ne.
+            each_place i (λ x. x ≢ block_at (extended l b) j) a
+            (λ p. each_place j (λ y. block_at l i ≢ y) c (λ r. ring.apart i j p r ne) (λ r. loose.apart i p))
+            (λ p. each_place j (λ y. b ≢ y) c (λ r z. loose.apart j r (sym z)) (λ r. absurd (ne (p ∙ sym r))));
+      }
+
+  slots_more : HasSlots m (extended l b) here
+  slots_more =
+      let within = h.within in
+      record {
+        there = h.there;
+        within = omega (arith, more, within);
+        filled = λ k i.
+            each_place k (λ c. IsFilled m (descriptor_at l k) c (piece_at here k)) (omega (arith, more, within, i))
+            (λ low. h.filled k i) (λ e. absurd (omega (arith, e, i, within)));
+        posted = λ k i j.
+            each_place k (λ c. IsPosted m (descriptor_at l k) c) j (h.posted k i)
+            (λ e. subst (λ x. IsPosted m (descriptor_at l x) b) (sym e) posted);
+      }
+
+  set_up_more : (q : ReceiveQueue) → IsSetUp q l (length here)
+      → IsSetUp (with_tail q (slot_at l (vacant l + 1))) (extended l b) (length here)
+  set_up_more q up = record {
+    on = up.on;
+    wanted = up.wanted;
+    one_buffer = up.one_buffer;
+    buffer_size = up.buffer_size;
+    base = up.base;
+    sized = up.sized;
+    head = up.head;
+    tail = ap (slot_at l) (sym more);
+  }
+
+low_tail : (l : Layout) → IsRing l → length l.blocks + 1 < l.size → slot_at l (vacant l + 1) < 65536
+low_tail l ring room =
+    let few = ring.few in
+    let next = ring.next in
+    let below : slot_at l (vacant l + 1) < l.size =
+    wrapped_below l.size (l.next + (length l.blocks + 1)) (omega (arith, room, next)) in
+    omega (arith, below, few)
+
+pub move_keeps : (queue : ℕ) (s : State) (out : List Piece) (v : Receive) (o : Option Packet) (b : ℕ)
+    → HasShape s.registers → Agree queue s out v → v.stage ≡ Named o b
+    → Agree queue (after s (event.Write v.layout.port v.layout.tail (slot_at v.layout (vacant v.layout + 1)))) out
+    (drive v (event.Write v.layout.port v.layout.tail (slot_at v.layout (vacant v.layout + 1)))
+    (reply_to s (event.Write v.layout.port v.layout.tail (slot_at v.layout (vacant v.layout + 1)))))
+move_keeps queue s out v o b shape (gone, here, h) is =
+    let l = v.layout in
+    let word = slot_at l (vacant l + 1) in
+    let e = event.Write l.port l.tail word in
+    let t : State = record s { registers = after_write s.registers (place Rdt queue) 0xFFFFFFFF word } in
+    let both : StageHolds s.memory l here (Named o b) = subst (StageHolds s.memory l here) is h.stage in
+    subst (λ (x : Outcome). Agree queue x.state out (drive v e x.reply)) (sym (tail_written s queue l word h.named))
+    (subst (λ stage. Agree queue t out (moved v stage)) (sym is) (
+      gone,
+      here,
+      record {
+        named = record {
+          low = h.named.low;
+          tail = (named_kept s t queue l (mode_after_tail s.registers queue word) refl h.named).tail;
+        };
+        ring = ring_more s.memory l here b h.ring h.slots both.0 both.1;
+        side = subst (λ q. IsSetUp q (extended l b) (length here))
+            (sym (receive-with_tail s.registers queue word shape h.named.low (low_tail l h.ring both.0.room)))
+            (set_up_more s.memory l here b h.ring h.slots both.0 both.1 (receive_queue_of s.registers queue) h.side);
+        slots = slots_more s.memory l here b h.ring h.slots both.0 both.1;
+        stage = tt;
+        order = record {
+          ended = h.order.ended;
+          taken = h.order.taken ∙ ap (λ stage. v.handed ++ held stage) is ∙ sym (append-nil (v.handed ++ listed o));
+          order = h.order.order;
+        };
+      },
+    ))

@@ -1,0 +1,41 @@
+-- The device and a driver that posted nothing yet agree.
+use Rattle.std.proofs.Common.{◌≡◌, ℕ, ◌<◌, [], refl, sym, ◌∙◌, arith}
+use Rattle.receive_laws.specs.Starting.{StartAgrees}
+use Rattle.receive_laws.proofs.Places.{first_place}
+
+pub start_agrees : StartAgrees
+start_agrees queue port tail ring size s r = (
+  [],
+  [],
+  record {
+    named = r.named;
+    ring = record {
+      some = r.some;
+      few = r.few;
+      next = r.some;
+      ring = r.low;
+      room = r.some;
+      low = λ k i. absurd (omega (arith, i));
+      not_ring = λ k i. absurd (omega (arith, i));
+      apart = λ i j a b ne. absurd (omega (arith, a));
+    };
+    side = record {
+      on = r.side.on;
+      wanted = r.side.wanted;
+      one_buffer = r.side.one_buffer;
+      buffer_size = r.side.buffer_size;
+      base = r.side.base;
+      sized = r.side.sized;
+      head = r.side.head ∙ first_place size r.some;
+      tail = r.side.tail ∙ first_place size r.some;
+    };
+    slots = record {
+      there = r.there;
+      within = omega arith;
+      filled = λ k i. absurd (omega (arith, i));
+      posted = λ k i j. absurd (omega (arith, j));
+    };
+    stage = tt;
+    order = record { ended = tt; taken = refl; order = refl };
+  },
+)

@@ -1,0 +1,5 @@
+use Rattle.receive_laws.proofs.Received.{receive_keeps}
+use Rattle.receive_laws.proofs.receive_step_keeps_the_agreement.Goals as goal
+
+pub returns : goal.returns
+returns c = receive_keeps

@@ -1,0 +1,89 @@
+-- What the driver hands out, over histories that leave its queue alone.
+use Rattle.std.specs.Prelude.{ℕ, ◌≡◌, ◌<◌, ◌==◌, ◌⊎◌, Bool, true, false, List, [], ◌∷◌, ◌++◌, length, Some, None, ⊤, IsTrue, IsFalse}
+use Rattle.dma_ring.specs.Descriptor.{second_half}
+use Rattle.dma_ring.specs.Receive.{is_done}
+use Rattle.nic_device.specs.Sound.{IsSound}
+use Rattle.nic_device.specs.State.{State, new_state}
+use Rattle.nic_device.specs.Step.{after, reply_to}
+use Rattle.nic_device.specs.declared.event.Event.TheVariants as event
+use Rattle.nic_device.specs.declared.event.Reply.TheVariants.{Bytes}
+use Rattle.device_lock.specs.Alone.{LeavesAlone, has_begun, lent_by}
+use Rattle.device_lock.specs.History.{IsLegal, calls_of, call_in, leads_to}
+use Rattle.device_lock.specs.declared.alone.Watched.{Watched}
+use Rattle.device_lock.specs.declared.entry.Entry.{Entry}
+use Rattle.pmd_base.specs.Events.{is_step}
+use Rattle.pmd_rx.specs.Plays.{AllOwn, after_call, played_by}
+use Rattle.pmd_rx.specs.Receive.{Receive, held, descriptor_at}
+use Rattle.history_laws.specs.Laws.{AreEvents}
+use Rattle.receive_laws.specs.Delivered.{IsPrefixOf, delivered, pieces_since}
+use Rattle.receive_laws.specs.Joint.{Agree}
+use Rattle.receive_laws.specs.Steps.{Each, Leaves, ReportsInside, OwnReportsSpare}
+
+-- the mark of an entry, of the pass or of another, and the marks that are left after it: the entries of the pass are
+-- marked in turn, and the marked ones are the calls of the driver's receive side
+abbrev pub mark_of : Bool → List Bool → Bool
+mark_of false marks = false
+mark_of true [] = false
+mark_of true (m ∷ marks) = m
+
+abbrev pub marks_after : Bool → List Bool → List Bool
+marks_after false marks = marks
+marks_after true [] = []
+marks_after true (m ∷ marks) = marks
+
+-- a call of the pass that isn't of the driver's receive side: a step of the device, or one that leaves that side
+abbrev pub SparesReceive : ℕ → Receive → State → Entry → Type 0
+SparesReceive queue v s e =
+    IsTrue (is_step e.event) ⊎ (IsFalse (is_step e.event) × Leaves queue v s (after s e.event))
+
+-- what the rest of the driver's pass and the transmit sides owe to the receive side, at an entry
+pub record Spares (w : Watched) (s : State) (v : Receive) (marks : List Bool) (e : Entry) : Type 0 where
+  pub inside : ReportsInside s
+  pub reports : OwnReportsSpare w.queue v s
+  pub unmarked : e.pass ≡ w.pass → IsFalse (mark_of true marks) → SparesReceive w.queue v s e
+
+abbrev pub AllSpare : Watched → State → Receive → List Bool → List Entry → Type 0
+AllSpare w s v marks [] = ⊤
+AllSpare w s v marks (e ∷ es) =
+    Spares w s v marks e
+    × AllSpare w (after s e.event) (after_call v (mark_of (e.pass == w.pass) marks) (call_in e))
+    (marks_after (e.pass == w.pass) marks) es
+
+-- a history of a new device that leaves the queue alone, with the driver's pass. Its first entries end as the queue's
+-- receive side has gone on and nothing is written yet; there the device and the driver agree. Of the others those of
+-- the pass are the driver's, as far as they are marked
+pub record IsDriven (w : Watched) (fifo : ℕ) (start rest : List Entry) (v : Receive) (marks : List Bool) : Type 0 where
+  pub new : IsSound (new_state w.vfs fifo)
+  pub events : AreEvents (start ++ rest)
+  pub legal : IsLegal (new_state w.vfs fifo) (start ++ rest)
+  pub alone : LeavesAlone w (start ++ rest)
+  pub begun : IsTrue (has_begun w.pass start)
+  pub on : pieces_since w.queue (new_state w.vfs fifo) None start ≡ Some []
+  pub agree : Agree w.queue (leads_to (new_state w.vfs fifo) start) [] v
+  pub lent : Each v (λ b. IsTrue (lent_by w.pass (start ++ rest) b))
+  pub own : AllOwn v marks (calls_of w.pass rest)
+  pub spares : AllSpare w (leads_to (new_state w.vfs fifo) start) v marks rest
+
+-- what the driver handed out is a prefix of what the history delivered, since the side last went on
+abbrev pub HandedIsPrefix : Type 0
+HandedIsPrefix =
+    (w : Watched) (fifo : ℕ) (start rest : List Entry) (v : Receive) (marks : List Bool) →
+    IsDriven w fifo start rest v marks →
+    IsPrefixOf (played_by v marks (calls_of w.pass rest)).handed
+    (delivered w.queue (new_state w.vfs fifo) (start ++ rest))
+
+-- a look at a driver's next slot, from a state on, would find it not done, while the driver holds no packet
+pub record FindsNone (s : State) (v : Receive) : Type 0 where
+  pub holds_none : held v.stage ≡ []
+  pub posted : 0 < length v.layout.blocks
+  pub bytes : List ℕ
+  pub reply : reply_to s (event.Peek16 (descriptor_at v.layout 0)) ≡ Bytes bytes
+  pub waits : IsFalse (is_done (second_half bytes))
+
+-- where a look that comes next finds no packet, all that was delivered was handed out
+abbrev pub NoneIsAll : Type 0
+NoneIsAll =
+    (w : Watched) (fifo : ℕ) (start rest : List Entry) (v : Receive) (marks : List Bool) →
+    IsDriven w fifo start rest v marks →
+    FindsNone (leads_to (new_state w.vfs fifo) (start ++ rest)) (played_by v marks (calls_of w.pass rest)) →
+    (played_by v marks (calls_of w.pass rest)).handed ≡ delivered w.queue (new_state w.vfs fifo) (start ++ rest)

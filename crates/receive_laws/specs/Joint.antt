@@ -1,0 +1,108 @@
+-- What the device and a driver agree on, between two events, of the receive side of the driver's queue.
+use Rattle.std.specs.Prelude.{ℕ, ◌≡◌, ◌≢◌, ◌+◌, ◌*◌, ◌<◌, ◌≤◌, List, ◌++◌, length, map, ⊤, IsTrue, IsFalse}
+use Rattle.dma_arena.specs.Memory.{Memory, has_block, read_at}
+use Rattle.dma_ring.specs.Descriptor.{first_half, second_half}
+use Rattle.dma_ring.specs.Receive.{is_done, ends_packet, bytes_in}
+use Rattle.reg_table.specs.declared.rows.RowId.TheVariants.{Rdt}
+use Rattle.register_file.specs.Columns.{place}
+use Rattle.register_file.specs.Sides.{ReceiveQueue, receive_queue_of}
+use Rattle.rx_ring.specs.Control.{descriptor_type_of, buffer_size_of}
+use Rattle.nic_device.specs.Named.{named}
+use Rattle.nic_device.specs.State.{State}
+use Rattle.nic_device.specs.declared.named.Named.TheVariants.{Register}
+use Rattle.pmd_rx.specs.Receive.{Layout, Stage, Looks, Sees, Holding, Lent, Named, Receive, slot_at, descriptor_at, block_at, vacant, held}
+use Rattle.receive_laws.specs.Pieces.{Piece, whole_packet, AllEnd, piece_at}
+
+-- a descriptor that waits: it names its block, and isn't done
+pub record IsPosted (m : Memory) (a block : ℕ) : Type 0 where
+  pub buffer : first_half (read_at m a 16) ≡ 2048 * block
+  pub waits : IsFalse (is_done (second_half (read_at m a 16)))
+  pub there : IsTrue (has_block m block)
+
+-- a descriptor that was written back with a piece, whose bytes are at the head of the block
+pub record IsFilled (m : Memory) (a block : ℕ) (p : Piece) : Type 0 where
+  pub done : IsTrue (is_done (second_half (read_at m a 16)))
+  pub end : ends_packet (second_half (read_at m a 16)) ≡ p.end
+  pub len : bytes_in (second_half (read_at m a 16)) ≡ length p.bytes
+  pub first : first_half (read_at m a 16) ≡ p.first
+  pub bytes : read_at m (2048 * block) (length p.bytes) ≡ p.bytes
+  pub short : length p.bytes ≤ 2048
+  pub there : IsTrue (has_block m block)
+
+-- a ring in one block, of which at least one slot is vacant, and the blocks of its slots: no two are one
+pub record IsRing (l : Layout) : Type 0 where
+  pub some : 0 < l.size
+  pub few : l.size ≤ 128
+  pub next : l.next < l.size
+  pub ring : l.ring < 65536
+  pub room : length l.blocks < l.size
+  pub low : (k : ℕ) → k < length l.blocks → block_at l k < 65536
+  pub not_ring : (k : ℕ) → k < length l.blocks → block_at l k ≢ l.ring
+  pub apart : (i j : ℕ) → i < length l.blocks → j < length l.blocks → i ≢ j → block_at l i ≢ block_at l j
+
+-- the queue's receive side is the driver's: it is on, with one buffer of 2,048 bytes a descriptor, and of its slots so
+-- many are filled and not consumed
+pub record IsSetUp (q : ReceiveQueue) (l : Layout) (filled : ℕ) : Type 0 where
+  pub on : IsTrue q.on
+  pub wanted : IsTrue q.wanted
+  pub one_buffer : descriptor_type_of q.control ≡ 1
+  pub buffer_size : buffer_size_of q.control ≡ 2048
+  pub base : q.ring.base ≡ 2048 * l.ring
+  pub sized : q.ring.length ≡ 16 * l.size
+  pub head : q.ring.head ≡ slot_at l filled
+  pub tail : q.ring.tail ≡ slot_at l (vacant l)
+
+-- the driver's number for the tail names the queue's, at the driver's port
+pub record IsNamed (s : State) (queue : ℕ) (l : Layout) : Type 0 where
+  pub low : queue < 128
+  pub tail : named s l.port l.tail ≡ Register (place Rdt queue) 0xFFFFFFFF
+
+-- a block that is lent and doesn't stand in the ring yet
+pub record IsLoose (m : Memory) (l : Layout) (block : ℕ) : Type 0 where
+  pub low : block < 65536
+  pub not_ring : block ≢ l.ring
+  pub apart : (k : ℕ) → k < length l.blocks → block_at l k ≢ block
+  pub room : length l.blocks + 1 < l.size
+  pub there : IsTrue (has_block m block)
+
+-- what a driver saw of the next slot
+pub record Saw (ps : List Piece) (first second : ℕ) : Type 0 where
+  pub some : 0 < length ps
+  pub first_is : first ≡ (piece_at ps 0).first
+  pub len_is : bytes_in second ≡ length (piece_at ps 0).bytes
+  pub ended : IsTrue (piece_at ps 0).end
+
+abbrev pub StageHolds : Memory → Layout → List Piece → Stage → Type 0
+StageHolds m l ps Looks = ⊤
+StageHolds m l ps (Sees first second) = Saw ps first second
+StageHolds m l ps (Holding p) = ⊤
+StageHolds m l ps (Lent o b) = IsLoose m l b
+StageHolds m l ps (Named o b) = IsLoose m l b × IsPosted m (descriptor_at l (vacant l)) b
+
+-- the slots from the next one on: the first are filled with these pieces, those behind them up to the tail are posted,
+-- and of all others, which are consumed or vacant, nothing is said
+pub record HasSlots (m : Memory) (l : Layout) (here : List Piece) : Type 0 where
+  pub there : IsTrue (has_block m l.ring)
+  pub within : length here ≤ length l.blocks
+  pub filled : (k : ℕ) → k < length here → IsFilled m (descriptor_at l k) (block_at l k) (piece_at here k)
+  pub posted : (k : ℕ) → length here ≤ k → k < length l.blocks → IsPosted m (descriptor_at l k) (block_at l k)
+
+-- the pieces that were written on the queue since its side went on: those that were consumed, each a whole packet that
+-- is held or handed out, and then those that stand in slots
+pub record InOrder (out : List Piece) (v : Receive) (gone here : List Piece) : Type 0 where
+  pub ended : AllEnd gone
+  pub taken : map whole_packet gone ≡ v.handed ++ held v.stage
+  pub order : out ≡ gone ++ here
+
+-- the device and the driver agree, where these pieces were consumed and these stand in slots
+pub record Holds (queue : ℕ) (s : State) (out : List Piece) (v : Receive) (gone here : List Piece) : Type 0 where
+  pub named : IsNamed s queue v.layout
+  pub ring : IsRing v.layout
+  pub side : IsSetUp (receive_queue_of s.registers queue) v.layout (length here)
+  pub slots : HasSlots s.memory v.layout here
+  pub stage : StageHolds s.memory v.layout here v.stage
+  pub order : InOrder out v gone here
+
+-- the device and the driver agree on the queue, since whose receive side went on these pieces were written
+abbrev pub Agree : ℕ → State → List Piece → Receive → Type 0
+Agree queue s out v = (gone : List Piece) × (here : List Piece) × Holds queue s out v gone here

@@ -1,0 +1,6 @@
+pub mod Delivered
+pub mod Histories
+pub mod Joint
+pub mod Pieces
+pub mod Starting
+pub mod Steps

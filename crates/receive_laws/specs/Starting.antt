@@ -1,0 +1,36 @@
+-- What a start of the driver leaves, as the receive side of its queue goes on.
+use Rattle.std.specs.Prelude.{ℕ, ◌≡◌, ◌*◌, ◌<◌, ◌≤◌, [], IsTrue}
+use Rattle.dma_arena.specs.Memory.{has_block}
+use Rattle.register_file.specs.Sides.{ReceiveQueue, receive_queue_of}
+use Rattle.rx_ring.specs.Control.{descriptor_type_of, buffer_size_of}
+use Rattle.nic_device.specs.State.{State}
+use Rattle.nic_device.specs.declared.event.Port.{Port}
+use Rattle.pmd_rx.specs.Receive.{at_start}
+use Rattle.receive_laws.specs.Joint.{Agree, IsNamed}
+
+-- the side is on, with a ring of so many slots from a block's start on, of which none is posted, and one buffer of
+-- 2,048 bytes a descriptor
+pub record IsFreshSide (q : ReceiveQueue) (ring size : ℕ) : Type 0 where
+  pub on : IsTrue q.on
+  pub wanted : IsTrue q.wanted
+  pub one_buffer : descriptor_type_of q.control ≡ 1
+  pub buffer_size : buffer_size_of q.control ≡ 2048
+  pub base : q.ring.base ≡ 2048 * ring
+  pub sized : q.ring.length ≡ 16 * size
+  pub head : q.ring.head ≡ 0
+  pub tail : q.ring.tail ≡ 0
+
+-- the ring is lent, its words are written, and the driver's number names the queue's tail
+pub record IsReady (queue : ℕ) (port : Port) (tail ring size : ℕ) (s : State) : Type 0 where
+  pub some : 0 < size
+  pub few : size ≤ 128
+  pub low : ring < 65536
+  pub named : IsNamed s queue (at_start port tail ring size).layout
+  pub side : IsFreshSide (receive_queue_of s.registers queue) ring size
+  pub there : IsTrue (has_block s.memory ring)
+
+-- there the device and a driver that posted nothing yet agree
+abbrev pub StartAgrees : Type 0
+StartAgrees =
+    (queue : ℕ) (port : Port) (tail ring size : ℕ) (s : State) → IsReady queue port tail ring size s →
+    Agree queue s [] (at_start port tail ring size)

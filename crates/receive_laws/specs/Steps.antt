@@ -1,0 +1,135 @@
+-- What single events do to what the device and a driver agree on.
+use Rattle.std.specs.Prelude.{ℕ, ◌≡◌, ◌≢◌, ◌↔◌, ◌/◌, ◌<◌, List, ◌++◌, length, Some, ⊤, IsTrue}
+use Rattle.dma_arena.specs.Block.{Block}
+use Rattle.dma_arena.specs.Memory.{Avoids, LiesIn}
+use Rattle.dma_ring.specs.Descriptor.{first_half, second_half}
+use Rattle.dma_ring.specs.Receive.{is_done, ends_packet, bytes_in}
+use Rattle.register_file.specs.Pools.{mode_in}
+use Rattle.register_file.specs.declared.dir.Dir.TheVariants.{Rx}
+use Rattle.register_file.specs.Sides.{transmit_queue_of}
+use Rattle.tx_ring.specs.Report.{report_length}
+use Rattle.vf_map.specs.declared.mode.Mode.{Mode}
+use Rattle.device_lock.specs.Alone.{Blocks, EntryLeavesAlone}
+use Rattle.device_lock.specs.declared.alone.Watched.{Watched}
+use Rattle.device_lock.specs.declared.entry.Entry.{Entry}
+use Rattle.nic_device.specs.Footprint.{told_back}
+use Rattle.pmd_base.specs.Events.{is_step}
+use Rattle.nic_device.specs.Sound.{IsSound, IsEvent}
+use Rattle.nic_device.specs.State.{State}
+use Rattle.nic_device.specs.Step.{after, reply_to}
+use Rattle.nic_device.specs.declared.event.Event.{Event}
+use Rattle.nic_device.specs.declared.event.Event.TheVariants as event
+use Rattle.nic_device.specs.declared.event.Reply.{Reply}
+use Rattle.nic_device.specs.declared.event.Reply.TheVariants.{Bytes, Wrote}
+use Rattle.device_laws.specs.Leaving.{LeavesReceive, LeavesBlock}
+use Rattle.pmd_rx.specs.Receive.{Receive, Stage, Looks, Sees, Holding, Lent, Named, IsOwn, drive, descriptor_at, block_at}
+use Rattle.receive_laws.specs.Joint.{Holds, Agree}
+use Rattle.receive_laws.specs.Pieces.{Piece, pieces, piece_at}
+
+-- what a look at the next slot tells: its descriptor is done exactly where the slot is filled, and then tells of the
+-- slot's piece
+pub record TellsSlot (here : List Piece) (d : List ℕ) : Type 0 where
+  pub done : IsTrue (is_done (second_half d)) ↔ (0 < length here)
+  pub end : 0 < length here → ends_packet (second_half d) ≡ (piece_at here 0).end
+  pub len : 0 < length here → bytes_in (second_half d) ≡ length (piece_at here 0).bytes
+  pub first : 0 < length here → first_half d ≡ (piece_at here 0).first
+
+abbrev pub LookTellsSlot : Type 0
+LookTellsSlot =
+    (queue : ℕ) (s : State) (out : List Piece) (v : Receive) (gone here : List Piece) →
+    Holds queue s out v gone here → 0 < length v.layout.blocks → (d : List ℕ) →
+    reply_to s (event.Peek16 (descriptor_at v.layout 0)) ≡ Bytes d → TellsSlot here d
+
+-- of a block that is lent and not posted yet, where there is one
+abbrev pub IfFresh : Stage → (ℕ → Type 0) → Type 0
+IfFresh Looks P = ⊤
+IfFresh (Sees first second) P = ⊤
+IfFresh (Holding p) P = ⊤
+IfFresh (Lent o b) P = P b
+IfFresh (Named o b) P = P b
+
+-- each block that the driver has lent for receiving: the ring's, those of its slots, and a fresh one
+pub record Each (v : Receive) (P : ℕ → Type 0) : Type 0 where
+  pub ring : P v.layout.ring
+  pub blocks : (k : ℕ) → k < length v.layout.blocks → P (block_at v.layout k)
+  pub fresh : IfFresh v.stage P
+
+-- an event leaves the queue's receive side, what numbers name, and the driver's blocks
+pub record Leaves (queue : ℕ) (v : Receive) (old new : State) : Type 0 where
+  pub receive : LeavesReceive queue old new
+  pub mode : mode_in new.registers ≡ mode_in old.registers
+  pub vfs : new.vfs ≡ old.vfs
+  pub blocks : Each v (λ b. LeavesBlock b old new)
+
+-- a descriptor and so many bytes, where there are any, are outside a block
+pub record IsOutside (desc at len b : ℕ) : Type 0 where
+  pub descriptor : Avoids b desc 16
+  pub bytes : 0 < len → Avoids b at len
+
+-- what a step wrote on another queue is in none of the driver's blocks
+abbrev pub SparesBlocks : ℕ → Receive → Reply Block → Type 0
+SparesBlocks queue v (Wrote on slot end desc at len) = on ≢ queue → Each v (λ b. IsOutside desc at len b)
+SparesBlocks queue v other = ⊤
+
+-- what a step of transmitting reports is inside the block that its address is of, as it is where rings and reports are
+-- aligned
+abbrev pub ReportsInside : State → Type 0
+ReportsInside s =
+    (queue back : ℕ) → told_back (reply_to s (event.TxStep queue)) ≡ Some back →
+    LiesIn (back / 2048) back (report_length (transmit_queue_of s.registers queue).writeback)
+
+-- what the queue's own transmit side reports is in none of the blocks that the driver has lent for receiving
+abbrev pub OwnReportsSpare : ℕ → Receive → State → Type 0
+OwnReportsSpare queue v s =
+    (back : ℕ) → told_back (reply_to s (event.TxStep queue)) ≡ Some back → Each v (λ b. b ≢ back / 2048)
+
+-- what an entry that isn't the driver's own is made on: a sound device, whose queues are parted by the mode of the
+-- entries so far
+pub record IsMetBy (w : Watched) (mode : Mode) (s : State) (e : Entry) : Type 0 where
+  pub sound : IsSound s
+  pub vfs : w.vfs ≡ s.vfs
+  pub mode_is : mode ≡ mode_in s.registers
+  pub reply : e.reply ≡ reply_to s e.event
+  pub event : IsEvent e.event
+
+-- an entry of another pass that leaves the queue alone, with all blocks that the driver has lent, keeps the agreement
+abbrev pub ForeignEntryKeeps : Type 0
+ForeignEntryKeeps =
+    (w : Watched) (mine : Blocks) (mode : Mode) (s : State) (out : List Piece) (v : Receive) (e : Entry) →
+    IsMetBy w mode s e → Agree w.queue s out v → Each v (λ b. IsTrue (mine b)) → ReportsInside s →
+    OwnReportsSpare w.queue v s → EntryLeavesAlone w mine mode e → e.pass ≢ w.pass →
+    Agree w.queue (after s e.event) (out ++ pieces w.queue s e.event) v
+
+-- and so does a step of the device, whoever made it
+abbrev pub DeviceStepKeeps : Type 0
+DeviceStepKeeps =
+    (w : Watched) (mine : Blocks) (mode : Mode) (s : State) (out : List Piece) (v : Receive) (e : Entry) →
+    IsMetBy w mode s e → Agree w.queue s out v → Each v (λ b. IsTrue (mine b)) → ReportsInside s →
+    OwnReportsSpare w.queue v s → EntryLeavesAlone w mine mode e → IsTrue (is_step e.event) →
+    Agree w.queue (after s e.event) (out ++ pieces w.queue s e.event) v
+
+-- a step of receiving, of whichever queue, keeps the agreement: on the driver's queue its first posted slot becomes the
+-- last filled one, or nothing changes there
+abbrev pub ReceiveStepKeeps : Type 0
+ReceiveStepKeeps =
+    (queue : ℕ) (s : State) (out : List Piece) (v : Receive) → IsSound s → Agree queue s out v →
+    SparesBlocks queue v (reply_to s event.RxStep) →
+    Agree queue (after s event.RxStep) (out ++ pieces queue s event.RxStep) v
+
+-- a step of the enable of the queue's receive side changes nothing of it: it is on, as it is wanted
+abbrev pub EnableStepKeeps : Type 0
+EnableStepKeeps =
+    (queue : ℕ) (s : State) (out : List Piece) (v : Receive) → Agree queue s out v →
+    Agree queue (after s (event.QueueStep Rx queue)) out v
+
+-- an event that leaves the receive side keeps the agreement
+abbrev pub LeavingKeeps : Type 0
+LeavingKeeps =
+    (queue : ℕ) (s t : State) (out : List Piece) (v : Receive) → Leaves queue v s t → Agree queue s out v →
+    Agree queue t out v
+
+-- each event of the driver's own keeps the agreement, with the driver that it leads to
+abbrev pub OwnEventKeeps : Type 0
+OwnEventKeeps =
+    (queue : ℕ) (s : State) (out : List Piece) (v : Receive) (e : Event Block) → IsSound s → Agree queue s out v →
+    IsOwn v e → Agree queue (after s e) (out ++ pieces queue s e) (drive v e (reply_to s e))

@@ -1,0 +1,55 @@
+//! What the driver hands out is a prefix of what was delivered, over every interleaving that leaves its queue alone.
+//!
+//! The device and the driver agree, between two events, on the slots of the receive ring: which are filled with pieces
+//! of frames, which are posted, and which pieces were consumed. Each law is the contract of a function that does
+//! nothing: what it ensures holds of `step_of`, by which the device makes each event, and of the driver's state as
+//! `pmd_rx` says it follows from the driver's own calls.
+#![tactic(auto)]
+
+ghost use Rattle.receive_laws.specs.Histories.{HandedIsPrefix, NoneIsAll};
+ghost use Rattle.receive_laws.specs.Starting.{StartAgrees};
+ghost use Rattle.receive_laws.specs.Steps.{LookTellsSlot, ReceiveStepKeeps, EnableStepKeeps, LeavingKeeps, OwnEventKeeps, ForeignEntryKeeps, DeviceStepKeeps};
+
+/// A look at the next slot tells done exactly where the slot is filled, and then tells of the slot's piece.
+pub fn look_tells_the_slot()
+    ensures { LookTellsSlot }
+{}
+
+/// A step of receiving, of whichever queue, keeps what the device and the driver agree on: on the driver's queue the
+/// first posted slot becomes the last filled one, or nothing changes there. A fault is impossible.
+pub fn receive_step_keeps_the_agreement()
+    ensures { ReceiveStepKeeps }
+{}
+
+/// An event that leaves the receive side of the queue and the driver's blocks as they were keeps what they agree on,
+/// and so does a step of the side's own enable: the side is on as it is wanted.
+pub fn other_events_keep_the_agreement()
+    ensures leaving { LeavingKeeps }
+    ensures enable { EnableStepKeeps }
+{}
+
+/// Each event of the driver's own keeps what they agree on, with the driver that it leads to: a look, the block of a
+/// seen packet taken, a fresh block lent, the vacant descriptor written, the tail moved on.
+pub fn own_event_keeps_the_agreement()
+    ensures { OwnEventKeeps }
+{}
+
+/// An entry of another pass that leaves the queue alone keeps what they agree on, and so does a step of the device,
+/// whoever made it.
+pub fn foreign_entry_keeps_the_agreement()
+    ensures foreign { ForeignEntryKeeps }
+    ensures step { DeviceStepKeeps }
+{}
+
+/// Over a history of a new device that leaves the driver's queue alone, from a place on where the two agree and the
+/// receive side has gone on: the packets that the driver handed out are a prefix of those that the history delivered
+/// since, and all of them where a look that comes next finds none.
+pub fn handed_packets_are_a_prefix_of_those_delivered()
+    ensures prefix { HandedIsPrefix }
+    ensures all { NoneIsAll }
+{}
+
+/// As the side goes on with its ring lent and its words written, the device and a driver that posted nothing agree.
+pub fn fresh_ring_agrees()
+    ensures { StartAgrees }
+{}

@@ -7,6 +7,8 @@
 mod hosted;
 mod seat;
 mod start;
+#[cfg(test)]
+mod tests;
 
 pub use hosted::run;
 pub use seat::{Seat, Task};

@@ -19,6 +19,7 @@ pub trait Task<E> {
 }
 
 /// A place for a task, and then for its end.
+#[derive(Drop)]
 pub enum Seat<T, E> {
     /// The task isn't done yet.
     Waits(T),

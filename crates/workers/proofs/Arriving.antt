@@ -1,0 +1,40 @@
+-- Frames that arrive one after another.
+use Rattle.std.proofs.Common.{◌≡◌, ℕ, List, [], ◌++◌, map, take, length, refl, sym, ap, ◌∙◌, subst, append_assoc, append-nil}
+use Rattle.std.proofs.lemmas.List.{map-append}
+use Rattle.std.proofs.Math.Seq.{take-append_seam}
+use Rattle.dma_arena.specs.Block.{Block}
+use Rattle.nic_device.specs.declared.event.Event.{Event}
+use Rattle.device_lock.specs.declared.entry.Call.{Call}
+use Rattle.device_lock.specs.Pass.{PassValue}
+use Rattle.nic_device.specs.declared.event.Event.TheVariants.{Arrive}
+use Rattle.workers.specs.Feeding.{HaveArrived, AreFed}
+
+pub none_yet : (p : PassValue) → HaveArrived [] p p
+none_yet p = record {
+  since = [];
+  made = ap (λ (l : List Call). record p { calls = l }) (sym (append-nil p.calls));
+  events = refl;
+}
+
+pub one_more : (frames more : List (List ℕ)) (old mid new : PassValue) → HaveArrived frames old mid
+    → HaveArrived more mid new → HaveArrived (frames ++ more) old new
+one_more frames more old mid new first second = record {
+  since = first.since ++ second.since;
+  made = second.made ∙ ap (λ (p : PassValue). record p { calls = p.calls ++ second.since }) first.made
+      ∙ ap (λ (l : List Call). record old { calls = l }) (append_assoc old.calls first.since second.since);
+  events = map-append (λ (c : Call). c.event) first.since second.since
+      ∙ ap (λ (l : List (Event Block)). l ++ map (λ (c : Call). c.event) second.since) first.events
+      ∙ ap (λ (l : List (Event Block)). map (λ (frame : List ℕ). Arrive frame) frames ++ l) second.events
+      ∙ sym (map-append (λ (frame : List ℕ). Arrive frame) frames more);
+}
+
+first_of : (before rest : List (List ℕ)) → take (length before) (before ++ rest) ≡ before
+first_of before rest = take-append_seam before rest
+
+pub so_many : (before rest all : List (List ℕ)) (old new : PassValue) → before ++ rest ≡ all
+    → HaveArrived before old new → AreFed all old new
+so_many before rest all old new are arrived = (
+  length before,
+  subst (λ (l : List (List ℕ)). HaveArrived l old new)
+      (sym (first_of before rest) ∙ ap (λ (l : List (List ℕ)). take (length before) l) are) arrived,
+)

@@ -1,0 +1,36 @@
+-- Frames that arrive by a pass.
+use Rattle.std.specs.Prelude.{◌≡◌, ℕ, Bool, true, false, List, ◌++◌, length, map, take, drop, count_by}
+use Rattle.dma_arena.specs.Block.{Block}
+use Rattle.nic_device.specs.declared.event.Event.{Event}
+use Rattle.nic_device.specs.declared.event.Event.TheVariants.{Arrive}
+use Rattle.nic_device.specs.declared.event.Reply.{Reply}
+use Rattle.nic_device.specs.declared.event.Reply.TheVariants.{Done}
+use Rattle.device_lock.specs.declared.entry.Call.{Call}
+use Rattle.device_lock.specs.Pass.{PassValue}
+
+-- whether a frame arrives
+abbrev pub arrives : Event Block → Bool
+arrives (Arrive frame) = true
+arrives other = false
+
+abbrev pub is_done : Reply Block → Bool
+is_done Done = true
+is_done other = false
+
+-- how many of these calls were done
+abbrev pub done_in : List Call → ℕ
+done_in calls = count_by (λ (c : Call). is_done c.reply) calls
+
+-- the calls that a pass gained
+abbrev pub gained : PassValue → PassValue → List Call
+gained old new = drop (length old.calls) new.calls
+
+-- each of these frames arrived by the pass, in order, and it made no other call
+pub record HaveArrived (frames : List (List ℕ)) (old new : PassValue) : Type 0 where
+  pub since : List Call
+  pub made : new ≡ record old { calls = old.calls ++ since }
+  pub events : map (λ (c : Call). c.event) since ≡ map (λ (frame : List ℕ). Arrive frame) frames
+
+-- the first so many of these frames arrived
+abbrev pub AreFed : List (List ℕ) → PassValue → PassValue → Type 0
+AreFed frames old new = (count : ℕ) × HaveArrived (take count frames) old new

@@ -1,0 +1,61 @@
+//! What workers are to do.
+
+ghost use Rattle.std.specs.Prelude.{ℕ, ◌<◌, ◌↔◌, IsTrue, IfSome, IfNone, length};
+ghost use Rattle.workers.specs.Overlap.{Share, SharesEarlier, IsFirstToShare};
+
+use device_lock::Pass;
+use dma_arena::Arena;
+use nic_device::Port;
+
+/// What a worker is to do. It can't be dropped.
+pub struct Job {
+    /// The pass that its calls are made by.
+    pub pass: Pass,
+    /// The port of its queue.
+    pub port: Port,
+    /// Its queue, as the port numbers it.
+    pub queue: u16,
+    /// The queue, below 128, whose device steps are made before each of its calls.
+    pub pf_queue: u16,
+    /// How many descriptors each ring has: a multiple of 8 from 8 to 128.
+    pub size: u16,
+    /// The blocks that it has for its driver.
+    pub arena: Arena,
+    /// How often it looks for a packet.
+    pub rounds: u32,
+}
+
+/// Whether two arenas share a number.
+fn share(a: &Arena, b: &Arena) -> bool
+    ensures { IsTrue result ↔ Share a.now b.now }
+{
+    let begins_there = a.owns(b.first());
+    let begins_here = b.owns(a.first());
+    begins_there || begins_here
+}
+
+/// Whether the arena of a job shares a number with that of an earlier one.
+fn shares_earlier(jobs: &[Job], at: usize) -> bool
+    requires { at < length jobs.now }
+    ensures { IsTrue result ↔ SharesEarlier jobs.now at }
+{
+    for earlier in 0..at {
+        if share(&jobs[earlier].arena, &jobs[at].arena) {
+            return true;
+        }
+    }
+    false
+}
+
+/// The first job whose arena shares a number with that of an earlier one.
+pub fn overlap(jobs: &[Job]) -> Option<usize>
+    ensures some { IfSome result (λ n. IsFirstToShare jobs.now n) }
+    ensures none { IfNone result ((n : ℕ) → ¬ SharesEarlier jobs.now n) }
+{
+    for at in 0..jobs.len() {
+        if shares_earlier(jobs, at) {
+            return Some(at);
+        }
+    }
+    None
+}

@@ -1,0 +1,13 @@
+//! Workers of the driver, each on a thread of its own.
+//!
+//! `job.rt` has what a worker is to do, `reports.rt` the way of its reports to the calling thread, and `feeding.rt` the
+//! frames that arrive meanwhile.
+#![tactic(auto)]
+
+mod feeding;
+mod job;
+mod reports;
+
+pub use feeding::feed;
+pub use job::{Job, overlap};
+pub use reports::{Collector, Report};

@@ -1,0 +1,108 @@
+//! The way of a worker's reports to the calling thread.
+
+ghost use Rattle.std.specs.Prelude.{◌≡◌, ◌+◌, ◌<◌, ◌≤◌, vec_len, vec_capacity, length, [], ◌++◌, IfOk, max};
+ghost use Rattle.rtrb.specs.Ring.{sent, received, known_free, known_items, IsPair, SameConsumer};
+
+use rtrb::{Consumer, Producer, RingBuffer};
+use std::alloc::{AllocError, Global};
+
+/// What a worker tells of a packet that it took.
+#[derive(Clone, Copy, PartialEq, Eq, Debug)]
+pub struct Report {
+    /// The job's queue.
+    pub queue: u16,
+    /// How many packets the worker took before.
+    pub number: u32,
+    /// How many bytes the packet has.
+    pub len: u16,
+    /// Its RSS hash, 0 where none was told.
+    pub hash: u32,
+}
+
+/// The end of a worker's reports at the calling thread, and the reports that came.
+#[derive(Drop)]
+pub struct Collector {
+    pub(crate) consumer: Consumer<Report>,
+    pub(crate) reports: Vec<Report>,
+    pub ghost collected: { reports.items ≡ received consumer },
+}
+
+impl Collector {
+    /// A way for so many reports, at most: the worker's end, and the one that collects them. All memory is taken here.
+    pub fn with_room(alloc: Global, most: u32) -> Result<(Producer<Report>, Collector), AllocError>
+        ensures pair { IfOk result (λ r. IsPair r.0 r.1.consumer) }
+        ensures fresh { IfOk result (λ r. (sent r.0 ≡ []) × (r.1.reports.items ≡ [])) }
+        ensures room { IfOk result (λ r. (most ≤ known_free r.0) × (most ≤ vec_capacity r.1.reports)) }
+    {
+        let places = most.max(1) as usize;
+        let reports = Vec::with_capacity(alloc, places)?;
+        let (producer, consumer) = RingBuffer::new(alloc, places)?;
+        Ok((producer, Collector { consumer, reports }))
+    }
+
+    /// Takes the next report, if one has come and there is room.
+    fn take(&mut self) -> bool
+        ensures ring { SameConsumer self.old.consumer self.new.consumer }
+        ensures room { vec_capacity self.new.reports ≡ vec_capacity self.old.reports }
+    {
+        if self.reports.len() >= self.reports.capacity() {
+            return false;
+        }
+        match self.consumer.pop() {
+            Ok(report) => {
+                self.reports.push_reserved(report);
+                true
+            }
+            Err(_) => false,
+        }
+    }
+
+    /// Takes what has come so far, while the worker goes on.
+    pub fn drain(&mut self)
+        ensures ring { SameConsumer self.old.consumer self.new.consumer }
+        ensures room { vec_capacity self.new.reports ≡ vec_capacity self.old.reports }
+    {
+        for _ in 0..self.reports.capacity() {
+            if !self.take() {
+                break;
+            }
+        }
+    }
+
+    /// Takes a report that is known to be there.
+    fn take_known(&mut self)
+        requires { (0 < length (known_items self.old.consumer))
+            × (vec_len self.old.reports < vec_capacity self.old.reports) }
+        ensures room { vec_capacity self.new.reports ≡ vec_capacity self.old.reports }
+        ensures all { received self.new.consumer ++ known_items self.new.consumer
+            ≡ received self.old.consumer ++ known_items self.old.consumer }
+        ensures less { length (known_items self.new.consumer) + 1 ≡ length (known_items self.old.consumer) }
+    {
+        let report = self.consumer.pop_known();
+        self.reports.push_reserved(report);
+    }
+
+    /// All reports, in order, once the worker's end came back.
+    pub fn finish(self, producer: Producer<Report>) -> Vec<Report>
+        requires pair { IsPair producer self.consumer }
+        requires room { length (sent producer) ≤ vec_capacity self.reports }
+        ensures { result.items ≡ sent producer }
+    {
+        let mut rest = self;
+        rest.take_rest(producer);
+        rest.reports
+    }
+
+    /// Takes what is still in the ring.
+    fn take_rest(&mut self, producer: Producer<Report>)
+        requires pair { IsPair producer self.old.consumer }
+        requires room { length (sent producer) ≤ vec_capacity self.old.reports }
+        ensures { self.new.reports.items ≡ sent producer }
+    {
+        let mut producer = producer;
+        let slots = self.consumer.slots_beside(&mut producer);
+        for _ in 0..slots {
+            self.take_known();
+        }
+    }
+}

@@ -18,3 +18,4 @@ pub mod Unique
 pub mod Blank
 pub mod TripleLists
 pub mod Sizes
+pub mod Filled

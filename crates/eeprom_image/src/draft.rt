@@ -1,9 +1,9 @@
 //! What the lines of an EEPROM text give.
 
-ghost use Rattle.std.specs.Prelude.{◌≡◌, ◌+◌, ◌≤◌, ◌<◌, ◌^◌, length};
+ghost use Rattle.std.specs.Prelude.{◌≡◌, ◌+◌, ◌≤◌, ◌<◌, ◌^◌, [], ◌∷◌, length, MatchOption};
 ghost use Rattle.std.specs.Option.{option_map};
-ghost use Rattle.lexer.specs.Lines.{lines_of};
-ghost use Rattle.eeprom_image.specs.Content.{with_line, with_lines, sized, content_of, only_size};
+ghost use Rattle.lexer.specs.Lines.{lines_of, line_of};
+ghost use Rattle.eeprom_image.specs.Content.{filled, with_line, with_lines, sized, content_of, only_size};
 ghost use Rattle.eeprom_image.specs.Line.{text_line};
 ghost use Rattle.eeprom_image.specs.Text.{Gives};
 ghost use Rattle.eeprom_image.specs.Draft.{content_in};
@@ -24,12 +24,20 @@ pub(crate) struct Draft {
     pub(crate) triples: Vec<(u32, u32)>,
 }
 
+/// The next line that isn't empty. The lines behind it are left.
+fn next_filled<'a>(lines: &mut Lines<'a>) -> Option<Line<'a>>
+    ensures cases { MatchOption result (filled lines.old ≡ []) (λ line. filled lines.old ≡ line_of line ∷ lines.new) }
+{
+    lines.skip_empty();
+    lines.next()
+}
+
 /// The size, which the first line gives that isn't empty. The lines behind it are left.
 #[tactic(auto, unfolding(crate::specs::Content::sized))]
 fn read_size(lines: &mut Lines<'_>) -> Result<Option<u32>, AsmFault>
     ensures { Gives (λ size. option_map (λ size. (size, lines.new)) size) result (sized lines.old) }
 {
-    'empty_lines: while let Some(line) = lines.next() {
+    'empty_lines: while let Some(line) = next_filled(lines) {
         match text_line(line.text) {
             TextLine::Empty => {}
             TextLine::Size(size) => return Ok(Some(size)),
@@ -46,9 +54,10 @@ fn line_count(text: &str) -> usize
     ensures value { result ≡ length (lines_of text.now) }
     ensures bound { result < 2 ^ 63 }
 {
-    let mut count = 0;
-    for line in Lines::of(text) {
-        count = line.number;
+    let mut lines = Lines::of(text);
+    let mut count = lines.skip_empty();
+    'filled: while let Some(line) = lines.next() {
+        count = line.number + lines.skip_empty();
     }
     let bytes = text.len();
     prove!(count <= bytes);
@@ -72,10 +81,10 @@ impl Draft {
 
     /// Adds what the lines give.
     #[tactic(auto, unfolding(crate::specs::Content::with_lines))]
-    fn take_lines(&mut self, lines: Lines<'_>) -> Result<(), AsmFault>
+    fn take_lines(&mut self, mut lines: Lines<'_>) -> Result<(), AsmFault>
         ensures { Gives (λ _. content_in self.new) result (with_lines (content_in self.old) lines.entry) }
     {
-        for line in lines {
+        'filled: while let Some(line) = next_filled(&mut lines) {
             self.take_line(line)?;
         }
         Ok(())

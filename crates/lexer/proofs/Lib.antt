@@ -4,3 +4,5 @@ pub mod Blanks
 pub mod FirstWord
 pub mod FirstLine
 pub mod Digits
+pub mod EmptyLine
+pub mod SkippedLines

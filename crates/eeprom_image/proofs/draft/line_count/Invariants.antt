@@ -3,8 +3,11 @@ use Rattle.lexer.specs.Lines.{lines_of}
 use Rattle.eeprom_image.proofs.Numbered.{IsNumberedFrom}
 use Rattle.eeprom_image.proofs.draft.line_count.Given as goal
 
-abbrev pub invariant-loop-line : goal.invariant-loop-line
-invariant-loop-line l = record {
-  numbered : IsNumberedFrom (l.count + 1) l.line-iterator;
-  whole : l.count + length l.line-iterator ≡ length (lines_of l.text);
+abbrev pub invariant-filled : goal.invariant-filled
+invariant-filled l = record {
+  numbered : IsNumberedFrom (l.count + 1) l.lines;
+  whole : l.count + length l.lines ≡ length (lines_of l.text);
 }
+
+abbrev pub decreases-filled : goal.decreases-filled
+decreases-filled l = length l.lines

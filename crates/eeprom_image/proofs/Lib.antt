@@ -19,3 +19,4 @@ pub mod Blank
 pub mod TripleLists
 pub mod Sizes
 pub mod Filled
+pub mod CountedLines

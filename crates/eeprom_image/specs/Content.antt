@@ -1,7 +1,7 @@
 -- What the lines of an EEPROM text give.
-use Rattle.std.specs.Prelude.{◌≡◌, ℕ, ◌+◌, ◌*◌, ◌<◌, ◌%◌, List, [], ◌∷◌, ◌++◌, length, drop, Option, Some, None, Result, Ok, Err, IsTrue}
-use Rattle.std.specs.List.{AllByRecursion, prefix_len}
-use Rattle.lexer.specs.Lines.{NumberedLine, lines_of, is_empty}
+use Rattle.std.specs.Prelude.{◌≡◌, ℕ, ◌+◌, ◌*◌, ◌<◌, ◌%◌, List, [], ◌∷◌, ◌++◌, length, Option, Some, None, Result, Ok, Err, IsTrue}
+use Rattle.std.specs.List.{AllByRecursion}
+use Rattle.lexer.specs.Lines.{NumberedLine, lines_of}
 use Rattle.eeprom_image.specs.Image.{is_size}
 use Rattle.eeprom_image.specs.Line.{text_line}
 use Rattle.eeprom_image.specs.declared.line.TextLine.{TextLine}
@@ -23,10 +23,6 @@ abbrev pub ◌then◌ : {A B : Type 0} → Result A AsmFault → (A → Result B
 -- nothing given yet but the size
 abbrev pub only_size : ℕ → Content
 only_size size = record { size = size; words = []; triples = [] }
-
--- the lines from the first one on that isn't empty
-abbrev pub filled : List NumberedLine → List NumberedLine
-filled lines = drop (prefix_len is_empty lines) lines
 
 -- the content with one line more
 abbrev pub with_line : Content → ℕ → TextLine → Result Content AsmFault

@@ -1,9 +1,9 @@
 //! What the lines of an EEPROM text give.
 
-ghost use Rattle.std.specs.Prelude.{◌≡◌, ◌+◌, ◌≤◌, ◌<◌, ◌^◌, [], ◌∷◌, length, MatchOption};
+ghost use Rattle.std.specs.Prelude.{◌≡◌, ◌+◌, ◌≤◌, ◌<◌, ◌^◌, ◌∷◌, length, None, Ok, MatchOption, IfSome};
 ghost use Rattle.std.specs.Option.{option_map};
 ghost use Rattle.lexer.specs.Lines.{lines_of, line_of};
-ghost use Rattle.eeprom_image.specs.Content.{filled, with_line, with_lines, sized, content_of, only_size};
+ghost use Rattle.eeprom_image.specs.Content.{Content, with_line, with_lines, sized, content_of, only_size};
 ghost use Rattle.eeprom_image.specs.Line.{text_line};
 ghost use Rattle.eeprom_image.specs.Text.{Gives};
 ghost use Rattle.eeprom_image.specs.Draft.{content_in};
@@ -24,9 +24,13 @@ pub(crate) struct Draft {
     pub(crate) triples: Vec<(u32, u32)>,
 }
 
-/// The next line that isn't empty. The lines behind it are left.
+/// The next line that isn't empty: those before it give nothing. The lines behind it are left.
 fn next_filled<'a>(lines: &mut Lines<'a>) -> Option<Line<'a>>
-    ensures cases { MatchOption result (filled lines.old ≡ []) (λ line. filled lines.old ≡ line_of line ∷ lines.new) }
+    ensures sized { MatchOption result (sized lines.old ≡ Ok None)
+        (λ line. sized lines.old ≡ sized (line_of line ∷ lines.new)) }
+    ensures given { (content : Content) → MatchOption result (with_lines content lines.old ≡ Ok content)
+        (λ line. with_lines content lines.old ≡ with_lines content (line_of line ∷ lines.new)) }
+    ensures shorter { IfSome result (λ line. length lines.new < length lines.old) }
 {
     lines.skip_empty();
     lines.next()

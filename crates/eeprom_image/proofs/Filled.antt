@@ -1,5 +1,5 @@
 -- Empty lines give nothing.
-use Rattle.std.proofs.Common.{refl, sym, ap, ◌∙◌, ◌≡◌, ℕ, suc, ◌+◌, Bool, true, false, cond, List, [], ◌∷◌, drop, length, length-drop, ◌<◌, Result, Ok, Err, Option, Some, None, MatchOption, IfSome, inl, inr, arith}
+use Rattle.std.proofs.Common.{refl, sym, ap, ◌∙◌, ◌≡◌, ℕ, suc, ◌+◌, true, false, cond, List, [], ◌∷◌, drop, length, length-drop, ◌<◌, Ok, Option, Some, None, MatchOption, IfSome, inl, inr, arith}
 use Rattle.std.specs.List.{prefix_len}
 use Rattle.std.proofs.lemmas.Bool.{cases_Bool}
 use Rattle.std.specs.Iterator.{YieldsFirstBy}

@@ -5,6 +5,7 @@ pub mod Files
 pub mod LineCount
 pub mod Numbered
 pub mod Layouts
+pub mod LaidOut
 pub mod Checksums
 pub mod Pointers
 pub mod LineContents

@@ -13,6 +13,9 @@ use crate::text::AsmFault;
 use lexer::{Line, Lines};
 use std::alloc::Global;
 
+/// How many bytes a line takes at least that gives a word or a register write, so that neither list grows.
+const LINE_LENGTH: usize = 8;
+
 /// What the lines so far give.
 #[derive(Drop)]
 pub(crate) struct Draft {
@@ -106,8 +109,8 @@ pub(crate) fn read(alloc: Global, text: &str) -> Result<Draft, AsmFault>
     };
     let mut draft = Draft {
         size,
-        words: Vec::new(alloc),
-        triples: Vec::new(alloc),
+        words: Vec::with_capacity(alloc, text.len() / LINE_LENGTH)?,
+        triples: Vec::with_capacity(alloc, text.len() / LINE_LENGTH)?,
     };
     draft.take_lines(lines)?;
     Ok(draft)

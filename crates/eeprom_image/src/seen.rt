@@ -11,7 +11,7 @@ use std::collections::BTreeSet;
 const COUNT_LIMIT: usize = 0x40_0000;
 
 /// How many places a table has for each index that may come.
-const PLACES_EACH: usize = 4;
+const PLACES_EACH: usize = 2;
 
 /// A set of indexes.
 ///

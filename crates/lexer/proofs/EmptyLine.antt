@@ -3,9 +3,9 @@ use Rattle.std.proofs.Common.{refl, ap, ◌∙◌, ◌≡◌, ◌≢◌, ℕ, ze
 use Rattle.std.specs.List.{prefix_len, slice_split, onto_first}
 use Rattle.std.specs.Str.Lines.{lines, lines_of_parts, strip_carriage_return}
 use Rattle.std.proofs.lemmas.Bool.Decides.{eqb_tells, nat_tests}
-use Rattle.std.proofs.lemmas.List.Splits.{slice_split-cons_yes, slice_split-cons_no}
+use Rattle.std.proofs.lemmas.List.Splits.{slice_split-cons_no}
 use Rattle.lexer.specs.Lines.{is_nothing}
-use Rattle.lexer.proofs.Parts.{HasFirst, slice_split-HasFirst}
+use Rattle.lexer.proofs.Parts.{slice_split-HasFirst}
 use Rattle.lexer.proofs.FirstLine.{more_parts}
 
 abbrev ends_line : ℕ → Bool

@@ -1,5 +1,5 @@
 -- Lines whose first ones are gone past.
-use Rattle.std.proofs.Common.{refl, sym, ap, ◌∙◌, ◌≡◌, ℕ, ◌+◌, List, [], ◌∷◌, drop, drop-drop, arith}
+use Rattle.std.proofs.Common.{refl, ap, ◌∙◌, ◌≡◌, ℕ, ◌+◌, List, [], ◌∷◌, drop, drop-drop, arith}
 use Rattle.std.specs.List.{prefix_len}
 use Rattle.lexer.specs.Lines.{NumberedLine, numbered_from, is_nothing, is_empty}
 

@@ -1,4 +1,4 @@
-use Rattle.std.proofs.Common.{◌≡◌, ◌≤◌, ◌+◌, ap, sym, subst, length, arith}
+use Rattle.std.proofs.Common.{◌≡◌, ◌+◌, ap, sym, subst, length, arith}
 use Rattle.lexer.specs.Lines.{lines_of, line_of}
 use Rattle.eeprom_image.proofs.LineCount.{length-lines_of-le}
 use Rattle.eeprom_image.proofs.Numbered.{IsNumberedFrom, IsNumberedFrom-lines_of}

@@ -1,4 +1,4 @@
-use Rattle.std.proofs.Common.{◌≡◌, ◌∙◌, ap, subst, drop}
+use Rattle.std.proofs.Common.{◌∙◌, ap, subst, drop}
 use Rattle.std.specs.Iterator.{YieldsFirstBy}
 use Rattle.lexer.specs.Lines.{line_of}
 use Rattle.eeprom_image.proofs.Filled.{sized-next, with_lines-next, shorter-next}

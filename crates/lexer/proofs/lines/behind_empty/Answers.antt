@@ -1,7 +1,7 @@
-use Rattle.std.proofs.Common.{rules, lit<}
+use Rattle.std.proofs.Common.{lit<}
 use Rattle.std.proofs.lemmas.Option.{MatchOption-at_none}
 use Rattle.std.proofs.lemmas.Str.Pattern.{strip_prefix_char}
-use Rattle.lexer.proofs.EmptyLine.{lines-line_feed, lines-return, lines-filled, lines-behind_return}
+use Rattle.lexer.proofs.EmptyLine.{lines-behind_return}
 use Rattle.lexer.proofs.lines.behind_empty.Goals as goal
 
 pub returns-in-None-clause-cases : goal.returns-in-None-clause-cases

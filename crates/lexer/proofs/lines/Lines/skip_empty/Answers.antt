@@ -1,4 +1,4 @@
-use Rattle.std.proofs.Common.{◌+◌, ap, sym, ◌∙◌, arith}
+use Rattle.std.proofs.Common.{◌+◌, arith}
 use Rattle.std.specs.Str.Lines.{lines}
 use Rattle.lexer.specs.Lines.{numbered_from}
 use Rattle.lexer.proofs.SkippedLines.{numbered_from-behind, empties-more, empties-none, drop-next}

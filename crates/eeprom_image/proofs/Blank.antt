@@ -6,7 +6,7 @@ use Rattle.eeprom_image.specs.Fault.{content_fault, points_inside}
 use Rattle.eeprom_image.specs.Image.{IsImage, blank}
 use Rattle.eeprom_image.specs.Text.{IsImageOf}
 use Rattle.eeprom_image.specs.Triples.{triples_of}
-use Rattle.eeprom_image.proofs.Layouts.{IsLaidOut-put}
+use Rattle.eeprom_image.proofs.LaidOut.{IsLaidOut-put}
 use Rattle.eeprom_image.proofs.Unique.{image_of_laid_out}
 
 right : IsContent (only_size 64)

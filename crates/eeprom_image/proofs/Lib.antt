@@ -5,6 +5,7 @@ pub mod Files
 pub mod LineCount
 pub mod Numbered
 pub mod Layouts
+pub mod LaidOut
 pub mod Checksums
 pub mod Pointers
 pub mod LineContents
@@ -18,3 +19,5 @@ pub mod Unique
 pub mod Blank
 pub mod TripleLists
 pub mod Sizes
+pub mod Filled
+pub mod CountedLines

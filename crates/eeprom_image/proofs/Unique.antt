@@ -12,7 +12,7 @@ use Rattle.eeprom_image.specs.Fault.{content_fault}
 use Rattle.eeprom_image.specs.Text.{is_behind, IsImageOf, checked_by, sound_content}
 use Rattle.eeprom_image.specs.Layout.{put_word, with_csr, with_checksum, IsLaidOut}
 use Rattle.eeprom_image.specs.declared.text.AsmFault.{AsmFault}
-use Rattle.eeprom_image.proofs.Layouts.{IsLaidOut-put}
+use Rattle.eeprom_image.proofs.LaidOut.{IsLaidOut-put}
 use Rattle.eeprom_image.proofs.Checksums.{checked_sum-set}
 use Rattle.eeprom_image.proofs.Contents.{content_of-right}
 use Rattle.eeprom_image.proofs.Faultless.{size_bounds, fits_end, sound_parts}

@@ -10,3 +10,4 @@ pub mod Fault
 pub mod Text
 pub mod Draft
 pub mod Layout
+pub mod Seen

@@ -1,9 +1,9 @@
 //! What the lines of an EEPROM text give.
 
-ghost use Rattle.std.specs.Prelude.{◌≡◌, ◌+◌, ◌≤◌, ◌<◌, ◌^◌, length};
+ghost use Rattle.std.specs.Prelude.{◌≡◌, ◌+◌, ◌≤◌, ◌<◌, ◌^◌, ◌∷◌, length, None, Ok, MatchOption, IfSome};
 ghost use Rattle.std.specs.Option.{option_map};
-ghost use Rattle.lexer.specs.Lines.{lines_of};
-ghost use Rattle.eeprom_image.specs.Content.{with_line, with_lines, sized, content_of, only_size};
+ghost use Rattle.lexer.specs.Lines.{lines_of, line_of};
+ghost use Rattle.eeprom_image.specs.Content.{Content, with_line, with_lines, sized, content_of, only_size};
 ghost use Rattle.eeprom_image.specs.Line.{text_line};
 ghost use Rattle.eeprom_image.specs.Text.{Gives};
 ghost use Rattle.eeprom_image.specs.Draft.{content_in};
@@ -12,6 +12,9 @@ use crate::line::{TextLine, text_line};
 use crate::text::AsmFault;
 use lexer::{Line, Lines};
 use std::alloc::Global;
+
+/// How many bytes a line takes at least that gives a word or a register write, so that neither list grows.
+const LINE_LENGTH: usize = 8;
 
 /// What the lines so far give.
 #[derive(Drop)]
@@ -24,12 +27,24 @@ pub(crate) struct Draft {
     pub(crate) triples: Vec<(u32, u32)>,
 }
 
+/// The next line that isn't empty: those before it give nothing. The lines behind it are left.
+fn next_filled<'a>(lines: &mut Lines<'a>) -> Option<Line<'a>>
+    ensures sized { MatchOption result (sized lines.old ≡ Ok None)
+        (λ line. sized lines.old ≡ sized (line_of line ∷ lines.new)) }
+    ensures given { (content : Content) → MatchOption result (with_lines content lines.old ≡ Ok content)
+        (λ line. with_lines content lines.old ≡ with_lines content (line_of line ∷ lines.new)) }
+    ensures shorter { IfSome result (λ line. length lines.new < length lines.old) }
+{
+    lines.skip_empty();
+    lines.next()
+}
+
 /// The size, which the first line gives that isn't empty. The lines behind it are left.
 #[tactic(auto, unfolding(crate::specs::Content::sized))]
 fn read_size(lines: &mut Lines<'_>) -> Result<Option<u32>, AsmFault>
     ensures { Gives (λ size. option_map (λ size. (size, lines.new)) size) result (sized lines.old) }
 {
-    'empty_lines: while let Some(line) = lines.next() {
+    'empty_lines: while let Some(line) = next_filled(lines) {
         match text_line(line.text) {
             TextLine::Empty => {}
             TextLine::Size(size) => return Ok(Some(size)),
@@ -46,9 +61,10 @@ fn line_count(text: &str) -> usize
     ensures value { result ≡ length (lines_of text.now) }
     ensures bound { result < 2 ^ 63 }
 {
-    let mut count = 0;
-    for line in Lines::of(text) {
-        count = line.number;
+    let mut lines = Lines::of(text);
+    let mut count = lines.skip_empty();
+    'filled: while let Some(line) = lines.next() {
+        count = line.number + lines.skip_empty();
     }
     let bytes = text.len();
     prove!(count <= bytes);
@@ -72,10 +88,10 @@ impl Draft {
 
     /// Adds what the lines give.
     #[tactic(auto, unfolding(crate::specs::Content::with_lines))]
-    fn take_lines(&mut self, lines: Lines<'_>) -> Result<(), AsmFault>
+    fn take_lines(&mut self, mut lines: Lines<'_>) -> Result<(), AsmFault>
         ensures { Gives (λ _. content_in self.new) result (with_lines (content_in self.old) lines.entry) }
     {
-        for line in lines {
+        'filled: while let Some(line) = next_filled(&mut lines) {
             self.take_line(line)?;
         }
         Ok(())
@@ -93,8 +109,8 @@ pub(crate) fn read(alloc: Global, text: &str) -> Result<Draft, AsmFault>
     };
     let mut draft = Draft {
         size,
-        words: Vec::new(alloc),
-        triples: Vec::new(alloc),
+        words: Vec::with_capacity(alloc, text.len() / LINE_LENGTH)?,
+        triples: Vec::with_capacity(alloc, text.len() / LINE_LENGTH)?,
     };
     draft.take_lines(lines)?;
     Ok(draft)

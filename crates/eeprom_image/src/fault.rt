@@ -1,16 +1,14 @@
 //! The faults of what a text gives, but for its pointers.
 
-ghost use Rattle.std.specs.Prelude.{◌≡◌, ℕ, ◌==◌, ◌||◌, nat_lt, filter, IfOk, OnOk};
+ghost use Rattle.std.specs.Prelude.{◌≡◌, nat_lt, filter, IfOk};
 ghost use Rattle.std.specs.List.{list_all};
-ghost use Rattle.std.specs.Ordering.{nat_cmp};
-ghost use Rattle.std.specs.BTreeSet.{contains};
 ghost use Rattle.eeprom_image.specs.Fault.{lesser, least, given_again, indexes, section_end, is_reserved, fits};
 ghost use Rattle.eeprom_image.specs.Draft.{content_in};
 
 use crate::draft::Draft;
 use crate::section::CSR_POINTER;
+use crate::seen::Seen;
 use std::alloc::{AllocError, Global};
-use std::collections::BTreeSet;
 
 /// Where the checksum stands.
 pub(crate) const CHECKSUM_INDEX: usize = 0x3F;
@@ -27,16 +25,6 @@ fn lesser(n: u32, other: Option<u32>) -> Option<u32>
     }
 }
 
-/// Whether an index is among those seen before. It is from now on.
-fn comes_again(seen: &mut BTreeSet<u32>, index: u32) -> Result<bool, AllocError>
-    ensures again { IfOk result (λ again. again ≡ contains nat_cmp seen.old index) }
-    ensures seen { OnOk result ((other : ℕ) →
-        contains nat_cmp seen.new other ≡ ((index == other) || contains nat_cmp seen.old other)) }
-{
-    let is_new = seen.insert(index)?;
-    Ok(!is_new)
-}
-
 /// The lowest index that is given twice.
 pub(crate) fn lowest_given_again(
     alloc: Global,
@@ -44,11 +32,11 @@ pub(crate) fn lowest_given_again(
 ) -> Result<Option<u32>, AllocError>
     ensures { IfOk result (λ lowest. lowest ≡ least (given_again (indexes words.now))) }
 {
-    let mut behind = BTreeSet::new(alloc);
+    let mut behind = Seen::with_room(alloc, words.len())?;
     let mut lowest = None;
     for i in (0..words.len()).rev() {
         let index = words[i].0;
-        if comes_again(&mut behind, index)? {
+        if behind.comes_again(index)? {
             lowest = lesser(index, lowest);
         }
     }

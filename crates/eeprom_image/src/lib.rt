@@ -14,6 +14,7 @@ mod image;
 mod layout;
 mod line;
 mod section;
+mod seen;
 mod text;
 mod triples;
 mod words;

@@ -1,42 +1,39 @@
 -- The first word of a text.
-use Rattle.std.proofs.Common.{refl, sym, ap, subst, ◌∙◌, ◌≡◌, ℕ, suc, ◌+◌, ◌==◌, ◌||◌, not, Bool, true, false, cond, List, [], ◌∷◌, length, take, drop, filter, inl, inr, arith}
+use Rattle.std.proofs.Common.{refl, sym, ap, ◌∙◌, ◌≡◌, ℕ, suc, ◌+◌, ◌==◌, ◌||◌, not, Bool, true, false, cond, List, [], ◌∷◌, length, take, drop, filter, inl, inr, arith}
 use Rattle.std.specs.List.{position_or_len, before_first, slice_split, onto_first}
-use Rattle.std.proofs.lemmas.Bool.{cases_Bool, eqb-true}
+use Rattle.std.proofs.lemmas.Bool.{cases_Bool}
 use Rattle.std.proofs.lemmas.List.Splits.{slice_split-cons_yes, slice_split-cons_no}
-use Rattle.std.proofs.lemmas.Bool.Decides.{nat_tests}
-use Rattle.lexer.specs.Words.{is_blank, ends_word, words_between_blanks, words_of}
 
-take_next : (n byte : ℕ) (more : List ℕ) → take (1 + n) (byte ∷ more) ≡ byte ∷ take n more
+pub take_next : (n byte : ℕ) (more : List ℕ) → take (1 + n) (byte ∷ more) ≡ byte ∷ take n more
 take_next n byte more = let next : 1 + n ≡ suc n = omega arith in ap (λ k. take k (byte ∷ more)) next
 
-drop_next : (n byte : ℕ) (more : List ℕ) → drop (1 + n) (byte ∷ more) ≡ drop n more
+pub drop_next : (n byte : ℕ) (more : List ℕ) → drop (1 + n) (byte ∷ more) ≡ drop n more
 drop_next n byte more = let next : 1 + n ≡ suc n = omega arith in ap (λ k. drop k (byte ∷ more)) next
 
-position-yes : (test : ℕ → Bool) (byte : ℕ) (more : List ℕ) → test byte ≡ true → position_or_len test (byte ∷ more) ≡ 0
+pub position-yes : (test : ℕ → Bool) (byte : ℕ) (more : List ℕ) → test byte ≡ true → position_or_len test (byte ∷ more) ≡ 0
 position-yes test byte more hit = ap (λ b. cond (not b) (1 + position_or_len test more) 0) hit
 
-position-no : (test : ℕ → Bool) (byte : ℕ) (more : List ℕ) → test byte ≡ false
+pub position-no : (test : ℕ → Bool) (byte : ℕ) (more : List ℕ) → test byte ≡ false
     → position_or_len test (byte ∷ more) ≡ 1 + position_or_len test more
 position-no test byte more miss = ap (λ b. cond (not b) (1 + position_or_len test more) 0) miss
 
-abbrev filled : List (List ℕ) → List (List ℕ)
+abbrev pub filled : List (List ℕ) → List (List ℕ)
 filled parts = filter (λ part. not (length part == 0)) parts
 
 -- The parts of a text before the first byte that hash takes, which is cut at each byte that blank takes.
-abbrev parts_of : (ℕ → Bool) → (ℕ → Bool) → List ℕ → List (List ℕ)
+abbrev pub parts_of : (ℕ → Bool) → (ℕ → Bool) → List ℕ → List (List ℕ)
 parts_of hash blank text = slice_split blank (before_first hash text)
 
-parts-hash : (hash blank : ℕ → Bool) (byte : ℕ) (more : List ℕ) → hash byte ≡ true
+pub parts-hash : (hash blank : ℕ → Bool) (byte : ℕ) (more : List ℕ) → hash byte ≡ true
     → parts_of hash blank (byte ∷ more) ≡ [] ∷ []
-parts-hash hash blank byte more hit =
-    ap (λ n. slice_split blank (take n (byte ∷ more))) (position-yes hash byte more hit)
+parts-hash hash blank byte more hit = ap (λ n. slice_split blank (take n (byte ∷ more))) (position-yes hash byte more hit)
 
 before-next : (hash : ℕ → Bool) (byte : ℕ) (more : List ℕ) → hash byte ≡ false
     → before_first hash (byte ∷ more) ≡ byte ∷ before_first hash more
 before-next hash byte more miss =
     ap (λ n. take n (byte ∷ more)) (position-no hash byte more miss) ∙ take_next (position_or_len hash more) byte more
 
-parts-blank : (hash blank : ℕ → Bool) (byte : ℕ) (more : List ℕ) → hash byte ≡ false → blank byte ≡ true
+pub parts-blank : (hash blank : ℕ → Bool) (byte : ℕ) (more : List ℕ) → hash byte ≡ false → blank byte ≡ true
     → parts_of hash blank (byte ∷ more) ≡ [] ∷ parts_of hash blank more
 parts-blank hash blank byte more plain hit =
     ap (slice_split blank) (before-next hash byte more plain)
@@ -48,10 +45,10 @@ parts-other hash blank byte more plain miss =
     ap (slice_split blank) (before-next hash byte more plain)
     ∙ slice_split-cons_no blank byte (before_first hash more) miss
 
-abbrev ends : (ℕ → Bool) → (ℕ → Bool) → ℕ → Bool
+abbrev pub ends : (ℕ → Bool) → (ℕ → Bool) → ℕ → Bool
 ends hash blank byte = hash byte || blank byte
 
-abbrev end_in : (ℕ → Bool) → (ℕ → Bool) → List ℕ → ℕ
+abbrev pub end_in : (ℕ → Bool) → (ℕ → Bool) → List ℕ → ℕ
 end_in hash blank text = position_or_len (ends hash blank) text
 
 -- the first part ends at the first end of a word, and the parts with a byte behind it are those of what is left
@@ -80,8 +77,7 @@ first-on hash blank byte more plain other (others, parts, same) =
     let behind : drop (end_in hash blank (byte ∷ more)) (byte ∷ more) ≡ drop (end_in hash blank more) more =
     ap (λ n. drop n (byte ∷ more)) next ∙ drop_next (end_in hash blank more) byte more in (
       others,
-      parts-other hash blank byte more plain other ∙ ap (onto_first byte) parts
-        ∙ ap (λ first. first ∷ others) (sym front),
+      parts-other hash blank byte more plain other ∙ ap (onto_first byte) parts ∙ ap (λ first. first ∷ others) (sym front),
       same ∙ ap (λ text. filled (parts_of hash blank text)) (sym behind),
     )
 
@@ -90,8 +86,7 @@ first-part hash blank [] = ([], refl, refl)
 first-part hash blank (byte ∷ more) =
     let rest = first-part hash blank more in
     elim (cases_Bool (hash byte)) [
-      | inl hit ↦
-          first-stop hash blank byte more [] (ap (λ b. b || blank byte) hit) (parts-hash hash blank byte more hit)
+      | inl hit ↦ first-stop hash blank byte more [] (ap (λ b. b || blank byte) hit) (parts-hash hash blank byte more hit)
       | inr plain ↦ elim (cases_Bool (blank byte)) [
         | inl hit ↦ first-stop hash blank byte more (parts_of hash blank more) (ap (λ b. b || blank byte) plain ∙ hit)
             (parts-blank hash blank byte more plain hit)
@@ -100,97 +95,10 @@ first-part hash blank (byte ∷ more) =
     ]
 
 -- what stands before the first end of a word is the first word, where it has a byte
-filled-some : (hash blank : ℕ → Bool) (text : List ℕ) → (length (take (end_in hash blank text) text) == 0) ≡ false
+pub filled-some : (hash blank : ℕ → Bool) (text : List ℕ) → (length (take (end_in hash blank text) text) == 0) ≡ false
     → filled (parts_of hash blank text)
     ≡ take (end_in hash blank text) text ∷ filled (parts_of hash blank (drop (end_in hash blank text) text))
 filled-some hash blank text long =
     let (others, parts, same) = first-part hash blank text in
     let first = take (end_in hash blank text) text in
     ap filled parts ∙ ap (λ b. cond (not b) (first ∷ filled others) (filled others)) long ∙ ap (λ l. first ∷ l) same
-
--- a text begins with no blank
-abbrev BeginsUnblank : (ℕ → Bool) → List ℕ → Type 0
-BeginsUnblank blank [] = Unit {0}
-BeginsUnblank blank (byte ∷ more) = blank byte ≡ false
-
--- where nothing stands before the first end of a word, and that is no blank, there are no words
-filled-none : (hash blank : ℕ → Bool) (text : List ℕ) → BeginsUnblank blank text
-    → (length (take (end_in hash blank text) text) == 0) ≡ true → filled (parts_of hash blank text) ≡ []
-filled-none hash blank [] begins empty = refl
-filled-none hash blank (byte ∷ more) begins empty = elim (cases_Bool (hash byte)) [
-  | inl hit ↦ ap filled (parts-hash hash blank byte more hit)
-  | inr plain ↦
-      let goes_on : ends hash blank byte ≡ false = ap (λ b. b || blank byte) plain ∙ begins in
-      let next = position-no (ends hash blank) byte more goes_on in
-      let front = ap (λ n. length (take n (byte ∷ more))) next
-      ∙ ap length (take_next (end_in hash blank more) byte more) in
-      absurd (omega (arith, eqb-true (length (take (end_in hash blank (byte ∷ more)) (byte ∷ more))) 0 empty, front))
-]
-
-abbrev front_of : (ℕ → Bool) → List ℕ → ℕ
-front_of blank text = position_or_len (λ byte. not (blank byte)) text
-
--- behind the blanks in front the same words stand, and no blank
-abbrev Behind : (ℕ → Bool) → (ℕ → Bool) → List ℕ → Type 0
-Behind hash blank text = BeginsUnblank blank (drop (front_of blank text) text)
-    × (filled (parts_of hash blank text) ≡ filled (parts_of hash blank (drop (front_of blank text) text)))
-
-behind-blank : (hash blank : ℕ → Bool) (byte : ℕ) (more : List ℕ) → hash byte ≡ false → blank byte ≡ true
-    → Behind hash blank more → Behind hash blank (byte ∷ more)
-behind-blank hash blank byte more plain hit (begins, same) =
-    let next = position-no (λ b. not (blank b)) byte more (ap not hit) in
-    let behind : drop (front_of blank (byte ∷ more)) (byte ∷ more) ≡ drop (front_of blank more) more =
-    ap (λ n. drop n (byte ∷ more)) next ∙ drop_next (front_of blank more) byte more in (
-      subst (BeginsUnblank blank) (sym behind) begins,
-      ap filled (parts-blank hash blank byte more plain hit) ∙ same
-          ∙ ap (λ text. filled (parts_of hash blank text)) (sym behind),
-    )
-
-behind-other : (hash blank : ℕ → Bool) (byte : ℕ) (more : List ℕ) → blank byte ≡ false
-    → Behind hash blank (byte ∷ more)
-behind-other hash blank byte more other =
-    let none = position-yes (λ b. not (blank b)) byte more (ap not other) in
-    let behind : drop (front_of blank (byte ∷ more)) (byte ∷ more) ≡ byte ∷ more =
-    ap (λ n. drop n (byte ∷ more)) none in (
-      subst (BeginsUnblank blank) (sym behind) other,
-      ap (λ text. filled (parts_of hash blank text)) (sym behind),
-    )
-
-behind-blanks : (hash blank : ℕ → Bool) → ((byte : ℕ) → blank byte ≡ true → hash byte ≡ false) → (text : List ℕ)
-    → Behind hash blank text
-behind-blanks hash blank apart [] = (tt, refl)
-behind-blanks hash blank apart (byte ∷ more) =
-    let rest = behind-blanks hash blank apart more in
-    elim (cases_Bool (blank byte)) [
-      | inl hit ↦ behind-blank hash blank byte more (apart byte hit) hit rest
-      | inr other ↦ behind-other hash blank byte more other
-    ]
-
-abbrev is_hash : ℕ → Bool
-is_hash byte = byte == 35
-
-blank-apart : (byte : ℕ) → is_blank byte ≡ true → is_hash byte ≡ false
-blank-apart byte blank = grind (arith, nat_tests)
-
--- a text without a byte before the end of its first word has no words
-pub words-none : (text rest word : List ℕ) → rest ≡ drop (position_or_len (λ byte. not (is_blank byte)) text) text
-    → word ≡ take (position_or_len ends_word rest) rest → (length word == 0) ≡ true → words_of text ≡ []
-unfolding words_of words_between_blanks
-words-none text rest word is_rest is_word empty =
-    let (begins, same) = behind-blanks is_hash is_blank blank-apart text in
-    let starts : BeginsUnblank is_blank rest = subst (BeginsUnblank is_blank) (sym is_rest) begins in
-    same ∙ ap (λ t. filled (parts_of is_hash is_blank t)) (sym is_rest)
-    ∙ filled-none is_hash is_blank rest starts (ap (λ w. length w == 0) (sym is_word) ∙ empty)
-
--- the first word, and those behind it
-pub words-some : (text rest word behind : List ℕ)
-    → rest ≡ drop (position_or_len (λ byte. not (is_blank byte)) text) text
-    → word ≡ take (position_or_len ends_word rest) rest → behind ≡ drop (position_or_len ends_word rest) rest
-    → (length word == 0) ≡ false → words_of text ≡ word ∷ words_of behind
-unfolding words_of words_between_blanks
-words-some text rest word behind is_rest is_word is_behind long =
-    let (begins, same) = behind-blanks is_hash is_blank blank-apart text in
-    same ∙ ap (λ t. filled (parts_of is_hash is_blank t)) (sym is_rest)
-    ∙ filled-some is_hash is_blank rest (ap (λ w. length w == 0) (sym is_word) ∙ long)
-    ∙ ap (λ w. w ∷ filled (parts_of is_hash is_blank (drop (position_or_len ends_word rest) rest))) (sym is_word)
-    ∙ ap (λ b. word ∷ filled (parts_of is_hash is_blank b)) (sym is_behind)

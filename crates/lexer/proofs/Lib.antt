@@ -2,5 +2,8 @@ pub mod HexData
 pub mod Parts
 pub mod Blanks
 pub mod FirstWord
+pub mod WordsBehind
 pub mod FirstLine
 pub mod Digits
+pub mod EmptyLine
+pub mod SkippedLines

@@ -24,7 +24,9 @@ fn fault_of(error: FromHexError) -> HexFault
 {
     match error {
         FromHexError::OutOfMemory => HexFault::OutOfMemory,
-        _ => HexFault::Malformed,
+        FromHexError::InvalidHexCharacter { .. }
+        | FromHexError::OddLength
+        | FromHexError::InvalidStringLength => HexFault::Malformed,
     }
 }
 

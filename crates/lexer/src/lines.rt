@@ -1,9 +1,10 @@
 //! Lines.
 
-ghost use Rattle.std.specs.Prelude.{◌≡◌, ◌<◌, [], ◌∷◌, length, MatchOption, IfSome};
+ghost use Rattle.std.specs.Prelude.{◌≡◌, ◌≢◌, ◌<◌, ℕ, List, [], ◌∷◌, length, MatchOption, IfSome};
 ghost use Rattle.std.specs.Str.Lines.{lines, strip_carriage_return};
 ghost use Rattle.std.specs.Iterator.{YieldsFirstBy, item_count};
-ghost use Rattle.lexer.specs.Lines.{lines_of};
+ghost use Rattle.std.specs.List.{prefix_len};
+ghost use Rattle.lexer.specs.Lines.{lines_of, is_nothing};
 
 use std::marker::Model;
 
@@ -41,7 +42,33 @@ impl<'a> Model for Lines<'a> {
     ghost invariant = { λ a. a.before + length a.rest.now < 2 ^ 64 };
 }
 
+/// What stands behind a carriage return and a line feed in front.
+fn behind_return(text: &str) -> Option<&str>
+    ensures cases { MatchOption result ((rest : List ℕ) → text.now ≢ 13 ∷ 10 ∷ rest)
+        (λ behind. text.now ≡ 13 ∷ 10 ∷ behind.now) }
+{
+    match text.strip_prefix('\r') {
+        Some(behind) => behind.strip_prefix('\n'),
+        None => None,
+    }
+}
+
+/// What stands behind the first line of a text, where that line is empty.
+fn behind_empty(text: &str) -> Option<&str>
+    ensures cases { MatchOption result (prefix_len is_nothing (lines text.now) ≡ 0)
+        (λ behind. lines text.now ≡ [] ∷ lines behind.now) }
+    ensures shorter { IfSome result (λ behind. length behind.now < length text.now) }
+{
+    match text.strip_prefix('\n') {
+        Some(behind) => Some(behind),
+        None => behind_return(text),
+    }
+}
+
 impl<'a> Lines<'a> {
+    ghost use Rattle.std.specs.Prelude.{drop};
+    ghost use Rattle.lexer.specs.Lines.{is_empty};
+
     /// The lines of a text.
     #[tactic(auto, unfolding(crate::specs::Lines::lines_of))]
     pub fn of(text: &'a str) -> Lines<'a>
@@ -51,6 +78,20 @@ impl<'a> Lines<'a> {
             rest: text,
             before: 0,
         }
+    }
+
+    /// Goes past the empty lines in front, and tells how many there were.
+    pub fn skip_empty(&mut self) -> usize
+        ensures count { result ≡ prefix_len is_empty self.old }
+        ensures behind { self.new ≡ drop result self.old }
+    {
+        let mut count = 0;
+        'each: while let Some(behind) = behind_empty(self.rest) {
+            self.rest = behind;
+            self.before += 1;
+            count += 1;
+        }
+        count
     }
 }
 

@@ -1,6 +1,6 @@
 use Rattle.eeprom_image.specs.Draft.{content_in}
 use Rattle.eeprom_image.proofs.Faultless.{fits_end}
-use Rattle.eeprom_image.proofs.Layouts.{IsLaidOut-put}
+use Rattle.eeprom_image.proofs.LaidOut.{IsLaidOut-put}
 use Rattle.eeprom_image.proofs.layout.lay_into.Goals as goal
 
 pub returns : goal.returns

@@ -1,5 +1,5 @@
 use Rattle.std.proofs.Common.{rules}
-use Rattle.lexer.proofs.FirstWord.{words-none, words-some}
+use Rattle.lexer.proofs.WordsBehind.{words-none, words-some}
 use Rattle.lexer.proofs.words.split_word.Goals as goal
 
 pub returns-then-is_empty : goal.returns-then-is_empty

@@ -1,0 +1,64 @@
+//! The indexes that were seen.
+
+ghost use Rattle.std.specs.Prelude.{◌≡◌, ℕ, ◌≤◌, ◌%◌, false, length, get_or};
+ghost use Rattle.std.specs.Ordering.{nat_cmp};
+ghost use Rattle.std.specs.BTreeSet.{contains};
+
+use std::alloc::{AllocError, Global};
+use std::collections::BTreeSet;
+
+/// For how many indexes a table has places at most.
+const COUNT_LIMIT: usize = 0x40_0000;
+
+/// How many places a table has for each index that may come.
+const PLACES_EACH: usize = 2;
+
+/// A set of indexes.
+///
+/// Most stand in a table, each at its remainder by the number of places, as its quotient and one; 0 is a
+/// place that is free. An index whose place another has stands in a tree.
+#[derive(Drop)]
+pub(crate) struct Seen {
+    places: Vec<u32>,
+    others: BTreeSet<u32>,
+    ghost some: { 2 ≤ length places.items },
+    // What is in the tree has a place that isn't free.
+    ghost free: { (index : ℕ) → get_or places.items (index % length places.items) 0 ≡ 0
+        → contains nat_cmp others index ≡ false },
+}
+
+impl Seen {
+    ghost use Rattle.std.specs.Prelude.{◌≡◌, ◌==◌, ◌||◌, IfOk, OnOk, false};
+    ghost use Rattle.eeprom_image.specs.Seen.{is_seen};
+
+    /// None, with places for so many.
+    pub(crate) fn with_room(alloc: Global, count: usize) -> Result<Seen, AllocError>
+        ensures { IfOk result (λ seen. (index : ℕ) → is_seen seen index ≡ false) }
+    {
+        let places = PLACES_EACH * count.min(COUNT_LIMIT) + 2;
+        Ok(Seen {
+            places: vec![in alloc; 0u32; places]?,
+            others: BTreeSet::new(alloc),
+        })
+    }
+
+    /// Whether an index is among those seen before. It is from now on.
+    pub(crate) fn comes_again(&mut self, index: u32) -> Result<bool, AllocError>
+        ensures again { IfOk result (λ again. again ≡ is_seen self.old index) }
+        ensures seen { OnOk result ((other : ℕ) → is_seen self.new other ≡ ((index == other) || is_seen self.old other)) }
+    {
+        let count = self.places.len();
+        let place = index as usize % count;
+        let quotient = (index as usize / count) as u32 + 1;
+        let there = self.places[place];
+        if there == 0 {
+            self.places[place] = quotient;
+            Ok(false)
+        } else if there == quotient {
+            Ok(true)
+        } else {
+            let is_new = self.others.insert(index)?;
+            Ok(!is_new)
+        }
+    }
+}

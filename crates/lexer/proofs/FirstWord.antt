@@ -26,7 +26,8 @@ parts_of hash blank text = slice_split blank (before_first hash text)
 
 pub parts-hash : (hash blank : ℕ → Bool) (byte : ℕ) (more : List ℕ) → hash byte ≡ true
     → parts_of hash blank (byte ∷ more) ≡ [] ∷ []
-parts-hash hash blank byte more hit = ap (λ n. slice_split blank (take n (byte ∷ more))) (position-yes hash byte more hit)
+parts-hash hash blank byte more hit =
+    ap (λ n. slice_split blank (take n (byte ∷ more))) (position-yes hash byte more hit)
 
 before-next : (hash : ℕ → Bool) (byte : ℕ) (more : List ℕ) → hash byte ≡ false
     → before_first hash (byte ∷ more) ≡ byte ∷ before_first hash more
@@ -77,7 +78,8 @@ first-on hash blank byte more plain other (others, parts, same) =
     let behind : drop (end_in hash blank (byte ∷ more)) (byte ∷ more) ≡ drop (end_in hash blank more) more =
     ap (λ n. drop n (byte ∷ more)) next ∙ drop_next (end_in hash blank more) byte more in (
       others,
-      parts-other hash blank byte more plain other ∙ ap (onto_first byte) parts ∙ ap (λ first. first ∷ others) (sym front),
+      parts-other hash blank byte more plain other ∙ ap (onto_first byte) parts
+        ∙ ap (λ first. first ∷ others) (sym front),
       same ∙ ap (λ text. filled (parts_of hash blank text)) (sym behind),
     )
 
@@ -86,7 +88,8 @@ first-part hash blank [] = ([], refl, refl)
 first-part hash blank (byte ∷ more) =
     let rest = first-part hash blank more in
     elim (cases_Bool (hash byte)) [
-      | inl hit ↦ first-stop hash blank byte more [] (ap (λ b. b || blank byte) hit) (parts-hash hash blank byte more hit)
+      | inl hit ↦
+          first-stop hash blank byte more [] (ap (λ b. b || blank byte) hit) (parts-hash hash blank byte more hit)
       | inr plain ↦ elim (cases_Bool (blank byte)) [
         | inl hit ↦ first-stop hash blank byte more (parts_of hash blank more) (ap (λ b. b || blank byte) plain ∙ hit)
             (parts-blank hash blank byte more plain hit)

@@ -1,8 +1,7 @@
 -- What the driver handed out, and what a history from a new device on delivered.
-use Rattle.std.proofs.Common.{◌≡◌, ℕ, Bool, true, ◌||◌, List, [], ◌∷◌, ◌++◌, Option, Some, None, refl, sym, ap, ◌∙◌, subst}
+use Rattle.std.proofs.Common.{◌≡◌, ℕ, Bool, List, [], ◌∷◌, ◌++◌, Option, None, refl, sym, ap, ◌∙◌, subst}
 use Rattle.std.specs.Prelude.{IsTrue}
 use Rattle.std.proofs.lemmas.Bool.{or_right}
-use Rattle.eeprom_image.specs.Image.{blank}
 use Rattle.vf_map.specs.declared.mode.Mode.TheVariants.{Off}
 use Rattle.nic_device.specs.State.{State, new_state}
 use Rattle.nic_device.specs.Step.{after}
@@ -19,7 +18,6 @@ use Rattle.history_laws.proofs.Carried.{histories_sound}
 use Rattle.history_laws.proofs.Modes.{mode_told}
 use Rattle.receive_laws.specs.Delivered.{IsPrefixOf, delivered, packets_if_any, pieces_in, pieces_since}
 use Rattle.receive_laws.specs.Histories.{FindsNone, HandedIsPrefix, IsDriven, NoneIsAll}
-use Rattle.receive_laws.specs.Joint.{Agree}
 use Rattle.receive_laws.specs.Pieces.{Piece, packets_of}
 use Rattle.receive_laws.proofs.Histories.{Led, plays}
 use Rattle.receive_laws.proofs.Prefix.{drained, handed_first}

@@ -1,7 +1,7 @@
 -- One entry of a history that leaves the driver's queue alone.
-use Rattle.std.proofs.Common.{◌≡◌, ◌≢◌, ℕ, ◌<◌, Bool, true, false, ◌&&◌, ◌||◌, not, inl, inr, List, [], ◌∷◌, ◌++◌, length, refl, sym, ap, ◌∙◌, subst, nat_lt}
-use Rattle.std.specs.Prelude.{◌==◌, IsTrue, IsFalse, ⊤, ◌⊎◌}
-use Rattle.std.proofs.lemmas.Bool.{and_from, or_left, or_right, eq-eqb, eqb-true, eqb-false, lt-ltb, cases_Bool}
+use Rattle.std.proofs.Common.{◌≡◌, ◌≢◌, ℕ, ◌<◌, Bool, true, false, ◌&&◌, inl, inr, List, [], ◌++◌, refl, sym, ◌∙◌, subst, nat_lt}
+use Rattle.std.specs.Prelude.{◌==◌, IsTrue, IsFalse}
+use Rattle.std.proofs.lemmas.Bool.{and_from, eq-eqb, lt-ltb}
 use Rattle.std.proofs.lemmas.List.{append-nil}
 use Rattle.dma_arena.specs.Block.{Block}
 use Rattle.eeprom_image.specs.Image.{blank}
@@ -15,7 +15,7 @@ use Rattle.nic_device.specs.declared.event.Event.TheVariants as event
 use Rattle.nic_device.specs.declared.event.Reply.{Reply}
 use Rattle.nic_device.specs.declared.event.Reply.TheVariants as reply
 use Rattle.nic_device.proofs.Steps.{step_leads, keeps_sound}
-use Rattle.device_lock.specs.Alone.{Blocks, EntryLeavesAlone, lends, lent_by, lent_in, mode_after}
+use Rattle.device_lock.specs.Alone.{Blocks, EntryLeavesAlone, lends, lent_in, mode_after}
 use Rattle.device_lock.specs.History.{call_in}
 use Rattle.device_lock.specs.declared.alone.Watched.{Watched}
 use Rattle.device_lock.specs.declared.entry.Entry.{Entry}
@@ -26,7 +26,7 @@ use Rattle.history_laws.proofs.Modes.{event_told}
 use Rattle.receive_laws.specs.Histories.{SparesReceive}
 use Rattle.receive_laws.specs.Joint.{Agree}
 use Rattle.receive_laws.specs.Pieces.{Piece, pieces}
-use Rattle.receive_laws.specs.Steps.{Each, IsMetBy, Leaves, ReportsInside, OwnReportsSpare}
+use Rattle.receive_laws.specs.Steps.{Each, IsMetBy, ReportsInside, OwnReportsSpare}
 use Rattle.receive_laws.proofs.Foreign.{foreign_keeps, steps_keep}
 use Rattle.receive_laws.proofs.Kept.{leaving_keeps}
 use Rattle.receive_laws.proofs.Mine.{LendsMine, mine_driven}

@@ -1,6 +1,5 @@
 -- What pieces make, on small examples.
 use Rattle.std.proofs.Common.{ℕ, ◌≡◌, true, false, List, [], ◌∷◌, refl}
-use Rattle.pmd_base.specs.Packet.{Kept}
 use Rattle.receive_laws.specs.Pieces.{Piece, packets_of}
 
 -- a piece of these bytes

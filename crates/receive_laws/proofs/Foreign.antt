@@ -1,10 +1,10 @@
 -- Entries that aren't the driver's own and leave its queue alone keep the agreement.
-use Rattle.std.proofs.Common.{◌≡◌, ◌≢◌, ℕ, ◌+◌, ◌*◌, ◌/◌, ◌%◌, ◌<◌, ◌≤◌, true, false, inl, inr, List, [], ◌++◌, length, refl, sym, ap, ◌∙◌, subst, arith}
-use Rattle.std.specs.Prelude.{⊤, IsTrue, IsFalse}
-use Rattle.std.proofs.lemmas.Bool.{cases_eq, cases_lt}
+use Rattle.std.proofs.Common.{◌≡◌, ℕ, ◌/◌, ◌%◌, true, inl, inr, List, [], ◌++◌, length, refl, sym, subst, arith}
+use Rattle.std.specs.Prelude.{IsTrue, IsFalse}
+use Rattle.std.proofs.lemmas.Bool.{cases_eq}
 use Rattle.std.proofs.lemmas.List.{append-nil}
 use Rattle.dma_arena.specs.Block.{Block}
-use Rattle.dma_arena.specs.Memory.{Avoids, LiesIn}
+use Rattle.dma_arena.specs.Memory.{Avoids}
 use Rattle.dma_arena.proofs.Inside.{inside_avoids}
 use Rattle.register_file.specs.Pools.{mode_in}
 use Rattle.register_file.specs.declared.dir.Dir.{Dir}
@@ -13,11 +13,9 @@ use Rattle.vf_map.specs.declared.mode.Mode.{Mode}
 use Rattle.nic_device.specs.Outcome.{Outcome}
 use Rattle.nic_device.specs.Sound.{IsEvent, IsSound}
 use Rattle.nic_device.specs.State.{State}
-use Rattle.nic_device.specs.Step.{step_of, after, reply_to}
+use Rattle.nic_device.specs.Step.{after, reply_to}
 use Rattle.nic_device.specs.declared.event.Event.{Event}
 use Rattle.nic_device.specs.declared.event.Event.TheVariants as event
-use Rattle.nic_device.specs.declared.event.Reply.{Reply}
-use Rattle.nic_device.specs.declared.event.Reply.TheVariants.{Wrote}
 use Rattle.device_laws.specs.Laws.{WritesNoSetting}
 use Rattle.device_laws.specs.Leaving.{LeavesReceive, LeavesBlock, LeavesMemory}
 use Rattle.device_laws.proofs.KeptSettings.{settings_stand}
@@ -26,48 +24,20 @@ use Rattle.device_laws.proofs.Standing.{stays_within, memory_rest, memory_blocks
 use Rattle.device_laws.proofs.StandingAccesses.{read_rest}
 use Rattle.device_laws.proofs.StandingQueues.{switching_rest}
 use Rattle.device_laws.proofs.StandingRest.{arrival_rest, message_rest, eeprom_rest, link_rest, collecting_rest}
-use Rattle.device_lock.specs.Alone.{Blocks, IsClear, WritesOutside, SparesIfSome, place_at, LeavesRegisters, LeavesBlocks}
+use Rattle.device_lock.specs.Alone.{Blocks, WritesOutside, SparesIfSome, place_at, LeavesRegisters, LeavesBlocks}
 use Rattle.device_lock.specs.declared.alone.Watched.{Watched}
 use Rattle.pmd_base.specs.Events.{is_step}
 use Rattle.pmd_rx.specs.Receive.{Receive}
 use Rattle.receive_laws.specs.Joint.{Agree}
 use Rattle.receive_laws.specs.Pieces.{Piece, pieces}
-use Rattle.receive_laws.specs.Steps.{Each, IsOutside, Leaves, SparesBlocks, ReportsInside, OwnReportsSpare, ForeignEntryKeeps, DeviceStepKeeps}
-use Rattle.receive_laws.proofs.Kept.{each_map, leaving_keeps}
+use Rattle.receive_laws.specs.Steps.{Each, Leaves, ReportsInside, OwnReportsSpare, ForeignEntryKeeps, DeviceStepKeeps}
+use Rattle.receive_laws.proofs.Each.{each_map}
+use Rattle.receive_laws.proofs.Kept.{leaving_keeps}
 use Rattle.receive_laws.proofs.Received.{receive_keeps}
 use Rattle.receive_laws.proofs.Switching.{enable_keeps}
 use Rattle.receive_laws.proofs.Transmitting.{not_mine, transmit_leaves}
 use Rattle.receive_laws.proofs.Writing.{left_memory, write_leaves}
-
--- bytes that are in none of the pass's blocks are outside each of them
-clear_avoids : (mine : Blocks) (at len b : ℕ) → IsClear mine at len → IsTrue (mine b) → 0 < len → Avoids b at len
-clear_avoids mine at len b clear is some = elim (cases_lt (2048 * b) (at + len)) [
-  | inr low ↦ inl (omega (arith, low))
-  | inl high ↦ elim (cases_lt at (2048 * b + 2048)) as (λ _. Avoids b at len) [
-    | inr above ↦ inr (omega (arith, above))
-    | inl below ↦ absurd (elim (cases_lt at (2048 * b)) as (λ _. ⊥) [
-      | inl before ↦
-          let here : 2048 * b / 2048 ≡ b = omega arith in
-          let out : mine b ≡ false =
-          ap mine (sym here) ∙ clear (2048 * b) (omega (arith, before)) (omega (arith, high)) in
-          cc
-      | inr within ↦
-          let here : at / 2048 ≡ b = omega (arith, within, below) in
-          let out : mine b ≡ false = ap mine (sym here) ∙ clear at (omega arith) (omega (arith, some)) in
-          cc
-    ])
-  ]
-]
-
-spares_mine : (queue : ℕ) (mine : Blocks) (v : Receive) (r : Reply Block) → Each v (λ b. IsTrue (mine b))
-    → WritesOutside queue mine r → SparesBlocks queue v r
-spares_mine queue mine v (Wrote on slot end desc at len) m outside = λ ne.
-    each_map v (λ b. IsTrue (mine b)) (λ b. IsOutside desc at len b)
-    (λ b i. record {
-      descriptor = clear_avoids mine desc 16 b (outside ne).1 i (omega arith);
-      bytes = λ some. clear_avoids mine at len b (outside ne).0 i some;
-    }) m
-spares_mine queue mine v other m outside = tt
+use Rattle.receive_laws.proofs.Clear.{spares_mine}
 
 module _ (w : Watched) (mine : Blocks) (s : State) (out : List Piece) (v : Receive) (sound : IsSound s) (vfs : w.vfs ≡ s.vfs)
     (j : Agree w.queue s out v) (m : Each v (λ b. IsTrue (mine b))) where

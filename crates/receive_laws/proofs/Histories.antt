@@ -1,34 +1,26 @@
 -- Over a whole history.
-use Rattle.std.proofs.Common.{◌≡◌, ◌≢◌, ℕ, Bool, true, false, ◌&&◌, ◌||◌, not, inl, inr, List, [], ◌∷◌, ◌++◌, Option, Some, None, refl, sym, ap, ◌∙◌, subst, cond, append_assoc}
-use Rattle.std.specs.Prelude.{◌==◌, IsTrue, IsFalse, ⊤}
+use Rattle.std.proofs.Common.{◌≡◌, ℕ, Bool, true, false, ◌&&◌, not, inl, inr, List, [], ◌∷◌, ◌++◌, Some, refl, sym, ap, ◌∙◌, subst, cond, append_assoc}
+use Rattle.std.specs.Prelude.{◌==◌, IsTrue}
 use Rattle.std.proofs.lemmas.Bool.{cases_Bool, eqb-true, eqb-false, or_left, or_right}
 use Rattle.std.proofs.lemmas.List.{append-nil}
-use Rattle.eeprom_image.specs.Image.{blank}
 use Rattle.vf_map.specs.declared.mode.Mode.{Mode}
-use Rattle.vf_map.specs.declared.mode.Mode.TheVariants.{Off}
 use Rattle.register_file.specs.Queue.{is_on}
 use Rattle.register_file.specs.declared.dir.Dir.TheVariants.{Rx}
-use Rattle.nic_device.specs.State.{State, new_state}
-use Rattle.nic_device.specs.Step.{after, reply_to}
-use Rattle.nic_device.proofs.Steps.{step_leads}
-use Rattle.device_lock.specs.Alone.{Blocks, lent_by, lent_in, mode_after, mode_through}
+use Rattle.nic_device.specs.State.{State}
+use Rattle.nic_device.specs.Step.{after}
+use Rattle.device_lock.specs.Alone.{Blocks, lent_by, mode_after}
 use Rattle.device_lock.specs.History.{IsLegal, calls_of, call_in, leads_to}
 use Rattle.device_lock.specs.declared.alone.Watched.{Watched}
-use Rattle.device_lock.specs.declared.entry.Call.{Call}
 use Rattle.device_lock.specs.declared.entry.Entry.{Entry}
 use Rattle.pmd_rx.specs.Plays.{AllOwn, after_call, played_by}
 use Rattle.pmd_rx.specs.Receive.{Receive}
 use Rattle.history_laws.specs.Alone.{AllAlone}
 use Rattle.history_laws.specs.Laws.{AreEvents}
-use Rattle.history_laws.proofs.Alone.{alone_by_entries}
-use Rattle.history_laws.proofs.Carried.{histories_sound}
-use Rattle.history_laws.proofs.Modes.{mode_told}
-use Rattle.receive_laws.specs.Delivered.{IsPrefixOf, delivered, goes_on, packets_if_any, pieces_in, pieces_since}
-use Rattle.receive_laws.specs.Histories.{AllSpare, HandedIsPrefix, IsDriven, NoneIsAll, Spares, mark_of, marks_after}
+use Rattle.receive_laws.specs.Delivered.{pieces_in, pieces_since}
+use Rattle.receive_laws.specs.Histories.{AllSpare, mark_of, marks_after}
 use Rattle.receive_laws.specs.Joint.{Agree}
-use Rattle.receive_laws.specs.Pieces.{Piece, packets_of, pieces}
+use Rattle.receive_laws.specs.Pieces.{Piece, pieces}
 use Rattle.receive_laws.proofs.Entries.{Meets, foreign_entry, marked_entry}
-use Rattle.receive_laws.proofs.Prefix.{drained, handed_first}
 
 -- the calls of a pass, entry by entry
 

@@ -1,29 +1,20 @@
--- A fresh block is lent, and the descriptor at the vacant slot names it.
-use Rattle.std.proofs.Common.{◌≡◌, ◌≢◌, ℕ, ◌*◌, ◌%◌, ◌<◌, ◌≤◌, true, List, ◌++◌, length, refl, sym, ap, ◌∙◌, subst, arith, Option, Some, None}
-use Rattle.std.specs.Prelude.{◌==◌}
+-- A fresh block is lent.
+use Rattle.std.proofs.Common.{◌≡◌, ℕ, true, List, refl, sym, ap, subst, Option, Some, None}
 use Rattle.std.specs.FinMap as map
 use Rattle.dma_arena.specs.Block.{Block}
-use Rattle.dma_arena.specs.Memory.{Memory, has_block, is_lent, read_at, write_at, IsWhole, SameLent, AreApart}
-use Rattle.dma_arena.proofs.Bus.{get-insert_same, get-insert_other, SameLent-write_at, read_at-write_at_same, read_at-write_at_apart}
-use Rattle.dma_ring.specs.Descriptor.{first_half, second_half}
-use Rattle.dma_ring.specs.Driver.{posted}
-use Rattle.dma_ring.specs.Laws.{HasHalves}
-use Rattle.dma_ring.specs.Receive.{is_done}
-use Rattle.dma_ring.proofs.Fields.{halves_come_back}
+use Rattle.dma_arena.specs.Memory.{has_block}
+use Rattle.dma_arena.proofs.Bus.{get-insert_same, get-insert_other}
 use Rattle.nic_device.specs.State.{State}
-use Rattle.nic_device.specs.Outcome.{Outcome, gives}
 use Rattle.nic_device.specs.Step.{step_of, after, reply_to}
 use Rattle.nic_device.specs.declared.event.Event.TheVariants as event
-use Rattle.nic_device.specs.declared.event.Reply.TheVariants.{Done}
 use Rattle.nic_device.proofs.Cases.{lent_cases}
 use Rattle.pmd_base.specs.declared.packet.Packet.{Packet}
-use Rattle.pmd_rx.specs.Receive.{Layout, Stage, Looks, Sees, Holding, Lent, Named, Receive, slot_at, descriptor_at, block_at, vacant, listed, held, naming, lent_one, named, drive, MayLend, LendsNext}
-use Rattle.receive_laws.specs.Joint.{IsPosted, IsRing, IsLoose, StageHolds, HasSlots, Holds, Agree}
-use Rattle.receive_laws.specs.Pieces.{Piece, piece_at}
+use Rattle.pmd_rx.specs.Receive.{Stage, Looks, Sees, Holding, Lent, Named, Receive, block_at, listed, held, lent_one, drive, MayLend, LendsNext}
+use Rattle.receive_laws.specs.Joint.{Holds, Agree}
+use Rattle.receive_laws.specs.Pieces.{Piece}
 use Rattle.receive_laws.specs.Steps.{IfFresh, Leaves}
-use Rattle.receive_laws.proofs.Kept.{IsPosted-kept, IsFilled-kept, IsLoose-kept, leaving_holds, slot_low}
-use Rattle.receive_laws.proofs.Looking.{descriptor_lent, with_stage}
-use Rattle.receive_laws.proofs.Places.{aligned, slots_apart, buffer_and_slot, wrapped_apart}
+use Rattle.receive_laws.proofs.Kept.{leaving_holds}
+use Rattle.receive_laws.proofs.Looking.{with_stage}
 
 -- a block is lent
 
@@ -72,101 +63,3 @@ unfolding step_of
 lend_keeps queue s out v b (gone, here, h) may =
     lent_cases (λ o. Agree queue o.state out (drive v (event.Lend b) o.reply)) s b (gone, here, h)
     (lent_stage queue s out v gone here b v.stage h refl may)
-
--- the descriptor at the vacant slot is written
-
-module _ (m : Memory) (l : Layout) (here : List Piece) (ring : IsRing l) (h : HasSlots m l here) (whole : IsWhole m)
-    (b : ℕ) (loose : IsLoose m l b) where
-  abbrev n : Memory
-  n = write_at m (descriptor_at l (vacant l)) (naming b)
-
-  halves : HasHalves (posted (2048 * b)) 0
-  halves = halves_come_back (posted (2048 * b)) 0
-
-  slot_kept : (k : ℕ) → k < length l.blocks → read_at n (descriptor_at l k) 16 ≡ read_at m (descriptor_at l k) 16
-  slot_kept k i =
-      let room = ring.room in
-      let apart = slots_apart l.ring (slot_at l k) (slot_at l (vacant l))
-      (wrapped_apart l.size l.next k (vacant l) ring.next (omega (arith, i, room)) room
-      (λ e. absurd (omega (arith, e, i)))) in
-      read_at-write_at_apart m (descriptor_at l (vacant l)) (naming b) (descriptor_at l k) 16
-      (subst (λ len. AreApart (descriptor_at l k) 16 (descriptor_at l (vacant l)) len) (sym halves.size) apart)
-
-  block_kept : (c len : ℕ) → c ≢ l.ring → len ≤ 2048 → read_at n (2048 * c) len ≡ read_at m (2048 * c) len
-  block_kept c len ne short =
-      read_at-write_at_apart m (descriptor_at l (vacant l)) (naming b) (2048 * c) len
-      (subst (λ k. AreApart (2048 * c) len (descriptor_at l (vacant l)) k) (sym halves.size)
-      (buffer_and_slot c len l.ring (slot_at l (vacant l)) ne short (slot_low l (vacant l) ring (omega arith))))
-
-  same : SameLent n m
-  same = SameLent-write_at m (descriptor_at l (vacant l)) (naming b)
-
-  read_back : read_at n (descriptor_at l (vacant l)) 16 ≡ naming b
-  read_back =
-      subst (λ k. read_at n (descriptor_at l (vacant l)) k ≡ naming b) halves.size
-      (read_at-write_at_same m (descriptor_at l (vacant l)) (naming b) whole
-      (subst (λ k. is_lent m (descriptor_at l (vacant l)) k ≡ true) (sym halves.size)
-      (descriptor_lent m l here ring h (vacant l) (omega arith))))
-
-  posted_here : IsPosted n (descriptor_at l (vacant l)) b
-  posted_here =
-      let low = loose.low in
-      record {
-        buffer = ap first_half read_back ∙ halves.first (omega (arith, low));
-        waits = ap (λ d. is_done (second_half d)) read_back ∙ ap is_done (halves.second (omega arith));
-        there = same b ∙ loose.there;
-      }
-
-  named_slots : HasSlots n l here
-  named_slots =
-      let within = h.within in
-      record {
-        there = same l.ring ∙ h.there;
-        within = h.within;
-        filled = λ k i.
-            let j : k < length l.blocks = omega (arith, within, i) in
-            let f = h.filled k i in
-            IsFilled-kept m n (descriptor_at l k) (block_at l k) (piece_at here k) (slot_kept k j)
-            (block_kept (block_at l k) (length (piece_at here k).bytes) (ring.not_ring k j) f.short)
-            (same (block_at l k)) f;
-        posted = λ k i j.
-            IsPosted-kept m n (descriptor_at l k) (block_at l k) (slot_kept k j) (same (block_at l k)) (h.posted k i j);
-      }
-
-  named_stage : IsLoose n l b × IsPosted n (descriptor_at l (vacant l)) b
-  named_stage = (IsLoose-kept m n l b (same b) loose, posted_here)
-
-poked_is : (s : State) (a : ℕ) (bytes : List ℕ) → (a % 16 == 0) ≡ true → is_lent s.memory a 16 ≡ true
-    → step_of s (event.Poke16 a bytes) ≡ gives Done (record s { memory = write_at s.memory a bytes })
-unfolding step_of
-poked_is s a bytes straight lent = rw (straight, lent) refl
-
-pub name_keeps : (queue : ℕ) (s : State) (out : List Piece) (v : Receive) (o : Option Packet) (b : ℕ)
-    → IsWhole s.memory → Agree queue s out v → v.stage ≡ Lent o b
-    → Agree queue (after s (event.Poke16 (descriptor_at v.layout (vacant v.layout)) (naming b))) out
-    (drive v (event.Poke16 (descriptor_at v.layout (vacant v.layout)) (naming b))
-    (reply_to s (event.Poke16 (descriptor_at v.layout (vacant v.layout)) (naming b))))
-name_keeps queue s out v o b whole (gone, here, h) is =
-    let l = v.layout in
-    let a = descriptor_at l (vacant l) in
-    let t : State = record s { memory = write_at s.memory a (naming b) } in
-    let loose : IsLoose s.memory l b = subst (StageHolds s.memory l here) is h.stage in
-    subst (λ (x : Outcome). Agree queue x.state out (drive v (event.Poke16 a (naming b)) x.reply))
-    (sym (poked_is s a (naming b) (aligned l.ring (slot_at l (vacant l)))
-    (descriptor_lent s.memory l here h.ring h.slots (vacant l) (omega arith))))
-    (subst (λ stage. Agree queue t out (named v stage)) (sym is) (
-      gone,
-      here,
-      record {
-        named = record { low = h.named.low; tail = h.named.tail };
-        ring = h.ring;
-        side = h.side;
-        slots = named_slots s.memory l here h.ring h.slots whole b loose;
-        stage = named_stage s.memory l here h.ring h.slots whole b loose;
-        order = record {
-          ended = h.order.ended;
-          taken = h.order.taken ∙ ap (λ xs. v.handed ++ xs) (ap held is);
-          order = h.order.order;
-        };
-      },
-    ))

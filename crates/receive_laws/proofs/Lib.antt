@@ -1,5 +1,9 @@
+pub mod Advancing
 pub mod Cases
+pub mod Clear
+pub mod Consuming
 pub mod Delivering
+pub mod Each
 pub mod Entries
 pub mod Examples
 pub mod Filled
@@ -10,6 +14,7 @@ pub mod Lending
 pub mod Looking
 pub mod Mine
 pub mod Moving
+pub mod Naming
 pub mod Own
 pub mod Places
 pub mod Prefix
@@ -18,6 +23,8 @@ pub mod Receiving
 pub mod Spared
 pub mod Starting
 pub mod Switching
+pub mod Tail
 pub mod Taking
 pub mod Transmitting
+pub mod Unrelated
 pub mod Writing

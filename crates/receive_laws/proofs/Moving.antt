@@ -1,79 +1,25 @@
 -- The tail moves on over the slot that names a fresh block: the block is posted, and what was held is handed out.
-use Rattle.std.proofs.Common.{◌≡◌, ◌≢◌, ℕ, ◌+◌, ◌%◌, ◌^◌, ◌<◌, ◌≤◌, ◌⊎◌, inl, inr, List, [], ◌∷◌, ◌++◌, length, refl, sym, ap, ◌∙◌, subst, arith, Option}
-use Rattle.std.specs.Prelude.{slice_index, bit_and, bit_or}
+use Rattle.std.proofs.Common.{◌≡◌, ◌≢◌, ℕ, ◌+◌, ◌<◌, ◌≤◌, ◌⊎◌, inl, inr, List, [], ◌∷◌, ◌++◌, length, refl, sym, ap, ◌∙◌, subst, arith, Option}
+use Rattle.std.specs.Prelude.{slice_index}
 use Rattle.std.proofs.lemmas.Bool.{cases_lt}
 use Rattle.std.proofs.lemmas.List.{append-nil, length_push, get_or_push, get_or_append_left}
-use Rattle.std.proofs.lemmas.Nat.{or_mod, and_mod, and_mask, and_le_l, and_le_r, or_disjoint}
-use Rattle.std.proofs.Math.Nat.{mod-eq_of_lt}
 use Rattle.dma_arena.specs.Memory.{Memory}
-use Rattle.reg_table.specs.declared.place.Place.{Place}
-use Rattle.reg_table.specs.declared.rows.RowId.TheVariants.{Rdt, GcrExt}
-use Rattle.vf_map.specs.Pools.{mode_of}
-use Rattle.register_file.specs.Bits.{merged}
+use Rattle.reg_table.specs.declared.rows.RowId.TheVariants.{Rdt}
 use Rattle.register_file.specs.Columns.{place}
-use Rattle.register_file.specs.Laws.{after_write, word_after}
-use Rattle.register_file.specs.Pools.{mode_in}
-use Rattle.register_file.specs.Registers.{Registers, word_of}
+use Rattle.register_file.specs.Laws.{after_write}
 use Rattle.register_file.specs.Sides.{ReceiveQueue, receive_queue_of}
 use Rattle.register_file.specs.Sound.{HasShape}
-use Rattle.register_file.proofs.Puts.{word_at-put_other}
-use Rattle.register_file.proofs.SideWords.{receive-written}
-use Rattle.nic_device.specs.Access.{named_written}
-use Rattle.nic_device.specs.Outcome.{Outcome, gives}
+use Rattle.nic_device.specs.Outcome.{Outcome}
 use Rattle.nic_device.specs.State.{State}
-use Rattle.nic_device.specs.Step.{step_of, after, reply_to}
+use Rattle.nic_device.specs.Step.{after, reply_to}
 use Rattle.nic_device.specs.declared.event.Event.TheVariants as event
-use Rattle.nic_device.specs.declared.event.Reply.TheVariants.{Done}
 use Rattle.pmd_base.specs.declared.packet.Packet.{Packet}
 use Rattle.pmd_rx.specs.Receive.{Layout, Receive, Named, slot_at, descriptor_at, block_at, vacant, extended, held, listed, moved, drive}
-use Rattle.receive_laws.specs.Joint.{IsPosted, IsFilled, IsRing, IsNamed, IsSetUp, IsLoose, StageHolds, HasSlots, Agree}
+use Rattle.receive_laws.specs.Joint.{IsPosted, IsFilled, IsRing, IsSetUp, IsLoose, StageHolds, HasSlots, Agree}
 use Rattle.receive_laws.specs.Pieces.{Piece, piece_at}
 use Rattle.receive_laws.proofs.Kept.{named_kept}
 use Rattle.receive_laws.proofs.Places.{wrapped_below}
-
--- a word of 16 bits that is written to the tail's register is the tail
-
-none_or : (x : ℕ) → bit_or 0 x ≡ x
-none_or x =
-    let none : bit_and 0 x ≡ 0 = let low = and_le_l 0 x in omega (arith, low) in
-    or_disjoint 0 x none ∙ (let e : 0 + x ≡ x = omega arith in e)
-
-no_bits : (x : ℕ) → bit_and x 0 ≡ 0
-no_bits x = let low = and_le_r x 0 in omega (arith, low)
-
-merged_low : (old new : ℕ) → merged 0xFFFF old new % 2 ^ 16 ≡ new % 2 ^ 16
-merged_low old new =
-    let high : bit_and old 0xFFFF0000 % 2 ^ 16 ≡ 0 = and_mod old 0xFFFF0000 16 ∙ no_bits (old % 2 ^ 16) in
-    let low : bit_and new 0xFFFF % 2 ^ 16 ≡ new % 2 ^ 16 =
-    ap (λ x. x % 2 ^ 16) (and_mask new 16) ∙ (let e : new % 2 ^ 16 % 2 ^ 16 ≡ new % 2 ^ 16 = omega arith in e) in
-    or_mod (bit_and old 0xFFFF0000) (bit_and new 0xFFFF) 16 ∙ (λ k. bit_or (high k) (low k)) ∙ none_or (new % 2 ^ 16)
-
-abbrev with_tail : ReceiveQueue → ℕ → ReceiveQueue
-with_tail q tail = record q { ring = record q.ring { tail = tail } }
-
-receive-with_tail : (r : Registers) (queue word : ℕ) → HasShape r → queue < 128 → word < 65536
-    → receive_queue_of (after_write r (place Rdt queue) 0xFFFFFFFF word) queue
-    ≡ with_tail (receive_queue_of r queue) word
-receive-with_tail r queue word h b small =
-    let there : word_after r (place Rdt queue) 0xFFFFFFFF word % 2 ^ 16 ≡ word =
-    merged_low (word_of r Rdt queue) word ∙ mod-eq_of_lt small in
-    receive-written r h Rdt queue refl b (inl refl) 0xFFFFFFFF word
-    ∙ (λ k. with_tail (receive_queue_of r queue) (there k))
-
--- a write of it writes a register alone
-
-tail_written : (s : State) (queue : ℕ) (l : Layout) (word : ℕ) → IsNamed s queue l
-    → step_of s (event.Write l.port l.tail word)
-    ≡ gives Done (record s { registers = after_write s.registers (place Rdt queue) 0xFFFFFFFF word })
-unfolding step_of
-tail_written s queue l word h = ap (λ n. named_written s n word) h.tail
-
-mode_after_tail : (r : Registers) (queue word : ℕ)
-    → mode_in (after_write r (place Rdt queue) 0xFFFFFFFF word) ≡ mode_in r
-mode_after_tail r queue word =
-    ap mode_of (word_at-put_other r.words (place Rdt queue) (place GcrExt 0)
-    (word_after r (place Rdt queue) 0xFFFFFFFF word)
-    (λ e. let other : GcrExt ≡ Rdt = ap (λ (p : Place). p.row) e in cc))
+use Rattle.receive_laws.proofs.Tail.{with_tail, receive-with_tail, tail_written, mode_after_tail}
 
 -- the ring with one more block
 

@@ -13,9 +13,10 @@ use Rattle.pmd_rx.specs.Receive.{Layout, Receive, Stage, Looks, Sees, Holding, L
 use Rattle.receive_laws.specs.Joint.{Agree}
 use Rattle.receive_laws.specs.Pieces.{Piece}
 use Rattle.receive_laws.specs.Steps.{OwnEventKeeps}
-use Rattle.receive_laws.proofs.Lending.{lend_keeps, name_keeps}
+use Rattle.receive_laws.proofs.Lending.{lend_keeps}
 use Rattle.receive_laws.proofs.Looking.{look_keeps}
 use Rattle.receive_laws.proofs.Moving.{move_keeps}
+use Rattle.receive_laws.proofs.Naming.{name_keeps}
 use Rattle.receive_laws.proofs.Taking.{take_keeps}
 
 abbrev Driven : ℕ → State → List Piece → Receive → Event Block → Type 0

@@ -8,7 +8,7 @@ use Rattle.nic_device.specs.State.{State}
 use Rattle.pmd_rx.specs.Receive.{Receive, held}
 use Rattle.receive_laws.specs.Delivered.{IsPrefixOf}
 use Rattle.receive_laws.specs.Histories.{FindsNone}
-use Rattle.receive_laws.specs.Joint.{InOrder, Holds, Agree}
+use Rattle.receive_laws.specs.Joint.{InOrder, Agree}
 use Rattle.receive_laws.specs.Pieces.{Piece, AllEnd, packets_of, whole_packet}
 use Rattle.receive_laws.proofs.Looking.{look_tells}
 

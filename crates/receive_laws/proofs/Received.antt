@@ -1,20 +1,17 @@
 -- Steps of receiving keep the agreement, of whichever queue.
-use Rattle.std.proofs.Common.{◌≡◌, ◌≢◌, ℕ, ◌+◌, ◌^◌, ◌<◌, inl, inr, true, false, List, [], ◌∷◌, ◌++◌, length, refl, sym, ap, ◌∙◌, subst, arith, Ok, Err, append_assoc}
+use Rattle.std.proofs.Common.{◌≡◌, ◌≢◌, ℕ, ◌+◌, ◌^◌, ◌<◌, inl, inr, true, false, List, [], ◌∷◌, ◌++◌, length, refl, sym, ap, ◌∙◌, subst, arith, Ok, Err}
 use Rattle.std.specs.Prelude.{◌==◌, ⊤}
 use Rattle.std.specs.FinMap as map
 use Rattle.std.proofs.lemmas.Bool.{cases_lt, cases_eq, eq-eqb, ne_eqb}
-use Rattle.std.proofs.lemmas.List.{append-nil, length_push}
+use Rattle.std.proofs.lemmas.List.{append-nil}
 use Rattle.dma_arena.specs.Block.{Block}
 use Rattle.dma_arena.specs.Memory.{Memory}
-use Rattle.dma_ring.specs.Ring.{slots_of, next_of}
 use Rattle.reg_table.specs.declared.rows.RowId.TheVariants.{Qprdc}
 use Rattle.rx_ring.specs.declared.filled.Filled.{Filled}
-use Rattle.rx_ring.specs.Fill.{Rest}
-use Rattle.rx_ring.proofs.Fills.{takes_piece}
 use Rattle.register_file.specs.Counters.{counter_of}
 use Rattle.register_file.specs.Pools.{mode_in}
 use Rattle.register_file.specs.Queue.{ring_of}
-use Rattle.register_file.specs.Sides.{ReceiveQueue, receive_queue_of}
+use Rattle.register_file.specs.Sides.{receive_queue_of}
 use Rattle.register_file.specs.declared.dir.Dir.TheVariants.{Rx}
 use Rattle.register_file.proofs.Stands.{receive_stands}
 use Rattle.nic_device.specs.Footprint.{counts_and_causes}
@@ -22,7 +19,7 @@ use Rattle.nic_device.specs.Outcome.{Outcome}
 use Rattle.nic_device.specs.Receive.{rest_of, is_empty, piece_done, slot_done, slotless_counted}
 use Rattle.nic_device.specs.Sound.{IsSound, AreWaiting}
 use Rattle.nic_device.specs.State.{State, Waiting}
-use Rattle.nic_device.specs.Step.{step_of, after, reply_to}
+use Rattle.nic_device.specs.Step.{after, reply_to}
 use Rattle.nic_device.specs.declared.event.Event.TheVariants as event
 use Rattle.nic_device.specs.declared.event.Reply.{Reply}
 use Rattle.nic_device.specs.declared.event.Reply.TheVariants.{Wrote}
@@ -30,86 +27,25 @@ use Rattle.nic_device.proofs.Coming.{counted_in}
 use Rattle.nic_device.proofs.Raising.{comes-itself}
 use Rattle.nic_device.proofs.Targets.{told-lt}
 use Rattle.device_laws.specs.Leaving.{IsFirstFor, LeavesReceive, LeavesBlock}
-use Rattle.device_laws.specs.Replies.{received_tells, moved_on}
+use Rattle.device_laws.specs.Replies.{moved_on}
 use Rattle.device_laws.proofs.FunctionCounts.{have_counters}
 use Rattle.device_laws.proofs.KeptSettings.{settings_stand}
 use Rattle.device_laws.proofs.Missed.{counts-miss_side}
-use Rattle.device_laws.proofs.RepliesReceived.{receiving_tells}
 use Rattle.device_laws.proofs.Standing.{stays_within}
-use Rattle.device_laws.proofs.StandingQueues.{receiving_rest, receiving_blocks}
-use Rattle.pmd_rx.specs.Receive.{Layout, Receive, slot_at, descriptor_at, block_at}
-use Rattle.receive_laws.specs.Joint.{IsSetUp, StageHolds, HasSlots, Holds, Agree}
+use Rattle.device_laws.proofs.StandingQueues.{receiving_rest}
+use Rattle.pmd_rx.specs.Receive.{Receive}
+use Rattle.receive_laws.specs.Joint.{Agree}
 use Rattle.receive_laws.specs.Pieces.{Piece, pieces, pieces_told}
 use Rattle.receive_laws.specs.Steps.{Each, Leaves, SparesBlocks, ReceiveStepKeeps}
 use Rattle.receive_laws.proofs.Cases.{fill_on, IsTried, step_cases, IsOn, wrote_first, wrote_none}
 use Rattle.receive_laws.proofs.Spared.{IsSparedBy, spared_block}
-use Rattle.receive_laws.proofs.Filled.{piece_in, Fills, stage_beside}
-use Rattle.receive_laws.proofs.Kept.{each_of, each_map, leaving_keeps, named_kept}
-use Rattle.receive_laws.proofs.Receiving.{room_left, no_fault, fills_here, head_on, slots_more}
-
--- what is known of the registers after the step
-record Follows (s : State) (o : Outcome) : Type 0 where
-  tells : received_tells o.reply s o.state
-  mode : mode_in o.state.registers ≡ mode_in s.registers
-  vfs : o.state.vfs ≡ s.vfs
-
-follows : (s : State) → IsSound s → Follows s (step_of s event.RxStep)
-follows s sound = record {
-  tells = receiving_tells s sound;
-  mode = (settings_stand s event.RxStep tt).mode;
-  vfs = (stays_within s event.RxStep).vfs;
-}
-
--- a side whose head moved on from the first slot that wasn't filled
-set_up_more : (l : Layout) (q : ReceiveQueue) (n m : ℕ) → IsSetUp q l n → m ≡ n + 1
-    → next_of (slots_of q.ring) q.ring.head ≡ slot_at l (n + 1)
-    → IsSetUp (record q { ring = moved_on q.ring }) l m
-set_up_more l q n m h e is = record {
-  on = h.on;
-  wanted = h.wanted;
-  one_buffer = h.one_buffer;
-  buffer_size = h.buffer_size;
-  base = h.base;
-  sized = h.sized;
-  head = is ∙ ap (slot_at l) (sym e);
-  tail = h.tail;
-}
+use Rattle.receive_laws.proofs.Filled.{piece_in}
+use Rattle.receive_laws.proofs.Each.{each_of, each_map}
+use Rattle.receive_laws.proofs.Kept.{leaving_keeps}
+use Rattle.receive_laws.proofs.Receiving.{room_left, no_fault}
+use Rattle.receive_laws.proofs.Advancing.{Follows, follows, filled_holds}
 
 module _ (queue : ℕ) (s : State) (out : List Piece) (v : Receive) (sound : IsSound s) where
-  -- the slot at the head was filled, and the frames that wait and the registers are what they are
-  filled_holds : (gone here : List Piece) → Holds queue s out v gone here → length here < length v.layout.blocks
-      → (rest : Rest) (f : Filled) (t : State) → rest.first < 2 ^ 64 → (fill_on s queue rest).answer ≡ Ok f
-      → t.memory ≡ (fill_on s queue rest).memory
-      → receive_queue_of t.registers queue
-      ≡ record (receive_queue_of s.registers queue) { ring = moved_on (ring_of s.registers Rx queue) }
-      → mode_in t.registers ≡ mode_in s.registers → t.vfs ≡ s.vfs
-      → Holds queue t (out ++ piece_in rest f ∷ []) v gone (here ++ piece_in rest f ∷ [])
-  filled_holds gone here h room rest f t fits is memory side mode vfs =
-      let l = v.layout in
-      let p : Piece = piece_in rest f in
-      let n : Memory = (fill_on s queue rest).memory in
-      let fill : Fills s.memory n (descriptor_at l (length here)) (block_at l (length here)) p =
-      fills_here s queue l here h.ring h.side h.slots room sound.blocks.whole rest f fits is in
-      let taken = takes_piece s.memory _ _ rest f is in
-      let head = head_on s queue l here h.ring h.side h.slots room rest f is in
-      let more : length (here ++ p ∷ []) ≡ length here + 1 = length_push here p in
-      record {
-        named = named_kept s t queue l mode vfs h.named;
-        ring = h.ring;
-        side = subst (λ q. IsSetUp q l (length (here ++ p ∷ []))) (sym side)
-            (set_up_more l (receive_queue_of s.registers queue) (length here) (length (here ++ p ∷ [])) h.side more
-            (sym taken.head ∙ head.0));
-        slots = subst (λ m. HasSlots m l (here ++ p ∷ [])) (sym memory)
-            (slots_more s.memory n l here p h.ring h.slots room fill);
-        stage = subst (λ m. StageHolds m l (here ++ p ∷ []) v.stage) (sym memory)
-            (stage_beside l h.ring s.memory n (length here) p room fill here p v.stage h.stage);
-        order = record {
-          ended = h.order.ended;
-          taken = h.order.taken;
-          order = ap (λ xs. xs ++ p ∷ []) h.order.order ∙ append_assoc gone here (p ∷ []);
-        };
-      }
-
   abbrev Keeps : Outcome → Type 0
   Keeps o = Follows s o → Agree queue o.state (out ++ pieces_told queue s.waiting o.reply) v
 
@@ -167,7 +103,7 @@ module _ (queue : ℕ) (s : State) (out : List Piece) (v : Receive) (sound : IsS
             subst (λ xs. Agree queue t (out ++ xs) v) (piece_told w others f e mine) (
               gone,
               here ++ piece_in (rest_of w) f ∷ [],
-              filled_holds gone here h (room tried) (rest_of w) f t fit here_is
+              filled_holds queue s out v sound gone here h (room tried) (rest_of w) f t fit here_is
                   (ap (λ q. (fill_on s q (rest_of w)).memory) mine) side k.mode k.vfs,
             );
       }) (follows s sound)

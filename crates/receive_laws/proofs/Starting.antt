@@ -1,5 +1,5 @@
 -- The device and a driver that posted nothing yet agree.
-use Rattle.std.proofs.Common.{◌≡◌, ℕ, ◌<◌, [], refl, sym, ◌∙◌, arith}
+use Rattle.std.proofs.Common.{[], refl, ◌∙◌, arith}
 use Rattle.receive_laws.specs.Starting.{StartAgrees}
 use Rattle.receive_laws.proofs.Places.{first_place}
 

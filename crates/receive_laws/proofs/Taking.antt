@@ -1,171 +1,21 @@
 -- The block of the next slot is taken: its packet is the oldest that was delivered and is neither held nor handed out.
-use Rattle.std.proofs.Common.{◌≡◌, ◌≢◌, ℕ, ◌+◌, ◌*◌, ◌<◌, ◌≤◌, true, List, [], ◌∷◌, ◌++◌, length, take, drop, refl, sym, ap, ◌∙◌, subst, arith, append_assoc, Some}
+use Rattle.std.proofs.Common.{◌≡◌, ℕ, List, [], ◌∷◌, ◌++◌, drop, refl, sym, ap, subst}
 use Rattle.std.specs.FinMap as map
-use Rattle.std.proofs.lemmas.List.{append-nil, map-append, get_or-drop, length-drop, drop_more}
 use Rattle.dma_arena.specs.Block.{Block}
-use Rattle.dma_arena.specs.Memory.{Memory, part, IsWhole}
-use Rattle.dma_arena.proofs.Blocks.{read_at_in}
-use Rattle.dma_arena.proofs.Bus.{of_some, get-remove_other}
+use Rattle.dma_arena.specs.Memory.{IsWhole}
+use Rattle.dma_arena.proofs.Bus.{of_some}
 use Rattle.dma_ring.specs.Receive.{bytes_in}
-use Rattle.register_file.specs.Sides.{ReceiveQueue, receive_queue_of}
+use Rattle.register_file.specs.Sides.{receive_queue_of}
 use Rattle.nic_device.specs.State.{State}
-use Rattle.nic_device.specs.Outcome.{Outcome, gives}
-use Rattle.nic_device.specs.Step.{step_of, after, reply_to}
+use Rattle.nic_device.specs.Outcome.{Outcome}
+use Rattle.nic_device.specs.Step.{after, reply_to}
 use Rattle.nic_device.specs.declared.event.Event.TheVariants as event
-use Rattle.nic_device.specs.declared.event.Reply.TheVariants.{Buf}
 use Rattle.pmd_base.specs.Packet.{kept_of}
-use Rattle.pmd_base.specs.declared.packet.Packet.{Packet}
-use Rattle.pmd_rx.specs.Receive.{Layout, Receive, Sees, Holding, consumed, told, took, drive, held, slot_at, descriptor_at, block_at}
-use Rattle.receive_laws.specs.Joint.{IsPosted, IsFilled, IsRing, IsSetUp, Saw, StageHolds, HasSlots, InOrder, Agree}
-use Rattle.receive_laws.specs.Pieces.{Piece, no_piece, piece_at, packet_told, whole_packet, AllEnd}
-use Rattle.receive_laws.proofs.Kept.{same_has, filled_kept, posted_kept, named_kept}
-use Rattle.receive_laws.proofs.Places.{next_below, wrapped_on}
-
-taken_is : (s : State) (b : ℕ) (bytes : List ℕ) → map.get s.memory b ≡ Some bytes
-    → step_of s (event.Take b)
-    ≡ gives (Buf (record { number = b; bytes = bytes })) (record s { memory = map.remove s.memory b })
-unfolding step_of
-taken_is s b bytes is = rw is refl
-
-part_front : (xs : List ℕ) (n : ℕ) → part xs 0 n ≡ take n xs
-unfolding part
-part_front xs n = refl
-
--- the bytes of the packet are those at the head of the block
-packet_bytes : (m : Memory) (b : ℕ) (bytes : List ℕ) (a : ℕ) (p : Piece) (len : ℕ) → map.get m b ≡ Some bytes
-    → length bytes ≡ 2048 → IsFilled m a b p → len ≡ length p.bytes → take len bytes ≡ p.bytes
-packet_bytes m b bytes a p len is whole f e =
-    let short = f.short in
-    ap (λ n. take n bytes) e ∙ sym (part_front bytes (length p.bytes))
-    ∙ sym (read_at_in m (2048 * b) (length p.bytes) b 0 bytes is whole (omega arith) (omega (arith, short))) ∙ f.bytes
-
-AllEnd-push : (ps : List Piece) (p : Piece) → AllEnd ps → p.end ≡ true → AllEnd (ps ++ p ∷ [])
-AllEnd-push [] p a e = (e, tt)
-AllEnd-push (q ∷ ps) p a e = (a.0, AllEnd-push ps p a.1 e)
-
-front : (ps : List Piece) → 0 < length ps → ps ≡ piece_at ps 0 ∷ drop 1 ps
-front ps some = drop_more ps 0 no_piece some
-
-slot_on : (l : Layout) (k : ℕ) → IsRing l → k + 1 < l.size → slot_at (consumed l) k ≡ slot_at l (1 + k)
-slot_on l k ring h = wrapped_on l.size l.next k ring.next h
-
--- the ring without its next slot
-module _ (m : Memory) (l : Layout) (here : List Piece) (ring : IsRing l) (h : HasSlots m l here)
-    (some : 0 < length here) where
-  abbrev n : Memory
-  n = map.remove m (block_at l 0)
-
-  outs : 0 < length l.blocks
-  outs = let within = h.within in omega (arith, within, some)
-
-  fewer : length (drop 1 here) + 1 ≡ length here
-  fewer = omega (arith, length-drop 1 here, some)
-
-  less : length (drop 1 l.blocks) + 1 ≡ length l.blocks
-  less = omega (arith, length-drop 1 l.blocks, outs)
-
-  block_on : (k : ℕ) → block_at (consumed l) k ≡ block_at l (1 + k)
-  block_on k = get_or-drop 1 l.blocks k 0
-
-  piece_on : (k : ℕ) → piece_at (drop 1 here) k ≡ piece_at here (1 + k)
-  piece_on k = get_or-drop 1 here k no_piece
-
-  desc_on : (k : ℕ) → k + 1 < l.size → descriptor_at (consumed l) k ≡ descriptor_at l (1 + k)
-  desc_on k i = ap (λ x. 2048 * l.ring + 16 * x) (slot_on l k ring i)
-
-  kept_ring : map.get n l.ring ≡ map.get m l.ring
-  kept_ring = get-remove_other m (block_at l 0) l.ring (λ e. ring.not_ring 0 outs (sym e))
-
-  kept_block : (k : ℕ) → 0 < k → k < length l.blocks → map.get n (block_at l k) ≡ map.get m (block_at l k)
-  kept_block k i j =
-      get-remove_other m (block_at l 0) (block_at l k) (ring.apart k 0 j outs (λ e. absurd (omega (arith, e, i))))
-
-  filled_on : (k : ℕ) → k < length (drop 1 here)
-      → IsFilled n (descriptor_at (consumed l) k) (block_at (consumed l) k) (piece_at (drop 1 here) k)
-  filled_on k i =
-      let within = h.within in
-      let room = ring.room in
-      let j : 1 + k < length here = omega (arith, fewer, i) in
-      let inside : 1 + k < length l.blocks = omega (arith, within, j) in
-      subst (λ a. IsFilled n a (block_at (consumed l) k) (piece_at (drop 1 here) k))
-      (sym (desc_on k (omega (arith, room, inside))))
-      (subst (λ b. IsFilled n (descriptor_at l (1 + k)) b (piece_at (drop 1 here) k)) (sym (block_on k))
-      (subst (λ p. IsFilled n (descriptor_at l (1 + k)) (block_at l (1 + k)) p) (sym (piece_on k))
-      (filled_kept l m n ring kept_ring (1 + k) (block_at l (1 + k)) (piece_at here (1 + k)) (omega (arith, inside))
-      (kept_block (1 + k) (omega arith) inside) (h.filled (1 + k) j))))
-
-  posted_on : (k : ℕ) → length (drop 1 here) ≤ k → k < length (drop 1 l.blocks)
-      → IsPosted n (descriptor_at (consumed l) k) (block_at (consumed l) k)
-  posted_on k i j =
-      let room = ring.room in
-      let inside : 1 + k < length l.blocks = omega (arith, less, j) in
-      subst (λ a. IsPosted n a (block_at (consumed l) k)) (sym (desc_on k (omega (arith, room, inside))))
-      (subst (λ b. IsPosted n (descriptor_at l (1 + k)) b) (sym (block_on k))
-      (posted_kept l m n ring kept_ring (1 + k) (block_at l (1 + k)) (omega (arith, inside))
-      (kept_block (1 + k) (omega arith) inside) (h.posted (1 + k) (omega (arith, fewer, i)) inside)))
-
-  ring_on : IsRing (consumed l)
-  ring_on =
-      let room = ring.room in
-      record {
-        some = ring.some;
-        few = ring.few;
-        next = next_below l.size l.next ring.next;
-        ring = ring.ring;
-        room = omega (arith, less, room);
-        low = λ k i. subst (λ b. b < 65536) (sym (block_on k)) (ring.low (1 + k) (omega (arith, less, i)));
-        not_ring = λ k i.
-            subst (λ b. b ≢ l.ring) (sym (block_on k)) (ring.not_ring (1 + k) (omega (arith, less, i)));
-        apart = λ i j a b ne.
-            subst (λ x. x ≢ block_at (consumed l) j) (sym (block_on i))
-            (subst (λ x. block_at l (1 + i) ≢ x) (sym (block_on j))
-            (ring.apart (1 + i) (1 + j) (omega (arith, less, a)) (omega (arith, less, b)) (λ e. ne (omega (arith, e)))));
-      }
-
-  slots_on : HasSlots n (consumed l) (drop 1 here)
-  slots_on =
-      let within = h.within in
-      record {
-        there = same_has m n l.ring kept_ring ∙ h.there;
-        within = omega (arith, fewer, less, within);
-        filled = filled_on;
-        posted = posted_on;
-      }
-
-  set_up_on : (q : ReceiveQueue) → IsSetUp q l (length here) → IsSetUp q (consumed l) (length (drop 1 here))
-  set_up_on q up =
-      let room = ring.room in
-      let within = h.within in
-      let e : 1 + length (drop 1 here) ≡ length here = omega (arith, fewer) in
-      let f : 1 + length (drop 1 l.blocks) ≡ length l.blocks = omega (arith, less) in
-      record {
-        on = up.on;
-        wanted = up.wanted;
-        one_buffer = up.one_buffer;
-        buffer_size = up.buffer_size;
-        base = up.base;
-        sized = up.sized;
-        head = up.head ∙ ap (slot_at l) (sym e)
-            ∙ sym (slot_on l (length (drop 1 here)) ring (omega (arith, fewer, within, room)));
-        tail = up.tail ∙ ap (slot_at l) (sym f)
-            ∙ sym (slot_on l (length (drop 1 l.blocks)) ring (omega (arith, less, room)));
-      }
-
--- the piece was consumed, and its packet is held
-order_on : (out : List Piece) (v : Receive) (gone here : List Piece) (packet : Packet) → InOrder out v gone here
-    → 0 < length here → held v.stage ≡ [] → (piece_at here 0).end ≡ true
-    → whole_packet (piece_at here 0) ≡ kept_of packet
-    → InOrder out (record { layout = consumed v.layout; handed = v.handed; stage = Holding packet })
-    (gone ++ piece_at here 0 ∷ []) (drop 1 here)
-order_on out v gone here packet o some none end is = record {
-  ended = AllEnd-push gone (piece_at here 0) o.ended end;
-  taken = map-append whole_packet gone (piece_at here 0 ∷ [])
-      ∙ ap (λ xs. xs ++ whole_packet (piece_at here 0) ∷ [])
-      (o.taken ∙ ap (λ xs. v.handed ++ xs) none ∙ append-nil v.handed)
-      ∙ ap (λ x. v.handed ++ x ∷ []) is;
-  order = o.order ∙ ap (λ xs. gone ++ xs) (front here some)
-      ∙ sym (append_assoc gone (piece_at here 0 ∷ []) (drop 1 here));
-}
+use Rattle.pmd_rx.specs.Receive.{Receive, Sees, told, took, drive, held, descriptor_at, block_at}
+use Rattle.receive_laws.specs.Joint.{IsFilled, Saw, StageHolds, Agree}
+use Rattle.receive_laws.specs.Pieces.{Piece, piece_at, packet_told, whole_packet}
+use Rattle.receive_laws.proofs.Kept.{named_kept}
+use Rattle.receive_laws.proofs.Consuming.{taken_is, packet_bytes, ring_on, slots_on, set_up_on, order_on}
 
 pub take_keeps : (queue : ℕ) (s : State) (out : List Piece) (v : Receive) (first second : ℕ) → IsWhole s.memory
     → Agree queue s out v → v.stage ≡ Sees first second

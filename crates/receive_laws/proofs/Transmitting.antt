@@ -1,13 +1,11 @@
 -- A step of transmitting leaves the driver's receive side, wherever its report goes.
-use Rattle.std.proofs.Common.{◌≡◌, ◌≢◌, ℕ, ◌/◌, true, false, Bool, inl, inr, refl, sym, ap, ◌∙◌, subst, Option, Some, None}
-use Rattle.std.specs.Prelude.{⊤, IsTrue, IsFalse}
+use Rattle.std.proofs.Common.{◌≡◌, ◌≢◌, ℕ, ◌/◌, inl, inr, refl, sym, ap, ◌∙◌, subst, Option, Some, None}
+use Rattle.std.specs.Prelude.{IsTrue, IsFalse}
 use Rattle.std.proofs.lemmas.Bool.{cases_eq}
 use Rattle.dma_arena.specs.Block.{Block}
-use Rattle.dma_arena.specs.Memory.{Avoids, LiesIn}
+use Rattle.dma_arena.specs.Memory.{Avoids}
 use Rattle.dma_arena.proofs.Inside.{inside_avoids}
-use Rattle.register_file.specs.Pools.{mode_in}
 use Rattle.register_file.specs.Sides.{transmit_queue_of}
-use Rattle.register_file.specs.declared.dir.Dir.TheVariants.{Rx, Tx}
 use Rattle.tx_ring.specs.Report.{report_length}
 use Rattle.nic_device.specs.Footprint.{told_back}
 use Rattle.nic_device.specs.Sound.{IsSound}
@@ -25,7 +23,7 @@ use Rattle.device_laws.proofs.StandingQueues.{transmitting_rest, transmitting_bl
 use Rattle.device_lock.specs.Alone.{Blocks, WritesOutside}
 use Rattle.pmd_rx.specs.Receive.{Receive}
 use Rattle.receive_laws.specs.Steps.{Each, Leaves, ReportsInside, OwnReportsSpare}
-use Rattle.receive_laws.proofs.Kept.{each_of, each_map}
+use Rattle.receive_laws.proofs.Each.{each_of, each_map}
 
 pub not_mine : (mine : Blocks) (b n : ℕ) → IsFalse (mine n) → IsTrue (mine b) → b ≢ n
 not_mine mine b n none is e = let both : mine b ≡ mine n = ap mine e in cc

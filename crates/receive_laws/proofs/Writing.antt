@@ -1,31 +1,18 @@
 -- A write of a register that the driver's queue doesn't rest on leaves its receive side.
-use Rattle.std.proofs.Common.{◌≡◌, ◌≢◌, ℕ, true, false, Bool, ◌&&◌, refl, sym, ap, ◌∙◌, subst, cond, Option, Some, None}
-use Rattle.std.specs.Prelude.{◌==◌, ⊤, IsTrue, IsFalse}
+use Rattle.std.proofs.Common.{◌≡◌, ℕ, true, false, Bool, refl, sym, ap, ◌∙◌, subst, cond}
+use Rattle.std.specs.Prelude.{IsFalse}
 use Rattle.std.specs.FinMap as map
-use Rattle.std.proofs.lemmas.Bool.{cases_Bool, eqb-true}
 use Rattle.dma_arena.specs.Memory.{Memory}
 use Rattle.reg_table.specs.Rows.{row_of}
-use Rattle.reg_table.specs.declared.bank.Bank.{Bank}
-use Rattle.reg_table.specs.declared.bank.Bank.TheVariants as bank
 use Rattle.reg_table.specs.declared.place.Place.{Place}
-use Rattle.reg_table.specs.declared.rows.RowId.{RowId}
-use Rattle.reg_table.specs.declared.rows.RowId.TheVariants.{Ctrl, Hlreg0, Maxfrs, GcrExt}
-use Rattle.vf_map.specs.Owner.{has_queue, is_receive, is_receive_bank, is_of_pool_by}
-use Rattle.vf_map.specs.declared.mode.Mode.{Mode}
 use Rattle.register_file.specs.Access.{asks_reset, asks_pool_reset}
-use Rattle.register_file.specs.Footprint.{Misses, of_pool, of_side, of_write}
-use Rattle.register_file.specs.Owner.{owner_in, owner_of, is_owner}
+use Rattle.register_file.specs.Footprint.{of_write}
 use Rattle.register_file.specs.Pools.{mode_in}
-use Rattle.register_file.specs.declared.dir.Dir.{Dir}
-use Rattle.register_file.specs.declared.dir.Dir.TheVariants.{Rx, Tx}
-use Rattle.register_file.specs.declared.owner.Owner.{Owner}
-use Rattle.register_file.specs.declared.owner.Owner.TheVariants as owner
 use Rattle.nic_device.specs.Access.{named_written}
 use Rattle.nic_device.specs.Footprint.{reset_reach, below_reset_reach, in_registers, pool_reach, write_reach, StaysWithin}
 use Rattle.nic_device.specs.Named.{named}
 use Rattle.nic_device.specs.State.{State}
 use Rattle.nic_device.specs.Step.{step_of, after}
-use Rattle.nic_device.specs.declared.event.Event.{Event}
 use Rattle.nic_device.specs.declared.event.Event.TheVariants as event
 use Rattle.nic_device.specs.declared.event.Port.{Port}
 use Rattle.nic_device.specs.declared.named.Named.{Named}
@@ -36,75 +23,12 @@ use Rattle.device_laws.proofs.KeptSettings.{settings_stand}
 use Rattle.device_laws.proofs.Settings.{no_reset}
 use Rattle.device_laws.proofs.Standing.{stays_within, missed}
 use Rattle.device_laws.proofs.StandingAccesses.{write_rest, write_memory}
-use Rattle.device_lock.specs.Alone.{Spares, SparesIfSome, is_setting, place_at}
-use Rattle.history_laws.proofs.Modes.{place_in, place_named}
+use Rattle.device_lock.specs.Alone.{Spares, SparesIfSome, place_at}
+use Rattle.history_laws.proofs.Naming.{place_in, place_named}
 use Rattle.pmd_rx.specs.Receive.{Receive}
 use Rattle.receive_laws.specs.Steps.{Leaves}
-use Rattle.receive_laws.proofs.Kept.{each_of}
-
--- a register that is no setting is none of these
-
-no_setting : (row : RowId) → is_setting row ≡ false → (row ≢ Ctrl) × (row ≢ Hlreg0) × (row ≢ Maxfrs) × (row ≢ GcrExt)
-no_setting row none = (
-  (λ e. let f : true ≡ false = ap is_setting (sym e) ∙ none in cc),
-  (λ e. let f : true ≡ false = ap is_setting (sym e) ∙ none in cc),
-  (λ e. let f : true ≡ false = ap is_setting (sym e) ∙ none in cc),
-  (λ e. let f : true ≡ false = ap is_setting (sym e) ∙ none in cc),
-)
-
--- a register of the queue's receive side is one that the queue rests on
-
-abbrev receive_in : Owner → Bool
-receive_in (owner.Side Rx queue) = true
-receive_in other = false
-
-abbrev queue_in : Owner → ℕ
-queue_in (owner.Side dir queue) = queue
-queue_in other = 0
-
-bank_receives : (b : Bank) (index : ℕ) → receive_in (owner_in b index) ≡ true
-    → (is_receive_bank b ≡ true) × (queue_in (owner_in b index) ≡ index)
-bank_receives bank.Receive index e = (refl, refl)
-bank_receives bank.Device index e = cc
-bank_receives bank.Counters index e = cc
-bank_receives bank.Transmit index e = cc
-bank_receives bank.Interrupts index e = cc
-bank_receives bank.VfInterrupts index e = cc
-bank_receives bank.Pool index e = cc
-bank_receives bank.Vectors index e = cc
-bank_receives bank.VfCounters index e = cc
-
-not_the_side : (queue : ℕ) (p : Place) → (IsTrue (is_receive p.row) → p.index ≢ queue)
-    → owner_of p ≢ owner.Side Rx queue
-not_the_side queue p spares e =
-    let own = bank_receives (row_of p.row).bank p.index (ap receive_in e) in
-    spares own.0 (sym own.1 ∙ ap queue_in e)
-
--- the reset of a pool that hasn't the queue
-
-side_of_bank : (mode : Mode) (v queue : ℕ) → has_queue mode v queue ≡ false → (b : Bank) (index : ℕ)
-    → is_owner (owner.Side Rx queue) (owner_in b index) ≡ true → is_of_pool_by b mode v index ≡ false
-side_of_bank mode v queue none bank.Receive index e = ap (has_queue mode v) (sym (eqb-true queue index e)) ∙ none
-side_of_bank mode v queue none bank.Device index e = cc
-side_of_bank mode v queue none bank.Counters index e = cc
-side_of_bank mode v queue none bank.Transmit index e = cc
-side_of_bank mode v queue none bank.Interrupts index e = cc
-side_of_bank mode v queue none bank.VfInterrupts index e = cc
-side_of_bank mode v queue none bank.Pool index e = cc
-side_of_bank mode v queue none bank.Vectors index e = cc
-side_of_bank mode v queue none bank.VfCounters index e = cc
-
-wanted_of_side : (mode : Mode) (v queue : ℕ) → has_queue mode v queue ≡ false → (dir : Dir) (number : ℕ)
-    → is_owner (owner.Side Rx queue) (owner.Side dir number) ≡ true → has_queue mode v number ≡ false
-wanted_of_side mode v queue none Rx number e = ap (has_queue mode v) (sym (eqb-true queue number e)) ∙ none
-wanted_of_side mode v queue none Tx number e = cc
-
-pool_misses : (mode : Mode) (v queue : ℕ) → has_queue mode v queue ≡ false → Misses (of_pool mode v) (of_side Rx queue)
-pool_misses mode v queue none = record {
-  words = λ p is. side_of_bank mode v queue none (row_of p.row).bank p.index is;
-  wanted = λ dir number is. wanted_of_side mode v queue none dir number is;
-  told = λ g is. cc;
-}
+use Rattle.receive_laws.proofs.Each.{each_of}
+use Rattle.receive_laws.proofs.Unrelated.{no_setting, not_the_side, pool_misses}
 
 -- the write of a register
 

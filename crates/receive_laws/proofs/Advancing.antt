@@ -1,0 +1,91 @@
+-- The slot at the head of the driver's queue was filled: the head moved on, and the two agree on one piece more.
+use Rattle.std.proofs.Common.{◌≡◌, ℕ, ◌+◌, ◌^◌, ◌<◌, List, [], ◌∷◌, ◌++◌, length, sym, ap, ◌∙◌, subst, Ok, append_assoc}
+use Rattle.std.proofs.lemmas.List.{length_push}
+use Rattle.dma_arena.specs.Memory.{Memory}
+use Rattle.dma_ring.specs.Ring.{slots_of, next_of}
+use Rattle.rx_ring.specs.declared.filled.Filled.{Filled}
+use Rattle.rx_ring.specs.Fill.{Rest}
+use Rattle.rx_ring.proofs.Fills.{takes_piece}
+use Rattle.register_file.specs.Pools.{mode_in}
+use Rattle.register_file.specs.Queue.{ring_of}
+use Rattle.register_file.specs.Sides.{ReceiveQueue, receive_queue_of}
+use Rattle.register_file.specs.declared.dir.Dir.TheVariants.{Rx}
+use Rattle.nic_device.specs.Outcome.{Outcome}
+use Rattle.nic_device.specs.Sound.{IsSound}
+use Rattle.nic_device.specs.State.{State}
+use Rattle.nic_device.specs.Step.{step_of}
+use Rattle.nic_device.specs.declared.event.Event.TheVariants as event
+use Rattle.device_laws.specs.Replies.{received_tells, moved_on}
+use Rattle.device_laws.proofs.KeptSettings.{settings_stand}
+use Rattle.device_laws.proofs.RepliesReceived.{receiving_tells}
+use Rattle.device_laws.proofs.Standing.{stays_within}
+use Rattle.pmd_rx.specs.Receive.{Layout, Receive, slot_at, descriptor_at, block_at}
+use Rattle.receive_laws.specs.Joint.{IsSetUp, StageHolds, HasSlots, Holds}
+use Rattle.receive_laws.specs.Pieces.{Piece}
+use Rattle.receive_laws.proofs.Cases.{fill_on}
+use Rattle.receive_laws.proofs.Filled.{piece_in, Fills, stage_beside}
+use Rattle.receive_laws.proofs.Kept.{named_kept}
+use Rattle.receive_laws.proofs.Receiving.{fills_here, head_on, slots_more}
+
+-- what is known of the registers after the step
+pub record Follows (s : State) (o : Outcome) : Type 0 where
+  pub tells : received_tells o.reply s o.state
+  pub mode : mode_in o.state.registers ≡ mode_in s.registers
+  pub vfs : o.state.vfs ≡ s.vfs
+
+pub follows : (s : State) → IsSound s → Follows s (step_of s event.RxStep)
+follows s sound = record {
+  tells = receiving_tells s sound;
+  mode = (settings_stand s event.RxStep tt).mode;
+  vfs = (stays_within s event.RxStep).vfs;
+}
+
+-- a side whose head moved on from the first slot that wasn't filled
+set_up_more : (l : Layout) (q : ReceiveQueue) (n m : ℕ) → IsSetUp q l n → m ≡ n + 1
+    → next_of (slots_of q.ring) q.ring.head ≡ slot_at l (n + 1)
+    → IsSetUp (record q { ring = moved_on q.ring }) l m
+set_up_more l q n m h e is = record {
+  on = h.on;
+  wanted = h.wanted;
+  one_buffer = h.one_buffer;
+  buffer_size = h.buffer_size;
+  base = h.base;
+  sized = h.sized;
+  head = is ∙ ap (slot_at l) (sym e);
+  tail = h.tail;
+}
+
+module _ (queue : ℕ) (s : State) (out : List Piece) (v : Receive) (sound : IsSound s) where
+  -- the slot at the head was filled, and the frames that wait and the registers are what they are
+  pub filled_holds : (gone here : List Piece) → Holds queue s out v gone here → length here < length v.layout.blocks
+      → (rest : Rest) (f : Filled) (t : State) → rest.first < 2 ^ 64 → (fill_on s queue rest).answer ≡ Ok f
+      → t.memory ≡ (fill_on s queue rest).memory
+      → receive_queue_of t.registers queue
+      ≡ record (receive_queue_of s.registers queue) { ring = moved_on (ring_of s.registers Rx queue) }
+      → mode_in t.registers ≡ mode_in s.registers → t.vfs ≡ s.vfs
+      → Holds queue t (out ++ piece_in rest f ∷ []) v gone (here ++ piece_in rest f ∷ [])
+  filled_holds gone here h room rest f t fits is memory side mode vfs =
+      let l = v.layout in
+      let p : Piece = piece_in rest f in
+      let n : Memory = (fill_on s queue rest).memory in
+      let fill : Fills s.memory n (descriptor_at l (length here)) (block_at l (length here)) p =
+      fills_here s queue l here h.ring h.side h.slots room sound.blocks.whole rest f fits is in
+      let taken = takes_piece s.memory _ _ rest f is in
+      let head = head_on s queue l here h.ring h.side h.slots room rest f is in
+      let more : length (here ++ p ∷ []) ≡ length here + 1 = length_push here p in
+      record {
+        named = named_kept s t queue l mode vfs h.named;
+        ring = h.ring;
+        side = subst (λ q. IsSetUp q l (length (here ++ p ∷ []))) (sym side)
+            (set_up_more l (receive_queue_of s.registers queue) (length here) (length (here ++ p ∷ [])) h.side more
+            (sym taken.head ∙ head.0));
+        slots = subst (λ m. HasSlots m l (here ++ p ∷ [])) (sym memory)
+            (slots_more s.memory n l here p h.ring h.slots room fill);
+        stage = subst (λ m. StageHolds m l (here ++ p ∷ []) v.stage) (sym memory)
+            (stage_beside l h.ring s.memory n (length here) p room fill here p v.stage h.stage);
+        order = record {
+          ended = h.order.ended;
+          taken = h.order.taken;
+          order = ap (λ xs. xs ++ p ∷ []) h.order.order ∙ append_assoc gone here (p ∷ []);
+        };
+      }

@@ -1,0 +1,34 @@
+-- What an event keeps that writes no setting.
+use Rattle.std.proofs.Common.{◌≡◌, ℕ, refl, ◌∙◌}
+use Rattle.dma_arena.specs.Block.{Block}
+use Rattle.vf_map.specs.Map.{located}
+use Rattle.register_file.specs.Pools.{mode_in}
+use Rattle.nic_device.specs.Named.{named, at_location}
+use Rattle.nic_device.specs.Sound.{IsEvent}
+use Rattle.nic_device.specs.State.{State}
+use Rattle.nic_device.specs.Step.{after}
+use Rattle.nic_device.specs.declared.event.Event.{Event}
+use Rattle.nic_device.specs.declared.event.Port.{Port}
+use Rattle.nic_device.specs.declared.event.Port.TheVariants.{Pf, Vf}
+use Rattle.nic_device.proofs.Steps.{keeps_sound}
+use Rattle.device_laws.specs.Laws.{WritesNoSetting}
+use Rattle.device_laws.proofs.KeptSettings.{settings_stand}
+use Rattle.device_laws.proofs.Standing.{stays_within}
+use Rattle.pmd_tx.specs.Sending.{Layout}
+use Rattle.transmit_laws.specs.Agreeing.{IsBased}
+
+-- a number names the same, as long as the queues are parted alike
+pub named-same : (s t : State) → mode_in t.registers ≡ mode_in s.registers → t.vfs ≡ s.vfs → (port : Port) (n : ℕ)
+    → named t port n ≡ named s port n
+named-same s t mode vfs Pf n = refl
+named-same s t mode vfs (Vf v) n = λ k. at_location (located (mode k) (vfs k) v n)
+
+pub based-after : (s : State) (queue : ℕ) (l : Layout) (e : Event Block) → IsBased s queue l → IsEvent e
+    → WritesNoSetting s e → IsBased (after s e) queue l
+based-after s queue l e b made none = record {
+  sound = keeps_sound s b.sound e made;
+  small = b.small;
+  layout = b.layout;
+  tail = named-same s (after s e) (settings_stand s e none).mode (stays_within s e).vfs l.port l.tail ∙ b.tail;
+  limit = (settings_stand s e none).limit ∙ b.limit;
+}

@@ -1,0 +1,103 @@
+-- Over a whole history.
+use Rattle.std.proofs.Common.{◌≡◌, ◌≢◌, ℕ, suc, ◌+◌, ◌-◌, ◌<◌, inl, inr, List, [], ◌∷◌, ◌++◌, length, drop, refl, ap, sym, ◌∙◌, subst, arith, append_assoc, Option, Some, None}
+use Rattle.std.proofs.lemmas.Bool.{cases_lt, both_ways}
+use Rattle.std.proofs.lemmas.List.{append-nil, drop_all, length-append, length-drop}
+use Rattle.dma_arena.specs.Block.{Block}
+use Rattle.dma_arena.specs.Memory.{read_at}
+use Rattle.nic_device.specs.State.{State}
+use Rattle.nic_device.specs.Step.{after, reply_to}
+use Rattle.nic_device.specs.declared.event.Event.{Event}
+use Rattle.nic_device.specs.declared.event.Reply.{Reply}
+use Rattle.device_lock.specs.History.{IsLegal, leads_to}
+use Rattle.pmd_tx.specs.Sending.{Outgoing, Sender, Move, is_sent, descriptor_at, moved}
+use Rattle.transmit_laws.specs.Agreeing.{AgreesAt, Agrees, bytes_of, kept_in}
+use Rattle.transmit_laws.specs.Laws.{SentIsPrefix, IdleIsAllSent, WaitingIsNotAllSent}
+use Rattle.transmit_laws.specs.Sent.{sent_by, sent_in}
+use Rattle.transmit_laws.specs.Turns.{Turn, entries_of, known, sender_after, MayCome, MayRun}
+use Rattle.transmit_laws.proofs.Looking.{look-fetched, look-tells}
+use Rattle.transmit_laws.proofs.Playing.{move-keeps}
+use Rattle.transmit_laws.proofs.Sparing.{spares-keeps}
+
+-- one turn
+one-turn : (s : State) (queue : ℕ) (sent : List (List ℕ)) (v : Sender) (e : Event Block) (r : Reply Block)
+    (o : Option Move) → Agrees s queue sent v → r ≡ reply_to s e → MayCome queue v s e o
+    → Agrees (after s e) queue (sent ++ sent_by queue s e) (known v o r)
+one-turn s queue sent v e r None (f, h) is may = spares-keeps s queue sent v f h e may
+one-turn s queue sent v e r (Some m) (f, h) is may =
+    subst (λ x. Agrees (after s e) queue (sent ++ sent_by queue s e) (moved v m x)) (sym is)
+    (move-keeps s queue sent v f h m e may)
+
+pub over-turns : (s : State) (queue : ℕ) (sent : List (List ℕ)) (v : Sender) (ts : List Turn) → Agrees s queue sent v
+    → IsLegal s (entries_of ts) → MayRun queue v s ts
+    → Agrees (leads_to s (entries_of ts)) queue (sent ++ sent_in queue s (entries_of ts)) (sender_after v ts)
+over-turns s queue sent v [] j legal may = rw (append-nil sent) j
+over-turns s queue sent v (t ∷ ts) j legal may =
+    let e = t.entry.event in
+    let first = sent_by queue s e in
+    let rest = over-turns (after s e) queue (sent ++ first) (known v t.move t.entry.reply) ts
+    (one-turn s queue sent v e t.entry.reply t.move j legal.0 may.0) legal.1 may.1 in
+    subst (λ xs. Agrees (leads_to (after s e) (entries_of ts)) queue xs (sender_after (known v t.move t.entry.reply) ts))
+    (append_assoc sent first (sent_in queue (after s e) (entries_of ts))) rest
+
+pub sent_is_prefix : SentIsPrefix
+sent_is_prefix queue s v ts o =
+    let j = over-turns s queue [] v ts o.agreed o.legal o.may in
+    (bytes_of (kept_in (drop j.0 (sender_after v ts).outstanding)), j.1.in_order)
+
+-- what is left to be sent
+
+length-bytes_of : (ps : List Outgoing) → length (bytes_of (kept_in ps)) ≡ length ps
+length-bytes_of [] = refl
+length-bytes_of (p ∷ ps) = ap suc (length-bytes_of ps)
+
+module _ (s : State) (queue : ℕ) (sent : List (List ℕ)) (v : Sender) (f : ℕ) (h : AgreesAt s queue sent v f) where
+  -- with none outstanding all that was accepted is sent
+  idle-all : length v.outstanding ≡ 0 → bytes_of v.accepted ≡ sent
+  idle-all none =
+      h.in_order
+      ∙ ap (λ (ps : List Outgoing). sent ++ bytes_of (kept_in ps)) (drop_all f v.outstanding (omega arith))
+      ∙ append-nil sent
+
+  -- with one that isn't fetched it isn't, nor was it when fewer were sent
+  left-over : (xs more : List (List ℕ)) → sent ≡ xs ++ more → f < length v.outstanding → bytes_of v.accepted ≢ xs
+  left-over xs more split rest same =
+      let ps = drop f v.outstanding in
+      let a : length (bytes_of v.accepted) ≡ length sent + length (bytes_of (kept_in ps)) =
+      ap length h.in_order ∙ length-append sent (bytes_of (kept_in ps)) in
+      let b : length (bytes_of (kept_in ps)) ≡ length v.outstanding - f =
+      length-bytes_of ps ∙ length-drop f v.outstanding in
+      let c : length (bytes_of v.accepted) ≡ length xs = ap length same in
+      let d : length sent ≡ length xs + length more = ap length split ∙ length-append xs more in
+      omega (arith, a, b, c, d, rest)
+
+pub idle_is_all_sent : IdleIsAllSent
+idle_is_all_sent queue s v ts o none =
+    let j = over-turns s queue [] v ts o.agreed o.legal o.may in
+    idle-all (leads_to s (entries_of ts)) queue (sent_in queue s (entries_of ts)) (sender_after v ts) j.0 j.1
+    (ap length none)
+
+sent_in-append : (queue : ℕ) (s : State) (ts us : List Turn)
+    → sent_in queue s (entries_of (ts ++ us))
+    ≡ sent_in queue s (entries_of ts) ++ sent_in queue (leads_to s (entries_of ts)) (entries_of us)
+sent_in-append queue s [] us = refl
+sent_in-append queue s (t ∷ ts) us =
+    let n : State = after s t.entry.event in
+    ap (λ xs. sent_by queue s t.entry.event ++ xs) (sent_in-append queue n ts us)
+    ∙ sym (append_assoc (sent_by queue s t.entry.event) (sent_in queue n (entries_of ts))
+    (sent_in queue (leads_to n (entries_of ts)) (entries_of us)))
+
+pub waiting_is_not_all_sent : WaitingIsNotAllSent
+waiting_is_not_all_sent queue s v ts us bytes o posted told waits same all_sent =
+    let w : Sender = sender_after v (ts ++ us) in
+    let n : State = leads_to s (entries_of (ts ++ us)) in
+    let j = over-turns s queue [] v (ts ++ us) o.agreed o.legal o.may in
+    let sent = sent_in queue s (entries_of (ts ++ us)) in
+    let seen : bytes ≡ read_at n.memory (descriptor_at w.layout 0) 16 = look-tells n queue sent w j.0 j.1 bytes told in
+    elim (cases_lt 0 j.0) [
+      | inl some ↦
+          both_ways (is_sent bytes) waits (ap is_sent seen ∙ look-fetched n queue sent w j.0 j.1 some)
+      | inr none ↦
+          left-over n queue sent w j.0 j.1 (sent_in queue s (entries_of ts))
+          (sent_in queue (leads_to s (entries_of ts)) (entries_of us)) (sent_in-append queue s ts us)
+          (omega (arith, posted, j.1.counted.posted_known)) (ap bytes_of same ∙ all_sent)
+    ]

@@ -1,0 +1,83 @@
+-- Steps of transmitting of the driver's own queue.
+use Rattle.std.proofs.Common.{◌≡◌, ◌≢◌, ℕ, ◌+◌, ◌*◌, ◌%◌, ◌^◌, ◌<◌, ◌≤◌, inl, inr, false, not, List, length, refl, sym, ap, ◌∙◌, arith}
+use Rattle.std.specs.Prelude.{◌==◌}
+use Rattle.std.proofs.lemmas.Bool.{and_cases, eqb-false, lt-ltb, cases_lt, both_ways}
+use Rattle.std.proofs.Math.Nat.{mod-eq_of_lt}
+use Rattle.dma_arena.proofs.Bus.{small_of_lent}
+use Rattle.dma_ring.specs.Ring.{slots_of, is_outside}
+use Rattle.tx_ring.specs.Report.{head_address}
+use Rattle.register_file.specs.Sides.{TransmitQueue, transmit_queue_of}
+use Rattle.nic_device.specs.Receive.{is_empty}
+use Rattle.nic_device.specs.State.{State}
+use Rattle.nic_device.specs.Transmit.{sending_of}
+use Rattle.pmd_tx.specs.Sending.{Outgoing, Sender, packet_at, slot_at, descriptor_at}
+use Rattle.transmit_laws.specs.Agreeing.{AgreesAt}
+use Rattle.transmit_laws.proofs.Blocks.{slot-lent}
+use Rattle.transmit_laws.proofs.Fetching.{IsToSend}
+use Rattle.transmit_laws.proofs.Slots.{slot-below}
+
+module _ (s : State) (queue : ℕ) (sent : List (List ℕ)) (v : Sender) (f : ℕ) (h : AgreesAt s queue sent v f) where
+  abbrev pub side : TransmitQueue
+  side = transmit_queue_of s.registers queue
+
+  abbrev pub p : Outgoing
+  p = packet_at v f
+
+  pub slots : slots_of side.ring ≡ v.layout.size
+  slots = omega (arith, h.set_up.length)
+
+  below : (k : ℕ) → k ≤ v.posted → slot_at v.layout k < v.layout.size
+  below k le =
+      slot-below v.layout h.based.layout k (omega (arith, h.counted.room, h.counted.posted_known))
+
+  inside : is_outside side.ring ≡ false
+  inside =
+      let a : side.ring.head < slots_of side.ring = rw (slots, h.set_up.head) (below f h.counted.fetched_posted) in
+      let b : side.ring.tail < slots_of side.ring = rw (slots, h.set_up.tail) (below v.posted (omega arith)) in
+      rw (lt-ltb side.ring.head (slots_of side.ring) a, lt-ltb side.ring.tail (slots_of side.ring) b) refl
+
+  pub head_is : head_address side.ring ≡ descriptor_at v.layout f
+  head_is =
+      let e : side.ring.base + 16 * side.ring.head ≡ descriptor_at v.layout f =
+      rw (h.set_up.base, h.set_up.head) refl in
+      let low = below f h.counted.fetched_posted in
+      let few = h.based.layout.few in
+      let small = small_of_lent s.memory v.layout.ring h.based.sound.blocks.whole h.shows.ring in
+      ap (λ (n : ℕ). n % 2 ^ 64) e ∙ mod-eq_of_lt (omega arith)
+
+  -- where the queue isn't silent, a packet is posted and not fetched
+  pub more : is_empty side.ring ≡ false → f < v.posted
+  more full = elim (and_cases (not (is_outside side.ring)) (side.ring.head == side.ring.tail) full) [
+    | inl out ↦ absurd (both_ways (not (is_outside side.ring)) out (rw inside refl))
+    | inr apart ↦
+        let ne : side.ring.head ≢ side.ring.tail = eqb-false side.ring.head side.ring.tail apart in
+        elim (cases_lt f v.posted) [
+          | inl lt ↦ lt
+          | inr le ↦
+              let same : f ≡ v.posted = omega (arith, h.counted.fetched_posted) in
+              absurd (ne (h.set_up.head ∙ ap (slot_at v.layout) same ∙ sym h.set_up.tail))
+        ]
+  ]
+
+  module _ (posted : f < v.posted) where
+    pub known : f < length v.outstanding
+    known = omega (arith, posted, h.counted.posted_known)
+
+    pub small : f < v.layout.size
+    small = omega (arith, posted, h.counted.posted_known, h.counted.room)
+
+    pub to_send : IsToSend s.memory side.ring (sending_of s.registers side) p
+    to_send =
+        let ready = h.shows.ready f known in
+        record {
+          inside = inside;
+          lent = rw head_is (slot-lent v h.based.layout s.memory f (omega (arith, small)) h.shows.ring);
+          posted = rw head_is (h.shows.waits f (omega arith) posted);
+          bytes = ready.bytes;
+          buffer = ready.lent;
+          low = small_of_lent s.memory p.block h.based.sound.blocks.whole ready.lent;
+          long = ready.long;
+          short = ready.short;
+          limit = h.based.limit;
+          writeback = h.set_up.writeback;
+        }

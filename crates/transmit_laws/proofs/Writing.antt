@@ -1,0 +1,39 @@
+-- A descriptor of the ring that is written: the others and the packets stay.
+use Rattle.std.proofs.Common.{◌≡◌, ◌≢◌, ℕ, ◌*◌, ◌<◌, true, List, length, ◌∙◌, arith}
+use Rattle.dma_arena.specs.Memory.{Memory, has_block, read_at, write_at, AreApart, IsWhole}
+use Rattle.dma_arena.proofs.Bus.{read_at-write_at_same, read_at-write_at_apart, SameLent-write_at}
+use Rattle.pmd_tx.specs.Sending.{Outgoing, Sender, descriptor_at}
+use Rattle.transmit_laws.specs.Agreeing.{IsLayout, IsReady}
+use Rattle.transmit_laws.proofs.Blocks.{slot-lent, slots-apart, packet-apart}
+
+module _ (m : Memory) (whole : IsWhole m) (v : Sender) (l : IsLayout v.layout) (has : has_block m v.layout.ring ≡ true)
+    (k : ℕ) (below : k < v.layout.size) (bytes : List ℕ) (size : length bytes ≡ 16)
+  where
+    abbrev pub written : Memory
+    written = write_at m (descriptor_at v.layout k) bytes
+
+    reads : (a n : ℕ) → AreApart a n (descriptor_at v.layout k) 16 → read_at written a n ≡ read_at m a n
+    reads a n apart = read_at-write_at_apart m (descriptor_at v.layout k) bytes a n (rw size apart)
+
+    -- the descriptor that was written, and another one
+    pub read-here : read_at written (descriptor_at v.layout k) 16 ≡ bytes
+    read-here =
+        rw size at
+        (read_at-write_at_same m (descriptor_at v.layout k) bytes whole (rw size (slot-lent v l m k (omega arith) has)))
+
+    pub read-other : (j : ℕ) → j < v.layout.size → j ≢ k
+        → read_at written (descriptor_at v.layout j) 16 ≡ read_at m (descriptor_at v.layout j) 16
+    read-other j small ne = reads (descriptor_at v.layout j) 16 (slots-apart v l j k small below ne)
+
+    pub lent-still : (b : ℕ) → has_block m b ≡ true → has_block written b ≡ true
+    lent-still b is = SameLent-write_at m (descriptor_at v.layout k) bytes b ∙ is
+
+    pub ready-still : (p : Outgoing) → IsReady m v.layout.ring p → IsReady written v.layout.ring p
+    ready-still p ready = record {
+      long = ready.long;
+      short = ready.short;
+      lent = lent-still p.block ready.lent;
+      apart = ready.apart;
+      bytes =
+          reads (2048 * p.block) (length p.kept.bytes) (packet-apart v l m p k ready (omega arith)) ∙ ready.bytes;
+    }

@@ -1,0 +1,5 @@
+use Rattle.transmit_laws.proofs.LeftBlocks.{left_alone_is_spared}
+use Rattle.transmit_laws.proofs.left_alone_is_spared.Goals as goal
+
+pub returns : goal.returns
+returns c = left_alone_is_spared

@@ -1,0 +1,79 @@
+-- What holds of a driver that sends on a queue of a shared device.
+use Rattle.std.specs.Prelude.{ℕ, ◌≡◌, ◌≢◌, ◌<◌, false, List, [], ◌++◌}
+use Rattle.dma_arena.specs.Block.{Block}
+use Rattle.nic_device.specs.State.{State}
+use Rattle.nic_device.specs.Step.{after, reply_to}
+use Rattle.nic_device.specs.declared.event.Event.{Event}
+use Rattle.nic_device.specs.declared.event.Event.TheVariants as event
+use Rattle.device_lock.specs.declared.entry.Entry.{Entry}
+use Rattle.device_lock.specs.Alone.{Blocks}
+use Rattle.device_lock.specs.declared.alone.Watched.{Watched}
+use Rattle.device_lock.specs.History.{IsLegal, leads_to, calls_of}
+use Rattle.pmd_tx.specs.Plays.{played_by}
+use Rattle.pmd_tx.specs.Sending.{Sender, Move, is_sent, descriptor_at, moved}
+use Rattle.nic_device.specs.declared.event.Reply.TheVariants as reply
+use Rattle.transmit_laws.specs.Agreeing.{Agrees, bytes_of}
+use Rattle.transmit_laws.specs.Sent.{sent_by, sent_in}
+use Rattle.transmit_laws.specs.Sparing.{Spares, IsLeft}
+use Rattle.transmit_laws.specs.Turns.{Turn, entries_of, turns_of, sender_after, MayMove, MayRun, IsOver}
+
+-- a step of transmitting of the driver's queue keeps what the two agree on, with the frame that it sends, if any
+abbrev pub StepsOfQueueKeep : Type 0
+StepsOfQueueKeep =
+    (s : State) (queue : ℕ) (sent : List (List ℕ)) (v : Sender) → Agrees s queue sent v →
+    Agrees (after s (event.TxStep queue)) queue (sent ++ sent_by queue s (event.TxStep queue)) v
+
+-- an event that spares the driver keeps it too
+abbrev pub SparingEventsKeep : Type 0
+SparingEventsKeep =
+    (s : State) (queue : ℕ) (sent : List (List ℕ)) (v : Sender) (e : Event Block) → Agrees s queue sent v →
+    Spares queue v s e → Agrees (after s e) queue (sent ++ sent_by queue s e) v
+
+-- an event that leaves the queue alone, by the clauses by which histories are judged, spares its driver
+abbrev pub LeftAloneIsSpared : Type 0
+LeftAloneIsSpared =
+    (w : Watched) (mine : Blocks) (v : Sender) (s : State) (e : Event Block) → IsLeft w mine v s e →
+    Spares w.queue v s e
+
+-- and so does each move of the driver's, by its reply
+abbrev pub MovesKeep : Type 0
+MovesKeep =
+    (s : State) (queue : ℕ) (sent : List (List ℕ)) (v : Sender) (e : Event Block) (m : Move) → Agrees s queue sent v →
+    MayMove queue v s e m → Agrees (after s e) queue (sent ++ sent_by queue s e) (moved v m (reply_to s e))
+
+-- some frames, and then others
+abbrev pub IsPrefixOf : List (List ℕ) → List (List ℕ) → Type 0
+IsPrefixOf xs ys = (rest : List (List ℕ)) × (ys ≡ xs ++ rest)
+
+-- over a history, the frames sent are a prefix of those that the driver accepted
+abbrev pub SentIsPrefix : Type 0
+SentIsPrefix =
+    (queue : ℕ) (s : State) (v : Sender) (ts : List Turn) → IsOver queue s v ts →
+    IsPrefixOf (sent_in queue s (entries_of ts)) (bytes_of (sender_after v ts).accepted)
+
+-- where none is outstanding they are all of them
+abbrev pub IdleIsAllSent : Type 0
+IdleIsAllSent =
+    (queue : ℕ) (s : State) (v : Sender) (ts : List Turn) → IsOver queue s v ts →
+    (sender_after v ts).outstanding ≡ [] → bytes_of (sender_after v ts).accepted ≡ sent_in queue s (entries_of ts)
+
+-- where a look finds the oldest outstanding packet not done, and none was accepted since some turn, then before that
+-- turn not all of those accepted were sent
+abbrev pub WaitingIsNotAllSent : Type 0
+WaitingIsNotAllSent =
+    (queue : ℕ) (s : State) (v : Sender) (ts us : List Turn) (bytes : List ℕ) → IsOver queue s v (ts ++ us) →
+    0 < (sender_after v (ts ++ us)).posted →
+    reply_to (leads_to s (entries_of (ts ++ us)))
+    (event.Peek16 (descriptor_at (sender_after v (ts ++ us)).layout 0))
+    ≡ reply.Bytes bytes →
+    is_sent bytes ≡ false →
+    (sender_after v (ts ++ us)).accepted ≡ (sender_after v ts).accepted →
+    bytes_of (sender_after v ts).accepted ≢ sent_in queue s (entries_of ts)
+
+-- a history whose entries of a pass are the calls that a driver made, each by its move: what was sent is a prefix of
+-- what these moves accepted
+abbrev pub SentIsPrefixOfTaken : Type 0
+SentIsPrefixOfTaken =
+    (pass queue : ℕ) (s : State) (v : Sender) (moves : List Move) (h : List Entry) → Agrees s queue [] v →
+    IsLegal s h → MayRun queue v s (turns_of pass moves h) →
+    IsPrefixOf (sent_in queue s h) (bytes_of (played_by v moves (calls_of pass h)).accepted)

@@ -1,0 +1,5 @@
+pub mod Agreeing
+pub mod Laws
+pub mod Sent
+pub mod Sparing
+pub mod Turns

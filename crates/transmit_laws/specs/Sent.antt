@@ -1,0 +1,37 @@
+-- The frames that a queue sends, counted since its transmit side last went on.
+use Rattle.std.specs.Prelude.{ℕ, ◌==◌, Bool, not, ◌&&◌, List, [], ◌∷◌, ◌++◌, length, drop, map, if◌then◌else◌}
+use Rattle.dma_arena.specs.Block.{Block}
+use Rattle.device_lock.specs.declared.entry.Entry.{Entry}
+use Rattle.register_file.specs.Queue.{is_on}
+use Rattle.register_file.specs.declared.dir.Dir.TheVariants.{Tx}
+use Rattle.nic_device.specs.State.{State}
+use Rattle.nic_device.specs.Step.{after}
+use Rattle.nic_device.specs.declared.event.Event.{Event}
+use Rattle.nic_device.specs.declared.event.Event.TheVariants as event
+
+-- the frames that joined those out, behind them
+abbrev pub frames_added : List (ℕ × List ℕ) → List (ℕ × List ℕ) → List (List ℕ)
+frames_added old new = map (λ (f : ℕ × List ℕ). f.1) (drop (length old) new)
+
+-- the frames that one event sends on a queue: only a step of that queue sends any, and at most one
+abbrev pub sent_by : ℕ → State → Event Block → List (List ℕ)
+sent_by queue s (event.TxStep on) = if on == queue then frames_added s.out (after s (event.TxStep on)).out else []
+sent_by queue s other = []
+
+-- the frames that the entries of a history send on a queue, from a state on
+abbrev pub sent_in : ℕ → State → List Entry → List (List ℕ)
+sent_in queue s [] = []
+sent_in queue s (e ∷ es) = sent_by queue s e.event ++ sent_in queue (after s e.event) es
+
+-- whether the transmit side of a queue goes on by an event
+abbrev pub goes_on : ℕ → State → Event Block → Bool
+goes_on queue s e = not (is_on s.registers Tx queue) && is_on (after s e).registers Tx queue
+
+-- what is counted by an event: it begins anew where the side goes on
+abbrev pub counted_by : ℕ → State → Event Block → List (List ℕ) → List (List ℕ)
+counted_by queue s e sent = if goes_on queue s e then [] else sent ++ sent_by queue s e
+
+-- the frames sent by a history, counted since the side last went on, with those counted before it
+abbrev pub sent_since : ℕ → State → List (List ℕ) → List Entry → List (List ℕ)
+sent_since queue s sent [] = sent
+sent_since queue s sent (e ∷ es) = sent_since queue (after s e.event) (counted_by queue s e.event sent) es

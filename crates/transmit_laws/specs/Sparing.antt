@@ -1,0 +1,67 @@
+-- What it is for an event to spare a driver that sends: to leave what the driver rests on as it is.
+use Rattle.std.specs.Prelude.{ℕ, ◌+◌, ◌%◌, ◌≡◌, ◌<◌, ◌≤◌, ◌==◌, Bool, false, ⊤, IsTrue, IsFalse, Some}
+use Rattle.dma_arena.specs.Block.{Block}
+use Rattle.dma_arena.specs.Memory.{Avoids}
+use Rattle.register_file.specs.Pools.{mode_in}
+use Rattle.register_file.specs.Sides.{transmit_queue_of}
+use Rattle.register_file.specs.declared.dir.Dir.TheVariants.{Tx}
+use Rattle.tx_ring.specs.Report.{report_length}
+use Rattle.nic_device.specs.Footprint.{told_back}
+use Rattle.nic_device.specs.Sound.{IsEvent, IsSound}
+use Rattle.nic_device.specs.State.{State}
+use Rattle.nic_device.specs.Step.{after, reply_to}
+use Rattle.nic_device.specs.declared.event.Event.{Event}
+use Rattle.nic_device.specs.declared.event.Event.TheVariants as event
+use Rattle.nic_device.specs.declared.event.Reply.{Reply}
+use Rattle.nic_device.specs.declared.event.Reply.TheVariants.{Wrote}
+use Rattle.device_lock.specs.Alone.{Blocks, LeavesRegisters, LeavesBlocks, WritesOutside}
+use Rattle.device_lock.specs.declared.alone.Watched.{Watched}
+use Rattle.device_laws.specs.Laws.{WritesNoSetting}
+use Rattle.device_laws.specs.Leaving.{LeavesTransmit, LeavesBlock}
+use Rattle.pmd_tx.specs.Sending.{Sender, has_lent}
+
+-- whether an event is a step of transmitting of this queue, and whether it is one of its transmit side's enable
+abbrev pub is_transmit_of : ℕ → Event Block → Bool
+is_transmit_of queue (event.TxStep on) = on == queue
+is_transmit_of queue other = false
+
+abbrev pub is_switch_of : ℕ → Event Block → Bool
+is_switch_of queue (event.QueueStep Tx on) = on == queue
+is_switch_of queue other = false
+
+-- an event that can be made writes no setting. It is a step of transmitting of the driver's queue; or it leaves each
+-- block that the driver has lent, and the transmit side, unless it is a step of that side's enable
+pub record Spares (queue : ℕ) (v : Sender) (s : State) (e : Event Block) : Type 0 where
+  pub made : IsEvent e
+  pub setting : WritesNoSetting s e
+  pub side : IsFalse (is_transmit_of queue e) → IsFalse (is_switch_of queue e) → LeavesTransmit queue s (after s e)
+  pub blocks :
+      IsFalse (is_transmit_of queue e) → (number : ℕ) → IsTrue (has_lent v number) → LeavesBlock number s (after s e)
+
+-- what the driver's receive half and the device owe of a step: a piece isn't empty, and one of the driver's own queue is
+-- outside the blocks that the sender has lent; what is written back ends in the block where it begins
+abbrev pub ReceiveOwes : ℕ → Sender → Reply Block → Type 0
+ReceiveOwes queue v (Wrote on slot end desc at len) =
+    (0 < len) × (on ≡ queue → (number : ℕ) → IsTrue (has_lent v number) → Avoids number desc 16 × Avoids number at len)
+ReceiveOwes queue v other = ⊤
+
+abbrev pub ReportsInside : State → ℕ → Type 0
+ReportsInside s on =
+    (back : ℕ) → told_back (reply_to s (event.TxStep on)) ≡ Some back
+    → back % 2048 + report_length (transmit_queue_of s.registers on).writeback ≤ 2048
+
+abbrev pub Owes : ℕ → Sender → State → Event Block → Type 0
+Owes queue v s event.RxStep = ReceiveOwes queue v (reply_to s event.RxStep)
+Owes queue v s (event.TxStep on) = ReportsInside s on
+Owes queue v s other = ⊤
+
+-- an event leaves a queue of a sound device alone, and all blocks among which are the sender's
+pub record IsLeft (w : Watched) (mine : Blocks) (v : Sender) (s : State) (e : Event Block) : Type 0 where
+  pub sound : IsSound s
+  pub made : IsEvent e
+  pub functions : w.vfs ≡ s.vfs
+  pub lent : (number : ℕ) → IsTrue (has_lent v number) → IsTrue (mine number)
+  pub registers : LeavesRegisters w (mode_in s.registers) e
+  pub blocks : LeavesBlocks mine e
+  pub steps : WritesOutside w.queue mine (reply_to s e)
+  pub owed : Owes w.queue v s e

@@ -1,0 +1,40 @@
+//! What holds of a driver that sends on a queue of a shared device, over whatever others do meanwhile.
+//!
+//! Each law is the contract of a function that does nothing. `specs/Sent` says which frames a queue sends,
+//! `specs/Agreeing` what device and driver agree on, `specs/Sparing` what it is for an event to spare the driver, and
+//! `specs/Turns` what a history is in which a pass is the driver.
+#![tactic(auto)]
+
+ghost use Rattle.transmit_laws.specs.Laws.{StepsOfQueueKeep, SparingEventsKeep, LeftAloneIsSpared, MovesKeep, SentIsPrefix, IdleIsAllSent, WaitingIsNotAllSent, SentIsPrefixOfTaken};
+
+/// A step of transmitting of the driver's own queue keeps what device and driver agree on, with the frame that it
+/// sends: the next packet that was accepted and not sent, or none.
+pub fn steps_of_queue_keep()
+    ensures { StepsOfQueueKeep }
+{}
+
+/// An event that spares the driver keeps what device and driver agree on, with the frame that it sends on the queue, if
+/// any.
+pub fn sparing_events_keep()
+    ensures { SparingEventsKeep }
+{}
+
+/// An event that leaves the queue alone, by the clauses by which a closed history is judged, spares its driver.
+pub fn left_alone_is_spared()
+    ensures { LeftAloneIsSpared }
+{}
+
+/// Each move of the driver's own keeps what device and driver agree on.
+pub fn moves_keep()
+    ensures { MovesKeep }
+{}
+
+/// Over every legal history in which each event is the driver's next move or spares it, the frames sent on its queue
+/// are a prefix of those that it accepted, byte for byte; with none outstanding they are all of them; and where a look
+/// finds the oldest outstanding packet not done, not all that was accepted was sent before.
+pub fn sent_in_order()
+    ensures prefix { SentIsPrefix }
+    ensures idle { IdleIsAllSent }
+    ensures waiting { WaitingIsNotAllSent }
+    ensures taken { SentIsPrefixOfTaken }
+{}

@@ -57,18 +57,9 @@ with_lines-empty content line more empty =
 abbrev IsNext : List NumberedLine → Option Line → List NumberedLine → Type 0
 IsNext lines result behind = YieldsFirstBy line_of (λ ls. ls) (filled lines) result behind
 
-sized-none : (lines : List NumberedLine) → lines ≡ [] → sized lines ≡ Ok None
-unfolding sized
-sized-none lines none = rw none refl
-
 with_lines-none : (content : Content) (lines : List NumberedLine) → lines ≡ [] → with_lines content lines ≡ Ok content
 unfolding with_lines
 with_lines-none content lines none = rw none refl
-
-pub sized-next : (lines behind : List NumberedLine) (result : Option Line) → IsNext lines result behind
-    → MatchOption result (sized lines ≡ Ok None) (λ line. sized lines ≡ sized (line_of line ∷ behind))
-sized-next lines behind None next = sym (same-filled sized sized-empty lines) ∙ sized-none (filled lines) next.0
-sized-next lines behind (Some line) next = sym (same-filled sized sized-empty lines) ∙ ap sized next
 
 pub with_lines-next : (content : Content) (lines behind : List NumberedLine) (result : Option Line)
     → IsNext lines result behind → MatchOption result (with_lines content lines ≡ Ok content)
@@ -84,3 +75,9 @@ pub shorter-next : (lines behind : List NumberedLine) (result : Option Line) →
 shorter-next lines behind None next = tt
 shorter-next lines behind (Some line) next =
     omega (arith, ap length next, length-drop (prefix_len is_empty lines) lines)
+
+-- the size doesn't change with the empty lines in front
+pub sized-skip : (lines behind : List NumberedLine) (count : ℕ) → count ≡ prefix_len is_empty lines
+    → behind ≡ drop count lines → sized behind ≡ sized lines
+sized-skip lines behind count is rest =
+    ap sized (rest ∙ ap (λ n. drop n lines) is) ∙ same-filled sized sized-empty lines

@@ -20,4 +20,5 @@ pub mod Blank
 pub mod TripleLists
 pub mod Sizes
 pub mod Filled
+pub mod Started
 pub mod CountedLines

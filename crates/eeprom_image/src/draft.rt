@@ -1,11 +1,11 @@
 //! What the lines of an EEPROM text give.
 
-ghost use Rattle.std.specs.Prelude.{◌≡◌, ◌+◌, ◌≤◌, ◌<◌, ◌^◌, ◌∷◌, length, None, Ok, MatchOption, IfSome};
+ghost use Rattle.std.specs.Prelude.{◌≡◌, ◌+◌, ◌≤◌, ◌<◌, ◌^◌, ◌∷◌, length, Ok, MatchOption, IfSome, IfOk, IfErr};
 ghost use Rattle.std.specs.Option.{option_map};
 ghost use Rattle.lexer.specs.Lines.{lines_of, line_of};
 ghost use Rattle.eeprom_image.specs.Content.{Content, with_line, with_lines, sized, content_of, only_size};
 ghost use Rattle.eeprom_image.specs.Line.{text_line};
-ghost use Rattle.eeprom_image.specs.Text.{Gives};
+ghost use Rattle.eeprom_image.specs.Text.{Gives, Fails};
 ghost use Rattle.eeprom_image.specs.Draft.{content_in};
 
 use crate::line::{TextLine, text_line};
@@ -27,48 +27,34 @@ pub(crate) struct Draft {
     pub(crate) triples: Vec<(u32, u32)>,
 }
 
+/// The size, which the first line gives that isn't empty, and the lines behind it.
+#[tactic(auto, unfolding(crate::specs::Content::sized))]
+fn read_size(text: &str) -> Result<(u32, Lines<'_>), AsmFault>
+    ensures ok { IfOk result (λ start. content_of text.now ≡ with_lines (only_size start.0) start.1) }
+    ensures err { IfErr result (λ fault. Fails fault (content_of text.now)) }
+{
+    let mut lines = Lines::of(text);
+    let mut count = lines.skip_empty();
+    'empty_lines: while let Some(line) = lines.next() {
+        match text_line(line.text) {
+            TextLine::Empty => count = line.number + lines.skip_empty(),
+            TextLine::Size(size) => return Ok((size, lines)),
+            TextLine::Word(..) | TextLine::Csr(..) | TextLine::Malformed => {
+                return Err(AsmFault::Syntax(line.number));
+            }
+        }
+    }
+    Err(AsmFault::Syntax(count + 1))
+}
+
 /// The next line that isn't empty: those before it give nothing. The lines behind it are left.
 fn next_filled<'a>(lines: &mut Lines<'a>) -> Option<Line<'a>>
-    ensures sized { MatchOption result (sized lines.old ≡ Ok None)
-        (λ line. sized lines.old ≡ sized (line_of line ∷ lines.new)) }
     ensures given { (content : Content) → MatchOption result (with_lines content lines.old ≡ Ok content)
         (λ line. with_lines content lines.old ≡ with_lines content (line_of line ∷ lines.new)) }
     ensures shorter { IfSome result (λ line. length lines.new < length lines.old) }
 {
     lines.skip_empty();
     lines.next()
-}
-
-/// The size, which the first line gives that isn't empty. The lines behind it are left.
-#[tactic(auto, unfolding(crate::specs::Content::sized))]
-fn read_size(lines: &mut Lines<'_>) -> Result<Option<u32>, AsmFault>
-    ensures { Gives (λ size. option_map (λ size. (size, lines.new)) size) result (sized lines.old) }
-{
-    'empty_lines: while let Some(line) = next_filled(lines) {
-        match text_line(line.text) {
-            TextLine::Empty => {}
-            TextLine::Size(size) => return Ok(Some(size)),
-            TextLine::Word(..) | TextLine::Csr(..) | TextLine::Malformed => {
-                return Err(AsmFault::Syntax(line.number));
-            }
-        }
-    }
-    Ok(None)
-}
-
-/// How many lines a text has.
-fn line_count(text: &str) -> usize
-    ensures value { result ≡ length (lines_of text.now) }
-    ensures bound { result < 2 ^ 63 }
-{
-    let mut lines = Lines::of(text);
-    let mut count = lines.skip_empty();
-    'filled: while let Some(line) = lines.next() {
-        count = line.number + lines.skip_empty();
-    }
-    let bytes = text.len();
-    prove!(count <= bytes);
-    count
 }
 
 impl Draft {
@@ -99,14 +85,10 @@ impl Draft {
 }
 
 /// What a text gives, or its first faulty line.
-#[tactic(auto, unfolding(crate::specs::Content::content_of))]
 pub(crate) fn read(alloc: Global, text: &str) -> Result<Draft, AsmFault>
     ensures { Gives content_in result (content_of text.now) }
 {
-    let mut lines = Lines::of(text);
-    let Some(size) = read_size(&mut lines)? else {
-        return Err(AsmFault::Syntax(line_count(text) + 1));
-    };
+    let (size, lines) = read_size(text)?;
     let mut draft = Draft {
         size,
         words: Vec::with_capacity(alloc, text.len() / LINE_LENGTH)?,

@@ -81,7 +81,7 @@ fn instruction_in(fields: Fields) -> Option<Instruction>
         20 => Some(Instruction::JumpUnlessEqual(a, x)),
         21 => Some(Instruction::Jump(x)),
         22 => Some(Instruction::Halt),
-        _ => None,
+        0 | 23..=u8::MAX => None,
     }
 }
 

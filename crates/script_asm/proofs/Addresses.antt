@@ -1,9 +1,9 @@
 -- Printed addresses of registers read back.
-use Rattle.std.proofs.Common.{◌≡◌, refl, ap, subst, ℕ, ◌^◌, ◌<◌, true, false, ◌==◌, List, [], ◌∷◌, ◌++◌, length, Option, Some, None, Result, Ok, Err, unwrap_or, arith, inl, inr}
+use Rattle.std.proofs.Common.{◌≡◌, refl, ap, subst, ℕ, ◌^◌, ◌<◌, [], ◌∷◌, ◌++◌, Option, Some, None, Result, Ok, Err, unwrap_or, arith, inl, inr}
 use Rattle.std.specs.Prelude.{decimal}
 use Rattle.std.specs.Option.{ok_or}
 use Rattle.std.proofs.lemmas.Bool.{lt-ltb}
-use Rattle.std.proofs.lemmas.Bool.Decides.{eqb_tells, nat_tests}
+use Rattle.std.proofs.lemmas.Bool.Decides.{eqb_tells}
 use Rattle.lexer.specs.Name.{is_name}
 use Rattle.printed.specs.Word.{word_text}
 use Rattle.reg_table.specs.declared.place.Place.{Place}
@@ -20,9 +20,8 @@ use Rattle.script_asm.specs.Target.{number_in, row_in, register_address, address
 use Rattle.script_asm.specs.declared.faults.LineFault.{LineFault}
 use Rattle.script_asm.specs.declared.faults.LineFault.TheVariants.{UnknownName}
 use Rattle.script_asm.proofs.Endings.{before_last_byte-ended}
-use Rattle.script_asm.proofs.Numerals.{is_tame, tame-word, IsWord-word, number_of-word, number_of-decimal, plain-decimal}
-use Rattle.script_asm.proofs.Plain.{IsWord, is_plain, list_all-weaker, both_all}
-use Rattle.script_asm.proofs.RowNames.{row-IsGood, tame_plain, no_bracket, bracket, before_bracket, after_bracket}
+use Rattle.script_asm.proofs.Numerals.{tame-word, number_of-word, number_of-decimal}
+use Rattle.script_asm.proofs.RowNames.{row-IsGood, no_bracket, bracket, before_bracket, after_bracket}
 
 row_in-name : (r : RowId) → row_in (row_of r).name ≡ Ok r
 row_in-name r = ap (λ o. ok_or o UnknownName) (found_by_name r (row_of r).name refl)
@@ -85,9 +84,9 @@ unfolding target_of is_name
 target_of-word n small = rw (no_bracket (word_text n) (tame-word n small)) (number_in-word n small)
 
 -- the place that is printed for an address, if one is
-record IsFirst (p : Place) (a : ℕ) : Type 0 where
-  below : p.index < (row_of p.row).count
-  is : unwrap_or (address_among runs p) 0 ≡ a
+pub record IsFirst (p : Place) (a : ℕ) : Type 0 where
+  pub below : p.index < (row_of p.row).count
+  pub is : unwrap_or (address_among runs p) 0 ≡ a
 
 first_here : (a : ℕ) (q p : Place) → place_among runs a ≡ Some q → if_first_at a q ≡ Some p → IsFirst p a
 first_here a q p found e = elim (eqb_tells (unwrap_or (address_among runs q) 0) a) [
@@ -98,7 +97,7 @@ first_here a q p found e = elim (eqb_tells (unwrap_or (address_among runs q) 0) 
   | inr (test, other) ↦ (let step : None ≡ Some p = rw test at e in cc)
 ]
 
-first-IsFirst : (a : ℕ) (p : Place) (found : Option Place) → place_among runs a ≡ found
+pub first-IsFirst : (a : ℕ) (p : Place) (found : Option Place) → place_among runs a ≡ found
     → elim found [ None ↦ None | Some place ↦ if_first_at a place ] ≡ Some p → IsFirst p a
 first-IsFirst a p None found e = cc
 first-IsFirst a p (Some q) found e = first_here a q p found e
@@ -112,48 +111,3 @@ printed a (Some p) found small = let first = first-IsFirst a p (place_among runs
 -- what is printed for an address names the address
 pub target_of-text : (a : ℕ) → a < 2 ^ 32 → target_of (target_text a) ≡ Ok a
 target_of-text a small = printed a (place_first_at a) refl small
-
--- and is one word
-long-name : (xs : List ℕ) → is_name xs ≡ true → (length xs == 0) ≡ false
-unfolding is_name
-long-name [] e = cc
-long-name (c ∷ cs) e = grind (arith, nat_tests)
-
-long-more : (xs ys : List ℕ) → (length xs == 0) ≡ false → (length (xs ++ ys) == 0) ≡ false
-long-more [] ys e = cc
-long-more (c ∷ cs) ys e = grind (arith, nat_tests)
-
-IsWord-name : (r : RowId) → IsWord (row_of r).name
-IsWord-name r =
-    let good = row-IsGood r in
-    record {
-      long = long-name (row_of r).name good.name;
-      plain =
-          list_all-weaker is_tame is_plain tame_plain (row_of r).name good.tame;
-    }
-
-IsWord-indexed : (r : RowId) (n : ℕ) → n < 65536 → IsWord ((row_of r).name ++ 91 ∷ (decimal n ++ 93 ∷ []))
-IsWord-indexed r n small =
-    let word = IsWord-name r in
-    record {
-      long = long-more (row_of r).name (91 ∷ (decimal n ++ 93 ∷ [])) word.long;
-      plain = both_all is_plain (row_of r).name (91 ∷ (decimal n ++ 93 ∷ [])) word.plain
-          (both_all is_plain (decimal n) (93 ∷ []) (plain-decimal n (omega arith)) refl);
-    }
-
-IsWord-place : (p : Place) → p.index < (row_of p.row).count → IsWord (place_text p)
-IsWord-place p below =
-    let good = row-IsGood p.row in
-    let few = good.few in
-    elim (eqb_tells (row_of p.row).count 1) [
-      | inl (test, one) ↦ rw test (IsWord-name p.row)
-      | inr (test, many) ↦ rw test (IsWord-indexed p.row p.index (omega (arith, few)))
-    ]
-
-printed_word : (a : ℕ) (place : Option Place) → place_first_at a ≡ place → a < 2 ^ 32
-    → IsWord (elim place [ None ↦ word_text a | Some p ↦ place_text p ])
-printed_word a None found small = IsWord-word a small
-printed_word a (Some p) found small = IsWord-place p (first-IsFirst a p (place_among runs a) refl found).below
-
-pub IsWord-target : (a : ℕ) → a < 2 ^ 32 → IsWord (target_text a)
-IsWord-target a small = printed_word a (place_first_at a) refl small

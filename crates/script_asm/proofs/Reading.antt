@@ -1,8 +1,6 @@
 -- Each instruction of a program reads back from its line.
-use Rattle.std.proofs.Common.{refl, ℕ, true, false, List, [], ◌∷◌, arith}
+use Rattle.std.proofs.Common.{refl, ℕ, List, [], ◌∷◌, arith}
 use Rattle.std.specs.Prelude.{codes}
-use Rattle.intr_unit.specs.declared.Group.TheVariants.{Pf, Vf}
-use Rattle.register_file.specs.declared.dir.Dir.TheVariants.{Rx, Tx}
 use Rattle.printed.specs.Word.{word_text}
 use Rattle.program.specs.Encoding.{HaveWidths, fields_of}
 use Rattle.program.specs.Listing.{IsSound}
@@ -10,9 +8,11 @@ use Rattle.program.specs.declared.instruction.Instruction.{Instruction as Step}
 use Rattle.program.specs.declared.instruction.Instruction.TheVariants.{Write, Read, VfWrite, VfRead, Lend, Unlend, Poke, Peek, Arrive, RxStep, TxStep, IntStep, QueueStep, EepromStep, Link, Collect, Expect, And, JumpIfEqual, JumpUnlessEqual, Jump, Halt}
 use Rattle.script_asm.specs.Printing.{target_text}
 use Rattle.script_asm.specs.Statement.{statement_of}
-use Rattle.script_asm.proofs.Addresses.{number_in-word, target_of-text, IsWord-target}
+use Rattle.script_asm.proofs.Addresses.{number_in-word, target_of-text}
+use Rattle.script_asm.proofs.AddressWords.{IsWord-target}
 use Rattle.script_asm.proofs.Numerals.{IsWord-word, name_in-numbered, IsWord-numbered}
-use Rattle.script_asm.proofs.Spelling.{ReadsBack, label_name, data_name, number_below-word, says-write, says-read, says-vw, says-vr, says-lend, says-unlend, says-poke, says-peek, says-arrive, says-tx, says-int, says-qstep-rx, says-qstep-tx, says-expect, says-and, says-jeq, says-jne, says-jmp}
+use Rattle.script_asm.proofs.Spelling.{ReadsBack, label_name, data_name, number_below-word, says-write, says-read, says-vw, says-vr, says-lend, says-unlend, says-poke, says-peek, says-arrive, says-tx, says-expect, says-and, says-jeq, says-jne, says-jmp}
+use Rattle.script_asm.proofs.ReadingSteps.{reads-int, reads-qstep, reads-link}
 
 pub reads : (strings : List (List ℕ)) (count : ℕ) (i : Step ℕ ℕ) → IsSound strings count i → HaveWidths (fields_of i)
     → ReadsBack i
@@ -92,50 +92,11 @@ reads strings count (TxStep queue) sound w = record {
   text = refl;
   says = says-tx (word_text queue) queue (number_below-word 65536 queue sound (omega arith));
 }
-reads strings count (IntStep Pf) sound w = record {
-  words = codes "int" ∷ codes "pf" ∷ [];
-  are = (record { long = refl; plain = refl }, (record { long = refl; plain = refl }, tt));
-  text = refl;
-  says = refl;
-}
-reads strings count (IntStep (Vf function)) sound w = record {
-  words = codes "int" ∷ word_text function ∷ [];
-  are = (record { long = refl; plain = refl }, (IsWord-word function (omega arith), tt));
-  text = refl;
-  says = says-int function (number_below-word 63 function sound (omega arith));
-}
-reads strings count (QueueStep Rx queue) sound w = record {
-  words = codes "qstep" ∷ codes "rx" ∷ word_text queue ∷ [];
-  are = (
-    record { long = refl; plain = refl },
-    (record { long = refl; plain = refl }, (IsWord-word queue (omega arith), tt)),
-  );
-  text = refl;
-  says = says-qstep-rx (word_text queue) queue (number_below-word 65536 queue sound (omega arith));
-}
-reads strings count (QueueStep Tx queue) sound w = record {
-  words = codes "qstep" ∷ codes "tx" ∷ word_text queue ∷ [];
-  are = (
-    record { long = refl; plain = refl },
-    (record { long = refl; plain = refl }, (IsWord-word queue (omega arith), tt)),
-  );
-  text = refl;
-  says = says-qstep-tx (word_text queue) queue (number_below-word 65536 queue sound (omega arith));
-}
+reads strings count (IntStep group) sound w = reads-int strings count group sound w
+reads strings count (QueueStep dir queue) sound w = reads-qstep strings count dir queue sound w
 reads strings count EepromStep sound w =
     record { words = codes "eestep" ∷ []; are = (record { long = refl; plain = refl }, tt); text = refl; says = refl }
-reads strings count (Link true) sound w = record {
-  words = codes "link" ∷ codes "up" ∷ [];
-  are = (record { long = refl; plain = refl }, (record { long = refl; plain = refl }, tt));
-  text = refl;
-  says = refl;
-}
-reads strings count (Link false) sound w = record {
-  words = codes "link" ∷ codes "down" ∷ [];
-  are = (record { long = refl; plain = refl }, (record { long = refl; plain = refl }, tt));
-  text = refl;
-  says = refl;
-}
+reads strings count (Link up) sound w = reads-link strings count up sound w
 reads strings count Collect sound w =
     record { words = codes "collect" ∷ []; are = (record { long = refl; plain = refl }, tt); text = refl; says = refl }
 reads strings count (Expect want mask) sound w = record {

@@ -1,21 +1,16 @@
 -- What all lines have said makes a program.
-use Rattle.std.proofs.Common.{◌≡◌, ◌<◌, ◌≤◌, refl, subst, ℕ, ◌+◌, Bool, true, false, cond, is_some, ◌&&◌, nat_le, nat_lt, length, List, [], ◌∷◌, ◌++◌, Option, Some, None, Result, Ok, Err, IfOk, IfSome, arith, length-append}
+use Rattle.std.proofs.Common.{◌≡◌, ◌<◌, ◌≤◌, refl, ℕ, ◌+◌, Bool, true, false, cond, is_some, ◌&&◌, nat_le, nat_lt, length, List, [], ◌∷◌, ◌++◌, Option, Some, None, Ok, Err, IfOk, IfSome, arith, length-append}
 use Rattle.std.specs.FinMap as fin
 use Rattle.std.specs.Ordering.{nat_cmp}
 use Rattle.std.specs.Cmp.Lexicographic.{slice_cmp}
 use Rattle.std.specs.Str.{bytes_eq}
 use Rattle.std.proofs.lemmas.Bool.{ltb-true, leb-true, and_parts}
-use Rattle.lexer.specs.Lines.{NumberedLine}
-use Rattle.lexer.specs.Words.{words_of}
 use Rattle.program.specs.Listing.{IsDataString}
-use Rattle.script_asm.specs.Fault.{◌then◌, at_line}
 use Rattle.script_asm.specs.Operation.{Draft}
 use Rattle.script_asm.specs.Outline.{Outline, blank}
 use Rattle.script_asm.specs.Places.{Places, place_of, with_place}
 use Rattle.script_asm.specs.Resolved.{IsInRange, IsReady}
-use Rattle.script_asm.specs.Script.{with_line, with_lines, with_statement}
-use Rattle.script_asm.specs.Statement.{statement_of}
-use Rattle.script_asm.specs.declared.faults.LineFault.{LineFault}
+use Rattle.script_asm.specs.Script.{with_statement}
 use Rattle.script_asm.specs.declared.faults.ScriptFault.{ScriptFault}
 use Rattle.script_asm.specs.declared.faults.ScriptFault.TheVariants.{TwoLabels, TooLong}
 use Rattle.script_asm.specs.declared.sheet.DraftLine.{DraftLine}
@@ -23,7 +18,7 @@ use Rattle.script_asm.specs.declared.statements.Statement.{Statement}
 use Rattle.script_asm.specs.declared.statements.Statement.TheVariants.{Empty, Label, Data, Instruction}
 use Rattle.script_asm.proofs.Naming.{place_of-with_place}
 use Rattle.script_asm.proofs.Outcomes.{cond-IfOk}
-use Rattle.script_asm.proofs.LineRanges.{States, statement_of-States}
+use Rattle.script_asm.proofs.LineRanges.{States}
 use Rattle.script_asm.proofs.ResolvedSound.{AllByRecursion-push}
 
 -- each name stands for a number that passes
@@ -46,7 +41,7 @@ stand-more : (P : ℕ → Type 0) (places : Places) (name : List ℕ) (n : ℕ) 
 stand-more P places name n here stand q =
     rw (place_of-with_place places name n q) (chosen P (bytes_eq name q) n (place_of places q) here (stand q))
 
-ready-blank : IsReady blank
+pub ready-blank : IsReady blank
 ready-blank = record {
   few_drafts = omega arith;
   few_strings = omega arith;
@@ -120,7 +115,7 @@ more_drafts-ready before line d ready range fits =
       drafts = AllByRecursion-push (λ (l : DraftLine). IsInRange l.draft) before.drafts more ready.drafts range;
     }
 
-with_statement-ready : (before : Outline) (line : ℕ) (s : Statement) → States s → IsReady before
+pub with_statement-ready : (before : Outline) (line : ℕ) (s : Statement) → States s → IsReady before
     → IfOk (with_statement before line s) IsReady
 with_statement-ready before line Empty states ready = ready
 with_statement-ready before line (Label name) states ready = with_label-ready before line name ready
@@ -130,28 +125,3 @@ with_statement-ready before line (Data name string) states ready =
     (more_data-ready before name string ready states))
 with_statement-ready before line (Instruction d) states ready =
     tested IsReady (nat_lt (length before.drafts) 4096) _ TooLong (more_drafts-ready before line d ready states)
-
-line-ready : (before : Outline) (number : ℕ) (r : Result Statement LineFault) → IfOk r States → IsReady before
-    → IfOk (at_line number r then λ statement. with_statement before number statement) IsReady
-line-ready before number (Ok s) states ready = with_statement-ready before number s states ready
-line-ready before number (Err fault) states ready = tt
-
-goes_on : (r : Result Outline ScriptFault) (lines : List NumberedLine) → IfOk r IsReady
-    → ((after : Outline) → IsReady after → IfOk (with_lines after lines) IsReady)
-    → IfOk (r then λ after. with_lines after lines) IsReady
-goes_on (Ok after) lines ready rest = rest after ready
-goes_on (Err fault) lines ready rest = tt
-
-with_lines-ready : (before : Outline) (lines : List NumberedLine) → IsReady before
-    → IfOk (with_lines before lines) IsReady
-unfolding with_lines
-with_lines-ready before [] ready = ready
-with_lines-ready before (line ∷ more) ready =
-    goes_on (with_line before line) more
-    (line-ready before line.number (statement_of (words_of line.text)) (statement_of-States (words_of line.text))
-    ready)
-    (λ after is. with_lines-ready after more is)
-
-pub text-ready : (lines : List NumberedLine) (outline : Outline) → with_lines blank lines ≡ Ok outline → IsReady outline
-text-ready lines outline is = subst (λ (r : Result Outline ScriptFault). IfOk r IsReady) is
-    (with_lines-ready blank lines ready-blank)

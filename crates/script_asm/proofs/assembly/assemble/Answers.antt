@@ -1,5 +1,5 @@
 use Rattle.lexer.specs.Lines.{lines_of}
-use Rattle.script_asm.proofs.Ready.{text-ready}
+use Rattle.script_asm.proofs.ReadyLines.{text-ready}
 use Rattle.script_asm.proofs.assembly.assemble.Goals as goal
 
 pub into_program-requires : goal.into_program-requires

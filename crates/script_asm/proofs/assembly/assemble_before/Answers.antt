@@ -1,6 +1,6 @@
 use Rattle.std.specs.List.{before_first}
 use Rattle.script_asm.specs.End.{is_end}
-use Rattle.script_asm.proofs.Ready.{text-ready}
+use Rattle.script_asm.proofs.ReadyLines.{text-ready}
 use Rattle.script_asm.proofs.assembly.assemble_before.Goals as goal
 
 pub into_program-requires : goal.into_program-requires

@@ -1,4 +1,4 @@
-use Rattle.script_asm.proofs.Meaning.{first_fault_decides}
+use Rattle.script_asm.proofs.FirstFault.{first_fault_decides}
 use Rattle.script_asm.proofs.laws.first_fault_decides.Goals as goal
 
 pub returns : goal.returns

@@ -1,0 +1,40 @@
+-- What a text gives, by its size.
+use Rattle.std.proofs.Common.{refl, sym, ◌∙◌, ap, ◌≡◌, ℕ, ◌+◌, List, [], ◌∷◌, length, Some, None, Ok, Err}
+use Rattle.lexer.specs.Lines.{NumberedLine, lines_of}
+use Rattle.eeprom_image.specs.Content.{content_of, with_lines, only_size, sized, sized_by, content_behind, ◌then◌}
+use Rattle.eeprom_image.specs.Line.{text_line}
+use Rattle.eeprom_image.specs.declared.line.TextLine.{TextLine}
+use Rattle.eeprom_image.specs.declared.text.AsmFault.TheVariants.{Syntax}
+
+pub content_of-sized : (text : List ℕ) (size : ℕ) (behind : List NumberedLine)
+    → sized (lines_of text) ≡ Ok (Some (size, behind)) → content_of text ≡ with_lines (only_size size) behind
+unfolding content_of
+content_of-sized text size behind is = ap (λ s. s then content_behind (length (lines_of text) + 1)) is
+
+pub content_of-faulty : (text : List ℕ) (line : ℕ) → sized (lines_of text) ≡ Err (Syntax line)
+    → content_of text ≡ Err (Syntax line)
+unfolding content_of
+content_of-faulty text line is = ap (λ s. s then content_behind (length (lines_of text) + 1)) is
+
+pub content_of-none : (text : List ℕ) → sized (lines_of text) ≡ Ok None
+    → content_of text ≡ Err (Syntax (length (lines_of text) + 1))
+unfolding content_of
+content_of-none text is = ap (λ s. s then content_behind (length (lines_of text) + 1)) is
+
+-- the first line decides
+pub sized-first : (lines behind : List NumberedLine) (line : NumberedLine) (says : TextLine) → lines ≡ line ∷ behind
+    → text_line line.text ≡ says → sized lines ≡ sized_by says line.number behind (sized behind)
+unfolding sized
+sized-first lines behind line says is said = ap sized is ∙ ap (λ t. sized_by t line.number behind (sized behind)) said
+
+pub sized-nothing : (lines : List NumberedLine) → lines ≡ [] → sized lines ≡ Ok None
+unfolding sized
+sized-nothing lines none = rw none refl
+
+-- a first line that doesn't give the size is faulty
+pub content_of-refused : (text : List ℕ) (lines behind : List NumberedLine) (line : NumberedLine) (says : TextLine)
+    → sized lines ≡ sized (lines_of text) → lines ≡ line ∷ behind → text_line line.text ≡ says
+    → sized_by says line.number behind (sized behind) ≡ Err (Syntax line.number)
+    → content_of text ≡ Err (Syntax line.number)
+content_of-refused text lines behind line says same is said refused =
+    content_of-faulty text line.number (sym same ∙ sized-first lines behind line says is said ∙ refused)

@@ -96,7 +96,7 @@ abbrev row_in : Named → RowId
 row_in (Nothing seen) = GcrExt
 row_in (Register p view) = p.row
 
-abbrev event_parts : Event Block → (Port × (ℕ × ℕ)) 
+abbrev event_parts : Event Block → (Port × (ℕ × ℕ))
 event_parts (event.Write port n word) = (port, (n, word))
 event_parts other = (Pf, (0, 0))
 

@@ -27,7 +27,7 @@ capped_step radix value digit low = elim (cases_lt value (2 ^ 32)) [
 abbrev Capped : ℕ → ℕ → List ℕ → Type 0
 Capped radix value word = capped_numeral radix (min value (2 ^ 32)) word
     ≡ (if list_all (λ byte. is_digit byte radix) word then Some (min (digits_value_after radix value word) (2 ^ 32))
-       else None)
+    else None)
 
 capped_more : (digit : Bool) (radix value byte : ℕ) (more : List ℕ) → 1 ≤ radix
     → Capped radix (value * radix + digit_value byte) more

@@ -79,7 +79,7 @@ first-on hash blank byte more plain other (others, parts, same) =
     ap (λ n. drop n (byte ∷ more)) next ∙ drop_next (end_in hash blank more) byte more in (
       others,
       parts-other hash blank byte more plain other ∙ ap (onto_first byte) parts
-        ∙ ap (λ first. first ∷ others) (sym front),
+          ∙ ap (λ first. first ∷ others) (sym front),
       same ∙ ap (λ text. filled (parts_of hash blank text)) (sym behind),
     )
 

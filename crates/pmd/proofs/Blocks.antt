@@ -92,8 +92,12 @@ home_goes r n home elsewhere =
     record {
       own = grind (arith, nat_tests, home);
       away = grind (arith, nat_tests, home);
-      none = omega (arith, times-append (blocks_out r.receive) (lent_of r.transmit) n, none,
-        not_lent r.transmit n away);
+      none = omega (
+        arith,
+        times-append (blocks_out r.receive) (lent_of r.transmit) n,
+        none,
+        not_lent r.transmit n away,
+      );
     }
 
 pub back_goes : (r : Running) (n : ℕ) → goes_back r n ≡ true → GoesBack r n

@@ -100,7 +100,7 @@ given_at a xs n out k (inl e) =
 given_at a xs n out k (inr ne) =
     let here = out_first a xs n out in
     rw (is_own-with_free a n true k, is_free-with_free_other a n true k here.0 ne)
-      (rw (times_rest xs n k ne) at (out k))
+    (rw (times_rest xs n k ne) at (out k))
 
 -- a block that is out can be given, and the others are out then
 pub out_given : (a : Numbers) (xs : List ℕ) (n : ℕ) → AreOut a (n ∷ xs) → AreOut (with_free a n true) xs

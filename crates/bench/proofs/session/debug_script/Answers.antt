@@ -10,4 +10,4 @@ returns-in-Ok-None g c =
     gives-same _ _ _ c.write_refusal.result _ _
     (missing-end c.args.options (lines_of c.args.text.now) endless.0 endless.1)
     (rw (c.numbered.ensures.name, c.numbered.ensures.number, c.line_count.ensures.value)
-      at c.write_refusal.ensures.gives)
+    at c.write_refusal.ensures.gives)

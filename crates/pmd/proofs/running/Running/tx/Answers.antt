@@ -67,7 +67,7 @@ returns-clause-shut g c shut =
     c.receives-elsewhere.ensures) in
     let closed : IsShut (gate_of q.transmit q.arena (receives q p.buf.number) p) =
     subst (λ (y : Running). IsShut (gate_of y.transmit y.arena (receives y p.buf.number) p))
-      (sym c.self.view_is) shut in
+    (sym c.self.view_is) shut in
     let same = c.send.ensures.shut
     (subst (λ (e : Bool). IsShut (gate_of q.transmit q.arena e p)) (sym is) closed) in
     (same.0, ap (λ (t : Sender). record q { transmit = t }) same.1 ∙ c.self.view_is)

@@ -3,6 +3,8 @@
 #![tactic(auto)]
 
 #[cfg(test)]
+mod driver;
+#[cfg(test)]
 mod outcome;
 #[cfg(test)]
 mod queues;

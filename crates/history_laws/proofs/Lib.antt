@@ -1,6 +1,7 @@
 pub mod Alone
-pub mod Carried
+pub mod Beginning
 pub mod Modes
 pub mod Naming
 pub mod Parting
+pub mod Sound
 pub mod Written

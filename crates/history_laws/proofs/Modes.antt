@@ -1,53 +1,35 @@
 -- The mode that the entries of a history tell is the device's.
-use Rattle.std.proofs.Common.{◌≡◌, ◌≢◌, ℕ, ◌%◌, ◌<◌, ◌⊎◌, inl, inr, Bool, true, false, List, [], ◌∷◌, refl, sym, ap, ◌∙◌, subst, arith, cond, Option, Some, None}
-use Rattle.std.specs.Prelude.{◌==◌, ⊤, if◌then◌else◌}
-use Rattle.std.proofs.lemmas.Bool.{cases_eq, cases_Bool}
+use Rattle.std.proofs.Common.{◌≡◌, ◌≢◌, ℕ, ◌<◌, ◌⊎◌, inl, inr, Bool, true, false, List, [], ◌∷◌, refl, sym, ap, ◌∙◌, subst, arith, cond}
+use Rattle.std.proofs.lemmas.Bool.{cases_eq}
 use Rattle.dma_arena.specs.Block.{Block}
 use Rattle.eeprom_image.specs.Image.{blank}
-use Rattle.eeprom_image.specs.Triples.{triples_of}
-use Rattle.eeprom_image.proofs.Blank.{triples_of-blank}
-use Rattle.reg_table.specs.Place.{Names, place_among, view_among}
 use Rattle.reg_table.specs.Rows.{row_of, number_of}
-use Rattle.reg_table.specs.Runs.{runs}
 use Rattle.reg_table.specs.declared.place.Place.{Place}
-use Rattle.reg_table.specs.declared.rows.RowId.{RowId}
 use Rattle.reg_table.specs.declared.rows.RowId.TheVariants.{Ctrl, GcrExt}
-use Rattle.reg_table.proofs.Finding.{found-named}
-use Rattle.reg_table.proofs.InRange.{named_in_range}
-use Rattle.vf_map.specs.Map.{located}
 use Rattle.vf_map.specs.Pools.{mode_of}
-use Rattle.vf_map.specs.declared.located.Located.{Located}
-use Rattle.vf_map.specs.declared.located.Located.TheVariants as located_as
-use Rattle.vf_map.specs.declared.mode.Mode.{Mode}
-use Rattle.vf_map.specs.declared.mode.Mode.TheVariants.{Off, Pools16, Pools32, Pools64}
-use Rattle.vf_map.proofs.Owners.{located_in_range}
+use Rattle.vf_map.specs.declared.mode.Mode.TheVariants.{Off}
 use Rattle.register_file.specs.Access.{asks_reset}
 use Rattle.register_file.specs.Columns.{place}
 use Rattle.register_file.specs.Pools.{mode_in}
-use Rattle.register_file.specs.Registers.{word_of}
 use Rattle.register_file.proofs.Puts.{same_number, word_at-reset}
-use Rattle.register_file.proofs.Shape.{put_stands}
 use Rattle.nic_device.specs.Access.{named_written}
-use Rattle.nic_device.specs.Eeprom.{with_triples, reset}
-use Rattle.nic_device.specs.Footprint.{write_reach, reset_reach, below_reset_reach}
+use Rattle.nic_device.specs.Eeprom.{reset}
 use Rattle.nic_device.specs.PoolReset.{written_below_reset}
-use Rattle.nic_device.specs.Named.{named, at_place, at_location}
-use Rattle.nic_device.specs.Sound.{IsSound, IsEvent}
-use Rattle.nic_device.specs.State.{State, new_state, cleared}
+use Rattle.nic_device.specs.Named.{named}
+use Rattle.nic_device.specs.Sound.{IsSound}
+use Rattle.nic_device.specs.State.{State, new_state}
 use Rattle.nic_device.specs.Step.{step_of, after}
 use Rattle.nic_device.specs.declared.event.Event.{Event}
 use Rattle.nic_device.specs.declared.event.Event.TheVariants as event
 use Rattle.nic_device.specs.declared.event.Port.{Port}
-use Rattle.nic_device.specs.declared.event.Port.TheVariants.{Pf, Vf}
 use Rattle.nic_device.specs.declared.named.Named.{Named}
 use Rattle.nic_device.specs.declared.named.Named.TheVariants.{Nothing, Register}
 use Rattle.nic_device.proofs.Steps.{step_leads, keeps_sound}
-use Rattle.device_laws.proofs.Settings.{IsOther, IsSetting, setting_stands}
-use Rattle.device_lock.specs.Alone.{mode_after, mode_through, mode_written, mode_set, place_at, register_at}
+use Rattle.device_laws.proofs.Settings.{setting_stands}
+use Rattle.device_lock.specs.Alone.{mode_after, mode_through, mode_written, mode_set}
 use Rattle.device_lock.specs.History.{leads_to}
 use Rattle.device_lock.specs.declared.entry.Entry.{Entry}
 use Rattle.history_laws.specs.Laws.{AreEvents, ModeIsTold}
-use Rattle.history_laws.proofs.Written.{ShowsLow, shows_low, low_merged}
 use Rattle.history_laws.proofs.Naming.{place_in, place_named, IsReal, AreReal, real}
 use Rattle.history_laws.proofs.Parting.{same_place, mode_of_written, mode_of_reset, other_mode, control_stands, setting, other_stands}
 

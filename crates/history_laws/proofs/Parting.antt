@@ -1,54 +1,40 @@
 -- Writes of registers, and how they part the queues among pools.
-use Rattle.std.proofs.Common.{◌≡◌, ◌≢◌, ℕ, ◌%◌, ◌<◌, ◌⊎◌, inl, inr, Bool, true, false, List, [], ◌∷◌, refl, sym, ap, ◌∙◌, subst, arith, cond, Option, Some, None}
-use Rattle.std.specs.Prelude.{◌==◌, ⊤, if◌then◌else◌}
-use Rattle.std.proofs.lemmas.Bool.{cases_eq, cases_Bool}
+use Rattle.std.proofs.Common.{◌≡◌, ◌≢◌, ℕ, false, refl, sym, ap, ◌∙◌, arith, cond}
+use Rattle.std.specs.Prelude.{◌==◌, if◌then◌else◌}
 use Rattle.dma_arena.specs.Block.{Block}
 use Rattle.eeprom_image.specs.Image.{blank}
 use Rattle.eeprom_image.specs.Triples.{triples_of}
 use Rattle.eeprom_image.proofs.Blank.{triples_of-blank}
-use Rattle.reg_table.specs.Place.{Names, place_among, view_among}
-use Rattle.reg_table.specs.Rows.{row_of, number_of}
-use Rattle.reg_table.specs.Runs.{runs}
+use Rattle.reg_table.specs.Rows.{row_of}
 use Rattle.reg_table.specs.declared.place.Place.{Place}
 use Rattle.reg_table.specs.declared.rows.RowId.{RowId}
 use Rattle.reg_table.specs.declared.rows.RowId.TheVariants.{Ctrl, GcrExt}
-use Rattle.reg_table.proofs.Finding.{found-named}
-use Rattle.reg_table.proofs.InRange.{named_in_range}
-use Rattle.vf_map.specs.Map.{located}
 use Rattle.vf_map.specs.Pools.{mode_of}
-use Rattle.vf_map.specs.declared.located.Located.{Located}
-use Rattle.vf_map.specs.declared.located.Located.TheVariants as located_as
 use Rattle.vf_map.specs.declared.mode.Mode.{Mode}
 use Rattle.vf_map.specs.declared.mode.Mode.TheVariants.{Off, Pools16, Pools32, Pools64}
-use Rattle.vf_map.proofs.Owners.{located_in_range}
 use Rattle.register_file.specs.Access.{asks_reset}
 use Rattle.register_file.specs.Columns.{place}
 use Rattle.register_file.specs.Pools.{mode_in}
 use Rattle.register_file.specs.Registers.{word_of}
-use Rattle.register_file.proofs.Puts.{same_number, word_at-reset}
+use Rattle.register_file.proofs.Puts.{word_at-reset}
 use Rattle.register_file.proofs.Shape.{put_stands}
 use Rattle.nic_device.specs.Access.{named_written}
-use Rattle.nic_device.specs.Eeprom.{with_triples, reset}
+use Rattle.nic_device.specs.Eeprom.{with_triples}
 use Rattle.nic_device.specs.Footprint.{write_reach, reset_reach, below_reset_reach}
-use Rattle.nic_device.specs.PoolReset.{written_below_reset}
-use Rattle.nic_device.specs.Named.{named, at_place, at_location}
-use Rattle.nic_device.specs.Sound.{IsSound, IsEvent}
-use Rattle.nic_device.specs.State.{State, new_state, cleared}
-use Rattle.nic_device.specs.Step.{step_of, after}
+use Rattle.nic_device.specs.Named.{named}
+use Rattle.nic_device.specs.Sound.{IsSound}
+use Rattle.nic_device.specs.State.{State, cleared}
+use Rattle.nic_device.specs.Step.{after}
 use Rattle.nic_device.specs.declared.event.Event.{Event}
 use Rattle.nic_device.specs.declared.event.Event.TheVariants as event
 use Rattle.nic_device.specs.declared.event.Port.{Port}
-use Rattle.nic_device.specs.declared.event.Port.TheVariants.{Pf, Vf}
+use Rattle.nic_device.specs.declared.event.Port.TheVariants.{Pf}
 use Rattle.nic_device.specs.declared.named.Named.{Named}
 use Rattle.nic_device.specs.declared.named.Named.TheVariants.{Nothing, Register}
-use Rattle.nic_device.proofs.Steps.{step_leads, keeps_sound}
+use Rattle.nic_device.proofs.Steps.{step_leads}
 use Rattle.device_laws.proofs.Settings.{IsOther, IsSetting, setting_stands}
-use Rattle.device_lock.specs.Alone.{mode_after, mode_through, mode_written, mode_set, place_at, register_at}
-use Rattle.device_lock.specs.History.{leads_to}
-use Rattle.device_lock.specs.declared.entry.Entry.{Entry}
-use Rattle.history_laws.specs.Laws.{AreEvents, ModeIsTold}
-use Rattle.history_laws.proofs.Written.{ShowsLow, shows_low, low_merged}
-use Rattle.history_laws.proofs.Naming.{place_in, place_named, IsReal, AreReal, real}
+use Rattle.device_lock.specs.Alone.{mode_set}
+use Rattle.history_laws.proofs.Written.{ShowsLow, low_merged}
 
 -- a write of GCR_EXT, of CTRL, and of another register
 
@@ -77,7 +63,8 @@ other_mode mode Ctrl word n m = absurd (m refl)
 other_mode mode other word n m = refl
 
 -- a write of CTRL that asks for no reset
-pub control_stands : (s : State) (port : Port) (n word index view : ℕ) → named s port n ≡ Register (place Ctrl index) view
+pub control_stands : (s : State) (port : Port) (n word index view : ℕ)
+    → named s port n ≡ Register (place Ctrl index) view
     → asks_reset (row_of Ctrl).kind word ≡ false
     → word_of (after s (event.Write port n word)).registers GcrExt 0 ≡ word_of s.registers GcrExt 0
 control_stands s port n word index view found none =
@@ -103,7 +90,8 @@ event_parts other = (Pf, (0, 0))
 module _ (s : State) (port : Port) (n word : ℕ) (p : Place) (view : ℕ) (found : named s port n ≡ Register p view)
     (own : p.row ≢ GcrExt) (control : p.row ≢ Ctrl) where
   other_row : (port' : Port) (n' word' : ℕ) (q : Place) (view' : ℕ)
-      → ◌≡◌ {A = Event Block} (event.Write port n word) (event.Write port' n' word') → named s port' n' ≡ Register q view' → IsOther GcrExt q
+      → ◌≡◌ {A = Event Block} (event.Write port n word) (event.Write port' n' word')
+      → named s port' n' ≡ Register q view' → IsOther GcrExt q
   other_row port' n' word' q view' is there =
       let parts = ap event_parts is in
       let same_port : port' ≡ port = ap (λ x. x.0) (sym parts) in

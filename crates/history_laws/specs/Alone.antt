@@ -1,5 +1,5 @@
 -- What it is to leave a queue alone, entry by entry.
-use Rattle.std.specs.Prelude.{ℕ, ⊤, List, [], ◌∷◌}
+use Rattle.std.specs.Prelude.{⊤, List, [], ◌∷◌}
 use Rattle.vf_map.specs.declared.mode.Mode.{Mode}
 use Rattle.device_lock.specs.Alone.{Blocks, EntryLeavesAlone, mode_after}
 use Rattle.device_lock.specs.declared.alone.Watched.{Watched}

@@ -5,7 +5,7 @@ use Rattle.register_file.specs.Pools.{mode_in}
 use Rattle.nic_device.specs.Sound.{IsEvent, IsSound}
 use Rattle.nic_device.specs.State.{State, new_state}
 use Rattle.device_lock.specs.Alone.{LeavesAlone, has_begun, lent_by, mode_through}
-use Rattle.device_lock.specs.History.{IsLegal, leads_to}
+use Rattle.device_lock.specs.History.{leads_to}
 use Rattle.device_lock.specs.declared.alone.Watched.{Watched}
 use Rattle.device_lock.specs.declared.entry.Entry.{Entry}
 use Rattle.history_laws.specs.Alone.{AllAlone}
@@ -26,6 +26,11 @@ abbrev pub AloneByEntries : Type 0
 AloneByEntries =
     (w : Watched) (before rest : List Entry) → LeavesAlone w (before ++ rest) → IsTrue (has_begun w.pass before) →
     AllAlone w (lent_by w.pass (before ++ rest)) (mode_through w.vfs Off before) rest
+
+-- what begins a history that leaves a queue alone leaves it alone
+abbrev pub BeginningIsAlone : Type 0
+BeginningIsAlone =
+    (w : Watched) (beginning rest : List Entry) → LeavesAlone w (beginning ++ rest) → LeavesAlone w beginning
 
 -- a sound device stays so over events that a driver can make
 abbrev pub HistoriesKeepSound : Type 0

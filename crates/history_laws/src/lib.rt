@@ -1,9 +1,9 @@
 //! What holds along legal histories of a shared device, for the laws of a driver's two sides.
 //!
-//! Each law is the contract of a function that does nothing. `receive_laws` and `transmit_laws` stand on this crate.
+//! Each law is the contract of a function that does nothing.
 #![tactic(auto)]
 
-ghost use Rattle.history_laws.specs.Laws.{ModeIsTold, AloneByEntries, HistoriesKeepSound};
+ghost use Rattle.history_laws.specs.Laws.{ModeIsTold, AloneByEntries, BeginningIsAlone, HistoriesKeepSound};
 
 /// The mode by which the queues are parted among pools, read off the entries of a history, is the device's own: what
 /// its register GCR_EXT says.
@@ -11,9 +11,11 @@ pub fn mode_is_told()
     ensures { ModeIsTold }
 {}
 
-/// A history that leaves a queue alone does so entry by entry, from any place behind the pass's first entry on.
+/// A history that leaves a queue alone does so entry by entry, from any place behind the pass's first entry on; and what
+/// begins such a history leaves the queue alone.
 pub fn queue_is_left_alone_by_entries()
-    ensures { AloneByEntries }
+    ensures entries { AloneByEntries }
+    ensures beginning { BeginningIsAlone }
 {}
 
 /// A sound device stays sound over a history of events that a driver can make.

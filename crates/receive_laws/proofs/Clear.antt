@@ -1,5 +1,5 @@
 -- What is written into none of the pass's blocks is outside those of the driver.
-use Rattle.std.proofs.Common.{◌≡◌, ℕ, ◌+◌, ◌*◌, ◌/◌, ◌<◌, false, inl, inr, sym, ap, ◌∙◌, arith}
+use Rattle.std.proofs.Common.{true, ◌≡◌, ℕ, ◌+◌, ◌*◌, ◌/◌, ◌<◌, false, inl, inr, sym, ap, ◌∙◌, arith}
 use Rattle.std.specs.Prelude.{IsTrue}
 use Rattle.std.proofs.lemmas.Bool.{cases_lt}
 use Rattle.dma_arena.specs.Block.{Block}
@@ -10,6 +10,12 @@ use Rattle.device_lock.specs.Alone.{Blocks, IsClear, WritesOutside}
 use Rattle.pmd_rx.specs.Receive.{Receive}
 use Rattle.receive_laws.specs.Steps.{Each, IsOutside, SparesBlocks}
 use Rattle.receive_laws.proofs.Each.{each_map}
+use Rattle.vf_map.specs.declared.mode.Mode.{Mode}
+use Rattle.nic_device.specs.declared.event.Event.{Event}
+use Rattle.nic_device.specs.declared.event.Event.TheVariants as event
+use Rattle.device_lock.specs.Alone.{LeavesRegisters, LeavesBlocks}
+use Rattle.device_lock.specs.declared.alone.Watched.{Watched}
+use Rattle.pmd_base.specs.Events.{is_step}
 
 -- bytes that are in none of the pass's blocks are outside each of them
 clear_avoids : (mine : Blocks) (at len b : ℕ) → IsClear mine at len → IsTrue (mine b) → 0 < len → Avoids b at len
@@ -40,3 +46,12 @@ spares_mine queue mine v (Wrote on slot end desc at len) m outside = λ ne.
       bytes = λ some. clear_avoids mine at len b (outside ne).0 i some;
     }) m
 spares_mine queue mine v other m outside = tt
+
+-- a step of the device writes no register by a number, and moves and pokes no block
+pub no_registers : (w : Watched) (mode : Mode) (mine : Blocks) (e : Event Block) → is_step e ≡ true
+    → LeavesRegisters w mode e × LeavesBlocks mine e
+no_registers w mode mine (event.Write port n word) is = cc
+no_registers w mode mine (event.Lend b) is = cc
+no_registers w mode mine (event.Take n) is = cc
+no_registers w mode mine (event.Poke16 a bytes) is = cc
+no_registers w mode mine other is = (tt, tt)

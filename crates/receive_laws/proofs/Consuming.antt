@@ -1,48 +1,15 @@
--- The ring without its next slot, and its packet held.
-use Rattle.std.proofs.Common.{◌≡◌, ◌≢◌, ℕ, ◌+◌, ◌*◌, ◌<◌, ◌≤◌, true, List, [], ◌∷◌, ◌++◌, length, take, drop, refl, sym, ap, ◌∙◌, subst, arith, append_assoc, Some}
+-- The ring without its next slot.
+use Rattle.std.proofs.Common.{◌≡◌, ◌≢◌, ℕ, ◌+◌, ◌*◌, ◌<◌, ◌≤◌, List, length, drop, sym, ap, ◌∙◌, subst, arith}
 use Rattle.std.specs.FinMap as map
-use Rattle.std.proofs.lemmas.List.{append-nil, map-append, get_or-drop, length-drop, drop_more}
-use Rattle.dma_arena.specs.Memory.{Memory, part}
-use Rattle.dma_arena.proofs.Blocks.{read_at_in}
+use Rattle.std.proofs.lemmas.List.{get_or-drop, length-drop}
+use Rattle.dma_arena.specs.Memory.{Memory}
 use Rattle.dma_arena.proofs.Bus.{get-remove_other}
 use Rattle.register_file.specs.Sides.{ReceiveQueue}
-use Rattle.nic_device.specs.State.{State}
-use Rattle.nic_device.specs.Outcome.{gives}
-use Rattle.nic_device.specs.Step.{step_of}
-use Rattle.nic_device.specs.declared.event.Event.TheVariants as event
-use Rattle.nic_device.specs.declared.event.Reply.TheVariants.{Buf}
-use Rattle.pmd_base.specs.Packet.{kept_of}
-use Rattle.pmd_base.specs.declared.packet.Packet.{Packet}
-use Rattle.pmd_rx.specs.Receive.{Layout, Receive, Holding, consumed, held, slot_at, descriptor_at, block_at}
-use Rattle.receive_laws.specs.Joint.{IsPosted, IsFilled, IsRing, IsSetUp, HasSlots, InOrder}
-use Rattle.receive_laws.specs.Pieces.{Piece, no_piece, piece_at, whole_packet, AllEnd}
+use Rattle.pmd_rx.specs.Receive.{Layout, consumed, slot_at, descriptor_at, block_at}
+use Rattle.receive_laws.specs.Joint.{IsPosted, IsFilled, IsRing, IsSetUp, HasSlots}
+use Rattle.receive_laws.specs.Pieces.{Piece, no_piece, piece_at}
 use Rattle.receive_laws.proofs.Kept.{same_has, filled_kept, posted_kept}
 use Rattle.receive_laws.proofs.Places.{next_below, wrapped_on}
-
-pub taken_is : (s : State) (b : ℕ) (bytes : List ℕ) → map.get s.memory b ≡ Some bytes
-    → step_of s (event.Take b)
-    ≡ gives (Buf (record { number = b; bytes = bytes })) (record s { memory = map.remove s.memory b })
-unfolding step_of
-taken_is s b bytes is = rw is refl
-
-part_front : (xs : List ℕ) (n : ℕ) → part xs 0 n ≡ take n xs
-unfolding part
-part_front xs n = refl
-
--- the bytes of the packet are those at the head of the block
-pub packet_bytes : (m : Memory) (b : ℕ) (bytes : List ℕ) (a : ℕ) (p : Piece) (len : ℕ) → map.get m b ≡ Some bytes
-    → length bytes ≡ 2048 → IsFilled m a b p → len ≡ length p.bytes → take len bytes ≡ p.bytes
-packet_bytes m b bytes a p len is whole f e =
-    let short = f.short in
-    ap (λ n. take n bytes) e ∙ sym (part_front bytes (length p.bytes))
-    ∙ sym (read_at_in m (2048 * b) (length p.bytes) b 0 bytes is whole (omega arith) (omega (arith, short))) ∙ f.bytes
-
-AllEnd-push : (ps : List Piece) (p : Piece) → AllEnd ps → p.end ≡ true → AllEnd (ps ++ p ∷ [])
-AllEnd-push [] p a e = (e, tt)
-AllEnd-push (q ∷ ps) p a e = (a.0, AllEnd-push ps p a.1 e)
-
-front : (ps : List Piece) → 0 < length ps → ps ≡ piece_at ps 0 ∷ drop 1 ps
-front ps some = drop_more ps 0 no_piece some
 
 slot_on : (l : Layout) (k : ℕ) → IsRing l → k + 1 < l.size → slot_at (consumed l) k ≡ slot_at l (1 + k)
 slot_on l k ring h = wrapped_on l.size l.next k ring.next h
@@ -117,7 +84,8 @@ module _ (m : Memory) (l : Layout) (here : List Piece) (ring : IsRing l) (h : Ha
         apart = λ i j a b ne.
             subst (λ x. x ≢ block_at (consumed l) j) (sym (block_on i))
             (subst (λ x. block_at l (1 + i) ≢ x) (sym (block_on j))
-            (ring.apart (1 + i) (1 + j) (omega (arith, less, a)) (omega (arith, less, b)) (λ e. ne (omega (arith, e)))));
+            (ring.apart (1 + i) (1 + j) (omega (arith, less, a)) (omega (arith, less, b))
+            (λ e. ne (omega (arith, e)))));
       }
 
   pub slots_on : HasSlots n (consumed l) (drop 1 here)
@@ -148,19 +116,3 @@ module _ (m : Memory) (l : Layout) (here : List Piece) (ring : IsRing l) (h : Ha
         tail = up.tail ∙ ap (slot_at l) (sym f)
             ∙ sym (slot_on l (length (drop 1 l.blocks)) ring (omega (arith, less, room)));
       }
-
--- the piece was consumed, and its packet is held
-pub order_on : (out : List Piece) (v : Receive) (gone here : List Piece) (packet : Packet) → InOrder out v gone here
-    → 0 < length here → held v.stage ≡ [] → (piece_at here 0).end ≡ true
-    → whole_packet (piece_at here 0) ≡ kept_of packet
-    → InOrder out (record { layout = consumed v.layout; handed = v.handed; stage = Holding packet })
-    (gone ++ piece_at here 0 ∷ []) (drop 1 here)
-order_on out v gone here packet o some none end is = record {
-  ended = AllEnd-push gone (piece_at here 0) o.ended end;
-  taken = map-append whole_packet gone (piece_at here 0 ∷ [])
-      ∙ ap (λ xs. xs ++ whole_packet (piece_at here 0) ∷ [])
-      (o.taken ∙ ap (λ xs. v.handed ++ xs) none ∙ append-nil v.handed)
-      ∙ ap (λ x. v.handed ++ x ∷ []) is;
-  order = o.order ∙ ap (λ xs. gone ++ xs) (front here some)
-      ∙ sym (append_assoc gone (piece_at here 0 ∷ []) (drop 1 here));
-}

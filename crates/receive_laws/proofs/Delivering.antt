@@ -14,7 +14,7 @@ use Rattle.pmd_rx.specs.Plays.{played_by}
 use Rattle.pmd_rx.specs.Receive.{Receive}
 use Rattle.history_laws.specs.Laws.{AreEvents}
 use Rattle.history_laws.proofs.Alone.{alone_by_entries}
-use Rattle.history_laws.proofs.Carried.{histories_sound}
+use Rattle.history_laws.proofs.Sound.{histories_sound}
 use Rattle.history_laws.proofs.Modes.{mode_told}
 use Rattle.receive_laws.specs.Delivered.{IsPrefixOf, delivered, packets_if_any, pieces_in, pieces_since}
 use Rattle.receive_laws.specs.Histories.{FindsNone, HandedIsPrefix, IsDriven, NoneIsAll}

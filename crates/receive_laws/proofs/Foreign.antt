@@ -1,5 +1,5 @@
 -- Entries that aren't the driver's own and leave its queue alone keep the agreement.
-use Rattle.std.proofs.Common.{◌≡◌, ℕ, ◌/◌, ◌%◌, true, inl, inr, List, [], ◌++◌, length, refl, sym, subst, arith}
+use Rattle.std.proofs.Common.{◌≡◌, ℕ, ◌/◌, ◌%◌, inl, inr, List, [], ◌++◌, length, refl, sym, subst, arith}
 use Rattle.std.specs.Prelude.{IsTrue, IsFalse}
 use Rattle.std.proofs.lemmas.Bool.{cases_eq}
 use Rattle.std.proofs.lemmas.List.{append-nil}
@@ -9,7 +9,6 @@ use Rattle.dma_arena.proofs.Inside.{inside_avoids}
 use Rattle.register_file.specs.Pools.{mode_in}
 use Rattle.register_file.specs.declared.dir.Dir.{Dir}
 use Rattle.register_file.specs.declared.dir.Dir.TheVariants.{Rx, Tx}
-use Rattle.vf_map.specs.declared.mode.Mode.{Mode}
 use Rattle.nic_device.specs.Outcome.{Outcome}
 use Rattle.nic_device.specs.Sound.{IsEvent, IsSound}
 use Rattle.nic_device.specs.State.{State}
@@ -26,7 +25,6 @@ use Rattle.device_laws.proofs.StandingQueues.{switching_rest}
 use Rattle.device_laws.proofs.StandingRest.{arrival_rest, message_rest, eeprom_rest, link_rest, collecting_rest}
 use Rattle.device_lock.specs.Alone.{Blocks, WritesOutside, SparesIfSome, place_at, LeavesRegisters, LeavesBlocks}
 use Rattle.device_lock.specs.declared.alone.Watched.{Watched}
-use Rattle.pmd_base.specs.Events.{is_step}
 use Rattle.pmd_rx.specs.Receive.{Receive}
 use Rattle.receive_laws.specs.Joint.{Agree}
 use Rattle.receive_laws.specs.Pieces.{Piece, pieces}
@@ -37,10 +35,10 @@ use Rattle.receive_laws.proofs.Received.{receive_keeps}
 use Rattle.receive_laws.proofs.Switching.{enable_keeps}
 use Rattle.receive_laws.proofs.Transmitting.{not_mine, transmit_leaves}
 use Rattle.receive_laws.proofs.Writing.{left_memory, write_leaves}
-use Rattle.receive_laws.proofs.Clear.{spares_mine}
+use Rattle.receive_laws.proofs.Clear.{spares_mine, no_registers}
 
-module _ (w : Watched) (mine : Blocks) (s : State) (out : List Piece) (v : Receive) (sound : IsSound s) (vfs : w.vfs ≡ s.vfs)
-    (j : Agree w.queue s out v) (m : Each v (λ b. IsTrue (mine b))) where
+module _ (w : Watched) (mine : Blocks) (s : State) (out : List Piece) (v : Receive) (sound : IsSound s)
+    (vfs : w.vfs ≡ s.vfs) (j : Agree w.queue s out v) (m : Each v (λ b. IsTrue (mine b))) where
   still : (t : State) → Leaves w.queue v s t → Agree w.queue t (out ++ []) v
   still t l = subst (λ xs. Agree w.queue t xs v) (sym (append-nil out)) (leaving_keeps w.queue s t out v l j)
 
@@ -134,14 +132,6 @@ foreign_keeps w mine mode s out v e met j m inside spare alone other =
     entry_keeps w mine s out v met.sound met.vfs j m inside spare e.event met.event
     (subst (λ k. LeavesRegisters w k e.event) met.mode_is (alone.registers other)) (alone.blocks other)
     (subst (WritesOutside w.queue mine) met.reply alone.steps)
-
-no_registers : (w : Watched) (mode : Mode) (mine : Blocks) (e : Event Block) → is_step e ≡ true
-    → LeavesRegisters w mode e × LeavesBlocks mine e
-no_registers w mode mine (event.Write port n word) is = cc
-no_registers w mode mine (event.Lend b) is = cc
-no_registers w mode mine (event.Take n) is = cc
-no_registers w mode mine (event.Poke16 a bytes) is = cc
-no_registers w mode mine other is = (tt, tt)
 
 pub steps_keep : DeviceStepKeeps
 steps_keep w mine mode s out v e met j m inside spare alone is =

@@ -69,8 +69,8 @@ module _ (w : Watched) (mine : Blocks) where
       → ((n : ℕ) → IsTrue (lent_by w.pass h n) → IsTrue (mine n))
       → Led w s out v h (played_by v marks (calls_of w.pass h))
 
-  plays_other : (mode : Mode) (s : State) (out : List Piece) (v : Receive) (marks : List Bool) (e : Entry) (h : List Entry)
-      → (e.pass == w.pass) ≡ false
+  plays_other : (mode : Mode) (s : State) (out : List Piece) (v : Receive) (marks : List Bool) (e : Entry)
+      (h : List Entry) → (e.pass == w.pass) ≡ false
       → Plays (mode_after w.vfs mode e.event) (after s e.event) (out ++ pieces w.queue s e.event) v marks h
       → Plays mode s out v marks (e ∷ h)
   plays_other mode s out v marks e h other rest m legal events alone own spare covers =
@@ -82,7 +82,8 @@ module _ (w : Watched) (mine : Blocks) where
       spare.0.inside spare.0.reports in
       subst (λ calls. Led w s out v (e ∷ h) (played_by v marks calls)) (sym same)
       (on_after w s out v v e h _ m.agree
-      (rest next legal.1 events.1 alone.1 (subst (AllOwn v marks) same own) spared (λ n is. covers n (or_right _ _ is))))
+      (rest next legal.1 events.1 alone.1 (subst (AllOwn v marks) same own) spared
+      (λ n is. covers n (or_right _ _ is))))
 
   plays_own : (mode : Mode) (s : State) (out : List Piece) (v : Receive) (b : Bool) (marks : List Bool) (e : Entry)
       (h : List Entry) → (e.pass == w.pass) ≡ true
@@ -115,7 +116,8 @@ module _ (w : Watched) (mine : Blocks) where
             m legal events alone own spare covers
       ]
   plays mode s out v (b ∷ marks) (e ∷ h) m legal events alone own spare covers =
-      elim (cases_Bool (e.pass == w.pass)) as (λ _. Led w s out v (e ∷ h) (played_by v (b ∷ marks) (calls_of w.pass (e ∷ h)))) [
+      elim (cases_Bool (e.pass == w.pass)) as
+      (λ _. Led w s out v (e ∷ h) (played_by v (b ∷ marks) (calls_of w.pass (e ∷ h)))) [
         | inl is ↦
             plays_own mode s out v b marks e h is
             (plays (mode_after w.vfs mode e.event) (after s e.event) (out ++ pieces w.queue s e.event)

@@ -21,7 +21,12 @@ use Rattle.receive_laws.proofs.Looking.{with_stage}
 abbrev with_block : State → Block → State
 with_block s b = record s { memory = map.insert s.memory b.number b.bytes }
 
-fresh_leaves : (queue : ℕ) (s : State) (v : Receive) (b : Block) → MayLend v.layout b → IfFresh v.stage (λ c. map.get (map.insert s.memory b.number b.bytes) c ≡ map.get s.memory c)
+-- a fresh block that is lent before another one is the same
+abbrev FreshStays : State → Block → Stage → Type 0
+FreshStays s b stage = IfFresh stage (λ c. map.get (with_block s b).memory c ≡ map.get s.memory c)
+
+fresh_leaves : (queue : ℕ) (s : State) (v : Receive) (b : Block) → MayLend v.layout b
+    → FreshStays s b v.stage
     → Leaves queue v s (with_block s b)
 fresh_leaves queue s v b may none = record {
   receive = refl;
@@ -36,7 +41,7 @@ fresh_leaves queue s v b may none = record {
 
 lent_holds : (queue : ℕ) (s : State) (out : List Piece) (v : Receive) (gone here : List Piece) (b : Block)
     (o : Option Packet) → Holds queue s out v gone here → MayLend v.layout b
-    → IfFresh v.stage (λ c. map.get (map.insert s.memory b.number b.bytes) c ≡ map.get s.memory c)
+    → FreshStays s b v.stage
     → listed o ≡ held v.stage → Holds queue (with_block s b) out (record v { stage = Lent o b.number }) gone here
 lent_holds queue s out v gone here b o h may none same =
     let t = with_block s b in
@@ -49,10 +54,10 @@ lent_stage : (queue : ℕ) (s : State) (out : List Piece) (v : Receive) (gone he
     (stage : Stage) → Holds queue s out v gone here → v.stage ≡ stage → LendsNext v.layout stage b
     → Agree queue (with_block s b) out (lent_one v stage b.number)
 lent_stage queue s out v gone here b Looks h is may =
-    (gone, here, lent_holds queue s out v gone here b None h may (subst (λ stage. IfFresh stage (λ c. map.get (map.insert s.memory b.number b.bytes) c ≡ map.get s.memory c)) (sym is) tt) (sym (ap held is)))
+    (gone, here, lent_holds queue s out v gone here b None h may (subst (FreshStays s b) (sym is) tt) (sym (ap held is)))
 lent_stage queue s out v gone here b (Sees first second) h is may = absurd may
 lent_stage queue s out v gone here b (Holding p) h is may =
-    (gone, here, lent_holds queue s out v gone here b (Some p) h may (subst (λ stage. IfFresh stage (λ c. map.get (map.insert s.memory b.number b.bytes) c ≡ map.get s.memory c)) (sym is) tt) (sym (ap held is)))
+    (gone, here, lent_holds queue s out v gone here b (Some p) h may (subst (FreshStays s b) (sym is) tt) (sym (ap held is)))
 lent_stage queue s out v gone here b (Lent o c) h is may = absurd may
 lent_stage queue s out v gone here b (Named o c) h is may = absurd may
 

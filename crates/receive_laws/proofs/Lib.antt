@@ -18,6 +18,7 @@ pub mod Naming
 pub mod Own
 pub mod Places
 pub mod Prefix
+pub mod Quiet
 pub mod Received
 pub mod Receiving
 pub mod Spared

@@ -33,7 +33,8 @@ pub looked_is : (s : State) (l : Layout) (here : List Piece) → IsRing l → Ha
 unfolding step_of
 looked_is s l here ring h =
     let straight : (descriptor_at l 0 % 16 == 0) ≡ true = aligned l.ring (slot_at l 0) in
-    let lent : is_lent s.memory (descriptor_at l 0) 16 ≡ true = descriptor_lent s.memory l here ring h 0 (omega arith) in
+    let lent : is_lent s.memory (descriptor_at l 0) 16 ≡ true =
+    descriptor_lent s.memory l here ring h 0 (omega arith) in
     rw (straight, lent) refl
 
 some_here : (m : Memory) (l : Layout) (here : List Piece) → HasSlots m l here → 0 < length l.blocks

@@ -12,7 +12,8 @@ use Rattle.receive_laws.specs.Joint.{InOrder, Agree}
 use Rattle.receive_laws.specs.Pieces.{Piece, AllEnd, packets_of, whole_packet}
 use Rattle.receive_laws.proofs.Looking.{look_tells}
 
-packets-gone : (gone here : List Piece) → AllEnd gone → packets_of (gone ++ here) ≡ map whole_packet gone ++ packets_of here
+packets-gone : (gone here : List Piece) → AllEnd gone
+    → packets_of (gone ++ here) ≡ map whole_packet gone ++ packets_of here
 packets-gone [] here a = refl
 packets-gone (p ∷ ps) here a = rw (a.0, packets-gone ps here a.1) refl
 

@@ -54,7 +54,8 @@ empty_kept s b =
           ap (λ m. map.get m b) (takes_piece s.memory _ _ _ f is).memory ∙ none_written s.memory _ f b k.0 k.1;
     })
 
-by_reply : (s : State) (b : ℕ) (r : Reply Block) → IsSparedBy r b → (ReceivesOutside r b → LeavesBlock b s (after s event.RxStep))
+by_reply : (s : State) (b : ℕ) (r : Reply Block) → IsSparedBy r b
+    → (ReceivesOutside r b → LeavesBlock b s (after s event.RxStep))
     → (IsEmpty r b → LeavesBlock b s (after s event.RxStep)) → LeavesBlock b s (after s event.RxStep)
 by_reply s b (Wrote on slot end desc at len) spared full empty = elim (cases_lt 0 len) [
   | inl some ↦ full (spared.descriptor, spared.bytes some)

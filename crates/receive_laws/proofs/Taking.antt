@@ -1,21 +1,66 @@
 -- The block of the next slot is taken: its packet is the oldest that was delivered and is neither held nor handed out.
-use Rattle.std.proofs.Common.{◌≡◌, ℕ, List, [], ◌∷◌, ◌++◌, drop, refl, sym, ap, subst}
+use Rattle.std.proofs.Common.{◌≡◌, ℕ, List, [], ◌∷◌, ◌++◌, drop, refl, sym, ap, subst, ◌*◌, ◌<◌, true, length, take, ◌∙◌, arith, append_assoc, Some}
 use Rattle.std.specs.FinMap as map
 use Rattle.dma_arena.specs.Block.{Block}
-use Rattle.dma_arena.specs.Memory.{IsWhole}
+use Rattle.dma_arena.specs.Memory.{IsWhole, Memory, part}
 use Rattle.dma_arena.proofs.Bus.{of_some}
 use Rattle.dma_ring.specs.Receive.{bytes_in}
 use Rattle.register_file.specs.Sides.{receive_queue_of}
 use Rattle.nic_device.specs.State.{State}
-use Rattle.nic_device.specs.Outcome.{Outcome}
-use Rattle.nic_device.specs.Step.{after, reply_to}
+use Rattle.nic_device.specs.Outcome.{Outcome, gives}
+use Rattle.nic_device.specs.Step.{after, reply_to, step_of}
 use Rattle.nic_device.specs.declared.event.Event.TheVariants as event
 use Rattle.pmd_base.specs.Packet.{kept_of}
-use Rattle.pmd_rx.specs.Receive.{Receive, Sees, told, took, drive, held, descriptor_at, block_at}
-use Rattle.receive_laws.specs.Joint.{IsFilled, Saw, StageHolds, Agree}
-use Rattle.receive_laws.specs.Pieces.{Piece, piece_at, packet_told, whole_packet}
+use Rattle.pmd_rx.specs.Receive.{Receive, Sees, told, took, drive, held, descriptor_at, block_at, Holding, consumed}
+use Rattle.receive_laws.specs.Joint.{IsFilled, Saw, StageHolds, Agree, InOrder}
+use Rattle.receive_laws.specs.Pieces.{Piece, piece_at, packet_told, whole_packet, no_piece, AllEnd}
 use Rattle.receive_laws.proofs.Kept.{named_kept}
-use Rattle.receive_laws.proofs.Consuming.{taken_is, packet_bytes, ring_on, slots_on, set_up_on, order_on}
+use Rattle.receive_laws.proofs.Consuming.{ring_on, slots_on, set_up_on}
+use Rattle.std.proofs.lemmas.List.{append-nil, map-append, drop_more}
+use Rattle.dma_arena.proofs.Blocks.{read_at_in}
+use Rattle.nic_device.specs.declared.event.Reply.TheVariants.{Buf}
+use Rattle.pmd_base.specs.declared.packet.Packet.{Packet}
+
+taken_is : (s : State) (b : ℕ) (bytes : List ℕ) → map.get s.memory b ≡ Some bytes
+    → step_of s (event.Take b)
+    ≡ gives (Buf (record { number = b; bytes = bytes })) (record s { memory = map.remove s.memory b })
+unfolding step_of
+taken_is s b bytes is = rw is refl
+
+part_front : (xs : List ℕ) (n : ℕ) → part xs 0 n ≡ take n xs
+unfolding part
+part_front xs n = refl
+
+-- the bytes of the packet are those at the head of the block
+packet_bytes : (m : Memory) (b : ℕ) (bytes : List ℕ) (a : ℕ) (p : Piece) (len : ℕ) → map.get m b ≡ Some bytes
+    → length bytes ≡ 2048 → IsFilled m a b p → len ≡ length p.bytes → take len bytes ≡ p.bytes
+packet_bytes m b bytes a p len is whole f e =
+    let short = f.short in
+    ap (λ n. take n bytes) e ∙ sym (part_front bytes (length p.bytes))
+    ∙ sym (read_at_in m (2048 * b) (length p.bytes) b 0 bytes is whole (omega arith) (omega (arith, short))) ∙ f.bytes
+
+AllEnd-push : (ps : List Piece) (p : Piece) → AllEnd ps → p.end ≡ true → AllEnd (ps ++ p ∷ [])
+AllEnd-push [] p a e = (e, tt)
+AllEnd-push (q ∷ ps) p a e = (a.0, AllEnd-push ps p a.1 e)
+
+front : (ps : List Piece) → 0 < length ps → ps ≡ piece_at ps 0 ∷ drop 1 ps
+front ps some = drop_more ps 0 no_piece some
+
+-- the piece was consumed, and its packet is held
+order_on : (out : List Piece) (v : Receive) (gone here : List Piece) (packet : Packet) → InOrder out v gone here
+    → 0 < length here → held v.stage ≡ [] → (piece_at here 0).end ≡ true
+    → whole_packet (piece_at here 0) ≡ kept_of packet
+    → InOrder out (record { layout = consumed v.layout; handed = v.handed; stage = Holding packet })
+    (gone ++ piece_at here 0 ∷ []) (drop 1 here)
+order_on out v gone here packet o some none end is = record {
+  ended = AllEnd-push gone (piece_at here 0) o.ended end;
+  taken = map-append whole_packet gone (piece_at here 0 ∷ [])
+      ∙ ap (λ xs. xs ++ whole_packet (piece_at here 0) ∷ [])
+      (o.taken ∙ ap (λ xs. v.handed ++ xs) none ∙ append-nil v.handed)
+      ∙ ap (λ x. v.handed ++ x ∷ []) is;
+  order = o.order ∙ ap (λ xs. gone ++ xs) (front here some)
+      ∙ sym (append_assoc gone (piece_at here 0 ∷ []) (drop 1 here));
+}
 
 pub take_keeps : (queue : ℕ) (s : State) (out : List Piece) (v : Receive) (first second : ℕ) → IsWhole s.memory
     → Agree queue s out v → v.stage ≡ Sees first second

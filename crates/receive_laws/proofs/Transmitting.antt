@@ -41,7 +41,8 @@ report_outside queue on mine (Sent told len (Some b)) s t tells ne outside back 
 report_outside queue on mine (Sent told len None) s t tells ne outside back is = cc
 report_outside queue on mine other s t tells ne outside back is = cc
 
-module _ (queue : ℕ) (mine : Blocks) (s : State) (v : Receive) (sound : IsSound s) (all_mine : Each v (λ b. IsTrue (mine b)))
+module _ (queue : ℕ) (mine : Blocks) (s : State) (v : Receive) (sound : IsSound s)
+    (all_mine : Each v (λ b. IsTrue (mine b)))
     (inside : ReportsInside s) (spare : OwnReportsSpare queue v s) where
   -- the address of a report is of none of the driver's blocks
   elsewhere : (on : ℕ) → WritesOutside queue mine (reply_to s (event.TxStep on)) → (back : ℕ)

@@ -20,7 +20,8 @@ use Rattle.device_lock.specs.Alone.{is_setting}
 
 -- a register that is no setting is none of these
 
-pub no_setting : (row : RowId) → is_setting row ≡ false → (row ≢ Ctrl) × (row ≢ Hlreg0) × (row ≢ Maxfrs) × (row ≢ GcrExt)
+pub no_setting : (row : RowId) → is_setting row ≡ false
+    → (row ≢ Ctrl) × (row ≢ Hlreg0) × (row ≢ Maxfrs) × (row ≢ GcrExt)
 no_setting row none = (
   (λ e. let f : true ≡ false = ap is_setting (sym e) ∙ none in cc),
   (λ e. let f : true ≡ false = ap is_setting (sym e) ∙ none in cc),
@@ -75,7 +76,8 @@ wanted_of_side : (mode : Mode) (v queue : ℕ) → has_queue mode v queue ≡ fa
 wanted_of_side mode v queue none Rx number e = ap (has_queue mode v) (sym (eqb-true queue number e)) ∙ none
 wanted_of_side mode v queue none Tx number e = cc
 
-pub pool_misses : (mode : Mode) (v queue : ℕ) → has_queue mode v queue ≡ false → Misses (of_pool mode v) (of_side Rx queue)
+pub pool_misses : (mode : Mode) (v queue : ℕ) → has_queue mode v queue ≡ false
+    → Misses (of_pool mode v) (of_side Rx queue)
 pool_misses mode v queue none = record {
   words = λ p is. side_of_bank mode v queue none (row_of p.row).bank p.index is;
   wanted = λ dir number is. wanted_of_side mode v queue none dir number is;

@@ -5,11 +5,13 @@ pub mod Blocks
 pub mod Done
 pub mod Fetching
 pub mod Frames
+pub mod Guard
 pub mod LeftBlocks
 pub mod LeftSide
 pub mod LeftWrites
 pub mod Looking
 pub mod Moving
+pub mod Off
 pub mod Playing
 pub mod Reaping
 pub mod Runs

@@ -1,5 +1,6 @@
 pub mod Agreeing
 pub mod Laws
+pub mod Off
 pub mod Sent
 pub mod Sparing
 pub mod Turns

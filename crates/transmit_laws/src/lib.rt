@@ -5,6 +5,7 @@
 //! `specs/Turns` what a history is in which a pass is the driver.
 #![tactic(auto)]
 
+ghost use Rattle.transmit_laws.specs.Off.{OffStays, GuardIsOff};
 ghost use Rattle.transmit_laws.specs.Laws.{StepsOfQueueKeep, SparingEventsKeep, LeftAloneIsSpared, MovesKeep, SentIsPrefix, IdleIsAllSent, WaitingIsNotAllSent, SentIsPrefixOfTaken};
 
 /// A step of transmitting of the driver's own queue keeps what device and driver agree on, with the frame that it
@@ -37,4 +38,16 @@ pub fn sent_in_order()
     ensures idle { IdleIsAllSent }
     ensures waiting { WaitingIsNotAllSent }
     ensures taken { SentIsPrefixOfTaken }
+{}
+
+/// A transmit side that isn't wanted on stays so, and one that is off besides stays off and sends nothing, over every
+/// history whose events leave it or are steps of its own.
+pub fn queue_off_stays_off()
+    ensures { OffStays }
+{}
+
+/// After a write of the enable register without bit 25 the side isn't wanted on; and where it isn't, a read that tells
+/// bit 25 as 0 finds it off.
+pub fn guarded_queue_is_off()
+    ensures { GuardIsOff }
 {}

@@ -1,16 +1,13 @@
 -- The guard of a driver that starts: it writes the enable word without bit 25, and reads it with bit 25 as 0.
-use Rattle.std.proofs.Common.{◌≡◌, ℕ, ◌^◌, ◌/◌, ◌%◌, ◌<◌, true, false, refl, sym, ap, ◌∙◌, subst, arith}
-use Rattle.std.specs.Prelude.{bit_and, ◌==◌, IsFalse}
-use Rattle.std.proofs.Math.Nat.{mod-eq_of_lt}
+use Rattle.std.proofs.Common.{◌≡◌, ℕ, ◌^◌, ◌/◌, ◌%◌, ◌<◌, false, sym, ap, ◌∙◌, subst, arith}
+use Rattle.std.specs.Prelude.{bit_and, ◌==◌}
 use Rattle.std.proofs.lemmas.Nat.{and_mask}
 use Rattle.reg_table.specs.declared.rows.RowId.TheVariants.{Txdctl}
 use Rattle.register_file.specs.Bits.{has_bit}
 use Rattle.register_file.specs.Columns.{place}
 use Rattle.register_file.specs.Laws.{after_write}
-use Rattle.register_file.specs.Queue.{is_on}
 use Rattle.register_file.specs.Registers.{word_of}
 use Rattle.register_file.specs.Sides.{TransmitQueue}
-use Rattle.register_file.specs.declared.dir.Dir.TheVariants.{Tx}
 use Rattle.register_file.proofs.Switches.{transmit-asked}
 use Rattle.nic_device.specs.Access.{named_read, named_written}
 use Rattle.nic_device.specs.Outcome.{Outcome, gives}

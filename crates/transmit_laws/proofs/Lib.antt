@@ -1,5 +1,6 @@
 pub mod Accepting
 pub mod Advancing
+pub mod Alone
 pub mod Basing
 pub mod Blocks
 pub mod Done
@@ -10,6 +11,7 @@ pub mod LeftBlocks
 pub mod LeftSide
 pub mod LeftWrites
 pub mod Looking
+pub mod Mine
 pub mod Moving
 pub mod Off
 pub mod Playing

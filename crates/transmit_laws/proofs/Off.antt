@@ -1,5 +1,5 @@
 -- A transmit side that isn't wanted on stays so; one that is off besides stays off, and sends nothing.
-use Rattle.std.proofs.Common.{◌≡◌, ℕ, ◌<◌, inl, inr, Bool, true, false, not, ◌||◌, List, [], ◌∷◌, ◌++◌, refl, sym, ap, ◌∙◌, subst, Option, Some, None}
+use Rattle.std.proofs.Common.{◌≡◌, ℕ, ◌<◌, inl, inr, Bool, true, false, not, ◌||◌, List, [], ◌∷◌, refl, sym, ap, ◌∙◌, subst, Option, Some, None}
 use Rattle.std.proofs.lemmas.Bool.{cases_Bool, eq-eqb, lt-ltb}
 use Rattle.dma_arena.specs.Block.{Block}
 use Rattle.tx_ring.specs.declared.fetched.Fetched.{Fetched}
@@ -18,7 +18,7 @@ use Rattle.nic_device.specs.Switching.{emptied, side_switched}
 use Rattle.nic_device.specs.Transmit.{fetched_reply, is_muted, is_silent}
 use Rattle.nic_device.specs.declared.event.Event.{Event}
 use Rattle.nic_device.specs.declared.event.Event.TheVariants as event
-use Rattle.nic_device.specs.declared.event.Reply.TheVariants.{Done, Idle}
+use Rattle.nic_device.specs.declared.event.Reply.TheVariants.{Idle}
 use Rattle.nic_device.proofs.Cases.{either_way, switched_cases}
 use Rattle.nic_device.proofs.QueueCases.{transmitted_cases}
 use Rattle.device_lock.specs.History.{leads_to}

@@ -1,4 +1,5 @@
 pub mod Agreeing
+pub mod Alone
 pub mod Laws
 pub mod Off
 pub mod Sent

@@ -19,7 +19,7 @@ use Rattle.nic_device.specs.declared.named.Named.TheVariants.{Register}
 use Rattle.device_lock.specs.History.{leads_to}
 use Rattle.device_lock.specs.declared.entry.Entry.{Entry}
 use Rattle.device_laws.specs.Leaving.{LeavesTransmit}
-use Rattle.transmit_laws.specs.Sent.{sent_by, sent_in}
+use Rattle.transmit_laws.specs.Sent.{sent_in}
 use Rattle.transmit_laws.specs.Sparing.{is_transmit_of, is_switch_of}
 
 -- the side isn't wanted on, and it is off besides

@@ -6,7 +6,7 @@
 #![tactic(auto)]
 
 ghost use Rattle.transmit_laws.specs.Off.{OffStays, GuardIsOff};
-ghost use Rattle.transmit_laws.specs.Laws.{StepsOfQueueKeep, SparingEventsKeep, LeftAloneIsSpared, MovesKeep, SentIsPrefix, IdleIsAllSent, WaitingIsNotAllSent, SentIsPrefixOfTaken};
+ghost use Rattle.transmit_laws.specs.Laws.{StepsOfQueueKeep, SparingEventsKeep, LeftAloneIsSpared, MovesKeep, SentIsPrefix, IdleIsAllSent, WaitingIsNotAllSent, SentIsPrefixOfTaken, AloneMayRun, SentIsPrefixWhereAlone};
 
 /// A step of transmitting of the driver's own queue keeps what device and driver agree on, with the frame that it
 /// sends: the next packet that was accepted and not sent, or none.
@@ -38,6 +38,15 @@ pub fn sent_in_order()
     ensures idle { IdleIsAllSent }
     ensures waiting { WaitingIsNotAllSent }
     ensures taken { SentIsPrefixOfTaken }
+{}
+
+/// Over every legal history in which each turn is the driver's next move, or leaves the queue alone by the clauses by
+/// which a closed history is judged, the frames sent are a prefix of those accepted. What the driver's receive half and
+/// the device owe is a premise: a piece that is received isn't empty, and on the driver's own queue it is outside the
+/// sender's blocks; what a step of transmitting writes back ends in the block where it begins.
+pub fn sent_in_order_where_left_alone()
+    ensures runs { AloneMayRun }
+    ensures prefix { SentIsPrefixWhereAlone }
 {}
 
 /// A transmit side that isn't wanted on stays so, and one that is off besides stays off and sends nothing, over every

@@ -94,7 +94,8 @@ ready-same m n ring p same ready = record {
   lent = ap is_some same ∙ ready.lent;
   apart = ready.apart;
   bytes =
-      (reads_its_block n m p.block (2048 * p.block) (length p.kept.bytes) same (omega arith, omega (arith, ready.short))).0
+      (reads_its_block n m p.block (2048 * p.block) (length p.kept.bytes) same
+      (omega arith, omega (arith, ready.short))).0
       ∙ ready.bytes;
 }
 
@@ -102,13 +103,15 @@ ready-same m n ring p same ready = record {
 module _ (m n : Memory) (v : Sender) (f : ℕ) (l : IsLayout v.layout) (c : IsCounted v f) (h : Shows m v f)
     (same : (number : ℕ) → has_lent v number ≡ true → map.get n number ≡ map.get m number)
   where
-    stays : (k : ℕ) → k ≤ v.layout.size → read_at n (descriptor_at v.layout k) 16 ≡ read_at m (descriptor_at v.layout k) 16
+    stays : (k : ℕ) → k ≤ v.layout.size
+        → read_at n (descriptor_at v.layout k) 16 ≡ read_at m (descriptor_at v.layout k) 16
     stays = slot-same v l m n (same v.layout.ring (has_lent-ring v))
 
     pub shows-same : Shows n v f
     shows-same = record {
       ring = ap is_some (same v.layout.ring (has_lent-ring v)) ∙ h.ring;
-      ready = λ k i. ready-same m n v.layout.ring (packet_at v k) (same (packet_at v k).block (has_lent-packet v k i)) (h.ready k i);
+      ready = λ k i.
+          ready-same m n v.layout.ring (packet_at v k) (same (packet_at v k).block (has_lent-packet v k i)) (h.ready k i);
       done = λ k i. stays k (omega (arith, c.room, c.posted_known, c.fetched_posted)) ∙ h.done k i;
       waits = λ k i j. stays k (omega (arith, c.room, c.posted_known)) ∙ h.waits k i j;
       next = λ e. ((h.next e).0, stays v.posted (omega (arith, c.room, c.posted_known)) ∙ (h.next e).1);

@@ -118,7 +118,8 @@ fetch-packet m r tx p h =
       room = omega (arith, len, h.limit, h.short);
       buffer =
           rw (b, len)
-          (is_lent_in m (2048 * p.block) (length p.kept.bytes) p.block 0 h.buffer (omega arith) (omega (arith, h.short)));
+          (is_lent_in m (2048 * p.block) (length p.kept.bytes) p.block 0 h.buffer (omega arith)
+          (omega (arith, h.short)));
       report = rw (report, h.writeback) h.lent;
     } in
     (tests_in_order m [] r tx).sent full can ∙ ap (data_outcome m [] r tx) d ∙ outcome-packet m r tx p h

@@ -30,7 +30,8 @@ sent_state s queue r p = record s {
 -- a step sends exactly the packet of the slot at the head, and tells so
 pub step-sends : (s : State) (queue : ℕ) (p : Outgoing) → queue < 128
     → is_silent s queue (transmit_queue_of s.registers queue) ≡ false → staged_by s queue ≡ []
-    → IsToSend s.memory (transmit_queue_of s.registers queue).ring (sending_of s.registers (transmit_queue_of s.registers queue)) p
+    → IsToSend s.memory (transmit_queue_of s.registers queue).ring
+    (sending_of s.registers (transmit_queue_of s.registers queue)) p
     → step_of s (event.TxStep queue)
     ≡ gives (Sent queue (length p.kept.bytes) (Some (head_address (transmit_queue_of s.registers queue).ring)))
     (sent_state s queue (transmit_queue_of s.registers queue).ring p)

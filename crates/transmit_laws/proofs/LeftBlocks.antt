@@ -82,16 +82,19 @@ module _ (queue : ℕ) (mine : Blocks) (v : Sender) (s : State) (b : ℕ) (lent 
   where
     poke_block : (a : ℕ) (bytes : List ℕ) → length bytes ≡ 16 → mine (a / 2048) ≡ false
         → LeavesBlock b s (after s (event.Poke16 a bytes))
-    poke_block a bytes size free = elim (cases_eq (a % 16) 0) as (λ _. LeavesBlock b s (after s (event.Poke16 a bytes))) [
-      | inl even ↦
-          memory_blocks.poke s a bytes b (rw size (inside_avoids mine b a 16 is free (omega (arith, even))))
-      | inr odd ↦
-          subst (λ (o : Outcome). LeavesBlock b s o.state) (sym ((misaligned s a odd).poke bytes)) refl
-    ]
+    poke_block a bytes size free =
+        let t = after s (event.Poke16 a bytes) in
+        elim (cases_eq (a % 16) 0) as (λ _. LeavesBlock b s t) [
+          | inl even ↦ memory_blocks.poke s a bytes b (rw size (inside_avoids mine b a 16 is free (omega (arith, even))))
+          | inr odd ↦
+              subst (λ (o : Outcome). LeavesBlock b s o.state) (sym ((misaligned s a odd).poke bytes)) refl
+        ]
 
-    left-block : (e : Event Block) → IsSound s → IsEvent e → LeavesBlocks mine e → WritesOutside queue mine (reply_to s e)
+    left-block : (e : Event Block) → IsSound s → IsEvent e → LeavesBlocks mine e
+        → WritesOutside queue mine (reply_to s e)
         → Owes queue v s e → is_transmit_of queue e ≡ false → LeavesBlock b s (after s e)
-    left-block (event.Read port n) sound made left outside owes other = ap (λ m. map.get m b) (read_rest s port n).memory
+    left-block (event.Read port n) sound made left outside owes other =
+        ap (λ m. map.get m b) (read_rest s port n).memory
     left-block (event.Write port n word) sound made left outside owes other =
         ap (λ m. map.get m b) (write_memory s port n word)
     left-block (event.Lend block) sound made left outside owes other =
@@ -104,7 +107,8 @@ module _ (queue : ℕ) (mine : Blocks) (v : Sender) (s : State) (b : ℕ) (lent 
     left-block (event.TxStep on) sound made left outside owes other =
         transmitting_blocks s on b (λ back told.
         inside_avoids mine b back (report_length (transmit_queue_of s.registers on).writeback) is
-        (told_apart queue on mine s (after s (event.TxStep on)) (reply_to s (event.TxStep on)) (eqb-false on queue other)
+        (told_apart queue on mine s (after s (event.TxStep on)) (reply_to s (event.TxStep on))
+        (eqb-false on queue other)
         (transmitting_tells s sound on) outside back told) (owes back told))
     left-block (event.QueueStep dir on) sound made left outside owes other =
         ap (λ m. map.get m b) (switching_rest s dir on).memory

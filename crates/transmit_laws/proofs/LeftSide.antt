@@ -25,7 +25,8 @@ use Rattle.transmit_laws.specs.Sparing.{is_transmit_of, is_switch_of}
 use Rattle.transmit_laws.proofs.LeftWrites.{place_named, stray_side, place_side}
 
 module _ (w : Watched) (s : State) (functions : w.vfs ≡ s.vfs) where
-  spares-named : (port : Port) (n word view : ℕ) (p : Place) → LeavesRegisters w (mode_in s.registers) (event.Write port n word)
+  spares-named : (port : Port) (n word view : ℕ) (p : Place)
+      → LeavesRegisters w (mode_in s.registers) (event.Write port n word)
       → named s port n ≡ Register p view → Spares w.queue (mode_in s.registers) p word
   spares-named port n word view p left is =
       let there : place_at (mode_in s.registers) w.vfs port n ≡ Some p =

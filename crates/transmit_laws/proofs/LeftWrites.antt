@@ -104,12 +104,15 @@ module _ (s : State) (queue : ℕ) (port : Port) (n word : ℕ) where
           ∙ ap (λ b. cond b reset_reach (below_reset_reach mode p word)) plain
           ∙ ap (λ b. cond b (pool_reach mode p.index) (in_registers (of_write p))) asks in
           let stays = subst (λ r. StaysWithin r s (after s e)) reach (stays_within s e) in
-          (missed _ s (after s e) stays).transmit queue (pool_misses mode p.index queue (spares.pool asks)) (spares.pool asks)
+          (missed _ s (after s e) stays).transmit queue (pool_misses mode p.index queue (spares.pool asks))
+          (spares.pool asks)
 
       pub place_side : LeavesTransmit queue s (after s e)
-      place_side = elim (cases_Bool (asks_pool_reset (row_of p.row).kind word)) as (λ _. LeavesTransmit queue s (after s e)) [
-        | inl asks ↦ pool_side asks
-        | inr none ↦
-            (write_rest s port n word p view is plain none).transmit queue
-            (not_side (row_of p.row).bank p.index queue spares.transmit)
-      ]
+      place_side =
+          let asks = asks_pool_reset (row_of p.row).kind word in
+          elim (cases_Bool asks) as (λ _. LeavesTransmit queue s (after s e)) [
+            | inl is ↦ pool_side is
+            | inr none ↦
+                (write_rest s port n word p view is plain none).transmit queue
+                (not_side (row_of p.row).bank p.index queue spares.transmit)
+          ]

@@ -42,7 +42,8 @@ module _ (s : State) (queue : ℕ) (sent : List (List ℕ)) (v : Sender) (f : �
           staged = h.staged;
           counted = counted-accepted s.memory v f h.based.layout h.counted h.shows p b may;
           shows = shows-accepted s.memory v f h.based.layout h.counted h.shows p b may;
-          in_order = in-order-accepted v p f sent (omega (arith, h.counted.fetched_posted, h.counted.posted_known)) h.in_order;
+          in_order =
+              in-order-accepted v p f sent (omega (arith, h.counted.fetched_posted, h.counted.posted_known)) h.in_order;
         },
       ))
       (based-after s queue v.layout (event.Lend b) h.based made tt)
@@ -67,8 +68,10 @@ module _ (s : State) (queue : ℕ) (sent : List (List ℕ)) (v : Sender) (f : �
     shows-asked : Shows new (asked v) f
     shows-asked =
         let whole = h.based.sound.blocks.whole in
-        let lents = lent-still s.memory whole v h.based.layout h.shows.ring v.posted fits (asking p) (length-asking p) in
-        let readies = ready-still s.memory whole v h.based.layout h.shows.ring v.posted fits (asking p) (length-asking p) in
+        let lents = lent-still s.memory whole v h.based.layout h.shows.ring v.posted fits (asking p)
+        (length-asking p) in
+        let readies = ready-still s.memory whole v h.based.layout h.shows.ring v.posted fits (asking p)
+        (length-asking p) in
         record {
           ring = lents v.layout.ring h.shows.ring;
           ready = λ k i. readies (packet_at v k) (h.shows.ready k i);
@@ -134,12 +137,15 @@ module _ (s : State) (queue : ℕ) (sent : List (List ℕ)) (v : Sender) (f : �
           staged = h.staged;
           counted = counted-reaped v g h.based.layout c;
           shows = shows-reaped v g h.based.layout c s.memory shows;
-          in_order = in-order-reaped v g h.based.layout c sent (subst (λ n. bytes_of v.accepted ≡ sent ++ bytes_of (kept_in (drop n v.outstanding))) e h.in_order);
+          in_order =
+              in-order-reaped v g h.based.layout c sent
+              (subst (λ n. bytes_of v.accepted ≡ sent ++ bytes_of (kept_in (drop n v.outstanding))) e h.in_order);
         },
       ))
       (based-after s queue v.layout (event.Take (packet_at v 0).block) h.based made tt)
 
-  pub reap_one : (n : ℕ) → IsOwn v Reaps (event.Take n) → IsEvent (event.Take n) → After Reaps (step_of s (event.Take n))
+  pub reap_one : (n : ℕ) → IsOwn v Reaps (event.Take n) → IsEvent (event.Take n)
+      → After Reaps (step_of s (event.Take n))
   reap_one n own made =
       let some = h.counted.seen own.0 in
       let e : f ≡ (f - 1) + 1 = omega arith in

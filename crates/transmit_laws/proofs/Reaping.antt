@@ -34,7 +34,8 @@ module _ (v : Sender) (g : ℕ) (l : IsLayout v.layout) (c : IsCounted v (g + 1)
     head = u.head ∙ sym (slot_is g (g + 1) refl (omega (arith, c.fetched_posted, c.posted_known, c.room)));
     tail =
         u.tail
-        ∙ sym (slot_is (v.posted - 1) v.posted (omega (arith, c.fetched_posted)) (omega (arith, c.posted_known, c.room)));
+        ∙ sym (slot_is (v.posted - 1) v.posted (omega (arith, c.fetched_posted))
+        (omega (arith, c.posted_known, c.room)));
     writeback = u.writeback;
   }
 
@@ -69,7 +70,8 @@ module _ (v : Sender) (g : ℕ) (l : IsLayout v.layout) (c : IsCounted v (g + 1)
     other_block k known =
         let there : k + 1 < length v.outstanding = omega (arith, fewer) in
         ready-same m without v.layout.ring (packet_at v (k + 1))
-        (get-remove_other m (packet_at v 0).block (packet_at v (k + 1)).block (c.apart (k + 1) 0 there oldest (omega arith)))
+        (get-remove_other m (packet_at v 0).block (packet_at v (k + 1)).block
+        (c.apart (k + 1) 0 there oldest (omega arith)))
         (h.ready (k + 1) there)
 
     ring_stays : fin.get without v.layout.ring ≡ fin.get m v.layout.ring
@@ -93,12 +95,14 @@ module _ (v : Sender) (g : ℕ) (l : IsLayout v.layout) (c : IsCounted v (g + 1)
       next = λ p. next_now (h.next p);
     }
       where
-        next_now : (v.posted < length v.outstanding) × IsPosted m (descriptor_at v.layout v.posted) (packet_at v v.posted)
+        next_now : (v.posted < length v.outstanding)
+            × IsPosted m (descriptor_at v.layout v.posted) (packet_at v v.posted)
             → (v.posted - 1 < length (drop 1 v.outstanding))
             × IsPosted without (descriptor_at (reaped v).layout (v.posted - 1)) (packet_at (reaped v) (v.posted - 1))
         next_now n =
             let x : (v.posted - 1) + 1 ≡ v.posted = omega (arith, c.fetched_posted) in
-            let there : read_at m (descriptor_at v.layout ((v.posted - 1) + 1)) 16 ≡ asking (packet_at v ((v.posted - 1) + 1)) =
+            let there : read_at m (descriptor_at v.layout ((v.posted - 1) + 1)) 16
+            ≡ asking (packet_at v ((v.posted - 1) + 1)) =
             rw x n.1 in (
               omega (arith, fewer, n.0, c.fetched_posted),
               rw (behind (v.posted - 1)) (slot_stays (v.posted - 1) (omega (arith, c.posted_known, c.room)) ∙ there),

@@ -19,7 +19,7 @@ use Rattle.transmit_laws.proofs.Playing.{move-keeps}
 use Rattle.transmit_laws.proofs.Sparing.{spares-keeps}
 
 -- one turn
-one-turn : (s : State) (queue : ℕ) (sent : List (List ℕ)) (v : Sender) (e : Event Block) (r : Reply Block)
+pub one-turn : (s : State) (queue : ℕ) (sent : List (List ℕ)) (v : Sender) (e : Event Block) (r : Reply Block)
     (o : Option Move) → Agrees s queue sent v → r ≡ reply_to s e → MayCome queue v s e o
     → Agrees (after s e) queue (sent ++ sent_by queue s e) (known v o r)
 one-turn s queue sent v e r None (f, h) is may = spares-keeps s queue sent v f h e may
@@ -36,7 +36,8 @@ over-turns s queue sent v (t ∷ ts) j legal may =
     let first = sent_by queue s e in
     let rest = over-turns (after s e) queue (sent ++ first) (known v t.move t.entry.reply) ts
     (one-turn s queue sent v e t.entry.reply t.move j legal.0 may.0) legal.1 may.1 in
-    subst (λ xs. Agrees (leads_to (after s e) (entries_of ts)) queue xs (sender_after (known v t.move t.entry.reply) ts))
+    subst (λ xs. Agrees (leads_to (after s e) (entries_of ts)) queue xs
+    (sender_after (known v t.move t.entry.reply) ts))
     (append_assoc sent first (sent_in queue (after s e) (entries_of ts))) rest
 
 pub sent_is_prefix : SentIsPrefix

@@ -29,11 +29,11 @@ use Rattle.transmit_laws.proofs.Sending.{transmit-keeps}
 
 -- which events are steps of the driver's side
 
-transmit_is : (queue : ℕ) (e : Event Block) → is_transmit_of queue e ≡ true → e ≡ event.TxStep queue
+pub transmit_is : (queue : ℕ) (e : Event Block) → is_transmit_of queue e ≡ true → e ≡ event.TxStep queue
 transmit_is queue (event.TxStep on) is = ap event.TxStep (eqb-true on queue is)
 transmit_is queue other is = cc
 
-switch_is : (queue : ℕ) (e : Event Block) → is_switch_of queue e ≡ true → e ≡ event.QueueStep Tx queue
+pub switch_is : (queue : ℕ) (e : Event Block) → is_switch_of queue e ≡ true → e ≡ event.QueueStep Tx queue
 switch_is queue (event.QueueStep Tx on) is = ap (event.QueueStep Tx) (eqb-true on queue is)
 switch_is queue (event.QueueStep Rx on) is = cc
 switch_is queue other is = cc

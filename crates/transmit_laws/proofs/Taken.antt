@@ -49,5 +49,7 @@ sent_is_prefix_of_taken pass queue s v moves h agreed legal may =
       legal = subst (IsLegal s) (sym same) legal;
       may = may;
     }) in
-    subst (λ (xs : List Entry). IsPrefixOf (sent_in queue s xs) (bytes_of (played_by v moves (calls_of pass h)).accepted)) same
-    (subst (λ (w : Sender). IsPrefixOf (sent_in queue s (entries_of ts)) (bytes_of w.accepted)) (played-turns pass v moves h) prefix)
+    subst (λ (xs : List Entry). IsPrefixOf (sent_in queue s xs)
+    (bytes_of (played_by v moves (calls_of pass h)).accepted)) same
+    (subst (λ (w : Sender). IsPrefixOf (sent_in queue s (entries_of ts)) (bytes_of w.accepted))
+    (played-turns pass v moves h) prefix)

@@ -1,5 +1,5 @@
 -- What holds of a driver that sends on a queue of a shared device.
-use Rattle.std.specs.Prelude.{ℕ, ◌≡◌, ◌≢◌, ◌<◌, false, List, [], ◌++◌}
+use Rattle.std.specs.Prelude.{ℕ, ◌≡◌, ◌≢◌, ◌<◌, false, IsTrue, List, [], ◌++◌}
 use Rattle.dma_arena.specs.Block.{Block}
 use Rattle.nic_device.specs.State.{State}
 use Rattle.nic_device.specs.Step.{after, reply_to}
@@ -10,9 +10,10 @@ use Rattle.device_lock.specs.Alone.{Blocks}
 use Rattle.device_lock.specs.declared.alone.Watched.{Watched}
 use Rattle.device_lock.specs.History.{IsLegal, leads_to, calls_of}
 use Rattle.pmd_tx.specs.Plays.{played_by}
-use Rattle.pmd_tx.specs.Sending.{Sender, Move, is_sent, descriptor_at, moved}
+use Rattle.pmd_tx.specs.Sending.{Sender, Move, is_sent, descriptor_at, has_lent, moved}
 use Rattle.nic_device.specs.declared.event.Reply.TheVariants as reply
 use Rattle.transmit_laws.specs.Agreeing.{Agrees, bytes_of}
+use Rattle.transmit_laws.specs.Alone.{MayRunAlone}
 use Rattle.transmit_laws.specs.Sent.{sent_by, sent_in}
 use Rattle.transmit_laws.specs.Sparing.{Spares, IsLeft}
 use Rattle.transmit_laws.specs.Turns.{Turn, entries_of, turns_of, sender_after, MayMove, MayRun, IsOver}
@@ -77,3 +78,18 @@ SentIsPrefixOfTaken =
     (pass queue : ℕ) (s : State) (v : Sender) (moves : List Move) (h : List Entry) → Agrees s queue [] v →
     IsLegal s h → MayRun queue v s (turns_of pass moves h) →
     IsPrefixOf (sent_in queue s h) (bytes_of (played_by v moves (calls_of pass h)).accepted)
+
+-- where each turn leaves the queue alone or is a move, and the driver's lends are of blocks that others leave alone, each
+-- may come; and so what was sent is a prefix of what was accepted
+abbrev pub AloneMayRun : Type 0
+AloneMayRun =
+    (w : Watched) (mine : Blocks) (s : State) (v : Sender) (ts : List Turn) → Agrees s w.queue [] v → w.vfs ≡ s.vfs →
+    ((number : ℕ) → IsTrue (has_lent v number) → IsTrue (mine number)) → IsLegal s (entries_of ts) →
+    MayRunAlone w mine v s ts → MayRun w.queue v s ts
+
+abbrev pub SentIsPrefixWhereAlone : Type 0
+SentIsPrefixWhereAlone =
+    (w : Watched) (mine : Blocks) (s : State) (v : Sender) (ts : List Turn) → Agrees s w.queue [] v → w.vfs ≡ s.vfs →
+    ((number : ℕ) → IsTrue (has_lent v number) → IsTrue (mine number)) → IsLegal s (entries_of ts) →
+    MayRunAlone w mine v s ts →
+    IsPrefixOf (sent_in w.queue s (entries_of ts)) (bytes_of (sender_after v ts).accepted)

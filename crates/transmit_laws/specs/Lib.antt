@@ -1,5 +1,7 @@
 pub mod Agreeing
+pub mod Alone
 pub mod Laws
+pub mod Off
 pub mod Sent
 pub mod Sparing
 pub mod Turns

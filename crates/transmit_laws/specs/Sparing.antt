@@ -38,8 +38,8 @@ pub record Spares (queue : ℕ) (v : Sender) (s : State) (e : Event Block) : Typ
   pub blocks :
       IsFalse (is_transmit_of queue e) → (number : ℕ) → IsTrue (has_lent v number) → LeavesBlock number s (after s e)
 
--- what the driver's receive half and the device owe of a step: a piece isn't empty, and one of the driver's own queue is
--- outside the blocks that the sender has lent; what is written back ends in the block where it begins
+-- what the driver's receive half and the device owe of a step: a piece isn't empty, and one of the driver's own queue
+-- is outside the blocks that the sender has lent; what is written back ends in the block where it begins
 abbrev pub ReceiveOwes : ℕ → Sender → Reply Block → Type 0
 ReceiveOwes queue v (Wrote on slot end desc at len) =
     (0 < len) × (on ≡ queue → (number : ℕ) → IsTrue (has_lent v number) → Avoids number desc 16 × Avoids number at len)

@@ -5,7 +5,8 @@
 //! `specs/Turns` what a history is in which a pass is the driver.
 #![tactic(auto)]
 
-ghost use Rattle.transmit_laws.specs.Laws.{StepsOfQueueKeep, SparingEventsKeep, LeftAloneIsSpared, MovesKeep, SentIsPrefix, IdleIsAllSent, WaitingIsNotAllSent, SentIsPrefixOfTaken};
+ghost use Rattle.transmit_laws.specs.Off.{OffStays, GuardIsOff};
+ghost use Rattle.transmit_laws.specs.Laws.{StepsOfQueueKeep, SparingEventsKeep, LeftAloneIsSpared, MovesKeep, SentIsPrefix, IdleIsAllSent, WaitingIsNotAllSent, SentIsPrefixOfTaken, AloneMayRun, SentIsPrefixWhereAlone};
 
 /// A step of transmitting of the driver's own queue keeps what device and driver agree on, with the frame that it
 /// sends: the next packet that was accepted and not sent, or none.
@@ -37,4 +38,25 @@ pub fn sent_in_order()
     ensures idle { IdleIsAllSent }
     ensures waiting { WaitingIsNotAllSent }
     ensures taken { SentIsPrefixOfTaken }
+{}
+
+/// Over every legal history in which each turn is the driver's next move, or leaves the queue alone by the clauses by
+/// which a closed history is judged, the frames sent are a prefix of those accepted. What the driver's receive half and
+/// the device owe is a premise: a piece that is received isn't empty, and on the driver's own queue it is outside the
+/// sender's blocks; what a step of transmitting writes back ends in the block where it begins.
+pub fn sent_in_order_where_left_alone()
+    ensures runs { AloneMayRun }
+    ensures prefix { SentIsPrefixWhereAlone }
+{}
+
+/// A transmit side that isn't wanted on stays so, and one that is off besides stays off and sends nothing, over every
+/// history whose events leave it or are steps of its own.
+pub fn queue_off_stays_off()
+    ensures { OffStays }
+{}
+
+/// After a write of the enable register without bit 25 the side isn't wanted on; and where it isn't, a read that tells
+/// bit 25 as 0 finds it off.
+pub fn guarded_queue_is_off()
+    ensures { GuardIsOff }
 {}

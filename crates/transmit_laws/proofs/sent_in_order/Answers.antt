@@ -3,4 +3,9 @@ use Rattle.transmit_laws.proofs.Taken.{sent_is_prefix_of_taken}
 use Rattle.transmit_laws.proofs.sent_in_order.Goals as goal
 
 pub returns : goal.returns
-returns c = record { prefix = sent_is_prefix; idle = idle_is_all_sent; waiting = waiting_is_not_all_sent; taken = sent_is_prefix_of_taken }
+returns c = record {
+  prefix = sent_is_prefix;
+  idle = idle_is_all_sent;
+  waiting = waiting_is_not_all_sent;
+  taken = sent_is_prefix_of_taken;
+}

@@ -1,0 +1,81 @@
+-- A history that leaves the queue of a driver alone may run, and so what is sent is a prefix of what was accepted.
+use Rattle.std.proofs.Common.{◌≡◌, ℕ, List, [], ◌∷◌, ◌++◌, sym, ◌∙◌, subst, Option, Some, None}
+use Rattle.dma_arena.specs.Block.{Block}
+use Rattle.nic_device.specs.State.{State}
+use Rattle.nic_device.specs.Step.{after, reply_to}
+use Rattle.nic_device.specs.declared.event.Event.{Event}
+use Rattle.device_lock.specs.Alone.{Blocks}
+use Rattle.device_lock.specs.History.{IsLegal}
+use Rattle.device_lock.specs.declared.alone.Watched.{Watched}
+use Rattle.device_laws.proofs.Standing.{stays_within}
+use Rattle.pmd_tx.specs.Sending.{Sender, Move, Accepts, Asks, Advances, Looks, Reaps, Elsewhere, has_lent}
+use Rattle.transmit_laws.specs.Agreeing.{Agrees}
+use Rattle.transmit_laws.specs.Alone.{IsAlone, LendsOneOf, MayMoveAlone, MayComeAlone, MayRunAlone}
+use Rattle.transmit_laws.specs.Laws.{AloneMayRun, SentIsPrefixWhereAlone}
+use Rattle.transmit_laws.specs.Sent.{sent_by}
+use Rattle.transmit_laws.specs.Turns.{Turn, entries_of, known, MayMove, MayCome, MayRun}
+use Rattle.transmit_laws.proofs.LeftBlocks.{left_alone_is_spared}
+use Rattle.transmit_laws.proofs.Mine.{AreMine, mine-moved}
+use Rattle.transmit_laws.proofs.Runs.{one-turn, sent_is_prefix}
+
+module _ (w : Watched) (mine : Blocks) (s : State) (sent : List (List ℕ)) (v : Sender) (j : Agrees s w.queue sent v)
+    (functions : w.vfs ≡ s.vfs) (all : AreMine mine v) (e : Event Block)
+  where
+    spared : (blocks : Blocks) → AreMine blocks v → IsAlone w blocks v s e → MayCome w.queue v s e None
+    spared blocks lent a = left_alone_is_spared w blocks v s e (record {
+      sound = j.1.based.sound;
+      made = a.made;
+      functions = functions;
+      lent = lent;
+      registers = a.registers;
+      blocks = a.blocks;
+      steps = a.steps;
+      owed = a.owed;
+    })
+
+    move_may : (m : Move) → MayMoveAlone w mine v s e m → MayMove w.queue v s e m
+    move_may Elsewhere a = spared (has_lent v) (λ number is. is) a
+    move_may (Accepts p) a = (a.0, a.1)
+    move_may Asks a = (a.0, a.1)
+    move_may Advances a = (a.0, a.1)
+    move_may Looks a = (a.0, a.1)
+    move_may Reaps a = (a.0, a.1)
+
+    may : (o : Option Move) → MayComeAlone w mine v s e o → MayCome w.queue v s e o
+    may None a = spared mine all a
+    may (Some m) a = move_may m a
+
+    lends : (m : Move) → MayMoveAlone w mine v s e m → LendsOneOf mine m (reply_to s e)
+    lends Elsewhere a = tt
+    lends (Accepts p) a = a.2
+    lends Asks a = a.2
+    lends Advances a = a.2
+    lends Looks a = a.2
+    lends Reaps a = a.2
+
+    mine_after : (o : Option Move) → MayComeAlone w mine v s e o → AreMine mine (known v o (reply_to s e))
+    mine_after None a = all
+    mine_after (Some m) a = mine-moved mine v all m (reply_to s e) (lends m a)
+
+run : (w : Watched) (mine : Blocks) (s : State) (sent : List (List ℕ)) (v : Sender) (ts : List Turn)
+    → Agrees s w.queue sent v → w.vfs ≡ s.vfs → AreMine mine v → IsLegal s (entries_of ts)
+    → MayRunAlone w mine v s ts → MayRun w.queue v s ts
+run w mine s sent v [] j functions all legal alone = tt
+run w mine s sent v (t ∷ ts) j functions all legal alone =
+    let e = t.entry.event in
+    let m = may w mine s sent v j functions all e t.move alone.0 in
+    let next = one-turn s w.queue sent v e t.entry.reply t.move j legal.0 m in
+    let left : AreMine mine (known v t.move t.entry.reply) =
+    subst (λ r. AreMine mine (known v t.move r)) (sym legal.0) (mine_after w mine s sent v j functions all e t.move alone.0) in (
+      m,
+      run w mine (after s e) (sent ++ sent_by w.queue s e) (known v t.move t.entry.reply) ts next
+          (functions ∙ sym (stays_within s e).vfs) left legal.1 alone.1,
+    )
+
+pub alone_may_run : AloneMayRun
+alone_may_run w mine s v ts agreed functions lent legal alone = run w mine s [] v ts agreed functions lent legal alone
+
+pub sent_is_prefix_where_alone : SentIsPrefixWhereAlone
+sent_is_prefix_where_alone w mine s v ts agreed functions lent legal alone =
+    sent_is_prefix w.queue s v ts
+    (record { agreed = agreed; legal = legal; may = alone_may_run w mine s v ts agreed functions lent legal alone })

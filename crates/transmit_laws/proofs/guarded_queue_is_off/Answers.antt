@@ -1,0 +1,5 @@
+use Rattle.transmit_laws.proofs.Guard.{guard_is_off}
+use Rattle.transmit_laws.proofs.guarded_queue_is_off.Goals as goal
+
+pub returns : goal.returns
+returns c = guard_is_off

@@ -1,0 +1,70 @@
+-- A queue whose transmit side is off, and isn't wanted on.
+use Rattle.std.specs.Prelude.{ℕ, ◌≡◌, ◌<◌, IsFalse, ⊤, List, [], ◌∷◌}
+use Rattle.dma_arena.specs.Block.{Block}
+use Rattle.reg_table.specs.declared.rows.RowId.TheVariants.{Txdctl}
+use Rattle.register_file.specs.Bits.{has_bit}
+use Rattle.register_file.specs.Columns.{place}
+use Rattle.register_file.specs.Queue.{is_on}
+use Rattle.register_file.specs.Registers.{is_wanted}
+use Rattle.register_file.specs.declared.dir.Dir.TheVariants.{Tx}
+use Rattle.nic_device.specs.Named.{named}
+use Rattle.nic_device.specs.Sound.{IsEvent, IsSound}
+use Rattle.nic_device.specs.State.{State}
+use Rattle.nic_device.specs.Step.{after, reply_to}
+use Rattle.nic_device.specs.declared.event.Event.{Event}
+use Rattle.nic_device.specs.declared.event.Event.TheVariants as event
+use Rattle.nic_device.specs.declared.event.Port.{Port}
+use Rattle.nic_device.specs.declared.event.Reply.TheVariants as reply
+use Rattle.nic_device.specs.declared.named.Named.TheVariants.{Register}
+use Rattle.device_lock.specs.History.{leads_to}
+use Rattle.device_lock.specs.declared.entry.Entry.{Entry}
+use Rattle.device_laws.specs.Leaving.{LeavesTransmit}
+use Rattle.transmit_laws.specs.Sent.{sent_in}
+use Rattle.transmit_laws.specs.Sparing.{is_transmit_of, is_switch_of}
+
+-- the side isn't wanted on, and it is off besides
+abbrev pub IsUnwanted : ℕ → State → Type 0
+IsUnwanted queue s = IsFalse (is_wanted s.registers Tx queue)
+
+pub record IsOff (queue : ℕ) (s : State) : Type 0 where
+  pub off : IsFalse (is_on s.registers Tx queue)
+  pub unwanted : IsUnwanted queue s
+
+-- an event of a sound device is a step of the side's own, or leaves it
+pub record LeavesSide (queue : ℕ) (s : State) (e : Event Block) : Type 0 where
+  pub sound : IsSound s
+  pub made : IsEvent e
+  pub side : IsFalse (is_transmit_of queue e) → IsFalse (is_switch_of queue e) → LeavesTransmit queue s (after s e)
+
+-- each event of a history is
+abbrev pub AllLeaveSide : ℕ → State → List Entry → Type 0
+AllLeaveSide queue s [] = ⊤
+AllLeaveSide queue s (e ∷ es) = LeavesSide queue s e.event × AllLeaveSide queue (after s e.event) es
+
+-- a side that isn't wanted on stays so, one that is off besides stays off, and sends nothing
+pub record OffStays : Type 0 where
+  pub unwanted :
+      (queue : ℕ) (s : State) (e : Event Block) → queue < 128 → LeavesSide queue s e → IsUnwanted queue s
+      → IsUnwanted queue (after s e)
+  pub off :
+      (queue : ℕ) (s : State) (h : List Entry) → queue < 128 → AllLeaveSide queue s h → IsOff queue s
+      → IsOff queue (leads_to s h)
+  pub silent :
+      (queue : ℕ) (s : State) (h : List Entry) → queue < 128 → AllLeaveSide queue s h → IsOff queue s
+      → sent_in queue s h ≡ []
+
+-- a number of a port names the enable register of the side, with all its bits
+abbrev pub NamesEnable : ℕ → State → Port → ℕ → Type 0
+NamesEnable queue s port number = named s port number ≡ Register (place Txdctl queue) 0xFFFFFFFF
+
+-- a write of a word without bit 25 to the enable register leaves the side not wanted on; and a side that isn't is off
+-- where a read of the register tells bit 25 as 0
+pub record GuardIsOff : Type 0 where
+  pub written :
+      (queue : ℕ) (s : State) (port : Port) (number word : ℕ) → queue < 128 → IsSound s
+      → NamesEnable queue s port number → IsFalse (has_bit 25 word)
+      → IsUnwanted queue (after s (event.Write port number word))
+  pub read :
+      (queue : ℕ) (s : State) (port : Port) (number word : ℕ) → IsUnwanted queue s
+      → NamesEnable queue s port number → reply_to s (event.Read port number) ≡ reply.Word word
+      → IsFalse (has_bit 25 word) → IsOff queue (after s (event.Read port number))

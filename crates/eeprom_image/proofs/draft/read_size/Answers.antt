@@ -49,8 +49,11 @@ overflow_add-count c =
     let number : c.in-Some.line.number ≡ c.empty_lines.count + 1 = next.0 in
     let on = CountsOn-skip (c.empty_lines.count + 1) c.skip_empty.result (c.in-Some.line.number + c.skip_empty.result) all
     c.next.new.self c.skip_empty.new.self next.1 (omega arith) c.skip_empty.ensures.count c.skip_empty.ensures.behind in
-    omega (arith, CountsOn-le (c.in-Some.line.number + c.skip_empty.result) all c.skip_empty.new.self on,
-    length-lines_of-le c.args.text.now)
+    omega (
+      arith,
+      CountsOn-le (c.in-Some.line.number + c.skip_empty.result) all c.skip_empty.new.self on,
+      length-lines_of-le c.args.text.now,
+    )
 
 pub returns-in-Size-clause-ok : goal.returns-in-Size-clause-ok
 returns-in-Size-clause-ok c =
@@ -77,8 +80,11 @@ returns-in-Word c =
 pub overflow_add-result : goal.overflow_add-result
 overflow_add-result c =
     let all = length (lines_of c.args.text.now) in
-    omega (arith, CountsOn-le c.empty_lines.count all c.empty_lines.lines c.empty_lines.invariant.counts,
-    length-lines_of-le c.args.text.now)
+    omega (
+      arith,
+      CountsOn-le c.empty_lines.count all c.empty_lines.lines c.empty_lines.invariant.counts,
+      length-lines_of-le c.args.text.now,
+    )
 
 pub returns-clause-err : goal.returns-clause-err
 returns-clause-err c =

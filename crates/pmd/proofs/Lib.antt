@@ -1,6 +1,7 @@
 pub mod Blocks
 pub mod Both
 pub mod Driving
+pub mod Handing
 pub mod Late
 pub mod Sending
 pub mod Starting

@@ -103,6 +103,10 @@ impl Pmd {
         ensures keeps { WhereUp self.old.rings self.new.rings (λ r s.
             Keeps r.arena r.receive s.arena s.receive (handed_block result)) }
         ensures transmit { WhereUp self.old.rings self.new.rings (λ r s. s.transmit ≡ r.transmit) }
+        ensures home { IfOk result (λ out. IfSome out (λ packet.
+            goes_back_to self.new.rings packet.buf.number ≡ true)) }
+        ensures given { IfOk result (λ out. IfSome out (λ packet.
+            handed_of self.new.rings ≡ handed_of self.old.rings ++ kept_of packet ∷ [])) }
         ensures down { IsDown self.old.rings → (result ≡ Err PmdFault.DeviceFault)
             × (N.made nic.new ≡ N.made nic.old) × (self.new ≡ self.old) }
         ensures queue { self.new.queue ≡ self.old.queue }
@@ -147,6 +151,7 @@ impl Pmd {
         ensures layout { WhereUp self.old.rings self.new.rings (λ r s. s.transmit.layout ≡ r.transmit.layout) }
         ensures others { WhereUp self.old.rings self.new.rings (λ r s.
             (s.arena ≡ r.arena) × (s.receive ≡ r.receive)) }
+        ensures handed { handed_of self.new.rings ≡ handed_of self.old.rings }
         ensures down { IsDown self.old.rings
             → (result ≡ Err (record { fault = PmdFault.DeviceFault; packet = Some packet }))
             × (N.made nic.new ≡ N.made nic.old) × (self.new ≡ self.old) }
@@ -186,6 +191,7 @@ impl Pmd {
         ensures faults { WhereUp self.old.rings self.new.rings (λ r s. IfErr result (λ fault.
             FaultsBy fault (N.made nic.old) r.transmit (N.made nic.new))) }
         ensures receive { WhereUp self.old.rings self.new.rings (λ r s. s.receive ≡ r.receive) }
+        ensures handed { handed_of self.new.rings ≡ handed_of self.old.rings }
         ensures down { IsDown self.old.rings → (result ≡ Err PmdFault.DeviceFault)
             × (N.made nic.new ≡ N.made nic.old) × (self.new ≡ self.old) }
         ensures queue { self.new.queue ≡ self.old.queue }

@@ -94,6 +94,7 @@ impl Running {
         ensures fails { IfErr result (λ f. FailsBy f (N.made nic.old) self.old.arena self.old.receive
             (N.made nic.new) self.new.arena self.new.receive) }
         ensures waits { result ≡ Err PmdFault.NoBuffer → PacketWaits self.new.receive.stage }
+        ensures home { IfOk result (λ out. IfSome out (λ packet. goes_back self.new packet.buf.number ≡ true)) }
         ensures keeps { Keeps self.old.arena self.old.receive self.new.arena self.new.receive (handed_block result) }
         ensures transmit { self.new.transmit ≡ self.old.transmit }
         ensures who { N.who nic.new ≡ N.who nic.old }

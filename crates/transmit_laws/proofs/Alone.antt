@@ -66,7 +66,8 @@ run w mine s sent v (t ∷ ts) j functions all legal alone =
     let m = may w mine s sent v j functions all e t.move alone.0 in
     let next = one-turn s w.queue sent v e t.entry.reply t.move j legal.0 m in
     let left : AreMine mine (known v t.move t.entry.reply) =
-    subst (λ r. AreMine mine (known v t.move r)) (sym legal.0) (mine_after w mine s sent v j functions all e t.move alone.0) in (
+    subst (λ r. AreMine mine (known v t.move r)) (sym legal.0)
+    (mine_after w mine s sent v j functions all e t.move alone.0) in (
       m,
       run w mine (after s e) (sent ++ sent_by w.queue s e) (known v t.move t.entry.reply) ts next
           (functions ∙ sym (stays_within s e).vfs) left legal.1 alone.1,

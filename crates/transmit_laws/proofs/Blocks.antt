@@ -111,7 +111,8 @@ module _ (m n : Memory) (v : Sender) (f : ℕ) (l : IsLayout v.layout) (c : IsCo
     shows-same = record {
       ring = ap is_some (same v.layout.ring (has_lent-ring v)) ∙ h.ring;
       ready = λ k i.
-          ready-same m n v.layout.ring (packet_at v k) (same (packet_at v k).block (has_lent-packet v k i)) (h.ready k i);
+          ready-same m n v.layout.ring (packet_at v k) (same (packet_at v k).block (has_lent-packet v k i))
+          (h.ready k i);
       done = λ k i. stays k (omega (arith, c.room, c.posted_known, c.fetched_posted)) ∙ h.done k i;
       waits = λ k i j. stays k (omega (arith, c.room, c.posted_known)) ∙ h.waits k i j;
       next = λ e. ((h.next e).0, stays v.posted (omega (arith, c.room, c.posted_known)) ∙ (h.next e).1);

@@ -85,7 +85,8 @@ module _ (queue : ℕ) (mine : Blocks) (v : Sender) (s : State) (b : ℕ) (lent 
     poke_block a bytes size free =
         let t = after s (event.Poke16 a bytes) in
         elim (cases_eq (a % 16) 0) as (λ _. LeavesBlock b s t) [
-          | inl even ↦ memory_blocks.poke s a bytes b (rw size (inside_avoids mine b a 16 is free (omega (arith, even))))
+          | inl even ↦ memory_blocks.poke s a bytes b
+              (rw size (inside_avoids mine b a 16 is free (omega (arith, even))))
           | inr odd ↦
               subst (λ (o : Outcome). LeavesBlock b s o.state) (sym ((misaligned s a odd).poke bytes)) refl
         ]

@@ -4,6 +4,7 @@ pub mod Alone
 pub mod Basing
 pub mod Blocks
 pub mod Done
+pub mod Examples
 pub mod Fetching
 pub mod Frames
 pub mod Guard

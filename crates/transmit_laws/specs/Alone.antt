@@ -28,8 +28,8 @@ abbrev pub LendsOneOf : Blocks → Move → Reply Block → Type 0
 LendsOneOf mine (Accepts p) reply.Done = IsTrue (mine p.block)
 LendsOneOf mine m other = ⊤
 
--- a turn is the driver's next move, or leaves alone: another pass's all of these blocks, and one of the driver's own pass
--- that is no move of the sender's the blocks that the sender has lent now
+-- a turn is the driver's next move, or leaves alone: another pass's all of these blocks, and one of the driver's own
+-- pass that is no move of the sender's the blocks that the sender has lent now
 abbrev pub MayMoveAlone : Watched → Blocks → Sender → State → Event Block → Move → Type 0
 MayMoveAlone w mine v s e Elsewhere = IsAlone w (has_lent v) v s e
 MayMoveAlone w mine v s e m = IsOwn v m e × IsEvent e × LendsOneOf mine m (reply_to s e)

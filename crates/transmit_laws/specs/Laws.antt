@@ -79,8 +79,8 @@ SentIsPrefixOfTaken =
     IsLegal s h → MayRun queue v s (turns_of pass moves h) →
     IsPrefixOf (sent_in queue s h) (bytes_of (played_by v moves (calls_of pass h)).accepted)
 
--- where each turn leaves the queue alone or is a move, and the driver's lends are of blocks that others leave alone, each
--- may come; and so what was sent is a prefix of what was accepted
+-- where each turn leaves the queue alone or is a move, and the driver's lends are of blocks that others leave alone,
+-- each may come; and so what was sent is a prefix of what was accepted
 abbrev pub AloneMayRun : Type 0
 AloneMayRun =
     (w : Watched) (mine : Blocks) (s : State) (v : Sender) (ts : List Turn) → Agrees s w.queue [] v → w.vfs ≡ s.vfs →

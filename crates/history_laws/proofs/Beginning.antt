@@ -37,8 +37,10 @@ module _ (mine less : Blocks) (fewer : (n : ℕ) → IsFalse (mine n) → IsFals
 
   outside_left : (queue : ℕ) (r : Reply Block) → WritesOutside queue mine r → WritesOutside queue less r
   outside_left queue (Wrote on slot end desc at len) h = λ ne.
-      let both = h ne in
-      ((λ a from below. fewer (a / 2048) (both.0 a from below)), (λ a from below. fewer (a / 2048) (both.1 a from below)))
+      let both = h ne in (
+        (λ a from below. fewer (a / 2048) (both.0 a from below)),
+        (λ a from below. fewer (a / 2048) (both.1 a from below)),
+      )
   outside_left queue (Advanced on slot (Some back)) h = λ ne. fewer (back / 2048) (h ne)
   outside_left queue (Sent on len (Some back)) h = λ ne. fewer (back / 2048) (h ne)
   outside_left queue r h = tt

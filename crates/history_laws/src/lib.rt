@@ -11,8 +11,8 @@ pub fn mode_is_told()
     ensures { ModeIsTold }
 {}
 
-/// A history that leaves a queue alone does so entry by entry, from any place behind the pass's first entry on; and what
-/// begins such a history leaves the queue alone.
+/// A history that leaves a queue alone does so entry by entry, from any place behind the pass's first entry on; and
+/// what begins such a history leaves the queue alone.
 pub fn queue_is_left_alone_by_entries()
     ensures entries { AloneByEntries }
     ensures beginning { BeginningIsAlone }

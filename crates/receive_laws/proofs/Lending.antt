@@ -53,11 +53,19 @@ lent_holds queue s out v gone here b o h may none same =
 lent_stage : (queue : ℕ) (s : State) (out : List Piece) (v : Receive) (gone here : List Piece) (b : Block)
     (stage : Stage) → Holds queue s out v gone here → v.stage ≡ stage → LendsNext v.layout stage b
     → Agree queue (with_block s b) out (lent_one v stage b.number)
-lent_stage queue s out v gone here b Looks h is may =
-    (gone, here, lent_holds queue s out v gone here b None h may (subst (FreshStays s b) (sym is) tt) (sym (ap held is)))
+lent_stage queue s out v gone here b Looks h is may = (
+  gone,
+  here,
+  lent_holds queue s out v gone here b None h may
+      (subst (FreshStays s b) (sym is) tt) (sym (ap held is)),
+)
 lent_stage queue s out v gone here b (Sees first second) h is may = absurd may
-lent_stage queue s out v gone here b (Holding p) h is may =
-    (gone, here, lent_holds queue s out v gone here b (Some p) h may (subst (FreshStays s b) (sym is) tt) (sym (ap held is)))
+lent_stage queue s out v gone here b (Holding p) h is may = (
+  gone,
+  here,
+  lent_holds queue s out v gone here b (Some p) h may
+      (subst (FreshStays s b) (sym is) tt) (sym (ap held is)),
+)
 lent_stage queue s out v gone here b (Lent o c) h is may = absurd may
 lent_stage queue s out v gone here b (Named o c) h is may = absurd may
 

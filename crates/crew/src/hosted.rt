@@ -49,7 +49,8 @@ pub fn run<R: Threads + Sync, E: Send, T: Task<E> + Send, H: FnMut()>(
     join_mut(
         rt,
         &mut || -> ()
-            requires { IsSync R.row × IsSend E.row × IsSend T.row × All (λ s. waits s ≡ true) seats.now × (length starts.now ≡ length seats.now) }
+            requires { IsSync R.row × IsSend E.row × IsSend T.row × All (λ s. waits s ≡ true) seats.now
+                × (length starts.now ≡ length seats.now) }
             ensures { EachEnded T.ends seats.entry.now seats.exit.now }
         { run_seats(rt, starts, seats) },
         host,

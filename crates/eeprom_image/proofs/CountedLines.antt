@@ -11,13 +11,15 @@ pub record CountsOn (count : ℕ) (rest : List NumberedLine) (all : ℕ) : Type 
   pub whole : count + length rest ≡ all
 
 pub CountsOn-skip : (count skipped total all : ℕ) (rest behind : List NumberedLine) → CountsOn count rest all
-    → total ≡ count + skipped → skipped ≡ prefix_len is_empty rest → behind ≡ drop skipped rest → CountsOn total behind all
+    → total ≡ count + skipped → skipped ≡ prefix_len is_empty rest → behind ≡ drop skipped rest
+    → CountsOn total behind all
 CountsOn-skip count skipped total all rest behind counts sum empties is =
     let inside : skipped ≤ length rest = omega (arith, prefix_len-le-length is_empty rest) in
     let order : count + 1 + skipped ≡ total + 1 = omega arith in
     record {
       numbered = subst (IsNumberedFrom (total + 1)) (sym is)
-          (subst (λ n. IsNumberedFrom n (drop skipped rest)) order (IsNumberedFrom-drop (count + 1) skipped rest counts.numbered));
+          (subst (λ n. IsNumberedFrom n (drop skipped rest)) order
+          (IsNumberedFrom-drop (count + 1) skipped rest counts.numbered));
       whole = omega (arith, counts.whole, ap length is, length-drop skipped rest);
     }
 

@@ -45,7 +45,8 @@ impl Seen {
     /// Whether an index is among those seen before. It is from now on.
     pub(crate) fn comes_again(&mut self, index: u32) -> Result<bool, AllocError>
         ensures again { IfOk result (λ again. again ≡ is_seen self.old index) }
-        ensures seen { OnOk result ((other : ℕ) → is_seen self.new other ≡ ((index == other) || is_seen self.old other)) }
+        ensures seen { OnOk result ((other : ℕ) →
+            is_seen self.new other ≡ ((index == other) || is_seen self.old other)) }
     {
         let count = self.places.len();
         let place = index as usize % count;

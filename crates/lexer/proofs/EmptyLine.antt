@@ -74,7 +74,8 @@ pub lines-filled : (text : List ℕ) → ((rest : List ℕ) → text ≢ 10 ∷ 
 lines-filled [] other apart = refl
 lines-filled (byte ∷ more) other apart = elim (eqb_tells byte 10) [
   | inl (hit, here) ↦ absurd (other more (ap (λ b. b ∷ more) here))
-  | inr (miss, differs) ↦ ap (λ parts. prefix_len is_nothing (lines_of_parts parts)) (slice_split-cons_no ends_line byte more miss)
+  | inr (miss, differs) ↦
+      ap (λ parts. prefix_len is_nothing (lines_of_parts parts)) (slice_split-cons_no ends_line byte more miss)
       ∙ first-filled byte more (slice_split ends_line more) refl apart
 ]
 

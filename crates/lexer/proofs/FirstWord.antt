@@ -10,7 +10,8 @@ take_next n byte more = let next : 1 + n ≡ suc n = omega arith in ap (λ k. ta
 pub drop_next : (n byte : ℕ) (more : List ℕ) → drop (1 + n) (byte ∷ more) ≡ drop n more
 drop_next n byte more = let next : 1 + n ≡ suc n = omega arith in ap (λ k. drop k (byte ∷ more)) next
 
-pub position-yes : (test : ℕ → Bool) (byte : ℕ) (more : List ℕ) → test byte ≡ true → position_or_len test (byte ∷ more) ≡ 0
+pub position-yes : (test : ℕ → Bool) (byte : ℕ) (more : List ℕ) → test byte ≡ true
+    → position_or_len test (byte ∷ more) ≡ 0
 position-yes test byte more hit = ap (λ b. cond (not b) (1 + position_or_len test more) 0) hit
 
 pub position-no : (test : ℕ → Bool) (byte : ℕ) (more : List ℕ) → test byte ≡ false

@@ -48,7 +48,8 @@ behind-other : (hash blank : ℕ → Bool) (byte : ℕ) (more : List ℕ) → bl
     → Behind hash blank (byte ∷ more)
 behind-other hash blank byte more other =
     let none = position-yes (λ b. not (blank b)) byte more (ap not other) in
-    let behind : drop (front_of blank (byte ∷ more)) (byte ∷ more) ≡ byte ∷ more = ap (λ n. drop n (byte ∷ more)) none in (
+    let behind : drop (front_of blank (byte ∷ more)) (byte ∷ more) ≡ byte ∷ more =
+    ap (λ n. drop n (byte ∷ more)) none in (
       subst (BeginsUnblank blank) (sym behind) other,
       ap (λ text. filled (parts_of hash blank text)) (sym behind),
     )
@@ -80,7 +81,8 @@ words-none text rest word is_rest is_word empty =
     ∙ filled-none is_hash is_blank rest starts (ap (λ w. length w == 0) (sym is_word) ∙ empty)
 
 -- the first word, and those behind it
-pub words-some : (text rest word behind : List ℕ) → rest ≡ drop (position_or_len (λ byte. not (is_blank byte)) text) text
+pub words-some : (text rest word behind : List ℕ)
+    → rest ≡ drop (position_or_len (λ byte. not (is_blank byte)) text) text
     → word ≡ take (position_or_len ends_word rest) rest → behind ≡ drop (position_or_len ends_word rest) rest
     → (length word == 0) ≡ false → words_of text ≡ word ∷ words_of behind
 unfolding words_of words_between_blanks

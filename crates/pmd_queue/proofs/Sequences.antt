@@ -169,7 +169,8 @@ polled_left q old asked mid new xs on polls left last some few more fewer made f
       (both_made q old asked mid xs (polled Rx on (polls - left)) made first) then,
 )
 
-pub left_end : (q : AtPort) (f : PmdFault) (old asked mid new : List Call) (xs : List Access) (on : Bool) (polls left : ℕ)
+pub left_end : (q : AtPort) (f : PmdFault) (old asked mid new : List Call) (xs : List Access) (on : Bool)
+    (polls left : ℕ)
     → 0 < left → left ≤ polls → AreMade q old asked xs → AreMade q asked mid (polled Rx on (polls - left))
     → PollsEnd f q mid new Tx on left
     → (first : ℕ) × (at : List Call) × (first < polls) × AreMade q old at (xs ++ polled Rx on first)

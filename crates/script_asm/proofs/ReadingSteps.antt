@@ -13,7 +13,8 @@ use Rattle.script_asm.specs.Statement.{statement_of}
 use Rattle.script_asm.proofs.Numerals.{IsWord-word}
 use Rattle.script_asm.proofs.Spelling.{ReadsBack, number_below-word, says-int, says-qstep-rx, says-qstep-tx}
 
-pub reads-int : (strings : List (List ℕ)) (count : ℕ) (group : Group) → IsSound strings count (IntStep group) → HaveWidths (fields_of (IntStep group))
+pub reads-int : (strings : List (List ℕ)) (count : ℕ) (group : Group) → IsSound strings count (IntStep group)
+    → HaveWidths (fields_of (IntStep group))
     → ReadsBack (IntStep group)
 unfolding statement_of
 reads-int strings count Pf sound w = record {
@@ -29,7 +30,8 @@ reads-int strings count (Vf function) sound w = record {
   says = says-int function (number_below-word 63 function sound (omega arith));
 }
 
-pub reads-qstep : (strings : List (List ℕ)) (count : ℕ) (dir : Dir) (queue : ℕ) → IsSound strings count (QueueStep dir queue) → HaveWidths (fields_of (QueueStep dir queue))
+pub reads-qstep : (strings : List (List ℕ)) (count : ℕ) (dir : Dir) (queue : ℕ)
+    → IsSound strings count (QueueStep dir queue) → HaveWidths (fields_of (QueueStep dir queue))
     → ReadsBack (QueueStep dir queue)
 unfolding statement_of
 reads-qstep strings count Rx queue sound w = record {
@@ -51,7 +53,8 @@ reads-qstep strings count Tx queue sound w = record {
   says = says-qstep-tx (word_text queue) queue (number_below-word 65536 queue sound (omega arith));
 }
 
-pub reads-link : (strings : List (List ℕ)) (count : ℕ) (up : Bool) → IsSound strings count (Link up) → HaveWidths (fields_of (Link up))
+pub reads-link : (strings : List (List ℕ)) (count : ℕ) (up : Bool) → IsSound strings count (Link up)
+    → HaveWidths (fields_of (Link up))
     → ReadsBack (Link up)
 unfolding statement_of
 reads-link strings count true sound w = record {

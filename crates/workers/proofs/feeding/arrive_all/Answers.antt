@@ -10,7 +10,8 @@ loop-frame-preserved g c =
     let (before, are, arrived) = c.loop-frame.invariant in
     let bytes : List ℕ = c.in-Some.frame.items in (
       before ++ bytes ∷ [],
-      append_assoc before (bytes ∷ []) _ ∙ ap (λ l. before ++ map (λ frame. frame.items) l) (sym c.in-Some.ensures.steps.0)
+      append_assoc before (bytes ∷ []) _
+          ∙ ap (λ l. before ++ map (λ frame. frame.items) l) (sym c.in-Some.ensures.steps.0)
           ∙ are,
       one_more before (bytes ∷ []) _ _ _ arrived (c.arrive.ensures.arrived (search rules)),
     )

@@ -6,5 +6,6 @@ use Rattle.workers.proofs.feeding.arrive_all.Given as goal
 abbrev pub invariant-loop-frame : goal.invariant-loop-frame
 invariant-loop-frame g l =
     (before : List (List ℕ))
-    × (before ++ map (λ frame. frame.items) (into_iter_items l.frame-iterator) ≡ map (λ frame. frame.items) l.fn.frames.items)
+    × (before ++ map (λ frame. frame.items) (into_iter_items l.frame-iterator)
+    ≡ map (λ frame. frame.items) l.fn.frames.items)
     × HaveArrived before l.fn.pass l.pass

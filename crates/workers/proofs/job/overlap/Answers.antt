@@ -10,4 +10,5 @@ loop-at-preserved c =
 
 pub returns-clause-none : goal.returns-clause-none
 returns-clause-none c n (earlier, before, s) =
-    c.loop-at.invariant n (omega (arith, job_there c.args.jobs.now n s.0 s.2, c.loop-at-test.false)) (earlier, before, s)
+    c.loop-at.invariant n (omega (arith, job_there c.args.jobs.now n s.0 s.2, c.loop-at-test.false))
+    (earlier, before, s)

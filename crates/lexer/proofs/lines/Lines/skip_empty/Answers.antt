@@ -20,5 +20,6 @@ each-preserved c =
 
 pub returns-clause-count : goal.returns-clause-count
 returns-clause-count c =
-    let none = empties-none (c.each.self-inside.before + 1) (lines c.each.self-inside.rest.now) c.in_default.ensures.cases in
+    let none = empties-none (c.each.self-inside.before + 1) (lines c.each.self-inside.rest.now)
+    c.in_default.ensures.cases in
     omega arith

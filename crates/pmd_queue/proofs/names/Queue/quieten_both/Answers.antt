@@ -8,7 +8,8 @@ pub returns-in_err-quieten-clause-failed : goal.returns-in_err-quieten-clause-fa
 returns-in_err-quieten-clause-failed g c =
     let p = err_from_is_err_and c.from_residual.result c.from_residual.ensures.1 in
     rw (p.1, p.2)
-    (stops_before c.args.self.now c.in_err-quieten.field-0.0 (g.N.Nic.made c.args.nic.now) (g.N.Nic.made c.quieten.new.nic)
+    (stops_before c.args.self.now c.in_err-quieten.field-0.0 (g.N.Nic.made c.args.nic.now)
+    (g.N.Nic.made c.quieten.new.nic)
     (quiet Rx) (quiet Tx) c.in_err-quieten.ensures.failed)
 
 pub returns-clause-made : goal.returns-clause-made

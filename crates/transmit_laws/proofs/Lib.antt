@@ -10,7 +10,6 @@ pub mod Frames
 pub mod Guard
 pub mod LeftBlocks
 pub mod LeftSide
-pub mod LeftWrites
 pub mod Looking
 pub mod Mine
 pub mod Moving

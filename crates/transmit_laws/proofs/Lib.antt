@@ -1,6 +1,7 @@
 pub mod Accepting
 pub mod Advancing
 pub mod Alone
+pub mod Asking
 pub mod Basing
 pub mod Blocks
 pub mod Done
@@ -14,6 +15,7 @@ pub mod Looking
 pub mod Mine
 pub mod Moving
 pub mod Off
+pub mod OffSteps
 pub mod Playing
 pub mod Reaping
 pub mod Runs

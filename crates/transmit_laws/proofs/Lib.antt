@@ -4,6 +4,7 @@ pub mod Alone
 pub mod Asking
 pub mod Basing
 pub mod Blocks
+pub mod Counting
 pub mod Done
 pub mod Examples
 pub mod Fetching

@@ -42,26 +42,18 @@ frees_both u v w a b d m n f g =
 
 -- the oldest
 
-first_of : (a : Numbers) (n : ℕ) (v : Sender) (xs : List Outgoing) → xs ≡ v.outstanding → 0 < length xs
-    → n ≡ (packet_at v 0).block → given a (take 1 (blocks_of xs)) ≡ with_free a n true
-first_of a n v [] is some first = absurd (omega arith)
-first_of a n v (p ∷ ps) is some first =
-    ap (λ (m : ℕ). with_free a m true)
-    (ap (λ (l : List Outgoing). (get_or l 0 no_packet).block) is ∙ sym first)
+first_block : (n : ℕ) (xs : List Outgoing) → 0 < length xs → n ≡ (get_or xs 0 no_packet).block
+    → blocks_of xs ≡ n ∷ blocks_of (drop 1 xs)
+first_block n [] some first = absurd (omega arith)
+first_block n (p ∷ ps) some first = ap (λ (m : ℕ). m ∷ blocks_of ps) (sym first)
 
 pub frees_one : (v w : Sender) (a b : Numbers) (n : ℕ) → 0 < length v.outstanding → n ≡ (packet_at v 0).block
     → w ≡ reaped v → b ≡ with_free a n true → Frees v w a b 1
 frees_one v w a b n some first is gave = record {
   few = omega arith;
   left = ap (λ (x : Sender). x.outstanding) is;
-  home = gave ∙ sym (first_of a n v v.outstanding refl some first);
+  home = gave ∙ sym (ap (λ (l : List ℕ). given a (take 1 l)) (first_block n v.outstanding some first));
 }
-
--- the oldest is one of the arena's, and isn't free
-first_block : (n : ℕ) (xs : List Outgoing) → 0 < length xs → n ≡ (get_or xs 0 no_packet).block
-    → blocks_of xs ≡ n ∷ blocks_of (drop 1 xs)
-first_block n [] some first = absurd (omega arith)
-first_block n (p ∷ ps) some first = ap (λ (m : ℕ). m ∷ blocks_of ps) (sym first)
 
 module _ (a : Numbers) (v : Sender) (n : ℕ) (some : 0 < length v.outstanding) (first : n ≡ (packet_at v 0).block)
     (out : AreOut a (blocks_of v.outstanding))
@@ -72,11 +64,13 @@ module _ (a : Numbers) (v : Sender) (n : ℕ) (some : 0 < length v.outstanding) 
     oldest_first : AreOut a (n ∷ others)
     oldest_first = subst (AreOut a) (first_block n v.outstanding some first) out
 
+    -- it is one of the arena's, and isn't free
     pub oldest_out : (is_own a n ≡ true) × (is_free a n ≡ false)
     oldest_out = let here = out_first a others n oldest_first in (here.0, here.1)
 
     -- once it is given, the others stay out
-    pub out_rest : (b : Numbers) (w : Sender) → w ≡ reaped v → b ≡ with_free a n true → AreOut b (blocks_of w.outstanding)
+    pub out_rest : (b : Numbers) (w : Sender) → w ≡ reaped v → b ≡ with_free a n true
+        → AreOut b (blocks_of w.outstanding)
     out_rest b w is gave = rw (is, gave) (out_given a others n oldest_first)
 
 -- what is outstanding alone counts

@@ -302,31 +302,22 @@ impl TransmitRing {
             hash,
         } = packet;
         let block = buf.block();
-        match lend(alloc, nic, buf) {
+        let (fault, buf) = match lend(alloc, nic, buf) {
             Ok(None) => {
                 self.blocks.push_back_reserved(block);
                 self.accepted.push_reserved(record);
-                Ok(())
+                return Ok(());
             }
-            Ok(Some(buf)) => Err((
-                PmdFault::DeviceFault,
-                Packet {
-                    buf,
-                    len,
-                    rss,
-                    hash,
-                },
-            )),
-            Err((fault, buf)) => Err((
-                PmdFault::Call(fault),
-                Packet {
-                    buf,
-                    len,
-                    rss,
-                    hash,
-                },
-            )),
-        }
+            Ok(Some(buf)) => (PmdFault::DeviceFault, buf),
+            Err((fault, buf)) => (PmdFault::Call(fault), buf),
+        };
+        let back = Packet {
+            buf,
+            len,
+            rss,
+            hash,
+        };
+        Err((fault, back))
     }
 }
 

@@ -26,4 +26,5 @@ pub mod Sparing
 pub mod Stepping
 pub mod Tails
 pub mod Taken
+pub mod Told
 pub mod Writing

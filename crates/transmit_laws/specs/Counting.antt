@@ -1,9 +1,15 @@
 -- What is counted of the frames that a queue sends, over whole histories.
-use Rattle.std.specs.Prelude.{ℕ, ◌≡◌, ◌+◌, ◌≤◌, ⊤, IsTrue, IsFalse, List, [], ◌∷◌, ◌++◌, length}
+use Rattle.std.specs.Prelude.{ℕ, ◌≡◌, ◌==◌, ◌+◌, ◌≤◌, ⊤, IsTrue, IsFalse, List, [], ◌∷◌, ◌++◌, length, map, if◌then◌else◌}
+use Rattle.std.specs.List.{flat_map}
+use Rattle.dma_arena.specs.Block.{Block}
+use Rattle.nic_device.specs.Sound.{IsSound}
 use Rattle.nic_device.specs.State.{State}
 use Rattle.nic_device.specs.Step.{after}
+use Rattle.nic_device.specs.declared.event.Reply.{Reply}
+use Rattle.nic_device.specs.declared.event.Reply.TheVariants.{Sent}
 use Rattle.device_lock.specs.declared.entry.Entry.{Entry}
-use Rattle.device_lock.specs.History.{leads_to}
+use Rattle.device_lock.specs.History.{IsLegal, leads_to}
+use Rattle.history_laws.specs.Laws.{AreEvents}
 use Rattle.transmit_laws.specs.Sent.{goes_on, sent_in, sent_since}
 
 -- the transmit side of the queue doesn't go on by any entry
@@ -35,3 +41,14 @@ pub record SentIsCounted : Type 0 where
   pub few :
       (queue : ℕ) (s : State) (sent : List (List ℕ)) (h : List Entry)
       → length (sent_since queue s sent h) ≤ length sent + length h
+
+-- how long the frame is that a reply tells as sent on a queue, where it does
+abbrev pub lengths_told : ℕ → Reply Block → List ℕ
+lengths_told queue (Sent on len back) = if on == queue then len ∷ [] else []
+lengths_told queue other = []
+
+-- the frames that a legal history of a sound device sends on a queue are those that its replies tell, by their lengths
+abbrev pub SentIsTold : Type 0
+SentIsTold =
+    (queue : ℕ) (s : State) (h : List Entry) → IsSound s → AreEvents h → IsLegal s h →
+    map length (sent_in queue s h) ≡ flat_map (λ (e : Entry). lengths_told queue e.reply) h

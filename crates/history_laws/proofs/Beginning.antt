@@ -1,6 +1,6 @@
 -- What begins a history that leaves a queue alone leaves it alone: it lends no more blocks.
-use Rattle.std.proofs.Common.{inl, inr, ◌≡◌, ◌+◌, ◌/◌, ◌<◌, ◌≤◌, ℕ, Bool, true, false, ◌||◌, List, [], ◌∷◌, ◌++◌, refl, sym, ap, ◌∙◌, subst, append_assoc, Some, None}
-use Rattle.std.specs.Prelude.{IsTrue, IsFalse, ⊤}
+use Rattle.std.proofs.Common.{inl, inr, ◌≡◌, ◌/◌, ℕ, false, List, [], ◌∷◌, ◌++◌, ap, ◌∙◌, append_assoc, Some}
+use Rattle.std.specs.Prelude.{IsTrue, IsFalse}
 use Rattle.std.proofs.lemmas.Bool.{both_ways, cases_Bool, or_cases, or_left, or_right}
 use Rattle.dma_arena.specs.Block.{Block}
 use Rattle.vf_map.specs.declared.mode.Mode.{Mode}

@@ -4,4 +4,5 @@ pub mod Modes
 pub mod Naming
 pub mod Parting
 pub mod Sound
+pub mod Sparing
 pub mod Written

@@ -1,6 +1,5 @@
 -- Where the blocks of a driver are after each of its calls.
-use Rattle.std.proofs.Common.{◌≡◌, ◌≢◌, ℕ, zero, suc, ◌+◌, ◌<◌, ◌≤◌, ◌==◌, ◌⊎◌, ◌↔◌, inl, inr, nat_lt, Bool, true, false, cond, List, [], ◌∷◌, ◌++◌, refl, sym, subst, ◌∙◌, arith}
-use Rattle.std.specs.List.{list_any}
+use Rattle.std.proofs.Common.{◌≡◌, ◌≢◌, ℕ, zero, suc, ◌+◌, ◌<◌, ◌≤◌, ◌⊎◌, ◌↔◌, inl, inr, nat_lt, Bool, true, false, cond, List, ◌∷◌, ◌++◌, refl, sym, subst, arith}
 use Rattle.std.proofs.lemmas.Bool.{cases_eq}
 use Rattle.std.proofs.lemmas.Bool.Decides.{nat_tests}
 use Rattle.dma_arena.specs.Numbers.{Numbers, is_own, is_free, with_free}
@@ -9,7 +8,8 @@ use Rattle.pmd_base.specs.Home.{AreOut}
 use Rattle.pmd_base.proofs.Outside.{times_first, times_rest, times-cons, times-append, out_fewer, out_drawn, out_given, out_exchanged}
 use Rattle.pmd_rx.specs.Keeping.{Keeps, blocks_out}
 use Rattle.pmd_tx.specs.Leaving.{lent_of}
-use Rattle.pmd_tx.specs.Sending.{Sender, blocks_of, has_lent}
+use Rattle.pmd_tx.proofs.Counting.{not_lent}
+use Rattle.pmd_tx.specs.Sending.{has_lent}
 use Rattle.pmd_tx.specs.Sends.{goes_home}
 use Rattle.pmd.specs.Running.{Running, IsUp, rings_out, receives, goes_back}
 
@@ -53,25 +53,7 @@ received_up r s out up keeps same =
       filled = keeps.running up.filled;
     }
 
--- what isn't lent isn't out
-
-not_any : (xs : List ℕ) (n : ℕ) → list_any (λ b. n == b) xs ≡ false → times_in_hand xs n ≡ 0
-not_any [] n none = refl
-not_any (x ∷ xs) n none =
-    let other : n ≢ x = λ e. absurd (grind (arith, nat_tests, none, e)) in
-    let rest : list_any (λ b. n == b) xs ≡ false = grind (arith, nat_tests, none) in
-    times_rest xs x n other ∙ not_any xs n rest
-
-pub not_lent : (v : Sender) (n : ℕ) → has_lent v n ≡ false → times_in_hand (lent_of v) n ≡ 0
-not_lent v n away =
-    let other : n ≢ v.layout.ring = λ e. absurd (grind (arith, nat_tests, away, e)) in
-    let rest : list_any (λ b. n == b) (blocks_of v.outstanding) ≡ false = grind (arith, nat_tests, away) in
-    omega (
-      arith,
-      times-append (blocks_of v.outstanding) (v.layout.ring ∷ []) n,
-      not_any (blocks_of v.outstanding) n rest,
-      times_rest [] v.layout.ring n other,
-    )
+-- whether a ring has a block, by how often
 
 pub has_is : (b : Bool) (t : ℕ) → (b ≡ true) ↔ (0 < t) → b ≡ nat_lt 0 t
 has_is true t has = grind (arith, nat_tests, has.0 refl)
@@ -102,9 +84,6 @@ home_goes r n home elsewhere =
 
 pub back_goes : (r : Running) (n : ℕ) → goes_back r n ≡ true → GoesBack r n
 back_goes r n goes = home_goes r n (grind (arith, nat_tests, goes)) (grind (arith, nat_tests, goes))
-
-pub never_back : (x : Bool) → x ≡ false → (false ≡ true → x ≡ true) × (x ≡ true → false ≡ true)
-never_back x never = (λ e. never ∙ e, λ e. sym never ∙ e)
 
 pub released_up : (r : Running) (n : ℕ) → GoesBack r n → IsUp r → IsUp (record r { arena = with_free r.arena n true })
 released_up r n goes up = record {

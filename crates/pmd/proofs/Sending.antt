@@ -4,11 +4,11 @@ use Rattle.std.proofs.lemmas.List.{map-append, drop-map}
 use Rattle.dma_arena.specs.Numbers.{Numbers, with_free}
 use Rattle.pmd_base.specs.Home.{AreOut}
 use Rattle.pmd_base.specs.declared.packet.Packet.{Packet}
-use Rattle.pmd_base.proofs.Outside.{times-cons, times-append, out_fewer, out_first, out_given}
+use Rattle.pmd_base.proofs.Outside.{times-cons, times-append, out_fewer, out_given}
 use Rattle.pmd_rx.specs.Keeping.{blocks_out}
 use Rattle.pmd_tx.specs.Leaving.{lent_of}
 use Rattle.pmd_tx.specs.Sending.{Sender, Outgoing, blocks_of}
-use Rattle.pmd_tx.specs.Sends.{AreAway, Frees, given, gate_of, outgoing_of, returned, IsAnswer, IsAccepted, IsNoneAccepted}
+use Rattle.pmd_tx.specs.Sends.{Frees, given, gate_of, outgoing_of, returned, IsAnswer, IsAccepted, IsNoneAccepted}
 use Rattle.pmd_base.specs.declared.fault.PmdFault.{PmdFault}
 use Rattle.pmd_tx.proofs.Passing.{gone_home}
 use Rattle.pmd_tx.specs.declared.answer.Reaped.{Reaped}
@@ -74,12 +74,6 @@ sent_up r s p x = by_return (returned x) r s p x refl
 
 -- packets are reaped
 
-pub away_of : (a : Numbers) (xs : List ℕ) → AreOut a xs → AreAway a xs
-away_of a [] out k d below = absurd (omega arith)
-away_of a (n ∷ xs) out zero d below = let here = out_first a xs n out in (here.0, here.1)
-away_of a (n ∷ xs) out (suc k) d below =
-    away_of a xs (out_fewer a (n ∷ xs) xs out (λ k. omega (arith, times-cons n xs k))) k d (omega arith)
-
 pub given_out : (count : ℕ) (xs others : List ℕ) (a : Numbers) → AreOut a (xs ++ others)
     → AreOut (given a (take count xs)) (drop count xs ++ others)
 given_out zero xs others a out = out
@@ -87,11 +81,10 @@ given_out (suc count) [] others a out = out
 given_out (suc count) (n ∷ xs) others a out =
     given_out count xs others (with_free a n true) (out_given a (xs ++ others) n out)
 
-pub outstanding_away : (r : Running) → IsUp r → AreAway r.arena (blocks_of r.transmit.outstanding)
-outstanding_away r up =
-    let blocks : List ℕ = blocks_of r.transmit.outstanding in
-    away_of r.arena blocks (first_out r.arena blocks (r.transmit.layout.ring ∷ [])
-    (second_out r.arena (blocks_out r.receive) (lent_of r.transmit) up.home))
+pub outstanding_out : (r : Running) → IsUp r → AreOut r.arena (blocks_of r.transmit.outstanding)
+outstanding_out r up =
+    first_out r.arena (blocks_of r.transmit.outstanding) (r.transmit.layout.ring ∷ [])
+    (second_out r.arena (blocks_out r.receive) (lent_of r.transmit) up.home)
 
 pub reaped_up : (r s : Running) (count : ℕ) → IsUp r → Frees r.transmit s.transmit r.arena s.arena count
     → s.transmit.layout ≡ record r.transmit.layout { next = s.transmit.layout.next } → s.receive ≡ r.receive → IsUp s

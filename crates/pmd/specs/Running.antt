@@ -1,11 +1,9 @@
 -- A driver whose two rings are up.
-use Rattle.std.specs.Prelude.{◌≡◌, ℕ, ◌&&◌, nat_lt, not, Bool, true, false, List, ◌++◌, Option, Some, None}
-use Rattle.dma_arena.specs.Block.{zero_block}
-use Rattle.dma_arena.specs.Numbers.{Numbers, is_free, with_free}
+use Rattle.std.specs.Prelude.{◌≡◌, ℕ, ◌&&◌, nat_lt, not, Bool, true, List, ◌++◌}
+use Rattle.dma_arena.specs.Numbers.{Numbers, with_free}
 use Rattle.dma_arena.specs.Whereabouts.{times_in_hand}
 use Rattle.device_lock.specs.declared.entry.Call.{Call}
 use Rattle.pmd_base.specs.Home.{AreOut}
-use Rattle.pmd_base.specs.declared.packet.Packet.{Packet}
 use Rattle.pmd_rx.specs.Receive.{Receive}
 use Rattle.pmd_rx.specs.Keeping.{blocks_out, IsRunning}
 use Rattle.pmd_rx.specs.Plays as receive
@@ -33,13 +31,6 @@ pub record IsUp (r : Running) : Type 0 where
 pub record PlaysBoth (old : List Call) (r : Running) (new : List Call) (s : Running) : Type 0 where
   pub receive : receive.Plays old r.receive new s.receive
   pub transmit : transmit.Plays old r.transmit new s.transmit
-
--- a packet of a free block, empty, was made. None is where no block is free, or where the length is above a block's
-abbrev pub IsMade : Running → ℕ → Option Packet → Running → Type 0
-IsMade r len None s = s ≡ r
-IsMade r len (Some p) s =
-    (is_free r.arena p.buf.number ≡ true) × (p ≡ record { buf = zero_block p.buf.number; len = len; rss = 0; hash = 0 })
-    × (s ≡ record r { arena = with_free r.arena p.buf.number false })
 
 -- whether the receive ring has a block of this number
 abbrev pub receives : Running → ℕ → Bool

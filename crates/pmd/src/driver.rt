@@ -1,7 +1,7 @@
 //! A driver of one queue.
 
 ghost use Rattle.std.specs.Prelude.{ℕ, ◌≡◌, ◌<◌, ◌⊎◌, ◌++◌, ◌∷◌, ◌↔◌, length, [], true, false, None, Some, Ok, Err, IfOk, IfErr, IfSome, IfNone, IsNone, IsOk, OnOk, OnErr, IsTrue};
-ghost use Rattle.dma_arena.specs.Numbers.{free_count, is_free, with_free};
+ghost use Rattle.dma_arena.specs.Numbers.{free_count, is_own, is_free, with_free};
 ghost use Rattle.pmd_base.specs.Fresh.{IsFresh};
 ghost use Rattle.pmd_base.specs.Packet.{kept_of};
 ghost use Rattle.pmd_rx.specs.Keeping.{Keeps, handed_block};
@@ -240,6 +240,7 @@ impl Pmd {
     pub fn stop<N: Nic>(self, alloc: Global, nic: &mut N) -> Result<Home, StopRefused>
         ensures home { IfOk result (λ home.
             Stops self.queue (N.made nic.old) (halted_of self.rings) (N.made nic.new) home) }
+        ensures owns { IfOk result (λ home. (n : ℕ) → is_own home.arena n ≡ is_own (halted_of self.rings).arena n) }
         ensures free { IfOk result (λ home. home.lost ≡ 0 → (n : ℕ) → is_free home.arena n
             ≡ is_free_or_out (halted_of self.rings).arena (all_out (halted_of self.rings)) n) }
         ensures refused { IfErr result (λ refused. (h : Halted)

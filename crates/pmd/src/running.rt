@@ -2,16 +2,17 @@
 
 ghost use Rattle.std.specs.Prelude.{ℕ, ◌≡◌, ◌<◌, ◌⊎◌, ◌++◌, ◌∷◌, ◌↔◌, length, [], true, false, Ok, Err, IfOk, IfErr, IfSome, IfNone, IsNone, IsOk, OnOk, OnErr, IsTrue};
 ghost use Rattle.dma_arena.specs.Numbers.{free_count};
+ghost use Rattle.pmd_base.specs.Fresh.{IsFresh};
 ghost use Rattle.pmd_base.specs.Packet.{kept_of};
 ghost use Rattle.pmd_rx.specs.Keeping.{Keeps, handed_block};
 ghost use Rattle.pmd_rx.specs.Plays.{LooksOnce};
 ghost use Rattle.pmd_rx.specs.Wrong.{FailsBy, PacketWaits};
 ghost use Rattle.pmd_tx.specs.Plays.{LooksLast, FaultsBy};
 ghost use Rattle.pmd_tx.specs.Sends.{gate_of, returned, IsAnswer, IsShut, IsAccepted, IsNoneAccepted, IsBack, IsLate, Frees};
-ghost use Rattle.pmd.specs.Running.{IsUp, PlaysBoth, IsMade, IsReleased, goes_back, receives};
+ghost use Rattle.pmd.specs.Running.{IsUp, PlaysBoth, IsReleased, goes_back, receives};
 
-use dma_arena::{Arena, BLOCK_BYTES};
-use pmd_base::{Nic, Packet, PmdFault, Record, give_packet};
+use dma_arena::Arena;
+use pmd_base::{Nic, Packet, PmdFault, Record, fresh_packet, give_packet};
 use pmd_rx::ReceiveRing;
 use pmd_tx::{Reaped, TransmitRing, TxAnswer, TxFault};
 use std::alloc::Global;
@@ -167,18 +168,10 @@ impl Running {
     /// A packet of `len` bytes in a free block, all zero. None where no block is free, or the length is above 2,048.
     pub fn packet(&mut self, len: u16) -> Option<Packet>
         ensures none { IsNone result ↔ ((2048 < len) ⊎ (free_count self.old.arena ≡ 0)) }
-        ensures made { IsMade self.old len result self.new }
+        ensures made { IsFresh self.old.arena len result self.new.arena }
+        ensures rest { self.new ≡ record self.old { arena = self.new.arena } }
     {
-        if usize::from(len) > BLOCK_BYTES {
-            return None;
-        }
-        let buf = self.arena.take()?;
-        Some(Packet {
-            buf,
-            len,
-            rss: 0,
-            hash: 0,
-        })
+        fresh_packet(&mut self.arena, len)
     }
 
     /// Whether the receive ring has the block of this number.

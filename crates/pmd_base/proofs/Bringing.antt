@@ -1,5 +1,5 @@
 -- Blocks that are brought home in turn.
-use Rattle.std.proofs.Common.{◌≡◌, ℕ, ◌+◌, [], length, ap, add-one, arith}
+use Rattle.std.proofs.Common.{◌≡◌, ℕ, ◌+◌, length, ap, add-one, arith}
 use Rattle.std.proofs.lemmas.List.{nil_from_length}
 use Rattle.pmd_base.specs.Home.{Bringing, BringsOne, Brings, BringsAll}
 

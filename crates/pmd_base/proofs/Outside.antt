@@ -1,5 +1,5 @@
 -- Blocks that are out of their arena.
-use Rattle.std.proofs.Common.{◌≡◌, ◌≢◌, ℕ, zero, suc, ◌+◌, ◌<◌, ◌≤◌, ◌⊎◌, inl, inr, Bool, true, false, cond, List, [], ◌∷◌, ◌++◌, length, get_or, eqb, refl, sym, ap, subst, ◌∙◌, arith}
+use Rattle.std.proofs.Common.{◌≡◌, ◌≢◌, ℕ, zero, suc, ◌+◌, ◌<◌, ◌≤◌, ◌⊎◌, inl, inr, Bool, true, false, cond, List, [], ◌∷◌, ◌++◌, length, get_or, eqb, refl, sym, subst, ◌∙◌, arith}
 use Rattle.std.proofs.lemmas.Bool.{cases_eq}
 use Rattle.std.proofs.lemmas.Bool.Decides.{nat_tests}
 use Rattle.std.proofs.lemmas.List.Sums.{sum_by-cons, sum_by-append}
@@ -121,33 +121,3 @@ pub out_exchanged : (a : Numbers) (out : List ℕ) (b : Numbers) (new others : L
 out_exchanged a out b new others are (drawn, is, same) =
     all_drawn a drawn b (out ++ others) (new ++ others) is are
     (λ k. omega (arith, same k, times-append new others k, times-append drawn out k, times-append out others k))
-
--- exchanges follow each other
-
-drawn_both : (a : Numbers) (m : List ℕ) (b : Numbers) (n : List ℕ) (d : Numbers) → IsDrawn a m b → IsDrawn b n d
-    → IsDrawn a (m ++ n) d
-drawn_both a [] b n d is then = rw (← is) then
-drawn_both a (k ∷ m) b n d (free, is) then = (free, drawn_both (with_free a k false) m b n d is then)
-
-pub exchanges_both : (a b d : Numbers) (out mid new : List ℕ) → Exchanges a out b mid → Exchanges b mid d new
-    → Exchanges a out d new
-exchanges_both a b d out mid new (m, is, same) (n, then, also) = (
-  m ++ n,
-  drawn_both a m b n d is then,
-  λ k.
-      omega (
-        arith,
-        also k,
-        same k,
-        times-append n mid k,
-        times-append m out k,
-        times-append (m ++ n) out k,
-        times-append m n k,
-      ),
-)
-
--- what is out stays so
-pub out_kept : (a : Numbers) (out : List ℕ) (b : Numbers) (new : List ℕ) → AreOut a out → Exchanges a out b new
-    → AreOut b new
-out_kept a out b new are (drawn, is, same) =
-    all_drawn a drawn b out new is are (λ k. omega (arith, same k, times-append drawn out k))

@@ -5,3 +5,4 @@ pub mod Home
 pub mod Made
 pub mod Packet
 pub mod Setup
+pub mod Slots

@@ -1,24 +1,21 @@
 -- Where the blocks of a driver are that isn't running.
-use Rattle.std.proofs.Common.{◌≡◌, ◌≢◌, ℕ, ◌<◌, ◌==◌, ◌⊎◌, ◌||◌, inl, inr, nat_lt, Bool, true, false, List, [], ◌∷◌, ◌++◌, length, length-append, Option, Some, None, refl, sym, ap, subst, ◌∙◌, arith}
-use Rattle.std.specs.List.{list_any}
-use Rattle.std.proofs.lemmas.Bool.{cases_eq}
+use Rattle.std.proofs.Common.{◌≡◌, ℕ, ◌<◌, ◌||◌, nat_lt, Bool, true, false, List, [], ◌∷◌, ◌++◌, length, length-append, Option, Some, None, refl, sym, ap, ◌∙◌, arith}
 use Rattle.std.proofs.lemmas.Bool.Decides.{nat_tests}
-use Rattle.dma_arena.specs.Numbers.{Numbers, is_free, with_free}
+use Rattle.dma_arena.specs.Numbers.{Numbers, is_own, is_free, with_free}
 use Rattle.dma_arena.specs.Whereabouts.{times_in_hand}
+use Rattle.dma_arena.proofs.Arenas.{is_own-with_free}
 use Rattle.pmd_base.specs.Home.{AreOut}
 use Rattle.pmd_base.specs.Packet.{Kept}
 use Rattle.pmd_base.specs.declared.packet.Packet.{Packet}
-use Rattle.pmd_base.proofs.Outside.{times_first, times_rest, times-cons, times-append, out_fewer, out_given}
+use Rattle.pmd_base.proofs.Outside.{times-cons, times-append, out_fewer, out_given}
 use Rattle.pmd_rx.specs.Keeping as receive
 use Rattle.pmd_rx.specs.Receive.{Receive, held_by}
-use Rattle.pmd_tx.specs.Leaving as transmit
-use Rattle.pmd_tx.specs.Sending.{Sender, blocks_of, has_lent}
 use Rattle.pmd_halt.specs.Halted.{Halted, IsHalted, all_out, is_free_or_out, way_of}
 use Rattle.device_lock.specs.declared.entry.Call.{Call}
 use Rattle.pmd_queue.specs.Named.{AtPort}
 use Rattle.pmd_halt.specs.Stopping.{closed, bringing, brought, GoesHome}
 use Rattle.pmd_halt.specs.declared.home.Home.{Home}
-use Rattle.pmd_halt.proofs.Bringing.{given_there, all_free_again}
+use Rattle.pmd_halt.proofs.Bringing.{given_there, all_free_again, all_own}
 use Rattle.pmd_halt.proofs.Few.{out_few}
 
 -- a driver begins not to run
@@ -88,25 +85,18 @@ home_free q old new h home is (mid, off, comes) none k =
     all_free_again (bringing mid (closed h)) (brought new home) comes.brings (closed_halted h is).home none k
     ∙ closed_there h.arena h.way.lent h.held is.home k
 
--- whether a transmit ring has a block
+-- its arena owns what it owned
 
-any_step : (x : ℕ) (xs : List ℕ) (n : ℕ) → list_any (λ b. n == b) xs ≡ nat_lt 0 (times_in_hand xs n)
-    → (n ≡ x) ⊎ (n ≢ x) → list_any (λ b. n == b) (x ∷ xs) ≡ nat_lt 0 (times_in_hand (x ∷ xs) n)
-any_step x xs n rest (inl e) =
-    subst (λ (y : ℕ). list_any (λ b. n == b) (y ∷ xs) ≡ nat_lt 0 (times_in_hand (y ∷ xs) n)) e
-    (rw (times_first xs n) (grind (arith, nat_tests)))
-any_step x xs n rest (inr ne) = rw (times_rest xs x n ne) (grind (arith, nat_tests, rest, ne))
+with_home_own : (a : Numbers) (held : Option Packet) (k : ℕ) → is_own (receive.with_home a held) k ≡ is_own a k
+with_home_own a None k = refl
+with_home_own a (Some p) k = is_own-with_free a p.buf.number true k
 
-any_counted : (xs : List ℕ) (n : ℕ) → list_any (λ b. n == b) xs ≡ nat_lt 0 (times_in_hand xs n)
-any_counted [] n = refl
-any_counted (x ∷ xs) n = any_step x xs n (any_counted xs n) (cases_eq n x)
+pub home_own : (q : AtPort) (old new : List Call) (h : Halted) (home : Home) → GoesHome q old (closed h) new home
+    → (k : ℕ) → is_own home.arena k ≡ is_own h.arena k
+home_own q old new h home (mid, off, comes) k =
+    all_own (bringing mid (closed h)) (brought new home) comes.brings k ∙ with_home_own h.arena h.held k
 
-pub lent_counted : (v : Sender) (n : ℕ) → has_lent v n ≡ nat_lt 0 (times_in_hand (transmit.lent_of v) n)
-lent_counted v n =
-    let blocks : List ℕ = blocks_of v.outstanding in
-    let ring : list_any (λ b. n == b) (v.layout.ring ∷ []) ≡ nat_lt 0 (times_in_hand (v.layout.ring ∷ []) n) =
-    any_counted (v.layout.ring ∷ []) n in
-    grind (arith, nat_tests, any_counted blocks n, ring, times-append blocks (v.layout.ring ∷ []) n)
+-- whether a number is counted, as a test
 
 pub counted : (b : Bool) (t : ℕ) → b ≡ nat_lt 0 t → (b ≡ true → 0 < t) × (0 < t → b ≡ true)
 counted b t is = (λ e. grind (arith, nat_tests, is, e), λ lt. grind (arith, nat_tests, is, lt))

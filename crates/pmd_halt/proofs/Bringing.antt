@@ -3,9 +3,9 @@ use Rattle.std.proofs.Common.{◌≡◌, ◌≢◌, ℕ, zero, suc, ◌+◌, ◌
 use Rattle.std.proofs.lemmas.Bool.{cases_eq}
 use Rattle.std.proofs.lemmas.List.{append-nil}
 use Rattle.std.proofs.lemmas.Bool.Decides.{nat_tests}
-use Rattle.dma_arena.specs.Numbers.{Numbers, is_free, with_free}
+use Rattle.dma_arena.specs.Numbers.{Numbers, is_own, is_free, with_free}
 use Rattle.dma_arena.specs.Whereabouts.{times_in_hand}
-use Rattle.dma_arena.proofs.Arenas.{is_free-with_free_same, is_free-with_free_other}
+use Rattle.dma_arena.proofs.Arenas.{is_own-with_free, is_free-with_free_same, is_free-with_free_other}
 use Rattle.pmd_base.specs.Home.{AreOut, Bringing, BringsOne, Brings, BringsAll, StopsBringing}
 use Rattle.pmd_halt.specs.Halted.{is_free_or_out}
 use Rattle.pmd_base.proofs.Outside.{times-cons, times_first, times_rest, out_fewer, out_first, out_given}
@@ -26,6 +26,19 @@ pub brings_out : (count : ℕ) (s t : Bringing) → Brings count s t → AreOut 
     → AreOut t.arena t.way.lent
 brings_out zero s t same out = subst (λ (b : Bringing). AreOut b.arena b.way.lent) (sym same) out
 brings_out (suc count) s t (mid, before, one) out = one_out mid t one (brings_out count s mid before out)
+
+-- the arena owns what it owned
+
+one_own : (s t : Bringing) → BringsOne s t → (k : ℕ) → is_own t.arena k ≡ is_own s.arena k
+one_own s t (n, is, inl brought) k = rw brought.arena (is_own-with_free s.arena n true k)
+one_own s t (n, is, inr missed) k = rw missed.arena refl
+
+brings_own : (count : ℕ) (s t : Bringing) → Brings count s t → (k : ℕ) → is_own t.arena k ≡ is_own s.arena k
+brings_own zero s t same k = rw same refl
+brings_own (suc count) s t (mid, before, one) k = one_own mid t one k ∙ brings_own count s mid before k
+
+pub all_own : (s t : Bringing) → BringsAll s t → (k : ℕ) → is_own t.arena k ≡ is_own s.arena k
+all_own s t (count, brings, none) k = brings_own count s t brings k
 
 -- how many can be lost
 

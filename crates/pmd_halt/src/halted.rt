@@ -1,7 +1,7 @@
 //! A driver that isn't running.
 
 ghost use Rattle.std.specs.Prelude.{◌≡◌, ◌↔◌, ◌<◌, ◌++◌, ◌⊎◌, ℕ, [], true, None, IfOk, IfErr, IsOk, IsNone, OnOk, OnErr};
-ghost use Rattle.dma_arena.specs.Numbers.{free_count, is_free, with_free};
+ghost use Rattle.dma_arena.specs.Numbers.{free_count, is_own, is_free, with_free};
 ghost use Rattle.pmd_base.specs.Home.{AreOut};
 ghost use Rattle.pmd_base.specs.Fresh.{IsFresh};
 ghost use Rattle.pmd_rx.specs.Keeping.{blocks_out};
@@ -135,6 +135,7 @@ impl Halted {
     /// and goes on with the blocks that are still out. A block that the device has no longer is lost.
     pub fn stop<N: Nic>(self, alloc: Global, nic: &mut N, queue: &Queue) -> Result<Home, StopFailed>
         ensures home { IfOk result (λ home. Stops queue.now (N.made nic.old) self (N.made nic.new) home) }
+        ensures owns { IfOk result (λ home. (n : ℕ) → is_own home.arena n ≡ is_own self.arena n) }
         ensures free { IfOk result (λ home. home.lost ≡ 0
             → (n : ℕ) → is_free home.arena n ≡ is_free_or_out self.arena (all_out self) n) }
         ensures failed { IfErr result (λ failed.

@@ -1,1 +1,3 @@
+pub mod Polling
 pub mod Sequences
+pub mod Words

@@ -1,5 +1,5 @@
 -- What a driver knows of its receive ring, and how that follows from its own calls.
-use Rattle.std.specs.Prelude.{ℕ, ◌≡◌, ◌≢◌, ◌+◌, ◌-◌, ◌*◌, ◌<◌, ◌&&◌, nat_lt, List, [], ◌∷◌, ◌++◌, length, drop, slice_index, Option, Some, None, if◌then◌else◌}
+use Rattle.std.specs.Prelude.{ℕ, ◌≡◌, ◌≢◌, ◌+◌, ◌*◌, ◌<◌, ◌&&◌, List, [], ◌∷◌, ◌++◌, length, drop, slice_index, Option, Some, None, if◌then◌else◌}
 use Rattle.dma_arena.specs.Block.{Block}
 use Rattle.dma_ring.specs.Descriptor.{second_half, first_half, of_halves}
 use Rattle.dma_ring.specs.Driver.{posted, rss_in, hash_in}
@@ -11,6 +11,7 @@ use Rattle.nic_device.specs.declared.event.Port.{Port}
 use Rattle.nic_device.specs.declared.event.Reply.{Reply}
 use Rattle.nic_device.specs.declared.event.Reply.TheVariants as reply
 use Rattle.pmd_base.specs.Packet.{Kept, kept_of}
+use Rattle.pmd_base.specs.Slots.{wrapped, descriptor_in}
 use Rattle.pmd_base.specs.declared.packet.Packet.{Packet}
 
 -- the packet in a block, with what the two halves of its descriptor tell
@@ -43,16 +44,12 @@ pub record Receive : Type 0 where
   pub handed : List Kept
   pub stage : Stage
 
--- a place at most once around a ring
-abbrev pub wrapped : ℕ → ℕ → ℕ
-wrapped size at = if nat_lt at size then at else at - size
-
 -- the slot that comes so many after the next one, where its descriptor is, and its block
 abbrev pub slot_at : Layout → ℕ → ℕ
 slot_at l k = wrapped l.size (l.next + k)
 
 abbrev pub descriptor_at : Layout → ℕ → ℕ
-descriptor_at l k = 2048 * l.ring + 16 * slot_at l k
+descriptor_at l k = descriptor_in l.ring (slot_at l k)
 
 abbrev pub block_at : Layout → ℕ → ℕ
 block_at l k = slice_index l.blocks k

@@ -18,7 +18,10 @@ use dma_ring::{
     first_half, hash_told, is_last, is_written_back, length_told, of_halves, posted_word, rss_told,
     second_half,
 };
-use pmd_base::{Nic, Packet, PmdFault, Record, lend, peek, poke, take, write};
+use pmd_base::{
+    Nic, Packet, PmdFault, Record, descriptor_address, lend, next_slot, peek, poke, slot_after,
+    take, write,
+};
 use std::alloc::Global;
 
 /// What a look at the next slot tells.
@@ -37,7 +40,7 @@ impl ReceiveRing {
     fn next_descriptor(&self) -> u32
         ensures { result ≡ descriptor_at self.now.layout 0 }
     {
-        2048 * self.ring + 16 * u32::from(self.next)
+        descriptor_address(self.ring, self.next)
     }
 
     /// Keeps what a descriptor tells.
@@ -128,11 +131,7 @@ impl ReceiveRing {
             rss: rss_told(first),
             hash: hash_told(first),
         };
-        self.next = if self.next + 1 == self.size {
-            0
-        } else {
-            self.next + 1
-        };
+        self.next = next_slot(self.size, self.next);
         let _consumed = self.blocks.pop_front();
         self.at = At::Refills;
         match self.held.replace(packet) {
@@ -146,8 +145,7 @@ impl ReceiveRing {
         requires { after ≤ self.now.layout.size }
         ensures { result ≡ slot_at self.now.layout after }
     {
-        let at = self.next + after;
-        if at < self.size { at } else { at - self.size }
+        slot_after(self.size, self.next, after)
     }
 
     /// Lends a fresh block. It comes back where it can't be lent.
@@ -239,8 +237,7 @@ impl ReceiveRing {
     fn vacant_descriptor(&self) -> u32
         ensures { result ≡ descriptor_at self.now.layout (vacant self.now.layout) }
     {
-        let slot = self.slot(self.blocks.len() as u16);
-        2048 * self.ring + 16 * u32::from(slot)
+        descriptor_address(self.ring, self.slot(self.blocks.len() as u16))
     }
 
     /// Moves the tail on, so that the device has the block that is named. What was held is handed out: None where

@@ -1,6 +1,5 @@
 -- What the fields of a ring keep, as packets come and go.
-use Rattle.std.proofs.Common.{◌≡◌, ℕ, ◌+◌, ◌-◌, ◌<◌, ◌≤◌, Bool, true, false, ◌||◌, ◌==◌, nat_eq, List, [], ◌∷◌, ◌++◌, length, drop, All, refl, sym, ap, ◌∙◌, subst, arith}
-use Rattle.std.proofs.lemmas.Bool.Decides.{nat_tests}
+use Rattle.std.proofs.Common.{◌≡◌, ℕ, ◌+◌, ◌-◌, ◌<◌, ◌≤◌, Bool, true, false, ◌||◌, ◌==◌, nat_eq, List, [], ◌∷◌, ◌++◌, length, drop, sym, ap, ◌∙◌, subst, arith}
 use Rattle.std.proofs.lemmas.Cmp.{nat_eq_equiv}
 use Rattle.std.proofs.lemmas.List.{length-drop, length-take, length_push}
 use Rattle.std.proofs.lemmas.List.Elements.{All-push}
@@ -9,6 +8,7 @@ use Rattle.std.specs.List.{list_any}
 use Rattle.dma_ring.specs.Ring.{next_of}
 use Rattle.pmd_base.specs.Packet.{Kept, kept_of}
 use Rattle.pmd_base.specs.declared.packet.Packet.{Packet}
+use Rattle.pmd_base.proofs.Places.{next_below}
 use Rattle.pmd_tx.specs.Sending.{Sender, Layout, blocks_of, has_lent}
 use Rattle.pmd_tx.specs.Shown.{MayLend, IsRing, AreDistinct, outstanding_of}
 use Rattle.pmd_tx.proofs.Outstanding.{blocks-outstanding, length-outstanding}
@@ -31,9 +31,6 @@ distinct_rest (b ∷ bs) apart = IsDistinct-tail nat_eq b bs apart
 second_false : (a b : Bool) → (a || b) ≡ false → b ≡ false
 second_false true b is = cc
 second_false false b is = is
-
-next_below : (size next n : ℕ) → 0 < size → next < size → n ≡ next_of size next → n < size
-next_below size next n some below is = rw is (grind (arith, nat_tests))
 
 module _ (l : Layout) (bs : List ℕ) (posted : ℕ) (poked seen : Bool) (ks : List Kept)
     (h : IsRing l bs posted poked seen ks)
@@ -71,7 +68,7 @@ module _ (l : Layout) (bs : List ℕ) (posted : ℕ) (poked seen : Bool) (ks : L
         record {
           some = rw size h.some;
           few = rw size h.few;
-          next = rw size (next_below l.size l.next m.next h.some h.next next);
+          next = rw (size, next) (next_below l.size l.next h.next);
           ring = rw ring h.ring;
           room = rw size (omega (arith, h.room));
           below = omega (arith, h.below);

@@ -1,15 +1,12 @@
 -- Blocks that come home to the driver's arena.
-use Rattle.std.proofs.Common.{◌≡◌, ℕ, zero, suc, ◌+◌, ◌<◌, ◌≤◌, ◌≢◌, true, false, nat_eq, List, [], ◌∷◌, ◌++◌, length, map, take, drop, get_or, All, Result, Ok, Err, IfOk, OnErr, refl, sym, ap, ◌∙◌, subst, arith, eq-eqb, true≢false}
+use Rattle.std.proofs.Common.{◌≡◌, ℕ, ◌+◌, ◌<◌, ◌≤◌, true, false, List, [], ◌∷◌, ◌++◌, length, take, drop, get_or, Result, Ok, Err, IfOk, OnErr, refl, sym, ap, ◌∙◌, subst, arith}
 use Rattle.std.proofs.lemmas.List.{length-drop, drop-drop, drop-take, take-take, drop-map, take-append-drop}
-use Rattle.std.proofs.lemmas.List.Elements.{All-head, All-tail, All-cons}
-use Rattle.std.specs.List.{AllByRecursion}
-use Rattle.std.proofs.lemmas.Map.Keys.{IsDistinct-head}
 use Rattle.dma_arena.specs.Numbers.{Numbers, is_own, is_free, with_free}
-use Rattle.dma_arena.proofs.Arenas.{is_own-with_free, is_free-with_free_other}
+use Rattle.pmd_base.proofs.Outside.{out_first, out_given}
+use Rattle.pmd_base.specs.Home.{AreOut}
 use Rattle.pmd_tx.specs.declared.answer.Reaped.{Reaped}
 use Rattle.pmd_tx.specs.Sending.{Sender, Outgoing, no_packet, blocks_of, packet_at, reaped}
-use Rattle.pmd_tx.specs.Sends.{AreAway, Frees, given}
-use Rattle.pmd_tx.specs.Shown.{AreDistinct}
+use Rattle.pmd_tx.specs.Sends.{Frees, given}
 
 -- one after the other
 
@@ -45,59 +42,36 @@ frees_both u v w a b d m n f g =
 
 -- the oldest
 
-first_of : (a : Numbers) (n : ℕ) (v : Sender) (xs : List Outgoing) → xs ≡ v.outstanding → 0 < length xs
-    → n ≡ (packet_at v 0).block → given a (take 1 (blocks_of xs)) ≡ with_free a n true
-first_of a n v [] is some first = absurd (omega arith)
-first_of a n v (p ∷ ps) is some first =
-    ap (λ (m : ℕ). with_free a m true)
-    (ap (λ (l : List Outgoing). (get_or l 0 no_packet).block) is ∙ sym first)
+first_block : (n : ℕ) (xs : List Outgoing) → 0 < length xs → n ≡ (get_or xs 0 no_packet).block
+    → blocks_of xs ≡ n ∷ blocks_of (drop 1 xs)
+first_block n [] some first = absurd (omega arith)
+first_block n (p ∷ ps) some first = ap (λ (m : ℕ). m ∷ blocks_of ps) (sym first)
 
 pub frees_one : (v w : Sender) (a b : Numbers) (n : ℕ) → 0 < length v.outstanding → n ≡ (packet_at v 0).block
     → w ≡ reaped v → b ≡ with_free a n true → Frees v w a b 1
 frees_one v w a b n some first is gave = record {
   few = omega arith;
   left = ap (λ (x : Sender). x.outstanding) is;
-  home = gave ∙ sym (first_of a n v v.outstanding refl some first);
+  home = gave ∙ sym (ap (λ (l : List ℕ). given a (take 1 l)) (first_block n v.outstanding some first));
 }
 
--- none of the others is free then
+module _ (a : Numbers) (v : Sender) (n : ℕ) (some : 0 < length v.outstanding) (first : n ≡ (packet_at v 0).block)
+    (out : AreOut a (blocks_of v.outstanding))
+  where
+    abbrev others : List ℕ
+    others = blocks_of (drop 1 v.outstanding)
 
-others_of : (a : Numbers) (n : ℕ) (ns : List ℕ) → is_own a n ≡ true → AllByRecursion (λ m. nat_eq n m ≡ false) ns
-    → AreAway a ns → AreAway (with_free a n true) ns
-others_of a n [] own apart out = λ k d below. absurd (omega arith)
-others_of a n (m ∷ ns) own apart out =
-    let here = All-head (λ x. (is_own a x ≡ true) × (is_free a x ≡ false)) m ns out in
-    let rest = others_of a n ns own apart.1 (All-tail (λ x. (is_own a x ≡ true) × (is_free a x ≡ false)) m ns out) in
-    let ne : m ≢ n = λ same. true≢false (sym (eq-eqb n m (sym same)) ∙ apart.0) in
-    All-cons (λ x. (is_own (with_free a n true) x ≡ true) × (is_free (with_free a n true) x ≡ false)) m ns
-    (is_own-with_free a n true m ∙ here.0, is_free-with_free_other a n true m own ne ∙ here.1) rest
+    oldest_first : AreOut a (n ∷ others)
+    oldest_first = subst (AreOut a) (first_block n v.outstanding some first) out
 
-out_of : (a : Numbers) (n : ℕ) (xs : List Outgoing) → 0 < length xs → n ≡ (get_or xs 0 no_packet).block
-    → AreDistinct (blocks_of xs) → AreAway a (blocks_of xs) → AreAway (with_free a n true) (blocks_of (drop 1 xs))
-out_of a n [] some first apart out = absurd (omega arith)
-out_of a n (p ∷ ps) some first apart out =
-    let here = All-head (λ x. (is_own a x ≡ true) × (is_free a x ≡ false)) p.block (blocks_of ps) out in
-    let rest = All-tail (λ x. (is_own a x ≡ true) × (is_free a x ≡ false)) p.block (blocks_of ps) out in
-    subst (λ (m : ℕ). AreAway (with_free a m true) (blocks_of ps)) (sym first)
-    (others_of a p.block (blocks_of ps) here.0 (IsDistinct-head nat_eq p.block (blocks_of ps) apart) rest)
+    -- it is one of the arena's, and isn't free
+    pub oldest_out : (is_own a n ≡ true) × (is_free a n ≡ false)
+    oldest_out = let here = out_first a others n oldest_first in (here.0, here.1)
 
-oldest_in : (a : Numbers) (n : ℕ) (xs : List Outgoing) → 0 < length xs → n ≡ (get_or xs 0 no_packet).block
-    → AreAway a (blocks_of xs) → (is_own a n ≡ true) × (is_free a n ≡ false)
-oldest_in a n [] some first out = absurd (omega arith)
-oldest_in a n (p ∷ ps) some first out =
-    let here = All-head (λ x. (is_own a x ≡ true) × (is_free a x ≡ false)) p.block (blocks_of ps) out in
-    rw first here
-
--- the oldest is one of the arena's, and isn't free
-pub oldest_out : (a : Numbers) (v : Sender) (n : ℕ) → 0 < length v.outstanding → n ≡ (packet_at v 0).block
-    → AreAway a (blocks_of v.outstanding) → (is_own a n ≡ true) × (is_free a n ≡ false)
-oldest_out a v n some first out = oldest_in a n v.outstanding some first out
-
-pub out_rest : (a b : Numbers) (v w : Sender) (n : ℕ) → 0 < length v.outstanding → n ≡ (packet_at v 0).block
-    → AreDistinct (blocks_of v.outstanding) → AreAway a (blocks_of v.outstanding) → w ≡ reaped v
-    → b ≡ with_free a n true → AreAway b (blocks_of w.outstanding)
-out_rest a b v w n some first apart out is gave =
-    rw (is, gave) (out_of a n v.outstanding some first apart out)
+    -- once it is given, the others stay out
+    pub out_rest : (b : Numbers) (w : Sender) → w ≡ reaped v → b ≡ with_free a n true
+        → AreOut b (blocks_of w.outstanding)
+    out_rest b w is gave = rw (is, gave) (out_given a others n oldest_first)
 
 -- what is outstanding alone counts
 pub frees_from : (v w x : Sender) (a b : Numbers) (n : ℕ) → w.outstanding ≡ v.outstanding → Frees w x a b n

@@ -1,7 +1,7 @@
 -- Lending a packet's block, by what is made.
-use Rattle.std.proofs.Common.{◌≡◌, ℕ, ◌≤◌, List, length, take, None, Result, Ok, Err, OnOk, OnErr, IfErr, refl, sym, ap, subst, arith}
+use Rattle.std.proofs.Common.{◌≡◌, ℕ, List, length, take, None, Result, Ok, Err, OnOk, OnErr, IfErr, refl, sym, ap, subst, arith}
 use Rattle.std.proofs.lemmas.List.{length-take-le}
-use Rattle.dma_arena.specs.Block.{Block, IsBlock}
+use Rattle.dma_arena.specs.Block.{IsBlock}
 use Rattle.nic_device.specs.declared.event.Event.TheVariants as event
 use Rattle.nic_device.specs.declared.event.Reply.TheVariants as reply
 use Rattle.device_lock.specs.declared.entry.Call.{Call}

@@ -3,9 +3,10 @@ use Rattle.std.proofs.Common.{◌≡◌, ℕ, ◌+◌, List, length, refl, ap, �
 use Rattle.std.proofs.lemmas.List.{length-drop}
 use Rattle.dma_arena.specs.Numbers.{Numbers}
 use Rattle.device_lock.specs.declared.entry.Call.{Call}
+use Rattle.pmd_base.specs.Home.{AreOut}
 use Rattle.pmd_tx.specs.Plays.{Plays}
 use Rattle.pmd_tx.specs.Sending.{Sender, Layout, blocks_of}
-use Rattle.pmd_tx.specs.Sends.{AreAway, Frees}
+use Rattle.pmd_tx.specs.Sends.{Frees}
 use Rattle.pmd_tx.proofs.Freeing.{frees_none, frees_both}
 use Rattle.pmd_tx.proofs.Playing.{plays_none, plays_both}
 
@@ -15,12 +16,12 @@ pub record HasReaped (old : List Call) (v : Sender) (a : Numbers) (new : List Ca
   pub plays : Plays old v new w
   pub settled : w.posted ≡ length w.outstanding
   pub frees : Frees v w a b freed
-  pub out : AreAway b (blocks_of w.outstanding)
+  pub out : AreOut b (blocks_of w.outstanding)
   pub accepted : w.accepted ≡ v.accepted
   pub layout : w.layout ≡ record v.layout { next = w.layout.next }
 
 pub reaped_none : (old : List Call) (v : Sender) (a : Numbers) → v.posted ≡ length v.outstanding
-    → AreAway a (blocks_of v.outstanding) → HasReaped old v a old v a 0
+    → AreOut a (blocks_of v.outstanding) → HasReaped old v a old v a 0
 reaped_none old v a settled out = record {
   plays = plays_none old v;
   settled = settled;
@@ -47,7 +48,7 @@ module _ (old : List Call) (v : Sender) (a : Numbers) (mid : List Call) (w : Sen
     still_layout = layout ∙ ap (λ (l : Layout). record l { next = x.layout.next }) h.layout
 
     -- one more
-    pub reaped_more : x.posted + 1 ≡ w.posted → Frees w x b d 1 → AreAway d (blocks_of x.outstanding)
+    pub reaped_more : x.posted + 1 ≡ w.posted → Frees w x b d 1 → AreOut d (blocks_of x.outstanding)
         → HasReaped old v a new x d (n + 1)
     reaped_more fewer frees out = record {
       plays = plays_both old mid new v w x h.plays plays;

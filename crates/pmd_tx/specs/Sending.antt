@@ -1,5 +1,5 @@
 -- What a driver knows of its transmit ring, and how that follows from its own calls.
-use Rattle.std.specs.Prelude.{ℕ, ◌≡◌, ◌+◌, ◌-◌, ◌*◌, ◌<◌, ◌≤◌, ◌==◌, ◌||◌, nat_lt, Bool, true, false, ⊤, List, [], ◌∷◌, ◌++◌, length, take, drop, map, slice_index_or, if◌then◌else◌}
+use Rattle.std.specs.Prelude.{ℕ, ◌≡◌, ◌+◌, ◌-◌, ◌*◌, ◌<◌, ◌≤◌, ◌==◌, ◌||◌, Bool, true, false, ⊤, List, [], ◌∷◌, ◌++◌, length, take, drop, map, slice_index_or}
 use Rattle.std.specs.List.{list_any}
 use Rattle.dma_arena.specs.Block.{Block}
 use Rattle.dma_ring.specs.Bits.{has_bit}
@@ -12,6 +12,7 @@ use Rattle.nic_device.specs.declared.event.Port.{Port}
 use Rattle.nic_device.specs.declared.event.Reply.{Reply}
 use Rattle.nic_device.specs.declared.event.Reply.TheVariants as reply
 use Rattle.pmd_base.specs.Packet.{Kept}
+use Rattle.pmd_base.specs.Slots.{wrapped, descriptor_in}
 
 -- a packet that was accepted: the block that has its bytes, and what is kept of it
 pub record Outgoing : Type 0 where
@@ -48,16 +49,12 @@ packet_at v k = slice_index_or v.outstanding k no_packet
 abbrev pub blocks_of : List Outgoing → List ℕ
 blocks_of packets = map (λ (p : Outgoing). p.block) packets
 
--- a place at most once around a ring
-abbrev pub wrapped : ℕ → ℕ → ℕ
-wrapped size at = if nat_lt at size then at else at - size
-
 -- the slot of the outstanding packet of this number, and where its descriptor is
 abbrev pub slot_at : Layout → ℕ → ℕ
 slot_at l k = wrapped l.size (l.next + k)
 
 abbrev pub descriptor_at : Layout → ℕ → ℕ
-descriptor_at l k = 2048 * l.ring + 16 * slot_at l k
+descriptor_at l k = descriptor_in l.ring (slot_at l k)
 
 -- whether the ring has the block of this number lent: it is the ring's own, or that of an outstanding packet
 abbrev pub has_lent : Sender → ℕ → Bool

@@ -1,5 +1,5 @@
 -- What a driver that sends promises of one packet, and of the blocks that it frees.
-use Rattle.std.specs.Prelude.{ℕ, ◌≡◌, ◌-◌, ◌+◌, ◌==◌, ◌||◌, ◌&&◌, ◌≤◌, not, nat_lt, Bool, true, false, ⊤, List, [], ◌∷◌, ◌++◌, length, take, drop, replicate, Option, Some, None, Result, Ok, Err, All, if◌then◌else◌}
+use Rattle.std.specs.Prelude.{ℕ, ◌≡◌, ◌-◌, ◌+◌, ◌==◌, ◌||◌, ◌&&◌, ◌≤◌, not, nat_lt, Bool, true, false, ⊤, List, [], ◌∷◌, ◌++◌, length, take, drop, replicate, Option, Some, None, Result, Ok, Err, if◌then◌else◌}
 use Rattle.dma_arena.specs.Numbers.{Numbers, is_own, is_free, with_free}
 use Rattle.dma_ring.specs.Ring.{next_of}
 use Rattle.pmd_base.specs.Packet.{Kept}
@@ -97,10 +97,6 @@ forgotten v = record v {
   poked = false;
   seen = false;
 }
-
--- numbers of the arena, none of them free
-abbrev pub AreAway : Numbers → List ℕ → Type 0
-AreAway a numbers = All (λ n. (is_own a n ≡ true) × (is_free a n ≡ false)) numbers
 
 -- an arena after these blocks were given to it
 abbrev pub given : Numbers → List ℕ → Numbers

@@ -1,7 +1,6 @@
 -- The driver's transmit ring as its code keeps it.
-use Rattle.std.specs.Prelude.{ℕ, ◌≡◌, ◌+◌, ◌-◌, ◌<◌, ◌≤◌, nat_eq, Bool, true, false, ⊤, List, [], ◌∷◌, length, drop, replicate, All, Some}
+use Rattle.std.specs.Prelude.{ℕ, ◌≡◌, ◌+◌, ◌-◌, ◌<◌, ◌≤◌, nat_eq, Bool, true, false, List, [], ◌∷◌, length, drop, replicate, All, Some}
 use Rattle.std.specs.List.{IsDistinct}
-use Rattle.dma_arena.specs.Block.{Block}
 use Rattle.dma_arena.specs.Memory.{put_bytes}
 use Rattle.device_lock.specs.declared.entry.Call.{Call}
 use Rattle.pmd_base.specs.Accesses.{IsLent}

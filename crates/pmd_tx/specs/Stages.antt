@@ -1,5 +1,5 @@
 -- How far the newest packet has come.
-use Rattle.std.specs.Prelude.{ℕ, ◌≡◌, ◌+◌, true, length}
+use Rattle.std.specs.Prelude.{◌≡◌, ◌+◌, true, length}
 use Rattle.pmd_tx.specs.Sending.{Sender}
 use Rattle.pmd_tx.specs.declared.ring.Stage.{Stage}
 use Rattle.pmd_tx.specs.declared.ring.Stage.TheVariants as stage

@@ -1,15 +1,15 @@
 //! How the blocks of packets that were sent come home.
 
 ghost use Rattle.std.specs.Prelude.{[], ◌≡◌, ◌<◌, ◌+◌, ◌↔◌, ℕ, length, true, false, Ok, IsTrue, IfOk, IfErr, OnOk, OnErr, if◌then◌else◌};
-ghost use Rattle.dma_arena.specs.Numbers.{is_own, is_free, with_free};
+ghost use Rattle.pmd_base.specs.Home.{AreOut};
 ghost use Rattle.pmd_tx.specs.Plays.{Plays, LooksLast, FaultsBy};
 ghost use Rattle.pmd_tx.specs.Sending.{packet_at, blocks_of, reaped};
-ghost use Rattle.pmd_tx.specs.Sends.{AreAway, Frees, IsLate};
+ghost use Rattle.pmd_tx.specs.Sends.{Frees, IsLate};
 
 use crate::answer::Reaped;
 use crate::ring::TransmitRing;
-use dma_arena::{Arena, Buf};
-use pmd_base::{Nic, PmdFault};
+use dma_arena::Arena;
+use pmd_base::{Nic, PmdFault, give_back};
 use std::alloc::Global;
 
 impl TransmitRing {
@@ -24,14 +24,14 @@ impl TransmitRing {
         nic: &mut N,
         arena: &mut Arena,
     ) -> Result<Reaped, PmdFault>
-        requires { AreAway arena.old (blocks_of self.old.outstanding) }
+        requires { AreOut arena.old (blocks_of self.old.outstanding) }
         ensures plays { Plays (N.made nic.old) self.old (N.made nic.new) self.new }
         ensures idle { IfOk result (λ done. IsTrue done.idle ↔ (self.new.outstanding ≡ [])) }
         ensures waits { IfOk result (λ done.
             done.idle ≡ false → LooksLast (N.made nic.old) self.old (N.made nic.new) self.new) }
         ensures freed { IfOk result (λ done. Frees self.old self.new arena.old arena.new done.freed) }
         ensures some { OnErr result ((count : ℕ) × Frees self.old self.new arena.old arena.new count) }
-        ensures out { AreAway arena.new (blocks_of self.new.outstanding) }
+        ensures out { AreOut arena.new (blocks_of self.new.outstanding) }
         ensures accepted { self.new.accepted ≡ self.old.accepted }
         ensures layout { self.new.layout ≡ record self.old.layout { next = self.new.layout.next } }
         ensures late { IfErr result (λ fault. IsLate fault) }
@@ -52,14 +52,14 @@ impl TransmitRing {
         arena: &mut Arena,
     ) -> Result<Reaped, PmdFault>
         requires settled { self.old.posted ≡ length self.old.outstanding }
-        requires home { AreAway arena.old (blocks_of self.old.outstanding) }
+        requires home { AreOut arena.old (blocks_of self.old.outstanding) }
         ensures plays { Plays (N.made nic.old) self.old (N.made nic.new) self.new }
         ensures idle { IfOk result (λ done. IsTrue done.idle ↔ (self.new.outstanding ≡ [])) }
         ensures waits { IfOk result (λ done.
             done.idle ≡ false → LooksLast (N.made nic.old) self.old (N.made nic.new) self.new) }
         ensures freed { IfOk result (λ done. Frees self.old self.new arena.old arena.new done.freed) }
         ensures some { OnErr result ((count : ℕ) × Frees self.old self.new arena.old arena.new count) }
-        ensures out { AreAway arena.new (blocks_of self.new.outstanding) }
+        ensures out { AreOut arena.new (blocks_of self.new.outstanding) }
         ensures accepted { self.new.accepted ≡ self.old.accepted }
         ensures layout { self.new.layout ≡ record self.old.layout { next = self.new.layout.next } }
         ensures late { IfErr result (λ fault. IsLate fault) }
@@ -90,13 +90,13 @@ impl TransmitRing {
         arena: &mut Arena,
     ) -> Result<bool, PmdFault>
         requires posted { 0 < self.old.posted }
-        requires home { AreAway arena.old (blocks_of self.old.outstanding) }
+        requires home { AreOut arena.old (blocks_of self.old.outstanding) }
         ensures plays { Plays (N.made nic.old) self.old (N.made nic.new) self.new }
         ensures waits { result ≡ Ok false → LooksLast (N.made nic.old) self.old (N.made nic.new) self.new }
         ensures freed { IfOk result (λ sent. Frees self.old self.new arena.old arena.new (if sent then 1 else 0)) }
         ensures posted { IfOk result (λ sent. self.new.posted + (if sent then 1 else 0) ≡ self.old.posted) }
         ensures none { OnErr result (Frees self.old self.new arena.old arena.new 0) }
-        ensures out { AreAway arena.new (blocks_of self.new.outstanding) }
+        ensures out { AreOut arena.new (blocks_of self.new.outstanding) }
         ensures accepted { self.new.accepted ≡ self.old.accepted }
         ensures layout { self.new.layout ≡ record self.old.layout { next = self.new.layout.next } }
         ensures late { IfErr result (λ fault. IsLate fault) }
@@ -121,13 +121,13 @@ impl TransmitRing {
         arena: &mut Arena,
     ) -> Result<(), PmdFault>
         requires seen { self.old.seen ≡ true }
-        requires home { AreAway arena.old (blocks_of self.old.outstanding) }
+        requires home { AreOut arena.old (blocks_of self.old.outstanding) }
         ensures plays { Plays (N.made nic.old) self.old (N.made nic.new) self.new }
         ensures reaped { OnOk result (self.new ≡ reaped self.old) }
         ensures kept { OnErr result (self.new ≡ self.old) }
         ensures freed { OnOk result (Frees self.old self.new arena.old arena.new 1) }
         ensures same { OnErr result (arena.new ≡ arena.old) }
-        ensures out { AreAway arena.new (blocks_of self.new.outstanding) }
+        ensures out { AreOut arena.new (blocks_of self.new.outstanding) }
         ensures late { IfErr result (λ fault. IsLate fault) }
         ensures faults { IfErr result (λ fault. FaultsBy fault (N.made nic.old) self.old (N.made nic.new)) }
         ensures who { N.who nic.new ≡ N.who nic.old }
@@ -139,17 +139,5 @@ impl TransmitRing {
             }
             Err(fault) => Err(fault),
         }
-    }
-}
-
-/// Gives a block back to the arena that it came from.
-fn give_back(arena: &mut Arena, buf: Buf)
-    requires own { is_own arena.old buf.number ≡ true }
-    requires away { is_free arena.old buf.number ≡ false }
-    ensures { arena.new ≡ with_free arena.old buf.number true }
-{
-    match arena.give(buf) {
-        Ok(()) => {}
-        Err(_buf) => unreachable!(),
     }
 }

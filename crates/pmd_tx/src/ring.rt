@@ -11,13 +11,16 @@ ghost use Rattle.dma_ring.specs.Ring.{next_of};
 ghost use Rattle.pmd_base.specs.Packet.{Kept};
 ghost use Rattle.pmd_tx.specs.Sends.{is_full, forgotten, IsLate, IsBack};
 ghost use Rattle.pmd_tx.specs.Stages.{IsAt};
-ghost use Rattle.pmd_tx.specs.Shown.{AreDistinct, MayLend, sent_as, IsUnlent};
+ghost use Rattle.pmd_tx.specs.Shown.{MayLend, sent_as, IsUnlent};
 
 use device_lock::CallFault;
 use dma_arena::{BLOCK_BYTES, Buf};
 use dma_ring::{data_descriptor_word, is_sent, of_halves, second_half};
 use nic_device::Port;
-use pmd_base::{Homeward, Nic, Packet, PmdFault, Record, lend, peek, poke, take, write};
+use pmd_base::{
+    Homeward, Nic, Packet, PmdFault, Record, descriptor_address, lend, next_slot, peek, poke,
+    slot_after, take, write,
+};
 use std::alloc::Global;
 use std::collections::VecDeque;
 use std::marker::Model;
@@ -222,11 +225,7 @@ impl TransmitRing {
     fn following(&self) -> u16
         ensures { result ≡ next_of self.now.layout.size self.now.layout.next }
     {
-        if self.next + 1 == self.size {
-            0
-        } else {
-            self.next + 1
-        }
+        next_slot(self.size, self.next)
     }
 
     /// The slot that comes so many after the oldest packet's.
@@ -234,8 +233,7 @@ impl TransmitRing {
         requires { after ≤ self.now.layout.size }
         ensures { result ≡ slot_at self.now.layout after }
     {
-        let at = self.next + after;
-        if at < self.size { at } else { at - self.size }
+        slot_after(self.size, self.next, after)
     }
 
     /// The bus address of the descriptor that comes so many after the oldest packet's.
@@ -243,7 +241,7 @@ impl TransmitRing {
         requires { after ≤ self.now.layout.size }
         ensures { result ≡ descriptor_at self.now.layout after }
     {
-        2048 * self.ring_block() + 16 * u32::from(self.slot(after))
+        descriptor_address(self.ring_block(), self.slot(after))
     }
 }
 
@@ -304,31 +302,22 @@ impl TransmitRing {
             hash,
         } = packet;
         let block = buf.block();
-        match lend(alloc, nic, buf) {
+        let (fault, buf) = match lend(alloc, nic, buf) {
             Ok(None) => {
                 self.blocks.push_back_reserved(block);
                 self.accepted.push_reserved(record);
-                Ok(())
+                return Ok(());
             }
-            Ok(Some(buf)) => Err((
-                PmdFault::DeviceFault,
-                Packet {
-                    buf,
-                    len,
-                    rss,
-                    hash,
-                },
-            )),
-            Err((fault, buf)) => Err((
-                PmdFault::Call(fault),
-                Packet {
-                    buf,
-                    len,
-                    rss,
-                    hash,
-                },
-            )),
-        }
+            Ok(Some(buf)) => (PmdFault::DeviceFault, buf),
+            Err((fault, buf)) => (PmdFault::Call(fault), buf),
+        };
+        let back = Packet {
+            buf,
+            len,
+            rss,
+            hash,
+        };
+        Err((fault, back))
     }
 }
 
@@ -495,7 +484,6 @@ impl TransmitRing {
         ensures reaped { OnOk result (self.new ≡ reaped self.old) }
         ensures block { IfOk result (λ buf. buf.number ≡ (packet_at self.old 0).block) }
         ensures some { 0 < length self.old.outstanding }
-        ensures distinct { AreDistinct (blocks_of self.old.outstanding) }
         ensures kept { OnErr result (self.new ≡ self.old) }
         ensures late { IfErr result (λ fault. IsLate fault) }
         ensures faults { IfErr result (λ fault. FaultsBy fault (N.made nic.old) self.old (N.made nic.new)) }
@@ -518,7 +506,6 @@ impl TransmitRing {
         requires { self.now.seen ≡ true }
         ensures block { result ≡ (packet_at self.now 0).block }
         ensures some { 0 < length self.now.outstanding }
-        ensures distinct { AreDistinct (blocks_of self.now.outstanding) }
     {
         self.blocks[0]
     }

@@ -5,14 +5,17 @@ use Rattle.std.proofs.lemmas.List.{get_or-drop, length-drop}
 use Rattle.dma_arena.specs.Memory.{Memory}
 use Rattle.dma_arena.proofs.Bus.{get-remove_other}
 use Rattle.register_file.specs.Sides.{ReceiveQueue}
+use Rattle.pmd_base.specs.Slots.{wrapped}
+use Rattle.pmd_base.proofs.Places.{next_below, wrapped_next}
 use Rattle.pmd_rx.specs.Receive.{Layout, consumed, slot_at, descriptor_at, block_at}
 use Rattle.receive_laws.specs.Joint.{IsPosted, IsFilled, IsRing, IsSetUp, HasSlots}
 use Rattle.receive_laws.specs.Pieces.{Piece, no_piece, piece_at}
 use Rattle.receive_laws.proofs.Kept.{same_has, filled_kept, posted_kept}
-use Rattle.receive_laws.proofs.Places.{next_below, wrapped_on}
 
 slot_on : (l : Layout) (k : ℕ) → IsRing l → k + 1 < l.size → slot_at (consumed l) k ≡ slot_at l (1 + k)
-slot_on l k ring h = wrapped_on l.size l.next k ring.next h
+slot_on l k ring h =
+    wrapped_next l.size l.next k ring.next (omega (arith, h))
+    ∙ ap (wrapped l.size) (let e : l.next + (k + 1) ≡ l.next + (1 + k) = omega arith in e)
 
 -- the ring without its next slot
 module _ (m : Memory) (l : Layout) (here : List Piece) (ring : IsRing l) (h : HasSlots m l here)

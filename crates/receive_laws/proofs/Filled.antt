@@ -14,7 +14,8 @@ use Rattle.pmd_rx.specs.Receive.{Layout, Stage, Looks, Sees, Holding, Lent, Name
 use Rattle.receive_laws.specs.Joint.{IsPosted, IsFilled, IsRing, StageHolds}
 use Rattle.receive_laws.specs.Pieces.{Piece, no_piece, piece_at}
 use Rattle.receive_laws.proofs.Kept.{IsPosted-kept, IsFilled-kept, IsLoose-kept, slot_low}
-use Rattle.receive_laws.proofs.Places.{wrapped_apart, slots_apart, buffer_and_slot, slot_and_buffer, buffers_apart, less_apart}
+use Rattle.pmd_base.proofs.Places.{wrapped_apart}
+use Rattle.receive_laws.proofs.Places.{slots_apart, buffer_and_slot, slot_and_buffer, buffers_apart, less_apart}
 
 -- the piece that a filled slot takes of what is left
 abbrev pub piece_in : Rest → Filled → Piece

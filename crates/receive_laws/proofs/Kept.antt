@@ -17,7 +17,8 @@ use Rattle.pmd_rx.specs.Receive.{Layout, Stage, Looks, Sees, Holding, Lent, Name
 use Rattle.receive_laws.specs.Joint.{IsPosted, IsFilled, IsRing, IsNamed, IsLoose, IsSetUp, StageHolds, HasSlots, Holds}
 use Rattle.receive_laws.specs.Pieces.{Piece, piece_at}
 use Rattle.receive_laws.specs.Steps.{IfFresh, Leaves, LeavingKeeps}
-use Rattle.receive_laws.proofs.Places.{wrapped_below, slot_inside, bytes_inside}
+use Rattle.pmd_base.proofs.Places.{wrapped_below}
+use Rattle.receive_laws.proofs.Places.{slot_inside, bytes_inside}
 
 -- a slot whose reads are the same stays what it is
 

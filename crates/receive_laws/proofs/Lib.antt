@@ -27,5 +27,4 @@ pub mod Switching
 pub mod Tail
 pub mod Taking
 pub mod Transmitting
-pub mod Unrelated
 pub mod Writing

@@ -18,7 +18,7 @@ use Rattle.pmd_rx.specs.Receive.{Layout, Receive, Named, slot_at, descriptor_at,
 use Rattle.receive_laws.specs.Joint.{IsPosted, IsFilled, IsRing, IsSetUp, IsLoose, StageHolds, HasSlots, Agree}
 use Rattle.receive_laws.specs.Pieces.{Piece, piece_at}
 use Rattle.receive_laws.proofs.Kept.{named_kept}
-use Rattle.receive_laws.proofs.Places.{wrapped_below}
+use Rattle.pmd_base.proofs.Places.{wrapped_below}
 use Rattle.receive_laws.proofs.Tail.{with_tail, receive-with_tail, tail_written, mode_after_tail}
 
 -- the ring with one more block

@@ -19,7 +19,8 @@ use Rattle.receive_laws.specs.Joint.{IsPosted, IsRing, IsLoose, StageHolds, HasS
 use Rattle.receive_laws.specs.Pieces.{Piece, piece_at}
 use Rattle.receive_laws.proofs.Kept.{IsPosted-kept, IsFilled-kept, IsLoose-kept, slot_low}
 use Rattle.receive_laws.proofs.Looking.{descriptor_lent}
-use Rattle.receive_laws.proofs.Places.{aligned, slots_apart, buffer_and_slot, wrapped_apart}
+use Rattle.pmd_base.proofs.Places.{wrapped_apart}
+use Rattle.receive_laws.proofs.Places.{aligned, slots_apart, buffer_and_slot}
 
 module _ (m : Memory) (l : Layout) (here : List Piece) (ring : IsRing l) (h : HasSlots m l here) (whole : IsWhole m)
     (b : ℕ) (loose : IsLoose m l b) where

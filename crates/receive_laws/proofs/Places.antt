@@ -5,25 +5,10 @@ use Rattle.std.proofs.lemmas.Bool.{cases_lt, lt-ltb}
 use Rattle.std.proofs.lemmas.Bool.Decides.{nat_tests}
 use Rattle.dma_arena.specs.Memory.{AreApart, LiesIn}
 use Rattle.dma_ring.specs.declared.ring.Ring.{Ring}
-use Rattle.dma_ring.specs.Ring.{next_of, is_outside}
-use Rattle.pmd_rx.specs.Receive.{wrapped}
+use Rattle.dma_ring.specs.Ring.{is_outside}
+use Rattle.pmd_base.specs.Slots.{wrapped}
 
 -- places
-
-pub wrapped_below : (n a : ℕ) → a < n + n → wrapped n a < n
-wrapped_below n a h = grind (arith, nat_tests)
-
-pub wrapped_apart : (n a i j : ℕ) → a < n → i < n → j < n → i ≢ j → wrapped n (a + i) ≢ wrapped n (a + j)
-wrapped_apart n a i j h k l ne e = grind (arith, nat_tests)
-
-pub next_wrapped : (n a : ℕ) → 0 < n → a + 1 < n + n → next_of n (wrapped n a) ≡ wrapped n (a + 1)
-next_wrapped n a s h = grind (arith, nat_tests)
-
-pub wrapped_on : (n a k : ℕ) → a < n → k + 1 < n → wrapped n (next_of n a + k) ≡ wrapped n (a + (1 + k))
-wrapped_on n a k h l = grind (arith, nat_tests)
-
-pub next_below : (n a : ℕ) → a < n → next_of n a < n
-next_below n a h = grind (arith, nat_tests)
 
 pub first_place : (n : ℕ) → 0 < n → 0 ≡ wrapped n (0 + 0)
 first_place n h = grind (arith, nat_tests)

@@ -17,14 +17,16 @@ use Rattle.rx_ring.proofs.Tests.{fill_healthy}
 use Rattle.register_file.specs.Sides.{ReceiveQueue, receive_queue_of}
 use Rattle.nic_device.specs.Receive.{is_empty}
 use Rattle.nic_device.specs.State.{State}
-use Rattle.pmd_rx.specs.Receive.{Layout, wrapped, slot_at, descriptor_at, block_at, vacant}
+use Rattle.pmd_base.specs.Slots.{wrapped}
+use Rattle.pmd_rx.specs.Receive.{Layout, slot_at, descriptor_at, block_at, vacant}
 use Rattle.receive_laws.specs.Joint.{IsFilled, IsRing, IsSetUp, HasSlots}
 use Rattle.receive_laws.specs.Pieces.{Piece, no_piece, piece_at}
 use Rattle.receive_laws.proofs.Cases.{fill_on}
 use Rattle.receive_laws.proofs.Filled.{piece_in, Fills, fills_slot, filled_beside, posted_beside}
 use Rattle.receive_laws.proofs.Kept.{slot_below, slot_low}
 use Rattle.receive_laws.proofs.Looking.{descriptor_lent}
-use Rattle.receive_laws.proofs.Places.{next_wrapped, address_small, buffer_even, inside_of}
+use Rattle.pmd_base.proofs.Places.{next_wrapped}
+use Rattle.receive_laws.proofs.Places.{address_small, buffer_even, inside_of}
 
 -- the head of the queue is the first slot that isn't filled
 module _ (s : State) (queue : ℕ) (l : Layout) (here : List Piece) (ring : IsRing l)

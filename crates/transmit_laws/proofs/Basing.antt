@@ -1,9 +1,10 @@
 -- What an event keeps that writes no setting.
-use Rattle.std.proofs.Common.{◌≡◌, ℕ, refl, ◌∙◌}
+use Rattle.std.proofs.Common.{◌≡◌, ℕ, List, refl, ◌∙◌}
 use Rattle.dma_arena.specs.Block.{Block}
 use Rattle.vf_map.specs.Map.{located}
 use Rattle.register_file.specs.Pools.{mode_in}
 use Rattle.nic_device.specs.Named.{named, at_location}
+use Rattle.nic_device.specs.Outcome.{Outcome}
 use Rattle.nic_device.specs.Sound.{IsEvent}
 use Rattle.nic_device.specs.State.{State}
 use Rattle.nic_device.specs.Step.{after}
@@ -14,8 +15,8 @@ use Rattle.nic_device.proofs.Steps.{keeps_sound}
 use Rattle.device_laws.specs.Laws.{WritesNoSetting}
 use Rattle.device_laws.proofs.KeptSettings.{settings_stand}
 use Rattle.device_laws.proofs.Standing.{stays_within}
-use Rattle.pmd_tx.specs.Sending.{Layout}
-use Rattle.transmit_laws.specs.Agreeing.{IsBased}
+use Rattle.pmd_tx.specs.Sending.{Layout, Sender, Move, moved}
+use Rattle.transmit_laws.specs.Agreeing.{IsBased, Agrees}
 
 -- a number names the same, as long as the queues are parted alike
 pub named-same : (s t : State) → mode_in t.registers ≡ mode_in s.registers → t.vfs ≡ s.vfs → (port : Port) (n : ℕ)
@@ -32,3 +33,11 @@ based-after s queue l e b made none = record {
   tail = named-same s (after s e) (settings_stand s e none).mode (stays_within s e).vfs l.port l.tail ∙ b.tail;
   limit = (settings_stand s e none).limit ∙ b.limit;
 }
+
+-- after a move of the driver's, by its outcome, the two agree
+abbrev pub After : ℕ → List (List ℕ) → Sender → Move → Outcome → Type 0
+After queue sent v m o = Agrees o.state queue sent (moved v m o.reply)
+
+-- so they do where the outcome is as sound as the event leaves it, which changes memory alone
+abbrev pub Keeps : ℕ → List (List ℕ) → Sender → Move → Outcome → Type 0
+Keeps queue sent v m o = IsBased o.state queue v.layout → After queue sent v m o

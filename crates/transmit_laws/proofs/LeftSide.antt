@@ -1,6 +1,6 @@
 -- An event that leaves a queue alone leaves its transmit side, and writes no setting.
 use Rattle.std.proofs.Common.{◌≡◌, ℕ, inl, inr, false, refl, ap, sym, ◌∙◌, subst, Some}
-use Rattle.std.proofs.lemmas.Bool.{both_ways, eqb-false}
+use Rattle.std.proofs.lemmas.Bool.{eqb-false}
 use Rattle.dma_arena.specs.Block.{Block}
 use Rattle.reg_table.specs.declared.place.Place.{Place}
 use Rattle.register_file.specs.Pools.{mode_in}
@@ -13,7 +13,7 @@ use Rattle.nic_device.specs.declared.event.Event.TheVariants as event
 use Rattle.nic_device.specs.declared.event.Port.{Port}
 use Rattle.nic_device.specs.declared.named.Named.{Named}
 use Rattle.nic_device.specs.declared.named.Named.TheVariants.{Nothing, Register}
-use Rattle.device_lock.specs.Alone.{LeavesRegisters, Spares, SparesIfSome, place_at, is_setting}
+use Rattle.device_lock.specs.Alone.{LeavesRegisters, Spares, SparesIfSome, place_at}
 use Rattle.device_lock.specs.declared.alone.Watched.{Watched}
 use Rattle.device_laws.specs.Laws.{WritesNoSetting}
 use Rattle.device_laws.specs.Leaving.{LeavesTransmit}
@@ -21,8 +21,9 @@ use Rattle.device_laws.proofs.Standing.{memory_rest}
 use Rattle.device_laws.proofs.StandingAccesses.{read_rest}
 use Rattle.device_laws.proofs.StandingQueues.{receiving_rest, transmitting_rest, switching_rest}
 use Rattle.device_laws.proofs.StandingRest.{arrival_rest, message_rest, eeprom_rest, link_rest, collecting_rest}
+use Rattle.history_laws.proofs.Naming.{place_in, place_named}
+use Rattle.history_laws.proofs.Sparing.{no_setting, spared_written, stray_written}
 use Rattle.transmit_laws.specs.Sparing.{is_transmit_of, is_switch_of}
-use Rattle.transmit_laws.proofs.LeftWrites.{place_named, stray_side, place_side}
 
 module _ (w : Watched) (s : State) (functions : w.vfs ≡ s.vfs) where
   spares-named : (port : Port) (n word view : ℕ) (p : Place)
@@ -30,25 +31,24 @@ module _ (w : Watched) (s : State) (functions : w.vfs ≡ s.vfs) where
       → named s port n ≡ Register p view → Spares w.queue (mode_in s.registers) p word
   spares-named port n word view p left is =
       let there : place_at (mode_in s.registers) w.vfs port n ≡ Some p =
-      ap (λ x. place_at (mode_in s.registers) x port n) functions ∙ place_named s port n view p is in
+      ap (λ x. place_at (mode_in s.registers) x port n) functions ∙ place_named s port n ∙ ap place_in is in
       subst (λ o. SparesIfSome w.queue (mode_in s.registers) o word) there left
 
   -- it writes no setting
   pub left-setting : (e : Event Block) → LeavesRegisters w (mode_in s.registers) e → WritesNoSetting s e
-  left-setting (event.Write port n word) left = λ p view is. record {
-    control = λ x. both_ways (is_setting p.row) (spares-named port n word view p left is).setting (ap is_setting x);
-    jumbo = λ x. both_ways (is_setting p.row) (spares-named port n word view p left is).setting (ap is_setting x);
-    limit = λ x. both_ways (is_setting p.row) (spares-named port n word view p left is).setting (ap is_setting x);
-    mode = λ x. both_ways (is_setting p.row) (spares-named port n word view p left is).setting (ap is_setting x);
-  }
+  left-setting (event.Write port n word) left = λ p view is.
+      let not = no_setting p.row (spares-named port n word view p left is).setting in
+      record { control = not.0; jumbo = not.1; limit = not.2; mode = not.3 }
   left-setting other left = tt
 
   written_side : (port : Port) (n word : ℕ) (m : Named) → named s port n ≡ m
       → LeavesRegisters w (mode_in s.registers) (event.Write port n word)
       → LeavesTransmit w.queue s (after s (event.Write port n word))
-  written_side port n word (Nothing seen) is left = stray_side s w.queue port n word seen is
+  written_side port n word (Nothing seen) is left =
+      subst (λ (t : State). LeavesTransmit w.queue s t) (sym (stray_written w.queue s port n word seen is))
+      (record { side = refl; staged = refl })
   written_side port n word (Register p view) is left =
-      place_side s w.queue port n word p view is (spares-named port n word view p left is)
+      (spared_written w.queue s port n word p view is (spares-named port n word view p left is)).transmit
 
   -- and leaves the side, unless it is a step of that side's own
   pub left-side : (e : Event Block) → LeavesRegisters w (mode_in s.registers) e → is_transmit_of w.queue e ≡ false

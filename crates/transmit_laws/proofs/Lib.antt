@@ -1,8 +1,10 @@
 pub mod Accepting
 pub mod Advancing
 pub mod Alone
+pub mod Asking
 pub mod Basing
 pub mod Blocks
+pub mod Counting
 pub mod Done
 pub mod Examples
 pub mod Fetching
@@ -10,11 +12,11 @@ pub mod Frames
 pub mod Guard
 pub mod LeftBlocks
 pub mod LeftSide
-pub mod LeftWrites
 pub mod Looking
 pub mod Mine
 pub mod Moving
 pub mod Off
+pub mod OffSteps
 pub mod Playing
 pub mod Reaping
 pub mod Runs
@@ -24,4 +26,5 @@ pub mod Sparing
 pub mod Stepping
 pub mod Tails
 pub mod Taken
+pub mod Told
 pub mod Writing

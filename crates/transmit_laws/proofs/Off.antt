@@ -1,143 +1,67 @@
 -- A transmit side that isn't wanted on stays so; one that is off besides stays off, and sends nothing.
-use Rattle.std.proofs.Common.{◌≡◌, ℕ, ◌<◌, inl, inr, Bool, true, false, not, ◌||◌, List, [], ◌∷◌, refl, sym, ap, ◌∙◌, subst, Option, Some, None}
-use Rattle.std.proofs.lemmas.Bool.{cases_Bool, eq-eqb, lt-ltb}
+use Rattle.std.proofs.Common.{◌≡◌, ℕ, ◌<◌, inl, inr, List, [], ◌∷◌, refl, sym, ap, ◌∙◌, subst}
+use Rattle.std.proofs.lemmas.Bool.{cases_Bool, eq-eqb}
 use Rattle.dma_arena.specs.Block.{Block}
-use Rattle.tx_ring.specs.declared.fetched.Fetched.{Fetched}
-use Rattle.register_file.specs.Queue.{switched}
-use Rattle.register_file.specs.Registers.{is_wanted}
-use Rattle.register_file.specs.Settings.{is_stopped, can_transmit}
-use Rattle.register_file.specs.Sides.{TransmitQueue, transmit_queue_of}
-use Rattle.register_file.specs.declared.dir.Dir.TheVariants.{Tx}
-use Rattle.register_file.proofs.Switches.{transmit-switched}
-use Rattle.nic_device.specs.Outcome.{Outcome, gives}
-use Rattle.nic_device.specs.Receive.{is_empty}
-use Rattle.nic_device.specs.Sound.{IsSound}
+use Rattle.register_file.specs.Sides.{TransmitQueue}
+use Rattle.nic_device.specs.Outcome.{Outcome}
 use Rattle.nic_device.specs.State.{State}
-use Rattle.nic_device.specs.Step.{step_of, after}
-use Rattle.nic_device.specs.Switching.{emptied, side_switched}
-use Rattle.nic_device.specs.Transmit.{fetched_reply, is_muted, is_silent}
+use Rattle.nic_device.specs.Step.{after}
 use Rattle.nic_device.specs.declared.event.Event.{Event}
 use Rattle.nic_device.specs.declared.event.Event.TheVariants as event
-use Rattle.nic_device.specs.declared.event.Reply.TheVariants.{Idle}
-use Rattle.nic_device.proofs.Cases.{either_way, switched_cases}
-use Rattle.nic_device.proofs.QueueCases.{transmitted_cases}
 use Rattle.device_lock.specs.History.{leads_to}
 use Rattle.device_lock.specs.declared.entry.Entry.{Entry}
-use Rattle.device_laws.specs.Replies.{sent_tells, TookTransmit}
-use Rattle.device_laws.proofs.RepliesSent.{transmitting_tells}
 use Rattle.transmit_laws.specs.Off.{IsUnwanted, IsOff, LeavesSide, AllLeaveSide, OffStays}
 use Rattle.transmit_laws.specs.Sent.{frames_added, sent_by, sent_in}
 use Rattle.transmit_laws.specs.Sparing.{is_transmit_of, is_switch_of}
 use Rattle.transmit_laws.proofs.Frames.{added-none}
+use Rattle.transmit_laws.proofs.OffSteps.{transmit_unwanted, switch_unwanted, idle, switch_off}
 use Rattle.transmit_laws.proofs.Sparing.{transmit_is, switch_is, sent-none}
 
--- a step of the side's enable
+-- one event
 
-switched_off : (s : State) (queue : ℕ) → IsSound s → queue < 128 → IsUnwanted queue s
-    → IsOff queue (side_switched s Tx queue)
-switched_off s queue sound small none =
-    let e = transmit-switched s.registers sound.registers.shape queue small in
-    let on = ap (λ (x : TransmitQueue). x.on) e ∙ none in
-    let wanted = ap (λ (x : TransmitQueue). x.wanted) e ∙ none in
-    either_way (IsOff queue) (is_wanted s.registers Tx queue)
-    (record s { registers = switched s.registers Tx queue })
-    (record (emptied s Tx queue) { registers = switched s.registers Tx queue })
-    (record { off = on; unwanted = wanted }) (record { off = on; unwanted = wanted })
-
--- a step of transmitting
-
-took : (queue : ℕ) (s t : State) (f : Fetched) (o : Option (List ℕ)) → sent_tells queue (fetched_reply queue f o) s t
-    → TookTransmit queue queue f.back s t
-took queue s t f (Some frame) tells = tells
-took queue s t f None tells = tells.0
-
-silent_off : (a b c d e f : Bool) → d ≡ true → (a || b || c || d || e || f) ≡ true
-silent_off true b c d e f is = refl
-silent_off false true c d e f is = refl
-silent_off false false true d e f is = refl
-silent_off false false false d e f is = rw is refl
-
-module _ (queue : ℕ) (s : State) (small : queue < 128) where
-  abbrev side : TransmitQueue
-  side = transmit_queue_of s.registers queue
-
-  abbrev Still : Outcome → Type 0
-  Still o = sent_tells queue o.reply s o.state → IsUnwanted queue o.state
-
-  transmit_unwanted : IsSound s → IsUnwanted queue s → IsUnwanted queue (after s (event.TxStep queue))
-  unfolding step_of
-  transmit_unwanted sound none =
-      transmitted_cases Still s queue (record {
-        none = λ tells. none;
-        idle = λ tells. none;
-        fault = λ fault tells. ap (λ (x : TransmitQueue). x.wanted) tells.side;
-        fetched = λ f is tells.
-            ap (λ (x : TransmitQueue). x.wanted) (took queue s _ f f.frame tells).side ∙ none;
-      }) (transmitting_tells s sound queue)
-
-  switch_unwanted : IsSound s → IsUnwanted queue s → IsUnwanted queue (after s (event.QueueStep Tx queue))
-  unfolding step_of
-  switch_unwanted sound none =
-      switched_cases (λ (o : Outcome). IsUnwanted queue o.state) s Tx queue none none
-      (switched_off s queue sound small none).unwanted
-
-  idle : IsOff queue s → step_of s (event.TxStep queue) ≡ gives Idle s
-  unfolding step_of
-  idle is =
-      let silent : is_silent s queue side ≡ true =
-      silent_off (is_stopped s.registers) (not s.link) (not (can_transmit s.registers)) (not side.on)
-      (is_muted s.registers queue) (is_empty side.ring) (ap not is.off) in
-      rw (lt-ltb queue 128 small, silent) refl
-
-  switch_off : IsSound s → IsOff queue s → IsOff queue (after s (event.QueueStep Tx queue))
-  unfolding step_of
-  switch_off sound is =
-      switched_cases (λ (o : Outcome). IsOff queue o.state) s Tx queue is is
-      (switched_off s queue sound small is.unwanted)
-
-  -- one event
-
-  module _ (e : Event Block) (x : LeavesSide queue s e) where
-    pub unwanted-stays : IsUnwanted queue s → IsUnwanted queue (after s e)
-    unwanted-stays none = elim (cases_Bool (is_transmit_of queue e)) [
+module _ (queue : ℕ) (s : State) (small : queue < 128) (e : Event Block) (x : LeavesSide queue s e) where
+  pub unwanted-stays : IsUnwanted queue s → IsUnwanted queue (after s e)
+  unwanted-stays none = elim (cases_Bool (is_transmit_of queue e)) [
+    | inl own ↦
+        subst (λ (n : Event Block). IsUnwanted queue (after s n)) (sym (transmit_is queue e own))
+        (transmit_unwanted queue s small x.sound none)
+    | inr other ↦ elim (cases_Bool (is_switch_of queue e)) [
       | inl own ↦
-          subst (λ (n : Event Block). IsUnwanted queue (after s n)) (sym (transmit_is queue e own))
-          (transmit_unwanted x.sound none)
-      | inr other ↦ elim (cases_Bool (is_switch_of queue e)) [
-        | inl own ↦
-            subst (λ (n : Event Block). IsUnwanted queue (after s n)) (sym (switch_is queue e own))
-            (switch_unwanted x.sound none)
-        | inr apart ↦ ap (λ (u : TransmitQueue). u.wanted) (x.side other apart).side ∙ none
-      ]
+          subst (λ (n : Event Block). IsUnwanted queue (after s n)) (sym (switch_is queue e own))
+          (switch_unwanted queue s small x.sound none)
+      | inr apart ↦ ap (λ (u : TransmitQueue). u.wanted) (x.side other apart).side ∙ none
     ]
+  ]
 
-    off-stays : IsOff queue s → IsOff queue (after s e)
-    off-stays is = elim (cases_Bool (is_transmit_of queue e)) [
+  off-stays : IsOff queue s → IsOff queue (after s e)
+  off-stays is = elim (cases_Bool (is_transmit_of queue e)) [
+    | inl own ↦
+        subst (λ (n : Event Block). IsOff queue (after s n)) (sym (transmit_is queue e own))
+        (subst (λ (o : Outcome). IsOff queue o.state) (sym (idle queue s small is)) is)
+    | inr other ↦ elim (cases_Bool (is_switch_of queue e)) [
       | inl own ↦
-          subst (λ (n : Event Block). IsOff queue (after s n)) (sym (transmit_is queue e own))
-          (subst (λ (o : Outcome). IsOff queue o.state) (sym (idle is)) is)
-      | inr other ↦ elim (cases_Bool (is_switch_of queue e)) [
-        | inl own ↦
-            subst (λ (n : Event Block). IsOff queue (after s n)) (sym (switch_is queue e own)) (switch_off x.sound is)
-        | inr apart ↦
-            let same = (x.side other apart).side in
-            record {
-              off = ap (λ (u : TransmitQueue). u.on) same ∙ is.off;
-              unwanted = ap (λ (u : TransmitQueue). u.wanted) same ∙ is.unwanted;
-            }
-      ]
+          subst (λ (n : Event Block). IsOff queue (after s n)) (sym (switch_is queue e own))
+          (switch_off queue s small x.sound is)
+      | inr apart ↦
+          let same = (x.side other apart).side in
+          record {
+            off = ap (λ (u : TransmitQueue). u.on) same ∙ is.off;
+            unwanted = ap (λ (u : TransmitQueue). u.wanted) same ∙ is.unwanted;
+          }
     ]
+  ]
 
-    off-sends-none : IsOff queue s → sent_by queue s e ≡ []
-    off-sends-none is = elim (cases_Bool (is_transmit_of queue e)) [
-      | inl own ↦ subst (λ (n : Event Block). sent_by queue s n ≡ []) (sym (transmit_is queue e own)) (own_none is)
-      | inr other ↦ sent-none queue s e other
-    ]
-      where
-        own_none : IsOff queue s → sent_by queue s (event.TxStep queue) ≡ []
-        own_none is =
-            rw (eq-eqb queue queue refl)
-            (subst (λ (o : Outcome). frames_added s.out o.state.out ≡ []) (sym (idle is)) (added-none s.out))
+  off-sends-none : IsOff queue s → sent_by queue s e ≡ []
+  off-sends-none is = elim (cases_Bool (is_transmit_of queue e)) [
+    | inl own ↦ subst (λ (n : Event Block). sent_by queue s n ≡ []) (sym (transmit_is queue e own)) (own_none is)
+    | inr other ↦ sent-none queue s e other
+  ]
+    where
+      own_none : IsOff queue s → sent_by queue s (event.TxStep queue) ≡ []
+      own_none is =
+          rw (eq-eqb queue queue refl)
+          (subst (λ (o : Outcome). frames_added s.out o.state.out ≡ []) (sym (idle queue s small is))
+          (added-none s.out))
 
 -- a history
 

@@ -13,7 +13,8 @@ use Rattle.transmit_laws.specs.Sent.{sent_by}
 use Rattle.transmit_laws.specs.Turns.{MayMove}
 use Rattle.transmit_laws.proofs.Advancing.{advance_one}
 use Rattle.transmit_laws.proofs.Looking.{look_one}
-use Rattle.transmit_laws.proofs.Moving.{accept_one, ask_one, reap_one}
+use Rattle.transmit_laws.proofs.Asking.{ask_one}
+use Rattle.transmit_laws.proofs.Moving.{accept_one, reap_one}
 use Rattle.transmit_laws.proofs.Sparing.{spares-keeps}
 
 module _ (s : State) (queue : ℕ) (sent : List (List ℕ)) (v : Sender) (f : ℕ) (h : AgreesAt s queue sent v f) where

@@ -1,5 +1,6 @@
 pub mod Agreeing
 pub mod Alone
+pub mod Counting
 pub mod Laws
 pub mod Off
 pub mod Sent

@@ -5,6 +5,7 @@
 //! `specs/Turns` what a history is in which a pass is the driver.
 #![tactic(auto)]
 
+ghost use Rattle.transmit_laws.specs.Counting.{SentIsCounted, SentIsTold};
 ghost use Rattle.transmit_laws.specs.Off.{OffStays, GuardIsOff};
 ghost use Rattle.transmit_laws.specs.Laws.{StepsOfQueueKeep, SparingEventsKeep, LeftAloneIsSpared, MovesKeep, SentIsPrefix, IdleIsAllSent, WaitingIsNotAllSent, SentIsPrefixOfTaken, AloneMayRun, SentIsPrefixWhereAlone};
 
@@ -47,6 +48,18 @@ pub fn sent_in_order()
 pub fn sent_in_order_where_left_alone()
     ensures runs { AloneMayRun }
     ensures prefix { SentIsPrefixWhereAlone }
+{}
+
+/// The frames that a history sends on a queue, counted since the queue's transmit side last went on, are all that it
+/// sends where the side never goes on, and else all that it sends since the last time: an end of all, of one frame an
+/// entry at most.
+pub fn sent_is_counted_since_the_side_went_on()
+    ensures { SentIsCounted }
+{}
+
+/// The frames that a legal history of a sound device sends on a queue are as many, and as long, as its replies tell.
+pub fn sent_frames_are_told()
+    ensures { SentIsTold }
 {}
 
 /// A transmit side that isn't wanted on stays so, and one that is off besides stays off and sends nothing, over every

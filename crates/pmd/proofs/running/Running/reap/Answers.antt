@@ -1,7 +1,7 @@
 use Rattle.std.proofs.Common.{refl}
 use Rattle.pmd.specs.Running.{Running}
 use Rattle.pmd.proofs.Both.{transmit_plays}
-use Rattle.pmd.proofs.Sending.{reaped_up, some_freed, outstanding_away}
+use Rattle.pmd.proofs.Sending.{reaped_up, some_freed, outstanding_out}
 use Rattle.pmd.proofs.running.Running.reap.Goals as goal
 
 pub reap-requires : goal.reap-requires
@@ -11,7 +11,7 @@ reap-requires g c =
       receive = c.self.inside.receive;
       transmit = c.self.inside.transmit;
     } in
-    outstanding_away q c.self.invariant
+    outstanding_out q c.self.invariant
 
 pub invariant_of-self : goal.invariant_of-self
 invariant_of-self g c =

@@ -1,7 +1,8 @@
 use Rattle.std.proofs.Common.{◌≡◌, ℕ, true, false, sym, subst, ◌∙◌}
 use Rattle.dma_arena.specs.Numbers.{Numbers}
 use Rattle.pmd.specs.Running.{Running, IsUp, goes_back}
-use Rattle.pmd.proofs.Blocks.{back_goes, released_up, never_back}
+use Rattle.pmd_halt.proofs.Blocks.{never_back}
+use Rattle.pmd.proofs.Blocks.{back_goes, released_up}
 use Rattle.pmd.proofs.running.Running.release.Goals as goal
 
 pub invariant_of-self : goal.invariant_of-self

@@ -1,4 +1,4 @@
-use Rattle.std.proofs.Common.{◌≡◌, ◌∙◌, refl, arith}
+use Rattle.std.proofs.Common.{◌∙◌, arith}
 use Rattle.pmd_base.specs.Home.{Bringing, StopsBringing}
 use Rattle.pmd_base.proofs.Amid.{on_err}
 use Rattle.pmd_base.proofs.Bringing.{one_less, brings_more, brings_all}

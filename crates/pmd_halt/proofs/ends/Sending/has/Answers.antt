@@ -3,7 +3,8 @@ use Rattle.dma_arena.specs.Whereabouts.{times_in_hand}
 use Rattle.pmd_tx.specs.Leaving.{lent_of}
 use Rattle.pmd_halt.specs.Ends.{sent_way}
 use Rattle.pmd_halt.specs.declared.ends.Sending.{Sending}
-use Rattle.pmd_halt.proofs.Blocks.{lent_counted, counted}
+use Rattle.pmd_halt.proofs.Blocks.{counted}
+use Rattle.pmd_tx.proofs.Counting.{lent_counted}
 use Rattle.pmd_halt.proofs.ends.Sending.has.Goals as goal
 
 pub returns-in-Ring : goal.returns-in-Ring

@@ -1,5 +1,5 @@
 use Rattle.std.proofs.Common.{◌∙◌}
-use Rattle.pmd_queue.proofs.Sequences.{polled_here, missed_next}
+use Rattle.pmd_queue.proofs.Polling.{polled_here, missed_next}
 use Rattle.pmd_queue.proofs.names.Queue.poll.Goals as goal
 
 pub returns-then-branch-on-clause-made : goal.returns-then-branch-on-clause-made

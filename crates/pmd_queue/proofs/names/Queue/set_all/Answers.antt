@@ -1,6 +1,6 @@
 use Rattle.std.proofs.Common.{◌∙◌}
 use Rattle.std.proofs.lemmas.Result.{err_from_is_err_and}
-use Rattle.pmd_queue.proofs.Sequences.{words_stop, words_next}
+use Rattle.pmd_queue.proofs.Words.{words_stop, words_next}
 use Rattle.pmd_queue.proofs.names.Queue.set_all.Goals as goal
 
 pub returns-in_err-set-clause-failed : goal.returns-in_err-set-clause-failed

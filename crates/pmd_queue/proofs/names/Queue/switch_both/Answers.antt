@@ -1,7 +1,7 @@
 use Rattle.std.proofs.Common.{inr}
 use Rattle.std.proofs.lemmas.Result.{err_from_is_err_and}
 use Rattle.pmd_queue.specs.Both.{both_asked}
-use Rattle.pmd_queue.proofs.Sequences.{polled_left, left_end}
+use Rattle.pmd_queue.proofs.Polling.{polled_left, left_end}
 use Rattle.pmd_queue.proofs.names.Queue.switch_both.Goals as goal
 
 pub returns-in_err-_last-clause-failed : goal.returns-in_err-_last-clause-failed

@@ -1,5 +1,4 @@
 use Rattle.std.proofs.Common.{◌≡◌, true, false, refl, ap, ◌∙◌}
-use Rattle.pmd_tx.specs.Sending.{Sender}
 use Rattle.pmd_tx.specs.Sends.{forgotten}
 use Rattle.pmd_tx.proofs.Fields.{dropped_ring, some_blocks}
 use Rattle.pmd_tx.proofs.Viewed.{forgotten_shown}

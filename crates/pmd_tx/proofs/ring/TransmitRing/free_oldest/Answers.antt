@@ -18,6 +18,5 @@ returns-in-Ok-clause-freed g c =
 
 pub returns-in-Ok-clause-out : goal.returns-in-Ok-clause-out
 returns-in-Ok-clause-out g c =
-    out_rest c.args.arena.now c.give_back.new.arena c.args.self.now c.take_oldest.new.self c.in-Ok.buf.number
-    c.take_oldest.ensures.some c.in-Ok.ensures.block c.take_oldest.ensures.distinct c.requires.home
-    c.in-Ok.ensures.reaped c.give_back.ensures
+    out_rest c.args.arena.now c.args.self.now c.in-Ok.buf.number c.take_oldest.ensures.some c.in-Ok.ensures.block
+    c.requires.home c.give_back.new.arena c.take_oldest.new.self c.in-Ok.ensures.reaped c.give_back.ensures

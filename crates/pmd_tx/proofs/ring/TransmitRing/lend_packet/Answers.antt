@@ -1,4 +1,4 @@
-use Rattle.std.proofs.Common.{◌≡◌, List, [], ◌∷◌, ◌++◌, rules}
+use Rattle.std.proofs.Common.{◌≡◌, [], ◌∷◌, ◌++◌, rules}
 use Rattle.pmd_tx.proofs.Fields.{pushed_by}
 use Rattle.pmd_tx.proofs.ring.TransmitRing.lend_packet.Goals as goal
 

@@ -1,4 +1,3 @@
-use Rattle.std.proofs.Common.{◌∙◌}
 use Rattle.pmd_tx.specs.declared.answer.TxFault.{TxFault}
 use Rattle.pmd_tx.specs.Sends.{returned}
 use Rattle.pmd_tx.proofs.Passing.{may_after, accepted_after, kept_after, back_itself}

@@ -2,12 +2,11 @@
 use Rattle.std.proofs.Common.{refl, sym, ap, ◌∙◌, ◌≡◌, ℕ, suc, ◌+◌, true, false, cond, List, [], ◌∷◌, drop, length, length-drop, ◌<◌, Ok, Option, Some, None, MatchOption, IfSome, inl, inr, arith}
 use Rattle.std.specs.List.{prefix_len}
 use Rattle.std.proofs.lemmas.Bool.{cases_Bool}
-use Rattle.std.specs.Iterator.{YieldsFirstBy}
-use Rattle.lexer.specs.Lines.{NumberedLine, line_of, is_nothing, is_empty}
-use Rattle.lexer.specs.declared.lines.Line.{Line}
+use Rattle.lexer.specs.Lines.{NumberedLine, is_nothing, is_empty}
 use Rattle.lexer.specs.Words.{words_of, words_between_blanks}
-use Rattle.eeprom_image.specs.Content.{Content, with_line, with_lines, ◌then◌, sized, sized_by}
+use Rattle.eeprom_image.specs.Content.{Content, SaysFirst, with_line, with_lines, ◌then◌, sized, sized_by}
 use Rattle.eeprom_image.specs.Line.{text_line}
+use Rattle.eeprom_image.specs.declared.line.TextLine.{TextLine}
 use Rattle.eeprom_image.specs.declared.line.TextLine.TheVariants.{Empty}
 
 text_line-nothing : (text : List ℕ) → is_nothing text ≡ true → text_line text ≡ Empty
@@ -53,28 +52,36 @@ with_lines-empty content line more empty =
     ap (λ said. with_line content line.number said then λ given. with_lines given more)
     (text_line-nothing line.text empty)
 
--- the first line that isn't empty, where there is one, and those behind it
-abbrev IsNext : List NumberedLine → Option Line → List NumberedLine → Type 0
-IsNext lines result behind = YieldsFirstBy line_of (λ ls. ls) (filled lines) result behind
+-- what the first line says that isn't empty, where there is one, and those behind it
+abbrev IsNext : List NumberedLine → Option (ℕ × TextLine) → List NumberedLine → Type 0
+IsNext lines result behind = MatchOption result (filled lines ≡ []) (λ said. SaysFirst said.0 said.1 (filled lines) behind)
 
 with_lines-none : (content : Content) (lines : List NumberedLine) → lines ≡ [] → with_lines content lines ≡ Ok content
 unfolding with_lines
 with_lines-none content lines none = rw none refl
 
-pub with_lines-next : (content : Content) (lines behind : List NumberedLine) (result : Option Line)
+with_lines-first : (content : Content) (number : ℕ) (said : TextLine) (lines behind : List NumberedLine)
+    → SaysFirst number said lines behind
+    → with_lines content lines ≡ (with_line content number said then λ more. with_lines more behind)
+unfolding with_lines
+with_lines-first content number said lines behind says = ap (with_lines content) says.first
+    ∙ ap (λ s. with_line content number s then λ more. with_lines more behind) (sym says.says)
+
+pub with_lines-next : (content : Content) (lines behind : List NumberedLine) (result : Option (ℕ × TextLine))
     → IsNext lines result behind → MatchOption result (with_lines content lines ≡ Ok content)
-    (λ line. with_lines content lines ≡ with_lines content (line_of line ∷ behind))
+    (λ said. with_lines content lines ≡ (with_line content said.0 said.1 then λ more. with_lines more behind))
 with_lines-next content lines behind None next =
     sym (same-filled (with_lines content) (with_lines-empty content) lines)
-    ∙ with_lines-none content (filled lines) next.0
-with_lines-next content lines behind (Some line) next =
-    sym (same-filled (with_lines content) (with_lines-empty content) lines) ∙ ap (with_lines content) next
+    ∙ with_lines-none content (filled lines) next
+with_lines-next content lines behind (Some said) next =
+    sym (same-filled (with_lines content) (with_lines-empty content) lines)
+    ∙ with_lines-first content said.0 said.1 (filled lines) behind next
 
-pub shorter-next : (lines behind : List NumberedLine) (result : Option Line) → IsNext lines result behind
-    → IfSome result (λ line. length behind < length lines)
+pub shorter-next : (lines behind : List NumberedLine) (result : Option (ℕ × TextLine)) → IsNext lines result behind
+    → IfSome result (λ said. length behind < length lines)
 shorter-next lines behind None next = tt
-shorter-next lines behind (Some line) next =
-    omega (arith, ap length next, length-drop (prefix_len is_empty lines) lines)
+shorter-next lines behind (Some said) next =
+    omega (arith, ap length next.first, length-drop (prefix_len is_empty lines) lines)
 
 -- the size doesn't change with the empty lines in front
 pub sized-skip : (lines behind : List NumberedLine) (count : ℕ) → count ≡ prefix_len is_empty lines

@@ -22,3 +22,4 @@ pub mod Sizes
 pub mod Filled
 pub mod Started
 pub mod CountedLines
+pub mod PairLines

@@ -39,6 +39,12 @@ with_lines content [] = Ok content
 with_lines content (line ∷ lines) =
     with_line content line.number (text_line line.text) then λ more. with_lines more lines
 
+-- the first of these lines has the number and says this, and the others are left
+pub record SaysFirst (number : ℕ) (said : TextLine) (lines behind : List NumberedLine) : Type 0 where
+  pub text : List ℕ
+  pub first : lines ≡ record { number = number; text = text } ∷ behind
+  pub says : said ≡ text_line text
+
 -- a size and the lines behind it, where there is one
 abbrev pub Sized : Type 0
 Sized = Option (ℕ × List NumberedLine)

@@ -1,16 +1,15 @@
 //! What the lines of an EEPROM text give.
 
-ghost use Rattle.std.specs.Prelude.{◌≡◌, ◌+◌, ◌≤◌, ◌<◌, ◌^◌, ◌∷◌, length, Ok, MatchOption, IfSome, IfOk, IfErr};
+ghost use Rattle.std.specs.Prelude.{◌≡◌, ◌+◌, ◌≤◌, ◌<◌, ◌^◌, [], length, Ok, None, MatchOption, IfSome, IfOk, IfErr};
 ghost use Rattle.std.specs.Option.{option_map};
-ghost use Rattle.lexer.specs.Lines.{lines_of, line_of};
-ghost use Rattle.eeprom_image.specs.Content.{Content, with_line, with_lines, sized, content_of, only_size};
-ghost use Rattle.eeprom_image.specs.Line.{text_line};
+ghost use Rattle.lexer.specs.Lines.{lines_of};
+ghost use Rattle.eeprom_image.specs.Content.{Content, SaysFirst, with_line, with_lines, sized, content_of, only_size, ◌then◌};
 ghost use Rattle.eeprom_image.specs.Text.{Gives, Fails};
 ghost use Rattle.eeprom_image.specs.Draft.{content_in};
 
-use crate::line::{TextLine, text_line};
+use crate::line::{TextLine, csr_line, text_line, word_line};
 use crate::text::AsmFault;
-use lexer::{Line, Lines};
+use lexer::Lines;
 use std::alloc::Global;
 
 /// How many bytes a line takes at least that gives a word or a register write, so that neither list grows.
@@ -47,27 +46,54 @@ fn read_size(text: &str) -> Result<(u32, Lines<'_>), AsmFault>
     Err(AsmFault::Syntax(count + 1))
 }
 
-/// The next line that isn't empty: those before it give nothing. The lines behind it are left.
-fn next_filled<'a>(lines: &mut Lines<'a>) -> Option<Line<'a>>
+/// What the next line says, and its number, where it is a `word` or `csr` line that is read in one look.
+fn next_pair(lines: &mut Lines<'_>) -> Option<(usize, TextLine)>
+    ensures some { IfSome result (λ said. SaysFirst said.0 said.1 lines.old lines.new) }
+    ensures none { result ≡ None → lines.new ≡ lines.old }
+{
+    if let Some(pair) = lines.take_pair("word") {
+        return Some((pair.line, word_line(Some((pair.first, pair.second)))));
+    }
+    if let Some(pair) = lines.take_pair("csr") {
+        return Some((pair.line, csr_line(Some((pair.first, pair.second)))));
+    }
+    None
+}
+
+/// What the next line says, and its number.
+fn next_said(lines: &mut Lines<'_>) -> Option<(usize, TextLine)>
+    ensures { MatchOption result (lines.old ≡ []) (λ said. SaysFirst said.0 said.1 lines.old lines.new) }
+{
+    match next_pair(lines) {
+        Some(said) => Some(said),
+        None => {
+            let line = lines.next()?;
+            Some((line.number, text_line(line.text)))
+        }
+    }
+}
+
+/// What the next line says that isn't empty, and its number: those before it give nothing. The lines behind it are left.
+fn next_filled(lines: &mut Lines<'_>) -> Option<(usize, TextLine)>
     ensures given { (content : Content) → MatchOption result (with_lines content lines.old ≡ Ok content)
-        (λ line. with_lines content lines.old ≡ with_lines content (line_of line ∷ lines.new)) }
-    ensures shorter { IfSome result (λ line. length lines.new < length lines.old) }
+        (λ said. with_lines content lines.old
+        ≡ (with_line content said.0 said.1 then λ more. with_lines more lines.new)) }
+    ensures shorter { IfSome result (λ said. length lines.new < length lines.old) }
 {
     lines.skip_empty();
-    lines.next()
+    next_said(lines)
 }
 
 impl Draft {
-    /// Adds what one more line gives.
-    fn take_line(&mut self, line: Line<'_>) -> Result<(), AsmFault>
-        ensures { Gives (λ _. content_in self.new) result
-            (with_line (content_in self.old) line.entry.number (text_line line.entry.text.now)) }
+    /// Adds what one more line says, of this number.
+    fn take_line(&mut self, number: usize, said: TextLine) -> Result<(), AsmFault>
+        ensures { Gives (λ _. content_in self.new) result (with_line (content_in self.old) number said) }
     {
-        match text_line(line.text) {
+        match said {
             TextLine::Empty => {}
             TextLine::Word(index, value) => self.words.push((index, value))?,
             TextLine::Csr(offset, value) => self.triples.push((offset, value))?,
-            TextLine::Size(_) | TextLine::Malformed => return Err(AsmFault::Syntax(line.number)),
+            TextLine::Size(_) | TextLine::Malformed => return Err(AsmFault::Syntax(number)),
         }
         Ok(())
     }
@@ -77,8 +103,8 @@ impl Draft {
     fn take_lines(&mut self, mut lines: Lines<'_>) -> Result<(), AsmFault>
         ensures { Gives (λ _. content_in self.new) result (with_lines (content_in self.old) lines.entry) }
     {
-        'filled: while let Some(line) = next_filled(&mut lines) {
-            self.take_line(line)?;
+        'filled: while let Some((number, said)) = next_filled(&mut lines) {
+            self.take_line(number, said)?;
         }
         Ok(())
     }

@@ -57,7 +57,8 @@ fn size_line(count: Option<u32>) -> TextLine
     }
 }
 
-fn word_line(given: Option<(u32, u32)>) -> TextLine
+/// What a `word` line of these operands says.
+pub(crate) fn word_line(given: Option<(u32, u32)>) -> TextLine
     ensures { result ≡ word_line given }
 {
     match given {
@@ -66,7 +67,8 @@ fn word_line(given: Option<(u32, u32)>) -> TextLine
     }
 }
 
-fn csr_line(given: Option<(u32, u32)>) -> TextLine
+/// What a `csr` line of these operands says.
+pub(crate) fn csr_line(given: Option<(u32, u32)>) -> TextLine
     ensures { result ≡ csr_line given }
 {
     match given {

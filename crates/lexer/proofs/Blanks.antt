@@ -1,10 +1,10 @@
 -- Where blanks and words end in a text.
-use Rattle.std.proofs.Common.{sym, subst, ◌≡◌, ℕ, zero, suc, ◌+◌, ◌<◌, not, Bool, true, false, List, length, get_or, Some, None, inl, inr, arith}
-use Rattle.std.specs.List.{position, position_or_len}
+use Rattle.std.proofs.Common.{refl, sym, subst, ◌≡◌, ℕ, zero, suc, ◌+◌, ◌<◌, not, Bool, true, false, List, length, get_or, Some, None, inl, inr, arith}
+use Rattle.std.specs.List.{position, position_or_len, prefix_len}
 use Rattle.std.specs.Str.{IsUtf8, IsCharBoundary}
 use Rattle.std.proofs.lemmas.Bool.{lt-ltb, cases_lt}
 use Rattle.std.proofs.lemmas.Bool.Decides.{nat_tests}
-use Rattle.std.proofs.lemmas.List.Sums.{prefix_len-le-length, fails_before_first, passes_at_first}
+use Rattle.std.proofs.lemmas.List.Sums.{prefix_len-le-length, prefix_len_passes, passes_at_first}
 use Rattle.std.proofs.lemmas.Str.{IsCharBoundary-start, IsCharBoundary-end, IsCharBoundary-before_ascii, IsCharBoundary-after_ascii}
 use Rattle.lexer.specs.Words.{is_blank, ends_word}
 use borrow.Author.Tests.{le-ltb}
@@ -24,32 +24,36 @@ position-none test text none = elim (cases_lt (position_or_len test text) (lengt
   | inr above ↦ omega (arith, prefix_len-le-length (λ byte. not (test byte)) text)
 ]
 
-not_false : (b : Bool) → not b ≡ false → b ≡ true
-not_false true h = cc
-not_false false h = cc
-
 is_blank-ascii : (byte : ℕ) → is_blank byte ≡ true → byte < 128
 is_blank-ascii byte blank = grind (arith, nat_tests)
 
 ends_word-ascii : (byte : ℕ) → ends_word byte ≡ true → byte < 128
 ends_word-ascii byte end = grind (arith, nat_tests)
 
-behind : (text : List ℕ) (n : ℕ) → n ≡ position_or_len (λ byte. not (is_blank byte)) text → IsUtf8 text
-    → IsCharBoundary text n
-behind text zero is utf8 = IsCharBoundary-start text utf8
-behind text (suc k) is utf8 =
-    let inside : k < position_or_len (λ byte. not (is_blank byte)) text = omega arith in
-    let below : k < length text = omega (arith, prefix_len-le-length (λ byte. not (not (is_blank byte))) text) in
-    let none = fails_before_first (λ byte. not (is_blank byte)) text k 0 inside in
-    let blank = not_false (is_blank (get_or text k 0)) none in
+behind : (test : ℕ → Bool) → ((byte : ℕ) → test byte ≡ true → byte < 128) → (text : List ℕ) (n : ℕ)
+    → n ≡ prefix_len test text → IsUtf8 text → IsCharBoundary text n
+behind test ascii text zero is utf8 = IsCharBoundary-start text utf8
+behind test ascii text (suc k) is utf8 =
+    let inside : k < prefix_len test text = omega arith in
+    let below : k < length text = omega (arith, prefix_len-le-length test text) in
     let next : k + 1 ≡ suc k = omega arith in
     subst (IsCharBoundary text) next
-    (IsCharBoundary-after_ascii text k utf8 below (is_blank-ascii (get_or text k 0) blank))
+    (IsCharBoundary-after_ascii text k utf8 below (ascii (get_or text k 0) (prefix_len_passes test text k 0 inside)))
+
+-- a character begins behind the ASCII bytes in front that pass a test
+pub IsCharBoundary-behind : (test : ℕ → Bool) → ((byte : ℕ) → test byte ≡ true → byte < 128) → (text : List ℕ) (n : ℕ)
+    → n ≡ prefix_len test text → IsUtf8 text → IsCharBoundary text n
+IsCharBoundary-behind test ascii text n is utf8 = behind test ascii text n is utf8
+
+not_not : (b : Bool) → not (not b) ≡ true → b ≡ true
+not_not true h = refl
+not_not false h = cc
 
 -- a character begins behind the blanks in front
 pub IsCharBoundary-behind_blanks : (text : List ℕ) (n : ℕ) → n ≡ position_or_len (λ byte. not (is_blank byte)) text
     → IsUtf8 text → IsCharBoundary text n
-IsCharBoundary-behind_blanks text n is utf8 = behind text n is utf8
+IsCharBoundary-behind_blanks text n is utf8 = IsCharBoundary-behind (λ byte. not (not (is_blank byte)))
+    (λ byte blank. is_blank-ascii byte (not_not (is_blank byte) blank)) text n is utf8
 
 -- a character begins at the end of a word
 pub IsCharBoundary-end_of_word : (text : List ℕ) (n : ℕ) → n ≡ position_or_len ends_word text → IsCharBoundary text n

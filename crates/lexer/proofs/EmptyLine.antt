@@ -8,7 +8,7 @@ use Rattle.lexer.specs.Lines.{is_nothing}
 use Rattle.lexer.proofs.Parts.{slice_split-HasFirst}
 use Rattle.lexer.proofs.FirstLine.{more_parts}
 
-abbrev ends_line : ℕ → Bool
+abbrev pub ends_line : ℕ → Bool
 ends_line byte = byte == 10
 
 -- a line feed in front ends an empty line
@@ -52,7 +52,7 @@ stripped byte (next ∷ part) other =
     stripped-some (get_or (byte ∷ next ∷ part) (length (byte ∷ next ∷ part) - 1) 0 == 13) byte (next ∷ part)
     (length (byte ∷ next ∷ part) - 1) (omega arith)
 
-is_some : (byte : ℕ) (part : List ℕ) → (length (byte ∷ part) == 0) ≡ false
+pub is_some : (byte : ℕ) (part : List ℕ) → (length (byte ∷ part) == 0) ≡ false
 is_some byte part = grind (arith, nat_tests)
 
 first-filled : (byte : ℕ) (more : List ℕ) (parts : List (List ℕ)) → slice_split ends_line more ≡ parts

@@ -5,5 +5,10 @@ pub mod FirstWord
 pub mod WordsBehind
 pub mod FirstLine
 pub mod Digits
+pub mod FrontDigits
+pub mod FrontNumber
 pub mod EmptyLine
 pub mod SkippedLines
+pub mod LineBytes
+pub mod LineWords
+pub mod FrontLine

@@ -25,8 +25,19 @@ filled-none hash blank (byte ∷ more) begins empty = elim (cases_Bool (hash byt
       absurd (omega (arith, eqb-true (length (take (end_in hash blank (byte ∷ more)) (byte ∷ more))) 0 empty, front))
 ]
 
-abbrev front_of : (ℕ → Bool) → List ℕ → ℕ
+abbrev pub front_of : (ℕ → Bool) → List ℕ → ℕ
 front_of blank text = position_or_len (λ byte. not (blank byte)) text
+
+pub drop-blank : (blank : ℕ → Bool) (byte : ℕ) (more : List ℕ) → blank byte ≡ true
+    → drop (front_of blank (byte ∷ more)) (byte ∷ more) ≡ drop (front_of blank more) more
+drop-blank blank byte more hit =
+    ap (λ n. drop n (byte ∷ more)) (position-no (λ b. not (blank b)) byte more (ap not hit))
+    ∙ drop_next (front_of blank more) byte more
+
+pub drop-unblank : (blank : ℕ → Bool) (byte : ℕ) (more : List ℕ) → blank byte ≡ false
+    → drop (front_of blank (byte ∷ more)) (byte ∷ more) ≡ byte ∷ more
+drop-unblank blank byte more other =
+    ap (λ n. drop n (byte ∷ more)) (position-yes (λ b. not (blank b)) byte more (ap not other))
 
 -- behind the blanks in front the same words stand, and no blank
 abbrev Behind : (ℕ → Bool) → (ℕ → Bool) → List ℕ → Type 0
@@ -36,9 +47,7 @@ Behind hash blank text = BeginsUnblank blank (drop (front_of blank text) text)
 behind-blank : (hash blank : ℕ → Bool) (byte : ℕ) (more : List ℕ) → hash byte ≡ false → blank byte ≡ true
     → Behind hash blank more → Behind hash blank (byte ∷ more)
 behind-blank hash blank byte more plain hit (begins, same) =
-    let next = position-no (λ b. not (blank b)) byte more (ap not hit) in
-    let behind : drop (front_of blank (byte ∷ more)) (byte ∷ more) ≡ drop (front_of blank more) more =
-    ap (λ n. drop n (byte ∷ more)) next ∙ drop_next (front_of blank more) byte more in (
+    let behind = drop-blank blank byte more hit in (
       subst (BeginsUnblank blank) (sym behind) begins,
       ap filled (parts-blank hash blank byte more plain hit) ∙ same
           ∙ ap (λ text. filled (parts_of hash blank text)) (sym behind),
@@ -47,9 +56,7 @@ behind-blank hash blank byte more plain hit (begins, same) =
 behind-other : (hash blank : ℕ → Bool) (byte : ℕ) (more : List ℕ) → blank byte ≡ false
     → Behind hash blank (byte ∷ more)
 behind-other hash blank byte more other =
-    let none = position-yes (λ b. not (blank b)) byte more (ap not other) in
-    let behind : drop (front_of blank (byte ∷ more)) (byte ∷ more) ≡ byte ∷ more =
-    ap (λ n. drop n (byte ∷ more)) none in (
+    let behind = drop-unblank blank byte more other in (
       subst (BeginsUnblank blank) (sym behind) other,
       ap (λ text. filled (parts_of hash blank text)) (sym behind),
     )
@@ -64,10 +71,10 @@ behind-blanks hash blank apart (byte ∷ more) =
       | inr other ↦ behind-other hash blank byte more other
     ]
 
-abbrev is_hash : ℕ → Bool
+abbrev pub is_hash : ℕ → Bool
 is_hash byte = byte == 35
 
-blank-apart : (byte : ℕ) → is_blank byte ≡ true → is_hash byte ≡ false
+pub blank-apart : (byte : ℕ) → is_blank byte ≡ true → is_hash byte ≡ false
 blank-apart byte blank = grind (arith, nat_tests)
 
 -- a text without a byte before the end of its first word has no words

@@ -3,3 +3,5 @@ pub mod Words
 pub mod Number
 pub mod Name
 pub mod HexData
+pub mod Pair
+pub mod TakenPair

@@ -8,10 +8,11 @@ mod hex_data;
 mod lines;
 mod names;
 mod numbers;
+mod pairs;
 mod words;
 
 pub use hex_data::{HexFault, hex_bytes};
-pub use lines::{Line, Lines};
+pub use lines::{Line, Lines, Pair};
 pub use names::{NAME_LIMIT, is_name};
 pub use numbers::{NumberFault, number};
 pub use words::Words;

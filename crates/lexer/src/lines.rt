@@ -6,6 +6,7 @@ ghost use Rattle.std.specs.Iterator.{YieldsFirstBy, item_count};
 ghost use Rattle.std.specs.List.{prefix_len};
 ghost use Rattle.lexer.specs.Lines.{lines_of, is_nothing};
 
+use crate::pairs::pair_in_front;
 use std::marker::Model;
 
 /// A line of a text, without its end.
@@ -15,6 +16,17 @@ pub struct Line<'a> {
     pub number: usize,
     /// What stands on it.
     pub text: &'a str,
+}
+
+/// A line of a name and two numbers.
+#[derive(Clone, Copy, Debug, PartialEq, Eq)]
+pub struct Pair {
+    /// Its number in the text, from 1 on.
+    pub line: usize,
+    /// The first number.
+    pub first: u32,
+    /// The second one.
+    pub second: u32,
 }
 
 /// The lines of a text, in order.
@@ -54,7 +66,7 @@ fn behind_return(text: &str) -> Option<&str>
 }
 
 /// What stands behind the first line of a text, where that line is empty.
-fn behind_empty(text: &str) -> Option<&str>
+pub(crate) fn behind_empty(text: &str) -> Option<&str>
     ensures cases { MatchOption result (prefix_len is_nothing (lines text.now) ≡ 0)
         (λ behind. lines text.now ≡ [] ∷ lines behind.now) }
     ensures shorter { IfSome result (λ behind. length behind.now < length text.now) }
@@ -66,8 +78,10 @@ fn behind_empty(text: &str) -> Option<&str>
 }
 
 impl<'a> Lines<'a> {
-    ghost use Rattle.std.specs.Prelude.{drop};
+    ghost use Rattle.std.specs.Prelude.{drop, true, None};
     ghost use Rattle.lexer.specs.Lines.{is_empty};
+    ghost use Rattle.lexer.specs.Name.{is_name};
+    ghost use Rattle.lexer.specs.TakenPair.{TakesPair};
 
     /// The lines of a text.
     #[tactic(auto, unfolding(crate::specs::Lines::lines_of))]
@@ -93,6 +107,26 @@ impl<'a> Lines<'a> {
         }
         count
     }
+
+    /// Goes past the next line where it begins with the name and has two numbers and no other words, and
+    /// gives these. It is read as it stands, without a look for its end before.
+    ///
+    /// After `None` the lines are as they were. It says nothing of the next line: one of that form is left
+    /// too where blanks stand before its name, or no line feed behind it.
+    pub fn take_pair(&mut self, name: &str) -> Option<Pair>
+        requires { is_name name.now ≡ true }
+        ensures some { IfSome result (λ pair. TakesPair name.now pair self.old self.new) }
+        ensures none { result ≡ None → self.new ≡ self.old }
+    {
+        let (first, second, rest) = pair_in_front(name, self.rest)?;
+        self.rest = rest;
+        self.before += 1;
+        Some(Pair {
+            line: self.before,
+            first,
+            second,
+        })
+    }
 }
 
 /// A line without the carriage return at its end, if it has one.
@@ -106,7 +140,7 @@ fn without_carriage_return(line: &str) -> &str
 }
 
 /// The first line of a text, and what stands behind its end.
-fn split_line(text: &str) -> Option<(&str, &str)>
+pub(crate) fn split_line(text: &str) -> Option<(&str, &str)>
     ensures cases { MatchOption result (lines text.now ≡ [])
         (λ parts. lines text.now ≡ parts.0.now ∷ lines parts.1.now) }
     ensures shorter { IfSome result (λ parts. length parts.1.now < length text.now) }

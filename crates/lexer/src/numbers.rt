@@ -1,8 +1,8 @@
 //! Numbers.
 
-ghost use Rattle.std.specs.Prelude.{◌≡◌, ◌≤◌, ◌<◌, true, false, MatchOption};
-ghost use Rattle.std.specs.Char.{is_digit, digit_value};
-ghost use Rattle.lexer.specs.Number.{numeral_of, capped_numeral, number_of};
+ghost use Rattle.std.specs.Prelude.{◌≡◌, ◌≤◌, Some, Ok, take, drop, IfSome};
+ghost use Rattle.std.specs.Char.{digit_value};
+ghost use Rattle.lexer.specs.Number.{numeral_of, capped_numeral, digits_in_front, number_of, IsNumberInFront};
 
 use thiserror::Error;
 
@@ -20,34 +20,52 @@ pub enum NumberFault {
 /// The least number that is too large.
 const TOO_LARGE: u64 = 0x1_0000_0000;
 
-/// The value of a digit of the radix.
-fn digit_in(radix: u32, byte: u8) -> Option<u32>
+/// The value of a digit or a letter, as a digit of radix 36; 36 for every other byte.
+fn digit_value(byte: u8) -> u8
+    ensures { result ≡ digit_value byte }
+{
+    match byte {
+        b'0'..=b'9' => byte - b'0',
+        b'A'..=b'Z' => byte - b'A' + 10,
+        b'a'..=b'z' => byte - b'a' + 10,
+        _ => 36,
+    }
+}
+
+/// The number that the digits of the radix in front write, 2^32 in place of a greater one, and what stands behind them.
+fn split_numeral(radix: u8, bytes: &[u8]) -> (u64, &[u8])
     requires low { 2 ≤ radix }
     requires high { radix ≤ 36 }
-    ensures { MatchOption result (is_digit byte radix ≡ false)
-        (λ digit. (is_digit byte radix ≡ true) × (digit ≡ digit_value byte) × (digit < 36)) }
+    ensures value { capped_numeral radix 0 (take (digits_in_front radix bytes.now) bytes.now) ≡ Some result.0 }
+    ensures behind { result.1.now ≡ drop (digits_in_front radix bytes.now) bytes.now }
 {
-    char::from(byte).to_digit(radix)
+    let mut value = 0;
+    let mut rest = bytes;
+    'each: while let Some((byte, more)) = rest.split_first() {
+        let digit = digit_value(*byte);
+        if digit >= radix {
+            break;
+        }
+        value = (value * u64::from(radix) + u64::from(digit)).min(TOO_LARGE);
+        rest = more;
+    }
+    (value, rest)
 }
 
 /// The number that digits of the radix write, 2^32 in place of a greater one. `None` where there is another character.
-fn capped_numeral(radix: u32, digits: &[u8]) -> Option<u64>
+fn capped_numeral(radix: u8, digits: &[u8]) -> Option<u64>
     requires low { 2 ≤ radix }
     requires high { radix ≤ 36 }
     ensures { result ≡ capped_numeral radix 0 digits.now }
 {
-    let mut value = 0;
-    let mut rest = digits;
-    'each: while let [byte, more @ ..] = rest {
-        let digit = digit_in(radix, *byte)?;
-        value = (value * u64::from(radix) + u64::from(digit)).min(TOO_LARGE);
-        rest = more;
+    match split_numeral(radix, digits) {
+        (value, []) => Some(value),
+        (_, [_, ..]) => None,
     }
-    Some(value)
 }
 
 /// The number that digits of the radix write.
-fn numeral(radix: u32, word: &str) -> Result<u32, NumberFault>
+fn numeral(radix: u8, word: &str) -> Result<u32, NumberFault>
     requires low { 2 ≤ radix }
     requires high { radix ≤ 36 }
     ensures { result ≡ numeral_of radix word.now }
@@ -59,6 +77,36 @@ fn numeral(radix: u32, word: &str) -> Result<u32, NumberFault>
         None => Err(NumberFault::Malformed),
         Some(value) if value < TOO_LARGE => Ok(value as u32),
         Some(_) => Err(NumberFault::TooLarge),
+    }
+}
+
+/// The number that the digits of the radix in front write, and what stands behind them. `None` where there is no digit,
+/// and where the number is too large.
+fn numeral_in_front(radix: u8, text: &str) -> Option<(u32, &str)>
+    requires low { 2 ≤ radix }
+    requires high { radix ≤ 36 }
+    ensures { IfSome result (λ split.
+        (numeral_of radix (take (digits_in_front radix text.now) text.now) ≡ Ok split.0)
+        × (split.1.now ≡ drop (digits_in_front radix text.now) text.now)) }
+{
+    let (value, behind) = split_numeral(radix, text.as_bytes());
+    let count = text.len() - behind.len();
+    if count == 0 {
+        return None;
+    }
+    if value >= TOO_LARGE {
+        return None;
+    }
+    Some((value as u32, &text[count..]))
+}
+
+/// The number in front, and what stands behind its last digit. `None` where there is no number, or one too large.
+pub(crate) fn number_in_front(text: &str) -> Option<(u32, &str)>
+    ensures { IfSome result (λ split. IsNumberInFront text.now split.0 split.1.now) }
+{
+    match text.strip_prefix("0x") {
+        Some(digits) => numeral_in_front(16, digits),
+        None => numeral_in_front(10, text),
     }
 }
 

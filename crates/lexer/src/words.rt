@@ -71,7 +71,7 @@ fn word_length(bytes: &[u8]) -> usize
 }
 
 /// A text without the blanks in front.
-fn behind_blanks(text: &str) -> &str
+pub(crate) fn behind_blanks(text: &str) -> &str
     ensures { result.now ≡ drop (position_or_len (λ byte. not (is_blank byte)) text.now) text.now }
 {
     let blanks = blanks_in_front(text.as_bytes());

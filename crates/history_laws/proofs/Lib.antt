@@ -1,8 +1,14 @@
+pub mod Aligned
 pub mod Alone
 pub mod Beginning
+pub mod LowResets
+pub mod LowWords
 pub mod Modes
 pub mod Naming
 pub mod Parting
+pub mod Reported
+pub mod Rings
+pub mod RingsReceived
 pub mod Sound
 pub mod Sparing
 pub mod Written

@@ -1,2 +1,3 @@
+pub mod Aligned
 pub mod Alone
 pub mod Laws

@@ -3,6 +3,7 @@
 //! Each law is the contract of a function that does nothing.
 #![tactic(auto)]
 
+ghost use Rattle.history_laws.specs.Aligned.{NewRingsAreAligned, EventsKeepAligned, HistoriesKeepAligned, ReportsLieInBlocks};
 ghost use Rattle.history_laws.specs.Laws.{ModeIsTold, AloneByEntries, BeginningIsAlone, HistoriesKeepSound};
 
 /// The mode by which the queues are parted among pools, read off the entries of a history, is the device's own: what
@@ -21,4 +22,13 @@ pub fn queue_is_left_alone_by_entries()
 /// A sound device stays sound over a history of events that a driver can make.
 pub fn histories_keep_devices_sound()
     ensures { HistoriesKeepSound }
+{}
+
+/// The base and the length of each ring of a device are multiples of 128, in a new device and through every history; and
+/// so what a step of transmitting reports lies in the block where it begins.
+pub fn rings_stay_aligned()
+    ensures new { NewRingsAreAligned }
+    ensures event { EventsKeepAligned }
+    ensures history { HistoriesKeepAligned }
+    ensures reports { ReportsLieInBlocks }
 {}

@@ -22,20 +22,23 @@ use Rattle.device_lock.specs.declared.entry.Entry.{Entry}
 use Rattle.pmd_base.specs.Events.{is_step}
 use Rattle.pmd_rx.specs.Plays.{OwnCall, after_call}
 use Rattle.pmd_rx.specs.Receive.{Receive, Layout, Stage, Looks, Sees, Holding, Lent, Named, IsOwn, LendsNext, drive}
+use Rattle.history_laws.specs.Aligned.{AreAligned}
+use Rattle.history_laws.proofs.Aligned.{events_aligned}
 use Rattle.history_laws.proofs.Modes.{event_told}
 use Rattle.receive_laws.specs.Histories.{SparesReceive}
 use Rattle.receive_laws.specs.Joint.{Agree}
 use Rattle.receive_laws.specs.Pieces.{Piece, pieces}
-use Rattle.receive_laws.specs.Steps.{Each, IsMetBy, ReportsInside, OwnReportsSpare}
+use Rattle.receive_laws.specs.Steps.{Each, IsMetBy, OwnReportsSpare}
 use Rattle.receive_laws.proofs.Foreign.{foreign_keeps, steps_keep}
 use Rattle.receive_laws.proofs.Kept.{leaving_keeps}
 use Rattle.receive_laws.proofs.Mine.{LendsMine, mine_driven}
 use Rattle.receive_laws.proofs.Own.{own_keeps}
 
--- what holds between two entries: the device is sound, its image blank, the mode is the one that was told, the two
--- agree, and the driver's blocks are among these
+-- what holds between two entries: the device is sound, its rings aligned, its image blank, the mode is the one that was
+-- told, the two agree, and the driver's blocks are among these
 pub record Meets (w : Watched) (mine : Blocks) (mode : Mode) (s : State) (out : List Piece) (v : Receive) : Type 0 where
   pub sound : IsSound s
+  pub aligned : AreAligned s.registers
   pub image : s.image ≡ blank
   pub vfs : w.vfs ≡ s.vfs
   pub mode_is : mode ≡ mode_in s.registers
@@ -71,7 +74,7 @@ module _ (w : Watched) (mine : Blocks) (mode : Mode) (s : State) (out : List Pie
   t = after s e.event
 
   met : IsMetBy w mode s e
-  met = record { sound = m.sound; vfs = m.vfs; mode_is = m.mode_is; reply = legal; event = made }
+  met = record { sound = m.sound; aligned = m.aligned; vfs = m.vfs; mode_is = m.mode_is; reply = legal; event = made }
 
   goes_to : (u : Receive) → Agree w.queue t (out ++ pieces w.queue s e.event) u → Each u (λ b. IsTrue (mine b))
       → Meets w mine (mode_after w.vfs mode e.event) t (out ++ pieces w.queue s e.event) u
@@ -79,6 +82,7 @@ module _ (w : Watched) (mine : Blocks) (mode : Mode) (s : State) (out : List Pie
       let stays = (step_leads s e.event).stays in
       record {
         sound = keeps_sound s m.sound e.event made;
+        aligned = events_aligned s e.event m.sound m.aligned;
         image = stays.image ∙ m.image;
         vfs = m.vfs ∙ sym stays.vfs;
         mode_is = (λ k. mode_after (m.vfs k) (m.mode_is k) e.event) ∙ event_told s m.sound m.image e.event;
@@ -98,28 +102,28 @@ module _ (w : Watched) (mine : Blocks) (mode : Mode) (s : State) (out : List Pie
       (mine_driven mine v m.lent e.event e.reply
       (lends_mine w.pass mine v e.pass e.event e.reply same own covers))
 
-  spared : SparesReceive w.queue v s e → ReportsInside s → OwnReportsSpare w.queue v s
+  spared : SparesReceive w.queue v s e → OwnReportsSpare w.queue v s
       → Agree w.queue t (out ++ pieces w.queue s e.event) v
-  spared (inl step) inside reports = steps_keep w mine mode s out v e met m.agree m.lent inside reports alone step
-  spared (inr free) inside reports =
+  spared (inl step) reports = steps_keep w mine mode s out v e met m.agree m.lent reports alone step
+  spared (inr free) reports =
       subst (λ xs. Agree w.queue t (out ++ xs) v) (sym (none_written w.queue s e.event free.0))
       (subst (λ xs. Agree w.queue t xs v) (sym (append-nil out)) (leaving_keeps w.queue s t out v free.1 m.agree))
 
   -- another call of the pass
-  unmarked_entry : SparesReceive w.queue v s e → ReportsInside s → OwnReportsSpare w.queue v s
+  unmarked_entry : SparesReceive w.queue v s e → OwnReportsSpare w.queue v s
       → Meets w mine (mode_after w.vfs mode e.event) t (out ++ pieces w.queue s e.event) v
-  unmarked_entry spares inside reports = goes_to v (spared spares inside reports) m.lent
+  unmarked_entry spares reports = goes_to v (spared spares reports) m.lent
 
   -- an entry of another pass
-  pub foreign_entry : e.pass ≢ w.pass → ReportsInside s → OwnReportsSpare w.queue v s
+  pub foreign_entry : e.pass ≢ w.pass → OwnReportsSpare w.queue v s
       → Meets w mine (mode_after w.vfs mode e.event) t (out ++ pieces w.queue s e.event) v
-  foreign_entry other inside reports =
-      goes_to v (foreign_keeps w mine mode s out v e met m.agree m.lent inside reports alone other) m.lent
+  foreign_entry other reports =
+      goes_to v (foreign_keeps w mine mode s out v e met m.agree m.lent reports alone other) m.lent
 
   -- by its mark
   pub marked_entry : (b : Bool) → e.pass ≡ w.pass → OwnCall b v (call_in e)
-      → (IsFalse b → SparesReceive w.queue v s e) → ReportsInside s → OwnReportsSpare w.queue v s
+      → (IsFalse b → SparesReceive w.queue v s e) → OwnReportsSpare w.queue v s
       → ((n : ℕ) → IsTrue (lent_in w.pass e n) → IsTrue (mine n))
       → Meets w mine (mode_after w.vfs mode e.event) t (out ++ pieces w.queue s e.event) (after_call v b (call_in e))
-  marked_entry true same own spares inside reports covers = own_entry same own covers
-  marked_entry false same own spares inside reports covers = unmarked_entry (spares refl) inside reports
+  marked_entry true same own spares reports covers = own_entry same own covers
+  marked_entry false same own spares reports covers = unmarked_entry (spares refl) reports

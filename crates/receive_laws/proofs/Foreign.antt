@@ -26,9 +26,10 @@ use Rattle.device_laws.proofs.StandingRest.{arrival_rest, message_rest, eeprom_r
 use Rattle.device_lock.specs.Alone.{Blocks, WritesOutside, SparesIfSome, place_at, LeavesRegisters, LeavesBlocks}
 use Rattle.device_lock.specs.declared.alone.Watched.{Watched}
 use Rattle.pmd_rx.specs.Receive.{Receive}
+use Rattle.history_laws.specs.Aligned.{AreAligned}
 use Rattle.receive_laws.specs.Joint.{Agree}
 use Rattle.receive_laws.specs.Pieces.{Piece, pieces}
-use Rattle.receive_laws.specs.Steps.{Each, Leaves, ReportsInside, OwnReportsSpare, ForeignEntryKeeps, DeviceStepKeeps}
+use Rattle.receive_laws.specs.Steps.{Each, Leaves, OwnReportsSpare, ForeignEntryKeeps, DeviceStepKeeps}
 use Rattle.receive_laws.proofs.Each.{each_map}
 use Rattle.receive_laws.proofs.Kept.{leaving_keeps}
 use Rattle.receive_laws.proofs.Received.{receive_keeps}
@@ -38,7 +39,8 @@ use Rattle.receive_laws.proofs.Writing.{left_memory, write_leaves}
 use Rattle.receive_laws.proofs.Clear.{spares_mine, no_registers}
 
 module _ (w : Watched) (mine : Blocks) (s : State) (out : List Piece) (v : Receive) (sound : IsSound s)
-    (vfs : w.vfs ≡ s.vfs) (j : Agree w.queue s out v) (m : Each v (λ b. IsTrue (mine b))) where
+    (aligned : AreAligned s.registers) (vfs : w.vfs ≡ s.vfs) (j : Agree w.queue s out v)
+    (m : Each v (λ b. IsTrue (mine b))) where
   still : (t : State) → Leaves w.queue v s t → Agree w.queue t (out ++ []) v
   still t l = subst (λ xs. Agree w.queue t xs v) (sym (append-nil out)) (leaving_keeps w.queue s t out v l j)
 
@@ -90,51 +92,51 @@ module _ (w : Watched) (mine : Blocks) (s : State) (out : List Piece) (v : Recei
         (switching_rest s Rx queue).memory
   ]
 
-  entry_keeps : ReportsInside s → OwnReportsSpare w.queue v s → (e : Event Block) → IsEvent e
+  entry_keeps : OwnReportsSpare w.queue v s → (e : Event Block) → IsEvent e
       → LeavesRegisters w (mode_in s.registers) e → LeavesBlocks mine e
       → WritesOutside w.queue mine (reply_to s e) → Agree w.queue (after s e) (out ++ pieces w.queue s e) v
-  entry_keeps inside spare (event.Read port n) is registers blocks steps =
+  entry_keeps spare (event.Read port n) is registers blocks steps =
       quiet (event.Read port n) tt ((read_rest s port n).queues.receive w.queue) (read_rest s port n).memory
-  entry_keeps inside spare (event.Write port n word) is registers blocks steps =
+  entry_keeps spare (event.Write port n word) is registers blocks steps =
       still (after s (event.Write port n word))
       (write_leaves w.queue v s port n word
       (subst (λ k. SparesIfSome w.queue (mode_in s.registers) (place_at (mode_in s.registers) k port n) word) vfs
       registers))
-  entry_keeps inside spare (event.Lend b) is registers blocks steps =
+  entry_keeps spare (event.Lend b) is registers blocks steps =
       spared (event.Lend b) tt ((memory_rest.lend s b).queues.receive w.queue)
       (each_map v (λ c. IsTrue (mine c)) (λ c. LeavesBlock c s (after s (event.Lend b)))
       (λ c i. memory_blocks.lend s b c (not_mine mine c b.number blocks i)) m)
-  entry_keeps inside spare (event.Take n) is registers blocks steps =
+  entry_keeps spare (event.Take n) is registers blocks steps =
       spared (event.Take n) tt ((memory_rest.take s n).queues.receive w.queue)
       (each_map v (λ c. IsTrue (mine c)) (λ c. LeavesBlock c s (after s (event.Take n)))
       (λ c i. memory_blocks.take s n c (not_mine mine c n blocks i)) m)
-  entry_keeps inside spare (event.Peek16 a) is registers blocks steps =
+  entry_keeps spare (event.Peek16 a) is registers blocks steps =
       quiet (event.Peek16 a) tt ((memory_rest.peek s a).queues.receive w.queue) (memory_blocks.peek s a)
-  entry_keeps inside spare (event.Poke16 a bytes) is registers blocks steps = poked a bytes is.1 blocks
-  entry_keeps inside spare (event.Arrive frame) is registers blocks steps =
+  entry_keeps spare (event.Poke16 a bytes) is registers blocks steps = poked a bytes is.1 blocks
+  entry_keeps spare (event.Arrive frame) is registers blocks steps =
       quiet (event.Arrive frame) tt ((arrival_rest s frame).queues.receive w.queue) (arrival_rest s frame).memory
-  entry_keeps inside spare event.RxStep is registers blocks steps =
+  entry_keeps spare event.RxStep is registers blocks steps =
       receive_keeps w.queue s out v sound j (spares_mine w.queue mine v (reply_to s event.RxStep) m steps)
-  entry_keeps inside spare (event.TxStep queue) is registers blocks steps =
-      still (after s (event.TxStep queue)) (transmit_leaves w.queue mine s v sound m inside spare queue steps)
-  entry_keeps inside spare (event.IntStep g) is registers blocks steps =
+  entry_keeps spare (event.TxStep queue) is registers blocks steps =
+      still (after s (event.TxStep queue)) (transmit_leaves w.queue mine s v sound m aligned spare queue steps)
+  entry_keeps spare (event.IntStep g) is registers blocks steps =
       quiet (event.IntStep g) tt ((message_rest s g).queues.receive w.queue) (message_rest s g).memory
-  entry_keeps inside spare (event.QueueStep dir queue) is registers blocks steps = switched dir queue
-  entry_keeps inside spare event.EepromStep is registers blocks steps =
+  entry_keeps spare (event.QueueStep dir queue) is registers blocks steps = switched dir queue
+  entry_keeps spare event.EepromStep is registers blocks steps =
       quiet event.EepromStep tt ((eeprom_rest s).queues.receive w.queue) (eeprom_rest s).memory
-  entry_keeps inside spare (event.Link up) is registers blocks steps =
+  entry_keeps spare (event.Link up) is registers blocks steps =
       quiet (event.Link up) tt ((link_rest s up).queues.receive w.queue) (link_rest s up).memory
-  entry_keeps inside spare event.Collect is registers blocks steps =
+  entry_keeps spare event.Collect is registers blocks steps =
       quiet event.Collect tt ((collecting_rest s).queues.receive w.queue) (collecting_rest s).memory
 
 pub foreign_keeps : ForeignEntryKeeps
-foreign_keeps w mine mode s out v e met j m inside spare alone other =
-    entry_keeps w mine s out v met.sound met.vfs j m inside spare e.event met.event
+foreign_keeps w mine mode s out v e met j m spare alone other =
+    entry_keeps w mine s out v met.sound met.aligned met.vfs j m spare e.event met.event
     (subst (λ k. LeavesRegisters w k e.event) met.mode_is (alone.registers other)) (alone.blocks other)
     (subst (WritesOutside w.queue mine) met.reply alone.steps)
 
 pub steps_keep : DeviceStepKeeps
-steps_keep w mine mode s out v e met j m inside spare alone is =
+steps_keep w mine mode s out v e met j m spare alone is =
     let free = no_registers w (mode_in s.registers) mine e.event is in
-    entry_keeps w mine s out v met.sound met.vfs j m inside spare e.event met.event free.0 free.1
+    entry_keeps w mine s out v met.sound met.aligned met.vfs j m spare e.event met.event free.0 free.1
     (subst (WritesOutside w.queue mine) met.reply alone.steps)

@@ -79,7 +79,7 @@ module _ (w : Watched) (mine : Blocks) where
       subst (λ b. AllSpare w (after s e.event) (after_call v (mark_of b marks) (call_in e)) (marks_after b marks) h)
       other spare.1 in
       let next = foreign_entry w mine mode s out v e m legal.0 events.0 alone.0 (eqb-false e.pass w.pass other)
-      spare.0.inside spare.0.reports in
+      spare.0.reports in
       subst (λ calls. Led w s out v (e ∷ h) (played_by v marks calls)) (sym same)
       (on_after w s out v v e h _ m.agree
       (rest next legal.1 events.1 alone.1 (subst (AllOwn v marks) same own) spared
@@ -98,7 +98,7 @@ module _ (w : Watched) (mine : Blocks) where
       subst (λ t. AllSpare w (after s e.event) (after_call v (mark_of t (b ∷ marks)) (call_in e))
       (marks_after t (b ∷ marks)) h) is spare.1 in
       let next = marked_entry w mine mode s out v e m legal.0 events.0 alone.0 b pass here.0 (spare.0.unmarked pass)
-      spare.0.inside spare.0.reports (λ n own_lend. covers n (or_left _ _ own_lend)) in
+      spare.0.reports (λ n own_lend. covers n (or_left _ _ own_lend)) in
       subst (λ calls. Led w s out v (e ∷ h) (played_by v (b ∷ marks) calls)) (sym same)
       (on_after w s out v (after_call v b (call_in e)) e h _ m.agree
       (rest next legal.1 events.1 alone.1 here.1 spared (λ n later. covers n (or_right _ _ later))))

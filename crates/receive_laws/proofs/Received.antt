@@ -1,34 +1,27 @@
 -- Steps of receiving keep the agreement, of whichever queue.
 use Rattle.std.proofs.Common.{◌≡◌, ℕ, ◌+◌, ◌^◌, ◌<◌, inl, inr, true, false, List, [], ◌∷◌, ◌++◌, length, refl, sym, ap, subst, arith, Ok, Err}
-use Rattle.std.specs.Prelude.{◌==◌, ⊤}
+use Rattle.std.specs.Prelude.{◌==◌}
 use Rattle.std.specs.FinMap as map
 use Rattle.std.proofs.lemmas.Bool.{cases_lt, cases_eq, eq-eqb}
 use Rattle.std.proofs.lemmas.List.{append-nil}
 use Rattle.dma_arena.specs.Memory.{Memory}
-use Rattle.reg_table.specs.declared.rows.RowId.TheVariants.{Qprdc}
 use Rattle.rx_ring.specs.declared.filled.Filled.{Filled}
-use Rattle.register_file.specs.Counters.{counter_of}
 use Rattle.register_file.specs.Pools.{mode_in}
 use Rattle.register_file.specs.Queue.{ring_of}
 use Rattle.register_file.specs.Sides.{receive_queue_of}
 use Rattle.register_file.specs.declared.dir.Dir.TheVariants.{Rx}
-use Rattle.register_file.proofs.Stands.{receive_stands}
-use Rattle.nic_device.specs.Footprint.{counts_and_causes}
 use Rattle.nic_device.specs.Outcome.{Outcome}
-use Rattle.nic_device.specs.Receive.{rest_of, is_empty, piece_done, slot_done, slotless_counted}
+use Rattle.nic_device.specs.Receive.{rest_of, is_empty, piece_done, slot_done}
 use Rattle.nic_device.specs.Sound.{IsSound, AreWaiting}
 use Rattle.nic_device.specs.State.{State, Waiting}
 use Rattle.nic_device.specs.Step.{after, reply_to}
 use Rattle.nic_device.specs.declared.event.Event.TheVariants as event
 use Rattle.nic_device.specs.declared.event.Reply.TheVariants.{Wrote}
-use Rattle.nic_device.proofs.Coming.{counted_in}
-use Rattle.nic_device.proofs.Raising.{comes-itself}
 use Rattle.nic_device.proofs.Targets.{told-lt}
 use Rattle.device_laws.specs.Leaving.{IsFirstFor, LeavesReceive, LeavesBlock}
 use Rattle.device_laws.specs.Replies.{moved_on}
-use Rattle.device_laws.proofs.FunctionCounts.{have_counters}
-use Rattle.device_laws.proofs.Missed.{counts-miss_side}
 use Rattle.pmd_rx.specs.Receive.{Receive}
+use Rattle.history_laws.proofs.RingsReceived.{slotless_stands}
 use Rattle.receive_laws.specs.Joint.{Agree}
 use Rattle.receive_laws.specs.Pieces.{Piece, pieces, pieces_told}
 use Rattle.receive_laws.specs.Steps.{SparesBlocks, ReceiveStepKeeps}
@@ -56,13 +49,6 @@ module _ (queue : ℕ) (s : State) (out : List Piece) (v : Receive) (sound : IsS
         blocks = each_of v (λ b. LeavesBlock b s t) (λ b. ap (λ (m : Memory). map.get m b) memory);
       }) j)
 
-  slotless_stands : (other : ℕ) → receive_queue_of (slotless_counted s.registers other) queue
-      ≡ receive_queue_of s.registers queue
-  slotless_stands other =
-      receive_stands counts_and_causes s.registers _ queue (counts-miss_side Rx queue)
-      (counted_in {good = ⊤} counts_and_causes s.registers s.registers Qprdc (counter_of s.registers Rx other)
-      have_counters (record { bank = refl; kind = refl }) (comes-itself counts_and_causes s.registers)).within
-
   -- the piece that is told is the one that was written
   piece_told : (w : Waiting) (others : List Waiting) (f : Filled) → s.waiting ≡ w ∷ others → w.queue ≡ queue
       → piece_in (rest_of w) f ∷ [] ≡ pieces_told queue s.waiting (Wrote w.queue f.slot f.end f.desc f.at f.len)
@@ -84,7 +70,7 @@ module _ (queue : ℕ) (s : State) (out : List Piece) (v : Receive) (sound : IsS
       step_cases Keeps s w others e (record {
         idle = λ k. unchanged s j refl refl refl refl;
         dropped = λ k. unchanged _ j refl refl refl refl;
-        slotless = λ k. unchanged _ j refl (slotless_stands w.queue) k.mode k.vfs;
+        slotless = λ k. unchanged _ j refl (slotless_stands s.registers w.queue queue) k.mode k.vfs;
         fault = λ tried fault is.
             absurd (no_fault s queue l here h.ring h.side h.slots (room tried) (rest_of w) fault
             (subst (λ q. (fill_on s q (rest_of w)).answer ≡ Err fault) mine is));

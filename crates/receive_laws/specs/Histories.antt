@@ -17,7 +17,7 @@ use Rattle.pmd_rx.specs.Receive.{Receive, held, descriptor_at}
 use Rattle.history_laws.specs.Laws.{AreEvents}
 use Rattle.receive_laws.specs.Delivered.{IsPrefixOf, delivered, pieces_since}
 use Rattle.receive_laws.specs.Joint.{Agree}
-use Rattle.receive_laws.specs.Steps.{Each, Leaves, ReportsInside, OwnReportsSpare}
+use Rattle.receive_laws.specs.Steps.{Each, Leaves, OwnReportsSpare}
 
 -- the mark of an entry, of the pass or of another, and the marks that are left after it: the entries of the pass are
 -- marked in turn, and the marked ones are the calls of the driver's receive side
@@ -38,7 +38,6 @@ SparesReceive queue v s e =
 
 -- what the rest of the driver's pass and the transmit sides owe to the receive side, at an entry
 pub record Spares (w : Watched) (s : State) (v : Receive) (marks : List Bool) (e : Entry) : Type 0 where
-  pub inside : ReportsInside s
   pub reports : OwnReportsSpare w.queue v s
   pub unmarked : e.pass ≡ w.pass → IsFalse (mark_of true marks) → SparesReceive w.queue v s e
 

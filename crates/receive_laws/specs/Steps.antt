@@ -1,13 +1,11 @@
 -- What single events do to what the device and a driver agree on.
 use Rattle.std.specs.Prelude.{ℕ, ◌≡◌, ◌≢◌, ◌↔◌, ◌/◌, ◌<◌, List, ◌++◌, length, Some, ⊤, IsTrue}
 use Rattle.dma_arena.specs.Block.{Block}
-use Rattle.dma_arena.specs.Memory.{Avoids, LiesIn}
+use Rattle.dma_arena.specs.Memory.{Avoids}
 use Rattle.dma_ring.specs.Descriptor.{first_half, second_half}
 use Rattle.dma_ring.specs.Receive.{is_done, ends_packet, bytes_in}
 use Rattle.register_file.specs.Pools.{mode_in}
 use Rattle.register_file.specs.declared.dir.Dir.TheVariants.{Rx}
-use Rattle.register_file.specs.Sides.{transmit_queue_of}
-use Rattle.tx_ring.specs.Report.{report_length}
 use Rattle.vf_map.specs.declared.mode.Mode.{Mode}
 use Rattle.device_lock.specs.Alone.{Blocks, EntryLeavesAlone}
 use Rattle.device_lock.specs.declared.alone.Watched.{Watched}
@@ -22,6 +20,7 @@ use Rattle.nic_device.specs.declared.event.Event.TheVariants as event
 use Rattle.nic_device.specs.declared.event.Reply.{Reply}
 use Rattle.nic_device.specs.declared.event.Reply.TheVariants.{Bytes, Wrote}
 use Rattle.device_laws.specs.Leaving.{LeavesReceive, LeavesBlock}
+use Rattle.history_laws.specs.Aligned.{AreAligned}
 use Rattle.pmd_rx.specs.Receive.{Receive, Stage, Looks, Sees, Holding, Lent, Named, IsOwn, drive, descriptor_at, block_at}
 use Rattle.receive_laws.specs.Joint.{Holds, Agree}
 use Rattle.receive_laws.specs.Pieces.{Piece, pieces, piece_at}
@@ -71,22 +70,16 @@ abbrev pub SparesBlocks : ℕ → Receive → Reply Block → Type 0
 SparesBlocks queue v (Wrote on slot end desc at len) = on ≢ queue → Each v (λ b. IsOutside desc at len b)
 SparesBlocks queue v other = ⊤
 
--- what a step of transmitting reports is inside the block that its address is of, as it is where rings and reports are
--- aligned
-abbrev pub ReportsInside : State → Type 0
-ReportsInside s =
-    (queue back : ℕ) → told_back (reply_to s (event.TxStep queue)) ≡ Some back →
-    LiesIn (back / 2048) back (report_length (transmit_queue_of s.registers queue).writeback)
-
 -- what the queue's own transmit side reports is in none of the blocks that the driver has lent for receiving
 abbrev pub OwnReportsSpare : ℕ → Receive → State → Type 0
 OwnReportsSpare queue v s =
     (back : ℕ) → told_back (reply_to s (event.TxStep queue)) ≡ Some back → Each v (λ b. b ≢ back / 2048)
 
--- what an entry that isn't the driver's own is made on: a sound device, whose queues are parted by the mode of the
--- entries so far
+-- what an entry that isn't the driver's own is made on: a sound device with aligned rings, whose queues are parted by
+-- the mode of the entries so far
 pub record IsMetBy (w : Watched) (mode : Mode) (s : State) (e : Entry) : Type 0 where
   pub sound : IsSound s
+  pub aligned : AreAligned s.registers
   pub vfs : w.vfs ≡ s.vfs
   pub mode_is : mode ≡ mode_in s.registers
   pub reply : e.reply ≡ reply_to s e.event
@@ -96,16 +89,16 @@ pub record IsMetBy (w : Watched) (mode : Mode) (s : State) (e : Entry) : Type 0 
 abbrev pub ForeignEntryKeeps : Type 0
 ForeignEntryKeeps =
     (w : Watched) (mine : Blocks) (mode : Mode) (s : State) (out : List Piece) (v : Receive) (e : Entry) →
-    IsMetBy w mode s e → Agree w.queue s out v → Each v (λ b. IsTrue (mine b)) → ReportsInside s →
-    OwnReportsSpare w.queue v s → EntryLeavesAlone w mine mode e → e.pass ≢ w.pass →
+    IsMetBy w mode s e → Agree w.queue s out v → Each v (λ b. IsTrue (mine b)) → OwnReportsSpare w.queue v s →
+    EntryLeavesAlone w mine mode e → e.pass ≢ w.pass →
     Agree w.queue (after s e.event) (out ++ pieces w.queue s e.event) v
 
 -- and so does a step of the device, whoever made it
 abbrev pub DeviceStepKeeps : Type 0
 DeviceStepKeeps =
     (w : Watched) (mine : Blocks) (mode : Mode) (s : State) (out : List Piece) (v : Receive) (e : Entry) →
-    IsMetBy w mode s e → Agree w.queue s out v → Each v (λ b. IsTrue (mine b)) → ReportsInside s →
-    OwnReportsSpare w.queue v s → EntryLeavesAlone w mine mode e → IsTrue (is_step e.event) →
+    IsMetBy w mode s e → Agree w.queue s out v → Each v (λ b. IsTrue (mine b)) → OwnReportsSpare w.queue v s →
+    EntryLeavesAlone w mine mode e → IsTrue (is_step e.event) →
     Agree w.queue (after s e.event) (out ++ pieces w.queue s e.event) v
 
 -- a step of receiving, of whichever queue, keeps the agreement: on the driver's queue its first posted slot becomes the

@@ -15,7 +15,7 @@ use Rattle.transmit_laws.specs.Sparing.{Owes}
 use Rattle.transmit_laws.specs.Turns.{Turn, known}
 
 -- an event leaves the queue and these blocks alone, by the clauses by which a closed history is judged, and what the
--- driver's receive half and the device owe is met
+-- driver's receive half owes is met
 pub record IsAlone (w : Watched) (mine : Blocks) (v : Sender) (s : State) (e : Event Block) : Type 0 where
   pub made : IsEvent e
   pub registers : LeavesRegisters w (mode_in s.registers) e

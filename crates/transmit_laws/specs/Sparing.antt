@@ -1,12 +1,9 @@
 -- What it is for an event to spare a driver that sends: to leave what the driver rests on as it is.
-use Rattle.std.specs.Prelude.{ℕ, ◌+◌, ◌%◌, ◌≡◌, ◌<◌, ◌≤◌, ◌==◌, Bool, false, ⊤, IsTrue, IsFalse, Some}
+use Rattle.std.specs.Prelude.{ℕ, ◌≡◌, ◌<◌, ◌==◌, Bool, false, ⊤, IsTrue, IsFalse}
 use Rattle.dma_arena.specs.Block.{Block}
 use Rattle.dma_arena.specs.Memory.{Avoids}
 use Rattle.register_file.specs.Pools.{mode_in}
-use Rattle.register_file.specs.Sides.{transmit_queue_of}
 use Rattle.register_file.specs.declared.dir.Dir.TheVariants.{Tx}
-use Rattle.tx_ring.specs.Report.{report_length}
-use Rattle.nic_device.specs.Footprint.{told_back}
 use Rattle.nic_device.specs.Sound.{IsEvent, IsSound}
 use Rattle.nic_device.specs.State.{State}
 use Rattle.nic_device.specs.Step.{after, reply_to}
@@ -18,6 +15,7 @@ use Rattle.device_lock.specs.Alone.{Blocks, LeavesRegisters, LeavesBlocks, Write
 use Rattle.device_lock.specs.declared.alone.Watched.{Watched}
 use Rattle.device_laws.specs.Laws.{WritesNoSetting}
 use Rattle.device_laws.specs.Leaving.{LeavesTransmit, LeavesBlock}
+use Rattle.history_laws.specs.Aligned.{AreAligned}
 use Rattle.pmd_tx.specs.Sending.{Sender, has_lent}
 
 -- whether an event is a step of transmitting of this queue, and whether it is one of its transmit side's enable
@@ -38,26 +36,21 @@ pub record Spares (queue : ℕ) (v : Sender) (s : State) (e : Event Block) : Typ
   pub blocks :
       IsFalse (is_transmit_of queue e) → (number : ℕ) → IsTrue (has_lent v number) → LeavesBlock number s (after s e)
 
--- what the driver's receive half and the device owe of a step: a piece isn't empty, and one of the driver's own queue
--- is outside the blocks that the sender has lent; what is written back ends in the block where it begins
+-- what the driver's receive half owes of a step: a piece isn't empty, and one of the driver's own queue is outside the
+-- blocks that the sender has lent
 abbrev pub ReceiveOwes : ℕ → Sender → Reply Block → Type 0
 ReceiveOwes queue v (Wrote on slot end desc at len) =
     (0 < len) × (on ≡ queue → (number : ℕ) → IsTrue (has_lent v number) → Avoids number desc 16 × Avoids number at len)
 ReceiveOwes queue v other = ⊤
 
-abbrev pub ReportsInside : State → ℕ → Type 0
-ReportsInside s on =
-    (back : ℕ) → told_back (reply_to s (event.TxStep on)) ≡ Some back
-    → back % 2048 + report_length (transmit_queue_of s.registers on).writeback ≤ 2048
-
 abbrev pub Owes : ℕ → Sender → State → Event Block → Type 0
 Owes queue v s event.RxStep = ReceiveOwes queue v (reply_to s event.RxStep)
-Owes queue v s (event.TxStep on) = ReportsInside s on
 Owes queue v s other = ⊤
 
--- an event leaves a queue of a sound device alone, and all blocks among which are the sender's
+-- an event leaves a queue of a sound device with aligned rings alone, and all blocks among which are the sender's
 pub record IsLeft (w : Watched) (mine : Blocks) (v : Sender) (s : State) (e : Event Block) : Type 0 where
   pub sound : IsSound s
+  pub aligned : AreAligned s.registers
   pub made : IsEvent e
   pub functions : w.vfs ≡ s.vfs
   pub lent : (number : ℕ) → IsTrue (has_lent v number) → IsTrue (mine number)

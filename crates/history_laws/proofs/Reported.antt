@@ -1,0 +1,68 @@
+-- Where rings are aligned, what a step of transmitting reports lies in the block where it begins.
+use Rattle.std.proofs.Common.{cond, ◌≡◌, ℕ, ◌+◌, ◌*◌, ◌/◌, ◌%◌, ◌^◌, ◌≤◌, Bool, true, false, inl, inr, ap, sym, subst, arith, Some, None}
+use Rattle.std.proofs.lemmas.Bool.{cases_lt}
+use Rattle.std.proofs.lemmas.List.{get_or_past}
+use Rattle.dma_arena.specs.Block.{Block}
+use Rattle.dma_arena.specs.Memory.{LiesIn}
+use Rattle.dma_ring.specs.Ring.{descriptor_address}
+use Rattle.reg_table.specs.declared.rows.RowId.TheVariants.{Tdbal, Tdbah, Tdwbal, Tdwbah}
+use Rattle.register_file.specs.Bits.{has_bit}
+use Rattle.register_file.specs.Queue.{ring_of}
+use Rattle.register_file.specs.Registers.{Registers, word_of}
+use Rattle.register_file.specs.Settings.{writeback_of}
+use Rattle.register_file.specs.Sound.{HasShape}
+use Rattle.register_file.specs.Words.{row_words}
+use Rattle.register_file.specs.declared.dir.Dir.TheVariants.{Tx}
+use Rattle.tx_ring.specs.Report.{report_length}
+use Rattle.nic_device.specs.Footprint.{told_back}
+use Rattle.nic_device.specs.State.{State}
+use Rattle.nic_device.specs.Step.{after, reply_to}
+use Rattle.nic_device.specs.declared.event.Event.TheVariants as event
+use Rattle.nic_device.specs.declared.event.Reply.{Reply}
+use Rattle.nic_device.specs.declared.event.Reply.TheVariants.{Advanced, Sent}
+use Rattle.device_laws.specs.Replies.{report_of, sent_tells}
+use Rattle.device_laws.proofs.RepliesSent.{transmitting_tells}
+use Rattle.history_laws.specs.Aligned.{AreAligned, ReportsLieInBlocks}
+
+-- what is told is where the queue reports
+pub reported : (own : ℕ) (r : Reply Block) (s t : State) → sent_tells own r s t → (back : ℕ)
+    → told_back r ≡ Some back → back ≡ report_of s.registers own
+reported own (Sent queue len o) s t tells back is = tells.reported back is
+reported own (Advanced queue slot o) s t tells back is = tells.0.reported back is
+reported own other s t tells back is = cc
+
+-- 4 bytes at a multiple of 4, or 16 at a multiple of 16
+lies_by : (b : Bool) (high low at : ℕ) → at % 16 ≡ 0
+    → LiesIn (cond b (high * 2 ^ 32 + 4 * (low / 4)) at / 2048) (cond b (high * 2 ^ 32 + 4 * (low / 4)) at)
+    (report_length (cond b (Some (high * 2 ^ 32 + 4 * (low / 4))) None))
+lies_by true high low at even = (omega arith, omega arith)
+lies_by false high low at even = (omega (arith, even), omega (arith, even))
+
+-- queues of 128 or more have no ring
+past_end : (r : Registers) → HasShape r → (queue : ℕ) → 128 ≤ queue → word_of r Tdbal queue ≡ 0
+past_end r shape queue past =
+    get_or_past (row_words r.words Tdbal) queue 0 (subst (λ n. n ≤ queue) (sym (shape.has_indices Tdbal)) past)
+
+head_even : (high low head : ℕ) → low % 16 ≡ 0 → (high * 2 ^ 32 + low + 16 * head) % 2 ^ 64 % 16 ≡ 0
+head_even high low head even = omega (arith, even)
+
+module _ (r : Registers) (shape : HasShape r) (a : AreAligned r) (queue : ℕ) where
+  low_even : word_of r Tdbal queue % 16 ≡ 0
+  low_even = elim (cases_lt queue 128) as (λ _. word_of r Tdbal queue % 16 ≡ 0) [
+    | inl small ↦ let base = (a Tx queue small).base in omega (arith, base)
+    | inr past ↦ ap (λ (n : ℕ). n % 16) (past_end r shape queue past)
+  ]
+
+  lies : LiesIn (report_of r queue / 2048) (report_of r queue) (report_length (writeback_of r queue))
+  lies =
+      lies_by (has_bit 0 (word_of r Tdwbal queue)) (word_of r Tdwbah queue) (word_of r Tdwbal queue)
+      (descriptor_address (ring_of r Tx queue) (ring_of r Tx queue).head)
+      (head_even (word_of r Tdbah queue) (word_of r Tdbal queue) (ring_of r Tx queue).head low_even)
+
+pub reports_lie : ReportsLieInBlocks
+reports_lie s sound a queue back told =
+    let r = s.registers in
+    let is = reported queue (reply_to s (event.TxStep queue)) s (after s (event.TxStep queue))
+    (transmitting_tells s sound queue) back told in
+    subst (λ x. LiesIn (x / 2048) x (report_length (writeback_of r queue))) (sym is)
+    (lies r sound.registers.shape a queue)

@@ -42,7 +42,7 @@ fn put<T, E>(seat: &mut Seat<T, E>, end: E)
 }
 
 /// Does the task of a seat, or gives it up where the caller has given it up.
-pub fn work_at<E, T: Task<E>>(start: &Start, seat: &mut Seat<T, E>)
+pub(crate) fn work_at<E, T: Task<E>>(start: &Start, seat: &mut Seat<T, E>)
     requires { waits seat.old ≡ true }
     ensures { IsEnded T.ends seat.old seat.new }
 {

@@ -34,7 +34,7 @@ impl Start {
     }
 
     /// The thread says that it began. False where the calling thread gave it up.
-    pub fn begin(&self) -> bool {
+    pub(crate) fn begin(&self) -> bool {
         self.say(BEGUN)
     }
 

@@ -35,7 +35,7 @@ receive_out q size old a new b v ready =
     (subst (λ (x : Numbers). AreOut x (ready.ring ∷ [])) (sym ready.prepared.drawn)
     (out_drawn a [] ready.ring (none_out a) ready.prepared.free))
 
-pub transmit_out : (q : AtPort) (size : ℕ) (old : List Call) (a : Numbers) (new : List Call) (b : Numbers) (v : Sender)
+transmit_out : (q : AtPort) (size : ℕ) (old : List Call) (a : Numbers) (new : List Call) (b : Numbers) (v : Sender)
     (out : List ℕ) → IsTransmitReady q size old a new b v → AreOut a out → AreOut b (out ++ lent_of v)
 transmit_out q size old a new b v out ready are =
     let n : ℕ = ready.ring in
@@ -45,12 +45,25 @@ transmit_out q size old a new b v out ready are =
     (out_fewer (with_free a n false) (n ∷ out) (out ++ n ∷ []) drawn
     (λ k. omega (arith, times-cons n out k, times-append out (n ∷ []) k))))
 
+-- both rings are lent
+pub rings_out : (q : AtPort) (size : ℕ) (old mid new : List Call) (a b d : Numbers) (v : Receive) (s : Sender)
+    → IsReceiveReady q size old a mid b v → IsTransmitReady q size mid b new d s → AreOut d (blocks_out v ++ lent_of s)
+rings_out q size old mid new a b d v s ready also =
+    transmit_out q size mid b new d s (blocks_out v) also (receive_out q size old a mid b v ready)
+
 pub one_out : (a : Numbers) (out others : List ℕ) → AreOut a (out ++ others) → AreOut a out
 one_out a out others are = out_fewer a (out ++ others) out are (λ k. omega (arith, times-append out others k))
 
-pub filled_out : (a b : Numbers) (v w : Receive) (others : List ℕ) → AreOut a (blocks_out v ++ others)
+filled_out : (a b : Numbers) (v w : Receive) (others : List ℕ) → AreOut a (blocks_out v ++ others)
     → Keeps a v b w [] → AreOut b (blocks_out w ++ others)
 filled_out a b v w others are keeps = out_exchanged a (blocks_out v) b (blocks_out w) others are keeps.arena
+
+-- both rings are lent, and the receive ring was filled
+pub filled_rings : (q : AtPort) (size : ℕ) (old mid new : List Call) (a b d e : Numbers) (v w : Receive) (s : Sender)
+    → IsReceiveReady q size old a mid b v → IsTransmitReady q size mid b new d s → Keeps d v e w []
+    → AreOut e (blocks_out w ++ lent_of s)
+filled_rings q size old mid new a b d e v w s ready also keeps =
+    filled_out d e v w (lent_of s) (rings_out q size old mid new a b d v s ready also) keeps
 
 -- the ring is empty
 pub ready_empty : (q : AtPort) (size : ℕ) (old : List Call) (a : Numbers) (new : List Call) (b : Numbers) (v : Receive)

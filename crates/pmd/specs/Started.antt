@@ -3,13 +3,14 @@ use Rattle.std.specs.Prelude.{ℕ, ◌≡◌, ◌⊎◌, ◌&&◌, ◌==◌, ◌
 use Rattle.dma_arena.specs.Numbers.{Numbers, free_count}
 use Rattle.device_lock.specs.declared.entry.Call.{Call}
 use Rattle.register_file.specs.declared.dir.Dir.TheVariants.{Tx}
+use Rattle.pmd_base.specs.Packet.{Kept}
 use Rattle.pmd_base.specs.declared.fault.PmdFault.{PmdFault}
 use Rattle.pmd_base.specs.declared.fault.PmdFault.TheVariants.{BadSize, NoBuffer, DeviceFault}
 use Rattle.pmd_queue.specs.Named.{AtPort, queues_named}
 use Rattle.pmd_rx.specs.Receive.{Receive}
 use Rattle.pmd_tx.specs.Sending.{Sender}
 use Rattle.pmd_halt.specs.Halted.{Halted, with_rings, with_receive_ring}
-use Rattle.pmd.specs.Driver.{Driver}
+use Rattle.pmd.specs.Driver.{Driver, handed_of}
 use Rattle.pmd.specs.Running.{Running}
 use Rattle.pmd.specs.Starting.{IsReceiveReady, IsTransmitReady, GoesOn, ReceiveFails, PreparingFails, GoingOnFails}
 use Rattle.pmd.specs.declared.driver.Rings.TheVariants.{Up, Down}
@@ -35,6 +36,11 @@ start_gate a q size =
 abbrev pub IsHome : Numbers → Rest → Type 0
 IsHome a (rest.Home h) = (h.arena ≡ a) × (h.lost ≡ 0) × (h.handed.items ≡ []) × (h.accepted.items ≡ [])
 IsHome a (rest.Running p) = ⊥
+
+-- what the driver handed out that a start leaves
+abbrev pub left_handed : Rest → List Kept
+left_handed (rest.Home h) = h.handed.items
+left_handed (rest.Running p) = handed_of p.rings
 
 -- it was refused before any event, for this fault
 abbrev pub IsShut : Option PmdFault → Numbers → List Call → List Call → Result Driver StartRefused → Type 0

@@ -136,6 +136,7 @@ pub(crate) fn go_on<N: Nic>(
     ensures failed { IfErr result (λ f. GoingOnFails f queue.now (N.made nic.old) arena.old receive.old
         (N.made nic.new) arena.new receive.new) }
     ensures late { IfErr result (λ f. ComesLate f) }
+    ensures handed { receive.new.handed ≡ receive.old.handed }
     ensures keeps { Keeps arena.old receive.old arena.new receive.new [] }
     ensures who { N.who nic.new ≡ N.who nic.old }
 {

@@ -1,10 +1,11 @@
 //! How a driver starts.
 
-ghost use Rattle.std.specs.Prelude.{◌≡◌, ◌<◌, ◌≤◌, None, Some, IfOk, IfErr, OnOk};
+ghost use Rattle.std.specs.Prelude.{◌≡◌, ◌<◌, ◌≤◌, [], None, Some, IfOk, IfErr, OnOk};
 ghost use Rattle.dma_arena.specs.Numbers.{free_count};
 ghost use Rattle.pmd_halt.specs.Halted.{Halted};
 ghost use Rattle.pmd.specs.Starting.{ComesLate};
-ghost use Rattle.pmd.specs.Started.{is_size, start_gate, IsHome, IsShut, HasStarted, IsHalfStarted, StopsStarting};
+ghost use Rattle.pmd.specs.Driver.{handed_of};
+ghost use Rattle.pmd.specs.Started.{is_size, start_gate, left_handed, IsHome, IsShut, HasStarted, IsHalfStarted, StopsStarting};
 
 use crate::driver::{Pmd, Rings};
 use crate::rings::{go_on, receive_ring, transmit_ring};
@@ -100,6 +101,8 @@ fn bring_up<N: Nic>(
     ensures started { IfOk result (λ p. HasStarted queue size (N.made nic.old) arena (N.made nic.new) p) }
     ensures stops { IfErr result (λ e. StopsStarting queue size (N.made nic.old) arena (N.made nic.new) e) }
     ensures late { IfErr result (λ e. ComesLate e.fault) }
+    ensures none { IfOk result (λ p. handed_of p.rings ≡ []) }
+    ensures left { IfErr result (λ e. left_handed e.rest ≡ []) }
     ensures who { N.who nic.new ≡ N.who nic.old }
 {
     let mut arena = arena;
@@ -150,6 +153,8 @@ impl Pmd {
             → StopsStarting (record { port = port; queue = queue }) size (N.made nic.old) arena (N.made nic.new) e) }
         ensures late { IfErr result (λ e. start_gate arena (record { port = port; queue = queue }) size ≡ None
             → ComesLate e.fault) }
+        ensures none { IfOk result (λ p. handed_of p.rings ≡ []) }
+        ensures left { IfErr result (λ e. left_handed e.rest ≡ []) }
         ensures who { N.who nic.new ≡ N.who nic.old }
     {
         match named(&arena, port, queue, size) {

@@ -1,13 +1,14 @@
 -- Frames that arrive one after another.
-use Rattle.std.proofs.Common.{◌≡◌, ℕ, List, [], ◌++◌, map, take, length, refl, sym, ap, ◌∙◌, subst, append_assoc, append-nil}
+use Rattle.std.proofs.Common.{◌≡◌, ℕ, List, [], ◌∷◌, ◌++◌, map, take, length, ◌≤◌, Option, Some, None, refl, sym, ap, ◌∙◌, subst, append_assoc, append-nil, length-append, arith}
 use Rattle.std.proofs.lemmas.List.{map-append}
 use Rattle.std.proofs.Math.Seq.{take-append_seam}
 use Rattle.dma_arena.specs.Block.{Block}
 use Rattle.nic_device.specs.declared.event.Event.{Event}
 use Rattle.device_lock.specs.declared.entry.Call.{Call}
+use Rattle.device_lock.specs.declared.fault.CallFault.{CallFault}
 use Rattle.device_lock.specs.Pass.{PassValue}
 use Rattle.nic_device.specs.declared.event.Event.TheVariants.{Arrive}
-use Rattle.workers.specs.Feeding.{HaveArrived, AreFed}
+use Rattle.workers.specs.Feeding.{HaveArrived, IsFed}
 
 pub none_yet : (p : PassValue) → HaveArrived [] p p
 none_yet p = record {
@@ -31,10 +32,30 @@ one_more frames more old mid new first second = record {
 first_of : (before rest : List (List ℕ)) → take (length before) (before ++ rest) ≡ before
 first_of before rest = take-append_seam before rest
 
-pub so_many : (before rest all : List (List ℕ)) (old new : PassValue) → before ++ rest ≡ all
-    → HaveArrived before old new → AreFed all old new
-so_many before rest all old new are arrived = (
+-- all frames arrived
+pub all_came : (before all : List (List ℕ)) (old new : PassValue) → before ++ [] ≡ all
+    → HaveArrived before old new → IsFed all None old new
+all_came before all old new are arrived =
+    subst (λ (l : List (List ℕ)). HaveArrived l old new) (sym (append-nil before) ∙ are) arrived
+
+-- those before a frame arrived, whose call was refused
+pub stops_before : (before rest all : List (List ℕ)) (frame : List ℕ) (refusal : CallFault (Unit {0}))
+    (old new : PassValue) → before ++ frame ∷ rest ≡ all → HaveArrived before old new
+    → IsFed all (Some refusal) old new
+stops_before before rest all frame refusal old new are arrived = (
   length before,
+  omega (arith, length-append before (frame ∷ rest), ap (λ (l : List (List ℕ)). length l) are),
   subst (λ (l : List (List ℕ)). HaveArrived l old new)
-      (sym (first_of before rest) ∙ ap (λ (l : List (List ℕ)). take (length before) l) are) arrived,
+      (sym (first_of before (frame ∷ rest)) ∙ ap (λ (l : List (List ℕ)). take (length before) l) are) arrived,
 )
+
+arrived_longer : (frames : List (List ℕ)) (old new : PassValue) → HaveArrived frames old new
+    → length old.calls ≤ length new.calls
+arrived_longer frames old new arrived =
+    omega (arith, ap (λ (p : PassValue). length p.calls) arrived.made, length-append old.calls arrived.since)
+
+-- the pass lost no call
+pub fed_longer : (frames : List (List ℕ)) (refused : Option (CallFault (Unit {0}))) (old new : PassValue)
+    → IsFed frames refused old new → length old.calls ≤ length new.calls
+fed_longer frames None old new fed = arrived_longer frames old new fed
+fed_longer frames (Some refusal) old new (count, less, arrived) = arrived_longer (take count frames) old new arrived

@@ -1,11 +1,12 @@
 -- Frames that arrive by a pass.
-use Rattle.std.specs.Prelude.{◌≡◌, ℕ, Bool, true, false, List, ◌++◌, length, map, take, drop, count_by}
+use Rattle.std.specs.Prelude.{◌≡◌, ℕ, Bool, true, false, List, ◌++◌, ◌<◌, length, map, take, drop, count_by, Option, Some, None}
 use Rattle.dma_arena.specs.Block.{Block}
 use Rattle.nic_device.specs.declared.event.Event.{Event}
 use Rattle.nic_device.specs.declared.event.Event.TheVariants.{Arrive}
 use Rattle.nic_device.specs.declared.event.Reply.{Reply}
 use Rattle.nic_device.specs.declared.event.Reply.TheVariants.{Done}
 use Rattle.device_lock.specs.declared.entry.Call.{Call}
+use Rattle.device_lock.specs.declared.fault.CallFault.{CallFault}
 use Rattle.device_lock.specs.Pass.{PassValue}
 
 -- whether a frame arrives
@@ -30,6 +31,12 @@ pub record HaveArrived (frames : List (List ℕ)) (old new : PassValue) : Type 0
   pub since : List Call
   pub made : new ≡ record old { calls = old.calls ++ since }
   pub events : map (λ (c : Call). c.event) since ≡ map (λ (frame : List ℕ). Arrive frame) frames
+
+-- all of these frames arrived, or those before the one whose call was refused
+abbrev pub IsFed : List (List ℕ) → Option (CallFault (Unit {0})) → PassValue → PassValue → Type 0
+IsFed frames None old new = HaveArrived frames old new
+IsFed frames (Some refusal) old new =
+    (count : ℕ) × (count < length frames) × HaveArrived (take count frames) old new
 
 -- the first so many of these frames arrived
 abbrev pub AreFed : List (List ℕ) → PassValue → PassValue → Type 0

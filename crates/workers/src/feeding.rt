@@ -1,9 +1,9 @@
 //! Frames that arrive while workers run.
 
-ghost use Rattle.std.specs.Prelude.{◌≡◌, true, ◌∷◌, [], IsTrue, IsFalse, map};
+ghost use Rattle.std.specs.Prelude.{◌≡◌, true, ◌∷◌, [], OnOk, OnErr, map};
 ghost use Rattle.device_lock.specs.Fault.{event_of};
 ghost use Rattle.nic_device.specs.Answering.{may_arrive};
-ghost use Rattle.workers.specs.Feeding.{AreFed, HaveArrived, arrives, is_done, done_in, gained};
+ghost use Rattle.workers.specs.Feeding.{IsFed, HaveArrived, arrives, is_done, done_in, gained};
 
 use device_lock::{Call, CallFault, Pass, Shared};
 use dma_arena::Octets;
@@ -11,21 +11,33 @@ use nic_device::{Event, Reply};
 use std::alloc::Global;
 use std::sync::Wait;
 
-/// Has frames arrive by a pass, in order, up to the first call that is refused. How many were let in.
+/// What came of frames that were to arrive.
+#[derive(Debug, Drop)]
+pub struct Fed {
+    /// How many were let in.
+    pub done: usize,
+    /// Why the call for a frame was refused, which ended the feeding. None where all frames arrived.
+    pub refused: Option<CallFault<()>>,
+}
+
+/// Has frames arrive by a pass, in order, up to the first call that is refused.
 pub fn feed<R: Wait, const VFS: u8, const FIFO: u16>(
     rt: &R,
     alloc: Global,
     shared: &Shared<VFS, FIFO>,
     pass: &mut Pass,
     frames: Vec<Vec<u8>>,
-) -> usize
-    ensures fed { AreFed (map (λ frame. frame.items) frames.items) pass.old pass.new }
-    ensures count { result ≡ done_in (gained pass.old pass.new) }
+) -> Fed
+    ensures fed { IsFed (map (λ frame. frame.items) frames.items) result.refused pass.old pass.new }
+    ensures count { result.done ≡ done_in (gained pass.old pass.new) }
 {
     let before = pass.calls().len();
-    arrive_all(rt, alloc, shared, pass, frames);
+    let refused = arrive_all(rt, alloc, shared, pass, frames);
     let (_, gained) = pass.calls().split_at(before);
-    count_done(gained)
+    Fed {
+        done: count_done(gained),
+        refused,
+    }
 }
 
 /// Whether a call was done.
@@ -42,43 +54,42 @@ fn count_done(calls: &[Call]) -> usize
     calls.iter().filter(|call| is_done(call)).count()
 }
 
-/// Has frames arrive, in order, up to the first call that is refused.
+/// Has frames arrive, in order, up to the first call that is refused, which is told.
 fn arrive_all<R: Wait, const VFS: u8, const FIFO: u16>(
     rt: &R,
     alloc: Global,
     shared: &Shared<VFS, FIFO>,
     pass: &mut Pass,
     frames: Vec<Vec<u8>>,
-)
-    ensures { AreFed (map (λ frame. frame.items) frames.items) pass.old pass.new }
+) -> Option<CallFault<()>>
+    ensures { IsFed (map (λ frame. frame.items) frames.items) result pass.old pass.new }
 {
     for frame in frames {
-        if !arrive(rt, alloc, shared, pass, frame) {
-            break;
+        match arrive(rt, alloc, shared, pass, frame) {
+            Ok(()) => {}
+            Err(refusal) => return Some(refusal),
         }
     }
+    None
 }
 
-/// Has one frame arrive. False where the call was refused.
+/// Has one frame arrive.
 fn arrive<R: Wait, const VFS: u8, const FIFO: u16>(
     rt: &R,
     alloc: Global,
     shared: &Shared<VFS, FIFO>,
     pass: &mut Pass,
     frame: Vec<u8>,
-) -> bool
-    ensures arrived { IsTrue result → HaveArrived (frame.items ∷ []) pass.old pass.new }
-    ensures refused { IsFalse result → pass.new ≡ pass.old }
+) -> Result<(), CallFault<()>>
+    ensures arrived { OnOk result (HaveArrived (frame.items ∷ []) pass.old pass.new) }
+    ensures refused { OnErr result (pass.new ≡ pass.old) }
 {
     match shared.call(rt, alloc, pass, Event::Arrive(Octets::of(frame))) {
         Ok(reply) => {
             let_reply_go(reply);
-            true
+            Ok(())
         }
-        Err(fault) => {
-            let_frame_go(fault);
-            false
-        }
+        Err(fault) => Err(without_frame(fault)),
     }
 }
 
@@ -92,15 +103,30 @@ fn let_reply_go(reply: Reply)
     }
 }
 
-/// Lets a frame go whose call was refused.
-fn let_frame_go(fault: CallFault)
+/// The refusal of a frame, without the frame.
+fn without_frame(fault: CallFault) -> CallFault<()>
     requires { arrives (event_of fault) ≡ true }
 {
-    let event = match fault {
-        CallFault::ForeignPass(event) => event,
-        CallFault::HistoryFull(event) => event,
-        CallFault::OutOfMemory(event) => event,
-    };
+    match fault {
+        CallFault::ForeignPass(frame) => {
+            let_frame_go(frame);
+            CallFault::ForeignPass(())
+        }
+        CallFault::HistoryFull(frame) => {
+            let_frame_go(frame);
+            CallFault::HistoryFull(())
+        }
+        CallFault::OutOfMemory(frame) => {
+            let_frame_go(frame);
+            CallFault::OutOfMemory(())
+        }
+    }
+}
+
+/// Lets a frame go that wasn't let in.
+fn let_frame_go(event: Event)
+    requires { arrives event ≡ true }
+{
     match event {
         Event::Arrive(_frame) => {}
         _ => unreachable!(),

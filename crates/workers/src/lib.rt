@@ -8,6 +8,6 @@ mod feeding;
 mod job;
 mod reports;
 
-pub use feeding::feed;
+pub use feeding::{Fed, feed};
 pub use job::{Job, overlap};
 pub use reports::{Collector, Report};

@@ -1,9 +1,9 @@
-use Rattle.std.proofs.Common.{◌≡◌, ℕ, List, [], ◌∷◌, ◌++◌, map, sym, ap, ◌∙◌, subst, append_assoc, rules}
+use Rattle.std.proofs.Common.{ℕ, List, [], ◌∷◌, ◌++◌, map, sym, ap, ◌∙◌, subst, append_assoc}
+use Rattle.std.proofs.lemmas.List.{nil_from_length}
 use Rattle.device_lock.specs.Pass.{PassValue}
 use Rattle.workers.specs.Feeding.{HaveArrived}
-use Rattle.workers.proofs.Arriving.{one_more, so_many}
+use Rattle.workers.proofs.Arriving.{one_more, all_came, stops_before}
 use Rattle.workers.proofs.feeding.arrive_all.Goals as goal
-use Rattle.workers.proofs.feeding.arrive_all.Goals.{in-None, in-Some+then-not-arrive}
 
 pub loop-frame-preserved : goal.loop-frame-preserved
 loop-frame-preserved g c =
@@ -13,15 +13,19 @@ loop-frame-preserved g c =
       append_assoc before (bytes ∷ []) _
           ∙ ap (λ l. before ++ map (λ frame. frame.items) l) (sym c.in-Some.ensures.steps.0)
           ∙ are,
-      one_more before (bytes ∷ []) _ _ _ arrived (c.arrive.ensures.arrived (search rules)),
+      one_more before (bytes ∷ []) _ _ _ arrived c.in-Ok.ensures.arrived,
     )
+
+pub returns-in-Err : goal.returns-in-Err
+returns-in-Err g c =
+    let (before, are, arrived) = c.loop-frame.invariant in
+    stops_before before _ _ c.in-Some.frame.items c.in-Err.refusal _ _
+    (ap (λ l. before ++ map (λ frame. frame.items) l) (sym c.in-Some.ensures.steps.0) ∙ are)
+    (subst (λ (p : PassValue). HaveArrived before c.args.pass.now p) (sym c.in-Err.ensures.refused) arrived)
 
 pub returns : goal.returns
 returns g c =
-    let i = c.loop-frame.invariant in
-    let same : c.match-next.pass ≡ c.loop-frame.pass =
-    elim c.match-next.branch [
-      | in-None w ↦ w.pass-is
-      | in-Some+then-not-arrive w ↦ w.pass-is ∙ w.arrive.ensures.refused (search rules)
-    ] in
-    so_many i.0 _ _ _ _ i.1 (subst (λ (p : PassValue). HaveArrived i.0 c.args.pass.now p) (sym same) i.2)
+    let (before, are, arrived) = c.loop-frame.invariant in
+    let none = nil_from_length _ (sym c.loop-frame.frame-iterator.rest.ok.0 ∙ c.in-None.ensures.steps.0) in
+    all_came before _ _ _
+    (ap (λ l. before ++ map (λ frame. frame.items) l) (sym none) ∙ are) arrived

@@ -1,0 +1,15 @@
+use Rattle.std.proofs.Common.{◌≡◌, ◌+◌, ◌≤◌, length}
+use Rattle.rtrb.specs.Ring.{sent, known_free, SameProducer}
+use Rattle.pmd.specs.Driver.{handed_of}
+use Rattle.worker_runs.specs.Told.{reports_of}
+use Rattle.worker_runs.proofs.turns.do_rounds.Given as goal
+
+abbrev pub invariant-loop : goal.invariant-loop
+invariant-loop g l =
+    record {
+      told : sent l.producer ≡ reports_of l.queue (handed_of l.pmd.rings);
+      ring : SameProducer l.fn.producer l.producer;
+      room : l.rounds ≤ known_free l.producer + l.counter;
+      few : length (handed_of l.pmd.rings) ≤ l.counter;
+      who : g.N.Nic.who l.nic ≡ g.N.Nic.who l.fn.nic;
+    }

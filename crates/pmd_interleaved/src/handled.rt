@@ -1,0 +1,115 @@
+//! A device in hand, with what was made of it.
+
+ghost use Rattle.std.specs.Prelude.{◌≡◌, ◌<◌, [], ◌∷◌, ◌++◌, length, IfOk, IfErr, OnOk, OnErr, true};
+ghost use Rattle.device_lock.specs.Pass.{call_of};
+ghost use Rattle.nic_device.specs.Answering.{may_answer};
+ghost use Rattle.nic_device.specs.Step.{step_of};
+ghost use Rattle.pmd_interleaved.specs.Scheduled.{after_own, after_foreign, after_list, IsMadeTo};
+
+use device_lock::{Call, CallFault};
+use nic_device::{Device, Event, OutOfMemory, Reply};
+use std::alloc::Global;
+use std::collections::VecDeque;
+use std::marker::Model;
+
+/// A device, the calls that were made of it, and the replies to the foreign ones.
+pub(crate) struct Handled {
+    pub(crate) device: Device,
+    pub(crate) calls: Vec<Call>,
+    pub(crate) foreign: Vec<Reply>,
+}
+
+impl Model for Handled {
+    ghost use Rattle.std.specs.Coded.{codes};
+    ghost use Rattle.nic_device.specs.State.{state_code};
+    ghost use Rattle.pmd_interleaved.specs.Scheduled.{Handled as HandledValue};
+
+    ghost Value = { HandledValue };
+
+    ghost coded = { Prim.hlevel (codes, state_code) };
+
+    ghost view = { λ h. record { device = h.device; calls = h.calls.items; foreign = h.foreign.items } };
+}
+
+/// Makes one event of a device, and keeps the call behind the others.
+fn make_noted(
+    alloc: Global,
+    device: &mut Device,
+    calls: &mut Vec<Call>,
+    event: Event,
+) -> Result<Reply, OutOfMemory<Event>>
+    ensures device { OnOk result (device.new ≡ (step_of device.old event).state) }
+    ensures calls { OnOk result
+        (calls.new.items ≡ calls.old.items ++ call_of event (step_of device.old event).reply ∷ []) }
+    ensures reply { IfOk result (λ reply. reply ≡ (step_of device.old event).reply) }
+    ensures fits { IfOk result (λ reply. may_answer event reply ≡ true) }
+    ensures back { IfErr result (λ refused. refused.event ≡ event) }
+    ensures unchanged { OnErr result ((device.new ≡ device.old) × (calls.new.items ≡ calls.old.items)) }
+{
+    if calls.reserve(1).is_err() {
+        return Err(OutOfMemory { event });
+    }
+    let Ok(note) = event.note(alloc) else {
+        return Err(OutOfMemory { event });
+    };
+    let Ok(room) = Vec::with_capacity(alloc, device.note_room(&event)) else {
+        return Err(OutOfMemory { event });
+    };
+    let reply = device.step(event)?;
+    let told = reply.note_in(room);
+    calls.push_reserved(Call {
+        event: note,
+        reply: told,
+    });
+    Ok(reply)
+}
+
+impl Handled {
+    /// Makes a call's own event.
+    pub(crate) fn make(&mut self, alloc: Global, event: Event) -> Result<Reply, CallFault>
+        ensures made { OnOk result (self.new ≡ after_own self.old event) }
+        ensures reply { IfOk result (λ reply. reply ≡ (step_of self.old.device event).reply) }
+        ensures fits { IfOk result (λ reply. may_answer event reply ≡ true) }
+        ensures back { IfErr result (λ fault. fault ≡ CallFault.OutOfMemory event) }
+        ensures unchanged { OnErr result (self.new ≡ self.old) }
+    {
+        match make_noted(alloc, &mut self.device, &mut self.calls, event) {
+            Ok(reply) => Ok(reply),
+            Err(OutOfMemory { event }) => Err(CallFault::OutOfMemory(event)),
+        }
+    }
+
+    /// Makes a foreign event, and keeps its reply.
+    fn make_foreign(&mut self, alloc: Global, event: Event) -> Result<(), OutOfMemory<Event>>
+        ensures made { OnOk result (self.new ≡ after_foreign self.old event) }
+        ensures back { IfErr result (λ refused. refused.event ≡ event) }
+        ensures unchanged { OnErr result (self.new ≡ self.old) }
+    {
+        if self.foreign.reserve(1).is_err() {
+            return Err(OutOfMemory { event });
+        }
+        let reply = make_noted(alloc, &mut self.device, &mut self.calls, event)?;
+        self.foreign.push_reserved(reply);
+        Ok(())
+    }
+
+    /// Makes foreign events in order, up to the first that is refused. Those that weren't made stay in the list.
+    pub(crate) fn make_list(
+        &mut self,
+        alloc: Global,
+        list: &mut VecDeque<Event>,
+    ) -> Result<(), OutOfMemory<()>>
+        ensures made { OnOk result (self.new ≡ after_list self.old list.old.items) }
+        ensures empty { OnOk result (list.new.items ≡ []) }
+        ensures left { OnErr result (0 < length list.new.items) }
+        ensures stopped { OnErr result (IsMadeTo self.old list.old.items self.new list.new.items) }
+    {
+        while let Some(event) = list.pop_front() {
+            if let Err(OutOfMemory { event }) = self.make_foreign(alloc, event) {
+                list.push_front_reserved(event);
+                return Err(OutOfMemory { event: () });
+            }
+        }
+        Ok(())
+    }
+}

@@ -5,7 +5,7 @@ use Rattle.std.proofs.lemmas.Bool.Decides.{nat_tests}
 use Rattle.dma_arena.specs.Numbers.{Numbers, is_own, is_free, with_free}
 use Rattle.dma_arena.specs.Whereabouts.{times_in_hand}
 use Rattle.pmd_base.specs.Home.{AreOut}
-use Rattle.pmd_base.proofs.Outside.{times_first, times_rest, times-cons, times-append, out_fewer, out_drawn, out_given, out_exchanged}
+use Rattle.pmd_base.proofs.Outside.{times_first, times_rest, times-append, out_fewer, out_given, out_exchanged}
 use Rattle.pmd_rx.specs.Keeping.{Keeps, blocks_out}
 use Rattle.pmd_tx.specs.Leaving.{lent_of}
 use Rattle.pmd_tx.proofs.Counting.{not_lent}
@@ -88,15 +88,5 @@ back_goes r n goes = home_goes r n (grind (arith, nat_tests, goes)) (grind (arit
 pub released_up : (r : Running) (n : ℕ) → GoesBack r n → IsUp r → IsUp (record r { arena = with_free r.arena n true })
 released_up r n goes up = record {
   home = out_given r.arena (rings_out r) n (out_joined r.arena (rings_out r) n goes.own goes.away goes.none up.home);
-  filled = up.filled;
-}
-
--- a packet is made
-
-pub made_up : (r : Running) (n : ℕ) → is_free r.arena n ≡ true → IsUp r
-    → IsUp (record r { arena = with_free r.arena n false })
-made_up r n free up = record {
-  home = out_fewer (with_free r.arena n false) (n ∷ rings_out r) (rings_out r)
-      (out_drawn r.arena (rings_out r) n up.home free) (λ k. omega (arith, times-cons n (rings_out r) k));
   filled = up.filled;
 }

@@ -14,19 +14,8 @@ use Rattle.pmd_queue.specs.Made.{Access, Sees, AreMade, IsSeen, ReadFails}
 use Rattle.pmd_queue.specs.Sides.{missed, polled, PollsEnd}
 use Rattle.pmd_queue.proofs.Sequences.{both_made, next_made}
 
--- polls that end by a read that fails
-pub polls_end : (q : AtPort) (f : PmdFault) (old mid new : List Call) (side : Dir) (on : Bool) (misses polls : ℕ)
-    → misses < polls → AreMade q old mid (missed side on misses) → ReadFails f q mid new (enable_row side)
-    → PollsEnd f q old new side on polls
-polls_end q BadSize old mid new side on misses polls below made fails = fails
-polls_end q ForeignBlock old mid new side on misses polls below made fails = fails
-polls_end q StartTimeout old mid new side on misses polls below made fails = absurd fails
-polls_end q NoBuffer old mid new side on misses polls below made fails = fails
-polls_end q DeviceFault old mid new side on misses polls below made fails = (misses, mid, below, made, fails)
-polls_end q (fault.Call refused) old mid new side on misses polls below made fails = (misses, mid, below, made, fails)
-
 -- one miss more
-pub replicate-last : (n : ℕ) (a : Access) → replicate (n + 1) a ≡ replicate n a ++ a ∷ []
+replicate-last : (n : ℕ) (a : Access) → replicate (n + 1) a ≡ replicate n a ++ a ∷ []
 replicate-last n a = sym (replicate-append-replicate n 1 a)
 
 -- two Bools that are alike, and two that aren't

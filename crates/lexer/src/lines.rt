@@ -66,6 +66,7 @@ fn behind_return(text: &str) -> Option<&str>
 }
 
 /// What stands behind the first line of a text, where that line is empty.
+#[inline(always)]
 pub(crate) fn behind_empty(text: &str) -> Option<&str>
     ensures cases { MatchOption result (prefix_len is_nothing (lines text.now) ≡ 0)
         (λ behind. lines text.now ≡ [] ∷ lines behind.now) }
@@ -113,6 +114,7 @@ impl<'a> Lines<'a> {
     ///
     /// After `None` the lines are as they were. It says nothing of the next line: one of that form is left
     /// too where blanks stand before its name, or no line feed behind it.
+    #[inline(always)]
     pub fn take_pair(&mut self, name: &str) -> Option<Pair>
         requires { is_name name.now ≡ true }
         ensures some { IfSome result (λ pair. TakesPair name.now pair self.old self.new) }

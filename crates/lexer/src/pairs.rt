@@ -10,6 +10,7 @@ use crate::numbers::number_in_front;
 use crate::words::behind_blanks;
 
 /// The number behind the blanks in front, of which there is one at least, and what stands behind it.
+#[inline(always)]
 fn operand(text: &str) -> Option<(u32, &str)>
     ensures { IfSome result (λ split. IsOperand text.now split.0 split.1.now) }
 {

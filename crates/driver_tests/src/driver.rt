@@ -1,100 +1,30 @@
 //! A driver over a device in hand, from its start to its stop.
 
+use crate::bench::{
+    self, arrive, blocks, close, frame_of, has_bytes, opened, reap, received, send, started,
+};
 use crate::outcome::{done, refused, some};
 use dma_arena::{Arena, Buf, Octets};
-use nic_device::{Config, Device, Event, Parts, Port, Reply};
+use nic_device::{Event, Port, Reply};
 use pmd::{Pmd, Rest, StartRefused, StopRefused};
-use pmd_base::{Direct, Nic, Packet, PmdFault, Setup, pf_setup};
+use pmd_base::{Direct, Nic, Packet, PmdFault};
 use pmd_halt::Home;
-use pmd_tx::{TxAnswer, TxFault};
+use pmd_tx::TxFault;
 use std::alloc::Global;
 use std::process::Abort;
-use vf_map::Mode;
 
 /// A frame of TCP over IPv4, of 60 bytes: from 02:00:00:00:00:02 to 02:00:00:00:00:01.
-const TCP_FRAME: [u8; 60] = [
+pub const TCP_FRAME: [u8; 60] = [
     0x02, 0x00, 0x00, 0x00, 0x00, 0x01, 0x02, 0x00, 0x00, 0x00, 0x00, 0x02, 0x08, 0x00, 0x45, 0x00,
     0x00, 0x28, 0x00, 0x00, 0x00, 0x00, 0x40, 0x06, 0x00, 0x00, 0x42, 0x09, 0x95, 0xbb, 0xa1, 0x8e,
     0x64, 0x50, 0x0a, 0xea, 0x06, 0xe6, 0x00, 0x00, 0x00, 0x00, 0x00, 0x00, 0x00, 0x00, 0x50, 0x10,
     0x00, 0x00, 0x00, 0x00, 0x00, 0x00, 0x00, 0x00, 0x00, 0x00, 0x00, 0x00,
 ];
 
-/// A promiscuous device without virtual functions, stepped on the queue of this number.
-fn opened<R: Abort>(rt: &R, alloc: Global, queue: u16) -> Direct {
-    let device = done(rt, Device::new(alloc, Config { vfs: 0, fifo: 64 }));
-    let mut direct = Direct::new(alloc, device, queue);
-    let setup = Setup {
-        mode: Mode::Off,
-        mrqc: 0,
-        key: [0; 40],
-        reta: [0; 128],
-        promiscuous: true,
-    };
-    done(rt, pf_setup(alloc, &mut direct, &setup));
-    direct
-}
-
-/// The blocks 4 to 35, all free.
-fn blocks<R: Abort>(rt: &R, alloc: Global) -> Arena {
-    done(rt, Arena::new(alloc, 4, 32))
-}
-
-/// A driver of queue 0 with rings of 8.
-fn started<R: Abort>(rt: &R, alloc: Global, direct: &mut Direct) -> Pmd {
-    done(
-        rt,
-        Pmd::start(alloc, direct, Port::Pf, 0, 8, blocks(rt, alloc)),
-    )
-}
-
 /// Ends a device to which nothing is lent. Answers its frames out.
 fn end<R: Abort>(rt: &R, direct: Direct) -> Vec<(u8, Octets)> {
     let (device, _calls) = direct.finish();
-    let Parts {
-        memory,
-        frames,
-        image: _,
-    } = device.dismantle();
-    done(rt, memory.finish());
-    frames
-}
-
-/// Sees that nothing is lost and all blocks are free. Answers how many packets were handed out and accepted.
-fn close<R: Abort>(rt: &R, home: Home) -> (usize, usize) {
-    let Home {
-        arena,
-        lost,
-        handed,
-        accepted,
-    } = home;
-    assert_eq!(rt; lost, 0);
-    done(rt, arena.close());
-    (handed.len(), accepted.len())
-}
-
-/// Lets a frame arrive, which goes into the device's list.
-fn arrive<R: Abort>(rt: &R, alloc: Global, direct: &mut Direct, bytes: Vec<u8>) {
-    match done(rt, direct.call(alloc, Event::Arrive(Octets::of(bytes)))) {
-        Reply::Done => {}
-        _other => panic!(rt; "the frame was dropped"),
-    }
-}
-
-/// The frame of this number, of 60 bytes and as many as the number.
-fn frame_of<R: Abort>(rt: &R, alloc: Global, number: u8) -> Vec<u8> {
-    let mut bytes = Vec::new(alloc);
-    let mut next = number;
-    for _byte in 0..60 + usize::from(number) {
-        bytes.push(next).expect(rt, "memory");
-        next = next.wrapping_mul(5).wrapping_add(1);
-    }
-    bytes
-}
-
-/// Whether these are the packet's bytes.
-fn has_bytes(packet: &Packet, frame: &[u8]) -> bool {
-    let bytes: &[u8] = packet.buf.bytes();
-    &bytes[..usize::from(packet.len).min(2048)] == frame
+    bench::end(rt, device)
 }
 
 /// The block of this number, which is lent.
@@ -103,29 +33,6 @@ fn taken<R: Abort>(rt: &R, alloc: Global, direct: &mut Direct, block: u32) -> Bu
         Reply::Buf(buf) => buf,
         _other => panic!(rt; "the block isn't lent"),
     }
-}
-
-/// The next packet, where one waits.
-fn received<R: Abort>(rt: &R, alloc: Global, direct: &mut Direct, pmd: &mut Pmd) -> Option<Packet> {
-    done(rt, pmd.rx(alloc, direct))
-}
-
-/// Sends a packet that the ring has room for.
-fn send<R: Abort>(rt: &R, alloc: Global, direct: &mut Direct, pmd: &mut Pmd, packet: Packet) {
-    match done(rt, pmd.tx(alloc, direct, packet)) {
-        TxAnswer::Taken => {}
-        TxAnswer::RingFull(_packet) => panic!(rt; "the ring is full"),
-    }
-}
-
-/// Reaps until no packet is outstanding.
-fn reap<R: Abort>(rt: &R, alloc: Global, direct: &mut Direct, pmd: &mut Pmd) {
-    for _turn in 0..10 {
-        if done(rt, pmd.reap(alloc, direct)).idle {
-            return;
-        }
-    }
-    panic!(rt; "packets stay outstanding");
 }
 
 /// The driver that a refused start leaves, with blocks lent.
@@ -149,7 +56,7 @@ fn close_rest<R: Abort>(rt: &R, rest: Rest) {
 #[test]
 fn a_frame_is_received_and_sent_again(rt: HostRuntime) {
     let alloc = rt.alloc();
-    let mut direct = opened(&rt, alloc, 0);
+    let mut direct = opened(&rt, alloc, 64, 0);
     let mut pmd = started(&rt, alloc, &mut direct);
     let frame = Vec::from_array(alloc, TCP_FRAME).expect(&rt, "memory");
     arrive(&rt, alloc, &mut direct, frame);
@@ -172,9 +79,9 @@ fn a_frame_is_received_and_sent_again(rt: HostRuntime) {
 #[test]
 fn two_hundred_frames_go_through_a_ring_of_eight(rt: HostRuntime) {
     let alloc = rt.alloc();
-    let mut direct = opened(&rt, alloc, 0);
+    let mut direct = opened(&rt, alloc, 64, 0);
     let mut pmd = started(&rt, alloc, &mut direct);
-    for first in (0..200_u8).step_by(5) {
+    for first in (0..200_u16).step_by(5) {
         for number in first..first.saturating_add(5) {
             let frame = frame_of(&rt, alloc, number);
             arrive(&rt, alloc, &mut direct, frame);
@@ -192,7 +99,7 @@ fn two_hundred_frames_go_through_a_ring_of_eight(rt: HostRuntime) {
     assert!(rt; close(&rt, home) == (200, 200));
     let frames = end(&rt, direct);
     assert_eq!(rt; frames.len(), 200);
-    for (number, (_port, bytes)) in (0..200_u8).zip(frames.iter()) {
+    for (number, (_port, bytes)) in (0..200_u16).zip(frames.iter()) {
         let frame = frame_of(&rt, alloc, number);
         assert!(rt; bytes.bytes() == frame.as_slice());
     }
@@ -201,7 +108,7 @@ fn two_hundred_frames_go_through_a_ring_of_eight(rt: HostRuntime) {
 #[test]
 fn a_ring_of_twelve_is_of_no_size(rt: HostRuntime) {
     let alloc = rt.alloc();
-    let mut direct = opened(&rt, alloc, 0);
+    let mut direct = opened(&rt, alloc, 64, 0);
     let arena = blocks(&rt, alloc);
     let start = Pmd::start(alloc, &mut direct, Port::Pf, 0, 12, arena);
     let StartRefused { fault, rest } = refused(&rt, start);
@@ -213,7 +120,7 @@ fn a_ring_of_twelve_is_of_no_size(rt: HostRuntime) {
 #[test]
 fn eight_blocks_are_too_few_for_a_ring_of_eight(rt: HostRuntime) {
     let alloc = rt.alloc();
-    let mut direct = opened(&rt, alloc, 0);
+    let mut direct = opened(&rt, alloc, 64, 0);
     let arena = done(&rt, Arena::new(alloc, 0, 8));
     let start = Pmd::start(alloc, &mut direct, Port::Pf, 0, 8, arena);
     let StartRefused { fault, rest } = refused(&rt, start);
@@ -226,7 +133,7 @@ fn eight_blocks_are_too_few_for_a_ring_of_eight(rt: HostRuntime) {
 #[test]
 fn a_queue_that_nobody_steps_on_starts_no_driver(rt: HostRuntime) {
     let alloc = rt.alloc();
-    let mut direct = opened(&rt, alloc, 5);
+    let mut direct = opened(&rt, alloc, 64, 5);
     let arena = blocks(&rt, alloc);
     let start = Pmd::start(alloc, &mut direct, Port::Pf, 0, 8, arena);
     let StartRefused { fault, rest } = refused(&rt, start);
@@ -239,7 +146,7 @@ fn a_queue_that_nobody_steps_on_starts_no_driver(rt: HostRuntime) {
 #[test]
 fn a_packet_of_another_arena_comes_back(rt: HostRuntime) {
     let alloc = rt.alloc();
-    let mut direct = opened(&rt, alloc, 0);
+    let mut direct = opened(&rt, alloc, 64, 0);
     let mut pmd = started(&rt, alloc, &mut direct);
     let mut other = done(&rt, Arena::new(alloc, 100, 1));
     let packet = Packet {
@@ -268,7 +175,7 @@ fn a_packet_of_another_arena_comes_back(rt: HostRuntime) {
 #[test]
 fn a_stop_that_was_refused_is_tried_again(rt: HostRuntime) {
     let alloc = rt.alloc();
-    let mut direct = opened(&rt, alloc, 0);
+    let mut direct = opened(&rt, alloc, 64, 0);
     let pmd = started(&rt, alloc, &mut direct);
     let (device, _calls) = direct.finish();
     let mut direct = Direct::new(alloc, device, 5);
@@ -289,7 +196,7 @@ fn a_stop_that_was_refused_is_tried_again(rt: HostRuntime) {
 #[test]
 fn a_block_that_is_gone_is_lost(rt: HostRuntime) {
     let alloc = rt.alloc();
-    let mut direct = opened(&rt, alloc, 0);
+    let mut direct = opened(&rt, alloc, 64, 0);
     let pmd = started(&rt, alloc, &mut direct);
     let gone = taken(&rt, alloc, &mut direct, 9);
     let Home {

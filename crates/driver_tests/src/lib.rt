@@ -1,12 +1,23 @@
-//! What no contract says of the driver: that its calls succeed where memory is ample, over a device in hand and over
-//! one that two threads share, and that what they write is what the device then does.
+//! What no contract says of the driver: that its calls succeed where memory is ample, over a device in hand, among
+//! foreign events and over one that two threads share, that what they write is what the device then does, and that a
+//! driver comes to its end whatever others do to its queue.
 #![tactic(auto)]
 
 #[cfg(test)]
+mod bench;
+#[cfg(test)]
 mod driver;
+#[cfg(test)]
+mod hostile;
+#[cfg(test)]
+mod interleaved;
 #[cfg(test)]
 mod outcome;
 #[cfg(test)]
 mod queues;
+#[cfg(test)]
+mod random;
+#[cfg(test)]
+mod schedule;
 #[cfg(test)]
 mod through_lock;

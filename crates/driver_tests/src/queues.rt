@@ -1,7 +1,8 @@
 //! A queue at a port of a device in hand.
 
+use crate::bench::end;
 use crate::outcome::{done, refused, some};
-use nic_device::{Config, Device, Dir, Parts, Port};
+use nic_device::{Config, Device, Dir, Port};
 use pmd_base::{Direct, PmdFault, Setup, pf_setup};
 use pmd_queue::{POLLS, Queue};
 use std::alloc::Global;
@@ -32,13 +33,7 @@ fn words_at_end<R: Abort>(rt: &R, direct: Direct) -> [u32; 4] {
         some(rt, device.peek_register(0x06080)),
         some(rt, device.peek_register(0x010A8)),
     ];
-    let Parts {
-        memory,
-        frames,
-        image: _,
-    } = device.dismantle();
-    assert_eq!(rt; frames.len(), 0);
-    done(rt, memory.finish());
+    assert_eq!(rt; end(rt, device).len(), 0);
     words
 }
 

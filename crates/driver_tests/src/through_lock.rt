@@ -1,8 +1,9 @@
 //! A way to a device that two threads share.
 
+use crate::bench::end;
 use crate::outcome::{done, refused, some};
 use device_lock::{CallFault, Pass, Shared};
-use nic_device::{Device, Dir, Event, Parts, Port, Reply};
+use nic_device::{Dir, Event, Port, Reply};
 use pmd_base::Nic;
 use pmd_lock::ThroughLock;
 use pmd_queue::{POLLS, Queue};
@@ -12,17 +13,6 @@ use std::sync::Wait;
 use std::thread::join_mut;
 
 type Bench = Shared<0, 64>;
-
-/// Ends a device that no memory was lent to.
-fn end(rt: &impl Abort, device: Device) {
-    let Parts {
-        memory,
-        frames,
-        image: _,
-    } = device.dismantle();
-    assert_eq!(rt; frames.len(), 0);
-    done(rt, memory.finish());
-}
 
 /// Whether a call for a step of receiving was refused for a full history.
 fn is_full(rt: &impl Abort, fault: CallFault) -> bool {
@@ -71,7 +61,7 @@ fn two_threads_switch_queues_of_one_device(rt: HostRuntime) {
     let closed = done(&rt, bench.close(passes));
     assert_eq!(rt; closed.history().len(), 40);
     assert_eq!(rt; done(&rt, closed.of_pass(alloc, 1)).len(), 20);
-    end(&rt, closed.into_device());
+    assert_eq!(rt; end(&rt, closed.into_device()).len(), 0);
 }
 
 #[test]
@@ -88,5 +78,6 @@ fn a_call_is_behind_the_steps_of_its_queue(rt: HostRuntime) {
     let pass = nic.finish();
     assert_eq!(rt; pass.calls().len(), 7);
     passes.push(pass).expect(&rt, "memory");
-    end(&rt, done(&rt, bench.close(passes)).into_device());
+    let device = done(&rt, bench.close(passes)).into_device();
+    assert_eq!(rt; end(&rt, device).len(), 0);
 }

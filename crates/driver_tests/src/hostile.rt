@@ -1,0 +1,284 @@
+//! A driver whose queue others don't leave alone: nothing is promised of its packets, and it still comes to its end.
+
+use crate::bench::{device, frame_of, make, started, taken_apart};
+use crate::outcome::{done, some};
+use crate::schedule::{Left, Schedule, add, finish, give_back, push, push_steps, take_all};
+use device_lock::Call;
+use dma_arena::{Arena, Buf, Octets};
+use nic_device::{Device, Dir, Event, Port, Reply};
+use pmd::{Pmd, StopRefused};
+use pmd_base::{Direct, Nic, Packet};
+use pmd_halt::Home;
+use pmd_interleaved::Interleaved;
+use pmd_tx::{TxAnswer, TxFault};
+use std::alloc::Global;
+use std::process::Abort;
+
+/// Foreign writes, by address and word, none of which leaves queue 0 of a driver alone.
+#[rattlefmt::skip]
+const WRITES: [(u32, u32); 24] = [
+    (0x01018, 5),           // RDT, a slot of the ring
+    (0x01018, 200),         // RDT, no slot of the ring
+    (0x01010, 3),           // RDH
+    (0x01000, 0x0010_0000), // RDBAL
+    (0x01004, 1),           // RDBAH
+    (0x01008, 0),           // RDLEN
+    (0x01014, 0x0400_0002), // SRRCTL, another type of descriptor
+    (0x02100, 0),           // SRRCTL by its other address, no buffer size
+    (0x01028, 0),           // RXDCTL, off
+    (0x06018, 7),           // TDT, a slot of the ring
+    (0x06018, 99),          // TDT, no slot of the ring
+    (0x06010, 3),           // TDH
+    (0x06000, 0x0010_0000), // TDBAL
+    (0x06008, 0),           // TDLEN
+    (0x06028, 0),           // TXDCTL, off
+    (0x06038, 0x0010_0001), // TDWBAL, the head is written back where nothing is lent
+    (0x00000, 0x0400_0000), // CTRL, a reset
+    (0x00004, 0x0000_0008), // CTRL by its other address, a reset
+    (0x00000, 0x0000_0004), // CTRL, no step is made
+    (0x04240, 0x0000_0407), // HLREG0, long frames
+    (0x04268, 0),           // MAXFRS
+    (0x11050, 0x0000_0003), // GCR_EXT, 64 pools
+    (0x03000, 0),           // RXCTRL, nothing is received
+    (0x04A80, 0),           // DMATXCTL, nothing is sent
+];
+
+/// A device, a driver of its queue 0 that has started, and where the driver's two rings are.
+struct Begun {
+    device: Device,
+    pmd: Pmd,
+    receive_ring: u32,
+    transmit_ring: u32,
+}
+
+/// A driver that starts while its queue is left alone.
+fn begin<R: Abort>(rt: &R, alloc: Global) -> Begun {
+    let mut direct = Direct::new(alloc, device(rt, alloc, 64), 0);
+    let pmd = started(rt, alloc, &mut direct);
+    let (device, _calls) = direct.finish();
+    let receive_ring = some(rt, device.peek_register(0x01000));
+    let transmit_ring = some(rt, device.peek_register(0x06000));
+    Begun {
+        device,
+        pmd,
+        receive_ring,
+        transmit_ring,
+    }
+}
+
+/// So many lists of the steps of queue 0, with a frame that arrives in each fifth.
+fn traffic<R: Abort>(rt: &R, alloc: Global, schedule: &mut Schedule, count: u16) {
+    for number in 0..count {
+        let mut list = Vec::new(alloc);
+        push_steps(rt, &mut list);
+        if number % 5 == 0 {
+            let frame = frame_of(rt, alloc, number);
+            push(rt, &mut list, Event::Arrive(Octets::of(frame)));
+        }
+        add(rt, schedule, list);
+    }
+}
+
+/// Sends a packet. It is released where it comes back.
+fn offer<R: Abort, N: Nic>(rt: &R, alloc: Global, nic: &mut N, pmd: &mut Pmd, packet: Packet) {
+    match pmd.tx(alloc, nic, packet) {
+        Ok(TxAnswer::Taken) => {}
+        Ok(TxAnswer::RingFull(packet)) => done(rt, pmd.release(packet)),
+        Err(TxFault { fault: _, packet }) => match packet {
+            Some(packet) => done(rt, pmd.release(packet)),
+            None => {}
+        },
+    }
+}
+
+/// Thirty rounds, whatever the driver answers.
+fn drive<R: Abort, N: Nic>(rt: &R, alloc: Global, nic: &mut N, pmd: &mut Pmd) {
+    for _round in 0..30 {
+        match pmd.rx(alloc, nic) {
+            Ok(Some(packet)) => offer(rt, alloc, nic, pmd, packet),
+            Ok(None) | Err(_) => {}
+        }
+        match pmd.packet(60) {
+            Some(packet) => offer(rt, alloc, nic, pmd, packet),
+            None => {}
+        }
+        let _answer = pmd.reap(alloc, nic);
+    }
+}
+
+/// A driver in whose midst these events are made. It stops, and each of its blocks is home or counted as lost. Blocks
+/// that the events lend are of the second arena. Answers the calls until the stop.
+fn endures<R: Abort>(
+    rt: &R,
+    alloc: Global,
+    begun: Begun,
+    list: Vec<Event>,
+    second: Arena,
+) -> Vec<Call> {
+    let Begun {
+        device,
+        mut pmd,
+        receive_ring: _,
+        transmit_ring: _,
+    } = begun;
+    let mut schedule = Vec::new(alloc);
+    traffic(rt, alloc, &mut schedule, 40);
+    add(rt, &mut schedule, list);
+    traffic(rt, alloc, &mut schedule, 300);
+    let mut nic = Interleaved::new(alloc, device, schedule);
+    drive(rt, alloc, &mut nic, &mut pmd);
+    let stopped = pmd.stop(alloc, &mut nic);
+    let Left {
+        device,
+        calls,
+        foreign: _,
+        lists: _,
+        bufs,
+    } = finish(rt, alloc, nic);
+    let mut direct = Direct::new(alloc, device, 0);
+    let home = match stopped {
+        Ok(home) => home,
+        Err(StopRefused { fault: _, pmd }) => stopped_again(rt, alloc, &mut direct, pmd),
+    };
+    let (device, _calls) = direct.finish();
+    settle(rt, home, device, bufs, second);
+    calls
+}
+
+/// Switches the steps of the device on again, and stops the driver.
+fn stopped_again<R: Abort>(rt: &R, alloc: Global, direct: &mut Direct, pmd: Pmd) -> Home {
+    make(rt, alloc, direct, Event::Write(Port::Pf, 0, 0));
+    done(rt, pmd.stop(alloc, direct))
+}
+
+/// Sees that all blocks are home or lost, and that the lost ones and those of the second arena are where the others
+/// left them: in hand, or still lent.
+fn settle<R: Abort>(rt: &R, home: Home, device: Device, mut bufs: Vec<Buf>, mut second: Arena) {
+    let Home {
+        mut arena,
+        lost,
+        handed: _,
+        accepted: _,
+    } = home;
+    assert_eq!(rt; u64::from(arena.free_blocks()) + u64::from(lost), 32);
+    let (memory, _frames) = taken_apart(device);
+    take_all(rt, &mut bufs, memory);
+    give_back(rt, bufs, &mut arena, &mut second);
+    done(rt, arena.close());
+    done(rt, second.close());
+}
+
+/// An arena of the same numbers as the driver's.
+fn second<R: Abort>(rt: &R, alloc: Global) -> Arena {
+    done(rt, Arena::new(alloc, 4, 32))
+}
+
+/// A list of writes.
+fn writes<R: Abort>(rt: &R, alloc: Global, port: Port, words: &[(u32, u32)]) -> Vec<Event> {
+    let mut list = Vec::new(alloc);
+    for (address, word) in words {
+        push(rt, &mut list, Event::Write(port, *address, *word));
+    }
+    list
+}
+
+#[test]
+fn a_driver_stops_whatever_others_write(rt: HostRuntime) {
+    let alloc = rt.alloc();
+    for word in WRITES {
+        let list = writes(&rt, alloc, Port::Pf, &[word]);
+        endures(&rt, alloc, begin(&rt, alloc), list, second(&rt, alloc));
+    }
+}
+
+/// The mode is changed, so that queue 0 is a virtual function's: it writes RDT, and its pool is reset.
+#[test]
+fn a_driver_stops_whatever_a_virtual_function_writes(rt: HostRuntime) {
+    let alloc = rt.alloc();
+    for word in [(0x1018, 5), (0x1028, 0), (0x0000, 0x0400_0000)] {
+        let mut list = writes(&rt, alloc, Port::Pf, &[(0x11050, 3)]);
+        let (offset, value) = word;
+        push(&rt, &mut list, Event::Write(Port::Vf(0), offset, value));
+        endures(&rt, alloc, begin(&rt, alloc), list, second(&rt, alloc));
+    }
+}
+
+/// The first of its receive ring's blocks, all blocks, a block of each number lent beside them.
+#[test]
+fn a_driver_stops_though_others_take_its_blocks(rt: HostRuntime) {
+    let alloc = rt.alloc();
+    for (first, count) in [(4, 1), (5, 1), (9, 1), (4, 32)] {
+        let mut list = Vec::new(alloc);
+        for number in 0..count {
+            push(&rt, &mut list, Event::Take(first + number));
+        }
+        endures(&rt, alloc, begin(&rt, alloc), list, second(&rt, alloc));
+    }
+}
+
+#[test]
+fn a_driver_stops_though_others_lend_blocks_of_its_numbers(rt: HostRuntime) {
+    let alloc = rt.alloc();
+    let mut second = second(&rt, alloc);
+    let mut list = Vec::new(alloc);
+    for number in 4..36 {
+        push(
+            &rt,
+            &mut list,
+            Event::Lend(some(&rt, second.take_at(number))),
+        );
+    }
+    endures(&rt, alloc, begin(&rt, alloc), list, second);
+}
+
+#[test]
+fn a_driver_stops_though_others_write_its_descriptors(rt: HostRuntime) {
+    let alloc = rt.alloc();
+    for byte in [0x00, 0x01, 0xFF] {
+        let begun = begin(&rt, alloc);
+        let mut list = Vec::new(alloc);
+        for slot in 0..8 {
+            let (receive, transmit) = (begun.receive_ring, begun.transmit_ring);
+            push(
+                &rt,
+                &mut list,
+                Event::Poke16(receive.saturating_add(16 * slot), [byte; 16]),
+            );
+            push(
+                &rt,
+                &mut list,
+                Event::Poke16(transmit.saturating_add(16 * slot), [byte; 16]),
+            );
+        }
+        endures(&rt, alloc, begun, list, second(&rt, alloc));
+    }
+}
+
+/// Queue 3 is laid over the driver's transmit ring, so that it sends the driver's packets and writes that they are
+/// done.
+#[test]
+fn a_driver_stops_though_another_queue_writes_its_ring(rt: HostRuntime) {
+    let alloc = rt.alloc();
+    let begun = begin(&rt, alloc);
+    let words = [
+        (0x060C0, begun.transmit_ring), // TDBAL
+        (0x060C8, 128), // TDLEN
+        (0x060E8, 0x0200_0000), // TXDCTL
+        (0x060D8, 7), // TDT
+    ];
+    let mut list = writes(&rt, alloc, Port::Pf, &words);
+    push(&rt, &mut list, Event::QueueStep(Dir::Tx, 3));
+    for _step in 0..7 {
+        push(&rt, &mut list, Event::TxStep(3));
+    }
+    let calls = endures(&rt, alloc, begun, list, second(&rt, alloc));
+    let written_back = |call: &Call| matches!(
+        &call.reply,
+        Reply::Sent {
+            queue: 3,
+            back: Some(_),
+            ..
+        }
+    );
+    assert!(rt; calls.iter().any(written_back));
+}

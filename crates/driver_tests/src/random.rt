@@ -1,0 +1,366 @@
+//! A driver among foreign events that are drawn at random, none of which touches its queue.
+
+use crate::bench::{device, frame_of, reap, started, taken_apart};
+use crate::outcome::{done, some};
+use crate::schedule::{Left, Schedule, add, finish, give_back, push, take_all};
+use device_lock::Call;
+use dma_arena::{Arena, Buf, Octets};
+use nic_device::{Device, Dir, Event, Group, Port, Reply};
+use pmd::Pmd;
+use pmd_base::{Direct, Nic, Packet, Record};
+use pmd_halt::Home;
+use pmd_interleaved::Interleaved;
+use pmd_tx::TxAnswer;
+use std::alloc::Global;
+use std::collections::VecDeque;
+use std::process::Abort;
+
+/// Numbers that look random, from a seed that isn't 0.
+#[derive(Drop)]
+struct Random {
+    state: u32,
+}
+
+impl Random {
+    /// The next number: three shifts, each joined by exclusive or.
+    fn next(&mut self) -> u32 {
+        self.state ^= self.state.wrapping_mul(8192);
+        self.state ^= self.state >> 17;
+        self.state ^= self.state.wrapping_mul(32);
+        self.state
+    }
+
+    /// A number below 256.
+    fn byte(&mut self) -> u8 {
+        let [_low, byte, _, _] = self.next().to_le_bytes();
+        byte
+    }
+
+    /// A block number from 200 to 231.
+    fn block(&mut self) -> u32 {
+        200 + self.next() % 32
+    }
+
+    /// The number of a queue, or of none.
+    fn queue(&mut self) -> u16 {
+        u16::from(self.byte()) % 130
+    }
+
+    /// A side of a queue.
+    fn side(&mut self) -> Dir {
+        if self.byte() % 2 == 0 {
+            Dir::Rx
+        } else {
+            Dir::Tx
+        }
+    }
+}
+
+/// A bus address of 16 bytes in a block from 200 to 231.
+fn address(random: &mut Random) -> u32 {
+    let first = random.block().saturating_mul(2048);
+    first.saturating_add(16 * (random.next() % 128))
+}
+
+/// The block of this number, lent where the arena has it free.
+fn lend(arena: &mut Arena, block: u32) -> Event {
+    match arena.take_at(block) {
+        Some(buf) => Event::Lend(buf),
+        None => Event::Take(block),
+    }
+}
+
+/// An event on interrupts, the link or the EEPROM.
+fn other_event(random: &mut Random) -> Event {
+    match random.byte() % 8 {
+        0 => Event::Write(Port::Pf, 0x00808, random.next()), // EICS
+        1 => Event::Write(Port::Pf, 0x00880, random.next()), // EIMS
+        2 => Event::Read(Port::Pf, 0x00800), // EICR
+        3 => Event::IntStep(Group::Pf),
+        4 => Event::IntStep(Group::Vf(random.byte())),
+        5 => Event::Link(random.byte() % 4 != 0),
+        6 => Event::EepromStep,
+        _more => Event::Collect,
+    }
+}
+
+/// Where foreign events come from: numbers that look random, and two arenas of the same numbers, 200 to 231, none of
+/// which is the driver's.
+struct Others {
+    random: Random,
+    first: Arena,
+    second: Arena,
+}
+
+impl Others {
+    /// With all blocks free.
+    fn new<R: Abort>(rt: &R, alloc: Global, seed: u32) -> Others {
+        Others {
+            random: Random { state: seed },
+            first: done(rt, Arena::new(alloc, 200, 32)),
+            second: done(rt, Arena::new(alloc, 200, 32)),
+        }
+    }
+
+    /// An event on memory that isn't the driver's.
+    fn memory_event(&mut self) -> Event {
+        let block = self.random.block();
+        match self.random.byte() % 5 {
+            0 => lend(&mut self.first, block),
+            1 => lend(&mut self.second, block),
+            2 => Event::Take(block),
+            3 => Event::Peek16(address(&mut self.random)),
+            _more => Event::Poke16(address(&mut self.random), [self.random.byte(); 16]),
+        }
+    }
+
+    /// A foreign event that leaves the driver's queue alone.
+    fn event<R: Abort>(&mut self, rt: &R, alloc: Global) -> Event {
+        match self.random.byte() % 16 {
+            0 | 1 | 2 => Event::RxStep,
+            3 | 4 => Event::TxStep(0),
+            5 => Event::TxStep(self.random.queue()),
+            6 => Event::QueueStep(self.random.side(), self.random.queue()),
+            7 => Event::QueueStep(self.random.side(), 0),
+            8 | 9 => Event::Link(true),
+            10 | 11 | 12 => {
+                let frame = frame_of(rt, alloc, u16::from(self.random.byte()));
+                Event::Arrive(Octets::of(frame))
+            }
+            13 | 14 => self.memory_event(),
+            _more => other_event(&mut self.random),
+        }
+    }
+
+    /// So many lists of up to five such events.
+    fn lists<R: Abort>(&mut self, rt: &R, alloc: Global, count: usize) -> Schedule {
+        let mut schedule = Vec::new(alloc);
+        for _list in 0..count {
+            let mut list = Vec::new(alloc);
+            for _event in 0..self.random.byte() % 6 {
+                push(rt, &mut list, self.event(rt, alloc));
+            }
+            add(rt, &mut schedule, list);
+        }
+        schedule
+    }
+
+    /// All blocks come back.
+    fn close<R: Abort>(self, rt: &R, bufs: Vec<Buf>) {
+        let Others {
+            random: _,
+            mut first,
+            mut second,
+        } = self;
+        give_back(rt, bufs, &mut first, &mut second);
+        done(rt, first.close());
+        done(rt, second.close());
+    }
+}
+
+/// What calls tell of queue 0: the frames that wait, those that were written, how many came and went out, and those
+/// that were collected.
+#[derive(Drop)]
+struct Tally<'a> {
+    waiting: VecDeque<&'a [u8]>,
+    written: Vec<&'a [u8]>,
+    arrived: u32,
+    sent: u32,
+    collected: Vec<&'a [u8]>,
+}
+
+impl<'a> Tally<'a> {
+    /// Of no calls.
+    fn new(alloc: Global) -> Self {
+        Tally {
+            waiting: VecDeque::new(alloc),
+            written: Vec::new(alloc),
+            arrived: 0,
+            sent: 0,
+            collected: Vec::new(alloc),
+        }
+    }
+
+    /// One call more.
+    fn add<R: Abort>(&mut self, rt: &R, call: &'a Call) {
+        match (&call.event, &call.reply) {
+            (Event::Arrive(frame), Reply::Done) => {
+                self.arrived = self.arrived.saturating_add(1);
+                self.waiting.push_back(frame.bytes()).expect(rt, "memory");
+            }
+            (Event::RxStep, Reply::Wrote { end, len, .. }) => {
+                let frame = some(rt, self.waiting.pop_front());
+                assert!(rt; *end && frame.len() == *len);
+                self.written.push(frame).expect(rt, "memory");
+            }
+            (Event::RxStep, Reply::Dropped(_)) => {
+                let _frame = some(rt, self.waiting.pop_front());
+            }
+            (Event::TxStep(_), Reply::Sent { .. }) => self.sent = self.sent.saturating_add(1),
+            (Event::Collect, Reply::Frame { bytes, .. }) => {
+                self.collected.push(bytes.bytes()).expect(rt, "memory");
+            }
+            _other => {}
+        }
+    }
+
+    /// So many calls more.
+    fn add_all<R: Abort>(&mut self, rt: &R, calls: &'a [Call]) {
+        for call in calls {
+            self.add(rt, call);
+        }
+    }
+}
+
+/// Whether the records are the first of these frames.
+fn are_first(records: &[Record], frames: &[&[u8]]) -> bool {
+    records.len() <= frames.len()
+        && records
+            .iter()
+            .zip(frames.iter())
+            .all(|(record, frame)| record.bytes() == *frame)
+}
+
+/// Sends a packet, where there is room for it.
+fn offer<R: Abort, N: Nic>(rt: &R, alloc: Global, nic: &mut N, pmd: &mut Pmd, packet: Packet) {
+    match done(rt, pmd.tx(alloc, nic, packet)) {
+        TxAnswer::Taken => {}
+        TxAnswer::RingFull(packet) => done(rt, pmd.release(packet)),
+    }
+}
+
+/// So many rounds: a packet that came in is sent again, now and then one of the driver's own, and now and then those
+/// that were sent are reaped.
+fn drive<R: Abort, N: Nic>(
+    rt: &R,
+    alloc: Global,
+    random: &mut Random,
+    nic: &mut N,
+    pmd: &mut Pmd,
+    rounds: usize,
+) {
+    for _round in 0..rounds {
+        match done(rt, pmd.rx(alloc, nic)) {
+            Some(packet) => offer(rt, alloc, nic, pmd, packet),
+            None => {}
+        }
+        if random.byte() % 4 == 0 {
+            let packet = some(rt, pmd.packet(1 + u16::from(random.byte())));
+            offer(rt, alloc, nic, pmd, packet);
+        }
+        if random.byte() % 2 == 0 {
+            let _reaped = done(rt, pmd.reap(alloc, nic));
+        }
+    }
+}
+
+/// A driver amid random events, and what was made so far.
+struct Amid {
+    pmd: Pmd,
+    left: Left,
+}
+
+/// Starts a driver among random events, and drives it.
+fn driven<R: Abort>(rt: &R, alloc: Global, others: &mut Others) -> Amid {
+    let lists = others.lists(rt, alloc, 2500);
+    let mut nic = Interleaved::new(alloc, device(rt, alloc, 64), lists);
+    let mut pmd = started(rt, alloc, &mut nic);
+    drive(rt, alloc, &mut others.random, &mut nic, &mut pmd, 190);
+    let left = finish(rt, alloc, nic);
+    Amid { pmd, left }
+}
+
+/// What was handed out are the first of the frames that these calls wrote for queue 0, and no more went out than was
+/// accepted.
+fn is_well<R: Abort>(rt: &R, alloc: Global, calls: &[Call], pmd: &Pmd) {
+    let mut tally = Tally::new(alloc);
+    tally.add_all(rt, calls);
+    assert!(rt; are_first(pmd.handed(), tally.written.as_slice()));
+    assert!(rt; tally.sent as usize <= pmd.accepted().len());
+}
+
+/// With the link up and nothing but the steps of its queue before each call, the driver hands out what waits, and what
+/// it accepted goes out.
+fn settle<R: Abort>(rt: &R, alloc: Global, others: &mut Others, nic: &mut Direct, pmd: &mut Pmd) {
+    match done(rt, nic.call(alloc, Event::Link(true))) {
+        Reply::Done | Reply::Idle => {}
+        _other => panic!(rt; "the link"),
+    }
+    drive(rt, alloc, &mut others.random, nic, pmd, 100);
+    reap(rt, alloc, nic, pmd);
+}
+
+/// What the registers count is what the calls tell.
+fn counts_agree<R: Abort>(rt: &R, device: &Device, tally: &Tally<'_>) {
+    let [arrived, written, sent] = [
+        some(rt, device.peek_register(0x04074)), // GPRC
+        some(rt, device.peek_register(0x01030)), // QPRC
+        some(rt, device.peek_register(0x06030)), // QPTC
+    ];
+    assert_eq!(rt; arrived, tally.arrived);
+    assert_eq!(rt; written as usize, tally.written.len());
+    assert_eq!(rt; sent, tally.sent);
+}
+
+/// All that was written was handed out, and these frames, which went out, are all that was accepted.
+fn all_agree<R: Abort>(rt: &R, home: Home, tally: &Tally<'_>, out: &[&[u8]]) {
+    let Home {
+        arena,
+        lost,
+        handed,
+        accepted,
+    } = home;
+    assert_eq!(rt; lost, 0);
+    done(rt, arena.close());
+    assert_eq!(rt; handed.len(), tally.written.len());
+    assert!(rt; are_first(handed.as_slice(), tally.written.as_slice()));
+    assert_eq!(rt; accepted.len(), out.len());
+    assert!(rt; are_first(accepted.as_slice(), out));
+    assert_eq!(rt; accepted.len(), tally.sent as usize);
+}
+
+/// One schedule, drawn from a seed. Answers how many foreign events were made.
+fn among_events_of<R: Abort>(rt: &R, alloc: Global, seed: u32) -> usize {
+    let mut others = Others::new(rt, alloc, seed);
+    let Amid { mut pmd, left } = driven(rt, alloc, &mut others);
+    let Left {
+        device,
+        calls,
+        foreign,
+        lists: _,
+        mut bufs,
+    } = left;
+    is_well(rt, alloc, calls.as_slice(), &pmd);
+    let mut direct = Direct::new(alloc, device, 0);
+    settle(rt, alloc, &mut others, &mut direct, &mut pmd);
+    let home = done(rt, pmd.stop(alloc, &mut direct));
+    let (device, later) = direct.finish();
+    let mut tally = Tally::new(alloc);
+    tally.add_all(rt, calls.as_slice());
+    tally.add_all(rt, later.as_slice());
+    counts_agree(rt, &device, &tally);
+    let (memory, frames) = taken_apart(device);
+    let mut out: Vec<&[u8]> = Vec::new(alloc);
+    for frame in &tally.collected {
+        out.push(*frame).expect(rt, "memory");
+    }
+    for (_queue, frame) in &frames {
+        out.push(frame.bytes()).expect(rt, "memory");
+    }
+    all_agree(rt, home, &tally, out.as_slice());
+    take_all(rt, &mut bufs, memory);
+    others.close(rt, bufs);
+    foreign
+}
+
+/// Some 20,000 foreign events in all. What the driver hands out are the first of the frames that were written for its
+/// queue, all of them in the end; what goes out are the first of those that it accepted, all of them in the end.
+#[test]
+fn a_driver_is_well_among_random_events(rt: HostRuntime) {
+    let alloc = rt.alloc();
+    let mut made: usize = 0;
+    for seed in [1, 82_599, 0x2021_1123, 0xFFFF_FFFF] {
+        made = made.saturating_add(among_events_of(&rt, alloc, seed));
+    }
+    assert!(rt; made > 20_000, "made {made}");
+}

@@ -1,0 +1,145 @@
+//! Lists of foreign events for an `Interleaved`, and what is left of them at its end.
+
+use crate::outcome::{done, some};
+use device_lock::Call;
+use dma_arena::{Arena, Buf, LentMemory};
+use nic_device::{Device, Dir, Event, Reply};
+use pmd_interleaved::{Finished, Interleaved};
+use std::alloc::Global;
+use std::process::Abort;
+
+/// Lists of foreign events, one for each of the next calls.
+pub type Schedule = Vec<Vec<Event>>;
+
+/// Puts a list behind a schedule.
+pub fn add<R: Abort>(rt: &R, schedule: &mut Schedule, list: Vec<Event>) {
+    match schedule.push(list) {
+        Ok(()) => {}
+        Err(_refused) => panic!(rt; "memory"),
+    }
+}
+
+/// Puts an event behind a list.
+pub fn push<R: Abort>(rt: &R, list: &mut Vec<Event>, event: Event) {
+    match list.push(event) {
+        Ok(()) => {}
+        Err(_refused) => panic!(rt; "memory"),
+    }
+}
+
+/// Puts the steps of queue 0 behind a list: both sides are switched, it sends, and the device receives.
+pub fn push_steps<R: Abort>(rt: &R, list: &mut Vec<Event>) {
+    push(rt, list, Event::QueueStep(Dir::Rx, 0));
+    push(rt, list, Event::QueueStep(Dir::Tx, 0));
+    push(rt, list, Event::TxStep(0));
+    push(rt, list, Event::RxStep);
+}
+
+/// Lets an event go. The block that it would have lent is its hand's.
+fn let_go<R: Abort>(rt: &R, bufs: &mut Vec<Buf>, event: Event) {
+    match event {
+        Event::Lend(buf) => keep(rt, bufs, buf),
+        Event::Read(_, _) | Event::Write(_, _, _) | Event::Take(_) => {}
+        Event::Peek16(_) | Event::Poke16(_, _) => {}
+        Event::Arrive(_frame) => {}
+        Event::RxStep | Event::TxStep(_) | Event::IntStep(_) | Event::QueueStep(_, _) => {}
+        Event::EepromStep | Event::Link(_) | Event::Collect => {}
+    }
+}
+
+/// Lets a reply go. The block that it hands out is its hand's.
+fn let_reply_go<R: Abort>(rt: &R, bufs: &mut Vec<Buf>, reply: Reply) {
+    match reply {
+        Reply::Buf(buf) | Reply::Twice(buf) => keep(rt, bufs, buf),
+        Reply::Word(_) | Reply::Stray(_) | Reply::Done | Reply::Bytes(_) => {}
+        Reply::NotLent | Reply::Misaligned | Reply::NoQueue | Reply::NoGroup | Reply::Idle => {}
+        Reply::Dropped(_) => {}
+        Reply::Wrote { .. } | Reply::Advanced { .. } | Reply::Sent { .. } => {}
+        Reply::Fault { .. } | Reply::Message { .. } => {}
+        Reply::Frame { .. } => {}
+    }
+}
+
+/// Puts a block behind those in hand.
+fn keep<R: Abort>(rt: &R, bufs: &mut Vec<Buf>, buf: Buf) {
+    match bufs.push(buf) {
+        Ok(()) => {}
+        Err(_refused) => panic!(rt; "memory"),
+    }
+}
+
+/// Lets the events of a list go.
+fn let_all_go<R: Abort>(rt: &R, bufs: &mut Vec<Buf>, mut list: Vec<Event>) {
+    for _event in 0..list.len() {
+        let_go(rt, bufs, some(rt, list.pop()));
+    }
+    assert!(rt; list.is_empty());
+    list.destroy_empty();
+}
+
+/// What an `Interleaved` leaves: the device, the calls, how many foreign events were made and how many lists weren't,
+/// and the blocks that foreign events took or didn't lend.
+pub struct Left {
+    /// The device.
+    pub device: Device,
+    /// The calls that were made.
+    pub calls: Vec<Call>,
+    /// How many foreign events were made.
+    pub foreign: usize,
+    /// How many lists weren't made.
+    pub lists: usize,
+    /// The blocks of foreign events.
+    pub bufs: Vec<Buf>,
+}
+
+/// Ends an `Interleaved`, and lets its schedule and the foreign replies go.
+pub fn finish<R: Abort>(rt: &R, alloc: Global, nic: Interleaved) -> Left {
+    let Finished {
+        device,
+        calls,
+        foreign: mut replies,
+        mut schedule,
+    } = nic.finish();
+    let mut bufs = Vec::new(alloc);
+    let (foreign, lists) = (replies.len(), schedule.len());
+    for _reply in 0..foreign {
+        let_reply_go(rt, &mut bufs, some(rt, replies.pop()));
+    }
+    assert!(rt; replies.is_empty());
+    replies.destroy_empty();
+    for _list in 0..lists {
+        let_all_go(rt, &mut bufs, some(rt, schedule.pop()));
+    }
+    assert!(rt; schedule.is_empty());
+    schedule.destroy_empty();
+    Left {
+        device,
+        calls,
+        foreign,
+        lists,
+        bufs,
+    }
+}
+
+/// Takes back all that is lent to a device.
+pub fn take_all<R: Abort>(rt: &R, bufs: &mut Vec<Buf>, mut memory: LentMemory) {
+    for _block in 0..1000 {
+        match memory.lowest() {
+            Some(block) => keep(rt, bufs, some(rt, memory.take(block))),
+            None => {}
+        }
+    }
+    done(rt, memory.finish());
+}
+
+/// Gives each block to the first of two arenas that it is missing from.
+pub fn give_back<R: Abort>(rt: &R, mut bufs: Vec<Buf>, first: &mut Arena, second: &mut Arena) {
+    for _buf in 0..bufs.len() {
+        match first.give(some(rt, bufs.pop())) {
+            Ok(()) => {}
+            Err(buf) => done(rt, second.give(buf)),
+        }
+    }
+    assert!(rt; bufs.is_empty());
+    bufs.destroy_empty();
+}

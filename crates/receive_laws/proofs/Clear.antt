@@ -18,7 +18,7 @@ use Rattle.device_lock.specs.declared.alone.Watched.{Watched}
 use Rattle.pmd_base.specs.Events.{is_step}
 
 -- bytes that are in none of the pass's blocks are outside each of them
-clear_avoids : (mine : Blocks) (at len b : ℕ) → IsClear mine at len → IsTrue (mine b) → 0 < len → Avoids b at len
+pub clear_avoids : (mine : Blocks) (at len b : ℕ) → IsClear mine at len → IsTrue (mine b) → 0 < len → Avoids b at len
 clear_avoids mine at len b clear is some = elim (cases_lt (2048 * b) (at + len)) [
   | inr low ↦ inl (omega (arith, low))
   | inl high ↦ elim (cases_lt at (2048 * b + 2048)) as (λ _. Avoids b at len) [

@@ -9,6 +9,7 @@ pub mod Examples
 pub mod Filled
 pub mod Foreign
 pub mod Histories
+pub mod Inside
 pub mod Kept
 pub mod Lending
 pub mod Looking

@@ -41,11 +41,11 @@ module _ (s : State) (queue : ℕ) (l : Layout) (here : List Piece) (ring : IsRi
       inside_of own.ring l.size side.sized
       (subst (λ x. x < l.size) (sym side.head) head) (subst (λ x. x < l.size) (sym side.tail) tail)
 
-  head_is : head_address own.ring ≡ descriptor_at l (length here)
+  pub head_is : head_address own.ring ≡ descriptor_at l (length here)
   head_is = address_small _ _ l.ring (slot_at l (length here)) side.base side.head ring.ring
       (slot_low l (length here) ring h.within)
 
-  buffer_is : length here < length l.blocks
+  pub buffer_is : length here < length l.blocks
       → buffer_address s.memory own.ring ≡ 2048 * block_at l (length here)
   buffer_is room =
       buffer_even _ (block_at l (length here))

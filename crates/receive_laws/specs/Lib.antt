@@ -1,5 +1,6 @@
 pub mod Delivered
 pub mod Histories
+pub mod Inside
 pub mod Joint
 pub mod Pieces
 pub mod Starting

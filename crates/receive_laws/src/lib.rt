@@ -7,6 +7,7 @@
 #![tactic(auto)]
 
 ghost use Rattle.receive_laws.specs.Histories.{HandedIsPrefix, NoneIsAll};
+ghost use Rattle.receive_laws.specs.Inside.{PieceIsInside};
 ghost use Rattle.receive_laws.specs.Starting.{StartAgrees};
 ghost use Rattle.receive_laws.specs.Steps.{LookTellsSlot, ReceiveStepKeeps, EnableStepKeeps, LeavingKeeps, OwnEventKeeps, ForeignEntryKeeps, DeviceStepKeeps};
 
@@ -19,6 +20,12 @@ pub fn look_tells_the_slot()
 /// first posted slot becomes the last filled one, or nothing changes there. A fault is impossible.
 pub fn receive_step_keeps_the_agreement()
     ensures { ReceiveStepKeeps }
+{}
+
+/// A step of receiving on the driver's own queue writes its descriptor into the ring's block, and its bytes into the
+/// block of one of the ring's slots.
+pub fn receive_step_stays_in_its_blocks()
+    ensures { PieceIsInside }
 {}
 
 /// An event that leaves the receive side of the queue and the driver's blocks as they were keeps what they agree on,

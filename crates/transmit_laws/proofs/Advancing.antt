@@ -36,7 +36,7 @@ module _ (s : State) (queue : ℕ) (sent : List (List ℕ)) (v : Sender) (f : �
   unfolding step_of
   written_tail port n word own = rw (own.1, own.2, own.3) (ap (λ m. named_written s m slot) h.based.tail)
 
-  setting_kept : (port : Port) (n word : ℕ) → IsOwn v Advances (event.Write port n word)
+  pub setting_kept : (port : Port) (n word : ℕ) → IsOwn v Advances (event.Write port n word)
       → WritesNoSetting s (event.Write port n word)
   setting_kept port n word own p view found =
       let here : named s port n ≡ Register (place Tdt queue) 0xFFFFFFFF = rw (own.1, own.2) h.based.tail in

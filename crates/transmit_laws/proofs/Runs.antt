@@ -53,7 +53,7 @@ length-bytes_of (p ∷ ps) = ap suc (length-bytes_of ps)
 
 module _ (s : State) (queue : ℕ) (sent : List (List ℕ)) (v : Sender) (f : ℕ) (h : AgreesAt s queue sent v f) where
   -- with none outstanding all that was accepted is sent
-  idle-all : length v.outstanding ≡ 0 → bytes_of v.accepted ≡ sent
+  pub idle-all : length v.outstanding ≡ 0 → bytes_of v.accepted ≡ sent
   idle-all none =
       h.in_order
       ∙ ap (λ (ps : List Outgoing). sent ++ bytes_of (kept_in ps)) (drop_all f v.outstanding (omega arith))

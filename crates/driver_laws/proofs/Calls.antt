@@ -1,0 +1,104 @@
+-- Both halves follow from the calls that were made.
+use Rattle.std.proofs.Common.{◌≡◌, Bool, true, false, List, [], ◌∷◌, ◌++◌, map, refl, sym, ap, ◌∙◌, subst, append_assoc}
+use Rattle.device_lock.specs.declared.entry.Call.{Call}
+use Rattle.pmd_rx.specs.Plays as receive
+use Rattle.pmd_rx.specs.Receive.{Receive}
+use Rattle.pmd_tx.specs.Plays as transmit
+use Rattle.pmd_tx.specs.Sending.{Sender, Move, Elsewhere}
+use Rattle.driver_laws.specs.Halves.{Halves, Doer, Receives, Sends, AllOwn, Drives, after_call, played_by, ReceivingDrives, SendingDrives, OthersDrive, DrivesOn}
+
+-- the calls of one half
+
+abbrev doer_marked : Bool → Doer
+doer_marked true = Receives
+doer_marked false = Sends Elsewhere
+
+receives_own : (h : Halves) (marks : List Bool) (calls : List Call) → receive.AllOwn h.receive marks calls
+    → AllOwn h (map doer_marked marks) calls
+receives_own h [] [] own = tt
+receives_own h [] (n ∷ calls) own = own
+receives_own h (m ∷ marks) [] own = own
+receives_own h (true ∷ marks) (n ∷ calls) own =
+    (own.0, receives_own (after_call h Receives n) marks calls own.1)
+receives_own h (false ∷ marks) (n ∷ calls) own = (tt, receives_own h marks calls own.1)
+
+receives_played : (h : Halves) (marks : List Bool) (calls : List Call)
+    → played_by h (map doer_marked marks) calls ≡ record h { receive = receive.played_by h.receive marks calls }
+receives_played h [] calls = refl
+receives_played h (m ∷ marks) [] = refl
+receives_played h (true ∷ marks) (n ∷ calls) = receives_played (after_call h Receives n) marks calls
+receives_played h (false ∷ marks) (n ∷ calls) = receives_played h marks calls
+
+pub receiving_drives : ReceivingDrives
+receiving_drives old new h k (marks, since, made, own, is) same = (
+  map doer_marked marks,
+  since,
+  made,
+  receives_own h marks since own,
+  (λ i. record { receive = is i; transmit = same i }) ∙ sym (receives_played h marks since),
+)
+
+sends_own : (h : Halves) (moves : List Move) (calls : List Call) → transmit.AllOwn h.transmit moves calls
+    → AllOwn h (map Sends moves) calls
+sends_own h [] [] own = tt
+sends_own h [] (n ∷ calls) own = own
+sends_own h (m ∷ moves) [] own = own
+sends_own h (m ∷ moves) (n ∷ calls) own = (own.0, sends_own (after_call h (Sends m) n) moves calls own.1)
+
+sends_played : (h : Halves) (moves : List Move) (calls : List Call)
+    → played_by h (map Sends moves) calls ≡ record h { transmit = transmit.played_by h.transmit moves calls }
+sends_played h [] calls = refl
+sends_played h (m ∷ moves) [] = refl
+sends_played h (m ∷ moves) (n ∷ calls) = sends_played (after_call h (Sends m) n) moves calls
+
+pub sending_drives : SendingDrives
+sending_drives old new h k (moves, since, made, own, is) same = (
+  map Sends moves,
+  since,
+  made,
+  sends_own h moves since own,
+  (λ i. record { receive = same i; transmit = is i }) ∙ sym (sends_played h moves since),
+)
+
+-- calls that are neither's
+
+abbrev others : List Call → List Doer
+others [] = []
+others (n ∷ calls) = Sends Elsewhere ∷ others calls
+
+others_own : (h : Halves) (calls : List Call) → AllOwn h (others calls) calls
+others_own h [] = tt
+others_own h (n ∷ calls) = (tt, others_own h calls)
+
+others_played : (h : Halves) (calls : List Call) → h ≡ played_by h (others calls) calls
+others_played h [] = refl
+others_played h (n ∷ calls) = others_played h calls
+
+pub others_drive : OthersDrive
+others_drive old new h (since, made) = (others since, since, made, others_own h since, others_played h since)
+
+-- one after another
+
+both_own : (h : Halves) (ds es : List Doer) (ms ns : List Call) → AllOwn h ds ms → AllOwn (played_by h ds ms) es ns
+    → AllOwn h (ds ++ es) (ms ++ ns)
+both_own h [] es [] ns first then = then
+both_own h [] es (m ∷ ms) ns first then = absurd first
+both_own h (d ∷ ds) es [] ns first then = absurd first
+both_own h (d ∷ ds) es (m ∷ ms) ns first then = (first.0, both_own (after_call h d m) ds es ms ns first.1 then)
+
+both_played : (h : Halves) (ds es : List Doer) (ms ns : List Call) → AllOwn h ds ms
+    → played_by h (ds ++ es) (ms ++ ns) ≡ played_by (played_by h ds ms) es ns
+both_played h [] es [] ns own = refl
+both_played h [] es (m ∷ ms) ns own = absurd own
+both_played h (d ∷ ds) es [] ns own = absurd own
+both_played h (d ∷ ds) es (m ∷ ms) ns own = both_played (after_call h d m) ds es ms ns own.1
+
+pub drives_on : DrivesOn
+drives_on old mid new h j k (ds, ms, made, own, is) (es, ns, more, then, was) =
+    let here : AllOwn (played_by h ds ms) es ns = subst (λ x. AllOwn x es ns) is then in (
+      ds ++ es,
+      ms ++ ns,
+      more ∙ ap (λ (calls : List Call). calls ++ ns) made ∙ append_assoc old ms ns,
+      both_own h ds es ms ns own here,
+      was ∙ ap (λ x. played_by x es ns) is ∙ sym (both_played h ds es ms ns own),
+    )

@@ -1,0 +1,204 @@
+-- One entry of a history that leaves the driver's queue alone keeps what the device and both halves agree on.
+use Rattle.std.proofs.Common.{◌≡◌, ◌≢◌, ℕ, ◌+◌, Bool, true, false, List, [], ◌++◌, refl, sym, ap, ◌∙◌, subst, arith}
+use Rattle.std.specs.Prelude.{IsTrue, ⊤}
+use Rattle.std.proofs.lemmas.List.{append-nil}
+use Rattle.dma_arena.specs.Block.{Block}
+use Rattle.dma_arena.specs.Memory.{has_block}
+use Rattle.eeprom_image.specs.Image.{blank}
+use Rattle.vf_map.specs.declared.mode.Mode.{Mode}
+use Rattle.register_file.specs.Pools.{mode_in}
+use Rattle.nic_device.specs.Sound.{IsEvent, IsSound}
+use Rattle.nic_device.specs.State.{State}
+use Rattle.nic_device.specs.Step.{after, reply_to}
+use Rattle.nic_device.specs.declared.event.Event.{Event}
+use Rattle.nic_device.specs.declared.event.Event.TheVariants as event
+use Rattle.nic_device.proofs.Steps.{step_leads, keeps_sound}
+use Rattle.device_lock.specs.Alone.{Blocks, LeavesRegisters, LeavesBlocks, WritesOutside, mode_after}
+use Rattle.device_lock.specs.Pass.{call_of}
+use Rattle.device_lock.specs.declared.alone.Watched.{Watched}
+use Rattle.pmd_rx.specs.Receive as receiving
+use Rattle.pmd_rx.specs.Receive.{drive}
+use Rattle.pmd_tx.specs.Sending as sending
+use Rattle.pmd_tx.specs.Sending.{Move, Accepts, Asks, Advances, Looks, Reaps, Elsewhere, has_lent, moved}
+use Rattle.history_laws.specs.Aligned.{AreAligned}
+use Rattle.history_laws.proofs.Aligned.{events_aligned}
+use Rattle.history_laws.proofs.Modes.{event_told}
+use Rattle.receive_laws.specs.Joint.{Agree}
+use Rattle.receive_laws.specs.Pieces.{Piece, pieces}
+use Rattle.receive_laws.specs.Steps.{Each}
+use Rattle.receive_laws.proofs.Foreign.{foreign_keeps}
+use Rattle.receive_laws.proofs.Kept.{leaving_keeps}
+use Rattle.receive_laws.proofs.Mine.{LendsMine, mine_driven}
+use Rattle.receive_laws.proofs.Own.{own_keeps}
+use Rattle.transmit_laws.specs.Sent.{sent_by}
+use Rattle.transmit_laws.specs.Sparing.{Spares}
+use Rattle.transmit_laws.specs.Turns.{MayMove}
+use Rattle.transmit_laws.proofs.LeftBlocks.{left_alone_is_spared}
+use Rattle.transmit_laws.proofs.Mine.{mine-moved}
+use Rattle.transmit_laws.proofs.Playing.{moves_keep}
+use Rattle.transmit_laws.proofs.Sparing.{sparing_events_keep}
+use Rattle.driver_laws.specs.Agreeing.{AreLent, BothAgree}
+use Rattle.driver_laws.specs.Halves.{Halves, Doer, Receives, Sends, OwnCall, after_call}
+use Rattle.driver_laws.specs.Histories.{is_neither}
+use Rattle.driver_laws.proofs.Apart.{receives_apart, sends_apart, lends_one}
+use Rattle.driver_laws.proofs.Each.{each_all}
+use Rattle.driver_laws.proofs.Receiving.{own_spares, receive_lent}
+use Rattle.driver_laws.proofs.Sending.{is_elsewhere, move_spares, sender_lent}
+use Rattle.driver_laws.proofs.Stepping.{received_spares, reports_spare}
+
+-- what holds between two entries: the device is sound, its rings aligned, its image blank, the mode is the one that was
+-- told, the device agrees with both halves, and their blocks are among these
+pub record Meets (w : Watched) (mine : Blocks) (mode : Mode) (s : State) (out : List Piece) (sent : List (List ℕ))
+    (h : Halves) : Type 0 where
+  pub sound : IsSound s
+  pub aligned : AreAligned s.registers
+  pub image : s.image ≡ blank
+  pub vfs : w.vfs ≡ s.vfs
+  pub mode_is : mode ≡ mode_in s.registers
+  pub both : BothAgree w.queue s out sent h
+  pub lent : AreLent mine h
+
+-- a move is an event that writes no piece
+no_pieces : (queue : ℕ) (s : State) (h : Halves) (m : Move) (e : Event Block) → is_elsewhere m ≡ false
+    → sending.IsOwn h.transmit m e → pieces queue s e ≡ []
+no_pieces queue s h (Accepts p) (event.Lend b) real own = refl
+no_pieces queue s h Asks (event.Poke16 a bytes) real own = refl
+no_pieces queue s h Advances (event.Write port n word) real own = refl
+no_pieces queue s h Looks (event.Peek16 a) real own = refl
+no_pieces queue s h Reaps (event.Take n) real own = refl
+no_pieces queue s h Elsewhere e real own = cc
+no_pieces queue s h m e real own = absurd own
+
+may_move : (queue : ℕ) (s : State) (h : Halves) (m : Move) (e : Event Block) → is_elsewhere m ≡ false
+    → sending.IsOwn h.transmit m e → IsEvent e → MayMove queue h.transmit s e m
+may_move queue s h Elsewhere e real own made = cc
+may_move queue s h (Accepts p) e real own made = (own, made)
+may_move queue s h Asks e real own made = (own, made)
+may_move queue s h Advances e real own made = (own, made)
+may_move queue s h Looks e real own made = (own, made)
+may_move queue s h Reaps e real own made = (own, made)
+
+module _ (w : Watched) (mine : Blocks) (mode : Mode) (s : State) (out : List Piece) (sent : List (List ℕ)) (h : Halves)
+    (m : Meets w mine mode s out sent h) (e : Event Block) (made : IsEvent e)
+    (steps : WritesOutside w.queue mine (reply_to s e)) where
+  abbrev t : State
+  t = after s e
+
+  abbrev Agrees : Halves → Type 0
+  Agrees k = BothAgree w.queue t (out ++ pieces w.queue s e) (sent ++ sent_by w.queue s e) k × AreLent mine k
+
+  sender_blocks : (n : ℕ) → IsTrue (has_lent h.transmit n) → has_block s.memory n ≡ true
+  sender_blocks = sender_lent s w.queue sent h.transmit m.both.transmit.0 m.both.transmit.1
+
+  -- an event that is neither half's
+
+  spared_by : (e : Event Block) → IsEvent e → LeavesRegisters w (mode_in s.registers) e → LeavesBlocks mine e
+      → WritesOutside w.queue mine (reply_to s e) → Spares w.queue h.transmit s e
+  spared_by event.RxStep is registers blocks outside =
+      received_spares w.queue mine s m.sound out h.receive m.both.receive outside h.transmit m.lent.transmit
+      m.both.apart
+  spared_by e is registers blocks outside = left_alone_is_spared w mine h.transmit s e (record {
+    sound = m.sound;
+    aligned = m.aligned;
+    made = is;
+    functions = m.vfs;
+    lent = m.lent.transmit;
+    registers = registers;
+    blocks = blocks;
+    steps = outside;
+    owed = tt;
+  })
+
+  neither_keeps : LeavesRegisters w mode e → LeavesBlocks mine e → Agrees h
+  neither_keeps registers blocks =
+      let here = subst (λ k. LeavesRegisters w k e) m.mode_is registers in (
+        record {
+          receive =
+              foreign_keeps w mine mode s out h.receive
+              (record { pass = w.pass + 1; event = e; reply = reply_to s e })
+              (record {
+                sound = m.sound;
+                aligned = m.aligned;
+                vfs = m.vfs;
+                mode_is = m.mode_is;
+                reply = refl;
+                event = made;
+              })
+              m.both.receive m.lent.receive
+              (reports_spare s w.queue sent h.transmit m.both.transmit.0 m.both.transmit.1 h.receive m.both.apart)
+              (record { registers = λ other. registers; blocks = λ other. blocks; steps = steps })
+              (λ x. absurd (omega (arith, x)));
+          transmit =
+              sparing_events_keep s w.queue sent h.transmit e m.both.transmit (spared_by e made here blocks steps);
+          apart = m.both.apart;
+        },
+        m.lent,
+      )
+
+  -- the receive half's
+
+  receives_keeps : receiving.IsOwn h.receive e → LendsMine mine e (reply_to s e)
+      → Agrees (record h { receive = drive h.receive e (reply_to s e) })
+  receives_keeps own lends =
+      let (gone, here, holds) = m.both.receive in (
+        record {
+          receive = own_keeps w.queue s out h.receive e m.sound m.both.receive own;
+          transmit =
+              sparing_events_keep s w.queue sent h.transmit e m.both.transmit
+              (own_spares w.queue s out h.receive gone here holds h.transmit sender_blocks m.both.apart e made own);
+          apart = receives_apart s h.receive h.transmit e sender_blocks m.both.apart;
+        },
+        record {
+          receive = mine_driven mine h.receive m.lent.receive e (reply_to s e) lends;
+          transmit = m.lent.transmit;
+        },
+      )
+
+  -- the transmit half's
+
+  sends_keeps : (move : Move) → is_elsewhere move ≡ false → sending.IsOwn h.transmit move e
+      → LendsMine mine e (reply_to s e)
+      → Agrees (record h { transmit = moved h.transmit move (reply_to s e) })
+  sends_keeps move real own lends =
+      let there = receive_lent w.queue s out h.receive m.both.receive in
+      let left = move_spares s w.queue sent h.transmit m.both.transmit.0 m.both.transmit.1 h.receive there
+      (each_all h.receive (λ n. IsTrue (has_lent h.transmit n)) (λ b n. b ≢ n) m.both.apart) move e real own in (
+        record {
+          receive =
+              subst (λ xs. Agree w.queue t (out ++ xs) h.receive) (sym (no_pieces w.queue s h move e real own))
+              (subst (λ xs. Agree w.queue t xs h.receive) (sym (append-nil out))
+              (leaving_keeps w.queue s t out h.receive left m.both.receive));
+          transmit =
+              moves_keep s w.queue sent h.transmit e move m.both.transmit (may_move w.queue s h move e real own made);
+          apart = sends_apart s h.receive h.transmit move e own there m.both.apart;
+        },
+        record {
+          receive = m.lent.receive;
+          transmit =
+              mine-moved mine h.transmit m.lent.transmit move (reply_to s e)
+              (lends_one mine h.transmit move e (reply_to s e) own lends);
+        },
+      )
+
+  -- by whose it is
+
+  pub doer_keeps : (d : Doer) → OwnCall h d (call_of e (reply_to s e))
+      → (is_neither d ≡ true → LeavesRegisters w mode e × LeavesBlocks mine e)
+      → (is_neither d ≡ false → LendsMine mine e (reply_to s e)) → Agrees (after_call h d (call_of e (reply_to s e)))
+  doer_keeps Receives own others lends = receives_keeps own (lends refl)
+  doer_keeps (Sends Elsewhere) own others lends = neither_keeps (others refl).0 (others refl).1
+  doer_keeps (Sends move) own others lends = sends_keeps move refl own (lends refl)
+
+  pub goes_on : (k : Halves) → Agrees k
+      → Meets w mine (mode_after w.vfs mode e) t (out ++ pieces w.queue s e) (sent ++ sent_by w.queue s e) k
+  goes_on k agrees =
+      let stays = (step_leads s e).stays in
+      record {
+        sound = keeps_sound s m.sound e made;
+        aligned = events_aligned s e m.sound m.aligned;
+        image = stays.image ∙ m.image;
+        vfs = m.vfs ∙ sym stays.vfs;
+        mode_is = (λ i. mode_after (m.vfs i) (m.mode_is i) e) ∙ event_told s m.sound m.image e;
+        both = agrees.0;
+        lent = agrees.1;
+      }

@@ -1,0 +1,91 @@
+-- What the driver handed out and what it sent, over a history of a new device.
+use Rattle.std.proofs.Common.{◌≡◌, ℕ, List, [], ◌∷◌, ◌++◌, length, drop, None, refl, sym, ap, ◌∙◌, subst}
+use Rattle.vf_map.specs.declared.mode.Mode.TheVariants.{Off}
+use Rattle.nic_device.specs.State.{State, new_state}
+use Rattle.device_lock.specs.Alone.{lent_by, mode_through}
+use Rattle.device_lock.specs.History.{calls_of, leads_to}
+use Rattle.device_lock.specs.declared.alone.Watched.{Watched}
+use Rattle.device_lock.specs.declared.entry.Entry.{Entry}
+use Rattle.history_laws.proofs.Aligned.{histories_aligned, new_aligned}
+use Rattle.history_laws.proofs.Alone.{alone_by_entries}
+use Rattle.history_laws.proofs.Modes.{mode_told}
+use Rattle.history_laws.proofs.Sound.{histories_sound}
+use Rattle.receive_laws.specs.Delivered as receive
+use Rattle.receive_laws.specs.Delivered.{delivered, packets_if_any, pieces_in, pieces_since}
+use Rattle.receive_laws.specs.Histories.{FindsNone}
+use Rattle.receive_laws.specs.Pieces.{packets_of}
+use Rattle.receive_laws.proofs.Delivering.{events_before, events_behind, image_stays, leads-append, legal_behind, lent_behind, since-append, vfs_stays}
+use Rattle.receive_laws.proofs.Prefix.{drained, handed_first}
+use Rattle.transmit_laws.specs.Agreeing.{bytes_of, kept_in}
+use Rattle.transmit_laws.specs.Laws as transmit
+use Rattle.transmit_laws.specs.Sent.{sent_in}
+use Rattle.transmit_laws.proofs.Runs.{idle-all}
+use Rattle.driver_laws.specs.Halves.{Halves, Doer, played_by}
+use Rattle.driver_laws.specs.Histories.{IsDriven, HandedIsPrefix, NoneIsAll, SentIsPrefix, IdleIsAllSent}
+use Rattle.driver_laws.proofs.Runs.{Led, leads}
+
+module _ (w : Watched) (fifo : ℕ) (start rest : List Entry) (h : Halves) (doers : List Doer)
+    (d : IsDriven w fifo start rest h doers) where
+  abbrev new : State
+  new = new_state w.vfs fifo
+
+  abbrev here : State
+  here = leads_to new start
+
+  abbrev last : Halves
+  last = played_by h doers (calls_of w.pass rest)
+
+  led : Led w here [] [] rest last
+  led =
+      let before = events_before start rest d.events in
+      leads w (lent_by w.pass (start ++ rest)) (mode_through w.vfs Off start) here [] [] h doers rest
+      (record {
+        sound = histories_sound new start d.new before;
+        aligned = histories_aligned new start d.new before (new_aligned w.vfs fifo);
+        image = image_stays new start;
+        vfs = sym (vfs_stays new start);
+        mode_is = mode_told w.vfs fifo start d.new before;
+        both = d.agree;
+        lent = d.lent;
+      })
+      (legal_behind new start rest d.legal) (events_behind start rest d.events)
+      (alone_by_entries w start rest d.alone d.begun) d.own d.others (λ n is. lent_behind w.pass n start rest is)
+
+  delivered_is : delivered w.queue new (start ++ rest) ≡ packets_of (pieces_in w.queue here rest)
+  delivered_is =
+      ap packets_if_any (since-append w.queue new None start rest
+      ∙ ap (λ so_far. pieces_since w.queue here so_far rest) d.on ∙ led.since [])
+
+  handed : receive.IsPrefixOf last.receive.handed (delivered w.queue new (start ++ rest))
+  handed =
+      subst (receive.IsPrefixOf last.receive.handed) (sym delivered_is)
+      (handed_first w.queue (leads_to here rest) (pieces_in w.queue here rest) last.receive led.both.receive)
+
+  none_left : FindsNone (leads_to new (start ++ rest)) last.receive
+      → last.receive.handed ≡ delivered w.queue new (start ++ rest)
+  none_left finds =
+      sym (drained w.queue (leads_to here rest) (pieces_in w.queue here rest) last.receive led.both.receive
+      (subst (λ s. FindsNone s last.receive) (leads-append new start rest) finds))
+      ∙ sym delivered_is
+
+  sent : transmit.IsPrefixOf (sent_in w.queue here rest) (bytes_of last.transmit.accepted)
+  sent =
+      let (f, agrees) = led.both.transmit in
+      (bytes_of (kept_in (drop f last.transmit.outstanding)), agrees.in_order)
+
+  idle : last.transmit.outstanding ≡ [] → bytes_of last.transmit.accepted ≡ sent_in w.queue here rest
+  idle none =
+      let (f, agrees) = led.both.transmit in
+      idle-all (leads_to here rest) w.queue (sent_in w.queue here rest) last.transmit f agrees (ap length none)
+
+pub handed_is_prefix : HandedIsPrefix
+handed_is_prefix = handed
+
+pub none_is_all : NoneIsAll
+none_is_all = none_left
+
+pub sent_is_prefix : SentIsPrefix
+sent_is_prefix = sent
+
+pub idle_is_all_sent : IdleIsAllSent
+idle_is_all_sent = idle

@@ -1,0 +1,11 @@
+pub mod Apart
+pub mod Calls
+pub mod Each
+pub mod Entries
+pub mod InOrder
+pub mod Lending
+pub mod Receiving
+pub mod Runs
+pub mod Sending
+pub mod Stepping
+pub mod Steps

@@ -1,0 +1,159 @@
+-- What an event of the receive half's own leaves: all blocks but its own, and the transmit side.
+use Rattle.std.proofs.Common.{◌≡◌, ◌≢◌, ℕ, ◌+◌, ◌*◌, ◌<◌, ◌≤◌, true, List, length, inl, inr, refl, sym, ap, ◌∙◌, subst, arith}
+use Rattle.std.specs.FinMap as map
+use Rattle.std.specs.Prelude.{IsTrue}
+use Rattle.std.proofs.lemmas.Bool.{cases_lt}
+use Rattle.dma_arena.specs.Block.{Block}
+use Rattle.dma_arena.specs.Memory.{Memory, Avoids, has_block}
+use Rattle.dma_arena.proofs.Inside.{inside_avoids}
+use Rattle.dma_ring.specs.Driver.{posted}
+use Rattle.dma_ring.proofs.Fields.{halves_come_back}
+use Rattle.reg_table.specs.declared.rows.RowId.TheVariants.{Rdt, Ctrl, Hlreg0, Maxfrs, GcrExt}
+use Rattle.register_file.specs.Columns.{place}
+use Rattle.nic_device.specs.Named.{named}
+use Rattle.nic_device.specs.Sound.{IsEvent}
+use Rattle.nic_device.specs.State.{State}
+use Rattle.nic_device.specs.Step.{after}
+use Rattle.nic_device.specs.declared.event.Event.{Event}
+use Rattle.nic_device.specs.declared.event.Event.TheVariants as event
+use Rattle.nic_device.specs.declared.event.Port.{Port}
+use Rattle.nic_device.specs.declared.named.Named.TheVariants.{Register}
+use Rattle.device_laws.specs.Laws.{WritesNoSetting}
+use Rattle.device_laws.specs.Leaving.{LeavesBlock, LeavesTransmit}
+use Rattle.device_laws.proofs.Standing.{memory_blocks, memory_rest, stays_within}
+use Rattle.device_laws.proofs.StandingAccesses.{write_memory, write_rest}
+use Rattle.pmd_rx.specs.Receive.{Layout, Stage, Looks, Sees, Holding, Lent, Named, Receive, IsOwn, TakesNext, NamesNext, MovesNext, slot_at, descriptor_at, block_at, vacant, naming}
+use Rattle.pmd_tx.specs.Sending.{Sender, has_lent}
+use Rattle.receive_laws.specs.Joint.{IsNamed, StageHolds, HasSlots, Holds, Agree}
+use Rattle.receive_laws.specs.Pieces.{Piece}
+use Rattle.receive_laws.specs.Steps.{Each, IfFresh}
+use Rattle.receive_laws.proofs.Kept.{slot_low}
+use Rattle.receive_laws.proofs.Places.{slot_inside}
+use Rattle.transmit_laws.specs.Sparing.{Spares}
+use Rattle.driver_laws.proofs.Lending.{lend_leaves}
+
+-- the blocks of the receive half are lent
+
+fresh_lent : (m : Memory) (l : Layout) (here : List Piece) (stage : Stage) → StageHolds m l here stage
+    → IfFresh stage (λ b. has_block m b ≡ true)
+fresh_lent m l here Looks h = tt
+fresh_lent m l here (Sees first second) h = tt
+fresh_lent m l here (Holding p) h = tt
+fresh_lent m l here (Lent o b) h = h.there
+fresh_lent m l here (Named o b) h = h.0.there
+
+slot_lent : (m : Memory) (l : Layout) (here : List Piece) → HasSlots m l here → (k : ℕ) → k < length l.blocks
+    → has_block m (block_at l k) ≡ true
+slot_lent m l here h k i =
+    elim (cases_lt k (length here)) as (λ _. has_block m (block_at l k) ≡ true) [
+      | inl filled ↦ (h.filled k filled).there
+      | inr more ↦ (h.posted k more i).there
+    ]
+
+pub receive_lent : (queue : ℕ) (s : State) (out : List Piece) (v : Receive) → Agree queue s out v
+    → Each v (λ b. has_block s.memory b ≡ true)
+receive_lent queue s out v (gone, here, h) = record {
+  ring = h.slots.there;
+  blocks = slot_lent s.memory v.layout here h.slots;
+  fresh = fresh_lent s.memory v.layout here v.stage h.stage;
+}
+
+-- the register of a write of the receive half's
+
+module _ (s : State) (queue : ℕ) (l : Layout) (name : IsNamed s queue l) (port : Port) (number word : ℕ) where
+  writes_tail : (stage : Stage) → MovesNext l stage port number word
+      → named s port number ≡ Register (place Rdt queue) 0xFFFFFFFF
+  writes_tail (Named o b) own = rw (own.0, own.1) name.tail
+  writes_tail Looks own = absurd own
+  writes_tail (Sees first second) own = absurd own
+  writes_tail (Holding p) own = absurd own
+  writes_tail (Lent o b) own = absurd own
+
+  no_setting : named s port number ≡ Register (place Rdt queue) 0xFFFFFFFF
+      → WritesNoSetting s (event.Write port number word)
+  no_setting here p view found =
+      let same : Register (place Rdt queue) 0xFFFFFFFF ≡ Register p view = sym here ∙ found in
+      let row : p.row ≡ Rdt = cc in
+      record {
+        control = λ e. let x : Rdt ≡ Ctrl = sym row ∙ e in cc;
+        jumbo = λ e. let x : Rdt ≡ Hlreg0 = sym row ∙ e in cc;
+        limit = λ e. let x : Rdt ≡ Maxfrs = sym row ∙ e in cc;
+        mode = λ e. let x : Rdt ≡ GcrExt = sym row ∙ e in cc;
+      }
+
+  transmit_left : named s port number ≡ Register (place Rdt queue) 0xFFFFFFFF
+      → LeavesTransmit queue s (after s (event.Write port number word))
+  transmit_left here =
+      (write_rest s port number word (place Rdt queue) 0xFFFFFFFF here refl refl).transmit queue (λ e. cc)
+
+module _ (queue : ℕ) (s : State) (out : List Piece) (v : Receive) (gone here : List Piece)
+    (h : Holds queue s out v gone here) where
+  -- blocks
+
+  module _ (number : ℕ) (has : has_block s.memory number ≡ true) (away : Each v (λ b. b ≢ number)) where
+    take_leaves : (n : ℕ) (stage : Stage) → StageHolds s.memory v.layout here stage → TakesNext v.layout stage n
+        → LeavesBlock number s (after s (event.Take n))
+    take_leaves n (Sees first second) saw own =
+        let some = saw.some in
+        let within = h.slots.within in
+        memory_blocks.take s n number (λ e. away.blocks 0 (omega (arith, some, within)) (sym (e ∙ own)))
+    take_leaves n Looks saw own = absurd own
+    take_leaves n (Holding p) saw own = absurd own
+    take_leaves n (Lent o b) saw own = absurd own
+    take_leaves n (Named o b) saw own = absurd own
+
+    name_leaves : (a : ℕ) (bytes : List ℕ) (stage : Stage) → NamesNext v.layout stage a bytes
+        → LeavesBlock number s (after s (event.Poke16 a bytes))
+    name_leaves a bytes (Lent o b) own =
+        let l = v.layout in
+        let size : length bytes ≡ 16 = ap length own.1 ∙ (halves_come_back (posted (2048 * b)) 0).size in
+        memory_blocks.poke s a bytes number
+        (subst (Avoids number a) (sym size)
+        (inside_avoids l.ring number a 16
+        (rw own.0 (slot_inside l.ring (slot_at l (vacant l)) (slot_low l (vacant l) h.ring (omega arith))))
+        (λ e. away.ring (sym e))))
+    name_leaves a bytes Looks own = absurd own
+    name_leaves a bytes (Sees first second) own = absurd own
+    name_leaves a bytes (Holding p) own = absurd own
+    name_leaves a bytes (Named o b) own = absurd own
+
+    own_leaves : (e : Event Block) → IsOwn v e → LeavesBlock number s (after s e)
+    own_leaves (event.Peek16 a) own = (stays_within s (event.Peek16 a)).blocks number refl
+    own_leaves (event.Take n) own = take_leaves n v.stage h.stage own
+    own_leaves (event.Lend b) own = lend_leaves s b number has
+    own_leaves (event.Poke16 a bytes) own = name_leaves a bytes v.stage own
+    own_leaves (event.Write port n word) own = ap (λ m. map.get m number) (write_memory s port n word)
+    own_leaves e own = absurd own
+
+  -- registers
+
+  own_setting : (e : Event Block) → IsOwn v e → WritesNoSetting s e
+  own_setting (event.Write port n word) own =
+      no_setting s queue v.layout h.named port n word
+      (writes_tail s queue v.layout h.named port n word v.stage own)
+  own_setting (event.Peek16 a) own = tt
+  own_setting (event.Take n) own = tt
+  own_setting (event.Lend b) own = tt
+  own_setting (event.Poke16 a bytes) own = tt
+  own_setting e own = absurd own
+
+  own_side : (e : Event Block) → IsOwn v e → LeavesTransmit queue s (after s e)
+  own_side (event.Write port n word) own =
+      transmit_left s queue v.layout h.named port n word
+      (writes_tail s queue v.layout h.named port n word v.stage own)
+  own_side (event.Peek16 a) own = (memory_rest.peek s a).queues.transmit queue
+  own_side (event.Take n) own = (memory_rest.take s n).queues.transmit queue
+  own_side (event.Lend b) own = (memory_rest.lend s b).queues.transmit queue
+  own_side (event.Poke16 a bytes) own = (memory_rest.poke s a bytes).queues.transmit queue
+  own_side e own = absurd own
+
+  -- so it spares the driver's transmit half
+  pub own_spares : (u : Sender) → ((number : ℕ) → IsTrue (has_lent u number) → has_block s.memory number ≡ true)
+      → ((number : ℕ) → IsTrue (has_lent u number) → Each v (λ b. b ≢ number)) → (e : Event Block) → IsEvent e
+      → IsOwn v e → Spares queue u s e
+  own_spares u lent apart e made own = record {
+    made = made;
+    setting = own_setting e own;
+    side = λ other switch. own_side e own;
+    blocks = λ other number is. own_leaves number (lent number is) (apart number is) e own;
+  }

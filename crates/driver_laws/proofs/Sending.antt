@@ -1,0 +1,125 @@
+-- What a move of the transmit half leaves: all blocks but its own, and the receive side.
+use Rattle.std.proofs.Common.{◌≡◌, ◌≢◌, ℕ, zero, suc, ◌+◌, ◌<◌, ◌≤◌, Bool, true, false, ◌||◌, List, [], ◌∷◌, length, inl, inr, refl, sym, ap, ◌∙◌, subst, arith}
+use Rattle.std.specs.FinMap as map
+use Rattle.std.specs.List.{list_any}
+use Rattle.std.specs.Prelude.{◌==◌, IsTrue, slice_index_or}
+use Rattle.std.proofs.lemmas.Bool.{or_cases, eqb-true}
+use Rattle.dma_arena.specs.Block.{Block}
+use Rattle.dma_arena.specs.Memory.{Avoids, has_block}
+use Rattle.dma_arena.proofs.Inside.{inside_avoids}
+use Rattle.reg_table.specs.declared.rows.RowId.TheVariants.{Tdt}
+use Rattle.register_file.specs.Columns.{place}
+use Rattle.nic_device.specs.Named.{named}
+use Rattle.nic_device.specs.State.{State}
+use Rattle.nic_device.specs.Step.{after}
+use Rattle.nic_device.specs.declared.event.Event.{Event}
+use Rattle.nic_device.specs.declared.event.Event.TheVariants as event
+use Rattle.nic_device.specs.declared.named.Named.TheVariants.{Register}
+use Rattle.device_laws.specs.Laws.{WritesNoSetting}
+use Rattle.device_laws.specs.Leaving.{LeavesBlock, LeavesReceive}
+use Rattle.device_laws.proofs.KeptSettings.{settings_stand}
+use Rattle.device_laws.proofs.Standing.{memory_blocks, memory_rest, stays_within}
+use Rattle.device_laws.proofs.StandingAccesses.{write_memory, write_rest}
+use Rattle.pmd_rx.specs.Receive.{Receive}
+use Rattle.pmd_tx.specs.Sending.{Outgoing, Sender, Move, Accepts, Asks, Advances, Looks, Reaps, Elsewhere, IsOwn, asking, blocks_of, descriptor_at, has_lent, no_packet, packet_at}
+use Rattle.receive_laws.specs.Steps.{Each, Leaves}
+use Rattle.receive_laws.proofs.Each.{each_map}
+use Rattle.transmit_laws.specs.Agreeing.{AgreesAt}
+use Rattle.transmit_laws.proofs.Advancing.{setting_kept}
+use Rattle.transmit_laws.proofs.Blocks.{has_lent-ring, has_lent-packet, slot-inside}
+use Rattle.transmit_laws.proofs.Fetching.{length-asking}
+use Rattle.driver_laws.proofs.Each.{each_both}
+use Rattle.driver_laws.proofs.Lending.{lend_leaves}
+
+abbrev pub is_elsewhere : Move → Bool
+is_elsewhere Elsewhere = true
+is_elsewhere other = false
+
+-- a block of the transmit half is the ring's, or that of an outstanding packet
+any_packet : (ps : List Outgoing) (n : ℕ) → list_any (λ b. n == b) (blocks_of ps) ≡ true
+    → (k : ℕ) × (k < length ps) × (n ≡ (slice_index_or ps k no_packet).block)
+any_packet [] n is = cc
+any_packet (p ∷ ps) n is = elim (or_cases (n == p.block) (list_any (λ b. n == b) (blocks_of ps)) is) [
+  | inl here ↦ (0, omega arith, eqb-true n p.block here)
+  | inr later ↦ let (k, known, same) = any_packet ps n later in (suc k, omega (arith, known), same)
+]
+
+module _ (s : State) (queue : ℕ) (sent : List (List ℕ)) (u : Sender) (f : ℕ) (h : AgreesAt s queue sent u f) where
+  -- it is lent
+  pub sender_lent : (n : ℕ) → IsTrue (has_lent u n) → has_block s.memory n ≡ true
+  sender_lent n is =
+      elim (or_cases (n == u.layout.ring) (list_any (λ b. n == b) (blocks_of u.outstanding)) is) as
+      (λ _. has_block s.memory n ≡ true) [
+        | inl ring ↦
+            subst (λ x. has_block s.memory x ≡ true) (sym (eqb-true n u.layout.ring ring)) h.shows.ring
+        | inr packet ↦
+            let (k, known, same) = any_packet u.outstanding n packet in
+            subst (λ x. has_block s.memory x ≡ true) (sym same) (h.shows.ready k known).lent
+      ]
+
+  module _ (number : ℕ) (has : has_block s.memory number ≡ true)
+      (away : (n : ℕ) → IsTrue (has_lent u n) → number ≢ n) where
+    ask_leaves : (a : ℕ) (bytes : List ℕ) → IsOwn u Asks (event.Poke16 a bytes)
+        → LeavesBlock number s (after s (event.Poke16 a bytes))
+    ask_leaves a bytes own =
+        let l = u.layout in
+        let size : length bytes ≡ 16 = ap length own.2 ∙ length-asking (packet_at u u.posted) in
+        let known = own.0 in
+        memory_blocks.poke s a bytes number
+        (subst (Avoids number a) (sym size)
+        (inside_avoids l.ring number a 16
+        (rw own.1 (slot-inside u h.based.layout u.posted (omega (arith, known, h.counted.room))))
+        (away l.ring (has_lent-ring u))))
+
+    reap_leaves : (n : ℕ) → IsOwn u Reaps (event.Take n) → LeavesBlock number s (after s (event.Take n))
+    reap_leaves n own =
+        let some = h.counted.seen own.0 in
+        let known : 0 < length u.outstanding =
+        omega (arith, some, h.counted.fetched_posted, h.counted.posted_known) in
+        memory_blocks.take s n number (λ e. away (packet_at u 0).block (has_lent-packet u 0 known) (e ∙ own.1))
+
+    move_leaves : (m : Move) (e : Event Block) → is_elsewhere m ≡ false → IsOwn u m e
+        → LeavesBlock number s (after s e)
+    move_leaves (Accepts p) (event.Lend b) real own = lend_leaves s b number has
+    move_leaves Asks (event.Poke16 a bytes) real own = ask_leaves a bytes own
+    move_leaves Advances (event.Write port n word) real own =
+        ap (λ m. map.get m number) (write_memory s port n word)
+    move_leaves Looks (event.Peek16 a) real own = (stays_within s (event.Peek16 a)).blocks number refl
+    move_leaves Reaps (event.Take n) real own = reap_leaves n own
+    move_leaves Elsewhere e real own = cc
+    move_leaves m e real own = absurd own
+
+  move_setting : (m : Move) (e : Event Block) → is_elsewhere m ≡ false → IsOwn u m e → WritesNoSetting s e
+  move_setting (Accepts p) (event.Lend b) real own = tt
+  move_setting Asks (event.Poke16 a bytes) real own = tt
+  move_setting Advances (event.Write port n word) real own = setting_kept s queue sent u f h port n word own
+  move_setting Looks (event.Peek16 a) real own = tt
+  move_setting Reaps (event.Take n) real own = tt
+  move_setting Elsewhere e real own = cc
+  move_setting m e real own = absurd own
+
+  move_side : (m : Move) (e : Event Block) → is_elsewhere m ≡ false → IsOwn u m e
+      → LeavesReceive queue s (after s e)
+  move_side (Accepts p) (event.Lend b) real own = (memory_rest.lend s b).queues.receive queue
+  move_side Asks (event.Poke16 a bytes) real own = (memory_rest.poke s a bytes).queues.receive queue
+  move_side Advances (event.Write port n word) real own =
+      let here : named s port n ≡ Register (place Tdt queue) 0xFFFFFFFF = rw (own.1, own.2) h.based.tail in
+      (write_rest s port n word (place Tdt queue) 0xFFFFFFFF here refl refl).receive queue (λ e. cc)
+  move_side Looks (event.Peek16 a) real own = (memory_rest.peek s a).queues.receive queue
+  move_side Reaps (event.Take n) real own = (memory_rest.take s n).queues.receive queue
+  move_side Elsewhere e real own = cc
+  move_side m e real own = absurd own
+
+  -- so it leaves what the receive half rests on
+  pub move_spares : (v : Receive) → Each v (λ b. has_block s.memory b ≡ true)
+      → Each v (λ b. (n : ℕ) → IsTrue (has_lent u n) → b ≢ n) → (m : Move) (e : Event Block)
+      → is_elsewhere m ≡ false → IsOwn u m e → Leaves queue v s (after s e)
+  move_spares v lent apart m e real own = record {
+    receive = move_side m e real own;
+    mode = (settings_stand s e (move_setting m e real own)).mode;
+    vfs = (stays_within s e).vfs;
+    blocks =
+        each_map v (λ b. (has_block s.memory b ≡ true) × ((n : ℕ) → IsTrue (has_lent u n) → b ≢ n))
+        (λ b. LeavesBlock b s (after s e)) (λ b both. move_leaves b both.0 both.1 m e real own)
+        (each_both v (λ b. has_block s.memory b ≡ true) (λ b. (n : ℕ) → IsTrue (has_lent u n) → b ≢ n) lent apart);
+  }

@@ -1,0 +1,103 @@
+-- Steps of the device on the driver's own queue leave the other half: one of receiving writes into blocks that the
+-- receive half has lent, and what one of transmitting reports goes into the transmit ring's block.
+use Rattle.std.proofs.Common.{cond, ◌≡◌, ◌≢◌, ℕ, ◌+◌, ◌*◌, ◌/◌, ◌^◌, ◌<◌, ◌≤◌, Bool, true, false, inl, inr, List, refl, sym, ap, ◌∙◌, subst, arith, Option, Some, None}
+use Rattle.std.specs.Prelude.{IsTrue, ⊤}
+use Rattle.std.proofs.lemmas.Bool.{cases_eq}
+use Rattle.dma_arena.specs.Block.{Block}
+use Rattle.dma_arena.specs.Memory.{LiesIn}
+use Rattle.dma_arena.proofs.Inside.{inside_avoids}
+use Rattle.dma_ring.specs.Ring.{descriptor_address}
+use Rattle.reg_table.specs.declared.rows.RowId.TheVariants.{Tdwbal, Tdwbah}
+use Rattle.register_file.specs.Bits.{has_bit}
+use Rattle.register_file.specs.Queue.{ring_of}
+use Rattle.register_file.specs.Registers.{word_of}
+use Rattle.register_file.specs.declared.dir.Dir.TheVariants.{Tx}
+use Rattle.nic_device.specs.Footprint.{told_back}
+use Rattle.nic_device.specs.Sound.{IsSound}
+use Rattle.nic_device.specs.State.{State}
+use Rattle.nic_device.specs.Step.{after, reply_to}
+use Rattle.nic_device.specs.declared.event.Event.TheVariants as event
+use Rattle.nic_device.specs.declared.event.Reply.{Reply}
+use Rattle.nic_device.specs.declared.event.Reply.TheVariants.{Wrote}
+use Rattle.device_laws.specs.Replies.{report_of}
+use Rattle.device_laws.proofs.RepliesSent.{transmitting_tells}
+use Rattle.device_laws.proofs.StandingQueues.{receiving_rest}
+use Rattle.device_lock.specs.Alone.{Blocks, WritesOutside}
+use Rattle.pmd_rx.specs.Receive.{Receive, block_at}
+use Rattle.pmd_tx.specs.Sending.{Sender, has_lent, descriptor_at, slot_at}
+use Rattle.history_laws.proofs.Reported.{reported}
+use Rattle.receive_laws.specs.Joint.{Agree}
+use Rattle.receive_laws.specs.Pieces.{Piece}
+use Rattle.receive_laws.specs.Steps.{Each, IsOutside, OwnReportsSpare}
+use Rattle.receive_laws.proofs.Clear.{clear_avoids}
+use Rattle.receive_laws.proofs.Each.{each_map}
+use Rattle.receive_laws.proofs.Inside.{piece_inside}
+use Rattle.receive_laws.proofs.Spared.{IsSparedBy, spared_block}
+use Rattle.transmit_laws.specs.Agreeing.{AgreesAt}
+use Rattle.transmit_laws.specs.Sparing.{Spares}
+use Rattle.transmit_laws.proofs.Blocks.{has_lent-ring}
+use Rattle.transmit_laws.proofs.Slots.{slot-below}
+use Rattle.transmit_laws.proofs.Stepping.{head_is}
+
+module _ (queue : ℕ) (mine : Blocks) (s : State) (sound : IsSound s) (out : List Piece) (v : Receive)
+    (j : Agree queue s out v) (outside : WritesOutside queue mine (reply_to s event.RxStep)) where
+  -- what is received is outside a block of the other half's
+  told_outside : (n : ℕ) → IsTrue (mine n) → Each v (λ b. b ≢ n) → (r : Reply Block) → reply_to s event.RxStep ≡ r
+      → WritesOutside queue mine r → IsSparedBy r n
+  told_outside n is away (Wrote on slot end desc at len) told left =
+      elim (cases_eq on queue) as (λ _. IsOutside desc at len n) [
+        | inl own ↦
+            let here = piece_inside queue s out v sound j slot end desc at len
+            (subst (λ q. reply_to s event.RxStep ≡ Wrote q slot end desc at len) own told) in
+            record {
+              descriptor = inside_avoids v.layout.ring n desc 16 here.descriptor (λ e. away.ring (sym e));
+              bytes = λ some.
+                  inside_avoids (block_at v.layout here.slot) n at len here.bytes
+                  (λ e. away.blocks here.slot here.known (sym e));
+            }
+        | inr ne ↦ record {
+          descriptor = clear_avoids mine desc 16 n (left ne).1 is (omega arith);
+          bytes = λ some. clear_avoids mine at len n (left ne).0 is some;
+        }
+      ]
+  told_outside n is away other told left = tt
+
+  -- so it spares the transmit half
+  pub received_spares : (u : Sender) → ((n : ℕ) → IsTrue (has_lent u n) → IsTrue (mine n))
+      → ((n : ℕ) → IsTrue (has_lent u n) → Each v (λ b. b ≢ n)) → Spares queue u s event.RxStep
+  received_spares u lent apart = record {
+    made = tt;
+    setting = tt;
+    side = λ other switch. (receiving_rest s).transmit queue;
+    blocks = λ other n is.
+        spared_block s n (told_outside n (lent n is) (apart n is) (reply_to s event.RxStep) refl outside);
+  }
+
+none_written_back : (b : Bool) (x : ℕ) → ◌≡◌ {A = Option ℕ} (cond b (Some x) None) None → b ≡ false
+none_written_back true x e = cc
+none_written_back false x e = refl
+
+in_block : (ring slot : ℕ) → slot < 128 → (2048 * ring + 16 * slot) / 2048 ≡ ring
+in_block ring slot low = omega arith
+
+-- what the queue's own transmit side reports is in the block of its ring
+pub reports_spare : (s : State) (queue : ℕ) (sent : List (List ℕ)) (u : Sender) (f : ℕ) → AgreesAt s queue sent u f
+    → (v : Receive) → ((n : ℕ) → IsTrue (has_lent u n) → Each v (λ b. b ≢ n)) → OwnReportsSpare queue v s
+reports_spare s queue sent u f h v apart back told =
+    let l = u.layout in
+    let r = s.registers in
+    let ring = ring_of r Tx queue in
+    let low = none_written_back (has_bit 0 (word_of r Tdwbal queue))
+    (word_of r Tdwbah queue * 2 ^ 32 + 4 * (word_of r Tdwbal queue / 4)) h.set_up.writeback in
+    let at = reported queue (reply_to s (event.TxStep queue)) s (after s (event.TxStep queue))
+    (transmitting_tells s h.based.sound queue) back told in
+    let head : report_of r queue ≡ descriptor_at l f =
+    ap (λ b. cond b (word_of r Tdwbah queue * 2 ^ 32 + 4 * (word_of r Tdwbal queue / 4))
+    (descriptor_address ring ring.head)) low
+    ∙ head_is s queue sent u f h in
+    let below = slot-below l h.based.layout f
+    (omega (arith, h.counted.fetched_posted, h.counted.posted_known, h.counted.room)) in
+    let few = h.based.layout.few in
+    let here : back / 2048 ≡ l.ring =
+    ap (λ a. a / 2048) (at ∙ head) ∙ in_block l.ring (slot_at l f) (omega (arith, below, few)) in
+    each_map v (λ b. b ≢ l.ring) (λ b. b ≢ back / 2048) (λ b ne e. ne (e ∙ here)) (apart l.ring (has_lent-ring u))

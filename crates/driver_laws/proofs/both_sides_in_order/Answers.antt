@@ -1,0 +1,10 @@
+use Rattle.driver_laws.proofs.InOrder.{handed_is_prefix, none_is_all, sent_is_prefix, idle_is_all_sent}
+use Rattle.driver_laws.proofs.both_sides_in_order.Goals as goal
+
+pub returns : goal.returns
+returns c = record {
+  handed = handed_is_prefix;
+  none = none_is_all;
+  sent = sent_is_prefix;
+  idle = idle_is_all_sent;
+}

@@ -1,0 +1,71 @@
+-- A driver whose two halves, one that receives and one that sends, make calls through one pass.
+use Rattle.std.specs.Prelude.{ℕ, ◌≡◌, List, [], ◌∷◌, ◌++◌, ⊤}
+use Rattle.device_lock.specs.declared.entry.Call.{Call}
+use Rattle.pmd_base.specs.Made.{AddsSome}
+use Rattle.pmd_rx.specs.Plays as receive
+use Rattle.pmd_rx.specs.Receive as receiving
+use Rattle.pmd_rx.specs.Receive.{Receive}
+use Rattle.pmd_tx.specs.Plays as transmit
+use Rattle.pmd_tx.specs.Sending as sending
+use Rattle.pmd_tx.specs.Sending.{Sender, Move}
+use Rattle.pmd.specs.Running.{Running}
+
+-- what the halves know of their rings
+pub record Halves : Type 0 where
+  pub receive : Receive
+  pub transmit : Sender
+
+abbrev pub halves_of : Running → Halves
+halves_of r = record { receive = r.receive; transmit = r.transmit }
+
+-- whose a call is: the receive half's, or a move of the transmit half. A move that is `Elsewhere` is neither half's
+pub data Doer : Type 0 where
+  Receives : Doer
+  Sends : Move → Doer
+
+-- the halves after one call, by its reply
+abbrev pub after_call : Halves → Doer → Call → Halves
+after_call h Receives n = record h { receive = receiving.drive h.receive n.event n.reply }
+after_call h (Sends m) n = record h { transmit = sending.moved h.transmit m n.reply }
+
+-- the halves after these calls: all that the driver's code knows
+abbrev pub played_by : Halves → List Doer → List Call → Halves
+played_by h [] calls = h
+played_by h (d ∷ doers) [] = h
+played_by h (d ∷ doers) (n ∷ calls) = played_by (after_call h d n) doers calls
+
+-- each call is what its doer does there
+abbrev pub OwnCall : Halves → Doer → Call → Type 0
+OwnCall h Receives n = receiving.IsOwn h.receive n.event
+OwnCall h (Sends m) n = sending.IsOwn h.transmit m n.event
+
+abbrev pub AllOwn : Halves → List Doer → List Call → Type 0
+AllOwn h [] [] = ⊤
+AllOwn h [] (n ∷ calls) = ⊥
+AllOwn h (d ∷ doers) [] = ⊥
+AllOwn h (d ∷ doers) (n ∷ calls) = OwnCall h d n × AllOwn (after_call h d n) doers calls
+
+-- some calls were made, which lead the halves from one state to another
+abbrev pub Drives : List Call → Halves → List Call → Halves → Type 0
+Drives old h new k =
+    (doers : List Doer) × (since : List Call) × (new ≡ old ++ since) × AllOwn h doers since
+    × (k ≡ played_by h doers since)
+
+-- where one half's calls were made, and the other stayed, the halves are driven; calls that are neither's leave both;
+-- and so calls lead on, one after another
+abbrev pub ReceivingDrives : Type 0
+ReceivingDrives =
+    (old new : List Call) (h k : Halves) → receive.Plays old h.receive new k.receive → k.transmit ≡ h.transmit →
+    Drives old h new k
+
+abbrev pub SendingDrives : Type 0
+SendingDrives =
+    (old new : List Call) (h k : Halves) → transmit.Plays old h.transmit new k.transmit → k.receive ≡ h.receive →
+    Drives old h new k
+
+abbrev pub OthersDrive : Type 0
+OthersDrive = (old new : List Call) (h : Halves) → AddsSome old new → Drives old h new h
+
+abbrev pub DrivesOn : Type 0
+DrivesOn =
+    (old mid new : List Call) (h j k : Halves) → Drives old h mid j → Drives mid j new k → Drives old h new k

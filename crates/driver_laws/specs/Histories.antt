@@ -1,0 +1,107 @@
+-- What a driver hands out and what it sends, over histories that leave its queue alone.
+use Rattle.std.specs.Prelude.{ℕ, ◌≡◌, ◌==◌, Bool, true, false, List, [], ◌∷◌, ◌++◌, Some, None, ⊤, IsTrue}
+use Rattle.vf_map.specs.declared.mode.Mode.{Mode}
+use Rattle.vf_map.specs.declared.mode.Mode.TheVariants.{Off}
+use Rattle.nic_device.specs.Sound.{IsSound}
+use Rattle.nic_device.specs.State.{new_state}
+use Rattle.device_lock.specs.Alone.{Blocks, LeavesAlone, LeavesRegisters, LeavesBlocks, has_begun, lent_by, mode_after, mode_through}
+use Rattle.device_lock.specs.History.{IsLegal, calls_of, leads_to}
+use Rattle.device_lock.specs.declared.alone.Watched.{Watched}
+use Rattle.device_lock.specs.declared.entry.Entry.{Entry}
+use Rattle.pmd_base.specs.Events.{is_step}
+use Rattle.pmd_tx.specs.Sending.{Elsewhere}
+use Rattle.history_laws.specs.Laws.{AreEvents}
+use Rattle.receive_laws.specs.Delivered as receive
+use Rattle.receive_laws.specs.Delivered.{delivered, pieces_since}
+use Rattle.receive_laws.specs.Histories.{FindsNone}
+use Rattle.transmit_laws.specs.Agreeing.{bytes_of}
+use Rattle.transmit_laws.specs.Laws as transmit
+use Rattle.transmit_laws.specs.Sent.{sent_in}
+use Rattle.driver_laws.specs.Agreeing.{AreLent, BothAgree}
+use Rattle.driver_laws.specs.Halves.{Halves, Doer, Receives, Sends, AllOwn, played_by}
+
+-- whose an entry is, of the driver's pass or of another, and the doers that are left after it: the entries of the pass
+-- are theirs in turn, and those of other passes neither half's
+abbrev pub doer_of : Bool → List Doer → Doer
+doer_of false doers = Sends Elsewhere
+doer_of true [] = Sends Elsewhere
+doer_of true (d ∷ doers) = d
+
+abbrev pub doers_after : Bool → List Doer → List Doer
+doers_after false doers = doers
+doers_after true [] = []
+doers_after true (d ∷ doers) = doers
+
+abbrev pub is_neither : Doer → Bool
+is_neither (Sends Elsewhere) = true
+is_neither other = false
+
+-- the calls of the driver's pass that are neither half's leave the queue and its blocks alone, as other passes do
+abbrev pub OthersLeaveAlone : Watched → Blocks → Mode → List Doer → List Entry → Type 0
+OthersLeaveAlone w mine mode doers [] = ⊤
+OthersLeaveAlone w mine mode doers (e ∷ es) =
+    (e.pass ≡ w.pass → IsTrue (is_neither (doer_of true doers))
+    → LeavesRegisters w mode e.event × LeavesBlocks mine e.event)
+    × OthersLeaveAlone w mine (mode_after w.vfs mode e.event) (doers_after (e.pass == w.pass) doers) es
+
+-- a history of a new device that leaves the queue alone, with the driver's pass. As its first entries end, the queue's
+-- receive side has gone on and nothing is written yet, and the device agrees with both halves. Of the others those of
+-- the pass are the halves', or leave the queue alone
+pub record IsDriven (w : Watched) (fifo : ℕ) (start rest : List Entry) (h : Halves) (doers : List Doer) : Type 0 where
+  pub new : IsSound (new_state w.vfs fifo)
+  pub events : AreEvents (start ++ rest)
+  pub legal : IsLegal (new_state w.vfs fifo) (start ++ rest)
+  pub alone : LeavesAlone w (start ++ rest)
+  pub begun : IsTrue (has_begun w.pass start)
+  pub on : pieces_since w.queue (new_state w.vfs fifo) None start ≡ Some []
+  pub agree : BothAgree w.queue (leads_to (new_state w.vfs fifo) start) [] [] h
+  pub lent : AreLent (lent_by w.pass (start ++ rest)) h
+  pub own : AllOwn h doers (calls_of w.pass rest)
+  pub others : OthersLeaveAlone w (lent_by w.pass (start ++ rest)) (mode_through w.vfs Off start) doers rest
+
+-- what the driver handed out is a prefix of what was delivered since its receive side went on, and it is all of that
+-- where a look that comes next finds none
+abbrev pub HandedIsPrefix : Type 0
+HandedIsPrefix =
+    (w : Watched) (fifo : ℕ) (start rest : List Entry) (h : Halves) (doers : List Doer) →
+    IsDriven w fifo start rest h doers →
+    receive.IsPrefixOf (played_by h doers (calls_of w.pass rest)).receive.handed
+    (delivered w.queue (new_state w.vfs fifo) (start ++ rest))
+
+abbrev pub NoneIsAll : Type 0
+NoneIsAll =
+    (w : Watched) (fifo : ℕ) (start rest : List Entry) (h : Halves) (doers : List Doer) →
+    IsDriven w fifo start rest h doers →
+    FindsNone (leads_to (new_state w.vfs fifo) (start ++ rest)) (played_by h doers (calls_of w.pass rest)).receive →
+    (played_by h doers (calls_of w.pass rest)).receive.handed
+    ≡ delivered w.queue (new_state w.vfs fifo) (start ++ rest)
+
+-- what was sent on the queue since then is a prefix of what the driver accepted, and it is all of that where none is
+-- outstanding
+abbrev pub SentIsPrefix : Type 0
+SentIsPrefix =
+    (w : Watched) (fifo : ℕ) (start rest : List Entry) (h : Halves) (doers : List Doer) →
+    IsDriven w fifo start rest h doers →
+    transmit.IsPrefixOf (sent_in w.queue (leads_to (new_state w.vfs fifo) start) rest)
+    (bytes_of (played_by h doers (calls_of w.pass rest)).transmit.accepted)
+
+abbrev pub IdleIsAllSent : Type 0
+IdleIsAllSent =
+    (w : Watched) (fifo : ℕ) (start rest : List Entry) (h : Halves) (doers : List Doer) →
+    IsDriven w fifo start rest h doers →
+    (played_by h doers (calls_of w.pass rest)).transmit.outstanding ≡ [] →
+    bytes_of (played_by h doers (calls_of w.pass rest)).transmit.accepted
+    ≡ sent_in w.queue (leads_to (new_state w.vfs fifo) start) rest
+
+-- the calls of the driver's pass that are neither half's are steps of the device, as the ways to a device make them
+abbrev pub OthersAreSteps : Watched → List Doer → List Entry → Type 0
+OthersAreSteps w doers [] = ⊤
+OthersAreSteps w doers (e ∷ es) =
+    (e.pass ≡ w.pass → IsTrue (is_neither (doer_of true doers)) → IsTrue (is_step e.event))
+    × OthersAreSteps w (doers_after (e.pass == w.pass) doers) es
+
+-- and such steps leave the queue alone
+abbrev pub StepsLeaveAlone : Type 0
+StepsLeaveAlone =
+    (w : Watched) (mine : Blocks) (mode : Mode) (doers : List Doer) (es : List Entry) → OthersAreSteps w doers es →
+    OthersLeaveAlone w mine mode doers es

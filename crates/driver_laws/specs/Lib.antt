@@ -1,0 +1,3 @@
+pub mod Agreeing
+pub mod Halves
+pub mod Histories

@@ -1,0 +1,35 @@
+//! What holds of a driver that receives and sends on a queue of a shared device, over whatever others do meanwhile.
+//!
+//! Each law is the contract of a function that does nothing. `specs/Halves` says how a driver's two halves follow from
+//! the calls of its pass, `specs/Agreeing` what the device and both halves agree on, and `specs/Histories` what a
+//! history is that leaves the driver's queue alone.
+#![tactic(auto)]
+
+ghost use Rattle.driver_laws.specs.Halves.{ReceivingDrives, SendingDrives, OthersDrive, DrivesOn};
+ghost use Rattle.driver_laws.specs.Histories.{HandedIsPrefix, NoneIsAll, SentIsPrefix, IdleIsAllSent, StepsLeaveAlone};
+
+/// The calls of one half lead both on, where the other half stays as it was; calls that are neither's leave both; and
+/// calls lead on, one after another. So the halves follow from whatever calls of a driver that runs were made.
+pub fn calls_lead_both_halves()
+    ensures receiving { ReceivingDrives }
+    ensures sending { SendingDrives }
+    ensures others { OthersDrive }
+    ensures on { DrivesOn }
+{}
+
+/// Over a history of a new device that leaves the driver's queue alone, from a place on where the device agrees with
+/// both halves and the receive side has gone on: the packets that the driver handed out are a prefix of those that were
+/// delivered since, and all of them where a look that comes next finds none; and the frames that were sent since are a
+/// prefix of those that it accepted, and all of them where none is outstanding.
+pub fn both_sides_in_order()
+    ensures handed { HandedIsPrefix }
+    ensures none { NoneIsAll }
+    ensures sent { SentIsPrefix }
+    ensures idle { IdleIsAllSent }
+{}
+
+/// The steps of the device that the ways to a device make before the driver's calls leave its queue alone: so nothing
+/// more is asked of a pass whose calls that are neither half's are such steps.
+pub fn steps_leave_the_queue_alone()
+    ensures { StepsLeaveAlone }
+{}

@@ -1,0 +1,24 @@
+-- Where a step of receiving on the driver's own queue writes.
+use Rattle.std.specs.Prelude.{ℕ, ◌≡◌, ◌<◌, Bool, List, length}
+use Rattle.dma_arena.specs.Memory.{LiesIn}
+use Rattle.nic_device.specs.Sound.{IsSound}
+use Rattle.nic_device.specs.State.{State}
+use Rattle.nic_device.specs.Step.{reply_to}
+use Rattle.nic_device.specs.declared.event.Event.TheVariants as event
+use Rattle.nic_device.specs.declared.event.Reply.TheVariants.{Wrote}
+use Rattle.pmd_rx.specs.Receive.{Layout, Receive, block_at}
+use Rattle.receive_laws.specs.Joint.{Agree}
+use Rattle.receive_laws.specs.Pieces.{Piece}
+
+-- a descriptor is in the ring's block, and so many bytes are in the block of one of the ring's slots
+pub record IsInside (l : Layout) (desc at len : ℕ) : Type 0 where
+  pub descriptor : LiesIn l.ring desc 16
+  pub slot : ℕ
+  pub known : slot < length l.blocks
+  pub bytes : LiesIn (block_at l slot) at len
+
+abbrev pub PieceIsInside : Type 0
+PieceIsInside =
+    (queue : ℕ) (s : State) (out : List Piece) (v : Receive) → IsSound s → Agree queue s out v →
+    (slot : ℕ) (end : Bool) (desc at len : ℕ) → reply_to s event.RxStep ≡ Wrote queue slot end desc at len →
+    IsInside v.layout desc at len

@@ -1,0 +1,75 @@
+-- Where fresh sides stand whose rings are lent, device and driver agree.
+use Rattle.std.proofs.Common.{◌≡◌, ℕ, ◌+◌, ◌<◌, ◌≤◌, ◌*◌, ◌/◌, ◌%◌, ◌^◌, true, [], refl, sym, ap, ◌∙◌, arith}
+use Rattle.std.proofs.lemmas.Bool.{cases_Bool}
+use Rattle.std.proofs.lemmas.Bool.Decides.{nat_tests}
+use Rattle.dma_arena.specs.Memory.{Memory, has_block}
+use Rattle.register_file.specs.Sides.{ReceiveQueue, TransmitQueue}
+use Rattle.pmd_tx.specs.Sending.{wrapped}
+use Rattle.receive_laws.proofs.Starting.{start_agrees}
+use Rattle.start_laws.specs.Moves.{FreshReceiveAgrees, FreshTransmitAgrees}
+use Rattle.start_laws.specs.Standing.{IsZero}
+
+zero_lent : (m : Memory) (b : ℕ) → IsZero m b → has_block m b ≡ true
+zero_lent m b is = rw is refl
+
+first_slot : (n : ℕ) → 0 < n → 0 ≡ wrapped n (0 + 0)
+first_slot n h = grind (arith, nat_tests)
+
+pub fresh_receive_agrees : FreshReceiveAgrees
+fresh_receive_agrees queue s tx rings port tail ring size sized names lent stand =
+    let x = stand.receives in
+    start_agrees queue port tail ring size s (record {
+      some = sized.some;
+      few = sized.few;
+      low = sized.low;
+      named = names;
+      side = record {
+        on = x.seen refl;
+        wanted = ap (λ (q : ReceiveQueue). q.wanted) x.same;
+        one_buffer = ap (λ (q : ReceiveQueue). q.control / 2 ^ 25 % 2 ^ 3) x.same;
+        buffer_size = ap (λ (q : ReceiveQueue). 1024 * (q.control % 2 ^ 5)) x.same;
+        base = ap (λ (q : ReceiveQueue). q.ring.base) x.same;
+        sized = ap (λ (q : ReceiveQueue). q.ring.length) x.same;
+        head = ap (λ (q : ReceiveQueue). q.ring.head) x.same;
+        tail = ap (λ (q : ReceiveQueue). q.ring.tail) x.same;
+      };
+      there = zero_lent s.memory ring (stand.zero ring lent);
+    })
+
+pub fresh_transmit_agrees : FreshTransmitAgrees
+fresh_transmit_agrees queue s rx rings on wanted port tail ring size small sound sized names limit lent stand =
+    let same = stand.transmits.same in (
+      0,
+      record {
+        based = record {
+          sound = sound;
+          small = small;
+          layout = record { some = sized.some; few = sized.few; next = sized.some };
+          tail = names;
+          limit = limit;
+        };
+        set_up = record {
+          base = ap (λ (q : TransmitQueue). q.ring.base) same;
+          length = ap (λ (q : TransmitQueue). q.ring.length) same;
+          head = ap (λ (q : TransmitQueue). q.ring.head) same ∙ first_slot size sized.some;
+          tail = ap (λ (q : TransmitQueue). q.ring.tail) same ∙ first_slot size sized.some;
+          writeback = ap (λ (q : TransmitQueue). q.writeback) same;
+        };
+        staged = stand.staged;
+        counted = record {
+          room = sized.some;
+          fetched_posted = omega arith;
+          posted_known = omega arith;
+          seen = λ e. cc;
+          apart = λ i j a b ne. absurd (omega (arith, a));
+        };
+        shows = record {
+          ring = zero_lent s.memory ring (stand.zero ring lent);
+          ready = λ k a. absurd (omega (arith, a));
+          done = λ k a. absurd (omega (arith, a));
+          waits = λ k a b. absurd (omega (arith, b));
+          next = λ e. cc;
+        };
+        in_order = refl;
+      },
+    )

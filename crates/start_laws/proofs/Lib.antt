@@ -1,0 +1,13 @@
+pub mod Accesses
+pub mod Fresh
+pub mod LeftReceive
+pub mod LeftZero
+pub mod Masks
+pub mod Moves
+pub mod Quiet
+pub mod ReceiveWords
+pub mod Standing
+pub mod StillReceive
+pub mod StillTransmit
+pub mod TransmitWords
+pub mod Words

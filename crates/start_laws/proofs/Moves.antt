@@ -1,0 +1,127 @@
+-- A driver's own accesses of sides that stand still.
+use Rattle.std.proofs.Common.{◌≡◌, ◌≢◌, ℕ, ◌/◌, ◌%◌, ◌^◌, ◌<◌, inl, inr, Bool, true, false, ◌||◌, refl, sym, ap, ◌∙◌, subst, arith, Some}
+use Rattle.std.specs.Prelude.{bit_and, ◌==◌, IsTrue, IsFalse}
+use Rattle.std.specs.FinMap as map
+use Rattle.std.proofs.lemmas.Bool.{cases_Bool, both_ways, eqb-true, or_cases}
+use Rattle.std.proofs.lemmas.Nat.{and_mask}
+use Rattle.dma_arena.specs.Block.{Block, zero_block}
+use Rattle.dma_arena.specs.Memory.{Memory}
+use Rattle.dma_arena.proofs.Bus.{get-insert_same, get-insert_other}
+use Rattle.reg_table.specs.declared.rows.RowId.{RowId}
+use Rattle.reg_table.specs.declared.rows.RowId.TheVariants.{Rdbal, Rdbah, Rdlen, Rdh, Rdt, Srrctl, Rxdctl, Tdbal, Tdbah, Tdlen, Tdh, Tdt, Tdwbal, Txdctl}
+use Rattle.register_file.specs.Bits.{has_bit}
+use Rattle.register_file.specs.Registers.{word_of}
+use Rattle.register_file.specs.Sides.{ReceiveQueue, TransmitQueue, receive_queue_of, transmit_queue_of}
+use Rattle.nic_device.specs.Access.{named_read}
+use Rattle.nic_device.specs.Outcome.{Outcome, gives}
+use Rattle.nic_device.specs.Receive.{is_empty}
+use Rattle.nic_device.specs.State.{State}
+use Rattle.nic_device.specs.Step.{step_of, after, reply_to}
+use Rattle.nic_device.specs.declared.event.Event.TheVariants as event
+use Rattle.nic_device.specs.declared.event.Port.{Port}
+use Rattle.nic_device.specs.declared.event.Reply.TheVariants as reply
+use Rattle.nic_device.proofs.Cases.{lent_cases}
+use Rattle.device_laws.specs.Leaving.{LeavesQueues, LeavesMemory}
+use Rattle.device_laws.proofs.Standing.{memory_rest}
+use Rattle.device_laws.proofs.StandingAccesses.{read_rest}
+use Rattle.device_lock.specs.Alone.{Blocks}
+use Rattle.start_laws.specs.Moves.{and_one, receive_seen, transmit_seen, ReceiveWriteStands, TransmitWriteStands, ReceiveReadStands, TransmitReadStands, LendStands}
+use Rattle.start_laws.specs.Standing.{IsZero, Stand, StandsReceive, StandsTransmit}
+use Rattle.start_laws.specs.Words.{receive_with, transmit_with, FitsReceive, FitsTransmit, NamesRow}
+use Rattle.start_laws.proofs.ReceiveWords.{receive_words_taken}
+use Rattle.start_laws.proofs.TransmitWords.{transmit_words_taken}
+
+-- a word is written
+
+receive_on_beside : (row : RowId) (word : ℕ) (q : ReceiveQueue) (on : Bool) → FitsReceive row word
+    → receive_with row word (record q { on = on }) ≡ record (receive_with row word q) { on = on }
+receive_on_beside Rdbal word q on fits = refl
+receive_on_beside Rdbah word q on fits = refl
+receive_on_beside Rdlen word q on fits = refl
+receive_on_beside Rdh word q on fits = refl
+receive_on_beside Rdt word q on fits = refl
+receive_on_beside Srrctl word q on fits = refl
+receive_on_beside Rxdctl word q on fits = refl
+receive_on_beside other word q on fits = absurd fits
+
+transmit_on_beside : (row : RowId) (word : ℕ) (q : TransmitQueue) (on : Bool) → FitsTransmit row word
+    → transmit_with row word (record q { on = on }) ≡ record (transmit_with row word q) { on = on }
+transmit_on_beside Tdbal word q on fits = refl
+transmit_on_beside Tdbah word q on fits = refl
+transmit_on_beside Tdlen word q on fits = refl
+transmit_on_beside Tdh word q on fits = refl
+transmit_on_beside Tdt word q on fits = refl
+transmit_on_beside Tdwbal word q on fits = refl
+transmit_on_beside Txdctl word q on fits = refl
+transmit_on_beside other word q on fits = absurd fits
+
+off_where : (on wanted : Bool) → (on ≡ true → wanted ≡ true) → wanted ≡ false → on ≡ false
+off_where true wanted only none = absurd (both_ways wanted none (only refl))
+off_where false wanted only none = refl
+
+-- a side that is off and as this one says is off there
+receive_off : (q side : ReceiveQueue) → StandsReceive q side → side.wanted ≡ false → q ≡ record side { on = false }
+receive_off q side x none = subst (λ (on : Bool). q ≡ record side { on = on }) (off_where q.on side.wanted x.wanted none) x.same
+
+transmit_off : (q side : TransmitQueue) → StandsTransmit q side → side.wanted ≡ false
+    → q ≡ record side { on = false }
+transmit_off q side x none = subst (λ (on : Bool). q ≡ record side { on = on }) (off_where q.on side.wanted x.wanted none) x.same
+
+seen_off : (seen on : Bool) → (seen ≡ true → on ≡ true) → on ≡ false → seen ≡ false
+seen_off true on only none = absurd (both_ways on none (only refl))
+seen_off false on only none = refl
+
+-- a side that is off stands
+receive_stands_off : (q side : ReceiveQueue) → q ≡ record side { on = false } → side.on ≡ false
+    → (side.wanted ≡ true → is_empty side.ring ≡ true) → StandsReceive q side
+receive_stands_off q side e none empty = subst (λ (z : ReceiveQueue). StandsReceive z side) (sym e) (record {
+  same = refl;
+  seen = λ on. absurd (both_ways side.on none on);
+  wanted = λ on. cc;
+  empty = empty;
+})
+
+transmit_stands_off : (q side : TransmitQueue) → q ≡ record side { on = false } → side.on ≡ false
+    → (side.wanted ≡ true → is_empty side.ring ≡ true) → StandsTransmit q side
+transmit_stands_off q side e none empty = subst (λ (z : TransmitQueue). StandsTransmit z side) (sym e) (record {
+  same = refl;
+  seen = λ on. absurd (both_ways side.on none on);
+  wanted = λ on. cc;
+  empty = empty;
+})
+
+receive_on_same : (row : RowId) (word : ℕ) (q : ReceiveQueue) → FitsReceive row word
+    → (receive_with row word q).on ≡ q.on
+receive_on_same row word q fits = ap (λ (z : ReceiveQueue). z.on) (receive_on_beside row word q q.on fits)
+
+transmit_on_same : (row : RowId) (word : ℕ) (q : TransmitQueue) → FitsTransmit row word
+    → (transmit_with row word q).on ≡ q.on
+transmit_on_same row word q fits = ap (λ (z : TransmitQueue). z.on) (transmit_on_beside row word q q.on fits)
+
+pub receive_write_stands : ReceiveWriteStands
+receive_write_stands queue s rx tx rings port n word row met stand unwanted fits goes names =
+    let x = stand.receives in
+    let off = off_where (receive_queue_of s.registers queue).on rx.wanted x.wanted unwanted in
+    let t = receive_words_taken queue s port n word row met.small met.sound met.aligned off fits names in
+    record {
+      receives = receive_stands_off _ _
+          (t.side ∙ ap (receive_with row word) (receive_off _ rx x unwanted) ∙ receive_on_beside row word rx false fits)
+          (receive_on_same row word rx fits ∙ seen_off rx.on _ x.seen off) goes;
+      transmits = subst (λ (z : TransmitQueue). StandsTransmit z tx) (sym t.other.side) stand.transmits;
+      staged = t.other.staged ∙ stand.staged;
+      zero = λ b is. ap (λ (m : Memory). map.get m b) t.ground.memory ∙ stand.zero b is;
+    }
+
+pub transmit_write_stands : TransmitWriteStands
+transmit_write_stands queue s rx tx rings port n word row met stand unwanted fits goes names =
+    let x = stand.transmits in
+    let off = off_where (transmit_queue_of s.registers queue).on tx.wanted x.wanted unwanted in
+    let t = transmit_words_taken queue s port n word row met.small met.sound met.aligned off fits names in
+    record {
+      receives = subst (λ (z : ReceiveQueue). StandsReceive z rx) (sym t.other) stand.receives;
+      transmits = transmit_stands_off _ _
+          (t.side ∙ ap (transmit_with row word) (transmit_off _ tx x unwanted) ∙ transmit_on_beside row word tx false fits)
+          (transmit_on_same row word tx fits ∙ seen_off tx.on _ x.seen off) goes;
+      staged = t.staged ∙ stand.staged;
+      zero = λ b is. ap (λ (m : Memory). map.get m b) t.ground.memory ∙ stand.zero b is;
+    }

@@ -1,0 +1,83 @@
+-- A word that is written to a register of a side that is off is the side's.
+use Rattle.std.proofs.Common.{◌≡◌, ◌≢◌, ℕ, ◌+◌, ◌*◌, ◌/◌, ◌%◌, ◌^◌, ◌<◌, inl, inr, false, refl, sym, ap, ◌∙◌, subst, arith, cond}
+use Rattle.std.specs.Prelude.{IsFalse}
+use Rattle.std.proofs.Math.Nat.{mod-eq_of_lt}
+use Rattle.reg_table.specs.Rows.{row_of}
+use Rattle.reg_table.specs.declared.place.Place.{Place}
+use Rattle.reg_table.specs.declared.rows.RowId.{RowId}
+use Rattle.reg_table.specs.declared.rows.RowId.TheVariants.{Rdbal, Rdbah, Rdlen, Rdh, Rdt, Srrctl, Rxdctl, Tdbal, Tdbah, Tdlen, Tdh, Tdt, Tdwbal, Tdwbah, Txdctl}
+use Rattle.register_file.specs.Access.{asks_reset, asks_pool_reset}
+use Rattle.register_file.specs.Columns.{place}
+use Rattle.register_file.specs.Laws.{after_write, word_after}
+use Rattle.register_file.specs.Owner.{owner_of}
+use Rattle.register_file.specs.Queue.{is_on, ring_of}
+use Rattle.register_file.specs.Registers.{Registers, word_of}
+use Rattle.register_file.specs.Sides.{ReceiveQueue, TransmitQueue, receive_queue_of, transmit_queue_of}
+use Rattle.register_file.specs.declared.dir.Dir.TheVariants.{Rx, Tx}
+use Rattle.register_file.specs.declared.owner.Owner.TheVariants as owner
+use Rattle.register_file.proofs.SideWords.{receive-written, transmit-written}
+use Rattle.register_file.proofs.Switches.{receive-asked, transmit-asked}
+use Rattle.nic_device.specs.Access.{named_written}
+use Rattle.nic_device.specs.Named.{named}
+use Rattle.nic_device.specs.Outcome.{Outcome, gives}
+use Rattle.nic_device.specs.Sound.{IsSound}
+use Rattle.nic_device.specs.State.{State}
+use Rattle.nic_device.specs.Step.{step_of, after}
+use Rattle.nic_device.specs.declared.event.Event.TheVariants as event
+use Rattle.nic_device.specs.declared.event.Port.{Port}
+use Rattle.nic_device.specs.declared.event.Reply.TheVariants.{Done}
+use Rattle.nic_device.specs.declared.named.Named.TheVariants.{Register}
+use Rattle.device_laws.specs.Laws.{WritesNoSetting}
+use Rattle.device_laws.proofs.KeptSettings.{settings_stand}
+use Rattle.device_laws.proofs.Standing.{stays_within}
+use Rattle.device_laws.proofs.StandingAccesses.{write_rest, write_memory}
+use Rattle.device_lock.specs.Alone.{is_setting}
+use Rattle.history_laws.specs.Aligned.{AreAligned}
+use Rattle.history_laws.proofs.Written.{merged_low, merged_all}
+use Rattle.receive_laws.proofs.Unrelated.{no_setting}
+use Rattle.start_laws.specs.Words.{receive_with, transmit_with, FitsReceive, FitsTransmit, NamesRow, KeepsGround, TakesReceive, TakesTransmit, ReceiveWordsAreTaken, TransmitWordsAreTaken}
+use Rattle.start_laws.proofs.Masks.{merged-high, merged-length, merged-even}
+
+module _ (queue : ℕ) (s : State) (port : Port) (n word : ℕ) (row : RowId) (names : NamesRow s port n row queue) where
+  abbrev t : State
+  t = after s (event.Write port n word)
+
+  -- the register is no setting
+  same_place : (p : Place) (view : ℕ) → named s port n ≡ Register p view → p ≡ place row queue
+  same_place p view there =
+      let same : Register (place row queue) 0xFFFFFFFF ≡ Register p view = sym names ∙ there in
+      let both : place row queue ≡ p = cc in
+      sym both
+
+  settings : is_setting row ≡ false → WritesNoSetting s (event.Write port n word)
+  settings plain p view there =
+      let own = no_setting row plain in
+      let e = ap (λ (q : Place). q.row) (same_place p view there) in
+      record {
+        control = λ x. own.0 (sym e ∙ x);
+        jumbo = λ x. own.1 (sym e ∙ x);
+        limit = λ x. own.2 (sym e ∙ x);
+        mode = λ x. own.3 (sym e ∙ x);
+      }
+
+  pub ground : is_setting row ≡ false → KeepsGround s t
+  ground plain =
+      let stand = settings_stand s (event.Write port n word) (settings plain) in record {
+        memory = write_memory s port n word;
+        limit = stand.limit;
+        mode = stand.mode;
+        vfs = (stays_within s (event.Write port n word)).vfs;
+      }
+
+  -- the write writes the register alone
+  pub wrote : named_written s (Register (place row queue) 0xFFFFFFFF) word
+      ≡ gives Done (record s { registers = after_write s.registers (place row queue) 0xFFFFFFFF word })
+      → t.registers ≡ after_write s.registers (place row queue) 0xFFFFFFFF word
+  unfolding step_of
+  wrote plain = ap (λ m. (named_written s m word).state.registers) names ∙ ap (λ (o : Outcome). o.state.registers) plain
+
+  pub wrote_staged : named_written s (Register (place row queue) 0xFFFFFFFF) word
+      ≡ gives Done (record s { registers = after_write s.registers (place row queue) 0xFFFFFFFF word })
+      → t.staged ≡ s.staged
+  unfolding step_of
+  wrote_staged plain = ap (λ m. (named_written s m word).state.staged) names ∙ ap (λ (o : Outcome). o.state.staged) plain

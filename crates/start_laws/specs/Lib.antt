@@ -1,0 +1,4 @@
+pub mod Moves
+pub mod Quiet
+pub mod Standing
+pub mod Words

@@ -1,0 +1,55 @@
+-- A queue whose receive side isn't wanted on, and one whose two sides are off.
+use Rattle.std.specs.Prelude.{ℕ, ◌≡◌, Bool, false, IsFalse, []}
+use Rattle.dma_arena.specs.Block.{Block}
+use Rattle.reg_table.specs.declared.rows.RowId.TheVariants.{Rxdctl}
+use Rattle.register_file.specs.Bits.{has_bit}
+use Rattle.register_file.specs.Queue.{is_on}
+use Rattle.register_file.specs.Registers.{is_wanted}
+use Rattle.register_file.specs.Sides.{receive_queue_of, transmit_queue_of}
+use Rattle.register_file.specs.declared.dir.Dir.TheVariants.{Rx}
+use Rattle.nic_device.specs.State.{State}
+use Rattle.nic_device.specs.Step.{after, reply_to}
+use Rattle.nic_device.specs.Transmit.{staged_by}
+use Rattle.nic_device.specs.declared.event.Event.{Event}
+use Rattle.nic_device.specs.declared.event.Event.TheVariants as event
+use Rattle.nic_device.specs.declared.event.Port.{Port}
+use Rattle.nic_device.specs.declared.event.Reply.TheVariants as reply
+use Rattle.device_lock.specs.Alone.{Blocks}
+use Rattle.device_lock.specs.declared.alone.Watched.{Watched}
+use Rattle.transmit_laws.specs.Off as transmit
+use Rattle.start_laws.specs.Moves.{IsMet}
+use Rattle.start_laws.specs.Standing.{IsLeft, Stand}
+use Rattle.start_laws.specs.Words.{NamesRow}
+
+-- the receive side isn't wanted on, and it is off besides
+abbrev pub IsUnwanted : ℕ → State → Type 0
+IsUnwanted queue s = IsFalse (is_wanted s.registers Rx queue)
+
+pub record IsOff (queue : ℕ) (s : State) : Type 0 where
+  pub off : IsFalse (is_on s.registers Rx queue)
+  pub unwanted : IsUnwanted queue s
+
+-- after a write of the enable word without bit 25 the side isn't wanted on, on or off, and it stays so over every event
+-- that leaves the queue alone; a read that tells bit 25 as 0 then finds it off
+pub record ReceiveGuardIsOff : Type 0 where
+  pub written :
+      (queue : ℕ) (s : State) (port : Port) (number word : ℕ) → IsMet queue s
+      → NamesRow s port number Rxdctl queue → IsFalse (has_bit 25 word)
+      → IsUnwanted queue (after s (event.Write port number word))
+  pub left :
+      (w : Watched) (mine : Blocks) (s : State) (e : Event Block) → IsLeft w mine s e → IsUnwanted w.queue s
+      → IsUnwanted w.queue (after s e)
+  pub read :
+      (queue : ℕ) (s : State) (port : Port) (number word : ℕ) → IsUnwanted queue s
+      → NamesRow s port number Rxdctl queue → reply_to s (event.Read port number) ≡ reply.Word word
+      → IsFalse (has_bit 25 word) → IsOff queue (after s (event.Read port number))
+
+-- no block
+abbrev pub no_block : Blocks
+no_block number = false
+
+-- two sides that are off and not wanted on stand as they are
+abbrev pub OffSidesStand : Type 0
+OffSidesStand =
+    (queue : ℕ) (s : State) → IsOff queue s → transmit.IsOff queue s → staged_by s queue ≡ [] →
+    Stand queue (receive_queue_of s.registers queue) (transmit_queue_of s.registers queue) no_block s

@@ -1,0 +1,49 @@
+//! What a start of the driver leaves: the device and the driver agree on both sides of its queue.
+//!
+//! Each law is the contract of a function that does nothing.
+#![tactic(auto)]
+
+ghost use Rattle.start_laws.specs.Moves.{ReceiveWriteStands, TransmitWriteStands, ReceiveReadStands, TransmitReadStands, LendStands, FreshReceiveAgrees, FreshTransmitAgrees};
+ghost use Rattle.start_laws.specs.Quiet.{ReceiveGuardIsOff, OffSidesStand};
+ghost use Rattle.start_laws.specs.Standing.{StandingSidesAreLeft};
+ghost use Rattle.start_laws.specs.Words.{ReceiveWordsAreTaken, TransmitWordsAreTaken};
+
+/// A word that a driver writes to a register of a side that is off is the side's, whole: its ring's base, length, head
+/// or tail, its control word, or no write-back of the head; and a write of the enable word asks. The queue's other
+/// side, memory, the frame limit and how the queues are parted stay.
+pub fn words_of_an_off_side_are_taken()
+    ensures receive { ReceiveWordsAreTaken }
+    ensures transmit { TransmitWordsAreTaken }
+{}
+
+/// Two sides of a queue that are off, or on with an empty ring, stay as they are but for going on where they are wanted
+/// on, over every event that leaves the queue alone: nothing is received or sent there, and blocks that are lent with
+/// each byte 0 stay so.
+pub fn standing_sides_are_left()
+    ensures { StandingSidesAreLeft }
+{}
+
+/// A driver's own accesses keep such sides: one with the word that is written to it, one that is on where its enable
+/// word was read with bit 25, and the block of zero bytes that was lent.
+pub fn accesses_keep_sides_standing()
+    ensures receive_write { ReceiveWriteStands }
+    ensures transmit_write { TransmitWriteStands }
+    ensures receive_read { ReceiveReadStands }
+    ensures transmit_read { TransmitReadStands }
+    ensures lend { LendStands }
+{}
+
+/// Where the words of a fresh ring stand and the ring's block is lent, the device and the driver agree: on the receive
+/// side that was seen on, with nothing posted, and on the transmit side, with nothing sent.
+pub fn fresh_sides_agree()
+    ensures receive { FreshReceiveAgrees }
+    ensures transmit { FreshTransmitAgrees }
+{}
+
+/// After a write of the receive side's enable word without bit 25 the side isn't wanted on, and stays so over every
+/// event that leaves the queue alone; a read that tells bit 25 as 0 then finds it off. Two sides that are off so, with
+/// nothing staged, stand as they are.
+pub fn guarded_receive_side_is_off()
+    ensures guard { ReceiveGuardIsOff }
+    ensures stand { OffSidesStand }
+{}

@@ -21,6 +21,7 @@ pub enum NumberFault {
 const TOO_LARGE: u64 = 0x1_0000_0000;
 
 /// The value of a digit or a letter, as a digit of radix 36; 36 for every other byte.
+#[inline(always)]
 fn digit_value(byte: u8) -> u8
     ensures { result ≡ digit_value byte }
 {
@@ -33,6 +34,7 @@ fn digit_value(byte: u8) -> u8
 }
 
 /// The number that the digits of the radix in front write, 2^32 in place of a greater one, and what stands behind them.
+#[inline(always)]
 fn split_numeral(radix: u8, bytes: &[u8]) -> (u64, &[u8])
     requires low { 2 ≤ radix }
     requires high { radix ≤ 36 }
@@ -82,6 +84,7 @@ fn numeral(radix: u8, word: &str) -> Result<u32, NumberFault>
 
 /// The number that the digits of the radix in front write, and what stands behind them. `None` where there is no digit,
 /// and where the number is too large.
+#[inline(always)]
 fn numeral_in_front(radix: u8, text: &str) -> Option<(u32, &str)>
     requires low { 2 ≤ radix }
     requires high { radix ≤ 36 }
@@ -101,6 +104,7 @@ fn numeral_in_front(radix: u8, text: &str) -> Option<(u32, &str)>
 }
 
 /// The number in front, and what stands behind its last digit. `None` where there is no number, or one too large.
+#[inline(always)]
 pub(crate) fn number_in_front(text: &str) -> Option<(u32, &str)>
     ensures { IfSome result (λ split. IsNumberInFront text.now split.0 split.1.now) }
 {

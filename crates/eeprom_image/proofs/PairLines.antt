@@ -1,6 +1,5 @@
 -- What lines say that are read in one look.
-use Rattle.std.proofs.Common.{refl, ap, sym, ◌∙◌, ◌≡◌, ℕ, List, [], ◌∷◌, Some, None, codes}
-use Rattle.std.specs.Option.{option_map}
+use Rattle.std.proofs.Common.{refl, ap, sym, ◌∙◌, ◌≡◌, ℕ, List, [], ◌∷◌, Some, codes}
 use Rattle.std.specs.Result.{result_ok}
 use Rattle.lexer.specs.Lines.{NumberedLine}
 use Rattle.lexer.specs.Words.{words_of}

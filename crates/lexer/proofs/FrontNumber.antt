@@ -1,9 +1,7 @@
 -- The number in front of a text.
-use Rattle.std.proofs.Common.{refl, ap, sym, ◌∙◌, arith, ◌≡◌, ◌≢◌, ℕ, ◌==◌, ◌&&◌, true, false, List, [], ◌∷◌, ◌++◌, length, take, drop, Option, Some, None, IfSome, Ok, Bor, nat_eq, codes, inl, inr}
-use Rattle.std.specs.List.{list_all, starts_with}
+use Rattle.std.proofs.Common.{refl, ap, sym, ◌∙◌, arith, ◌≡◌, ◌≢◌, ℕ, ◌==◌, false, List, [], ◌∷◌, ◌++◌, length, take, drop, Option, Some, None, IfSome, Ok, Bor, inl, inr}
 use Rattle.std.proofs.lemmas.Bool.Decides.{nat_tests, eqb_tells}
 use Rattle.std.proofs.lemmas.List.{take-append-drop}
-use Rattle.lexer.specs.Name.{continues_name}
 use Rattle.lexer.specs.Number.{numeral_of, number_of, digits_in_front, IsNumberInFront}
 use Rattle.lexer.proofs.FrontDigits.{digits-plain}
 

@@ -5,6 +5,7 @@ pub mod FirstWord
 pub mod WordsBehind
 pub mod FirstLine
 pub mod Digits
+pub mod DigitTable
 pub mod FrontDigits
 pub mod FrontNumber
 pub mod EmptyLine

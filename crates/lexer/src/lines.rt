@@ -55,6 +55,7 @@ impl<'a> Model for Lines<'a> {
 }
 
 /// What stands behind a carriage return and a line feed in front.
+#[inline(always)]
 fn behind_return(text: &str) -> Option<&str>
     ensures cases { MatchOption result ((rest : List ℕ) → text.now ≢ 13 ∷ 10 ∷ rest)
         (λ behind. text.now ≡ 13 ∷ 10 ∷ behind.now) }

@@ -20,19 +20,37 @@ pub enum NumberFault {
 /// The least number that is too large.
 const TOO_LARGE: u64 = 0x1_0000_0000;
 
+/// The value of each byte as a digit of radix 36, where it is a digit or a letter; 36 for every other byte.
+#[rattlefmt::skip]
+static DIGIT_VALUES: [u8; 256] = [
+    36, 36, 36, 36, 36, 36, 36, 36, 36, 36, 36, 36, 36, 36, 36, 36,
+    36, 36, 36, 36, 36, 36, 36, 36, 36, 36, 36, 36, 36, 36, 36, 36,
+    36, 36, 36, 36, 36, 36, 36, 36, 36, 36, 36, 36, 36, 36, 36, 36,
+    0, 1, 2, 3, 4, 5, 6, 7, 8, 9, 36, 36, 36, 36, 36, 36,
+    36, 10, 11, 12, 13, 14, 15, 16, 17, 18, 19, 20, 21, 22, 23, 24,
+    25, 26, 27, 28, 29, 30, 31, 32, 33, 34, 35, 36, 36, 36, 36, 36,
+    36, 10, 11, 12, 13, 14, 15, 16, 17, 18, 19, 20, 21, 22, 23, 24,
+    25, 26, 27, 28, 29, 30, 31, 32, 33, 34, 35, 36, 36, 36, 36, 36,
+    36, 36, 36, 36, 36, 36, 36, 36, 36, 36, 36, 36, 36, 36, 36, 36,
+    36, 36, 36, 36, 36, 36, 36, 36, 36, 36, 36, 36, 36, 36, 36, 36,
+    36, 36, 36, 36, 36, 36, 36, 36, 36, 36, 36, 36, 36, 36, 36, 36,
+    36, 36, 36, 36, 36, 36, 36, 36, 36, 36, 36, 36, 36, 36, 36, 36,
+    36, 36, 36, 36, 36, 36, 36, 36, 36, 36, 36, 36, 36, 36, 36, 36,
+    36, 36, 36, 36, 36, 36, 36, 36, 36, 36, 36, 36, 36, 36, 36, 36,
+    36, 36, 36, 36, 36, 36, 36, 36, 36, 36, 36, 36, 36, 36, 36, 36,
+    36, 36, 36, 36, 36, 36, 36, 36, 36, 36, 36, 36, 36, 36, 36, 36,
+];
+
 /// The value of a digit or a letter, as a digit of radix 36; 36 for every other byte.
+#[inline(always)]
 fn digit_value(byte: u8) -> u8
     ensures { result ≡ digit_value byte }
 {
-    match byte {
-        b'0'..=b'9' => byte - b'0',
-        b'A'..=b'Z' => byte - b'A' + 10,
-        b'a'..=b'z' => byte - b'a' + 10,
-        _ => 36,
-    }
+    DIGIT_VALUES[usize::from(byte)]
 }
 
 /// The number that the digits of the radix in front write, 2^32 in place of a greater one, and what stands behind them.
+#[inline(always)]
 fn split_numeral(radix: u8, bytes: &[u8]) -> (u64, &[u8])
     requires low { 2 ≤ radix }
     requires high { radix ≤ 36 }
@@ -82,6 +100,7 @@ fn numeral(radix: u8, word: &str) -> Result<u32, NumberFault>
 
 /// The number that the digits of the radix in front write, and what stands behind them. `None` where there is no digit,
 /// and where the number is too large.
+#[inline(always)]
 fn numeral_in_front(radix: u8, text: &str) -> Option<(u32, &str)>
     requires low { 2 ≤ radix }
     requires high { radix ≤ 36 }
@@ -101,6 +120,7 @@ fn numeral_in_front(radix: u8, text: &str) -> Option<(u32, &str)>
 }
 
 /// The number in front, and what stands behind its last digit. `None` where there is no number, or one too large.
+#[inline(always)]
 pub(crate) fn number_in_front(text: &str) -> Option<(u32, &str)>
     ensures { IfSome result (λ split. IsNumberInFront text.now split.0 split.1.now) }
 {

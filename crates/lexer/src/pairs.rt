@@ -31,6 +31,7 @@ fn behind_comment(text: &str) -> Option<&str>
 }
 
 /// What stands behind a line that has no words here.
+#[inline(always)]
 fn behind_wordless(text: &str) -> Option<&str>
     ensures rest { IfSome result (λ rest. RestOfLine text.now [] (lines rest.now)) }
     ensures shorter { IfSome result (λ rest. length rest.now < length text.now) }
@@ -43,6 +44,7 @@ fn behind_wordless(text: &str) -> Option<&str>
 }
 
 /// The numbers of a line in front that begins with the name and has two, and what stands behind the line.
+#[inline(always)]
 pub(crate) fn pair_in_front<'a>(name: &str, text: &'a str) -> Option<(u32, u32, &'a str)>
     requires { is_name name.now ≡ true }
     ensures { IfSome result (λ pair. IsPairInFront name.now text.now pair.0 pair.1 pair.2.now) }

@@ -37,6 +37,7 @@ fn ends_word(byte: u8) -> bool
 }
 
 /// Where the first byte stands that is no blank.
+#[inline(always)]
 fn first_unblank(bytes: &[u8]) -> Option<usize>
     ensures { result ≡ position (λ byte. not (is_blank byte)) bytes.now }
 {
@@ -44,6 +45,7 @@ fn first_unblank(bytes: &[u8]) -> Option<usize>
 }
 
 /// How many blanks stand in front.
+#[inline(always)]
 fn blanks_in_front(bytes: &[u8]) -> usize
     ensures { result ≡ position_or_len (λ byte. not (is_blank byte)) bytes.now }
 {
@@ -71,6 +73,7 @@ fn word_length(bytes: &[u8]) -> usize
 }
 
 /// A text without the blanks in front.
+#[inline(always)]
 pub(crate) fn behind_blanks(text: &str) -> &str
     ensures { result.now ≡ drop (position_or_len (λ byte. not (is_blank byte)) text.now) text.now }
 {

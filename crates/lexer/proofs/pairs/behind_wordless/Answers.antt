@@ -1,4 +1,4 @@
-use Rattle.std.proofs.Common.{◌≡◌, [], ◌∙◌, sym, subst, rules}
+use Rattle.std.proofs.Common.{[], subst}
 use Rattle.std.specs.Str.Lines.{lines}
 use Rattle.std.proofs.lemmas.Option.{IfSome_then}
 use Rattle.lexer.specs.Pair.{RestOfLine}

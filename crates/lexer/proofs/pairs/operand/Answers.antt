@@ -1,4 +1,4 @@
-use Rattle.std.proofs.Common.{◌≡◌, ◌∙◌, ◌∷◌, ap, sym, subst, arith, length, length-append, length-drop}
+use Rattle.std.proofs.Common.{◌∙◌, ◌∷◌, ap, sym, subst, arith, length, length-append, length-drop}
 use Rattle.std.proofs.lemmas.Option.{IfSome_then}
 use Rattle.lexer.specs.Words.{is_blank}
 use Rattle.lexer.specs.Pair.{FirstLine}

@@ -1,12 +1,13 @@
-ghost use Rattle.std.specs.Prelude.{◌≡◌, [], true, false, IfOk, IfErr, OnOk, OnErr};
+ghost use Rattle.std.specs.Prelude.{◌≡◌, [], true, IfOk, IfErr, OnOk, OnErr};
 ghost use Rattle.device_lock.specs.Fault.{event_of};
 ghost use Rattle.nic_device.specs.Answering.{may_answer};
-ghost use Rattle.nic_device.specs.Step.{step_of, hands_out};
+ghost use Rattle.nic_device.specs.Step.{step_of};
 ghost use Rattle.pmd_base.specs.Made.{Adds, StopsAmid, after_event, after_events, steps_of_queue};
 ghost use Rattle.pmd_base.specs.Events.{is_step};
 
 use crate::fault::{let_go, no_memory};
 use crate::nic::Nic;
+use crate::noted::{let_reply_go, make_noted};
 use device_lock::{Call, CallFault};
 use nic_device::{Device, Dir, Event, OutOfMemory, Reply};
 use std::alloc::Global;
@@ -72,22 +73,7 @@ impl Direct {
         ensures back { IfErr result (λ refused. refused.event ≡ event) }
         ensures unchanged { OnErr result (self.new ≡ self.old) }
     {
-        if self.calls.reserve(1).is_err() {
-            return Err(OutOfMemory { event });
-        }
-        let Ok(note) = event.note(alloc) else {
-            return Err(OutOfMemory { event });
-        };
-        let Ok(room) = Vec::with_capacity(alloc, self.device.note_room(&event)) else {
-            return Err(OutOfMemory { event });
-        };
-        let reply = self.device.step(event)?;
-        let told = reply.note_in(room);
-        self.calls.push_reserved(Call {
-            event: note,
-            reply: told,
-        });
-        Ok(reply)
+        make_noted(alloc, &mut self.device, &mut self.calls, event)
     }
 }
 
@@ -165,24 +151,5 @@ impl Nic for Direct {
 
     fn call(&mut self, alloc: Global, event: Event) -> Result<Reply, CallFault> {
         self.step_and_make(alloc, event)
-    }
-}
-
-/// Lets the reply to a device step go, which holds no buffer.
-fn let_reply_go(reply: Reply)
-    requires { hands_out reply ≡ false }
-{
-    match reply {
-        Reply::Buf(_buf) => unreachable!(),
-        Reply::Twice(_buf) => unreachable!(),
-        Reply::Word(_) | Reply::Stray(_) | Reply::Done | Reply::Bytes(_) => {}
-        Reply::NotLent | Reply::Misaligned | Reply::NoQueue | Reply::NoGroup | Reply::Idle => {}
-        Reply::Dropped(_) => {}
-        Reply::Wrote { .. } => {}
-        Reply::Advanced { .. } => {}
-        Reply::Sent { .. } => {}
-        Reply::Fault { .. } => {}
-        Reply::Message { .. } => {}
-        Reply::Frame { .. } => {}
     }
 }

@@ -1,13 +1,13 @@
 //! A device in hand, with what was made of it.
 
-ghost use Rattle.std.specs.Prelude.{◌≡◌, ◌<◌, [], ◌∷◌, ◌++◌, length, IfOk, IfErr, OnOk, OnErr, true};
-ghost use Rattle.device_lock.specs.Pass.{call_of};
+ghost use Rattle.std.specs.Prelude.{◌≡◌, ◌<◌, [], length, IfOk, IfErr, OnOk, OnErr, true};
 ghost use Rattle.nic_device.specs.Answering.{may_answer};
 ghost use Rattle.nic_device.specs.Step.{step_of};
 ghost use Rattle.pmd_interleaved.specs.Scheduled.{after_own, after_foreign, after_list, IsMadeTo};
 
 use device_lock::{Call, CallFault};
 use nic_device::{Device, Event, OutOfMemory, Reply};
+use pmd_base::make_noted;
 use std::alloc::Global;
 use std::collections::VecDeque;
 use std::marker::Model;
@@ -29,39 +29,6 @@ impl Model for Handled {
     ghost coded = { Prim.hlevel (codes, state_code) };
 
     ghost view = { λ h. record { device = h.device; calls = h.calls.items; foreign = h.foreign.items } };
-}
-
-/// Makes one event of a device, and keeps the call behind the others.
-fn make_noted(
-    alloc: Global,
-    device: &mut Device,
-    calls: &mut Vec<Call>,
-    event: Event,
-) -> Result<Reply, OutOfMemory<Event>>
-    ensures device { OnOk result (device.new ≡ (step_of device.old event).state) }
-    ensures calls { OnOk result
-        (calls.new.items ≡ calls.old.items ++ call_of event (step_of device.old event).reply ∷ []) }
-    ensures reply { IfOk result (λ reply. reply ≡ (step_of device.old event).reply) }
-    ensures fits { IfOk result (λ reply. may_answer event reply ≡ true) }
-    ensures back { IfErr result (λ refused. refused.event ≡ event) }
-    ensures unchanged { OnErr result ((device.new ≡ device.old) × (calls.new.items ≡ calls.old.items)) }
-{
-    if calls.reserve(1).is_err() {
-        return Err(OutOfMemory { event });
-    }
-    let Ok(note) = event.note(alloc) else {
-        return Err(OutOfMemory { event });
-    };
-    let Ok(room) = Vec::with_capacity(alloc, device.note_room(&event)) else {
-        return Err(OutOfMemory { event });
-    };
-    let reply = device.step(event)?;
-    let told = reply.note_in(room);
-    calls.push_reserved(Call {
-        event: note,
-        reply: told,
-    });
-    Ok(reply)
 }
 
 impl Handled {

@@ -1,15 +1,14 @@
-ghost use Rattle.std.specs.Prelude.{◌≡◌, ◌≢◌, [], ◌∷◌, true, false, Err, IfOk, IfErr, OnOk, OnErr};
+ghost use Rattle.std.specs.Prelude.{◌≡◌, ◌≢◌, [], ◌∷◌, true, Err, IfOk, IfErr, OnOk, OnErr};
 ghost use Rattle.device_lock.specs.Fault.{event_of};
 ghost use Rattle.device_lock.specs.Pass.{call_of};
 ghost use Rattle.nic_device.specs.Answering.{may_answer};
-ghost use Rattle.nic_device.specs.Step.{hands_out};
 ghost use Rattle.pmd_base.specs.Events.{is_step, same_fault};
 ghost use Rattle.pmd_base.specs.Made.{Adds, AddsSome, steps_of_queue};
 ghost use Rattle.pmd_lock.specs.Stepped.{StepsAndMakes, StopsStepping, AreStepped, with_calls, fault_with, caller_of};
 
 use device_lock::{Call, CallFault, Pass, Shared};
 use nic_device::{Dir, Event, Reply};
-use pmd_base::Nic;
+use pmd_base::{Nic, let_reply_go};
 use std::alloc::Global;
 use std::marker::Model;
 use std::sync::Wait;
@@ -188,24 +187,5 @@ fn let_step_go(step: Event)
         | Event::QueueStep(_, _)
         | Event::EepromStep => {}
         _ => unreachable!(),
-    }
-}
-
-/// Lets the reply to a device step go, which holds no buffer.
-fn let_reply_go(reply: Reply)
-    requires { hands_out reply ≡ false }
-{
-    match reply {
-        Reply::Buf(_buf) => unreachable!(),
-        Reply::Twice(_buf) => unreachable!(),
-        Reply::Word(_) | Reply::Stray(_) | Reply::Done | Reply::Bytes(_) => {}
-        Reply::NotLent | Reply::Misaligned | Reply::NoQueue | Reply::NoGroup | Reply::Idle => {}
-        Reply::Dropped(_) => {}
-        Reply::Wrote { .. } => {}
-        Reply::Advanced { .. } => {}
-        Reply::Sent { .. } => {}
-        Reply::Fault { .. } => {}
-        Reply::Message { .. } => {}
-        Reply::Frame { .. } => {}
     }
 }

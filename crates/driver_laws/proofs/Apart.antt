@@ -1,6 +1,6 @@
 -- No block is lent by both halves, and all are among those that the pass lends, whatever their calls.
-use Rattle.std.proofs.Common.{◌≡◌, ◌≢◌, ℕ, Bool, true, false, not, refl, sym, ap, ◌∙◌, subst}
-use Rattle.std.specs.Prelude.{◌==◌, IsTrue, ⊤}
+use Rattle.std.proofs.Common.{◌≡◌, ◌≢◌, ℕ, Bool, true, false, not, refl, sym, ap, subst}
+use Rattle.std.specs.Prelude.{◌==◌, IsTrue}
 use Rattle.std.proofs.lemmas.Bool.{eqb-false, ne_eqb}
 use Rattle.dma_arena.specs.Block.{Block}
 use Rattle.dma_arena.specs.Memory.{has_block}
@@ -17,7 +17,7 @@ use Rattle.receive_laws.specs.Steps.{Each}
 use Rattle.receive_laws.proofs.Each.{each_map}
 use Rattle.receive_laws.proofs.Mine.{LendsMine, mine_driven}
 use Rattle.transmit_laws.specs.Alone.{LendsOneOf}
-use Rattle.transmit_laws.proofs.Mine.{AreMine, mine-moved}
+use Rattle.transmit_laws.proofs.Mine.{mine-moved}
 use Rattle.driver_laws.proofs.Each.{each_both, each_all}
 use Rattle.driver_laws.proofs.Lending.{lent_apart}
 
@@ -71,7 +71,8 @@ module _ (s : State) where
       on n b
       (mine-moved (but b) u (λ k i. off k b (λ e. both.1 k i (sym e))) m r (moves_other u m e r own refl b both.0) n is)
       (sym same))
-      (each_both v (λ b. has_block s.memory b ≡ true) (λ b. (k : ℕ) → IsTrue (has_lent u k) → b ≢ k) lent (each_all v (λ k. IsTrue (has_lent u k)) (λ b k. b ≢ k) apart))
+      (each_both v (λ b. has_block s.memory b ≡ true) (λ b. (k : ℕ) → IsTrue (has_lent u k) → b ≢ k) lent
+      (each_all v (λ k. IsTrue (has_lent u k)) (λ b k. b ≢ k) apart))
 
 -- a block that the pass lends by a move of the transmit half
 pub lends_one : (mine : Blocks) (u : Sender) (m : Move) (e : Event Block) (r : Reply Block) → IsOwn u m e

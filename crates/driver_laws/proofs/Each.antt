@@ -1,5 +1,5 @@
 -- Facts of each block that a driver has lent for receiving, together.
-use Rattle.std.proofs.Common.{◌≡◌, ℕ, refl}
+use Rattle.std.proofs.Common.{ℕ}
 use Rattle.pmd_rx.specs.Receive.{Stage, Looks, Sees, Holding, Lent, Named, Receive}
 use Rattle.receive_laws.specs.Steps.{Each, IfFresh}
 

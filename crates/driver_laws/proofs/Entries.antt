@@ -1,13 +1,11 @@
 -- One entry of a history that leaves the driver's queue alone keeps what the device and both halves agree on.
-use Rattle.std.proofs.Common.{◌≡◌, ◌≢◌, ℕ, ◌+◌, Bool, true, false, List, [], ◌++◌, refl, sym, ap, ◌∙◌, subst, arith}
-use Rattle.std.specs.Prelude.{IsTrue, ⊤}
+use Rattle.std.proofs.Common.{◌≡◌, ◌≢◌, ℕ, true, false, List, [], ◌++◌, refl, sym, ◌∙◌, subst}
+use Rattle.std.specs.Prelude.{IsTrue}
 use Rattle.std.proofs.lemmas.List.{append-nil}
 use Rattle.dma_arena.specs.Block.{Block}
 use Rattle.dma_arena.specs.Memory.{has_block}
-use Rattle.eeprom_image.specs.Image.{blank}
 use Rattle.vf_map.specs.declared.mode.Mode.{Mode}
-use Rattle.register_file.specs.Pools.{mode_in}
-use Rattle.nic_device.specs.Sound.{IsEvent, IsSound}
+use Rattle.nic_device.specs.Sound.{IsEvent}
 use Rattle.nic_device.specs.State.{State}
 use Rattle.nic_device.specs.Step.{after, reply_to}
 use Rattle.nic_device.specs.declared.event.Event.{Event}
@@ -20,43 +18,26 @@ use Rattle.pmd_rx.specs.Receive as receiving
 use Rattle.pmd_rx.specs.Receive.{drive}
 use Rattle.pmd_tx.specs.Sending as sending
 use Rattle.pmd_tx.specs.Sending.{Move, Accepts, Asks, Advances, Looks, Reaps, Elsewhere, has_lent, moved}
-use Rattle.history_laws.specs.Aligned.{AreAligned}
 use Rattle.history_laws.proofs.Aligned.{events_aligned}
 use Rattle.history_laws.proofs.Modes.{event_told}
 use Rattle.receive_laws.specs.Joint.{Agree}
 use Rattle.receive_laws.specs.Pieces.{Piece, pieces}
-use Rattle.receive_laws.specs.Steps.{Each}
-use Rattle.receive_laws.proofs.Foreign.{foreign_keeps}
 use Rattle.receive_laws.proofs.Kept.{leaving_keeps}
 use Rattle.receive_laws.proofs.Mine.{LendsMine, mine_driven}
 use Rattle.receive_laws.proofs.Own.{own_keeps}
 use Rattle.transmit_laws.specs.Sent.{sent_by}
-use Rattle.transmit_laws.specs.Sparing.{Spares}
 use Rattle.transmit_laws.specs.Turns.{MayMove}
-use Rattle.transmit_laws.proofs.LeftBlocks.{left_alone_is_spared}
 use Rattle.transmit_laws.proofs.Mine.{mine-moved}
 use Rattle.transmit_laws.proofs.Playing.{moves_keep}
 use Rattle.transmit_laws.proofs.Sparing.{sparing_events_keep}
-use Rattle.driver_laws.specs.Agreeing.{AreLent, BothAgree}
 use Rattle.driver_laws.specs.Halves.{Halves, Doer, Receives, Sends, OwnCall, after_call}
 use Rattle.driver_laws.specs.Histories.{is_neither}
 use Rattle.driver_laws.proofs.Apart.{receives_apart, sends_apart, lends_one}
 use Rattle.driver_laws.proofs.Each.{each_all}
-use Rattle.driver_laws.proofs.Receiving.{own_spares, receive_lent}
+use Rattle.driver_laws.proofs.Lending.{receive_lent}
+use Rattle.driver_laws.proofs.Meeting.{Meets, Kept, neither_keeps}
+use Rattle.driver_laws.proofs.Receiving.{own_spares}
 use Rattle.driver_laws.proofs.Sending.{is_elsewhere, move_spares, sender_lent}
-use Rattle.driver_laws.proofs.Stepping.{received_spares, reports_spare}
-
--- what holds between two entries: the device is sound, its rings aligned, its image blank, the mode is the one that was
--- told, the device agrees with both halves, and their blocks are among these
-pub record Meets (w : Watched) (mine : Blocks) (mode : Mode) (s : State) (out : List Piece) (sent : List (List ℕ))
-    (h : Halves) : Type 0 where
-  pub sound : IsSound s
-  pub aligned : AreAligned s.registers
-  pub image : s.image ≡ blank
-  pub vfs : w.vfs ≡ s.vfs
-  pub mode_is : mode ≡ mode_in s.registers
-  pub both : BothAgree w.queue s out sent h
-  pub lent : AreLent mine h
 
 -- a move is an event that writes no piece
 no_pieces : (queue : ℕ) (s : State) (h : Halves) (m : Move) (e : Event Block) → is_elsewhere m ≡ false
@@ -85,55 +66,10 @@ module _ (w : Watched) (mine : Blocks) (mode : Mode) (s : State) (out : List Pie
   t = after s e
 
   abbrev Agrees : Halves → Type 0
-  Agrees k = BothAgree w.queue t (out ++ pieces w.queue s e) (sent ++ sent_by w.queue s e) k × AreLent mine k
+  Agrees = Kept w mine s out sent e
 
   sender_blocks : (n : ℕ) → IsTrue (has_lent h.transmit n) → has_block s.memory n ≡ true
   sender_blocks = sender_lent s w.queue sent h.transmit m.both.transmit.0 m.both.transmit.1
-
-  -- an event that is neither half's
-
-  spared_by : (e : Event Block) → IsEvent e → LeavesRegisters w (mode_in s.registers) e → LeavesBlocks mine e
-      → WritesOutside w.queue mine (reply_to s e) → Spares w.queue h.transmit s e
-  spared_by event.RxStep is registers blocks outside =
-      received_spares w.queue mine s m.sound out h.receive m.both.receive outside h.transmit m.lent.transmit
-      m.both.apart
-  spared_by e is registers blocks outside = left_alone_is_spared w mine h.transmit s e (record {
-    sound = m.sound;
-    aligned = m.aligned;
-    made = is;
-    functions = m.vfs;
-    lent = m.lent.transmit;
-    registers = registers;
-    blocks = blocks;
-    steps = outside;
-    owed = tt;
-  })
-
-  neither_keeps : LeavesRegisters w mode e → LeavesBlocks mine e → Agrees h
-  neither_keeps registers blocks =
-      let here = subst (λ k. LeavesRegisters w k e) m.mode_is registers in (
-        record {
-          receive =
-              foreign_keeps w mine mode s out h.receive
-              (record { pass = w.pass + 1; event = e; reply = reply_to s e })
-              (record {
-                sound = m.sound;
-                aligned = m.aligned;
-                vfs = m.vfs;
-                mode_is = m.mode_is;
-                reply = refl;
-                event = made;
-              })
-              m.both.receive m.lent.receive
-              (reports_spare s w.queue sent h.transmit m.both.transmit.0 m.both.transmit.1 h.receive m.both.apart)
-              (record { registers = λ other. registers; blocks = λ other. blocks; steps = steps })
-              (λ x. absurd (omega (arith, x)));
-          transmit =
-              sparing_events_keep s w.queue sent h.transmit e m.both.transmit (spared_by e made here blocks steps);
-          apart = m.both.apart;
-        },
-        m.lent,
-      )
 
   -- the receive half's
 
@@ -186,7 +122,7 @@ module _ (w : Watched) (mine : Blocks) (mode : Mode) (s : State) (out : List Pie
       → (is_neither d ≡ true → LeavesRegisters w mode e × LeavesBlocks mine e)
       → (is_neither d ≡ false → LendsMine mine e (reply_to s e)) → Agrees (after_call h d (call_of e (reply_to s e)))
   doer_keeps Receives own others lends = receives_keeps own (lends refl)
-  doer_keeps (Sends Elsewhere) own others lends = neither_keeps (others refl).0 (others refl).1
+  doer_keeps (Sends Elsewhere) own others lends = neither_keeps w mine mode s out sent h m e made steps (others refl).0 (others refl).1
   doer_keeps (Sends move) own others lends = sends_keeps move refl own (lends refl)
 
   pub goes_on : (k : Halves) → Agrees k

@@ -1,8 +1,8 @@
--- A block that is lent leaves the others, and is lent under a number of its own.
-use Rattle.std.proofs.Common.{◌≡◌, ◌≢◌, ℕ, true, inl, inr, refl, sym, ap, ◌∙◌, subst}
-use Rattle.std.proofs.lemmas.Bool.{cases_eq}
+-- Blocks of the receive half are lent; and a block that is lent leaves the others, and has a number of its own.
+use Rattle.std.proofs.Common.{◌≡◌, ◌≢◌, ℕ, ◌<◌, true, List, length, inl, inr, refl, sym, ap, ◌∙◌, subst}
+use Rattle.std.proofs.lemmas.Bool.{cases_eq, cases_lt}
 use Rattle.dma_arena.specs.Block.{Block}
-use Rattle.dma_arena.specs.Memory.{has_block}
+use Rattle.dma_arena.specs.Memory.{Memory, has_block}
 use Rattle.nic_device.specs.Outcome.{Outcome, gives}
 use Rattle.nic_device.specs.State.{State}
 use Rattle.nic_device.specs.Step.{step_of, after, reply_to}
@@ -10,6 +10,38 @@ use Rattle.nic_device.specs.declared.event.Event.TheVariants as event
 use Rattle.nic_device.specs.declared.event.Reply.TheVariants.{Done, Twice}
 use Rattle.device_laws.specs.Leaving.{LeavesBlock}
 use Rattle.device_laws.proofs.Standing.{memory_blocks}
+use Rattle.pmd_rx.specs.Receive.{Layout, Stage, Looks, Sees, Holding, Lent, Named, Receive, block_at}
+use Rattle.receive_laws.specs.Joint.{StageHolds, HasSlots, Agree}
+use Rattle.receive_laws.specs.Pieces.{Piece}
+use Rattle.receive_laws.specs.Steps.{Each, IfFresh}
+
+-- the blocks of the receive half are lent
+
+fresh_lent : (m : Memory) (l : Layout) (here : List Piece) (stage : Stage) → StageHolds m l here stage
+    → IfFresh stage (λ b. has_block m b ≡ true)
+fresh_lent m l here Looks h = tt
+fresh_lent m l here (Sees first second) h = tt
+fresh_lent m l here (Holding p) h = tt
+fresh_lent m l here (Lent o b) h = h.there
+fresh_lent m l here (Named o b) h = h.0.there
+
+slot_lent : (m : Memory) (l : Layout) (here : List Piece) → HasSlots m l here → (k : ℕ) → k < length l.blocks
+    → has_block m (block_at l k) ≡ true
+slot_lent m l here h k i =
+    elim (cases_lt k (length here)) as (λ _. has_block m (block_at l k) ≡ true) [
+      | inl filled ↦ (h.filled k filled).there
+      | inr more ↦ (h.posted k more i).there
+    ]
+
+pub receive_lent : (queue : ℕ) (s : State) (out : List Piece) (v : Receive) → Agree queue s out v
+    → Each v (λ b. has_block s.memory b ≡ true)
+receive_lent queue s out v (gone, here, h) = record {
+  ring = h.slots.there;
+  blocks = slot_lent s.memory v.layout here h.slots;
+  fresh = fresh_lent s.memory v.layout here v.stage h.stage;
+}
+
+-- a block is lent
 
 lent_twice : (s : State) (block : Block) → has_block s.memory block.number ≡ true
     → step_of s (event.Lend block) ≡ gives (Twice block) s
@@ -31,6 +63,7 @@ lend_leaves s block number has =
 pub lent_apart : (s : State) (block : Block) (number : ℕ) → has_block s.memory number ≡ true
     → reply_to s (event.Lend block) ≡ Done → block.number ≢ number
 lent_apart s block number has done same =
-    let twice = ap (λ (o : Outcome). o.reply) (lent_twice s block (subst (λ n. has_block s.memory n ≡ true) (sym same) has)) in
+    let there = subst (λ n. has_block s.memory n ≡ true) (sym same) has in
+    let twice = ap (λ (o : Outcome). o.reply) (lent_twice s block there) in
     let both = sym done ∙ twice in
     cc

@@ -4,6 +4,8 @@ pub mod Each
 pub mod Entries
 pub mod InOrder
 pub mod Lending
+pub mod Meeting
+pub mod Next
 pub mod Receiving
 pub mod Runs
 pub mod Sending

@@ -1,10 +1,9 @@
 -- What an event of the receive half's own leaves: all blocks but its own, and the transmit side.
-use Rattle.std.proofs.Common.{◌≡◌, ◌≢◌, ℕ, ◌+◌, ◌*◌, ◌<◌, ◌≤◌, true, List, length, inl, inr, refl, sym, ap, ◌∙◌, subst, arith}
+use Rattle.std.proofs.Common.{◌≡◌, ◌≢◌, ℕ, ◌*◌, true, List, length, refl, sym, ap, ◌∙◌, subst, arith}
 use Rattle.std.specs.FinMap as map
 use Rattle.std.specs.Prelude.{IsTrue}
-use Rattle.std.proofs.lemmas.Bool.{cases_lt}
 use Rattle.dma_arena.specs.Block.{Block}
-use Rattle.dma_arena.specs.Memory.{Memory, Avoids, has_block}
+use Rattle.dma_arena.specs.Memory.{Avoids, has_block}
 use Rattle.dma_arena.proofs.Inside.{inside_avoids}
 use Rattle.dma_ring.specs.Driver.{posted}
 use Rattle.dma_ring.proofs.Fields.{halves_come_back}
@@ -22,41 +21,15 @@ use Rattle.device_laws.specs.Laws.{WritesNoSetting}
 use Rattle.device_laws.specs.Leaving.{LeavesBlock, LeavesTransmit}
 use Rattle.device_laws.proofs.Standing.{memory_blocks, memory_rest, stays_within}
 use Rattle.device_laws.proofs.StandingAccesses.{write_memory, write_rest}
-use Rattle.pmd_rx.specs.Receive.{Layout, Stage, Looks, Sees, Holding, Lent, Named, Receive, IsOwn, TakesNext, NamesNext, MovesNext, slot_at, descriptor_at, block_at, vacant, naming}
+use Rattle.pmd_rx.specs.Receive.{Layout, Stage, Looks, Sees, Holding, Lent, Named, Receive, IsOwn, TakesNext, NamesNext, MovesNext, slot_at, vacant}
 use Rattle.pmd_tx.specs.Sending.{Sender, has_lent}
-use Rattle.receive_laws.specs.Joint.{IsNamed, StageHolds, HasSlots, Holds, Agree}
+use Rattle.receive_laws.specs.Joint.{IsNamed, StageHolds, Holds}
 use Rattle.receive_laws.specs.Pieces.{Piece}
-use Rattle.receive_laws.specs.Steps.{Each, IfFresh}
+use Rattle.receive_laws.specs.Steps.{Each}
 use Rattle.receive_laws.proofs.Kept.{slot_low}
 use Rattle.receive_laws.proofs.Places.{slot_inside}
 use Rattle.transmit_laws.specs.Sparing.{Spares}
 use Rattle.driver_laws.proofs.Lending.{lend_leaves}
-
--- the blocks of the receive half are lent
-
-fresh_lent : (m : Memory) (l : Layout) (here : List Piece) (stage : Stage) → StageHolds m l here stage
-    → IfFresh stage (λ b. has_block m b ≡ true)
-fresh_lent m l here Looks h = tt
-fresh_lent m l here (Sees first second) h = tt
-fresh_lent m l here (Holding p) h = tt
-fresh_lent m l here (Lent o b) h = h.there
-fresh_lent m l here (Named o b) h = h.0.there
-
-slot_lent : (m : Memory) (l : Layout) (here : List Piece) → HasSlots m l here → (k : ℕ) → k < length l.blocks
-    → has_block m (block_at l k) ≡ true
-slot_lent m l here h k i =
-    elim (cases_lt k (length here)) as (λ _. has_block m (block_at l k) ≡ true) [
-      | inl filled ↦ (h.filled k filled).there
-      | inr more ↦ (h.posted k more i).there
-    ]
-
-pub receive_lent : (queue : ℕ) (s : State) (out : List Piece) (v : Receive) → Agree queue s out v
-    → Each v (λ b. has_block s.memory b ≡ true)
-receive_lent queue s out v (gone, here, h) = record {
-  ring = h.slots.there;
-  blocks = slot_lent s.memory v.layout here h.slots;
-  fresh = fresh_lent s.memory v.layout here v.stage h.stage;
-}
 
 -- the register of a write of the receive half's
 

@@ -1,69 +1,31 @@
 -- Over a whole history.
-use Rattle.std.proofs.Common.{◌≡◌, ℕ, ◌<◌, Bool, true, false, ◌&&◌, not, List, [], ◌∷◌, ◌++◌, Some, refl, sym, ap, ◌∙◌, subst, cond, append_assoc, nat_lt}
-use Rattle.std.specs.Prelude.{◌==◌, IsTrue, ⊤}
-use Rattle.std.proofs.lemmas.Bool.{and_from, eq-eqb, eqb-true, eqb-false, lt-ltb, or_left, or_right, cases_Bool}
+use Rattle.std.proofs.Common.{◌≡◌, ℕ, Bool, true, false, ◌&&◌, not, List, [], ◌∷◌, ◌++◌, Some, refl, sym, ap, ◌∙◌, subst, cond, append_assoc}
+use Rattle.std.specs.Prelude.{◌==◌, IsTrue}
+use Rattle.std.proofs.lemmas.Bool.{eqb-true, eqb-false, or_left, or_right}
 use Rattle.std.proofs.lemmas.List.{append-nil}
-use Rattle.dma_arena.specs.Block.{Block}
 use Rattle.vf_map.specs.declared.mode.Mode.{Mode}
 use Rattle.register_file.specs.Queue.{is_on}
 use Rattle.register_file.specs.declared.dir.Dir.TheVariants.{Rx}
 use Rattle.nic_device.specs.Sound.{IsEvent}
 use Rattle.nic_device.specs.State.{State}
 use Rattle.nic_device.specs.Step.{after, reply_to}
-use Rattle.nic_device.specs.declared.event.Event.{Event}
-use Rattle.nic_device.specs.declared.event.Event.TheVariants as event
-use Rattle.nic_device.specs.declared.event.Reply.{Reply}
-use Rattle.nic_device.specs.declared.event.Reply.TheVariants as reply
-use Rattle.device_lock.specs.Alone.{Blocks, EntryLeavesAlone, LeavesRegisters, LeavesBlocks, WritesOutside, lent_by, lent_in, lends, mode_after}
+use Rattle.device_lock.specs.Alone.{Blocks, EntryLeavesAlone, LeavesRegisters, LeavesBlocks, WritesOutside, lent_by, lent_in, mode_after}
 use Rattle.device_lock.specs.History.{IsLegal, call_in, calls_of, leads_to}
 use Rattle.device_lock.specs.Pass.{call_of}
 use Rattle.device_lock.specs.declared.alone.Watched.{Watched}
-use Rattle.device_lock.specs.declared.entry.Call.{Call}
 use Rattle.device_lock.specs.declared.entry.Entry.{Entry}
 use Rattle.history_laws.specs.Alone.{AllAlone}
 use Rattle.history_laws.specs.Laws.{AreEvents}
 use Rattle.receive_laws.specs.Delivered.{pieces_in, pieces_since}
-use Rattle.receive_laws.specs.Joint.{Agree}
 use Rattle.receive_laws.specs.Pieces.{Piece, pieces}
 use Rattle.receive_laws.proofs.Mine.{LendsMine}
-use Rattle.transmit_laws.specs.Agreeing.{Agrees}
 use Rattle.transmit_laws.specs.Sent.{sent_by, sent_in}
 use Rattle.driver_laws.specs.Agreeing.{BothAgree}
 use Rattle.driver_laws.specs.Halves.{Halves, Doer, OwnCall, AllOwn, after_call, played_by}
 use Rattle.driver_laws.specs.Histories.{OthersLeaveAlone, doer_of, doers_after, is_neither}
-use Rattle.driver_laws.proofs.Entries.{Meets, doer_keeps, goes_on}
-
--- what the pass lends is among these blocks
-lends_mine : (pass : ℕ) (mine : Blocks) (own : ℕ) (e : Event Block) (r : Reply Block) → own ≡ pass → IsEvent e
-    → ((n : ℕ) → IsTrue (nat_lt n 65536 && ((own == pass) && lends e r n)) → IsTrue (mine n))
-    → LendsMine mine e r
-lends_mine pass mine own (event.Lend b) reply.Done same made all =
-    all b.number (and_from _ _ (lt-ltb b.number 65536 made.whole.small)
-    (and_from _ _ (eq-eqb own pass same) (eq-eqb b.number b.number refl)))
-lends_mine pass mine own e r same made all = tt
-
--- the next call, and those behind it
-
-record Next (h : Halves) (doers : List Doer) (e : Entry) (b : Bool) (before behind : List Call) : Type 0 where
-  own : OwnCall h (doer_of b doers) (call_in e)
-  rest : AllOwn (after_call h (doer_of b doers) (call_in e)) (doers_after b doers) behind
-  played : played_by h doers before
-      ≡ played_by (after_call h (doer_of b doers) (call_in e)) (doers_after b doers) behind
-
-next_call : (h : Halves) (doers : List Doer) (e : Entry) (calls : List Call) → AllOwn h doers (call_in e ∷ calls)
-    → Next h doers e true (call_in e ∷ calls) calls
-next_call h [] e calls own = absurd own
-next_call h (d ∷ doers) e calls own = record { own = own.0; rest = own.1; played = refl }
-
-next_by : (pass : ℕ) (h : Halves) (doers : List Doer) (e : Entry) (es : List Entry) (b : Bool) → (e.pass == pass) ≡ b
-    → AllOwn h doers (calls_of pass (e ∷ es)) → Next h doers e b (calls_of pass (e ∷ es)) (calls_of pass es)
-next_by pass h doers e es true is own =
-    let same : calls_of pass (e ∷ es) ≡ call_in e ∷ calls_of pass es = rw is refl in
-    subst (λ calls. Next h doers e true calls (calls_of pass es)) (sym same)
-    (next_call h doers e (calls_of pass es) (subst (AllOwn h doers) same own))
-next_by pass h doers e es false is own =
-    let same : calls_of pass (e ∷ es) ≡ calls_of pass es = rw is refl in
-    record { own = tt; rest = subst (AllOwn h doers) same own; played = ap (played_by h doers) same }
+use Rattle.driver_laws.proofs.Entries.{doer_keeps, goes_on}
+use Rattle.driver_laws.proofs.Meeting.{Meets}
+use Rattle.driver_laws.proofs.Next.{lends_mine, next_by}
 
 -- where a history leads from a place where the device and both halves agree
 pub record Led (w : Watched) (s : State) (out : List Piece) (sent : List (List ℕ)) (es : List Entry) (k : Halves) :

@@ -1,5 +1,5 @@
 -- What a move of the transmit half leaves: all blocks but its own, and the receive side.
-use Rattle.std.proofs.Common.{◌≡◌, ◌≢◌, ℕ, zero, suc, ◌+◌, ◌<◌, ◌≤◌, Bool, true, false, ◌||◌, List, [], ◌∷◌, length, inl, inr, refl, sym, ap, ◌∙◌, subst, arith}
+use Rattle.std.proofs.Common.{◌≡◌, ◌≢◌, ℕ, suc, ◌<◌, Bool, true, false, List, [], ◌∷◌, length, inl, inr, refl, sym, ap, ◌∙◌, subst, arith}
 use Rattle.std.specs.FinMap as map
 use Rattle.std.specs.List.{list_any}
 use Rattle.std.specs.Prelude.{◌==◌, IsTrue, slice_index_or}
@@ -21,7 +21,7 @@ use Rattle.device_laws.proofs.KeptSettings.{settings_stand}
 use Rattle.device_laws.proofs.Standing.{memory_blocks, memory_rest, stays_within}
 use Rattle.device_laws.proofs.StandingAccesses.{write_memory, write_rest}
 use Rattle.pmd_rx.specs.Receive.{Receive}
-use Rattle.pmd_tx.specs.Sending.{Outgoing, Sender, Move, Accepts, Asks, Advances, Looks, Reaps, Elsewhere, IsOwn, asking, blocks_of, descriptor_at, has_lent, no_packet, packet_at}
+use Rattle.pmd_tx.specs.Sending.{Outgoing, Sender, Move, Accepts, Asks, Advances, Looks, Reaps, Elsewhere, IsOwn, blocks_of, has_lent, no_packet, packet_at}
 use Rattle.receive_laws.specs.Steps.{Each, Leaves}
 use Rattle.receive_laws.proofs.Each.{each_map}
 use Rattle.transmit_laws.specs.Agreeing.{AgreesAt}

@@ -1,10 +1,9 @@
 -- Steps of the device on the driver's own queue leave the other half: one of receiving writes into blocks that the
 -- receive half has lent, and what one of transmitting reports goes into the transmit ring's block.
-use Rattle.std.proofs.Common.{cond, ◌≡◌, ◌≢◌, ℕ, ◌+◌, ◌*◌, ◌/◌, ◌^◌, ◌<◌, ◌≤◌, Bool, true, false, inl, inr, List, refl, sym, ap, ◌∙◌, subst, arith, Option, Some, None}
-use Rattle.std.specs.Prelude.{IsTrue, ⊤}
+use Rattle.std.proofs.Common.{cond, ◌≡◌, ◌≢◌, ℕ, ◌+◌, ◌*◌, ◌/◌, ◌^◌, ◌<◌, Bool, true, false, inl, inr, List, refl, sym, ap, ◌∙◌, subst, arith, Option, Some, None}
+use Rattle.std.specs.Prelude.{IsTrue}
 use Rattle.std.proofs.lemmas.Bool.{cases_eq}
 use Rattle.dma_arena.specs.Block.{Block}
-use Rattle.dma_arena.specs.Memory.{LiesIn}
 use Rattle.dma_arena.proofs.Inside.{inside_avoids}
 use Rattle.dma_ring.specs.Ring.{descriptor_address}
 use Rattle.reg_table.specs.declared.rows.RowId.TheVariants.{Tdwbal, Tdwbah}
@@ -12,7 +11,6 @@ use Rattle.register_file.specs.Bits.{has_bit}
 use Rattle.register_file.specs.Queue.{ring_of}
 use Rattle.register_file.specs.Registers.{word_of}
 use Rattle.register_file.specs.declared.dir.Dir.TheVariants.{Tx}
-use Rattle.nic_device.specs.Footprint.{told_back}
 use Rattle.nic_device.specs.Sound.{IsSound}
 use Rattle.nic_device.specs.State.{State}
 use Rattle.nic_device.specs.Step.{after, reply_to}

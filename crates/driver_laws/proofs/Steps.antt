@@ -1,5 +1,5 @@
 -- Steps of the device that the driver's pass makes leave its queue alone.
-use Rattle.std.proofs.Common.{List, [], ◌∷◌}
+use Rattle.std.proofs.Common.{[], ◌∷◌}
 use Rattle.std.specs.Prelude.{◌==◌}
 use Rattle.device_lock.specs.Alone.{mode_after}
 use Rattle.receive_laws.proofs.Clear.{no_registers}

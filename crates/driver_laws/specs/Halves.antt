@@ -1,5 +1,5 @@
 -- A driver whose two halves, one that receives and one that sends, make calls through one pass.
-use Rattle.std.specs.Prelude.{ℕ, ◌≡◌, List, [], ◌∷◌, ◌++◌, ⊤}
+use Rattle.std.specs.Prelude.{◌≡◌, List, [], ◌∷◌, ◌++◌, ⊤}
 use Rattle.device_lock.specs.declared.entry.Call.{Call}
 use Rattle.pmd_base.specs.Made.{AddsSome}
 use Rattle.pmd_rx.specs.Plays as receive

@@ -1,0 +1,89 @@
+-- What holds between two entries of a history, and that an event which is neither half's and leaves the queue alone
+-- keeps it.
+use Rattle.std.proofs.Common.{◌≡◌, ℕ, ◌+◌, List, ◌++◌, refl, subst, arith}
+use Rattle.dma_arena.specs.Block.{Block}
+use Rattle.eeprom_image.specs.Image.{blank}
+use Rattle.vf_map.specs.declared.mode.Mode.{Mode}
+use Rattle.register_file.specs.Pools.{mode_in}
+use Rattle.nic_device.specs.Sound.{IsEvent, IsSound}
+use Rattle.nic_device.specs.State.{State}
+use Rattle.nic_device.specs.Step.{after, reply_to}
+use Rattle.nic_device.specs.declared.event.Event.{Event}
+use Rattle.nic_device.specs.declared.event.Event.TheVariants as event
+use Rattle.device_lock.specs.Alone.{Blocks, LeavesRegisters, LeavesBlocks, WritesOutside}
+use Rattle.device_lock.specs.declared.alone.Watched.{Watched}
+use Rattle.history_laws.specs.Aligned.{AreAligned}
+use Rattle.receive_laws.specs.Pieces.{Piece, pieces}
+use Rattle.receive_laws.proofs.Foreign.{foreign_keeps}
+use Rattle.transmit_laws.specs.Sent.{sent_by}
+use Rattle.transmit_laws.specs.Sparing.{Spares}
+use Rattle.transmit_laws.proofs.LeftBlocks.{left_alone_is_spared}
+use Rattle.transmit_laws.proofs.Sparing.{sparing_events_keep}
+use Rattle.driver_laws.specs.Agreeing.{AreLent, BothAgree}
+use Rattle.driver_laws.specs.Halves.{Halves}
+use Rattle.driver_laws.proofs.Stepping.{received_spares, reports_spare}
+
+-- what holds between two entries: the device is sound, its rings aligned, its image blank, the mode is the one that was
+-- told, the device agrees with both halves, and their blocks are among these
+pub record Meets (w : Watched) (mine : Blocks) (mode : Mode) (s : State) (out : List Piece) (sent : List (List ℕ))
+    (h : Halves) : Type 0 where
+  pub sound : IsSound s
+  pub aligned : AreAligned s.registers
+  pub image : s.image ≡ blank
+  pub vfs : w.vfs ≡ s.vfs
+  pub mode_is : mode ≡ mode_in s.registers
+  pub both : BothAgree w.queue s out sent h
+  pub lent : AreLent mine h
+
+-- and behind an event, with these halves
+abbrev pub Kept : Watched → Blocks → State → List Piece → List (List ℕ) → Event Block → Halves → Type 0
+Kept w mine s out sent e k =
+    BothAgree w.queue (after s e) (out ++ pieces w.queue s e) (sent ++ sent_by w.queue s e) k × AreLent mine k
+
+module _ (w : Watched) (mine : Blocks) (mode : Mode) (s : State) (out : List Piece) (sent : List (List ℕ)) (h : Halves)
+    (m : Meets w mine mode s out sent h) (e : Event Block) (made : IsEvent e)
+    (steps : WritesOutside w.queue mine (reply_to s e)) where
+  -- an event that is neither half's
+
+  spared_by : (e : Event Block) → IsEvent e → LeavesRegisters w (mode_in s.registers) e → LeavesBlocks mine e
+      → WritesOutside w.queue mine (reply_to s e) → Spares w.queue h.transmit s e
+  spared_by event.RxStep is registers blocks outside =
+      received_spares w.queue mine s m.sound out h.receive m.both.receive outside h.transmit m.lent.transmit
+      m.both.apart
+  spared_by e is registers blocks outside = left_alone_is_spared w mine h.transmit s e (record {
+    sound = m.sound;
+    aligned = m.aligned;
+    made = is;
+    functions = m.vfs;
+    lent = m.lent.transmit;
+    registers = registers;
+    blocks = blocks;
+    steps = outside;
+    owed = tt;
+  })
+
+  pub neither_keeps : LeavesRegisters w mode e → LeavesBlocks mine e → Kept w mine s out sent e h
+  neither_keeps registers blocks =
+      let here = subst (λ k. LeavesRegisters w k e) m.mode_is registers in (
+        record {
+          receive =
+              foreign_keeps w mine mode s out h.receive
+              (record { pass = w.pass + 1; event = e; reply = reply_to s e })
+              (record {
+                sound = m.sound;
+                aligned = m.aligned;
+                vfs = m.vfs;
+                mode_is = m.mode_is;
+                reply = refl;
+                event = made;
+              })
+              m.both.receive m.lent.receive
+              (reports_spare s w.queue sent h.transmit m.both.transmit.0 m.both.transmit.1 h.receive m.both.apart)
+              (record { registers = λ other. registers; blocks = λ other. blocks; steps = steps })
+              (λ x. absurd (omega (arith, x)));
+          transmit =
+              sparing_events_keep s w.queue sent h.transmit e m.both.transmit (spared_by e made here blocks steps);
+          apart = m.both.apart;
+        },
+        m.lent,
+      )

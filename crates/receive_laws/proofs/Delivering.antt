@@ -25,19 +25,19 @@ use Rattle.receive_laws.proofs.Prefix.{drained, handed_first}
 
 -- histories in two parts
 
-leads-append : (s : State) (g h : List Entry) → leads_to s (g ++ h) ≡ leads_to (leads_to s g) h
+pub leads-append : (s : State) (g h : List Entry) → leads_to s (g ++ h) ≡ leads_to (leads_to s g) h
 leads-append s [] h = refl
 leads-append s (e ∷ g) h = leads-append (after s e.event) g h
 
-legal_behind : (s : State) (g h : List Entry) → IsLegal s (g ++ h) → IsLegal (leads_to s g) h
+pub legal_behind : (s : State) (g h : List Entry) → IsLegal s (g ++ h) → IsLegal (leads_to s g) h
 legal_behind s [] h legal = legal
 legal_behind s (e ∷ g) h legal = legal_behind (after s e.event) g h legal.1
 
-events_before : (g h : List Entry) → AreEvents (g ++ h) → AreEvents g
+pub events_before : (g h : List Entry) → AreEvents (g ++ h) → AreEvents g
 events_before [] h events = tt
 events_before (e ∷ g) h events = (events.0, events_before g h events.1)
 
-events_behind : (g h : List Entry) → AreEvents (g ++ h) → AreEvents h
+pub events_behind : (g h : List Entry) → AreEvents (g ++ h) → AreEvents h
 events_behind [] h events = events
 events_behind (e ∷ g) h events = events_behind g h events.1
 
@@ -46,15 +46,15 @@ since-append : (queue : ℕ) (s : State) (so_far : Option (List Piece)) (g h : L
 since-append queue s so_far [] h = refl
 since-append queue s so_far (e ∷ g) h = since-append queue (after s e.event) _ g h
 
-lent_behind : (pass n : ℕ) (g h : List Entry) → IsTrue (lent_by pass h n) → IsTrue (lent_by pass (g ++ h) n)
+pub lent_behind : (pass n : ℕ) (g h : List Entry) → IsTrue (lent_by pass h n) → IsTrue (lent_by pass (g ++ h) n)
 lent_behind pass n [] h is = is
 lent_behind pass n (e ∷ g) h is = or_right _ _ (lent_behind pass n g h is)
 
-image_stays : (s : State) (h : List Entry) → (leads_to s h).image ≡ s.image
+pub image_stays : (s : State) (h : List Entry) → (leads_to s h).image ≡ s.image
 image_stays s [] = refl
 image_stays s (e ∷ h) = image_stays (after s e.event) h ∙ (step_leads s e.event).stays.image
 
-vfs_stays : (s : State) (h : List Entry) → (leads_to s h).vfs ≡ s.vfs
+pub vfs_stays : (s : State) (h : List Entry) → (leads_to s h).vfs ≡ s.vfs
 vfs_stays s [] = refl
 vfs_stays s (e ∷ h) = vfs_stays (after s e.event) h ∙ (step_leads s e.event).stays.vfs
 

@@ -1,9 +1,11 @@
 pub mod Accesses
+pub mod Along
 pub mod Fresh
 pub mod LeftReceive
 pub mod LeftZero
 pub mod Masks
 pub mod Moves
+pub mod Points
 pub mod Quiet
 pub mod ReceiveWords
 pub mod Standing

@@ -4,6 +4,7 @@
 #![tactic(auto)]
 
 ghost use Rattle.start_laws.specs.Moves.{ReceiveWriteStands, TransmitWriteStands, ReceiveReadStands, TransmitReadStands, LendStands, FreshReceiveAgrees, FreshTransmitAgrees};
+ghost use Rattle.start_laws.specs.Points.{AccessesLead};
 ghost use Rattle.start_laws.specs.Quiet.{ReceiveGuardIsOff, OffSidesStand};
 ghost use Rattle.start_laws.specs.Standing.{StandingSidesAreLeft};
 ghost use Rattle.start_laws.specs.Words.{ReceiveWordsAreTaken, TransmitWordsAreTaken};
@@ -46,4 +47,11 @@ pub fn fresh_sides_agree()
 pub fn guarded_receive_side_is_off()
     ensures guard { ReceiveGuardIsOff }
     ensures stand { OffSidesStand }
+{}
+
+/// Over a legal history that leaves the queue alone, from where the sides stand as some that are known, they stand as
+/// after the driver's accesses wherever its pass has made these. Other calls of the pass in between are steps of the
+/// device.
+pub fn accesses_lead_over_a_history()
+    ensures { AccessesLead }
 {}

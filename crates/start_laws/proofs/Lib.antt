@@ -5,8 +5,10 @@ pub mod LeftReceive
 pub mod LeftZero
 pub mod Masks
 pub mod Moves
+pub mod Off
 pub mod Points
 pub mod Quiet
+pub mod Quieting
 pub mod ReceiveWords
 pub mod Standing
 pub mod StillReceive

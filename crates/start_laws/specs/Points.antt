@@ -91,8 +91,8 @@ StepsBetween q old new [] made = ⊤
 StepsBetween q old new (a ∷ rest) made =
     StepsBefore q old made.0 a made.1 × StepsBetween q made.0 new rest made.2
 
--- over a history that leaves the queue alone: where the pass has made some calls the sides stand as some that are known;
--- then, where it has made accesses that keep them standing, they stand as after these
+-- over a history that leaves the queue alone: where the pass has made some calls the sides stand as some that are
+-- known; then, where it has made accesses that keep them standing, they stand as after these
 abbrev pub AccessesLead : Type 0
 AccessesLead =
     (w : Watched) (q : AtPort) (fifo : ℕ) (h : List Entry) (known : Sides → Bool) (F : Sides → Sides)

@@ -100,7 +100,8 @@ read_stands queue s rx tx rings port n stand =
 pub receive_read_stands : ReceiveReadStands
 receive_read_stands queue s rx tx rings port n word stand names told =
     read_stands queue s (receive_seen (has_bit 25 word) rx) tx rings port n (record {
-      receives = receive_seen_stands _ rx (has_bit 25 word) stand.receives (receive_told queue s port n word told names);
+      receives =
+          receive_seen_stands _ rx (has_bit 25 word) stand.receives (receive_told queue s port n word told names);
       transmits = stand.transmits;
       staged = stand.staged;
       zero = stand.zero;

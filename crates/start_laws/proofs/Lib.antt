@@ -1,10 +1,14 @@
 pub mod Accesses
+pub mod Along
 pub mod Fresh
 pub mod LeftReceive
 pub mod LeftZero
 pub mod Masks
 pub mod Moves
+pub mod Off
+pub mod Points
 pub mod Quiet
+pub mod Quieting
 pub mod ReceiveWords
 pub mod Standing
 pub mod StillReceive

@@ -61,11 +61,13 @@ off_where false wanted only none = refl
 
 -- a side that is off and as this one says is off there
 receive_off : (q side : ReceiveQueue) → StandsReceive q side → side.wanted ≡ false → q ≡ record side { on = false }
-receive_off q side x none = subst (λ (on : Bool). q ≡ record side { on = on }) (off_where q.on side.wanted x.wanted none) x.same
+receive_off q side x none =
+    subst (λ (on : Bool). q ≡ record side { on = on }) (off_where q.on side.wanted x.wanted none) x.same
 
 transmit_off : (q side : TransmitQueue) → StandsTransmit q side → side.wanted ≡ false
     → q ≡ record side { on = false }
-transmit_off q side x none = subst (λ (on : Bool). q ≡ record side { on = on }) (off_where q.on side.wanted x.wanted none) x.same
+transmit_off q side x none =
+    subst (λ (on : Bool). q ≡ record side { on = on }) (off_where q.on side.wanted x.wanted none) x.same
 
 seen_off : (seen on : Bool) → (seen ≡ true → on ≡ true) → on ≡ false → seen ≡ false
 seen_off true on only none = absurd (both_ways on none (only refl))
@@ -120,7 +122,8 @@ transmit_write_stands queue s rx tx rings port n word row met stand unwanted fit
     record {
       receives = subst (λ (z : ReceiveQueue). StandsReceive z rx) (sym t.other) stand.receives;
       transmits = transmit_stands_off _ _
-          (t.side ∙ ap (transmit_with row word) (transmit_off _ tx x unwanted) ∙ transmit_on_beside row word tx false fits)
+          (t.side ∙ ap (transmit_with row word) (transmit_off _ tx x unwanted)
+          ∙ transmit_on_beside row word tx false fits)
           (transmit_on_same row word tx fits ∙ seen_off tx.on _ x.seen off) goes;
       staged = t.staged ∙ stand.staged;
       zero = λ b is. ap (λ (m : Memory). map.get m b) t.ground.memory ∙ stand.zero b is;

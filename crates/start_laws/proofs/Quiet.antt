@@ -63,7 +63,8 @@ module _ (queue : ℕ) (s : State) where
         slotless = λ x rest f tells.
             ap (λ (q : ReceiveQueue). q.wanted) (slotless_stands s.registers x.queue queue) ∙ none;
         fault = λ x rest f fault tells.
-            moved_to (record s { registers = receive_failed s.registers x.queue; waiting = rest }) x.queue (own x rest f)
+            moved_to (record s { registers = receive_failed s.registers x.queue; waiting = rest }) x.queue
+            (own x rest f)
             (ap (λ (q : ReceiveQueue). q.wanted) tells.side);
         filled = λ x rest f g is tells.
             moved_to (slot_done s x rest (Ok g) (filled_by s x).memory).state x.queue (own x rest f)

@@ -80,4 +80,5 @@ module _ (queue : ℕ) (s : State) (port : Port) (n word : ℕ) (row : RowId) (n
       ≡ gives Done (record s { registers = after_write s.registers (place row queue) 0xFFFFFFFF word })
       → t.staged ≡ s.staged
   unfolding step_of
-  wrote_staged plain = ap (λ m. (named_written s m word).state.staged) names ∙ ap (λ (o : Outcome). o.state.staged) plain
+  wrote_staged plain =
+      ap (λ m. (named_written s m word).state.staged) names ∙ ap (λ (o : Outcome). o.state.staged) plain

@@ -31,8 +31,8 @@ pub record IsMet (queue : ℕ) (s : State) : Type 0 where
   pub sound : IsSound s
   pub aligned : AreAligned s.registers
 
--- a word is written to a register of a side that isn't wanted on: the side stands with it, where its ring is empty if it
--- is wanted on now
+-- a word is written to a register of a side that isn't wanted on: the side stands with it, where its ring is empty if
+-- it is wanted on now
 
 abbrev pub MayGoOnReceive : ReceiveQueue → Type 0
 MayGoOnReceive q = q.wanted ≡ true → is_empty q.ring ≡ true

@@ -57,8 +57,8 @@ pub record IsLeft (w : Watched) (mine : Blocks) (s : State) (e : Event Block) : 
   pub blocks : LeavesBlocks mine e
   pub steps : WritesOutside w.queue mine (reply_to s e)
 
--- it keeps both sides as they stand; it receives and sends nothing on the queue; and the frame limit, and how the queues
--- are parted among virtual functions, stay
+-- it keeps both sides as they stand; it receives and sends nothing on the queue; and the frame limit, and how the
+-- queues are parted among virtual functions, stay
 pub record LeavesStanding (queue : ℕ) (receive : ReceiveQueue) (transmit : TransmitQueue) (rings : Blocks) (s : State)
     (e : Event Block) : Type 0 where
   pub stand : Stand queue receive transmit rings (after s e)

@@ -4,6 +4,8 @@
 #![tactic(auto)]
 
 ghost use Rattle.start_laws.specs.Moves.{ReceiveWriteStands, TransmitWriteStands, ReceiveReadStands, TransmitReadStands, LendStands, FreshReceiveAgrees, FreshTransmitAgrees};
+ghost use Rattle.start_laws.specs.Points.{AccessesLead};
+ghost use Rattle.start_laws.specs.Quieting.{QuietingLeads, QuietSidesStand};
 ghost use Rattle.start_laws.specs.Quiet.{ReceiveGuardIsOff, OffSidesStand};
 ghost use Rattle.start_laws.specs.Standing.{StandingSidesAreLeft};
 ghost use Rattle.start_laws.specs.Words.{ReceiveWordsAreTaken, TransmitWordsAreTaken};
@@ -46,4 +48,18 @@ pub fn fresh_sides_agree()
 pub fn guarded_receive_side_is_off()
     ensures guard { ReceiveGuardIsOff }
     ensures stand { OffSidesStand }
+{}
+
+/// Over a legal history that leaves the queue alone, both sides are off, and not wanted on, wherever the driver's pass
+/// has made the accesses that see them off; with nothing staged they stand as they are. Other calls of the pass in
+/// between are steps of the device.
+pub fn both_sides_are_seen_off()
+    ensures quieting { QuietingLeads }
+    ensures stand { QuietSidesStand }
+{}
+
+/// Over such a history, from where the sides stand as some that are known, they stand as after the driver's accesses
+/// wherever its pass has made these.
+pub fn accesses_lead_over_a_history()
+    ensures { AccessesLead }
 {}

@@ -1,0 +1,246 @@
+-- What holds at the points of a history, call by call of its pass.
+use Rattle.std.proofs.Common.{◌≡◌, ◌≢◌, ℕ, ◌<◌, inl, inr, Bool, true, false, List, [], ◌∷◌, ◌++◌, refl, sym, ap, ◌∙◌, subst, append_assoc}
+use Rattle.std.specs.Prelude.{◌==◌, ◌||◌, IsTrue, ⊤}
+use Rattle.std.proofs.lemmas.Bool.{cases_Bool, eqb-true, eqb-false, or_left, or_right}
+use Rattle.dma_arena.specs.Block.{Block}
+use Rattle.eeprom_image.specs.Image.{blank}
+use Rattle.vf_map.specs.declared.mode.Mode.{Mode}
+use Rattle.vf_map.specs.declared.mode.Mode.TheVariants.{Off}
+use Rattle.register_file.specs.Pools.{mode_in}
+use Rattle.nic_device.specs.Sound.{IsEvent, IsSound}
+use Rattle.nic_device.specs.State.{State, new_state}
+use Rattle.nic_device.specs.Step.{after, reply_to}
+use Rattle.nic_device.proofs.Steps.{step_leads, keeps_sound}
+use Rattle.device_lock.specs.Alone.{Blocks, EntryLeavesAlone, LeavesAlone, LeavesBlocks, LeavesRegisters, WritesOutside, has_begun, lent_by, mode_after, mode_through}
+use Rattle.device_lock.specs.History.{IsLegal, calls_of, call_in, leads_to}
+use Rattle.device_lock.specs.declared.alone.Watched.{Watched}
+use Rattle.device_lock.specs.declared.entry.Call.{Call}
+use Rattle.device_lock.specs.declared.entry.Entry.{Entry}
+use Rattle.pmd_base.specs.Events.{is_step}
+use Rattle.history_laws.specs.Aligned.{AreAligned}
+use Rattle.history_laws.specs.Alone.{AllAlone}
+use Rattle.history_laws.specs.Laws.{AreEvents}
+use Rattle.history_laws.proofs.Aligned.{events_aligned, histories_aligned, new_aligned}
+use Rattle.history_laws.proofs.Alone.{alone_by_entries}
+use Rattle.history_laws.proofs.Modes.{event_told, mode_told}
+use Rattle.history_laws.proofs.Sound.{histories_sound}
+use Rattle.receive_laws.proofs.Clear.{no_registers}
+use Rattle.receive_laws.proofs.Delivering.{leads-append, legal_behind, events_before, events_behind, image_stays, vfs_stays}
+use Rattle.start_laws.specs.Along.{IsAlong, AtCalls, IsKept, Leads, AreSteps, CallsLead}
+use Rattle.start_laws.specs.Moves.{IsMet}
+use Rattle.start_laws.specs.Standing.{IsLeft}
+
+-- the calls of a pass, entry by entry
+
+pub calls_own : (pass : ℕ) (e : Entry) (h : List Entry) → (e.pass == pass) ≡ true
+    → calls_of pass (e ∷ h) ≡ call_in e ∷ calls_of pass h
+calls_own pass e h is = rw is refl
+
+pub calls_other : (pass : ℕ) (e : Entry) (h : List Entry) → (e.pass == pass) ≡ false
+    → calls_of pass (e ∷ h) ≡ calls_of pass h
+calls_other pass e h is = rw is refl
+
+-- a history in two parts, by its calls
+record Parts (pass : ℕ) (h : List Entry) (xs ys : List Call) : Type 0 where
+  front : List Entry
+  back : List Entry
+  both : front ++ back ≡ h
+  fronts : calls_of pass front ≡ xs
+  backs : calls_of pass back ≡ ys
+
+parts : (pass : ℕ) (h : List Entry) (xs ys : List Call) → calls_of pass h ≡ xs ++ ys → Parts pass h xs ys
+parts pass h [] ys is = record { front = []; back = h; both = refl; fronts = refl; backs = is }
+parts pass [] (x ∷ xs) ys is = cc
+parts pass (e ∷ es) (x ∷ xs) ys is = elim (cases_Bool (e.pass == pass)) as (λ _. Parts pass (e ∷ es) (x ∷ xs) ys) [
+  | inl own ↦
+      let here : call_in e ∷ calls_of pass es ≡ x ∷ (xs ++ ys) = sym (calls_own pass e es own) ∙ is in
+      let first : call_in e ≡ x = cc in
+      let p = parts pass es xs ys (cc) in record {
+        front = e ∷ p.front;
+        back = p.back;
+        both = ap (λ (l : List Entry). e ∷ l) p.both;
+        fronts = calls_own pass e p.front own ∙ (λ k. first k ∷ p.fronts k);
+        backs = p.backs;
+      }
+  | inr other ↦
+      let p = parts pass es (x ∷ xs) ys (sym (calls_other pass e es other) ∙ is) in record {
+        front = e ∷ p.front;
+        back = p.back;
+        both = ap (λ (l : List Entry). e ∷ l) p.both;
+        fronts = calls_other pass e p.front other ∙ p.fronts;
+        backs = p.backs;
+      }
+]
+
+begun : (pass : ℕ) (h : List Entry) → calls_of pass h ≢ [] → has_begun pass h ≡ true
+begun pass [] some = absurd (some refl)
+begun pass (e ∷ h) some = elim (cases_Bool (e.pass == pass)) [
+  | inl own ↦ or_left _ _ own
+  | inr other ↦ or_right _ _ (begun pass h (λ none. some (calls_other pass e h other ∙ none)))
+]
+
+-- what holds between two entries, once the pass has begun
+record Between (w : Watched) (mode : Mode) (s : State) : Type 0 where
+  small : w.queue < 128
+  sound : IsSound s
+  aligned : AreAligned s.registers
+  image : s.image ≡ blank
+  vfs : w.vfs ≡ s.vfs
+  mode_is : mode ≡ mode_in s.registers
+
+next : (w : Watched) (mode : Mode) (s : State) (e : Entry) → Between w mode s → IsEvent e.event
+    → Between w (mode_after w.vfs mode e.event) (after s e.event)
+next w mode s e b made =
+    let stays = (step_leads s e.event).stays in record {
+      small = b.small;
+      sound = keeps_sound s b.sound e.event made;
+      aligned = events_aligned s e.event b.sound b.aligned;
+      image = stays.image ∙ b.image;
+      vfs = b.vfs ∙ sym stays.vfs;
+      mode_is = (λ k. mode_after (b.vfs k) (b.mode_is k) e.event) ∙ event_told s b.sound b.image e.event;
+    }
+
+module _ (w : Watched) (mine : Blocks) (mode : Mode) (s : State) (e : Entry) (b : Between w mode s)
+    (made : IsEvent e.event) (legal : e.reply ≡ reply_to s e.event) (alone : EntryLeavesAlone w mine mode e) where
+  left_by : LeavesRegisters w (mode_in s.registers) e.event → LeavesBlocks mine e.event → IsLeft w mine s e.event
+  left_by registers blocks = record {
+    small = b.small;
+    sound = b.sound;
+    aligned = b.aligned;
+    vfs = b.vfs;
+    made = made;
+    registers = registers;
+    blocks = blocks;
+    steps = subst (WritesOutside w.queue mine) legal alone.steps;
+  }
+
+  foreign_left : e.pass ≢ w.pass → IsLeft w mine s e.event
+  foreign_left other =
+      left_by (subst (λ k. LeavesRegisters w k e.event) b.mode_is (alone.registers other)) (alone.blocks other)
+
+  step_left : is_step e.event ≡ true → IsLeft w mine s e.event
+  step_left is = let free = no_registers w (mode_in s.registers) mine e.event is in left_by free.0 free.1
+
+module _ (w : Watched) (mine : Blocks) where
+  -- entries of others
+  stay : (P : State → Type 0) → IsKept w mine P → (mode : Mode) (s : State) (h : List Entry) → Between w mode s
+      → AreEvents h → IsLegal s h → AllAlone w mine mode h → calls_of w.pass h ≡ [] → P s → P (leads_to s h)
+  stay P kept mode s [] b events legal alone none p = p
+  stay P kept mode s (e ∷ h) b events legal alone none p =
+      elim (cases_Bool (e.pass == w.pass)) as (λ _. P (leads_to s (e ∷ h))) [
+        | inl own ↦
+            let some : call_in e ∷ calls_of w.pass h ≡ [] = sym (calls_own w.pass e h own) ∙ none in
+            absurd (cc)
+        | inr other ↦
+            stay P kept (mode_after w.vfs mode e.event) (after s e.event) h (next w mode s e b events.0) events.1
+            legal.1 alone.1 (sym (calls_other w.pass e h other) ∙ none)
+            (kept s e.event (foreign_left w mine mode s e b events.0 legal.0 alone.0 (eqb-false e.pass w.pass other)) p)
+      ]
+
+  -- entries up to a call, and behind it
+  walk : (P Q : State → Type 0) → IsKept w mine P → IsKept w mine Q → (c : Call) → Leads w.queue c P Q
+      → (before : List Call) → AreSteps before → (mode : Mode) (s : State) (h : List Entry) → Between w mode s
+      → AreEvents h → IsLegal s h → AllAlone w mine mode h → calls_of w.pass h ≡ before ++ c ∷ [] → P s
+      → Q (leads_to s h)
+  walk P Q kept kept_q c leads before steps mode s [] b events legal alone is p = absurd (none before is)
+    where
+      none : (xs : List Call) → [] ≡ xs ++ c ∷ [] → ⊥
+      none [] e = cc
+      none (x ∷ xs) e = cc
+  walk P Q kept kept_q c leads before steps mode s (e ∷ h) b events legal alone is p =
+      elim (cases_Bool (e.pass == w.pass)) as (λ _. Q (leads_to s (e ∷ h))) [
+        | inl own ↦
+            own_call
+            (λ xs are there p.
+            walk P Q kept kept_q c leads xs are (mode_after w.vfs mode e.event) (after s e.event) h
+            (next w mode s e b events.0) events.1 legal.1 alone.1 there p)
+            before steps (sym (calls_own w.pass e h own) ∙ is)
+        | inr other ↦
+            walk P Q kept kept_q c leads before steps (mode_after w.vfs mode e.event) (after s e.event) h
+            (next w mode s e b events.0) events.1 legal.1 alone.1 (sym (calls_other w.pass e h other) ∙ is)
+            (kept s e.event (foreign_left w mine mode s e b events.0 legal.0 alone.0 (eqb-false e.pass w.pass other)) p)
+      ]
+    where
+      own_call :
+          ((xs : List Call) → AreSteps xs → calls_of w.pass h ≡ xs ++ c ∷ [] → P (after s e.event)
+          → Q (leads_to (after s e.event) h))
+          → (xs : List Call) → AreSteps xs → call_in e ∷ calls_of w.pass h ≡ xs ++ c ∷ []
+          → Q (leads_to s (e ∷ h))
+      own_call again [] none there =
+          let same : call_in e ≡ c = cc in
+          let rest : calls_of w.pass h ≡ [] = cc in
+          stay Q kept_q (mode_after w.vfs mode e.event) (after s e.event) h (next w mode s e b events.0) events.1
+          legal.1 alone.1 rest
+          (subst (λ (x : Call). Leads w.queue x P Q) (sym same) leads s
+          (record { small = b.small; sound = b.sound; aligned = b.aligned }) events.0 legal.0 p)
+      own_call again (x ∷ xs) are there =
+          let same : call_in e ≡ x = cc in
+          let rest : calls_of w.pass h ≡ xs ++ c ∷ [] = cc in
+          again xs are.1 rest
+          (kept s e.event (step_left w mine mode s e b events.0 legal.0 alone.0
+          (subst (λ (y : Call). is_step y.event ≡ true) (sym same) are.0)) p)
+
+-- at a point of the whole history
+
+module _ (w : Watched) (fifo : ℕ) (h : List Entry) (x : IsAlong w fifo h) where
+  abbrev new : State
+  new = new_state w.vfs fifo
+
+  -- a part of it behind a beginning in which the pass made a call
+  module _ (front back rest : List Entry) (all : (front ++ back) ++ rest ≡ h) (some : calls_of w.pass front ≢ []) where
+    whole : front ++ (back ++ rest) ≡ h
+    whole = sym (append_assoc front back rest) ∙ all
+
+    events : AreEvents (front ++ (back ++ rest))
+    events = subst AreEvents (sym whole) x.events
+
+    legal : IsLegal new ((front ++ back) ++ rest)
+    legal = subst (IsLegal new) (sym all) x.legal
+
+    alone : AllAlone w (lent_by w.pass h) (mode_through w.vfs Off front) (back ++ rest)
+    alone =
+        subst (λ (l : List Entry). AllAlone w (lent_by w.pass l) (mode_through w.vfs Off front) (back ++ rest)) whole
+        (alone_by_entries w front (back ++ rest) (subst (LeavesAlone w) (sym whole) x.alone) (begun w.pass front some))
+
+    there : Between w (mode_through w.vfs Off front) (leads_to new front)
+    there =
+        let early = events_before front (back ++ rest) events in record {
+          small = x.small;
+          sound = histories_sound new front x.new early;
+          aligned = histories_aligned new front x.new early (new_aligned w.vfs fifo);
+          image = image_stays new front;
+          vfs = sym (vfs_stays new front);
+          mode_is = mode_told w.vfs fifo front x.new early;
+        }
+
+  legal_before : (s : State) (g l : List Entry) → IsLegal s (g ++ l) → IsLegal s g
+  legal_before s [] l are = tt
+  legal_before s (e ∷ g) l are = (are.0, legal_before (after s e.event) g l are.1)
+
+  alone_before : (mine : Blocks) (mode : Mode) (g l : List Entry) → AllAlone w mine mode (g ++ l)
+      → AllAlone w mine mode g
+  alone_before mine mode [] l are = tt
+  alone_before mine mode (e ∷ g) l are =
+      (are.0, alone_before mine (mode_after w.vfs mode e.event) g l are.1)
+
+  lead : (P Q : State → Type 0) (old before : List Call) (c : Call) → IsKept w (lent_by w.pass h) P
+      → IsKept w (lent_by w.pass h) Q → Leads w.queue c P Q → AreSteps before → old ≢ []
+      → AtCalls w fifo h old P → AtCalls w fifo h (old ++ (before ++ c ∷ [])) Q
+  lead P Q old before c kept kept_q leads steps some at done rest all is =
+      let p = parts w.pass done old (before ++ c ∷ []) is in
+      let whole : (p.front ++ p.back) ++ rest ≡ h = ap (λ (l : List Entry). l ++ rest) p.both ∙ all in
+      let called : calls_of w.pass p.front ≢ [] = λ none. some (sym p.fronts ∙ none) in
+      let behind = events_behind p.front (p.back ++ rest) (events p.front p.back rest whole called) in
+      subst (λ (l : List Entry). Q (leads_to new l)) p.both
+      (subst Q (sym (leads-append new p.front p.back))
+      (walk w (lent_by w.pass h) P Q kept kept_q c leads before steps (mode_through w.vfs Off p.front)
+      (leads_to new p.front) p.back (there p.front p.back rest whole called) (events_before p.back rest behind)
+      (legal_behind new p.front p.back
+      (legal_before new (p.front ++ p.back) rest (legal p.front p.back rest whole called)))
+      (alone_before (lent_by w.pass h) (mode_through w.vfs Off p.front) p.back rest
+      (alone p.front p.back rest whole called))
+      p.backs (at p.front (p.back ++ rest) (sym (append_assoc p.front p.back rest) ∙ whole) p.fronts)))
+
+pub calls_lead : CallsLead
+calls_lead w fifo h P Q old before c x kept kept_q leads steps some at =
+    lead w fifo h x P Q old before c kept kept_q leads steps some at

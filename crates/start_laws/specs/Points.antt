@@ -1,0 +1,103 @@
+-- How the sides of a queue stand at a point of a history, and how a driver's accesses move that on.
+use Rattle.std.specs.Prelude.{ℕ, ◌≡◌, ◌≢◌, ◌<◌, ◌⊎◌, ⊤, Bool, true, IsTrue, IsFalse, List, [], ◌∷◌}
+use Rattle.reg_table.specs.declared.rows.RowId.{RowId}
+use Rattle.reg_table.specs.declared.rows.RowId.TheVariants.{Rxdctl, Txdctl}
+use Rattle.register_file.specs.Settings.{frame_limit}
+use Rattle.register_file.specs.Sides.{ReceiveQueue, TransmitQueue}
+use Rattle.nic_device.specs.State.{State}
+use Rattle.device_lock.specs.Alone.{Blocks, lent_by}
+use Rattle.device_lock.specs.declared.alone.Watched.{Watched}
+use Rattle.device_lock.specs.declared.entry.Entry.{Entry}
+use Rattle.device_lock.specs.declared.entry.Call.{Call}
+use Rattle.pmd_queue.specs.Made.{Access, Sees, Sets, AreMade, IsMade}
+use Rattle.pmd_queue.specs.Named.{AtPort, IsNumberOf, is_driven}
+use Rattle.start_laws.specs.Along.{AreSteps, AtCalls, IsAlong}
+use Rattle.start_laws.specs.Moves.{MayGoOnReceive, MayGoOnTransmit, receive_seen, transmit_seen}
+use Rattle.start_laws.specs.Standing.{Stand}
+use Rattle.start_laws.specs.Words.{receive_with, transmit_with, FitsReceive, FitsTransmit, NamesRow}
+
+-- the numbers that a driver uses at its port name this queue's registers
+abbrev pub NumbersName : State → AtPort → ℕ → Type 0
+NumbersName s q queue =
+    (row : RowId) (number : ℕ) → is_driven row ≡ true → IsNumberOf q.port row q.queue number →
+    NamesRow s q.port number row queue
+
+-- what a driver rests on beside its sides: its numbers, and frames of at most 1,514 bytes
+pub record HasGround (queue : ℕ) (q : AtPort) (s : State) : Type 0 where
+  pub names : NumbersName s q queue
+  pub limit : frame_limit s.registers ≡ 1514
+
+-- the two sides and the lent blocks
+pub record Sides : Type 0 where
+  pub rx : ReceiveQueue
+  pub tx : TransmitQueue
+  pub rings : Blocks
+
+-- they stand so, and the blocks are among these
+pub record Point (queue : ℕ) (mine : Blocks) (q : AtPort) (p : Sides) (s : State) : Type 0 where
+  pub stand : Stand queue p.rx p.tx p.rings s
+  pub ground : HasGround queue q s
+  pub covers : (number : ℕ) → IsTrue (p.rings number) → IsTrue (mine number)
+  pub low : (number : ℕ) → IsTrue (p.rings number) → number < 65536
+
+-- the sides after an access
+
+abbrev pub seen_by : RowId → Bool → Sides → Sides
+seen_by Rxdctl on p = record p { rx = receive_seen on p.rx }
+seen_by Txdctl on p = record p { tx = transmit_seen on p.tx }
+seen_by other on p = p
+
+abbrev pub after_access : Access → Sides → Sides
+after_access (Sees row on) p = seen_by row on p
+after_access (Sets row word) p = record p { rx = receive_with row word p.rx; tx = transmit_with row word p.tx }
+
+abbrev pub after_accesses : List Access → Sides → Sides
+after_accesses [] p = p
+after_accesses (a ∷ rest) p = after_accesses rest (after_access a p)
+
+-- an access that keeps the sides standing: the read of an enable word, or a word written to a side that isn't wanted on
+
+abbrev pub IsEnable : RowId → Type 0
+IsEnable Rxdctl = ⊤
+IsEnable Txdctl = ⊤
+IsEnable other = ⊥
+
+pub record MayReceive (row : RowId) (word : ℕ) (rx : ReceiveQueue) : Type 0 where
+  pub unwanted : IsFalse rx.wanted
+  pub fits : FitsReceive row word
+  pub goes : MayGoOnReceive (receive_with row word rx)
+
+pub record MayTransmit (row : RowId) (word : ℕ) (tx : TransmitQueue) : Type 0 where
+  pub unwanted : IsFalse tx.wanted
+  pub fits : FitsTransmit row word
+  pub goes : MayGoOnTransmit (transmit_with row word tx)
+
+abbrev pub May : Access → Sides → Type 0
+May (Sees row on) p = IsEnable row
+May (Sets row word) p = MayReceive row word p.rx ⊎ MayTransmit row word p.tx
+
+abbrev pub AllMay : List Access → Sides → Type 0
+AllMay [] p = ⊤
+AllMay (a ∷ rest) p = May a p × AllMay rest (after_access a p)
+
+-- the other calls that were made before an access, and before each of some, are steps of the device
+
+abbrev pub StepsBefore : (q : AtPort) (old new : List Call) (a : Access) → IsMade q old new a → Type 0
+StepsBefore q old new (Sees row on) made = AreSteps made.4.0
+StepsBefore q old new (Sets row word) made = AreSteps made.2.0
+
+abbrev pub StepsBetween : (q : AtPort) (old new : List Call) (all : List Access) → AreMade q old new all → Type 0
+StepsBetween q old new [] made = ⊤
+StepsBetween q old new (a ∷ rest) made =
+    StepsBefore q old made.0 a made.1 × StepsBetween q made.0 new rest made.2
+
+-- over a history that leaves the queue alone: where the pass has made some calls the sides stand as some that are
+-- known; then, where it has made accesses that keep them standing, they stand as after these
+abbrev pub AccessesLead : Type 0
+AccessesLead =
+    (w : Watched) (q : AtPort) (fifo : ℕ) (h : List Entry) (known : Sides → Bool) (F : Sides → Sides)
+    (all : List Access) (old new : List Call) → IsAlong w fifo h → ((p : Sides) → IsTrue (known p) → AllMay all (F p)) →
+    (made : AreMade q old new all) → StepsBetween q old new all made → old ≢ [] →
+    AtCalls w fifo h old (λ s. (p : Sides) × IsTrue (known p) × Point w.queue (lent_by w.pass h) q (F p) s) →
+    AtCalls w fifo h new
+    (λ s. (p : Sides) × IsTrue (known p) × Point w.queue (lent_by w.pass h) q (after_accesses all (F p)) s)

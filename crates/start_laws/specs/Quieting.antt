@@ -1,0 +1,39 @@
+-- A driver that starts sees both sides of its queue off, over a history that leaves the queue alone.
+use Rattle.std.specs.Prelude.{ℕ, ◌≡◌, Bool, true, false, not, ◌&&◌, IsTrue, List, []}
+use Rattle.nic_device.specs.State.{State}
+use Rattle.nic_device.specs.Transmit.{staged_by}
+use Rattle.device_lock.specs.Alone.{lent_by}
+use Rattle.device_lock.specs.declared.alone.Watched.{Watched}
+use Rattle.device_lock.specs.declared.entry.Call.{Call}
+use Rattle.device_lock.specs.declared.entry.Entry.{Entry}
+use Rattle.pmd_queue.specs.Both.{both_quiet}
+use Rattle.pmd_queue.specs.Made.{AreMade}
+use Rattle.pmd_queue.specs.Named.{AtPort}
+use Rattle.transmit_laws.specs.Off as transmit
+use Rattle.start_laws.specs.Along.{AtCalls, IsAlong}
+use Rattle.start_laws.specs.Points.{HasGround, Point, Sides, StepsBetween}
+use Rattle.start_laws.specs.Quiet.{IsOff}
+
+-- both sides are off and not wanted on
+pub record IsQuiet (queue : ℕ) (q : AtPort) (s : State) : Type 0 where
+  pub ground : HasGround queue q s
+  pub receive : IsOff queue s
+  pub transmit : transmit.IsOff queue s
+
+-- so it is wherever the pass has made the accesses that see them off, where the driver's numbers name its queue once
+-- the first of these is made
+abbrev pub QuietingLeads : Type 0
+QuietingLeads =
+    (w : Watched) (q : AtPort) (fifo : ℕ) (h : List Entry) (old new : List Call) → IsAlong w fifo h →
+    (made : AreMade q old new both_quiet) → StepsBetween q old new both_quiet made →
+    AtCalls w fifo h made.0 (HasGround w.queue q) → AtCalls w fifo h new (IsQuiet w.queue q)
+
+-- the sides are off, and not wanted on
+abbrev pub are_off : Sides → Bool
+are_off p = (not p.rx.on && not p.rx.wanted) && (not p.tx.on && not p.tx.wanted)
+
+-- and where nothing is staged, they stand as they are, with no block lent
+abbrev pub QuietSidesStand : Type 0
+QuietSidesStand =
+    (w : Watched) (q : AtPort) (h : List Entry) (s : State) → IsQuiet w.queue q s → staged_by s w.queue ≡ [] →
+    (p : Sides) × IsTrue (are_off p) × Point w.queue (lent_by w.pass h) q p s

@@ -4,7 +4,7 @@ use Rattle.std.proofs.lemmas.Bool.{cases_Bool}
 use Rattle.std.proofs.lemmas.Bool.Decides.{nat_tests}
 use Rattle.dma_arena.specs.Memory.{Memory, has_block}
 use Rattle.register_file.specs.Sides.{ReceiveQueue, TransmitQueue}
-use Rattle.pmd_tx.specs.Sending.{wrapped}
+use Rattle.pmd_base.specs.Slots.{wrapped}
 use Rattle.receive_laws.proofs.Starting.{start_agrees}
 use Rattle.start_laws.specs.Moves.{FreshReceiveAgrees, FreshTransmitAgrees}
 use Rattle.start_laws.specs.Standing.{IsZero}

@@ -122,7 +122,8 @@ module _ (w : Watched) (mine : Blocks) (mode : Mode) (s : State) (out : List Pie
       → (is_neither d ≡ true → LeavesRegisters w mode e × LeavesBlocks mine e)
       → (is_neither d ≡ false → LendsMine mine e (reply_to s e)) → Agrees (after_call h d (call_of e (reply_to s e)))
   doer_keeps Receives own others lends = receives_keeps own (lends refl)
-  doer_keeps (Sends Elsewhere) own others lends = neither_keeps w mine mode s out sent h m e made steps (others refl).0 (others refl).1
+  doer_keeps (Sends Elsewhere) own others lends =
+      neither_keeps w mine mode s out sent h m e made steps (others refl).0 (others refl).1
   doer_keeps (Sends move) own others lends = sends_keeps move refl own (lends refl)
 
   pub goes_on : (k : Halves) → Agrees k

@@ -38,7 +38,8 @@ next_call : (h : Halves) (doers : List Doer) (e : Entry) (calls : List Call) →
 next_call h [] e calls own = absurd own
 next_call h (d ∷ doers) e calls own = record { own = own.0; rest = own.1; played = refl }
 
-pub next_by : (pass : ℕ) (h : Halves) (doers : List Doer) (e : Entry) (es : List Entry) (b : Bool) → (e.pass == pass) ≡ b
+pub next_by : (pass : ℕ) (h : Halves) (doers : List Doer) (e : Entry) (es : List Entry) (b : Bool)
+    → (e.pass == pass) ≡ b
     → AllOwn h doers (calls_of pass (e ∷ es)) → Next h doers e b (calls_of pass (e ∷ es)) (calls_of pass es)
 next_by pass h doers e es true is own =
     let same : calls_of pass (e ∷ es) ≡ call_in e ∷ calls_of pass es = rw is refl in

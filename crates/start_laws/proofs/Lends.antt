@@ -1,9 +1,8 @@
 -- The block of a ring that a driver lends, over a history.
-use Rattle.std.proofs.Common.{◌≡◌, ◌≢◌, ℕ, ◌<◌, inl, inr, Bool, true, false, ◌||◌, List, [], ◌∷◌, ◌++◌, refl, sym, ap, ◌∙◌, subst, append_assoc}
+use Rattle.std.proofs.Common.{◌≡◌, ℕ, ◌<◌, inl, inr, true, List, [], ◌∷◌, ◌++◌, refl, sym, ap, ◌∙◌, subst, append_assoc}
 use Rattle.std.specs.Prelude.{◌==◌, IsTrue}
 use Rattle.std.proofs.lemmas.Bool.{and_from, cases_Bool, eq-eqb, eqb-true, lt-ltb, or_cases, or_left, or_right}
 use Rattle.dma_arena.specs.Block.{zero_block}
-use Rattle.nic_device.specs.State.{State}
 use Rattle.nic_device.specs.Step.{after}
 use Rattle.nic_device.specs.declared.event.Event.TheVariants as event
 use Rattle.nic_device.specs.declared.event.Reply.TheVariants as reply
@@ -12,7 +11,6 @@ use Rattle.device_laws.proofs.Standing.{stays_within}
 use Rattle.device_lock.specs.Alone.{Blocks, lends, lent_by, lent_in}
 use Rattle.device_lock.specs.History.{call_in, calls_of}
 use Rattle.device_lock.specs.Pass.{call_of}
-use Rattle.device_lock.specs.declared.alone.Watched.{Watched}
 use Rattle.device_lock.specs.declared.entry.Call.{Call}
 use Rattle.device_lock.specs.declared.entry.Entry.{Entry}
 use Rattle.history_laws.specs.Laws.{AreEvents}

@@ -1,16 +1,14 @@
 -- A start of the driver leaves a state where the device and the driver agree on both sides.
-use Rattle.std.proofs.Common.{◌≡◌, ◌≢◌, ℕ, ◌+◌, ◌*◌, ◌%◌, ◌<◌, ◌≤◌, Bool, true, false, not, ◌&&◌, List, [], ◌∷◌, ◌++◌, refl, sym, ap, ◌∙◌, subst, arith, append_assoc}
-use Rattle.std.specs.Prelude.{IsTrue, nat_le, ◌==◌}
+use Rattle.std.proofs.Common.{◌≡◌, ◌≢◌, ℕ, ◌*◌, ◌%◌, ◌<◌, ◌≤◌, Bool, true, false, not, ◌&&◌, List, [], ◌∷◌, ◌++◌, refl, sym, ap, ◌∙◌, subst, arith, append_assoc}
+use Rattle.std.specs.Prelude.{IsTrue, ◌==◌}
 use Rattle.std.proofs.lemmas.Bool.{and_parts, eq-eqb, eqb-true, leb-true, or_left, or_right}
 use Rattle.std.proofs.lemmas.List.{append-nil}
-use Rattle.dma_arena.specs.Block.{zero_block}
 use Rattle.dma_arena.specs.Numbers.{Numbers}
 use Rattle.reg_table.specs.declared.rows.RowId.TheVariants.{Rdt, Rxdctl, Tdt}
 use Rattle.register_file.specs.declared.dir.Dir.TheVariants.{Rx, Tx}
 use Rattle.nic_device.specs.Sound.{IsSound}
 use Rattle.nic_device.specs.State.{State, new_state}
-use Rattle.nic_device.specs.Transmit.{staged_by}
-use Rattle.device_lock.specs.Alone.{Blocks, lent_by}
+use Rattle.device_lock.specs.Alone.{lent_by}
 use Rattle.device_lock.specs.History.{calls_of, leads_to}
 use Rattle.device_lock.specs.declared.alone.Watched.{Watched}
 use Rattle.device_lock.specs.declared.entry.Call.{Call}
@@ -19,7 +17,6 @@ use Rattle.history_laws.specs.Laws.{AreEvents}
 use Rattle.history_laws.proofs.Sound.{histories_sound}
 use Rattle.pmd.specs.Running.{Running}
 use Rattle.pmd.specs.Started.{AreUp, is_size}
-use Rattle.pmd_queue.specs.Both.{both_quiet}
 use Rattle.pmd_queue.specs.Made.{Access, Sees, Sets, AreMade, IsMade}
 use Rattle.pmd_queue.specs.Named.{AtPort}
 use Rattle.pmd_queue.specs.Sides.{quiet, ring_words}
@@ -28,9 +25,9 @@ use Rattle.pmd_tx.specs.Sending as transmit
 use Rattle.receive_laws.specs.Joint.{Agree}
 use Rattle.receive_laws.proofs.Delivering.{events_before}
 use Rattle.transmit_laws.specs.Agreeing.{Agrees}
-use Rattle.start_laws.specs.Along.{AreSteps, AtCalls, IsAlong}
-use Rattle.start_laws.specs.Moves.{IsSized, and_one}
-use Rattle.start_laws.specs.Points.{Point, Sides, StepsBetween, after_accesses}
+use Rattle.start_laws.specs.Along.{AtCalls, IsAlong}
+use Rattle.start_laws.specs.Moves.{IsSized}
+use Rattle.start_laws.specs.Points.{Point, Sides, after_accesses}
 use Rattle.start_laws.specs.Quieting.{are_off}
 use Rattle.start_laws.specs.Start.{OnlySteps, BeginsWell, StartAgrees}
 use Rattle.start_laws.proofs.Fresh.{fresh_receive_agrees, fresh_transmit_agrees}

@@ -1,9 +1,7 @@
 -- The accesses by which a driver's sides come up, and the fresh sides that they lead to.
-use Rattle.std.proofs.Common.{◌≡◌, ℕ, ◌+◌, ◌*◌, ◌/◌, ◌%◌, ◌^◌, ◌<◌, ◌≤◌, inl, inr, Bool, true, false, ◌||◌, not, replicate, zero, suc, List, [], ◌∷◌, ◌++◌, refl, sym, ap, ◌∙◌, subst, arith, None}
-use Rattle.std.specs.Prelude.{IsTrue, IsFalse}
+use Rattle.std.proofs.Common.{◌≡◌, ℕ, ◌+◌, ◌*◌, ◌/◌, ◌%◌, ◌^◌, ◌<◌, inl, inr, Bool, true, false, ◌||◌, replicate, zero, suc, List, [], ◌∷◌, ◌++◌, refl, ap, ◌∙◌, arith, None}
 use Rattle.std.proofs.lemmas.Bool.{both_ways}
 use Rattle.dma_ring.specs.declared.ring.Ring.{Ring}
-use Rattle.dma_ring.specs.Ring.{is_outside}
 use Rattle.reg_table.specs.declared.rows.RowId.{RowId}
 use Rattle.reg_table.specs.declared.rows.RowId.TheVariants.{Rxdctl, Txdctl}
 use Rattle.register_file.specs.declared.dir.Dir.TheVariants.{Rx, Tx}
@@ -12,7 +10,7 @@ use Rattle.pmd_queue.specs.Both.{receive_polled}
 use Rattle.pmd_queue.specs.Made.{Access, Sees, Sets}
 use Rattle.pmd_queue.specs.Sides.{missed, polled, ring_words}
 use Rattle.receive_laws.proofs.Places.{inside_of}
-use Rattle.start_laws.specs.Moves.{IsSized, fresh_receive, fresh_transmit, receive_seen, transmit_seen}
+use Rattle.start_laws.specs.Moves.{IsSized, fresh_receive, fresh_transmit}
 use Rattle.start_laws.specs.Points.{AllMay, IsEnable, Sides, after_access, after_accesses, seen_by}
 use Rattle.start_laws.proofs.Lends.{with_ring}
 

@@ -1,5 +1,5 @@
 -- A driver's reads of enable words, and the block that it lends, where sides stand still.
-use Rattle.std.proofs.Common.{◌≡◌, ◌≢◌, ℕ, ◌/◌, ◌%◌, ◌^◌, inl, inr, Bool, true, false, ◌||◌, refl, sym, ap, ◌∙◌, subst, arith, Some}
+use Rattle.std.proofs.Common.{◌≡◌, ℕ, ◌/◌, ◌%◌, ◌^◌, inl, inr, Bool, true, false, ◌||◌, refl, sym, ap, ◌∙◌, subst, arith}
 use Rattle.std.specs.Prelude.{bit_and, ◌==◌, IsTrue}
 use Rattle.std.specs.FinMap as map
 use Rattle.std.proofs.lemmas.Bool.{cases_Bool, eqb-true, eqb-false, or_cases}
@@ -9,13 +9,12 @@ use Rattle.dma_arena.specs.Memory.{Memory}
 use Rattle.dma_arena.proofs.Bus.{get-insert_same, get-insert_other}
 use Rattle.reg_table.specs.declared.rows.RowId.TheVariants.{Rxdctl, Txdctl}
 use Rattle.register_file.specs.Bits.{has_bit}
-use Rattle.register_file.specs.Queue.{is_on, enable_row}
+use Rattle.register_file.specs.Queue.{is_on}
 use Rattle.register_file.specs.Registers.{word_of}
-use Rattle.register_file.specs.Sides.{ReceiveQueue, TransmitQueue, receive_queue_of, transmit_queue_of}
-use Rattle.register_file.specs.declared.dir.Dir.{Dir}
+use Rattle.register_file.specs.Sides.{ReceiveQueue, TransmitQueue}
 use Rattle.register_file.specs.declared.dir.Dir.TheVariants.{Rx, Tx}
 use Rattle.nic_device.specs.Access.{named_read}
-use Rattle.nic_device.specs.Outcome.{Outcome, gives}
+use Rattle.nic_device.specs.Outcome.{Outcome}
 use Rattle.nic_device.specs.State.{State}
 use Rattle.nic_device.specs.Step.{step_of, after, reply_to}
 use Rattle.nic_device.specs.declared.event.Event.TheVariants as event
@@ -23,7 +22,6 @@ use Rattle.nic_device.specs.declared.event.Port.{Port}
 use Rattle.nic_device.specs.declared.event.Reply.{Reply}
 use Rattle.nic_device.specs.declared.event.Reply.TheVariants as reply
 use Rattle.nic_device.proofs.Cases.{lent_cases}
-use Rattle.device_laws.proofs.Standing.{memory_rest}
 use Rattle.device_laws.proofs.StandingAccesses.{read_rest}
 use Rattle.device_lock.specs.Alone.{Blocks}
 use Rattle.start_laws.specs.Moves.{and_one, receive_seen, transmit_seen, ReceiveReadStands, TransmitReadStands, LendStands}

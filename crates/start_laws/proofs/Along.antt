@@ -1,8 +1,7 @@
 -- What holds at the points of a history, call by call of its pass.
-use Rattle.std.proofs.Common.{◌≡◌, ◌≢◌, ℕ, ◌<◌, inl, inr, Bool, true, false, List, [], ◌∷◌, ◌++◌, refl, sym, ap, ◌∙◌, subst, append_assoc}
-use Rattle.std.specs.Prelude.{◌==◌, ◌||◌, IsTrue, ⊤}
-use Rattle.std.proofs.lemmas.Bool.{cases_Bool, eqb-true, eqb-false, or_left, or_right}
-use Rattle.dma_arena.specs.Block.{Block}
+use Rattle.std.proofs.Common.{◌≡◌, ◌≢◌, ℕ, ◌<◌, inl, inr, true, false, List, [], ◌∷◌, ◌++◌, refl, sym, ap, ◌∙◌, subst, append_assoc}
+use Rattle.std.specs.Prelude.{◌==◌}
+use Rattle.std.proofs.lemmas.Bool.{cases_Bool, eqb-false, or_left, or_right}
 use Rattle.eeprom_image.specs.Image.{blank}
 use Rattle.vf_map.specs.declared.mode.Mode.{Mode}
 use Rattle.vf_map.specs.declared.mode.Mode.TheVariants.{Off}
@@ -27,7 +26,6 @@ use Rattle.history_laws.proofs.Sound.{histories_sound}
 use Rattle.receive_laws.proofs.Clear.{no_registers}
 use Rattle.receive_laws.proofs.Delivering.{leads-append, legal_behind, events_before, events_behind, image_stays, vfs_stays}
 use Rattle.start_laws.specs.Along.{IsAlong, AtCalls, IsKept, Leads, AreSteps, CallsLead}
-use Rattle.start_laws.specs.Moves.{IsMet}
 use Rattle.start_laws.specs.Standing.{IsLeft}
 
 -- the calls of a pass, entry by entry

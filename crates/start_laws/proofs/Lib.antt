@@ -3,6 +3,7 @@ pub mod Along
 pub mod Fresh
 pub mod LeftReceive
 pub mod LeftZero
+pub mod Lends
 pub mod Masks
 pub mod Moves
 pub mod Off
@@ -11,7 +12,9 @@ pub mod Quiet
 pub mod Quieting
 pub mod ReceiveWords
 pub mod Standing
+pub mod Start
 pub mod StillReceive
 pub mod StillTransmit
+pub mod Switching
 pub mod TransmitWords
 pub mod Words

@@ -1,33 +1,15 @@
 -- A driver's own accesses of sides that stand still.
-use Rattle.std.proofs.Common.{◌≡◌, ◌≢◌, ℕ, ◌/◌, ◌%◌, ◌^◌, ◌<◌, inl, inr, Bool, true, false, ◌||◌, refl, sym, ap, ◌∙◌, subst, arith, Some}
-use Rattle.std.specs.Prelude.{bit_and, ◌==◌, IsTrue, IsFalse}
+use Rattle.std.proofs.Common.{◌≡◌, ℕ, Bool, true, false, refl, sym, ap, ◌∙◌, subst}
 use Rattle.std.specs.FinMap as map
-use Rattle.std.proofs.lemmas.Bool.{cases_Bool, both_ways, eqb-true, or_cases}
-use Rattle.std.proofs.lemmas.Nat.{and_mask}
-use Rattle.dma_arena.specs.Block.{Block, zero_block}
+use Rattle.std.proofs.lemmas.Bool.{both_ways}
 use Rattle.dma_arena.specs.Memory.{Memory}
-use Rattle.dma_arena.proofs.Bus.{get-insert_same, get-insert_other}
 use Rattle.reg_table.specs.declared.rows.RowId.{RowId}
 use Rattle.reg_table.specs.declared.rows.RowId.TheVariants.{Rdbal, Rdbah, Rdlen, Rdh, Rdt, Srrctl, Rxdctl, Tdbal, Tdbah, Tdlen, Tdh, Tdt, Tdwbal, Txdctl}
-use Rattle.register_file.specs.Bits.{has_bit}
-use Rattle.register_file.specs.Registers.{word_of}
 use Rattle.register_file.specs.Sides.{ReceiveQueue, TransmitQueue, receive_queue_of, transmit_queue_of}
-use Rattle.nic_device.specs.Access.{named_read}
-use Rattle.nic_device.specs.Outcome.{Outcome, gives}
 use Rattle.nic_device.specs.Receive.{is_empty}
-use Rattle.nic_device.specs.State.{State}
-use Rattle.nic_device.specs.Step.{step_of, after, reply_to}
-use Rattle.nic_device.specs.declared.event.Event.TheVariants as event
-use Rattle.nic_device.specs.declared.event.Port.{Port}
-use Rattle.nic_device.specs.declared.event.Reply.TheVariants as reply
-use Rattle.nic_device.proofs.Cases.{lent_cases}
-use Rattle.device_laws.specs.Leaving.{LeavesQueues, LeavesMemory}
-use Rattle.device_laws.proofs.Standing.{memory_rest}
-use Rattle.device_laws.proofs.StandingAccesses.{read_rest}
-use Rattle.device_lock.specs.Alone.{Blocks}
-use Rattle.start_laws.specs.Moves.{and_one, receive_seen, transmit_seen, ReceiveWriteStands, TransmitWriteStands, ReceiveReadStands, TransmitReadStands, LendStands}
-use Rattle.start_laws.specs.Standing.{IsZero, Stand, StandsReceive, StandsTransmit}
-use Rattle.start_laws.specs.Words.{receive_with, transmit_with, FitsReceive, FitsTransmit, NamesRow}
+use Rattle.start_laws.specs.Moves.{ReceiveWriteStands, TransmitWriteStands}
+use Rattle.start_laws.specs.Standing.{StandsReceive, StandsTransmit}
+use Rattle.start_laws.specs.Words.{receive_with, transmit_with, FitsReceive, FitsTransmit}
 use Rattle.start_laws.proofs.ReceiveWords.{receive_words_taken}
 use Rattle.start_laws.proofs.TransmitWords.{transmit_words_taken}
 

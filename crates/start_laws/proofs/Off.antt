@@ -1,9 +1,8 @@
 -- What events that leave the queue alone keep, as a driver sees the queue off.
-use Rattle.std.proofs.Common.{◌≡◌, ℕ, inl, inr, Bool, true, false, [], ◌∷◌, refl, sym, ap, ◌∙◌, subst}
+use Rattle.std.proofs.Common.{◌≡◌, inl, inr, Bool, true, false, [], ◌∷◌, refl, sym, ap, ◌∙◌, subst}
 use Rattle.std.proofs.lemmas.Bool.{cases_Bool, both_ways}
 use Rattle.dma_arena.specs.Block.{Block}
 use Rattle.register_file.specs.Sides.{ReceiveQueue, receive_queue_of}
-use Rattle.register_file.specs.declared.dir.Dir.TheVariants.{Rx}
 use Rattle.nic_device.specs.State.{State}
 use Rattle.nic_device.specs.Step.{after}
 use Rattle.nic_device.specs.declared.event.Event.{Event}

@@ -1,7 +1,6 @@
 -- How sides stand after a driver's accesses, over a history.
-use Rattle.std.proofs.Common.{◌≡◌, ◌≢◌, ℕ, ◌<◌, inl, inr, Bool, true, false, List, [], ◌∷◌, ◌++◌, refl, sym, ap, ◌∙◌, subst}
+use Rattle.std.proofs.Common.{◌≡◌, ◌≢◌, ℕ, inl, inr, Bool, true, false, List, [], ◌∷◌, ◌++◌, refl, sym, ◌∙◌, subst}
 use Rattle.std.specs.Prelude.{IsTrue}
-use Rattle.dma_arena.specs.Block.{Block}
 use Rattle.reg_table.specs.declared.rows.RowId.{RowId}
 use Rattle.reg_table.specs.declared.rows.RowId.TheVariants.{Rdbal, Rdbah, Rdlen, Rdh, Rdt, Srrctl, Rxdctl, Tdbal, Tdbah, Tdlen, Tdh, Tdt, Tdwbal, Txdctl, Ctrl, Hlreg0, Maxfrs, GcrExt}
 use Rattle.register_file.specs.Bits.{has_bit}
@@ -9,7 +8,7 @@ use Rattle.register_file.specs.Pools.{mode_in}
 use Rattle.register_file.specs.Sides.{ReceiveQueue, TransmitQueue}
 use Rattle.register_file.specs.Settings.{frame_limit}
 use Rattle.nic_device.specs.State.{State}
-use Rattle.nic_device.specs.Step.{after, reply_to}
+use Rattle.nic_device.specs.Step.{after}
 use Rattle.nic_device.specs.declared.event.Event.TheVariants as event
 use Rattle.nic_device.specs.declared.event.Reply.TheVariants as reply
 use Rattle.device_laws.proofs.KeptSettings.{settings_stand}
@@ -24,9 +23,9 @@ use Rattle.pmd_queue.specs.Named.{AtPort, IsNumberOf, is_driven}
 use Rattle.transmit_laws.proofs.Basing.{named-same}
 use Rattle.start_laws.specs.Along.{IsAlong, AreSteps, AtCalls, IsKept, Leads}
 use Rattle.start_laws.specs.Moves.{receive_seen, transmit_seen}
-use Rattle.start_laws.specs.Points.{AccessesLead, NumbersName, HasGround, Sides, Point, seen_by, after_access, after_accesses, IsEnable, MayReceive, MayTransmit, May, AllMay, StepsBefore, StepsBetween}
+use Rattle.start_laws.specs.Points.{AccessesLead, HasGround, Sides, Point, seen_by, after_access, after_accesses, IsEnable, May, AllMay, StepsBefore, StepsBetween}
 use Rattle.start_laws.specs.Standing.{Stand}
-use Rattle.start_laws.specs.Words.{receive_with, transmit_with, FitsReceive, FitsTransmit, KeepsGround}
+use Rattle.start_laws.specs.Words.{receive_with, transmit_with, FitsReceive, FitsTransmit}
 use Rattle.start_laws.proofs.Accesses.{receive_read_stands, transmit_read_stands}
 use Rattle.start_laws.proofs.Along.{calls_lead}
 use Rattle.start_laws.proofs.Moves.{receive_write_stands, transmit_write_stands}

@@ -1,9 +1,8 @@
 -- A receive side that isn't wanted on stays so.
-use Rattle.std.proofs.Common.{◌≡◌, ◌≢◌, ℕ, ◌+◌, ◌<◌, inl, inr, Bool, true, false, List, [], ◌∷◌, refl, sym, ap, ◌∙◌, subst, arith, Ok}
+use Rattle.std.proofs.Common.{◌≡◌, ℕ, ◌<◌, inl, inr, List, [], ◌∷◌, refl, sym, ap, ◌∙◌, subst, Ok}
 use Rattle.std.proofs.lemmas.Bool.{both_ways, cases_Bool, cases_eq}
 use Rattle.dma_arena.specs.Block.{Block}
 use Rattle.reg_table.specs.declared.rows.RowId.TheVariants.{Rxdctl}
-use Rattle.register_file.specs.Bits.{has_bit}
 use Rattle.register_file.specs.Queue.{switched}
 use Rattle.register_file.specs.Registers.{is_wanted}
 use Rattle.register_file.specs.Sides.{ReceiveQueue, receive_queue_of}
@@ -13,7 +12,7 @@ use Rattle.nic_device.specs.Outcome.{Outcome}
 use Rattle.nic_device.specs.Receive.{receive_failed, slot_done}
 use Rattle.nic_device.specs.Sound.{IsSound}
 use Rattle.nic_device.specs.State.{State, Waiting}
-use Rattle.nic_device.specs.Step.{step_of, after, reply_to}
+use Rattle.nic_device.specs.Step.{step_of, after}
 use Rattle.nic_device.specs.Switching.{emptied}
 use Rattle.nic_device.specs.declared.event.Event.{Event}
 use Rattle.nic_device.specs.declared.event.Event.TheVariants as event
@@ -27,7 +26,7 @@ use Rattle.device_laws.proofs.StandingQueues.{receiving_rest}
 use Rattle.device_lock.specs.Alone.{Blocks}
 use Rattle.device_lock.specs.declared.alone.Watched.{Watched}
 use Rattle.history_laws.proofs.RingsReceived.{slotless_stands}
-use Rattle.start_laws.specs.Quiet.{IsUnwanted, IsOff, ReceiveGuardIsOff, OffSidesStand}
+use Rattle.start_laws.specs.Quiet.{IsUnwanted, ReceiveGuardIsOff, OffSidesStand}
 use Rattle.start_laws.specs.Standing.{IsLeft}
 use Rattle.start_laws.proofs.Accesses.{receive_told}
 use Rattle.start_laws.proofs.LeftReceive.{is_receive, is_receive_switch, receive_is, receive_switch_is, left-receive}

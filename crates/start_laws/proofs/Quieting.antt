@@ -1,10 +1,9 @@
 -- A driver that starts sees both sides of its queue off.
-use Rattle.std.proofs.Common.{◌≡◌, ◌≢◌, ℕ, Bool, true, false, not, ◌&&◌, List, [], ◌∷◌, ◌++◌, refl, sym, ap, ◌∙◌, subst}
-use Rattle.std.proofs.lemmas.Bool.{and_from}
+use Rattle.std.proofs.Common.{◌≡◌, ◌≢◌, ℕ, Bool, true, false, not, ◌&&◌, List, [], refl, sym, ap, ◌∙◌, subst}
 use Rattle.reg_table.specs.declared.rows.RowId.{RowId}
 use Rattle.reg_table.specs.declared.rows.RowId.TheVariants.{Rxdctl, Txdctl}
 use Rattle.register_file.specs.Bits.{has_bit}
-use Rattle.register_file.specs.Sides.{ReceiveQueue, TransmitQueue, receive_queue_of, transmit_queue_of}
+use Rattle.register_file.specs.Sides.{ReceiveQueue, receive_queue_of, transmit_queue_of}
 use Rattle.register_file.specs.Columns.{place}
 use Rattle.nic_device.specs.State.{State}
 use Rattle.nic_device.specs.Step.{after}
@@ -18,11 +17,11 @@ use Rattle.device_lock.specs.declared.alone.Watched.{Watched}
 use Rattle.device_lock.specs.declared.entry.Call.{Call}
 use Rattle.device_lock.specs.declared.entry.Entry.{Entry}
 use Rattle.pmd_queue.specs.Both.{both_quiet}
-use Rattle.pmd_queue.specs.Made.{Access, Sees, Sets, AreMade, IsMade}
+use Rattle.pmd_queue.specs.Made.{Sees, Sets, AreMade, IsMade}
 use Rattle.pmd_queue.specs.Named.{AtPort, IsNumberOf, is_driven}
 use Rattle.transmit_laws.specs.Off as transmit
 use Rattle.transmit_laws.proofs.Guard.{guard_is_off}
-use Rattle.start_laws.specs.Along.{AreSteps, AtCalls, IsAlong, IsKept, Leads}
+use Rattle.start_laws.specs.Along.{AtCalls, IsAlong, IsKept, Leads}
 use Rattle.start_laws.specs.Points.{HasGround, StepsBefore, StepsBetween}
 use Rattle.start_laws.specs.Quiet.{IsUnwanted, IsOff, no_block}
 use Rattle.start_laws.specs.Quieting.{IsQuiet, QuietingLeads, QuietSidesStand}

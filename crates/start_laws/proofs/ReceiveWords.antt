@@ -1,42 +1,41 @@
 -- A word of a row of the receive side.
-use Rattle.std.proofs.Common.{◌≡◌, ◌≢◌, ℕ, ◌+◌, ◌*◌, ◌/◌, ◌%◌, ◌^◌, ◌<◌, inl, inr, false, refl, sym, ap, ◌∙◌, subst, arith, cond}
-use Rattle.std.specs.Prelude.{IsFalse}
+use Rattle.std.proofs.Common.{◌≡◌, ◌≢◌, ℕ, ◌+◌, ◌*◌, ◌/◌, ◌%◌, ◌^◌, ◌<◌, inl, inr, false, refl, sym, ap, ◌∙◌, arith}
 use Rattle.std.proofs.Math.Nat.{mod-eq_of_lt}
 use Rattle.reg_table.specs.Rows.{row_of}
-use Rattle.reg_table.specs.declared.place.Place.{Place}
 use Rattle.reg_table.specs.declared.rows.RowId.{RowId}
-use Rattle.reg_table.specs.declared.rows.RowId.TheVariants.{Rdbal, Rdbah, Rdlen, Rdh, Rdt, Srrctl, Rxdctl, Tdbal, Tdbah, Tdlen, Tdh, Tdt, Tdwbal, Tdwbah, Txdctl}
+use Rattle.reg_table.specs.declared.rows.RowId.TheVariants.{Rdbal, Rdbah, Rdlen, Rdh, Rdt, Srrctl, Rxdctl}
 use Rattle.register_file.specs.Access.{asks_reset, asks_pool_reset}
 use Rattle.register_file.specs.Columns.{place}
 use Rattle.register_file.specs.Laws.{after_write, word_after}
 use Rattle.register_file.specs.Owner.{owner_of}
 use Rattle.register_file.specs.Queue.{is_on, ring_of}
 use Rattle.register_file.specs.Registers.{Registers, word_of}
-use Rattle.register_file.specs.Sides.{ReceiveQueue, TransmitQueue, receive_queue_of, transmit_queue_of}
+use Rattle.register_file.specs.Sides.{receive_queue_of}
 use Rattle.register_file.specs.declared.dir.Dir.TheVariants.{Rx, Tx}
 use Rattle.register_file.specs.declared.owner.Owner.TheVariants as owner
-use Rattle.register_file.proofs.SideWords.{receive-written, transmit-written}
-use Rattle.register_file.proofs.Switches.{receive-asked, transmit-asked}
+use Rattle.register_file.proofs.SideWords.{receive-written}
+use Rattle.register_file.proofs.Switches.{receive-asked}
 use Rattle.nic_device.specs.Access.{named_written}
-use Rattle.nic_device.specs.Named.{named}
-use Rattle.nic_device.specs.Outcome.{Outcome, gives}
+use Rattle.nic_device.specs.Outcome.{gives}
 use Rattle.nic_device.specs.Sound.{IsSound}
 use Rattle.nic_device.specs.State.{State}
-use Rattle.nic_device.specs.Step.{step_of, after}
+use Rattle.nic_device.specs.Step.{after}
 use Rattle.nic_device.specs.declared.event.Event.TheVariants as event
 use Rattle.nic_device.specs.declared.event.Port.{Port}
 use Rattle.nic_device.specs.declared.event.Reply.TheVariants.{Done}
 use Rattle.nic_device.specs.declared.named.Named.TheVariants.{Register}
-use Rattle.device_laws.specs.Laws.{WritesNoSetting}
-use Rattle.device_laws.proofs.KeptSettings.{settings_stand}
-use Rattle.device_laws.proofs.Standing.{stays_within}
-use Rattle.device_laws.proofs.StandingAccesses.{write_rest, write_memory}
+use Rattle.device_laws.proofs.StandingAccesses.{write_rest}
 use Rattle.device_lock.specs.Alone.{is_setting}
 use Rattle.history_laws.specs.Aligned.{AreAligned}
 use Rattle.history_laws.proofs.Written.{merged_low, merged_all}
+<<<<<<< HEAD
 use Rattle.history_laws.proofs.Sparing.{no_setting}
 use Rattle.start_laws.specs.Words.{receive_with, transmit_with, FitsReceive, FitsTransmit, NamesRow, KeepsGround, TakesReceive, TakesTransmit, ReceiveWordsAreTaken, TransmitWordsAreTaken}
 use Rattle.start_laws.proofs.Masks.{merged-high, merged-length, merged-even}
+=======
+use Rattle.start_laws.specs.Words.{receive_with, FitsReceive, NamesRow, TakesReceive, ReceiveWordsAreTaken}
+use Rattle.start_laws.proofs.Masks.{merged-high, merged-length}
+>>>>>>> a58c76860d8a4846b2610560b77aa2d678b452a9
 use Rattle.start_laws.proofs.Words.{ground, wrote}
 
 module _ (queue : ℕ) (s : State) (small : queue < 128) (sound : IsSound s) (aligned : AreAligned s.registers)

@@ -1,6 +1,5 @@
 -- Two sides that stand still are left so by every event that leaves the queue alone.
-use Rattle.std.proofs.Common.{◌≡◌, ℕ, inl, inr, Bool, true, false, List, [], refl, sym, ap, ◌∙◌, subst}
-use Rattle.std.specs.Prelude.{IsTrue}
+use Rattle.std.proofs.Common.{◌≡◌, ℕ, inl, inr, false, [], refl, sym, ◌∙◌, subst}
 use Rattle.std.proofs.lemmas.Bool.{cases_Bool, eq-eqb}
 use Rattle.dma_arena.specs.Block.{Block}
 use Rattle.register_file.specs.Sides.{ReceiveQueue, TransmitQueue, receive_queue_of}
@@ -9,7 +8,6 @@ use Rattle.nic_device.specs.State.{State}
 use Rattle.nic_device.specs.Step.{after, reply_to}
 use Rattle.nic_device.specs.declared.event.Event.{Event}
 use Rattle.nic_device.specs.declared.event.Event.TheVariants as event
-use Rattle.register_file.specs.declared.dir.Dir.TheVariants.{Rx, Tx}
 use Rattle.device_laws.proofs.KeptSettings.{settings_stand}
 use Rattle.device_laws.proofs.Standing.{stays_within}
 use Rattle.device_lock.specs.Alone.{Blocks}
@@ -20,7 +18,7 @@ use Rattle.transmit_laws.specs.Sparing.{is_transmit_of, is_switch_of}
 use Rattle.transmit_laws.proofs.Frames.{added-none}
 use Rattle.transmit_laws.proofs.LeftSide.{left-setting, left-side}
 use Rattle.transmit_laws.proofs.Sparing.{transmit_is, switch_is, sent-none}
-use Rattle.start_laws.specs.Standing.{Stand, StandsReceive, IsLeft, LeavesStanding, StandingSidesAreLeft}
+use Rattle.start_laws.specs.Standing.{StandsReceive, IsLeft, StandingSidesAreLeft}
 use Rattle.start_laws.proofs.LeftReceive.{is_receive, is_receive_switch, receive_is, receive_switch_is, left-receive}
 use Rattle.start_laws.proofs.LeftZero.{left-block}
 use Rattle.start_laws.proofs.StillReceive.{none_told, receive-left, switch-stands, left-stands}

@@ -1,28 +1,27 @@
 -- A receive side that stands still stays so.
-use Rattle.std.proofs.Common.{◌≡◌, ◌≢◌, ℕ, ◌+◌, ◌<◌, inl, inr, Bool, true, false, List, [], ◌∷◌, refl, sym, ap, ◌∙◌, subst, arith}
-use Rattle.std.specs.Prelude.{⊤, ◌==◌}
-use Rattle.std.proofs.lemmas.Bool.{both_ways, cases_Bool, cases_eq, eqb-true, eqb-false, ne_eqb}
+use Rattle.std.proofs.Common.{◌≡◌, ◌≢◌, ℕ, ◌+◌, ◌<◌, inl, inr, List, [], ◌∷◌, refl, sym, ap, ◌∙◌, subst, arith}
+use Rattle.std.specs.Prelude.{⊤}
+use Rattle.std.proofs.lemmas.Bool.{both_ways, cases_eq, ne_eqb}
 use Rattle.dma_arena.specs.Block.{Block}
 use Rattle.register_file.specs.Queue.{switched}
 use Rattle.register_file.specs.Registers.{is_wanted}
 use Rattle.register_file.specs.Sides.{ReceiveQueue, receive_queue_of}
-use Rattle.register_file.specs.declared.dir.Dir.TheVariants.{Rx, Tx}
+use Rattle.register_file.specs.declared.dir.Dir.TheVariants.{Rx}
 use Rattle.register_file.proofs.Switches.{receive-switched}
-use Rattle.nic_device.specs.Outcome.{Outcome, gives}
+use Rattle.nic_device.specs.Outcome.{Outcome}
 use Rattle.nic_device.specs.Receive.{is_empty}
 use Rattle.nic_device.specs.Sound.{IsSound}
 use Rattle.nic_device.specs.State.{State, Waiting}
 use Rattle.nic_device.specs.Step.{step_of, after, reply_to}
-use Rattle.nic_device.specs.Switching.{emptied, side_switched}
-use Rattle.nic_device.specs.declared.event.Event.{Event}
+use Rattle.nic_device.specs.Switching.{emptied}
 use Rattle.nic_device.specs.declared.event.Event.TheVariants as event
 use Rattle.nic_device.specs.declared.event.Reply.{Reply}
-use Rattle.nic_device.specs.declared.event.Reply.TheVariants.{Wrote, Done}
+use Rattle.nic_device.specs.declared.event.Reply.TheVariants.{Wrote}
 use Rattle.nic_device.proofs.Cases.{either_way, switched_cases}
 use Rattle.device_laws.specs.Leaving.{IsFirstFor, LeavesReceive}
 use Rattle.device_laws.proofs.StandingQueues.{receiving_rest}
 use Rattle.history_laws.proofs.RingsReceived.{slotless_stands}
-use Rattle.receive_laws.specs.Pieces.{Piece, pieces_told}
+use Rattle.receive_laws.specs.Pieces.{pieces_told}
 use Rattle.receive_laws.proofs.Cases.{IsTried, IsOn, step_cases, wrote_first, wrote_none}
 use Rattle.start_laws.specs.Standing.{StandsReceive}
 

@@ -1,12 +1,11 @@
 -- A legal history of a new device that leaves a queue alone, and what holds wherever its pass has made so many calls.
 use Rattle.std.specs.Prelude.{ℕ, ◌≡◌, ◌≢◌, ◌<◌, ⊤, IsTrue, List, [], ◌∷◌, ◌++◌}
 use Rattle.dma_arena.specs.Block.{Block}
-use Rattle.register_file.specs.Pools.{mode_in}
 use Rattle.nic_device.specs.Sound.{IsEvent, IsSound}
 use Rattle.nic_device.specs.State.{State, new_state}
 use Rattle.nic_device.specs.Step.{after, reply_to}
 use Rattle.nic_device.specs.declared.event.Event.{Event}
-use Rattle.device_lock.specs.Alone.{Blocks, EntryLeavesAlone, LeavesAlone, lent_by}
+use Rattle.device_lock.specs.Alone.{Blocks, LeavesAlone, lent_by}
 use Rattle.device_lock.specs.History.{IsLegal, calls_of, leads_to}
 use Rattle.device_lock.specs.declared.alone.Watched.{Watched}
 use Rattle.device_lock.specs.declared.entry.Call.{Call}

@@ -4,4 +4,5 @@ pub mod Points
 pub mod Quiet
 pub mod Quieting
 pub mod Standing
+pub mod Start
 pub mod Words

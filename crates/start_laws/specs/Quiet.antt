@@ -1,5 +1,5 @@
 -- A queue whose receive side isn't wanted on, and one whose two sides are off.
-use Rattle.std.specs.Prelude.{ℕ, ◌≡◌, Bool, false, IsFalse, []}
+use Rattle.std.specs.Prelude.{ℕ, ◌≡◌, false, IsFalse, []}
 use Rattle.dma_arena.specs.Block.{Block}
 use Rattle.reg_table.specs.declared.rows.RowId.TheVariants.{Rxdctl}
 use Rattle.register_file.specs.Bits.{has_bit}

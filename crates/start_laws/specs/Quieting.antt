@@ -1,5 +1,5 @@
 -- A driver that starts sees both sides of its queue off, over a history that leaves the queue alone.
-use Rattle.std.specs.Prelude.{ℕ, ◌≡◌, Bool, true, false, not, ◌&&◌, IsTrue, List, []}
+use Rattle.std.specs.Prelude.{ℕ, ◌≡◌, Bool, not, ◌&&◌, IsTrue, List, []}
 use Rattle.nic_device.specs.State.{State}
 use Rattle.nic_device.specs.Transmit.{staged_by}
 use Rattle.device_lock.specs.Alone.{lent_by}

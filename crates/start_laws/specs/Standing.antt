@@ -1,5 +1,5 @@
 -- The two sides of a queue that stand still: each is off, or on with an empty ring.
-use Rattle.std.specs.Prelude.{ℕ, ◌≡◌, ◌<◌, ◌==◌, ◌||◌, Bool, true, false, IsTrue, List, [], Some}
+use Rattle.std.specs.Prelude.{ℕ, ◌≡◌, ◌<◌, true, IsTrue, [], Some}
 use Rattle.std.specs.FinMap as map
 use Rattle.dma_arena.specs.Block.{Block, zero_block}
 use Rattle.dma_arena.specs.Memory.{Memory}

@@ -8,6 +8,7 @@ use Rattle.clap.specs.declared.error.Error.{Error}
 use Rattle.clap.specs.declared.error.ErrorKind.{ErrorKind}
 use Rattle.clap.specs.declared.error.ErrorKind.TheVariants as kind
 use Rattle.command_line.specs.Asked.{Asks}
+use Rattle.command_line.specs.declared.Asked.{Asked}
 use Rattle.command_line.specs.declared.BytesRequest.{BytesRequest}
 use Rattle.command_line.specs.declared.Request.{Request}
 use Rattle.command_line.specs.declared.Request.TheVariants.{Text}
@@ -117,7 +118,7 @@ begun-by-nothing request (Some input) old new (Err OutOfMemory) nothing never =
     λ answer right. rw (nothing refl) (begins-with-nothing old answer.text)
 
 -- words ask for one thing
-pub asks-one : (words : List (List ℕ)) (one other : Request) → Asks words one → Asks words other → one ≡ other
+pub asks-one : (words : List (List ℕ)) (one other : Asked) → Asks words one → Asks words other → one ≡ other
 asks-one words one other asks asks_too = let same = sym asks.asked ∙ asks_too.asked in cc
 
 -- the status of an error that has any of the kinds

@@ -1,5 +1,5 @@
 -- What words are answered, and how the program ends.
-use Rattle.std.specs.Prelude.{◌≡◌, ◌⊎◌, ℕ, Bool, List, [], ◌∷◌, ◌++◌, None, IfSome, MatchResult, Option, Result, Ok, Err, codes, true}
+use Rattle.std.specs.Prelude.{◌≡◌, ◌≢◌, ◌⊎◌, ℕ, Bool, List, [], ◌∷◌, ◌++◌, None, IfSome, MatchResult, Option, Result, Ok, Err, codes, true}
 use Rattle.std.specs.Io.KnownBytes.{Appends}
 use Rattle.clap.specs.Words.{Kinds}
 use Rattle.clap.specs.declared.error.ErrorKind.{ErrorKind}
@@ -8,9 +8,10 @@ use Rattle.command_line.specs.declared.BytesRequest.{BytesRequest}
 use Rattle.command_line.specs.declared.BytesRequest.TheVariants.{Dis, LoadEeprom}
 use Rattle.command_line.specs.declared.Request.{Request}
 use Rattle.command_line.specs.declared.Request.TheVariants.{Bytes, Text}
+use Rattle.command_line.specs.declared.ThreadsOptions.{ThreadsOptions}
 use Rattle.command_line.specs.declared.TextRequest.{TextRequest}
 use Rattle.command_line.specs.declared.TextRequest.TheVariants.{Asm, Debug, Eeprom, Hash, Run}
-use Rattle.bench.specs.Answer.{Answer, BeginsRight, Writes, WritesRight, refused_as}
+use Rattle.bench.specs.Answer.{Answer, BeginsRight, Writes, WritesRight, no_memory, refused_as}
 use Rattle.bench.specs.Debug.{debug_answer}
 use Rattle.bench.specs.Eeprom.{IsImageAnswer, IsLoadAnswer}
 use Rattle.bench.specs.Hash.{hash_answer}
@@ -21,7 +22,7 @@ use Rattle.bench.specs.Run.{run_answer}
 use Rattle.bench.specs.declared.failure.Failure.{Failure}
 use Rattle.bench.specs.declared.failure.Failure.TheVariants.{OutOfMemory, Read, Write}
 use Rattle.bench.specs.declared.ending.Outcome.{Outcome}
-use Rattle.bench.specs.declared.ending.Outcome.TheVariants.{Ended}
+use Rattle.bench.specs.declared.ending.Outcome.TheVariants.{Ended, Threads}
 
 -- the answer is what is asked for, of a text
 abbrev pub IsTextAnswer : TextRequest → List ℕ → Answer → Type 0
@@ -78,6 +79,24 @@ pub record StopsForMemory (old new : Option (List ℕ)) (text : List ℕ) : Type
 abbrev pub EndsSaying : Option (List ℕ) → Option (List ℕ) → Bool → Answer → Outcome → Type 0
 EndsSaying old new has_failed answer (Ended status) =
     Writes old new answer status ⊎ ((status ≡ 2) × (has_failed ≡ true))
+EndsSaying old new has_failed answer (Threads workers frames) = ⊥
+
+-- it ends with the status of such an error of clap's; or with 2, where a write has failed
+abbrev pub EndsSaid : ErrorKind → Bool → Outcome → Type 0
+EndsSaid kind has_failed (Ended status) = (status ≡ words_status kind) ⊎ ((status ≡ 2) × (has_failed ≡ true))
+EndsSaid kind has_failed (Threads workers frames) = ⊥
+
+-- it ends by an error of clap's: want of memory is said as everywhere, another one is written as clap has it
+abbrev pub EndsOf : ErrorKind → Option (List ℕ) → Option (List ℕ) → Bool → Outcome → Type 0
+EndsOf of old new has_failed outcome =
+    ((of ≡ kind.OutOfMemory) × EndsSaying old new has_failed no_memory outcome)
+    ⊎ ((of ≢ kind.OutOfMemory) × EndsSaid of has_failed outcome)
+
+-- what is asked for is left to whoever called, and this holds
+abbrev pub IsLeft : ThreadsOptions → Type 0 → Outcome → Type 0
+IsLeft options holds (Ended status) = ⊥
+IsLeft options holds (Threads workers frames) =
+    (workers ≡ options.workers) × (frames ≡ options.frames) × holds
 
 -- it ends with the status of the answer to what was read, all of which is written; or with 4, where there was no
 -- memory; or with 2, where the input could not be read, which is said; or with 2, where a write has failed
@@ -88,6 +107,7 @@ EndsAs request remaining IsUnread old new has_failed (Ended status) =
     → StopsForMemory old new answer.text))
     ⊎ ((IsUnread × Writes old new (refused_as (codes "Input")) status)
     ⊎ ((status ≡ 2) × (has_failed ≡ true))))
+EndsAs request remaining IsUnread old new has_failed (Threads workers frames) = ⊥
 
 -- words that ask for nothing end with the status of one of clap's kinds; or with 4, where there was no memory; or
 -- with 2, where a write has failed
@@ -96,3 +116,4 @@ EndsWords kinds old new has_failed (Ended status) =
     HasStatusOf kinds status
     ⊎ (((status ≡ 4) × Appends old new (refusal_line (codes "OutOfMemory") None))
     ⊎ ((status ≡ 2) × (has_failed ≡ true)))
+EndsWords kinds old new has_failed (Threads workers frames) = ⊥

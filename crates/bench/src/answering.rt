@@ -1,10 +1,7 @@
-//! What words are answered.
-ghost use Rattle.std.specs.Prelude.{◌≡◌, ◌≢◌, Err, IfOk, map, true};
-ghost use Rattle.clap.specs.Words.{kind_of};
-ghost use Rattle.command_line.specs.Asked.{Asks, refusal_of};
+//! What a request is answered.
+ghost use Rattle.std.specs.Prelude.{◌≡◌, Err, true};
 ghost use Rattle.bench.specs.Answer.{GivesRight};
-ghost use Rattle.bench.specs.Ending.{AnswersRequest, HasStatusOf, IsBytesAnswer, IsGivenAnswer};
-ghost use Rattle.bench.specs.Ending.{IsTextAnswer, words_status};
+ghost use Rattle.bench.specs.Ending.{AnswersRequest, IsBytesAnswer, IsGivenAnswer, IsTextAnswer};
 ghost use Rattle.bench.specs.Reading.{CouldNotBeRead};
 
 use crate::eeprom::{load_image, write_image};
@@ -17,11 +14,8 @@ use crate::reading::{InputFault, read_input};
 use crate::refusal::{Refusal, write_refusal};
 use crate::script_run::run_script;
 use crate::session::debug_script;
-use clap::Error;
-use clap::error::ErrorKind;
-use command_line::{BytesRequest, Request, TextRequest, asked};
+use command_line::{BytesRequest, Request, TextRequest};
 use std::alloc::Global;
-use std::convert::AsStr;
 use std::io::{Read, Write};
 use std::str;
 
@@ -79,8 +73,11 @@ fn answer_input<W: Write>(
     }
 }
 
-/// Reads all input, and answers it.
-fn answer_request<R: Read, W: Write>(
+/// Reads all input, and writes what is asked for of it. An `Ok` has the status; then what is written and the status
+/// are those of what is asked for, of all bytes of the input. After `Failure::Read` nothing is written, after
+/// `Failure::OutOfMemory` a part of the answer from its beginning on, and after `Failure::Write` nothing more is
+/// written.
+pub fn answer<R: Read, W: Write>(
     alloc: Global,
     input: &mut Input<R>,
     output: &mut Output<W>,
@@ -97,61 +94,5 @@ fn answer_request<R: Read, W: Write>(
         Err(InputFault::TooLong) => write_refusal(output, &Refusal::named("TooLong")),
         Err(InputFault::Unread) => Err(Failure::Read),
         Err(InputFault::OutOfMemory) => Err(Failure::OutOfMemory),
-    }
-}
-
-/// The status that words of this kind end with.
-fn status_of(kind: ErrorKind) -> u8
-    ensures { result ≡ words_status kind }
-{
-    match kind {
-        ErrorKind::DisplayHelp => 0,
-        ErrorKind::DisplayVersion => 0,
-        _ => 3,
-    }
-}
-
-/// Writes what clap has to say of the words, and gives the status of that.
-fn write_words<W: Write>(output: &mut Output<W>, error: &Error) -> Result<u8, Failure>
-    ensures status { IfOk result (λ status. (status ≡ words_status (kind_of error.now))
-        × (kind_of error.now ≢ ErrorKind.OutOfMemory)) }
-    ensures memory { result ≡ Err Failure.OutOfMemory → output.new ≡ output.old }
-    ensures unwritten { result ≡ Err Failure.Write → output.new.has_failed ≡ true }
-    ensures unread { result ≢ Err Failure.Read }
-{
-    let kind = error.kind();
-    if kind == ErrorKind::OutOfMemory {
-        return Err(Failure::OutOfMemory);
-    }
-    output.write(error)?;
-    Ok(status_of(kind))
-}
-
-/// Reads the words, the program's own name first, then all input where they ask for it, and writes the
-/// answer. The words are read before anything else, and where they are refused nothing else is. An `Ok`
-/// has the status; then what is written and the status are those of what was asked for, of all bytes
-/// of the input, or clap's for words that ask for nothing. After `Failure::Read` nothing is written,
-/// after `Failure::OutOfMemory` a part of the answer from its beginning on, and after `Failure::Write`
-/// nothing more is written.
-pub fn answer<'a, R: Read, W: Write, S: AsStr>(
-    alloc: Global,
-    input: &mut Input<R>,
-    output: &mut Output<W>,
-    words: &'a [S],
-) -> Result<u8, Failure>
-    ensures asked { (request : Request) → Asks (map S.text words.entry.now) request
-        → AnswersRequest request (R.remaining input.old.reader) (W.contents output.old.writer)
-        (W.contents output.new.writer) result }
-    ensures refused { ((request : Request) → Asks (map S.text words.entry.now) request → ⊥)
-        → IfOk result (HasStatusOf (refusal_of (map S.text words.entry.now)))
-        × (input.new ≡ input.old) × (result ≢ Err Failure.Read)
-        × (result ≡ Err Failure.OutOfMemory → output.new ≡ output.old) }
-    ensures unread { result ≡ Err Failure.Read
-        → CouldNotBeRead input.new × (output.new ≡ output.old) }
-    ensures unwritten { result ≡ Err Failure.Write → output.new.has_failed ≡ true }
-{
-    match asked(alloc, words) {
-        Ok(request) => answer_request(alloc, input, output, request),
-        Err(error) => write_words(output, &error),
     }
 }

@@ -1,9 +1,9 @@
 //! The program, from words to a status.
-ghost use Rattle.std.specs.Prelude.{◌≡◌, None, codes, map};
+ghost use Rattle.std.specs.Prelude.{◌≡◌, ◌⊎◌, None, codes, map};
+ghost use Rattle.clap.specs.Words.{kind_of};
 ghost use Rattle.command_line.specs.Asked.{Asks, refusal_of};
-ghost use Rattle.command_line.specs.declared.Request.{Request};
 ghost use Rattle.bench.specs.Answer.{no_memory, refused_as};
-ghost use Rattle.bench.specs.Ending.{EndsAs, EndsSaying, EndsWords};
+ghost use Rattle.bench.specs.Ending.{EndsAs, EndsOf, EndsSaying, EndsWords, IsLeft, words_status};
 ghost use Rattle.bench.specs.Reading.{CouldNotBeRead};
 ghost use Rattle.bench.specs.Refusal.{refusal_line};
 
@@ -11,6 +11,9 @@ use crate::answering::answer;
 use crate::failure::Failure;
 use crate::input::Input;
 use crate::output::Output;
+use clap::Error;
+use clap::error::ErrorKind;
+use command_line::{Asked, Request, ThreadsOptions, asked};
 use std::alloc::Global;
 use std::convert::AsStr;
 use std::io::{Read, Write};
@@ -23,6 +26,13 @@ pub enum Outcome {
     /// input is refused, or a read or a write failed; 3 where the words are refused; 4 where there
     /// is no memory.
     Ended(u8),
+    /// Not yet: the words ask for `threads`, for which nothing is read or written here.
+    Threads {
+        /// How many workers there are, from 1 to 8.
+        workers: u8,
+        /// How many frames arrive, 60 at most.
+        frames: u8,
+    },
 }
 
 /// Says a refusal by its name, and ends with this status; or with 2 where that can't be written.
@@ -53,26 +63,76 @@ fn end_given_up<W: Write>(output: &mut Output<W>, failure: Failure) -> Outcome
     }
 }
 
-/// Reads the words, the program's own name first, then all input where they ask for it, and writes
-/// all output. The words are read before anything else, and where they are refused nothing else is.
-/// After a failed write nothing more is written. It ends as `answer` answers; a failed read is the
-/// refusal `Input`, want of memory the refusal `OutOfMemory`.
+/// Ends as a request is answered.
+fn end_request<R: Read, W: Write>(
+    alloc: Global,
+    input: &mut Input<R>,
+    output: &mut Output<W>,
+    request: Request,
+) -> Outcome
+    ensures { EndsAs request (R.remaining input.old.reader) (CouldNotBeRead input.new)
+        (W.contents output.old.writer) (W.contents output.new.writer) output.new.has_failed result }
+{
+    match answer(alloc, input, output, request) {
+        Ok(status) => Outcome::Ended(status),
+        Err(failure) => end_given_up(output, failure),
+    }
+}
+
+/// The status that words of this kind end with.
+fn status_of(kind: ErrorKind) -> u8
+    ensures { result ≡ words_status kind }
+{
+    match kind {
+        ErrorKind::DisplayHelp => 0,
+        ErrorKind::DisplayVersion => 0,
+        _ => 3,
+    }
+}
+
+/// Writes what clap has to say of the words, and ends with the status of that.
+fn end_words<W: Write>(output: &mut Output<W>, error: &Error) -> Outcome
+    ensures { EndsOf (kind_of error.now) (W.contents output.old.writer) (W.contents output.new.writer)
+        output.new.has_failed result }
+{
+    let kind = error.kind();
+    if kind == ErrorKind::OutOfMemory {
+        return end_saying(output, "OutOfMemory", 4);
+    }
+    match output.write(error) {
+        Ok(()) => Outcome::Ended(status_of(kind)),
+        Err(_) => Outcome::Ended(2),
+    }
+}
+
+/// Reads the words, the program's own name first, then all input where they ask for it, and writes all output. The
+/// words are read before anything else, and where they are refused nothing else is. After a failed write nothing more
+/// is written. It ends as `answer` answers; a failed read is the refusal `Input`, want of memory the refusal
+/// `OutOfMemory`. Where they ask for `threads` nothing is read or written, but for that refusal.
 pub fn bench<'a, R: Read, W: Write, S: AsStr>(
     alloc: Global,
     input: &mut Input<R>,
     output: &mut Output<W>,
     words: &'a [S],
 ) -> Outcome
-    ensures asked { (request : Request) → Asks (map S.text words.entry.now) request
+    ensures asked { (request : Request) → Asks (map S.text words.entry.now) (Asked.Input request)
         → EndsAs request (R.remaining input.old.reader) (CouldNotBeRead input.new)
         (W.contents output.old.writer) (W.contents output.new.writer) output.new.has_failed
         result }
-    ensures refused { ((request : Request) → Asks (map S.text words.entry.now) request → ⊥)
+    ensures threads { (options : ThreadsOptions) → Asks (map S.text words.entry.now) (Asked.Threads options)
+        → (input.new ≡ input.old) × (IsLeft options (output.new ≡ output.old) result
+        ⊎ EndsSaying (W.contents output.old.writer) (W.contents output.new.writer)
+        output.new.has_failed no_memory result) }
+    ensures refused { ((what : Asked) → Asks (map S.text words.entry.now) what → ⊥)
         → EndsWords (refusal_of (map S.text words.entry.now)) (W.contents output.old.writer)
         (W.contents output.new.writer) output.new.has_failed result × (input.new ≡ input.old) }
 {
-    match answer(alloc, input, output, words) {
-        Ok(status) => Outcome::Ended(status),
-        Err(failure) => end_given_up(output, failure),
+    match asked(alloc, words) {
+        Ok(Asked::Input(request)) => end_request(alloc, input, output, request),
+        Ok(Asked::Threads(ThreadsOptions { workers, frames })) => Outcome::Threads {
+            workers,
+            frames,
+        },
+        Err(error) => end_words(output, &error),
     }
 }

@@ -34,7 +34,7 @@ impl<W: Write> Output<W> {
     }
 
     /// Writes a text.
-    pub(crate) fn write<D: Display + Drop>(&mut self, text: D) -> Result<(), Failure>
+    pub fn write<D: Display + Drop>(&mut self, text: D) -> Result<(), Failure>
         ensures ok { OnOk result (IfSome (D.output text)
             (Appends (W.contents self.old.writer) (W.contents self.new.writer))) }
         ensures kept { OnOk result (self.new.has_failed ≡ self.old.has_failed) }

@@ -1,5 +1,5 @@
 -- What words ask for.
-use Rattle.std.specs.Prelude.{◌≡◌, ℕ, Bool, List, [], ◌∷◌, Option, Some, None, ◌^◌, ◌&&◌, codes, false, length, nat_lt, option_and_then, if◌then◌else◌}
+use Rattle.std.specs.Prelude.{◌≡◌, ℕ, Bool, List, [], ◌∷◌, Option, Some, None, ◌^◌, ◌&&◌, codes, false, length, nat_lt, option_and_then, option_map, if◌then◌else◌}
 use Rattle.std.specs.List.{list_all}
 use Rattle.std.specs.Option.{option_map_or}
 use Rattle.std.specs.Char.{digit_value}
@@ -10,11 +10,14 @@ use Rattle.clap.specs.Words.{Row, Text, fault_of, one_of, subcommand_of}
 use Rattle.clap.specs.declared.error.ErrorKind.TheVariants as kind
 use Rattle.command_line.specs.Commands.{nicbench_app}
 use Rattle.command_line.specs.declared.debug_options.DebugOptions.{DebugOptions}
+use Rattle.command_line.specs.declared.request.Asked.{Asked}
+use Rattle.command_line.specs.declared.request.Asked.TheVariants.{Input, Threads}
 use Rattle.command_line.specs.declared.request.BytesRequest.TheVariants.{Dis, LoadEeprom}
 use Rattle.command_line.specs.declared.request.Request.{Request}
 use Rattle.command_line.specs.declared.request.Request.TheVariants.{Bytes as OfBytes, Text as OfText}
 use Rattle.command_line.specs.declared.request.TextRequest.TheVariants.{Asm, Debug, Eeprom, Hash, Run}
 use Rattle.command_line.specs.declared.run_options.RunOptions.{RunOptions}
+use Rattle.command_line.specs.declared.threads_options.ThreadsOptions.{ThreadsOptions}
 
 -- decimal digits, one at least, that say a number below 2 ^ bits
 abbrev pub is_number_of : ℕ → Text → Bool
@@ -45,6 +48,13 @@ debug_options_of rows = record {
   fifo = option_in 16 (codes "fifo") rows;
 }
 
+-- what the matches of `threads` ask for
+abbrev pub threads_options_of : List Row → ThreadsOptions
+threads_options_of rows = record {
+  workers = option_in 8 (codes "workers") rows;
+  frames = option_in 8 (codes "frames") rows;
+}
+
 -- whether a flag is given
 abbrev pub flag_in : Text → List Row → Bool
 flag_in name rows = option_map_or (λ text. bytes_eq text (codes "true")) (one_of name rows) false
@@ -53,7 +63,7 @@ flag_in name rows = option_map_or (λ text. bytes_eq text (codes "true")) (one_o
 abbrev pub eeprom_of : List Row → Request
 eeprom_of rows = if flag_in (codes "load") rows then OfBytes LoadEeprom else OfText Eeprom
 
--- what a command with these matches asks for, by its name
+-- how a command with these matches asks for the input to be answered, by its name
 abbrev pub request_of : Text → List Row → Option Request
 request_of name rows = if bytes_eq name (codes "run") then Some (OfText (Run (options_of rows)))
     else if bytes_eq name (codes "debug") then Some (OfText (Debug (debug_options_of rows)))
@@ -63,11 +73,16 @@ request_of name rows = if bytes_eq name (codes "run") then Some (OfText (Run (op
     else if bytes_eq name (codes "eeprom") then Some (eeprom_of rows)
     else None
 
+-- what a command with these matches asks for, by its name
+abbrev pub asked_of : Text → List Row → Option Asked
+asked_of name rows = if bytes_eq name (codes "threads") then Some (Threads (threads_options_of rows))
+    else option_map Input (request_of name rows)
+
 -- clap finds no fault in the words, and their command asks for this
-pub record Asks (words : List Text) (request : Request) : Type 0 where
+pub record Asks (words : List Text) (what : Asked) : Type 0 where
   pub faultless : fault_of nicbench_app words ≡ []
-  pub asked : option_and_then (λ command. request_of command.0 command.1) (subcommand_of nicbench_app words)
-      ≡ Some request
+  pub asked : option_and_then (λ command. asked_of command.0 command.1) (subcommand_of nicbench_app words)
+      ≡ Some what
 
 -- why other words are refused, or what they want shown: one of the kinds that clap may give; where it gives none the
 -- command is an unknown one

@@ -50,6 +50,25 @@ load_rule = record (new_rule (codes "load")) { long = Some (codes "load"); actio
 abbrev pub eeprom_app : App
 eeprom_app = with_rule (new_app (codes "eeprom")) load_rule
 
+-- `--name N`, which is asked for, with what passes for a number
+abbrev pub needed_rule : Text → ValueParser → Rule
+needed_rule name numbers = record (new_rule name) {
+  long = Some name;
+  value_names = 1;
+  parser = Some numbers;
+  required = true;
+}
+
+abbrev pub workers_rule : Rule
+workers_rule = needed_rule (codes "workers") (parser.Signed (pos 1) (pos 8))
+
+abbrev pub frames_rule : Rule
+frames_rule = needed_rule (codes "frames") (parser.Signed (pos 0) (pos 60))
+
+-- `threads` with its options
+abbrev pub threads_app : App
+threads_app = with_rule (with_rule (new_app (codes "threads")) workers_rule) frames_rule
+
 -- `nicbench`, which takes a command and has a version, without its commands
 abbrev pub bare_app : App
 bare_app = let a = new_app (codes "nicbench") in record a {
@@ -63,4 +82,5 @@ bare_app = let a = new_app (codes "nicbench") in record a {
 -- `nicbench` with its commands
 abbrev pub nicbench_app : App
 nicbench_app = with_subcommand (with_subcommand (with_subcommand (with_subcommand (with_subcommand (with_subcommand
-    bare_app run_app.top) hash_app.top) eeprom_app.top) asm_app.top) dis_app.top) debug_app.top
+    (with_subcommand bare_app run_app.top) hash_app.top) eeprom_app.top) asm_app.top) dis_app.top) debug_app.top)
+    threads_app.top

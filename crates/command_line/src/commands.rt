@@ -3,8 +3,10 @@ ghost use Rattle.std.specs.Prelude.{◌≡◌, IfErr, IfOk, false};
 ghost use Rattle.clap.specs.Words.{app_of, kind_of, rule_of};
 ghost use Rattle.clap.specs.declared.builder.command.Command.TheViews.{out-Command as fields_of};
 ghost use Rattle.command_line.specs.Commands.{asm_app, bare_app, debug_app, dis_app, eeprom_app, fifo_rule, hash_app};
-ghost use Rattle.command_line.specs.Commands.{limit_rule, load_rule, nicbench_app, run_app, vfs_rule};
+ghost use Rattle.command_line.specs.Commands.{frames_rule, limit_rule, load_rule, nicbench_app, run_app};
+ghost use Rattle.command_line.specs.Commands.{threads_app, vfs_rule, workers_rule};
 
+use clap::builder::ValueParser;
 use clap::error::ErrorKind;
 use clap::{Arg, ArgAction, Command, Error, value_parser};
 use std::alloc::Global;
@@ -53,6 +55,30 @@ fn load<'a>(alloc: Global) -> Arg<'a>
         .long("load")
         .help("Read an image, and print the register writes of its CSR section")
         .action(ArgAction::SetTrue)
+}
+
+fn workers<'a>(alloc: Global) -> Arg<'a>
+    ensures rule { rule_of result ≡ workers_rule }
+    ensures local { result.global ≡ false }
+{
+    Arg::new(alloc, "workers")
+        .long("workers")
+        .value_name("K")
+        .help("How many workers drive a queue of their own, from 1 to 8")
+        .value_parser(ValueParser::signed(1, 8))
+        .required(true)
+}
+
+fn frames<'a>(alloc: Global) -> Arg<'a>
+    ensures rule { rule_of result ≡ frames_rule }
+    ensures local { result.global ≡ false }
+{
+    Arg::new(alloc, "frames")
+        .long("frames")
+        .value_name("N")
+        .help("How many frames arrive, 60 at most")
+        .value_parser(ValueParser::signed(0, 60))
+        .required(true)
 }
 
 fn run<'a>(alloc: Global) -> Result<Command<'a>, Error>
@@ -118,6 +144,18 @@ fn eeprom<'a>(alloc: Global) -> Result<Command<'a>, Error>
     Ok(eeprom)
 }
 
+fn threads<'a>(alloc: Global) -> Result<Command<'a>, Error>
+    ensures ok { IfOk result (λ c. app_of c ≡ threads_app) }
+    ensures local { IfOk result (λ c. (fields_of c).has_globals ≡ false) }
+    ensures err { IfErr result (λ e. kind_of e ≡ ErrorKind.OutOfMemory) }
+{
+    let threads = Command::new(alloc, "threads")
+        .about("Drives queues of one controller on threads, and prints what went through each")
+        .arg(workers(alloc))?
+        .arg(frames(alloc))?;
+    Ok(threads)
+}
+
 /// `nicbench`, without its commands.
 fn bare<'a>(alloc: Global) -> Command<'a>
     ensures app { app_of result ≡ bare_app }
@@ -140,6 +178,7 @@ pub(crate) fn nicbench<'a>(alloc: Global) -> Result<Command<'a>, Error>
         .subcommand(eeprom(alloc)?)?
         .subcommand(asm(alloc))?
         .subcommand(dis(alloc))?
-        .subcommand(debug(alloc)?)?;
+        .subcommand(debug(alloc)?)?
+        .subcommand(threads(alloc)?)?;
     Ok(nicbench)
 }

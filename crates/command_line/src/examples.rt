@@ -2,6 +2,7 @@
 ghost use Rattle.std.specs.Prelude.{◌≡◌, [], ◌∷◌, codes};
 ghost use Rattle.clap.specs.declared.error.ErrorKind.TheVariants as kind;
 ghost use Rattle.command_line.specs.Asked.{Asks, refusal_of};
+ghost use Rattle.command_line.specs.declared.request.Asked.TheVariants.{Input, Threads};
 ghost use Rattle.command_line.specs.declared.request.BytesRequest.TheVariants.{Dis, LoadEeprom};
 ghost use Rattle.command_line.specs.declared.request.Request.TheVariants.{Bytes, Text};
 ghost use Rattle.command_line.specs.declared.request.TextRequest.TheVariants.{Asm, Debug, Eeprom, Hash, Run};
@@ -9,40 +10,60 @@ ghost use Rattle.command_line.specs.declared.request.TextRequest.TheVariants.{As
 /// `nicbench run` asks for no virtual function, for 64 frames and for 100,000 instructions at most.
 pub fn run_alone()
     ensures { Asks (codes "nicbench" ∷ codes "run" ∷ [])
-        (Text (Run (record { vfs = 0; fifo = 64; limit = 100000 }))) }
+        (Input (Text (Run (record { vfs = 0; fifo = 64; limit = 100000 })))) }
 {}
 
 /// A value stands after its option or after `=`, with a plus or zeros in front or not.
 pub fn run_with_options()
     ensures { Asks (codes "nicbench" ∷ codes "run" ∷ codes "--vfs" ∷ codes "63"
         ∷ codes "--limit=+5" ∷ codes "--fifo" ∷ codes "004096" ∷ [])
-        (Text (Run (record { vfs = 63; fifo = 4096; limit = 5 }))) }
+        (Input (Text (Run (record { vfs = 63; fifo = 4096; limit = 5 })))) }
 {}
 
 /// `nicbench debug` asks for the same controller, and takes the options that say another.
 pub fn debug_either_way()
     ensures alone { Asks (codes "nicbench" ∷ codes "debug" ∷ [])
-        (Text (Debug (record { vfs = 0; fifo = 64 }))) }
+        (Input (Text (Debug (record { vfs = 0; fifo = 64 })))) }
     ensures with_options { Asks (codes "nicbench" ∷ codes "debug" ∷ codes "--fifo=1"
-        ∷ codes "--vfs" ∷ codes "2" ∷ []) (Text (Debug (record { vfs = 2; fifo = 1 }))) }
+        ∷ codes "--vfs" ∷ codes "2" ∷ []) (Input (Text (Debug (record { vfs = 2; fifo = 1 })))) }
 {}
 
 /// `nicbench hash` asks for hashes.
 pub fn hash_alone()
-    ensures { Asks (codes "nicbench" ∷ codes "hash" ∷ []) (Text Hash) }
+    ensures { Asks (codes "nicbench" ∷ codes "hash" ∷ []) (Input (Text Hash)) }
 {}
 
 /// `nicbench asm` asks for an object, `nicbench dis` for a script.
 pub fn objects_either_way()
-    ensures object { Asks (codes "nicbench" ∷ codes "asm" ∷ []) (Text Asm) }
-    ensures script { Asks (codes "nicbench" ∷ codes "dis" ∷ []) (Bytes Dis) }
+    ensures object { Asks (codes "nicbench" ∷ codes "asm" ∷ []) (Input (Text Asm)) }
+    ensures script { Asks (codes "nicbench" ∷ codes "dis" ∷ []) (Input (Bytes Dis)) }
 {}
 
 /// `nicbench eeprom` asks for an image, and with `--load` for what an image writes.
 pub fn eeprom_either_way()
-    ensures image { Asks (codes "nicbench" ∷ codes "eeprom" ∷ []) (Text Eeprom) }
+    ensures image { Asks (codes "nicbench" ∷ codes "eeprom" ∷ []) (Input (Text Eeprom)) }
     ensures load { Asks (codes "nicbench" ∷ codes "eeprom" ∷ codes "--load" ∷ [])
-        (Bytes LoadEeprom) }
+        (Input (Bytes LoadEeprom)) }
+{}
+
+/// `nicbench threads` asks for so many workers and frames.
+pub fn threads_with_options()
+    ensures { Asks (codes "nicbench" ∷ codes "threads" ∷ codes "--workers" ∷ codes "8"
+        ∷ codes "--frames=60" ∷ []) (Threads (record { workers = 8; frames = 60 })) }
+{}
+
+/// `nicbench threads` wants both options, from 1 to 8 workers and at most 60 frames.
+pub fn refused_threads()
+    ensures no_worker { refusal_of (codes "nicbench" ∷ codes "threads" ∷ codes "--workers"
+        ∷ codes "0" ∷ codes "--frames" ∷ codes "1" ∷ []) ≡ kind.ValueValidation ∷ [] }
+    ensures nine_workers { refusal_of (codes "nicbench" ∷ codes "threads" ∷ codes "--workers"
+        ∷ codes "9" ∷ codes "--frames" ∷ codes "1" ∷ []) ≡ kind.ValueValidation ∷ [] }
+    ensures many_frames { refusal_of (codes "nicbench" ∷ codes "threads" ∷ codes "--workers"
+        ∷ codes "1" ∷ codes "--frames" ∷ codes "61" ∷ []) ≡ kind.ValueValidation ∷ [] }
+    ensures without_workers { refusal_of (codes "nicbench" ∷ codes "threads" ∷ codes "--frames"
+        ∷ codes "1" ∷ []) ≡ kind.MissingRequiredArgument ∷ [] }
+    ensures without_frames { refusal_of (codes "nicbench" ∷ codes "threads" ∷ codes "--workers"
+        ∷ codes "1" ∷ []) ≡ kind.MissingRequiredArgument ∷ [] }
 {}
 
 /// A number beyond the option's type, an option twice, a further word behind either command, an unknown

@@ -9,8 +9,10 @@ pub mod examples;
 mod parse;
 mod request;
 mod run_options;
+mod threads_options;
 
 pub use debug_options::DebugOptions;
 pub use parse::asked;
-pub use request::{BytesRequest, Request, TextRequest};
+pub use request::{Asked, BytesRequest, Request, TextRequest};
 pub use run_options::RunOptions;
+pub use threads_options::ThreadsOptions;

@@ -2,13 +2,14 @@
 ghost use Rattle.std.specs.Prelude.{◌≡◌, IfErr, IfOk, map, option_and_then};
 ghost use Rattle.clap.specs.Words.{FailsBy, HasKind, HasMatchesOf, fault_of, found_of, kind_of, rows_of};
 ghost use Rattle.clap.specs.Words.{subcommand_rows_of};
-ghost use Rattle.command_line.specs.Asked.{Asks, eeprom_of, refusal_of, request_of};
+ghost use Rattle.command_line.specs.Asked.{Asks, asked_of, eeprom_of, refusal_of, request_of};
 ghost use Rattle.command_line.specs.Commands.{nicbench_app};
 
 use crate::commands::nicbench;
 use crate::debug_options::debug_options_in;
-use crate::request::{BytesRequest, Request, TextRequest};
+use crate::request::{Asked, BytesRequest, Request, TextRequest};
 use crate::run_options::options_in;
+use crate::threads_options::threads_options_in;
 use clap::error::ErrorKind;
 use clap::{ArgMatches, Error};
 use std::alloc::Global;
@@ -45,7 +46,7 @@ fn eeprom_in(matches: &ArgMatches<'_>) -> Request
     }
 }
 
-/// What the command of this name asks for, by its matches.
+/// How the command of this name asks for the input to be answered, by its matches.
 fn request_named(name: &str, matches: &ArgMatches<'_>) -> Option<Request>
     ensures { result ≡ request_of name.now (rows_of (found_of matches.now)) }
 {
@@ -66,28 +67,41 @@ fn request_named(name: &str, matches: &ArgMatches<'_>) -> Option<Request>
     }
 }
 
+/// What the command of this name asks for, by its matches.
+fn asked_named(name: &str, matches: &ArgMatches<'_>) -> Option<Asked>
+    ensures { result ≡ asked_of name.now (rows_of (found_of matches.now)) }
+{
+    if name == "threads" {
+        return Some(Asked::Threads(threads_options_in(matches)));
+    }
+    match request_named(name, matches) {
+        Some(request) => Some(Asked::Input(request)),
+        None => None,
+    }
+}
+
 /// What the command in the matches asks for.
-fn request_in(matches: &ArgMatches<'_>) -> Option<Request>
-    ensures { result ≡ option_and_then (λ command. request_of command.0 command.1)
+fn asked_in(matches: &ArgMatches<'_>) -> Option<Asked>
+    ensures { result ≡ option_and_then (λ command. asked_of command.0 command.1)
         (subcommand_rows_of matches.now) }
 {
     match matches.subcommand() {
-        Some((name, matches)) => request_named(name, matches),
+        Some((name, matches)) => asked_named(name, matches),
         None => None,
     }
 }
 
 /// What the words ask for, the program's own name first. An `Err` has the text for whoever wrote them:
 /// why they were refused, or the help or the version that they asked for.
-pub fn asked<'a, S: AsStr>(alloc: Global, words: &'a [S]) -> Result<Request, Error>
+pub fn asked<'a, S: AsStr>(alloc: Global, words: &'a [S]) -> Result<Asked, Error>
     ensures ok { IfOk result (Asks (map S.text words.entry.now)) }
     ensures refused { IfErr result (HasKind (refusal_of (map S.text words.entry.now))) }
-    ensures no_memory { (request : Request) → Asks (map S.text words.entry.now) request
+    ensures no_memory { (asked : Asked) → Asks (map S.text words.entry.now) asked
         → IfErr result (λ e. kind_of e ≡ ErrorKind.OutOfMemory) }
 {
     let matches = matches_in(alloc, words)?;
-    match request_in(&matches) {
-        Some(request) => Ok(request),
+    match asked_in(&matches) {
+        Some(asked) => Ok(asked),
         None => Err(unknown_command(alloc)?),
     }
 }

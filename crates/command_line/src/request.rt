@@ -1,8 +1,18 @@
 //! What words ask for.
 use crate::debug_options::DebugOptions;
 use crate::run_options::RunOptions;
+use crate::threads_options::ThreadsOptions;
 
 /// What the words ask for.
+#[derive(Clone, Copy, Debug, PartialEq, Eq)]
+pub enum Asked {
+    /// That the input be read and answered.
+    Input(Request),
+    /// `nicbench threads`: that workers drive a controller that they share, with these options. No input is read.
+    Threads(ThreadsOptions),
+}
+
+/// How the input is to be answered.
 #[derive(Clone, Copy, Debug, PartialEq, Eq)]
 pub enum Request {
     /// A command that reads a text.

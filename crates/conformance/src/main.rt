@@ -129,13 +129,18 @@ fn has_lines(printed: &str, lines: &str) -> bool {
     true
 }
 
+/// No status of the program: what is told of words that leave threads to be run.
+const NOT_ENDED: u8 = 255;
+
 /// What a run prints, and the status that it ends with.
 fn answer(alloc: Global, words: &str, script: &str) -> Result<(String, u8), AllocError> {
     let words: Vec<&str> = words.split_whitespace().collect(alloc)?;
     let mut input = Input::of(script.as_bytes());
     let mut written = Vec::new(alloc);
     let mut output = Output::of(&mut written);
-    let Outcome::Ended(status) = bench(alloc, &mut input, &mut output, words.as_slice());
+    let Outcome::Ended(status) = bench(alloc, &mut input, &mut output, words.as_slice()) else {
+        return Ok((String::new(alloc), NOT_ENDED));
+    };
     let printed = String::from_utf8(written).unwrap_or(String::new(alloc));
     Ok((printed, status))
 }

@@ -2,6 +2,7 @@
 
 use crate::fakes::{Drip, FailingReader, FailingWriter, Flood, Newlines};
 use bench::{Failure, Input, InputFault, Outcome, Output, answer, bench, read_input};
+use command_line::{Request, RunOptions, TextRequest};
 use std::alloc::Global;
 use std::io::Read;
 use std::process::Abort;
@@ -9,6 +10,14 @@ use std::process::Abort;
 const RUN: [&str; 2] = ["nicbench", "run"];
 
 const HASH: [&str; 2] = ["nicbench", "hash"];
+
+const RUN_REQUEST: Request = Request::Text(TextRequest::Run(RunOptions {
+    vfs: 0,
+    fifo: 64,
+    limit: 100_000,
+}));
+
+const HASH_REQUEST: Request = Request::Text(TextRequest::Hash);
 
 const SCRIPT: &[u8] = b"w GPIE 1\nr GPIE\n";
 
@@ -33,9 +42,9 @@ fn answers<R: Read>(
 ) {
     let mut written = Vec::new(alloc);
     let mut output = Output::of(&mut written);
-    let Outcome::Ended(status) = bench(alloc, &mut Input::of(reader), &mut output, words);
+    let outcome = bench(alloc, &mut Input::of(reader), &mut output, words);
     assert!(rt; written.as_slice() == answer.as_bytes(), "{answer:?}");
-    assert!(rt; status == wanted, "{answer:?}");
+    assert!(rt; outcome == Outcome::Ended(wanted), "{answer:?}");
 }
 
 /// A text of 8,388,608 bytes is read, and one more byte is too long.
@@ -98,8 +107,11 @@ fn writer(taken: u32) -> FailingWriter {
 fn fails_at(rt: &impl Abort, alloc: Global, words: &[&str], input: &[u8], taken: u32) -> bool {
     let mut writer = writer(taken);
     let mut output = Output::of(&mut writer);
-    let Outcome::Ended(status) = bench(alloc, &mut Input::of(input), &mut output, words);
-    assert!(rt; status == 2 && writer.later == 0, "{taken} writes");
+    let outcome = bench(alloc, &mut Input::of(input), &mut output, words);
+    assert!(rt;
+        outcome == Outcome::Ended(2) && writer.later == 0,
+        "{taken} writes"
+    );
     writer.has_failed
 }
 
@@ -121,16 +133,16 @@ fn failing_writers(rt: HostRuntime) {
 #[test]
 fn failures(rt: HostRuntime) {
     let alloc = rt.alloc();
-    for (words, input) in [(&RUN, SCRIPT), (&HASH, HASHED)] {
+    for (request, input) in [(RUN_REQUEST, SCRIPT), (HASH_REQUEST, HASHED)] {
         let mut written = Vec::new(alloc);
         let mut failing = Input::of(FailingReader(1));
-        let read = answer(alloc, &mut failing, &mut Output::of(&mut written), words);
+        let read = answer(alloc, &mut failing, &mut Output::of(&mut written), request);
         assert!(rt; read == Err(Failure::Read) && written.is_empty());
         let mut output = Output::of(writer(0));
-        let write = answer(alloc, &mut Input::of(input), &mut output, words);
+        let write = answer(alloc, &mut Input::of(input), &mut output, request);
         assert!(rt; write == Err(Failure::Write) && output.has_failed());
         let mut output = Output::of(&mut written);
-        let done = answer(alloc, &mut Input::of(input), &mut output, words);
+        let done = answer(alloc, &mut Input::of(input), &mut output, request);
         assert!(rt; done == Ok(0) && !output.has_failed());
     }
 }

@@ -19,4 +19,8 @@ mod outcome;
 #[cfg(test)]
 mod packet_memory;
 #[cfg(test)]
+mod poll_loop;
+#[cfg(test)]
 mod sizes;
+#[cfg(test)]
+mod threads;

@@ -11,8 +11,8 @@ fn ends_so(alloc: Global, script: &str, end: &str, wanted: u8) -> bool {
     let mut input = Input::of(script.as_bytes());
     let mut written = Vec::new(alloc);
     let mut output = Output::of(&mut written);
-    let Outcome::Ended(status) = bench(alloc, &mut input, &mut output, &["nicbench", "run"]);
-    status == wanted && written.as_slice().ends_with(end.as_bytes())
+    let outcome = bench(alloc, &mut input, &mut output, &["nicbench", "run"]);
+    outcome == Outcome::Ended(wanted) && written.as_slice().ends_with(end.as_bytes())
 }
 
 /// A start, so many times a part, and the rest.

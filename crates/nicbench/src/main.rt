@@ -2,9 +2,13 @@
 #![tactic(auto)]
 
 use bench::{Input, Outcome, Output, bench};
+use std::alloc::Global;
 use std::env;
 use std::io::{self, BufWriter, ErrorKind, Write};
 use std::process::ExitCode;
+use std::sync::Wait;
+use std::thread::Threads;
+use threads_bench::bench_threads;
 
 /// The status of standard input or standard output that fail.
 const FAILED: u8 = 2;
@@ -17,7 +21,8 @@ const NO_MEMORY: u8 = 4;
 
 fn main(rt: HostRuntime) -> ExitCode {
     let status = match run(&rt) {
-        Ok(status) => status,
+        Ok(Outcome::Ended(status)) => status,
+        Ok(Outcome::Threads { workers, frames }) => run_threads(&rt, rt.alloc(), workers, frames),
         Err(error) => match error.kind() {
             ErrorKind::OutOfMemory => refused_for_memory(&rt),
             ErrorKind::InvalidData => REFUSED_WORDS,
@@ -35,14 +40,32 @@ fn refused_for_memory(rt: &HostRuntime) -> u8 {
     }
 }
 
-/// Runs the bench on the process's words, standard input and standard output, and gives its status.
-fn run(rt: &HostRuntime) -> io::Result<u8> {
+/// Runs the bench on the process's words, standard input and standard output. How it ends.
+fn run(rt: &HostRuntime) -> io::Result<Outcome> {
     let alloc = rt.alloc();
     let words: Vec<String> = env::args(rt)?.collect(alloc)?;
     let mut writer = BufWriter::new(alloc, rt.stdout())?;
     let mut input = Input::of(rt.stdin());
     let mut output = Output::of(&mut writer);
-    let Outcome::Ended(status) = bench(alloc, &mut input, &mut output, words.as_slice());
+    let outcome = bench(alloc, &mut input, &mut output, words.as_slice());
     writer.flush()?;
-    Ok(status)
+    Ok(outcome)
+}
+
+/// Runs workers on threads, prints what they tell on standard output, and gives the status.
+fn run_threads<R: Print + Threads + Wait + Sync>(
+    rt: &R,
+    alloc: Global,
+    workers: u8,
+    frames: u8,
+) -> u8 {
+    let Ok(mut writer) = BufWriter::new(alloc, io::writer(rt)) else {
+        return NO_MEMORY;
+    };
+    let mut output = Output::of(&mut writer);
+    let status = bench_threads(rt, alloc, &mut output, workers, frames);
+    match writer.flush() {
+        Ok(()) => status,
+        Err(_) => FAILED,
+    }
 }

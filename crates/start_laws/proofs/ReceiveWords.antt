@@ -28,14 +28,8 @@ use Rattle.device_laws.proofs.StandingAccesses.{write_rest}
 use Rattle.device_lock.specs.Alone.{is_setting}
 use Rattle.history_laws.specs.Aligned.{AreAligned}
 use Rattle.history_laws.proofs.Written.{merged_low, merged_all}
-<<<<<<< HEAD
-use Rattle.history_laws.proofs.Sparing.{no_setting}
-use Rattle.start_laws.specs.Words.{receive_with, transmit_with, FitsReceive, FitsTransmit, NamesRow, KeepsGround, TakesReceive, TakesTransmit, ReceiveWordsAreTaken, TransmitWordsAreTaken}
-use Rattle.start_laws.proofs.Masks.{merged-high, merged-length, merged-even}
-=======
 use Rattle.start_laws.specs.Words.{receive_with, FitsReceive, NamesRow, TakesReceive, ReceiveWordsAreTaken}
 use Rattle.start_laws.proofs.Masks.{merged-high, merged-length}
->>>>>>> a58c76860d8a4846b2610560b77aa2d678b452a9
 use Rattle.start_laws.proofs.Words.{ground, wrote}
 
 module _ (queue : ℕ) (s : State) (small : queue < 128) (sound : IsSound s) (aligned : AreAligned s.registers)

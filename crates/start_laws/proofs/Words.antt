@@ -18,16 +18,8 @@ use Rattle.device_laws.proofs.KeptSettings.{settings_stand}
 use Rattle.device_laws.proofs.Standing.{stays_within}
 use Rattle.device_laws.proofs.StandingAccesses.{write_memory}
 use Rattle.device_lock.specs.Alone.{is_setting}
-<<<<<<< HEAD
-use Rattle.history_laws.specs.Aligned.{AreAligned}
-use Rattle.history_laws.proofs.Written.{merged_low, merged_all}
-use Rattle.history_laws.proofs.Sparing.{no_setting}
-use Rattle.start_laws.specs.Words.{receive_with, transmit_with, FitsReceive, FitsTransmit, NamesRow, KeepsGround, TakesReceive, TakesTransmit, ReceiveWordsAreTaken, TransmitWordsAreTaken}
-use Rattle.start_laws.proofs.Masks.{merged-high, merged-length, merged-even}
-=======
 use Rattle.history_laws.proofs.Sparing.{no_setting}
 use Rattle.start_laws.specs.Words.{NamesRow, KeepsGround}
->>>>>>> a58c76860d8a4846b2610560b77aa2d678b452a9
 
 module _ (queue : ℕ) (s : State) (port : Port) (n word : ℕ) (row : RowId) (names : NamesRow s port n row queue) where
   abbrev t : State

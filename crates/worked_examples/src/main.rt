@@ -39,12 +39,17 @@ const IMAGES: [&str; 1] = ["image"];
 /// The scripts whose objects stand beside them.
 const OBJECTS: [&str; 1] = ["first"];
 
+/// No status of the program: what is told of words that leave threads to be run.
+const NOT_ENDED: u8 = 255;
+
 /// What the program writes for an input, and the status that it ends with.
 fn answer(alloc: Global, words: &[&str], input: &[u8]) -> (Vec<u8>, u8) {
     let mut written = Vec::new(alloc);
     let mut output = Output::of(&mut written);
-    let Outcome::Ended(status) = bench(alloc, &mut Input::of(input), &mut output, words);
-    (written, status)
+    match bench(alloc, &mut Input::of(input), &mut output, words) {
+        Outcome::Ended(status) => (written, status),
+        Outcome::Threads { .. } => (written, NOT_ENDED),
+    }
 }
 
 /// A file of the examples.

@@ -1,0 +1,47 @@
+-- What a run prints.
+use Rattle.std.specs.Prelude.{◌≡◌, ℕ, suc, ◌+◌, Bool, true, false, List, [], ◌∷◌, ◌++◌, Option, codes, decimal, length, count_by, map}
+use Rattle.std.specs.Io.KnownBytes.{Appends}
+use Rattle.dma_arena.specs.Block.{Block}
+use Rattle.nic_device.specs.State.{new_state}
+use Rattle.nic_device.specs.declared.event.Reply.{Reply}
+use Rattle.nic_device.specs.declared.event.Reply.TheVariants.{Sent}
+use Rattle.device_lock.specs.declared.entry.Entry.{Entry}
+use Rattle.device_lock.specs.History.{IsLegal}
+use Rattle.workers.specs.declared.reports.Report.{Report}
+
+-- how many bytes the packets of reports have
+abbrev pub byte_count : List Report → ℕ
+byte_count [] = 0
+byte_count (report ∷ reports) = report.len + byte_count reports
+
+abbrev pub is_sent : Reply Block → Bool
+is_sent (Sent queue len back) = true
+is_sent other = false
+
+-- how many frames were sent in a history
+abbrev pub sent_in : List Entry → ℕ
+sent_in history = count_by (λ (e : Entry). is_sent e.reply) history
+
+-- the line of a queue, by the reports of its worker
+abbrev pub queue_line : ℕ → List Report → List ℕ
+queue_line queue reports = codes "queue " ++ (decimal queue ++ (codes " packets " ++ (decimal (length reports)
+    ++ (codes " bytes " ++ (decimal (byte_count reports) ++ codes "\n")))))
+
+-- the lines of queues, the first of them by its number
+abbrev pub queue_lines : ℕ → List (List Report) → List ℕ
+queue_lines queue [] = []
+queue_lines queue (reports ∷ rest) = queue_line queue reports ++ queue_lines (suc queue) rest
+
+-- the lines of all queues, and how many frames were sent
+abbrev pub summary_text : List (List Report) → ℕ → List ℕ
+summary_text reports sent = queue_lines 0 reports
+    ++ (codes "sent " ++ (decimal sent ++ codes "\nhistory legal\n"))
+
+-- so many frames were sent in a history of the controller that is legal
+abbrev pub IsTold : ℕ → Type 0
+IsTold sent = (history : List Entry) × IsLegal (new_state 0 64) history × (sent ≡ sent_in history)
+
+-- the summary of so many queues is written, and of a legal history
+abbrev pub Tells : ℕ → Option (List ℕ) → Option (List ℕ) → Type 0
+Tells queues old new = (reports : List (List Report)) × (sent : ℕ) × (length reports ≡ queues) × IsTold sent
+    × Appends old new (summary_text reports sent)

@@ -1,0 +1,80 @@
+//! How what a run holds is ended.
+
+use crate::refused::Refused;
+use dma_arena::Arena;
+use nic_device::{Device, Parts};
+use pmd::Rest;
+use pmd_halt::Home;
+use std::mem::ManuallyDrop;
+use workers::Job;
+
+/// Leaves a value that can't be dropped and can't be ended either. Its memory is lost to the process, which ends next:
+/// this happens only on the way to a status other than 0.
+pub(crate) fn leave<T>(value: T) {
+    // The value is moved in, so that nobody uses it again, and nothing else refers to what it owns.
+    let _left = unsafe { ManuallyDrop::new_unchecked(value) };
+}
+
+/// Ends an arena. It is left where a block of it isn't free.
+pub(crate) fn end_arena(arena: Arena) -> Result<(), Refused> {
+    match arena.close() {
+        Ok(()) => Ok(()),
+        Err(arena) => {
+            leave(arena);
+            Err(Refused::Other)
+        }
+    }
+}
+
+/// Ends jobs that aren't done.
+pub(crate) fn end_jobs(jobs: Vec<Job>) {
+    let mut jobs = jobs;
+    while let Some(job) = jobs.pop() {
+        let Job {
+            pass: _,
+            port: _,
+            queue: _,
+            pf_queue: _,
+            size: _,
+            arena,
+            rounds: _,
+        } = job;
+        let _ended = end_arena(arena);
+    }
+    jobs.destroy_empty();
+}
+
+/// Ends what a driver left. A driver that didn't stop is left.
+pub(crate) fn end_rest(rest: Rest) -> Result<(), Refused> {
+    match rest {
+        Rest::Home(home) => {
+            let Home {
+                arena,
+                lost: _,
+                handed: _,
+                accepted: _,
+            } = home;
+            end_arena(arena)
+        }
+        Rest::Running(pmd) => {
+            leave(pmd);
+            Err(Refused::Other)
+        }
+    }
+}
+
+/// Ends a device. Memory that is still lent to it is left.
+pub(crate) fn end_device(device: Device) -> Result<(), Refused> {
+    let Parts {
+        memory,
+        frames: _,
+        image: _,
+    } = device.dismantle();
+    match memory.finish() {
+        Ok(()) => Ok(()),
+        Err(memory) => {
+            leave(memory);
+            Err(Refused::Other)
+        }
+    }
+}

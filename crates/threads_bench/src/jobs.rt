@@ -1,0 +1,81 @@
+//! How the controller is set up, and what the workers are to do.
+
+ghost use Rattle.std.specs.Prelude.{◌≡◌, ◌≤◌, IfOk, vec_len};
+
+use crate::ending::end_jobs;
+use crate::refused::Refused;
+use device_lock::Pass;
+use dma_arena::Arena;
+use nic_device::Port;
+use pmd_base::Setup;
+use std::alloc::{AllocError, Global};
+use vf_map::Mode;
+use workers::Job;
+
+/// MRQC: RSS by the redirection table, of TCP over IPv4 and over IPv6.
+const RSS_OF_TCP: u32 = 0x0021_0001;
+
+/// The key of the published vectors of the RSS hash.
+pub const KEY: [u8; 40] = [
+    0x6D, 0x5A, 0x56, 0xDA, 0x25, 0x5B, 0x0E, 0xC2, 0x41, 0x67, 0x25, 0x3D, 0x43, 0xA3, 0x8F, 0xB0,
+    0xD0, 0xCA, 0x2B, 0xCB, 0xAE, 0x7B, 0x30, 0xB4, 0x77, 0xCB, 0x2D, 0xA3, 0x80, 0x30, 0xF2, 0x0C,
+    0x6A, 0x42, 0xB7, 0x3B, 0xBE, 0xAC, 0x01, 0xFA,
+];
+
+/// How many blocks each worker has.
+const BLOCKS: u32 = 256;
+
+/// How many descriptors each ring has.
+const SIZE: u16 = 64;
+
+/// A promiscuous controller without pools. A TCP segment goes to queue i mod `workers` by entry i of the redirection
+/// table.
+pub(crate) fn setup(workers: u8) -> Setup {
+    let mut reta = [0; 128];
+    for entry in 0..128u8 {
+        reta[usize::from(entry)] = entry.checked_rem(workers).unwrap_or(0);
+    }
+    Setup {
+        mode: Mode::Off,
+        mrqc: RSS_OF_TCP,
+        key: KEY,
+        reta,
+        promiscuous: true,
+    }
+}
+
+/// The job of a worker by its number, on the queue of the same number. It looks twice for each frame, and twice more.
+fn job(alloc: Global, pass: Pass, worker: u8, frames: u8) -> Result<Job, AllocError> {
+    let Ok(arena) = Arena::new(alloc, BLOCKS * u32::from(worker), BLOCKS) else {
+        return Err(AllocError);
+    };
+    Ok(Job {
+        pass,
+        port: Port::Pf,
+        queue: u16::from(worker),
+        pf_queue: u16::from(worker),
+        size: SIZE,
+        arena,
+        rounds: 2 * u32::from(frames) + 2,
+    })
+}
+
+/// A job for each pass, in their order.
+pub(crate) fn jobs(alloc: Global, passes: Vec<Pass>, frames: u8) -> Result<Vec<Job>, Refused>
+    requires { vec_len passes ≤ 8 }
+    ensures { IfOk result (λ jobs. vec_len jobs ≡ vec_len passes) }
+{
+    let mut jobs = Vec::with_capacity(alloc, passes.len())?;
+    let mut worker = 0;
+    for pass in passes {
+        match job(alloc, pass, worker, frames) {
+            Ok(job) => jobs.push_reserved(job),
+            Err(refused) => {
+                end_jobs(jobs);
+                return Err(Refused::from(refused));
+            }
+        }
+        worker += 1;
+    }
+    Ok(jobs)
+}

@@ -1,0 +1,17 @@
+//! `nicbench threads`: workers that drive queues of one controller, each on a thread of its own.
+//!
+//! `bench_threads` shares a controller, sets it up, lets frames arrive while the workers receive and send them, closes
+//! the history, and prints what went through each queue. The program's `main` stands on this crate.
+#![tactic(auto)]
+
+mod ending;
+mod frames;
+mod gathered;
+mod jobs;
+mod refused;
+mod summary;
+mod threads;
+
+pub use frames::{OVER_IPV4, OVER_IPV6};
+pub use jobs::KEY;
+pub use threads::bench_threads;

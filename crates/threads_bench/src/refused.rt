@@ -1,0 +1,100 @@
+//! Why a run prints nothing.
+
+ghost use Rattle.std.specs.Prelude.{◌≡◌};
+ghost use Rattle.threads_bench.specs.Refused.{both_done, status_of};
+
+use device_lock::{CallFault, CloseFault, NewFault};
+use pmd_base::PmdFault;
+use std::alloc::AllocError;
+use worker_runs::WorkerFault;
+use worker_team::RunFault;
+
+/// Why a run prints nothing.
+#[derive(Clone, Copy, PartialEq, Eq, Debug)]
+pub(crate) enum Refused {
+    /// There was no memory for something.
+    OutOfMemory,
+    /// Something was refused, and nothing of it for memory.
+    Other,
+}
+
+impl Refused {
+    /// The status that it ends with.
+    pub(crate) fn status(self) -> u8
+        ensures { result ≡ status_of self }
+    {
+        match self {
+            Refused::OutOfMemory => 4,
+            Refused::Other => 2,
+        }
+    }
+}
+
+/// Whether two things are done; where one was refused for memory, so is this.
+pub(crate) fn both(first: Result<(), Refused>, second: Result<(), Refused>) -> Result<(), Refused>
+    ensures { result ≡ both_done first second }
+{
+    match (first, second) {
+        (Ok(()), second) => second,
+        (Err(Refused::OutOfMemory), _) => Err(Refused::OutOfMemory),
+        (Err(Refused::Other), Err(Refused::OutOfMemory)) => Err(Refused::OutOfMemory),
+        (Err(Refused::Other), _) => Err(Refused::Other),
+    }
+}
+
+impl From<AllocError> for Refused {
+    fn from(_refused: AllocError) -> Refused {
+        Refused::OutOfMemory
+    }
+}
+
+impl From<NewFault> for Refused {
+    fn from(fault: NewFault) -> Refused {
+        match fault {
+            NewFault::OutOfMemory => Refused::OutOfMemory,
+            NewFault::Passes | NewFault::Limit => Refused::Other,
+        }
+    }
+}
+
+impl From<CloseFault> for Refused {
+    fn from(fault: CloseFault) -> Refused {
+        match fault {
+            CloseFault::OutOfMemory => Refused::OutOfMemory,
+            CloseFault::MissingPass(_) | CloseFault::ForeignPass | CloseFault::Mismatch(_) =>
+                Refused::Other,
+        }
+    }
+}
+
+impl From<PmdFault> for Refused {
+    fn from(fault: PmdFault) -> Refused {
+        match fault {
+            PmdFault::Call(CallFault::OutOfMemory(())) => Refused::OutOfMemory,
+            PmdFault::Call(CallFault::ForeignPass(()) | CallFault::HistoryFull(()))
+            | PmdFault::BadSize
+            | PmdFault::ForeignBlock
+            | PmdFault::StartTimeout
+            | PmdFault::NoBuffer
+            | PmdFault::DeviceFault => Refused::Other,
+        }
+    }
+}
+
+impl From<WorkerFault> for Refused {
+    fn from(fault: WorkerFault) -> Refused {
+        match fault {
+            WorkerFault::Pmd(fault) => Refused::from(fault),
+            WorkerFault::GateShut | WorkerFault::NoThread => Refused::Other,
+        }
+    }
+}
+
+impl From<RunFault> for Refused {
+    fn from(fault: RunFault) -> Refused {
+        match fault {
+            RunFault::OutOfMemory => Refused::OutOfMemory,
+            RunFault::NoJobs | RunFault::Overlap(_) => Refused::Other,
+        }
+    }
+}

@@ -1,0 +1,169 @@
+//! The run, from options to a status.
+
+ghost use Rattle.std.specs.Prelude.{◌≡◌, ◌≢◌, ◌+◌, ◌≤◌, ◌<◌, ◌⊎◌, IfOk, true, vec_len};
+ghost use Rattle.threads_bench.specs.Summary.{IsTold, Tells};
+
+use crate::ending::{end_device, end_jobs, leave};
+use crate::frames::frames;
+use crate::gathered::{Gathered, gather};
+use crate::jobs::{jobs, setup};
+use crate::refused::Refused;
+use crate::summary::{Summary, sent_in, write_summary};
+use bench::Output;
+use device_lock::{CloseRefused, Pass, Shared};
+use lockstep::Lockstep;
+use pmd_base::pf_setup;
+use pmd_lock::ThroughLock;
+use std::alloc::Global;
+use std::io::Write;
+use std::sync::Wait;
+use std::thread::Threads;
+use worker_team::{RunRefused, run_workers};
+
+/// The controller that the workers share.
+type Bench = Shared<0, 64>;
+
+/// How many entries its history may have.
+const LIMIT: u32 = 1_000_000;
+
+/// How many workers there are at most.
+const MAX_WORKERS: u8 = 8;
+
+/// Sets the controller up by a pass, which steps on queue 0.
+fn set_up<R: Wait>(
+    rt: &R,
+    alloc: Global,
+    bench: &Bench,
+    pass: Pass,
+    workers: u8,
+) -> Result<Pass, Refused> {
+    let mut nic = ThroughLock::new(rt, bench, pass, 0);
+    let done = pf_setup(alloc, &mut nic, &setup(workers));
+    let pass = nic.finish();
+    match done {
+        Ok(()) => Ok(pass),
+        Err(fault) => Err(Refused::from(fault)),
+    }
+}
+
+/// Sets the controller up by the last pass, and runs a worker by each other one while frames arrive. All passes come
+/// back.
+fn drive<R: Threads + Wait + Sync>(
+    rt: &R,
+    alloc: Global,
+    bench: &Bench,
+    passes: Vec<Pass>,
+    workers: u8,
+    count: u8,
+) -> Result<Gathered, Refused>
+    requires few { workers ≤ 8 }
+    requires passes { vec_len passes ≡ workers + 1 }
+    ensures { IfOk result (λ g. vec_len g.reports ≡ workers) }
+{
+    let mut passes = passes;
+    let Some(pass) = passes.pop() else {
+        unreachable!();
+    };
+    let mut pass = set_up(rt, alloc, bench, pass, workers)?;
+    let arriving = frames(alloc, count)?;
+    let jobs = jobs(alloc, passes, count)?;
+    let gate = Lockstep::new(rt, usize::from(workers) + 1);
+    match run_workers(rt, alloc, &gate, bench, jobs, &mut pass, arriving) {
+        Ok(ran) => {
+            let mut gathered = gather(alloc, ran, count)?;
+            match gathered.passes.push(pass) {
+                Ok(()) => Ok(gathered),
+                Err(_) => Err(Refused::OutOfMemory),
+            }
+        }
+        Err(
+            RunRefused {
+                fault,
+                jobs,
+                frames: _,
+            },
+        ) => {
+            end_jobs(jobs);
+            Err(Refused::from(fault))
+        }
+    }
+}
+
+/// Closes the history. How many frames were sent in it.
+fn close(bench: Bench, passes: Vec<Pass>) -> Result<usize, Refused>
+    ensures { IfOk result (λ sent. IsTold sent) }
+{
+    match bench.close(passes) {
+        Ok(closed) => {
+            let sent = sent_in(closed.history());
+            end_device(closed.into_device())?;
+            Ok(sent)
+        }
+        Err(
+            CloseRefused {
+                fault,
+                shared,
+                passes: _,
+            },
+        ) => {
+            leave(shared);
+            Err(Refused::from(fault))
+        }
+    }
+}
+
+/// Runs workers while frames arrive.
+fn run<R: Threads + Wait + Sync>(
+    rt: &R,
+    alloc: Global,
+    workers: u8,
+    count: u8,
+) -> Result<Summary, Refused>
+    requires { workers ≤ 8 }
+    ensures { IfOk result (λ s. (vec_len s.reports ≡ workers) × IsTold s.sent) }
+{
+    let (bench, passes) = Bench::new(alloc, 0, workers + 1, LIMIT)?;
+    match drive(rt, alloc, &bench, passes, workers, count) {
+        Ok(Gathered { passes, reports }) => {
+            let sent = close(bench, passes)?;
+            Ok(Summary { reports, sent })
+        }
+        Err(refused) => {
+            leave(bench);
+            Err(refused)
+        }
+    }
+}
+
+/// Runs workers on a controller that they share, one on each of the queues from 0 on, while so many frames arrive: TCP
+/// over IPv4 and over IPv6 in turn, which RSS parts among the queues. Each worker sends again what it receives. Then it
+/// writes a line for each queue, with how many packets its worker received and how many bytes these have, how many
+/// frames were sent, and that the history of the controller is legal. The status is 0 then.
+///
+/// It waits for locks and for the threads. Nothing is written where something is refused, a worker ends with a fault,
+/// or fewer frames arrive: the status is 4 where one of these is for memory, or fewer frames arrive, and else 2. There
+/// are from 1 to 8 workers: with another number the status is 2. Where a write fails it is 2.
+pub fn bench_threads<R: Threads + Wait + Sync, W: Write>(
+    rt: &R,
+    alloc: Global,
+    output: &mut Output<W>,
+    workers: u8,
+    frames: u8,
+) -> u8
+    ensures status { (result ≡ 0) ⊎ ((result ≡ 2) ⊎ (result ≡ 4)) }
+    ensures told { result ≡ 0 → Tells workers (W.contents output.old.writer) (W.contents output.new.writer) }
+    ensures silent { result ≢ 0 → (output.new ≡ output.old) ⊎ (output.new.has_failed ≡ true) }
+    ensures memory { result ≡ 4 → output.new ≡ output.old }
+    ensures many { 8 < workers → (result ≡ 2) × (output.new ≡ output.old) }
+{
+    if workers > MAX_WORKERS {
+        return 2;
+    }
+    match run(rt, alloc, workers, frames) {
+        Ok(summary) => match write_summary(output, &summary) {
+            Ok(()) => 0,
+            Err(_) => 2,
+        },
+        Err(refused) => refused.status(),
+    }
+}

@@ -1,0 +1,6 @@
+-- A list that nothing is left of.
+use Rattle.std.proofs.Common.{◌≡◌, ◌<◌, List, [], ◌∷◌, length, refl, arith}
+
+pub emptied : {A : Type 0} → (l : List A) → length l < 1 → l ≡ []
+emptied [] none = refl
+emptied (x ∷ l) none = absurd (omega (arith, none))

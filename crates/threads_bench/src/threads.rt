@@ -48,6 +48,7 @@ fn set_up<R: Wait>(
 
 /// Sets the controller up by the last pass, and runs a worker by each other one while frames arrive. All passes come
 /// back.
+#[tactic(auto, using(crate::proofs::Counting::ends_count))]
 fn drive<R: Threads + Wait + Sync>(
     rt: &R,
     alloc: Global,

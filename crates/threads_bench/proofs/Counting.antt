@@ -1,0 +1,12 @@
+-- How many ends there are.
+use Rattle.std.proofs.Common.{◌≡◌, suc, List, [], ◌∷◌, length, refl, ap}
+use Rattle.workers.specs.declared.job.Job.{Job}
+use Rattle.worker_team.specs.Ends.{AreEnds}
+use Rattle.worker_team.specs.declared.ends.WorkerEnd.{WorkerEnd}
+
+-- each job has one
+pub ends_count : (jobs : List Job) (ends : List WorkerEnd) → AreEnds jobs ends → length ends ≡ length jobs
+ends_count [] [] are = refl
+ends_count (j ∷ jobs) (e ∷ ends) are = ap suc (ends_count jobs ends are.1)
+ends_count [] (e ∷ ends) are = absurd are
+ends_count (j ∷ jobs) [] are = absurd are

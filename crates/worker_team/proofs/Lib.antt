@@ -1,0 +1,4 @@
+pub mod Coming
+pub mod Gathering
+pub mod Sitting
+pub mod Ways

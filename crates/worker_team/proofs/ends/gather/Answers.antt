@@ -1,0 +1,29 @@
+use Rattle.std.proofs.Common.{◌≡◌, ◌<◌, length, subst, arith}
+use Rattle.std.proofs.lemmas.List.{nil_from_length}
+use Rattle.worker_team.proofs.Gathering.{IsGathered, first_come, one_gathered, all_gathered}
+use Rattle.worker_team.proofs.ends.gather.Goals as goal
+
+pub loop-preserved : goal.loop-preserved
+loop-preserved g c =
+    let i = c.loop.invariant in
+    let some : 0 < length c.loop.seats.items = omega (arith, i.left, c.loop-test.true, c.len-end.ensures, c.loop.seats.ok.0) in
+    let first = first_come c.loop.seats.items c.loop.collectors.items c.remove-seat.result c.remove-collector.result
+    some i.come c.remove-seat.ensures.value c.remove-collector.ensures.value in
+    record {
+      gathered = rw (c.remove-seat.ensures.items, c.push_reserved.ensures.items)
+          (one_gathered c.args.seats.items c.loop.seats.items c.loop.ends.items c.remove-seat.result c.end_of.result
+          i.gathered some c.remove-seat.ensures.value c.end_of.ensures);
+      come = rw (c.remove-seat.ensures.items, c.remove-collector.ensures.items) first.2;
+      left = omega (arith, c.remove-seat.ensures.len, i.left);
+      made = omega (arith, c.push_reserved.ensures.len, i.made);
+      room = rw c.push_reserved.ensures.capacity i.room;
+    }
+
+pub returns : goal.returns
+returns g c =
+    let i = c.loop.invariant in
+    let left : length c.loop.seats.items ≡ 0 =
+    omega (arith, i.left, c.loop-test.false, c.len-end.ensures, c.loop.seats.ok.0) in
+    all_gathered c.args.seats.items c.loop.ends.items
+    (subst (λ l. IsGathered c.args.seats.items l c.loop.ends.items) (nil_from_length c.loop.seats.items left)
+    i.gathered)

@@ -1,0 +1,63 @@
+use Rattle.std.proofs.Common.{◌≡◌, ℕ, ◌<◌, List, true, length, slice_index_or, sym, ap, subst, arith, rules}
+use Rattle.crew.specs.Seats.{waits, EachEnded}
+use Rattle.crew.specs.declared.seat.Seat.{Seat}
+use Rattle.workers.specs.declared.reports.Collector.{Collector}
+use Rattle.worker_team.specs.Coming.{AllSit}
+use Rattle.worker_team.specs.Ends.{IsBack}
+use Rattle.worker_team.specs.declared.duty.Back.{Back}
+use Rattle.worker_team.specs.declared.duty.Duty.{Duty}
+use Rattle.worker_team.proofs.Coming.{none_drained, run_over, all_come, all_ends}
+use Rattle.worker_team.proofs.Sitting.{seats_wait, sit_count}
+use Rattle.worker_team.proofs.team.run_in.Goals as goal
+
+pub run-requires-clause-waits : goal.run-requires-clause-waits
+run-requires-clause-waits g c κs within =
+    subst (λ (l : List (Seat Duty Back)). (k : ℕ) (d : Seat Duty Back) → k < length l
+    → waits (slice_index_or l k d) ≡ true) (sym c.deref_mut.ensures.value)
+    (seats_wait c.args.jobs.items c.sit-seats.result.items c.deref.result.now c.sit-seats.ensures)
+
+pub run-requires-clause-starts : goal.run-requires-clause-starts
+run-requires-clause-starts g c κs within =
+    omega (
+      arith,
+      c.deref-2.ensures.len,
+      c.requires.starts,
+      c.args.jobs.ok.0,
+      ap (λ (l : List (Seat Duty Back)). length l) c.deref_mut.ensures.value,
+      sit_count c.args.jobs.items c.sit-seats.result.items c.deref.result.now c.sit-seats.ensures,
+    )
+
+pub gather-requires-clause-room : goal.gather-requires-clause-room
+gather-requires-clause-room g c =
+    omega (
+      arith,
+      c.requires.ends.1,
+      c.args.jobs.ok.0,
+      c.sit-seats.result.ok.0,
+      sit_count c.args.jobs.items c.sit-seats.result.items c.deref.result.now c.sit-seats.ensures,
+    )
+
+pub gather-requires-clause-come : goal.gather-requires-clause-come
+gather-requires-clause-come g c =
+    let sit = subst (λ (l : List Collector). AllSit c.args.jobs.items c.sit-seats.result.items l) c.deref.ensures.value
+    c.sit-seats.ensures in
+    let ended = subst (λ (l : List (Seat Duty Back)). EachEnded IsBack l c.run.new.seats) c.deref_mut.ensures.value
+    c.run.ensures.ended in
+    let same = ap (λ (l : List (Seat Duty Back)). length l) c.deref_mut.ensures.value in
+    all_come c.args.jobs.items _ _
+    (run_over c.args.jobs.items c.sit-seats.result.items c.run.new.seats _ c.sit-seats.result.len
+    c.args.room.collectors.items _ sit c.sit-seats.result.ok.0 (omega (arith, c.run.auto.seats, same)) ended
+    (search rules))
+
+pub returns-clause-ends : goal.returns-clause-ends
+returns-clause-ends g c =
+    let sit = subst (λ (l : List Collector). AllSit c.args.jobs.items c.sit-seats.result.items l) c.deref.ensures.value
+    c.sit-seats.ensures in
+    let ended = subst (λ (l : List (Seat Duty Back)). EachEnded IsBack l c.run.new.seats) c.deref_mut.ensures.value
+    c.run.ensures.ended in
+    let same = ap (λ (l : List (Seat Duty Back)). length l) c.deref_mut.ensures.value in
+    all_ends c.args.jobs.items _ c.args.room.collectors.items _
+    (run_over c.args.jobs.items c.sit-seats.result.items c.run.new.seats _ c.sit-seats.result.len
+    c.args.room.collectors.items c.args.room.collectors.items sit c.sit-seats.result.ok.0
+    (omega (arith, c.run.auto.seats, same)) ended (none_drained _))
+    c.gather.ensures

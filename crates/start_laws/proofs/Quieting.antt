@@ -1,30 +1,36 @@
 -- A driver that starts sees both sides of its queue off.
-use Rattle.std.proofs.Common.{◌≡◌, ◌≢◌, ℕ, Bool, true, false, not, ◌&&◌, List, [], refl, sym, ap, ◌∙◌, subst}
+use Rattle.std.proofs.Common.{◌≡◌, ◌≢◌, ℕ, ◌<◌, Bool, true, false, not, ◌&&◌, List, [], refl, sym, ap, ◌∙◌, subst}
+use Rattle.std.specs.Prelude.{IsTrue}
 use Rattle.reg_table.specs.declared.rows.RowId.{RowId}
 use Rattle.reg_table.specs.declared.rows.RowId.TheVariants.{Rxdctl, Txdctl}
 use Rattle.register_file.specs.Bits.{has_bit}
 use Rattle.register_file.specs.Sides.{ReceiveQueue, receive_queue_of, transmit_queue_of}
 use Rattle.register_file.specs.Columns.{place}
-use Rattle.nic_device.specs.State.{State}
+use Rattle.nic_device.specs.State.{State, new_state}
 use Rattle.nic_device.specs.Step.{after}
 use Rattle.nic_device.specs.declared.event.Event.TheVariants as event
 use Rattle.nic_device.specs.declared.event.Reply.TheVariants as reply
 use Rattle.device_laws.specs.Leaving.{LeavesReceive}
 use Rattle.device_laws.proofs.StandingAccesses.{read_rest, write_rest}
 use Rattle.device_lock.specs.Alone.{Blocks, lent_by}
+use Rattle.device_lock.specs.History.{leads_to}
 use Rattle.device_lock.specs.Pass.{call_of}
 use Rattle.device_lock.specs.declared.alone.Watched.{Watched}
 use Rattle.device_lock.specs.declared.entry.Call.{Call}
 use Rattle.device_lock.specs.declared.entry.Entry.{Entry}
+use Rattle.history_laws.specs.Laws.{AreEvents}
+use Rattle.history_laws.specs.Staged.{StageWhileOn}
+use Rattle.history_laws.proofs.Staged.{histories_keep_staged, new_sides_stage}
 use Rattle.pmd_queue.specs.Both.{both_quiet}
 use Rattle.pmd_queue.specs.Made.{Sees, Sets, AreMade, IsMade}
 use Rattle.pmd_queue.specs.Named.{AtPort, IsNumberOf, is_driven}
+use Rattle.receive_laws.proofs.Delivering.{events_before}
 use Rattle.transmit_laws.specs.Off as transmit
 use Rattle.transmit_laws.proofs.Guard.{guard_is_off}
 use Rattle.start_laws.specs.Along.{AtCalls, IsAlong, IsKept, Leads}
-use Rattle.start_laws.specs.Points.{HasGround, StepsBefore, StepsBetween}
+use Rattle.start_laws.specs.Points.{HasGround, Point, Sides, StepsBefore, StepsBetween}
 use Rattle.start_laws.specs.Quiet.{IsUnwanted, IsOff, no_block}
-use Rattle.start_laws.specs.Quieting.{IsQuiet, QuietingLeads, QuietSidesStand}
+use Rattle.start_laws.specs.Quieting.{IsQuiet, QuietingLeads, QuietSidesStand, are_off}
 use Rattle.start_laws.proofs.Along.{calls_lead}
 use Rattle.start_laws.proofs.Off.{ground_kept, unwanted_kept, off_kept, transmit_unwanted_kept, transmit_off_kept}
 use Rattle.start_laws.proofs.Points.{driven_plain, ground_same, made_some, read_ground}
@@ -175,8 +181,9 @@ all_off : (a b c d : Bool) → a ≡ false → b ≡ false → c ≡ false → d
     → ((not a && not b) && (not c && not d)) ≡ true
 all_off a b c d e f g i = rw (e, f, g, i) refl
 
-pub quiet_sides_stand : QuietSidesStand
-quiet_sides_stand w q h s quiet bare = (
+quiet_stand : (w : Watched) (q : AtPort) (h : List Entry) (s : State) → w.queue < 128 → StageWhileOn s
+    → IsQuiet w.queue q s → (p : Sides) × IsTrue (are_off p) × Point w.queue (lent_by w.pass h) q p s
+quiet_stand w q h s small bare quiet = (
   record {
     rx = receive_queue_of s.registers w.queue;
     tx = transmit_queue_of s.registers w.queue;
@@ -186,9 +193,16 @@ quiet_sides_stand w q h s quiet bare = (
       (transmit_queue_of s.registers w.queue).on (transmit_queue_of s.registers w.queue).wanted quiet.receive.off
       quiet.receive.unwanted quiet.transmit.off quiet.transmit.unwanted,
   record {
-    stand = off_sides_stand w.queue s quiet.receive quiet.transmit bare;
+    stand = off_sides_stand w.queue s small bare quiet.receive quiet.transmit;
     ground = quiet.ground;
     covers = λ n is. cc;
     low = λ n is. cc;
   },
 )
+
+pub quiet_sides_stand : QuietSidesStand
+quiet_sides_stand w q fifo h calls along quiet done rest all is =
+    let new = new_state w.vfs fifo in
+    let events = events_before done rest (subst AreEvents (sym all) along.events) in
+    quiet_stand w q h (leads_to new done) along.small
+    (histories_keep_staged new done along.new events (new_sides_stage w.vfs fifo)) (quiet done rest all is)

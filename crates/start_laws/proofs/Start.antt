@@ -124,10 +124,9 @@ module _ (w : Watched) (fifo : ℕ) (h : List Entry) (q : AtPort) (size : ℕ) (
 
     -- both sides are quiet, and stand
     quiet_at : At up.receive.mid (λ p. p)
-    quiet_at done rest all calls =
-        quiet_sides_stand w q h (leads_to (new_state w.vfs fifo) done)
-        (quieting_leads w q fifo h old up.receive.mid along up.receive.quiet only.quiet well.ground done rest all calls)
-        (well.bare done rest all calls)
+    quiet_at =
+        quiet_sides_stand w q fifo h up.receive.mid along
+        (quieting_leads w q fifo h old up.receive.mid along up.receive.quiet only.quiet well.ground)
 
     -- as both rings come up, where their blocks are the pass's
     module _ (one : IsLentBy w.pass ring h) (two : IsLentBy w.pass other h) where

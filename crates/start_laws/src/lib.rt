@@ -44,16 +44,16 @@ pub fn fresh_sides_agree()
 {}
 
 /// After a write of the receive side's enable word without bit 25 the side isn't wanted on, and stays so over every
-/// event that leaves the queue alone; a read that tells bit 25 as 0 then finds it off. Two sides that are off so, with
-/// nothing staged, stand as they are.
+/// event that leaves the queue alone; a read that tells bit 25 as 0 then finds it off. Two sides that are off so stand
+/// as they are.
 pub fn guarded_receive_side_is_off()
     ensures guard { ReceiveGuardIsOff }
     ensures stand { OffSidesStand }
 {}
 
 /// Over a legal history that leaves the queue alone, both sides are off, and not wanted on, wherever the driver's pass
-/// has made the accesses that see them off; with nothing staged they stand as they are. Other calls of the pass in
-/// between are steps of the device.
+/// has made the accesses that see them off; and so they stand as they are. Other calls of the pass in between are steps
+/// of the device.
 pub fn both_sides_are_seen_off()
     ensures quieting { QuietingLeads }
     ensures stand { QuietSidesStand }
@@ -67,7 +67,7 @@ pub fn accesses_lead_over_a_history()
 
 /// Over such a history, wherever the driver's pass has made the calls by which a start of it brought both sides up, the
 /// device and the driver agree on both: nothing is posted or sent yet. Other calls of the pass up to there are steps of
-/// the device; the driver's numbers name its queue, frames are short, and nothing is staged where both sides are off.
+/// the device; the driver's numbers name its queue, and frames are short.
 pub fn start_leaves_sides_that_agree()
     ensures { StartAgrees }
 {}

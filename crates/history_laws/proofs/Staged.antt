@@ -169,7 +169,8 @@ events_keep_staged s (event.Write port n word) sound bare = write_bare s sound b
 events_keep_staged s (event.Lend block) sound bare = all_left s _ (memory_rest.lend s block).queues bare
 events_keep_staged s (event.Take number) sound bare = all_left s _ (memory_rest.take s number).queues bare
 events_keep_staged s (event.Peek16 address) sound bare = all_left s _ (memory_rest.peek s address).queues bare
-events_keep_staged s (event.Poke16 address bytes) sound bare = all_left s _ (memory_rest.poke s address bytes).queues bare
+events_keep_staged s (event.Poke16 address bytes) sound bare =
+    all_left s _ (memory_rest.poke s address bytes).queues bare
 events_keep_staged s (event.Arrive frame) sound bare = all_left s _ (arrival_rest s frame).queues bare
 events_keep_staged s event.RxStep sound bare =
     λ queue small. left_bare s _ queue ((receiving_rest s).transmit queue) (bare queue small)

@@ -28,10 +28,12 @@ use Rattle.receive_laws.proofs.Delivering.{events_before}
 use Rattle.transmit_laws.specs.Off as transmit
 use Rattle.transmit_laws.proofs.Guard.{guard_is_off}
 use Rattle.start_laws.specs.Along.{AtCalls, IsAlong, IsKept, Leads}
+use Rattle.start_laws.specs.Numbers.{NumbersName}
 use Rattle.start_laws.specs.Points.{HasGround, Point, Sides, StepsBefore, StepsBetween}
 use Rattle.start_laws.specs.Quiet.{IsUnwanted, IsOff, no_block}
 use Rattle.start_laws.specs.Quieting.{IsQuiet, QuietingLeads, QuietSidesStand, are_off}
 use Rattle.start_laws.proofs.Along.{calls_lead}
+use Rattle.start_laws.proofs.Numbers.{ground_names}
 use Rattle.start_laws.proofs.Off.{ground_kept, unwanted_kept, off_kept, transmit_unwanted_kept, transmit_off_kept}
 use Rattle.start_laws.proofs.Points.{driven_plain, ground_same, made_some, read_ground}
 use Rattle.start_laws.proofs.Quiet.{off_sides_stand, receive_guard_is_off}
@@ -43,6 +45,9 @@ module _ (w : Watched) (q : AtPort) (fifo : ℕ) (h : List Entry) (along : IsAlo
 
   abbrev Ground : State → Type 0
   Ground = HasGround w.queue q
+
+  numbers : (s : State) → Ground s → NumbersName s q w.queue
+  numbers s g = ground_names w.queue q s g
 
   abbrev Grounded : (State → Type 0) → State → Type 0
   Grounded P s = Ground s × P s
@@ -98,7 +103,7 @@ module _ (w : Watched) (q : AtPort) (fifo : ℕ) (h : List Entry) (along : IsAlo
   write_ground : (s : State) (row : RowId) (word number : ℕ) → is_driven row ≡ true
       → IsNumberOf q.port row q.queue number → Ground s → Ground (after s (event.Write q.port number word))
   write_ground s row word number is named g =
-      let k = ground w.queue s q.port number word row (g.names row number is named) (driven_plain row is) in
+      let k = ground w.queue s q.port number word row (numbers s g row number is named) (driven_plain row is) in
       ground_same w.queue q s (after s (event.Write q.port number word)) k.mode k.vfs k.limit g
 
   off_same : (s t : State) → LeavesReceive w.queue s t → IsOff w.queue s → IsOff w.queue t
@@ -111,14 +116,14 @@ module _ (w : Watched) (q : AtPort) (fifo : ℕ) (h : List Entry) (along : IsAlo
       → Leads w.queue (call_of (event.Write q.port number 0) reply.Done) Ground Asked
   ask_receive number named s met made told g = (
     write_ground s Rxdctl 0 number refl named g,
-    receive_guard_is_off.written w.queue s q.port number 0 met (g.names Rxdctl number refl named) refl,
+    receive_guard_is_off.written w.queue s q.port number 0 met (numbers s g Rxdctl number refl named) refl,
   )
 
   see_receive : (number word : ℕ) → IsNumberOf q.port Rxdctl q.queue number → has_bit 25 word ≡ false
       → Leads w.queue (call_of (event.Read q.port number) (reply.Word word)) Asked Off
   see_receive number word named is s met made told (g, none) = (
     read_ground w mine q s number g,
-    receive_guard_is_off.read w.queue s q.port number word none (g.names Rxdctl number refl named) (sym told) is,
+    receive_guard_is_off.read w.queue s q.port number word none (numbers s g Rxdctl number refl named) (sym told) is,
   )
 
   see_first : (number word : ℕ) → IsNumberOf q.port Txdctl q.queue number → has_bit 25 word ≡ false
@@ -131,7 +136,7 @@ module _ (w : Watched) (q : AtPort) (fifo : ℕ) (h : List Entry) (along : IsAlo
   ask_transmit : (number : ℕ) → IsNumberOf q.port Txdctl q.queue number
       → Leads w.queue (call_of (event.Write q.port number 0) reply.Done) Off OffAsked
   ask_transmit number named s met made told (g, off) =
-      let names = g.names Txdctl number refl named in
+      let names = numbers s g Txdctl number refl named in
       let left = (write_rest s q.port number 0 (place Txdctl w.queue) 0xFFFFFFFF names refl refl).receive w.queue
       (λ e. cc) in (
         (
@@ -148,7 +153,7 @@ module _ (w : Watched) (q : AtPort) (fifo : ℕ) (h : List Entry) (along : IsAlo
       read_ground w mine q s number g,
       off_same s (after s (event.Read q.port number)) ((read_rest s q.port number).queues.receive w.queue) off,
     ),
-    guard_is_off.read w.queue s q.port number word none (g.names Txdctl number refl named) (sym told) is,
+    guard_is_off.read w.queue s q.port number word none (numbers s g Txdctl number refl named) (sym told) is,
   )
 
   ended : (new m : List Call) → new ≡ m → AtCalls w fifo h m OffBoth → AtCalls w fifo h new (IsQuiet w.queue q)

@@ -32,6 +32,7 @@ use Rattle.start_laws.specs.Quieting.{are_off}
 use Rattle.start_laws.specs.Start.{OnlySteps, BeginsWell, StartAgrees}
 use Rattle.start_laws.proofs.Fresh.{fresh_receive_agrees, fresh_transmit_agrees}
 use Rattle.start_laws.proofs.Lends.{Has, has_more, IsLentBy, lending, lend_leads, lent_before, lent_there, with_ring}
+use Rattle.start_laws.proofs.Numbers.{ground_names}
 use Rattle.start_laws.proofs.Points.{accesses_at, call_leads, ends_some, made_some}
 use Rattle.start_laws.proofs.Quieting.{quieting_leads, quiet_sides_stand}
 use Rattle.start_laws.proofs.Switching.{came_up, comes_up, laid, may_lay_receive, may_lay_transmit, may_switch, switching}
@@ -195,12 +196,12 @@ module _ (w : Watched) (fifo : ℕ) (h : List Entry) (q : AtPort) (size : ℕ) (
                 (fresh_receive_agrees w.queue s _ rings q.port up.receive.tail ring size first
                 (record {
                   low = along.small;
-                  tail = x.ground.names Rdt up.receive.tail refl up.receive.named;
+                  tail = ground_names w.queue q s x.ground Rdt up.receive.tail refl up.receive.named;
                 })
                 (or_right (ring == other) _ (or_left (ring == ring) _ (eq-eqb ring ring refl))) x.stand),
             subst (λ (v : transmit.Sender). Agrees s w.queue [] v) (sym up.transmit.fresh)
                 (fresh_transmit_agrees w.queue s _ rings true true q.port up.transmit.tail other size along.small sound
-                second (x.ground.names Tdt up.transmit.tail refl up.transmit.named) x.ground.limit
+                second (ground_names w.queue q s x.ground Tdt up.transmit.tail refl up.transmit.named) x.ground.limit
                 (or_left (other == other) _ (eq-eqb other other refl)) x.stand),
           )
 

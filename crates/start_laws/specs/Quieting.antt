@@ -19,8 +19,8 @@ pub record IsQuiet (queue : ℕ) (q : AtPort) (s : State) : Type 0 where
   pub receive : IsOff queue s
   pub transmit : transmit.IsOff queue s
 
--- so it is wherever the pass has made the accesses that see them off, where the driver's numbers name its queue once
--- the first of these is made
+-- so it is wherever the pass has made the accesses that see them off, where the driver's port and queue name this queue
+-- once the first of these is made
 abbrev pub QuietingLeads : Type 0
 QuietingLeads =
     (w : Watched) (q : AtPort) (fifo : ℕ) (h : List Entry) (old new : List Call) → IsAlong w fifo h →

@@ -31,7 +31,7 @@ pub record OnlySteps (q : AtPort) (size : ℕ) (old : List Call) (a : Numbers) (
       StepsBetween q up.both_made up.on.mid
       (receive_polled true up.on.switched.0 ++ polled Tx true up.on.switched.1) up.on.switched.3
 
--- where the driver's first access is made its numbers name its queue, and frames are short
+-- where the driver's first access is made its port and queue name this queue, and frames are short
 pub record BeginsWell (w : Watched) (fifo : ℕ) (h : List Entry) (q : AtPort) (size : ℕ) (old : List Call) (a : Numbers)
     (new : List Call) (r : Running) (up : AreUp q size old a new r) : Type 0 where
   pub ground : AtCalls w fifo h up.receive.quiet.0 (HasGround w.queue q)

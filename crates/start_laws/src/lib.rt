@@ -7,7 +7,7 @@ ghost use Rattle.start_laws.specs.Moves.{ReceiveWriteStands, TransmitWriteStands
 ghost use Rattle.start_laws.specs.Points.{AccessesLead};
 ghost use Rattle.start_laws.specs.Quieting.{QuietingLeads, QuietSidesStand};
 ghost use Rattle.start_laws.specs.Quiet.{ReceiveGuardIsOff, OffSidesStand};
-ghost use Rattle.start_laws.specs.Start.{StartAgrees};
+ghost use Rattle.start_laws.specs.Start.{StartAgrees, StartGoesOn};
 ghost use Rattle.start_laws.specs.Standing.{StandingSidesAreLeft};
 ghost use Rattle.start_laws.specs.Words.{ReceiveWordsAreTaken, TransmitWordsAreTaken};
 
@@ -66,8 +66,10 @@ pub fn accesses_lead_over_a_history()
 {}
 
 /// Over such a history, wherever the driver's pass has made the calls by which a start of it brought both sides up, the
-/// device and the driver agree on both: nothing is posted or sent yet. Other calls of the pass up to there are steps of
-/// the device; the driver's numbers name its queue, frames are short, and nothing is staged where both sides are off.
+/// device and the driver agree on both: nothing is posted or sent yet. Both are on there, and nothing was received or
+/// sent since they went on. Other calls of the pass up to there are steps of the device; the driver's numbers name its
+/// queue, frames are short, and nothing is staged where both sides are off.
 pub fn start_leaves_sides_that_agree()
-    ensures { StartAgrees }
+    ensures agree { StartAgrees }
+    ensures on { StartGoesOn }
 {}

@@ -1,19 +1,15 @@
 -- Both halves follow from the calls that were made.
-use Rattle.std.proofs.Common.{◌≡◌, Bool, true, false, List, [], ◌∷◌, ◌++◌, map, refl, sym, ap, ◌∙◌, subst, append_assoc}
+use Rattle.std.proofs.Common.{◌≡◌, Bool, true, false, List, [], ◌∷◌, ◌++◌, refl, sym, ap, ◌∙◌, subst, append_assoc}
 use Rattle.device_lock.specs.declared.entry.Call.{Call}
 use Rattle.pmd_rx.specs.Plays as receive
 use Rattle.pmd_tx.specs.Plays as transmit
 use Rattle.pmd_tx.specs.Sending.{Move, Elsewhere}
-use Rattle.driver_laws.specs.Halves.{Halves, Doer, Receives, Sends, AllOwn, after_call, played_by, ReceivingDrives, SendingDrives, OthersDrive, DrivesOn}
+use Rattle.driver_laws.specs.Halves.{Halves, Doer, Receives, Sends, AllOwn, OthersStep, after_call, doers_marked, doers_moved, played_by, ReceivingDrives, SendingDrives, OthersDrive, DrivesOn}
 
 -- the calls of one half
 
-abbrev doer_marked : Bool → Doer
-doer_marked true = Receives
-doer_marked false = Sends Elsewhere
-
 receives_own : (h : Halves) (marks : List Bool) (calls : List Call) → receive.AllOwn h.receive marks calls
-    → AllOwn h (map doer_marked marks) calls
+    → AllOwn h (doers_marked marks) calls
 receives_own h [] [] own = tt
 receives_own h [] (n ∷ calls) own = own
 receives_own h (m ∷ marks) [] own = own
@@ -22,7 +18,7 @@ receives_own h (true ∷ marks) (n ∷ calls) own =
 receives_own h (false ∷ marks) (n ∷ calls) own = (tt, receives_own h marks calls own.1)
 
 receives_played : (h : Halves) (marks : List Bool) (calls : List Call)
-    → played_by h (map doer_marked marks) calls ≡ record h { receive = receive.played_by h.receive marks calls }
+    → played_by h (doers_marked marks) calls ≡ record h { receive = receive.played_by h.receive marks calls }
 receives_played h [] calls = refl
 receives_played h (m ∷ marks) [] = refl
 receives_played h (true ∷ marks) (n ∷ calls) = receives_played (after_call h Receives n) marks calls
@@ -30,7 +26,7 @@ receives_played h (false ∷ marks) (n ∷ calls) = receives_played h marks call
 
 pub receiving_drives : ReceivingDrives
 receiving_drives old new h k (marks, since, made, own, is) same = (
-  map doer_marked marks,
+  doers_marked marks,
   since,
   made,
   receives_own h marks since own,
@@ -38,21 +34,21 @@ receiving_drives old new h k (marks, since, made, own, is) same = (
 )
 
 sends_own : (h : Halves) (moves : List Move) (calls : List Call) → transmit.AllOwn h.transmit moves calls
-    → AllOwn h (map Sends moves) calls
+    → AllOwn h (doers_moved moves) calls
 sends_own h [] [] own = tt
 sends_own h [] (n ∷ calls) own = own
 sends_own h (m ∷ moves) [] own = own
 sends_own h (m ∷ moves) (n ∷ calls) own = (own.0, sends_own (after_call h (Sends m) n) moves calls own.1)
 
 sends_played : (h : Halves) (moves : List Move) (calls : List Call)
-    → played_by h (map Sends moves) calls ≡ record h { transmit = transmit.played_by h.transmit moves calls }
+    → played_by h (doers_moved moves) calls ≡ record h { transmit = transmit.played_by h.transmit moves calls }
 sends_played h [] calls = refl
 sends_played h (m ∷ moves) [] = refl
 sends_played h (m ∷ moves) (n ∷ calls) = sends_played (after_call h (Sends m) n) moves calls
 
 pub sending_drives : SendingDrives
 sending_drives old new h k (moves, since, made, own, is) same = (
-  map Sends moves,
+  doers_moved moves,
   since,
   made,
   sends_own h moves since own,
@@ -101,3 +97,12 @@ drives_on old mid new h j k (ds, ms, made, own, is) (es, ns, more, then, was) =
       both_own h ds es ms ns own here,
       was ∙ ap (λ x. played_by x es ns) is ∙ sym (both_played h ds es ms ns own),
     )
+
+-- the others are steps, where they were before and behind
+pub both_step : (h : Halves) (ds es : List Doer) (ms ns : List Call) → AllOwn h ds ms → OthersStep ds ms
+    → OthersStep es ns → OthersStep (ds ++ es) (ms ++ ns)
+both_step h [] es [] ns own first then = then
+both_step h [] es (m ∷ ms) ns own first then = absurd own
+both_step h (d ∷ ds) es [] ns own first then = absurd own
+both_step h (d ∷ ds) es (m ∷ ms) ns own first then =
+    (first.0, both_step (after_call h d m) ds es ms ns own.1 first.1 then)

@@ -6,7 +6,7 @@
 #![tactic(auto)]
 
 ghost use Rattle.driver_laws.specs.Halves.{ReceivingDrives, SendingDrives, OthersDrive, DrivesOn};
-ghost use Rattle.driver_laws.specs.Histories.{HandedIsPrefix, NoneIsAll, SentIsPrefix, IdleIsAllSent, StepsLeaveAlone};
+ghost use Rattle.driver_laws.specs.Histories.{HandedIsPrefix, NoneIsAll, SentIsPrefix, IdleIsAllSent, CountedWhereUp, StepsLeaveAlone};
 
 /// The calls of one half lead both on, where the other half stays as it was; calls that are neither's leave both; and
 /// calls lead on, one after another. So the halves follow from whatever calls of a driver that runs were made.
@@ -20,12 +20,14 @@ pub fn calls_lead_both_halves()
 /// Over a history of a new device that leaves the driver's queue alone, from a place on where the device agrees with
 /// both halves and the receive side has gone on: the packets that the driver handed out are a prefix of those that were
 /// delivered since, and all of them where a look that comes next finds none; and the frames that were sent since are a
-/// prefix of those that it accepted, and all of them where none is outstanding.
+/// prefix of those that it accepted, and all of them where none is outstanding. Where the transmit side is up at that
+/// place, all of these are counted since it went on.
 pub fn both_sides_in_order()
     ensures handed { HandedIsPrefix }
     ensures none { NoneIsAll }
     ensures sent { SentIsPrefix }
     ensures idle { IdleIsAllSent }
+    ensures counted { CountedWhereUp }
 {}
 
 /// The steps of the device that the ways to a device make before the driver's calls leave its queue alone: so nothing

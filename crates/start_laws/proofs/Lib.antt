@@ -18,4 +18,5 @@ pub mod StillReceive
 pub mod StillTransmit
 pub mod Switching
 pub mod TransmitWords
+pub mod Unused
 pub mod Words

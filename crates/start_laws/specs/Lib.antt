@@ -6,4 +6,5 @@ pub mod Quiet
 pub mod Quieting
 pub mod Standing
 pub mod Start
+pub mod Unused
 pub mod Words

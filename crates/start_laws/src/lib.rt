@@ -8,7 +8,7 @@ ghost use Rattle.start_laws.specs.Numbers.{NamedQueueHasTheNumbers};
 ghost use Rattle.start_laws.specs.Points.{AccessesLead};
 ghost use Rattle.start_laws.specs.Quieting.{QuietingLeads, QuietSidesStand};
 ghost use Rattle.start_laws.specs.Quiet.{ReceiveGuardIsOff, OffSidesStand};
-ghost use Rattle.start_laws.specs.Start.{StartAgrees};
+ghost use Rattle.start_laws.specs.Start.{StartAgrees, StartGoesOn};
 ghost use Rattle.start_laws.specs.Standing.{StandingSidesAreLeft};
 ghost use Rattle.start_laws.specs.Words.{ReceiveWordsAreTaken, TransmitWordsAreTaken};
 
@@ -73,8 +73,10 @@ pub fn accesses_lead_over_a_history()
 {}
 
 /// Over such a history, wherever the driver's pass has made the calls by which a start of it brought both sides up, the
-/// device and the driver agree on both: nothing is posted or sent yet. Other calls of the pass up to there are steps of
-/// the device; its port and queue name this queue as its first access is made, and frames are short.
+/// device and the driver agree on both: nothing is posted or sent yet. Both are on there, and nothing was received or
+/// sent since they went on. Other calls of the pass up to there are steps of the device; its port and queue name this
+/// queue as its first access is made, and frames are short.
 pub fn start_leaves_sides_that_agree()
-    ensures { StartAgrees }
+    ensures agree { StartAgrees }
+    ensures on { StartGoesOn }
 {}

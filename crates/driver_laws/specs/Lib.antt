@@ -1,3 +1,4 @@
 pub mod Agreeing
 pub mod Halves
 pub mod Histories
+pub mod Waiting

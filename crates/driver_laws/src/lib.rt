@@ -7,6 +7,7 @@
 
 ghost use Rattle.driver_laws.specs.Halves.{ReceivingDrives, SendingDrives, OthersDrive, DrivesOn};
 ghost use Rattle.driver_laws.specs.Histories.{HandedIsPrefix, NoneIsAll, SentIsPrefix, IdleIsAllSent, CountedWhereUp, StepsLeaveAlone};
+ghost use Rattle.driver_laws.specs.Waiting.{WaitingIsNotAll};
 
 /// The calls of one half lead both on, where the other half stays as it was; calls that are neither's leave both; and
 /// calls lead on, one after another. So the halves follow from whatever calls of a driver that runs were made.
@@ -34,4 +35,10 @@ pub fn both_sides_in_order()
 /// more is asked of a pass whose calls that are neither half's are such steps.
 pub fn steps_leave_the_queue_alone()
     ensures { StepsLeaveAlone }
+{}
+
+/// Over such a history, where a look that comes next finds the oldest outstanding packet not done, what was sent up to
+/// any place since which the driver accepted none isn't all that it had accepted there.
+pub fn waiting_packets_are_not_all_sent()
+    ensures { WaitingIsNotAll }
 {}

@@ -1,0 +1,23 @@
+-- Before a look that finds a packet waiting not all that the driver had accepted was sent.
+use Rattle.std.proofs.Common.{ℕ, ◌++◌, [], ap, ◌∙◌, subst}
+use Rattle.nic_device.specs.State.{State, new_state}
+use Rattle.device_lock.specs.History.{calls_of, leads_to}
+use Rattle.receive_laws.proofs.Delivering.{leads-append}
+use Rattle.transmit_laws.specs.Agreeing.{bytes_of}
+use Rattle.transmit_laws.specs.Laws.{FindsWaiting}
+use Rattle.transmit_laws.specs.Sent.{sent_in}
+use Rattle.transmit_laws.proofs.Runs.{sent_in-append, waiting-left}
+use Rattle.driver_laws.specs.Halves.{Halves, played_by}
+use Rattle.driver_laws.specs.Waiting.{WaitingIsNotAll}
+use Rattle.driver_laws.proofs.InOrder.{led}
+
+pub waiting_is_not_all : WaitingIsNotAll
+waiting_is_not_all w fifo start rest more h doers d finds same all_sent =
+    let new : State = new_state w.vfs fifo in
+    let here : State = leads_to new start in
+    let last : Halves = played_by h doers (calls_of w.pass (rest ++ more)) in
+    waiting-left (leads_to here (rest ++ more)) w.queue (sent_in w.queue here (rest ++ more)) last.transmit
+    (led w fifo start (rest ++ more) h doers d).both.transmit
+    (subst (λ s. FindsWaiting s last.transmit) (leads-append new start (rest ++ more)) finds)
+    (sent_in w.queue here rest) (sent_in w.queue (leads_to here rest) more) (sent_in-append w.queue here rest more)
+    (ap bytes_of same ∙ all_sent)

@@ -1,0 +1,24 @@
+-- Before a look that finds a packet waiting not all that the driver had accepted was sent.
+use Rattle.std.specs.Prelude.{ℕ, ◌≡◌, ◌≢◌, List, ◌++◌}
+use Rattle.nic_device.specs.State.{new_state}
+use Rattle.device_lock.specs.History.{calls_of, leads_to}
+use Rattle.device_lock.specs.declared.alone.Watched.{Watched}
+use Rattle.device_lock.specs.declared.entry.Entry.{Entry}
+use Rattle.transmit_laws.specs.Agreeing.{bytes_of}
+use Rattle.transmit_laws.specs.Laws.{FindsWaiting}
+use Rattle.transmit_laws.specs.Sent.{sent_in}
+use Rattle.driver_laws.specs.Halves.{Halves, Doer, played_by}
+use Rattle.driver_laws.specs.Histories.{IsDriven}
+
+-- where a look that comes next finds the oldest outstanding packet not done, and the driver accepted none since some
+-- place, what was sent up to that place isn't all that was accepted
+abbrev pub WaitingIsNotAll : Type 0
+WaitingIsNotAll =
+    (w : Watched) (fifo : ℕ) (start rest more : List Entry) (h : Halves) (doers : List Doer) →
+    IsDriven w fifo start (rest ++ more) h doers →
+    FindsWaiting (leads_to (new_state w.vfs fifo) (start ++ (rest ++ more)))
+    (played_by h doers (calls_of w.pass (rest ++ more))).transmit →
+    (played_by h doers (calls_of w.pass (rest ++ more))).transmit.accepted
+    ≡ (played_by h doers (calls_of w.pass rest)).transmit.accepted →
+    bytes_of (played_by h doers (calls_of w.pass rest)).transmit.accepted
+    ≢ sent_in w.queue (leads_to (new_state w.vfs fifo) start) rest

@@ -27,8 +27,8 @@ WaitingIsNotAll =
     bytes_of (played_by h doers (calls_of w.pass rest)).transmit.accepted
     ≢ sent_in w.queue (leads_to (new_state w.vfs fifo) start) rest
 
--- whose the calls are of a reap that ends with a packet outstanding, up to the look at last that found it not done: they
--- are moves, and before the look neither half's
+-- whose the calls are of a reap that ends with a packet outstanding, up to the look that found it not done: they are
+-- moves, and right before the look neither half's
 abbrev pub doers_before_look : (old : List Call) (v : Sender) (new : List Call) (k : Sender) → LooksLast old v new k
     → List Doer
 doers_before_look old v new k l = doers_moved l.plays.0 ++ doers_other l.looks.0

@@ -38,8 +38,8 @@ pub fn steps_leave_the_queue_alone()
 {}
 
 /// Over such a history, where a look that comes next finds the oldest outstanding packet not done, what was sent up to
-/// any place since which the driver accepted none isn't all that it had accepted there. So it is before the first call of
-/// a reap that ends with a packet outstanding.
+/// any place since which the driver accepted none isn't all that it had accepted there. So it is before the first call
+/// of a reap that ends with a packet outstanding.
 pub fn waiting_packets_are_not_all_sent()
     ensures look { WaitingIsNotAll }
     ensures reap { ReapIsNotAll }

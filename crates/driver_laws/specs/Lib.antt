@@ -1,3 +1,4 @@
 pub mod Agreeing
+pub mod Going
 pub mod Halves
 pub mod Histories

@@ -4,6 +4,7 @@
 #![tactic(auto)]
 
 ghost use Rattle.history_laws.specs.Aligned.{NewRingsAreAligned, EventsKeepAligned, HistoriesKeepAligned, ReportsLieInBlocks};
+ghost use Rattle.history_laws.specs.Lent.{OnlyLentStays, AnewIsDone};
 ghost use Rattle.history_laws.specs.Laws.{ModeIsTold, AloneByEntries, BeginningIsAlone, HistoriesKeepSound};
 
 /// The mode by which the queues are parted among pools, read off the entries of a history, is the device's own: what
@@ -31,4 +32,12 @@ pub fn rings_stay_aligned()
     ensures event { EventsKeepAligned }
     ensures history { HistoriesKeepAligned }
     ensures reports { ReportsLieInBlocks }
+{}
+
+/// Where of some numbers only those are lent that a driver knows to be, it stays so over every event: over one that
+/// lends none of them, over the lending of a block, which the driver knows from then on, and over one that takes a block
+/// back, which it knows no longer. And a block whose number isn't known is lent as it is asked.
+pub fn only_known_blocks_are_lent()
+    ensures stays { OnlyLentStays }
+    ensures done { AnewIsDone }
 {}

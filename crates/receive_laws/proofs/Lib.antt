@@ -8,6 +8,7 @@ pub mod Entries
 pub mod Examples
 pub mod Filled
 pub mod Foreign
+pub mod Healthy
 pub mod Histories
 pub mod Inside
 pub mod Kept

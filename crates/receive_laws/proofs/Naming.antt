@@ -83,7 +83,7 @@ module _ (m : Memory) (l : Layout) (here : List Piece) (ring : IsRing l) (h : Ha
   named_stage : IsLoose n l b × IsPosted n (descriptor_at l (vacant l)) b
   named_stage = (IsLoose-kept m n l b (same b) loose, posted_here)
 
-poked_is : (s : State) (a : ℕ) (bytes : List ℕ) → (a % 16 == 0) ≡ true → is_lent s.memory a 16 ≡ true
+pub poked_is : (s : State) (a : ℕ) (bytes : List ℕ) → (a % 16 == 0) ≡ true → is_lent s.memory a 16 ≡ true
     → step_of s (event.Poke16 a bytes) ≡ gives Done (record s { memory = write_at s.memory a bytes })
 unfolding step_of
 poked_is s a bytes straight lent = rw (straight, lent) refl

@@ -21,7 +21,7 @@ use Rattle.dma_arena.proofs.Blocks.{read_at_in}
 use Rattle.nic_device.specs.declared.event.Reply.TheVariants.{Buf}
 use Rattle.pmd_base.specs.declared.packet.Packet.{Packet}
 
-taken_is : (s : State) (b : ℕ) (bytes : List ℕ) → map.get s.memory b ≡ Some bytes
+pub taken_is : (s : State) (b : ℕ) (bytes : List ℕ) → map.get s.memory b ≡ Some bytes
     → step_of s (event.Take b)
     ≡ gives (Buf (record { number = b; bytes = bytes })) (record s { memory = map.remove s.memory b })
 unfolding step_of

@@ -1,4 +1,5 @@
 pub mod Delivered
+pub mod Healthy
 pub mod Histories
 pub mod Inside
 pub mod Joint

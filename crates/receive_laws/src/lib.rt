@@ -6,6 +6,7 @@
 //! `pmd_rx` says it follows from the driver's own calls.
 #![tactic(auto)]
 
+ghost use Rattle.receive_laws.specs.Healthy.{OwnRepliesAreHealthy, LooksTellPackets};
 ghost use Rattle.receive_laws.specs.Histories.{HandedIsPrefix, NoneIsAll};
 ghost use Rattle.receive_laws.specs.Inside.{PieceIsInside};
 ghost use Rattle.receive_laws.specs.Starting.{StartAgrees};
@@ -59,4 +60,12 @@ pub fn handed_packets_are_a_prefix_of_those_delivered()
 /// As the side goes on with its ring lent and its words written, the device and a driver that posted nothing agree.
 pub fn fresh_ring_agrees()
     ensures { StartAgrees }
+{}
+
+/// Each event of the driver's own gets the reply of a healthy queue where the two agree, each piece that was written ends
+/// its frame, and a block that is lent isn't lent yet: a look tells a descriptor, of a whole packet where it is done, the
+/// block of a seen packet is taken, a fresh one lent, its descriptor written and the tail moved on.
+pub fn own_replies_are_healthy()
+    ensures replies { OwnRepliesAreHealthy }
+    ensures packets { LooksTellPackets }
 {}

@@ -23,10 +23,12 @@ pub mod Prefix
 pub mod Quiet
 pub mod Received
 pub mod Receiving
+pub mod Short
 pub mod Spared
 pub mod Starting
 pub mod Switching
 pub mod Tail
 pub mod Taking
 pub mod Transmitting
+pub mod Waiting
 pub mod Writing

@@ -4,5 +4,6 @@ pub mod Histories
 pub mod Inside
 pub mod Joint
 pub mod Pieces
+pub mod Short
 pub mod Starting
 pub mod Steps

@@ -9,6 +9,7 @@
 ghost use Rattle.receive_laws.specs.Healthy.{OwnRepliesAreHealthy, LooksTellPackets};
 ghost use Rattle.receive_laws.specs.Histories.{HandedIsPrefix, NoneIsAll};
 ghost use Rattle.receive_laws.specs.Inside.{PieceIsInside};
+ghost use Rattle.receive_laws.specs.Short.{FramesStayShort, ShortFramesEnd};
 ghost use Rattle.receive_laws.specs.Starting.{StartAgrees};
 ghost use Rattle.receive_laws.specs.Steps.{LookTellsSlot, ReceiveStepKeeps, EnableStepKeeps, LeavingKeeps, OwnEventKeeps, ForeignEntryKeeps, DeviceStepKeeps};
 
@@ -68,4 +69,12 @@ pub fn fresh_ring_agrees()
 pub fn own_replies_are_healthy()
     ensures replies { OwnRepliesAreHealthy }
     ensures packets { LooksTellPackets }
+{}
+
+/// Where the frames that wait for the queue have at most 2,048 bytes, and longer ones aren't let in, it stays so over
+/// every event that writes no setting; and where the device and the driver agree, each piece that is written on the
+/// queue then ends its frame.
+pub fn short_frames_end_where_they_are_written()
+    ensures stay { FramesStayShort }
+    ensures end { ShortFramesEnd }
 {}

@@ -6,17 +6,17 @@ use Rattle.std.proofs.lemmas.Bool.{cases_eq, both_ways, and_from, or_left, or_ri
 use Rattle.dma_arena.specs.Block.{Block}
 use Rattle.dma_arena.specs.Memory.{has_block}
 use Rattle.dma_arena.proofs.Bus.{get-remove_same, get-remove_other}
-use Rattle.nic_device.specs.Outcome.{Outcome, gives}
+use Rattle.nic_device.specs.Outcome.{Outcome}
 use Rattle.nic_device.specs.State.{State}
 use Rattle.nic_device.specs.Step.{step_of, after}
 use Rattle.nic_device.specs.declared.event.Event.{Event}
 use Rattle.nic_device.specs.declared.event.Event.TheVariants as event
-use Rattle.nic_device.specs.declared.event.Reply.TheVariants.{Done, Buf}
+use Rattle.nic_device.specs.declared.event.Reply.TheVariants.{Buf}
 use Rattle.nic_device.proofs.Cases.{taken_cases}
 use Rattle.nic_device.proofs.KeptBlocks.{keeps_blocks}
 use Rattle.device_lock.specs.Alone.{Blocks}
 use Rattle.device_laws.proofs.Standing.{memory_blocks}
-use Rattle.history_laws.specs.Lent.{OnlyLent, LendsNone, with_lent, without, OnlyLentStays, AnewIsDone}
+use Rattle.history_laws.specs.Lent.{OnlyLent, LendsNone, with_lent, without, OnlyLentStays}
 
 module _ (s : State) (n : ℕ) where
   abbrev Was : Outcome → Type 0
@@ -81,11 +81,3 @@ only_lent_stays = record {
   anew = λ own known s block only is.
       not_so (has_block s.memory block.number) (known block.number) (only block.number is);
 }
-
-lent_anew : (s : State) (block : Block) → has_block s.memory block.number ≡ false
-    → step_of s (event.Lend block) ≡ gives Done (record s { memory = map.insert s.memory block.number block.bytes })
-unfolding step_of
-lent_anew s block none = rw none refl
-
-pub anew_is_done : AnewIsDone
-anew_is_done s block none = ap (λ (o : Outcome). o.reply) (lent_anew s block none)

@@ -16,7 +16,7 @@ use Rattle.nic_device.specs.declared.event.Port.{Port}
 use Rattle.nic_device.specs.declared.event.Reply.{Reply}
 use Rattle.nic_device.specs.declared.event.Reply.TheVariants as reply
 use Rattle.history_laws.specs.Lent.{LendsAnew}
-use Rattle.history_laws.proofs.Lent.{anew_is_done}
+use Rattle.history_laws.proofs.Calls.{anew_is_done, taken_is, poked_is}
 use Rattle.pmd_rx.specs.Receive.{Receive, Stage, Looks, Sees, Holding, Lent, Named, IsOwn, TakesNext, NamesNext, MovesNext, slot_at, descriptor_at, block_at, vacant}
 use Rattle.pmd_rx.specs.Wrong.{is_whole, is_healthy}
 use Rattle.receive_laws.specs.Healthy.{OwnRepliesAreHealthy, TellsPacket, LooksTellPackets}
@@ -24,11 +24,9 @@ use Rattle.receive_laws.specs.Joint.{StageHolds, Holds}
 use Rattle.receive_laws.specs.Pieces.{Piece, piece_at, AllEnd}
 use Rattle.receive_laws.specs.Steps.{TellsSlot}
 use Rattle.receive_laws.proofs.Looking.{descriptor_lent, look_tells, looked_is}
-use Rattle.receive_laws.proofs.Naming.{poked_is}
 use Rattle.receive_laws.proofs.Own.{look_of}
 use Rattle.receive_laws.proofs.Places.{aligned}
 use Rattle.receive_laws.proofs.Tail.{tail_written}
-use Rattle.receive_laws.proofs.Taking.{taken_is}
 
 -- the pieces that stand in slots end their frames, as all do
 

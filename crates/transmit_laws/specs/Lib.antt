@@ -1,6 +1,7 @@
 pub mod Agreeing
 pub mod Alone
 pub mod Counting
+pub mod Healthy
 pub mod Laws
 pub mod Off
 pub mod Sent

@@ -6,6 +6,7 @@
 #![tactic(auto)]
 
 ghost use Rattle.transmit_laws.specs.Counting.{SentIsCounted, SentIsTold};
+ghost use Rattle.transmit_laws.specs.Healthy.{OwnRepliesAreHealthy};
 ghost use Rattle.transmit_laws.specs.Off.{OffStays, GuardIsOff};
 ghost use Rattle.transmit_laws.specs.Laws.{StepsOfQueueKeep, SparingEventsKeep, LeftAloneIsSpared, MovesKeep, SentIsPrefix, IdleIsAllSent, WaitingIsNotAllSent, SentIsPrefixOfTaken, AloneMayRun, SentIsPrefixWhereAlone};
 
@@ -71,4 +72,11 @@ pub fn queue_off_stays_off()
 /// bit 25 as 0 finds it off.
 pub fn guarded_queue_is_off()
     ensures { GuardIsOff }
+{}
+
+/// Each move of the driver's own gets the reply of a healthy queue where the two agree, and the block of a packet that is
+/// accepted isn't lent yet: the block is lent, its descriptor written and the tail moved on, the oldest descriptor told,
+/// and the block of a packet that was seen sent is taken back.
+pub fn own_replies_are_healthy()
+    ensures { OwnRepliesAreHealthy }
 {}

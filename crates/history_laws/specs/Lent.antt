@@ -23,6 +23,15 @@ abbrev pub LendsAnew : State → Event Block → Type 0
 LendsAnew s (event.Lend block) = IsFalse (has_block s.memory block.number)
 LendsAnew s other = ⊤
 
+-- what either of two has lent
+abbrev pub either : Blocks → Blocks → Blocks
+either xs ys number = xs number || ys number
+
+-- an event lends one of these numbers at most, which others haven't lent
+abbrev pub LendsOwn : Blocks → Blocks → Event Block → Type 0
+LendsOwn own others (event.Lend block) = IsTrue (own block.number) × IsFalse (others block.number)
+LendsOwn own others other = ⊤
+
 -- what was lent, and a block that was lent now; and what was lent, without one that was taken back
 abbrev pub with_lent : Blocks → ℕ → Blocks
 with_lent known taken number = number == taken || known number

@@ -35,8 +35,8 @@ pub fn rings_stay_aligned()
 {}
 
 /// Where of some numbers only those are lent that a driver knows to be, it stays so over every event: over one that
-/// lends none of them, over the lending of a block, which the driver knows from then on, and over one that takes a block
-/// back, which it knows no longer. And a block whose number isn't known is lent as it is asked.
+/// lends none of them, over the lending of a block, which the driver knows from then on, and over one that takes a
+/// block back, which it knows no longer. And a block whose number isn't known is lent as it is asked.
 pub fn only_known_blocks_are_lent()
     ensures stays { OnlyLentStays }
     ensures done { AnewIsDone }

@@ -8,11 +8,13 @@ pub mod Entries
 pub mod Examples
 pub mod Filled
 pub mod Foreign
+pub mod HasLent
 pub mod Healthy
 pub mod Histories
 pub mod Inside
 pub mod Kept
 pub mod Lending
+pub mod Lent
 pub mod Looking
 pub mod Mine
 pub mod Moving

@@ -3,6 +3,7 @@ pub mod Healthy
 pub mod Histories
 pub mod Inside
 pub mod Joint
+pub mod Lent
 pub mod Pieces
 pub mod Short
 pub mod Starting

@@ -29,7 +29,8 @@ module _ (s : State) (queue : ℕ) (sent : List (List ℕ)) (v : Sender) (f : �
       → Healthy Asks (event.Poke16 (descriptor_at v.layout v.posted) (asking (packet_at v v.posted)))
   ask_healthy more =
       let a = descriptor_at v.layout v.posted in
-      by_outcome Asks _ _ (poked_is s a (asking (packet_at v v.posted)) (eq-eqb (a % 16) 0 (slot-even v h.based.layout v.posted))
+      by_outcome Asks _ _ (poked_is s a (asking (packet_at v v.posted))
+      (eq-eqb (a % 16) 0 (slot-even v h.based.layout v.posted))
       (slot-lent v h.based.layout s.memory v.posted (omega (arith, h.counted.room, more)) h.shows.ring)) refl
 
   reap_healthy : 0 < f → Healthy Reaps (event.Take (packet_at v 0).block)

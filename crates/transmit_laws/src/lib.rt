@@ -74,9 +74,9 @@ pub fn guarded_queue_is_off()
     ensures { GuardIsOff }
 {}
 
-/// Each move of the driver's own gets the reply of a healthy queue where the two agree, and the block of a packet that is
-/// accepted isn't lent yet: the block is lent, its descriptor written and the tail moved on, the oldest descriptor told,
-/// and the block of a packet that was seen sent is taken back.
+/// Each move of the driver's own gets the reply of a healthy queue where the two agree, and the block of a packet that
+/// is accepted isn't lent yet: the block is lent, its descriptor written and the tail moved on, the oldest descriptor
+/// told, and the block of a packet that was seen sent is taken back.
 pub fn own_replies_are_healthy()
     ensures { OwnRepliesAreHealthy }
 {}

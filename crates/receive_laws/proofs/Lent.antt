@@ -1,7 +1,7 @@
 -- Of some numbers only known ones stay lent over the driver's own events.
-use Rattle.std.proofs.Common.{◌≡◌, ℕ, inl, inr, Bool, true, false, ◌||◌, not, List, refl, ap}
+use Rattle.std.proofs.Common.{◌≡◌, ℕ, inl, inr, true, false, ◌||◌, not, List, refl, ap}
 use Rattle.std.specs.Prelude.{◌==◌}
-use Rattle.std.proofs.lemmas.Bool.{or_cases, or_left, or_right, or_from, and_parts, eqb-false}
+use Rattle.std.proofs.lemmas.Bool.{or_cases, or_left, or_right, or_from, and_parts, not-true, eqb-false}
 use Rattle.dma_arena.specs.Block.{Block}
 use Rattle.dma_arena.specs.Memory.{Memory}
 use Rattle.device_lock.specs.Alone.{Blocks}
@@ -19,10 +19,6 @@ use Rattle.pmd_rx.specs.Keeping.{fresh_block}
 use Rattle.pmd_rx.specs.Receive.{Receive, Stage, Looks, Sees, Holding, Lent, Named, IsOwn, LendsNext, PeeksNext, TakesNext, drive, took, lent_one}
 use Rattle.receive_laws.specs.Lent.{has_lent, OwnLendsAreKnown}
 use Rattle.receive_laws.proofs.HasLent.{Has, has_looked, has_named, has_moved, has_took, has_lent_one, unknown}
-
-not_true : (b : Bool) → not b ≡ true → b ≡ false
-not_true true e = cc
-not_true false e = refl
 
 -- what is known of the numbers
 
@@ -46,7 +42,7 @@ module _ (own others : Blocks) (s : State) (v : Receive)
         elim (or_cases (has_lent v k) (others k) both.1) [
           | inl mine ↦
               or_left (has_lent (took v v.stage b) k) (others k)
-              (has_took v k v.stage n b refl may (eqb-false k n (not_true (k == n) both.0)) mine)
+              (has_took v k v.stage n b refl may (eqb-false k n (not-true (k == n) both.0)) mine)
           | inr theirs ↦ or_right (has_lent (took v v.stage b) k) (others k) theirs
         ]
 

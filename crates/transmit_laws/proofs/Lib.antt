@@ -13,6 +13,7 @@ pub mod Guard
 pub mod Healthy
 pub mod LeftBlocks
 pub mod LeftSide
+pub mod Lent
 pub mod Looking
 pub mod Mine
 pub mod Moving

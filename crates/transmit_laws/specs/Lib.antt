@@ -3,6 +3,7 @@ pub mod Alone
 pub mod Counting
 pub mod Healthy
 pub mod Laws
+pub mod Lent
 pub mod Off
 pub mod Sent
 pub mod Sparing

@@ -7,6 +7,7 @@
 
 ghost use Rattle.transmit_laws.specs.Counting.{SentIsCounted, SentIsTold};
 ghost use Rattle.transmit_laws.specs.Healthy.{OwnRepliesAreHealthy};
+ghost use Rattle.transmit_laws.specs.Lent.{OwnLendsAreKnown};
 ghost use Rattle.transmit_laws.specs.Off.{OffStays, GuardIsOff};
 ghost use Rattle.transmit_laws.specs.Laws.{StepsOfQueueKeep, SparingEventsKeep, LeftAloneIsSpared, MovesKeep, SentIsPrefix, IdleIsAllSent, WaitingIsNotAllSent, SentIsPrefixOfTaken, AloneMayRun, SentIsPrefixWhereAlone};
 
@@ -79,4 +80,11 @@ pub fn guarded_queue_is_off()
 /// told, and the block of a packet that was seen sent is taken back.
 pub fn own_replies_are_healthy()
     ensures { OwnRepliesAreHealthy }
+{}
+
+/// Where of some numbers, as an arena's, only those are lent that the sender has lent or others have, each move of the
+/// driver's own leaves it so, with the sender that it leads to; and a packet that is accepted, whose block is of these
+/// numbers and lent by no other, has a block that isn't lent yet.
+pub fn own_lends_are_known()
+    ensures { OwnLendsAreKnown }
 {}

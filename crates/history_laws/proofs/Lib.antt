@@ -1,6 +1,8 @@
 pub mod Aligned
 pub mod Alone
 pub mod Beginning
+pub mod Calls
+pub mod Lent
 pub mod LowResets
 pub mod LowWords
 pub mod Modes

@@ -1,4 +1,5 @@
 pub mod Aligned
 pub mod Alone
 pub mod Laws
+pub mod Lent
 pub mod Staged

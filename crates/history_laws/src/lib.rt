@@ -4,6 +4,7 @@
 #![tactic(auto)]
 
 ghost use Rattle.history_laws.specs.Aligned.{NewRingsAreAligned, EventsKeepAligned, HistoriesKeepAligned, ReportsLieInBlocks};
+ghost use Rattle.history_laws.specs.Lent.{OnlyLentStays, AnewIsDone};
 ghost use Rattle.history_laws.specs.Laws.{ModeIsTold, AloneByEntries, BeginningIsAlone, HistoriesKeepSound};
 ghost use Rattle.history_laws.specs.Staged.{NewSidesStageWhileOn, EventsKeepStaged, HistoriesKeepStaged};
 
@@ -39,4 +40,12 @@ pub fn sides_stage_bytes_while_on()
     ensures new { NewSidesStageWhileOn }
     ensures event { EventsKeepStaged }
     ensures history { HistoriesKeepStaged }
+{}
+
+/// Where of some numbers only those are lent that a driver knows to be, it stays so over every event: over one that
+/// lends none of them, over the lending of a block, which the driver knows from then on, and over one that takes a
+/// block back, which it knows no longer. And a block whose number isn't known is lent as it is asked.
+pub fn only_known_blocks_are_lent()
+    ensures stays { OnlyLentStays }
+    ensures done { AnewIsDone }
 {}

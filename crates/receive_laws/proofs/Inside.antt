@@ -1,5 +1,5 @@
 -- A step of receiving on the driver's own queue writes into blocks that the driver has lent for it.
-use Rattle.std.proofs.Common.{◌≡◌, ◌≢◌, ℕ, ◌+◌, ◌*◌, ◌<◌, ◌≤◌, inl, inr, Bool, false, List, [], ◌∷◌, length, refl, sym, ap, ◌∙◌, subst, arith, Ok}
+use Rattle.std.proofs.Common.{◌≡◌, ◌≢◌, ℕ, ◌+◌, ◌<◌, ◌≤◌, inl, inr, false, List, [], ◌∷◌, length, refl, sym, ◌∙◌, subst, arith, Ok}
 use Rattle.std.specs.Prelude.{⊤}
 use Rattle.std.proofs.lemmas.Bool.{cases_eq, cases_lt}
 use Rattle.dma_arena.specs.Block.{Block}
@@ -14,11 +14,11 @@ use Rattle.nic_device.specs.Step.{reply_to}
 use Rattle.nic_device.specs.declared.event.Event.TheVariants as event
 use Rattle.nic_device.specs.declared.event.Reply.{Reply}
 use Rattle.nic_device.specs.declared.event.Reply.TheVariants.{Wrote}
-use Rattle.pmd_rx.specs.Receive.{Layout, Receive, slot_at, descriptor_at, block_at}
+use Rattle.pmd_rx.specs.Receive.{Layout, Receive, slot_at, block_at}
 use Rattle.receive_laws.specs.Inside.{IsInside, PieceIsInside}
 use Rattle.receive_laws.specs.Joint.{IsRing, IsSetUp, HasSlots, Agree}
 use Rattle.receive_laws.specs.Pieces.{Piece}
-use Rattle.receive_laws.proofs.Cases.{IsOn, IsTried, fill_on, step_cases, wrote_first, wrote_none}
+use Rattle.receive_laws.proofs.Cases.{IsOn, fill_on, step_cases, wrote_first, wrote_none}
 use Rattle.receive_laws.proofs.Kept.{slot_low}
 use Rattle.receive_laws.proofs.Places.{slot_inside, bytes_inside}
 use Rattle.receive_laws.proofs.Receiving.{head_is, buffer_is, room_left}

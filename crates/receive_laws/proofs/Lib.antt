@@ -8,10 +8,13 @@ pub mod Entries
 pub mod Examples
 pub mod Filled
 pub mod Foreign
+pub mod HasLent
+pub mod Healthy
 pub mod Histories
 pub mod Inside
 pub mod Kept
 pub mod Lending
+pub mod Lent
 pub mod Looking
 pub mod Mine
 pub mod Moving
@@ -22,10 +25,12 @@ pub mod Prefix
 pub mod Quiet
 pub mod Received
 pub mod Receiving
+pub mod Short
 pub mod Spared
 pub mod Starting
 pub mod Switching
 pub mod Tail
 pub mod Taking
 pub mod Transmitting
+pub mod Waiting
 pub mod Writing

@@ -1,6 +1,5 @@
 -- The descriptor at the vacant slot names the block that was lent.
-use Rattle.std.proofs.Common.{◌≡◌, ◌≢◌, ℕ, ◌*◌, ◌%◌, ◌<◌, ◌≤◌, true, List, ◌++◌, length, refl, sym, ap, ◌∙◌, subst, arith, Option}
-use Rattle.std.specs.Prelude.{◌==◌}
+use Rattle.std.proofs.Common.{◌≡◌, ◌≢◌, ℕ, ◌*◌, ◌<◌, ◌≤◌, true, List, ◌++◌, length, sym, ap, ◌∙◌, subst, arith, Option}
 use Rattle.dma_arena.specs.Memory.{Memory, is_lent, read_at, write_at, IsWhole, SameLent, AreApart}
 use Rattle.dma_arena.proofs.Bus.{SameLent-write_at, read_at-write_at_same, read_at-write_at_apart}
 use Rattle.dma_ring.specs.Descriptor.{first_half, second_half}
@@ -9,10 +8,10 @@ use Rattle.dma_ring.specs.Laws.{HasHalves}
 use Rattle.dma_ring.specs.Receive.{is_done}
 use Rattle.dma_ring.proofs.Fields.{halves_come_back}
 use Rattle.nic_device.specs.State.{State}
-use Rattle.nic_device.specs.Outcome.{Outcome, gives}
-use Rattle.nic_device.specs.Step.{step_of, after, reply_to}
+use Rattle.nic_device.specs.Outcome.{Outcome}
+use Rattle.nic_device.specs.Step.{after, reply_to}
 use Rattle.nic_device.specs.declared.event.Event.TheVariants as event
-use Rattle.nic_device.specs.declared.event.Reply.TheVariants.{Done}
+use Rattle.history_laws.proofs.Calls.{poked_is}
 use Rattle.pmd_base.specs.declared.packet.Packet.{Packet}
 use Rattle.pmd_rx.specs.Receive.{Layout, Lent, Receive, slot_at, descriptor_at, block_at, vacant, held, naming, named, drive}
 use Rattle.receive_laws.specs.Joint.{IsPosted, IsRing, IsLoose, StageHolds, HasSlots, Agree}
@@ -82,11 +81,6 @@ module _ (m : Memory) (l : Layout) (here : List Piece) (ring : IsRing l) (h : Ha
 
   named_stage : IsLoose n l b × IsPosted n (descriptor_at l (vacant l)) b
   named_stage = (IsLoose-kept m n l b (same b) loose, posted_here)
-
-poked_is : (s : State) (a : ℕ) (bytes : List ℕ) → (a % 16 == 0) ≡ true → is_lent s.memory a 16 ≡ true
-    → step_of s (event.Poke16 a bytes) ≡ gives Done (record s { memory = write_at s.memory a bytes })
-unfolding step_of
-poked_is s a bytes straight lent = rw (straight, lent) refl
 
 pub name_keeps : (queue : ℕ) (s : State) (out : List Piece) (v : Receive) (o : Option Packet) (b : ℕ)
     → IsWhole s.memory → Agree queue s out v → v.stage ≡ Lent o b

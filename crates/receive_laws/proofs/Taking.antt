@@ -7,10 +7,11 @@ use Rattle.dma_arena.proofs.Bus.{of_some}
 use Rattle.dma_ring.specs.Receive.{bytes_in}
 use Rattle.register_file.specs.Sides.{receive_queue_of}
 use Rattle.nic_device.specs.State.{State}
-use Rattle.nic_device.specs.Outcome.{Outcome, gives}
-use Rattle.nic_device.specs.Step.{after, reply_to, step_of}
+use Rattle.nic_device.specs.Outcome.{Outcome}
+use Rattle.nic_device.specs.Step.{after, reply_to}
 use Rattle.nic_device.specs.declared.event.Event.TheVariants as event
 use Rattle.pmd_base.specs.Packet.{kept_of}
+use Rattle.history_laws.proofs.Calls.{taken_is}
 use Rattle.pmd_rx.specs.Receive.{Receive, Sees, told, took, drive, held, descriptor_at, block_at, Holding, consumed}
 use Rattle.receive_laws.specs.Joint.{IsFilled, Saw, StageHolds, Agree, InOrder}
 use Rattle.receive_laws.specs.Pieces.{Piece, piece_at, packet_told, whole_packet, no_piece, AllEnd}
@@ -18,14 +19,7 @@ use Rattle.receive_laws.proofs.Kept.{named_kept}
 use Rattle.receive_laws.proofs.Consuming.{ring_on, slots_on, set_up_on}
 use Rattle.std.proofs.lemmas.List.{append-nil, map-append, drop_more}
 use Rattle.dma_arena.proofs.Blocks.{read_at_in}
-use Rattle.nic_device.specs.declared.event.Reply.TheVariants.{Buf}
 use Rattle.pmd_base.specs.declared.packet.Packet.{Packet}
-
-taken_is : (s : State) (b : ℕ) (bytes : List ℕ) → map.get s.memory b ≡ Some bytes
-    → step_of s (event.Take b)
-    ≡ gives (Buf (record { number = b; bytes = bytes })) (record s { memory = map.remove s.memory b })
-unfolding step_of
-taken_is s b bytes is = rw is refl
 
 part_front : (xs : List ℕ) (n : ℕ) → part xs 0 n ≡ take n xs
 unfolding part

@@ -1,7 +1,10 @@
 pub mod Delivered
+pub mod Healthy
 pub mod Histories
 pub mod Inside
 pub mod Joint
+pub mod Lent
 pub mod Pieces
+pub mod Short
 pub mod Starting
 pub mod Steps

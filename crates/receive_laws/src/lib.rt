@@ -6,8 +6,11 @@
 //! `pmd_rx` says it follows from the driver's own calls.
 #![tactic(auto)]
 
+ghost use Rattle.receive_laws.specs.Healthy.{OwnRepliesAreHealthy, LooksTellPackets};
 ghost use Rattle.receive_laws.specs.Histories.{HandedIsPrefix, NoneIsAll};
 ghost use Rattle.receive_laws.specs.Inside.{PieceIsInside};
+ghost use Rattle.receive_laws.specs.Lent.{OwnLendsAreKnown};
+ghost use Rattle.receive_laws.specs.Short.{FramesStayShort, ShortFramesEnd};
 ghost use Rattle.receive_laws.specs.Starting.{StartAgrees};
 ghost use Rattle.receive_laws.specs.Steps.{LookTellsSlot, ReceiveStepKeeps, EnableStepKeeps, LeavingKeeps, OwnEventKeeps, ForeignEntryKeeps, DeviceStepKeeps};
 
@@ -59,4 +62,27 @@ pub fn handed_packets_are_a_prefix_of_those_delivered()
 /// As the side goes on with its ring lent and its words written, the device and a driver that posted nothing agree.
 pub fn fresh_ring_agrees()
     ensures { StartAgrees }
+{}
+
+/// Each event of the driver's own gets the reply of a healthy queue where the two agree, each piece that was written
+/// ends its frame, and a block that is lent isn't lent yet: a look tells a descriptor, of a whole packet where it is
+/// done, the block of a seen packet is taken, a fresh one lent, its descriptor written and the tail moved on.
+pub fn own_replies_are_healthy()
+    ensures replies { OwnRepliesAreHealthy }
+    ensures packets { LooksTellPackets }
+{}
+
+/// Where the frames that wait for the queue have at most 2,048 bytes, and longer ones aren't let in, it stays so over
+/// every event that writes no setting; and where the device and the driver agree, each piece that is written on the
+/// queue then ends its frame.
+pub fn short_frames_end_where_they_are_written()
+    ensures stay { FramesStayShort }
+    ensures end { ShortFramesEnd }
+{}
+
+/// Where of some numbers, as an arena's, only those are lent that the driver has lent for receiving or others have, each
+/// event of the driver's own leaves it so, with the driver that it leads to; and a block of these numbers that the
+/// driver lends, and others haven't lent, isn't lent yet.
+pub fn own_lends_are_known()
+    ensures { OwnLendsAreKnown }
 {}

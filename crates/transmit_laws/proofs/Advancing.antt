@@ -35,7 +35,7 @@ module _ (s : State) (queue : ℕ) (sent : List (List ℕ)) (v : Sender) (f : �
   abbrev t : State
   t = record s { registers = after_write s.registers (place Tdt queue) 0xFFFFFFFF slot }
 
-  written_tail : (port : Port) (n word : ℕ) → IsOwn v Advances (event.Write port n word)
+  pub written_tail : (port : Port) (n word : ℕ) → IsOwn v Advances (event.Write port n word)
       → step_of s (event.Write port n word) ≡ gives reply.Done t
   unfolding step_of
   written_tail port n word own = rw (own.1, own.2, own.3) (ap (λ m. named_written s m slot) h.based.tail)

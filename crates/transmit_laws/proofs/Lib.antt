@@ -10,8 +10,10 @@ pub mod Examples
 pub mod Fetching
 pub mod Frames
 pub mod Guard
+pub mod Healthy
 pub mod LeftBlocks
 pub mod LeftSide
+pub mod Lent
 pub mod Looking
 pub mod Mine
 pub mod Moving

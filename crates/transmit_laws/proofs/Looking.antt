@@ -21,7 +21,7 @@ module _ (s : State) (queue : ℕ) (sent : List (List ℕ)) (v : Sender) (f : �
   descriptor = read_at s.memory (descriptor_at v.layout 0) 16
 
   -- a look at the oldest outstanding packet's descriptor answers its bytes and changes nothing
-  look : step_of s (event.Peek16 (descriptor_at v.layout 0)) ≡ gives (reply.Bytes descriptor) s
+  pub look : step_of s (event.Peek16 (descriptor_at v.layout 0)) ≡ gives (reply.Bytes descriptor) s
   unfolding step_of
   look =
       rw (

@@ -1,7 +1,9 @@
 pub mod Agreeing
 pub mod Alone
 pub mod Counting
+pub mod Healthy
 pub mod Laws
+pub mod Lent
 pub mod Off
 pub mod Sent
 pub mod Sparing

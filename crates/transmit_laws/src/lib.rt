@@ -6,6 +6,8 @@
 #![tactic(auto)]
 
 ghost use Rattle.transmit_laws.specs.Counting.{SentIsCounted, SentIsTold};
+ghost use Rattle.transmit_laws.specs.Healthy.{OwnRepliesAreHealthy};
+ghost use Rattle.transmit_laws.specs.Lent.{OwnLendsAreKnown};
 ghost use Rattle.transmit_laws.specs.Off.{OffStays, GuardIsOff};
 ghost use Rattle.transmit_laws.specs.Up.{UpStays};
 ghost use Rattle.transmit_laws.specs.Laws.{StepsOfQueueKeep, SparingEventsKeep, LeftAloneIsSpared, MovesKeep, SentIsPrefix, IdleIsAllSent, WaitingIsNotAllSent, SentIsPrefixOfTaken, AloneMayRun, SentIsPrefixWhereAlone};
@@ -78,4 +80,18 @@ pub fn queue_up_stays_up()
 /// bit 25 as 0 finds it off.
 pub fn guarded_queue_is_off()
     ensures { GuardIsOff }
+{}
+
+/// Each move of the driver's own gets the reply of a healthy queue where the two agree, and the block of a packet that
+/// is accepted isn't lent yet: the block is lent, its descriptor written and the tail moved on, the oldest descriptor
+/// told, and the block of a packet that was seen sent is taken back.
+pub fn own_replies_are_healthy()
+    ensures { OwnRepliesAreHealthy }
+{}
+
+/// Where of some numbers, as an arena's, only those are lent that the sender has lent or others have, each move of the
+/// driver's own leaves it so, with the sender that it leads to; and a packet that is accepted, whose block is of these
+/// numbers and lent by no other, has a block that isn't lent yet.
+pub fn own_lends_are_known()
+    ensures { OwnLendsAreKnown }
 {}

@@ -20,7 +20,7 @@ use Rattle.transmit_laws.specs.Agreeing.{bytes_of, kept_in}
 use Rattle.transmit_laws.specs.Laws as transmit
 use Rattle.transmit_laws.specs.Sent.{sent_in}
 use Rattle.transmit_laws.proofs.Runs.{idle-all}
-use Rattle.driver_laws.specs.Halves.{Halves, Doer, played_by}
+use Rattle.pmd.specs.Halves.{Halves, Doer, played_by}
 use Rattle.driver_laws.specs.Histories.{IsDriven, HandedIsPrefix, NoneIsAll, SentIsPrefix, IdleIsAllSent}
 use Rattle.driver_laws.proofs.Runs.{Led, leads}
 

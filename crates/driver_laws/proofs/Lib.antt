@@ -1,5 +1,4 @@
 pub mod Apart
-pub mod Calls
 pub mod Each
 pub mod Entries
 pub mod InOrder

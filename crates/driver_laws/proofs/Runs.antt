@@ -20,8 +20,8 @@ use Rattle.receive_laws.specs.Delivered.{pieces_in, pieces_since}
 use Rattle.receive_laws.specs.Pieces.{Piece, pieces}
 use Rattle.receive_laws.proofs.Mine.{LendsMine}
 use Rattle.transmit_laws.specs.Sent.{sent_by, sent_in}
+use Rattle.pmd.specs.Halves.{Halves, Doer, OwnCall, AllOwn, after_call, played_by}
 use Rattle.driver_laws.specs.Agreeing.{BothAgree}
-use Rattle.driver_laws.specs.Halves.{Halves, Doer, OwnCall, AllOwn, after_call, played_by}
 use Rattle.driver_laws.specs.Histories.{OthersLeaveAlone, doer_of, doers_after, is_neither}
 use Rattle.driver_laws.proofs.Entries.{doer_keeps, goes_on}
 use Rattle.driver_laws.proofs.Meeting.{Meets}

@@ -17,8 +17,8 @@ use Rattle.receive_laws.specs.Histories.{FindsNone}
 use Rattle.transmit_laws.specs.Agreeing.{bytes_of}
 use Rattle.transmit_laws.specs.Laws as transmit
 use Rattle.transmit_laws.specs.Sent.{sent_in}
+use Rattle.pmd.specs.Halves.{Halves, Doer, Sends, AllOwn, played_by}
 use Rattle.driver_laws.specs.Agreeing.{AreLent, BothAgree}
-use Rattle.driver_laws.specs.Halves.{Halves, Doer, Sends, AllOwn, played_by}
 
 -- whose an entry is, of the driver's pass or of another, and the doers that are left after it: the entries of the pass
 -- are theirs in turn, and those of other passes neither half's

@@ -1,5 +1,6 @@
 pub mod Blocks
 pub mod Both
+pub mod Calls
 pub mod Driving
 pub mod Handing
 pub mod Late

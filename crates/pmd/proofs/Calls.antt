@@ -4,7 +4,7 @@ use Rattle.device_lock.specs.declared.entry.Call.{Call}
 use Rattle.pmd_rx.specs.Plays as receive
 use Rattle.pmd_tx.specs.Plays as transmit
 use Rattle.pmd_tx.specs.Sending.{Move, Elsewhere}
-use Rattle.driver_laws.specs.Halves.{Halves, Doer, Receives, Sends, AllOwn, after_call, played_by, ReceivingDrives, SendingDrives, OthersDrive, DrivesOn}
+use Rattle.pmd.specs.Halves.{Halves, Doer, Receives, Sends, AllOwn, after_call, played_by, ReceivingDrives, SendingDrives, OthersDrive, DrivesOn}
 
 -- the calls of one half
 

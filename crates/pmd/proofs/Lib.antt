@@ -5,5 +5,6 @@ pub mod Driving
 pub mod Handing
 pub mod Late
 pub mod Leaving
+pub mod Living
 pub mod Sending
 pub mod Starting

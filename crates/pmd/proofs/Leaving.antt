@@ -1,12 +1,13 @@
--- A driver that a start leaves has handed nothing out.
+-- A driver that a start leaves has handed nothing out, and accepted nothing.
 use Rattle.std.proofs.Common.{◌≡◌, ℕ, List, [], ap, ◌∙◌}
 use Rattle.dma_arena.specs.Numbers.{Numbers}
 use Rattle.device_lock.specs.declared.entry.Call.{Call}
 use Rattle.pmd_halt.specs.Halted.{Halted}
 use Rattle.pmd_queue.specs.Named.{AtPort}
 use Rattle.pmd_rx.specs.Receive.{Receive}
-use Rattle.pmd.specs.Started.{left_handed, IsHome, IsHalfStarted}
-use Rattle.pmd.specs.Starting.{IsReceiveReady}
+use Rattle.pmd_tx.specs.Sending.{Sender}
+use Rattle.pmd.specs.Started.{left_accepted, left_handed, IsHome, IsHalfStarted}
+use Rattle.pmd.specs.Starting.{IsReceiveReady, IsTransmitReady}
 use Rattle.pmd.specs.declared.start.Rest.{Rest}
 use Rattle.pmd.specs.declared.start.Rest.TheVariants as rest
 
@@ -14,9 +15,20 @@ pub home_handed : (a : Numbers) (r : Rest) → IsHome a r → left_handed r ≡ 
 home_handed a (rest.Home h) is = let (arena, lost, handed, accepted) = is in handed
 home_handed a (rest.Running p) is = absurd is
 
+pub home_accepted : (a : Numbers) (r : Rest) → IsHome a r → left_accepted r ≡ []
+home_accepted a (rest.Home h) is = let (arena, lost, handed, accepted) = is in accepted
+home_accepted a (rest.Running p) is = absurd is
+
 pub half_handed : (q : AtPort) (h : Halted) (r : Rest) → h.handed ≡ [] → IsHalfStarted q h r → left_handed r ≡ []
 half_handed q h r none is = ap left_handed is ∙ none
+
+pub half_accepted : (q : AtPort) (h : Halted) (r : Rest) → h.accepted ≡ [] → IsHalfStarted q h r → left_accepted r ≡ []
+half_accepted q h r none is = ap left_accepted is ∙ none
 
 pub ready_handed : (q : AtPort) (size : ℕ) (old : List Call) (a : Numbers) (new : List Call) (b : Numbers)
     (v : Receive) → IsReceiveReady q size old a new b v → v.handed ≡ []
 ready_handed q size old a new b v ready = ap (λ (x : Receive). x.handed) ready.fresh
+
+pub ready_accepted : (q : AtPort) (size : ℕ) (old : List Call) (a : Numbers) (new : List Call) (b : Numbers)
+    (v : Sender) → IsTransmitReady q size old a new b v → v.accepted ≡ []
+ready_accepted q size old a new b v ready = ap (λ (x : Sender). x.accepted) ready.fresh

@@ -1,4 +1,6 @@
 pub mod Driver
+pub mod Halves
+pub mod Life
 pub mod Running
 pub mod Started
 pub mod Starting

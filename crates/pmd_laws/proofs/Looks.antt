@@ -24,8 +24,8 @@ use Rattle.start_laws.specs.Along.{AtEntries, IsAlong}
 use Rattle.start_laws.specs.Start.{BeginsWell}
 use Rattle.start_laws.proofs.Along.{legal_before}
 use Rattle.driver_laws.specs.Going.{GoesOn}
-use Rattle.driver_laws.specs.Halves.{Halves, halves_of}
-use Rattle.driver_laws.proofs.Calls.{halves_go_on, others_go_on}
+use Rattle.pmd.specs.Halves.{Halves, halves_of}
+use Rattle.driver_laws.proofs.Going.{halves_go_on, others_go_on}
 use Rattle.pmd_laws.specs.Looks.{LooksInVain, NoneIsAllBefore}
 use Rattle.pmd_laws.specs.Order.{IsLived}
 use Rattle.pmd_laws.proofs.Order.{none_of_life}

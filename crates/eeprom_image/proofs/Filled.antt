@@ -54,7 +54,8 @@ with_lines-empty content line more empty =
 
 -- what the first line says that isn't empty, where there is one, and those behind it
 abbrev IsNext : List NumberedLine → Option (ℕ × TextLine) → List NumberedLine → Type 0
-IsNext lines result behind = MatchOption result (filled lines ≡ []) (λ said. SaysFirst said.0 said.1 (filled lines) behind)
+IsNext lines result behind =
+    MatchOption result (filled lines ≡ []) (λ said. SaysFirst said.0 said.1 (filled lines) behind)
 
 with_lines-none : (content : Content) (lines : List NumberedLine) → lines ≡ [] → with_lines content lines ≡ Ok content
 unfolding with_lines

@@ -73,7 +73,7 @@ fn next_said(lines: &mut Lines<'_>) -> Option<(usize, TextLine)>
     }
 }
 
-/// What the next line says that isn't empty, and its number: those before it give nothing. The lines behind it are left.
+/// What the next line says that isn't empty, and its number: those before it give nothing. The lines behind it stay.
 fn next_filled(lines: &mut Lines<'_>) -> Option<(usize, TextLine)>
     ensures given { (content : Content) → MatchOption result (with_lines content lines.old ≡ Ok content)
         (λ said. with_lines content lines.old

@@ -1,3 +1,4 @@
 pub mod Begun
+pub mod Ends
 pub mod Looks
 pub mod Order

@@ -1,10 +1,11 @@
 //! What a driver's whole life so far gives: it started, and since then it received and sent.
 //!
 //! Each law is the contract of a function that does nothing. `specs/Life` says what a life is by the calls of the
-//! driver's pass, `specs/Order` what holds of it over a history of a shared device, and `specs/Looks` what holds where
-//! a look finds no packet.
+//! driver's pass, `specs/Order` what holds of it over a history of a shared device, `specs/Looks` what holds where a look
+//! finds no packet, and `specs/Ends` what holds of what a stopped driver left.
 #![tactic(auto)]
 
+ghost use Rattle.pmd_laws.specs.Ends.{LeftIsPrefix};
 ghost use Rattle.pmd_laws.specs.Looks.{NoneIsAllBefore};
 ghost use Rattle.pmd_laws.specs.Order.{HandedIsPrefix, NoneIsAll, SentIsPrefix, IdleIsAllSent};
 
@@ -24,4 +25,10 @@ pub fn life_in_order()
 /// before the entry of that look was handed out, also within a longer history.
 pub fn empty_look_leaves_nothing()
     ensures { NoneIsAllBefore }
+{}
+
+/// Over such a history up to where a driver that lived was to stop, as `worker_runs::run_worker` says of its driver: what
+/// is left as handed out is a prefix of what was delivered, and what was sent a prefix of what is left as accepted.
+pub fn what_is_left_is_in_order()
+    ensures { LeftIsPrefix }
 {}

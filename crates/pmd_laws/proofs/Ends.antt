@@ -48,7 +48,7 @@ module _ (w : Watched) (fifo : ℕ) (h : List Entry) (q : AtPort) (size : ℕ) (
 pub left_is_prefix : LeftIsPrefix
 left_is_prefix w fifo h q size old a new left lived x = (
   subst (λ (kept : List Kept). receive.IsPrefixOf kept (delivered w.queue (new_state w.vfs fifo) h)) (sym lived.handed)
-  (handed w fifo h q size old a new left lived x),
+      (handed w fifo h q size old a new left lived x),
   subst (λ (kept : List Kept). transmit.IsPrefixOf (sent_since w.queue (new_state w.vfs fifo) [] h) (bytes_of kept))
-  (sym lived.accepted) (sent w fifo h q size old a new left lived x),
+      (sym lived.accepted) (sent w fifo h q size old a new left lived x),
 )

@@ -24,7 +24,7 @@ receives_played h (m ∷ marks) [] = refl
 receives_played h (true ∷ marks) (n ∷ calls) = receives_played (after_call h Receives n) marks calls
 receives_played h (false ∷ marks) (n ∷ calls) = receives_played h marks calls
 
-pub receiving_drives : ReceivingDrives
+unfoldable pub receiving_drives : ReceivingDrives
 receiving_drives old new h k (marks, since, made, own, is) same = (
   doers_marked marks,
   since,
@@ -46,7 +46,7 @@ sends_played h [] calls = refl
 sends_played h (m ∷ moves) [] = refl
 sends_played h (m ∷ moves) (n ∷ calls) = sends_played (after_call h (Sends m) n) moves calls
 
-pub sending_drives : SendingDrives
+unfoldable pub sending_drives : SendingDrives
 sending_drives old new h k (moves, since, made, own, is) same = (
   doers_moved moves,
   since,
@@ -65,7 +65,7 @@ pub others_played : (h : Halves) (calls : List Call) → h ≡ played_by h (doer
 others_played h [] = refl
 others_played h (n ∷ calls) = others_played h calls
 
-pub others_drive : OthersDrive
+unfoldable pub others_drive : OthersDrive
 others_drive old new h (since, made) = (doers_other since, since, made, others_own h since, others_played h since)
 
 -- one after another
@@ -84,7 +84,7 @@ both_played h [] es (m ∷ ms) ns own = absurd own
 both_played h (d ∷ ds) es [] ns own = absurd own
 both_played h (d ∷ ds) es (m ∷ ms) ns own = both_played (after_call h d m) ds es ms ns own.1
 
-pub drives_on : DrivesOn
+unfoldable pub drives_on : DrivesOn
 drives_on old mid new h j k (ds, ms, made, own, is) (es, ns, more, then, was) =
     let here : AllOwn (played_by h ds ms) es ns = subst (λ x. AllOwn x es ns) is then in (
       ds ++ es,

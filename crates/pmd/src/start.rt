@@ -103,7 +103,6 @@ fn bring_up<N: Nic>(
     ensures late { IfErr result (λ e. ComesLate e.fault) }
     ensures none { IfOk result (λ p. handed_of p.rings ≡ []) }
     ensures left { IfErr result (λ e. left_handed e.rest ≡ []) }
-    ensures accepted { IfErr result (λ e. left_accepted e.rest ≡ []) }
     ensures who { N.who nic.new ≡ N.who nic.old }
 {
     let mut arena = arena;

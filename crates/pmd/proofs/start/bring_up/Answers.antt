@@ -10,7 +10,7 @@ use Rattle.pmd.specs.Running.{Running}
 use Rattle.pmd.specs.Started.{IsHome, IsHalfStarted}
 use Rattle.pmd.specs.declared.driver.Rings.TheVariants.{Up}
 use Rattle.pmd.proofs.Late.{preparing_late, receive_late}
-use Rattle.pmd.proofs.Leaving.{home_accepted, home_handed, half_accepted, half_handed, ready_accepted, ready_handed}
+use Rattle.pmd.proofs.Leaving.{home_handed, half_handed, ready_handed}
 use Rattle.pmd.proofs.Starting.{prepared_count, ready_empty, receive_out, rings_out, one_out, filled_rings}
 use Rattle.pmd.proofs.start.bring_up.Goals as goal
 
@@ -145,18 +145,4 @@ returns-in-Err-go_on-clause-left g c =
     half_handed _ _ _
     (ap (λ (h : Halted). h.handed) c.of_rings-halted.ensures
     ∙ (c.go_on.ensures.handed ∙ ready_handed _ _ _ _ _ _ _ c.in-Ok.ensures.ready))
-    c.half_started-in-Err-go_on.ensures.rest
-
-pub returns-in-Err-clause-accepted : goal.returns-in-Err-clause-accepted
-returns-in-Err-clause-accepted g c = home_accepted _ _ c.at_home.ensures.rest
-
-pub returns-in-Err-transmit_ring-clause-accepted : goal.returns-in-Err-transmit_ring-clause-accepted
-returns-in-Err-transmit_ring-clause-accepted g c =
-    half_accepted _ _ _ (ap (λ (h : Halted). h.accepted) c.of_receive-halted.ensures) c.half_started.ensures.rest
-
-pub returns-in-Err-go_on-clause-accepted : goal.returns-in-Err-go_on-clause-accepted
-returns-in-Err-go_on-clause-accepted g c =
-    half_accepted _ _ _
-    (ap (λ (h : Halted). h.accepted) c.of_rings-halted.ensures
-    ∙ ready_accepted _ _ _ _ _ _ _ c.in-Ok-transmit_ring.ensures.ready)
     c.half_started-in-Err-go_on.ensures.rest

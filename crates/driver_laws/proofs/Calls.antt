@@ -1,19 +1,16 @@
 -- Both halves follow from the calls that were made.
-use Rattle.std.proofs.Common.{◌≡◌, Bool, true, false, List, [], ◌∷◌, ◌++◌, map, refl, sym, ap, ◌∙◌, subst, append_assoc}
+use Rattle.std.proofs.Common.{◌≡◌, Bool, true, false, List, [], ◌∷◌, ◌++◌, refl, sym, ap, ◌∙◌, subst, append_assoc}
 use Rattle.device_lock.specs.declared.entry.Call.{Call}
 use Rattle.pmd_rx.specs.Plays as receive
 use Rattle.pmd_tx.specs.Plays as transmit
 use Rattle.pmd_tx.specs.Sending.{Move, Elsewhere}
-use Rattle.driver_laws.specs.Halves.{Halves, Doer, Receives, Sends, AllOwn, after_call, played_by, ReceivingDrives, SendingDrives, OthersDrive, DrivesOn}
+use Rattle.driver_laws.specs.Going.{GoesOn, ReceivingGoesOn, SendingGoesOn, OthersGoOn, HalvesGoOn}
+use Rattle.driver_laws.specs.Halves.{Halves, Doer, Receives, Sends, AllOwn, OthersStep, after_call, doers_marked, doers_moved, doers_other, played_by, ReceivingDrives, SendingDrives, OthersDrive, DrivesOn}
 
 -- the calls of one half
 
-abbrev doer_marked : Bool → Doer
-doer_marked true = Receives
-doer_marked false = Sends Elsewhere
-
 receives_own : (h : Halves) (marks : List Bool) (calls : List Call) → receive.AllOwn h.receive marks calls
-    → AllOwn h (map doer_marked marks) calls
+    → AllOwn h (doers_marked marks) calls
 receives_own h [] [] own = tt
 receives_own h [] (n ∷ calls) own = own
 receives_own h (m ∷ marks) [] own = own
@@ -22,7 +19,7 @@ receives_own h (true ∷ marks) (n ∷ calls) own =
 receives_own h (false ∷ marks) (n ∷ calls) own = (tt, receives_own h marks calls own.1)
 
 receives_played : (h : Halves) (marks : List Bool) (calls : List Call)
-    → played_by h (map doer_marked marks) calls ≡ record h { receive = receive.played_by h.receive marks calls }
+    → played_by h (doers_marked marks) calls ≡ record h { receive = receive.played_by h.receive marks calls }
 receives_played h [] calls = refl
 receives_played h (m ∷ marks) [] = refl
 receives_played h (true ∷ marks) (n ∷ calls) = receives_played (after_call h Receives n) marks calls
@@ -30,29 +27,29 @@ receives_played h (false ∷ marks) (n ∷ calls) = receives_played h marks call
 
 pub receiving_drives : ReceivingDrives
 receiving_drives old new h k (marks, since, made, own, is) same = (
-  map doer_marked marks,
+  doers_marked marks,
   since,
   made,
   receives_own h marks since own,
   (λ i. record { receive = is i; transmit = same i }) ∙ sym (receives_played h marks since),
 )
 
-sends_own : (h : Halves) (moves : List Move) (calls : List Call) → transmit.AllOwn h.transmit moves calls
-    → AllOwn h (map Sends moves) calls
+pub sends_own : (h : Halves) (moves : List Move) (calls : List Call) → transmit.AllOwn h.transmit moves calls
+    → AllOwn h (doers_moved moves) calls
 sends_own h [] [] own = tt
 sends_own h [] (n ∷ calls) own = own
 sends_own h (m ∷ moves) [] own = own
 sends_own h (m ∷ moves) (n ∷ calls) own = (own.0, sends_own (after_call h (Sends m) n) moves calls own.1)
 
-sends_played : (h : Halves) (moves : List Move) (calls : List Call)
-    → played_by h (map Sends moves) calls ≡ record h { transmit = transmit.played_by h.transmit moves calls }
+pub sends_played : (h : Halves) (moves : List Move) (calls : List Call)
+    → played_by h (doers_moved moves) calls ≡ record h { transmit = transmit.played_by h.transmit moves calls }
 sends_played h [] calls = refl
 sends_played h (m ∷ moves) [] = refl
 sends_played h (m ∷ moves) (n ∷ calls) = sends_played (after_call h (Sends m) n) moves calls
 
 pub sending_drives : SendingDrives
 sending_drives old new h k (moves, since, made, own, is) same = (
-  map Sends moves,
+  doers_moved moves,
   since,
   made,
   sends_own h moves since own,
@@ -61,20 +58,16 @@ sending_drives old new h k (moves, since, made, own, is) same = (
 
 -- calls that are neither's
 
-abbrev others : List Call → List Doer
-others [] = []
-others (n ∷ calls) = Sends Elsewhere ∷ others calls
-
-others_own : (h : Halves) (calls : List Call) → AllOwn h (others calls) calls
+pub others_own : (h : Halves) (calls : List Call) → AllOwn h (doers_other calls) calls
 others_own h [] = tt
 others_own h (n ∷ calls) = (tt, others_own h calls)
 
-others_played : (h : Halves) (calls : List Call) → h ≡ played_by h (others calls) calls
+pub others_played : (h : Halves) (calls : List Call) → h ≡ played_by h (doers_other calls) calls
 others_played h [] = refl
 others_played h (n ∷ calls) = others_played h calls
 
 pub others_drive : OthersDrive
-others_drive old new h (since, made) = (others since, since, made, others_own h since, others_played h since)
+others_drive old new h (since, made) = (doers_other since, since, made, others_own h since, others_played h since)
 
 -- one after another
 
@@ -85,7 +78,7 @@ both_own h [] es (m ∷ ms) ns first then = absurd first
 both_own h (d ∷ ds) es [] ns first then = absurd first
 both_own h (d ∷ ds) es (m ∷ ms) ns first then = (first.0, both_own (after_call h d m) ds es ms ns first.1 then)
 
-both_played : (h : Halves) (ds es : List Doer) (ms ns : List Call) → AllOwn h ds ms
+pub both_played : (h : Halves) (ds es : List Doer) (ms ns : List Call) → AllOwn h ds ms
     → played_by h (ds ++ es) (ms ++ ns) ≡ played_by (played_by h ds ms) es ns
 both_played h [] es [] ns own = refl
 both_played h [] es (m ∷ ms) ns own = absurd own
@@ -101,3 +94,47 @@ drives_on old mid new h j k (ds, ms, made, own, is) (es, ns, more, then, was) =
       both_own h ds es ms ns own here,
       was ∙ ap (λ x. played_by x es ns) is ∙ sym (both_played h ds es ms ns own),
     )
+
+-- the others are steps, where they were before and behind
+both_step : (h : Halves) (ds es : List Doer) (ms ns : List Call) → AllOwn h ds ms → OthersStep ds ms
+    → OthersStep es ns → OthersStep (ds ++ es) (ms ++ ns)
+both_step h [] es [] ns own first then = then
+both_step h [] es (m ∷ ms) ns own first then = absurd own
+both_step h (d ∷ ds) es [] ns own first then = absurd own
+both_step h (d ∷ ds) es (m ∷ ms) ns own first then =
+    (first.0, both_step (after_call h d m) ds es ms ns own.1 first.1 then)
+
+-- so the halves go on beside steps
+
+received : (old new : List Call) (h k : Halves) (plays : receive.Plays old h.receive new k.receive)
+    → OthersStep (doers_marked plays.0) plays.1 → k.transmit ≡ h.transmit → GoesOn old h new k
+unfolding receiving_drives
+received old new h k (marks, since, made, own, is) steps other =
+    (receiving_drives old new h k (marks, since, made, own, is) other, steps)
+
+pub receiving_goes_on : ReceivingGoesOn
+receiving_goes_on old new h k x = received old new h k x.plays x.steps x.other
+
+sent : (old new : List Call) (h k : Halves) (plays : transmit.Plays old h.transmit new k.transmit)
+    → OthersStep (doers_moved plays.0) plays.1 → k.receive ≡ h.receive → GoesOn old h new k
+unfolding sending_drives
+sent old new h k (moves, since, made, own, is) steps other =
+    (sending_drives old new h k (moves, since, made, own, is) other, steps)
+
+pub sending_goes_on : SendingGoesOn
+sending_goes_on old new h k x = sent old new h k x.plays x.steps x.other
+
+all_step : (calls : List Call) → OthersStep [] calls → OthersStep (doers_other calls) calls
+all_step [] are = tt
+all_step (n ∷ calls) are = (λ neither. are.0, all_step calls are.1)
+
+pub others_go_on : OthersGoOn
+unfolding others_drive
+others_go_on old new h (since, made) are = (others_drive old new h (since, made), all_step since are)
+
+pub halves_go_on : HalvesGoOn
+unfolding drives_on
+halves_go_on old mid new h j k ((ds, ms, made, own, is), first) ((es, ns, more, then, was), second) = (
+  drives_on old mid new h j k (ds, ms, made, own, is) (es, ns, more, then, was),
+  both_step h ds es ms ns own first second,
+)

@@ -27,15 +27,16 @@ use Rattle.receive_laws.proofs.Mine.{LendsMine, mine_driven}
 use Rattle.receive_laws.proofs.Own.{own_keeps}
 use Rattle.transmit_laws.specs.Sent.{sent_by}
 use Rattle.transmit_laws.specs.Turns.{MayMove}
+use Rattle.transmit_laws.specs.Up.{IsUp}
 use Rattle.transmit_laws.proofs.Mine.{mine-moved}
 use Rattle.transmit_laws.proofs.Playing.{moves_keep}
 use Rattle.transmit_laws.proofs.Sparing.{sparing_events_keep}
-use Rattle.driver_laws.specs.Halves.{Halves, Doer, Receives, Sends, OwnCall, after_call}
-use Rattle.driver_laws.specs.Histories.{is_neither}
+use Rattle.transmit_laws.proofs.Up.{up_stays}
+use Rattle.driver_laws.specs.Halves.{Halves, Doer, Receives, Sends, OwnCall, after_call, is_neither}
 use Rattle.driver_laws.proofs.Apart.{receives_apart, sends_apart, lends_one}
 use Rattle.driver_laws.proofs.Each.{each_all}
 use Rattle.driver_laws.proofs.Lending.{receive_lent}
-use Rattle.driver_laws.proofs.Meeting.{Meets, Kept, neither_keeps}
+use Rattle.driver_laws.proofs.Meeting.{Meets, Kept, neither_keeps, spared_by}
 use Rattle.driver_laws.proofs.Receiving.{own_spares}
 use Rattle.driver_laws.proofs.Sending.{is_elsewhere, move_spares, sender_lent}
 
@@ -125,6 +126,23 @@ module _ (w : Watched) (mine : Blocks) (mode : Mode) (s : State) (out : List Pie
   doer_keeps (Sends Elsewhere) own others lends =
       neither_keeps w mine mode s out sent h m e made steps (others refl).0 (others refl).1
   doer_keeps (Sends move) own others lends = sends_keeps move refl own (lends refl)
+
+  -- and where the transmit side is up it stays so
+
+  stays_up : (move : Move) → MayMove w.queue h.transmit s e move → IsUp w.queue s → IsUp w.queue t
+  stays_up move may up = up_stays s w.queue sent h.transmit e move m.both.transmit may up
+
+  pub doer_stays_up : (d : Doer) → OwnCall h d (call_of e (reply_to s e))
+      → (is_neither d ≡ true → LeavesRegisters w mode e × LeavesBlocks mine e) → IsUp w.queue s → IsUp w.queue t
+  doer_stays_up Receives own others up =
+      let (gone, here, holds) = m.both.receive in
+      stays_up Elsewhere
+      (own_spares w.queue s out h.receive gone here holds h.transmit sender_blocks m.both.apart e made own) up
+  doer_stays_up (Sends Elsewhere) own others up =
+      let registers = subst (λ k. LeavesRegisters w k e) m.mode_is (others refl).0 in
+      stays_up Elsewhere
+      (spared_by w mine mode s out sent h m e made steps e made registers (others refl).1 steps) up
+  doer_stays_up (Sends move) own others up = stays_up move (may_move w.queue s h move e refl own made) up
 
   pub goes_on : (k : Halves) → Agrees k
       → Meets w mine (mode_after w.vfs mode e) t (out ++ pieces w.queue s e) (sent ++ sent_by w.queue s e) k

@@ -18,10 +18,12 @@ use Rattle.receive_laws.proofs.Delivering.{events_before, events_behind, image_s
 use Rattle.receive_laws.proofs.Prefix.{drained, handed_first}
 use Rattle.transmit_laws.specs.Agreeing.{bytes_of, kept_in}
 use Rattle.transmit_laws.specs.Laws as transmit
-use Rattle.transmit_laws.specs.Sent.{sent_in}
+use Rattle.transmit_laws.specs.Sent.{sent_in, sent_since}
+use Rattle.transmit_laws.specs.Up.{IsUp}
+use Rattle.transmit_laws.proofs.Counting.{sent_is_counted}
 use Rattle.transmit_laws.proofs.Runs.{idle-all}
 use Rattle.driver_laws.specs.Halves.{Halves, Doer, played_by}
-use Rattle.driver_laws.specs.Histories.{IsDriven, HandedIsPrefix, NoneIsAll, SentIsPrefix, IdleIsAllSent}
+use Rattle.driver_laws.specs.Histories.{IsDriven, HandedIsPrefix, NoneIsAll, SentIsPrefix, IdleIsAllSent, CountedWhereUp}
 use Rattle.driver_laws.proofs.Runs.{Led, leads}
 
 module _ (w : Watched) (fifo : ℕ) (start rest : List Entry) (h : Halves) (doers : List Doer)
@@ -35,7 +37,7 @@ module _ (w : Watched) (fifo : ℕ) (start rest : List Entry) (h : Halves) (doer
   abbrev last : Halves
   last = played_by h doers (calls_of w.pass rest)
 
-  led : Led w here [] [] rest last
+  pub led : Led w here [] [] rest last
   led =
       let before = events_before start rest d.events in
       leads w (lent_by w.pass (start ++ rest)) (mode_through w.vfs Off start) here [] [] h doers rest
@@ -78,6 +80,11 @@ module _ (w : Watched) (fifo : ℕ) (start rest : List Entry) (h : Halves) (doer
       let (f, agrees) = led.both.transmit in
       idle-all (leads_to here rest) w.queue (sent_in w.queue here rest) last.transmit f agrees (ap length none)
 
+  counted : IsUp w.queue here
+      → sent_since w.queue new [] (start ++ rest) ≡ sent_since w.queue new [] start ++ sent_in w.queue here rest
+  counted up =
+      sent_is_counted.joined w.queue new [] start rest ∙ led.counted up (sent_since w.queue new [] start)
+
 pub handed_is_prefix : HandedIsPrefix
 handed_is_prefix = handed
 
@@ -89,3 +96,6 @@ sent_is_prefix = sent
 
 pub idle_is_all_sent : IdleIsAllSent
 idle_is_all_sent = idle
+
+pub counted_where_up : CountedWhereUp
+counted_where_up = counted

@@ -45,7 +45,7 @@ module _ (w : Watched) (mine : Blocks) (mode : Mode) (s : State) (out : List Pie
     (steps : WritesOutside w.queue mine (reply_to s e)) where
   -- an event that is neither half's
 
-  spared_by : (e : Event Block) → IsEvent e → LeavesRegisters w (mode_in s.registers) e → LeavesBlocks mine e
+  pub spared_by : (e : Event Block) → IsEvent e → LeavesRegisters w (mode_in s.registers) e → LeavesBlocks mine e
       → WritesOutside w.queue mine (reply_to s e) → Spares w.queue h.transmit s e
   spared_by event.RxStep is registers blocks outside =
       received_spares w.queue mine s m.sound out h.receive m.both.receive outside h.transmit m.lent.transmit

@@ -16,9 +16,10 @@ use Rattle.receive_laws.specs.Delivered.{delivered, pieces_since}
 use Rattle.receive_laws.specs.Histories.{FindsNone}
 use Rattle.transmit_laws.specs.Agreeing.{bytes_of}
 use Rattle.transmit_laws.specs.Laws as transmit
-use Rattle.transmit_laws.specs.Sent.{sent_in}
+use Rattle.transmit_laws.specs.Sent.{sent_in, sent_since}
+use Rattle.transmit_laws.specs.Up.{IsUp}
 use Rattle.driver_laws.specs.Agreeing.{AreLent, BothAgree}
-use Rattle.driver_laws.specs.Halves.{Halves, Doer, Sends, AllOwn, played_by}
+use Rattle.driver_laws.specs.Halves.{Halves, Doer, Sends, AllOwn, is_neither, played_by}
 
 -- whose an entry is, of the driver's pass or of another, and the doers that are left after it: the entries of the pass
 -- are theirs in turn, and those of other passes neither half's
@@ -31,10 +32,6 @@ abbrev pub doers_after : Bool → List Doer → List Doer
 doers_after false doers = doers
 doers_after true [] = []
 doers_after true (d ∷ doers) = doers
-
-abbrev pub is_neither : Doer → Bool
-is_neither (Sends Elsewhere) = true
-is_neither other = false
 
 -- the calls of the driver's pass that are neither half's leave the queue and its blocks alone, as other passes do
 abbrev pub OthersLeaveAlone : Watched → Blocks → Mode → List Doer → List Entry → Type 0
@@ -92,6 +89,15 @@ IdleIsAllSent =
     (played_by h doers (calls_of w.pass rest)).transmit.outstanding ≡ [] →
     bytes_of (played_by h doers (calls_of w.pass rest)).transmit.accepted
     ≡ sent_in w.queue (leads_to (new_state w.vfs fifo) start) rest
+
+-- where the queue's transmit side is up as the first entries end, all that is sent behind them is counted since it went
+-- on
+abbrev pub CountedWhereUp : Type 0
+CountedWhereUp =
+    (w : Watched) (fifo : ℕ) (start rest : List Entry) (h : Halves) (doers : List Doer) →
+    IsDriven w fifo start rest h doers → IsUp w.queue (leads_to (new_state w.vfs fifo) start) →
+    sent_since w.queue (new_state w.vfs fifo) [] (start ++ rest)
+    ≡ sent_since w.queue (new_state w.vfs fifo) [] start ++ sent_in w.queue (leads_to (new_state w.vfs fifo) start) rest
 
 -- the calls of the driver's pass that are neither half's are steps of the device, as the ways to a device make them
 abbrev pub OthersAreSteps : Watched → List Doer → List Entry → Type 0

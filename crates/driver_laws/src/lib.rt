@@ -5,8 +5,10 @@
 //! history is that leaves the driver's queue alone.
 #![tactic(auto)]
 
+ghost use Rattle.driver_laws.specs.Going.{ReceivingGoesOn, SendingGoesOn, OthersGoOn, HalvesGoOn};
 ghost use Rattle.driver_laws.specs.Halves.{ReceivingDrives, SendingDrives, OthersDrive, DrivesOn};
-ghost use Rattle.driver_laws.specs.Histories.{HandedIsPrefix, NoneIsAll, SentIsPrefix, IdleIsAllSent, StepsLeaveAlone};
+ghost use Rattle.driver_laws.specs.Histories.{HandedIsPrefix, NoneIsAll, SentIsPrefix, IdleIsAllSent, CountedWhereUp, StepsLeaveAlone};
+ghost use Rattle.driver_laws.specs.Waiting.{WaitingIsNotAll, ReapIsNotAll};
 
 /// The calls of one half lead both on, where the other half stays as it was; calls that are neither's leave both; and
 /// calls lead on, one after another. So the halves follow from whatever calls of a driver that runs were made.
@@ -17,19 +19,37 @@ pub fn calls_lead_both_halves()
     ensures on { DrivesOn }
 {}
 
+/// So they do beside steps of the device, where each call that is neither half's is such a step.
+pub fn calls_lead_on_beside_steps()
+    ensures receiving { ReceivingGoesOn }
+    ensures sending { SendingGoesOn }
+    ensures others { OthersGoOn }
+    ensures on { HalvesGoOn }
+{}
+
 /// Over a history of a new device that leaves the driver's queue alone, from a place on where the device agrees with
 /// both halves and the receive side has gone on: the packets that the driver handed out are a prefix of those that were
 /// delivered since, and all of them where a look that comes next finds none; and the frames that were sent since are a
-/// prefix of those that it accepted, and all of them where none is outstanding.
+/// prefix of those that it accepted, and all of them where none is outstanding. Where the transmit side is up at that
+/// place, all of these are counted since it went on.
 pub fn both_sides_in_order()
     ensures handed { HandedIsPrefix }
     ensures none { NoneIsAll }
     ensures sent { SentIsPrefix }
     ensures idle { IdleIsAllSent }
+    ensures counted { CountedWhereUp }
 {}
 
 /// The steps of the device that the ways to a device make before the driver's calls leave its queue alone: so nothing
 /// more is asked of a pass whose calls that are neither half's are such steps.
 pub fn steps_leave_the_queue_alone()
     ensures { StepsLeaveAlone }
+{}
+
+/// Over such a history, where a look that comes next finds the oldest outstanding packet not done, what was sent up to
+/// any place since which the driver accepted none isn't all that it had accepted there. So it is before the first call
+/// of a reap that ends with a packet outstanding.
+pub fn waiting_packets_are_not_all_sent()
+    ensures look { WaitingIsNotAll }
+    ensures reap { ReapIsNotAll }
 {}

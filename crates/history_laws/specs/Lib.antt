@@ -2,3 +2,4 @@ pub mod Aligned
 pub mod Alone
 pub mod Laws
 pub mod Lent
+pub mod Staged

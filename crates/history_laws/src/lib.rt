@@ -6,6 +6,7 @@
 ghost use Rattle.history_laws.specs.Aligned.{NewRingsAreAligned, EventsKeepAligned, HistoriesKeepAligned, ReportsLieInBlocks};
 ghost use Rattle.history_laws.specs.Lent.{OnlyLentStays, AnewIsDone};
 ghost use Rattle.history_laws.specs.Laws.{ModeIsTold, AloneByEntries, BeginningIsAlone, HistoriesKeepSound};
+ghost use Rattle.history_laws.specs.Staged.{NewSidesStageWhileOn, EventsKeepStaged, HistoriesKeepStaged};
 
 /// The mode by which the queues are parted among pools, read off the entries of a history, is the device's own: what
 /// its register GCR_EXT says.
@@ -32,6 +33,13 @@ pub fn rings_stay_aligned()
     ensures event { EventsKeepAligned }
     ensures history { HistoriesKeepAligned }
     ensures reports { ReportsLieInBlocks }
+{}
+
+/// Nothing is staged on a transmit side that is off, in a new device and through every history.
+pub fn sides_stage_bytes_while_on()
+    ensures new { NewSidesStageWhileOn }
+    ensures event { EventsKeepStaged }
+    ensures history { HistoriesKeepStaged }
 {}
 
 /// Where of some numbers only those are lent that a driver knows to be, it stays so over every event: over one that

@@ -24,11 +24,11 @@ use Rattle.receive_laws.proofs.Entries.{Meets, foreign_entry, marked_entry}
 
 -- the calls of a pass, entry by entry
 
-calls_own : (pass : ℕ) (e : Entry) (h : List Entry) → (e.pass == pass) ≡ true
+pub calls_own : (pass : ℕ) (e : Entry) (h : List Entry) → (e.pass == pass) ≡ true
     → calls_of pass (e ∷ h) ≡ call_in e ∷ calls_of pass h
 calls_own pass e h is = rw is refl
 
-calls_other : (pass : ℕ) (e : Entry) (h : List Entry) → (e.pass == pass) ≡ false
+pub calls_other : (pass : ℕ) (e : Entry) (h : List Entry) → (e.pass == pass) ≡ false
     → calls_of pass (e ∷ h) ≡ calls_of pass h
 calls_other pass e h is = rw is refl
 

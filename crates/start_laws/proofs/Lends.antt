@@ -16,11 +16,11 @@ use Rattle.device_lock.specs.declared.entry.Entry.{Entry}
 use Rattle.history_laws.specs.Laws.{AreEvents}
 use Rattle.nic_device.specs.Sound.{IsEvent}
 use Rattle.pmd_queue.specs.Named.{AtPort}
+use Rattle.receive_laws.proofs.Histories.{calls_own, calls_other}
 use Rattle.start_laws.specs.Along.{Leads}
 use Rattle.start_laws.specs.Moves.{and_one}
 use Rattle.start_laws.specs.Points.{Point, Sides}
 use Rattle.start_laws.proofs.Accesses.{lend_stands}
-use Rattle.start_laws.proofs.Along.{calls_own, calls_other}
 use Rattle.start_laws.proofs.Points.{ground_same}
 
 abbrev pub lending : ℕ → Call

@@ -6,6 +6,7 @@ pub mod LeftZero
 pub mod Lends
 pub mod Masks
 pub mod Moves
+pub mod Numbers
 pub mod Off
 pub mod Points
 pub mod Quiet
@@ -17,4 +18,5 @@ pub mod StillReceive
 pub mod StillTransmit
 pub mod Switching
 pub mod TransmitWords
+pub mod Unused
 pub mod Words

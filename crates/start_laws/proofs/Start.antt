@@ -1,15 +1,16 @@
 -- A start of the driver leaves a state where the device and the driver agree on both sides.
 use Rattle.std.proofs.Common.{◌≡◌, ◌≢◌, ℕ, ◌*◌, ◌%◌, ◌<◌, ◌≤◌, Bool, true, false, not, ◌&&◌, List, [], ◌∷◌, ◌++◌, refl, sym, ap, ◌∙◌, subst, arith, append_assoc}
 use Rattle.std.specs.Prelude.{IsTrue, ◌==◌}
-use Rattle.std.proofs.lemmas.Bool.{and_parts, eq-eqb, eqb-true, leb-true, or_left, or_right}
+use Rattle.std.proofs.lemmas.Bool.{and_parts, both_ways, eq-eqb, eqb-true, leb-true, or_left, or_right}
 use Rattle.std.proofs.lemmas.List.{append-nil}
 use Rattle.dma_arena.specs.Numbers.{Numbers}
 use Rattle.reg_table.specs.declared.rows.RowId.TheVariants.{Rdt, Rxdctl, Tdt}
+use Rattle.register_file.specs.Sides.{TransmitQueue}
 use Rattle.register_file.specs.declared.dir.Dir.TheVariants.{Rx, Tx}
 use Rattle.nic_device.specs.Sound.{IsSound}
 use Rattle.nic_device.specs.State.{State, new_state}
 use Rattle.device_lock.specs.Alone.{lent_by}
-use Rattle.device_lock.specs.History.{calls_of, leads_to}
+use Rattle.device_lock.specs.History.{calls_of}
 use Rattle.device_lock.specs.declared.alone.Watched.{Watched}
 use Rattle.device_lock.specs.declared.entry.Call.{Call}
 use Rattle.device_lock.specs.declared.entry.Entry.{Entry}
@@ -25,16 +26,20 @@ use Rattle.pmd_tx.specs.Sending as transmit
 use Rattle.receive_laws.specs.Joint.{Agree}
 use Rattle.receive_laws.proofs.Delivering.{events_before}
 use Rattle.transmit_laws.specs.Agreeing.{Agrees}
-use Rattle.start_laws.specs.Along.{AtCalls, IsAlong}
+use Rattle.start_laws.specs.Along.{AtCalls, AtEntries, IsAlong}
 use Rattle.start_laws.specs.Moves.{IsSized}
 use Rattle.start_laws.specs.Points.{Point, Sides, after_accesses}
 use Rattle.start_laws.specs.Quieting.{are_off}
-use Rattle.start_laws.specs.Start.{OnlySteps, BeginsWell, StartAgrees}
+use Rattle.start_laws.specs.Start.{OnlySteps, BeginsWell, StartAgrees, StartGoesOn}
+use Rattle.start_laws.specs.Unused.{AreUnused, WentOn}
+use Rattle.start_laws.proofs.Along.{reached}
 use Rattle.start_laws.proofs.Fresh.{fresh_receive_agrees, fresh_transmit_agrees}
 use Rattle.start_laws.proofs.Lends.{Has, has_more, IsLentBy, lending, lend_leads, lent_before, lent_there, with_ring}
+use Rattle.start_laws.proofs.Numbers.{ground_names}
 use Rattle.start_laws.proofs.Points.{accesses_at, call_leads, ends_some, made_some}
 use Rattle.start_laws.proofs.Quieting.{quieting_leads, quiet_sides_stand}
 use Rattle.start_laws.proofs.Switching.{came_up, comes_up, laid, may_lay_receive, may_lay_transmit, may_switch, switching}
+use Rattle.start_laws.proofs.Unused.{IdleKeeps, unused_kept}
 
 -- what was made stays made
 
@@ -95,8 +100,16 @@ module _ (w : Watched) (fifo : ℕ) (h : List Entry) (q : AtPort) (size : ℕ) (
     abbrev Known : Sides → Type 0
     Known p = IsTrue (are_off p)
 
+    abbrev Unused : List Entry → Type 0
+    Unused = AreUnused w.queue (new_state w.vfs fifo)
+
     abbrev At : List Call → (Sides → Sides) → Type 0
-    At calls F = AtCalls w fifo h calls (λ s. (p : Sides) × Known p × Point w.queue (lent_by w.pass h) q (F p) s)
+    At calls F =
+        AtEntries w h calls
+        (λ done. (p : Sides) × Known p × Point w.queue (lent_by w.pass h) q (F p) (reached w fifo done) × Unused done)
+
+    idle : IdleKeeps w fifo Unused
+    idle = unused_kept w fifo
 
     -- some calls were made before each of these
     quiet_some : up.receive.mid ≢ []
@@ -125,9 +138,17 @@ module _ (w : Watched) (fifo : ℕ) (h : List Entry) (q : AtPort) (size : ℕ) (
     -- both sides are quiet, and stand
     quiet_at : At up.receive.mid (λ p. p)
     quiet_at done rest all calls =
-        quiet_sides_stand w q h (leads_to (new_state w.vfs fifo) done)
-        (quieting_leads w q fifo h old up.receive.mid along up.receive.quiet only.quiet well.ground done rest all calls)
-        (well.bare done rest all calls)
+        let off = quieting_leads w q fifo h old up.receive.mid along up.receive.quiet only.quiet well.ground in
+        let quiet = off done rest all calls in
+        let (p, known, x) = quiet_sides_stand w q fifo h up.receive.mid along off done rest all calls in (
+          p,
+          known,
+          x,
+          record {
+            receive = λ on. absurd (both_ways _ quiet.receive.off on);
+            transmit = λ on. absurd (both_ways _ quiet.transmit.off on);
+          },
+        )
 
     -- as both rings come up, where their blocks are the pass's
     module _ (one : IsLentBy w.pass ring h) (two : IsLentBy w.pass other h) where
@@ -145,8 +166,8 @@ module _ (w : Watched) (fifo : ℕ) (h : List Entry) (q : AtPort) (size : ℕ) (
 
       laid_at : At up.receive.prepared.mid (after_accesses (ring_words Rx ring size))
       laid_at =
-          accesses_at w (lent_by w.pass h) q fifo h along refl Known (ring_words Rx ring size) (λ p. p) up.receive.mid
-          up.receive.prepared.mid
+          accesses_at w (lent_by w.pass h) q fifo h along refl Known Unused idle (ring_words Rx ring size) (λ p. p)
+          up.receive.mid up.receive.prepared.mid
           (λ p known. may_lay_receive ring size other first second even p (off p known).0 (off p known).1)
           up.receive.prepared.words only.receive_words quiet_some quiet_at
 
@@ -154,9 +175,10 @@ module _ (w : Watched) (fifo : ℕ) (h : List Entry) (q : AtPort) (size : ℕ) (
       ready_at =
           subst (λ (calls : List Call). At calls (λ p. with_ring ring (after_accesses (ring_words Rx ring size) p)))
           (sym up.receive.prepared.lent.1)
-          (call_leads w (lent_by w.pass h) q fifo h along refl Known (after_accesses (ring_words Rx ring size))
+          (call_leads w (lent_by w.pass h) q fifo h along refl Known Unused idle
+          (after_accesses (ring_words Rx ring size))
           (λ p. with_ring ring (after_accesses (ring_words Rx ring size) p)) up.receive.prepared.mid
-          up.receive.prepared.lent.0 (lending ring)
+          up.receive.prepared.lent.0 (lending ring) (λ s. (refl, refl))
           (λ p known.
           lend_leads w.queue (lent_by w.pass h) q (after_accesses (ring_words Rx ring size) p) ring one.mine one.low)
           only.receive_lent laid_some laid_at)
@@ -166,7 +188,7 @@ module _ (w : Watched) (fifo : ℕ) (h : List Entry) (q : AtPort) (size : ℕ) (
 
       other_at : At up.transmit.prepared.mid words
       other_at =
-          accesses_at w (lent_by w.pass h) q fifo h along refl Known (ring_words Tx other size)
+          accesses_at w (lent_by w.pass h) q fifo h along refl Known Unused idle (ring_words Tx other size)
           (λ p. with_ring ring (after_accesses (ring_words Rx ring size) p)) up.ready_made up.transmit.prepared.mid
           (λ p known. may_lay_transmit ring size other first second even p (off p known).0 (off p known).1)
           up.transmit.prepared.words only.transmit_words ready_some ready_at
@@ -174,15 +196,15 @@ module _ (w : Watched) (fifo : ℕ) (h : List Entry) (q : AtPort) (size : ℕ) (
       both_at : At up.both_made (laid ring size other)
       both_at =
           subst (λ (calls : List Call). At calls (laid ring size other)) (sym up.transmit.prepared.lent.1)
-          (call_leads w (lent_by w.pass h) q fifo h along refl Known words (laid ring size other)
-          up.transmit.prepared.mid up.transmit.prepared.lent.0 (lending other)
+          (call_leads w (lent_by w.pass h) q fifo h along refl Known Unused idle words (laid ring size other)
+          up.transmit.prepared.mid up.transmit.prepared.lent.0 (lending other) (λ s. (refl, refl))
           (λ p known. lend_leads w.queue (lent_by w.pass h) q (words p) other two.mine two.low) only.transmit_lent
           other_some other_at)
 
       on_at : At up.on.mid (λ p. after_accesses (switching up.on.switched.0 up.on.switched.1) (laid ring size other p))
       on_at =
-          accesses_at w (lent_by w.pass h) q fifo h along refl Known (switching up.on.switched.0 up.on.switched.1)
-          (laid ring size other) up.both_made up.on.mid
+          accesses_at w (lent_by w.pass h) q fifo h along refl Known Unused idle
+          (switching up.on.switched.0 up.on.switched.1) (laid ring size other) up.both_made up.on.mid
           (λ p known. may_switch ring size other first second even p (off p known).0 (off p known).1
           up.on.switched.0 up.on.switched.1)
           up.on.switched.3 only.switched both_some both_at
@@ -196,24 +218,40 @@ module _ (w : Watched) (fifo : ℕ) (h : List Entry) (q : AtPort) (size : ℕ) (
                 (fresh_receive_agrees w.queue s _ rings q.port up.receive.tail ring size first
                 (record {
                   low = along.small;
-                  tail = x.ground.names Rdt up.receive.tail refl up.receive.named;
+                  tail = ground_names w.queue q s x.ground Rdt up.receive.tail refl up.receive.named;
                 })
                 (or_right (ring == other) _ (or_left (ring == ring) _ (eq-eqb ring ring refl))) x.stand),
             subst (λ (v : transmit.Sender). Agrees s w.queue [] v) (sym up.transmit.fresh)
                 (fresh_transmit_agrees w.queue s _ rings true true q.port up.transmit.tail other size along.small sound
-                second (x.ground.names Tdt up.transmit.tail refl up.transmit.named) x.ground.limit
+                second (ground_names w.queue q s x.ground Tdt up.transmit.tail refl up.transmit.named) x.ground.limit
                 (or_left (other == other) _ (eq-eqb other other refl)) x.stand),
           )
 
-      ended : (s : State) → IsSound s
-          → ((p : Sides) × Known p × Point w.queue (lent_by w.pass h) q
-          (after_accesses (switching up.on.switched.0 up.on.switched.1) (laid ring size other p)) s)
-          → Agree w.queue s [] up.empty × Agrees s w.queue [] r.transmit
-      ended s sound (p, known, x) =
-          agrees s sound p
-          (subst (λ (z : Sides). Point w.queue (lent_by w.pass h) q z s)
-          (comes_up ring size other first second even p (off p known).0 (off p known).1 up.on.switched.0
-          up.on.switched.1) x)
+      -- and nothing went over them since they went on
+      went_on : (done : List Entry) → Unused done → (p : Sides)
+          → Point w.queue (lent_by w.pass h) q (came_up ring size other p) (reached w fifo done)
+          → WentOn w.queue (new_state w.vfs fifo) done
+      went_on done unused p x =
+          let sends = x.stand.transmits.seen refl in record {
+            received = unused.receive (x.stand.receives.seen refl);
+            sent = unused.transmit sends;
+            sends = record {
+              on = sends;
+              wanted = ap (λ (k : TransmitQueue). k.wanted) x.stand.transmits.same;
+            };
+          }
+
+      came_up_at : AtEntries w h up.on.mid
+          (λ done. (p : Sides) × Point w.queue (lent_by w.pass h) q (came_up ring size other p) (reached w fifo done)
+          × Unused done)
+      came_up_at done rest all calls =
+          let (p, known, x, unused) = on_at done rest all calls in (
+            p,
+            subst (λ (z : Sides). Point w.queue (lent_by w.pass h) q z (reached w fifo done))
+                (comes_up ring size other first second even p (off p known).0 (off p known).1 up.on.switched.0
+                up.on.switched.1) x,
+            unused,
+          )
 
     -- wherever the pass has made these calls it has lent both rings
 
@@ -258,14 +296,37 @@ module _ (w : Watched) (fifo : ℕ) (h : List Entry) (q : AtPort) (size : ℕ) (
               (lent_before w.pass number done rest there.mine);
         }
 
+    pub ring_lent : AtEntries w h up.on.mid (λ done. IsLentBy w.pass ring h)
+    ring_lent done rest all calls = lent_by_then ring done rest all calls ring_has
+
+    pub other_lent : AtEntries w h up.on.mid (λ done. IsLentBy w.pass other h)
+    other_lent done rest all calls = lent_by_then other done rest all calls other_has
+
     pub agrees_at : AtCalls w fifo h up.on.mid (λ s. Agree w.queue s [] up.empty × Agrees s w.queue [] r.transmit)
     agrees_at done rest all calls =
-        let one = lent_by_then ring done rest all calls ring_has in
-        let two = lent_by_then other done rest all calls other_has in
+        let one = ring_lent done rest all calls in
+        let two = other_lent done rest all calls in
         let sound = histories_sound (new_state w.vfs fifo) done along.new
         (events_before done rest (subst AreEvents (sym all) along.events)) in
-        ended one two (leads_to (new_state w.vfs fifo) done) sound (on_at one two done rest all calls)
+        let (p, x, unused) = came_up_at one two done rest all calls in
+        agrees one two (reached w fifo done) sound p x
+
+    pub goes_on_at : AtEntries w h up.on.mid (WentOn w.queue (new_state w.vfs fifo))
+    goes_on_at done rest all calls =
+        let one = ring_lent done rest all calls in
+        let two = other_lent done rest all calls in
+        let (p, x, unused) = came_up_at one two done rest all calls in
+        went_on one two done unused p x
+
+    -- some calls were made before both were on
+    pub on_some : up.on.mid ≢ []
+    on_some =
+        some_made q (switching up.on.switched.0 up.on.switched.1) up.both_made up.on.mid up.on.switched.3 both_some
 
 pub start_agrees : StartAgrees
 start_agrees w fifo h q size old a new r up along is only well =
     agrees_at w fifo h q size old a new r up along is only well
+
+pub start_goes_on : StartGoesOn
+start_goes_on w fifo h q size old a new r up along is only well =
+    goes_on_at w fifo h q size old a new r up along is only well

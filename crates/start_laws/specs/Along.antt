@@ -28,6 +28,11 @@ AtCalls w fifo h calls P =
     (done rest : List Entry) → done ++ rest ≡ h → calls_of w.pass done ≡ calls →
     P (leads_to (new_state w.vfs fifo) done)
 
+-- it holds of all entries up to such a point
+abbrev pub AtEntries : Watched → List Entry → List Call → (List Entry → Type 0) → Type 0
+AtEntries w h calls P =
+    (done rest : List Entry) → done ++ rest ≡ h → calls_of w.pass done ≡ calls → P done
+
 -- each event that leaves the queue alone keeps it
 abbrev pub IsKept : Watched → Blocks → (State → Type 0) → Type 0
 IsKept w mine P = (s : State) (e : Event Block) → IsLeft w mine s e → P s → P (after s e)

@@ -1,8 +1,10 @@
 pub mod Along
 pub mod Moves
+pub mod Numbers
 pub mod Points
 pub mod Quiet
 pub mod Quieting
 pub mod Standing
 pub mod Start
+pub mod Unused
 pub mod Words

@@ -2,7 +2,7 @@
 use Rattle.std.specs.Prelude.{ℕ, ◌≡◌, ◌++◌, true, List, []}
 use Rattle.dma_arena.specs.Numbers.{Numbers}
 use Rattle.register_file.specs.declared.dir.Dir.TheVariants.{Rx, Tx}
-use Rattle.nic_device.specs.Transmit.{staged_by}
+use Rattle.nic_device.specs.State.{new_state}
 use Rattle.device_lock.specs.declared.alone.Watched.{Watched}
 use Rattle.device_lock.specs.declared.entry.Call.{Call}
 use Rattle.device_lock.specs.declared.entry.Entry.{Entry}
@@ -13,8 +13,9 @@ use Rattle.pmd_queue.specs.Named.{AtPort}
 use Rattle.pmd_queue.specs.Sides.{polled, ring_words}
 use Rattle.receive_laws.specs.Joint.{Agree}
 use Rattle.transmit_laws.specs.Agreeing.{Agrees}
-use Rattle.start_laws.specs.Along.{AreSteps, AtCalls, IsAlong}
+use Rattle.start_laws.specs.Along.{AreSteps, AtCalls, AtEntries, IsAlong}
 use Rattle.start_laws.specs.Points.{HasGround, StepsBetween}
+use Rattle.start_laws.specs.Unused.{WentOn}
 
 -- beside the driver's accesses its pass made steps of the device alone, until both sides were on
 pub record OnlySteps (q : AtPort) (size : ℕ) (old : List Call) (a : Numbers) (new : List Call) (r : Running)
@@ -32,12 +33,10 @@ pub record OnlySteps (q : AtPort) (size : ℕ) (old : List Call) (a : Numbers) (
       StepsBetween q up.both_made up.on.mid
       (receive_polled true up.on.switched.0 ++ polled Tx true up.on.switched.1) up.on.switched.3
 
--- where the driver's first access is made its numbers name its queue, and frames are short; and where it has seen both
--- sides off nothing is staged
+-- where the driver's first access is made its port and queue name this queue, and frames are short
 pub record BeginsWell (w : Watched) (fifo : ℕ) (h : List Entry) (q : AtPort) (size : ℕ) (old : List Call) (a : Numbers)
     (new : List Call) (r : Running) (up : AreUp q size old a new r) : Type 0 where
   pub ground : AtCalls w fifo h up.receive.quiet.0 (HasGround w.queue q)
-  pub bare : AtCalls w fifo h up.receive.mid (λ s. staged_by s w.queue ≡ [])
 
 -- wherever the pass has made the calls by which both sides came up, device and driver agree on both: nothing is posted
 -- yet, and nothing is sent
@@ -47,3 +46,11 @@ StartAgrees =
     (new : List Call) (r : Running) (up : AreUp q size old a new r) → IsAlong w fifo h → is_size size ≡ true →
     OnlySteps q size old a new r up → BeginsWell w fifo h q size old a new r up →
     AtCalls w fifo h up.on.mid (λ s. Agree w.queue s [] up.empty × Agrees s w.queue [] r.transmit)
+
+-- and both sides are on there, with nothing received or sent since they went on
+abbrev pub StartGoesOn : Type 0
+StartGoesOn =
+    (w : Watched) (fifo : ℕ) (h : List Entry) (q : AtPort) (size : ℕ) (old : List Call) (a : Numbers)
+    (new : List Call) (r : Running) (up : AreUp q size old a new r) → IsAlong w fifo h → is_size size ≡ true →
+    OnlySteps q size old a new r up → BeginsWell w fifo h q size old a new r up →
+    AtEntries w h up.on.mid (WentOn w.queue (new_state w.vfs fifo))

@@ -4,11 +4,14 @@ use Rattle.std.proofs.lemmas.Bool.{cases_eq}
 use Rattle.reg_table.specs.declared.rows.RowId.TheVariants.{Tdt, Ctrl, Hlreg0, Maxfrs, GcrExt}
 use Rattle.register_file.specs.Columns.{place}
 use Rattle.register_file.specs.Laws.{after_write}
+use Rattle.register_file.specs.Queue.{ring_of}
+use Rattle.register_file.specs.Sides.{TransmitQueue, transmit_queue_of}
+use Rattle.register_file.specs.declared.dir.Dir.TheVariants.{Tx}
 use Rattle.nic_device.specs.Named.{named}
 use Rattle.nic_device.specs.Outcome.{Outcome, gives}
 use Rattle.nic_device.specs.Sound.{IsEvent}
 use Rattle.nic_device.specs.State.{State}
-use Rattle.nic_device.specs.Step.{step_of}
+use Rattle.nic_device.specs.Step.{step_of, after}
 use Rattle.nic_device.specs.Access.{named_written}
 use Rattle.nic_device.specs.declared.event.Event.TheVariants as event
 use Rattle.nic_device.specs.declared.event.Port.{Port}
@@ -17,6 +20,7 @@ use Rattle.nic_device.specs.declared.named.Named.TheVariants.{Register}
 use Rattle.device_laws.specs.Laws.{WritesNoSetting}
 use Rattle.pmd_tx.specs.Sending.{Sender, Move, Advances, IsOwn, packet_at, slot_at, descriptor_at, moved, advanced}
 use Rattle.transmit_laws.specs.Agreeing.{IsBased, IsPosted, AgreesAt, Agrees}
+use Rattle.transmit_laws.specs.Up.{IsUp}
 use Rattle.transmit_laws.proofs.Basing.{based-after}
 use Rattle.transmit_laws.proofs.Slots.{slot-below}
 use Rattle.transmit_laws.proofs.Tails.{tail-written}
@@ -56,15 +60,22 @@ module _ (s : State) (queue : ℕ) (sent : List (List ℕ)) (v : Sender) (f : �
     | inr ne ↦ h.shows.waits k i (omega (arith, ne))
   ]
 
-  tail_keeps : v.poked ≡ true → IsBased t queue v.layout → AgreesAt t queue sent (advanced v) f
-  tail_keeps e based =
+  -- the side has that tail, and is else as it was
+  side_moved : v.poked ≡ true
+      → transmit_queue_of t.registers queue
+      ≡ record (transmit_queue_of s.registers queue) { ring = record (ring_of s.registers Tx queue) { tail = slot } }
+  side_moved e =
       let more = (h.shows.next e).0 in
       let below = slot-below v.layout h.based.layout (v.posted + 1) (omega (arith, more, h.counted.room)) in
       let few = h.based.layout.few in
-      let side = tail-written s.registers h.based.sound.registers.shape queue slot h.based.small (omega arith) in
+      tail-written s.registers h.based.sound.registers.shape queue slot h.based.small (omega arith)
+
+  tail_keeps : v.poked ≡ true → IsBased t queue v.layout → AgreesAt t queue sent (advanced v) f
+  tail_keeps e based =
+      let more = (h.shows.next e).0 in
       record {
         based = based;
-        set_up = rw side (record {
+        set_up = rw (side_moved e) (record {
           base = h.set_up.base;
           length = h.set_up.length;
           head = h.set_up.head;
@@ -96,3 +107,12 @@ module _ (s : State) (queue : ℕ) (sent : List (List ℕ)) (v : Sender) (f : �
       let based = subst (λ (o : Outcome). IsBased o.state queue v.layout) is
       (based-after s queue v.layout (event.Write port n word) h.based made (setting_kept port n word own)) in
       subst (Made Advances) (sym is) (f, tail_keeps own.0 based)
+
+  pub advance-stays-up : (port : Port) (n word : ℕ) → IsOwn v Advances (event.Write port n word) → IsUp queue s
+      → IsUp queue (after s (event.Write port n word))
+  advance-stays-up port n word own up =
+      let same = side_moved own.0 in
+      subst (λ (o : Outcome). IsUp queue o.state) (sym (written_tail port n word own)) (record {
+        on = ap (λ (x : TransmitQueue). x.on) same ∙ up.on;
+        wanted = ap (λ (x : TransmitQueue). x.wanted) same ∙ up.wanted;
+      })

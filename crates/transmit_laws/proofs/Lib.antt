@@ -30,4 +30,5 @@ pub mod Stepping
 pub mod Tails
 pub mod Taken
 pub mod Told
+pub mod Up
 pub mod Writing

@@ -9,7 +9,7 @@ use Rattle.register_file.specs.Sides.{TransmitQueue, transmit_queue_of}
 use Rattle.nic_device.specs.Outcome.{Outcome, gives}
 use Rattle.nic_device.specs.Receive.{is_empty}
 use Rattle.nic_device.specs.State.{State}
-use Rattle.nic_device.specs.Step.{step_of}
+use Rattle.nic_device.specs.Step.{step_of, after}
 use Rattle.nic_device.specs.Transmit.{staged_by, is_muted, is_silent}
 use Rattle.nic_device.specs.declared.event.Event.TheVariants as event
 use Rattle.nic_device.specs.declared.event.Reply.TheVariants.{Sent, Idle}
@@ -18,6 +18,7 @@ use Rattle.device_laws.proofs.RepliesSent.{transmitting_tells}
 use Rattle.pmd_tx.specs.Sending.{Outgoing, Sender, no_packet, packet_at, slot_at}
 use Rattle.transmit_laws.specs.Agreeing.{IsBased, IsSetUp, IsCounted, AgreesAt, Agrees, bytes_of, kept_in}
 use Rattle.transmit_laws.specs.Sent.{frames_added}
+use Rattle.transmit_laws.specs.Up.{IsUp}
 use Rattle.transmit_laws.proofs.Basing.{based-after}
 use Rattle.transmit_laws.proofs.Slots.{slot-next}
 use Rattle.nic_device.specs.Sound.{IsEvent}
@@ -120,6 +121,19 @@ module _ (s : State) (queue : ℕ) (sent : List (List ℕ)) (v : Sender) (f : �
             subst After (sym (sends loud posted))
             (rw (own, added-one s.out queue p.kept.bytes) (f + 1, agrees_now loud posted))
       ]
+
+  -- and where the side is up it stays so
+  pub transmit-stays-up : IsUp queue s → IsUp queue (after s (event.TxStep queue))
+  transmit-stays-up up = elim (cases_Bool (is_silent s queue side)) [
+    | inl silent ↦ subst (λ (o : Outcome). IsUp queue o.state) (sym (idle silent)) up
+    | inr loud ↦
+        let posted = more s queue sent v f h (full_of loud) in
+        let same = (told loud posted).side in
+        subst (λ (o : Outcome). IsUp queue o.state) (sym (sends loud posted)) (record {
+          on = ap (λ (x : TransmitQueue). x.on) same ∙ up.on;
+          wanted = ap (λ (x : TransmitQueue). x.wanted) same ∙ up.wanted;
+        })
+  ]
 
 pub step_of_queue_keeps : StepsOfQueueKeep
 step_of_queue_keeps s queue sent v (f, h) = transmit-keeps s queue sent v f h

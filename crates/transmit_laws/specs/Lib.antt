@@ -8,3 +8,4 @@ pub mod Off
 pub mod Sent
 pub mod Sparing
 pub mod Turns
+pub mod Up

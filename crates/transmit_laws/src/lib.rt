@@ -9,6 +9,7 @@ ghost use Rattle.transmit_laws.specs.Counting.{SentIsCounted, SentIsTold};
 ghost use Rattle.transmit_laws.specs.Healthy.{OwnRepliesAreHealthy};
 ghost use Rattle.transmit_laws.specs.Lent.{OwnLendsAreKnown};
 ghost use Rattle.transmit_laws.specs.Off.{OffStays, GuardIsOff};
+ghost use Rattle.transmit_laws.specs.Up.{UpStays};
 ghost use Rattle.transmit_laws.specs.Laws.{StepsOfQueueKeep, SparingEventsKeep, LeftAloneIsSpared, MovesKeep, SentIsPrefix, IdleIsAllSent, WaitingIsNotAllSent, SentIsPrefixOfTaken, AloneMayRun, SentIsPrefixWhereAlone};
 
 /// A step of transmitting of the driver's own queue keeps what device and driver agree on, with the frame that it
@@ -67,6 +68,12 @@ pub fn sent_frames_are_told()
 /// history whose events leave it or are steps of its own.
 pub fn queue_off_stays_off()
     ensures { OffStays }
+{}
+
+/// A transmit side that is on and wanted on stays so where device and driver agree, over each of the driver's moves and
+/// over every event that spares the driver.
+pub fn queue_up_stays_up()
+    ensures { UpStays }
 {}
 
 /// After a write of the enable register without bit 25 the side isn't wanted on; and where it isn't, a read that tells

@@ -1,4 +1,4 @@
-use Rattle.driver_laws.proofs.InOrder.{handed_is_prefix, none_is_all, sent_is_prefix, idle_is_all_sent}
+use Rattle.driver_laws.proofs.InOrder.{handed_is_prefix, none_is_all, sent_is_prefix, idle_is_all_sent, counted_where_up}
 use Rattle.driver_laws.proofs.both_sides_in_order.Goals as goal
 
 pub returns : goal.returns
@@ -7,4 +7,5 @@ returns c = record {
   none = none_is_all;
   sent = sent_is_prefix;
   idle = idle_is_all_sent;
+  counted = counted_where_up;
 }

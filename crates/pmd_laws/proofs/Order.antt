@@ -1,0 +1,172 @@
+-- What a driver handed out and what it sent in its life.
+use Rattle.std.proofs.Common.{◌≡◌, ℕ, List, [], ◌++◌, refl, sym, ap, ◌∙◌, subst}
+use Rattle.dma_arena.specs.Numbers.{Numbers}
+use Rattle.vf_map.specs.declared.mode.Mode.TheVariants.{Off}
+use Rattle.nic_device.specs.State.{State, new_state}
+use Rattle.device_lock.specs.Alone.{LeavesAlone, lent_by, mode_through}
+use Rattle.device_lock.specs.History.{IsLegal, calls_of, leads_to}
+use Rattle.device_lock.specs.declared.alone.Watched.{Watched}
+use Rattle.device_lock.specs.declared.entry.Call.{Call}
+use Rattle.device_lock.specs.declared.entry.Entry.{Entry}
+use Rattle.history_laws.specs.Laws.{AreEvents}
+use Rattle.pmd.specs.Running.{Running}
+use Rattle.pmd.specs.Started.{AreUp}
+use Rattle.pmd_queue.specs.Named.{AtPort}
+use Rattle.receive_laws.specs.Delivered as receive
+use Rattle.receive_laws.specs.Delivered.{delivered}
+use Rattle.receive_laws.specs.Histories.{FindsNone}
+use Rattle.receive_laws.specs.Joint.{Agree}
+use Rattle.transmit_laws.specs.Agreeing.{Agrees, bytes_of}
+use Rattle.transmit_laws.specs.Laws as transmit
+use Rattle.transmit_laws.specs.Sent.{sent_in, sent_since}
+use Rattle.start_laws.specs.Unused.{WentOn}
+use Rattle.start_laws.proofs.Along.{Parts, begun, parts}
+use Rattle.start_laws.proofs.Lends.{IsLentBy}
+use Rattle.start_laws.proofs.Start.{on_some, other_lent, ring_lent, start_agrees, start_goes_on}
+use Rattle.driver_laws.specs.Agreeing.{AreApart, AreLent}
+use Rattle.driver_laws.specs.Going.{GoesOn}
+use Rattle.driver_laws.specs.Halves.{AllOwn, Doer, Halves, OthersStep, halves_of, played_by}
+use Rattle.driver_laws.specs.Histories.{IsDriven}
+use Rattle.driver_laws.proofs.Calls.{halves_go_on, receiving_goes_on}
+use Rattle.driver_laws.proofs.InOrder.{counted_where_up, handed_is_prefix, idle_is_all_sent, none_is_all, sent_is_prefix}
+use Rattle.driver_laws.proofs.Steps.{steps_by_calls, steps_leave_alone}
+use Rattle.pmd_laws.specs.Order as order
+use Rattle.pmd_laws.specs.Order.{IsLived}
+use Rattle.pmd_laws.proofs.Begun.{at_first, drawn_apart, first_apart, first_lent}
+
+module _ (w : Watched) (fifo : ℕ) (h : List Entry) (q : AtPort) (size : ℕ) (old : List Call) (a : Numbers)
+    (started : List Call) (r : Running) (k : Halves) (x : IsLived w fifo h q size old a started r k) where
+  abbrev new : State
+  new = new_state w.vfs fifo
+
+  abbrev up : AreUp q size old a started r
+  up = x.life.up
+
+  -- as both sides are on the receive ring is empty
+  abbrev first : Halves
+  first = record { receive = up.empty; transmit = r.transmit }
+
+  whole : GoesOn up.on.mid first (calls_of w.pass h) k
+  whole =
+      halves_go_on up.on.mid started (calls_of w.pass h) first (halves_of r) k
+      (receiving_goes_on up.on.mid started first (halves_of r)
+      (record { plays = up.on.plays; steps = x.life.filled; other = refl }))
+      x.life.since
+
+  abbrev doers : List Doer
+  doers = whole.0.0
+
+  -- the history in two parts, of which the first ends there
+  p : Parts w.pass h up.on.mid whole.0.1
+  p = parts w.pass h up.on.mid whole.0.1 whole.0.2
+
+  abbrev here : State
+  here = leads_to new p.front
+
+  agrees : Agree w.queue here [] up.empty × Agrees here w.queue [] r.transmit
+  agrees =
+      start_agrees w fifo h q size old a started r up x.along x.life.sized x.life.steps x.begins p.front p.back p.both
+      p.fronts
+
+  went_on : WentOn w.queue new p.front
+  went_on =
+      start_goes_on w fifo h q size old a started r up x.along x.life.sized x.life.steps x.begins p.front p.back p.both
+      p.fronts
+
+  one : IsLentBy w.pass up.receive.ring h
+  one =
+      ring_lent w fifo h q size old a started r up x.along x.life.sized x.life.steps x.begins p.front p.back p.both
+      p.fronts
+
+  two : IsLentBy w.pass up.transmit.ring h
+  two =
+      other_lent w fifo h q size old a started r up x.along x.life.sized x.life.steps x.begins p.front p.back p.both
+      p.fronts
+
+  -- there each half has lent its ring's block
+  first_is : first ≡ at_first q.port size up.receive.ring up.receive.tail up.transmit.ring up.transmit.tail
+  first_is = λ i. record { receive = up.receive.fresh i; transmit = up.transmit.fresh i }
+
+  apart : AreApart first
+  apart =
+      subst AreApart (sym first_is)
+      (first_apart q.port size up.receive.ring up.receive.tail up.transmit.ring up.transmit.tail
+      (drawn_apart a up.ready_arena up.receive.ring up.transmit.ring up.receive.prepared.free
+      up.receive.prepared.drawn up.transmit.prepared.free))
+
+  lent : AreLent (lent_by w.pass h) first
+  lent =
+      subst (AreLent (lent_by w.pass h)) (sym first_is)
+      (first_lent q.port size up.receive.ring up.receive.tail up.transmit.ring up.transmit.tail (lent_by w.pass h)
+      one.mine two.mine)
+
+  driven : IsDriven w fifo p.front p.back first doers
+  driven =
+      let all = sym p.both in
+      record {
+        new = x.along.new;
+        events = subst AreEvents all x.along.events;
+        legal = subst (IsLegal new) all x.along.legal;
+        alone = subst (LeavesAlone w) all x.along.alone;
+        begun =
+            begun w.pass p.front
+            (λ none.
+            on_some w fifo h q size old a started r up x.along x.life.sized x.life.steps x.begins
+            (sym p.fronts ∙ none));
+        on = went_on.received;
+        agree = record { receive = agrees.0; transmit = agrees.1; apart = apart };
+        lent = subst (λ (l : List Entry). AreLent (lent_by w.pass l) first) all lent;
+        own = subst (AllOwn first doers) (sym p.backs) whole.0.3;
+        others =
+            steps_leave_alone w (lent_by w.pass (p.front ++ p.back)) (mode_through w.vfs Off p.front) doers p.back
+            (steps_by_calls w doers p.back (subst (OthersStep doers) (sym p.backs) whole.1));
+      }
+
+  last : played_by first doers (calls_of w.pass p.back) ≡ k
+  last = ap (played_by first doers) p.backs ∙ sym whole.0.4
+
+  -- and so it holds of the whole history
+
+  handed : receive.IsPrefixOf k.receive.handed (delivered w.queue new h)
+  handed =
+      subst (λ (l : List Entry). receive.IsPrefixOf k.receive.handed (delivered w.queue new l)) p.both
+      (subst (λ (z : Halves). receive.IsPrefixOf z.receive.handed (delivered w.queue new (p.front ++ p.back))) last
+      (handed_is_prefix w fifo p.front p.back first doers driven))
+
+  none_left : FindsNone (leads_to new h) k.receive → k.receive.handed ≡ delivered w.queue new h
+  none_left finds =
+      let then = subst (λ (l : List Entry). FindsNone (leads_to new l) k.receive) (sym p.both) finds in
+      ap (λ (z : Halves). z.receive.handed) (sym last)
+      ∙ none_is_all w fifo p.front p.back first doers driven
+      (subst (λ (z : Halves). FindsNone (leads_to new (p.front ++ p.back)) z.receive) (sym last) then)
+      ∙ ap (delivered w.queue new) p.both
+
+  counted : sent_since w.queue new [] h ≡ sent_in w.queue here p.back
+  counted =
+      ap (sent_since w.queue new []) (sym p.both)
+      ∙ counted_where_up w fifo p.front p.back first doers driven went_on.sends
+      ∙ ap (λ (xs : List (List ℕ)). xs ++ sent_in w.queue here p.back) went_on.sent
+
+  sent : transmit.IsPrefixOf (sent_since w.queue new [] h) (bytes_of k.transmit.accepted)
+  sent =
+      subst (λ (xs : List (List ℕ)). transmit.IsPrefixOf xs (bytes_of k.transmit.accepted)) (sym counted)
+      (subst (λ (z : Halves). transmit.IsPrefixOf (sent_in w.queue here p.back) (bytes_of z.transmit.accepted)) last
+      (sent_is_prefix w fifo p.front p.back first doers driven))
+
+  idle : k.transmit.outstanding ≡ [] → bytes_of k.transmit.accepted ≡ sent_since w.queue new [] h
+  idle none =
+      let then = ap (λ (z : Halves). z.transmit.outstanding) last ∙ none in
+      ap (λ (z : Halves). bytes_of z.transmit.accepted) (sym last)
+      ∙ idle_is_all_sent w fifo p.front p.back first doers driven then ∙ sym counted
+
+pub handed_of_life : order.HandedIsPrefix
+handed_of_life = handed
+
+pub none_of_life : order.NoneIsAll
+none_of_life = none_left
+
+pub sent_of_life : order.SentIsPrefix
+sent_of_life = sent
+
+pub idle_of_life : order.IdleIsAllSent
+idle_of_life = idle

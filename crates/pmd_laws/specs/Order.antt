@@ -1,0 +1,56 @@
+-- What a driver handed out and what it sent in its life, over a history that leaves its queue alone.
+use Rattle.std.specs.Prelude.{ℕ, ◌≡◌, List, []}
+use Rattle.dma_arena.specs.Numbers.{Numbers}
+use Rattle.nic_device.specs.State.{new_state}
+use Rattle.device_lock.specs.History.{calls_of, leads_to}
+use Rattle.device_lock.specs.declared.alone.Watched.{Watched}
+use Rattle.device_lock.specs.declared.entry.Call.{Call}
+use Rattle.device_lock.specs.declared.entry.Entry.{Entry}
+use Rattle.pmd.specs.Running.{Running}
+use Rattle.pmd_queue.specs.Named.{AtPort}
+use Rattle.receive_laws.specs.Delivered as receive
+use Rattle.receive_laws.specs.Delivered.{delivered}
+use Rattle.receive_laws.specs.Histories.{FindsNone}
+use Rattle.transmit_laws.specs.Agreeing.{bytes_of}
+use Rattle.transmit_laws.specs.Laws as transmit
+use Rattle.transmit_laws.specs.Sent.{sent_since}
+use Rattle.start_laws.specs.Along.{IsAlong}
+use Rattle.start_laws.specs.Start.{BeginsWell}
+use Rattle.driver_laws.specs.Halves.{Halves}
+use Rattle.pmd_laws.specs.Life.{IsLife}
+
+-- a legal history of a new device that leaves the queue alone, in which the pass made just the calls of this life
+pub record IsLived (w : Watched) (fifo : ℕ) (h : List Entry) (q : AtPort) (size : ℕ) (old : List Call) (a : Numbers)
+    (started : List Call) (r : Running) (k : Halves) : Type 0 where
+  pub along : IsAlong w fifo h
+  pub life : IsLife q size old a started r (calls_of w.pass h) k
+  pub begins : BeginsWell w fifo h q size old a started r life.up
+
+-- what the driver handed out is a prefix of what was delivered on its queue since the receive side went on, and it is
+-- all of that where a look that comes next finds none
+abbrev pub HandedIsPrefix : Type 0
+HandedIsPrefix =
+    (w : Watched) (fifo : ℕ) (h : List Entry) (q : AtPort) (size : ℕ) (old : List Call) (a : Numbers)
+    (started : List Call) (r : Running) (k : Halves) → IsLived w fifo h q size old a started r k →
+    receive.IsPrefixOf k.receive.handed (delivered w.queue (new_state w.vfs fifo) h)
+
+abbrev pub NoneIsAll : Type 0
+NoneIsAll =
+    (w : Watched) (fifo : ℕ) (h : List Entry) (q : AtPort) (size : ℕ) (old : List Call) (a : Numbers)
+    (started : List Call) (r : Running) (k : Halves) → IsLived w fifo h q size old a started r k →
+    FindsNone (leads_to (new_state w.vfs fifo) h) k.receive →
+    k.receive.handed ≡ delivered w.queue (new_state w.vfs fifo) h
+
+-- what was sent on the queue since its transmit side went on is a prefix of what the driver accepted, and it is all of
+-- that where none is outstanding
+abbrev pub SentIsPrefix : Type 0
+SentIsPrefix =
+    (w : Watched) (fifo : ℕ) (h : List Entry) (q : AtPort) (size : ℕ) (old : List Call) (a : Numbers)
+    (started : List Call) (r : Running) (k : Halves) → IsLived w fifo h q size old a started r k →
+    transmit.IsPrefixOf (sent_since w.queue (new_state w.vfs fifo) [] h) (bytes_of k.transmit.accepted)
+
+abbrev pub IdleIsAllSent : Type 0
+IdleIsAllSent =
+    (w : Watched) (fifo : ℕ) (h : List Entry) (q : AtPort) (size : ℕ) (old : List Call) (a : Numbers)
+    (started : List Call) (r : Running) (k : Halves) → IsLived w fifo h q size old a started r k →
+    k.transmit.outstanding ≡ [] → bytes_of k.transmit.accepted ≡ sent_since w.queue (new_state w.vfs fifo) [] h

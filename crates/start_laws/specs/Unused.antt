@@ -1,0 +1,22 @@
+-- The sides of a queue over which nothing went since they went on.
+use Rattle.std.specs.Prelude.{ℕ, ◌≡◌, IsTrue, List, [], Some, None}
+use Rattle.register_file.specs.Queue.{is_on}
+use Rattle.register_file.specs.declared.dir.Dir.TheVariants.{Rx, Tx}
+use Rattle.nic_device.specs.State.{State}
+use Rattle.device_lock.specs.History.{leads_to}
+use Rattle.device_lock.specs.declared.entry.Entry.{Entry}
+use Rattle.receive_laws.specs.Delivered.{pieces_since}
+use Rattle.transmit_laws.specs.Sent.{sent_since}
+use Rattle.transmit_laws.specs.Up.{IsUp}
+
+-- where a side is on after these entries, nothing was received or sent since it last went on
+pub record AreUnused (queue : ℕ) (s : State) (done : List Entry) : Type 0 where
+  pub receive :
+      IsTrue (is_on (leads_to s done).registers Rx queue) → pieces_since queue s None done ≡ Some []
+  pub transmit : IsTrue (is_on (leads_to s done).registers Tx queue) → sent_since queue s [] done ≡ []
+
+-- both sides went on by these entries, and nothing was received or sent since; the transmit side is wanted on besides
+pub record WentOn (queue : ℕ) (s : State) (done : List Entry) : Type 0 where
+  pub received : pieces_since queue s None done ≡ Some []
+  pub sent : sent_since queue s [] done ≡ []
+  pub sends : IsUp queue (leads_to s done)

@@ -1,0 +1,5 @@
+use Rattle.transmit_laws.proofs.Up.{up_stays}
+use Rattle.transmit_laws.proofs.queue_up_stays_up.Goals as goal
+
+pub returns : goal.returns
+returns c = up_stays

@@ -1,0 +1,23 @@
+-- A queue whose transmit side is on, and wanted on.
+use Rattle.std.specs.Prelude.{ℕ, IsTrue, List}
+use Rattle.dma_arena.specs.Block.{Block}
+use Rattle.register_file.specs.Queue.{is_on}
+use Rattle.register_file.specs.Registers.{is_wanted}
+use Rattle.register_file.specs.declared.dir.Dir.TheVariants.{Tx}
+use Rattle.nic_device.specs.State.{State}
+use Rattle.nic_device.specs.Step.{after}
+use Rattle.nic_device.specs.declared.event.Event.{Event}
+use Rattle.pmd_tx.specs.Sending.{Sender, Move}
+use Rattle.transmit_laws.specs.Agreeing.{Agrees}
+use Rattle.transmit_laws.specs.Turns.{MayMove}
+
+pub record IsUp (queue : ℕ) (s : State) : Type 0 where
+  pub on : IsTrue (is_on s.registers Tx queue)
+  pub wanted : IsTrue (is_wanted s.registers Tx queue)
+
+-- where device and driver agree it stays up, over each of the driver's moves and over every event that spares the
+-- driver
+abbrev pub UpStays : Type 0
+UpStays =
+    (s : State) (queue : ℕ) (sent : List (List ℕ)) (v : Sender) (e : Event Block) (m : Move) → Agrees s queue sent v →
+    MayMove queue v s e m → IsUp queue s → IsUp queue (after s e)

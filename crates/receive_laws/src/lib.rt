@@ -80,8 +80,8 @@ pub fn short_frames_end_where_they_are_written()
     ensures end { ShortFramesEnd }
 {}
 
-/// Where of some numbers, as an arena's, only those are lent that the driver has lent for receiving or others have, each
-/// event of the driver's own leaves it so, with the driver that it leads to; and a block of these numbers that the
+/// Where of some numbers, as an arena's, only those are lent that the driver has lent for receiving or others have,
+/// each event of the driver's own leaves it so, with the driver that it leads to; and a block of these numbers that the
 /// driver lends, and others haven't lent, isn't lent yet.
 pub fn own_lends_are_known()
     ensures { OwnLendsAreKnown }

@@ -10,6 +10,7 @@ pub mod Examples
 pub mod Fetching
 pub mod Frames
 pub mod Guard
+pub mod HasLent
 pub mod Healthy
 pub mod LeftBlocks
 pub mod LeftSide

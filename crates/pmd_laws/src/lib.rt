@@ -1,9 +1,11 @@
 //! What a driver's whole life so far gives: it started, and since then it received and sent.
 //!
 //! Each law is the contract of a function that does nothing. `specs/Life` says what a life is by the calls of the
-//! driver's pass, and `specs/Order` what holds of it over a history of a shared device.
+//! driver's pass, `specs/Order` what holds of it over a history of a shared device, and `specs/Looks` what holds where
+//! a look finds no packet.
 #![tactic(auto)]
 
+ghost use Rattle.pmd_laws.specs.Looks.{NoneIsAllBefore};
 ghost use Rattle.pmd_laws.specs.Order.{HandedIsPrefix, NoneIsAll, SentIsPrefix, IdleIsAllSent};
 
 /// Over a legal history of a new device that leaves the driver's queue alone, whose pass made the calls of a start that
@@ -16,4 +18,10 @@ pub fn life_in_order()
     ensures none { NoneIsAll }
     ensures sent { SentIsPrefix }
     ensures idle { IdleIsAllSent }
+{}
+
+/// Where a call of the driver looks once and finds no packet, as `rx` does where it answers none, all that was delivered
+/// before the entry of that look was handed out, also within a longer history.
+pub fn empty_look_leaves_nothing()
+    ensures { NoneIsAllBefore }
 {}

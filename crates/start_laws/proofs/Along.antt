@@ -206,6 +206,10 @@ module _ (w : Watched) (fifo : ℕ) (mine : Blocks) where
 
 -- at a point of the whole history
 
+pub legal_before : (s : State) (g l : List Entry) → IsLegal s (g ++ l) → IsLegal s g
+legal_before s [] l are = tt
+legal_before s (e ∷ g) l are = (are.0, legal_before (after s e.event) g l are.1)
+
 module _ (w : Watched) (fifo : ℕ) (h : List Entry) (x : IsAlong w fifo h) where
   abbrev new : State
   new = new_state w.vfs fifo
@@ -236,10 +240,6 @@ module _ (w : Watched) (fifo : ℕ) (h : List Entry) (x : IsAlong w fifo h) wher
           vfs = sym (vfs_stays new front);
           mode_is = mode_told w.vfs fifo front x.new early;
         }
-
-  legal_before : (s : State) (g l : List Entry) → IsLegal s (g ++ l) → IsLegal s g
-  legal_before s [] l are = tt
-  legal_before s (e ∷ g) l are = (are.0, legal_before (after s e.event) g l are.1)
 
   alone_before : (mine : Blocks) (mode : Mode) (g l : List Entry) → AllAlone w mine mode (g ++ l)
       → AllAlone w mine mode g

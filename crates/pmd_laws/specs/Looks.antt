@@ -1,0 +1,44 @@
+-- A call of a driver that looks once and finds no packet.
+use Rattle.std.specs.Prelude.{ℕ, ◌≡◌, List, [], ◌∷◌, ◌++◌}
+use Rattle.dma_arena.specs.Numbers.{Numbers}
+use Rattle.nic_device.specs.State.{new_state}
+use Rattle.device_lock.specs.History.{call_in, calls_of}
+use Rattle.device_lock.specs.declared.alone.Watched.{Watched}
+use Rattle.device_lock.specs.declared.entry.Call.{Call}
+use Rattle.device_lock.specs.declared.entry.Entry.{Entry}
+use Rattle.pmd.specs.Running.{Running}
+use Rattle.pmd_queue.specs.Named.{AtPort}
+use Rattle.pmd_rx.specs.Plays.{LooksOnce}
+use Rattle.pmd_rx.specs.Receive.{Receive}
+use Rattle.receive_laws.specs.Delivered.{delivered}
+use Rattle.start_laws.specs.Along.{IsAlong}
+use Rattle.start_laws.specs.Start.{BeginsWell}
+use Rattle.driver_laws.specs.Halves.{Halves, OthersStep}
+use Rattle.pmd_laws.specs.Life.{IsLife}
+
+-- an entry of a history by which the pass has made just these calls
+pub record EndsAt (pass : ℕ) (h : List Entry) (calls : List Call) : Type 0 where
+  pub before : List Entry
+  pub entry : Entry
+  pub behind : List Entry
+  pub all : before ++ entry ∷ behind ≡ h
+  pub made : calls_of pass before ++ call_in entry ∷ [] ≡ calls
+
+-- a legal history of a new device that leaves the queue alone. In it the pass made the calls of this life, and then one
+-- call of the driver looked once and found no packet, beside steps of the device
+pub record LooksInVain (w : Watched) (fifo : ℕ) (h : List Entry) (q : AtPort) (size : ℕ) (old : List Call) (a : Numbers)
+    (started : List Call) (r : Running) (made : List Call) (k : Halves) (new : List Call) (v : Receive) : Type 0 where
+  pub along : IsAlong w fifo h
+  pub life : IsLife q size old a started r made k
+  pub begins : BeginsWell w fifo h q size old a started r life.up
+  pub looks : LooksOnce made k.receive new v
+  pub steps : OthersStep [] looks.0
+  pub look : EndsAt w.pass h new
+
+-- what the driver had handed out is all that was delivered before the entry of that look, whatever came behind it
+abbrev pub NoneIsAllBefore : Type 0
+NoneIsAllBefore =
+    (w : Watched) (fifo : ℕ) (h : List Entry) (q : AtPort) (size : ℕ) (old : List Call) (a : Numbers)
+    (started : List Call) (r : Running) (made : List Call) (k : Halves) (new : List Call) (v : Receive)
+    (looked : LooksInVain w fifo h q size old a started r made k new v) →
+    k.receive.handed ≡ delivered w.queue (new_state w.vfs fifo) looked.look.before

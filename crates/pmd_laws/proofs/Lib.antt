@@ -2,3 +2,4 @@ pub mod Begun
 pub mod Ends
 pub mod Looks
 pub mod Order
+pub mod Told

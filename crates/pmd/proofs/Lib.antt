@@ -6,3 +6,5 @@ pub mod Late
 pub mod Leaving
 pub mod Sending
 pub mod Starting
+pub mod Stopping
+pub mod Whole

@@ -2,9 +2,12 @@
 
 ghost use Rattle.std.specs.Prelude.{◌≡◌, ◌≤◌, [], length, true, false, IfErr, IfSome, IfNone};
 ghost use Rattle.rtrb.specs.Ring.{sent, known_free, SameProducer};
-ghost use Rattle.pmd.specs.Driver.{handed_of};
+ghost use Rattle.dma_arena.specs.Numbers.{Numbers};
+ghost use Rattle.pmd.specs.Blocks.{HasAll, LosesNone, IsWhole};
+ghost use Rattle.pmd.specs.Driver.{handed_of, halted_of};
 ghost use Rattle.pmd.specs.Started.{left_handed};
 ghost use Rattle.worker_runs.specs.Ended.{first_fault, is_home, is_threadless};
+ghost use Rattle.worker_runs.specs.Kept.{KeepsAll};
 ghost use Rattle.worker_runs.specs.Told.{reports_of};
 
 use crate::fault::WorkerFault;
@@ -59,6 +62,7 @@ fn work<G: Gate, N: Nic>(
     ensures told { sent producer.new ≡ reports_of order.queue (handed_of pmd.new.rings) }
     ensures ring { SameProducer producer.old producer.new }
     ensures few { length (handed_of pmd.new.rings) ≤ order.rounds }
+    ensures blocks { KeepsAll pmd.old.rings [] pmd.new.rings [] }
     ensures fault { IfErr result (λ fault. is_threadless fault ≡ false) }
     ensures who { N.who nic.new ≡ N.who nic.old }
 {
@@ -73,6 +77,7 @@ fn work<G: Gate, N: Nic>(
 fn take_home<N: Nic>(alloc: Global, nic: &mut N, pmd: Pmd) -> (Rest, Option<PmdFault>)
     ensures handed { left_handed result.0 ≡ handed_of pmd.rings }
     ensures home { IfNone result.1 (is_home result.0 ≡ true) }
+    ensures whole { (a : Numbers) → LosesNone a (halted_of pmd.rings) → IsWhole a result.0 }
     ensures who { N.who nic.new ≡ N.who nic.old }
 {
     match pmd.stop(alloc, nic) {
@@ -84,6 +89,7 @@ fn take_home<N: Nic>(alloc: Global, nic: &mut N, pmd: Pmd) -> (Rest, Option<PmdF
 /// Stops the driver that a refused start left, once, where it left one.
 fn end<N: Nic>(alloc: Global, nic: &mut N, rest: Rest) -> Rest
     ensures handed { left_handed result ≡ left_handed rest }
+    ensures whole { (a : Numbers) → IsWhole a rest → IsWhole a result }
     ensures who { N.who nic.new ≡ N.who nic.old }
 {
     match rest {
@@ -125,6 +131,7 @@ fn drive<G: Gate, N: Nic>(
     ensures ring { SameProducer producer.old producer.new }
     ensures home { IfNone result.1 (is_home result.0 ≡ true) }
     ensures fault { IfSome result.1 (λ fault. is_threadless fault ≡ false) }
+    ensures whole { (a : Numbers) → HasAll a (halted_of pmd.rings) [] → IsWhole a result.0 }
     ensures who { N.who nic.new ≡ N.who nic.old }
 {
     let mut pmd = pmd;
@@ -156,6 +163,7 @@ pub fn run_worker<G: Gate, N: Nic>(
     ensures ring { SameProducer producer.old producer.new }
     ensures home { IfNone result.1 (is_home result.0 ≡ true) }
     ensures fault { IfSome result.1 (λ fault. is_threadless fault ≡ false) }
+    ensures whole { IsWhole arena result.0 }
     ensures who { N.who nic.new ≡ N.who nic.old }
 {
     match Pmd::start(alloc, nic, order.port, order.queue, order.size, arena) {

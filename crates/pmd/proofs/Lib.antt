@@ -8,3 +8,5 @@ pub mod Leaving
 pub mod Living
 pub mod Sending
 pub mod Starting
+pub mod Stopping
+pub mod Whole

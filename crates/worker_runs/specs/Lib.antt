@@ -1,3 +1,4 @@
 pub mod Ended
 pub mod Lived
+pub mod Kept
 pub mod Told

@@ -5,10 +5,12 @@ ghost use Rattle.rtrb.specs.Ring.{sent, known_free, SameProducer};
 ghost use Rattle.dma_arena.specs.Numbers.{Numbers};
 ghost use Rattle.device_lock.specs.declared.entry.Call.{Call};
 ghost use Rattle.pmd_queue.specs.Named.{AtPort};
+ghost use Rattle.pmd.specs.Blocks.{HasAll, LosesNone, IsWhole};
 ghost use Rattle.pmd.specs.Driver.{accepted_of, handed_of, halted_of};
 ghost use Rattle.pmd.specs.Life.{ComesDown, HasLived, IsStopped, RunsOn};
 ghost use Rattle.pmd.specs.Started.{left_accepted, left_handed, HasStarted};
 ghost use Rattle.worker_runs.specs.Ended.{first_fault, is_home, is_threadless};
+ghost use Rattle.worker_runs.specs.Kept.{KeepsAll};
 ghost use Rattle.worker_runs.specs.Lived.{HasRun};
 ghost use Rattle.worker_runs.specs.Told.{reports_of};
 
@@ -64,6 +66,7 @@ fn work<G: Gate, N: Nic>(
     ensures told { sent producer.new ≡ reports_of order.queue (handed_of pmd.new.rings) }
     ensures ring { SameProducer producer.old producer.new }
     ensures few { length (handed_of pmd.new.rings) ≤ order.rounds }
+    ensures blocks { KeepsAll pmd.old.rings [] pmd.new.rings [] }
     ensures fault { IfErr result (λ fault. is_threadless fault ≡ false) }
     ensures drives { RunsOn (N.made nic.old) pmd.old.rings (N.made nic.new) pmd.new.rings }
     ensures queue { pmd.new.queue ≡ pmd.old.queue }
@@ -82,6 +85,7 @@ fn take_home<N: Nic>(alloc: Global, nic: &mut N, pmd: Pmd) -> (Rest, Option<PmdF
     ensures handed { left_handed result.0 ≡ handed_of pmd.rings }
     ensures accepted { left_accepted result.0 ≡ accepted_of pmd.rings }
     ensures home { IfNone result.1 (is_home result.0 ≡ true) }
+    ensures whole { (a : Numbers) → LosesNone a (halted_of pmd.rings) → IsWhole a result.0 }
     ensures who { N.who nic.new ≡ N.who nic.old }
 {
     match pmd.stop(alloc, nic) {
@@ -95,6 +99,7 @@ fn end<N: Nic>(alloc: Global, nic: &mut N, rest: Rest) -> Rest
     ensures down { ComesDown (N.made nic.old) rest (N.made nic.new) result }
     ensures handed { left_handed result ≡ left_handed rest }
     ensures accepted { left_accepted result ≡ left_accepted rest }
+    ensures whole { (a : Numbers) → IsWhole a rest → IsWhole a result }
     ensures who { N.who nic.new ≡ N.who nic.old }
 {
     match rest {
@@ -138,6 +143,7 @@ fn drive<G: Gate, N: Nic>(
     ensures ring { SameProducer producer.old producer.new }
     ensures home { IfNone result.1 (is_home result.0 ≡ true) }
     ensures fault { IfSome result.1 (λ fault. is_threadless fault ≡ false) }
+    ensures whole { (a : Numbers) → HasAll a (halted_of pmd.rings) [] → IsWhole a result.0 }
     ensures who { N.who nic.new ≡ N.who nic.old }
 {
     let mut pmd = pmd;
@@ -172,6 +178,7 @@ pub fn run_worker<G: Gate, N: Nic>(
     ensures ring { SameProducer producer.old producer.new }
     ensures home { IfNone result.1 (is_home result.0 ≡ true) }
     ensures fault { IfSome result.1 (λ fault. is_threadless fault ≡ false) }
+    ensures whole { IsWhole arena result.0 }
     ensures who { N.who nic.new ≡ N.who nic.old }
 {
     match Pmd::start(alloc, nic, order.port, order.queue, order.size, arena) {

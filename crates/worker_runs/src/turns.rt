@@ -5,11 +5,13 @@ ghost use Rattle.rtrb.specs.Ring.{sent, known_free, SameProducer};
 ghost use Rattle.pmd_base.specs.Packet.{kept_of};
 ghost use Rattle.pmd.specs.Driver.{handed_of, goes_back_to};
 ghost use Rattle.pmd.specs.Life.{KeepsHalves, RunsOn};
+ghost use Rattle.pmd_rx.specs.Keeping.{block_in, handed_block};
+ghost use Rattle.worker_runs.specs.Kept.{KeepsAll};
 ghost use Rattle.worker_runs.specs.Told.{report_of, reports_of};
 
 use pmd::Pmd;
 use pmd_base::{Nic, Packet, PmdFault};
-use pmd_tx::{TxAnswer, TxFault};
+use pmd_tx::{Reaped, TxAnswer, TxFault};
 use rtrb::Producer;
 use std::alloc::Global;
 use workers::Report;
@@ -27,6 +29,7 @@ fn receive<N: Nic>(alloc: Global, nic: &mut N, pmd: &mut Pmd) -> Result<Option<P
     ensures err { OnErr result (handed_of pmd.new.rings ≡ handed_of pmd.old.rings) }
     ensures drives { RunsOn (N.made nic.old) pmd.old.rings (N.made nic.new) pmd.new.rings }
     ensures queue { pmd.new.queue ≡ pmd.old.queue }
+    ensures blocks { KeepsAll pmd.old.rings [] pmd.new.rings (handed_block result) }
     ensures who { N.who nic.new ≡ N.who nic.old }
 {
     pmd.rx(alloc, nic)
@@ -61,6 +64,7 @@ fn send<N: Nic>(
     ensures handed { handed_of pmd.new.rings ≡ handed_of pmd.old.rings }
     ensures drives { RunsOn (N.made nic.old) pmd.old.rings (N.made nic.new) pmd.new.rings }
     ensures queue { pmd.new.queue ≡ pmd.old.queue }
+    ensures blocks { KeepsAll pmd.old.rings (packet.buf.number ∷ []) pmd.new.rings (block_in result.0) }
     ensures who { N.who nic.new ≡ N.who nic.old }
 {
     match pmd.tx(alloc, nic, packet) {
@@ -76,6 +80,7 @@ fn release(pmd: &mut Pmd, packet: Packet)
     ensures handed { handed_of pmd.new.rings ≡ handed_of pmd.old.rings }
     ensures halves { KeepsHalves pmd.old.rings pmd.new.rings }
     ensures queue { pmd.new.queue ≡ pmd.old.queue }
+    ensures blocks { KeepsAll pmd.old.rings (packet.buf.number ∷ []) pmd.new.rings [] }
 {
     match pmd.release(packet) {
         Ok(()) => {}
@@ -94,6 +99,7 @@ fn forward<N: Nic>(
     ensures handed { handed_of pmd.new.rings ≡ handed_of pmd.old.rings }
     ensures drives { RunsOn (N.made nic.old) pmd.old.rings (N.made nic.new) pmd.new.rings }
     ensures queue { pmd.new.queue ≡ pmd.old.queue }
+    ensures blocks { KeepsAll pmd.old.rings (packet.buf.number ∷ []) pmd.new.rings [] }
     ensures who { N.who nic.new ≡ N.who nic.old }
 {
     let (back, sent) = send(alloc, nic, pmd, packet);
@@ -121,6 +127,7 @@ fn turn<N: Nic>(
     ensures few { length (handed_of pmd.new.rings) ≤ length (handed_of pmd.old.rings) + 1 }
     ensures drives { RunsOn (N.made nic.old) pmd.old.rings (N.made nic.new) pmd.new.rings }
     ensures queue { pmd.new.queue ≡ pmd.old.queue }
+    ensures blocks { KeepsAll pmd.old.rings [] pmd.new.rings [] }
     ensures who { N.who nic.new ≡ N.who nic.old }
 {
     let number = pmd.handed().len() as u32;
@@ -131,6 +138,15 @@ fn turn<N: Nic>(
             forward(alloc, nic, pmd, packet)
         }
     }
+}
+
+/// Frees the blocks of the packets that were sent.
+fn reap<N: Nic>(alloc: Global, nic: &mut N, pmd: &mut Pmd) -> Result<Reaped, PmdFault>
+    ensures handed { handed_of pmd.new.rings ≡ handed_of pmd.old.rings }
+    ensures blocks { KeepsAll pmd.old.rings [] pmd.new.rings [] }
+    ensures who { N.who nic.new ≡ N.who nic.old }
+{
+    pmd.reap(alloc, nic)
 }
 
 /// One round: a look for a packet, and a reaping.
@@ -150,10 +166,11 @@ fn round<N: Nic>(
     ensures few { length (handed_of pmd.new.rings) ≤ length (handed_of pmd.old.rings) + 1 }
     ensures drives { RunsOn (N.made nic.old) pmd.old.rings (N.made nic.new) pmd.new.rings }
     ensures queue { pmd.new.queue ≡ pmd.old.queue }
+    ensures blocks { KeepsAll pmd.old.rings [] pmd.new.rings [] }
     ensures who { N.who nic.new ≡ N.who nic.old }
 {
     turn(alloc, nic, queue, pmd, producer)?;
-    pmd.reap(alloc, nic)?;
+    reap(alloc, nic, pmd)?;
     Ok(())
 }
 
@@ -174,6 +191,7 @@ pub(crate) fn do_rounds<N: Nic>(
     ensures few { length (handed_of pmd.new.rings) ≤ rounds }
     ensures drives { RunsOn (N.made nic.old) pmd.old.rings (N.made nic.new) pmd.new.rings }
     ensures queue { pmd.new.queue ≡ pmd.old.queue }
+    ensures blocks { KeepsAll pmd.old.rings [] pmd.new.rings [] }
     ensures who { N.who nic.new ≡ N.who nic.old }
 {
     for _ in 0..rounds {
@@ -187,10 +205,11 @@ pub(crate) fn reap_all<N: Nic>(alloc: Global, nic: &mut N, pmd: &mut Pmd) -> Res
     ensures handed { handed_of pmd.new.rings ≡ handed_of pmd.old.rings }
     ensures drives { RunsOn (N.made nic.old) pmd.old.rings (N.made nic.new) pmd.new.rings }
     ensures queue { pmd.new.queue ≡ pmd.old.queue }
+    ensures blocks { KeepsAll pmd.old.rings [] pmd.new.rings [] }
     ensures who { N.who nic.new ≡ N.who nic.old }
 {
     for _ in 0..REAPS {
-        if pmd.reap(alloc, nic)?.idle {
+        if reap(alloc, nic, pmd)?.idle {
             break;
         }
     }

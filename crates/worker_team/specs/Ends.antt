@@ -2,6 +2,7 @@
 use Rattle.std.specs.Prelude.{◌≡◌, ◌≢◌, ◌≤◌, true, List, [], ◌∷◌, length, Option, Some, IfNone, ⊤}
 use Rattle.rtrb.specs.Ring.{sent, SameProducer}
 use Rattle.device_lock.specs.Pass.{PassValue}
+use Rattle.pmd.specs.Blocks.{IsWhole}
 use Rattle.pmd.specs.Started.{left_handed, IsHome}
 use Rattle.pmd.specs.declared.start.Rest.{Rest}
 use Rattle.workers.specs.declared.job.Job.{Job}
@@ -28,6 +29,8 @@ pub record IsEndOf (j : Job) (pass : PassValue) (rest : Rest) (told : List Repor
   pub few : length told ≤ j.rounds
   -- without a fault the driver stopped
   pub home : IfNone fault (is_home rest ≡ true)
+  -- no block went astray: where none is lost, the numbers of an arena that is home are free where they were
+  pub whole : IsWhole j.arena rest
   -- without a thread nothing was done
   pub idle : fault ≡ Some NoThread → (pass ≡ j.pass) × IsHome j.arena rest
 

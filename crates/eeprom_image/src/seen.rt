@@ -31,11 +31,11 @@ impl Seen {
     ghost use Rattle.std.specs.Prelude.{◌≡◌, ◌==◌, ◌||◌, IfOk, OnOk, false};
     ghost use Rattle.eeprom_image.specs.Seen.{is_seen};
 
-    /// None, with places for so many.
-    pub(crate) fn with_room(alloc: Global, count: usize) -> Result<Seen, AllocError>
+    /// None, with places for so many, of which none is above the highest.
+    pub(crate) fn with_room(alloc: Global, count: usize, highest: u32) -> Result<Seen, AllocError>
         ensures { IfOk result (λ seen. (index : ℕ) → is_seen seen index ≡ false) }
     {
-        let places = PLACES_EACH * count.min(COUNT_LIMIT) + 2;
+        let places = (PLACES_EACH * count.min(COUNT_LIMIT)).min(highest as usize) + 2;
         Ok(Seen {
             places: vec![in alloc; 0u32; places]?,
             others: BTreeSet::new(alloc),

@@ -1,9 +1,10 @@
 //! Lines of a name and two numbers, each read in one look over its bytes.
 
-ghost use Rattle.std.specs.Prelude.{◌≡◌, ◌<◌, ◌==◌, [], length, position, true, None, IfSome};
+ghost use Rattle.std.specs.Prelude.{◌≡◌, ◌<◌, ◌==◌, [], drop, length, not, position, true, None, IfSome};
 ghost use Rattle.std.specs.Str.Lines.{lines};
-ghost use Rattle.std.specs.List.{prefix_len};
+ghost use Rattle.std.specs.List.{position_or_len, prefix_len};
 ghost use Rattle.lexer.specs.Lines.{is_nothing};
+ghost use Rattle.lexer.specs.Words.{is_blank};
 ghost use Rattle.lexer.specs.Name.{is_name};
 ghost use Rattle.lexer.specs.Pair.{RestOfLine, IsOperand, IsPairInFront};
 
@@ -11,16 +12,29 @@ use crate::lines::behind_empty;
 use crate::numbers::number_in_front;
 use crate::words::behind_blanks;
 
+/// What stands behind the blanks in front, of which there is one at least.
+#[inline(always)]
+fn behind_some_blanks(text: &str) -> Option<&str>
+    ensures { IfSome result (λ behind.
+        (behind.now ≡ drop (position_or_len (λ byte. not (is_blank byte)) text.now) text.now)
+        × (length behind.now < length text.now)) }
+{
+    if let [b' ', b'0'..=b'9', ..] = text.as_bytes() {
+        return Some(&text[1..]);
+    }
+    let behind = behind_blanks(text);
+    if behind.len() == text.len() {
+        return None;
+    }
+    Some(behind)
+}
+
 /// The number behind the blanks in front, of which there is one at least, and what stands behind it.
 #[inline(always)]
 fn operand(text: &str) -> Option<(u32, &str)>
     ensures { IfSome result (λ split. IsOperand text.now split.0 split.1.now) }
 {
-    let behind = behind_blanks(text);
-    if behind.len() == text.len() {
-        return None;
-    }
-    number_in_front(behind)
+    number_in_front(behind_some_blanks(text)?)
 }
 
 /// Where the first line feed stands.

@@ -1,4 +1,4 @@
 pub mod Ended
-pub mod Lived
 pub mod Kept
+pub mod Lived
 pub mod Told

@@ -143,6 +143,8 @@ fn turn<N: Nic>(
 /// Frees the blocks of the packets that were sent.
 fn reap<N: Nic>(alloc: Global, nic: &mut N, pmd: &mut Pmd) -> Result<Reaped, PmdFault>
     ensures handed { handed_of pmd.new.rings ≡ handed_of pmd.old.rings }
+    ensures drives { RunsOn (N.made nic.old) pmd.old.rings (N.made nic.new) pmd.new.rings }
+    ensures queue { pmd.new.queue ≡ pmd.old.queue }
     ensures blocks { KeepsAll pmd.old.rings [] pmd.new.rings [] }
     ensures who { N.who nic.new ≡ N.who nic.old }
 {

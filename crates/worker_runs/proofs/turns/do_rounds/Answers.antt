@@ -10,6 +10,7 @@ loop-init g c = record {
   few = search rules;
   drives = runs_still _ _;
   queue = refl;
+  blocks = λ a has. has;
   who = refl;
 }
 
@@ -23,6 +24,7 @@ loop-preserved g c =
       few = search rules;
       drives = runs_on _ _ _ _ _ _ i.drives c.round.ensures.drives;
       queue = c.round.ensures.queue ∙ i.queue;
+      blocks = λ a has. c.round.ensures.blocks a (i.blocks a has);
       who = c.round.ensures.who ∙ i.who;
     }
 

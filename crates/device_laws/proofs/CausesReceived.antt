@@ -9,11 +9,11 @@ use Rattle.register_file.specs.Counters.{counted, counter_of}
 use Rattle.register_file.specs.Groups.{interrupts_of}
 use Rattle.register_file.specs.Queue.{head_row, with_head, shut}
 use Rattle.register_file.specs.Registers.{Registers}
-use Rattle.register_file.specs.Sound.{HasShape}
 use Rattle.register_file.specs.declared.dir.Dir.{Dir}
 use Rattle.register_file.specs.declared.dir.Dir.TheVariants.{Rx}
-use Rattle.register_file.proofs.Sound.{sound-shut}
-use Rattle.register_file.proofs.Shape.{HasShape-put}
+use Rattle.register_laws.specs.Sound.{HasShape}
+use Rattle.register_laws.proofs.Sound.{sound-shut}
+use Rattle.register_laws.proofs.Shape.{HasShape-put}
 use Rattle.nic_device.proofs.Functions.{function_counted_in}
 use Rattle.nic_device.specs.Interrupt.{function_of_queue, device_raised, raised_by, fault_cause}
 use Rattle.nic_device.specs.Outcome.{Outcome}

@@ -13,19 +13,19 @@ use Rattle.intr_unit.specs.declared.group.Group.{Group}
 use Rattle.intr_unit.specs.declared.group.Group.TheVariants as group
 use Rattle.register_file.specs.Columns.{place}
 use Rattle.register_file.specs.Counters.{counted, counter_of}
-use Rattle.register_file.specs.Footprint.{is_place, pending}
 use Rattle.register_file.specs.Groups.{causes_raised}
 use Rattle.register_file.specs.Queue.{with_head, shut}
 use Rattle.register_file.specs.Registers.{Registers, word_of, with_word}
-use Rattle.register_file.specs.Sound.{HasShape}
 use Rattle.register_file.specs.Words.{word_at, put}
 use Rattle.register_file.specs.declared.dir.Dir.{Dir}
 use Rattle.register_file.specs.declared.dir.Dir.TheVariants.{Rx, Tx}
-use Rattle.register_file.proofs.Owners.{apart, is_place-itself, is_place-same}
-use Rattle.register_file.proofs.Puts.{word_at-put_other}
-use Rattle.register_file.proofs.ReadBack.{one_place}
-use Rattle.register_file.proofs.Shape.{put_stands, HasShape-put}
-use Rattle.register_file.proofs.Within.{within-causes_raised}
+use Rattle.register_laws.specs.Footprint.{is_place, pending}
+use Rattle.register_laws.specs.Sound.{HasShape}
+use Rattle.register_laws.proofs.Owners.{apart, is_place-itself, is_place-same}
+use Rattle.register_laws.proofs.Puts.{word_at-put_other}
+use Rattle.register_laws.proofs.ReadBack.{one_place}
+use Rattle.register_laws.proofs.Shape.{put_stands, HasShape-put}
+use Rattle.register_laws.proofs.Within.{within-causes_raised}
 use Rattle.rx_ring.specs.declared.filled.Filled.{Filled}
 use Rattle.device_laws.specs.Counting.{with_one}
 use Rattle.device_laws.proofs.FunctionCounts.{function_keeps}

@@ -12,14 +12,14 @@ use Rattle.register_file.specs.Owner.{owner_in}
 use Rattle.vf_map.specs.Owner.{is_of_pool_by}
 use Rattle.vf_map.specs.declared.mode.Mode.{Mode}
 use Rattle.nic_device.proofs.Cases.{either_way}
-use Rattle.register_file.specs.Footprint.{pending_of, read_by, written_by}
 use Rattle.register_file.specs.Owner.{owner_of, is_owner}
 use Rattle.register_file.specs.declared.dir.Dir.{Dir}
 use Rattle.register_file.specs.declared.dir.Dir.TheVariants.{Rx, Tx}
 use Rattle.register_file.specs.declared.owner.Owner.{Owner}
 use Rattle.register_file.specs.declared.owner.Owner.TheVariants as owner
-use Rattle.register_file.proofs.NoSide.{counters_own}
-use Rattle.register_file.proofs.ReadBack.{one_place}
+use Rattle.register_laws.specs.Footprint.{pending_of, read_by, written_by}
+use Rattle.register_laws.proofs.NoSide.{counters_own}
+use Rattle.register_laws.proofs.ReadBack.{one_place}
 use Rattle.nic_device.specs.Footprint.{Reach, read_reach, write_reach, reset_reach, below_reset_reach, switch_reach}
 use Rattle.device_laws.proofs.Counting.{elsewhere, not_pending}
 use Rattle.nic_device.specs.declared.named.Named.{Named}

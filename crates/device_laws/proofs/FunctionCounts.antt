@@ -7,13 +7,13 @@ use Rattle.reg_table.specs.declared.kind.Kind.TheVariants.{Rc, Ro}
 use Rattle.reg_table.specs.declared.place.Place.{Place}
 use Rattle.reg_table.specs.declared.rows.RowId.{RowId}
 use Rattle.register_file.specs.Columns.{place}
-use Rattle.register_file.specs.Footprint.{Covers, Misses, either, counters, any_pending, of_side}
 use Rattle.register_file.specs.Owner.{owner_in, is_owner}
 use Rattle.register_file.specs.Registers.{Registers}
 use Rattle.register_file.specs.Words.{word_at}
 use Rattle.register_file.specs.declared.dir.Dir.{Dir}
 use Rattle.register_file.specs.declared.owner.Owner.TheVariants as owner
-use Rattle.register_file.proofs.Puts.{word_at-put_other}
+use Rattle.register_laws.specs.Footprint.{Covers, Misses, either, counters, any_pending, of_side}
+use Rattle.register_laws.proofs.Puts.{word_at-put_other}
 use Rattle.nic_device.specs.Footprint.{function_counts, is_function_count, counts_and_causes}
 use Rattle.nic_device.specs.Interrupt.{function_counted}
 use Rattle.nic_device.proofs.Coming.{covers-first, covers-second, covers-trans}

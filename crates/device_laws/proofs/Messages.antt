@@ -13,9 +13,9 @@ use Rattle.register_file.specs.Groups.{cause_row, mask_row, auto_clear_row, auto
 use Rattle.register_file.specs.Pools.{mode_in}
 use Rattle.register_file.specs.Registers.{Registers, word_of}
 use Rattle.register_file.specs.Settings.{is_stopped}
-use Rattle.register_file.specs.Sound.{HasShape}
 use Rattle.register_file.proofs.Settled.{settled-of_words, settled-after_message_of, intersection-lt}
-use Rattle.register_file.proofs.Standing.{interrupts_of-with_interrupts}
+use Rattle.register_laws.specs.Sound.{HasShape}
+use Rattle.register_laws.proofs.Standing.{interrupts_of-with_interrupts}
 use Rattle.nic_device.specs.Interrupt.{has_group, message_reply, messaged}
 use Rattle.nic_device.specs.Outcome.{Outcome, gives}
 use Rattle.nic_device.specs.Sound.{IsSound}

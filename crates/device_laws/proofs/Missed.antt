@@ -8,15 +8,15 @@ use Rattle.reg_table.specs.Rows.{row_of}
 use Rattle.reg_table.specs.declared.rows.RowId.{RowId}
 use Rattle.reg_table.specs.declared.rows.RowId.TheVariants as row
 use Rattle.intr_unit.specs.declared.group.Group.{Group}
-use Rattle.register_file.specs.Footprint.{Footprint, Misses, nothing, either, of_side, of_group, counters, pending, any_pending, is_pending}
 use Rattle.register_file.specs.Owner.{owner_in, is_owner}
 use Rattle.register_file.specs.declared.dir.Dir.{Dir}
 use Rattle.register_file.specs.declared.dir.Dir.TheVariants.{Rx, Tx}
 use Rattle.register_file.specs.declared.owner.Owner.{Owner}
 use Rattle.register_file.specs.declared.owner.Owner.TheVariants as owner
-use Rattle.register_file.proofs.Footprints.{misses-narrower, misses-owner, covers-pending}
-use Rattle.register_file.proofs.Owners.{is_owner-same}
-use Rattle.register_file.specs.Footprint.{either}
+use Rattle.register_laws.specs.Footprint.{Footprint, Misses, nothing, either, of_side, of_group, counters, pending, any_pending, is_pending}
+use Rattle.register_laws.proofs.Footprints.{misses-narrower, misses-owner, covers-pending}
+use Rattle.register_laws.proofs.Owners.{is_owner-same}
+use Rattle.register_laws.specs.Footprint.{either}
 use Rattle.device_laws.proofs.FunctionCounts.{function_counts-miss_side}
 use Rattle.nic_device.specs.Footprint.{function_counts, counts_and_causes, has_some_of}
 

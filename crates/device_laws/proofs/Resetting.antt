@@ -16,8 +16,8 @@ use Rattle.std.proofs.Math.ListN.{set}
 use Rattle.nic_device.specs.PoolReset.{unstaged, pool_unstaged, others_waiting, with_pool_reset, written_below_reset}
 use Rattle.register_file.specs.Groups.{index_of, told_by}
 use Rattle.register_file.specs.Registers.{reset_registers}
-use Rattle.register_file.proofs.Puts.{word_at-reset}
-use Rattle.register_file.proofs.ReadBack.{off-reset}
+use Rattle.register_laws.proofs.Puts.{word_at-reset}
+use Rattle.register_laws.proofs.ReadBack.{off-reset}
 use Rattle.nic_device.specs.Eeprom.{is_stepped_over, triple_written, with_triple, with_triples, reset}
 use Rattle.nic_device.specs.State.{State, cleared, none_staged}
 use Rattle.nic_device.proofs.Cases.{either_way}

@@ -16,15 +16,15 @@ use Rattle.vf_map.specs.declared.mode.Mode.{Mode}
 use Rattle.vf_map.specs.Owner.{is_of_pool_by}
 use Rattle.nic_device.proofs.Cases.{either_way}
 use Rattle.register_file.specs.Columns.{place}
-use Rattle.register_file.specs.Footprint.{is_place, is_pending, any_pending, pending, pending_of, read_by, written_by}
 use Rattle.register_file.specs.Owner.{owner_in, owner_of, is_owner}
 use Rattle.register_file.specs.Registers.{word_of}
 use Rattle.register_file.specs.declared.dir.Dir.{Dir}
 use Rattle.register_file.specs.declared.dir.Dir.TheVariants.{Rx, Tx}
 use Rattle.register_file.specs.declared.owner.Owner.{Owner}
 use Rattle.register_file.specs.declared.owner.Owner.TheVariants as owner
-use Rattle.register_file.proofs.Covers.{fails, covers-any_pending}
-use Rattle.register_file.proofs.ReadBack.{one_place}
+use Rattle.register_laws.specs.Footprint.{is_place, is_pending, any_pending, pending, pending_of, read_by, written_by}
+use Rattle.register_laws.proofs.Covers.{fails, covers-any_pending}
+use Rattle.register_laws.proofs.ReadBack.{one_place}
 use Rattle.nic_device.specs.Footprint.{read_reach, write_reach, receive_reach, reach_by, switch_reach, Reach, pool_reach, is_function_count}
 use Rattle.nic_device.specs.Named.{named}
 use Rattle.nic_device.specs.Step.{after, step_of}

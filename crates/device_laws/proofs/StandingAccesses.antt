@@ -5,15 +5,15 @@ use Rattle.reg_table.specs.Rows.{row_of}
 use Rattle.reg_table.specs.declared.place.Place.{Place}
 use Rattle.intr_unit.specs.declared.group.Group.{Group}
 use Rattle.register_file.specs.Access.{asks_reset, asks_pool_reset}
-use Rattle.register_file.specs.Footprint.{Misses, of_owner, of_side, of_group, of_read, of_write}
 use Rattle.register_file.specs.Owner.{owner_of}
 use Rattle.register_file.specs.declared.dir.Dir.{Dir}
 use Rattle.register_file.specs.declared.dir.Dir.TheVariants.{Rx, Tx}
 use Rattle.register_file.specs.declared.owner.Owner.{Owner}
 use Rattle.register_file.specs.declared.owner.Owner.TheVariants as owner
-use Rattle.register_file.proofs.Covers.{misses-narrower, misses-owner}
-use Rattle.register_file.proofs.Footprints.{covers-of_read, covers-of_write}
-use Rattle.register_file.proofs.NoSide.{read_misses_sides}
+use Rattle.register_laws.specs.Footprint.{Misses, of_owner, of_side, of_group, of_read, of_write}
+use Rattle.register_laws.proofs.Covers.{misses-narrower, misses-owner}
+use Rattle.register_laws.proofs.Footprints.{covers-of_read, covers-of_write}
+use Rattle.register_laws.proofs.NoSide.{read_misses_sides}
 use Rattle.nic_device.specs.Footprint.{Reach, StaysWithin, in_registers, read_reach, write_reach, reset_reach, pool_reach, below_reset_reach}
 use Rattle.nic_device.specs.Named.{named}
 use Rattle.nic_device.specs.Step.{after}

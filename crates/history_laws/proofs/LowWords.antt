@@ -15,20 +15,20 @@ use Rattle.intr_unit.specs.declared.group.Group.{Group}
 use Rattle.register_file.specs.Access.{is_running, stored, written}
 use Rattle.register_file.specs.Bits.{merged}
 use Rattle.register_file.specs.Columns.{place}
-use Rattle.register_file.specs.Footprint.{any_pending, is_pending, is_place, of_pool, pending, pending_of, written_by}
-use Rattle.register_file.specs.Laws.{after_write}
 use Rattle.register_file.specs.Owner.{owner_of}
 use Rattle.register_file.specs.PoolReset.{pool_reset}
 use Rattle.register_file.specs.Registers.{Registers, reset_registers, word_of}
-use Rattle.register_file.specs.Sound.{HasShape}
 use Rattle.register_file.specs.declared.owner.Owner.{Owner}
 use Rattle.register_file.specs.declared.owner.Owner.TheVariants as owner
-use Rattle.register_file.proofs.Covers.{fails, covers-any_pending}
-use Rattle.register_file.proofs.Owners.{is_place-same}
-use Rattle.register_file.proofs.PoolReset.{renewed-pool}
-use Rattle.register_file.proofs.Puts.{word_at-reset}
-use Rattle.register_file.proofs.Shape.{put_stands}
-use Rattle.register_file.proofs.Within.{within-written}
+use Rattle.register_laws.specs.Footprint.{any_pending, is_pending, is_place, of_pool, pending, pending_of, written_by}
+use Rattle.register_laws.specs.Laws.{after_write}
+use Rattle.register_laws.specs.Sound.{HasShape}
+use Rattle.register_laws.proofs.Covers.{fails, covers-any_pending}
+use Rattle.register_laws.proofs.Owners.{is_place-same}
+use Rattle.register_laws.proofs.PoolReset.{renewed-pool}
+use Rattle.register_laws.proofs.Puts.{word_at-reset}
+use Rattle.register_laws.proofs.Shape.{put_stands}
+use Rattle.register_laws.proofs.Within.{within-written}
 use Rattle.nic_device.proofs.Cases.{either_way}
 
 -- the rows of these words

@@ -6,9 +6,9 @@ use Rattle.reg_table.specs.declared.rows.RowId.TheVariants.{Qprdc}
 use Rattle.register_file.specs.Counters.{counter_of}
 use Rattle.register_file.specs.Queue.{ring_of}
 use Rattle.register_file.specs.Registers.{Registers}
-use Rattle.register_file.specs.Sides.{ReceiveQueue, receive_queue_of}
 use Rattle.register_file.specs.declared.dir.Dir.TheVariants.{Rx, Tx}
-use Rattle.register_file.proofs.Stands.{receive_stands}
+use Rattle.register_laws.specs.Sides.{ReceiveQueue, receive_queue_of}
+use Rattle.register_laws.proofs.Stands.{receive_stands}
 use Rattle.nic_device.specs.Footprint.{counts_and_causes}
 use Rattle.nic_device.specs.Outcome.{Outcome}
 use Rattle.nic_device.specs.Receive.{receive_failed, slot_done, slotless_counted}

@@ -13,11 +13,11 @@ use Rattle.vf_map.specs.declared.mode.Mode.{Mode}
 use Rattle.vf_map.specs.declared.mode.Mode.TheVariants.{Off, Pools16, Pools32, Pools64}
 use Rattle.vf_map.proofs.Inverse.{inverse}
 use Rattle.register_file.specs.Columns.{place}
-use Rattle.register_file.specs.Footprint.{Footprint, Covers, the_word}
 use Rattle.register_file.specs.Registers.{Registers}
-use Rattle.register_file.proofs.Owners.{is_place-same}
-use Rattle.register_file.proofs.Sound.{sound-counted_wrapping}
-use Rattle.register_file.proofs.Within.{within-counted_wrapping}
+use Rattle.register_laws.specs.Footprint.{Footprint, Covers, the_word}
+use Rattle.register_laws.proofs.Owners.{is_place-same}
+use Rattle.register_laws.proofs.Sound.{sound-counted_wrapping}
+use Rattle.register_laws.proofs.Within.{within-counted_wrapping}
 use Rattle.nic_device.specs.Footprint.{function_counts, is_function_count}
 use Rattle.nic_device.specs.Interrupt.{function_counted}
 use Rattle.nic_device.proofs.Coming.{Comes, then_within, covers-trans}

@@ -14,14 +14,14 @@ use Rattle.vf_map.specs.declared.mode.Mode.{Mode}
 use Rattle.vf_map.proofs.Inverse.{inverse}
 use Rattle.register_file.specs.Access.{asks_pool_reset}
 use Rattle.register_file.specs.Pools.{mode_in}
-use Rattle.register_file.proofs.PoolReset.{renewed-pool}
-use Rattle.register_file.proofs.PoolSound.{sound-pool_reset}
+use Rattle.register_laws.proofs.PoolReset.{renewed-pool}
+use Rattle.register_laws.proofs.PoolSound.{sound-pool_reset}
 use Rattle.nic_device.specs.Footprint.{pool_reach, StaysWithin}
 use Rattle.nic_device.specs.PoolReset.{unstaged, pool_unstaged, others_waiting, with_pool_reset, written_below_reset}
 use Rattle.nic_device.specs.Sound.{IsSound, IsUnbegun, AreWaiting, AreStaged}
 use Rattle.nic_device.specs.State.{State, Waiting}
 use Rattle.reg_table.specs.declared.place.Place.{Place}
-use Rattle.register_file.proofs.Sound.{sound-written}
+use Rattle.register_laws.proofs.Sound.{sound-written}
 use Rattle.nic_device.proofs.Cases.{either_way}
 use Rattle.nic_device.proofs.Keeping.{sound-registers, sound-waiting, sound-staged, AreStaged-set}
 

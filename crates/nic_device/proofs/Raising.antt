@@ -8,14 +8,14 @@ use Rattle.rx_ring.specs.declared.filled.Filled.{Filled}
 use Rattle.tx_ring.specs.declared.fetched.Fetched.{Fetched}
 use Rattle.register_file.specs.Columns.{place}
 use Rattle.register_file.specs.Counters.{counted, counter_of}
-use Rattle.register_file.specs.Footprint.{Footprint, Covers, either, counters, any_pending, pending, the_word, of_side}
 use Rattle.register_file.specs.Queue.{head_row, with_head, shut}
 use Rattle.register_file.specs.Registers.{Registers}
 use Rattle.register_file.specs.declared.dir.Dir.{Dir}
 use Rattle.register_file.specs.declared.dir.Dir.TheVariants.{Rx, Tx}
-use Rattle.register_file.proofs.Footprints.{within-refl, covers-the_word}
-use Rattle.register_file.proofs.Sound.{sound-causes_raised, sound-with_head, sound-shut}
-use Rattle.register_file.proofs.Within.{within-causes_raised, within-with_head, within-shut}
+use Rattle.register_laws.specs.Footprint.{Footprint, Covers, either, counters, any_pending, pending, the_word, of_side}
+use Rattle.register_laws.proofs.Footprints.{within-refl, covers-the_word}
+use Rattle.register_laws.proofs.Sound.{sound-causes_raised, sound-with_head, sound-shut}
+use Rattle.register_laws.proofs.Within.{within-causes_raised, within-with_head, within-shut}
 use Rattle.nic_device.specs.Footprint.{counts_and_causes, function_counts}
 use Rattle.nic_device.proofs.Functions.{function_counted_in}
 use Rattle.nic_device.specs.Interrupt.{function_of_queue, device_raised, raised_by, missed_cause, fault_cause}

@@ -31,10 +31,9 @@ use Rattle.nic_device.proofs.Cases.{either_way}
 use Rattle.nic_device.proofs.QueueCases.{transmitted_cases, fetched_by}
 use Rattle.nic_device.proofs.Coming.{Comes, counted_in, raised_by_queue}
 use Rattle.device_laws.proofs.Missed.{counts-miss_side, pending-misses_side}
-use Rattle.nic_device.proofs.Raising.{comes-itself}
+use Rattle.nic_device.proofs.Raising.{comes-itself, have_counters, have_functions, have_causes}
 use Rattle.nic_device.proofs.Functions.{function_counted_in}
 use Rattle.nic_device.specs.Interrupt.{function_of_queue}
-use Rattle.device_laws.proofs.FunctionCounts.{have_counters, have_functions, have_causes}
 use Rattle.device_laws.proofs.Reporting.{reports_at}
 use Rattle.nic_device.specs.declared.event.Reply.TheVariants.{NoQueue}
 

@@ -8,8 +8,9 @@ use Rattle.reg_table.specs.declared.rows.RowId.TheVariants.{Eerd}
 use Rattle.register_file.specs.declared.owner.Owner.{Owner}
 use Rattle.register_file.specs.declared.owner.Owner.TheVariants as owner
 use Rattle.register_laws.proofs.Footprints.{misses-owner, misses-narrower, covers-the_word}
+use Rattle.register_laws.proofs.Covers.{misses-nothing}
 use Rattle.device_laws.specs.Leaving.{ArrivalLeavesTheRest, MessageLeavesTheRest, EepromStepLeavesTheRest, LinkLeavesTheRest, CollectingLeavesTheRest}
-use Rattle.device_laws.proofs.Missed.{misses-nothing, misses-either, misses-other_group, pending-misses_side}
+use Rattle.device_laws.proofs.Missed.{misses-either, misses-other_group, pending-misses_side}
 use Rattle.device_laws.proofs.Standing.{stays_within, missed, same_memory, queues_stand}
 use Rattle.nic_device.specs.declared.event.Event.TheVariants as event
 

@@ -38,9 +38,6 @@ use Rattle.history_laws.proofs.Written.{ShowsLow, low_merged}
 
 -- a write of GCR_EXT, of CTRL, and of another register
 
-pub same_place : (p q : Place) → p.row ≡ q.row → p.index ≡ q.index → p ≡ q
-same_place p q e f = λ k. record { row = e k; index = f k }
-
 abbrev by_low_bits : ℕ → Mode
 by_low_bits n =
     if n == 0 then Off else (if n == 1 then Pools16 else (if n == 2 then Pools32 else Pools64))

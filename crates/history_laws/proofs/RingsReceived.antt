@@ -18,10 +18,9 @@ use Rattle.nic_device.specs.Step.{step_of, after}
 use Rattle.nic_device.specs.declared.event.Event.TheVariants as event
 use Rattle.nic_device.proofs.Coming.{counted_in}
 use Rattle.nic_device.proofs.QueueCases.{filled_by, received_cases}
-use Rattle.nic_device.proofs.Raising.{comes-itself}
+use Rattle.nic_device.proofs.Raising.{comes-itself, have_counters}
 use Rattle.device_laws.specs.Leaving.{IsFirstFor, LeavesReceive}
 use Rattle.device_laws.specs.Replies.{received_tells}
-use Rattle.device_laws.proofs.FunctionCounts.{have_counters}
 use Rattle.device_laws.proofs.Missed.{counts-miss_side}
 use Rattle.device_laws.proofs.RepliesReceived.{receiving_tells}
 use Rattle.device_laws.proofs.StandingQueues.{receiving_rest}

@@ -15,6 +15,7 @@ use Rattle.register_file.specs.Registers.{Registers}
 use Rattle.register_file.specs.declared.dir.Dir.{Dir}
 use Rattle.register_laws.specs.Footprint.{Footprint, ChangesWithin, Covers, either, counters, any_pending, pending, the_word, of_owner}
 use Rattle.register_laws.specs.Sound.{AreSound}
+use Rattle.register_laws.proofs.Covers.{covers-trans}
 use Rattle.register_laws.proofs.Footprints.{within-trans, within-wider, covers-the_word, covers-any_pending}
 use Rattle.register_laws.proofs.Sound.{sound-counted, sound-causes_raised}
 use Rattle.register_laws.proofs.Within.{within-counted, within-causes_raised}
@@ -34,13 +35,6 @@ covers-second f g = record {
   words = λ p is. or_right (f.words p) (g.words p) is;
   wanted = λ dir queue is. or_right (f.wanted dir queue) (g.wanted dir queue) is;
   told = λ h is. or_right (f.told h) (g.told h) is;
-}
-
-pub covers-trans : (f g h : Footprint) → Covers f g → Covers g h → Covers f h
-covers-trans f g h wide narrow = record {
-  words = λ p is. wide.words p (narrow.words p is);
-  wanted = λ dir queue is. wide.wanted dir queue (narrow.wanted dir queue is);
-  told = λ i is. wide.told i (narrow.told i is);
 }
 
 -- registers that come of others: changed within a footprint, and sound where those are and the step is a good one

@@ -17,7 +17,7 @@ use Rattle.nic_device.specs.State.{State, Waiting}
 use Rattle.nic_device.specs.Step.{after, reply_to}
 use Rattle.nic_device.specs.declared.event.Event.TheVariants as event
 use Rattle.nic_device.specs.declared.event.Reply.TheVariants.{Wrote}
-use Rattle.nic_device.proofs.Targets.{told-lt}
+use Rattle.device_laws.proofs.Delivered.{told-lt}
 use Rattle.device_laws.specs.Leaving.{IsFirstFor, LeavesReceive, LeavesBlock}
 use Rattle.device_laws.specs.Replies.{moved_on}
 use Rattle.pmd_rx.specs.Receive.{Receive}

@@ -2,5 +2,4 @@ pub mod Columns
 pub mod InPlace
 pub mod Own
 pub mod Repeated
-pub mod Settled
 pub mod Storing

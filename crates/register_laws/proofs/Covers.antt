@@ -20,6 +20,13 @@ pub fails : (b c : Bool) → (b ≡ true → c ≡ true) → c ≡ false → b �
 fails true c follows off = absurd (both_ways c off (follows refl))
 fails false c follows off = refl
 
+pub covers-trans : (f g h : Footprint) → Covers f g → Covers g h → Covers f h
+covers-trans f g h wide narrow = record {
+  words = λ p is. wide.words p (narrow.words p is);
+  wanted = λ dir queue is. wide.wanted dir queue (narrow.wanted dir queue is);
+  told = λ i is. wide.told i (narrow.told i is);
+}
+
 -- a footprint within another misses what that misses
 pub misses-narrower : (f e g : Footprint) → Covers f e → Misses f g → Misses e g
 misses-narrower f e g has none = record {
@@ -35,6 +42,9 @@ misses-within f g h has none = record {
   wanted = λ dir queue is. none.wanted dir queue (has.wanted dir queue is);
   told = λ i is. none.told i (has.told i is);
 }
+
+pub misses-nothing : (g : Footprint) → Misses nothing g
+misses-nothing g = record { words = λ p is. refl; wanted = λ dir queue is. refl; told = λ h is. refl }
 
 -- two owners have nothing in common
 none_shared : (o other third : Owner) → is_owner o other ≡ false → is_owner other third ≡ true
@@ -122,21 +132,37 @@ covers-read_by kind.Rc p = covers-the_word p
 covers-read_by kind.Cause p = covers-pending_of (owner_of p)
 covers-read_by other p = covers-nothing _
 
-covers-written_by : (k : Kind) (p : Place) → Covers (of_owner (owner_of p)) (written_by k p)
-covers-written_by kind.Rw p = covers-the_word p
-covers-written_by kind.Ro p = covers-nothing _
-covers-written_by kind.Calc p = covers-nothing _
-covers-written_by kind.Rc p = covers-nothing _
-covers-written_by kind.Held p = covers-the_word p
-covers-written_by kind.Enable p = covers-the_enable p
-covers-written_by kind.Ctrl p = covers-the_word p
-covers-written_by kind.Vreset p = covers-nothing _
-covers-written_by kind.Eerd p = covers-the_word p
-covers-written_by interrupts p = covers-pending_of (owner_of p)
+-- what a write may change: nothing, the word, the enable or the interrupts
+pub written_by_cases : (P : Footprint → Type 0) (k : Kind) (p : Place) → P nothing → P (the_word p) → P (the_enable p)
+    → P (pending_of (owner_of p)) → P (written_by k p)
+written_by_cases P kind.Rw p none word enable interrupts = word
+written_by_cases P kind.Ro p none word enable interrupts = none
+written_by_cases P kind.Calc p none word enable interrupts = none
+written_by_cases P kind.Rc p none word enable interrupts = none
+written_by_cases P kind.Held p none word enable interrupts = word
+written_by_cases P kind.Enable p none word enable interrupts = enable
+written_by_cases P kind.Ctrl p none word enable interrupts = word
+written_by_cases P kind.Vreset p none word enable interrupts = none
+written_by_cases P kind.Eerd p none word enable interrupts = word
+written_by_cases P k p none word enable interrupts = interrupts
 
 -- an access of a place changes nothing but what its owner has
 pub covers-of_read : (p : Place) → Covers (of_owner (owner_of p)) (of_read p)
 covers-of_read p = covers-read_by (row_of p.row).kind p
 
 pub covers-of_write : (p : Place) → Covers (of_owner (owner_of p)) (of_write p)
-covers-of_write p = covers-written_by (row_of p.row).kind p
+covers-of_write p =
+    written_by_cases (Covers (of_owner (owner_of p))) (row_of p.row).kind p (covers-nothing _) (covers-the_word p)
+    (covers-the_enable p) (covers-pending_of (owner_of p))
+
+-- a place that is neither of causes nor of masks isn't pending, and only a write of it changes its word
+module _ (q : Place) (steady : is_pending (row_of q.row).kind ≡ false) where
+  pub none_pending : (g : Group) → (pending g).words q ≡ false
+  none_pending g = fails ((pending g).words q) (any_pending.words q) ((covers-any_pending g).words q) steady
+
+  pub none_pending_of : (o : Owner) → (pending_of o).words q ≡ false
+  none_pending_of (owner.Group g) = none_pending g
+  none_pending_of other = refl
+
+  pub none_written_by : (k : Kind) (p : Place) → is_place p q ≡ false → (written_by k p).words q ≡ false
+  none_written_by k p n = written_by_cases (λ f. f.words q ≡ false) k p refl n n (none_pending_of (owner_of p))

@@ -9,14 +9,14 @@ use Rattle.intr_unit.specs.declared.group.Group.{Group}
 use Rattle.register_file.specs.Access.{group_read, interrupts_written}
 use Rattle.register_file.specs.Groups.{cause_row, mask_row, auto_clear_row, auto_mask_row, index_of, told_by, interrupts_of, with_interrupts, clears_others, masks_by_message, auto_masks, causes_raised, message_of, message_made}
 use Rattle.register_file.specs.Registers.{Registers, word_of}
-use Rattle.register_file.proofs.Settled.{IsSettled, settled-of_words, settled-raised, settled-after_read, settled-after_write_one, settled-after_mask_set, settled-after_mask_clear, settled-after_message_of}
+use Rattle.register_laws.proofs.Settled.{IsSettled, settled-of_words, settled-raised, settled-after_read, settled-after_write_one, settled-after_mask_set, settled-after_mask_clear, settled-after_message_of}
 
 -- the registers are as they were, or have other interrupts of the group
 pub data GroupChange (r : Registers) (g : Group) : Registers → Type 0 where
   kept : GroupChange r g r
   changed : (made : Interrupts) → made.group ≡ g → IsSettled made → GroupChange r g (with_interrupts r made)
 
-settled : (r : Registers) (g : Group) → IsSettled (interrupts_of r g)
+pub settled : (r : Registers) (g : Group) → IsSettled (interrupts_of r g)
 settled r g =
     settled-of_words g (word_of r (cause_row g) (index_of g)) (word_of r (mask_row g) (index_of g))
     (word_of r (auto_clear_row g) (index_of g)) (word_of r (auto_mask_row g) (index_of g)) (told_by r g)

@@ -22,6 +22,7 @@ pub mod Puts
 pub mod ReadBack
 pub mod Renewed
 pub mod RowsReset
+pub mod Settled
 pub mod Shape
 pub mod SideWords
 pub mod Small

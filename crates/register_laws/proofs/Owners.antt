@@ -3,6 +3,7 @@ use Rattle.std.proofs.Common.{◌≡◌, ◌≢◌, Bool, true, false, refl, ap,
 use Rattle.std.proofs.lemmas.Bool.{both_ways, and_parts, and_from, eqb-true, eq-eqb}
 use Rattle.reg_table.specs.Rows.{number_of}
 use Rattle.reg_table.specs.declared.place.Place.{Place}
+use Rattle.reg_table.proofs.FirstAddresses.{same_number}
 use Rattle.intr_unit.specs.declared.group.Group.{Group}
 use Rattle.intr_unit.specs.declared.group.Group.TheVariants.{Pf, Vf}
 use Rattle.register_file.specs.Owner.{is_dir, is_group, is_owner}
@@ -11,7 +12,6 @@ use Rattle.register_file.specs.declared.dir.Dir.TheVariants.{Rx, Tx}
 use Rattle.register_file.specs.declared.owner.Owner.{Owner}
 use Rattle.register_file.specs.declared.owner.Owner.TheVariants as owner
 use Rattle.register_laws.specs.Footprint.{is_place}
-use Rattle.register_laws.proofs.Puts.{same_number}
 
 -- what passes a test isn't what fails it
 pub apart : {A : Type 0} (test : A → Bool) (x y : A) → test x ≡ true → test y ≡ false → y ≢ x

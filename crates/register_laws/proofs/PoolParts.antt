@@ -2,6 +2,7 @@
 use Rattle.std.proofs.Common.{◌≡◌, ℕ, ◌/◌, Bool, true, false, ◌==◌, ◌&&◌, ◌||◌, List, Option, Some, None, refl, ap, ◌∙◌}
 use Rattle.std.specs.Prelude.{fold}
 use Rattle.std.specs.List.{range_with_len}
+use Rattle.std.proofs.Math.Bool.{or-false}
 use Rattle.reg_table.specs.Rows.{row_of}
 use Rattle.reg_table.specs.declared.bank.Bank.{Bank}
 use Rattle.reg_table.specs.declared.bank.Bank.TheVariants as bank
@@ -17,7 +18,7 @@ use Rattle.register_file.specs.declared.dir.Dir.TheVariants.{Rx, Tx}
 use Rattle.register_file.specs.declared.owner.Owner.TheVariants as owner
 use Rattle.register_laws.specs.Footprint.{Footprint, nothing, either, of_owner, of_side}
 use Rattle.register_laws.proofs.Renewed.{IsRenewed, IsSame, any_of, wanted_of, told_of, renewed-refl, renewed-either, renewed-each, renewed-same, renewed-with_wanted, renewed-with_told}
-use Rattle.register_laws.proofs.RowsReset.{or_false, at_rows, has_row, rows_words, renewed-rows}
+use Rattle.register_laws.proofs.RowsReset.{at_rows, has_row, rows_words, renewed-rows}
 
 -- what a pool has once
 abbrev pub is_own : Bank → Bool
@@ -40,7 +41,7 @@ own_row other = refl
 
 same_function : (v : ℕ) → IsSame (either (at_rows function_rows v) (told_of (Vf v))) (of_function v)
 same_function v = record {
-  words = λ p. or_false ((at_rows function_rows v).words p) ∙ rows_words function_rows v p
+  words = λ p. or-false ((at_rows function_rows v).words p) ∙ rows_words function_rows v p
       ∙ ap (λ b. b && v == p.index) (own_row p.row);
   wanted = λ dir queue. refl;
   told = λ g. refl;
@@ -73,11 +74,11 @@ none_told Tx queue g = refl
 same_side : (dir : Dir) (queue : ℕ)
     → IsSame (either (at_rows (side_rows dir) queue) (wanted_of dir queue)) (of_side dir queue)
 same_side dir queue = record {
-  words = λ p. or_false ((at_rows (side_rows dir) queue).words p) ∙ rows_words (side_rows dir) queue p
+  words = λ p. or-false ((at_rows (side_rows dir) queue).words p) ∙ rows_words (side_rows dir) queue p
       ∙ side_row dir p.row queue p.index;
   wanted = λ other number. ap (λ b. b || is_owner (owner.Side dir queue) (owner.Side other number))
       (none_wanted dir other queue number);
-  told = λ g. or_false _ ∙ none_told dir queue g;
+  told = λ g. or-false _ ∙ none_told dir queue g;
 }
 
 renewed-side : (dir : Dir) (r : Registers) (queue : ℕ) → IsRenewed (of_side dir queue) r (side_reset dir r queue)

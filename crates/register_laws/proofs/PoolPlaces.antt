@@ -7,6 +7,7 @@ use Rattle.reg_table.specs.declared.bank.Bank.TheVariants as bank
 use Rattle.reg_table.specs.declared.place.Place.{Place}
 use Rattle.reg_table.specs.declared.rows.RowId.{RowId}
 use Rattle.reg_table.specs.declared.rows.RowId.TheVariants as row
+use Rattle.reg_table.proofs.FirstAddresses.{same_number}
 use Rattle.intr_unit.specs.declared.group.Group.{Group}
 use Rattle.intr_unit.specs.declared.group.Group.TheVariants.{Pf, Vf}
 use Rattle.vf_map.specs.Owner.{is_of_pool, is_of_pool_by, has_queue, is_shared}
@@ -17,11 +18,10 @@ use Rattle.register_file.specs.declared.dir.Dir.{Dir}
 use Rattle.register_file.specs.declared.owner.Owner.{Owner}
 use Rattle.register_file.specs.declared.owner.Owner.TheVariants as owner
 use Rattle.register_laws.specs.Agreement.{PoolReadsStayWithin, PoolWritesStayWithin, SharedReadsChangeNothing, SharedWritesChangeNothing}
-use Rattle.register_laws.specs.Footprint.{Footprint, Covers, of_pool, of_owner, of_read, of_write}
+use Rattle.register_laws.specs.Footprint.{Covers, of_pool, of_owner, of_read, of_write}
 use Rattle.register_laws.specs.Laws.{after_write}
-use Rattle.register_laws.proofs.Covers.{covers-of_read, covers-of_write}
+use Rattle.register_laws.proofs.Covers.{covers-of_read, covers-of_write, covers-trans}
 use Rattle.register_laws.proofs.Owners.{is_group-itself, is_owner-same}
-use Rattle.register_laws.proofs.Puts.{same_number}
 
 -- the owner of a pool's place has nothing but what is the pool's
 pub group_of_pool : (b : Bank) (mode : Mode) (v i : ℕ) (g : Group) → is_of_pool_by b mode v i ≡ true
@@ -68,13 +68,6 @@ covers-owner mode v p is = record {
       let mine = group_of_pool (row_of p.row).bank mode v p.index g is
       (is_owner-same (owner_of p) (owner.Group g) same) in
       ap (is_group (Vf v)) mine ∙ is_group-itself (Vf v);
-}
-
-covers-trans : (f g h : Footprint) → Covers f g → Covers g h → Covers f h
-covers-trans f g h first then = record {
-  words = λ p is. first.words p (then.words p is);
-  wanted = λ dir queue is. first.wanted dir queue (then.wanted dir queue is);
-  told = λ k is. first.told k (then.told k is);
 }
 
 pub covers-read : PoolReadsStayWithin

@@ -1,6 +1,7 @@
 -- The reset of a pool is one of all that is the pool's.
 use Rattle.std.proofs.Common.{◌≡◌, ℕ, ◌+◌, ◌*◌, ◌/◌, ◌<◌, Bool, true, false, cond, ◌==◌, nat_lt, ◌&&◌, ◌||◌, Option, Some, None, refl, sym, ◌∙◌, arith}
 use Rattle.std.proofs.lemmas.Bool.{ltb-true}
+use Rattle.std.proofs.Math.Bool.{or-false}
 use Rattle.reg_table.specs.Rows.{row_of}
 use Rattle.reg_table.specs.declared.bank.Bank.{Bank}
 use Rattle.reg_table.specs.declared.bank.Bank.TheVariants as bank
@@ -19,7 +20,6 @@ use Rattle.register_laws.specs.Footprint.{Footprint, either, of_pool}
 use Rattle.register_laws.proofs.PoolParts.{is_own, of_function, of_queues, renewed-function, renewed-queues}
 use Rattle.register_laws.proofs.Renewed.{IsRenewed, IsSame, renewed-either, renewed-same}
 use Rattle.register_laws.proofs.PoolQueues.{turned, none_had, four_queues, two_queues, two_vectors, one_vector}
-use Rattle.register_laws.proofs.RowsReset.{or_false}
 
 -- what is reset, by the queues that the mode gives the pool
 abbrev whole : ℕ → Option (ℕ × ℕ) → Footprint
@@ -39,9 +39,9 @@ with_none : (b : Bank) (mode : Mode) (v i : ℕ) → ((queue : ℕ) → has_queu
     → (own_has v b i || false) ≡ is_of_pool_by b mode v i
 with_none bank.Receive mode v i none = sym (none i)
 with_none bank.Transmit mode v i none = sym (none i)
-with_none bank.VfInterrupts mode v i none = or_false (v == i) ∙ turned v i
-with_none bank.Pool mode v i none = or_false (v == i) ∙ turned v i
-with_none bank.VfCounters mode v i none = or_false (v == i) ∙ turned v i
+with_none bank.VfInterrupts mode v i none = or-false (v == i) ∙ turned v i
+with_none bank.Pool mode v i none = or-false (v == i) ∙ turned v i
+with_none bank.VfCounters mode v i none = or-false (v == i) ∙ turned v i
 with_none bank.Vectors mode v i none = sym (none (2 * i))
 with_none other mode v i none = refl
 
@@ -51,11 +51,11 @@ with_four : (b : Bank) (v i : ℕ) → v < 32
     || (queue_has (v * 4 + 1) b i || (queue_has (v * 4 + 1 + 1) b i || (queue_has (v * 4 + 1 + 1 + 1) b i || false))))
     || (vectors_has (v * 4 / 2) b i || (vectors_has (v * 4 / 2 + 1) b i || false))))
     ≡ is_of_pool_by b Pools32 v i
-with_four bank.Receive v i small = simp or_false (simp or_false at (four_queues v i small))
-with_four bank.Transmit v i small = simp or_false (simp or_false at (four_queues v i small))
-with_four bank.VfInterrupts v i small = or_false (v == i) ∙ turned v i
-with_four bank.Pool v i small = or_false (v == i) ∙ turned v i
-with_four bank.VfCounters v i small = or_false (v == i) ∙ turned v i
+with_four bank.Receive v i small = simp or-false (simp or-false at (four_queues v i small))
+with_four bank.Transmit v i small = simp or-false (simp or-false at (four_queues v i small))
+with_four bank.VfInterrupts v i small = or-false (v == i) ∙ turned v i
+with_four bank.Pool v i small = or-false (v == i) ∙ turned v i
+with_four bank.VfCounters v i small = or-false (v == i) ∙ turned v i
 with_four bank.Vectors v i small = two_vectors v i small
 with_four other v i small = refl
 
@@ -63,11 +63,11 @@ with_two : (b : Bank) (v i : ℕ) → v < 64
     → (own_has v b i
     || ((queue_has (v * 2) b i || (queue_has (v * 2 + 1) b i || false)) || (vectors_has (v * 2 / 2) b i || false)))
     ≡ is_of_pool_by b Pools64 v i
-with_two bank.Receive v i small = simp or_false (simp or_false at (two_queues v i small))
-with_two bank.Transmit v i small = simp or_false (simp or_false at (two_queues v i small))
-with_two bank.VfInterrupts v i small = or_false (v == i) ∙ turned v i
-with_two bank.Pool v i small = or_false (v == i) ∙ turned v i
-with_two bank.VfCounters v i small = or_false (v == i) ∙ turned v i
+with_two bank.Receive v i small = simp or-false (simp or-false at (two_queues v i small))
+with_two bank.Transmit v i small = simp or-false (simp or-false at (two_queues v i small))
+with_two bank.VfInterrupts v i small = or-false (v == i) ∙ turned v i
+with_two bank.Pool v i small = or-false (v == i) ∙ turned v i
+with_two bank.VfCounters v i small = or-false (v == i) ∙ turned v i
 with_two bank.Vectors v i small = one_vector v i small
 with_two other v i small = refl
 
@@ -76,7 +76,7 @@ same_none : (mode : Mode) (v : ℕ) → ((queue : ℕ) → has_queue mode v queu
 same_none mode v none = record {
   words = λ p. with_none (row_of p.row).bank mode v p.index none;
   wanted = λ dir queue. sym (none queue);
-  told = λ g. or_false (is_group (Vf v) g);
+  told = λ g. or-false (is_group (Vf v) g);
 }
 
 four_wanted : (dir : Dir) (v queue : ℕ) → v < 32
@@ -98,14 +98,14 @@ same_some Pools32 v e =
     record {
       words = λ p. with_four (row_of p.row).bank v p.index small;
       wanted = λ dir queue. four_wanted dir v queue small;
-      told = λ g. or_false (is_group (Vf v) g);
+      told = λ g. or-false (is_group (Vf v) g);
     }
 same_some Pools64 v e =
     let small = ltb-true v 64 e in
     record {
       words = λ p. with_two (row_of p.row).bank v p.index small;
       wanted = λ dir queue. two_wanted dir v queue small;
-      told = λ g. or_false (is_group (Vf v) g);
+      told = λ g. or-false (is_group (Vf v) g);
     }
 
 same_if : (mode : Mode) (v : ℕ) (b : Bool) → nat_lt v (pools_in mode) ≡ b

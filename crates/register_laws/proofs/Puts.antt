@@ -8,15 +8,13 @@ use Rattle.reg_table.specs.Rows.{row_of, rows, number_of}
 use Rattle.reg_table.specs.declared.place.Place.{Place}
 use Rattle.reg_table.specs.declared.rows.RowId.{RowId}
 use Rattle.reg_table.proofs.Numbers.{rows_length, number_below, row_numbered}
+use Rattle.reg_table.proofs.FirstAddresses.{same_number}
 use Rattle.register_file.specs.Words.{Words, word_at, put, row_words, reset_words}
 
 pub number_small : (r : RowId) → number_of r < length rows
 number_small r = subst (λ n. number_of r < n) (sym rows_length) (number_below r)
 
-pub same_number : (r s : RowId) → number_of r ≡ number_of s → r ≡ s
-same_number r s e = sym (row_numbered r r) ∙ ap (λ n. get_or rows n r) e ∙ row_numbered s r
-
-same_parts : (p q : Place) → p.row ≡ q.row → p.index ≡ q.index → p ≡ q
+pub same_parts : (p q : Place) → p.row ≡ q.row → p.index ≡ q.index → p ≡ q
 same_parts p q e f = λ k. record { row = e k; index = f k }
 
 -- a word put at a place stands there

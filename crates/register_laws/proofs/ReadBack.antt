@@ -1,6 +1,7 @@
 -- What is read of words that were stored and counted, and of registers after a reset.
-use Rattle.std.proofs.Common.{◌≡◌, ℕ, ◌+◌, ◌-◌, ◌*◌, ◌/◌, ◌%◌, ◌^◌, ◌<◌, Bool, true, false, if◌then◌else◌, refl, ap, sym}
+use Rattle.std.proofs.Common.{◌≡◌, ℕ, ◌+◌, ◌-◌, ◌*◌, ◌/◌, ◌%◌, ◌^◌, ◌<◌, false, if◌then◌else◌, refl, ap, sym}
 use Rattle.std.proofs.lemmas.List.{get_or-replicate}
+use Rattle.std.proofs.lemmas.Bool.{false_from_ne_true}
 use Rattle.reg_table.specs.Counter.{bumped}
 use Rattle.reg_table.specs.Rows.{row_of}
 use Rattle.reg_table.specs.declared.place.Place.{Place}
@@ -55,15 +56,11 @@ enable_read r Rx queue link = refl
 enable_read r Tx queue link = refl
 
 -- what differs
-none_other : (b : Bool) → (b ≡ true → ⊥) → b ≡ false
-none_other true n = absurd (n refl)
-none_other false n = refl
-
 pub one_place : WordIsOnePlace
-one_place p q n = none_other (is_place p q) (λ e. n (sym (is_place-same p q e)))
+one_place p q n = false_from_ne_true (is_place p q) (λ e. n (sym (is_place-same p q e)))
 
 pub owners_differ : OwnersDiffer
-owners_differ o other n = none_other (is_owner o other) (λ e. n (is_owner-same o other e))
+owners_differ o other n = false_from_ne_true (is_owner o other) (λ e. n (is_owner-same o other e))
 
 -- what single words set
 vector_stands : (old new : Registers) (g : Group) (dir : Dir) (queue : ℕ)

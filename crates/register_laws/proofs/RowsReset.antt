@@ -10,10 +10,6 @@ use Rattle.register_file.specs.Registers.{Registers}
 use Rattle.register_laws.specs.Footprint.{Footprint, the_word}
 use Rattle.register_laws.proofs.Renewed.{IsRenewed, any_of, renewed-each, renewed-word}
 
-pub or_false : (x : Bool) → (x || false) ≡ x
-or_false true = refl
-or_false false = refl
-
 distribute : (t u c : Bool) → ((t && c) || (u && c)) ≡ ((t || u) && c)
 distribute true u true = refl
 distribute true true false = refl

@@ -7,6 +7,7 @@ use Rattle.reg_table.specs.declared.bank.Bank.TheVariants as bank
 use Rattle.reg_table.specs.declared.place.Place.{Place}
 use Rattle.reg_table.specs.declared.rows.RowId.{RowId}
 use Rattle.reg_table.specs.declared.rows.RowId.TheVariants.{Rdh, Tdh}
+use Rattle.reg_table.proofs.FirstAddresses.{same_number}
 use Rattle.register_file.specs.Access.{written, stored, is_running}
 use Rattle.register_file.specs.Columns.{place}
 use Rattle.register_file.specs.Owner.{owner_in}
@@ -16,7 +17,7 @@ use Rattle.register_file.specs.declared.dir.Dir.{Dir}
 use Rattle.register_file.specs.declared.dir.Dir.TheVariants.{Rx, Tx}
 use Rattle.register_laws.specs.Laws.{HasShape, after_write, word_after, IsOpen}
 use Rattle.register_laws.specs.Sides.{receive_queue_of, transmit_queue_of, with_row, receive_queue_by, transmit_queue_by}
-use Rattle.register_laws.proofs.Puts.{same_number, word_at-put_other}
+use Rattle.register_laws.proofs.Puts.{word_at-put_other}
 use Rattle.register_laws.proofs.Shape.{put_stands}
 
 -- the words of a queue with another one of a row

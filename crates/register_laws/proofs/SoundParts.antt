@@ -13,7 +13,7 @@ use Rattle.register_file.specs.Registers.{Registers, with_wanted}
 use Rattle.register_file.specs.Words.{word_at, put}
 use Rattle.register_file.specs.declared.dir.Dir.{Dir}
 use Rattle.register_file.specs.declared.owner.Owner.TheVariants as owner
-use Rattle.register_file.proofs.Settled.{IsSettled}
+use Rattle.register_laws.proofs.Settled.{IsSettled}
 use Rattle.register_laws.specs.Footprint.{Footprint, ChangesWithin, Misses, is_place, is_pending, nothing, the_word, of_group, pending, any_pending}
 use Rattle.register_laws.specs.Sound.{AreSound, pending_bits}
 use Rattle.register_laws.proofs.Fields.{words-with_wanted, words-with_told}

@@ -6,6 +6,7 @@ use Rattle.intr_unit.specs.Interrupts.{Interrupts, IsConsistent, of_words, settl
 use Rattle.intr_unit.specs.declared.group.Group.{Group}
 use Rattle.intr_unit.proofs.SetLaws.{bits_where-lt}
 use Rattle.intr_unit.proofs.Subsets.{IsSubset-itself, IsSubset-union, IsSubset-intersection_right, IsSubset-difference, IsSubset-when}
+use Rattle.register_file.proofs.Own.{intersection-lt}
 
 -- what can be put into a group's registers
 pub record IsSettled (s : Interrupts) : Type 0 where
@@ -20,10 +21,6 @@ union-lt a b = bits_where-lt _
 difference-lt : (a b : BitSet) → difference a b < 2 ^ 32
 unfolding difference
 difference-lt a b = bits_where-lt _
-
-pub intersection-lt : (a b : BitSet) → intersection a b < 2 ^ 32
-unfolding intersection
-intersection-lt a b = bits_where-lt _
 
 pub settled-of_words : (g : Group) (causes enabled auto_clear auto_mask told : ℕ)
     → IsSettled (of_words g causes enabled auto_clear auto_mask told)

@@ -9,18 +9,20 @@ use Rattle.intr_unit.specs.declared.group.Group.TheVariants as group
 use Rattle.vf_map.specs.Pools.{mode_of, pool_of}
 use Rattle.vf_map.specs.declared.mode.Mode.{Mode}
 use Rattle.register_file.specs.Columns.{place}
-use Rattle.register_file.specs.Footprint.{ChangesWithin, pending}
-use Rattle.register_file.specs.Groups.{cause_row, mask_row, auto_clear_row, auto_mask_row, index_of, told_by, interrupts_of, causes_raised, vector_row, vector_entry}
+use Rattle.register_file.specs.Groups.{index_of, interrupts_of, causes_raised, vector_row, vector_entry}
 use Rattle.register_file.specs.Owner.{is_group}
-use Rattle.register_file.specs.Registers.{Registers, word_of}
-use Rattle.register_file.specs.Sound.{HasShape}
+use Rattle.register_file.specs.Registers.{Registers}
 use Rattle.register_file.specs.declared.dir.Dir.{Dir}
-use Rattle.register_file.proofs.Owners.{is_group-same, is_group-itself}
-use Rattle.register_file.proofs.ReadBack.{settings_stand}
-use Rattle.register_file.proofs.Settled.{IsSettled, settled-of_words, settled-raised, intersection-lt}
-use Rattle.register_file.proofs.Standing.{interrupts_of-with_interrupts}
-use Rattle.register_file.proofs.Stands.{group_stands}
-use Rattle.register_file.proofs.Within.{within-causes_raised}
+use Rattle.register_file.proofs.Own.{intersection-lt}
+use Rattle.register_laws.proofs.Settled.{settled-raised}
+use Rattle.register_laws.specs.Footprint.{ChangesWithin, pending}
+use Rattle.register_laws.specs.Sound.{HasShape}
+use Rattle.register_laws.proofs.Owners.{is_group-same, is_group-itself}
+use Rattle.register_laws.proofs.ReadBack.{settings_stand}
+use Rattle.register_laws.proofs.Standing.{interrupts_of-with_interrupts}
+use Rattle.register_laws.proofs.Stands.{group_stands}
+use Rattle.register_laws.proofs.Within.{within-causes_raised}
+use Rattle.register_laws.proofs.GroupChanges.{settled}
 use Rattle.nic_device.specs.Interrupt.{group_of_queue, group_of, function_in, function_of_queue, mode_in, raised_by}
 use Rattle.device_laws.specs.Raising.{Causes, after_causes, queue_cause}
 use Rattle.nic_device.specs.State.{State}
@@ -33,10 +35,7 @@ own_raised : (r : Registers) (g : Group) (bits : ℕ) → HasShape r → index_o
     → interrupts_of (causes_raised r g bits) g ≡ raised (interrupts_of r g) bits false
 own_raised r g bits h small =
     let old = interrupts_of r g in
-    let settled : IsSettled old =
-    settled-of_words g (word_of r (cause_row g) (index_of g)) (word_of r (mask_row g) (index_of g))
-    (word_of r (auto_clear_row g) (index_of g)) (word_of r (auto_mask_row g) (index_of g)) (told_by r g) in
-    let is = settled-raised old settled bits false in
+    let is = settled-raised old (settled r g) bits false in
     interrupts_of-with_interrupts r h (raised old bits false) small is.consistent is.causes is.enabled
     (intersection-lt _ _)
 

@@ -9,7 +9,7 @@ use Rattle.register_file.specs.Columns.{place}
 use Rattle.register_file.specs.Counters.{counted}
 use Rattle.register_file.specs.Settings.{can_receive, frame_limit}
 use Rattle.register_file.specs.declared.dir.Dir.TheVariants.{Tx}
-use Rattle.register_file.proofs.Shape.{HasShape-put}
+use Rattle.register_laws.proofs.Shape.{HasShape-put}
 use Rattle.nic_device.specs.Arrival.{arrived, sorted_in}
 use Rattle.nic_device.specs.Interrupt.{missed_cause, link_cause}
 use Rattle.device_laws.specs.Raising.{EventsRaise}

@@ -6,7 +6,6 @@ use Rattle.reg_table.specs.declared.place.Place.{Place}
 use Rattle.reg_table.specs.declared.rows.RowId.{RowId}
 use Rattle.intr_unit.specs.declared.group.Group.{Group}
 use Rattle.register_file.specs.Columns.{place}
-use Rattle.register_file.specs.Footprint.{of_owner, of_side, of_group, the_word}
 use Rattle.register_file.specs.Groups.{interrupts_of}
 use Rattle.register_file.specs.Owner.{owner_in, owner_of, is_owner}
 use Rattle.register_file.specs.Queue.{head_row, with_head, shut}
@@ -14,12 +13,13 @@ use Rattle.register_file.specs.Registers.{Registers, with_word}
 use Rattle.register_file.specs.declared.dir.Dir.{Dir}
 use Rattle.register_file.specs.declared.dir.Dir.TheVariants.{Rx, Tx}
 use Rattle.register_file.specs.declared.owner.Owner.TheVariants as owner
-use Rattle.register_file.proofs.Footprints.{misses-narrower, misses-owner, covers-the_word}
-use Rattle.register_file.proofs.Stands.{group_stands}
-use Rattle.register_file.proofs.Within.{within-shut}
-use Rattle.register_file.proofs.WithinParts.{within-word}
-use Rattle.register_file.specs.Sound.{HasShape}
-use Rattle.register_file.proofs.Shape.{HasShape-put}
+use Rattle.register_laws.specs.Footprint.{of_owner, of_side, of_group, the_word}
+use Rattle.register_laws.proofs.Footprints.{misses-narrower, misses-owner, covers-the_word}
+use Rattle.register_laws.proofs.Stands.{group_stands}
+use Rattle.register_laws.proofs.Within.{within-shut}
+use Rattle.register_laws.proofs.WithinParts.{within-word}
+use Rattle.register_laws.specs.Sound.{HasShape}
+use Rattle.register_laws.proofs.Shape.{HasShape-put}
 use Rattle.nic_device.specs.Interrupt.{function_counted}
 
 -- a word of a register that is of no group

@@ -9,11 +9,11 @@ use Rattle.register_file.specs.Counters.{counted, counter_of}
 use Rattle.register_file.specs.Groups.{interrupts_of}
 use Rattle.register_file.specs.Queue.{head_row, with_head, shut}
 use Rattle.register_file.specs.Registers.{Registers}
-use Rattle.register_file.specs.Sound.{HasShape}
 use Rattle.register_file.specs.declared.dir.Dir.{Dir}
 use Rattle.register_file.specs.declared.dir.Dir.TheVariants.{Rx}
-use Rattle.register_file.proofs.Sound.{sound-shut}
-use Rattle.register_file.proofs.Shape.{HasShape-put}
+use Rattle.register_laws.specs.Sound.{HasShape}
+use Rattle.register_laws.proofs.Sound.{sound-shut}
+use Rattle.register_laws.proofs.Shape.{HasShape-put}
 use Rattle.nic_device.proofs.Functions.{function_counted_in}
 use Rattle.nic_device.specs.Interrupt.{function_of_queue, device_raised, raised_by, fault_cause}
 use Rattle.nic_device.specs.Outcome.{Outcome}
@@ -25,7 +25,7 @@ use Rattle.nic_device.proofs.QueueCases.{received_cases}
 use Rattle.device_laws.proofs.CausesKept.{word_kept, shut_kept, head_kept, function_kept, function_shape}
 use Rattle.device_laws.proofs.Caused.{group_raised, queue_raises}
 use Rattle.nic_device.proofs.Coming.{counted_in}
-use Rattle.nic_device.proofs.Raising.{covers-functions, of_step, head_moved, covers-counters}
+use Rattle.nic_device.proofs.Raising.{have_counters, have_functions, covers-counts, of_step, head_moved}
 use Rattle.nic_device.specs.declared.event.Event.{Event}
 use Rattle.nic_device.specs.declared.event.Event.TheVariants as event
 
@@ -59,9 +59,9 @@ piece_raises s queue f h g =
     let head = head_moved {good = ⊥} r Rx queue f.head (λ never. absurd never) in
     let v = function_of_queue moved s.vfs queue in
     let one = counted moved Qprc (counter_of moved Rx queue) in
-    let within = (function_counted_in (of_step Rx queue) r one v Vfgprc (covers-functions Rx queue)
+    let within = (function_counted_in (of_step Rx queue) r one v Vfgprc (covers-counts Rx queue have_functions)
     (record { bank = refl; kind = refl })
-    (counted_in (of_step Rx queue) r moved Qprc (counter_of moved Rx queue) (covers-counters Rx queue)
+    (counted_in (of_step Rx queue) r moved Qprc (counter_of moved Rx queue) (covers-counts Rx queue have_counters)
     (record { bank = refl; kind = refl }) head)).within in
     ends f.end
     (queue_raises s (frame_counted moved s.vfs queue) Rx queue

@@ -12,9 +12,9 @@ use Rattle.register_file.specs.Counters.{counted, counter_of}
 use Rattle.register_file.specs.Groups.{interrupts_of}
 use Rattle.register_file.specs.Queue.{head_row, with_head}
 use Rattle.register_file.specs.Registers.{Registers}
-use Rattle.register_file.specs.Sound.{HasShape}
 use Rattle.register_file.specs.declared.dir.Dir.TheVariants.{Tx}
-use Rattle.register_file.proofs.Shape.{HasShape-put}
+use Rattle.register_laws.specs.Sound.{HasShape}
+use Rattle.register_laws.proofs.Shape.{HasShape-put}
 use Rattle.nic_device.specs.Interrupt.{function_of_queue, raised_by}
 use Rattle.device_laws.specs.Raising.{raised_reported, raised_sent, after_causes, queue_cause}
 use Rattle.nic_device.specs.Sound.{IsSound}

@@ -14,8 +14,8 @@ use Rattle.register_file.specs.Access.{read_word, after_read}
 use Rattle.register_file.specs.Columns.{place}
 use Rattle.register_file.specs.Registers.{word_of}
 use Rattle.register_file.specs.Words.{word_at}
-use Rattle.register_file.proofs.Shape.{put_stands}
-use Rattle.register_file.proofs.Sound.{bumped-lt}
+use Rattle.register_laws.proofs.Shape.{put_stands}
+use Rattle.register_laws.proofs.Sound.{bumped-lt}
 use Rattle.nic_device.specs.State.{State}
 use Rattle.nic_device.specs.Outcome.{Outcome}
 use Rattle.nic_device.specs.Access.{around, named_read}

@@ -8,42 +8,37 @@ use Rattle.reg_table.specs.declared.kind.Kind.TheVariants as kind
 use Rattle.reg_table.specs.declared.kind.Kind.TheVariants.{Rc}
 use Rattle.reg_table.specs.declared.place.Place.{Place}
 use Rattle.reg_table.specs.declared.rows.RowId.{RowId}
-use Rattle.reg_table.specs.declared.rows.RowId.TheVariants.{Eicr, Eims, Pvteicr, Pvteims, Mpc, Qprc, Rdh, Tdh, Rxdctl, Txdctl, Rqsmr, Tqsm, Vfgprc}
+use Rattle.reg_table.specs.declared.rows.RowId.TheVariants.{Mpc, Qprc, Rdh, Tdh, Rxdctl, Txdctl, Rqsmr, Tqsm, Vfgprc}
 use Rattle.intr_unit.specs.declared.group.Group.{Group}
 use Rattle.intr_unit.specs.declared.group.Group.TheVariants as group
 use Rattle.register_file.specs.Columns.{place}
 use Rattle.register_file.specs.Counters.{counted, counter_of}
-use Rattle.register_file.specs.Footprint.{is_place, pending}
 use Rattle.register_file.specs.Groups.{causes_raised}
 use Rattle.register_file.specs.Queue.{with_head, shut}
 use Rattle.register_file.specs.Registers.{Registers, word_of, with_word}
-use Rattle.register_file.specs.Sound.{HasShape}
 use Rattle.register_file.specs.Words.{word_at, put}
 use Rattle.register_file.specs.declared.dir.Dir.{Dir}
 use Rattle.register_file.specs.declared.dir.Dir.TheVariants.{Rx, Tx}
-use Rattle.register_file.proofs.Owners.{apart, is_place-itself, is_place-same}
-use Rattle.register_file.proofs.Puts.{word_at-put_other}
-use Rattle.register_file.proofs.ReadBack.{one_place}
-use Rattle.register_file.proofs.Shape.{put_stands, HasShape-put}
-use Rattle.register_file.proofs.Within.{within-causes_raised}
+use Rattle.register_laws.specs.Footprint.{is_place, pending, is_pending}
+use Rattle.register_laws.specs.Sound.{HasShape}
+use Rattle.register_laws.proofs.Covers.{none_pending}
+use Rattle.register_laws.proofs.Owners.{apart, is_place-itself, is_place-same}
+use Rattle.register_laws.proofs.Puts.{word_at-put_other}
+use Rattle.register_laws.proofs.ReadBack.{one_place}
+use Rattle.register_laws.proofs.Shape.{put_stands, HasShape-put}
+use Rattle.register_laws.proofs.Within.{within-causes_raised}
 use Rattle.rx_ring.specs.declared.filled.Filled.{Filled}
 use Rattle.device_laws.specs.Counting.{with_one}
 use Rattle.device_laws.proofs.FunctionCounts.{function_keeps}
 use Rattle.nic_device.specs.Interrupt.{function_of_queue, device_raised, raised_by, fault_cause, missed_cause}
 use Rattle.nic_device.specs.Receive.{frame_counted, piece_done}
-use Rattle.device_laws.proofs.Missed.{neither}
 
 -- a counter is at no place of another kind
 pub elsewhere : (q p : Place) → (row_of q.row).kind ≢ Rc → (row_of p.row).kind ≡ Rc → is_place q p ≡ false
 elsewhere q p n is = one_place q p (λ e. n (ap (λ (r : Place). (row_of r.row).kind) (sym e) ∙ is))
 
 pub not_pending : (g : Group) (p : Place) → (row_of p.row).kind ≡ Rc → (pending g).words p ≡ false
-not_pending group.Pf p is =
-    neither _ _ (elsewhere (place Eicr 0) p (λ (e : kind.Cause ≡ Rc). cc) is)
-    (elsewhere (place Eims 0) p (λ (e : kind.Ones ≡ Rc). cc) is)
-not_pending (group.Vf v) p is =
-    neither _ _ (elsewhere (place Pvteicr v) p (λ (e : kind.Cause ≡ Rc). cc) is)
-    (elsewhere (place Pvteims v) p (λ (e : kind.Ones ≡ Rc). cc) is)
+not_pending g p is = none_pending p (ap is_pending is) g
 
 -- a word that is changed at one place
 pub changed_there : (f : ℕ → ℕ) (r : Registers) (row : RowId) (index : ℕ) → HasShape r → index < (row_of row).count

@@ -8,14 +8,14 @@ use Rattle.reg_table.specs.declared.place.Place.{Place}
 use Rattle.reg_table.specs.declared.rows.RowId.TheVariants.{Gptc, Qptc, Tdh, Vfgptc}
 use Rattle.register_file.specs.Columns.{place}
 use Rattle.register_file.specs.Counters.{counted, counter_of}
-use Rattle.register_file.specs.Footprint.{is_place}
 use Rattle.register_file.specs.Queue.{with_head}
 use Rattle.register_file.specs.Registers.{Registers, word_of}
-use Rattle.register_file.specs.Sound.{HasShape}
 use Rattle.register_file.specs.Words.{word_at}
 use Rattle.register_file.specs.declared.dir.Dir.TheVariants.{Tx}
-use Rattle.register_file.proofs.Owners.{is_place-same}
-use Rattle.register_file.proofs.Shape.{HasShape-put}
+use Rattle.register_laws.specs.Footprint.{is_place}
+use Rattle.register_laws.specs.Sound.{HasShape}
+use Rattle.register_laws.proofs.Owners.{is_place-same}
+use Rattle.register_laws.proofs.Shape.{HasShape-put}
 use Rattle.tx_ring.specs.declared.fetched.Fetched.{Fetched}
 use Rattle.device_laws.specs.Counting.{with_one, counts_sent}
 use Rattle.device_laws.proofs.FunctionCounts.{function_keeps}

@@ -18,9 +18,9 @@ use Rattle.rx_ring.specs.Fill.{fill_of}
 use Rattle.register_file.specs.Columns.{place}
 use Rattle.register_file.specs.Counters.{counter_of}
 use Rattle.register_file.specs.Settings.{is_stopped, can_receive, frame_limit, drops}
-use Rattle.register_file.specs.Sides.{receive_queue_of}
 use Rattle.register_file.specs.Words.{word_at}
 use Rattle.register_file.specs.declared.dir.Dir.TheVariants.{Rx, Tx}
+use Rattle.register_laws.specs.Sides.{receive_queue_of}
 use Rattle.nic_device.specs.Arrival.{arrived, sorted_in}
 use Rattle.device_laws.specs.Counting.{counts, with_one, EventsCount}
 use Rattle.register_file.specs.Pools.{mode_in}

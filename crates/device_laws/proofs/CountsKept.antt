@@ -1,6 +1,7 @@
 -- Counters that an event may not change.
-use Rattle.std.proofs.Common.{◌≡◌, ◌≢◌, ◌∙◌, ℕ, false, cond, refl, ap, sym}
+use Rattle.std.proofs.Common.{◌≡◌, ◌≢◌, ◌∙◌, ℕ, false, cond, inl, inr, refl, ap, sym}
 use Rattle.std.specs.Prelude.{IsFalse}
+use Rattle.std.proofs.lemmas.Bool.{cases_Bool}
 use Rattle.reg_table.specs.Rows.{row_of}
 use Rattle.reg_table.specs.declared.kind.Kind.{Kind}
 use Rattle.reg_table.specs.declared.kind.Kind.TheVariants as kind
@@ -12,45 +13,32 @@ use Rattle.register_file.specs.Owner.{owner_in}
 use Rattle.vf_map.specs.Owner.{is_of_pool_by}
 use Rattle.vf_map.specs.declared.mode.Mode.{Mode}
 use Rattle.nic_device.proofs.Cases.{either_way}
-use Rattle.register_file.specs.Footprint.{pending_of, read_by, written_by}
 use Rattle.register_file.specs.Owner.{owner_of, is_owner}
 use Rattle.register_file.specs.declared.dir.Dir.{Dir}
 use Rattle.register_file.specs.declared.dir.Dir.TheVariants.{Rx, Tx}
-use Rattle.register_file.specs.declared.owner.Owner.{Owner}
 use Rattle.register_file.specs.declared.owner.Owner.TheVariants as owner
-use Rattle.register_file.proofs.NoSide.{counters_own}
-use Rattle.register_file.proofs.ReadBack.{one_place}
+use Rattle.register_laws.specs.Footprint.{is_pending, is_place, of_write, read_by, written_by}
+use Rattle.register_laws.proofs.Covers.{none_pending_of, none_written_by}
+use Rattle.register_laws.proofs.Owners.{is_place-same}
+use Rattle.register_laws.proofs.NoSide.{counters_own}
+use Rattle.register_laws.proofs.ReadBack.{one_place}
 use Rattle.nic_device.specs.Footprint.{Reach, read_reach, write_reach, reset_reach, below_reset_reach, switch_reach}
-use Rattle.device_laws.proofs.Counting.{elsewhere, not_pending}
 use Rattle.nic_device.specs.declared.named.Named.{Named}
 use Rattle.nic_device.specs.declared.named.Named.TheVariants.{Nothing, Register}
 
 -- what no other event may change: a counter that it doesn't read
 
-not_pending_of : (o : Owner) (p : Place) → (row_of p.row).kind ≡ kind.Rc → (pending_of o).words p ≡ false
-not_pending_of (owner.Group g) p is = not_pending g p is
-not_pending_of other p is = refl
-
 not_read : (k : Kind) (q p : Place) → (row_of p.row).kind ≡ kind.Rc → p ≢ q → (read_by k q).words p ≡ false
 not_read kind.Rc q p is n = one_place q p n
-not_read kind.Cause q p is n = not_pending_of (owner_of q) p is
+not_read kind.Cause q p is n = none_pending_of p (ap is_pending is) (owner_of q)
 not_read other q p is n = refl
 
-not_written : (k : Kind) (q p : Place) → (row_of q.row).kind ≡ k → (row_of p.row).kind ≡ kind.Rc
-    → (written_by k q).words p ≡ false
-not_written kind.Rw q p e is = elsewhere q p (λ f. cc) is
-not_written kind.Ro q p e is = refl
-not_written kind.Calc q p e is = refl
-not_written kind.Rc q p e is = refl
-not_written kind.Cause q p e is = not_pending_of (owner_of q) p is
-not_written kind.Ones q p e is = not_pending_of (owner_of q) p is
-not_written kind.Set q p e is = not_pending_of (owner_of q) p is
-not_written kind.Clear q p e is = not_pending_of (owner_of q) p is
-not_written kind.Held q p e is = elsewhere q p (λ f. cc) is
-not_written kind.Enable q p e is = elsewhere q p (λ f. cc) is
-not_written kind.Ctrl q p e is = elsewhere q p (λ f. cc) is
-not_written kind.Vreset q p e is = refl
-not_written kind.Eerd q p e is = elsewhere q p (λ f. cc) is
+not_written : (q p : Place) → (row_of p.row).kind ≡ kind.Rc → (of_write q).words p ≡ false
+not_written q p is =
+    elim (cases_Bool (is_place q p)) as (λ _. (of_write q).words p ≡ false) [
+      | inl same ↦ ap (λ k. (written_by k q).words p) (ap (λ (x : Place). (row_of x.row).kind) (is_place-same q p same) ∙ is)
+      | inr other ↦ none_written_by p (ap is_pending is) (row_of q.row).kind q other
+    ]
 
 pub read_misses : (m : Named) (p : Place) → (row_of p.row).kind ≡ kind.Rc
     → ((q : Place) (view : ℕ) → m ≡ Register q view → q ≢ p) → (read_reach m).registers.words p ≡ false
@@ -71,7 +59,7 @@ write_misses mode (Register q view) word p is none =
     ap (λ b. (cond b reset_reach (below_reset_reach mode q word)).registers.words p) (none q view refl)
     ∙ either_way (λ (r : Reach). r.registers.words p ≡ false) (asks_pool_reset (row_of q.row).kind word) _ _
     (no_pools_by (row_of p.row).bank mode q.index p.index (counters_own p is))
-    (not_written (row_of q.row).kind q p refl is)
+    (not_written q p is)
 
 pub switch_misses : (dir : Dir) (queue : ℕ) (p : Place) → (row_of p.row).kind ≡ kind.Rc
     → (switch_reach dir queue).registers.words p ≡ false

@@ -1,20 +1,33 @@
 -- Pieces that are read back, and a device that makes no steps.
-use Rattle.std.proofs.Common.{cond, ◌≡◌, ℕ, Bool, true, List, [], ◌∷◌, take, drop, refl, ap, sym, ◌∙◌, subst, nat_eq}
+use Rattle.std.proofs.Common.{cond, ◌≡◌, ℕ, ◌<◌, ◌≤◌, ◌^◌, Bool, true, false, List, [], ◌∷◌, take, drop, refl, ap, sym, ◌∙◌, subst, nat_eq, arith}
 use Rattle.std.specs.Prelude.{⊤}
 use Rattle.std.proofs.lemmas.Bool.{eq-eqb, lt-ltb}
 use Rattle.dma_arena.specs.Block.{Block}
 use Rattle.dma_arena.specs.Memory.{Memory, read_at, AreApart}
+use Rattle.dma_ring.specs.Receive.{told_of}
+use Rattle.dma_ring.specs.declared.receive.Packet.{Packet}
 use Rattle.rx_ring.proofs.Fills.{driver_reads}
 use Rattle.nic_device.specs.State.{State, Waiting}
 use Rattle.nic_device.specs.Outcome.{gives}
-use Rattle.nic_device.specs.Receive.{received, first_received}
-use Rattle.nic_device.specs.Sound.{AreWaiting, IsSound}
+use Rattle.nic_device.specs.Receive.{received, first_received, packet_of}
+use Rattle.nic_device.specs.Sound.{AreWaiting, IsSound, IsWaiting}
 use Rattle.nic_device.specs.Step.{step_of}
 use Rattle.device_laws.specs.Laws.{piece_of, piece_on, PieceIsReadBack, StoppedDeviceIsIdle}
 use Rattle.nic_device.proofs.QueueCases.{received_cases}
-use Rattle.nic_device.proofs.Targets.{told-lt}
 use Rattle.nic_device.specs.declared.event.Reply.{Reply}
 use Rattle.nic_device.specs.declared.event.Reply.TheVariants.{Wrote, Idle}
+
+-- what descriptors tell of a frame that waits is a word of 64 bits
+cond-le : (b : Bool) (n : ℕ) → cond b n 0 ≤ n
+cond-le true n = omega arith
+cond-le false n = omega arith
+
+told_of-lt : (p : Packet) → p.hash < 2 ^ 32 → p.rss < 16 → told_of p < 2 ^ 64
+told_of-lt p hash rss =
+    omega (arith, cond-le p.ipv4 (2 ^ 4), cond-le p.ipv6 (2 ^ 6), cond-le p.tcp (2 ^ 8), cond-le p.udp (2 ^ 9))
+
+pub told-lt : (w : Waiting) → IsWaiting w → told_of (packet_of w) < 2 ^ 64
+told-lt w h = told_of-lt (packet_of w) h.hash h.rss
 
 -- memory has the piece that a reply tells of
 abbrev HasPiece : List Waiting → Memory → Reply Block → Type 0

@@ -14,7 +14,7 @@ use Rattle.register_file.specs.Columns.{place}
 use Rattle.register_file.specs.Eeprom.{eeprom_index, eeprom_asked, eeprom_answered}
 use Rattle.register_file.specs.Registers.{word_of}
 use Rattle.register_file.specs.Settings.{is_stopped}
-use Rattle.register_file.proofs.Shape.{put_stands}
+use Rattle.register_laws.proofs.Shape.{put_stands}
 use Rattle.nic_device.specs.Access.{named_read}
 use Rattle.nic_device.specs.Named.{at_place}
 use Rattle.nic_device.specs.Eeprom.{word_answered}

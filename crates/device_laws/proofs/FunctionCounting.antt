@@ -13,21 +13,21 @@ use Rattle.intr_unit.specs.declared.group.Group.TheVariants as group
 use Rattle.vf_map.specs.Pools.{mode_of, pool_of}
 use Rattle.register_file.specs.Columns.{place}
 use Rattle.register_file.specs.Counters.{counted, counter_of}
-use Rattle.register_file.specs.Footprint.{is_place, pending}
 use Rattle.register_file.specs.Groups.{causes_raised}
 use Rattle.register_file.specs.Owner.{owner_in, owner_of, is_owner}
 use Rattle.register_file.specs.Queue.{with_head, shut}
 use Rattle.register_file.specs.Registers.{Registers}
-use Rattle.register_file.specs.Sound.{HasShape}
 use Rattle.register_file.specs.Words.{word_at}
 use Rattle.register_file.specs.declared.dir.Dir.{Dir}
 use Rattle.register_file.specs.declared.dir.Dir.TheVariants.{Rx, Tx}
 use Rattle.register_file.specs.declared.owner.Owner.{Owner}
 use Rattle.register_file.specs.declared.owner.Owner.TheVariants as owner
-use Rattle.register_file.proofs.Covers.{fails, covers-pending}
-use Rattle.register_file.proofs.ReadBack.{one_place}
-use Rattle.register_file.proofs.Shape.{HasShape-put}
-use Rattle.register_file.proofs.Within.{within-causes_raised, within-counted, within-with_head, within-shut}
+use Rattle.register_laws.specs.Footprint.{is_place, pending}
+use Rattle.register_laws.specs.Sound.{HasShape}
+use Rattle.register_laws.proofs.Covers.{fails, covers-pending}
+use Rattle.register_laws.proofs.ReadBack.{one_place}
+use Rattle.register_laws.proofs.Shape.{HasShape-put}
+use Rattle.register_laws.proofs.Within.{within-causes_raised, within-counted, within-with_head, within-shut}
 use Rattle.rx_ring.specs.declared.filled.Filled.{Filled}
 use Rattle.tx_ring.specs.declared.fetched.Fetched.{Fetched}
 use Rattle.nic_device.specs.Interrupt.{function_in, function_of_queue, function_counted, device_raised, raised_by, fault_cause}

@@ -7,16 +7,15 @@ use Rattle.reg_table.specs.declared.kind.Kind.TheVariants.{Rc, Ro}
 use Rattle.reg_table.specs.declared.place.Place.{Place}
 use Rattle.reg_table.specs.declared.rows.RowId.{RowId}
 use Rattle.register_file.specs.Columns.{place}
-use Rattle.register_file.specs.Footprint.{Covers, Misses, either, counters, any_pending, of_side}
 use Rattle.register_file.specs.Owner.{owner_in, is_owner}
 use Rattle.register_file.specs.Registers.{Registers}
 use Rattle.register_file.specs.Words.{word_at}
 use Rattle.register_file.specs.declared.dir.Dir.{Dir}
 use Rattle.register_file.specs.declared.owner.Owner.TheVariants as owner
-use Rattle.register_file.proofs.Puts.{word_at-put_other}
-use Rattle.nic_device.specs.Footprint.{function_counts, is_function_count, counts_and_causes}
+use Rattle.register_laws.specs.Footprint.{Misses, of_side}
+use Rattle.register_laws.proofs.Puts.{word_at-put_other}
+use Rattle.nic_device.specs.Footprint.{function_counts, is_function_count}
 use Rattle.nic_device.specs.Interrupt.{function_counted}
-use Rattle.nic_device.proofs.Coming.{covers-first, covers-second, covers-trans}
 
 -- it leaves the other counters
 pub function_keeps : (r : Registers) (o : Option ℕ) (row : RowId) → (row_of row).kind ≡ Ro → (p : Place)
@@ -39,18 +38,3 @@ function_counts-miss_side dir queue = record {
   wanted = λ other number is. refl;
   told = λ g is. refl;
 }
-
--- what counts and causes have
-
-pub have_counters : Covers counts_and_causes counters
-have_counters =
-    covers-trans counts_and_causes (either counters function_counts) counters
-    (covers-first (either counters function_counts) any_pending) (covers-first counters function_counts)
-
-pub have_functions : Covers counts_and_causes function_counts
-have_functions =
-    covers-trans counts_and_causes (either counters function_counts) function_counts
-    (covers-first (either counters function_counts) any_pending) (covers-second counters function_counts)
-
-pub have_causes : Covers counts_and_causes any_pending
-have_causes = covers-second (either counters function_counts) any_pending

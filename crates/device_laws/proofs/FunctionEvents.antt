@@ -15,14 +15,14 @@ use Rattle.vf_map.specs.declared.mode.Mode.{Mode}
 use Rattle.register_file.specs.Access.{asks_reset, asks_pool_reset}
 use Rattle.register_file.specs.Columns.{place}
 use Rattle.register_file.specs.Counters.{counter_of}
-use Rattle.register_file.specs.Footprint.{of_read, of_write}
 use Rattle.register_file.specs.Owner.{owner_of}
 use Rattle.register_file.specs.Pools.{mode_in}
 use Rattle.register_file.specs.Words.{word_at}
 use Rattle.register_file.specs.declared.dir.Dir.{Dir}
 use Rattle.register_file.specs.declared.dir.Dir.TheVariants.{Rx, Tx}
 use Rattle.register_file.specs.declared.owner.Owner.TheVariants as owner
-use Rattle.register_file.proofs.Covers.{fails, covers-of_read, covers-of_write}
+use Rattle.register_laws.specs.Footprint.{of_read, of_write}
+use Rattle.register_laws.proofs.Covers.{fails, covers-of_read, covers-of_write}
 use Rattle.nic_device.specs.Footprint.{Reach, read_reach, write_reach, reset_reach, below_reset_reach, pool_reach, in_registers, switch_reach}
 use Rattle.nic_device.specs.Named.{named}
 use Rattle.nic_device.specs.Outcome.{Outcome}

@@ -9,13 +9,15 @@ use Rattle.intr_unit.specs.declared.group.Group.{Group}
 use Rattle.intr_unit.specs.declared.group.Group.TheVariants.{Pf, Vf}
 use Rattle.intr_unit.proofs.MessageLaws.{messages_tell, messages_change}
 use Rattle.vf_map.specs.Pools.{queues_of}
-use Rattle.register_file.specs.Groups.{cause_row, mask_row, auto_clear_row, auto_mask_row, index_of, told_by, interrupts_of, with_interrupts, message_of, message_made, masks_by_message}
+use Rattle.register_file.specs.Groups.{index_of, interrupts_of, with_interrupts, message_of, message_made, masks_by_message}
 use Rattle.register_file.specs.Pools.{mode_in}
 use Rattle.register_file.specs.Registers.{Registers, word_of}
 use Rattle.register_file.specs.Settings.{is_stopped}
-use Rattle.register_file.specs.Sound.{HasShape}
-use Rattle.register_file.proofs.Settled.{settled-of_words, settled-after_message_of, intersection-lt}
-use Rattle.register_file.proofs.Standing.{interrupts_of-with_interrupts}
+use Rattle.register_file.proofs.Own.{intersection-lt}
+use Rattle.register_laws.proofs.Settled.{settled-after_message_of}
+use Rattle.register_laws.specs.Sound.{HasShape}
+use Rattle.register_laws.proofs.Standing.{interrupts_of-with_interrupts}
+use Rattle.register_laws.proofs.GroupChanges.{settled}
 use Rattle.nic_device.specs.Interrupt.{has_group, message_reply, messaged}
 use Rattle.nic_device.specs.Outcome.{Outcome, gives}
 use Rattle.nic_device.specs.Sound.{IsSound}
@@ -31,14 +33,10 @@ shown : (r : Registers) (g : Group) (eiame : Bool) (next : Option ℕ) → HasSh
     → interrupts_of (with_interrupts r (after_message_of (interrupts_of r g) eiame next)) g
     ≡ after_message_of (interrupts_of r g) eiame next
 shown r g eiame None h small =
-    let settled = settled-of_words g (word_of r (cause_row g) (index_of g)) (word_of r (mask_row g) (index_of g))
-    (word_of r (auto_clear_row g) (index_of g)) (word_of r (auto_mask_row g) (index_of g)) (told_by r g) in
-    interrupts_of-with_interrupts r h (interrupts_of r g) small settled.consistent settled.causes settled.enabled
-    (intersection-lt _ _)
+    let is = settled r g in
+    interrupts_of-with_interrupts r h (interrupts_of r g) small is.consistent is.causes is.enabled (intersection-lt _ _)
 shown r g eiame (Some bit) h small =
-    let settled = settled-of_words g (word_of r (cause_row g) (index_of g)) (word_of r (mask_row g) (index_of g))
-    (word_of r (auto_clear_row g) (index_of g)) (word_of r (auto_mask_row g) (index_of g)) (told_by r g) in
-    let is = settled-after_message_of (interrupts_of r g) settled eiame (Some bit) in
+    let is = settled-after_message_of (interrupts_of r g) (settled r g) eiame (Some bit) in
     interrupts_of-with_interrupts r h (after_message_of (interrupts_of r g) eiame (Some bit)) small is.consistent
     is.causes is.enabled (intersection-lt _ _)
 

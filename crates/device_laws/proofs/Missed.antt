@@ -2,30 +2,26 @@
 use Rattle.std.proofs.Common.{◌≡◌, ◌≢◌, ◌+◌, ◌*◌, inl, inr, ℕ, Bool, true, false, refl, ap, sym, ◌∙◌}
 use Rattle.std.specs.Prelude.{◌||◌, ◌&&◌, nat_lt}
 use Rattle.std.proofs.Math.Bool.{and-false}
-use Rattle.std.proofs.lemmas.Bool.{cases_Bool, le-ltb, ne_eqb}
+use Rattle.std.proofs.lemmas.Bool.{le-ltb, ne_eqb}
 use Rattle.dma_arena.specs.Memory.{Avoids}
 use Rattle.reg_table.specs.Rows.{row_of}
 use Rattle.reg_table.specs.declared.rows.RowId.{RowId}
 use Rattle.reg_table.specs.declared.rows.RowId.TheVariants as row
 use Rattle.intr_unit.specs.declared.group.Group.{Group}
-use Rattle.register_file.specs.Footprint.{Footprint, Misses, nothing, either, of_side, of_group, counters, pending, any_pending, is_pending}
 use Rattle.register_file.specs.Owner.{owner_in, is_owner}
 use Rattle.register_file.specs.declared.dir.Dir.{Dir}
 use Rattle.register_file.specs.declared.dir.Dir.TheVariants.{Rx, Tx}
-use Rattle.register_file.specs.declared.owner.Owner.{Owner}
 use Rattle.register_file.specs.declared.owner.Owner.TheVariants as owner
-use Rattle.register_file.proofs.Footprints.{misses-narrower, misses-owner, covers-pending}
-use Rattle.register_file.proofs.Owners.{is_owner-same}
-use Rattle.register_file.specs.Footprint.{either}
+use Rattle.register_laws.specs.Footprint.{Footprint, Misses, either, of_side, of_group, counters, pending, any_pending, is_pending}
+use Rattle.register_laws.proofs.Footprints.{misses-narrower, misses-owner, covers-pending}
+use Rattle.register_laws.proofs.NoSide.{pending_misses_sides}
+use Rattle.register_laws.proofs.ReadBack.{owners_differ}
 use Rattle.device_laws.proofs.FunctionCounts.{function_counts-miss_side}
 use Rattle.nic_device.specs.Footprint.{function_counts, counts_and_causes, has_some_of}
 
 pub neither : (b c : Bool) → b ≡ false → c ≡ false → (b || c) ≡ false
 neither true c e f = cc
 neither false c e f = f
-
-pub misses-nothing : (g : Footprint) → Misses nothing g
-misses-nothing g = record { words = λ p is. refl; wanted = λ dir queue is. refl; told = λ h is. refl }
 
 pub misses-either : (f g h : Footprint) → Misses f h → Misses g h → Misses (either f g) h
 misses-either f g h first second = record {
@@ -34,14 +30,6 @@ misses-either f g h first second = record {
       neither (f.wanted dir queue) (g.wanted dir queue) (first.wanted dir queue is) (second.wanted dir queue is);
   told = λ i is. neither (f.told i) (g.told i) (first.told i is) (second.told i is);
 }
-
--- owners that are not the same
-pub owners_apart : (o other : Owner) → o ≢ other → is_owner o other ≡ false
-owners_apart o other n =
-    elim (cases_Bool (is_owner o other)) as (λ _. is_owner o other ≡ false) [
-      | inl same ↦ absurd (n (is_owner-same o other same))
-      | inr apart ↦ apart
-    ]
 
 pub misses-other_side : (dir : Dir) (queue other : ℕ) → other ≢ queue → Misses (of_side dir queue) (of_side dir other)
 misses-other_side Rx queue other n =
@@ -53,12 +41,10 @@ pub misses-other_group : (g h : Group) → h ≢ g → Misses (pending g) (of_gr
 misses-other_group g h n =
     misses-narrower (of_group g) (pending g) (of_group h) (covers-pending g)
     (misses-owner (owner.Group g) (owner.Group h)
-    (owners_apart (owner.Group g) (owner.Group h) (λ e. let same : g ≡ h = cc in n (sym same))))
+    (owners_differ (owner.Group g) (owner.Group h) (λ e. let same : g ≡ h = cc in n (sym same))))
 
 pub pending-misses_side : (g : Group) (dir : Dir) (queue : ℕ) → Misses (pending g) (of_side dir queue)
-pending-misses_side g dir queue =
-    misses-narrower (of_group g) (pending g) (of_side dir queue) (covers-pending g)
-    (misses-owner (owner.Group g) (owner.Side dir queue) refl)
+pending-misses_side g = pending_misses_sides (owner.Group g)
 
 -- no register of a side has causes or masks
 side_quiet : (row : RowId) (index : ℕ) (dir : Dir) (queue : ℕ)

@@ -10,13 +10,13 @@ use Rattle.vf_map.specs.declared.located.Located.{Located}
 use Rattle.vf_map.specs.declared.located.Located.TheVariants as located_as
 use Rattle.vf_map.specs.declared.mode.Mode.{Mode}
 use Rattle.register_file.specs.Access.{asks_pool_reset}
-use Rattle.register_file.specs.Footprint.{AgreeWithin, of_pool}
-use Rattle.register_file.specs.Laws.{after_write as word_written}
 use Rattle.register_file.specs.Pools.{mode_in}
 use Rattle.register_file.specs.PoolReset.{pool_reset}
-use Rattle.register_file.proofs.PoolAfterReset.{agree-reset}
-use Rattle.register_file.proofs.PoolAgreement.{agree-write}
-use Rattle.register_file.proofs.PoolPlaces.{shared-written}
+use Rattle.register_laws.specs.Footprint.{AgreeWithin, of_pool}
+use Rattle.register_laws.specs.Laws.{after_write as word_written}
+use Rattle.register_laws.proofs.PoolAfterReset.{agree-reset}
+use Rattle.register_laws.proofs.PoolAgreement.{agree-write}
+use Rattle.register_laws.proofs.PoolPlaces.{shared-written}
 use Rattle.nic_device.specs.Access.{named_read, named_written, state_written}
 use Rattle.nic_device.specs.Named.{at_location}
 use Rattle.nic_device.specs.PoolReset.{with_pool_reset, written_below_reset}

@@ -12,13 +12,13 @@ use Rattle.vf_map.specs.declared.located.Located.TheVariants as located_as
 use Rattle.vf_map.specs.declared.mode.Mode.{Mode}
 use Rattle.vf_map.proofs.Owners.{located_owner}
 use Rattle.register_file.specs.Access.{after_read, asks_reset, asks_pool_reset}
-use Rattle.register_file.specs.Laws.{after_write as word_written}
-use Rattle.register_file.specs.Footprint.{ChangesWithin, of_pool, of_read, of_write}
 use Rattle.register_file.specs.Pools.{mode_in}
 use Rattle.register_file.specs.Registers.{Registers}
-use Rattle.register_file.proofs.Footprints.{within-refl, within-wider}
-use Rattle.register_file.proofs.PoolPlaces.{covers-read, covers-write, shared_rows, shared-read, shared-written}
-use Rattle.register_file.proofs.Within.{within-after_read, within-written}
+use Rattle.register_laws.specs.Laws.{after_write as word_written}
+use Rattle.register_laws.specs.Footprint.{ChangesWithin, of_pool, of_read, of_write}
+use Rattle.register_laws.proofs.Footprints.{within-refl, within-wider}
+use Rattle.register_laws.proofs.PoolPlaces.{covers-read, covers-write, shared_rows, shared-read, shared-written}
+use Rattle.register_laws.proofs.Within.{within-after_read, within-written}
 use Rattle.nic_device.specs.Access.{named_read, named_written, state_written}
 use Rattle.nic_device.specs.Eeprom.{reset}
 use Rattle.nic_device.specs.Named.{at_location}

@@ -14,16 +14,16 @@ use Rattle.vf_map.specs.declared.located.Located.{Located}
 use Rattle.vf_map.specs.declared.located.Located.TheVariants as located_as
 use Rattle.vf_map.specs.declared.mode.Mode.{Mode}
 use Rattle.register_file.specs.Access.{read_word, calculated}
-use Rattle.register_file.specs.Agreement.{told_at}
 use Rattle.register_file.specs.Bits.{has_bit}
 use Rattle.register_file.specs.Columns.{place}
-use Rattle.register_file.specs.Footprint.{AgreeWithin, of_pool}
 use Rattle.register_file.specs.Pools.{mode_in}
 use Rattle.register_file.specs.Registers.{Registers}
 use Rattle.register_file.specs.declared.surroundings.Surroundings.{Surroundings}
-use Rattle.register_file.proofs.PoolAgreement.{agree-read}
-use Rattle.register_file.proofs.PoolPlaces.{shared_rows, shared-read}
-use Rattle.register_file.proofs.PoolReads.{same_shared, same_told}
+use Rattle.register_laws.specs.Agreement.{told_at}
+use Rattle.register_laws.specs.Footprint.{AgreeWithin, of_pool}
+use Rattle.register_laws.proofs.PoolAgreement.{agree-read}
+use Rattle.register_laws.proofs.PoolPlaces.{shared_rows, shared-read}
+use Rattle.register_laws.proofs.PoolReads.{same_shared, same_told}
 use Rattle.nic_device.specs.Access.{around, named_read, state_read, word_read}
 use Rattle.nic_device.specs.Named.{at_location}
 use Rattle.nic_device.specs.Sound.{IsSound}

@@ -7,7 +7,7 @@ use Rattle.reg_table.specs.declared.rows.RowId.{RowId}
 use Rattle.reg_table.specs.declared.rows.RowId.TheVariants as row
 use Rattle.register_file.specs.Access.{asks_reset, asks_pool_reset}
 use Rattle.register_file.specs.Pools.{mode_in}
-use Rattle.register_file.proofs.PoolReset.{renewed-pool}
+use Rattle.register_laws.proofs.PoolReset.{renewed-pool}
 use Rattle.nic_device.specs.Access.{named_written, state_written}
 use Rattle.nic_device.specs.Eeprom.{reset}
 use Rattle.nic_device.specs.PoolReset.{with_pool_reset, written_below_reset}

@@ -7,16 +7,16 @@ use Rattle.intr_unit.specs.declared.group.Group.TheVariants as group
 use Rattle.rx_ring.specs.declared.filled.Filled.{Filled}
 use Rattle.rx_ring.proofs.Fills.{takes_piece}
 use Rattle.register_file.specs.Counters.{counter_of}
-use Rattle.register_file.specs.Footprint.{ChangesWithin, pending}
 use Rattle.register_file.specs.Queue.{ring_of, with_head, shut}
 use Rattle.register_file.specs.Registers.{Registers}
-use Rattle.register_file.specs.Sides.{receive_queue_of}
 use Rattle.register_file.specs.declared.dir.Dir.TheVariants.{Rx}
-use Rattle.register_file.proofs.Footprints.{within-refl}
-use Rattle.register_file.proofs.SideWords.{receive-with_head}
-use Rattle.register_file.proofs.Stands.{receive_stands}
-use Rattle.register_file.proofs.Switches.{receive-shut}
-use Rattle.register_file.proofs.Within.{within-causes_raised}
+use Rattle.register_laws.specs.Footprint.{ChangesWithin, pending}
+use Rattle.register_laws.specs.Sides.{receive_queue_of}
+use Rattle.register_laws.proofs.Footprints.{within-refl}
+use Rattle.register_laws.proofs.SideWords.{receive-with_head}
+use Rattle.register_laws.proofs.Stands.{receive_stands}
+use Rattle.register_laws.proofs.Switches.{receive-shut}
+use Rattle.register_laws.proofs.Within.{within-causes_raised}
 use Rattle.nic_device.specs.Footprint.{counts_and_causes}
 use Rattle.nic_device.specs.Interrupt.{raised_by, fault_cause}
 use Rattle.device_laws.specs.Leaving.{IsFirstFor}
@@ -30,10 +30,9 @@ use Rattle.nic_device.proofs.Cases.{either_way}
 use Rattle.nic_device.proofs.QueueCases.{received_cases}
 use Rattle.nic_device.proofs.Coming.{counted_in, raised_by_queue}
 use Rattle.device_laws.proofs.Missed.{counts-miss_side, pending-misses_side}
-use Rattle.nic_device.proofs.Raising.{comes-itself}
+use Rattle.nic_device.proofs.Raising.{comes-itself, have_counters, have_functions, have_causes}
 use Rattle.nic_device.proofs.Functions.{function_counted_in}
 use Rattle.nic_device.specs.Interrupt.{function_of_queue}
-use Rattle.device_laws.proofs.FunctionCounts.{have_counters, have_functions, have_causes}
 
 -- beside the head a piece changes counters and causes
 piece_rest : (r : Registers) (vfs queue : ℕ) (f : Filled)

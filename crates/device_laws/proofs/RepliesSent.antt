@@ -10,15 +10,15 @@ use Rattle.intr_unit.specs.declared.group.Group.TheVariants as group
 use Rattle.tx_ring.specs.declared.fetched.Fetched.{Fetched}
 use Rattle.tx_ring.proofs.Fetches.{takes_slot}
 use Rattle.register_file.specs.Counters.{counted, counter_of}
-use Rattle.register_file.specs.Footprint.{ChangesWithin, pending}
 use Rattle.register_file.specs.Queue.{ring_of, with_head, shut}
 use Rattle.register_file.specs.Registers.{Registers}
-use Rattle.register_file.specs.Sides.{transmit_queue_of}
 use Rattle.register_file.specs.declared.dir.Dir.TheVariants.{Tx}
-use Rattle.register_file.proofs.SideWords.{transmit-with_head}
-use Rattle.register_file.proofs.Stands.{transmit_stands}
-use Rattle.register_file.proofs.Switches.{transmit-shut}
-use Rattle.register_file.proofs.Within.{within-causes_raised}
+use Rattle.register_laws.specs.Footprint.{ChangesWithin, pending}
+use Rattle.register_laws.specs.Sides.{transmit_queue_of}
+use Rattle.register_laws.proofs.SideWords.{transmit-with_head}
+use Rattle.register_laws.proofs.Stands.{transmit_stands}
+use Rattle.register_laws.proofs.Switches.{transmit-shut}
+use Rattle.register_laws.proofs.Within.{within-causes_raised}
 use Rattle.nic_device.specs.Footprint.{counts_and_causes}
 use Rattle.nic_device.specs.Interrupt.{raised_by, fault_cause}
 use Rattle.nic_device.specs.Outcome.{Outcome, gives}
@@ -31,10 +31,9 @@ use Rattle.nic_device.proofs.Cases.{either_way}
 use Rattle.nic_device.proofs.QueueCases.{transmitted_cases, fetched_by}
 use Rattle.nic_device.proofs.Coming.{Comes, counted_in, raised_by_queue}
 use Rattle.device_laws.proofs.Missed.{counts-miss_side, pending-misses_side}
-use Rattle.nic_device.proofs.Raising.{comes-itself}
+use Rattle.nic_device.proofs.Raising.{comes-itself, have_counters, have_functions, have_causes}
 use Rattle.nic_device.proofs.Functions.{function_counted_in}
 use Rattle.nic_device.specs.Interrupt.{function_of_queue}
-use Rattle.device_laws.proofs.FunctionCounts.{have_counters, have_functions, have_causes}
 use Rattle.device_laws.proofs.Reporting.{reports_at}
 use Rattle.nic_device.specs.declared.event.Reply.TheVariants.{NoQueue}
 

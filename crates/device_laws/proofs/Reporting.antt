@@ -10,8 +10,8 @@ use Rattle.tx_ring.proofs.Fetches.{takes_slot}
 use Rattle.register_file.specs.Bits.{has_bit}
 use Rattle.register_file.specs.Queue.{ring_of}
 use Rattle.register_file.specs.Registers.{word_of}
-use Rattle.register_file.specs.Sides.{transmit_queue_of}
 use Rattle.register_file.specs.declared.dir.Dir.TheVariants.{Tx}
+use Rattle.register_laws.specs.Sides.{transmit_queue_of}
 use Rattle.device_laws.specs.Replies.{report_of}
 use Rattle.nic_device.specs.State.{State}
 use Rattle.nic_device.proofs.QueueCases.{fetched_by}

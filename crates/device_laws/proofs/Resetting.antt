@@ -1,5 +1,5 @@
 -- A write that asks for a reset.
-use Rattle.std.proofs.Common.{cond, ◌≡◌, ◌<◌, ◌+◌, ℕ, zero, suc, true, List, [], ◌∷◌, refl, ap, sym, ◌∙◌, subst, Option, Some, None}
+use Rattle.std.proofs.Common.{cond, ◌≡◌, ◌+◌, ℕ, zero, suc, true, List, [], ◌∷◌, refl, ap, sym, ◌∙◌, subst, Option, Some, None}
 use Rattle.std.specs.Prelude.{slice_index_or, slice_set, replicate}
 use Rattle.std.proofs.lemmas.List.{get_or-replicate}
 use Rattle.eeprom_image.specs.Triples.{triples_of}
@@ -7,27 +7,20 @@ use Rattle.reg_table.specs.Place.{Names, place_among, view_among}
 use Rattle.reg_table.specs.Rows.{row_of}
 use Rattle.reg_table.specs.Runs.{runs}
 use Rattle.reg_table.specs.declared.place.Place.{Place}
-use Rattle.intr_unit.specs.declared.group.Group.{Group}
-use Rattle.intr_unit.specs.declared.group.Group.TheVariants.{Pf, Vf}
 use Rattle.register_file.specs.Access.{asks_reset, asks_pool_reset}
 use Rattle.register_file.specs.Pools.{mode_in}
 use Rattle.vf_map.specs.Pools.{queues_of}
 use Rattle.std.proofs.Math.ListN.{set}
 use Rattle.nic_device.specs.PoolReset.{unstaged, pool_unstaged, others_waiting, with_pool_reset, written_below_reset}
-use Rattle.register_file.specs.Groups.{index_of, told_by}
-use Rattle.register_file.specs.Registers.{reset_registers}
-use Rattle.register_file.proofs.Puts.{word_at-reset}
-use Rattle.register_file.proofs.ReadBack.{off-reset}
+use Rattle.register_laws.proofs.Puts.{word_at-reset}
+use Rattle.register_laws.proofs.ReadBack.{off-reset}
+use Rattle.register_laws.proofs.SoundReset.{none_told}
 use Rattle.nic_device.specs.Eeprom.{is_stepped_over, triple_written, with_triple, with_triples, reset}
 use Rattle.nic_device.specs.State.{State, cleared, none_staged}
 use Rattle.nic_device.proofs.Cases.{either_way}
 use Rattle.nic_device.proofs.Triples.{reset_leaves}
 use Rattle.device_laws.specs.Laws.{IsReset, AskedResetResets, HasResetValues, ResetGivesResetValues, after_write}
 use Rattle.device_laws.proofs.Accesses.{state-written}
-
-told_by-reset : (g : Group) → index_of g < 64 → told_by reset_registers g ≡ 0
-told_by-reset Pf small = refl
-told_by-reset (Vf v) small = get_or-replicate 64 v 0 0 small
 
 -- no frame waits, and nothing is staged
 record IsEmpty (s : State) : Type 0 where
@@ -96,7 +89,7 @@ cleared_values : (s : State) → HasResetValues (cleared s)
 cleared_values s = record {
   words = λ p inside. word_at-reset p inside;
   wanted = λ dir queue small. (off-reset dir queue small).1;
-  told = told_by-reset;
+  told = none_told;
 }
 
 pub reset_values : ResetGivesResetValues

@@ -8,7 +8,6 @@ use Rattle.reg_table.specs.declared.kind.Kind.TheVariants as kind
 use Rattle.reg_table.specs.declared.place.Place.{Place}
 use Rattle.reg_table.specs.declared.rows.RowId.{RowId}
 use Rattle.reg_table.specs.declared.rows.RowId.TheVariants.{Ctrl, Eerd}
-use Rattle.intr_unit.specs.declared.group.Group.{Group}
 use Rattle.intr_unit.specs.declared.group.Group.TheVariants as group
 use Rattle.register_file.specs.Access.{asks_reset, asks_pool_reset}
 use Rattle.register_file.specs.Pools.{mode_in}
@@ -16,15 +15,15 @@ use Rattle.vf_map.specs.declared.mode.Mode.{Mode}
 use Rattle.vf_map.specs.Owner.{is_of_pool_by}
 use Rattle.nic_device.proofs.Cases.{either_way}
 use Rattle.register_file.specs.Columns.{place}
-use Rattle.register_file.specs.Footprint.{is_place, is_pending, any_pending, pending, pending_of, read_by, written_by}
 use Rattle.register_file.specs.Owner.{owner_in, owner_of, is_owner}
 use Rattle.register_file.specs.Registers.{word_of}
 use Rattle.register_file.specs.declared.dir.Dir.{Dir}
 use Rattle.register_file.specs.declared.dir.Dir.TheVariants.{Rx, Tx}
 use Rattle.register_file.specs.declared.owner.Owner.{Owner}
 use Rattle.register_file.specs.declared.owner.Owner.TheVariants as owner
-use Rattle.register_file.proofs.Covers.{fails, covers-any_pending}
-use Rattle.register_file.proofs.ReadBack.{one_place}
+use Rattle.register_laws.specs.Footprint.{is_place, is_pending, read_by}
+use Rattle.register_laws.proofs.Covers.{none_pending, none_pending_of, none_written_by}
+use Rattle.register_laws.proofs.ReadBack.{one_place}
 use Rattle.nic_device.specs.Footprint.{read_reach, write_reach, receive_reach, reach_by, switch_reach, Reach, pool_reach, is_function_count}
 use Rattle.nic_device.specs.Named.{named}
 use Rattle.nic_device.specs.Step.{after, step_of}
@@ -61,25 +60,6 @@ module _ (row : RowId) (is : IsSetting row) where
   other_place : (p : Place) → p.row ≢ row → is_place p here ≡ false
   other_place p n = one_place p here (λ e. n (ap (λ (q : Place). q.row) (sym e)))
 
-  none_pending : (g : Group) → (pending g).words here ≡ false
-  none_pending g = fails ((pending g).words here) (any_pending.words here) ((covers-any_pending g).words here) is.quiet
-
-  none_pending_of : (o : Owner) → (pending_of o).words here ≡ false
-  none_pending_of (owner.Group g) = none_pending g
-  none_pending_of other = refl
-
-  none_written_by : (k : Kind) (p : Place) → p.row ≢ row → (written_by k p).words here ≡ false
-  none_written_by kind.Rw p n = other_place p n
-  none_written_by kind.Ro p n = refl
-  none_written_by kind.Calc p n = refl
-  none_written_by kind.Rc p n = refl
-  none_written_by kind.Held p n = other_place p n
-  none_written_by kind.Enable p n = other_place p n
-  none_written_by kind.Ctrl p n = other_place p n
-  none_written_by kind.Vreset p n = refl
-  none_written_by kind.Eerd p n = other_place p n
-  none_written_by interrupts p n = none_pending_of (owner_of p)
-
   none_pooled : (mode : Mode) (v : ℕ) → (pool_reach mode v).registers.words here ≡ false
   none_pooled mode v = ap (λ b. is_of_pool_by b mode v 0) is.bank
 
@@ -90,7 +70,7 @@ module _ (row : RowId) (is : IsSetting row) where
       let o = other p view refl in
       rw (no_reset p.row word o.control)
       (either_way (λ (r : Reach). r.registers.words here ≡ false) (asks_pool_reset (row_of p.row).kind word) _ _
-      (none_pooled mode p.index) (none_written_by (row_of p.row).kind p o.other))
+      (none_pooled mode p.index) (none_written_by here is.quiet (row_of p.row).kind p (other_place p o.other)))
 
   none_owned : (o : Owner) → is_owner o owner.Device ≡ false → is_owner o (owner_of here) ≡ false
   none_owned o n = ap (λ b. is_owner o (owner_in b 0)) is.bank ∙ n
@@ -114,7 +94,7 @@ module _ (row : RowId) (is : IsSetting row) where
   none_read_by : (k : Kind) (p : Place) → (row_of p.row).kind ≡ k → (read_by k p).words here ≡ false
   none_read_by kind.Rc p counter =
       other_place p (λ same. is.steady (sym (ap (λ (r : RowId). (row_of r).kind) same) ∙ counter))
-  none_read_by kind.Cause p causes = none_pending_of (owner_of p)
+  none_read_by kind.Cause p causes = none_pending_of here is.quiet (owner_of p)
   none_read_by other p e = refl
 
   none_read : (m : Named) → (read_reach m).registers.words here ≡ false
@@ -136,12 +116,12 @@ module _ (row : RowId) (is : IsSetting row) where
       word_stands s (event.Write port n word)
       (none_written (mode_in s.registers) (named s port n) word (λ p view found. other port n word p view refl found))
   setting_stands s (event.Arrive frame) other =
-      word_stands s (event.Arrive frame) (neither _ _ (none_owned owner.Counters refl) (none_pending group.Pf))
+      word_stands s (event.Arrive frame) (neither _ _ (none_owned owner.Counters refl) (none_pending here is.quiet group.Pf))
   setting_stands s event.RxStep other = word_stands s event.RxStep (none_received s.waiting _)
   setting_stands s (event.TxStep queue) other = word_stands s (event.TxStep queue) (none_stepped Tx queue)
-  setting_stands s (event.IntStep g) other = word_stands s (event.IntStep g) (none_pending g)
+  setting_stands s (event.IntStep g) other = word_stands s (event.IntStep g) (none_pending here is.quiet g)
   setting_stands s (event.QueueStep dir queue) other =
       word_stands s (event.QueueStep dir queue) (none_switched dir queue)
   setting_stands s event.EepromStep other = word_stands s event.EepromStep (other_place (place Eerd 0) is.unread)
-  setting_stands s (event.Link up) other = word_stands s (event.Link up) (none_pending group.Pf)
+  setting_stands s (event.Link up) other = word_stands s (event.Link up) (none_pending here is.quiet group.Pf)
   setting_stands s e other = word_stands s e refl

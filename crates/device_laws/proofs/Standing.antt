@@ -6,15 +6,16 @@ use Rattle.std.specs.FinMap as map
 use Rattle.std.proofs.lemmas.Bool.{ne_eqb}
 use Rattle.dma_arena.specs.Memory.{Memory}
 use Rattle.intr_unit.specs.declared.group.Group.{Group}
-use Rattle.register_file.specs.Footprint.{Misses, of_side, of_group}
 use Rattle.register_file.specs.declared.dir.Dir.{Dir}
 use Rattle.register_file.specs.declared.dir.Dir.TheVariants.{Rx, Tx}
-use Rattle.register_file.proofs.Stands.{receive_stands, transmit_stands, group_stands}
+use Rattle.register_laws.specs.Footprint.{Misses, of_side, of_group}
+use Rattle.register_laws.proofs.Stands.{receive_stands, transmit_stands, group_stands}
+use Rattle.register_laws.proofs.Covers.{misses-nothing}
 use Rattle.nic_device.specs.Footprint.{Reach, StaysWithin}
 use Rattle.nic_device.specs.Step.{after}
 use Rattle.device_laws.specs.Leaving.{LeavesQueues, LeavesMissed, LeavesAllButMemory, EventStaysWithinReach, EventLeavesMissed, MemoryCallsLeaveTheRest, MemoryCallsLeaveOtherBlocks}
 use Rattle.nic_device.specs.State.{State}
-use Rattle.device_laws.proofs.Missed.{misses-nothing, has-none}
+use Rattle.device_laws.proofs.Missed.{has-none}
 use Rattle.nic_device.proofs.Steps.{step_leads}
 use Rattle.nic_device.specs.declared.event.Event.TheVariants as event
 

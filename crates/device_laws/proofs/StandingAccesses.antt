@@ -5,15 +5,16 @@ use Rattle.reg_table.specs.Rows.{row_of}
 use Rattle.reg_table.specs.declared.place.Place.{Place}
 use Rattle.intr_unit.specs.declared.group.Group.{Group}
 use Rattle.register_file.specs.Access.{asks_reset, asks_pool_reset}
-use Rattle.register_file.specs.Footprint.{Misses, of_owner, of_side, of_group, of_read, of_write}
 use Rattle.register_file.specs.Owner.{owner_of}
 use Rattle.register_file.specs.declared.dir.Dir.{Dir}
 use Rattle.register_file.specs.declared.dir.Dir.TheVariants.{Rx, Tx}
 use Rattle.register_file.specs.declared.owner.Owner.{Owner}
 use Rattle.register_file.specs.declared.owner.Owner.TheVariants as owner
-use Rattle.register_file.proofs.Covers.{misses-narrower, misses-owner}
-use Rattle.register_file.proofs.Footprints.{covers-of_read, covers-of_write}
-use Rattle.register_file.proofs.NoSide.{read_misses_sides}
+use Rattle.register_laws.specs.Footprint.{Misses, of_owner, of_side, of_group, of_read, of_write}
+use Rattle.register_laws.proofs.Covers.{misses-narrower, misses-owner, misses-nothing}
+use Rattle.register_laws.proofs.Footprints.{covers-of_read, covers-of_write}
+use Rattle.register_laws.proofs.NoSide.{read_misses_sides}
+use Rattle.register_laws.proofs.ReadBack.{owners_differ}
 use Rattle.nic_device.specs.Footprint.{Reach, StaysWithin, in_registers, read_reach, write_reach, reset_reach, pool_reach, below_reset_reach}
 use Rattle.nic_device.specs.Named.{named}
 use Rattle.nic_device.specs.Step.{after}
@@ -22,7 +23,6 @@ use Rattle.nic_device.specs.State.{State}
 use Rattle.nic_device.proofs.Cases.{write_cases}
 use Rattle.register_file.specs.Pools.{mode_in}
 use Rattle.vf_map.specs.declared.mode.Mode.{Mode}
-use Rattle.device_laws.proofs.Missed.{misses-nothing, owners_apart}
 use Rattle.device_laws.proofs.Standing.{stays_within, missed, leaves_missed, same_memory}
 use Rattle.nic_device.specs.declared.event.Event.TheVariants as event
 use Rattle.nic_device.specs.declared.event.Port.{Port}
@@ -40,7 +40,7 @@ misses_read : (m : Named) (g : Group)
 misses_read (Nothing seen) g other = misses-nothing (of_group g)
 misses_read (Register p view) g other =
     misses-narrower (of_owner (owner_of p)) (of_read p) (of_group g) (covers-of_read p)
-    (misses-owner (owner_of p) (owner.Group g) (owners_apart (owner_of p) (owner.Group g) (other p view refl)))
+    (misses-owner (owner_of p) (owner.Group g) (owners_differ (owner_of p) (owner.Group g) (other p view refl)))
 
 record OfRead (m : Named) : Type 0 where
   blocks : (number : ℕ) → (read_reach m).blocks number ≡ false
@@ -83,7 +83,7 @@ written_stays s port n word p view found none plain =
 misses_write : (p : Place) (o : Owner) → owner_of p ≢ o → Misses (of_write p) (of_owner o)
 misses_write p o other =
     misses-narrower (of_owner (owner_of p)) (of_write p) (of_owner o) (covers-of_write p)
-    (misses-owner (owner_of p) o (owners_apart (owner_of p) o other))
+    (misses-owner (owner_of p) o (owners_differ (owner_of p) o other))
 
 pub write_rest : WriteLeavesTheRest
 write_rest s port n word p view found none plain =

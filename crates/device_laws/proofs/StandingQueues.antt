@@ -3,15 +3,16 @@ use Rattle.std.proofs.Common.{◌≡◌, ◌≢◌, ℕ, false, List, [], ◌∷
 use Rattle.std.proofs.lemmas.Bool.{ne_eqb}
 use Rattle.dma_arena.specs.Block.{Block}
 use Rattle.dma_arena.specs.Memory.{Avoids}
-use Rattle.register_file.specs.Footprint.{Misses, of_side}
 use Rattle.register_file.specs.declared.dir.Dir.TheVariants.{Rx, Tx}
 use Rattle.register_file.specs.declared.owner.Owner.TheVariants as owner
-use Rattle.register_file.proofs.Footprints.{misses-owner}
+use Rattle.register_laws.specs.Footprint.{Misses, of_side}
+use Rattle.register_laws.proofs.Footprints.{misses-owner}
+use Rattle.register_laws.proofs.Covers.{misses-nothing}
 use Rattle.nic_device.specs.Footprint.{receive_reach, received_into, back_into, told_back, counts_and_causes}
 use Rattle.device_laws.specs.Leaving.{IsFirstFor, ReceivingLeavesTheRest, ReceivesOutside, ReceivingLeavesOtherBlocks, TransmittingLeavesTheRest, TransmittingLeavesOtherBlocks, SwitchingLeavesTheRest}
 use Rattle.nic_device.specs.State.{Waiting}
 use Rattle.nic_device.specs.Step.{step_of}
-use Rattle.device_laws.proofs.Missed.{neither, misses-nothing, misses-either, misses-other_side, counts-miss_side, has-none}
+use Rattle.device_laws.proofs.Missed.{neither, misses-either, misses-other_side, counts-miss_side, has-none}
 use Rattle.device_laws.proofs.Standing.{stays_within, missed, leaves_missed, same_memory}
 use Rattle.nic_device.specs.declared.event.Event.TheVariants as event
 use Rattle.nic_device.specs.declared.event.Reply.{Reply}

@@ -9,10 +9,10 @@ use Rattle.reg_table.specs.declared.rows.RowId.TheVariants.{Mpc, Gprc, Gptc, Ruc
 use Rattle.register_file.specs.Access.{asks_reset}
 use Rattle.register_file.specs.Columns.{place}
 use Rattle.register_file.specs.Counters.{counter_of}
-use Rattle.register_file.specs.Footprint.{is_place}
 use Rattle.register_file.specs.Registers.{Registers}
 use Rattle.register_file.specs.Words.{word_at}
 use Rattle.register_file.specs.declared.dir.Dir.TheVariants.{Rx, Tx}
+use Rattle.register_laws.specs.Footprint.{is_place}
 use Rattle.nic_device.specs.Step.{after, reply_to}
 use Rattle.nic_device.specs.Sound.{IsSound}
 use Rattle.nic_device.specs.State.{State, Waiting}

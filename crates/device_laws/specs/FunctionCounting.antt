@@ -8,8 +8,8 @@ use Rattle.reg_table.specs.declared.rows.RowId.{RowId}
 use Rattle.reg_table.specs.declared.rows.RowId.TheVariants.{Vfgprc, Vfgptc}
 use Rattle.register_file.specs.Access.{asks_reset, asks_pool_reset}
 use Rattle.register_file.specs.Columns.{place}
-use Rattle.register_file.specs.Footprint.{is_place}
 use Rattle.register_file.specs.Words.{word_at}
+use Rattle.register_laws.specs.Footprint.{is_place}
 use Rattle.nic_device.specs.Interrupt.{function_of_queue}
 use Rattle.nic_device.specs.Named.{named}
 use Rattle.nic_device.specs.Sound.{IsSound}

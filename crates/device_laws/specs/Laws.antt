@@ -16,10 +16,10 @@ use Rattle.register_file.specs.Access.{asks_reset}
 use Rattle.register_file.specs.Bits.{merged}
 use Rattle.register_file.specs.Groups.{index_of, told_by}
 use Rattle.register_file.specs.Registers.{is_wanted}
-use Rattle.register_file.specs.Sound.{pending_bits}
 use Rattle.register_file.specs.Words.{word_at}
 use Rattle.register_file.specs.Settings.{is_stopped, frame_limit}
 use Rattle.register_file.specs.declared.dir.Dir.{Dir}
+use Rattle.register_laws.specs.Sound.{pending_bits}
 use Rattle.nic_device.specs.State.{State, Waiting, new_state}
 use Rattle.nic_device.specs.Outcome.{gives}
 use Rattle.nic_device.specs.Interrupt.{has_group, mode_in}

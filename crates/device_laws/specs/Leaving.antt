@@ -9,13 +9,13 @@ use Rattle.tx_ring.specs.Report.{report_length}
 use Rattle.intr_unit.specs.declared.group.Group.{Group}
 use Rattle.intr_unit.specs.declared.group.Group.TheVariants as group
 use Rattle.register_file.specs.Access.{asks_reset, asks_pool_reset}
-use Rattle.register_file.specs.Footprint.{Misses, of_side, of_group}
 use Rattle.register_file.specs.Groups.{interrupts_of}
 use Rattle.register_file.specs.Owner.{owner_of}
-use Rattle.register_file.specs.Sides.{receive_queue_of, transmit_queue_of}
 use Rattle.register_file.specs.declared.dir.Dir.{Dir}
 use Rattle.register_file.specs.declared.dir.Dir.TheVariants.{Rx, Tx}
 use Rattle.register_file.specs.declared.owner.Owner.TheVariants as owner
+use Rattle.register_laws.specs.Footprint.{Misses, of_side, of_group}
+use Rattle.register_laws.specs.Sides.{receive_queue_of, transmit_queue_of}
 use Rattle.nic_device.specs.Footprint.{Reach, StaysWithin, reach_of, told_back}
 use Rattle.nic_device.specs.Step.{after, reply_to}
 use Rattle.nic_device.specs.State.{State, Waiting}

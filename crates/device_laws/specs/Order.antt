@@ -4,7 +4,7 @@ use Rattle.dma_ring.specs.declared.fault.RingFault.{RingFault}
 use Rattle.rx_ring.specs.Fill.{Outcome, fill_of}
 use Rattle.rx_ring.specs.declared.filled.Filled.{Filled}
 use Rattle.register_file.specs.Settings.{is_stopped, drops}
-use Rattle.register_file.specs.Sides.{ReceiveQueue, receive_queue_of}
+use Rattle.register_laws.specs.Sides.{ReceiveQueue, receive_queue_of}
 use Rattle.nic_device.specs.Step.{reply_to, step_of}
 use Rattle.nic_device.specs.Outcome.{gives}
 use Rattle.nic_device.specs.Receive.{is_empty, rest_of}

@@ -6,11 +6,11 @@ use Rattle.reg_table.specs.declared.rows.RowId.TheVariants.{GcrExt}
 use Rattle.vf_map.specs.Owner.{has_queue}
 use Rattle.vf_map.specs.declared.mode.Mode.{Mode}
 use Rattle.register_file.specs.Access.{asks_pool_reset}
-use Rattle.register_file.specs.Footprint.{ChangesWithin, AgreeWithin, of_pool}
 use Rattle.register_file.specs.Pools.{mode_in}
-use Rattle.register_file.specs.PoolLaws.{IsResetAt}
 use Rattle.register_file.specs.Registers.{word_of}
 use Rattle.register_file.specs.Settings.{is_stopped}
+use Rattle.register_laws.specs.Footprint.{ChangesWithin, AgreeWithin, of_pool}
+use Rattle.register_laws.specs.PoolReset.{IsResetAt}
 use Rattle.nic_device.specs.Named.{named}
 use Rattle.nic_device.specs.PoolReset.{others_waiting}
 use Rattle.nic_device.specs.Sound.{IsSound}

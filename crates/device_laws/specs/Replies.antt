@@ -7,8 +7,8 @@ use Rattle.reg_table.specs.declared.rows.RowId.TheVariants.{Tdwbal, Tdwbah}
 use Rattle.register_file.specs.Bits.{has_bit}
 use Rattle.register_file.specs.Queue.{ring_of}
 use Rattle.register_file.specs.Registers.{Registers, word_of}
-use Rattle.register_file.specs.Sides.{receive_queue_of, transmit_queue_of}
 use Rattle.register_file.specs.declared.dir.Dir.TheVariants.{Rx, Tx}
+use Rattle.register_laws.specs.Sides.{receive_queue_of, transmit_queue_of}
 use Rattle.nic_device.specs.Step.{after, reply_to, step_of}
 use Rattle.device_laws.specs.Leaving.{IsFirstFor}
 use Rattle.nic_device.specs.Outcome.{gives}

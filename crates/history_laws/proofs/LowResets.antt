@@ -8,12 +8,12 @@ use Rattle.reg_table.specs.Rows.{row_of}
 use Rattle.reg_table.specs.Runs.{runs}
 use Rattle.reg_table.specs.declared.place.Place.{Place}
 use Rattle.register_file.specs.Access.{asks_pool_reset}
-use Rattle.register_file.specs.Laws.{after_write}
 use Rattle.register_file.specs.Pools.{mode_in}
 use Rattle.register_file.specs.Registers.{reset_registers, word_of}
-use Rattle.register_file.specs.Sound.{AreSound}
-use Rattle.register_file.proofs.PoolSound.{sound-pool_reset}
-use Rattle.register_file.proofs.Sound.{sound-reset, sound-written}
+use Rattle.register_laws.specs.Laws.{after_write}
+use Rattle.register_laws.specs.Sound.{AreSound}
+use Rattle.register_laws.proofs.PoolSound.{sound-pool_reset}
+use Rattle.register_laws.proofs.Sound.{sound-reset, sound-written}
 use Rattle.nic_device.specs.Eeprom.{is_stepped_over, triple_written, with_triple, with_triples, reset}
 use Rattle.nic_device.specs.PoolReset.{with_pool_reset, written_below_reset}
 use Rattle.nic_device.specs.Sound.{IsSound}

@@ -13,16 +13,16 @@ use Rattle.vf_map.specs.declared.mode.Mode.{Mode}
 use Rattle.register_file.specs.Access.{is_running, stored, written}
 use Rattle.register_file.specs.Bits.{merged}
 use Rattle.register_file.specs.Columns.{place}
-use Rattle.register_file.specs.Footprint.{is_pending, is_place, of_pool}
-use Rattle.register_file.specs.Laws.{after_write}
 use Rattle.register_file.specs.Owner.{owner_of}
 use Rattle.register_file.specs.PoolReset.{pool_reset}
 use Rattle.register_file.specs.Registers.{Registers, reset_registers, word_of}
-use Rattle.register_file.specs.Sound.{HasShape}
-use Rattle.register_file.proofs.Owners.{is_place-same}
-use Rattle.register_file.proofs.PoolReset.{renewed-pool}
-use Rattle.register_file.proofs.Puts.{word_at-reset}
-use Rattle.register_file.proofs.Shape.{put_stands}
+use Rattle.register_laws.specs.Footprint.{is_pending, is_place, of_pool}
+use Rattle.register_laws.specs.Laws.{after_write}
+use Rattle.register_laws.specs.Sound.{HasShape}
+use Rattle.register_laws.proofs.Owners.{is_place-same}
+use Rattle.register_laws.proofs.PoolReset.{renewed-pool}
+use Rattle.register_laws.proofs.Puts.{word_at-reset}
+use Rattle.register_laws.proofs.Shape.{put_stands}
 use Rattle.nic_device.proofs.Cases.{either_way}
 use Rattle.history_laws.proofs.OtherWords.{other_written}
 

@@ -6,12 +6,13 @@ use Rattle.eeprom_image.specs.Image.{blank}
 use Rattle.reg_table.specs.Rows.{row_of, number_of}
 use Rattle.reg_table.specs.declared.place.Place.{Place}
 use Rattle.reg_table.specs.declared.rows.RowId.TheVariants.{Ctrl, GcrExt}
+use Rattle.reg_table.proofs.FirstAddresses.{same_number}
 use Rattle.vf_map.specs.Pools.{mode_of}
 use Rattle.vf_map.specs.declared.mode.Mode.TheVariants.{Off}
 use Rattle.register_file.specs.Access.{asks_reset}
 use Rattle.register_file.specs.Columns.{place}
 use Rattle.register_file.specs.Pools.{mode_in}
-use Rattle.register_file.proofs.Puts.{same_number, word_at-reset}
+use Rattle.register_laws.proofs.Puts.{word_at-reset, same_parts}
 use Rattle.nic_device.specs.Access.{named_written}
 use Rattle.nic_device.specs.Eeprom.{reset}
 use Rattle.nic_device.specs.PoolReset.{written_below_reset}
@@ -31,7 +32,7 @@ use Rattle.device_lock.specs.History.{leads_to}
 use Rattle.device_lock.specs.declared.entry.Entry.{Entry}
 use Rattle.history_laws.specs.Laws.{AreEvents, ModeIsTold}
 use Rattle.history_laws.proofs.Naming.{place_in, place_named, IsReal, AreReal, real}
-use Rattle.history_laws.proofs.Parting.{same_place, mode_of_written, mode_of_reset, other_mode, control_stands, setting, other_stands}
+use Rattle.history_laws.proofs.Parting.{mode_of_written, mode_of_reset, other_mode, control_stands, setting, other_stands}
 
 -- the mode that a write tells is the device's after it
 
@@ -60,14 +61,14 @@ module _ (s : State) (sound : IsSound s) (image : s.image ≡ blank) (port : Por
       let row : p.row ≡ GcrExt = same_number p.row GcrExt own in
       let inside : p.index < (row_of GcrExt).count = subst (λ r. p.index < (row_of r).count) row real.inside in
       let index : p.index ≡ 0 = omega (arith, inside) in
-      let here : p ≡ place GcrExt 0 = same_place p (place GcrExt 0) row index in
+      let here : p ≡ place GcrExt 0 = same_parts p (place GcrExt 0) row index in
       ap (λ r. mode_set (mode_in s.registers) r word) row
       ∙ sym (mode_of_written s sound view word real.shown)
       ∙ sym (ap (λ (x : State). mode_in x.registers)
       (left_by (Register (place GcrExt 0) view) (found ∙ ap (λ q. Register q view) here)))
   register_written p view found real (inr own) (inl control) =
       let row : p.row ≡ Ctrl = same_number p.row Ctrl control in
-      let here : p ≡ place Ctrl p.index = same_place p (place Ctrl p.index) row refl in
+      let here : p ≡ place Ctrl p.index = same_parts p (place Ctrl p.index) row refl in
       ap (λ r. mode_set (mode_in s.registers) r word) row
       ∙ control_written p.index view _ (found ∙ ap (λ q. Register q view) here) refl
   register_written p view found real (inr own) (inr control) =

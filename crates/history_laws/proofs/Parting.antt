@@ -16,8 +16,8 @@ use Rattle.register_file.specs.Access.{asks_reset}
 use Rattle.register_file.specs.Columns.{place}
 use Rattle.register_file.specs.Pools.{mode_in}
 use Rattle.register_file.specs.Registers.{word_of}
-use Rattle.register_file.proofs.Puts.{word_at-reset}
-use Rattle.register_file.proofs.Shape.{put_stands}
+use Rattle.register_laws.proofs.Puts.{word_at-reset}
+use Rattle.register_laws.proofs.Shape.{put_stands}
 use Rattle.nic_device.specs.Access.{named_written}
 use Rattle.nic_device.specs.Eeprom.{with_triples}
 use Rattle.nic_device.specs.Footprint.{write_reach, reset_reach, below_reset_reach}
@@ -37,9 +37,6 @@ use Rattle.device_lock.specs.Alone.{mode_set}
 use Rattle.history_laws.proofs.Written.{ShowsLow, low_merged}
 
 -- a write of GCR_EXT, of CTRL, and of another register
-
-pub same_place : (p q : Place) → p.row ≡ q.row → p.index ≡ q.index → p ≡ q
-same_place p q e f = λ k. record { row = e k; index = f k }
 
 abbrev by_low_bits : ℕ → Mode
 by_low_bits n =

@@ -10,9 +10,9 @@ use Rattle.register_file.specs.Bits.{has_bit}
 use Rattle.register_file.specs.Queue.{ring_of}
 use Rattle.register_file.specs.Registers.{Registers, word_of}
 use Rattle.register_file.specs.Settings.{writeback_of}
-use Rattle.register_file.specs.Sound.{HasShape}
 use Rattle.register_file.specs.Words.{row_words}
 use Rattle.register_file.specs.declared.dir.Dir.TheVariants.{Tx}
+use Rattle.register_laws.specs.Sound.{HasShape}
 use Rattle.tx_ring.specs.Report.{report_length}
 use Rattle.nic_device.specs.Footprint.{told_back}
 use Rattle.nic_device.specs.State.{State}

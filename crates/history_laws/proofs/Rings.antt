@@ -4,10 +4,10 @@ use Rattle.std.proofs.lemmas.Bool.{cases_eq}
 use Rattle.dma_ring.specs.declared.ring.Ring.{Ring}
 use Rattle.register_file.specs.Queue.{ring_of, switched}
 use Rattle.register_file.specs.Registers.{is_wanted}
-use Rattle.register_file.specs.Sides.{ReceiveQueue, TransmitQueue}
 use Rattle.register_file.specs.declared.dir.Dir.{Dir}
 use Rattle.register_file.specs.declared.dir.Dir.TheVariants.{Rx, Tx}
-use Rattle.register_file.proofs.Switches.{receive-switched, transmit-switched}
+use Rattle.register_laws.specs.Sides.{ReceiveQueue, TransmitQueue}
+use Rattle.register_laws.proofs.Switches.{receive-switched, transmit-switched}
 use Rattle.nic_device.specs.Outcome.{Outcome}
 use Rattle.nic_device.specs.Sound.{IsSound}
 use Rattle.nic_device.specs.State.{State}

@@ -6,9 +6,9 @@ use Rattle.reg_table.specs.declared.rows.RowId.TheVariants.{Qprdc}
 use Rattle.register_file.specs.Counters.{counter_of}
 use Rattle.register_file.specs.Queue.{ring_of}
 use Rattle.register_file.specs.Registers.{Registers}
-use Rattle.register_file.specs.Sides.{ReceiveQueue, receive_queue_of}
 use Rattle.register_file.specs.declared.dir.Dir.TheVariants.{Rx, Tx}
-use Rattle.register_file.proofs.Stands.{receive_stands}
+use Rattle.register_laws.specs.Sides.{ReceiveQueue, receive_queue_of}
+use Rattle.register_laws.proofs.Stands.{receive_stands}
 use Rattle.nic_device.specs.Footprint.{counts_and_causes}
 use Rattle.nic_device.specs.Outcome.{Outcome}
 use Rattle.nic_device.specs.Receive.{receive_failed, slot_done, slotless_counted}
@@ -18,10 +18,9 @@ use Rattle.nic_device.specs.Step.{step_of, after}
 use Rattle.nic_device.specs.declared.event.Event.TheVariants as event
 use Rattle.nic_device.proofs.Coming.{counted_in}
 use Rattle.nic_device.proofs.QueueCases.{filled_by, received_cases}
-use Rattle.nic_device.proofs.Raising.{comes-itself}
+use Rattle.nic_device.proofs.Raising.{comes-itself, have_counters}
 use Rattle.device_laws.specs.Leaving.{IsFirstFor, LeavesReceive}
 use Rattle.device_laws.specs.Replies.{received_tells}
-use Rattle.device_laws.proofs.FunctionCounts.{have_counters}
 use Rattle.device_laws.proofs.Missed.{counts-miss_side}
 use Rattle.device_laws.proofs.RepliesReceived.{receiving_tells}
 use Rattle.device_laws.proofs.StandingQueues.{receiving_rest}

@@ -5,7 +5,7 @@ use Rattle.std.proofs.lemmas.Bool.{lt-ltb}
 use Rattle.tx_ring.specs.declared.fetched.Fetched.{Fetched}
 use Rattle.register_file.specs.Queue.{is_on}
 use Rattle.register_file.specs.Settings.{is_stopped, can_transmit}
-use Rattle.register_file.specs.Sides.{transmit_queue_of}
+use Rattle.register_laws.specs.Sides.{transmit_queue_of}
 use Rattle.register_file.specs.declared.dir.Dir.TheVariants.{Tx}
 use Rattle.nic_device.specs.Outcome.{gives}
 use Rattle.nic_device.specs.Receive.{is_empty}

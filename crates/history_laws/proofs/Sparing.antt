@@ -10,12 +10,12 @@ use Rattle.reg_table.specs.declared.rows.RowId.TheVariants.{Ctrl, Hlreg0, Maxfrs
 use Rattle.vf_map.specs.Owner.{has_queue, is_of_pool_by, is_receive_bank, is_transmit_bank}
 use Rattle.vf_map.specs.declared.mode.Mode.{Mode}
 use Rattle.register_file.specs.Access.{asks_reset, asks_pool_reset}
-use Rattle.register_file.specs.Footprint.{Misses, of_pool, of_side, of_write}
 use Rattle.register_file.specs.Owner.{owner_in, is_owner}
 use Rattle.register_file.specs.Pools.{mode_in}
 use Rattle.register_file.specs.declared.dir.Dir.{Dir}
 use Rattle.register_file.specs.declared.dir.Dir.TheVariants.{Rx, Tx}
 use Rattle.register_file.specs.declared.owner.Owner.TheVariants as owner
+use Rattle.register_laws.specs.Footprint.{Misses, of_pool, of_side, of_write}
 use Rattle.nic_device.specs.Access.{named_written}
 use Rattle.nic_device.specs.Footprint.{StaysWithin, write_reach, reset_reach, below_reset_reach, pool_reach, in_registers}
 use Rattle.nic_device.specs.Named.{named}

@@ -10,18 +10,18 @@ use Rattle.vf_map.specs.Owner.{has_queue}
 use Rattle.register_file.specs.Access.{asks_reset, asks_pool_reset}
 use Rattle.register_file.specs.Bits.{has_bit}
 use Rattle.register_file.specs.Columns.{place}
-use Rattle.register_file.specs.Footprint.{is_place, of_pool}
-use Rattle.register_file.specs.Laws.{after_write}
+use Rattle.register_laws.specs.Footprint.{is_place, of_pool}
+use Rattle.register_laws.specs.Laws.{after_write}
 use Rattle.register_file.specs.Pools.{mode_in}
 use Rattle.register_file.specs.Queue.{is_on, switched}
 use Rattle.register_file.specs.Registers.{Registers, is_wanted}
-use Rattle.register_file.specs.Sides.{TransmitQueue}
-use Rattle.register_file.specs.Sound.{HasShape}
+use Rattle.register_laws.specs.Sides.{TransmitQueue}
+use Rattle.register_laws.specs.Sound.{HasShape}
 use Rattle.register_file.specs.declared.dir.Dir.{Dir}
 use Rattle.register_file.specs.declared.dir.Dir.TheVariants.{Rx, Tx}
-use Rattle.register_file.proofs.Owners.{is_place-same}
-use Rattle.register_file.proofs.Stands.{transmit_stands}
-use Rattle.register_file.proofs.Switches.{transmit-asked, transmit-switched}
+use Rattle.register_laws.proofs.Owners.{is_place-same}
+use Rattle.register_laws.proofs.Stands.{transmit_stands}
+use Rattle.register_laws.proofs.Switches.{transmit-asked, transmit-switched}
 use Rattle.nic_device.specs.Access.{named_written}
 use Rattle.nic_device.specs.Eeprom.{reset}
 use Rattle.nic_device.specs.Named.{named}

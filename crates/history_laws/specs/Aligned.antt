@@ -5,8 +5,8 @@ use Rattle.dma_arena.specs.Memory.{LiesIn}
 use Rattle.dma_ring.specs.declared.ring.Ring.{Ring}
 use Rattle.register_file.specs.Queue.{ring_of}
 use Rattle.register_file.specs.Registers.{Registers}
-use Rattle.register_file.specs.Sides.{transmit_queue_of}
 use Rattle.register_file.specs.declared.dir.Dir.{Dir}
+use Rattle.register_laws.specs.Sides.{transmit_queue_of}
 use Rattle.tx_ring.specs.Report.{report_length}
 use Rattle.nic_device.specs.Footprint.{told_back}
 use Rattle.nic_device.specs.Sound.{IsSound}

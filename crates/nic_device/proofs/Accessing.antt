@@ -5,9 +5,9 @@ use Rattle.reg_table.specs.Rows.{row_of}
 use Rattle.reg_table.specs.declared.place.Place.{Place}
 use Rattle.register_file.specs.Access.{asks_reset, asks_pool_reset, after_read}
 use Rattle.register_file.specs.Pools.{mode_in}
-use Rattle.register_file.specs.Laws.{after_write}
-use Rattle.register_file.proofs.Sound.{sound-after_read, sound-written}
-use Rattle.register_file.proofs.Within.{within-after_read, within-written}
+use Rattle.register_laws.specs.Laws.{after_write}
+use Rattle.register_laws.proofs.Sound.{sound-after_read, sound-written}
+use Rattle.register_laws.proofs.Within.{within-after_read, within-written}
 use Rattle.nic_device.specs.Access.{named_read, named_written}
 use Rattle.nic_device.specs.Named.{named}
 use Rattle.nic_device.specs.Footprint.{read_reach, write_reach, StaysWithin}

@@ -24,7 +24,7 @@ use Rattle.reg_table.specs.Rows.{row_of}
 use Rattle.reg_table.specs.declared.place.Place.{Place}
 use Rattle.vf_map.specs.declared.mode.Mode.{Mode}
 use Rattle.register_file.specs.Access.{asks_reset, asks_pool_reset}
-use Rattle.register_file.specs.Footprint.{of_write}
+use Rattle.register_laws.specs.Footprint.{of_write}
 use Rattle.nic_device.specs.Footprint.{Reach, nowhere, in_registers, reset_reach, pool_reach, write_reach}
 use Rattle.nic_device.specs.declared.named.Named.{Named}
 use Rattle.nic_device.specs.declared.named.Named.TheVariants.{Nothing, Register}

@@ -9,15 +9,16 @@ use Rattle.reg_table.specs.declared.kind.Kind.TheVariants.{Rc}
 use Rattle.reg_table.specs.declared.rows.RowId.{RowId}
 use Rattle.register_file.specs.Columns.{place}
 use Rattle.register_file.specs.Counters.{counted}
-use Rattle.register_file.specs.Footprint.{Footprint, ChangesWithin, Covers, either, counters, any_pending, pending, the_word, of_owner}
 use Rattle.register_file.specs.Groups.{vector_entry, causes_raised}
 use Rattle.register_file.specs.Owner.{owner_in}
 use Rattle.register_file.specs.Registers.{Registers}
-use Rattle.register_file.specs.Sound.{AreSound}
 use Rattle.register_file.specs.declared.dir.Dir.{Dir}
-use Rattle.register_file.proofs.Footprints.{within-trans, within-wider, covers-the_word, covers-any_pending}
-use Rattle.register_file.proofs.Sound.{sound-counted, sound-causes_raised}
-use Rattle.register_file.proofs.Within.{within-counted, within-causes_raised}
+use Rattle.register_laws.specs.Footprint.{Footprint, ChangesWithin, Covers, either, counters, any_pending, pending, the_word, of_owner}
+use Rattle.register_laws.specs.Sound.{AreSound}
+use Rattle.register_laws.proofs.Covers.{covers-trans}
+use Rattle.register_laws.proofs.Footprints.{within-trans, within-wider, covers-the_word, covers-any_pending}
+use Rattle.register_laws.proofs.Sound.{sound-counted, sound-causes_raised}
+use Rattle.register_laws.proofs.Within.{within-counted, within-causes_raised}
 use Rattle.nic_device.specs.Interrupt.{group_of_queue, raised_by}
 
 -- a footprint within one of two, or within a wider one
@@ -34,13 +35,6 @@ covers-second f g = record {
   words = λ p is. or_right (f.words p) (g.words p) is;
   wanted = λ dir queue is. or_right (f.wanted dir queue) (g.wanted dir queue) is;
   told = λ h is. or_right (f.told h) (g.told h) is;
-}
-
-pub covers-trans : (f g h : Footprint) → Covers f g → Covers g h → Covers f h
-covers-trans f g h wide narrow = record {
-  words = λ p is. wide.words p (narrow.words p is);
-  wanted = λ dir queue is. wide.wanted dir queue (narrow.wanted dir queue is);
-  told = λ i is. wide.told i (narrow.told i is);
 }
 
 -- registers that come of others: changed within a footprint, and sound where those are and the step is a good one

@@ -14,7 +14,7 @@ use Rattle.tx_ring.specs.declared.tx.Tx.{Tx as Sending}
 use Rattle.tx_ring.proofs.Fetches.{fetch_cases}
 use Rattle.register_file.specs.Registers.{Registers}
 use Rattle.register_file.specs.Settings.{frame_limit}
-use Rattle.register_file.specs.Sound.{AreSound}
+use Rattle.register_laws.specs.Sound.{AreSound}
 use Rattle.reg_table.specs.declared.rows.RowId.TheVariants.{Maxfrs, Hlreg0}
 use Rattle.register_file.specs.Bits.{has_bit}
 use Rattle.register_file.specs.Columns.{place}

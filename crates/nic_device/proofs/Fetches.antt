@@ -6,7 +6,7 @@ use Rattle.dma_ring.specs.declared.ring.Ring.{Ring}
 use Rattle.dma_ring.specs.declared.fault.RingFault.{RingFault}
 use Rattle.tx_ring.specs.declared.tx.Tx.{Tx}
 use Rattle.tx_ring.specs.Fetch.{fetch_of, fault_of, fault_outcome, outcome_of}
-use Rattle.register_file.specs.Sides.{TransmitQueue}
+use Rattle.register_laws.specs.Sides.{TransmitQueue}
 use Rattle.nic_device.specs.State.{State}
 use Rattle.nic_device.specs.Transmit.{slot_fetched, slot_done, staged_by, sending_of}
 

@@ -1,53 +1,37 @@
 -- The virtual functions that queues are of, and what is counted of them.
-use Rattle.std.proofs.Common.{◌≡◌, ◌<◌, ◌≤◌, ℕ, Option, Some, None, nat_lt, refl, ap, sym, ◌∙◌, subst, inl, inr, arith}
+use Rattle.std.proofs.Common.{◌≡◌, ◌<◌, ℕ, ◌*◌, ◌/◌, Option, Some, None, nat_lt, ap, sym, ◌∙◌, arith}
 use Rattle.std.specs.Prelude.{IfSome}
-use Rattle.std.proofs.lemmas.Bool.{cases_Bool, cond-false, ltb-true}
+use Rattle.std.proofs.lemmas.Bool.{cond_both, ltb-true}
 use Rattle.reg_table.specs.Rows.{row_of}
 use Rattle.reg_table.specs.declared.bank.Bank.TheVariants.{VfCounters}
 use Rattle.reg_table.specs.declared.kind.Kind.TheVariants.{Ro}
 use Rattle.reg_table.specs.declared.place.Place.{Place}
 use Rattle.reg_table.specs.declared.rows.RowId.{RowId}
-use Rattle.vf_map.specs.Laws.{IsAmong}
-use Rattle.vf_map.specs.Pools.{pool_of, queues_of, pools_in}
+use Rattle.vf_map.specs.Pools.{pool_of, pools_in, queues_each}
 use Rattle.vf_map.specs.declared.mode.Mode.{Mode}
 use Rattle.vf_map.specs.declared.mode.Mode.TheVariants.{Off, Pools16, Pools32, Pools64}
-use Rattle.vf_map.proofs.Inverse.{inverse}
 use Rattle.register_file.specs.Columns.{place}
-use Rattle.register_file.specs.Footprint.{Footprint, Covers, the_word}
 use Rattle.register_file.specs.Registers.{Registers}
-use Rattle.register_file.proofs.Owners.{is_place-same}
-use Rattle.register_file.proofs.Sound.{sound-counted_wrapping}
-use Rattle.register_file.proofs.Within.{within-counted_wrapping}
+use Rattle.register_laws.specs.Footprint.{Footprint, Covers, the_word}
+use Rattle.register_laws.proofs.Covers.{covers-trans}
+use Rattle.register_laws.proofs.Owners.{is_place-same}
+use Rattle.register_laws.proofs.Sound.{sound-counted_wrapping}
+use Rattle.register_laws.proofs.Within.{within-counted_wrapping}
 use Rattle.nic_device.specs.Footprint.{function_counts, is_function_count}
 use Rattle.nic_device.specs.Interrupt.{function_counted}
-use Rattle.nic_device.proofs.Coming.{Comes, then_within, covers-trans}
+use Rattle.nic_device.proofs.Coming.{Comes, then_within}
 
-few : (mode : Mode) → pools_in mode ≤ 64
-few Off = omega arith
-few Pools16 = omega arith
-few Pools32 = omega arith
-few Pools64 = omega arith
-
-few_found : (mode : Mode) (queue v : ℕ) → pool_of mode queue ≡ Some v → v < 64
-few_found mode queue v e =
-    let among : IsAmong (queues_of mode v) queue = (inverse mode v queue).0 e in
-    elim (cases_Bool (nat_lt v (pools_in mode))) [
-      | inl t ↦ let below = ltb-true v (pools_in mode) t in let all = few mode in omega arith
-      | inr f ↦
-          let none : queues_of mode v ≡ None = cond-false (nat_lt v (pools_in mode)) _ _ f in
-          absurd (subst (λ o. IsAmong o queue) none among)
-    ]
-
-few_if : (mode : Mode) (queue : ℕ) (o : Option ℕ) → pool_of mode queue ≡ o → IfSome o (λ v. v < 64)
-few_if mode queue None e = tt
-few_if mode queue (Some v) e = few_found mode queue v e
+few : (mode : Mode) (queue : ℕ) → queue < pools_in mode * queues_each mode → queue / queues_each mode < 64
+few Off queue b = absurd (omega (arith, b))
+few Pools16 queue b = absurd (omega (arith, b))
+few Pools32 queue b = omega (arith, b)
+few Pools64 queue b = omega (arith, b)
 
 -- the pool of a queue is below 64
 pub few_pools : (mode : Mode) (queue : ℕ) → IfSome (pool_of mode queue) (λ v. v < 64)
-few_pools mode queue = few_if mode queue (pool_of mode queue) refl
-
-pub few_answered : (o : Option ℕ) (mode : Mode) (queue : ℕ) → o ≡ pool_of mode queue → IfSome o (λ v. v < 64)
-few_answered o mode queue e = subst (λ x. IfSome x (λ v. v < 64)) (sym e) (few_pools mode queue)
+few_pools mode queue =
+    cond_both (nat_lt queue (pools_in mode * queues_each mode)) (Some (queue / queues_each mode)) None
+    (λ o. IfSome o (λ v. v < 64)) (λ t. few mode queue (ltb-true _ _ t)) (λ none. tt)
 
 -- a row of what is counted of functions
 pub record IsFunctionCounter (row : RowId) : Type 0 where

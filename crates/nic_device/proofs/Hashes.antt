@@ -1,26 +1,12 @@
 -- Hashes and RSS types fit what descriptors have for them.
-use Rattle.std.proofs.Common.{◌≡◌, ℕ, zero, suc, ◌+◌, ◌^◌, ◌<◌, List, [], ◌∷◌, map, fold, bit_xor, refl, ap, ◌∙◌, arith}
-use Rattle.std.proofs.Math.Nat.{pow-succ'}
+use Rattle.std.proofs.Common.{ℕ, ◌^◌, ◌<◌, List, [], ◌∷◌, map, fold, bit_xor, arith}
 use Rattle.std.proofs.lemmas.Nat.{xor_lt}
-use Rattle.std.proofs.lemmas.Nat.Bits.{bit_at-lt}
 use Rattle.rss_hash.specs.Bits.{set_bits, bits_from}
 use Rattle.rss_hash.specs.Choice.{code_of}
 use Rattle.rss_hash.specs.Toeplitz.{toeplitz_hash}
 use Rattle.rss_hash.specs.declared.choice.RssType.{RssType}
 use Rattle.rss_hash.specs.declared.choice.RssType.TheVariants.{NoHash, TcpIpv4, Ipv4, TcpIpv6, Ipv6, UdpIpv4, UdpIpv6}
-use Rattle.rss_hash.proofs.Windows.{bits_from_more}
-
--- a window of n bits
-bits_from-none : (key : List ℕ) (k : ℕ) → bits_from key k 0 ≡ 0
-unfolding bits_from
-bits_from-none key k = refl
-
-bits_from-lt : (key : List ℕ) (k n : ℕ) → bits_from key k n < 2 ^ n
-bits_from-lt key k zero = rw (bits_from-none key k) (omega arith)
-bits_from-lt key k (suc n) =
-    let next : suc n ≡ n + 1 = omega arith in
-    let more = ap (bits_from key k) next ∙ bits_from_more key k n in
-    omega (arith, bits_from-lt key k n, more, bit_at-lt, pow-succ' 2 n)
+use Rattle.rss_hash.proofs.Sliding.{bits_from-lt}
 
 fold_windows-lt : (key ks : List ℕ) (acc : ℕ) → acc < 2 ^ 32
     → fold bit_xor acc (map (λ k. bits_from key k 32) ks) < 2 ^ 32

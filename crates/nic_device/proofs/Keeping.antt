@@ -6,10 +6,10 @@ use Rattle.std.proofs.lemmas.List.Elements.{All-set, All-replicate}
 use Rattle.std.proofs.lemmas.List.{length-replicate}
 use Rattle.dma_arena.specs.Memory.{Memory}
 use Rattle.eeprom_image.specs.Image.{IsImage}
-use Rattle.register_file.specs.Footprint.{ChangesWithin}
 use Rattle.register_file.specs.Registers.{Registers}
-use Rattle.register_file.specs.Sound.{AreSound}
-use Rattle.register_file.proofs.Footprints.{within-refl}
+use Rattle.register_laws.specs.Footprint.{ChangesWithin}
+use Rattle.register_laws.specs.Sound.{AreSound}
+use Rattle.register_laws.proofs.Footprints.{within-refl}
 use Rattle.nic_device.specs.Footprint.{Reach, StaysWithin}
 use Rattle.nic_device.specs.Sound.{AreBlocks, AreWaiting, AreStaged, IsStaged, IsSound}
 use Rattle.nic_device.specs.State.{State, Waiting, none_staged}

@@ -5,8 +5,6 @@ use Rattle.std.proofs.lemmas.Bool.{cond_both, eq-eqb}
 use Rattle.std.proofs.lemmas.List.{get_or-set_other}
 use Rattle.std.proofs.lemmas.List.Elements.{All-head, All-tail, All-filter}
 use Rattle.reg_table.specs.Rows.{row_of}
-use Rattle.reg_table.specs.declared.rows.RowId.{RowId}
-use Rattle.reg_table.specs.declared.rows.RowId.TheVariants.{Pvfctrl}
 use Rattle.vf_map.specs.Laws.{IsAmong}
 use Rattle.vf_map.specs.Owner.{is_pool, has_queue}
 use Rattle.vf_map.specs.Pools.{pool_of, queues_of}
@@ -14,21 +12,16 @@ use Rattle.vf_map.specs.declared.mode.Mode.{Mode}
 use Rattle.vf_map.proofs.Inverse.{inverse}
 use Rattle.register_file.specs.Access.{asks_pool_reset}
 use Rattle.register_file.specs.Pools.{mode_in}
-use Rattle.register_file.proofs.PoolReset.{renewed-pool}
-use Rattle.register_file.proofs.PoolSound.{sound-pool_reset}
+use Rattle.register_laws.proofs.PoolReset.{renewed-pool}
+use Rattle.register_laws.proofs.PoolSound.{sound-pool_reset}
 use Rattle.nic_device.specs.Footprint.{pool_reach, StaysWithin}
 use Rattle.nic_device.specs.PoolReset.{unstaged, pool_unstaged, others_waiting, with_pool_reset, written_below_reset}
 use Rattle.nic_device.specs.Sound.{IsSound, IsUnbegun, AreWaiting, AreStaged}
 use Rattle.nic_device.specs.State.{State, Waiting}
 use Rattle.reg_table.specs.declared.place.Place.{Place}
-use Rattle.register_file.proofs.Sound.{sound-written}
+use Rattle.register_laws.proofs.Sound.{sound-written}
 use Rattle.nic_device.proofs.Cases.{either_way}
 use Rattle.nic_device.proofs.Keeping.{sound-registers, sound-waiting, sound-staged, AreStaged-set}
-
--- only PVFCTRL asks for a reset of a pool, and it has 64 indices
-pub resets_pools : (row : RowId) (word : ℕ) → asks_pool_reset (row_of row).kind word ≡ true → (row_of row).count ≡ 64
-resets_pools Pvfctrl word e = refl
-resets_pools other word e = cc
 
 -- frames that wait, some of which are dropped
 

@@ -7,7 +7,7 @@ use Rattle.rx_ring.specs.Fill as rx
 use Rattle.tx_ring.specs.declared.fetched.Fetched.{Fetched}
 use Rattle.tx_ring.specs.Fetch as tx
 use Rattle.register_file.specs.Settings.{drops}
-use Rattle.register_file.specs.Sides.{receive_queue_of, transmit_queue_of}
+use Rattle.register_laws.specs.Sides.{receive_queue_of, transmit_queue_of}
 use Rattle.nic_device.specs.State.{State, Waiting}
 use Rattle.nic_device.specs.Outcome.{Outcome, gives}
 use Rattle.nic_device.specs.Receive as receive

@@ -8,21 +8,22 @@ use Rattle.rx_ring.specs.declared.filled.Filled.{Filled}
 use Rattle.tx_ring.specs.declared.fetched.Fetched.{Fetched}
 use Rattle.register_file.specs.Columns.{place}
 use Rattle.register_file.specs.Counters.{counted, counter_of}
-use Rattle.register_file.specs.Footprint.{Footprint, Covers, either, counters, any_pending, pending, the_word, of_side}
 use Rattle.register_file.specs.Queue.{head_row, with_head, shut}
 use Rattle.register_file.specs.Registers.{Registers}
 use Rattle.register_file.specs.declared.dir.Dir.{Dir}
 use Rattle.register_file.specs.declared.dir.Dir.TheVariants.{Rx, Tx}
-use Rattle.register_file.proofs.Footprints.{within-refl, covers-the_word}
-use Rattle.register_file.proofs.Sound.{sound-causes_raised, sound-with_head, sound-shut}
-use Rattle.register_file.proofs.Within.{within-causes_raised, within-with_head, within-shut}
+use Rattle.register_laws.specs.Footprint.{Footprint, Covers, either, counters, any_pending, pending, the_word, of_side}
+use Rattle.register_laws.proofs.Covers.{covers-trans}
+use Rattle.register_laws.proofs.Footprints.{within-refl, covers-the_word}
+use Rattle.register_laws.proofs.Sound.{sound-causes_raised, sound-with_head, sound-shut}
+use Rattle.register_laws.proofs.Within.{within-causes_raised, within-with_head, within-shut}
 use Rattle.nic_device.specs.Footprint.{counts_and_causes, function_counts}
 use Rattle.nic_device.proofs.Functions.{function_counted_in}
 use Rattle.nic_device.specs.Interrupt.{function_of_queue, device_raised, raised_by, missed_cause, fault_cause}
 use Rattle.nic_device.specs.Receive.{frame_counted, slotless_counted, piece_done, receive_failed}
 use Rattle.nic_device.specs.Transmit.{slot_counted, slot_reported, transmit_failed}
 use Rattle.nic_device.proofs.Cases.{either_way}
-use Rattle.nic_device.proofs.Coming.{covers-first, covers-second, covers-trans, Comes, IsCounter, then_within, raised, counted_in, raised_by_queue}
+use Rattle.nic_device.proofs.Coming.{covers-first, covers-second, Comes, IsCounter, then_within, raised, counted_in, raised_by_queue}
 
 -- what a step of a side changes: the side, counters and causes
 abbrev pub of_step : Dir → ℕ → Footprint
@@ -31,23 +32,22 @@ of_step dir queue = either (of_side dir queue) counts_and_causes
 covers-side : (dir : Dir) (queue : ℕ) → Covers (of_step dir queue) (of_side dir queue)
 covers-side dir queue = covers-first (of_side dir queue) counts_and_causes
 
-pub covers-counters : (dir : Dir) (queue : ℕ) → Covers (of_step dir queue) counters
-covers-counters dir queue =
-    covers-trans (of_step dir queue) counts_and_causes counters (covers-second (of_side dir queue) counts_and_causes)
-    (covers-trans counts_and_causes (either counters function_counts) counters
-    (covers-first (either counters function_counts) any_pending) (covers-first counters function_counts))
+-- counts and causes have counters, what is counted of functions, and what is pending
+pub have_counters : Covers counts_and_causes counters
+have_counters =
+    covers-trans _ _ _ (covers-first (either counters function_counts) any_pending)
+    (covers-first counters function_counts)
 
-pub covers-functions : (dir : Dir) (queue : ℕ) → Covers (of_step dir queue) function_counts
-covers-functions dir queue =
-    covers-trans (of_step dir queue) counts_and_causes function_counts
-    (covers-second (of_side dir queue) counts_and_causes)
-    (covers-trans counts_and_causes (either counters function_counts) function_counts
-    (covers-first (either counters function_counts) any_pending) (covers-second counters function_counts))
+pub have_functions : Covers counts_and_causes function_counts
+have_functions =
+    covers-trans _ _ _ (covers-first (either counters function_counts) any_pending)
+    (covers-second counters function_counts)
 
-covers-causes : (dir : Dir) (queue : ℕ) → Covers (of_step dir queue) any_pending
-covers-causes dir queue =
-    covers-trans (of_step dir queue) counts_and_causes any_pending (covers-second (of_side dir queue) counts_and_causes)
-    (covers-second (either counters function_counts) any_pending)
+pub have_causes : Covers counts_and_causes any_pending
+have_causes = covers-second (either counters function_counts) any_pending
+
+pub covers-counts : (dir : Dir) (queue : ℕ) {f : Footprint} → Covers counts_and_causes f → Covers (of_step dir queue) f
+covers-counts dir queue has = covers-trans _ _ _ (covers-second (of_side dir queue) counts_and_causes) has
 
 pub comes-itself : {good : Type 0} (f : Footprint) (r : Registers) → Comes good f r r
 comes-itself f r = record { sound = λ is h. h; within = within-refl f r }
@@ -70,7 +70,7 @@ head_moved r dir queue head small =
 side_failed : (r : Registers) (dir : Dir) (queue : ℕ)
     → Comes ⊤ (of_step dir queue) r (device_raised (shut r dir queue) fault_cause)
 side_failed r dir queue =
-    raised (of_step dir queue) r (shut r dir queue) Pf fault_cause (covers-causes dir queue)
+    raised (of_step dir queue) r (shut r dir queue) Pf fault_cause (covers-counts dir queue have_causes)
     (then_within (of_step dir queue) (of_side dir queue) r r (shut r dir queue) (comes-itself (of_step dir queue) r)
     (covers-side dir queue) (within-shut r dir queue) (λ is h. sound-shut r dir queue h))
 
@@ -84,7 +84,7 @@ transmit_failed-comes r queue = side_failed r Tx queue
 
 pub slotless-comes : (r : Registers) (queue : ℕ) → Comes ⊤ (of_step Rx queue) r (slotless_counted r queue)
 slotless-comes r queue =
-    counted_in (of_step Rx queue) r r Qprdc (counter_of r Rx queue) (covers-counters Rx queue)
+    counted_in (of_step Rx queue) r r Qprdc (counter_of r Rx queue) (covers-counts Rx queue have_counters)
     (record { bank = refl; kind = refl }) (comes-itself (of_step Rx queue) r)
 
 pub piece-comes : (r : Registers) (vfs queue : ℕ) (f : Filled)
@@ -94,10 +94,10 @@ piece-comes r vfs queue f =
     let ended = frame_counted moved vfs queue in
     let head = head_moved r Rx queue f.head (λ (is : f.head < 2 ^ 16). is) in
     either_way (Comes (f.head < 2 ^ 16) (of_step Rx queue) r) f.end (raised_by ended vfs Rx queue) moved
-    (raised_by_queue (of_step Rx queue) r ended vfs Rx queue (covers-causes Rx queue)
-    (function_counted_in (of_step Rx queue) r _ (function_of_queue moved vfs queue) Vfgprc (covers-functions Rx queue)
+    (raised_by_queue (of_step Rx queue) r ended vfs Rx queue (covers-counts Rx queue have_causes)
+    (function_counted_in (of_step Rx queue) r _ (function_of_queue moved vfs queue) Vfgprc (covers-counts Rx queue have_functions)
     (record { bank = refl; kind = refl })
-    (counted_in (of_step Rx queue) r moved Qprc (counter_of moved Rx queue) (covers-counters Rx queue)
+    (counted_in (of_step Rx queue) r moved Qprc (counter_of moved Rx queue) (covers-counts Rx queue have_counters)
     (record { bank = refl; kind = refl }) head)))
     head
 
@@ -107,11 +107,11 @@ pub slot_counted-comes : (r : Registers) (vfs queue : ℕ) (f : Fetched) (o : Op
     → Comes (f.head < 2 ^ 16) (of_step Tx queue) r (slot_counted r vfs queue f o)
 slot_counted-comes r vfs queue f (Some frame) =
     let moved = with_head r Tx queue f.head in
-    function_counted_in (of_step Tx queue) r _ (function_of_queue r vfs queue) Vfgptc (covers-functions Tx queue)
+    function_counted_in (of_step Tx queue) r _ (function_of_queue r vfs queue) Vfgptc (covers-counts Tx queue have_functions)
     (record { bank = refl; kind = refl })
-    (counted_in (of_step Tx queue) r (counted moved Gptc 0) Qptc (counter_of r Tx queue) (covers-counters Tx queue)
+    (counted_in (of_step Tx queue) r (counted moved Gptc 0) Qptc (counter_of r Tx queue) (covers-counts Tx queue have_counters)
     (record { bank = refl; kind = refl })
-    (counted_in (of_step Tx queue) r moved Gptc 0 (covers-counters Tx queue) (record { bank = refl; kind = refl })
+    (counted_in (of_step Tx queue) r moved Gptc 0 (covers-counts Tx queue have_counters) (record { bank = refl; kind = refl })
     (head_moved r Tx queue f.head (λ (is : f.head < 2 ^ 16). is))))
 slot_counted-comes r vfs queue f None = head_moved r Tx queue f.head (λ (is : f.head < 2 ^ 16). is)
 
@@ -121,7 +121,7 @@ slot-comes r vfs queue f =
     let counted = slot_counted r vfs queue f f.frame in
     let kept = slot_counted-comes r vfs queue f f.frame in
     either_way (Comes (f.head < 2 ^ 16) (of_step Tx queue) r) f.rs (raised_by counted vfs Tx queue) counted
-    (raised_by_queue (of_step Tx queue) r counted vfs Tx queue (covers-causes Tx queue) kept) kept
+    (raised_by_queue (of_step Tx queue) r counted vfs Tx queue (covers-counts Tx queue have_causes) kept) kept
 
 -- a frame that arrives is counted, and one that finds no room raises its cause
 

@@ -11,8 +11,8 @@ use Rattle.rx_ring.specs.Fill.{Rest, Outcome as Filling, fill_of}
 use Rattle.rx_ring.specs.declared.filled.Filled.{Filled}
 use Rattle.rx_ring.proofs.Fills.{takes_piece, writes_inside_slot, fill_keeps_blocks}
 use Rattle.rx_ring.proofs.Tests.{fill_cases, head_filled}
-use Rattle.register_file.specs.Sides.{receive_queue_of}
-use Rattle.register_file.proofs.Footprints.{within-refl}
+use Rattle.register_laws.specs.Sides.{receive_queue_of}
+use Rattle.register_laws.proofs.Footprints.{within-refl}
 use Rattle.nic_device.specs.Footprint.{receive_reach, StaysWithin}
 use Rattle.nic_device.specs.Outcome.{gives}
 use Rattle.nic_device.specs.Receive.{received, rest_of, slot_done, after_piece, receive_failed, slotless_counted}

@@ -13,7 +13,7 @@ use Rattle.tx_ring.specs.declared.fetched.Fetched.{Fetched}
 use Rattle.tx_ring.specs.declared.tx.Tx.{Tx as Sending}
 use Rattle.tx_ring.proofs.Fetches.{takes_slot}
 use Rattle.tx_ring.proofs.Reported.{writes_inside_report, fetch_keeps_blocks}
-use Rattle.register_file.specs.Sides.{transmit_queue_of}
+use Rattle.register_laws.specs.Sides.{transmit_queue_of}
 use Rattle.nic_device.specs.Footprint.{told_back, back_into}
 use Rattle.nic_device.specs.Sound.{IsSound}
 use Rattle.nic_device.specs.State.{State}

@@ -5,11 +5,11 @@ use Rattle.dma_arena.specs.Block.{Block}
 use Rattle.intr_unit.specs.declared.group.Group.{Group}
 use Rattle.intr_unit.specs.declared.group.Group.TheVariants as group
 use Rattle.eeprom_image.proofs.Blank.{IsImage-blank}
-use Rattle.register_file.specs.Footprint.{nothing}
 use Rattle.register_file.specs.Groups.{causes_raised, message_of, message_made}
-use Rattle.register_file.proofs.Footprints.{within-refl}
-use Rattle.register_file.proofs.Sound.{sound-message_made, sound-causes_raised, sound-answered, sound-reset}
-use Rattle.register_file.proofs.Within.{within-message_made, within-causes_raised, within-answered}
+use Rattle.register_laws.specs.Footprint.{nothing}
+use Rattle.register_laws.proofs.Footprints.{within-refl}
+use Rattle.register_laws.proofs.Sound.{sound-message_made, sound-causes_raised, sound-answered, sound-reset}
+use Rattle.register_laws.proofs.Within.{within-message_made, within-causes_raised, within-answered}
 use Rattle.nic_device.specs.Interrupt.{interrupted, message_reply, link_cause}
 use Rattle.nic_device.specs.Kept.{NewDeviceIsSound, EventKeepsSound}
 use Rattle.eeprom_image.specs.Bytes.{word_at}

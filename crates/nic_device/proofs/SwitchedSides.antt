@@ -3,15 +3,15 @@ use Rattle.std.proofs.Common.{◌≡◌, ℕ, true, false, [], refl, arith}
 use Rattle.std.specs.Prelude.{⊤, ◌==◌, slice_set}
 use Rattle.std.proofs.lemmas.Bool.{eqb-false}
 use Rattle.std.proofs.lemmas.List.{get_or-set_other}
-use Rattle.register_file.specs.Footprint.{Covers, of_side, the_word}
 use Rattle.register_file.specs.Columns.{place}
 use Rattle.register_file.specs.Queue.{enable_row, switched}
 use Rattle.register_file.specs.Registers.{Registers, is_wanted}
 use Rattle.register_file.specs.declared.dir.Dir.{Dir}
 use Rattle.register_file.specs.declared.dir.Dir.TheVariants.{Rx, Tx}
-use Rattle.register_file.proofs.Footprints.{within-wider, covers-the_word}
-use Rattle.register_file.proofs.Sound.{sound-switched}
-use Rattle.register_file.proofs.Within.{within-switched}
+use Rattle.register_laws.specs.Footprint.{Covers, of_side, the_word}
+use Rattle.register_laws.proofs.Footprints.{within-wider, covers-the_word}
+use Rattle.register_laws.proofs.Sound.{sound-switched}
+use Rattle.register_laws.proofs.Within.{within-switched}
 use Rattle.nic_device.specs.Footprint.{switch_reach, StaysWithin}
 use Rattle.nic_device.specs.Outcome.{gives}
 use Rattle.nic_device.specs.Sound.{IsSound}

@@ -1,12 +1,10 @@
 -- Where a frame goes, and what descriptors tell of it.
-use Rattle.std.proofs.Common.{◌≡◌, ℕ, zero, suc, ◌+◌, ◌^◌, ◌<◌, ◌≤◌, Bool, true, false, ◌/◌, ◌%◌, List, cond, Option, Some, None, Ok, Err, refl, subst, arith}
+use Rattle.std.proofs.Common.{◌≡◌, ℕ, zero, suc, ◌+◌, ◌^◌, ◌<◌, ◌≤◌, Bool, true, ◌/◌, ◌%◌, List, Option, Some, None, Ok, Err, refl, subst, arith}
 use Rattle.std.specs.Prelude.{⊤, Result}
 use Rattle.std.specs.Prelude.{find, ◌==◌}
 use Rattle.std.specs.List.{range_with_len}
 use Rattle.std.proofs.lemmas.Bool.{cond_both}
 use Rattle.std.proofs.lemmas.Bool.Decides.{nat_tests}
-use Rattle.dma_ring.specs.Receive.{told_of}
-use Rattle.dma_ring.specs.declared.receive.Packet.{Packet}
 use Rattle.rss_hash.specs.Choice.{code_of}
 use Rattle.rss_hash.specs.Mrqc.{queue_mode_of}
 use Rattle.rss_hash.specs.Registers.{entry_of}
@@ -22,9 +20,6 @@ use Rattle.rx_filter.specs.Sorting.{queue_of, rss_hash, rss_entry, rss_type, tar
 use Rattle.rx_filter.specs.declared.target.Target.{Target}
 use Rattle.rx_filter.specs.declared.unwanted.Unwanted.{Unwanted}
 use Rattle.rx_filter.specs.declared.unwanted.Unwanted.TheVariants.{Filter, PoolOff}
-use Rattle.nic_device.specs.Sound.{IsWaiting}
-use Rattle.nic_device.specs.State.{Waiting}
-use Rattle.nic_device.specs.Receive.{packet_of}
 use Rattle.nic_device.proofs.Cases.{either_way}
 use Rattle.nic_device.proofs.Hashes.{hash-lt, code-lt}
 
@@ -127,15 +122,3 @@ target-small r frame =
 
 pub sorted-small : (r : Registers) (frame : List ℕ) (t : Target) → sorted r frame ≡ Ok t → IsSmall t
 sorted-small r frame t is = subst Small is (target-small r frame)
-
--- what descriptors tell of a frame that waits is a word of 64 bits
-cond-le : (b : Bool) (n : ℕ) → cond b n 0 ≤ n
-cond-le true n = omega arith
-cond-le false n = omega arith
-
-told_of-lt : (p : Packet) → p.hash < 2 ^ 32 → p.rss < 16 → told_of p < 2 ^ 64
-told_of-lt p hash rss =
-    omega (arith, cond-le p.ipv4 (2 ^ 4), cond-le p.ipv6 (2 ^ 6), cond-le p.tcp (2 ^ 8), cond-le p.udp (2 ^ 9))
-
-pub told-lt : (w : Waiting) → IsWaiting w → told_of (packet_of w) < 2 ^ 64
-told-lt w h = told_of-lt (packet_of w) h.hash h.rss

@@ -9,7 +9,7 @@ use Rattle.reg_table.specs.declared.place.Place.{Place}
 use Rattle.register_file.specs.Registers.{reset_registers}
 use Rattle.reg_table.specs.Rows.{row_of}
 use Rattle.register_file.specs.Access.{asks_pool_reset}
-use Rattle.register_file.proofs.Sound.{sound-reset}
+use Rattle.register_laws.proofs.Sound.{sound-reset}
 use Rattle.nic_device.specs.Eeprom.{is_stepped_over, triple_written, with_triple, with_triples, reset}
 use Rattle.nic_device.specs.PoolReset.{with_pool_reset, written_below_reset}
 use Rattle.nic_device.proofs.PoolReset.{below_reset_sound}

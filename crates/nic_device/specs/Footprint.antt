@@ -13,11 +13,11 @@ use Rattle.vf_map.specs.declared.mode.Mode.{Mode}
 use Rattle.intr_unit.specs.declared.group.Group.TheVariants as group
 use Rattle.register_file.specs.Access.{asks_reset, asks_pool_reset}
 use Rattle.register_file.specs.Columns.{place}
-use Rattle.register_file.specs.Footprint.{Footprint, ChangesWithin, nothing, everything, either, the_word, counters, of_side, of_pool, pending, any_pending, of_read, of_write}
 use Rattle.register_file.specs.Pools.{mode_in}
-use Rattle.register_file.specs.Sides.{transmit_queue_of}
 use Rattle.register_file.specs.declared.dir.Dir.{Dir}
 use Rattle.register_file.specs.declared.dir.Dir.TheVariants.{Rx, Tx}
+use Rattle.register_laws.specs.Footprint.{Footprint, ChangesWithin, nothing, everything, either, the_word, counters, of_side, of_pool, pending, any_pending, of_read, of_write}
+use Rattle.register_laws.specs.Sides.{transmit_queue_of}
 use Rattle.tx_ring.specs.Report.{report_length}
 use Rattle.nic_device.specs.Named.{named}
 use Rattle.nic_device.specs.State.{State, Waiting}

@@ -5,7 +5,7 @@ use Rattle.dma_arena.specs.Block.{Block, IsBlock}
 use Rattle.dma_arena.specs.Memory.{Memory, IsWhole}
 use Rattle.eeprom_image.specs.Image.{IsImage}
 use Rattle.register_file.specs.Groups.{index_of}
-use Rattle.register_file.specs.Sound.{AreSound}
+use Rattle.register_laws.specs.Sound.{AreSound}
 use Rattle.nic_device.specs.State.{State, Waiting}
 use Rattle.nic_device.specs.declared.event.Event.{Event}
 use Rattle.nic_device.specs.declared.event.Event.TheVariants as event

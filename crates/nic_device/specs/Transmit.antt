@@ -14,8 +14,8 @@ use Rattle.register_file.specs.Pools.{mode_in, is_pool_on}
 use Rattle.vf_map.specs.Pools.{pool_of}
 use Rattle.rx_filter.specs.Pools.{uses_pools}
 use Rattle.register_file.specs.Settings.{is_stopped, can_transmit, frame_limit, pads}
-use Rattle.register_file.specs.Sides.{TransmitQueue, transmit_queue_of}
 use Rattle.register_file.specs.declared.dir.Dir.TheVariants.{Tx}
+use Rattle.register_laws.specs.Sides.{TransmitQueue, transmit_queue_of}
 use Rattle.nic_device.specs.State.{State}
 use Rattle.nic_device.specs.Interrupt.{function_of_queue, function_counted, raised_by, device_raised, fault_cause}
 use Rattle.nic_device.specs.Outcome.{Outcome, gives}

@@ -2,7 +2,7 @@
 
 ghost use Rattle.std.specs.Prelude.{◌≡◌, ◌≢◌, ◌<◌, false, IfSome, IfOk, IfErr, OnOk, OnErr};
 ghost use Rattle.std.specs.VecDeque.{deque_len, deque_capacity};
-ghost use Rattle.register_file.specs.Sides.{transmit_queue_of};
+ghost use Rattle.register_laws.specs.Sides.{transmit_queue_of};
 ghost use Rattle.nic_device.specs.Transmit.{transmitted, slot_fetched, is_silent, is_muted, is_muted_pool, sending_of, fetched_reply, with_frame, slot_reported, transmit_failed};
 
 use crate::engine::Engine;

@@ -8,8 +8,8 @@ use Rattle.rx_ring.specs.Fill.{Rest}
 use Rattle.rx_ring.proofs.Fills.{takes_piece}
 use Rattle.register_file.specs.Pools.{mode_in}
 use Rattle.register_file.specs.Queue.{ring_of}
-use Rattle.register_file.specs.Sides.{ReceiveQueue, receive_queue_of}
 use Rattle.register_file.specs.declared.dir.Dir.TheVariants.{Rx}
+use Rattle.register_laws.specs.Sides.{ReceiveQueue, receive_queue_of}
 use Rattle.nic_device.specs.Outcome.{Outcome}
 use Rattle.nic_device.specs.Sound.{IsSound}
 use Rattle.nic_device.specs.State.{State}

@@ -8,7 +8,7 @@ use Rattle.dma_ring.specs.declared.fault.RingFault.{RingFault}
 use Rattle.rx_ring.specs.declared.filled.Filled.{Filled}
 use Rattle.rx_ring.specs.Fill as rx
 use Rattle.register_file.specs.Settings.{is_stopped, drops}
-use Rattle.register_file.specs.Sides.{receive_queue_of}
+use Rattle.register_laws.specs.Sides.{receive_queue_of}
 use Rattle.nic_device.specs.State.{State, Waiting}
 use Rattle.nic_device.specs.Outcome.{Outcome, gives}
 use Rattle.nic_device.specs.Receive as receive

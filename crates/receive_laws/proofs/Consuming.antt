@@ -4,7 +4,7 @@ use Rattle.std.specs.FinMap as map
 use Rattle.std.proofs.lemmas.List.{get_or-drop, length-drop}
 use Rattle.dma_arena.specs.Memory.{Memory}
 use Rattle.dma_arena.proofs.Bus.{get-remove_other}
-use Rattle.register_file.specs.Sides.{ReceiveQueue}
+use Rattle.register_laws.specs.Sides.{ReceiveQueue}
 use Rattle.pmd_base.specs.Slots.{wrapped}
 use Rattle.pmd_base.proofs.Places.{next_below, wrapped_next}
 use Rattle.pmd_rx.specs.Receive.{Layout, consumed, slot_at, descriptor_at, block_at}

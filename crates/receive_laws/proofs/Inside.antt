@@ -6,7 +6,7 @@ use Rattle.dma_arena.specs.Block.{Block}
 use Rattle.dma_arena.specs.Memory.{LiesIn}
 use Rattle.rx_ring.specs.declared.filled.Filled.{Filled}
 use Rattle.rx_ring.proofs.Fills.{takes_piece}
-use Rattle.register_file.specs.Sides.{receive_queue_of}
+use Rattle.register_laws.specs.Sides.{receive_queue_of}
 use Rattle.nic_device.specs.Outcome.{Outcome}
 use Rattle.nic_device.specs.Receive.{rest_of, is_empty}
 use Rattle.nic_device.specs.State.{State, Waiting}

@@ -6,9 +6,9 @@ use Rattle.std.proofs.lemmas.List.{append-nil, length_push, get_or_push, get_or_
 use Rattle.dma_arena.specs.Memory.{Memory}
 use Rattle.reg_table.specs.declared.rows.RowId.TheVariants.{Rdt}
 use Rattle.register_file.specs.Columns.{place}
-use Rattle.register_file.specs.Laws.{after_write}
-use Rattle.register_file.specs.Sides.{ReceiveQueue, receive_queue_of}
-use Rattle.register_file.specs.Sound.{HasShape}
+use Rattle.register_laws.specs.Laws.{after_write}
+use Rattle.register_laws.specs.Sides.{ReceiveQueue, receive_queue_of}
+use Rattle.register_laws.specs.Sound.{HasShape}
 use Rattle.nic_device.specs.Outcome.{Outcome}
 use Rattle.nic_device.specs.State.{State}
 use Rattle.nic_device.specs.Step.{after, reply_to}

@@ -8,8 +8,8 @@ use Rattle.dma_arena.specs.Memory.{Memory}
 use Rattle.rx_ring.specs.declared.filled.Filled.{Filled}
 use Rattle.register_file.specs.Pools.{mode_in}
 use Rattle.register_file.specs.Queue.{ring_of}
-use Rattle.register_file.specs.Sides.{receive_queue_of}
 use Rattle.register_file.specs.declared.dir.Dir.TheVariants.{Rx}
+use Rattle.register_laws.specs.Sides.{receive_queue_of}
 use Rattle.nic_device.specs.Outcome.{Outcome}
 use Rattle.nic_device.specs.Receive.{rest_of, is_empty, piece_done, slot_done}
 use Rattle.nic_device.specs.Sound.{IsSound, AreWaiting}
@@ -17,7 +17,7 @@ use Rattle.nic_device.specs.State.{State, Waiting}
 use Rattle.nic_device.specs.Step.{after, reply_to}
 use Rattle.nic_device.specs.declared.event.Event.TheVariants as event
 use Rattle.nic_device.specs.declared.event.Reply.TheVariants.{Wrote}
-use Rattle.nic_device.proofs.Targets.{told-lt}
+use Rattle.device_laws.proofs.Delivered.{told-lt}
 use Rattle.device_laws.specs.Leaving.{IsFirstFor, LeavesReceive, LeavesBlock}
 use Rattle.device_laws.specs.Replies.{moved_on}
 use Rattle.pmd_rx.specs.Receive.{Receive}

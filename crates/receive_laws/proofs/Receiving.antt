@@ -14,7 +14,7 @@ use Rattle.rx_ring.specs.Fill.{Rest, Outcome, head_address, buffer_address}
 use Rattle.rx_ring.specs.Laws.{IsHealthy}
 use Rattle.rx_ring.proofs.Fills.{takes_piece}
 use Rattle.rx_ring.proofs.Tests.{fill_healthy}
-use Rattle.register_file.specs.Sides.{ReceiveQueue, receive_queue_of}
+use Rattle.register_laws.specs.Sides.{ReceiveQueue, receive_queue_of}
 use Rattle.nic_device.specs.Receive.{is_empty}
 use Rattle.nic_device.specs.State.{State}
 use Rattle.pmd_base.specs.Slots.{wrapped}

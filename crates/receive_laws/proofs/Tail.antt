@@ -5,13 +5,13 @@ use Rattle.reg_table.specs.declared.place.Place.{Place}
 use Rattle.reg_table.specs.declared.rows.RowId.TheVariants.{Rdt, GcrExt}
 use Rattle.vf_map.specs.Pools.{mode_of}
 use Rattle.register_file.specs.Columns.{place}
-use Rattle.register_file.specs.Laws.{after_write, word_after}
 use Rattle.register_file.specs.Pools.{mode_in}
 use Rattle.register_file.specs.Registers.{Registers, word_of}
-use Rattle.register_file.specs.Sides.{ReceiveQueue, receive_queue_of}
-use Rattle.register_file.specs.Sound.{HasShape}
-use Rattle.register_file.proofs.Puts.{word_at-put_other}
-use Rattle.register_file.proofs.SideWords.{receive-written}
+use Rattle.register_laws.specs.Laws.{after_write, word_after}
+use Rattle.register_laws.specs.Sides.{ReceiveQueue, receive_queue_of}
+use Rattle.register_laws.specs.Sound.{HasShape}
+use Rattle.register_laws.proofs.Puts.{word_at-put_other}
+use Rattle.register_laws.proofs.SideWords.{receive-written}
 use Rattle.history_laws.proofs.Written.{merged_low}
 use Rattle.nic_device.specs.Access.{named_written}
 use Rattle.nic_device.specs.Outcome.{gives}

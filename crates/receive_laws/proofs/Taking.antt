@@ -5,7 +5,7 @@ use Rattle.dma_arena.specs.Block.{Block}
 use Rattle.dma_arena.specs.Memory.{IsWhole, Memory, part}
 use Rattle.dma_arena.proofs.Bus.{of_some}
 use Rattle.dma_ring.specs.Receive.{bytes_in}
-use Rattle.register_file.specs.Sides.{receive_queue_of}
+use Rattle.register_laws.specs.Sides.{receive_queue_of}
 use Rattle.nic_device.specs.State.{State}
 use Rattle.nic_device.specs.Outcome.{Outcome}
 use Rattle.nic_device.specs.Step.{after, reply_to}

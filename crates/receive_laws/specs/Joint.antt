@@ -5,7 +5,7 @@ use Rattle.dma_ring.specs.Descriptor.{first_half, second_half}
 use Rattle.dma_ring.specs.Receive.{is_done, ends_packet, bytes_in}
 use Rattle.reg_table.specs.declared.rows.RowId.TheVariants.{Rdt}
 use Rattle.register_file.specs.Columns.{place}
-use Rattle.register_file.specs.Sides.{ReceiveQueue, receive_queue_of}
+use Rattle.register_laws.specs.Sides.{ReceiveQueue, receive_queue_of}
 use Rattle.rx_ring.specs.Control.{descriptor_type_of, buffer_size_of}
 use Rattle.nic_device.specs.Named.{named}
 use Rattle.nic_device.specs.State.{State}

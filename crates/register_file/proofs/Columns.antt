@@ -8,97 +8,77 @@ use Rattle.register_file.specs.declared.side.ReceiveSide.{ReceiveSide}
 use Rattle.register_file.specs.declared.side.TransmitSide.{TransmitSide}
 
 -- a column in which an own value is written back stays as it was
-written_back : {A B : Type 0} (f : A → B) (xs : List A) (i : ℕ) (d : A)
-    → set (map f xs) i (f (get_or xs i d)) ≡ map f xs
+abbrev pub IsWrittenBack : {A B : Type 0} → (A → B) → Type 0
+IsWrittenBack {A} f = (xs : List A) (i : ℕ) (d : A) → set (map f xs) i (f (get_or xs i d)) ≡ map f xs
+
+written_back : {A B : Type 0} (f : A → B) → IsWrittenBack f
 written_back f xs i d = sym (map-set f xs i (get_or xs i d)) ∙ map-set_same f xs i (get_or xs i d) d refl
 
-pub receive-base_low : (qs : List ReceiveSide) (i : ℕ) (d : ReceiveSide)
-    → set (map (λ q. q.base_low) qs) i (get_or qs i d).base_low ≡ map (λ q. q.base_low) qs
-receive-base_low qs i d = written_back (λ q. q.base_low) qs i d
+pub receive-base_low : IsWrittenBack (λ (q : ReceiveSide). q.base_low)
+receive-base_low = written_back (λ q. q.base_low)
 
-pub receive-base_high : (qs : List ReceiveSide) (i : ℕ) (d : ReceiveSide)
-    → set (map (λ q. q.base_high) qs) i (get_or qs i d).base_high ≡ map (λ q. q.base_high) qs
-receive-base_high qs i d = written_back (λ q. q.base_high) qs i d
+pub receive-base_high : IsWrittenBack (λ (q : ReceiveSide). q.base_high)
+receive-base_high = written_back (λ q. q.base_high)
 
-pub receive-length : (qs : List ReceiveSide) (i : ℕ) (d : ReceiveSide)
-    → set (map (λ q. q.length) qs) i (get_or qs i d).length ≡ map (λ q. q.length) qs
-receive-length qs i d = written_back (λ q. q.length) qs i d
+pub receive-length : IsWrittenBack (λ (q : ReceiveSide). q.length)
+receive-length = written_back (λ q. q.length)
 
-pub receive-head : (qs : List ReceiveSide) (i : ℕ) (d : ReceiveSide)
-    → set (map (λ q. q.head) qs) i (get_or qs i d).head ≡ map (λ q. q.head) qs
-receive-head qs i d = written_back (λ q. q.head) qs i d
+pub receive-head : IsWrittenBack (λ (q : ReceiveSide). q.head)
+receive-head = written_back (λ q. q.head)
 
-pub receive-control : (qs : List ReceiveSide) (i : ℕ) (d : ReceiveSide)
-    → set (map (λ q. q.control) qs) i (get_or qs i d).control ≡ map (λ q. q.control) qs
-receive-control qs i d = written_back (λ q. q.control) qs i d
+pub receive-control : IsWrittenBack (λ (q : ReceiveSide). q.control)
+receive-control = written_back (λ q. q.control)
 
-pub receive-tail : (qs : List ReceiveSide) (i : ℕ) (d : ReceiveSide)
-    → set (map (λ q. q.tail) qs) i (get_or qs i d).tail ≡ map (λ q. q.tail) qs
-receive-tail qs i d = written_back (λ q. q.tail) qs i d
+pub receive-tail : IsWrittenBack (λ (q : ReceiveSide). q.tail)
+receive-tail = written_back (λ q. q.tail)
 
-pub receive-enable : (qs : List ReceiveSide) (i : ℕ) (d : ReceiveSide)
-    → set (map (λ q. q.enable) qs) i (get_or qs i d).enable ≡ map (λ q. q.enable) qs
-receive-enable qs i d = written_back (λ q. q.enable) qs i d
+pub receive-enable : IsWrittenBack (λ (q : ReceiveSide). q.enable)
+receive-enable = written_back (λ q. q.enable)
 
-pub receive-wanted : (qs : List ReceiveSide) (i : ℕ) (d : ReceiveSide)
-    → set (map (λ q. q.wanted) qs) i (get_or qs i d).wanted ≡ map (λ q. q.wanted) qs
-receive-wanted qs i d = written_back (λ q. q.wanted) qs i d
+pub receive-wanted : IsWrittenBack (λ (q : ReceiveSide). q.wanted)
+receive-wanted = written_back (λ q. q.wanted)
 
-pub transmit-base_low : (qs : List TransmitSide) (i : ℕ) (d : TransmitSide)
-    → set (map (λ q. q.base_low) qs) i (get_or qs i d).base_low ≡ map (λ q. q.base_low) qs
-transmit-base_low qs i d = written_back (λ q. q.base_low) qs i d
+pub transmit-base_low : IsWrittenBack (λ (q : TransmitSide). q.base_low)
+transmit-base_low = written_back (λ q. q.base_low)
 
-pub transmit-base_high : (qs : List TransmitSide) (i : ℕ) (d : TransmitSide)
-    → set (map (λ q. q.base_high) qs) i (get_or qs i d).base_high ≡ map (λ q. q.base_high) qs
-transmit-base_high qs i d = written_back (λ q. q.base_high) qs i d
+pub transmit-base_high : IsWrittenBack (λ (q : TransmitSide). q.base_high)
+transmit-base_high = written_back (λ q. q.base_high)
 
-pub transmit-length : (qs : List TransmitSide) (i : ℕ) (d : TransmitSide)
-    → set (map (λ q. q.length) qs) i (get_or qs i d).length ≡ map (λ q. q.length) qs
-transmit-length qs i d = written_back (λ q. q.length) qs i d
+pub transmit-length : IsWrittenBack (λ (q : TransmitSide). q.length)
+transmit-length = written_back (λ q. q.length)
 
-pub transmit-head : (qs : List TransmitSide) (i : ℕ) (d : TransmitSide)
-    → set (map (λ q. q.head) qs) i (get_or qs i d).head ≡ map (λ q. q.head) qs
-transmit-head qs i d = written_back (λ q. q.head) qs i d
+pub transmit-head : IsWrittenBack (λ (q : TransmitSide). q.head)
+transmit-head = written_back (λ q. q.head)
 
-pub transmit-tail : (qs : List TransmitSide) (i : ℕ) (d : TransmitSide)
-    → set (map (λ q. q.tail) qs) i (get_or qs i d).tail ≡ map (λ q. q.tail) qs
-transmit-tail qs i d = written_back (λ q. q.tail) qs i d
+pub transmit-tail : IsWrittenBack (λ (q : TransmitSide). q.tail)
+transmit-tail = written_back (λ q. q.tail)
 
-pub transmit-enable : (qs : List TransmitSide) (i : ℕ) (d : TransmitSide)
-    → set (map (λ q. q.enable) qs) i (get_or qs i d).enable ≡ map (λ q. q.enable) qs
-transmit-enable qs i d = written_back (λ q. q.enable) qs i d
+pub transmit-enable : IsWrittenBack (λ (q : TransmitSide). q.enable)
+transmit-enable = written_back (λ q. q.enable)
 
-pub transmit-writeback_low : (qs : List TransmitSide) (i : ℕ) (d : TransmitSide)
-    → set (map (λ q. q.writeback_low) qs) i (get_or qs i d).writeback_low ≡ map (λ q. q.writeback_low) qs
-transmit-writeback_low qs i d = written_back (λ q. q.writeback_low) qs i d
+pub transmit-writeback_low : IsWrittenBack (λ (q : TransmitSide). q.writeback_low)
+transmit-writeback_low = written_back (λ q. q.writeback_low)
 
-pub transmit-writeback_high : (qs : List TransmitSide) (i : ℕ) (d : TransmitSide)
-    → set (map (λ q. q.writeback_high) qs) i (get_or qs i d).writeback_high ≡ map (λ q. q.writeback_high) qs
-transmit-writeback_high qs i d = written_back (λ q. q.writeback_high) qs i d
+pub transmit-writeback_high : IsWrittenBack (λ (q : TransmitSide). q.writeback_high)
+transmit-writeback_high = written_back (λ q. q.writeback_high)
 
-pub transmit-wanted : (qs : List TransmitSide) (i : ℕ) (d : TransmitSide)
-    → set (map (λ q. q.wanted) qs) i (get_or qs i d).wanted ≡ map (λ q. q.wanted) qs
-transmit-wanted qs i d = written_back (λ q. q.wanted) qs i d
+pub transmit-wanted : IsWrittenBack (λ (q : TransmitSide). q.wanted)
+transmit-wanted = written_back (λ q. q.wanted)
 
-pub group-causes : (qs : List Interrupts) (i : ℕ) (d : Interrupts)
-    → set (map (λ q. q.causes) qs) i (get_or qs i d).causes ≡ map (λ q. q.causes) qs
-group-causes qs i d = written_back (λ q. q.causes) qs i d
+pub group-causes : IsWrittenBack (λ (q : Interrupts). q.causes)
+group-causes = written_back (λ q. q.causes)
 
-pub group-enabled : (qs : List Interrupts) (i : ℕ) (d : Interrupts)
-    → set (map (λ q. q.enabled) qs) i (get_or qs i d).enabled ≡ map (λ q. q.enabled) qs
-group-enabled qs i d = written_back (λ q. q.enabled) qs i d
+pub group-enabled : IsWrittenBack (λ (q : Interrupts). q.enabled)
+group-enabled = written_back (λ q. q.enabled)
 
-pub group-auto_clear : (qs : List Interrupts) (i : ℕ) (d : Interrupts)
-    → set (map (λ q. q.auto_clear) qs) i (get_or qs i d).auto_clear ≡ map (λ q. q.auto_clear) qs
-group-auto_clear qs i d = written_back (λ q. q.auto_clear) qs i d
+pub group-auto_clear : IsWrittenBack (λ (q : Interrupts). q.auto_clear)
+group-auto_clear = written_back (λ q. q.auto_clear)
 
-pub group-auto_mask : (qs : List Interrupts) (i : ℕ) (d : Interrupts)
-    → set (map (λ q. q.auto_mask) qs) i (get_or qs i d).auto_mask ≡ map (λ q. q.auto_mask) qs
-group-auto_mask qs i d = written_back (λ q. q.auto_mask) qs i d
+pub group-auto_mask : IsWrittenBack (λ (q : Interrupts). q.auto_mask)
+group-auto_mask = written_back (λ q. q.auto_mask)
 
-pub group-told : (qs : List Interrupts) (i : ℕ) (d : Interrupts)
-    → set (map (λ q. q.told) qs) i (get_or qs i d).told ≡ map (λ q. q.told) qs
-group-told qs i d = written_back (λ q. q.told) qs i d
+pub group-told : IsWrittenBack (λ (q : Interrupts). q.told)
+group-told = written_back (λ q. q.told)
 
 -- for a register that is set
 pub ruleset columns = (

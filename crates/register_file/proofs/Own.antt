@@ -4,9 +4,12 @@ use Rattle.intr_unit.specs.BitSet.{BitSet, contains, intersection, IsSubset}
 use Rattle.intr_unit.specs.Group.{group_bits}
 use Rattle.intr_unit.specs.Interrupts.{Interrupts, IsConsistent}
 use Rattle.intr_unit.specs.declared.group.Group.{Group}
-use Rattle.intr_unit.proofs.SetLaws.{same_bits, contains-intersection}
+use Rattle.intr_unit.proofs.SetLaws.{same_bits, bits_where-lt, contains-intersection}
 use Rattle.register_file.specs.AllGroups.{IsOwn}
-use Rattle.register_file.proofs.Settled.{intersection-lt}
+
+pub intersection-lt : (a b : BitSet) → intersection a b < 2 ^ 32
+unfolding intersection
+intersection-lt a b = bits_where-lt _
 
 -- the common bits of a set and one that it is within
 implied : (x y : Bool) → (x ≡ true → y ≡ true) → (x && y) ≡ x

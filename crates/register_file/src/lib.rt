@@ -11,7 +11,7 @@
 //! registers tell of the link and the EEPROM is passed in as `Surroundings`. The definitions stand in `specs/`. The
 //! registers lie in plain fields: the sides of the queues, the groups of interrupts, which change in place, the
 //! hash key, the settings, the tables and the counters; `cell` and `set_word` say which row lies where. Nothing
-//! here takes memory.
+//! here takes memory. What the registers promise as a whole is in `register_laws`.
 //!
 //! Source: Intel 82599 datasheet, sections on the device registers.
 #![tactic(auto)]
@@ -24,7 +24,6 @@ mod eeprom;
 mod groups;
 mod hashing;
 mod interrupts;
-mod laws;
 mod owner;
 mod pools;
 mod queue;
@@ -36,15 +35,6 @@ mod words;
 
 pub use access::{asks_pool_reset, asks_reset};
 pub use dir::Dir;
-pub use laws::{
-    accesses_stay_with_their_owner, calculated_rows_have_formulas, changes_stay_in_their_footprint,
-    counters_count, eeprom_answer_is_read, enable_write_only_asks, group_bits_are_masks,
-    interrupts_stand, moved_head_is_the_head, pool_accesses_stay_within,
-    pool_accesses_tell_of_the_pool, pools_have_nothing_in_common, put_word_is_there,
-    read_only_counters_go_round, reset_is_the_tables, reset_pool_is_reset, ring_is_held_while_on,
-    shut_side_is_off, soundness_is_kept, stored_word_reads_back, switched_side_is_as_wanted,
-    what_a_footprint_misses_stands, written_word_is_the_sides,
-};
 pub use owner::{Owner, owner_of};
 pub use register_file::{QUEUES, RegisterFile};
 pub use surroundings::Surroundings;

@@ -11,8 +11,8 @@ use Rattle.reg_table.specs.declared.rows.RowId.TheVariants.{Rxdctl, Txdctl}
 use Rattle.register_file.specs.Bits.{has_bit}
 use Rattle.register_file.specs.Queue.{is_on}
 use Rattle.register_file.specs.Registers.{word_of}
-use Rattle.register_file.specs.Sides.{ReceiveQueue, TransmitQueue}
 use Rattle.register_file.specs.declared.dir.Dir.TheVariants.{Rx, Tx}
+use Rattle.register_laws.specs.Sides.{ReceiveQueue, TransmitQueue}
 use Rattle.nic_device.specs.Access.{named_read}
 use Rattle.nic_device.specs.Outcome.{Outcome}
 use Rattle.nic_device.specs.State.{State}

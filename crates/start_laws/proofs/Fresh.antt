@@ -2,7 +2,7 @@
 use Rattle.std.proofs.Common.{◌≡◌, ℕ, ◌+◌, ◌<◌, ◌*◌, ◌/◌, ◌%◌, ◌^◌, true, refl, ap, ◌∙◌, arith}
 use Rattle.std.proofs.lemmas.Bool.Decides.{nat_tests}
 use Rattle.dma_arena.specs.Memory.{Memory, has_block}
-use Rattle.register_file.specs.Sides.{ReceiveQueue, TransmitQueue}
+use Rattle.register_laws.specs.Sides.{ReceiveQueue, TransmitQueue}
 use Rattle.pmd_base.specs.Slots.{wrapped}
 use Rattle.receive_laws.proofs.Starting.{start_agrees}
 use Rattle.start_laws.specs.Moves.{FreshReceiveAgrees, FreshTransmitAgrees}

@@ -2,7 +2,7 @@
 use Rattle.std.proofs.Common.{◌≡◌, inl, inr, Bool, true, false, [], ◌∷◌, refl, sym, ap, ◌∙◌, subst}
 use Rattle.std.proofs.lemmas.Bool.{cases_Bool, both_ways}
 use Rattle.dma_arena.specs.Block.{Block}
-use Rattle.register_file.specs.Sides.{ReceiveQueue, receive_queue_of}
+use Rattle.register_laws.specs.Sides.{ReceiveQueue, receive_queue_of}
 use Rattle.nic_device.specs.State.{State}
 use Rattle.nic_device.specs.Step.{after}
 use Rattle.nic_device.specs.declared.event.Event.{Event}

@@ -5,8 +5,8 @@ use Rattle.reg_table.specs.declared.rows.RowId.{RowId}
 use Rattle.reg_table.specs.declared.rows.RowId.TheVariants.{Rdbal, Rdbah, Rdlen, Rdh, Rdt, Srrctl, Rxdctl, Tdbal, Tdbah, Tdlen, Tdh, Tdt, Tdwbal, Txdctl, Ctrl, Hlreg0, Maxfrs, GcrExt}
 use Rattle.register_file.specs.Bits.{has_bit}
 use Rattle.register_file.specs.Pools.{mode_in}
-use Rattle.register_file.specs.Sides.{ReceiveQueue, TransmitQueue}
 use Rattle.register_file.specs.Settings.{frame_limit}
+use Rattle.register_laws.specs.Sides.{ReceiveQueue, TransmitQueue}
 use Rattle.nic_device.specs.State.{State}
 use Rattle.nic_device.specs.Step.{after}
 use Rattle.nic_device.specs.declared.event.Event.TheVariants as event

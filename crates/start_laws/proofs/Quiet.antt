@@ -5,9 +5,9 @@ use Rattle.dma_arena.specs.Block.{Block}
 use Rattle.reg_table.specs.declared.rows.RowId.TheVariants.{Rxdctl}
 use Rattle.register_file.specs.Queue.{switched}
 use Rattle.register_file.specs.Registers.{is_wanted}
-use Rattle.register_file.specs.Sides.{ReceiveQueue, receive_queue_of}
 use Rattle.register_file.specs.declared.dir.Dir.TheVariants.{Rx}
-use Rattle.register_file.proofs.Switches.{receive-switched, receive-asked}
+use Rattle.register_laws.specs.Sides.{ReceiveQueue, receive_queue_of}
+use Rattle.register_laws.proofs.Switches.{receive-switched, receive-asked}
 use Rattle.nic_device.specs.Outcome.{Outcome}
 use Rattle.nic_device.specs.Receive.{receive_failed, slot_done}
 use Rattle.nic_device.specs.Sound.{IsSound}

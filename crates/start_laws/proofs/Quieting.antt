@@ -4,8 +4,8 @@ use Rattle.std.specs.Prelude.{IsTrue}
 use Rattle.reg_table.specs.declared.rows.RowId.{RowId}
 use Rattle.reg_table.specs.declared.rows.RowId.TheVariants.{Rxdctl, Txdctl}
 use Rattle.register_file.specs.Bits.{has_bit}
-use Rattle.register_file.specs.Sides.{ReceiveQueue, receive_queue_of, transmit_queue_of}
 use Rattle.register_file.specs.Columns.{place}
+use Rattle.register_laws.specs.Sides.{ReceiveQueue, receive_queue_of, transmit_queue_of}
 use Rattle.nic_device.specs.State.{State, new_state}
 use Rattle.nic_device.specs.Step.{after}
 use Rattle.nic_device.specs.declared.event.Event.TheVariants as event

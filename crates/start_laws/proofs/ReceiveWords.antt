@@ -6,15 +6,15 @@ use Rattle.reg_table.specs.declared.rows.RowId.{RowId}
 use Rattle.reg_table.specs.declared.rows.RowId.TheVariants.{Rdbal, Rdbah, Rdlen, Rdh, Rdt, Srrctl, Rxdctl}
 use Rattle.register_file.specs.Access.{asks_reset, asks_pool_reset}
 use Rattle.register_file.specs.Columns.{place}
-use Rattle.register_file.specs.Laws.{after_write, word_after}
 use Rattle.register_file.specs.Owner.{owner_of}
 use Rattle.register_file.specs.Queue.{is_on, ring_of}
 use Rattle.register_file.specs.Registers.{Registers, word_of}
-use Rattle.register_file.specs.Sides.{receive_queue_of}
 use Rattle.register_file.specs.declared.dir.Dir.TheVariants.{Rx, Tx}
 use Rattle.register_file.specs.declared.owner.Owner.TheVariants as owner
-use Rattle.register_file.proofs.SideWords.{receive-written}
-use Rattle.register_file.proofs.Switches.{receive-asked}
+use Rattle.register_laws.specs.Laws.{after_write, word_after}
+use Rattle.register_laws.specs.Sides.{receive_queue_of}
+use Rattle.register_laws.proofs.SideWords.{receive-written}
+use Rattle.register_laws.proofs.Switches.{receive-asked}
 use Rattle.nic_device.specs.Access.{named_written}
 use Rattle.nic_device.specs.Outcome.{gives}
 use Rattle.nic_device.specs.Sound.{IsSound}

@@ -5,7 +5,7 @@ use Rattle.std.proofs.lemmas.Bool.{and_parts, both_ways, eq-eqb, eqb-true, leb-t
 use Rattle.std.proofs.lemmas.List.{append-nil}
 use Rattle.dma_arena.specs.Numbers.{Numbers}
 use Rattle.reg_table.specs.declared.rows.RowId.TheVariants.{Rdt, Rxdctl, Tdt}
-use Rattle.register_file.specs.Sides.{TransmitQueue}
+use Rattle.register_laws.specs.Sides.{TransmitQueue}
 use Rattle.register_file.specs.declared.dir.Dir.TheVariants.{Rx, Tx}
 use Rattle.nic_device.specs.Sound.{IsSound}
 use Rattle.nic_device.specs.State.{State, new_state}

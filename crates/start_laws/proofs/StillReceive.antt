@@ -5,9 +5,9 @@ use Rattle.std.proofs.lemmas.Bool.{both_ways, cases_eq, ne_eqb}
 use Rattle.dma_arena.specs.Block.{Block}
 use Rattle.register_file.specs.Queue.{switched}
 use Rattle.register_file.specs.Registers.{is_wanted}
-use Rattle.register_file.specs.Sides.{ReceiveQueue, receive_queue_of}
 use Rattle.register_file.specs.declared.dir.Dir.TheVariants.{Rx}
-use Rattle.register_file.proofs.Switches.{receive-switched}
+use Rattle.register_laws.specs.Sides.{ReceiveQueue, receive_queue_of}
+use Rattle.register_laws.proofs.Switches.{receive-switched}
 use Rattle.nic_device.specs.Outcome.{Outcome}
 use Rattle.nic_device.specs.Receive.{is_empty}
 use Rattle.nic_device.specs.Sound.{IsSound}

@@ -5,9 +5,9 @@ use Rattle.std.proofs.lemmas.List.{get_or-set_same}
 use Rattle.register_file.specs.Queue.{switched}
 use Rattle.register_file.specs.Registers.{is_wanted}
 use Rattle.register_file.specs.Settings.{is_stopped, can_transmit}
-use Rattle.register_file.specs.Sides.{TransmitQueue, transmit_queue_of}
 use Rattle.register_file.specs.declared.dir.Dir.TheVariants.{Tx}
-use Rattle.register_file.proofs.Switches.{transmit-switched}
+use Rattle.register_laws.specs.Sides.{TransmitQueue, transmit_queue_of}
+use Rattle.register_laws.proofs.Switches.{transmit-switched}
 use Rattle.nic_device.specs.Outcome.{Outcome, gives}
 use Rattle.nic_device.specs.Receive.{is_empty}
 use Rattle.nic_device.specs.Sound.{IsSound}

@@ -8,15 +8,15 @@ use Rattle.reg_table.specs.declared.rows.RowId.{RowId}
 use Rattle.reg_table.specs.declared.rows.RowId.TheVariants.{Tdbal, Tdbah, Tdlen, Tdh, Tdt, Tdwbal, Tdwbah, Txdctl}
 use Rattle.register_file.specs.Access.{asks_reset, asks_pool_reset}
 use Rattle.register_file.specs.Columns.{place}
-use Rattle.register_file.specs.Laws.{after_write, word_after}
 use Rattle.register_file.specs.Owner.{owner_of}
 use Rattle.register_file.specs.Queue.{is_on, ring_of}
 use Rattle.register_file.specs.Registers.{Registers, word_of}
-use Rattle.register_file.specs.Sides.{transmit_queue_of}
 use Rattle.register_file.specs.declared.dir.Dir.TheVariants.{Rx, Tx}
 use Rattle.register_file.specs.declared.owner.Owner.TheVariants as owner
-use Rattle.register_file.proofs.SideWords.{transmit-written}
-use Rattle.register_file.proofs.Switches.{transmit-asked}
+use Rattle.register_laws.specs.Laws.{after_write, word_after}
+use Rattle.register_laws.specs.Sides.{transmit_queue_of}
+use Rattle.register_laws.proofs.SideWords.{transmit-written}
+use Rattle.register_laws.proofs.Switches.{transmit-asked}
 use Rattle.nic_device.specs.Access.{named_written}
 use Rattle.nic_device.specs.Outcome.{gives}
 use Rattle.nic_device.specs.Sound.{IsSound}

@@ -3,7 +3,7 @@ use Rattle.std.proofs.Common.{◌≡◌, ℕ, false, sym, ap, ◌∙◌}
 use Rattle.reg_table.specs.declared.place.Place.{Place}
 use Rattle.reg_table.specs.declared.rows.RowId.{RowId}
 use Rattle.register_file.specs.Columns.{place}
-use Rattle.register_file.specs.Laws.{after_write}
+use Rattle.register_laws.specs.Laws.{after_write}
 use Rattle.nic_device.specs.Access.{named_written}
 use Rattle.nic_device.specs.Named.{named}
 use Rattle.nic_device.specs.Outcome.{Outcome, gives}

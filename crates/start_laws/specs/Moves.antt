@@ -6,7 +6,7 @@ use Rattle.reg_table.specs.declared.rows.RowId.TheVariants.{Rxdctl, Txdctl, Tdt}
 use Rattle.register_file.specs.Bits.{has_bit}
 use Rattle.register_file.specs.Columns.{place}
 use Rattle.register_file.specs.Settings.{frame_limit}
-use Rattle.register_file.specs.Sides.{ReceiveQueue, TransmitQueue}
+use Rattle.register_laws.specs.Sides.{ReceiveQueue, TransmitQueue}
 use Rattle.nic_device.specs.Named.{named}
 use Rattle.nic_device.specs.Receive.{is_empty}
 use Rattle.nic_device.specs.Sound.{IsSound}

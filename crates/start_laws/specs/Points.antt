@@ -3,7 +3,7 @@ use Rattle.std.specs.Prelude.{ℕ, ◌≡◌, ◌≢◌, ◌<◌, ◌⊎◌, ⊤
 use Rattle.reg_table.specs.declared.rows.RowId.{RowId}
 use Rattle.reg_table.specs.declared.rows.RowId.TheVariants.{Rxdctl, Txdctl}
 use Rattle.register_file.specs.Settings.{frame_limit}
-use Rattle.register_file.specs.Sides.{ReceiveQueue, TransmitQueue}
+use Rattle.register_laws.specs.Sides.{ReceiveQueue, TransmitQueue}
 use Rattle.nic_device.specs.State.{State}
 use Rattle.device_lock.specs.Alone.{Blocks, lent_by}
 use Rattle.device_lock.specs.declared.alone.Watched.{Watched}

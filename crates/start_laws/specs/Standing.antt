@@ -5,7 +5,7 @@ use Rattle.dma_arena.specs.Block.{Block, zero_block}
 use Rattle.dma_arena.specs.Memory.{Memory}
 use Rattle.register_file.specs.Pools.{mode_in}
 use Rattle.register_file.specs.Settings.{frame_limit}
-use Rattle.register_file.specs.Sides.{ReceiveQueue, TransmitQueue, receive_queue_of, transmit_queue_of}
+use Rattle.register_laws.specs.Sides.{ReceiveQueue, TransmitQueue, receive_queue_of, transmit_queue_of}
 use Rattle.nic_device.specs.Receive.{is_empty}
 use Rattle.nic_device.specs.Sound.{IsEvent, IsSound}
 use Rattle.nic_device.specs.State.{State}

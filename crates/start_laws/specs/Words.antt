@@ -8,8 +8,8 @@ use Rattle.register_file.specs.Columns.{place}
 use Rattle.register_file.specs.Pools.{mode_in}
 use Rattle.register_file.specs.Queue.{is_on}
 use Rattle.register_file.specs.Settings.{frame_limit}
-use Rattle.register_file.specs.Sides.{ReceiveQueue, TransmitQueue, receive_queue_of, transmit_queue_of}
 use Rattle.register_file.specs.declared.dir.Dir.TheVariants.{Rx, Tx}
+use Rattle.register_laws.specs.Sides.{ReceiveQueue, TransmitQueue, receive_queue_of, transmit_queue_of}
 use Rattle.nic_device.specs.Named.{named}
 use Rattle.nic_device.specs.Sound.{IsSound}
 use Rattle.nic_device.specs.State.{State}

@@ -3,9 +3,9 @@ use Rattle.std.proofs.Common.{◌≡◌, ℕ, ◌+◌, ◌<◌, ◌≤◌, inl, 
 use Rattle.std.proofs.lemmas.Bool.{cases_eq}
 use Rattle.reg_table.specs.declared.rows.RowId.TheVariants.{Tdt, Ctrl, Hlreg0, Maxfrs, GcrExt}
 use Rattle.register_file.specs.Columns.{place}
-use Rattle.register_file.specs.Laws.{after_write}
+use Rattle.register_laws.specs.Laws.{after_write}
 use Rattle.register_file.specs.Queue.{ring_of}
-use Rattle.register_file.specs.Sides.{TransmitQueue, transmit_queue_of}
+use Rattle.register_laws.specs.Sides.{TransmitQueue, transmit_queue_of}
 use Rattle.register_file.specs.declared.dir.Dir.TheVariants.{Tx}
 use Rattle.nic_device.specs.Named.{named}
 use Rattle.nic_device.specs.Outcome.{Outcome, gives}

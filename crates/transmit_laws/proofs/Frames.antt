@@ -6,7 +6,7 @@ use Rattle.std.proofs.lemmas.List.{drop_at, drop_all}
 use Rattle.dma_arena.specs.Memory.{write_at}
 use Rattle.dma_ring.specs.declared.ring.Ring.{Ring}
 use Rattle.tx_ring.specs.Report.{head_address, done_descriptor}
-use Rattle.register_file.specs.Sides.{transmit_queue_of}
+use Rattle.register_laws.specs.Sides.{transmit_queue_of}
 use Rattle.nic_device.specs.Outcome.{gives}
 use Rattle.nic_device.specs.State.{State}
 use Rattle.nic_device.specs.Step.{step_of}

@@ -5,10 +5,10 @@ use Rattle.std.proofs.lemmas.Nat.{and_mask}
 use Rattle.reg_table.specs.declared.rows.RowId.TheVariants.{Txdctl}
 use Rattle.register_file.specs.Bits.{has_bit}
 use Rattle.register_file.specs.Columns.{place}
-use Rattle.register_file.specs.Laws.{after_write}
 use Rattle.register_file.specs.Registers.{word_of}
-use Rattle.register_file.specs.Sides.{TransmitQueue}
-use Rattle.register_file.proofs.Switches.{transmit-asked}
+use Rattle.register_laws.specs.Laws.{after_write}
+use Rattle.register_laws.specs.Sides.{TransmitQueue}
+use Rattle.register_laws.proofs.Switches.{transmit-asked}
 use Rattle.nic_device.specs.Access.{named_read, named_written}
 use Rattle.nic_device.specs.Outcome.{Outcome, gives}
 use Rattle.nic_device.specs.Sound.{IsSound}

@@ -5,7 +5,7 @@ use Rattle.std.proofs.lemmas.Bool.{cases_eq, cases_lt, both_ways, eqb-false}
 use Rattle.dma_arena.specs.Block.{Block}
 use Rattle.dma_arena.specs.Memory.{Avoids}
 use Rattle.tx_ring.specs.Report.{report_length}
-use Rattle.register_file.specs.Sides.{transmit_queue_of}
+use Rattle.register_laws.specs.Sides.{transmit_queue_of}
 use Rattle.nic_device.specs.Footprint.{told_back}
 use Rattle.nic_device.specs.Outcome.{Outcome}
 use Rattle.nic_device.specs.Sound.{IsEvent, IsSound}

@@ -7,7 +7,7 @@ use Rattle.dma_arena.specs.Memory.{Memory, read_at}
 use Rattle.dma_arena.proofs.Bus.{get-remove_other}
 use Rattle.pmd_tx.specs.Sending.{Outgoing, Sender, no_packet, packet_at, slot_at, descriptor_at, asking, reaped}
 use Rattle.transmit_laws.specs.Agreeing.{IsLayout, IsSetUp, IsReady, IsPosted, IsCounted, Shows, bytes_of, kept_in}
-use Rattle.register_file.specs.Sides.{TransmitQueue}
+use Rattle.register_laws.specs.Sides.{TransmitQueue}
 use Rattle.transmit_laws.proofs.Blocks.{ready-same, slot-same}
 use Rattle.transmit_laws.proofs.Slots.{slot-later, descriptor-later}
 

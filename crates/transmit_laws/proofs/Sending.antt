@@ -5,7 +5,7 @@ use Rattle.std.proofs.lemmas.Bool.{eq-eqb, lt-ltb, cases_Bool}
 use Rattle.std.proofs.lemmas.List.{append-nil, drop_more, get_or-set_same}
 use Rattle.tx_ring.specs.Report.{head_address, new_head}
 use Rattle.register_file.specs.Settings.{is_stopped, can_transmit}
-use Rattle.register_file.specs.Sides.{TransmitQueue, transmit_queue_of}
+use Rattle.register_laws.specs.Sides.{TransmitQueue, transmit_queue_of}
 use Rattle.nic_device.specs.Outcome.{Outcome, gives}
 use Rattle.nic_device.specs.Receive.{is_empty}
 use Rattle.nic_device.specs.State.{State}

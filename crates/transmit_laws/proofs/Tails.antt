@@ -7,12 +7,12 @@ use Rattle.std.proofs.lemmas.Nat.{and_mask, and_comm, or_mod, and_mod, or_shifte
 use Rattle.reg_table.specs.declared.rows.RowId.TheVariants.{Tdt}
 use Rattle.register_file.specs.Bits.{merged}
 use Rattle.register_file.specs.Columns.{place}
-use Rattle.register_file.specs.Laws.{HasShape, after_write}
 use Rattle.register_file.specs.Queue.{ring_of}
 use Rattle.register_file.specs.Registers.{Registers, word_of}
-use Rattle.register_file.specs.Sides.{transmit_queue_of}
 use Rattle.register_file.specs.declared.dir.Dir.TheVariants.{Tx}
-use Rattle.register_file.proofs.SideWords.{transmit-written}
+use Rattle.register_laws.specs.Laws.{HasShape, after_write}
+use Rattle.register_laws.specs.Sides.{transmit_queue_of}
+use Rattle.register_laws.proofs.SideWords.{transmit-written}
 
 merged-low : (old new : ℕ) → new < 65536 → merged 0xFFFF old new % 2 ^ 16 ≡ new
 merged-low old new small =

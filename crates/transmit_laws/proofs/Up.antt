@@ -4,9 +4,9 @@ use Rattle.std.proofs.lemmas.Bool.{cases_Bool}
 use Rattle.dma_arena.specs.Block.{Block}
 use Rattle.register_file.specs.Queue.{switched}
 use Rattle.register_file.specs.Registers.{is_wanted}
-use Rattle.register_file.specs.Sides.{TransmitQueue}
+use Rattle.register_laws.specs.Sides.{TransmitQueue}
 use Rattle.register_file.specs.declared.dir.Dir.TheVariants.{Tx}
-use Rattle.register_file.proofs.Switches.{transmit-switched}
+use Rattle.register_laws.proofs.Switches.{transmit-switched}
 use Rattle.nic_device.specs.Outcome.{Outcome}
 use Rattle.nic_device.specs.Sound.{IsSound}
 use Rattle.nic_device.specs.State.{State}

@@ -4,7 +4,7 @@ use Rattle.dma_arena.specs.Memory.{Memory, has_block, read_at}
 use Rattle.reg_table.specs.declared.rows.RowId.TheVariants.{Tdt}
 use Rattle.register_file.specs.Columns.{place}
 use Rattle.register_file.specs.Settings.{frame_limit}
-use Rattle.register_file.specs.Sides.{TransmitQueue, transmit_queue_of}
+use Rattle.register_laws.specs.Sides.{TransmitQueue, transmit_queue_of}
 use Rattle.tx_ring.specs.Report.{done_descriptor}
 use Rattle.nic_device.specs.Named.{named}
 use Rattle.nic_device.specs.Sound.{IsSound}

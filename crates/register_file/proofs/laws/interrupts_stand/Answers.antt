@@ -1,6 +1,0 @@
-use Rattle.register_file.proofs.Standing.{interrupts_of-with_interrupts}
-use Rattle.register_file.proofs.laws.interrupts_stand.Goals as goal
-
-pub returns : goal.returns
-returns c =
-    λ r h s consistent b causes enabled told. interrupts_of-with_interrupts r h s b consistent causes enabled told

@@ -1,8 +1,0 @@
-use Rattle.register_file.proofs.PoolsApart.{pools_miss, agreement_stands}
-use Rattle.register_file.proofs.laws.pools_have_nothing_in_common.Goals as goal
-
-pub returns-clause-apart : goal.returns-clause-apart
-returns-clause-apart c = pools_miss
-
-pub returns-clause-stands : goal.returns-clause-stands
-returns-clause-stands c = agreement_stands

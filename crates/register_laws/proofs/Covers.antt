@@ -1,0 +1,168 @@
+-- Which footprints have all that others have, and which have nothing of others.
+use Rattle.std.proofs.Common.{◌≡◌, Bool, true, false, refl, ap, sym, ◌∙◌, subst, inl, inr}
+use Rattle.std.proofs.lemmas.Bool.{both_ways, or_cases, or_left, or_right}
+use Rattle.reg_table.specs.Rows.{row_of}
+use Rattle.reg_table.specs.declared.place.Place.{Place}
+use Rattle.reg_table.specs.declared.kind.Kind.{Kind}
+use Rattle.reg_table.specs.declared.kind.Kind.TheVariants as kind
+use Rattle.intr_unit.specs.declared.group.Group.{Group}
+use Rattle.intr_unit.specs.declared.group.Group.TheVariants.{Pf, Vf}
+use Rattle.register_file.specs.Columns.{place}
+use Rattle.register_file.specs.Groups.{cause_row, mask_row, index_of}
+use Rattle.register_file.specs.Owner.{owner_of, is_owner}
+use Rattle.register_file.specs.declared.owner.Owner.{Owner}
+use Rattle.register_file.specs.declared.owner.Owner.TheVariants as owner
+use Rattle.register_laws.specs.Footprint.{Footprint, Covers, Misses, nothing, is_place, the_word, the_enable, of_owner, of_group, pending, pending_of, any_pending, is_pending, read_by, of_read, written_by, of_write}
+use Rattle.register_laws.proofs.Owners.{is_group-itself, is_owner-itself, is_owner-same, is_place-itself, is_place-same}
+
+-- what follows from a test that fails fails
+pub fails : (b c : Bool) → (b ≡ true → c ≡ true) → c ≡ false → b ≡ false
+fails true c follows off = absurd (both_ways c off (follows refl))
+fails false c follows off = refl
+
+pub covers-trans : (f g h : Footprint) → Covers f g → Covers g h → Covers f h
+covers-trans f g h wide narrow = record {
+  words = λ p is. wide.words p (narrow.words p is);
+  wanted = λ dir queue is. wide.wanted dir queue (narrow.wanted dir queue is);
+  told = λ i is. wide.told i (narrow.told i is);
+}
+
+-- a footprint within another misses what that misses
+pub misses-narrower : (f e g : Footprint) → Covers f e → Misses f g → Misses e g
+misses-narrower f e g has none = record {
+  words = λ p is. fails (e.words p) (f.words p) (has.words p) (none.words p is);
+  wanted =
+      λ dir queue is. fails (e.wanted dir queue) (f.wanted dir queue) (has.wanted dir queue) (none.wanted dir queue is);
+  told = λ h is. fails (e.told h) (f.told h) (has.told h) (none.told h is);
+}
+
+pub misses-within : (f g h : Footprint) → Covers g h → Misses f g → Misses f h
+misses-within f g h has none = record {
+  words = λ p is. none.words p (has.words p is);
+  wanted = λ dir queue is. none.wanted dir queue (has.wanted dir queue is);
+  told = λ i is. none.told i (has.told i is);
+}
+
+pub misses-nothing : (g : Footprint) → Misses nothing g
+misses-nothing g = record { words = λ p is. refl; wanted = λ dir queue is. refl; told = λ h is. refl }
+
+-- two owners have nothing in common
+none_shared : (o other third : Owner) → is_owner o other ≡ false → is_owner other third ≡ true
+    → is_owner o third ≡ false
+none_shared o other third n is = ap (is_owner o) (sym (is_owner-same other third is)) ∙ n
+
+pub misses-owner : (o other : Owner) → is_owner o other ≡ false → Misses (of_owner o) (of_owner other)
+misses-owner o other n = record {
+  words = λ p is. none_shared o other (owner_of p) n is;
+  wanted = λ dir queue is. none_shared o other (owner.Side dir queue) n is;
+  told = λ g is. none_shared o other (owner.Group g) n is;
+}
+
+-- what is of a place is its owner's
+pub covers-nothing : (f : Footprint) → Covers f nothing
+covers-nothing f = record { words = λ p is. cc; wanted = λ dir queue is. cc; told = λ g is. cc }
+
+owned : (p q : Place) → is_place p q ≡ true → is_owner (owner_of p) (owner_of q) ≡ true
+owned p q is =
+    ap (λ (x : Place). is_owner (owner_of p) (owner_of x)) (sym (is_place-same p q is)) ∙ is_owner-itself (owner_of p)
+
+pub covers-the_word : (p : Place) → Covers (of_owner (owner_of p)) (the_word p)
+covers-the_word p = record { words = owned p; wanted = λ dir queue is. cc; told = λ g is. cc }
+
+pub covers-the_enable : (p : Place) → Covers (of_owner (owner_of p)) (the_enable p)
+covers-the_enable p = record { words = owned p; wanted = λ dir queue is. is; told = λ g is. cc }
+
+-- the places of what is pending
+pub cause_is_pending : (g : Group) → (pending g).words (place (cause_row g) (index_of g)) ≡ true
+cause_is_pending g =
+    or_left _ (is_place (place (mask_row g) (index_of g)) _) (is_place-itself (place (cause_row g) (index_of g)))
+
+pub mask_is_pending : (g : Group) → (pending g).words (place (mask_row g) (index_of g)) ≡ true
+mask_is_pending g =
+    or_right (is_place (place (cause_row g) (index_of g)) _) _ (is_place-itself (place (mask_row g) (index_of g)))
+
+cause_owner : (g : Group) → owner_of (place (cause_row g) (index_of g)) ≡ owner.Group g
+cause_owner Pf = refl
+cause_owner (Vf v) = refl
+
+mask_owner : (g : Group) → owner_of (place (mask_row g) (index_of g)) ≡ owner.Group g
+mask_owner Pf = refl
+mask_owner (Vf v) = refl
+
+-- a place with what is pending is the place of the causes or that of the masks
+pending_cases : (P : Place → Type 0) (g : Group) (p : Place) → (pending g).words p ≡ true
+    → P (place (cause_row g) (index_of g)) → P (place (mask_row g) (index_of g)) → P p
+pending_cases P g p is cause mask =
+    elim (or_cases (is_place (place (cause_row g) (index_of g)) p) (is_place (place (mask_row g) (index_of g)) p) is) as
+    (λ _. P p) [
+      | inl e ↦ subst P (is_place-same _ p e) cause
+      | inr e ↦ subst P (is_place-same _ p e) mask
+    ]
+
+pub covers-pending : (g : Group) → Covers (of_group g) (pending g)
+covers-pending g = record {
+  words = λ p is. pending_cases (λ q. is_owner (owner.Group g) (owner_of q) ≡ true) g p is
+      (ap (is_owner (owner.Group g)) (cause_owner g) ∙ is_group-itself g)
+      (ap (is_owner (owner.Group g)) (mask_owner g) ∙ is_group-itself g);
+  wanted = λ dir queue is. cc;
+  told = λ h is. is;
+}
+
+pub cause_pending : (g : Group) → is_pending (row_of (cause_row g)).kind ≡ true
+cause_pending Pf = refl
+cause_pending (Vf v) = refl
+
+pub mask_pending : (g : Group) → is_pending (row_of (mask_row g)).kind ≡ true
+mask_pending Pf = refl
+mask_pending (Vf v) = refl
+
+pub covers-any_pending : (g : Group) → Covers any_pending (pending g)
+covers-any_pending g = record {
+  words = λ p is. pending_cases (λ q. is_pending (row_of q.row).kind ≡ true) g p is (cause_pending g) (mask_pending g);
+  wanted = λ dir queue is. cc;
+  told = λ h is. refl;
+}
+
+covers-pending_of : (o : Owner) → Covers (of_owner o) (pending_of o)
+covers-pending_of (owner.Group g) = covers-pending g
+covers-pending_of other = covers-nothing _
+
+covers-read_by : (k : Kind) (p : Place) → Covers (of_owner (owner_of p)) (read_by k p)
+covers-read_by kind.Rc p = covers-the_word p
+covers-read_by kind.Cause p = covers-pending_of (owner_of p)
+covers-read_by other p = covers-nothing _
+
+-- what a write may change: nothing, the word, the enable or the interrupts
+pub written_by_cases : (P : Footprint → Type 0) (k : Kind) (p : Place) → P nothing → P (the_word p) → P (the_enable p)
+    → P (pending_of (owner_of p)) → P (written_by k p)
+written_by_cases P kind.Rw p none word enable interrupts = word
+written_by_cases P kind.Ro p none word enable interrupts = none
+written_by_cases P kind.Calc p none word enable interrupts = none
+written_by_cases P kind.Rc p none word enable interrupts = none
+written_by_cases P kind.Held p none word enable interrupts = word
+written_by_cases P kind.Enable p none word enable interrupts = enable
+written_by_cases P kind.Ctrl p none word enable interrupts = word
+written_by_cases P kind.Vreset p none word enable interrupts = none
+written_by_cases P kind.Eerd p none word enable interrupts = word
+written_by_cases P k p none word enable interrupts = interrupts
+
+-- an access of a place changes nothing but what its owner has
+pub covers-of_read : (p : Place) → Covers (of_owner (owner_of p)) (of_read p)
+covers-of_read p = covers-read_by (row_of p.row).kind p
+
+pub covers-of_write : (p : Place) → Covers (of_owner (owner_of p)) (of_write p)
+covers-of_write p =
+    written_by_cases (Covers (of_owner (owner_of p))) (row_of p.row).kind p (covers-nothing _) (covers-the_word p)
+    (covers-the_enable p) (covers-pending_of (owner_of p))
+
+-- a place that is neither of causes nor of masks isn't pending, and only a write of it changes its word
+module _ (q : Place) (steady : is_pending (row_of q.row).kind ≡ false) where
+  pub none_pending : (g : Group) → (pending g).words q ≡ false
+  none_pending g = fails ((pending g).words q) (any_pending.words q) ((covers-any_pending g).words q) steady
+
+  pub none_pending_of : (o : Owner) → (pending_of o).words q ≡ false
+  none_pending_of (owner.Group g) = none_pending g
+  none_pending_of other = refl
+
+  pub none_written_by : (k : Kind) (p : Place) → is_place p q ≡ false → (written_by k p).words q ≡ false
+  none_written_by k p n = written_by_cases (λ f. f.words q ≡ false) k p refl n n (none_pending_of (owner_of p))

@@ -1,0 +1,57 @@
+-- Each access and each step of a group puts settled interrupts into its registers.
+use Rattle.std.proofs.Common.{◌≡◌, ℕ, Bool, true, false, cond, Option, Some, None, refl}
+use Rattle.std.specs.Prelude.{is_some}
+use Rattle.reg_table.specs.declared.kind.Kind.{Kind}
+use Rattle.reg_table.specs.declared.kind.Kind.TheVariants as kind
+use Rattle.reg_table.specs.declared.rows.RowId.TheVariants.{IvarMisc}
+use Rattle.intr_unit.specs.Interrupts.{Interrupts, after_message_of, next_bit}
+use Rattle.intr_unit.specs.declared.group.Group.{Group}
+use Rattle.register_file.specs.Access.{group_read, interrupts_written}
+use Rattle.register_file.specs.Groups.{cause_row, mask_row, auto_clear_row, auto_mask_row, index_of, told_by, interrupts_of, with_interrupts, clears_others, masks_by_message, auto_masks, causes_raised, message_of, message_made}
+use Rattle.register_file.specs.Registers.{Registers, word_of}
+use Rattle.register_laws.proofs.Settled.{IsSettled, settled-of_words, settled-raised, settled-after_read, settled-after_write_one, settled-after_mask_set, settled-after_mask_clear, settled-after_message_of}
+
+-- the registers are as they were, or have other interrupts of the group
+pub data GroupChange (r : Registers) (g : Group) : Registers → Type 0 where
+  kept : GroupChange r g r
+  changed : (made : Interrupts) → made.group ≡ g → IsSettled made → GroupChange r g (with_interrupts r made)
+
+pub settled : (r : Registers) (g : Group) → IsSettled (interrupts_of r g)
+settled r g =
+    settled-of_words g (word_of r (cause_row g) (index_of g)) (word_of r (mask_row g) (index_of g))
+    (word_of r (auto_clear_row g) (index_of g)) (word_of r (auto_mask_row g) (index_of g)) (told_by r g)
+
+pub change-group_read : (r : Registers) (g : Group) → GroupChange r g (group_read r g)
+change-group_read r g =
+    changed _ refl (settled-after_read (interrupts_of r g) (settled r g) (clears_others r) (auto_masks r g))
+
+pub change-interrupts_written : (k : Kind) (r : Registers) (g : Group) (bits : ℕ)
+    → GroupChange r g (interrupts_written k r g bits)
+change-interrupts_written kind.Cause r g bits =
+    changed _ refl (settled-after_write_one (interrupts_of r g) (settled r g) bits (auto_masks r g))
+change-interrupts_written kind.Ones r g bits =
+    changed _ refl (settled-after_mask_set (interrupts_of r g) (settled r g) bits)
+change-interrupts_written kind.Set r g bits =
+    changed _ refl (settled-raised (interrupts_of r g) (settled r g) bits (auto_masks r g))
+change-interrupts_written kind.Clear r g bits =
+    changed _ refl (settled-after_mask_clear (interrupts_of r g) (settled r g) bits)
+change-interrupts_written other r g bits = kept
+
+pub change-causes_raised : (r : Registers) (g : Group) (bits : ℕ) → GroupChange r g (causes_raised r g bits)
+change-causes_raised r g bits = changed _ refl (settled-raised (interrupts_of r g) (settled r g) bits false)
+
+group_told : (s : Interrupts) (eiame : Bool) (next : Option ℕ) → (after_message_of s eiame next).group ≡ s.group
+group_told s eiame None = refl
+group_told s eiame (Some bit) = refl
+
+change-if : (b : Bool) (r s : Registers) (g : Group) → GroupChange r g s → GroupChange r g (cond b s r)
+change-if true r s g change = change
+change-if false r s g change = kept
+
+pub change-message_made : (r : Registers) (g : Group) → GroupChange r g (message_made r g)
+change-message_made r g =
+    let s : Interrupts = interrupts_of r g in
+    let next : Option ℕ = next_bit s (word_of r IvarMisc 0) in
+    change-if (is_some (message_of r g)) r _ g
+    (changed (after_message_of s (masks_by_message r) next) (group_told s (masks_by_message r) next)
+    (settled-after_message_of s (settled r g) (masks_by_message r) next))

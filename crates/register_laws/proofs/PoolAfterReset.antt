@@ -1,0 +1,60 @@
+-- Any registers agree of a pool after its reset.
+use Rattle.std.proofs.Common.{◌≡◌, ℕ, ◌<◌, false, sym, ◌∙◌, inl, inr, arith}
+use Rattle.std.proofs.lemmas.Bool.{cases_lt}
+use Rattle.std.proofs.lemmas.List.{get_or_past}
+use Rattle.reg_table.specs.Rows.{row_of}
+use Rattle.reg_table.specs.declared.place.Place.{Place}
+use Rattle.intr_unit.specs.declared.group.Group.{Group}
+use Rattle.intr_unit.specs.declared.group.Group.TheVariants.{Pf, Vf}
+use Rattle.register_file.specs.Groups.{index_of, told_by}
+use Rattle.register_file.specs.PoolReset.{pool_reset}
+use Rattle.register_file.specs.Registers.{Registers, is_wanted}
+use Rattle.register_file.specs.Words.{word_at, row_words}
+use Rattle.register_file.specs.declared.dir.Dir.{Dir}
+use Rattle.register_file.specs.declared.dir.Dir.TheVariants.{Rx, Tx}
+use Rattle.register_laws.specs.Agreement.{PoolResetMakesAgreement}
+use Rattle.register_laws.specs.Sound.{HasShape}
+use Rattle.register_laws.proofs.PoolReset.{renewed-pool}
+
+-- what lies past the end is 0, or not wanted
+word_past : (r : Registers) → HasShape r → (p : Place) → (p.index < (row_of p.row).count → ⊥) → word_at r.words p ≡ 0
+word_past r h p out =
+    let short = h.has_indices p.row in
+    get_or_past (row_words r.words p.row) p.index 0 (omega arith)
+
+wanted_past : (r : Registers) → HasShape r → (dir : Dir) (queue : ℕ) → (queue < 128 → ⊥) → is_wanted r dir queue ≡ false
+wanted_past r h Rx queue out = let short = h.wanted_rx in get_or_past r.wanted_rx queue false (omega arith)
+wanted_past r h Tx queue out = let short = h.wanted_tx in get_or_past r.wanted_tx queue false (omega arith)
+
+told_past : (r : Registers) → HasShape r → (g : Group) → (index_of g < 64 → ⊥) → told_by r g ≡ 0
+told_past r h Pf out = absurd (out (omega arith))
+told_past r h (Vf v) out = let short = h.told_vf in get_or_past r.told_vf v 0 (omega arith)
+
+pub agree-reset : PoolResetMakesAgreement
+agree-reset mode v a b ha hb =
+    let left = renewed-pool a mode v in
+    let right = renewed-pool b mode v in
+    let new_a : Registers = pool_reset mode v a in
+    let new_b : Registers = pool_reset mode v b in
+    record {
+      words = λ p is. elim (cases_lt p.index (row_of p.row).count) as
+          (λ _. word_at new_a.words p ≡ word_at new_b.words p) [
+            | inl inside ↦ left.words ha p is inside ∙ sym (right.words hb p is inside)
+            | inr past ↦
+                let out : p.index < (row_of p.row).count → ⊥ = λ h. omega arith in
+                word_past new_a (left.shape ha) p out ∙ sym (word_past new_b (right.shape hb) p out)
+          ];
+      wanted = λ dir queue is. elim (cases_lt queue 128) as
+          (λ _. is_wanted new_a dir queue ≡ is_wanted new_b dir queue) [
+            | inl inside ↦ left.wanted ha dir queue is inside ∙ sym (right.wanted hb dir queue is inside)
+            | inr past ↦
+                let out : queue < 128 → ⊥ = λ h. omega arith in
+                wanted_past new_a (left.shape ha) dir queue out ∙ sym (wanted_past new_b (right.shape hb) dir queue out)
+          ];
+      told = λ g is. elim (cases_lt (index_of g) 64) as (λ _. told_by new_a g ≡ told_by new_b g) [
+        | inl inside ↦ left.told ha g is inside ∙ sym (right.told hb g is inside)
+        | inr past ↦
+            let out : index_of g < 64 → ⊥ = λ h. omega arith in
+            told_past new_a (left.shape ha) g out ∙ sym (told_past new_b (right.shape hb) g out)
+      ];
+    }

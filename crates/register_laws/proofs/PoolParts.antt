@@ -1,0 +1,135 @@
+-- What a reset of a pool does, part by part.
+use Rattle.std.proofs.Common.{◌≡◌, ℕ, ◌/◌, Bool, true, false, ◌==◌, ◌&&◌, ◌||◌, List, Option, Some, None, refl, ap, ◌∙◌}
+use Rattle.std.specs.Prelude.{fold}
+use Rattle.std.specs.List.{range_with_len}
+use Rattle.std.proofs.Math.Bool.{or-false}
+use Rattle.reg_table.specs.Rows.{row_of}
+use Rattle.reg_table.specs.declared.bank.Bank.{Bank}
+use Rattle.reg_table.specs.declared.bank.Bank.TheVariants as bank
+use Rattle.reg_table.specs.declared.rows.RowId.{RowId}
+use Rattle.reg_table.specs.declared.rows.RowId.TheVariants as row
+use Rattle.intr_unit.specs.declared.group.Group.{Group}
+use Rattle.intr_unit.specs.declared.group.Group.TheVariants.{Vf}
+use Rattle.register_file.specs.Owner.{owner_in, is_owner, is_group}
+use Rattle.register_file.specs.PoolReset.{function_rows, side_rows, vector_rows, rows_reset, side_reset, queue_reset, vectors_reset, function_reset, queues_reset}
+use Rattle.register_file.specs.Registers.{Registers}
+use Rattle.register_file.specs.declared.dir.Dir.{Dir}
+use Rattle.register_file.specs.declared.dir.Dir.TheVariants.{Rx, Tx}
+use Rattle.register_file.specs.declared.owner.Owner.TheVariants as owner
+use Rattle.register_laws.specs.Footprint.{Footprint, nothing, either, of_owner, of_side}
+use Rattle.register_laws.proofs.Renewed.{IsRenewed, IsSame, any_of, wanted_of, told_of, renewed-refl, renewed-either, renewed-each, renewed-same, renewed-with_wanted, renewed-with_told}
+use Rattle.register_laws.proofs.RowsReset.{at_rows, has_row, rows_words, renewed-rows}
+
+-- what a pool has once
+abbrev pub is_own : Bank → Bool
+is_own bank.VfInterrupts = true
+is_own bank.Pool = true
+is_own bank.VfCounters = true
+is_own other = false
+
+abbrev pub of_function : ℕ → Footprint
+of_function v =
+    record {
+      words = λ p. is_own (row_of p.row).bank && v == p.index;
+      wanted = λ dir queue. false;
+      told = is_group (Vf v);
+    }
+
+own_row : (x : RowId) → has_row function_rows x ≡ is_own (row_of x).bank
+own_row row.Ctrl = refl
+own_row other = refl
+
+same_function : (v : ℕ) → IsSame (either (at_rows function_rows v) (told_of (Vf v))) (of_function v)
+same_function v = record {
+  words = λ p. or-false ((at_rows function_rows v).words p) ∙ rows_words function_rows v p
+      ∙ ap (λ b. b && v == p.index) (own_row p.row);
+  wanted = λ dir queue. refl;
+  told = λ g. refl;
+}
+
+pub renewed-function : (r : Registers) (v : ℕ) → IsRenewed (of_function v) r (function_reset r v)
+renewed-function r v =
+    let reset : Registers = rows_reset r function_rows v in
+    renewed-same (either (at_rows function_rows v) (told_of (Vf v))) (of_function v) r (function_reset r v)
+    (same_function v)
+    (renewed-either (at_rows function_rows v) (told_of (Vf v)) r reset (function_reset r v)
+    (renewed-rows function_rows r v) (renewed-with_told reset (Vf v)))
+
+-- a side of a queue
+side_row : (dir : Dir) (x : RowId) (queue index : ℕ)
+    → (has_row (side_rows dir) x && queue == index) ≡ is_owner (owner.Side dir queue) (owner_in (row_of x).bank index)
+side_row Rx row.Ctrl queue index = refl
+side_row Rx other queue index = refl
+side_row Tx row.Ctrl queue index = refl
+side_row Tx other queue index = refl
+
+none_wanted : (dir other : Dir) (queue number : ℕ) → (at_rows (side_rows dir) queue).wanted other number ≡ false
+none_wanted Rx other queue number = refl
+none_wanted Tx other queue number = refl
+
+none_told : (dir : Dir) (queue : ℕ) (g : Group) → (at_rows (side_rows dir) queue).told g ≡ false
+none_told Rx queue g = refl
+none_told Tx queue g = refl
+
+same_side : (dir : Dir) (queue : ℕ)
+    → IsSame (either (at_rows (side_rows dir) queue) (wanted_of dir queue)) (of_side dir queue)
+same_side dir queue = record {
+  words = λ p. or-false ((at_rows (side_rows dir) queue).words p) ∙ rows_words (side_rows dir) queue p
+      ∙ side_row dir p.row queue p.index;
+  wanted = λ other number. ap (λ b. b || is_owner (owner.Side dir queue) (owner.Side other number))
+      (none_wanted dir other queue number);
+  told = λ g. or-false _ ∙ none_told dir queue g;
+}
+
+renewed-side : (dir : Dir) (r : Registers) (queue : ℕ) → IsRenewed (of_side dir queue) r (side_reset dir r queue)
+renewed-side dir r queue =
+    let rows : List RowId = side_rows dir in
+    let reset : Registers = rows_reset r rows queue in
+    renewed-same (either (at_rows rows queue) (wanted_of dir queue)) (of_side dir queue) r (side_reset dir r queue)
+    (same_side dir queue)
+    (renewed-either (at_rows rows queue) (wanted_of dir queue) r reset (side_reset dir r queue)
+    (renewed-rows rows r queue) (renewed-with_wanted dir reset queue))
+
+-- the queues of a pool, and their vectors
+abbrev pub of_queue : ℕ → Footprint
+of_queue queue = either (of_side Rx queue) (of_side Tx queue)
+
+renewed-queue : (r : Registers) (queue : ℕ) → IsRenewed (of_queue queue) r (queue_reset r queue)
+renewed-queue r queue =
+    let received : Registers = side_reset Rx r queue in
+    renewed-either (of_side Rx queue) (of_side Tx queue) r received (queue_reset r queue) (renewed-side Rx r queue)
+    (renewed-side Tx received queue)
+
+abbrev pub of_vectors : ℕ → Footprint
+of_vectors index = of_owner (owner.Vectors index)
+
+vector_row : (x : RowId) (n index : ℕ)
+    → (has_row vector_rows x && n == index) ≡ is_owner (owner.Vectors n) (owner_in (row_of x).bank index)
+vector_row row.Ctrl n index = refl
+vector_row other n index = refl
+
+renewed-vectors : (r : Registers) (index : ℕ) → IsRenewed (of_vectors index) r (vectors_reset r index)
+renewed-vectors r index =
+    renewed-same (at_rows vector_rows index) (of_vectors index) r (vectors_reset r index)
+    (record {
+      words = λ p. rows_words vector_rows index p ∙ vector_row p.row index p.index;
+      wanted = λ dir queue. refl;
+      told = λ g. refl;
+    })
+    (renewed-rows vector_rows r index)
+
+abbrev pub of_queues : Option (ℕ × ℕ) → Footprint
+of_queues None = nothing
+of_queues (Some queues) =
+    either (any_of of_queue (range_with_len queues.0 queues.1))
+    (any_of of_vectors (range_with_len (queues.0 / 2) (queues.1 / 2)))
+
+pub renewed-queues : (r : Registers) (o : Option (ℕ × ℕ)) → IsRenewed (of_queues o) r (queues_reset r o)
+renewed-queues r None = renewed-refl r
+renewed-queues r (Some queues) =
+    let mine : List ℕ = range_with_len queues.0 queues.1 in
+    let words : List ℕ = range_with_len (queues.0 / 2) (queues.1 / 2) in
+    let reset : Registers = fold queue_reset r mine in
+    renewed-either (any_of of_queue mine) (any_of of_vectors words) r reset (fold vectors_reset reset words)
+    (renewed-each of_queue queue_reset renewed-queue mine r)
+    (renewed-each of_vectors vectors_reset renewed-vectors words reset)

@@ -1,0 +1,95 @@
+-- The places of a pool, and what accesses of them may change.
+use Rattle.std.proofs.Common.{◌≡◌, ℕ, ◌*◌, Bool, true, false, ◌==◌, refl, ap, sym, ◌∙◌, subst, inl, inr}
+use Rattle.std.proofs.lemmas.Bool.{or_cases, eqb-true}
+use Rattle.reg_table.specs.Rows.{row_of, number_of}
+use Rattle.reg_table.specs.declared.bank.Bank.{Bank}
+use Rattle.reg_table.specs.declared.bank.Bank.TheVariants as bank
+use Rattle.reg_table.specs.declared.place.Place.{Place}
+use Rattle.reg_table.specs.declared.rows.RowId.{RowId}
+use Rattle.reg_table.specs.declared.rows.RowId.TheVariants as row
+use Rattle.reg_table.proofs.FirstAddresses.{same_number}
+use Rattle.intr_unit.specs.declared.group.Group.{Group}
+use Rattle.intr_unit.specs.declared.group.Group.TheVariants.{Pf, Vf}
+use Rattle.vf_map.specs.Owner.{is_of_pool, is_of_pool_by, has_queue, is_shared}
+use Rattle.vf_map.specs.declared.mode.Mode.{Mode}
+use Rattle.register_file.specs.Access.{after_read}
+use Rattle.register_file.specs.Owner.{owner_in, owner_of, is_owner, is_group}
+use Rattle.register_file.specs.declared.dir.Dir.{Dir}
+use Rattle.register_file.specs.declared.owner.Owner.{Owner}
+use Rattle.register_file.specs.declared.owner.Owner.TheVariants as owner
+use Rattle.register_laws.specs.Agreement.{PoolReadsStayWithin, PoolWritesStayWithin, SharedReadsChangeNothing, SharedWritesChangeNothing}
+use Rattle.register_laws.specs.Footprint.{Covers, of_pool, of_owner, of_read, of_write}
+use Rattle.register_laws.specs.Laws.{after_write}
+use Rattle.register_laws.proofs.Covers.{covers-of_read, covers-of_write, covers-trans}
+use Rattle.register_laws.proofs.Owners.{is_group-itself, is_owner-same}
+
+-- the owner of a pool's place has nothing but what is the pool's
+pub group_of_pool : (b : Bank) (mode : Mode) (v i : ℕ) (g : Group) → is_of_pool_by b mode v i ≡ true
+    → owner_in b i ≡ owner.Group g → g ≡ Vf v
+group_of_pool bank.VfInterrupts mode v i g is e = let same : i ≡ v = eqb-true i v is in cc
+group_of_pool other mode v i g is e = cc
+
+pub side_of_pool : (b : Bank) (mode : Mode) (v i : ℕ) (dir : Dir) (queue : ℕ) → is_of_pool_by b mode v i ≡ true
+    → owner_in b i ≡ owner.Side dir queue → has_queue mode v queue ≡ true
+side_of_pool bank.Receive mode v i dir queue is e = let same : i ≡ queue = cc in ap (has_queue mode v) (sym same) ∙ is
+side_of_pool bank.Transmit mode v i dir queue is e = let same : i ≡ queue = cc in ap (has_queue mode v) (sym same) ∙ is
+side_of_pool other mode v i dir queue is e = cc
+
+-- whether an owner is the pool's, or of it
+owns : Mode → ℕ → Owner → Bool
+owns mode v owner.Device = false
+owns mode v owner.Counters = false
+owns mode v (owner.Side dir queue) = has_queue mode v queue
+owns mode v (owner.Group Pf) = false
+owns mode v (owner.Group (Vf w)) = w == v
+owns mode v (owner.Pool number) = number == v
+owns mode v (owner.VfCounters number) = number == v
+owns mode v (owner.Vectors index) = has_queue mode v (2 * index)
+
+owned : (b : Bank) (mode : Mode) (v i : ℕ) → is_of_pool_by b mode v i ≡ owns mode v (owner_in b i)
+unfolding owns
+owned bank.Device mode v i = refl
+owned other mode v i = refl
+
+-- two places with one owner are both of the pool, or neither
+one_owner : (b c : Bank) (mode : Mode) (v i j : ℕ) → is_owner (owner_in b i) (owner_in c j) ≡ true
+    → is_of_pool_by b mode v i ≡ true → is_of_pool_by c mode v j ≡ true
+one_owner b c mode v i j same is =
+    owned c mode v j ∙ ap (owns mode v) (sym (is_owner-same (owner_in b i) (owner_in c j) same))
+    ∙ sym (owned b mode v i) ∙ is
+
+covers-owner : (mode : Mode) (v : ℕ) (p : Place) → is_of_pool mode v p ≡ true
+    → Covers (of_pool mode v) (of_owner (owner_of p))
+covers-owner mode v p is = record {
+  words = λ q same. one_owner (row_of p.row).bank (row_of q.row).bank mode v p.index q.index same is;
+  wanted = λ dir queue same. side_of_pool (row_of p.row).bank mode v p.index dir queue is
+      (is_owner-same (owner_of p) (owner.Side dir queue) same);
+  told = λ g same.
+      let mine = group_of_pool (row_of p.row).bank mode v p.index g is
+      (is_owner-same (owner_of p) (owner.Group g) same) in
+      ap (is_group (Vf v)) mine ∙ is_group-itself (Vf v);
+}
+
+pub covers-read : PoolReadsStayWithin
+covers-read mode v p is =
+    covers-trans (of_pool mode v) (of_owner (owner_of p)) (of_read p) (covers-owner mode v p is) (covers-of_read p)
+
+pub covers-write : PoolWritesStayWithin
+covers-write mode v p is =
+    covers-trans (of_pool mode v) (of_owner (owner_of p)) (of_write p) (covers-owner mode v p is) (covers-of_write p)
+
+-- STATUS and LINKS
+pub shared_rows : (P : RowId → Type 0) → P row.Status → P row.Links → (p : Place) → is_shared p ≡ true → P p.row
+shared_rows P status links p is =
+    elim (or_cases (number_of p.row == number_of row.Status) (number_of p.row == number_of row.Links) is) as
+    (λ _. P p.row) [
+      | inl e ↦ subst P (sym (same_number p.row row.Status (eqb-true _ _ e))) status
+      | inr e ↦ subst P (sym (same_number p.row row.Links (eqb-true _ _ e))) links
+    ]
+
+pub shared-read : SharedReadsChangeNothing
+shared-read r p is = shared_rows (λ x. after_read (row_of x).kind r p ≡ r) refl refl p is
+
+pub shared-written : SharedWritesChangeNothing
+shared-written r p view word is =
+    shared_rows (λ x. after_write r (record { row = x; index = p.index }) view word ≡ r) refl refl p is

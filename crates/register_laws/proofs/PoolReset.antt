@@ -1,0 +1,123 @@
+-- The reset of a pool is one of all that is the pool's.
+use Rattle.std.proofs.Common.{◌≡◌, ℕ, ◌+◌, ◌*◌, ◌/◌, ◌<◌, Bool, true, false, cond, ◌==◌, nat_lt, ◌&&◌, ◌||◌, Option, Some, None, refl, sym, ◌∙◌, arith}
+use Rattle.std.proofs.lemmas.Bool.{ltb-true}
+use Rattle.std.proofs.Math.Bool.{or-false}
+use Rattle.reg_table.specs.Rows.{row_of}
+use Rattle.reg_table.specs.declared.bank.Bank.{Bank}
+use Rattle.reg_table.specs.declared.bank.Bank.TheVariants as bank
+use Rattle.intr_unit.specs.declared.group.Group.TheVariants.{Vf}
+use Rattle.vf_map.specs.Owner.{has_queue, is_of_pool_by}
+use Rattle.vf_map.specs.Pools.{queues_of, queues_each, pools_in}
+use Rattle.vf_map.specs.declared.mode.Mode.{Mode}
+use Rattle.vf_map.specs.declared.mode.Mode.TheVariants.{Off, Pools16, Pools32, Pools64}
+use Rattle.register_file.specs.Owner.{owner_in, is_owner, is_group}
+use Rattle.register_file.specs.PoolReset.{function_reset, pool_reset}
+use Rattle.register_file.specs.Registers.{Registers}
+use Rattle.register_file.specs.declared.dir.Dir.{Dir}
+use Rattle.register_file.specs.declared.dir.Dir.TheVariants.{Rx, Tx}
+use Rattle.register_file.specs.declared.owner.Owner.TheVariants as owner
+use Rattle.register_laws.specs.Footprint.{Footprint, either, of_pool}
+use Rattle.register_laws.proofs.PoolParts.{is_own, of_function, of_queues, renewed-function, renewed-queues}
+use Rattle.register_laws.proofs.Renewed.{IsRenewed, IsSame, renewed-either, renewed-same}
+use Rattle.register_laws.proofs.PoolQueues.{turned, none_had, four_queues, two_queues, two_vectors, one_vector}
+
+-- what is reset, by the queues that the mode gives the pool
+abbrev whole : ℕ → Option (ℕ × ℕ) → Footprint
+whole v o = either (of_function v) (of_queues o)
+
+-- whose a register of a bank is
+abbrev own_has : ℕ → Bank → ℕ → Bool
+own_has v b i = is_own b && v == i
+
+abbrev queue_has : ℕ → Bank → ℕ → Bool
+queue_has q b i = is_owner (owner.Side Rx q) (owner_in b i) || is_owner (owner.Side Tx q) (owner_in b i)
+
+abbrev vectors_has : ℕ → Bank → ℕ → Bool
+vectors_has n b i = is_owner (owner.Vectors n) (owner_in b i)
+
+with_none : (b : Bank) (mode : Mode) (v i : ℕ) → ((queue : ℕ) → has_queue mode v queue ≡ false)
+    → (own_has v b i || false) ≡ is_of_pool_by b mode v i
+with_none bank.Receive mode v i none = sym (none i)
+with_none bank.Transmit mode v i none = sym (none i)
+with_none bank.VfInterrupts mode v i none = or-false (v == i) ∙ turned v i
+with_none bank.Pool mode v i none = or-false (v == i) ∙ turned v i
+with_none bank.VfCounters mode v i none = or-false (v == i) ∙ turned v i
+with_none bank.Vectors mode v i none = sym (none (2 * i))
+with_none other mode v i none = refl
+
+with_four : (b : Bank) (v i : ℕ) → v < 32
+    → (own_has v b i
+    || ((queue_has (v * 4) b i
+    || (queue_has (v * 4 + 1) b i || (queue_has (v * 4 + 1 + 1) b i || (queue_has (v * 4 + 1 + 1 + 1) b i || false))))
+    || (vectors_has (v * 4 / 2) b i || (vectors_has (v * 4 / 2 + 1) b i || false))))
+    ≡ is_of_pool_by b Pools32 v i
+with_four bank.Receive v i small = simp or-false (simp or-false at (four_queues v i small))
+with_four bank.Transmit v i small = simp or-false (simp or-false at (four_queues v i small))
+with_four bank.VfInterrupts v i small = or-false (v == i) ∙ turned v i
+with_four bank.Pool v i small = or-false (v == i) ∙ turned v i
+with_four bank.VfCounters v i small = or-false (v == i) ∙ turned v i
+with_four bank.Vectors v i small = two_vectors v i small
+with_four other v i small = refl
+
+with_two : (b : Bank) (v i : ℕ) → v < 64
+    → (own_has v b i
+    || ((queue_has (v * 2) b i || (queue_has (v * 2 + 1) b i || false)) || (vectors_has (v * 2 / 2) b i || false)))
+    ≡ is_of_pool_by b Pools64 v i
+with_two bank.Receive v i small = simp or-false (simp or-false at (two_queues v i small))
+with_two bank.Transmit v i small = simp or-false (simp or-false at (two_queues v i small))
+with_two bank.VfInterrupts v i small = or-false (v == i) ∙ turned v i
+with_two bank.Pool v i small = or-false (v == i) ∙ turned v i
+with_two bank.VfCounters v i small = or-false (v == i) ∙ turned v i
+with_two bank.Vectors v i small = one_vector v i small
+with_two other v i small = refl
+
+same_none : (mode : Mode) (v : ℕ) → ((queue : ℕ) → has_queue mode v queue ≡ false)
+    → IsSame (whole v None) (of_pool mode v)
+same_none mode v none = record {
+  words = λ p. with_none (row_of p.row).bank mode v p.index none;
+  wanted = λ dir queue. sym (none queue);
+  told = λ g. or-false (is_group (Vf v) g);
+}
+
+four_wanted : (dir : Dir) (v queue : ℕ) → v < 32
+    → (whole v (Some (v * 4, 4))).wanted dir queue ≡ has_queue Pools32 v queue
+four_wanted Rx v queue small = with_four bank.Receive v queue small
+four_wanted Tx v queue small = with_four bank.Transmit v queue small
+
+two_wanted : (dir : Dir) (v queue : ℕ) → v < 64
+    → (whole v (Some (v * 2, 2))).wanted dir queue ≡ has_queue Pools64 v queue
+two_wanted Rx v queue small = with_two bank.Receive v queue small
+two_wanted Tx v queue small = with_two bank.Transmit v queue small
+
+same_some : (mode : Mode) (v : ℕ) → nat_lt v (pools_in mode) ≡ true
+    → IsSame (whole v (Some (v * queues_each mode, queues_each mode))) (of_pool mode v)
+same_some Off v e = absurd (omega (arith, ltb-true))
+same_some Pools16 v e = absurd (omega (arith, ltb-true))
+same_some Pools32 v e =
+    let small = ltb-true v 32 e in
+    record {
+      words = λ p. with_four (row_of p.row).bank v p.index small;
+      wanted = λ dir queue. four_wanted dir v queue small;
+      told = λ g. or-false (is_group (Vf v) g);
+    }
+same_some Pools64 v e =
+    let small = ltb-true v 64 e in
+    record {
+      words = λ p. with_two (row_of p.row).bank v p.index small;
+      wanted = λ dir queue. two_wanted dir v queue small;
+      told = λ g. or-false (is_group (Vf v) g);
+    }
+
+same_if : (mode : Mode) (v : ℕ) (b : Bool) → nat_lt v (pools_in mode) ≡ b
+    → IsSame (whole v (cond b (Some (v * queues_each mode, queues_each mode)) None)) (of_pool mode v)
+same_if mode v true e = same_some mode v e
+same_if mode v false e = same_none mode v (λ queue. none_had mode v queue e)
+
+pub renewed-pool : (r : Registers) (mode : Mode) (v : ℕ) → IsRenewed (of_pool mode v) r (pool_reset mode v r)
+unfolding pool_reset
+renewed-pool r mode v =
+    let o : Option (ℕ × ℕ) = queues_of mode v in
+    let reset : Registers = function_reset r v in
+    renewed-same (whole v o) (of_pool mode v) r (pool_reset mode v r) (same_if mode v (nat_lt v (pools_in mode)) refl)
+    (renewed-either (of_function v) (of_queues o) r reset (pool_reset mode v r) (renewed-function r v)
+    (renewed-queues reset o))

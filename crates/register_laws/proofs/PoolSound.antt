@@ -1,0 +1,78 @@
+-- Registers stay sound where a pool is reset.
+use Rattle.std.proofs.Common.{◌≡◌, ℕ, ◌<◌, ◌^◌, false, refl, ap, sym, ◌∙◌, subst, inl, inr, arith}
+use Rattle.std.proofs.lemmas.Bool.{cases_Bool, cases_lt}
+use Rattle.std.proofs.lemmas.List.{get_or_past}
+use Rattle.reg_table.specs.Rows.{row_of}
+use Rattle.reg_table.specs.declared.place.Place.{Place}
+use Rattle.reg_table.specs.declared.bank.Bank.{Bank}
+use Rattle.reg_table.specs.declared.bank.Bank.TheVariants as bank
+use Rattle.intr_unit.specs.BitSet.{IsSubset}
+use Rattle.intr_unit.specs.declared.group.Group.{Group}
+use Rattle.intr_unit.specs.declared.group.Group.TheVariants.{Vf}
+use Rattle.intr_unit.proofs.Subsets.{IsSubset-no_bits}
+use Rattle.vf_map.specs.Owner.{is_of_pool_by}
+use Rattle.vf_map.specs.declared.mode.Mode.{Mode}
+use Rattle.register_file.specs.Groups.{told_by}
+use Rattle.register_file.specs.Owner.{owner_in, owner_of, is_group}
+use Rattle.register_file.specs.PoolReset.{pool_reset}
+use Rattle.register_file.specs.Registers.{Registers}
+use Rattle.register_file.specs.Words.{word_at, row_words}
+use Rattle.register_file.specs.declared.owner.Owner.TheVariants as owner
+use Rattle.register_laws.specs.Footprint.{Misses, of_group, of_pool, pending}
+use Rattle.register_laws.specs.Sound.{AreSound, pending_bits}
+use Rattle.register_laws.proofs.Footprints.{misses-within, covers-pending}
+use Rattle.register_laws.proofs.Owners.{is_group-same, is_owner-same}
+use Rattle.register_laws.proofs.PoolQueues.{turned}
+use Rattle.register_laws.proofs.PoolReset.{renewed-pool}
+use Rattle.register_laws.proofs.Small.{reset_small}
+use Rattle.register_laws.proofs.SoundParts.{told_stands}
+
+-- words of 32 bits
+small : (r : Registers) (mode : Mode) (v : ℕ) → AreSound r → (p : Place)
+    → word_at (pool_reset mode v r).words p < 2 ^ 32
+small r mode v sound p =
+    let new = renewed-pool r mode v in
+    let f = of_pool mode v in
+    elim (cases_Bool (f.words p)) as (λ _. word_at (pool_reset mode v r).words p < 2 ^ 32) [
+      | inr out ↦ rw (new.alone.words p out) (sound.words p)
+      | inl in_pool ↦ elim (cases_lt p.index (row_of p.row).count) as
+          (λ _. word_at (pool_reset mode v r).words p < 2 ^ 32) [
+            | inl b ↦ rw (new.words sound.shape p in_pool b) (reset_small p.row)
+            | inr past ↦
+                let short = (new.shape sound.shape).has_indices p.row in
+                rw (get_or_past (row_words (pool_reset mode v r).words p.row) p.index 0 (omega arith)) (omega arith)
+          ]
+    ]
+
+-- what is pending of another group isn't the pool's
+not_of_pool : (b : Bank) (mode : Mode) (v i : ℕ) (g : Group) → owner.Group g ≡ owner_in b i → is_group (Vf v) g ≡ false
+    → is_of_pool_by b mode v i ≡ false
+not_of_pool bank.Interrupts mode v i g e n = refl
+not_of_pool bank.VfInterrupts mode v i g e n =
+    let same : g ≡ Vf i = cc in
+    turned i v ∙ ap (is_group (Vf v)) (sym same) ∙ n
+not_of_pool other mode v i g e n = cc
+
+others_miss : (mode : Mode) (v : ℕ) (g : Group) → is_group (Vf v) g ≡ false → Misses (of_pool mode v) (pending g)
+others_miss mode v g n = misses-within (of_pool mode v) (of_group g) (pending g) (covers-pending g) (record {
+  words =
+      λ p is. not_of_pool (row_of p.row).bank mode v p.index g (is_owner-same (owner.Group g) (owner_of p) is) n;
+  wanted = λ dir queue is. cc;
+  told = λ h is. ap (is_group (Vf v)) (sym (is_group-same g h is)) ∙ n;
+})
+
+pub sound-pool_reset : (r : Registers) (mode : Mode) (v : ℕ) → AreSound r → AreSound (pool_reset mode v r)
+sound-pool_reset r mode v sound =
+    let new = renewed-pool r mode v in
+    record {
+      shape = new.shape sound.shape;
+      words = small r mode v sound;
+      told = λ g b. elim (cases_Bool (is_group (Vf v) g)) as
+          (λ _. IsSubset (told_by (pool_reset mode v r) g) (pending_bits (pool_reset mode v r) g)) [
+            | inr out ↦ told_stands (of_pool mode v) r (pool_reset mode v r) g (others_miss mode v g out) new.alone
+                (sound.told g b)
+            | inl own ↦ subst (λ t. IsSubset t (pending_bits (pool_reset mode v r) g))
+                (sym (new.told sound.shape g own b))
+                (IsSubset-no_bits (pending_bits (pool_reset mode v r) g))
+          ];
+    }

@@ -1,0 +1,55 @@
+-- Pools have nothing in common.
+use Rattle.std.proofs.Common.{◌≡◌, ◌≢◌, ℕ, ◌*◌, true, false, ◌==◌, Option, Some, None, refl, sym, ◌∙◌}
+use Rattle.std.proofs.lemmas.Bool.{eqb-true, ne_eqb}
+use Rattle.reg_table.specs.Rows.{row_of}
+use Rattle.reg_table.specs.declared.bank.Bank.{Bank}
+use Rattle.reg_table.specs.declared.bank.Bank.TheVariants as bank
+use Rattle.intr_unit.specs.declared.group.Group.{Group}
+use Rattle.intr_unit.specs.declared.group.Group.TheVariants.{Pf, Vf}
+use Rattle.vf_map.specs.Owner.{is_pool, is_of_pool_by, has_queue}
+use Rattle.vf_map.specs.Pools.{pool_of}
+use Rattle.vf_map.specs.declared.mode.Mode.{Mode}
+use Rattle.register_file.specs.Owner.{is_group}
+use Rattle.register_laws.specs.Agreement.{PoolsHaveNothingInCommon, MissedAgreementStands}
+
+-- what is one number isn't another
+not_both : (v w n : ℕ) → v ≢ w → (n == w) ≡ true → (n == v) ≡ false
+not_both v w n apart is = ne_eqb n v (λ same. apart (sym same ∙ eqb-true n w is))
+
+one_pool : (v w : ℕ) (o : Option ℕ) → v ≢ w → is_pool w o ≡ true → is_pool v o ≡ false
+one_pool v w None apart is = refl
+one_pool v w (Some pool) apart is = not_both v w pool apart is
+
+queue_missed : (mode : Mode) (v w queue : ℕ) → v ≢ w → has_queue mode w queue ≡ true → has_queue mode v queue ≡ false
+queue_missed mode v w queue apart is = one_pool v w (pool_of mode queue) apart is
+
+place_missed : (b : Bank) (mode : Mode) (v w i : ℕ) → v ≢ w → is_of_pool_by b mode w i ≡ true
+    → is_of_pool_by b mode v i ≡ false
+place_missed bank.Device mode v w i apart is = refl
+place_missed bank.Counters mode v w i apart is = refl
+place_missed bank.Receive mode v w i apart is = queue_missed mode v w i apart is
+place_missed bank.Transmit mode v w i apart is = queue_missed mode v w i apart is
+place_missed bank.Interrupts mode v w i apart is = refl
+place_missed bank.VfInterrupts mode v w i apart is = not_both v w i apart is
+place_missed bank.Pool mode v w i apart is = not_both v w i apart is
+place_missed bank.VfCounters mode v w i apart is = not_both v w i apart is
+place_missed bank.Vectors mode v w i apart is = queue_missed mode v w (2 * i) apart is
+
+group_missed : (v w : ℕ) (g : Group) → v ≢ w → is_group (Vf w) g ≡ true → is_group (Vf v) g ≡ false
+group_missed v w Pf apart is = refl
+group_missed v w (Vf u) apart is = ne_eqb v u (λ same. apart (same ∙ sym (eqb-true w u is)))
+
+pub pools_miss : PoolsHaveNothingInCommon
+pools_miss mode v w apart = record {
+  words = λ p is. place_missed (row_of p.row).bank mode v w p.index apart is;
+  wanted = λ dir queue is. queue_missed mode v w queue apart is;
+  told = λ g is. group_missed v w g apart is;
+}
+
+pub agreement_stands : MissedAgreementStands
+agreement_stands f g a b then_a then_b out left right same = record {
+  words = λ p is. left.words p (out.words p is) ∙ same.words p is ∙ sym (right.words p (out.words p is));
+  wanted = λ dir queue is. left.wanted dir queue (out.wanted dir queue is) ∙ same.wanted dir queue is
+      ∙ sym (right.wanted dir queue (out.wanted dir queue is));
+  told = λ h is. left.told h (out.told h is) ∙ same.told h is ∙ sym (right.told h (out.told h is));
+}

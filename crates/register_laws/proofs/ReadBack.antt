@@ -1,0 +1,86 @@
+-- What is read of words that were stored and counted, and of registers after a reset.
+use Rattle.std.proofs.Common.{◌≡◌, ℕ, ◌+◌, ◌-◌, ◌*◌, ◌/◌, ◌%◌, ◌^◌, ◌<◌, false, if◌then◌else◌, refl, ap, sym}
+use Rattle.std.proofs.lemmas.List.{get_or-replicate}
+use Rattle.std.proofs.lemmas.Bool.{false_from_ne_true}
+use Rattle.reg_table.specs.Counter.{bumped}
+use Rattle.reg_table.specs.Rows.{row_of}
+use Rattle.reg_table.specs.declared.place.Place.{Place}
+use Rattle.reg_table.specs.declared.rows.RowId.TheVariants.{Ctrl, Rxctrl, Dmatxctl, Hlreg0, Maxfrs, Gpie, Srrctl, Rxdctl, Txdctl}
+use Rattle.intr_unit.specs.BitSet.{bits_below, bits_where, bits_from_to}
+use Rattle.intr_unit.specs.Group.{group_bits, auto_mask_acts}
+use Rattle.intr_unit.specs.declared.group.Group.{Group}
+use Rattle.intr_unit.specs.declared.group.Group.TheVariants.{Pf, Vf}
+use Rattle.register_file.specs.Bits.{has_bit}
+use Rattle.register_file.specs.Columns.{place}
+use Rattle.register_file.specs.Counters.{mapping_row}
+use Rattle.register_file.specs.Groups.{vector_row, vector_entry}
+use Rattle.register_file.specs.Owner.{is_owner}
+use Rattle.register_file.specs.Registers.{Registers, word_of}
+use Rattle.register_file.specs.Words.{word_at}
+use Rattle.register_file.specs.declared.dir.Dir.{Dir}
+use Rattle.register_file.specs.declared.dir.Dir.TheVariants.{Rx, Tx}
+use Rattle.register_laws.specs.Footprint.{Footprint, ChangesWithin, is_place}
+use Rattle.register_laws.specs.Laws.{HasShape, CountsAndClears, GoesRound, GroupBitsAreMasks, EnableReadTellsOn, ResetSwitchesOff, WordIsOnePlace, OwnersDiffer, SettingsStand}
+use Rattle.register_laws.proofs.Owners.{is_place-same, is_owner-same}
+use Rattle.register_laws.proofs.Puts.{word_at-reset}
+use Rattle.register_laws.proofs.Shape.{put_stands}
+
+pub counts_and_clears : (r : Registers) (p : Place) → HasShape r → p.index < (row_of p.row).count → CountsAndClears r p
+counts_and_clears r p h b = record {
+  counts = λ link. put_stands r p (bumped (word_at r.words p)) h b;
+  clears = λ link. put_stands r p 0 h b;
+}
+
+pub goes_round : (r : Registers) (p : Place) → HasShape r → p.index < (row_of p.row).count → GoesRound r p
+goes_round r p h b = record {
+  counts = λ around. put_stands r p ((word_at r.words p + 1) % 2 ^ 32) h b;
+  stays = refl;
+  kept = λ view word. refl;
+}
+
+-- after a reset no side of a queue is on or wanted on
+pub off-reset : ResetSwitchesOff
+off-reset Rx queue b =
+    (ap (has_bit 25) (word_at-reset (place Rxdctl queue) b), get_or-replicate 128 queue false false b)
+off-reset Tx queue b =
+    (ap (has_bit 25) (word_at-reset (place Txdctl queue) b), get_or-replicate 128 queue false false b)
+
+-- the bits of a group
+pub masks : GroupBitsAreMasks
+unfolding group_bits bits_from_to bits_where bits_below
+masks Pf = (refl, refl, refl, refl)
+masks (Vf v) = (refl, refl, refl, refl)
+
+pub enable_read : EnableReadTellsOn
+enable_read r Rx queue link = refl
+enable_read r Tx queue link = refl
+
+-- what differs
+pub one_place : WordIsOnePlace
+one_place p q n = false_from_ne_true (is_place p q) (λ e. n (sym (is_place-same p q e)))
+
+pub owners_differ : OwnersDiffer
+owners_differ o other n = false_from_ne_true (is_owner o other) (λ e. n (is_owner-same o other e))
+
+-- what single words set
+vector_stands : (old new : Registers) (g : Group) (dir : Dir) (queue : ℕ)
+    → word_of new (vector_row g) (queue / 2) ≡ word_of old (vector_row g) (queue / 2)
+    → vector_entry new g dir queue ≡ vector_entry old g dir queue
+vector_stands old new g Rx queue e = ap (λ w. w / 2 ^ (16 * (queue % 2)) % 256) e
+vector_stands old new g Tx queue e = ap (λ w. w / 2 ^ (16 * (queue % 2) + 8) % 256) e
+
+pub settings_stand : (f : Footprint) (old new : Registers) → ChangesWithin f old new → SettingsStand f old new
+settings_stand f old new only = record {
+  stopped = λ out. ap (has_bit 2) (only.words (place Ctrl 0) out);
+  can_receive = λ out. ap (has_bit 0) (only.words (place Rxctrl 0) out);
+  can_transmit = λ out. ap (has_bit 0) (only.words (place Dmatxctl 0) out);
+  limit = λ out past k.
+      if has_bit 2 (only.words (place Hlreg0 0) out k) then only.words (place Maxfrs 0) past k / 2 ^ 16 - 4 else 1514;
+  padding = λ out. ap (has_bit 10) (only.words (place Hlreg0 0) out);
+  dropping = λ queue out. ap (has_bit 28) (only.words (place Srrctl queue) out);
+  clearing = λ out. ap (has_bit 5) (only.words (place Gpie 0) out);
+  masking = λ out g. ap (λ w. auto_mask_acts g (has_bit 30 w)) (only.words (place Gpie 0) out);
+  vector = λ g dir queue out. vector_stands old new g dir queue (only.words (place (vector_row g) (queue / 2)) out);
+  counter = λ dir queue out.
+      ap (λ w. w / 2 ^ (8 * (queue % 4)) % 16) (only.words (place (mapping_row dir) (queue / 4)) out);
+}

@@ -1,0 +1,149 @@
+-- What a reset of a part of the registers does.
+use Rattle.std.proofs.Common.{◌≡◌, ℕ, ◌<◌, Bool, true, false, ◌||◌, List, [], ◌∷◌, refl, ap, sym, ◌∙◌, subst, inl, inr}
+use Rattle.std.specs.Prelude.{fold}
+use Rattle.std.proofs.lemmas.Bool.{or_cases, and_parts, eqb-true}
+use Rattle.std.proofs.lemmas.List.{get_or-set_same}
+use Rattle.reg_table.specs.Rows.{row_of}
+use Rattle.reg_table.specs.declared.place.Place.{Place}
+use Rattle.reg_table.specs.declared.rows.RowId.{RowId}
+use Rattle.intr_unit.specs.declared.group.Group.{Group}
+use Rattle.register_file.specs.Columns.{place}
+use Rattle.register_file.specs.Groups.{index_of, told_by, with_told}
+use Rattle.register_file.specs.Owner.{is_owner, is_group}
+use Rattle.register_file.specs.PoolReset.{word_reset}
+use Rattle.register_file.specs.Registers.{Registers, is_wanted, with_wanted}
+use Rattle.register_file.specs.Words.{word_at, put}
+use Rattle.register_file.specs.declared.dir.Dir.{Dir}
+use Rattle.register_file.specs.declared.dir.Dir.TheVariants.{Rx, Tx}
+use Rattle.register_file.specs.declared.owner.Owner.TheVariants as owner
+use Rattle.register_laws.specs.Footprint.{Footprint, ChangesWithin, nothing, either, the_word}
+use Rattle.register_laws.specs.Sound.{HasShape}
+use Rattle.register_laws.proofs.Footprints.{within-refl, within-either}
+use Rattle.register_laws.proofs.Owners.{is_dir-same, is_group-itself, is_group-same, is_owner-itself, is_place-same}
+use Rattle.register_laws.proofs.Shape.{put_stands, HasShape-put, HasShape-with_wanted, HasShape-with_told}
+use Rattle.register_laws.proofs.Standing.{told_by-with_told}
+use Rattle.register_laws.proofs.WithinParts.{within-word, within-with_wanted, within-with_told}
+
+-- all that a footprint has is as a reset leaves it, where the registers have their shape, and all else is as it was
+pub record IsRenewed (f : Footprint) (old new : Registers) : Type 0 where
+  pub alone : ChangesWithin f old new
+  pub shape : HasShape old → HasShape new
+  pub words : HasShape old → (p : Place) → f.words p ≡ true → p.index < (row_of p.row).count
+      → word_at new.words p ≡ (row_of p.row).reset
+  pub wanted : HasShape old → (dir : Dir) (queue : ℕ) → f.wanted dir queue ≡ true → queue < 128
+      → is_wanted new dir queue ≡ false
+  pub told : HasShape old → (g : Group) → f.told g ≡ true → index_of g < 64 → told_by new g ≡ 0
+
+pub renewed-refl : (r : Registers) → IsRenewed nothing r r
+renewed-refl r = record {
+  alone = within-refl nothing r;
+  shape = λ h. h;
+  words = λ h p is b. cc;
+  wanted = λ h dir queue is b. cc;
+  told = λ h g is b. cc;
+}
+
+-- one after another
+one_of : {A : Type 0} (x y : Bool) → (x || y) ≡ true → (y ≡ true → A) → (x ≡ true → y ≡ false → A) → A
+one_of x true is late early = late refl
+one_of x false is late early = elim (or_cases x false is) [ inl e ↦ early e refl | inr e ↦ absurd (cc) ]
+
+pub renewed-either : (f g : Footprint) (r s t : Registers) → IsRenewed f r s → IsRenewed g s t
+    → IsRenewed (either f g) r t
+renewed-either f g r s t first then = record {
+  alone = within-either f g r s t first.alone then.alone;
+  shape = λ h. then.shape (first.shape h);
+  words = λ h p is b. one_of (f.words p) (g.words p) is (λ e. then.words (first.shape h) p e b)
+      (λ e n. then.alone.words p n ∙ first.words h p e b);
+  wanted = λ h dir queue is b. one_of (f.wanted dir queue) (g.wanted dir queue) is
+      (λ e. then.wanted (first.shape h) dir queue e b)
+      (λ e n. then.alone.wanted dir queue n ∙ first.wanted h dir queue e b);
+  told = λ h k is b. one_of (f.told k) (g.told k) is (λ e. then.told (first.shape h) k e b)
+      (λ e n. then.alone.told k n ∙ first.told h k e b);
+}
+
+abbrev pub any_of : {A : Type 0} → (A → Footprint) → List A → Footprint
+any_of f [] = nothing
+any_of f (x ∷ xs) = either (f x) (any_of f xs)
+
+pub renewed-each : {A : Type 0} (f : A → Footprint) (step : Registers → A → Registers)
+    → ((r : Registers) (x : A) → IsRenewed (f x) r (step r x))
+    → (xs : List A) (r : Registers) → IsRenewed (any_of f xs) r (fold step r xs)
+renewed-each f step each [] r = renewed-refl r
+renewed-each f step each (x ∷ xs) r =
+    renewed-either (f x) (any_of f xs) r (step r x) (fold step (step r x) xs) (each r x)
+    (renewed-each f step each xs (step r x))
+
+-- two footprints with the same
+pub record IsSame (f g : Footprint) : Type 0 where
+  pub words : (p : Place) → f.words p ≡ g.words p
+  pub wanted : (dir : Dir) (queue : ℕ) → f.wanted dir queue ≡ g.wanted dir queue
+  pub told : (h : Group) → f.told h ≡ g.told h
+
+pub renewed-same : (f g : Footprint) (r s : Registers) → IsSame f g → IsRenewed f r s → IsRenewed g r s
+renewed-same f g r s same new = record {
+  alone = record {
+    words = λ p n. new.alone.words p (same.words p ∙ n);
+    wanted = λ dir queue n. new.alone.wanted dir queue (same.wanted dir queue ∙ n);
+    told = λ h n. new.alone.told h (same.told h ∙ n);
+  };
+  shape = new.shape;
+  words = λ h p is b. new.words h p (same.words p ∙ is) b;
+  wanted = λ h dir queue is b. new.wanted h dir queue (same.wanted dir queue ∙ is) b;
+  told = λ h k is b. new.told h k (same.told k ∙ is) b;
+}
+
+-- a word, what is wanted of a side, and what is told of a group
+pub renewed-word : (index : ℕ) (r : Registers) (row : RowId)
+    → IsRenewed (the_word (place row index)) r (word_reset index r row)
+renewed-word index r row = record {
+  alone = within-word r row index (row_of row).reset;
+  shape = HasShape-put r (place row index) (row_of row).reset;
+  words = λ h p is b.
+      subst (λ (q : Place). q.index < (row_of q.row).count
+      → word_at (put r.words (place row index) (row_of row).reset) q ≡ (row_of q.row).reset)
+      (is_place-same (place row index) p is)
+      (λ inside. put_stands r (place row index) (row_of row).reset h inside) b;
+  wanted = λ h dir queue is b. cc;
+  told = λ h g is b. cc;
+}
+
+abbrev pub wanted_of : Dir → ℕ → Footprint
+wanted_of dir queue =
+    record nothing { wanted = λ other number. is_owner (owner.Side dir queue) (owner.Side other number) }
+
+unwanted : (r : Registers) → HasShape r → (dir : Dir) (queue : ℕ) → queue < 128
+    → is_wanted (with_wanted r dir queue false) dir queue ≡ false
+unwanted r h Rx queue b =
+    get_or-set_same r.wanted_rx queue false false (subst (λ n. queue < n) (sym h.wanted_rx) b)
+unwanted r h Tx queue b =
+    get_or-set_same r.wanted_tx queue false false (subst (λ n. queue < n) (sym h.wanted_tx) b)
+
+pub renewed-with_wanted : (dir : Dir) (r : Registers) (queue : ℕ)
+    → IsRenewed (wanted_of dir queue) r (with_wanted r dir queue false)
+renewed-with_wanted dir r queue = record {
+  alone = within-with_wanted (wanted_of dir queue) r dir queue false (is_owner-itself (owner.Side dir queue));
+  shape = HasShape-with_wanted r dir queue false;
+  words = λ h p is b. cc;
+  wanted = λ h other number is b.
+      let parts = and_parts _ _ is in
+      let same = eqb-true queue number parts.1 in
+      (λ k. is_wanted (with_wanted r dir queue false) (sym (is_dir-same dir other parts.0) k) (sym same k))
+      ∙ unwanted r h dir queue (subst (λ n. n < 128) (sym same) b);
+  told = λ h g is b. cc;
+}
+
+abbrev pub told_of : Group → Footprint
+told_of g = record nothing { told = is_group g }
+
+pub renewed-with_told : (r : Registers) (g : Group) → IsRenewed (told_of g) r (with_told r g 0)
+renewed-with_told r g = record {
+  alone = within-with_told (told_of g) r g 0 (is_group-itself g);
+  shape = HasShape-with_told r g 0;
+  words = λ h p is b. cc;
+  wanted = λ h dir queue is b. cc;
+  told = λ h other is b.
+      let same = is_group-same g other is in
+      ap (told_by (with_told r g 0)) (sym same)
+      ∙ told_by-with_told r g 0 h.told_vf (subst (λ x. index_of x < 64) (sym same) b);
+}

@@ -1,0 +1,108 @@
+-- Registers stay sound where a word is put at a place, another side is wanted on, or a group has other interrupts.
+use Rattle.std.proofs.Common.{◌≡◌, ℕ, ◌<◌, ◌^◌, Bool, true, false, refl, ap, sym, ◌∙◌, subst, inl, inr}
+use Rattle.std.proofs.lemmas.Bool.{cases_Bool}
+use Rattle.reg_table.specs.Rows.{row_of}
+use Rattle.reg_table.specs.declared.place.Place.{Place}
+use Rattle.intr_unit.specs.BitSet.{intersection, IsSubset}
+use Rattle.intr_unit.specs.Interrupts.{Interrupts}
+use Rattle.intr_unit.specs.declared.group.Group.{Group}
+use Rattle.register_file.specs.Columns.{place}
+use Rattle.register_file.specs.Groups.{cause_row, mask_row, index_of, told_by, with_interrupts}
+use Rattle.register_file.specs.Owner.{is_group}
+use Rattle.register_file.specs.Registers.{Registers, with_wanted}
+use Rattle.register_file.specs.Words.{word_at, put}
+use Rattle.register_file.specs.declared.dir.Dir.{Dir}
+use Rattle.register_file.specs.declared.owner.Owner.TheVariants as owner
+use Rattle.register_laws.proofs.Settled.{IsSettled}
+use Rattle.register_laws.specs.Footprint.{Footprint, ChangesWithin, Misses, is_place, is_pending, nothing, the_word, of_group, pending, any_pending}
+use Rattle.register_laws.specs.Sound.{AreSound, pending_bits}
+use Rattle.register_laws.proofs.Fields.{words-with_wanted, words-with_told}
+use Rattle.register_laws.proofs.Covers.{fails, cause_is_pending, mask_is_pending}
+use Rattle.register_laws.proofs.Footprints.{misses-narrower, misses-within, misses-owner, covers-pending, covers-any_pending}
+use Rattle.register_laws.proofs.Owners.{is_group-itself, is_group-same, is_place-itself, is_place-same}
+use Rattle.register_laws.proofs.Shape.{HasShape-put, HasShape-with_wanted, HasShape-with_interrupts}
+use Rattle.register_laws.proofs.Standing.{causes_there, enabled_there, told_there}
+use Rattle.register_laws.proofs.WithinParts.{within-put, within-with_wanted, within-with_interrupts}
+use Rattle.register_laws.proofs.Small.{AreSmall, word_at-put-lt}
+
+-- told bits stand where a footprint misses what is pending of their group
+pub told_stands : (f : Footprint) (r s : Registers) (g : Group) → Misses f (pending g) → ChangesWithin f r s
+    → IsSubset (told_by r g) (pending_bits r g) → IsSubset (told_by s g) (pending_bits s g)
+told_stands f r s g out only told =
+    let cause : Place = place (cause_row g) (index_of g) in
+    let mask : Place = place (mask_row g) (index_of g) in
+    let causes = only.words cause (out.words cause (cause_is_pending g)) in
+    let masks = only.words mask (out.words mask (mask_is_pending g)) in
+    let tells = only.told g (out.told g (is_group-itself g)) in
+    subst (λ (x : ℕ × ℕ × ℕ). IsSubset x.0 (intersection x.1 x.2)) (λ k. (sym tells k, sym causes k, sym masks k)) told
+
+-- a word at a place of no cause or mask, and what is wanted
+steady_misses : (p : Place) (g : Group) → is_pending (row_of p.row).kind ≡ false → Misses (the_word p) (pending g)
+steady_misses p g steady = misses-within (the_word p) any_pending (pending g) (covers-any_pending g) (record {
+  words = λ q is. fails (is_place p q) (is_pending (row_of p.row).kind)
+      (λ same. ap (λ (x : Place). is_pending (row_of x.row).kind) (is_place-same p q same) ∙ is) steady;
+  wanted = λ dir queue is. refl;
+  told = λ h is. refl;
+})
+
+pub sound-put : (r : Registers) (p : Place) (v : ℕ) → AreSound r → v < 2 ^ 32 → is_pending (row_of p.row).kind ≡ false
+    → AreSound (record r { words = put r.words p v })
+sound-put r p v sound small steady = record {
+  shape = HasShape-put r p v sound.shape;
+  words = word_at-put-lt r p v sound.shape sound.words small;
+  told = λ g b. told_stands (the_word p) r (record r { words = put r.words p v }) g (steady_misses p g steady)
+      (within-put (the_word p) r p v (is_place-itself p)) (sound.told g b);
+}
+
+wanted_alone : Dir → ℕ → Footprint
+wanted_alone dir queue = record nothing { wanted = λ other number. true }
+
+pub sound-with_wanted : (r : Registers) (dir : Dir) (queue : ℕ) (wanted : Bool) → AreSound r
+    → AreSound (with_wanted r dir queue wanted)
+unfolding wanted_alone
+sound-with_wanted r dir queue wanted sound = record {
+  shape = HasShape-with_wanted r dir queue wanted sound.shape;
+  words = λ p. subst (λ ws. word_at ws p < 2 ^ 32) (sym (words-with_wanted r dir queue wanted)) (sound.words p);
+  told = λ g b. told_stands (wanted_alone dir queue) r (with_wanted r dir queue wanted) g
+      (record { words = λ p is. refl; wanted = λ other number is. cc; told = λ h is. refl })
+      (within-with_wanted (wanted_alone dir queue) r dir queue wanted refl) (sound.told g b);
+}
+
+-- interrupts of a group
+others_miss : (g h : Group) → is_group h g ≡ false → Misses (pending h) (pending g)
+others_miss g h other =
+    misses-narrower (of_group h) (pending h) (pending g) (covers-pending h)
+    (misses-within (of_group h) (of_group g) (pending g) (covers-pending g)
+    (misses-owner (owner.Group h) (owner.Group g) other))
+
+small-with_interrupts : (r : Registers) (s : Interrupts) → AreSound r → IsSettled s → AreSmall (with_interrupts r s)
+small-with_interrupts r s sound settled p =
+    let cause : Place = place (cause_row s.group) (index_of s.group) in
+    let caused : Registers = record r { words = put r.words cause s.causes } in
+    let mask : Place = place (mask_row s.group) (index_of s.group) in
+    let masked : Registers = record caused { words = put caused.words mask s.enabled } in
+    subst (λ ws. word_at ws p < 2 ^ 32) (sym (words-with_told masked s.group s.told))
+    (word_at-put-lt caused mask s.enabled (HasShape-put r cause s.causes sound.shape)
+    (word_at-put-lt r cause s.causes sound.shape sound.words settled.causes) settled.enabled p)
+
+pub sound-with_interrupts : (r : Registers) (s : Interrupts) → AreSound r → IsSettled s → AreSound (with_interrupts r s)
+sound-with_interrupts r s sound settled = record {
+  shape = HasShape-with_interrupts r s sound.shape;
+  words = small-with_interrupts r s sound settled;
+  told =
+      λ g b. elim (cases_Bool (is_group s.group g)) as (λ _. IsSubset (told_by (with_interrupts r s) g)
+      (pending_bits (with_interrupts r s) g)) [
+        | inr other ↦ told_stands (pending s.group) r (with_interrupts r s) g (others_miss g s.group other)
+            (within-with_interrupts r s) (sound.told g b)
+        | inl same ↦
+            let own : index_of s.group < 64 = subst (λ h. index_of h < 64) (sym (is_group-same s.group g same)) b in
+            let told = sym (told_there r sound.shape s own) in
+            let causes = sym (causes_there r sound.shape s own) in
+            let enabled = sym (enabled_there r sound.shape s own) in
+            subst (λ h. IsSubset (told_by (with_interrupts r s) h) (pending_bits (with_interrupts r s) h))
+            (is_group-same s.group g same)
+            (subst (λ (x : ℕ × ℕ × ℕ). IsSubset x.0 (intersection x.1 x.2))
+            (λ k. (told k, causes k, enabled k))
+            settled.consistent.told_is_pending)
+      ];
+}

@@ -1,0 +1,26 @@
+-- Registers are sound after a reset.
+use Rattle.std.proofs.Common.{◌≡◌, ◌<◌, refl, sym, subst}
+use Rattle.std.proofs.lemmas.List.{get_or-replicate}
+use Rattle.intr_unit.specs.BitSet.{IsSubset}
+use Rattle.intr_unit.specs.declared.group.Group.{Group}
+use Rattle.intr_unit.specs.declared.group.Group.TheVariants.{Pf, Vf}
+use Rattle.intr_unit.proofs.Subsets.{IsSubset-no_bits}
+use Rattle.register_file.specs.Groups.{index_of, told_by}
+use Rattle.register_file.specs.Registers.{reset_registers}
+use Rattle.register_laws.specs.Sound.{AreSound, pending_bits}
+use Rattle.register_laws.proofs.Shape.{HasShape-reset}
+use Rattle.register_laws.proofs.Small.{word_at-reset-lt}
+
+-- after a reset
+pub none_told : (g : Group) → index_of g < 64 → told_by reset_registers g ≡ 0
+none_told Pf b = refl
+none_told (Vf v) b = get_or-replicate 64 v 0 0 b
+
+pub sound-reset : AreSound reset_registers
+sound-reset = record {
+  shape = HasShape-reset;
+  words = word_at-reset-lt;
+  told =
+      λ g b. subst (λ t. IsSubset t (pending_bits reset_registers g)) (sym (none_told g b))
+      (IsSubset-no_bits (pending_bits reset_registers g));
+}

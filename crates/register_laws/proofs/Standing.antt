@@ -1,0 +1,99 @@
+-- The interrupts of a group that were put into its registers.
+use Rattle.std.proofs.Common.{◌≡◌, ◌≢◌, ℕ, ◌^◌, ◌<◌, false, length, refl, ap, sym, ◌∙◌, subst, lit<}
+use Rattle.std.proofs.lemmas.List.{get_or-set_same}
+use Rattle.reg_table.specs.Rows.{row_of}
+use Rattle.reg_table.specs.declared.place.Place.{Place}
+use Rattle.reg_table.specs.declared.rows.RowId.TheVariants.{Eicr, Eims, Pvteicr, Pvteims}
+use Rattle.intr_unit.specs.BitSet.{intersection}
+use Rattle.intr_unit.specs.Group.{group_bits}
+use Rattle.intr_unit.specs.Interrupts.{Interrupts, IsConsistent}
+use Rattle.intr_unit.specs.declared.group.Group.{Group}
+use Rattle.intr_unit.specs.declared.group.Group.TheVariants.{Pf, Vf}
+use Rattle.register_file.specs.Columns.{place}
+use Rattle.register_file.specs.Groups.{cause_row, mask_row, auto_clear_row, auto_mask_row, index_of, told_by, with_told, interrupts_of, with_interrupts}
+use Rattle.register_file.specs.Registers.{Registers, word_of, with_word}
+use Rattle.register_file.specs.Words.{word_at}
+use Rattle.register_file.proofs.Own.{intersection-within}
+use Rattle.register_laws.specs.Footprint.{pending}
+use Rattle.register_laws.specs.Laws.{HasShape}
+use Rattle.register_laws.proofs.Puts.{word_at-put_other}
+use Rattle.register_laws.proofs.Shape.{put_stands, HasShape-put}
+use Rattle.register_laws.proofs.Fields.{words-with_told}
+use Rattle.register_laws.proofs.WithinParts.{within-with_interrupts}
+
+cause_index : (g : Group) → index_of g < 64 → index_of g < (row_of (cause_row g)).count
+cause_index Pf b = lit< tt
+cause_index (Vf v) b = b
+
+mask_index : (g : Group) → index_of g < 64 → index_of g < (row_of (mask_row g)).count
+mask_index Pf b = lit< tt
+mask_index (Vf v) b = b
+
+cause_not_mask : (g : Group) → place (cause_row g) (index_of g) ≢ place (mask_row g) (index_of g)
+cause_not_mask Pf e = let same : Eicr ≡ Eims = ap (λ (q : Place). q.row) e in cc
+cause_not_mask (Vf v) e = let same : Pvteicr ≡ Pvteims = ap (λ (q : Place). q.row) e in cc
+
+auto_clear-steady : (g : Group) → (pending g).words (place (auto_clear_row g) (index_of g)) ≡ false
+auto_clear-steady Pf = refl
+auto_clear-steady (Vf v) = refl
+
+auto_mask-steady : (g : Group) → (pending g).words (place (auto_mask_row g) (index_of g)) ≡ false
+auto_mask-steady Pf = refl
+auto_mask-steady (Vf v) = refl
+
+pub told_by-with_told : (r : Registers) (g : Group) (told : ℕ) → length r.told_vf ≡ 64 → index_of g < 64
+    → told_by (with_told r g told) g ≡ told
+told_by-with_told r Pf told h b = refl
+told_by-with_told r (Vf v) told h b = get_or-set_same r.told_vf v told 0 (subst (λ n. v < n) (sym h) b)
+
+module _ (r : Registers) (h : HasShape r) (s : Interrupts) (b : index_of s.group < 64) where
+  caused : Registers
+  caused = with_word r (cause_row s.group) (index_of s.group) s.causes
+
+  masked : Registers
+  masked = with_word caused (mask_row s.group) (index_of s.group) s.enabled
+
+  pub causes_there : word_of (with_interrupts r s) (cause_row s.group) (index_of s.group) ≡ s.causes
+  unfolding caused masked
+  causes_there =
+      ap (λ ws. word_at ws (place (cause_row s.group) (index_of s.group))) (words-with_told masked s.group s.told)
+      ∙ word_at-put_other caused.words (place (mask_row s.group) (index_of s.group))
+      (place (cause_row s.group) (index_of s.group)) s.enabled (cause_not_mask s.group)
+      ∙ put_stands r (place (cause_row s.group) (index_of s.group)) s.causes h (cause_index s.group b)
+
+  pub enabled_there : word_of (with_interrupts r s) (mask_row s.group) (index_of s.group) ≡ s.enabled
+  unfolding caused masked
+  enabled_there =
+      ap (λ ws. word_at ws (place (mask_row s.group) (index_of s.group))) (words-with_told masked s.group s.told)
+      ∙ put_stands caused (place (mask_row s.group) (index_of s.group)) s.enabled
+      (HasShape-put r (place (cause_row s.group) (index_of s.group)) s.causes h) (mask_index s.group b)
+
+  pub told_there : told_by (with_interrupts r s) s.group ≡ s.told
+  unfolding caused masked
+  told_there = told_by-with_told masked s.group s.told h.told_vf b
+
+  pub interrupts_of-with_interrupts : IsConsistent s → s.causes < 2 ^ 32 → s.enabled < 2 ^ 32 → s.told < 2 ^ 32
+      → interrupts_of (with_interrupts r s) s.group ≡ record s {
+        auto_clear =
+            (interrupts_of r s.group).auto_clear;
+        auto_mask = (interrupts_of r s.group).auto_mask;
+      }
+  interrupts_of-with_interrupts c small_causes small_enabled small_told =
+      let bits = group_bits s.group in
+      let only = within-with_interrupts r s in
+      let causes = ap (λ w. intersection w bits) causes_there
+      ∙ intersection-within s.causes bits small_causes c.causes_exist in
+      let enabled = ap (λ w. intersection w bits) enabled_there
+      ∙ intersection-within s.enabled bits small_enabled c.masks_exist in
+      let clear = only.words (place (auto_clear_row s.group) (index_of s.group)) (auto_clear-steady s.group) in
+      let mask = only.words (place (auto_mask_row s.group) (index_of s.group)) (auto_mask-steady s.group) in
+      let pending = (λ k. intersection (told_there k) (intersection (causes k) (enabled k)))
+      ∙ intersection-within s.told (intersection s.causes s.enabled) small_told c.told_is_pending in
+      λ k. record {
+        group = s.group;
+        causes = causes k;
+        enabled = enabled k;
+        auto_clear = intersection (clear k) bits;
+        auto_mask = intersection (mask k) bits;
+        told = pending k;
+      }

@@ -1,0 +1,64 @@
+-- What a word that is put at a place, a side that is wanted on, and other interrupts of a group change.
+use Rattle.std.proofs.Common.{◌≡◌, ℕ, Bool, true, ap, sym, ◌∙◌}
+use Rattle.std.proofs.lemmas.Bool.{both_ways}
+use Rattle.reg_table.specs.declared.place.Place.{Place}
+use Rattle.reg_table.specs.declared.rows.RowId.{RowId}
+use Rattle.intr_unit.specs.Interrupts.{Interrupts}
+use Rattle.intr_unit.specs.declared.group.Group.{Group}
+use Rattle.register_file.specs.Columns.{place}
+use Rattle.register_file.specs.Groups.{cause_row, mask_row, index_of, with_told, with_interrupts}
+use Rattle.register_file.specs.Registers.{Registers, with_word, with_wanted}
+use Rattle.register_file.specs.Words.{word_at, put}
+use Rattle.register_file.specs.declared.dir.Dir.{Dir}
+use Rattle.register_laws.specs.Footprint.{Footprint, ChangesWithin, the_word, pending}
+use Rattle.register_laws.proofs.Fields.{is_wanted-put, told_by-put, words-with_wanted, is_wanted-with_wanted_other, told_by-with_wanted, words-with_told, is_wanted-with_told, told_by-with_told_other}
+use Rattle.register_laws.proofs.Covers.{cause_is_pending, mask_is_pending}
+use Rattle.register_laws.proofs.Footprints.{within-trans}
+use Rattle.register_laws.proofs.Owners.{apart, is_group-itself, is_place-itself}
+use Rattle.register_laws.proofs.Puts.{word_at-put_other}
+
+-- a word at one place, what is wanted of one side, and what is told of one group, each within what has it
+pub within-put : (f : Footprint) (r : Registers) (p : Place) (v : ℕ) → f.words p ≡ true
+    → ChangesWithin f r (record r { words = put r.words p v })
+within-put f r p v has = record {
+  words = λ q n. word_at-put_other r.words p q v (apart f.words p q has n);
+  wanted = λ dir queue n. is_wanted-put r p v dir queue;
+  told = λ g n. told_by-put r p v g;
+}
+
+pub within-with_wanted : (f : Footprint) (r : Registers) (dir : Dir) (queue : ℕ) (wanted : Bool)
+    → f.wanted dir queue ≡ true
+    → ChangesWithin f r (with_wanted r dir queue wanted)
+within-with_wanted f r dir queue wanted has = record {
+  words = λ q n. ap (λ ws. word_at ws q) (words-with_wanted r dir queue wanted);
+  wanted = λ other number n. is_wanted-with_wanted_other r dir other queue number wanted
+      (λ e i. both_ways (f.wanted other number) n (sym (λ k. f.wanted (e k) (i k)) ∙ has));
+  told = λ g n. told_by-with_wanted r dir queue wanted g;
+}
+
+pub within-with_told : (f : Footprint) (r : Registers) (g : Group) (told : ℕ) → f.told g ≡ true
+    → ChangesWithin f r (with_told r g told)
+within-with_told f r g told has = record {
+  words = λ q n. ap (λ ws. word_at ws q) (words-with_told r g told);
+  wanted = λ dir queue n. is_wanted-with_told r g told dir queue;
+  told = λ h n. told_by-with_told_other r g h told (apart f.told g h has n);
+}
+
+pub within-word : (r : Registers) (row : RowId) (index word : ℕ)
+    → ChangesWithin (the_word (place row index)) r (with_word r row index word)
+within-word r row index word =
+    within-put (the_word (place row index)) r (place row index) word (is_place-itself (place row index))
+
+-- other interrupts of a group
+pub within-with_interrupts : (r : Registers) (s : Interrupts) → ChangesWithin (pending s.group) r (with_interrupts r s)
+within-with_interrupts r s =
+    let f : Footprint = pending s.group in
+    let cause : Place = place (cause_row s.group) (index_of s.group) in
+    let mask : Place = place (mask_row s.group) (index_of s.group) in
+    let caused : Registers = record r { words = put r.words cause s.causes } in
+    let masked : Registers = record caused { words = put caused.words mask s.enabled } in
+    within-trans f r masked (with_told masked s.group s.told)
+    (within-trans f r caused masked
+    (within-put f r cause s.causes (cause_is_pending s.group))
+    (within-put f caused mask s.enabled (mask_is_pending s.group)))
+    (within-with_told f masked s.group s.told (is_group-itself s.group))

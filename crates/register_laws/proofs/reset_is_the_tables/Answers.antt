@@ -1,0 +1,13 @@
+use Rattle.register_laws.proofs.Puts.{word_at-reset}
+use Rattle.register_laws.proofs.ReadBack.{off-reset}
+use Rattle.register_laws.proofs.SoundReset.{none_told}
+use Rattle.register_laws.proofs.reset_is_the_tables.Goals as goal
+
+pub returns-clause-words : goal.returns-clause-words
+returns-clause-words c = word_at-reset
+
+pub returns-clause-off : goal.returns-clause-off
+returns-clause-off c = off-reset
+
+pub returns-clause-told : goal.returns-clause-told
+returns-clause-told c = none_told

@@ -1,0 +1,6 @@
+pub mod Agreement
+pub mod Footprint
+pub mod Laws
+pub mod PoolReset
+pub mod Sides
+pub mod Sound

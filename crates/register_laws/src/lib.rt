@@ -1,0 +1,193 @@
+//! What the registers promise as a whole, above the definitions that the contracts of `register_file` cite.
+//!
+//! Each law is the contract of a function that does nothing: what it ensures holds of the definitions by which
+//! `register_file::RegisterFile` makes each operation. What an operation may change is its footprint; a place has one
+//! owner, and an access changes nothing of another; a side of a queue and the interrupts of a group are seen as values,
+//! and stand through all that misses them; registers stay sound. The device core keeps its own soundness by these, and
+//! the laws of the device rest on them.
+#![tactic(auto)]
+
+ghost use Rattle.register_laws.specs.Laws.{ResetIsSound, ReadKeepsSound, WriteKeepsSound, CountKeepsSound, CountWrappingKeepsSound, AnswerKeepsSound, RaiseKeepsSound, QueueRaiseKeepsSound, MessageKeepsSound, HeadKeepsSound, SwitchKeepsSound, ShutKeepsSound, ResetGivesResetValues, ResetSwitchesOff, ResetTellsNothing, PutWordIsThere, PutWordIsAlone, GroupBitsAreMasks, StoredWordReadsBack, ReadStaysWithin, WriteStaysWithin, CountStaysWithin, CountWrappingStaysWithin, AnswerStaysWithin, RaiseStaysWithin, QueueRaiseStaysWithin, MessageStaysWithin, HeadStaysWithin, SwitchStaysWithin, ShutStaysWithin, ReadStaysWithOwner, WriteStaysWithOwner, OwnersAreApart, OwnersDiffer, WordIsOnePlace, PendingIsPending, CountersAreTheirOwn, PendingMissesSides, ReadMissesSides, MissedReceiveStands, MissedTransmitStands, MissedInterruptsStand, MissedSettingsStand, HeadMovesReceive, HeadMovesTransmit, SwitchObeysReceive, SwitchObeysTransmit, SwitchedSideStays, ShutIsOffReceive, ShutIsOffTransmit, RingIsHeldWhileOn, WrittenReceiveIsTheSides, WrittenTransmitIsTheSides, EnableWriteAsksReceive, EnableWriteAsksTransmit, EnableReadTellsOn, CountersCount, ReadOnlyCountersGoRound, CalculatedRowsHaveFormulas, EepromAnswerIsRead, InterruptsStand};
+ghost use Rattle.register_laws.specs.PoolReset.{PoolIsReset, PoolResetStaysWithin, PoolResetKeepsSound};
+ghost use Rattle.register_laws.specs.Agreement.{PoolReadsStayWithin, PoolWritesStayWithin, SharedReadsChangeNothing, SharedWritesChangeNothing, PoolReadsTellTheSame, SharedReadsTellTheSame, PoolReadsKeepAgreement, PoolWritesKeepAgreement, PoolResetMakesAgreement, PoolsHaveNothingInCommon, MissedAgreementStands};
+
+/// Registers are sound after a reset and through every change: they have each place of the table, words of 32 bits, and
+/// told bits only where cause and mask are 1.
+pub fn soundness_is_kept()
+    ensures reset { ResetIsSound }
+    ensures read { ReadKeepsSound }
+    ensures write { WriteKeepsSound }
+    ensures count { CountKeepsSound }
+    ensures count_wrapping { CountWrappingKeepsSound }
+    ensures answer { AnswerKeepsSound }
+    ensures raise { RaiseKeepsSound }
+    ensures queue_raise { QueueRaiseKeepsSound }
+    ensures message { MessageKeepsSound }
+    ensures head { HeadKeepsSound }
+    ensures switch { SwitchKeepsSound }
+    ensures shut { ShutKeepsSound }
+{}
+
+/// After a reset each register has its reset value, no side of a queue is on or wanted on, and nothing is told.
+pub fn reset_is_the_tables()
+    ensures words { ResetGivesResetValues }
+    ensures off { ResetSwitchesOff }
+    ensures told { ResetTellsNothing }
+{}
+
+/// A word that was put at a place is there, and all else is as it was.
+pub fn put_word_is_there()
+    ensures there { PutWordIsThere }
+    ensures alone { PutWordIsAlone }
+{}
+
+/// The bits that a group of interrupts has are the bits that its registers have in the table.
+pub fn group_bits_are_masks()
+    ensures { GroupBitsAreMasks }
+{}
+
+/// A word that was written to a plain read/write register is read back, by its mask.
+pub fn stored_word_reads_back()
+    ensures { StoredWordReadsBack }
+{}
+
+/// What an operation changes is in its footprint: of a read and a write that of its place, of a count, of an answer of
+/// the EEPROM and of a moved head the one word, of raised causes and of a message what is pending of the group, of a
+/// switch the enable word, and of a fault the enable word and whether the side is wanted on.
+pub fn changes_stay_in_their_footprint()
+    ensures read { ReadStaysWithin }
+    ensures write { WriteStaysWithin }
+    ensures count { CountStaysWithin }
+    ensures count_wrapping { CountWrappingStaysWithin }
+    ensures answer { AnswerStaysWithin }
+    ensures raise { RaiseStaysWithin }
+    ensures queue_raise { QueueRaiseStaysWithin }
+    ensures message { MessageStaysWithin }
+    ensures head { HeadStaysWithin }
+    ensures switch { SwitchStaysWithin }
+    ensures shut { ShutStaysWithin }
+{}
+
+/// What is of a place is its owner's: an access changes nothing of another owner, and raised causes and messages
+/// nothing but causes, masks and told bits.
+pub fn accesses_stay_with_their_owner()
+    ensures read { ReadStaysWithOwner }
+    ensures write { WriteStaysWithOwner }
+    ensures apart { OwnersAreApart }
+    ensures differ { OwnersDiffer }
+    ensures word { WordIsOnePlace }
+    ensures pending { PendingIsPending }
+    ensures counters { CountersAreTheirOwn }
+    ensures interrupts { PendingMissesSides }
+    ensures no_side { ReadMissesSides }
+{}
+
+/// A side of a queue, a group's interrupts, and what single words set, stand through each change within a footprint
+/// that has nothing of them.
+pub fn what_a_footprint_misses_stands()
+    ensures receive { MissedReceiveStands }
+    ensures transmit { MissedTransmitStands }
+    ensures interrupts { MissedInterruptsStand }
+    ensures settings { MissedSettingsStand }
+{}
+
+/// A moved head is the head of the side's ring, and the side is else as it was.
+pub fn moved_head_is_the_head()
+    ensures receive { HeadMovesReceive }
+    ensures transmit { HeadMovesTransmit }
+{}
+
+/// A switched side is on exactly where it is wanted on, and is else as it was; where it was so, nothing changes.
+pub fn switched_side_is_as_wanted()
+    ensures receive { SwitchObeysReceive }
+    ensures transmit { SwitchObeysTransmit }
+    ensures stays { SwitchedSideStays }
+{}
+
+/// A shut side is off and not wanted on, and is else as it was.
+pub fn shut_side_is_off()
+    ensures receive { ShutIsOffReceive }
+    ensures transmit { ShutIsOffTransmit }
+{}
+
+/// While a side of a queue is on, no write changes its ring's base, length or head.
+pub fn ring_is_held_while_on()
+    ensures { RingIsHeldWhileOn }
+{}
+
+/// A written tail, control word or write-back address is the side's, and while the side is off a written base, length
+/// or head too: of the written word the bits that the register's mask and the address let through. The side is else as
+/// it was.
+pub fn written_word_is_the_sides()
+    ensures receive { WrittenReceiveIsTheSides }
+    ensures transmit { WrittenTransmitIsTheSides }
+{}
+
+/// A write of a side's enable word only asks: the side stays on or off, and its ring stays. A read of that word tells
+/// whether the side is on.
+pub fn enable_write_only_asks()
+    ensures receive { EnableWriteAsksReceive }
+    ensures transmit { EnableWriteAsksTransmit }
+    ensures read { EnableReadTellsOn }
+{}
+
+/// What is counted is read: one more each time, up to the largest word. A read starts the counter again from 0.
+pub fn counters_count()
+    ensures { CountersCount }
+{}
+
+/// What is counted in a read-only counter is read: one more each time, and 0 after the largest word. Accesses leave it.
+pub fn read_only_counters_go_round()
+    ensures { ReadOnlyCountersGoRound }
+{}
+
+/// Each row that is calculated has its formula.
+pub fn calculated_rows_have_formulas()
+    ensures { CalculatedRowsHaveFormulas }
+{}
+
+/// An answer of the EEPROM is read back, with the index that was asked for and DONE, and nothing is asked any more.
+pub fn eeprom_answer_is_read()
+    ensures { EepromAnswerIsRead }
+{}
+
+/// What a group's interrupts were made is what its registers hold: its causes, its masks and its told bits, beside the
+/// auto-clear and the auto-mask that it had.
+pub fn interrupts_stand()
+    ensures { InterruptsStand }
+{}
+
+/// After a reset of a pool all that is the pool's is as a reset leaves it, all else is as it was, and the registers are
+/// sound where they were.
+pub fn reset_pool_is_reset()
+    ensures reset { PoolIsReset }
+    ensures alone { PoolResetStaysWithin }
+    ensures sound { PoolResetKeepsSound }
+{}
+
+/// An access of a pool's register, where it asks for no reset, changes nothing but what is the pool's, and one of
+/// STATUS or LINKS nothing at all.
+pub fn pool_accesses_stay_within()
+    ensures read { PoolReadsStayWithin }
+    ensures write { PoolWritesStayWithin }
+    ensures shared_read { SharedReadsChangeNothing }
+    ensures shared_write { SharedWritesChangeNothing }
+{}
+
+/// Two register files that agree of a pool tell the same at the pool's registers, and agree of the pool again after the
+/// same access of one of them. STATUS and LINKS tell the same where both make steps or neither. After a reset of the
+/// pool they agree of it in any case.
+pub fn pool_accesses_tell_of_the_pool()
+    ensures word { PoolReadsTellTheSame }
+    ensures shared_word { SharedReadsTellTheSame }
+    ensures read { PoolReadsKeepAgreement }
+    ensures write { PoolWritesKeepAgreement }
+    ensures reset { PoolResetMakesAgreement }
+{}
+
+/// Two pools have nothing in common, and what two register files agree in stands through changes that have nothing of
+/// it: those of another pool among them.
+pub fn pools_have_nothing_in_common()
+    ensures apart { PoolsHaveNothingInCommon }
+    ensures stands { MissedAgreementStands }
+{}

@@ -80,7 +80,10 @@ pub(crate) fn behind_wordless(text: &str) -> Option<&str>
     ensures shorter { IfSome result (λ rest. length rest.now < length text.now) }
     ensures filled { result ≡ None → prefix_len is_nothing (lines text.now) ≡ 0 }
 {
-    match behind_empty(text) {
+    if let Some(rest) = behind_empty(text) {
+        return Some(rest);
+    }
+    match behind_comment(text) {
         Some(rest) => Some(rest),
         None => behind_blank_line(text),
     }

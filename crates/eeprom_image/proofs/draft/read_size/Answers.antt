@@ -50,8 +50,8 @@ overflow_add-count c =
     c.empty_lines.invariant.counts c.in-Some.ensures.steps in
     let number : c.in-Some.line.number ≡ c.empty_lines.count + 1 = next.0 in
     let on = CountsOn-skip (c.empty_lines.count + 1) c.skip_wordless.result
-    (c.in-Some.line.number + c.skip_wordless.result) all
-    c.next.new.self c.skip_wordless.new.self next.1 (omega arith) c.skip_wordless.ensures.count c.skip_wordless.ensures.behind in
+    (c.in-Some.line.number + c.skip_wordless.result) all c.next.new.self c.skip_wordless.new.self next.1 (omega arith)
+    c.skip_wordless.ensures.count c.skip_wordless.ensures.behind in
     omega (
       arith,
       CountsOn-le (c.in-Some.line.number + c.skip_wordless.result) all c.skip_wordless.new.self on,

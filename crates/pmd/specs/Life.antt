@@ -1,5 +1,5 @@
 -- A driver's life: its start, the calls that drove its halves on, and its end.
-use Rattle.std.specs.Prelude.{ℕ, ◌≡◌, List, [], None, Err}
+use Rattle.std.specs.Prelude.{ℕ, ◌≡◌, List, [], Option, Some, None, Err}
 use Rattle.dma_arena.specs.Numbers.{Numbers}
 use Rattle.device_lock.specs.declared.entry.Call.{Call}
 use Rattle.pmd_base.specs.declared.fault.PmdFault.{PmdFault}
@@ -33,28 +33,30 @@ pub record Lives (q : AtPort) (size : ℕ) (old : List Call) (a : Numbers) (new 
   pub up : AreUp q size old a made fresh
   pub drives : Drives made (halves_of fresh) new (halves_of r)
 
--- a driver of this queue was stopped, once: it is home, or the stop was refused, and the driver is left, not running
-abbrev pub IsStopped : AtPort → List Call → Halted → List Call → Rest → Type 0
-IsStopped q old h new (rest.Home home) = Stops q old h new home
-IsStopped q old h new (rest.Running p) =
-    (f : PmdFault) × (after : Halted) × (p ≡ record { queue = q; rings = Down after })
-    × StopFails f q old h new after
+-- a driver of this queue was stopped, once: it is home; or the stop was refused for this fault, and the driver is left,
+-- not running
+abbrev pub IsStopped : AtPort → List Call → Halted → List Call → Rest → Option PmdFault → Type 0
+IsStopped q old h new (rest.Home home) None = Stops q old h new home
+IsStopped q old h new (rest.Running p) (Some f) =
+    (after : Halted) × (p ≡ record { queue = q; rings = Down after }) × StopFails f q old h new after
+IsStopped q old h new left late = ⊥
 
 -- a driver lived, and was stopped. What it handed out and accepted is what its halves did up to there
-pub record HasLived (q : AtPort) (size : ℕ) (old : List Call) (a : Numbers) (new : List Call) (left : Rest) :
-    Type 0 where
+pub record HasLived (q : AtPort) (size : ℕ) (old : List Call) (a : Numbers) (new : List Call) (left : Rest)
+    (late : Option PmdFault) : Type 0 where
   -- the calls that were made as it was to stop, and the driver there
   pub made : List Call
   pub last : Running
   pub lives : Lives q size old a made last
-  pub stopped : IsStopped q made (halted_of (Up last)) new left
+  pub stopped : IsStopped q made (halted_of (Up last)) new left late
   pub handed : left_handed left ≡ last.receive.handed
   pub accepted : left_accepted left ≡ last.transmit.accepted
 
 -- what a refused start left is home, or is stopped, once
 abbrev pub ComesDown : List Call → Rest → List Call → Rest → Type 0
 ComesDown old (rest.Home home) new left = (left ≡ rest.Home home) × (new ≡ old)
-ComesDown old (rest.Running p) new left = IsStopped p.queue old (halted_of p.rings) new left
+ComesDown old (rest.Running p) new left =
+    (late : Option PmdFault) × IsStopped p.queue old (halted_of p.rings) new left late
 
 -- a driver's start was refused, and what it left came down. Nothing was handed out or accepted
 pub record NeverLived (q : AtPort) (size : ℕ) (old : List Call) (a : Numbers) (e : StartRefused) (new : List Call)

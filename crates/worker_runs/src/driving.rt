@@ -7,7 +7,7 @@ ghost use Rattle.device_lock.specs.declared.entry.Call.{Call};
 ghost use Rattle.pmd_queue.specs.Named.{AtPort};
 ghost use Rattle.pmd.specs.Blocks.{HasAll, LosesNone, IsWhole};
 ghost use Rattle.pmd.specs.Driver.{accepted_of, handed_of, halted_of};
-ghost use Rattle.pmd.specs.Life.{ComesDown, HasLived, IsStopped, RunsOn};
+ghost use Rattle.pmd.specs.Life.{ComesDown, IsStopped, RunsOn};
 ghost use Rattle.pmd.specs.Started.{left_accepted, left_handed, HasStarted};
 ghost use Rattle.worker_runs.specs.Ended.{first_fault, is_home, is_threadless};
 ghost use Rattle.worker_runs.specs.Kept.{KeepsAll};
@@ -81,7 +81,8 @@ fn work<G: Gate, N: Nic>(
 
 /// Stops a driver, once. Where the stop is refused, the driver is left.
 fn take_home<N: Nic>(alloc: Global, nic: &mut N, pmd: Pmd) -> (Rest, Option<PmdFault>)
-    ensures stopped { IsStopped pmd.queue (N.made nic.old) (halted_of pmd.rings) (N.made nic.new) result.0 }
+    ensures stopped { IsStopped pmd.queue (N.made nic.old) (halted_of pmd.rings) (N.made nic.new) result.0
+        result.1 }
     ensures handed { left_handed result.0 ≡ handed_of pmd.rings }
     ensures accepted { left_accepted result.0 ≡ accepted_of pmd.rings }
     ensures home { IfNone result.1 (is_home result.0 ≡ true) }
@@ -137,7 +138,8 @@ fn drive<G: Gate, N: Nic>(
     requires none { handed_of pmd.rings ≡ [] }
     requires room { order.rounds ≤ known_free producer.old }
     ensures lived { (q : AtPort) (size : ℕ) (old : List Call) (arena : Numbers)
-        → HasStarted q size old arena (N.made nic.old) pmd → HasLived q size old arena (N.made nic.new) result.0 }
+        → HasStarted q size old arena (N.made nic.old) pmd
+        → HasRun q size old arena (N.made nic.new) result.0 result.1 }
     ensures told { sent producer.new ≡ reports_of order.queue (left_handed result.0) }
     ensures few { length (sent producer.new) ≤ order.rounds }
     ensures ring { SameProducer producer.old producer.new }

@@ -39,7 +39,8 @@ pub record IsSitting (all : List Job) (collectors : List Collector) (jobs : List
 
 first_sits : (all : List Job) (collectors : List Collector) (jobs : List Job)
     (ps : List (Producer Report Global AnyItems)) (ss : List (Seat Duty Back)) (d : Duty) (k : Job)
-    (q : Producer Report Global AnyItems) (before : List Job) (taken left : List Collector) → before ++ jobs ≡ all → taken ++ left ≡ collectors → AllSit before ss taken
+    (q : Producer Report Global AnyItems) (before : List Job) (taken left : List Collector)
+    → before ++ jobs ≡ all → taken ++ left ≡ collectors → AllSit before ss taken
     → AreWays jobs ps left → 0 < length jobs → d.job ≡ slice_index_or jobs 0 k
     → d.producer ≡ slice_index_or ps 0 q
     → IsSitting all collectors (remove jobs 0) (remove ps 0) (ss ++ Waits d ∷ [])

@@ -1,3 +1,4 @@
 pub mod Life
 pub mod Looks
 pub mod Order
+pub mod Waits

@@ -69,8 +69,9 @@ module _ (w : Watched) (fifo : ℕ) (h : List Entry) (q : AtPort) (size : ℕ) (
       (others_go_on x.looks.mid (x.looks.mid ++ others) then (others, refl) x.steps)
 
   -- a beginning of the history, with the halves that the calls lead to
-  abbrev lived : (early rest : List Entry) → early ++ rest ≡ h → (calls : List Call) (j : Halves) → calls_of w.pass early ≡ calls
-      → GoesOn started (halves_of r) calls j → IsLived w fifo early q size old a started r j
+  abbrev lived : (early rest : List Entry) → early ++ rest ≡ h → (calls : List Call) (j : Halves)
+      → calls_of w.pass early ≡ calls → GoesOn started (halves_of r) calls j
+      → IsLived w fifo early q size old a started r j
   lived early rest all calls j is goes = record {
     along = along_before w fifo h early rest all x.along;
     life = record {
@@ -105,7 +106,8 @@ module _ (w : Watched) (fifo : ℕ) (h : List Entry) (q : AtPort) (size : ℕ) (
     lived_before =
         let rest = x.look.entry ∷ x.look.behind in
         lived early (more ++ rest)
-        (sym (append_assoc early more rest) ∙ ap (λ (l : List Entry). l ++ rest) all ∙ x.look.all) made k is x.life.since
+        (sym (append_assoc early more rest) ∙ ap (λ (l : List Entry). l ++ rest) all ∙ x.look.all) made k is
+        x.life.since
 
     p : Parts w.pass early x.life.up.on.mid (order.whole w fifo early q size old a started r k lived_before).0.1
     p = in_parts w fifo early q size old a started r k lived_before

@@ -19,8 +19,8 @@ use Rattle.pmd_laws.specs.Life.{IsLife}
 use Rattle.pmd_laws.specs.Looks.{EndsAt}
 
 -- a legal history of a new device that leaves the queue alone. In it the pass made the calls of this life, and then one
--- call of the driver accepted none, and looked at last at the oldest outstanding packet, which wasn't done, beside steps
--- of the device
+-- call of the driver accepted none, and looked at last at the oldest outstanding packet, which wasn't done, beside
+-- steps of the device
 pub record LooksAtWaiting (w : Watched) (fifo : ℕ) (h : List Entry) (q : AtPort) (size : ℕ) (old : List Call)
     (a : Numbers) (started : List Call) (r : Running) (made : List Call) (k : Halves) (new : List Call) (v : Sender) :
     Type 0 where

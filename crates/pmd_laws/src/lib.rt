@@ -27,8 +27,8 @@ pub fn empty_look_leaves_nothing()
     ensures { NoneIsAllBefore }
 {}
 
-/// Where a call of such a driver ends with a packet outstanding, as `reap` does that isn't idle, it made a look at last;
-/// and before the first entry of that call not all that the driver had accepted was sent, whatever the others did then.
+/// Where a call of such a driver ends with a packet outstanding, as `reap` does that isn't idle, it looked at last; and
+/// before the first entry of that call not all that the driver had accepted was sent, whatever the others did then.
 pub fn waiting_look_leaves_some_unsent()
     ensures { WaitingIsNotAllBefore }
 {}

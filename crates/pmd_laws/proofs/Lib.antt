@@ -1,4 +1,5 @@
 pub mod Begun
 pub mod Looks
 pub mod Order
+pub mod Told
 pub mod Waits

@@ -1,4 +1,5 @@
 pub mod Life
 pub mod Looks
 pub mod Order
+pub mod Told
 pub mod Waits

@@ -7,6 +7,7 @@
 
 ghost use Rattle.pmd_laws.specs.Looks.{NoneIsAllBefore};
 ghost use Rattle.pmd_laws.specs.Order.{HandedIsPrefix, NoneIsAll, SentIsPrefix, IdleIsAllSent};
+ghost use Rattle.pmd_laws.specs.Told as told;
 ghost use Rattle.pmd_laws.specs.Waits.{WaitingIsNotAllBefore};
 
 /// Over a legal history of a new device that leaves the driver's queue alone, whose pass made the calls of a start that
@@ -31,4 +32,16 @@ pub fn empty_look_leaves_nothing()
 /// before the first entry of that call not all that the driver had accepted was sent, whatever the others did then.
 pub fn waiting_look_leaves_some_unsent()
     ensures { WaitingIsNotAllBefore }
+{}
+
+/// The same of a `pmd::Pmd` by what its calls tell alone: `start` answered it, and then came calls of `rx`, `tx`,
+/// `reap`, `packet` and `release`, in any order and with whatever answers, beside steps of the device. The packets that
+/// it handed out are a prefix of those delivered, and where `rx` answers none, all of those that were delivered before
+/// its look; and the frames sent are a prefix of those that it accepted, and all of them where none is outstanding, as
+/// where `reap` answers so.
+pub fn driver_in_order()
+    ensures handed { told.HandedIsPrefix }
+    ensures none { told.NoneIsAllBefore }
+    ensures sent { told.SentIsPrefix }
+    ensures idle { told.IdleIsAllSent }
 {}

@@ -12,7 +12,9 @@ use Rattle.device_lock.specs.Pass.{call_of}
 use Rattle.device_lock.specs.declared.alone.Watched.{Watched}
 use Rattle.device_lock.specs.declared.entry.Call.{Call}
 use Rattle.device_lock.specs.declared.entry.Entry.{Entry}
+use Rattle.pmd.specs.Driver.{accepted_of}
 use Rattle.pmd.specs.Running.{Running}
+use Rattle.pmd.specs.declared.driver.Rings.{Rings}
 use Rattle.pmd_queue.specs.Named.{AtPort}
 use Rattle.pmd_tx.specs.Sending.{Sender, descriptor_at}
 use Rattle.receive_laws.proofs.Delivering.{legal_behind}
@@ -25,10 +27,12 @@ use Rattle.driver_laws.specs.Halves.{Halves, halves_of}
 use Rattle.driver_laws.proofs.Calls.{halves_go_on, others_go_on, sending_goes_on}
 use Rattle.driver_laws.proofs.Waiting.{waiting_is_not_all}
 use Rattle.pmd_laws.specs.Order.{IsLived}
-use Rattle.pmd_laws.specs.Waits.{LooksAtWaiting, WaitingIsNotAllBefore}
+use Rattle.pmd_laws.specs.Told.{last}
+use Rattle.pmd_laws.specs.Waits.{LooksAtWaiting, WaitingIsNotAllBefore, WaitingIsNotAllAsTold}
 use Rattle.pmd_laws.proofs.Looks.{along_before, begins_before}
 use Rattle.pmd_laws.proofs.Order as order
 use Rattle.pmd_laws.proofs.Order.{in_parts}
+use Rattle.pmd_laws.proofs.Told.{life, runs, up_next}
 
 module _ (w : Watched) (fifo : ℕ) (h : List Entry) (q : AtPort) (size : ℕ) (old : List Call) (a : Numbers)
     (started : List Call) (r : Running) (made : List Call) (k : Halves) (made_then : List Call) (v : Sender)
@@ -148,3 +152,22 @@ module _ (w : Watched) (fifo : ℕ) (h : List Entry) (q : AtPort) (size : ℕ) (
 
 pub waiting_before_look : WaitingIsNotAllBefore
 waiting_before_look = not_all
+
+-- the same by what the calls tell
+pub waiting_as_told : WaitingIsNotAllAsTold
+waiting_as_told w fifo h q size old a m later n x before more all is same =
+    let made = (last m later).made in
+    let runs = runs q size old a m later x.told in
+    let (s, after, (looks, moves, steps)) =
+    up_next _ (last m later).driver.rings n.driver.rings runs.rings runs.up x.waits in
+    waiting_before_look w fifo h q size old a m.made x.told.started.0 made (halves_of runs.rings) n.made s.transmit
+    (record {
+      along = x.along;
+      life = life q size old a m later x.told made runs.goes;
+      begins = x.begins;
+      looks = looks;
+      moves = moves;
+      steps = steps;
+      look = x.look;
+    })
+    before more all is (ap (λ (z : Rings). bytes_of (accepted_of z)) (sym runs.up) ∙ same)

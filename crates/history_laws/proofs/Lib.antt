@@ -14,4 +14,5 @@ pub mod Silent
 pub mod Sound
 pub mod Sparing
 pub mod Staged
+pub mod StagedWrites
 pub mod Written

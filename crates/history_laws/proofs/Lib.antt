@@ -16,4 +16,5 @@ pub mod Silent
 pub mod Sound
 pub mod Sparing
 pub mod Staged
+pub mod StagedWrites
 pub mod Written

@@ -39,134 +39,139 @@ module _ (w : Watched) (fifo : ℕ) (h : List Entry) (q : AtPort) (size : ℕ) (
   abbrev new : State
   new = new_state w.vfs fifo
 
-  abbrev up : AreUp q size old a started r
+  abbrev pub up : AreUp q size old a started r
   up = x.life.up
 
   -- as both sides are on the receive ring is empty
-  abbrev first : Halves
+  abbrev pub first : Halves
   first = record { receive = up.empty; transmit = r.transmit }
 
-  whole : GoesOn up.on.mid first (calls_of w.pass h) k
+  pub whole : GoesOn up.on.mid first (calls_of w.pass h) k
   whole =
       halves_go_on up.on.mid started (calls_of w.pass h) first (halves_of r) k
       (receiving_goes_on up.on.mid started first (halves_of r)
       (record { plays = up.on.plays; steps = x.life.filled; other = refl }))
       x.life.since
 
-  abbrev doers : List Doer
+  abbrev pub doers : List Doer
   doers = whole.0.0
 
   -- the history in two parts, of which the first ends there
-  p : Parts w.pass h up.on.mid whole.0.1
-  p = parts w.pass h up.on.mid whole.0.1 whole.0.2
+  pub in_parts : Parts w.pass h up.on.mid whole.0.1
+  in_parts = parts w.pass h up.on.mid whole.0.1 whole.0.2
 
-  abbrev here : State
-  here = leads_to new p.front
+  module _ (p : Parts w.pass h up.on.mid whole.0.1) where
+    abbrev pub here : State
+    here = leads_to new p.front
 
-  agrees : Agree w.queue here [] up.empty × Agrees here w.queue [] r.transmit
-  agrees =
-      start_agrees w fifo h q size old a started r up x.along x.life.sized x.life.steps x.begins p.front p.back p.both
-      p.fronts
+    agrees : Agree w.queue here [] up.empty × Agrees here w.queue [] r.transmit
+    agrees =
+        start_agrees w fifo h q size old a started r up x.along x.life.sized x.life.steps x.begins p.front p.back p.both
+        p.fronts
 
-  went_on : WentOn w.queue new p.front
-  went_on =
-      start_goes_on w fifo h q size old a started r up x.along x.life.sized x.life.steps x.begins p.front p.back p.both
-      p.fronts
+    went_on : WentOn w.queue new p.front
+    went_on =
+        start_goes_on w fifo h q size old a started r up x.along x.life.sized x.life.steps x.begins p.front p.back
+        p.both p.fronts
 
-  one : IsLentBy w.pass up.receive.ring h
-  one =
-      ring_lent w fifo h q size old a started r up x.along x.life.sized x.life.steps x.begins p.front p.back p.both
-      p.fronts
+    one : IsLentBy w.pass up.receive.ring h
+    one =
+        ring_lent w fifo h q size old a started r up x.along x.life.sized x.life.steps x.begins p.front p.back p.both
+        p.fronts
 
-  two : IsLentBy w.pass up.transmit.ring h
-  two =
-      other_lent w fifo h q size old a started r up x.along x.life.sized x.life.steps x.begins p.front p.back p.both
-      p.fronts
+    two : IsLentBy w.pass up.transmit.ring h
+    two =
+        other_lent w fifo h q size old a started r up x.along x.life.sized x.life.steps x.begins p.front p.back p.both
+        p.fronts
 
-  -- there each half has lent its ring's block
-  first_is : first ≡ at_first q.port size up.receive.ring up.receive.tail up.transmit.ring up.transmit.tail
-  first_is = λ i. record { receive = up.receive.fresh i; transmit = up.transmit.fresh i }
+    -- there each half has lent its ring's block
+    first_is : first ≡ at_first q.port size up.receive.ring up.receive.tail up.transmit.ring up.transmit.tail
+    first_is = λ i. record { receive = up.receive.fresh i; transmit = up.transmit.fresh i }
 
-  apart : AreApart first
-  apart =
-      subst AreApart (sym first_is)
-      (first_apart q.port size up.receive.ring up.receive.tail up.transmit.ring up.transmit.tail
-      (drawn_apart a up.ready_arena up.receive.ring up.transmit.ring up.receive.prepared.free
-      up.receive.prepared.drawn up.transmit.prepared.free))
+    apart : AreApart first
+    apart =
+        subst AreApart (sym first_is)
+        (first_apart q.port size up.receive.ring up.receive.tail up.transmit.ring up.transmit.tail
+        (drawn_apart a up.ready_arena up.receive.ring up.transmit.ring up.receive.prepared.free
+        up.receive.prepared.drawn up.transmit.prepared.free))
 
-  lent : AreLent (lent_by w.pass h) first
-  lent =
-      subst (AreLent (lent_by w.pass h)) (sym first_is)
-      (first_lent q.port size up.receive.ring up.receive.tail up.transmit.ring up.transmit.tail (lent_by w.pass h)
-      one.mine two.mine)
+    lent : AreLent (lent_by w.pass h) first
+    lent =
+        subst (AreLent (lent_by w.pass h)) (sym first_is)
+        (first_lent q.port size up.receive.ring up.receive.tail up.transmit.ring up.transmit.tail (lent_by w.pass h)
+        one.mine two.mine)
 
-  driven : IsDriven w fifo p.front p.back first doers
-  driven =
-      let all = sym p.both in
-      record {
-        new = x.along.new;
-        events = subst AreEvents all x.along.events;
-        legal = subst (IsLegal new) all x.along.legal;
-        alone = subst (LeavesAlone w) all x.along.alone;
-        begun =
-            begun w.pass p.front
-            (λ none.
-            on_some w fifo h q size old a started r up x.along x.life.sized x.life.steps x.begins
-            (sym p.fronts ∙ none));
-        on = went_on.received;
-        agree = record { receive = agrees.0; transmit = agrees.1; apart = apart };
-        lent = subst (λ (l : List Entry). AreLent (lent_by w.pass l) first) all lent;
-        own = subst (AllOwn first doers) (sym p.backs) whole.0.3;
-        others =
-            steps_leave_alone w (lent_by w.pass (p.front ++ p.back)) (mode_through w.vfs Off p.front) doers p.back
-            (steps_by_calls w doers p.back (subst (OthersStep doers) (sym p.backs) whole.1));
-      }
+    pub driven : IsDriven w fifo p.front p.back first doers
+    driven =
+        let all = sym p.both in
+        record {
+          new = x.along.new;
+          events = subst AreEvents all x.along.events;
+          legal = subst (IsLegal new) all x.along.legal;
+          alone = subst (LeavesAlone w) all x.along.alone;
+          begun =
+              begun w.pass p.front
+              (λ none.
+              on_some w fifo h q size old a started r up x.along x.life.sized x.life.steps x.begins
+              (sym p.fronts ∙ none));
+          on = went_on.received;
+          agree = record { receive = agrees.0; transmit = agrees.1; apart = apart };
+          lent = subst (λ (l : List Entry). AreLent (lent_by w.pass l) first) all lent;
+          own = subst (AllOwn first doers) (sym p.backs) whole.0.3;
+          others =
+              steps_leave_alone w (lent_by w.pass (p.front ++ p.back)) (mode_through w.vfs Off p.front) doers p.back
+              (steps_by_calls w doers p.back (subst (OthersStep doers) (sym p.backs) whole.1));
+        }
 
-  last : played_by first doers (calls_of w.pass p.back) ≡ k
-  last = ap (played_by first doers) p.backs ∙ sym whole.0.4
+    pub last : played_by first doers (calls_of w.pass p.back) ≡ k
+    last = ap (played_by first doers) p.backs ∙ sym whole.0.4
 
-  -- and so it holds of the whole history
+    -- and so it holds of the whole history
 
-  handed : receive.IsPrefixOf k.receive.handed (delivered w.queue new h)
-  handed =
-      subst (λ (l : List Entry). receive.IsPrefixOf k.receive.handed (delivered w.queue new l)) p.both
-      (subst (λ (z : Halves). receive.IsPrefixOf z.receive.handed (delivered w.queue new (p.front ++ p.back))) last
-      (handed_is_prefix w fifo p.front p.back first doers driven))
+    handed : receive.IsPrefixOf k.receive.handed (delivered w.queue new h)
+    handed =
+        subst (λ (l : List Entry). receive.IsPrefixOf k.receive.handed (delivered w.queue new l)) p.both
+        (subst (λ (z : Halves). receive.IsPrefixOf z.receive.handed (delivered w.queue new (p.front ++ p.back))) last
+        (handed_is_prefix w fifo p.front p.back first doers driven))
 
-  none_left : FindsNone (leads_to new h) k.receive → k.receive.handed ≡ delivered w.queue new h
-  none_left finds =
-      let then = subst (λ (l : List Entry). FindsNone (leads_to new l) k.receive) (sym p.both) finds in
-      ap (λ (z : Halves). z.receive.handed) (sym last)
-      ∙ none_is_all w fifo p.front p.back first doers driven
-      (subst (λ (z : Halves). FindsNone (leads_to new (p.front ++ p.back)) z.receive) (sym last) then)
-      ∙ ap (delivered w.queue new) p.both
+    none_left : FindsNone (leads_to new h) k.receive → k.receive.handed ≡ delivered w.queue new h
+    none_left finds =
+        let then = subst (λ (l : List Entry). FindsNone (leads_to new l) k.receive) (sym p.both) finds in
+        ap (λ (z : Halves). z.receive.handed) (sym last)
+        ∙ none_is_all w fifo p.front p.back first doers driven
+        (subst (λ (z : Halves). FindsNone (leads_to new (p.front ++ p.back)) z.receive) (sym last) then)
+        ∙ ap (delivered w.queue new) p.both
 
-  counted : sent_since w.queue new [] h ≡ sent_in w.queue here p.back
-  counted =
-      ap (sent_since w.queue new []) (sym p.both)
-      ∙ counted_where_up w fifo p.front p.back first doers driven went_on.sends
-      ∙ ap (λ (xs : List (List ℕ)). xs ++ sent_in w.queue here p.back) went_on.sent
+    pub counted : sent_since w.queue new [] h ≡ sent_in w.queue here p.back
+    counted =
+        ap (sent_since w.queue new []) (sym p.both)
+        ∙ counted_where_up w fifo p.front p.back first doers driven went_on.sends
+        ∙ ap (λ (xs : List (List ℕ)). xs ++ sent_in w.queue here p.back) went_on.sent
 
-  sent : transmit.IsPrefixOf (sent_since w.queue new [] h) (bytes_of k.transmit.accepted)
-  sent =
-      subst (λ (xs : List (List ℕ)). transmit.IsPrefixOf xs (bytes_of k.transmit.accepted)) (sym counted)
-      (subst (λ (z : Halves). transmit.IsPrefixOf (sent_in w.queue here p.back) (bytes_of z.transmit.accepted)) last
-      (sent_is_prefix w fifo p.front p.back first doers driven))
+    sent : transmit.IsPrefixOf (sent_since w.queue new [] h) (bytes_of k.transmit.accepted)
+    sent =
+        subst (λ (xs : List (List ℕ)). transmit.IsPrefixOf xs (bytes_of k.transmit.accepted)) (sym counted)
+        (subst (λ (z : Halves). transmit.IsPrefixOf (sent_in w.queue here p.back) (bytes_of z.transmit.accepted)) last
+        (sent_is_prefix w fifo p.front p.back first doers driven))
 
-  idle : k.transmit.outstanding ≡ [] → bytes_of k.transmit.accepted ≡ sent_since w.queue new [] h
-  idle none =
-      let then = ap (λ (z : Halves). z.transmit.outstanding) last ∙ none in
-      ap (λ (z : Halves). bytes_of z.transmit.accepted) (sym last)
-      ∙ idle_is_all_sent w fifo p.front p.back first doers driven then ∙ sym counted
+    idle : k.transmit.outstanding ≡ [] → bytes_of k.transmit.accepted ≡ sent_since w.queue new [] h
+    idle none =
+        let then = ap (λ (z : Halves). z.transmit.outstanding) last ∙ none in
+        ap (λ (z : Halves). bytes_of z.transmit.accepted) (sym last)
+        ∙ idle_is_all_sent w fifo p.front p.back first doers driven then ∙ sym counted
 
 pub handed_of_life : order.HandedIsPrefix
-handed_of_life = handed
+handed_of_life w fifo h q size old a started r k x =
+    handed w fifo h q size old a started r k x (in_parts w fifo h q size old a started r k x)
 
 pub none_of_life : order.NoneIsAll
-none_of_life = none_left
+none_of_life w fifo h q size old a started r k x =
+    none_left w fifo h q size old a started r k x (in_parts w fifo h q size old a started r k x)
 
 pub sent_of_life : order.SentIsPrefix
-sent_of_life = sent
+sent_of_life w fifo h q size old a started r k x =
+    sent w fifo h q size old a started r k x (in_parts w fifo h q size old a started r k x)
 
 pub idle_of_life : order.IdleIsAllSent
-idle_of_life = idle
+idle_of_life w fifo h q size old a started r k x =
+    idle w fifo h q size old a started r k x (in_parts w fifo h q size old a started r k x)

@@ -38,7 +38,7 @@ pub record RunsOn (m : Moment) (r : Running) (n : Moment) : Type 0 where
 
 -- where a driver that runs runs on
 
-up_next : (P : Running → Running → Type 0) (a b : Rings) (r : Running) → a ≡ Up r → WhereUp a b P
+pub up_next : (P : Running → Running → Type 0) (a b : Rings) (r : Running) → a ≡ Up r → WhereUp a b P
     → (s : Running) × (b ≡ Up s) × P r s
 up_next P (Up x) (Up y) r is holds = let same : x ≡ r = cc in (y, refl, subst (λ z. P z y) same holds)
 up_next P (Up x) (Down y) r is holds = absurd holds
@@ -75,7 +75,7 @@ all_follow m (n ∷ later) r is x =
     }
 
 -- a start that isn't shut has a size that rings may have
-open_size : (size : ℕ) (a : Numbers) (old new : List Call) (p : Driver) (b : Bool) (rest : Option PmdFault)
+pub open_size : (size : ℕ) (a : Numbers) (old new : List Call) (p : Driver) (b : Bool) (rest : Option PmdFault)
     → IsShut (if b then rest else Some BadSize) a old new (Ok p) → b ≡ true
 open_size size a old new p true rest x = refl
 open_size size a old new p false rest x = absurd x
@@ -83,16 +83,16 @@ open_size size a old new p false rest x = absurd x
 -- so it is a life
 module _ (q : AtPort) (size : ℕ) (old : List Call) (a : Numbers) (m : Moment) (later : List Moment)
     (x : IsTold q size old a m later) where
-  abbrev first : Running
+  abbrev pub first : Running
   first = x.started.0
 
-  runs : RunsOn m first (last m later)
+  pub runs : RunsOn m first (last m later)
   runs = all_follow m later first (ap (λ (p : Driver). p.rings) x.started.1) x.since
 
-  abbrev now : Halves
+  abbrev pub now : Halves
   now = halves_of runs.rings
 
-  abbrev life : (calls : List Call) → GoesOn m.made (halves_of first) calls now
+  abbrev pub life : (calls : List Call) → GoesOn m.made (halves_of first) calls now
       → IsLife q size old a m.made first calls now
   life calls since = record {
     sized = open_size size a old m.made m.driver (is_size size) _ x.shut;

@@ -3,3 +3,4 @@ pub mod Life
 pub mod Looks
 pub mod Order
 pub mod Told
+pub mod Waits

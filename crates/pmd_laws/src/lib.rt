@@ -9,6 +9,7 @@ ghost use Rattle.pmd_laws.specs.Ends.{LeftIsPrefix};
 ghost use Rattle.pmd_laws.specs.Looks.{NoneIsAllBefore};
 ghost use Rattle.pmd_laws.specs.Order.{HandedIsPrefix, NoneIsAll, SentIsPrefix, IdleIsAllSent};
 ghost use Rattle.pmd_laws.specs.Told as told;
+ghost use Rattle.pmd_laws.specs.Waits.{WaitingIsNotAllBefore, WaitingIsNotAllAsTold};
 
 /// Over a legal history of a new device that leaves the driver's queue alone, whose pass made the calls of a start that
 /// brought both rings up, and then calls of the two halves, beside steps of the device: the packets that the driver
@@ -26,6 +27,14 @@ pub fn life_in_order()
 /// before the entry of that look was handed out, also within a longer history.
 pub fn empty_look_leaves_nothing()
     ensures { NoneIsAllBefore }
+{}
+
+/// Where a call of such a driver ends with a packet outstanding, as `reap` does that isn't idle, it looked at last; and
+/// before the first entry of that call not all that the driver had accepted was sent, whatever the others did then. The
+/// same by what the calls of a `pmd::Pmd` tell alone.
+pub fn waiting_look_leaves_some_unsent()
+    ensures before { WaitingIsNotAllBefore }
+    ensures told { WaitingIsNotAllAsTold }
 {}
 
 /// The same of a `pmd::Pmd` by what its calls tell alone: `start` answered it, and then came calls of `rx`, `tx`,

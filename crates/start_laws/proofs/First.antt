@@ -80,7 +80,8 @@ first_leads w fifo h P old c along kept keeps at done rest all is =
     (λ i. made i ++ f.call i ∷ []) in
     let then : P (reached w fifo till) =
     subst P (sym (reached_next w fifo early e))
-    (subst (λ (x : Call). P (after (reached w fifo early) x.event)) (sym f.call) (keeps (reached w fifo early) before)) in
+    (subst (λ (x : Call). P (after (reached w fifo early) x.event)) (sym f.call)
+    (keeps (reached w fifo early) before)) in
     subst (λ (l : List Entry). P (reached w fifo l)) split
     (kept_on w fifo h along (λ so_far. P (reached w fifo so_far)) (state_kept w fifo (lent_by w.pass h) P kept) till
     f.back rest whole (λ none. ends_some old [] (call_in e) (sym some ∙ none)) f.backs then)

@@ -13,7 +13,8 @@ ghost use Rattle.start_laws.specs.Standing.{StandingSidesAreLeft};
 ghost use Rattle.start_laws.specs.Words.{ReceiveWordsAreTaken, TransmitWordsAreTaken};
 
 /// The numbers that a driver uses at its port name the registers of the queue that port and queue name: at the physical
-/// function each of the device's queues by its number there, at a virtual function those of its pool, from the first on.
+/// function each of the device's queues by its number there, at a virtual function those of its pool, from the first
+/// on.
 pub fn named_queue_has_the_numbers()
     ensures { NamedQueueHasTheNumbers }
 {}

@@ -78,7 +78,7 @@ led_on w s out sent h e es k both stays l =
 
 module _ (w : Watched) (mine : Blocks) where
   -- an entry that is neither half's leaves the queue alone
-  others_leave : (mode : Mode) (doers : List Doer) (e : Entry) (b : Bool) → (e.pass == w.pass) ≡ b
+  pub others_leave : (mode : Mode) (doers : List Doer) (e : Entry) (b : Bool) → (e.pass == w.pass) ≡ b
       → EntryLeavesAlone w mine mode e
       → (e.pass ≡ w.pass → IsTrue (is_neither (doer_of true doers))
       → LeavesRegisters w mode e.event × LeavesBlocks mine e.event)
@@ -95,7 +95,7 @@ module _ (w : Watched) (mine : Blocks) where
       lends_mine w.pass mine e.pass e.event e.reply (eqb-true e.pass w.pass is) made covers
   own_lends doers e false is made covers half = cc
 
-  one_entry : (mode : Mode) (s : State) (out : List Piece) (sent : List (List ℕ)) (h : Halves) (doers : List Doer)
+  pub one_entry : (mode : Mode) (s : State) (out : List Piece) (sent : List (List ℕ)) (h : Halves) (doers : List Doer)
       (e : Entry) (b : Bool) → (e.pass == w.pass) ≡ b → Meets w mine mode s out sent h → e.reply ≡ reply_to s e.event
       → IsEvent e.event → EntryLeavesAlone w mine mode e
       → (e.pass ≡ w.pass → IsTrue (is_neither (doer_of true doers))

@@ -8,7 +8,7 @@ use Rattle.pmd.specs.Halves.{Halves, Doer, Receives, Sends, AllOwn, after_call, 
 
 -- the calls of one half
 
-receives_own : (h : Halves) (marks : List Bool) (calls : List Call) → receive.AllOwn h.receive marks calls
+pub receives_own : (h : Halves) (marks : List Bool) (calls : List Call) → receive.AllOwn h.receive marks calls
     → AllOwn h (doers_marked marks) calls
 receives_own h [] [] own = tt
 receives_own h [] (n ∷ calls) own = own

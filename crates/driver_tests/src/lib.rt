@@ -1,6 +1,6 @@
 //! What no contract says of the driver: that its calls succeed where memory is ample, over a device in hand, among
-//! foreign events and over one that two threads share, that what they write is what the device then does, and that a
-//! driver comes to its end whatever others do to its queue.
+//! foreign events and over one that threads share, that what they write is what the device then does, and that a driver
+//! comes to its end whatever others do to its queue, also beside another on threads.
 #![tactic(auto)]
 
 #[cfg(test)]
@@ -12,6 +12,8 @@ mod hostile;
 #[cfg(test)]
 mod interleaved;
 #[cfg(test)]
+mod others;
+#[cfg(test)]
 mod outcome;
 #[cfg(test)]
 mod queues;
@@ -19,5 +21,7 @@ mod queues;
 mod random;
 #[cfg(test)]
 mod schedule;
+#[cfg(test)]
+mod stranger;
 #[cfg(test)]
 mod through_lock;

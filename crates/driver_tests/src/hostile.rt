@@ -2,7 +2,7 @@
 
 use crate::bench::{device, frame_of, make, started, taken_apart};
 use crate::outcome::{done, some};
-use crate::schedule::{Left, Schedule, add, finish, give_back, push, push_steps, take_all};
+use crate::schedule::{Left, Schedule, add, all_home, finish, listed, push, push_steps, take_all};
 use device_lock::Call;
 use dma_arena::{Arena, Buf, Octets};
 use nic_device::{Device, Dir, Event, Port, Reply};
@@ -16,7 +16,7 @@ use std::process::Abort;
 
 /// Foreign writes, by address and word, none of which leaves queue 0 of a driver alone.
 #[rattlefmt::skip]
-const WRITES: [(u32, u32); 24] = [
+pub const WRITES: [(u32, u32); 24] = [
     (0x01018, 5),           // RDT, a slot of the ring
     (0x01018, 200),         // RDT, no slot of the ring
     (0x01010, 3),           // RDH
@@ -141,7 +141,7 @@ fn endures<R: Abort>(
         Err(StopRefused { fault: _, pmd }) => stopped_again(rt, alloc, &mut direct, pmd),
     };
     let (device, _calls) = direct.finish();
-    settle(rt, home, device, bufs, second);
+    settle(rt, alloc, home, device, bufs, second);
     calls
 }
 
@@ -153,9 +153,16 @@ fn stopped_again<R: Abort>(rt: &R, alloc: Global, direct: &mut Direct, pmd: Pmd)
 
 /// Sees that all blocks are home or lost, and that the lost ones and those of the second arena are where the others
 /// left them: in hand, or still lent.
-fn settle<R: Abort>(rt: &R, home: Home, device: Device, mut bufs: Vec<Buf>, mut second: Arena) {
+fn settle<R: Abort>(
+    rt: &R,
+    alloc: Global,
+    home: Home,
+    device: Device,
+    mut bufs: Vec<Buf>,
+    second: Arena,
+) {
     let Home {
-        mut arena,
+        arena,
         lost,
         handed: _,
         accepted: _,
@@ -163,9 +170,7 @@ fn settle<R: Abort>(rt: &R, home: Home, device: Device, mut bufs: Vec<Buf>, mut 
     assert_eq!(rt; u64::from(arena.free_blocks()) + u64::from(lost), 32);
     let (memory, _frames) = taken_apart(device);
     take_all(rt, &mut bufs, memory);
-    give_back(rt, bufs, &mut arena, &mut second);
-    done(rt, arena.close());
-    done(rt, second.close());
+    all_home(rt, bufs, listed(rt, alloc, [arena, second]));
 }
 
 /// An arena of the same numbers as the driver's.

@@ -5,7 +5,7 @@ use crate::bench::{
     taken_apart,
 };
 use crate::outcome::{done, refused, some};
-use crate::schedule::{Left, Schedule, add, finish, give_back, push, take_all};
+use crate::schedule::{Left, Schedule, add, all_home, finish, listed, push, take_all};
 use dma_arena::{Arena, Buf, Octets};
 use nic_device::{Device, Dir, Event, Port, Reply};
 use pmd::{Pmd, Rest, StartRefused, StopRefused};
@@ -249,12 +249,10 @@ fn a_thousand_frames_go_through_a_ring_of_eight_beside_two_queues(rt: HostRuntim
     let mut direct = Direct::new(alloc, ended(&rt, alloc, nic), 0);
     let home = done(&rt, pmd.stop(alloc, &mut direct));
     assert!(rt; close(&rt, home) == (1000, 1000));
-    let (mut bufs, mut none) = (Vec::new(alloc), done(&rt, Arena::new(alloc, 0, 1)));
+    let mut bufs = Vec::new(alloc);
     let (device, _calls) = direct.finish();
     let (memory, frames) = taken_apart(device);
     take_all(&rt, &mut bufs, memory);
-    give_back(&rt, bufs, &mut others, &mut none);
-    done(&rt, others.close());
-    done(&rt, none.close());
+    all_home(&rt, bufs, listed(&rt, alloc, [others]));
     went_out(&rt, alloc, frames.as_slice(), 1000);
 }

@@ -1,11 +1,11 @@
 //! A driver among foreign events that are drawn at random, none of which touches its queue.
 
-use crate::bench::{device, frame_of, reap, started, taken_apart};
+use crate::bench::{device, reap, started, taken_apart};
+use crate::others::{Others, Random};
 use crate::outcome::{done, some};
-use crate::schedule::{Left, Schedule, add, finish, give_back, push, take_all};
+use crate::schedule::{Left, all_home, finish, listed, take_all};
 use device_lock::Call;
-use dma_arena::{Arena, Buf, Octets};
-use nic_device::{Device, Dir, Event, Group, Port, Reply};
+use nic_device::{Device, Event, Reply};
 use pmd::Pmd;
 use pmd_base::{Direct, Nic, Packet, Record};
 use pmd_halt::Home;
@@ -14,149 +14,6 @@ use pmd_tx::TxAnswer;
 use std::alloc::Global;
 use std::collections::VecDeque;
 use std::process::Abort;
-
-/// Numbers that look random, from a seed that isn't 0.
-#[derive(Drop)]
-struct Random {
-    state: u32,
-}
-
-impl Random {
-    /// The next number: three shifts, each joined by exclusive or.
-    fn next(&mut self) -> u32 {
-        self.state ^= self.state.wrapping_mul(8192);
-        self.state ^= self.state >> 17;
-        self.state ^= self.state.wrapping_mul(32);
-        self.state
-    }
-
-    /// A number below 256.
-    fn byte(&mut self) -> u8 {
-        let [_low, byte, _, _] = self.next().to_le_bytes();
-        byte
-    }
-
-    /// A block number from 200 to 231.
-    fn block(&mut self) -> u32 {
-        200 + self.next() % 32
-    }
-
-    /// The number of a queue, or of none.
-    fn queue(&mut self) -> u16 {
-        u16::from(self.byte()) % 130
-    }
-
-    /// A side of a queue.
-    fn side(&mut self) -> Dir {
-        if self.byte() % 2 == 0 {
-            Dir::Rx
-        } else {
-            Dir::Tx
-        }
-    }
-}
-
-/// A bus address of 16 bytes in a block from 200 to 231.
-fn address(random: &mut Random) -> u32 {
-    let first = random.block().saturating_mul(2048);
-    first.saturating_add(16 * (random.next() % 128))
-}
-
-/// The block of this number, lent where the arena has it free.
-fn lend(arena: &mut Arena, block: u32) -> Event {
-    match arena.take_at(block) {
-        Some(buf) => Event::Lend(buf),
-        None => Event::Take(block),
-    }
-}
-
-/// An event on interrupts, the link or the EEPROM.
-fn other_event(random: &mut Random) -> Event {
-    match random.byte() % 8 {
-        0 => Event::Write(Port::Pf, 0x00808, random.next()), // EICS
-        1 => Event::Write(Port::Pf, 0x00880, random.next()), // EIMS
-        2 => Event::Read(Port::Pf, 0x00800), // EICR
-        3 => Event::IntStep(Group::Pf),
-        4 => Event::IntStep(Group::Vf(random.byte())),
-        5 => Event::Link(random.byte() % 4 != 0),
-        6 => Event::EepromStep,
-        _more => Event::Collect,
-    }
-}
-
-/// Where foreign events come from: numbers that look random, and two arenas of the same numbers, 200 to 231, none of
-/// which is the driver's.
-struct Others {
-    random: Random,
-    first: Arena,
-    second: Arena,
-}
-
-impl Others {
-    /// With all blocks free.
-    fn new<R: Abort>(rt: &R, alloc: Global, seed: u32) -> Others {
-        Others {
-            random: Random { state: seed },
-            first: done(rt, Arena::new(alloc, 200, 32)),
-            second: done(rt, Arena::new(alloc, 200, 32)),
-        }
-    }
-
-    /// An event on memory that isn't the driver's.
-    fn memory_event(&mut self) -> Event {
-        let block = self.random.block();
-        match self.random.byte() % 5 {
-            0 => lend(&mut self.first, block),
-            1 => lend(&mut self.second, block),
-            2 => Event::Take(block),
-            3 => Event::Peek16(address(&mut self.random)),
-            _more => Event::Poke16(address(&mut self.random), [self.random.byte(); 16]),
-        }
-    }
-
-    /// A foreign event that leaves the driver's queue alone.
-    fn event<R: Abort>(&mut self, rt: &R, alloc: Global) -> Event {
-        match self.random.byte() % 16 {
-            0 | 1 | 2 => Event::RxStep,
-            3 | 4 => Event::TxStep(0),
-            5 => Event::TxStep(self.random.queue()),
-            6 => Event::QueueStep(self.random.side(), self.random.queue()),
-            7 => Event::QueueStep(self.random.side(), 0),
-            8 | 9 => Event::Link(true),
-            10 | 11 | 12 => {
-                let frame = frame_of(rt, alloc, u16::from(self.random.byte()));
-                Event::Arrive(Octets::of(frame))
-            }
-            13 | 14 => self.memory_event(),
-            _more => other_event(&mut self.random),
-        }
-    }
-
-    /// So many lists of up to five such events.
-    fn lists<R: Abort>(&mut self, rt: &R, alloc: Global, count: usize) -> Schedule {
-        let mut schedule = Vec::new(alloc);
-        for _list in 0..count {
-            let mut list = Vec::new(alloc);
-            for _event in 0..self.random.byte() % 6 {
-                push(rt, &mut list, self.event(rt, alloc));
-            }
-            add(rt, &mut schedule, list);
-        }
-        schedule
-    }
-
-    /// All blocks come back.
-    fn close<R: Abort>(self, rt: &R, bufs: Vec<Buf>) {
-        let Others {
-            random: _,
-            mut first,
-            mut second,
-        } = self;
-        give_back(rt, bufs, &mut first, &mut second);
-        done(rt, first.close());
-        done(rt, second.close());
-    }
-}
 
 /// What calls tell of queue 0: the frames that wait, those that were written, how many came and went out, and those
 /// that were collected.
@@ -349,7 +206,7 @@ fn among_events_of<R: Abort>(rt: &R, alloc: Global, seed: u32) -> usize {
     }
     all_agree(rt, home, &tally, out.as_slice());
     take_all(rt, &mut bufs, memory);
-    others.close(rt, bufs);
+    all_home(rt, bufs, listed(rt, alloc, others.into_arenas()));
     foreign
 }
 

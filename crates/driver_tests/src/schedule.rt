@@ -1,6 +1,6 @@
 //! Lists of foreign events for an `Interleaved`, and what is left of them at its end.
 
-use crate::outcome::{done, some};
+use crate::outcome::{done, none, put, some};
 use device_lock::Call;
 use dma_arena::{Arena, Buf, LentMemory};
 use nic_device::{Device, Dir, Event, Reply};
@@ -36,7 +36,7 @@ pub fn push_steps<R: Abort>(rt: &R, list: &mut Vec<Event>) {
 }
 
 /// Lets an event go. The block that it would have lent is its hand's.
-fn let_go<R: Abort>(rt: &R, bufs: &mut Vec<Buf>, event: Event) {
+pub fn let_go<R: Abort>(rt: &R, bufs: &mut Vec<Buf>, event: Event) {
     match event {
         Event::Lend(buf) => keep(rt, bufs, buf),
         Event::Read(_, _) | Event::Write(_, _, _) | Event::Take(_) => {}
@@ -48,7 +48,7 @@ fn let_go<R: Abort>(rt: &R, bufs: &mut Vec<Buf>, event: Event) {
 }
 
 /// Lets a reply go. The block that it hands out is its hand's.
-fn let_reply_go<R: Abort>(rt: &R, bufs: &mut Vec<Buf>, reply: Reply) {
+pub fn let_reply_go<R: Abort>(rt: &R, bufs: &mut Vec<Buf>, reply: Reply) {
     match reply {
         Reply::Buf(buf) | Reply::Twice(buf) => keep(rt, bufs, buf),
         Reply::Word(_) | Reply::Stray(_) | Reply::Done | Reply::Bytes(_) => {}
@@ -132,14 +132,39 @@ pub fn take_all<R: Abort>(rt: &R, bufs: &mut Vec<Buf>, mut memory: LentMemory) {
     done(rt, memory.finish());
 }
 
-/// Gives each block to the first of two arenas that it is missing from.
-pub fn give_back<R: Abort>(rt: &R, mut bufs: Vec<Buf>, first: &mut Arena, second: &mut Arena) {
-    for _buf in 0..bufs.len() {
-        match first.give(some(rt, bufs.pop())) {
-            Ok(()) => {}
-            Err(buf) => done(rt, second.give(buf)),
+/// The first of the arenas that a block is missing from gets it.
+fn give_home<R: Abort>(rt: &R, buf: Buf, arenas: &mut [Arena]) {
+    let mut away = Some(buf);
+    for arena in arenas {
+        match away.take() {
+            Some(buf) => match arena.give(buf) {
+                Ok(()) => {}
+                Err(buf) => put(rt, &mut away, buf),
+            },
+            None => {}
         }
+    }
+    none(rt, away);
+}
+
+/// All blocks come home: each to the first of the arenas that it is missing from, and none is missing then.
+pub fn all_home<R: Abort>(rt: &R, mut bufs: Vec<Buf>, mut arenas: Vec<Arena>) {
+    for _buf in 0..bufs.len() {
+        give_home(rt, some(rt, bufs.pop()), arenas.as_mut_slice());
     }
     assert!(rt; bufs.is_empty());
     bufs.destroy_empty();
+    for _arena in 0..arenas.len() {
+        done(rt, some(rt, arenas.pop()).close());
+    }
+    assert!(rt; arenas.is_empty());
+    arenas.destroy_empty();
+}
+
+/// A list of arenas.
+pub fn listed<R: Abort, const N: usize>(rt: &R, alloc: Global, arenas: [Arena; N]) -> Vec<Arena> {
+    match Vec::from_array(alloc, arenas) {
+        Ok(arenas) => arenas,
+        Err(_refused) => panic!(rt; "memory"),
+    }
 }

@@ -1,0 +1,151 @@
+//! Foreign events that are drawn at random, none of which touches queue 0 of a driver or its blocks.
+
+use crate::bench::frame_of;
+use crate::outcome::done;
+use crate::schedule::{Schedule, add, push};
+use dma_arena::{Arena, Octets};
+use nic_device::{Dir, Event, Group, Port};
+use std::alloc::Global;
+use std::process::Abort;
+
+/// Numbers that look random, from a seed that isn't 0.
+#[derive(Drop)]
+pub struct Random {
+    state: u32,
+}
+
+impl Random {
+    /// The next number: three shifts, each joined by exclusive or.
+    pub fn next(&mut self) -> u32 {
+        self.state ^= self.state.wrapping_mul(8192);
+        self.state ^= self.state >> 17;
+        self.state ^= self.state.wrapping_mul(32);
+        self.state
+    }
+
+    /// A number below 256.
+    pub fn byte(&mut self) -> u8 {
+        let [_low, byte, _, _] = self.next().to_le_bytes();
+        byte
+    }
+
+    /// A block number from 200 to 231.
+    fn block(&mut self) -> u32 {
+        200 + self.next() % 32
+    }
+
+    /// The number of a queue, or of none.
+    fn queue(&mut self) -> u16 {
+        u16::from(self.byte()) % 130
+    }
+
+    /// A side of a queue.
+    fn side(&mut self) -> Dir {
+        if self.byte() % 2 == 0 {
+            Dir::Rx
+        } else {
+            Dir::Tx
+        }
+    }
+}
+
+/// A bus address of 16 bytes in a block from 200 to 231.
+fn address(random: &mut Random) -> u32 {
+    let first = random.block().saturating_mul(2048);
+    first.saturating_add(16 * (random.next() % 128))
+}
+
+/// The block of this number, lent where the arena has it free.
+pub fn lend(arena: &mut Arena, block: u32) -> Event {
+    match arena.take_at(block) {
+        Some(buf) => Event::Lend(buf),
+        None => Event::Take(block),
+    }
+}
+
+/// An event on interrupts, the link or the EEPROM.
+fn other_event(random: &mut Random) -> Event {
+    match random.byte() % 8 {
+        0 => Event::Write(Port::Pf, 0x00808, random.next()), // EICS
+        1 => Event::Write(Port::Pf, 0x00880, random.next()), // EIMS
+        2 => Event::Read(Port::Pf, 0x00800), // EICR
+        3 => Event::IntStep(Group::Pf),
+        4 => Event::IntStep(Group::Vf(random.byte())),
+        5 => Event::Link(random.byte() % 4 != 0),
+        6 => Event::EepromStep,
+        _more => Event::Collect,
+    }
+}
+
+/// Where foreign events come from: numbers that look random, and two arenas of the same numbers, 200 to 231, none of
+/// which is the driver's.
+pub struct Others {
+    /// The numbers.
+    pub random: Random,
+    first: Arena,
+    second: Arena,
+}
+
+impl Others {
+    /// With all blocks free.
+    pub fn new<R: Abort>(rt: &R, alloc: Global, seed: u32) -> Others {
+        Others {
+            random: Random { state: seed },
+            first: done(rt, Arena::new(alloc, 200, 32)),
+            second: done(rt, Arena::new(alloc, 200, 32)),
+        }
+    }
+
+    /// An event on memory that isn't the driver's.
+    fn memory_event(&mut self) -> Event {
+        let block = self.random.block();
+        match self.random.byte() % 5 {
+            0 => lend(&mut self.first, block),
+            1 => lend(&mut self.second, block),
+            2 => Event::Take(block),
+            3 => Event::Peek16(address(&mut self.random)),
+            _more => Event::Poke16(address(&mut self.random), [self.random.byte(); 16]),
+        }
+    }
+
+    /// A foreign event that leaves the driver's queue alone.
+    pub fn event<R: Abort>(&mut self, rt: &R, alloc: Global) -> Event {
+        match self.random.byte() % 16 {
+            0 | 1 | 2 => Event::RxStep,
+            3 | 4 => Event::TxStep(0),
+            5 => Event::TxStep(self.random.queue()),
+            6 => Event::QueueStep(self.random.side(), self.random.queue()),
+            7 => Event::QueueStep(self.random.side(), 0),
+            8 | 9 => Event::Link(true),
+            10 | 11 | 12 => {
+                let frame = frame_of(rt, alloc, u16::from(self.random.byte()));
+                Event::Arrive(Octets::of(frame))
+            }
+            13 | 14 => self.memory_event(),
+            _more => other_event(&mut self.random),
+        }
+    }
+
+    /// So many lists of up to five such events.
+    pub fn lists<R: Abort>(&mut self, rt: &R, alloc: Global, count: usize) -> Schedule {
+        let mut schedule = Vec::new(alloc);
+        for _list in 0..count {
+            let mut list = Vec::new(alloc);
+            for _event in 0..self.random.byte() % 6 {
+                push(rt, &mut list, self.event(rt, alloc));
+            }
+            add(rt, &mut schedule, list);
+        }
+        schedule
+    }
+
+    /// The arenas.
+    pub fn into_arenas(self) -> [Arena; 2] {
+        let Others {
+            random: _,
+            first,
+            second,
+        } = self;
+        [first, second]
+    }
+}

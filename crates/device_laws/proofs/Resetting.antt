@@ -69,7 +69,7 @@ triples_empty s (t ∷ ts) h =
 reset_empty : (s : State) → IsEmpty (reset s)
 reset_empty s = triples_empty (cleared s) (triples_of s.image) (record { waiting = refl; staged = refl })
 
-is_reset : (s : State) → IsReset s (reset s)
+pub is_reset : (s : State) → IsReset s (reset s)
 is_reset s = record {
   waiting = (reset_empty s).waiting;
   staged = λ queue small.

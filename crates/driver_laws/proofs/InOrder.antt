@@ -37,7 +37,7 @@ module _ (w : Watched) (fifo : ℕ) (start rest : List Entry) (h : Halves) (doer
   abbrev last : Halves
   last = played_by h doers (calls_of w.pass rest)
 
-  led : Led w here [] [] rest last
+  pub led : Led w here [] [] rest last
   led =
       let before = events_before start rest d.events in
       leads w (lent_by w.pass (start ++ rest)) (mode_through w.vfs Off start) here [] [] h doers rest

@@ -11,3 +11,4 @@ pub mod Runs
 pub mod Sending
 pub mod Stepping
 pub mod Steps
+pub mod Waiting

@@ -5,10 +5,13 @@ pub mod LowResets
 pub mod LowWords
 pub mod Modes
 pub mod Naming
+pub mod OtherWords
 pub mod Parting
 pub mod Reported
 pub mod Rings
 pub mod RingsReceived
+pub mod Silent
 pub mod Sound
 pub mod Sparing
+pub mod Staged
 pub mod Written

@@ -5,31 +5,26 @@ use Rattle.std.specs.Int.Bits.{and_zero_l}
 use Rattle.std.proofs.lemmas.Bool.{cases_Bool}
 use Rattle.std.proofs.lemmas.Nat.{and_comm, or_mod, and_mod}
 use Rattle.reg_table.specs.Rows.{row_of}
-use Rattle.reg_table.specs.declared.kind.Kind.{Kind}
 use Rattle.reg_table.specs.declared.kind.Kind.TheVariants as kind
 use Rattle.reg_table.specs.declared.place.Place.{Place}
 use Rattle.reg_table.specs.declared.rows.RowId.{RowId}
 use Rattle.reg_table.specs.declared.rows.RowId.TheVariants.{Rdbal, Rdlen, Tdbal, Tdlen}
 use Rattle.vf_map.specs.declared.mode.Mode.{Mode}
-use Rattle.intr_unit.specs.declared.group.Group.{Group}
 use Rattle.register_file.specs.Access.{is_running, stored, written}
 use Rattle.register_file.specs.Bits.{merged}
 use Rattle.register_file.specs.Columns.{place}
-use Rattle.register_file.specs.Footprint.{any_pending, is_pending, is_place, of_pool, pending, pending_of, written_by}
+use Rattle.register_file.specs.Footprint.{is_pending, is_place, of_pool}
 use Rattle.register_file.specs.Laws.{after_write}
 use Rattle.register_file.specs.Owner.{owner_of}
 use Rattle.register_file.specs.PoolReset.{pool_reset}
 use Rattle.register_file.specs.Registers.{Registers, reset_registers, word_of}
 use Rattle.register_file.specs.Sound.{HasShape}
-use Rattle.register_file.specs.declared.owner.Owner.{Owner}
-use Rattle.register_file.specs.declared.owner.Owner.TheVariants as owner
-use Rattle.register_file.proofs.Covers.{fails, covers-any_pending}
 use Rattle.register_file.proofs.Owners.{is_place-same}
 use Rattle.register_file.proofs.PoolReset.{renewed-pool}
 use Rattle.register_file.proofs.Puts.{word_at-reset}
 use Rattle.register_file.proofs.Shape.{put_stands}
-use Rattle.register_file.proofs.Within.{within-written}
 use Rattle.nic_device.proofs.Cases.{either_way}
+use Rattle.history_laws.proofs.OtherWords.{other_written}
 
 -- the rows of these words
 abbrev pub is_low : RowId → Bool
@@ -76,27 +71,6 @@ module _ (row : RowId) (is : IsLowRow row) (queue : ℕ) (small : queue < 128) w
   abbrev here : Place
   here = place row queue
 
-  none_pending : (g : Group) → (pending g).words here ≡ false
-  none_pending g =
-      fails ((pending g).words here) (any_pending.words here) ((covers-any_pending g).words here)
-      (ap is_pending is.kind)
-
-  none_pending_of : (o : Owner) → (pending_of o).words here ≡ false
-  none_pending_of (owner.Group g) = none_pending g
-  none_pending_of other = refl
-
-  none_written_by : (k : Kind) (p : Place) → is_place p here ≡ false → (written_by k p).words here ≡ false
-  none_written_by kind.Rw p n = n
-  none_written_by kind.Ro p n = refl
-  none_written_by kind.Calc p n = refl
-  none_written_by kind.Rc p n = refl
-  none_written_by kind.Held p n = n
-  none_written_by kind.Enable p n = n
-  none_written_by kind.Ctrl p n = n
-  none_written_by kind.Vreset p n = refl
-  none_written_by kind.Eerd p n = n
-  none_written_by interrupts p n = none_pending_of (owner_of p)
-
   inside : queue < (row_of row).count
   inside = subst (λ n. queue < n) (sym is.count) small
 
@@ -121,9 +95,7 @@ module _ (row : RowId) (is : IsLowRow row) (queue : ℕ) (small : queue < 128) w
             subst (λ q. IsLow (after_write r q view word)) (sym (is_place-same p here same))
             (own_low r h view word low)
         | inr other ↦
-            ap (λ (n : ℕ). n % 2 ^ 7)
-            ((within-written r p view word).words here (none_written_by (row_of p.row).kind p other))
-            ∙ low
+            ap (λ (n : ℕ). n % 2 ^ 7) (other_written here (ap is_pending is.kind) r p view word other) ∙ low
       ]
 
   pub renewed_low : (r : Registers) → HasShape r → (mode : Mode) (v : ℕ) → IsLow r → IsLow (pool_reset mode v r)

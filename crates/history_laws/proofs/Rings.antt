@@ -1,8 +1,7 @@
 -- Rings stay aligned where sides of queues are left, as slots are fetched, and as sides are switched.
-use Rattle.std.proofs.Common.{◌≡◌, ◌≢◌, ℕ, ◌<◌, inl, inr, List, refl, ap, sym, subst, Option, Some, None}
+use Rattle.std.proofs.Common.{◌≡◌, ◌≢◌, ℕ, ◌<◌, inl, inr, refl, ap, sym, subst}
 use Rattle.std.proofs.lemmas.Bool.{cases_eq}
 use Rattle.dma_ring.specs.declared.ring.Ring.{Ring}
-use Rattle.tx_ring.specs.declared.fetched.Fetched.{Fetched}
 use Rattle.register_file.specs.Queue.{ring_of, switched}
 use Rattle.register_file.specs.Registers.{is_wanted}
 use Rattle.register_file.specs.Sides.{ReceiveQueue, TransmitQueue}
@@ -14,7 +13,6 @@ use Rattle.nic_device.specs.Sound.{IsSound}
 use Rattle.nic_device.specs.State.{State}
 use Rattle.nic_device.specs.Step.{step_of, after}
 use Rattle.nic_device.specs.Switching.{emptied}
-use Rattle.nic_device.specs.Transmit.{fetched_reply}
 use Rattle.nic_device.specs.declared.event.Event.TheVariants as event
 use Rattle.nic_device.proofs.Cases.{either_way, switched_cases}
 use Rattle.nic_device.proofs.QueueCases.{transmitted_cases}
@@ -23,6 +21,7 @@ use Rattle.device_laws.specs.Replies.{sent_tells, moved_on}
 use Rattle.device_laws.proofs.RepliesSent.{transmitting_tells}
 use Rattle.device_laws.proofs.StandingQueues.{transmitting_rest, switching_rest}
 use Rattle.history_laws.specs.Aligned.{IsAligned, AreAligned}
+use Rattle.history_laws.proofs.Silent.{took}
 
 -- a ring as it was, and one whose head moved on
 pub same_aligned : (old new : Ring) → new ≡ old → IsAligned old → IsAligned new
@@ -69,20 +68,14 @@ module _ (s : State) (a : AreAligned s.registers) (sound : IsSound s) where
   SendsAligned : ℕ → Outcome → Type 0
   SendsAligned queue o = sent_tells queue o.reply s o.state → IsAligned (ring_of o.state.registers Tx queue)
 
-  fetched_aligned : (queue : ℕ) → queue < 128 → (t : State) (f : Fetched) (o : Option (List ℕ))
-      → sent_tells queue (fetched_reply queue f o) s t → IsAligned (ring_of t.registers Tx queue)
-  fetched_aligned queue small t f (Some frame) tells =
-      moved_aligned _ _ (ap (λ (x : TransmitQueue). x.ring) tells.side) (a Tx queue small)
-  fetched_aligned queue small t f None tells =
-      moved_aligned _ _ (ap (λ (x : TransmitQueue). x.ring) tells.0.side) (a Tx queue small)
-
   sent_aligned : (queue : ℕ) → queue < 128 → IsAligned (ring_of (after s (event.TxStep queue)).registers Tx queue)
   unfolding step_of SendsAligned
   sent_aligned queue small = transmitted_cases (SendsAligned queue) s queue (record {
     none = λ tells. a Tx queue small;
     idle = λ tells. a Tx queue small;
     fault = λ fault tells. same_aligned _ _ (ap (λ (x : TransmitQueue). x.ring) tells.side) (a Tx queue small);
-    fetched = λ f is tells. fetched_aligned queue small _ f f.frame tells;
+    fetched = λ f is tells.
+        moved_aligned _ _ (ap (λ (x : TransmitQueue). x.ring) (took queue s _ f f.frame tells).side) (a Tx queue small);
   }) (transmitting_tells s sound queue)
 
   pub transmit_aligned : (on : ℕ) → AreAligned (after s (event.TxStep on)).registers

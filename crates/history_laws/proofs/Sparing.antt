@@ -72,7 +72,7 @@ wanted_none Tx Tx mode v queue number none is = ap (has_queue mode v) (sym (eqb-
 wanted_none Rx Tx mode v queue number none is = cc
 wanted_none Tx Rx mode v queue number none is = cc
 
-pool_misses : (side : Dir) (mode : Mode) (v queue : ℕ) → has_queue mode v queue ≡ false
+pub pool_misses : (side : Dir) (mode : Mode) (v queue : ℕ) → has_queue mode v queue ≡ false
     → Misses (of_pool mode v) (of_side side queue)
 pool_misses side mode v queue none = record {
   words = λ p is. pool_none (row_of p.row).bank side mode v p.index queue none is;

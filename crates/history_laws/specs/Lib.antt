@@ -1,3 +1,4 @@
 pub mod Aligned
 pub mod Alone
 pub mod Laws
+pub mod Staged

@@ -5,6 +5,7 @@
 
 ghost use Rattle.history_laws.specs.Aligned.{NewRingsAreAligned, EventsKeepAligned, HistoriesKeepAligned, ReportsLieInBlocks};
 ghost use Rattle.history_laws.specs.Laws.{ModeIsTold, AloneByEntries, BeginningIsAlone, HistoriesKeepSound};
+ghost use Rattle.history_laws.specs.Staged.{NewSidesStageWhileOn, EventsKeepStaged, HistoriesKeepStaged};
 
 /// The mode by which the queues are parted among pools, read off the entries of a history, is the device's own: what
 /// its register GCR_EXT says.
@@ -31,4 +32,11 @@ pub fn rings_stay_aligned()
     ensures event { EventsKeepAligned }
     ensures history { HistoriesKeepAligned }
     ensures reports { ReportsLieInBlocks }
+{}
+
+/// Nothing is staged on a transmit side that is off, in a new device and through every history.
+pub fn sides_stage_bytes_while_on()
+    ensures new { NewSidesStageWhileOn }
+    ensures event { EventsKeepStaged }
+    ensures history { HistoriesKeepStaged }
 {}

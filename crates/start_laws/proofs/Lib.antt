@@ -6,6 +6,7 @@ pub mod LeftZero
 pub mod Lends
 pub mod Masks
 pub mod Moves
+pub mod Numbers
 pub mod Off
 pub mod Points
 pub mod Quiet

@@ -21,15 +21,16 @@ use Rattle.device_lock.specs.declared.entry.Call.{Call}
 use Rattle.device_lock.specs.declared.entry.Entry.{Entry}
 use Rattle.pmd_queue.specs.Made.{Access, Sees, Sets, AreMade, IsMade}
 use Rattle.pmd_queue.specs.Named.{AtPort, IsNumberOf, is_driven}
-use Rattle.transmit_laws.proofs.Basing.{named-same}
 use Rattle.start_laws.specs.Along.{IsAlong, AreSteps, AtEntries, IsKept, Leads}
 use Rattle.start_laws.specs.Moves.{receive_seen, transmit_seen}
+use Rattle.start_laws.specs.Numbers.{queue_at}
 use Rattle.start_laws.specs.Points.{AccessesLead, HasGround, Sides, Point, seen_by, after_access, after_accesses, IsEnable, May, AllMay, StepsBefore, StepsBetween}
 use Rattle.start_laws.specs.Standing.{Stand}
 use Rattle.start_laws.specs.Words.{receive_with, transmit_with, FitsReceive, FitsTransmit}
 use Rattle.start_laws.proofs.Accesses.{receive_read_stands, transmit_read_stands}
 use Rattle.start_laws.proofs.Along.{KeptOver, entries_lead, reached, reached_next, state_leads}
 use Rattle.start_laws.proofs.Moves.{receive_write_stands, transmit_write_stands}
+use Rattle.start_laws.proofs.Numbers.{ground_names}
 use Rattle.start_laws.proofs.Standing.{standing_sides_are_left}
 use Rattle.start_laws.proofs.Unused.{IdleKeeps, IsIdle}
 use Rattle.start_laws.proofs.Words.{ground}
@@ -37,7 +38,7 @@ use Rattle.start_laws.proofs.Words.{ground}
 pub ground_same : (queue : ℕ) (q : AtPort) (s t : State) → mode_in t.registers ≡ mode_in s.registers → t.vfs ≡ s.vfs
     → frame_limit t.registers ≡ frame_limit s.registers → HasGround queue q s → HasGround queue q t
 ground_same queue q s t mode vfs limit g = record {
-  names = λ row number is named. named-same s t mode vfs q.port number ∙ g.names row number is named;
+  names = (λ k. queue_at (mode k) (vfs k) q.port q.queue) ∙ g.names;
   limit = limit ∙ g.limit;
 }
 
@@ -126,7 +127,7 @@ module _ (w : Watched) (mine : Blocks) (q : AtPort) where
       (Point w.queue mine q (after_access (Sets row word) p))
   write_leads p row word number named (inl may) s met made told x =
       let t = after s (event.Write q.port number word) in
-      let names = x.ground.names row number (receive_driven row word may.fits) named in
+      let names = ground_names w.queue q s x.ground row number (receive_driven row word may.fits) named in
       let g = ground w.queue s q.port number word row names (driven_plain row (receive_driven row word may.fits)) in
       record {
         stand = subst (λ tx. Stand w.queue (receive_with row word p.rx) tx p.rings t)
@@ -139,7 +140,7 @@ module _ (w : Watched) (mine : Blocks) (q : AtPort) where
       }
   write_leads p row word number named (inr may) s met made told x =
       let t = after s (event.Write q.port number word) in
-      let names = x.ground.names row number (transmit_driven row word may.fits) named in
+      let names = ground_names w.queue q s x.ground row number (transmit_driven row word may.fits) named in
       let g = ground w.queue s q.port number word row names (driven_plain row (transmit_driven row word may.fits)) in
       record {
         stand = subst (λ rx. Stand w.queue rx (transmit_with row word p.tx) p.rings t)
@@ -160,7 +161,7 @@ module _ (w : Watched) (mine : Blocks) (q : AtPort) where
     stand = subst (λ (b : Bool). Stand w.queue (receive_seen b p.rx) p.tx p.rings (after s (event.Read q.port number)))
         is
         (receive_read_stands w.queue s p.rx p.tx p.rings q.port number word x.stand
-        (x.ground.names Rxdctl number refl named) (sym told));
+        (ground_names w.queue q s x.ground Rxdctl number refl named) (sym told));
     ground = read_ground s number x.ground;
     covers = x.covers;
     low = x.low;
@@ -169,7 +170,7 @@ module _ (w : Watched) (mine : Blocks) (q : AtPort) where
     stand = subst (λ (b : Bool). Stand w.queue p.rx (transmit_seen b p.tx) p.rings (after s (event.Read q.port number)))
         is
         (transmit_read_stands w.queue s p.rx p.tx p.rings q.port number word x.stand
-        (x.ground.names Txdctl number refl named) (sym told));
+        (ground_names w.queue q s x.ground Txdctl number refl named) (sym told));
     ground = read_ground s number x.ground;
     covers = x.covers;
     low = x.low;

@@ -125,7 +125,7 @@ receive_guard_is_off = record {
 }
 
 pub off_sides_stand : OffSidesStand
-off_sides_stand queue s off transmit_off bare = record {
+off_sides_stand queue s small bare off transmit_off = record {
   receives = record {
     same = refl;
     seen = λ on. on;
@@ -138,6 +138,6 @@ off_sides_stand queue s off transmit_off bare = record {
     wanted = λ on. absurd (both_ways _ transmit_off.off on);
     empty = λ wanted. absurd (both_ways _ transmit_off.unwanted wanted);
   };
-  staged = bare;
+  staged = bare queue small transmit_off.off;
   zero = λ b is. cc;
 }

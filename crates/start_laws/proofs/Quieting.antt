@@ -1,31 +1,39 @@
 -- A driver that starts sees both sides of its queue off.
-use Rattle.std.proofs.Common.{◌≡◌, ◌≢◌, ℕ, Bool, true, false, not, ◌&&◌, List, [], refl, sym, ap, ◌∙◌, subst}
+use Rattle.std.proofs.Common.{◌≡◌, ◌≢◌, ℕ, ◌<◌, Bool, true, false, not, ◌&&◌, List, [], refl, sym, ap, ◌∙◌, subst}
+use Rattle.std.specs.Prelude.{IsTrue}
 use Rattle.reg_table.specs.declared.rows.RowId.{RowId}
 use Rattle.reg_table.specs.declared.rows.RowId.TheVariants.{Rxdctl, Txdctl}
 use Rattle.register_file.specs.Bits.{has_bit}
 use Rattle.register_file.specs.Sides.{ReceiveQueue, receive_queue_of, transmit_queue_of}
 use Rattle.register_file.specs.Columns.{place}
-use Rattle.nic_device.specs.State.{State}
+use Rattle.nic_device.specs.State.{State, new_state}
 use Rattle.nic_device.specs.Step.{after}
 use Rattle.nic_device.specs.declared.event.Event.TheVariants as event
 use Rattle.nic_device.specs.declared.event.Reply.TheVariants as reply
 use Rattle.device_laws.specs.Leaving.{LeavesReceive}
 use Rattle.device_laws.proofs.StandingAccesses.{read_rest, write_rest}
 use Rattle.device_lock.specs.Alone.{Blocks, lent_by}
+use Rattle.device_lock.specs.History.{leads_to}
 use Rattle.device_lock.specs.Pass.{call_of}
 use Rattle.device_lock.specs.declared.alone.Watched.{Watched}
 use Rattle.device_lock.specs.declared.entry.Call.{Call}
 use Rattle.device_lock.specs.declared.entry.Entry.{Entry}
+use Rattle.history_laws.specs.Laws.{AreEvents}
+use Rattle.history_laws.specs.Staged.{StageWhileOn}
+use Rattle.history_laws.proofs.Staged.{histories_keep_staged, new_sides_stage}
 use Rattle.pmd_queue.specs.Both.{both_quiet}
 use Rattle.pmd_queue.specs.Made.{Sees, Sets, AreMade, IsMade}
 use Rattle.pmd_queue.specs.Named.{AtPort, IsNumberOf, is_driven}
+use Rattle.receive_laws.proofs.Delivering.{events_before}
 use Rattle.transmit_laws.specs.Off as transmit
 use Rattle.transmit_laws.proofs.Guard.{guard_is_off}
 use Rattle.start_laws.specs.Along.{AtCalls, IsAlong, IsKept, Leads}
-use Rattle.start_laws.specs.Points.{HasGround, StepsBefore, StepsBetween}
+use Rattle.start_laws.specs.Numbers.{NumbersName}
+use Rattle.start_laws.specs.Points.{HasGround, Point, Sides, StepsBefore, StepsBetween}
 use Rattle.start_laws.specs.Quiet.{IsUnwanted, IsOff, no_block}
-use Rattle.start_laws.specs.Quieting.{IsQuiet, QuietingLeads, QuietSidesStand}
+use Rattle.start_laws.specs.Quieting.{IsQuiet, QuietingLeads, QuietSidesStand, are_off}
 use Rattle.start_laws.proofs.Along.{calls_lead}
+use Rattle.start_laws.proofs.Numbers.{ground_names}
 use Rattle.start_laws.proofs.Off.{ground_kept, unwanted_kept, off_kept, transmit_unwanted_kept, transmit_off_kept}
 use Rattle.start_laws.proofs.Points.{driven_plain, ground_same, made_some, read_ground}
 use Rattle.start_laws.proofs.Quiet.{off_sides_stand, receive_guard_is_off}
@@ -37,6 +45,9 @@ module _ (w : Watched) (q : AtPort) (fifo : ℕ) (h : List Entry) (along : IsAlo
 
   abbrev Ground : State → Type 0
   Ground = HasGround w.queue q
+
+  numbers : (s : State) → Ground s → NumbersName s q w.queue
+  numbers s g = ground_names w.queue q s g
 
   abbrev Grounded : (State → Type 0) → State → Type 0
   Grounded P s = Ground s × P s
@@ -92,7 +103,7 @@ module _ (w : Watched) (q : AtPort) (fifo : ℕ) (h : List Entry) (along : IsAlo
   write_ground : (s : State) (row : RowId) (word number : ℕ) → is_driven row ≡ true
       → IsNumberOf q.port row q.queue number → Ground s → Ground (after s (event.Write q.port number word))
   write_ground s row word number is named g =
-      let k = ground w.queue s q.port number word row (g.names row number is named) (driven_plain row is) in
+      let k = ground w.queue s q.port number word row (numbers s g row number is named) (driven_plain row is) in
       ground_same w.queue q s (after s (event.Write q.port number word)) k.mode k.vfs k.limit g
 
   off_same : (s t : State) → LeavesReceive w.queue s t → IsOff w.queue s → IsOff w.queue t
@@ -105,14 +116,14 @@ module _ (w : Watched) (q : AtPort) (fifo : ℕ) (h : List Entry) (along : IsAlo
       → Leads w.queue (call_of (event.Write q.port number 0) reply.Done) Ground Asked
   ask_receive number named s met made told g = (
     write_ground s Rxdctl 0 number refl named g,
-    receive_guard_is_off.written w.queue s q.port number 0 met (g.names Rxdctl number refl named) refl,
+    receive_guard_is_off.written w.queue s q.port number 0 met (numbers s g Rxdctl number refl named) refl,
   )
 
   see_receive : (number word : ℕ) → IsNumberOf q.port Rxdctl q.queue number → has_bit 25 word ≡ false
       → Leads w.queue (call_of (event.Read q.port number) (reply.Word word)) Asked Off
   see_receive number word named is s met made told (g, none) = (
     read_ground w mine q s number g,
-    receive_guard_is_off.read w.queue s q.port number word none (g.names Rxdctl number refl named) (sym told) is,
+    receive_guard_is_off.read w.queue s q.port number word none (numbers s g Rxdctl number refl named) (sym told) is,
   )
 
   see_first : (number word : ℕ) → IsNumberOf q.port Txdctl q.queue number → has_bit 25 word ≡ false
@@ -125,7 +136,7 @@ module _ (w : Watched) (q : AtPort) (fifo : ℕ) (h : List Entry) (along : IsAlo
   ask_transmit : (number : ℕ) → IsNumberOf q.port Txdctl q.queue number
       → Leads w.queue (call_of (event.Write q.port number 0) reply.Done) Off OffAsked
   ask_transmit number named s met made told (g, off) =
-      let names = g.names Txdctl number refl named in
+      let names = numbers s g Txdctl number refl named in
       let left = (write_rest s q.port number 0 (place Txdctl w.queue) 0xFFFFFFFF names refl refl).receive w.queue
       (λ e. cc) in (
         (
@@ -142,7 +153,7 @@ module _ (w : Watched) (q : AtPort) (fifo : ℕ) (h : List Entry) (along : IsAlo
       read_ground w mine q s number g,
       off_same s (after s (event.Read q.port number)) ((read_rest s q.port number).queues.receive w.queue) off,
     ),
-    guard_is_off.read w.queue s q.port number word none (g.names Txdctl number refl named) (sym told) is,
+    guard_is_off.read w.queue s q.port number word none (numbers s g Txdctl number refl named) (sym told) is,
   )
 
   ended : (new m : List Call) → new ≡ m → AtCalls w fifo h m OffBoth → AtCalls w fifo h new (IsQuiet w.queue q)
@@ -175,8 +186,9 @@ all_off : (a b c d : Bool) → a ≡ false → b ≡ false → c ≡ false → d
     → ((not a && not b) && (not c && not d)) ≡ true
 all_off a b c d e f g i = rw (e, f, g, i) refl
 
-pub quiet_sides_stand : QuietSidesStand
-quiet_sides_stand w q h s quiet bare = (
+quiet_stand : (w : Watched) (q : AtPort) (h : List Entry) (s : State) → w.queue < 128 → StageWhileOn s
+    → IsQuiet w.queue q s → (p : Sides) × IsTrue (are_off p) × Point w.queue (lent_by w.pass h) q p s
+quiet_stand w q h s small bare quiet = (
   record {
     rx = receive_queue_of s.registers w.queue;
     tx = transmit_queue_of s.registers w.queue;
@@ -186,9 +198,16 @@ quiet_sides_stand w q h s quiet bare = (
       (transmit_queue_of s.registers w.queue).on (transmit_queue_of s.registers w.queue).wanted quiet.receive.off
       quiet.receive.unwanted quiet.transmit.off quiet.transmit.unwanted,
   record {
-    stand = off_sides_stand w.queue s quiet.receive quiet.transmit bare;
+    stand = off_sides_stand w.queue s small bare quiet.receive quiet.transmit;
     ground = quiet.ground;
     covers = λ n is. cc;
     low = λ n is. cc;
   },
 )
+
+pub quiet_sides_stand : QuietSidesStand
+quiet_sides_stand w q fifo h calls along quiet done rest all is =
+    let new = new_state w.vfs fifo in
+    let events = events_before done rest (subst AreEvents (sym all) along.events) in
+    quiet_stand w q h (leads_to new done) along.small
+    (histories_keep_staged new done along.new events (new_sides_stage w.vfs fifo)) (quiet done rest all is)

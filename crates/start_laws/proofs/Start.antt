@@ -35,6 +35,7 @@ use Rattle.start_laws.specs.Unused.{AreUnused, WentOn}
 use Rattle.start_laws.proofs.Along.{reached}
 use Rattle.start_laws.proofs.Fresh.{fresh_receive_agrees, fresh_transmit_agrees}
 use Rattle.start_laws.proofs.Lends.{Has, has_more, IsLentBy, lending, lend_leads, lent_before, lent_there, with_ring}
+use Rattle.start_laws.proofs.Numbers.{ground_names}
 use Rattle.start_laws.proofs.Points.{accesses_at, call_leads, ends_some, made_some}
 use Rattle.start_laws.proofs.Quieting.{quieting_leads, quiet_sides_stand}
 use Rattle.start_laws.proofs.Switching.{came_up, comes_up, laid, may_lay_receive, may_lay_transmit, may_switch, switching}
@@ -137,9 +138,9 @@ module _ (w : Watched) (fifo : ℕ) (h : List Entry) (q : AtPort) (size : ℕ) (
     -- both sides are quiet, and stand
     quiet_at : At up.receive.mid (λ p. p)
     quiet_at done rest all calls =
-        let quiet = quieting_leads w q fifo h old up.receive.mid along up.receive.quiet only.quiet well.ground done rest
-        all calls in
-        let (p, known, x) = quiet_sides_stand w q h (reached w fifo done) quiet (well.bare done rest all calls) in (
+        let off = quieting_leads w q fifo h old up.receive.mid along up.receive.quiet only.quiet well.ground in
+        let quiet = off done rest all calls in
+        let (p, known, x) = quiet_sides_stand w q fifo h up.receive.mid along off done rest all calls in (
           p,
           known,
           x,
@@ -217,12 +218,12 @@ module _ (w : Watched) (fifo : ℕ) (h : List Entry) (q : AtPort) (size : ℕ) (
                 (fresh_receive_agrees w.queue s _ rings q.port up.receive.tail ring size first
                 (record {
                   low = along.small;
-                  tail = x.ground.names Rdt up.receive.tail refl up.receive.named;
+                  tail = ground_names w.queue q s x.ground Rdt up.receive.tail refl up.receive.named;
                 })
                 (or_right (ring == other) _ (or_left (ring == ring) _ (eq-eqb ring ring refl))) x.stand),
             subst (λ (v : transmit.Sender). Agrees s w.queue [] v) (sym up.transmit.fresh)
                 (fresh_transmit_agrees w.queue s _ rings true true q.port up.transmit.tail other size along.small sound
-                second (x.ground.names Tdt up.transmit.tail refl up.transmit.named) x.ground.limit
+                second (ground_names w.queue q s x.ground Tdt up.transmit.tail refl up.transmit.named) x.ground.limit
                 (or_left (other == other) _ (eq-eqb other other refl)) x.stand),
           )
 

@@ -1,5 +1,6 @@
 pub mod Along
 pub mod Moves
+pub mod Numbers
 pub mod Points
 pub mod Quiet
 pub mod Quieting

@@ -1,5 +1,5 @@
 -- How the sides of a queue stand at a point of a history, and how a driver's accesses move that on.
-use Rattle.std.specs.Prelude.{ℕ, ◌≡◌, ◌≢◌, ◌<◌, ◌⊎◌, ⊤, Bool, true, IsTrue, IsFalse, List, [], ◌∷◌}
+use Rattle.std.specs.Prelude.{ℕ, ◌≡◌, ◌≢◌, ◌<◌, ◌⊎◌, ⊤, Bool, IsTrue, IsFalse, List, [], ◌∷◌}
 use Rattle.reg_table.specs.declared.rows.RowId.{RowId}
 use Rattle.reg_table.specs.declared.rows.RowId.TheVariants.{Rxdctl, Txdctl}
 use Rattle.register_file.specs.Settings.{frame_limit}
@@ -10,21 +10,16 @@ use Rattle.device_lock.specs.declared.alone.Watched.{Watched}
 use Rattle.device_lock.specs.declared.entry.Entry.{Entry}
 use Rattle.device_lock.specs.declared.entry.Call.{Call}
 use Rattle.pmd_queue.specs.Made.{Access, Sees, Sets, AreMade, IsMade}
-use Rattle.pmd_queue.specs.Named.{AtPort, IsNumberOf, is_driven}
+use Rattle.pmd_queue.specs.Named.{AtPort}
 use Rattle.start_laws.specs.Along.{AreSteps, AtCalls, IsAlong}
 use Rattle.start_laws.specs.Moves.{MayGoOnReceive, MayGoOnTransmit, receive_seen, transmit_seen}
+use Rattle.start_laws.specs.Numbers.{NamesQueue}
 use Rattle.start_laws.specs.Standing.{Stand}
-use Rattle.start_laws.specs.Words.{receive_with, transmit_with, FitsReceive, FitsTransmit, NamesRow}
+use Rattle.start_laws.specs.Words.{receive_with, transmit_with, FitsReceive, FitsTransmit}
 
--- the numbers that a driver uses at its port name this queue's registers
-abbrev pub NumbersName : State → AtPort → ℕ → Type 0
-NumbersName s q queue =
-    (row : RowId) (number : ℕ) → is_driven row ≡ true → IsNumberOf q.port row q.queue number →
-    NamesRow s q.port number row queue
-
--- what a driver rests on beside its sides: its numbers, and frames of at most 1,514 bytes
+-- what a driver rests on beside its sides: port and queue name this queue, and frames have at most 1,514 bytes
 pub record HasGround (queue : ℕ) (q : AtPort) (s : State) : Type 0 where
-  pub names : NumbersName s q queue
+  pub names : NamesQueue s q queue
   pub limit : frame_limit s.registers ≡ 1514
 
 -- the two sides and the lent blocks

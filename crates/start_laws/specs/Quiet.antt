@@ -1,5 +1,5 @@
 -- A queue whose receive side isn't wanted on, and one whose two sides are off.
-use Rattle.std.specs.Prelude.{ℕ, ◌≡◌, false, IsFalse, []}
+use Rattle.std.specs.Prelude.{ℕ, ◌≡◌, ◌<◌, false, IsFalse}
 use Rattle.dma_arena.specs.Block.{Block}
 use Rattle.reg_table.specs.declared.rows.RowId.TheVariants.{Rxdctl}
 use Rattle.register_file.specs.Bits.{has_bit}
@@ -9,13 +9,13 @@ use Rattle.register_file.specs.Sides.{receive_queue_of, transmit_queue_of}
 use Rattle.register_file.specs.declared.dir.Dir.TheVariants.{Rx}
 use Rattle.nic_device.specs.State.{State}
 use Rattle.nic_device.specs.Step.{after, reply_to}
-use Rattle.nic_device.specs.Transmit.{staged_by}
 use Rattle.nic_device.specs.declared.event.Event.{Event}
 use Rattle.nic_device.specs.declared.event.Event.TheVariants as event
 use Rattle.nic_device.specs.declared.event.Port.{Port}
 use Rattle.nic_device.specs.declared.event.Reply.TheVariants as reply
 use Rattle.device_lock.specs.Alone.{Blocks}
 use Rattle.device_lock.specs.declared.alone.Watched.{Watched}
+use Rattle.history_laws.specs.Staged.{StageWhileOn}
 use Rattle.transmit_laws.specs.Off as transmit
 use Rattle.start_laws.specs.Moves.{IsMet}
 use Rattle.start_laws.specs.Standing.{IsLeft, Stand}
@@ -48,8 +48,8 @@ pub record ReceiveGuardIsOff : Type 0 where
 abbrev pub no_block : Blocks
 no_block number = false
 
--- two sides that are off and not wanted on stand as they are
+-- two sides that are off and not wanted on stand as they are, in a device whose sides stage bytes only while they're on
 abbrev pub OffSidesStand : Type 0
 OffSidesStand =
-    (queue : ℕ) (s : State) → IsOff queue s → transmit.IsOff queue s → staged_by s queue ≡ [] →
+    (queue : ℕ) (s : State) → queue < 128 → StageWhileOn s → IsOff queue s → transmit.IsOff queue s →
     Stand queue (receive_queue_of s.registers queue) (transmit_queue_of s.registers queue) no_block s

@@ -1,7 +1,6 @@
 -- A driver that starts sees both sides of its queue off, over a history that leaves the queue alone.
-use Rattle.std.specs.Prelude.{ℕ, ◌≡◌, Bool, not, ◌&&◌, IsTrue, List, []}
+use Rattle.std.specs.Prelude.{ℕ, Bool, not, ◌&&◌, IsTrue, List}
 use Rattle.nic_device.specs.State.{State}
-use Rattle.nic_device.specs.Transmit.{staged_by}
 use Rattle.device_lock.specs.Alone.{lent_by}
 use Rattle.device_lock.specs.declared.alone.Watched.{Watched}
 use Rattle.device_lock.specs.declared.entry.Call.{Call}
@@ -20,8 +19,8 @@ pub record IsQuiet (queue : ℕ) (q : AtPort) (s : State) : Type 0 where
   pub receive : IsOff queue s
   pub transmit : transmit.IsOff queue s
 
--- so it is wherever the pass has made the accesses that see them off, where the driver's numbers name its queue once
--- the first of these is made
+-- so it is wherever the pass has made the accesses that see them off, where the driver's port and queue name this queue
+-- once the first of these is made
 abbrev pub QuietingLeads : Type 0
 QuietingLeads =
     (w : Watched) (q : AtPort) (fifo : ℕ) (h : List Entry) (old new : List Call) → IsAlong w fifo h →
@@ -32,8 +31,9 @@ QuietingLeads =
 abbrev pub are_off : Sides → Bool
 are_off p = (not p.rx.on && not p.rx.wanted) && (not p.tx.on && not p.tx.wanted)
 
--- and where nothing is staged, they stand as they are, with no block lent
+-- and so they stand as they are, with no block lent
 abbrev pub QuietSidesStand : Type 0
 QuietSidesStand =
-    (w : Watched) (q : AtPort) (h : List Entry) (s : State) → IsQuiet w.queue q s → staged_by s w.queue ≡ [] →
-    (p : Sides) × IsTrue (are_off p) × Point w.queue (lent_by w.pass h) q p s
+    (w : Watched) (q : AtPort) (fifo : ℕ) (h : List Entry) (calls : List Call) → IsAlong w fifo h →
+    AtCalls w fifo h calls (IsQuiet w.queue q) →
+    AtCalls w fifo h calls (λ s. (p : Sides) × IsTrue (are_off p) × Point w.queue (lent_by w.pass h) q p s)

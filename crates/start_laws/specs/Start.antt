@@ -3,7 +3,6 @@ use Rattle.std.specs.Prelude.{ℕ, ◌≡◌, ◌++◌, true, List, []}
 use Rattle.dma_arena.specs.Numbers.{Numbers}
 use Rattle.register_file.specs.declared.dir.Dir.TheVariants.{Rx, Tx}
 use Rattle.nic_device.specs.State.{new_state}
-use Rattle.nic_device.specs.Transmit.{staged_by}
 use Rattle.device_lock.specs.declared.alone.Watched.{Watched}
 use Rattle.device_lock.specs.declared.entry.Call.{Call}
 use Rattle.device_lock.specs.declared.entry.Entry.{Entry}
@@ -34,12 +33,10 @@ pub record OnlySteps (q : AtPort) (size : ℕ) (old : List Call) (a : Numbers) (
       StepsBetween q up.both_made up.on.mid
       (receive_polled true up.on.switched.0 ++ polled Tx true up.on.switched.1) up.on.switched.3
 
--- where the driver's first access is made its numbers name its queue, and frames are short; and where it has seen both
--- sides off nothing is staged
+-- where the driver's first access is made its port and queue name this queue, and frames are short
 pub record BeginsWell (w : Watched) (fifo : ℕ) (h : List Entry) (q : AtPort) (size : ℕ) (old : List Call) (a : Numbers)
     (new : List Call) (r : Running) (up : AreUp q size old a new r) : Type 0 where
   pub ground : AtCalls w fifo h up.receive.quiet.0 (HasGround w.queue q)
-  pub bare : AtCalls w fifo h up.receive.mid (λ s. staged_by s w.queue ≡ [])
 
 -- wherever the pass has made the calls by which both sides came up, device and driver agree on both: nothing is posted
 -- yet, and nothing is sent

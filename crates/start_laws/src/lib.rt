@@ -4,12 +4,19 @@
 #![tactic(auto)]
 
 ghost use Rattle.start_laws.specs.Moves.{ReceiveWriteStands, TransmitWriteStands, ReceiveReadStands, TransmitReadStands, LendStands, FreshReceiveAgrees, FreshTransmitAgrees};
+ghost use Rattle.start_laws.specs.Numbers.{NamedQueueHasTheNumbers};
 ghost use Rattle.start_laws.specs.Points.{AccessesLead};
 ghost use Rattle.start_laws.specs.Quieting.{QuietingLeads, QuietSidesStand};
 ghost use Rattle.start_laws.specs.Quiet.{ReceiveGuardIsOff, OffSidesStand};
 ghost use Rattle.start_laws.specs.Start.{StartAgrees, StartGoesOn};
 ghost use Rattle.start_laws.specs.Standing.{StandingSidesAreLeft};
 ghost use Rattle.start_laws.specs.Words.{ReceiveWordsAreTaken, TransmitWordsAreTaken};
+
+/// The numbers that a driver uses at its port name the registers of the queue that port and queue name: at the physical
+/// function each of the device's queues by its number there, at a virtual function those of its pool, from the first on.
+pub fn named_queue_has_the_numbers()
+    ensures { NamedQueueHasTheNumbers }
+{}
 
 /// A word that a driver writes to a register of a side that is off is the side's, whole: its ring's base, length, head
 /// or tail, its control word, or no write-back of the head; and a write of the enable word asks. The queue's other
@@ -44,16 +51,16 @@ pub fn fresh_sides_agree()
 {}
 
 /// After a write of the receive side's enable word without bit 25 the side isn't wanted on, and stays so over every
-/// event that leaves the queue alone; a read that tells bit 25 as 0 then finds it off. Two sides that are off so, with
-/// nothing staged, stand as they are.
+/// event that leaves the queue alone; a read that tells bit 25 as 0 then finds it off. Two sides that are off so stand
+/// as they are.
 pub fn guarded_receive_side_is_off()
     ensures guard { ReceiveGuardIsOff }
     ensures stand { OffSidesStand }
 {}
 
 /// Over a legal history that leaves the queue alone, both sides are off, and not wanted on, wherever the driver's pass
-/// has made the accesses that see them off; with nothing staged they stand as they are. Other calls of the pass in
-/// between are steps of the device.
+/// has made the accesses that see them off; and so they stand as they are. Other calls of the pass in between are steps
+/// of the device.
 pub fn both_sides_are_seen_off()
     ensures quieting { QuietingLeads }
     ensures stand { QuietSidesStand }
@@ -67,8 +74,8 @@ pub fn accesses_lead_over_a_history()
 
 /// Over such a history, wherever the driver's pass has made the calls by which a start of it brought both sides up, the
 /// device and the driver agree on both: nothing is posted or sent yet. Both are on there, and nothing was received or
-/// sent since they went on. Other calls of the pass up to there are steps of the device; the driver's numbers name its
-/// queue, frames are short, and nothing is staged where both sides are off.
+/// sent since they went on. Other calls of the pass up to there are steps of the device; its port and queue name this
+/// queue as its first access is made, and frames are short.
 pub fn start_leaves_sides_that_agree()
     ensures agree { StartAgrees }
     ensures on { StartGoesOn }

@@ -1,26 +1,22 @@
 -- Steps of a transmit side that isn't wanted on.
-use Rattle.std.proofs.Common.{◌≡◌, ℕ, ◌<◌, Bool, true, false, not, ◌||◌, List, refl, ap, ◌∙◌, Option, Some, None}
-use Rattle.std.proofs.lemmas.Bool.{lt-ltb}
-use Rattle.tx_ring.specs.declared.fetched.Fetched.{Fetched}
+use Rattle.std.proofs.Common.{◌≡◌, ℕ, ◌<◌, ap, ◌∙◌}
 use Rattle.register_file.specs.Queue.{switched}
 use Rattle.register_file.specs.Registers.{is_wanted}
-use Rattle.register_file.specs.Settings.{is_stopped, can_transmit}
-use Rattle.register_file.specs.Sides.{TransmitQueue, transmit_queue_of}
+use Rattle.register_file.specs.Sides.{TransmitQueue}
 use Rattle.register_file.specs.declared.dir.Dir.TheVariants.{Tx}
 use Rattle.register_file.proofs.Switches.{transmit-switched}
 use Rattle.nic_device.specs.Outcome.{Outcome, gives}
-use Rattle.nic_device.specs.Receive.{is_empty}
 use Rattle.nic_device.specs.Sound.{IsSound}
 use Rattle.nic_device.specs.State.{State}
 use Rattle.nic_device.specs.Step.{step_of, after}
 use Rattle.nic_device.specs.Switching.{emptied, side_switched}
-use Rattle.nic_device.specs.Transmit.{fetched_reply, is_muted, is_silent}
 use Rattle.nic_device.specs.declared.event.Event.TheVariants as event
 use Rattle.nic_device.specs.declared.event.Reply.TheVariants.{Idle}
 use Rattle.nic_device.proofs.Cases.{either_way, switched_cases}
 use Rattle.nic_device.proofs.QueueCases.{transmitted_cases}
-use Rattle.device_laws.specs.Replies.{sent_tells, TookTransmit}
+use Rattle.device_laws.specs.Replies.{sent_tells}
 use Rattle.device_laws.proofs.RepliesSent.{transmitting_tells}
+use Rattle.history_laws.proofs.Silent.{off_idle, took}
 use Rattle.transmit_laws.specs.Off.{IsUnwanted, IsOff}
 
 -- a step of the side's enable
@@ -38,21 +34,7 @@ switched_off s queue sound small none =
 
 -- a step of transmitting
 
-took : (queue : ℕ) (s t : State) (f : Fetched) (o : Option (List ℕ)) → sent_tells queue (fetched_reply queue f o) s t
-    → TookTransmit queue queue f.back s t
-took queue s t f (Some frame) tells = tells
-took queue s t f None tells = tells.0
-
-silent_off : (a b c d e f : Bool) → d ≡ true → (a || b || c || d || e || f) ≡ true
-silent_off true b c d e f is = refl
-silent_off false true c d e f is = refl
-silent_off false false true d e f is = refl
-silent_off false false false d e f is = rw is refl
-
 module _ (queue : ℕ) (s : State) (small : queue < 128) where
-  abbrev side : TransmitQueue
-  side = transmit_queue_of s.registers queue
-
   abbrev Still : Outcome → Type 0
   Still o = sent_tells queue o.reply s o.state → IsUnwanted queue o.state
 
@@ -74,12 +56,7 @@ module _ (queue : ℕ) (s : State) (small : queue < 128) where
       (switched_off s queue sound small none).unwanted
 
   pub idle : IsOff queue s → step_of s (event.TxStep queue) ≡ gives Idle s
-  unfolding step_of
-  idle is =
-      let silent : is_silent s queue side ≡ true =
-      silent_off (is_stopped s.registers) (not s.link) (not (can_transmit s.registers)) (not side.on)
-      (is_muted s.registers queue) (is_empty side.ring) (ap not is.off) in
-      rw (lt-ltb queue 128 small, silent) refl
+  idle is = off_idle queue s small is.off
 
   pub switch_off : IsSound s → IsOff queue s → IsOff queue (after s (event.QueueStep Tx queue))
   unfolding step_of

@@ -1,7 +1,7 @@
 -- Over a whole history.
 use Rattle.std.proofs.Common.{◌≡◌, ◌≢◌, ℕ, suc, ◌+◌, ◌-◌, ◌<◌, inl, inr, List, [], ◌∷◌, ◌++◌, length, drop, refl, ap, sym, ◌∙◌, subst, arith, append_assoc, Option, Some, None}
 use Rattle.std.proofs.lemmas.Bool.{cases_lt, both_ways}
-use Rattle.std.proofs.lemmas.List.{append-nil, drop_all, length-append, length-drop}
+use Rattle.std.proofs.lemmas.List.{append-nil, drop_all, length-append, length-drop, map-append}
 use Rattle.dma_arena.specs.Block.{Block}
 use Rattle.dma_arena.specs.Memory.{read_at}
 use Rattle.nic_device.specs.State.{State}
@@ -9,9 +9,10 @@ use Rattle.nic_device.specs.Step.{after, reply_to}
 use Rattle.nic_device.specs.declared.event.Event.{Event}
 use Rattle.nic_device.specs.declared.event.Reply.{Reply}
 use Rattle.device_lock.specs.History.{IsLegal, leads_to}
+use Rattle.device_lock.specs.declared.entry.Entry.{Entry}
 use Rattle.pmd_tx.specs.Sending.{Outgoing, Sender, Move, is_sent, descriptor_at, moved}
 use Rattle.transmit_laws.specs.Agreeing.{AgreesAt, Agrees, bytes_of, kept_in}
-use Rattle.transmit_laws.specs.Laws.{SentIsPrefix, IdleIsAllSent, WaitingIsNotAllSent}
+use Rattle.transmit_laws.specs.Laws.{FindsWaiting, SentIsPrefix, IdleIsAllSent, WaitingIsNotAllSent}
 use Rattle.transmit_laws.specs.Sent.{sent_by, sent_in}
 use Rattle.transmit_laws.specs.Turns.{Turn, entries_of, known, sender_after, MayCome, MayRun}
 use Rattle.transmit_laws.proofs.Looking.{look-fetched, look-tells}
@@ -77,28 +78,33 @@ idle_is_all_sent queue s v ts o none =
     idle-all (leads_to s (entries_of ts)) queue (sent_in queue s (entries_of ts)) (sender_after v ts) j.0 j.1
     (ap length none)
 
-sent_in-append : (queue : ℕ) (s : State) (ts us : List Turn)
-    → sent_in queue s (entries_of (ts ++ us))
-    ≡ sent_in queue s (entries_of ts) ++ sent_in queue (leads_to s (entries_of ts)) (entries_of us)
-sent_in-append queue s [] us = refl
-sent_in-append queue s (t ∷ ts) us =
-    let n : State = after s t.entry.event in
-    ap (λ xs. sent_by queue s t.entry.event ++ xs) (sent_in-append queue n ts us)
-    ∙ sym (append_assoc (sent_by queue s t.entry.event) (sent_in queue n (entries_of ts))
-    (sent_in queue (leads_to n (entries_of ts)) (entries_of us)))
+pub sent_in-append : (queue : ℕ) (s : State) (g h : List Entry)
+    → sent_in queue s (g ++ h) ≡ sent_in queue s g ++ sent_in queue (leads_to s g) h
+sent_in-append queue s [] h = refl
+sent_in-append queue s (e ∷ g) h =
+    let n : State = after s e.event in
+    ap (λ xs. sent_by queue s e.event ++ xs) (sent_in-append queue n g h)
+    ∙ sym (append_assoc (sent_by queue s e.event) (sent_in queue n g) (sent_in queue (leads_to n g) h))
+
+-- where a look finds the oldest not done none is fetched, so all that was accepted is more than was sent, or fewer
+pub waiting-left : (s : State) (queue : ℕ) (sent : List (List ℕ)) (v : Sender) → Agrees s queue sent v
+    → FindsWaiting s v → (xs more : List (List ℕ)) → sent ≡ xs ++ more → bytes_of v.accepted ≢ xs
+waiting-left s queue sent v (f, h) finds xs more split same =
+    let seen : finds.bytes ≡ read_at s.memory (descriptor_at v.layout 0) 16 =
+    look-tells s queue sent v f h finds.bytes finds.told in
+    elim (cases_lt 0 f) [
+      | inl some ↦
+          both_ways (is_sent finds.bytes) finds.waits (ap is_sent seen ∙ look-fetched s queue sent v f h some)
+      | inr none ↦
+          let posted = finds.posted in
+          left-over s queue sent v f h xs more split (omega (arith, posted, h.counted.posted_known)) same
+    ]
 
 pub waiting_is_not_all_sent : WaitingIsNotAllSent
-waiting_is_not_all_sent queue s v ts us bytes o posted told waits same all_sent =
-    let w : Sender = sender_after v (ts ++ us) in
-    let n : State = leads_to s (entries_of (ts ++ us)) in
-    let j = over-turns s queue [] v (ts ++ us) o.agreed o.legal o.may in
-    let sent = sent_in queue s (entries_of (ts ++ us)) in
-    let seen : bytes ≡ read_at n.memory (descriptor_at w.layout 0) 16 = look-tells n queue sent w j.0 j.1 bytes told in
-    elim (cases_lt 0 j.0) [
-      | inl some ↦
-          both_ways (is_sent bytes) waits (ap is_sent seen ∙ look-fetched n queue sent w j.0 j.1 some)
-      | inr none ↦
-          left-over n queue sent w j.0 j.1 (sent_in queue s (entries_of ts))
-          (sent_in queue (leads_to s (entries_of ts)) (entries_of us)) (sent_in-append queue s ts us)
-          (omega (arith, posted, j.1.counted.posted_known)) (ap bytes_of same ∙ all_sent)
-    ]
+waiting_is_not_all_sent queue s v ts us o finds same all_sent =
+    let gone = entries_of ts in
+    waiting-left (leads_to s (entries_of (ts ++ us))) queue (sent_in queue s (entries_of (ts ++ us)))
+    (sender_after v (ts ++ us)) (over-turns s queue [] v (ts ++ us) o.agreed o.legal o.may) finds
+    (sent_in queue s gone) (sent_in queue (leads_to s gone) (entries_of us))
+    (ap (sent_in queue s) (map-append _ ts us) ∙ sent_in-append queue s gone (entries_of us))
+    (ap bytes_of same ∙ all_sent)

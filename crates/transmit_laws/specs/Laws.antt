@@ -59,16 +59,19 @@ IdleIsAllSent =
     (queue : ℕ) (s : State) (v : Sender) (ts : List Turn) → IsOver queue s v ts →
     (sender_after v ts).outstanding ≡ [] → bytes_of (sender_after v ts).accepted ≡ sent_in queue s (entries_of ts)
 
--- where a look finds the oldest outstanding packet not done, and none was accepted since some turn, then before that
--- turn not all of those accepted were sent
+-- a look at the oldest outstanding packet, from a state on, would find it not done
+pub record FindsWaiting (s : State) (v : Sender) : Type 0 where
+  pub bytes : List ℕ
+  pub posted : 0 < v.posted
+  pub told : reply_to s (event.Peek16 (descriptor_at v.layout 0)) ≡ reply.Bytes bytes
+  pub waits : is_sent bytes ≡ false
+
+-- where a look that comes next does, and none was accepted since some turn, then before that turn not all of those
+-- accepted were sent
 abbrev pub WaitingIsNotAllSent : Type 0
 WaitingIsNotAllSent =
-    (queue : ℕ) (s : State) (v : Sender) (ts us : List Turn) (bytes : List ℕ) → IsOver queue s v (ts ++ us) →
-    0 < (sender_after v (ts ++ us)).posted →
-    reply_to (leads_to s (entries_of (ts ++ us)))
-    (event.Peek16 (descriptor_at (sender_after v (ts ++ us)).layout 0))
-    ≡ reply.Bytes bytes →
-    is_sent bytes ≡ false →
+    (queue : ℕ) (s : State) (v : Sender) (ts us : List Turn) → IsOver queue s v (ts ++ us) →
+    FindsWaiting (leads_to s (entries_of (ts ++ us))) (sender_after v (ts ++ us)) →
     (sender_after v (ts ++ us)).accepted ≡ (sender_after v ts).accepted →
     bytes_of (sender_after v ts).accepted ≢ sent_in queue s (entries_of ts)
 

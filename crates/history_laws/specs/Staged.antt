@@ -1,0 +1,28 @@
+-- Transmit sides stage bytes only while they are on.
+use Rattle.std.specs.Prelude.{ℕ, ◌≡◌, ◌<◌, IsFalse, List, []}
+use Rattle.dma_arena.specs.Block.{Block}
+use Rattle.register_file.specs.Queue.{is_on}
+use Rattle.register_file.specs.declared.dir.Dir.TheVariants.{Tx}
+use Rattle.nic_device.specs.Sound.{IsSound}
+use Rattle.nic_device.specs.State.{State, new_state}
+use Rattle.nic_device.specs.Step.{after}
+use Rattle.nic_device.specs.Transmit.{staged_by}
+use Rattle.nic_device.specs.declared.event.Event.{Event}
+use Rattle.device_lock.specs.History.{leads_to}
+use Rattle.device_lock.specs.declared.entry.Entry.{Entry}
+use Rattle.history_laws.specs.Laws.{AreEvents}
+
+-- nothing is staged on a transmit side that is off
+abbrev pub StageWhileOn : State → Type 0
+StageWhileOn s = (queue : ℕ) → queue < 128 → IsFalse (is_on s.registers Tx queue) → staged_by s queue ≡ []
+
+-- so it is in a new device, and after every event and every history
+abbrev pub NewSidesStageWhileOn : Type 0
+NewSidesStageWhileOn = (vfs fifo : ℕ) → StageWhileOn (new_state vfs fifo)
+
+abbrev pub EventsKeepStaged : Type 0
+EventsKeepStaged = (s : State) (e : Event Block) → IsSound s → StageWhileOn s → StageWhileOn (after s e)
+
+abbrev pub HistoriesKeepStaged : Type 0
+HistoriesKeepStaged =
+    (s : State) (h : List Entry) → IsSound s → AreEvents h → StageWhileOn s → StageWhileOn (leads_to s h)

@@ -1,5 +1,5 @@
 -- A driver's life as its calls tell it is a life.
-use Rattle.std.proofs.Common.{◌≡◌, ℕ, inl, inr, Bool, true, false, List, [], ◌∷◌, Option, Some, Ok, if◌then◌else◌, refl, sym, ap, ◌∙◌, subst}
+use Rattle.std.proofs.Common.{◌≡◌, ◌≢◌, ℕ, inl, inr, Bool, true, false, List, [], ◌∷◌, ◌++◌, Option, Some, Ok, if◌then◌else◌, refl, sym, ap, ◌∙◌, subst}
 use Rattle.std.proofs.lemmas.List.{append-nil}
 use Rattle.dma_arena.specs.Numbers.{Numbers}
 use Rattle.nic_device.specs.State.{new_state}
@@ -26,9 +26,10 @@ use Rattle.driver_laws.proofs.Calls.{halves_go_on, others_go_on, receiving_goes_
 use Rattle.pmd_laws.specs.Life.{IsLife}
 use Rattle.pmd_laws.specs.Order.{IsLived}
 use Rattle.pmd_laws.specs.Told as told
-use Rattle.pmd_laws.specs.Told.{AllFollow, Follows, HasNoneOut, IsTold, IsToldOf, IsToldToLook, Keeps, Moment, Receives, Sends, last}
+use Rattle.pmd_laws.specs.Told.{AllFollow, Follows, HasNoneOut, IsTold, IsToldOf, IsToldTo, Keeps, LooksAtWaiting, LooksInVain, Moment, Receives, Sends, last}
 use Rattle.pmd_laws.proofs.Looks.{none_before_look}
 use Rattle.pmd_laws.proofs.Order.{handed_of_life, idle_of_life, sent_of_life}
+use Rattle.pmd_laws.proofs.Waits.{waiting_not_all}
 
 -- a driver that runs goes on: it runs with these rings
 pub record RunsOn (m : Moment) (r : Running) (n : Moment) : Type 0 where
@@ -158,11 +159,12 @@ module _ (w : Watched) (fifo : ℕ) (h : List Entry) (q : AtPort) (size : ℕ) (
         ap (λ (z : Rings). bytes_of (accepted_of z)) up
         ∙ idle_of_life w fifo h q size old a m.made x.told.started.0 k lived (subst HasNoneOut up none)
 
-  module _ (n : Moment) (x : IsToldToLook w fifo h q size old a m later n) where
-    looked : handed_of (last m later).driver.rings ≡ delivered w.queue (new_state w.vfs fifo) x.look.before
-    looked =
+  module _ (n : Moment) (x : IsToldTo w fifo h q size old a m later n) where
+    looked : LooksInVain (last m later) n
+        → handed_of (last m later).driver.rings ≡ delivered w.queue (new_state w.vfs fifo) x.look.before
+    looked looks =
         let runs = runs q size old a m later x.told in
-        let (s, after, (looks, steps)) = up_next _ (last m later).driver.rings n.driver.rings runs.rings runs.up x.looks in
+        let (s, after, (look, steps)) = up_next _ (last m later).driver.rings n.driver.rings runs.rings runs.up looks in
         ap handed_of runs.up
         ∙ none_before_look w fifo h q size old a m.made x.told.started.0 (last m later).made (halves_of runs.rings)
         n.made s.receive
@@ -170,10 +172,29 @@ module _ (w : Watched) (fifo : ℕ) (h : List Entry) (q : AtPort) (size : ℕ) (
           along = x.along;
           life = life q size old a m later x.told (last m later).made runs.goes;
           begins = x.begins;
-          looks = looks;
+          looks = look;
           steps = steps;
           look = x.look;
         })
+
+    waits : LooksAtWaiting (last m later) n → (done more : List Entry) → done ++ more ≡ x.look.before
+        → calls_of w.pass done ≡ (last m later).made
+        → bytes_of (accepted_of (last m later).driver.rings) ≢ sent_since w.queue (new_state w.vfs fifo) [] done
+    waits looks done more split is all_sent =
+        let runs = runs q size old a m later x.told in
+        let (s, after, (look, moves, steps)) = up_next _ (last m later).driver.rings n.driver.rings runs.rings runs.up
+        looks in
+        waiting_not_all w fifo h q size old a m.made x.told.started.0 (last m later).made (halves_of runs.rings) n.made
+        s.transmit
+        (record {
+          along = x.along;
+          life = life q size old a m later x.told (last m later).made runs.goes;
+          begins = x.begins;
+          looks = look;
+          moves = moves;
+          steps = steps;
+          look = x.look;
+        }) done more split is (ap (λ (z : Rings). bytes_of (accepted_of z)) (sym runs.up) ∙ all_sent)
 
 pub handed_as_told : told.HandedIsPrefix
 handed_as_told = handed
@@ -186,3 +207,6 @@ idle_as_told = idle
 
 pub none_as_told : told.NoneIsAllBefore
 none_as_told = looked
+
+pub waits_as_told : told.WaitingIsNotAll
+waits_as_told = waits

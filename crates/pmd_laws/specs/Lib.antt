@@ -2,3 +2,4 @@ pub mod Life
 pub mod Looks
 pub mod Order
 pub mod Told
+pub mod Waits

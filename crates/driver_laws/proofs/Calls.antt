@@ -5,7 +5,7 @@ use Rattle.pmd_rx.specs.Plays as receive
 use Rattle.pmd_tx.specs.Plays as transmit
 use Rattle.pmd_tx.specs.Sending.{Move, Elsewhere}
 use Rattle.driver_laws.specs.Going.{GoesOn, ReceivingGoesOn, SendingGoesOn, OthersGoOn, HalvesGoOn}
-use Rattle.driver_laws.specs.Halves.{Halves, Doer, Receives, Sends, AllOwn, OthersStep, after_call, doers_marked, doers_moved, doers_other, played_by, ReceivingDrives, SendingDrives, OthersDrive, DrivesOn}
+use Rattle.driver_laws.specs.Halves.{Halves, Doer, Receives, Sends, AllOwn, OthersStep, after_call, doers_marked, doers_moved, played_by, ReceivingDrives, SendingDrives, OthersDrive, DrivesOn}
 
 -- the calls of one half
 
@@ -34,14 +34,14 @@ receiving_drives old new h k (marks, since, made, own, is) same = (
   (λ i. record { receive = is i; transmit = same i }) ∙ sym (receives_played h marks since),
 )
 
-pub sends_own : (h : Halves) (moves : List Move) (calls : List Call) → transmit.AllOwn h.transmit moves calls
+sends_own : (h : Halves) (moves : List Move) (calls : List Call) → transmit.AllOwn h.transmit moves calls
     → AllOwn h (doers_moved moves) calls
 sends_own h [] [] own = tt
 sends_own h [] (n ∷ calls) own = own
 sends_own h (m ∷ moves) [] own = own
 sends_own h (m ∷ moves) (n ∷ calls) own = (own.0, sends_own (after_call h (Sends m) n) moves calls own.1)
 
-pub sends_played : (h : Halves) (moves : List Move) (calls : List Call)
+sends_played : (h : Halves) (moves : List Move) (calls : List Call)
     → played_by h (doers_moved moves) calls ≡ record h { transmit = transmit.played_by h.transmit moves calls }
 sends_played h [] calls = refl
 sends_played h (m ∷ moves) [] = refl
@@ -58,16 +58,20 @@ sending_drives old new h k (moves, since, made, own, is) same = (
 
 -- calls that are neither's
 
-pub others_own : (h : Halves) (calls : List Call) → AllOwn h (doers_other calls) calls
+abbrev others : List Call → List Doer
+others [] = []
+others (n ∷ calls) = Sends Elsewhere ∷ others calls
+
+others_own : (h : Halves) (calls : List Call) → AllOwn h (others calls) calls
 others_own h [] = tt
 others_own h (n ∷ calls) = (tt, others_own h calls)
 
-pub others_played : (h : Halves) (calls : List Call) → h ≡ played_by h (doers_other calls) calls
+others_played : (h : Halves) (calls : List Call) → h ≡ played_by h (others calls) calls
 others_played h [] = refl
 others_played h (n ∷ calls) = others_played h calls
 
 pub others_drive : OthersDrive
-others_drive old new h (since, made) = (doers_other since, since, made, others_own h since, others_played h since)
+others_drive old new h (since, made) = (others since, since, made, others_own h since, others_played h since)
 
 -- one after another
 
@@ -78,7 +82,7 @@ both_own h [] es (m ∷ ms) ns first then = absurd first
 both_own h (d ∷ ds) es [] ns first then = absurd first
 both_own h (d ∷ ds) es (m ∷ ms) ns first then = (first.0, both_own (after_call h d m) ds es ms ns first.1 then)
 
-pub both_played : (h : Halves) (ds es : List Doer) (ms ns : List Call) → AllOwn h ds ms
+both_played : (h : Halves) (ds es : List Doer) (ms ns : List Call) → AllOwn h ds ms
     → played_by h (ds ++ es) (ms ++ ns) ≡ played_by (played_by h ds ms) es ns
 both_played h [] es [] ns own = refl
 both_played h [] es (m ∷ ms) ns own = absurd own
@@ -124,7 +128,7 @@ sent old new h k (moves, since, made, own, is) steps other =
 pub sending_goes_on : SendingGoesOn
 sending_goes_on old new h k x = sent old new h k x.plays x.steps x.other
 
-all_step : (calls : List Call) → OthersStep [] calls → OthersStep (doers_other calls) calls
+all_step : (calls : List Call) → OthersStep [] calls → OthersStep (others calls) calls
 all_step [] are = tt
 all_step (n ∷ calls) are = (λ neither. are.0, all_step calls are.1)
 

@@ -8,7 +8,7 @@
 ghost use Rattle.driver_laws.specs.Going.{ReceivingGoesOn, SendingGoesOn, OthersGoOn, HalvesGoOn};
 ghost use Rattle.driver_laws.specs.Halves.{ReceivingDrives, SendingDrives, OthersDrive, DrivesOn};
 ghost use Rattle.driver_laws.specs.Histories.{HandedIsPrefix, NoneIsAll, SentIsPrefix, IdleIsAllSent, CountedWhereUp, StepsLeaveAlone};
-ghost use Rattle.driver_laws.specs.Waiting.{WaitingIsNotAll, ReapIsNotAll};
+ghost use Rattle.driver_laws.specs.Waiting.{WaitingIsNotAll};
 
 /// The calls of one half lead both on, where the other half stays as it was; calls that are neither's leave both; and
 /// calls lead on, one after another. So the halves follow from whatever calls of a driver that runs were made.
@@ -47,9 +47,7 @@ pub fn steps_leave_the_queue_alone()
 {}
 
 /// Over such a history, where a look that comes next finds the oldest outstanding packet not done, what was sent up to
-/// any place since which the driver accepted none isn't all that it had accepted there. So it is before the first call
-/// of a reap that ends with a packet outstanding.
+/// any place before isn't all that the driver accepted.
 pub fn waiting_packets_are_not_all_sent()
-    ensures look { WaitingIsNotAll }
-    ensures reap { ReapIsNotAll }
+    ensures { WaitingIsNotAll }
 {}

@@ -1,5 +1,5 @@
 -- A driver's life as its calls tell it is a life.
-use Rattle.std.proofs.Common.{◌≡◌, ◌≢◌, ℕ, inl, inr, Bool, true, false, List, [], ◌∷◌, ◌++◌, Option, Some, Ok, if◌then◌else◌, refl, sym, ap, ◌∙◌, subst}
+use Rattle.std.proofs.Common.{◌≡◌, ℕ, inl, inr, Bool, true, false, List, [], ◌∷◌, Option, Some, Ok, if◌then◌else◌, refl, sym, ap, ◌∙◌, subst}
 use Rattle.std.proofs.lemmas.List.{append-nil}
 use Rattle.dma_arena.specs.Numbers.{Numbers}
 use Rattle.nic_device.specs.State.{new_state}
@@ -26,10 +26,9 @@ use Rattle.driver_laws.proofs.Calls.{halves_go_on, others_go_on, receiving_goes_
 use Rattle.pmd_laws.specs.Life.{IsLife}
 use Rattle.pmd_laws.specs.Order.{IsLived}
 use Rattle.pmd_laws.specs.Told as told
-use Rattle.pmd_laws.specs.Told.{AllFollow, Follows, HasNoneOut, IsTold, IsToldOf, IsToldTo, Keeps, LooksAtWaiting, LooksInVain, Moment, Receives, Sends, last}
+use Rattle.pmd_laws.specs.Told.{AllFollow, Follows, HasNoneOut, IsTold, IsToldOf, IsToldToLook, Keeps, Moment, Receives, Sends, last}
 use Rattle.pmd_laws.proofs.Looks.{none_before_look}
 use Rattle.pmd_laws.proofs.Order.{handed_of_life, idle_of_life, sent_of_life}
-use Rattle.pmd_laws.proofs.Waits.{waiting_not_all}
 
 -- a driver that runs goes on: it runs with these rings
 pub record RunsOn (m : Moment) (r : Running) (n : Moment) : Type 0 where
@@ -39,7 +38,7 @@ pub record RunsOn (m : Moment) (r : Running) (n : Moment) : Type 0 where
 
 -- where a driver that runs runs on
 
-up_next : (P : Running → Running → Type 0) (a b : Rings) (r : Running) → a ≡ Up r → WhereUp a b P
+pub up_next : (P : Running → Running → Type 0) (a b : Rings) (r : Running) → a ≡ Up r → WhereUp a b P
     → (s : Running) × (b ≡ Up s) × P r s
 up_next P (Up x) (Up y) r is holds = let same : x ≡ r = cc in (y, refl, subst (λ z. P z y) same holds)
 up_next P (Up x) (Down y) r is holds = absurd holds
@@ -93,7 +92,7 @@ all_follow m (n ∷ later) r is x =
     }
 
 -- a start that isn't shut has a size that rings may have
-open_size : (size : ℕ) (a : Numbers) (old new : List Call) (p : Driver) (b : Bool) (rest : Option PmdFault)
+pub open_size : (size : ℕ) (a : Numbers) (old new : List Call) (p : Driver) (b : Bool) (rest : Option PmdFault)
     → IsShut (if b then rest else Some BadSize) a old new (Ok p) → b ≡ true
 open_size size a old new p true rest x = refl
 open_size size a old new p false rest x = absurd x
@@ -101,16 +100,16 @@ open_size size a old new p false rest x = absurd x
 -- so it is a life
 module _ (q : AtPort) (size : ℕ) (old : List Call) (a : Numbers) (m : Moment) (later : List Moment)
     (x : IsTold q size old a m later) where
-  abbrev first : Running
+  abbrev pub first : Running
   first = x.started.0
 
-  runs : RunsOn m first (last m later)
+  pub runs : RunsOn m first (last m later)
   runs = all_follow m later first (ap (λ (p : Driver). p.rings) x.started.1) x.since
 
-  abbrev now : Halves
+  abbrev pub now : Halves
   now = halves_of runs.rings
 
-  abbrev life : (calls : List Call) → GoesOn m.made (halves_of first) calls now
+  abbrev pub life : (calls : List Call) → GoesOn m.made (halves_of first) calls now
       → IsLife q size old a m.made first calls now
   life calls since = record {
     sized = open_size size a old m.made m.driver (is_size size) _ x.shut;
@@ -159,12 +158,11 @@ module _ (w : Watched) (fifo : ℕ) (h : List Entry) (q : AtPort) (size : ℕ) (
         ap (λ (z : Rings). bytes_of (accepted_of z)) up
         ∙ idle_of_life w fifo h q size old a m.made x.told.started.0 k lived (subst HasNoneOut up none)
 
-  module _ (n : Moment) (x : IsToldTo w fifo h q size old a m later n) where
-    looked : LooksInVain (last m later) n
-        → handed_of (last m later).driver.rings ≡ delivered w.queue (new_state w.vfs fifo) x.look.before
-    looked looks =
+  module _ (n : Moment) (x : IsToldToLook w fifo h q size old a m later n) where
+    looked : handed_of (last m later).driver.rings ≡ delivered w.queue (new_state w.vfs fifo) x.look.before
+    looked =
         let runs = runs q size old a m later x.told in
-        let (s, after, (look, steps)) = up_next _ (last m later).driver.rings n.driver.rings runs.rings runs.up looks in
+        let (s, after, (looks, steps)) = up_next _ (last m later).driver.rings n.driver.rings runs.rings runs.up x.looks in
         ap handed_of runs.up
         ∙ none_before_look w fifo h q size old a m.made x.told.started.0 (last m later).made (halves_of runs.rings)
         n.made s.receive
@@ -172,29 +170,10 @@ module _ (w : Watched) (fifo : ℕ) (h : List Entry) (q : AtPort) (size : ℕ) (
           along = x.along;
           life = life q size old a m later x.told (last m later).made runs.goes;
           begins = x.begins;
-          looks = look;
+          looks = looks;
           steps = steps;
           look = x.look;
         })
-
-    waits : LooksAtWaiting (last m later) n → (done more : List Entry) → done ++ more ≡ x.look.before
-        → calls_of w.pass done ≡ (last m later).made
-        → bytes_of (accepted_of (last m later).driver.rings) ≢ sent_since w.queue (new_state w.vfs fifo) [] done
-    waits looks done more split is all_sent =
-        let runs = runs q size old a m later x.told in
-        let (s, after, (look, moves, steps)) = up_next _ (last m later).driver.rings n.driver.rings runs.rings runs.up
-        looks in
-        waiting_not_all w fifo h q size old a m.made x.told.started.0 (last m later).made (halves_of runs.rings) n.made
-        s.transmit
-        (record {
-          along = x.along;
-          life = life q size old a m later x.told (last m later).made runs.goes;
-          begins = x.begins;
-          looks = look;
-          moves = moves;
-          steps = steps;
-          look = x.look;
-        }) done more split is (ap (λ (z : Rings). bytes_of (accepted_of z)) (sym runs.up) ∙ all_sent)
 
 pub handed_as_told : told.HandedIsPrefix
 handed_as_told = handed
@@ -207,6 +186,3 @@ idle_as_told = idle
 
 pub none_as_told : told.NoneIsAllBefore
 none_as_told = looked
-
-pub waits_as_told : told.WaitingIsNotAll
-waits_as_told = waits

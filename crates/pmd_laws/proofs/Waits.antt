@@ -1,84 +1,173 @@
--- Before a call that ends with a packet waiting not all that was accepted was sent.
-use Rattle.std.proofs.Common.{◌≡◌, ◌≢◌, ℕ, List, [], ◌∷◌, ◌++◌, refl, sym, ap, ◌∙◌, append_assoc}
+-- Before a call of the driver that ends with a packet outstanding not all that was accepted was sent.
+use Rattle.std.proofs.Common.{◌≡◌, ◌≢◌, ℕ, List, [], ◌∷◌, ◌++◌, refl, sym, ap, ◌∙◌, subst, append_assoc}
+use Rattle.std.proofs.lemmas.List.{append_cancel_left, map-append, same_from_push}
+use Rattle.std.proofs.lemmas.List.Elements.{filter-append}
 use Rattle.dma_arena.specs.Numbers.{Numbers}
-use Rattle.nic_device.specs.State.{new_state}
+use Rattle.nic_device.specs.State.{State, new_state}
+use Rattle.nic_device.specs.Step.{reply_to}
 use Rattle.nic_device.specs.declared.event.Event.TheVariants as event
 use Rattle.nic_device.specs.declared.event.Reply.TheVariants as reply
-use Rattle.device_lock.specs.History.{call_in, calls_of, leads_to}
+use Rattle.device_lock.specs.History.{IsLegal, call_in, calls_of, leads_to}
 use Rattle.device_lock.specs.Pass.{call_of}
 use Rattle.device_lock.specs.declared.alone.Watched.{Watched}
 use Rattle.device_lock.specs.declared.entry.Call.{Call}
 use Rattle.device_lock.specs.declared.entry.Entry.{Entry}
+use Rattle.pmd.specs.Driver.{accepted_of}
 use Rattle.pmd.specs.Running.{Running}
+use Rattle.pmd.specs.declared.driver.Rings.{Rings}
 use Rattle.pmd_queue.specs.Named.{AtPort}
 use Rattle.pmd_tx.specs.Sending.{Sender, descriptor_at}
+use Rattle.receive_laws.proofs.Delivering.{legal_behind}
 use Rattle.transmit_laws.specs.Agreeing.{bytes_of}
 use Rattle.transmit_laws.specs.Laws.{FindsWaiting}
 use Rattle.transmit_laws.specs.Sent.{sent_since}
+use Rattle.start_laws.proofs.Along.{Parts}
 use Rattle.driver_laws.specs.Going.{GoesOn}
 use Rattle.driver_laws.specs.Halves.{Halves, halves_of}
 use Rattle.driver_laws.proofs.Calls.{halves_go_on, others_go_on, sending_goes_on}
+use Rattle.driver_laws.proofs.Waiting.{waiting_is_not_all}
 use Rattle.pmd_laws.specs.Order.{IsLived}
-use Rattle.pmd_laws.specs.Waits.{LooksAtWaiting, WaitingIsNotAll}
-use Rattle.pmd_laws.proofs.Looks.{answered, ends_with, lived_before}
-use Rattle.pmd_laws.proofs.Order.{counted, halved, waits}
+use Rattle.pmd_laws.specs.Told.{last}
+use Rattle.pmd_laws.specs.Waits.{LooksAtWaiting, WaitingIsNotAllBefore, WaitingIsNotAllAsTold}
+use Rattle.pmd_laws.proofs.Looks.{along_before, begins_before}
+use Rattle.pmd_laws.proofs.Order as order
+use Rattle.pmd_laws.proofs.Order.{in_parts}
+use Rattle.pmd_laws.proofs.Told.{life, runs, up_next}
 
 module _ (w : Watched) (fifo : ℕ) (h : List Entry) (q : AtPort) (size : ℕ) (old : List Call) (a : Numbers)
-    (started : List Call) (r : Running) (made : List Call) (k : Halves) (new : List Call) (v : Sender)
-    (x : LooksAtWaiting w fifo h q size old a started r made k new v) where
-  -- as the call looks
-  abbrev then : Halves
-  then = record { receive = k.receive; transmit = x.looks.before }
+    (started : List Call) (r : Running) (made : List Call) (k : Halves) (made_then : List Call) (v : Sender)
+    (x : LooksAtWaiting w fifo h q size old a started r made k made_then v) where
+  abbrev new : State
+  new = new_state w.vfs fifo
 
-  abbrev calls : List Call
-  calls = x.looks.mid ++ x.looks.looks.0
+  abbrev late : List Entry
+  late = x.look.before
+
+  abbrev since : List Call
+  since = x.looks.plays.1
+
+  abbrev others : List Call
+  others = x.looks.looks.0
+
+  abbrev sender : Sender
+  sender = x.looks.before
 
   abbrev looking : Call
-  looking = call_of (event.Peek16 (descriptor_at x.looks.before.layout 0)) (reply.Bytes x.looks.bytes)
+  looking = call_of (event.Peek16 (descriptor_at sender.layout 0)) (reply.Bytes x.looks.bytes)
 
-  ends : (calls_of w.pass x.look.before ≡ calls) × (call_in x.look.entry ≡ looking)
-  ends = ends_with w.pass h x.looks.mid x.looks.looks.0 new looking x.looks.looks.1 x.look
+  -- the halves at the look
 
-  goes_on : GoesOn started (halves_of r) calls then
+  abbrev then : Halves
+  then = record k { transmit = sender }
+
+  ends : (calls_of w.pass late ≡ x.looks.mid ++ others) × (call_in x.look.entry ≡ looking)
+  ends =
+      same_from_push (calls_of w.pass late) (x.looks.mid ++ others) (call_in x.look.entry) looking
+      (x.look.made ∙ x.looks.looks.1 ∙ sym (append_assoc x.looks.mid others (looking ∷ [])))
+
+  goes_on : GoesOn started (halves_of r) (x.looks.mid ++ others) then
   goes_on =
-      halves_go_on started made calls (halves_of r) k then x.life.since
-      (halves_go_on made x.looks.mid calls k then then
-      (sending_goes_on made x.looks.mid k then (record { plays = x.looks.plays; steps = x.moves; other = refl }))
-      (others_go_on x.looks.mid calls then (x.looks.looks.0, refl) x.steps))
+      halves_go_on started x.looks.mid (x.looks.mid ++ others) (halves_of r) then then
+      (halves_go_on started made x.looks.mid (halves_of r) k then x.life.since
+      (sending_goes_on made x.looks.mid k then (record { plays = x.looks.plays; steps = x.moves; other = refl })))
+      (others_go_on x.looks.mid (x.looks.mid ++ others) then (others, refl) x.steps)
 
-  finds : FindsWaiting (leads_to (new_state w.vfs fifo) x.look.before) x.looks.before
-  finds = record {
-    bytes = x.looks.bytes;
-    posted = x.looks.posted;
-    told = answered w fifo h new looking x.along x.look ends.1;
-    waits = x.looks.waits;
+  -- a beginning of the history, with the halves that the calls lead to
+  abbrev lived : (early rest : List Entry) → early ++ rest ≡ h → (calls : List Call) (j : Halves)
+      → calls_of w.pass early ≡ calls → GoesOn started (halves_of r) calls j
+      → IsLived w fifo early q size old a started r j
+  lived early rest all calls j is goes = record {
+    along = along_before w fifo h early rest all x.along;
+    life = record {
+      sized = x.life.sized;
+      up = x.life.up;
+      steps = x.life.steps;
+      filled = x.life.filled;
+      since = subst (λ (l : List Call). GoesOn started (halves_of r) l j) (sym is) goes;
+    };
+    begins = begins_before w fifo h early rest all q size old a started r x.life.up x.begins;
   }
 
-  abbrev last : List Entry
-  last = x.look.entry ∷ x.look.behind
+  abbrev lived_then : IsLived w fifo late q size old a started r then
+  lived_then = lived late (x.look.entry ∷ x.look.behind) x.look.all (x.looks.mid ++ others) then ends.0 goes_on
 
-  abbrev lived : IsLived w fifo x.look.before q size old a started r then
-  lived =
-      lived_before w fifo h x.look.before last x.look.all q size old a started r made calls k then x.life x.along
-      x.begins goes_on ends.0
+  -- the look is answered by the device
+  finds : FindsWaiting (leads_to new late) sender
+  finds =
+      let legal = legal_behind new late (x.look.entry ∷ x.look.behind)
+      (subst (IsLegal new) (sym x.look.all) x.along.legal) in
+      let is = ends.1 in record {
+        bytes = x.looks.bytes;
+        posted = x.looks.posted;
+        told =
+            ap (λ (c : Call). reply_to (leads_to new late) c.event) (sym is) ∙ sym legal.0
+            ∙ ap (λ (c : Call). c.reply) is;
+        waits = x.looks.waits;
+      }
 
-  module _ (done more : List Entry) (split : done ++ more ≡ x.look.before) (is : calls_of w.pass done ≡ made) where
-    -- as the call begins
-    abbrev early : IsLived w fifo done q size old a started r k
-    early =
-        lived_before w fifo h done (more ++ last)
-        (sym (append_assoc done more last) ∙ ap (λ (l : List Entry). l ++ last) split ∙ x.look.all) q size old a
-        started r made made k k x.life x.along x.begins x.life.since is
+  module _ (early more : List Entry) (all : early ++ more ≡ late) (is : calls_of w.pass early ≡ made) where
+    abbrev lived_before : IsLived w fifo early q size old a started r k
+    lived_before =
+        let rest = x.look.entry ∷ x.look.behind in
+        lived early (more ++ rest)
+        (sym (append_assoc early more rest) ∙ ap (λ (l : List Entry). l ++ rest) all ∙ x.look.all) made k is
+        x.life.since
 
-    not_all : bytes_of k.transmit.accepted ≢ sent_since w.queue (new_state w.vfs fifo) [] done
-    not_all all_sent =
-        let two = halved w fifo done q size old a started r k early in
-        let both : two.front ++ (two.back ++ more) ≡ x.look.before =
-        sym (append_assoc two.front two.back more) ∙ ap (λ (l : List Entry). l ++ more) two.both ∙ split in
-        waits w fifo x.look.before q size old a started r then lived two.front (two.back ++ more) both two.fronts
-        two.back more refl finds
-        (ap bytes_of x.looks.accepted ∙ all_sent
-        ∙ counted w fifo done q size old a started r k early two.front two.back two.both two.fronts)
+    p : Parts w.pass early x.life.up.on.mid (order.whole w fifo early q size old a started r k lived_before).0.1
+    p = in_parts w fifo early q size old a started r k lived_before
 
-pub waiting_not_all : WaitingIsNotAll
-waiting_not_all = not_all
+    abbrev calls : List Call
+    calls = (order.whole w fifo late q size old a started r then lived_then).0.1
+
+    both : p.front ++ (p.back ++ more) ≡ late
+    both = sym (append_assoc p.front p.back more) ∙ ap (λ (l : List Entry). l ++ more) p.both ∙ all
+
+    joined : (g l : List Entry) → calls_of w.pass (g ++ l) ≡ calls_of w.pass g ++ calls_of w.pass l
+    joined g l = rw (filter-append, map-append) refl
+
+    abbrev p_then : Parts w.pass late x.life.up.on.mid calls
+    p_then = record {
+      front = p.front;
+      back = p.back ++ more;
+      both = both;
+      fronts = p.fronts;
+      backs =
+          append_cancel_left x.life.up.on.mid (calls_of w.pass (p.back ++ more)) calls
+          (ap (λ (l : List Call). l ++ calls_of w.pass (p.back ++ more)) (sym p.fronts)
+          ∙ sym (joined p.front (p.back ++ more)) ∙ ap (calls_of w.pass) both
+          ∙ (order.whole w fifo late q size old a started r then lived_then).0.2);
+    }
+
+    not_all : bytes_of k.transmit.accepted ≢ sent_since w.queue new [] early
+    not_all same =
+        let last = order.last w fifo late q size old a started r then lived_then p_then in
+        waiting_is_not_all w fifo p.front p.back more
+        (order.first w fifo late q size old a started r then lived_then)
+        (order.doers w fifo late q size old a started r then lived_then)
+        (order.driven w fifo late q size old a started r then lived_then p_then)
+        (subst (λ (z : Halves). FindsWaiting (leads_to new (p.front ++ (p.back ++ more))) z.transmit) (sym last)
+        (subst (λ (l : List Entry). FindsWaiting (leads_to new l) sender) (sym both) finds))
+        (ap (λ (z : Halves). bytes_of z.transmit.accepted) last ∙ ap bytes_of x.looks.accepted ∙ same
+        ∙ order.counted w fifo early q size old a started r k lived_before p)
+
+pub waiting_before_look : WaitingIsNotAllBefore
+waiting_before_look = not_all
+
+-- the same by what the calls tell
+pub waiting_as_told : WaitingIsNotAllAsTold
+waiting_as_told w fifo h q size old a m later n x before more all is same =
+    let made = (last m later).made in
+    let runs = runs q size old a m later x.told in
+    let (s, after, (looks, moves, steps)) =
+    up_next _ (last m later).driver.rings n.driver.rings runs.rings runs.up x.waits in
+    waiting_before_look w fifo h q size old a m.made x.told.started.0 made (halves_of runs.rings) n.made s.transmit
+    (record {
+      along = x.along;
+      life = life q size old a m later x.told made runs.goes;
+      begins = x.begins;
+      looks = looks;
+      moves = moves;
+      steps = steps;
+      look = x.look;
+    })
+    before more all is (ap (λ (z : Rings). bytes_of (accepted_of z)) (sym runs.up) ∙ same)

@@ -1,6 +1,6 @@
 -- A driver's life as its calls tell it: what the clauses of `start`, `rx`, `tx`, `reap`, `packet` and `release` say of
 -- the driver, and of the calls that its pass made.
-use Rattle.std.specs.Prelude.{ℕ, ◌≡◌, ◌≢◌, ◌⊎◌, ⊤, List, [], ◌∷◌, ◌++◌, Ok}
+use Rattle.std.specs.Prelude.{ℕ, ◌≡◌, ◌⊎◌, ⊤, List, [], ◌∷◌, Ok}
 use Rattle.dma_arena.specs.Numbers.{Numbers}
 use Rattle.nic_device.specs.State.{new_state}
 use Rattle.device_lock.specs.History.{calls_of}
@@ -15,7 +15,6 @@ use Rattle.pmd.specs.declared.driver.Rings.TheVariants.{Up, Down}
 use Rattle.pmd_base.specs.Made.{AddsSome}
 use Rattle.pmd_queue.specs.Named.{AtPort}
 use Rattle.pmd_rx.specs.Plays.{LooksOnce}
-use Rattle.pmd_tx.specs.Plays.{LooksLast}
 use Rattle.receive_laws.specs.Delivered as receive
 use Rattle.receive_laws.specs.Delivered.{delivered}
 use Rattle.transmit_laws.specs.Agreeing.{bytes_of}
@@ -112,44 +111,24 @@ IdleIsAllSent =
     (later : List Moment) → IsToldOf w fifo h q size old a m later → HasNoneOut (last m later).driver.rings →
     bytes_of (accepted_of (last m later).driver.rings) ≡ sent_since w.queue (new_state w.vfs fifo) [] h
 
--- in a legal history of a new device that leaves the queue alone the pass has made the calls of the last moment, and
--- then those of one call more; behind them whatever came
-pub record IsToldTo (w : Watched) (fifo : ℕ) (h : List Entry) (q : AtPort) (size : ℕ) (old : List Call) (a : Numbers)
-    (m : Moment) (later : List Moment) (n : Moment) : Type 0 where
-  pub along : IsAlong w fifo h
-  pub told : IsTold q size old a m later
-  pub begins : BeginsWell w fifo h q size old a m.made told.started.0 told.started.2
-  pub look : EndsAt w.pass h n.made
-
--- that call was one of `rx` that answered none, as its clause `none` tells, beside steps of the device: what the driver
--- had handed out is all that was delivered before the entry of its look
-
+-- a call of `rx` answered none, as its clause `none` tells, beside steps of the device
 abbrev pub LooksInVain : Moment → Moment → Type 0
 LooksInVain m n =
     WhereUp m.driver.rings n.driver.rings
     (λ r s. (looks : LooksOnce m.made r.receive n.made s.receive) × OthersStep [] looks.0)
 
+-- in a legal history of a new device that leaves the queue alone, such a call comes after the last moment
+pub record IsToldToLook (w : Watched) (fifo : ℕ) (h : List Entry) (q : AtPort) (size : ℕ) (old : List Call)
+    (a : Numbers) (m : Moment) (later : List Moment) (n : Moment) : Type 0 where
+  pub along : IsAlong w fifo h
+  pub told : IsTold q size old a m later
+  pub begins : BeginsWell w fifo h q size old a m.made told.started.0 told.started.2
+  pub looks : LooksInVain (last m later) n
+  pub look : EndsAt w.pass h n.made
+
+-- what the driver had handed out is all that was delivered before the entry of the call's look
 abbrev pub NoneIsAllBefore : Type 0
 NoneIsAllBefore =
     (w : Watched) (fifo : ℕ) (h : List Entry) (q : AtPort) (size : ℕ) (old : List Call) (a : Numbers) (m : Moment)
-    (later : List Moment) (n : Moment) (x : IsToldTo w fifo h q size old a m later n) →
-    LooksInVain (last m later) n →
+    (later : List Moment) (n : Moment) (x : IsToldToLook w fifo h q size old a m later n) →
     handed_of (last m later).driver.rings ≡ delivered w.queue (new_state w.vfs fifo) x.look.before
-
--- it was one of `reap` that answered without `idle`, as its clause `waits` tells, beside such steps: before its first
--- event not all that the driver had accepted was sent
-
-abbrev pub LooksAtWaiting : Moment → Moment → Type 0
-LooksAtWaiting m n =
-    WhereUp m.driver.rings n.driver.rings
-    (λ r s.
-    (looks : LooksLast m.made r.transmit n.made s.transmit) × OthersStep (doers_moved looks.plays.0) looks.plays.1
-    × OthersStep [] looks.looks.0)
-
-abbrev pub WaitingIsNotAll : Type 0
-WaitingIsNotAll =
-    (w : Watched) (fifo : ℕ) (h : List Entry) (q : AtPort) (size : ℕ) (old : List Call) (a : Numbers) (m : Moment)
-    (later : List Moment) (n : Moment) (x : IsToldTo w fifo h q size old a m later n) →
-    LooksAtWaiting (last m later) n → (done more : List Entry) → done ++ more ≡ x.look.before →
-    calls_of w.pass done ≡ (last m later).made →
-    bytes_of (accepted_of (last m later).driver.rings) ≢ sent_since w.queue (new_state w.vfs fifo) [] done

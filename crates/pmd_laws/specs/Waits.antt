@@ -1,4 +1,4 @@
--- A call of a driver that ends with a look that finds a packet waiting.
+-- A call of a driver that ends with a packet outstanding.
 use Rattle.std.specs.Prelude.{ℕ, ◌≡◌, ◌≢◌, List, [], ◌++◌}
 use Rattle.dma_arena.specs.Numbers.{Numbers}
 use Rattle.nic_device.specs.State.{new_state}
@@ -6,6 +6,7 @@ use Rattle.device_lock.specs.History.{calls_of}
 use Rattle.device_lock.specs.declared.alone.Watched.{Watched}
 use Rattle.device_lock.specs.declared.entry.Call.{Call}
 use Rattle.device_lock.specs.declared.entry.Entry.{Entry}
+use Rattle.pmd.specs.Driver.{WhereUp, accepted_of}
 use Rattle.pmd.specs.Running.{Running}
 use Rattle.pmd_queue.specs.Named.{AtPort}
 use Rattle.pmd_tx.specs.Plays.{LooksLast}
@@ -17,10 +18,11 @@ use Rattle.start_laws.specs.Start.{BeginsWell}
 use Rattle.driver_laws.specs.Halves.{Halves, OthersStep, doers_moved}
 use Rattle.pmd_laws.specs.Life.{IsLife}
 use Rattle.pmd_laws.specs.Looks.{EndsAt}
+use Rattle.pmd_laws.specs.Told.{IsTold, Moment, last}
 
--- a legal history of a new device that leaves the queue alone. In it the pass made the calls of this life, and then
--- those of one call of the driver, beside steps of the device: it accepted nothing, and its last look found a packet
--- waiting
+-- a legal history of a new device that leaves the queue alone. In it the pass made the calls of this life, and then one
+-- call of the driver accepted none, and looked at last at the oldest outstanding packet, which wasn't done, beside
+-- steps of the device
 pub record LooksAtWaiting (w : Watched) (fifo : ℕ) (h : List Entry) (q : AtPort) (size : ℕ) (old : List Call)
     (a : Numbers) (started : List Call) (r : Running) (made : List Call) (k : Halves) (new : List Call) (v : Sender) :
     Type 0 where
@@ -32,11 +34,37 @@ pub record LooksAtWaiting (w : Watched) (fifo : ℕ) (h : List Entry) (q : AtPor
   pub steps : OthersStep [] looks.looks.0
   pub look : EndsAt w.pass h new
 
--- before the first event of that call not all that the driver had accepted was sent
-abbrev pub WaitingIsNotAll : Type 0
-WaitingIsNotAll =
+-- before the first entry of that call not all that the driver had accepted was sent
+abbrev pub WaitingIsNotAllBefore : Type 0
+WaitingIsNotAllBefore =
     (w : Watched) (fifo : ℕ) (h : List Entry) (q : AtPort) (size : ℕ) (old : List Call) (a : Numbers)
     (started : List Call) (r : Running) (made : List Call) (k : Halves) (new : List Call) (v : Sender)
-    (x : LooksAtWaiting w fifo h q size old a started r made k new v) (done more : List Entry) →
-    done ++ more ≡ x.look.before → calls_of w.pass done ≡ made →
-    bytes_of k.transmit.accepted ≢ sent_since w.queue (new_state w.vfs fifo) [] done
+    (looked : LooksAtWaiting w fifo h q size old a started r made k new v) (before more : List Entry) →
+    before ++ more ≡ looked.look.before → calls_of w.pass before ≡ made →
+    bytes_of k.transmit.accepted ≢ sent_since w.queue (new_state w.vfs fifo) [] before
+
+-- the same by what a driver's calls tell alone: a call of `reap` answered, and wasn't idle, as its clause `waits` tells,
+-- beside steps of the device
+abbrev pub Waits : Moment → Moment → Type 0
+Waits m n =
+    WhereUp m.driver.rings n.driver.rings
+    (λ r s.
+    (looks : LooksLast m.made r.transmit n.made s.transmit)
+    × OthersStep (doers_moved looks.plays.0) looks.plays.1 × OthersStep [] looks.looks.0)
+
+-- in a legal history of a new device that leaves the queue alone, such a call comes after the last moment
+pub record IsToldToWait (w : Watched) (fifo : ℕ) (h : List Entry) (q : AtPort) (size : ℕ) (old : List Call)
+    (a : Numbers) (m : Moment) (later : List Moment) (n : Moment) : Type 0 where
+  pub along : IsAlong w fifo h
+  pub told : IsTold q size old a m later
+  pub begins : BeginsWell w fifo h q size old a m.made told.started.0 told.started.2
+  pub waits : Waits (last m later) n
+  pub look : EndsAt w.pass h n.made
+
+-- before the first entry of that call not all that the driver had accepted was sent
+abbrev pub WaitingIsNotAllAsTold : Type 0
+WaitingIsNotAllAsTold =
+    (w : Watched) (fifo : ℕ) (h : List Entry) (q : AtPort) (size : ℕ) (old : List Call) (a : Numbers) (m : Moment)
+    (later : List Moment) (n : Moment) (x : IsToldToWait w fifo h q size old a m later n) (before more : List Entry) →
+    before ++ more ≡ x.look.before → calls_of w.pass before ≡ (last m later).made →
+    bytes_of (accepted_of (last m later).driver.rings) ≢ sent_since w.queue (new_state w.vfs fifo) [] before

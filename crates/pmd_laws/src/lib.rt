@@ -8,7 +8,7 @@
 ghost use Rattle.pmd_laws.specs.Looks.{CallsEnd, NoneIsAllBefore};
 ghost use Rattle.pmd_laws.specs.Order.{HandedIsPrefix, NoneIsAll, SentIsPrefix, IdleIsAllSent};
 ghost use Rattle.pmd_laws.specs.Told as told;
-ghost use Rattle.pmd_laws.specs.Waits.{WaitingIsNotAll};
+ghost use Rattle.pmd_laws.specs.Waits.{WaitingIsNotAllBefore, WaitingIsNotAllAsTold};
 
 /// Over a legal history of a new device that leaves the driver's queue alone, whose pass made the calls of a start that
 /// brought both rings up, and then calls of the two halves, beside steps of the device: the packets that the driver
@@ -27,27 +27,28 @@ pub fn calls_end_at_an_entry()
     ensures { CallsEnd }
 {}
 
-/// Where a call of the driver looks once and finds no packet, as `rx` does where it answers none, what it had handed
-/// out is all that was delivered before the entry of that look, also within a longer history.
+/// Where a call of the driver looks once and finds no packet, as `rx` does where it answers none, all that was delivered
+/// before the entry of that look was handed out, also within a longer history.
 pub fn empty_look_leaves_nothing()
     ensures { NoneIsAllBefore }
 {}
 
-/// Where a call of the driver accepts nothing and its last look finds a packet waiting, as `reap` does where it answers
-/// without `idle`, then before the first entry of that call not all that the driver had accepted was sent.
-pub fn waiting_packet_is_not_all()
-    ensures { WaitingIsNotAll }
+/// Where a call of such a driver ends with a packet outstanding, as `reap` does that isn't idle, it looked at last; and
+/// before the first entry of that call not all that the driver had accepted was sent, whatever the others did then. The
+/// same by what the calls of a `pmd::Pmd` tell alone.
+pub fn waiting_look_leaves_some_unsent()
+    ensures before { WaitingIsNotAllBefore }
+    ensures told { WaitingIsNotAllAsTold }
 {}
 
 /// The same of a `pmd::Pmd` by what its calls tell alone: `start` answered it, and then came calls of `rx`, `tx`,
 /// `reap`, `packet` and `release`, in any order and with whatever answers, beside steps of the device. The packets that
 /// it handed out are a prefix of those delivered, and where `rx` answers none, all of those that were delivered before
-/// its look; and the frames sent are a prefix of those that it accepted, all of them where none is outstanding, as
-/// where `reap` answers `idle`, and not all of those accepted before a `reap` that doesn't.
+/// its look; and the frames sent are a prefix of those that it accepted, and all of them where none is outstanding, as
+/// where `reap` answers so.
 pub fn driver_in_order()
     ensures handed { told.HandedIsPrefix }
     ensures none { told.NoneIsAllBefore }
     ensures sent { told.SentIsPrefix }
     ensures idle { told.IdleIsAllSent }
-    ensures waits { told.WaitingIsNotAll }
 {}

@@ -13,7 +13,8 @@ ghost use Rattle.start_laws.specs.Standing.{StandingSidesAreLeft};
 ghost use Rattle.start_laws.specs.Words.{ReceiveWordsAreTaken, TransmitWordsAreTaken};
 
 /// The numbers that a driver uses at its port name the registers of the queue that port and queue name: at the physical
-/// function each of the device's queues by its number there, at a virtual function those of its pool, from the first on.
+/// function each of the device's queues by its number there, at a virtual function those of its pool, from the first
+/// on.
 pub fn named_queue_has_the_numbers()
     ensures { NamedQueueHasTheNumbers }
 {}
@@ -74,8 +75,8 @@ pub fn accesses_lead_over_a_history()
 
 /// Over such a history, wherever the driver's pass has made the calls by which a start of it brought both sides up, the
 /// device and the driver agree on both: nothing is posted or sent yet. Both are on there, and nothing was received or
-/// sent since they went on. Other calls of the pass up to there are steps of the device; its port and queue name this
-/// queue as its first access is made, and frames are short.
+/// sent since they went on. Other calls of the pass up to there are steps of the device; just before its first access
+/// its port and queue name this queue, and frames are short.
 pub fn start_leaves_sides_that_agree()
     ensures agree { StartAgrees }
     ensures on { StartGoesOn }

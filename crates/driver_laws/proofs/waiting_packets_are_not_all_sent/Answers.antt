@@ -1,5 +1,5 @@
-use Rattle.driver_laws.proofs.Waiting.{waiting_is_not_all, reap_is_not_all}
+use Rattle.driver_laws.proofs.Waiting.{waiting_is_not_all}
 use Rattle.driver_laws.proofs.waiting_packets_are_not_all_sent.Goals as goal
 
 pub returns : goal.returns
-returns c = record { look = waiting_is_not_all; reap = reap_is_not_all }
+returns c = waiting_is_not_all

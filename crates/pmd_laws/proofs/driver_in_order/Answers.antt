@@ -1,4 +1,4 @@
-use Rattle.pmd_laws.proofs.Told.{handed_as_told, none_as_told, sent_as_told, idle_as_told, waits_as_told}
+use Rattle.pmd_laws.proofs.Told.{handed_as_told, none_as_told, sent_as_told, idle_as_told}
 use Rattle.pmd_laws.proofs.driver_in_order.Goals as goal
 
 pub returns : goal.returns
@@ -7,5 +7,4 @@ returns c = record {
   none = none_as_told;
   sent = sent_as_told;
   idle = idle_as_told;
-  waits = waits_as_told;
 }

@@ -11,8 +11,8 @@ use Rattle.device_lock.specs.declared.entry.Call.{Call}
 use Rattle.device_lock.specs.declared.entry.Entry.{Entry}
 use Rattle.pmd_rx.specs.Wrong as receiving
 use Rattle.pmd_tx.specs.Sending as sending
-use Rattle.driver_laws.specs.Halves.{Halves, Doer, Receives, Sends, AllOwn, after_call, doers_marked, doers_moved, doers_other, played_by}
-use Rattle.driver_laws.proofs.Calls.{receives_own, sends_own}
+use Rattle.pmd.specs.Halves.{Halves, Doer, Receives, Sends, AllOwn, after_call, doers_marked, doers_moved, doers_other, played_by}
+use Rattle.pmd.proofs.Calls.{receives_own, sends_own}
 use Rattle.healthy_laws.specs.Faults.{NoReceiveFault, NoTransmitFault}
 use Rattle.healthy_laws.specs.Healthy.{IsHealthy, AreHealthy, IsUnshared}
 use Rattle.healthy_laws.proofs.Healthy.{own_replies_are_healthy}

@@ -21,7 +21,7 @@ use Rattle.register_file.specs.declared.dir.Dir.{Dir}
 use Rattle.register_file.specs.declared.dir.Dir.TheVariants.{Rx, Tx}
 use Rattle.register_laws.specs.Footprint.{is_place, pending, is_pending}
 use Rattle.register_laws.specs.Sound.{HasShape}
-use Rattle.register_laws.proofs.Covers.{none_pending}
+use Rattle.register_laws.proofs.Accessed.{none_pending}
 use Rattle.register_laws.proofs.Owners.{apart, is_place-itself, is_place-same}
 use Rattle.register_laws.proofs.Puts.{word_at-put_other}
 use Rattle.register_laws.proofs.ReadBack.{one_place}

@@ -18,7 +18,7 @@ use Rattle.register_file.specs.declared.dir.Dir.{Dir}
 use Rattle.register_file.specs.declared.dir.Dir.TheVariants.{Rx, Tx}
 use Rattle.register_file.specs.declared.owner.Owner.TheVariants as owner
 use Rattle.register_laws.specs.Footprint.{is_pending, is_place, of_write, read_by, written_by}
-use Rattle.register_laws.proofs.Covers.{none_pending_of, none_written_by}
+use Rattle.register_laws.proofs.Accessed.{none_pending_of, none_written_by}
 use Rattle.register_laws.proofs.Owners.{is_place-same}
 use Rattle.register_laws.proofs.NoSide.{counters_own}
 use Rattle.register_laws.proofs.ReadBack.{one_place}

@@ -22,7 +22,8 @@ use Rattle.register_file.specs.declared.dir.Dir.{Dir}
 use Rattle.register_file.specs.declared.dir.Dir.TheVariants.{Rx, Tx}
 use Rattle.register_file.specs.declared.owner.Owner.TheVariants as owner
 use Rattle.register_laws.specs.Footprint.{of_read, of_write}
-use Rattle.register_laws.proofs.Covers.{fails, covers-of_read, covers-of_write}
+use Rattle.register_laws.proofs.Accessed.{covers-of_read, covers-of_write}
+use Rattle.register_laws.proofs.Covers.{fails}
 use Rattle.nic_device.specs.Footprint.{Reach, read_reach, write_reach, reset_reach, below_reset_reach, pool_reach, in_registers, switch_reach}
 use Rattle.nic_device.specs.Named.{named}
 use Rattle.nic_device.specs.Outcome.{Outcome}

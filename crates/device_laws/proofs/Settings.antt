@@ -22,7 +22,7 @@ use Rattle.register_file.specs.declared.dir.Dir.TheVariants.{Rx, Tx}
 use Rattle.register_file.specs.declared.owner.Owner.{Owner}
 use Rattle.register_file.specs.declared.owner.Owner.TheVariants as owner
 use Rattle.register_laws.specs.Footprint.{is_place, is_pending, read_by}
-use Rattle.register_laws.proofs.Covers.{none_pending, none_pending_of, none_written_by}
+use Rattle.register_laws.proofs.Accessed.{none_pending, none_pending_of, none_written_by}
 use Rattle.register_laws.proofs.ReadBack.{one_place}
 use Rattle.nic_device.specs.Footprint.{read_reach, write_reach, receive_reach, reach_by, switch_reach, Reach, pool_reach, is_function_count}
 use Rattle.nic_device.specs.Named.{named}

@@ -12,7 +12,7 @@ use Rattle.register_file.specs.declared.owner.Owner.{Owner}
 use Rattle.register_file.specs.declared.owner.Owner.TheVariants as owner
 use Rattle.register_laws.specs.Footprint.{Misses, of_owner, of_side, of_group, of_read, of_write}
 use Rattle.register_laws.proofs.Covers.{misses-narrower, misses-owner, misses-nothing}
-use Rattle.register_laws.proofs.Footprints.{covers-of_read, covers-of_write}
+use Rattle.register_laws.proofs.Accessed.{covers-of_read, covers-of_write}
 use Rattle.register_laws.proofs.NoSide.{read_misses_sides}
 use Rattle.register_laws.proofs.ReadBack.{owners_differ}
 use Rattle.nic_device.specs.Footprint.{Reach, StaysWithin, in_registers, read_reach, write_reach, reset_reach, pool_reach, below_reset_reach}

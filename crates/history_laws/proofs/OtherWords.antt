@@ -6,7 +6,7 @@ use Rattle.register_file.specs.Registers.{Registers}
 use Rattle.register_file.specs.Words.{word_at}
 use Rattle.register_laws.specs.Footprint.{is_pending, is_place}
 use Rattle.register_laws.specs.Laws.{after_write}
-use Rattle.register_laws.proofs.Covers.{none_written_by}
+use Rattle.register_laws.proofs.Accessed.{none_written_by}
 use Rattle.register_laws.proofs.Within.{within-written}
 
 pub other_written : (here : Place) → is_pending (row_of here.row).kind ≡ false → (r : Registers) (p : Place)

@@ -1,3 +1,4 @@
+pub mod Accessed
 pub mod Agreeing
 pub mod Answered
 pub mod Bits

@@ -20,7 +20,8 @@ use Rattle.register_file.specs.declared.owner.Owner.TheVariants as owner
 use Rattle.register_laws.specs.Agreement.{PoolReadsStayWithin, PoolWritesStayWithin, SharedReadsChangeNothing, SharedWritesChangeNothing}
 use Rattle.register_laws.specs.Footprint.{Covers, of_pool, of_owner, of_read, of_write}
 use Rattle.register_laws.specs.Laws.{after_write}
-use Rattle.register_laws.proofs.Covers.{covers-of_read, covers-of_write, covers-trans}
+use Rattle.register_laws.proofs.Accessed.{covers-of_read, covers-of_write}
+use Rattle.register_laws.proofs.Covers.{covers-trans}
 use Rattle.register_laws.proofs.Owners.{is_group-itself, is_owner-same}
 
 -- the owner of a pool's place has nothing but what is the pool's

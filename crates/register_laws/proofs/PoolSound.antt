@@ -1,7 +1,6 @@
 -- Registers stay sound where a pool is reset.
-use Rattle.std.proofs.Common.{◌≡◌, ℕ, ◌<◌, ◌^◌, false, refl, ap, sym, ◌∙◌, subst, inl, inr, arith}
-use Rattle.std.proofs.lemmas.Bool.{cases_Bool, cases_lt}
-use Rattle.std.proofs.lemmas.List.{get_or_past}
+use Rattle.std.proofs.Common.{◌≡◌, ℕ, ◌<◌, ◌^◌, false, refl, ap, sym, ◌∙◌, subst, inl, inr}
+use Rattle.std.proofs.lemmas.Bool.{cases_Bool}
 use Rattle.reg_table.specs.Rows.{row_of}
 use Rattle.reg_table.specs.declared.place.Place.{Place}
 use Rattle.reg_table.specs.declared.bank.Bank.{Bank}
@@ -16,7 +15,7 @@ use Rattle.register_file.specs.Groups.{told_by}
 use Rattle.register_file.specs.Owner.{owner_in, owner_of, is_group}
 use Rattle.register_file.specs.PoolReset.{pool_reset}
 use Rattle.register_file.specs.Registers.{Registers}
-use Rattle.register_file.specs.Words.{word_at, row_words}
+use Rattle.register_file.specs.Words.{word_at}
 use Rattle.register_file.specs.declared.owner.Owner.TheVariants as owner
 use Rattle.register_laws.specs.Footprint.{Misses, of_group, of_pool, pending}
 use Rattle.register_laws.specs.Sound.{AreSound, pending_bits}
@@ -24,7 +23,7 @@ use Rattle.register_laws.proofs.Footprints.{misses-within, covers-pending}
 use Rattle.register_laws.proofs.Owners.{is_group-same, is_owner-same}
 use Rattle.register_laws.proofs.PoolQueues.{turned}
 use Rattle.register_laws.proofs.PoolReset.{renewed-pool}
-use Rattle.register_laws.proofs.Small.{reset_small}
+use Rattle.register_laws.proofs.Small.{reset_small, small_where}
 use Rattle.register_laws.proofs.SoundParts.{told_stands}
 
 -- words of 32 bits
@@ -35,13 +34,8 @@ small r mode v sound p =
     let f = of_pool mode v in
     elim (cases_Bool (f.words p)) as (λ _. word_at (pool_reset mode v r).words p < 2 ^ 32) [
       | inr out ↦ rw (new.alone.words p out) (sound.words p)
-      | inl in_pool ↦ elim (cases_lt p.index (row_of p.row).count) as
-          (λ _. word_at (pool_reset mode v r).words p < 2 ^ 32) [
-            | inl b ↦ rw (new.words sound.shape p in_pool b) (reset_small p.row)
-            | inr past ↦
-                let short = (new.shape sound.shape).has_indices p.row in
-                rw (get_or_past (row_words (pool_reset mode v r).words p.row) p.index 0 (omega arith)) (omega arith)
-          ]
+      | inl in_pool ↦ small_where (pool_reset mode v r) (new.shape sound.shape) p
+          (λ b. rw (new.words sound.shape p in_pool b) (reset_small p.row))
     ]
 
 -- what is pending of another group isn't the pool's

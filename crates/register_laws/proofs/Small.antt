@@ -12,7 +12,7 @@ use Rattle.reg_table.specs.declared.rows.RowId.{RowId}
 use Rattle.reg_table.specs.declared.rows.RowId.TheVariants as row
 use Rattle.register_file.specs.Bits.{has_bit, bit_set, bit_cleared, merged}
 use Rattle.register_file.specs.Registers.{Registers, reset_registers}
-use Rattle.register_file.specs.Words.{word_at, put, row_words, reset_words}
+use Rattle.register_file.specs.Words.{word_at, put, row_words}
 use Rattle.register_laws.specs.Footprint.{is_place}
 use Rattle.register_laws.specs.Laws.{HasShape}
 use Rattle.register_laws.proofs.Owners.{apart, is_place-itself, is_place-same}
@@ -51,18 +51,25 @@ bit_cleared-lt w small =
 abbrev pub AreSmall : Registers → Type 0
 AreSmall r = (p : Place) → word_at r.words p < 2 ^ 32
 
+-- past the end of a row there is no word
+pub small_where : (r : Registers) → HasShape r → (p : Place)
+    → (p.index < (row_of p.row).count → word_at r.words p < 2 ^ 32) → word_at r.words p < 2 ^ 32
+small_where r shape p inside =
+    elim (cases_lt p.index (row_of p.row).count) as (λ _. word_at r.words p < 2 ^ 32) [
+      | inl b ↦ inside b
+      | inr past ↦
+          let short = shape.has_indices p.row in
+          rw (get_or_past (row_words r.words p.row) p.index 0 (omega arith)) (omega arith)
+    ]
+
 pub word_at-put-lt : (r : Registers) (p : Place) (v : ℕ) → HasShape r → AreSmall r → v < 2 ^ 32
     → AreSmall (record r { words = put r.words p v })
 word_at-put-lt r p v shape words small q =
     elim (cases_Bool (is_place p q)) as (λ _. word_at (put r.words p v) q < 2 ^ 32) [
       | inr other ↦ rw (word_at-put_other r.words p q v (apart (is_place p) p q (is_place-itself p) other)) (words q)
       | inl same ↦ subst (λ x. word_at (put r.words p v) x < 2 ^ 32) (is_place-same p q same)
-          (elim (cases_lt p.index (row_of p.row).count) as (λ _. word_at (put r.words p v) p < 2 ^ 32) [
-            | inl b ↦ rw (put_stands r p v shape b) small
-            | inr past ↦
-                let short = (HasShape-put r p v shape).has_indices p.row in
-                rw (get_or_past (row_words (put r.words p v) p.row) p.index 0 (omega arith)) (omega arith)
-          ])
+          (small_where (record r { words = put r.words p v }) (HasShape-put r p v shape) p
+          (λ b. rw (put_stands r p v shape b) small))
     ]
 
 -- after a reset
@@ -71,10 +78,4 @@ reset_small row.Ctrl = lit< tt
 reset_small other = lit< tt
 
 pub word_at-reset-lt : AreSmall reset_registers
-word_at-reset-lt p =
-    elim (cases_lt p.index (row_of p.row).count) as (λ _. word_at reset_words p < 2 ^ 32) [
-      | inl b ↦ rw (word_at-reset p b) (reset_small p.row)
-      | inr past ↦
-          let short = HasShape-reset.has_indices p.row in
-          rw (get_or_past (row_words reset_words p.row) p.index 0 (omega arith)) (omega arith)
-    ]
+word_at-reset-lt p = small_where reset_registers HasShape-reset p (λ b. rw (word_at-reset p b) (reset_small p.row))

@@ -24,6 +24,12 @@ pub record EndsAt (pass : ℕ) (h : List Entry) (calls : List Call) : Type 0 whe
   pub all : before ++ entry ∷ behind ≡ h
   pub made : calls_of pass before ++ call_in entry ∷ [] ≡ calls
 
+-- where the pass has made some calls, and maybe more behind them, there is such an entry
+abbrev pub CallsEnd : Type 0
+CallsEnd =
+    (pass : ℕ) (h : List Entry) (calls more : List Call) (c : Call) →
+    calls_of pass h ≡ (calls ++ c ∷ []) ++ more → EndsAt pass h (calls ++ c ∷ [])
+
 -- a legal history of a new device that leaves the queue alone. In it the pass made the calls of this life, and then one
 -- call of the driver looked once and found no packet, beside steps of the device
 pub record LooksInVain (w : Watched) (fifo : ℕ) (h : List Entry) (q : AtPort) (size : ℕ) (old : List Call) (a : Numbers)

@@ -5,7 +5,7 @@
 //! a look finds no packet.
 #![tactic(auto)]
 
-ghost use Rattle.pmd_laws.specs.Looks.{NoneIsAllBefore};
+ghost use Rattle.pmd_laws.specs.Looks.{CallsEnd, NoneIsAllBefore};
 ghost use Rattle.pmd_laws.specs.Order.{HandedIsPrefix, NoneIsAll, SentIsPrefix, IdleIsAllSent};
 ghost use Rattle.pmd_laws.specs.Told as told;
 ghost use Rattle.pmd_laws.specs.Waits.{WaitingIsNotAllBefore, WaitingIsNotAllAsTold};
@@ -20,6 +20,11 @@ pub fn life_in_order()
     ensures none { NoneIsAll }
     ensures sent { SentIsPrefix }
     ensures idle { IdleIsAllSent }
+{}
+
+/// Where a pass made some calls, and maybe more behind them, an entry of the history is the last of these.
+pub fn calls_end_at_an_entry()
+    ensures { CallsEnd }
 {}
 
 /// Where a call of the driver looks once and finds no packet, as `rx` does where it answers none, all that was delivered

@@ -2,7 +2,7 @@
 use Rattle.std.proofs.Common.{◌≡◌, ℕ, List, [], ◌∷◌, ◌++◌, refl, sym, ap, ◌∙◌, subst, append_assoc}
 use Rattle.std.proofs.lemmas.List.{same_from_push}
 use Rattle.dma_arena.specs.Numbers.{Numbers}
-use Rattle.nic_device.specs.State.{State, new_state}
+use Rattle.nic_device.specs.State.{new_state}
 use Rattle.nic_device.specs.Step.{reply_to}
 use Rattle.nic_device.specs.declared.event.Event.TheVariants as event
 use Rattle.nic_device.specs.declared.event.Reply.TheVariants as reply
@@ -28,7 +28,8 @@ use Rattle.start_laws.proofs.First.{around}
 use Rattle.driver_laws.specs.Going.{GoesOn}
 use Rattle.driver_laws.specs.Halves.{Halves, halves_of}
 use Rattle.driver_laws.proofs.Calls.{halves_go_on, others_go_on}
-use Rattle.pmd_laws.specs.Looks.{CallsEnd, LooksInVain, NoneIsAllBefore}
+use Rattle.pmd_laws.specs.Life.{IsLife}
+use Rattle.pmd_laws.specs.Looks.{CallsEnd, EndsAt, LooksInVain, NoneIsAllBefore}
 use Rattle.pmd_laws.specs.Order.{IsLived}
 use Rattle.pmd_laws.proofs.Order.{none_of_life}
 
@@ -64,59 +65,70 @@ module _ (w : Watched) (fifo : ℕ) (h before rest : List Entry) (all : before +
         (sym (append_assoc done (e ∷ more) rest) ∙ ap (λ (l : List Entry). l ++ rest) both ∙ all) own is;
   }
 
+  -- and a life up to there, where its calls lead to these halves
+  abbrev pub lived_before : (q : AtPort) (size : ℕ) (old : List Call) (a : Numbers) (started : List Call)
+      (r : Running) (made calls : List Call) (j k : Halves) (life : IsLife q size old a started r made j)
+      → IsAlong w fifo h → BeginsWell w fifo h q size old a started r life.up
+      → GoesOn started (halves_of r) calls k → calls_of w.pass before ≡ calls
+      → IsLived w fifo before q size old a started r k
+  lived_before q size old a started r made calls j k life along begins goes is = record {
+    along = along_before along;
+    life = record {
+      sized = life.sized;
+      up = life.up;
+      steps = life.steps;
+      filled = life.filled;
+      since = subst (λ (cs : List Call). GoesOn started (halves_of r) cs k) (sym is) goes;
+    };
+    begins = begins_before q size old a started r life.up begins;
+  }
+
+-- a call is answered by the device
+pub answered : (w : Watched) (fifo : ℕ) (h : List Entry) (calls : List Call) (c : Call) → IsAlong w fifo h
+    → (at : EndsAt w.pass h calls) → call_in at.entry ≡ c
+    → reply_to (leads_to (new_state w.vfs fifo) at.before) c.event ≡ c.reply
+answered w fifo h calls c along at is =
+    let new = new_state w.vfs fifo in
+    let here = leads_to new at.before in
+    let legal = legal_behind new at.before (at.entry ∷ at.behind)
+    (subst (IsLegal new) (sym at.all) along.legal) in
+    ap (λ (d : Call). reply_to here d.event) (sym is) ∙ sym legal.0 ∙ ap (λ (d : Call). d.reply) is
+
+-- the calls before an entry, and its own, where the last of these calls is known
+pub ends_with : (pass : ℕ) (h : List Entry) (old more calls : List Call) (c : Call) → calls ≡ old ++ (more ++ c ∷ [])
+    → (at : EndsAt pass h calls) → (calls_of pass at.before ≡ old ++ more) × (call_in at.entry ≡ c)
+ends_with pass h old more calls c is at =
+    same_from_push (calls_of pass at.before) (old ++ more) (call_in at.entry) c
+    (at.made ∙ is ∙ sym (append_assoc old more (c ∷ [])))
+
 module _ (w : Watched) (fifo : ℕ) (h : List Entry) (q : AtPort) (size : ℕ) (old : List Call) (a : Numbers)
     (started : List Call) (r : Running) (made : List Call) (k : Halves) (new : List Call) (v : Receive)
     (x : LooksInVain w fifo h q size old a started r made k new v) where
-  abbrev here : State
-  here = leads_to (new_state w.vfs fifo) x.look.before
-
   abbrev looking : Call
   looking = call_of (event.Peek16 (descriptor_at k.receive.layout 0)) (reply.Bytes x.looks.1)
 
   ends : (calls_of w.pass x.look.before ≡ made ++ x.looks.0) × (call_in x.look.entry ≡ looking)
-  ends =
-      same_from_push (calls_of w.pass x.look.before) (made ++ x.looks.0) (call_in x.look.entry) looking
-      (x.look.made ∙ x.looks.2 ∙ sym (append_assoc made x.looks.0 (looking ∷ [])))
+  ends = ends_with w.pass h made x.looks.0 new looking x.looks.2 x.look
 
   goes_on : GoesOn started (halves_of r) (made ++ x.looks.0) k
   goes_on =
       halves_go_on started made (made ++ x.looks.0) (halves_of r) k k x.life.since
       (others_go_on made (made ++ x.looks.0) k (x.looks.0, refl) x.steps)
 
-  lived : IsLived w fifo x.look.before q size old a started r k
-  lived =
-      let rest = x.look.entry ∷ x.look.behind in
-      record {
-        along = along_before w fifo h x.look.before rest x.look.all x.along;
-        life = record {
-          sized = x.life.sized;
-          up = x.life.up;
-          steps = x.life.steps;
-          filled = x.life.filled;
-          since = subst (λ (calls : List Call). GoesOn started (halves_of r) calls k) (sym ends.0) goes_on;
-        };
-        begins = begins_before w fifo h x.look.before rest x.look.all q size old a started r x.life.up x.begins;
-      }
-
-  -- the look is answered by the device
-  answered : call_in x.look.entry ≡ looking → reply_to here (event.Peek16 (descriptor_at k.receive.layout 0))
-      ≡ reply.Bytes x.looks.1
-  answered is =
-      let legal = legal_behind (new_state w.vfs fifo) x.look.before (x.look.entry ∷ x.look.behind)
-      (subst (IsLegal (new_state w.vfs fifo)) (sym x.look.all) x.along.legal) in
-      ap (λ (c : Call). reply_to here c.event) (sym is) ∙ sym legal.0 ∙ ap (λ (c : Call). c.reply) is
-
-  finds : FindsNone here k.receive
+  finds : FindsNone (leads_to (new_state w.vfs fifo) x.look.before) k.receive
   finds = record {
     holds_none = x.looks.4;
     posted = x.looks.5;
     bytes = x.looks.1;
-    reply = answered ends.1;
+    reply = answered w fifo h new looking x.along x.look ends.1;
     waits = x.looks.3;
   }
 
   all_before : k.receive.handed ≡ delivered w.queue (new_state w.vfs fifo) x.look.before
-  all_before = none_of_life w fifo x.look.before q size old a started r k lived finds
+  all_before =
+      none_of_life w fifo x.look.before q size old a started r k
+      (lived_before w fifo h x.look.before (x.look.entry ∷ x.look.behind) x.look.all q size old a started r made
+      (made ++ x.looks.0) k k x.life x.along x.begins goes_on ends.0) finds
 
 pub none_before_look : NoneIsAllBefore
 none_before_look = all_before

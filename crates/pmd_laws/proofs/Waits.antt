@@ -1,13 +1,11 @@
 -- Before a call of the driver that ends with a packet outstanding not all that was accepted was sent.
 use Rattle.std.proofs.Common.{◌≡◌, ◌≢◌, ℕ, List, [], ◌∷◌, ◌++◌, refl, sym, ap, ◌∙◌, subst, append_assoc}
-use Rattle.std.proofs.lemmas.List.{append_cancel_left, map-append, same_from_push}
-use Rattle.std.proofs.lemmas.List.Elements.{filter-append}
+use Rattle.std.proofs.lemmas.List.{append_cancel_left}
 use Rattle.dma_arena.specs.Numbers.{Numbers}
 use Rattle.nic_device.specs.State.{State, new_state}
-use Rattle.nic_device.specs.Step.{reply_to}
 use Rattle.nic_device.specs.declared.event.Event.TheVariants as event
 use Rattle.nic_device.specs.declared.event.Reply.TheVariants as reply
-use Rattle.device_lock.specs.History.{IsLegal, call_in, calls_of, leads_to}
+use Rattle.device_lock.specs.History.{call_in, calls_of, leads_to}
 use Rattle.device_lock.specs.Pass.{call_of}
 use Rattle.device_lock.specs.declared.alone.Watched.{Watched}
 use Rattle.device_lock.specs.declared.entry.Call.{Call}
@@ -17,11 +15,11 @@ use Rattle.pmd.specs.Running.{Running}
 use Rattle.pmd.specs.declared.driver.Rings.{Rings}
 use Rattle.pmd_queue.specs.Named.{AtPort}
 use Rattle.pmd_tx.specs.Sending.{Sender, descriptor_at}
-use Rattle.receive_laws.proofs.Delivering.{legal_behind}
 use Rattle.transmit_laws.specs.Agreeing.{bytes_of}
 use Rattle.transmit_laws.specs.Laws.{FindsWaiting}
 use Rattle.transmit_laws.specs.Sent.{sent_since}
 use Rattle.start_laws.proofs.Along.{Parts}
+use Rattle.start_laws.proofs.First.{calls_joined}
 use Rattle.driver_laws.specs.Going.{GoesOn}
 use Rattle.driver_laws.specs.Halves.{Halves, halves_of}
 use Rattle.driver_laws.proofs.Calls.{halves_go_on, others_go_on, sending_goes_on}
@@ -29,7 +27,7 @@ use Rattle.driver_laws.proofs.Waiting.{waiting_is_not_all}
 use Rattle.pmd_laws.specs.Order.{IsLived}
 use Rattle.pmd_laws.specs.Told.{last}
 use Rattle.pmd_laws.specs.Waits.{LooksAtWaiting, WaitingIsNotAllBefore, WaitingIsNotAllAsTold}
-use Rattle.pmd_laws.proofs.Looks.{along_before, begins_before}
+use Rattle.pmd_laws.proofs.Looks.{answered, ends_with, lived_before}
 use Rattle.pmd_laws.proofs.Order as order
 use Rattle.pmd_laws.proofs.Order.{in_parts}
 use Rattle.pmd_laws.proofs.Told.{life, runs, up_next}
@@ -61,9 +59,7 @@ module _ (w : Watched) (fifo : ℕ) (h : List Entry) (q : AtPort) (size : ℕ) (
   then = record k { transmit = sender }
 
   ends : (calls_of w.pass late ≡ x.looks.mid ++ others) × (call_in x.look.entry ≡ looking)
-  ends =
-      same_from_push (calls_of w.pass late) (x.looks.mid ++ others) (call_in x.look.entry) looking
-      (x.look.made ∙ x.looks.looks.1 ∙ sym (append_assoc x.looks.mid others (looking ∷ [])))
+  ends = ends_with w.pass h x.looks.mid others made_then looking x.looks.looks.1 x.look
 
   goes_on : GoesOn started (halves_of r) (x.looks.mid ++ others) then
   goes_on =
@@ -72,58 +68,35 @@ module _ (w : Watched) (fifo : ℕ) (h : List Entry) (q : AtPort) (size : ℕ) (
       (sending_goes_on made x.looks.mid k then (record { plays = x.looks.plays; steps = x.moves; other = refl })))
       (others_go_on x.looks.mid (x.looks.mid ++ others) then (others, refl) x.steps)
 
-  -- a beginning of the history, with the halves that the calls lead to
-  abbrev lived : (early rest : List Entry) → early ++ rest ≡ h → (calls : List Call) (j : Halves)
-      → calls_of w.pass early ≡ calls → GoesOn started (halves_of r) calls j
-      → IsLived w fifo early q size old a started r j
-  lived early rest all calls j is goes = record {
-    along = along_before w fifo h early rest all x.along;
-    life = record {
-      sized = x.life.sized;
-      up = x.life.up;
-      steps = x.life.steps;
-      filled = x.life.filled;
-      since = subst (λ (l : List Call). GoesOn started (halves_of r) l j) (sym is) goes;
-    };
-    begins = begins_before w fifo h early rest all q size old a started r x.life.up x.begins;
+  abbrev lived_then : IsLived w fifo late q size old a started r then
+  lived_then =
+      lived_before w fifo h late (x.look.entry ∷ x.look.behind) x.look.all q size old a started r made
+      (x.looks.mid ++ others) k then x.life x.along x.begins goes_on ends.0
+
+  finds : FindsWaiting (leads_to new late) sender
+  finds = record {
+    bytes = x.looks.bytes;
+    posted = x.looks.posted;
+    told = answered w fifo h made_then looking x.along x.look ends.1;
+    waits = x.looks.waits;
   }
 
-  abbrev lived_then : IsLived w fifo late q size old a started r then
-  lived_then = lived late (x.look.entry ∷ x.look.behind) x.look.all (x.looks.mid ++ others) then ends.0 goes_on
-
-  -- the look is answered by the device
-  finds : FindsWaiting (leads_to new late) sender
-  finds =
-      let legal = legal_behind new late (x.look.entry ∷ x.look.behind)
-      (subst (IsLegal new) (sym x.look.all) x.along.legal) in
-      let is = ends.1 in record {
-        bytes = x.looks.bytes;
-        posted = x.looks.posted;
-        told =
-            ap (λ (c : Call). reply_to (leads_to new late) c.event) (sym is) ∙ sym legal.0
-            ∙ ap (λ (c : Call). c.reply) is;
-        waits = x.looks.waits;
-      }
-
   module _ (early more : List Entry) (all : early ++ more ≡ late) (is : calls_of w.pass early ≡ made) where
-    abbrev lived_before : IsLived w fifo early q size old a started r k
-    lived_before =
+    abbrev lived_early : IsLived w fifo early q size old a started r k
+    lived_early =
         let rest = x.look.entry ∷ x.look.behind in
-        lived early (more ++ rest)
-        (sym (append_assoc early more rest) ∙ ap (λ (l : List Entry). l ++ rest) all ∙ x.look.all) made k is
-        x.life.since
+        lived_before w fifo h early (more ++ rest)
+        (sym (append_assoc early more rest) ∙ ap (λ (l : List Entry). l ++ rest) all ∙ x.look.all) q size old a started
+        r made made k k x.life x.along x.begins x.life.since is
 
-    p : Parts w.pass early x.life.up.on.mid (order.whole w fifo early q size old a started r k lived_before).0.1
-    p = in_parts w fifo early q size old a started r k lived_before
+    p : Parts w.pass early x.life.up.on.mid (order.whole w fifo early q size old a started r k lived_early).0.1
+    p = in_parts w fifo early q size old a started r k lived_early
 
     abbrev calls : List Call
     calls = (order.whole w fifo late q size old a started r then lived_then).0.1
 
     both : p.front ++ (p.back ++ more) ≡ late
     both = sym (append_assoc p.front p.back more) ∙ ap (λ (l : List Entry). l ++ more) p.both ∙ all
-
-    joined : (g l : List Entry) → calls_of w.pass (g ++ l) ≡ calls_of w.pass g ++ calls_of w.pass l
-    joined g l = rw (filter-append, map-append) refl
 
     abbrev p_then : Parts w.pass late x.life.up.on.mid calls
     p_then = record {
@@ -134,7 +107,7 @@ module _ (w : Watched) (fifo : ℕ) (h : List Entry) (q : AtPort) (size : ℕ) (
       backs =
           append_cancel_left x.life.up.on.mid (calls_of w.pass (p.back ++ more)) calls
           (ap (λ (l : List Call). l ++ calls_of w.pass (p.back ++ more)) (sym p.fronts)
-          ∙ sym (joined p.front (p.back ++ more)) ∙ ap (calls_of w.pass) both
+          ∙ sym (calls_joined w.pass p.front (p.back ++ more)) ∙ ap (calls_of w.pass) both
           ∙ (order.whole w fifo late q size old a started r then lived_then).0.2);
     }
 
@@ -148,7 +121,7 @@ module _ (w : Watched) (fifo : ℕ) (h : List Entry) (q : AtPort) (size : ℕ) (
         (subst (λ (z : Halves). FindsWaiting (leads_to new (p.front ++ (p.back ++ more))) z.transmit) (sym last)
         (subst (λ (l : List Entry). FindsWaiting (leads_to new l) sender) (sym both) finds))
         (ap (λ (z : Halves). bytes_of z.transmit.accepted) last ∙ ap bytes_of x.looks.accepted ∙ same
-        ∙ order.counted w fifo early q size old a started r k lived_before p)
+        ∙ order.counted w fifo early q size old a started r k lived_early p)
 
 pub waiting_before_look : WaitingIsNotAllBefore
 waiting_before_look = not_all

@@ -65,8 +65,9 @@ pub record Around (pass : ℕ) (h : List Entry) (calls : List Call) (c : Call) (
   pub call : call_in entry ≡ c
   pub later : calls_of pass behind ≡ more
 
-joined : (pass : ℕ) (g h : List Entry) → calls_of pass (g ++ h) ≡ calls_of pass g ++ calls_of pass h
-joined pass g h = rw (filter-append, map-append) refl
+-- the calls of two histories in turn
+pub calls_joined : (pass : ℕ) (g h : List Entry) → calls_of pass (g ++ h) ≡ calls_of pass g ++ calls_of pass h
+calls_joined pass g h = rw (filter-append, map-append) refl
 
 pub around : (pass : ℕ) (h : List Entry) (calls : List Call) (c : Call) (more : List Call)
     → calls_of pass h ≡ calls ++ c ∷ more → Around pass h calls c more
@@ -78,7 +79,7 @@ around pass h calls c more is =
       behind = f.back;
       all =
           append_assoc p.front f.front (f.entry ∷ f.back) ∙ ap (λ (l : List Entry). p.front ++ l) f.both ∙ p.both;
-      made = joined pass p.front f.front ∙ (λ i. p.fronts i ++ f.none i) ∙ append-nil calls;
+      made = calls_joined pass p.front f.front ∙ (λ i. p.fronts i ++ f.none i) ∙ append-nil calls;
       own = f.own;
       call = f.call;
       later = f.backs;
@@ -94,7 +95,8 @@ first_leads w fifo h P old c along kept keeps at done rest all is =
     let split : till ++ x.behind ≡ done = append_assoc x.before (e ∷ []) x.behind ∙ x.all in
     let whole : (till ++ x.behind) ++ rest ≡ h = ap (λ (l : List Entry). l ++ rest) split ∙ all in
     let made : calls_of w.pass till ≡ old ++ call_in e ∷ [] =
-    joined w.pass x.before (e ∷ []) ∙ (λ i. x.made i ++ calls_own w.pass e [] (eq-eqb e.pass w.pass x.own) i) in
+    calls_joined w.pass x.before (e ∷ [])
+    ∙ (λ i. x.made i ++ calls_own w.pass e [] (eq-eqb e.pass w.pass x.own) i) in
     let before : P (reached w fifo x.before) =
     at x.before (x.behind ++ rest) e
     (sym (append_assoc x.before (e ∷ []) (x.behind ++ rest)) ∙ sym (append_assoc till x.behind rest) ∙ whole) x.own

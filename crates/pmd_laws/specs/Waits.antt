@@ -43,8 +43,8 @@ WaitingIsNotAllBefore =
     before ++ more ≡ looked.look.before → calls_of w.pass before ≡ made →
     bytes_of k.transmit.accepted ≢ sent_since w.queue (new_state w.vfs fifo) [] before
 
--- the same by what a driver's calls tell alone: a call of `reap` answered, and wasn't idle, as its clause `waits` tells,
--- beside steps of the device
+-- the same by what a driver's calls tell alone: a call of `reap` answered, and wasn't idle, as its clause `waits`
+-- tells, beside steps of the device
 abbrev pub Waits : Moment → Moment → Type 0
 Waits m n =
     WhereUp m.driver.rings n.driver.rings

@@ -1,8 +1,8 @@
 //! What a driver's whole life so far gives: it started, and since then it received and sent.
 //!
 //! Each law is the contract of a function that does nothing. `specs/Life` says what a life is by the calls of the
-//! driver's pass, `specs/Order` what holds of it over a history of a shared device, and `specs/Looks` what holds where
-//! a look finds no packet.
+//! driver's pass, and `specs/Told` by what the driver's calls tell; `specs/Order` what holds of it over a history of a
+//! shared device, `specs/Looks` what holds where a look finds no packet, and `specs/Waits` where it finds one waiting.
 #![tactic(auto)]
 
 ghost use Rattle.pmd_laws.specs.Looks.{CallsEnd, NoneIsAllBefore};
@@ -27,8 +27,8 @@ pub fn calls_end_at_an_entry()
     ensures { CallsEnd }
 {}
 
-/// Where a call of the driver looks once and finds no packet, as `rx` does where it answers none, all that was delivered
-/// before the entry of that look was handed out, also within a longer history.
+/// Where a call of the driver looks once and finds no packet, as `rx` does where it answers none, what it had handed
+/// out is all that was delivered before the entry of that look, also within a longer history.
 pub fn empty_look_leaves_nothing()
     ensures { NoneIsAllBefore }
 {}

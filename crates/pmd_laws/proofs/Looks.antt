@@ -1,9 +1,6 @@
 -- A look that finds no packet, within a longer history.
-use Rattle.std.proofs.Common.{◌≡◌, ℕ, inl, inr, List, [], ◌∷◌, ◌++◌, refl, sym, ap, ◌∙◌, subst, append_assoc}
-use Rattle.std.specs.Prelude.{◌==◌}
-use Rattle.std.proofs.lemmas.Bool.{cases_Bool}
-use Rattle.std.proofs.lemmas.List.{append-nil, map-append, same_from_push}
-use Rattle.std.proofs.lemmas.List.Elements.{filter-append}
+use Rattle.std.proofs.Common.{◌≡◌, ℕ, List, [], ◌∷◌, ◌++◌, refl, sym, ap, ◌∙◌, subst, append_assoc}
+use Rattle.std.proofs.lemmas.List.{same_from_push}
 use Rattle.dma_arena.specs.Numbers.{Numbers}
 use Rattle.nic_device.specs.State.{new_state}
 use Rattle.nic_device.specs.Step.{reply_to}
@@ -24,10 +21,10 @@ use Rattle.pmd_rx.specs.Receive.{Receive, descriptor_at}
 use Rattle.receive_laws.specs.Delivered.{delivered}
 use Rattle.receive_laws.specs.Histories.{FindsNone}
 use Rattle.receive_laws.proofs.Delivering.{events_before, legal_behind}
-use Rattle.receive_laws.proofs.Histories.{calls_own, calls_other}
 use Rattle.start_laws.specs.Along.{IsAlong}
 use Rattle.start_laws.specs.Start.{BeginsWell}
-use Rattle.start_laws.proofs.Along.{legal_before, parts}
+use Rattle.start_laws.proofs.Along.{legal_before}
+use Rattle.start_laws.proofs.First.{around}
 use Rattle.driver_laws.specs.Going.{GoesOn}
 use Rattle.pmd.specs.Halves.{Halves, halves_of}
 use Rattle.driver_laws.proofs.Going.{halves_go_on, others_go_on}
@@ -36,52 +33,15 @@ use Rattle.pmd_laws.specs.Looks.{CallsEnd, EndsAt, LooksInVain, NoneIsAllBefore}
 use Rattle.pmd_laws.specs.Order.{IsLived}
 use Rattle.pmd_laws.proofs.Order.{none_of_life}
 
-pub calls_joined : (pass : ℕ) (g h : List Entry) → calls_of pass (g ++ h) ≡ calls_of pass g ++ calls_of pass h
-calls_joined pass g h = rw (filter-append, map-append) refl
-
--- the first entry of a pass
-
-record First (pass : ℕ) (h : List Entry) (c : Call) : Type 0 where
-  gone : List Entry
-  entry : Entry
-  rest : List Entry
-  all : gone ++ entry ∷ rest ≡ h
-  none : calls_of pass gone ≡ []
-  is : call_in entry ≡ c
-
-first : (pass : ℕ) (h : List Entry) (c : Call) (more : List Call) → calls_of pass h ≡ c ∷ more → First pass h c
-first pass [] c more is = cc
-first pass (e ∷ h) c more is = elim (cases_Bool (e.pass == pass)) as (λ _. First pass (e ∷ h) c) [
-  | inl own ↦
-      let here : call_in e ∷ calls_of pass h ≡ c ∷ more = sym (calls_own pass e h own) ∙ is in
-      record { gone = []; entry = e; rest = h; all = refl; none = refl; is = cc }
-  | inr other ↦
-      let f = first pass h c more (sym (calls_other pass e h other) ∙ is) in
-      record {
-        gone = e ∷ f.gone;
-        entry = f.entry;
-        rest = f.rest;
-        all = ap (λ (l : List Entry). e ∷ l) f.all;
-        none = calls_other pass e f.gone other ∙ f.none;
-        is = f.is;
-      }
-]
-
--- and so the entry of a call that the pass made
+-- the entry of a call that the pass made
 pub calls_end : CallsEnd
 calls_end pass h calls more c is =
-    let two = parts pass h calls (c ∷ more) (is ∙ append_assoc calls (c ∷ []) more) in
-    let f = first pass two.back c more two.backs in
-    let before : calls_of pass (two.front ++ f.gone) ≡ calls =
-    calls_joined pass two.front f.gone ∙ (λ i. two.fronts i ++ f.none i) ∙ append-nil calls in
-    record {
-      before = two.front ++ f.gone;
-      entry = f.entry;
-      behind = f.rest;
-      all =
-          append_assoc two.front f.gone (f.entry ∷ f.rest) ∙ ap (λ (l : List Entry). two.front ++ l) f.all
-          ∙ two.both;
-      made = λ i. before i ++ f.is i ∷ [];
+    let x = around pass h calls c more (is ∙ append_assoc calls (c ∷ []) more) in record {
+      before = x.before;
+      entry = x.entry;
+      behind = x.behind;
+      all = x.all;
+      made = λ i. x.made i ++ x.call i ∷ [];
     }
 
 -- what begins a history is one too

@@ -19,6 +19,7 @@ use Rattle.transmit_laws.specs.Agreeing.{bytes_of}
 use Rattle.transmit_laws.specs.Laws.{FindsWaiting}
 use Rattle.transmit_laws.specs.Sent.{sent_since}
 use Rattle.start_laws.proofs.Along.{Parts}
+use Rattle.start_laws.proofs.First.{calls_joined}
 use Rattle.driver_laws.specs.Going.{GoesOn}
 use Rattle.pmd.specs.Halves.{Halves, halves_of}
 use Rattle.driver_laws.proofs.Going.{halves_go_on, others_go_on, sending_goes_on}
@@ -26,7 +27,7 @@ use Rattle.driver_laws.proofs.Waiting.{waiting_is_not_all}
 use Rattle.pmd_laws.specs.Order.{IsLived}
 use Rattle.pmd_laws.specs.Told.{last}
 use Rattle.pmd_laws.specs.Waits.{LooksAtWaiting, WaitingIsNotAllBefore, WaitingIsNotAllAsTold}
-use Rattle.pmd_laws.proofs.Looks.{answered, calls_joined, ends_with, lived_before}
+use Rattle.pmd_laws.proofs.Looks.{answered, ends_with, lived_before}
 use Rattle.pmd_laws.proofs.Order as order
 use Rattle.pmd_laws.proofs.Order.{in_parts}
 use Rattle.pmd_laws.proofs.Told.{life, runs, up_next}

@@ -54,34 +54,57 @@ first_own pass (e ∷ es) c ys is = elim (cases_Bool (e.pass == pass)) as (λ _.
       }
 ]
 
-joined : (pass : ℕ) (g h : List Entry) → calls_of pass (g ++ h) ≡ calls_of pass g ++ calls_of pass h
-joined pass g h = rw (filter-append, map-append) refl
+-- and so around the entry of a call that the pass made
+pub record Around (pass : ℕ) (h : List Entry) (calls : List Call) (c : Call) (more : List Call) : Type 0 where
+  pub before : List Entry
+  pub entry : Entry
+  pub behind : List Entry
+  pub all : before ++ entry ∷ behind ≡ h
+  pub made : calls_of pass before ≡ calls
+  pub own : entry.pass ≡ pass
+  pub call : call_in entry ≡ c
+  pub later : calls_of pass behind ≡ more
+
+-- the calls of two histories in turn
+pub calls_joined : (pass : ℕ) (g h : List Entry) → calls_of pass (g ++ h) ≡ calls_of pass g ++ calls_of pass h
+calls_joined pass g h = rw (filter-append, map-append) refl
+
+pub around : (pass : ℕ) (h : List Entry) (calls : List Call) (c : Call) (more : List Call)
+    → calls_of pass h ≡ calls ++ c ∷ more → Around pass h calls c more
+around pass h calls c more is =
+    let p = parts pass h calls (c ∷ more) is in
+    let f = first_own pass p.back c more p.backs in record {
+      before = p.front ++ f.front;
+      entry = f.entry;
+      behind = f.back;
+      all =
+          append_assoc p.front f.front (f.entry ∷ f.back) ∙ ap (λ (l : List Entry). p.front ++ l) f.both ∙ p.both;
+      made = calls_joined pass p.front f.front ∙ (λ i. p.fronts i ++ f.none i) ∙ append-nil calls;
+      own = f.own;
+      call = f.call;
+      later = f.backs;
+    }
 
 pub first_leads : (w : Watched) (fifo : ℕ) (h : List Entry) (P : State → Type 0) (old : List Call) (c : Call)
     → IsAlong w fifo h → IsKept w (lent_by w.pass h) P → ((s : State) → P s → P (after s c.event))
     → BeforeLast w fifo h (old ++ c ∷ []) P → AtCalls w fifo h (old ++ c ∷ []) P
 first_leads w fifo h P old c along kept keeps at done rest all is =
-    let p = parts w.pass done old (c ∷ []) is in
-    let f = first_own w.pass p.back c [] p.backs in
-    let early : List Entry = p.front ++ f.front in
-    let e : Entry = f.entry in
-    let till : List Entry = early ++ e ∷ [] in
-    let split : till ++ f.back ≡ done =
-    append_assoc early (e ∷ []) f.back ∙ append_assoc p.front f.front (e ∷ f.back)
-    ∙ ap (λ (l : List Entry). p.front ++ l) f.both ∙ p.both in
-    let whole : (till ++ f.back) ++ rest ≡ h = ap (λ (l : List Entry). l ++ rest) split ∙ all in
-    let made : calls_of w.pass early ≡ old =
-    joined w.pass p.front f.front ∙ (λ i. p.fronts i ++ f.none i) ∙ append-nil old in
-    let some : calls_of w.pass till ≡ old ++ call_in e ∷ [] =
-    joined w.pass early (e ∷ []) ∙ (λ i. made i ++ calls_own w.pass e [] (eq-eqb e.pass w.pass f.own) i) in
-    let before : P (reached w fifo early) =
-    at early (f.back ++ rest) e
-    (sym (append_assoc early (e ∷ []) (f.back ++ rest)) ∙ sym (append_assoc till f.back rest) ∙ whole) f.own
-    (λ i. made i ++ f.call i ∷ []) in
+    let x = around w.pass done old c [] is in
+    let e : Entry = x.entry in
+    let till : List Entry = x.before ++ e ∷ [] in
+    let split : till ++ x.behind ≡ done = append_assoc x.before (e ∷ []) x.behind ∙ x.all in
+    let whole : (till ++ x.behind) ++ rest ≡ h = ap (λ (l : List Entry). l ++ rest) split ∙ all in
+    let made : calls_of w.pass till ≡ old ++ call_in e ∷ [] =
+    calls_joined w.pass x.before (e ∷ [])
+    ∙ (λ i. x.made i ++ calls_own w.pass e [] (eq-eqb e.pass w.pass x.own) i) in
+    let before : P (reached w fifo x.before) =
+    at x.before (x.behind ++ rest) e
+    (sym (append_assoc x.before (e ∷ []) (x.behind ++ rest)) ∙ sym (append_assoc till x.behind rest) ∙ whole) x.own
+    (λ i. x.made i ++ x.call i ∷ []) in
     let then : P (reached w fifo till) =
-    subst P (sym (reached_next w fifo early e))
-    (subst (λ (x : Call). P (after (reached w fifo early) x.event)) (sym f.call)
-    (keeps (reached w fifo early) before)) in
+    subst P (sym (reached_next w fifo x.before e))
+    (subst (λ (n : Call). P (after (reached w fifo x.before) n.event)) (sym x.call)
+    (keeps (reached w fifo x.before) before)) in
     subst (λ (l : List Entry). P (reached w fifo l)) split
     (kept_on w fifo h along (λ so_far. P (reached w fifo so_far)) (state_kept w fifo (lent_by w.pass h) P kept) till
-    f.back rest whole (λ none. ends_some old [] (call_in e) (sym some ∙ none)) f.backs then)
+    x.behind rest whole (λ none. ends_some old [] (call_in e) (sym made ∙ none)) x.later then)

@@ -1,6 +1,6 @@
 use Rattle.std.proofs.Common.{length, ap, arith}
 use Rattle.pmd.specs.Driver.{handed_of}
-use Rattle.worker_runs.proofs.Ending.{home_without, had_thread}
+use Rattle.worker_runs.proofs.Ending.{home_without, had_thread, shut_out}
 use Rattle.worker_runs.proofs.Telling.{told_count}
 use Rattle.worker_runs.proofs.driving.drive.Goals as goal
 
@@ -17,3 +17,6 @@ returns-clause-home g c = rw c.first_fault.ensures (home_without _ _ _ c.take_ho
 
 pub returns-clause-fault : goal.returns-clause-fault
 returns-clause-fault g c = rw c.first_fault.ensures (had_thread _ _ c.work-worked.ensures.fault)
+
+pub returns-clause-shut : goal.returns-clause-shut
+returns-clause-shut g c = rw c.first_fault.ensures (shut_out _ _ _ c.work-worked.ensures.shut)

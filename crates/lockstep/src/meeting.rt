@@ -1,4 +1,4 @@
-ghost use Rattle.std.specs.Prelude.{◌≡◌, ◌<◌, ◌≤◌, ◌↔◌, IsTrue};
+ghost use Rattle.std.specs.Prelude.{◌≡◌, ◌<◌, ◌≤◌, nat_lt};
 ghost use Rattle.std.specs.Sync.Mutex.{mutex_guard_value};
 ghost use Rattle.lockstep.specs.Standing.{HaveAllCome};
 
@@ -66,10 +66,10 @@ impl<'a, R: Wait> Lockstep<'a, R> {
 }
 
 impl<'a, R: Wait> Gate for Lockstep<'a, R> {
+    ghost lets_on = { λ members worker. nat_lt worker members };
+
     /// False exactly for a worker that is no member; nobody then waits for it, nor it for anybody.
-    fn pass(&self, worker: usize, point: u8) -> bool
-        ensures { IsTrue result ↔ (worker < self.now) }
-    {
+    fn pass(&self, worker: usize, point: u8) -> bool {
         if worker >= self.members {
             return false;
         }

@@ -2,7 +2,7 @@
 use Rattle.std.proofs.Common.{◌≡◌, true, false, Option, Some, None, Result, Ok, Err, IfErr, IfSome, IfNone, refl}
 use Rattle.pmd_base.specs.declared.fault.PmdFault.{PmdFault}
 use Rattle.pmd.specs.declared.start.Rest.{Rest}
-use Rattle.worker_runs.specs.Ended.{first_fault, is_home, is_threadless}
+use Rattle.worker_runs.specs.Ended.{first_fault, is_home, is_shut_out, is_threadless}
 use Rattle.worker_runs.specs.declared.fault.WorkerFault.{WorkerFault}
 
 -- without a fault there was none of the stop
@@ -18,3 +18,11 @@ pub had_thread : (worked : Result (Unit {0}) WorkerFault) (late : Option PmdFaul
 had_thread (Err fault) late had = had
 had_thread (Ok done) None had = tt
 had_thread (Ok done) (Some fault) had = refl
+
+-- the stop doesn't tell that the gate was shut
+pub shut_out : (worked : Result (Unit {0}) WorkerFault) (late : Option PmdFault) (T : Type 0)
+    → IfErr worked (λ (f : WorkerFault). is_shut_out f ≡ true → T)
+    → IfSome (first_fault worked late) (λ (f : WorkerFault). is_shut_out f ≡ true → T)
+shut_out (Err fault) late T shut = shut
+shut_out (Ok done) None T shut = tt
+shut_out (Ok done) (Some fault) T shut = λ is. absurd (let e : false ≡ true = is in cc)

@@ -4,7 +4,7 @@ use Rattle.pmd_base.specs.declared.fault.PmdFault.{PmdFault}
 use Rattle.pmd.specs.declared.start.Rest.{Rest}
 use Rattle.pmd.specs.declared.start.Rest.TheVariants.{Home, Running}
 use Rattle.worker_runs.specs.declared.fault.WorkerFault.{WorkerFault}
-use Rattle.worker_runs.specs.declared.fault.WorkerFault.TheVariants.{Pmd, NoThread}
+use Rattle.worker_runs.specs.declared.fault.WorkerFault.TheVariants.{Pmd, GateShut, NoThread}
 
 -- whether the arena is home
 abbrev pub is_home : Rest → Bool
@@ -15,6 +15,11 @@ is_home (Running p) = false
 abbrev pub is_threadless : WorkerFault → Bool
 is_threadless NoThread = true
 is_threadless other = false
+
+-- whether it is told that the gate didn't let the worker on
+abbrev pub is_shut_out : WorkerFault → Bool
+is_shut_out GateShut = true
+is_shut_out other = false
 
 -- the first of two faults: of the work, and of the stop
 abbrev pub first_fault : Result (Unit {0}) WorkerFault → Option PmdFault → Option WorkerFault

@@ -1,6 +1,6 @@
 //! A worker's run, from its start to its stop.
 
-ghost use Rattle.std.specs.Prelude.{ℕ, ◌≡◌, ◌≤◌, List, [], length, true, false, IfErr, IfSome, IfNone};
+ghost use Rattle.std.specs.Prelude.{ℕ, ◌≡◌, ◌≤◌, List, [], length, true, false, IfErr, IfSome, IfNone, OnErr};
 ghost use Rattle.rtrb.specs.Ring.{sent, known_free, SameProducer};
 ghost use Rattle.dma_arena.specs.Numbers.{Numbers};
 ghost use Rattle.device_lock.specs.declared.entry.Call.{Call};
@@ -9,7 +9,7 @@ ghost use Rattle.pmd.specs.Blocks.{HasAll, LosesNone, IsWhole};
 ghost use Rattle.pmd.specs.Driver.{accepted_of, handed_of, halted_of};
 ghost use Rattle.pmd.specs.Life.{ComesDown, IsStopped, RunsOn};
 ghost use Rattle.pmd.specs.Started.{left_accepted, left_handed, HasStarted};
-ghost use Rattle.worker_runs.specs.Ended.{first_fault, is_home, is_threadless};
+ghost use Rattle.worker_runs.specs.Ended.{first_fault, is_home, is_shut_out, is_threadless};
 ghost use Rattle.worker_runs.specs.Kept.{KeepsAll};
 ghost use Rattle.worker_runs.specs.Lived.{HasRun};
 ghost use Rattle.worker_runs.specs.Told.{reports_of};
@@ -42,7 +42,8 @@ pub struct Order {
 
 /// Comes to a point of the gate.
 fn meet<G: Gate>(gate: &G, worker: usize, point: u8) -> Result<(), WorkerFault>
-    ensures { IfErr result (λ fault. is_threadless fault ≡ false) }
+    ensures fault { IfErr result (λ fault. is_threadless fault ≡ false) }
+    ensures shut { OnErr result (G.lets_on gate.now worker ≡ false) }
 {
     if gate.pass(worker, point) {
         Ok(())
@@ -70,6 +71,7 @@ fn work<G: Gate, N: Nic>(
     ensures fault { IfErr result (λ fault. is_threadless fault ≡ false) }
     ensures drives { RunsOn (N.made nic.old) pmd.old.rings (N.made nic.new) pmd.new.rings }
     ensures queue { pmd.new.queue ≡ pmd.old.queue }
+    ensures shut { IfErr result (λ fault. is_shut_out fault ≡ true → G.lets_on gate.now order.worker ≡ false) }
     ensures who { N.who nic.new ≡ N.who nic.old }
 {
     meet(gate, order.worker, 0)?;
@@ -145,6 +147,7 @@ fn drive<G: Gate, N: Nic>(
     ensures ring { SameProducer producer.old producer.new }
     ensures home { IfNone result.1 (is_home result.0 ≡ true) }
     ensures fault { IfSome result.1 (λ fault. is_threadless fault ≡ false) }
+    ensures shut { IfSome result.1 (λ fault. is_shut_out fault ≡ true → G.lets_on gate.now order.worker ≡ false) }
     ensures whole { (a : Numbers) → HasAll a (halted_of pmd.rings) [] → IsWhole a result.0 }
     ensures who { N.who nic.new ≡ N.who nic.old }
 {
@@ -180,6 +183,7 @@ pub fn run_worker<G: Gate, N: Nic>(
     ensures ring { SameProducer producer.old producer.new }
     ensures home { IfNone result.1 (is_home result.0 ≡ true) }
     ensures fault { IfSome result.1 (λ fault. is_threadless fault ≡ false) }
+    ensures shut { IfSome result.1 (λ fault. is_shut_out fault ≡ true → G.lets_on gate.now order.worker ≡ false) }
     ensures whole { IsWhole arena result.0 }
     ensures who { N.who nic.new ≡ N.who nic.old }
 {

@@ -1,7 +1,7 @@
 use Rattle.std.proofs.Common.{length, ap, inl, arith}
 use Rattle.pmd.specs.Driver.{handed_of}
 use Rattle.pmd.proofs.Living.{has_lived}
-use Rattle.worker_runs.proofs.Ending.{home_without, had_thread}
+use Rattle.worker_runs.proofs.Ending.{home_without, had_thread, shut_out}
 use Rattle.worker_runs.proofs.Telling.{told_count}
 use Rattle.worker_runs.proofs.driving.drive.Goals as goal
 
@@ -30,3 +30,6 @@ returns-clause-lived g c q size old arena started =
           c.take_home-rest.result.1 started c.work-worked.ensures.drives c.work-worked.ensures.queue
           c.take_home-rest.ensures.stopped c.take_home-rest.ensures.handed c.take_home-rest.ensures.accepted,
     )
+
+pub returns-clause-shut : goal.returns-clause-shut
+returns-clause-shut g c = rw c.first_fault.ensures (shut_out _ _ _ c.work-worked.ensures.shut)

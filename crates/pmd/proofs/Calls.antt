@@ -17,7 +17,7 @@ receives_own h (true ∷ marks) (n ∷ calls) own =
     (own.0, receives_own (after_call h Receives n) marks calls own.1)
 receives_own h (false ∷ marks) (n ∷ calls) own = (tt, receives_own h marks calls own.1)
 
-receives_played : (h : Halves) (marks : List Bool) (calls : List Call)
+pub receives_played : (h : Halves) (marks : List Bool) (calls : List Call)
     → played_by h (doers_marked marks) calls ≡ record h { receive = receive.played_by h.receive marks calls }
 receives_played h [] calls = refl
 receives_played h (m ∷ marks) [] = refl
@@ -33,14 +33,14 @@ receiving_drives old new h k (marks, since, made, own, is) same = (
   (λ i. record { receive = is i; transmit = same i }) ∙ sym (receives_played h marks since),
 )
 
-sends_own : (h : Halves) (moves : List Move) (calls : List Call) → transmit.AllOwn h.transmit moves calls
+pub sends_own : (h : Halves) (moves : List Move) (calls : List Call) → transmit.AllOwn h.transmit moves calls
     → AllOwn h (doers_moved moves) calls
 sends_own h [] [] own = tt
 sends_own h [] (n ∷ calls) own = own
 sends_own h (m ∷ moves) [] own = own
 sends_own h (m ∷ moves) (n ∷ calls) own = (own.0, sends_own (after_call h (Sends m) n) moves calls own.1)
 
-sends_played : (h : Halves) (moves : List Move) (calls : List Call)
+pub sends_played : (h : Halves) (moves : List Move) (calls : List Call)
     → played_by h (doers_moved moves) calls ≡ record h { transmit = transmit.played_by h.transmit moves calls }
 sends_played h [] calls = refl
 sends_played h (m ∷ moves) [] = refl
@@ -61,11 +61,11 @@ abbrev pub others : List Call → List Doer
 others [] = []
 others (n ∷ calls) = Sends Elsewhere ∷ others calls
 
-others_own : (h : Halves) (calls : List Call) → AllOwn h (others calls) calls
+pub others_own : (h : Halves) (calls : List Call) → AllOwn h (others calls) calls
 others_own h [] = tt
 others_own h (n ∷ calls) = (tt, others_own h calls)
 
-others_played : (h : Halves) (calls : List Call) → h ≡ played_by h (others calls) calls
+pub others_played : (h : Halves) (calls : List Call) → h ≡ played_by h (others calls) calls
 others_played h [] = refl
 others_played h (n ∷ calls) = others_played h calls
 
@@ -74,14 +74,14 @@ others_drive old new h (since, made) = (others since, since, made, others_own h 
 
 -- one after another
 
-both_own : (h : Halves) (ds es : List Doer) (ms ns : List Call) → AllOwn h ds ms → AllOwn (played_by h ds ms) es ns
+pub both_own : (h : Halves) (ds es : List Doer) (ms ns : List Call) → AllOwn h ds ms → AllOwn (played_by h ds ms) es ns
     → AllOwn h (ds ++ es) (ms ++ ns)
 both_own h [] es [] ns first then = then
 both_own h [] es (m ∷ ms) ns first then = absurd first
 both_own h (d ∷ ds) es [] ns first then = absurd first
 both_own h (d ∷ ds) es (m ∷ ms) ns first then = (first.0, both_own (after_call h d m) ds es ms ns first.1 then)
 
-both_played : (h : Halves) (ds es : List Doer) (ms ns : List Call) → AllOwn h ds ms
+pub both_played : (h : Halves) (ds es : List Doer) (ms ns : List Call) → AllOwn h ds ms
     → played_by h (ds ++ es) (ms ++ ns) ≡ played_by (played_by h ds ms) es ns
 both_played h [] es [] ns own = refl
 both_played h [] es (m ∷ ms) ns own = absurd own

@@ -54,7 +54,8 @@ module _ (old mid new : Option (List ℕ)) (has_failed : Bool) where
   ended-given-up request remaining IsUnread Write (Ended status) begun unread read memory write =
       let ended = write refl in
       inr (inr (inr (let is = ended.0 in cc, ended.1)))
-  ended-given-up request remaining IsUnread Read (Threads workers frames) begun unread read memory write = absurd (read refl)
+  ended-given-up request remaining IsUnread Read (Threads workers frames) begun unread read memory write =
+      absurd (read refl)
   ended-given-up request remaining IsUnread OutOfMemory (Threads workers frames) begun unread read memory write =
       absurd (memory refl)
   ended-given-up request remaining IsUnread Write (Threads workers frames) begun unread read memory write =

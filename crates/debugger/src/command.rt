@@ -11,8 +11,7 @@ pub enum Command {
     /// So many steps back.
     Back(u64),
     /// On, up to so many steps: to the next instruction with a breakpoint, after the first step at least, or to where
-    /// the
-    /// machine stops.
+    /// the machine stops.
     Continue(u64),
     /// A breakpoint at the instruction of this number. One that is set already stays.
     Break(u32),
@@ -40,8 +39,7 @@ pub struct View {
 }
 
 /// Why a command isn't done. The debugger is as it was, but a step or a continue that finds no memory has made the
-/// steps
-/// before.
+/// steps before.
 #[derive(Clone, Copy, Debug, PartialEq, Eq, Error)]
 pub enum DebugRefusal {
     /// Fewer steps were made than it should go back.

@@ -68,8 +68,7 @@ is_setting GcrExt = true
 is_setting other = false
 
 -- a write of a word to a register changes nothing that the queue rests on: the register is none of these, and of
--- neither
--- side of the queue; and the write asks for no reset of the queue's pool
+-- neither side of the queue; and the write asks for no reset of the queue's pool
 pub record Spares (queue : ℕ) (mode : Mode) (p : Place) (word : ℕ) : Type 0 where
   pub setting : IsFalse (is_setting p.row)
   pub receive : IsTrue (is_receive p.row) → p.index ≢ queue
@@ -130,8 +129,7 @@ has_begun pass [] = false
 has_begun pass (e ∷ es) = (e.pass == pass) || has_begun pass es
 
 -- a history leaves the queue of a pass alone: each entry behind the pass's first does, and spares all blocks that the
--- pass
--- lends in the history
+-- pass lends in the history
 abbrev pub LeavesAlone : Watched → List Entry → Type 0
 LeavesAlone w h =
     (before : List Entry) (e : Entry) (after : List Entry) → h ≡ before ++ e ∷ after → IsTrue (has_begun w.pass before)

@@ -65,8 +65,7 @@ leaves_alone w mine mode e =
     && writes_outside w.queue mine e.reply
 
 -- whether the entries of a rest leave the queue alone, where those before it led to a mode, and have an entry of the
--- pass or
--- not
+-- pass or not
 abbrev pub rest_leaves_alone : Watched → Blocks → Mode → Bool → List Entry → Bool
 rest_leaves_alone w mine mode begun [] = true
 rest_leaves_alone w mine mode begun (e ∷ es) =

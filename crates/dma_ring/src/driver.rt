@@ -10,8 +10,7 @@ ghost use Rattle.dma_ring.specs.Receive.{is_done, ends_packet, bytes_in};
 use crate::bits::has_bit;
 
 /// The bits of a data descriptor that a driver always sets: the type, 3, the frame check sequence, IFCS, and the
-/// advanced
-/// format, DEXT.
+/// advanced format, DEXT.
 const DATA: u64 = (3 << 20) + (1 << 25) + (1 << 29);
 
 /// The bits of the descriptor that a packet ends with: its end, EOP, and that its status is to be reported, RS.

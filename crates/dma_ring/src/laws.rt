@@ -35,8 +35,7 @@ pub fn transmit_fields()
 {}
 
 /// A driver and the device read of each other's descriptors what was written: the buffer that is posted, the packet
-/// that
-/// is told, and the command of a data descriptor.
+/// that is told, and the command of a data descriptor.
 pub fn driver_and_device_agree()
     ensures posted { PostedIsTheBuffer }
     ensures told { ToldIsRead }

@@ -32,7 +32,7 @@ use Rattle.transmit_laws.proofs.Mine.{mine-moved}
 use Rattle.transmit_laws.proofs.Playing.{moves_keep}
 use Rattle.transmit_laws.proofs.Sparing.{sparing_events_keep}
 use Rattle.transmit_laws.proofs.Up.{up_stays}
-use Rattle.driver_laws.specs.Halves.{Halves, Doer, Receives, Sends, OwnCall, after_call, is_neither}
+use Rattle.pmd.specs.Halves.{Halves, Doer, Receives, Sends, OwnCall, after_call, is_neither}
 use Rattle.driver_laws.proofs.Apart.{receives_apart, sends_apart, lends_one}
 use Rattle.driver_laws.proofs.Each.{each_all}
 use Rattle.driver_laws.proofs.Lending.{receive_lent}

@@ -22,7 +22,7 @@ use Rattle.transmit_laws.specs.Sent.{sent_in, sent_since}
 use Rattle.transmit_laws.specs.Up.{IsUp}
 use Rattle.transmit_laws.proofs.Counting.{sent_is_counted}
 use Rattle.transmit_laws.proofs.Runs.{idle-all}
-use Rattle.driver_laws.specs.Halves.{Halves, Doer, played_by}
+use Rattle.pmd.specs.Halves.{Halves, Doer, played_by}
 use Rattle.driver_laws.specs.Histories.{IsDriven, HandedIsPrefix, NoneIsAll, SentIsPrefix, IdleIsAllSent, CountedWhereUp}
 use Rattle.driver_laws.proofs.Runs.{Led, leads}
 

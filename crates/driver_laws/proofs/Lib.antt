@@ -1,7 +1,7 @@
 pub mod Apart
-pub mod Calls
 pub mod Each
 pub mod Entries
+pub mod Going
 pub mod InOrder
 pub mod Lending
 pub mod Meeting

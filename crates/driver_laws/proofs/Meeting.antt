@@ -19,8 +19,8 @@ use Rattle.transmit_laws.specs.Sent.{sent_by}
 use Rattle.transmit_laws.specs.Sparing.{Spares}
 use Rattle.transmit_laws.proofs.LeftBlocks.{left_alone_is_spared}
 use Rattle.transmit_laws.proofs.Sparing.{sparing_events_keep}
+use Rattle.pmd.specs.Halves.{Halves}
 use Rattle.driver_laws.specs.Agreeing.{AreLent, BothAgree}
-use Rattle.driver_laws.specs.Halves.{Halves}
 use Rattle.driver_laws.proofs.Stepping.{received_spares, reports_spare}
 
 -- what holds between two entries: the device is sound, its rings aligned, its image blank, the mode is the one that was

@@ -13,7 +13,7 @@ use Rattle.device_lock.specs.History.{call_in, calls_of}
 use Rattle.device_lock.specs.declared.entry.Call.{Call}
 use Rattle.device_lock.specs.declared.entry.Entry.{Entry}
 use Rattle.receive_laws.proofs.Mine.{LendsMine}
-use Rattle.driver_laws.specs.Halves.{Halves, Doer, OwnCall, AllOwn, after_call, played_by}
+use Rattle.pmd.specs.Halves.{Halves, Doer, OwnCall, AllOwn, after_call, played_by}
 use Rattle.driver_laws.specs.Histories.{doer_of, doers_after}
 
 -- what the pass lends is among these blocks

@@ -22,7 +22,7 @@ use Rattle.receive_laws.proofs.Mine.{LendsMine}
 use Rattle.transmit_laws.specs.Sent.{sent_by, sent_in, sent_since}
 use Rattle.transmit_laws.specs.Up.{IsUp}
 use Rattle.driver_laws.specs.Agreeing.{BothAgree}
-use Rattle.driver_laws.specs.Halves.{Halves, Doer, OwnCall, AllOwn, after_call, is_neither, played_by}
+use Rattle.pmd.specs.Halves.{Halves, Doer, OwnCall, AllOwn, after_call, is_neither, played_by}
 use Rattle.driver_laws.specs.Histories.{OthersLeaveAlone, doer_of, doers_after}
 use Rattle.driver_laws.proofs.Entries.{doer_keeps, doer_stays_up, goes_on}
 use Rattle.driver_laws.proofs.Meeting.{Meets}

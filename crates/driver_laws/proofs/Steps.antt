@@ -9,7 +9,7 @@ use Rattle.device_lock.specs.declared.entry.Entry.{Entry}
 use Rattle.pmd_base.specs.Events.{is_step}
 use Rattle.receive_laws.proofs.Clear.{no_registers}
 use Rattle.receive_laws.proofs.Histories.{calls_own, calls_other}
-use Rattle.driver_laws.specs.Halves.{Doer, OthersStep, is_neither}
+use Rattle.pmd.specs.Halves.{Doer, OthersStep, is_neither}
 use Rattle.driver_laws.specs.Histories.{OthersAreSteps, StepsLeaveAlone, doer_of, doers_after}
 
 pub steps_leave_alone : StepsLeaveAlone

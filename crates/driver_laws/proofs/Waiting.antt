@@ -16,9 +16,9 @@ use Rattle.transmit_laws.specs.Agreeing.{bytes_of}
 use Rattle.transmit_laws.specs.Laws.{FindsWaiting}
 use Rattle.transmit_laws.specs.Sent.{sent_in}
 use Rattle.transmit_laws.proofs.Runs.{sent_in-append, waiting-left}
-use Rattle.driver_laws.specs.Halves.{Halves, Doer, doers_moved, doers_other, played_by}
+use Rattle.pmd.specs.Halves.{Halves, Doer, doers_moved, doers_other, played_by}
 use Rattle.driver_laws.specs.Waiting.{WaitingIsNotAll, ReapIsNotAll, doers_before_look}
-use Rattle.driver_laws.proofs.Calls.{both_played, others_played, sends_own, sends_played}
+use Rattle.pmd.proofs.Calls.{both_played, others_played, sends_own, sends_played}
 use Rattle.driver_laws.proofs.InOrder.{led}
 
 pub waiting_is_not_all : WaitingIsNotAll

@@ -7,7 +7,7 @@ use Rattle.receive_laws.specs.Joint.{Agree}
 use Rattle.receive_laws.specs.Pieces.{Piece}
 use Rattle.receive_laws.specs.Steps.{Each}
 use Rattle.transmit_laws.specs.Agreeing.{Agrees}
-use Rattle.driver_laws.specs.Halves.{Halves}
+use Rattle.pmd.specs.Halves.{Halves}
 
 -- no block is lent by both halves
 abbrev pub AreApart : Halves → Type 0

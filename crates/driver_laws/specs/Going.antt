@@ -4,7 +4,7 @@ use Rattle.device_lock.specs.declared.entry.Call.{Call}
 use Rattle.pmd_base.specs.Made.{AddsSome}
 use Rattle.pmd_rx.specs.Plays as receive
 use Rattle.pmd_tx.specs.Plays as transmit
-use Rattle.driver_laws.specs.Halves.{Halves, Drives, OthersStep, doers_marked, doers_moved}
+use Rattle.pmd.specs.Halves.{Halves, Drives, OthersStep, doers_marked, doers_moved}
 
 -- calls lead the halves from one state to another, and those that are neither half's are steps
 abbrev pub GoesOn : List Call → Halves → List Call → Halves → Type 0

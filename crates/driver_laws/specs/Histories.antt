@@ -19,7 +19,7 @@ use Rattle.transmit_laws.specs.Laws as transmit
 use Rattle.transmit_laws.specs.Sent.{sent_in, sent_since}
 use Rattle.transmit_laws.specs.Up.{IsUp}
 use Rattle.driver_laws.specs.Agreeing.{AreLent, BothAgree}
-use Rattle.driver_laws.specs.Halves.{Halves, Doer, Sends, AllOwn, is_neither, played_by}
+use Rattle.pmd.specs.Halves.{Halves, Doer, Sends, AllOwn, is_neither, played_by}
 
 -- whose an entry is, of the driver's pass or of another, and the doers that are left after it: the entries of the pass
 -- are theirs in turn, and those of other passes neither half's

@@ -11,7 +11,7 @@ use Rattle.pmd_tx.specs.Sending.{Sender}
 use Rattle.transmit_laws.specs.Agreeing.{bytes_of}
 use Rattle.transmit_laws.specs.Laws.{FindsWaiting}
 use Rattle.transmit_laws.specs.Sent.{sent_in}
-use Rattle.driver_laws.specs.Halves.{Halves, Doer, AllOwn, doers_moved, doers_other, played_by}
+use Rattle.pmd.specs.Halves.{Halves, Doer, AllOwn, doers_moved, doers_other, played_by}
 use Rattle.driver_laws.specs.Histories.{IsDriven}
 
 -- where a look that comes next finds the oldest outstanding packet not done, and the driver accepted none since some

@@ -1,12 +1,12 @@
 //! What holds of a driver that receives and sends on a queue of a shared device, over whatever others do meanwhile.
 //!
-//! Each law is the contract of a function that does nothing. `specs/Halves` says how a driver's two halves follow from
-//! the calls of its pass, `specs/Agreeing` what the device and both halves agree on, and `specs/Histories` what a
+//! Each law is the contract of a function that does nothing. How a driver's two halves follow from the calls of its pass
+//! is said by crate `pmd`; `specs/Agreeing` says what the device and both halves agree on, and `specs/Histories` what a
 //! history is that leaves the driver's queue alone.
 #![tactic(auto)]
 
 ghost use Rattle.driver_laws.specs.Going.{ReceivingGoesOn, SendingGoesOn, OthersGoOn, HalvesGoOn};
-ghost use Rattle.driver_laws.specs.Halves.{ReceivingDrives, SendingDrives, OthersDrive, DrivesOn};
+ghost use Rattle.pmd.specs.Halves.{ReceivingDrives, SendingDrives, OthersDrive, DrivesOn};
 ghost use Rattle.driver_laws.specs.Histories.{HandedIsPrefix, NoneIsAll, SentIsPrefix, IdleIsAllSent, CountedWhereUp, StepsLeaveAlone};
 ghost use Rattle.driver_laws.specs.Waiting.{WaitingIsNotAll, ReapIsNotAll};
 

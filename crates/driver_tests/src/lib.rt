@@ -1,6 +1,7 @@
-//! What no contract says of the driver: that its calls succeed where memory is ample, over a device in hand, among
-//! foreign events and over one that two threads share, that what they write is what the device then does, and that a
-//! driver comes to its end whatever others do to its queue.
+//! What no contract says of a shared device and of the driver: that calls of several threads on one device return, each
+//! with the reply to its own event, and that the shared device then closes; that the driver's calls succeed where memory
+//! is ample, over a device in hand, among foreign events and over one that two threads share, that what they write is
+//! what the device then does, and that a driver comes to its end whatever others do to its queue.
 #![tactic(auto)]
 
 #[cfg(test)]
@@ -12,6 +13,8 @@ mod hostile;
 #[cfg(test)]
 mod interleaved;
 #[cfg(test)]
+mod left_alone;
+#[cfg(test)]
 mod outcome;
 #[cfg(test)]
 mod queues;
@@ -19,5 +22,7 @@ mod queues;
 mod random;
 #[cfg(test)]
 mod schedule;
+#[cfg(test)]
+mod shared_device;
 #[cfg(test)]
 mod through_lock;

@@ -1,8 +1,9 @@
--- Lines that are counted, with the empty ones in front gone past.
+-- Lines that are counted, with some in front gone past.
 use Rattle.std.proofs.Common.{◌≡◌, ℕ, ◌+◌, ◌≤◌, List, ◌∷◌, length, drop, length-drop, sym, ap, subst, arith}
 use Rattle.std.specs.List.{prefix_len}
 use Rattle.std.proofs.lemmas.List.Sums.{prefix_len-le-length}
-use Rattle.lexer.specs.Lines.{NumberedLine, is_empty}
+use Rattle.lexer.specs.Lines.{NumberedLine}
+use Rattle.lexer.specs.Wordless.{is_wordless}
 use Rattle.eeprom_image.proofs.Numbered.{IsNumberedFrom, IsNumberedFrom-drop}
 
 -- so many lines came before the rest, of so many in all
@@ -11,10 +12,10 @@ pub record CountsOn (count : ℕ) (rest : List NumberedLine) (all : ℕ) : Type 
   pub whole : count + length rest ≡ all
 
 pub CountsOn-skip : (count skipped total all : ℕ) (rest behind : List NumberedLine) → CountsOn count rest all
-    → total ≡ count + skipped → skipped ≡ prefix_len is_empty rest → behind ≡ drop skipped rest
+    → total ≡ count + skipped → skipped ≤ prefix_len is_wordless rest → behind ≡ drop skipped rest
     → CountsOn total behind all
-CountsOn-skip count skipped total all rest behind counts sum empties is =
-    let inside : skipped ≤ length rest = omega (arith, prefix_len-le-length is_empty rest) in
+CountsOn-skip count skipped total all rest behind counts sum front is =
+    let inside : skipped ≤ length rest = omega (arith, prefix_len-le-length is_wordless rest) in
     let order : count + 1 + skipped ≡ total + 1 = omega arith in
     record {
       numbered = subst (IsNumberedFrom (total + 1)) (sym is)

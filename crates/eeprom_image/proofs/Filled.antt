@@ -1,90 +1,91 @@
--- Empty lines give nothing.
-use Rattle.std.proofs.Common.{refl, sym, ap, ◌∙◌, ◌≡◌, ℕ, suc, ◌+◌, true, false, cond, List, [], ◌∷◌, drop, length, length-drop, ◌<◌, Ok, Option, Some, None, MatchOption, IfSome, inl, inr, arith}
+-- Lines without words give nothing.
+use Rattle.std.proofs.Common.{refl, sym, ap, ◌∙◌, ◌≡◌, ℕ, zero, suc, ◌+◌, ◌≤◌, ◌<◌, true, false, cond, List, [], ◌∷◌, drop, length, length-drop, Option, Some, None, MatchOption, inl, inr, arith}
 use Rattle.std.specs.List.{prefix_len}
 use Rattle.std.proofs.lemmas.Bool.{cases_Bool}
-use Rattle.lexer.specs.Lines.{NumberedLine, is_nothing, is_empty}
-use Rattle.lexer.specs.Words.{words_of, words_between_blanks}
-use Rattle.eeprom_image.specs.Content.{Content, SaysFirst, with_line, with_lines, ◌then◌, sized, sized_by}
-use Rattle.eeprom_image.specs.Line.{text_line}
+use Rattle.std.proofs.lemmas.List.Sums.{prefix_len-le-length}
+use Rattle.lexer.specs.Lines.{NumberedLine}
+use Rattle.lexer.specs.Words.{words_of}
+use Rattle.lexer.specs.Wordless.{are_none, is_wordless}
+use Rattle.eeprom_image.specs.Content.{Content, SaysFirst, SaysNext, with_line, with_lines, ◌then◌, sized, sized_by}
+use Rattle.eeprom_image.specs.Line.{line_in, text_line}
 use Rattle.eeprom_image.specs.declared.line.TextLine.{TextLine}
 use Rattle.eeprom_image.specs.declared.line.TextLine.TheVariants.{Empty}
 
-text_line-nothing : (text : List ℕ) → is_nothing text ≡ true → text_line text ≡ Empty
-unfolding text_line words_of words_between_blanks
-text_line-nothing [] empty = refl
-text_line-nothing (byte ∷ more) empty = cc
+none-are : (words : List (List ℕ)) → are_none words ≡ true → line_in words ≡ Empty
+none-are [] none = refl
+none-are (word ∷ words) none = cc
 
-abbrev filled : List NumberedLine → List NumberedLine
-filled lines = drop (prefix_len is_empty lines) lines
+text_line-wordless : (line : NumberedLine) → is_wordless line ≡ true → text_line line.text ≡ Empty
+unfolding text_line
+text_line-wordless line none = none-are (words_of line.text) none
 
-filled-next : (line : NumberedLine) (more : List NumberedLine) → is_empty line ≡ true
-    → filled (line ∷ more) ≡ filled more
-filled-next line more empty =
-    let next : 1 + prefix_len is_empty more ≡ suc (prefix_len is_empty more) = omega arith in
-    ap (λ b. drop (cond b (1 + prefix_len is_empty more) 0) (line ∷ more)) empty
-    ∙ ap (λ n. drop n (line ∷ more)) next
+wordless-next : (line : NumberedLine) (more : List NumberedLine) → is_wordless line ≡ true
+    → prefix_len is_wordless (line ∷ more) ≡ 1 + prefix_len is_wordless more
+wordless-next line more none = ap (λ b. cond b (1 + prefix_len is_wordless more) 0) none
 
-filled-here : (line : NumberedLine) (more : List NumberedLine) → is_empty line ≡ false
-    → filled (line ∷ more) ≡ line ∷ more
-filled-here line more other = ap (λ b. drop (cond b (1 + prefix_len is_empty more) 0) (line ∷ more)) other
+wordless-here : (line : NumberedLine) (more : List NumberedLine) → is_wordless line ≡ false
+    → prefix_len is_wordless (line ∷ more) ≡ 0
+wordless-here line more other = ap (λ b. cond b (1 + prefix_len is_wordless more) 0) other
 
--- what an empty line in front doesn't change, those in front don't change
-same-filled : {X : Type 0} → (gives : List NumberedLine → X)
-    → ((line : NumberedLine) (more : List NumberedLine) → is_empty line ≡ true → gives (line ∷ more) ≡ gives more)
-    → (lines : List NumberedLine) → gives (filled lines) ≡ gives lines
-same-filled gives same [] = refl
-same-filled gives same (line ∷ more) =
-    let rest = same-filled gives same more in
-    elim (cases_Bool (is_empty line)) [
-      | inl empty ↦ ap gives (filled-next line more empty) ∙ rest ∙ sym (same line more empty)
-      | inr other ↦ ap gives (filled-here line more other)
-    ]
+-- what a line without words in front doesn't change, some of those in front don't change
+same-behind : {X : Type 0} → (gives : List NumberedLine → X)
+    → ((line : NumberedLine) (more : List NumberedLine) → is_wordless line ≡ true → gives (line ∷ more) ≡ gives more)
+    → (count : ℕ) (lines : List NumberedLine) → count ≤ prefix_len is_wordless lines
+    → gives (drop count lines) ≡ gives lines
+same-behind gives same zero lines front = refl
+same-behind gives same (suc count) [] front = refl
+same-behind gives same (suc count) (line ∷ more) front = elim (cases_Bool (is_wordless line)) [
+  | inl none ↦
+      let left : count ≤ prefix_len is_wordless more = omega (arith, wordless-next line more none) in
+      same-behind gives same count more left ∙ sym (same line more none)
+  | inr other ↦ absurd (omega (arith, wordless-here line more other))
+]
 
-sized-empty : (line : NumberedLine) (more : List NumberedLine) → is_empty line ≡ true → sized (line ∷ more) ≡ sized more
+sized-wordless : (line : NumberedLine) (more : List NumberedLine) → is_wordless line ≡ true
+    → sized (line ∷ more) ≡ sized more
 unfolding sized
-sized-empty line more empty =
-    ap (λ said. sized_by said line.number more (sized more)) (text_line-nothing line.text empty)
+sized-wordless line more none =
+    ap (λ said. sized_by said line.number more (sized more)) (text_line-wordless line none)
 
-with_lines-empty : (content : Content) (line : NumberedLine) (more : List NumberedLine) → is_empty line ≡ true
+-- the size doesn't change with lines without words in front
+pub sized-skip : (lines behind : List NumberedLine) (count : ℕ) → count ≤ prefix_len is_wordless lines
+    → behind ≡ drop count lines → sized behind ≡ sized lines
+sized-skip lines behind count front rest = ap sized rest ∙ same-behind sized sized-wordless count lines front
+
+with_lines-wordless : (content : Content) (line : NumberedLine) (more : List NumberedLine) → is_wordless line ≡ true
     → with_lines content (line ∷ more) ≡ with_lines content more
 unfolding with_lines
-with_lines-empty content line more empty =
+with_lines-wordless content line more none =
     ap (λ said. with_line content line.number said then λ given. with_lines given more)
-    (text_line-nothing line.text empty)
+    (text_line-wordless line none)
 
--- what the first line says that isn't empty, where there is one, and those behind it
-abbrev IsNext : List NumberedLine → Option (ℕ × TextLine) → List NumberedLine → Type 0
-IsNext lines result behind = MatchOption result (filled lines ≡ []) (λ said. SaysFirst said.0 said.1 (filled lines) behind)
+-- lines without words in front say nothing
+pub SaysNext-wordless : (lines behind : List NumberedLine) (count : ℕ) → 0 < count
+    → count ≤ prefix_len is_wordless lines → behind ≡ drop count lines → SaysNext 0 Empty lines behind
+SaysNext-wordless lines behind count some front rest = record {
+  gives = λ content. sym (ap (with_lines content) rest
+      ∙ same-behind (with_lines content) (with_lines-wordless content) count lines front);
+  shorter = omega (
+    arith,
+    ap length rest,
+    length-drop count lines,
+    prefix_len-le-length is_wordless lines,
+  );
+}
 
-with_lines-none : (content : Content) (lines : List NumberedLine) → lines ≡ [] → with_lines content lines ≡ Ok content
+-- a line says what it says
+pub SaysNext-first : (number : ℕ) (said : TextLine) (lines behind : List NumberedLine)
+    → SaysFirst number said lines behind → SaysNext number said lines behind
 unfolding with_lines
-with_lines-none content lines none = rw none refl
+SaysNext-first number said lines behind says = record {
+  gives = λ content. ap (with_lines content) says.first
+      ∙ ap (λ s. with_line content number s then λ more. with_lines more behind) (sym says.says);
+  shorter = omega (arith, ap length says.first);
+}
 
-with_lines-first : (content : Content) (number : ℕ) (said : TextLine) (lines behind : List NumberedLine)
-    → SaysFirst number said lines behind
-    → with_lines content lines ≡ (with_line content number said then λ more. with_lines more behind)
-unfolding with_lines
-with_lines-first content number said lines behind says = ap (with_lines content) says.first
-    ∙ ap (λ s. with_line content number s then λ more. with_lines more behind) (sym says.says)
-
-pub with_lines-next : (content : Content) (lines behind : List NumberedLine) (result : Option (ℕ × TextLine))
-    → IsNext lines result behind → MatchOption result (with_lines content lines ≡ Ok content)
-    (λ said. with_lines content lines ≡ (with_line content said.0 said.1 then λ more. with_lines more behind))
-with_lines-next content lines behind None next =
-    sym (same-filled (with_lines content) (with_lines-empty content) lines)
-    ∙ with_lines-none content (filled lines) next
-with_lines-next content lines behind (Some said) next =
-    sym (same-filled (with_lines content) (with_lines-empty content) lines)
-    ∙ with_lines-first content said.0 said.1 (filled lines) behind next
-
-pub shorter-next : (lines behind : List NumberedLine) (result : Option (ℕ × TextLine)) → IsNext lines result behind
-    → IfSome result (λ said. length behind < length lines)
-shorter-next lines behind None next = tt
-shorter-next lines behind (Some said) next =
-    omega (arith, ap length next.first, length-drop (prefix_len is_empty lines) lines)
-
--- the size doesn't change with the empty lines in front
-pub sized-skip : (lines behind : List NumberedLine) (count : ℕ) → count ≡ prefix_len is_empty lines
-    → behind ≡ drop count lines → sized behind ≡ sized lines
-sized-skip lines behind count is rest =
-    ap sized (rest ∙ ap (λ n. drop n lines) is) ∙ same-filled sized sized-empty lines
+-- the next line, where there is one
+pub next-first : (lines behind : List NumberedLine) (result : Option (ℕ × TextLine))
+    → MatchOption result (lines ≡ []) (λ said. SaysFirst said.0 said.1 lines behind)
+    → MatchOption result (lines ≡ []) (λ said. SaysNext said.0 said.1 lines behind)
+next-first lines behind None none = none
+next-first lines behind (Some said) says = SaysNext-first said.0 said.1 lines behind says

@@ -23,3 +23,4 @@ pub mod Filled
 pub mod Started
 pub mod CountedLines
 pub mod PairLines
+pub mod Order

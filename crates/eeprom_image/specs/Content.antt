@@ -45,6 +45,12 @@ pub record SaysFirst (number : ℕ) (said : TextLine) (lines behind : List Numbe
   pub first : lines ≡ record { number = number; text = text } ∷ behind
   pub says : said ≡ text_line text
 
+-- these lines give what a line of this number gives that says this, and then what those behind give, which are fewer
+pub record SaysNext (number : ℕ) (said : TextLine) (lines behind : List NumberedLine) : Type 0 where
+  pub gives : (content : Content)
+      → with_lines content lines ≡ (with_line content number said then λ more. with_lines more behind)
+  pub shorter : length behind < length lines
+
 -- a size and the lines behind it, where there is one
 abbrev pub Sized : Type 0
 Sized = Option (ℕ × List NumberedLine)

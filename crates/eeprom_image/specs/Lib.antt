@@ -11,3 +11,4 @@ pub mod Text
 pub mod Draft
 pub mod Layout
 pub mod Seen
+pub mod Order

@@ -3,7 +3,7 @@
 ghost use Rattle.std.specs.Prelude.{◌≡◌, ◌+◌, ◌≤◌, ◌<◌, ◌^◌, [], length, Ok, None, MatchOption, IfSome, IfOk, IfErr};
 ghost use Rattle.std.specs.Option.{option_map};
 ghost use Rattle.lexer.specs.Lines.{lines_of};
-ghost use Rattle.eeprom_image.specs.Content.{Content, SaysFirst, with_line, with_lines, sized, content_of, only_size, ◌then◌};
+ghost use Rattle.eeprom_image.specs.Content.{SaysFirst, SaysNext, with_line, with_lines, sized, content_of, only_size, ◌then◌};
 ghost use Rattle.eeprom_image.specs.Text.{Gives, Fails};
 ghost use Rattle.eeprom_image.specs.Draft.{content_in};
 
@@ -33,10 +33,10 @@ fn read_size(text: &str) -> Result<(u32, Lines<'_>), AsmFault>
     ensures err { IfErr result (λ fault. Fails fault (content_of text.now)) }
 {
     let mut lines = Lines::of(text);
-    let mut count = lines.skip_empty();
+    let mut count = lines.skip_wordless();
     'empty_lines: while let Some(line) = lines.next() {
         match text_line(line.text) {
-            TextLine::Empty => count = line.number + lines.skip_empty(),
+            TextLine::Empty => count = line.number + lines.skip_wordless(),
             TextLine::Size(size) => return Ok((size, lines)),
             TextLine::Word(..) | TextLine::Csr(..) | TextLine::Malformed => {
                 return Err(AsmFault::Syntax(line.number));
@@ -61,27 +61,31 @@ fn next_pair(lines: &mut Lines<'_>) -> Option<(usize, TextLine)>
 }
 
 /// What the next line says, and its number.
-fn next_said(lines: &mut Lines<'_>) -> Option<(usize, TextLine)>
+fn next_line(lines: &mut Lines<'_>) -> Option<(usize, TextLine)>
     ensures { MatchOption result (lines.old ≡ []) (λ said. SaysFirst said.0 said.1 lines.old lines.new) }
+{
+    let line = lines.next()?;
+    Some((line.number, text_line(line.text)))
+}
+
+/// The same where the next line is none that is read in one look: those in front that have no words say nothing.
+fn next_other(lines: &mut Lines<'_>) -> Option<(usize, TextLine)>
+    ensures { MatchOption result (lines.old ≡ []) (λ said. SaysNext said.0 said.1 lines.old lines.new) }
+{
+    if lines.skip_wordless() != 0 {
+        return Some((0, TextLine::Empty));
+    }
+    next_line(lines)
+}
+
+/// What the next line says, and its number, or that some lines say nothing. Those behind are left.
+fn next_said(lines: &mut Lines<'_>) -> Option<(usize, TextLine)>
+    ensures { MatchOption result (lines.old ≡ []) (λ said. SaysNext said.0 said.1 lines.old lines.new) }
 {
     match next_pair(lines) {
         Some(said) => Some(said),
-        None => {
-            let line = lines.next()?;
-            Some((line.number, text_line(line.text)))
-        }
+        None => next_other(lines),
     }
-}
-
-/// What the next line says that isn't empty, and its number: those before it give nothing. The lines behind it are left.
-fn next_filled(lines: &mut Lines<'_>) -> Option<(usize, TextLine)>
-    ensures given { (content : Content) → MatchOption result (with_lines content lines.old ≡ Ok content)
-        (λ said. with_lines content lines.old
-        ≡ (with_line content said.0 said.1 then λ more. with_lines more lines.new)) }
-    ensures shorter { IfSome result (λ said. length lines.new < length lines.old) }
-{
-    lines.skip_empty();
-    next_said(lines)
 }
 
 impl Draft {
@@ -103,7 +107,7 @@ impl Draft {
     fn take_lines(&mut self, mut lines: Lines<'_>) -> Result<(), AsmFault>
         ensures { Gives (λ _. content_in self.new) result (with_lines (content_in self.old) lines.entry) }
     {
-        'filled: while let Some((number, said)) = next_filled(&mut lines) {
+        'said: while let Some((number, said)) = next_said(&mut lines) {
             self.take_line(number, said)?;
         }
         Ok(())

@@ -3,6 +3,7 @@
 ghost use Rattle.std.specs.Prelude.{◌≡◌, nat_lt, filter, IfOk};
 ghost use Rattle.std.specs.List.{list_all};
 ghost use Rattle.eeprom_image.specs.Fault.{lesser, least, given_again, indexes, section_end, is_reserved, fits};
+ghost use Rattle.eeprom_image.specs.Order.{ascend, highest, is_below};
 ghost use Rattle.eeprom_image.specs.Draft.{content_in};
 
 use crate::draft::Draft;
@@ -25,19 +26,64 @@ fn lesser(n: u32, other: Option<u32>) -> Option<u32>
     }
 }
 
-/// The lowest index that is given twice.
+/// Whether each index is above the one before it.
+fn ascend(words: &[(u32, u16)]) -> bool
+    ensures { result ≡ ascend 0 (indexes words.now) }
+{
+    let mut low = 0;
+    let mut rest = words;
+    'each: while let Some((given, more)) = rest.split_first() {
+        let index = u64::from(given.0);
+        if index < low {
+            return false;
+        }
+        low = index + 1;
+        rest = more;
+    }
+    true
+}
+
+/// The highest index, 0 where there is none.
+fn highest(words: &[(u32, u16)]) -> u32
+    ensures { result ≡ highest 0 (indexes words.now) }
+{
+    let mut highest = 0;
+    let mut rest = words;
+    'each: while let Some((given, more)) = rest.split_first() {
+        highest = given.0.max(highest);
+        rest = more;
+    }
+    highest
+}
+
+fn is_below(n: u32, other: Option<u32>) -> bool
+    ensures { result ≡ is_below n other }
+{
+    match other {
+        None => true,
+        Some(m) => n < m,
+    }
+}
+
+/// The lowest index that is given twice. Once one was found, only those below it are looked for.
 pub(crate) fn lowest_given_again(
     alloc: Global,
     words: &[(u32, u16)],
 ) -> Result<Option<u32>, AllocError>
     ensures { IfOk result (λ lowest. lowest ≡ least (given_again (indexes words.now))) }
 {
-    let mut behind = Seen::with_room(alloc, words.len())?;
+    if ascend(words) {
+        return Ok(None);
+    }
+    let mut behind = Seen::with_room(alloc, words.len(), highest(words))?;
     let mut lowest = None;
     for i in (0..words.len()).rev() {
         let index = words[i].0;
+        if !is_below(index, lowest) {
+            continue;
+        }
         if behind.comes_again(index)? {
-            lowest = lesser(index, lowest);
+            lowest = Some(index);
         }
     }
     Ok(lowest)

@@ -1,6 +1,6 @@
 //! The indexes that were seen.
 
-ghost use Rattle.std.specs.Prelude.{◌≡◌, ℕ, ◌≤◌, ◌%◌, false, length, get_or};
+ghost use Rattle.std.specs.Prelude.{◌≡◌, ℕ, ◌≤◌, ◌<◌, ◌%◌, ◌/◌, false, length, get_or};
 ghost use Rattle.std.specs.Ordering.{nat_cmp};
 ghost use Rattle.std.specs.BTreeSet.{contains};
 
@@ -27,15 +27,28 @@ pub(crate) struct Seen {
         → contains nat_cmp others index ≡ false },
 }
 
+/// The quotient and the remainder of an index by the number of places; most indexes are below that.
+#[inline(always)]
+fn split(index: usize, count: usize) -> (usize, usize)
+    requires { 0 < count }
+    ensures { result ≡ (index / count, index % count) }
+{
+    if index < count {
+        (0, index)
+    } else {
+        (index / count, index % count)
+    }
+}
+
 impl Seen {
     ghost use Rattle.std.specs.Prelude.{◌≡◌, ◌==◌, ◌||◌, IfOk, OnOk, false};
     ghost use Rattle.eeprom_image.specs.Seen.{is_seen};
 
-    /// None, with places for so many.
-    pub(crate) fn with_room(alloc: Global, count: usize) -> Result<Seen, AllocError>
+    /// None, with places for so many, of which none is above the highest.
+    pub(crate) fn with_room(alloc: Global, count: usize, highest: u32) -> Result<Seen, AllocError>
         ensures { IfOk result (λ seen. (index : ℕ) → is_seen seen index ≡ false) }
     {
-        let places = PLACES_EACH * count.min(COUNT_LIMIT) + 2;
+        let places = (PLACES_EACH * count.min(COUNT_LIMIT)).min(highest as usize) + 2;
         Ok(Seen {
             places: vec![in alloc; 0u32; places]?,
             others: BTreeSet::new(alloc),
@@ -49,8 +62,8 @@ impl Seen {
             is_seen self.new other ≡ ((index == other) || is_seen self.old other)) }
     {
         let count = self.places.len();
-        let place = index as usize % count;
-        let quotient = (index as usize / count) as u32 + 1;
+        let (quotient, place) = split(index as usize, count);
+        let quotient = quotient as u32 + 1;
         let there = self.places[place];
         if there == 0 {
             self.places[place] = quotient;

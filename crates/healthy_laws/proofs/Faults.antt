@@ -9,18 +9,20 @@ use Rattle.device_lock.specs.Pass.{call_of}
 use Rattle.device_lock.specs.declared.alone.Watched.{Watched}
 use Rattle.device_lock.specs.declared.entry.Call.{Call}
 use Rattle.device_lock.specs.declared.entry.Entry.{Entry}
+use Rattle.pmd_rx.specs.Plays.{Plays}
+use Rattle.pmd_rx.specs.Receive.{Receive}
 use Rattle.pmd_rx.specs.Wrong as receiving
 use Rattle.pmd_tx.specs.Sending as sending
-use Rattle.driver_laws.specs.Halves.{Halves, Doer, Receives, Sends, AllOwn, after_call, doers_marked, doers_moved, doers_other, played_by}
-use Rattle.driver_laws.proofs.Calls.{receives_own, sends_own}
+use Rattle.pmd.specs.Halves.{Halves, Doer, Receives, Sends, AllOwn, after_call, doers_marked, doers_moved, doers_other, played_by}
+use Rattle.pmd.proofs.Calls.{receiving_drives, sends_own}
 use Rattle.healthy_laws.specs.Faults.{NoReceiveFault, NoTransmitFault}
 use Rattle.healthy_laws.specs.Healthy.{IsHealthy, AreHealthy, IsUnshared}
 use Rattle.healthy_laws.proofs.Healthy.{own_replies_are_healthy}
 
 -- the calls behind some, and the one behind calls of neither half
 
-healthy_behind : (h : Halves) (ds es : List Doer) (ms ns : List Call) → AllOwn h ds ms → AreHealthy (ds ++ es) (ms ++ ns)
-    → AreHealthy es ns
+healthy_behind : (h : Halves) (ds es : List Doer) (ms ns : List Call) → AllOwn h ds ms
+    → AreHealthy (ds ++ es) (ms ++ ns) → AreHealthy es ns
 healthy_behind h [] es [] ns own are = are
 healthy_behind h [] es (m ∷ ms) ns own are = absurd own
 healthy_behind h (d ∷ ds) es [] ns own are = absurd own
@@ -56,20 +58,27 @@ module _ (w : Watched) (fifo : ℕ) (start rest more : List Entry) (h : Halves) 
         last_healthy before last n
         (healthy_behind (played_by h doers (calls_of w.pass rest)) ds ends since (before ++ n ∷ []) own_since here)
 
+-- the receive half's calls are the halves'
+marked_own : (h : Halves) (old new : List Call) (w : Receive) (p : Plays old h.receive new w)
+    → AllOwn h (doers_marked p.0) p.1
+unfolding receiving_drives
+marked_own h old new w (marks, since, made, own, is) =
+    (receiving_drives old new h (record h { receive = w }) (marks, since, made, own, is) refl).3
+
 pub no_receive_fault : NoReceiveFault
 no_receive_fault w fifo start rest more h doers own old new k
     (mid, e, r, (marks, since, played, all, is), mine, (before, adds), sick) did made x =
     let there = played_by h doers (calls_of w.pass rest) in
     both_ways (receiving.is_healthy e r) sick
-    (last_is w fifo start rest more h doers (doers_marked marks) own old new since before Receives (call_of e r) did made
-    (adds ∙ ap (λ (calls : List Call). calls ++ (before ++ call_of e r ∷ [])) played)
-    (receives_own there marks since all) x)
+    (last_is w fifo start rest more h doers (doers_marked marks) own old new since before Receives (call_of e r) did
+    made (adds ∙ ap (λ (calls : List Call). calls ++ (before ++ call_of e r ∷ [])) played)
+    (marked_own there old mid k (marks, since, played, all, is)) x)
 
 pub no_transmit_fault : NoTransmitFault
 no_transmit_fault w fifo start rest more h doers own old new f did made x =
     let there = played_by h doers (calls_of w.pass rest) in
     let last = call_of f.event f.reply in
     both_ways (sending.is_healthy f.move f.reply) f.sick
-    (last_is w fifo start rest more h doers (doers_moved f.plays.0) own old new f.plays.1 f.adds.0 (Sends f.move) last did
-    made (f.adds.1 ∙ ap (λ (calls : List Call). calls ++ (f.adds.0 ++ last ∷ [])) f.plays.2)
+    (last_is w fifo start rest more h doers (doers_moved f.plays.0) own old new f.plays.1 f.adds.0 (Sends f.move) last
+    did made (f.adds.1 ∙ ap (λ (calls : List Call). calls ++ (f.adds.0 ++ last ∷ [])) f.plays.2)
     (sends_own there f.plays.0 f.plays.1 f.plays.3) x)

@@ -24,7 +24,7 @@ use Rattle.receive_laws.specs.Short.{AreShort}
 use Rattle.receive_laws.proofs.Delivering.{events_before, events_behind, image_stays, legal_behind, lent_behind, vfs_stays}
 use Rattle.receive_laws.proofs.Short.{frames_stay_short, short_frames_end}
 use Rattle.transmit_laws.specs.Sent.{sent_by}
-use Rattle.driver_laws.specs.Halves.{Halves, Doer, OwnCall, AllOwn, after_call, is_neither}
+use Rattle.pmd.specs.Halves.{Halves, Doer, OwnCall, AllOwn, after_call, is_neither}
 use Rattle.driver_laws.specs.Histories.{OthersLeaveAlone, doer_of, doers_after}
 use Rattle.driver_laws.proofs.Meeting.{Meets}
 use Rattle.driver_laws.proofs.Next.{next_by}

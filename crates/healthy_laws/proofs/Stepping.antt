@@ -26,7 +26,7 @@ use Rattle.transmit_laws.proofs.Advancing.{setting_kept}
 use Rattle.transmit_laws.proofs.Healthy as transmit
 use Rattle.transmit_laws.proofs.LeftSide.{left-setting}
 use Rattle.transmit_laws.proofs.Lent as transmit_lent
-use Rattle.driver_laws.specs.Halves.{Halves, Doer, Receives, Sends, OwnCall, after_call, is_neither}
+use Rattle.pmd.specs.Halves.{Halves, Doer, Receives, Sends, OwnCall, after_call, is_neither}
 use Rattle.driver_laws.proofs.Meeting.{Meets}
 use Rattle.driver_laws.proofs.Receiving.{own_spares}
 use Rattle.driver_laws.proofs.Sending.{is_elsewhere, sender_lent}

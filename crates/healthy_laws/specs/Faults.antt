@@ -9,7 +9,7 @@ use Rattle.pmd_rx.specs.Receive.{Receive}
 use Rattle.pmd_rx.specs.Wrong.{EndsWrong}
 use Rattle.pmd_tx.specs.Plays.{Faults}
 use Rattle.pmd_tx.specs.Sending.{Sender}
-use Rattle.driver_laws.specs.Halves.{Halves, Doer, Receives, Sends, AllOwn, doers_marked, doers_moved, doers_other, played_by}
+use Rattle.pmd.specs.Halves.{Halves, Doer, Receives, Sends, AllOwn, doers_marked, doers_moved, doers_other, played_by}
 use Rattle.healthy_laws.specs.Healthy.{IsUnshared}
 
 -- whose the calls are that such a call makes: some of its half, then some of neither, and last the one that got a reply

@@ -14,7 +14,7 @@ use Rattle.pmd_tx.specs.Sending.{Elsewhere}
 use Rattle.history_laws.specs.Lent.{OnlyLent, LendsNone, LendsOwn, either}
 use Rattle.receive_laws.specs.Lent as received
 use Rattle.receive_laws.specs.Short.{AreShort}
-use Rattle.driver_laws.specs.Halves.{Halves, Doer, Receives, Sends, after_call}
+use Rattle.pmd.specs.Halves.{Halves, Doer, Receives, Sends, after_call}
 use Rattle.driver_laws.specs.Histories.{IsDriven, doer_of, doers_after}
 
 -- the reply to a call is one that a healthy queue gives

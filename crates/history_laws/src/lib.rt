@@ -26,8 +26,8 @@ pub fn histories_keep_devices_sound()
     ensures { HistoriesKeepSound }
 {}
 
-/// The base and the length of each ring of a device are multiples of 128, in a new device and through every history; and
-/// so what a step of transmitting reports lies in the block where it begins.
+/// The base and the length of each ring of a device are multiples of 128, in a new device and through every history;
+/// and so what a step of transmitting reports lies in the block where it begins.
 pub fn rings_stay_aligned()
     ensures new { NewRingsAreAligned }
     ensures event { EventsKeepAligned }

@@ -101,4 +101,5 @@ length-digits radix text = length-prefix_len (λ byte. is_digit byte radix) text
 pub IsCharBoundary-behind_digits : (radix : ℕ) (text : List ℕ) (n : ℕ) → radix ≤ 36 → n ≡ digits_in_front radix text
     → IsUtf8 text → IsCharBoundary text n
 IsCharBoundary-behind_digits radix text n high is utf8 =
-    IsCharBoundary-behind (λ byte. is_digit byte radix) (λ byte digit. is_digit-ascii radix byte high digit) text n is utf8
+    IsCharBoundary-behind (λ byte. is_digit byte radix) (λ byte digit. is_digit-ascii radix byte high digit) text n is
+    utf8

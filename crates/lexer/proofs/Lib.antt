@@ -13,3 +13,4 @@ pub mod SkippedLines
 pub mod LineBytes
 pub mod LineWords
 pub mod FrontLine
+pub mod FrontComment

@@ -5,3 +5,4 @@ pub mod Name
 pub mod HexData
 pub mod Pair
 pub mod TakenPair
+pub mod Wordless

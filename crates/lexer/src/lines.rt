@@ -1,12 +1,12 @@
 //! Lines.
 
-ghost use Rattle.std.specs.Prelude.{◌≡◌, ◌≢◌, ◌<◌, ℕ, List, [], ◌∷◌, length, MatchOption, IfSome};
+ghost use Rattle.std.specs.Prelude.{◌≡◌, ◌≢◌, ◌<◌, ◌≤◌, ℕ, List, [], ◌∷◌, length, MatchOption, IfSome};
 ghost use Rattle.std.specs.Str.Lines.{lines, strip_carriage_return};
 ghost use Rattle.std.specs.Iterator.{YieldsFirstBy, item_count};
 ghost use Rattle.std.specs.List.{prefix_len};
 ghost use Rattle.lexer.specs.Lines.{lines_of, is_nothing};
 
-use crate::pairs::pair_in_front;
+use crate::pairs::{behind_wordless, pair_in_front};
 use std::marker::Model;
 
 /// A line of a text, without its end.
@@ -73,15 +73,17 @@ pub(crate) fn behind_empty(text: &str) -> Option<&str>
         (λ behind. lines text.now ≡ [] ∷ lines behind.now) }
     ensures shorter { IfSome result (λ behind. length behind.now < length text.now) }
 {
-    match text.strip_prefix('\n') {
-        Some(behind) => Some(behind),
-        None => behind_return(text),
+    match text.as_bytes().first() {
+        Some(b'\n') => Some(&text[1..]),
+        Some(b'\r') => behind_return(text),
+        Some(_) | None => None,
     }
 }
 
 impl<'a> Lines<'a> {
     ghost use Rattle.std.specs.Prelude.{drop, true, None};
     ghost use Rattle.lexer.specs.Lines.{is_empty};
+    ghost use Rattle.lexer.specs.Wordless.{is_wordless};
     ghost use Rattle.lexer.specs.Name.{is_name};
     ghost use Rattle.lexer.specs.TakenPair.{TakesPair};
 
@@ -96,17 +98,21 @@ impl<'a> Lines<'a> {
         }
     }
 
-    /// Goes past the empty lines in front, and tells how many there were.
-    pub fn skip_empty(&mut self) -> usize
-        ensures count { result ≡ prefix_len is_empty self.old }
+    /// Goes past lines in front that have no words, and tells how many these were. All that are empty are
+    /// among them; a line without a line feed behind it may be left.
+    pub fn skip_wordless(&mut self) -> usize
+        ensures count { result ≤ prefix_len is_wordless self.old }
         ensures behind { self.new ≡ drop result self.old }
+        ensures filled { prefix_len is_empty self.new ≡ 0 }
     {
+        let mut rest = self.rest;
         let mut count = 0;
-        'each: while let Some(behind) = behind_empty(self.rest) {
-            self.rest = behind;
-            self.before += 1;
+        'each: while let Some(behind) = behind_wordless(rest) {
+            rest = behind;
             count += 1;
         }
+        self.rest = rest;
+        self.before += count;
         count
     }
 

@@ -1,7 +1,7 @@
 //! Numbers.
 
-ghost use Rattle.std.specs.Prelude.{◌≡◌, ◌≤◌, Some, Ok, take, drop, IfSome};
-ghost use Rattle.std.specs.Char.{digit_value};
+ghost use Rattle.std.specs.Prelude.{◌≡◌, ◌≢◌, ◌≤◌, ◌<◌, ℕ, List, ◌∷◌, false, MatchOption, Some, Ok, take, drop, IfSome};
+ghost use Rattle.std.specs.Char.{digit_value, is_digit};
 ghost use Rattle.lexer.specs.Number.{numeral_of, capped_numeral, digits_in_front, number_of, IsNumberInFront};
 
 use thiserror::Error;
@@ -49,6 +49,20 @@ fn digit_value(byte: u8) -> u8
     DIGIT_VALUES[usize::from(byte)]
 }
 
+/// The value of a byte as a digit of the radix, and no less than the radix where it's none.
+#[inline(always)]
+fn digit_of(radix: u8, byte: u8) -> u8
+    requires { radix ≤ 36 }
+    ensures digit { result < radix → result ≡ digit_value byte }
+    ensures other { radix ≤ result → is_digit byte radix ≡ false }
+{
+    if radix <= 10 {
+        byte.wrapping_sub(b'0')
+    } else {
+        digit_value(byte)
+    }
+}
+
 /// The number that the digits of the radix in front write, 2^32 in place of a greater one, and what stands behind them.
 #[inline(always)]
 fn split_numeral(radix: u8, bytes: &[u8]) -> (u64, &[u8])
@@ -60,7 +74,7 @@ fn split_numeral(radix: u8, bytes: &[u8]) -> (u64, &[u8])
     let mut value = 0;
     let mut rest = bytes;
     'each: while let Some((byte, more)) = rest.split_first() {
-        let digit = digit_value(*byte);
+        let digit = digit_of(radix, *byte);
         if digit >= radix {
             break;
         }
@@ -119,12 +133,24 @@ fn numeral_in_front(radix: u8, text: &str) -> Option<(u32, &str)>
     Some((value as u32, &text[count..]))
 }
 
+/// What stands behind `0x` in front.
+#[inline(always)]
+fn behind_mark(text: &str) -> Option<&str>
+    ensures { MatchOption result ((rest : List ℕ) → text.now ≢ 48 ∷ 120 ∷ rest)
+        (λ behind. text.now ≡ 48 ∷ 120 ∷ behind.now) }
+{
+    match text.as_bytes().first() {
+        Some(b'0') => text.strip_prefix("0x"),
+        Some(_) | None => None,
+    }
+}
+
 /// The number in front, and what stands behind its last digit. `None` where there is no number, or one too large.
 #[inline(always)]
 pub(crate) fn number_in_front(text: &str) -> Option<(u32, &str)>
     ensures { IfSome result (λ split. IsNumberInFront text.now split.0 split.1.now) }
 {
-    match text.strip_prefix("0x") {
+    match behind_mark(text) {
         Some(digits) => numeral_in_front(16, digits),
         None => numeral_in_front(10, text),
     }

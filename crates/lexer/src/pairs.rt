@@ -1,38 +1,68 @@
 //! Lines of a name and two numbers, each read in one look over its bytes.
 
-ghost use Rattle.std.specs.Prelude.{◌≡◌, ◌<◌, [], length, true, IfSome};
+ghost use Rattle.std.specs.Prelude.{◌≡◌, ◌<◌, ◌==◌, [], drop, length, not, position, true, None, IfSome};
 ghost use Rattle.std.specs.Str.Lines.{lines};
+ghost use Rattle.std.specs.List.{position_or_len, prefix_len};
+ghost use Rattle.lexer.specs.Lines.{is_nothing};
+ghost use Rattle.lexer.specs.Words.{is_blank};
 ghost use Rattle.lexer.specs.Name.{is_name};
 ghost use Rattle.lexer.specs.Pair.{RestOfLine, IsOperand, IsPairInFront};
 
-use crate::lines::{behind_empty, split_line};
+use crate::lines::behind_empty;
 use crate::numbers::number_in_front;
 use crate::words::behind_blanks;
+
+/// What stands behind the blanks in front, of which there is one at least.
+#[inline(always)]
+fn behind_some_blanks(text: &str) -> Option<&str>
+    ensures { IfSome result (λ behind.
+        (behind.now ≡ drop (position_or_len (λ byte. not (is_blank byte)) text.now) text.now)
+        × (length behind.now < length text.now)) }
+{
+    if let [b' ', b'0'..=b'9', ..] = text.as_bytes() {
+        return Some(&text[1..]);
+    }
+    let behind = behind_blanks(text);
+    if behind.len() == text.len() {
+        return None;
+    }
+    Some(behind)
+}
 
 /// The number behind the blanks in front, of which there is one at least, and what stands behind it.
 #[inline(always)]
 fn operand(text: &str) -> Option<(u32, &str)>
     ensures { IfSome result (λ split. IsOperand text.now split.0 split.1.now) }
 {
-    let behind = behind_blanks(text);
-    if behind.len() == text.len() {
-        return None;
-    }
-    number_in_front(behind)
+    number_in_front(behind_some_blanks(text)?)
+}
+
+/// Where the first line feed stands.
+#[inline(always)]
+fn first_line_feed(bytes: &[u8]) -> Option<usize>
+    ensures { result ≡ position (λ byte. byte == 10) bytes.now }
+{
+    bytes.iter().position(|byte| *byte == b'\n')
 }
 
 /// What stands behind the line of a comment in front.
+#[inline(always)]
 fn behind_comment(text: &str) -> Option<&str>
     ensures rest { IfSome result (λ rest. RestOfLine text.now [] (lines rest.now)) }
     ensures shorter { IfSome result (λ rest. length rest.now < length text.now) }
 {
-    let (_, rest) = split_line(text.strip_prefix('#')?)?;
-    Some(rest)
+    match text.as_bytes().first() {
+        Some(b'#') => {
+            let end = first_line_feed(text.as_bytes())?;
+            Some(&text[end + 1..])
+        }
+        Some(_) | None => None,
+    }
 }
 
-/// What stands behind a line that has no words here.
+/// What stands behind a line of blanks and a comment, or of blanks alone.
 #[inline(always)]
-fn behind_wordless(text: &str) -> Option<&str>
+fn behind_blank_line(text: &str) -> Option<&str>
     ensures rest { IfSome result (λ rest. RestOfLine text.now [] (lines rest.now)) }
     ensures shorter { IfSome result (λ rest. length rest.now < length text.now) }
 {
@@ -40,6 +70,19 @@ fn behind_wordless(text: &str) -> Option<&str>
     match behind_empty(text) {
         Some(rest) => Some(rest),
         None => behind_comment(text),
+    }
+}
+
+/// What stands behind a line that has no words here.
+#[inline(always)]
+pub(crate) fn behind_wordless(text: &str) -> Option<&str>
+    ensures rest { IfSome result (λ rest. RestOfLine text.now [] (lines rest.now)) }
+    ensures shorter { IfSome result (λ rest. length rest.now < length text.now) }
+    ensures filled { result ≡ None → prefix_len is_nothing (lines text.now) ≡ 0 }
+{
+    match behind_empty(text) {
+        Some(rest) => Some(rest),
+        None => behind_blank_line(text),
     }
 }
 

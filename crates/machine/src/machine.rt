@@ -60,8 +60,7 @@ pub struct NewRefused {
 }
 
 /// A program, the device that it runs on with an arena of blocks 0 to 255, and how far it has run: after n counted
-/// steps a machine is
-/// `machine_at` n. It isn't dropped, but finished.
+/// steps a machine is `machine_at` n. It isn't dropped, but finished.
 pub struct Machine {
     program: Program,
     config: Config,
@@ -129,9 +128,8 @@ impl Machine {
         self.processor.steps
     }
 
-    /// The number of the next instruction, counted from 0; the number of instructions where the end is reached.
-    /// `halt` and
-    /// an `expect` that fails leave it.
+    /// The number of the next instruction, counted from 0; the number of instructions where the end is reached. `halt`
+    /// and an `expect` that fails leave it.
     pub fn pc(&self) -> u16
         ensures { result ≡ self.now.state.pc }
     {

@@ -46,8 +46,7 @@ pub struct Parts {
 
 impl Device {
     /// A device after its reset, with no memory lent, the link up and a blank EEPROM image. A refused configuration is
-    /// told before memory is
-    /// asked for.
+    /// told before memory is asked for.
     pub fn new(alloc: Global, config: Config) -> Result<Self, NewFault>
         ensures made { IfOk result (λ device. device ≡ new_state config.vfs config.fifo) }
         ensures fits { OnOk result ((config.vfs ≤ MAX_VFS) × ¬ IsBadFifo config.fifo) }

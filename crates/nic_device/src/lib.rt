@@ -2,13 +2,12 @@
 //!
 //! A `Device` is seen by contracts as a `State`: its registers, the memory that is lent to it, the frames that wait to
 //! be received, the bytes that its transmit queues have staged, the frames that went out, whether the link is up, and
-//! the EEPROM's image, which `Device::install` puts in.
-//! `Device::step` makes one `Event` and answers a `Reply`, both by the definition `step_of`; `Device::run` makes a list
-//! of events, and `Device::peek_register`, `Device::peek_vf` and `Device::next_out` look without touching. Between two
-//! events a device is
-//! sound, as `Device::stays_sound` says: `Engine` has the parts and makes the events. The definitions stand in
-//! `specs/`, one file for each family of events, and the code beside them under the same name. The script machine, the
-//! debugger, the lock and the driver stand on this crate.
+//! the EEPROM's image, which `Device::install` puts in. `Device::step` makes one `Event` and answers a `Reply`, both by
+//! the definition `step_of`; `Device::run` makes a list of events, and `Device::peek_register`, `Device::peek_vf` and
+//! `Device::next_out` look without touching. Between two events a device is sound, as `Device::stays_sound` says:
+//! `Engine` has the parts and makes the events. The definitions stand in `specs/`, one file for each family of events,
+//! and the code beside them under the same name. The script machine, the debugger, the lock and the driver stand on
+//! this crate.
 #![tactic(auto)]
 
 mod access;

@@ -1,22 +1,39 @@
--- A driver that a start leaves has handed nothing out.
-use Rattle.std.proofs.Common.{◌≡◌, ℕ, List, [], ap, ◌∙◌}
+-- A driver that a start leaves has handed nothing out, and accepted nothing.
+use Rattle.std.proofs.Common.{◌≡◌, ℕ, List, [], inl, inr, refl, ap, ◌∙◌}
 use Rattle.dma_arena.specs.Numbers.{Numbers}
 use Rattle.device_lock.specs.declared.entry.Call.{Call}
 use Rattle.pmd_halt.specs.Halted.{Halted}
 use Rattle.pmd_queue.specs.Named.{AtPort}
 use Rattle.pmd_rx.specs.Receive.{Receive}
-use Rattle.pmd.specs.Started.{left_handed, IsHome, IsHalfStarted}
+use Rattle.pmd_tx.specs.Sending.{Sender}
+use Rattle.pmd.specs.Started.{left_accepted, left_handed, IsHome, IsHalfStarted, StopsStarting}
 use Rattle.pmd.specs.Starting.{IsReceiveReady}
 use Rattle.pmd.specs.declared.start.Rest.{Rest}
 use Rattle.pmd.specs.declared.start.Rest.TheVariants as rest
+use Rattle.pmd.specs.declared.start.StartRefused.{StartRefused}
 
 pub home_handed : (a : Numbers) (r : Rest) → IsHome a r → left_handed r ≡ []
 home_handed a (rest.Home h) is = let (arena, lost, handed, accepted) = is in handed
 home_handed a (rest.Running p) is = absurd is
 
+pub home_accepted : (a : Numbers) (r : Rest) → IsHome a r → left_accepted r ≡ []
+home_accepted a (rest.Home h) is = let (arena, lost, handed, accepted) = is in accepted
+home_accepted a (rest.Running p) is = absurd is
+
 pub half_handed : (q : AtPort) (h : Halted) (r : Rest) → h.handed ≡ [] → IsHalfStarted q h r → left_handed r ≡ []
 half_handed q h r none is = ap left_handed is ∙ none
+
+half_accepted : (q : AtPort) (h : Halted) (r : Rest) → h.accepted ≡ [] → IsHalfStarted q h r → left_accepted r ≡ []
+half_accepted q h r none is = ap left_accepted is ∙ none
 
 pub ready_handed : (q : AtPort) (size : ℕ) (old : List Call) (a : Numbers) (new : List Call) (b : Numbers)
     (v : Receive) → IsReceiveReady q size old a new b v → v.handed ≡ []
 ready_handed q size old a new b v ready = ap (λ (x : Receive). x.handed) ready.fresh
+
+-- a start that is refused amid its events leaves a driver that accepted nothing
+pub stops_accepted : (q : AtPort) (size : ℕ) (old : List Call) (a : Numbers) (new : List Call) (e : StartRefused)
+    → StopsStarting q size old a new e → left_accepted e.rest ≡ []
+stops_accepted q size old a new e (inl (fails, home)) = home_accepted a e.rest home
+stops_accepted q size old a new e (inr (inl one)) = half_accepted q _ e.rest refl one.left
+stops_accepted q size old a new e (inr (inr both)) =
+    half_accepted q _ e.rest (ap (λ (x : Sender). x.accepted) both.transmit.fresh) both.left

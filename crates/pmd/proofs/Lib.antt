@@ -1,8 +1,12 @@
 pub mod Blocks
 pub mod Both
+pub mod Calls
 pub mod Driving
 pub mod Handing
 pub mod Late
 pub mod Leaving
+pub mod Living
 pub mod Sending
 pub mod Starting
+pub mod Stopping
+pub mod Whole

@@ -2,14 +2,11 @@
 use Rattle.std.specs.Prelude.{◌≡◌, ℕ, ◌&&◌, nat_lt, not, Bool, true, List, ◌++◌}
 use Rattle.dma_arena.specs.Numbers.{Numbers, with_free}
 use Rattle.dma_arena.specs.Whereabouts.{times_in_hand}
-use Rattle.device_lock.specs.declared.entry.Call.{Call}
 use Rattle.pmd_base.specs.Home.{AreOut}
 use Rattle.pmd_rx.specs.Receive.{Receive}
 use Rattle.pmd_rx.specs.Keeping.{blocks_out, IsRunning}
-use Rattle.pmd_rx.specs.Plays as receive
 use Rattle.pmd_tx.specs.Sending.{Sender}
 use Rattle.pmd_tx.specs.Leaving.{lent_of}
-use Rattle.pmd_tx.specs.Plays as transmit
 use Rattle.pmd_tx.specs.Sends.{goes_home}
 
 -- the driver's arena and its two rings
@@ -26,11 +23,6 @@ rings_out r = blocks_out r.receive ++ lent_of r.transmit
 pub record IsUp (r : Running) : Type 0 where
   pub home : AreOut r.arena (rings_out r)
   pub filled : IsRunning r.receive
-
--- how both rings follow from the calls that were made
-pub record PlaysBoth (old : List Call) (r : Running) (new : List Call) (s : Running) : Type 0 where
-  pub receive : receive.Plays old r.receive new s.receive
-  pub transmit : transmit.Plays old r.transmit new s.transmit
 
 -- whether the receive ring has a block of this number
 abbrev pub receives : Running → ℕ → Bool

@@ -10,7 +10,7 @@ use Rattle.pmd_queue.specs.Named.{AtPort, queues_named}
 use Rattle.pmd_rx.specs.Receive.{Receive}
 use Rattle.pmd_tx.specs.Sending.{Sender}
 use Rattle.pmd_halt.specs.Halted.{Halted, with_rings, with_receive_ring}
-use Rattle.pmd.specs.Driver.{Driver, handed_of}
+use Rattle.pmd.specs.Driver.{Driver, accepted_of, handed_of}
 use Rattle.pmd.specs.Running.{Running}
 use Rattle.pmd.specs.Starting.{IsReceiveReady, IsTransmitReady, GoesOn, ReceiveFails, PreparingFails, GoingOnFails}
 use Rattle.pmd.specs.declared.driver.Rings.TheVariants.{Up, Down}
@@ -41,6 +41,11 @@ IsHome a (rest.Running p) = ⊥
 abbrev pub left_handed : Rest → List Kept
 left_handed (rest.Home h) = h.handed.items
 left_handed (rest.Running p) = handed_of p.rings
+
+-- what the driver accepted that a start leaves
+abbrev pub left_accepted : Rest → List Kept
+left_accepted (rest.Home h) = h.accepted.items
+left_accepted (rest.Running p) = accepted_of p.rings
 
 -- it was refused before any event, for this fault
 abbrev pub IsShut : Option PmdFault → Numbers → List Call → List Call → Result Driver StartRefused → Type 0

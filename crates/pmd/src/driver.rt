@@ -11,7 +11,8 @@ ghost use Rattle.pmd_tx.specs.Plays.{LooksLast, FaultsBy};
 ghost use Rattle.pmd_tx.specs.Sends.{gate_of, returned, IsAnswer, IsShut, IsAccepted, IsNoneAccepted, IsBack, IsLate, Frees};
 ghost use Rattle.pmd_halt.specs.Halted.{Halted, all_out, is_free_or_out};
 ghost use Rattle.pmd_halt.specs.Stopping.{Stops, StopFails};
-ghost use Rattle.pmd.specs.Running.{PlaysBoth, receives};
+ghost use Rattle.pmd.specs.Life.{KeepsHalves, RunsOn};
+ghost use Rattle.pmd.specs.Running.{receives};
 ghost use Rattle.pmd.specs.Driver.{arena_of, handed_of, accepted_of, goes_back_to, with_arena, halted_of, WhereUp, IsDown};
 
 use crate::running::Running;
@@ -88,8 +89,7 @@ impl Pmd {
     /// gives, `Call` where a call was refused, or there was no memory for the packet's record: the driver keeps where
     /// it was, and the next call goes on. `DeviceFault` without any event where the driver doesn't run.
     pub fn rx<N: Nic>(&mut self, alloc: Global, nic: &mut N) -> Result<Option<Packet>, PmdFault>
-        ensures plays { WhereUp self.old.rings self.new.rings (λ r s.
-            PlaysBoth (N.made nic.old) r (N.made nic.new) s) }
+        ensures drives { RunsOn (N.made nic.old) self.old.rings (N.made nic.new) self.new.rings }
         ensures some { WhereUp self.old.rings self.new.rings (λ r s. IfOk result (λ out. IfSome out (λ packet.
             s.receive.handed ≡ r.receive.handed ++ kept_of packet ∷ []))) }
         ensures none { WhereUp self.old.rings self.new.rings (λ r s. IfOk result (λ out. IfNone out (
@@ -131,8 +131,7 @@ impl Pmd {
         nic: &mut N,
         packet: Packet,
     ) -> Result<TxAnswer, TxFault>
-        ensures plays { WhereUp self.old.rings self.new.rings (λ r s.
-            PlaysBoth (N.made nic.old) r (N.made nic.new) s) }
+        ensures drives { RunsOn (N.made nic.old) self.old.rings (N.made nic.new) self.new.rings }
         ensures answer { WhereUp self.old.rings self.new.rings (λ r s. IsAnswer
             (gate_of r.transmit r.arena (receives r packet.buf.number) packet) packet result) }
         ensures shut { WhereUp self.old.rings self.new.rings (λ r s.
@@ -173,8 +172,7 @@ impl Pmd {
     /// `DeviceFault` where the device answers what it can't on a healthy queue, and `Call` where a call was refused:
     /// what was freed before stays free. `DeviceFault` without any event where the driver doesn't run.
     pub fn reap<N: Nic>(&mut self, alloc: Global, nic: &mut N) -> Result<Reaped, PmdFault>
-        ensures plays { WhereUp self.old.rings self.new.rings (λ r s.
-            PlaysBoth (N.made nic.old) r (N.made nic.new) s) }
+        ensures drives { RunsOn (N.made nic.old) self.old.rings (N.made nic.new) self.new.rings }
         ensures idle { WhereUp self.old.rings self.new.rings (λ r s. IfOk result (λ done.
             IsTrue done.idle ↔ (s.transmit.outstanding ≡ []))) }
         ensures waits { WhereUp self.old.rings self.new.rings (λ r s. IfOk result (λ done.
@@ -210,6 +208,7 @@ impl Pmd {
         ensures none { IsNone result ↔ ((2048 < len) ⊎ (free_count (arena_of self.old.rings) ≡ 0)) }
         ensures made { IsFresh (arena_of self.old.rings) len result (arena_of self.new.rings) }
         ensures rings { self.new.rings ≡ with_arena self.old.rings (arena_of self.new.rings) }
+        ensures halves { KeepsHalves self.old.rings self.new.rings }
         ensures queue { self.new.queue ≡ self.old.queue }
     {
         match &mut self.rings {
@@ -226,6 +225,7 @@ impl Pmd {
             ≡ with_arena self.old.rings (with_free (arena_of self.old.rings) packet.buf.number true)) }
         ensures back { IfErr result (λ back. back ≡ packet) }
         ensures kept { OnErr result (self.new.rings ≡ self.old.rings) }
+        ensures halves { KeepsHalves self.old.rings self.new.rings }
         ensures queue { self.new.queue ≡ self.old.queue }
     {
         match &mut self.rings {

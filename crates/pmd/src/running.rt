@@ -9,7 +9,8 @@ ghost use Rattle.pmd_rx.specs.Plays.{LooksOnce};
 ghost use Rattle.pmd_rx.specs.Wrong.{FailsBy, PacketWaits};
 ghost use Rattle.pmd_tx.specs.Plays.{LooksLast, FaultsBy};
 ghost use Rattle.pmd_tx.specs.Sends.{gate_of, returned, IsAnswer, IsShut, IsAccepted, IsNoneAccepted, IsBack, IsLate, Frees};
-ghost use Rattle.pmd.specs.Running.{IsUp, PlaysBoth, IsReleased, goes_back, receives};
+ghost use Rattle.pmd.specs.Halves.{Drives, halves_of};
+ghost use Rattle.pmd.specs.Running.{IsUp, IsReleased, goes_back, receives};
 
 use dma_arena::Arena;
 use pmd_base::{Nic, Packet, PmdFault, Record, fresh_packet, give_packet};
@@ -86,7 +87,7 @@ impl Running {
     /// gives, `Call` where a call was refused, or there was no memory for the packet's record: the driver keeps where
     /// it was, and the next call goes on.
     pub fn rx<N: Nic>(&mut self, alloc: Global, nic: &mut N) -> Result<Option<Packet>, PmdFault>
-        ensures plays { PlaysBoth (N.made nic.old) self.old (N.made nic.new) self.new }
+        ensures drives { Drives (N.made nic.old) (halves_of self.old) (N.made nic.new) (halves_of self.new) }
         ensures some { IfOk result (λ out. IfSome out (λ packet.
             self.new.receive.handed ≡ self.old.receive.handed ++ kept_of packet ∷ [])) }
         ensures none { IfOk result (λ out. IfNone out (
@@ -116,7 +117,7 @@ impl Running {
         nic: &mut N,
         packet: Packet,
     ) -> Result<TxAnswer, TxFault>
-        ensures plays { PlaysBoth (N.made nic.old) self.old (N.made nic.new) self.new }
+        ensures drives { Drives (N.made nic.old) (halves_of self.old) (N.made nic.new) (halves_of self.new) }
         ensures answer { IsAnswer
             (gate_of self.old.transmit self.old.arena (receives self.old packet.buf.number) packet) packet result }
         ensures shut { IsShut (gate_of self.old.transmit self.old.arena (receives self.old packet.buf.number) packet)
@@ -143,7 +144,7 @@ impl Running {
     /// `DeviceFault` where the device answers what it can't on a healthy queue, and `Call` where a call was refused:
     /// what was freed before stays free.
     pub fn reap<N: Nic>(&mut self, alloc: Global, nic: &mut N) -> Result<Reaped, PmdFault>
-        ensures plays { PlaysBoth (N.made nic.old) self.old (N.made nic.new) self.new }
+        ensures drives { Drives (N.made nic.old) (halves_of self.old) (N.made nic.new) (halves_of self.new) }
         ensures idle { IfOk result (λ done. IsTrue done.idle ↔ (self.new.transmit.outstanding ≡ [])) }
         ensures waits { IfOk result (λ done. done.idle ≡ false
             → LooksLast (N.made nic.old) self.old.transmit (N.made nic.new) self.new.transmit) }

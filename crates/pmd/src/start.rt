@@ -4,8 +4,9 @@ ghost use Rattle.std.specs.Prelude.{◌≡◌, ◌<◌, ◌≤◌, [], None, Som
 ghost use Rattle.dma_arena.specs.Numbers.{free_count};
 ghost use Rattle.pmd_halt.specs.Halted.{Halted};
 ghost use Rattle.pmd.specs.Starting.{ComesLate};
-ghost use Rattle.pmd.specs.Driver.{handed_of};
-ghost use Rattle.pmd.specs.Started.{is_size, start_gate, left_handed, IsHome, IsShut, HasStarted, IsHalfStarted, StopsStarting};
+ghost use Rattle.pmd.specs.Blocks.{HasAll, IsWhole};
+ghost use Rattle.pmd.specs.Driver.{handed_of, halted_of};
+ghost use Rattle.pmd.specs.Started.{is_size, start_gate, left_accepted, left_handed, IsHome, IsShut, HasStarted, IsHalfStarted, StopsStarting};
 
 use crate::driver::{Pmd, Rings};
 use crate::rings::{go_on, receive_ring, transmit_ring};
@@ -103,6 +104,8 @@ fn bring_up<N: Nic>(
     ensures late { IfErr result (λ e. ComesLate e.fault) }
     ensures none { IfOk result (λ p. handed_of p.rings ≡ []) }
     ensures left { IfErr result (λ e. left_handed e.rest ≡ []) }
+    ensures blocks { IfOk result (λ p. HasAll arena (halted_of p.rings) []) }
+    ensures whole { IfErr result (λ e. IsWhole arena e.rest) }
     ensures who { N.who nic.new ≡ N.who nic.old }
 {
     let mut arena = arena;
@@ -155,6 +158,9 @@ impl Pmd {
             → ComesLate e.fault) }
         ensures none { IfOk result (λ p. handed_of p.rings ≡ []) }
         ensures left { IfErr result (λ e. left_handed e.rest ≡ []) }
+        ensures accepted { IfErr result (λ e. left_accepted e.rest ≡ []) }
+        ensures blocks { IfOk result (λ p. HasAll arena (halted_of p.rings) []) }
+        ensures whole { IfErr result (λ e. IsWhole arena e.rest) }
         ensures who { N.who nic.new ≡ N.who nic.old }
     {
         match named(&arena, port, queue, size) {

@@ -33,7 +33,7 @@ one_own : (s t : Bringing) → BringsOne s t → (k : ℕ) → is_own t.arena k 
 one_own s t (n, is, inl brought) k = rw brought.arena (is_own-with_free s.arena n true k)
 one_own s t (n, is, inr missed) k = rw missed.arena refl
 
-brings_own : (count : ℕ) (s t : Bringing) → Brings count s t → (k : ℕ) → is_own t.arena k ≡ is_own s.arena k
+pub brings_own : (count : ℕ) (s t : Bringing) → Brings count s t → (k : ℕ) → is_own t.arena k ≡ is_own s.arena k
 brings_own zero s t same k = rw same refl
 brings_own (suc count) s t (mid, before, one) k = one_own mid t one k ∙ brings_own count s mid before k
 

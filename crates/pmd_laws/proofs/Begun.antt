@@ -11,7 +11,7 @@ use Rattle.pmd_tx.specs.Sending as transmit
 use Rattle.pmd_tx.specs.Sending.{Sender, has_lent}
 use Rattle.receive_laws.specs.Steps.{Each}
 use Rattle.driver_laws.specs.Agreeing.{AreApart, AreLent}
-use Rattle.driver_laws.specs.Halves.{Halves}
+use Rattle.pmd.specs.Halves.{Halves}
 
 -- a block that is drawn from an arena isn't free there any more
 pub drawn_apart : (a b : Numbers) (ring other : ℕ) → is_free a ring ≡ true → b ≡ with_free a ring false

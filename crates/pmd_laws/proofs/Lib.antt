@@ -1,3 +1,5 @@
 pub mod Begun
+pub mod Ends
 pub mod Looks
 pub mod Order
+pub mod Told

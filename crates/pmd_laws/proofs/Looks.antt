@@ -1,5 +1,6 @@
 -- A look that finds no packet, within a longer history.
 use Rattle.std.proofs.Common.{◌≡◌, ℕ, List, [], ◌∷◌, ◌++◌, refl, sym, ap, ◌∙◌, subst, append_assoc}
+use Rattle.std.proofs.lemmas.List.{same_from_push}
 use Rattle.dma_arena.specs.Numbers.{Numbers}
 use Rattle.nic_device.specs.State.{State, new_state}
 use Rattle.nic_device.specs.Step.{reply_to}
@@ -20,33 +21,20 @@ use Rattle.pmd_rx.specs.Receive.{Receive, descriptor_at}
 use Rattle.receive_laws.specs.Delivered.{delivered}
 use Rattle.receive_laws.specs.Histories.{FindsNone}
 use Rattle.receive_laws.proofs.Delivering.{events_before, legal_behind}
-use Rattle.start_laws.specs.Along.{AtEntries, IsAlong}
+use Rattle.start_laws.specs.Along.{IsAlong}
 use Rattle.start_laws.specs.Start.{BeginsWell}
 use Rattle.start_laws.proofs.Along.{legal_before}
 use Rattle.driver_laws.specs.Going.{GoesOn}
-use Rattle.driver_laws.specs.Halves.{Halves, halves_of}
-use Rattle.driver_laws.proofs.Calls.{halves_go_on, others_go_on}
+use Rattle.pmd.specs.Halves.{Halves, halves_of}
+use Rattle.driver_laws.proofs.Going.{halves_go_on, others_go_on}
 use Rattle.pmd_laws.specs.Looks.{LooksInVain, NoneIsAllBefore}
 use Rattle.pmd_laws.specs.Order.{IsLived}
 use Rattle.pmd_laws.proofs.Order.{none_of_life}
 
--- lists that end alike are alike before
-before_last : (xs ys : List Call) (x y : Call) → xs ++ x ∷ [] ≡ ys ++ y ∷ [] → (xs ≡ ys) × (x ≡ y)
-before_last [] [] x y e = (refl, cc)
-before_last [] (b ∷ []) x y e = cc
-before_last [] (b ∷ c ∷ ys) x y e = cc
-before_last (a ∷ []) [] x y e = cc
-before_last (a ∷ c ∷ xs) [] x y e = cc
-before_last (a ∷ xs) (b ∷ ys) x y e =
-    let first : a ≡ b = cc in
-    let rest : xs ++ x ∷ [] ≡ ys ++ y ∷ [] = cc in
-    let same = before_last xs ys x y rest in
-    (λ i. first i ∷ same.0 i, same.1)
-
 -- what begins a history is one too
 
 module _ (w : Watched) (fifo : ℕ) (h before rest : List Entry) (all : before ++ rest ≡ h) where
-  along_before : IsAlong w fifo h → IsAlong w fifo before
+  pub along_before : IsAlong w fifo h → IsAlong w fifo before
   along_before x = record {
     small = x.small;
     new = x.new;
@@ -55,17 +43,13 @@ module _ (w : Watched) (fifo : ℕ) (h before rest : List Entry) (all : before +
     alone = beginning_alone w before rest (subst (LeavesAlone w) (sym all) x.alone);
   }
 
-  entries_before : (calls : List Call) (P : List Entry → Type 0) → AtEntries w h calls P → AtEntries w before calls P
-  entries_before calls P at done more both is =
-      at done (more ++ rest)
-      (sym (append_assoc done more rest) ∙ ap (λ (l : List Entry). l ++ rest) both ∙ all) is
-
-  begins_before : (q : AtPort) (size : ℕ) (old : List Call) (a : Numbers) (new : List Call) (r : Running)
+  pub begins_before : (q : AtPort) (size : ℕ) (old : List Call) (a : Numbers) (new : List Call) (r : Running)
       (up : AreUp q size old a new r) → BeginsWell w fifo h q size old a new r up
       → BeginsWell w fifo before q size old a new r up
   begins_before q size old a new r up x = record {
-    ground = entries_before up.receive.quiet.0 _ x.ground;
-    bare = entries_before up.receive.mid _ x.bare;
+    ground = λ done more e both own is.
+        x.ground done (more ++ rest) e
+        (sym (append_assoc done (e ∷ more) rest) ∙ ap (λ (l : List Entry). l ++ rest) both ∙ all) own is;
   }
 
 module _ (w : Watched) (fifo : ℕ) (h : List Entry) (q : AtPort) (size : ℕ) (old : List Call) (a : Numbers)
@@ -79,7 +63,7 @@ module _ (w : Watched) (fifo : ℕ) (h : List Entry) (q : AtPort) (size : ℕ) (
 
   ends : (calls_of w.pass x.look.before ≡ made ++ x.looks.0) × (call_in x.look.entry ≡ looking)
   ends =
-      before_last (calls_of w.pass x.look.before) (made ++ x.looks.0) (call_in x.look.entry) looking
+      same_from_push (calls_of w.pass x.look.before) (made ++ x.looks.0) (call_in x.look.entry) looking
       (x.look.made ∙ x.looks.2 ∙ sym (append_assoc made x.looks.0 (looking ∷ [])))
 
   goes_on : GoesOn started (halves_of r) (made ++ x.looks.0) k

@@ -25,9 +25,9 @@ use Rattle.start_laws.proofs.Lends.{IsLentBy}
 use Rattle.start_laws.proofs.Start.{on_some, other_lent, ring_lent, start_agrees, start_goes_on}
 use Rattle.driver_laws.specs.Agreeing.{AreApart, AreLent}
 use Rattle.driver_laws.specs.Going.{GoesOn}
-use Rattle.driver_laws.specs.Halves.{AllOwn, Doer, Halves, OthersStep, halves_of, played_by}
+use Rattle.pmd.specs.Halves.{AllOwn, Doer, Halves, OthersStep, halves_of, played_by}
 use Rattle.driver_laws.specs.Histories.{IsDriven}
-use Rattle.driver_laws.proofs.Calls.{halves_go_on, receiving_goes_on}
+use Rattle.driver_laws.proofs.Going.{halves_go_on, receiving_goes_on}
 use Rattle.driver_laws.proofs.InOrder.{counted_where_up, handed_is_prefix, idle_is_all_sent, none_is_all, sent_is_prefix}
 use Rattle.driver_laws.proofs.Steps.{steps_by_calls, steps_leave_alone}
 use Rattle.pmd_laws.specs.Order as order

@@ -1,3 +1,5 @@
+pub mod Ends
 pub mod Life
 pub mod Looks
 pub mod Order
+pub mod Told

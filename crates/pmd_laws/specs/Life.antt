@@ -7,7 +7,7 @@ use Rattle.pmd.specs.Started.{AreUp, is_size}
 use Rattle.pmd_queue.specs.Named.{AtPort}
 use Rattle.start_laws.specs.Start.{OnlySteps}
 use Rattle.driver_laws.specs.Going.{GoesOn}
-use Rattle.driver_laws.specs.Halves.{Halves, OthersStep, doers_marked, halves_of}
+use Rattle.pmd.specs.Halves.{Halves, OthersStep, doers_marked, halves_of}
 
 -- the calls up to now: when these were made the driver started with this arena, and when these were it ran, with both
 -- rings up; and since then its halves went on. Beside its own calls its pass made steps of the device alone

@@ -13,7 +13,7 @@ use Rattle.pmd_rx.specs.Receive.{Receive}
 use Rattle.receive_laws.specs.Delivered.{delivered}
 use Rattle.start_laws.specs.Along.{IsAlong}
 use Rattle.start_laws.specs.Start.{BeginsWell}
-use Rattle.driver_laws.specs.Halves.{Halves, OthersStep}
+use Rattle.pmd.specs.Halves.{Halves, OthersStep}
 use Rattle.pmd_laws.specs.Life.{IsLife}
 
 -- an entry of a history by which the pass has made just these calls

@@ -16,7 +16,7 @@ use Rattle.transmit_laws.specs.Laws as transmit
 use Rattle.transmit_laws.specs.Sent.{sent_since}
 use Rattle.start_laws.specs.Along.{IsAlong}
 use Rattle.start_laws.specs.Start.{BeginsWell}
-use Rattle.driver_laws.specs.Halves.{Halves}
+use Rattle.pmd.specs.Halves.{Halves}
 use Rattle.pmd_laws.specs.Life.{IsLife}
 
 -- a legal history of a new device that leaves the queue alone, in which the pass made just the calls of this life

@@ -1,15 +1,14 @@
 -- What contracts see of a ring's fields.
-use Rattle.std.proofs.Common.{◌≡◌, ◌≢◌, ℕ, ◌-◌, ◌<◌, ◌==◌, Bool, false, nat_eq, List, [], length, drop, refl, sym, ap, ◌∙◌, arith}
+use Rattle.std.proofs.Common.{◌≡◌, ◌≢◌, ℕ, ◌-◌, ◌<◌, ◌==◌, Bool, false, nat_eq, List, length, drop, refl, sym, ap, ◌∙◌, arith}
 use Rattle.std.proofs.lemmas.Bool.Decides.{nat_tests}
-use Rattle.std.proofs.lemmas.List.{nil_from_length}
 use Rattle.std.specs.List.{list_any}
 use Rattle.dma_ring.specs.Ring.{next_of}
 use Rattle.pmd_base.specs.Packet.{Kept}
 use Rattle.pmd_tx.specs.Sending.{Sender, Layout, blocks_of, has_lent, reaped}
 use Rattle.pmd_tx.specs.Sends.{forgotten}
-use Rattle.pmd_tx.specs.Shown.{IsRing, outstanding_of}
+use Rattle.pmd_tx.specs.Shown.{IsRing}
 use Rattle.pmd_tx.proofs.Fields.{shown}
-use Rattle.pmd_tx.proofs.Outstanding.{blocks-outstanding, length-outstanding, outstanding-drop}
+use Rattle.pmd_tx.proofs.Outstanding.{blocks-outstanding, outstanding-drop}
 
 module _ (l : Layout) (bs : List ℕ) (posted : ℕ) (poked seen : Bool) (ks : List Kept)
     (h : IsRing l bs posted poked seen ks)
@@ -33,8 +32,3 @@ module _ (l : Layout) (bs : List ℕ) (posted : ℕ) (poked seen : Bool) (ks : L
         rw off
         (any ∙ ap (λ (xs : List ℕ). list_any (nat_eq n) xs)
         (sym (blocks-outstanding bs ks h.known) ∙ ap (λ (x : Sender). blocks_of x.outstanding) is))
-
-    pub none_shown : (v : Sender) → shown l bs posted poked seen ks ≡ v → length bs ≡ 0 → v.outstanding ≡ []
-    none_shown v is zero =
-        sym (ap (λ (x : Sender). x.outstanding) is)
-        ∙ nil_from_length (outstanding_of bs ks) (length-outstanding bs ks h.known ∙ zero)

@@ -112,14 +112,6 @@ impl TransmitRing {
         self.accepted.as_slice()
     }
 
-    /// What was accepted, the oldest first, once the ring is done with.
-    pub fn into_accepted(self) -> Vec<Record>
-        ensures { result.items ≡ self.accepted }
-    {
-        let TransmitRing { accepted, .. } = self;
-        accepted
-    }
-
     /// Ends the ring: its blocks are on their way home, and what was accepted is given away, the oldest first. Where
     /// there is no memory, the ring comes back as it was.
     #[tactic(auto, using(crate::proofs::Outstanding::outstanding))]
@@ -193,19 +185,6 @@ impl TransmitRing {
         ensures { result ≡ length self.now.outstanding }
     {
         self.blocks.len() as u16
-    }
-
-    /// The block of the oldest outstanding packet. None where none is outstanding.
-    #[tactic(auto, using(crate::proofs::Outstanding::outstanding))]
-    pub fn oldest(&self) -> Option<u32>
-        ensures none { IsNone result ↔ (self.now.outstanding ≡ []) }
-        ensures some { IfSome result (λ block. block ≡ (packet_at self.now 0).block) }
-    {
-        if self.blocks.is_empty() {
-            None
-        } else {
-            Some(self.blocks[0])
-        }
     }
 
     /// Lets the oldest outstanding packet go, whose block is taken back or lost.

@@ -67,8 +67,7 @@ data_from first (Data other string ∷ more) name =
 data_from first (Instruction draft ∷ more) name = data_from first more name
 
 -- a statement fits behind others: a label or data has a new name, data isn't too long, and there are fewer than 1,024
--- other
--- strings, or 4,096 other instructions
+-- other strings, or 4,096 other instructions
 abbrev pub FitsBehind : List Statement → Statement → Type 0
 FitsBehind before Empty = ⊤
 FitsBehind before (Label name) = label_from 0 before name ≡ None
@@ -81,9 +80,8 @@ abbrev pub Fit : List Statement → List Statement → Type 0
 Fit before [] = ⊤
 Fit before (statement ∷ more) = FitsBehind before statement × Fit (before ++ statement ∷ []) more
 
--- what an instruction of a line is in the program: a label that it names is where it jumps, data that it names is
--- there by
--- its number, and what it pokes has 16 bytes
+-- what an instruction of a line is in the program: a label that it names is where it jumps, data that it names is there
+-- by its number, and what it pokes has 16 bytes
 abbrev pub Means : (List ℕ → Option ℕ) → (List ℕ → Option ℕ) → List (List ℕ) → Draft → Step ℕ ℕ → Type 0
 Means labels names strings (Write address word) i = i ≡ Write address word
 Means labels names strings (Read address) i = i ≡ Read address

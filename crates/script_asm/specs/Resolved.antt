@@ -91,8 +91,7 @@ IsInRange (Jump name) = ⊤
 IsInRange Halt = ⊤
 
 -- what lines have said makes a program: labels stand at instructions or at the end, data numbers have their strings,
--- and
--- nothing is out of its range
+-- and nothing is out of its range
 pub record IsReady (outline : Outline) : Type 0 where
   pub few_drafts : length outline.drafts ≤ 4096
   pub few_strings : length outline.strings ≤ 1024

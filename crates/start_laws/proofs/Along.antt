@@ -265,6 +265,18 @@ module _ (w : Watched) (fifo : ℕ) (h : List Entry) (x : IsAlong w fifo h) wher
       (alone p.front p.back rest whole called))
       p.backs (at p.front (p.back ++ rest) (sym (append_assoc p.front p.back rest) ∙ whole) p.fronts))
 
+  -- entries of others keep it, once the pass has made a call
+  pub kept_on : (P : List Entry → Type 0) → KeptOver w fifo (lent_by w.pass h) P → (front back rest : List Entry)
+      → (front ++ back) ++ rest ≡ h → calls_of w.pass front ≢ [] → calls_of w.pass back ≡ [] → P front
+      → P (front ++ back)
+  kept_on P kept front back rest all some none p =
+      let behind = events_behind front (back ++ rest) (events front back rest all some) in
+      stay w fifo (lent_by w.pass h) P kept (mode_through w.vfs Off front) (reached w fifo front) front back refl
+      (there front back rest all some) (events_before back rest behind)
+      (legal_behind new front back (legal_before new (front ++ back) rest (legal front back rest all some)))
+      (alone_before (lent_by w.pass h) (mode_through w.vfs Off front) back rest (alone front back rest all some))
+      none p
+
 -- after some steps of the device and one call more the other holds of the entries so far, where both are kept
 pub entries_lead : (w : Watched) (fifo : ℕ) (h : List Entry) (P Q : List Entry → Type 0) (old before : List Call)
     (c : Call) → IsAlong w fifo h → KeptOver w fifo (lent_by w.pass h) P → KeptOver w fifo (lent_by w.pass h) Q

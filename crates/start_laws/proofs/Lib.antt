@@ -1,5 +1,6 @@
 pub mod Accesses
 pub mod Along
+pub mod First
 pub mod Fresh
 pub mod LeftReceive
 pub mod LeftZero

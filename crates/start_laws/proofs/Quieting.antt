@@ -1,5 +1,5 @@
 -- A driver that starts sees both sides of its queue off.
-use Rattle.std.proofs.Common.{◌≡◌, ◌≢◌, ℕ, ◌<◌, Bool, true, false, not, ◌&&◌, List, [], refl, sym, ap, ◌∙◌, subst}
+use Rattle.std.proofs.Common.{◌≡◌, ◌≢◌, ℕ, ◌<◌, Bool, true, false, not, ◌&&◌, List, [], ◌∷◌, ◌++◌, refl, sym, ap, ◌∙◌, subst, append_assoc}
 use Rattle.std.specs.Prelude.{IsTrue}
 use Rattle.reg_table.specs.declared.rows.RowId.{RowId}
 use Rattle.reg_table.specs.declared.rows.RowId.TheVariants.{Rxdctl, Txdctl}
@@ -27,12 +27,13 @@ use Rattle.pmd_queue.specs.Named.{AtPort, IsNumberOf, is_driven}
 use Rattle.receive_laws.proofs.Delivering.{events_before}
 use Rattle.transmit_laws.specs.Off as transmit
 use Rattle.transmit_laws.proofs.Guard.{guard_is_off}
-use Rattle.start_laws.specs.Along.{AtCalls, IsAlong, IsKept, Leads}
+use Rattle.start_laws.specs.Along.{AtCalls, BeforeLast, IsAlong, IsKept, Leads}
 use Rattle.start_laws.specs.Numbers.{NumbersName}
 use Rattle.start_laws.specs.Points.{HasGround, Point, Sides, StepsBefore, StepsBetween}
 use Rattle.start_laws.specs.Quiet.{IsUnwanted, IsOff, no_block}
 use Rattle.start_laws.specs.Quieting.{IsQuiet, QuietingLeads, QuietSidesStand, are_off}
 use Rattle.start_laws.proofs.Along.{calls_lead}
+use Rattle.start_laws.proofs.First.{first_leads}
 use Rattle.start_laws.proofs.Numbers.{ground_names}
 use Rattle.start_laws.proofs.Off.{ground_kept, unwanted_kept, off_kept, transmit_unwanted_kept, transmit_off_kept}
 use Rattle.start_laws.proofs.Points.{driven_plain, ground_same, made_some, read_ground}
@@ -161,12 +162,23 @@ module _ (w : Watched) (q : AtPort) (fifo : ℕ) (h : List Entry) (along : IsAlo
       let x = at done rest all (is ∙ e) in
       record { ground = x.0.0; receive = x.0.1; transmit = x.1 }
 
+  -- the first of them, a read, keeps what it rests on
+  begun : (old new : List Call) → IsMade q old new (Sees Rxdctl false) → BeforeLast w fifo h new Ground
+      → AtCalls w fifo h new Ground
+  begun old new (number, word, named, is, (before, added)) at =
+      let c = call_of (event.Read q.port number) (reply.Word word) in
+      let made : (old ++ before) ++ c ∷ [] ≡ new = append_assoc old before (c ∷ []) ∙ sym added in
+      subst (λ (calls : List Call). AtCalls w fifo h calls Ground) made
+      (first_leads w fifo h Ground (old ++ before) c along (ground_kept w mine q)
+      (λ s g. read_ground w mine q s number g)
+      (subst (λ (calls : List Call). BeforeLast w fifo h calls Ground) (sym made) at))
+
   quieted : (old new : List Call) (made : AreMade q old new both_quiet) → StepsBetween q old new both_quiet made
-      → AtCalls w fifo h made.0 Ground → AtCalls w fifo h new (IsQuiet w.queue q)
+      → BeforeLast w fifo h made.0 Ground → AtCalls w fifo h new (IsQuiet w.queue q)
   quieted old new (m1, a1, (m2, a2, (m3, a3, (m4, a4, (m5, a5, (m6, a6, e))))))
       (s1, (s2, (s3, (s4, (s5, (s6, none)))))) at =
       let asked_at = set Ground Asked Rxdctl 0 (ground_kept w mine q) asked_kept ask_receive m1 m2 a2 s2
-      (made_some q old m1 (Sees Rxdctl false) a1) at in
+      (made_some q old m1 (Sees Rxdctl false) a1) (begun old m1 a1 at) in
       let off_at = seen Asked Off Rxdctl false asked_kept both_off_kept see_receive m2 m3 a3 s3
       (made_some q m1 m2 (Sets Rxdctl 0) a2) asked_at in
       let first_at = seen Off Off Txdctl false both_off_kept both_off_kept see_first m3 m4 a4 s4

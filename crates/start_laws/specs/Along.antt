@@ -6,7 +6,7 @@ use Rattle.nic_device.specs.State.{State, new_state}
 use Rattle.nic_device.specs.Step.{after, reply_to}
 use Rattle.nic_device.specs.declared.event.Event.{Event}
 use Rattle.device_lock.specs.Alone.{Blocks, LeavesAlone, lent_by}
-use Rattle.device_lock.specs.History.{IsLegal, calls_of, leads_to}
+use Rattle.device_lock.specs.History.{IsLegal, call_in, calls_of, leads_to}
 use Rattle.device_lock.specs.declared.alone.Watched.{Watched}
 use Rattle.device_lock.specs.declared.entry.Call.{Call}
 use Rattle.device_lock.specs.declared.entry.Entry.{Entry}
@@ -32,6 +32,12 @@ AtCalls w fifo h calls P =
 abbrev pub AtEntries : Watched → List Entry → List Call → (List Entry → Type 0) → Type 0
 AtEntries w h calls P =
     (done rest : List Entry) → done ++ rest ≡ h → calls_of w.pass done ≡ calls → P done
+
+-- it holds just before the pass makes the last of these calls
+abbrev pub BeforeLast : Watched → ℕ → List Entry → List Call → (State → Type 0) → Type 0
+BeforeLast w fifo h calls P =
+    (done rest : List Entry) (e : Entry) → done ++ e ∷ rest ≡ h → e.pass ≡ w.pass →
+    calls_of w.pass done ++ call_in e ∷ [] ≡ calls → P (leads_to (new_state w.vfs fifo) done)
 
 -- each event that leaves the queue alone keeps it
 abbrev pub IsKept : Watched → Blocks → (State → Type 0) → Type 0

@@ -9,7 +9,7 @@ use Rattle.pmd_queue.specs.Both.{both_quiet}
 use Rattle.pmd_queue.specs.Made.{AreMade}
 use Rattle.pmd_queue.specs.Named.{AtPort}
 use Rattle.transmit_laws.specs.Off as transmit
-use Rattle.start_laws.specs.Along.{AtCalls, IsAlong}
+use Rattle.start_laws.specs.Along.{AtCalls, BeforeLast, IsAlong}
 use Rattle.start_laws.specs.Points.{HasGround, Point, Sides, StepsBetween}
 use Rattle.start_laws.specs.Quiet.{IsOff}
 
@@ -20,12 +20,12 @@ pub record IsQuiet (queue : ℕ) (q : AtPort) (s : State) : Type 0 where
   pub transmit : transmit.IsOff queue s
 
 -- so it is wherever the pass has made the accesses that see them off, where the driver's port and queue name this queue
--- once the first of these is made
+-- just before the first of these
 abbrev pub QuietingLeads : Type 0
 QuietingLeads =
     (w : Watched) (q : AtPort) (fifo : ℕ) (h : List Entry) (old new : List Call) → IsAlong w fifo h →
     (made : AreMade q old new both_quiet) → StepsBetween q old new both_quiet made →
-    AtCalls w fifo h made.0 (HasGround w.queue q) → AtCalls w fifo h new (IsQuiet w.queue q)
+    BeforeLast w fifo h made.0 (HasGround w.queue q) → AtCalls w fifo h new (IsQuiet w.queue q)
 
 -- the sides are off, and not wanted on
 abbrev pub are_off : Sides → Bool

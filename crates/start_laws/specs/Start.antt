@@ -13,7 +13,7 @@ use Rattle.pmd_queue.specs.Named.{AtPort}
 use Rattle.pmd_queue.specs.Sides.{polled, ring_words}
 use Rattle.receive_laws.specs.Joint.{Agree}
 use Rattle.transmit_laws.specs.Agreeing.{Agrees}
-use Rattle.start_laws.specs.Along.{AreSteps, AtCalls, AtEntries, IsAlong}
+use Rattle.start_laws.specs.Along.{AreSteps, AtCalls, AtEntries, BeforeLast, IsAlong}
 use Rattle.start_laws.specs.Points.{HasGround, StepsBetween}
 use Rattle.start_laws.specs.Unused.{WentOn}
 
@@ -33,10 +33,10 @@ pub record OnlySteps (q : AtPort) (size : ℕ) (old : List Call) (a : Numbers) (
       StepsBetween q up.both_made up.on.mid
       (receive_polled true up.on.switched.0 ++ polled Tx true up.on.switched.1) up.on.switched.3
 
--- where the driver's first access is made its port and queue name this queue, and frames are short
+-- just before the driver's first access its port and queue name this queue, and frames are short
 pub record BeginsWell (w : Watched) (fifo : ℕ) (h : List Entry) (q : AtPort) (size : ℕ) (old : List Call) (a : Numbers)
     (new : List Call) (r : Running) (up : AreUp q size old a new r) : Type 0 where
-  pub ground : AtCalls w fifo h up.receive.quiet.0 (HasGround w.queue q)
+  pub ground : BeforeLast w fifo h up.receive.quiet.0 (HasGround w.queue q)
 
 -- wherever the pass has made the calls by which both sides came up, device and driver agree on both: nothing is posted
 -- yet, and nothing is sent

@@ -74,8 +74,8 @@ pub fn accesses_lead_over_a_history()
 
 /// Over such a history, wherever the driver's pass has made the calls by which a start of it brought both sides up, the
 /// device and the driver agree on both: nothing is posted or sent yet. Both are on there, and nothing was received or
-/// sent since they went on. Other calls of the pass up to there are steps of the device; its port and queue name this
-/// queue as its first access is made, and frames are short.
+/// sent since they went on. Other calls of the pass up to there are steps of the device; just before its first access
+/// its port and queue name this queue, and frames are short.
 pub fn start_leaves_sides_that_agree()
     ensures agree { StartAgrees }
     ensures on { StartGoesOn }

@@ -45,8 +45,9 @@ pub fn sent_in_order()
 {}
 
 /// Over every legal history in which each turn is the driver's next move, or leaves the queue alone by the clauses by
-/// which a closed history is judged, the frames sent are a prefix of those accepted. What the driver's receive half owes
-/// is a premise: a piece that is received isn't empty, and on the driver's own queue it is outside the sender's blocks.
+/// which a closed history is judged, the frames sent are a prefix of those accepted. What the driver's receive half
+/// owes is a premise: a piece that is received isn't empty, and on the driver's own queue it is outside the sender's
+/// blocks.
 pub fn sent_in_order_where_left_alone()
     ensures runs { AloneMayRun }
     ensures prefix { SentIsPrefixWhereAlone }

@@ -1,3 +1,4 @@
 pub mod Ending
+pub mod Keeping
 pub mod Returning
 pub mod Telling

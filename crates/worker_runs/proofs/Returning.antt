@@ -33,7 +33,7 @@ still_back r s n others layout none back =
     ∙ ap (λ (packets : List Outgoing). back_at r.arena r.receive r.transmit.layout packets n) none.outstanding
     ∙ back
 
-fault_block : (f : PmdFault) (p back : Packet) → IsBack f p back → back.buf.number ≡ p.buf.number
+pub fault_block : (f : PmdFault) (p back : Packet) → IsBack f p back → back.buf.number ≡ p.buf.number
 fault_block fault.DeviceFault p back is = is
 fault_block fault.BadSize p back is = ap (λ (x : Packet). x.buf.number) is
 fault_block fault.ForeignBlock p back is = ap (λ (x : Packet). x.buf.number) is

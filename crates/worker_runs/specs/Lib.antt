@@ -1,2 +1,4 @@
 pub mod Ended
+pub mod Kept
+pub mod Lived
 pub mod Told

@@ -1,10 +1,17 @@
 //! A worker's run, from its start to its stop.
 
-ghost use Rattle.std.specs.Prelude.{◌≡◌, ◌≤◌, [], length, true, false, IfErr, IfSome, IfNone};
+ghost use Rattle.std.specs.Prelude.{ℕ, ◌≡◌, ◌≤◌, List, [], length, true, false, IfErr, IfSome, IfNone};
 ghost use Rattle.rtrb.specs.Ring.{sent, known_free, SameProducer};
-ghost use Rattle.pmd.specs.Driver.{handed_of};
-ghost use Rattle.pmd.specs.Started.{left_handed};
+ghost use Rattle.dma_arena.specs.Numbers.{Numbers};
+ghost use Rattle.device_lock.specs.declared.entry.Call.{Call};
+ghost use Rattle.pmd_queue.specs.Named.{AtPort};
+ghost use Rattle.pmd.specs.Blocks.{HasAll, LosesNone, IsWhole};
+ghost use Rattle.pmd.specs.Driver.{accepted_of, handed_of, halted_of};
+ghost use Rattle.pmd.specs.Life.{ComesDown, HasLived, IsStopped, RunsOn};
+ghost use Rattle.pmd.specs.Started.{left_accepted, left_handed, HasStarted};
 ghost use Rattle.worker_runs.specs.Ended.{first_fault, is_home, is_threadless};
+ghost use Rattle.worker_runs.specs.Kept.{KeepsAll};
+ghost use Rattle.worker_runs.specs.Lived.{HasRun};
 ghost use Rattle.worker_runs.specs.Told.{reports_of};
 
 use crate::fault::WorkerFault;
@@ -59,7 +66,10 @@ fn work<G: Gate, N: Nic>(
     ensures told { sent producer.new ≡ reports_of order.queue (handed_of pmd.new.rings) }
     ensures ring { SameProducer producer.old producer.new }
     ensures few { length (handed_of pmd.new.rings) ≤ order.rounds }
+    ensures blocks { KeepsAll pmd.old.rings [] pmd.new.rings [] }
     ensures fault { IfErr result (λ fault. is_threadless fault ≡ false) }
+    ensures drives { RunsOn (N.made nic.old) pmd.old.rings (N.made nic.new) pmd.new.rings }
+    ensures queue { pmd.new.queue ≡ pmd.old.queue }
     ensures who { N.who nic.new ≡ N.who nic.old }
 {
     meet(gate, order.worker, 0)?;
@@ -71,8 +81,11 @@ fn work<G: Gate, N: Nic>(
 
 /// Stops a driver, once. Where the stop is refused, the driver is left.
 fn take_home<N: Nic>(alloc: Global, nic: &mut N, pmd: Pmd) -> (Rest, Option<PmdFault>)
+    ensures stopped { IsStopped pmd.queue (N.made nic.old) (halted_of pmd.rings) (N.made nic.new) result.0 }
     ensures handed { left_handed result.0 ≡ handed_of pmd.rings }
+    ensures accepted { left_accepted result.0 ≡ accepted_of pmd.rings }
     ensures home { IfNone result.1 (is_home result.0 ≡ true) }
+    ensures whole { (a : Numbers) → LosesNone a (halted_of pmd.rings) → IsWhole a result.0 }
     ensures who { N.who nic.new ≡ N.who nic.old }
 {
     match pmd.stop(alloc, nic) {
@@ -83,7 +96,10 @@ fn take_home<N: Nic>(alloc: Global, nic: &mut N, pmd: Pmd) -> (Rest, Option<PmdF
 
 /// Stops the driver that a refused start left, once, where it left one.
 fn end<N: Nic>(alloc: Global, nic: &mut N, rest: Rest) -> Rest
+    ensures down { ComesDown (N.made nic.old) rest (N.made nic.new) result }
     ensures handed { left_handed result ≡ left_handed rest }
+    ensures accepted { left_accepted result ≡ left_accepted rest }
+    ensures whole { (a : Numbers) → IsWhole a rest → IsWhole a result }
     ensures who { N.who nic.new ≡ N.who nic.old }
 {
     match rest {
@@ -120,11 +136,14 @@ fn drive<G: Gate, N: Nic>(
     requires fresh { sent producer.old ≡ [] }
     requires none { handed_of pmd.rings ≡ [] }
     requires room { order.rounds ≤ known_free producer.old }
+    ensures lived { (q : AtPort) (size : ℕ) (old : List Call) (arena : Numbers)
+        → HasStarted q size old arena (N.made nic.old) pmd → HasLived q size old arena (N.made nic.new) result.0 }
     ensures told { sent producer.new ≡ reports_of order.queue (left_handed result.0) }
     ensures few { length (sent producer.new) ≤ order.rounds }
     ensures ring { SameProducer producer.old producer.new }
     ensures home { IfNone result.1 (is_home result.0 ≡ true) }
     ensures fault { IfSome result.1 (λ fault. is_threadless fault ≡ false) }
+    ensures whole { (a : Numbers) → HasAll a (halted_of pmd.rings) [] → IsWhole a result.0 }
     ensures who { N.who nic.new ≡ N.who nic.old }
 {
     let mut pmd = pmd;
@@ -140,7 +159,8 @@ fn drive<G: Gate, N: Nic>(
 /// for a packet, each of which it tells of and sends again, reaps what it sent, passes point 2, and stops the driver.
 ///
 /// Where a call of the driver fails or the gate is shut, it leaves the gate, stops the driver once, and tells why. Its
-/// reports are those of the packets that its driver handed out: one each, in order, numbered from 0.
+/// reports are those of the packets that its driver handed out: one each, in order, numbered from 0. The calls that were
+/// made are this one driver's life, beside what its way to the device adds.
 pub fn run_worker<G: Gate, N: Nic>(
     alloc: Global,
     nic: &mut N,
@@ -151,11 +171,14 @@ pub fn run_worker<G: Gate, N: Nic>(
 ) -> (Rest, Option<WorkerFault>)
     requires fresh { sent producer.old ≡ [] }
     requires room { order.rounds ≤ known_free producer.old }
+    ensures lived { HasRun (record { port = order.port; queue = order.queue }) order.size (N.made nic.old) arena
+        (N.made nic.new) result.0 result.1 }
     ensures told { sent producer.new ≡ reports_of order.queue (left_handed result.0) }
     ensures few { length (sent producer.new) ≤ order.rounds }
     ensures ring { SameProducer producer.old producer.new }
     ensures home { IfNone result.1 (is_home result.0 ≡ true) }
     ensures fault { IfSome result.1 (λ fault. is_threadless fault ≡ false) }
+    ensures whole { IsWhole arena result.0 }
     ensures who { N.who nic.new ≡ N.who nic.old }
 {
     match Pmd::start(alloc, nic, order.port, order.queue, order.size, arena) {

@@ -4,11 +4,14 @@ ghost use Rattle.std.specs.Prelude.{◌≡◌, ◌+◌, ◌<◌, ◌≤◌, ◌+
 ghost use Rattle.rtrb.specs.Ring.{sent, known_free, SameProducer};
 ghost use Rattle.pmd_base.specs.Packet.{kept_of};
 ghost use Rattle.pmd.specs.Driver.{handed_of, goes_back_to};
+ghost use Rattle.pmd.specs.Life.{KeepsHalves, RunsOn};
+ghost use Rattle.pmd_rx.specs.Keeping.{block_in, handed_block};
+ghost use Rattle.worker_runs.specs.Kept.{KeepsAll};
 ghost use Rattle.worker_runs.specs.Told.{report_of, reports_of};
 
 use pmd::Pmd;
 use pmd_base::{Nic, Packet, PmdFault};
-use pmd_tx::{TxAnswer, TxFault};
+use pmd_tx::{Reaped, TxAnswer, TxFault};
 use rtrb::Producer;
 use std::alloc::Global;
 use workers::Report;
@@ -24,6 +27,9 @@ fn receive<N: Nic>(alloc: Global, nic: &mut N, pmd: &mut Pmd) -> Result<Option<P
         goes_back_to pmd.new.rings packet.buf.number ≡ true)) }
     ensures none { IfOk result (λ out. IfNone out (handed_of pmd.new.rings ≡ handed_of pmd.old.rings)) }
     ensures err { OnErr result (handed_of pmd.new.rings ≡ handed_of pmd.old.rings) }
+    ensures drives { RunsOn (N.made nic.old) pmd.old.rings (N.made nic.new) pmd.new.rings }
+    ensures queue { pmd.new.queue ≡ pmd.old.queue }
+    ensures blocks { KeepsAll pmd.old.rings [] pmd.new.rings (handed_block result) }
     ensures who { N.who nic.new ≡ N.who nic.old }
 {
     pmd.rx(alloc, nic)
@@ -56,6 +62,9 @@ fn send<N: Nic>(
     requires { goes_back_to pmd.old.rings packet.buf.number ≡ true }
     ensures home { IfSome result.0 (λ back. goes_back_to pmd.new.rings back.buf.number ≡ true) }
     ensures handed { handed_of pmd.new.rings ≡ handed_of pmd.old.rings }
+    ensures drives { RunsOn (N.made nic.old) pmd.old.rings (N.made nic.new) pmd.new.rings }
+    ensures queue { pmd.new.queue ≡ pmd.old.queue }
+    ensures blocks { KeepsAll pmd.old.rings (packet.buf.number ∷ []) pmd.new.rings (block_in result.0) }
     ensures who { N.who nic.new ≡ N.who nic.old }
 {
     match pmd.tx(alloc, nic, packet) {
@@ -68,7 +77,10 @@ fn send<N: Nic>(
 /// Gives the block of a packet back, which can go home.
 fn release(pmd: &mut Pmd, packet: Packet)
     requires { goes_back_to pmd.old.rings packet.buf.number ≡ true }
-    ensures { handed_of pmd.new.rings ≡ handed_of pmd.old.rings }
+    ensures handed { handed_of pmd.new.rings ≡ handed_of pmd.old.rings }
+    ensures halves { KeepsHalves pmd.old.rings pmd.new.rings }
+    ensures queue { pmd.new.queue ≡ pmd.old.queue }
+    ensures blocks { KeepsAll pmd.old.rings (packet.buf.number ∷ []) pmd.new.rings [] }
 {
     match pmd.release(packet) {
         Ok(()) => {}
@@ -85,6 +97,9 @@ fn forward<N: Nic>(
 ) -> Result<(), PmdFault>
     requires { goes_back_to pmd.old.rings packet.buf.number ≡ true }
     ensures handed { handed_of pmd.new.rings ≡ handed_of pmd.old.rings }
+    ensures drives { RunsOn (N.made nic.old) pmd.old.rings (N.made nic.new) pmd.new.rings }
+    ensures queue { pmd.new.queue ≡ pmd.old.queue }
+    ensures blocks { KeepsAll pmd.old.rings (packet.buf.number ∷ []) pmd.new.rings [] }
     ensures who { N.who nic.new ≡ N.who nic.old }
 {
     let (back, sent) = send(alloc, nic, pmd, packet);
@@ -110,6 +125,9 @@ fn turn<N: Nic>(
     ensures ring { SameProducer producer.old producer.new }
     ensures room { known_free producer.old ≤ known_free producer.new + 1 }
     ensures few { length (handed_of pmd.new.rings) ≤ length (handed_of pmd.old.rings) + 1 }
+    ensures drives { RunsOn (N.made nic.old) pmd.old.rings (N.made nic.new) pmd.new.rings }
+    ensures queue { pmd.new.queue ≡ pmd.old.queue }
+    ensures blocks { KeepsAll pmd.old.rings [] pmd.new.rings [] }
     ensures who { N.who nic.new ≡ N.who nic.old }
 {
     let number = pmd.handed().len() as u32;
@@ -120,6 +138,17 @@ fn turn<N: Nic>(
             forward(alloc, nic, pmd, packet)
         }
     }
+}
+
+/// Frees the blocks of the packets that were sent.
+fn reap<N: Nic>(alloc: Global, nic: &mut N, pmd: &mut Pmd) -> Result<Reaped, PmdFault>
+    ensures handed { handed_of pmd.new.rings ≡ handed_of pmd.old.rings }
+    ensures drives { RunsOn (N.made nic.old) pmd.old.rings (N.made nic.new) pmd.new.rings }
+    ensures queue { pmd.new.queue ≡ pmd.old.queue }
+    ensures blocks { KeepsAll pmd.old.rings [] pmd.new.rings [] }
+    ensures who { N.who nic.new ≡ N.who nic.old }
+{
+    pmd.reap(alloc, nic)
 }
 
 /// One round: a look for a packet, and a reaping.
@@ -137,10 +166,13 @@ fn round<N: Nic>(
     ensures ring { SameProducer producer.old producer.new }
     ensures room { known_free producer.old ≤ known_free producer.new + 1 }
     ensures few { length (handed_of pmd.new.rings) ≤ length (handed_of pmd.old.rings) + 1 }
+    ensures drives { RunsOn (N.made nic.old) pmd.old.rings (N.made nic.new) pmd.new.rings }
+    ensures queue { pmd.new.queue ≡ pmd.old.queue }
+    ensures blocks { KeepsAll pmd.old.rings [] pmd.new.rings [] }
     ensures who { N.who nic.new ≡ N.who nic.old }
 {
     turn(alloc, nic, queue, pmd, producer)?;
-    pmd.reap(alloc, nic)?;
+    reap(alloc, nic, pmd)?;
     Ok(())
 }
 
@@ -159,6 +191,9 @@ pub(crate) fn do_rounds<N: Nic>(
     ensures told { sent producer.new ≡ reports_of queue (handed_of pmd.new.rings) }
     ensures ring { SameProducer producer.old producer.new }
     ensures few { length (handed_of pmd.new.rings) ≤ rounds }
+    ensures drives { RunsOn (N.made nic.old) pmd.old.rings (N.made nic.new) pmd.new.rings }
+    ensures queue { pmd.new.queue ≡ pmd.old.queue }
+    ensures blocks { KeepsAll pmd.old.rings [] pmd.new.rings [] }
     ensures who { N.who nic.new ≡ N.who nic.old }
 {
     for _ in 0..rounds {
@@ -170,10 +205,13 @@ pub(crate) fn do_rounds<N: Nic>(
 /// Reaps until no packet is outstanding, 1,000 times at most.
 pub(crate) fn reap_all<N: Nic>(alloc: Global, nic: &mut N, pmd: &mut Pmd) -> Result<(), PmdFault>
     ensures handed { handed_of pmd.new.rings ≡ handed_of pmd.old.rings }
+    ensures drives { RunsOn (N.made nic.old) pmd.old.rings (N.made nic.new) pmd.new.rings }
+    ensures queue { pmd.new.queue ≡ pmd.old.queue }
+    ensures blocks { KeepsAll pmd.old.rings [] pmd.new.rings [] }
     ensures who { N.who nic.new ≡ N.who nic.old }
 {
     for _ in 0..REAPS {
-        if pmd.reap(alloc, nic)?.idle {
+        if reap(alloc, nic, pmd)?.idle {
             break;
         }
     }

@@ -1,12 +1,14 @@
 -- How workers end.
-use Rattle.std.specs.Prelude.{◌≡◌, ◌≤◌, true, List, [], ◌∷◌, length, Option, Some, IfNone, ⊤}
+use Rattle.std.specs.Prelude.{◌≡◌, ◌≢◌, ◌≤◌, true, List, [], ◌∷◌, length, Option, Some, IfNone, ⊤}
 use Rattle.rtrb.specs.Ring.{sent, SameProducer}
 use Rattle.device_lock.specs.Pass.{PassValue}
+use Rattle.pmd.specs.Blocks.{IsWhole}
 use Rattle.pmd.specs.Started.{left_handed, IsHome}
 use Rattle.pmd.specs.declared.start.Rest.{Rest}
 use Rattle.workers.specs.declared.job.Job.{Job}
 use Rattle.workers.specs.declared.reports.Report.{Report}
 use Rattle.worker_runs.specs.Ended.{is_home}
+use Rattle.worker_runs.specs.Lived.{HasRun}
 use Rattle.worker_runs.specs.Told.{reports_of}
 use Rattle.worker_runs.specs.declared.fault.WorkerFault.{WorkerFault}
 use Rattle.worker_runs.specs.declared.fault.WorkerFault.TheVariants.{NoThread}
@@ -19,11 +21,16 @@ pub record IsEndOf (j : Job) (pass : PassValue) (rest : Rest) (told : List Repor
     Type 0 where
   pub bench : pass.bench ≡ j.pass.bench
   pub tag : pass.tag ≡ j.pass.tag
+  -- with a thread, the calls that its pass gained are the life of one driver of the job's queue
+  pub lived : fault ≢ Some NoThread
+      → HasRun (record { port = j.port; queue = j.queue }) j.size j.pass.calls j.arena pass.calls rest fault
   -- one report for each packet that its driver handed out
   pub reports : told ≡ reports_of j.queue (left_handed rest)
   pub few : length told ≤ j.rounds
   -- without a fault the driver stopped
   pub home : IfNone fault (is_home rest ≡ true)
+  -- no block went astray: where none is lost, the numbers of an arena that is home are free where they were
+  pub whole : IsWhole j.arena rest
   -- without a thread nothing was done
   pub idle : fault ≡ Some NoThread → (pass ≡ j.pass) × IsHome j.arena rest
 

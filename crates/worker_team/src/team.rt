@@ -128,7 +128,7 @@ fn run_in<R: Threads + Wait + Sync, G: Gate + Sync, const VFS: u8, const FIFO: u
     }
 }
 
-/// Has jobs done at a shared device, each on a thread of its own, while frames arrive by the pass of the calling thread.
+/// Has jobs done at a shared device, each on a thread of its own, while frames arrive by the calling thread's pass.
 ///
 /// Each worker starts a driver of its queue, passes the points 0 and 1 of the gate, looks `rounds` times for a packet,
 /// tells of each and sends it again, reaps, passes point 2, and stops the driver. The calling thread, whose number at

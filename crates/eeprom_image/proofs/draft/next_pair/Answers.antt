@@ -14,7 +14,8 @@ take_pair-requires-2 c = refl
 
 pub returns-in-Some-clause-some : goal.returns-in-Some-clause-some
 returns-in-Some-clause-some c = subst (λ said. SaysFirst c.in-Some.pair.line said c.args.lines.now c.take_pair.new.self)
-    (sym c.word_line.ensures) (SaysFirst-word c.in-Some.pair c.args.lines.now c.take_pair.new.self c.in-Some.ensures.some)
+    (sym c.word_line.ensures)
+    (SaysFirst-word c.in-Some.pair c.args.lines.now c.take_pair.new.self c.in-Some.ensures.some)
 
 pub returns-in-Some-take_pair-clause-some : goal.returns-in-Some-take_pair-clause-some
 returns-in-Some-take_pair-clause-some c =

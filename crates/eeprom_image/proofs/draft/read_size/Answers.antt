@@ -19,11 +19,11 @@ empty_lines-init c =
       whole = omega (arith, ap length c.of-lines.ensures);
     } in
     record {
-      counts = CountsOn-skip 0 c.skip_empty-count.result c.skip_empty-count.result (length (lines_of text))
-          c.of-lines.result c.skip_empty-count.new.self start (omega arith) c.skip_empty-count.ensures.count
-          c.skip_empty-count.ensures.behind;
-      same = sized-skip c.of-lines.result c.skip_empty-count.new.self c.skip_empty-count.result
-          c.skip_empty-count.ensures.count c.skip_empty-count.ensures.behind
+      counts = CountsOn-skip 0 c.skip_wordless-count.result c.skip_wordless-count.result (length (lines_of text))
+          c.of-lines.result c.skip_wordless-count.new.self start (omega arith) c.skip_wordless-count.ensures.count
+          c.skip_wordless-count.ensures.behind;
+      same = sized-skip c.of-lines.result c.skip_wordless-count.new.self c.skip_wordless-count.result
+          c.skip_wordless-count.ensures.count c.skip_wordless-count.ensures.behind
           ∙ ap sized c.of-lines.ensures;
     }
 
@@ -36,11 +36,11 @@ empty_lines-preserved c =
     let said = sized-first c.empty_lines.lines c.next.new.self (line_of c.in-Some.line) Empty c.in-Some.ensures.steps
     (sym c.text_line.ensures ∙ c.in-Empty.is) in
     record {
-      counts = CountsOn-skip (c.empty_lines.count + 1) c.skip_empty.result
-          (c.in-Some.line.number + c.skip_empty.result) all c.next.new.self c.skip_empty.new.self next.1
-          (omega arith) c.skip_empty.ensures.count c.skip_empty.ensures.behind;
-      same = sized-skip c.next.new.self c.skip_empty.new.self c.skip_empty.result c.skip_empty.ensures.count
-          c.skip_empty.ensures.behind ∙ sym said ∙ c.empty_lines.invariant.same;
+      counts = CountsOn-skip (c.empty_lines.count + 1) c.skip_wordless.result
+          (c.in-Some.line.number + c.skip_wordless.result) all c.next.new.self c.skip_wordless.new.self next.1
+          (omega arith) c.skip_wordless.ensures.count c.skip_wordless.ensures.behind;
+      same = sized-skip c.next.new.self c.skip_wordless.new.self c.skip_wordless.result c.skip_wordless.ensures.count
+          c.skip_wordless.ensures.behind ∙ sym said ∙ c.empty_lines.invariant.same;
     }
 
 pub overflow_add-count : goal.overflow_add-count
@@ -49,12 +49,12 @@ overflow_add-count c =
     let next = CountsOn-next c.empty_lines.count all c.empty_lines.lines c.next.new.self (line_of c.in-Some.line)
     c.empty_lines.invariant.counts c.in-Some.ensures.steps in
     let number : c.in-Some.line.number ≡ c.empty_lines.count + 1 = next.0 in
-    let on = CountsOn-skip (c.empty_lines.count + 1) c.skip_empty.result
-    (c.in-Some.line.number + c.skip_empty.result) all
-    c.next.new.self c.skip_empty.new.self next.1 (omega arith) c.skip_empty.ensures.count c.skip_empty.ensures.behind in
+    let on = CountsOn-skip (c.empty_lines.count + 1) c.skip_wordless.result
+    (c.in-Some.line.number + c.skip_wordless.result) all
+    c.next.new.self c.skip_wordless.new.self next.1 (omega arith) c.skip_wordless.ensures.count c.skip_wordless.ensures.behind in
     omega (
       arith,
-      CountsOn-le (c.in-Some.line.number + c.skip_empty.result) all c.skip_empty.new.self on,
+      CountsOn-le (c.in-Some.line.number + c.skip_wordless.result) all c.skip_wordless.new.self on,
       length-lines_of-le c.args.text.now,
     )
 

@@ -1,11 +1,25 @@
-use Rattle.std.proofs.Common.{lit<}
-use Rattle.std.proofs.lemmas.Option.{MatchOption-at_none}
-use Rattle.std.proofs.lemmas.Str.Pattern.{strip_prefix_char}
-use Rattle.lexer.proofs.EmptyLine.{lines-behind_return}
+use Rattle.std.proofs.Common.{◌≡◌, ◌≢◌, ℕ, List, [], ◌∷◌, drop, ap, sym, ◌∙◌, arith, rules, Some}
+use Rattle.std.specs.List.{slice_get}
+use Rattle.std.specs.Str.Lines.{lines}
+use Rattle.lexer.proofs.EmptyLine.{lines-behind_return, lines-line_feed}
+use Rattle.lexer.proofs.FrontComment.{begins, IsCharBoundary-behind_first}
 use Rattle.lexer.proofs.lines.behind_empty.Goals as goal
 
-pub returns-in-None-clause-cases : goal.returns-in-None-clause-cases
-returns-in-None-clause-cases c =
-    let cases = strip_prefix_char 10 c.args.text.now c.strip_prefix.result c.strip_prefix.ensures.cases (lit< tt) in
-    lines-behind_return c.args.text.now c.behind_return.result (MatchOption-at_none _ _ c.in-None.is cases)
-    c.behind_return.ensures.cases
+pub range_from-requires : goal.range_from-requires
+range_from-requires c =
+    let first : Some 10 ≡ slice_get c.as_bytes.result.now 0 = search rules in
+    let is = begins c.args.text.now c.as_bytes.result.now 10 c.as_bytes.ensures.value first in
+    λ _. IsCharBoundary-behind_first c.args.text.now (drop 1 c.args.text.now) 10 is (omega arith) c.utf8.text
+
+pub returns-in-Some-eq10-clause-cases : goal.returns-in-Some-eq10-clause-cases
+returns-in-Some-eq10-clause-cases c =
+    let first : Some 10 ≡ slice_get c.as_bytes.result.now 0 = search rules in
+    let is = begins c.args.text.now c.as_bytes.result.now 10 c.as_bytes.ensures.value first in
+    ap lines is ∙ lines-line_feed (drop 1 c.args.text.now) ∙ ap (λ t. [] ∷ lines t) (sym c.range_from.ensures.value)
+
+pub returns-in-Some-eq13-clause-cases : goal.returns-in-Some-eq13-clause-cases
+returns-in-Some-eq13-clause-cases c =
+    let first : Some 13 ≡ slice_get c.as_bytes.result.now 0 = search rules in
+    let is = begins c.args.text.now c.as_bytes.result.now 13 c.as_bytes.ensures.value first in
+    let other : (rest : List ℕ) → c.args.text.now ≢ 10 ∷ rest = λ rest same. cc in
+    lines-behind_return c.args.text.now c.behind_return.result other c.behind_return.ensures.cases

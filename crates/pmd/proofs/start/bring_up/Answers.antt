@@ -1,17 +1,19 @@
-use Rattle.std.proofs.Common.{◌∙◌, inl, inr, sym, ap, subst, arith}
+use Rattle.std.proofs.Common.{[], ◌∙◌, inl, inr, sym, ap, subst, arith}
 use Rattle.dma_arena.specs.Numbers.{Numbers}
 use Rattle.pmd_base.specs.Home.{AreOut}
 use Rattle.pmd_halt.specs.Halted.{Halted, with_receive_ring}
 use Rattle.pmd_rx.specs.Keeping.{blocks_out}
 use Rattle.pmd_tx.specs.Leaving.{lent_of}
 use Rattle.register_file.specs.declared.dir.Dir.TheVariants.{Tx}
-use Rattle.pmd.specs.Driver.{Driver, handed_of}
+use Rattle.pmd.specs.Blocks.{KeepsEach, HasAll, IsWhole}
+use Rattle.pmd.specs.Driver.{Driver, handed_of, halted_of}
 use Rattle.pmd.specs.Running.{Running}
 use Rattle.pmd.specs.Started.{IsHome, IsHalfStarted}
 use Rattle.pmd.specs.declared.driver.Rings.TheVariants.{Up}
 use Rattle.pmd.proofs.Late.{preparing_late, receive_late}
 use Rattle.pmd.proofs.Leaving.{home_handed, half_handed, ready_handed}
 use Rattle.pmd.proofs.Starting.{prepared_count, ready_empty, receive_out, rings_out, one_out, filled_rings}
+use Rattle.pmd.proofs.Whole.{receive_has, one_ring, filled_all, half_whole, home_whole}
 use Rattle.pmd.proofs.start.bring_up.Goals as goal
 
 pub returns-in-Err-clause-stops : goal.returns-in-Err-clause-stops
@@ -145,4 +147,33 @@ returns-in-Err-go_on-clause-left g c =
     half_handed _ _ _
     (ap (λ (h : Halted). h.handed) c.of_rings-halted.ensures
     ∙ (c.go_on.ensures.handed ∙ ready_handed _ _ _ _ _ _ _ c.in-Ok.ensures.ready))
+    c.half_started-in-Err-go_on.ensures.rest
+
+pub returns-in-Err-clause-whole : goal.returns-in-Err-clause-whole
+returns-in-Err-clause-whole g c =
+    subst (λ (a : Numbers). IsWhole a c.at_home.result.rest) c.in-Err.ensures.kept
+    (home_whole _ _ c.at_home.ensures.rest)
+
+pub returns-in-Err-transmit_ring-clause-whole : goal.returns-in-Err-transmit_ring-clause-whole
+returns-in-Err-transmit_ring-clause-whole g c =
+    half_whole _ _ _ _
+    (rw c.of_receive-halted.ensures
+    (one_ring c.args.arena c.transmit_ring.new.arena c.in-Ok.receive
+    (subst (λ (b : Numbers). KeepsEach c.args.arena [] b (blocks_out c.in-Ok.receive))
+    (sym c.in-Err-transmit_ring.ensures.kept) (receive_has _ _ _ _ _ _ _ c.in-Ok.ensures.ready))))
+    c.half_started.ensures.rest
+
+pub returns-in-Ok-go_on-clause-blocks : goal.returns-in-Ok-go_on-clause-blocks
+returns-in-Ok-go_on-clause-blocks g c =
+    subst (λ (d : Driver). HasAll c.args.arena (halted_of d.rings) [])
+    (sym (c.of.ensures
+    ∙ ap (λ (x : Running). let d : Driver = record { queue = c.args.queue; rings = Up x } in d) c.new-running.ensures))
+    (filled_all _ _ _ _ _ _ _ _ _ _ _ _ c.in-Ok.ensures.ready c.in-Ok-transmit_ring.ensures.ready c.go_on.ensures.keeps)
+
+pub returns-in-Err-go_on-clause-whole : goal.returns-in-Err-go_on-clause-whole
+returns-in-Err-go_on-clause-whole g c =
+    half_whole _ _ _ _
+    (rw c.of_rings-halted.ensures
+    (filled_all _ _ _ _ _ _ _ _ _ _ _ _
+    c.in-Ok.ensures.ready c.in-Ok-transmit_ring.ensures.ready c.go_on.ensures.keeps))
     c.half_started-in-Err-go_on.ensures.rest

@@ -1,5 +1,6 @@
 use Rattle.std.proofs.Common.{length, ap, arith}
 use Rattle.pmd.specs.Driver.{handed_of}
+use Rattle.pmd.proofs.Living.{has_lived}
 use Rattle.worker_runs.proofs.Ending.{home_without, had_thread}
 use Rattle.worker_runs.proofs.Telling.{told_count}
 use Rattle.worker_runs.proofs.driving.drive.Goals as goal
@@ -17,3 +18,10 @@ returns-clause-home g c = rw c.first_fault.ensures (home_without _ _ _ c.take_ho
 
 pub returns-clause-fault : goal.returns-clause-fault
 returns-clause-fault g c = rw c.first_fault.ensures (had_thread _ _ c.work-worked.ensures.fault)
+
+pub returns-clause-lived : goal.returns-clause-lived
+returns-clause-lived g c q size old arena started =
+    has_lived q size old arena (g.N.Nic.made c.args.nic.now) (g.N.Nic.made c.work-worked.new.nic)
+    (g.N.Nic.made c.take_home-rest.new.nic) c.args.pmd c.work-worked.new.pmd c.take_home-rest.result.0 started
+    c.work-worked.ensures.drives c.work-worked.ensures.queue c.take_home-rest.ensures.stopped
+    c.take_home-rest.ensures.handed c.take_home-rest.ensures.accepted

@@ -3,6 +3,7 @@ use Rattle.rtrb.specs.Ring.{sent}
 use Rattle.pmd_base.specs.Packet.{Kept, kept_of}
 use Rattle.pmd_base.specs.declared.packet.Packet.{Packet}
 use Rattle.pmd.specs.Driver.{handed_of}
+use Rattle.pmd.proofs.Living.{runs_on}
 use Rattle.worker_runs.specs.Told.{report_of, reports_of}
 use Rattle.worker_runs.proofs.Telling.{told_more}
 use Rattle.worker_runs.proofs.turns.turn.Goals as goal
@@ -18,3 +19,6 @@ returns-in-Some-clause-told g c =
     ∙ (ap (λ (h : List Kept). sent c.args.producer.now ++ report_of c.args.queue (length h) k ∷ []) c.handed.ensures
     ∙ (told_more c.args.queue old k (sent c.args.producer.now) c.requires.told
     ∙ ap (λ (l : List Kept). reports_of c.args.queue l) (sym given ∙ sym c.forward.ensures.handed)))
+
+pub returns-in-Some-clause-drives : goal.returns-in-Some-clause-drives
+returns-in-Some-clause-drives g c = runs_on _ _ _ _ _ _ c.receive.ensures.drives c.forward.ensures.drives

@@ -2,7 +2,7 @@ use Rattle.std.proofs.Common.{subst}
 use Rattle.pmd_queue.specs.Named.{AtPort}
 use Rattle.pmd.specs.Started.{StopsStarting}
 use Rattle.pmd.proofs.Driving.{err_later}
-use Rattle.pmd.proofs.Leaving.{home_handed}
+use Rattle.pmd.proofs.Leaving.{home_accepted, home_handed, stops_accepted}
 use Rattle.pmd.proofs.driver.Pmd.start.Goals as goal
 
 pub returns-in-Ok-clause-stops : goal.returns-in-Ok-clause-stops
@@ -18,3 +18,10 @@ returns-in-Ok-clause-late g c = err_later c.bring_up.result (λ e late none. lat
 
 pub returns-in-Err-clause-left : goal.returns-in-Err-clause-left
 returns-in-Err-clause-left g c = home_handed _ _ c.at_home.ensures.rest
+
+pub returns-in-Err-clause-accepted : goal.returns-in-Err-clause-accepted
+returns-in-Err-clause-accepted g c = home_accepted _ _ c.at_home.ensures.rest
+
+pub returns-in-Ok-clause-accepted : goal.returns-in-Ok-clause-accepted
+returns-in-Ok-clause-accepted g c =
+    err_later c.bring_up.result (λ e stops. stops_accepted _ _ _ _ _ e stops) c.bring_up.ensures.stops

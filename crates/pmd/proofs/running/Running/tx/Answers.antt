@@ -3,7 +3,7 @@ use Rattle.pmd_base.specs.declared.packet.Packet.{Packet}
 use Rattle.pmd_tx.specs.Sending.{Sender}
 use Rattle.pmd_tx.specs.Sends.{gate_of, IsAnswer, IsShut}
 use Rattle.pmd.specs.Running.{Running, receives}
-use Rattle.pmd.proofs.Both.{transmit_plays}
+use Rattle.pmd.proofs.Both.{transmit_drives}
 use Rattle.pmd.proofs.Sending.{sent_up}
 use Rattle.pmd.proofs.running.Running.tx.Goals as goal
 
@@ -24,15 +24,15 @@ invariant_of-self g c =
     (subst (λ (e : Bool). IsAnswer (gate_of q.transmit q.arena e p) p c.send.result) is c.send.ensures.answer)
     c.send.ensures.accepted c.send.ensures.kept c.send.ensures.layout refl refl
 
-pub returns-clause-plays : goal.returns-clause-plays
-returns-clause-plays g c =
+pub returns-clause-drives : goal.returns-clause-drives
+returns-clause-drives g c =
     let q : Running = record {
       arena = c.self.inside.arena;
       receive = c.self.inside.receive;
       transmit = c.self.inside.transmit;
     } in
     let s : Running = record q { transmit = c.send.new.self } in
-    transmit_plays (g.N.Nic.made c.args.nic.now) (g.N.Nic.made c.send.new.nic) q c.args.self.now s c.self.view_is
+    transmit_drives (g.N.Nic.made c.args.nic.now) (g.N.Nic.made c.send.new.nic) q c.args.self.now s c.self.view_is
     c.send.ensures.plays refl
 
 pub returns-clause-answer : goal.returns-clause-answer

@@ -3,9 +3,8 @@ use Rattle.std.proofs.Common.{◌≡◌, Bool, true, false, List, [], ◌∷◌,
 use Rattle.device_lock.specs.declared.entry.Call.{Call}
 use Rattle.pmd_rx.specs.Plays as receive
 use Rattle.pmd_tx.specs.Plays as transmit
-use Rattle.pmd_tx.specs.Sending.{Move, Elsewhere}
-use Rattle.driver_laws.specs.Going.{GoesOn, ReceivingGoesOn, SendingGoesOn, OthersGoOn, HalvesGoOn}
-use Rattle.driver_laws.specs.Halves.{Halves, Doer, Receives, Sends, AllOwn, OthersStep, after_call, doers_marked, doers_moved, doers_other, played_by, ReceivingDrives, SendingDrives, OthersDrive, DrivesOn}
+use Rattle.pmd_tx.specs.Sending.{Move}
+use Rattle.pmd.specs.Halves.{Halves, Doer, Receives, Sends, AllOwn, after_call, doers_marked, doers_moved, doers_other, played_by, ReceivingDrives, SendingDrives, OthersDrive, DrivesOn}
 
 -- the calls of one half
 
@@ -18,14 +17,14 @@ receives_own h (true ∷ marks) (n ∷ calls) own =
     (own.0, receives_own (after_call h Receives n) marks calls own.1)
 receives_own h (false ∷ marks) (n ∷ calls) own = (tt, receives_own h marks calls own.1)
 
-receives_played : (h : Halves) (marks : List Bool) (calls : List Call)
+pub receives_played : (h : Halves) (marks : List Bool) (calls : List Call)
     → played_by h (doers_marked marks) calls ≡ record h { receive = receive.played_by h.receive marks calls }
 receives_played h [] calls = refl
 receives_played h (m ∷ marks) [] = refl
 receives_played h (true ∷ marks) (n ∷ calls) = receives_played (after_call h Receives n) marks calls
 receives_played h (false ∷ marks) (n ∷ calls) = receives_played h marks calls
 
-pub receiving_drives : ReceivingDrives
+unfoldable pub receiving_drives : ReceivingDrives
 receiving_drives old new h k (marks, since, made, own, is) same = (
   doers_marked marks,
   since,
@@ -47,7 +46,7 @@ sends_played h [] calls = refl
 sends_played h (m ∷ moves) [] = refl
 sends_played h (m ∷ moves) (n ∷ calls) = sends_played (after_call h (Sends m) n) moves calls
 
-pub sending_drives : SendingDrives
+unfoldable pub sending_drives : SendingDrives
 sending_drives old new h k (moves, since, made, own, is) same = (
   doers_moved moves,
   since,
@@ -66,12 +65,12 @@ pub others_played : (h : Halves) (calls : List Call) → h ≡ played_by h (doer
 others_played h [] = refl
 others_played h (n ∷ calls) = others_played h calls
 
-pub others_drive : OthersDrive
+unfoldable pub others_drive : OthersDrive
 others_drive old new h (since, made) = (doers_other since, since, made, others_own h since, others_played h since)
 
 -- one after another
 
-both_own : (h : Halves) (ds es : List Doer) (ms ns : List Call) → AllOwn h ds ms → AllOwn (played_by h ds ms) es ns
+pub both_own : (h : Halves) (ds es : List Doer) (ms ns : List Call) → AllOwn h ds ms → AllOwn (played_by h ds ms) es ns
     → AllOwn h (ds ++ es) (ms ++ ns)
 both_own h [] es [] ns first then = then
 both_own h [] es (m ∷ ms) ns first then = absurd first
@@ -85,7 +84,7 @@ both_played h [] es (m ∷ ms) ns own = absurd own
 both_played h (d ∷ ds) es [] ns own = absurd own
 both_played h (d ∷ ds) es (m ∷ ms) ns own = both_played (after_call h d m) ds es ms ns own.1
 
-pub drives_on : DrivesOn
+unfoldable pub drives_on : DrivesOn
 drives_on old mid new h j k (ds, ms, made, own, is) (es, ns, more, then, was) =
     let here : AllOwn (played_by h ds ms) es ns = subst (λ x. AllOwn x es ns) is then in (
       ds ++ es,
@@ -94,47 +93,3 @@ drives_on old mid new h j k (ds, ms, made, own, is) (es, ns, more, then, was) =
       both_own h ds es ms ns own here,
       was ∙ ap (λ x. played_by x es ns) is ∙ sym (both_played h ds es ms ns own),
     )
-
--- the others are steps, where they were before and behind
-both_step : (h : Halves) (ds es : List Doer) (ms ns : List Call) → AllOwn h ds ms → OthersStep ds ms
-    → OthersStep es ns → OthersStep (ds ++ es) (ms ++ ns)
-both_step h [] es [] ns own first then = then
-both_step h [] es (m ∷ ms) ns own first then = absurd own
-both_step h (d ∷ ds) es [] ns own first then = absurd own
-both_step h (d ∷ ds) es (m ∷ ms) ns own first then =
-    (first.0, both_step (after_call h d m) ds es ms ns own.1 first.1 then)
-
--- so the halves go on beside steps
-
-received : (old new : List Call) (h k : Halves) (plays : receive.Plays old h.receive new k.receive)
-    → OthersStep (doers_marked plays.0) plays.1 → k.transmit ≡ h.transmit → GoesOn old h new k
-unfolding receiving_drives
-received old new h k (marks, since, made, own, is) steps other =
-    (receiving_drives old new h k (marks, since, made, own, is) other, steps)
-
-pub receiving_goes_on : ReceivingGoesOn
-receiving_goes_on old new h k x = received old new h k x.plays x.steps x.other
-
-sent : (old new : List Call) (h k : Halves) (plays : transmit.Plays old h.transmit new k.transmit)
-    → OthersStep (doers_moved plays.0) plays.1 → k.receive ≡ h.receive → GoesOn old h new k
-unfolding sending_drives
-sent old new h k (moves, since, made, own, is) steps other =
-    (sending_drives old new h k (moves, since, made, own, is) other, steps)
-
-pub sending_goes_on : SendingGoesOn
-sending_goes_on old new h k x = sent old new h k x.plays x.steps x.other
-
-all_step : (calls : List Call) → OthersStep [] calls → OthersStep (doers_other calls) calls
-all_step [] are = tt
-all_step (n ∷ calls) are = (λ neither. are.0, all_step calls are.1)
-
-pub others_go_on : OthersGoOn
-unfolding others_drive
-others_go_on old new h (since, made) are = (others_drive old new h (since, made), all_step since are)
-
-pub halves_go_on : HalvesGoOn
-unfolding drives_on
-halves_go_on old mid new h j k ((ds, ms, made, own, is), first) ((es, ns, more, then, was), second) = (
-  drives_on old mid new h j k (ds, ms, made, own, is) (es, ns, more, then, was),
-  both_step h ds es ms ns own first second,
-)

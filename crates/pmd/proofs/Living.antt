@@ -1,0 +1,71 @@
+-- A driver's life, call by call.
+use Rattle.std.proofs.Common.{◌≡◌, ℕ, List, [], refl, sym, ap, ◌∙◌, subst, append-nil}
+use Rattle.dma_arena.specs.Numbers.{Numbers}
+use Rattle.device_lock.specs.declared.entry.Call.{Call}
+use Rattle.pmd_queue.specs.Named.{AtPort}
+use Rattle.pmd.specs.Driver.{Driver, accepted_of, handed_of, halted_of}
+use Rattle.pmd.specs.Halves.{Halves, Drives, halves_of}
+use Rattle.pmd.specs.Life.{RunsOn, KeepsHalves, IsStopped, HasLived}
+use Rattle.pmd.specs.Started.{HasStarted, left_accepted, left_handed}
+use Rattle.pmd.specs.declared.driver.Rings.{Rings}
+use Rattle.pmd.specs.declared.driver.Rings.TheVariants.{Up, Down}
+use Rattle.pmd.specs.declared.start.Rest.{Rest}
+use Rattle.pmd.proofs.Calls.{drives_on}
+
+-- without any call
+drives_none : (made : List Call) (h : Halves) → Drives made h made h
+drives_none made h = ([], [], sym (append-nil made), tt, refl)
+
+pub runs_still : (made : List Call) (rings : Rings) → RunsOn made rings made rings
+runs_still made (Up r) = drives_none made (halves_of r)
+runs_still made (Down h) = tt
+
+-- one after another
+pub runs_on : (old mid new : List Call) (first then last : Rings) → RunsOn old first mid then
+    → RunsOn mid then new last → RunsOn old first new last
+runs_on old mid new (Up r) (Up s) (Up t) one two =
+    drives_on old mid new (halves_of r) (halves_of s) (halves_of t) one two
+runs_on old mid new (Up r) (Up s) (Down h) one two = absurd two
+runs_on old mid new (Up r) (Down h) last one two = absurd one
+runs_on old mid new (Down h) then last one two = tt
+
+-- a call that leaves the halves
+pub runs_kept : (old new : List Call) (first then last : Rings) → RunsOn old first new then → KeepsHalves then last
+    → RunsOn old first new last
+runs_kept old new (Up r) (Up s) (Up t) one kept =
+    subst (λ (h : Halves). Drives old (halves_of r) new h) (sym kept) one
+runs_kept old new (Up r) (Up s) (Down h) one kept = absurd kept
+runs_kept old new (Up r) (Down h) last one kept = absurd one
+runs_kept old new (Down h) then last one kept = tt
+
+-- from its start to its end
+
+lived_up : (q : AtPort) (size : ℕ) (old : List Call) (a : Numbers) (made mid new : List Call) (p : Driver)
+    (rings : Rings) (left : Rest) → HasStarted q size old a made p → RunsOn made p.rings mid rings
+    → IsStopped q mid (halted_of rings) new left → left_handed left ≡ handed_of rings
+    → left_accepted left ≡ accepted_of rings → HasLived q size old a new left
+lived_up q size old a made mid new p (Up s) left (r, is, up) runs stopped handed accepted = record {
+  made = mid;
+  last = s;
+  lives = record {
+    made = made;
+    fresh = r;
+    up = up;
+    drives = subst (λ (d : Driver). RunsOn made d.rings mid (Up s)) is runs;
+  };
+  stopped = stopped;
+  handed = handed;
+  accepted = accepted;
+}
+lived_up q size old a made mid new p (Down h) left (r, is, up) runs stopped handed accepted =
+    absurd (subst (λ (d : Driver). RunsOn made d.rings mid (Down h)) is runs)
+
+pub has_lived : (q : AtPort) (size : ℕ) (old : List Call) (a : Numbers) (made mid new : List Call) (p d : Driver)
+    (left : Rest) → HasStarted q size old a made p → RunsOn made p.rings mid d.rings → d.queue ≡ p.queue
+    → IsStopped d.queue mid (halted_of d.rings) new left → left_handed left ≡ handed_of d.rings
+    → left_accepted left ≡ accepted_of d.rings → HasLived q size old a new left
+has_lived q size old a made mid new p d left (r, is, up) runs same stopped handed accepted =
+    lived_up q size old a made mid new p d.rings left (r, is, up) runs
+    (subst (λ (x : AtPort). IsStopped x mid (halted_of d.rings) new left)
+    (same ∙ ap (λ (x : Driver). x.queue) is) stopped)
+    handed accepted

@@ -1,0 +1,68 @@
+-- A driver's life: its start, the calls that drove its halves on, and its end.
+use Rattle.std.specs.Prelude.{ℕ, ◌≡◌, List, [], None, Err}
+use Rattle.dma_arena.specs.Numbers.{Numbers}
+use Rattle.device_lock.specs.declared.entry.Call.{Call}
+use Rattle.pmd_base.specs.declared.fault.PmdFault.{PmdFault}
+use Rattle.pmd_queue.specs.Named.{AtPort}
+use Rattle.pmd_halt.specs.Halted.{Halted}
+use Rattle.pmd_halt.specs.Stopping.{Stops, StopFails}
+use Rattle.pmd.specs.Driver.{WhereUp, halted_of}
+use Rattle.pmd.specs.Halves.{Drives, halves_of}
+use Rattle.pmd.specs.Running.{Running}
+use Rattle.pmd.specs.Started.{AreUp, IsShut, StopsStarting, start_gate, left_accepted, left_handed}
+use Rattle.pmd.specs.declared.driver.Rings.{Rings}
+use Rattle.pmd.specs.declared.driver.Rings.TheVariants.{Up, Down}
+use Rattle.pmd.specs.declared.start.Rest.{Rest}
+use Rattle.pmd.specs.declared.start.Rest.TheVariants as rest
+use Rattle.pmd.specs.declared.start.StartRefused.{StartRefused}
+
+-- where the driver runs, it runs on, and the calls that were made since drove its halves on
+abbrev pub RunsOn : List Call → Rings → List Call → Rings → Type 0
+RunsOn old rings new after = WhereUp rings after (λ r s. Drives old (halves_of r) new (halves_of s))
+
+-- where the driver runs, it runs on with its halves as they were
+abbrev pub KeepsHalves : Rings → Rings → Type 0
+KeepsHalves rings after = WhereUp rings after (λ r s. halves_of s ≡ halves_of r)
+
+-- a driver of this queue lives: after the calls that were made before, its rings came up, with so many descriptors each
+-- and the blocks of this arena; and then its halves were driven on, up to where they are
+pub record Lives (q : AtPort) (size : ℕ) (old : List Call) (a : Numbers) (new : List Call) (r : Running) : Type 0 where
+  -- the calls that were made once it ran, and the driver there
+  pub made : List Call
+  pub fresh : Running
+  pub up : AreUp q size old a made fresh
+  pub drives : Drives made (halves_of fresh) new (halves_of r)
+
+-- a driver of this queue was stopped, once: it is home, or the stop was refused, and the driver is left, not running
+abbrev pub IsStopped : AtPort → List Call → Halted → List Call → Rest → Type 0
+IsStopped q old h new (rest.Home home) = Stops q old h new home
+IsStopped q old h new (rest.Running p) =
+    (f : PmdFault) × (after : Halted) × (p ≡ record { queue = q; rings = Down after })
+    × StopFails f q old h new after
+
+-- a driver lived, and was stopped. What it handed out and accepted is what its halves did up to there
+pub record HasLived (q : AtPort) (size : ℕ) (old : List Call) (a : Numbers) (new : List Call) (left : Rest) :
+    Type 0 where
+  -- the calls that were made as it was to stop, and the driver there
+  pub made : List Call
+  pub last : Running
+  pub lives : Lives q size old a made last
+  pub stopped : IsStopped q made (halted_of (Up last)) new left
+  pub handed : left_handed left ≡ last.receive.handed
+  pub accepted : left_accepted left ≡ last.transmit.accepted
+
+-- what a refused start left is home, or is stopped, once
+abbrev pub ComesDown : List Call → Rest → List Call → Rest → Type 0
+ComesDown old (rest.Home home) new left = (left ≡ rest.Home home) × (new ≡ old)
+ComesDown old (rest.Running p) new left = IsStopped p.queue old (halted_of p.rings) new left
+
+-- a driver's start was refused, and what it left came down. Nothing was handed out or accepted
+pub record NeverLived (q : AtPort) (size : ℕ) (old : List Call) (a : Numbers) (e : StartRefused) (new : List Call)
+    (left : Rest) : Type 0 where
+  -- the calls that were made as the start was refused
+  pub made : List Call
+  pub shut : IsShut (start_gate a q size) a old made (Err e)
+  pub stops : start_gate a q size ≡ None → StopsStarting q size old a made e
+  pub down : ComesDown made e.rest new left
+  pub handed : left_handed left ≡ []
+  pub accepted : left_accepted left ≡ []

@@ -1,0 +1,171 @@
+-- A driver's life as its calls tell it is a life.
+use Rattle.std.proofs.Common.{◌≡◌, ℕ, inl, inr, Bool, true, false, List, [], ◌∷◌, Option, Some, Ok, if◌then◌else◌, refl, sym, ap, ◌∙◌, subst}
+use Rattle.std.proofs.lemmas.List.{append-nil}
+use Rattle.dma_arena.specs.Numbers.{Numbers}
+use Rattle.nic_device.specs.State.{new_state}
+use Rattle.device_lock.specs.History.{calls_of}
+use Rattle.device_lock.specs.declared.alone.Watched.{Watched}
+use Rattle.device_lock.specs.declared.entry.Call.{Call}
+use Rattle.device_lock.specs.declared.entry.Entry.{Entry}
+use Rattle.pmd.specs.Driver.{Driver, WhereUp, accepted_of, handed_of, with_arena}
+use Rattle.pmd.specs.Running.{Running}
+use Rattle.pmd.specs.Started.{IsShut, is_size}
+use Rattle.pmd.specs.declared.driver.Rings.{Rings}
+use Rattle.pmd.specs.declared.driver.Rings.TheVariants.{Up, Down}
+use Rattle.pmd_base.specs.declared.fault.PmdFault.{PmdFault}
+use Rattle.pmd_base.specs.declared.fault.PmdFault.TheVariants.{BadSize}
+use Rattle.pmd_queue.specs.Named.{AtPort}
+use Rattle.receive_laws.specs.Delivered as receive
+use Rattle.receive_laws.specs.Delivered.{delivered}
+use Rattle.transmit_laws.specs.Agreeing.{bytes_of}
+use Rattle.transmit_laws.specs.Laws as transmit
+use Rattle.transmit_laws.specs.Sent.{sent_since}
+use Rattle.driver_laws.specs.Going.{GoesOn}
+use Rattle.pmd.specs.Halves.{Halves, halves_of}
+use Rattle.driver_laws.proofs.Going.{halves_go_on, others_go_on}
+use Rattle.pmd_laws.specs.Life.{IsLife}
+use Rattle.pmd_laws.specs.Order.{IsLived}
+use Rattle.pmd_laws.specs.Told as told
+use Rattle.pmd_laws.specs.Told.{AllFollow, Follows, HasNoneOut, IsTold, IsToldOf, IsToldToLook, Drove, Keeps, Moment, last}
+use Rattle.pmd_laws.proofs.Looks.{none_before_look}
+use Rattle.pmd_laws.proofs.Order.{handed_of_life, idle_of_life, sent_of_life}
+
+-- a driver that runs goes on: it runs with these rings
+pub record RunsOn (m : Moment) (r : Running) (n : Moment) : Type 0 where
+  pub rings : Running
+  pub up : n.driver.rings ≡ Up rings
+  pub goes : GoesOn m.made (halves_of r) n.made (halves_of rings)
+
+-- where a driver that runs runs on
+
+up_next : (P : Running → Running → Type 0) (a b : Rings) (r : Running) → a ≡ Up r → WhereUp a b P
+    → (s : Running) × (b ≡ Up s) × P r s
+up_next P (Up x) (Up y) r is holds = let same : x ≡ r = cc in (y, refl, subst (λ z. P z y) same holds)
+up_next P (Up x) (Down y) r is holds = absurd holds
+up_next P (Down x) b r is holds = cc
+
+drove : (m n : Moment) (r : Running) → m.driver.rings ≡ Up r → Drove m n → RunsOn m r n
+drove m n r is x =
+    let (s, up, goes) = up_next _ m.driver.rings n.driver.rings r is x in record { rings = s; up = up; goes = goes }
+
+kept : (m n : Moment) (r : Running) → m.driver.rings ≡ Up r → Keeps m n → RunsOn m r n
+kept m n r is (a, same, added, steps) = record {
+  rings = record r { arena = a };
+  up = same ∙ ap (λ (x : Rings). with_arena x a) is;
+  goes = others_go_on m.made n.made (halves_of r) added steps;
+}
+
+follows : (m n : Moment) (r : Running) → m.driver.rings ≡ Up r → Follows m n → RunsOn m r n
+follows m n r is (inl x) = drove m n r is x
+follows m n r is (inr x) = kept m n r is x
+
+all_follow : (m : Moment) (later : List Moment) (r : Running) → m.driver.rings ≡ Up r → AllFollow m later
+    → RunsOn m r (last m later)
+all_follow m [] r is x =
+    record { rings = r; up = is; goes = others_go_on m.made m.made (halves_of r) ([], sym (append-nil m.made)) tt }
+all_follow m (n ∷ later) r is x =
+    let one = follows m n r is x.0 in
+    let more = all_follow n later one.rings one.up x.1 in
+    record {
+      rings = more.rings;
+      up = more.up;
+      goes =
+          halves_go_on m.made n.made (last n later).made (halves_of r) (halves_of one.rings) (halves_of more.rings)
+          one.goes more.goes;
+    }
+
+-- a start that isn't shut has a size that rings may have
+open_size : (size : ℕ) (a : Numbers) (old new : List Call) (p : Driver) (b : Bool) (rest : Option PmdFault)
+    → IsShut (if b then rest else Some BadSize) a old new (Ok p) → b ≡ true
+open_size size a old new p true rest x = refl
+open_size size a old new p false rest x = absurd x
+
+-- so it is a life
+module _ (q : AtPort) (size : ℕ) (old : List Call) (a : Numbers) (m : Moment) (later : List Moment)
+    (x : IsTold q size old a m later) where
+  abbrev first : Running
+  first = x.started.0
+
+  runs : RunsOn m first (last m later)
+  runs = all_follow m later first (ap (λ (p : Driver). p.rings) x.started.1) x.since
+
+  abbrev now : Halves
+  now = halves_of runs.rings
+
+  abbrev life : (calls : List Call) → GoesOn m.made (halves_of first) calls now
+      → IsLife q size old a m.made first calls now
+  life calls since = record {
+    sized = open_size size a old m.made m.driver (is_size size) _ x.shut;
+    up = x.started.2;
+    steps = x.steps;
+    filled = x.filled;
+    since = since;
+  }
+
+module _ (w : Watched) (fifo : ℕ) (h : List Entry) (q : AtPort) (size : ℕ) (old : List Call) (a : Numbers)
+    (m : Moment) (later : List Moment) where
+  module _ (x : IsToldOf w fifo h q size old a m later) where
+    abbrev k : Halves
+    k = now q size old a m later x.told
+
+    abbrev up : (last m later).driver.rings ≡ Up (runs q size old a m later x.told).rings
+    up = (runs q size old a m later x.told).up
+
+    lived : IsLived w fifo h q size old a m.made x.told.started.0 k
+    lived =
+        let goes = (runs q size old a m later x.told).goes in
+        record {
+          along = x.along;
+          life =
+              life q size old a m later x.told (calls_of w.pass h)
+              (subst (λ (calls : List Call). GoesOn m.made (halves_of x.told.started.0) calls k) (sym x.made) goes);
+          begins = x.begins;
+        }
+
+    handed : receive.IsPrefixOf (handed_of (last m later).driver.rings) (delivered w.queue (new_state w.vfs fifo) h)
+    handed =
+        subst (λ (z : Rings). receive.IsPrefixOf (handed_of z) (delivered w.queue (new_state w.vfs fifo) h)) (sym up)
+        (handed_of_life w fifo h q size old a m.made x.told.started.0 k lived)
+
+    sends : transmit.IsPrefixOf (sent_since w.queue (new_state w.vfs fifo) [] h)
+        (bytes_of (accepted_of (last m later).driver.rings))
+    sends =
+        subst
+        (λ (z : Rings).
+        transmit.IsPrefixOf (sent_since w.queue (new_state w.vfs fifo) [] h) (bytes_of (accepted_of z)))
+        (sym up) (sent_of_life w fifo h q size old a m.made x.told.started.0 k lived)
+
+    idle : HasNoneOut (last m later).driver.rings
+        → bytes_of (accepted_of (last m later).driver.rings) ≡ sent_since w.queue (new_state w.vfs fifo) [] h
+    idle none =
+        ap (λ (z : Rings). bytes_of (accepted_of z)) up
+        ∙ idle_of_life w fifo h q size old a m.made x.told.started.0 k lived (subst HasNoneOut up none)
+
+  module _ (n : Moment) (x : IsToldToLook w fifo h q size old a m later n) where
+    looked : handed_of (last m later).driver.rings ≡ delivered w.queue (new_state w.vfs fifo) x.look.before
+    looked =
+        let runs = runs q size old a m later x.told in
+        let (s, after, (looks, steps)) = up_next _ (last m later).driver.rings n.driver.rings runs.rings runs.up x.looks in
+        ap handed_of runs.up
+        ∙ none_before_look w fifo h q size old a m.made x.told.started.0 (last m later).made (halves_of runs.rings)
+        n.made s.receive
+        (record {
+          along = x.along;
+          life = life q size old a m later x.told (last m later).made runs.goes;
+          begins = x.begins;
+          looks = looks;
+          steps = steps;
+          look = x.look;
+        })
+
+pub handed_as_told : told.HandedIsPrefix
+handed_as_told = handed
+
+pub sent_as_told : told.SentIsPrefix
+sent_as_told = sends
+
+pub idle_as_told : told.IdleIsAllSent
+idle_as_told = idle
+
+pub none_as_told : told.NoneIsAllBefore
+none_as_told = looked

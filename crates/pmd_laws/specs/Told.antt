@@ -1,0 +1,123 @@
+-- A driver's life as its calls tell it: what the clauses of `start`, `rx`, `tx`, `reap`, `packet` and `release` say of
+-- the driver, and of the calls that its pass made.
+use Rattle.std.specs.Prelude.{ℕ, ◌≡◌, ◌⊎◌, ⊤, List, [], ◌∷◌, Ok}
+use Rattle.dma_arena.specs.Numbers.{Numbers}
+use Rattle.nic_device.specs.State.{new_state}
+use Rattle.device_lock.specs.History.{calls_of}
+use Rattle.device_lock.specs.declared.alone.Watched.{Watched}
+use Rattle.device_lock.specs.declared.entry.Call.{Call}
+use Rattle.device_lock.specs.declared.entry.Entry.{Entry}
+use Rattle.pmd.specs.Driver.{Driver, WhereUp, accepted_of, handed_of, with_arena}
+use Rattle.pmd.specs.Halves.{OthersStep, doers_marked, halves_of}
+use Rattle.pmd.specs.Started.{HasStarted, IsShut, start_gate}
+use Rattle.pmd.specs.declared.driver.Rings.{Rings}
+use Rattle.pmd.specs.declared.driver.Rings.TheVariants.{Up, Down}
+use Rattle.pmd_base.specs.Made.{AddsSome}
+use Rattle.pmd_queue.specs.Named.{AtPort}
+use Rattle.pmd_rx.specs.Plays.{LooksOnce}
+use Rattle.receive_laws.specs.Delivered as receive
+use Rattle.receive_laws.specs.Delivered.{delivered}
+use Rattle.transmit_laws.specs.Agreeing.{bytes_of}
+use Rattle.transmit_laws.specs.Laws as transmit
+use Rattle.transmit_laws.specs.Sent.{sent_since}
+use Rattle.start_laws.specs.Along.{IsAlong}
+use Rattle.start_laws.specs.Start.{BeginsWell, OnlySteps}
+use Rattle.driver_laws.specs.Going.{GoesOn}
+use Rattle.pmd_laws.specs.Looks.{EndsAt}
+
+-- when a call of the driver has returned: the driver, and the calls that its pass has made
+pub record Moment : Type 0 where
+  pub made : List Call
+  pub driver : Driver
+
+-- from one moment of a driver that runs to the next, beside steps of the device: a call of `rx`, `tx` or `reap`, as its
+-- clause `drives` tells; or one of `packet` or `release`, or none, by which the arena alone may change
+
+abbrev pub Drove : Moment → Moment → Type 0
+Drove m n =
+    WhereUp m.driver.rings n.driver.rings (λ r s. GoesOn m.made (halves_of r) n.made (halves_of s))
+
+abbrev pub Keeps : Moment → Moment → Type 0
+Keeps m n =
+    (a : Numbers) × (n.driver.rings ≡ with_arena m.driver.rings a) × (added : AddsSome m.made n.made)
+    × OthersStep [] added.0
+
+abbrev pub Follows : Moment → Moment → Type 0
+Follows m n = Drove m n ⊎ Keeps m n
+
+-- so moments follow on one another, and the last of them
+abbrev pub AllFollow : Moment → List Moment → Type 0
+AllFollow m [] = ⊤
+AllFollow m (n ∷ later) = Follows m n × AllFollow n later
+
+abbrev pub last : Moment → List Moment → Moment
+last m [] = m
+last m (n ∷ later) = last n later
+
+-- a `start` brought the driver up, as its clauses `shut` and `started` tell, beside steps of the device; and the other
+-- moments follow on the one when it returned
+pub record IsTold (q : AtPort) (size : ℕ) (old : List Call) (a : Numbers) (m : Moment) (later : List Moment) : Type 0
+  where
+    pub shut : IsShut (start_gate a q size) a old m.made (Ok m.driver)
+    pub started : HasStarted q size old a m.made m.driver
+    pub steps : OnlySteps q size old a m.made started.0 started.2
+    pub filled : OthersStep (doers_marked started.2.on.plays.0) started.2.on.plays.1
+    pub since : AllFollow m later
+
+-- a legal history of a new device that leaves the queue alone, in which the pass has made just the calls of the last
+-- moment
+pub record IsToldOf (w : Watched) (fifo : ℕ) (h : List Entry) (q : AtPort) (size : ℕ) (old : List Call) (a : Numbers)
+    (m : Moment) (later : List Moment) : Type 0 where
+  pub along : IsAlong w fifo h
+  pub told : IsTold q size old a m later
+  pub begins : BeginsWell w fifo h q size old a m.made told.started.0 told.started.2
+  pub made : calls_of w.pass h ≡ (last m later).made
+
+-- what the driver handed out is a prefix of what was delivered
+abbrev pub HandedIsPrefix : Type 0
+HandedIsPrefix =
+    (w : Watched) (fifo : ℕ) (h : List Entry) (q : AtPort) (size : ℕ) (old : List Call) (a : Numbers) (m : Moment)
+    (later : List Moment) → IsToldOf w fifo h q size old a m later →
+    receive.IsPrefixOf (handed_of (last m later).driver.rings) (delivered w.queue (new_state w.vfs fifo) h)
+
+-- what was sent is a prefix of what the driver accepted, and it is all of that where no packet is outstanding, as where
+-- `reap` answers so
+
+abbrev pub SentIsPrefix : Type 0
+SentIsPrefix =
+    (w : Watched) (fifo : ℕ) (h : List Entry) (q : AtPort) (size : ℕ) (old : List Call) (a : Numbers) (m : Moment)
+    (later : List Moment) → IsToldOf w fifo h q size old a m later →
+    transmit.IsPrefixOf (sent_since w.queue (new_state w.vfs fifo) [] h)
+    (bytes_of (accepted_of (last m later).driver.rings))
+
+abbrev pub HasNoneOut : Rings → Type 0
+HasNoneOut (Up r) = r.transmit.outstanding ≡ []
+HasNoneOut (Down h) = ⊥
+
+abbrev pub IdleIsAllSent : Type 0
+IdleIsAllSent =
+    (w : Watched) (fifo : ℕ) (h : List Entry) (q : AtPort) (size : ℕ) (old : List Call) (a : Numbers) (m : Moment)
+    (later : List Moment) → IsToldOf w fifo h q size old a m later → HasNoneOut (last m later).driver.rings →
+    bytes_of (accepted_of (last m later).driver.rings) ≡ sent_since w.queue (new_state w.vfs fifo) [] h
+
+-- a call of `rx` answered none, as its clause `none` tells, beside steps of the device
+abbrev pub LooksInVain : Moment → Moment → Type 0
+LooksInVain m n =
+    WhereUp m.driver.rings n.driver.rings
+    (λ r s. (looks : LooksOnce m.made r.receive n.made s.receive) × OthersStep [] looks.0)
+
+-- in a legal history of a new device that leaves the queue alone, such a call comes after the last moment
+pub record IsToldToLook (w : Watched) (fifo : ℕ) (h : List Entry) (q : AtPort) (size : ℕ) (old : List Call)
+    (a : Numbers) (m : Moment) (later : List Moment) (n : Moment) : Type 0 where
+  pub along : IsAlong w fifo h
+  pub told : IsTold q size old a m later
+  pub begins : BeginsWell w fifo h q size old a m.made told.started.0 told.started.2
+  pub looks : LooksInVain (last m later) n
+  pub look : EndsAt w.pass h n.made
+
+-- what the driver had handed out is all that was delivered before the entry of the call's look
+abbrev pub NoneIsAllBefore : Type 0
+NoneIsAllBefore =
+    (w : Watched) (fifo : ℕ) (h : List Entry) (q : AtPort) (size : ℕ) (old : List Call) (a : Numbers) (m : Moment)
+    (later : List Moment) (n : Moment) (x : IsToldToLook w fifo h q size old a m later n) →
+    handed_of (last m later).driver.rings ≡ delivered w.queue (new_state w.vfs fifo) x.look.before

@@ -9,12 +9,10 @@ use Rattle.device_lock.specs.Pass.{call_of}
 use Rattle.device_lock.specs.declared.alone.Watched.{Watched}
 use Rattle.device_lock.specs.declared.entry.Call.{Call}
 use Rattle.device_lock.specs.declared.entry.Entry.{Entry}
-use Rattle.pmd_rx.specs.Plays.{Plays}
-use Rattle.pmd_rx.specs.Receive.{Receive}
 use Rattle.pmd_rx.specs.Wrong as receiving
 use Rattle.pmd_tx.specs.Sending as sending
 use Rattle.pmd.specs.Halves.{Halves, Doer, Receives, Sends, AllOwn, after_call, doers_marked, doers_moved, doers_other, played_by}
-use Rattle.pmd.proofs.Calls.{receiving_drives, sends_own}
+use Rattle.pmd.proofs.Calls.{receives_own, sends_own}
 use Rattle.healthy_laws.specs.Faults.{NoReceiveFault, NoTransmitFault}
 use Rattle.healthy_laws.specs.Healthy.{IsHealthy, AreHealthy, IsUnshared}
 use Rattle.healthy_laws.proofs.Healthy.{own_replies_are_healthy}
@@ -58,13 +56,6 @@ module _ (w : Watched) (fifo : ℕ) (start rest more : List Entry) (h : Halves) 
         last_healthy before last n
         (healthy_behind (played_by h doers (calls_of w.pass rest)) ds ends since (before ++ n ∷ []) own_since here)
 
--- the receive half's calls are the halves'
-marked_own : (h : Halves) (old new : List Call) (w : Receive) (p : Plays old h.receive new w)
-    → AllOwn h (doers_marked p.0) p.1
-unfolding receiving_drives
-marked_own h old new w (marks, since, made, own, is) =
-    (receiving_drives old new h (record h { receive = w }) (marks, since, made, own, is) refl).3
-
 pub no_receive_fault : NoReceiveFault
 no_receive_fault w fifo start rest more h doers own old new k
     (mid, e, r, (marks, since, played, all, is), mine, (before, adds), sick) did made x =
@@ -72,7 +63,7 @@ no_receive_fault w fifo start rest more h doers own old new k
     both_ways (receiving.is_healthy e r) sick
     (last_is w fifo start rest more h doers (doers_marked marks) own old new since before Receives (call_of e r) did
     made (adds ∙ ap (λ (calls : List Call). calls ++ (before ++ call_of e r ∷ [])) played)
-    (marked_own there old mid k (marks, since, played, all, is)) x)
+    (receives_own there marks since all) x)
 
 pub no_transmit_fault : NoTransmitFault
 no_transmit_fault w fifo start rest more h doers own old new f did made x =

@@ -4,6 +4,7 @@
 //! Each law is the contract of a function that does nothing. `specs/Healthy` says which histories are meant.
 #![tactic(auto)]
 
+ghost use Rattle.healthy_laws.specs.Before.{FramesStayShortAlong, OnlyPassLent};
 ghost use Rattle.healthy_laws.specs.Faults.{NoReceiveFault, NoTransmitFault};
 ghost use Rattle.healthy_laws.specs.Healthy.{OwnRepliesAreHealthy};
 
@@ -20,4 +21,12 @@ pub fn own_replies_are_healthy()
 pub fn no_call_finds_the_device_at_fault()
     ensures receive { NoReceiveFault }
     ensures transmit { NoTransmitFault }
+{}
+
+/// What such a history begins with leads there from the driver's start: over entries that write no setting the frames
+/// that wait for the queue stay as short as a buffer; and where no other pass lends a block of the driver's arena, only
+/// those are lent that were before, and those that the pass lent.
+pub fn entries_before_lead_there()
+    ensures short { FramesStayShortAlong }
+    ensures lent { OnlyPassLent }
 {}

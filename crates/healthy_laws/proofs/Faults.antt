@@ -19,8 +19,8 @@ use Rattle.healthy_laws.proofs.Healthy.{own_replies_are_healthy}
 
 -- the calls behind some, and the one behind calls of neither half
 
-healthy_behind : (h : Halves) (ds es : List Doer) (ms ns : List Call) → AllOwn h ds ms → AreHealthy (ds ++ es) (ms ++ ns)
-    → AreHealthy es ns
+healthy_behind : (h : Halves) (ds es : List Doer) (ms ns : List Call) → AllOwn h ds ms
+    → AreHealthy (ds ++ es) (ms ++ ns) → AreHealthy es ns
 healthy_behind h [] es [] ns own are = are
 healthy_behind h [] es (m ∷ ms) ns own are = absurd own
 healthy_behind h (d ∷ ds) es [] ns own are = absurd own
@@ -61,8 +61,8 @@ no_receive_fault w fifo start rest more h doers own old new k
     (mid, e, r, (marks, since, played, all, is), mine, (before, adds), sick) did made x =
     let there = played_by h doers (calls_of w.pass rest) in
     both_ways (receiving.is_healthy e r) sick
-    (last_is w fifo start rest more h doers (doers_marked marks) own old new since before Receives (call_of e r) did made
-    (adds ∙ ap (λ (calls : List Call). calls ++ (before ++ call_of e r ∷ [])) played)
+    (last_is w fifo start rest more h doers (doers_marked marks) own old new since before Receives (call_of e r) did
+    made (adds ∙ ap (λ (calls : List Call). calls ++ (before ++ call_of e r ∷ [])) played)
     (receives_own there marks since all) x)
 
 pub no_transmit_fault : NoTransmitFault
@@ -70,6 +70,6 @@ no_transmit_fault w fifo start rest more h doers own old new f did made x =
     let there = played_by h doers (calls_of w.pass rest) in
     let last = call_of f.event f.reply in
     both_ways (sending.is_healthy f.move f.reply) f.sick
-    (last_is w fifo start rest more h doers (doers_moved f.plays.0) own old new f.plays.1 f.adds.0 (Sends f.move) last did
-    made (f.adds.1 ∙ ap (λ (calls : List Call). calls ++ (f.adds.0 ++ last ∷ [])) f.plays.2)
+    (last_is w fifo start rest more h doers (doers_moved f.plays.0) own old new f.plays.1 f.adds.0 (Sends f.move) last
+    did made (f.adds.1 ∙ ap (λ (calls : List Call). calls ++ (f.adds.0 ++ last ∷ [])) f.plays.2)
     (sends_own there f.plays.0 f.plays.1 f.plays.3) x)

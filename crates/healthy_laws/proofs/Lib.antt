@@ -1,3 +1,4 @@
+pub mod Before
 pub mod Faults
 pub mod Healthy
 pub mod Stepping

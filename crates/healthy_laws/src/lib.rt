@@ -4,13 +4,14 @@
 //! Each law is the contract of a function that does nothing. `specs/Healthy` says which histories are meant.
 #![tactic(auto)]
 
+ghost use Rattle.healthy_laws.specs.Before.{FramesStayShortAlong, OnlyPassLent};
 ghost use Rattle.healthy_laws.specs.Faults.{NoReceiveFault, NoTransmitFault};
 ghost use Rattle.healthy_laws.specs.Healthy.{OwnRepliesAreHealthy};
 
 /// Over a history of a new device that leaves the driver's queue alone, from a place on where the device agrees with
-/// both halves and the receive side has gone on: each call of either half gets a reply that a healthy queue gives. There
-/// the frames that wait for the queue fit a buffer, as do those that are let in; and of the driver's arena only blocks
-/// are lent that the driver has lent, of which no other lends any.
+/// both halves and the receive side has gone on: each call of either half gets a reply that a healthy queue gives.
+/// There the frames that wait for the queue fit a buffer, as do those that are let in; and of the driver's arena only
+/// blocks are lent that the driver has lent, of which no other lends any.
 pub fn own_replies_are_healthy()
     ensures { OwnRepliesAreHealthy }
 {}
@@ -20,4 +21,12 @@ pub fn own_replies_are_healthy()
 pub fn no_call_finds_the_device_at_fault()
     ensures receive { NoReceiveFault }
     ensures transmit { NoTransmitFault }
+{}
+
+/// What such a history begins with leads there from the driver's start: over entries that write no setting the frames
+/// that wait for the queue stay as short as a buffer; and where no other pass lends a block of the driver's arena, only
+/// those are lent that were before, and those that the pass lent.
+pub fn entries_before_lead_there()
+    ensures short { FramesStayShortAlong }
+    ensures lent { OnlyPassLent }
 {}

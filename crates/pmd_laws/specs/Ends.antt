@@ -1,5 +1,5 @@
 -- What a driver that lived, and was stopped, handed out and sent.
-use Rattle.std.specs.Prelude.{ℕ, ◌≡◌, true, List, []}
+use Rattle.std.specs.Prelude.{ℕ, ◌≡◌, true, List, [], Option}
 use Rattle.dma_arena.specs.Numbers.{Numbers}
 use Rattle.nic_device.specs.State.{new_state}
 use Rattle.device_lock.specs.History.{calls_of}
@@ -10,6 +10,7 @@ use Rattle.pmd.specs.Halves.{OthersStep, doers_marked}
 use Rattle.pmd.specs.Life.{HasLived}
 use Rattle.pmd.specs.Started.{is_size, left_accepted, left_handed}
 use Rattle.pmd.specs.declared.start.Rest.{Rest}
+use Rattle.pmd_base.specs.declared.fault.PmdFault.{PmdFault}
 use Rattle.pmd_queue.specs.Named.{AtPort}
 use Rattle.receive_laws.specs.Delivered as receive
 use Rattle.receive_laws.specs.Delivered.{delivered}
@@ -21,17 +22,17 @@ use Rattle.start_laws.specs.Start.{BeginsWell, OnlySteps}
 
 -- beside the calls of a driver that lived its pass made steps of the device alone, up to its stop
 pub record LivedAmongSteps (q : AtPort) (size : ℕ) (old : List Call) (a : Numbers) (new : List Call) (left : Rest)
-    (lived : HasLived q size old a new left) : Type 0 where
+    (late : Option PmdFault) (lived : HasLived q size old a new left late) : Type 0 where
   pub start : OnlySteps q size old a lived.lives.made lived.lives.fresh lived.lives.up
   pub filled : OthersStep (doers_marked lived.lives.up.on.plays.0) lived.lives.up.on.plays.1
   pub since : OthersStep lived.lives.drives.0 lived.lives.drives.1
 
 -- a legal history of a new device that leaves the queue alone, up to where a driver that lived was to stop
 pub record IsToStop (w : Watched) (fifo : ℕ) (h : List Entry) (q : AtPort) (size : ℕ) (old : List Call) (a : Numbers)
-    (new : List Call) (left : Rest) (lived : HasLived q size old a new left) : Type 0 where
+    (new : List Call) (left : Rest) (late : Option PmdFault) (lived : HasLived q size old a new left late) : Type 0 where
   pub along : IsAlong w fifo h
   pub sized : is_size size ≡ true
-  pub steps : LivedAmongSteps q size old a new left lived
+  pub steps : LivedAmongSteps q size old a new left late lived
   pub calls : calls_of w.pass h ≡ lived.made
   pub begins : BeginsWell w fifo h q size old a lived.lives.made lived.lives.fresh lived.lives.up
 
@@ -40,7 +41,7 @@ pub record IsToStop (w : Watched) (fifo : ℕ) (h : List Entry) (q : AtPort) (si
 abbrev pub LeftIsPrefix : Type 0
 LeftIsPrefix =
     (w : Watched) (fifo : ℕ) (h : List Entry) (q : AtPort) (size : ℕ) (old : List Call) (a : Numbers)
-    (new : List Call) (left : Rest) (lived : HasLived q size old a new left) →
-    IsToStop w fifo h q size old a new left lived →
+    (new : List Call) (left : Rest) (late : Option PmdFault) (lived : HasLived q size old a new left late) →
+    IsToStop w fifo h q size old a new left late lived →
     receive.IsPrefixOf (left_handed left) (delivered w.queue (new_state w.vfs fifo) h)
     × transmit.IsPrefixOf (sent_since w.queue (new_state w.vfs fifo) [] h) (bytes_of (left_accepted left))

@@ -3,8 +3,8 @@ use Rattle.std.specs.Prelude.{◌≡◌, List, [], ◌∷◌, ◌++◌}
 use Rattle.device_lock.specs.declared.entry.Call.{Call}
 use Rattle.pmd_rx.specs.Plays as receive
 use Rattle.pmd_tx.specs.Plays as transmit
-use Rattle.pmd.specs.Halves.{Halves, Doer, AllOwn, OthersStep, after_call, doers_marked, doers_moved}
-use Rattle.pmd.proofs.Calls.{others, receiving_drives, sending_drives, others_drive, drives_on}
+use Rattle.pmd.specs.Halves.{Halves, Doer, AllOwn, OthersStep, after_call, doers_marked, doers_moved, doers_other}
+use Rattle.pmd.proofs.Calls.{receiving_drives, sending_drives, others_drive, drives_on}
 use Rattle.driver_laws.specs.Going.{GoesOn, ReceivingGoesOn, SendingGoesOn, OthersGoOn, HalvesGoOn}
 
 -- the others are steps, where they were before and behind
@@ -36,7 +36,7 @@ sent old new h k (moves, since, made, own, is) steps other =
 pub sending_goes_on : SendingGoesOn
 sending_goes_on old new h k x = sent old new h k x.plays x.steps x.other
 
-all_step : (calls : List Call) → OthersStep [] calls → OthersStep (others calls) calls
+all_step : (calls : List Call) → OthersStep [] calls → OthersStep (doers_other calls) calls
 all_step [] are = tt
 all_step (n ∷ calls) are = (λ neither. are.0, all_step calls are.1)
 

@@ -3,8 +3,8 @@ use Rattle.std.proofs.Common.{◌≡◌, Bool, true, false, List, [], ◌∷◌,
 use Rattle.device_lock.specs.declared.entry.Call.{Call}
 use Rattle.pmd_rx.specs.Plays as receive
 use Rattle.pmd_tx.specs.Plays as transmit
-use Rattle.pmd_tx.specs.Sending.{Move, Elsewhere}
-use Rattle.pmd.specs.Halves.{Halves, Doer, Receives, Sends, AllOwn, after_call, doers_marked, doers_moved, played_by, ReceivingDrives, SendingDrives, OthersDrive, DrivesOn}
+use Rattle.pmd_tx.specs.Sending.{Move}
+use Rattle.pmd.specs.Halves.{Halves, Doer, Receives, Sends, AllOwn, after_call, doers_marked, doers_moved, doers_other, played_by, ReceivingDrives, SendingDrives, OthersDrive, DrivesOn}
 
 -- the calls of one half
 
@@ -57,20 +57,16 @@ sending_drives old new h k (moves, since, made, own, is) same = (
 
 -- calls that are neither's
 
-abbrev pub others : List Call → List Doer
-others [] = []
-others (n ∷ calls) = Sends Elsewhere ∷ others calls
-
-pub others_own : (h : Halves) (calls : List Call) → AllOwn h (others calls) calls
+pub others_own : (h : Halves) (calls : List Call) → AllOwn h (doers_other calls) calls
 others_own h [] = tt
 others_own h (n ∷ calls) = (tt, others_own h calls)
 
-pub others_played : (h : Halves) (calls : List Call) → h ≡ played_by h (others calls) calls
+pub others_played : (h : Halves) (calls : List Call) → h ≡ played_by h (doers_other calls) calls
 others_played h [] = refl
 others_played h (n ∷ calls) = others_played h calls
 
 unfoldable pub others_drive : OthersDrive
-others_drive old new h (since, made) = (others since, since, made, others_own h since, others_played h since)
+others_drive old new h (since, made) = (doers_other since, since, made, others_own h since, others_played h since)
 
 -- one after another
 

@@ -52,7 +52,7 @@ Drives old h new k =
     (doers : List Doer) × (since : List Call) × (new ≡ old ++ since) × AllOwn h doers since
     × (k ≡ played_by h doers since)
 
--- whose the calls are, where only the receive half made some, and where only the transmit half did
+-- whose the calls are, where only the receive half made some, where only the transmit half did, and where neither did
 
 abbrev pub doer_marked : Bool → Doer
 doer_marked true = Receives
@@ -63,6 +63,9 @@ doers_marked marks = map doer_marked marks
 
 abbrev pub doers_moved : List Move → List Doer
 doers_moved moves = map Sends moves
+
+abbrev pub doers_other : List Call → List Doer
+doers_other calls = map (λ (n : Call). Sends Elsewhere) calls
 
 -- the calls that are neither half's are steps of the device, as the ways to a device make them. Those behind the last
 -- doer are neither's

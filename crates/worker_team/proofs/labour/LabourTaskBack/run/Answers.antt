@@ -1,5 +1,6 @@
 use Rattle.std.proofs.Common.{rules, sym, subst}
 use Rattle.device_lock.specs.Pass.{PassValue}
+use Rattle.pmd.specs.Blocks.{IsWhole}
 use Rattle.pmd_lock.specs.Stepped.{AtLock}
 use Rattle.worker_runs.specs.Lived.{HasRun}
 use Rattle.worker_team.specs.declared.duty.Duty.{Duty}
@@ -23,6 +24,7 @@ returns g c =
         reports = search rules;
         few = search rules;
         home = search rules;
+        whole = subst (λ (x : Duty). IsWhole x.job.arena left.0) c.self.view_is c.run_worker-rest.ensures.whole;
         idle = search rules;
       },
       search rules,

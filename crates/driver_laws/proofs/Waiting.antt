@@ -1,5 +1,5 @@
 -- Before a look that finds a packet waiting not all that the driver accepted was sent.
-use Rattle.std.proofs.Common.{◌++◌, [], subst}
+use Rattle.std.proofs.Common.{◌++◌, subst}
 use Rattle.nic_device.specs.State.{State, new_state}
 use Rattle.device_lock.specs.History.{calls_of, leads_to}
 use Rattle.receive_laws.proofs.Delivering.{leads-append}

@@ -1,5 +1,5 @@
 -- What a driver that lived, and was stopped, handed out and sent.
-use Rattle.std.proofs.Common.{◌≡◌, ℕ, List, [], Option, sym, subst}
+use Rattle.std.proofs.Common.{ℕ, List, [], Option, sym, subst}
 use Rattle.dma_arena.specs.Numbers.{Numbers}
 use Rattle.nic_device.specs.State.{new_state}
 use Rattle.device_lock.specs.declared.alone.Watched.{Watched}

@@ -1,10 +1,10 @@
 -- Workers that came back, and what their ends say of the jobs.
-use Rattle.std.proofs.Common.{◌≡◌, ℕ, zero, suc, ◌<◌, ◌++◌, true, List, take, refl, ap, [], ◌∷◌, length, set, slice_index_or, inl, inr, sym, ◌∙◌, subst, arith}
+use Rattle.std.proofs.Common.{◌≡◌, ℕ, zero, suc, ◌<◌, ◌++◌, List, take, refl, ap, [], ◌∷◌, length, set, slice_index_or, inl, inr, sym, ◌∙◌, subst, arith}
 use Rattle.std.proofs.Math.Seq.{take-append_seam}
 use Rattle.std.proofs.lemmas.Bool.{cases_eq}
 use Rattle.std.proofs.lemmas.List.{length-set, get_or-set_same, get_or-set_other}
 use Rattle.rtrb.specs.Ring.{sent}
-use Rattle.crew.specs.Seats.{waits, IsEnded, EachEnded}
+use Rattle.crew.specs.Seats.{IsEnded, EachEnded}
 use Rattle.crew.specs.declared.seat.Seat.{Seat}
 use Rattle.crew.specs.declared.seat.Seat.TheVariants.{Waits, Ended, Empty}
 use Rattle.workers.specs.declared.job.Job.{Job}

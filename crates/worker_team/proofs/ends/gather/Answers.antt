@@ -1,4 +1,4 @@
-use Rattle.std.proofs.Common.{◌<◌, List, ap, length, arith, subst}
+use Rattle.std.proofs.Common.{◌<◌, List, length, arith, subst}
 use Rattle.crew.specs.declared.seat.Seat.{Seat}
 use Rattle.worker_team.specs.declared.duty.Back.{Back}
 use Rattle.worker_team.proofs.Emptied.{emptied}

@@ -1,4 +1,4 @@
-use Rattle.std.proofs.Common.{◌≡◌, ℕ, ◌<◌, List, [], true, length, slice_index_or, sym, ap, ◌∙◌, subst, arith}
+use Rattle.std.proofs.Common.{◌≡◌, ℕ, ◌<◌, List, [], true, length, slice_index_or, sym, ap, subst, arith}
 use Rattle.crew.specs.Seats.{waits, EachEnded}
 use Rattle.crew.specs.declared.seat.Seat.{Seat}
 use Rattle.workers.specs.declared.reports.Collector.{Collector}

@@ -3,7 +3,7 @@ use Rattle.std.proofs.Common.{◌≡◌, ℕ, ◌<◌, ap, ◌∙◌}
 use Rattle.register_file.specs.Queue.{switched}
 use Rattle.register_file.specs.Registers.{is_wanted}
 use Rattle.register_file.specs.declared.dir.Dir.TheVariants.{Tx}
-use Rattle.register_laws.specs.Sides.{TransmitQueue, transmit_queue_of}
+use Rattle.register_laws.specs.Sides.{TransmitQueue}
 use Rattle.register_laws.proofs.Switches.{transmit-switched}
 use Rattle.nic_device.specs.Outcome.{Outcome, gives}
 use Rattle.nic_device.specs.Sound.{IsSound}

@@ -48,7 +48,7 @@ one_made : (q : AtPort) (old new : List Call) (a : Access) → IsMade q old new 
 one_made q old new (Sees row on) (number, word, named, is, (before, added)) = (_, added)
 one_made q old new (Sets row word) (number, named, (before, added)) = (_, added)
 
-extends : (q : AtPort) (all : List Access) (old new : List Call) → AreMade q old new all
+pub extends : (q : AtPort) (all : List Access) (old new : List Call) → AreMade q old new all
     → (more : List Call) × (new ≡ old ++ more)
 extends q [] old new made = ([], made ∙ sym (append-nil old))
 extends q (a ∷ rest) old new (mid, here, more) =
@@ -58,12 +58,12 @@ extends q (a ∷ rest) old new (mid, here, more) =
       later.1 ∙ ap (λ xs. xs ++ later.0) now.1 ∙ append_assoc old now.0 later.0,
     )
 
-some_made : (q : AtPort) (all : List Access) (old new : List Call) → AreMade q old new all → old ≢ [] → new ≢ []
+pub some_made : (q : AtPort) (all : List Access) (old new : List Call) → AreMade q old new all → old ≢ [] → new ≢ []
 some_made q [] old new made some = λ none. some (sym made ∙ none)
 some_made q (a ∷ rest) old new (mid, here, more) some =
     some_made q rest mid new more (made_some q old mid a here)
 
-first_made : (q : AtPort) (a : Access) (rest : List Access) (old new : List Call) → AreMade q old new (a ∷ rest)
+pub first_made : (q : AtPort) (a : Access) (rest : List Access) (old new : List Call) → AreMade q old new (a ∷ rest)
     → new ≢ []
 first_made q a rest old new (mid, here, more) = some_made q rest mid new more (made_some q old mid a here)
 

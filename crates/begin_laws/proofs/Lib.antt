@@ -1,1 +1,6 @@
+pub mod Faultless
+pub mod Grounds
+pub mod Last
+pub mod Quiet
+pub mod Replies
 pub mod TimedOut

@@ -1,1 +1,3 @@
+pub mod Faultless
+pub mod Replies
 pub mod TimedOut

@@ -107,7 +107,7 @@ module _ (w : Watched) (q : AtPort) (fifo : ℕ) (h : List Entry) (along : IsAlo
       let k = ground w.queue s q.port number word row (numbers s g row number is named) (driven_plain row is) in
       ground_same w.queue q s (after s (event.Write q.port number word)) k.mode k.vfs k.limit g
 
-  off_same : (s t : State) → LeavesReceive w.queue s t → IsOff w.queue s → IsOff w.queue t
+  pub off_same : (s t : State) → LeavesReceive w.queue s t → IsOff w.queue s → IsOff w.queue t
   off_same s t same off = record {
     off = ap (λ (x : ReceiveQueue). x.on) same ∙ off.off;
     unwanted = ap (λ (x : ReceiveQueue). x.wanted) same ∙ off.unwanted;

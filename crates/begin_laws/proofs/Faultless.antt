@@ -26,7 +26,7 @@ use Rattle.start_laws.specs.Points.{HasGround, StepsBetween}
 use Rattle.start_laws.specs.Quieting.{IsQuiet}
 use Rattle.start_laws.proofs.Lends.{lending}
 use Rattle.start_laws.proofs.Points.{ends_some}
-use Rattle.start_laws.proofs.Start.{first_made, some_made}
+use Rattle.start_laws.proofs.On.{first_made, some_made}
 use Rattle.begin_laws.specs.Faultless.{BeforeNext, Never, NoneIsLent, ReceiveIsReady, TransmitIsReady, SwitchingIsNeverStray, StepsPolling, StepsPreparing, StepsReady, StepsSwitching, StepsUnprepared}
 use Rattle.begin_laws.proofs.Grounds.{AllAre, IsDriven, IsWrite, accesses_grounded, lend_grounded, next_on_ground, read_never_stray, writes_driven, writes_never_stop}
 use Rattle.begin_laws.proofs.Last.{last_never}

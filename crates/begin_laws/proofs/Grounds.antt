@@ -23,7 +23,7 @@ use Rattle.start_laws.proofs.Lends.{lending}
 use Rattle.start_laws.proofs.Off.{ground_kept}
 use Rattle.start_laws.proofs.Points.{ground_same, made_some, read_ground}
 use Rattle.start_laws.proofs.Quieting.{seen, set, write_ground}
-use Rattle.start_laws.proofs.Start.{some_made}
+use Rattle.start_laws.proofs.On.{some_made}
 use Rattle.begin_laws.specs.Faultless.{Never, StepsBeforeOther, StepsUntil}
 use Rattle.begin_laws.proofs.Last.{RefutesNext, then_refuted}
 use Rattle.begin_laws.proofs.Replies.{named_registers_reply}

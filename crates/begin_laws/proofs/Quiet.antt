@@ -33,7 +33,7 @@ use Rattle.start_laws.proofs.Off.{ground_kept, off_kept, transmit_off_kept}
 use Rattle.start_laws.proofs.Points.{ground_same, made_some, read_ground}
 use Rattle.start_laws.proofs.Quieting.{off_same, seen, set}
 use Rattle.start_laws.proofs.ReceiveWords.{receive_words_taken}
-use Rattle.start_laws.proofs.Start.{some_made}
+use Rattle.start_laws.proofs.On.{some_made}
 use Rattle.start_laws.proofs.TransmitWords.{transmit_words_taken}
 use Rattle.begin_laws.specs.Faultless.{BeforeNext, Never, StepsBeforeOther, StepsUntil}
 use Rattle.begin_laws.proofs.Grounds.{AllAre, all_before, read_never_stray, write_never_stray}

@@ -1,3 +1,4 @@
 pub mod Faultless
+pub mod Gate
 pub mod Replies
 pub mod TimedOut

@@ -5,6 +5,7 @@
 #![tactic(auto)]
 
 ghost use Rattle.begin_laws.specs.Faultless.{ReceiveIsReady, TransmitIsReady, SwitchingIsNeverStray};
+ghost use Rattle.begin_laws.specs.Gate.{NamedQueuesPass};
 ghost use Rattle.begin_laws.specs.Replies.{NamedRegistersReply, OffSidesAreSeenOff, FreshBlocksAreTaken};
 ghost use Rattle.begin_laws.specs.TimedOut.{TimeoutsPoll};
 
@@ -12,6 +13,12 @@ ghost use Rattle.begin_laws.specs.TimedOut.{TimeoutsPoll};
 /// answered without bit 25, and each after a write of it there, the last of which before the read has bit 25.
 pub fn timeouts_poll_a_thousand_times()
     ensures { TimeoutsPoll }
+{}
+
+/// Where port and queue name a queue of the device, a start isn't refused with `DeviceFault` before any event: the port
+/// can name the queue.
+pub fn named_queues_pass_the_gate()
+    ensures { NamedQueuesPass }
 {}
 
 /// Where port and queue name a queue of the device, a driver's reads of its registers give words and its writes are

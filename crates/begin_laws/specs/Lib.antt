@@ -1,4 +1,5 @@
 pub mod Faultless
+pub mod Filling
 pub mod Gate
 pub mod Replies
 pub mod TimedOut

@@ -5,6 +5,7 @@
 #![tactic(auto)]
 
 ghost use Rattle.begin_laws.specs.Faultless.{ReceiveIsReady, TransmitIsReady, SwitchingIsNeverStray};
+ghost use Rattle.begin_laws.specs.Filling.{FaultsAreEarlyOrFilling, NoFaultIsEarly, FillingBeginsWell};
 ghost use Rattle.begin_laws.specs.Gate.{NamedQueuesPass};
 ghost use Rattle.begin_laws.specs.Replies.{NamedRegistersReply, OffSidesAreSeenOff, FreshBlocksAreTaken};
 ghost use Rattle.begin_laws.specs.TimedOut.{TimeoutsPoll};
@@ -37,4 +38,13 @@ pub fn starts_find_no_device_at_fault()
     ensures receive { ReceiveIsReady }
     ensures transmit { TransmitIsReady }
     ensures switch { SwitchingIsNeverStray }
+{}
+
+/// A start that answers `DeviceFault` amid its events does so before both sides are on, or as it fills its receive
+/// ring. Over such a history the first never comes; and as the ring began to be filled the device and the driver
+/// agreed on both sides.
+pub fn faults_at_a_start_come_filling()
+    ensures cases { FaultsAreEarlyOrFilling }
+    ensures early { NoFaultIsEarly }
+    ensures filling { FillingBeginsWell }
 {}

@@ -20,14 +20,14 @@ use Rattle.pmd.specs.Starting.{IsPrepared, IsReceiveReady, GoingOnFails, Prepari
 use Rattle.pmd.specs.declared.start.StartRefused.{StartRefused}
 use Rattle.pmd_rx.specs.Receive.{Receive}
 use Rattle.start_laws.proofs.On.{extends}
-use Rattle.begin_laws.specs.TimedOut.{Asked, TimesOut, TimeoutsPoll, misses, none_asked}
+use Rattle.begin_laws.specs.TimedOut.{AllEnable, Asked, TimesOut, TimeoutsPoll, misses, none_asked}
 
 -- so many reads of sides that are asked on, in vain
 
 abbrev both : Asked
 both = record { receive = true; transmit = true }
 
-none_more : (k : ℕ) → k ≡ 0 + k
+pub none_more : (k : ℕ) → k ≡ 0 + k
 none_more k = omega arith
 
 one_more : (n k : ℕ) → 1 + (n + k) ≡ suc n + k
@@ -62,6 +62,22 @@ one_after_the_other first few =
     ∙ receive_misses first (Sees Rxdctl true ∷ more)
     ∙ ap (λ k. first + k) (sym (none_more (misses both more)) ∙ transmit_misses (1000 - first)) ∙ all
 
+-- these are accesses of the enable words alone
+
+receive_enables : (n : ℕ) (rest : List Access) → AllEnable rest → AllEnable (replicate n (Sees Rxdctl false) ++ rest)
+receive_enables zero rest are = are
+receive_enables (suc n) rest are = (tt, receive_enables n rest are)
+
+transmit_enables : (n : ℕ) → AllEnable (replicate n (Sees Txdctl false))
+transmit_enables zero = tt
+transmit_enables (suc n) = (tt, transmit_enables n)
+
+polled_enables : (first more : ℕ)
+    → AllEnable ((missed Rx true first ++ Sees Rxdctl true ∷ []) ++ missed Tx true more)
+polled_enables first more =
+    subst AllEnable (sym (append_assoc (missed Rx true first) (Sees Rxdctl true ∷ []) (missed Tx true more)))
+    (receive_enables first (Sees Rxdctl true ∷ missed Tx true more) (tt, transmit_enables more))
+
 -- some calls were made before
 
 abbrev Adds : List Call → List Call → Type 0
@@ -90,6 +106,7 @@ module _ (q : AtPort) (size : ℕ) where
   switching_times_out old mid new (before, is) (inr (inl (between, asked, polls))) = record {
     before = before;
     all = both_asked true ++ missed Rx true 1000;
+    enables = (tt, (tt, subst AllEnable (append-nil (missed Rx true 1000)) (receive_enables 1000 [] tt)));
     made = subst (λ (m : List Call). AreMade q m new (both_asked true ++ missed Rx true 1000)) is
         (made_after q mid between new (both_asked true) (missed Rx true 1000) asked polls);
     polls = receive_alone;
@@ -97,6 +114,7 @@ module _ (q : AtPort) (size : ℕ) where
   switching_times_out old mid new (before, is) (inr (inr (first, between, few, asked, polls))) = record {
     before = before;
     all = receive_polled true first ++ missed Tx true (1000 - first);
+    enables = (tt, (tt, polled_enables first (1000 - first)));
     made =
         subst (λ (m : List Call). AreMade q m new (receive_polled true first ++ missed Tx true (1000 - first))) is
         (made_after q mid between new (receive_polled true first) (missed Tx true (1000 - first)) asked polls);

@@ -1,5 +1,5 @@
 -- A start that times out: the reads by which it saw a side of its queue still off.
-use Rattle.std.specs.Prelude.{ℕ, ◌≡◌, ◌+◌, ◌&&◌, Bool, false, not, List, [], ◌∷◌, ◌++◌, if◌then◌else◌, None, Err}
+use Rattle.std.specs.Prelude.{ℕ, ◌≡◌, ◌+◌, ◌&&◌, ⊤, Bool, false, not, List, [], ◌∷◌, ◌++◌, if◌then◌else◌, None, Err}
 use Rattle.dma_arena.specs.Numbers.{Numbers}
 use Rattle.reg_table.specs.declared.rows.RowId.TheVariants.{Rxdctl, Txdctl}
 use Rattle.register_file.specs.Bits.{has_bit}
@@ -36,10 +36,24 @@ abbrev pub misses : Asked → List Access → ℕ
 misses x [] = 0
 misses x (a ∷ rest) = (if is_miss x a then 1 else 0) + misses (asked_by a x) rest
 
+-- an access of RXDCTL or TXDCTL, and accesses that all are
+
+abbrev pub IsOfEnable : Access → Type 0
+IsOfEnable (Sees Rxdctl on) = ⊤
+IsOfEnable (Sees Txdctl on) = ⊤
+IsOfEnable (Sets Rxdctl word) = ⊤
+IsOfEnable (Sets Txdctl word) = ⊤
+IsOfEnable other = ⊥
+
+abbrev pub AllEnable : List Access → Type 0
+AllEnable [] = ⊤
+AllEnable (a ∷ rest) = IsOfEnable a × AllEnable rest
+
 -- after some calls come accesses of the queue that have 1,000 such reads, each after a write among them
 pub record TimesOut (q : AtPort) (old new : List Call) : Type 0 where
   pub before : List Call
   pub all : List Access
+  pub enables : AllEnable all
   pub made : AreMade q (old ++ before) new all
   pub polls : misses none_asked all ≡ 1000
 

@@ -7,6 +7,7 @@
 ghost use Rattle.begin_laws.specs.Faultless.{ReceiveIsReady, TransmitIsReady, SwitchingIsNeverStray};
 ghost use Rattle.begin_laws.specs.Filling.{FaultsAreEarlyOrFilling, NoFaultIsEarly, FillingBeginsWell};
 ghost use Rattle.begin_laws.specs.Gate.{NamedQueuesPass};
+ghost use Rattle.begin_laws.specs.Polls.{PollsAreTold};
 ghost use Rattle.begin_laws.specs.Replies.{NamedRegistersReply, OffSidesAreSeenOff, FreshBlocksAreTaken};
 ghost use Rattle.begin_laws.specs.TimedOut.{TimeoutsPoll};
 
@@ -14,6 +15,12 @@ ghost use Rattle.begin_laws.specs.TimedOut.{TimeoutsPoll};
 /// answered without bit 25, and each after a write of it there, the last of which before the read has bit 25.
 pub fn timeouts_poll_a_thousand_times()
     ensures { TimeoutsPoll }
+{}
+
+/// These reads are among the calls of the start's pass, by the numbers that RXDCTL and TXDCTL have at its port, where the
+/// other calls of the pass are steps of the device.
+pub fn polls_of_a_timeout_are_told()
+    ensures { PollsAreTold }
 {}
 
 /// Where port and queue name a queue of the device, a start isn't refused with `DeviceFault` before any event: the port

@@ -17,8 +17,8 @@ pub fn timeouts_poll_a_thousand_times()
     ensures { TimeoutsPoll }
 {}
 
-/// These reads are among the calls of the start's pass, by the numbers that RXDCTL and TXDCTL have at its port, where the
-/// other calls of the pass are steps of the device.
+/// These reads are among the calls of the start's pass, by the numbers that RXDCTL and TXDCTL have at its port, where
+/// the other calls of the pass are steps of the device.
 pub fn polls_of_a_timeout_are_told()
     ensures { PollsAreTold }
 {}

@@ -74,9 +74,9 @@ pub fn accesses_lead_over_a_history()
     ensures { AccessesLead }
 {}
 
-/// Over such a history, wherever the driver's pass has made the calls by which both rings came up and both sides went on,
-/// the device and the driver agree on both, with nothing posted or sent yet; both are on, and nothing was received or
-/// sent since they went on. That holds whether or not the receive ring is filled next.
+/// Over such a history, wherever the driver's pass has made the calls by which both rings came up and both sides went
+/// on, the device and the driver agree on both, with nothing posted or sent yet; both are on, and nothing was received
+/// or sent since they went on. That holds whether or not the receive ring is filled next.
 pub fn switched_sides_agree()
     ensures agree { SwitchedSidesAgree }
     ensures on { SwitchedSidesGoOn }

@@ -17,17 +17,17 @@ use Rattle.start_laws.proofs.Along.{kept_on, parts, reached, reached_next, state
 use Rattle.start_laws.proofs.Points.{ends_some}
 
 -- a history around the first entry of a pass
-record First (pass : ℕ) (h : List Entry) (c : Call) (ys : List Call) : Type 0 where
-  front : List Entry
-  entry : Entry
-  back : List Entry
-  both : front ++ entry ∷ back ≡ h
-  none : calls_of pass front ≡ []
-  own : entry.pass ≡ pass
-  call : call_in entry ≡ c
-  backs : calls_of pass back ≡ ys
+pub record First (pass : ℕ) (h : List Entry) (c : Call) (ys : List Call) : Type 0 where
+  pub front : List Entry
+  pub entry : Entry
+  pub back : List Entry
+  pub both : front ++ entry ∷ back ≡ h
+  pub none : calls_of pass front ≡ []
+  pub own : entry.pass ≡ pass
+  pub call : call_in entry ≡ c
+  pub backs : calls_of pass back ≡ ys
 
-first_own : (pass : ℕ) (h : List Entry) (c : Call) (ys : List Call) → calls_of pass h ≡ c ∷ ys → First pass h c ys
+pub first_own : (pass : ℕ) (h : List Entry) (c : Call) (ys : List Call) → calls_of pass h ≡ c ∷ ys → First pass h c ys
 first_own pass [] c ys is = cc
 first_own pass (e ∷ es) c ys is = elim (cases_Bool (e.pass == pass)) as (λ _. First pass (e ∷ es) c ys) [
   | inl own ↦

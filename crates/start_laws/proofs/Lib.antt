@@ -9,6 +9,7 @@ pub mod Masks
 pub mod Moves
 pub mod Numbers
 pub mod Off
+pub mod On
 pub mod Points
 pub mod Quiet
 pub mod Quieting

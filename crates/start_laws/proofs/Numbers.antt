@@ -25,19 +25,19 @@ use Rattle.start_laws.specs.Points.{HasGround}
 use Rattle.start_laws.specs.Words.{NamesRow}
 
 -- what names a queue says
-some_where : {A : Type 0} (b : Bool) (o : Option A) (x : A) → (if b then o else None) ≡ Some x
+pub some_where : {A : Type 0} (b : Bool) (o : Option A) (x : A) → (if b then o else None) ≡ Some x
     → (b ≡ true) × (o ≡ Some x)
 some_where true o x e = (refl, e)
 some_where false o x e = cc
 
-record IsIn (o : Option (ℕ × ℕ)) (number queue : ℕ) : Type 0 where
-  first : ℕ
-  count : ℕ
-  pool : o ≡ Some (first, count)
-  few : number < count
-  same : queue ≡ first + number
+pub record IsIn (o : Option (ℕ × ℕ)) (number queue : ℕ) : Type 0 where
+  pub first : ℕ
+  pub count : ℕ
+  pub pool : o ≡ Some (first, count)
+  pub few : number < count
+  pub same : queue ≡ first + number
 
-is_in : (o : Option (ℕ × ℕ)) (number queue : ℕ) → queue_in o number ≡ Some queue → IsIn o number queue
+pub is_in : (o : Option (ℕ × ℕ)) (number queue : ℕ) → queue_in o number ≡ Some queue → IsIn o number queue
 is_in None number queue e = cc
 is_in (Some queues) number queue e =
     let parts = some_where (nat_lt number queues.1) (Some (queues.0 + number)) queue e in
@@ -55,7 +55,7 @@ few_each Pools16 = omega arith
 few_each Pools32 = omega arith
 few_each Pools64 = omega arith
 
-few_queues : (mode : Mode) (v first count : ℕ) → queues_of mode v ≡ Some (first, count) → count ≤ 4
+pub few_queues : (mode : Mode) (v first count : ℕ) → queues_of mode v ≡ Some (first, count) → count ≤ 4
 few_queues mode v first count e =
     let each = queues_each mode in
     let pool = (some_where (nat_lt v (pools_in mode)) (Some (v * each, each)) (first, count) e).1 in

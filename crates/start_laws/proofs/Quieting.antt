@@ -41,10 +41,10 @@ use Rattle.start_laws.proofs.Quiet.{off_sides_stand, receive_guard_is_off}
 use Rattle.start_laws.proofs.Words.{ground}
 
 module _ (w : Watched) (q : AtPort) (fifo : ℕ) (h : List Entry) (along : IsAlong w fifo h) where
-  abbrev mine : Blocks
+  abbrev pub mine : Blocks
   mine = lent_by w.pass h
 
-  abbrev Ground : State → Type 0
+  abbrev pub Ground : State → Type 0
   Ground = HasGround w.queue q
 
   numbers : (s : State) → Ground s → NumbersName s q w.queue
@@ -61,7 +61,7 @@ module _ (w : Watched) (q : AtPort) (fifo : ℕ) (h : List Entry) (along : IsAlo
 
   -- an access of either kind
 
-  seen : (P Q : State → Type 0) (row : RowId) (on : Bool) → IsKept w mine P → IsKept w mine Q
+  pub seen : (P Q : State → Type 0) (row : RowId) (on : Bool) → IsKept w mine P → IsKept w mine Q
       → ((number word : ℕ) → IsNumberOf q.port row q.queue number → has_bit 25 word ≡ on
       → Leads w.queue (call_of (event.Read q.port number) (reply.Word word)) P Q)
       → (old new : List Call) → (made : IsMade q old new (Sees row on)) → StepsBefore q old new (Sees row on) made
@@ -71,7 +71,7 @@ module _ (w : Watched) (q : AtPort) (fifo : ℕ) (h : List Entry) (along : IsAlo
       (calls_lead w fifo h P Q old before (call_of (event.Read q.port number) (reply.Word word)) along kept kept_q
       (leads number word named is) steps some at)
 
-  set : (P Q : State → Type 0) (row : RowId) (word : ℕ) → IsKept w mine P → IsKept w mine Q
+  pub set : (P Q : State → Type 0) (row : RowId) (word : ℕ) → IsKept w mine P → IsKept w mine Q
       → ((number : ℕ) → IsNumberOf q.port row q.queue number
       → Leads w.queue (call_of (event.Write q.port number word) reply.Done) P Q)
       → (old new : List Call) → (made : IsMade q old new (Sets row word)) → StepsBefore q old new (Sets row word) made
@@ -101,13 +101,13 @@ module _ (w : Watched) (q : AtPort) (fifo : ℕ) (h : List Entry) (along : IsAlo
   both_off_kept : IsKept w mine Off
   both_off_kept = grounded_kept (IsOff w.queue) (off_kept w mine)
 
-  write_ground : (s : State) (row : RowId) (word number : ℕ) → is_driven row ≡ true
+  pub write_ground : (s : State) (row : RowId) (word number : ℕ) → is_driven row ≡ true
       → IsNumberOf q.port row q.queue number → Ground s → Ground (after s (event.Write q.port number word))
   write_ground s row word number is named g =
       let k = ground w.queue s q.port number word row (numbers s g row number is named) (driven_plain row is) in
       ground_same w.queue q s (after s (event.Write q.port number word)) k.mode k.vfs k.limit g
 
-  off_same : (s t : State) → LeavesReceive w.queue s t → IsOff w.queue s → IsOff w.queue t
+  pub off_same : (s t : State) → LeavesReceive w.queue s t → IsOff w.queue s → IsOff w.queue t
   off_same s t same off = record {
     off = ap (λ (x : ReceiveQueue). x.on) same ∙ off.off;
     unwanted = ap (λ (x : ReceiveQueue). x.wanted) same ∙ off.unwanted;

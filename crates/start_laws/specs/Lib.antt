@@ -1,6 +1,7 @@
 pub mod Along
 pub mod Moves
 pub mod Numbers
+pub mod On
 pub mod Points
 pub mod Quiet
 pub mod Quieting

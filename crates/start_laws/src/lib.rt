@@ -5,6 +5,7 @@
 
 ghost use Rattle.start_laws.specs.Moves.{ReceiveWriteStands, TransmitWriteStands, ReceiveReadStands, TransmitReadStands, LendStands, FreshReceiveAgrees, FreshTransmitAgrees};
 ghost use Rattle.start_laws.specs.Numbers.{NamedQueueHasTheNumbers};
+ghost use Rattle.start_laws.specs.On.{SwitchedSidesAgree, SwitchedSidesGoOn};
 ghost use Rattle.start_laws.specs.Points.{AccessesLead};
 ghost use Rattle.start_laws.specs.Quieting.{QuietingLeads, QuietSidesStand};
 ghost use Rattle.start_laws.specs.Quiet.{ReceiveGuardIsOff, OffSidesStand};
@@ -71,6 +72,14 @@ pub fn both_sides_are_seen_off()
 /// wherever its pass has made these.
 pub fn accesses_lead_over_a_history()
     ensures { AccessesLead }
+{}
+
+/// Over such a history, wherever the driver's pass has made the calls by which both rings came up and both sides went
+/// on, the device and the driver agree on both, with nothing posted or sent yet; both are on, and nothing was received
+/// or sent since they went on. That holds whether or not the receive ring is filled next.
+pub fn switched_sides_agree()
+    ensures agree { SwitchedSidesAgree }
+    ensures on { SwitchedSidesGoOn }
 {}
 
 /// Over such a history, wherever the driver's pass has made the calls by which a start of it brought both sides up, the

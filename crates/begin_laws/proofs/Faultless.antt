@@ -1,0 +1,155 @@
+-- A start on a queue whose sides are off finds no device at fault.
+use Rattle.std.proofs.Common.{◌≡◌, ◌≢◌, ℕ, ◌-◌, zero, suc, inl, inr, false, true, List, [], ◌∷◌, ◌++◌, refl, sym, ◌∙◌, subst, append_assoc}
+use Rattle.std.specs.Prelude.{IsFalse}
+use Rattle.dma_arena.specs.Block.{Block, zero_block}
+use Rattle.dma_arena.specs.Memory.{has_block}
+use Rattle.dma_arena.specs.Numbers.{Numbers}
+use Rattle.register_file.specs.Queue.{enable_row}
+use Rattle.register_file.specs.declared.dir.Dir.{Dir}
+use Rattle.register_file.specs.declared.dir.Dir.TheVariants.{Rx, Tx}
+use Rattle.nic_device.specs.declared.event.Event.TheVariants as event
+use Rattle.nic_device.specs.declared.event.Reply.TheVariants as reply
+use Rattle.device_lock.specs.Pass.{call_of}
+use Rattle.device_lock.specs.declared.alone.Watched.{Watched}
+use Rattle.device_lock.specs.declared.entry.Call.{Call}
+use Rattle.device_lock.specs.declared.entry.Entry.{Entry}
+use Rattle.pmd_base.specs.declared.fault.PmdFault.TheVariants.{DeviceFault}
+use Rattle.pmd_queue.specs.Both.{SwitchFails, both_asked, both_quiet, receive_polled}
+use Rattle.pmd_queue.specs.Made.{Access, Sees, Sets, AreMade}
+use Rattle.pmd_queue.specs.Named.{AtPort, is_driven}
+use Rattle.pmd_queue.specs.Sides.{PollsEnd, missed, quiet, ring_words}
+use Rattle.pmd_rx.specs.Receive.{Receive}
+use Rattle.reg_table.specs.declared.rows.RowId.TheVariants.{Rxdctl}
+use Rattle.pmd.specs.Starting.{IsPrepared, IsReceiveReady, PreparingFails}
+use Rattle.start_laws.specs.Along.{AtCalls, BeforeLast, IsAlong}
+use Rattle.start_laws.specs.Points.{HasGround, StepsBetween}
+use Rattle.start_laws.specs.Quieting.{IsQuiet}
+use Rattle.start_laws.proofs.Lends.{lending}
+use Rattle.start_laws.proofs.Points.{ends_some}
+use Rattle.start_laws.proofs.On.{first_made, some_made}
+use Rattle.begin_laws.specs.Faultless.{BeforeNext, Never, NoneIsLent, ReceiveIsReady, TransmitIsReady, SwitchingIsNeverStray, StepsPolling, StepsPreparing, StepsReady, StepsSwitching, StepsUnprepared}
+use Rattle.begin_laws.proofs.Grounds.{AllAre, IsDriven, IsWrite, accesses_grounded, lend_grounded, next_on_ground, read_never_stray, writes_driven, writes_never_stop}
+use Rattle.begin_laws.proofs.Last.{last_never}
+use Rattle.begin_laws.proofs.Quiet.{quiet_off, quieting_never_stops}
+use Rattle.begin_laws.proofs.Replies.{fresh_blocks_are_taken}
+
+words_are_writes : (side : Dir) (ring size : ℕ) → AllAre IsWrite (ring_words side ring size)
+words_are_writes Rx ring size = (refl, (refl, (refl, (refl, (refl, (refl, tt))))))
+words_are_writes Tx ring size = (refl, (refl, (refl, (refl, (refl, (refl, tt))))))
+
+enable_driven : (side : Dir) → is_driven (enable_row side) ≡ true
+enable_driven Rx = refl
+enable_driven Tx = refl
+
+asked_are_writes : AllAre IsWrite (both_asked true)
+asked_are_writes = (refl, (refl, tt))
+
+missed_driven : (side : Dir) (n : ℕ) → AllAre IsDriven (missed side true n)
+missed_driven side zero = tt
+missed_driven side (suc n) = (enable_driven side, missed_driven side n)
+
+all_both : (xs ys : List Access) → AllAre IsDriven xs → AllAre IsDriven ys → AllAre IsDriven (xs ++ ys)
+all_both [] ys first then = then
+all_both (x ∷ xs) ys first then = (first.0, all_both xs ys first.1 then)
+
+polled_driven : (n : ℕ) → AllAre IsDriven (receive_polled true n)
+polled_driven n = (refl, (refl, all_both (missed Rx true n) (Sees Rxdctl true ∷ []) (missed_driven Rx n) (refl, tt)))
+
+module _ (w : Watched) (q : AtPort) (fifo : ℕ) (h : List Entry) (along : IsAlong w fifo h) where
+  abbrev Grounded : List Call → Type 0
+  Grounded calls = AtCalls w fifo h calls (HasGround w.queue q)
+
+  -- a ring is prepared
+
+  lending_is_done : (ring : ℕ) (old new : List Call) (before : List Call) (back : Block)
+      → new ≡ old ++ (before ++ call_of (event.Lend (zero_block ring)) (reply.Twice back) ∷ [])
+      → BeforeLast w fifo h new (λ s. IsFalse (has_block s.memory ring)) → Never w fifo h new
+  lending_is_done ring old new before back added at =
+      let c = call_of (event.Lend (zero_block ring)) (reply.Twice back) in
+      let all : new ≡ (old ++ before) ++ c ∷ [] = added ∙ sym (append_assoc old before (c ∷ [])) in
+      subst (Never w fifo h) (sym all)
+      (last_never w fifo h along (λ s. IsFalse (has_block s.memory ring)) (old ++ before) c
+      (λ s none told.
+      let no_such : reply.Twice back ≡ reply.Done = told ∙ fresh_blocks_are_taken s (zero_block ring) none in
+      cc)
+      (subst (λ (calls : List Call). BeforeLast w fifo h calls (λ s. IsFalse (has_block s.memory ring))) all at))
+
+  preparing_never_fails : (side : Dir) (size : ℕ) (old : List Call) (a : Numbers) (new : List Call) → old ≢ []
+      → Grounded old → (fails : PreparingFails DeviceFault q side size old a new)
+      → StepsUnprepared q side size old a new fails → NoneIsLent w fifo h new a → Never w fifo h new
+  preparing_never_fails side size old a new some at (ring, free, inl stops) steps none =
+      writes_never_stop w q fifo h along (ring_words side ring size) old new (words_are_writes side ring size) stops
+      steps some at
+  preparing_never_fails side size old a new some at (ring, free, inr (mid, made, (back, (before, added)))) steps none =
+      lending_is_done ring mid new before back added (none ring free)
+
+  prepared_grounded : (side : Dir) (size : ℕ) (old : List Call) (a : Numbers) (new : List Call) (b : Numbers)
+      (ring : ℕ) (x : IsPrepared q side size old a new b ring) → StepsPreparing q side size old a new b ring x
+      → old ≢ [] → Grounded old → Grounded new × (new ≢ [])
+  prepared_grounded side size old a new b ring x steps some at =
+      let are = writes_driven (ring_words side ring size) (words_are_writes side ring size) in
+      let there = accesses_grounded w q fifo h along (ring_words side ring size) old x.mid are x.words steps.0 some at
+      in
+      let made = some_made q (ring_words side ring size) old x.mid x.words some in (
+        subst Grounded (sym x.lent.1) (lend_grounded w q fifo h along ring x.mid x.lent.0 steps.1 made there),
+        λ none. ends_some x.mid x.lent.0 (lending ring) (sym x.lent.1 ∙ none),
+      )
+
+  -- the sides are off, and the receive ring is
+
+  quiet_grounded : (old new : List Call) (made : AreMade q old new both_quiet)
+      → StepsBetween q old new both_quiet made → BeforeNext w fifo h old (IsQuiet w.queue q)
+      → Grounded new × (new ≢ [])
+  quiet_grounded old new made steps at = (
+    λ done rest all is. (quiet_off w q fifo h along old new made steps at done rest all is).ground,
+    first_made q (Sees Rxdctl false) (Sets Rxdctl 0 ∷ Sees Rxdctl false ∷ quiet Tx) old new made,
+  )
+
+  ready_grounded : (size : ℕ) (old : List Call) (a : Numbers) (new : List Call) (b : Numbers) (v : Receive)
+      (x : IsReceiveReady q size old a new b v) → StepsReady q size old a new b v x
+      → BeforeNext w fifo h old (IsQuiet w.queue q) → Grounded new × (new ≢ [])
+  ready_grounded size old a new b v x steps at =
+      let off = quiet_grounded old x.mid x.quiet steps.0 at in
+      prepared_grounded Rx size x.mid a new b x.ring x.prepared steps.1 off.1 off.0
+
+  -- both sides are asked on and polled
+
+  polls_never_stray : (side : Dir) (polls : ℕ) (old new : List Call) → old ≢ [] → Grounded old
+      → (x : PollsEnd DeviceFault q old new side true polls) → StepsPolling q old new side polls x → Never w fifo h new
+  polls_never_stray side polls old new some at (misses, mid, few, made, stray) steps =
+      let there = accesses_grounded w q fifo h along (missed side true misses) old mid (missed_driven side misses) made
+      steps.0 some at in
+      read_never_stray w q fifo h along mid new (enable_row side) (enable_driven side)
+      (next_on_ground w q fifo h along mid (some_made q (missed side true misses) old mid made some) there) stray
+      steps.1
+
+  switching_never_fails : (old new : List Call) → old ≢ [] → Grounded old
+      → (fails : SwitchFails DeviceFault q old new true 1000) → StepsSwitching q old new fails → Never w fifo h new
+  switching_never_fails old new some at (inl stops) steps =
+      writes_never_stop w q fifo h along (both_asked true) old new asked_are_writes stops steps some at
+  switching_never_fails old new some at (inr (inl (mid, made, polls))) steps =
+      polls_never_stray Rx 1000 mid new (some_made q (both_asked true) old mid made some)
+      (accesses_grounded w q fifo h along (both_asked true) old mid (writes_driven (both_asked true) asked_are_writes)
+      made steps.0 some at) polls steps.1
+  switching_never_fails old new some at (inr (inr (first, mid, few, made, polls))) steps =
+      polls_never_stray Tx (1000 - first) mid new (some_made q (receive_polled true first) old mid made some)
+      (accesses_grounded w q fifo h along (receive_polled true first) old mid (polled_driven first) made steps.0 some
+      at) polls steps.1
+
+pub receive_is_ready : ReceiveIsReady
+receive_is_ready w q fifo h size old a new along at (inl stops) steps none =
+    quieting_never_stops w q fifo h along old new at stops steps
+receive_is_ready w q fifo h size old a new along at (inr (mid, made, fails)) steps none =
+    let off = quiet_grounded w q fifo h along old mid made steps.0 at in
+    preparing_never_fails w q fifo h along Rx size mid a new off.1 off.0 fails steps.1 none
+
+pub transmit_is_ready : TransmitIsReady
+transmit_is_ready w q fifo h size old a mid b v new along at ready steps fails more none =
+    let there = ready_grounded w q fifo h along size old a mid b v ready steps at in
+    preparing_never_fails w q fifo h along Tx size mid b new there.1 there.0 fails more none
+
+pub switching_is_never_stray : SwitchingIsNeverStray
+switching_is_never_stray w q fifo h size old a mid b v both c t new along at ready steps more later fails last =
+    let there = ready_grounded w q fifo h along size old a mid b v ready steps at in
+    let then = prepared_grounded w q fifo h along Tx size mid b both c more.ring more.prepared later there.1 there.0 in
+    switching_never_fails w q fifo h along both new then.1 then.0 fails last

@@ -1,0 +1,133 @@
+-- What a driver rests on, over its accesses: none of them is stray.
+use Rattle.std.specs.Prelude.{⊤}
+use Rattle.std.proofs.Common.{◌≡◌, ◌≢◌, ℕ, true, List, [], ◌∷◌, ◌++◌, refl, sym, ◌∙◌, subst}
+use Rattle.dma_arena.specs.Block.{zero_block}
+use Rattle.reg_table.specs.declared.rows.RowId.{RowId}
+use Rattle.nic_device.specs.Step.{after}
+use Rattle.nic_device.specs.declared.event.Event.TheVariants as event
+use Rattle.nic_device.specs.declared.event.Reply.TheVariants as reply
+use Rattle.device_laws.proofs.KeptSettings.{settings_stand}
+use Rattle.device_laws.proofs.Standing.{stays_within}
+use Rattle.device_lock.specs.Alone.{lent_by}
+use Rattle.device_lock.specs.Pass.{call_of}
+use Rattle.device_lock.specs.declared.alone.Watched.{Watched}
+use Rattle.device_lock.specs.declared.entry.Call.{Call}
+use Rattle.device_lock.specs.declared.entry.Entry.{Entry}
+use Rattle.pmd_base.specs.declared.fault.PmdFault.TheVariants.{DeviceFault}
+use Rattle.pmd_queue.specs.Made.{Access, Sees, Sets, AreMade, IsMade, IsOtherwise, IsStrayRead, IsStrayWrite, StopsBy}
+use Rattle.pmd_queue.specs.Named.{AtPort, is_driven}
+use Rattle.start_laws.specs.Along.{AreSteps, AtCalls, IsAlong}
+use Rattle.start_laws.specs.Points.{HasGround, StepsBefore, StepsBetween}
+use Rattle.start_laws.proofs.Along.{calls_lead}
+use Rattle.start_laws.proofs.Lends.{lending}
+use Rattle.start_laws.proofs.Off.{ground_kept}
+use Rattle.start_laws.proofs.Points.{ground_same, made_some, read_ground}
+use Rattle.start_laws.proofs.Quieting.{seen, set, write_ground}
+use Rattle.start_laws.proofs.On.{some_made}
+use Rattle.begin_laws.specs.Faultless.{Never, StepsBeforeOther, StepsUntil}
+use Rattle.begin_laws.proofs.Last.{RefutesNext, then_refuted}
+use Rattle.begin_laws.proofs.Replies.{named_registers_reply}
+
+-- accesses of which each is of a kind
+
+abbrev pub AllAre : (Access → Type 0) → List Access → Type 0
+AllAre K [] = ⊤
+AllAre K (a ∷ rest) = K a × AllAre K rest
+
+pub all_before : (K : Access → Type 0) (done : List Access) (a : Access) (rest : List Access)
+    → AllAre K (done ++ a ∷ rest) → AllAre K done × K a
+all_before K [] a rest are = (tt, are.0)
+all_before K (d ∷ done) a rest are =
+    let more = all_before K done a rest are.1 in ((are.0, more.0), more.1)
+
+-- a driver's register is accessed, or written
+
+abbrev pub IsDriven : Access → Type 0
+IsDriven (Sees row on) = is_driven row ≡ true
+IsDriven (Sets row word) = is_driven row ≡ true
+
+abbrev pub IsWrite : Access → Type 0
+IsWrite (Sees row on) = ⊥
+IsWrite (Sets row word) = is_driven row ≡ true
+
+pub writes_driven : (all : List Access) → AllAre IsWrite all → AllAre IsDriven all
+writes_driven [] are = tt
+writes_driven (Sees row on ∷ rest) are = absurd are.0
+writes_driven (Sets row word ∷ rest) are = (are.0, writes_driven rest are.1)
+
+module _ (w : Watched) (q : AtPort) (fifo : ℕ) (h : List Entry) (along : IsAlong w fifo h) where
+  abbrev Grounded : List Call → Type 0
+  Grounded calls = AtCalls w fifo h calls (HasGround w.queue q)
+
+  access_grounded : (old new : List Call) (a : Access) → IsDriven a → (made : IsMade q old new a)
+      → StepsBefore q old new a made → old ≢ [] → Grounded old → Grounded new
+  access_grounded old new (Sees row on) driven made steps some at =
+      seen w q fifo h along (HasGround w.queue q) (HasGround w.queue q) row on (ground_kept w (lent_by w.pass h) q)
+      (ground_kept w (lent_by w.pass h) q)
+      (λ number word named is s met can told g. read_ground w (lent_by w.pass h) q s number g) old new made steps some
+      at
+  access_grounded old new (Sets row word) driven made steps some at =
+      set w q fifo h along (HasGround w.queue q) (HasGround w.queue q) row word (ground_kept w (lent_by w.pass h) q)
+      (ground_kept w (lent_by w.pass h) q)
+      (λ number named s met can told g. write_ground w q fifo h along s row word number driven named g) old new made
+      steps some at
+
+  pub accesses_grounded : (all : List Access) (old new : List Call) → AllAre IsDriven all
+      → (made : AreMade q old new all) → StepsBetween q old new all made → old ≢ [] → Grounded old → Grounded new
+  accesses_grounded [] old new are made steps some at = subst Grounded (sym made) at
+  accesses_grounded (a ∷ rest) old new are (mid, here, more) steps some at =
+      accesses_grounded rest mid new are.1 more steps.1 (made_some q old mid a here)
+      (access_grounded old mid a are.0 here steps.0 some at)
+
+  -- a block is lent
+  pub lend_grounded : (ring : ℕ) (old before : List Call) → AreSteps before → old ≢ [] → Grounded old
+      → Grounded (old ++ (before ++ lending ring ∷ []))
+  lend_grounded ring old before steps some at =
+      calls_lead w fifo h (HasGround w.queue q) (HasGround w.queue q) old before (lending ring) along
+      (ground_kept w (lent_by w.pass h) q) (ground_kept w (lent_by w.pass h) q)
+      (λ s met can told g.
+      let e = event.Lend (zero_block ring) in
+      let stay = settings_stand s e tt in
+      ground_same w.queue q s (after s e) stay.mode (stays_within s e).vfs stay.limit g) steps some at
+
+  -- no access is stray
+
+  abbrev pub NextOnGround : List Call → Type 0
+  NextOnGround old = RefutesNext w fifo h along (HasGround w.queue q) old
+
+  pub read_never_stray : (old new : List Call) (row : RowId) → is_driven row ≡ true → NextOnGround old
+      → (stray : IsStrayRead q old new row) → AreSteps stray.3.0 → Never w fifo h new
+  read_never_stray old new row driven next (number, word, named, (before, added)) steps =
+      subst (Never w fifo h) (sym added)
+      (next before (call_of (event.Read q.port number) (reply.Stray word)) steps refl
+      (λ s g told.
+      let is = (named_registers_reply w.queue q s row number g driven named).read in
+      let no_such : reply.Stray word ≡ reply.Word is.0 = told ∙ is.1 in
+      cc))
+
+  pub write_never_stray : (old new : List Call) (row : RowId) (word : ℕ) → is_driven row ≡ true → NextOnGround old
+      → (stray : IsStrayWrite q old new row word) → AreSteps stray.3.0 → Never w fifo h new
+  write_never_stray old new row word driven next (number, seen, named, (before, added)) steps =
+      subst (Never w fifo h) (sym added)
+      (next before (call_of (event.Write q.port number word) (reply.Stray seen)) steps refl
+      (λ s g told.
+      let is = (named_registers_reply w.queue q s row number g driven named).write word in
+      let no_such : reply.Stray seen ≡ reply.Done = told ∙ is in
+      cc))
+
+  pub next_on_ground : (old : List Call) → old ≢ [] → Grounded old → NextOnGround old
+  next_on_ground old some at =
+      then_refuted w fifo h along (HasGround w.queue q) old (ground_kept w (lent_by w.pass h) q) some at
+
+  write_never_fails : (old new : List Call) (a : Access) → IsWrite a → NextOnGround old
+      → (fails : IsOtherwise q old new a) → StepsBeforeOther q old new a fails → Never w fifo h new
+  write_never_fails old new (Sees row on) is next fails steps = absurd is
+  write_never_fails old new (Sets row word) is next fails steps = write_never_stray old new row word is next fails steps
+
+  pub writes_never_stop : (all : List Access) (old new : List Call) → AllAre IsWrite all
+      → (stops : StopsBy DeviceFault q old new all) → StepsUntil q old new all stops → old ≢ [] → Grounded old
+      → Never w fifo h new
+  writes_never_stop all old new are (done, a, rest, mid, is, made, fails) steps some at =
+      let both = all_before IsWrite done a rest (subst (AllAre IsWrite) is are) in
+      let there = accesses_grounded done old mid (writes_driven done both.0) made steps.0 some at in
+      write_never_fails mid new a both.1 (next_on_ground mid (some_made q done old mid made some) there) fails steps.1

@@ -1,0 +1,221 @@
+-- A driver that starts on a queue whose sides are off sees them off.
+use Rattle.std.proofs.Common.{◌≡◌, ◌≢◌, ℕ, inl, inr, ◌⊎◌, Bool, true, false, not, List, [], ◌∷◌, ◌++◌, refl, sym, ap, ◌∙◌, subst, arith, append_assoc}
+use Rattle.std.proofs.lemmas.Bool.{both_ways}
+use Rattle.reg_table.specs.declared.rows.RowId.{RowId}
+use Rattle.reg_table.specs.declared.rows.RowId.TheVariants.{Rxdctl, Txdctl}
+use Rattle.register_file.specs.Bits.{has_bit}
+use Rattle.register_laws.specs.Sides.{ReceiveQueue, TransmitQueue}
+use Rattle.nic_device.specs.State.{State}
+use Rattle.nic_device.specs.Step.{after}
+use Rattle.nic_device.specs.declared.event.Event.TheVariants as event
+use Rattle.nic_device.specs.declared.event.Reply.TheVariants as reply
+use Rattle.device_laws.specs.Leaving.{LeavesTransmit}
+use Rattle.device_laws.proofs.StandingAccesses.{read_rest}
+use Rattle.device_lock.specs.Alone.{lent_by}
+use Rattle.device_lock.specs.Pass.{call_of}
+use Rattle.device_lock.specs.declared.alone.Watched.{Watched}
+use Rattle.device_lock.specs.declared.entry.Call.{Call}
+use Rattle.device_lock.specs.declared.entry.Entry.{Entry}
+use Rattle.pmd_base.specs.declared.fault.PmdFault.TheVariants.{DeviceFault}
+use Rattle.pmd_queue.specs.Both.{both_quiet}
+use Rattle.pmd_queue.specs.Made.{Access, Sees, Sets, AreMade, IsMade, IsOtherwise, StopsBy}
+use Rattle.pmd_queue.specs.Named.{AtPort, IsNumberOf, is_driven}
+use Rattle.pmd_queue.specs.Sides.{quiet}
+use Rattle.register_file.specs.declared.dir.Dir.TheVariants.{Tx}
+use Rattle.transmit_laws.specs.Off as transmit
+use Rattle.start_laws.specs.Along.{AtCalls, BeforeLast, IsAlong, IsKept, Leads}
+use Rattle.start_laws.specs.Points.{HasGround, StepsBefore, StepsBetween}
+use Rattle.start_laws.specs.Quieting.{IsQuiet}
+use Rattle.start_laws.specs.Words.{KeepsGround}
+use Rattle.start_laws.proofs.First.{first_leads}
+use Rattle.start_laws.proofs.Numbers.{ground_names}
+use Rattle.start_laws.proofs.Off.{ground_kept, off_kept, transmit_off_kept}
+use Rattle.start_laws.proofs.Points.{ground_same, made_some, read_ground}
+use Rattle.start_laws.proofs.Quieting.{off_same, seen, set}
+use Rattle.start_laws.proofs.ReceiveWords.{receive_words_taken}
+use Rattle.start_laws.proofs.On.{some_made}
+use Rattle.start_laws.proofs.TransmitWords.{transmit_words_taken}
+use Rattle.begin_laws.specs.Faultless.{BeforeNext, Never, StepsBeforeOther, StepsUntil}
+use Rattle.begin_laws.proofs.Grounds.{AllAre, all_before, read_never_stray, write_never_stray}
+use Rattle.begin_laws.proofs.Last.{RefutesNext, next_refuted, then_refuted}
+use Rattle.begin_laws.proofs.Replies.{off_sides_are_seen_off}
+
+-- an access by which a side is seen off, or asked to be
+abbrev IsQuieting : Access → Type 0
+IsQuieting (Sees Rxdctl on) = on ≡ false
+IsQuieting (Sees Txdctl on) = on ≡ false
+IsQuieting (Sets Rxdctl word) = word ≡ 0
+IsQuieting (Sets Txdctl word) = word ≡ 0
+IsQuieting other = ⊥
+
+transmit_same : (queue : ℕ) (s t : State) → LeavesTransmit queue s t → transmit.IsOff queue s → transmit.IsOff queue t
+transmit_same queue s t same off = record {
+  off = ap (λ (x : TransmitQueue). x.on) same.side ∙ off.off;
+  unwanted = ap (λ (x : TransmitQueue). x.wanted) same.side ∙ off.unwanted;
+}
+
+module _ (w : Watched) (q : AtPort) (fifo : ℕ) (h : List Entry) (along : IsAlong w fifo h) where
+  abbrev Off : State → Type 0
+  Off = IsQuiet w.queue q
+
+  off_stays : IsKept w (lent_by w.pass h) Off
+  off_stays s e left x = record {
+    ground = ground_kept w (lent_by w.pass h) q s e left x.ground;
+    receive = off_kept w (lent_by w.pass h) s e left x.receive;
+    transmit = transmit_off_kept w (lent_by w.pass h) s e left x.transmit;
+  }
+
+  read_off : (number : ℕ) (s : State) → Off s → Off (after s (event.Read q.port number))
+  read_off number s x =
+      let t = after s (event.Read q.port number) in
+      let rest = (read_rest s q.port number).queues in record {
+        ground = read_ground w (lent_by w.pass h) q s number x.ground;
+        receive = off_same w q fifo h along s t (rest.receive w.queue) x.receive;
+        transmit = transmit_same w.queue s t (rest.transmit w.queue) x.transmit;
+      }
+
+  kept_ground : (s t : State) → KeepsGround s t → HasGround w.queue q s → HasGround w.queue q t
+  kept_ground s t k g = ground_same w.queue q s t k.mode k.vfs k.limit g
+
+  ask_receive_off : (number : ℕ) → IsNumberOf q.port Rxdctl q.queue number
+      → Leads w.queue (call_of (event.Write q.port number 0) reply.Done) Off Off
+  ask_receive_off number named s met made told x =
+      let t = after s (event.Write q.port number 0) in
+      let names = ground_names w.queue q s x.ground Rxdctl number refl named in
+      let takes = receive_words_taken w.queue s q.port number 0 Rxdctl met.small met.sound met.aligned x.receive.off
+      (omega arith) names in record {
+        ground = kept_ground s t takes.ground x.ground;
+        receive = record {
+          off = ap (λ (z : ReceiveQueue). z.on) takes.side ∙ x.receive.off;
+          unwanted = ap (λ (z : ReceiveQueue). z.wanted) takes.side;
+        };
+        transmit = transmit_same w.queue s t takes.other x.transmit;
+      }
+
+  ask_transmit_off : (number : ℕ) → IsNumberOf q.port Txdctl q.queue number
+      → Leads w.queue (call_of (event.Write q.port number 0) reply.Done) Off Off
+  ask_transmit_off number named s met made told x =
+      let t = after s (event.Write q.port number 0) in
+      let names = ground_names w.queue q s x.ground Txdctl number refl named in
+      let takes = transmit_words_taken w.queue s q.port number 0 Txdctl met.small met.sound met.aligned
+      x.transmit.off (omega arith) names in record {
+        ground = kept_ground s t takes.ground x.ground;
+        receive = off_same w q fifo h along s t takes.other x.receive;
+        transmit = record {
+          off = ap (λ (z : TransmitQueue). z.on) takes.side ∙ x.transmit.off;
+          unwanted = ap (λ (z : TransmitQueue). z.wanted) takes.side;
+        };
+      }
+
+  abbrev AtOff : List Call → Type 0
+  AtOff calls = AtCalls w fifo h calls Off
+
+  -- such an access leaves them off
+
+  see : (row : RowId) (on : Bool) (old new : List Call) → (made : IsMade q old new (Sees row on))
+      → StepsBefore q old new (Sees row on) made → old ≢ [] → AtOff old → AtOff new
+  see row on old new made steps some at =
+      seen w q fifo h along Off Off row on off_stays off_stays
+      (λ number word named is s met can told x. read_off number s x) old new made steps some at
+
+  access_off : (old new : List Call) (a : Access) → IsQuieting a → (made : IsMade q old new a)
+      → StepsBefore q old new a made → old ≢ [] → AtOff old → AtOff new
+  access_off old new (Sees row on) is made steps some at = see row on old new made steps some at
+  access_off old new (Sets Rxdctl word) is made steps some at =
+      set w q fifo h along Off Off Rxdctl word off_stays off_stays
+      (λ number named.
+      subst (λ (v : ℕ). Leads w.queue (call_of (event.Write q.port number v) reply.Done) Off Off) (sym is)
+      (ask_receive_off number named)) old new made steps some at
+  access_off old new (Sets Txdctl word) is made steps some at =
+      set w q fifo h along Off Off Txdctl word off_stays off_stays
+      (λ number named.
+      subst (λ (v : ℕ). Leads w.queue (call_of (event.Write q.port number v) reply.Done) Off Off) (sym is)
+      (ask_transmit_off number named)) old new made steps some at
+  access_off old new (Sets other word) is made steps some at = absurd is
+
+  accesses_off : (all : List Access) (old new : List Call) → AllAre IsQuieting all → (made : AreMade q old new all)
+      → StepsBetween q old new all made → old ≢ [] → AtOff old → AtOff new
+  accesses_off [] old new are made steps some at = subst AtOff (sym made) at
+  accesses_off (a ∷ rest) old new are (mid, here, more) steps some at =
+      accesses_off rest mid new are.1 more steps.1 (made_some q old mid a here)
+      (access_off old mid a are.0 here steps.0 some at)
+
+  -- the first of them is a read
+  first_off : (row : RowId) (on : Bool) (old new : List Call) → (made : IsMade q old new (Sees row on))
+      → StepsBefore q old new (Sees row on) made → BeforeNext w fifo h old Off → AtOff new
+  first_off row on old new (number, word, named, is, (before, added)) steps at =
+      let c = call_of (event.Read q.port number) (reply.Word word) in
+      let made : (old ++ before) ++ c ∷ [] ≡ new = append_assoc old before (c ∷ []) ∙ sym added in
+      subst AtOff made
+      (first_leads w fifo h Off (old ++ before) c along off_stays (read_off number)
+      (subst (λ (calls : List Call). BeforeLast w fifo h calls Off) (sym (append_assoc old before (c ∷ [])))
+      (at before c steps refl)))
+
+  -- and none of them is answered otherwise
+
+  abbrev Next : List Call → Type 0
+  Next old = RefutesNext w fifo h along Off old
+
+  on_ground : (old : List Call) → Next old → RefutesNext w fifo h along (HasGround w.queue q) old
+  on_ground old next before c steps apart refutes =
+      next before c steps apart (λ s x told. refutes s x.ground told)
+
+  read_never_on : (row : RowId) (old new : List Call) (on : Bool) → on ≡ false → (is_driven row ≡ true)
+      → ((number : ℕ) → IsNumberOf q.port row q.queue number
+      → IsNumberOf q.port Rxdctl q.queue number ⊎ IsNumberOf q.port Txdctl q.queue number)
+      → Next old → (fails : IsOtherwise q old new (Sees row on)) → StepsBeforeOther q old new (Sees row on) fails
+      → Never w fifo h new
+  read_never_on row old new on off driven names next (inl (number, word, named, is, (before, added))) steps =
+      subst (Never w fifo h) (sym added)
+      (next before (call_of (event.Read q.port number) (reply.Word word)) steps refl
+      (λ s x told.
+      both_ways (has_bit 25 word)
+      (off_sides_are_seen_off w.queue q s number word x (names number named) (sym told))
+      (is ∙ ap not off)))
+  read_never_on row old new on off driven names next (inr stray) steps =
+      read_never_stray w q fifo h along old new row driven (on_ground old next) stray steps
+
+  never_otherwise : (old new : List Call) (a : Access) → IsQuieting a → Next old → (fails : IsOtherwise q old new a)
+      → StepsBeforeOther q old new a fails → Never w fifo h new
+  never_otherwise old new (Sees Rxdctl on) is next fails steps =
+      read_never_on Rxdctl old new on is refl (λ number named. inl named) next fails steps
+  never_otherwise old new (Sees Txdctl on) is next fails steps =
+      read_never_on Txdctl old new on is refl (λ number named. inr named) next fails steps
+  never_otherwise old new (Sees other on) is next fails steps = absurd is
+  never_otherwise old new (Sets Rxdctl word) is next fails steps =
+      write_never_stray w q fifo h along old new Rxdctl word refl (on_ground old next) fails steps
+  never_otherwise old new (Sets Txdctl word) is next fails steps =
+      write_never_stray w q fifo h along old new Txdctl word refl (on_ground old next) fails steps
+  never_otherwise old new (Sets other word) is next fails steps = absurd is
+
+  quieting : AllAre IsQuieting both_quiet
+  quieting = (refl, (refl, (refl, (refl, (refl, (refl, tt))))))
+
+  -- the first access of some that begin with a read, and then the others
+  begun_off : (a : Access) (rest more : List Access) (old new : List Call) → both_quiet ≡ a ∷ more
+      → AllAre IsQuieting rest → (made : AreMade q old new (a ∷ rest)) → StepsBetween q old new (a ∷ rest) made
+      → BeforeNext w fifo h old Off → AtOff new
+  begun_off (Sees row on) rest more old new is are (mid, here, then) steps at =
+      accesses_off rest mid new are then steps.1 (made_some q old mid (Sees row on) here)
+      (first_off row on old mid here steps.0 at)
+  begun_off (Sets row word) rest more old new is are made steps at = cc
+
+  abbrev others : List Access
+  others = Sets Rxdctl 0 ∷ Sees Rxdctl false ∷ quiet Tx
+
+  pub quiet_off : (old new : List Call) (made : AreMade q old new both_quiet) → StepsBetween q old new both_quiet made
+      → BeforeNext w fifo h old Off → AtOff new
+  quiet_off old new made steps at =
+      begun_off (Sees Rxdctl false) others others old new refl quieting.1 made steps at
+
+  pub quieting_never_stops : (old new : List Call) → BeforeNext w fifo h old Off
+      → (stops : StopsBy DeviceFault q old new both_quiet) → StepsUntil q old new both_quiet stops
+      → Never w fifo h new
+  quieting_never_stops old new at ([], a, rest, mid, is, made, fails) steps =
+      let both = all_before IsQuieting [] a rest (subst (AllAre IsQuieting) is quieting) in
+      never_otherwise mid new a both.1 (subst Next (sym made) (next_refuted w fifo h along Off old at)) fails steps.1
+  quieting_never_stops old new at (d ∷ done, a, rest, mid, is, made, fails) steps =
+      let both = all_before IsQuieting (d ∷ done) a rest (subst (AllAre IsQuieting) is quieting) in
+      let some : mid ≢ [] = some_made q done made.0 mid made.2 (made_some q old made.0 d made.1) in
+      let there = begun_off d done (done ++ a ∷ rest) old mid is both.0.1 made steps.0 at in
+      never_otherwise mid new a both.1 (then_refuted w fifo h along Off mid off_stays some there) fails steps.1

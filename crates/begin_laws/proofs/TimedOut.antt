@@ -1,0 +1,174 @@
+-- A start that times out polled 1,000 times.
+use Rattle.std.proofs.Common.{◌≡◌, ℕ, ◌+◌, ◌-◌, ◌<◌, zero, suc, inl, inr, true, false, ◌≢◌, List, [], ◌∷◌, ◌++◌, refl, sym, ap, ◌∙◌, subst, arith, append_assoc}
+use Rattle.std.specs.Prelude.{replicate, nat_lt, Option, None, Err}
+use Rattle.std.proofs.lemmas.Bool.{cond_both}
+use Rattle.std.proofs.lemmas.List.{append-nil}
+use Rattle.dma_arena.specs.Numbers.{Numbers, free_count}
+use Rattle.reg_table.specs.declared.rows.RowId.TheVariants.{Rxdctl, Txdctl}
+use Rattle.register_file.specs.declared.dir.Dir.{Dir}
+use Rattle.register_file.specs.declared.dir.Dir.TheVariants.{Rx, Tx}
+use Rattle.device_lock.specs.declared.entry.Call.{Call}
+use Rattle.pmd_base.specs.declared.fault.PmdFault.{PmdFault}
+use Rattle.pmd_base.specs.declared.fault.PmdFault.TheVariants.{StartTimeout, BadSize, NoBuffer, DeviceFault}
+use Rattle.pmd_queue.specs.Both.{both_asked, both_quiet, receive_polled, SwitchFails}
+use Rattle.pmd_queue.specs.Made.{Access, Sees, AreMade}
+use Rattle.pmd_queue.specs.Named.{AtPort, queues_named}
+use Rattle.pmd_queue.specs.Sides.{missed, ring_words}
+use Rattle.pmd_queue.proofs.Sequences.{both_made as made_after}
+use Rattle.pmd.specs.Started.{IsShut, StopsStarting, is_size, start_gate}
+use Rattle.pmd.specs.Starting.{IsPrepared, IsReceiveReady, GoingOnFails, PreparingFails, ReceiveFails}
+use Rattle.pmd.specs.declared.start.StartRefused.{StartRefused}
+use Rattle.pmd_rx.specs.Receive.{Receive}
+use Rattle.start_laws.proofs.On.{extends}
+use Rattle.begin_laws.specs.TimedOut.{AllEnable, Asked, TimesOut, TimeoutsPoll, misses, none_asked}
+
+-- so many reads of sides that are asked on, in vain
+
+abbrev both : Asked
+both = record { receive = true; transmit = true }
+
+pub none_more : (k : ℕ) → k ≡ 0 + k
+none_more k = omega arith
+
+one_more : (n k : ℕ) → 1 + (n + k) ≡ suc n + k
+one_more n k = omega arith
+
+one_is : (n : ℕ) → 1 + n ≡ suc n
+one_is n = omega arith
+
+receive_misses : (n : ℕ) (rest : List Access)
+    → misses both (replicate n (Sees Rxdctl false) ++ rest) ≡ n + misses both rest
+receive_misses zero rest = none_more (misses both rest)
+receive_misses (suc n) rest = ap (λ k. 1 + k) (receive_misses n rest) ∙ one_more n (misses both rest)
+
+transmit_misses : (n : ℕ) → misses both (replicate n (Sees Txdctl false)) ≡ n
+transmit_misses zero = refl
+transmit_misses (suc n) = ap (λ k. 1 + k) (transmit_misses n) ∙ one_is n
+
+asks : (rest : List Access) → misses none_asked (both_asked true ++ rest) ≡ misses both rest
+asks rest = sym (none_more (0 + misses both rest)) ∙ sym (none_more (misses both rest))
+
+receive_alone : misses none_asked (both_asked true ++ missed Rx true 1000) ≡ 1000
+receive_alone =
+    subst (λ (l : List Access). misses both l ≡ 1000) (append-nil (missed Rx true 1000)) (receive_misses 1000 [])
+
+one_after_the_other : (first : ℕ) → first < 1000
+    → misses none_asked (receive_polled true first ++ missed Tx true (1000 - first)) ≡ 1000
+one_after_the_other first few =
+    let more : List Access = missed Tx true (1000 - first) in
+    let all : first + (1000 - first) ≡ 1000 = omega (arith, few) in
+    asks ((missed Rx true first ++ Sees Rxdctl true ∷ []) ++ more)
+    ∙ ap (misses both) (append_assoc (missed Rx true first) (Sees Rxdctl true ∷ []) more)
+    ∙ receive_misses first (Sees Rxdctl true ∷ more)
+    ∙ ap (λ k. first + k) (sym (none_more (misses both more)) ∙ transmit_misses (1000 - first)) ∙ all
+
+-- these are accesses of the enable words alone
+
+receive_enables : (n : ℕ) (rest : List Access) → AllEnable rest → AllEnable (replicate n (Sees Rxdctl false) ++ rest)
+receive_enables zero rest are = are
+receive_enables (suc n) rest are = (tt, receive_enables n rest are)
+
+transmit_enables : (n : ℕ) → AllEnable (replicate n (Sees Txdctl false))
+transmit_enables zero = tt
+transmit_enables (suc n) = (tt, transmit_enables n)
+
+polled_enables : (first more : ℕ)
+    → AllEnable ((missed Rx true first ++ Sees Rxdctl true ∷ []) ++ missed Tx true more)
+polled_enables first more =
+    subst AllEnable (sym (append_assoc (missed Rx true first) (Sees Rxdctl true ∷ []) (missed Tx true more)))
+    (receive_enables first (Sees Rxdctl true ∷ missed Tx true more) (tt, transmit_enables more))
+
+-- some calls were made before
+
+abbrev Adds : List Call → List Call → Type 0
+Adds old new = (more : List Call) × (new ≡ old ++ more)
+
+adds_more : (old mid new : List Call) → Adds old mid → Adds mid new → Adds old new
+adds_more old mid new (xs, first) (ys, then) =
+    (xs ++ ys, then ∙ ap (λ (l : List Call). l ++ ys) first ∙ append_assoc old xs ys)
+
+module _ (q : AtPort) (size : ℕ) where
+  prepared_adds : (side : Dir) (old : List Call) (a : Numbers) (new : List Call) (b : Numbers) (ring : ℕ)
+      → IsPrepared q side size old a new b ring → Adds old new
+  prepared_adds side old a new b ring x =
+      adds_more old x.mid new (extends q (ring_words side ring size) old x.mid x.words) (_, x.lent.1)
+
+  receive_adds : (old : List Call) (a : Numbers) (new : List Call) (b : Numbers) (v : Receive)
+      → IsReceiveReady q size old a new b v → Adds old new
+  receive_adds old a new b v x =
+      adds_more old x.mid new (extends q both_quiet old x.mid x.quiet)
+      (prepared_adds Rx x.mid a new b x.ring x.prepared)
+
+  -- how it comes to this
+  switching_times_out : (old mid new : List Call) → Adds old mid → SwitchFails StartTimeout q mid new true 1000
+      → TimesOut q old new
+  switching_times_out old mid new before (inl stops) = absurd stops.6
+  switching_times_out old mid new (before, is) (inr (inl (between, asked, polls))) = record {
+    before = before;
+    all = both_asked true ++ missed Rx true 1000;
+    enables = (tt, (tt, subst AllEnable (append-nil (missed Rx true 1000)) (receive_enables 1000 [] tt)));
+    made = subst (λ (m : List Call). AreMade q m new (both_asked true ++ missed Rx true 1000)) is
+        (made_after q mid between new (both_asked true) (missed Rx true 1000) asked polls);
+    polls = receive_alone;
+  }
+  switching_times_out old mid new (before, is) (inr (inr (first, between, few, asked, polls))) = record {
+    before = before;
+    all = receive_polled true first ++ missed Tx true (1000 - first);
+    enables = (tt, (tt, polled_enables first (1000 - first)));
+    made =
+        subst (λ (m : List Call). AreMade q m new (receive_polled true first ++ missed Tx true (1000 - first))) is
+        (made_after q mid between new (receive_polled true first) (missed Tx true (1000 - first)) asked polls);
+    polls = one_after_the_other first few;
+  }
+
+  never_preparing : (side : Dir) (old : List Call) (a : Numbers) (new : List Call)
+      → PreparingFails StartTimeout q side size old a new → ⊥
+  never_preparing side old a new (ring, free, inl stops) = stops.6
+  never_preparing side old a new (ring, free, inr (mid, made, none)) = none
+
+  never_receiving : (old : List Call) (a : Numbers) (new : List Call)
+      → ReceiveFails StartTimeout q size old a new → ⊥
+  never_receiving old a new (inl stops) = stops.6
+  never_receiving old a new (inr (mid, made, fails)) = never_preparing Rx mid a new fails
+
+  going_on : (old mid : List Call) (a : Numbers) (v : Receive) (new : List Call) (b : Numbers) (w : Receive)
+      → Adds old mid → GoingOnFails StartTimeout q mid a v new b w → TimesOut q old new
+  going_on old mid a v new b w before (inl (fails, same, left)) = switching_times_out old mid new before fails
+  going_on old mid a v new b w before (inr (on, switched, filling)) = absurd filling.fails
+
+  amid : (old : List Call) (a : Numbers) (new : List Call) (e : StartRefused) → StopsStarting q size old a new e
+      → e.fault ≡ StartTimeout → TimesOut q old new
+  amid old a new e (inl (fails, home)) is =
+      absurd (never_receiving old a new (subst (λ (f : PmdFault). ReceiveFails f q size old a new) is fails))
+  amid old a new e (inr (inl x)) is =
+      absurd
+      (never_preparing Tx x.made x.arena new
+      (subst (λ (f : PmdFault). PreparingFails f q Tx size x.made x.arena new) is x.fails))
+  amid old a new e (inr (inr x)) is =
+      going_on old x.both_made x.both_arena x.empty new x.arena x.filled
+      (adds_more old x.ready_made x.both_made (receive_adds old a x.ready_made x.ready_arena x.empty x.receive)
+      (prepared_adds Tx x.ready_made x.ready_arena x.both_made x.both_arena x.transmit.ring x.transmit.prepared))
+      (subst (λ (f : PmdFault). GoingOnFails f q x.both_made x.both_arena x.empty new x.arena x.filled) is x.fails)
+
+  -- before any event it answers no such fault
+  abbrev IsEarly : List Call → Numbers → List Call → StartRefused → Option PmdFault → Type 0
+  IsEarly old a new e g =
+      IsShut g a old new (Err e) → (g ≡ None → e.fault ≡ StartTimeout → TimesOut q old new)
+      → e.fault ≡ StartTimeout → TimesOut q old new
+
+  by_gate : (old : List Call) (a : Numbers) (new : List Call) (e : StartRefused)
+      → IsEarly old a new e (start_gate a q size)
+  by_gate old a new e =
+      cond_both (is_size size) _ _ (IsEarly old a new e)
+      (λ sized. cond_both (nat_lt size (free_count a)) _ _ (IsEarly old a new e)
+      (λ some. cond_both (nat_lt q.queue (queues_named q.port)) _ _ (IsEarly old a new e)
+      (λ named shut late is. late refl is) (λ none shut late timed. other DeviceFault (λ d. cc) shut.0 timed))
+      (λ none shut late timed. other NoBuffer (λ d. cc) shut.0 timed))
+      (λ none shut late timed. other BadSize (λ d. cc) shut.0 timed)
+    where
+      other : (f : PmdFault) → f ≢ StartTimeout → e.fault ≡ f → e.fault ≡ StartTimeout → TimesOut q old new
+      other f apart is timed = absurd (apart (sym is ∙ timed))
+
+pub timeouts_poll : TimeoutsPoll
+timeouts_poll q size old a new e shut stops =
+    by_gate q size old a new e shut (λ none timed. amid q size old a new e (stops none) timed)

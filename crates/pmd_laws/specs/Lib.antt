@@ -1,5 +1,6 @@
 pub mod Life
 pub mod Looks
 pub mod Order
+pub mod Stopped
 pub mod Told
 pub mod Waits

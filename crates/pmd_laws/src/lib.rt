@@ -7,6 +7,7 @@
 
 ghost use Rattle.pmd_laws.specs.Looks.{CallsEnd, NoneIsAllBefore};
 ghost use Rattle.pmd_laws.specs.Order.{HandedIsPrefix, NoneIsAll, SentIsPrefix, IdleIsAllSent};
+ghost use Rattle.pmd_laws.specs.Stopped as stopped;
 ghost use Rattle.pmd_laws.specs.Told as told;
 ghost use Rattle.pmd_laws.specs.Waits.{WaitingIsNotAllBefore, WaitingIsNotAllAsTold};
 
@@ -51,4 +52,10 @@ pub fn driver_in_order()
     ensures none { told.NoneIsAllBefore }
     ensures sent { told.SentIsPrefix }
     ensures idle { told.IdleIsAllSent }
+{}
+
+/// Where such a life is followed by calls of a stop, of which none asks for a side to be on, the packets that the
+/// driver had handed out are a prefix of those delivered in the whole history, with whatever came behind.
+pub fn stopped_life_in_order()
+    ensures handed { stopped.HandedIsPrefix }
 {}

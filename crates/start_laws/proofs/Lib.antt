@@ -1,5 +1,6 @@
 pub mod Accesses
 pub mod Along
+pub mod Ending
 pub mod First
 pub mod Fresh
 pub mod LeftReceive
@@ -13,6 +14,7 @@ pub mod Points
 pub mod Quiet
 pub mod Quieting
 pub mod ReceiveWords
+pub mod Settled
 pub mod Standing
 pub mod Start
 pub mod StillReceive

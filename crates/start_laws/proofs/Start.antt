@@ -28,7 +28,7 @@ use Rattle.receive_laws.proofs.Delivering.{events_before}
 use Rattle.transmit_laws.specs.Agreeing.{Agrees}
 use Rattle.start_laws.specs.Along.{AtCalls, AtEntries, IsAlong}
 use Rattle.start_laws.specs.Moves.{IsSized}
-use Rattle.start_laws.specs.Points.{Point, Sides, after_accesses}
+use Rattle.start_laws.specs.Points.{HasGround, Point, Sides, after_accesses}
 use Rattle.start_laws.specs.Quieting.{are_off}
 use Rattle.start_laws.specs.Start.{OnlySteps, BeginsWell, StartAgrees, StartGoesOn}
 use Rattle.start_laws.specs.Unused.{AreUnused, WentOn}
@@ -317,6 +317,12 @@ module _ (w : Watched) (fifo : ℕ) (h : List Entry) (q : AtPort) (size : ℕ) (
         let two = other_lent done rest all calls in
         let (p, x, unused) = came_up_at one two done rest all calls in
         went_on one two done unused p x
+
+    -- and port and queue name this queue
+    pub ground_at : AtCalls w fifo h up.on.mid (HasGround w.queue q)
+    ground_at done rest all calls =
+        let (p, x, unused) = came_up_at (ring_lent done rest all calls) (other_lent done rest all calls) done rest all
+        calls in x.ground
 
     -- some calls were made before both were on
     pub on_some : up.on.mid ≢ []

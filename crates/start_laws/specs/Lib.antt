@@ -1,4 +1,5 @@
 pub mod Along
+pub mod Ending
 pub mod Moves
 pub mod Numbers
 pub mod Points

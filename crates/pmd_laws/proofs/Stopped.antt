@@ -156,8 +156,8 @@ some_more [] ys some none = some refl
 some_more (x ∷ xs) ys some none = cc
 
 module _ (w : Watched) (fifo : ℕ) (h : List Entry) (q : AtPort) (size : ℕ) (old : List Call) (a : Numbers)
-    (started : List Call) (r : Running) (made : List Call) (k : Halves) (ends : List Call)
-    (x : IsStopping w fifo h q size old a started r made k ends) where
+    (started : List Call) (r : Running) (made : List Call) (k : Halves) (new : List Call)
+    (x : IsStopping w fifo h q size old a started r made k new) where
   made_some : made ≢ []
   made_some none =
       some_more started x.life.since.0.1
@@ -180,9 +180,9 @@ module _ (w : Watched) (fifo : ℕ) (h : List Entry) (q : AtPort) (size : ℕ) (
   over_stop : Keeps w fifo q k.receive.handed h
   over_stop =
       all_lead w fifo h (Keeps w fifo q k.receive.handed) (λ c. IsEnding q c.event) x.along
-      (others_keep w fifo q k.receive.handed (lent_by w.pass h)) (ending_keeps w fifo q k.receive.handed) ends made
-      x.ending made_some lived_at h [] (append-nil h) x.calls
+      (others_keep w fifo q k.receive.handed (lent_by w.pass h)) (ending_keeps w fifo q k.receive.handed) x.ends.0
+      made x.ends.2 made_some lived_at h [] (append-nil h) (x.calls ∙ x.ends.1)
 
 pub handed_over_stop : HandedIsPrefix
-handed_over_stop w fifo h q size old a started r made k ends x =
-    (over_stop w fifo h q size old a started r made k ends x).first
+handed_over_stop w fifo h q size old a started r made k new x =
+    (over_stop w fifo h q size old a started r made k new x).first

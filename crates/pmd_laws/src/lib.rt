@@ -59,3 +59,9 @@ pub fn driver_in_order()
 pub fn stopped_life_in_order()
     ensures handed { stopped.HandedIsPrefix }
 {}
+
+/// The calls of a stop of a `pmd::Pmd` are such, beside steps of the device, and so are those of one that fails.
+pub fn stop_calls_ask_for_no_side()
+    ensures stops { stopped.StopEnds }
+    ensures fails { stopped.FailedStopEnds }
+{}

@@ -19,6 +19,7 @@ pub mod Standing
 pub mod Start
 pub mod StillReceive
 pub mod StillTransmit
+pub mod Stopping
 pub mod Switching
 pub mod TransmitWords
 pub mod Unused

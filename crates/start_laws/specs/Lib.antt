@@ -7,5 +7,6 @@ pub mod Quiet
 pub mod Quieting
 pub mod Standing
 pub mod Start
+pub mod Stopping
 pub mod Unused
 pub mod Words

@@ -2,6 +2,7 @@ pub mod Begun
 pub mod Looks
 pub mod Order
 pub mod Plain
+pub mod Silent
 pub mod StopCalls
 pub mod Stopped
 pub mod Told

@@ -19,9 +19,10 @@ use Rattle.receive_laws.specs.Delivered.{IsPrefixOf, delivered, packets_if_any, 
 use Rattle.receive_laws.specs.Joint.{Agree}
 use Rattle.receive_laws.specs.Pieces.{Piece, packets_behind, packet_told, pieces}
 use Rattle.receive_laws.proofs.Delivering.{leads-append, since-append}
-use Rattle.start_laws.specs.Along.{AtEntries}
+use Rattle.start_laws.specs.Along.{AtEntries, IsAlong}
 use Rattle.start_laws.specs.Ending.{IsEnding, IsPlain, NamesDriven}
 use Rattle.start_laws.specs.Points.{HasGround}
+use Rattle.start_laws.specs.Start.{BeginsWell}
 use Rattle.start_laws.proofs.Along.{KeptOver, LeadsOver, Parts, reached, reached_next, state_kept, state_leads}
 use Rattle.start_laws.proofs.Ending.{all_lead, ending_plain, ending_settles, plain_keeps}
 use Rattle.start_laws.proofs.Off.{ground_kept}
@@ -29,6 +30,7 @@ use Rattle.start_laws.proofs.Settled.{IsSettled, Settles, left_settles}
 use Rattle.start_laws.proofs.Start.{ground_at, on_some}
 use Rattle.driver_laws.specs.Halves.{Halves}
 use Rattle.driver_laws.proofs.InOrder.{led}
+use Rattle.pmd_laws.specs.Life.{IsLife}
 use Rattle.pmd_laws.specs.Order.{IsLived}
 use Rattle.pmd_laws.specs.Stopped.{HandedIsPrefix, IsStopping}
 use Rattle.pmd_laws.proofs.Looks.{lived_before}
@@ -151,21 +153,27 @@ module _ (w : Watched) (fifo : ℕ) (q : AtPort) (handed : List Kept) where
       keeps_on done e (plain_keeps w.queue q s e.event (ending_plain q e.event mine) kept.ground)
       (ending_settles w.queue q s e.event met made mine kept.ground kept.settled) kept
 
-some_more : (xs ys : List Call) → xs ≢ [] → xs ++ ys ≢ []
+pub some_more : (xs ys : List Call) → xs ≢ [] → xs ++ ys ≢ []
 some_more [] ys some none = some refl
 some_more (x ∷ xs) ys some none = cc
+
+-- a life made some calls
+pub life_some : (w : Watched) (fifo : ℕ) (h : List Entry) (q : AtPort) (size : ℕ) (old : List Call) (a : Numbers)
+    (started : List Call) (r : Running) (made : List Call) (k : Halves) → IsAlong w fifo h
+    → (life : IsLife q size old a started r made k) → BeginsWell w fifo h q size old a started r life.up → made ≢ []
+life_some w fifo h q size old a started r made k along life begins none =
+    some_more started life.since.0.1
+    (λ first.
+    some_more life.up.on.mid life.up.on.plays.1
+    (on_some w fifo h q size old a started r life.up along life.sized life.steps begins)
+    (sym life.up.on.plays.2 ∙ first))
+    (sym life.since.0.2 ∙ none)
 
 module _ (w : Watched) (fifo : ℕ) (h : List Entry) (q : AtPort) (size : ℕ) (old : List Call) (a : Numbers)
     (started : List Call) (r : Running) (made : List Call) (k : Halves) (new : List Call)
     (x : IsStopping w fifo h q size old a started r made k new) where
   made_some : made ≢ []
-  made_some none =
-      some_more started x.life.since.0.1
-      (λ first.
-      some_more x.life.up.on.mid x.life.up.on.plays.1
-      (on_some w fifo h q size old a started r x.life.up x.along x.life.sized x.life.steps x.begins)
-      (sym x.life.up.on.plays.2 ∙ first))
-      (sym x.life.since.0.2 ∙ none)
+  made_some = life_some w fifo h q size old a started r made k x.along x.life x.begins
 
   lived_at : AtEntries w h made (Keeps w fifo q k.receive.handed)
   lived_at done rest all calls =

@@ -1,6 +1,7 @@
 pub mod Life
 pub mod Looks
 pub mod Order
+pub mod Silent
 pub mod Stopped
 pub mod Told
 pub mod Waits

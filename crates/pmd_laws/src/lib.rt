@@ -7,6 +7,7 @@
 
 ghost use Rattle.pmd_laws.specs.Looks.{CallsEnd, NoneIsAllBefore};
 ghost use Rattle.pmd_laws.specs.Order.{HandedIsPrefix, NoneIsAll, SentIsPrefix, IdleIsAllSent};
+ghost use Rattle.pmd_laws.specs.Silent.{SilentOnceOff};
 ghost use Rattle.pmd_laws.specs.Stopped as stopped;
 ghost use Rattle.pmd_laws.specs.Told as told;
 ghost use Rattle.pmd_laws.specs.Waits.{WaitingIsNotAllBefore, WaitingIsNotAllAsTold};
@@ -64,4 +65,10 @@ pub fn stopped_life_in_order()
 pub fn stop_calls_ask_for_no_side()
     ensures stops { stopped.StopEnds }
     ensures fails { stopped.FailedStopEnds }
+{}
+
+/// Where such a life is followed by the calls that switch both sides of the queue off, as a stop makes first, nothing is
+/// delivered or sent on the queue any more behind them, while the calls of the driver's pass are those of a stop.
+pub fn switched_off_queue_is_silent()
+    ensures { SilentOnceOff }
 {}

@@ -1,5 +1,5 @@
 -- A driver's own calls leave what it rests on, and those of its stop leave its receive side settled.
-use Rattle.std.proofs.Common.{◌≡◌, ◌≢◌, ℕ, true, false, List, [], ◌∷◌, ◌++◌, refl, sym, subst, append_assoc, Some}
+use Rattle.std.proofs.Common.{◌≡◌, ◌≢◌, ℕ, true, false, List, [], ◌∷◌, ◌++◌, refl, sym, ap, ◌∙◌, subst, append_assoc, Some}
 use Rattle.std.proofs.lemmas.List.{append-nil}
 use Rattle.dma_arena.specs.Block.{Block}
 use Rattle.reg_table.specs.declared.rows.RowId.{RowId}
@@ -7,6 +7,10 @@ use Rattle.reg_table.specs.declared.rows.RowId.TheVariants.{Rxdctl, Txdctl}
 use Rattle.register_file.specs.Bits.{has_bit}
 use Rattle.register_file.specs.Columns.{place}
 use Rattle.register_file.specs.Pools.{mode_in}
+use Rattle.register_file.specs.Sides.{ReceiveQueue, TransmitQueue, receive_queue_of, transmit_queue_of}
+use Rattle.register_file.proofs.Switches.{receive-asked, transmit-asked}
+use Rattle.device_laws.specs.Leaving.{LeavesReceive, LeavesTransmit}
+use Rattle.nic_device.specs.declared.event.Port.{Port}
 use Rattle.register_file.specs.Queue.{enable_row}
 use Rattle.register_file.specs.declared.dir.Dir.{Dir}
 use Rattle.register_file.specs.declared.dir.Dir.TheVariants.{Rx, Tx}
@@ -32,12 +36,13 @@ use Rattle.start_laws.specs.Ending.{Each, IsEnding, IsPlain}
 use Rattle.start_laws.specs.Moves.{IsMet}
 use Rattle.start_laws.specs.Points.{HasGround}
 use Rattle.start_laws.specs.Quiet.{no_block}
+use Rattle.start_laws.specs.Quieting.{IsQuiet}
 use Rattle.start_laws.specs.Standing.{IsLeft}
 use Rattle.start_laws.proofs.Along.{KeptOver, LeadsOver, entries_lead}
 use Rattle.start_laws.proofs.Numbers.{ground_names}
 use Rattle.start_laws.proofs.Points.{driven_plain, ends_some, ground_same}
 use Rattle.start_laws.proofs.Settled.{IsSettled, Settles, asked_settles, leaving_settles, left_settles}
-use Rattle.start_laws.proofs.Words.{ground}
+use Rattle.start_laws.proofs.Words.{ground, wrote}
 
 -- calls of one kind keep what each of them keeps
 pub all_lead : (w : Watched) (fifo : ℕ) (h : List Entry) (P : List Entry → Type 0) (Own : Call → Type 0)
@@ -58,10 +63,10 @@ outside_none queue (Advanced on slot (Some back)) = λ other. refl
 outside_none queue (Sent on len (Some back)) = λ other. refl
 outside_none queue other = tt
 
-abbrev watching : ℕ → State → Watched
+abbrev pub watching : ℕ → State → Watched
 watching queue s = record { vfs = s.vfs; pass = 0; queue = queue }
 
-step_left : (queue : ℕ) (s : State) (e : Event Block) → IsMet queue s → IsEvent e → is_step e ≡ true
+pub step_left : (queue : ℕ) (s : State) (e : Event Block) → IsMet queue s → IsEvent e → is_step e ≡ true
     → IsLeft (watching queue s) no_block s e
 step_left queue s e met made is =
     let free = no_registers (watching queue s) (mode_in s.registers) no_block e is in record {
@@ -126,3 +131,81 @@ pub ending_plain : (q : AtPort) (e : Event Block) → IsEnding q e → IsPlain q
 ending_plain q (event.Write port number word) (side, same, none, named) =
     (enable_row side, same, side_plain q side, named)
 ending_plain q e ending = tt
+
+-- sides that are off stay so
+module _ (queue : ℕ) (q : AtPort) (s : State) (x : IsQuiet queue q s) where
+  quiet_same : (t : State) → HasGround queue q t → LeavesReceive queue s t → LeavesTransmit queue s t
+      → IsQuiet queue q t
+  quiet_same t g receive send = record {
+    ground = g;
+    receive = record {
+      off = ap (λ (k : ReceiveQueue). k.on) receive ∙ x.receive.off;
+      unwanted = ap (λ (k : ReceiveQueue). k.wanted) receive ∙ x.receive.unwanted;
+    };
+    transmit = record {
+      off = ap (λ (k : TransmitQueue). k.on) send.side ∙ x.transmit.off;
+      unwanted = ap (λ (k : TransmitQueue). k.wanted) send.side ∙ x.transmit.unwanted;
+    };
+  }
+
+  asked_quiet : (side : Dir) (number word : ℕ) → IsMet queue s → has_bit 25 word ≡ false
+      → IsNumberOf q.port (enable_row side) q.queue number
+      → IsQuiet queue q (after s (event.Write q.port number word))
+  asked_quiet Rx number word met none named =
+      let t = after s (event.Write q.port number word) in
+      let names = ground_names queue q s x.ground Rxdctl number refl named in
+      let side : receive_queue_of t.registers queue
+      ≡ record (receive_queue_of s.registers queue) { wanted = has_bit 25 word } =
+      ap (λ r. receive_queue_of r queue) (wrote queue s q.port number word Rxdctl names refl)
+      ∙ receive-asked s.registers met.sound.registers.shape queue met.small 0xFFFFFFFF word in
+      let send = (write_rest s q.port number word (place Rxdctl queue) 0xFFFFFFFF names refl refl).transmit queue
+      (λ e. cc) in
+      record {
+        ground = write_keeps queue q s Rxdctl number word refl named x.ground;
+        receive = record {
+          off = ap (λ (k : ReceiveQueue). k.on) side ∙ x.receive.off;
+          unwanted = ap (λ (k : ReceiveQueue). k.wanted) side ∙ none;
+        };
+        transmit = record {
+          off = ap (λ (k : TransmitQueue). k.on) send.side ∙ x.transmit.off;
+          unwanted = ap (λ (k : TransmitQueue). k.wanted) send.side ∙ x.transmit.unwanted;
+        };
+      }
+  asked_quiet Tx number word met none named =
+      let t = after s (event.Write q.port number word) in
+      let names = ground_names queue q s x.ground Txdctl number refl named in
+      let side : transmit_queue_of t.registers queue
+      ≡ record (transmit_queue_of s.registers queue) { wanted = has_bit 25 word } =
+      ap (λ r. transmit_queue_of r queue) (wrote queue s q.port number word Txdctl names refl)
+      ∙ transmit-asked s.registers met.sound.registers.shape queue met.small 0xFFFFFFFF word in
+      let receive = (write_rest s q.port number word (place Txdctl queue) 0xFFFFFFFF names refl refl).receive queue
+      (λ e. cc) in
+      record {
+        ground = write_keeps queue q s Txdctl number word refl named x.ground;
+        receive = record {
+          off = ap (λ (k : ReceiveQueue). k.on) receive ∙ x.receive.off;
+          unwanted = ap (λ (k : ReceiveQueue). k.wanted) receive ∙ x.receive.unwanted;
+        };
+        transmit = record {
+          off = ap (λ (k : TransmitQueue). k.on) side ∙ x.transmit.off;
+          unwanted = ap (λ (k : TransmitQueue). k.wanted) side ∙ none;
+        };
+      }
+
+  pub write_quiet : (port : Port) (number word : ℕ) → IsMet queue s → IsEnding q (event.Write port number word)
+      → IsQuiet queue q (after s (event.Write port number word))
+  write_quiet port number word met (side, same, none, named) =
+      subst (λ p. IsQuiet queue q (after s (event.Write p number word))) (sym same)
+      (asked_quiet side number word met none named)
+
+  pub read_quiet : (port : Port) (number : ℕ) → IsQuiet queue q (after s (event.Read port number))
+  read_quiet port number =
+      let rest = (read_rest s port number).queues in
+      quiet_same (after s (event.Read port number)) (plain_keeps queue q s (event.Read port number) tt x.ground)
+      (rest.receive queue) (rest.transmit queue)
+
+  pub take_quiet : (number : ℕ) → IsQuiet queue q (after s (event.Take number))
+  take_quiet number =
+      let rest = (memory_rest.take s number).queues in
+      quiet_same (after s (event.Take number)) (plain_keeps queue q s (event.Take number) tt x.ground)
+      (rest.receive queue) (rest.transmit queue)

@@ -15,11 +15,13 @@ pub mod Quiet
 pub mod Quieting
 pub mod ReceiveWords
 pub mod Settled
+pub mod Silent
 pub mod Standing
 pub mod Start
 pub mod StillReceive
 pub mod StillTransmit
 pub mod Stopping
+pub mod SwitchedOff
 pub mod Switching
 pub mod TransmitWords
 pub mod Unused

@@ -122,7 +122,7 @@ on_kept w mine s e x on = elim (cases_Bool (is_receive e)) as (λ _. IsSettled w
 ]
 
 -- it doesn't go on where it is on, or off then
-not_again : (was is : Bool) → (was ≡ true) ⊎ (is ≡ false) → (not was && is) ≡ false
+pub not_again : (was is : Bool) → (was ≡ true) ⊎ (is ≡ false) → (not was && is) ≡ false
 not_again true is only = refl
 not_again false is (inl on) = cc
 not_again false is (inr off) = off

@@ -5,6 +5,7 @@ pub mod Numbers
 pub mod Points
 pub mod Quiet
 pub mod Quieting
+pub mod Silent
 pub mod Standing
 pub mod Start
 pub mod Stopping

@@ -3,6 +3,7 @@
 //! Each law is the contract of a function that does nothing. `specs/Life` says what a life is by the calls of the
 //! driver's pass, and `specs/Told` by what the driver's calls tell; `specs/Order` what holds of it over a history of a
 //! shared device, `specs/Looks` what holds where a look finds no packet, and `specs/Waits` where it finds one waiting.
+//! `specs/Stopped` says what holds over calls of its stop, and `specs/Silent` once these have switched its queue off.
 #![tactic(auto)]
 
 ghost use Rattle.pmd_laws.specs.Looks.{CallsEnd, NoneIsAllBefore};

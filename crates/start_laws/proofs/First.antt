@@ -54,7 +54,7 @@ first_own pass (e ∷ es) c ys is = elim (cases_Bool (e.pass == pass)) as (λ _.
       }
 ]
 
-joined : (pass : ℕ) (g h : List Entry) → calls_of pass (g ++ h) ≡ calls_of pass g ++ calls_of pass h
+pub joined : (pass : ℕ) (g h : List Entry) → calls_of pass (g ++ h) ≡ calls_of pass g ++ calls_of pass h
 joined pass g h = rw (filter-append, map-append) refl
 
 pub first_leads : (w : Watched) (fifo : ℕ) (h : List Entry) (P : State → Type 0) (old : List Call) (c : Call)

@@ -1,7 +1,6 @@
 -- On a queue whose sides are off nothing is received or sent, over events that leave it alone and calls of a stop.
 use Rattle.std.proofs.Common.{cond, ◌≡◌, ◌≢◌, ℕ, ◌⊎◌, inl, inr, List, [], ◌∷◌, ◌++◌, Option, Some, None, option_map, refl, sym, ap, ◌∙◌, subst, append_assoc}
-use Rattle.std.proofs.lemmas.List.{append-nil, map-append}
-use Rattle.std.proofs.lemmas.List.Elements.{filter-append}
+use Rattle.std.proofs.lemmas.List.{append-nil}
 use Rattle.dma_arena.specs.Block.{Block}
 use Rattle.register_file.specs.Queue.{is_on}
 use Rattle.register_file.specs.Sides.{receive_queue_of, transmit_queue_of}
@@ -35,6 +34,7 @@ use Rattle.start_laws.specs.Standing.{IsLeft}
 use Rattle.start_laws.specs.Stopping.{Ends}
 use Rattle.start_laws.proofs.Along.{KeptOver, LeadsOver, kept_on, reached, reached_next}
 use Rattle.start_laws.proofs.Ending.{all_lead, read_quiet, step_left, take_quiet, watching, write_quiet}
+use Rattle.start_laws.proofs.First.{joined}
 use Rattle.start_laws.proofs.Off.{ground_kept, off_kept, transmit_off_kept}
 use Rattle.start_laws.proofs.Quiet.{off_sides_stand}
 use Rattle.start_laws.proofs.Settled.{not_again}
@@ -142,9 +142,6 @@ one_begins (x ∷ xs) ys (z ∷ zs) ws is =
 none_behind : (xs ys : List Call) → xs ++ ys ≡ xs → ys ≡ []
 none_behind [] ys is = is
 none_behind (x ∷ xs) ys is = none_behind xs ys (cc)
-
-joined : (pass : ℕ) (g h : List Entry) → calls_of pass (g ++ h) ≡ calls_of pass g ++ calls_of pass h
-joined pass g h = rw (filter-append, map-append) refl
 
 module _ (w : Watched) (q : AtPort) (fifo : ℕ) (h done rest : List Entry) (old : List Call) (along : IsAlong w fifo h)
     (some : old ≢ []) (at : AtCalls w fifo h old (IsQuiet w.queue q)) (all : done ++ rest ≡ h)

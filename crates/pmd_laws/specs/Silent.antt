@@ -15,8 +15,8 @@ use Rattle.start_laws.specs.Stopping.{Ends, StepsSwitched}
 use Rattle.driver_laws.specs.Halves.{Halves}
 use Rattle.pmd_laws.specs.Life.{IsLife}
 
--- a legal history of a new device that leaves the queue alone, in which the pass made the calls of this life, then those
--- by which both sides of the queue are switched off, as a stop does first, and behind them those of a stop
+-- a legal history of a new device that leaves the queue alone, in which the pass made the calls of this life, then
+-- those by which both sides of the queue are switched off, as a stop does first, and behind them those of a stop
 pub record IsSwitchedOff (w : Watched) (fifo : ℕ) (h : List Entry) (q : AtPort) (size : ℕ) (old : List Call)
     (a : Numbers) (started : List Call) (r : Running) (made : List Call) (k : Halves) (off : List Call) : Type 0 where
   pub along : IsAlong w fifo h

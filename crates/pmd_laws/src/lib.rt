@@ -68,8 +68,8 @@ pub fn stop_calls_ask_for_no_side()
     ensures fails { stopped.FailedStopEnds }
 {}
 
-/// Where such a life is followed by the calls that switch both sides of the queue off, as a stop makes first, nothing is
-/// delivered or sent on the queue any more behind them, while the calls of the driver's pass are those of a stop.
+/// Where such a life is followed by the calls that switch both sides of the queue off, as a stop makes first, nothing
+/// is delivered or sent on the queue any more behind them, while the calls of the driver's pass are those of a stop.
 pub fn switched_off_queue_is_silent()
     ensures { SilentOnceOff }
 {}

@@ -91,7 +91,8 @@ module _ (queue : ℕ) (s : State) (on : IsTrue (is_on s.registers Rx queue)) wh
   ]
 
   -- the side after a switch is on as it is wanted
-  as_wanted : (q : ReceiveQueue) (wanted : Bool) → q.on ≡ wanted → q.wanted ≡ wanted → (q.on ≡ true) ⊎ (q.wanted ≡ false)
+  as_wanted : (q : ReceiveQueue) (wanted : Bool) → q.on ≡ wanted → q.wanted ≡ wanted
+      → (q.on ≡ true) ⊎ (q.wanted ≡ false)
   as_wanted q true is same = inl is
   as_wanted q false is same = inr same
 

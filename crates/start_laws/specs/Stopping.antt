@@ -27,7 +27,8 @@ StepsOtherwise q old new (Sees row on) (inl seen) = AreSteps seen.4.0
 StepsOtherwise q old new (Sees row on) (inr stray) = AreSteps stray.3.0
 StepsOtherwise q old new (Sets row word) stray = AreSteps stray.3.0
 
-abbrev pub StepsAsFails : (f : PmdFault) (q : AtPort) (old new : List Call) (a : Access) → FailsBy f q old new a → Type 0
+abbrev pub StepsAsFails : (f : PmdFault) (q : AtPort) (old new : List Call) (a : Access) → FailsBy f q old new a
+    → Type 0
 StepsAsFails BadSize q old new a fails = ⊤
 StepsAsFails ForeignBlock q old new a fails = ⊤
 StepsAsFails StartTimeout q old new a fails = ⊤

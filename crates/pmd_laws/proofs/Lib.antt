@@ -2,5 +2,9 @@ pub mod Begun
 pub mod Ends
 pub mod Looks
 pub mod Order
+pub mod Plain
+pub mod Silent
+pub mod StopCalls
+pub mod Stopped
 pub mod Told
 pub mod Waits

@@ -2,13 +2,16 @@
 //!
 //! Each law is the contract of a function that does nothing. `specs/Life` says what a life is by the calls of the
 //! driver's pass, and `specs/Told` by what the driver's calls tell; `specs/Order` what holds of it over a history of a
-//! shared device, `specs/Looks` what holds where a look finds no packet, `specs/Waits` where it finds one waiting, and
-//! `specs/Ends` what holds of what a stopped driver left.
+//! shared device, `specs/Looks` what holds where a look finds no packet, and `specs/Waits` where it finds one waiting.
+//! `specs/Ends` says what holds of what a stopped driver left, `specs/Stopped` what over the calls of its stop, and
+//! `specs/Silent` once these have switched its queue off.
 #![tactic(auto)]
 
 ghost use Rattle.pmd_laws.specs.Ends.{LeftIsPrefix};
 ghost use Rattle.pmd_laws.specs.Looks.{CallsEnd, NoneIsAllBefore};
 ghost use Rattle.pmd_laws.specs.Order.{HandedIsPrefix, NoneIsAll, SentIsPrefix, IdleIsAllSent};
+ghost use Rattle.pmd_laws.specs.Silent.{SilentOnceOff};
+ghost use Rattle.pmd_laws.specs.Stopped as stopped;
 ghost use Rattle.pmd_laws.specs.Told as told;
 ghost use Rattle.pmd_laws.specs.Waits.{WaitingIsNotAllBefore, WaitingIsNotAllAsTold};
 
@@ -59,4 +62,22 @@ pub fn driver_in_order()
 /// is left as handed out is a prefix of what was delivered, and what was sent a prefix of what is left as accepted.
 pub fn what_is_left_is_in_order()
     ensures { LeftIsPrefix }
+{}
+
+/// Where such a life is followed by calls of a stop, of which none asks for a side to be on, the packets that the
+/// driver had handed out are a prefix of those delivered in the whole history, with whatever came behind.
+pub fn stopped_life_in_order()
+    ensures handed { stopped.HandedIsPrefix }
+{}
+
+/// The calls of a stop of a `pmd::Pmd` are such, beside steps of the device, and so are those of one that fails.
+pub fn stop_calls_ask_for_no_side()
+    ensures stops { stopped.StopEnds }
+    ensures fails { stopped.FailedStopEnds }
+{}
+
+/// Where such a life is followed by the calls that switch both sides of the queue off, as a stop makes first, nothing
+/// is delivered or sent on the queue any more behind them, while the calls of the driver's pass are those of a stop.
+pub fn switched_off_queue_is_silent()
+    ensures { SilentOnceOff }
 {}

@@ -1,5 +1,6 @@
 pub mod Accesses
 pub mod Along
+pub mod Ending
 pub mod First
 pub mod Fresh
 pub mod LeftReceive
@@ -14,10 +15,14 @@ pub mod Points
 pub mod Quiet
 pub mod Quieting
 pub mod ReceiveWords
+pub mod Settled
+pub mod Silent
 pub mod Standing
 pub mod Start
 pub mod StillReceive
 pub mod StillTransmit
+pub mod Stopping
+pub mod SwitchedOff
 pub mod Switching
 pub mod TransmitWords
 pub mod Unused

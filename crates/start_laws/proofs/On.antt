@@ -317,6 +317,12 @@ module _ (w : Watched) (fifo : ℕ) (h : List Entry) (q : AtPort) (size : ℕ) (
         let (p, x, unused) = came_up_at one two done rest all calls in
         went_on one two done unused p x
 
+    -- and port and queue name this queue
+    pub ground_at : AtCalls w fifo h new (HasGround w.queue q)
+    ground_at done rest all calls =
+        let (p, x, unused) = came_up_at (ring_lent done rest all calls) (other_lent done rest all calls) done rest all
+        calls in x.ground
+
     -- some calls were made before both were on
     pub on_some : new ≢ []
     on_some =

@@ -32,8 +32,8 @@ use Rattle.start_laws.proofs.Accesses.{receive_told}
 use Rattle.start_laws.proofs.LeftReceive.{is_receive, is_receive_switch, receive_is, receive_switch_is, left-receive}
 use Rattle.start_laws.proofs.Words.{wrote}
 
-first_is : (queue : ℕ) (ws : List Waiting) (w : Waiting) (others : List Waiting) → ws ≡ w ∷ others → IsFirstFor queue ws
-    → w.queue ≡ queue
+pub first_is : (queue : ℕ) (ws : List Waiting) (w : Waiting) (others : List Waiting) → ws ≡ w ∷ others
+    → IsFirstFor queue ws → w.queue ≡ queue
 first_is queue ws w others e first = subst (IsFirstFor queue) e first
 
 module _ (queue : ℕ) (s : State) where

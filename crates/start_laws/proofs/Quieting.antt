@@ -56,7 +56,7 @@ module _ (w : Watched) (q : AtPort) (fifo : ℕ) (h : List Entry) (along : IsAlo
   grounded_kept : (P : State → Type 0) → IsKept w mine P → IsKept w mine (Grounded P)
   grounded_kept P kept s e x (g, p) = (ground_kept w mine q s e x g, kept s e x p)
 
-  also_kept : (P Q : State → Type 0) → IsKept w mine P → IsKept w mine Q → IsKept w mine (λ s. P s × Q s)
+  pub also_kept : (P Q : State → Type 0) → IsKept w mine P → IsKept w mine Q → IsKept w mine (λ s. P s × Q s)
   also_kept P Q kept kept_q s e x (p, r) = (kept s e x p, kept_q s e x r)
 
   -- an access of either kind
@@ -83,22 +83,22 @@ module _ (w : Watched) (q : AtPort) (fifo : ℕ) (h : List Entry) (along : IsAlo
 
   -- what holds after each of them
 
-  abbrev Asked : State → Type 0
+  abbrev pub Asked : State → Type 0
   Asked = Grounded (IsUnwanted w.queue)
 
-  abbrev Off : State → Type 0
+  abbrev pub Off : State → Type 0
   Off = Grounded (IsOff w.queue)
 
-  abbrev OffAsked : State → Type 0
+  abbrev pub OffAsked : State → Type 0
   OffAsked s = Off s × transmit.IsUnwanted w.queue s
 
-  abbrev OffBoth : State → Type 0
+  abbrev pub OffBoth : State → Type 0
   OffBoth s = Off s × transmit.IsOff w.queue s
 
-  asked_kept : IsKept w mine Asked
+  pub asked_kept : IsKept w mine Asked
   asked_kept = grounded_kept (IsUnwanted w.queue) (unwanted_kept w mine)
 
-  both_off_kept : IsKept w mine Off
+  pub both_off_kept : IsKept w mine Off
   both_off_kept = grounded_kept (IsOff w.queue) (off_kept w mine)
 
   pub write_ground : (s : State) (row : RowId) (word number : ℕ) → is_driven row ≡ true
@@ -113,14 +113,14 @@ module _ (w : Watched) (q : AtPort) (fifo : ℕ) (h : List Entry) (along : IsAlo
     unwanted = ap (λ (x : ReceiveQueue). x.wanted) same ∙ off.unwanted;
   }
 
-  ask_receive : (number : ℕ) → IsNumberOf q.port Rxdctl q.queue number
+  pub ask_receive : (number : ℕ) → IsNumberOf q.port Rxdctl q.queue number
       → Leads w.queue (call_of (event.Write q.port number 0) reply.Done) Ground Asked
   ask_receive number named s met made told g = (
     write_ground s Rxdctl 0 number refl named g,
     receive_guard_is_off.written w.queue s q.port number 0 met (numbers s g Rxdctl number refl named) refl,
   )
 
-  see_receive : (number word : ℕ) → IsNumberOf q.port Rxdctl q.queue number → has_bit 25 word ≡ false
+  pub see_receive : (number word : ℕ) → IsNumberOf q.port Rxdctl q.queue number → has_bit 25 word ≡ false
       → Leads w.queue (call_of (event.Read q.port number) (reply.Word word)) Asked Off
   see_receive number word named is s met made told (g, none) = (
     read_ground w mine q s number g,
@@ -147,7 +147,7 @@ module _ (w : Watched) (q : AtPort) (fifo : ℕ) (h : List Entry) (along : IsAlo
         guard_is_off.written w.queue s q.port number 0 met.small met.sound names refl,
       )
 
-  see_transmit : (number word : ℕ) → IsNumberOf q.port Txdctl q.queue number → has_bit 25 word ≡ false
+  pub see_transmit : (number word : ℕ) → IsNumberOf q.port Txdctl q.queue number → has_bit 25 word ≡ false
       → Leads w.queue (call_of (event.Read q.port number) (reply.Word word)) OffAsked OffBoth
   see_transmit number word named is s met made told ((g, off), none) = (
     (
@@ -157,7 +157,7 @@ module _ (w : Watched) (q : AtPort) (fifo : ℕ) (h : List Entry) (along : IsAlo
     guard_is_off.read w.queue s q.port number word none (numbers s g Txdctl number refl named) (sym told) is,
   )
 
-  ended : (new m : List Call) → new ≡ m → AtCalls w fifo h m OffBoth → AtCalls w fifo h new (IsQuiet w.queue q)
+  pub ended : (new m : List Call) → new ≡ m → AtCalls w fifo h m OffBoth → AtCalls w fifo h new (IsQuiet w.queue q)
   ended new m e at done rest all is =
       let x = at done rest all (is ∙ e) in
       record { ground = x.0.0; receive = x.0.1; transmit = x.1 }

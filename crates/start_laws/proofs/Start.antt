@@ -7,11 +7,12 @@ use Rattle.device_lock.specs.declared.entry.Entry.{Entry}
 use Rattle.pmd.specs.Running.{Running}
 use Rattle.pmd.specs.Started.{AreUp, is_size}
 use Rattle.pmd_queue.specs.Named.{AtPort}
-use Rattle.start_laws.specs.Along.{AtEntries, IsAlong}
+use Rattle.start_laws.specs.Along.{AtCalls, AtEntries, IsAlong}
 use Rattle.start_laws.specs.On.{AreOn, StepsToOn}
+use Rattle.start_laws.specs.Points.{HasGround}
 use Rattle.start_laws.specs.Start.{OnlySteps, BeginsWell, StartAgrees, StartGoesOn}
 use Rattle.start_laws.proofs.Lends.{IsLentBy}
-use Rattle.start_laws.proofs.On.{on_some as once_on_some, other_lent as other_is_lent, ring_lent as ring_is_lent, switched_sides_agree, switched_sides_go_on}
+use Rattle.start_laws.proofs.On.{ground_at as ground_is_at, on_some as once_on_some, other_lent as other_is_lent, ring_lent as ring_is_lent, switched_sides_agree, switched_sides_go_on}
 
 module _ (w : Watched) (fifo : ℕ) (h : List Entry) (q : AtPort) (size : ℕ) (old : List Call) (a : Numbers)
     (new : List Call) (r : Running) (up : AreUp q size old a new r) (along : IsAlong w fifo h)
@@ -48,6 +49,11 @@ module _ (w : Watched) (fifo : ℕ) (h : List Entry) (q : AtPort) (size : ℕ) (
     pub other_lent : AtEntries w h up.on.mid (λ done. IsLentBy w.pass up.transmit.ring h)
     other_lent =
         other_is_lent w fifo h q size old a up.on.mid up.empty r.transmit on along is steps well.ground
+
+    -- port and queue name this queue there
+    pub ground_at : AtCalls w fifo h up.on.mid (HasGround w.queue q)
+    ground_at =
+        ground_is_at w fifo h q size old a up.on.mid up.empty r.transmit on along is steps well.ground
 
     -- some calls were made before both were on
     pub on_some : up.on.mid ≢ []

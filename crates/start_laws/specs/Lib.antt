@@ -1,11 +1,14 @@
 pub mod Along
+pub mod Ending
 pub mod Moves
 pub mod Numbers
 pub mod On
 pub mod Points
 pub mod Quiet
 pub mod Quieting
+pub mod Silent
 pub mod Standing
 pub mod Start
+pub mod Stopping
 pub mod Unused
 pub mod Words

@@ -1,0 +1,127 @@
+-- The calls of a driver's life write no register but the tails of its queue.
+use Rattle.std.proofs.Common.{◌≡◌, ℕ, true, List, [], ◌∷◌, refl, sym, subst}
+use Rattle.std.specs.Prelude.{IsTrue}
+use Rattle.dma_arena.specs.Block.{Block}
+use Rattle.nic_device.specs.declared.event.Event.{Event}
+use Rattle.nic_device.specs.declared.event.Event.TheVariants as event
+use Rattle.nic_device.specs.declared.event.Port.{Port}
+use Rattle.nic_device.specs.declared.event.Reply.{Reply}
+use Rattle.nic_device.specs.declared.event.Reply.TheVariants as reply
+use Rattle.nic_device.proofs.Cases.{either_way}
+use Rattle.device_lock.specs.declared.entry.Call.{Call}
+use Rattle.pmd_base.specs.Events.{is_step}
+use Rattle.pmd_queue.specs.Named.{AtPort}
+use Rattle.pmd_rx.specs.Receive as receiving
+use Rattle.pmd_rx.specs.Receive.{Layout, Receive, Stage, Looks, Sees, Holding, Lent, Named, MovesNext, looked, took, lent_one, named, moved, drive}
+use Rattle.pmd_tx.specs.Sending as sending
+use Rattle.pmd_tx.specs.Sending.{Sender, Move, Accepts, Asks, Advances, Reaps, Elsewhere}
+use Rattle.start_laws.specs.Ending.{Each, IsPlain, NamesDriven}
+use Rattle.pmd.specs.Halves.{AllOwn, Doer, Halves, OthersStep, OwnCall, Receives, Sends, after_call, is_neither}
+
+-- the tail's number stays
+
+abbrev SameTail : Receive → Receive → Type 0
+SameTail v u = (u.layout.port ≡ v.layout.port) × (u.layout.tail ≡ v.layout.tail)
+
+looked_same : (v : Receive) (d : List ℕ) → SameTail v (looked v d)
+looked_same v d = either_way (SameTail v) _ _ v (refl, refl) (refl, refl)
+
+took_same : (v : Receive) (s : Stage) (b : Block) → SameTail v (took v s b)
+took_same v (Sees first second) b = (refl, refl)
+took_same v other b = (refl, refl)
+
+lent_same : (v : Receive) (s : Stage) (b : ℕ) → SameTail v (lent_one v s b)
+lent_same v Looks b = (refl, refl)
+lent_same v (Holding p) b = (refl, refl)
+lent_same v other b = (refl, refl)
+
+named_same : (v : Receive) (s : Stage) → SameTail v (named v s)
+named_same v (Lent o b) = (refl, refl)
+named_same v other = (refl, refl)
+
+moved_same : (v : Receive) (s : Stage) → SameTail v (moved v s)
+moved_same v (Named o b) = (refl, refl)
+moved_same v other = (refl, refl)
+
+drive_same : (v : Receive) (e : Event Block) (r : Reply Block) → SameTail v (drive v e r)
+drive_same v (event.Peek16 a) (reply.Bytes d) = looked_same v d
+drive_same v (event.Take n) (reply.Buf b) = took_same v v.stage b
+drive_same v (event.Lend b) reply.Done = lent_same v v.stage b.number
+drive_same v (event.Poke16 a bytes) reply.Done = named_same v v.stage
+drive_same v (event.Write port number word) reply.Done = moved_same v v.stage
+drive_same v e r = (refl, refl)
+
+sent_same : (v : Sender) (m : Move) (r : Reply Block)
+    → ((sending.moved v m r).layout.port ≡ v.layout.port) × ((sending.moved v m r).layout.tail ≡ v.layout.tail)
+sent_same v (Accepts p) reply.Done = (refl, refl)
+sent_same v Asks reply.Done = (refl, refl)
+sent_same v Advances reply.Done = (refl, refl)
+sent_same v sending.Looks (reply.Bytes d) = (refl, refl)
+sent_same v Reaps (reply.Buf b) = (refl, refl)
+sent_same v m r = (refl, refl)
+
+module _ (q : AtPort) where
+  abbrev At : ℕ → Port → Type 0
+  At number port = NamesDriven q port number
+
+  same_named : (port to : Port) (number goal : ℕ) → port ≡ to → number ≡ goal → NamesDriven q to goal
+      → NamesDriven q port number
+  same_named port to number goal same is at =
+      subst (At number) (sym same) (subst (NamesDriven q to) (sym is) at)
+
+  -- both tails are registers of the queue
+  pub record ArePlaced (k : Halves) : Type 0 where
+    pub receive : NamesDriven q k.receive.layout.port k.receive.layout.tail
+    pub transmit : NamesDriven q k.transmit.layout.port k.transmit.layout.tail
+
+  next_placed : (k : Halves) (d : Doer) (c : Call) → ArePlaced k → ArePlaced (after_call k d c)
+  next_placed k Receives c x =
+      let same = drive_same k.receive c.event c.reply in
+      record { receive = same_named _ _ _ _ same.0 same.1 x.receive; transmit = x.transmit }
+  next_placed k (Sends m) c x =
+      let same = sent_same k.transmit m c.reply in
+      record { receive = x.receive; transmit = same_named _ _ _ _ same.0 same.1 x.transmit }
+
+  moves_named : (l : Layout) (s : Stage) (port : Port) (number word : ℕ) → MovesNext l s port number word
+      → NamesDriven q l.port l.tail → NamesDriven q port number
+  moves_named l (Named o b) port number word (to, is, what) at = same_named port l.port number l.tail to is at
+  moves_named l other port number word own at = absurd own
+
+  receive_plain : (v : Receive) (e : Event Block) → receiving.IsOwn v e → NamesDriven q v.layout.port v.layout.tail
+      → IsPlain q e
+  receive_plain v (event.Write port number word) own at = moves_named v.layout v.stage port number word own at
+  receive_plain v e own at = tt
+
+  step_plain : (e : Event Block) → is_step e ≡ true → IsPlain q e
+  step_plain (event.Write port number word) is = cc
+  step_plain e is = tt
+
+  write_plain : (v : Sender) (m : Move) (port : Port) (number word : ℕ)
+      → sending.IsOwn v m (event.Write port number word)
+      → (IsTrue (is_neither (Sends m)) → IsTrue (is_step (event.Write port number word)))
+      → NamesDriven q v.layout.port v.layout.tail → NamesDriven q port number
+  write_plain v Advances port number word (poked, to, is, what) steps at =
+      same_named port v.layout.port number v.layout.tail to is at
+  write_plain v Elsewhere port number word own steps at =
+      step_plain (event.Write port number word) (steps refl)
+  write_plain v m port number word own steps at = absurd own
+
+  transmit_plain : (v : Sender) (m : Move) (e : Event Block) → sending.IsOwn v m e
+      → (IsTrue (is_neither (Sends m)) → IsTrue (is_step e)) → NamesDriven q v.layout.port v.layout.tail → IsPlain q e
+  transmit_plain v m (event.Write port number word) own steps at = write_plain v m port number word own steps at
+  transmit_plain v m e own steps at = tt
+
+  own_plain : (k : Halves) (d : Doer) (c : Call) → OwnCall k d c → (IsTrue (is_neither d) → IsTrue (is_step c.event))
+      → ArePlaced k → IsPlain q c.event
+  own_plain k Receives c own steps x = receive_plain k.receive c.event own x.receive
+  own_plain k (Sends m) c own steps x = transmit_plain k.transmit m c.event own steps x.transmit
+
+  pub all_plain : (k : Halves) (doers : List Doer) (calls : List Call) → AllOwn k doers calls → OthersStep doers calls
+      → ArePlaced k → Each (λ c. IsPlain q c.event) calls
+  all_plain k [] [] own steps x = tt
+  all_plain k [] (c ∷ cs) own steps x = absurd own
+  all_plain k (d ∷ doers) [] own steps x = absurd own
+  all_plain k (d ∷ doers) (c ∷ cs) own steps x = (
+    own_plain k d c own.0 steps.0 x,
+    all_plain (after_call k d c) doers cs own.1 steps.1 (next_placed k d c x),
+  )

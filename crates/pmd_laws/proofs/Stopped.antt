@@ -1,0 +1,196 @@
+-- What a driver handed out, over its stop and on.
+use Rattle.std.proofs.Common.{◌≡◌, ◌≢◌, ℕ, inl, inr, List, [], ◌∷◌, ◌++◌, Option, Some, None, option_map, refl, sym, ap, ◌∙◌, subst, append_assoc, cond}
+use Rattle.std.proofs.lemmas.Bool.{cases_Bool}
+use Rattle.std.proofs.lemmas.List.{append-nil}
+use Rattle.dma_arena.specs.Numbers.{Numbers}
+use Rattle.nic_device.specs.State.{State, new_state}
+use Rattle.nic_device.specs.Step.{after}
+use Rattle.device_lock.specs.Alone.{Blocks, lent_by}
+use Rattle.device_lock.specs.History.{leads_to}
+use Rattle.device_lock.specs.declared.alone.Watched.{Watched}
+use Rattle.device_lock.specs.declared.entry.Call.{Call}
+use Rattle.device_lock.specs.declared.entry.Entry.{Entry}
+use Rattle.pmd.specs.Running.{Running}
+use Rattle.pmd_base.specs.Packet.{Kept}
+use Rattle.pmd_queue.specs.Named.{AtPort}
+use Rattle.pmd_rx.specs.Receive.{Receive}
+use Rattle.pmd_tx.specs.Sending.{Sender}
+use Rattle.receive_laws.specs.Delivered.{IsPrefixOf, delivered, packets_if_any, pieces_since}
+use Rattle.receive_laws.specs.Joint.{Agree}
+use Rattle.receive_laws.specs.Pieces.{Piece, packets_behind, packet_told, pieces}
+use Rattle.receive_laws.proofs.Delivering.{leads-append, since-append}
+use Rattle.start_laws.specs.Along.{AtEntries, IsAlong}
+use Rattle.start_laws.specs.Ending.{IsEnding, IsPlain, NamesDriven}
+use Rattle.start_laws.specs.Points.{HasGround}
+use Rattle.start_laws.specs.Start.{BeginsWell}
+use Rattle.start_laws.proofs.Along.{KeptOver, LeadsOver, Parts, reached, reached_next, state_kept, state_leads}
+use Rattle.start_laws.proofs.Ending.{all_lead, ending_plain, ending_settles, plain_keeps}
+use Rattle.start_laws.proofs.Off.{ground_kept}
+use Rattle.start_laws.proofs.Settled.{IsSettled, Settles, left_settles}
+use Rattle.start_laws.proofs.Start.{ground_at, on_some}
+use Rattle.pmd.specs.Halves.{Halves}
+use Rattle.driver_laws.proofs.InOrder.{led}
+use Rattle.pmd_laws.specs.Life.{IsLife}
+use Rattle.pmd_laws.specs.Order.{IsLived}
+use Rattle.pmd_laws.specs.Stopped.{HandedIsPrefix, IsStopping}
+use Rattle.pmd_laws.proofs.Looks.{lived_before}
+use Rattle.pmd_laws.proofs.Order.{driven, first, handed_of_life, in_parts, up, whole}
+use Rattle.pmd_laws.proofs.Plain.{ArePlaced, all_plain}
+
+-- where more pieces come the packets so far stay first
+
+more_behind : (front : List ℕ) (ps qs : List Piece)
+    → (rest : List Kept) × (packets_behind front ps ++ rest ≡ packets_behind front (ps ++ qs))
+more_behind front [] qs = (packets_behind front qs, refl)
+more_behind front (p ∷ ps) qs = elim (cases_Bool p.end)
+    as (λ _. (rest : List Kept) × (packets_behind front (p ∷ ps) ++ rest ≡ packets_behind front (p ∷ (ps ++ qs)))) [
+      | inl ends ↦
+          let (rest, is) = more_behind [] ps qs in
+          let joined : packets_behind front (p ∷ ps) ++ rest ≡ packets_behind front (p ∷ (ps ++ qs)) =
+          rw ends (ap (λ (l : List Kept). packet_told (front ++ p.bytes) p.first ∷ l) is) in
+          (rest, joined)
+      | inr goes ↦
+          let (rest, is) = more_behind (front ++ p.bytes) ps qs in
+          let joined : packets_behind front (p ∷ ps) ++ rest ≡ packets_behind front (p ∷ (ps ++ qs)) = rw goes is in
+          (rest, joined)
+    ]
+
+more_if_any : (so_far : Option (List Piece)) (ps : List Piece)
+    → IsPrefixOf (packets_if_any so_far) (packets_if_any (option_map (λ qs. qs ++ ps) so_far))
+more_if_any None ps = ([], refl)
+more_if_any (Some qs) ps = more_behind [] qs ps
+
+then_prefix : (xs ys zs : List Kept) → IsPrefixOf xs ys → IsPrefixOf ys zs → IsPrefixOf xs zs
+then_prefix xs ys zs (one, is) (two, more) =
+    (one ++ two, sym (append_assoc xs one two) ∙ ap (λ (l : List Kept). l ++ two) is ∙ more)
+
+-- at the end of a life
+
+module _ (w : Watched) (fifo : ℕ) (h : List Entry) (q : AtPort) (size : ℕ) (old : List Call) (a : Numbers)
+    (started : List Call) (r : Running) (k : Halves) (x : IsLived w fifo h q size old a started r k) where
+  placed : ArePlaced q (first w fifo h q size old a started r k x)
+  placed =
+      let u = up w fifo h q size old a started r k x in record {
+        receive =
+            subst (λ (v : Receive). NamesDriven q v.layout.port v.layout.tail) (sym u.receive.fresh)
+            (_, refl, refl, u.receive.named);
+        transmit =
+            subst (λ (v : Sender). NamesDriven q v.layout.port v.layout.tail) (sym u.transmit.fresh)
+            (_, refl, refl, u.transmit.named);
+      }
+
+  -- port and queue name the queue there
+  pub ground_lived : HasGround w.queue q (leads_to (new_state w.vfs fifo) h)
+  ground_lived =
+      let u = up w fifo h q size old a started r k x in
+      let goes = whole w fifo h q size old a started r k x in
+      let at = ground_at w fifo h q size old a started r u x.along x.life.sized x.life.steps x.begins in
+      all_lead w fifo h (λ done. HasGround w.queue q (reached w fifo done)) (λ c. IsPlain q c.event) x.along
+      (state_kept w fifo (lent_by w.pass h) (HasGround w.queue q) (ground_kept w (lent_by w.pass h) q))
+      (λ c own.
+      state_leads w fifo c (HasGround w.queue q) (HasGround w.queue q)
+      (λ s met made told g. plain_keeps w.queue q s c.event own g))
+      goes.0.1 u.on.mid
+      (all_plain q (first w fifo h q size old a started r k x) goes.0.0 goes.0.1 goes.0.3 goes.1 placed)
+      (on_some w fifo h q size old a started r u x.along x.life.sized x.life.steps x.begins) at
+      h [] (append-nil h) goes.0.2
+
+  agree_on : (s : State) (out : List Piece) (v : Receive) → Agree w.queue s out v → IsSettled w.queue s
+  agree_on s out v (gone, there, holds) = inl holds.side.on
+
+  settled_by : Parts w.pass h (up w fifo h q size old a started r k x).on.mid
+      (whole w fifo h q size old a started r k x).0.1 → IsSettled w.queue (leads_to (new_state w.vfs fifo) h)
+  settled_by p =
+      let d = driven w fifo h q size old a started r k x p in
+      let l = led w fifo p.front p.back (first w fifo h q size old a started r k x)
+      (whole w fifo h q size old a started r k x).0.0 d in
+      subst (λ (g : List Entry). IsSettled w.queue (leads_to (new_state w.vfs fifo) g)) p.both
+      (subst (IsSettled w.queue) (sym (leads-append (new_state w.vfs fifo) p.front p.back))
+      (agree_on _ _ _ l.both.receive))
+
+  -- and the receive side is on
+  pub settled_lived : IsSettled w.queue (leads_to (new_state w.vfs fifo) h)
+  settled_lived = settled_by (in_parts w fifo h q size old a started r k x)
+
+-- from there on the receive side doesn't go on
+
+module _ (w : Watched) (fifo : ℕ) (q : AtPort) (handed : List Kept) where
+  abbrev new : State
+  new = new_state w.vfs fifo
+
+  record Keeps (done : List Entry) : Type 0 where
+    ground : HasGround w.queue q (reached w fifo done)
+    settled : IsSettled w.queue (reached w fifo done)
+    first : IsPrefixOf handed (delivered w.queue new done)
+
+  keeps_on : (done : List Entry) (e : Entry) → HasGround w.queue q (after (reached w fifo done) e.event)
+      → Settles w.queue (reached w fifo done) (after (reached w fifo done) e.event) → Keeps done
+      → Keeps (done ++ e ∷ [])
+  keeps_on done e g on kept =
+      let s = reached w fifo done in
+      let so_far = pieces_since w.queue new None done in
+      let ps = pieces w.queue s e.event in
+      let more : delivered w.queue new (done ++ e ∷ []) ≡ packets_if_any (option_map (λ qs. qs ++ ps) so_far) =
+      ap packets_if_any (since-append w.queue new None done (e ∷ []))
+      ∙ ap (λ b. packets_if_any (cond b (Some []) (option_map (λ qs. qs ++ ps) so_far))) on.never in
+      record {
+        ground = subst (HasGround w.queue q) (sym (reached_next w fifo done e)) g;
+        settled = subst (IsSettled w.queue) (sym (reached_next w fifo done e)) on.settled;
+        first =
+            subst (IsPrefixOf handed) (sym more)
+            (then_prefix handed (delivered w.queue new done) _ kept.first (more_if_any so_far ps));
+      }
+
+  others_keep : (mine : Blocks) → KeptOver w fifo mine Keeps
+  others_keep mine done e left kept =
+      keeps_on done e (ground_kept w mine q (reached w fifo done) e.event left kept.ground)
+      (left_settles w mine (reached w fifo done) e.event left kept.settled) kept
+
+  ending_keeps : (c : Call) → IsEnding q c.event → LeadsOver w fifo c Keeps Keeps
+  ending_keeps c own done e same met made told kept =
+      let s = reached w fifo done in
+      let mine : IsEnding q e.event = subst (λ (n : Call). IsEnding q n.event) (sym same) own in
+      keeps_on done e (plain_keeps w.queue q s e.event (ending_plain q e.event mine) kept.ground)
+      (ending_settles w.queue q s e.event met made mine kept.ground kept.settled) kept
+
+pub some_more : (xs ys : List Call) → xs ≢ [] → xs ++ ys ≢ []
+some_more [] ys some none = some refl
+some_more (x ∷ xs) ys some none = cc
+
+-- a life made some calls
+pub life_some : (w : Watched) (fifo : ℕ) (h : List Entry) (q : AtPort) (size : ℕ) (old : List Call) (a : Numbers)
+    (started : List Call) (r : Running) (made : List Call) (k : Halves) → IsAlong w fifo h
+    → (life : IsLife q size old a started r made k) → BeginsWell w fifo h q size old a started r life.up → made ≢ []
+life_some w fifo h q size old a started r made k along life begins none =
+    some_more started life.since.0.1
+    (λ first.
+    some_more life.up.on.mid life.up.on.plays.1
+    (on_some w fifo h q size old a started r life.up along life.sized life.steps begins)
+    (sym life.up.on.plays.2 ∙ first))
+    (sym life.since.0.2 ∙ none)
+
+module _ (w : Watched) (fifo : ℕ) (h : List Entry) (q : AtPort) (size : ℕ) (old : List Call) (a : Numbers)
+    (started : List Call) (r : Running) (made : List Call) (k : Halves) (new : List Call)
+    (x : IsStopping w fifo h q size old a started r made k new) where
+  made_some : made ≢ []
+  made_some = life_some w fifo h q size old a started r made k x.along x.life x.begins
+
+  lived_at : AtEntries w h made (Keeps w fifo q k.receive.handed)
+  lived_at done rest all calls =
+      let l = lived_before w fifo h done rest all q size old a started r made made k k x.life x.along x.begins
+      x.life.since calls in
+      record {
+        ground = ground_lived w fifo done q size old a started r k l;
+        settled = settled_lived w fifo done q size old a started r k l;
+        first = handed_of_life w fifo done q size old a started r k l;
+      }
+
+  over_stop : Keeps w fifo q k.receive.handed h
+  over_stop =
+      all_lead w fifo h (Keeps w fifo q k.receive.handed) (λ c. IsEnding q c.event) x.along
+      (others_keep w fifo q k.receive.handed (lent_by w.pass h)) (ending_keeps w fifo q k.receive.handed) x.ends.0
+      made x.ends.2 made_some lived_at h [] (append-nil h) (x.calls ∙ x.ends.1)
+
+pub handed_over_stop : HandedIsPrefix
+handed_over_stop w fifo h q size old a started r made k new x =
+    (over_stop w fifo h q size old a started r made k new x).first

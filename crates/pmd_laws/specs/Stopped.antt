@@ -1,0 +1,77 @@
+-- A driver's life, and then calls of its stop.
+use Rattle.std.specs.Prelude.{ℕ, ◌≡◌, ⊤, List}
+use Rattle.std.proofs.Common.{inl, inr}
+use Rattle.dma_arena.specs.Numbers.{Numbers}
+use Rattle.nic_device.specs.State.{new_state}
+use Rattle.device_lock.specs.History.{calls_of}
+use Rattle.device_lock.specs.declared.alone.Watched.{Watched}
+use Rattle.device_lock.specs.declared.entry.Call.{Call}
+use Rattle.device_lock.specs.declared.entry.Entry.{Entry}
+use Rattle.pmd.specs.Running.{Running}
+use Rattle.pmd_base.specs.declared.fault.PmdFault.{PmdFault}
+use Rattle.pmd_halt.specs.Halted.{Halted}
+use Rattle.pmd_halt.specs.Stopping.{IsLeft, IsLeftAmid, StopFails, Stops, bringing, brought, closed}
+use Rattle.pmd_halt.specs.declared.home.Home.{Home}
+use Rattle.pmd_queue.specs.Named.{AtPort}
+use Rattle.receive_laws.specs.Delivered as receive
+use Rattle.receive_laws.specs.Delivered.{delivered}
+use Rattle.start_laws.specs.Along.{AreSteps, IsAlong}
+use Rattle.start_laws.specs.Start.{BeginsWell}
+use Rattle.start_laws.specs.Stopping.{Ends, StepsBringing, StepsSwitched, StepsUnswitched}
+use Rattle.pmd.specs.Halves.{Halves}
+use Rattle.pmd_laws.specs.Life.{IsLife}
+
+-- a legal history of a new device that leaves the queue alone, in which the pass made just the calls of this life, and
+-- behind them those of a stop: none writes the queue's enable words with bit 25
+pub record IsStopping (w : Watched) (fifo : ℕ) (h : List Entry) (q : AtPort) (size : ℕ) (old : List Call) (a : Numbers)
+    (started : List Call) (r : Running) (made : List Call) (k : Halves) (new : List Call) : Type 0 where
+  pub along : IsAlong w fifo h
+  pub life : IsLife q size old a started r made k
+  pub begins : BeginsWell w fifo h q size old a started r life.up
+  pub ends : Ends q made new
+  pub calls : calls_of w.pass h ≡ new
+
+-- what the driver handed out is a prefix of what was delivered on its queue since the receive side went on, over the
+-- whole history
+abbrev pub HandedIsPrefix : Type 0
+HandedIsPrefix =
+    (w : Watched) (fifo : ℕ) (h : List Entry) (q : AtPort) (size : ℕ) (old : List Call) (a : Numbers)
+    (started : List Call) (r : Running) (made : List Call) (k : Halves) (new : List Call) →
+    IsStopping w fifo h q size old a started r made k new →
+    receive.IsPrefixOf k.receive.handed (delivered w.queue (new_state w.vfs fifo) h)
+
+-- beside its own calls the pass made steps of the device alone, as the driver stopped
+abbrev pub StepsHome : (q : AtPort) (old : List Call) (h : Halted) (new : List Call) (home : Home)
+    → Stops q old h new home → Type 0
+StepsHome q old h new home x =
+    StepsSwitched q old x.0 x.1
+    × StepsBringing x.2.brings.0 (bringing x.0 (closed h)) (brought new home) x.2.brings.1
+
+-- and as it failed to
+
+abbrev pub StepsAmid : (f : PmdFault) (old : List Call) (h : Halted) (new : List Call) (left : Halted)
+    → IsLeftAmid f old h new left → Type 0
+StepsAmid f old h new left x =
+    StepsBringing x.2.0 (bringing old h) x.2.1 x.2.2 × AreSteps x.2.3.0
+
+abbrev pub StepsLeft : (f : PmdFault) (q : AtPort) (old : List Call) (h : Halted) (new : List Call) (left : Halted)
+    → IsLeft f q old h new left → Type 0
+StepsLeft f q old h new left (inl x) = StepsUnswitched f q old new x.0
+StepsLeft f q old h new left (inr x) = StepsSwitched q old x.0 x.1 × StepsAmid f x.0 h new left x.2
+
+abbrev pub StepsUnstopped : (f : PmdFault) (q : AtPort) (old : List Call) (h : Halted) (new : List Call)
+    (left : Halted) → StopFails f q old h new left → Type 0
+StepsUnstopped f q old h new left (inl unclosed) = ⊤
+StepsUnstopped f q old h new left (inr x) = StepsLeft f q old (closed h) new left x
+
+-- so its calls are those of a stop
+
+abbrev pub StopEnds : Type 0
+StopEnds =
+    (q : AtPort) (old : List Call) (h : Halted) (new : List Call) (home : Home) (x : Stops q old h new home) →
+    StepsHome q old h new home x → Ends q old new
+
+abbrev pub FailedStopEnds : Type 0
+FailedStopEnds =
+    (f : PmdFault) (q : AtPort) (old : List Call) (h : Halted) (new : List Call) (left : Halted)
+    (x : StopFails f q old h new left) → StepsUnstopped f q old h new left x → Ends q old new

@@ -1,0 +1,211 @@
+-- A driver's own calls leave what it rests on, and those of its stop leave its receive side settled.
+use Rattle.std.proofs.Common.{◌≡◌, ◌≢◌, ℕ, true, false, List, [], ◌∷◌, ◌++◌, refl, sym, ap, ◌∙◌, subst, append_assoc, Some}
+use Rattle.std.proofs.lemmas.List.{append-nil}
+use Rattle.dma_arena.specs.Block.{Block}
+use Rattle.reg_table.specs.declared.rows.RowId.{RowId}
+use Rattle.reg_table.specs.declared.rows.RowId.TheVariants.{Rxdctl, Txdctl}
+use Rattle.register_file.specs.Bits.{has_bit}
+use Rattle.register_file.specs.Columns.{place}
+use Rattle.register_file.specs.Pools.{mode_in}
+use Rattle.register_laws.specs.Sides.{ReceiveQueue, TransmitQueue, receive_queue_of, transmit_queue_of}
+use Rattle.register_laws.proofs.Switches.{receive-asked, transmit-asked}
+use Rattle.device_laws.specs.Leaving.{LeavesReceive, LeavesTransmit}
+use Rattle.nic_device.specs.declared.event.Port.{Port}
+use Rattle.register_file.specs.Queue.{enable_row}
+use Rattle.register_file.specs.declared.dir.Dir.{Dir}
+use Rattle.register_file.specs.declared.dir.Dir.TheVariants.{Rx, Tx}
+use Rattle.nic_device.specs.Sound.{IsEvent}
+use Rattle.nic_device.specs.State.{State}
+use Rattle.nic_device.specs.Step.{after, reply_to}
+use Rattle.nic_device.specs.declared.event.Event.{Event}
+use Rattle.nic_device.specs.declared.event.Event.TheVariants as event
+use Rattle.nic_device.specs.declared.event.Reply.{Reply}
+use Rattle.nic_device.specs.declared.event.Reply.TheVariants.{Wrote, Advanced, Sent}
+use Rattle.device_laws.proofs.KeptSettings.{settings_stand}
+use Rattle.device_laws.proofs.Standing.{memory_rest, stays_within}
+use Rattle.device_laws.proofs.StandingAccesses.{read_rest, write_rest}
+use Rattle.device_lock.specs.Alone.{WritesOutside, lent_by}
+use Rattle.device_lock.specs.declared.alone.Watched.{Watched}
+use Rattle.device_lock.specs.declared.entry.Call.{Call}
+use Rattle.device_lock.specs.declared.entry.Entry.{Entry}
+use Rattle.pmd_base.specs.Events.{is_step}
+use Rattle.pmd_queue.specs.Named.{AtPort, IsNumberOf, is_driven}
+use Rattle.receive_laws.proofs.Clear.{no_registers}
+use Rattle.start_laws.specs.Along.{AtEntries, IsAlong}
+use Rattle.start_laws.specs.Ending.{Each, IsEnding, IsPlain}
+use Rattle.start_laws.specs.Moves.{IsMet}
+use Rattle.start_laws.specs.Points.{HasGround}
+use Rattle.start_laws.specs.Quiet.{no_block}
+use Rattle.start_laws.specs.Quieting.{IsQuiet}
+use Rattle.start_laws.specs.Standing.{IsLeft}
+use Rattle.start_laws.proofs.Along.{KeptOver, LeadsOver, entries_lead}
+use Rattle.start_laws.proofs.Numbers.{ground_names}
+use Rattle.start_laws.proofs.Points.{driven_plain, ends_some, ground_same}
+use Rattle.start_laws.proofs.Settled.{IsSettled, Settles, asked_settles, leaving_settles, left_settles}
+use Rattle.start_laws.proofs.Words.{ground, wrote}
+
+-- calls of one kind keep what each of them keeps
+pub all_lead : (w : Watched) (fifo : ℕ) (h : List Entry) (P : List Entry → Type 0) (Own : Call → Type 0)
+    → IsAlong w fifo h → KeptOver w fifo (lent_by w.pass h) P → ((c : Call) → Own c → LeadsOver w fifo c P P)
+    → (calls old : List Call) → Each Own calls → old ≢ [] → AtEntries w h old P → AtEntries w h (old ++ calls) P
+all_lead w fifo h P Own along kept leads [] old each some at =
+    subst (λ (cs : List Call). AtEntries w h cs P) (sym (append-nil old)) at
+all_lead w fifo h P Own along kept leads (c ∷ cs) old each some at =
+    subst (λ (all : List Call). AtEntries w h all P) (append_assoc old (c ∷ []) cs)
+    (all_lead w fifo h P Own along kept leads cs (old ++ c ∷ []) each.1 (ends_some old [] c)
+    (entries_lead w fifo h P P old [] c along kept kept (leads c each.0) tt some at))
+
+-- a step of the device leaves each queue alone
+
+outside_none : (queue : ℕ) (r : Reply Block) → WritesOutside queue no_block r
+outside_none queue (Wrote on slot end desc at len) = λ other. (λ a low high. refl, λ a low high. refl)
+outside_none queue (Advanced on slot (Some back)) = λ other. refl
+outside_none queue (Sent on len (Some back)) = λ other. refl
+outside_none queue other = tt
+
+abbrev pub watching : ℕ → State → Watched
+watching queue s = record { vfs = s.vfs; pass = 0; queue = queue }
+
+pub step_left : (queue : ℕ) (s : State) (e : Event Block) → IsMet queue s → IsEvent e → is_step e ≡ true
+    → IsLeft (watching queue s) no_block s e
+step_left queue s e met made is =
+    let free = no_registers (watching queue s) (mode_in s.registers) no_block e is in record {
+      small = met.small;
+      sound = met.sound;
+      aligned = met.aligned;
+      vfs = refl;
+      made = made;
+      registers = free.0;
+      blocks = free.1;
+      steps = outside_none queue (reply_to s e);
+    }
+
+module _ (queue : ℕ) (q : AtPort) (s : State) where
+  -- what a driver rests on stays
+
+  write_keeps : (row : RowId) (number word : ℕ) → is_driven row ≡ true → IsNumberOf q.port row q.queue number
+      → HasGround queue q s → HasGround queue q (after s (event.Write q.port number word))
+  write_keeps row number word is named g =
+      let k = ground queue s q.port number word row (ground_names queue q s g row number is named)
+      (driven_plain row is) in
+      ground_same queue q s (after s (event.Write q.port number word)) k.mode k.vfs k.limit g
+
+  pub plain_keeps : (e : Event Block) → IsPlain q e → HasGround queue q s → HasGround queue q (after s e)
+  plain_keeps (event.Write port number word) (row, same, is, named) g =
+      subst (λ p. HasGround queue q (after s (event.Write p number word))) (sym same)
+      (write_keeps row number word is named g)
+  plain_keeps e plain g =
+      let stay = settings_stand s e tt in
+      ground_same queue q s (after s e) stay.mode (stays_within s e).vfs stay.limit g
+
+  -- and the receive side stays settled
+
+  asked : (side : Dir) (number word : ℕ) → IsMet queue s → has_bit 25 word ≡ false
+      → IsNumberOf q.port (enable_row side) q.queue number → HasGround queue q s → IsSettled queue s
+      → Settles queue s (after s (event.Write q.port number word))
+  asked Rx number word met none named g is =
+      asked_settles queue s q.port number word met (ground_names queue q s g Rxdctl number refl named) none
+  asked Tx number word met none named g is =
+      leaving_settles queue s (after s (event.Write q.port number word))
+      ((write_rest s q.port number word (place Txdctl queue) 0xFFFFFFFF
+      (ground_names queue q s g Txdctl number refl named) refl refl).receive queue (λ e. cc)) is
+
+  pub ending_settles : (e : Event Block) → IsMet queue s → IsEvent e → IsEnding q e → HasGround queue q s
+      → IsSettled queue s → Settles queue s (after s e)
+  ending_settles (event.Write port number word) met made (side, same, none, named) g is =
+      subst (λ p. Settles queue s (after s (event.Write p number word))) (sym same)
+      (asked side number word met none named g is)
+  ending_settles (event.Read port number) met made ending g is =
+      leaving_settles queue s (after s (event.Read port number)) ((read_rest s port number).queues.receive queue) is
+  ending_settles (event.Take number) met made ending g is =
+      leaving_settles queue s (after s (event.Take number)) ((memory_rest.take s number).queues.receive queue) is
+  ending_settles e met made ending g is =
+      left_settles (watching queue s) no_block s e (step_left queue s e met made ending) is
+
+-- what a stop's event writes is a register of the queue
+side_plain : (q : AtPort) (side : Dir) → is_driven (enable_row side) ≡ true
+side_plain q Rx = refl
+side_plain q Tx = refl
+
+pub ending_plain : (q : AtPort) (e : Event Block) → IsEnding q e → IsPlain q e
+ending_plain q (event.Write port number word) (side, same, none, named) =
+    (enable_row side, same, side_plain q side, named)
+ending_plain q e ending = tt
+
+-- sides that are off stay so
+module _ (queue : ℕ) (q : AtPort) (s : State) (x : IsQuiet queue q s) where
+  quiet_same : (t : State) → HasGround queue q t → LeavesReceive queue s t → LeavesTransmit queue s t
+      → IsQuiet queue q t
+  quiet_same t g receive send = record {
+    ground = g;
+    receive = record {
+      off = ap (λ (k : ReceiveQueue). k.on) receive ∙ x.receive.off;
+      unwanted = ap (λ (k : ReceiveQueue). k.wanted) receive ∙ x.receive.unwanted;
+    };
+    transmit = record {
+      off = ap (λ (k : TransmitQueue). k.on) send.side ∙ x.transmit.off;
+      unwanted = ap (λ (k : TransmitQueue). k.wanted) send.side ∙ x.transmit.unwanted;
+    };
+  }
+
+  asked_quiet : (side : Dir) (number word : ℕ) → IsMet queue s → has_bit 25 word ≡ false
+      → IsNumberOf q.port (enable_row side) q.queue number
+      → IsQuiet queue q (after s (event.Write q.port number word))
+  asked_quiet Rx number word met none named =
+      let t = after s (event.Write q.port number word) in
+      let names = ground_names queue q s x.ground Rxdctl number refl named in
+      let side : receive_queue_of t.registers queue
+      ≡ record (receive_queue_of s.registers queue) { wanted = has_bit 25 word } =
+      ap (λ r. receive_queue_of r queue) (wrote queue s q.port number word Rxdctl names refl)
+      ∙ receive-asked s.registers met.sound.registers.shape queue met.small 0xFFFFFFFF word in
+      let send = (write_rest s q.port number word (place Rxdctl queue) 0xFFFFFFFF names refl refl).transmit queue
+      (λ e. cc) in
+      record {
+        ground = write_keeps queue q s Rxdctl number word refl named x.ground;
+        receive = record {
+          off = ap (λ (k : ReceiveQueue). k.on) side ∙ x.receive.off;
+          unwanted = ap (λ (k : ReceiveQueue). k.wanted) side ∙ none;
+        };
+        transmit = record {
+          off = ap (λ (k : TransmitQueue). k.on) send.side ∙ x.transmit.off;
+          unwanted = ap (λ (k : TransmitQueue). k.wanted) send.side ∙ x.transmit.unwanted;
+        };
+      }
+  asked_quiet Tx number word met none named =
+      let t = after s (event.Write q.port number word) in
+      let names = ground_names queue q s x.ground Txdctl number refl named in
+      let side : transmit_queue_of t.registers queue
+      ≡ record (transmit_queue_of s.registers queue) { wanted = has_bit 25 word } =
+      ap (λ r. transmit_queue_of r queue) (wrote queue s q.port number word Txdctl names refl)
+      ∙ transmit-asked s.registers met.sound.registers.shape queue met.small 0xFFFFFFFF word in
+      let receive = (write_rest s q.port number word (place Txdctl queue) 0xFFFFFFFF names refl refl).receive queue
+      (λ e. cc) in
+      record {
+        ground = write_keeps queue q s Txdctl number word refl named x.ground;
+        receive = record {
+          off = ap (λ (k : ReceiveQueue). k.on) receive ∙ x.receive.off;
+          unwanted = ap (λ (k : ReceiveQueue). k.wanted) receive ∙ x.receive.unwanted;
+        };
+        transmit = record {
+          off = ap (λ (k : TransmitQueue). k.on) side ∙ x.transmit.off;
+          unwanted = ap (λ (k : TransmitQueue). k.wanted) side ∙ none;
+        };
+      }
+
+  pub write_quiet : (port : Port) (number word : ℕ) → IsMet queue s → IsEnding q (event.Write port number word)
+      → IsQuiet queue q (after s (event.Write port number word))
+  write_quiet port number word met (side, same, none, named) =
+      subst (λ p. IsQuiet queue q (after s (event.Write p number word))) (sym same)
+      (asked_quiet side number word met none named)
+
+  pub read_quiet : (port : Port) (number : ℕ) → IsQuiet queue q (after s (event.Read port number))
+  read_quiet port number =
+      let rest = (read_rest s port number).queues in
+      quiet_same (after s (event.Read port number)) (plain_keeps queue q s (event.Read port number) tt x.ground)
+      (rest.receive queue) (rest.transmit queue)
+
+  pub take_quiet : (number : ℕ) → IsQuiet queue q (after s (event.Take number))
+  take_quiet number =
+      let rest = (memory_rest.take s number).queues in
+      quiet_same (after s (event.Take number)) (plain_keeps queue q s (event.Take number) tt x.ground)
+      (rest.receive queue) (rest.transmit queue)

@@ -1,0 +1,193 @@
+-- On a queue whose sides are off nothing is received or sent, over events that leave it alone and calls of a stop.
+use Rattle.std.proofs.Common.{cond, ◌≡◌, ◌≢◌, ℕ, ◌⊎◌, inl, inr, List, [], ◌∷◌, ◌++◌, Option, Some, None, option_map, refl, sym, ap, ◌∙◌, subst, append_assoc}
+use Rattle.std.proofs.lemmas.List.{append-nil}
+use Rattle.dma_arena.specs.Block.{Block}
+use Rattle.register_file.specs.Queue.{is_on}
+use Rattle.register_laws.specs.Sides.{receive_queue_of, transmit_queue_of}
+use Rattle.register_file.specs.declared.dir.Dir.TheVariants.{Rx, Tx}
+use Rattle.nic_device.specs.Sound.{IsEvent}
+use Rattle.nic_device.specs.State.{State, new_state}
+use Rattle.nic_device.specs.Step.{after}
+use Rattle.nic_device.specs.declared.event.Event.{Event}
+use Rattle.nic_device.specs.declared.event.Event.TheVariants as event
+use Rattle.device_lock.specs.Alone.{Blocks, lent_by}
+use Rattle.device_lock.specs.History.{calls_of}
+use Rattle.device_lock.specs.declared.alone.Watched.{Watched}
+use Rattle.device_lock.specs.declared.entry.Call.{Call}
+use Rattle.device_lock.specs.declared.entry.Entry.{Entry}
+use Rattle.history_laws.specs.Laws.{AreEvents}
+use Rattle.history_laws.specs.Staged.{StageWhileOn}
+use Rattle.history_laws.proofs.Staged.{histories_keep_staged, new_sides_stage}
+use Rattle.pmd_queue.specs.Named.{AtPort}
+use Rattle.receive_laws.specs.Delivered.{packets_if_any, pieces_since}
+use Rattle.receive_laws.specs.Pieces.{Piece, packets_of, pieces}
+use Rattle.receive_laws.proofs.Delivering.{events_before, since-append}
+use Rattle.transmit_laws.specs.Sent.{sent_by, sent_since}
+use Rattle.transmit_laws.proofs.Counting.{sent_is_counted}
+use Rattle.start_laws.specs.Along.{AtCalls, AtEntries, IsAlong}
+use Rattle.start_laws.specs.Ending.{IsEnding}
+use Rattle.start_laws.specs.Moves.{IsMet}
+use Rattle.start_laws.specs.Quiet.{no_block}
+use Rattle.start_laws.specs.Quieting.{IsQuiet}
+use Rattle.start_laws.specs.Silent.{IsSilent, QuietQueueIsSilent}
+use Rattle.start_laws.specs.Standing.{IsLeft}
+use Rattle.start_laws.specs.Stopping.{Ends}
+use Rattle.start_laws.proofs.Along.{KeptOver, LeadsOver, kept_on, reached, reached_next}
+use Rattle.start_laws.proofs.Ending.{all_lead, read_quiet, step_left, take_quiet, watching, write_quiet}
+use Rattle.start_laws.proofs.First.{calls_joined}
+use Rattle.start_laws.proofs.Off.{ground_kept, off_kept, transmit_off_kept}
+use Rattle.start_laws.proofs.Quiet.{off_sides_stand}
+use Rattle.start_laws.proofs.Settled.{not_again}
+use Rattle.start_laws.proofs.Standing.{standing_sides_are_left}
+
+-- an event by which nothing is received or sent, and behind which the sides are off
+record StaysQuiet (queue : ℕ) (q : AtPort) (s : State) (e : Event Block) : Type 0 where
+  quiet : IsQuiet queue q (after s e)
+  received : pieces queue s e ≡ []
+  sent : sent_by queue s e ≡ []
+
+left_stays : (w : Watched) (mine : Blocks) (q : AtPort) (s : State) (e : Event Block) → IsLeft w mine s e
+    → StageWhileOn s → IsQuiet w.queue q s → StaysQuiet w.queue q s e
+left_stays w mine q s e left bare x =
+    let l = standing_sides_are_left w mine no_block s e (receive_queue_of s.registers w.queue)
+    (transmit_queue_of s.registers w.queue) left (λ n is. cc)
+    (off_sides_stand w.queue s left.small bare x.receive x.transmit) in record {
+      quiet = record {
+        ground = ground_kept w mine q s e left x.ground;
+        receive = off_kept w mine s e left x.receive;
+        transmit = transmit_off_kept w mine s e left x.transmit;
+      };
+      received = l.received;
+      sent = l.sent;
+    }
+
+ending_stays : (queue : ℕ) (q : AtPort) (s : State) (e : Event Block) → IsMet queue s → IsEvent e → IsEnding q e
+    → StageWhileOn s → IsQuiet queue q s → StaysQuiet queue q s e
+ending_stays queue q s (event.Write port number word) met made own bare x =
+    record { quiet = write_quiet queue q s x port number word met own; received = refl; sent = refl }
+ending_stays queue q s (event.Read port number) met made own bare x =
+    record { quiet = read_quiet queue q s x port number; received = refl; sent = refl }
+ending_stays queue q s (event.Take number) met made own bare x =
+    record { quiet = take_quiet queue q s x number; received = refl; sent = refl }
+ending_stays queue q s e met made own bare x =
+    left_stays (watching queue s) no_block q s e (step_left queue s e met made own) bare x
+
+none_more : (so_far : Option (List Piece)) → packets_if_any (option_map (λ qs. qs ++ []) so_far) ≡ packets_if_any so_far
+none_more None = refl
+none_more (Some qs) = ap packets_of (append-nil qs)
+
+module _ (w : Watched) (q : AtPort) (fifo : ℕ) (done : List Entry) where
+  abbrev new : State
+  new = new_state w.vfs fifo
+
+  -- the sides are off, and no more was received or sent than before
+  record Silent (now : List Entry) : Type 0 where
+    quiet : IsQuiet w.queue q (reached w fifo now)
+    bare : StageWhileOn (reached w fifo now)
+    same : IsSilent w fifo now done
+
+  silent_on : (now : List Entry) (e : Entry) → StageWhileOn (after (reached w fifo now) e.event)
+      → StaysQuiet w.queue q (reached w fifo now) e.event → Silent now → Silent (now ++ e ∷ [])
+  silent_on now e bare stays x =
+      let s = reached w fifo now in
+      let t = after s e.event in
+      let so_far = pieces_since w.queue new None now in
+      let sent = sent_since w.queue new [] now in
+      let rx = not_again (is_on s.registers Rx w.queue) (is_on t.registers Rx w.queue) (inr stays.quiet.receive.off) in
+      let tx = not_again (is_on s.registers Tx w.queue) (is_on t.registers Tx w.queue)
+      (inr stays.quiet.transmit.off) in
+      record {
+        quiet = subst (IsQuiet w.queue q) (sym (reached_next w fifo now e)) stays.quiet;
+        bare = subst StageWhileOn (sym (reached_next w fifo now e)) bare;
+        same = record {
+          delivered =
+              ap packets_if_any (since-append w.queue new None now (e ∷ []))
+              ∙ ap (λ b. packets_if_any
+              (cond b (Some []) (option_map (λ qs. qs ++ pieces w.queue s e.event) so_far))) rx
+              ∙ ap (λ ps. packets_if_any (option_map (λ qs. qs ++ ps) so_far)) stays.received
+              ∙ none_more so_far ∙ x.same.delivered;
+          sent =
+              sent_is_counted.joined w.queue new [] now (e ∷ [])
+              ∙ ap (λ b. cond b [] (sent ++ sent_by w.queue s e.event)) tx
+              ∙ ap (λ more. sent ++ more) stays.sent ∙ append-nil sent ∙ x.same.sent;
+        };
+      }
+
+  others_silent : (mine : Blocks) → KeptOver w fifo mine Silent
+  others_silent mine now e left x =
+      silent_on now e (histories_keep_staged (reached w fifo now) (e ∷ []) left.sound (left.made, tt) x.bare)
+      (left_stays w mine q (reached w fifo now) e.event left x.bare x.quiet) x
+
+  ending_silent : (c : Call) → IsEnding q c.event → LeadsOver w fifo c Silent Silent
+  ending_silent c own now e same met made told x =
+      let mine = subst (λ (n : Call). IsEnding q n.event) (sym same) own in
+      silent_on now e (histories_keep_staged (reached w fifo now) (e ∷ []) met.sound (made, tt) x.bare)
+      (ending_stays w.queue q (reached w fifo now) e.event met made mine x.bare x.quiet) x
+
+-- two beginnings of a history: one begins the other
+
+abbrev Begins : List Entry → List Entry → Type 0
+Begins xs zs = (back : List Entry) × (xs ++ back ≡ zs)
+
+one_begins : (xs ys zs ws : List Entry) → xs ++ ys ≡ zs ++ ws → Begins xs zs ⊎ Begins zs xs
+one_begins [] ys zs ws is = inl (zs, refl)
+one_begins (x ∷ xs) ys [] ws is = inr (x ∷ xs, refl)
+one_begins (x ∷ xs) ys (z ∷ zs) ws is =
+    let first : x ≡ z = cc in
+    elim (one_begins xs ys zs ws (cc)) as (λ _. Begins (x ∷ xs) (z ∷ zs) ⊎ Begins (z ∷ zs) (x ∷ xs)) [
+      | inl (back, both) ↦ inl (back, λ i. first i ∷ both i)
+      | inr (back, both) ↦ inr (back, λ i. sym first i ∷ both i)
+    ]
+
+none_behind : (xs ys : List Call) → xs ++ ys ≡ xs → ys ≡ []
+none_behind [] ys is = is
+none_behind (x ∷ xs) ys is = none_behind xs ys (cc)
+
+module _ (w : Watched) (q : AtPort) (fifo : ℕ) (h done rest : List Entry) (old : List Call) (along : IsAlong w fifo h)
+    (some : old ≢ []) (at : AtCalls w fifo h old (IsQuiet w.queue q)) (all : done ++ rest ≡ h)
+    (calls : calls_of w.pass done ≡ old) where
+  here : (base now after : List Entry) → now ++ after ≡ h → calls_of w.pass now ≡ old → IsSilent w fifo now base
+      → Silent w q fifo base now
+  here base now after both made same = record {
+    quiet = at now after both made;
+    bare = histories_keep_staged (new_state w.vfs fifo) now along.new
+        (events_before now after (subst AreEvents (sym both) along.events)) (new_sides_stage w.vfs fifo);
+    same = same;
+  }
+
+  itself : (now : List Entry) → IsSilent w fifo now now
+  itself now = record { delivered = refl; sent = refl }
+
+  -- entries of others alone lie between
+  between : (one two after : List Entry) → two ++ after ≡ h → calls_of w.pass one ≡ old → calls_of w.pass two ≡ old
+      → Begins one two → IsSilent w fifo two one
+  between one two after both made then (back, is) =
+      let none : calls_of w.pass back ≡ [] =
+      none_behind old (calls_of w.pass back)
+      (ap (λ (cs : List Call). cs ++ calls_of w.pass back) (sym made) ∙ sym (calls_joined w.pass one back)
+      ∙ ap (calls_of w.pass) is ∙ then) in
+      let whole : (one ++ back) ++ after ≡ h = ap (λ (l : List Entry). l ++ after) is ∙ both in
+      let first = here one one (back ++ after) (sym (append_assoc one back after) ∙ whole) made (itself one) in
+      subst (λ (l : List Entry). IsSilent w fifo l one) is
+      (kept_on w fifo h along (Silent w q fifo one) (others_silent w q fifo one (lent_by w.pass h)) one back after whole
+      (λ nil. some (sym made ∙ nil)) none first).same
+
+  silent_at : AtEntries w h old (Silent w q fifo done)
+  silent_at now after both made =
+      here done now after both made
+      (elim (one_begins done rest now after (all ∙ sym both)) as (λ _. IsSilent w fifo now done) [
+        | inl begins ↦ between done now after both calls made begins
+        | inr begins ↦
+            let back = between now done rest all made calls begins in
+            record { delivered = sym back.delivered; sent = sym back.sent }
+      ])
+
+  pub silent_whole : (made : List Call) → Ends q old made → calls_of w.pass h ≡ made → IsSilent w fifo h done
+  silent_whole whole (ends, is, own) made =
+      (all_lead w fifo h (Silent w q fifo done) (λ c. IsEnding q c.event) along
+      (others_silent w q fifo done (lent_by w.pass h)) (ending_silent w q fifo done) ends old own some silent_at h []
+      (append-nil h) (made ∙ is)).same
+
+pub quiet_queue_is_silent : QuietQueueIsSilent
+quiet_queue_is_silent w q fifo h done rest old new along some at ends made all calls =
+    silent_whole w q fifo h done rest old along some at all calls new ends made

@@ -1,0 +1,37 @@
+-- What a driver's own calls do to its queue once its sides are on, and what those of its stop do.
+use Rattle.std.specs.Prelude.{ℕ, ◌≡◌, true, ⊤, IsTrue, IsFalse, List, [], ◌∷◌}
+use Rattle.dma_arena.specs.Block.{Block}
+use Rattle.reg_table.specs.declared.rows.RowId.{RowId}
+use Rattle.register_file.specs.Bits.{has_bit}
+use Rattle.register_file.specs.Queue.{enable_row}
+use Rattle.register_file.specs.declared.dir.Dir.{Dir}
+use Rattle.nic_device.specs.declared.event.Event.{Event}
+use Rattle.nic_device.specs.declared.event.Event.TheVariants as event
+use Rattle.nic_device.specs.declared.event.Port.{Port}
+use Rattle.device_lock.specs.declared.entry.Call.{Call}
+use Rattle.pmd_base.specs.Events.{is_step}
+use Rattle.pmd_queue.specs.Named.{AtPort, IsNumberOf, is_driven}
+
+-- it holds of each of these calls
+abbrev pub Each : (Call → Type 0) → List Call → Type 0
+Each P [] = ⊤
+Each P (c ∷ cs) = P c × Each P cs
+
+-- a number is that of a register that a driver has of its queue, at its port
+abbrev pub NamesDriven : AtPort → Port → ℕ → Type 0
+NamesDriven q port number =
+    (row : RowId) × (port ≡ q.port) × (is_driven row ≡ true) × IsNumberOf q.port row q.queue number
+
+-- an event writes no register but one of these
+abbrev pub IsPlain : AtPort → Event Block → Type 0
+IsPlain q (event.Write port number word) = NamesDriven q port number
+IsPlain q other = ⊤
+
+-- an event of a stop: an enable word of the queue is written without bit 25, a register is read, a block is taken, or
+-- the device makes a step
+abbrev pub IsEnding : AtPort → Event Block → Type 0
+IsEnding q (event.Write port number word) =
+    (side : Dir) × (port ≡ q.port) × IsFalse (has_bit 25 word) × IsNumberOf q.port (enable_row side) q.queue number
+IsEnding q (event.Read port number) = ⊤
+IsEnding q (event.Take number) = ⊤
+IsEnding q e = IsTrue (is_step e)

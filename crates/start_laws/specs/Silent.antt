@@ -1,0 +1,35 @@
+-- A queue whose sides were switched off, and what is received and sent there from then on.
+use Rattle.std.specs.Prelude.{ℕ, ◌≡◌, ◌≢◌, false, List, [], ◌++◌}
+use Rattle.nic_device.specs.State.{new_state}
+use Rattle.device_lock.specs.History.{calls_of}
+use Rattle.device_lock.specs.declared.alone.Watched.{Watched}
+use Rattle.device_lock.specs.declared.entry.Call.{Call}
+use Rattle.device_lock.specs.declared.entry.Entry.{Entry}
+use Rattle.pmd_queue.specs.Both.{IsSwitched}
+use Rattle.pmd_queue.specs.Named.{AtPort}
+use Rattle.receive_laws.specs.Delivered.{delivered}
+use Rattle.transmit_laws.specs.Sent.{sent_since}
+use Rattle.start_laws.specs.Along.{AtCalls, IsAlong}
+use Rattle.start_laws.specs.Points.{HasGround}
+use Rattle.start_laws.specs.Quieting.{IsQuiet}
+use Rattle.start_laws.specs.Stopping.{Ends, StepsSwitched}
+
+-- wherever the pass has switched both sides off they are off and not wanted on, where the driver's port and queue name
+-- this queue before
+abbrev pub SwitchingOffLeads : Type 0
+SwitchingOffLeads =
+    (w : Watched) (q : AtPort) (fifo : ℕ) (h : List Entry) (old new : List Call) → IsAlong w fifo h →
+    (x : IsSwitched q old new false 1000) → StepsSwitched q old new x → old ≢ [] →
+    AtCalls w fifo h old (HasGround w.queue q) → AtCalls w fifo h new (IsQuiet w.queue q)
+
+-- and from then on nothing is delivered or sent there, where the calls of the pass are those of a stop
+pub record IsSilent (w : Watched) (fifo : ℕ) (h done : List Entry) : Type 0 where
+  pub delivered :
+      delivered w.queue (new_state w.vfs fifo) h ≡ delivered w.queue (new_state w.vfs fifo) done
+  pub sent : sent_since w.queue (new_state w.vfs fifo) [] h ≡ sent_since w.queue (new_state w.vfs fifo) [] done
+
+abbrev pub QuietQueueIsSilent : Type 0
+QuietQueueIsSilent =
+    (w : Watched) (q : AtPort) (fifo : ℕ) (h done rest : List Entry) (old new : List Call) → IsAlong w fifo h →
+    old ≢ [] → AtCalls w fifo h old (IsQuiet w.queue q) → Ends q old new → calls_of w.pass h ≡ new →
+    done ++ rest ≡ h → calls_of w.pass done ≡ old → IsSilent w fifo h done

@@ -13,6 +13,7 @@ use Rattle.device_lock.specs.Pass.{call_of}
 use Rattle.device_lock.specs.declared.alone.Watched.{Watched}
 use Rattle.device_lock.specs.declared.entry.Call.{Call}
 use Rattle.device_lock.specs.declared.entry.Entry.{Entry}
+use Rattle.history_laws.proofs.Calls.{anew_is_done}
 use Rattle.pmd_base.specs.declared.fault.PmdFault.TheVariants.{DeviceFault}
 use Rattle.pmd_queue.specs.Both.{SwitchFails, both_asked, both_quiet, receive_polled}
 use Rattle.pmd_queue.specs.Made.{Access, Sees, Sets, AreMade}
@@ -31,7 +32,6 @@ use Rattle.begin_laws.specs.Faultless.{BeforeNext, Never, NoneIsLent, ReceiveIsR
 use Rattle.begin_laws.proofs.Grounds.{AllAre, IsDriven, IsWrite, accesses_grounded, lend_grounded, next_on_ground, read_never_stray, writes_driven, writes_never_stop}
 use Rattle.begin_laws.proofs.Last.{last_never}
 use Rattle.begin_laws.proofs.Quiet.{quiet_off, quieting_never_stops}
-use Rattle.begin_laws.proofs.Replies.{fresh_blocks_are_taken}
 
 words_are_writes : (side : Dir) (ring size : ℕ) → AllAre IsWrite (ring_words side ring size)
 words_are_writes Rx ring size = (refl, (refl, (refl, (refl, (refl, (refl, tt))))))
@@ -70,7 +70,7 @@ module _ (w : Watched) (q : AtPort) (fifo : ℕ) (h : List Entry) (along : IsAlo
       subst (Never w fifo h) (sym all)
       (last_never w fifo h along (λ s. IsFalse (has_block s.memory ring)) (old ++ before) c
       (λ s none told.
-      let no_such : reply.Twice back ≡ reply.Done = told ∙ fresh_blocks_are_taken s (zero_block ring) none in
+      let no_such : reply.Twice back ≡ reply.Done = told ∙ anew_is_done s (zero_block ring) none in
       cc)
       (subst (λ (calls : List Call). BeforeLast w fifo h calls (λ s. IsFalse (has_block s.memory ring))) all at))
 

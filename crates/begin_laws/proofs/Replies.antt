@@ -11,7 +11,7 @@ use Rattle.nic_device.specs.declared.event.Reply.TheVariants as reply
 use Rattle.start_laws.specs.Words.{NamesRow}
 use Rattle.start_laws.proofs.Accesses.{receive_told, transmit_told}
 use Rattle.start_laws.proofs.Numbers.{ground_names}
-use Rattle.begin_laws.specs.Replies.{NamedRegistersReply, OffSidesAreSeenOff, FreshBlocksAreTaken}
+use Rattle.begin_laws.specs.Replies.{NamedRegistersReply, OffSidesAreSeenOff}
 
 module _ (queue : ℕ) (s : State) (port : Port) (number : ℕ) (row : RowId) (names : NamesRow s port number row queue)
   where
@@ -37,7 +37,3 @@ off_sides_are_seen_off queue q s number word quiet (inl named) told =
 off_sides_are_seen_off queue q s number word quiet (inr named) told =
     transmit_told queue s q.port number word told (ground_names queue q s quiet.ground Txdctl number refl named)
     ∙ quiet.transmit.off
-
-pub fresh_blocks_are_taken : FreshBlocksAreTaken
-unfolding step_of
-fresh_blocks_are_taken s block none = rw (reply_to, none) refl

@@ -1,7 +1,5 @@
 -- What the device replies to the accesses of a driver that starts on a queue whose sides are off.
 use Rattle.std.specs.Prelude.{ℕ, ◌≡◌, ◌⊎◌, true, IsFalse}
-use Rattle.dma_arena.specs.Block.{Block}
-use Rattle.dma_arena.specs.Memory.{has_block}
 use Rattle.reg_table.specs.declared.rows.RowId.{RowId}
 use Rattle.reg_table.specs.declared.rows.RowId.TheVariants.{Rxdctl, Txdctl}
 use Rattle.register_file.specs.Bits.{has_bit}
@@ -30,9 +28,3 @@ OffSidesAreSeenOff =
     (queue : ℕ) (q : AtPort) (s : State) (number word : ℕ) → IsQuiet queue q s →
     IsNumberOf q.port Rxdctl q.queue number ⊎ IsNumberOf q.port Txdctl q.queue number →
     reply_to s (event.Read q.port number) ≡ reply.Word word → IsFalse (has_bit 25 word)
-
--- a block of which none of its number is lent is taken
-abbrev pub FreshBlocksAreTaken : Type 0
-FreshBlocksAreTaken =
-    (s : State) (block : Block) → IsFalse (has_block s.memory block.number) →
-    reply_to s (event.Lend block) ≡ reply.Done

@@ -8,7 +8,7 @@ ghost use Rattle.begin_laws.specs.Faultless.{ReceiveIsReady, TransmitIsReady, Sw
 ghost use Rattle.begin_laws.specs.Filling.{FaultsAreEarlyOrFilling, NoFaultIsEarly, FillingBeginsWell};
 ghost use Rattle.begin_laws.specs.Gate.{NamedQueuesPass};
 ghost use Rattle.begin_laws.specs.Polls.{PollsAreTold};
-ghost use Rattle.begin_laws.specs.Replies.{NamedRegistersReply, OffSidesAreSeenOff, FreshBlocksAreTaken};
+ghost use Rattle.begin_laws.specs.Replies.{NamedRegistersReply, OffSidesAreSeenOff};
 ghost use Rattle.begin_laws.specs.TimedOut.{TimeoutsPoll};
 
 /// A start that answers `StartTimeout` made 1,000 reads of its queue's RXDCTL or TXDCTL, of both together, each
@@ -30,11 +30,10 @@ pub fn named_queues_pass_the_gate()
 {}
 
 /// Where port and queue name a queue of the device, a driver's reads of its registers give words and its writes are
-/// done; the enable word of a side that is off is read without bit 25; and a block is taken of which none is lent.
+/// done; and the enable word of a side that is off is read without bit 25.
 pub fn replies_at_a_start_are_healthy()
     ensures registers { NamedRegistersReply }
     ensures off { OffSidesAreSeenOff }
-    ensures lend { FreshBlocksAreTaken }
 {}
 
 /// Over a legal history that leaves the queue alone, where port and queue name it, its sides are off and not wanted on

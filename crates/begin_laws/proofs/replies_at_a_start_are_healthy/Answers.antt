@@ -1,4 +1,4 @@
-use Rattle.begin_laws.proofs.Replies.{named_registers_reply, off_sides_are_seen_off, fresh_blocks_are_taken}
+use Rattle.begin_laws.proofs.Replies.{named_registers_reply, off_sides_are_seen_off}
 use Rattle.begin_laws.proofs.replies_at_a_start_are_healthy.Goals as goal
 
 pub returns-clause-registers : goal.returns-clause-registers
@@ -6,6 +6,3 @@ returns-clause-registers c = named_registers_reply
 
 pub returns-clause-off : goal.returns-clause-off
 returns-clause-off c = off_sides_are_seen_off
-
-pub returns-clause-lend : goal.returns-clause-lend
-returns-clause-lend c = fresh_blocks_are_taken

@@ -4,6 +4,7 @@ pub mod Driving
 pub mod Handing
 pub mod Late
 pub mod Leaving
+pub mod Rising
 pub mod Sending
 pub mod Starting
 pub mod Stopping

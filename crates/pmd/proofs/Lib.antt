@@ -2,6 +2,7 @@ pub mod Blocks
 pub mod Both
 pub mod Driving
 pub mod Handing
+pub mod Homecoming
 pub mod Late
 pub mod Leaving
 pub mod Rising

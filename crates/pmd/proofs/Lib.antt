@@ -3,9 +3,11 @@ pub mod Both
 pub mod Calls
 pub mod Driving
 pub mod Handing
+pub mod Homecoming
 pub mod Late
 pub mod Leaving
 pub mod Living
+pub mod Rising
 pub mod Sending
 pub mod Starting
 pub mod Stopping

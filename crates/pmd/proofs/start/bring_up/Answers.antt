@@ -13,7 +13,7 @@ use Rattle.pmd.specs.declared.driver.Rings.TheVariants.{Up}
 use Rattle.pmd.proofs.Late.{preparing_late, receive_late}
 use Rattle.pmd.proofs.Leaving.{home_handed, half_handed, ready_handed}
 use Rattle.pmd.proofs.Starting.{prepared_count, ready_empty, receive_out, rings_out, one_out, filled_rings}
-use Rattle.pmd.proofs.Whole.{receive_has, one_ring, filled_all, half_whole, home_whole}
+use Rattle.pmd.proofs.Rising.{receive_has, one_ring, filled_all, half_whole, home_whole}
 use Rattle.pmd.proofs.start.bring_up.Goals as goal
 
 pub returns-in-Err-clause-stops : goal.returns-in-Err-clause-stops

@@ -1,7 +1,8 @@
 use Rattle.std.proofs.Common.{sym, subst}
 use Rattle.pmd.specs.Blocks.{LosesNone}
 use Rattle.pmd.specs.Driver.{Driver, halted_of}
-use Rattle.pmd.proofs.Stopping.{home_after, fails_after}
+use Rattle.pmd.proofs.Homecoming.{home_after}
+use Rattle.pmd.proofs.Stopping.{fails_after}
 use Rattle.worker_runs.proofs.driving.take_home.Goals as goal
 
 pub returns-in-Ok-clause-whole : goal.returns-in-Ok-clause-whole

@@ -1,6 +1,6 @@
 use Rattle.std.proofs.Common.{ap}
 use Rattle.pmd.specs.Driver.{Driver}
-use Rattle.worker_runs.proofs.Keeping.{reap_keeps}
+use Rattle.worker_runs.proofs.Reaping.{reap_keeps}
 use Rattle.worker_runs.proofs.turns.reap.Goals as goal
 
 pub returns-clause-blocks : goal.returns-clause-blocks

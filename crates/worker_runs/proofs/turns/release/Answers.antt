@@ -1,4 +1,4 @@
-use Rattle.worker_runs.proofs.Keeping.{release_keeps}
+use Rattle.worker_runs.proofs.Reaping.{release_keeps}
 use Rattle.worker_runs.proofs.turns.release.Goals as goal
 
 pub returns-clause-blocks : goal.returns-clause-blocks

@@ -4,7 +4,7 @@ use Rattle.pmd_tx.specs.Sends.{returned}
 use Rattle.pmd_tx.specs.declared.answer.TxAnswer.{TxAnswer}
 use Rattle.pmd.specs.Driver.{Driver}
 use Rattle.worker_runs.specs.Kept.{KeepsAll}
-use Rattle.worker_runs.proofs.Keeping.{send_keeps}
+use Rattle.worker_runs.proofs.Sending.{send_keeps}
 use Rattle.worker_runs.proofs.Returning.{fault_back}
 use Rattle.worker_runs.proofs.turns.send.Goals as goal
 

@@ -1,0 +1,96 @@
+-- Where the blocks of a driver are as its rings come up.
+use Rattle.std.proofs.Common.{ℕ, false, List, [], ◌∷◌, ◌++◌, refl, sym, subst, arith}
+use Rattle.dma_arena.specs.Numbers.{Numbers, with_free}
+use Rattle.device_lock.specs.declared.entry.Call.{Call}
+use Rattle.pmd_base.proofs.Outside.{times-cons, times-append}
+use Rattle.pmd_halt.specs.Halted.{Halted, with_rings, with_receive_ring}
+use Rattle.pmd_queue.specs.Named.{AtPort}
+use Rattle.pmd_rx.specs.Keeping.{Keeps, blocks_out, lent_of, block_in}
+use Rattle.pmd_rx.specs.Receive.{Receive, held_by}
+use Rattle.pmd_tx.specs.Leaving as transmit
+use Rattle.pmd_tx.specs.Sending.{Sender}
+use Rattle.pmd.specs.Blocks.{KeepsEach, HasAll, IsWhole}
+use Rattle.pmd.specs.Started.{IsHome, IsHalfStarted}
+use Rattle.pmd.specs.Starting.{IsReceiveReady, IsTransmitReady}
+use Rattle.pmd.specs.declared.start.Rest.{Rest}
+use Rattle.pmd.specs.declared.start.Rest.TheVariants as rest
+use Rattle.pmd.proofs.Whole.{keeps_then, keeps_counted, keeps_beside, one_drawn, all_exchanged}
+
+pub receive_has : (q : AtPort) (size : ℕ) (old : List Call) (a : Numbers) (new : List Call) (b : Numbers) (v : Receive)
+    → IsReceiveReady q size old a new b v → KeepsEach a [] b (blocks_out v)
+receive_has q size old a new b v ready =
+    subst (λ (x : Receive). KeepsEach a [] b (blocks_out x)) (sym ready.fresh)
+    (subst (λ (x : Numbers). KeepsEach a [] x (ready.ring ∷ [])) (sym ready.prepared.drawn)
+    (one_drawn a [] ready.ring ready.prepared.free))
+
+transmit_has : (q : AtPort) (size : ℕ) (old : List Call) (a : Numbers) (new : List Call) (b : Numbers) (s : Sender)
+    (out : List ℕ) → IsTransmitReady q size old a new b s → KeepsEach a out b (out ++ transmit.lent_of s)
+transmit_has q size old a new b s out ready =
+    let n : ℕ = ready.ring in
+    subst (λ (x : Sender). KeepsEach a out b (out ++ transmit.lent_of x)) (sym ready.fresh)
+    (subst (λ (x : Numbers). KeepsEach a out x (out ++ n ∷ [])) (sym ready.prepared.drawn)
+    (keeps_counted a (with_free a n false) out (n ∷ out) (out ++ n ∷ [])
+    (λ k. omega (arith, times-cons n out k, times-append out (n ∷ []) k)) (one_drawn a out n ready.prepared.free)))
+
+-- both rings are lent, and the receive ring was filled
+pub filled_has : (q : AtPort) (size : ℕ) (old mid new : List Call) (a b d e : Numbers) (v w : Receive) (s : Sender)
+    → IsReceiveReady q size old a mid b v → IsTransmitReady q size mid b new d s → Keeps d v e w []
+    → KeepsEach a [] e (blocks_out w ++ transmit.lent_of s)
+filled_has q size old mid new a b d e v w s ready also keeps =
+    keeps_then a b e [] (blocks_out v) (blocks_out w ++ transmit.lent_of s) (receive_has q size old a mid b v ready)
+    (keeps_then b d e (blocks_out v) (blocks_out v ++ transmit.lent_of s) (blocks_out w ++ transmit.lent_of s)
+    (transmit_has q size mid b new d s (blocks_out v) also)
+    (keeps_beside d e (blocks_out v) (blocks_out w) (transmit.lent_of s)
+    (all_exchanged d (blocks_out v) e (blocks_out w) keeps.arena)))
+
+-- a driver of these rings
+
+pub one_ring : (a b : Numbers) (v : Receive) → KeepsEach a [] b (blocks_out v) → HasAll a (with_receive_ring b v) []
+one_ring a b v keeps =
+    let lent : List ℕ = lent_of v in
+    let held : List ℕ = block_in (held_by v.stage) in
+    keeps_counted a b [] (lent ++ held) (((lent ++ []) ++ held) ++ [])
+    (λ n. omega (
+      arith,
+      times-append lent held n,
+      times-append ((lent ++ []) ++ held) [] n,
+      times-append (lent ++ []) held n,
+      times-append lent [] n,
+    ))
+    keeps
+
+pub both_rings : (a b : Numbers) (v : Receive) (s : Sender) (hand : List ℕ)
+    → KeepsEach a [] b ((blocks_out v ++ transmit.lent_of s) ++ hand) → HasAll a (with_rings b v s) hand
+both_rings a b v s hand keeps =
+    let lent : List ℕ = lent_of v in
+    let held : List ℕ = block_in (held_by v.stage) in
+    let sent : List ℕ = transmit.lent_of s in
+    keeps_counted a b [] (((lent ++ held) ++ sent) ++ hand) (((lent ++ sent) ++ held) ++ hand)
+    (λ n. omega (
+      arith,
+      times-append ((lent ++ held) ++ sent) hand n,
+      times-append (lent ++ held) sent n,
+      times-append lent held n,
+      times-append ((lent ++ sent) ++ held) hand n,
+      times-append (lent ++ sent) held n,
+      times-append lent sent n,
+    ))
+    keeps
+
+pub filled_all : (q : AtPort) (size : ℕ) (old mid new : List Call) (a b d e : Numbers) (v w : Receive) (s : Sender)
+    → IsReceiveReady q size old a mid b v → IsTransmitReady q size mid b new d s → Keeps d v e w []
+    → HasAll a (with_rings e w s) []
+filled_all q size old mid new a b d e v w s ready also keeps =
+    let out : List ℕ = blocks_out w ++ transmit.lent_of s in
+    both_rings a e w s []
+    (keeps_counted a e [] out (out ++ []) (λ n. omega (arith, times-append out [] n))
+    (filled_has q size old mid new a b d e v w s ready also keeps))
+
+-- what a start leaves that is refused
+
+pub half_whole : (a : Numbers) (q : AtPort) (h : Halted) (r : Rest) → HasAll a h [] → IsHalfStarted q h r → IsWhole a r
+half_whole a q h r all is = subst (λ (x : Rest). IsWhole a x) (sym is) (all.owns, λ none. all)
+
+pub home_whole : (a : Numbers) (r : Rest) → IsHome a r → IsWhole a r
+home_whole a (rest.Home h) (arena, lost, handed, accepted) = rw arena (λ n. refl, λ none n. refl)
+home_whole a (rest.Running p) is = absurd is

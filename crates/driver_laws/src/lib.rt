@@ -1,8 +1,8 @@
 //! What holds of a driver that receives and sends on a queue of a shared device, over whatever others do meanwhile.
 //!
-//! Each law is the contract of a function that does nothing. How a driver's two halves follow from the calls of its pass
-//! is said by crate `pmd`; `specs/Agreeing` says what the device and both halves agree on, and `specs/Histories` what a
-//! history is that leaves the driver's queue alone.
+//! Each law is the contract of a function that does nothing. How a driver's two halves follow from the calls of its
+//! pass is said by crate `pmd`; `specs/Agreeing` says what the device and both halves agree on, and `specs/Histories`
+//! what a history is that leaves the driver's queue alone.
 #![tactic(auto)]
 
 ghost use Rattle.driver_laws.specs.Going.{ReceivingGoesOn, SendingGoesOn, OthersGoOn, HalvesGoOn};

@@ -1,8 +1,8 @@
 //! What no contract says of a shared device and of the driver: that calls of several threads on one device return, each
-//! with the reply to its own event, and that the shared device then closes; that the driver's calls succeed where memory
-//! is ample, over a device in hand, among foreign events and over one that threads share, that what they write is what
-//! the device then does, and that a driver comes to its end whatever others do to its queue, also beside another on
-//! threads.
+//! with the reply to its own event, and that the shared device then closes; that the driver's calls succeed where
+//! memory is ample, over a device in hand, among foreign events and over one that threads share, that what they write
+//! is what the device then does, and that a driver comes to its end whatever others do to its queue, also beside
+//! another on threads.
 #![tactic(auto)]
 
 #[cfg(test)]

@@ -3,8 +3,8 @@
 //! `Nic` is the seam to the device: a call makes some foreign events and then its own. `Direct` is a device in hand,
 //! which it steps on before each call. `noted.rt` has the making of an event that is kept as a note, `accesses.rt` the
 //! accesses that a driver makes, each with the replies that it can have; `pf_setup` sets the whole device up;
-//! `slots.rt` goes round a driver's ring; and `Homeward` takes blocks back. Contracts see what a way to a device made as
-//! the list of its calls.
+//! `slots.rt` goes round a driver's ring; and `Homeward` takes blocks back. Contracts see what a way to a device made
+//! as the list of its calls.
 #![tactic(auto)]
 
 mod accesses;

@@ -33,7 +33,7 @@ module _ (w : Watched) (fifo : ℕ) (h : List Entry) (q : AtPort) (size : ℕ) (
       steps = x.steps.start;
       filled = x.steps.filled;
       since =
-          subst (λ (calls : List Call). GoesOn lived.lives.made (halves_of lived.lives.fresh) calls (halves_of lived.last))
+          subst (λ (cs : List Call). GoesOn lived.lives.made (halves_of lived.lives.fresh) cs (halves_of lived.last))
           (sym x.calls) (lived.lives.drives, x.steps.since);
     };
     begins = x.begins;

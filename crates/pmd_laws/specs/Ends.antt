@@ -29,12 +29,12 @@ pub record LivedAmongSteps (q : AtPort) (size : ℕ) (old : List Call) (a : Numb
 
 -- a legal history of a new device that leaves the queue alone, up to where a driver that lived was to stop
 pub record IsToStop (w : Watched) (fifo : ℕ) (h : List Entry) (q : AtPort) (size : ℕ) (old : List Call) (a : Numbers)
-    (new : List Call) (left : Rest) (late : Option PmdFault) (lived : HasLived q size old a new left late) : Type 0 where
+    (new : List Call) (left : Rest) (late : Option PmdFault) (life : HasLived q size old a new left late) : Type 0 where
   pub along : IsAlong w fifo h
   pub sized : is_size size ≡ true
-  pub steps : LivedAmongSteps q size old a new left late lived
-  pub calls : calls_of w.pass h ≡ lived.made
-  pub begins : BeginsWell w fifo h q size old a lived.lives.made lived.lives.fresh lived.lives.up
+  pub steps : LivedAmongSteps q size old a new left late life
+  pub calls : calls_of w.pass h ≡ life.made
+  pub begins : BeginsWell w fifo h q size old a life.lives.made life.lives.fresh life.lives.up
 
 -- what the driver left as handed out is a prefix of what was delivered, and what was sent a prefix of what it left as
 -- accepted

@@ -58,8 +58,9 @@ pub fn driver_in_order()
     ensures idle { told.IdleIsAllSent }
 {}
 
-/// Over such a history up to where a driver that lived was to stop, as `worker_runs::run_worker` says of its driver: what
-/// is left as handed out is a prefix of what was delivered, and what was sent a prefix of what is left as accepted.
+/// Over such a history up to where a driver that lived was to stop, as `worker_runs::run_worker` says of its driver:
+/// what is left as handed out is a prefix of what was delivered, and what was sent a prefix of what is left as
+/// accepted.
 pub fn what_is_left_is_in_order()
     ensures { LeftIsPrefix }
 {}

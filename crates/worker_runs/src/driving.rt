@@ -164,8 +164,8 @@ fn drive<G: Gate, N: Nic>(
 /// for a packet, each of which it tells of and sends again, reaps what it sent, passes point 2, and stops the driver.
 ///
 /// Where a call of the driver fails or the gate is shut, it leaves the gate, stops the driver once, and tells why. Its
-/// reports are those of the packets that its driver handed out: one each, in order, numbered from 0. The calls that were
-/// made are this one driver's life, beside what its way to the device adds.
+/// reports are those of the packets that its driver handed out: one each, in order, numbered from 0. The calls that
+/// were made are this one driver's life, beside what its way to the device adds.
 pub fn run_worker<G: Gate, N: Nic>(
     alloc: Global,
     nic: &mut N,

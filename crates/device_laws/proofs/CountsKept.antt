@@ -36,7 +36,8 @@ not_read other q p is n = refl
 not_written : (q p : Place) → (row_of p.row).kind ≡ kind.Rc → (of_write q).words p ≡ false
 not_written q p is =
     elim (cases_Bool (is_place q p)) as (λ _. (of_write q).words p ≡ false) [
-      | inl same ↦ ap (λ k. (written_by k q).words p) (ap (λ (x : Place). (row_of x.row).kind) (is_place-same q p same) ∙ is)
+      | inl same ↦
+          ap (λ k. (written_by k q).words p) (ap (λ (x : Place). (row_of x.row).kind) (is_place-same q p same) ∙ is)
       | inr other ↦ none_written_by p (ap is_pending is) (row_of q.row).kind q other
     ]
 

@@ -116,7 +116,8 @@ module _ (row : RowId) (is : IsSetting row) where
       word_stands s (event.Write port n word)
       (none_written (mode_in s.registers) (named s port n) word (λ p view found. other port n word p view refl found))
   setting_stands s (event.Arrive frame) other =
-      word_stands s (event.Arrive frame) (neither _ _ (none_owned owner.Counters refl) (none_pending here is.quiet group.Pf))
+      word_stands s (event.Arrive frame)
+      (neither _ _ (none_owned owner.Counters refl) (none_pending here is.quiet group.Pf))
   setting_stands s event.RxStep other = word_stands s event.RxStep (none_received s.waiting _)
   setting_stands s (event.TxStep queue) other = word_stands s (event.TxStep queue) (none_stepped Tx queue)
   setting_stands s (event.IntStep g) other = word_stands s (event.IntStep g) (none_pending here is.quiet g)

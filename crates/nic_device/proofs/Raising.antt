@@ -95,8 +95,8 @@ piece-comes r vfs queue f =
     let head = head_moved r Rx queue f.head (λ (is : f.head < 2 ^ 16). is) in
     either_way (Comes (f.head < 2 ^ 16) (of_step Rx queue) r) f.end (raised_by ended vfs Rx queue) moved
     (raised_by_queue (of_step Rx queue) r ended vfs Rx queue (covers-counts Rx queue have_causes)
-    (function_counted_in (of_step Rx queue) r _ (function_of_queue moved vfs queue) Vfgprc (covers-counts Rx queue have_functions)
-    (record { bank = refl; kind = refl })
+    (function_counted_in (of_step Rx queue) r _ (function_of_queue moved vfs queue) Vfgprc
+    (covers-counts Rx queue have_functions) (record { bank = refl; kind = refl })
     (counted_in (of_step Rx queue) r moved Qprc (counter_of moved Rx queue) (covers-counts Rx queue have_counters)
     (record { bank = refl; kind = refl }) head)))
     head
@@ -107,11 +107,12 @@ pub slot_counted-comes : (r : Registers) (vfs queue : ℕ) (f : Fetched) (o : Op
     → Comes (f.head < 2 ^ 16) (of_step Tx queue) r (slot_counted r vfs queue f o)
 slot_counted-comes r vfs queue f (Some frame) =
     let moved = with_head r Tx queue f.head in
-    function_counted_in (of_step Tx queue) r _ (function_of_queue r vfs queue) Vfgptc (covers-counts Tx queue have_functions)
+    function_counted_in (of_step Tx queue) r _ (function_of_queue r vfs queue) Vfgptc
+    (covers-counts Tx queue have_functions) (record { bank = refl; kind = refl })
+    (counted_in (of_step Tx queue) r (counted moved Gptc 0) Qptc (counter_of r Tx queue)
+    (covers-counts Tx queue have_counters) (record { bank = refl; kind = refl })
+    (counted_in (of_step Tx queue) r moved Gptc 0 (covers-counts Tx queue have_counters)
     (record { bank = refl; kind = refl })
-    (counted_in (of_step Tx queue) r (counted moved Gptc 0) Qptc (counter_of r Tx queue) (covers-counts Tx queue have_counters)
-    (record { bank = refl; kind = refl })
-    (counted_in (of_step Tx queue) r moved Gptc 0 (covers-counts Tx queue have_counters) (record { bank = refl; kind = refl })
     (head_moved r Tx queue f.head (λ (is : f.head < 2 ^ 16). is))))
 slot_counted-comes r vfs queue f None = head_moved r Tx queue f.head (λ (is : f.head < 2 ^ 16). is)
 

@@ -17,7 +17,7 @@ use Rattle.pmd.specs.Starting.{GoingOnFails, PreparingFails, ReceiveFails}
 use Rattle.start_laws.specs.Along.{BeforeLast}
 use Rattle.start_laws.specs.Points.{HasGround, StepsBefore}
 use Rattle.start_laws.specs.Quieting.{IsQuiet}
-use Rattle.start_laws.proofs.On.{switched_sides_agree}
+use Rattle.start_laws.proofs.On.{switched_sides_agree, switched_sides_go_on}
 use Rattle.begin_laws.specs.Faultless.{BeforeNext}
 use Rattle.begin_laws.specs.Filling.{FaultsEarly, FaultsFilling, FaultsAreEarlyOrFilling, NoFaultIsEarly, FillingBeginsWell}
 use Rattle.begin_laws.proofs.Faultless.{receive_is_ready, switching_is_never_stray, transmit_is_ready}
@@ -86,7 +86,11 @@ first_ground w q fifo h row on old new at (number, word, named, is, (before, add
     (at before (call_of (event.Read q.port number) (reply.Word word)) steps refl done rest e all own calls).ground)
 
 pub filling_begins_well : FillingBeginsWell
-filling_begins_well w q fifo h size old a new along sized at x steps =
+filling_begins_well w q fifo h size old a new along sized at x steps done rest all calls =
     let quiet = x.on.receive.quiet in
-    switched_sides_agree w fifo h q size old a x.mid x.empty x.sender x.on along sized steps
-    (first_ground w q fifo h Rxdctl false old quiet.0 at quiet.1 steps.quiet.0)
+    let well = first_ground w q fifo h Rxdctl false old quiet.0 at quiet.1 steps.quiet.0 in
+    let on = switched_sides_go_on w fifo h q size old a x.mid x.empty x.sender x.on along sized steps well done rest all
+    calls in
+    let agree = switched_sides_agree w fifo h q size old a x.mid x.empty x.sender x.on along sized steps well done rest
+    all calls in
+    (on.receives, agree.0, agree.1)

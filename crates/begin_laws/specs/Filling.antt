@@ -16,6 +16,7 @@ use Rattle.pmd.specs.Started.{StopsStarting, is_size}
 use Rattle.pmd.specs.Starting.{IsReceiveReady, IsTransmitReady, PreparingFails, ReceiveFails}
 use Rattle.pmd.specs.declared.start.StartRefused.{StartRefused}
 use Rattle.receive_laws.specs.Joint.{Agree}
+use Rattle.receive_laws.specs.Up.{IsUp}
 use Rattle.transmit_laws.specs.Agreeing.{Agrees}
 use Rattle.start_laws.specs.Along.{AtCalls, IsAlong}
 use Rattle.start_laws.specs.On.{AreOn, StepsToOn}
@@ -91,10 +92,10 @@ NoFaultIsEarly =
     (x : FaultsEarly q size old a new) → StepsEarly q size old a new x → LendsFresh w fifo h q size old a new x →
     Never w fifo h new
 
--- and as it began to fill the ring the device and the driver agreed on both sides
+-- and as it began to fill the ring the device and the driver agreed on both sides, and the receive side was up
 abbrev pub FillingBeginsWell : Type 0
 FillingBeginsWell =
     (w : Watched) (q : AtPort) (fifo : ℕ) (h : List Entry) (size : ℕ) (old : List Call) (a : Numbers)
     (new : List Call) → IsAlong w fifo h → is_size size ≡ true → BeforeNext w fifo h old (IsQuiet w.queue q) →
     (x : FaultsFilling q size old a new) → StepsToOn q size old a x.mid x.empty x.sender x.on →
-    AtCalls w fifo h x.mid (λ s. Agree w.queue s [] x.empty × Agrees s w.queue [] x.sender)
+    AtCalls w fifo h x.mid (λ s. IsUp w.queue s × Agree w.queue s [] x.empty × Agrees s w.queue [] x.sender)

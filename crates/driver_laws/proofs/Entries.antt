@@ -22,9 +22,11 @@ use Rattle.history_laws.proofs.Aligned.{events_aligned}
 use Rattle.history_laws.proofs.Modes.{event_told}
 use Rattle.receive_laws.specs.Joint.{Agree}
 use Rattle.receive_laws.specs.Pieces.{Piece, pieces}
-use Rattle.receive_laws.proofs.Kept.{leaving_keeps}
+use Rattle.receive_laws.specs.Up as received
+use Rattle.receive_laws.proofs.Leaving.{leaving_keeps}
 use Rattle.receive_laws.proofs.Mine.{LendsMine, mine_driven}
 use Rattle.receive_laws.proofs.Own.{own_keeps}
+use Rattle.receive_laws.proofs.Up.{alone_stays_up, left_up, own_stays_up}
 use Rattle.transmit_laws.specs.Sent.{sent_by}
 use Rattle.transmit_laws.specs.Turns.{MayMove}
 use Rattle.transmit_laws.specs.Up.{IsUp}
@@ -38,7 +40,7 @@ use Rattle.driver_laws.proofs.Each.{each_all}
 use Rattle.driver_laws.proofs.Lending.{receive_lent}
 use Rattle.driver_laws.proofs.Meeting.{Meets, Kept, neither_keeps, spared_by}
 use Rattle.driver_laws.proofs.Receiving.{own_spares}
-use Rattle.driver_laws.proofs.Sending.{is_elsewhere, move_spares, sender_lent}
+use Rattle.driver_laws.proofs.Sending.{is_elsewhere, move_side, move_spares, sender_lent}
 
 -- a move is an event that writes no piece
 no_pieces : (queue : ℕ) (s : State) (h : Halves) (m : Move) (e : Event Block) → is_elsewhere m ≡ false
@@ -127,7 +129,7 @@ module _ (w : Watched) (mine : Blocks) (mode : Mode) (s : State) (out : List Pie
       neither_keeps w mine mode s out sent h m e made steps (others refl).0 (others refl).1
   doer_keeps (Sends move) own others lends = sends_keeps move refl own (lends refl)
 
-  -- and where the transmit side is up it stays so
+  -- and where a side is up it stays so
 
   stays_up : (move : Move) → MayMove w.queue h.transmit s e move → IsUp w.queue s → IsUp w.queue t
   stays_up move may up = up_stays s w.queue sent h.transmit e move m.both.transmit may up
@@ -143,6 +145,17 @@ module _ (w : Watched) (mine : Blocks) (mode : Mode) (s : State) (out : List Pie
       stays_up Elsewhere
       (spared_by w mine mode s out sent h m e made steps e made registers (others refl).1 steps) up
   doer_stays_up (Sends move) own others up = stays_up move (may_move w.queue s h move e refl own made) up
+
+  pub doer_receives_up : (d : Doer) → OwnCall h d (call_of e (reply_to s e))
+      → (is_neither d ≡ true → LeavesRegisters w mode e × LeavesBlocks mine e) → received.IsUp w.queue s
+      → received.IsUp w.queue t
+  doer_receives_up Receives own others up = own_stays_up w.queue s out h.receive e m.sound m.both.receive own up
+  doer_receives_up (Sends Elsewhere) own others up =
+      alone_stays_up w s out h.receive e m.vfs m.sound m.both.receive
+      (subst (λ k. LeavesRegisters w k e) m.mode_is (others refl).0) up
+  doer_receives_up (Sends move) own others up =
+      left_up w.queue s t
+      (move_side s w.queue sent h.transmit m.both.transmit.0 m.both.transmit.1 move e refl own) up
 
   pub goes_on : (k : Halves) → Agrees k
       → Meets w mine (mode_after w.vfs mode e) t (out ++ pieces w.queue s e) (sent ++ sent_by w.queue s e) k

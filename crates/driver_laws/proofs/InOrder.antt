@@ -56,7 +56,7 @@ module _ (w : Watched) (fifo : ℕ) (start rest : List Entry) (h : Halves) (doer
   delivered_is : delivered w.queue new (start ++ rest) ≡ packets_of (pieces_in w.queue here rest)
   delivered_is =
       ap packets_if_any (since-append w.queue new None start rest
-      ∙ ap (λ so_far. pieces_since w.queue here so_far rest) d.on ∙ led.since [])
+      ∙ ap (λ so_far. pieces_since w.queue here so_far rest) d.on ∙ led.since d.up [])
 
   handed : receive.IsPrefixOf last.receive.handed (delivered w.queue new (start ++ rest))
   handed =

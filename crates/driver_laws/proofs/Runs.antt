@@ -18,13 +18,14 @@ use Rattle.history_laws.specs.Alone.{AllAlone}
 use Rattle.history_laws.specs.Laws.{AreEvents}
 use Rattle.receive_laws.specs.Delivered.{pieces_in, pieces_since}
 use Rattle.receive_laws.specs.Pieces.{Piece, pieces}
+use Rattle.receive_laws.specs.Up as received
 use Rattle.receive_laws.proofs.Mine.{LendsMine}
 use Rattle.transmit_laws.specs.Sent.{sent_by, sent_in, sent_since}
 use Rattle.transmit_laws.specs.Up.{IsUp}
 use Rattle.driver_laws.specs.Agreeing.{BothAgree}
 use Rattle.pmd.specs.Halves.{Halves, Doer, OwnCall, AllOwn, after_call, is_neither, played_by}
 use Rattle.driver_laws.specs.Histories.{OthersLeaveAlone, doer_of, doers_after}
-use Rattle.driver_laws.proofs.Entries.{doer_keeps, doer_stays_up, goes_on}
+use Rattle.driver_laws.proofs.Entries.{doer_keeps, doer_receives_up, doer_stays_up, goes_on}
 use Rattle.driver_laws.proofs.Meeting.{Meets}
 use Rattle.driver_laws.proofs.Next.{lends_mine, next_by}
 
@@ -32,7 +33,9 @@ use Rattle.driver_laws.proofs.Next.{lends_mine, next_by}
 pub record Led (w : Watched) (s : State) (out : List Piece) (sent : List (List ℕ)) (es : List Entry) (k : Halves) :
     Type 0 where
   pub both : BothAgree w.queue (leads_to s es) (out ++ pieces_in w.queue s es) (sent ++ sent_in w.queue s es) k
-  pub since : (so_far : List Piece)
+  pub receives : received.IsUp w.queue s → received.IsUp w.queue (leads_to s es)
+  pub sends : IsUp w.queue s → IsUp w.queue (leads_to s es)
+  pub since : received.IsUp w.queue s → (so_far : List Piece)
       → pieces_since w.queue s (Some so_far) es ≡ Some (so_far ++ pieces_in w.queue s es)
   pub counted : IsUp w.queue s → (so_far : List (List ℕ))
       → sent_since w.queue s so_far es ≡ so_far ++ sent_in w.queue s es
@@ -47,29 +50,34 @@ ended w s out sent h both = record {
   both =
       subst (λ xs. BothAgree w.queue s xs (sent ++ []) h) (sym (append-nil out))
       (subst (λ ys. BothAgree w.queue s out ys h) (sym (append-nil sent)) both);
-  since = λ so_far. ap (λ xs. Some xs) (sym (append-nil so_far));
+  receives = λ up. up;
+  sends = λ up. up;
+  since = λ up so_far. ap (λ xs. Some xs) (sym (append-nil so_far));
   counted = λ up so_far. sym (append-nil so_far);
 }
 
 led_on : (w : Watched) (s : State) (out : List Piece) (sent : List (List ℕ)) (h : Halves) (e : Entry) (es : List Entry)
-    (k : Halves) → BothAgree w.queue s out sent h → (IsUp w.queue s → IsUp w.queue (after s e.event))
+    (k : Halves) → BothAgree w.queue s out sent h
+    → (received.IsUp w.queue s → received.IsUp w.queue (after s e.event))
+    → (IsUp w.queue s → IsUp w.queue (after s e.event))
     → Led w (after s e.event) (out ++ pieces w.queue s e.event) (sent ++ sent_by w.queue s e.event) es k
     → Led w s out sent (e ∷ es) k
-led_on w s out sent h e es k both stays l =
+led_on w s out sent h e es k both receives stays l =
     let t = after s e.event in
     let ps = pieces w.queue s e.event in
     let fs = sent_by w.queue s e.event in
-    let (gone, here, holds) = both.receive in
     record {
       both =
           subst (λ xs. BothAgree w.queue (leads_to t es) xs (sent ++ (fs ++ sent_in w.queue t es)) k)
           (append_assoc out ps (pieces_in w.queue t es))
           (subst (λ ys. BothAgree w.queue (leads_to t es) ((out ++ ps) ++ pieces_in w.queue t es) ys k)
           (append_assoc sent fs (sent_in w.queue t es)) l.both);
-      since = λ so_far.
+      receives = λ up. l.receives (receives up);
+      sends = λ up. l.sends (stays up);
+      since = λ up so_far.
           ap (λ b. pieces_since w.queue t (cond b (Some []) (Some (so_far ++ ps))) es)
-          (not_on (is_on s.registers Rx w.queue) (is_on t.registers Rx w.queue) holds.side.on)
-          ∙ l.since (so_far ++ ps) ∙ ap (λ xs. Some xs) (append_assoc so_far ps (pieces_in w.queue t es));
+          (not_on (is_on s.registers Rx w.queue) (is_on t.registers Rx w.queue) up.on)
+          ∙ l.since (receives up) (so_far ++ ps) ∙ ap (λ xs. Some xs) (append_assoc so_far ps (pieces_in w.queue t es));
       counted = λ up so_far.
           ap (λ b. sent_since w.queue t (cond b [] (so_far ++ fs)) es)
           (not_on (is_on s.registers Tx w.queue) (is_on t.registers Tx w.queue) up.on)
@@ -115,6 +123,17 @@ module _ (w : Watched) (mine : Blocks) where
       (goes_on w mine mode s out sent h m e.event made steps (after_call h d (call_of e.event (reply_to s e.event)))
       keeps)
 
+  one_receives_up : (mode : Mode) (s : State) (out : List Piece) (sent : List (List ℕ)) (h : Halves)
+      (doers : List Doer) (e : Entry) (b : Bool) → (e.pass == w.pass) ≡ b → Meets w mine mode s out sent h
+      → e.reply ≡ reply_to s e.event → IsEvent e.event → EntryLeavesAlone w mine mode e
+      → (e.pass ≡ w.pass → IsTrue (is_neither (doer_of true doers))
+      → LeavesRegisters w mode e.event × LeavesBlocks mine e.event)
+      → OwnCall h (doer_of b doers) (call_in e) → received.IsUp w.queue s → received.IsUp w.queue (after s e.event)
+  one_receives_up mode s out sent h doers e b is m legal made alone others own =
+      let d = doer_of b doers in
+      doer_receives_up w mine mode s out sent h m e.event made (subst (WritesOutside w.queue mine) legal alone.steps) d
+      (subst (λ r. OwnCall h d (call_of e.event r)) legal own) (others_leave mode doers e b is alone others)
+
   one_stays_up : (mode : Mode) (s : State) (out : List Piece) (sent : List (List ℕ)) (h : Halves) (doers : List Doer)
       (e : Entry) (b : Bool) → (e.pass == w.pass) ≡ b → Meets w mine mode s out sent h → e.reply ≡ reply_to s e.event
       → IsEvent e.event → EntryLeavesAlone w mine mode e
@@ -141,6 +160,7 @@ module _ (w : Watched) (mine : Blocks) where
       (λ n is. covers n (or_left _ _ is)) in
       subst (Led w s out sent (e ∷ es)) (sym next.played)
       (led_on w s out sent h e es _ m.both
+      (one_receives_up mode s out sent h doers e b refl m legal.0 events.0 alone.0 others.0 next.own)
       (one_stays_up mode s out sent h doers e b refl m legal.0 events.0 alone.0 others.0 next.own)
       (leads (mode_after w.vfs mode e.event) (after s e.event) (out ++ pieces w.queue s e.event)
       (sent ++ sent_by w.queue s e.event) k (doers_after b doers) es then legal.1 events.1 alone.1 next.rest others.1

@@ -98,7 +98,7 @@ module _ (s : State) (queue : ℕ) (sent : List (List ℕ)) (u : Sender) (f : �
   move_setting Elsewhere e real own = cc
   move_setting m e real own = absurd own
 
-  move_side : (m : Move) (e : Event Block) → is_elsewhere m ≡ false → IsOwn u m e
+  pub move_side : (m : Move) (e : Event Block) → is_elsewhere m ≡ false → IsOwn u m e
       → LeavesReceive queue s (after s e)
   move_side (Accepts p) (event.Lend b) real own = (memory_rest.lend s b).queues.receive queue
   move_side Asks (event.Poke16 a bytes) real own = (memory_rest.poke s a bytes).queues.receive queue

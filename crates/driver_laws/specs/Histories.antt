@@ -14,6 +14,7 @@ use Rattle.history_laws.specs.Laws.{AreEvents}
 use Rattle.receive_laws.specs.Delivered as receive
 use Rattle.receive_laws.specs.Delivered.{delivered, pieces_since}
 use Rattle.receive_laws.specs.Histories.{FindsNone}
+use Rattle.receive_laws.specs.Up as receiving
 use Rattle.transmit_laws.specs.Agreeing.{bytes_of}
 use Rattle.transmit_laws.specs.Laws as transmit
 use Rattle.transmit_laws.specs.Sent.{sent_in, sent_since}
@@ -42,7 +43,7 @@ OthersLeaveAlone w mine mode doers (e ∷ es) =
     × OthersLeaveAlone w mine (mode_after w.vfs mode e.event) (doers_after (e.pass == w.pass) doers) es
 
 -- a history of a new device that leaves the queue alone, with the driver's pass. As its first entries end, the queue's
--- receive side has gone on and nothing is written yet, and the device agrees with both halves. Of the others those of
+-- receive side has gone on and is up, nothing is written yet, and the device agrees with both halves. Of the others those of
 -- the pass are the halves', or leave the queue alone
 pub record IsDriven (w : Watched) (fifo : ℕ) (start rest : List Entry) (h : Halves) (doers : List Doer) : Type 0 where
   pub new : IsSound (new_state w.vfs fifo)
@@ -51,6 +52,7 @@ pub record IsDriven (w : Watched) (fifo : ℕ) (start rest : List Entry) (h : Ha
   pub alone : LeavesAlone w (start ++ rest)
   pub begun : IsTrue (has_begun w.pass start)
   pub on : pieces_since w.queue (new_state w.vfs fifo) None start ≡ Some []
+  pub up : receiving.IsUp w.queue (leads_to (new_state w.vfs fifo) start)
   pub agree : BothAgree w.queue (leads_to (new_state w.vfs fifo) start) [] [] h
   pub lent : AreLent (lent_by w.pass (start ++ rest)) h
   pub own : AllOwn h doers (calls_of w.pass rest)

@@ -115,6 +115,7 @@ module _ (w : Watched) (fifo : ℕ) (h : List Entry) (q : AtPort) (size : ℕ) (
               on_some w fifo h q size old a started r up x.along x.life.sized x.life.steps x.begins
               (sym p.fronts ∙ none));
           on = went_on.received;
+          up = went_on.receives;
           agree = record { receive = agrees.0; transmit = agrees.1; apart = apart };
           lent = subst (λ (l : List Entry). AreLent (lent_by w.pass l) first) all lent;
           own = subst (AllOwn first doers) (sym p.backs) whole.0.3;

@@ -16,7 +16,6 @@ use Rattle.pmd_queue.specs.Named.{AtPort}
 use Rattle.pmd_rx.specs.Receive.{Receive}
 use Rattle.pmd_tx.specs.Sending.{Sender}
 use Rattle.receive_laws.specs.Delivered.{IsPrefixOf, delivered, packets_if_any, pieces_since}
-use Rattle.receive_laws.specs.Joint.{Agree}
 use Rattle.receive_laws.specs.Pieces.{Piece, packets_behind, packet_told, pieces}
 use Rattle.receive_laws.proofs.Delivering.{leads-append, since-append}
 use Rattle.start_laws.specs.Along.{AtEntries, IsAlong}
@@ -95,9 +94,6 @@ module _ (w : Watched) (fifo : ℕ) (h : List Entry) (q : AtPort) (size : ℕ) (
       (on_some w fifo h q size old a started r u x.along x.life.sized x.life.steps x.begins) at
       h [] (append-nil h) goes.0.2
 
-  agree_on : (s : State) (out : List Piece) (v : Receive) → Agree w.queue s out v → IsSettled w.queue s
-  agree_on s out v (gone, there, holds) = inl holds.side.on
-
   settled_by : Parts w.pass h (up w fifo h q size old a started r k x).on.mid
       (whole w fifo h q size old a started r k x).0.1 → IsSettled w.queue (leads_to (new_state w.vfs fifo) h)
   settled_by p =
@@ -106,7 +102,7 @@ module _ (w : Watched) (fifo : ℕ) (h : List Entry) (q : AtPort) (size : ℕ) (
       (whole w fifo h q size old a started r k x).0.0 d in
       subst (λ (g : List Entry). IsSettled w.queue (leads_to (new_state w.vfs fifo) g)) p.both
       (subst (IsSettled w.queue) (sym (leads-append (new_state w.vfs fifo) p.front p.back))
-      (agree_on _ _ _ l.both.receive))
+      (inl (l.receives d.up).on))
 
   -- and the receive side is on
   pub settled_lived : IsSettled w.queue (leads_to (new_state w.vfs fifo) h)

@@ -45,8 +45,6 @@ set_up_more : (l : Layout) (q : ReceiveQueue) (n m : ℕ) → IsSetUp q l n → 
     → next_of (slots_of q.ring) q.ring.head ≡ slot_at l (n + 1)
     → IsSetUp (record q { ring = moved_on q.ring }) l m
 set_up_more l q n m h e is = record {
-  on = h.on;
-  wanted = h.wanted;
   one_buffer = h.one_buffer;
   buffer_size = h.buffer_size;
   base = h.base;

@@ -108,8 +108,6 @@ module _ (m : Memory) (l : Layout) (here : List Piece) (ring : IsRing l) (h : Ha
       let e : 1 + length (drop 1 here) ≡ length here = omega (arith, fewer) in
       let f : 1 + length (drop 1 l.blocks) ≡ length l.blocks = omega (arith, less) in
       record {
-        on = up.on;
-        wanted = up.wanted;
         one_buffer = up.one_buffer;
         buffer_size = up.buffer_size;
         base = up.base;

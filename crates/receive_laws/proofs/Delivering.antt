@@ -80,6 +80,7 @@ module _ (w : Watched) (fifo : ℕ) (start rest : List Entry) (v : Receive) (mar
         vfs = sym (vfs_stays new start);
         mode_is = mode_told w.vfs fifo start d.new (events_before start rest d.events);
         agree = d.agree;
+        up = d.up;
         lent = d.lent;
       })
       (legal_behind new start rest d.legal) (events_behind start rest d.events)

@@ -30,12 +30,14 @@ use Rattle.receive_laws.specs.Joint.{Agree}
 use Rattle.receive_laws.specs.Pieces.{Piece, pieces}
 use Rattle.receive_laws.specs.Steps.{Each, IsMetBy, OwnReportsSpare}
 use Rattle.receive_laws.proofs.Foreign.{foreign_keeps, steps_keep}
-use Rattle.receive_laws.proofs.Kept.{leaving_keeps}
+use Rattle.receive_laws.proofs.Leaving.{leaving_keeps}
 use Rattle.receive_laws.proofs.Mine.{LendsMine, mine_driven}
+use Rattle.receive_laws.specs.Up.{IsUp}
 use Rattle.receive_laws.proofs.Own.{own_keeps}
+use Rattle.receive_laws.proofs.Up.{entry_stays_up, left_up, own_stays_up}
 
 -- what holds between two entries: the device is sound, its rings aligned, its image blank, the mode is the one that was
--- told, the two agree, and the driver's blocks are among these
+-- told, the two agree, the side is up, and the driver's blocks are among these
 pub record Meets (w : Watched) (mine : Blocks) (mode : Mode) (s : State) (out : List Piece) (v : Receive) : Type 0 where
   pub sound : IsSound s
   pub aligned : AreAligned s.registers
@@ -43,6 +45,7 @@ pub record Meets (w : Watched) (mine : Blocks) (mode : Mode) (s : State) (out : 
   pub vfs : w.vfs ≡ s.vfs
   pub mode_is : mode ≡ mode_in s.registers
   pub agree : Agree w.queue s out v
+  pub up : IsUp w.queue s
   pub lent : Each v (λ b. IsTrue (mine b))
 
 -- an event that is no step writes nothing on a queue
@@ -76,9 +79,9 @@ module _ (w : Watched) (mine : Blocks) (mode : Mode) (s : State) (out : List Pie
   met : IsMetBy w mode s e
   met = record { sound = m.sound; aligned = m.aligned; vfs = m.vfs; mode_is = m.mode_is; reply = legal; event = made }
 
-  goes_to : (u : Receive) → Agree w.queue t (out ++ pieces w.queue s e.event) u → Each u (λ b. IsTrue (mine b))
-      → Meets w mine (mode_after w.vfs mode e.event) t (out ++ pieces w.queue s e.event) u
-  goes_to u agree lent =
+  goes_to : (u : Receive) → Agree w.queue t (out ++ pieces w.queue s e.event) u → IsUp w.queue t
+      → Each u (λ b. IsTrue (mine b)) → Meets w mine (mode_after w.vfs mode e.event) t (out ++ pieces w.queue s e.event) u
+  goes_to u agree up lent =
       let stays = (step_leads s e.event).stays in
       record {
         sound = keeps_sound s m.sound e.event made;
@@ -87,6 +90,7 @@ module _ (w : Watched) (mine : Blocks) (mode : Mode) (s : State) (out : List Pie
         vfs = m.vfs ∙ sym stays.vfs;
         mode_is = (λ k. mode_after (m.vfs k) (m.mode_is k) e.event) ∙ event_told s m.sound m.image e.event;
         agree = agree;
+        up = up;
         lent = lent;
       }
 
@@ -99,6 +103,7 @@ module _ (w : Watched) (mine : Blocks) (mode : Mode) (s : State) (out : List Pie
       goes_to (after_call v true (call_in e))
       (subst (λ r. Agree w.queue t (out ++ pieces w.queue s e.event) (drive v e.event r)) (sym legal)
       (own_keeps w.queue s out v e.event m.sound m.agree own))
+      (own_stays_up w.queue s out v e.event m.sound m.agree own m.up)
       (mine_driven mine v m.lent e.event e.reply
       (lends_mine w.pass mine v e.pass e.event e.reply same own covers))
 
@@ -109,16 +114,21 @@ module _ (w : Watched) (mine : Blocks) (mode : Mode) (s : State) (out : List Pie
       subst (λ xs. Agree w.queue t (out ++ xs) v) (sym (none_written w.queue s e.event free.0))
       (subst (λ xs. Agree w.queue t xs v) (sym (append-nil out)) (leaving_keeps w.queue s t out v free.1 m.agree))
 
+  spared_up : SparesReceive w.queue v s e → IsUp w.queue t
+  spared_up (inl step) = entry_stays_up w mine mode s out v e met m.agree alone (inr step) m.up
+  spared_up (inr free) = left_up w.queue s t free.1.receive m.up
+
   -- another call of the pass
   unmarked_entry : SparesReceive w.queue v s e → OwnReportsSpare w.queue v s
       → Meets w mine (mode_after w.vfs mode e.event) t (out ++ pieces w.queue s e.event) v
-  unmarked_entry spares reports = goes_to v (spared spares reports) m.lent
+  unmarked_entry spares reports = goes_to v (spared spares reports) (spared_up spares) m.lent
 
   -- an entry of another pass
   pub foreign_entry : e.pass ≢ w.pass → OwnReportsSpare w.queue v s
       → Meets w mine (mode_after w.vfs mode e.event) t (out ++ pieces w.queue s e.event) v
   foreign_entry other reports =
-      goes_to v (foreign_keeps w mine mode s out v e met m.agree m.lent reports alone other) m.lent
+      goes_to v (foreign_keeps w mine mode s out v e met m.agree m.lent reports alone other)
+      (entry_stays_up w mine mode s out v e met m.agree alone (inl other) m.up) m.lent
 
   -- by its mark
   pub marked_entry : (b : Bool) → e.pass ≡ w.pass → OwnCall b v (call_in e)

@@ -31,7 +31,7 @@ use Rattle.receive_laws.specs.Joint.{Agree}
 use Rattle.receive_laws.specs.Pieces.{Piece, pieces}
 use Rattle.receive_laws.specs.Steps.{Each, Leaves, OwnReportsSpare, ForeignEntryKeeps, DeviceStepKeeps}
 use Rattle.receive_laws.proofs.Each.{each_map}
-use Rattle.receive_laws.proofs.Kept.{leaving_keeps}
+use Rattle.receive_laws.proofs.Leaving.{leaving_keeps}
 use Rattle.receive_laws.proofs.Received.{receive_keeps}
 use Rattle.receive_laws.proofs.Switching.{enable_keeps}
 use Rattle.receive_laws.proofs.Transmitting.{not_mine, transmit_leaves}
@@ -85,7 +85,7 @@ module _ (w : Watched) (mine : Blocks) (s : State) (out : List Piece) (v : Recei
     | inl own ↦
         subst (λ q. Agree w.queue (after s (event.QueueStep Rx q)) (out ++ []) v) (sym own)
         (subst (λ xs. Agree w.queue (after s (event.QueueStep Rx w.queue)) xs v) (sym (append-nil out))
-        (enable_keeps w.queue s out v j))
+        (enable_keeps w.queue s out v sound j))
     | inr ne ↦
         quiet (event.QueueStep Rx queue) tt
         ((switching_rest s Rx queue).sides.receive w.queue (inr (λ e. ne (sym e))))

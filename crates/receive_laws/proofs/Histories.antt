@@ -20,6 +20,7 @@ use Rattle.receive_laws.specs.Delivered.{pieces_in, pieces_since}
 use Rattle.receive_laws.specs.Histories.{AllSpare, mark_of, marks_after}
 use Rattle.receive_laws.specs.Joint.{Agree}
 use Rattle.receive_laws.specs.Pieces.{Piece, pieces}
+use Rattle.receive_laws.specs.Up.{IsUp}
 use Rattle.receive_laws.proofs.Entries.{Meets, foreign_entry, marked_entry}
 
 -- the calls of a pass, entry by entry
@@ -43,15 +44,14 @@ not_on true b e = refl
 not_on false b e = cc
 
 on_after : (w : Watched) (s : State) (out : List Piece) (v x : Receive) (e : Entry) (es : List Entry) (u : Receive)
-    → Agree w.queue s out v → Led w (after s e.event) (out ++ pieces w.queue s e.event) x es u
-    → Led w s out v (e ∷ es) u
-on_after w s out v x e es u (gone, here, h) l =
+    → IsUp w.queue s → Led w (after s e.event) (out ++ pieces w.queue s e.event) x es u → Led w s out v (e ∷ es) u
+on_after w s out v x e es u up l =
     let t = after s e.event in
     let ps = pieces w.queue s e.event in record {
       agree = subst (λ xs. Agree w.queue (leads_to t es) xs u) (append_assoc out ps (pieces_in w.queue t es)) l.agree;
       since = λ so_far.
           ap (λ b. pieces_since w.queue t (cond b (Some []) (Some (so_far ++ ps))) es)
-          (not_on (is_on s.registers Rx w.queue) (is_on t.registers Rx w.queue) h.side.on)
+          (not_on (is_on s.registers Rx w.queue) (is_on t.registers Rx w.queue) up.on)
           ∙ l.since (so_far ++ ps) ∙ ap (λ xs. Some xs) (append_assoc so_far ps (pieces_in w.queue t es));
     }
 
@@ -81,7 +81,7 @@ module _ (w : Watched) (mine : Blocks) where
       let next = foreign_entry w mine mode s out v e m legal.0 events.0 alone.0 (eqb-false e.pass w.pass other)
       spare.0.reports in
       subst (λ calls. Led w s out v (e ∷ h) (played_by v marks calls)) (sym same)
-      (on_after w s out v v e h _ m.agree
+      (on_after w s out v v e h _ m.up
       (rest next legal.1 events.1 alone.1 (subst (AllOwn v marks) same own) spared
       (λ n is. covers n (or_right _ _ is))))
 
@@ -100,7 +100,7 @@ module _ (w : Watched) (mine : Blocks) where
       let next = marked_entry w mine mode s out v e m legal.0 events.0 alone.0 b pass here.0 (spare.0.unmarked pass)
       spare.0.reports (λ n own_lend. covers n (or_left _ _ own_lend)) in
       subst (λ calls. Led w s out v (e ∷ h) (played_by v (b ∷ marks) calls)) (sym same)
-      (on_after w s out v (after_call v b (call_in e)) e h _ m.agree
+      (on_after w s out v (after_call v b (call_in e)) e h _ m.up
       (rest next legal.1 events.1 alone.1 here.1 spared (λ n later. covers n (or_right _ _ later))))
 
   pub plays : (mode : Mode) (s : State) (out : List Piece) (v : Receive) (marks : List Bool) (h : List Entry)

@@ -1,5 +1,5 @@
--- What an event that leaves a queue's receive side leaves of the agreement: all of it.
-use Rattle.std.proofs.Common.{◌≡◌, ℕ, ◌+◌, ◌*◌, ◌≤◌, ◌<◌, List, length, refl, sym, ap, ◌∙◌, subst, arith}
+-- What stays of the agreement where memory, the mode and the number of functions do.
+use Rattle.std.proofs.Common.{◌≡◌, ℕ, ◌+◌, ◌*◌, ◌≤◌, ◌<◌, List, length, refl, ap, ◌∙◌, arith}
 use Rattle.std.specs.Prelude.{is_some}
 use Rattle.std.specs.FinMap as map
 use Rattle.dma_arena.specs.Memory.{Memory, has_block, read_at, LiesIn}
@@ -13,10 +13,10 @@ use Rattle.nic_device.specs.State.{State}
 use Rattle.nic_device.specs.declared.event.Port.{Port}
 use Rattle.nic_device.specs.declared.event.Port.TheVariants.{Pf, Vf}
 use Rattle.register_file.specs.Pools.{mode_in}
-use Rattle.pmd_rx.specs.Receive.{Layout, Stage, Looks, Sees, Holding, Lent, Named, Receive, slot_at, descriptor_at, block_at, vacant}
-use Rattle.receive_laws.specs.Joint.{IsPosted, IsFilled, IsRing, IsNamed, IsLoose, IsSetUp, StageHolds, HasSlots, Holds}
+use Rattle.pmd_rx.specs.Receive.{Layout, Stage, Looks, Sees, Holding, Lent, Named, slot_at, descriptor_at, block_at, vacant}
+use Rattle.receive_laws.specs.Joint.{IsPosted, IsFilled, IsRing, IsNamed, IsLoose, StageHolds, HasSlots}
 use Rattle.receive_laws.specs.Pieces.{Piece, piece_at}
-use Rattle.receive_laws.specs.Steps.{IfFresh, Leaves, LeavingKeeps}
+use Rattle.receive_laws.specs.Steps.{IfFresh}
 use Rattle.pmd_base.proofs.Places.{wrapped_below}
 use Rattle.receive_laws.proofs.Places.{slot_inside, bytes_inside}
 
@@ -118,17 +118,3 @@ same_name s t (Vf v) number mode vfs =
 pub named_kept : (s t : State) (queue : ℕ) (l : Layout) → mode_in t.registers ≡ mode_in s.registers → t.vfs ≡ s.vfs
     → IsNamed s queue l → IsNamed t queue l
 named_kept s t queue l mode vfs h = record { low = h.low; tail = same_name s t l.port l.tail mode vfs ∙ h.tail }
-
-pub leaving_holds : (queue : ℕ) (s t : State) (out : List Piece) (v : Receive) (gone here : List Piece)
-    → Leaves queue v s t → Holds queue s out v gone here → Holds queue t out v gone here
-leaving_holds queue s t out v gone here l h = record {
-  named = named_kept s t queue v.layout l.mode l.vfs h.named;
-  ring = h.ring;
-  side = subst (λ q. IsSetUp q v.layout (length here)) (sym l.receive) h.side;
-  slots = slots_kept v.layout s.memory t.memory h.ring l.blocks.ring here l.blocks.blocks h.slots;
-  stage = stage_kept v.layout s.memory t.memory h.ring l.blocks.ring here v.stage l.blocks.fresh h.stage;
-  order = h.order;
-}
-
-pub leaving_keeps : LeavingKeeps
-leaving_keeps queue s t out v l (gone, here, h) = (gone, here, leaving_holds queue s t out v gone here l h)

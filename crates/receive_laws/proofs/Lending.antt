@@ -13,7 +13,7 @@ use Rattle.pmd_rx.specs.Receive.{Stage, Looks, Sees, Holding, Lent, Named, Recei
 use Rattle.receive_laws.specs.Joint.{Holds, Agree}
 use Rattle.receive_laws.specs.Pieces.{Piece}
 use Rattle.receive_laws.specs.Steps.{IfFresh, Leaves}
-use Rattle.receive_laws.proofs.Kept.{leaving_holds}
+use Rattle.receive_laws.proofs.Leaving.{leaving_holds}
 use Rattle.receive_laws.proofs.Looking.{with_stage}
 
 -- a block is lent

@@ -13,6 +13,8 @@ pub mod Healthy
 pub mod Histories
 pub mod Inside
 pub mod Kept
+pub mod Leaving
+pub mod LeftReceive
 pub mod Lending
 pub mod Lent
 pub mod Looking
@@ -32,5 +34,6 @@ pub mod Switching
 pub mod Tail
 pub mod Taking
 pub mod Transmitting
+pub mod Up
 pub mod Waiting
 pub mod Writing

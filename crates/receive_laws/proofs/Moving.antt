@@ -74,8 +74,6 @@ module _ (m : Memory) (l : Layout) (here : List Piece) (b : ℕ) (ring : IsRing 
   set_up_more : (q : ReceiveQueue) → IsSetUp q l (length here)
       → IsSetUp (with_tail q (slot_at l (vacant l + 1))) (extended l b) (length here)
   set_up_more q up = record {
-    on = up.on;
-    wanted = up.wanted;
     one_buffer = up.one_buffer;
     buffer_size = up.buffer_size;
     base = up.base;
@@ -84,7 +82,7 @@ module _ (m : Memory) (l : Layout) (here : List Piece) (b : ℕ) (ring : IsRing 
     tail = ap (slot_at l) (sym more);
   }
 
-low_tail : (l : Layout) → IsRing l → length l.blocks + 1 < l.size → slot_at l (vacant l + 1) < 65536
+pub low_tail : (l : Layout) → IsRing l → length l.blocks + 1 < l.size → slot_at l (vacant l + 1) < 65536
 low_tail l ring room =
     let few = ring.few in
     let next = ring.next in

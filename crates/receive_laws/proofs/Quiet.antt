@@ -19,7 +19,7 @@ use Rattle.receive_laws.specs.Steps.{Each, Leaves, SparesBlocks}
 use Rattle.receive_laws.proofs.Cases.{IsOn}
 use Rattle.receive_laws.proofs.Spared.{IsSparedBy, spared_block}
 use Rattle.receive_laws.proofs.Each.{each_of, each_map}
-use Rattle.receive_laws.proofs.Kept.{leaving_keeps}
+use Rattle.receive_laws.proofs.Leaving.{leaving_keeps}
 
 other_tells : (queue first : ℕ) (ws : List Waiting) (r : Reply Block) → first ≢ queue → IsOn first r
     → pieces_told queue ws r ≡ []

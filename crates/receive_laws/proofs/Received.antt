@@ -5,6 +5,7 @@ use Rattle.std.specs.FinMap as map
 use Rattle.std.proofs.lemmas.Bool.{cases_lt, cases_eq, eq-eqb}
 use Rattle.std.proofs.lemmas.List.{append-nil}
 use Rattle.dma_arena.specs.Memory.{Memory}
+use Rattle.dma_ring.specs.declared.fault.RingFault.{RingFault}
 use Rattle.rx_ring.specs.declared.filled.Filled.{Filled}
 use Rattle.register_file.specs.Pools.{mode_in}
 use Rattle.register_file.specs.Queue.{ring_of}
@@ -22,16 +23,33 @@ use Rattle.device_laws.specs.Leaving.{IsFirstFor, LeavesReceive, LeavesBlock}
 use Rattle.device_laws.specs.Replies.{moved_on}
 use Rattle.pmd_rx.specs.Receive.{Receive}
 use Rattle.history_laws.proofs.RingsReceived.{slotless_stands}
-use Rattle.receive_laws.specs.Joint.{Agree}
+use Rattle.receive_laws.specs.Joint.{Agree, Holds}
 use Rattle.receive_laws.specs.Pieces.{Piece, pieces, pieces_told}
 use Rattle.receive_laws.specs.Steps.{SparesBlocks, ReceiveStepKeeps}
 use Rattle.receive_laws.proofs.Cases.{fill_on, IsTried, step_cases, wrote_first, wrote_none}
 use Rattle.receive_laws.proofs.Filled.{piece_in}
 use Rattle.receive_laws.proofs.Each.{each_of}
-use Rattle.receive_laws.proofs.Kept.{leaving_keeps}
+use Rattle.receive_laws.proofs.Leaving.{leaving_keeps}
 use Rattle.receive_laws.proofs.Receiving.{room_left, no_fault}
 use Rattle.receive_laws.proofs.Advancing.{Follows, follows, filled_holds}
 use Rattle.receive_laws.proofs.Quiet.{quiet_step}
+
+-- a slot is left where one is tried, and so there is no fault
+
+slot_left : (queue : ℕ) (s : State) (out : List Piece) (v : Receive) (gone here : List Piece)
+    → Holds queue s out v gone here → (w : Waiting) → w.queue ≡ queue → IsTried s w.queue
+    → length here < length v.layout.blocks
+slot_left queue s out v gone here h w mine tried =
+    room_left s queue v.layout here h.ring h.side h.slots
+    (subst (λ q. is_empty (receive_queue_of s.registers q).ring ≡ false) mine tried.some)
+    (cases_lt (length here) (length v.layout.blocks))
+
+pub never_faults : (queue : ℕ) (s : State) (out : List Piece) (v : Receive) → Agree queue s out v → (w : Waiting)
+    → w.queue ≡ queue → IsTried s w.queue → (fault : RingFault) → (fill_on s w.queue (rest_of w)).answer ≡ Err fault
+    → ⊥
+never_faults queue s out v (gone, here, h) w mine tried fault is =
+    no_fault s queue v.layout here h.ring h.side h.slots (slot_left queue s out v gone here h w mine tried) (rest_of w)
+    fault (subst (λ q. (fill_on s q (rest_of w)).answer ≡ Err fault) mine is)
 
 module _ (queue : ℕ) (s : State) (out : List Piece) (v : Receive) (sound : IsSound s) where
   abbrev Keeps : Outcome → Type 0
@@ -60,20 +78,13 @@ module _ (queue : ℕ) (s : State) (out : List Piece) (v : Receive) (sound : IsS
   own_step : Agree queue s out v → (w : Waiting) (others : List Waiting) → s.waiting ≡ w ∷ others → w.queue ≡ queue
       → Agree queue (after s event.RxStep) (out ++ pieces queue s event.RxStep) v
   own_step (gone, here, h) w others e mine =
-      let l = v.layout in
       let j : Agree queue s out v = (gone, here, h) in
       let fit : (rest_of w).first < 2 ^ 64 = told-lt w (subst AreWaiting e sound.waiting).0 in
-      let room : IsTried s w.queue → length here < length l.blocks =
-      λ tried. room_left s queue l here h.ring h.side h.slots
-      (subst (λ q. is_empty (receive_queue_of s.registers q).ring ≡ false) mine tried.some)
-      (cases_lt (length here) (length l.blocks)) in
       step_cases Keeps s w others e (record {
         idle = λ k. unchanged s j refl refl refl refl;
         dropped = λ k. unchanged _ j refl refl refl refl;
         slotless = λ k. unchanged _ j refl (slotless_stands s.registers w.queue queue) k.mode k.vfs;
-        fault = λ tried fault is.
-            absurd (no_fault s queue l here h.ring h.side h.slots (room tried) (rest_of w) fault
-            (subst (λ q. (fill_on s q (rest_of w)).answer ≡ Err fault) mine is));
+        fault = λ tried fault is. absurd (never_faults queue s out v j w mine tried fault is);
         filled = λ tried f is k.
             let here_is : (fill_on s queue (rest_of w)).answer ≡ Ok f =
             subst (λ q. (fill_on s q (rest_of w)).answer ≡ Ok f) mine is in
@@ -84,7 +95,8 @@ module _ (queue : ℕ) (s : State) (out : List Piece) (v : Receive) (sound : IsS
             subst (λ xs. Agree queue t (out ++ xs) v) (piece_told w others f e mine) (
               gone,
               here ++ piece_in (rest_of w) f ∷ [],
-              filled_holds queue s out v sound gone here h (room tried) (rest_of w) f t fit here_is
+              filled_holds queue s out v sound gone here h (slot_left queue s out v gone here h w mine tried)
+                  (rest_of w) f t fit here_is
                   (ap (λ q. (fill_on s q (rest_of w)).memory) mine) side k.mode k.vfs,
             );
       }) (follows s sound)

@@ -20,8 +20,6 @@ start_agrees queue port tail ring size s r = (
       apart = λ i j a b ne. absurd (omega (arith, a));
     };
     side = record {
-      on = r.side.on;
-      wanted = r.side.wanted;
       one_buffer = r.side.one_buffer;
       buffer_size = r.side.buffer_size;
       base = r.side.base;

@@ -1,26 +1,39 @@
--- A step of the enable of the queue's receive side: it is on as it is wanted, and so nothing changes.
-use Rattle.std.proofs.Common.{◌≡◌, ℕ, Bool, true, false, ◌||◌, refl, sym, subst, cond}
+-- A step of the enable of the queue's receive side keeps the agreement; and where the side is on and wanted on nothing
+-- changes.
+use Rattle.std.proofs.Common.{◌≡◌, ℕ, ◌<◌, Bool, true, false, ◌||◌, refl, ap, cond}
 use Rattle.std.specs.Prelude.{nat_lt}
 use Rattle.std.specs.Bool.{beq}
 use Rattle.std.proofs.lemmas.Bool.{cond_both, or_parts, both_ways}
-use Rattle.register_file.specs.Queue.{is_on}
+use Rattle.std.specs.FinMap as map
+use Rattle.dma_arena.specs.Memory.{Memory}
+use Rattle.register_file.specs.Queue.{is_on, switched}
 use Rattle.register_file.specs.Registers.{is_wanted}
 use Rattle.register_file.specs.Settings.{is_stopped}
 use Rattle.register_file.specs.declared.dir.Dir.TheVariants.{Rx}
 use Rattle.nic_device.specs.Outcome.{Outcome, gives}
+use Rattle.register_laws.specs.Sides.{ReceiveQueue, receive_queue_of}
+use Rattle.register_laws.proofs.Switches.{receive-switched}
+use Rattle.nic_device.specs.Sound.{IsSound}
 use Rattle.nic_device.specs.State.{State}
-use Rattle.nic_device.specs.Step.{step_of}
-use Rattle.nic_device.specs.Switching.{queue_switched, side_switched}
+use Rattle.nic_device.specs.Step.{after, step_of}
+use Rattle.nic_device.specs.Switching.{emptied, queue_switched, side_switched}
+use Rattle.nic_device.specs.declared.event.Event.TheVariants as event
 use Rattle.nic_device.specs.declared.event.Reply.TheVariants.{Done, Idle, NoQueue}
-use Rattle.receive_laws.specs.Joint.{Agree}
+use Rattle.nic_device.proofs.Cases.{either_way, switched_cases}
+use Rattle.device_laws.specs.Leaving.{LeavesBlock}
+use Rattle.device_laws.proofs.KeptSettings.{settings_stand}
+use Rattle.device_laws.proofs.Standing.{stays_within}
+use Rattle.device_laws.proofs.StandingQueues.{switching_rest}
 use Rattle.receive_laws.specs.Steps.{EnableStepKeeps}
+use Rattle.receive_laws.proofs.Each.{each_of}
+use Rattle.receive_laws.proofs.Leaving.{switching_keeps}
 
 as_wanted : (w o : Bool) → w ≡ true → o ≡ true → beq w o ≡ true
 as_wanted true true e f = refl
 as_wanted true false e f = cc
 as_wanted false o e f = cc
 
-switched_same : (s : State) (queue : ℕ) → is_wanted s.registers Rx queue ≡ true → is_on s.registers Rx queue ≡ true
+pub switched_same : (s : State) (queue : ℕ) → is_wanted s.registers Rx queue ≡ true → is_on s.registers Rx queue ≡ true
     → (queue_switched s Rx queue).state ≡ s
 switched_same s queue wanted on =
     let P : Outcome → Type 0 = λ o. o.state ≡ s in
@@ -32,7 +45,35 @@ switched_same s queue wanted on =
     (or_parts (is_stopped s.registers) _ other).1 (as_wanted _ _ wanted on))))
     (λ high. refl)
 
-pub enable_keeps : EnableStepKeeps
+-- the ring and the control word stay
+
+record SameRing (queue : ℕ) (s t : State) : Type 0 where
+  ring : (receive_queue_of t.registers queue).ring ≡ (receive_queue_of s.registers queue).ring
+  control : (receive_queue_of t.registers queue).control ≡ (receive_queue_of s.registers queue).control
+
+ring_stays : (queue : ℕ) (s : State) → IsSound s → queue < 128
+    → SameRing queue s (after s (event.QueueStep Rx queue))
 unfolding step_of
-enable_keeps queue s out v (gone, here, h) =
-    subst (λ (t : State). Agree queue t out v) (sym (switched_same s queue h.side.wanted h.side.on)) (gone, here, h)
+ring_stays queue s sound small =
+    let e = receive-switched s.registers sound.registers.shape queue small in
+    let none : SameRing queue s s = record { ring = refl; control = refl } in
+    let ring = ap (λ (q : ReceiveQueue). q.ring) e in
+    let control = ap (λ (q : ReceiveQueue). q.control) e in
+    switched_cases (λ (o : Outcome). SameRing queue s o.state) s Rx queue none none
+    (either_way (SameRing queue s) (is_wanted s.registers Rx queue)
+    (record s { registers = switched s.registers Rx queue })
+    (record (emptied s Rx queue) { registers = switched s.registers Rx queue })
+    (record { ring = ring; control = control }) (record { ring = ring; control = control }))
+
+pub enable_keeps : EnableStepKeeps
+enable_keeps queue s out v sound (gone, here, h) =
+    let t = after s (event.QueueStep Rx queue) in
+    let same = ring_stays queue s sound h.named.low in
+    switching_keeps queue s t out v (record {
+      ring = same.ring;
+      control = same.control;
+      mode = (settings_stand s (event.QueueStep Rx queue) tt).mode;
+      vfs = (stays_within s (event.QueueStep Rx queue)).vfs;
+      blocks = each_of v (λ b. LeavesBlock b s t)
+          (λ b. ap (λ (m : Memory). map.get m b) (switching_rest s Rx queue).memory);
+    }) (gone, here, h)

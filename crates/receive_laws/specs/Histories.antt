@@ -18,6 +18,7 @@ use Rattle.history_laws.specs.Laws.{AreEvents}
 use Rattle.receive_laws.specs.Delivered.{IsPrefixOf, delivered, pieces_since}
 use Rattle.receive_laws.specs.Joint.{Agree}
 use Rattle.receive_laws.specs.Steps.{Each, Leaves, OwnReportsSpare}
+use Rattle.receive_laws.specs.Up.{IsUp}
 
 -- the mark of an entry, of the pass or of another, and the marks that are left after it: the entries of the pass are
 -- marked in turn, and the marked ones are the calls of the driver's receive side
@@ -49,7 +50,7 @@ AllSpare w s v marks (e ∷ es) =
     (marks_after (e.pass == w.pass) marks) es
 
 -- a history of a new device that leaves the queue alone, with the driver's pass. Its first entries end as the queue's
--- receive side has gone on and nothing is written yet; there the device and the driver agree. Of the others those of
+-- receive side has gone on and nothing is written yet; there it is up, and the device and the driver agree. Of the others those of
 -- the pass are the driver's, as far as they are marked
 pub record IsDriven (w : Watched) (fifo : ℕ) (start rest : List Entry) (v : Receive) (marks : List Bool) : Type 0 where
   pub new : IsSound (new_state w.vfs fifo)
@@ -58,6 +59,7 @@ pub record IsDriven (w : Watched) (fifo : ℕ) (start rest : List Entry) (v : Re
   pub alone : LeavesAlone w (start ++ rest)
   pub begun : IsTrue (has_begun w.pass start)
   pub on : pieces_since w.queue (new_state w.vfs fifo) None start ≡ Some []
+  pub up : IsUp w.queue (leads_to (new_state w.vfs fifo) start)
   pub agree : Agree w.queue (leads_to (new_state w.vfs fifo) start) [] v
   pub lent : Each v (λ b. IsTrue (lent_by w.pass (start ++ rest) b))
   pub own : AllOwn v marks (calls_of w.pass rest)

@@ -40,11 +40,9 @@ pub record IsRing (l : Layout) : Type 0 where
   pub not_ring : (k : ℕ) → k < length l.blocks → block_at l k ≢ l.ring
   pub apart : (i j : ℕ) → i < length l.blocks → j < length l.blocks → i ≢ j → block_at l i ≢ block_at l j
 
--- the queue's receive side is the driver's: it is on, with one buffer of 2,048 bytes a descriptor, and of its slots so
--- many are filled and not consumed
+-- the queue's receive side is the driver's: one buffer of 2,048 bytes a descriptor, and of its slots so many are filled
+-- and not consumed. The side may be on or off
 pub record IsSetUp (q : ReceiveQueue) (l : Layout) (filled : ℕ) : Type 0 where
-  pub on : IsTrue q.on
-  pub wanted : IsTrue q.wanted
   pub one_buffer : descriptor_type_of q.control ≡ 1
   pub buffer_size : buffer_size_of q.control ≡ 2048
   pub base : q.ring.base ≡ 2048 * l.ring

@@ -8,3 +8,4 @@ pub mod Pieces
 pub mod Short
 pub mod Starting
 pub mod Steps
+pub mod Up

@@ -6,6 +6,7 @@ use Rattle.dma_ring.specs.Descriptor.{first_half, second_half}
 use Rattle.dma_ring.specs.Receive.{is_done, ends_packet, bytes_in}
 use Rattle.register_file.specs.Pools.{mode_in}
 use Rattle.register_file.specs.declared.dir.Dir.TheVariants.{Rx}
+use Rattle.register_laws.specs.Sides.{receive_queue_of}
 use Rattle.vf_map.specs.declared.mode.Mode.{Mode}
 use Rattle.device_lock.specs.Alone.{Blocks, EntryLeavesAlone}
 use Rattle.device_lock.specs.declared.alone.Watched.{Watched}
@@ -109,10 +110,23 @@ ReceiveStepKeeps =
     SparesBlocks queue v (reply_to s event.RxStep) →
     Agree queue (after s event.RxStep) (out ++ pieces queue s event.RxStep) v
 
--- a step of the enable of the queue's receive side changes nothing of it: it is on, as it is wanted
+-- an event that leaves all of it but whether the side is on and wanted on keeps the agreement
+pub record LeavesButOn (queue : ℕ) (v : Receive) (old new : State) : Type 0 where
+  pub ring : (receive_queue_of new.registers queue).ring ≡ (receive_queue_of old.registers queue).ring
+  pub control : (receive_queue_of new.registers queue).control ≡ (receive_queue_of old.registers queue).control
+  pub mode : mode_in new.registers ≡ mode_in old.registers
+  pub vfs : new.vfs ≡ old.vfs
+  pub blocks : Each v (λ b. LeavesBlock b old new)
+
+abbrev pub SwitchingKeeps : Type 0
+SwitchingKeeps =
+    (queue : ℕ) (s t : State) (out : List Piece) (v : Receive) → LeavesButOn queue v s t → Agree queue s out v →
+    Agree queue t out v
+
+-- and so does a step of the enable of the queue's receive side
 abbrev pub EnableStepKeeps : Type 0
 EnableStepKeeps =
-    (queue : ℕ) (s : State) (out : List Piece) (v : Receive) → Agree queue s out v →
+    (queue : ℕ) (s : State) (out : List Piece) (v : Receive) → IsSound s → Agree queue s out v →
     Agree queue (after s (event.QueueStep Rx queue)) out v
 
 -- an event that leaves the receive side keeps the agreement

@@ -12,7 +12,8 @@ ghost use Rattle.receive_laws.specs.Inside.{PieceIsInside};
 ghost use Rattle.receive_laws.specs.Lent.{OwnLendsAreKnown};
 ghost use Rattle.receive_laws.specs.Short.{FramesStayShort, ShortFramesEnd};
 ghost use Rattle.receive_laws.specs.Starting.{StartAgrees};
-ghost use Rattle.receive_laws.specs.Steps.{LookTellsSlot, ReceiveStepKeeps, EnableStepKeeps, LeavingKeeps, OwnEventKeeps, ForeignEntryKeeps, DeviceStepKeeps};
+ghost use Rattle.receive_laws.specs.Steps.{LookTellsSlot, ReceiveStepKeeps, EnableStepKeeps, LeavingKeeps, SwitchingKeeps, OwnEventKeeps, ForeignEntryKeeps, DeviceStepKeeps};
+ghost use Rattle.receive_laws.specs.Up.{LeavingStaysUp, EnableStepChangesNothing, ReceiveStepStaysUp, OwnEventStaysUp, EntryStaysUp};
 
 /// A look at the next slot tells done exactly where the slot is filled, and then tells of the slot's piece.
 pub fn look_tells_the_slot()
@@ -31,11 +32,23 @@ pub fn receive_step_stays_in_its_blocks()
     ensures { PieceIsInside }
 {}
 
-/// An event that leaves the receive side of the queue and the driver's blocks as they were keeps what they agree on,
-/// and so does a step of the side's own enable: the side is on as it is wanted.
+/// An event that leaves the receive side of the queue and the driver's blocks as they were keeps what they agree on. It
+/// may switch the side, or ask it to go on or off, and so a step of the side's own enable keeps it too.
 pub fn other_events_keep_the_agreement()
     ensures leaving { LeavingKeeps }
+    ensures switching { SwitchingKeeps }
     ensures enable { EnableStepKeeps }
+{}
+
+/// A receive side that is on and wanted on stays so where an event leaves it, and over a step of its enable, which then
+/// changes nothing. Where the device and the driver agree it stays so over each step of receiving, each event of the
+/// driver's own, each entry of another pass that leaves the queue alone and each step of the device, whoever made it.
+pub fn queue_up_stays_up()
+    ensures leaving { LeavingStaysUp }
+    ensures enable { EnableStepChangesNothing }
+    ensures receive { ReceiveStepStaysUp }
+    ensures own { OwnEventStaysUp }
+    ensures entry { EntryStaysUp }
 {}
 
 /// Each event of the driver's own keeps what they agree on, with the driver that it leads to: a look, the block of a

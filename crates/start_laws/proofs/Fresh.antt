@@ -15,7 +15,7 @@ first_slot : (n : ℕ) → 0 < n → 0 ≡ wrapped n (0 + 0)
 first_slot n h = grind (arith, nat_tests)
 
 pub fresh_receive_agrees : FreshReceiveAgrees
-fresh_receive_agrees queue s tx rings port tail ring size sized names lent stand =
+fresh_receive_agrees queue s tx rings on wanted port tail ring size sized names lent stand =
     let x = stand.receives in
     start_agrees queue port tail ring size s (record {
       some = sized.some;
@@ -23,8 +23,6 @@ fresh_receive_agrees queue s tx rings port tail ring size sized names lent stand
       low = sized.low;
       named = names;
       side = record {
-        on = x.seen refl;
-        wanted = ap (λ (q : ReceiveQueue). q.wanted) x.same;
         one_buffer = ap (λ (q : ReceiveQueue). q.control / 2 ^ 25 % 2 ^ 3) x.same;
         buffer_size = ap (λ (q : ReceiveQueue). 1024 * (q.control % 2 ^ 5)) x.same;
         base = ap (λ (q : ReceiveQueue). q.ring.base) x.same;

@@ -3,7 +3,6 @@ pub mod Along
 pub mod Ending
 pub mod First
 pub mod Fresh
-pub mod LeftReceive
 pub mod LeftZero
 pub mod Lends
 pub mod Masks

@@ -21,7 +21,7 @@ use Rattle.start_laws.specs.Along.{IsKept}
 use Rattle.start_laws.specs.Points.{HasGround}
 use Rattle.start_laws.specs.Quiet.{IsUnwanted, IsOff}
 use Rattle.start_laws.specs.Standing.{IsLeft, StandsReceive}
-use Rattle.start_laws.proofs.LeftReceive.{is_receive, is_receive_switch, receive_is, receive_switch_is, left-receive}
+use Rattle.receive_laws.proofs.LeftReceive.{is_receive, is_receive_switch, receive_is, receive_switch_is, left-receive}
 use Rattle.start_laws.proofs.Points.{ground_same}
 use Rattle.start_laws.proofs.Quiet.{receive_guard_is_off}
 use Rattle.start_laws.proofs.StillReceive.{receive-left, switch-stands, left-stands}

@@ -5,7 +5,7 @@ use Rattle.std.proofs.lemmas.Bool.{and_parts, both_ways, eq-eqb, eqb-true, leb-t
 use Rattle.std.proofs.lemmas.List.{append-nil}
 use Rattle.dma_arena.specs.Numbers.{Numbers}
 use Rattle.reg_table.specs.declared.rows.RowId.TheVariants.{Rdt, Rxdctl, Tdt}
-use Rattle.register_laws.specs.Sides.{TransmitQueue}
+use Rattle.register_laws.specs.Sides.{ReceiveQueue, TransmitQueue}
 use Rattle.register_file.specs.declared.dir.Dir.TheVariants.{Rx, Tx}
 use Rattle.nic_device.specs.Sound.{IsSound}
 use Rattle.nic_device.specs.State.{State, new_state}
@@ -214,7 +214,7 @@ module _ (w : Watched) (fifo : ℕ) (h : List Entry) (q : AtPort) (size : ℕ) (
       agrees s sound p x =
           let rings = (came_up ring size other p).rings in (
             subst (λ (v : receive.Receive). Agree w.queue s [] v) (sym up.receive.fresh)
-                (fresh_receive_agrees w.queue s _ rings q.port up.receive.tail ring size first
+                (fresh_receive_agrees w.queue s _ rings true true q.port up.receive.tail ring size first
                 (record {
                   low = along.small;
                   tail = ground_names w.queue q s x.ground Rdt up.receive.tail refl up.receive.named;
@@ -231,8 +231,13 @@ module _ (w : Watched) (fifo : ℕ) (h : List Entry) (q : AtPort) (size : ℕ) (
           → Point w.queue (lent_by w.pass h) q (came_up ring size other p) (reached w fifo done)
           → WentOn w.queue (new_state w.vfs fifo) done
       went_on done unused p x =
+          let receives = x.stand.receives.seen refl in
           let sends = x.stand.transmits.seen refl in record {
-            received = unused.receive (x.stand.receives.seen refl);
+            received = unused.receive receives;
+            receives = record {
+              on = receives;
+              wanted = ap (λ (k : ReceiveQueue). k.wanted) x.stand.receives.same;
+            };
             sent = unused.transmit sends;
             sends = record {
               on = sends;

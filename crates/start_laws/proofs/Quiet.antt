@@ -29,7 +29,7 @@ use Rattle.history_laws.proofs.RingsReceived.{slotless_stands}
 use Rattle.start_laws.specs.Quiet.{IsUnwanted, ReceiveGuardIsOff, OffSidesStand}
 use Rattle.start_laws.specs.Standing.{IsLeft}
 use Rattle.start_laws.proofs.Accesses.{receive_told}
-use Rattle.start_laws.proofs.LeftReceive.{is_receive, is_receive_switch, receive_is, receive_switch_is, left-receive}
+use Rattle.receive_laws.proofs.LeftReceive.{is_receive, is_receive_switch, receive_is, receive_switch_is, left-receive}
 use Rattle.start_laws.proofs.Words.{wrote}
 
 pub first_is : (queue : ℕ) (ws : List Waiting) (w : Waiting) (others : List Waiting) → ws ≡ w ∷ others

@@ -33,7 +33,7 @@ use Rattle.start_laws.specs.Moves.{IsMet}
 use Rattle.start_laws.specs.Quiet.{IsUnwanted}
 use Rattle.start_laws.specs.Standing.{IsLeft}
 use Rattle.start_laws.specs.Words.{NamesRow}
-use Rattle.start_laws.proofs.LeftReceive.{is_receive, is_receive_switch, receive_is, receive_switch_is, left-receive}
+use Rattle.receive_laws.proofs.LeftReceive.{is_receive, is_receive_switch, receive_is, receive_switch_is, left-receive}
 use Rattle.start_laws.proofs.Off.{off_kept, unwanted_kept}
 use Rattle.start_laws.proofs.Quiet.{first_is}
 use Rattle.start_laws.proofs.Words.{wrote}

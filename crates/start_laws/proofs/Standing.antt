@@ -19,7 +19,7 @@ use Rattle.transmit_laws.proofs.Frames.{added-none}
 use Rattle.transmit_laws.proofs.LeftSide.{left-setting, left-side}
 use Rattle.transmit_laws.proofs.Sparing.{transmit_is, switch_is, sent-none}
 use Rattle.start_laws.specs.Standing.{StandsReceive, IsLeft, StandingSidesAreLeft}
-use Rattle.start_laws.proofs.LeftReceive.{is_receive, is_receive_switch, receive_is, receive_switch_is, left-receive}
+use Rattle.receive_laws.proofs.LeftReceive.{is_receive, is_receive_switch, receive_is, receive_switch_is, left-receive}
 use Rattle.start_laws.proofs.LeftZero.{left-block}
 use Rattle.start_laws.proofs.StillReceive.{none_told, receive-left, switch-stands, left-stands}
 use Rattle.start_laws.proofs.StillTransmit.{IsStill, transmit-idle, transmit_switch-stands, transmit_left-stands}

@@ -112,14 +112,15 @@ pub record IsSized (ring size : ℕ) : Type 0 where
   pub few : size ≤ 128
   pub low : ring < 65536
 
--- where fresh sides stand whose rings are lent, device and driver agree: of the receive side that was seen on, with
--- nothing posted; and of the transmit side, with nothing sent
+-- where fresh sides stand whose rings are lent, device and driver agree: of the receive side, with nothing posted; and of
+-- the transmit side, with nothing sent
 
 abbrev pub FreshReceiveAgrees : Type 0
 FreshReceiveAgrees =
-    (queue : ℕ) (s : State) (tx : TransmitQueue) (rings : Blocks) (port : Port) (tail ring size : ℕ) →
+    (queue : ℕ) (s : State) (tx : TransmitQueue) (rings : Blocks) (on wanted : Bool) (port : Port)
+    (tail ring size : ℕ) →
     IsSized ring size → IsNamed s queue (receive.at_start port tail ring size).layout → IsTrue (rings ring) →
-    Stand queue (fresh_receive ring size true true) tx rings s →
+    Stand queue (fresh_receive ring size on wanted) tx rings s →
     Agree queue s [] (receive.at_start port tail ring size)
 
 abbrev pub FreshTransmitAgrees : Type 0

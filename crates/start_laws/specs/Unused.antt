@@ -6,6 +6,7 @@ use Rattle.nic_device.specs.State.{State}
 use Rattle.device_lock.specs.History.{leads_to}
 use Rattle.device_lock.specs.declared.entry.Entry.{Entry}
 use Rattle.receive_laws.specs.Delivered.{pieces_since}
+use Rattle.receive_laws.specs.Up as receiving
 use Rattle.transmit_laws.specs.Sent.{sent_since}
 use Rattle.transmit_laws.specs.Up.{IsUp}
 
@@ -15,8 +16,9 @@ pub record AreUnused (queue : ℕ) (s : State) (done : List Entry) : Type 0 wher
       IsTrue (is_on (leads_to s done).registers Rx queue) → pieces_since queue s None done ≡ Some []
   pub transmit : IsTrue (is_on (leads_to s done).registers Tx queue) → sent_since queue s [] done ≡ []
 
--- both sides went on by these entries, and nothing was received or sent since; the transmit side is wanted on besides
+-- both sides went on by these entries and are wanted on, and nothing was received or sent since
 pub record WentOn (queue : ℕ) (s : State) (done : List Entry) : Type 0 where
   pub received : pieces_since queue s None done ≡ Some []
   pub sent : sent_since queue s [] done ≡ []
+  pub receives : receiving.IsUp queue (leads_to s done)
   pub sends : IsUp queue (leads_to s done)

@@ -46,7 +46,7 @@ pub fn accesses_keep_sides_standing()
 {}
 
 /// Where the words of a fresh ring stand and the ring's block is lent, the device and the driver agree: on the receive
-/// side that was seen on, with nothing posted, and on the transmit side, with nothing sent.
+/// side, with nothing posted, and on the transmit side, with nothing sent; each on or off.
 pub fn fresh_sides_agree()
     ensures receive { FreshReceiveAgrees }
     ensures transmit { FreshTransmitAgrees }

@@ -1,0 +1,11 @@
+use Rattle.receive_laws.proofs.Up.{enable_same, entry_stays_up, left_up, own_stays_up, receive_stays_up}
+use Rattle.receive_laws.proofs.queue_up_stays_up.Goals as goal
+
+pub returns : goal.returns
+returns c = record {
+  leaving = left_up;
+  enable = enable_same;
+  receive = receive_stays_up;
+  own = own_stays_up;
+  entry = entry_stays_up;
+}

@@ -1,0 +1,53 @@
+-- A queue whose receive side is on, and wanted on.
+use Rattle.std.specs.Prelude.{ℕ, ◌≡◌, ◌≢◌, ◌⊎◌, IsTrue, List}
+use Rattle.dma_arena.specs.Block.{Block}
+use Rattle.register_file.specs.Queue.{is_on}
+use Rattle.register_file.specs.Registers.{is_wanted}
+use Rattle.register_file.specs.declared.dir.Dir.TheVariants.{Rx}
+use Rattle.vf_map.specs.declared.mode.Mode.{Mode}
+use Rattle.nic_device.specs.Sound.{IsSound}
+use Rattle.nic_device.specs.State.{State}
+use Rattle.nic_device.specs.Step.{after}
+use Rattle.nic_device.specs.declared.event.Event.{Event}
+use Rattle.nic_device.specs.declared.event.Event.TheVariants as event
+use Rattle.device_laws.specs.Leaving.{LeavesReceive}
+use Rattle.device_lock.specs.Alone.{Blocks, EntryLeavesAlone}
+use Rattle.device_lock.specs.declared.alone.Watched.{Watched}
+use Rattle.device_lock.specs.declared.entry.Entry.{Entry}
+use Rattle.pmd_base.specs.Events.{is_step}
+use Rattle.pmd_rx.specs.Receive.{Receive, IsOwn}
+use Rattle.receive_laws.specs.Joint.{Agree}
+use Rattle.receive_laws.specs.Pieces.{Piece}
+use Rattle.receive_laws.specs.Steps.{IsMetBy}
+
+pub record IsUp (queue : ℕ) (s : State) : Type 0 where
+  pub on : IsTrue (is_on s.registers Rx queue)
+  pub wanted : IsTrue (is_wanted s.registers Rx queue)
+
+-- it stays up where an event leaves the side; and a step of the side's enable changes nothing
+abbrev pub LeavingStaysUp : Type 0
+LeavingStaysUp = (queue : ℕ) (s t : State) → LeavesReceive queue s t → IsUp queue s → IsUp queue t
+
+abbrev pub EnableStepChangesNothing : Type 0
+EnableStepChangesNothing = (queue : ℕ) (s : State) → IsUp queue s → after s (event.QueueStep Rx queue) ≡ s
+
+-- where device and driver agree it stays up over each step of receiving, of whichever queue, and over each event of the
+-- driver's own
+
+abbrev pub ReceiveStepStaysUp : Type 0
+ReceiveStepStaysUp =
+    (queue : ℕ) (s : State) (out : List Piece) (v : Receive) → IsSound s → Agree queue s out v → IsUp queue s →
+    IsUp queue (after s event.RxStep)
+
+abbrev pub OwnEventStaysUp : Type 0
+OwnEventStaysUp =
+    (queue : ℕ) (s : State) (out : List Piece) (v : Receive) (e : Event Block) → IsSound s → Agree queue s out v →
+    IsOwn v e → IsUp queue s → IsUp queue (after s e)
+
+-- and so it does over an entry of another pass that leaves the queue alone, and over each step of the device, whoever
+-- made it
+abbrev pub EntryStaysUp : Type 0
+EntryStaysUp =
+    (w : Watched) (mine : Blocks) (mode : Mode) (s : State) (out : List Piece) (v : Receive) (e : Entry) →
+    IsMetBy w mode s e → Agree w.queue s out v → EntryLeavesAlone w mine mode e →
+    (e.pass ≢ w.pass) ⊎ IsTrue (is_step e.event) → IsUp w.queue s → IsUp w.queue (after s e.event)

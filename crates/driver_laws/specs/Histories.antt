@@ -43,8 +43,8 @@ OthersLeaveAlone w mine mode doers (e ∷ es) =
     × OthersLeaveAlone w mine (mode_after w.vfs mode e.event) (doers_after (e.pass == w.pass) doers) es
 
 -- a history of a new device that leaves the queue alone, with the driver's pass. As its first entries end, the queue's
--- receive side has gone on and is up, nothing is written yet, and the device agrees with both halves. Of the others those of
--- the pass are the halves', or leave the queue alone
+-- receive side has gone on and is up, nothing is written yet, and the device agrees with both halves. Of the others
+-- those of the pass are the halves', or leave the queue alone
 pub record IsDriven (w : Watched) (fifo : ℕ) (start rest : List Entry) (h : Halves) (doers : List Doer) : Type 0 where
   pub new : IsSound (new_state w.vfs fifo)
   pub events : AreEvents (start ++ rest)

@@ -80,7 +80,8 @@ module _ (w : Watched) (mine : Blocks) (mode : Mode) (s : State) (out : List Pie
   met = record { sound = m.sound; aligned = m.aligned; vfs = m.vfs; mode_is = m.mode_is; reply = legal; event = made }
 
   goes_to : (u : Receive) → Agree w.queue t (out ++ pieces w.queue s e.event) u → IsUp w.queue t
-      → Each u (λ b. IsTrue (mine b)) → Meets w mine (mode_after w.vfs mode e.event) t (out ++ pieces w.queue s e.event) u
+      → Each u (λ b. IsTrue (mine b))
+      → Meets w mine (mode_after w.vfs mode e.event) t (out ++ pieces w.queue s e.event) u
   goes_to u agree up lent =
       let stays = (step_leads s e.event).stays in
       record {

@@ -63,7 +63,8 @@ module _ (queue : ℕ) (s : State) (out : List Piece) (v : Receive) (sound : IsS
         slotless = λ k. left_up queue s _ (slotless_stands s.registers w.queue queue) up;
         fault = λ tried fault is. absurd (never_faults queue s out v j w mine tried fault is);
         filled = λ tried f is k.
-            same_up queue s _ (record (receive_queue_of s.registers queue) { ring = moved_on (ring_of s.registers Rx queue) })
+            same_up queue s _
+            (record (receive_queue_of s.registers queue) { ring = moved_on (ring_of s.registers Rx queue) })
             (subst (λ q. receive_queue_of (piece_done s.registers s.vfs w.queue f) q
             ≡ record (receive_queue_of s.registers q) { ring = moved_on (ring_of s.registers Rx q) }) mine
             k.tells.side) refl refl up;
@@ -118,17 +119,18 @@ own_stays_up queue s out v e i j own up = absurd own
 pub alone_stays_up : (w : Watched) (s : State) (out : List Piece) (v : Receive) (e : Event Block) → w.vfs ≡ s.vfs
     → IsSound s → Agree w.queue s out v → LeavesRegisters w (mode_in s.registers) e → IsUp w.queue s
     → IsUp w.queue (after s e)
-alone_stays_up w s out v e vfs sound j registers up = elim (cases_Bool (is_receive e)) as (λ _. IsUp w.queue (after s e)) [
-  | inl own ↦
-      subst (λ (n : Event Block). IsUp w.queue (after s n)) (sym (receive_is e own))
-      (receive_stays_up w.queue s out v sound j up)
-  | inr other ↦ elim (cases_Bool (is_receive_switch w.queue e)) as (λ _. IsUp w.queue (after s e)) [
-    | inl own ↦
-        subst (λ (n : Event Block). IsUp w.queue (after s n)) (sym (receive_switch_is w.queue e own))
-        (subst (IsUp w.queue) (sym (enable_same w.queue s up)) up)
-    | inr apart ↦ left_up w.queue s (after s e) (left-receive w s vfs e registers other apart) up
-  ]
-]
+alone_stays_up w s out v e vfs sound j registers up =
+    elim (cases_Bool (is_receive e)) as (λ _. IsUp w.queue (after s e)) [
+      | inl own ↦
+          subst (λ (n : Event Block). IsUp w.queue (after s n)) (sym (receive_is e own))
+          (receive_stays_up w.queue s out v sound j up)
+      | inr other ↦ elim (cases_Bool (is_receive_switch w.queue e)) as (λ _. IsUp w.queue (after s e)) [
+        | inl own ↦
+            subst (λ (n : Event Block). IsUp w.queue (after s n)) (sym (receive_switch_is w.queue e own))
+            (subst (IsUp w.queue) (sym (enable_same w.queue s up)) up)
+        | inr apart ↦ left_up w.queue s (after s e) (left-receive w s vfs e registers other apart) up
+      ]
+    ]
 
 pub entry_stays_up : EntryStaysUp
 entry_stays_up w mine mode s out v e met j alone (inl other) up =

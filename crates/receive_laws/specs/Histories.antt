@@ -50,8 +50,8 @@ AllSpare w s v marks (e ∷ es) =
     (marks_after (e.pass == w.pass) marks) es
 
 -- a history of a new device that leaves the queue alone, with the driver's pass. Its first entries end as the queue's
--- receive side has gone on and nothing is written yet; there it is up, and the device and the driver agree. Of the others those of
--- the pass are the driver's, as far as they are marked
+-- receive side has gone on and nothing is written yet; there it is up, and the device and the driver agree. Of the
+-- others those of the pass are the driver's, as far as they are marked
 pub record IsDriven (w : Watched) (fifo : ℕ) (start rest : List Entry) (v : Receive) (marks : List Bool) : Type 0 where
   pub new : IsSound (new_state w.vfs fifo)
   pub events : AreEvents (start ++ rest)

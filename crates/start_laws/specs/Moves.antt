@@ -112,8 +112,8 @@ pub record IsSized (ring size : ℕ) : Type 0 where
   pub few : size ≤ 128
   pub low : ring < 65536
 
--- where fresh sides stand whose rings are lent, device and driver agree: of the receive side, with nothing posted; and of
--- the transmit side, with nothing sent
+-- where fresh sides stand whose rings are lent, device and driver agree: of the receive side, with nothing posted; and
+-- of the transmit side, with nothing sent
 
 abbrev pub FreshReceiveAgrees : Type 0
 FreshReceiveAgrees =

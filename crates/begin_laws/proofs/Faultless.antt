@@ -1,9 +1,10 @@
 -- A start on a queue whose sides are off finds no device at fault.
-use Rattle.std.proofs.Common.{◌≡◌, ◌≢◌, ℕ, ◌-◌, zero, suc, inl, inr, false, true, List, [], ◌∷◌, ◌++◌, refl, sym, ◌∙◌, subst, append_assoc}
+use Rattle.std.proofs.Common.{◌≡◌, ◌≢◌, ℕ, ◌-◌, inl, inr, false, true, List, [], ◌∷◌, ◌++◌, refl, sym, ◌∙◌, subst, append_assoc, Bool}
 use Rattle.std.specs.Prelude.{IsFalse}
 use Rattle.dma_arena.specs.Block.{Block, zero_block}
 use Rattle.dma_arena.specs.Memory.{has_block}
 use Rattle.dma_arena.specs.Numbers.{Numbers}
+use Rattle.reg_table.specs.declared.rows.RowId.TheVariants.{Rxdctl}
 use Rattle.register_file.specs.Queue.{enable_row}
 use Rattle.register_file.specs.declared.dir.Dir.{Dir}
 use Rattle.register_file.specs.declared.dir.Dir.TheVariants.{Rx, Tx}
@@ -16,22 +17,23 @@ use Rattle.device_lock.specs.declared.entry.Entry.{Entry}
 use Rattle.history_laws.proofs.Calls.{anew_is_done}
 use Rattle.pmd_base.specs.declared.fault.PmdFault.TheVariants.{DeviceFault}
 use Rattle.pmd_queue.specs.Both.{SwitchFails, both_asked, both_quiet, receive_polled}
-use Rattle.pmd_queue.specs.Made.{Access, Sees, Sets, AreMade}
+use Rattle.pmd_queue.specs.Made.{Sees, Sets, AreMade}
 use Rattle.pmd_queue.specs.Named.{AtPort, is_driven}
 use Rattle.pmd_queue.specs.Sides.{PollsEnd, missed, quiet, ring_words}
 use Rattle.pmd_rx.specs.Receive.{Receive}
-use Rattle.reg_table.specs.declared.rows.RowId.TheVariants.{Rxdctl}
 use Rattle.pmd.specs.Starting.{IsPrepared, IsReceiveReady, PreparingFails}
 use Rattle.start_laws.specs.Along.{AtCalls, BeforeLast, IsAlong}
 use Rattle.start_laws.specs.Points.{HasGround, StepsBetween}
 use Rattle.start_laws.specs.Quieting.{IsQuiet}
-use Rattle.start_laws.proofs.Lends.{lending}
-use Rattle.start_laws.proofs.Points.{ends_some}
-use Rattle.start_laws.proofs.On.{first_made, some_made}
+use Rattle.start_laws.proofs.Made.{first_made, some_made}
+use Rattle.start_laws.proofs.AllAre.{AllAre, all_missed, all_polled}
+use Rattle.start_laws.proofs.Rising.{prepared_some}
 use Rattle.begin_laws.specs.Faultless.{BeforeNext, Never, NoneIsLent, ReceiveIsReady, TransmitIsReady, SwitchingIsNeverStray, StepsPolling, StepsPreparing, StepsReady, StepsSwitching, StepsUnprepared}
-use Rattle.begin_laws.proofs.Grounds.{AllAre, IsDriven, IsWrite, accesses_grounded, lend_grounded, next_on_ground, read_never_stray, writes_driven, writes_never_stop}
+use Rattle.begin_laws.proofs.Grounds.{IsDriven, IsWrite, accesses_grounded, lend_grounded, next_on_ground, read_never_stray, writes_driven, writes_never_stop}
 use Rattle.begin_laws.proofs.Last.{last_never}
 use Rattle.begin_laws.proofs.Quiet.{quiet_off, quieting_never_stops}
+
+-- A start on a queue whose sides are off finds no device at fault.
 
 words_are_writes : (side : Dir) (ring size : ℕ) → AllAre IsWrite (ring_words side ring size)
 words_are_writes Rx ring size = (refl, (refl, (refl, (refl, (refl, (refl, tt))))))
@@ -44,16 +46,11 @@ enable_driven Tx = refl
 asked_are_writes : AllAre IsWrite (both_asked true)
 asked_are_writes = (refl, (refl, tt))
 
-missed_driven : (side : Dir) (n : ℕ) → AllAre IsDriven (missed side true n)
-missed_driven side zero = tt
-missed_driven side (suc n) = (enable_driven side, missed_driven side n)
-
-all_both : (xs ys : List Access) → AllAre IsDriven xs → AllAre IsDriven ys → AllAre IsDriven (xs ++ ys)
-all_both [] ys first then = then
-all_both (x ∷ xs) ys first then = (first.0, all_both xs ys first.1 then)
+reads_driven : (side : Dir) (seen : Bool) → IsDriven (Sees (enable_row side) seen)
+reads_driven side seen = enable_driven side
 
 polled_driven : (n : ℕ) → AllAre IsDriven (receive_polled true n)
-polled_driven n = (refl, (refl, all_both (missed Rx true n) (Sees Rxdctl true ∷ []) (missed_driven Rx n) (refl, tt)))
+polled_driven n = (refl, (refl, all_polled IsDriven true reads_driven Rx n))
 
 module _ (w : Watched) (q : AtPort) (fifo : ℕ) (h : List Entry) (along : IsAlong w fifo h) where
   abbrev Grounded : List Call → Type 0
@@ -92,7 +89,7 @@ module _ (w : Watched) (q : AtPort) (fifo : ℕ) (h : List Entry) (along : IsAlo
       in
       let made = some_made q (ring_words side ring size) old x.mid x.words some in (
         subst Grounded (sym x.lent.1) (lend_grounded w q fifo h along ring x.mid x.lent.0 steps.1 made there),
-        λ none. ends_some x.mid x.lent.0 (lending ring) (sym x.lent.1 ∙ none),
+        prepared_some q side size old a new b ring x,
       )
 
   -- the sides are off, and the receive ring is
@@ -117,7 +114,7 @@ module _ (w : Watched) (q : AtPort) (fifo : ℕ) (h : List Entry) (along : IsAlo
   polls_never_stray : (side : Dir) (polls : ℕ) (old new : List Call) → old ≢ [] → Grounded old
       → (x : PollsEnd DeviceFault q old new side true polls) → StepsPolling q old new side polls x → Never w fifo h new
   polls_never_stray side polls old new some at (misses, mid, few, made, stray) steps =
-      let there = accesses_grounded w q fifo h along (missed side true misses) old mid (missed_driven side misses) made
+      let there = accesses_grounded w q fifo h along (missed side true misses) old mid (all_missed IsDriven true reads_driven side misses) made
       steps.0 some at in
       read_never_stray w q fifo h along mid new (enable_row side) (enable_driven side)
       (next_on_ground w q fifo h along mid (some_made q (missed side true misses) old mid made some) there) stray

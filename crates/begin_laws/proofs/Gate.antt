@@ -13,7 +13,7 @@ use Rattle.pmd_base.specs.declared.fault.PmdFault.{PmdFault}
 use Rattle.pmd_base.specs.declared.fault.PmdFault.TheVariants.{DeviceFault}
 use Rattle.pmd_queue.specs.Named.{queues_named}
 use Rattle.start_laws.specs.Numbers.{queue_at, queue_in}
-use Rattle.start_laws.proofs.Numbers.{few_queues, is_in, some_where}
+use Rattle.start_laws.proofs.QueueIn.{few_queues, is_in, some_where}
 use Rattle.begin_laws.specs.Gate.{NamedQueuesPass}
 
 named_below : (s : State) (port : Port) (own queue : ℕ)

@@ -1,13 +1,9 @@
 -- What a driver rests on, over its accesses: none of them is stray.
-use Rattle.std.specs.Prelude.{⊤}
 use Rattle.std.proofs.Common.{◌≡◌, ◌≢◌, ℕ, true, List, [], ◌∷◌, ◌++◌, refl, sym, ◌∙◌, subst}
 use Rattle.dma_arena.specs.Block.{zero_block}
 use Rattle.reg_table.specs.declared.rows.RowId.{RowId}
-use Rattle.nic_device.specs.Step.{after}
 use Rattle.nic_device.specs.declared.event.Event.TheVariants as event
 use Rattle.nic_device.specs.declared.event.Reply.TheVariants as reply
-use Rattle.device_laws.proofs.KeptSettings.{settings_stand}
-use Rattle.device_laws.proofs.Standing.{stays_within}
 use Rattle.device_lock.specs.Alone.{lent_by}
 use Rattle.device_lock.specs.Pass.{call_of}
 use Rattle.device_lock.specs.declared.alone.Watched.{Watched}
@@ -20,25 +16,13 @@ use Rattle.start_laws.specs.Along.{AreSteps, AtCalls, IsAlong}
 use Rattle.start_laws.specs.Points.{HasGround, StepsBefore, StepsBetween}
 use Rattle.start_laws.proofs.Along.{calls_lead}
 use Rattle.start_laws.proofs.Lends.{lending}
-use Rattle.start_laws.proofs.Off.{ground_kept}
-use Rattle.start_laws.proofs.Points.{ground_same, made_some, read_ground}
-use Rattle.start_laws.proofs.Quieting.{seen, set, write_ground}
-use Rattle.start_laws.proofs.On.{some_made}
+use Rattle.start_laws.proofs.Ground.{ground_kept, read_ground, write_ground, plain_keeps}
+use Rattle.start_laws.proofs.Made.{made_some, some_made}
+use Rattle.start_laws.proofs.AccessLeads.{seen, set}
+use Rattle.start_laws.proofs.AllAre.{AllAre, all_before}
 use Rattle.begin_laws.specs.Faultless.{Never, StepsBeforeOther, StepsUntil}
 use Rattle.begin_laws.proofs.Last.{RefutesNext, then_refuted}
 use Rattle.begin_laws.proofs.Replies.{named_registers_reply}
-
--- accesses of which each is of a kind
-
-abbrev pub AllAre : (Access → Type 0) → List Access → Type 0
-AllAre K [] = ⊤
-AllAre K (a ∷ rest) = K a × AllAre K rest
-
-pub all_before : (K : Access → Type 0) (done : List Access) (a : Access) (rest : List Access)
-    → AllAre K (done ++ a ∷ rest) → AllAre K done × K a
-all_before K [] a rest are = (tt, are.0)
-all_before K (d ∷ done) a rest are =
-    let more = all_before K done a rest are.1 in ((are.0, more.0), more.1)
 
 -- a driver's register is accessed, or written
 
@@ -64,12 +48,12 @@ module _ (w : Watched) (q : AtPort) (fifo : ℕ) (h : List Entry) (along : IsAlo
   access_grounded old new (Sees row on) driven made steps some at =
       seen w q fifo h along (HasGround w.queue q) (HasGround w.queue q) row on (ground_kept w (lent_by w.pass h) q)
       (ground_kept w (lent_by w.pass h) q)
-      (λ number word named is s met can told g. read_ground w (lent_by w.pass h) q s number g) old new made steps some
+      (λ number word named is s met can told g. read_ground w.queue q s number g) old new made steps some
       at
   access_grounded old new (Sets row word) driven made steps some at =
       set w q fifo h along (HasGround w.queue q) (HasGround w.queue q) row word (ground_kept w (lent_by w.pass h) q)
       (ground_kept w (lent_by w.pass h) q)
-      (λ number named s met can told g. write_ground w q fifo h along s row word number driven named g) old new made
+      (λ number named s met can told g. write_ground w.queue q s row word number driven named g) old new made
       steps some at
 
   pub accesses_grounded : (all : List Access) (old new : List Call) → AllAre IsDriven all
@@ -85,10 +69,7 @@ module _ (w : Watched) (q : AtPort) (fifo : ℕ) (h : List Entry) (along : IsAlo
   lend_grounded ring old before steps some at =
       calls_lead w fifo h (HasGround w.queue q) (HasGround w.queue q) old before (lending ring) along
       (ground_kept w (lent_by w.pass h) q) (ground_kept w (lent_by w.pass h) q)
-      (λ s met can told g.
-      let e = event.Lend (zero_block ring) in
-      let stay = settings_stand s e tt in
-      ground_same w.queue q s (after s e) stay.mode (stays_within s e).vfs stay.limit g) steps some at
+      (λ s met can told g. plain_keeps w.queue q s (event.Lend (zero_block ring)) tt g) steps some at
 
   -- no access is stray
 

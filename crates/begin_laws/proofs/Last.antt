@@ -12,8 +12,9 @@ use Rattle.device_lock.specs.declared.entry.Entry.{Entry}
 use Rattle.pmd_base.specs.Events.{is_step}
 use Rattle.receive_laws.proofs.Delivering.{legal_behind}
 use Rattle.start_laws.specs.Along.{AreSteps, AtCalls, BeforeLast, IsAlong, IsKept}
-use Rattle.start_laws.proofs.Along.{calls_lead, parts, reached}
-use Rattle.start_laws.proofs.First.{calls_joined, first_own}
+use Rattle.start_laws.proofs.Along.{calls_lead}
+use Rattle.start_laws.proofs.Parts.{parts, calls_joined, first_own}
+use Rattle.start_laws.proofs.Reached.{reached}
 use Rattle.begin_laws.specs.Faultless.{BeforeNext, Never}
 
 -- the device replies otherwise to a call, wherever this holds

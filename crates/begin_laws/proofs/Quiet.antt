@@ -1,16 +1,15 @@
 -- A driver that starts on a queue whose sides are off sees them off.
-use Rattle.std.proofs.Common.{◌≡◌, ◌≢◌, ℕ, inl, inr, ◌⊎◌, Bool, true, false, not, List, [], ◌∷◌, ◌++◌, refl, sym, ap, ◌∙◌, subst, arith, append_assoc}
+use Rattle.std.proofs.Common.{◌≡◌, ◌≢◌, ℕ, inl, inr, ◌⊎◌, Bool, true, false, not, List, [], ◌∷◌, ◌++◌, refl, sym, ap, ◌∙◌, subst, append_assoc}
 use Rattle.std.proofs.lemmas.Bool.{both_ways}
 use Rattle.reg_table.specs.declared.rows.RowId.{RowId}
 use Rattle.reg_table.specs.declared.rows.RowId.TheVariants.{Rxdctl, Txdctl}
 use Rattle.register_file.specs.Bits.{has_bit}
-use Rattle.register_laws.specs.Sides.{ReceiveQueue, TransmitQueue}
+use Rattle.register_file.specs.declared.dir.Dir.TheVariants.{Tx, Rx}
+use Rattle.register_file.specs.declared.dir.Dir.{Dir}
+use Rattle.register_file.specs.Queue.{enable_row}
 use Rattle.nic_device.specs.State.{State}
-use Rattle.nic_device.specs.Step.{after}
 use Rattle.nic_device.specs.declared.event.Event.TheVariants as event
 use Rattle.nic_device.specs.declared.event.Reply.TheVariants as reply
-use Rattle.device_laws.specs.Leaving.{LeavesTransmit}
-use Rattle.device_laws.proofs.StandingAccesses.{read_rest}
 use Rattle.device_lock.specs.Alone.{lent_by}
 use Rattle.device_lock.specs.Pass.{call_of}
 use Rattle.device_lock.specs.declared.alone.Watched.{Watched}
@@ -21,24 +20,20 @@ use Rattle.pmd_queue.specs.Both.{both_quiet}
 use Rattle.pmd_queue.specs.Made.{Access, Sees, Sets, AreMade, IsMade, IsOtherwise, StopsBy}
 use Rattle.pmd_queue.specs.Named.{AtPort, IsNumberOf, is_driven}
 use Rattle.pmd_queue.specs.Sides.{quiet}
-use Rattle.register_file.specs.declared.dir.Dir.TheVariants.{Tx}
-use Rattle.transmit_laws.specs.Off as transmit
-use Rattle.start_laws.specs.Along.{AtCalls, BeforeLast, IsAlong, IsKept, Leads}
+use Rattle.start_laws.specs.Along.{AtCalls, BeforeLast, IsAlong, IsKept}
 use Rattle.start_laws.specs.Points.{HasGround, StepsBefore, StepsBetween}
 use Rattle.start_laws.specs.Quieting.{IsQuiet}
-use Rattle.start_laws.specs.Words.{KeepsGround}
 use Rattle.start_laws.proofs.First.{first_leads}
-use Rattle.start_laws.proofs.Numbers.{ground_names}
-use Rattle.start_laws.proofs.Off.{ground_kept, off_kept, transmit_off_kept}
-use Rattle.start_laws.proofs.Points.{ground_same, made_some, read_ground}
-use Rattle.start_laws.proofs.Quieting.{off_same, seen, set}
-use Rattle.start_laws.proofs.ReceiveWords.{receive_words_taken}
-use Rattle.start_laws.proofs.On.{some_made}
-use Rattle.start_laws.proofs.TransmitWords.{transmit_words_taken}
+use Rattle.start_laws.proofs.Made.{made_some, some_made}
+use Rattle.start_laws.proofs.AccessLeads.{seen, set}
+use Rattle.start_laws.proofs.QuietKept.{quiet_kept, read_quiet, write_quiet}
 use Rattle.begin_laws.specs.Faultless.{BeforeNext, Never, StepsBeforeOther, StepsUntil}
-use Rattle.begin_laws.proofs.Grounds.{AllAre, all_before, read_never_stray, write_never_stray}
+use Rattle.begin_laws.proofs.Grounds.{read_never_stray, write_never_stray}
+use Rattle.start_laws.proofs.AllAre.{AllAre, all_before}
 use Rattle.begin_laws.proofs.Last.{RefutesNext, next_refuted, then_refuted}
 use Rattle.begin_laws.proofs.Replies.{off_sides_are_seen_off}
+
+-- A driver that starts on a queue whose sides are off sees them off.
 
 -- an access by which a side is seen off, or asked to be
 abbrev IsQuieting : Access → Type 0
@@ -48,64 +43,12 @@ IsQuieting (Sets Rxdctl word) = word ≡ 0
 IsQuieting (Sets Txdctl word) = word ≡ 0
 IsQuieting other = ⊥
 
-transmit_same : (queue : ℕ) (s t : State) → LeavesTransmit queue s t → transmit.IsOff queue s → transmit.IsOff queue t
-transmit_same queue s t same off = record {
-  off = ap (λ (x : TransmitQueue). x.on) same.side ∙ off.off;
-  unwanted = ap (λ (x : TransmitQueue). x.wanted) same.side ∙ off.unwanted;
-}
-
 module _ (w : Watched) (q : AtPort) (fifo : ℕ) (h : List Entry) (along : IsAlong w fifo h) where
   abbrev Off : State → Type 0
   Off = IsQuiet w.queue q
 
   off_stays : IsKept w (lent_by w.pass h) Off
-  off_stays s e left x = record {
-    ground = ground_kept w (lent_by w.pass h) q s e left x.ground;
-    receive = off_kept w (lent_by w.pass h) s e left x.receive;
-    transmit = transmit_off_kept w (lent_by w.pass h) s e left x.transmit;
-  }
-
-  read_off : (number : ℕ) (s : State) → Off s → Off (after s (event.Read q.port number))
-  read_off number s x =
-      let t = after s (event.Read q.port number) in
-      let rest = (read_rest s q.port number).queues in record {
-        ground = read_ground w (lent_by w.pass h) q s number x.ground;
-        receive = off_same w q fifo h along s t (rest.receive w.queue) x.receive;
-        transmit = transmit_same w.queue s t (rest.transmit w.queue) x.transmit;
-      }
-
-  kept_ground : (s t : State) → KeepsGround s t → HasGround w.queue q s → HasGround w.queue q t
-  kept_ground s t k g = ground_same w.queue q s t k.mode k.vfs k.limit g
-
-  ask_receive_off : (number : ℕ) → IsNumberOf q.port Rxdctl q.queue number
-      → Leads w.queue (call_of (event.Write q.port number 0) reply.Done) Off Off
-  ask_receive_off number named s met made told x =
-      let t = after s (event.Write q.port number 0) in
-      let names = ground_names w.queue q s x.ground Rxdctl number refl named in
-      let takes = receive_words_taken w.queue s q.port number 0 Rxdctl met.small met.sound met.aligned x.receive.off
-      (omega arith) names in record {
-        ground = kept_ground s t takes.ground x.ground;
-        receive = record {
-          off = ap (λ (z : ReceiveQueue). z.on) takes.side ∙ x.receive.off;
-          unwanted = ap (λ (z : ReceiveQueue). z.wanted) takes.side;
-        };
-        transmit = transmit_same w.queue s t takes.other x.transmit;
-      }
-
-  ask_transmit_off : (number : ℕ) → IsNumberOf q.port Txdctl q.queue number
-      → Leads w.queue (call_of (event.Write q.port number 0) reply.Done) Off Off
-  ask_transmit_off number named s met made told x =
-      let t = after s (event.Write q.port number 0) in
-      let names = ground_names w.queue q s x.ground Txdctl number refl named in
-      let takes = transmit_words_taken w.queue s q.port number 0 Txdctl met.small met.sound met.aligned
-      x.transmit.off (omega arith) names in record {
-        ground = kept_ground s t takes.ground x.ground;
-        receive = off_same w q fifo h along s t takes.other x.receive;
-        transmit = record {
-          off = ap (λ (z : TransmitQueue). z.on) takes.side ∙ x.transmit.off;
-          unwanted = ap (λ (z : TransmitQueue). z.wanted) takes.side;
-        };
-      }
+  off_stays = quiet_kept w (lent_by w.pass h) q
 
   abbrev AtOff : List Call → Type 0
   AtOff calls = AtCalls w fifo h calls Off
@@ -116,21 +59,21 @@ module _ (w : Watched) (q : AtPort) (fifo : ℕ) (h : List Entry) (along : IsAlo
       → StepsBefore q old new (Sees row on) made → old ≢ [] → AtOff old → AtOff new
   see row on old new made steps some at =
       seen w q fifo h along Off Off row on off_stays off_stays
-      (λ number word named is s met can told x. read_off number s x) old new made steps some at
+      (λ number word named is s met can told x. read_quiet w.queue q s x q.port number) old new made steps some at
+
+  ask : (side : Dir) (word : ℕ) (old new : List Call) → word ≡ 0 → (made : IsMade q old new (Sets (enable_row side) word))
+      → StepsBefore q old new (Sets (enable_row side) word) made → old ≢ [] → AtOff old → AtOff new
+  ask side word old new is made steps some at =
+      set w q fifo h along Off Off (enable_row side) word off_stays off_stays
+      (λ number named s met can told x.
+      write_quiet w.queue q s x q.port number word met (side, refl, ap (has_bit 25) is, named)) old new made steps some
+      at
 
   access_off : (old new : List Call) (a : Access) → IsQuieting a → (made : IsMade q old new a)
       → StepsBefore q old new a made → old ≢ [] → AtOff old → AtOff new
   access_off old new (Sees row on) is made steps some at = see row on old new made steps some at
-  access_off old new (Sets Rxdctl word) is made steps some at =
-      set w q fifo h along Off Off Rxdctl word off_stays off_stays
-      (λ number named.
-      subst (λ (v : ℕ). Leads w.queue (call_of (event.Write q.port number v) reply.Done) Off Off) (sym is)
-      (ask_receive_off number named)) old new made steps some at
-  access_off old new (Sets Txdctl word) is made steps some at =
-      set w q fifo h along Off Off Txdctl word off_stays off_stays
-      (λ number named.
-      subst (λ (v : ℕ). Leads w.queue (call_of (event.Write q.port number v) reply.Done) Off Off) (sym is)
-      (ask_transmit_off number named)) old new made steps some at
+  access_off old new (Sets Rxdctl word) is made steps some at = ask Rx word old new is made steps some at
+  access_off old new (Sets Txdctl word) is made steps some at = ask Tx word old new is made steps some at
   access_off old new (Sets other word) is made steps some at = absurd is
 
   accesses_off : (all : List Access) (old new : List Call) → AllAre IsQuieting all → (made : AreMade q old new all)
@@ -147,7 +90,7 @@ module _ (w : Watched) (q : AtPort) (fifo : ℕ) (h : List Entry) (along : IsAlo
       let c = call_of (event.Read q.port number) (reply.Word word) in
       let made : (old ++ before) ++ c ∷ [] ≡ new = append_assoc old before (c ∷ []) ∙ sym added in
       subst AtOff made
-      (first_leads w fifo h Off (old ++ before) c along off_stays (read_off number)
+      (first_leads w fifo h Off (old ++ before) c along off_stays (λ s x. read_quiet w.queue q s x q.port number)
       (subst (λ (calls : List Call). BeforeLast w fifo h calls Off) (sym (append_assoc old before (c ∷ [])))
       (at before c steps refl)))
 

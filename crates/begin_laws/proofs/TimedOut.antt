@@ -19,7 +19,7 @@ use Rattle.pmd.specs.Started.{IsShut, StopsStarting, is_size, start_gate}
 use Rattle.pmd.specs.Starting.{IsPrepared, IsReceiveReady, GoingOnFails, PreparingFails, ReceiveFails}
 use Rattle.pmd.specs.declared.start.StartRefused.{StartRefused}
 use Rattle.pmd_rx.specs.Receive.{Receive}
-use Rattle.start_laws.proofs.On.{extends}
+use Rattle.start_laws.proofs.Made.{extends}
 use Rattle.begin_laws.specs.TimedOut.{AllEnable, Asked, TimesOut, TimeoutsPoll, misses, none_asked}
 
 -- so many reads of sides that are asked on, in vain

@@ -24,7 +24,7 @@ use Rattle.receive_laws.proofs.Delivering.{events_before, legal_behind}
 use Rattle.start_laws.specs.Along.{IsAlong}
 use Rattle.start_laws.specs.Start.{BeginsWell}
 use Rattle.start_laws.proofs.Along.{legal_before}
-use Rattle.start_laws.proofs.First.{around}
+use Rattle.start_laws.proofs.Parts.{around}
 use Rattle.driver_laws.specs.Going.{GoesOn}
 use Rattle.pmd.specs.Halves.{Halves, halves_of}
 use Rattle.driver_laws.proofs.Going.{halves_go_on, others_go_on}

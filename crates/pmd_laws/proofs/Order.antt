@@ -20,8 +20,8 @@ use Rattle.transmit_laws.specs.Agreeing.{Agrees, bytes_of}
 use Rattle.transmit_laws.specs.Laws as transmit
 use Rattle.transmit_laws.specs.Sent.{sent_in, sent_since}
 use Rattle.start_laws.specs.Unused.{WentOn}
-use Rattle.start_laws.proofs.Along.{Parts, begun, parts}
-use Rattle.start_laws.proofs.Lends.{IsLentBy}
+use Rattle.start_laws.proofs.Parts.{Parts, begun, parts}
+use Rattle.start_laws.proofs.Lent.{IsLentBy}
 use Rattle.start_laws.proofs.Start.{on_some, other_lent, ring_lent, start_agrees, start_goes_on}
 use Rattle.driver_laws.specs.Agreeing.{AreApart, AreLent}
 use Rattle.driver_laws.specs.Going.{GoesOn}

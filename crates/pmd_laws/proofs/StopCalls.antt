@@ -6,7 +6,8 @@ use Rattle.pmd_halt.specs.Halted.{Halted}
 use Rattle.pmd_halt.specs.Stopping.{IsLeft, IsLeftAmid, bringing, brought, closed}
 use Rattle.pmd_queue.specs.Named.{AtPort}
 use Rattle.start_laws.specs.Stopping.{Ends}
-use Rattle.start_laws.proofs.Stopping.{bringing_ends, none_ends, some_end, switched_off_ends, then_ends, unswitched_ends}
+use Rattle.start_laws.proofs.Stopping.{bringing_ends, switched_off_ends, unswitched_ends}
+use Rattle.start_laws.proofs.StopCalls.{none_ends, some_end, then_ends}
 use Rattle.pmd_laws.specs.Stopped.{FailedStopEnds, StepsAmid, StepsLeft, StopEnds}
 
 pub stop_ends : StopEnds

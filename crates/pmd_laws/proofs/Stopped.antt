@@ -22,9 +22,10 @@ use Rattle.start_laws.specs.Along.{AtEntries, IsAlong}
 use Rattle.start_laws.specs.Ending.{IsEnding, IsPlain, NamesDriven}
 use Rattle.start_laws.specs.Points.{HasGround}
 use Rattle.start_laws.specs.Start.{BeginsWell}
-use Rattle.start_laws.proofs.Along.{KeptOver, LeadsOver, Parts, reached, reached_next, state_kept, state_leads}
-use Rattle.start_laws.proofs.Ending.{all_lead, ending_plain, ending_settles, plain_keeps}
-use Rattle.start_laws.proofs.Off.{ground_kept}
+use Rattle.start_laws.proofs.Reached.{KeptOver, LeadsOver, reached, reached_next, state_kept, state_leads}
+use Rattle.start_laws.proofs.Parts.{Parts}
+use Rattle.start_laws.proofs.Ending.{all_lead, ending_plain, ending_settles}
+use Rattle.start_laws.proofs.Ground.{plain_keeps, ground_kept}
 use Rattle.start_laws.proofs.Settled.{IsSettled, Settles, left_settles}
 use Rattle.start_laws.proofs.Start.{ground_at, on_some}
 use Rattle.pmd.specs.Halves.{Halves}

@@ -18,8 +18,7 @@ use Rattle.pmd_tx.specs.Sending.{Sender, descriptor_at}
 use Rattle.transmit_laws.specs.Agreeing.{bytes_of}
 use Rattle.transmit_laws.specs.Laws.{FindsWaiting}
 use Rattle.transmit_laws.specs.Sent.{sent_since}
-use Rattle.start_laws.proofs.Along.{Parts}
-use Rattle.start_laws.proofs.First.{calls_joined}
+use Rattle.start_laws.proofs.Parts.{Parts, calls_joined}
 use Rattle.driver_laws.specs.Going.{GoesOn}
 use Rattle.pmd.specs.Halves.{Halves, halves_of}
 use Rattle.driver_laws.proofs.Going.{halves_go_on, others_go_on, sending_goes_on}

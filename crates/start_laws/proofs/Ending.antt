@@ -1,16 +1,11 @@
--- A driver's own calls leave what it rests on, and those of its stop leave its receive side settled.
-use Rattle.std.proofs.Common.{◌≡◌, ◌≢◌, ℕ, true, false, List, [], ◌∷◌, ◌++◌, refl, sym, ap, ◌∙◌, subst, append_assoc, Some}
+-- The calls of a driver's stop leave its receive side settled.
+use Rattle.std.proofs.Common.{◌≡◌, ◌≢◌, ℕ, true, false, List, [], ◌∷◌, ◌++◌, refl, sym, subst, append_assoc, Some}
 use Rattle.std.proofs.lemmas.List.{append-nil}
 use Rattle.dma_arena.specs.Block.{Block}
-use Rattle.reg_table.specs.declared.rows.RowId.{RowId}
 use Rattle.reg_table.specs.declared.rows.RowId.TheVariants.{Rxdctl, Txdctl}
 use Rattle.register_file.specs.Bits.{has_bit}
 use Rattle.register_file.specs.Columns.{place}
 use Rattle.register_file.specs.Pools.{mode_in}
-use Rattle.register_laws.specs.Sides.{ReceiveQueue, TransmitQueue, receive_queue_of, transmit_queue_of}
-use Rattle.register_laws.proofs.Switches.{receive-asked, transmit-asked}
-use Rattle.device_laws.specs.Leaving.{LeavesReceive, LeavesTransmit}
-use Rattle.nic_device.specs.declared.event.Port.{Port}
 use Rattle.register_file.specs.Queue.{enable_row}
 use Rattle.register_file.specs.declared.dir.Dir.{Dir}
 use Rattle.register_file.specs.declared.dir.Dir.TheVariants.{Rx, Tx}
@@ -21,8 +16,7 @@ use Rattle.nic_device.specs.declared.event.Event.{Event}
 use Rattle.nic_device.specs.declared.event.Event.TheVariants as event
 use Rattle.nic_device.specs.declared.event.Reply.{Reply}
 use Rattle.nic_device.specs.declared.event.Reply.TheVariants.{Wrote, Advanced, Sent}
-use Rattle.device_laws.proofs.KeptSettings.{settings_stand}
-use Rattle.device_laws.proofs.Standing.{memory_rest, stays_within}
+use Rattle.device_laws.proofs.Standing.{memory_rest}
 use Rattle.device_laws.proofs.StandingAccesses.{read_rest, write_rest}
 use Rattle.device_lock.specs.Alone.{WritesOutside, lent_by}
 use Rattle.device_lock.specs.declared.alone.Watched.{Watched}
@@ -36,13 +30,12 @@ use Rattle.start_laws.specs.Ending.{Each, IsEnding, IsPlain}
 use Rattle.start_laws.specs.Moves.{IsMet}
 use Rattle.start_laws.specs.Points.{HasGround}
 use Rattle.start_laws.specs.Quiet.{no_block}
-use Rattle.start_laws.specs.Quieting.{IsQuiet}
 use Rattle.start_laws.specs.Standing.{IsLeft}
-use Rattle.start_laws.proofs.Along.{KeptOver, LeadsOver, entries_lead}
+use Rattle.start_laws.proofs.Reached.{KeptOver, LeadsOver}
+use Rattle.start_laws.proofs.Along.{entries_lead}
 use Rattle.start_laws.proofs.Numbers.{ground_names}
-use Rattle.start_laws.proofs.Points.{driven_plain, ends_some, ground_same}
+use Rattle.start_laws.proofs.Made.{ends_some}
 use Rattle.start_laws.proofs.Settled.{IsSettled, Settles, asked_settles, leaving_settles, left_settles}
-use Rattle.start_laws.proofs.Words.{ground, wrote}
 
 -- calls of one kind keep what each of them keeps
 pub all_lead : (w : Watched) (fifo : ℕ) (h : List Entry) (P : List Entry → Type 0) (Own : Call → Type 0)
@@ -80,26 +73,8 @@ step_left queue s e met made is =
       steps = outside_none queue (reply_to s e);
     }
 
+-- what a stop's events write keeps the receive side settled
 module _ (queue : ℕ) (q : AtPort) (s : State) where
-  -- what a driver rests on stays
-
-  write_keeps : (row : RowId) (number word : ℕ) → is_driven row ≡ true → IsNumberOf q.port row q.queue number
-      → HasGround queue q s → HasGround queue q (after s (event.Write q.port number word))
-  write_keeps row number word is named g =
-      let k = ground queue s q.port number word row (ground_names queue q s g row number is named)
-      (driven_plain row is) in
-      ground_same queue q s (after s (event.Write q.port number word)) k.mode k.vfs k.limit g
-
-  pub plain_keeps : (e : Event Block) → IsPlain q e → HasGround queue q s → HasGround queue q (after s e)
-  plain_keeps (event.Write port number word) (row, same, is, named) g =
-      subst (λ p. HasGround queue q (after s (event.Write p number word))) (sym same)
-      (write_keeps row number word is named g)
-  plain_keeps e plain g =
-      let stay = settings_stand s e tt in
-      ground_same queue q s (after s e) stay.mode (stays_within s e).vfs stay.limit g
-
-  -- and the receive side stays settled
-
   asked : (side : Dir) (number word : ℕ) → IsMet queue s → has_bit 25 word ≡ false
       → IsNumberOf q.port (enable_row side) q.queue number → HasGround queue q s → IsSettled queue s
       → Settles queue s (after s (event.Write q.port number word))
@@ -131,81 +106,3 @@ pub ending_plain : (q : AtPort) (e : Event Block) → IsEnding q e → IsPlain q
 ending_plain q (event.Write port number word) (side, same, none, named) =
     (enable_row side, same, side_plain q side, named)
 ending_plain q e ending = tt
-
--- sides that are off stay so
-module _ (queue : ℕ) (q : AtPort) (s : State) (x : IsQuiet queue q s) where
-  quiet_same : (t : State) → HasGround queue q t → LeavesReceive queue s t → LeavesTransmit queue s t
-      → IsQuiet queue q t
-  quiet_same t g receive send = record {
-    ground = g;
-    receive = record {
-      off = ap (λ (k : ReceiveQueue). k.on) receive ∙ x.receive.off;
-      unwanted = ap (λ (k : ReceiveQueue). k.wanted) receive ∙ x.receive.unwanted;
-    };
-    transmit = record {
-      off = ap (λ (k : TransmitQueue). k.on) send.side ∙ x.transmit.off;
-      unwanted = ap (λ (k : TransmitQueue). k.wanted) send.side ∙ x.transmit.unwanted;
-    };
-  }
-
-  asked_quiet : (side : Dir) (number word : ℕ) → IsMet queue s → has_bit 25 word ≡ false
-      → IsNumberOf q.port (enable_row side) q.queue number
-      → IsQuiet queue q (after s (event.Write q.port number word))
-  asked_quiet Rx number word met none named =
-      let t = after s (event.Write q.port number word) in
-      let names = ground_names queue q s x.ground Rxdctl number refl named in
-      let side : receive_queue_of t.registers queue
-      ≡ record (receive_queue_of s.registers queue) { wanted = has_bit 25 word } =
-      ap (λ r. receive_queue_of r queue) (wrote queue s q.port number word Rxdctl names refl)
-      ∙ receive-asked s.registers met.sound.registers.shape queue met.small 0xFFFFFFFF word in
-      let send = (write_rest s q.port number word (place Rxdctl queue) 0xFFFFFFFF names refl refl).transmit queue
-      (λ e. cc) in
-      record {
-        ground = write_keeps queue q s Rxdctl number word refl named x.ground;
-        receive = record {
-          off = ap (λ (k : ReceiveQueue). k.on) side ∙ x.receive.off;
-          unwanted = ap (λ (k : ReceiveQueue). k.wanted) side ∙ none;
-        };
-        transmit = record {
-          off = ap (λ (k : TransmitQueue). k.on) send.side ∙ x.transmit.off;
-          unwanted = ap (λ (k : TransmitQueue). k.wanted) send.side ∙ x.transmit.unwanted;
-        };
-      }
-  asked_quiet Tx number word met none named =
-      let t = after s (event.Write q.port number word) in
-      let names = ground_names queue q s x.ground Txdctl number refl named in
-      let side : transmit_queue_of t.registers queue
-      ≡ record (transmit_queue_of s.registers queue) { wanted = has_bit 25 word } =
-      ap (λ r. transmit_queue_of r queue) (wrote queue s q.port number word Txdctl names refl)
-      ∙ transmit-asked s.registers met.sound.registers.shape queue met.small 0xFFFFFFFF word in
-      let receive = (write_rest s q.port number word (place Txdctl queue) 0xFFFFFFFF names refl refl).receive queue
-      (λ e. cc) in
-      record {
-        ground = write_keeps queue q s Txdctl number word refl named x.ground;
-        receive = record {
-          off = ap (λ (k : ReceiveQueue). k.on) receive ∙ x.receive.off;
-          unwanted = ap (λ (k : ReceiveQueue). k.wanted) receive ∙ x.receive.unwanted;
-        };
-        transmit = record {
-          off = ap (λ (k : TransmitQueue). k.on) side ∙ x.transmit.off;
-          unwanted = ap (λ (k : TransmitQueue). k.wanted) side ∙ none;
-        };
-      }
-
-  pub write_quiet : (port : Port) (number word : ℕ) → IsMet queue s → IsEnding q (event.Write port number word)
-      → IsQuiet queue q (after s (event.Write port number word))
-  write_quiet port number word met (side, same, none, named) =
-      subst (λ p. IsQuiet queue q (after s (event.Write p number word))) (sym same)
-      (asked_quiet side number word met none named)
-
-  pub read_quiet : (port : Port) (number : ℕ) → IsQuiet queue q (after s (event.Read port number))
-  read_quiet port number =
-      let rest = (read_rest s port number).queues in
-      quiet_same (after s (event.Read port number)) (plain_keeps queue q s (event.Read port number) tt x.ground)
-      (rest.receive queue) (rest.transmit queue)
-
-  pub take_quiet : (number : ℕ) → IsQuiet queue q (after s (event.Take number))
-  take_quiet number =
-      let rest = (memory_rest.take s number).queues in
-      quiet_same (after s (event.Take number)) (plain_keeps queue q s (event.Take number) tt x.ground)
-      (rest.receive queue) (rest.transmit queue)

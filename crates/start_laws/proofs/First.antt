@@ -1,9 +1,6 @@
 -- What holds just before a call of a pass that keeps it holds wherever that call is the last that it made.
-use Rattle.std.proofs.Common.{◌≡◌, ℕ, inl, inr, List, [], ◌∷◌, ◌++◌, refl, sym, ap, ◌∙◌, subst, append_assoc}
-use Rattle.std.specs.Prelude.{◌==◌}
-use Rattle.std.proofs.lemmas.Bool.{cases_Bool, eq-eqb, eqb-true}
-use Rattle.std.proofs.lemmas.List.{append-nil, map-append}
-use Rattle.std.proofs.lemmas.List.Elements.{filter-append}
+use Rattle.std.proofs.Common.{◌≡◌, ℕ, List, [], ◌∷◌, ◌++◌, sym, ap, ◌∙◌, subst, append_assoc}
+use Rattle.std.proofs.lemmas.Bool.{eq-eqb}
 use Rattle.nic_device.specs.State.{State}
 use Rattle.nic_device.specs.Step.{after}
 use Rattle.device_lock.specs.Alone.{lent_by}
@@ -11,79 +8,12 @@ use Rattle.device_lock.specs.History.{call_in, calls_of}
 use Rattle.device_lock.specs.declared.alone.Watched.{Watched}
 use Rattle.device_lock.specs.declared.entry.Call.{Call}
 use Rattle.device_lock.specs.declared.entry.Entry.{Entry}
-use Rattle.receive_laws.proofs.Histories.{calls_other, calls_own}
+use Rattle.receive_laws.proofs.Histories.{calls_own}
 use Rattle.start_laws.specs.Along.{AtCalls, BeforeLast, IsAlong, IsKept}
-use Rattle.start_laws.proofs.Along.{kept_on, parts, reached, reached_next, state_kept}
-use Rattle.start_laws.proofs.Points.{ends_some}
-
--- a history around the first entry of a pass
-pub record First (pass : ℕ) (h : List Entry) (c : Call) (ys : List Call) : Type 0 where
-  pub front : List Entry
-  pub entry : Entry
-  pub back : List Entry
-  pub both : front ++ entry ∷ back ≡ h
-  pub none : calls_of pass front ≡ []
-  pub own : entry.pass ≡ pass
-  pub call : call_in entry ≡ c
-  pub backs : calls_of pass back ≡ ys
-
-pub first_own : (pass : ℕ) (h : List Entry) (c : Call) (ys : List Call) → calls_of pass h ≡ c ∷ ys → First pass h c ys
-first_own pass [] c ys is = cc
-first_own pass (e ∷ es) c ys is = elim (cases_Bool (e.pass == pass)) as (λ _. First pass (e ∷ es) c ys) [
-  | inl own ↦
-      let here : call_in e ∷ calls_of pass es ≡ c ∷ ys = sym (calls_own pass e es own) ∙ is in record {
-        front = [];
-        entry = e;
-        back = es;
-        both = refl;
-        none = refl;
-        own = eqb-true e.pass pass own;
-        call = cc;
-        backs = cc;
-      }
-  | inr other ↦
-      let f = first_own pass es c ys (sym (calls_other pass e es other) ∙ is) in record {
-        front = e ∷ f.front;
-        entry = f.entry;
-        back = f.back;
-        both = ap (λ (l : List Entry). e ∷ l) f.both;
-        none = calls_other pass e f.front other ∙ f.none;
-        own = f.own;
-        call = f.call;
-        backs = f.backs;
-      }
-]
-
--- and so around the entry of a call that the pass made
-pub record Around (pass : ℕ) (h : List Entry) (calls : List Call) (c : Call) (more : List Call) : Type 0 where
-  pub before : List Entry
-  pub entry : Entry
-  pub behind : List Entry
-  pub all : before ++ entry ∷ behind ≡ h
-  pub made : calls_of pass before ≡ calls
-  pub own : entry.pass ≡ pass
-  pub call : call_in entry ≡ c
-  pub later : calls_of pass behind ≡ more
-
--- the calls of two histories in turn
-pub calls_joined : (pass : ℕ) (g h : List Entry) → calls_of pass (g ++ h) ≡ calls_of pass g ++ calls_of pass h
-calls_joined pass g h = rw (filter-append, map-append) refl
-
-pub around : (pass : ℕ) (h : List Entry) (calls : List Call) (c : Call) (more : List Call)
-    → calls_of pass h ≡ calls ++ c ∷ more → Around pass h calls c more
-around pass h calls c more is =
-    let p = parts pass h calls (c ∷ more) is in
-    let f = first_own pass p.back c more p.backs in record {
-      before = p.front ++ f.front;
-      entry = f.entry;
-      behind = f.back;
-      all =
-          append_assoc p.front f.front (f.entry ∷ f.back) ∙ ap (λ (l : List Entry). p.front ++ l) f.both ∙ p.both;
-      made = calls_joined pass p.front f.front ∙ (λ i. p.fronts i ++ f.none i) ∙ append-nil calls;
-      own = f.own;
-      call = f.call;
-      later = f.backs;
-    }
+use Rattle.start_laws.proofs.Along.{kept_on}
+use Rattle.start_laws.proofs.Reached.{reached, reached_next, state_kept}
+use Rattle.start_laws.proofs.Made.{ends_some}
+use Rattle.start_laws.proofs.Parts.{around, calls_joined}
 
 pub first_leads : (w : Watched) (fifo : ℕ) (h : List Entry) (P : State → Type 0) (old : List Call) (c : Call)
     → IsAlong w fifo h → IsKept w (lent_by w.pass h) P → ((s : State) → P s → P (after s c.event))

@@ -1,10 +1,10 @@
 -- On a queue whose sides are off nothing is received or sent, over events that leave it alone and calls of a stop.
-use Rattle.std.proofs.Common.{cond, ◌≡◌, ◌≢◌, ℕ, ◌⊎◌, inl, inr, List, [], ◌∷◌, ◌++◌, Option, Some, None, option_map, refl, sym, ap, ◌∙◌, subst, append_assoc}
+use Rattle.std.proofs.Common.{cond, ◌≡◌, ◌≢◌, ℕ, inl, inr, List, [], ◌∷◌, ◌++◌, Option, Some, None, option_map, refl, sym, ap, ◌∙◌, subst, append_assoc}
 use Rattle.std.proofs.lemmas.List.{append-nil}
 use Rattle.dma_arena.specs.Block.{Block}
 use Rattle.register_file.specs.Queue.{is_on}
-use Rattle.register_laws.specs.Sides.{receive_queue_of, transmit_queue_of}
 use Rattle.register_file.specs.declared.dir.Dir.TheVariants.{Rx, Tx}
+use Rattle.register_laws.specs.Sides.{receive_queue_of, transmit_queue_of}
 use Rattle.nic_device.specs.Sound.{IsEvent}
 use Rattle.nic_device.specs.State.{State, new_state}
 use Rattle.nic_device.specs.Step.{after}
@@ -32,13 +32,16 @@ use Rattle.start_laws.specs.Quieting.{IsQuiet}
 use Rattle.start_laws.specs.Silent.{IsSilent, QuietQueueIsSilent}
 use Rattle.start_laws.specs.Standing.{IsLeft}
 use Rattle.start_laws.specs.Stopping.{Ends}
-use Rattle.start_laws.proofs.Along.{KeptOver, LeadsOver, kept_on, reached, reached_next}
-use Rattle.start_laws.proofs.Ending.{all_lead, read_quiet, step_left, take_quiet, watching, write_quiet}
-use Rattle.start_laws.proofs.First.{calls_joined}
-use Rattle.start_laws.proofs.Off.{ground_kept, off_kept, transmit_off_kept}
+use Rattle.start_laws.proofs.Reached.{KeptOver, LeadsOver, reached, reached_next}
+use Rattle.start_laws.proofs.Along.{kept_on}
+use Rattle.start_laws.proofs.Ending.{all_lead, step_left, watching}
+use Rattle.start_laws.proofs.QuietKept.{read_quiet, take_quiet, write_quiet, quiet_kept}
+use Rattle.start_laws.proofs.Parts.{calls_joined, Begins, one_begins, none_behind}
 use Rattle.start_laws.proofs.Quiet.{off_sides_stand}
 use Rattle.start_laws.proofs.Settled.{not_again}
 use Rattle.start_laws.proofs.Standing.{standing_sides_are_left}
+
+-- On a queue whose sides are off nothing is received or sent, over events that leave it alone and calls of a stop.
 
 -- an event by which nothing is received or sent, and behind which the sides are off
 record StaysQuiet (queue : ℕ) (q : AtPort) (s : State) (e : Event Block) : Type 0 where
@@ -52,11 +55,7 @@ left_stays w mine q s e left bare x =
     let l = standing_sides_are_left w mine no_block s e (receive_queue_of s.registers w.queue)
     (transmit_queue_of s.registers w.queue) left (λ n is. cc)
     (off_sides_stand w.queue s left.small bare x.receive x.transmit) in record {
-      quiet = record {
-        ground = ground_kept w mine q s e left x.ground;
-        receive = off_kept w mine s e left x.receive;
-        transmit = transmit_off_kept w mine s e left x.transmit;
-      };
+      quiet = quiet_kept w mine q s e left x;
       received = l.received;
       sent = l.sent;
     }
@@ -123,25 +122,6 @@ module _ (w : Watched) (q : AtPort) (fifo : ℕ) (done : List Entry) where
       let mine = subst (λ (n : Call). IsEnding q n.event) (sym same) own in
       silent_on now e (histories_keep_staged (reached w fifo now) (e ∷ []) met.sound (made, tt) x.bare)
       (ending_stays w.queue q (reached w fifo now) e.event met made mine x.bare x.quiet) x
-
--- two beginnings of a history: one begins the other
-
-abbrev Begins : List Entry → List Entry → Type 0
-Begins xs zs = (back : List Entry) × (xs ++ back ≡ zs)
-
-one_begins : (xs ys zs ws : List Entry) → xs ++ ys ≡ zs ++ ws → Begins xs zs ⊎ Begins zs xs
-one_begins [] ys zs ws is = inl (zs, refl)
-one_begins (x ∷ xs) ys [] ws is = inr (x ∷ xs, refl)
-one_begins (x ∷ xs) ys (z ∷ zs) ws is =
-    let first : x ≡ z = cc in
-    elim (one_begins xs ys zs ws (cc)) as (λ _. Begins (x ∷ xs) (z ∷ zs) ⊎ Begins (z ∷ zs) (x ∷ xs)) [
-      | inl (back, both) ↦ inl (back, λ i. first i ∷ both i)
-      | inr (back, both) ↦ inr (back, λ i. sym first i ∷ both i)
-    ]
-
-none_behind : (xs ys : List Call) → xs ++ ys ≡ xs → ys ≡ []
-none_behind [] ys is = is
-none_behind (x ∷ xs) ys is = none_behind xs ys (cc)
 
 module _ (w : Watched) (q : AtPort) (fifo : ℕ) (h done rest : List Entry) (old : List Call) (along : IsAlong w fifo h)
     (some : old ≢ []) (at : AtCalls w fifo h old (IsQuiet w.queue q)) (all : done ++ rest ≡ h)

@@ -11,7 +11,7 @@ use Rattle.start_laws.specs.Along.{AtCalls, AtEntries, IsAlong}
 use Rattle.start_laws.specs.On.{AreOn, StepsToOn}
 use Rattle.start_laws.specs.Points.{HasGround}
 use Rattle.start_laws.specs.Start.{OnlySteps, BeginsWell, StartAgrees, StartGoesOn}
-use Rattle.start_laws.proofs.Lends.{IsLentBy}
+use Rattle.start_laws.proofs.Lent.{IsLentBy}
 use Rattle.start_laws.proofs.On.{ground_at as ground_is_at, on_some as once_on_some, other_lent as other_is_lent, ring_lent as ring_is_lent, switched_sides_agree, switched_sides_go_on}
 
 module _ (w : Watched) (fifo : ℕ) (h : List Entry) (q : AtPort) (size : ℕ) (old : List Call) (a : Numbers)

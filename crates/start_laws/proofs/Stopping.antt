@@ -1,21 +1,14 @@
 -- Switching a queue off and taking blocks back are calls of a stop, beside steps of the device.
-use Rattle.std.proofs.Common.{◌≡◌, ℕ, zero, suc, inl, inr, true, false, not, ◌-◌, List, [], ◌∷◌, ◌++◌, refl, sym, ap, ◌∙◌, subst, append_assoc}
+use Rattle.std.proofs.Common.{◌≡◌, ℕ, zero, suc, inl, inr, false, not, ◌-◌, List, [], ◌∷◌, ◌++◌, refl, ap, subst, Bool}
 use Rattle.std.specs.Prelude.{⊤, IsFalse}
-use Rattle.std.proofs.lemmas.List.{append-nil}
-use Rattle.nic_device.specs.declared.event.Event.{Event}
-use Rattle.nic_device.specs.declared.event.Event.TheVariants as event
-use Rattle.nic_device.specs.declared.event.Reply.{Reply}
-use Rattle.dma_arena.specs.Block.{Block}
-use Rattle.device_lock.specs.Pass.{call_of}
-use Rattle.device_lock.specs.declared.entry.Call.{Call}
 use Rattle.reg_table.specs.declared.rows.RowId.{RowId}
 use Rattle.register_file.specs.Bits.{has_bit}
 use Rattle.register_file.specs.Queue.{enable_row}
 use Rattle.register_file.specs.declared.dir.Dir.{Dir}
 use Rattle.register_file.specs.declared.dir.Dir.TheVariants.{Rx, Tx}
-use Rattle.pmd_base.specs.Events.{is_step}
+use Rattle.nic_device.specs.declared.event.Event.TheVariants as event
+use Rattle.device_lock.specs.declared.entry.Call.{Call}
 use Rattle.pmd_base.specs.Home.{Bringing, BringsOne}
-use Rattle.pmd_base.specs.Made.{Adds, AddsSome}
 use Rattle.pmd_base.specs.declared.fault.PmdFault.{PmdFault}
 use Rattle.pmd_base.specs.declared.fault.PmdFault.TheVariants.{BadSize, DeviceFault, ForeignBlock, NoBuffer, StartTimeout}
 use Rattle.pmd_base.specs.declared.fault.PmdFault.TheVariants as fault
@@ -24,57 +17,18 @@ use Rattle.pmd_queue.specs.Made.{Access, Sees, Sets, AreMade, FailsBy, IsMade, I
 use Rattle.pmd_queue.specs.Named.{AtPort, IsNumberOf}
 use Rattle.pmd_queue.specs.Sides.{PollsEnd, missed, polled}
 use Rattle.start_laws.specs.Along.{AreSteps}
-use Rattle.start_laws.specs.Ending.{Each, IsEnding}
+use Rattle.start_laws.specs.Ending.{IsEnding}
 use Rattle.start_laws.specs.Points.{StepsBefore, StepsBetween}
 use Rattle.start_laws.specs.Stopping.{BringingEnds, Ends, StepsAsFails, StepsAsPolled, StepsOtherwise, StepsTaking, StepsToStop, SwitchedOffEnds, UnswitchedEnds}
+use Rattle.start_laws.proofs.StopCalls.{adds_ends, none_ends, some_end, then_ends}
+use Rattle.start_laws.proofs.AllAre.{AllAre, all_before, all_both, all_missed, all_polled}
 
 module _ (q : AtPort) where
-  abbrev Own : Call → Type 0
-  Own c = IsEnding q c.event
-
-  -- calls of a stop, in parts
-
-  each_both : (cs ds : List Call) → Each Own cs → Each Own ds → Each Own (cs ++ ds)
-  each_both [] ds are more = more
-  each_both (c ∷ cs) ds are more = (are.0, each_both cs ds are.1 more)
-
-  step_ends : (e : Event Block) → is_step e ≡ true → IsEnding q e
-  step_ends (event.Read port number) is = tt
-  step_ends (event.Take number) is = tt
-  step_ends (event.Write port number word) is = cc
-  step_ends e is = is
-
-  steps_end : (cs : List Call) → AreSteps cs → Each Own cs
-  steps_end [] are = tt
-  steps_end (c ∷ cs) are = (step_ends c.event are.0, steps_end cs are.1)
-
-  pub none_ends : (old new : List Call) → new ≡ old → Ends q old new
-  none_ends old new e = ([], e ∙ sym (append-nil old), tt)
-
-  pub then_ends : (old mid new : List Call) → Ends q old mid → Ends q mid new → Ends q old new
-  then_ends old mid new (cs, one, are) (ds, two, more) = (
-    cs ++ ds,
-    two ∙ ap (λ (l : List Call). l ++ ds) one ∙ append_assoc old cs ds,
-    each_both cs ds are more,
-  )
-
-  adds_ends : (old new : List Call) (e : Event Block) (r : Reply Block) → (x : Adds old new e r) → AreSteps x.0
-      → IsEnding q e → Ends q old new
-  adds_ends old new e r (before, is) steps own =
-      (before ++ call_of e r ∷ [], is, each_both before (call_of e r ∷ []) (steps_end before steps) (own, tt))
-
-  pub some_end : (old new : List Call) → (x : AddsSome old new) → AreSteps x.0 → Ends q old new
-  some_end old new (before, is) steps = (before, is, steps_end before steps)
-
   -- accesses
 
   abbrev MayEnd : Access → Type 0
   MayEnd (Sees row on) = ⊤
   MayEnd (Sets row word) = (side : Dir) × (row ≡ enable_row side) × IsFalse (has_bit 25 word)
-
-  abbrev AllMayEnd : List Access → Type 0
-  AllMayEnd [] = ⊤
-  AllMayEnd (a ∷ rest) = MayEnd a × AllMayEnd rest
 
   written : (row : RowId) (word number : ℕ) → MayEnd (Sets row word) → IsNumberOf q.port row q.queue number
       → IsEnding q (event.Write q.port number word)
@@ -83,53 +37,42 @@ module _ (q : AtPort) where
 
   made_ends : (a : Access) (old new : List Call) → MayEnd a → (x : IsMade q old new a) → StepsBefore q old new a x
       → Ends q old new
-  made_ends (Sees row on) old new may (number, word, named, is, adds) steps = adds_ends old new _ _ adds steps tt
+  made_ends (Sees row on) old new may (number, word, named, is, adds) steps = adds_ends q old new _ _ adds steps tt
   made_ends (Sets row word) old new may (number, named, adds) steps =
-      adds_ends old new _ _ adds steps (written row word number may named)
+      adds_ends q old new _ _ adds steps (written row word number may named)
 
-  all_end : (all : List Access) (old new : List Call) → AllMayEnd all → (x : AreMade q old new all)
+  all_end : (all : List Access) (old new : List Call) → AllAre MayEnd all → (x : AreMade q old new all)
       → StepsBetween q old new all x → Ends q old new
-  all_end [] old new may x steps = none_ends old new x
+  all_end [] old new may x steps = none_ends q old new x
   all_end (a ∷ rest) old new may (mid, here, more) steps =
-      then_ends old mid new (made_ends a old mid may.0 here steps.0) (all_end rest mid new may.1 more steps.1)
+      then_ends q old mid new (made_ends a old mid may.0 here steps.0) (all_end rest mid new may.1 more steps.1)
 
-  all_both : (one two : List Access) → AllMayEnd one → AllMayEnd two → AllMayEnd (one ++ two)
-  all_both [] two may more = more
-  all_both (a ∷ one) two may more = (may.0, all_both one two may.1 more)
+  reads : (side : Dir) (seen : Bool) → MayEnd (Sees (enable_row side) seen)
+  reads side seen = tt
 
-  all_first : (one two : List Access) → AllMayEnd (one ++ two) → AllMayEnd one
-  all_first [] two may = tt
-  all_first (a ∷ one) two may = (may.0, all_first one two may.1)
-
-  all_next : (one : List Access) (a : Access) (two : List Access) → AllMayEnd (one ++ a ∷ two) → MayEnd a
-  all_next [] a two may = may.0
-  all_next (b ∷ one) a two may = all_next one a two may.1
-
-  asked_may : AllMayEnd (both_asked false)
+  asked_may : AllAre MayEnd (both_asked false)
   asked_may = ((Rx, refl, refl), ((Tx, refl, refl), tt))
 
-  missed_may : (side : Dir) (count : ℕ) → AllMayEnd (missed side false count)
-  missed_may side zero = tt
-  missed_may side (suc count) = (tt, missed_may side count)
+  missed_may : (side : Dir) (count : ℕ) → AllAre MayEnd (missed side false count)
+  missed_may = all_missed MayEnd false reads
 
-  polled_may : (side : Dir) (count : ℕ) → AllMayEnd (polled side false count)
-  polled_may side count =
-      all_both (missed side false count) (Sees (enable_row side) false ∷ []) (missed_may side count) (tt, tt)
+  polled_may : (side : Dir) (count : ℕ) → AllAre MayEnd (polled side false count)
+  polled_may = all_polled MayEnd false reads
 
-  receive_may : (count : ℕ) → AllMayEnd (receive_polled false count)
-  receive_may count = all_both (both_asked false) (polled Rx false count) asked_may (polled_may Rx count)
+  receive_may : (count : ℕ) → AllAre MayEnd (receive_polled false count)
+  receive_may count = all_both MayEnd (both_asked false) (polled Rx false count) asked_may (polled_may Rx count)
 
   -- those that fail
 
   stray_ends : (old new : List Call) (row : RowId) → (x : IsStrayRead q old new row) → AreSteps x.3.0 → Ends q old new
-  stray_ends old new row (number, word, named, adds) steps = adds_ends old new _ _ adds steps tt
+  stray_ends old new row (number, word, named, adds) steps = adds_ends q old new _ _ adds steps tt
 
   otherwise_ends : (a : Access) (old new : List Call) → MayEnd a → (x : IsOtherwise q old new a)
       → StepsOtherwise q old new a x → Ends q old new
   otherwise_ends (Sees row on) old new may (inl seen) steps = made_ends (Sees row (not on)) old new tt seen steps
   otherwise_ends (Sees row on) old new may (inr stray) steps = stray_ends old new row stray steps
   otherwise_ends (Sets row word) old new may (number, told, named, adds) steps =
-      adds_ends old new _ _ adds steps (written row word number may named)
+      adds_ends q old new _ _ adds steps (written row word number may named)
 
   fails_end : (f : PmdFault) (a : Access) (old new : List Call) → MayEnd a → (x : FailsBy f q old new a)
       → StepsAsFails f q old new a x → Ends q old new
@@ -138,14 +81,14 @@ module _ (q : AtPort) where
   fails_end StartTimeout a old new may x steps = absurd x
   fails_end NoBuffer a old new may x steps = absurd x
   fails_end DeviceFault a old new may x steps = otherwise_ends a old new may x steps
-  fails_end (fault.Call refused) a old new may x steps = some_end old new x steps
+  fails_end (fault.Call refused) a old new may x steps = some_end q old new x steps
 
-  stops_end : (f : PmdFault) (all : List Access) (old new : List Call) → AllMayEnd all → (x : StopsBy f q old new all)
+  stops_end : (f : PmdFault) (all : List Access) (old new : List Call) → AllAre MayEnd all → (x : StopsBy f q old new all)
       → StepsToStop f q old new all x → Ends q old new
   stops_end f all old new may (done, a, rest, mid, is, made, fails) steps =
-      let parts = subst AllMayEnd is may in
-      then_ends old mid new (all_end done old mid (all_first done (a ∷ rest) parts) made steps.0)
-      (fails_end f a mid new (all_next done a rest parts) fails steps.1)
+      let parts = all_before MayEnd done a rest (subst (AllAre MayEnd) is may) in
+      then_ends q old mid new (all_end done old mid parts.0 made steps.0)
+      (fails_end f a mid new parts.1 fails steps.1)
 
   polls_end : (f : PmdFault) (side : Dir) (polls : ℕ) (old new : List Call)
       → (x : PollsEnd f q old new side false polls) → StepsAsPolled f q old new side polls x → Ends q old new
@@ -155,22 +98,22 @@ module _ (q : AtPort) where
   polls_end StartTimeout side polls old new x steps =
       all_end (missed side false polls) old new (missed_may side polls) x steps
   polls_end DeviceFault side polls old new (misses, mid, few, made, stray) steps =
-      then_ends old mid new (all_end (missed side false misses) old mid (missed_may side misses) made steps.0)
+      then_ends q old mid new (all_end (missed side false misses) old mid (missed_may side misses) made steps.0)
       (stray_ends mid new (enable_row side) stray steps.1)
   polls_end (fault.Call refused) side polls old new (misses, mid, few, made, more) steps =
-      then_ends old mid new (all_end (missed side false misses) old mid (missed_may side misses) made steps.0)
-      (some_end mid new more steps.1)
+      then_ends q old mid new (all_end (missed side false misses) old mid (missed_may side misses) made steps.0)
+      (some_end q mid new more steps.1)
 
   -- a block that is taken back
 
   taking_ends : (s t : Bringing) → (x : BringsOne s t) → StepsTaking s t x → Ends q s.made t.made
-  taking_ends s t (n, first, inl brought) steps = adds_ends s.made t.made _ _ brought.taken.2 steps tt
-  taking_ends s t (n, first, inr missed) steps = adds_ends s.made t.made _ _ missed.taken steps tt
+  taking_ends s t (n, first, inl brought) steps = adds_ends q s.made t.made _ _ brought.taken.2 steps tt
+  taking_ends s t (n, first, inr missed) steps = adds_ends q s.made t.made _ _ missed.taken steps tt
 
 pub switched_off_ends : SwitchedOffEnds
 switched_off_ends q old new (first, second, few, made) steps =
     all_end q (receive_polled false first ++ polled Tx false second) old new
-    (all_both q (receive_polled false first) (polled Tx false second) (receive_may q first) (polled_may q Tx second))
+    (all_both (MayEnd q) (receive_polled false first) (polled Tx false second) (receive_may q first) (polled_may q Tx second))
     made steps
 
 pub unswitched_ends : UnswitchedEnds

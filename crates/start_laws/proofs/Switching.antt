@@ -1,61 +1,21 @@
--- The accesses by which a driver's sides come up, and the fresh sides that they lead to.
-use Rattle.std.proofs.Common.{◌≡◌, ℕ, ◌+◌, ◌*◌, ◌/◌, ◌%◌, ◌^◌, ◌<◌, inl, inr, Bool, true, false, ◌||◌, replicate, zero, suc, List, [], ◌∷◌, ◌++◌, refl, ap, ◌∙◌, arith, None}
-use Rattle.std.proofs.lemmas.Bool.{both_ways}
+-- Both sides are asked on and polled until they are: the fresh sides that that leads to.
+use Rattle.std.proofs.Common.{◌≡◌, ℕ, ◌+◌, ◌*◌, ◌/◌, ◌%◌, ◌^◌, ◌<◌, inl, inr, Bool, true, false, ◌||◌, List, [], ◌∷◌, ◌++◌, refl, ap, ◌∙◌, arith, None}
 use Rattle.dma_ring.specs.declared.ring.Ring.{Ring}
-use Rattle.reg_table.specs.declared.rows.RowId.{RowId}
 use Rattle.reg_table.specs.declared.rows.RowId.TheVariants.{Rxdctl, Txdctl}
 use Rattle.register_file.specs.declared.dir.Dir.TheVariants.{Rx, Tx}
 use Rattle.nic_device.specs.Receive.{is_empty}
 use Rattle.pmd_queue.specs.Both.{receive_polled}
 use Rattle.pmd_queue.specs.Made.{Access, Sees, Sets}
-use Rattle.pmd_queue.specs.Sides.{missed, polled, ring_words}
+use Rattle.pmd_queue.specs.Sides.{missed, polled}
 use Rattle.receive_laws.proofs.Places.{inside_of}
 use Rattle.start_laws.specs.Moves.{IsSized, fresh_receive, fresh_transmit}
-use Rattle.start_laws.specs.Points.{AllMay, IsEnable, Sides, after_access, after_accesses, seen_by}
-use Rattle.start_laws.proofs.Lends.{with_ring}
-
--- accesses in order
-
-may_append : (xs ys : List Access) (p : Sides) → AllMay xs p → AllMay ys (after_accesses xs p) → AllMay (xs ++ ys) p
-may_append [] ys p may more = more
-may_append (x ∷ xs) ys p may more = (may.0, may_append xs ys (after_access x p) may.1 more)
-
-after-append : (xs ys : List Access) (p : Sides) → after_accesses (xs ++ ys) p ≡ after_accesses ys (after_accesses xs p)
-after-append [] ys p = refl
-after-append (x ∷ xs) ys p = after-append xs ys (after_access x p)
-
--- polls that see a side off tell nothing
-
-or_none : (b : Bool) → (b || false) ≡ b
-or_none true = refl
-or_none false = refl
+use Rattle.start_laws.specs.Points.{AllMay, Sides, after_access, after_accesses, seen_by}
+use Rattle.start_laws.proofs.AccessesInOrder.{after-append, may_append, may_miss, receive_missed, transmit_missed}
+use Rattle.start_laws.proofs.Laying.{laid}
 
 or_some : (b : Bool) → (b || true) ≡ true
 or_some true = refl
 or_some false = refl
-
-may_miss : (row : RowId) (on : Bool) → IsEnable row → (n : ℕ) (p : Sides) → AllMay (replicate n (Sees row on)) p
-may_miss row on is zero p = tt
-may_miss row on is (suc n) p = (is, may_miss row on is n (seen_by row on p))
-
-receive_missed : (n : ℕ) (p : Sides) → after_accesses (missed Rx true n) p ≡ p
-receive_missed zero p = refl
-receive_missed (suc n) p =
-    receive_missed n (seen_by Rxdctl false p)
-    ∙ (λ k. record p { rx = record p.rx { on = or_none p.rx.on k } })
-
-transmit_missed : (n : ℕ) (p : Sides) → after_accesses (missed Tx true n) p ≡ p
-transmit_missed zero p = refl
-transmit_missed (suc n) p =
-    transmit_missed n (seen_by Txdctl false p)
-    ∙ (λ k. record p { tx = record p.tx { on = or_none p.tx.on k } })
-
--- the sides after these accesses
-
-abbrev pub laid : (ring size other : ℕ) → Sides → Sides
-laid ring size other p =
-    with_ring other
-    (after_accesses (ring_words Tx other size) (with_ring ring (after_accesses (ring_words Rx ring size) p)))
 
 abbrev pub came_up : (ring size other : ℕ) → Sides → Sides
 came_up ring size other p = record {
@@ -74,56 +34,8 @@ empty_ring ring size some length head tail =
     let inside = inside_of ring size length (rw head some) (rw tail some) in
     rw (inside, head, tail) refl
 
-module _ (ring size other : ℕ) (one : IsSized ring size) (two : IsSized other size) (even : 16 * size % 128 ≡ 0)
-    (p : Sides) (receive_off : p.rx.wanted ≡ false) (transmit_off : p.tx.wanted ≡ false) where
-  base_even : (n : ℕ) → 2048 * n % 128 ≡ 0
-  base_even n = omega arith
-
-  base_low : (n : ℕ) → n < 65536 → 2048 * n < 2 ^ 32
-  base_low n low = omega (arith, low)
-
-  length_low : 16 * size < 2 ^ 20
-  length_low = let few = one.few in omega (arith, few)
-
-  none : {b : Bool} {A : Type 0} → b ≡ false → b ≡ true → A
-  none off on = absurd (both_ways _ off on)
-
-  pub may_lay_receive : AllMay (ring_words Rx ring size) p
-  may_lay_receive = (
-    inl (record { unwanted = receive_off; fits = (base_even ring, base_low ring one.low); goes = none receive_off }),
-    (
-      inl (record { unwanted = receive_off; fits = omega arith; goes = none receive_off }),
-      (
-        inl (record { unwanted = receive_off; fits = (even, length_low); goes = none receive_off }),
-        (
-          inl (record { unwanted = receive_off; fits = omega arith; goes = none receive_off }),
-          (
-            inl (record { unwanted = receive_off; fits = omega arith; goes = none receive_off }),
-            (inl (record { unwanted = receive_off; fits = omega arith; goes = none receive_off }), tt),
-          ),
-        ),
-      ),
-    ),
-  )
-
-  pub may_lay_transmit : AllMay (ring_words Tx other size) (with_ring ring (after_accesses (ring_words Rx ring size) p))
-  may_lay_transmit = (
-    inr (record { unwanted = transmit_off; fits = (base_even other, base_low other two.low); goes = none transmit_off }),
-    (
-      inr (record { unwanted = transmit_off; fits = omega arith; goes = none transmit_off }),
-      (
-        inr (record { unwanted = transmit_off; fits = (even, length_low); goes = none transmit_off }),
-        (
-          inr (record { unwanted = transmit_off; fits = refl; goes = none transmit_off }),
-          (
-            inr (record { unwanted = transmit_off; fits = omega arith; goes = none transmit_off }),
-            (inr (record { unwanted = transmit_off; fits = omega arith; goes = none transmit_off }), tt),
-          ),
-        ),
-      ),
-    ),
-  )
-
+module _ (ring size other : ℕ) (one : IsSized ring size) (two : IsSized other size) (p : Sides)
+    (receive_off : p.rx.wanted ≡ false) (transmit_off : p.tx.wanted ≡ false) where
   -- both are asked on
 
   abbrev asked_on : Sides

@@ -13,7 +13,7 @@ use Rattle.receive_laws.proofs.Delivering.{since-append}
 use Rattle.transmit_laws.specs.Sent.{sent_by, sent_since}
 use Rattle.transmit_laws.proofs.Counting.{sent_is_counted}
 use Rattle.start_laws.specs.Unused.{AreUnused}
-use Rattle.start_laws.proofs.Along.{reached, reached_next}
+use Rattle.start_laws.proofs.Reached.{reached, reached_next}
 
 -- by a call nothing is received or sent
 abbrev pub IsIdle : ℕ → Call → Type 0

@@ -1,4 +1,5 @@
-use Rattle.start_laws.proofs.Quieting.{quieting_leads, quiet_sides_stand}
+use Rattle.start_laws.proofs.Quieting.{quieting_leads}
+use Rattle.start_laws.proofs.QuietSides.{quiet_sides_stand}
 use Rattle.start_laws.proofs.both_sides_are_seen_off.Goals as goal
 
 pub returns-clause-quieting : goal.returns-clause-quieting

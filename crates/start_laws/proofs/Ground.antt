@@ -1,0 +1,56 @@
+-- What a driver rests on beside its sides: port and queue name its queue, and frames are short.
+use Rattle.std.proofs.Common.{◌≡◌, ℕ, true, sym, ◌∙◌, subst}
+use Rattle.dma_arena.specs.Block.{Block}
+use Rattle.reg_table.specs.declared.rows.RowId.{RowId}
+use Rattle.register_file.specs.Pools.{mode_in}
+use Rattle.register_file.specs.Settings.{frame_limit}
+use Rattle.nic_device.specs.State.{State}
+use Rattle.nic_device.specs.Step.{after}
+use Rattle.nic_device.specs.declared.event.Event.TheVariants as event
+use Rattle.nic_device.specs.declared.event.Event.{Event}
+use Rattle.device_laws.proofs.KeptSettings.{settings_stand}
+use Rattle.device_laws.proofs.Standing.{stays_within}
+use Rattle.device_lock.specs.Alone.{Blocks}
+use Rattle.device_lock.specs.declared.alone.Watched.{Watched}
+use Rattle.pmd_queue.specs.Named.{AtPort, IsNumberOf, is_driven}
+use Rattle.transmit_laws.proofs.LeftSide.{left-setting}
+use Rattle.start_laws.specs.Along.{IsKept}
+use Rattle.start_laws.specs.Numbers.{queue_at}
+use Rattle.start_laws.specs.Points.{HasGround}
+use Rattle.start_laws.specs.Ending.{IsPlain}
+use Rattle.start_laws.proofs.Numbers.{ground_names}
+use Rattle.start_laws.proofs.Words.{ground}
+use Rattle.start_laws.proofs.DrivenRows.{driven_plain}
+
+pub ground_same : (queue : ℕ) (q : AtPort) (s t : State) → mode_in t.registers ≡ mode_in s.registers → t.vfs ≡ s.vfs
+    → frame_limit t.registers ≡ frame_limit s.registers → HasGround queue q s → HasGround queue q t
+ground_same queue q s t mode vfs limit g = record {
+  names = (λ k. queue_at (mode k) (vfs k) q.port q.queue) ∙ g.names;
+  limit = limit ∙ g.limit;
+}
+
+-- events that leave the queue alone
+pub ground_kept : (w : Watched) (mine : Blocks) (q : AtPort) → IsKept w mine (HasGround w.queue q)
+ground_kept w mine q s e x g =
+    let stay = settings_stand s e (left-setting w s x.vfs e x.registers) in
+    ground_same w.queue q s (after s e) stay.mode (stays_within s e).vfs stay.limit g
+
+-- a driver's own events
+module _ (queue : ℕ) (q : AtPort) (s : State) where
+  pub write_ground : (row : RowId) (word number : ℕ) → is_driven row ≡ true → IsNumberOf q.port row q.queue number
+      → HasGround queue q s → HasGround queue q (after s (event.Write q.port number word))
+  write_ground row word number is named g =
+      let k = ground queue s q.port number word row (ground_names queue q s g row number is named)
+      (driven_plain row is) in
+      ground_same queue q s (after s (event.Write q.port number word)) k.mode k.vfs k.limit g
+
+  pub plain_keeps : (e : Event Block) → IsPlain q e → HasGround queue q s → HasGround queue q (after s e)
+  plain_keeps (event.Write port number word) (row, same, is, named) g =
+      subst (λ p. HasGround queue q (after s (event.Write p number word))) (sym same)
+      (write_ground row word number is named g)
+  plain_keeps e plain g =
+      let stay = settings_stand s e tt in
+      ground_same queue q s (after s e) stay.mode (stays_within s e).vfs stay.limit g
+
+  pub read_ground : (number : ℕ) → HasGround queue q s → HasGround queue q (after s (event.Read q.port number))
+  read_ground number g = plain_keeps (event.Read q.port number) tt g

@@ -1,0 +1,138 @@
+-- A history in parts, by the calls that a pass made.
+use Rattle.std.proofs.Common.{◌≡◌, ◌≢◌, ℕ, inl, inr, true, List, [], ◌∷◌, ◌++◌, refl, sym, ap, ◌∙◌, append_assoc, ◌⊎◌}
+use Rattle.std.specs.Prelude.{◌==◌}
+use Rattle.std.proofs.lemmas.Bool.{cases_Bool, or_left, or_right, eqb-true}
+use Rattle.std.proofs.lemmas.List.{append-nil, map-append}
+use Rattle.std.proofs.lemmas.List.Elements.{filter-append}
+use Rattle.device_lock.specs.Alone.{has_begun}
+use Rattle.device_lock.specs.History.{calls_of, call_in}
+use Rattle.device_lock.specs.declared.entry.Call.{Call}
+use Rattle.device_lock.specs.declared.entry.Entry.{Entry}
+use Rattle.receive_laws.proofs.Histories.{calls_own, calls_other}
+
+-- a history in two parts, by its calls
+pub record Parts (pass : ℕ) (h : List Entry) (xs ys : List Call) : Type 0 where
+  pub front : List Entry
+  pub back : List Entry
+  pub both : front ++ back ≡ h
+  pub fronts : calls_of pass front ≡ xs
+  pub backs : calls_of pass back ≡ ys
+
+pub parts : (pass : ℕ) (h : List Entry) (xs ys : List Call) → calls_of pass h ≡ xs ++ ys → Parts pass h xs ys
+parts pass h [] ys is = record { front = []; back = h; both = refl; fronts = refl; backs = is }
+parts pass [] (x ∷ xs) ys is = cc
+parts pass (e ∷ es) (x ∷ xs) ys is = elim (cases_Bool (e.pass == pass)) as (λ _. Parts pass (e ∷ es) (x ∷ xs) ys) [
+  | inl own ↦
+      let here : call_in e ∷ calls_of pass es ≡ x ∷ (xs ++ ys) = sym (calls_own pass e es own) ∙ is in
+      let first : call_in e ≡ x = cc in
+      let p = parts pass es xs ys (cc) in record {
+        front = e ∷ p.front;
+        back = p.back;
+        both = ap (λ (l : List Entry). e ∷ l) p.both;
+        fronts = calls_own pass e p.front own ∙ (λ k. first k ∷ p.fronts k);
+        backs = p.backs;
+      }
+  | inr other ↦
+      let p = parts pass es (x ∷ xs) ys (sym (calls_other pass e es other) ∙ is) in record {
+        front = e ∷ p.front;
+        back = p.back;
+        both = ap (λ (l : List Entry). e ∷ l) p.both;
+        fronts = calls_other pass e p.front other ∙ p.fronts;
+        backs = p.backs;
+      }
+]
+
+pub begun : (pass : ℕ) (h : List Entry) → calls_of pass h ≢ [] → has_begun pass h ≡ true
+begun pass [] some = absurd (some refl)
+begun pass (e ∷ h) some = elim (cases_Bool (e.pass == pass)) [
+  | inl own ↦ or_left _ _ own
+  | inr other ↦ or_right _ _ (begun pass h (λ none. some (calls_other pass e h other ∙ none)))
+]
+
+-- a history around the first entry of a pass
+pub record First (pass : ℕ) (h : List Entry) (c : Call) (ys : List Call) : Type 0 where
+  pub front : List Entry
+  pub entry : Entry
+  pub back : List Entry
+  pub both : front ++ entry ∷ back ≡ h
+  pub none : calls_of pass front ≡ []
+  pub own : entry.pass ≡ pass
+  pub call : call_in entry ≡ c
+  pub backs : calls_of pass back ≡ ys
+
+pub first_own : (pass : ℕ) (h : List Entry) (c : Call) (ys : List Call) → calls_of pass h ≡ c ∷ ys → First pass h c ys
+first_own pass [] c ys is = cc
+first_own pass (e ∷ es) c ys is = elim (cases_Bool (e.pass == pass)) as (λ _. First pass (e ∷ es) c ys) [
+  | inl own ↦
+      let here : call_in e ∷ calls_of pass es ≡ c ∷ ys = sym (calls_own pass e es own) ∙ is in record {
+        front = [];
+        entry = e;
+        back = es;
+        both = refl;
+        none = refl;
+        own = eqb-true e.pass pass own;
+        call = cc;
+        backs = cc;
+      }
+  | inr other ↦
+      let f = first_own pass es c ys (sym (calls_other pass e es other) ∙ is) in record {
+        front = e ∷ f.front;
+        entry = f.entry;
+        back = f.back;
+        both = ap (λ (l : List Entry). e ∷ l) f.both;
+        none = calls_other pass e f.front other ∙ f.none;
+        own = f.own;
+        call = f.call;
+        backs = f.backs;
+      }
+]
+
+-- and so around the entry of a call that the pass made
+pub record Around (pass : ℕ) (h : List Entry) (calls : List Call) (c : Call) (more : List Call) : Type 0 where
+  pub before : List Entry
+  pub entry : Entry
+  pub behind : List Entry
+  pub all : before ++ entry ∷ behind ≡ h
+  pub made : calls_of pass before ≡ calls
+  pub own : entry.pass ≡ pass
+  pub call : call_in entry ≡ c
+  pub later : calls_of pass behind ≡ more
+
+-- the calls of two histories in turn
+pub calls_joined : (pass : ℕ) (g h : List Entry) → calls_of pass (g ++ h) ≡ calls_of pass g ++ calls_of pass h
+calls_joined pass g h = rw (filter-append, map-append) refl
+
+pub around : (pass : ℕ) (h : List Entry) (calls : List Call) (c : Call) (more : List Call)
+    → calls_of pass h ≡ calls ++ c ∷ more → Around pass h calls c more
+around pass h calls c more is =
+    let p = parts pass h calls (c ∷ more) is in
+    let f = first_own pass p.back c more p.backs in record {
+      before = p.front ++ f.front;
+      entry = f.entry;
+      behind = f.back;
+      all =
+          append_assoc p.front f.front (f.entry ∷ f.back) ∙ ap (λ (l : List Entry). p.front ++ l) f.both ∙ p.both;
+      made = calls_joined pass p.front f.front ∙ (λ i. p.fronts i ++ f.none i) ∙ append-nil calls;
+      own = f.own;
+      call = f.call;
+      later = f.backs;
+    }
+
+-- two beginnings of a history: one begins the other
+
+abbrev pub Begins : List Entry → List Entry → Type 0
+Begins xs zs = (back : List Entry) × (xs ++ back ≡ zs)
+
+pub one_begins : (xs ys zs ws : List Entry) → xs ++ ys ≡ zs ++ ws → Begins xs zs ⊎ Begins zs xs
+one_begins [] ys zs ws is = inl (zs, refl)
+one_begins (x ∷ xs) ys [] ws is = inr (x ∷ xs, refl)
+one_begins (x ∷ xs) ys (z ∷ zs) ws is =
+    let first : x ≡ z = cc in
+    elim (one_begins xs ys zs ws (cc)) as (λ _. Begins (x ∷ xs) (z ∷ zs) ⊎ Begins (z ∷ zs) (x ∷ xs)) [
+      | inl (back, both) ↦ inl (back, λ i. first i ∷ both i)
+      | inr (back, both) ↦ inr (back, λ i. sym first i ∷ both i)
+    ]
+
+pub none_behind : (xs ys : List Call) → xs ++ ys ≡ xs → ys ≡ []
+none_behind [] ys is = is
+none_behind (x ∷ xs) ys is = none_behind xs ys (cc)

@@ -1,0 +1,50 @@
+-- Two sides that are seen off stand as they are, with no block lent.
+use Rattle.std.proofs.Common.{◌≡◌, ◌<◌, Bool, true, false, not, ◌&&◌, List, refl, sym, subst}
+use Rattle.std.specs.Prelude.{IsTrue}
+use Rattle.register_laws.specs.Sides.{receive_queue_of, transmit_queue_of}
+use Rattle.nic_device.specs.State.{State, new_state}
+use Rattle.device_lock.specs.Alone.{lent_by}
+use Rattle.device_lock.specs.History.{leads_to}
+use Rattle.device_lock.specs.declared.alone.Watched.{Watched}
+use Rattle.device_lock.specs.declared.entry.Entry.{Entry}
+use Rattle.history_laws.specs.Laws.{AreEvents}
+use Rattle.history_laws.specs.Staged.{StageWhileOn}
+use Rattle.history_laws.proofs.Staged.{histories_keep_staged, new_sides_stage}
+use Rattle.pmd_queue.specs.Named.{AtPort}
+use Rattle.receive_laws.proofs.Delivering.{events_before}
+use Rattle.transmit_laws.specs.Off as transmit
+use Rattle.start_laws.specs.Points.{Point, Sides}
+use Rattle.start_laws.specs.Quiet.{no_block}
+use Rattle.start_laws.specs.Quieting.{IsQuiet, QuietSidesStand, are_off}
+use Rattle.start_laws.proofs.Quiet.{off_sides_stand}
+use Rattle.start_laws.proofs.Words.{ground}
+
+all_off : (a b c d : Bool) → a ≡ false → b ≡ false → c ≡ false → d ≡ false
+    → ((not a && not b) && (not c && not d)) ≡ true
+all_off a b c d e f g i = rw (e, f, g, i) refl
+
+quiet_stand : (w : Watched) (q : AtPort) (h : List Entry) (s : State) → w.queue < 128 → StageWhileOn s
+    → IsQuiet w.queue q s → (p : Sides) × IsTrue (are_off p) × Point w.queue (lent_by w.pass h) q p s
+quiet_stand w q h s small bare quiet = (
+  record {
+    rx = receive_queue_of s.registers w.queue;
+    tx = transmit_queue_of s.registers w.queue;
+    rings = no_block;
+  },
+  all_off (receive_queue_of s.registers w.queue).on (receive_queue_of s.registers w.queue).wanted
+      (transmit_queue_of s.registers w.queue).on (transmit_queue_of s.registers w.queue).wanted quiet.receive.off
+      quiet.receive.unwanted quiet.transmit.off quiet.transmit.unwanted,
+  record {
+    stand = off_sides_stand w.queue s small bare quiet.receive quiet.transmit;
+    ground = quiet.ground;
+    covers = λ n is. cc;
+    low = λ n is. cc;
+  },
+)
+
+pub quiet_sides_stand : QuietSidesStand
+quiet_sides_stand w q fifo h calls along quiet done rest all is =
+    let new = new_state w.vfs fifo in
+    let events = events_before done rest (subst AreEvents (sym all) along.events) in
+    quiet_stand w q h (leads_to new done) along.small
+    (histories_keep_staged new done along.new events (new_sides_stage w.vfs fifo)) (quiet done rest all is)

@@ -1,0 +1,151 @@
+-- Both rings come up and both sides go on: how the sides stand then.
+use Rattle.std.proofs.Common.{◌≡◌, ◌≢◌, ℕ, ◌*◌, ◌%◌, ◌<◌, ◌≤◌, Bool, true, false, not, ◌&&◌, List, [], ◌∷◌, refl, sym, ◌∙◌, subst, arith}
+use Rattle.std.specs.Prelude.{IsTrue}
+use Rattle.std.proofs.lemmas.Bool.{and_parts, both_ways, eqb-true, leb-true}
+use Rattle.dma_arena.specs.Numbers.{Numbers}
+use Rattle.reg_table.specs.declared.rows.RowId.TheVariants.{Rxdctl}
+use Rattle.register_file.specs.declared.dir.Dir.TheVariants.{Rx, Tx}
+use Rattle.register_file.specs.declared.dir.Dir.{Dir}
+use Rattle.nic_device.specs.State.{new_state}
+use Rattle.device_lock.specs.Alone.{lent_by}
+use Rattle.device_lock.specs.declared.alone.Watched.{Watched}
+use Rattle.device_lock.specs.declared.entry.Call.{Call}
+use Rattle.device_lock.specs.declared.entry.Entry.{Entry}
+use Rattle.pmd_queue.specs.Made.{Sees, Sets}
+use Rattle.pmd_queue.specs.Named.{AtPort}
+use Rattle.pmd_queue.specs.Sides.{quiet, ring_words}
+use Rattle.pmd_rx.specs.Receive as receive
+use Rattle.pmd_rx.specs.Receive.{Receive}
+use Rattle.pmd_tx.specs.Sending as transmit
+use Rattle.pmd_tx.specs.Sending.{Sender}
+use Rattle.pmd.specs.Started.{is_size}
+use Rattle.pmd.specs.Starting.{IsPrepared}
+use Rattle.start_laws.specs.Along.{AtEntries, BeforeLast, IsAlong}
+use Rattle.start_laws.specs.Moves.{IsSized}
+use Rattle.start_laws.specs.On.{AreOn, StepsToOn}
+use Rattle.start_laws.specs.Points.{HasGround, Point, Sides, after_accesses}
+use Rattle.start_laws.specs.Quieting.{are_off}
+use Rattle.start_laws.specs.Unused.{AreUnused}
+use Rattle.start_laws.proofs.Reached.{reached}
+use Rattle.start_laws.proofs.Lent.{IsLentBy}
+use Rattle.start_laws.proofs.Lends.{lending, with_ring}
+use Rattle.start_laws.proofs.PointsAlong.{accesses_at, At, prepared_at}
+use Rattle.start_laws.proofs.Made.{ends_some, first_made}
+use Rattle.start_laws.proofs.Quieting.{quieting_leads}
+use Rattle.start_laws.proofs.QuietSides.{quiet_sides_stand}
+use Rattle.start_laws.proofs.Switching.{came_up, comes_up, may_switch, switching}
+use Rattle.start_laws.proofs.Laying.{laid, may_lay_receive, may_lay_transmit}
+use Rattle.start_laws.proofs.Unused.{unused_kept}
+
+-- Both rings come up and both sides go on: how the sides stand then.
+
+-- the numbers of slots that a driver may have
+
+pub sized : (size : ℕ) → is_size size ≡ true → (0 < size) × (size ≤ 128) × (16 * size % 128 ≡ 0)
+sized size is =
+    let one = and_parts _ _ is in
+    let two = and_parts _ _ one.1 in
+    let some : 8 ≤ size = leb-true 8 size one.0 in
+    let few : size ≤ 128 = leb-true size 128 two.0 in
+    let even : size % 8 ≡ 0 = eqb-true (size % 8) 0 two.1 in
+    (omega (arith, some), few, omega (arith, even))
+
+-- sides that are off aren't wanted on
+unwanted : (a b c d : Bool) → ((not a && not b) && (not c && not d)) ≡ true → (b ≡ false) × (d ≡ false)
+unwanted true b c d is = cc
+unwanted false true c d is = cc
+unwanted false false true d is = cc
+unwanted false false false true is = cc
+unwanted false false false false is = (refl, refl)
+
+pub prepared_some : (q : AtPort) (side : Dir) (size : ℕ) (old : List Call) (a : Numbers) (new : List Call) (b : Numbers)
+    (ring : ℕ) → IsPrepared q side size old a new b ring → new ≢ []
+prepared_some q side size old a new b ring x none = ends_some x.mid x.lent.0 (lending ring) (sym x.lent.1 ∙ none)
+
+module _ (w : Watched) (fifo : ℕ) (h : List Entry) (q : AtPort) (size : ℕ) (old : List Call) (a : Numbers)
+    (new : List Call) (v : Receive) (t : Sender) (up : AreOn q size old a new v t)
+    (along : IsAlong w fifo h) (is : is_size size ≡ true) (only : StepsToOn q size old a new v t up)
+    (well : BeforeLast w fifo h up.receive.quiet.0 (HasGround w.queue q))
+  where
+    abbrev pub ring : ℕ
+    ring = up.receive.ring
+
+    abbrev pub other : ℕ
+    other = up.transmit.ring
+
+    abbrev pub Unused : List Entry → Type 0
+    Unused = AreUnused w.queue (new_state w.vfs fifo)
+
+    abbrev Known : Sides → Type 0
+    Known p = IsTrue (are_off p)
+
+    abbrev Reaches : List Call → (Sides → Sides) → Type 0
+    Reaches = At w q fifo h along Known Unused (unused_kept w fifo)
+
+    -- both sides are quiet, and stand
+    quiet_at : Reaches up.receive.mid (λ p. p)
+    quiet_at done rest all calls =
+        let off = quieting_leads w q fifo h old up.receive.mid along up.receive.quiet only.quiet well in
+        let quiet = off done rest all calls in
+        let (p, known, x) = quiet_sides_stand w q fifo h up.receive.mid along off done rest all calls in (
+          p,
+          known,
+          x,
+          record {
+            receive = λ on. absurd (both_ways _ quiet.receive.off on);
+            transmit = λ on. absurd (both_ways _ quiet.transmit.off on);
+          },
+        )
+
+    -- as both rings come up, where their blocks are the pass's
+    module _ (one : IsLentBy w.pass ring h) (two : IsLentBy w.pass other h) where
+      abbrev pub of_size : (number : ℕ) → IsLentBy w.pass number h → IsSized number size
+      of_size number lent = record { some = (sized size is).0; few = (sized size is).1; low = lent.low }
+
+      off : (p : Sides) → Known p → (p.rx.wanted ≡ false) × (p.tx.wanted ≡ false)
+      off p known = unwanted p.rx.on p.rx.wanted p.tx.on p.tx.wanted known
+
+      even : 16 * size % 128 ≡ 0
+      even = (sized size is).2
+
+      ready_at : Reaches up.ready_made (λ p. with_ring ring (after_accesses (ring_words Rx ring size) p))
+      ready_at =
+          prepared_at w q fifo h along Known Unused (unused_kept w fifo) Rx size (λ p. p) up.receive.mid a up.ready_made
+          up.ready_arena ring
+          (λ p known.
+          may_lay_receive ring size other (of_size ring one) (of_size other two) even p (off p known).0)
+          one up.receive.prepared only.receive_words only.receive_lent
+          (first_made q (Sees Rxdctl false) (Sets Rxdctl 0 ∷ Sees Rxdctl false ∷ quiet Tx) old up.receive.mid
+          up.receive.quiet) quiet_at
+
+      both_at : Reaches up.both_made (laid ring size other)
+      both_at =
+          prepared_at w q fifo h along Known Unused (unused_kept w fifo) Tx size
+          (λ p. with_ring ring (after_accesses (ring_words Rx ring size) p)) up.ready_made up.ready_arena up.both_made
+          up.both_arena other
+          (λ p known.
+          may_lay_transmit ring size other (of_size ring one) (of_size other two) even p (off p known).1)
+          two up.transmit.prepared only.transmit_words only.transmit_lent
+          (prepared_some q Rx size up.receive.mid a up.ready_made up.ready_arena ring up.receive.prepared) ready_at
+
+      on_at : Reaches new (λ p. after_accesses (switching up.switched.0 up.switched.1) (laid ring size other p))
+      on_at =
+          accesses_at w q fifo h along Known Unused (unused_kept w fifo) (switching up.switched.0 up.switched.1)
+          (laid ring size other) up.both_made new
+          (λ p known.
+          may_switch ring size other (of_size ring one) (of_size other two) p (off p known).0 (off p known).1
+          up.switched.0 up.switched.1) up.switched.3 only.switched
+          (prepared_some q Tx size up.ready_made up.ready_arena up.both_made up.both_arena other up.transmit.prepared)
+          both_at
+
+      pub came_up_at : AtEntries w h new
+          (λ done. (p : Sides) × Point w.queue (lent_by w.pass h) q (came_up ring size other p) (reached w fifo done)
+          × Unused done)
+      came_up_at done rest all calls =
+          let (p, known, x, unused) = on_at done rest all calls in (
+            p,
+            subst (λ (z : Sides). Point w.queue (lent_by w.pass h) q z (reached w fifo done))
+                (comes_up ring size other (of_size ring one) (of_size other two) p (off p known).0 (off p known).1
+                up.switched.0 up.switched.1) x,
+            unused,
+          )

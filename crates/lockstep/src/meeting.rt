@@ -14,14 +14,14 @@ pub const MAX_MEMBERS: usize = 17;
 ///
 /// Whoever comes to a point waits there until every member that hasn't left has come to that point or a later one.
 #[derive(Drop)]
-pub struct Lockstep<'a, R: Wait> {
+pub struct Lockstep<'a, R> {
     rt: &'a R,
     members: usize,
     standings: Mutex<Standings>,
     moved: Condvar,
 }
 
-impl<'a, R: Wait> Model for Lockstep<'a, R> {
+impl<'a, R> Model for Lockstep<'a, R> {
     ghost use Rattle.std.specs.Prelude.{ℕ, ◌≤◌};
 
     ghost Value = { ℕ };
@@ -31,7 +31,7 @@ impl<'a, R: Wait> Model for Lockstep<'a, R> {
     ghost invariant = { λ g. g.members ≤ 17 };
 }
 
-impl<'a, R: Wait> Lockstep<'a, R> {
+impl<'a, R> Lockstep<'a, R> {
     /// A gate of so many members, all of them outside.
     pub fn new(rt: &'a R, members: usize) -> Self
         requires { members ≤ 17 }
@@ -44,7 +44,9 @@ impl<'a, R: Wait> Lockstep<'a, R> {
             moved: Condvar::new(),
         }
     }
+}
 
+impl<'a, R: Wait> Lockstep<'a, R> {
     /// A member comes to a point, and those that wait look again.
     fn come(&self, member: usize, point: u8)
         requires { member < self.now }

@@ -1,5 +1,5 @@
 -- Frames that arrive by a pass.
-use Rattle.std.specs.Prelude.{◌≡◌, ℕ, Bool, true, false, List, ◌++◌, ◌<◌, length, map, take, drop, count_by, Option, Some, None}
+use Rattle.std.specs.Prelude.{◌≡◌, ℕ, Bool, true, false, List, [], ◌∷◌, ◌++◌, ◌<◌, length, map, take, drop, count_by, Option, Some, None}
 use Rattle.dma_arena.specs.Block.{Block}
 use Rattle.nic_device.specs.declared.event.Event.{Event}
 use Rattle.nic_device.specs.declared.event.Event.TheVariants.{Arrive}
@@ -7,6 +7,7 @@ use Rattle.nic_device.specs.declared.event.Reply.{Reply}
 use Rattle.nic_device.specs.declared.event.Reply.TheVariants.{Done}
 use Rattle.device_lock.specs.declared.entry.Call.{Call}
 use Rattle.device_lock.specs.declared.fault.CallFault.{CallFault}
+use Rattle.device_lock.specs.declared.fault.CallFault.TheVariants.{ForeignPass, HistoryFull, OutOfMemory}
 use Rattle.device_lock.specs.Pass.{PassValue}
 
 -- whether a frame arrives
@@ -41,3 +42,14 @@ IsFed frames (Some refusal) old new =
 -- the first so many of these frames arrived
 abbrev pub AreFed : List (List ℕ) → PassValue → PassValue → Type 0
 AreFed frames old new = (count : ℕ) × HaveArrived (take count frames) old new
+
+-- the same refusal, without the frame
+abbrev pub without_frame : CallFault (Event Block) → CallFault (Unit {0})
+without_frame (ForeignPass frame) = ForeignPass tt
+without_frame (HistoryFull frame) = HistoryFull tt
+without_frame (OutOfMemory frame) = OutOfMemory tt
+
+-- the first frame, where there is one, was refused by a pass of another bench
+abbrev pub IsTurnedAway : {T : Type 0} → List T → Option (CallFault (Unit {0})) → Type 0
+IsTurnedAway [] refused = refused ≡ None
+IsTurnedAway (frame ∷ frames) refused = refused ≡ Some (ForeignPass tt)

@@ -1,9 +1,9 @@
 //! Frames that arrive while workers run.
 
-ghost use Rattle.std.specs.Prelude.{◌≡◌, true, ◌∷◌, [], OnOk, OnErr, map};
+ghost use Rattle.std.specs.Prelude.{◌≡◌, ◌≢◌, true, ◌∷◌, [], OnOk, OnErr, map};
 ghost use Rattle.device_lock.specs.Fault.{event_of};
 ghost use Rattle.nic_device.specs.Answering.{may_arrive};
-ghost use Rattle.workers.specs.Feeding.{IsFed, HaveArrived, arrives, is_done, done_in, gained};
+ghost use Rattle.workers.specs.Feeding.{IsFed, HaveArrived, arrives, is_done, done_in, gained, without_frame, IsTurnedAway};
 
 use device_lock::{Call, CallFault, Pass, Shared};
 use dma_arena::Octets;
@@ -30,6 +30,7 @@ pub fn feed<R: Wait, const VFS: u8, const FIFO: u16>(
 ) -> Fed
     ensures fed { IsFed (map (λ frame. frame.items) frames.items) result.refused pass.old pass.new }
     ensures count { result.done ≡ done_in (gained pass.old pass.new) }
+    ensures foreign { pass.old.bench ≢ shared.now.bench → IsTurnedAway frames.items result.refused }
 {
     let before = pass.calls().len();
     let refused = arrive_all(rt, alloc, shared, pass, frames);
@@ -62,7 +63,8 @@ fn arrive_all<R: Wait, const VFS: u8, const FIFO: u16>(
     pass: &mut Pass,
     frames: Vec<Vec<u8>>,
 ) -> Option<CallFault<()>>
-    ensures { IsFed (map (λ frame. frame.items) frames.items) result pass.old pass.new }
+    ensures fed { IsFed (map (λ frame. frame.items) frames.items) result pass.old pass.new }
+    ensures foreign { pass.old.bench ≢ shared.now.bench → IsTurnedAway frames.items result }
 {
     for frame in frames {
         match arrive(rt, alloc, shared, pass, frame) {
@@ -83,6 +85,7 @@ fn arrive<R: Wait, const VFS: u8, const FIFO: u16>(
 ) -> Result<(), CallFault<()>>
     ensures arrived { OnOk result (HaveArrived (frame.items ∷ []) pass.old pass.new) }
     ensures refused { OnErr result (pass.new ≡ pass.old) }
+    ensures foreign { pass.old.bench ≢ shared.now.bench → result ≡ Err (CallFault.ForeignPass tt) }
 {
     match shared.call(rt, alloc, pass, Event::Arrive(Octets::of(frame))) {
         Ok(reply) => {
@@ -106,6 +109,7 @@ fn let_reply_go(reply: Reply)
 /// The refusal of a frame, without the frame.
 fn without_frame(fault: CallFault) -> CallFault<()>
     requires { arrives (event_of fault) ≡ true }
+    ensures { result ≡ without_frame fault }
 {
     match fault {
         CallFault::ForeignPass(frame) => {

@@ -1,6 +1,7 @@
 //! The way of a worker's reports to the calling thread.
 
-ghost use Rattle.std.specs.Prelude.{◌≡◌, ◌+◌, ◌<◌, ◌≤◌, vec_len, vec_capacity, length, [], ◌++◌, IfOk, max};
+ghost use Rattle.std.specs.Prelude.{◌≡◌, ◌+◌, ◌<◌, ◌≤◌, ◌⊎◌, true, false, vec_len, vec_capacity, length, [], ◌++◌, IfOk, max};
+ghost use mathlib.Core.List.{IsPrefix};
 ghost use Rattle.rtrb.specs.Ring.{sent, received, known_free, known_items, IsPair, SameConsumer};
 
 use rtrb::{Consumer, Producer, RingBuffer};
@@ -44,6 +45,10 @@ impl Collector {
     fn take(&mut self) -> bool
         ensures ring { SameConsumer self.old.consumer self.new.consumer }
         ensures room { vec_capacity self.new.reports ≡ vec_capacity self.old.reports }
+        ensures kept { IsPrefix self.old.reports.items self.new.reports.items }
+        ensures more { result ≡ true → vec_len self.new.reports ≡ vec_len self.old.reports + 1 }
+        ensures none { result ≡ false → (known_items self.new.consumer ≡ [])
+            ⊎ (vec_capacity self.new.reports ≤ vec_len self.new.reports) }
     {
         if self.reports.len() >= self.reports.capacity() {
             return false;
@@ -61,6 +66,9 @@ impl Collector {
     pub fn drain(&mut self)
         ensures ring { SameConsumer self.old.consumer self.new.consumer }
         ensures room { vec_capacity self.new.reports ≡ vec_capacity self.old.reports }
+        ensures kept { IsPrefix self.old.reports.items self.new.reports.items }
+        ensures taken { (known_items self.new.consumer ≡ [])
+            ⊎ (vec_capacity self.new.reports ≤ vec_len self.new.reports) }
     {
         for _ in 0..self.reports.capacity() {
             if !self.take() {

@@ -7,25 +7,28 @@ use Rattle.workers.proofs.feeding.arrive_all.Goals as goal
 
 pub loop-frame-preserved : goal.loop-frame-preserved
 loop-frame-preserved g c =
-    let (before, are, arrived) = c.loop-frame.invariant in
+    let (before, are, arrived, turned) = c.loop-frame.invariant in
     let bytes : List ℕ = c.in-Some.frame.items in (
       before ++ bytes ∷ [],
       append_assoc before (bytes ∷ []) _
           ∙ ap (λ l. before ++ map (λ frame. frame.items) l) (sym c.in-Some.ensures.steps.0)
           ∙ are,
       one_more before (bytes ∷ []) _ _ _ arrived c.in-Ok.ensures.arrived,
+      λ foreign.
+          let no = c.in-Ok.ensures.foreign (λ e. foreign (sym (ap (λ (p : PassValue). p.bench) arrived.made) ∙ e)) in
+          absurd cc,
     )
 
-pub returns-in-Err : goal.returns-in-Err
-returns-in-Err g c =
-    let (before, are, arrived) = c.loop-frame.invariant in
+pub returns-in-Err-clause-fed : goal.returns-in-Err-clause-fed
+returns-in-Err-clause-fed g c =
+    let (before, are, arrived, turned) = c.loop-frame.invariant in
     stops_before before _ _ c.in-Some.frame.items c.in-Err.refusal _ _
     (ap (λ l. before ++ map (λ frame. frame.items) l) (sym c.in-Some.ensures.steps.0) ∙ are)
     (subst (λ (p : PassValue). HaveArrived before c.args.pass.now p) (sym c.in-Err.ensures.refused) arrived)
 
-pub returns : goal.returns
-returns g c =
-    let (before, are, arrived) = c.loop-frame.invariant in
+pub returns-clause-fed : goal.returns-clause-fed
+returns-clause-fed g c =
+    let (before, are, arrived, turned) = c.loop-frame.invariant in
     let none = nil_from_length _ (sym c.loop-frame.frame-iterator.rest.ok.0 ∙ c.in-None.ensures.steps.0) in
     all_came before _ _ _
     (ap (λ l. before ++ map (λ frame. frame.items) l) (sym none) ∙ are) arrived

@@ -1,5 +1,5 @@
 -- A start on a queue whose sides are off finds no device at fault.
-use Rattle.std.proofs.Common.{◌≡◌, ◌≢◌, ℕ, ◌-◌, inl, inr, false, true, List, [], ◌∷◌, ◌++◌, refl, sym, ◌∙◌, subst, append_assoc, Bool}
+use Rattle.std.proofs.Common.{◌≡◌, ◌≢◌, ℕ, ◌-◌, inl, inr, false, true, List, [], ◌∷◌, ◌++◌, sym, ◌∙◌, subst, append_assoc}
 use Rattle.std.specs.Prelude.{IsFalse}
 use Rattle.dma_arena.specs.Block.{Block, zero_block}
 use Rattle.dma_arena.specs.Memory.{has_block}
@@ -18,7 +18,7 @@ use Rattle.history_laws.proofs.Calls.{anew_is_done}
 use Rattle.pmd_base.specs.declared.fault.PmdFault.TheVariants.{DeviceFault}
 use Rattle.pmd_queue.specs.Both.{SwitchFails, both_asked, both_quiet, receive_polled}
 use Rattle.pmd_queue.specs.Made.{Sees, Sets, AreMade}
-use Rattle.pmd_queue.specs.Named.{AtPort, is_driven}
+use Rattle.pmd_queue.specs.Named.{AtPort}
 use Rattle.pmd_queue.specs.Sides.{PollsEnd, missed, quiet, ring_words}
 use Rattle.pmd_rx.specs.Receive.{Receive}
 use Rattle.pmd.specs.Starting.{IsPrepared, IsReceiveReady, PreparingFails}
@@ -26,31 +26,17 @@ use Rattle.start_laws.specs.Along.{AtCalls, BeforeLast, IsAlong}
 use Rattle.start_laws.specs.Points.{HasGround, StepsBetween}
 use Rattle.start_laws.specs.Quieting.{IsQuiet}
 use Rattle.start_laws.proofs.Made.{first_made, some_made}
-use Rattle.start_laws.proofs.AllAre.{AllAre, all_missed, all_polled}
-use Rattle.start_laws.proofs.Rising.{prepared_some}
+use Rattle.start_laws.proofs.AllAre.{all_missed}
+use Rattle.start_laws.proofs.Prepared.{prepared_some}
 use Rattle.begin_laws.specs.Faultless.{BeforeNext, Never, NoneIsLent, ReceiveIsReady, TransmitIsReady, SwitchingIsNeverStray, StepsPolling, StepsPreparing, StepsReady, StepsSwitching, StepsUnprepared}
-use Rattle.begin_laws.proofs.Grounds.{IsDriven, IsWrite, accesses_grounded, lend_grounded, next_on_ground, read_never_stray, writes_driven, writes_never_stop}
+use Rattle.begin_laws.proofs.DrivenAccesses.{IsDriven, writes_driven, words_are_writes, enable_driven, asked_are_writes, reads_driven, polled_driven}
+use Rattle.begin_laws.proofs.Grounds.{accesses_grounded, lend_grounded, next_on_ground, read_never_stray, writes_never_stop}
 use Rattle.begin_laws.proofs.Last.{last_never}
 use Rattle.begin_laws.proofs.Quiet.{quiet_off, quieting_never_stops}
 
 -- A start on a queue whose sides are off finds no device at fault.
 
-words_are_writes : (side : Dir) (ring size : ℕ) → AllAre IsWrite (ring_words side ring size)
-words_are_writes Rx ring size = (refl, (refl, (refl, (refl, (refl, (refl, tt))))))
-words_are_writes Tx ring size = (refl, (refl, (refl, (refl, (refl, (refl, tt))))))
-
-enable_driven : (side : Dir) → is_driven (enable_row side) ≡ true
-enable_driven Rx = refl
-enable_driven Tx = refl
-
-asked_are_writes : AllAre IsWrite (both_asked true)
-asked_are_writes = (refl, (refl, tt))
-
-reads_driven : (side : Dir) (seen : Bool) → IsDriven (Sees (enable_row side) seen)
-reads_driven side seen = enable_driven side
-
-polled_driven : (n : ℕ) → AllAre IsDriven (receive_polled true n)
-polled_driven n = (refl, (refl, all_polled IsDriven true reads_driven Rx n))
+-- A start on a queue whose sides are off finds no device at fault.
 
 module _ (w : Watched) (q : AtPort) (fifo : ℕ) (h : List Entry) (along : IsAlong w fifo h) where
   abbrev Grounded : List Call → Type 0
@@ -114,8 +100,8 @@ module _ (w : Watched) (q : AtPort) (fifo : ℕ) (h : List Entry) (along : IsAlo
   polls_never_stray : (side : Dir) (polls : ℕ) (old new : List Call) → old ≢ [] → Grounded old
       → (x : PollsEnd DeviceFault q old new side true polls) → StepsPolling q old new side polls x → Never w fifo h new
   polls_never_stray side polls old new some at (misses, mid, few, made, stray) steps =
-      let there = accesses_grounded w q fifo h along (missed side true misses) old mid (all_missed IsDriven true reads_driven side misses) made
-      steps.0 some at in
+      let driven = all_missed IsDriven true reads_driven side misses in
+      let there = accesses_grounded w q fifo h along (missed side true misses) old mid driven made steps.0 some at in
       read_never_stray w q fifo h along mid new (enable_row side) (enable_driven side)
       (next_on_ground w q fifo h along mid (some_made q (missed side true misses) old mid made some) there) stray
       steps.1

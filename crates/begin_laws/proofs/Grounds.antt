@@ -23,21 +23,7 @@ use Rattle.start_laws.proofs.AllAre.{AllAre, all_before}
 use Rattle.begin_laws.specs.Faultless.{Never, StepsBeforeOther, StepsUntil}
 use Rattle.begin_laws.proofs.Last.{RefutesNext, then_refuted}
 use Rattle.begin_laws.proofs.Replies.{named_registers_reply}
-
--- a driver's register is accessed, or written
-
-abbrev pub IsDriven : Access → Type 0
-IsDriven (Sees row on) = is_driven row ≡ true
-IsDriven (Sets row word) = is_driven row ≡ true
-
-abbrev pub IsWrite : Access → Type 0
-IsWrite (Sees row on) = ⊥
-IsWrite (Sets row word) = is_driven row ≡ true
-
-pub writes_driven : (all : List Access) → AllAre IsWrite all → AllAre IsDriven all
-writes_driven [] are = tt
-writes_driven (Sees row on ∷ rest) are = absurd are.0
-writes_driven (Sets row word ∷ rest) are = (are.0, writes_driven rest are.1)
+use Rattle.begin_laws.proofs.DrivenAccesses.{IsDriven, IsWrite, writes_driven}
 
 module _ (w : Watched) (q : AtPort) (fifo : ℕ) (h : List Entry) (along : IsAlong w fifo h) where
   abbrev Grounded : List Call → Type 0

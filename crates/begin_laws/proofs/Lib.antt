@@ -1,9 +1,12 @@
+pub mod DrivenAccesses
 pub mod Faultless
 pub mod Filling
 pub mod Gate
 pub mod Grounds
 pub mod Last
+pub mod Misses
 pub mod Polls
 pub mod Quiet
 pub mod Replies
+pub mod SeenOff
 pub mod TimedOut

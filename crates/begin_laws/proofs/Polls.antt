@@ -26,7 +26,7 @@ use Rattle.start_laws.specs.Along.{AreSteps}
 use Rattle.start_laws.specs.Points.{StepsBefore, StepsBetween}
 use Rattle.begin_laws.specs.Polls.{AreEnables, Enables, PollsAreTold, asked_after, is_missed, missed_in, same_port}
 use Rattle.begin_laws.specs.TimedOut.{Asked, AllEnable, IsOfEnable, asked_by, is_miss, misses, none_asked}
-use Rattle.begin_laws.proofs.TimedOut.{none_more}
+use Rattle.begin_laws.proofs.Misses.{none_more}
 
 port_same : (p : Port) → same_port p p ≡ true
 port_same Pf = refl

@@ -1,6 +1,5 @@
 -- A driver that starts on a queue whose sides are off sees them off.
-use Rattle.std.proofs.Common.{◌≡◌, ◌≢◌, ℕ, inl, inr, ◌⊎◌, Bool, true, false, not, List, [], ◌∷◌, ◌++◌, refl, sym, ap, ◌∙◌, subst, append_assoc}
-use Rattle.std.proofs.lemmas.Bool.{both_ways}
+use Rattle.std.proofs.Common.{◌≡◌, ◌≢◌, ℕ, Bool, false, List, [], ◌∷◌, ◌++◌, refl, sym, ap, subst}
 use Rattle.reg_table.specs.declared.rows.RowId.{RowId}
 use Rattle.reg_table.specs.declared.rows.RowId.TheVariants.{Rxdctl, Txdctl}
 use Rattle.register_file.specs.Bits.{has_bit}
@@ -17,31 +16,24 @@ use Rattle.device_lock.specs.declared.entry.Call.{Call}
 use Rattle.device_lock.specs.declared.entry.Entry.{Entry}
 use Rattle.pmd_base.specs.declared.fault.PmdFault.TheVariants.{DeviceFault}
 use Rattle.pmd_queue.specs.Both.{both_quiet}
-use Rattle.pmd_queue.specs.Made.{Access, Sees, Sets, AreMade, IsMade, IsOtherwise, StopsBy}
-use Rattle.pmd_queue.specs.Named.{AtPort, IsNumberOf, is_driven}
+use Rattle.pmd_queue.specs.Made.{Access, Sees, Sets, AreMade, IsMade, StopsBy}
+use Rattle.pmd_queue.specs.Named.{AtPort}
 use Rattle.pmd_queue.specs.Sides.{quiet}
 use Rattle.start_laws.specs.Along.{AtCalls, BeforeLast, IsAlong, IsKept}
-use Rattle.start_laws.specs.Points.{HasGround, StepsBefore, StepsBetween}
+use Rattle.start_laws.specs.Points.{StepsBefore, StepsBetween}
 use Rattle.start_laws.specs.Quieting.{IsQuiet}
-use Rattle.start_laws.proofs.First.{first_leads}
 use Rattle.start_laws.proofs.Made.{made_some, some_made}
 use Rattle.start_laws.proofs.AccessLeads.{seen, set}
 use Rattle.start_laws.proofs.QuietKept.{quiet_kept, read_quiet, write_quiet}
-use Rattle.begin_laws.specs.Faultless.{BeforeNext, Never, StepsBeforeOther, StepsUntil}
-use Rattle.begin_laws.proofs.Grounds.{read_never_stray, write_never_stray}
 use Rattle.start_laws.proofs.AllAre.{AllAre, all_before}
-use Rattle.begin_laws.proofs.Last.{RefutesNext, next_refuted, then_refuted}
-use Rattle.begin_laws.proofs.Replies.{off_sides_are_seen_off}
+use Rattle.start_laws.proofs.First.{first_seen}
+use Rattle.begin_laws.specs.Faultless.{BeforeNext, Never, StepsUntil}
+use Rattle.begin_laws.proofs.Last.{next_refuted, then_refuted}
+use Rattle.begin_laws.proofs.SeenOff.{IsQuieting, Next, never_otherwise}
 
 -- A driver that starts on a queue whose sides are off sees them off.
 
--- an access by which a side is seen off, or asked to be
-abbrev IsQuieting : Access → Type 0
-IsQuieting (Sees Rxdctl on) = on ≡ false
-IsQuieting (Sees Txdctl on) = on ≡ false
-IsQuieting (Sets Rxdctl word) = word ≡ 0
-IsQuieting (Sets Txdctl word) = word ≡ 0
-IsQuieting other = ⊥
+-- A driver that starts on a queue whose sides are off sees them off.
 
 module _ (w : Watched) (q : AtPort) (fifo : ℕ) (h : List Entry) (along : IsAlong w fifo h) where
   abbrev Off : State → Type 0
@@ -61,7 +53,8 @@ module _ (w : Watched) (q : AtPort) (fifo : ℕ) (h : List Entry) (along : IsAlo
       seen w q fifo h along Off Off row on off_stays off_stays
       (λ number word named is s met can told x. read_quiet w.queue q s x q.port number) old new made steps some at
 
-  ask : (side : Dir) (word : ℕ) (old new : List Call) → word ≡ 0 → (made : IsMade q old new (Sets (enable_row side) word))
+  ask : (side : Dir) (word : ℕ) (old new : List Call) → word ≡ 0
+      → (made : IsMade q old new (Sets (enable_row side) word))
       → StepsBefore q old new (Sets (enable_row side) word) made → old ≢ [] → AtOff old → AtOff new
   ask side word old new is made steps some at =
       set w q fifo h along Off Off (enable_row side) word off_stays off_stays
@@ -87,49 +80,10 @@ module _ (w : Watched) (q : AtPort) (fifo : ℕ) (h : List Entry) (along : IsAlo
   first_off : (row : RowId) (on : Bool) (old new : List Call) → (made : IsMade q old new (Sees row on))
       → StepsBefore q old new (Sees row on) made → BeforeNext w fifo h old Off → AtOff new
   first_off row on old new (number, word, named, is, (before, added)) steps at =
-      let c = call_of (event.Read q.port number) (reply.Word word) in
-      let made : (old ++ before) ++ c ∷ [] ≡ new = append_assoc old before (c ∷ []) ∙ sym added in
-      subst AtOff made
-      (first_leads w fifo h Off (old ++ before) c along off_stays (λ s x. read_quiet w.queue q s x q.port number)
-      (subst (λ (calls : List Call). BeforeLast w fifo h calls Off) (sym (append_assoc old before (c ∷ [])))
-      (at before c steps refl)))
-
-  -- and none of them is answered otherwise
-
-  abbrev Next : List Call → Type 0
-  Next old = RefutesNext w fifo h along Off old
-
-  on_ground : (old : List Call) → Next old → RefutesNext w fifo h along (HasGround w.queue q) old
-  on_ground old next before c steps apart refutes =
-      next before c steps apart (λ s x told. refutes s x.ground told)
-
-  read_never_on : (row : RowId) (old new : List Call) (on : Bool) → on ≡ false → (is_driven row ≡ true)
-      → ((number : ℕ) → IsNumberOf q.port row q.queue number
-      → IsNumberOf q.port Rxdctl q.queue number ⊎ IsNumberOf q.port Txdctl q.queue number)
-      → Next old → (fails : IsOtherwise q old new (Sees row on)) → StepsBeforeOther q old new (Sees row on) fails
-      → Never w fifo h new
-  read_never_on row old new on off driven names next (inl (number, word, named, is, (before, added))) steps =
-      subst (Never w fifo h) (sym added)
-      (next before (call_of (event.Read q.port number) (reply.Word word)) steps refl
-      (λ s x told.
-      both_ways (has_bit 25 word)
-      (off_sides_are_seen_off w.queue q s number word x (names number named) (sym told))
-      (is ∙ ap not off)))
-  read_never_on row old new on off driven names next (inr stray) steps =
-      read_never_stray w q fifo h along old new row driven (on_ground old next) stray steps
-
-  never_otherwise : (old new : List Call) (a : Access) → IsQuieting a → Next old → (fails : IsOtherwise q old new a)
-      → StepsBeforeOther q old new a fails → Never w fifo h new
-  never_otherwise old new (Sees Rxdctl on) is next fails steps =
-      read_never_on Rxdctl old new on is refl (λ number named. inl named) next fails steps
-  never_otherwise old new (Sees Txdctl on) is next fails steps =
-      read_never_on Txdctl old new on is refl (λ number named. inr named) next fails steps
-  never_otherwise old new (Sees other on) is next fails steps = absurd is
-  never_otherwise old new (Sets Rxdctl word) is next fails steps =
-      write_never_stray w q fifo h along old new Rxdctl word refl (on_ground old next) fails steps
-  never_otherwise old new (Sets Txdctl word) is next fails steps =
-      write_never_stray w q fifo h along old new Txdctl word refl (on_ground old next) fails steps
-  never_otherwise old new (Sets other word) is next fails steps = absurd is
+      first_seen w q fifo h Off along off_stays (λ s number x. read_quiet w.queue q s x q.port number) row on old new
+      (number, word, named, is, (before, added))
+      (subst (λ (calls : List Call). BeforeLast w fifo h calls Off) (sym added)
+      (at before (call_of (event.Read q.port number) (reply.Word word)) steps refl))
 
   quieting : AllAre IsQuieting both_quiet
   quieting = (refl, (refl, (refl, (refl, (refl, (refl, tt))))))
@@ -156,9 +110,11 @@ module _ (w : Watched) (q : AtPort) (fifo : ℕ) (h : List Entry) (along : IsAlo
       → Never w fifo h new
   quieting_never_stops old new at ([], a, rest, mid, is, made, fails) steps =
       let both = all_before IsQuieting [] a rest (subst (AllAre IsQuieting) is quieting) in
-      never_otherwise mid new a both.1 (subst Next (sym made) (next_refuted w fifo h along Off old at)) fails steps.1
+      never_otherwise w q fifo h along mid new a both.1
+      (subst (Next w q fifo h along) (sym made) (next_refuted w fifo h along Off old at)) fails steps.1
   quieting_never_stops old new at (d ∷ done, a, rest, mid, is, made, fails) steps =
       let both = all_before IsQuieting (d ∷ done) a rest (subst (AllAre IsQuieting) is quieting) in
       let some : mid ≢ [] = some_made q done made.0 mid made.2 (made_some q old made.0 d made.1) in
       let there = begun_off d done (done ++ a ∷ rest) old mid is both.0.1 made steps.0 at in
-      never_otherwise mid new a both.1 (then_refuted w fifo h along Off mid off_stays some there) fails steps.1
+      never_otherwise w q fifo h along mid new a both.1
+      (then_refuted w fifo h along Off mid off_stays some there) fails steps.1

@@ -1,82 +1,26 @@
 -- A start that times out polled 1,000 times.
-use Rattle.std.proofs.Common.{◌≡◌, ℕ, ◌+◌, ◌-◌, ◌<◌, zero, suc, inl, inr, true, false, ◌≢◌, List, [], ◌∷◌, ◌++◌, refl, sym, ap, ◌∙◌, subst, arith, append_assoc}
-use Rattle.std.specs.Prelude.{replicate, nat_lt, Option, None, Err}
+use Rattle.std.proofs.Common.{◌≡◌, ℕ, ◌-◌, inl, inr, true, ◌≢◌, List, [], ◌++◌, refl, sym, ap, ◌∙◌, subst, append_assoc}
+use Rattle.std.specs.Prelude.{nat_lt, Option, None, Err}
 use Rattle.std.proofs.lemmas.Bool.{cond_both}
 use Rattle.std.proofs.lemmas.List.{append-nil}
 use Rattle.dma_arena.specs.Numbers.{Numbers, free_count}
-use Rattle.reg_table.specs.declared.rows.RowId.TheVariants.{Rxdctl, Txdctl}
 use Rattle.register_file.specs.declared.dir.Dir.{Dir}
 use Rattle.register_file.specs.declared.dir.Dir.TheVariants.{Rx, Tx}
 use Rattle.device_lock.specs.declared.entry.Call.{Call}
 use Rattle.pmd_base.specs.declared.fault.PmdFault.{PmdFault}
 use Rattle.pmd_base.specs.declared.fault.PmdFault.TheVariants.{StartTimeout, BadSize, NoBuffer, DeviceFault}
 use Rattle.pmd_queue.specs.Both.{both_asked, both_quiet, receive_polled, SwitchFails}
-use Rattle.pmd_queue.specs.Made.{Access, Sees, AreMade}
+use Rattle.pmd_queue.specs.Made.{AreMade}
 use Rattle.pmd_queue.specs.Named.{AtPort, queues_named}
 use Rattle.pmd_queue.specs.Sides.{missed, ring_words}
 use Rattle.pmd_queue.proofs.Sequences.{both_made as made_after}
+use Rattle.pmd_rx.specs.Receive.{Receive}
 use Rattle.pmd.specs.Started.{IsShut, StopsStarting, is_size, start_gate}
 use Rattle.pmd.specs.Starting.{IsPrepared, IsReceiveReady, GoingOnFails, PreparingFails, ReceiveFails}
 use Rattle.pmd.specs.declared.start.StartRefused.{StartRefused}
-use Rattle.pmd_rx.specs.Receive.{Receive}
 use Rattle.start_laws.proofs.Made.{extends}
-use Rattle.begin_laws.specs.TimedOut.{AllEnable, Asked, TimesOut, TimeoutsPoll, misses, none_asked}
-
--- so many reads of sides that are asked on, in vain
-
-abbrev both : Asked
-both = record { receive = true; transmit = true }
-
-pub none_more : (k : ℕ) → k ≡ 0 + k
-none_more k = omega arith
-
-one_more : (n k : ℕ) → 1 + (n + k) ≡ suc n + k
-one_more n k = omega arith
-
-one_is : (n : ℕ) → 1 + n ≡ suc n
-one_is n = omega arith
-
-receive_misses : (n : ℕ) (rest : List Access)
-    → misses both (replicate n (Sees Rxdctl false) ++ rest) ≡ n + misses both rest
-receive_misses zero rest = none_more (misses both rest)
-receive_misses (suc n) rest = ap (λ k. 1 + k) (receive_misses n rest) ∙ one_more n (misses both rest)
-
-transmit_misses : (n : ℕ) → misses both (replicate n (Sees Txdctl false)) ≡ n
-transmit_misses zero = refl
-transmit_misses (suc n) = ap (λ k. 1 + k) (transmit_misses n) ∙ one_is n
-
-asks : (rest : List Access) → misses none_asked (both_asked true ++ rest) ≡ misses both rest
-asks rest = sym (none_more (0 + misses both rest)) ∙ sym (none_more (misses both rest))
-
-receive_alone : misses none_asked (both_asked true ++ missed Rx true 1000) ≡ 1000
-receive_alone =
-    subst (λ (l : List Access). misses both l ≡ 1000) (append-nil (missed Rx true 1000)) (receive_misses 1000 [])
-
-one_after_the_other : (first : ℕ) → first < 1000
-    → misses none_asked (receive_polled true first ++ missed Tx true (1000 - first)) ≡ 1000
-one_after_the_other first few =
-    let more : List Access = missed Tx true (1000 - first) in
-    let all : first + (1000 - first) ≡ 1000 = omega (arith, few) in
-    asks ((missed Rx true first ++ Sees Rxdctl true ∷ []) ++ more)
-    ∙ ap (misses both) (append_assoc (missed Rx true first) (Sees Rxdctl true ∷ []) more)
-    ∙ receive_misses first (Sees Rxdctl true ∷ more)
-    ∙ ap (λ k. first + k) (sym (none_more (misses both more)) ∙ transmit_misses (1000 - first)) ∙ all
-
--- these are accesses of the enable words alone
-
-receive_enables : (n : ℕ) (rest : List Access) → AllEnable rest → AllEnable (replicate n (Sees Rxdctl false) ++ rest)
-receive_enables zero rest are = are
-receive_enables (suc n) rest are = (tt, receive_enables n rest are)
-
-transmit_enables : (n : ℕ) → AllEnable (replicate n (Sees Txdctl false))
-transmit_enables zero = tt
-transmit_enables (suc n) = (tt, transmit_enables n)
-
-polled_enables : (first more : ℕ)
-    → AllEnable ((missed Rx true first ++ Sees Rxdctl true ∷ []) ++ missed Tx true more)
-polled_enables first more =
-    subst AllEnable (sym (append_assoc (missed Rx true first) (Sees Rxdctl true ∷ []) (missed Tx true more)))
-    (receive_enables first (Sees Rxdctl true ∷ missed Tx true more) (tt, transmit_enables more))
+use Rattle.begin_laws.specs.TimedOut.{AllEnable, TimesOut, TimeoutsPoll}
+use Rattle.begin_laws.proofs.Misses.{receive_alone, one_after_the_other, receive_enables, polled_enables}
 
 -- some calls were made before
 

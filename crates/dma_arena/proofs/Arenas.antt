@@ -8,7 +8,8 @@ use Rattle.std.proofs.lemmas.List.Sums.{sum_by-set}
 use Rattle.dma_arena.specs.Numbers.{Numbers, free_count, is_own, is_free, are_all_free, all_free, with_free, NoneFree}
 use Rattle.dma_arena.specs.Laws.{ChangesOne, CountsFree}
 use Rattle.dma_arena.proofs.Numbers.{all_set-is, is_free-of_no_count, count_by-of_none}
-pub use Rattle.dma_arena.proofs.Owned.{own_within, own_of_within, is_free_from, is_free_below, set_within, is_own-of_free}
+use Rattle.dma_arena.proofs.Owned.{set_within}
+pub use Rattle.dma_arena.proofs.Owned.{own_within, own_of_within, is_free_from, is_own-of_free}
 
 -- one number changes
 

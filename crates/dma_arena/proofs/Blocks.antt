@@ -7,7 +7,8 @@ use Rattle.std.proofs.lemmas.List.{drop_more, length-set}
 use Rattle.dma_arena.specs.Memory.{Memory, has_block, byte_at, is_lent, read_at, set_byte, write_at, put_bytes, part, IsWhole, Avoids}
 use Rattle.dma_arena.specs.Laws.{InsideBlock}
 use Rattle.dma_arena.proofs.Bytes.{put_bytes-none, put_bytes-more}
-use Rattle.dma_arena.proofs.Bus.{get-insert_same, get-insert_other, get-set_byte_same, get-set_byte_other, is_lent_of_each}
+use Rattle.dma_arena.proofs.Bus.{get-insert_same, get-insert_other, is_lent_of_each}
+use Rattle.dma_arena.proofs.Single.{get-set_byte_same, get-set_byte_other}
 
 -- ranges inside one block, and the blocks that a range avoids
 

@@ -4,9 +4,8 @@ use Rattle.std.specs.Prelude.{is_some}
 use Rattle.std.specs.FinMap as map
 use Rattle.std.proofs.lemmas.Bool.{cases_eq, and_parts}
 use Rattle.dma_arena.specs.Memory.{Memory, has_block, byte_at, is_lent, read_at, set_byte, write_at, IsWhole, SameLent, IsOutside, AreApart}
-pub use Rattle.dma_arena.proofs.Single.{get-insert_same, get-insert_other, get-remove_same, get-remove_other, get-set_byte_same, get-set_byte_other, byte_at-set_byte_same, byte_at-set_byte_other, SameLent-set_byte, IsWhole-set_byte}
-
--- which blocks are lent, and their lengths
+use Rattle.dma_arena.proofs.Single.{byte_at-set_byte_same, byte_at-set_byte_other, SameLent-set_byte, IsWhole-set_byte}
+pub use Rattle.dma_arena.proofs.Single.{get-insert_same, get-insert_other, get-remove_same, get-remove_other}
 
 -- a write changes no block's being lent
 pub SameLent-write_at : (m : Memory) (a : ℕ) (bs : List ℕ) → SameLent (write_at m a bs) m

@@ -70,7 +70,3 @@ part-put_bytes_other xs at (b ∷ bs) from n room o =
     rw (← put_bytes-more xs at b bs lt)
     (part-put_bytes_other (set xs at b) (at + 1) bs from n room_left (apart_rest from n at (length bs) o))
     ∙ part-set_other xs at b from n (apart_first from n at (length bs) o)
-
-pub length-part : (xs : List ℕ) (at n : ℕ) → at + n ≤ length xs → length (part xs at n) ≡ n
-unfolding part
-length-part xs at n room = length-take-le n (drop at xs) (omega (arith, length-drop at xs))

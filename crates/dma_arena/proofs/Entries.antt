@@ -1,5 +1,5 @@
 -- Single entries of an ordered map of blocks: one that is taken, the lowest, and none.
-use Rattle.std.proofs.Common.{◌≡◌, ℕ, ◌<◌, ◌≤◌, Bool, true, false, Option, Some, None, List, [], ◌∷◌, length, refl, sym, ap, ◌∙◌, arith}
+use Rattle.std.proofs.Common.{◌≡◌, ℕ, ◌<◌, Bool, true, false, Option, Some, None, List, [], ◌∷◌, length, refl, sym, ap, ◌∙◌, arith}
 use Rattle.std.specs.Prelude.{option_map, is_some, IfSome}
 use Rattle.std.specs.Map.{lookup}
 use Rattle.std.specs.Ordering.{nat_cmp, is_gt}
@@ -8,7 +8,7 @@ use Rattle.std.specs.FinMap as fin
 use Rattle.std.proofs.lemmas.Grind.{common_steps}
 use Rattle.dma_arena.specs.Block.{Block, IsBlock}
 use Rattle.dma_arena.specs.Memory.{Memory, has_block, block_at}
-use Rattle.dma_arena.specs.Shown.{bytes_of, shown, IsKept}
+use Rattle.dma_arena.specs.Shown.{shown, IsKept}
 use Rattle.dma_arena.proofs.Shown.{get-shown, has_block-shown}
 
 -- a block that is taken
@@ -21,15 +21,6 @@ block_of_kept (Some b) q kept =
 
 pub block_at-shown : (m : BTreeMap ℕ Block) (q : ℕ) → IsKept m → get nat_cmp m q ≡ block_at (shown m) q
 block_at-shown m q kept = block_of_kept (get nat_cmp m q) q (kept q) ∙ rw (get-shown m q) refl
-
-far_none : (o : Option Block) (q : ℕ) → IfSome o (λ b. (b.number ≡ q) × IsBlock b) → 65536 ≤ q
-    → option_map (λ b. b.bytes) o ≡ None
-far_none None q kept far = refl
-far_none (Some b) q kept far = let low = kept.1.small in absurd (omega (arith, low, kept.0))
-
--- no number from 65,536 on is lent
-pub get-shown_far : (m : BTreeMap ℕ Block) (q : ℕ) → IsKept m → 65536 ≤ q → fin.get (shown m) q ≡ None
-get-shown_far m q kept far = get-shown m q ∙ far_none (get nat_cmp m q) q (kept q) far
 
 -- the map without an entry
 
@@ -52,9 +43,6 @@ IsEmpty-shown m h =
     empty_entries m.entries
     (λ q. none_bytes (get nat_cmp m q)
     (sym (get-shown m q) ∙ ap (λ (n : Memory). fin.get n q) h ∙ fin.get-empty nat_cmp q))
-
-pub shown-IsEmpty : (m : BTreeMap ℕ Block) → IsEmpty m → shown m ≡ fin.empty
-shown-IsEmpty m h = ap (λ (es : List (ℕ × Block)). fin.from_entries {R = nat_cmp} (bytes_of es)) h
 
 pub empty_len : (m : BTreeMap ℕ Block) → shown m ≡ fin.empty → btree_map_len m ≡ 0
 empty_len m h = ap (λ (es : List (ℕ × Block)). length es) (IsEmpty-shown m h)

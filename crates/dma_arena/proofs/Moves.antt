@@ -1,6 +1,5 @@
 -- Blocks that come and go.
-use Rattle.std.proofs.Common.{◌≡◌, ◌≢◌, ℕ, ◌+◌, ◌*◌, ◌/◌, ◌%◌, ◌<◌, ◌⊎◌, inl, inr, Some, None, List, get_or, refl, sym, ◌∙◌, arith}
-use Rattle.std.specs.Cmp.{nat_cmp_total}
+use Rattle.std.proofs.Common.{◌≡◌, ◌≢◌, ℕ, ◌/◌, ◌⊎◌, inl, inr, Some, None, List, refl, sym, ◌∙◌}
 use Rattle.std.specs.FinMap as map
 use Rattle.std.proofs.lemmas.Bool.{cases_eq}
 use Rattle.dma_arena.specs.Block.{IsBlock}
@@ -16,15 +15,6 @@ byte_at-insert_other m q xs c ne = rw (get-insert_other m q xs (c / 2048) ne) re
 pub byte_at-remove_other : (m : Memory) (q c : ℕ) → c / 2048 ≢ q → byte_at (map.remove m q) c ≡ byte_at m c
 unfolding byte_at
 byte_at-remove_other m q c ne = rw (get-remove_other m q (c / 2048) ne) refl
-
--- a lent block has the bytes that it was lent with
-pub byte_at-insert_same : (m : Memory) (q : ℕ) (xs : List ℕ) (k : ℕ) → k < 2048
-    → byte_at (map.insert m q xs) (2048 * q + k) ≡ get_or xs k 0
-unfolding byte_at
-byte_at-insert_same m q xs k lt =
-    let block : (2048 * q + k) / 2048 ≡ q = omega arith in
-    let place : (2048 * q + k) % 2048 ≡ k = omega arith in
-    rw (block, place, get-insert_same m q xs) refl
 
 IsBlock-insert : (m : Memory) (q : ℕ) (xs : List ℕ) → IsWhole m → IsBlock (record { number = q; bytes = xs })
     → (r : ℕ) (ys : List ℕ) → (r ≡ q) ⊎ (r ≢ q) → map.get (map.insert m q xs) r ≡ Some ys
@@ -46,12 +36,3 @@ IsBlock-remove m q whole r ys (inr ne) h = whole.block r ys (sym (get-remove_oth
 
 pub IsWhole-remove : (m : Memory) (q : ℕ) → IsWhole m → IsWhole (map.remove m q)
 IsWhole-remove m q whole = record { block = λ r ys h. IsBlock-remove m q whole r ys (cases_eq r q) h }
-
-absent_case : (m : Memory) (q r : ℕ) → map.get m q ≡ None → (r ≡ q) ⊎ (r ≢ q) → map.get (map.remove m q) r ≡ map.get m r
-absent_case m q r none (inl e) = rw (e, get-remove_same m q) (sym none)
-absent_case m q r none (inr ne) = get-remove_other m q r ne
-
--- there is nothing to take where the number is not lent
-pub remove_absent : (m : Memory) (q : ℕ) → map.get m q ≡ None → map.remove m q ≡ m
-remove_absent m q none =
-    map.same_map nat_cmp_total map.nat_cmp-IsAntisymmetric _ _ (λ r. absent_case m q r none (cases_eq r q))

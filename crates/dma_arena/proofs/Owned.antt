@@ -1,7 +1,7 @@
 -- What an arena owns, and what is free in it.
 use Rattle.std.proofs.Common.{◌≡◌, ℕ, zero, suc, ◌+◌, ◌-◌, ◌<◌, ◌≤◌, Bool, true, false, List, [], ◌∷◌, length, get_or, refl, arith}
 use Rattle.std.specs.Prelude.{nat_le, nat_lt}
-use Rattle.std.proofs.lemmas.Bool.{and_parts, leb-true, ltb-true, le-leb, lt-leb, lt-ltb}
+use Rattle.std.proofs.lemmas.Bool.{and_parts, leb-true, ltb-true, le-leb, lt-ltb}
 use Rattle.dma_arena.specs.Numbers.{Numbers, is_own, is_free}
 
 pub own_within : (a : Numbers) (number : ℕ) → is_own a number ≡ true → (a.first ≤ number)
@@ -17,9 +17,6 @@ own_of_within a number low high = rw (le-leb a.first number low, lt-ltb number (
 pub is_free_from : (a : Numbers) (number : ℕ) → a.first ≤ number
     → is_free a number ≡ get_or a.free (number - a.first) false
 is_free_from a number low = rw (le-leb a.first number low) refl
-
-pub is_free_below : (a : Numbers) (number : ℕ) → number < a.first → is_free a number ≡ false
-is_free_below a number low = rw (lt-leb a.first number low) refl
 
 pub set_within : (xs : List Bool) (k : ℕ) → get_or xs k false ≡ true → k < length xs
 set_within [] k h = cc

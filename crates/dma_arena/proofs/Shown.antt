@@ -102,15 +102,6 @@ pub IsKept-put : (m n : BTreeMap ℕ Block) (k : ℕ) (new : Block)
     → IsKept m → new.number ≡ k → IsBlock new → Updates nat_cmp m n k (Some new) → IsKept n
 IsKept-put m n k new kept number whole u q = kept_put m n k new kept number whole u q (cases_eq q k)
 
-kept_removed : (m n : BTreeMap ℕ Block) (k : ℕ) → IsKept m → Updates nat_cmp m n k None → (q : ℕ) → (q ≡ k) ⊎ (q ≢ k)
-    → IfSome (get nat_cmp n q) (λ c. (c.number ≡ q) × IsBlock c)
-kept_removed m n k kept u q (inl e) = rw (e, u.1) tt
-kept_removed m n k kept u q (inr ne) = rw (u.2 q (apart_at k q ne)) (kept q)
-
--- a block that goes
-pub IsKept-remove : (m n : BTreeMap ℕ Block) (k : ℕ) → IsKept m → Updates nat_cmp m n k None → IsKept n
-IsKept-remove m n k kept u q = kept_removed m n k kept u q (cases_eq q k)
-
 -- reads and writes inside one block
 
 pub written_in : (m n : BTreeMap ℕ Block) (k : ℕ) (b new : Block) (at : ℕ) (bs : List ℕ) → IsKept m

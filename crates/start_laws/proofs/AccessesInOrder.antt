@@ -13,7 +13,8 @@ pub may_append : (xs ys : List Access) (p : Sides) → AllMay xs p → AllMay ys
 may_append [] ys p may more = more
 may_append (x ∷ xs) ys p may more = (may.0, may_append xs ys (after_access x p) may.1 more)
 
-pub after-append : (xs ys : List Access) (p : Sides) → after_accesses (xs ++ ys) p ≡ after_accesses ys (after_accesses xs p)
+pub after-append : (xs ys : List Access) (p : Sides)
+    → after_accesses (xs ++ ys) p ≡ after_accesses ys (after_accesses xs p)
 after-append [] ys p = refl
 after-append (x ∷ xs) ys p = after-append xs ys (after_access x p)
 

@@ -1,19 +1,27 @@
 -- What holds just before a call of a pass that keeps it holds wherever that call is the last that it made.
-use Rattle.std.proofs.Common.{◌≡◌, ℕ, List, [], ◌∷◌, ◌++◌, sym, ap, ◌∙◌, subst, append_assoc}
+use Rattle.std.proofs.Common.{◌≡◌, ℕ, List, [], ◌∷◌, ◌++◌, sym, ap, ◌∙◌, subst, append_assoc, Bool}
 use Rattle.std.proofs.lemmas.Bool.{eq-eqb}
+use Rattle.reg_table.specs.declared.rows.RowId.{RowId}
 use Rattle.nic_device.specs.State.{State}
 use Rattle.nic_device.specs.Step.{after}
+use Rattle.nic_device.specs.declared.event.Event.TheVariants as event
+use Rattle.nic_device.specs.declared.event.Reply.TheVariants as reply
 use Rattle.device_lock.specs.Alone.{lent_by}
 use Rattle.device_lock.specs.History.{call_in, calls_of}
 use Rattle.device_lock.specs.declared.alone.Watched.{Watched}
 use Rattle.device_lock.specs.declared.entry.Call.{Call}
 use Rattle.device_lock.specs.declared.entry.Entry.{Entry}
+use Rattle.device_lock.specs.Pass.{call_of}
+use Rattle.pmd_queue.specs.Made.{Sees, IsMade}
+use Rattle.pmd_queue.specs.Named.{AtPort}
 use Rattle.receive_laws.proofs.Histories.{calls_own}
 use Rattle.start_laws.specs.Along.{AtCalls, BeforeLast, IsAlong, IsKept}
 use Rattle.start_laws.proofs.Along.{kept_on}
 use Rattle.start_laws.proofs.Reached.{reached, reached_next, state_kept}
 use Rattle.start_laws.proofs.Made.{ends_some}
 use Rattle.start_laws.proofs.Parts.{around, calls_joined}
+
+-- What holds just before a call of a pass that keeps it holds wherever that call is the last that it made.
 
 pub first_leads : (w : Watched) (fifo : ℕ) (h : List Entry) (P : State → Type 0) (old : List Call) (c : Call)
     → IsAlong w fifo h → IsKept w (lent_by w.pass h) P → ((s : State) → P s → P (after s c.event))
@@ -38,3 +46,15 @@ first_leads w fifo h P old c along kept keeps at done rest all is =
     subst (λ (l : List Entry). P (reached w fifo l)) split
     (kept_on w fifo h along (λ so_far. P (reached w fifo so_far)) (state_kept w fifo (lent_by w.pass h) P kept) till
     x.behind rest whole (λ none. ends_some old [] (call_in e) (sym made ∙ none)) x.later then)
+
+-- so it is of an access that reads
+pub first_seen : (w : Watched) (q : AtPort) (fifo : ℕ) (h : List Entry) (P : State → Type 0) → IsAlong w fifo h
+    → IsKept w (lent_by w.pass h) P → ((s : State) (number : ℕ) → P s → P (after s (event.Read q.port number)))
+    → (row : RowId) (on : Bool) (old new : List Call) → IsMade q old new (Sees row on) → BeforeLast w fifo h new P
+    → AtCalls w fifo h new P
+first_seen w q fifo h P along kept read row on old new (number, word, named, is, (before, added)) at =
+    let c = call_of (event.Read q.port number) (reply.Word word) in
+    let made : (old ++ before) ++ c ∷ [] ≡ new = append_assoc old before (c ∷ []) ∙ sym added in
+    subst (λ (calls : List Call). AtCalls w fifo h calls P) made
+    (first_leads w fifo h P (old ++ before) c along kept (λ s p. read s number p)
+    (subst (λ (calls : List Call). BeforeLast w fifo h calls P) (sym made) at))

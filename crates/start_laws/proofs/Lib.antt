@@ -21,6 +21,7 @@ pub mod On
 pub mod Parts
 pub mod Points
 pub mod PointsAlong
+pub mod Prepared
 pub mod QueueIn
 pub mod Quiet
 pub mod QuietKept
@@ -33,6 +34,7 @@ pub mod Settled
 pub mod Silent
 pub mod Standing
 pub mod Start
+pub mod StaysQuiet
 pub mod SteadyReceive
 pub mod StillReceive
 pub mod StillTransmit

@@ -1,11 +1,10 @@
 -- Once both sides went on the device and the driver agree on both.
-use Rattle.std.proofs.Common.{◌≡◌, ◌≢◌, ℕ, true, List, [], ◌∷◌, ◌++◌, refl, sym, ap, ◌∙◌, subst, append_assoc}
+use Rattle.std.proofs.Common.{◌≡◌, ◌≢◌, ℕ, true, List, [], ◌∷◌, ◌++◌, refl, sym, ap, subst}
 use Rattle.std.specs.Prelude.{◌==◌}
 use Rattle.std.proofs.lemmas.Bool.{eq-eqb, or_left, or_right}
 use Rattle.dma_arena.specs.Numbers.{Numbers}
 use Rattle.reg_table.specs.declared.rows.RowId.TheVariants.{Rdt, Tdt}
 use Rattle.register_file.specs.declared.dir.Dir.TheVariants.{Rx, Tx}
-use Rattle.register_file.specs.declared.dir.Dir.{Dir}
 use Rattle.register_laws.specs.Sides.{ReceiveQueue, TransmitQueue}
 use Rattle.nic_device.specs.Sound.{IsSound}
 use Rattle.nic_device.specs.State.{State, new_state}
@@ -16,13 +15,10 @@ use Rattle.device_lock.specs.declared.entry.Entry.{Entry}
 use Rattle.history_laws.specs.Laws.{AreEvents}
 use Rattle.history_laws.proofs.Sound.{histories_sound}
 use Rattle.pmd_queue.specs.Named.{AtPort}
-use Rattle.pmd_queue.specs.Sides.{quiet, ring_words}
-use Rattle.pmd_rx.specs.Receive as receive
+use Rattle.pmd_queue.specs.Sides.{ring_words}
 use Rattle.pmd_rx.specs.Receive.{Receive}
-use Rattle.pmd_tx.specs.Sending as transmit
 use Rattle.pmd_tx.specs.Sending.{Sender}
 use Rattle.pmd.specs.Started.{is_size}
-use Rattle.pmd.specs.Starting.{IsPrepared}
 use Rattle.receive_laws.specs.Joint.{Agree}
 use Rattle.receive_laws.proofs.Delivering.{events_before}
 use Rattle.transmit_laws.specs.Agreeing.{Agrees}
@@ -37,7 +33,10 @@ use Rattle.start_laws.proofs.Lends.{lending}
 use Rattle.start_laws.proofs.Numbers.{ground_names}
 use Rattle.start_laws.proofs.Switching.{came_up, switching}
 use Rattle.start_laws.proofs.Made.{some_made}
-use Rattle.start_laws.proofs.Rising.{came_up_at, prepared_some, sized}
+use Rattle.start_laws.proofs.Rising.{came_up_at, sized}
+use Rattle.start_laws.proofs.Prepared.{prepared_some, prepared_has}
+
+-- Once both sides went on the device and the driver agree on both.
 
 module _ (w : Watched) (fifo : ℕ) (h : List Entry) (q : AtPort) (size : ℕ) (old : List Call) (a : Numbers)
     (new : List Call) (v : Receive) (t : Sender) (up : AreOn q size old a new v t)
@@ -52,14 +51,6 @@ module _ (w : Watched) (fifo : ℕ) (h : List Entry) (q : AtPort) (size : ℕ) (
 
     -- wherever the pass has made these calls it has lent both rings
 
-    prepared_has : (side : Dir) (before : List Call) (b : Numbers) (made : List Call) (c : Numbers) (number : ℕ)
-        → IsPrepared q side size before b made c number → Has (lending number) made
-    prepared_has side before b made c number x = record {
-      before = x.mid ++ x.lent.0;
-      behind = [];
-      all = x.lent.1 ∙ sym (append_assoc x.mid x.lent.0 (lending number ∷ []));
-    }
-
     on_has : (number : ℕ) → Has (lending number) up.both_made → Has (lending number) new
     on_has number has =
         made_has q (lending number) (switching up.switched.0 up.switched.1) up.both_made new up.switched.3 has
@@ -71,7 +62,7 @@ module _ (w : Watched) (fifo : ℕ) (h : List Entry) (q : AtPort) (size : ℕ) (
         (up.transmit.prepared.lent.0 ++ lending other ∷ []) up.transmit.prepared.lent.1
         (made_has q (lending ring) (ring_words Tx other size) up.ready_made up.transmit.prepared.mid
         up.transmit.prepared.words
-        (prepared_has Rx up.receive.mid a up.ready_made up.ready_arena ring up.receive.prepared)))
+        (prepared_has q Rx size up.receive.mid a up.ready_made up.ready_arena ring up.receive.prepared)))
 
     pub ring_lent : AtEntries w h new (λ done. IsLentBy w.pass ring h)
     ring_lent = lent_along w fifo h ring new along ring_has
@@ -80,7 +71,7 @@ module _ (w : Watched) (fifo : ℕ) (h : List Entry) (q : AtPort) (size : ℕ) (
     other_lent =
         lent_along w fifo h other new along
         (on_has other
-        (prepared_has Tx up.ready_made up.ready_arena up.both_made up.both_arena other up.transmit.prepared))
+        (prepared_has q Tx size up.ready_made up.ready_arena up.both_made up.both_arena other up.transmit.prepared))
 
     abbrev CameUp : List Entry → Type 0
     CameUp done =

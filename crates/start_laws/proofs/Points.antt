@@ -20,7 +20,6 @@ use Rattle.start_laws.proofs.Accesses.{receive_read_stands, transmit_read_stands
 use Rattle.start_laws.proofs.Moves.{receive_write_stands, transmit_write_stands}
 use Rattle.start_laws.proofs.Numbers.{ground_names}
 use Rattle.start_laws.proofs.Standing.{standing_sides_are_left}
-use Rattle.start_laws.proofs.Words.{ground}
 use Rattle.start_laws.proofs.DrivenRows.{receive_driven, transmit_driven}
 use Rattle.start_laws.proofs.Ground.{ground_same, write_ground, read_ground}
 

@@ -29,7 +29,7 @@ use Rattle.start_laws.specs.Moves.{IsMet}
 use Rattle.start_laws.proofs.Numbers.{ground_names}
 use Rattle.start_laws.proofs.Ground.{ground_kept, plain_keeps, write_ground}
 use Rattle.start_laws.proofs.Off.{off_kept, transmit_off_kept}
-use Rattle.start_laws.proofs.Words.{ground, wrote}
+use Rattle.start_laws.proofs.Words.{wrote}
 
 pub off_same : (queue : ℕ) (s t : State) → LeavesReceive queue s t → IsOff queue s → IsOff queue t
 off_same queue s t same off = record {

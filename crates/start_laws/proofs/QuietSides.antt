@@ -12,12 +12,10 @@ use Rattle.history_laws.specs.Staged.{StageWhileOn}
 use Rattle.history_laws.proofs.Staged.{histories_keep_staged, new_sides_stage}
 use Rattle.pmd_queue.specs.Named.{AtPort}
 use Rattle.receive_laws.proofs.Delivering.{events_before}
-use Rattle.transmit_laws.specs.Off as transmit
 use Rattle.start_laws.specs.Points.{Point, Sides}
 use Rattle.start_laws.specs.Quiet.{no_block}
 use Rattle.start_laws.specs.Quieting.{IsQuiet, QuietSidesStand, are_off}
 use Rattle.start_laws.proofs.Quiet.{off_sides_stand}
-use Rattle.start_laws.proofs.Words.{ground}
 
 all_off : (a b c d : Bool) → a ≡ false → b ≡ false → c ≡ false → d ≡ false
     → ((not a && not b) && (not c && not d)) ≡ true

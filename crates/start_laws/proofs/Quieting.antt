@@ -1,5 +1,5 @@
 -- A driver that starts sees both sides of its queue off.
-use Rattle.std.proofs.Common.{◌≡◌, ℕ, false, List, [], ◌∷◌, ◌++◌, refl, sym, ◌∙◌, subst, append_assoc}
+use Rattle.std.proofs.Common.{◌≡◌, ℕ, false, List, refl, sym, subst}
 use Rattle.reg_table.specs.declared.rows.RowId.TheVariants.{Rxdctl, Txdctl}
 use Rattle.register_file.specs.Bits.{has_bit}
 use Rattle.register_file.specs.Columns.{place}
@@ -14,7 +14,7 @@ use Rattle.device_lock.specs.declared.alone.Watched.{Watched}
 use Rattle.device_lock.specs.declared.entry.Call.{Call}
 use Rattle.device_lock.specs.declared.entry.Entry.{Entry}
 use Rattle.pmd_queue.specs.Both.{both_quiet}
-use Rattle.pmd_queue.specs.Made.{Sees, Sets, AreMade, IsMade}
+use Rattle.pmd_queue.specs.Made.{Sees, Sets, AreMade}
 use Rattle.pmd_queue.specs.Named.{AtPort, IsNumberOf}
 use Rattle.transmit_laws.specs.Off as transmit
 use Rattle.transmit_laws.proofs.Guard.{guard_is_off}
@@ -22,15 +22,17 @@ use Rattle.start_laws.specs.Along.{AtCalls, BeforeLast, IsAlong, IsKept, Leads}
 use Rattle.start_laws.specs.Points.{HasGround, StepsBetween}
 use Rattle.start_laws.specs.Quiet.{IsUnwanted, IsOff}
 use Rattle.start_laws.specs.Quieting.{IsQuiet, QuietingLeads}
-use Rattle.start_laws.proofs.First.{first_leads}
 use Rattle.start_laws.proofs.Numbers.{ground_names}
 use Rattle.start_laws.proofs.Ground.{ground_kept, read_ground, write_ground}
 use Rattle.start_laws.proofs.Off.{unwanted_kept, off_kept, transmit_unwanted_kept}
 use Rattle.start_laws.proofs.Made.{made_some}
 use Rattle.start_laws.proofs.Quiet.{receive_guard_is_off}
-use Rattle.start_laws.proofs.Words.{ground}
 use Rattle.start_laws.proofs.AccessLeads.{seen, set}
 use Rattle.start_laws.proofs.QuietKept.{off_same, quiet_kept}
+use Rattle.start_laws.proofs.Reached.{also_kept}
+use Rattle.start_laws.proofs.First.{first_seen}
+
+-- A driver that starts sees both sides of its queue off.
 
 -- what holds as the accesses go on: the receive side is asked to be off, and seen off, and so is the transmit side
 
@@ -44,19 +46,16 @@ abbrev pub OffAsked : ℕ → AtPort → State → Type 0
 OffAsked queue q s = Off queue q s × transmit.IsUnwanted queue s
 
 module _ (w : Watched) (mine : Blocks) where
-  pub also_kept : (P Q : State → Type 0) → IsKept w mine P → IsKept w mine Q → IsKept w mine (λ s. P s × Q s)
-  also_kept P Q kept kept_q s e x (p, r) = (kept s e x p, kept_q s e x r)
-
   pub asked_kept : (q : AtPort) → IsKept w mine (Asked w.queue q)
   asked_kept q =
-      also_kept (HasGround w.queue q) (IsUnwanted w.queue) (ground_kept w mine q) (unwanted_kept w mine)
+      also_kept w mine (HasGround w.queue q) (IsUnwanted w.queue) (ground_kept w mine q) (unwanted_kept w mine)
 
   pub side_off_kept : (q : AtPort) → IsKept w mine (Off w.queue q)
-  side_off_kept q = also_kept (HasGround w.queue q) (IsOff w.queue) (ground_kept w mine q) (off_kept w mine)
+  side_off_kept q = also_kept w mine (HasGround w.queue q) (IsOff w.queue) (ground_kept w mine q) (off_kept w mine)
 
   pub off_asked_kept : (q : AtPort) → IsKept w mine (OffAsked w.queue q)
   off_asked_kept q =
-      also_kept (Off w.queue q) (transmit.IsUnwanted w.queue) (side_off_kept q) (transmit_unwanted_kept w mine)
+      also_kept w mine (Off w.queue q) (transmit.IsUnwanted w.queue) (side_off_kept q) (transmit_unwanted_kept w mine)
 
 -- each access leads on
 
@@ -119,24 +118,14 @@ module _ (w : Watched) (q : AtPort) (fifo : ℕ) (h : List Entry) (along : IsAlo
   abbrev mine : Blocks
   mine = lent_by w.pass h
 
-  -- the first of them, a read, keeps what it rests on
-  begun : (old new : List Call) → IsMade q old new (Sees Rxdctl false) → BeforeLast w fifo h new Ground
-      → AtCalls w fifo h new Ground
-  begun old new (number, word, named, is, (before, added)) at =
-      let c = call_of (event.Read q.port number) (reply.Word word) in
-      let made : (old ++ before) ++ c ∷ [] ≡ new = append_assoc old before (c ∷ []) ∙ sym added in
-      subst (λ (calls : List Call). AtCalls w fifo h calls Ground) made
-      (first_leads w fifo h Ground (old ++ before) c along (ground_kept w mine q)
-      (λ s g. read_ground w.queue q s number g)
-      (subst (λ (calls : List Call). BeforeLast w fifo h calls Ground) (sym made) at))
-
   quieted : (old new : List Call) (made : AreMade q old new both_quiet) → StepsBetween q old new both_quiet made
       → BeforeLast w fifo h made.0 Ground → AtCalls w fifo h new (IsQuiet w.queue q)
   quieted old new (m1, a1, (m2, a2, (m3, a3, (m4, a4, (m5, a5, (m6, a6, e))))))
       (s1, (s2, (s3, (s4, (s5, (s6, none)))))) at =
       let off = side_off_kept w mine q in
       let asked_at = set w q fifo h along Ground (Asked w.queue q) Rxdctl 0 (ground_kept w mine q) (asked_kept w mine q)
-      (ask_receive w.queue q) m1 m2 a2 s2 (made_some q old m1 (Sees Rxdctl false) a1) (begun old m1 a1 at) in
+      (ask_receive w.queue q) m1 m2 a2 s2 (made_some q old m1 (Sees Rxdctl false) a1)
+      (first_seen w q fifo h Ground along (ground_kept w mine q) (read_ground w.queue q) Rxdctl false old m1 a1 at) in
       let off_at = seen w q fifo h along (Asked w.queue q) (Off w.queue q) Rxdctl false (asked_kept w mine q) off
       (see_receive w.queue q) m2 m3 a3 s3 (made_some q m1 m2 (Sets Rxdctl 0) a2) asked_at in
       let first_at = seen w q fifo h along (Off w.queue q) (Off w.queue q) Txdctl false off off

@@ -13,6 +13,8 @@ use Rattle.start_laws.specs.Along.{IsKept, Leads}
 use Rattle.start_laws.specs.Moves.{IsMet}
 use Rattle.start_laws.specs.Standing.{IsLeft}
 
+-- Where the entries so far lead a new device, and what each entry keeps of what holds of them.
+
 -- where the entries so far lead a new device
 
 abbrev pub reached : Watched → ℕ → List Entry → State
@@ -46,3 +48,7 @@ pub state_leads : (w : Watched) (fifo : ℕ) (c : Call) (P Q : State → Type 0)
 state_leads w fifo c P Q leads done e same met made told p =
     subst Q (sym (reached_next w fifo done e))
     (subst (λ (x : Call). Leads w.queue x P Q) (sym same) leads (reached w fifo done) met made told p)
+
+pub also_kept : (w : Watched) (mine : Blocks) (P Q : State → Type 0) → IsKept w mine P → IsKept w mine Q
+    → IsKept w mine (λ s. P s × Q s)
+also_kept w mine P Q kept kept_q s e x (p, r) = (kept s e x p, kept_q s e x r)

@@ -1,11 +1,10 @@
 -- Both rings come up and both sides go on: how the sides stand then.
-use Rattle.std.proofs.Common.{◌≡◌, ◌≢◌, ℕ, ◌*◌, ◌%◌, ◌<◌, ◌≤◌, Bool, true, false, not, ◌&&◌, List, [], ◌∷◌, refl, sym, ◌∙◌, subst, arith}
+use Rattle.std.proofs.Common.{◌≡◌, ℕ, ◌*◌, ◌%◌, ◌<◌, ◌≤◌, Bool, true, false, not, ◌&&◌, List, ◌∷◌, refl, subst, arith}
 use Rattle.std.specs.Prelude.{IsTrue}
 use Rattle.std.proofs.lemmas.Bool.{and_parts, both_ways, eqb-true, leb-true}
 use Rattle.dma_arena.specs.Numbers.{Numbers}
 use Rattle.reg_table.specs.declared.rows.RowId.TheVariants.{Rxdctl}
 use Rattle.register_file.specs.declared.dir.Dir.TheVariants.{Rx, Tx}
-use Rattle.register_file.specs.declared.dir.Dir.{Dir}
 use Rattle.nic_device.specs.State.{new_state}
 use Rattle.device_lock.specs.Alone.{lent_by}
 use Rattle.device_lock.specs.declared.alone.Watched.{Watched}
@@ -14,12 +13,9 @@ use Rattle.device_lock.specs.declared.entry.Entry.{Entry}
 use Rattle.pmd_queue.specs.Made.{Sees, Sets}
 use Rattle.pmd_queue.specs.Named.{AtPort}
 use Rattle.pmd_queue.specs.Sides.{quiet, ring_words}
-use Rattle.pmd_rx.specs.Receive as receive
 use Rattle.pmd_rx.specs.Receive.{Receive}
-use Rattle.pmd_tx.specs.Sending as transmit
 use Rattle.pmd_tx.specs.Sending.{Sender}
 use Rattle.pmd.specs.Started.{is_size}
-use Rattle.pmd.specs.Starting.{IsPrepared}
 use Rattle.start_laws.specs.Along.{AtEntries, BeforeLast, IsAlong}
 use Rattle.start_laws.specs.Moves.{IsSized}
 use Rattle.start_laws.specs.On.{AreOn, StepsToOn}
@@ -28,14 +24,17 @@ use Rattle.start_laws.specs.Quieting.{are_off}
 use Rattle.start_laws.specs.Unused.{AreUnused}
 use Rattle.start_laws.proofs.Reached.{reached}
 use Rattle.start_laws.proofs.Lent.{IsLentBy}
-use Rattle.start_laws.proofs.Lends.{lending, with_ring}
+use Rattle.start_laws.proofs.Lends.{with_ring}
 use Rattle.start_laws.proofs.PointsAlong.{accesses_at, At, prepared_at}
-use Rattle.start_laws.proofs.Made.{ends_some, first_made}
+use Rattle.start_laws.proofs.Made.{first_made}
 use Rattle.start_laws.proofs.Quieting.{quieting_leads}
 use Rattle.start_laws.proofs.QuietSides.{quiet_sides_stand}
 use Rattle.start_laws.proofs.Switching.{came_up, comes_up, may_switch, switching}
 use Rattle.start_laws.proofs.Laying.{laid, may_lay_receive, may_lay_transmit}
 use Rattle.start_laws.proofs.Unused.{unused_kept}
+use Rattle.start_laws.proofs.Prepared.{prepared_some}
+
+-- Both rings come up and both sides go on: how the sides stand then.
 
 -- Both rings come up and both sides go on: how the sides stand then.
 
@@ -57,10 +56,6 @@ unwanted false true c d is = cc
 unwanted false false true d is = cc
 unwanted false false false true is = cc
 unwanted false false false false is = (refl, refl)
-
-pub prepared_some : (q : AtPort) (side : Dir) (size : ℕ) (old : List Call) (a : Numbers) (new : List Call) (b : Numbers)
-    (ring : ℕ) → IsPrepared q side size old a new b ring → new ≢ []
-prepared_some q side size old a new b ring x none = ends_some x.mid x.lent.0 (lending ring) (sym x.lent.1 ∙ none)
 
 module _ (w : Watched) (fifo : ℕ) (h : List Entry) (q : AtPort) (size : ℕ) (old : List Call) (a : Numbers)
     (new : List Call) (v : Receive) (t : Sender) (up : AreOn q size old a new v t)

@@ -1,15 +1,10 @@
 -- On a queue whose sides are off nothing is received or sent, over events that leave it alone and calls of a stop.
 use Rattle.std.proofs.Common.{cond, ◌≡◌, ◌≢◌, ℕ, inl, inr, List, [], ◌∷◌, ◌++◌, Option, Some, None, option_map, refl, sym, ap, ◌∙◌, subst, append_assoc}
 use Rattle.std.proofs.lemmas.List.{append-nil}
-use Rattle.dma_arena.specs.Block.{Block}
 use Rattle.register_file.specs.Queue.{is_on}
 use Rattle.register_file.specs.declared.dir.Dir.TheVariants.{Rx, Tx}
-use Rattle.register_laws.specs.Sides.{receive_queue_of, transmit_queue_of}
-use Rattle.nic_device.specs.Sound.{IsEvent}
 use Rattle.nic_device.specs.State.{State, new_state}
 use Rattle.nic_device.specs.Step.{after}
-use Rattle.nic_device.specs.declared.event.Event.{Event}
-use Rattle.nic_device.specs.declared.event.Event.TheVariants as event
 use Rattle.device_lock.specs.Alone.{Blocks, lent_by}
 use Rattle.device_lock.specs.History.{calls_of}
 use Rattle.device_lock.specs.declared.alone.Watched.{Watched}
@@ -26,50 +21,19 @@ use Rattle.transmit_laws.specs.Sent.{sent_by, sent_since}
 use Rattle.transmit_laws.proofs.Counting.{sent_is_counted}
 use Rattle.start_laws.specs.Along.{AtCalls, AtEntries, IsAlong}
 use Rattle.start_laws.specs.Ending.{IsEnding}
-use Rattle.start_laws.specs.Moves.{IsMet}
-use Rattle.start_laws.specs.Quiet.{no_block}
 use Rattle.start_laws.specs.Quieting.{IsQuiet}
 use Rattle.start_laws.specs.Silent.{IsSilent, QuietQueueIsSilent}
-use Rattle.start_laws.specs.Standing.{IsLeft}
 use Rattle.start_laws.specs.Stopping.{Ends}
 use Rattle.start_laws.proofs.Reached.{KeptOver, LeadsOver, reached, reached_next}
 use Rattle.start_laws.proofs.Along.{kept_on}
-use Rattle.start_laws.proofs.Ending.{all_lead, step_left, watching}
-use Rattle.start_laws.proofs.QuietKept.{read_quiet, take_quiet, write_quiet, quiet_kept}
+use Rattle.start_laws.proofs.Ending.{all_lead}
 use Rattle.start_laws.proofs.Parts.{calls_joined, Begins, one_begins, none_behind}
-use Rattle.start_laws.proofs.Quiet.{off_sides_stand}
 use Rattle.start_laws.proofs.Settled.{not_again}
-use Rattle.start_laws.proofs.Standing.{standing_sides_are_left}
+use Rattle.start_laws.proofs.StaysQuiet.{StaysQuiet, left_stays, ending_stays}
 
 -- On a queue whose sides are off nothing is received or sent, over events that leave it alone and calls of a stop.
 
--- an event by which nothing is received or sent, and behind which the sides are off
-record StaysQuiet (queue : ℕ) (q : AtPort) (s : State) (e : Event Block) : Type 0 where
-  quiet : IsQuiet queue q (after s e)
-  received : pieces queue s e ≡ []
-  sent : sent_by queue s e ≡ []
-
-left_stays : (w : Watched) (mine : Blocks) (q : AtPort) (s : State) (e : Event Block) → IsLeft w mine s e
-    → StageWhileOn s → IsQuiet w.queue q s → StaysQuiet w.queue q s e
-left_stays w mine q s e left bare x =
-    let l = standing_sides_are_left w mine no_block s e (receive_queue_of s.registers w.queue)
-    (transmit_queue_of s.registers w.queue) left (λ n is. cc)
-    (off_sides_stand w.queue s left.small bare x.receive x.transmit) in record {
-      quiet = quiet_kept w mine q s e left x;
-      received = l.received;
-      sent = l.sent;
-    }
-
-ending_stays : (queue : ℕ) (q : AtPort) (s : State) (e : Event Block) → IsMet queue s → IsEvent e → IsEnding q e
-    → StageWhileOn s → IsQuiet queue q s → StaysQuiet queue q s e
-ending_stays queue q s (event.Write port number word) met made own bare x =
-    record { quiet = write_quiet queue q s x port number word met own; received = refl; sent = refl }
-ending_stays queue q s (event.Read port number) met made own bare x =
-    record { quiet = read_quiet queue q s x port number; received = refl; sent = refl }
-ending_stays queue q s (event.Take number) met made own bare x =
-    record { quiet = take_quiet queue q s x number; received = refl; sent = refl }
-ending_stays queue q s e met made own bare x =
-    left_stays (watching queue s) no_block q s e (step_left queue s e met made own) bare x
+-- On a queue whose sides are off nothing is received or sent, over events that leave it alone and calls of a stop.
 
 none_more : (so_far : Option (List Piece)) → packets_if_any (option_map (λ qs. qs ++ []) so_far) ≡ packets_if_any so_far
 none_more None = refl

@@ -1,4 +1,4 @@
--- What stays of a receive side as it is shut, takes a slot or is switched, each event keeps that leaves the queue alone.
+-- What stays of a receive side as it is shut, takes a slot or is switched stays over each event that leaves it alone.
 use Rattle.std.proofs.Common.{◌≡◌, ℕ, ◌<◌, inl, inr, List, [], ◌∷◌, refl, sym, subst, Ok, false}
 use Rattle.std.proofs.lemmas.Bool.{cases_Bool, cases_eq}
 use Rattle.dma_arena.specs.Block.{Block}

@@ -83,7 +83,8 @@ module _ (q : AtPort) where
   fails_end DeviceFault a old new may x steps = otherwise_ends a old new may x steps
   fails_end (fault.Call refused) a old new may x steps = some_end q old new x steps
 
-  stops_end : (f : PmdFault) (all : List Access) (old new : List Call) → AllAre MayEnd all → (x : StopsBy f q old new all)
+  stops_end : (f : PmdFault) (all : List Access) (old new : List Call) → AllAre MayEnd all
+      → (x : StopsBy f q old new all)
       → StepsToStop f q old new all x → Ends q old new
   stops_end f all old new may (done, a, rest, mid, is, made, fails) steps =
       let parts = all_before MayEnd done a rest (subst (AllAre MayEnd) is may) in
@@ -113,7 +114,8 @@ module _ (q : AtPort) where
 pub switched_off_ends : SwitchedOffEnds
 switched_off_ends q old new (first, second, few, made) steps =
     all_end q (receive_polled false first ++ polled Tx false second) old new
-    (all_both (MayEnd q) (receive_polled false first) (polled Tx false second) (receive_may q first) (polled_may q Tx second))
+    (all_both (MayEnd q) (receive_polled false first) (polled Tx false second) (receive_may q first)
+    (polled_may q Tx second))
     made steps
 
 pub unswitched_ends : UnswitchedEnds

@@ -24,12 +24,12 @@ use Rattle.start_laws.specs.Along.{AtCalls, IsAlong, IsKept}
 use Rattle.start_laws.specs.Points.{StepsBetween, HasGround}
 use Rattle.start_laws.specs.Quieting.{IsQuiet}
 use Rattle.start_laws.specs.Silent.{SwitchingOffLeads}
-use Rattle.start_laws.specs.Quiet.{IsUnwanted}
 use Rattle.start_laws.proofs.Numbers.{ground_names}
 use Rattle.start_laws.proofs.Ground.{ground_kept, read_ground, write_ground}
 use Rattle.start_laws.proofs.Off.{transmit_unwanted_kept}
 use Rattle.start_laws.proofs.Made.{made_some}
-use Rattle.start_laws.proofs.Quieting.{Asked, OffAsked, also_kept, ask_receive, asked_kept, see_receive, see_transmit, ByRead, ByWrite, off_asked_kept, off_read}
+use Rattle.start_laws.proofs.Quieting.{Asked, OffAsked, ask_receive, asked_kept, see_receive, see_transmit, ByRead, ByWrite, off_asked_kept, off_read}
+use Rattle.start_laws.proofs.Reached.{also_kept}
 use Rattle.start_laws.proofs.AccessLeads.{seen, set}
 use Rattle.start_laws.proofs.QuietKept.{quiet_kept}
 

@@ -24,7 +24,7 @@ use Rattle.start_laws.specs.Standing.{IsLeft}
 use Rattle.start_laws.specs.Words.{NamesRow}
 use Rattle.start_laws.proofs.Off.{off_kept}
 use Rattle.start_laws.proofs.Words.{wrote}
-use Rattle.start_laws.proofs.SteadyReceive.{steady_kept}
+use Rattle.start_laws.proofs.SteadyReceive.{IsSteady, steady_kept}
 
 -- the side is on, or isn't wanted on
 abbrev pub IsSettled : ℕ → State → Type 0
@@ -51,9 +51,9 @@ module _ (w : Watched) (mine : Blocks) (s : State) (e : Event Block) (x : IsLeft
 
   still : IsSettled w.queue s → IsSettled w.queue t
   still is =
-      steady_kept (λ q. (q.on ≡ true) ⊎ (q.wanted ≡ false))
-      (record { shuts = λ q is. inr refl; takes = λ q ring is. is; switches = λ q is. cases_Bool q.wanted }) w mine s e x
-      is
+      let steady : IsSteady (λ q. (q.on ≡ true) ⊎ (q.wanted ≡ false)) =
+      record { shuts = λ q is. inr refl; takes = λ q ring is. is; switches = λ q is. cases_Bool q.wanted } in
+      steady_kept (λ q. (q.on ≡ true) ⊎ (q.wanted ≡ false)) steady w mine s e x is
 
   not_on : IsSettled w.queue s → IsFalse (is_on s.registers Rx w.queue) → IsFalse (is_on t.registers Rx w.queue)
   not_on (inl on) off = absurd (both_ways (is_on s.registers Rx w.queue) off on)

@@ -1,5 +1,5 @@
 -- What a run prints.
-use Rattle.std.specs.Prelude.{◌≡◌, ℕ, suc, ◌+◌, Bool, true, false, List, [], ◌∷◌, ◌++◌, Option, codes, decimal, length, count_by, map}
+use Rattle.std.specs.Prelude.{◌≡◌, ℕ, suc, ◌+◌, Bool, true, false, List, [], ◌∷◌, ◌++◌, Option, codes, decimal, length, count_by}
 use Rattle.std.specs.Io.KnownBytes.{Appends}
 use Rattle.dma_arena.specs.Block.{Block}
 use Rattle.nic_device.specs.State.{new_state}

@@ -155,9 +155,9 @@ pub fn bench_threads<R: Threads + Wait + Sync, W: Write>(
     ensures told { result ≡ 0 → Tells workers (W.contents output.old.writer) (W.contents output.new.writer) }
     ensures silent { result ≢ 0 → (output.new ≡ output.old) ⊎ (output.new.has_failed ≡ true) }
     ensures memory { result ≡ 4 → output.new ≡ output.old }
-    ensures many { 8 < workers → (result ≡ 2) × (output.new ≡ output.old) }
+    ensures number { ((workers ≡ 0) ⊎ (8 < workers)) → (result ≡ 2) × (output.new ≡ output.old) }
 {
-    if workers > MAX_WORKERS {
+    if workers == 0 || workers > MAX_WORKERS {
         return 2;
     }
     match run(rt, alloc, workers, frames) {

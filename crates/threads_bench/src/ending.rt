@@ -3,9 +3,8 @@
 use crate::refused::Refused;
 use dma_arena::Arena;
 use nic_device::{Device, Parts};
-use pmd::Rest;
-use pmd_halt::Home;
 use std::mem::ManuallyDrop;
+use worker_team::{Home, Rest};
 use workers::Job;
 
 /// Leaves a value that can't be dropped and can't be ended either. Its memory is lost to the process, which ends next:

@@ -6,8 +6,7 @@ ghost use Rattle.threads_bench.specs.Refused.{both_done, status_of};
 use device_lock::{CallFault, CloseFault, NewFault};
 use pmd_base::PmdFault;
 use std::alloc::AllocError;
-use worker_runs::WorkerFault;
-use worker_team::RunFault;
+use worker_team::{RunFault, WorkerFault};
 
 /// Why a run prints nothing.
 #[derive(Clone, Copy, PartialEq, Eq, Debug)]

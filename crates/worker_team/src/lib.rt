@@ -14,4 +14,7 @@ mod room;
 mod team;
 
 pub use ends::{Ran, RunFault, RunRefused, WorkerEnd};
+pub use pmd::Rest;
+pub use pmd_halt::Home;
 pub use team::run_workers;
+pub use worker_runs::WorkerFault;

@@ -281,16 +281,12 @@ runs =
 
 
 def proof_rows():
-    n = len(TABLE)
-    below = "".join(f"number_below {row.variant} = lit< tt\n" for row in TABLE)
-    at = "".join(f"row_numbered {row.variant} d = refl\n" for row in TABLE)
-    found = "".join(f"row_found {row.variant} = refl\n" for row in TABLE)
+    n, first = len(TABLE), TABLE[0].variant
     return f"""{GENERATED}
-use Rattle.std.proofs.Common.{{◌≡◌, ◌<◌, map, length, get_or, refl, lit<}}
+use Rattle.std.proofs.Common.{{◌≡◌, ◌<◌, length, get_or, refl, lit<}}
 use Rattle.std.specs.Prelude.{{Some, find}}
-use Rattle.std.specs.List.{{range_with_len}}
 use Rattle.reg_table.specs.declared.rows.RowId.{{RowId}}
-use Rattle.reg_table.specs.declared.rows.RowId.TheVariants.{{{variants()}}}
+use Rattle.reg_table.specs.declared.rows.RowId.TheVariants.{{{first}}}
 use Rattle.reg_table.specs.Rows.{{row_of, rows, number_of}}
 use Rattle.reg_table.specs.Named.{{is_named}}
 
@@ -299,21 +295,22 @@ pub rows_length : length rows ≡ {n}
 unfolding rows
 rows_length = refl
 
--- the rows stand in the order of their numbers
-pub rows_numbers : map number_of rows ≡ range_with_len 0 {n}
-unfolding rows
-rows_numbers = refl
-
 pub number_below : (r : RowId) → number_of r < {n}
-{below}
+number_below {first} = lit< tt
+number_below other = lit< tt
+
 -- each row stands at its number
 pub row_numbered : (r d : RowId) → get_or rows (number_of r) d ≡ r
 unfolding rows
-{at}
+row_numbered {first} d = refl
+row_numbered other d = refl
+
 -- the first row with the name of a row is that row
 pub row_found : (r : RowId) → find (is_named (row_of r).name) rows ≡ Some r
 unfolding rows
-{found}"""
+row_found {first} = refl
+row_found other = refl
+"""
 
 
 # The dispatch on addresses: first by pages, then by ranges inside one. Its functions stay small, so that each is proved
@@ -326,11 +323,11 @@ ANSWERS = {4: "words", 8: "pairs", 64: "queues"}
 
 class Part:
     """A range of addresses that one branch answers: the words of one run, or runs at equal steps that lie among one
-    another and are told apart by the address's remainder. Each run comes with its row and its position in the list."""
+    another and are told apart by the address's remainder. Each run comes with its row."""
 
     def __init__(self, low, high, members):
         self.low, self.high, self.members = low, high, members
-        self.stride = members[0][2].stride
+        self.stride = members[0][1].stride
         self.is_words = self.stride == 4
 
     def meets(self, other):
@@ -352,15 +349,15 @@ def last(run):
 def parts():
     """The parts of the table, in the order of their addresses."""
     found = []
-    for k, (row, run) in enumerate(runs()):
+    for row, run in runs():
         assert run.stride in ANSWERS and (run.stride == 4 or not run.low), row.name
         # An address of a word has the remainder 0 by 4, so that a run of words begins and ends at its own addresses.
-        part = Part(run.first - run.first % run.stride, last(run) - last(run) % run.stride + run.stride, [(k, row, run)])
+        part = Part(run.first - run.first % run.stride, last(run) - last(run) % run.stride + run.stride, [(row, run)])
         met = [other for other in found if part.meets(other)]
         found = [other for other in found if other not in met] + [part.joined(met)]
     found.sort(key=lambda part: part.low)
     for before, after in zip(found, found[1:]):
-        assert before.high <= after.low, (hex(after.low), after.members[0][1].name)
+        assert before.high <= after.low, (hex(after.low), after.members[0][0].name)
     return found
 
 
@@ -371,8 +368,8 @@ def between(low, high, ranges):
 
 
 class Function:
-    """A function of the dispatch: which addresses it takes, its arms, and the lemma for each arm that answers by a run
-    and for each range between the arms."""
+    """A function of the dispatch: which addresses it takes, its arms, and what the table says for each arm that answers
+    by a run and for each range between the arms."""
 
     def __init__(self, name, low, high, remainder=None, matched="address"):
         self.name, self.low, self.high, self.remainder, self.matched = name, low, high, remainder, matched
@@ -385,11 +382,10 @@ class Function:
 
 
 class Dispatch:
-    """All functions of the dispatch, and the lemmas that they are proved by: of addresses that name a word, and of
-    those between."""
+    """All functions of the dispatch."""
 
     def __init__(self):
-        self.functions, self.hits, self.gaps = [], [], []
+        self.functions = []
         self.lay_out_pages(parts())
 
     def function(self, *words, **more):
@@ -451,59 +447,44 @@ class Dispatch:
         """The function that tells runs at equal steps apart, by the address's remainder."""
         stride = part.stride
         function = self.function(name, part.low, part.high, matched=f"address % {stride}")
-        for x in sorted({run.first % stride for _, _, run in part.members}):
+        for x in sorted({run.first % stride for _, run in part.members}):
             rest = (stride, x, x + 4)
             blocks = []
             for member in part.members:
-                run = member[2]
+                run = member[1]
                 low, high = max(part.low, run.first - x), min(part.high, last(run) - x + stride)
                 if run.first % stride == x and low < high:
                     blocks.append((low, high, member))
             blocks.sort(key=lambda block: block[0])
             if [block[:2] for block in blocks] == [(part.low, part.high)]:
-                self.hit(function, (x, x + 4), part.low, part.high, blocks[0][2], rest)
+                self.hit(function, (x, x + 4), part.low, part.high, blocks[0][2])
             elif blocks:
                 function.arms.append((x, x + 4, f"{name}_{x:02x}(address)"))
                 some = self.function(f"{name}_{x:02x}", part.low, part.high, rest)
                 for low, high, member in blocks:
-                    self.hit(some, (low, high), low, high, member, rest)
+                    self.hit(some, (low, high), low, high, member)
                 for start, end in between(part.low, part.high, some.ranges()):
                     self.gap(some, start, end, rest)
         for start, end in between(0, stride, function.ranges()):
             self.gap(function, part.low, part.high, (stride, start, end))
 
-    def hit(self, function, arm, low, high, member, rest=None):
-        """Adds the arm that answers by a run, for its addresses from low up to high, with a remainder if one is named,
-        and the lemma that says so."""
-        k, row, run = member
-        name = f"at_{low:05X}" + (f"_{rest[1]:02X}" if rest else "")
-        view = "0xFFFF" if run.low else "0xFFFFFFFF"
-        made = f"(run {row.variant} 0x{run.first:05X} {run.stride} {run.first_index} {run.count} {str(run.low).lower()})"
-        function.hits[arm] = name
-        self.hits.append(
-            f"pub {name} : (a : ℕ) → 0x{low:05X} ≤ a → a < 0x{high:05X} → {remainder_is(rest)}a % 4 ≡ 0\n"
-            f"    → access_at a ≡ Some (access {row.variant} ({run.first_index} + (a - 0x{run.first:05X}) / {run.stride}) {view})\n"
-            f"unfolding runs\n"
-            f"{name} = {'steps_at' if rest else 'words_at'} {k} {made} 0x{low:05X} 0x{high:05X} refl refl refl refl\n"
-        )
+    def hit(self, function, arm, low, high, member):
+        """Adds the arm that answers by a run, for its addresses from low up to high, and what the table says of them."""
+        row, run = member
+        kind = "Words" if run.stride == 4 else "Steps"
+        function.hits[arm] = f"{kind} {printed(row, run)} 0x{low:05X} 0x{high:05X}"
         offset = f"address - 0x{run.first:05X}" if run.first else "address"
         call = f"{'low_' if run.low else ''}{ANSWERS[run.stride]}(RowId::{row.variant}, {run.first_index}, {offset})"
         function.arms.append((*arm, call))
 
     def gap(self, function, low, high, rest=None):
-        """Adds the lemma that addresses from low up to high, with a remainder if one is named, name nothing."""
-        name = f"gap_{low:05X}" + (f"_{rest[1]:02X}" if rest else "")
-        lemma = f"no_steps_at {rest[0]} 0x{rest[1]:02X} 0x{rest[2]:02X}" if rest else "no_words_at"
-        function.gaps.append(name)
-        self.gaps.append(
-            f"pub {name} : (a : ℕ) → 0x{low:05X} ≤ a → a < 0x{high:05X} → {remainder_is(rest)}access_at a ≡ None\n"
-            f"unfolding runs\n"
-            f"{name} a = {lemma} 0x{low:05X} 0x{high:05X} a refl\n"
-        )
+        """Adds that addresses from low up to high, with a remainder if one is named, name nothing."""
+        kind = f"NoSteps {rest[0]} 0x{rest[1]:02X} 0x{rest[2]:02X}" if rest else "NoWords"
+        function.gaps.append(f"{kind} 0x{low:05X} 0x{high:05X}")
 
 
-def remainder_is(rest):
-    return f"0x{rest[1]:02X} ≤ a % {rest[0]} → a % {rest[0]} < 0x{rest[2]:02X} → " if rest else ""
+def printed(row, run):
+    return f"(run {row.variant} 0x{run.first:05X} {run.stride} {run.first_index} {run.count} {str(run.low).lower()})"
 
 
 def rust_function(function):
@@ -551,43 +532,35 @@ use crate::rows::RowId;
 {body}"""
 
 
-def proof_hits(dispatch):
-    return f"""{GENERATED}
-use Rattle.std.proofs.Common.{{◌≡◌, ℕ, ◌+◌, ◌-◌, ◌/◌, ◌%◌, ◌<◌, ◌≤◌, true, false, Some, refl}}
-use Rattle.reg_table.specs.declared.rows.RowId.TheVariants.{{{variants()}}}
-use Rattle.reg_table.specs.Run.{{run}}
-use Rattle.reg_table.specs.Runs.{{runs}}
-use Rattle.reg_table.specs.Access.{{access, access_at}}
-use Rattle.reg_table.proofs.Reached.{{words_at, steps_at}}
-
-{chr(10).join(dispatch.hits)}"""
-
-
-def proof_gaps(dispatch):
-    return f"""{GENERATED}
-use Rattle.std.proofs.Common.{{◌≡◌, ℕ, ◌%◌, ◌<◌, ◌≤◌, None, refl}}
-use Rattle.reg_table.specs.Runs.{{runs}}
-use Rattle.reg_table.specs.Access.{{access_at}}
-use Rattle.reg_table.proofs.Missed.{{no_words_at, no_steps_at}}
-
-{chr(10).join(dispatch.gaps)}"""
-
-
 def proof_arms(function):
     """The answers for a function of the dispatch. The ranges that no arm takes are counted from the one below the first
     arm, which is passed to the function only where that arm isn't the first of what it takes."""
-    answers = [(f"returns-in-{low}-to-{high - 1}", lemma) for (low, high), lemma in function.hits.items()]
+    goals = [f"returns-in-{low}-to-{high - 1}" for low, high in function.hits]
     start = function.low if function.matched == "address" else 0
     first = 2 if function.arms[0][0] == start > 0 else 1
-    for n, lemma in enumerate(function.gaps):
-        answers.append((f"returns-in_default-{first + n}" if first + n > 1 else "returns-in_default", lemma))
-    imports = ""
-    for module, names in [("Hits", list(function.hits.values())), ("Gaps", function.gaps)]:
-        imports += f"use Rattle.reg_table.proofs.{module}.{{{', '.join(names)}}}\n" if names else ""
-    body = "\n".join(f"pub {goal} : goal.{goal}\n{goal} c = grind (arith, {lemma})\n" for goal, lemma in answers)
+    goals += [f"returns-in_default-{first + n}" if first + n > 1 else "returns-in_default" for n in range(len(function.gaps))]
+    facts = [*function.hits.values(), *function.gaps]
+    kinds = sorted({fact.split()[0] for fact in facts})
+    lines = "".join(f"    {fact} ∷\n" for fact in facts)
+    rows = [row.variant for row in TABLE if any(f"(run {row.variant} " in fact for fact in facts)]
+    imports = f"use Rattle.reg_table.specs.declared.rows.RowId.TheVariants.{{{', '.join(rows)}}}\n" if rows else ""
+    imports += "use Rattle.reg_table.specs.Run.{run}\n" if rows else ""
+    flags = "true, false" if any(" false) " in fact for fact in facts) else "true"
+    body = "\n".join(f"pub {goal} : goal.{goal}\n{goal} c = grind (arith, said_at facts {n} so)\n" for n, goal in enumerate(goals))
     return f"""{GENERATED}
-use Rattle.std.proofs.Common.{{arith}}
-{imports}use Rattle.reg_table.proofs.dispatch.{function.name}.Goals as goal
+use Rattle.std.proofs.Common.{{◌≡◌, {flags}, List, [], ◌∷◌, refl, arith}}
+use Rattle.std.specs.List.{{list_all}}
+{imports}use Rattle.reg_table.specs.Runs.{{runs}}
+use Rattle.reg_table.proofs.Facts.{{Fact, {', '.join(kinds)}, is_so, said_at}}
+use Rattle.reg_table.proofs.dispatch.{function.name}.Goals as goal
+
+abbrev facts : List Fact
+facts =
+{lines}    []
+
+so : list_all is_so facts ≡ true
+unfolding runs
+so = refl
 
 {body}"""
 
@@ -710,8 +683,6 @@ def outputs():
         crate / "src/first_addresses.rt": rust_first_addresses(),
         crate / "specs/FirstAddresses.antt": spec_first_addresses(),
         crate / "proofs/Numbers.antt": proof_rows(),
-        crate / "proofs/Hits.antt": proof_hits(dispatch),
-        crate / "proofs/Gaps.antt": proof_gaps(dispatch),
         ROOT / "docs/REGISTERS.md": register_page(),
     } | answers
 

@@ -3,12 +3,10 @@ use Rattle.std.proofs.Common.{◌≡◌, ◌≢◌, refl, sym, ◌∙◌, ap, �
 use Rattle.nic_device.specs.declared.Config.{Config}
 use Rattle.machine.specs.Machine.{machine_at, machine_step}
 use Rattle.machine.specs.MachineState.{MachineState}
-use Rattle.machine.specs.Processor.{IsWhereStepsLead}
 use Rattle.machine.specs.declared.machine.StepAnswer.{StepAnswer}
 use Rattle.machine.specs.declared.machine.StepAnswer.TheVariants as answer
 use Rattle.program.specs.Listing.{Listing}
 use Rattle.machine.proofs.Running.{steps_count, stopped_for_good}
-use Rattle.machine.proofs.Steps.{leads-start, leads-step}
 use Rattle.debugger.specs.Running.{is_stopped, stops_at, run_on}
 
 stopped-is : (a : StepAnswer) → is_stopped a ≡ true → a ≡ answer.Stopped
@@ -28,12 +26,6 @@ stays p s stopped = steps_count.stays p s (stopped-is (machine_step p s).answer 
 pub counts : (p : Listing) (s : MachineState) → is_stopped (machine_step p s).answer ≡ false
     → (machine_step p s).state.steps ≡ s.steps + 1
 counts p s going = steps_count.counts p s (going-is (machine_step p s).answer going)
-
--- the machine after n steps is the one after as many as it has counted
-pub leads-at : (p : Listing) (c : Config) (n : ℕ) → IsWhereStepsLead p c (machine_at p c n)
-unfolding machine_at
-leads-at p c zero = leads-start p c (machine_at p c zero) refl
-leads-at p c (suc n) = leads-step p c (machine_at p c n) (leads-at p c n)
 
 -- one step more counts one more at most
 one_more : (p : Listing) (c : Config) (n : ℕ) (stopped : Bool) → stops_at p c n ≡ stopped

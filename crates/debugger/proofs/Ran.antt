@@ -36,14 +36,6 @@ pub record RanOn (start now : Course) (breakpoints : List ℕ) (limit made : ℕ
   pub left : run_on start.program start.config breakpoints now.state.steps (limit - made)
       ≡ run_on start.program start.config breakpoints start.state.steps limit
 
-pub none-ran : (m : Course) (b : List ℕ) (limit : ℕ) → m.state ≡ machine_at m.program m.config m.state.steps
-    → RanOn m m b limit 0
-none-ran m b limit is = record {
-  at = ap (λ s. record m { state = s }) is;
-  from = omega arith;
-  left = ap (run_on m.program m.config b m.state.steps) (omega arith);
-}
-
 module _ (start now : Course) (b : List ℕ) (limit made : ℕ) (ran : RanOn start now b limit made) where
   -- one step more is that of the machine after its steps
   step-is : machine_step now.program now.state ≡

@@ -1,7 +1,6 @@
 -- Lists of a pool's parts: staged bytes of its queues, and frames that wait for them.
 use Rattle.std.proofs.Common.{◌≡◌, ◌≢◌, ◌≤◌, ◌<◌, ◌+◌, ℕ, zero, suc, Bool, true, List, [], ◌∷◌, get_or, Option, Some, None, refl, ap, sym, ◌∙◌, inl, inr, arith}
 use Rattle.std.specs.Prelude.{filter, not, slice_set, ◌==◌}
-use Rattle.std.proofs.Math.ListN.{set}
 use Rattle.std.proofs.lemmas.Bool.{cases_Bool, cond-true, cond-false, eqb-true, eq-eqb, both_ways, not_from_true, not_from_false}
 use Rattle.std.proofs.lemmas.List.{get_or-set_other}
 use Rattle.vf_map.specs.Laws.{IsAmong}

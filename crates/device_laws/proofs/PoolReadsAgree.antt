@@ -43,9 +43,6 @@ pub record PartsAgree (mode : Mode) (v : ℕ) (a b : State) : Type 0 where
 pub same_parts : (v : ℕ) (a b : State) → AgreeOnPool v a b → PartsAgree (mode_in a.registers) v a b
 same_parts v a b h = record { registers = h.registers; staged = h.staged; waiting = h.waiting }
 
-mode_word : ℕ → Mode
-mode_word word = mode_of word
-
 pub agree_after : (v : ℕ) (a b c d : State) → AgreeOnPool v a b → ChangesPoolAlone v a c → ChangesPoolAlone v b d
     → PartsAgree (mode_in a.registers) v c d → AgreeOnPool v c d
 agree_after v a b c d h first second parts =

@@ -1,7 +1,7 @@
 -- The test of an entry says whether it leaves a queue alone.
-use Rattle.std.proofs.Common.{◌≡◌, ◌≢◌, ℕ, zero, suc, ◌+◌, ◌-◌, ◌*◌, ◌/◌, ◌%◌, ◌<◌, ◌≤◌, ◌⊎◌, inl, inr, Bool, true, false, not, ◌&&◌, ◌||◌, List, [], ◌∷◌, ◌++◌, refl, sym, ap, ◌∙◌, arith, Option, Some, None}
+use Rattle.std.proofs.Common.{◌≡◌, ◌≢◌, ℕ, zero, suc, ◌+◌, ◌/◌, ◌<◌, ◌≤◌, inl, inr, Bool, true, false, not, ◌&&◌, ◌||◌, refl, sym, ◌∙◌, arith, Option, Some, None}
 use Rattle.std.specs.Prelude.{◌==◌, ◌↔◌, IsTrue, IsFalse}
-use Rattle.std.proofs.lemmas.Bool.{and_parts, and_from, and_cases, and_left, and_right, not-true, not_from_false, or_cases, or_left, or_right, eqb-true, eqb-false, eq-eqb, ne_eqb, cases_eq, cases_lt}
+use Rattle.std.proofs.lemmas.Bool.{and_parts, and_from, and_cases, not-true, not_from_false, or_cases, or_left, or_right, eqb-true, eqb-false, eq-eqb, ne_eqb, cases_eq, cases_lt}
 use Rattle.reg_table.specs.Rows.{row_of}
 use Rattle.reg_table.specs.declared.place.Place.{Place}
 use Rattle.vf_map.specs.Owner.{has_queue, is_receive, is_transmit}
@@ -14,7 +14,7 @@ use Rattle.nic_device.specs.declared.event.Reply.{Reply}
 use Rattle.nic_device.specs.declared.event.Reply.TheVariants as reply
 use Rattle.device_lock.specs.declared.alone.Watched.{Watched}
 use Rattle.device_lock.specs.declared.entry.Entry.{Entry}
-use Rattle.device_lock.specs.Alone.{Blocks, place_at, is_setting, Spares, SparesIfSome, LeavesRegisters, LeavesBlocks, IsClear, WritesOutside, EntryLeavesAlone}
+use Rattle.device_lock.specs.Alone.{Blocks, place_at, Spares, SparesIfSome, LeavesRegisters, LeavesBlocks, IsClear, WritesOutside, EntryLeavesAlone}
 use Rattle.device_lock.proofs.Ranges.{inside_touched, block_has}
 use Rattle.device_lock.specs.Watching.{spares, spares_if_some, leaves_registers, leaves_blocks, none_of, touched, is_clear, writes_outside, leaves_alone}
 

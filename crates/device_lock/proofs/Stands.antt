@@ -1,14 +1,12 @@
 -- The calls of one pass in a history.
-use Rattle.std.proofs.Common.{suc, ◌≡◌, ◌≢◌, ℕ, ◌<◌, ◌≤◌, List, ◌∷◌, ◌++◌, length, get_or, take, drop, All, refl, sym, ◌∙◌, ap, arith, eq-eqb, drop-cons}
+use Rattle.std.proofs.Common.{suc, ◌≡◌, ◌≢◌, ℕ, ◌<◌, ◌≤◌, List, ◌∷◌, ◌++◌, length, get_or, take, drop, refl, sym, ◌∙◌, ap, arith, eq-eqb, drop-cons}
 use Rattle.std.proofs.lemmas.Grind.{common_steps}
 use Rattle.std.proofs.lemmas.List.{take-append-drop, map-append}
 use Rattle.std.proofs.lemmas.List.Elements.{filter-append}
 use Rattle.std.proofs.Math.Seq.{get_or-append_seam}
 use Rattle.device_lock.specs.declared.entry.Call.{Call}
 use Rattle.device_lock.specs.declared.entry.Entry.{Entry}
-use Rattle.device_lock.specs.Closing.{IsOwn, StandsIn, TagStands}
 use Rattle.device_lock.specs.History.{calls_of, call_in}
-use Rattle.device_lock.specs.Pass.{PassValue}
 
 calls_of-append : (tag : ℕ) (g h : List Entry) → calls_of tag (g ++ h) ≡ calls_of tag g ++ calls_of tag h
 calls_of-append tag g h = rw (filter-append, map-append) refl
@@ -42,8 +40,3 @@ differs tag h calls i k d lt is within so_far next same =
     ap (λ (z : List Call). get_or z (length (take k calls)) n) all ∙ get_or-append_seam (take k calls) n rest n in
     let len : length (take k calls) ≡ k = grind (arith, common_steps) in
     next long n (rw len at at)
-
--- where each tag stands, each pass of the bench does
-pub all_stand : (bench count : ℕ) (h : List Entry) (ps : List PassValue) → All (IsOwn bench count) ps
-    → ((tag : ℕ) → tag < count → TagStands h tag ps) → All (StandsIn h) ps
-all_stand bench count h ps own each i d lt = each (get_or ps i d).tag (own i d lt).1 i d lt refl

@@ -1,5 +1,6 @@
 -- Going through a history, and through the blocks of a range, one by one.
-use Rattle.std.proofs.Common.{◌≡◌, ℕ, zero, suc, ◌+◌, ◌-◌, ◌<◌, ◌≤◌, Bool, true, false, not, ◌&&◌, ◌||◌, List, [], ◌∷◌, length, get_or, drop, replicate, refl, sym, ap, ◌∙◌, arith, drop-cons}
+use Rattle.std.proofs.Common.{◌≡◌, ℕ, zero, suc, ◌+◌, ◌-◌, ◌<◌, Bool, true, false, not, ◌&&◌, ◌||◌, List, ◌∷◌, length, get_or, drop, replicate, refl, sym, ap, ◌∙◌, arith, drop-cons}
+use Rattle.std.proofs.Math.Bool.{or_assoc, or-false}
 use Rattle.std.proofs.Math.Seq.{drop-length}
 use Rattle.std.specs.Prelude.{◌==◌}
 use Rattle.vf_map.specs.declared.mode.Mode.{Mode}
@@ -44,14 +45,6 @@ none_marked zero number = refl
 none_marked (suc count) zero = refl
 none_marked (suc count) (suc number) = none_marked count number
 
-or_assoc : (a b c : Bool) → (a || (b || c)) ≡ ((a || b) || c)
-or_assoc true b c = refl
-or_assoc false b c = refl
-
-or_false : (a : Bool) → (a || false) ≡ a
-or_false true = refl
-or_false false = refl
-
 split : (h : List Entry) (i : ℕ) (d : Entry) → i < length h → drop i h ≡ get_or h i d ∷ drop (i + 1) h
 split h i d lt = let one : i + 1 ≡ suc i = omega arith in rw one (drop-cons h i d lt)
 
@@ -60,13 +53,13 @@ pub lent_next : (pass : ℕ) (h : List Entry) (i : ℕ) (d : Entry) (a b : Bool)
     → (b || lent_by pass (drop (i + 1) h) number) ≡ (a || lent_by pass (drop i h) number)
 lent_next pass h i d a b number lt is =
     ap (λ x. x || lent_by pass (drop (i + 1) h) number) is
-    ∙ sym (or_assoc a (lent_in pass (get_or h i d) number) (lent_by pass (drop (i + 1) h) number))
+    ∙ or_assoc a (lent_in pass (get_or h i d) number) (lent_by pass (drop (i + 1) h) number)
     ∙ ap (λ (rest : List Entry). a || lent_by pass rest number) (sym (split h i d lt))
 
 pub lent_last : (pass : ℕ) (h : List Entry) (i : ℕ) (a : Bool) (number : ℕ) → i ≡ length h
     → (a || lent_by pass (drop i h) number) ≡ a
 lent_last pass h i a number is =
-    ap (λ (rest : List Entry). a || lent_by pass rest number) (ap (λ k. drop k h) is ∙ drop-length h) ∙ or_false a
+    ap (λ (rest : List Entry). a || lent_by pass rest number) (ap (λ k. drop k h) is ∙ drop-length h) ∙ or-false a
 
 -- the entries
 

@@ -16,10 +16,6 @@ use Rattle.intr_unit.specs.Laws.{SetsHoldTheirBits}
 abbrev digit : Bool → ℕ
 digit b = if b then 1 else 0
 
-digit-lt : (b : Bool) → digit b < 2
-digit-lt true = omega arith
-digit-lt false = omega arith
-
 -- a digit above a number of n bits
 digit_above-lt : (b : Bool) (n low : ℕ) → low < 2 ^ n → digit b * 2 ^ n + low < 2 ^ suc n
 digit_above-lt true n low h = omega (arith, two-pow-succ n)

@@ -44,11 +44,11 @@ pub enum Group {
     Vf(u8),
 }
 
-#[tactic(auto, using(crate::proofs::Routing::routed), unfolding(crate::specs::Group::group_bits, crate::specs::Group::bits_cleared_by_read, crate::specs::Group::vector_of, crate::specs::Group::queue_causes, crate::specs::BitSet::bits_from_to, crate::specs::BitSet::bits_where, crate::specs::BitSet::bits_below))]
 impl Group {
     /// The bits that the group's registers have: 30 to 0 for the PF, 2 to 0 for a VF.
     ///
     /// Intel 82599 datasheet, section on interrupt registers.
+    #[tactic(auto, using(crate::proofs::Groups::group_words))]
     #[inline(always)]
     pub fn bits(self) -> u32
         ensures { result ≡ group_bits self }
@@ -75,6 +75,7 @@ impl Group {
     /// member or none: bits 5:0 name the cause where bit 7 is 1, up to bit 15 for the PF and bit 2 for a VF.
     ///
     /// Intel 82599 datasheet, section on interrupt causes and their allocation.
+    #[tactic(auto, unfolding(crate::specs::Group::queue_causes))]
     pub fn queue_causes(self, entry: u8) -> u32
         ensures { result ≡ queue_causes self entry }
     {
@@ -92,6 +93,7 @@ impl Group {
     /// routes bits 29 to 16 and bit 30 of the PF; it is without effect for a VF.
     ///
     /// Intel 82599 datasheet, section on MSI-X vectors.
+    #[tactic(auto, unfolding(crate::specs::Group::vector_of))]
     pub fn vector_of(self, bit: u8, misc: u32) -> Option<u8>
         ensures { result ≡ vector_of self misc bit }
     {
@@ -105,6 +107,7 @@ impl Group {
     }
 
     /// The bits that have a vector.
+    #[tactic(auto, using(crate::proofs::Routing::routed))]
     pub(crate) fn routed_bits(self, misc: u32) -> BitSet
         ensures { result ≡ routed_bits self misc }
     {
@@ -120,6 +123,7 @@ impl Group {
 
     /// The bits that a read of the cause register clears: all, or for the PF with other-cause clearing (`ocd`) those
     /// of the other causes alone.
+    #[tactic(auto, using(crate::proofs::Groups::group_words))]
     pub(crate) fn bits_cleared_by_read(self, ocd: bool) -> BitSet
         ensures { result ≡ bits_cleared_by_read self ocd }
     {

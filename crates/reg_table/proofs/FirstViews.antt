@@ -1,5 +1,5 @@
 -- The first address of a place shows its whole word.
-use Rattle.std.proofs.Common.{◌≡◌, ℕ, ◌+◌, ◌<◌, Bool, true, false, not, ◌&&◌, ◌||◌, nat_lt, nat_le, ◌==◌, List, [], ◌∷◌, length, get_or, Some, if◌then◌else◌, refl, sym, ◌∙◌, subst, inl, inr, arith}
+use Rattle.std.proofs.Common.{◌≡◌, ℕ, ◌+◌, ◌<◌, Bool, true, false, not, ◌&&◌, ◌||◌, nat_lt, nat_le, ◌==◌, List, [], ◌∷◌, length, Some, if◌then◌else◌, refl, sym, ◌∙◌, subst, inl, inr, arith}
 use Rattle.std.specs.List.{list_all}
 use Rattle.std.proofs.lemmas.List.Elements.{All-get_or}
 use Rattle.std.proofs.lemmas.List.Sums.{AllPass-from_list_all}
@@ -11,7 +11,9 @@ use Rattle.reg_table.specs.Rows.{rows, number_of}
 use Rattle.reg_table.specs.Run.{Run, HasPlaceAt, has_index, has_address, address_in}
 use Rattle.reg_table.specs.Runs.{runs}
 use Rattle.reg_table.specs.Place.{address_among, view_among}
-use Rattle.reg_table.proofs.Finding.{apart, all_apart, none_else, has_address-true, table_apart}
+use Rattle.reg_table.proofs.Steps.{has_address-true}
+use Rattle.reg_table.proofs.Apart.{apart, all_apart, table_apart}
+use Rattle.reg_table.proofs.Finding.{none_else}
 use Rattle.reg_table.proofs.FirstAddresses.{HasPlaceAt-address_in, found_has_place}
 use Rattle.reg_table.proofs.Numbers.{row_numbered, number_below, rows_length}
 

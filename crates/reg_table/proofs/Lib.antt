@@ -1,8 +1,10 @@
+pub mod Steps
+pub mod Apart
 pub mod Finding
+pub mod Standing
 pub mod Reached
 pub mod Missed
-pub mod Hits
-pub mod Gaps
+pub mod Facts
 pub mod Views
 pub mod Aligned
 pub mod FirstRuns

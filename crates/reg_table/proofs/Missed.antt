@@ -7,7 +7,7 @@ use Rattle.reg_table.specs.Run.{Run, has_address}
 use Rattle.reg_table.specs.Runs.{runs}
 use Rattle.reg_table.specs.Place.{place_among, view_among}
 use Rattle.reg_table.specs.Access.{access_of, access_at}
-use Rattle.reg_table.proofs.Finding.{last, starts_after, in_step, ends_before}
+use Rattle.reg_table.proofs.Steps.{last, starts_after, in_step, ends_before}
 
 -- whether a run has no address from low up to high whose remainder by m is from x up to y
 abbrev pub misses : ℕ → ℕ → ℕ → ℕ → ℕ → Run → Bool

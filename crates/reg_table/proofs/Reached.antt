@@ -1,47 +1,14 @@
 -- What the dispatch on addresses answers where a run has the address.
-use Rattle.std.proofs.Common.{◌≡◌, ℕ, zero, suc, ◌+◌, ◌-◌, ◌*◌, ◌/◌, ◌%◌, ◌<◌, ◌≤◌, Bool, true, false, ◌&&◌, nat_lt, nat_le, List, [], ◌∷◌, Some, if◌then◌else◌, refl, ap, sym, ◌∙◌, subst, inl, inr, arith}
-use Rattle.std.specs.List.{list_all}
-use Rattle.std.proofs.lemmas.Bool.{cases_Bool, and_from, and_parts, le-leb, eq-eqb, ltb-true, leb-true, false_from_ne_true}
+use Rattle.std.proofs.Common.{◌≡◌, ℕ, suc, ◌+◌, ◌-◌, ◌*◌, ◌/◌, ◌%◌, ◌<◌, ◌≤◌, Bool, true, ◌&&◌, nat_lt, nat_le, Some, ap, sym, ◌∙◌, inl, inr, arith}
+use Rattle.std.proofs.lemmas.Bool.{cases_Bool, and_from, and_parts, le-leb, eq-eqb, ltb-true, leb-true}
 use Rattle.std.proofs.lemmas.Bool.Decides.{nat_tests}
 use Rattle.std.proofs.Math.Nat.{add-mul-mod_self_left, div-add-mod, mul-le-mul_left, mul_assoc, mul-suc, mul-sub, mul-mod_right}
-use Rattle.reg_table.specs.declared.access.Access.{Access}
-use Rattle.reg_table.specs.Run.{Run, has_address, place_in}
+use Rattle.reg_table.specs.Run.{Run, has_address}
 use Rattle.reg_table.specs.Runs.{runs}
-use Rattle.reg_table.specs.Place.{place_among, view_among}
-use Rattle.reg_table.specs.Access.{access_of, access_at}
-use Rattle.reg_table.proofs.Finding.{last, apart, all_apart, not_both, table_apart}
-
--- the run stands at a position of the list
-abbrev pub StandsAt : ℕ → Run → List Run → Type 0
-StandsAt k r [] = ⊥
-StandsAt zero r (q ∷ rs) = q ≡ r
-StandsAt (suc k) r (q ∷ rs) = StandsAt k r rs
-
--- the bits that a run shows
-abbrev pub view_in : Run → ℕ
-view_in r = if r.low then 0xFFFF else 0xFFFFFFFF
-
--- the access that a run has at one of its addresses
-abbrev pub access_in : Run → ℕ → Access
-access_in r a = record { place = place_in r a; view = view_in r }
-
-passes_at : (test : Run → Bool) (k : ℕ) (r : Run) (rs : List Run) → StandsAt k r rs → list_all test rs ≡ true
-    → test r ≡ true
-passes_at test k r [] s t = absurd s
-passes_at test zero r (q ∷ rs) s t = subst (λ x. test x ≡ true) s (and_parts (test q) (list_all test rs) t).0
-passes_at test (suc k) r (q ∷ rs) s t = passes_at test k r rs s (and_parts (test q) (list_all test rs) t).1
-
--- a run that has the address is the first that has it
-first_with : (k : ℕ) (r : Run) (rs : List Run) (a : ℕ) → StandsAt k r rs → all_apart rs ≡ true → has_address r a ≡ true
-    → access_of (place_among rs a) (view_among rs a) ≡ Some (access_in r a)
-first_with k r [] a s d h = absurd s
-first_with zero r (q ∷ rs) a s d h =
-    subst (λ x. access_of (place_among (x ∷ rs) a) (view_among (x ∷ rs) a) ≡ Some (access_in r a)) (sym s) (rw h refl)
-first_with (suc k) r (q ∷ rs) a s d h =
-    let v = and_parts (list_all (apart q) rs) (all_apart rs) d in
-    let far = passes_at (apart q) k r rs s v.0 in
-    let other : has_address q a ≡ false = false_from_ne_true (has_address q a) (λ i. not_both q r a i h far) in
-    rw other (first_with k r rs a s v.1 h)
+use Rattle.reg_table.specs.Access.{access_at}
+use Rattle.reg_table.proofs.Steps.{last}
+use Rattle.reg_table.proofs.Apart.{table_apart}
+use Rattle.reg_table.proofs.Standing.{stands, access_in, first_with}
 
 -- whether a run has each address from low up to high that is in step with it
 abbrev pub covers : ℕ → ℕ → Run → Bool
@@ -85,15 +52,15 @@ covered r low high a c l h e =
     let whole = whole_steps r.stride a r.first e begins in
     and_from _ _ (and_from _ _ (le-leb _ _ begins) (le-leb _ _ far)) (eq-eqb _ _ whole)
 
-hit : (k : ℕ) (r : Run) (low high a : ℕ) → StandsAt k r runs → covers low high r ≡ true → low ≤ a → a < high
+hit : (r : Run) (low high a : ℕ) → stands r runs ≡ true → covers low high r ≡ true → low ≤ a → a < high
     → a % r.stride ≡ r.first % r.stride
     → access_at a ≡ Some (access_in r a)
-hit k r low high a s c l h e = first_with k r runs a s table_apart (covered r low high a c l h e)
+hit r low high a s c l h e = first_with r runs a s table_apart (covered r low high a c l h e)
 
-pub words_at : (k : ℕ) (r : Run) (low high : ℕ) → StandsAt k r runs → covers low high r ≡ true → r.stride ≡ 4
+pub words_at : (r : Run) (low high : ℕ) → stands r runs ≡ true → covers low high r ≡ true → r.stride ≡ 4
     → r.first % 4 ≡ 0
     → (a : ℕ) → low ≤ a → a < high → a % 4 ≡ 0 → access_at a ≡ Some (access_in r a)
-words_at k r low high s c by_four f a l h m = hit k r low high a s c l h (rw by_four (m ∙ sym f))
+words_at r low high s c by_four f a l h m = hit r low high a s c l h (rw by_four (m ∙ sym f))
 
 -- a remainder by a multiple of 4 keeps the remainder by 4
 rest_of_four : (s n : ℕ) → s % 4 ≡ 0 → (n % s) % 4 ≡ n % 4
@@ -106,12 +73,12 @@ rest_of_four s n e =
 same_rest : (x y : ℕ) → x % 4 ≡ 0 → y % 4 ≡ 0 → x ≤ y → y < x + 4 → y ≡ x
 same_rest x y e f l h = omega arith
 
-pub steps_at : (k : ℕ) (r : Run) (low high : ℕ) → StandsAt k r runs → covers low high r ≡ true → r.stride % 4 ≡ 0
+pub steps_at : (r : Run) (low high : ℕ) → stands r runs ≡ true → covers low high r ≡ true → r.stride % 4 ≡ 0
     → r.first % 4 ≡ 0
     → (a : ℕ) → low ≤ a → a < high → r.first % r.stride ≤ a % r.stride → a % r.stride < r.first % r.stride + 4
     → a % 4 ≡ 0
     → access_at a ≡ Some (access_in r a)
-steps_at k r low high s c by_four f a l h from below m =
+steps_at r low high s c by_four f a l h from below m =
     let x : r.first % r.stride % 4 ≡ 0 = rest_of_four r.stride r.first by_four ∙ f in
     let y : a % r.stride % 4 ≡ 0 = rest_of_four r.stride a by_four ∙ m in
-    hit k r low high a s c l h (same_rest (r.first % r.stride) (a % r.stride) x y from below)
+    hit r low high a s c l h (same_rest (r.first % r.stride) (a % r.stride) x y from below)

@@ -12,7 +12,9 @@ use Rattle.reg_table.specs.Runs.{runs}
 use Rattle.reg_table.specs.Place.{SomeRunHas, Names, SomeLowRunHas, IsLow, place_among, view_among}
 use Rattle.reg_table.specs.Access.{access_of, access_at}
 use Rattle.reg_table.specs.Run.{is_sound}
-use Rattle.reg_table.proofs.Finding.{apart, all_apart, none_else, HasPlaceAt-place_in, has_address-true, found-named, missed-free, table_sound, table_apart}
+use Rattle.reg_table.proofs.Steps.{HasPlaceAt-place_in, has_address-true}
+use Rattle.reg_table.proofs.Apart.{apart, all_apart, table_apart}
+use Rattle.reg_table.proofs.Finding.{none_else, found-named, missed-free, table_sound}
 use Rattle.reg_table.proofs.Aligned.{whole_words}
 use Rattle.reg_table.proofs.InRange.{named_in_range}
 

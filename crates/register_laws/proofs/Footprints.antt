@@ -4,7 +4,8 @@ use Rattle.std.proofs.lemmas.Bool.{or_parts}
 use Rattle.register_file.specs.Registers.{Registers}
 use Rattle.register_laws.specs.Footprint.{Footprint, ChangesWithin, Covers, either}
 use Rattle.register_laws.proofs.Covers.{fails}
-pub use Rattle.register_laws.proofs.Covers.{misses-narrower, misses-within, misses-owner, covers-the_word, covers-the_enable, covers-pending, covers-any_pending}
+pub use Rattle.register_laws.proofs.Covers.{misses-narrower, misses-within, misses-owner}
+pub use Rattle.register_laws.proofs.Covers.{covers-the_word, covers-the_enable, covers-pending, covers-any_pending}
 
 pub within-refl : (f : Footprint) (r : Registers) → ChangesWithin f r r
 within-refl f r = record { words = λ p n. refl; wanted = λ dir queue n. refl; told = λ g n. refl }

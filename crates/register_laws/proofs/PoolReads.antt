@@ -6,7 +6,6 @@ use Rattle.reg_table.specs.declared.kind.Kind.TheVariants as kind
 use Rattle.reg_table.specs.declared.place.Place.{Place}
 use Rattle.reg_table.specs.declared.rows.RowId.{RowId}
 use Rattle.reg_table.specs.declared.rows.RowId.TheVariants as row
-use Rattle.reg_table.specs.declared.rows.RowId.TheVariants.{Pvteicr, Pvteims, Pvteiac, Pvteiam}
 use Rattle.vf_map.specs.Owner.{is_of_pool, is_of_pool_by}
 use Rattle.vf_map.specs.declared.mode.Mode.{Mode}
 use Rattle.register_file.specs.Access.{read_word}

@@ -48,11 +48,6 @@ frame-held_of false pad bytes = refl
 frame-held_of true true bytes = refl
 frame-held_of true false bytes = ap Some (append-nil bytes)
 
-pub staged-held_of : (end pad : Bool) (bytes : List ℕ)
-    → (if end then [] else held_of end pad bytes) ≡ (if end then [] else bytes)
-staged-held_of true pad bytes = refl
-staged-held_of false pad bytes = append-nil bytes
-
 -- as many bytes are held as there are, and those zeros
 pub length-bytes_held : (end pad : Bool) (bytes : List ℕ)
     → length (unwrap_or (if end then Some (frame_of pad bytes) else None) (if end then [] else bytes)) ≡ length bytes +

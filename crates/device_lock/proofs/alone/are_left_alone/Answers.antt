@@ -1,5 +1,5 @@
-use Rattle.std.proofs.Common.{arith, ◌≡◌, true, false, length, refl, sym, ap, ◌∙◌}
-use Rattle.device_lock.specs.Watching.{marked, rest_leaves_alone}
+use Rattle.std.proofs.Common.{arith, ◌≡◌, true, false, length, refl, sym, ◌∙◌}
+use Rattle.device_lock.specs.Watching.{marked}
 use Rattle.device_lock.proofs.Walks.{rest_here, rest_there, rest_last}
 use Rattle.device_lock.proofs.alone.are_left_alone.Goals as goal
 

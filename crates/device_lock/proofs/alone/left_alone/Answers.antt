@@ -1,4 +1,4 @@
-use Rattle.std.proofs.Common.{◌≡◌, sym, ◌∙◌}
+use Rattle.std.proofs.Common.{sym, ◌∙◌}
 use Rattle.device_lock.specs.Watching.{marked}
 use Rattle.device_lock.proofs.Watching.{test_decides}
 use Rattle.device_lock.proofs.alone.left_alone.Goals as goal

@@ -1,4 +1,4 @@
-use Rattle.std.proofs.Common.{arith, ◌≡◌, ◌≢◌, ◌<◌, ◌∷◌, ◌++◌, [], length, get_or, sym, ◌∙◌, ap}
+use Rattle.std.proofs.Common.{arith, ◌<◌, ◌∷◌, ◌++◌, [], length, sym, ◌∙◌, ap}
 use Rattle.device_lock.specs.declared.entry.Entry.{Entry}
 use Rattle.device_lock.proofs.Places.{positions_here, positions_there}
 use Rattle.device_lock.proofs.positions.positions.Goals as goal

@@ -1,4 +1,4 @@
-use Rattle.reg_table.proofs.Finding.{table_pairs_apart}
+use Rattle.reg_table.proofs.Apart.{table_pairs_apart}
 use Rattle.reg_table.proofs.laws.runs_are_apart.Goals as goal
 
 pub returns : goal.returns

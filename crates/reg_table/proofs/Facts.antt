@@ -1,0 +1,61 @@
+-- What the table says of ranges of addresses, and a test of it.
+use Rattle.std.proofs.Common.{◌≡◌, ℕ, zero, suc, ◌+◌, ◌%◌, ◌<◌, ◌≤◌, Bool, true, ◌&&◌, ◌==◌, List, [], ◌∷◌, Some, None}
+use Rattle.std.specs.List.{list_all}
+use Rattle.std.proofs.lemmas.Bool.{and_parts, eqb-true}
+use Rattle.reg_table.specs.Run.{Run}
+use Rattle.reg_table.specs.Runs.{runs}
+use Rattle.reg_table.specs.Access.{access_at}
+use Rattle.reg_table.proofs.Standing.{stands, access_in}
+use Rattle.reg_table.proofs.Reached.{covers, words_at, steps_at}
+use Rattle.reg_table.proofs.Missed.{misses, no_words_at, no_steps_at}
+
+-- of the words from the one address up to the other: a run has them, or has those in step with it, or no run has one,
+-- or none of those whose remainder by the first number is from the second up to the third
+pub data Fact : Type 0 where
+  Words : Run → ℕ → ℕ → Fact
+  Steps : Run → ℕ → ℕ → Fact
+  NoWords : ℕ → ℕ → Fact
+  NoSteps : ℕ → ℕ → ℕ → ℕ → ℕ → Fact
+
+-- what it says of an access
+abbrev pub Says : Fact → Type 0
+Says (Words r low high) = (a : ℕ) → low ≤ a → a < high → a % 4 ≡ 0 → access_at a ≡ Some (access_in r a)
+Says (Steps r low high) =
+    (a : ℕ) → low ≤ a → a < high → r.first % r.stride ≤ a % r.stride → a % r.stride < r.first % r.stride + 4 → a % 4 ≡ 0
+    → access_at a ≡ Some (access_in r a)
+Says (NoWords low high) = (a : ℕ) → low ≤ a → a < high → access_at a ≡ None
+Says (NoSteps m x y low high) = (a : ℕ) → low ≤ a → a < high → x ≤ a % m → a % m < y → access_at a ≡ None
+
+-- whether the table says so
+abbrev pub is_so : Fact → Bool
+is_so (Words r low high) = stands r runs && covers low high r && (r.stride == 4) && (r.first % 4 == 0)
+is_so (Steps r low high) = stands r runs && covers low high r && (r.stride % 4 == 0) && (r.first % 4 == 0)
+is_so (NoWords low high) = list_all (misses low high 1 0 1) runs
+is_so (NoSteps m x y low high) = list_all (misses low high m x y) runs
+
+all_four : (a b c d : Bool) → (a && b && c && d) ≡ true → (a ≡ true) × (b ≡ true) × (c ≡ true) × (d ≡ true)
+all_four a b c d h =
+    let p = and_parts (a && b && c) d h in
+    let q = and_parts (a && b) c p.0 in
+    let r = and_parts a b q.0 in (r.0, r.1, q.1, p.1)
+
+said : (f : Fact) → is_so f ≡ true → Says f
+said (Words r low high) e =
+    let p = all_four (stands r runs) (covers low high r) (r.stride == 4) (r.first % 4 == 0) e in
+    words_at r low high p.0 p.1 (eqb-true r.stride 4 p.2) (eqb-true (r.first % 4) 0 p.3)
+said (Steps r low high) e =
+    let p = all_four (stands r runs) (covers low high r) (r.stride % 4 == 0) (r.first % 4 == 0) e in
+    steps_at r low high p.0 p.1 (eqb-true (r.stride % 4) 0 p.2) (eqb-true (r.first % 4) 0 p.3)
+said (NoWords low high) e = λ a. no_words_at low high a e
+said (NoSteps m x y low high) e = λ a. no_steps_at m x y low high a e
+
+-- what the fact at a position of the list says
+abbrev pub SaysAt : List Fact → ℕ → Type 0
+SaysAt [] k = Unit {0}
+SaysAt (f ∷ fs) zero = Says f
+SaysAt (f ∷ fs) (suc k) = SaysAt fs k
+
+pub said_at : (fs : List Fact) (k : ℕ) → list_all is_so fs ≡ true → SaysAt fs k
+said_at [] k e = tt
+said_at (f ∷ fs) zero e = said f (and_parts (is_so f) (list_all is_so fs) e).0
+said_at (f ∷ fs) (suc k) e = said_at fs k (and_parts (is_so f) (list_all is_so fs) e).1

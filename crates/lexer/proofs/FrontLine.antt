@@ -61,7 +61,7 @@ abbrev unblank : List ℕ → List ℕ
 unblank text = drop (front_of is_blank text) text
 
 -- blanks in front change no words
-first-blanks : (text : List ℕ) (words behind : List (List ℕ)) → FirstLine (unblank text) words behind
+pub first-blanks : (text : List ℕ) (words behind : List (List ℕ)) → FirstLine (unblank text) words behind
     → FirstLine text words behind
 first-blanks [] words behind first = first
 first-blanks (byte ∷ more) words behind first = elim (cases_Bool (is_blank byte)) [

@@ -116,11 +116,11 @@ impl<'a> Lines<'a> {
         count
     }
 
-    /// Goes past the next line where it begins with the name and has two numbers and no other words, and
-    /// gives these. It is read as it stands, without a look for its end before.
+    /// Goes past the next line where its words are the name and two numbers, and gives these. It is read as
+    /// it stands, without a look for its end before.
     ///
     /// After `None` the lines are as they were. It says nothing of the next line: one of that form is left
-    /// too where blanks stand before its name, or no line feed behind it.
+    /// too where no line feed stands behind it.
     #[inline(always)]
     pub fn take_pair(&mut self, name: &str) -> Option<Pair>
         requires { is_name name.now ≡ true }

@@ -19,7 +19,7 @@ fn behind_some_blanks(text: &str) -> Option<&str>
         (behind.now ≡ drop (position_or_len (λ byte. not (is_blank byte)) text.now) text.now)
         × (length behind.now < length text.now)) }
 {
-    if let [b' ', b'0'..=b'9', ..] = text.as_bytes() {
+    if let [b' ' | b'\t', b'0'..=b'9', ..] = text.as_bytes() {
         return Some(&text[1..]);
     }
     let behind = behind_blanks(text);
@@ -89,13 +89,14 @@ pub(crate) fn behind_wordless(text: &str) -> Option<&str>
     }
 }
 
-/// The numbers of a line in front that begins with the name and has two, and what stands behind the line.
+/// The numbers of a line in front whose first word is the name and that has two, and what stands behind the line.
 #[inline(always)]
 pub(crate) fn pair_in_front<'a>(name: &str, text: &'a str) -> Option<(u32, u32, &'a str)>
     requires { is_name name.now ≡ true }
     ensures { IfSome result (λ pair. IsPairInFront name.now text.now pair.0 pair.1 pair.2.now) }
 {
-    let (first, behind) = operand(text.strip_prefix(name)?)?;
+    let named = behind_blanks(text);
+    let (first, behind) = operand(named.strip_prefix(name)?)?;
     let (second, behind) = operand(behind)?;
     let rest = behind_wordless(behind)?;
     Some((first, second, rest))

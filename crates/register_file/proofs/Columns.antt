@@ -80,8 +80,8 @@ group-auto_mask = written_back (λ q. q.auto_mask)
 pub group-told : IsWrittenBack (λ (q : Interrupts). q.told)
 group-told = written_back (λ q. q.told)
 
--- for a register that is set
-pub ruleset columns = (
+-- for a register of a receive side that is set
+pub ruleset receive_columns = (
   map-set,
   receive-base_low,
   receive-base_high,
@@ -91,6 +91,11 @@ pub ruleset columns = (
   receive-tail,
   receive-enable,
   receive-wanted,
+)
+
+-- for a register of a transmit side that is set
+pub ruleset transmit_columns = (
+  map-set,
   transmit-base_low,
   transmit-base_high,
   transmit-length,
@@ -100,6 +105,11 @@ pub ruleset columns = (
   transmit-writeback_low,
   transmit-writeback_high,
   transmit-wanted,
+)
+
+-- for a register of a group of interrupts that is set
+pub ruleset group_columns = (
+  map-set,
   group-causes,
   group-enabled,
   group-auto_clear,

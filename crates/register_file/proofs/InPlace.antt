@@ -15,27 +15,27 @@ use Rattle.register_file.specs.Groups.{index_of, auto_clear_row, auto_mask_row, 
 use Rattle.register_file.specs.Layout.{registers_of}
 use Rattle.register_file.specs.Registers.{Registers, with_word}
 use Rattle.register_file.specs.declared.register_file.RegisterFile.TheInside.{Inside}
-use Rattle.register_file.proofs.Columns.{columns}
+use Rattle.register_file.proofs.Columns.{group_columns}
 
 -- the registers with other interrupts of a group, whose auto-clear and auto-mask are as they were
 pub changed : (a : Inside) (g : Group) (s : Interrupts) → s.group ≡ g
     → s.auto_clear ≡ (at_group a.groups g).auto_clear → s.auto_mask ≡ (at_group a.groups g).auto_mask
     → registers_of (record a { groups = with_group a.groups g s }) ≡ with_interrupts (registers_of a) s
 changed a Pf s e clear mask = rw (e, clear, mask) refl
-changed a (Vf v) s e clear mask = rw e (simp (clear, mask, columns))
+changed a (Vf v) s e clear mask = rw e (simp (clear, mask, group_columns))
 
 -- the registers with another word in a group's auto-clear register, and in its auto-mask register
 pub auto_clear_changed : (a : Inside) (g : Group) (word : ℕ)
     → registers_of (record a { groups = with_group a.groups g (record (at_group a.groups g) { auto_clear = word }) })
     ≡ with_word (registers_of a) (auto_clear_row g) (index_of g) word
 auto_clear_changed a Pf word = refl
-auto_clear_changed a (Vf v) word = simp columns
+auto_clear_changed a (Vf v) word = simp group_columns
 
 pub auto_mask_changed : (a : Inside) (g : Group) (word : ℕ)
     → registers_of (record a { groups = with_group a.groups g (record (at_group a.groups g) { auto_mask = word }) })
     ≡ with_word (registers_of a) (auto_mask_row g) (index_of g) word
 auto_mask_changed a Pf word = refl
-auto_mask_changed a (Vf v) word = simp columns
+auto_mask_changed a (Vf v) word = simp group_columns
 
 at_words : (xs : List Interrupts) (v : ℕ) (d : Interrupts) → v < length xs → (g : Group)
     → of_words g (get_or (map (λ q. q.causes) xs) v 0) (get_or (map (λ q. q.enabled) xs) v 0)

@@ -21,8 +21,8 @@ both_step h (d ∷ ds) es (m ∷ ms) ns own first then =
 received : (old new : List Call) (h k : Halves) (plays : receive.Plays old h.receive new k.receive)
     → OthersStep (doers_marked plays.0) plays.1 → k.transmit ≡ h.transmit → GoesOn old h new k
 unfolding receiving_drives
-received old new h k (marks, since, made, own, is) steps other =
-    (receiving_drives old new h k (marks, since, made, own, is) other, steps)
+received old new h k (marks, since, made, own, is, others) steps other =
+    (receiving_drives old new h k (marks, since, made, own, is, others) other, steps)
 
 pub receiving_goes_on : ReceivingGoesOn
 receiving_goes_on old new h k x = received old new h k x.plays x.steps x.other
@@ -30,8 +30,8 @@ receiving_goes_on old new h k x = received old new h k x.plays x.steps x.other
 sent : (old new : List Call) (h k : Halves) (plays : transmit.Plays old h.transmit new k.transmit)
     → OthersStep (doers_moved plays.0) plays.1 → k.receive ≡ h.receive → GoesOn old h new k
 unfolding sending_drives
-sent old new h k (moves, since, made, own, is) steps other =
-    (sending_drives old new h k (moves, since, made, own, is) other, steps)
+sent old new h k (moves, since, made, own, is, others) steps other =
+    (sending_drives old new h k (moves, since, made, own, is, others) other, steps)
 
 pub sending_goes_on : SendingGoesOn
 sending_goes_on old new h k x = sent old new h k x.plays x.steps x.other
@@ -42,11 +42,11 @@ all_step (n ∷ calls) are = (λ neither. are.0, all_step calls are.1)
 
 pub others_go_on : OthersGoOn
 unfolding others_drive
-others_go_on old new h (since, made) are = (others_drive old new h (since, made), all_step since are)
+others_go_on old new h (since, made, steps) are = (others_drive old new h (since, made, steps), all_step since are)
 
 pub halves_go_on : HalvesGoOn
 unfolding drives_on
-halves_go_on old mid new h j k ((ds, ms, made, own, is), first) ((es, ns, more, then, was), second) = (
-  drives_on old mid new h j k (ds, ms, made, own, is) (es, ns, more, then, was),
+halves_go_on old mid new h j k ((ds, ms, made, own, is, others), first) ((es, ns, more, then, was, later), second) = (
+  drives_on old mid new h j k (ds, ms, made, own, is, others) (es, ns, more, then, was, later),
   both_step h ds es ms ns own first second,
 )

@@ -113,7 +113,7 @@ module _ (w : Watched) (fifo : ℕ) (h : List Entry) (q : AtPort) (size : ℕ) (
   goes_on : GoesOn started (halves_of r) (made ++ x.looks.0) k
   goes_on =
       halves_go_on started made (made ++ x.looks.0) (halves_of r) k k x.life.since
-      (others_go_on made (made ++ x.looks.0) k (x.looks.0, refl) x.steps)
+      (others_go_on made (made ++ x.looks.0) k (x.looks.0, refl, x.steps) x.steps)
 
   finds : FindsNone (leads_to (new_state w.vfs fifo) x.look.before) k.receive
   finds = record {

@@ -62,7 +62,7 @@ follows m n r is (inr x) = kept m n r is x
 all_follow : (m : Moment) (later : List Moment) (r : Running) → m.driver.rings ≡ Up r → AllFollow m later
     → RunsOn m r (last m later)
 all_follow m [] r is x =
-    record { rings = r; up = is; goes = others_go_on m.made m.made (halves_of r) ([], sym (append-nil m.made)) tt }
+    record { rings = r; up = is; goes = others_go_on m.made m.made (halves_of r) ([], sym (append-nil m.made), tt) tt }
 all_follow m (n ∷ later) r is x =
     let one = follows m n r is x.0 in
     let more = all_follow n later one.rings one.up x.1 in

@@ -65,7 +65,7 @@ module _ (w : Watched) (fifo : ℕ) (h : List Entry) (q : AtPort) (size : ℕ) (
       halves_go_on started x.looks.mid (x.looks.mid ++ others) (halves_of r) then then
       (halves_go_on started made x.looks.mid (halves_of r) k then x.life.since
       (sending_goes_on made x.looks.mid k then (record { plays = x.looks.plays; steps = x.moves; other = refl })))
-      (others_go_on x.looks.mid (x.looks.mid ++ others) then (others, refl) x.steps)
+      (others_go_on x.looks.mid (x.looks.mid ++ others) then (others, refl, x.steps) x.steps)
 
   abbrev lived_then : IsLived w fifo late q size old a started r then
   lived_then =

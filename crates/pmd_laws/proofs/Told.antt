@@ -20,8 +20,10 @@ use Rattle.receive_laws.specs.Delivered.{delivered}
 use Rattle.transmit_laws.specs.Agreeing.{bytes_of}
 use Rattle.transmit_laws.specs.Laws as transmit
 use Rattle.transmit_laws.specs.Sent.{sent_since}
+use Rattle.start_laws.proofs.OnlySteps.{only_steps}
 use Rattle.driver_laws.specs.Going.{GoesOn}
 use Rattle.pmd.specs.Halves.{Halves, halves_of}
+use Rattle.pmd.proofs.Calls.{receives_step}
 use Rattle.driver_laws.proofs.Going.{halves_go_on, others_go_on}
 use Rattle.pmd_laws.specs.Life.{IsLife}
 use Rattle.pmd_laws.specs.Order.{IsLived}
@@ -46,13 +48,13 @@ up_next P (Down x) b r is holds = cc
 
 drove : (m n : Moment) (r : Running) → m.driver.rings ≡ Up r → Drove m n → RunsOn m r n
 drove m n r is x =
-    let (s, up, goes) = up_next _ m.driver.rings n.driver.rings r is x in record { rings = s; up = up; goes = goes }
+    let (s, up, goes) = up_next _ m.driver.rings n.driver.rings r is x in record { rings = s; up = up; goes = (goes, goes.5) }
 
 kept : (m n : Moment) (r : Running) → m.driver.rings ≡ Up r → Keeps m n → RunsOn m r n
-kept m n r is (a, same, added, steps) = record {
+kept m n r is (a, same, added) = record {
   rings = record r { arena = a };
   up = same ∙ ap (λ (x : Rings). with_arena x a) is;
-  goes = others_go_on m.made n.made (halves_of r) added steps;
+  goes = others_go_on m.made n.made (halves_of r) added added.2;
 }
 
 follows : (m n : Moment) (r : Running) → m.driver.rings ≡ Up r → Follows m n → RunsOn m r n
@@ -97,8 +99,8 @@ module _ (q : AtPort) (size : ℕ) (old : List Call) (a : Numbers) (m : Moment) 
   life calls since = record {
     sized = open_size size a old m.made m.driver (is_size size) _ x.shut;
     up = x.started.2;
-    steps = x.steps;
-    filled = x.filled;
+    steps = only_steps q size old a m.made first x.started.2;
+    filled = receives_step x.started.2.on.plays.0 x.started.2.on.plays.1 x.started.2.on.plays.5;
     since = since;
   }
 
@@ -145,8 +147,7 @@ module _ (w : Watched) (fifo : ℕ) (h : List Entry) (q : AtPort) (size : ℕ) (
     looked : handed_of (last m later).driver.rings ≡ delivered w.queue (new_state w.vfs fifo) x.look.before
     looked =
         let runs = runs q size old a m later x.told in
-        let (s, after, (looks, steps)) = up_next _ (last m later).driver.rings n.driver.rings runs.rings runs.up x.looks
-        in
+        let (s, after, looks) = up_next _ (last m later).driver.rings n.driver.rings runs.rings runs.up x.looks in
         ap handed_of runs.up
         ∙ none_before_look w fifo h q size old a m.made x.told.started.0 (last m later).made (halves_of runs.rings)
         n.made s.receive
@@ -155,7 +156,7 @@ module _ (w : Watched) (fifo : ℕ) (h : List Entry) (q : AtPort) (size : ℕ) (
           life = life q size old a m later x.told (last m later).made runs.goes;
           begins = x.begins;
           looks = looks;
-          steps = steps;
+          steps = looks.7;
           look = x.look;
         })
 

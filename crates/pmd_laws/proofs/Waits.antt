@@ -21,6 +21,7 @@ use Rattle.transmit_laws.specs.Sent.{sent_since}
 use Rattle.start_laws.proofs.Parts.{Parts, calls_joined}
 use Rattle.driver_laws.specs.Going.{GoesOn}
 use Rattle.pmd.specs.Halves.{Halves, halves_of}
+use Rattle.pmd.proofs.Calls.{sends_step}
 use Rattle.driver_laws.proofs.Going.{halves_go_on, others_go_on, sending_goes_on}
 use Rattle.driver_laws.proofs.Waiting.{waiting_is_not_all}
 use Rattle.pmd_laws.specs.Order.{IsLived}
@@ -130,16 +131,15 @@ pub waiting_as_told : WaitingIsNotAllAsTold
 waiting_as_told w fifo h q size old a m later n x before more all is same =
     let made = (last m later).made in
     let runs = runs q size old a m later x.told in
-    let (s, after, (looks, moves, steps)) =
-    up_next _ (last m later).driver.rings n.driver.rings runs.rings runs.up x.waits in
+    let (s, after, looks) = up_next _ (last m later).driver.rings n.driver.rings runs.rings runs.up x.waits in
     waiting_before_look w fifo h q size old a m.made x.told.started.0 made (halves_of runs.rings) n.made s.transmit
     (record {
       along = x.along;
       life = life q size old a m later x.told made runs.goes;
       begins = x.begins;
       looks = looks;
-      moves = moves;
-      steps = steps;
+      moves = sends_step looks.plays.0 looks.plays.1 looks.plays.5;
+      steps = looks.looks.2;
       look = x.look;
     })
     before more all is (ap (λ (z : Rings). bytes_of (accepted_of z)) (sym runs.up) ∙ same)

@@ -43,14 +43,10 @@ WaitingIsNotAllBefore =
     before ++ more ≡ looked.look.before → calls_of w.pass before ≡ made →
     bytes_of k.transmit.accepted ≢ sent_since w.queue (new_state w.vfs fifo) [] before
 
--- the same by what a driver's calls tell alone: a call of `reap` answered, and wasn't idle, as its clause `waits`
--- tells, beside steps of the device
+-- the same by what a driver's calls tell alone: a call of `reap` answered, and wasn't idle, as its clause `waits` tells
 abbrev pub Waits : Moment → Moment → Type 0
 Waits m n =
-    WhereUp m.driver.rings n.driver.rings
-    (λ r s.
-    (looks : LooksLast m.made r.transmit n.made s.transmit)
-    × OthersStep (doers_moved looks.plays.0) looks.plays.1 × OthersStep [] looks.looks.0)
+    WhereUp m.driver.rings n.driver.rings (λ r s. LooksLast m.made r.transmit n.made s.transmit)
 
 -- in a legal history of a new device that leaves the queue alone, such a call comes after the last moment
 pub record IsToldToWait (w : Watched) (fifo : ℕ) (h : List Entry) (q : AtPort) (size : ℕ) (old : List Call)

@@ -107,7 +107,7 @@ both_played h [] es (m ∷ ms) ns own = absurd own
 both_played h (d ∷ ds) es [] ns own = absurd own
 both_played h (d ∷ ds) es (m ∷ ms) ns own = both_played (after_call h d m) ds es ms ns own.1
 
-own_length : (h : Halves) (ds : List Doer) (ms : List Call) → AllOwn h ds ms → length ds ≡ length ms
+pub own_length : (h : Halves) (ds : List Doer) (ms : List Call) → AllOwn h ds ms → length ds ≡ length ms
 own_length h [] [] own = refl
 own_length h [] (m ∷ ms) own = absurd own
 own_length h (d ∷ ds) [] own = absurd own

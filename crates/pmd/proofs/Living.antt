@@ -14,7 +14,7 @@ use Rattle.pmd.specs.declared.start.Rest.{Rest}
 use Rattle.pmd.proofs.Calls.{drives_on}
 
 -- without any call
-drives_none : (made : List Call) (h : Halves) → Drives made h made h
+pub drives_none : (made : List Call) (h : Halves) → Drives made h made h
 drives_none made h = ([], [], sym (append-nil made), tt, refl, tt)
 
 pub runs_still : (made : List Call) (rings : Rings) → RunsOn made rings made rings

@@ -5,8 +5,7 @@ use Rattle.nic_device.specs.State.{new_state}
 use Rattle.device_lock.specs.declared.alone.Watched.{Watched}
 use Rattle.device_lock.specs.declared.entry.Call.{Call}
 use Rattle.device_lock.specs.declared.entry.Entry.{Entry}
-use Rattle.pmd.specs.Halves.{halves_of}
-use Rattle.pmd.proofs.Calls.{receives_step}
+use Rattle.pmd.specs.Halves.{Drives, halves_of}
 use Rattle.pmd.specs.Life.{HasLived}
 use Rattle.pmd.specs.declared.start.Rest.{Rest}
 use Rattle.pmd_base.specs.declared.fault.PmdFault.{PmdFault}
@@ -17,9 +16,6 @@ use Rattle.receive_laws.specs.Delivered.{delivered}
 use Rattle.transmit_laws.specs.Agreeing.{bytes_of}
 use Rattle.transmit_laws.specs.Laws as transmit
 use Rattle.transmit_laws.specs.Sent.{sent_since}
-use Rattle.pmd_rx.specs.Plays.{Plays}
-use Rattle.start_laws.proofs.OnlySteps.{only_steps}
-use Rattle.driver_laws.specs.Going.{GoesOn}
 use Rattle.pmd_laws.specs.Ends.{IsToStop, LeftIsPrefix}
 use Rattle.pmd_laws.specs.Order.{IsLived}
 use Rattle.pmd_laws.proofs.Order.{handed_of_life, sent_of_life}
@@ -27,20 +23,15 @@ use Rattle.pmd_laws.proofs.Order.{handed_of_life, sent_of_life}
 module _ (w : Watched) (fifo : ℕ) (h : List Entry) (q : AtPort) (size : ℕ) (old : List Call) (a : Numbers)
     (new : List Call) (left : Rest) (late : Option PmdFault) (lived : HasLived q size old a new left late)
     (x : IsToStop w fifo h q size old a new left late lived) where
-  abbrev plays : Plays lived.lives.up.on.mid lived.lives.up.empty lived.lives.made lived.lives.fresh.receive
-  plays = lived.lives.up.on.plays
-
   is_lived : IsLived w fifo h q size old a lived.lives.made lived.lives.fresh (halves_of lived.last)
   is_lived = record {
     along = x.along;
     life = record {
       sized = x.sized;
       up = lived.lives.up;
-      steps = only_steps q size old a lived.lives.made lived.lives.fresh lived.lives.up;
-      filled = receives_step plays.0 plays.1 plays.5;
       since =
-          subst (λ (cs : List Call). GoesOn lived.lives.made (halves_of lived.lives.fresh) cs (halves_of lived.last))
-          (sym x.calls) (lived.lives.drives, lived.lives.drives.5);
+          subst (λ (cs : List Call). Drives lived.lives.made (halves_of lived.lives.fresh) cs (halves_of lived.last))
+          (sym x.calls) lived.lives.drives;
     };
     begins = x.begins;
   }

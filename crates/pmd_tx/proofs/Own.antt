@@ -39,7 +39,8 @@ module _ (old new : List Call) (v : Sender) where
 
     pub tail_misses : IsWritten old new v.layout.port v.layout.tail word false → Plays old v new v
     tail_misses (seen, made) =
-        plays_adds old new v Advances refl (event.Write v.layout.port v.layout.tail word) (reply.Stray seen) tail_own made
+        plays_adds old new v Advances refl (event.Write v.layout.port v.layout.tail word) (reply.Stray seen) tail_own
+        made
 
     pub tail_faults : IsWritten old new v.layout.port v.layout.tail word false → Faults old v new
     tail_faults (seen, made) =

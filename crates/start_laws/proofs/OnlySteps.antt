@@ -3,14 +3,14 @@ use Rattle.std.proofs.Common.{ℕ, true, List, [], ◌∷◌, ◌++◌}
 use Rattle.dma_arena.specs.Numbers.{Numbers}
 use Rattle.device_lock.specs.declared.entry.Call.{Call}
 use Rattle.register_file.specs.declared.dir.Dir.TheVariants.{Rx, Tx}
-use Rattle.pmd.specs.Running.{Running}
-use Rattle.pmd.specs.Started.{AreUp}
 use Rattle.pmd_queue.specs.Both.{both_quiet, receive_polled}
 use Rattle.pmd_queue.specs.Made.{Access, Sees, Sets, AreMade, IsMade}
 use Rattle.pmd_queue.specs.Named.{AtPort}
 use Rattle.pmd_queue.specs.Sides.{polled, ring_words}
+use Rattle.pmd_rx.specs.Receive.{Receive}
+use Rattle.pmd_tx.specs.Sending.{Sender}
+use Rattle.start_laws.specs.On.{AreOn, StepsToOn}
 use Rattle.start_laws.specs.Points.{StepsBefore, StepsBetween}
-use Rattle.start_laws.specs.Start.{OnlySteps}
 
 pub steps_before : (q : AtPort) (old new : List Call) (a : Access) (made : IsMade q old new a)
     → StepsBefore q old new a made
@@ -23,9 +23,9 @@ steps_between q old new [] made = tt
 steps_between q old new (a ∷ rest) made =
     (steps_before q old made.0 a made.1, steps_between q made.0 new rest made.2)
 
-pub only_steps : (q : AtPort) (size : ℕ) (old : List Call) (a : Numbers) (new : List Call) (r : Running)
-    (up : AreUp q size old a new r) → OnlySteps q size old a new r up
-only_steps q size old a new r up = record {
+pub steps_to_on : (q : AtPort) (size : ℕ) (old : List Call) (a : Numbers) (new : List Call) (v : Receive) (t : Sender)
+    (up : AreOn q size old a new v t) → StepsToOn q size old a new v t up
+steps_to_on q size old a new v t up = record {
   quiet = steps_between q old up.receive.mid both_quiet up.receive.quiet;
   receive_words =
       steps_between q up.receive.mid up.receive.prepared.mid (ring_words Rx up.receive.ring size)
@@ -36,6 +36,6 @@ only_steps q size old a new r up = record {
       up.transmit.prepared.words;
   transmit_lent = up.transmit.prepared.lent.2;
   switched =
-      steps_between q up.both_made up.on.mid
-      (receive_polled true up.on.switched.0 ++ polled Tx true up.on.switched.1) up.on.switched.3;
+      steps_between q up.both_made new (receive_polled true up.switched.0 ++ polled Tx true up.switched.1)
+      up.switched.3;
 }

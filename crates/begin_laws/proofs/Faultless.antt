@@ -63,8 +63,8 @@ module _ (w : Watched) (q : AtPort) (fifo : ℕ) (h : List Entry) (along : IsAlo
   preparing_never_fails side size old a new some at (ring, free, inl stops) steps none =
       writes_never_stop w q fifo h along (ring_words side ring size) old new (words_are_writes side ring size) stops
       steps some at
-  preparing_never_fails side size old a new some at (ring, free, inr (mid, made, (back, (before, added)))) steps none =
-      lending_is_done ring mid new before back added (none ring free)
+  preparing_never_fails side size old a new some at (ring, free, inr (mid, made, (back, lent))) steps none =
+      lending_is_done ring mid new lent.0 back lent.1 (none ring free)
 
   prepared_grounded : (side : Dir) (size : ℕ) (old : List Call) (a : Numbers) (new : List Call) (b : Numbers)
       (ring : ℕ) (x : IsPrepared q side size old a new b ring) → StepsPreparing q side size old a new b ring x

@@ -80,7 +80,7 @@ no_fault_is_early w q fifo h size old a new along at (inr (inr x)) steps fresh =
 first_ground : (w : Watched) (q : AtPort) (fifo : ℕ) (h : List Entry) (row : RowId) (on : Bool) (old new : List Call)
     → BeforeNext w fifo h old (IsQuiet w.queue q) → (made : IsMade q old new (Sees row on))
     → StepsBefore q old new (Sees row on) made → BeforeLast w fifo h new (HasGround w.queue q)
-first_ground w q fifo h row on old new at (number, word, named, is, (before, added)) steps =
+first_ground w q fifo h row on old new at (number, word, named, is, (before, added, stepped)) steps =
     subst (λ (calls : List Call). BeforeLast w fifo h calls (HasGround w.queue q)) (sym added)
     (λ done rest e all own calls.
     (at before (call_of (event.Read q.port number) (reply.Word word)) steps refl done rest e all own calls).ground)

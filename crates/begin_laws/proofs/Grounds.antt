@@ -10,9 +10,10 @@ use Rattle.device_lock.specs.declared.alone.Watched.{Watched}
 use Rattle.device_lock.specs.declared.entry.Call.{Call}
 use Rattle.device_lock.specs.declared.entry.Entry.{Entry}
 use Rattle.pmd_base.specs.declared.fault.PmdFault.TheVariants.{DeviceFault}
+use Rattle.pmd_base.specs.Made.{AreSteps}
 use Rattle.pmd_queue.specs.Made.{Access, Sees, Sets, AreMade, IsMade, IsOtherwise, IsStrayRead, IsStrayWrite, StopsBy}
 use Rattle.pmd_queue.specs.Named.{AtPort, is_driven}
-use Rattle.start_laws.specs.Along.{AreSteps, AtCalls, IsAlong}
+use Rattle.start_laws.specs.Along.{AtCalls, IsAlong}
 use Rattle.start_laws.specs.Points.{HasGround, StepsBefore, StepsBetween}
 use Rattle.start_laws.proofs.Along.{calls_lead}
 use Rattle.start_laws.proofs.Lends.{lending}
@@ -64,7 +65,7 @@ module _ (w : Watched) (q : AtPort) (fifo : ℕ) (h : List Entry) (along : IsAlo
 
   pub read_never_stray : (old new : List Call) (row : RowId) → is_driven row ≡ true → NextOnGround old
       → (stray : IsStrayRead q old new row) → AreSteps stray.3.0 → Never w fifo h new
-  read_never_stray old new row driven next (number, word, named, (before, added)) steps =
+  read_never_stray old new row driven next (number, word, named, (before, added, stepped)) steps =
       subst (Never w fifo h) (sym added)
       (next before (call_of (event.Read q.port number) (reply.Stray word)) steps refl
       (λ s g told.
@@ -74,7 +75,7 @@ module _ (w : Watched) (q : AtPort) (fifo : ℕ) (h : List Entry) (along : IsAlo
 
   pub write_never_stray : (old new : List Call) (row : RowId) (word : ℕ) → is_driven row ≡ true → NextOnGround old
       → (stray : IsStrayWrite q old new row word) → AreSteps stray.3.0 → Never w fifo h new
-  write_never_stray old new row word driven next (number, seen, named, (before, added)) steps =
+  write_never_stray old new row word driven next (number, seen, named, (before, added, stepped)) steps =
       subst (Never w fifo h) (sym added)
       (next before (call_of (event.Write q.port number word) (reply.Stray seen)) steps refl
       (λ s g told.

@@ -10,8 +10,9 @@ use Rattle.device_lock.specs.declared.alone.Watched.{Watched}
 use Rattle.device_lock.specs.declared.entry.Call.{Call}
 use Rattle.device_lock.specs.declared.entry.Entry.{Entry}
 use Rattle.pmd_base.specs.Events.{is_step}
+use Rattle.pmd_base.specs.Made.{AreSteps}
 use Rattle.receive_laws.proofs.Delivering.{legal_behind}
-use Rattle.start_laws.specs.Along.{AreSteps, AtCalls, BeforeLast, IsAlong, IsKept}
+use Rattle.start_laws.specs.Along.{AtCalls, BeforeLast, IsAlong, IsKept}
 use Rattle.start_laws.proofs.Along.{calls_lead}
 use Rattle.start_laws.proofs.Parts.{parts, calls_joined, first_own}
 use Rattle.start_laws.proofs.Reached.{reached}

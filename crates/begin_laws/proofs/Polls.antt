@@ -20,9 +20,9 @@ use Rattle.nic_device.specs.declared.event.Reply.TheVariants as reply
 use Rattle.device_lock.specs.Pass.{call_of}
 use Rattle.device_lock.specs.declared.entry.Call.{Call}
 use Rattle.pmd_base.specs.Events.{is_step}
+use Rattle.pmd_base.specs.Made.{AreSteps}
 use Rattle.pmd_queue.specs.Made.{Access, Sees, Sets, AreMade, IsMade}
 use Rattle.pmd_queue.specs.Named.{AtPort, IsNumberOf}
-use Rattle.start_laws.specs.Along.{AreSteps}
 use Rattle.start_laws.specs.Points.{StepsBefore, StepsBetween}
 use Rattle.begin_laws.specs.Polls.{AreEnables, Enables, PollsAreTold, asked_after, is_missed, missed_in, same_port}
 use Rattle.begin_laws.specs.TimedOut.{Asked, AllEnable, IsOfEnable, asked_by, is_miss, misses, none_asked}
@@ -88,7 +88,7 @@ module _ (q : AtPort) (w : Enables) (are : AreEnables q w) where
 
   access_told : (old new : List Call) (a : Access) → IsOfEnable a → (made : IsMade q old new a)
       → StepsBefore q old new a made → Told old new a
-  access_told old new (Sees Rxdctl on) of (number, word, named, is, (before, added)) steps = record {
+  access_told old new (Sees Rxdctl on) of (number, word, named, is, (before, added, stepped)) steps = record {
     before = before;
     steps = steps;
     call = call_of (event.Read q.port number) (reply.Word word);
@@ -96,7 +96,7 @@ module _ (q : AtPort) (w : Enables) (are : AreEnables q w) where
     missed = λ x. rw (here, same Rxdctl number w.receive named are.receive, is) refl;
     asked = λ x. refl;
   }
-  access_told old new (Sees Txdctl on) of (number, word, named, is, (before, added)) steps = record {
+  access_told old new (Sees Txdctl on) of (number, word, named, is, (before, added, stepped)) steps = record {
     before = before;
     steps = steps;
     call = call_of (event.Read q.port number) (reply.Word word);
@@ -104,7 +104,7 @@ module _ (q : AtPort) (w : Enables) (are : AreEnables q w) where
     missed = λ x. rw (here, apart number named, same Txdctl number w.transmit named are.transmit, is) refl;
     asked = λ x. refl;
   }
-  access_told old new (Sets Rxdctl word) of (number, named, (before, added)) steps = record {
+  access_told old new (Sets Rxdctl word) of (number, named, (before, added, stepped)) steps = record {
     before = before;
     steps = steps;
     call = call_of (event.Write q.port number word) reply.Done;
@@ -112,7 +112,7 @@ module _ (q : AtPort) (w : Enables) (are : AreEnables q w) where
     missed = λ x. refl;
     asked = λ x. rw (here, same Rxdctl number w.receive named are.receive) refl;
   }
-  access_told old new (Sets Txdctl word) of (number, named, (before, added)) steps = record {
+  access_told old new (Sets Txdctl word) of (number, named, (before, added, stepped)) steps = record {
     before = before;
     steps = steps;
     call = call_of (event.Write q.port number word) reply.Done;

@@ -79,9 +79,9 @@ module _ (w : Watched) (q : AtPort) (fifo : ℕ) (h : List Entry) (along : IsAlo
   -- the first of them is a read
   first_off : (row : RowId) (on : Bool) (old new : List Call) → (made : IsMade q old new (Sees row on))
       → StepsBefore q old new (Sees row on) made → BeforeNext w fifo h old Off → AtOff new
-  first_off row on old new (number, word, named, is, (before, added)) steps at =
+  first_off row on old new (number, word, named, is, (before, added, stepped)) steps at =
       first_seen w q fifo h Off along off_stays (λ s number x. read_quiet w.queue q s x q.port number) row on old new
-      (number, word, named, is, (before, added))
+      (number, word, named, is, (before, added, stepped))
       (subst (λ (calls : List Call). BeforeLast w fifo h calls Off) (sym added)
       (at before (call_of (event.Read q.port number) (reply.Word word)) steps refl))
 

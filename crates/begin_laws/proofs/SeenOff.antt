@@ -45,7 +45,7 @@ module _ (w : Watched) (q : AtPort) (fifo : ℕ) (h : List Entry) (along : IsAlo
       → IsNumberOf q.port Rxdctl q.queue number ⊎ IsNumberOf q.port Txdctl q.queue number)
       → Next old → (fails : IsOtherwise q old new (Sees row on)) → StepsBeforeOther q old new (Sees row on) fails
       → Never w fifo h new
-  read_never_on row old new on off driven names next (inl (number, word, named, is, (before, added))) steps =
+  read_never_on row old new on off driven names next (inl (number, word, named, is, (before, added, stepped))) steps =
       subst (Never w fifo h) (sym added)
       (next before (call_of (event.Read q.port number) (reply.Word word)) steps refl
       (λ s x told.

@@ -11,6 +11,7 @@ use Rattle.device_lock.specs.declared.entry.Call.{Call}
 use Rattle.device_lock.specs.declared.entry.Entry.{Entry}
 use Rattle.pmd_base.specs.Events.{is_step}
 use Rattle.pmd_base.specs.declared.fault.PmdFault.TheVariants.{DeviceFault}
+use Rattle.pmd_base.specs.Made.{AreSteps}
 use Rattle.pmd_queue.specs.Both.{SwitchFails, both_asked, both_quiet, receive_polled}
 use Rattle.pmd_queue.specs.Made.{Access, Sees, Sets, IsOtherwise, StopsBy}
 use Rattle.pmd_queue.specs.Named.{AtPort}
@@ -18,7 +19,7 @@ use Rattle.pmd_queue.specs.Sides.{PollsEnd, missed, ring_words}
 use Rattle.pmd_rx.specs.Receive.{Receive}
 use Rattle.pmd_tx.specs.Sending.{Sender}
 use Rattle.pmd.specs.Starting.{IsPrepared, IsReceiveReady, IsTransmitReady, PreparingFails, ReceiveFails}
-use Rattle.start_laws.specs.Along.{AreSteps, AtCalls, BeforeLast, IsAlong}
+use Rattle.start_laws.specs.Along.{AtCalls, BeforeLast, IsAlong}
 use Rattle.start_laws.specs.Points.{StepsBetween}
 use Rattle.start_laws.specs.Quieting.{IsQuiet}
 

@@ -1,7 +1,6 @@
 pub mod Apart
 pub mod Each
 pub mod Entries
-pub mod Going
 pub mod InOrder
 pub mod Lending
 pub mod Meeting

@@ -1,4 +1,3 @@
 pub mod Agreeing
-pub mod Going
 pub mod Histories
 pub mod Waiting

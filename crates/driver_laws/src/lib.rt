@@ -5,26 +5,18 @@
 //! what a history is that leaves the driver's queue alone.
 #![tactic(auto)]
 
-ghost use Rattle.driver_laws.specs.Going.{ReceivingGoesOn, SendingGoesOn, OthersGoOn, HalvesGoOn};
 ghost use Rattle.pmd.specs.Halves.{ReceivingDrives, SendingDrives, OthersDrive, DrivesOn};
 ghost use Rattle.driver_laws.specs.Histories.{HandedIsPrefix, NoneIsAll, SentIsPrefix, IdleIsAllSent, CountedWhereUp, StepsLeaveAlone};
 ghost use Rattle.driver_laws.specs.Waiting.{WaitingIsNotAll};
 
-/// The calls of one half lead both on, where the other half stays as it was; calls that are neither's leave both; and
-/// calls lead on, one after another. So the halves follow from whatever calls of a driver that runs were made.
+/// The calls of one half lead both on, where the other half stays as it was; steps of the device leave both; and calls
+/// lead on, one after another. So the halves follow from whatever calls of a driver that runs were made, and each call
+/// that is neither half's is such a step.
 pub fn calls_lead_both_halves()
     ensures receiving { ReceivingDrives }
     ensures sending { SendingDrives }
     ensures others { OthersDrive }
     ensures on { DrivesOn }
-{}
-
-/// So they do beside steps of the device, where each call that is neither half's is such a step.
-pub fn calls_lead_on_beside_steps()
-    ensures receiving { ReceivingGoesOn }
-    ensures sending { SendingGoesOn }
-    ensures others { OthersGoOn }
-    ensures on { HalvesGoOn }
 {}
 
 /// Over a history of a new device that leaves the driver's queue alone, from a place on where the device agrees with

@@ -58,7 +58,7 @@ module _ (w : Watched) (fifo : ℕ) (start rest more : List Entry) (h : Halves) 
 
 pub no_receive_fault : NoReceiveFault
 no_receive_fault w fifo start rest more h doers own old new k
-    (mid, e, r, (marks, since, played, all, is), mine, (before, adds), sick) did made x =
+    (mid, e, r, (marks, since, played, all, is, others), mine, (before, adds, steps), sick) did made x =
     let there = played_by h doers (calls_of w.pass rest) in
     both_ways (receiving.is_healthy e r) sick
     (last_is w fifo start rest more h doers (doers_marked marks) own old new since before Receives (call_of e r) did

@@ -1,10 +1,12 @@
 -- Both halves follow from the calls that were made.
-use Rattle.std.proofs.Common.{◌≡◌, Bool, true, false, List, [], ◌∷◌, ◌++◌, refl, sym, ap, ◌∙◌, subst, append_assoc}
+use Rattle.std.proofs.Common.{◌≡◌, suc, Bool, true, false, not, List, [], ◌∷◌, ◌++◌, length, refl, sym, ap, ◌∙◌, subst, append_assoc}
+use Rattle.std.specs.Prelude.{IsTrue}
 use Rattle.device_lock.specs.declared.entry.Call.{Call}
+use Rattle.pmd_base.proofs.Steps.{steps_as, steps_both, steps_marked}
 use Rattle.pmd_rx.specs.Plays as receive
 use Rattle.pmd_tx.specs.Plays as transmit
-use Rattle.pmd_tx.specs.Sending.{Move}
-use Rattle.pmd.specs.Halves.{Halves, Doer, Receives, Sends, AllOwn, after_call, doers_marked, doers_moved, doers_other, played_by, ReceivingDrives, SendingDrives, OthersDrive, DrivesOn}
+use Rattle.pmd_tx.specs.Sending.{Move, Elsewhere}
+use Rattle.pmd.specs.Halves.{Halves, Doer, Receives, Sends, AllOwn, after_call, doer_marked, doers_marked, doers_moved, doers_other, is_neither, played_by, OthersStep, ReceivingDrives, SendingDrives, OthersDrive, DrivesOn}
 
 -- the calls of one half
 
@@ -24,13 +26,22 @@ receives_played h (m ∷ marks) [] = refl
 receives_played h (true ∷ marks) (n ∷ calls) = receives_played (after_call h Receives n) marks calls
 receives_played h (false ∷ marks) (n ∷ calls) = receives_played h marks calls
 
+neither_marked : (mark : Bool) → IsTrue (is_neither (doer_marked mark)) → IsTrue (not mark)
+neither_marked true is = is
+neither_marked false is = is
+
+pub receives_step : (marks : List Bool) (calls : List Call) → receive.OthersStep marks calls
+    → OthersStep (doers_marked marks) calls
+receives_step marks calls steps = steps_as not is_neither doer_marked marks calls neither_marked steps
+
 unfoldable pub receiving_drives : ReceivingDrives
-receiving_drives old new h k (marks, since, made, own, is) same = (
+receiving_drives old new h k (marks, since, made, own, is, steps) same = (
   doers_marked marks,
   since,
   made,
   receives_own h marks since own,
   (λ i. record { receive = is i; transmit = same i }) ∙ sym (receives_played h marks since),
+  receives_step marks since steps,
 )
 
 pub sends_own : (h : Halves) (moves : List Move) (calls : List Call) → transmit.AllOwn h.transmit moves calls
@@ -46,13 +57,18 @@ sends_played h [] calls = refl
 sends_played h (m ∷ moves) [] = refl
 sends_played h (m ∷ moves) (n ∷ calls) = sends_played (after_call h (Sends m) n) moves calls
 
+pub sends_step : (moves : List Move) (calls : List Call) → transmit.OthersStep moves calls
+    → OthersStep (doers_moved moves) calls
+sends_step moves calls steps = steps_as transmit.is_elsewhere is_neither Sends moves calls (λ m is. is) steps
+
 unfoldable pub sending_drives : SendingDrives
-sending_drives old new h k (moves, since, made, own, is) same = (
+sending_drives old new h k (moves, since, made, own, is, steps) same = (
   doers_moved moves,
   since,
   made,
   sends_own h moves since own,
   (λ i. record { receive = same i; transmit = is i }) ∙ sym (sends_played h moves since),
+  sends_step moves since steps,
 )
 
 -- calls that are neither's
@@ -66,7 +82,14 @@ others_played h [] = refl
 others_played h (n ∷ calls) = others_played h calls
 
 unfoldable pub others_drive : OthersDrive
-others_drive old new h (since, made) = (doers_other since, since, made, others_own h since, others_played h since)
+others_drive old new h (since, made, steps) = (
+  doers_other since,
+  since,
+  made,
+  others_own h since,
+  others_played h since,
+  steps_marked is_neither (Sends Elsewhere) since steps,
+)
 
 -- one after another
 
@@ -84,12 +107,19 @@ both_played h [] es (m ∷ ms) ns own = absurd own
 both_played h (d ∷ ds) es [] ns own = absurd own
 both_played h (d ∷ ds) es (m ∷ ms) ns own = both_played (after_call h d m) ds es ms ns own.1
 
+pub own_length : (h : Halves) (ds : List Doer) (ms : List Call) → AllOwn h ds ms → length ds ≡ length ms
+own_length h [] [] own = refl
+own_length h [] (m ∷ ms) own = absurd own
+own_length h (d ∷ ds) [] own = absurd own
+own_length h (d ∷ ds) (m ∷ ms) own = ap suc (own_length (after_call h d m) ds ms own.1)
+
 unfoldable pub drives_on : DrivesOn
-drives_on old mid new h j k (ds, ms, made, own, is) (es, ns, more, then, was) =
+drives_on old mid new h j k (ds, ms, made, own, is, steps) (es, ns, more, then, was, others) =
     let here : AllOwn (played_by h ds ms) es ns = subst (λ x. AllOwn x es ns) is then in (
       ds ++ es,
       ms ++ ns,
       more ∙ ap (λ (calls : List Call). calls ++ ns) made ∙ append_assoc old ms ns,
       both_own h ds es ms ns own here,
       was ∙ ap (λ x. played_by x es ns) is ∙ sym (both_played h ds es ms ns own),
+      steps_both is_neither ds es ms ns (own_length h ds ms own) steps others,
     )

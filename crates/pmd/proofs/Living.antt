@@ -14,8 +14,8 @@ use Rattle.pmd.specs.declared.start.Rest.{Rest}
 use Rattle.pmd.proofs.Calls.{drives_on}
 
 -- without any call
-drives_none : (made : List Call) (h : Halves) → Drives made h made h
-drives_none made h = ([], [], sym (append-nil made), tt, refl)
+pub drives_none : (made : List Call) (h : Halves) → Drives made h made h
+drives_none made h = ([], [], sym (append-nil made), tt, refl, tt)
 
 pub runs_still : (made : List Call) (rings : Rings) → RunsOn made rings made rings
 runs_still made (Up r) = drives_none made (halves_of r)

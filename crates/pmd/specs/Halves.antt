@@ -1,8 +1,7 @@
 -- A driver whose two halves, one that receives and one that sends, make calls through one pass.
-use Rattle.std.specs.Prelude.{◌≡◌, Bool, true, false, IsTrue, List, [], ◌∷◌, ◌++◌, map, ⊤}
+use Rattle.std.specs.Prelude.{◌≡◌, Bool, true, false, List, [], ◌∷◌, ◌++◌, map, ⊤}
 use Rattle.device_lock.specs.declared.entry.Call.{Call}
-use Rattle.pmd_base.specs.Events.{is_step}
-use Rattle.pmd_base.specs.Made.{AddsSome}
+use Rattle.pmd_base.specs.Made.{AddsSome, StepsWhere}
 use Rattle.pmd_rx.specs.Plays as receive
 use Rattle.pmd_rx.specs.Receive as receiving
 use Rattle.pmd_rx.specs.Receive.{Receive}
@@ -46,11 +45,21 @@ AllOwn h [] (n ∷ calls) = ⊥
 AllOwn h (d ∷ doers) [] = ⊥
 AllOwn h (d ∷ doers) (n ∷ calls) = OwnCall h d n × AllOwn (after_call h d n) doers calls
 
--- some calls were made, which lead the halves from one state to another
+-- whether a call is neither half's
+abbrev pub is_neither : Doer → Bool
+is_neither Receives = false
+is_neither (Sends m) = transmit.is_elsewhere m
+
+-- the calls that are neither half's are steps of the device. Those behind the last doer are neither's
+abbrev pub OthersStep : List Doer → List Call → Type 0
+OthersStep doers calls = StepsWhere is_neither doers calls
+
+-- some calls were made, which lead the halves from one state to another. Those that are neither half's are steps of the
+-- device
 abbrev pub Drives : List Call → Halves → List Call → Halves → Type 0
 Drives old h new k =
     (doers : List Doer) × (since : List Call) × (new ≡ old ++ since) × AllOwn h doers since
-    × (k ≡ played_by h doers since)
+    × (k ≡ played_by h doers since) × OthersStep doers since
 
 -- whose the calls are, where only the receive half made some, where only the transmit half did, and where neither did
 
@@ -66,19 +75,6 @@ doers_moved moves = map Sends moves
 
 abbrev pub doers_other : List Call → List Doer
 doers_other calls = map (λ (n : Call). Sends Elsewhere) calls
-
--- the calls that are neither half's are steps of the device, as the ways to a device make them. Those behind the last
--- doer are neither's
-
-abbrev pub is_neither : Doer → Bool
-is_neither (Sends Elsewhere) = true
-is_neither other = false
-
-abbrev pub OthersStep : List Doer → List Call → Type 0
-OthersStep [] [] = ⊤
-OthersStep [] (n ∷ calls) = IsTrue (is_step n.event) × OthersStep [] calls
-OthersStep (d ∷ doers) [] = ⊤
-OthersStep (d ∷ doers) (n ∷ calls) = (IsTrue (is_neither d) → IsTrue (is_step n.event)) × OthersStep doers calls
 
 -- where one half's calls were made, and the other stayed, the halves are driven; calls that are neither's leave both;
 -- and so calls lead on, one after another

@@ -5,3 +5,4 @@ pub mod Outside
 pub mod Places
 pub mod Sequences
 pub mod Stepping
+pub mod Steps

@@ -3,8 +3,7 @@ use Rattle.std.proofs.Common.{◌≡◌, ℕ, zero, suc, ◌+◌, ◌-◌, ◌�
 use Rattle.std.proofs.lemmas.List.{append-nil, take_more, take-append-drop}
 use Rattle.device_lock.specs.declared.entry.Call.{Call}
 use Rattle.reg_table.specs.declared.rows.RowId.{RowId}
-use Rattle.pmd_base.specs.Made.{AddsSome}
-use Rattle.pmd_base.specs.Setup.{AreSet, StopsSetting, packed, setting, word_in}
+use Rattle.pmd_base.specs.Setup.{AddsAny, AreSet, StopsSetting, packed, setting, word_in}
 use Rattle.pmd_base.specs.declared.setup.Setting.{Setting}
 
 pub none_set : (old : List Call) → AreSet old old []
@@ -33,7 +32,7 @@ stops_second old mid new ss ts before (done, rest, last, is, set, some) = (
 )
 
 -- the writing stops before the next setting
-pub stops_here : (old mid new : List Call) (ss rest all : List Setting) → AreSet old mid ss → AddsSome mid new
+pub stops_here : (old mid new : List Call) (ss rest all : List Setting) → AreSet old mid ss → AddsAny mid new
     → all ≡ ss ++ rest → StopsSetting old new all
 stops_here old mid new ss rest all before some is = (ss, rest, mid, is, before, some)
 
@@ -57,7 +56,7 @@ set_next old mid new all i d before one below =
     subst (λ (l : List Setting). AreSet old new l) (sym (take_more all i d below))
     (set_both old mid new (take i all) (get_or all i d ∷ []) before one)
 
-pub set_stops : (old mid new : List Call) (all : List Setting) (i : ℕ) → AreSet old mid (take i all) → AddsSome mid new
+pub set_stops : (old mid new : List Call) (all : List Setting) (i : ℕ) → AreSet old mid (take i all) → AddsAny mid new
     → StopsSetting old new all
 set_stops old mid new all i before some =
     stops_here old mid new (take i all) (drop i all) all before some (sym (take-append-drop i all))
@@ -73,7 +72,7 @@ packed_next old mid new row bytes index word before one is =
     (subst (λ (w : ℕ). AreSet mid new (setting row index w ∷ [])) is one))
 
 pub packed_stops : (old mid new : List Call) (row : RowId) (bytes : List ℕ) (index count : ℕ) → index ≤ count
-    → AreSet old mid (packed row bytes index) → AddsSome mid new → StopsSetting old new (packed row bytes count)
+    → AreSet old mid (packed row bytes index) → AddsAny mid new → StopsSetting old new (packed row bytes count)
 packed_stops old mid new row bytes index count within before some =
     let sum : index + (count - index) ≡ count = omega arith in
     let rest = packed_rest row bytes index (count - index) in

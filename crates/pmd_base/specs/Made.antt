@@ -1,5 +1,5 @@
 -- What a call through a way to a device adds to what was made.
-use Rattle.std.specs.Prelude.{◌≡◌, ℕ, List, [], ◌∷◌, ◌++◌, take}
+use Rattle.std.specs.Prelude.{◌≡◌, ℕ, Bool, IsTrue, ⊤, List, [], ◌∷◌, ◌++◌, take}
 use Rattle.dma_arena.specs.Block.{Block}
 use Rattle.nic_device.specs.State.{State}
 use Rattle.nic_device.specs.Step.{step_of}
@@ -9,14 +9,29 @@ use Rattle.nic_device.specs.declared.event.Reply.{Reply}
 use Rattle.register_file.specs.declared.dir.Dir.TheVariants as dir
 use Rattle.device_lock.specs.declared.entry.Call.{Call}
 use Rattle.device_lock.specs.Pass.{call_of}
+use Rattle.pmd_base.specs.Events.{is_step}
 
--- some calls were made, and then this one
+-- each of these calls is a step of the device
+abbrev pub AreSteps : List Call → Type 0
+AreSteps [] = ⊤
+AreSteps (c ∷ calls) = IsTrue (is_step c.event) × AreSteps calls
+
+-- some steps of the device were made, and then this call
 abbrev pub Adds : List Call → List Call → Event Block → Reply Block → Type 0
-Adds old new event reply = (before : List Call) × (new ≡ old ++ (before ++ call_of event reply ∷ []))
+Adds old new event reply =
+    (before : List Call) × (new ≡ old ++ (before ++ call_of event reply ∷ [])) × AreSteps before
 
--- some calls were made
+-- some steps of the device were made
 abbrev pub AddsSome : List Call → List Call → Type 0
-AddsSome old new = (before : List Call) × (new ≡ old ++ before)
+AddsSome old new = (before : List Call) × (new ≡ old ++ before) × AreSteps before
+
+-- of calls that are marked in turn, those whose mark is of another than the driver are steps of the device, and so are
+-- those behind the last mark
+abbrev pub StepsWhere : {D : Type 0} → (D → Bool) → List D → List Call → Type 0
+StepsWhere other [] calls = AreSteps calls
+StepsWhere other (d ∷ marks) [] = ⊤
+StepsWhere other (d ∷ marks) (c ∷ calls) =
+    (IsTrue (other d) → IsTrue (is_step c.event)) × StepsWhere other marks calls
 
 -- a device in hand: the queue that it is stepped on, and the calls that were made
 pub record InHand : Type 0 where

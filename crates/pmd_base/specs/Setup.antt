@@ -14,7 +14,7 @@ use Rattle.register_file.specs.Columns.{place}
 use Rattle.vf_map.specs.declared.mode.Mode.{Mode}
 use Rattle.vf_map.specs.declared.mode.Mode.TheVariants.{Off, Pools16, Pools32, Pools64}
 use Rattle.device_lock.specs.declared.entry.Call.{Call}
-use Rattle.pmd_base.specs.Made.{Adds, AddsSome}
+use Rattle.pmd_base.specs.Made.{Adds}
 use Rattle.pmd_base.specs.declared.setup.Setting.{Setting}
 use Rattle.pmd_base.specs.declared.setup.Setup.{Setup}
 
@@ -38,11 +38,15 @@ abbrev pub AreSet : List Call → List Call → List Setting → Type 0
 AreSet old new [] = new ≡ old
 AreSet old new (s ∷ ss) = (mid : List Call) × IsSet old mid s × AreSet mid new ss
 
+-- some calls were made, whatever they are
+abbrev pub AddsAny : List Call → List Call → Type 0
+AddsAny old new = (more : List Call) × (new ≡ old ++ more)
+
 -- some of the registers were written, from the first on, and perhaps other calls were made
 abbrev pub StopsSetting : List Call → List Call → List Setting → Type 0
 StopsSetting old new ss =
     (done : List Setting) × (rest : List Setting) × (mid : List Call)
-    × (ss ≡ done ++ rest) × AreSet old mid done × AddsSome mid new
+    × (ss ≡ done ++ rest) × AreSet old mid done × AddsAny mid new
 
 abbrev pub setting : RowId → ℕ → ℕ → Setting
 setting row index word = record { place = place row index; word = word }

@@ -8,15 +8,17 @@ use device_lock::CallFault;
 use nic_device::{Event, Reply};
 use std::alloc::Global;
 
-/// A way to a device. A call makes some events of others, and then this one.
+/// A way to a device. A call makes some steps of the device, and then this event; others may make events of their own
+/// between them, which aren't calls of this way.
 pub trait Nic {
-    /// What it made, with the replies, the oldest first.
+    /// The calls that were made through it, with the replies, the oldest first.
     ghost made: { Self → List Call };
 
     /// Whose calls they are: the number of a bench, and a tag.
     ghost who: { Self → ℕ × ℕ };
 
-    /// Makes one event, after some of others. A refused event comes back, and isn't made; some of the others may be.
+    /// Makes one event, after some steps of the device. A refused event comes back, and isn't made; some of the steps
+    /// may be.
     fn call(&mut self, alloc: Global, event: Event) -> Result<Reply, CallFault>
         ensures made { IfOk result (λ reply. Adds (made self.old) (made self.new) event reply) }
         ensures who { who self.new ≡ who self.old }

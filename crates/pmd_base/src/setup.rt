@@ -2,8 +2,7 @@
 
 ghost use Rattle.std.specs.Prelude.{◌≡◌, ◌+◌, ◌*◌, ◌/◌, ◌<◌, ◌≤◌, [], ◌∷◌, All, length, OnOk, OnErr};
 ghost use Rattle.reg_table.specs.Rows.{row_of};
-ghost use Rattle.pmd_base.specs.Made.{AddsSome};
-ghost use Rattle.pmd_base.specs.Setup.{AreSet, StopsSetting, IsAddressOf, IsInRow, mode_word, pools_word, pool_settings, opening, setting, word_in, packed, settings_of};
+ghost use Rattle.pmd_base.specs.Setup.{AddsAny, AreSet, StopsSetting, IsAddressOf, IsInRow, mode_word, pools_word, pool_settings, opening, setting, word_in, packed, settings_of};
 
 use crate::accesses::write;
 use crate::fault::PmdFault;
@@ -90,7 +89,7 @@ pub fn set<N: Nic>(alloc: Global, nic: &mut N, setting: Setting) -> Result<(), P
     requires { IsInRow setting.place }
     ensures set { OnOk result (AreSet (N.made nic.old) (N.made nic.new) (setting ∷ [])) }
     ensures who { N.who nic.new ≡ N.who nic.old }
-    ensures failed { OnErr result (AddsSome (N.made nic.old) (N.made nic.new)) }
+    ensures failed { OnErr result (AddsAny (N.made nic.old) (N.made nic.new)) }
 {
     let address = address_of(setting.place);
     match write(alloc, nic, Port::Pf, address, setting.word) {

@@ -1,8 +1,7 @@
 -- Foreign events that are made in order, and then a call's own.
-use Rattle.std.proofs.Common.{◌≡◌, ◌<◌, List, [], ◌∷◌, ◌++◌, length, refl, sym, ap, subst, ◌∙◌, append_assoc, lt_irrefl, Result, Ok, Err, IfOk, IfErr, OnOk, OnErr}
+use Rattle.std.proofs.Common.{◌≡◌, ◌<◌, Bool, true, false, List, [], ◌∷◌, ◌++◌, length, refl, sym, ap, subst, ◌∙◌, append_assoc, lt_irrefl, arith, Result, Ok, Err, IfOk, IfErr, OnErr}
 use Rattle.std.proofs.lemmas.List.{append-nil}
 use Rattle.dma_arena.specs.Block.{Block}
-use Rattle.nic_device.specs.Step.{step_of}
 use Rattle.nic_device.specs.declared.event.Event.{Event}
 use Rattle.nic_device.specs.declared.event.Reply.{Reply}
 use Rattle.device_lock.specs.Fault.{event_of}
@@ -11,7 +10,7 @@ use Rattle.device_lock.specs.declared.fault.CallFault.{CallFault}
 use Rattle.device_lock.specs.declared.fault.CallFault.TheVariants.{OutOfMemory}
 use Rattle.device_lock.specs.Pass.{call_of}
 use Rattle.pmd_base.specs.Made.{Adds, AddsSome}
-use Rattle.pmd_interleaved.specs.Scheduled.{Handled, Scheduled, after_own, after_foreign, after_list, next_list, later_lists, with_list_made, IsMadeTo, StopsInList}
+use Rattle.pmd_interleaved.specs.Scheduled.{Handled, Scheduled, after_foreign, after_list, made_of, next_list, later_lists, own_calls, IsMadeTo, StopsInList}
 
 -- one list after another
 after_both : (h : Handled) (xs ys : List (Event Block)) → after_list h (xs ++ ys) ≡ after_list (after_list h xs) ys
@@ -32,18 +31,46 @@ pub all_made : (old new : Handled) (all : List (Event Block)) → IsMadeTo old a
 all_made old new all (done, split, made) =
     made ∙ ap (λ (l : List (Event Block)). after_list old l) (sym (split ∙ append-nil done))
 
--- foreign events add their calls
-list_adds : (es : List (Event Block)) (old : Handled) → AddsSome old.calls (after_list old es).calls
-list_adds [] old = ([], sym (append-nil old.calls))
-list_adds (e ∷ es) old =
-    let rest = list_adds es (after_foreign old e) in
-    let one : List Call = call_of e (step_of old.device e).reply ∷ [] in
-    (one ++ rest.0, rest.1 ∙ append_assoc old.calls one rest.0)
+-- a call more, own or foreign
 
-made_adds : (old new : Handled) (all rest : List (Event Block)) → IsMadeTo old all new rest
-    → AddsSome old.calls new.calls
-made_adds old new all rest (done, split, made) =
-    let some = list_adds done old in (some.0, ap (λ (h : Handled). h.calls) made ∙ some.1)
+pub own_more : (calls : List Call) (own : List Bool) (c : Call) → length own ≡ length calls
+    → own_calls (calls ++ c ∷ []) (own ++ true ∷ []) ≡ own_calls calls own ++ c ∷ []
+own_more [] [] c long = refl
+own_more [] (b ∷ own) c long = absurd (omega (arith, long))
+own_more (x ∷ calls) [] c long = absurd (omega (arith, long))
+own_more (x ∷ calls) (true ∷ own) c long = ap (λ (l : List Call). x ∷ l) (own_more calls own c (omega (arith, long)))
+own_more (x ∷ calls) (false ∷ own) c long = own_more calls own c (omega (arith, long))
+
+pub own_same : (calls : List Call) (own : List Bool) (c : Call) → length own ≡ length calls
+    → own_calls (calls ++ c ∷ []) (own ++ false ∷ []) ≡ own_calls calls own
+own_same [] [] c long = refl
+own_same [] (b ∷ own) c long = absurd (omega (arith, long))
+own_same (x ∷ calls) [] c long = absurd (omega (arith, long))
+own_same (x ∷ calls) (true ∷ own) c long = ap (λ (l : List Call). x ∷ l) (own_same calls own c (omega (arith, long)))
+own_same (x ∷ calls) (false ∷ own) c long = own_same calls own c (omega (arith, long))
+
+-- and so of what was made, told by the parts
+
+pub made_more : (was now : Handled) (calls : List Call) (own kept : List Bool) (told c : Call)
+    → length was.own ≡ length was.calls → was ≡ now → calls ≡ was.calls ++ told ∷ [] → told ≡ c → kept ≡ was.own
+    → own ≡ kept ++ true ∷ [] → own_calls calls own ≡ made_of now ++ c ∷ []
+made_more was now calls own kept told c long is added same reserved marked =
+    ap (λ (l : List Call). own_calls l own) added
+    ∙ ap (λ (l : List Bool). own_calls (was.calls ++ told ∷ []) l)
+    (marked ∙ ap (λ (l : List Bool). l ++ true ∷ []) reserved)
+    ∙ own_more was.calls was.own told long
+    ∙ ap (λ (x : Call). made_of was ++ x ∷ []) same
+    ∙ ap (λ (h : Handled). made_of h ++ c ∷ []) is
+
+pub made_still : (was now : Handled) (calls : List Call) (own kept : List Bool) (told : Call)
+    → length was.own ≡ length was.calls → was ≡ now → calls ≡ was.calls ++ told ∷ [] → kept ≡ was.own
+    → own ≡ kept ++ false ∷ [] → own_calls calls own ≡ made_of now
+made_still was now calls own kept told long is added reserved marked =
+    ap (λ (l : List Call). own_calls l own) added
+    ∙ ap (λ (l : List Bool). own_calls (was.calls ++ told ∷ []) l)
+    (marked ∙ ap (λ (l : List Bool). l ++ false ∷ []) reserved)
+    ∙ own_same was.calls was.own told long
+    ∙ ap (λ (h : Handled). made_of h) is
 
 -- a list stops with an event that is refused
 pub stops_in_list : (old new : Scheduled) (own : Handled) (list whole rest : List (Event Block))
@@ -59,35 +86,22 @@ stops_in_list old new own list whole (e ∷ rest) behind same next all first som
       (all ∙ ap (λ (ls : List (List (Event Block))). next_list ls) (sym next)) made),
 )
 
-pub stop_adds : (old new : Scheduled) → StopsInList old new → AddsSome old.handled.calls new.handled.calls
-stop_adds old new (refused, rest, first, made) =
-    made_adds old.handled new.handled (next_list old.lists) (refused ∷ rest) made
+-- the call's own event is made behind the foreign ones, or refused
 
--- once a list was made, the call's own event is made too, or refused
-list_made : (old mid : Scheduled) → mid ≡ with_list_made old → AddsSome old.handled.calls mid.handled.calls
-list_made old mid all =
-    let some = list_adds (next_list old.lists) old.handled in
-    (some.0, ap (λ (s : Scheduled). s.handled.calls) all ∙ some.1)
+pub own_adds : (e : Event Block) (r : Result (Reply Block) (CallFault (Event Block))) (old mid new : Handled)
+    → made_of mid ≡ made_of old → IfOk r (λ x. made_of new ≡ made_of mid ++ call_of e x ∷ [])
+    → IfOk r (λ x. Adds (made_of old) (made_of new) e x)
+own_adds e (Ok x) old mid new none own = ([], own ∙ ap (λ (l : List Call). l ++ call_of e x ∷ []) none, tt)
+own_adds e (Err f) old mid new none own = tt
 
-pub own_adds : (e : Event Block) (r : Result (Reply Block) (CallFault (Event Block))) (old mid : Scheduled)
-    (own new : Handled) → mid ≡ with_list_made old → own ≡ mid.handled → OnOk r (new ≡ after_own own e)
-    → IfOk r (λ x. x ≡ (step_of own.device e).reply) → IfOk r (λ x. Adds old.handled.calls new.calls e x)
-own_adds e (Ok x) old mid own new all same is reply =
-    let some = list_made old mid all in
-    let one : Reply Block → List Call = λ y. call_of e y ∷ [] in (
-      some.0,
-      ap (λ (h : Handled). h.calls) is ∙ ap (λ (y : Reply Block). own.calls ++ one y) (sym reply)
-          ∙ ap (λ (h : Handled). h.calls ++ one x) same ∙ ap (λ (l : List Call). l ++ one x) some.1
-          ∙ append_assoc old.handled.calls some.0 (one x),
-    )
-own_adds e (Err f) old mid own new all same is reply = tt
+pub none_added : (old new : Handled) → made_of new ≡ made_of old → AddsSome (made_of old) (made_of new)
+none_added old new same = ([], same ∙ sym (append-nil (made_of old)), tt)
 
-pub own_refused : (e : Event Block) (r : Result (Reply Block) (CallFault (Event Block))) (old mid : Scheduled)
-    (own new : Handled) → mid ≡ with_list_made old → own ≡ mid.handled → IfErr r (λ f. f ≡ OutOfMemory e)
-    → OnErr r (new ≡ own) → IfErr r (λ f. (event_of f ≡ e) × AddsSome old.handled.calls new.calls)
-own_refused e (Ok x) old mid own new all same back is = tt
-own_refused e (Err f) old mid own new all same back is =
-    let some = list_made old mid all in (
-      ap (λ (g : CallFault (Event Block)). event_of g) back,
-      (some.0, ap (λ (h : Handled). h.calls) (is ∙ same) ∙ some.1),
-    )
+pub own_refused : (e : Event Block) (r : Result (Reply Block) (CallFault (Event Block))) (old mid new : Handled)
+    → made_of mid ≡ made_of old → IfErr r (λ f. f ≡ OutOfMemory e) → OnErr r (new ≡ mid)
+    → IfErr r (λ f. (event_of f ≡ e) × AddsSome (made_of old) (made_of new))
+own_refused e (Ok x) old mid new none back is = tt
+own_refused e (Err f) old mid new none back is = (
+  ap (λ (g : CallFault (Event Block)). event_of g) back,
+  none_added old new (ap (λ (h : Handled). made_of h) is ∙ none),
+)

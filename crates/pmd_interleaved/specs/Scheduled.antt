@@ -1,5 +1,5 @@
 -- A device in hand, and lists of foreign events, the next of which is made before each call.
-use Rattle.std.specs.Prelude.{◌≡◌, ◌⊎◌, List, [], ◌∷◌, ◌++◌}
+use Rattle.std.specs.Prelude.{◌≡◌, ◌⊎◌, Bool, true, false, List, [], ◌∷◌, ◌++◌}
 use Rattle.dma_arena.specs.Block.{Block}
 use Rattle.nic_device.specs.State.{State}
 use Rattle.nic_device.specs.Step.{step_of}
@@ -8,17 +8,29 @@ use Rattle.nic_device.specs.declared.event.Reply.{Reply}
 use Rattle.device_lock.specs.declared.entry.Call.{Call}
 use Rattle.device_lock.specs.Pass.{call_of}
 
--- a device, the calls that were made of it, and the replies to the foreign ones
+-- a device, the calls that were made of it, for each of them whether it is own, and the replies to the foreign ones
 pub record Handled : Type 0 where
   pub device : State
   pub calls : List Call
+  pub own : List Bool
   pub foreign : List (Reply Block)
+
+-- the own calls among these
+abbrev pub own_calls : List Call → List Bool → List Call
+own_calls [] own = []
+own_calls (c ∷ calls) [] = []
+own_calls (c ∷ calls) (true ∷ own) = c ∷ own_calls calls own
+own_calls (c ∷ calls) (false ∷ own) = own_calls calls own
+
+abbrev pub made_of : Handled → List Call
+made_of h = own_calls h.calls h.own
 
 -- after a call's own event
 abbrev pub after_own : Handled → Event Block → Handled
 after_own h e = record h {
   device = (step_of h.device e).state;
   calls = h.calls ++ call_of e (step_of h.device e).reply ∷ [];
+  own = h.own ++ true ∷ [];
 }
 
 -- after a foreign event, whose reply is kept
@@ -26,6 +38,7 @@ abbrev pub after_foreign : Handled → Event Block → Handled
 after_foreign h e = record {
   device = (step_of h.device e).state;
   calls = h.calls ++ call_of e (step_of h.device e).reply ∷ [];
+  own = h.own ++ false ∷ [];
   foreign = h.foreign ++ (step_of h.device e).reply ∷ [];
 }
 

@@ -1,11 +1,11 @@
 //! The way to a device among foreign events.
 
-ghost use Rattle.std.specs.Prelude.{◌≡◌, [], map, true, IfOk, IfErr, OnOk, OnErr};
+ghost use Rattle.std.specs.Prelude.{◌≡◌, [], length, map, true, IfOk, IfErr, OnOk, OnErr};
 ghost use Rattle.device_lock.specs.Fault.{event_of};
 ghost use Rattle.nic_device.specs.Answering.{may_answer};
 ghost use Rattle.nic_device.specs.Step.{step_of};
 ghost use Rattle.pmd_base.specs.Made.{Adds, AddsSome};
-ghost use Rattle.pmd_interleaved.specs.Scheduled.{StopsInList, StopsCall, after_call, after_list, next_list, with_list_made};
+ghost use Rattle.pmd_interleaved.specs.Scheduled.{StopsInList, StopsCall, after_call, after_list, made_of, next_list, with_list_made};
 
 use crate::handled::Handled;
 use device_lock::{Call, CallFault};
@@ -51,13 +51,14 @@ impl Interleaved {
     /// A device, and the lists of foreign events: the first list is made before the first call. Nothing was made yet.
     pub fn new(alloc: Global, device: Device, schedule: Vec<Vec<Event>>) -> Interleaved
         ensures { result ≡ record {
-          handled = record { device = device; calls = []; foreign = [] };
+          handled = record { device = device; calls = []; own = []; foreign = [] };
           lists = map (λ list. list.items) schedule.items;
         } }
     {
         let handled = Handled {
             device,
             calls: Vec::new(alloc),
+            own: Vec::new(alloc),
             foreign: Vec::new(alloc),
         };
         Interleaved {
@@ -73,6 +74,14 @@ impl Interleaved {
         self.handled.calls.as_slice()
     }
 
+    /// For each of these calls, in turn, whether it is own: made by `Nic::call` for its caller, and not foreign.
+    pub fn own(&self) -> &[bool]
+        ensures own { result.now ≡ self.now.handled.own }
+        ensures each { length result.now ≡ length self.now.handled.calls }
+    {
+        self.handled.own()
+    }
+
     /// All that it holds: the device, the calls, the foreign replies and the lists that weren't made.
     pub fn finish(self) -> Finished
         ensures device { result.device ≡ self.handled.device }
@@ -84,6 +93,7 @@ impl Interleaved {
         let Handled {
             device,
             calls,
+            own: _,
             foreign,
         } = handled;
         Finished {
@@ -97,6 +107,7 @@ impl Interleaved {
     /// Makes the next list. A refused event of it stays first in line, and those behind it.
     fn make_next_list(&mut self, alloc: Global) -> Result<(), OutOfMemory<()>>
         ensures made { OnOk result (self.new ≡ with_list_made self.old) }
+        ensures none { made_of self.new.handled ≡ made_of self.old.handled }
         ensures stopped { OnErr result (StopsInList self.old self.new) }
     {
         let Some(list) = self.schedule.pop_front() else {
@@ -117,7 +128,7 @@ impl Interleaved {
 }
 
 impl Nic for Interleaved {
-    ghost made = { λ i. i.handled.calls };
+    ghost made = { λ i. made_of i.handled };
 
     ghost who = { λ i. (0, 0) };
 
@@ -127,10 +138,10 @@ impl Nic for Interleaved {
     /// isn't. A refused foreign event stays first in line with those behind it, so that the next call makes them. A
     /// list that was made is used up.
     fn call(&mut self, alloc: Global, event: Event) -> Result<Reply, CallFault>
-        ensures made { IfOk result (λ reply. Adds self.old.handled.calls self.new.handled.calls event reply) }
+        ensures made { IfOk result (λ reply. Adds (made_of self.old.handled) (made_of self.new.handled) event reply) }
         ensures fits { IfOk result (λ reply. may_answer event reply ≡ true) }
         ensures refused { IfErr result (λ fault.
-            (event_of fault ≡ event) × AddsSome self.old.handled.calls self.new.handled.calls) }
+            (event_of fault ≡ event) × AddsSome (made_of self.old.handled) (made_of self.new.handled)) }
         ensures exact { OnOk result (self.new ≡ after_call self.old event) }
         ensures reply { IfOk result (λ reply.
             reply ≡ (step_of (after_list self.old.handled (next_list self.old.lists)).device event).reply) }

@@ -5,7 +5,7 @@ use Rattle.nic_device.specs.State.{new_state}
 use Rattle.device_lock.specs.declared.alone.Watched.{Watched}
 use Rattle.device_lock.specs.declared.entry.Call.{Call}
 use Rattle.device_lock.specs.declared.entry.Entry.{Entry}
-use Rattle.pmd.specs.Halves.{halves_of}
+use Rattle.pmd.specs.Halves.{Drives, halves_of}
 use Rattle.pmd.specs.Life.{HasLived}
 use Rattle.pmd.specs.declared.start.Rest.{Rest}
 use Rattle.pmd_base.specs.declared.fault.PmdFault.{PmdFault}
@@ -16,7 +16,6 @@ use Rattle.receive_laws.specs.Delivered.{delivered}
 use Rattle.transmit_laws.specs.Agreeing.{bytes_of}
 use Rattle.transmit_laws.specs.Laws as transmit
 use Rattle.transmit_laws.specs.Sent.{sent_since}
-use Rattle.driver_laws.specs.Going.{GoesOn}
 use Rattle.pmd_laws.specs.Ends.{IsToStop, LeftIsPrefix}
 use Rattle.pmd_laws.specs.Order.{IsLived}
 use Rattle.pmd_laws.proofs.Order.{handed_of_life, sent_of_life}
@@ -30,11 +29,9 @@ module _ (w : Watched) (fifo : ℕ) (h : List Entry) (q : AtPort) (size : ℕ) (
     life = record {
       sized = x.sized;
       up = lived.lives.up;
-      steps = x.steps.start;
-      filled = x.steps.filled;
       since =
-          subst (λ (cs : List Call). GoesOn lived.lives.made (halves_of lived.lives.fresh) cs (halves_of lived.last))
-          (sym x.calls) (lived.lives.drives, x.steps.since);
+          subst (λ (cs : List Call). Drives lived.lives.made (halves_of lived.lives.fresh) cs (halves_of lived.last))
+          (sym x.calls) lived.lives.drives;
     };
     begins = x.begins;
   }

@@ -24,10 +24,9 @@ use Rattle.start_laws.proofs.Parts.{Parts, begun, parts}
 use Rattle.start_laws.proofs.Lent.{IsLentBy}
 use Rattle.start_laws.proofs.Start.{on_some, other_lent, ring_lent, start_agrees, start_goes_on}
 use Rattle.driver_laws.specs.Agreeing.{AreApart, AreLent}
-use Rattle.driver_laws.specs.Going.{GoesOn}
-use Rattle.pmd.specs.Halves.{AllOwn, Doer, Halves, OthersStep, halves_of, played_by}
+use Rattle.pmd.specs.Halves.{AllOwn, Doer, Drives, Halves, OthersStep, halves_of, played_by}
+use Rattle.pmd.proofs.Calls.{drives_on, receiving_drives}
 use Rattle.driver_laws.specs.Histories.{IsDriven}
-use Rattle.driver_laws.proofs.Going.{halves_go_on, receiving_goes_on}
 use Rattle.driver_laws.proofs.InOrder.{counted_where_up, handed_is_prefix, idle_is_all_sent, none_is_all, sent_is_prefix}
 use Rattle.driver_laws.proofs.Steps.{steps_by_calls, steps_leave_alone}
 use Rattle.pmd_laws.specs.Order as order
@@ -46,42 +45,40 @@ module _ (w : Watched) (fifo : ℕ) (h : List Entry) (q : AtPort) (size : ℕ) (
   abbrev pub first : Halves
   first = record { receive = up.empty; transmit = r.transmit }
 
-  pub whole : GoesOn up.on.mid first (calls_of w.pass h) k
+  pub whole : Drives up.on.mid first (calls_of w.pass h) k
   whole =
-      halves_go_on up.on.mid started (calls_of w.pass h) first (halves_of r) k
-      (receiving_goes_on up.on.mid started first (halves_of r)
-      (record { plays = up.on.plays; steps = x.life.filled; other = refl }))
-      x.life.since
+      drives_on up.on.mid started (calls_of w.pass h) first (halves_of r) k
+      (receiving_drives up.on.mid started first (halves_of r) up.on.plays refl) x.life.since
 
   abbrev pub doers : List Doer
-  doers = whole.0.0
+  doers = whole.0
 
   -- the history in two parts, of which the first ends there
-  pub in_parts : Parts w.pass h up.on.mid whole.0.1
-  in_parts = parts w.pass h up.on.mid whole.0.1 whole.0.2
+  pub in_parts : Parts w.pass h up.on.mid whole.1
+  in_parts = parts w.pass h up.on.mid whole.1 whole.2
 
-  module _ (p : Parts w.pass h up.on.mid whole.0.1) where
+  module _ (p : Parts w.pass h up.on.mid whole.1) where
     abbrev pub here : State
     here = leads_to new p.front
 
     agrees : Agree w.queue here [] up.empty × Agrees here w.queue [] r.transmit
     agrees =
-        start_agrees w fifo h q size old a started r up x.along x.life.sized x.life.steps x.begins p.front p.back p.both
+        start_agrees w fifo h q size old a started r up x.along x.life.sized x.begins p.front p.back p.both
         p.fronts
 
     went_on : WentOn w.queue new p.front
     went_on =
-        start_goes_on w fifo h q size old a started r up x.along x.life.sized x.life.steps x.begins p.front p.back
+        start_goes_on w fifo h q size old a started r up x.along x.life.sized x.begins p.front p.back
         p.both p.fronts
 
     one : IsLentBy w.pass up.receive.ring h
     one =
-        ring_lent w fifo h q size old a started r up x.along x.life.sized x.life.steps x.begins p.front p.back p.both
+        ring_lent w fifo h q size old a started r up x.along x.life.sized x.begins p.front p.back p.both
         p.fronts
 
     two : IsLentBy w.pass up.transmit.ring h
     two =
-        other_lent w fifo h q size old a started r up x.along x.life.sized x.life.steps x.begins p.front p.back p.both
+        other_lent w fifo h q size old a started r up x.along x.life.sized x.begins p.front p.back p.both
         p.fronts
 
     -- there each half has lent its ring's block
@@ -112,20 +109,20 @@ module _ (w : Watched) (fifo : ℕ) (h : List Entry) (q : AtPort) (size : ℕ) (
           begun =
               begun w.pass p.front
               (λ none.
-              on_some w fifo h q size old a started r up x.along x.life.sized x.life.steps x.begins
+              on_some w fifo h q size old a started r up x.along x.life.sized x.begins
               (sym p.fronts ∙ none));
           on = went_on.received;
           up = went_on.receives;
           agree = record { receive = agrees.0; transmit = agrees.1; apart = apart };
           lent = subst (λ (l : List Entry). AreLent (lent_by w.pass l) first) all lent;
-          own = subst (AllOwn first doers) (sym p.backs) whole.0.3;
+          own = subst (AllOwn first doers) (sym p.backs) whole.3;
           others =
               steps_leave_alone w (lent_by w.pass (p.front ++ p.back)) (mode_through w.vfs Off p.front) doers p.back
-              (steps_by_calls w doers p.back (subst (OthersStep doers) (sym p.backs) whole.1));
+              (steps_by_calls w doers p.back (subst (OthersStep doers) (sym p.backs) whole.5));
         }
 
     pub last : played_by first doers (calls_of w.pass p.back) ≡ k
-    last = ap (played_by first doers) p.backs ∙ sym whole.0.4
+    last = ap (played_by first doers) p.backs ∙ sym whole.4
 
     -- and so it holds of the whole history
 

@@ -84,23 +84,23 @@ module _ (w : Watched) (fifo : ℕ) (h : List Entry) (q : AtPort) (size : ℕ) (
   ground_lived =
       let u = up w fifo h q size old a started r k x in
       let goes = whole w fifo h q size old a started r k x in
-      let at = ground_at w fifo h q size old a started r u x.along x.life.sized x.life.steps x.begins in
+      let at = ground_at w fifo h q size old a started r u x.along x.life.sized x.begins in
       all_lead w fifo h (λ done. HasGround w.queue q (reached w fifo done)) (λ c. IsPlain q c.event) x.along
       (state_kept w fifo (lent_by w.pass h) (HasGround w.queue q) (ground_kept w (lent_by w.pass h) q))
       (λ c own.
       state_leads w fifo c (HasGround w.queue q) (HasGround w.queue q)
       (λ s met made told g. plain_keeps w.queue q s c.event own g))
-      goes.0.1 u.on.mid
-      (all_plain q (first w fifo h q size old a started r k x) goes.0.0 goes.0.1 goes.0.3 goes.1 placed)
-      (on_some w fifo h q size old a started r u x.along x.life.sized x.life.steps x.begins) at
-      h [] (append-nil h) goes.0.2
+      goes.1 u.on.mid
+      (all_plain q (first w fifo h q size old a started r k x) goes.0 goes.1 goes.3 goes.5 placed)
+      (on_some w fifo h q size old a started r u x.along x.life.sized x.begins) at
+      h [] (append-nil h) goes.2
 
   settled_by : Parts w.pass h (up w fifo h q size old a started r k x).on.mid
-      (whole w fifo h q size old a started r k x).0.1 → IsSettled w.queue (leads_to (new_state w.vfs fifo) h)
+      (whole w fifo h q size old a started r k x).1 → IsSettled w.queue (leads_to (new_state w.vfs fifo) h)
   settled_by p =
       let d = driven w fifo h q size old a started r k x p in
       let l = led w fifo p.front p.back (first w fifo h q size old a started r k x)
-      (whole w fifo h q size old a started r k x).0.0 d in
+      (whole w fifo h q size old a started r k x).0 d in
       subst (λ (g : List Entry). IsSettled w.queue (leads_to (new_state w.vfs fifo) g)) p.both
       (subst (IsSettled w.queue) (sym (leads-append (new_state w.vfs fifo) p.front p.back))
       (inl (l.receives d.up).on))
@@ -159,12 +159,12 @@ pub life_some : (w : Watched) (fifo : ℕ) (h : List Entry) (q : AtPort) (size :
     (started : List Call) (r : Running) (made : List Call) (k : Halves) → IsAlong w fifo h
     → (life : IsLife q size old a started r made k) → BeginsWell w fifo h q size old a started r life.up → made ≢ []
 life_some w fifo h q size old a started r made k along life begins none =
-    some_more started life.since.0.1
+    some_more started life.since.1
     (λ first.
     some_more life.up.on.mid life.up.on.plays.1
-    (on_some w fifo h q size old a started r life.up along life.sized life.steps begins)
+    (on_some w fifo h q size old a started r life.up along life.sized begins)
     (sym life.up.on.plays.2 ∙ first))
-    (sym life.since.0.2 ∙ none)
+    (sym life.since.2 ∙ none)
 
 module _ (w : Watched) (fifo : ℕ) (h : List Entry) (q : AtPort) (size : ℕ) (old : List Call) (a : Numbers)
     (started : List Call) (r : Running) (made : List Call) (k : Halves) (new : List Call)

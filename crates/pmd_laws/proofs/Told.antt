@@ -1,6 +1,5 @@
 -- A driver's life as its calls tell it is a life.
 use Rattle.std.proofs.Common.{◌≡◌, ℕ, inl, inr, Bool, true, false, List, [], ◌∷◌, Option, Some, Ok, if◌then◌else◌, refl, sym, ap, ◌∙◌, subst}
-use Rattle.std.proofs.lemmas.List.{append-nil}
 use Rattle.dma_arena.specs.Numbers.{Numbers}
 use Rattle.nic_device.specs.State.{new_state}
 use Rattle.device_lock.specs.History.{calls_of}
@@ -20,9 +19,9 @@ use Rattle.receive_laws.specs.Delivered.{delivered}
 use Rattle.transmit_laws.specs.Agreeing.{bytes_of}
 use Rattle.transmit_laws.specs.Laws as transmit
 use Rattle.transmit_laws.specs.Sent.{sent_since}
-use Rattle.driver_laws.specs.Going.{GoesOn}
-use Rattle.pmd.specs.Halves.{Halves, halves_of}
-use Rattle.driver_laws.proofs.Going.{halves_go_on, others_go_on}
+use Rattle.pmd.specs.Halves.{Drives, Halves, halves_of}
+use Rattle.pmd.proofs.Calls.{drives_on, others_drive}
+use Rattle.pmd.proofs.Living.{drives_none}
 use Rattle.pmd_laws.specs.Life.{IsLife}
 use Rattle.pmd_laws.specs.Order.{IsLived}
 use Rattle.pmd_laws.specs.Told as told
@@ -34,7 +33,7 @@ use Rattle.pmd_laws.proofs.Order.{handed_of_life, idle_of_life, sent_of_life}
 pub record RunsOn (m : Moment) (r : Running) (n : Moment) : Type 0 where
   pub rings : Running
   pub up : n.driver.rings ≡ Up rings
-  pub goes : GoesOn m.made (halves_of r) n.made (halves_of rings)
+  pub goes : Drives m.made (halves_of r) n.made (halves_of rings)
 
 -- where a driver that runs runs on
 
@@ -49,10 +48,10 @@ drove m n r is x =
     let (s, up, goes) = up_next _ m.driver.rings n.driver.rings r is x in record { rings = s; up = up; goes = goes }
 
 kept : (m n : Moment) (r : Running) → m.driver.rings ≡ Up r → Keeps m n → RunsOn m r n
-kept m n r is (a, same, added, steps) = record {
+kept m n r is (a, same, added) = record {
   rings = record r { arena = a };
   up = same ∙ ap (λ (x : Rings). with_arena x a) is;
-  goes = others_go_on m.made n.made (halves_of r) added steps;
+  goes = others_drive m.made n.made (halves_of r) added;
 }
 
 follows : (m n : Moment) (r : Running) → m.driver.rings ≡ Up r → Follows m n → RunsOn m r n
@@ -62,7 +61,7 @@ follows m n r is (inr x) = kept m n r is x
 all_follow : (m : Moment) (later : List Moment) (r : Running) → m.driver.rings ≡ Up r → AllFollow m later
     → RunsOn m r (last m later)
 all_follow m [] r is x =
-    record { rings = r; up = is; goes = others_go_on m.made m.made (halves_of r) ([], sym (append-nil m.made)) tt }
+    record { rings = r; up = is; goes = drives_none m.made (halves_of r) }
 all_follow m (n ∷ later) r is x =
     let one = follows m n r is x.0 in
     let more = all_follow n later one.rings one.up x.1 in
@@ -70,7 +69,7 @@ all_follow m (n ∷ later) r is x =
       rings = more.rings;
       up = more.up;
       goes =
-          halves_go_on m.made n.made (last n later).made (halves_of r) (halves_of one.rings) (halves_of more.rings)
+          drives_on m.made n.made (last n later).made (halves_of r) (halves_of one.rings) (halves_of more.rings)
           one.goes more.goes;
     }
 
@@ -92,13 +91,11 @@ module _ (q : AtPort) (size : ℕ) (old : List Call) (a : Numbers) (m : Moment) 
   abbrev pub now : Halves
   now = halves_of runs.rings
 
-  abbrev pub life : (calls : List Call) → GoesOn m.made (halves_of first) calls now
+  abbrev pub life : (calls : List Call) → Drives m.made (halves_of first) calls now
       → IsLife q size old a m.made first calls now
   life calls since = record {
     sized = open_size size a old m.made m.driver (is_size size) _ x.shut;
     up = x.started.2;
-    steps = x.steps;
-    filled = x.filled;
     since = since;
   }
 
@@ -118,7 +115,7 @@ module _ (w : Watched) (fifo : ℕ) (h : List Entry) (q : AtPort) (size : ℕ) (
           along = x.along;
           life =
               life q size old a m later x.told (calls_of w.pass h)
-              (subst (λ (calls : List Call). GoesOn m.made (halves_of x.told.started.0) calls k) (sym x.made) goes);
+              (subst (λ (calls : List Call). Drives m.made (halves_of x.told.started.0) calls k) (sym x.made) goes);
           begins = x.begins;
         }
 
@@ -145,8 +142,7 @@ module _ (w : Watched) (fifo : ℕ) (h : List Entry) (q : AtPort) (size : ℕ) (
     looked : handed_of (last m later).driver.rings ≡ delivered w.queue (new_state w.vfs fifo) x.look.before
     looked =
         let runs = runs q size old a m later x.told in
-        let (s, after, (looks, steps)) = up_next _ (last m later).driver.rings n.driver.rings runs.rings runs.up x.looks
-        in
+        let (s, after, looks) = up_next _ (last m later).driver.rings n.driver.rings runs.rings runs.up x.looks in
         ap handed_of runs.up
         ∙ none_before_look w fifo h q size old a m.made x.told.started.0 (last m later).made (halves_of runs.rings)
         n.made s.receive
@@ -155,7 +151,6 @@ module _ (w : Watched) (fifo : ℕ) (h : List Entry) (q : AtPort) (size : ℕ) (
           life = life q size old a m later x.told (last m later).made runs.goes;
           begins = x.begins;
           looks = looks;
-          steps = steps;
           look = x.look;
         })
 

@@ -19,9 +19,8 @@ use Rattle.transmit_laws.specs.Agreeing.{bytes_of}
 use Rattle.transmit_laws.specs.Laws.{FindsWaiting}
 use Rattle.transmit_laws.specs.Sent.{sent_since}
 use Rattle.start_laws.proofs.Parts.{Parts, calls_joined}
-use Rattle.driver_laws.specs.Going.{GoesOn}
-use Rattle.pmd.specs.Halves.{Halves, halves_of}
-use Rattle.driver_laws.proofs.Going.{halves_go_on, others_go_on, sending_goes_on}
+use Rattle.pmd.specs.Halves.{Drives, Halves, halves_of}
+use Rattle.pmd.proofs.Calls.{drives_on, others_drive, sending_drives}
 use Rattle.driver_laws.proofs.Waiting.{waiting_is_not_all}
 use Rattle.pmd_laws.specs.Order.{IsLived}
 use Rattle.pmd_laws.specs.Told.{last}
@@ -60,12 +59,12 @@ module _ (w : Watched) (fifo : ℕ) (h : List Entry) (q : AtPort) (size : ℕ) (
   ends : (calls_of w.pass late ≡ x.looks.mid ++ others) × (call_in x.look.entry ≡ looking)
   ends = ends_with w.pass h x.looks.mid others made_then looking x.looks.looks.1 x.look
 
-  goes_on : GoesOn started (halves_of r) (x.looks.mid ++ others) then
+  goes_on : Drives started (halves_of r) (x.looks.mid ++ others) then
   goes_on =
-      halves_go_on started x.looks.mid (x.looks.mid ++ others) (halves_of r) then then
-      (halves_go_on started made x.looks.mid (halves_of r) k then x.life.since
-      (sending_goes_on made x.looks.mid k then (record { plays = x.looks.plays; steps = x.moves; other = refl })))
-      (others_go_on x.looks.mid (x.looks.mid ++ others) then (others, refl) x.steps)
+      drives_on started x.looks.mid (x.looks.mid ++ others) (halves_of r) then then
+      (drives_on started made x.looks.mid (halves_of r) k then x.life.since
+      (sending_drives made x.looks.mid k then x.looks.plays refl))
+      (others_drive x.looks.mid (x.looks.mid ++ others) then (others, refl, x.looks.looks.2))
 
   abbrev lived_then : IsLived w fifo late q size old a started r then
   lived_then =
@@ -88,11 +87,11 @@ module _ (w : Watched) (fifo : ℕ) (h : List Entry) (q : AtPort) (size : ℕ) (
         (sym (append_assoc early more rest) ∙ ap (λ (l : List Entry). l ++ rest) all ∙ x.look.all) q size old a started
         r made made k k x.life x.along x.begins x.life.since is
 
-    p : Parts w.pass early x.life.up.on.mid (order.whole w fifo early q size old a started r k lived_early).0.1
+    p : Parts w.pass early x.life.up.on.mid (order.whole w fifo early q size old a started r k lived_early).1
     p = in_parts w fifo early q size old a started r k lived_early
 
     abbrev calls : List Call
-    calls = (order.whole w fifo late q size old a started r then lived_then).0.1
+    calls = (order.whole w fifo late q size old a started r then lived_then).1
 
     both : p.front ++ (p.back ++ more) ≡ late
     both = sym (append_assoc p.front p.back more) ∙ ap (λ (l : List Entry). l ++ more) p.both ∙ all
@@ -107,7 +106,7 @@ module _ (w : Watched) (fifo : ℕ) (h : List Entry) (q : AtPort) (size : ℕ) (
           append_cancel_left x.life.up.on.mid (calls_of w.pass (p.back ++ more)) calls
           (ap (λ (l : List Call). l ++ calls_of w.pass (p.back ++ more)) (sym p.fronts)
           ∙ sym (calls_joined w.pass p.front (p.back ++ more)) ∙ ap (calls_of w.pass) both
-          ∙ (order.whole w fifo late q size old a started r then lived_then).0.2);
+          ∙ (order.whole w fifo late q size old a started r then lived_then).2);
     }
 
     not_all : bytes_of k.transmit.accepted ≢ sent_since w.queue new [] early
@@ -130,16 +129,13 @@ pub waiting_as_told : WaitingIsNotAllAsTold
 waiting_as_told w fifo h q size old a m later n x before more all is same =
     let made = (last m later).made in
     let runs = runs q size old a m later x.told in
-    let (s, after, (looks, moves, steps)) =
-    up_next _ (last m later).driver.rings n.driver.rings runs.rings runs.up x.waits in
+    let (s, after, looks) = up_next _ (last m later).driver.rings n.driver.rings runs.rings runs.up x.waits in
     waiting_before_look w fifo h q size old a m.made x.told.started.0 made (halves_of runs.rings) n.made s.transmit
     (record {
       along = x.along;
       life = life q size old a m later x.told made runs.goes;
       begins = x.begins;
       looks = looks;
-      moves = moves;
-      steps = steps;
       look = x.look;
     })
     before more all is (ap (λ (z : Rings). bytes_of (accepted_of z)) (sym runs.up) ∙ same)

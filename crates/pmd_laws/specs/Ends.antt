@@ -6,7 +6,6 @@ use Rattle.device_lock.specs.History.{calls_of}
 use Rattle.device_lock.specs.declared.alone.Watched.{Watched}
 use Rattle.device_lock.specs.declared.entry.Call.{Call}
 use Rattle.device_lock.specs.declared.entry.Entry.{Entry}
-use Rattle.pmd.specs.Halves.{OthersStep, doers_marked}
 use Rattle.pmd.specs.Life.{HasLived}
 use Rattle.pmd.specs.Started.{is_size, left_accepted, left_handed}
 use Rattle.pmd.specs.declared.start.Rest.{Rest}
@@ -18,21 +17,13 @@ use Rattle.transmit_laws.specs.Agreeing.{bytes_of}
 use Rattle.transmit_laws.specs.Laws as transmit
 use Rattle.transmit_laws.specs.Sent.{sent_since}
 use Rattle.start_laws.specs.Along.{IsAlong}
-use Rattle.start_laws.specs.Start.{BeginsWell, OnlySteps}
-
--- beside the calls of a driver that lived its pass made steps of the device alone, up to its stop
-pub record LivedAmongSteps (q : AtPort) (size : ℕ) (old : List Call) (a : Numbers) (new : List Call) (left : Rest)
-    (late : Option PmdFault) (lived : HasLived q size old a new left late) : Type 0 where
-  pub start : OnlySteps q size old a lived.lives.made lived.lives.fresh lived.lives.up
-  pub filled : OthersStep (doers_marked lived.lives.up.on.plays.0) lived.lives.up.on.plays.1
-  pub since : OthersStep lived.lives.drives.0 lived.lives.drives.1
+use Rattle.start_laws.specs.Start.{BeginsWell}
 
 -- a legal history of a new device that leaves the queue alone, up to where a driver that lived was to stop
 pub record IsToStop (w : Watched) (fifo : ℕ) (h : List Entry) (q : AtPort) (size : ℕ) (old : List Call) (a : Numbers)
     (new : List Call) (left : Rest) (late : Option PmdFault) (life : HasLived q size old a new left late) : Type 0 where
   pub along : IsAlong w fifo h
   pub sized : is_size size ≡ true
-  pub steps : LivedAmongSteps q size old a new left late life
   pub calls : calls_of w.pass h ≡ life.made
   pub begins : BeginsWell w fifo h q size old a life.lives.made life.lives.fresh life.lives.up
 

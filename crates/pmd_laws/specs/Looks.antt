@@ -13,7 +13,7 @@ use Rattle.pmd_rx.specs.Receive.{Receive}
 use Rattle.receive_laws.specs.Delivered.{delivered}
 use Rattle.start_laws.specs.Along.{IsAlong}
 use Rattle.start_laws.specs.Start.{BeginsWell}
-use Rattle.pmd.specs.Halves.{Halves, OthersStep}
+use Rattle.pmd.specs.Halves.{Halves}
 use Rattle.pmd_laws.specs.Life.{IsLife}
 
 -- an entry of a history by which the pass has made just these calls
@@ -31,14 +31,13 @@ CallsEnd =
     calls_of pass h ≡ (calls ++ c ∷ []) ++ more → EndsAt pass h (calls ++ c ∷ [])
 
 -- a legal history of a new device that leaves the queue alone. In it the pass made the calls of this life, and then one
--- call of the driver looked once and found no packet, beside steps of the device
+-- call of the driver looked once and found no packet
 pub record LooksInVain (w : Watched) (fifo : ℕ) (h : List Entry) (q : AtPort) (size : ℕ) (old : List Call) (a : Numbers)
     (started : List Call) (r : Running) (made : List Call) (k : Halves) (new : List Call) (v : Receive) : Type 0 where
   pub along : IsAlong w fifo h
   pub life : IsLife q size old a started r made k
   pub begins : BeginsWell w fifo h q size old a started r life.up
   pub looks : LooksOnce made k.receive new v
-  pub steps : OthersStep [] looks.0
   pub look : EndsAt w.pass h new
 
 -- what the driver had handed out is all that was delivered before the entry of that look, whatever came behind it

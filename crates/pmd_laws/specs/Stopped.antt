@@ -12,10 +12,11 @@ use Rattle.pmd_base.specs.declared.fault.PmdFault.{PmdFault}
 use Rattle.pmd_halt.specs.Halted.{Halted}
 use Rattle.pmd_halt.specs.Stopping.{IsLeft, IsLeftAmid, StopFails, Stops, bringing, brought, closed}
 use Rattle.pmd_halt.specs.declared.home.Home.{Home}
+use Rattle.pmd_base.specs.Made.{AreSteps}
 use Rattle.pmd_queue.specs.Named.{AtPort}
 use Rattle.receive_laws.specs.Delivered as receive
 use Rattle.receive_laws.specs.Delivered.{delivered}
-use Rattle.start_laws.specs.Along.{AreSteps, IsAlong}
+use Rattle.start_laws.specs.Along.{IsAlong}
 use Rattle.start_laws.specs.Start.{BeginsWell}
 use Rattle.start_laws.specs.Stopping.{Ends, StepsBringing, StepsSwitched, StepsUnswitched}
 use Rattle.pmd.specs.Halves.{Halves}

@@ -8,7 +8,7 @@ use Rattle.device_lock.specs.declared.alone.Watched.{Watched}
 use Rattle.device_lock.specs.declared.entry.Call.{Call}
 use Rattle.device_lock.specs.declared.entry.Entry.{Entry}
 use Rattle.pmd.specs.Driver.{Driver, WhereUp, accepted_of, handed_of, with_arena}
-use Rattle.pmd.specs.Halves.{OthersStep, doers_marked, halves_of}
+use Rattle.pmd.specs.Halves.{Drives, halves_of}
 use Rattle.pmd.specs.Started.{HasStarted, IsShut, start_gate}
 use Rattle.pmd.specs.declared.driver.Rings.{Rings}
 use Rattle.pmd.specs.declared.driver.Rings.TheVariants.{Up, Down}
@@ -21,8 +21,7 @@ use Rattle.transmit_laws.specs.Agreeing.{bytes_of}
 use Rattle.transmit_laws.specs.Laws as transmit
 use Rattle.transmit_laws.specs.Sent.{sent_since}
 use Rattle.start_laws.specs.Along.{IsAlong}
-use Rattle.start_laws.specs.Start.{BeginsWell, OnlySteps}
-use Rattle.driver_laws.specs.Going.{GoesOn}
+use Rattle.start_laws.specs.Start.{BeginsWell}
 use Rattle.pmd_laws.specs.Looks.{EndsAt}
 
 -- when a call of the driver has returned: the driver, and the calls that its pass has made
@@ -30,17 +29,15 @@ pub record Moment : Type 0 where
   pub made : List Call
   pub driver : Driver
 
--- from one moment of a driver that runs to the next, beside steps of the device: a call of `rx`, `tx` or `reap`, as its
--- clause `drives` tells; or one of `packet` or `release`, or none, by which the arena alone may change
+-- from one moment of a driver that runs to the next: a call of `rx`, `tx` or `reap`, as its clause `drives` tells; or
+-- one of `packet` or `release`, or none, by which the arena alone may change, beside steps of the device
 
 abbrev pub Drove : Moment → Moment → Type 0
 Drove m n =
-    WhereUp m.driver.rings n.driver.rings (λ r s. GoesOn m.made (halves_of r) n.made (halves_of s))
+    WhereUp m.driver.rings n.driver.rings (λ r s. Drives m.made (halves_of r) n.made (halves_of s))
 
 abbrev pub Keeps : Moment → Moment → Type 0
-Keeps m n =
-    (a : Numbers) × (n.driver.rings ≡ with_arena m.driver.rings a) × (added : AddsSome m.made n.made)
-    × OthersStep [] added.0
+Keeps m n = (a : Numbers) × (n.driver.rings ≡ with_arena m.driver.rings a) × AddsSome m.made n.made
 
 abbrev pub Follows : Moment → Moment → Type 0
 Follows m n = Drove m n ⊎ Keeps m n
@@ -54,14 +51,12 @@ abbrev pub last : Moment → List Moment → Moment
 last m [] = m
 last m (n ∷ later) = last n later
 
--- a `start` brought the driver up, as its clauses `shut` and `started` tell, beside steps of the device; and the other
--- moments follow on the one when it returned
+-- a `start` brought the driver up, as its clauses `shut` and `started` tell; and the other moments follow on the one
+-- when it returned
 pub record IsTold (q : AtPort) (size : ℕ) (old : List Call) (a : Numbers) (m : Moment) (later : List Moment) : Type 0
   where
     pub shut : IsShut (start_gate a q size) a old m.made (Ok m.driver)
     pub started : HasStarted q size old a m.made m.driver
-    pub steps : OnlySteps q size old a m.made started.0 started.2
-    pub filled : OthersStep (doers_marked started.2.on.plays.0) started.2.on.plays.1
     pub since : AllFollow m later
 
 -- a legal history of a new device that leaves the queue alone, in which the pass has made just the calls of the last
@@ -100,11 +95,10 @@ IdleIsAllSent =
     (later : List Moment) → IsToldOf w fifo h q size old a m later → HasNoneOut (last m later).driver.rings →
     bytes_of (accepted_of (last m later).driver.rings) ≡ sent_since w.queue (new_state w.vfs fifo) [] h
 
--- a call of `rx` answered none, as its clause `none` tells, beside steps of the device
+-- a call of `rx` answered none, as its clause `none` tells
 abbrev pub LooksInVain : Moment → Moment → Type 0
 LooksInVain m n =
-    WhereUp m.driver.rings n.driver.rings
-    (λ r s. (looks : LooksOnce m.made r.receive n.made s.receive) × OthersStep [] looks.0)
+    WhereUp m.driver.rings n.driver.rings (λ r s. LooksOnce m.made r.receive n.made s.receive)
 
 -- in a legal history of a new device that leaves the queue alone, such a call comes after the last moment
 pub record IsToldToLook (w : Watched) (fifo : ℕ) (h : List Entry) (q : AtPort) (size : ℕ) (old : List Call)

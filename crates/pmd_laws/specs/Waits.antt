@@ -15,14 +15,13 @@ use Rattle.transmit_laws.specs.Agreeing.{bytes_of}
 use Rattle.transmit_laws.specs.Sent.{sent_since}
 use Rattle.start_laws.specs.Along.{IsAlong}
 use Rattle.start_laws.specs.Start.{BeginsWell}
-use Rattle.pmd.specs.Halves.{Halves, OthersStep, doers_moved}
+use Rattle.pmd.specs.Halves.{Halves}
 use Rattle.pmd_laws.specs.Life.{IsLife}
 use Rattle.pmd_laws.specs.Looks.{EndsAt}
 use Rattle.pmd_laws.specs.Told.{IsTold, Moment, last}
 
 -- a legal history of a new device that leaves the queue alone. In it the pass made the calls of this life, and then one
--- call of the driver accepted none, and looked at last at the oldest outstanding packet, which wasn't done, beside
--- steps of the device
+-- call of the driver accepted none, and looked at last at the oldest outstanding packet, which wasn't done
 pub record LooksAtWaiting (w : Watched) (fifo : ℕ) (h : List Entry) (q : AtPort) (size : ℕ) (old : List Call)
     (a : Numbers) (started : List Call) (r : Running) (made : List Call) (k : Halves) (new : List Call) (v : Sender) :
     Type 0 where
@@ -30,8 +29,6 @@ pub record LooksAtWaiting (w : Watched) (fifo : ℕ) (h : List Entry) (q : AtPor
   pub life : IsLife q size old a started r made k
   pub begins : BeginsWell w fifo h q size old a started r life.up
   pub looks : LooksLast made k.transmit new v
-  pub moves : OthersStep (doers_moved looks.plays.0) looks.plays.1
-  pub steps : OthersStep [] looks.looks.0
   pub look : EndsAt w.pass h new
 
 -- before the first entry of that call not all that the driver had accepted was sent
@@ -43,14 +40,10 @@ WaitingIsNotAllBefore =
     before ++ more ≡ looked.look.before → calls_of w.pass before ≡ made →
     bytes_of k.transmit.accepted ≢ sent_since w.queue (new_state w.vfs fifo) [] before
 
--- the same by what a driver's calls tell alone: a call of `reap` answered, and wasn't idle, as its clause `waits`
--- tells, beside steps of the device
+-- the same by what a driver's calls tell alone: a call of `reap` answered, and wasn't idle, as its clause `waits` tells
 abbrev pub Waits : Moment → Moment → Type 0
 Waits m n =
-    WhereUp m.driver.rings n.driver.rings
-    (λ r s.
-    (looks : LooksLast m.made r.transmit n.made s.transmit)
-    × OthersStep (doers_moved looks.plays.0) looks.plays.1 × OthersStep [] looks.looks.0)
+    WhereUp m.driver.rings n.driver.rings (λ r s. LooksLast m.made r.transmit n.made s.transmit)
 
 -- in a legal history of a new device that leaves the queue alone, such a call comes after the last moment
 pub record IsToldToWait (w : Watched) (fifo : ℕ) (h : List Entry) (q : AtPort) (size : ℕ) (old : List Call)

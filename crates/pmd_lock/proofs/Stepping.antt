@@ -1,5 +1,5 @@
 -- A pass that is stepped on.
-use Rattle.std.proofs.Common.{◌≡◌, ℕ, List, [], ◌∷◌, ◌++◌, take, refl, sym, ap, ◌∙◌, subst, append_assoc, Result, Ok, Err, OnErr}
+use Rattle.std.proofs.Common.{◌≡◌, ℕ, List, [], ◌∷◌, ◌++◌, take, refl, sym, ap, ◌∙◌, subst, append_assoc, Result, Ok, Err, IfOk, IfErr, OnErr}
 use Rattle.std.proofs.lemmas.List.{map-append}
 use Rattle.dma_arena.specs.Block.{Block}
 use Rattle.nic_device.specs.declared.event.Event.{Event}
@@ -8,8 +8,11 @@ use Rattle.nic_device.specs.declared.event.Reply.{Reply}
 use Rattle.register_file.specs.declared.dir.Dir.TheVariants as dir
 use Rattle.device_lock.specs.declared.entry.Call.{Call}
 use Rattle.device_lock.specs.declared.fault.CallFault.{CallFault}
-use Rattle.pmd_base.specs.Made.{steps_of_queue}
-use Rattle.pmd_lock.specs.Stepped.{AtLock, AreStepped, StopsStepping, events_in, with_calls}
+use Rattle.device_lock.specs.Fault.{event_of}
+use Rattle.pmd_base.specs.Made.{Adds, AddsSome, AreSteps, steps_of_queue}
+use Rattle.pmd_base.proofs.Stepping.{first_steps, queue_steps}
+use Rattle.pmd_base.proofs.Steps.{AllSteps}
+use Rattle.pmd_lock.specs.Stepped.{AtLock, AreStepped, StepsAndMakes, StopsStepping, events_in, with_calls}
 
 -- calls after calls
 with_both : (t : AtLock) (a b : List Call) → with_calls (with_calls t a) b ≡ with_calls t (a ++ b)
@@ -56,3 +59,32 @@ pub none_after : (r : Result (Reply Block) (CallFault (Event Block))) (old mid n
     → AreStepped old mid (steps_of_queue old.queue) → OnErr r (new ≡ mid) → OnErr r (StopsStepping old new)
 none_after (Ok x) old mid new made same = tt
 none_after (Err f) old mid new made same = stopped old mid new old.queue 4 refl made same
+
+-- so the steps and the event are what a way to the device adds
+
+are_steps : (calls : List Call) → AllSteps (events_in calls) → AreSteps calls
+are_steps [] steps = tt
+are_steps (c ∷ calls) steps = (steps.0, are_steps calls steps.1)
+
+pub made_adds : (r : Result (Reply Block) (CallFault (Event Block))) (e : Event Block) (old new : AtLock)
+    → IfOk r (λ x. StepsAndMakes old new e x) → IfOk r (λ x. Adds old.pass.calls new.pass.calls e x)
+made_adds (Ok x) e old new (steps, are, is) = (
+  steps,
+  ap (λ (t : AtLock). t.pass.calls) is,
+  are_steps steps (subst AllSteps (sym are) (queue_steps old.queue)),
+)
+made_adds (Err f) e old new makes = tt
+
+pub refused_adds : (r : Result (Reply Block) (CallFault (Event Block))) (e : Event Block) (old new : AtLock)
+    → IfErr r (λ f. event_of f ≡ e) → OnErr r (StopsStepping old new)
+    → IfErr r (λ f. (event_of f ≡ e) × AddsSome old.pass.calls new.pass.calls)
+refused_adds (Ok x) e old new back stops = tt
+refused_adds (Err f) e old new back (count, made) = (
+  back,
+  (
+    made.0,
+    ap (λ (t : AtLock). t.pass.calls) made.2,
+    are_steps made.0
+        (subst AllSteps (sym made.1) (first_steps count (steps_of_queue old.queue) (queue_steps old.queue))),
+  ),
+)

@@ -7,10 +7,8 @@ use Rattle.register_file.specs.Queue.{enable_row}
 use Rattle.register_file.specs.declared.dir.Dir.{Dir}
 use Rattle.register_file.specs.declared.dir.Dir.TheVariants.{Rx, Tx}
 use Rattle.pmd_base.specs.declared.fault.PmdFault.{PmdFault}
-use Rattle.pmd_base.specs.declared.fault.PmdFault.TheVariants.{BadSize, ForeignBlock, StartTimeout, NoBuffer, DeviceFault}
-use Rattle.pmd_base.specs.declared.fault.PmdFault.TheVariants as fault
 use Rattle.pmd_queue.specs.Named.{AtPort}
-use Rattle.pmd_queue.specs.Made.{Access, Sees, AreMade, IsSeen, ReadFails}
+use Rattle.pmd_queue.specs.Made.{Access, Sees, AreMade, IsSeen}
 use Rattle.pmd_queue.specs.Sides.{missed, polled, PollsEnd}
 use Rattle.pmd_queue.proofs.Sequences.{both_made, next_made}
 

@@ -1,5 +1,5 @@
 -- What a call adds to a driver's plays.
-use Rattle.std.proofs.Common.{◌≡◌, Bool, true, false, List, [], ◌∷◌, ◌++◌, refl, sym, ap, ◌∙◌, subst, append_assoc}
+use Rattle.std.proofs.Common.{◌≡◌, suc, Bool, true, false, not, List, [], ◌∷◌, ◌++◌, length, map, refl, sym, ap, ◌∙◌, subst, append_assoc}
 use Rattle.std.proofs.lemmas.List.{append-nil}
 use Rattle.dma_arena.specs.Block.{Block}
 use Rattle.nic_device.specs.declared.event.Event.{Event}
@@ -7,12 +7,12 @@ use Rattle.nic_device.specs.declared.event.Reply.{Reply}
 use Rattle.device_lock.specs.declared.entry.Call.{Call}
 use Rattle.device_lock.specs.Pass.{call_of}
 use Rattle.pmd_base.specs.Made.{Adds, AddsSome}
+use Rattle.pmd_base.proofs.Steps.{steps_marked, steps_last, steps_both}
 use Rattle.pmd_rx.specs.Plays.{Plays, AllOwn, played_by, after_call}
 use Rattle.pmd_rx.specs.Receive.{Receive, IsOwn, drive}
 
 abbrev pub none_own : List Call → List Bool
-none_own [] = []
-none_own (n ∷ calls) = false ∷ none_own calls
+none_own calls = map (λ (n : Call). false) calls
 
 own-none : (v : Receive) (calls : List Call) → AllOwn v (none_own calls) calls
 own-none v [] = tt
@@ -35,17 +35,24 @@ played-last v (n ∷ before) e r = played-last v before e r
 -- an own event after calls that aren't own
 pub plays_adds : (old new : List Call) (v : Receive) (e : Event Block) (r : Reply Block) → IsOwn v e → Adds old new e r
     → Plays old v new (drive v e r)
-plays_adds old new v e r own (before, is) = (
+plays_adds old new v e r own (before, is, steps) = (
   none_own before ++ true ∷ [],
   before ++ call_of e r ∷ [],
   is,
   own-last v before e r own,
-  sym
-      (played-last v before e r),
+  sym (played-last v before e r),
+  steps_last not false true before (call_of e r) refl steps,
 )
 
 pub plays_some : (old new : List Call) (v : Receive) → AddsSome old new → Plays old v new v
-plays_some old new v (before, is) = (none_own before, before, is, own-none v before, sym (played-none v before))
+plays_some old new v (before, is, steps) = (
+  none_own before,
+  before,
+  is,
+  own-none v before,
+  sym (played-none v before),
+  steps_marked not false before steps,
+)
 
 -- plays follow each other
 
@@ -63,15 +70,22 @@ played-both v [] (x ∷ s) n t a = absurd a
 played-both v (k ∷ m) [] n t a = absurd a
 played-both v (k ∷ m) (x ∷ s) n t (own, a) = played-both (after_call v k x) m s n t a
 
+own-length : (v : Receive) (m : List Bool) (s : List Call) → AllOwn v m s → length m ≡ length s
+own-length v [] [] own = refl
+own-length v [] (x ∷ s) own = absurd own
+own-length v (k ∷ m) [] own = absurd own
+own-length v (k ∷ m) (x ∷ s) own = ap suc (own-length (after_call v k x) m s own.1)
+
 pub plays_both : (a b d : List Call) (v w x : Receive) → Plays a v b w → Plays b w d x → Plays a v d x
-plays_both a b d v w x (m, s, is, own, by) (n, t, then, also, on) = (
+plays_both a b d v w x (m, s, is, own, by, steps) (n, t, then, also, on, more) = (
   m ++ n,
   s ++ t,
   then ∙ ap (λ (l : List Call). l ++ t) is ∙ append_assoc a s t,
   own-both v m s n t own (subst (λ (y : Receive). AllOwn y n t) by also),
   on ∙ ap (λ (y : Receive). played_by y n t) by ∙ sym (played-both v m s n t own),
+  steps_both not m n s t (own-length v m s own) steps more,
 )
 
 -- nothing was made
 pub plays_none : (old : List Call) (v : Receive) → Plays old v old v
-plays_none old v = plays_some old old v ([], sym (append-nil old))
+plays_none old v = plays_some old old v ([], sym (append-nil old), tt)

@@ -1,11 +1,12 @@
 -- How a driver follows from the calls that were made: some of them, which marks single out, are its own.
-use Rattle.std.specs.Prelude.{ℕ, ◌≡◌, ◌<◌, Bool, true, false, List, [], ◌∷◌, ◌++◌, length, IsFalse, ⊤, if◌then◌else◌}
+use Rattle.std.specs.Prelude.{ℕ, ◌≡◌, ◌<◌, Bool, true, false, not, List, [], ◌∷◌, ◌++◌, length, IsFalse, ⊤, if◌then◌else◌}
 use Rattle.dma_ring.specs.Descriptor.{second_half}
 use Rattle.dma_ring.specs.Receive.{is_done}
 use Rattle.nic_device.specs.declared.event.Event.TheVariants as event
 use Rattle.nic_device.specs.declared.event.Reply.TheVariants as reply
 use Rattle.device_lock.specs.declared.entry.Call.{Call}
 use Rattle.device_lock.specs.Pass.{call_of}
+use Rattle.pmd_base.specs.Made.{AreSteps, StepsWhere}
 use Rattle.pmd_rx.specs.Receive.{Receive, IsOwn, drive, held, descriptor_at}
 
 -- the driver after one call, where it is its own
@@ -29,15 +30,22 @@ AllOwn v [] (n ∷ calls) = ⊥
 AllOwn v (m ∷ marks) [] = ⊥
 AllOwn v (m ∷ marks) (n ∷ calls) = OwnCall m v n × AllOwn (after_call v m n) marks calls
 
--- some calls were made, of which the marked ones are the driver's, and lead it from one state to another
+-- each call that isn't marked is a step of the device
+abbrev pub OthersStep : List Bool → List Call → Type 0
+OthersStep marks calls = StepsWhere not marks calls
+
+-- some calls were made, of which the marked ones are the driver's, and lead it from one state to another; the others
+-- are steps of the device
 abbrev pub Plays : List Call → Receive → List Call → Receive → Type 0
 Plays old v new w =
-    (marks : List Bool) × (since : List Call) × (new ≡ old ++ since) × AllOwn v marks since ×
-    (w ≡ played_by v marks since)
+    (marks : List Bool) × (since : List Call) × (new ≡ old ++ since) × AllOwn v marks since
+    × (w ≡ played_by v marks since) × OthersStep marks since
 
--- the driver's one own call was a look at the next slot, which isn't done. It holds no packet
+-- behind steps of the device the driver's one own call was a look at the next slot, which isn't done. It holds no
+-- packet
 abbrev pub LooksOnce : List Call → Receive → List Call → Receive → Type 0
 LooksOnce old v new w =
     (before : List Call) × (d : List ℕ)
     × (new ≡ old ++ (before ++ call_of (event.Peek16 (descriptor_at v.layout 0)) (reply.Bytes d) ∷ []))
     × IsFalse (is_done (second_half d)) × (held v.stage ≡ []) × (0 < length v.layout.blocks) × (w ≡ v)
+    × AreSteps before

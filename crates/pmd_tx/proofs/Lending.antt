@@ -38,8 +38,8 @@ module _ (old new : List Call) (v : Sender) where
   module _ (p : Packet) (may : MayLend v p) (block : IsBlock p.buf) where
     unlent : (f : PmdFault) (back : Packet) → IsUnlent f old new p back → Plays old v new v
     unlent fault.DeviceFault back (made, number) =
-        plays_adds old new v (Accepts (sent_as p)) (event.Lend p.buf) (reply.Twice back.buf) (may_accept v p may block)
-        made
+        plays_adds old new v (Accepts (sent_as p)) refl (event.Lend p.buf) (reply.Twice back.buf)
+        (may_accept v p may block) made
     unlent (fault.Call f) back (some, same) = plays_some old new v some
     unlent other back failed = absurd failed
 
@@ -48,7 +48,7 @@ module _ (old new : List Call) (v : Sender) where
         → IfErr r (λ x. IsUnlent x.0 old new p x.1) → Plays old v new w
     lend_plays (Ok x) w made is same failed =
         subst (Plays old v new) (sym is)
-        (plays_adds old new v (Accepts (sent_as p)) (event.Lend p.buf) reply.Done (may_accept v p may block) made)
+        (plays_adds old new v (Accepts (sent_as p)) refl (event.Lend p.buf) reply.Done (may_accept v p may block) made)
     lend_plays (Err (f, back)) w made is same failed = subst (Plays old v new) (sym same) (unlent f back failed)
 
     pub lend_faults : (f : PmdFault) (back : Packet) → IsUnlent f old new p back → FaultsBy f old v new

@@ -15,11 +15,11 @@ module _ (old new : List Call) (v : Sender) where
   module _ (a : ℕ) (bytes : List ℕ) (own : IsOwn v Asks (event.Poke16 a bytes)) where
     pub ask_plays : (w : Sender) → IsPoked old new a bytes true → w ≡ asked v → Plays old v new w
     ask_plays w made is =
-        subst (Plays old v new) (sym is) (plays_adds old new v Asks (event.Poke16 a bytes) reply.Done own made)
+        subst (Plays old v new) (sym is) (plays_adds old new v Asks refl (event.Poke16 a bytes) reply.Done own made)
 
     pub ask_misses : IsPoked old new a bytes false → Plays old v new v
-    ask_misses (inl made) = plays_adds old new v Asks (event.Poke16 a bytes) reply.NotLent own made
-    ask_misses (inr made) = plays_adds old new v Asks (event.Poke16 a bytes) reply.Misaligned own made
+    ask_misses (inl made) = plays_adds old new v Asks refl (event.Poke16 a bytes) reply.NotLent own made
+    ask_misses (inr made) = plays_adds old new v Asks refl (event.Poke16 a bytes) reply.Misaligned own made
 
     pub ask_faults : IsPoked old new a bytes false → Faults old v new
     ask_faults (inl made) = faults_at old new v Asks (event.Poke16 a bytes) reply.NotLent own made refl
@@ -35,11 +35,12 @@ module _ (old new : List Call) (v : Sender) where
         → Plays old v new w
     tail_plays w made done =
         subst (Plays old v new) (sym done)
-        (plays_adds old new v Advances (event.Write v.layout.port v.layout.tail word) reply.Done tail_own made)
+        (plays_adds old new v Advances refl (event.Write v.layout.port v.layout.tail word) reply.Done tail_own made)
 
     pub tail_misses : IsWritten old new v.layout.port v.layout.tail word false → Plays old v new v
     tail_misses (seen, made) =
-        plays_adds old new v Advances (event.Write v.layout.port v.layout.tail word) (reply.Stray seen) tail_own made
+        plays_adds old new v Advances refl (event.Write v.layout.port v.layout.tail word) (reply.Stray seen) tail_own
+        made
 
     pub tail_faults : IsWritten old new v.layout.port v.layout.tail word false → Faults old v new
     tail_faults (seen, made) =
@@ -56,7 +57,7 @@ module _ (old new : List Call) (v : Sender) where
         → Plays old v new w
     look_plays w d made is =
         subst (Plays old v new) (sym is)
-        (plays_adds old new v Looks (event.Peek16 (descriptor_at v.layout 0)) (reply.Bytes d) look_own made)
+        (plays_adds old new v Looks refl (event.Peek16 (descriptor_at v.layout 0)) (reply.Bytes d) look_own made)
 
     pub look_waits : (w : Sender) (d : List ℕ) → IsPeeked old new (descriptor_at v.layout 0) (Some d) → w ≡ looked v d
         → is_sent d ≡ false → LooksLast old v new w
@@ -74,9 +75,9 @@ module _ (old new : List Call) (v : Sender) where
 
     pub look_misses : IsPeeked old new (descriptor_at v.layout 0) None → Plays old v new v
     look_misses (inl made) =
-        plays_adds old new v Looks (event.Peek16 (descriptor_at v.layout 0)) reply.NotLent look_own made
+        plays_adds old new v Looks refl (event.Peek16 (descriptor_at v.layout 0)) reply.NotLent look_own made
     look_misses (inr made) =
-        plays_adds old new v Looks (event.Peek16 (descriptor_at v.layout 0)) reply.Misaligned look_own made
+        plays_adds old new v Looks refl (event.Peek16 (descriptor_at v.layout 0)) reply.Misaligned look_own made
 
     pub look_faults : IsPeeked old new (descriptor_at v.layout 0) None → Faults old v new
     look_faults (inl made) =
@@ -89,10 +90,10 @@ module _ (old new : List Call) (v : Sender) where
   module _ (n : ℕ) (own : IsOwn v Reaps (event.Take n)) where
     pub take_plays : (w : Sender) (b : Block) → IsTaken old new n (Some b) → w ≡ reaped v → Plays old v new w
     take_plays w b made is =
-        subst (Plays old v new) (sym is) (plays_adds old new v Reaps (event.Take n) (reply.Buf b) own made)
+        subst (Plays old v new) (sym is) (plays_adds old new v Reaps refl (event.Take n) (reply.Buf b) own made)
 
     pub take_misses : IsTaken old new n None → Plays old v new v
-    take_misses made = plays_adds old new v Reaps (event.Take n) reply.NotLent own made
+    take_misses made = plays_adds old new v Reaps refl (event.Take n) reply.NotLent own made
 
     pub take_faults : IsTaken old new n None → Faults old v new
     take_faults made = faults_at old new v Reaps (event.Take n) reply.NotLent own made refl

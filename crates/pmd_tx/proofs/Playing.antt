@@ -1,5 +1,5 @@
 -- What a call adds to a driver's plays.
-use Rattle.std.proofs.Common.{◌≡◌, false, List, [], ◌∷◌, ◌++◌, Result, Ok, Err, IfErr, IfOk, refl, sym, ap, ◌∙◌, subst, append_assoc}
+use Rattle.std.proofs.Common.{◌≡◌, suc, false, List, [], ◌∷◌, ◌++◌, length, map, Result, Ok, Err, IfErr, IfOk, refl, sym, ap, ◌∙◌, subst, append_assoc}
 use Rattle.std.proofs.lemmas.List.{append-nil}
 use Rattle.dma_arena.specs.Block.{Block}
 use Rattle.nic_device.specs.declared.event.Event.{Event}
@@ -9,13 +9,13 @@ use Rattle.device_lock.specs.Pass.{call_of}
 use Rattle.pmd_base.specs.Made.{Adds, AddsSome}
 use Rattle.pmd_base.specs.declared.fault.PmdFault.{PmdFault}
 use Rattle.pmd_base.specs.declared.fault.PmdFault.TheVariants.{DeviceFault}
+use Rattle.pmd_base.proofs.Steps.{steps_marked, steps_last, steps_both}
 use Rattle.pmd_tx.specs.declared.answer.Reaped.{Reaped}
-use Rattle.pmd_tx.specs.Plays.{Plays, AllOwn, played_by, Faults, FaultsBy, LooksLast}
+use Rattle.pmd_tx.specs.Plays.{Plays, AllOwn, is_elsewhere, played_by, Faults, FaultsBy, LooksLast}
 use Rattle.pmd_tx.specs.Sending.{Sender, Move, Elsewhere, IsOwn, moved, is_healthy}
 
 abbrev pub elsewhere : List Call → List Move
-elsewhere [] = []
-elsewhere (n ∷ calls) = Elsewhere ∷ elsewhere calls
+elsewhere calls = map (λ (n : Call). Elsewhere) calls
 
 own-elsewhere : (v : Sender) (calls : List Call) → AllOwn v (elsewhere calls) calls
 own-elsewhere v [] = tt
@@ -36,23 +36,30 @@ played-last v [] m e r = refl
 played-last v (n ∷ before) m e r = played-last v before m e r
 
 -- an own event after calls that aren't own
-pub plays_adds : (old new : List Call) (v : Sender) (m : Move) (e : Event Block) (r : Reply Block) → IsOwn v m e
-    → Adds old new e r → Plays old v new (moved v m r)
-plays_adds old new v m e r own (before, is) = (
+pub plays_adds : (old new : List Call) (v : Sender) (m : Move) → is_elsewhere m ≡ false → (e : Event Block)
+    (r : Reply Block) → IsOwn v m e → Adds old new e r → Plays old v new (moved v m r)
+plays_adds old new v m mine e r own (before, is, steps) = (
   elsewhere before ++ m ∷ [],
   before ++ call_of e r ∷ [],
   is,
   own-last v before m e r own,
   sym (played-last v before m e r),
+  steps_last is_elsewhere Elsewhere m before (call_of e r) mine steps,
 )
 
 pub plays_some : (old new : List Call) (v : Sender) → AddsSome old new → Plays old v new v
-plays_some old new v (before, is) =
-    (elsewhere before, before, is, own-elsewhere v before, sym (played-elsewhere v before))
+plays_some old new v (before, is, steps) = (
+  elsewhere before,
+  before,
+  is,
+  own-elsewhere v before,
+  sym (played-elsewhere v before),
+  steps_marked is_elsewhere Elsewhere before steps,
+)
 
 -- nothing was made
 pub plays_none : (old : List Call) (v : Sender) → Plays old v old v
-plays_none old v = plays_some old old v ([], sym (append-nil old))
+plays_none old v = plays_some old old v ([], sym (append-nil old), tt)
 
 -- plays follow each other
 
@@ -70,13 +77,20 @@ played-both v [] (x ∷ s) n t a = absurd a
 played-both v (k ∷ m) [] n t a = absurd a
 played-both v (k ∷ m) (x ∷ s) n t (own, a) = played-both (moved v k x.reply) m s n t a
 
+own-length : (v : Sender) (m : List Move) (s : List Call) → AllOwn v m s → length m ≡ length s
+own-length v [] [] own = refl
+own-length v [] (x ∷ s) own = absurd own
+own-length v (k ∷ m) [] own = absurd own
+own-length v (k ∷ m) (x ∷ s) own = ap suc (own-length (moved v k x.reply) m s own.1)
+
 pub plays_both : (a b d : List Call) (v w x : Sender) → Plays a v b w → Plays b w d x → Plays a v d x
-plays_both a b d v w x (m, s, is, own, by) (n, t, then, also, on) = (
+plays_both a b d v w x (m, s, is, own, by, steps) (n, t, then, also, on, more) = (
   m ++ n,
   s ++ t,
   then ∙ ap (λ (l : List Call). l ++ t) is ∙ append_assoc a s t,
   own-both v m s n t own (subst (λ (y : Sender). AllOwn y n t) by also),
   on ∙ ap (λ (y : Sender). played_by y n t) by ∙ sym (played-both v m s n t own),
+  steps_both is_elsewhere m n s t (own-length v m s own) steps more,
 )
 
 -- a reply that no healthy queue gives

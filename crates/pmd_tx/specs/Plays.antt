@@ -1,15 +1,15 @@
 -- How a driver that sends follows from the calls that were made: with each goes the move that it is.
-use Rattle.std.specs.Prelude.{ℕ, ◌≡◌, ◌<◌, ⊤, false, List, [], ◌∷◌, ◌++◌}
+use Rattle.std.specs.Prelude.{ℕ, ◌≡◌, ◌<◌, ⊤, Bool, true, false, List, [], ◌∷◌, ◌++◌}
 use Rattle.dma_arena.specs.Block.{Block}
 use Rattle.nic_device.specs.declared.event.Event.{Event}
 use Rattle.nic_device.specs.declared.event.Event.TheVariants as event
 use Rattle.nic_device.specs.declared.event.Reply.{Reply}
 use Rattle.nic_device.specs.declared.event.Reply.TheVariants as reply
 use Rattle.device_lock.specs.declared.entry.Call.{Call}
-use Rattle.pmd_base.specs.Made.{Adds}
+use Rattle.pmd_base.specs.Made.{Adds, StepsWhere}
 use Rattle.pmd_base.specs.declared.fault.PmdFault.{PmdFault}
 use Rattle.pmd_base.specs.declared.fault.PmdFault.TheVariants.{DeviceFault}
-use Rattle.pmd_tx.specs.Sending.{Sender, Move, IsOwn, moved, is_healthy, is_sent, descriptor_at}
+use Rattle.pmd_tx.specs.Sending.{Sender, Move, Elsewhere, IsOwn, moved, is_healthy, is_sent, descriptor_at}
 
 -- the driver after these moves, with the replies of these calls: all that its code knows
 abbrev pub played_by : Sender → List Move → List Call → Sender
@@ -24,11 +24,20 @@ AllOwn v [] (n ∷ calls) = ⊥
 AllOwn v (m ∷ moves) [] = ⊥
 AllOwn v (m ∷ moves) (n ∷ calls) = IsOwn v m n.event × AllOwn (moved v m n.reply) moves calls
 
--- some calls were made, which by these moves lead the driver from one state to another
+abbrev pub is_elsewhere : Move → Bool
+is_elsewhere Elsewhere = true
+is_elsewhere m = false
+
+-- each call that is none of the driver's own is a step of the device
+abbrev pub OthersStep : List Move → List Call → Type 0
+OthersStep moves calls = StepsWhere is_elsewhere moves calls
+
+-- some calls were made, which by these moves lead the driver from one state to another; those that aren't its own are
+-- steps of the device
 abbrev pub Plays : List Call → Sender → List Call → Sender → Type 0
 Plays old v new w =
-    (moves : List Move) × (since : List Call) × (new ≡ old ++ since) × AllOwn v moves since ×
-    (w ≡ played_by v moves since)
+    (moves : List Move) × (since : List Call) × (new ≡ old ++ since) × AllOwn v moves since
+    × (w ≡ played_by v moves since) × OthersStep moves since
 
 -- the last call was a look at the oldest outstanding packet, which isn't done; nothing was accepted before it
 pub record LooksLast (old : List Call) (v : Sender) (new : List Call) (w : Sender) : Type 0 where

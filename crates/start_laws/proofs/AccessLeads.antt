@@ -25,7 +25,7 @@ module _ (w : Watched) (q : AtPort) (fifo : ℕ) (h : List Entry) (along : IsAlo
       → Leads w.queue (call_of (event.Read q.port number) (reply.Word word)) P Q)
       → (old new : List Call) → (made : IsMade q old new (Sees row on)) → StepsBefore q old new (Sees row on) made
       → old ≢ [] → AtCalls w fifo h old P → AtCalls w fifo h new Q
-  seen P Q row on kept kept_q leads old new (number, word, named, is, (before, added)) steps some at =
+  seen P Q row on kept kept_q leads old new (number, word, named, is, (before, added, stepped)) steps some at =
       subst (λ (calls : List Call). AtCalls w fifo h calls Q) (sym added)
       (calls_lead w fifo h P Q old before (call_of (event.Read q.port number) (reply.Word word)) along kept kept_q
       (leads number word named is) steps some at)
@@ -35,7 +35,7 @@ module _ (w : Watched) (q : AtPort) (fifo : ℕ) (h : List Entry) (along : IsAlo
       → Leads w.queue (call_of (event.Write q.port number word) reply.Done) P Q)
       → (old new : List Call) → (made : IsMade q old new (Sets row word)) → StepsBefore q old new (Sets row word) made
       → old ≢ [] → AtCalls w fifo h old P → AtCalls w fifo h new Q
-  set P Q row word kept kept_q leads old new (number, named, (before, added)) steps some at =
+  set P Q row word kept kept_q leads old new (number, named, (before, added, stepped)) steps some at =
       subst (λ (calls : List Call). AtCalls w fifo h calls Q) (sym added)
       (calls_lead w fifo h P Q old before (call_of (event.Write q.port number word) reply.Done) along kept kept_q
       (leads number named) steps some at)

@@ -15,8 +15,9 @@ use Rattle.history_laws.proofs.Aligned.{histories_aligned, new_aligned}
 use Rattle.history_laws.proofs.Alone.{alone_by_entries}
 use Rattle.history_laws.proofs.Modes.{mode_told}
 use Rattle.history_laws.proofs.Sound.{histories_sound}
+use Rattle.pmd_base.specs.Made.{AreSteps}
 use Rattle.receive_laws.proofs.Delivering.{legal_behind, events_before, events_behind, image_stays, vfs_stays}
-use Rattle.start_laws.specs.Along.{IsAlong, AtEntries, AreSteps, CallsLead}
+use Rattle.start_laws.specs.Along.{IsAlong, AtEntries, CallsLead}
 use Rattle.start_laws.proofs.Reached.{KeptOver, LeadsOver, reached, state_kept, state_leads}
 use Rattle.start_laws.proofs.Parts.{begun, parts}
 use Rattle.start_laws.proofs.Walk.{Between, stay, walk}

@@ -52,7 +52,7 @@ pub first_seen : (w : Watched) (q : AtPort) (fifo : ℕ) (h : List Entry) (P : S
     → IsKept w (lent_by w.pass h) P → ((s : State) (number : ℕ) → P s → P (after s (event.Read q.port number)))
     → (row : RowId) (on : Bool) (old new : List Call) → IsMade q old new (Sees row on) → BeforeLast w fifo h new P
     → AtCalls w fifo h new P
-first_seen w q fifo h P along kept read row on old new (number, word, named, is, (before, added)) at =
+first_seen w q fifo h P along kept read row on old new (number, word, named, is, (before, added, stepped)) at =
     let c = call_of (event.Read q.port number) (reply.Word word) in
     let made : (old ++ before) ++ c ∷ [] ≡ new = append_assoc old before (c ∷ []) ∙ sym added in
     subst (λ (calls : List Call). AtCalls w fifo h calls P) made

@@ -13,8 +13,8 @@ ends_some (o ∷ old) before c e = cc
 -- an access adds some calls, of which the last is its own
 one_added : (q : AtPort) (old new : List Call) (a : Access) → IsMade q old new a
     → (before : List Call) × (c : Call) × (new ≡ old ++ (before ++ c ∷ []))
-one_added q old new (Sees row on) (number, word, named, is, (before, added)) = (before, _, added)
-one_added q old new (Sets row word) (number, named, (before, added)) = (before, _, added)
+one_added q old new (Sees row on) (number, word, named, is, (before, added, stepped)) = (before, _, added)
+one_added q old new (Sets row word) (number, named, (before, added, stepped)) = (before, _, added)
 
 pub made_some : (q : AtPort) (old new : List Call) (a : Access) → IsMade q old new a → new ≢ []
 made_some q old new a made none =

@@ -12,11 +12,12 @@ use Rattle.device_lock.specs.Pass.{call_of}
 use Rattle.device_lock.specs.declared.alone.Watched.{Watched}
 use Rattle.device_lock.specs.declared.entry.Call.{Call}
 use Rattle.device_lock.specs.declared.entry.Entry.{Entry}
+use Rattle.pmd_base.specs.Made.{AreSteps}
 use Rattle.pmd_queue.specs.Made.{Access, Sees, Sets, AreMade, IsMade}
 use Rattle.pmd_queue.specs.Named.{AtPort}
 use Rattle.pmd_queue.specs.Sides.{ring_words}
 use Rattle.pmd.specs.Starting.{IsPrepared}
-use Rattle.start_laws.specs.Along.{IsAlong, AreSteps, AtEntries, Leads}
+use Rattle.start_laws.specs.Along.{IsAlong, AtEntries, Leads}
 use Rattle.start_laws.specs.Points.{AccessesLead, Sides, Point, seen_by, after_access, after_accesses, May, AllMay, StepsBefore, StepsBetween}
 use Rattle.start_laws.proofs.Reached.{KeptOver, reached, reached_next, state_leads}
 use Rattle.start_laws.proofs.Along.{entries_lead}
@@ -73,12 +74,12 @@ module _ (w : Watched) (q : AtPort) (fifo : ℕ) (h : List Entry) (along : IsAlo
   access_at : (F : Sides → Sides) (old new : List Call) (a : Access) → ((p : Sides) → C p → May a (F p))
       → (made : IsMade q old new a) → StepsBefore q old new a made → old ≢ [] → At old F
       → At new (λ p. after_access a (F p))
-  access_at F old new (Sees row on) may (number, word, named, is, (before, added)) steps some at =
+  access_at F old new (Sees row on) may (number, word, named, is, (before, added, stepped)) steps some at =
       subst (λ (calls : List Call). At calls (λ p. seen_by row on (F p))) (sym added)
       (call_leads F (λ p. seen_by row on (F p)) old before (call_of (event.Read q.port number) (reply.Word word))
       (λ s. (refl, refl))
       (λ p known. read_leads w mine q (F p) row on word number named is (may p known)) steps some at)
-  access_at F old new (Sets row word) may (number, named, (before, added)) steps some at =
+  access_at F old new (Sets row word) may (number, named, (before, added, stepped)) steps some at =
       subst (λ (calls : List Call). At calls (λ p. after_access (Sets row word) (F p))) (sym added)
       (call_leads F (λ p. after_access (Sets row word) (F p)) old before
       (call_of (event.Write q.port number word) reply.Done) (λ s. (refl, refl))

@@ -10,14 +10,14 @@ use Rattle.pmd_queue.specs.Named.{AtPort}
 use Rattle.start_laws.specs.Along.{AtCalls, AtEntries, IsAlong}
 use Rattle.start_laws.specs.On.{AreOn, StepsToOn}
 use Rattle.start_laws.specs.Points.{HasGround}
-use Rattle.start_laws.specs.Start.{OnlySteps, BeginsWell, StartAgrees, StartGoesOn}
+use Rattle.start_laws.specs.Start.{BeginsWell, StartAgrees, StartGoesOn}
 use Rattle.start_laws.proofs.Lent.{IsLentBy}
+use Rattle.start_laws.proofs.OnlySteps.{steps_to_on}
 use Rattle.start_laws.proofs.On.{ground_at as ground_is_at, on_some as once_on_some, other_lent as other_is_lent, ring_lent as ring_is_lent, switched_sides_agree, switched_sides_go_on}
 
 module _ (w : Watched) (fifo : ℕ) (h : List Entry) (q : AtPort) (size : ℕ) (old : List Call) (a : Numbers)
     (new : List Call) (r : Running) (up : AreUp q size old a new r) (along : IsAlong w fifo h)
-    (is : is_size size ≡ true) (only : OnlySteps q size old a new r up)
-    (well : BeginsWell w fifo h q size old a new r up)
+    (is : is_size size ≡ true) (well : BeginsWell w fifo h q size old a new r up)
   where
     -- before the receive ring is filled both sides are on
 
@@ -33,14 +33,7 @@ module _ (w : Watched) (fifo : ℕ) (h : List Entry) (q : AtPort) (size : ℕ) (
     }
 
     steps : StepsToOn q size old a up.on.mid up.empty r.transmit on
-    steps = record {
-      quiet = only.quiet;
-      receive_words = only.receive_words;
-      receive_lent = only.receive_lent;
-      transmit_words = only.transmit_words;
-      transmit_lent = only.transmit_lent;
-      switched = only.switched;
-    }
+    steps = steps_to_on q size old a up.on.mid up.empty r.transmit on
 
     pub ring_lent : AtEntries w h up.on.mid (λ done. IsLentBy w.pass up.receive.ring h)
     ring_lent =
@@ -61,13 +54,13 @@ module _ (w : Watched) (fifo : ℕ) (h : List Entry) (q : AtPort) (size : ℕ) (
         once_on_some w fifo h q size old a up.on.mid up.empty r.transmit on along is steps well.ground
 
 pub start_agrees : StartAgrees
-start_agrees w fifo h q size old a new r up along is only well =
+start_agrees w fifo h q size old a new r up along is well =
     switched_sides_agree w fifo h q size old a up.on.mid up.empty r.transmit
-    (on w fifo h q size old a new r up along is only well) along is
-    (steps w fifo h q size old a new r up along is only well) well.ground
+    (on w fifo h q size old a new r up along is well) along is
+    (steps w fifo h q size old a new r up along is well) well.ground
 
 pub start_goes_on : StartGoesOn
-start_goes_on w fifo h q size old a new r up along is only well =
+start_goes_on w fifo h q size old a new r up along is well =
     switched_sides_go_on w fifo h q size old a up.on.mid up.empty r.transmit
-    (on w fifo h q size old a new r up along is only well) along is
-    (steps w fifo h q size old a new r up along is only well) well.ground
+    (on w fifo h q size old a new r up along is well) along is
+    (steps w fifo h q size old a new r up along is well) well.ground

@@ -8,9 +8,8 @@ use Rattle.nic_device.specs.declared.event.Reply.{Reply}
 use Rattle.device_lock.specs.Pass.{call_of}
 use Rattle.device_lock.specs.declared.entry.Call.{Call}
 use Rattle.pmd_base.specs.Events.{is_step}
-use Rattle.pmd_base.specs.Made.{Adds, AddsSome}
+use Rattle.pmd_base.specs.Made.{Adds, AddsSome, AreSteps}
 use Rattle.pmd_queue.specs.Named.{AtPort}
-use Rattle.start_laws.specs.Along.{AreSteps}
 use Rattle.start_laws.specs.Ending.{Each, IsEnding}
 use Rattle.start_laws.specs.Stopping.{Ends}
 
@@ -48,8 +47,8 @@ module _ (q : AtPort) where
 
   pub adds_ends : (old new : List Call) (e : Event Block) (r : Reply Block) → (x : Adds old new e r) → AreSteps x.0
       → IsEnding q e → Ends q old new
-  adds_ends old new e r (before, is) steps own =
+  adds_ends old new e r (before, is, stepped) steps own =
       (before ++ call_of e r ∷ [], is, each_both before (call_of e r ∷ []) (steps_end before steps) (own, tt))
 
   pub some_end : (old new : List Call) → (x : AddsSome old new) → AreSteps x.0 → Ends q old new
-  some_end old new (before, is) steps = (before, is, steps_end before steps)
+  some_end old new (before, is, stepped) steps = (before, is, steps_end before steps)

@@ -12,11 +12,11 @@ use Rattle.pmd_base.specs.Home.{Bringing, BringsOne}
 use Rattle.pmd_base.specs.declared.fault.PmdFault.{PmdFault}
 use Rattle.pmd_base.specs.declared.fault.PmdFault.TheVariants.{BadSize, DeviceFault, ForeignBlock, NoBuffer, StartTimeout}
 use Rattle.pmd_base.specs.declared.fault.PmdFault.TheVariants as fault
+use Rattle.pmd_base.specs.Made.{AreSteps}
 use Rattle.pmd_queue.specs.Both.{both_asked, receive_polled}
 use Rattle.pmd_queue.specs.Made.{Access, Sees, Sets, AreMade, FailsBy, IsMade, IsOtherwise, IsStrayRead, StopsBy}
 use Rattle.pmd_queue.specs.Named.{AtPort, IsNumberOf}
 use Rattle.pmd_queue.specs.Sides.{PollsEnd, missed, polled}
-use Rattle.start_laws.specs.Along.{AreSteps}
 use Rattle.start_laws.specs.Ending.{IsEnding}
 use Rattle.start_laws.specs.Points.{StepsBefore, StepsBetween}
 use Rattle.start_laws.specs.Stopping.{BringingEnds, Ends, StepsAsFails, StepsAsPolled, StepsOtherwise, StepsTaking, StepsToStop, SwitchedOffEnds, UnswitchedEnds}

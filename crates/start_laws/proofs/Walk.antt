@@ -21,9 +21,9 @@ use Rattle.history_laws.specs.Laws.{AreEvents}
 use Rattle.history_laws.proofs.Aligned.{events_aligned}
 use Rattle.history_laws.proofs.Modes.{event_told}
 use Rattle.pmd_base.specs.Events.{is_step}
+use Rattle.pmd_base.specs.Made.{AreSteps}
 use Rattle.receive_laws.proofs.Clear.{no_registers}
 use Rattle.receive_laws.proofs.Histories.{calls_own, calls_other}
-use Rattle.start_laws.specs.Along.{AreSteps}
 use Rattle.start_laws.specs.Moves.{IsMet}
 use Rattle.start_laws.specs.Standing.{IsLeft}
 use Rattle.start_laws.proofs.Reached.{KeptOver, LeadsOver, reached, reached_next}

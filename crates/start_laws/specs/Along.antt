@@ -1,5 +1,5 @@
 -- A legal history of a new device that leaves a queue alone, and what holds wherever its pass has made so many calls.
-use Rattle.std.specs.Prelude.{ℕ, ◌≡◌, ◌≢◌, ◌<◌, ⊤, IsTrue, List, [], ◌∷◌, ◌++◌}
+use Rattle.std.specs.Prelude.{ℕ, ◌≡◌, ◌≢◌, ◌<◌, List, [], ◌∷◌, ◌++◌}
 use Rattle.dma_arena.specs.Block.{Block}
 use Rattle.nic_device.specs.Sound.{IsEvent, IsSound}
 use Rattle.nic_device.specs.State.{State, new_state}
@@ -10,7 +10,7 @@ use Rattle.device_lock.specs.History.{IsLegal, call_in, calls_of, leads_to}
 use Rattle.device_lock.specs.declared.alone.Watched.{Watched}
 use Rattle.device_lock.specs.declared.entry.Call.{Call}
 use Rattle.device_lock.specs.declared.entry.Entry.{Entry}
-use Rattle.pmd_base.specs.Events.{is_step}
+use Rattle.pmd_base.specs.Made.{AreSteps}
 use Rattle.history_laws.specs.Laws.{AreEvents}
 use Rattle.start_laws.specs.Moves.{IsMet}
 use Rattle.start_laws.specs.Standing.{IsLeft}
@@ -47,11 +47,6 @@ IsKept w mine P = (s : State) (e : Event Block) → IsLeft w mine s e → P s �
 abbrev pub Leads : ℕ → Call → (State → Type 0) → (State → Type 0) → Type 0
 Leads queue c P Q =
     (s : State) → IsMet queue s → IsEvent c.event → c.reply ≡ reply_to s c.event → P s → Q (after s c.event)
-
--- each call is a step of the device
-abbrev pub AreSteps : List Call → Type 0
-AreSteps [] = ⊤
-AreSteps (c ∷ cs) = IsTrue (is_step c.event) × AreSteps cs
 
 -- after some steps of the device and one call more the other holds, where both are kept
 abbrev pub CallsLead : Type 1

@@ -8,6 +8,7 @@ use Rattle.device_lock.specs.declared.entry.Call.{Call}
 use Rattle.device_lock.specs.declared.entry.Entry.{Entry}
 use Rattle.pmd.specs.Started.{is_size}
 use Rattle.pmd.specs.Starting.{IsReceiveReady, IsTransmitReady}
+use Rattle.pmd_base.specs.Made.{AreSteps}
 use Rattle.pmd_queue.specs.Both.{IsSwitched, both_quiet, receive_polled}
 use Rattle.pmd_queue.specs.Named.{AtPort}
 use Rattle.pmd_queue.specs.Sides.{polled, ring_words}
@@ -15,7 +16,7 @@ use Rattle.pmd_rx.specs.Receive.{Receive}
 use Rattle.pmd_tx.specs.Sending.{Sender}
 use Rattle.receive_laws.specs.Joint.{Agree}
 use Rattle.transmit_laws.specs.Agreeing.{Agrees}
-use Rattle.start_laws.specs.Along.{AreSteps, AtCalls, AtEntries, BeforeLast, IsAlong}
+use Rattle.start_laws.specs.Along.{AtCalls, AtEntries, BeforeLast, IsAlong}
 use Rattle.start_laws.specs.Points.{HasGround, StepsBetween}
 use Rattle.start_laws.specs.Unused.{WentOn}
 

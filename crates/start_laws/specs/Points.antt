@@ -9,9 +9,10 @@ use Rattle.device_lock.specs.Alone.{Blocks, lent_by}
 use Rattle.device_lock.specs.declared.alone.Watched.{Watched}
 use Rattle.device_lock.specs.declared.entry.Entry.{Entry}
 use Rattle.device_lock.specs.declared.entry.Call.{Call}
+use Rattle.pmd_base.specs.Made.{AreSteps}
 use Rattle.pmd_queue.specs.Made.{Access, Sees, Sets, AreMade, IsMade}
 use Rattle.pmd_queue.specs.Named.{AtPort}
-use Rattle.start_laws.specs.Along.{AreSteps, AtCalls, IsAlong}
+use Rattle.start_laws.specs.Along.{AtCalls, IsAlong}
 use Rattle.start_laws.specs.Moves.{MayGoOnReceive, MayGoOnTransmit, receive_seen, transmit_seen}
 use Rattle.start_laws.specs.Numbers.{NamesQueue}
 use Rattle.start_laws.specs.Standing.{Stand}

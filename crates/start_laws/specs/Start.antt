@@ -1,37 +1,18 @@
 -- What a start of the driver leaves, over a legal history that leaves its queue alone.
-use Rattle.std.specs.Prelude.{ℕ, ◌≡◌, ◌++◌, true, List, []}
+use Rattle.std.specs.Prelude.{ℕ, ◌≡◌, true, List, []}
 use Rattle.dma_arena.specs.Numbers.{Numbers}
-use Rattle.register_file.specs.declared.dir.Dir.TheVariants.{Rx, Tx}
 use Rattle.nic_device.specs.State.{new_state}
 use Rattle.device_lock.specs.declared.alone.Watched.{Watched}
 use Rattle.device_lock.specs.declared.entry.Call.{Call}
 use Rattle.device_lock.specs.declared.entry.Entry.{Entry}
 use Rattle.pmd.specs.Running.{Running}
 use Rattle.pmd.specs.Started.{AreUp, is_size}
-use Rattle.pmd_queue.specs.Both.{both_quiet, receive_polled}
 use Rattle.pmd_queue.specs.Named.{AtPort}
-use Rattle.pmd_queue.specs.Sides.{polled, ring_words}
 use Rattle.receive_laws.specs.Joint.{Agree}
 use Rattle.transmit_laws.specs.Agreeing.{Agrees}
-use Rattle.start_laws.specs.Along.{AreSteps, AtCalls, AtEntries, BeforeLast, IsAlong}
-use Rattle.start_laws.specs.Points.{HasGround, StepsBetween}
+use Rattle.start_laws.specs.Along.{AtCalls, AtEntries, BeforeLast, IsAlong}
+use Rattle.start_laws.specs.Points.{HasGround}
 use Rattle.start_laws.specs.Unused.{WentOn}
-
--- beside the driver's accesses its pass made steps of the device alone, until both sides were on
-pub record OnlySteps (q : AtPort) (size : ℕ) (old : List Call) (a : Numbers) (new : List Call) (r : Running)
-    (up : AreUp q size old a new r) : Type 0 where
-  pub quiet : StepsBetween q old up.receive.mid both_quiet up.receive.quiet
-  pub receive_words :
-      StepsBetween q up.receive.mid up.receive.prepared.mid (ring_words Rx up.receive.ring size)
-      up.receive.prepared.words
-  pub receive_lent : AreSteps up.receive.prepared.lent.0
-  pub transmit_words :
-      StepsBetween q up.ready_made up.transmit.prepared.mid (ring_words Tx up.transmit.ring size)
-      up.transmit.prepared.words
-  pub transmit_lent : AreSteps up.transmit.prepared.lent.0
-  pub switched :
-      StepsBetween q up.both_made up.on.mid
-      (receive_polled true up.on.switched.0 ++ polled Tx true up.on.switched.1) up.on.switched.3
 
 -- just before the driver's first access its port and queue name this queue, and frames are short
 pub record BeginsWell (w : Watched) (fifo : ℕ) (h : List Entry) (q : AtPort) (size : ℕ) (old : List Call) (a : Numbers)
@@ -44,7 +25,7 @@ abbrev pub StartAgrees : Type 0
 StartAgrees =
     (w : Watched) (fifo : ℕ) (h : List Entry) (q : AtPort) (size : ℕ) (old : List Call) (a : Numbers)
     (new : List Call) (r : Running) (up : AreUp q size old a new r) → IsAlong w fifo h → is_size size ≡ true →
-    OnlySteps q size old a new r up → BeginsWell w fifo h q size old a new r up →
+    BeginsWell w fifo h q size old a new r up →
     AtCalls w fifo h up.on.mid (λ s. Agree w.queue s [] up.empty × Agrees s w.queue [] r.transmit)
 
 -- and both sides are on there, with nothing received or sent since they went on
@@ -52,5 +33,5 @@ abbrev pub StartGoesOn : Type 0
 StartGoesOn =
     (w : Watched) (fifo : ℕ) (h : List Entry) (q : AtPort) (size : ℕ) (old : List Call) (a : Numbers)
     (new : List Call) (r : Running) (up : AreUp q size old a new r) → IsAlong w fifo h → is_size size ≡ true →
-    OnlySteps q size old a new r up → BeginsWell w fifo h q size old a new r up →
+    BeginsWell w fifo h q size old a new r up →
     AtEntries w h up.on.mid (WentOn w.queue (new_state w.vfs fifo))

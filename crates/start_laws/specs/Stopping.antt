@@ -8,11 +8,11 @@ use Rattle.pmd_base.specs.Home.{Bringing, Brings, BringsOne}
 use Rattle.pmd_base.specs.declared.fault.PmdFault.{PmdFault}
 use Rattle.pmd_base.specs.declared.fault.PmdFault.TheVariants.{BadSize, DeviceFault, ForeignBlock, NoBuffer, StartTimeout}
 use Rattle.pmd_base.specs.declared.fault.PmdFault.TheVariants as fault
+use Rattle.pmd_base.specs.Made.{AreSteps}
 use Rattle.pmd_queue.specs.Both.{IsSwitched, SwitchFails, both_asked, receive_polled}
 use Rattle.pmd_queue.specs.Made.{Access, Sees, Sets, FailsBy, IsOtherwise, StopsBy}
 use Rattle.pmd_queue.specs.Named.{AtPort}
 use Rattle.pmd_queue.specs.Sides.{PollsEnd, missed, polled}
-use Rattle.start_laws.specs.Along.{AreSteps}
 use Rattle.start_laws.specs.Ending.{Each, IsEnding}
 use Rattle.start_laws.specs.Points.{StepsBetween}
 

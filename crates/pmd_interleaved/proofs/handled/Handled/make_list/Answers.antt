@@ -1,4 +1,4 @@
-use Rattle.std.proofs.Common.{List, subst}
+use Rattle.std.proofs.Common.{List, subst, ◌∙◌}
 use Rattle.dma_arena.specs.Block.{Block}
 use Rattle.nic_device.specs.declared.event.Event.{Event}
 use Rattle.pmd_interleaved.specs.Scheduled.{IsMadeTo}
@@ -6,9 +6,11 @@ use Rattle.pmd_interleaved.proofs.Making.{one_more}
 use Rattle.pmd_interleaved.proofs.handled.Handled.make_list.Goals as goal
 
 pub loop-event-preserved : goal.loop-event-preserved
-loop-event-preserved c =
-    one_more c.args.self.now c.loop-event.self c.make_foreign.new.self c.args.list.now.items c.pop_front.new.self.items
-    c.in-Some.event
-    (subst (λ (es : List (Event Block)). IsMadeTo c.args.self.now c.args.list.now.items c.loop-event.self es)
-    c.in-Some.ensures.items c.loop-event.invariant)
-    c.in_default-make_foreign.ensures.made
+loop-event-preserved c = (
+  one_more c.args.self.now c.loop-event.self c.make_foreign.new.self c.args.list.now.items c.pop_front.new.self.items
+      c.in-Some.event
+      (subst (λ (es : List (Event Block)). IsMadeTo c.args.self.now c.args.list.now.items c.loop-event.self es)
+      c.in-Some.ensures.items c.loop-event.invariant.0)
+      c.in_default-make_foreign.ensures.made,
+  c.in_default-make_foreign.ensures.none ∙ c.loop-event.invariant.1,
+)

@@ -1,8 +1,10 @@
 pub mod Apart
 pub mod Each
+pub mod Enabling
 pub mod Entries
 pub mod Going
 pub mod InOrder
+pub mod Led
 pub mod Lending
 pub mod Meeting
 pub mod Next

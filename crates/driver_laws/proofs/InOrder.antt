@@ -24,7 +24,8 @@ use Rattle.transmit_laws.proofs.Counting.{sent_is_counted}
 use Rattle.transmit_laws.proofs.Runs.{idle-all}
 use Rattle.pmd.specs.Halves.{Halves, Doer, played_by}
 use Rattle.driver_laws.specs.Histories.{IsDriven, HandedIsPrefix, NoneIsAll, SentIsPrefix, IdleIsAllSent, CountedWhereUp}
-use Rattle.driver_laws.proofs.Runs.{Led, leads}
+use Rattle.driver_laws.proofs.Led.{Led}
+use Rattle.driver_laws.proofs.Runs.{leads}
 
 module _ (w : Watched) (fifo : ℕ) (start rest : List Entry) (h : Halves) (doers : List Doer)
     (d : IsDriven w fifo start rest h doers) where
@@ -37,7 +38,7 @@ module _ (w : Watched) (fifo : ℕ) (start rest : List Entry) (h : Halves) (doer
   abbrev last : Halves
   last = played_by h doers (calls_of w.pass rest)
 
-  pub led : Led w here [] [] rest last
+  pub led : Led w (lent_by w.pass (start ++ rest)) here [] [] rest last
   led =
       let before = events_before start rest d.events in
       leads w (lent_by w.pass (start ++ rest)) (mode_through w.vfs Off start) here [] [] h doers rest

@@ -1,7 +1,9 @@
 pub mod Apart
 pub mod Each
+pub mod Enabling
 pub mod Entries
 pub mod InOrder
+pub mod Led
 pub mod Lending
 pub mod Meeting
 pub mod Next

@@ -7,7 +7,7 @@ use Rattle.dma_arena.specs.Memory.{Avoids, has_block}
 use Rattle.dma_arena.proofs.Inside.{inside_avoids}
 use Rattle.dma_ring.specs.Driver.{posted}
 use Rattle.dma_ring.proofs.Fields.{halves_come_back}
-use Rattle.reg_table.specs.declared.rows.RowId.TheVariants.{Rdt, Ctrl, Hlreg0, Maxfrs, GcrExt}
+use Rattle.reg_table.specs.declared.rows.RowId.TheVariants.{Rdt}
 use Rattle.register_file.specs.Columns.{place}
 use Rattle.nic_device.specs.Named.{named}
 use Rattle.nic_device.specs.Sound.{IsEvent}
@@ -29,6 +29,7 @@ use Rattle.receive_laws.specs.Steps.{Each}
 use Rattle.receive_laws.proofs.Kept.{slot_low}
 use Rattle.receive_laws.proofs.Places.{slot_inside}
 use Rattle.transmit_laws.specs.Sparing.{Spares}
+use Rattle.transmit_laws.proofs.Basing.{plain-write}
 use Rattle.driver_laws.proofs.Lending.{lend_leaves}
 
 -- the register of a write of the receive half's
@@ -41,18 +42,6 @@ module _ (s : State) (queue : ℕ) (l : Layout) (name : IsNamed s queue l) (port
   writes_tail (Sees first second) own = absurd own
   writes_tail (Holding p) own = absurd own
   writes_tail (Lent o b) own = absurd own
-
-  no_setting : named s port number ≡ Register (place Rdt queue) 0xFFFFFFFF
-      → WritesNoSetting s (event.Write port number word)
-  no_setting here p view found =
-      let same : Register (place Rdt queue) 0xFFFFFFFF ≡ Register p view = sym here ∙ found in
-      let row : p.row ≡ Rdt = cc in
-      record {
-        control = λ e. let x : Rdt ≡ Ctrl = sym row ∙ e in cc;
-        jumbo = λ e. let x : Rdt ≡ Hlreg0 = sym row ∙ e in cc;
-        limit = λ e. let x : Rdt ≡ Maxfrs = sym row ∙ e in cc;
-        mode = λ e. let x : Rdt ≡ GcrExt = sym row ∙ e in cc;
-      }
 
   transmit_left : named s port number ≡ Register (place Rdt queue) 0xFFFFFFFF
       → LeavesTransmit queue s (after s (event.Write port number word))
@@ -102,8 +91,8 @@ module _ (queue : ℕ) (s : State) (out : List Piece) (v : Receive) (gone here :
 
   own_setting : (e : Event Block) → IsOwn v e → WritesNoSetting s e
   own_setting (event.Write port n word) own =
-      no_setting s queue v.layout h.named port n word
-      (writes_tail s queue v.layout h.named port n word v.stage own)
+      plain-write s port n word (place Rdt queue) 0xFFFFFFFF
+      (writes_tail s queue v.layout h.named port n word v.stage own) refl
   own_setting (event.Peek16 a) own = tt
   own_setting (event.Take n) own = tt
   own_setting (event.Lend b) own = tt

@@ -1,3 +1,4 @@
 pub mod Agreeing
+pub mod Enabling
 pub mod Histories
 pub mod Waiting

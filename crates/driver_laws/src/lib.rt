@@ -5,6 +5,7 @@
 //! what a history is that leaves the driver's queue alone.
 #![tactic(auto)]
 
+ghost use Rattle.driver_laws.specs.Enabling.{EnableWordsKeep};
 ghost use Rattle.pmd.specs.Halves.{ReceivingDrives, SendingDrives, OthersDrive, DrivesOn};
 ghost use Rattle.driver_laws.specs.Histories.{HandedIsPrefix, NoneIsAll, SentIsPrefix, IdleIsAllSent, CountedWhereUp, StepsLeaveAlone};
 ghost use Rattle.driver_laws.specs.Waiting.{WaitingIsNotAll};
@@ -30,6 +31,12 @@ pub fn both_sides_in_order()
     ensures sent { SentIsPrefix }
     ensures idle { IdleIsAllSent }
     ensures counted { CountedWhereUp }
+{}
+
+/// Behind a word that is written to the enable register of either side of the driver's queue, as a driver that stops
+/// writes one, the device agrees with both halves as before it, whatever the word.
+pub fn enable_words_keep_the_agreement()
+    ensures { EnableWordsKeep }
 {}
 
 /// The steps of the device that the ways to a device make before the driver's calls leave its queue alone: so nothing

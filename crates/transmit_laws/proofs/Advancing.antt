@@ -1,7 +1,7 @@
 -- The driver's writes of the tail keep what it and the device agree on.
 use Rattle.std.proofs.Common.{◌≡◌, ℕ, ◌+◌, ◌<◌, ◌≤◌, inl, inr, true, List, refl, sym, ap, ◌∙◌, subst, arith}
 use Rattle.std.proofs.lemmas.Bool.{cases_eq}
-use Rattle.reg_table.specs.declared.rows.RowId.TheVariants.{Tdt, Ctrl, Hlreg0, Maxfrs, GcrExt}
+use Rattle.reg_table.specs.declared.rows.RowId.TheVariants.{Tdt}
 use Rattle.register_file.specs.Columns.{place}
 use Rattle.register_laws.specs.Laws.{after_write}
 use Rattle.register_file.specs.Queue.{ring_of}
@@ -16,12 +16,11 @@ use Rattle.nic_device.specs.Access.{named_written}
 use Rattle.nic_device.specs.declared.event.Event.TheVariants as event
 use Rattle.nic_device.specs.declared.event.Port.{Port}
 use Rattle.nic_device.specs.declared.event.Reply.TheVariants as reply
-use Rattle.nic_device.specs.declared.named.Named.TheVariants.{Register}
 use Rattle.device_laws.specs.Laws.{WritesNoSetting}
 use Rattle.pmd_tx.specs.Sending.{Sender, Move, Advances, IsOwn, packet_at, slot_at, descriptor_at, moved, advanced}
 use Rattle.transmit_laws.specs.Agreeing.{IsBased, IsPosted, AgreesAt, Agrees}
 use Rattle.transmit_laws.specs.Up.{IsUp}
-use Rattle.transmit_laws.proofs.Basing.{based-after}
+use Rattle.transmit_laws.proofs.Basing.{based-after, plain-write}
 use Rattle.transmit_laws.proofs.Slots.{slot-below}
 use Rattle.transmit_laws.proofs.Tails.{tail-written}
 
@@ -42,16 +41,8 @@ module _ (s : State) (queue : ℕ) (sent : List (List ℕ)) (v : Sender) (f : �
 
   pub setting_kept : (port : Port) (n word : ℕ) → IsOwn v Advances (event.Write port n word)
       → WritesNoSetting s (event.Write port n word)
-  setting_kept port n word own p view found =
-      let here : named s port n ≡ Register (place Tdt queue) 0xFFFFFFFF = rw (own.1, own.2) h.based.tail in
-      let same : Register (place Tdt queue) 0xFFFFFFFF ≡ Register p view = sym here ∙ found in
-      let row : p.row ≡ Tdt = cc in
-      record {
-        control = λ e. let x : Tdt ≡ Ctrl = sym row ∙ e in cc;
-        jumbo = λ e. let x : Tdt ≡ Hlreg0 = sym row ∙ e in cc;
-        limit = λ e. let x : Tdt ≡ Maxfrs = sym row ∙ e in cc;
-        mode = λ e. let x : Tdt ≡ GcrExt = sym row ∙ e in cc;
-      }
+  setting_kept port n word own =
+      plain-write s port n word (place Tdt queue) 0xFFFFFFFF (rw (own.1, own.2) h.based.tail) refl
 
   waits_more : v.poked ≡ true → (k : ℕ) → f ≤ k → k < v.posted + 1
       → IsPosted s.memory (descriptor_at v.layout k) (packet_at v k)

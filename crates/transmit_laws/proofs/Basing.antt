@@ -1,6 +1,7 @@
 -- What an event keeps that writes no setting.
-use Rattle.std.proofs.Common.{◌≡◌, ℕ, List, refl, ◌∙◌}
+use Rattle.std.proofs.Common.{◌≡◌, ℕ, false, List, refl, sym, ap, ◌∙◌}
 use Rattle.dma_arena.specs.Block.{Block}
+use Rattle.reg_table.specs.declared.place.Place.{Place}
 use Rattle.vf_map.specs.Map.{located}
 use Rattle.register_file.specs.Pools.{mode_in}
 use Rattle.nic_device.specs.Named.{named, at_location}
@@ -9,12 +10,16 @@ use Rattle.nic_device.specs.Sound.{IsEvent}
 use Rattle.nic_device.specs.State.{State}
 use Rattle.nic_device.specs.Step.{after}
 use Rattle.nic_device.specs.declared.event.Event.{Event}
+use Rattle.nic_device.specs.declared.event.Event.TheVariants as event
 use Rattle.nic_device.specs.declared.event.Port.{Port}
 use Rattle.nic_device.specs.declared.event.Port.TheVariants.{Pf, Vf}
+use Rattle.nic_device.specs.declared.named.Named.TheVariants.{Register}
 use Rattle.nic_device.proofs.Steps.{keeps_sound}
+use Rattle.device_lock.specs.Alone.{is_setting}
 use Rattle.device_laws.specs.Laws.{WritesNoSetting}
 use Rattle.device_laws.proofs.KeptSettings.{settings_stand}
 use Rattle.device_laws.proofs.Standing.{stays_within}
+use Rattle.history_laws.proofs.Sparing.{no_setting}
 use Rattle.pmd_tx.specs.Sending.{Layout, Sender, Move, moved}
 use Rattle.transmit_laws.specs.Agreeing.{IsBased, Agrees}
 
@@ -23,6 +28,21 @@ pub named-same : (s t : State) → mode_in t.registers ≡ mode_in s.registers �
     → named t port n ≡ named s port n
 named-same s t mode vfs Pf n = refl
 named-same s t mode vfs (Vf v) n = λ k. at_location (located (mode k) (vfs k) v n)
+
+-- a write of a register that is no setting
+pub plain-write : (s : State) (port : Port) (n word : ℕ) (q : Place) (view : ℕ) → named s port n ≡ Register q view
+    → is_setting q.row ≡ false → WritesNoSetting s (event.Write port n word)
+plain-write s port n word q view names plain p seen there =
+    let same : Register q view ≡ Register p seen = sym names ∙ there in
+    let both : q ≡ p = cc in
+    let own = no_setting q.row plain in
+    let e = ap (λ (x : Place). x.row) both in
+    record {
+      control = λ x. own.0 (e ∙ x);
+      jumbo = λ x. own.1 (e ∙ x);
+      limit = λ x. own.2 (e ∙ x);
+      mode = λ x. own.3 (e ∙ x);
+    }
 
 pub based-after : (s : State) (queue : ℕ) (l : Layout) (e : Event Block) → IsBased s queue l → IsEvent e
     → WritesNoSetting s e → IsBased (after s e) queue l

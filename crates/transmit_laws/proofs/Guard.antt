@@ -1,4 +1,4 @@
--- The guard of a driver that starts: it writes the enable word without bit 25, and reads it with bit 25 as 0.
+-- What a driver does by the enable word: it asks for the side to be on or off, and sees the side off.
 use Rattle.std.proofs.Common.{◌≡◌, ℕ, ◌^◌, ◌/◌, ◌%◌, ◌<◌, false, sym, ap, ◌∙◌, subst, arith}
 use Rattle.std.specs.Prelude.{bit_and, ◌==◌}
 use Rattle.std.proofs.lemmas.Nat.{and_mask}
@@ -7,13 +7,14 @@ use Rattle.register_file.specs.Bits.{has_bit}
 use Rattle.register_file.specs.Columns.{place}
 use Rattle.register_file.specs.Registers.{word_of}
 use Rattle.register_laws.specs.Laws.{after_write}
-use Rattle.register_laws.specs.Sides.{TransmitQueue}
+use Rattle.register_laws.specs.Sides.{TransmitQueue, transmit_queue_of}
 use Rattle.register_laws.proofs.Switches.{transmit-asked}
 use Rattle.nic_device.specs.Access.{named_read, named_written}
 use Rattle.nic_device.specs.Outcome.{Outcome, gives}
 use Rattle.nic_device.specs.Sound.{IsSound}
 use Rattle.nic_device.specs.State.{State}
 use Rattle.nic_device.specs.Step.{step_of, after, reply_to}
+use Rattle.nic_device.specs.Transmit.{staged_by}
 use Rattle.nic_device.specs.declared.event.Event.TheVariants as event
 use Rattle.nic_device.specs.declared.event.Port.{Port}
 use Rattle.nic_device.specs.declared.event.Reply.TheVariants as reply
@@ -30,12 +31,16 @@ module _ (queue : ℕ) (s : State) (port : Port) (n : ℕ) (names : NamesEnable 
   unfolding step_of
   looked = ap (λ m. named_read s m) names
 
-  written_unwanted : (word : ℕ) → queue < 128 → IsSound s → has_bit 25 word ≡ false
-      → IsUnwanted queue (after s (event.Write port n word))
-  written_unwanted word small sound none =
-      let asked = transmit-asked s.registers sound.registers.shape queue small 0xFFFFFFFF word in
-      subst (λ (o : Outcome). IsUnwanted queue o.state) (sym (wrote word))
-      (ap (λ (x : TransmitQueue). x.wanted) asked ∙ none)
+  -- a word asks, and nothing else
+  pub asked-side : (word : ℕ) → queue < 128 → IsSound s
+      → transmit_queue_of (after s (event.Write port n word)).registers queue
+      ≡ record (transmit_queue_of s.registers queue) { wanted = has_bit 25 word }
+  asked-side word small sound =
+      ap (λ (o : Outcome). transmit_queue_of o.state.registers queue) (wrote word)
+      ∙ transmit-asked s.registers sound.registers.shape queue small 0xFFFFFFFF word
+
+  pub asked-staged : (word : ℕ) → staged_by (after s (event.Write port n word)) queue ≡ staged_by s queue
+  asked-staged word = ap (λ (o : Outcome). staged_by o.state queue) (wrote word)
 
   -- a read tells by bit 25 whether the side is on
   bit-shown : (word : ℕ) → has_bit 25 (bit_and word 0xFFFFFFFF) ≡ has_bit 25 word
@@ -57,6 +62,6 @@ module _ (queue : ℕ) (s : State) (port : Port) (n : ℕ) (names : NamesEnable 
 pub guard_is_off : GuardIsOff
 guard_is_off = record {
   written = λ queue s port n word small sound names none.
-      written_unwanted queue s port n names word small sound none;
+      ap (λ (x : TransmitQueue). x.wanted) (asked-side queue s port n names word small sound) ∙ none;
   read = λ queue s port n word none names told zero. read_off queue s port n names word none told zero;
 }

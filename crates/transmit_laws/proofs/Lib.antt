@@ -6,6 +6,7 @@ pub mod Basing
 pub mod Blocks
 pub mod Counting
 pub mod Done
+pub mod Enable
 pub mod Examples
 pub mod Fetching
 pub mod Frames

@@ -1,5 +1,6 @@
 -- An event that spares a driver keeps what it and the device agree on.
 use Rattle.std.proofs.Common.{◌≡◌, ℕ, ◌<◌, inl, inr, true, false, List, [], ◌++◌, refl, sym, ap, ◌∙◌, subst}
+use Rattle.std.specs.Prelude.{IsTrue}
 use Rattle.std.proofs.lemmas.Bool.{cases_Bool, eqb-true}
 use Rattle.std.proofs.lemmas.List.{append-nil, get_or-set_same}
 use Rattle.dma_arena.specs.Block.{Block}
@@ -9,7 +10,7 @@ use Rattle.register_file.specs.declared.dir.Dir.TheVariants.{Rx, Tx}
 use Rattle.register_laws.specs.Sides.{TransmitQueue, transmit_queue_of}
 use Rattle.register_laws.proofs.Switches.{transmit-switched}
 use Rattle.nic_device.specs.Outcome.{Outcome, gives}
-use Rattle.nic_device.specs.Sound.{IsSound}
+use Rattle.nic_device.specs.Sound.{IsEvent, IsSound}
 use Rattle.nic_device.specs.State.{State}
 use Rattle.nic_device.specs.Step.{step_of, after}
 use Rattle.nic_device.specs.Switching.{emptied, side_switched}
@@ -18,7 +19,9 @@ use Rattle.nic_device.specs.declared.event.Event.{Event}
 use Rattle.nic_device.specs.declared.event.Event.TheVariants as event
 use Rattle.nic_device.specs.declared.event.Reply.TheVariants.{Done}
 use Rattle.nic_device.proofs.Cases.{either_way, switched_cases}
-use Rattle.pmd_tx.specs.Sending.{Sender}
+use Rattle.device_laws.specs.Laws.{WritesNoSetting}
+use Rattle.device_laws.specs.Leaving.{LeavesBlock}
+use Rattle.pmd_tx.specs.Sending.{Layout, Sender, has_lent}
 use Rattle.transmit_laws.specs.Agreeing.{IsSetUp, AgreesAt, Agrees}
 use Rattle.transmit_laws.specs.Laws.{SparingEventsKeep}
 use Rattle.transmit_laws.specs.Sent.{sent_by}
@@ -70,56 +73,69 @@ switch_keeps s queue sound small =
     switched_cases (KeepsRing s queue) s Tx queue (record { ring = refl; writeback = refl; staged = λ is. is })
     (record { ring = refl; writeback = refl; staged = λ is. is }) (side_keeps s queue sound small)
 
+-- a side with the same ring, that writes its head to the same place, is set up alike
+pub set_up-same : (q r : TransmitQueue) (l : Layout) (posted f : ℕ) → r.ring ≡ q.ring → r.writeback ≡ q.writeback
+    → IsSetUp q l posted f → IsSetUp r l posted f
+set_up-same q r l posted f ring back h = record {
+  base = ap (λ x. x.base) ring ∙ h.base;
+  length = ap (λ x. x.length) ring ∙ h.length;
+  head = ap (λ x. x.head) ring ∙ h.head;
+  tail = ap (λ x. x.tail) ring ∙ h.tail;
+  writeback = back ∙ h.writeback;
+}
+
 module _ (s : State) (queue : ℕ) (sent : List (List ℕ)) (v : Sender) (f : ℕ) (h : AgreesAt s queue sent v f)
-    (e : Event Block) (x : Spares queue v s e)
+    (e : Event Block)
   where
     abbrev t : State
     t = after s e
 
-    -- the side's ring stays, and no block of the driver's changes
-    quiet : IsSetUp (transmit_queue_of t.registers queue) v.layout v.posted f → staged_by t queue ≡ []
-        → is_transmit_of queue e ≡ false → Agrees t queue (sent ++ sent_by queue s e) v
-    quiet set_up staged other =
-        rw (sent-none queue s e other, append-nil sent) (
-          f,
-          record {
-            based = based-after s queue v.layout e h.based x.made x.setting;
-            set_up = set_up;
-            staged = staged;
-            counted = h.counted;
-            shows = shows-same s.memory t.memory v f h.based.layout h.counted h.shows (x.blocks other);
-            in_order = h.in_order;
-          },
-        )
+    -- they agree on, with no frame more, where the side's ring stays, and no block of the driver's changes
+    pub still-agrees : IsEvent e → WritesNoSetting s e
+        → IsSetUp (transmit_queue_of t.registers queue) v.layout v.posted f → staged_by t queue ≡ []
+        → ((number : ℕ) → IsTrue (has_lent v number) → LeavesBlock number s t) → Agrees t queue sent v
+    still-agrees made none set_up staged blocks = (
+      f,
+      record {
+        based = based-after s queue v.layout e h.based made none;
+        set_up = set_up;
+        staged = staged;
+        counted = h.counted;
+        shows = shows-same s.memory t.memory v f h.based.layout h.counted h.shows blocks;
+        in_order = h.in_order;
+      },
+    )
 
-    elsewhere : is_transmit_of queue e ≡ false → is_switch_of queue e ≡ false
-        → Agrees t queue (sent ++ sent_by queue s e) v
-    elsewhere other apart =
-        let side = x.side other apart in quiet (rw side.side h.set_up) (side.staged ∙ h.staged) other
+    module _ (x : Spares queue v s e) where
+      quiet : IsSetUp (transmit_queue_of t.registers queue) v.layout v.posted f → staged_by t queue ≡ []
+          → is_transmit_of queue e ≡ false → Agrees t queue (sent ++ sent_by queue s e) v
+      quiet set_up staged other =
+          rw (sent-none queue s e other, append-nil sent)
+          (still-agrees x.made x.setting set_up staged (x.blocks other))
 
-    switched_side : is_transmit_of queue e ≡ false → is_switch_of queue e ≡ true
-        → Agrees t queue (sent ++ sent_by queue s e) v
-    switched_side other is =
-        let k = subst (λ (n : Event Block). KeepsRing s queue (step_of s n)) (sym (switch_is queue e is))
-        (switch_keeps s queue h.based.sound h.based.small) in
-        quiet (record {
-          base = ap (λ r. r.base) k.ring ∙ h.set_up.base;
-          length = ap (λ r. r.length) k.ring ∙ h.set_up.length;
-          head = ap (λ r. r.head) k.ring ∙ h.set_up.head;
-          tail = ap (λ r. r.tail) k.ring ∙ h.set_up.tail;
-          writeback = k.writeback ∙ h.set_up.writeback;
-        }) (k.staged h.staged) other
+      elsewhere : is_transmit_of queue e ≡ false → is_switch_of queue e ≡ false
+          → Agrees t queue (sent ++ sent_by queue s e) v
+      elsewhere other apart =
+          let side = x.side other apart in quiet (rw side.side h.set_up) (side.staged ∙ h.staged) other
 
-    pub spares-keeps : Agrees t queue (sent ++ sent_by queue s e) v
-    spares-keeps = elim (cases_Bool (is_transmit_of queue e)) [
-      | inl own ↦
-          subst (λ (n : Event Block). Agrees (after s n) queue (sent ++ sent_by queue s n) v)
-          (sym (transmit_is queue e own)) (transmit-keeps s queue sent v f h)
-      | inr other ↦ elim (cases_Bool (is_switch_of queue e)) [
-        | inl own ↦ switched_side other own
-        | inr apart ↦ elsewhere other apart
+      switched_side : is_transmit_of queue e ≡ false → is_switch_of queue e ≡ true
+          → Agrees t queue (sent ++ sent_by queue s e) v
+      switched_side other is =
+          let k = subst (λ (n : Event Block). KeepsRing s queue (step_of s n)) (sym (switch_is queue e is))
+          (switch_keeps s queue h.based.sound h.based.small) in
+          quiet (set_up-same (transmit_queue_of s.registers queue) (transmit_queue_of t.registers queue) v.layout v.posted
+          f k.ring k.writeback h.set_up) (k.staged h.staged) other
+
+      pub spares-keeps : Agrees t queue (sent ++ sent_by queue s e) v
+      spares-keeps = elim (cases_Bool (is_transmit_of queue e)) [
+        | inl own ↦
+            subst (λ (n : Event Block). Agrees (after s n) queue (sent ++ sent_by queue s n) v)
+            (sym (transmit_is queue e own)) (transmit-keeps s queue sent v f h)
+        | inr other ↦ elim (cases_Bool (is_switch_of queue e)) [
+          | inl own ↦ switched_side other own
+          | inr apart ↦ elsewhere other apart
+        ]
       ]
-    ]
 
 pub sparing_events_keep : SparingEventsKeep
 sparing_events_keep s queue sent v e (f, h) x = spares-keeps s queue sent v f h e x

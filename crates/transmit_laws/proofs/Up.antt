@@ -26,7 +26,7 @@ use Rattle.transmit_laws.proofs.Advancing.{advance-stays-up}
 use Rattle.transmit_laws.proofs.Sending.{transmit-stays-up}
 use Rattle.transmit_laws.proofs.Sparing.{transmit_is, switch_is}
 
-left_up : (queue : ℕ) (s t : State) → LeavesTransmit queue s t → IsUp queue s → IsUp queue t
+pub left_up : (queue : ℕ) (s t : State) → LeavesTransmit queue s t → IsUp queue s → IsUp queue t
 left_up queue s t left up = record {
   on = ap (λ (x : TransmitQueue). x.on) left.side ∙ up.on;
   wanted = ap (λ (x : TransmitQueue). x.wanted) left.side ∙ up.wanted;

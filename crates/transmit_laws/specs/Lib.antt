@@ -1,6 +1,7 @@
 pub mod Agreeing
 pub mod Alone
 pub mod Counting
+pub mod Enable
 pub mod Healthy
 pub mod Laws
 pub mod Lent

@@ -6,6 +6,7 @@
 #![tactic(auto)]
 
 ghost use Rattle.transmit_laws.specs.Counting.{SentIsCounted, SentIsTold};
+ghost use Rattle.transmit_laws.specs.Enable.{EnableWordsKeep};
 ghost use Rattle.transmit_laws.specs.Healthy.{OwnRepliesAreHealthy};
 ghost use Rattle.transmit_laws.specs.Lent.{OwnLendsAreKnown};
 ghost use Rattle.transmit_laws.specs.Off.{OffStays, GuardIsOff};
@@ -75,6 +76,12 @@ pub fn queue_off_stays_off()
 /// over every event that spares the driver.
 pub fn queue_up_stays_up()
     ensures { UpStays }
+{}
+
+/// A write of the enable register of the queue's transmit side keeps what device and driver agree on, whatever the word:
+/// they agree whether the side is on or not.
+pub fn enable_words_keep()
+    ensures { EnableWordsKeep }
 {}
 
 /// After a write of the enable register without bit 25 the side isn't wanted on; and where it isn't, a read that tells

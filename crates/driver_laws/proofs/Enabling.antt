@@ -1,0 +1,101 @@
+-- A word that is written to an enable register of the driver's queue keeps what the device and both halves agree on.
+use Rattle.std.proofs.Common.{◌≡◌, ℕ, List, refl, ap, ◌∙◌, subst}
+use Rattle.std.specs.FinMap as map
+use Rattle.std.proofs.lemmas.List.{append-nil}
+use Rattle.dma_arena.specs.Block.{Block}
+use Rattle.dma_arena.specs.Memory.{Memory}
+use Rattle.reg_table.specs.declared.rows.RowId.TheVariants.{Rxdctl, Txdctl}
+use Rattle.register_file.specs.Bits.{has_bit}
+use Rattle.register_file.specs.Columns.{place}
+use Rattle.register_file.specs.declared.dir.Dir.TheVariants.{Rx, Tx}
+use Rattle.register_laws.specs.Sides.{ReceiveQueue, receive_queue_of}
+use Rattle.register_laws.proofs.Switches.{receive-asked}
+use Rattle.nic_device.specs.Access.{named_written}
+use Rattle.nic_device.specs.Named.{named}
+use Rattle.nic_device.specs.Sound.{IsEvent}
+use Rattle.nic_device.specs.State.{State}
+use Rattle.nic_device.specs.Step.{step_of, after}
+use Rattle.nic_device.specs.declared.event.Event.{Event}
+use Rattle.nic_device.specs.declared.event.Event.TheVariants as event
+use Rattle.nic_device.specs.declared.event.Port.{Port}
+use Rattle.nic_device.specs.declared.named.Named.TheVariants.{Register}
+use Rattle.device_laws.specs.Laws.{WritesNoSetting}
+use Rattle.device_laws.specs.Leaving.{LeavesBlock}
+use Rattle.device_laws.proofs.KeptSettings.{settings_stand}
+use Rattle.device_laws.proofs.Standing.{stays_within}
+use Rattle.device_laws.proofs.StandingAccesses.{write_memory, write_rest}
+use Rattle.receive_laws.specs.Pieces.{Piece}
+use Rattle.receive_laws.proofs.Each.{each_of}
+use Rattle.receive_laws.proofs.Leaving.{leaving_keeps, switching_keeps}
+use Rattle.transmit_laws.specs.Agreeing.{Agrees}
+use Rattle.transmit_laws.proofs.Basing.{plain-write}
+use Rattle.transmit_laws.proofs.Enable.{enable_words_keep as transmit_word_keeps}
+use Rattle.transmit_laws.proofs.Sparing.{sparing_events_keep}
+use Rattle.pmd.specs.Halves.{Halves}
+use Rattle.driver_laws.specs.Agreeing.{BothAgree}
+use Rattle.driver_laws.specs.Enabling.{EnableWordsKeep}
+
+module _ (queue : ℕ) (s : State) (port : Port) (n word : ℕ) (out : List Piece) (sent : List (List ℕ)) (h : Halves)
+    (made : IsEvent (event.Write port n word)) (both : BothAgree queue s out sent h) where
+  abbrev e : Event Block
+  e = event.Write port n word
+
+  abbrev t : State
+  t = after s e
+
+  block_stays : (b : ℕ) → LeavesBlock b s t
+  block_stays b = ap (λ (m : Memory). map.get m b) (write_memory s port n word)
+
+  module _ (names : named s port n ≡ Register (place Rxdctl queue) 0xFFFFFFFF) where
+    asked : receive_queue_of t.registers queue ≡ record (receive_queue_of s.registers queue) { wanted = has_bit 25 word }
+    unfolding step_of
+    asked =
+        ap (λ m. receive_queue_of (named_written s m word).state.registers queue) names
+        ∙ receive-asked s.registers both.transmit.1.based.sound.registers.shape queue both.transmit.1.based.small
+        0xFFFFFFFF word
+
+    none : WritesNoSetting s e
+    none = plain-write s port n word (place Rxdctl queue) 0xFFFFFFFF names refl
+
+    receive_word : BothAgree queue t out sent h
+    receive_word = record {
+      receive =
+          switching_keeps queue s t out h.receive (record {
+            ring = ap (λ (q : ReceiveQueue). q.ring) asked;
+            control = ap (λ (q : ReceiveQueue). q.control) asked;
+            mode = (settings_stand s e none).mode;
+            vfs = (stays_within s e).vfs;
+            blocks = each_of h.receive (λ b. LeavesBlock b s t) block_stays;
+          }) both.receive;
+      transmit =
+          subst (λ xs. Agrees t queue xs h.transmit) (append-nil sent)
+          (sparing_events_keep s queue sent h.transmit e both.transmit (record {
+            made = made;
+            setting = none;
+            side = λ other switch.
+                (write_rest s port n word (place Rxdctl queue) 0xFFFFFFFF names refl refl).transmit queue (λ x. cc);
+            blocks = λ other number is. block_stays number;
+          }));
+      apart = both.apart;
+    }
+
+  module _ (names : named s port n ≡ Register (place Txdctl queue) 0xFFFFFFFF) where
+    transmit_word : BothAgree queue t out sent h
+    transmit_word = record {
+      receive =
+          leaving_keeps queue s t out h.receive (record {
+            receive =
+                (write_rest s port n word (place Txdctl queue) 0xFFFFFFFF names refl refl).receive queue (λ x. cc);
+            mode = (settings_stand s e (plain-write s port n word (place Txdctl queue) 0xFFFFFFFF names refl)).mode;
+            vfs = (stays_within s e).vfs;
+            blocks = each_of h.receive (λ b. LeavesBlock b s t) block_stays;
+          }) both.receive;
+      transmit = transmit_word_keeps s queue sent h.transmit port n word made names both.transmit;
+      apart = both.apart;
+    }
+
+pub enable_words_keep : EnableWordsKeep
+enable_words_keep queue s Rx port n word out sent h made names both =
+    receive_word queue s port n word out sent h made both names
+enable_words_keep queue s Tx port n word out sent h made names both =
+    transmit_word queue s port n word out sent h made both names

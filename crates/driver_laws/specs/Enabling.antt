@@ -1,0 +1,23 @@
+-- Words that are written to the enable registers of a driver's queue.
+use Rattle.std.specs.Prelude.{ℕ, ◌≡◌, List}
+use Rattle.register_file.specs.Columns.{place}
+use Rattle.register_file.specs.Queue.{enable_row}
+use Rattle.register_file.specs.declared.dir.Dir.{Dir}
+use Rattle.nic_device.specs.Named.{named}
+use Rattle.nic_device.specs.Sound.{IsEvent}
+use Rattle.nic_device.specs.State.{State}
+use Rattle.nic_device.specs.Step.{after}
+use Rattle.nic_device.specs.declared.event.Event.TheVariants as event
+use Rattle.nic_device.specs.declared.event.Port.{Port}
+use Rattle.nic_device.specs.declared.named.Named.TheVariants.{Register}
+use Rattle.receive_laws.specs.Pieces.{Piece}
+use Rattle.pmd.specs.Halves.{Halves}
+use Rattle.driver_laws.specs.Agreeing.{BothAgree}
+
+-- behind a word that is written to that of a side, whatever the word, the device agrees with both halves as before it
+abbrev pub EnableWordsKeep : Type 0
+EnableWordsKeep =
+    (queue : ℕ) (s : State) (side : Dir) (port : Port) (number word : ℕ) (out : List Piece) (sent : List (List ℕ))
+    (h : Halves) → IsEvent (event.Write port number word) →
+    named s port number ≡ Register (place (enable_row side) queue) 0xFFFFFFFF → BothAgree queue s out sent h →
+    BothAgree queue (after s (event.Write port number word)) out sent h

@@ -1,0 +1,24 @@
+-- A word that is written to the enable register of the driver's transmit side keeps what the two agree on.
+use Rattle.std.proofs.Common.{refl, ap, ◌∙◌}
+use Rattle.std.specs.FinMap as map
+use Rattle.dma_arena.specs.Memory.{Memory}
+use Rattle.reg_table.specs.declared.rows.RowId.TheVariants.{Txdctl}
+use Rattle.register_file.specs.Columns.{place}
+use Rattle.register_laws.specs.Sides.{TransmitQueue, transmit_queue_of}
+use Rattle.nic_device.specs.Step.{after}
+use Rattle.nic_device.specs.declared.event.Event.TheVariants as event
+use Rattle.device_laws.proofs.StandingAccesses.{write_memory}
+use Rattle.transmit_laws.specs.Enable.{EnableWordsKeep}
+use Rattle.transmit_laws.proofs.Basing.{plain-write}
+use Rattle.transmit_laws.proofs.Guard.{asked-side, asked-staged}
+use Rattle.transmit_laws.proofs.Sparing.{set_up-same, still-agrees}
+
+pub enable_words_keep : EnableWordsKeep
+enable_words_keep s queue sent v port n word made names (f, h) =
+    let e = event.Write port n word in
+    let side = asked-side queue s port n names word h.based.small h.based.sound in
+    still-agrees s queue sent v f h e made (plain-write s port n word (place Txdctl queue) 0xFFFFFFFF names refl)
+    (set_up-same (transmit_queue_of s.registers queue) (transmit_queue_of (after s e).registers queue) v.layout v.posted
+    f (ap (λ (x : TransmitQueue). x.ring) side) (ap (λ (x : TransmitQueue). x.writeback) side) h.set_up)
+    (asked-staged queue s port n names word ∙ h.staged)
+    (λ number is. ap (λ (m : Memory). map.get m number) (write_memory s port n word))

@@ -1,0 +1,5 @@
+use Rattle.transmit_laws.proofs.Enable.{enable_words_keep}
+use Rattle.transmit_laws.proofs.enable_words_keep.Goals as goal
+
+pub returns : goal.returns
+returns c = enable_words_keep

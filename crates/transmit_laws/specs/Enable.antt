@@ -1,0 +1,17 @@
+-- Words that are written to the enable register of a queue's transmit side.
+use Rattle.std.specs.Prelude.{ℕ, List}
+use Rattle.nic_device.specs.Sound.{IsEvent}
+use Rattle.nic_device.specs.State.{State}
+use Rattle.nic_device.specs.Step.{after}
+use Rattle.nic_device.specs.declared.event.Event.TheVariants as event
+use Rattle.nic_device.specs.declared.event.Port.{Port}
+use Rattle.pmd_tx.specs.Sending.{Sender}
+use Rattle.transmit_laws.specs.Agreeing.{Agrees}
+use Rattle.transmit_laws.specs.Off.{NamesEnable}
+
+-- device and driver agree on behind such a word as before it, whether or not it asks for the side to be on
+abbrev pub EnableWordsKeep : Type 0
+EnableWordsKeep =
+    (s : State) (queue : ℕ) (sent : List (List ℕ)) (v : Sender) (port : Port) (number word : ℕ) →
+    IsEvent (event.Write port number word) → NamesEnable queue s port number → Agrees s queue sent v →
+    Agrees (after s (event.Write port number word)) queue sent v

@@ -9,6 +9,7 @@ pub mod Outline
 pub mod Resolved
 pub mod Script
 pub mod Printing
+pub mod Line
 pub mod Disassembly
 pub mod ReadBack
 pub mod Laws

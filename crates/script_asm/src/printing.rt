@@ -2,8 +2,11 @@
 
 ghost use Rattle.std.specs.Prelude.{◌≡◌, Some};
 ghost use Rattle.script_asm.specs.Printing.{target_text, place_text, place_first_at, group_text, direction_text};
-ghost use Rattle.script_asm.specs.Printing.{instruction_text};
+ghost use Rattle.script_asm.specs.Printing.{link_text, instruction_text};
+ghost use Rattle.script_asm.specs.Line.{operand_text, line_text};
 
+use self::Operand::{Data, Label, Named, Target, Word};
+use self::Operands::{One, Three, Two, Zero};
 use intr_unit::Group;
 use printed::WordText;
 use program::Instruction;
@@ -56,41 +59,139 @@ impl fmt::Display for TargetText {
     }
 }
 
-/// A group of interrupts as it is printed.
+/// An operand of an instruction.
 #[derive(Clone, Copy)]
-struct GroupText(Group);
+enum Operand {
+    /// A word of the language.
+    Named(&'static str),
+    /// A number.
+    Word(u32),
+    /// The address of a register.
+    Target(u32),
+    /// The number of a data string.
+    Data(u16),
+    /// The number of an instruction that is jumped to.
+    Label(u16),
+}
 
-impl fmt::Display for GroupText {
-    ghost output = { λ g. Some (group_text g.0) };
+impl fmt::Display for Operand {
+    ghost output = { λ o. Some (operand_text o) };
 
     fn fmt<W: fmt::Write>(&self, f: &mut fmt::Formatter<W>) -> fmt::Result {
-        match self.0 {
-            Group::Pf => write!(f, "pf"),
-            Group::Vf(function) => write!(f, "{}", WordText(u32::from(function))),
+        match *self {
+            Operand::Named(name) => write!(f, "{name}"),
+            Operand::Word(word) => write!(f, "{}", WordText(word)),
+            Operand::Target(address) => write!(f, "{}", TargetText(address)),
+            Operand::Data(number) => write!(f, "d{number}"),
+            Operand::Label(pc) => write!(f, "L{pc}"),
         }
     }
 }
 
-/// A direction of a queue as it is printed.
+/// The operands of an instruction.
 #[derive(Clone, Copy)]
-struct DirectionText(Dir);
+enum Operands {
+    /// None.
+    Zero,
+    /// One.
+    One(Operand),
+    /// Two.
+    Two(Operand, Operand),
+    /// Three.
+    Three(Operand, Operand, Operand),
+}
 
-impl fmt::Display for DirectionText {
-    ghost output = { λ d. Some (direction_text d.0) };
+/// The line of an instruction: its name and its operands.
+#[derive(Clone, Copy)]
+struct Line(&'static str, Operands);
+
+impl fmt::Display for Line {
+    ghost output = { λ l. Some (line_text l) };
 
     fn fmt<W: fmt::Write>(&self, f: &mut fmt::Formatter<W>) -> fmt::Result {
-        match self.0 {
-            Dir::Rx => write!(f, "rx"),
-            Dir::Tx => write!(f, "tx"),
+        let Line(name, operands) = *self;
+        match operands {
+            Operands::Zero => write!(f, "{name}"),
+            Operands::One(a) => write!(f, "{name} {a}"),
+            Operands::Two(a, b) => write!(f, "{name} {a} {b}"),
+            Operands::Three(a, b, c) => write!(f, "{name} {a} {b} {c}"),
         }
     }
 }
 
-/// A number of 8 or 16 bits, printed as a word.
-fn number(number: u16) -> WordText
-    ensures { result ≡ record { 0 = number } }
+/// A number of 8 or 16 bits.
+fn number(number: u16) -> Operand
+    ensures { result ≡ Operand.Word number }
 {
-    WordText(u32::from(number))
+    Operand::Word(u32::from(number))
+}
+
+/// A group of interrupts.
+fn group(group: Group) -> Operand
+    ensures { operand_text result ≡ group_text group }
+{
+    match group {
+        Group::Pf => Operand::Named("pf"),
+        Group::Vf(function) => number(u16::from(function)),
+    }
+}
+
+/// A direction of a queue.
+fn direction(direction: Dir) -> Operand
+    ensures { operand_text result ≡ direction_text direction }
+{
+    match direction {
+        Dir::Rx => Operand::Named("rx"),
+        Dir::Tx => Operand::Named("tx"),
+    }
+}
+
+/// Whether there is link.
+fn link(up: bool) -> Operand
+    ensures { operand_text result ≡ link_text up }
+{
+    Operand::Named(if up { "up" } else { "down" })
+}
+
+/// The line of an instruction.
+fn line_of(instruction: &Instruction) -> Line
+    ensures { line_text result ≡ instruction_text instruction.now }
+{
+    match *instruction {
+        Instruction::Write(address, word) => Line("w", Two(Target(address), Word(word))),
+        Instruction::Read(address) => Line("r", One(Target(address))),
+        Instruction::VfWrite {
+            function,
+            offset,
+            word,
+        } => Line(
+            "vw",
+            Three(number(u16::from(function)), Word(offset), Word(word)),
+        ),
+        Instruction::VfRead { function, offset } => {
+            Line("vr", Two(number(u16::from(function)), Word(offset)))
+        }
+        Instruction::Lend(block) => Line("lend", One(number(block))),
+        Instruction::Unlend(block) => Line("unlend", One(number(block))),
+        Instruction::Poke(address, data) => Line("poke", Two(Word(address), Data(data))),
+        Instruction::Peek(address, word) => {
+            Line("peek", Two(Word(address), number(u16::from(word))))
+        }
+        Instruction::Arrive(data) => Line("arrive", One(Data(data))),
+        Instruction::RxStep => Line("rx", Zero),
+        Instruction::TxStep(queue) => Line("tx", One(number(queue))),
+        Instruction::IntStep(of) => Line("int", One(group(of))),
+        Instruction::QueueStep(of, queue) => Line("qstep", Two(direction(of), number(queue))),
+        Instruction::EepromStep => Line("eestep", Zero),
+        Instruction::Link(up) => Line("link", One(link(up))),
+        Instruction::Collect => Line("collect", Zero),
+        Instruction::Expect { want, mask } => Line("expect", Two(Word(want), Word(mask))),
+        Instruction::And(word) => Line("and", One(Word(word))),
+        Instruction::JumpIfEqual(word, pc) => Line("jeq", Two(Word(word), Label(pc))),
+        Instruction::JumpUnlessEqual(word, pc) => Line("jne", Two(Word(word), Label(pc))),
+        Instruction::Jump(pc) => Line("jmp", One(Label(pc))),
+        Instruction::Halt => Line("halt", Zero),
+    }
 }
 
 /// An instruction as it is printed.
@@ -101,48 +202,6 @@ impl fmt::Display for InstructionText<'_> {
     ghost output = { λ i. Some (instruction_text i.0.now) };
 
     fn fmt<W: fmt::Write>(&self, f: &mut fmt::Formatter<W>) -> fmt::Result {
-        match *self.0 {
-            Instruction::Write(address, word) => {
-                write!(f, "w {} {}", TargetText(address), WordText(word))
-            }
-            Instruction::Read(address) => write!(f, "r {}", TargetText(address)),
-            Instruction::VfWrite {
-                function,
-                offset,
-                word,
-            } => {
-                let function = number(u16::from(function));
-                write!(f, "vw {function} {} {}", WordText(offset), WordText(word))
-            }
-            Instruction::VfRead { function, offset } => {
-                let function = number(u16::from(function));
-                write!(f, "vr {function} {}", WordText(offset))
-            }
-            Instruction::Lend(block) => write!(f, "lend {}", number(block)),
-            Instruction::Unlend(block) => write!(f, "unlend {}", number(block)),
-            Instruction::Poke(address, data) => write!(f, "poke {} d{data}", WordText(address)),
-            Instruction::Peek(address, word) => {
-                write!(f, "peek {} {}", WordText(address), number(u16::from(word)))
-            }
-            Instruction::Arrive(data) => write!(f, "arrive d{data}"),
-            Instruction::RxStep => write!(f, "rx"),
-            Instruction::TxStep(queue) => write!(f, "tx {}", number(queue)),
-            Instruction::IntStep(group) => write!(f, "int {}", GroupText(group)),
-            Instruction::QueueStep(direction, queue) => {
-                write!(f, "qstep {} {}", DirectionText(direction), number(queue))
-            }
-            Instruction::EepromStep => write!(f, "eestep"),
-            Instruction::Link(true) => write!(f, "link up"),
-            Instruction::Link(false) => write!(f, "link down"),
-            Instruction::Collect => write!(f, "collect"),
-            Instruction::Expect { want, mask } => {
-                write!(f, "expect {} {}", WordText(want), WordText(mask))
-            }
-            Instruction::And(word) => write!(f, "and {}", WordText(word)),
-            Instruction::JumpIfEqual(word, pc) => write!(f, "jeq {} L{pc}", WordText(word)),
-            Instruction::JumpUnlessEqual(word, pc) => write!(f, "jne {} L{pc}", WordText(word)),
-            Instruction::Jump(pc) => write!(f, "jmp L{pc}"),
-            Instruction::Halt => write!(f, "halt"),
-        }
+        write!(f, "{}", line_of(self.0))
     }
 }

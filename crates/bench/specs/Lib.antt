@@ -4,6 +4,7 @@ pub mod Debug
 pub mod Eeprom
 pub mod Ending
 pub mod Hash
+pub mod Line
 pub mod Objects
 pub mod Reading
 pub mod Refusal

@@ -1,97 +1,192 @@
 //! What the device replies, as it is printed.
-ghost use Rattle.std.specs.Prelude.{Some};
-ghost use Rattle.bench.specs.Reply.{fault_text, group_text, queue_text, reply_text, slot_text, why_text};
+ghost use Rattle.std.specs.Prelude.{◌≡◌, Some};
+ghost use Rattle.bench.specs.Line.{line_text, part_text};
+ghost use Rattle.bench.specs.Reply.{end_text, fault_text, group_text, queue_text, reply_text, why_text};
 
+use self::Part::{Bytes, Named, NotLent, Number, Numbered, Slot, Word};
+use self::Parts::{One, Two, Zero};
 use dma_ring::RingFault;
 use nic_device::{Group, Reply, ReplyNote, Why};
 use printed::{AddressText, BytesText, WordText};
 use std::fmt;
 
-/// Why a frame was dropped, as it is printed.
+/// A part of a reply, behind its name.
 #[derive(Clone, Copy)]
-struct WhyText(Why);
+enum Part<'a> {
+    /// A word of the language.
+    Named(&'static str),
+    /// A number.
+    Number(usize),
+    /// A number, behind what it counts.
+    Numbered(&'static str, usize),
+    /// A register's word.
+    Word(u32),
+    /// Bytes.
+    Bytes(&'a [u8]),
+    /// A slot of a queue.
+    Slot {
+        /// The number of the queue.
+        queue: u16,
+        /// The number of the slot.
+        slot: u16,
+    },
+    /// An address of memory that isn't lent.
+    NotLent(u64),
+}
 
-impl fmt::Display for WhyText {
-    ghost output = { λ w. Some (why_text w.0) };
+impl fmt::Display for Part<'_> {
+    ghost output = { λ p. Some (part_text p) };
 
     fn fmt<W: fmt::Write>(&self, f: &mut fmt::Formatter<W>) -> fmt::Result {
-        match self.0 {
-            Why::LinkDown => write!(f, "link down"),
-            Why::Off => write!(f, "off"),
-            Why::Short => write!(f, "short"),
-            Why::Long => write!(f, "long"),
-            Why::Filter => write!(f, "filter"),
-            Why::NoPool => write!(f, "no pool"),
-            Why::PoolOff => write!(f, "pool off"),
-            Why::Full => write!(f, "full"),
-            Why::QueueOff => write!(f, "queue off"),
-            Why::NoSlot => write!(f, "no slot"),
+        match *self {
+            Named(name) => write!(f, "{name}"),
+            Number(number) => write!(f, "{number}"),
+            Numbered(name, number) => write!(f, "{name} {number}"),
+            Word(word) => write!(f, "{}", WordText(word)),
+            Bytes(bytes) => write!(f, "{}", BytesText(bytes)),
+            Slot { queue, slot } => write!(f, "queue {queue} slot {slot}"),
+            NotLent(address) => write!(f, "not lent {}", AddressText(address)),
         }
     }
 }
 
-/// What a ring met, as it is printed.
+/// The parts of a reply, behind its name.
 #[derive(Clone, Copy)]
-struct FaultText(RingFault);
+enum Parts<'a> {
+    /// None.
+    Zero,
+    /// One.
+    One(Part<'a>),
+    /// Two.
+    Two(Part<'a>, Part<'a>),
+}
 
-impl fmt::Display for FaultText {
-    ghost output = { λ r. Some (fault_text r.0) };
+/// The line of a reply: its name and its parts.
+#[derive(Clone, Copy)]
+struct Line<'a>(&'static str, Parts<'a>);
+
+impl fmt::Display for Line<'_> {
+    ghost output = { λ l. Some (line_text l) };
 
     fn fmt<W: fmt::Write>(&self, f: &mut fmt::Formatter<W>) -> fmt::Result {
-        match self.0 {
-            RingFault::Outside => write!(f, "outside"),
-            RingFault::NotLent(address) => write!(f, "not lent {}", AddressText(address)),
-            RingFault::DescType => write!(f, "type"),
-            RingFault::NoBufferSize => write!(f, "no buffer size"),
-            RingFault::Offload => write!(f, "offload"),
-            RingFault::Legacy => write!(f, "legacy"),
-            RingFault::TooLong => write!(f, "too long"),
-            RingFault::UnknownType => write!(f, "unknown type"),
+        let Line(name, parts) = *self;
+        match parts {
+            Zero => write!(f, "{name}"),
+            One(a) => write!(f, "{name} {a}"),
+            Two(a, b) => write!(f, "{name} {a} {b}"),
         }
     }
 }
 
-/// A queue, as it is printed.
-#[derive(Clone, Copy)]
-struct QueueText(u16);
-
-impl fmt::Display for QueueText {
-    ghost output = { λ q. Some (queue_text q.0) };
-
-    fn fmt<W: fmt::Write>(&self, f: &mut fmt::Formatter<W>) -> fmt::Result {
-        let queue = self.0;
-        write!(f, "queue {queue}")
+/// Why a frame was dropped.
+fn why(why: Why) -> &'static str
+    ensures { result.now ≡ why_text why }
+{
+    match why {
+        Why::LinkDown => "link down",
+        Why::Off => "off",
+        Why::Short => "short",
+        Why::Long => "long",
+        Why::Filter => "filter",
+        Why::NoPool => "no pool",
+        Why::PoolOff => "pool off",
+        Why::Full => "full",
+        Why::QueueOff => "queue off",
+        Why::NoSlot => "no slot",
     }
 }
 
-/// A slot of a queue, as it is printed.
-#[derive(Clone, Copy)]
-struct SlotText {
-    queue: u16,
-    slot: u16,
-}
-
-impl fmt::Display for SlotText {
-    ghost output = { λ s. Some (slot_text s.queue s.slot) };
-
-    fn fmt<W: fmt::Write>(&self, f: &mut fmt::Formatter<W>) -> fmt::Result {
-        let queue = QueueText(self.queue);
-        let slot = self.slot;
-        write!(f, "{queue} slot {slot}")
+/// What a ring met.
+fn fault(fault: RingFault) -> Part<'static>
+    ensures { part_text result ≡ fault_text fault }
+{
+    match fault {
+        RingFault::Outside => Named("outside"),
+        RingFault::NotLent(address) => NotLent(address),
+        RingFault::DescType => Named("type"),
+        RingFault::NoBufferSize => Named("no buffer size"),
+        RingFault::Offload => Named("offload"),
+        RingFault::Legacy => Named("legacy"),
+        RingFault::TooLong => Named("too long"),
+        RingFault::UnknownType => Named("unknown type"),
     }
 }
 
-/// A group of interrupts, as it is printed.
-#[derive(Clone, Copy)]
-struct GroupText(Group);
+/// A queue.
+fn queue(queue: u16) -> Part<'static>
+    ensures { part_text result ≡ queue_text queue }
+{
+    Numbered("queue", usize::from(queue))
+}
 
-impl fmt::Display for GroupText {
-    ghost output = { λ g. Some (group_text g.0) };
+/// Whether a frame ended.
+fn end(end: bool) -> &'static str
+    ensures { result.now ≡ end_text end }
+{
+    if end { "end" } else { "more" }
+}
 
-    fn fmt<W: fmt::Write>(&self, f: &mut fmt::Formatter<W>) -> fmt::Result {
-        match self.0 {
-            Group::Pf => write!(f, "pf"),
-            Group::Vf(number) => write!(f, "vf {number}"),
+/// A group of interrupts.
+fn group(group: Group) -> Part<'static>
+    ensures { part_text result ≡ group_text group }
+{
+    match group {
+        Group::Pf => Named("pf"),
+        Group::Vf(number) => Numbered("vf", usize::from(number)),
+    }
+}
+
+/// The line of a reply.
+fn line_of(reply: &ReplyNote) -> Line<'_>
+    ensures { line_text result ≡ reply_text reply.now }
+{
+    match reply {
+        Reply::Word(word) => Line("word", One(Word(*word))),
+        Reply::Stray(word) => Line("stray", One(Word(*word))),
+        Reply::Done => Line("done", Zero),
+        Reply::Bytes(bytes) => Line("bytes", One(Bytes(bytes))),
+        Reply::Buf(block) => Line("taken", One(Number(block.number() as usize))),
+        Reply::Twice(_) => Line("twice", Zero),
+        Reply::NotLent => Line("not lent", Zero),
+        Reply::Misaligned => Line("misaligned", Zero),
+        Reply::NoQueue => Line("no queue", Zero),
+        Reply::NoGroup => Line("no group", Zero),
+        Reply::Idle => Line("idle", Zero),
+        Reply::Dropped(of) => Line("dropped", One(Named(why(*of)))),
+        Reply::Wrote {
+            queue,
+            slot,
+            end: has_ended,
+            ..
+        } => {
+            let slot = Slot {
+                queue: *queue,
+                slot: *slot,
+            };
+            Line("wrote", Two(slot, Named(end(*has_ended))))
+        }
+        Reply::Advanced {
+            queue: of,
+            slot,
+            ..
+        } => {
+            let slot = Slot {
+                queue: *of,
+                slot: *slot,
+            };
+            Line("advanced", One(slot))
+        }
+        Reply::Sent { queue: of, len, .. } => Line("sent", Two(queue(*of), Numbered("len", *len))),
+        Reply::Fault {
+            queue: of,
+            fault: met,
+        } => Line("fault", Two(queue(*of), fault(*met))),
+        Reply::Message { group: of, vector } => {
+            let vector = Numbered("vector", usize::from(*vector));
+            Line("message", Two(group(*of), vector))
+        }
+        Reply::Frame { queue: of, bytes } => {
+            Line("frame", Two(queue(*of), Bytes(bytes.bytes())))
         }
     }
 }
@@ -104,54 +199,6 @@ impl fmt::Display for ReplyText<'_> {
     ghost output = { λ r. Some (reply_text r.0.now) };
 
     fn fmt<W: fmt::Write>(&self, f: &mut fmt::Formatter<W>) -> fmt::Result {
-        match self.0 {
-            Reply::Word(word) => write!(f, "word {}", WordText(*word)),
-            Reply::Stray(word) => write!(f, "stray {}", WordText(*word)),
-            Reply::Done => write!(f, "done"),
-            Reply::Bytes(bytes) => write!(f, "bytes {}", BytesText(bytes)),
-            Reply::Buf(block) => write!(f, "taken {}", block.number()),
-            Reply::Twice(_) => write!(f, "twice"),
-            Reply::NotLent => write!(f, "not lent"),
-            Reply::Misaligned => write!(f, "misaligned"),
-            Reply::NoQueue => write!(f, "no queue"),
-            Reply::NoGroup => write!(f, "no group"),
-            Reply::Idle => write!(f, "idle"),
-            Reply::Dropped(why) => write!(f, "dropped {}", WhyText(*why)),
-            Reply::Wrote {
-                queue,
-                slot,
-                end,
-                ..
-            } => {
-                let slot = SlotText {
-                    queue: *queue,
-                    slot: *slot,
-                };
-                let end = if *end { "end" } else { "more" };
-                write!(f, "wrote {slot} {end}")
-            }
-            Reply::Advanced { queue, slot, .. } => {
-                let slot = SlotText {
-                    queue: *queue,
-                    slot: *slot,
-                };
-                write!(f, "advanced {slot}")
-            }
-            Reply::Sent { queue, len, .. } => write!(f, "sent {} len {len}", QueueText(*queue)),
-            Reply::Fault { queue, fault } => {
-                write!(f, "fault {} {}", QueueText(*queue), FaultText(*fault))
-            }
-            Reply::Message { group, vector } => {
-                write!(f, "message {} vector {vector}", GroupText(*group))
-            }
-            Reply::Frame { queue, bytes } => {
-                write!(
-                    f,
-                    "frame {} {}",
-                    QueueText(*queue),
-                    BytesText(bytes.bytes())
-                )
-            }
-        }
+        write!(f, "{}", line_of(self.0))
     }
 }

@@ -1,50 +1,76 @@
 //! The commands and their options.
 ghost use Rattle.std.specs.Prelude.{◌≡◌, IfErr, IfOk, false};
-ghost use Rattle.clap.specs.Words.{app_of, kind_of, rule_of};
+ghost use Rattle.clap.specs.Words.{app_of, kind_of, new_app, rule_of, with_rule, with_subcommand};
 ghost use Rattle.clap.specs.declared.builder.command.Command.TheViews.{out-Command as fields_of};
 ghost use Rattle.command_line.specs.Commands.{asm_app, bare_app, debug_app, dis_app, eeprom_app, fifo_rule, hash_app};
 ghost use Rattle.command_line.specs.Commands.{frames_rule, limit_rule, load_rule, nicbench_app, run_app};
-ghost use Rattle.command_line.specs.Commands.{threads_app, vfs_rule, workers_rule};
+ghost use Rattle.command_line.specs.Commands.{needed_rule, number_rule, threads_app, vfs_rule, workers_rule};
 
 use clap::builder::ValueParser;
 use clap::error::ErrorKind;
 use clap::{Arg, ArgAction, Command, Error, value_parser};
 use std::alloc::Global;
 
+/// An option that takes a number, and the number that stands for one that is left out.
+fn number<'a>(
+    alloc: Global,
+    name: &'a str,
+    help: &'a str,
+    numbers: ValueParser<'a>,
+    default: &'a str,
+) -> Arg<'a>
+    ensures rule { rule_of result ≡ number_rule name.entry.now numbers.entry default.entry.now }
+    ensures local { result.global ≡ false }
+{
+    Arg::new(alloc, name)
+        .long(name)
+        .value_name("N")
+        .help(help)
+        .value_parser(numbers)
+        .default_value(default)
+}
+
+/// An option that takes a number, and isn't left out.
+fn needed<'a>(
+    alloc: Global,
+    name: &'a str,
+    value_name: &'a str,
+    help: &'a str,
+    numbers: ValueParser<'a>,
+) -> Arg<'a>
+    ensures rule { rule_of result ≡ needed_rule name.entry.now numbers.entry }
+    ensures local { result.global ≡ false }
+{
+    Arg::new(alloc, name)
+        .long(name)
+        .value_name(value_name)
+        .help(help)
+        .value_parser(numbers)
+        .required(true)
+}
+
 fn vfs<'a>(alloc: Global) -> Arg<'a>
     ensures rule { rule_of result ≡ vfs_rule }
     ensures local { result.global ≡ false }
 {
-    Arg::new(alloc, "vfs")
-        .long("vfs")
-        .value_name("N")
-        .help("How many virtual functions the controller has, 63 at most")
-        .value_parser(value_parser!(u8))
-        .default_value("0")
+    let help = "How many virtual functions the controller has, 63 at most";
+    number(alloc, "vfs", help, value_parser!(u8), "0")
 }
 
 fn fifo<'a>(alloc: Global) -> Arg<'a>
     ensures rule { rule_of result ≡ fifo_rule }
     ensures local { result.global ≡ false }
 {
-    Arg::new(alloc, "fifo")
-        .long("fifo")
-        .value_name("N")
-        .help("How many received frames may wait in the controller, from 1 to 4096")
-        .value_parser(value_parser!(u16))
-        .default_value("64")
+    let help = "How many received frames may wait in the controller, from 1 to 4096";
+    number(alloc, "fifo", help, value_parser!(u16), "64")
 }
 
 fn limit<'a>(alloc: Global) -> Arg<'a>
     ensures rule { rule_of result ≡ limit_rule }
     ensures local { result.global ≡ false }
 {
-    Arg::new(alloc, "limit")
-        .long("limit")
-        .value_name("N")
-        .help("How many instructions are run at most")
-        .value_parser(value_parser!(u64))
-        .default_value("100000")
+    let help = "How many instructions are run at most";
+    number(alloc, "limit", help, value_parser!(u64), "100000")
 }
 
 fn load<'a>(alloc: Global) -> Arg<'a>
@@ -61,24 +87,46 @@ fn workers<'a>(alloc: Global) -> Arg<'a>
     ensures rule { rule_of result ≡ workers_rule }
     ensures local { result.global ≡ false }
 {
-    Arg::new(alloc, "workers")
-        .long("workers")
-        .value_name("K")
-        .help("How many workers drive a queue of their own, from 1 to 8")
-        .value_parser(ValueParser::signed(1, 8))
-        .required(true)
+    let help = "How many workers drive a queue of their own, from 1 to 8";
+    needed(alloc, "workers", "K", help, ValueParser::signed(1, 8))
 }
 
 fn frames<'a>(alloc: Global) -> Arg<'a>
     ensures rule { rule_of result ≡ frames_rule }
     ensures local { result.global ≡ false }
 {
-    Arg::new(alloc, "frames")
-        .long("frames")
-        .value_name("N")
-        .help("How many frames arrive, 60 at most")
-        .value_parser(ValueParser::signed(0, 60))
-        .required(true)
+    let help = "How many frames arrive, 60 at most";
+    needed(alloc, "frames", "N", help, ValueParser::signed(0, 60))
+}
+
+/// A command without options.
+fn alone<'a>(alloc: Global, name: &'a str, about: &'a str) -> Command<'a>
+    ensures app { app_of result ≡ new_app name.entry.now }
+    ensures local { (fields_of result).has_globals ≡ false }
+{
+    Command::new(alloc, name).about(about)
+}
+
+/// A command with one more option.
+fn with_option<'a>(command: Command<'a>, option: Arg<'a>) -> Result<Command<'a>, Error>
+    requires command { (fields_of command).has_globals ≡ false }
+    requires option { option.global ≡ false }
+    ensures ok { IfOk result (λ c. app_of c ≡ with_rule (app_of command.entry) (rule_of option.entry)) }
+    ensures local { IfOk result (λ c. (fields_of c).has_globals ≡ false) }
+    ensures err { IfErr result (λ e. kind_of e ≡ ErrorKind.OutOfMemory) }
+{
+    let command = command.arg(option)?;
+    Ok(command)
+}
+
+/// A command with one more subcommand.
+fn with_command<'a>(command: Command<'a>, more: Command<'a>) -> Result<Command<'a>, Error>
+    requires { (fields_of more).has_globals ≡ false }
+    ensures ok { IfOk result (λ c. app_of c ≡ with_subcommand (app_of command.entry) (app_of more.entry).top) }
+    ensures err { IfErr result (λ e. kind_of e ≡ ErrorKind.OutOfMemory) }
+{
+    let command = command.subcommand(more)?;
+    Ok(command)
 }
 
 fn run<'a>(alloc: Global) -> Result<Command<'a>, Error>
@@ -86,12 +134,10 @@ fn run<'a>(alloc: Global) -> Result<Command<'a>, Error>
     ensures local { IfOk result (λ c. (fields_of c).has_globals ≡ false) }
     ensures err { IfErr result (λ e. kind_of e ≡ ErrorKind.OutOfMemory) }
 {
-    let run = Command::new(alloc, "run")
-        .about("Runs the register script on standard input, and prints a line for each access")
-        .arg(vfs(alloc))?
-        .arg(fifo(alloc))?
-        .arg(limit(alloc))?;
-    Ok(run)
+    let about = "Runs the register script on standard input, and prints a line for each access";
+    let run = with_option(alone(alloc, "run", about), vfs(alloc))?;
+    let run = with_option(run, fifo(alloc))?;
+    with_option(run, limit(alloc))
 }
 
 fn debug<'a>(alloc: Global) -> Result<Command<'a>, Error>
@@ -99,38 +145,35 @@ fn debug<'a>(alloc: Global) -> Result<Command<'a>, Error>
     ensures local { IfOk result (λ c. (fields_of c).has_globals ≡ false) }
     ensures err { IfErr result (λ e. kind_of e ≡ ErrorKind.OutOfMemory) }
 {
-    let debug = Command::new(alloc, "debug")
-        .about(
-            "Debugs the register script on standard input by the commands that follow it behind a line %",
-        )
-        .arg(vfs(alloc))?
-        .arg(fifo(alloc))?;
-    Ok(debug)
+    let about =
+        "Debugs the register script on standard input by the commands that follow it behind a line %";
+    let debug = with_option(alone(alloc, "debug", about), vfs(alloc))?;
+    with_option(debug, fifo(alloc))
 }
 
 fn hash<'a>(alloc: Global) -> Command<'a>
     ensures app { app_of result ≡ hash_app }
     ensures local { (fields_of result).has_globals ≡ false }
 {
-    Command::new(alloc, "hash").about(
-        "Prints the RSS hash of each line of hex on standard input, under the key on its first line",
-    )
+    let about =
+        "Prints the RSS hash of each line of hex on standard input, under the key on its first line";
+    alone(alloc, "hash", about)
 }
 
 fn asm<'a>(alloc: Global) -> Command<'a>
     ensures app { app_of result ≡ asm_app }
     ensures local { (fields_of result).has_globals ≡ false }
 {
-    Command::new(alloc, "asm").about(
-        "Makes the register script on standard input an object, on standard output",
-    )
+    let about = "Makes the register script on standard input an object, on standard output";
+    alone(alloc, "asm", about)
 }
 
 fn dis<'a>(alloc: Global) -> Command<'a>
     ensures app { app_of result ≡ dis_app }
     ensures local { (fields_of result).has_globals ≡ false }
 {
-    Command::new(alloc, "dis").about("Prints the register script of the object on standard input")
+    let about = "Prints the register script of the object on standard input";
+    alone(alloc, "dis", about)
 }
 
 fn eeprom<'a>(alloc: Global) -> Result<Command<'a>, Error>
@@ -138,10 +181,8 @@ fn eeprom<'a>(alloc: Global) -> Result<Command<'a>, Error>
     ensures local { IfOk result (λ c. (fields_of c).has_globals ≡ false) }
     ensures err { IfErr result (λ e. kind_of e ≡ ErrorKind.OutOfMemory) }
 {
-    let eeprom = Command::new(alloc, "eeprom")
-        .about("Makes the EEPROM text on standard input an image, on standard output")
-        .arg(load(alloc))?;
-    Ok(eeprom)
+    let about = "Makes the EEPROM text on standard input an image, on standard output";
+    with_option(alone(alloc, "eeprom", about), load(alloc))
 }
 
 fn threads<'a>(alloc: Global) -> Result<Command<'a>, Error>
@@ -149,11 +190,9 @@ fn threads<'a>(alloc: Global) -> Result<Command<'a>, Error>
     ensures local { IfOk result (λ c. (fields_of c).has_globals ≡ false) }
     ensures err { IfErr result (λ e. kind_of e ≡ ErrorKind.OutOfMemory) }
 {
-    let threads = Command::new(alloc, "threads")
-        .about("Drives queues of one controller on threads, and prints what went through each")
-        .arg(workers(alloc))?
-        .arg(frames(alloc))?;
-    Ok(threads)
+    let about = "Drives queues of one controller on threads, and prints what went through each";
+    let threads = with_option(alone(alloc, "threads", about), workers(alloc))?;
+    with_option(threads, frames(alloc))
 }
 
 /// `nicbench`, without its commands.
@@ -172,13 +211,12 @@ pub(crate) fn nicbench<'a>(alloc: Global) -> Result<Command<'a>, Error>
     ensures ok { IfOk result (λ c. app_of c ≡ nicbench_app) }
     ensures err { IfErr result (λ e. kind_of e ≡ ErrorKind.OutOfMemory) }
 {
-    let nicbench = bare(alloc)
-        .subcommand(run(alloc)?)?
-        .subcommand(hash(alloc))?
-        .subcommand(eeprom(alloc)?)?
-        .subcommand(asm(alloc))?
-        .subcommand(dis(alloc))?
-        .subcommand(debug(alloc)?)?
-        .subcommand(threads(alloc)?)?;
+    let nicbench = with_command(bare(alloc), run(alloc)?)?;
+    let nicbench = with_command(nicbench, hash(alloc))?;
+    let nicbench = with_command(nicbench, eeprom(alloc)?)?;
+    let nicbench = with_command(nicbench, asm(alloc))?;
+    let nicbench = with_command(nicbench, dis(alloc))?;
+    let nicbench = with_command(nicbench, debug(alloc)?)?;
+    let nicbench = with_command(nicbench, threads(alloc)?)?;
     Ok(nicbench)
 }

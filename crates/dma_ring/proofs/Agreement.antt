@@ -1,8 +1,9 @@
 -- A driver's side of the descriptors.
-use Rattle.std.proofs.Common.{◌≡◌, ℕ, ◌/◌, ◌%◌, ◌^◌, Bool, true, false, refl, arith}
-use Rattle.std.specs.Prelude.{◌==◌, not, ◌||◌}
+use Rattle.std.proofs.Common.{◌≡◌, ℕ, ◌/◌, ◌%◌, ◌^◌, Bool, true, false, refl, ap, ◌∙◌, arith}
+use Rattle.std.specs.Prelude.{◌+◌, ◌*◌, ◌<◌, ◌==◌, not, ◌||◌}
 use Rattle.dma_ring.specs.Transmit.{command_of}
-use Rattle.dma_ring.specs.Driver.{PostedIsTheBuffer, ToldIsRead, data_word, data_command, DataIsAsked}
+use Rattle.dma_ring.specs.declared.driver.TheConstants.{DATA, LAST, PAYLEN}
+use Rattle.dma_ring.specs.Driver.{PostedIsTheBuffer, ToldIsRead, IsDataWord, data_word, data_command, DataIsAsked}
 use Rattle.dma_ring.proofs.Fields.{packet_is_told}
 
 pub posted_is_the_buffer : PostedIsTheBuffer
@@ -42,47 +43,35 @@ same_command : (len kind : ℕ) (end report extended vlan segment checks : Bool)
     ≡ data_command n last
 same_command len kind end report extended vlan segment checks n last a b c d e f g h = rw (a, b, c, d, e, f, g, h) refl
 
-pub data_is_asked : DataIsAsked
+-- the word with the marks of its end, or without them
+asked : (len payload mark w : ℕ) (last : Bool) → len < 2 ^ 16 → payload < 2 ^ 18 → mark < 2
+    → w ≡ DATA + LAST * mark + len + 2 ^ PAYLEN * payload → (mark == 1) ≡ last
+    → IsDataWord w len last payload
 unfolding command_of
+asked len payload mark w last short small one is marked =
+    let bytes : w % 2 ^ 16 ≡ len = omega arith in
+    let kind : w / 2 ^ 20 % 2 ^ 4 ≡ 3 = omega arith in
+    let end : w / 2 ^ 24 % 2 ≡ mark = omega arith in
+    let report : w / 2 ^ 27 % 2 ≡ mark = omega arith in
+    let extended : w / 2 ^ 29 % 2 ≡ 1 = omega arith in
+    let vlan : w / 2 ^ 30 % 2 ≡ 0 = omega arith in
+    let segment : w / 2 ^ 31 % 2 ≡ 0 = omega arith in
+    let checks : w / 2 ^ 40 % 2 ^ 6 ≡ 0 = omega arith in
+    let done : w / 2 ^ 32 % 2 ≡ 0 = omega arith in
+    let sequence : w / 2 ^ 25 % 2 ≡ 1 = omega arith in
+    record {
+      fits = omega arith;
+      command =
+          same_command _ _ _ _ _ _ _ _ len last bytes kind (ap (λ n. n == 1) end ∙ marked)
+          (ap (λ n. n == 1) report ∙ marked) (is_one _ extended) (is_zero _ vlan) (is_zero _ segment)
+          (none_asked _ checks);
+      waits = is_zero _ done;
+      sequence = is_one _ sequence;
+      whole = omega arith;
+    }
+
+pub data_is_asked : DataIsAsked
 data_is_asked len true payload short small =
-    let w : ℕ = data_word len true payload in
-    let bytes : w % 2 ^ 16 ≡ len = omega arith in
-    let kind : w / 2 ^ 20 % 2 ^ 4 ≡ 3 = omega arith in
-    let end : w / 2 ^ 24 % 2 ≡ 1 = omega arith in
-    let report : w / 2 ^ 27 % 2 ≡ 1 = omega arith in
-    let extended : w / 2 ^ 29 % 2 ≡ 1 = omega arith in
-    let vlan : w / 2 ^ 30 % 2 ≡ 0 = omega arith in
-    let segment : w / 2 ^ 31 % 2 ≡ 0 = omega arith in
-    let checks : w / 2 ^ 40 % 2 ^ 6 ≡ 0 = omega arith in
-    let done : w / 2 ^ 32 % 2 ≡ 0 = omega arith in
-    let sequence : w / 2 ^ 25 % 2 ≡ 1 = omega arith in
-    record {
-      fits = omega arith;
-      command =
-          same_command _ _ _ _ _ _ _ _ len true bytes kind (is_one _ end) (is_one _ report) (is_one _ extended)
-          (is_zero _ vlan) (is_zero _ segment) (none_asked _ checks);
-      waits = is_zero _ done;
-      sequence = is_one _ sequence;
-      whole = omega arith;
-    }
+    asked len payload 1 (data_word len true payload) true short small (omega arith) (omega arith) refl
 data_is_asked len false payload short small =
-    let w : ℕ = data_word len false payload in
-    let bytes : w % 2 ^ 16 ≡ len = omega arith in
-    let kind : w / 2 ^ 20 % 2 ^ 4 ≡ 3 = omega arith in
-    let end : w / 2 ^ 24 % 2 ≡ 0 = omega arith in
-    let report : w / 2 ^ 27 % 2 ≡ 0 = omega arith in
-    let extended : w / 2 ^ 29 % 2 ≡ 1 = omega arith in
-    let vlan : w / 2 ^ 30 % 2 ≡ 0 = omega arith in
-    let segment : w / 2 ^ 31 % 2 ≡ 0 = omega arith in
-    let checks : w / 2 ^ 40 % 2 ^ 6 ≡ 0 = omega arith in
-    let done : w / 2 ^ 32 % 2 ≡ 0 = omega arith in
-    let sequence : w / 2 ^ 25 % 2 ≡ 1 = omega arith in
-    record {
-      fits = omega arith;
-      command =
-          same_command _ _ _ _ _ _ _ _ len false bytes kind (is_zero _ end) (is_zero _ report) (is_one _ extended)
-          (is_zero _ vlan) (is_zero _ segment) (none_asked _ checks);
-      waits = is_zero _ done;
-      sequence = is_one _ sequence;
-      whole = omega arith;
-    }
+    asked len payload 0 (data_word len false payload) false short small (omega arith) (omega arith) refl

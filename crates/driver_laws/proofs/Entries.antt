@@ -22,25 +22,21 @@ use Rattle.history_laws.proofs.Aligned.{events_aligned}
 use Rattle.history_laws.proofs.Modes.{event_told}
 use Rattle.receive_laws.specs.Joint.{Agree}
 use Rattle.receive_laws.specs.Pieces.{Piece, pieces}
-use Rattle.receive_laws.specs.Up as received
 use Rattle.receive_laws.proofs.Leaving.{leaving_keeps}
 use Rattle.receive_laws.proofs.Mine.{LendsMine, mine_driven}
 use Rattle.receive_laws.proofs.Own.{own_keeps}
-use Rattle.receive_laws.proofs.Up.{alone_stays_up, left_up, own_stays_up}
 use Rattle.transmit_laws.specs.Sent.{sent_by}
 use Rattle.transmit_laws.specs.Turns.{MayMove}
-use Rattle.transmit_laws.specs.Up.{IsUp}
 use Rattle.transmit_laws.proofs.Mine.{mine-moved}
 use Rattle.transmit_laws.proofs.Playing.{moves_keep}
 use Rattle.transmit_laws.proofs.Sparing.{sparing_events_keep}
-use Rattle.transmit_laws.proofs.Up.{up_stays}
 use Rattle.pmd.specs.Halves.{Halves, Doer, Receives, Sends, OwnCall, after_call, is_neither}
 use Rattle.driver_laws.proofs.Apart.{receives_apart, sends_apart, lends_one}
 use Rattle.driver_laws.proofs.Each.{each_all}
 use Rattle.driver_laws.proofs.Lending.{receive_lent}
-use Rattle.driver_laws.proofs.Meeting.{Meets, Kept, neither_keeps, spared_by}
+use Rattle.driver_laws.proofs.Meeting.{Meets, Kept, neither_keeps}
 use Rattle.driver_laws.proofs.Receiving.{own_spares}
-use Rattle.driver_laws.proofs.Sending.{is_elsewhere, move_side, move_spares, sender_lent}
+use Rattle.driver_laws.proofs.Sending.{is_elsewhere, move_spares, sender_lent}
 
 -- a move is an event that writes no piece
 no_pieces : (queue : ℕ) (s : State) (h : Halves) (m : Move) (e : Event Block) → is_elsewhere m ≡ false
@@ -53,7 +49,7 @@ no_pieces queue s h Reaps (event.Take n) real own = refl
 no_pieces queue s h Elsewhere e real own = cc
 no_pieces queue s h m e real own = absurd own
 
-may_move : (queue : ℕ) (s : State) (h : Halves) (m : Move) (e : Event Block) → is_elsewhere m ≡ false
+pub may_move : (queue : ℕ) (s : State) (h : Halves) (m : Move) (e : Event Block) → is_elsewhere m ≡ false
     → sending.IsOwn h.transmit m e → IsEvent e → MayMove queue h.transmit s e m
 may_move queue s h Elsewhere e real own made = cc
 may_move queue s h (Accepts p) e real own made = (own, made)
@@ -128,34 +124,6 @@ module _ (w : Watched) (mine : Blocks) (mode : Mode) (s : State) (out : List Pie
   doer_keeps (Sends Elsewhere) own others lends =
       neither_keeps w mine mode s out sent h m e made steps (others refl).0 (others refl).1
   doer_keeps (Sends move) own others lends = sends_keeps move refl own (lends refl)
-
-  -- and where a side is up it stays so
-
-  stays_up : (move : Move) → MayMove w.queue h.transmit s e move → IsUp w.queue s → IsUp w.queue t
-  stays_up move may up = up_stays s w.queue sent h.transmit e move m.both.transmit may up
-
-  pub doer_stays_up : (d : Doer) → OwnCall h d (call_of e (reply_to s e))
-      → (is_neither d ≡ true → LeavesRegisters w mode e × LeavesBlocks mine e) → IsUp w.queue s → IsUp w.queue t
-  doer_stays_up Receives own others up =
-      let (gone, here, holds) = m.both.receive in
-      stays_up Elsewhere
-      (own_spares w.queue s out h.receive gone here holds h.transmit sender_blocks m.both.apart e made own) up
-  doer_stays_up (Sends Elsewhere) own others up =
-      let registers = subst (λ k. LeavesRegisters w k e) m.mode_is (others refl).0 in
-      stays_up Elsewhere
-      (spared_by w mine mode s out sent h m e made steps e made registers (others refl).1 steps) up
-  doer_stays_up (Sends move) own others up = stays_up move (may_move w.queue s h move e refl own made) up
-
-  pub doer_receives_up : (d : Doer) → OwnCall h d (call_of e (reply_to s e))
-      → (is_neither d ≡ true → LeavesRegisters w mode e × LeavesBlocks mine e) → received.IsUp w.queue s
-      → received.IsUp w.queue t
-  doer_receives_up Receives own others up = own_stays_up w.queue s out h.receive e m.sound m.both.receive own up
-  doer_receives_up (Sends Elsewhere) own others up =
-      alone_stays_up w s out h.receive e m.vfs m.sound m.both.receive
-      (subst (λ k. LeavesRegisters w k e) m.mode_is (others refl).0) up
-  doer_receives_up (Sends move) own others up =
-      left_up w.queue s t
-      (move_side s w.queue sent h.transmit m.both.transmit.0 m.both.transmit.1 move e refl own) up
 
   pub goes_on : (k : Halves) → Agrees k
       → Meets w mine (mode_after w.vfs mode e) t (out ++ pieces w.queue s e) (sent ++ sent_by w.queue s e) k

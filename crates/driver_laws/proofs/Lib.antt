@@ -10,6 +10,7 @@ pub mod Next
 pub mod Receiving
 pub mod Runs
 pub mod Sending
+pub mod StaysUp
 pub mod Stepping
 pub mod Steps
 pub mod Waiting

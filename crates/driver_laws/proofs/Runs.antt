@@ -20,10 +20,11 @@ use Rattle.transmit_laws.specs.Sent.{sent_by}
 use Rattle.transmit_laws.specs.Up.{IsUp}
 use Rattle.pmd.specs.Halves.{Halves, Doer, OwnCall, AllOwn, after_call, is_neither, played_by}
 use Rattle.driver_laws.specs.Histories.{OthersLeaveAlone, doer_of, doers_after}
-use Rattle.driver_laws.proofs.Entries.{doer_keeps, doer_receives_up, doer_stays_up, goes_on}
+use Rattle.driver_laws.proofs.Entries.{doer_keeps, goes_on}
 use Rattle.driver_laws.proofs.Led.{Led, ended, led_on}
 use Rattle.driver_laws.proofs.Meeting.{Meets}
 use Rattle.driver_laws.proofs.Next.{lends_mine, next_by}
+use Rattle.driver_laws.proofs.StaysUp.{doer_receives_up, doer_stays_up}
 
 module _ (w : Watched) (mine : Blocks) where
   -- an entry that is neither half's leaves the queue alone

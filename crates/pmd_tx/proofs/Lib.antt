@@ -1,4 +1,5 @@
 pub mod Counting
+pub mod Ending
 pub mod Fields
 pub mod Freeing
 pub mod Lending

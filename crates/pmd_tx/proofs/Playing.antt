@@ -1,5 +1,5 @@
 -- What a call adds to a driver's plays.
-use Rattle.std.proofs.Common.{◌≡◌, suc, false, List, [], ◌∷◌, ◌++◌, length, map, Result, Ok, Err, IfErr, IfOk, refl, sym, ap, ◌∙◌, subst, append_assoc}
+use Rattle.std.proofs.Common.{◌≡◌, suc, false, List, [], ◌∷◌, ◌++◌, length, map, refl, sym, ap, ◌∙◌, subst, append_assoc}
 use Rattle.std.proofs.lemmas.List.{append-nil}
 use Rattle.dma_arena.specs.Block.{Block}
 use Rattle.nic_device.specs.declared.event.Event.{Event}
@@ -7,11 +7,8 @@ use Rattle.nic_device.specs.declared.event.Reply.{Reply}
 use Rattle.device_lock.specs.declared.entry.Call.{Call}
 use Rattle.device_lock.specs.Pass.{call_of}
 use Rattle.pmd_base.specs.Made.{Adds, AddsSome}
-use Rattle.pmd_base.specs.declared.fault.PmdFault.{PmdFault}
-use Rattle.pmd_base.specs.declared.fault.PmdFault.TheVariants.{DeviceFault}
 use Rattle.pmd_base.proofs.Steps.{steps_marked, steps_last, steps_both}
-use Rattle.pmd_tx.specs.declared.answer.Reaped.{Reaped}
-use Rattle.pmd_tx.specs.Plays.{Plays, AllOwn, is_elsewhere, played_by, Faults, FaultsBy, LooksLast}
+use Rattle.pmd_tx.specs.Plays.{Plays, AllOwn, is_elsewhere, played_by, Faults}
 use Rattle.pmd_tx.specs.Sending.{Sender, Move, Elsewhere, IsOwn, moved, is_healthy}
 
 abbrev pub elsewhere : List Call → List Move
@@ -121,34 +118,3 @@ faults_after a b d v w plays f = record {
   adds = f.adds;
   sick = f.sick;
 }
-
-pub by_after : (fault : PmdFault) (a b d : List Call) (v w : Sender) → Plays a v b w → FaultsBy fault b w d
-    → FaultsBy fault a v d
-by_after DeviceFault a b d v w plays f = faults_after a b d v w plays f
-by_after other a b d v w plays f = tt
-
-pub looks_after : (a b d : List Call) (v w x : Sender) → Plays a v b w → w.accepted ≡ v.accepted → LooksLast b w d x
-    → LooksLast a v d x
-looks_after a b d v w x plays same l = record {
-  mid = l.mid;
-  before = l.before;
-  bytes = l.bytes;
-  plays = plays_both a b l.mid v w l.before plays l.plays;
-  looks = l.looks;
-  waits = l.waits;
-  posted = l.posted;
-  accepted = l.accepted ∙ same;
-  left = l.left;
-}
-
--- the same of a result
-pub after_all : {R E : Type 0} → (which : E → PmdFault) (r : Result R E) (a b d : List Call) (v w : Sender)
-    → Plays a v b w → IfErr r (λ e. FaultsBy (which e) b w d) → IfErr r (λ e. FaultsBy (which e) a v d)
-after_all which (Ok x) a b d v w plays f = tt
-after_all which (Err e) a b d v w plays f = by_after (which e) a b d v w plays f
-
-pub waits_after : {E : Type 0} → (r : Result Reaped E) (a b d : List Call) (v w x : Sender) → Plays a v b w
-    → w.accepted ≡ v.accepted → IfOk r (λ done. done.idle ≡ false → LooksLast b w d x)
-    → IfOk r (λ done. done.idle ≡ false → LooksLast a v d x)
-waits_after (Ok done) a b d v w x plays same l = λ is. looks_after a b d v w x plays same (l is)
-waits_after (Err e) a b d v w x plays same l = tt

@@ -78,8 +78,8 @@ pub fn queue_up_stays_up()
     ensures { UpStays }
 {}
 
-/// A write of the enable register of the queue's transmit side keeps what device and driver agree on, whatever the word:
-/// they agree whether the side is on or not.
+/// A write of the enable register of the queue's transmit side keeps what device and driver agree on, whatever the
+/// word: they agree whether the side is on or not.
 pub fn enable_words_keep()
     ensures { EnableWordsKeep }
 {}

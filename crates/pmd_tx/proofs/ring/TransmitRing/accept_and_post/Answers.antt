@@ -2,7 +2,8 @@ use Rattle.std.proofs.Common.{ap, ◌∙◌}
 use Rattle.pmd_tx.specs.Sending.{Sender}
 use Rattle.pmd_tx.specs.declared.answer.TxFault.{TxFault}
 use Rattle.pmd_tx.proofs.Passing.{accepted_then, none_back}
-use Rattle.pmd_tx.proofs.Playing.{plays_both, after_all}
+use Rattle.pmd_tx.proofs.Ending.{after_all}
+use Rattle.pmd_tx.proofs.Playing.{plays_both}
 use Rattle.pmd_tx.proofs.ring.TransmitRing.accept_and_post.Goals as goal
 
 pub returns-in-Ok-clause-plays : goal.returns-in-Ok-clause-plays

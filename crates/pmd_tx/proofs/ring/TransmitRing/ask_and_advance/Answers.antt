@@ -1,5 +1,6 @@
 use Rattle.std.proofs.Common.{refl}
-use Rattle.pmd_tx.proofs.Playing.{plays_both, after_all}
+use Rattle.pmd_tx.proofs.Ending.{after_all}
+use Rattle.pmd_tx.proofs.Playing.{plays_both}
 use Rattle.pmd_tx.proofs.ring.TransmitRing.ask_and_advance.Goals as goal
 
 pub advance-requires : goal.advance-requires

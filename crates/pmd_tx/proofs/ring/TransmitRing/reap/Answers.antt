@@ -1,7 +1,8 @@
 use Rattle.std.proofs.Common.{refl, ap, ◌∙◌}
 use Rattle.pmd_tx.specs.Sending.{Layout}
 use Rattle.pmd_tx.proofs.Freeing.{frees_none, freed_after, some_after}
-use Rattle.pmd_tx.proofs.Playing.{plays_both, after_all, waits_after}
+use Rattle.pmd_tx.proofs.Ending.{after_all, waits_after}
+use Rattle.pmd_tx.proofs.Playing.{plays_both}
 use Rattle.pmd_tx.proofs.ring.TransmitRing.reap.Goals as goal
 
 pub reap_sent-requires-clause-home : goal.reap_sent-requires-clause-home

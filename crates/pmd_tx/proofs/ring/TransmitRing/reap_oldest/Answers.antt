@@ -1,4 +1,5 @@
-use Rattle.pmd_tx.proofs.Playing.{plays_both, by_after}
+use Rattle.pmd_tx.proofs.Ending.{by_after}
+use Rattle.pmd_tx.proofs.Playing.{plays_both}
 use Rattle.pmd_tx.proofs.ring.TransmitRing.reap_oldest.Goals as goal
 
 pub returns-in-Ok-clause-plays : goal.returns-in-Ok-clause-plays

@@ -1,6 +1,7 @@
 use Rattle.std.proofs.Common.{refl, ◌∙◌}
 use Rattle.pmd_tx.proofs.Loop.{reaped_none, reaped_more}
-use Rattle.pmd_tx.proofs.Playing.{plays_both, by_after, looks_after}
+use Rattle.pmd_tx.proofs.Ending.{by_after, looks_after}
+use Rattle.pmd_tx.proofs.Playing.{plays_both}
 use Rattle.pmd_tx.proofs.ring.TransmitRing.reap_sent.Goals as goal
 
 pub loop-freed-init : goal.loop-freed-init

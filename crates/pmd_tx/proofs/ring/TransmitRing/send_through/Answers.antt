@@ -1,7 +1,8 @@
 use Rattle.pmd_tx.specs.declared.answer.TxFault.{TxFault}
 use Rattle.pmd_tx.specs.Sends.{returned}
 use Rattle.pmd_tx.proofs.Passing.{may_after, accepted_after, kept_after, back_itself}
-use Rattle.pmd_tx.proofs.Playing.{plays_both, after_all}
+use Rattle.pmd_tx.proofs.Ending.{after_all}
+use Rattle.pmd_tx.proofs.Playing.{plays_both}
 use Rattle.pmd_tx.proofs.ring.TransmitRing.send_through.Goals as goal
 
 pub accept_and_post-requires-clause-may : goal.accept_and_post-requires-clause-may

@@ -1,9 +1,12 @@
 pub mod Asked
 pub mod Begun
 pub mod Ends
+pub mod FirstHalves
+pub mod HandedOn
 pub mod Looks
 pub mod Order
 pub mod Plain
+pub mod RunsOn
 pub mod Silent
 pub mod StopCalls
 pub mod StopSent

@@ -23,35 +23,30 @@ use Rattle.start_laws.specs.Unused.{WentOn}
 use Rattle.start_laws.proofs.Parts.{Parts, begun, parts}
 use Rattle.start_laws.proofs.Lent.{IsLentBy}
 use Rattle.start_laws.proofs.Start.{on_some, other_lent, ring_lent, start_agrees, start_goes_on}
-use Rattle.driver_laws.specs.Agreeing.{AreApart, AreLent}
-use Rattle.pmd.specs.Halves.{AllOwn, Doer, Drives, Halves, OthersStep, halves_of, played_by}
+use Rattle.driver_laws.specs.Agreeing.{AreLent}
+use Rattle.pmd.specs.Halves.{AllOwn, Drives, Halves, OthersStep, halves_of, played_by}
 use Rattle.pmd.proofs.Calls.{drives_on, receiving_drives}
 use Rattle.driver_laws.specs.Histories.{IsDriven}
 use Rattle.driver_laws.proofs.InOrder.{counted_where_up, handed_is_prefix, idle_is_all_sent, none_is_all, sent_is_prefix}
 use Rattle.driver_laws.proofs.Steps.{steps_by_calls, steps_leave_alone}
 use Rattle.pmd_laws.specs.Order as order
-use Rattle.pmd_laws.specs.Order.{IsLived}
-use Rattle.pmd_laws.proofs.Begun.{at_first, drawn_apart, first_apart, first_lent}
+use Rattle.pmd_laws.proofs.FirstHalves.{first_halves, halves_apart, halves_lent}
 
 module _ (w : Watched) (fifo : ℕ) (h : List Entry) (q : AtPort) (size : ℕ) (old : List Call) (a : Numbers)
-    (started : List Call) (r : Running) (k : Halves) (x : IsLived w fifo h q size old a started r k) where
+    (started : List Call) (r : Running) (k : Halves) (x : order.IsLived w fifo h q size old a started r k) where
   abbrev new : State
   new = new_state w.vfs fifo
 
   abbrev pub up : AreUp q size old a started r
   up = x.life.up
 
-  -- as both sides are on the receive ring is empty
   abbrev pub first : Halves
-  first = record { receive = up.empty; transmit = r.transmit }
+  first = first_halves q size old a started r up
 
   pub whole : Drives up.on.mid first (calls_of w.pass h) k
   whole =
       drives_on up.on.mid started (calls_of w.pass h) first (halves_of r) k
       (receiving_drives up.on.mid started first (halves_of r) up.on.plays refl) x.life.since
-
-  abbrev pub doers : List Doer
-  doers = whole.0
 
   -- the history in two parts, of which the first ends there
   pub in_parts : Parts w.pass h up.on.mid whole.1
@@ -63,42 +58,21 @@ module _ (w : Watched) (fifo : ℕ) (h : List Entry) (q : AtPort) (size : ℕ) (
 
     agrees : Agree w.queue here [] up.empty × Agrees here w.queue [] r.transmit
     agrees =
-        start_agrees w fifo h q size old a started r up x.along x.life.sized x.begins p.front p.back p.both
-        p.fronts
+        start_agrees w fifo h q size old a started r up x.along x.life.sized x.begins p.front p.back p.both p.fronts
 
     pub went_on : WentOn w.queue new p.front
     went_on =
-        start_goes_on w fifo h q size old a started r up x.along x.life.sized x.begins p.front p.back
-        p.both p.fronts
+        start_goes_on w fifo h q size old a started r up x.along x.life.sized x.begins p.front p.back p.both p.fronts
 
     one : IsLentBy w.pass up.receive.ring h
     one =
-        ring_lent w fifo h q size old a started r up x.along x.life.sized x.begins p.front p.back p.both
-        p.fronts
+        ring_lent w fifo h q size old a started r up x.along x.life.sized x.begins p.front p.back p.both p.fronts
 
     two : IsLentBy w.pass up.transmit.ring h
     two =
-        other_lent w fifo h q size old a started r up x.along x.life.sized x.begins p.front p.back p.both
-        p.fronts
+        other_lent w fifo h q size old a started r up x.along x.life.sized x.begins p.front p.back p.both p.fronts
 
-    -- there each half has lent its ring's block
-    first_is : first ≡ at_first q.port size up.receive.ring up.receive.tail up.transmit.ring up.transmit.tail
-    first_is = λ i. record { receive = up.receive.fresh i; transmit = up.transmit.fresh i }
-
-    apart : AreApart first
-    apart =
-        subst AreApart (sym first_is)
-        (first_apart q.port size up.receive.ring up.receive.tail up.transmit.ring up.transmit.tail
-        (drawn_apart a up.ready_arena up.receive.ring up.transmit.ring up.receive.prepared.free
-        up.receive.prepared.drawn up.transmit.prepared.free))
-
-    lent : AreLent (lent_by w.pass h) first
-    lent =
-        subst (AreLent (lent_by w.pass h)) (sym first_is)
-        (first_lent q.port size up.receive.ring up.receive.tail up.transmit.ring up.transmit.tail (lent_by w.pass h)
-        one.mine two.mine)
-
-    pub driven : IsDriven w fifo p.front p.back first doers
+    pub driven : IsDriven w fifo p.front p.back first whole.0
     driven =
         let all = sym p.both in
         record {
@@ -109,20 +83,21 @@ module _ (w : Watched) (fifo : ℕ) (h : List Entry) (q : AtPort) (size : ℕ) (
           begun =
               begun w.pass p.front
               (λ none.
-              on_some w fifo h q size old a started r up x.along x.life.sized x.begins
-              (sym p.fronts ∙ none));
+              on_some w fifo h q size old a started r up x.along x.life.sized x.begins (sym p.fronts ∙ none));
           on = went_on.received;
           up = went_on.receives;
-          agree = record { receive = agrees.0; transmit = agrees.1; apart = apart };
-          lent = subst (λ (l : List Entry). AreLent (lent_by w.pass l) first) all lent;
-          own = subst (AllOwn first doers) (sym p.backs) whole.3;
+          agree = record { receive = agrees.0; transmit = agrees.1; apart = halves_apart q size old a started r up };
+          lent =
+              subst (λ (l : List Entry). AreLent (lent_by w.pass l) first) all
+              (halves_lent q size old a started r up (lent_by w.pass h) one.mine two.mine);
+          own = subst (AllOwn first whole.0) (sym p.backs) whole.3;
           others =
-              steps_leave_alone w (lent_by w.pass (p.front ++ p.back)) (mode_through w.vfs Off p.front) doers p.back
-              (steps_by_calls w doers p.back (subst (OthersStep doers) (sym p.backs) whole.5));
+              steps_leave_alone w (lent_by w.pass (p.front ++ p.back)) (mode_through w.vfs Off p.front) whole.0 p.back
+              (steps_by_calls w whole.0 p.back (subst (OthersStep whole.0) (sym p.backs) whole.5));
         }
 
-    pub last : played_by first doers (calls_of w.pass p.back) ≡ k
-    last = ap (played_by first doers) p.backs ∙ sym whole.4
+    pub last : played_by first whole.0 (calls_of w.pass p.back) ≡ k
+    last = ap (played_by first whole.0) p.backs ∙ sym whole.4
 
     -- and so it holds of the whole history
 
@@ -130,33 +105,33 @@ module _ (w : Watched) (fifo : ℕ) (h : List Entry) (q : AtPort) (size : ℕ) (
     handed =
         subst (λ (l : List Entry). receive.IsPrefixOf k.receive.handed (delivered w.queue new l)) p.both
         (subst (λ (z : Halves). receive.IsPrefixOf z.receive.handed (delivered w.queue new (p.front ++ p.back))) last
-        (handed_is_prefix w fifo p.front p.back first doers driven))
+        (handed_is_prefix w fifo p.front p.back first whole.0 driven))
 
     none_left : FindsNone (leads_to new h) k.receive → k.receive.handed ≡ delivered w.queue new h
     none_left finds =
         let then = subst (λ (l : List Entry). FindsNone (leads_to new l) k.receive) (sym p.both) finds in
         ap (λ (z : Halves). z.receive.handed) (sym last)
-        ∙ none_is_all w fifo p.front p.back first doers driven
+        ∙ none_is_all w fifo p.front p.back first whole.0 driven
         (subst (λ (z : Halves). FindsNone (leads_to new (p.front ++ p.back)) z.receive) (sym last) then)
         ∙ ap (delivered w.queue new) p.both
 
     pub counted : sent_since w.queue new [] h ≡ sent_in w.queue here p.back
     counted =
         ap (sent_since w.queue new []) (sym p.both)
-        ∙ counted_where_up w fifo p.front p.back first doers driven went_on.sends
+        ∙ counted_where_up w fifo p.front p.back first whole.0 driven went_on.sends
         ∙ ap (λ (xs : List (List ℕ)). xs ++ sent_in w.queue here p.back) went_on.sent
 
     sent : transmit.IsPrefixOf (sent_since w.queue new [] h) (bytes_of k.transmit.accepted)
     sent =
         subst (λ (xs : List (List ℕ)). transmit.IsPrefixOf xs (bytes_of k.transmit.accepted)) (sym counted)
         (subst (λ (z : Halves). transmit.IsPrefixOf (sent_in w.queue here p.back) (bytes_of z.transmit.accepted)) last
-        (sent_is_prefix w fifo p.front p.back first doers driven))
+        (sent_is_prefix w fifo p.front p.back first whole.0 driven))
 
     idle : k.transmit.outstanding ≡ [] → bytes_of k.transmit.accepted ≡ sent_since w.queue new [] h
     idle none =
         let then = ap (λ (z : Halves). z.transmit.outstanding) last ∙ none in
         ap (λ (z : Halves). bytes_of z.transmit.accepted) (sym last)
-        ∙ idle_is_all_sent w fifo p.front p.back first doers driven then ∙ sym counted
+        ∙ idle_is_all_sent w fifo p.front p.back first whole.0 driven then ∙ sym counted
 
 pub handed_of_life : order.HandedIsPrefix
 handed_of_life w fifo h q size old a started r k x =

@@ -28,7 +28,8 @@ use Rattle.pmd_laws.specs.Waits.{LooksAtWaiting, WaitingIsNotAllBefore, WaitingI
 use Rattle.pmd_laws.proofs.Looks.{answered, ends_with, lived_before}
 use Rattle.pmd_laws.proofs.Order as order
 use Rattle.pmd_laws.proofs.Order.{in_parts}
-use Rattle.pmd_laws.proofs.Told.{life, runs, up_next}
+use Rattle.pmd_laws.proofs.RunsOn.{up_next}
+use Rattle.pmd_laws.proofs.Told.{life, runs}
 
 module _ (w : Watched) (fifo : ℕ) (h : List Entry) (q : AtPort) (size : ℕ) (old : List Call) (a : Numbers)
     (started : List Call) (r : Running) (made : List Call) (k : Halves) (made_then : List Call) (v : Sender)
@@ -114,7 +115,7 @@ module _ (w : Watched) (fifo : ℕ) (h : List Entry) (q : AtPort) (size : ℕ) (
         let last = order.last w fifo late q size old a started r then lived_then p_then in
         waiting_is_not_all w fifo p.front p.back more
         (order.first w fifo late q size old a started r then lived_then)
-        (order.doers w fifo late q size old a started r then lived_then)
+        (order.whole w fifo late q size old a started r then lived_then).0
         (order.driven w fifo late q size old a started r then lived_then p_then)
         (subst (λ (z : Halves). FindsWaiting (leads_to new (p.front ++ (p.back ++ more))) z.transmit) (sym last)
         (subst (λ (l : List Entry). FindsWaiting (leads_to new l) sender) (sym both) finds))

@@ -1,0 +1,88 @@
+-- What was handed out stays a prefix of what is delivered where the receive side doesn't go on.
+use Rattle.std.proofs.Common.{◌≡◌, ℕ, inl, inr, List, [], ◌∷◌, ◌++◌, Option, Some, None, option_map, refl, sym, ap, ◌∙◌, subst, append_assoc, cond}
+use Rattle.std.proofs.lemmas.Bool.{cases_Bool}
+use Rattle.nic_device.specs.State.{State, new_state}
+use Rattle.nic_device.specs.Step.{after}
+use Rattle.device_lock.specs.Alone.{Blocks}
+use Rattle.device_lock.specs.declared.alone.Watched.{Watched}
+use Rattle.device_lock.specs.declared.entry.Call.{Call}
+use Rattle.device_lock.specs.declared.entry.Entry.{Entry}
+use Rattle.pmd_base.specs.Packet.{Kept}
+use Rattle.pmd_queue.specs.Named.{AtPort}
+use Rattle.receive_laws.specs.Delivered.{IsPrefixOf, delivered, packets_if_any, pieces_since}
+use Rattle.receive_laws.specs.Pieces.{Piece, packets_behind, packet_told, pieces}
+use Rattle.receive_laws.proofs.Delivering.{since-append}
+use Rattle.start_laws.specs.Ending.{IsEnding}
+use Rattle.start_laws.specs.Points.{HasGround}
+use Rattle.start_laws.proofs.Reached.{KeptOver, LeadsOver, reached, reached_next}
+use Rattle.start_laws.proofs.Ending.{ending_plain, ending_settles}
+use Rattle.start_laws.proofs.Ground.{plain_keeps, ground_kept}
+use Rattle.start_laws.proofs.Settled.{IsSettled, Settles, left_settles}
+
+-- where more pieces come the packets so far stay first
+
+more_behind : (front : List ℕ) (ps qs : List Piece)
+    → (rest : List Kept) × (packets_behind front ps ++ rest ≡ packets_behind front (ps ++ qs))
+more_behind front [] qs = (packets_behind front qs, refl)
+more_behind front (p ∷ ps) qs = elim (cases_Bool p.end)
+    as (λ _. (rest : List Kept) × (packets_behind front (p ∷ ps) ++ rest ≡ packets_behind front (p ∷ (ps ++ qs)))) [
+      | inl ends ↦
+          let (rest, is) = more_behind [] ps qs in
+          let joined : packets_behind front (p ∷ ps) ++ rest ≡ packets_behind front (p ∷ (ps ++ qs)) =
+          rw ends (ap (λ (l : List Kept). packet_told (front ++ p.bytes) p.first ∷ l) is) in
+          (rest, joined)
+      | inr goes ↦
+          let (rest, is) = more_behind (front ++ p.bytes) ps qs in
+          let joined : packets_behind front (p ∷ ps) ++ rest ≡ packets_behind front (p ∷ (ps ++ qs)) = rw goes is in
+          (rest, joined)
+    ]
+
+more_if_any : (so_far : Option (List Piece)) (ps : List Piece)
+    → IsPrefixOf (packets_if_any so_far) (packets_if_any (option_map (λ qs. qs ++ ps) so_far))
+more_if_any None ps = ([], refl)
+more_if_any (Some qs) ps = more_behind [] qs ps
+
+then_prefix : (xs ys zs : List Kept) → IsPrefixOf xs ys → IsPrefixOf ys zs → IsPrefixOf xs zs
+then_prefix xs ys zs (one, is) (two, more) =
+    (one ++ two, sym (append_assoc xs one two) ∙ ap (λ (l : List Kept). l ++ two) is ∙ more)
+
+-- from where the receive side is settled on it doesn't go on
+
+module _ (w : Watched) (fifo : ℕ) (q : AtPort) (handed : List Kept) where
+  abbrev new : State
+  new = new_state w.vfs fifo
+
+  pub record Keeps (done : List Entry) : Type 0 where
+    pub ground : HasGround w.queue q (reached w fifo done)
+    pub settled : IsSettled w.queue (reached w fifo done)
+    pub first : IsPrefixOf handed (delivered w.queue new done)
+
+  keeps_on : (done : List Entry) (e : Entry) → HasGround w.queue q (after (reached w fifo done) e.event)
+      → Settles w.queue (reached w fifo done) (after (reached w fifo done) e.event) → Keeps done
+      → Keeps (done ++ e ∷ [])
+  keeps_on done e g on kept =
+      let s = reached w fifo done in
+      let so_far = pieces_since w.queue new None done in
+      let ps = pieces w.queue s e.event in
+      let more : delivered w.queue new (done ++ e ∷ []) ≡ packets_if_any (option_map (λ qs. qs ++ ps) so_far) =
+      ap packets_if_any (since-append w.queue new None done (e ∷ []))
+      ∙ ap (λ b. packets_if_any (cond b (Some []) (option_map (λ qs. qs ++ ps) so_far))) on.never in
+      record {
+        ground = subst (HasGround w.queue q) (sym (reached_next w fifo done e)) g;
+        settled = subst (IsSettled w.queue) (sym (reached_next w fifo done e)) on.settled;
+        first =
+            subst (IsPrefixOf handed) (sym more)
+            (then_prefix handed (delivered w.queue new done) _ kept.first (more_if_any so_far ps));
+      }
+
+  pub others_keep : (mine : Blocks) → KeptOver w fifo mine Keeps
+  others_keep mine done e left kept =
+      keeps_on done e (ground_kept w mine q (reached w fifo done) e.event left kept.ground)
+      (left_settles w mine (reached w fifo done) e.event left kept.settled) kept
+
+  pub ending_keeps : (mine : Blocks) (c : Call) → IsEnding q c.event → LeadsOver w fifo mine c Keeps Keeps
+  ending_keeps mine c own done e same met made told steps kept =
+      let s = reached w fifo done in
+      let ends : IsEnding q e.event = subst (λ (n : Call). IsEnding q n.event) (sym same) own in
+      keeps_on done e (plain_keeps w.queue q s e.event (ending_plain q e.event ends) kept.ground)
+      (ending_settles w.queue q s e.event met made ends kept.ground kept.settled) kept

@@ -57,6 +57,15 @@ still_word Pvteiac index view old word h = stored_within old _ word 7 view (grou
 still_word Pvteiam index view old word h = stored_within old _ word 7 view (group_bits (Vf index)) (vf_mask index) h
 still_word other index view old word h = tt
 
+-- any word is one of a row that is no group's auto-clear or auto-mask
+pub free_word : (row : RowId) (index word : ℕ) → row ≢ Eiac → row ≢ Eiam → row ≢ Pvteiac → row ≢ Pvteiam
+    → IsWordOf row index word
+free_word Eiac index word clear mask own_clear own_mask = absurd (clear refl)
+free_word Eiam index word clear mask own_clear own_mask = absurd (mask refl)
+free_word Pvteiac index word clear mask own_clear own_mask = absurd (own_clear refl)
+free_word Pvteiam index word clear mask own_clear own_mask = absurd (own_mask refl)
+free_word other index word clear mask own_clear own_mask = tt
+
 -- any word is one of a row that isn't written as it is
 pub other_word : (row : RowId) (index word : ℕ) → (row_of row).kind ≢ kind.Rw → IsWordOf row index word
 other_word Eiac index word n = absurd (n refl)

@@ -10,12 +10,11 @@ use intr_unit::Group;
 use reg_table::RowId;
 
 impl RegisterFile {
-    /// The word of a row at an index below the row's count, as it was stored, and which words the row holds.
+    /// The word of a row at an index below the row's count, as it was stored.
     #[inline(always)]
     pub(crate) fn cell(&self, row: RowId, index: u16) -> u32
         requires { index < (row_of row).count }
-        ensures word { result ≡ word_of self.now row index }
-        ensures holds { IsWordOf row index result }
+        ensures { result ≡ word_of self.now row index }
     {
         let at = usize::from(index);
         match row {
@@ -93,6 +92,22 @@ impl RegisterFile {
             RowId::Eerd => self.settings.eerd,
             RowId::GcrExt => self.settings.gcr_ext,
             RowId::Pvtivar => self.tables.pvtivar[at],
+        }
+    }
+
+    /// The same, and which words the row holds: a group's auto-clear and auto-mask have only bits of the group.
+    #[inline(always)]
+    pub(crate) fn row_word(&self, row: RowId, index: u16) -> u32
+        requires { index < (row_of row).count }
+        ensures word { result ≡ word_of self.now row index }
+        ensures holds { IsWordOf row index result }
+    {
+        match row {
+            RowId::Eiac => self.groups.of(Group::Pf).auto_clear(),
+            RowId::Eiam => self.groups.of(Group::Pf).auto_mask(),
+            RowId::Pvteiac => self.groups.of(Group::Vf(index as u8)).auto_clear(),
+            RowId::Pvteiam => self.groups.of(Group::Vf(index as u8)).auto_mask(),
+            _ => self.cell(row, index),
         }
     }
 

@@ -6,17 +6,17 @@ use Rattle.register_file.proofs.register_file.RegisterFile.cell.Goals as goal
 none_held : (index : ℕ) → index < 64 → ◌≡◌ {A = ℕ} 0 (get_or (replicate 64 0) index 0)
 none_held index b = sym (get_or-replicate 64 index 0 0 b)
 
-pub returns-in-Pvfctrl-clause-word : goal.returns-in-Pvfctrl-clause-word
-returns-in-Pvfctrl-clause-word c =
+pub returns-in-Pvfctrl : goal.returns-in-Pvfctrl
+returns-in-Pvfctrl c =
     rw (← c.self.view_is, c.in-Pvfctrl.is)
     (none_held c.args.index (subst (λ r. c.args.index < (row_of r).count) c.in-Pvfctrl.is c.requires))
 
-pub returns-in-Pvteics-clause-word : goal.returns-in-Pvteics-clause-word
-returns-in-Pvteics-clause-word c =
+pub returns-in-Pvteics : goal.returns-in-Pvteics
+returns-in-Pvteics c =
     rw (← c.self.view_is, c.in-Pvteics.is)
     (none_held c.args.index (subst (λ r. c.args.index < (row_of r).count) c.in-Pvteics.is c.requires))
 
-pub returns-in-Pvteimc-clause-word : goal.returns-in-Pvteimc-clause-word
-returns-in-Pvteimc-clause-word c =
+pub returns-in-Pvteimc : goal.returns-in-Pvteimc
+returns-in-Pvteimc c =
     rw (← c.self.view_is, c.in-Pvteimc.is)
     (none_held c.args.index (subst (λ r. c.args.index < (row_of r).count) c.in-Pvteimc.is c.requires))

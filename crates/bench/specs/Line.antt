@@ -1,5 +1,5 @@
 -- The line of a reply: its name and its parts, as text.
-use Rattle.std.specs.Prelude.{ℕ, ◌++◌, List, [], codes, decimal}
+use Rattle.std.specs.Prelude.{ℕ, ◌++◌, List, codes, decimal}
 use Rattle.printed.specs.Bytes.{bytes_text}
 use Rattle.printed.specs.Word.{address_text, word_text}
 use Rattle.bench.specs.Reply.{slot_text}

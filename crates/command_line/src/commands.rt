@@ -217,5 +217,6 @@ pub(crate) fn nicbench<'a>(alloc: Global) -> Result<Command<'a>, Error>
     let nicbench = with_command(nicbench, asm(alloc))?;
     let nicbench = with_command(nicbench, dis(alloc))?;
     let nicbench = with_command(nicbench, debug(alloc)?)?;
-    with_command(nicbench, threads(alloc)?)
+    let nicbench = with_command(nicbench, threads(alloc)?)?;
+    Ok(nicbench)
 }

@@ -1,5 +1,5 @@
 -- The line of an instruction: its name and its operands, as text.
-use Rattle.std.specs.Prelude.{ℕ, ◌++◌, List, [], codes, decimal}
+use Rattle.std.specs.Prelude.{ℕ, ◌++◌, List, codes, decimal}
 use Rattle.printed.specs.Word.{word_text}
 use Rattle.script_asm.specs.Printing.{target_text}
 use Rattle.script_asm.specs.declared.printing.Line.{Line}

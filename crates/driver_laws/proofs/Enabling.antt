@@ -47,7 +47,8 @@ module _ (queue : ℕ) (s : State) (port : Port) (n word : ℕ) (out : List Piec
   block_stays b = ap (λ (m : Memory). map.get m b) (write_memory s port n word)
 
   module _ (names : named s port n ≡ Register (place Rxdctl queue) 0xFFFFFFFF) where
-    asked : receive_queue_of t.registers queue ≡ record (receive_queue_of s.registers queue) { wanted = has_bit 25 word }
+    asked : receive_queue_of t.registers queue
+        ≡ record (receive_queue_of s.registers queue) { wanted = has_bit 25 word }
     unfolding step_of
     asked =
         ap (λ m. receive_queue_of (named_written s m word).state.registers queue) names

@@ -1,3 +1,4 @@
+pub mod Asked
 pub mod Begun
 pub mod Ends
 pub mod Looks
@@ -5,6 +6,7 @@ pub mod Order
 pub mod Plain
 pub mod Silent
 pub mod StopCalls
+pub mod StopSent
 pub mod Stopped
 pub mod Told
 pub mod Waits

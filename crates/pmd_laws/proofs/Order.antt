@@ -66,7 +66,7 @@ module _ (w : Watched) (fifo : ℕ) (h : List Entry) (q : AtPort) (size : ℕ) (
         start_agrees w fifo h q size old a started r up x.along x.life.sized x.begins p.front p.back p.both
         p.fronts
 
-    went_on : WentOn w.queue new p.front
+    pub went_on : WentOn w.queue new p.front
     went_on =
         start_goes_on w fifo h q size old a started r up x.along x.life.sized x.begins p.front p.back
         p.both p.fronts

@@ -12,7 +12,7 @@ use Rattle.start_laws.specs.Points.{HasGround}
 use Rattle.start_laws.specs.Quieting.{IsQuiet}
 use Rattle.start_laws.specs.Silent.{IsSilent}
 use Rattle.start_laws.proofs.Silent.{quiet_queue_is_silent}
-use Rattle.start_laws.proofs.Stopping.{switched_off_ends}
+use Rattle.start_laws.proofs.Stopping.{switched_off_asks}
 use Rattle.start_laws.proofs.SwitchedOff.{switching_off_leads}
 use Rattle.pmd.specs.Halves.{Halves}
 use Rattle.pmd_laws.specs.Silent.{IsSwitchedOff, SilentOnceOff}
@@ -36,7 +36,7 @@ module _ (w : Watched) (fifo : ℕ) (h : List Entry) (q : AtPort) (size : ℕ) (
 
   off_some : off ≢ []
   off_some none =
-      let ends = switched_off_ends q made off x.switched x.steps in
+      let ends = switched_off_asks q made off x.switched x.steps in
       some_more made ends.0 made_some (sym ends.1 ∙ none)
 
   pub silent : (done rest : List Entry) → done ++ rest ≡ h → calls_of w.pass done ≡ off → IsSilent w fifo h done

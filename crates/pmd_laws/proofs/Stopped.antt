@@ -88,7 +88,7 @@ module _ (w : Watched) (fifo : ℕ) (h : List Entry) (q : AtPort) (size : ℕ) (
       all_lead w fifo h (λ done. HasGround w.queue q (reached w fifo done)) (λ c. IsPlain q c.event) x.along
       (state_kept w fifo (lent_by w.pass h) (HasGround w.queue q) (ground_kept w (lent_by w.pass h) q))
       (λ c own.
-      state_leads w fifo c (HasGround w.queue q) (HasGround w.queue q)
+      state_leads w fifo (lent_by w.pass h) c (HasGround w.queue q) (HasGround w.queue q)
       (λ s met made told g. plain_keeps w.queue q s c.event own g))
       goes.1 u.on.mid
       (all_plain q (first w fifo h q size old a started r k x) goes.0 goes.1 goes.3 goes.5 placed)
@@ -143,12 +143,12 @@ module _ (w : Watched) (fifo : ℕ) (q : AtPort) (handed : List Kept) where
       keeps_on done e (ground_kept w mine q (reached w fifo done) e.event left kept.ground)
       (left_settles w mine (reached w fifo done) e.event left kept.settled) kept
 
-  ending_keeps : (c : Call) → IsEnding q c.event → LeadsOver w fifo c Keeps Keeps
-  ending_keeps c own done e same met made told kept =
+  ending_keeps : (mine : Blocks) (c : Call) → IsEnding q c.event → LeadsOver w fifo mine c Keeps Keeps
+  ending_keeps mine c own done e same met made told steps kept =
       let s = reached w fifo done in
-      let mine : IsEnding q e.event = subst (λ (n : Call). IsEnding q n.event) (sym same) own in
-      keeps_on done e (plain_keeps w.queue q s e.event (ending_plain q e.event mine) kept.ground)
-      (ending_settles w.queue q s e.event met made mine kept.ground kept.settled) kept
+      let ends : IsEnding q e.event = subst (λ (n : Call). IsEnding q n.event) (sym same) own in
+      keeps_on done e (plain_keeps w.queue q s e.event (ending_plain q e.event ends) kept.ground)
+      (ending_settles w.queue q s e.event met made ends kept.ground kept.settled) kept
 
 pub some_more : (xs ys : List Call) → xs ≢ [] → xs ++ ys ≢ []
 some_more [] ys some none = some refl
@@ -185,7 +185,8 @@ module _ (w : Watched) (fifo : ℕ) (h : List Entry) (q : AtPort) (size : ℕ) (
   over_stop : Keeps w fifo q k.receive.handed h
   over_stop =
       all_lead w fifo h (Keeps w fifo q k.receive.handed) (λ c. IsEnding q c.event) x.along
-      (others_keep w fifo q k.receive.handed (lent_by w.pass h)) (ending_keeps w fifo q k.receive.handed) x.ends.0
+      (others_keep w fifo q k.receive.handed (lent_by w.pass h))
+      (ending_keeps w fifo q k.receive.handed (lent_by w.pass h)) x.ends.0
       made x.ends.2 made_some lived_at h [] (append-nil h) (x.calls ∙ x.ends.1)
 
 pub handed_over_stop : HandedIsPrefix

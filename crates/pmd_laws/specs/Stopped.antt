@@ -1,5 +1,5 @@
 -- A driver's life, and then calls of its stop.
-use Rattle.std.specs.Prelude.{ℕ, ◌≡◌, ⊤, List}
+use Rattle.std.specs.Prelude.{ℕ, ◌≡◌, ⊤, List, []}
 use Rattle.std.proofs.Common.{inl, inr}
 use Rattle.dma_arena.specs.Numbers.{Numbers}
 use Rattle.nic_device.specs.State.{new_state}
@@ -16,9 +16,12 @@ use Rattle.pmd_base.specs.Made.{AreSteps}
 use Rattle.pmd_queue.specs.Named.{AtPort}
 use Rattle.receive_laws.specs.Delivered as receive
 use Rattle.receive_laws.specs.Delivered.{delivered}
+use Rattle.transmit_laws.specs.Agreeing.{bytes_of}
+use Rattle.transmit_laws.specs.Laws as transmit
+use Rattle.transmit_laws.specs.Sent.{sent_since}
 use Rattle.start_laws.specs.Along.{IsAlong}
 use Rattle.start_laws.specs.Start.{BeginsWell}
-use Rattle.start_laws.specs.Stopping.{Ends, StepsBringing, StepsSwitched, StepsUnswitched}
+use Rattle.start_laws.specs.Stopping.{Ends, StepsBringing, StepsSwitched, StepsUnswitched, TakesOnceOff}
 use Rattle.pmd.specs.Halves.{Halves}
 use Rattle.pmd_laws.specs.Life.{IsLife}
 
@@ -40,6 +43,15 @@ HandedIsPrefix =
     (started : List Call) (r : Running) (made : List Call) (k : Halves) (new : List Call) →
     IsStopping w fifo h q size old a started r made k new →
     receive.IsPrefixOf k.receive.handed (delivered w.queue (new_state w.vfs fifo) h)
+
+-- where the stop takes blocks back only once both sides were seen off, what was sent on the queue since its transmit
+-- side went on is a prefix of what the driver accepted, over the whole history
+abbrev pub SentIsPrefix : Type 0
+SentIsPrefix =
+    (w : Watched) (fifo : ℕ) (h : List Entry) (q : AtPort) (size : ℕ) (old : List Call) (a : Numbers)
+    (started : List Call) (r : Running) (made : List Call) (k : Halves) (new : List Call) →
+    IsStopping w fifo h q size old a started r made k new → TakesOnceOff q made new →
+    transmit.IsPrefixOf (sent_since w.queue (new_state w.vfs fifo) [] h) (bytes_of k.transmit.accepted)
 
 -- beside its own calls the pass made steps of the device alone, as the driver stopped
 abbrev pub StepsHome : (q : AtPort) (old : List Call) (h : Halted) (new : List Call) (home : Home)
@@ -76,3 +88,19 @@ abbrev pub FailedStopEnds : Type 0
 FailedStopEnds =
     (f : PmdFault) (q : AtPort) (old : List Call) (h : Halted) (new : List Call) (left : Halted)
     (x : StopFails f q old h new left) → StepsUnstopped f q old h new left x → Ends q old new
+
+-- and blocks are taken back only once both sides were seen off: by a stop, by one that fails, and by one behind another
+
+abbrev pub StopTakesOnceOff : Type 0
+StopTakesOnceOff =
+    (q : AtPort) (old mid : List Call) (h : Halted) (new : List Call) (home : Home) (x : Stops q mid h new home) →
+    StepsHome q mid h new home x → TakesOnceOff q old mid → TakesOnceOff q old new
+
+abbrev pub FailedStopTakesOnceOff : Type 0
+FailedStopTakesOnceOff =
+    (f : PmdFault) (q : AtPort) (old mid : List Call) (h : Halted) (new : List Call) (left : Halted)
+    (x : StopFails f q mid h new left) → StepsUnstopped f q mid h new left x → TakesOnceOff q old mid →
+    TakesOnceOff q old new
+
+abbrev pub NoCallTakes : Type 0
+NoCallTakes = (q : AtPort) (old : List Call) → TakesOnceOff q old old

@@ -66,15 +66,26 @@ pub fn what_is_left_is_in_order()
 {}
 
 /// Where such a life is followed by calls of a stop, of which none asks for a side to be on, the packets that the
-/// driver had handed out are a prefix of those delivered in the whole history, with whatever came behind.
+/// driver had handed out are a prefix of those delivered in the whole history, with whatever came behind; and where
+/// these calls take blocks back only once both sides were seen off, the frames sent on the queue in the whole history
+/// are a prefix of those that the driver had accepted.
 pub fn stopped_life_in_order()
     ensures handed { stopped.HandedIsPrefix }
+    ensures sent { stopped.SentIsPrefix }
 {}
 
 /// The calls of a stop of a `pmd::Pmd` are such, beside steps of the device, and so are those of one that fails.
 pub fn stop_calls_ask_for_no_side()
     ensures stops { stopped.StopEnds }
     ensures fails { stopped.FailedStopEnds }
+{}
+
+/// They take blocks back only once both sides were seen off: the calls of a stop, and of one that fails, behind others
+/// that do, and no call at all.
+pub fn stops_take_blocks_once_off()
+    ensures none { stopped.NoCallTakes }
+    ensures stops { stopped.StopTakesOnceOff }
+    ensures fails { stopped.FailedStopTakesOnceOff }
 {}
 
 /// Where such a life is followed by the calls that switch both sides of the queue off, as a stop makes first, nothing

@@ -66,8 +66,8 @@ module _ (w : Watched) (fifo : ℕ) (h : List Entry) (x : IsAlong w fifo h) wher
       (are.0, alone_before mine (mode_after w.vfs mode e.event) g l are.1)
 
   lead : (P Q : List Entry → Type 0) (old before : List Call) (c : Call) → KeptOver w fifo (lent_by w.pass h) P
-      → KeptOver w fifo (lent_by w.pass h) Q → LeadsOver w fifo c P Q → AreSteps before → old ≢ []
-      → AtEntries w h old P → AtEntries w h (old ++ (before ++ c ∷ [])) Q
+      → KeptOver w fifo (lent_by w.pass h) Q → LeadsOver w fifo (lent_by w.pass h) c P Q → AreSteps before
+      → old ≢ [] → AtEntries w h old P → AtEntries w h (old ++ (before ++ c ∷ [])) Q
   lead P Q old before c kept kept_q leads steps some at done rest all is =
       let p = parts w.pass done old (before ++ c ∷ []) is in
       let whole : (p.front ++ p.back) ++ rest ≡ h = ap (λ (l : List Entry). l ++ rest) p.both ∙ all in
@@ -98,7 +98,7 @@ module _ (w : Watched) (fifo : ℕ) (h : List Entry) (x : IsAlong w fifo h) wher
 -- after some steps of the device and one call more the other holds of the entries so far, where both are kept
 pub entries_lead : (w : Watched) (fifo : ℕ) (h : List Entry) (P Q : List Entry → Type 0) (old before : List Call)
     (c : Call) → IsAlong w fifo h → KeptOver w fifo (lent_by w.pass h) P → KeptOver w fifo (lent_by w.pass h) Q
-    → LeadsOver w fifo c P Q → AreSteps before → old ≢ [] → AtEntries w h old P
+    → LeadsOver w fifo (lent_by w.pass h) c P Q → AreSteps before → old ≢ [] → AtEntries w h old P
     → AtEntries w h (old ++ (before ++ c ∷ [])) Q
 entries_lead w fifo h P Q old before c x kept kept_q leads steps some at =
     lead w fifo h x P Q old before c kept kept_q leads steps some at
@@ -107,4 +107,4 @@ pub calls_lead : CallsLead
 calls_lead w fifo h P Q old before c x kept kept_q leads steps some at =
     lead w fifo h x (λ done. P (reached w fifo done)) (λ done. Q (reached w fifo done)) old before c
     (state_kept w fifo (lent_by w.pass h) P kept) (state_kept w fifo (lent_by w.pass h) Q kept_q)
-    (state_leads w fifo c P Q leads) steps some at
+    (state_leads w fifo (lent_by w.pass h) c P Q leads) steps some at

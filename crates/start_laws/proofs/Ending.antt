@@ -18,7 +18,7 @@ use Rattle.nic_device.specs.declared.event.Reply.{Reply}
 use Rattle.nic_device.specs.declared.event.Reply.TheVariants.{Wrote, Advanced, Sent}
 use Rattle.device_laws.proofs.Standing.{memory_rest}
 use Rattle.device_laws.proofs.StandingAccesses.{read_rest, write_rest}
-use Rattle.device_lock.specs.Alone.{WritesOutside, lent_by}
+use Rattle.device_lock.specs.Alone.{Blocks, LeavesBlocks, LeavesRegisters, WritesOutside, lent_by}
 use Rattle.device_lock.specs.declared.alone.Watched.{Watched}
 use Rattle.device_lock.specs.declared.entry.Call.{Call}
 use Rattle.device_lock.specs.declared.entry.Entry.{Entry}
@@ -39,7 +39,8 @@ use Rattle.start_laws.proofs.Settled.{IsSettled, Settles, asked_settles, leaving
 
 -- calls of one kind keep what each of them keeps
 pub all_lead : (w : Watched) (fifo : ℕ) (h : List Entry) (P : List Entry → Type 0) (Own : Call → Type 0)
-    → IsAlong w fifo h → KeptOver w fifo (lent_by w.pass h) P → ((c : Call) → Own c → LeadsOver w fifo c P P)
+    → IsAlong w fifo h → KeptOver w fifo (lent_by w.pass h) P
+    → ((c : Call) → Own c → LeadsOver w fifo (lent_by w.pass h) c P P)
     → (calls old : List Call) → Each Own calls → old ≢ [] → AtEntries w h old P → AtEntries w h (old ++ calls) P
 all_lead w fifo h P Own along kept leads [] old each some at =
     subst (λ (cs : List Call). AtEntries w h cs P) (sym (append-nil old)) at
@@ -59,19 +60,25 @@ outside_none queue other = tt
 abbrev pub watching : ℕ → State → Watched
 watching queue s = record { vfs = s.vfs; pass = 0; queue = queue }
 
+pub free_left : (w : Watched) (mine : Blocks) (s : State) (e : Event Block) → IsMet w.queue s → IsEvent e
+    → w.vfs ≡ s.vfs → WritesOutside w.queue mine (reply_to s e)
+    → LeavesRegisters w (mode_in s.registers) e × LeavesBlocks mine e → IsLeft w mine s e
+free_left w mine s e met made vfs steps free = record {
+  small = met.small;
+  sound = met.sound;
+  aligned = met.aligned;
+  vfs = vfs;
+  made = made;
+  registers = free.0;
+  blocks = free.1;
+  steps = steps;
+}
+
 pub step_left : (queue : ℕ) (s : State) (e : Event Block) → IsMet queue s → IsEvent e → is_step e ≡ true
     → IsLeft (watching queue s) no_block s e
 step_left queue s e met made is =
-    let free = no_registers (watching queue s) (mode_in s.registers) no_block e is in record {
-      small = met.small;
-      sound = met.sound;
-      aligned = met.aligned;
-      vfs = refl;
-      made = made;
-      registers = free.0;
-      blocks = free.1;
-      steps = outside_none queue (reply_to s e);
-    }
+    free_left (watching queue s) no_block s e met made refl (outside_none queue (reply_to s e))
+    (no_registers (watching queue s) (mode_in s.registers) no_block e is)
 
 -- what a stop's events write keeps the receive side settled
 module _ (queue : ℕ) (q : AtPort) (s : State) where
@@ -98,7 +105,7 @@ module _ (queue : ℕ) (q : AtPort) (s : State) where
       left_settles (watching queue s) no_block s e (step_left queue s e met made ending) is
 
 -- what a stop's event writes is a register of the queue
-side_plain : (q : AtPort) (side : Dir) → is_driven (enable_row side) ≡ true
+pub side_plain : (q : AtPort) (side : Dir) → is_driven (enable_row side) ≡ true
 side_plain q Rx = refl
 side_plain q Tx = refl
 

@@ -32,6 +32,7 @@ pub mod Reached
 pub mod ReceiveWords
 pub mod Rising
 pub mod Settled
+pub mod SettledTransmit
 pub mod Silent
 pub mod Standing
 pub mod Start

@@ -62,12 +62,12 @@ module _ (w : Watched) (q : AtPort) (fifo : ℕ) (h : List Entry) (along : IsAlo
       → AreSteps before → old ≢ [] → At old F → At (old ++ (before ++ c ∷ [])) G
   call_leads F G old before c none leads steps some at =
       entries_lead w fifo h (SomePoint F) (SomePoint G) old before c along (some_kept F) (some_kept G)
-      (λ done e same met made told (p, known, x, n).
+      (λ done e same met made told outside (p, known, x, n).
       let here : IsIdle w.queue (call_in e) = subst (IsIdle w.queue) (sym same) none in (
         p,
         known,
-        state_leads w fifo c (Point w.queue mine q (F p)) (Point w.queue mine q (G p)) (leads p known) done e same met
-            made told x,
+        state_leads w fifo mine c (Point w.queue mine q (F p)) (Point w.queue mine q (G p)) (leads p known) done e
+            same met made told outside x,
         idle done e (here (reached w fifo done)).0 (here (reached w fifo done)).1 n,
       )) steps some at
 

@@ -3,7 +3,7 @@ use Rattle.std.proofs.Common.{◌≡◌, ℕ, List, [], ◌∷◌, ◌++◌, sym
 use Rattle.nic_device.specs.Sound.{IsEvent}
 use Rattle.nic_device.specs.State.{State, new_state}
 use Rattle.nic_device.specs.Step.{after, reply_to}
-use Rattle.device_lock.specs.Alone.{Blocks}
+use Rattle.device_lock.specs.Alone.{Blocks, WritesOutside}
 use Rattle.device_lock.specs.History.{call_in, leads_to}
 use Rattle.device_lock.specs.declared.alone.Watched.{Watched}
 use Rattle.device_lock.specs.declared.entry.Call.{Call}
@@ -31,10 +31,11 @@ abbrev pub KeptOver : Watched → ℕ → Blocks → (List Entry → Type 0) →
 KeptOver w fifo mine P =
     (done : List Entry) (e : Entry) → IsLeft w mine (reached w fifo done) e.event → P done → P (done ++ e ∷ [])
 
-abbrev pub LeadsOver : Watched → ℕ → Call → (List Entry → Type 0) → (List Entry → Type 0) → Type 0
-LeadsOver w fifo c P Q =
+abbrev pub LeadsOver : Watched → ℕ → Blocks → Call → (List Entry → Type 0) → (List Entry → Type 0) → Type 0
+LeadsOver w fifo mine c P Q =
     (done : List Entry) (e : Entry) → call_in e ≡ c → IsMet w.queue (reached w fifo done) → IsEvent e.event
-    → e.reply ≡ reply_to (reached w fifo done) e.event → P done → Q (done ++ e ∷ [])
+    → e.reply ≡ reply_to (reached w fifo done) e.event → WritesOutside w.queue mine e.reply → P done
+    → Q (done ++ e ∷ [])
 
 -- of a state alone
 
@@ -43,9 +44,9 @@ pub state_kept : (w : Watched) (fifo : ℕ) (mine : Blocks) (P : State → Type 
 state_kept w fifo mine P kept done e left p =
     subst P (sym (reached_next w fifo done e)) (kept (reached w fifo done) e.event left p)
 
-pub state_leads : (w : Watched) (fifo : ℕ) (c : Call) (P Q : State → Type 0) → Leads w.queue c P Q
-    → LeadsOver w fifo c (λ done. P (reached w fifo done)) (λ done. Q (reached w fifo done))
-state_leads w fifo c P Q leads done e same met made told p =
+pub state_leads : (w : Watched) (fifo : ℕ) (mine : Blocks) (c : Call) (P Q : State → Type 0) → Leads w.queue c P Q
+    → LeadsOver w fifo mine c (λ done. P (reached w fifo done)) (λ done. Q (reached w fifo done))
+state_leads w fifo mine c P Q leads done e same met made told steps p =
     subst Q (sym (reached_next w fifo done e))
     (subst (λ (x : Call). Leads w.queue x P Q) (sym same) leads (reached w fifo done) met made told p)
 

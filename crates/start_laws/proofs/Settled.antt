@@ -41,7 +41,7 @@ not_again true is only = refl
 not_again false is (inl on) = cc
 not_again false is (inr off) = off
 
-same_again : (was is : Bool) → is ≡ was → (not was && is) ≡ false
+pub same_again : (was is : Bool) → is ≡ was → (not was && is) ≡ false
 same_again true is same = refl
 same_again false is same = same
 

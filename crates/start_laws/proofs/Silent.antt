@@ -81,11 +81,11 @@ module _ (w : Watched) (q : AtPort) (fifo : ℕ) (done : List Entry) where
       silent_on now e (histories_keep_staged (reached w fifo now) (e ∷ []) left.sound (left.made, tt) x.bare)
       (left_stays w mine q (reached w fifo now) e.event left x.bare x.quiet) x
 
-  ending_silent : (c : Call) → IsEnding q c.event → LeadsOver w fifo c Silent Silent
-  ending_silent c own now e same met made told x =
-      let mine = subst (λ (n : Call). IsEnding q n.event) (sym same) own in
+  ending_silent : (mine : Blocks) (c : Call) → IsEnding q c.event → LeadsOver w fifo mine c Silent Silent
+  ending_silent mine c own now e same met made told steps x =
+      let ends = subst (λ (n : Call). IsEnding q n.event) (sym same) own in
       silent_on now e (histories_keep_staged (reached w fifo now) (e ∷ []) met.sound (made, tt) x.bare)
-      (ending_stays w.queue q (reached w fifo now) e.event met made mine x.bare x.quiet) x
+      (ending_stays w.queue q (reached w fifo now) e.event met made ends x.bare x.quiet) x
 
 module _ (w : Watched) (q : AtPort) (fifo : ℕ) (h done rest : List Entry) (old : List Call) (along : IsAlong w fifo h)
     (some : old ≢ []) (at : AtCalls w fifo h old (IsQuiet w.queue q)) (all : done ++ rest ≡ h)
@@ -129,7 +129,8 @@ module _ (w : Watched) (q : AtPort) (fifo : ℕ) (h done rest : List Entry) (old
   pub silent_whole : (made : List Call) → Ends q old made → calls_of w.pass h ≡ made → IsSilent w fifo h done
   silent_whole whole (ends, is, own) made =
       (all_lead w fifo h (Silent w q fifo done) (λ c. IsEnding q c.event) along
-      (others_silent w q fifo done (lent_by w.pass h)) (ending_silent w q fifo done) ends old own some silent_at h []
+      (others_silent w q fifo done (lent_by w.pass h)) (ending_silent w q fifo done (lent_by w.pass h))
+      ends old own some silent_at h []
       (append-nil h) (made ∙ is)).same
 
 pub quiet_queue_is_silent : QuietQueueIsSilent

@@ -1,4 +1,4 @@
--- Calls of a stop: one after the other, and steps of the device beside them.
+-- Calls of a kind, as a stop makes them: one after the other, and steps of the device beside them.
 use Rattle.std.proofs.Common.{◌≡◌, true, List, [], ◌∷◌, ◌++◌, sym, ap, ◌∙◌, append_assoc}
 use Rattle.std.proofs.lemmas.List.{append-nil}
 use Rattle.dma_arena.specs.Block.{Block}
@@ -10,45 +10,59 @@ use Rattle.device_lock.specs.declared.entry.Call.{Call}
 use Rattle.pmd_base.specs.Events.{is_step}
 use Rattle.pmd_base.specs.Made.{Adds, AddsSome, AreSteps}
 use Rattle.pmd_queue.specs.Named.{AtPort}
-use Rattle.start_laws.specs.Ending.{Each, IsEnding}
-use Rattle.start_laws.specs.Stopping.{Ends}
+use Rattle.start_laws.specs.Ending.{Each, IsAsking, IsEnding}
+use Rattle.start_laws.specs.Stopping.{AreMadeOf, Asks, Ends}
 
--- Switching a queue off and taking blocks back are calls of a stop, beside steps of the device.
+module _ (P : Event Block → Type 0) where
+  -- calls in parts
 
-module _ (q : AtPort) where
-  abbrev pub Own : Call → Type 0
-  Own c = IsEnding q c.event
-
-  -- calls of a stop, in parts
-
-  each_both : (cs ds : List Call) → Each Own cs → Each Own ds → Each Own (cs ++ ds)
+  each_both : (cs ds : List Call) → Each (λ c. P c.event) cs → Each (λ c. P c.event) ds
+      → Each (λ c. P c.event) (cs ++ ds)
   each_both [] ds are more = more
   each_both (c ∷ cs) ds are more = (are.0, each_both cs ds are.1 more)
 
-  step_ends : (e : Event Block) → is_step e ≡ true → IsEnding q e
-  step_ends (event.Read port number) is = tt
-  step_ends (event.Take number) is = tt
-  step_ends (event.Write port number word) is = cc
-  step_ends e is = is
+  pub none_made : (old new : List Call) → new ≡ old → AreMadeOf P old new
+  none_made old new e = ([], e ∙ sym (append-nil old), tt)
 
-  steps_end : (cs : List Call) → AreSteps cs → Each Own cs
-  steps_end [] are = tt
-  steps_end (c ∷ cs) are = (step_ends c.event are.0, steps_end cs are.1)
-
-  pub none_ends : (old new : List Call) → new ≡ old → Ends q old new
-  none_ends old new e = ([], e ∙ sym (append-nil old), tt)
-
-  pub then_ends : (old mid new : List Call) → Ends q old mid → Ends q mid new → Ends q old new
-  then_ends old mid new (cs, one, are) (ds, two, more) = (
+  pub then_made : (old mid new : List Call) → AreMadeOf P old mid → AreMadeOf P mid new → AreMadeOf P old new
+  then_made old mid new (cs, one, are) (ds, two, more) = (
     cs ++ ds,
     two ∙ ap (λ (l : List Call). l ++ ds) one ∙ append_assoc old cs ds,
     each_both cs ds are more,
   )
 
-  pub adds_ends : (old new : List Call) (e : Event Block) (r : Reply Block) → (x : Adds old new e r) → AreSteps x.0
-      → IsEnding q e → Ends q old new
-  adds_ends old new e r (before, is, stepped) steps own =
-      (before ++ call_of e r ∷ [], is, each_both before (call_of e r ∷ []) (steps_end before steps) (own, tt))
+  -- where steps of the device are such
+  module _ (stepping : (e : Event Block) → is_step e ≡ true → P e) where
+    steps_are : (cs : List Call) → AreSteps cs → Each (λ c. P c.event) cs
+    steps_are [] are = tt
+    steps_are (c ∷ cs) are = (stepping c.event are.0, steps_are cs are.1)
 
-  pub some_end : (old new : List Call) → (x : AddsSome old new) → AreSteps x.0 → Ends q old new
-  some_end old new (before, is, stepped) steps = (before, is, steps_end before steps)
+    pub adds_made : (old new : List Call) (e : Event Block) (r : Reply Block) → (x : Adds old new e r) → AreSteps x.0
+        → P e → AreMadeOf P old new
+    adds_made old new e r (before, is, stepped) steps own =
+        (before ++ call_of e r ∷ [], is, each_both before (call_of e r ∷ []) (steps_are before steps) (own, tt))
+
+    pub some_made : (old new : List Call) → (x : AddsSome old new) → AreSteps x.0 → AreMadeOf P old new
+    some_made old new (before, is, stepped) steps = (before, is, steps_are before steps)
+
+module _ (q : AtPort) where
+  -- a step of the device asks, and calls that ask are those of a stop
+
+  pub step_asks : (e : Event Block) → is_step e ≡ true → IsAsking q e
+  step_asks (event.Read port number) is = tt
+  step_asks (event.Write port number word) is = cc
+  step_asks e is = is
+
+  asking_ends : (e : Event Block) → IsAsking q e → IsEnding q e
+  asking_ends (event.Take number) asks = tt
+  asking_ends e asks = asks
+
+  pub step_ends : (e : Event Block) → is_step e ≡ true → IsEnding q e
+  step_ends e is = asking_ends e (step_asks e is)
+
+  each_ends : (cs : List Call) → Each (λ c. IsAsking q c.event) cs → Each (λ c. IsEnding q c.event) cs
+  each_ends [] are = tt
+  each_ends (c ∷ cs) are = (asking_ends c.event are.0, each_ends cs are.1)
+
+  pub asks_end : (old new : List Call) → Asks q old new → Ends q old new
+  asks_end old new (cs, is, are) = (cs, is, each_ends cs are)

@@ -99,7 +99,7 @@ module _ (w : Watched) (fifo : ℕ) (mine : Blocks) where
 
   -- entries up to a call, and behind it
   pub walk : (P Q : List Entry → Type 0) → KeptOver w fifo mine P → KeptOver w fifo mine Q → (c : Call)
-      → LeadsOver w fifo c P Q → (before : List Call) → AreSteps before → (mode : Mode) (s : State)
+      → LeadsOver w fifo mine c P Q → (before : List Call) → AreSteps before → (mode : Mode) (s : State)
       (done h : List Entry) → reached w fifo done ≡ s → Between w mode s → AreEvents h → IsLegal s h
       → AllAlone w mine mode h → calls_of w.pass h ≡ before ++ c ∷ [] → P done → Q (done ++ h)
   walk P Q kept kept_q c leads before steps mode s done [] at b events legal alone is p = absurd (none before is)
@@ -133,7 +133,7 @@ module _ (w : Watched) (fifo : ℕ) (mine : Blocks) where
           (stay Q kept_q (mode_after w.vfs mode e.event) (after s e.event) (done ++ e ∷ []) h (step_on s done e at)
           (next w mode s e b events.0) events.1 legal.1 alone.1 rest
           (leads done e same (subst (IsMet w.queue) (sym at) met) events.0
-          (subst (λ (t : State). e.reply ≡ reply_to t e.event) (sym at) legal.0) p))
+          (subst (λ (t : State). e.reply ≡ reply_to t e.event) (sym at) legal.0) alone.0.steps p))
       own_call on (x ∷ xs) are there =
           let same : call_in e ≡ x = cc in
           let rest : calls_of w.pass h ≡ xs ++ c ∷ [] = cc in

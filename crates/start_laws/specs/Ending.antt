@@ -27,11 +27,15 @@ abbrev pub IsPlain : AtPort → Event Block → Type 0
 IsPlain q (event.Write port number word) = NamesDriven q port number
 IsPlain q other = ⊤
 
--- an event of a stop: an enable word of the queue is written without bit 25, a register is read, a block is taken, or
--- the device makes a step
-abbrev pub IsEnding : AtPort → Event Block → Type 0
-IsEnding q (event.Write port number word) =
+-- an event by which the sides are asked off, and seen so: an enable word of the queue is written without bit 25, a
+-- register is read, or the device makes a step
+abbrev pub IsAsking : AtPort → Event Block → Type 0
+IsAsking q (event.Write port number word) =
     (side : Dir) × (port ≡ q.port) × IsFalse (has_bit 25 word) × IsNumberOf q.port (enable_row side) q.queue number
-IsEnding q (event.Read port number) = ⊤
+IsAsking q (event.Read port number) = ⊤
+IsAsking q e = IsTrue (is_step e)
+
+-- an event of a stop: one of these, or a block is taken
+abbrev pub IsEnding : AtPort → Event Block → Type 0
 IsEnding q (event.Take number) = ⊤
-IsEnding q e = IsTrue (is_step e)
+IsEnding q e = IsAsking q e

@@ -1,6 +1,8 @@
 -- The calls by which both sides of a queue are switched off and blocks are taken back, beside steps of the device.
-use Rattle.std.specs.Prelude.{ℕ, ◌-◌, ◌≡◌, ⊤, zero, suc, false, List, ◌++◌}
+use Rattle.std.specs.Prelude.{ℕ, ◌-◌, ◌≡◌, ◌⊎◌, ⊤, zero, suc, false, List, ◌++◌}
 use Rattle.std.proofs.Common.{inl, inr}
+use Rattle.dma_arena.specs.Block.{Block}
+use Rattle.nic_device.specs.declared.event.Event.{Event}
 use Rattle.device_lock.specs.declared.entry.Call.{Call}
 use Rattle.register_file.specs.declared.dir.Dir.{Dir}
 use Rattle.register_file.specs.declared.dir.Dir.TheVariants.{Rx, Tx}
@@ -13,12 +15,19 @@ use Rattle.pmd_queue.specs.Both.{IsSwitched, SwitchFails, both_asked, receive_po
 use Rattle.pmd_queue.specs.Made.{Access, Sees, Sets, FailsBy, IsOtherwise, StopsBy}
 use Rattle.pmd_queue.specs.Named.{AtPort}
 use Rattle.pmd_queue.specs.Sides.{PollsEnd, missed, polled}
-use Rattle.start_laws.specs.Ending.{Each, IsEnding}
+use Rattle.start_laws.specs.Ending.{Each, IsAsking, IsEnding}
 use Rattle.start_laws.specs.Points.{StepsBetween}
 
--- the calls that were made between are those of a stop
+-- the events of the calls that were made between are such
+abbrev pub AreMadeOf : (Event Block → Type 0) → List Call → List Call → Type 0
+AreMadeOf P old new = (calls : List Call) × (new ≡ old ++ calls) × Each (λ c. P c.event) calls
+
+-- they are calls of a stop; they ask for the sides to be off, and take no block
 abbrev pub Ends : AtPort → List Call → List Call → Type 0
-Ends q old new = (ends : List Call) × (new ≡ old ++ ends) × Each (λ c. IsEnding q c.event) ends
+Ends q old new = AreMadeOf (IsEnding q) old new
+
+abbrev pub Asks : AtPort → List Call → List Call → Type 0
+Asks q old new = AreMadeOf (IsAsking q) old new
 
 -- beside the access that fails its pass made steps of the device alone
 
@@ -78,17 +87,30 @@ abbrev pub StepsBringing : (count : ℕ) (s t : Bringing) → Brings count s t �
 StepsBringing zero s t x = ⊤
 StepsBringing (suc count) s t x = StepsBringing count s x.0 x.1 × StepsTaking x.0 t x.2
 
--- so the calls are those of a stop
+-- blocks are taken only once both sides were seen off: the calls ask for the sides to be off, and no more; or they go
+-- on with a switch off, and then with those of a stop
+pub record EndsOnceOff (q : AtPort) (old new : List Call) : Type 0 where
+  pub mid : List Call
+  pub off : List Call
+  pub asks : Asks q old mid
+  pub switched : IsSwitched q mid off false 1000
+  pub steps : StepsSwitched q mid off switched
+  pub ends : Ends q off new
 
-abbrev pub SwitchedOffEnds : Type 0
-SwitchedOffEnds =
+abbrev pub TakesOnceOff : AtPort → List Call → List Call → Type 0
+TakesOnceOff q old new = Asks q old new ⊎ EndsOnceOff q old new
+
+-- so the calls of a switch off ask, and those by which blocks are taken back are those of a stop
+
+abbrev pub SwitchedOffAsks : Type 0
+SwitchedOffAsks =
     (q : AtPort) (old new : List Call) (x : IsSwitched q old new false 1000) → StepsSwitched q old new x →
-    Ends q old new
+    Asks q old new
 
-abbrev pub UnswitchedEnds : Type 0
-UnswitchedEnds =
+abbrev pub UnswitchedAsks : Type 0
+UnswitchedAsks =
     (f : PmdFault) (q : AtPort) (old new : List Call) (x : SwitchFails f q old new false 1000) →
-    StepsUnswitched f q old new x → Ends q old new
+    StepsUnswitched f q old new x → Asks q old new
 
 abbrev pub BringingEnds : Type 0
 BringingEnds =

@@ -123,8 +123,8 @@ module _ (s : State) (queue : ℕ) (sent : List (List ℕ)) (v : Sender) (f : �
       switched_side other is =
           let k = subst (λ (n : Event Block). KeepsRing s queue (step_of s n)) (sym (switch_is queue e is))
           (switch_keeps s queue h.based.sound h.based.small) in
-          quiet (set_up-same (transmit_queue_of s.registers queue) (transmit_queue_of t.registers queue) v.layout v.posted
-          f k.ring k.writeback h.set_up) (k.staged h.staged) other
+          quiet (set_up-same (transmit_queue_of s.registers queue) (transmit_queue_of t.registers queue) v.layout
+          v.posted f k.ring k.writeback h.set_up) (k.staged h.staged) other
 
       pub spares-keeps : Agrees t queue (sent ++ sent_by queue s e) v
       spares-keeps = elim (cases_Bool (is_transmit_of queue e)) [

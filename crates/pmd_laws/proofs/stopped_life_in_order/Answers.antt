@@ -1,5 +1,6 @@
 use Rattle.pmd_laws.proofs.Stopped.{handed_over_stop}
+use Rattle.pmd_laws.proofs.StopSent.{sent_over_stop}
 use Rattle.pmd_laws.proofs.stopped_life_in_order.Goals as goal
 
 pub returns : goal.returns
-returns c = record { handed = handed_over_stop }
+returns c = record { handed = handed_over_stop; sent = sent_over_stop }

@@ -1,0 +1,139 @@
+-- What the device and both halves of a driver agree on stands while the driver asks for its sides to be off.
+use Rattle.std.proofs.Common.{◌≡◌, ℕ, List, [], ◌∷◌, ◌++◌, refl, sym, ap, ◌∙◌, subst, cond}
+use Rattle.std.specs.Prelude.{IsFalse}
+use Rattle.std.proofs.lemmas.List.{append-nil}
+use Rattle.dma_arena.specs.Block.{Block}
+use Rattle.register_file.specs.Bits.{has_bit}
+use Rattle.register_file.specs.Pools.{mode_in}
+use Rattle.register_file.specs.Queue.{enable_row}
+use Rattle.register_file.specs.declared.dir.Dir.{Dir}
+use Rattle.nic_device.specs.Sound.{IsEvent}
+use Rattle.nic_device.specs.State.{State, new_state}
+use Rattle.nic_device.specs.Step.{after, reply_to}
+use Rattle.nic_device.specs.declared.event.Event.{Event}
+use Rattle.nic_device.specs.declared.event.Event.TheVariants as event
+use Rattle.device_lock.specs.Alone.{Blocks, WritesOutside}
+use Rattle.device_lock.specs.declared.alone.Watched.{Watched}
+use Rattle.device_lock.specs.declared.entry.Call.{Call}
+use Rattle.device_lock.specs.declared.entry.Entry.{Entry}
+use Rattle.pmd_queue.specs.Named.{AtPort, IsNumberOf}
+use Rattle.receive_laws.specs.Pieces.{Piece, pieces}
+use Rattle.receive_laws.proofs.Clear.{no_registers}
+use Rattle.receive_laws.proofs.Delivering.{image_stays, vfs_stays}
+use Rattle.transmit_laws.specs.Sent.{sent_by, sent_since}
+use Rattle.transmit_laws.proofs.Counting.{sent_is_counted}
+use Rattle.start_laws.specs.Ending.{IsAsking}
+use Rattle.start_laws.specs.Moves.{IsMet}
+use Rattle.start_laws.specs.Points.{HasGround}
+use Rattle.start_laws.specs.Standing.{IsLeft}
+use Rattle.start_laws.proofs.Ending.{free_left, side_plain}
+use Rattle.start_laws.proofs.Ground.{ground_kept, write_ground}
+use Rattle.start_laws.proofs.Numbers.{ground_names}
+use Rattle.start_laws.proofs.Reached.{KeptOver, LeadsOver, reached, reached_next}
+use Rattle.start_laws.proofs.SettledTransmit.{IsSettled, Settles, spared_settles, word_settles}
+use Rattle.pmd.specs.Halves.{Halves}
+use Rattle.driver_laws.specs.Agreeing.{AreLent, BothAgree}
+use Rattle.driver_laws.proofs.Enabling.{enable_words_keep}
+use Rattle.driver_laws.proofs.Meeting.{Meets, neither_keeps, spared_by}
+
+module _ (w : Watched) (fifo : ℕ) (q : AtPort) (mine : Blocks) (k : Halves) where
+  abbrev new : State
+  new = new_state w.vfs fifo
+
+  abbrev sent : List Entry → List (List ℕ)
+  sent done = sent_since w.queue new [] done
+
+  -- they agree, with the frames that were sent since the transmit side went on, and it doesn't go on again
+  pub record Keeps (done : List Entry) : Type 0 where
+    pub ground : HasGround w.queue q (reached w fifo done)
+    pub out : List Piece
+    pub both : BothAgree w.queue (reached w fifo done) out (sent done) k
+    pub lent : AreLent mine k
+    pub settled : IsSettled w.queue (reached w fifo done)
+
+  -- the same behind an event
+  record Next (done : List Entry) (e : Event Block) : Type 0 where
+    ground : HasGround w.queue q (after (reached w fifo done) e)
+    out : List Piece
+    both : BothAgree w.queue (after (reached w fifo done) e) out
+        (sent done ++ sent_by w.queue (reached w fifo done) e) k
+    settles : Settles w.queue (reached w fifo done) e
+
+  keeps_on : (done : List Entry) (e : Entry) → AreLent mine k → Next done e.event → Keeps (done ++ e ∷ [])
+  keeps_on done e lent x =
+      let s = reached w fifo done in
+      let t = after s e.event in
+      let now : List Entry = done ++ e ∷ [] in
+      let there = sym (reached_next w fifo done e) in
+      let counted : sent now ≡ sent done ++ sent_by w.queue s e.event =
+      sent_is_counted.joined w.queue new [] done (e ∷ [])
+      ∙ ap (λ b. cond b [] (sent done ++ sent_by w.queue s e.event)) x.settles.never in
+      record {
+        ground = subst (HasGround w.queue q) there x.ground;
+        out = x.out;
+        both =
+            subst (λ (u : State). BothAgree w.queue u x.out (sent now) k) there
+            (subst (λ (xs : List (List ℕ)). BothAgree w.queue t x.out xs k) (sym counted) x.both);
+        lent = lent;
+        settled = subst (IsSettled w.queue) there x.settles.settled;
+      }
+
+  left_next : (done : List Entry) (e : Event Block) → IsLeft w mine (reached w fifo done) e → Keeps done → Next done e
+  left_next done e left x =
+      let s = reached w fifo done in
+      let mode = mode_in s.registers in
+      let m : Meets w mine mode s x.out (sent done) k = record {
+        sound = left.sound;
+        aligned = left.aligned;
+        image = image_stays new done;
+        vfs = left.vfs;
+        mode_is = refl;
+        both = x.both;
+        lent = x.lent;
+      } in
+      let kept = neither_keeps w mine mode s x.out (sent done) k m e left.made left.steps left.registers left.blocks in
+      let spared = spared_by w mine mode s x.out (sent done) k m e left.made left.steps e left.made left.registers
+      left.blocks left.steps in record {
+        ground = ground_kept w mine q s e left x.ground;
+        out = x.out ++ pieces w.queue s e;
+        both = kept.0;
+        settles = spared_settles w.queue s (sent done) k.transmit e x.both.transmit spared x.settled;
+      }
+
+  word_next : (done : List Entry) (side : Dir) (number word : ℕ) → IsMet w.queue (reached w fifo done)
+      → IsEvent (event.Write q.port number word) → IsFalse (has_bit 25 word)
+      → IsNumberOf q.port (enable_row side) q.queue number → Keeps done → Next done (event.Write q.port number word)
+  word_next done side number word met made none named x =
+      let s = reached w fifo done in
+      let t = after s (event.Write q.port number word) in
+      let names = ground_names w.queue q s x.ground (enable_row side) number (side_plain q side) named in record {
+        ground = write_ground w.queue q s (enable_row side) word number (side_plain q side) named x.ground;
+        out = x.out;
+        both =
+            subst (λ (xs : List (List ℕ)). BothAgree w.queue t x.out xs k) (sym (append-nil (sent done)))
+            (enable_words_keep w.queue s side q.port number word x.out (sent done) k made names x.both);
+        settles = word_settles w.queue q s number word met none x.ground side named x.settled;
+      }
+
+  asked_next : (done : List Entry) (e : Event Block) → IsMet w.queue (reached w fifo done) → IsEvent e → IsAsking q e
+      → WritesOutside w.queue mine (reply_to (reached w fifo done) e) → Keeps done → Next done e
+  asked_next done (event.Write port number word) met made (side, same, none, named) steps x =
+      subst (λ p. Next done (event.Write p number word)) (sym same)
+      (word_next done side number word met (subst (λ p. IsEvent (event.Write p number word)) same made) none named x)
+  asked_next done (event.Read port number) met made asks steps x =
+      left_next done (event.Read port number)
+      (free_left w mine (reached w fifo done) (event.Read port number) met made (sym (vfs_stays new done)) steps
+      (tt, tt)) x
+  asked_next done e met made asks steps x =
+      left_next done e
+      (free_left w mine (reached w fifo done) e met made (sym (vfs_stays new done)) steps
+      (no_registers w (mode_in (reached w fifo done).registers) mine e asks)) x
+
+  pub others_keep : KeptOver w fifo mine Keeps
+  others_keep done e left x = keeps_on done e x.lent (left_next done e.event left x)
+
+  pub asking_keeps : (c : Call) → IsAsking q c.event → LeadsOver w fifo mine c Keeps Keeps
+  asking_keeps c own done e same met made told steps x =
+      keeps_on done e x.lent
+      (asked_next done e.event met made (subst (λ (n : Call). IsAsking q n.event) (sym same) own)
+      (subst (WritesOutside w.queue mine) told steps) x)

@@ -1,0 +1,147 @@
+-- What a driver sent, over its stop and on.
+use Rattle.std.proofs.Common.{◌≡◌, ◌≢◌, ℕ, inl, inr, true, List, [], ◌∷◌, ◌++◌, drop, sym, ap, ◌∙◌, subst}
+use Rattle.std.specs.Prelude.{IsTrue}
+use Rattle.std.proofs.lemmas.Bool.{or_cases, or_left, or_right}
+use Rattle.std.proofs.lemmas.List.{append-nil}
+use Rattle.dma_arena.specs.Numbers.{Numbers}
+use Rattle.nic_device.specs.State.{State, new_state}
+use Rattle.device_lock.specs.Alone.{lent_by, lent_in}
+use Rattle.device_lock.specs.History.{calls_of, leads_to}
+use Rattle.device_lock.specs.declared.alone.Watched.{Watched}
+use Rattle.device_lock.specs.declared.entry.Call.{Call}
+use Rattle.device_lock.specs.declared.entry.Entry.{Entry}
+use Rattle.pmd.specs.Running.{Running}
+use Rattle.pmd_queue.specs.Named.{AtPort}
+use Rattle.receive_laws.proofs.Delivering.{leads-append}
+use Rattle.receive_laws.proofs.Each.{each_map}
+use Rattle.receive_laws.specs.Delivered.{pieces_in}
+use Rattle.receive_laws.specs.Pieces.{Piece}
+use Rattle.transmit_laws.specs.Agreeing.{bytes_of, kept_in}
+use Rattle.transmit_laws.specs.Laws.{IsPrefixOf}
+use Rattle.transmit_laws.specs.Sent.{sent_in, sent_since}
+use Rattle.transmit_laws.specs.Up.{IsUp}
+use Rattle.start_laws.specs.Along.{AtCalls, AtEntries}
+use Rattle.start_laws.specs.Ending.{IsAsking}
+use Rattle.start_laws.specs.Points.{HasGround}
+use Rattle.start_laws.specs.Quieting.{IsQuiet}
+use Rattle.start_laws.specs.Stopping.{Asks, EndsOnceOff, TakesOnceOff}
+use Rattle.start_laws.proofs.Ending.{all_lead}
+use Rattle.start_laws.proofs.Parts.{Parts, parts}
+use Rattle.start_laws.proofs.Silent.{quiet_queue_is_silent}
+use Rattle.start_laws.proofs.StopCalls.{then_made}
+use Rattle.start_laws.proofs.Stopping.{switched_off_asks}
+use Rattle.start_laws.proofs.SwitchedOff.{switching_off_leads}
+use Rattle.pmd.specs.Halves.{Halves}
+use Rattle.driver_laws.specs.Agreeing.{AreLent, BothAgree}
+use Rattle.driver_laws.proofs.InOrder.{led}
+use Rattle.pmd_laws.specs.Order.{IsLived}
+use Rattle.pmd_laws.specs.Stopped.{IsStopping, SentIsPrefix}
+use Rattle.pmd_laws.proofs.Asked.{Keeps, asking_keeps, others_keep}
+use Rattle.pmd_laws.proofs.Looks.{lived_before}
+use Rattle.pmd_laws.proofs.Order.{counted, driven, first, in_parts, last, up, went_on, whole}
+use Rattle.pmd_laws.proofs.Stopped.{ground_lived, life_some, some_more}
+
+-- what a pass lends in the beginning of a history it lends in the whole
+lent_before : (pass n : ℕ) (g h : List Entry) → lent_by pass g n ≡ true → lent_by pass (g ++ h) n ≡ true
+lent_before pass n [] h is = cc
+lent_before pass n (e ∷ g) h is = elim (or_cases (lent_in pass e n) (lent_by pass g n) is) [
+  | inl now ↦ or_left _ _ now
+  | inr later ↦ or_right _ _ (lent_before pass n g h later)
+]
+
+more_lent : (pass : ℕ) (g h : List Entry) (k : Halves) → AreLent (lent_by pass g) k → AreLent (lent_by pass (g ++ h)) k
+more_lent pass g h k x = record {
+  receive =
+      each_map k.receive (λ b. IsTrue (lent_by pass g b)) (λ b. IsTrue (lent_by pass (g ++ h) b))
+      (λ b is. lent_before pass b g h is) x.receive;
+  transmit = λ n is. lent_before pass n g h (x.transmit n is);
+}
+
+-- at the end of a life
+module _ (w : Watched) (fifo : ℕ) (h rest : List Entry) (q : AtPort) (size : ℕ) (old : List Call) (a : Numbers)
+    (started : List Call) (r : Running) (k : Halves) (x : IsLived w fifo h q size old a started r k) where
+  keeps_by : Parts w.pass h (up w fifo h q size old a started r k x).on.mid
+      (whole w fifo h q size old a started r k x).0.1 → Keeps w fifo q (lent_by w.pass (h ++ rest)) k h
+  keeps_by p =
+      let new : State = new_state w.vfs fifo in
+      let d = driven w fifo h q size old a started r k x p in
+      let l = led w fifo p.front p.back (first w fifo h q size old a started r k x)
+      (whole w fifo h q size old a started r k x).0.0 d in
+      let is = last w fifo h q size old a started r k x p in
+      let at = sym (leads-append new p.front p.back) ∙ ap (leads_to new) p.both in
+      let out : List Piece = pieces_in w.queue (leads_to new p.front) p.back in
+      record {
+        ground = ground_lived w fifo h q size old a started r k x;
+        out = out;
+        both =
+            subst (λ (s : State). BothAgree w.queue s out (sent_since w.queue new [] h) k) at
+            (subst (λ (xs : List (List ℕ)). BothAgree w.queue (leads_to (leads_to new p.front) p.back) out xs k)
+            (sym (counted w fifo h q size old a started r k x p))
+            (subst (λ (z : Halves). BothAgree w.queue (leads_to (leads_to new p.front) p.back) out
+            (sent_in w.queue (leads_to new p.front) p.back) z) is l.both));
+        lent =
+            more_lent w.pass h rest k
+            (subst (λ (g : List Entry). AreLent (lent_by w.pass g) k) p.both
+            (subst (AreLent (lent_by w.pass (p.front ++ p.back))) is l.lent));
+        settled =
+            inl (subst (IsUp w.queue) at (l.sends (went_on w fifo h q size old a started r k x p).sends));
+      }
+
+  pub keeps_lived : Keeps w fifo q (lent_by w.pass (h ++ rest)) k h
+  keeps_lived = keeps_by (in_parts w fifo h q size old a started r k x)
+
+module _ (w : Watched) (fifo : ℕ) (h : List Entry) (q : AtPort) (size : ℕ) (old : List Call) (a : Numbers)
+    (started : List Call) (r : Running) (made : List Call) (k : Halves) (new : List Call)
+    (x : IsStopping w fifo h q size old a started r made k new) where
+  abbrev Here : List Entry → Type 0
+  Here done = Keeps w fifo q (lent_by w.pass h) k done
+
+  abbrev sent : List Entry → List (List ℕ)
+  sent done = sent_since w.queue (new_state w.vfs fifo) [] done
+
+  made_some : made ≢ []
+  made_some = life_some w fifo h q size old a started r made k x.along x.life x.begins
+
+  lived_at : AtEntries w h made Here
+  lived_at done rest all calls =
+      subst (λ (g : List Entry). Keeps w fifo q (lent_by w.pass g) k done) all
+      (keeps_lived w fifo done rest q size old a started r k
+      (lived_before w fifo h done rest all q size old a started r made made k k x.life x.along x.begins x.life.since
+      calls))
+
+  over_asks : (now : List Call) → Asks q made now → AtEntries w h now Here
+  over_asks now (calls, is, each) =
+      subst (λ (cs : List Call). AtEntries w h cs Here) (sym is)
+      (all_lead w fifo h Here (λ c. IsAsking q c.event) x.along (others_keep w fifo q (lent_by w.pass h) k)
+      (asking_keeps w fifo q (lent_by w.pass h) k) calls made each made_some lived_at)
+
+  prefix_at : (done : List Entry) → Here done → IsPrefixOf (sent done) (bytes_of k.transmit.accepted)
+  prefix_at done kept =
+      let (f, agrees) = kept.both.transmit in
+      (bytes_of (kept_in (drop f k.transmit.outstanding)), agrees.in_order)
+
+  some_asked : (now : List Call) → Asks q made now → now ≢ []
+  some_asked now (calls, is, each) none = some_more made calls made_some (sym is ∙ none)
+
+  -- once both sides are off nothing more is sent
+  once_off : EndsOnceOff q made new → IsPrefixOf (sent h) (bytes_of k.transmit.accepted)
+  once_off y =
+      let asks : Asks q made y.off =
+      then_made (IsAsking q) made y.mid y.off y.asks (switched_off_asks q y.mid y.off y.switched y.steps) in
+      let grounded : AtCalls w fifo h y.mid (HasGround w.queue q) =
+      λ done rest all calls. (over_asks y.mid y.asks done rest all calls).ground in
+      let quiet : AtCalls w fifo h y.off (IsQuiet w.queue q) =
+      switching_off_leads w q fifo h y.mid y.off x.along y.switched y.steps (some_asked y.mid y.asks) grounded in
+      let p = parts w.pass h y.off y.ends.0 (x.calls ∙ y.ends.1) in
+      let silent = quiet_queue_is_silent w q fifo h p.front p.back y.off new x.along (some_asked y.off asks) quiet
+      y.ends x.calls p.both p.fronts in
+      subst (λ (xs : List (List ℕ)). IsPrefixOf xs (bytes_of k.transmit.accepted)) (sym silent.sent)
+      (prefix_at p.front (over_asks y.off asks p.front p.back p.both p.fronts))
+
+  over_stop : TakesOnceOff q made new → IsPrefixOf (sent h) (bytes_of k.transmit.accepted)
+  over_stop (inl asks) = prefix_at h (over_asks new asks h [] (append-nil h) x.calls)
+  over_stop (inr off) = once_off off
+
+pub sent_over_stop : SentIsPrefix
+sent_over_stop w fifo h q size old a started r made k new x takes =
+    over_stop w fifo h q size old a started r made k new x takes

@@ -6,7 +6,7 @@ use Rattle.std.proofs.lemmas.List.{append-nil}
 use Rattle.dma_arena.specs.Numbers.{Numbers}
 use Rattle.nic_device.specs.State.{State, new_state}
 use Rattle.device_lock.specs.Alone.{lent_by, lent_in}
-use Rattle.device_lock.specs.History.{calls_of, leads_to}
+use Rattle.device_lock.specs.History.{leads_to}
 use Rattle.device_lock.specs.declared.alone.Watched.{Watched}
 use Rattle.device_lock.specs.declared.entry.Call.{Call}
 use Rattle.device_lock.specs.declared.entry.Entry.{Entry}
@@ -61,12 +61,12 @@ more_lent pass g h k x = record {
 module _ (w : Watched) (fifo : ℕ) (h rest : List Entry) (q : AtPort) (size : ℕ) (old : List Call) (a : Numbers)
     (started : List Call) (r : Running) (k : Halves) (x : IsLived w fifo h q size old a started r k) where
   keeps_by : Parts w.pass h (up w fifo h q size old a started r k x).on.mid
-      (whole w fifo h q size old a started r k x).0.1 → Keeps w fifo q (lent_by w.pass (h ++ rest)) k h
+      (whole w fifo h q size old a started r k x).1 → Keeps w fifo q (lent_by w.pass (h ++ rest)) k h
   keeps_by p =
       let new : State = new_state w.vfs fifo in
       let d = driven w fifo h q size old a started r k x p in
       let l = led w fifo p.front p.back (first w fifo h q size old a started r k x)
-      (whole w fifo h q size old a started r k x).0.0 d in
+      (whole w fifo h q size old a started r k x).0 d in
       let is = last w fifo h q size old a started r k x p in
       let at = sym (leads-append new p.front p.back) ∙ ap (leads_to new) p.both in
       let out : List Piece = pieces_in w.queue (leads_to new p.front) p.back in

@@ -7,6 +7,7 @@ pub mod Plain
 pub mod Silent
 pub mod StopCalls
 pub mod StopSent
+pub mod StopSteps
 pub mod Stopped
 pub mod Told
 pub mod Waits

@@ -1,24 +1,34 @@
 -- What a driver that lived, and was stopped, handed out and sent.
-use Rattle.std.proofs.Common.{ℕ, List, [], Option, sym, subst}
+use Rattle.std.proofs.Common.{ℕ, List, [], Option, Some, None, sym, subst}
 use Rattle.dma_arena.specs.Numbers.{Numbers}
 use Rattle.nic_device.specs.State.{new_state}
 use Rattle.device_lock.specs.declared.alone.Watched.{Watched}
 use Rattle.device_lock.specs.declared.entry.Call.{Call}
 use Rattle.device_lock.specs.declared.entry.Entry.{Entry}
 use Rattle.pmd.specs.Halves.{Drives, halves_of}
-use Rattle.pmd.specs.Life.{HasLived}
+use Rattle.pmd.specs.Driver.{halted_of}
+use Rattle.pmd.specs.Life.{HasLived, IsStopped}
+use Rattle.pmd.specs.declared.driver.Rings.TheVariants.{Up}
 use Rattle.pmd.specs.declared.start.Rest.{Rest}
+use Rattle.pmd.specs.declared.start.Rest.TheVariants as rest
 use Rattle.pmd_base.specs.declared.fault.PmdFault.{PmdFault}
 use Rattle.pmd_base.specs.Packet.{Kept}
+use Rattle.pmd_halt.specs.Halted.{Halted}
 use Rattle.pmd_queue.specs.Named.{AtPort}
 use Rattle.receive_laws.specs.Delivered as receive
 use Rattle.receive_laws.specs.Delivered.{delivered}
 use Rattle.transmit_laws.specs.Agreeing.{bytes_of}
 use Rattle.transmit_laws.specs.Laws as transmit
 use Rattle.transmit_laws.specs.Sent.{sent_since}
-use Rattle.pmd_laws.specs.Ends.{IsToStop, LeftIsPrefix}
+use Rattle.start_laws.specs.Stopping.{Ends, TakesOnceOff}
+use Rattle.pmd_laws.specs.Ends.{HandedOverStop, IsOver, IsToStop, LeftIsPrefix, SentOverStop}
 use Rattle.pmd_laws.specs.Order.{IsLived}
+use Rattle.pmd_laws.specs.Stopped.{IsStopping}
 use Rattle.pmd_laws.proofs.Order.{handed_of_life, sent_of_life}
+use Rattle.pmd_laws.proofs.StopCalls.{failed_stop_ends, failed_stop_takes_once_off, no_call_takes, stop_ends, stop_takes_once_off}
+use Rattle.pmd_laws.proofs.StopSent.{sent_over_stop}
+use Rattle.pmd_laws.proofs.StopSteps.{steps_home, steps_unstopped}
+use Rattle.pmd_laws.proofs.Stopped.{handed_over_stop}
 
 module _ (w : Watched) (fifo : ℕ) (h : List Entry) (q : AtPort) (size : ℕ) (old : List Call) (a : Numbers)
     (new : List Call) (left : Rest) (late : Option PmdFault) (lived : HasLived q size old a new left late)
@@ -50,3 +60,49 @@ left_is_prefix w fifo h q size old a new left late lived x = (
   subst (λ (kept : List Kept). transmit.IsPrefixOf (sent_since w.queue (new_state w.vfs fifo) [] h) (bytes_of kept))
       (sym lived.accepted) (sent w fifo h q size old a new left late lived x),
 )
+
+-- its calls are those of a stop, and take blocks back once both sides were seen off
+
+stopped_ends : (q : AtPort) (old : List Call) (h : Halted) (new : List Call) (left : Rest) (late : Option PmdFault)
+    → IsStopped q old h new left late → Ends q old new
+stopped_ends q old h new (rest.Home home) None x = stop_ends q old h new home x (steps_home q old h new home x)
+stopped_ends q old h new (rest.Home home) (Some f) x = absurd x
+stopped_ends q old h new (rest.Running p) None x = absurd x
+stopped_ends q old h new (rest.Running p) (Some f) (after, is, fails) =
+    failed_stop_ends f q old h new after fails (steps_unstopped f q old h new after fails)
+
+stopped_takes : (q : AtPort) (old : List Call) (h : Halted) (new : List Call) (left : Rest) (late : Option PmdFault)
+    → IsStopped q old h new left late → TakesOnceOff q old new
+stopped_takes q old h new (rest.Home home) None x =
+    stop_takes_once_off q old old h new home x (steps_home q old h new home x) (no_call_takes q old)
+stopped_takes q old h new (rest.Home home) (Some f) x = absurd x
+stopped_takes q old h new (rest.Running p) None x = absurd x
+stopped_takes q old h new (rest.Running p) (Some f) (after, is, fails) =
+    failed_stop_takes_once_off f q old old h new after fails (steps_unstopped f q old h new after fails)
+    (no_call_takes q old)
+
+is_stopping : (w : Watched) (fifo : ℕ) (h : List Entry) (q : AtPort) (size : ℕ) (old : List Call) (a : Numbers)
+    (new : List Call) (left : Rest) (late : Option PmdFault) (lived : HasLived q size old a new left late)
+    → IsOver w fifo h q size old a new left late lived
+    → IsStopping w fifo h q size old a lived.lives.made lived.lives.fresh lived.made (halves_of lived.last) new
+is_stopping w fifo h q size old a new left late lived x = record {
+  along = x.along;
+  life = record { sized = x.sized; up = lived.lives.up; since = lived.lives.drives };
+  begins = x.begins;
+  ends = stopped_ends q lived.made (halted_of (Up lived.last)) new left late lived.stopped;
+  calls = x.calls;
+}
+
+pub left_handed_over_stop : HandedOverStop
+left_handed_over_stop w fifo h q size old a new left late lived x =
+    subst (λ (kept : List Kept). receive.IsPrefixOf kept (delivered w.queue (new_state w.vfs fifo) h)) (sym lived.handed)
+    (handed_over_stop w fifo h q size old a lived.lives.made lived.lives.fresh lived.made (halves_of lived.last) new
+    (is_stopping w fifo h q size old a new left late lived x))
+
+pub left_sent_over_stop : SentOverStop
+left_sent_over_stop w fifo h q size old a new left late lived x =
+    subst (λ (kept : List Kept). transmit.IsPrefixOf (sent_since w.queue (new_state w.vfs fifo) [] h) (bytes_of kept))
+    (sym lived.accepted)
+    (sent_over_stop w fifo h q size old a lived.lives.made lived.lives.fresh lived.made (halves_of lived.last) new
+    (is_stopping w fifo h q size old a new left late lived x)
+    (stopped_takes q lived.made (halted_of (Up lived.last)) new left late lived.stopped))

@@ -10,6 +10,7 @@ pub mod RunsOn
 pub mod Silent
 pub mod StopCalls
 pub mod StopSent
+pub mod StopSteps
 pub mod Stopped
 pub mod Told
 pub mod Waits

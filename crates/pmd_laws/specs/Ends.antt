@@ -27,6 +27,14 @@ pub record IsToStop (w : Watched) (fifo : ℕ) (h : List Entry) (q : AtPort) (si
   pub calls : calls_of w.pass h ≡ life.made
   pub begins : BeginsWell w fifo h q size old a life.lives.made life.lives.fresh life.lives.up
 
+-- such a history on to where its stop ended, well or not
+pub record IsOver (w : Watched) (fifo : ℕ) (h : List Entry) (q : AtPort) (size : ℕ) (old : List Call) (a : Numbers)
+    (new : List Call) (left : Rest) (late : Option PmdFault) (life : HasLived q size old a new left late) : Type 0 where
+  pub along : IsAlong w fifo h
+  pub sized : is_size size ≡ true
+  pub calls : calls_of w.pass h ≡ new
+  pub begins : BeginsWell w fifo h q size old a life.lives.made life.lives.fresh life.lives.up
+
 -- what the driver left as handed out is a prefix of what was delivered, and what was sent a prefix of what it left as
 -- accepted
 abbrev pub LeftIsPrefix : Type 0
@@ -36,3 +44,19 @@ LeftIsPrefix =
     IsToStop w fifo h q size old a new left late lived →
     receive.IsPrefixOf (left_handed left) (delivered w.queue (new_state w.vfs fifo) h)
     × transmit.IsPrefixOf (sent_since w.queue (new_state w.vfs fifo) [] h) (bytes_of (left_accepted left))
+
+-- and so it is where the stop ended, of all that was delivered and sent meanwhile
+
+abbrev pub HandedOverStop : Type 0
+HandedOverStop =
+    (w : Watched) (fifo : ℕ) (h : List Entry) (q : AtPort) (size : ℕ) (old : List Call) (a : Numbers)
+    (new : List Call) (left : Rest) (late : Option PmdFault) (lived : HasLived q size old a new left late) →
+    IsOver w fifo h q size old a new left late lived →
+    receive.IsPrefixOf (left_handed left) (delivered w.queue (new_state w.vfs fifo) h)
+
+abbrev pub SentOverStop : Type 0
+SentOverStop =
+    (w : Watched) (fifo : ℕ) (h : List Entry) (q : AtPort) (size : ℕ) (old : List Call) (a : Numbers)
+    (new : List Call) (left : Rest) (late : Option PmdFault) (lived : HasLived q size old a new left late) →
+    IsOver w fifo h q size old a new left late lived →
+    transmit.IsPrefixOf (sent_since w.queue (new_state w.vfs fifo) [] h) (bytes_of (left_accepted left))

@@ -7,7 +7,7 @@
 //! `specs/Silent` once these have switched its queue off.
 #![tactic(auto)]
 
-ghost use Rattle.pmd_laws.specs.Ends.{LeftIsPrefix};
+ghost use Rattle.pmd_laws.specs.Ends.{HandedOverStop, LeftIsPrefix, SentOverStop};
 ghost use Rattle.pmd_laws.specs.Looks.{CallsEnd, NoneIsAllBefore};
 ghost use Rattle.pmd_laws.specs.Order.{HandedIsPrefix, NoneIsAll, SentIsPrefix, IdleIsAllSent};
 ghost use Rattle.pmd_laws.specs.Silent.{SilentOnceOff};
@@ -60,9 +60,11 @@ pub fn driver_in_order()
 
 /// Over such a history up to where a driver that lived was to stop, as `worker_runs::run_worker` says of its driver:
 /// what is left as handed out is a prefix of what was delivered, and what was sent a prefix of what is left as
-/// accepted.
+/// accepted. So it is also over a history that goes on to where its stop ended, whether it came home or not.
 pub fn what_is_left_is_in_order()
-    ensures { LeftIsPrefix }
+    ensures before { LeftIsPrefix }
+    ensures handed { HandedOverStop }
+    ensures sent { SentOverStop }
 {}
 
 /// Where such a life is followed by calls of a stop, of which none asks for a side to be on, the packets that the

@@ -6,6 +6,7 @@ pub mod Order
 pub mod Plain
 pub mod Silent
 pub mod StopCalls
+pub mod StopParts
 pub mod StopSent
 pub mod StopSteps
 pub mod Stopped

@@ -1,5 +1,5 @@
 -- What a driver that lived, and was stopped, handed out and sent.
-use Rattle.std.proofs.Common.{ℕ, List, [], Option, Some, None, sym, subst}
+use Rattle.std.proofs.Common.{ℕ, List, [], ◌++◌, Option, Some, None, refl, sym, subst}
 use Rattle.dma_arena.specs.Numbers.{Numbers}
 use Rattle.nic_device.specs.State.{new_state}
 use Rattle.device_lock.specs.declared.alone.Watched.{Watched}
@@ -20,12 +20,14 @@ use Rattle.receive_laws.specs.Delivered.{delivered}
 use Rattle.transmit_laws.specs.Agreeing.{bytes_of}
 use Rattle.transmit_laws.specs.Laws as transmit
 use Rattle.transmit_laws.specs.Sent.{sent_since}
+use Rattle.start_laws.specs.Ending.{IsEnding}
 use Rattle.start_laws.specs.Stopping.{Ends, TakesOnceOff}
 use Rattle.pmd_laws.specs.Ends.{HandedOverStop, IsOver, IsToStop, LeftIsPrefix, SentOverStop}
 use Rattle.pmd_laws.specs.Order.{IsLived}
 use Rattle.pmd_laws.specs.Stopped.{IsStopping}
 use Rattle.pmd_laws.proofs.Order.{handed_of_life, sent_of_life}
 use Rattle.pmd_laws.proofs.StopCalls.{failed_stop_ends, failed_stop_takes_once_off, no_call_takes, stop_ends, stop_takes_once_off}
+use Rattle.pmd_laws.proofs.StopParts.{first_made, first_takes}
 use Rattle.pmd_laws.proofs.StopSent.{sent_over_stop}
 use Rattle.pmd_laws.proofs.StopSteps.{steps_home, steps_unstopped}
 use Rattle.pmd_laws.proofs.Stopped.{handed_over_stop}
@@ -81,28 +83,46 @@ stopped_takes q old h new (rest.Running p) (Some f) (after, is, fails) =
     failed_stop_takes_once_off f q old old h new after fails (steps_unstopped f q old h new after fails)
     (no_call_takes q old)
 
-is_stopping : (w : Watched) (fifo : ℕ) (h : List Entry) (q : AtPort) (size : ℕ) (old : List Call) (a : Numbers)
+module _ (w : Watched) (fifo : ℕ) (h : List Entry) (q : AtPort) (size : ℕ) (old : List Call) (a : Numbers)
     (new : List Call) (left : Rest) (late : Option PmdFault) (lived : HasLived q size old a new left late)
-    → IsOver w fifo h q size old a new left late lived
-    → IsStopping w fifo h q size old a lived.lives.made lived.lives.fresh lived.made (halves_of lived.last) new
-is_stopping w fifo h q size old a new left late lived x = record {
-  along = x.along;
-  life = record { sized = x.sized; up = lived.lives.up; since = lived.lives.drives };
-  begins = x.begins;
-  ends = stopped_ends q lived.made (halted_of (Up lived.last)) new left late lived.stopped;
-  calls = x.calls;
-}
+    (x : IsOver w fifo h q size old a new left late lived) where
+  abbrev now : List Call
+  now = lived.made ++ x.since
+
+  is_stopping : IsStopping w fifo h q size old a lived.lives.made lived.lives.fresh lived.made (halves_of lived.last)
+      now
+  is_stopping = record {
+    along = x.along;
+    life = record { sized = x.sized; up = lived.lives.up; since = lived.lives.drives };
+    begins = x.begins;
+    ends =
+        first_made (IsEnding q) lived.made now new x.since x.rest
+        (stopped_ends q lived.made (halted_of (Up lived.last)) new left late lived.stopped) refl x.all;
+    calls = x.calls;
+  }
+
+  takes : TakesOnceOff q lived.made now
+  takes =
+      first_takes q lived.made now new x.since x.rest refl x.all
+      (stopped_takes q lived.made (halted_of (Up lived.last)) new left late lived.stopped)
+
+  handed_so_far : receive.IsPrefixOf lived.last.receive.handed (delivered w.queue (new_state w.vfs fifo) h)
+  handed_so_far =
+      handed_over_stop w fifo h q size old a lived.lives.made lived.lives.fresh lived.made (halves_of lived.last) now
+      is_stopping
+
+  sent_so_far : transmit.IsPrefixOf (sent_since w.queue (new_state w.vfs fifo) [] h)
+      (bytes_of lived.last.transmit.accepted)
+  sent_so_far =
+      sent_over_stop w fifo h q size old a lived.lives.made lived.lives.fresh lived.made (halves_of lived.last) now
+      is_stopping takes
 
 pub left_handed_over_stop : HandedOverStop
 left_handed_over_stop w fifo h q size old a new left late lived x =
-    subst (λ (kept : List Kept). receive.IsPrefixOf kept (delivered w.queue (new_state w.vfs fifo) h)) (sym lived.handed)
-    (handed_over_stop w fifo h q size old a lived.lives.made lived.lives.fresh lived.made (halves_of lived.last) new
-    (is_stopping w fifo h q size old a new left late lived x))
+    subst (λ (kept : List Kept). receive.IsPrefixOf kept (delivered w.queue (new_state w.vfs fifo) h))
+    (sym lived.handed) (handed_so_far w fifo h q size old a new left late lived x)
 
 pub left_sent_over_stop : SentOverStop
 left_sent_over_stop w fifo h q size old a new left late lived x =
     subst (λ (kept : List Kept). transmit.IsPrefixOf (sent_since w.queue (new_state w.vfs fifo) [] h) (bytes_of kept))
-    (sym lived.accepted)
-    (sent_over_stop w fifo h q size old a lived.lives.made lived.lives.fresh lived.made (halves_of lived.last) new
-    (is_stopping w fifo h q size old a new left late lived x)
-    (stopped_takes q lived.made (halted_of (Up lived.last)) new left late lived.stopped))
+    (sym lived.accepted) (sent_so_far w fifo h q size old a new left late lived x)

@@ -9,6 +9,7 @@ pub mod Plain
 pub mod RunsOn
 pub mod Silent
 pub mod StopCalls
+pub mod StopParts
 pub mod StopSent
 pub mod StopSteps
 pub mod Stopped

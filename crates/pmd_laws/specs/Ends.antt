@@ -1,5 +1,5 @@
 -- What a driver that lived, and was stopped, handed out and sent.
-use Rattle.std.specs.Prelude.{ℕ, ◌≡◌, true, List, [], Option}
+use Rattle.std.specs.Prelude.{ℕ, ◌≡◌, true, List, [], ◌++◌, Option}
 use Rattle.dma_arena.specs.Numbers.{Numbers}
 use Rattle.nic_device.specs.State.{new_state}
 use Rattle.device_lock.specs.History.{calls_of}
@@ -27,12 +27,15 @@ pub record IsToStop (w : Watched) (fifo : ℕ) (h : List Entry) (q : AtPort) (si
   pub calls : calls_of w.pass h ≡ life.made
   pub begins : BeginsWell w fifo h q size old a life.lives.made life.lives.fresh life.lives.up
 
--- such a history on to where its stop ended, well or not
+-- such a history on to some place amid its stop, or where this ended, well or not: these of its calls were made so far
 pub record IsOver (w : Watched) (fifo : ℕ) (h : List Entry) (q : AtPort) (size : ℕ) (old : List Call) (a : Numbers)
     (new : List Call) (left : Rest) (late : Option PmdFault) (life : HasLived q size old a new left late) : Type 0 where
   pub along : IsAlong w fifo h
   pub sized : is_size size ≡ true
-  pub calls : calls_of w.pass h ≡ new
+  pub since : List Call
+  pub rest : List Call
+  pub all : new ≡ (life.made ++ since) ++ rest
+  pub calls : calls_of w.pass h ≡ life.made ++ since
   pub begins : BeginsWell w fifo h q size old a life.lives.made life.lives.fresh life.lives.up
 
 -- what the driver left as handed out is a prefix of what was delivered, and what was sent a prefix of what it left as
@@ -45,7 +48,7 @@ LeftIsPrefix =
     receive.IsPrefixOf (left_handed left) (delivered w.queue (new_state w.vfs fifo) h)
     × transmit.IsPrefixOf (sent_since w.queue (new_state w.vfs fifo) [] h) (bytes_of (left_accepted left))
 
--- and so it is where the stop ended, of all that was delivered and sent meanwhile
+-- and so it is there, with all that was delivered and sent meanwhile
 
 abbrev pub HandedOverStop : Type 0
 HandedOverStop =

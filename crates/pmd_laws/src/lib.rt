@@ -60,7 +60,7 @@ pub fn driver_in_order()
 
 /// Over such a history up to where a driver that lived was to stop, as `worker_runs::run_worker` says of its driver:
 /// what is left as handed out is a prefix of what was delivered, and what was sent a prefix of what is left as
-/// accepted. So it is also over a history that goes on to where its stop ended, whether it came home or not.
+/// accepted. So it is also over a history that goes on to any place amid its stop, or to where this ended, home or not.
 pub fn what_is_left_is_in_order()
     ensures before { LeftIsPrefix }
     ensures handed { HandedOverStop }

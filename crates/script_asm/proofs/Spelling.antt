@@ -144,7 +144,6 @@ pub says-jne : (a l name : List ℕ) (n : ℕ) → number_in a ≡ Ok n → name
 unfolding statement_of
 says-jne a l name n x y = rw (x, y) refl
 
-pub says-jmp : (l name : List ℕ) → name_in l ≡ Ok name
-    → statement_of (codes "jmp" ∷ l ∷ []) ≡ Ok (Instruction (Jump name))
+pub says-jmp : (l n : List ℕ) → name_in l ≡ Ok n → statement_of (codes "jmp" ∷ l ∷ []) ≡ Ok (Instruction (Jump n))
 unfolding statement_of
-says-jmp l name x = rw x refl
+says-jmp l n x = rw x refl

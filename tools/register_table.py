@@ -469,7 +469,7 @@ class Dispatch:
             self.gap(function, part.low, part.high, (stride, start, end))
 
     def hit(self, function, arm, low, high, member):
-        """Adds the arm that answers by a run, for its addresses from low up to high, and what the table says of them."""
+        """Adds the arm that answers by a run, for its addresses from low up to high, and what is said of them."""
         row, run = member
         kind = "Words" if run.stride == 4 else "Steps"
         function.hits[arm] = f"{kind} {printed(row, run)} 0x{low:05X} 0x{high:05X}"
@@ -538,7 +538,8 @@ def proof_arms(function):
     goals = [f"returns-in-{low}-to-{high - 1}" for low, high in function.hits]
     start = function.low if function.matched == "address" else 0
     first = 2 if function.arms[0][0] == start > 0 else 1
-    goals += [f"returns-in_default-{first + n}" if first + n > 1 else "returns-in_default" for n in range(len(function.gaps))]
+    numbers = range(first, first + len(function.gaps))
+    goals += [f"returns-in_default-{n}" if n > 1 else "returns-in_default" for n in numbers]
     facts = [*function.hits.values(), *function.gaps]
     kinds = sorted({fact.split()[0] for fact in facts})
     lines = "".join(f"    {fact} ∷\n" for fact in facts)
@@ -546,7 +547,8 @@ def proof_arms(function):
     imports = f"use Rattle.reg_table.specs.declared.rows.RowId.TheVariants.{{{', '.join(rows)}}}\n" if rows else ""
     imports += "use Rattle.reg_table.specs.Run.{run}\n" if rows else ""
     flags = "true, false" if any(" false) " in fact for fact in facts) else "true"
-    body = "\n".join(f"pub {goal} : goal.{goal}\n{goal} c = grind (arith, said_at facts {n} so)\n" for n, goal in enumerate(goals))
+    proof = "pub {0} : goal.{0}\n{0} c = grind (arith, said_at facts {1} so)\n"
+    body = "\n".join(proof.format(goal, n) for n, goal in enumerate(goals))
     return f"""{GENERATED}
 use Rattle.std.proofs.Common.{{◌≡◌, {flags}, List, [], ◌∷◌, refl, arith}}
 use Rattle.std.specs.List.{{list_all}}

@@ -32,11 +32,11 @@ module _ (w : Watched) (fifo : ℕ) (h : List Entry) (q : AtPort) (size : ℕ) (
       calls)
 
   quiet : AtCalls w fifo h off (IsQuiet w.queue q)
-  quiet = switching_off_leads w q fifo h made off x.along x.switched x.steps made_some grounded
+  quiet = switching_off_leads w q fifo h made off x.along x.switched made_some grounded
 
   off_some : off ≢ []
   off_some none =
-      let ends = switched_off_asks q made off x.switched x.steps in
+      let ends = switched_off_asks q made off x.switched in
       some_more made ends.0 made_some (sym ends.1 ∙ none)
 
   pub silent : (done rest : List Entry) → done ++ rest ≡ h → calls_of w.pass done ≡ off → IsSilent w fifo h done

@@ -127,11 +127,11 @@ module _ (w : Watched) (fifo : ℕ) (h : List Entry) (q : AtPort) (size : ℕ) (
   once_off : EndsOnceOff q made new → IsPrefixOf (sent h) (bytes_of k.transmit.accepted)
   once_off y =
       let asks : Asks q made y.off =
-      then_made (IsAsking q) made y.mid y.off y.asks (switched_off_asks q y.mid y.off y.switched y.steps) in
+      then_made (IsAsking q) made y.mid y.off y.asks (switched_off_asks q y.mid y.off y.switched) in
       let grounded : AtCalls w fifo h y.mid (HasGround w.queue q) =
       λ done rest all calls. (over_asks y.mid y.asks done rest all calls).ground in
       let quiet : AtCalls w fifo h y.off (IsQuiet w.queue q) =
-      switching_off_leads w q fifo h y.mid y.off x.along y.switched y.steps (some_asked y.mid y.asks) grounded in
+      switching_off_leads w q fifo h y.mid y.off x.along y.switched (some_asked y.mid y.asks) grounded in
       let p = parts w.pass h y.off y.ends.0 (x.calls ∙ y.ends.1) in
       let silent = quiet_queue_is_silent w q fifo h p.front p.back y.off new x.along (some_asked y.off asks) quiet
       y.ends x.calls p.both p.fronts in

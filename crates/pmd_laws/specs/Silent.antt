@@ -11,7 +11,7 @@ use Rattle.pmd_queue.specs.Named.{AtPort}
 use Rattle.start_laws.specs.Along.{IsAlong}
 use Rattle.start_laws.specs.Silent.{IsSilent}
 use Rattle.start_laws.specs.Start.{BeginsWell}
-use Rattle.start_laws.specs.Stopping.{Ends, StepsSwitched}
+use Rattle.start_laws.specs.Stopping.{Ends}
 use Rattle.pmd.specs.Halves.{Halves}
 use Rattle.pmd_laws.specs.Life.{IsLife}
 
@@ -23,7 +23,6 @@ pub record IsSwitchedOff (w : Watched) (fifo : ℕ) (h : List Entry) (q : AtPort
   pub life : IsLife q size old a started r made k
   pub begins : BeginsWell w fifo h q size old a started r life.up
   pub switched : IsSwitched q made off false 1000
-  pub steps : StepsSwitched q made off switched
   pub ends : Ends q off (calls_of w.pass h)
 
 -- nothing is delivered or sent on the queue any more once these calls were made

@@ -1,15 +1,15 @@
 -- What a driver sent, over its stop and on.
-use Rattle.std.proofs.Common.{◌≡◌, ◌≢◌, ℕ, inl, inr, true, List, [], ◌∷◌, ◌++◌, drop, sym, ap, ◌∙◌, subst}
+use Rattle.std.proofs.Common.{◌≢◌, ℕ, inl, inr, List, [], ◌++◌, drop, sym, ap, ◌∙◌, subst}
 use Rattle.std.specs.Prelude.{IsTrue}
-use Rattle.std.proofs.lemmas.Bool.{or_cases, or_left, or_right}
 use Rattle.std.proofs.lemmas.List.{append-nil}
 use Rattle.dma_arena.specs.Numbers.{Numbers}
 use Rattle.nic_device.specs.State.{State, new_state}
-use Rattle.device_lock.specs.Alone.{lent_by, lent_in}
+use Rattle.device_lock.specs.Alone.{lent_by}
 use Rattle.device_lock.specs.History.{leads_to}
 use Rattle.device_lock.specs.declared.alone.Watched.{Watched}
 use Rattle.device_lock.specs.declared.entry.Call.{Call}
 use Rattle.device_lock.specs.declared.entry.Entry.{Entry}
+use Rattle.history_laws.proofs.Beginning.{lent_before}
 use Rattle.pmd.specs.Running.{Running}
 use Rattle.pmd_queue.specs.Named.{AtPort}
 use Rattle.receive_laws.proofs.Delivering.{leads-append}
@@ -40,14 +40,6 @@ use Rattle.pmd_laws.proofs.Asked.{Keeps, asking_keeps, others_keep}
 use Rattle.pmd_laws.proofs.Looks.{lived_before}
 use Rattle.pmd_laws.proofs.Order.{counted, driven, first, in_parts, last, up, went_on, whole}
 use Rattle.pmd_laws.proofs.Stopped.{ground_lived, life_some, some_more}
-
--- what a pass lends in the beginning of a history it lends in the whole
-lent_before : (pass n : ℕ) (g h : List Entry) → lent_by pass g n ≡ true → lent_by pass (g ++ h) n ≡ true
-lent_before pass n [] h is = cc
-lent_before pass n (e ∷ g) h is = elim (or_cases (lent_in pass e n) (lent_by pass g n) is) [
-  | inl now ↦ or_left _ _ now
-  | inr later ↦ or_right _ _ (lent_before pass n g h later)
-]
 
 more_lent : (pass : ℕ) (g h : List Entry) (k : Halves) → AreLent (lent_by pass g) k → AreLent (lent_by pass (g ++ h)) k
 more_lent pass g h k x = record {

@@ -82,11 +82,11 @@ stopped_takes q old h new (rest.Running p) (Some f) (after, is, fails) =
 module _ (w : Watched) (fifo : ℕ) (h : List Entry) (q : AtPort) (size : ℕ) (old : List Call) (a : Numbers)
     (new : List Call) (left : Rest) (late : Option PmdFault) (lived : HasLived q size old a new left late)
     (x : IsOver w fifo h q size old a new left late lived) where
-  abbrev now : List Call
+  abbrev pub now : List Call
   now = lived.made ++ x.since
 
-  is_stopping : IsStopping w fifo h q size old a lived.lives.made lived.lives.fresh lived.made (halves_of lived.last)
-      now
+  pub is_stopping : IsStopping w fifo h q size old a lived.lives.made lived.lives.fresh lived.made
+      (halves_of lived.last) now
   is_stopping = record {
     along = x.along;
     life = record { sized = x.sized; up = lived.lives.up; since = lived.lives.drives };

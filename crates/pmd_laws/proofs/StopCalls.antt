@@ -4,7 +4,8 @@ use Rattle.std.proofs.Common.{inl, inr, false, refl, sym, subst, List}
 use Rattle.device_lock.specs.declared.entry.Call.{Call}
 use Rattle.pmd_base.specs.declared.fault.PmdFault.{PmdFault}
 use Rattle.pmd_halt.specs.Halted.{Halted}
-use Rattle.pmd_halt.specs.Stopping.{IsLeft, IsLeftAmid, bringing, brought, closed}
+use Rattle.pmd_halt.specs.Stopping.{ComesHome, IsLeft, IsLeftAmid, bringing, brought, closed}
+use Rattle.pmd_halt.specs.declared.home.Home.{Home}
 use Rattle.pmd_queue.specs.Both.{IsSwitched}
 use Rattle.pmd_queue.specs.Named.{AtPort}
 use Rattle.start_laws.specs.Ending.{IsAsking, IsEnding}
@@ -13,12 +14,17 @@ use Rattle.start_laws.proofs.Stopping.{bringing_ends, switched_off_asks, unswitc
 use Rattle.start_laws.proofs.StopCalls.{asks_end, none_made, some_made, step_ends, then_made}
 use Rattle.pmd_laws.specs.Stopped.{FailedStopEnds, FailedStopTakesOnceOff, NoCallTakes, StopEnds, StopTakesOnceOff}
 
+pub home_ends : (q : AtPort) (old : List Call) (h : Halted) (new : List Call) (home : Home)
+    → ComesHome old h new home → Ends q old new
+home_ends q old h new home comes =
+    bringing_ends q comes.brings.0 (bringing old h) (brought new home) comes.brings.1
+
 pub stop_ends : StopEnds
 stop_ends q old h new home (mid, switched, comes) =
     then_made (IsEnding q) old mid new (asks_end q old mid (switched_off_asks q old mid switched))
-    (bringing_ends q comes.brings.0 (bringing mid (closed h)) (brought new home) comes.brings.1)
+    (home_ends q mid (closed h) new home comes)
 
-amid_ends : (f : PmdFault) (q : AtPort) (old : List Call) (h : Halted) (new : List Call) (left : Halted)
+pub amid_ends : (f : PmdFault) (q : AtPort) (old : List Call) (h : Halted) (new : List Call) (left : Halted)
     → IsLeftAmid f old h new left → Ends q old new
 amid_ends f q old h new left (refusal, is, (count, mid, some, more, arena, way), same) =
     then_made (IsEnding q) old mid.made new (bringing_ends q count (bringing old h) mid some)
@@ -66,8 +72,7 @@ no_call_takes q old = inl (none_made (IsAsking q) old old refl)
 
 pub stop_takes_once_off : StopTakesOnceOff
 stop_takes_once_off q old mid h new home (off, switched, comes) before =
-    once_off q old mid off new before switched
-    (bringing_ends q comes.brings.0 (bringing off (closed h)) (brought new home) comes.brings.1)
+    once_off q old mid off new before switched (home_ends q off (closed h) new home comes)
 
 left_takes : (f : PmdFault) (q : AtPort) (old mid : List Call) (h : Halted) (new : List Call) (left : Halted)
     → IsLeft f q mid h new left → TakesOnceOff q old mid → TakesOnceOff q old new

@@ -24,6 +24,10 @@ module _ (P : Event Block → Type 0) where
       (sym is ∙ all ∙ ap (λ (l : List Call). l ++ rest) some ∙ append_assoc old since rest) in
       (since, some, each_first since rest (subst (Each (λ c. P c.event)) both are))
 
+-- up to where both sides are off the calls ask
+pub off_asks : (q : AtPort) (old new : List Call) (x : EndsOnceOff q old new) → Asks q old x.off
+off_asks q old new x = then_made (IsAsking q) old x.mid x.off x.asks (switched_off_asks q x.mid x.off x.switched)
+
 module _ (q : AtPort) (old now new since rest : List Call) (some : now ≡ old ++ since) (all : new ≡ now ++ rest) where
   once_off : (x : EndsOnceOff q old new) → Begins now x.off ⊎ Begins x.off now → Asks q old x.off
       → TakesOnceOff q old now
@@ -39,5 +43,4 @@ module _ (q : AtPort) (old now new since rest : List Call) (some : now ≡ old +
   pub first_takes : TakesOnceOff q old new → TakesOnceOff q old now
   first_takes (inl asks) = inl (first_made (IsAsking q) old now new since rest asks some all)
   first_takes (inr x) =
-      once_off x (one_begins now rest x.off x.ends.0 (sym all ∙ x.ends.1))
-      (then_made (IsAsking q) old x.mid x.off x.asks (switched_off_asks q x.mid x.off x.switched))
+      once_off x (one_begins now rest x.off x.ends.0 (sym all ∙ x.ends.1)) (off_asks q old new x)

@@ -19,6 +19,7 @@ use Rattle.transmit_laws.specs.Agreeing.{bytes_of}
 use Rattle.transmit_laws.specs.Laws.{FindsWaiting}
 use Rattle.transmit_laws.specs.Sent.{sent_since}
 use Rattle.start_laws.proofs.Parts.{Parts, calls_joined}
+use Rattle.pmd_base.specs.Made.{AddsSome}
 use Rattle.pmd.specs.Halves.{Drives, Halves, halves_of}
 use Rattle.pmd.proofs.Calls.{drives_on, others_drive, sending_drives}
 use Rattle.driver_laws.proofs.Waiting.{waiting_is_not_all}
@@ -80,13 +81,16 @@ module _ (w : Watched) (fifo : ℕ) (h : List Entry) (q : AtPort) (size : ℕ) (
     waits = x.looks.waits;
   }
 
-  module _ (early more : List Entry) (all : early ++ more ≡ late) (is : calls_of w.pass early ≡ made) where
+  module _ (early more : List Entry) (all : early ++ more ≡ late) (is : AddsSome made (calls_of w.pass early))
+      where
     abbrev lived_early : IsLived w fifo early q size old a started r k
     lived_early =
         let rest = x.look.entry ∷ x.look.behind in
         lived_before w fifo h early (more ++ rest)
         (sym (append_assoc early more rest) ∙ ap (λ (l : List Entry). l ++ rest) all ∙ x.look.all) q size old a started
-        r made made k k x.life x.along x.begins x.life.since is
+        r made (calls_of w.pass early) k k x.life x.along x.begins
+        (drives_on started made (calls_of w.pass early) (halves_of r) k k x.life.since
+        (others_drive made (calls_of w.pass early) k is)) refl
 
     p : Parts w.pass early x.life.up.on.mid (order.whole w fifo early q size old a started r k lived_early).1
     p = in_parts w fifo early q size old a started r k lived_early

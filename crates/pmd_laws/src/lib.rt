@@ -39,8 +39,8 @@ pub fn empty_look_leaves_nothing()
 {}
 
 /// Where a call of such a driver ends with a packet outstanding, as `reap` does that isn't idle, it looked at last; and
-/// before the first entry of that call not all that the driver had accepted was sent, whatever the others did then. The
-/// same by what the calls of a `pmd::Pmd` tell alone.
+/// before the first event of that call's own not all that the driver had accepted was sent, whatever the others and the
+/// steps of its way did ahead of it. The same by what the calls of a `pmd::Pmd` tell alone.
 pub fn waiting_look_leaves_some_unsent()
     ensures before { WaitingIsNotAllBefore }
     ensures told { WaitingIsNotAllAsTold }

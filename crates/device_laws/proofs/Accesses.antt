@@ -11,7 +11,8 @@ use Rattle.nic_device.specs.PoolReset.{with_pool_reset}
 use Rattle.register_file.specs.Bits.{merged}
 use Rattle.register_file.specs.Words.{word_at}
 use Rattle.register_file.specs.Registers.{Registers}
-use Rattle.register_laws.proofs.Puts.{word_at-put_other, word_at-reset}
+use Rattle.register_file.proofs.ResetWords.{word_at-reset}
+use Rattle.register_laws.proofs.Puts.{word_at-put_other}
 use Rattle.register_laws.proofs.Shape.{put_stands}
 use Rattle.nic_device.specs.Eeprom.{reset}
 use Rattle.nic_device.specs.State.{State, new_state}

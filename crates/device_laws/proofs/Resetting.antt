@@ -12,7 +12,7 @@ use Rattle.register_file.specs.Pools.{mode_in}
 use Rattle.vf_map.specs.Pools.{queues_of}
 use Rattle.std.proofs.Math.ListN.{set}
 use Rattle.nic_device.specs.PoolReset.{unstaged, pool_unstaged, others_waiting, with_pool_reset, written_below_reset}
-use Rattle.register_laws.proofs.Puts.{word_at-reset}
+use Rattle.register_file.proofs.ResetWords.{word_at-reset}
 use Rattle.register_laws.proofs.ReadBack.{off-reset}
 use Rattle.register_laws.proofs.SoundReset.{none_told}
 use Rattle.nic_device.specs.Eeprom.{is_stepped_over, triple_written, with_triple, with_triples, reset}

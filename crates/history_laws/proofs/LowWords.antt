@@ -21,7 +21,7 @@ use Rattle.register_laws.specs.Laws.{after_write}
 use Rattle.register_laws.specs.Sound.{HasShape}
 use Rattle.register_laws.proofs.Owners.{is_place-same}
 use Rattle.register_laws.proofs.PoolReset.{renewed-pool}
-use Rattle.register_laws.proofs.Puts.{word_at-reset}
+use Rattle.register_file.proofs.ResetWords.{word_at-reset}
 use Rattle.register_laws.proofs.Shape.{put_stands}
 use Rattle.nic_device.proofs.Cases.{either_way}
 use Rattle.history_laws.proofs.OtherWords.{other_written}

@@ -12,7 +12,8 @@ use Rattle.vf_map.specs.declared.mode.Mode.TheVariants.{Off}
 use Rattle.register_file.specs.Access.{asks_reset}
 use Rattle.register_file.specs.Columns.{place}
 use Rattle.register_file.specs.Pools.{mode_in}
-use Rattle.register_laws.proofs.Puts.{word_at-reset, same_parts}
+use Rattle.register_file.proofs.ResetWords.{word_at-reset}
+use Rattle.register_laws.proofs.Puts.{same_parts}
 use Rattle.nic_device.specs.Access.{named_written}
 use Rattle.nic_device.specs.Eeprom.{reset}
 use Rattle.nic_device.specs.PoolReset.{written_below_reset}

@@ -16,7 +16,7 @@ use Rattle.register_file.specs.Access.{asks_reset}
 use Rattle.register_file.specs.Columns.{place}
 use Rattle.register_file.specs.Pools.{mode_in}
 use Rattle.register_file.specs.Registers.{word_of}
-use Rattle.register_laws.proofs.Puts.{word_at-reset}
+use Rattle.register_file.proofs.ResetWords.{word_at-reset}
 use Rattle.register_laws.proofs.Shape.{put_stands}
 use Rattle.nic_device.specs.Access.{named_written}
 use Rattle.nic_device.specs.Eeprom.{with_triples}

@@ -1,18 +1,13 @@
 -- Words that are put at places, one after another.
 use Rattle.std.proofs.Common.{◌≡◌, ◌≢◌, ℕ, ◌<◌, ◌≤◌, [], length, get_or, ap, sym, ◌∙◌, subst, inl, inr}
 use Rattle.std.proofs.Math.ListN.{set}
-use Rattle.std.specs.Prelude.{replicate}
-use Rattle.std.proofs.lemmas.List.{get_or-map, get_or-set_same, get_or-set_other, get_or_past, length-set, get_or-replicate}
+use Rattle.std.proofs.lemmas.List.{get_or-set_same, get_or-set_other, get_or_past, length-set}
 use Rattle.std.proofs.lemmas.Bool.{cases_eq, cases_lt}
-use Rattle.reg_table.specs.Rows.{row_of, rows, number_of}
+use Rattle.reg_table.specs.Rows.{number_of}
 use Rattle.reg_table.specs.declared.place.Place.{Place}
 use Rattle.reg_table.specs.declared.rows.RowId.{RowId}
-use Rattle.reg_table.proofs.Numbers.{rows_length, number_below, row_numbered}
 use Rattle.reg_table.proofs.FirstAddresses.{same_number}
-use Rattle.register_file.specs.Words.{Words, word_at, put, row_words, reset_words}
-
-pub number_small : (r : RowId) → number_of r < length rows
-number_small r = subst (λ n. number_of r < n) (sym rows_length) (number_below r)
+use Rattle.register_file.specs.Words.{Words, word_at, put, row_words}
 
 pub same_parts : (p q : Place) → p.row ≡ q.row → p.index ≡ q.index → p ≡ q
 same_parts p q e f = λ k. record { row = e k; index = f k }
@@ -74,15 +69,3 @@ length-row_words-put words p v r =
             | inr past ↦ ap length (row_words-put_past words p v past) ∙ same
           ]
     ]
-
-pub row_words-reset : (r : RowId) → row_words reset_words r ≡ replicate (row_of r).count (row_of r).reset
-unfolding reset_words
-row_words-reset r =
-    get_or-map (λ row. replicate (row_of row).count (row_of row).reset) rows (number_of r) r [] (number_small r)
-    ∙ ap (λ row. replicate (row_of row).count (row_of row).reset) (row_numbered r r)
-
--- after a reset a place has its row's reset value
-pub word_at-reset : (p : Place) → p.index < (row_of p.row).count → word_at reset_words p ≡ (row_of p.row).reset
-word_at-reset p b =
-    ap (λ xs. get_or xs p.index 0) (row_words-reset p.row) ∙ get_or-replicate (row_of p.row).count p.index
-    (row_of p.row).reset 0 b

@@ -22,7 +22,7 @@ use Rattle.register_file.specs.declared.dir.Dir.TheVariants.{Rx, Tx}
 use Rattle.register_laws.specs.Footprint.{Footprint, ChangesWithin, is_place}
 use Rattle.register_laws.specs.Laws.{HasShape, CountsAndClears, GoesRound, GroupBitsAreMasks, EnableReadTellsOn, ResetSwitchesOff, WordIsOnePlace, OwnersDiffer, SettingsStand}
 use Rattle.register_laws.proofs.Owners.{is_place-same, is_owner-same}
-use Rattle.register_laws.proofs.Puts.{word_at-reset}
+use Rattle.register_file.proofs.ResetWords.{word_at-reset}
 use Rattle.register_laws.proofs.Shape.{put_stands}
 
 pub counts_and_clears : (r : Registers) (p : Place) → HasShape r → p.index < (row_of p.row).count → CountsAndClears r p

@@ -15,7 +15,8 @@ use Rattle.register_file.specs.Words.{word_at, put, row_words, reset_words}
 use Rattle.register_file.specs.declared.dir.Dir.{Dir}
 use Rattle.register_file.specs.declared.dir.Dir.TheVariants.{Rx, Tx}
 use Rattle.register_laws.specs.Laws.{HasShape}
-use Rattle.register_laws.proofs.Puts.{number_small, word_at-put_same, length-row_words-put, row_words-reset}
+use Rattle.register_file.proofs.ResetWords.{number_small, row_words-reset}
+use Rattle.register_laws.proofs.Puts.{word_at-put_same, length-row_words-put}
 
 -- a word put at a place that the registers have stands there
 pub put_stands : (r : Registers) (p : Place) (v : ℕ) → HasShape r → p.index < (row_of p.row).count

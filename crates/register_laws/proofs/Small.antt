@@ -16,7 +16,8 @@ use Rattle.register_file.specs.Words.{word_at, put, row_words}
 use Rattle.register_laws.specs.Footprint.{is_place}
 use Rattle.register_laws.specs.Laws.{HasShape}
 use Rattle.register_laws.proofs.Owners.{apart, is_place-itself, is_place-same}
-use Rattle.register_laws.proofs.Puts.{word_at-put_other, word_at-reset}
+use Rattle.register_file.proofs.ResetWords.{word_at-reset}
+use Rattle.register_laws.proofs.Puts.{word_at-put_other}
 use Rattle.register_laws.proofs.Shape.{put_stands, HasShape-reset, HasShape-put}
 
 pub merged-lt : (mask old new : ℕ) → old < 2 ^ 32 → new < 2 ^ 32 → merged mask old new < 2 ^ 32

@@ -6,7 +6,7 @@ use Rattle.reg_table.specs.declared.rows.RowId.TheVariants.{Fctrl, Mcstctrl, Mta
 use Rattle.register_file.specs.Bits.{has_bit}
 use Rattle.register_file.specs.Columns.{place}
 use Rattle.register_file.specs.Registers.{reset_registers, word_of}
-use Rattle.register_laws.proofs.Puts.{word_at-reset}
+use Rattle.register_file.proofs.ResetWords.{word_at-reset}
 use Rattle.rx_filter.specs.Address.{destination_low, destination_high, matches, first_match, is_broadcast, is_multicast}
 use Rattle.rx_filter.specs.Address.{multicast_number, is_in_table, passes}
 use Rattle.rx_filter.specs.Sorting.{sorted}

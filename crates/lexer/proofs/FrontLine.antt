@@ -45,7 +45,7 @@ blank-other byte blank = grind (arith, nat_tests)
 blank-ends : (byte : ℕ) → is_blank byte ≡ true → ends_word byte ≡ true
 blank-ends byte blank = grind (arith, nat_tests)
 
-rest-blank : (byte : ℕ) (text : List ℕ) (words behind : List (List ℕ)) → is_blank byte ≡ true
+pub rest-blank : (byte : ℕ) (text : List ℕ) (words behind : List (List ℕ)) → is_blank byte ≡ true
     → FirstLine text words behind → RestOfLine (byte ∷ text) words behind
 rest-blank byte text words behind blank first = record {
   first = record {

@@ -14,3 +14,7 @@ pub mod LineBytes
 pub mod LineWords
 pub mod FrontLine
 pub mod FrontComment
+pub mod PlaceTable
+pub mod PlaceBehind
+pub mod PlaceLines
+pub mod PlacesPassed

@@ -1,21 +1,39 @@
 -- Lines whose first ones are gone past.
-use Rattle.std.proofs.Common.{refl, ap, ◌∙◌, ◌≡◌, ℕ, ◌+◌, cond, List, [], ◌∷◌, drop, drop-drop, arith}
+use Rattle.std.proofs.Common.{refl, ap, sym, ◌∙◌, ◌≡◌, ℕ, zero, suc, ◌+◌, cond, List, [], ◌∷◌, drop, drop-drop, arith}
 use Rattle.std.specs.List.{prefix_len}
 use Rattle.lexer.specs.Lines.{NumberedLine, numbered_from, is_nothing, is_empty}
-use Rattle.lexer.specs.Words.{words_of}
+use Rattle.lexer.specs.Place.{PastWordless}
 use Rattle.lexer.specs.Wordless.{are_none, is_wordless}
 
--- behind a line the next ones stand
-pub numbered_from-behind : (first : ℕ) (ls more : List (List ℕ)) (line : List ℕ) → ls ≡ line ∷ more
-    → numbered_from (first + 1) more ≡ drop 1 (numbered_from first ls)
-numbered_from-behind first ls more line is = rw is refl
+-- behind lines without words the next ones stand
+pub numbered_from-past : (count first : ℕ) (ls behind : List (List ℕ)) → PastWordless count ls behind
+    → numbered_from (first + count) behind ≡ drop count (numbered_from first ls)
+numbered_from-past zero first ls behind past =
+    let here : first + 0 ≡ first = omega arith in
+    ap (λ n. numbered_from n behind) here ∙ ap (numbered_from first) (sym past)
+numbered_from-past (suc count) first [] behind past = absurd past
+numbered_from-past (suc count) first (line ∷ more) behind past =
+    let on : first + suc count ≡ first + 1 + count = omega arith in
+    ap (λ n. numbered_from n behind) on ∙ numbered_from-past count (first + 1) more behind past.1
 
--- a line without words in front is one more
-pub wordless-more : (first : ℕ) (ls more : List (List ℕ)) (line : List ℕ) → ls ≡ line ∷ more → words_of line ≡ []
-    → prefix_len is_wordless (numbered_from first ls) ≡ 1 + prefix_len is_wordless (numbered_from (first + 1) more)
-wordless-more first ls more line is none =
-    ap (λ l. prefix_len is_wordless (numbered_from first l)) is
-    ∙ ap (λ ws. cond (are_none ws) (1 + prefix_len is_wordless (numbered_from (first + 1) more)) 0) none
+-- those that have no words are so many more
+pub wordless-past : (count first : ℕ) (ls behind : List (List ℕ)) → PastWordless count ls behind
+    → prefix_len is_wordless (numbered_from first ls)
+    ≡ count + prefix_len is_wordless (numbered_from (first + count) behind)
+wordless-past zero first ls behind past =
+    let here : first ≡ first + 0 = omega arith in
+    let same = ap (λ l. prefix_len is_wordless (numbered_from first l)) past
+    ∙ ap (λ n. prefix_len is_wordless (numbered_from n behind)) here in
+    omega (arith, same)
+wordless-past (suc count) first [] behind past = absurd past
+wordless-past (suc count) first (line ∷ more) behind past =
+    let on : first + 1 + count ≡ first + suc count = omega arith in
+    let next = wordless-past count (first + 1) more behind past.1 in
+    let same = ap (λ n. prefix_len is_wordless (numbered_from n behind)) on in
+    let one : prefix_len is_wordless (numbered_from first (line ∷ more))
+    ≡ 1 + prefix_len is_wordless (numbered_from (first + 1) more) =
+    ap (λ ws. cond (are_none ws) (1 + prefix_len is_wordless (numbered_from (first + 1) more)) 0) past.0 in
+    omega (arith, one, next, same)
 
 pub empties-none : (first : ℕ) (ls : List (List ℕ)) → prefix_len is_nothing ls ≡ 0
     → prefix_len is_empty (numbered_from first ls) ≡ 0
@@ -23,7 +41,7 @@ empties-none first [] none = refl
 empties-none first ([] ∷ ls) none = absurd (omega arith)
 empties-none first ((byte ∷ line) ∷ ls) none = refl
 
--- one line more is gone past
-pub drop-next : (all now next : List NumberedLine) (count : ℕ) → now ≡ drop count all → next ≡ drop 1 now
-    → next ≡ drop (count + 1) all
-drop-next all now next count is more = more ∙ ap (drop 1) is ∙ rw drop-drop refl
+-- so many lines more are gone past
+pub drop-more : (all now next : List NumberedLine) (count more : ℕ) → now ≡ drop count all → next ≡ drop more now
+    → next ≡ drop (count + more) all
+drop-more all now next count more is past = past ∙ ap (drop more) is ∙ drop-drop more count all

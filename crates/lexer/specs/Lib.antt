@@ -6,3 +6,4 @@ pub mod HexData
 pub mod Pair
 pub mod TakenPair
 pub mod Wordless
+pub mod Place

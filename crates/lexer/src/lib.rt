@@ -9,6 +9,7 @@ mod lines;
 mod names;
 mod numbers;
 mod pairs;
+mod places;
 mod words;
 
 pub use hex_data::{HexFault, hex_bytes};

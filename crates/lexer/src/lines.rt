@@ -1,12 +1,14 @@
 //! Lines.
 
-ghost use Rattle.std.specs.Prelude.{◌≡◌, ◌≢◌, ◌<◌, ◌≤◌, ℕ, List, [], ◌∷◌, length, MatchOption, IfSome};
+ghost use Rattle.std.specs.Prelude.{◌≡◌, ◌≢◌, ◌+◌, ◌<◌, ◌≤◌, ℕ, List, [], ◌∷◌, length, None, MatchOption, IfSome};
 ghost use Rattle.std.specs.Str.Lines.{lines, strip_carriage_return};
 ghost use Rattle.std.specs.Iterator.{YieldsFirstBy, item_count};
 ghost use Rattle.std.specs.List.{prefix_len};
 ghost use Rattle.lexer.specs.Lines.{lines_of, is_nothing};
+ghost use Rattle.lexer.specs.Place.{PastWordless};
 
 use crate::pairs::{behind_wordless, pair_in_front};
+use crate::places::behind_places;
 use std::marker::Model;
 
 /// A line of a text, without its end.
@@ -80,8 +82,28 @@ pub(crate) fn behind_empty(text: &str) -> Option<&str>
     }
 }
 
+/// How many lines without words are gone past one by one before a look for many.
+const LINES_EACH: usize = 4;
+
+/// Some lines in front that have no words, one at least: how many, and what stands behind them. More than one only
+/// where a look for many is wanted.
+#[inline(always)]
+fn wordless_in_front(text: &str, looks_for_many: bool) -> Option<(usize, &str)>
+    ensures past { IfSome result (λ front. PastWordless front.0 (lines text.now) (lines front.1.now)) }
+    ensures some { IfSome result (λ front. 0 < front.0) }
+    ensures shorter { IfSome result (λ front. front.0 + length front.1.now ≤ length text.now) }
+    ensures filled { result ≡ None → prefix_len is_nothing (lines text.now) ≡ 0 }
+{
+    let behind = behind_wordless(text)?;
+    if !looks_for_many {
+        return Some((1, behind));
+    }
+    let (count, rest) = behind_places(behind);
+    Some((count + 1, rest))
+}
+
 impl<'a> Lines<'a> {
-    ghost use Rattle.std.specs.Prelude.{drop, true, None};
+    ghost use Rattle.std.specs.Prelude.{drop, true};
     ghost use Rattle.lexer.specs.Lines.{is_empty};
     ghost use Rattle.lexer.specs.Wordless.{is_wordless};
     ghost use Rattle.lexer.specs.Name.{is_name};
@@ -107,9 +129,9 @@ impl<'a> Lines<'a> {
     {
         let mut rest = self.rest;
         let mut count = 0;
-        'each: while let Some(behind) = behind_wordless(rest) {
+        'each: while let Some((more, behind)) = wordless_in_front(rest, count % LINES_EACH == 3) {
             rest = behind;
-            count += 1;
+            count += more;
         }
         self.rest = rest;
         self.before += count;

@@ -1,4 +1,8 @@
-use std::sync::atomic::{AtomicU64, Ordering};
+//! Whether the thread of a task began.
+
+ghost use Rattle.std.specs.Prelude.{◌≤◌};
+
+use std::sync::atomic::{AtomicIn, Ordering, Rule};
 use std::thread;
 
 /// How often the calling thread looks whether a thread began.
@@ -11,23 +15,34 @@ const BEGUN: u64 = 1;
 /// The calling thread waits no longer.
 const GIVEN_UP: u64 = 2;
 
+/// What may be said of a thread: one of the three words.
+struct Said;
+
+impl Rule for Said {
+    ghost use Rattle.crew.specs.declared.start.TheConstants.{GIVEN_UP};
+
+    ghost invariant = { λ word. word ≤ GIVEN_UP };
+}
+
 /// Whether the thread of a task began. Either the thread says that it began, or the calling thread that it waits no
 /// longer: the first word stands.
 #[derive(Drop)]
 pub struct Start {
-    word: AtomicU64,
+    word: AtomicIn<Said>,
 }
 
 impl Start {
     /// No thread began yet.
     pub fn new() -> Start {
         Start {
-            word: AtomicU64::new(OPEN),
+            word: AtomicIn::new(OPEN),
         }
     }
 
     /// Says one thing, where nothing was said yet. False where something was.
-    fn say(&self, word: u64) -> bool {
+    fn say(&self, word: u64) -> bool
+        requires { word ≤ GIVEN_UP }
+    {
         self.word
             .compare_exchange(OPEN, word, Ordering::SeqCst, Ordering::SeqCst)
             .is_ok()

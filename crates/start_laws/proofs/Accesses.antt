@@ -4,7 +4,7 @@ use Rattle.std.specs.Prelude.{bit_and, ◌==◌, IsTrue}
 use Rattle.std.specs.FinMap as map
 use Rattle.std.proofs.lemmas.Bool.{cases_Bool, eqb-true, eqb-false, or_cases}
 use Rattle.std.proofs.lemmas.Nat.{and_mask}
-use Rattle.dma_arena.specs.Block.{Block, zero_block}
+use Rattle.dma_arena.specs.Block.{zero_block}
 use Rattle.dma_arena.specs.Memory.{Memory}
 use Rattle.dma_arena.proofs.Bus.{get-insert_same, get-insert_other}
 use Rattle.reg_table.specs.declared.rows.RowId.TheVariants.{Rxdctl, Txdctl}
@@ -19,7 +19,6 @@ use Rattle.nic_device.specs.State.{State}
 use Rattle.nic_device.specs.Step.{step_of, after, reply_to}
 use Rattle.nic_device.specs.declared.event.Event.TheVariants as event
 use Rattle.nic_device.specs.declared.event.Port.{Port}
-use Rattle.nic_device.specs.declared.event.Reply.{Reply}
 use Rattle.nic_device.specs.declared.event.Reply.TheVariants as reply
 use Rattle.nic_device.proofs.Cases.{lent_cases}
 use Rattle.device_laws.proofs.StandingAccesses.{read_rest}
@@ -116,10 +115,6 @@ transmit_read_stands queue s rx tx rings port n word stand names told =
     })
 
 -- a block of zero bytes is lent
-
-is_lent_done : Reply Block → Bool
-is_lent_done reply.Done = true
-is_lent_done other = false
 
 zero_in : (m : Memory) (ring b : ℕ) (rings : Blocks) → ((c : ℕ) → IsTrue (rings c) → IsZero m c)
     → IsTrue (and_one ring rings b) → IsZero (map.insert m ring (zero_block ring).bytes) b

@@ -17,10 +17,6 @@ or_right : (a b : Bool) → b ≡ true → (a || b) ≡ true
 or_right true b is = refl
 or_right false b is = is
 
-or_none : (a b : Bool) → (a || b) ≡ false → (a ≡ false) × (b ≡ false)
-or_none true b is = cc
-or_none false b is = (refl, is)
-
 any_at : (ps : List Outgoing) (k : ℕ) → k < length ps
     → list_any (λ b. (slice_index_or ps k no_packet).block == b) (blocks_of ps) ≡ true
 any_at [] k h = absurd (omega arith)

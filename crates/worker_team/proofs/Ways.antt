@@ -42,13 +42,3 @@ ways_more [] (q ∷ ps) cs j p c ways way = absurd ways
 ways_more [] [] (d ∷ cs) j p c ways way = absurd ways
 ways_more (k ∷ jobs) [] cs j p c ways way = absurd ways
 ways_more (k ∷ jobs) (q ∷ ps) [] j p c ways way = absurd ways
-
--- the first way is that of the first job
-pub first_way : (jobs : List Job) (ps : List (Producer Report Global AnyItems)) (cs : List Collector) (j : Job)
-    (p : Producer Report Global AnyItems) → 0 < length jobs → AreWays jobs ps cs → j ≡ slice_index_or jobs 0 j
-    → p ≡ slice_index_or ps 0 p → (0 < length ps) × (sent p ≡ []) × (j.rounds ≤ known_free p)
-first_way (k ∷ jobs) (q ∷ ps) (d ∷ cs) j p some (pair, fresh, free, room, ways) is here =
-    (omega arith, rw here fresh, rw (here, is) free)
-first_way [] ps cs j p some ways is here = absurd (omega (arith, some))
-first_way (k ∷ jobs) [] cs j p some ways is here = absurd ways
-first_way (k ∷ jobs) (q ∷ ps) [] j p some ways is here = absurd ways

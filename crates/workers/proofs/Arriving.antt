@@ -1,5 +1,5 @@
 -- Frames that arrive one after another.
-use Rattle.std.proofs.Common.{◌≡◌, ℕ, List, [], ◌∷◌, ◌++◌, map, take, length, ◌≤◌, Option, Some, None, refl, sym, ap, ◌∙◌, subst, append_assoc, append-nil, length-append, arith}
+use Rattle.std.proofs.Common.{◌≡◌, ℕ, List, [], ◌∷◌, ◌++◌, map, take, length, ◌≤◌, Option, Some, None, sym, ap, ◌∙◌, subst, append_assoc, append-nil, length-append, arith}
 use Rattle.std.proofs.lemmas.List.{map-append}
 use Rattle.std.proofs.Math.Seq.{take-append_seam}
 use Rattle.dma_arena.specs.Block.{Block}
@@ -9,13 +9,6 @@ use Rattle.device_lock.specs.declared.fault.CallFault.{CallFault}
 use Rattle.device_lock.specs.Pass.{PassValue}
 use Rattle.nic_device.specs.declared.event.Event.TheVariants.{Arrive}
 use Rattle.workers.specs.Feeding.{HaveArrived, IsFed}
-
-pub none_yet : (p : PassValue) → HaveArrived [] p p
-none_yet p = record {
-  since = [];
-  made = ap (λ (l : List Call). record p { calls = l }) (sym (append-nil p.calls));
-  events = refl;
-}
 
 pub one_more : (frames more : List (List ℕ)) (old mid new : PassValue) → HaveArrived frames old mid
     → HaveArrived more mid new → HaveArrived (frames ++ more) old new

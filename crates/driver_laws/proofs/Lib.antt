@@ -1,4 +1,5 @@
 pub mod Apart
+pub mod Beside
 pub mod Each
 pub mod Enabling
 pub mod Entries
@@ -12,5 +13,4 @@ pub mod Runs
 pub mod Sending
 pub mod StaysUp
 pub mod Stepping
-pub mod Steps
 pub mod Waiting

@@ -19,7 +19,7 @@ use Rattle.transmit_laws.specs.Laws as transmit
 use Rattle.transmit_laws.specs.Sent.{sent_in, sent_since}
 use Rattle.transmit_laws.specs.Up.{IsUp}
 use Rattle.driver_laws.specs.Agreeing.{AreLent, BothAgree}
-use Rattle.pmd.specs.Halves.{Halves, Doer, OthersStep, Sends, AllOwn, is_neither, played_by}
+use Rattle.pmd.specs.Halves.{Halves, Doer, Sends, AllOwn, is_neither, played_by}
 
 -- whose an entry is, of the driver's pass or of another, and the doers that are left after it: the entries of the pass
 -- are theirs in turn, and those of other passes neither half's
@@ -99,10 +99,3 @@ CountedWhereUp =
     IsDriven w fifo start rest h doers → IsUp w.queue (leads_to (new_state w.vfs fifo) start) →
     sent_since w.queue (new_state w.vfs fifo) [] (start ++ rest)
     ≡ sent_since w.queue (new_state w.vfs fifo) [] start ++ sent_in w.queue (leads_to (new_state w.vfs fifo) start) rest
-
--- the calls of the driver's pass that are neither half's are steps of the device, as its calls say; and such steps
--- leave the queue alone
-abbrev pub StepsLeaveAlone : Type 0
-StepsLeaveAlone =
-    (w : Watched) (mine : Blocks) (mode : Mode) (doers : List Doer) (es : List Entry) →
-    OthersStep doers (calls_of w.pass es) → OthersLeaveAlone w mine mode doers es

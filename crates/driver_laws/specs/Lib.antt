@@ -1,4 +1,5 @@
 pub mod Agreeing
+pub mod Beside
 pub mod Enabling
 pub mod Histories
 pub mod Waiting

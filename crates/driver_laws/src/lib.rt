@@ -5,9 +5,10 @@
 //! what a history is that leaves the driver's queue alone.
 #![tactic(auto)]
 
+ghost use Rattle.driver_laws.specs.Beside.{DrivesLead, HarmlessLead, LeadsOn, HarmlessLeaveAlone};
 ghost use Rattle.driver_laws.specs.Enabling.{EnableWordsKeep};
 ghost use Rattle.pmd.specs.Halves.{ReceivingDrives, SendingDrives, OthersDrive, DrivesOn};
-ghost use Rattle.driver_laws.specs.Histories.{HandedIsPrefix, NoneIsAll, SentIsPrefix, IdleIsAllSent, CountedWhereUp, StepsLeaveAlone};
+ghost use Rattle.driver_laws.specs.Histories.{HandedIsPrefix, NoneIsAll, SentIsPrefix, IdleIsAllSent, CountedWhereUp};
 ghost use Rattle.driver_laws.specs.Waiting.{WaitingIsNotAll};
 
 /// The calls of one half lead both on, where the other half stays as it was; steps of the device leave both; and calls
@@ -39,10 +40,15 @@ pub fn enable_words_keep_the_agreement()
     ensures { EnableWordsKeep }
 {}
 
-/// The steps of the device that the ways to a device make before the driver's calls leave its queue alone: so nothing
-/// more is asked of a pass whose calls that are neither half's are such steps, as the driver's calls say of them.
-pub fn steps_leave_the_queue_alone()
-    ensures { StepsLeaveAlone }
+/// Calls that write no register and lend, take and poke no block leave every queue alone, and both halves as they are:
+/// the steps of the device that the ways to a device make before the driver's calls, as these say of them, and those
+/// that the driver's own author makes through the same pass, such as the arrival of a frame. So nothing more is asked of
+/// a pass whose calls that are neither half's are such.
+pub fn harmless_calls_leave_the_queue_alone()
+    ensures driven { DrivesLead }
+    ensures harmless { HarmlessLead }
+    ensures on { LeadsOn }
+    ensures alone { HarmlessLeaveAlone }
 {}
 
 /// Over such a history, where a look that comes next finds the oldest outstanding packet not done, what was sent up to

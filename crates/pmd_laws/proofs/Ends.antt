@@ -5,7 +5,9 @@ use Rattle.nic_device.specs.State.{new_state}
 use Rattle.device_lock.specs.declared.alone.Watched.{Watched}
 use Rattle.device_lock.specs.declared.entry.Call.{Call}
 use Rattle.device_lock.specs.declared.entry.Entry.{Entry}
-use Rattle.pmd.specs.Halves.{Drives, halves_of}
+use Rattle.pmd.specs.Halves.{halves_of}
+use Rattle.driver_laws.specs.Beside.{Leads}
+use Rattle.driver_laws.proofs.Beside.{drives_lead}
 use Rattle.pmd.specs.Driver.{halted_of}
 use Rattle.pmd.specs.Life.{HasLived, IsStopped}
 use Rattle.pmd.specs.declared.driver.Rings.TheVariants.{Up}
@@ -41,8 +43,8 @@ module _ (w : Watched) (fifo : ℕ) (h : List Entry) (q : AtPort) (size : ℕ) (
       sized = x.sized;
       up = lived.lives.up;
       since =
-          subst (λ (cs : List Call). Drives lived.lives.made (halves_of lived.lives.fresh) cs (halves_of lived.last))
-          (sym x.calls) lived.lives.drives;
+          subst (λ (cs : List Call). Leads lived.lives.made (halves_of lived.lives.fresh) cs (halves_of lived.last))
+          (sym x.calls) (drives_lead _ _ _ _ lived.lives.drives);
     };
     begins = x.begins;
   }
@@ -89,7 +91,7 @@ module _ (w : Watched) (fifo : ℕ) (h : List Entry) (q : AtPort) (size : ℕ) (
       (halves_of lived.last) now
   is_stopping = record {
     along = x.along;
-    life = record { sized = x.sized; up = lived.lives.up; since = lived.lives.drives };
+    life = record { sized = x.sized; up = lived.lives.up; since = (drives_lead _ _ _ _ lived.lives.drives) };
     begins = x.begins;
     ends =
         first_made (IsEnding q) lived.made now new x.since x.rest

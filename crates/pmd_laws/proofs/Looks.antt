@@ -25,8 +25,9 @@ use Rattle.start_laws.specs.Along.{IsAlong}
 use Rattle.start_laws.specs.Start.{BeginsWell}
 use Rattle.start_laws.proofs.Along.{legal_before}
 use Rattle.start_laws.proofs.Parts.{around}
-use Rattle.pmd.specs.Halves.{Drives, Halves, halves_of}
-use Rattle.pmd.proofs.Calls.{drives_on, others_drive}
+use Rattle.pmd.specs.Halves.{Halves, halves_of}
+use Rattle.driver_laws.specs.Beside.{Leads}
+use Rattle.driver_laws.proofs.Beside.{harmless_lead, leads_on, steps_harmless}
 use Rattle.pmd_laws.specs.Life.{IsLife}
 use Rattle.pmd_laws.specs.Looks.{CallsEnd, EndsAt, LooksInVain, NoneIsAllBefore}
 use Rattle.pmd_laws.specs.Order.{IsLived}
@@ -68,14 +69,14 @@ module _ (w : Watched) (fifo : ℕ) (h before rest : List Entry) (all : before +
   abbrev pub lived_before : (q : AtPort) (size : ℕ) (old : List Call) (a : Numbers) (started : List Call)
       (r : Running) (made calls : List Call) (j k : Halves) (life : IsLife q size old a started r made j)
       → IsAlong w fifo h → BeginsWell w fifo h q size old a started r life.up
-      → Drives started (halves_of r) calls k → calls_of w.pass before ≡ calls
+      → Leads started (halves_of r) calls k → calls_of w.pass before ≡ calls
       → IsLived w fifo before q size old a started r k
   lived_before q size old a started r made calls j k life along begins goes is = record {
     along = along_before along;
     life = record {
       sized = life.sized;
       up = life.up;
-      since = subst (λ (cs : List Call). Drives started (halves_of r) cs k) (sym is) goes;
+      since = subst (λ (cs : List Call). Leads started (halves_of r) cs k) (sym is) goes;
     };
     begins = begins_before q size old a started r life.up begins;
   }
@@ -107,10 +108,10 @@ module _ (w : Watched) (fifo : ℕ) (h : List Entry) (q : AtPort) (size : ℕ) (
   ends : (calls_of w.pass x.look.before ≡ made ++ x.looks.0) × (call_in x.look.entry ≡ looking)
   ends = ends_with w.pass h made x.looks.0 new looking x.looks.2 x.look
 
-  goes_on : Drives started (halves_of r) (made ++ x.looks.0) k
+  goes_on : Leads started (halves_of r) (made ++ x.looks.0) k
   goes_on =
-      drives_on started made (made ++ x.looks.0) (halves_of r) k k x.life.since
-      (others_drive made (made ++ x.looks.0) k (x.looks.0, refl, x.looks.7))
+      leads_on started made (made ++ x.looks.0) (halves_of r) k k x.life.since
+      (harmless_lead made (made ++ x.looks.0) k (x.looks.0, refl, steps_harmless x.looks.0 x.looks.7))
 
   finds : FindsNone (leads_to (new_state w.vfs fifo) x.look.before) k.receive
   finds = record {

@@ -24,11 +24,12 @@ use Rattle.start_laws.proofs.Parts.{Parts, begun, parts}
 use Rattle.start_laws.proofs.Lent.{IsLentBy}
 use Rattle.start_laws.proofs.Start.{on_some, other_lent, ring_lent, start_agrees, start_goes_on}
 use Rattle.driver_laws.specs.Agreeing.{AreLent}
-use Rattle.pmd.specs.Halves.{AllOwn, Drives, Halves, OthersStep, halves_of, played_by}
-use Rattle.pmd.proofs.Calls.{drives_on, receiving_drives}
+use Rattle.pmd.specs.Halves.{AllOwn, Halves, halves_of, played_by}
+use Rattle.pmd.proofs.Calls.{receiving_drives}
+use Rattle.driver_laws.specs.Beside.{Leads, OthersHarmless}
+use Rattle.driver_laws.proofs.Beside.{drives_lead, harmless_leave_alone, leads_on}
 use Rattle.driver_laws.specs.Histories.{IsDriven}
 use Rattle.driver_laws.proofs.InOrder.{counted_where_up, handed_is_prefix, idle_is_all_sent, none_is_all, sent_is_prefix}
-use Rattle.driver_laws.proofs.Steps.{steps_leave_alone}
 use Rattle.pmd_laws.specs.Order as order
 use Rattle.pmd_laws.proofs.FirstHalves.{first_halves, halves_apart, halves_lent}
 
@@ -43,9 +44,11 @@ module _ (w : Watched) (fifo : ℕ) (h : List Entry) (q : AtPort) (size : ℕ) (
   abbrev pub first : Halves
   first = first_halves q size old a started r up
 
-  pub whole : Drives up.on.mid first (calls_of w.pass h) k
-  whole = drives_on up.on.mid started (calls_of w.pass h) first (halves_of r) k
-      (receiving_drives up.on.mid started first (halves_of r) up.on.plays refl) x.life.since
+  pub whole : Leads up.on.mid first (calls_of w.pass h) k
+  whole = leads_on up.on.mid started (calls_of w.pass h) first (halves_of r) k
+      (drives_lead up.on.mid started first (halves_of r)
+      (receiving_drives up.on.mid started first (halves_of r) up.on.plays refl))
+      x.life.since
 
   -- the history in two parts, of which the first ends there
   pub in_parts : Parts w.pass h up.on.mid whole.1
@@ -91,8 +94,8 @@ module _ (w : Watched) (fifo : ℕ) (h : List Entry) (q : AtPort) (size : ℕ) (
               (halves_lent q size old a started r up (lent_by w.pass h) one.mine two.mine);
           own = subst (AllOwn first whole.0) (sym p.backs) whole.3;
           others =
-              steps_leave_alone w (lent_by w.pass (p.front ++ p.back)) (mode_through w.vfs Off p.front) whole.0 p.back
-              (subst (OthersStep whole.0) (sym p.backs) whole.5);
+              harmless_leave_alone w (lent_by w.pass (p.front ++ p.back)) (mode_through w.vfs Off p.front) whole.0
+              p.back (subst (OthersHarmless whole.0) (sym p.backs) whole.5);
         }
 
     pub last : played_by first whole.0 (calls_of w.pass p.back) ≡ k

@@ -9,14 +9,14 @@ use Rattle.nic_device.specs.declared.event.Reply.{Reply}
 use Rattle.nic_device.specs.declared.event.Reply.TheVariants as reply
 use Rattle.nic_device.proofs.Cases.{either_way}
 use Rattle.device_lock.specs.declared.entry.Call.{Call}
-use Rattle.pmd_base.specs.Events.{is_step}
 use Rattle.pmd_queue.specs.Named.{AtPort}
 use Rattle.pmd_rx.specs.Receive as receiving
 use Rattle.pmd_rx.specs.Receive.{Layout, Receive, Stage, Looks, Sees, Holding, Lent, Named, MovesNext, looked, took, lent_one, named, moved, drive}
 use Rattle.pmd_tx.specs.Sending as sending
 use Rattle.pmd_tx.specs.Sending.{Sender, Move, Accepts, Asks, Advances, Reaps, Elsewhere}
 use Rattle.start_laws.specs.Ending.{Each, IsPlain, NamesDriven}
-use Rattle.pmd.specs.Halves.{AllOwn, Doer, Halves, OthersStep, OwnCall, Receives, Sends, after_call, is_neither}
+use Rattle.pmd.specs.Halves.{AllOwn, Doer, Halves, OwnCall, Receives, Sends, after_call, is_neither}
+use Rattle.driver_laws.specs.Beside.{OthersHarmless, is_harmless}
 
 -- the tail's number stays
 
@@ -92,36 +92,36 @@ module _ (q : AtPort) where
   receive_plain v (event.Write port number word) own at = moves_named v.layout v.stage port number word own at
   receive_plain v e own at = tt
 
-  step_plain : (e : Event Block) → is_step e ≡ true → IsPlain q e
-  step_plain (event.Write port number word) is = cc
-  step_plain e is = tt
+  harmless_plain : (e : Event Block) → is_harmless e ≡ true → IsPlain q e
+  harmless_plain (event.Write port number word) is = cc
+  harmless_plain e is = tt
 
   write_plain : (v : Sender) (m : Move) (port : Port) (number word : ℕ)
       → sending.IsOwn v m (event.Write port number word)
-      → (IsTrue (is_neither (Sends m)) → IsTrue (is_step (event.Write port number word)))
+      → (IsTrue (is_neither (Sends m)) → IsTrue (is_harmless (event.Write port number word)))
       → NamesDriven q v.layout.port v.layout.tail → NamesDriven q port number
-  write_plain v Advances port number word (poked, to, is, what) steps at =
+  write_plain v Advances port number word (poked, to, is, what) harmless at =
       same_named port v.layout.port number v.layout.tail to is at
-  write_plain v Elsewhere port number word own steps at =
-      step_plain (event.Write port number word) (steps refl)
-  write_plain v m port number word own steps at = absurd own
+  write_plain v Elsewhere port number word own harmless at =
+      harmless_plain (event.Write port number word) (harmless refl)
+  write_plain v m port number word own harmless at = absurd own
 
   transmit_plain : (v : Sender) (m : Move) (e : Event Block) → sending.IsOwn v m e
-      → (IsTrue (is_neither (Sends m)) → IsTrue (is_step e)) → NamesDriven q v.layout.port v.layout.tail → IsPlain q e
-  transmit_plain v m (event.Write port number word) own steps at = write_plain v m port number word own steps at
-  transmit_plain v m e own steps at = tt
+      → (IsTrue (is_neither (Sends m)) → IsTrue (is_harmless e)) → NamesDriven q v.layout.port v.layout.tail → IsPlain q e
+  transmit_plain v m (event.Write port number word) own harmless at = write_plain v m port number word own harmless at
+  transmit_plain v m e own harmless at = tt
 
-  own_plain : (k : Halves) (d : Doer) (c : Call) → OwnCall k d c → (IsTrue (is_neither d) → IsTrue (is_step c.event))
+  own_plain : (k : Halves) (d : Doer) (c : Call) → OwnCall k d c → (IsTrue (is_neither d) → IsTrue (is_harmless c.event))
       → ArePlaced k → IsPlain q c.event
-  own_plain k Receives c own steps x = receive_plain k.receive c.event own x.receive
-  own_plain k (Sends m) c own steps x = transmit_plain k.transmit m c.event own steps x.transmit
+  own_plain k Receives c own harmless x = receive_plain k.receive c.event own x.receive
+  own_plain k (Sends m) c own harmless x = transmit_plain k.transmit m c.event own harmless x.transmit
 
-  pub all_plain : (k : Halves) (doers : List Doer) (calls : List Call) → AllOwn k doers calls → OthersStep doers calls
+  pub all_plain : (k : Halves) (doers : List Doer) (calls : List Call) → AllOwn k doers calls → OthersHarmless doers calls
       → ArePlaced k → Each (λ c. IsPlain q c.event) calls
-  all_plain k [] [] own steps x = tt
-  all_plain k [] (c ∷ cs) own steps x = absurd own
-  all_plain k (d ∷ doers) [] own steps x = absurd own
-  all_plain k (d ∷ doers) (c ∷ cs) own steps x = (
-    own_plain k d c own.0 steps.0 x,
-    all_plain (after_call k d c) doers cs own.1 steps.1 (next_placed k d c x),
+  all_plain k [] [] own harmless x = tt
+  all_plain k [] (c ∷ cs) own harmless x = absurd own
+  all_plain k (d ∷ doers) [] own harmless x = absurd own
+  all_plain k (d ∷ doers) (c ∷ cs) own harmless x = (
+    own_plain k d c own.0 harmless.0 x,
+    all_plain (after_call k d c) doers cs own.1 harmless.1 (next_placed k d c x),
   )

@@ -9,16 +9,17 @@ use Rattle.pmd.specs.declared.driver.Rings.{Rings}
 use Rattle.pmd.specs.declared.driver.Rings.TheVariants.{Up, Down}
 use Rattle.pmd_base.specs.declared.fault.PmdFault.{PmdFault}
 use Rattle.pmd_base.specs.declared.fault.PmdFault.TheVariants.{BadSize}
-use Rattle.pmd.specs.Halves.{Drives, halves_of}
-use Rattle.pmd.proofs.Calls.{drives_on, others_drive}
+use Rattle.pmd.specs.Halves.{halves_of}
 use Rattle.pmd.proofs.Living.{drives_none}
+use Rattle.driver_laws.specs.Beside.{Leads}
+use Rattle.driver_laws.proofs.Beside.{drives_lead, harmless_lead, leads_on}
 use Rattle.pmd_laws.specs.Told.{AllFollow, Follows, Drove, Keeps, Moment, last}
 
 -- a driver that runs goes on: it runs with these rings
 pub record RunsOn (m : Moment) (r : Running) (n : Moment) : Type 0 where
   pub rings : Running
   pub up : n.driver.rings ≡ Up rings
-  pub goes : Drives m.made (halves_of r) n.made (halves_of rings)
+  pub goes : Leads m.made (halves_of r) n.made (halves_of rings)
 
 -- where a driver that runs runs on
 
@@ -30,13 +31,14 @@ up_next P (Down x) b r is holds = cc
 
 drove : (m n : Moment) (r : Running) → m.driver.rings ≡ Up r → Drove m n → RunsOn m r n
 drove m n r is x =
-    let (s, up, goes) = up_next _ m.driver.rings n.driver.rings r is x in record { rings = s; up = up; goes = goes }
+    let (s, up, goes) = up_next _ m.driver.rings n.driver.rings r is x in
+    record { rings = s; up = up; goes = drives_lead m.made n.made (halves_of r) (halves_of s) goes }
 
 kept : (m n : Moment) (r : Running) → m.driver.rings ≡ Up r → Keeps m n → RunsOn m r n
 kept m n r is (a, same, added) = record {
   rings = record r { arena = a };
   up = same ∙ ap (λ (x : Rings). with_arena x a) is;
-  goes = others_drive m.made n.made (halves_of r) added;
+  goes = harmless_lead m.made n.made (halves_of r) added;
 }
 
 follows : (m n : Moment) (r : Running) → m.driver.rings ≡ Up r → Follows m n → RunsOn m r n
@@ -46,7 +48,8 @@ follows m n r is (inr x) = kept m n r is x
 pub all_follow : (m : Moment) (later : List Moment) (r : Running) → m.driver.rings ≡ Up r → AllFollow m later
     → RunsOn m r (last m later)
 all_follow m [] r is x =
-    record { rings = r; up = is; goes = drives_none m.made (halves_of r) }
+    let none = drives_lead m.made m.made (halves_of r) (halves_of r) (drives_none m.made (halves_of r)) in
+    record { rings = r; up = is; goes = none }
 all_follow m (n ∷ later) r is x =
     let one = follows m n r is x.0 in
     let more = all_follow n later one.rings one.up x.1 in
@@ -54,7 +57,7 @@ all_follow m (n ∷ later) r is x =
       rings = more.rings;
       up = more.up;
       goes =
-          drives_on m.made n.made (last n later).made (halves_of r) (halves_of one.rings) (halves_of more.rings)
+          leads_on m.made n.made (last n later).made (halves_of r) (halves_of one.rings) (halves_of more.rings)
           one.goes more.goes;
     }
 

@@ -17,7 +17,8 @@ use Rattle.receive_laws.specs.Delivered.{delivered}
 use Rattle.transmit_laws.specs.Agreeing.{bytes_of}
 use Rattle.transmit_laws.specs.Laws as transmit
 use Rattle.transmit_laws.specs.Sent.{sent_since}
-use Rattle.pmd.specs.Halves.{Drives, Halves, halves_of}
+use Rattle.pmd.specs.Halves.{Halves, halves_of}
+use Rattle.driver_laws.specs.Beside.{Leads}
 use Rattle.pmd_laws.specs.Life.{IsLife}
 use Rattle.pmd_laws.specs.Order.{IsLived}
 use Rattle.pmd_laws.specs.Told as told
@@ -38,7 +39,7 @@ module _ (q : AtPort) (size : ℕ) (old : List Call) (a : Numbers) (m : Moment) 
   abbrev pub now : Halves
   now = halves_of runs.rings
 
-  abbrev pub life : (calls : List Call) → Drives m.made (halves_of first) calls now
+  abbrev pub life : (calls : List Call) → Leads m.made (halves_of first) calls now
       → IsLife q size old a m.made first calls now
   life calls since = record {
     sized = open_size size a old m.made m.driver (is_size size) _ x.shut;
@@ -62,7 +63,7 @@ module _ (w : Watched) (fifo : ℕ) (h : List Entry) (q : AtPort) (size : ℕ) (
           along = x.along;
           life =
               life q size old a m later x.told (calls_of w.pass h)
-              (subst (λ (calls : List Call). Drives m.made (halves_of x.told.started.0) calls k) (sym x.made) goes);
+              (subst (λ (calls : List Call). Leads m.made (halves_of x.told.started.0) calls k) (sym x.made) goes);
           begins = x.begins;
         }
 

@@ -19,9 +19,10 @@ use Rattle.transmit_laws.specs.Agreeing.{bytes_of}
 use Rattle.transmit_laws.specs.Laws.{FindsWaiting}
 use Rattle.transmit_laws.specs.Sent.{sent_since}
 use Rattle.start_laws.proofs.Parts.{Parts, calls_joined}
-use Rattle.pmd_base.specs.Made.{AddsSome}
-use Rattle.pmd.specs.Halves.{Drives, Halves, halves_of}
-use Rattle.pmd.proofs.Calls.{drives_on, others_drive, sending_drives}
+use Rattle.pmd.specs.Halves.{Halves, halves_of}
+use Rattle.pmd.proofs.Calls.{sending_drives}
+use Rattle.driver_laws.specs.Beside.{AddsHarmless, Leads}
+use Rattle.driver_laws.proofs.Beside.{drives_lead, harmless_lead, leads_on, steps_harmless}
 use Rattle.driver_laws.proofs.Waiting.{waiting_is_not_all}
 use Rattle.pmd_laws.specs.Order.{IsLived}
 use Rattle.pmd_laws.specs.Told.{last}
@@ -61,12 +62,13 @@ module _ (w : Watched) (fifo : ℕ) (h : List Entry) (q : AtPort) (size : ℕ) (
   ends : (calls_of w.pass late ≡ x.looks.mid ++ others) × (call_in x.look.entry ≡ looking)
   ends = ends_with w.pass h x.looks.mid others made_then looking x.looks.looks.1 x.look
 
-  goes_on : Drives started (halves_of r) (x.looks.mid ++ others) then
+  goes_on : Leads started (halves_of r) (x.looks.mid ++ others) then
   goes_on =
-      drives_on started x.looks.mid (x.looks.mid ++ others) (halves_of r) then then
-      (drives_on started made x.looks.mid (halves_of r) k then x.life.since
-      (sending_drives made x.looks.mid k then x.looks.plays refl))
-      (others_drive x.looks.mid (x.looks.mid ++ others) then (others, refl, x.looks.looks.2))
+      leads_on started x.looks.mid (x.looks.mid ++ others) (halves_of r) then then
+      (leads_on started made x.looks.mid (halves_of r) k then x.life.since
+      (drives_lead made x.looks.mid k then (sending_drives made x.looks.mid k then x.looks.plays refl)))
+      (harmless_lead x.looks.mid (x.looks.mid ++ others) then
+      (others, refl, steps_harmless others x.looks.looks.2))
 
   abbrev lived_then : IsLived w fifo late q size old a started r then
   lived_then =
@@ -81,7 +83,7 @@ module _ (w : Watched) (fifo : ℕ) (h : List Entry) (q : AtPort) (size : ℕ) (
     waits = x.looks.waits;
   }
 
-  module _ (early more : List Entry) (all : early ++ more ≡ late) (is : AddsSome made (calls_of w.pass early))
+  module _ (early more : List Entry) (all : early ++ more ≡ late) (is : AddsHarmless made (calls_of w.pass early))
       where
     abbrev lived_early : IsLived w fifo early q size old a started r k
     lived_early =
@@ -89,8 +91,8 @@ module _ (w : Watched) (fifo : ℕ) (h : List Entry) (q : AtPort) (size : ℕ) (
         lived_before w fifo h early (more ++ rest)
         (sym (append_assoc early more rest) ∙ ap (λ (l : List Entry). l ++ rest) all ∙ x.look.all) q size old a started
         r made (calls_of w.pass early) k k x.life x.along x.begins
-        (drives_on started made (calls_of w.pass early) (halves_of r) k k x.life.since
-        (others_drive made (calls_of w.pass early) k is)) refl
+        (leads_on started made (calls_of w.pass early) (halves_of r) k k x.life.since
+        (harmless_lead made (calls_of w.pass early) k is)) refl
 
     p : Parts w.pass early x.life.up.on.mid (order.whole w fifo early q size old a started r k lived_early).1
     p = in_parts w fifo early q size old a started r k lived_early

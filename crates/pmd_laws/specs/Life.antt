@@ -2,15 +2,16 @@
 use Rattle.std.specs.Prelude.{ℕ, ◌≡◌, true, List}
 use Rattle.dma_arena.specs.Numbers.{Numbers}
 use Rattle.device_lock.specs.declared.entry.Call.{Call}
-use Rattle.pmd.specs.Halves.{Drives, Halves, halves_of}
+use Rattle.pmd.specs.Halves.{Halves, halves_of}
 use Rattle.pmd.specs.Running.{Running}
 use Rattle.pmd.specs.Started.{AreUp, is_size}
 use Rattle.pmd_queue.specs.Named.{AtPort}
+use Rattle.driver_laws.specs.Beside.{Leads}
 
 -- the calls up to now: when these were made the driver started with this arena, and when these were it ran, with both
--- rings up; and since then its halves were driven on
+-- rings up; and since then its halves were led on, beside calls that are harmless
 pub record IsLife (q : AtPort) (size : ℕ) (old : List Call) (a : Numbers) (started : List Call) (r : Running)
     (calls : List Call) (k : Halves) : Type 0 where
   pub sized : is_size size ≡ true
   pub up : AreUp q size old a started r
-  pub since : Drives started (halves_of r) calls k
+  pub since : Leads started (halves_of r) calls k

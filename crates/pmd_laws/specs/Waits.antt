@@ -7,12 +7,12 @@ use Rattle.device_lock.specs.declared.alone.Watched.{Watched}
 use Rattle.device_lock.specs.declared.entry.Call.{Call}
 use Rattle.device_lock.specs.declared.entry.Entry.{Entry}
 use Rattle.pmd.specs.Driver.{WhereUp, accepted_of}
-use Rattle.pmd_base.specs.Made.{AddsSome}
 use Rattle.pmd.specs.Running.{Running}
 use Rattle.pmd_queue.specs.Named.{AtPort}
 use Rattle.pmd_tx.specs.Plays.{LooksLast}
 use Rattle.pmd_tx.specs.Sending.{Sender}
 use Rattle.transmit_laws.specs.Agreeing.{bytes_of}
+use Rattle.driver_laws.specs.Beside.{AddsHarmless}
 use Rattle.transmit_laws.specs.Sent.{sent_since}
 use Rattle.start_laws.specs.Along.{IsAlong}
 use Rattle.start_laws.specs.Start.{BeginsWell}
@@ -32,14 +32,14 @@ pub record LooksAtWaiting (w : Watched) (fifo : ℕ) (h : List Entry) (q : AtPor
   pub looks : LooksLast made k.transmit new v
   pub look : EndsAt w.pass h new
 
--- before the first event of that call's own, steps of the device ahead of it included, not all that the driver had
+-- before the first event of that call's own, harmless calls ahead of it included, not all that the driver had
 -- accepted was sent
 abbrev pub WaitingIsNotAllBefore : Type 0
 WaitingIsNotAllBefore =
     (w : Watched) (fifo : ℕ) (h : List Entry) (q : AtPort) (size : ℕ) (old : List Call) (a : Numbers)
     (started : List Call) (r : Running) (made : List Call) (k : Halves) (new : List Call) (v : Sender)
     (looked : LooksAtWaiting w fifo h q size old a started r made k new v) (before more : List Entry) →
-    before ++ more ≡ looked.look.before → AddsSome made (calls_of w.pass before) →
+    before ++ more ≡ looked.look.before → AddsHarmless made (calls_of w.pass before) →
     bytes_of k.transmit.accepted ≢ sent_since w.queue (new_state w.vfs fifo) [] before
 
 -- the same by what a driver's calls tell alone: a call of `reap` answered, and wasn't idle, as its clause `waits` tells
@@ -56,11 +56,11 @@ pub record IsToldToWait (w : Watched) (fifo : ℕ) (h : List Entry) (q : AtPort)
   pub waits : Waits (last m later) n
   pub look : EndsAt w.pass h n.made
 
--- before the first event of that call's own, steps of the device ahead of it included, not all that the driver had
+-- before the first event of that call's own, harmless calls ahead of it included, not all that the driver had
 -- accepted was sent
 abbrev pub WaitingIsNotAllAsTold : Type 0
 WaitingIsNotAllAsTold =
     (w : Watched) (fifo : ℕ) (h : List Entry) (q : AtPort) (size : ℕ) (old : List Call) (a : Numbers) (m : Moment)
     (later : List Moment) (n : Moment) (x : IsToldToWait w fifo h q size old a m later n) (before more : List Entry) →
-    before ++ more ≡ x.look.before → AddsSome (last m later).made (calls_of w.pass before) →
+    before ++ more ≡ x.look.before → AddsHarmless (last m later).made (calls_of w.pass before) →
     bytes_of (accepted_of (last m later).driver.rings) ≢ sent_since w.queue (new_state w.vfs fifo) [] before

@@ -1,0 +1,109 @@
+-- Harmless calls beside the driver's lead both halves on, and leave the queue alone.
+use Rattle.std.proofs.Common.{◌≡◌, Bool, true, false, List, [], ◌∷◌, ◌++◌, length, refl, sym, ap, ◌∙◌, subst, append_assoc, arith}
+use Rattle.std.specs.Prelude.{◌==◌, IsTrue}
+use Rattle.std.proofs.lemmas.Bool.{eqb-false}
+use Rattle.dma_arena.specs.Block.{Block}
+use Rattle.vf_map.specs.declared.mode.Mode.{Mode}
+use Rattle.nic_device.specs.declared.event.Event.{Event}
+use Rattle.nic_device.specs.declared.event.Event.TheVariants as event
+use Rattle.device_lock.specs.Alone.{Blocks, LeavesBlocks, LeavesRegisters, mode_after}
+use Rattle.device_lock.specs.History.{call_in, calls_of}
+use Rattle.device_lock.specs.declared.alone.Watched.{Watched}
+use Rattle.device_lock.specs.declared.entry.Call.{Call}
+use Rattle.device_lock.specs.declared.entry.Entry.{Entry}
+use Rattle.pmd_base.specs.Events.{is_step}
+use Rattle.pmd_base.specs.Made.{AreSteps}
+use Rattle.pmd.specs.Halves.{AllOwn, Doer, OthersStep, doers_other, is_neither, played_by}
+use Rattle.pmd.proofs.Calls.{both_own, both_played, others_own, others_played, own_length}
+use Rattle.receive_laws.proofs.Histories.{calls_own, calls_other}
+use Rattle.driver_laws.specs.Beside.{AreHarmless, DrivesLead, HarmlessLead, HarmlessLeaveAlone, LeadsOn, OthersHarmless, is_harmless}
+use Rattle.driver_laws.specs.Histories.{doer_of, doers_after}
+
+-- steps of the device are harmless
+
+step_harmless : (e : Event Block) → IsTrue (is_step e) → IsTrue (is_harmless e)
+step_harmless (event.Write port number word) is = cc
+step_harmless (event.Lend block) is = cc
+step_harmless (event.Take number) is = cc
+step_harmless (event.Poke16 address bytes) is = cc
+step_harmless other is = refl
+
+pub steps_harmless : (calls : List Call) → AreSteps calls → AreHarmless calls
+steps_harmless [] steps = tt
+steps_harmless (c ∷ calls) steps = (step_harmless c.event steps.0, steps_harmless calls steps.1)
+
+others_harmless : (doers : List Doer) (calls : List Call) → OthersStep doers calls → OthersHarmless doers calls
+others_harmless [] calls steps = steps_harmless calls steps
+others_harmless (d ∷ doers) [] steps = tt
+others_harmless (d ∷ doers) (c ∷ calls) steps =
+    (λ neither. step_harmless c.event (steps.0 neither), others_harmless doers calls steps.1)
+
+pub drives_lead : DrivesLead
+drives_lead old new h k (doers, since, made, own, is, steps) =
+    (doers, since, made, own, is, others_harmless doers since steps)
+
+-- harmless calls by themselves
+
+marked : (calls : List Call) → AreHarmless calls → OthersHarmless (doers_other calls) calls
+marked [] harmless = tt
+marked (c ∷ calls) harmless = (λ neither. harmless.0, marked calls harmless.1)
+
+pub harmless_lead : HarmlessLead
+harmless_lead old new h (more, made, harmless) =
+    (doers_other more, more, made, others_own h more, others_played h more, marked more harmless)
+
+-- one after another
+
+harmless_both : (ds es : List Doer) (ms ns : List Call) → length ds ≡ length ms → OthersHarmless ds ms
+    → OthersHarmless es ns → OthersHarmless (ds ++ es) (ms ++ ns)
+harmless_both [] es [] ns long first then = then
+harmless_both [] es (m ∷ ms) ns long first then = absurd (omega (arith, long))
+harmless_both (d ∷ ds) es [] ns long first then = absurd (omega (arith, long))
+harmless_both (d ∷ ds) es (m ∷ ms) ns long first then =
+    (first.0, harmless_both ds es ms ns (omega (arith, long)) first.1 then)
+
+pub leads_on : LeadsOn
+leads_on old mid new h j k (ds, ms, made, own, is, harmless) (es, ns, more, then, was, others) =
+    let here : AllOwn (played_by h ds ms) es ns = subst (λ x. AllOwn x es ns) is then in (
+      ds ++ es,
+      ms ++ ns,
+      more ∙ ap (λ (calls : List Call). calls ++ ns) made ∙ append_assoc old ms ns,
+      both_own h ds es ms ns own here,
+      was ∙ ap (λ x. played_by x es ns) is ∙ sym (both_played h ds es ms ns own),
+      harmless_both ds es ms ns (own_length h ds ms own) harmless others,
+    )
+
+-- no register that a queue rests on is written, and no block is touched
+
+left : (w : Watched) (mode : Mode) (mine : Blocks) (e : Event Block) → IsTrue (is_harmless e)
+    → LeavesRegisters w mode e × LeavesBlocks mine e
+left w mode mine (event.Write port number word) is = cc
+left w mode mine (event.Lend block) is = cc
+left w mode mine (event.Take number) is = cc
+left w mode mine (event.Poke16 address bytes) is = cc
+left w mode mine other is = (tt, tt)
+
+module _ (w : Watched) (mine : Blocks) (mode : Mode) (e : Entry) (es : List Entry) where
+  abbrev Here : Bool → List Doer → Type 0
+  Here b doers =
+      (e.pass ≡ w.pass → IsTrue (is_neither (doer_of true doers))
+      → LeavesRegisters w mode e.event × LeavesBlocks mine e.event)
+      × OthersHarmless (doers_after b doers) (calls_of w.pass es)
+
+  own_call : (doers : List Doer) → OthersHarmless doers (call_in e ∷ calls_of w.pass es) → Here true doers
+  own_call [] harmless = (λ own neither. left w mode mine e.event harmless.0, harmless.1)
+  own_call (d ∷ doers) harmless = (λ own neither. left w mode mine e.event (harmless.0 neither), harmless.1)
+
+  one_call : (doers : List Doer) (b : Bool) → (e.pass == w.pass) ≡ b
+      → OthersHarmless doers (calls_of w.pass (e ∷ es)) → Here b doers
+  one_call doers true is harmless = own_call doers (subst (OthersHarmless doers) (calls_own w.pass e es is) harmless)
+  one_call doers false is harmless = (
+    λ own neither. absurd (eqb-false e.pass w.pass is own),
+    subst (OthersHarmless doers) (calls_other w.pass e es is) harmless,
+  )
+
+pub harmless_leave_alone : HarmlessLeaveAlone
+harmless_leave_alone w mine mode doers [] harmless = tt
+harmless_leave_alone w mine mode doers (e ∷ es) harmless =
+    let here = one_call w mine mode e es doers (e.pass == w.pass) refl harmless in
+    (here.0, harmless_leave_alone w mine (mode_after w.vfs mode e.event) (doers_after (e.pass == w.pass) doers) es here.1)

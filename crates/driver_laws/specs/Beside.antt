@@ -1,0 +1,69 @@
+-- What the driver's pass may make beside the calls of the driver's halves: events that leave every queue alone.
+use Rattle.std.specs.Prelude.{◌≡◌, Bool, true, false, ⊤, IsTrue, List, [], ◌∷◌, ◌++◌}
+use Rattle.dma_arena.specs.Block.{Block}
+use Rattle.vf_map.specs.declared.mode.Mode.{Mode}
+use Rattle.nic_device.specs.declared.event.Event.{Event}
+use Rattle.nic_device.specs.declared.event.Event.TheVariants as event
+use Rattle.device_lock.specs.Alone.{Blocks}
+use Rattle.device_lock.specs.History.{calls_of}
+use Rattle.device_lock.specs.declared.alone.Watched.{Watched}
+use Rattle.device_lock.specs.declared.entry.Call.{Call}
+use Rattle.device_lock.specs.declared.entry.Entry.{Entry}
+use Rattle.pmd.specs.Halves.{AllOwn, Doer, Drives, Halves, is_neither, played_by}
+use Rattle.driver_laws.specs.Histories.{OthersLeaveAlone}
+
+-- whether an event writes no register, and lends, takes and pokes no block
+abbrev pub is_harmless : Event Block → Bool
+is_harmless (event.Write port number word) = false
+is_harmless (event.Lend block) = false
+is_harmless (event.Take number) = false
+is_harmless (event.Poke16 address bytes) = false
+is_harmless (event.Read port number) = true
+is_harmless (event.Peek16 address) = true
+is_harmless (event.Arrive frame) = true
+is_harmless (event.Link up) = true
+is_harmless event.Collect = true
+is_harmless event.RxStep = true
+is_harmless (event.TxStep queue) = true
+is_harmless (event.IntStep group) = true
+is_harmless (event.QueueStep dir queue) = true
+is_harmless event.EepromStep = true
+
+-- each of these calls is such
+abbrev pub AreHarmless : List Call → Type 0
+AreHarmless [] = ⊤
+AreHarmless (c ∷ calls) = IsTrue (is_harmless c.event) × AreHarmless calls
+
+-- some such calls were made
+abbrev pub AddsHarmless : List Call → List Call → Type 0
+AddsHarmless old new = (more : List Call) × (new ≡ old ++ more) × AreHarmless more
+
+-- the calls that are neither half's are such. Those behind the last doer are neither's
+abbrev pub OthersHarmless : List Doer → List Call → Type 0
+OthersHarmless [] calls = AreHarmless calls
+OthersHarmless (d ∷ doers) [] = ⊤
+OthersHarmless (d ∷ doers) (c ∷ calls) =
+    (IsTrue (is_neither d) → IsTrue (is_harmless c.event)) × OthersHarmless doers calls
+
+-- some calls were made, which lead the halves from one state to another. Those that are neither half's are harmless
+abbrev pub Leads : List Call → Halves → List Call → Halves → Type 0
+Leads old h new k =
+    (doers : List Doer) × (since : List Call) × (new ≡ old ++ since) × AllOwn h doers since
+    × (k ≡ played_by h doers since) × OthersHarmless doers since
+
+-- so the driver's calls lead, since what they make beside are steps of the device
+abbrev pub DrivesLead : Type 0
+DrivesLead = (old new : List Call) (h k : Halves) → Drives old h new k → Leads old h new k
+
+-- so do harmless calls by themselves, and calls behind calls that lead
+abbrev pub HarmlessLead : Type 0
+HarmlessLead = (old new : List Call) (h : Halves) → AddsHarmless old new → Leads old h new h
+
+abbrev pub LeadsOn : Type 0
+LeadsOn = (old mid new : List Call) (h j k : Halves) → Leads old h mid j → Leads mid j new k → Leads old h new k
+
+-- and harmless calls leave the queue alone
+abbrev pub HarmlessLeaveAlone : Type 0
+HarmlessLeaveAlone =
+    (w : Watched) (mine : Blocks) (mode : Mode) (doers : List Doer) (es : List Entry) →
+    OthersHarmless doers (calls_of w.pass es) → OthersLeaveAlone w mine mode doers es

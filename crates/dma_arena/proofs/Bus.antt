@@ -87,22 +87,6 @@ byte_at-write_at_other m a (b ∷ bs) c o =
     byte_at-write_at_other (set_byte m a b) (a + 1) bs c (outside_rest c a (length bs) o)
     ∙ byte_at-set_byte_other m a b c (outside_first c a (length bs) o)
 
--- and each byte in its range is the one written there
-pub byte_at-write_at_same : (m : Memory) (a : ℕ) (bs : List ℕ) (k : ℕ) → IsWhole m → is_lent m a (length bs) ≡ true
-    → k < length bs → byte_at (write_at m a bs) (a + k) ≡ get_or bs k 0
-unfolding write_at
-byte_at-write_at_same m a [] k whole lent lt = absurd (omega arith)
-byte_at-write_at_same m a (b ∷ bs) zero whole lent lt =
-    let first : (xs : List ℕ) × (map.get m (a / 2048) ≡ Some xs) = of_some _ (is_lent_first m a (length bs) lent) in
-    let here : IsOutside (a + 0) (a + 1) (length bs) = inl (omega arith) in
-    byte_at-write_at_other (set_byte m a b) (a + 1) bs (a + 0) here
-    ∙ rw add-zero (byte_at-set_byte_same m a b first.0 first.1 (whole.block (a / 2048) first.0 first.1).size)
-byte_at-write_at_same m a (b ∷ bs) (suc k) whole lent lt =
-    let there : is_lent (set_byte m a b) (a + 1) (length bs) ≡ true =
-    is_lent-same (set_byte m a b) m (SameLent-set_byte m a b) (a + 1) (length bs) ∙ is_lent_rest m a (length bs) lent in
-    let e : a + suc k ≡ (a + 1) + k = omega arith in
-    rw e (byte_at-write_at_same (set_byte m a b) (a + 1) bs k (IsWhole-set_byte m a b whole) there (omega arith))
-
 pub length-read_at : (m : Memory) (a n : ℕ) → length (read_at m a n) ≡ n
 unfolding read_at
 length-read_at m a zero = refl

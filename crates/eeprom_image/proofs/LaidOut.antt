@@ -93,8 +93,3 @@ IsLaidOut-put content long room =
       plain = laid_csr content words size long room given content.triples refl;
       zero = get_or-set_same (with_csr words content.triples) 63 0 65535 (omega arith);
     }
-
-pub with_csr-some : (words : List ℕ) (triples : List (ℕ × ℕ)) → 0 < length triples
-    → with_csr words triples ≡ with_section (set words 13 64) (csr_section triples)
-with_csr-some words [] some = absurd (omega arith)
-with_csr-some words (triple ∷ triples) some = refl

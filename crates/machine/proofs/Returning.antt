@@ -19,11 +19,6 @@ taken_block m n b (Some bytes) is e =
     let block : (let block : Block = record { number = n; bytes = bytes } in block) ≡ b = cc in
     (sym (ap (λ (x : Block). x.number) block), ap is_some is))
 
-pub no_block : (m : Memory) (n : ℕ) (found : Option (List ℕ)) → map.get m n ≡ found → block_at m n ≡ None
-    → has_block m n ≡ false
-no_block m n None is e = ap is_some is
-no_block m n (Some bytes) is e = (let no : Some _ ≡ None = rw is at e in cc)
-
 pub returned-shared : (m after : Memory) (a given : Numbers) (n : ℕ) (b : Block) → AreShared m a
     → block_at m n ≡ Some b → after ≡ map.remove m n
     → given ≡ with_free a b.number true → AreShared after given

@@ -1,13 +1,10 @@
 -- Registers that are written in turn.
-use Rattle.std.proofs.Common.{◌≡◌, ℕ, zero, suc, ◌+◌, ◌-◌, ◌≤◌, ◌<◌, List, [], ◌∷◌, ◌++◌, length, get_or, take, drop, refl, sym, ap, ◌∙◌, subst, append_assoc, add-zero, add-suc, add-one, arith}
+use Rattle.std.proofs.Common.{◌≡◌, ℕ, zero, suc, ◌+◌, ◌-◌, ◌≤◌, ◌<◌, List, [], ◌∷◌, ◌++◌, length, get_or, take, drop, sym, ap, ◌∙◌, subst, append_assoc, add-zero, add-suc, add-one, arith}
 use Rattle.std.proofs.lemmas.List.{append-nil, take_more, take-append-drop}
 use Rattle.device_lock.specs.declared.entry.Call.{Call}
 use Rattle.reg_table.specs.declared.rows.RowId.{RowId}
 use Rattle.pmd_base.specs.Setup.{AddsAny, AreSet, StopsSetting, packed, setting, word_in}
 use Rattle.pmd_base.specs.declared.setup.Setting.{Setting}
-
-pub none_set : (old : List Call) → AreSet old old []
-none_set old = refl
 
 pub set_both : (old mid new : List Call) (ss ts : List Setting) → AreSet old mid ss → AreSet mid new ts
     → AreSet old new (ss ++ ts)

@@ -26,11 +26,6 @@ one_more old mid new all rest e (done, split, made) is = (
   is ∙ ap (λ (h : Handled). after_foreign h e) made ∙ sym (after_both old done (e ∷ [])),
 )
 
--- nothing of the list is left
-pub all_made : (old new : Handled) (all : List (Event Block)) → IsMadeTo old all new [] → new ≡ after_list old all
-all_made old new all (done, split, made) =
-    made ∙ ap (λ (l : List (Event Block)). after_list old l) (sym (split ∙ append-nil done))
-
 -- a call more, own or foreign
 
 pub own_more : (calls : List Call) (own : List Bool) (c : Call) → length own ≡ length calls

@@ -1,4 +1,3 @@
-pub mod Read
 pub mod End
 pub mod Fault
 pub mod Target

@@ -1,20 +1,94 @@
--- A call of one half drives both on.
-use Rattle.std.proofs.Common.{◌≡◌, List, subst}
+-- A call of one half drives both on, and what it lends is the driver's own.
+use Rattle.std.proofs.Common.{◌≡◌, ℕ, true, false, List, [], ◌∷◌, ◌++◌, refl, ◌∙◌, subst, arith}
+use Rattle.dma_arena.specs.Numbers.{is_own, is_free}
+use Rattle.dma_arena.specs.Whereabouts.{times_in_hand}
+use Rattle.dma_arena.proofs.Arenas.{is_own-of_free}
+use Rattle.device_lock.specs.Alone.{Blocks}
 use Rattle.device_lock.specs.declared.entry.Call.{Call}
+use Rattle.pmd_base.proofs.Outside.{times-cons, times-append, out_fewer, out_first, out_free}
+use Rattle.pmd_rx.specs.Keeping as receiving
+use Rattle.pmd_rx.specs.Keeping.{Keeps, block_in, blocks_out}
 use Rattle.pmd_rx.specs.Plays as receive
+use Rattle.pmd_rx.specs.Receive.{Receive, held_by}
+use Rattle.pmd_tx.specs.Leaving.{lent_of}
 use Rattle.pmd_tx.specs.Plays as transmit
-use Rattle.pmd.specs.Halves.{Drives, halves_of}
-use Rattle.pmd.specs.Running.{Running}
-use Rattle.pmd.proofs.Calls.{receiving_drives, sending_drives}
+use Rattle.pmd_tx.specs.Sending.{blocks_of}
+use Rattle.pmd.specs.Apart.{MayLend, DrivesApart, DrivesRings, OwnsSame}
+use Rattle.pmd.specs.Halves.{Receives, halves_of}
+use Rattle.pmd.specs.Running.{Running, IsUp, rings_out}
+use Rattle.pmd.proofs.Apart.{MaySend, apart_none, apart_on, receiving_apart, sending_apart}
+use Rattle.pmd.proofs.Blocks.{GoesBack}
+use Rattle.pmd.proofs.Handing.{none_any, away_lent}
+use Rattle.pmd.proofs.Whole.{all_exchanged}
 
-pub receive_drives : (old new : List Call) (q r s : Running) → q ≡ r → receive.Plays old q.receive new s.receive
-    → s.transmit ≡ q.transmit → Drives old (halves_of r) new (halves_of s)
-receive_drives old new q r s is plays same =
-    subst (λ (y : Running). Drives old (halves_of y) new (halves_of s)) is
-    (receiving_drives old new (halves_of q) (halves_of s) plays same)
+-- which blocks a half may lend
 
-pub transmit_drives : (old new : List Call) (q r s : Running) → q ≡ r → transmit.Plays old q.transmit new s.transmit
-    → s.receive ≡ q.receive → Drives old (halves_of r) new (halves_of s)
-transmit_drives old new q r s is plays same =
-    subst (λ (y : Running). Drives old (halves_of y) new (halves_of s)) is
-    (sending_drives old new (halves_of q) (halves_of s) plays same)
+pub free_may : (q : Running) → IsUp q → (n : ℕ) → is_free q.arena n ≡ true
+    → MayLend (is_own q.arena) (halves_of q) Receives n
+free_may q up n free =
+    let none = out_free q.arena (rings_out q) n up.home free in (
+      is_own-of_free q.arena n free,
+      away_lent q.transmit n
+          (omega (arith, none, times-append (blocks_out q.receive) (lent_of q.transmit) n)),
+    )
+
+away_received : (v : Receive) (n : ℕ) → times_in_hand (blocks_out v) n ≡ 0 → receiving.has_lent v n ≡ false
+away_received v n none =
+    none_any (receiving.lent_of v) n
+    (omega (arith, none, times-append (receiving.lent_of v) (block_in (held_by v.stage)) n))
+
+pub ring_may : (q : Running) → IsUp q → MaySend (is_own q.arena) (halves_of q) q.transmit.layout.ring
+ring_may q up =
+    let ring : ℕ = q.transmit.layout.ring in
+    let blocks : List ℕ = blocks_of q.transmit.outstanding in
+    let out : List ℕ = blocks_out q.receive in
+    let first = out_first q.arena (out ++ blocks) ring
+    (out_fewer q.arena (rings_out q) (ring ∷ (out ++ blocks)) up.home
+    (λ k. omega (
+      arith,
+      times-append out (blocks ++ ring ∷ []) k,
+      times-append blocks (ring ∷ []) k,
+      times-cons ring (out ++ blocks) k,
+      times-append out blocks k,
+    ))) in
+    (first.0, away_received q.receive ring (omega (arith, first.2, times-append out blocks ring)))
+
+pub packet_may : (q : Running) (n : ℕ) → GoesBack q n → MaySend (is_own q.arena) (halves_of q) n
+packet_may q n goes = (
+  goes.own,
+  away_received q.receive n
+      (omega (arith, goes.none, times-append (blocks_out q.receive) (lent_of q.transmit) n)),
+)
+
+-- the halves driven on
+
+pub receive_drives : (old new : List Call) (q r s : Running) (out : List ℕ) → q ≡ r → IsUp q
+    → receive.PlaysFrom q.arena old q.receive new s.receive → Keeps q.arena q.receive s.arena s.receive out
+    → s.transmit ≡ q.transmit → DrivesRings old r new s
+receive_drives old new q r s out is up plays keeps same =
+    subst (λ (y : Running). DrivesRings old y new s) is (record {
+      apart = receiving_apart (is_own q.arena) q.arena old new (halves_of q) (halves_of s) (free_may q up) plays same;
+      owns = (all_exchanged q.arena (blocks_out q.receive) s.arena (out ++ blocks_out s.receive) keeps.arena).owns;
+    })
+
+pub transmit_drives : (old new : List Call) (block : ℕ) (q r s : Running) → q ≡ r
+    → MaySend (is_own q.arena) (halves_of q) block → transmit.PlaysWith block old q.transmit new s.transmit
+    → OwnsSame q.arena s.arena → s.receive ≡ q.receive → DrivesRings old r new s
+transmit_drives old new block q r s is may plays owns same =
+    subst (λ (y : Running). DrivesRings old y new s) is (record {
+      apart = sending_apart (is_own q.arena) block old new (halves_of q) (halves_of s) may plays same;
+      owns = owns;
+    })
+
+-- without any call, and one after another
+
+pub rings_still : (made : List Call) (r : Running) → DrivesRings made r made r
+rings_still made r = record { apart = apart_none (is_own r.arena) made (halves_of r); owns = λ n. refl }
+
+pub rings_on : (old mid new : List Call) (r s t : Running) → DrivesRings old r mid s → DrivesRings mid s new t
+    → DrivesRings old r new t
+rings_on old mid new r s t one two = record {
+  apart = apart_on (is_own r.arena) old mid new (halves_of r) (halves_of s) (halves_of t) one.apart
+      (subst (λ (own : Blocks). DrivesApart own mid (halves_of s) new (halves_of t)) (λ i n. one.owns n i) two.apart);
+  owns = λ n. two.owns n ∙ one.owns n;
+}

@@ -1,12 +1,12 @@
 -- Both halves follow from the calls that were made.
-use Rattle.std.proofs.Common.{◌≡◌, suc, Bool, true, false, not, List, [], ◌∷◌, ◌++◌, length, refl, sym, ap, ◌∙◌, subst, append_assoc}
+use Rattle.std.proofs.Common.{◌≡◌, suc, Bool, true, false, not, List, [], ◌∷◌, ◌++◌, length, refl, sym, ap, ◌∙◌, subst, append_assoc, append-nil}
 use Rattle.std.specs.Prelude.{IsTrue}
 use Rattle.device_lock.specs.declared.entry.Call.{Call}
 use Rattle.pmd_base.proofs.Steps.{steps_as, steps_both, steps_marked}
 use Rattle.pmd_rx.specs.Plays as receive
 use Rattle.pmd_tx.specs.Plays as transmit
 use Rattle.pmd_tx.specs.Sending.{Move, Elsewhere}
-use Rattle.pmd.specs.Halves.{Halves, Doer, Receives, Sends, AllOwn, after_call, doer_marked, doers_marked, doers_moved, doers_other, is_neither, played_by, OthersStep, ReceivingDrives, SendingDrives, OthersDrive, DrivesOn}
+use Rattle.pmd.specs.Halves.{Halves, Doer, Receives, Sends, AllOwn, Drives, after_call, doer_marked, doers_marked, doers_moved, doers_other, is_neither, played_by, OthersStep, ReceivingDrives, SendingDrives, OthersDrive, DrivesOn}
 
 -- the calls of one half
 
@@ -90,6 +90,10 @@ others_drive old new h (since, made, steps) = (
   others_played h since,
   steps_marked is_neither (Sends Elsewhere) since steps,
 )
+
+-- without any call
+unfoldable pub drives_none : (made : List Call) (h : Halves) → Drives made h made h
+drives_none made h = ([], [], sym (append-nil made), tt, refl, tt)
 
 -- one after another
 

@@ -19,14 +19,14 @@ not_here x n xs none same =
     let none_here : times_in_hand (n ∷ xs) n ≡ 0 = subst (λ (k : ℕ). times_in_hand (k ∷ xs) n ≡ 0) (sym same) none in
     absurd (omega (arith, none_here, times_first xs n))
 
-none_any : (xs : List ℕ) (n : ℕ) → times_in_hand xs n ≡ 0 → list_any (λ b. n == b) xs ≡ false
+pub none_any : (xs : List ℕ) (n : ℕ) → times_in_hand xs n ≡ 0 → list_any (λ b. n == b) xs ≡ false
 none_any [] n none = refl
 none_any (x ∷ xs) n none =
     let other : n ≢ x = not_here x n xs none in
     let rest : list_any (λ b. n == b) xs ≡ false = none_any xs n (omega (arith, none, times-cons x xs n)) in
     grind (arith, nat_tests, other, rest)
 
-away_lent : (v : Sender) (n : ℕ) → times_in_hand (lent_of v) n ≡ 0 → has_lent v n ≡ false
+pub away_lent : (v : Sender) (n : ℕ) → times_in_hand (lent_of v) n ≡ 0 → has_lent v n ≡ false
 away_lent v n none =
     let parts = times-append (blocks_of v.outstanding) (v.layout.ring ∷ []) n in
     let other : n ≢ v.layout.ring = not_here v.layout.ring n [] (omega (arith, none, parts)) in

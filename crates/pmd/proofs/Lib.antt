@@ -1,7 +1,9 @@
+pub mod Apart
 pub mod Blocks
 pub mod Both
 pub mod Calls
 pub mod Driving
+pub mod Finding
 pub mod Handing
 pub mod Homecoming
 pub mod Late
@@ -9,6 +11,7 @@ pub mod Leaving
 pub mod Living
 pub mod Rising
 pub mod Sending
+pub mod Sent
 pub mod Starting
 pub mod Stopping
 pub mod Whole

@@ -1,31 +1,29 @@
 -- A driver's life, call by call.
-use Rattle.std.proofs.Common.{◌≡◌, ℕ, List, [], Option, refl, sym, ap, ◌∙◌, subst, append-nil}
-use Rattle.dma_arena.specs.Numbers.{Numbers}
+use Rattle.std.proofs.Common.{◌≡◌, ℕ, List, Option, sym, ap, ◌∙◌, subst}
+use Rattle.dma_arena.specs.Numbers.{Numbers, is_own}
 use Rattle.device_lock.specs.declared.entry.Call.{Call}
 use Rattle.pmd_base.specs.declared.fault.PmdFault.{PmdFault}
 use Rattle.pmd_queue.specs.Named.{AtPort}
 use Rattle.pmd.specs.Driver.{Driver, accepted_of, handed_of, halted_of}
-use Rattle.pmd.specs.Halves.{Halves, Drives, halves_of}
+use Rattle.pmd.specs.Apart.{DrivesApart}
+use Rattle.pmd.specs.Halves.{Halves, halves_of}
 use Rattle.pmd.specs.Life.{RunsOn, KeepsHalves, IsStopped, HasLived}
 use Rattle.pmd.specs.Started.{HasStarted, left_accepted, left_handed}
 use Rattle.pmd.specs.declared.driver.Rings.{Rings}
 use Rattle.pmd.specs.declared.driver.Rings.TheVariants.{Up, Down}
 use Rattle.pmd.specs.declared.start.Rest.{Rest}
-use Rattle.pmd.proofs.Calls.{drives_on}
+use Rattle.pmd.proofs.Both.{rings_still, rings_on}
 
 -- without any call
-pub drives_none : (made : List Call) (h : Halves) → Drives made h made h
-drives_none made h = ([], [], sym (append-nil made), tt, refl, tt)
-
 pub runs_still : (made : List Call) (rings : Rings) → RunsOn made rings made rings
-runs_still made (Up r) = drives_none made (halves_of r)
+runs_still made (Up r) = rings_still made r
 runs_still made (Down h) = tt
 
 -- one after another
 pub runs_on : (old mid new : List Call) (first then last : Rings) → RunsOn old first mid then
     → RunsOn mid then new last → RunsOn old first new last
 runs_on old mid new (Up r) (Up s) (Up t) one two =
-    drives_on old mid new (halves_of r) (halves_of s) (halves_of t) one two
+    rings_on old mid new r s t one two
 runs_on old mid new (Up r) (Up s) (Down h) one two = absurd two
 runs_on old mid new (Up r) (Down h) last one two = absurd one
 runs_on old mid new (Down h) then last one two = tt
@@ -34,7 +32,10 @@ runs_on old mid new (Down h) then last one two = tt
 pub runs_kept : (old new : List Call) (first then last : Rings) → RunsOn old first new then → KeepsHalves then last
     → RunsOn old first new last
 runs_kept old new (Up r) (Up s) (Up t) one kept =
-    subst (λ (h : Halves). Drives old (halves_of r) new h) (sym kept) one
+    record {
+      apart = subst (λ (h : Halves). DrivesApart (is_own r.arena) old (halves_of r) new h) (sym kept.0) one.apart;
+      owns = λ n. kept.1 n ∙ one.owns n;
+    }
 runs_kept old new (Up r) (Up s) (Down h) one kept = absurd kept
 runs_kept old new (Up r) (Down h) last one kept = absurd one
 runs_kept old new (Down h) then last one kept = tt

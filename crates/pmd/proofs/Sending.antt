@@ -1,7 +1,8 @@
 -- Where the blocks of a driver are once a packet is sent, and once packets are reaped.
 use Rattle.std.proofs.Common.{◌≡◌, ℕ, zero, suc, true, List, [], ◌∷◌, ◌++◌, take, drop, Option, Some, None, Result, Ok, Err, IfSome, IfNone, IfOk, OnErr, refl, sym, ap, ◌∙◌, arith}
 use Rattle.std.proofs.lemmas.List.{map-append, drop-map}
-use Rattle.dma_arena.specs.Numbers.{Numbers, with_free}
+use Rattle.dma_arena.specs.Numbers.{Numbers, is_own, with_free}
+use Rattle.dma_arena.proofs.Arenas.{is_own-with_free}
 use Rattle.pmd_base.specs.Home.{AreOut}
 use Rattle.pmd_base.specs.declared.packet.Packet.{Packet}
 use Rattle.pmd_base.proofs.Outside.{times-cons, times-append, out_fewer, out_given}
@@ -14,6 +15,7 @@ use Rattle.pmd_tx.proofs.Passing.{gone_home}
 use Rattle.pmd_tx.specs.declared.answer.Reaped.{Reaped}
 use Rattle.pmd_tx.specs.declared.answer.TxAnswer.{TxAnswer}
 use Rattle.pmd_tx.specs.declared.answer.TxFault.{TxFault}
+use Rattle.pmd.specs.Apart.{OwnsSame}
 use Rattle.pmd.specs.Running.{Running, IsUp, rings_out, receives}
 use Rattle.pmd.proofs.Blocks.{GoesBack, home_goes, out_joined, first_out, second_out}
 
@@ -116,6 +118,16 @@ reaped_up r s count up frees layout receive =
           )));
       filled = rw receive up.filled;
     }
+
+pub given_owns : (a : Numbers) (ns : List ℕ) → OwnsSame a (given a ns)
+given_owns a [] k = refl
+given_owns a (n ∷ ns) k = given_owns (with_free a n true) ns k ∙ is_own-with_free a n true k
+
+pub freed_owns : (r s : Running) (count : ℕ) → Frees r.transmit s.transmit r.arena s.arena count
+    → OwnsSame r.arena s.arena
+freed_owns r s count frees k =
+    let blocks : List ℕ = blocks_of r.transmit.outstanding in
+    ap (λ (a : Numbers). is_own a k) frees.home ∙ given_owns r.arena (take count blocks) k
 
 -- so many were reaped, in any case
 pub some_freed : (x : Result Reaped PmdFault) (v w : Sender) (a b : Numbers) → IfOk x (λ done. Frees v w a b done.freed)

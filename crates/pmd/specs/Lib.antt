@@ -1,3 +1,4 @@
+pub mod Apart
 pub mod Blocks
 pub mod Driver
 pub mod Halves

@@ -6,8 +6,9 @@ use Rattle.pmd_base.specs.declared.fault.PmdFault.{PmdFault}
 use Rattle.pmd_queue.specs.Named.{AtPort}
 use Rattle.pmd_halt.specs.Halted.{Halted}
 use Rattle.pmd_halt.specs.Stopping.{Stops, StopFails}
+use Rattle.pmd.specs.Apart.{DrivesRings, OwnsSame}
 use Rattle.pmd.specs.Driver.{WhereUp, halted_of}
-use Rattle.pmd.specs.Halves.{Drives, halves_of}
+use Rattle.pmd.specs.Halves.{halves_of}
 use Rattle.pmd.specs.Running.{Running}
 use Rattle.pmd.specs.Started.{AreUp, IsShut, StopsStarting, start_gate, left_accepted, left_handed}
 use Rattle.pmd.specs.declared.driver.Rings.{Rings}
@@ -18,11 +19,11 @@ use Rattle.pmd.specs.declared.start.StartRefused.{StartRefused}
 
 -- where the driver runs, it runs on, and the calls that were made since drove its halves on
 abbrev pub RunsOn : List Call → Rings → List Call → Rings → Type 0
-RunsOn old rings new after = WhereUp rings after (λ r s. Drives old (halves_of r) new (halves_of s))
+RunsOn old rings new after = WhereUp rings after (λ r s. DrivesRings old r new s)
 
--- where the driver runs, it runs on with its halves as they were
+-- where the driver runs, it runs on with its halves as they were, and with its arena's numbers
 abbrev pub KeepsHalves : Rings → Rings → Type 0
-KeepsHalves rings after = WhereUp rings after (λ r s. halves_of s ≡ halves_of r)
+KeepsHalves rings after = WhereUp rings after (λ r s. (halves_of s ≡ halves_of r) × OwnsSame r.arena s.arena)
 
 -- a driver of this queue lives: after the calls that were made before, its rings came up, with so many descriptors each
 -- and the blocks of this arena; and then its halves were driven on, up to where they are
@@ -31,7 +32,7 @@ pub record Lives (q : AtPort) (size : ℕ) (old : List Call) (a : Numbers) (new 
   pub made : List Call
   pub fresh : Running
   pub up : AreUp q size old a made fresh
-  pub drives : Drives made (halves_of fresh) new (halves_of r)
+  pub drives : DrivesRings made fresh new r
 
 -- a driver of this queue was stopped, once: it is home; or the stop was refused for this fault, and the driver is left,
 -- not running

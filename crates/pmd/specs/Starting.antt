@@ -15,7 +15,7 @@ use Rattle.pmd_queue.specs.Made.{AreMade, StopsBy}
 use Rattle.pmd_queue.specs.Named.{AtPort, IsNumberOf}
 use Rattle.pmd_queue.specs.Sides.{ring_words}
 use Rattle.pmd_rx.specs.Filling.{Fills, StopsFilling}
-use Rattle.pmd_rx.specs.Plays.{Plays}
+use Rattle.pmd_rx.specs.Plays.{PlaysFrom}
 use Rattle.pmd_rx.specs.Receive.{Receive}
 use Rattle.pmd_rx.specs.Receive as receive
 use Rattle.pmd_tx.specs.Sending.{Sender}
@@ -80,12 +80,12 @@ pub record IsTransmitReady (q : AtPort) (size : ℕ) (old : List Call) (a : Numb
   pub named : IsNumberOf q.port (tail_row Tx) q.queue tail
   pub fresh : v ≡ transmit.at_start q.port tail ring size
 
--- both sides went on, and then the receive ring was filled
+-- both sides went on, and then the receive ring was filled, with blocks that were free in the arena
 pub record GoesOn (q : AtPort) (old : List Call) (a : Numbers) (v : Receive) (new : List Call) (b : Numbers)
     (w : Receive) : Type 0 where
   pub mid : List Call
   pub switched : IsSwitched q old mid true 1000
-  pub plays : Plays mid v new w
+  pub plays : PlaysFrom a mid v new w
   pub filled : Fills a v b w
 
 -- a side didn't go on, and the driver is as it was; or the receive ring was filled in part

@@ -11,6 +11,8 @@ ghost use Rattle.pmd_tx.specs.Plays.{LooksLast, FaultsBy};
 ghost use Rattle.pmd_tx.specs.Sends.{gate_of, returned, IsAnswer, IsShut, IsAccepted, IsNoneAccepted, IsBack, IsLate, Frees};
 ghost use Rattle.pmd_halt.specs.Halted.{Halted, all_out, is_free_or_out};
 ghost use Rattle.pmd_halt.specs.Stopping.{Stops, StopFails};
+ghost use Rattle.pmd.specs.Apart.{FindsBy};
+ghost use Rattle.pmd.specs.Halves.{halves_of};
 ghost use Rattle.pmd.specs.Life.{KeepsHalves, RunsOn};
 ghost use Rattle.pmd.specs.Running.{receives};
 ghost use Rattle.pmd.specs.Driver.{arena_of, handed_of, accepted_of, goes_back_to, with_arena, halted_of, WhereUp, IsDown};
@@ -98,6 +100,8 @@ impl Pmd {
             OnErr result (s.receive.handed ≡ r.receive.handed)) }
         ensures fails { WhereUp self.old.rings self.new.rings (λ r s. IfErr result (λ f.
             FailsBy f (N.made nic.old) r.arena r.receive (N.made nic.new) s.arena s.receive)) }
+        ensures finds { WhereUp self.old.rings self.new.rings (λ r s. IfErr result (λ f.
+            FindsBy f (is_own r.arena) (N.made nic.old) (halves_of r) (N.made nic.new))) }
         ensures waits { WhereUp self.old.rings self.new.rings (λ r s.
             result ≡ Err PmdFault.NoBuffer → PacketWaits s.receive.stage) }
         ensures keeps { WhereUp self.old.rings self.new.rings (λ r s.
@@ -146,7 +150,9 @@ impl Pmd {
         ensures settled { WhereUp self.old.rings self.new.rings (λ r s.
             result ≡ Ok TxAnswer.Taken → s.transmit.posted ≡ length s.transmit.outstanding) }
         ensures faults { WhereUp self.old.rings self.new.rings (λ r s. IfErr result (λ failed.
-            FaultsBy failed.fault (N.made nic.old) r.transmit (N.made nic.new))) }
+            FaultsBy failed.fault packet.buf.number (N.made nic.old) r.transmit (N.made nic.new))) }
+        ensures finds { WhereUp self.old.rings self.new.rings (λ r s. IfErr result (λ failed.
+            FindsBy failed.fault (is_own r.arena) (N.made nic.old) (halves_of r) (N.made nic.new))) }
         ensures layout { WhereUp self.old.rings self.new.rings (λ r s. s.transmit.layout ≡ r.transmit.layout) }
         ensures others { WhereUp self.old.rings self.new.rings (λ r s.
             (s.arena ≡ r.arena) × (s.receive ≡ r.receive)) }
@@ -186,8 +192,10 @@ impl Pmd {
         ensures layout { WhereUp self.old.rings self.new.rings (λ r s.
             s.transmit.layout ≡ record r.transmit.layout { next = s.transmit.layout.next }) }
         ensures late { WhereUp self.old.rings self.new.rings (λ r s. IfErr result (λ fault. IsLate fault)) }
-        ensures faults { WhereUp self.old.rings self.new.rings (λ r s. IfErr result (λ fault.
-            FaultsBy fault (N.made nic.old) r.transmit (N.made nic.new))) }
+        ensures faults { WhereUp self.old.rings self.new.rings (λ r s. (block : ℕ) → IfErr result (λ fault.
+            FaultsBy fault block (N.made nic.old) r.transmit (N.made nic.new))) }
+        ensures finds { WhereUp self.old.rings self.new.rings (λ r s. IfErr result (λ fault.
+            FindsBy fault (is_own r.arena) (N.made nic.old) (halves_of r) (N.made nic.new))) }
         ensures receive { WhereUp self.old.rings self.new.rings (λ r s. s.receive ≡ r.receive) }
         ensures handed { handed_of self.new.rings ≡ handed_of self.old.rings }
         ensures down { IsDown self.old.rings → (result ≡ Err PmdFault.DeviceFault)

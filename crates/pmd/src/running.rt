@@ -1,7 +1,7 @@
 //! A driver whose two rings are up.
 
 ghost use Rattle.std.specs.Prelude.{ℕ, ◌≡◌, ◌<◌, ◌⊎◌, ◌++◌, ◌∷◌, ◌↔◌, length, [], true, false, Ok, Err, IfOk, IfErr, IfSome, IfNone, IsNone, IsOk, OnOk, OnErr, IsTrue};
-ghost use Rattle.dma_arena.specs.Numbers.{free_count};
+ghost use Rattle.dma_arena.specs.Numbers.{free_count, is_own};
 ghost use Rattle.pmd_base.specs.Fresh.{IsFresh};
 ghost use Rattle.pmd_base.specs.Packet.{kept_of};
 ghost use Rattle.pmd_rx.specs.Keeping.{Keeps, handed_block};
@@ -9,7 +9,8 @@ ghost use Rattle.pmd_rx.specs.Plays.{LooksOnce};
 ghost use Rattle.pmd_rx.specs.Wrong.{FailsBy, PacketWaits};
 ghost use Rattle.pmd_tx.specs.Plays.{LooksLast, FaultsBy};
 ghost use Rattle.pmd_tx.specs.Sends.{gate_of, returned, IsAnswer, IsShut, IsAccepted, IsNoneAccepted, IsBack, IsLate, Frees};
-ghost use Rattle.pmd.specs.Halves.{Drives, halves_of};
+ghost use Rattle.pmd.specs.Apart.{DrivesRings, FindsBy, OwnsSame};
+ghost use Rattle.pmd.specs.Halves.{halves_of};
 ghost use Rattle.pmd.specs.Running.{IsUp, IsReleased, goes_back, receives};
 
 use dma_arena::Arena;
@@ -87,7 +88,7 @@ impl Running {
     /// gives, `Call` where a call was refused, or there was no memory for the packet's record: the driver keeps where
     /// it was, and the next call goes on.
     pub fn rx<N: Nic>(&mut self, alloc: Global, nic: &mut N) -> Result<Option<Packet>, PmdFault>
-        ensures drives { Drives (N.made nic.old) (halves_of self.old) (N.made nic.new) (halves_of self.new) }
+        ensures drives { DrivesRings (N.made nic.old) self.old (N.made nic.new) self.new }
         ensures some { IfOk result (λ out. IfSome out (λ packet.
             self.new.receive.handed ≡ self.old.receive.handed ++ kept_of packet ∷ [])) }
         ensures none { IfOk result (λ out. IfNone out (
@@ -95,6 +96,8 @@ impl Running {
         ensures err { OnErr result (self.new.receive.handed ≡ self.old.receive.handed) }
         ensures fails { IfErr result (λ f. FailsBy f (N.made nic.old) self.old.arena self.old.receive
             (N.made nic.new) self.new.arena self.new.receive) }
+        ensures finds { IfErr result (λ f.
+            FindsBy f (is_own self.old.arena) (N.made nic.old) (halves_of self.old) (N.made nic.new)) }
         ensures waits { result ≡ Err PmdFault.NoBuffer → PacketWaits self.new.receive.stage }
         ensures home { IfOk result (λ out. IfSome out (λ packet. goes_back self.new packet.buf.number ≡ true)) }
         ensures keeps { Keeps self.old.arena self.old.receive self.new.arena self.new.receive (handed_block result) }
@@ -117,7 +120,7 @@ impl Running {
         nic: &mut N,
         packet: Packet,
     ) -> Result<TxAnswer, TxFault>
-        ensures drives { Drives (N.made nic.old) (halves_of self.old) (N.made nic.new) (halves_of self.new) }
+        ensures drives { DrivesRings (N.made nic.old) self.old (N.made nic.new) self.new }
         ensures answer { IsAnswer
             (gate_of self.old.transmit self.old.arena (receives self.old packet.buf.number) packet) packet result }
         ensures shut { IsShut (gate_of self.old.transmit self.old.arena (receives self.old packet.buf.number) packet)
@@ -128,7 +131,9 @@ impl Running {
         ensures settled { result ≡ Ok TxAnswer.Taken
             → self.new.transmit.posted ≡ length self.new.transmit.outstanding }
         ensures faults { IfErr result (λ failed.
-            FaultsBy failed.fault (N.made nic.old) self.old.transmit (N.made nic.new)) }
+            FaultsBy failed.fault packet.buf.number (N.made nic.old) self.old.transmit (N.made nic.new)) }
+        ensures finds { IfErr result (λ failed.
+            FindsBy failed.fault (is_own self.old.arena) (N.made nic.old) (halves_of self.old) (N.made nic.new)) }
         ensures layout { self.new.transmit.layout ≡ self.old.transmit.layout }
         ensures others { (self.new.arena ≡ self.old.arena) × (self.new.receive ≡ self.old.receive) }
         ensures who { N.who nic.new ≡ N.who nic.old }
@@ -144,7 +149,7 @@ impl Running {
     /// `DeviceFault` where the device answers what it can't on a healthy queue, and `Call` where a call was refused:
     /// what was freed before stays free.
     pub fn reap<N: Nic>(&mut self, alloc: Global, nic: &mut N) -> Result<Reaped, PmdFault>
-        ensures drives { Drives (N.made nic.old) (halves_of self.old) (N.made nic.new) (halves_of self.new) }
+        ensures drives { DrivesRings (N.made nic.old) self.old (N.made nic.new) self.new }
         ensures idle { IfOk result (λ done. IsTrue done.idle ↔ (self.new.transmit.outstanding ≡ [])) }
         ensures waits { IfOk result (λ done. done.idle ≡ false
             → LooksLast (N.made nic.old) self.old.transmit (N.made nic.new) self.new.transmit) }
@@ -156,8 +161,10 @@ impl Running {
         ensures layout { self.new.transmit.layout
             ≡ record self.old.transmit.layout { next = self.new.transmit.layout.next } }
         ensures late { IfErr result (λ fault. IsLate fault) }
-        ensures faults { IfErr result (λ fault.
-            FaultsBy fault (N.made nic.old) self.old.transmit (N.made nic.new)) }
+        ensures faults { (block : ℕ) → IfErr result (λ fault.
+            FaultsBy fault block (N.made nic.old) self.old.transmit (N.made nic.new)) }
+        ensures finds { IfErr result (λ fault.
+            FindsBy fault (is_own self.old.arena) (N.made nic.old) (halves_of self.old) (N.made nic.new)) }
         ensures receive { self.new.receive ≡ self.old.receive }
         ensures who { N.who nic.new ≡ N.who nic.old }
     {
@@ -171,6 +178,7 @@ impl Running {
         ensures none { IsNone result ↔ ((2048 < len) ⊎ (free_count self.old.arena ≡ 0)) }
         ensures made { IsFresh self.old.arena len result self.new.arena }
         ensures rest { self.new ≡ record self.old { arena = self.new.arena } }
+        ensures owns { OwnsSame self.old.arena self.new.arena }
     {
         fresh_packet(&mut self.arena, len)
     }
@@ -196,6 +204,7 @@ impl Running {
         ensures released { OnOk result (IsReleased self.old packet.buf.number self.new) }
         ensures back { IfErr result (λ back. back ≡ packet) }
         ensures kept { OnErr result (self.new ≡ self.old) }
+        ensures halves { (halves_of self.new ≡ halves_of self.old) × OwnsSame self.old.arena self.new.arena }
     {
         let block = packet.buf.block();
         if self.goes_back(block) {

@@ -44,7 +44,7 @@ module _ (w : Watched) (fifo : ℕ) (h : List Entry) (q : AtPort) (size : ℕ) (
       up = lived.lives.up;
       since =
           subst (λ (cs : List Call). Leads lived.lives.made (halves_of lived.lives.fresh) cs (halves_of lived.last))
-          (sym x.calls) (drives_lead _ _ _ _ lived.lives.drives);
+          (sym x.calls) (drives_lead _ _ _ _ lived.lives.drives.apart.drives);
     };
     begins = x.begins;
   }
@@ -91,7 +91,11 @@ module _ (w : Watched) (fifo : ℕ) (h : List Entry) (q : AtPort) (size : ℕ) (
       (halves_of lived.last) now
   is_stopping = record {
     along = x.along;
-    life = record { sized = x.sized; up = lived.lives.up; since = (drives_lead _ _ _ _ lived.lives.drives) };
+    life = record {
+      sized = x.sized;
+      up = lived.lives.up;
+      since = drives_lead _ _ _ _ lived.lives.drives.apart.drives;
+    };
     begins = x.begins;
     ends =
         first_made (IsEnding q) lived.made now new x.since x.rest

@@ -47,7 +47,7 @@ module _ (w : Watched) (fifo : ℕ) (h : List Entry) (q : AtPort) (size : ℕ) (
   pub whole : Leads up.on.mid first (calls_of w.pass h) k
   whole = leads_on up.on.mid started (calls_of w.pass h) first (halves_of r) k
       (drives_lead up.on.mid started first (halves_of r)
-      (receiving_drives up.on.mid started first (halves_of r) up.on.plays refl))
+      (receiving_drives up.on.mid started first (halves_of r) up.on.plays.plays refl))
       x.life.since
 
   -- the history in two parts, of which the first ends there

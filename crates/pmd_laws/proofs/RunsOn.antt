@@ -10,7 +10,7 @@ use Rattle.pmd.specs.declared.driver.Rings.TheVariants.{Up, Down}
 use Rattle.pmd_base.specs.declared.fault.PmdFault.{PmdFault}
 use Rattle.pmd_base.specs.declared.fault.PmdFault.TheVariants.{BadSize}
 use Rattle.pmd.specs.Halves.{halves_of}
-use Rattle.pmd.proofs.Living.{drives_none}
+use Rattle.pmd.proofs.Calls.{drives_none}
 use Rattle.driver_laws.specs.Beside.{Leads}
 use Rattle.driver_laws.proofs.Beside.{drives_lead, harmless_lead, leads_on}
 use Rattle.pmd_laws.specs.Told.{AllFollow, Follows, Drove, Keeps, Moment, last}
@@ -32,7 +32,7 @@ up_next P (Down x) b r is holds = cc
 drove : (m n : Moment) (r : Running) → m.driver.rings ≡ Up r → Drove m n → RunsOn m r n
 drove m n r is x =
     let (s, up, goes) = up_next _ m.driver.rings n.driver.rings r is x in
-    record { rings = s; up = up; goes = drives_lead m.made n.made (halves_of r) (halves_of s) goes }
+    record { rings = s; up = up; goes = drives_lead m.made n.made (halves_of r) (halves_of s) goes.apart.drives }
 
 kept : (m n : Moment) (r : Running) → m.driver.rings ≡ Up r → Keeps m n → RunsOn m r n
 kept m n r is (a, same, added) = record {

@@ -1,4 +1,5 @@
 pub mod Closing
+pub mod Earlier
 pub mod Failing
 pub mod Filling
 pub mod Fresh

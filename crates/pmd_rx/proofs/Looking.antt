@@ -3,9 +3,10 @@ use Rattle.std.proofs.Common.{◌≡◌, ℕ, ◌<◌, List, length, Some, None,
 use Rattle.std.specs.Prelude.{IsFalse}
 use Rattle.nic_device.specs.declared.event.Event.TheVariants as event
 use Rattle.nic_device.specs.declared.event.Reply.TheVariants as reply
+use Rattle.dma_arena.specs.Numbers.{Numbers}
 use Rattle.device_lock.specs.declared.entry.Call.{Call}
 use Rattle.pmd_base.specs.Accesses.{IsPeeked}
-use Rattle.pmd_rx.specs.Plays.{Plays}
+use Rattle.pmd_rx.specs.Plays.{PlaysFrom}
 use Rattle.pmd_rx.specs.Receive.{Receive, Stage, Looks, Sees, Holding, Lent, Named, IsOwn, looked, descriptor_at}
 use Rattle.pmd_rx.specs.Shown.{CanLook}
 use Rattle.pmd_rx.specs.Wrong.{is_whole, EndsWrong}
@@ -21,33 +22,36 @@ look_own v (Holding p) is can some = absurd can
 look_own v (Lent o b) is can some = absurd can
 look_own v (Named o b) is can some = absurd can
 
-module _ (old new : List Call) (v : Receive) (can : CanLook v.stage) (some : 0 < length v.layout.blocks) where
+module _ (arena : Numbers) (old new : List Call) (v : Receive) (can : CanLook v.stage)
+    (some : 0 < length v.layout.blocks) where
   pub look_plays : (w : Receive) (d : List ℕ) → IsPeeked old new (descriptor_at v.layout 0) (Some d) → w ≡ looked v d
-      → Plays old v new w
+      → PlaysFrom arena old v new w
   look_plays w d adds saw =
-      subst (Plays old v new) (sym saw)
-      (plays_adds old new v (event.Peek16 (descriptor_at v.layout 0)) (reply.Bytes d)
-      (look_own v v.stage refl can some) adds)
+      subst (PlaysFrom arena old v new) (sym saw)
+      (plays_adds arena old new v (event.Peek16 (descriptor_at v.layout 0)) (reply.Bytes d)
+      (look_own v v.stage refl can some) tt adds)
 
-  pub look_misses : IsPeeked old new (descriptor_at v.layout 0) None → Plays old v new v
+  pub look_misses : IsPeeked old new (descriptor_at v.layout 0) None → PlaysFrom arena old v new v
   look_misses (inl adds) =
-      plays_adds old new v (event.Peek16 (descriptor_at v.layout 0)) reply.NotLent
-      (look_own v v.stage refl can some) adds
+      plays_adds arena old new v (event.Peek16 (descriptor_at v.layout 0)) reply.NotLent
+      (look_own v v.stage refl can some) tt adds
   look_misses (inr adds) =
-      plays_adds old new v (event.Peek16 (descriptor_at v.layout 0)) reply.Misaligned (look_own v v.stage refl can some)
-      adds
+      plays_adds arena old new v (event.Peek16 (descriptor_at v.layout 0)) reply.Misaligned
+      (look_own v v.stage refl can some)
+      tt adds
 
   pub look_wrong : (w : Receive) (d : List ℕ) → IsPeeked old new (descriptor_at v.layout 0) (Some d)
-      → IsFalse (is_whole d) × (w ≡ v) → EndsWrong old v new w
+      → IsFalse (is_whole d) × (w ≡ v) → EndsWrong arena old v new w
   look_wrong w d adds (bad, same) =
-      subst (EndsWrong old v new) (sym same)
-      (wrong_here old new v (event.Peek16 (descriptor_at v.layout 0)) (reply.Bytes d)
-      (look_own v v.stage refl can some) adds bad)
+      subst (EndsWrong arena old v new) (sym same)
+      (wrong_here arena old new v (event.Peek16 (descriptor_at v.layout 0)) (reply.Bytes d)
+      (look_own v v.stage refl can some) tt adds bad)
 
-  pub look_wrong_none : IsPeeked old new (descriptor_at v.layout 0) None → EndsWrong old v new v
+  pub look_wrong_none : IsPeeked old new (descriptor_at v.layout 0) None → EndsWrong arena old v new v
   look_wrong_none (inl adds) =
-      wrong_here old new v (event.Peek16 (descriptor_at v.layout 0)) reply.NotLent (look_own v v.stage refl can some)
-      adds refl
+      wrong_here arena old new v (event.Peek16 (descriptor_at v.layout 0)) reply.NotLent
+      (look_own v v.stage refl can some)
+      tt adds refl
   look_wrong_none (inr adds) =
-      wrong_here old new v (event.Peek16 (descriptor_at v.layout 0)) reply.Misaligned
-      (look_own v v.stage refl can some) adds refl
+      wrong_here arena old new v (event.Peek16 (descriptor_at v.layout 0)) reply.Misaligned
+      (look_own v v.stage refl can some) tt adds refl

@@ -1,13 +1,14 @@
 -- Taking a packet's block, and posting a fresh one.
 use Rattle.std.proofs.Common.{◌≡◌, ℕ, ◌+◌, true, false, List, Option, Some, None, Result, Ok, Err, IfErr, OnOk, OnErr, refl, sym, subst, inl, inr}
 use Rattle.dma_arena.specs.Block.{Block}
+use Rattle.dma_arena.specs.Numbers.{Numbers, is_free}
 use Rattle.nic_device.specs.declared.event.Event.TheVariants as event
 use Rattle.nic_device.specs.declared.event.Reply.TheVariants as reply
 use Rattle.device_lock.specs.declared.entry.Call.{Call}
 use Rattle.pmd_base.specs.Accesses.{IsTaken, IsLent, IsPoked}
 use Rattle.pmd_base.specs.declared.fault.PmdFault.{PmdFault}
 use Rattle.pmd_base.specs.declared.fault.PmdFault.TheVariants as fault
-use Rattle.pmd_rx.specs.Plays.{Plays}
+use Rattle.pmd_rx.specs.Plays.{PlaysFrom}
 use Rattle.pmd_rx.specs.Receive.{Receive, Layout, Stage, Looks, Sees, Holding, Lent, Named, TakesNext, LendsNext, NamesNext, MovesNext, MayLend, took, lent_one, named, moved, naming, fresh_of, slot_at, block_at, vacant, descriptor_at}
 use Rattle.pmd_rx.specs.Shown.{HasSeen, CanLend, HasLent, HasNamed, IsTailWritten, IsUnwritten}
 use Rattle.pmd_rx.specs.Wrong.{EndsWrong, IsFault}
@@ -46,74 +47,85 @@ move_own l (Holding p) done = absurd done
 move_own l (Lent o b) done = absurd done
 move_own l (Named o b) done = (refl, refl, refl)
 
-module _ (old new : List Call) (v : Receive) where
+module _ (arena : Numbers) (old new : List Call) (v : Receive) where
   pub take_plays : (w : Receive) (n : ℕ) (b : Block) → HasSeen v.stage → n ≡ block_at v.layout 0
-      → IsTaken old new n (Some b) → w ≡ took v v.stage b → Plays old v new w
+      → IsTaken old new n (Some b) → w ≡ took v v.stage b → PlaysFrom arena old v new w
   take_plays w n b seen is made took =
-      subst (Plays old v new) (sym took)
-      (plays_adds old new v (event.Take n) (reply.Buf b) (take_own v.layout v.stage n seen is) made)
+      subst (PlaysFrom arena old v new) (sym took)
+      (plays_adds arena old new v (event.Take n) (reply.Buf b) (take_own v.layout v.stage n seen is) tt made)
 
-  pub take_misses : (n : ℕ) → HasSeen v.stage → n ≡ block_at v.layout 0 → IsTaken old new n None → Plays old v new v
-  take_misses n seen is made = plays_adds old new v (event.Take n) reply.NotLent
-      (take_own v.layout v.stage n seen is) made
+  pub take_misses : (n : ℕ) → HasSeen v.stage → n ≡ block_at v.layout 0 → IsTaken old new n None
+      → PlaysFrom arena old v new v
+  take_misses n seen is made = plays_adds arena old new v (event.Take n) reply.NotLent
+      (take_own v.layout v.stage n seen is) tt made
 
-  pub lend_plays : (w : Receive) (b : Block) → CanLend v.stage → MayLend v.layout b → IsLent old new b None
-      → w ≡ lent_one v v.stage b.number → Plays old v new w
-  lend_plays w b can may made lent =
-      subst (Plays old v new) (sym lent)
-      (plays_adds old new v (event.Lend b) reply.Done (lend_own v.layout v.stage b can may) made)
+  pub lend_plays : (w : Receive) (b : Block) → CanLend v.stage → MayLend v.layout b → is_free arena b.number ≡ true
+      → IsLent old new b None
+      → w ≡ lent_one v v.stage b.number → PlaysFrom arena old v new w
+  lend_plays w b can may free made lent =
+      subst (PlaysFrom arena old v new) (sym lent)
+      (plays_adds arena old new v (event.Lend b) reply.Done (lend_own v.layout v.stage b can may) free made)
 
-  pub lend_misses : (b back : Block) → CanLend v.stage → MayLend v.layout b → IsLent old new b (Some back)
-      → Plays old v new v
-  lend_misses b back can may made =
-      plays_adds old new v (event.Lend b) (reply.Twice back) (lend_own v.layout v.stage b can may) made
+  pub lend_misses : (b back : Block) → CanLend v.stage → MayLend v.layout b → is_free arena b.number ≡ true
+      → IsLent old new b (Some back)
+      → PlaysFrom arena old v new v
+  lend_misses b back can may free made =
+      plays_adds arena old new v (event.Lend b) (reply.Twice back) (lend_own v.layout v.stage b can may) free made
 
   pub name_plays : (w : Receive) (a : ℕ) (bytes : List ℕ) → HasLent v.stage
       → a ≡ descriptor_at v.layout (vacant v.layout)
-      → bytes ≡ naming (fresh_of v.stage) → IsPoked old new a bytes true → w ≡ named v v.stage → Plays old v new w
+      → bytes ≡ naming (fresh_of v.stage) → IsPoked old new a bytes true → w ≡ named v v.stage
+      → PlaysFrom arena old v new w
   name_plays w a bytes lent at is made named =
-      subst (Plays old v new) (sym named)
-      (plays_adds old new v (event.Poke16 a bytes) reply.Done (name_own v.layout v.stage a bytes lent at is) made)
+      subst (PlaysFrom arena old v new) (sym named)
+      (plays_adds arena old new v (event.Poke16 a bytes) reply.Done (name_own v.layout v.stage a bytes lent at is) tt
+      made)
 
   pub name_misses : (a : ℕ) (bytes : List ℕ) → HasLent v.stage → a ≡ descriptor_at v.layout (vacant v.layout)
-      → bytes ≡ naming (fresh_of v.stage) → IsPoked old new a bytes false → Plays old v new v
+      → bytes ≡ naming (fresh_of v.stage) → IsPoked old new a bytes false → PlaysFrom arena old v new v
   name_misses a bytes lent at is (inl made) =
-      plays_adds old new v (event.Poke16 a bytes) reply.NotLent (name_own v.layout v.stage a bytes lent at is) made
+      plays_adds arena old new v (event.Poke16 a bytes) reply.NotLent (name_own v.layout v.stage a bytes lent at is)
+      tt made
   name_misses a bytes lent at is (inr made) =
-      plays_adds old new v (event.Poke16 a bytes) reply.Misaligned (name_own v.layout v.stage a bytes lent at is) made
+      plays_adds arena old new v (event.Poke16 a bytes) reply.Misaligned
+      (name_own v.layout v.stage a bytes lent at is) tt made
 
-  pub take_wrong : (n : ℕ) → HasSeen v.stage → n ≡ block_at v.layout 0 → IsTaken old new n None → EndsWrong old v new v
+  pub take_wrong : (n : ℕ) → HasSeen v.stage → n ≡ block_at v.layout 0 → IsTaken old new n None
+      → EndsWrong arena old v new v
   take_wrong n seen is made =
-      wrong_here old new v (event.Take n) reply.NotLent (take_own v.layout v.stage n seen is) made refl
+      wrong_here arena old new v (event.Take n) reply.NotLent (take_own v.layout v.stage n seen is) tt made refl
 
-  pub lend_wrong : (b back : Block) → CanLend v.stage → MayLend v.layout b → IsLent old new b (Some back)
-      → EndsWrong old v new v
-  lend_wrong b back can may made =
-      wrong_here old new v (event.Lend b) (reply.Twice back) (lend_own v.layout v.stage b can may) made refl
+  pub lend_wrong : (b back : Block) → CanLend v.stage → MayLend v.layout b → is_free arena b.number ≡ true
+      → IsLent old new b (Some back)
+      → EndsWrong arena old v new v
+  lend_wrong b back can may free made =
+      wrong_here arena old new v (event.Lend b) (reply.Twice back) (lend_own v.layout v.stage b can may) free made refl
 
   pub name_wrong : (a : ℕ) (bytes : List ℕ) → HasLent v.stage → a ≡ descriptor_at v.layout (vacant v.layout)
-      → bytes ≡ naming (fresh_of v.stage) → IsPoked old new a bytes false → EndsWrong old v new v
+      → bytes ≡ naming (fresh_of v.stage) → IsPoked old new a bytes false → EndsWrong arena old v new v
   name_wrong a bytes lent at is (inl made) =
-      wrong_here old new v (event.Poke16 a bytes) reply.NotLent (name_own v.layout v.stage a bytes lent at is) made refl
+      wrong_here arena old new v (event.Poke16 a bytes) reply.NotLent (name_own v.layout v.stage a bytes lent at is)
+      tt made refl
   name_wrong a bytes lent at is (inr made) =
-      wrong_here old new v (event.Poke16 a bytes) reply.Misaligned (name_own v.layout v.stage a bytes lent at is) made
+      wrong_here arena old new v (event.Poke16 a bytes) reply.Misaligned
+      (name_own v.layout v.stage a bytes lent at is) tt made
       refl
 
   -- the tail isn't moved
-  unmoved_plays : (f : PmdFault) → HasNamed v.stage → IsUnwritten f old new v.layout → Plays old v new v
+  unmoved_plays : (f : PmdFault) → HasNamed v.stage → IsUnwritten f old new v.layout → PlaysFrom arena old v new v
   unmoved_plays fault.DeviceFault done (seen, adds) =
-      plays_adds old new v (event.Write v.layout.port v.layout.tail (slot_at v.layout (vacant v.layout + 1)))
-      (reply.Stray seen) (move_own v.layout v.stage done) adds
-  unmoved_plays (fault.Call refusal) done some = plays_some old new v some
+      plays_adds arena old new v (event.Write v.layout.port v.layout.tail (slot_at v.layout (vacant v.layout + 1)))
+      (reply.Stray seen) (move_own v.layout v.stage done) tt adds
+  unmoved_plays (fault.Call refusal) done some = plays_some arena old new v some
   unmoved_plays fault.BadSize done not = absurd not
   unmoved_plays fault.ForeignBlock done not = absurd not
   unmoved_plays fault.StartTimeout done not = absurd not
   unmoved_plays fault.NoBuffer done not = absurd not
 
-  unmoved_fault : (f : PmdFault) → HasNamed v.stage → IsUnwritten f old new v.layout → IsFault f old v new v
+  unmoved_fault : (f : PmdFault) → HasNamed v.stage → IsUnwritten f old new v.layout → IsFault f arena old v new v
   unmoved_fault fault.DeviceFault done (seen, adds) =
-      wrong_here old new v (event.Write v.layout.port v.layout.tail (slot_at v.layout (vacant v.layout + 1)))
-      (reply.Stray seen) (move_own v.layout v.stage done) adds refl
+      wrong_here arena old new v (event.Write v.layout.port v.layout.tail (slot_at v.layout (vacant v.layout + 1)))
+      (reply.Stray seen) (move_own v.layout v.stage done) tt adds refl
   unmoved_fault (fault.Call refusal) done some = tt
   unmoved_fault fault.BadSize done not = not
   unmoved_fault fault.ForeignBlock done not = not
@@ -122,16 +134,16 @@ module _ (old new : List Call) (v : Receive) where
 
   pub move_plays : (r : Result (Option Packet) PmdFault) (w : Receive) → HasNamed v.stage
       → OnOk r (IsTailWritten old new v.layout true) → OnOk r (w ≡ moved v v.stage) → OnErr r (w ≡ v)
-      → IfErr r (λ f. IsUnwritten f old new v.layout) → Plays old v new w
+      → IfErr r (λ f. IsUnwritten f old new v.layout) → PlaysFrom arena old v new w
   move_plays (Ok out) w done made is same failed =
-      subst (Plays old v new) (sym is)
-      (plays_adds old new v (event.Write v.layout.port v.layout.tail (slot_at v.layout (vacant v.layout + 1)))
-      reply.Done (move_own v.layout v.stage done) made)
+      subst (PlaysFrom arena old v new) (sym is)
+      (plays_adds arena old new v (event.Write v.layout.port v.layout.tail (slot_at v.layout (vacant v.layout + 1)))
+      reply.Done (move_own v.layout v.stage done) tt made)
   move_plays (Err f) w done made is same failed =
-      subst (Plays old v new) (sym same) (unmoved_plays f done failed)
+      subst (PlaysFrom arena old v new) (sym same) (unmoved_plays f done failed)
 
   pub move_fails : (r : Result (Option Packet) PmdFault) (w : Receive) → HasNamed v.stage → OnErr r (w ≡ v)
-      → IfErr r (λ f. IsUnwritten f old new v.layout) → IfErr r (λ f. IsFault f old v new w)
+      → IfErr r (λ f. IsUnwritten f old new v.layout) → IfErr r (λ f. IsFault f arena old v new w)
   move_fails (Ok out) w done same failed = tt
   move_fails (Err f) w done same failed =
-      subst (λ (x : Receive). IsFault f old v new x) (sym same) (unmoved_fault f done failed)
+      subst (λ (x : Receive). IsFault f arena old v new x) (sym same) (unmoved_fault f done failed)

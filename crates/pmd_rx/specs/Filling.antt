@@ -4,7 +4,7 @@ use Rattle.dma_arena.specs.Numbers.{Numbers}
 use Rattle.device_lock.specs.declared.entry.Call.{Call}
 use Rattle.pmd_base.specs.Home.{IsDrawn}
 use Rattle.pmd_base.specs.declared.fault.PmdFault.{PmdFault}
-use Rattle.pmd_rx.specs.Plays.{Plays}
+use Rattle.pmd_rx.specs.Plays.{Plays, AllLendFree}
 use Rattle.pmd_rx.specs.Receive.{Receive}
 use Rattle.pmd_rx.specs.Wrong.{FailsBy}
 
@@ -28,5 +28,6 @@ pub record StopsFilling (f : PmdFault) (old : List Call) (a : Numbers) (v : Rece
   pub arena : Numbers
   pub ring : Receive
   pub plays : Plays old v mid ring
+  pub free : AllLendFree a plays.0 plays.1
   pub posts : PostsSome count a v arena ring
   pub fails : FailsBy f mid arena ring new b w

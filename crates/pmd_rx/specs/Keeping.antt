@@ -1,5 +1,6 @@
 -- What the calls of the driver keep: its ring, the slots that are posted, and where each block is.
-use Rattle.std.specs.Prelude.{ℕ, ◌≡◌, ◌+◌, ◌<◌, true, false, List, [], ◌∷◌, ◌++◌, length, Option, Some, None, IsSome, ⊤, Result, Ok, Err}
+use Rattle.std.specs.Prelude.{ℕ, ◌≡◌, ◌==◌, ◌+◌, ◌<◌, Bool, true, false, List, [], ◌∷◌, ◌++◌, length, Option, Some, None, IsSome, ⊤, Result, Ok, Err}
+use Rattle.std.specs.List.{list_any}
 use Rattle.dma_arena.specs.Numbers.{Numbers, is_free, with_free}
 use Rattle.pmd_base.specs.Home.{Exchanges}
 use Rattle.pmd_base.specs.declared.fault.PmdFault.{PmdFault}
@@ -29,6 +30,10 @@ out_at l s = lent_at l s ++ block_in (held_by s)
 
 abbrev pub lent_of : Receive → List ℕ
 lent_of v = lent_at v.layout v.stage
+
+-- whether the driver has a block lent: it is the ring's, one of its slots', or a fresh one
+abbrev pub has_lent : Receive → ℕ → Bool
+has_lent v number = list_any (λ b. number == b) (lent_of v)
 
 abbrev pub blocks_out : Receive → List ℕ
 blocks_out v = out_at v.layout v.stage

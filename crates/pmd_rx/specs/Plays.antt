@@ -1,7 +1,10 @@
 -- How a driver follows from the calls that were made: some of them, which marks single out, are its own.
 use Rattle.std.specs.Prelude.{ℕ, ◌≡◌, ◌<◌, Bool, true, false, not, List, [], ◌∷◌, ◌++◌, length, IsFalse, ⊤, if◌then◌else◌}
+use Rattle.dma_arena.specs.Block.{Block}
+use Rattle.dma_arena.specs.Numbers.{Numbers, is_free}
 use Rattle.dma_ring.specs.Descriptor.{second_half}
 use Rattle.dma_ring.specs.Receive.{is_done}
+use Rattle.nic_device.specs.declared.event.Event.{Event}
 use Rattle.nic_device.specs.declared.event.Event.TheVariants as event
 use Rattle.nic_device.specs.declared.event.Reply.TheVariants as reply
 use Rattle.device_lock.specs.declared.entry.Call.{Call}
@@ -40,6 +43,22 @@ abbrev pub Plays : List Call → Receive → List Call → Receive → Type 0
 Plays old v new w =
     (marks : List Bool) × (since : List Call) × (new ≡ old ++ since) × AllOwn v marks since
     × (w ≡ played_by v marks since) × OthersStep marks since
+
+-- an event, where it is marked, lends none but a block that is free in an arena
+abbrev pub LendsFree : Numbers → Bool → Event Block → Type 0
+LendsFree a true (event.Lend b) = is_free a b.number ≡ true
+LendsFree a mark e = ⊤
+
+-- so does each call
+abbrev pub AllLendFree : Numbers → List Bool → List Call → Type 0
+AllLendFree a [] calls = ⊤
+AllLendFree a (m ∷ marks) [] = ⊤
+AllLendFree a (m ∷ marks) (n ∷ calls) = LendsFree a m n.event × AllLendFree a marks calls
+
+-- some calls were made so, and each block that the driver's own lend was free in an arena
+pub record PlaysFrom (a : Numbers) (old : List Call) (v : Receive) (new : List Call) (w : Receive) : Type 0 where
+  pub plays : Plays old v new w
+  pub free : AllLendFree a plays.0 plays.1
 
 -- behind steps of the device the driver's one own call was a look at the next slot, which isn't done. It holds no
 -- packet

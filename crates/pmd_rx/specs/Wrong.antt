@@ -12,7 +12,7 @@ use Rattle.device_lock.specs.declared.entry.Call.{Call}
 use Rattle.pmd_base.specs.Made.{Adds}
 use Rattle.pmd_base.specs.declared.fault.PmdFault.{PmdFault}
 use Rattle.pmd_base.specs.declared.fault.PmdFault.TheVariants as fault
-use Rattle.pmd_rx.specs.Plays.{Plays}
+use Rattle.pmd_rx.specs.Plays.{LendsFree, PlaysFrom}
 use Rattle.pmd_rx.specs.Receive.{Receive, Stage, Looks, Sees, Holding, Lent, Named, IsOwn}
 
 -- a descriptor that isn't done, or ends its packet: a packet ends where it begins
@@ -28,11 +28,12 @@ is_healthy (event.Poke16 address bytes) reply.Done = true
 is_healthy (event.Write port number word) reply.Done = true
 is_healthy e r = false
 
--- the last call was the driver's own, and its reply is none of these. It left the driver as it was
-abbrev pub EndsWrong : List Call → Receive → List Call → Receive → Type 0
-EndsWrong old v new w =
+-- the last call was the driver's own, and its reply is none of these. It left the driver as it was, and each block that
+-- was lent up to there, or was to be, was free in an arena
+abbrev pub EndsWrong : Numbers → List Call → Receive → List Call → Receive → Type 0
+EndsWrong a old v new w =
     (mid : List Call) × (e : Event Block) × (r : Reply Block)
-    × Plays old v mid w × IsOwn w e × Adds mid new e r × IsFalse (is_healthy e r)
+    × PlaysFrom a old v mid w × IsOwn w e × LendsFree a true e × Adds mid new e r × IsFalse (is_healthy e r)
 
 -- a packet waits: one was seen, or one is held and no block is lent in its place
 abbrev pub PacketWaits : Stage → Type 0
@@ -58,19 +59,20 @@ IsRefused fault.StartTimeout = ⊥
 IsRefused fault.NoBuffer = ⊥
 IsRefused fault.DeviceFault = ⊥
 
--- the device is at fault, or a call was refused, after these calls, which led from this driver to that
-abbrev pub IsFault : PmdFault → List Call → Receive → List Call → Receive → Type 0
-IsFault fault.DeviceFault old v new w = EndsWrong old v new w
-IsFault (fault.Call refusal) old v new w = ⊤
-IsFault fault.BadSize old v new w = ⊥
-IsFault fault.ForeignBlock old v new w = ⊥
-IsFault fault.StartTimeout old v new w = ⊥
-IsFault fault.NoBuffer old v new w = ⊥
+-- the device is at fault, or a call was refused, after these calls, which led from this driver to that, with an arena
+-- beside
+abbrev pub IsFault : PmdFault → Numbers → List Call → Receive → List Call → Receive → Type 0
+IsFault fault.DeviceFault a old v new w = EndsWrong a old v new w
+IsFault (fault.Call refusal) a old v new w = ⊤
+IsFault fault.BadSize a old v new w = ⊥
+IsFault fault.ForeignBlock a old v new w = ⊥
+IsFault fault.StartTimeout a old v new w = ⊥
+IsFault fault.NoBuffer a old v new w = ⊥
 
 -- the same, with the arena before and after, which may have no free block
 abbrev pub FailsBy : PmdFault → List Call → Numbers → Receive → List Call → Numbers → Receive → Type 0
 FailsBy fault.NoBuffer old a v new b w = IsShort a v b w
-FailsBy fault.DeviceFault old a v new b w = EndsWrong old v new w
+FailsBy fault.DeviceFault old a v new b w = EndsWrong a old v new w
 FailsBy (fault.Call refusal) old a v new b w = ⊤
 FailsBy fault.BadSize old a v new b w = ⊥
 FailsBy fault.ForeignBlock old a v new b w = ⊥

@@ -6,7 +6,7 @@ ghost use Rattle.pmd_base.specs.Home.{AreOut};
 ghost use Rattle.pmd_base.specs.Packet.{kept_of};
 ghost use Rattle.pmd_rx.specs.Filling.{Fills, StopsFilling};
 ghost use Rattle.pmd_rx.specs.Keeping.{Keeps, IsRunning, Posts, blocks_out, handed_block};
-ghost use Rattle.pmd_rx.specs.Plays.{Plays, LooksOnce};
+ghost use Rattle.pmd_rx.specs.Plays.{PlaysFrom, LooksOnce};
 ghost use Rattle.pmd_rx.specs.Receive.{Looks, fresh_of, held_by, refilled};
 ghost use Rattle.pmd_rx.specs.Shown.{CanLook, HasSeen, IsHolding, CanLend, HasLent, HasNamed};
 ghost use Rattle.pmd_rx.specs.Wrong.{FailsBy, IsFault, PacketWaits};
@@ -25,11 +25,12 @@ impl ReceiveRing {
         nic: &mut N,
     ) -> Result<Option<Packet>, PmdFault>
         requires { HasLent self.old.stage }
-        ensures plays { Plays (N.made nic.old) self.old (N.made nic.new) self.new }
+        ensures plays { (a : Numbers) → PlaysFrom a (N.made nic.old) self.old (N.made nic.new) self.new }
         ensures moved { OnOk result (self.new ≡ refilled self.old (fresh_of self.old.stage)) }
         ensures out { IfOk result (λ out. out ≡ held_by self.old.stage) }
         ensures kept { OnErr result (self.new.handed ≡ self.old.handed) }
-        ensures fault { IfErr result (λ f. IsFault f (N.made nic.old) self.old (N.made nic.new) self.new) }
+        ensures fault { (a : Numbers) → IfErr result (λ f.
+            IsFault f a (N.made nic.old) self.old (N.made nic.new) self.new) }
         ensures keeps { (a : Numbers) → Keeps a self.old a self.new (handed_block result) }
         ensures who { N.who nic.new ≡ N.who nic.old }
     {
@@ -51,7 +52,7 @@ impl ReceiveRing {
         requires stage { CanLend self.old.stage }
         requires room { length self.old.layout.blocks + 1 < self.old.layout.size }
         requires home { AreOut arena.old (blocks_out self.old) }
-        ensures plays { Plays (N.made nic.old) self.old (N.made nic.new) self.new }
+        ensures plays { PlaysFrom arena.old (N.made nic.old) self.old (N.made nic.new) self.new }
         ensures moved { OnOk result ((n : ℕ) × (is_free arena.old n ≡ true)
             × (arena.new ≡ with_free arena.old n false) × (self.new ≡ refilled self.old n)) }
         ensures out { IfOk result (λ out. out ≡ held_by self.old.stage) }
@@ -88,7 +89,7 @@ impl ReceiveRing {
     ) -> Result<bool, PmdFault>
         requires some { 0 < length self.old.layout.blocks }
         requires stage { CanLook self.old.stage }
-        ensures plays { Plays (N.made nic.old) self.old (N.made nic.new) self.new }
+        ensures plays { (a : Numbers) → PlaysFrom a (N.made nic.old) self.old (N.made nic.new) self.new }
         ensures none { result ≡ Ok false → LooksOnce (N.made nic.old) self.old (N.made nic.new) self.new }
         ensures taken { result ≡ Ok true → IsHolding self.new.stage }
         ensures free { result ≡ Ok true → 0 < free_count arena.now }
@@ -116,7 +117,7 @@ impl ReceiveRing {
     ) -> Result<bool, PmdFault>
         requires some { 0 < length self.old.layout.blocks }
         requires stage { HasSeen self.old.stage }
-        ensures plays { Plays (N.made nic.old) self.old (N.made nic.new) self.new }
+        ensures plays { (a : Numbers) → PlaysFrom a (N.made nic.old) self.old (N.made nic.new) self.new }
         ensures taken { OnOk result (IsHolding self.new.stage) }
         ensures free { OnOk result (0 < free_count arena.now) }
         ensures yes { IfOk result (λ taken. taken ≡ true) }
@@ -151,7 +152,7 @@ impl ReceiveRing {
         requires stage { self.old.stage ≡ Looks }
         requires room { length self.old.layout.blocks + 1 < self.old.layout.size }
         requires home { AreOut arena.old (blocks_out self.old) }
-        ensures plays { Plays (N.made nic.old) self.old (N.made nic.new) self.new }
+        ensures plays { PlaysFrom arena.old (N.made nic.old) self.old (N.made nic.new) self.new }
         ensures posted { OnOk result (Posts arena.old self.old arena.new self.new) }
         ensures handed { self.new.handed ≡ self.old.handed }
         ensures fails { IfErr result (λ f.
@@ -179,7 +180,7 @@ impl ReceiveRing {
         requires empty { self.old.layout.blocks ≡ [] }
         requires stage { self.old.stage ≡ Looks }
         requires home { AreOut arena.old (blocks_out self.old) }
-        ensures plays { Plays (N.made nic.old) self.old (N.made nic.new) self.new }
+        ensures plays { PlaysFrom arena.old (N.made nic.old) self.old (N.made nic.new) self.new }
         ensures filled { OnOk result (Fills arena.old self.old arena.new self.new) }
         ensures running { OnOk result (IsRunning self.new) }
         ensures handed { self.new.handed ≡ self.old.handed }
@@ -221,7 +222,7 @@ impl ReceiveRing {
     ) -> Result<Option<Packet>, PmdFault>
         requires running { IsRunning self.old }
         requires home { AreOut arena.old (blocks_out self.old) }
-        ensures plays { Plays (N.made nic.old) self.old (N.made nic.new) self.new }
+        ensures plays { PlaysFrom arena.old (N.made nic.old) self.old (N.made nic.new) self.new }
         ensures some { IfOk result (λ out. IfSome out (λ packet.
             self.new.handed ≡ self.old.handed ++ kept_of packet ∷ [])) }
         ensures none { IfOk result (λ out. IfNone out (
@@ -251,7 +252,7 @@ impl ReceiveRing {
         requires stage { CanLook self.old.stage }
         requires running { IsRunning self.old }
         requires home { AreOut arena.old (blocks_out self.old) }
-        ensures plays { Plays (N.made nic.old) self.old (N.made nic.new) self.new }
+        ensures plays { PlaysFrom arena.old (N.made nic.old) self.old (N.made nic.new) self.new }
         ensures some { IfOk result (λ out. IfSome out (λ packet.
             self.new.handed ≡ self.old.handed ++ kept_of packet ∷ [])) }
         ensures none { IfOk result (λ out. IfNone out (

@@ -2,10 +2,10 @@
 
 ghost use Rattle.std.specs.Prelude.{◌≡◌, ◌<◌, ◌≤◌, ◌+◌, ◌++◌, length, IsFalse, Ok, true, false, IfOk, IfErr, OnOk, OnErr, [], vec_len};
 ghost use Rattle.std.specs.Vec.{vec_capacity};
-ghost use Rattle.dma_arena.specs.Numbers.{Numbers};
+ghost use Rattle.dma_arena.specs.Numbers.{Numbers, is_free};
 ghost use Rattle.dma_ring.specs.Descriptor.{second_half};
 ghost use Rattle.dma_ring.specs.Receive.{is_done};
-ghost use Rattle.pmd_rx.specs.Plays.{Plays, LooksOnce};
+ghost use Rattle.pmd_rx.specs.Plays.{PlaysFrom, LooksOnce};
 ghost use Rattle.pmd_rx.specs.Receive.{looked, took, lent_one, named, moved, descriptor_at, slot_at, block_at, vacant, naming, fresh_of, held_by, listed, MayLend};
 ghost use Rattle.pmd_rx.specs.Wrong.{EndsWrong, IsFault, IsRefused, is_whole};
 ghost use Rattle.pmd_rx.specs.Keeping.{Keeps, handed_block};
@@ -67,10 +67,11 @@ impl ReceiveRing {
     pub(crate) fn look<N: Nic>(&mut self, alloc: Global, nic: &mut N) -> Result<Look, PmdFault>
         requires some { 0 < length self.old.layout.blocks }
         requires stage { CanLook self.old.stage }
-        ensures plays { Plays (N.made nic.old) self.old (N.made nic.new) self.new }
+        ensures plays { (a : Numbers) → PlaysFrom a (N.made nic.old) self.old (N.made nic.new) self.new }
         ensures nothing { result ≡ Ok Look.Nothing → LooksOnce (N.made nic.old) self.old (N.made nic.new) self.new }
         ensures packet { result ≡ Ok Look.Packet → HasSeen self.new.stage }
-        ensures wrong { result ≡ Ok Look.Wrong → EndsWrong (N.made nic.old) self.old (N.made nic.new) self.new }
+        ensures wrong { result ≡ Ok Look.Wrong
+            → (a : Numbers) → EndsWrong a (N.made nic.old) self.old (N.made nic.new) self.new }
         ensures refused { IfErr result (λ fault. IsRefused fault) }
         ensures kept { (self.new.layout ≡ self.old.layout) × (self.new.handed ≡ self.old.handed) }
         ensures keeps { (a : Numbers) → Keeps a self.old a self.new [] }
@@ -90,11 +91,12 @@ impl ReceiveRing {
     pub(crate) fn take_packet<N: Nic>(&mut self, alloc: Global, nic: &mut N) -> Result<(), PmdFault>
         requires some { 0 < length self.old.layout.blocks }
         requires stage { HasSeen self.old.stage }
-        ensures plays { Plays (N.made nic.old) self.old (N.made nic.new) self.new }
+        ensures plays { (a : Numbers) → PlaysFrom a (N.made nic.old) self.old (N.made nic.new) self.new }
         ensures handed { self.new.handed ≡ self.old.handed }
         ensures holds { OnOk result (IsHolding self.new.stage) }
         ensures kept { OnErr result (self.new ≡ self.old) }
-        ensures fault { IfErr result (λ f. IsFault f (N.made nic.old) self.old (N.made nic.new) self.new) }
+        ensures fault { (a : Numbers) → IfErr result (λ f.
+            IsFault f a (N.made nic.old) self.old (N.made nic.new) self.new) }
         ensures keeps { (a : Numbers) → Keeps a self.old a self.new [] }
         ensures who { N.who nic.new ≡ N.who nic.old }
     {
@@ -159,12 +161,13 @@ impl ReceiveRing {
     ) -> Result<(), (PmdFault, Buf)>
         requires stage { CanLend self.old.stage }
         requires fresh { MayLend self.old.layout buf }
-        ensures plays { Plays (N.made nic.old) self.old (N.made nic.new) self.new }
+        ensures plays { (a : Numbers) → is_free a buf.number ≡ true
+            → PlaysFrom a (N.made nic.old) self.old (N.made nic.new) self.new }
         ensures lent { OnOk result (self.new ≡ lent_one self.old self.old.stage buf.number) }
         ensures kept { OnErr result (self.new ≡ self.old) }
         ensures back { IfErr result (λ refused. refused.1.number ≡ buf.number) }
-        ensures fault { IfErr result (λ refused.
-            IsFault refused.0 (N.made nic.old) self.old (N.made nic.new) self.new) }
+        ensures fault { (a : Numbers) → is_free a buf.number ≡ true → IfErr result (λ refused.
+            IsFault refused.0 a (N.made nic.old) self.old (N.made nic.new) self.new) }
         ensures who { N.who nic.new ≡ N.who nic.old }
     {
         let block = buf.block();
@@ -193,10 +196,11 @@ impl ReceiveRing {
     /// `DeviceFault` where the ring isn't lent any more.
     pub(crate) fn name_fresh<N: Nic>(&mut self, alloc: Global, nic: &mut N) -> Result<(), PmdFault>
         requires { HasLent self.old.stage }
-        ensures plays { Plays (N.made nic.old) self.old (N.made nic.new) self.new }
+        ensures plays { (a : Numbers) → PlaysFrom a (N.made nic.old) self.old (N.made nic.new) self.new }
         ensures named { OnOk result (self.new ≡ named self.old self.old.stage) }
         ensures kept { OnErr result (self.new ≡ self.old) }
-        ensures fault { IfErr result (λ f. IsFault f (N.made nic.old) self.old (N.made nic.new) self.new) }
+        ensures fault { (a : Numbers) → IfErr result (λ f.
+            IsFault f a (N.made nic.old) self.old (N.made nic.new) self.new) }
         ensures who { N.who nic.new ≡ N.who nic.old }
     {
         let address = self.vacant_descriptor();
@@ -250,11 +254,12 @@ impl ReceiveRing {
         nic: &mut N,
     ) -> Result<Option<Packet>, PmdFault>
         requires { HasNamed self.old.stage }
-        ensures plays { Plays (N.made nic.old) self.old (N.made nic.new) self.new }
+        ensures plays { (a : Numbers) → PlaysFrom a (N.made nic.old) self.old (N.made nic.new) self.new }
         ensures moved { OnOk result (self.new ≡ moved self.old self.old.stage) }
         ensures out { IfOk result (λ out. out ≡ held_by self.old.stage) }
         ensures kept { OnErr result (self.new ≡ self.old) }
-        ensures fault { IfErr result (λ f. IsFault f (N.made nic.old) self.old (N.made nic.new) self.new) }
+        ensures fault { (a : Numbers) → IfErr result (λ f.
+            IsFault f a (N.made nic.old) self.old (N.made nic.new) self.new) }
         ensures keeps { (a : Numbers) → Keeps a self.old a self.new (handed_block result) }
         ensures who { N.who nic.new ≡ N.who nic.old }
     {

@@ -1,17 +1,17 @@
 -- What a call tells of its end it tells of what was made before it too.
-use Rattle.std.proofs.Common.{◌≡◌, false, List, Result, Ok, Err, IfErr, IfOk, ◌∙◌}
+use Rattle.std.proofs.Common.{◌≡◌, ℕ, false, List, Result, Ok, Err, IfErr, IfOk, ◌∙◌}
 use Rattle.device_lock.specs.declared.entry.Call.{Call}
 use Rattle.pmd_base.specs.declared.fault.PmdFault.{PmdFault}
 use Rattle.pmd_base.specs.declared.fault.PmdFault.TheVariants.{DeviceFault}
 use Rattle.pmd_tx.specs.declared.answer.Reaped.{Reaped}
-use Rattle.pmd_tx.specs.Plays.{Plays, FaultsBy, LooksLast}
+use Rattle.pmd_tx.specs.Plays.{Plays, PlaysWith, FaultsBy, LooksLast}
 use Rattle.pmd_tx.specs.Sending.{Sender}
-use Rattle.pmd_tx.proofs.Playing.{plays_both, faults_after}
+use Rattle.pmd_tx.proofs.Playing.{all_both, faults_after}
 
-pub by_after : (fault : PmdFault) (a b d : List Call) (v w : Sender) → Plays a v b w → FaultsBy fault b w d
-    → FaultsBy fault a v d
-by_after DeviceFault a b d v w plays f = faults_after a b d v w plays f
-by_after other a b d v w plays f = tt
+pub by_after : (fault : PmdFault) (block : ℕ) (a b d : List Call) (v w : Sender) → PlaysWith block a v b w
+    → FaultsBy fault block b w d → FaultsBy fault block a v d
+by_after DeviceFault block a b d v w plays f = faults_after block a b d v w plays f
+by_after other block a b d v w plays f = tt
 
 pub looks_after : (a b d : List Call) (v w x : Sender) → Plays a v b w → w.accepted ≡ v.accepted → LooksLast b w d x
     → LooksLast a v d x
@@ -19,7 +19,7 @@ looks_after a b d v w x plays same l = record {
   mid = l.mid;
   before = l.before;
   bytes = l.bytes;
-  plays = plays_both a b l.mid v w l.before plays l.plays;
+  plays = all_both a b l.mid v w l.before plays l.plays;
   looks = l.looks;
   waits = l.waits;
   posted = l.posted;
@@ -28,10 +28,11 @@ looks_after a b d v w x plays same l = record {
 }
 
 -- the same of a result
-pub after_all : {R E : Type 0} → (which : E → PmdFault) (r : Result R E) (a b d : List Call) (v w : Sender)
-    → Plays a v b w → IfErr r (λ e. FaultsBy (which e) b w d) → IfErr r (λ e. FaultsBy (which e) a v d)
-after_all which (Ok x) a b d v w plays f = tt
-after_all which (Err e) a b d v w plays f = by_after (which e) a b d v w plays f
+pub after_all : {R E : Type 0} → (which : E → PmdFault) (r : Result R E) (block : ℕ) (a b d : List Call) (v w : Sender)
+    → PlaysWith block a v b w → IfErr r (λ e. FaultsBy (which e) block b w d)
+    → IfErr r (λ e. FaultsBy (which e) block a v d)
+after_all which (Ok x) block a b d v w plays f = tt
+after_all which (Err e) block a b d v w plays f = by_after (which e) block a b d v w plays f
 
 pub waits_after : {E : Type 0} → (r : Result Reaped E) (a b d : List Call) (v w x : Sender) → Plays a v b w
     → w.accepted ≡ v.accepted → IfOk r (λ done. done.idle ≡ false → LooksLast b w d x)

@@ -9,7 +9,7 @@ use Rattle.pmd_base.specs.Accesses.{IsLent}
 use Rattle.pmd_base.specs.declared.fault.PmdFault.{PmdFault}
 use Rattle.pmd_base.specs.declared.fault.PmdFault.TheVariants as fault
 use Rattle.pmd_base.specs.declared.packet.Packet.{Packet}
-use Rattle.pmd_tx.specs.Plays.{Plays, FaultsBy}
+use Rattle.pmd_tx.specs.Plays.{PlaysWith, FaultsBy}
 use Rattle.pmd_tx.specs.Sending.{Sender, Accepts, MayAccept, accepted_by}
 use Rattle.pmd_tx.specs.Sends.{IsLate, IsBack}
 use Rattle.pmd_tx.specs.Shown.{MayLend, sent_as, IsUnlent}
@@ -36,25 +36,28 @@ module _ (old new : List Call) (v : Sender) where
   -- lending a packet's block
 
   module _ (p : Packet) (may : MayLend v p) (block : IsBlock p.buf) where
-    unlent : (f : PmdFault) (back : Packet) → IsUnlent f old new p back → Plays old v new v
+    unlent : (f : PmdFault) (back : Packet) → IsUnlent f old new p back → PlaysWith p.buf.number old v new v
     unlent fault.DeviceFault back (made, number) =
-        plays_adds old new v (Accepts (sent_as p)) refl (event.Lend p.buf) (reply.Twice back.buf)
-        (may_accept v p may block) made
-    unlent (fault.Call f) back (some, same) = plays_some old new v some
+        plays_adds p.buf.number old new v (Accepts (sent_as p)) refl (event.Lend p.buf) (reply.Twice back.buf)
+        (may_accept v p may block) refl made
+    unlent (fault.Call f) back (some, same) = plays_some p.buf.number old new v some
     unlent other back failed = absurd failed
 
     pub lend_plays : {R : Type 0} → (r : Result R (PmdFault × Packet)) (w : Sender)
         → OnOk r (IsLent old new p.buf None) → OnOk r (w ≡ accepted_by v (sent_as p)) → OnErr r (w ≡ v)
-        → IfErr r (λ x. IsUnlent x.0 old new p x.1) → Plays old v new w
+        → IfErr r (λ x. IsUnlent x.0 old new p x.1) → PlaysWith p.buf.number old v new w
     lend_plays (Ok x) w made is same failed =
-        subst (Plays old v new) (sym is)
-        (plays_adds old new v (Accepts (sent_as p)) refl (event.Lend p.buf) reply.Done (may_accept v p may block) made)
-    lend_plays (Err (f, back)) w made is same failed = subst (Plays old v new) (sym same) (unlent f back failed)
+        subst (PlaysWith p.buf.number old v new) (sym is)
+        (plays_adds p.buf.number old new v (Accepts (sent_as p)) refl (event.Lend p.buf) reply.Done
+        (may_accept v p may block) refl made)
+    lend_plays (Err (f, back)) w made is same failed =
+        subst (PlaysWith p.buf.number old v new) (sym same) (unlent f back failed)
 
-    pub lend_faults : (f : PmdFault) (back : Packet) → IsUnlent f old new p back → FaultsBy f old v new
+    pub lend_faults : (f : PmdFault) (back : Packet) → IsUnlent f old new p back → FaultsBy f p.buf.number old v new
     lend_faults fault.DeviceFault back (made, number) =
-        faults_at old new v (Accepts (sent_as p)) (event.Lend p.buf) (reply.Twice back.buf) (may_accept v p may block)
-        made refl
+        faults_at p.buf.number old new v (Accepts (sent_as p)) (event.Lend p.buf) (reply.Twice back.buf)
+        (may_accept v p may block)
+        refl made refl
     lend_faults other back failed = tt
 
   pub unlent_late : (p : Packet) (f : PmdFault) (back : Packet) → IsUnlent f old new p back → IsLate f
@@ -81,6 +84,6 @@ module _ (old new : List Call) (v : Sender) where
     back_of (Err (f, back)) failed = unlent_back p f back failed
 
     pub faults_of : (r : Result R (PmdFault × Packet)) → MayLend v p → IsBlock p.buf
-        → IfErr r (λ x. IsUnlent x.0 old new p x.1) → IfErr r (λ x. FaultsBy x.0 old v new)
+        → IfErr r (λ x. IsUnlent x.0 old new p x.1) → IfErr r (λ x. FaultsBy x.0 p.buf.number old v new)
     faults_of (Ok x) may block failed = tt
     faults_of (Err (f, back)) may block failed = lend_faults p may block f back failed

@@ -4,7 +4,7 @@ use Rattle.std.proofs.lemmas.List.{length-drop}
 use Rattle.dma_arena.specs.Numbers.{Numbers}
 use Rattle.device_lock.specs.declared.entry.Call.{Call}
 use Rattle.pmd_base.specs.Home.{AreOut}
-use Rattle.pmd_tx.specs.Plays.{Plays}
+use Rattle.pmd_tx.specs.Plays.{PlaysWith}
 use Rattle.pmd_tx.specs.Sending.{Sender, Layout, blocks_of}
 use Rattle.pmd_tx.specs.Sends.{Frees}
 use Rattle.pmd_tx.proofs.Freeing.{frees_none, frees_both}
@@ -13,7 +13,7 @@ use Rattle.pmd_tx.proofs.Playing.{plays_none, plays_both}
 -- from one state to another, with so many packets reaped
 pub record HasReaped (old : List Call) (v : Sender) (a : Numbers) (new : List Call) (w : Sender) (b : Numbers)
     (freed : ℕ) : Type 0 where
-  pub plays : Plays old v new w
+  pub plays : (block : ℕ) → PlaysWith block old v new w
   pub settled : w.posted ≡ length w.outstanding
   pub frees : Frees v w a b freed
   pub out : AreOut b (blocks_of w.outstanding)
@@ -23,7 +23,7 @@ pub record HasReaped (old : List Call) (v : Sender) (a : Numbers) (new : List Ca
 pub reaped_none : (old : List Call) (v : Sender) (a : Numbers) → v.posted ≡ length v.outstanding
     → AreOut a (blocks_of v.outstanding) → HasReaped old v a old v a 0
 reaped_none old v a settled out = record {
-  plays = plays_none old v;
+  plays = λ block. plays_none block old v;
   settled = settled;
   frees = frees_none v v a a refl refl;
   out = out;
@@ -38,7 +38,8 @@ left_over old v a new w b n h =
     omega (arith, h.frees.few, ap length h.frees.left, length-drop n v.outstanding)
 
 module _ (old : List Call) (v : Sender) (a : Numbers) (mid : List Call) (w : Sender) (b : Numbers) (n : ℕ)
-    (h : HasReaped old v a mid w b n) (new : List Call) (x : Sender) (d : Numbers) (plays : Plays mid w new x)
+    (h : HasReaped old v a mid w b n) (new : List Call) (x : Sender) (d : Numbers)
+    (plays : (block : ℕ) → PlaysWith block mid w new x)
     (accepted : x.accepted ≡ w.accepted) (layout : x.layout ≡ record w.layout { next = x.layout.next })
   where
     pub still_accepted : x.accepted ≡ v.accepted
@@ -51,7 +52,7 @@ module _ (old : List Call) (v : Sender) (a : Numbers) (mid : List Call) (w : Sen
     pub reaped_more : x.posted + 1 ≡ w.posted → Frees w x b d 1 → AreOut d (blocks_of x.outstanding)
         → HasReaped old v a new x d (n + 1)
     reaped_more fewer frees out = record {
-      plays = plays_both old mid new v w x h.plays plays;
+      plays = λ block. plays_both block old mid new v w x (h.plays block) (plays block);
       settled = omega (arith, h.settled, frees.few, ap length frees.left, length-drop 1 w.outstanding);
       frees = frees_both v w x a b d n 1 h.frees frees;
       out = out;

@@ -5,25 +5,26 @@ use Rattle.nic_device.specs.declared.event.Event.TheVariants as event
 use Rattle.nic_device.specs.declared.event.Reply.TheVariants as reply
 use Rattle.device_lock.specs.declared.entry.Call.{Call}
 use Rattle.pmd_base.specs.Accesses.{IsTaken, IsPoked, IsPeeked, IsWritten}
-use Rattle.pmd_tx.specs.Plays.{Plays, Faults, LooksLast}
+use Rattle.pmd_tx.specs.Plays.{PlaysWith, Faults, LooksLast}
 use Rattle.pmd_tx.specs.Sending.{Sender, Asks, Advances, Looks, Reaps, IsOwn, asked, advanced, looked, reaped, is_sent, slot_at, descriptor_at}
 use Rattle.pmd_tx.proofs.Playing.{plays_adds, plays_none, faults_at}
 
-module _ (old new : List Call) (v : Sender) where
+module _ (block : ℕ) (old new : List Call) (v : Sender) where
   -- writing a descriptor
 
   module _ (a : ℕ) (bytes : List ℕ) (own : IsOwn v Asks (event.Poke16 a bytes)) where
-    pub ask_plays : (w : Sender) → IsPoked old new a bytes true → w ≡ asked v → Plays old v new w
+    pub ask_plays : (w : Sender) → IsPoked old new a bytes true → w ≡ asked v → PlaysWith block old v new w
     ask_plays w made is =
-        subst (Plays old v new) (sym is) (plays_adds old new v Asks refl (event.Poke16 a bytes) reply.Done own made)
+        subst (PlaysWith block old v new) (sym is)
+        (plays_adds block old new v Asks refl (event.Poke16 a bytes) reply.Done own tt made)
 
-    pub ask_misses : IsPoked old new a bytes false → Plays old v new v
-    ask_misses (inl made) = plays_adds old new v Asks refl (event.Poke16 a bytes) reply.NotLent own made
-    ask_misses (inr made) = plays_adds old new v Asks refl (event.Poke16 a bytes) reply.Misaligned own made
+    pub ask_misses : IsPoked old new a bytes false → PlaysWith block old v new v
+    ask_misses (inl made) = plays_adds block old new v Asks refl (event.Poke16 a bytes) reply.NotLent own tt made
+    ask_misses (inr made) = plays_adds block old new v Asks refl (event.Poke16 a bytes) reply.Misaligned own tt made
 
-    pub ask_faults : IsPoked old new a bytes false → Faults old v new
-    ask_faults (inl made) = faults_at old new v Asks (event.Poke16 a bytes) reply.NotLent own made refl
-    ask_faults (inr made) = faults_at old new v Asks (event.Poke16 a bytes) reply.Misaligned own made refl
+    pub ask_faults : IsPoked old new a bytes false → Faults block old v new
+    ask_faults (inl made) = faults_at block old new v Asks (event.Poke16 a bytes) reply.NotLent own tt made refl
+    ask_faults (inr made) = faults_at block old new v Asks (event.Poke16 a bytes) reply.Misaligned own tt made refl
 
   -- moving the tail on
 
@@ -32,19 +33,21 @@ module _ (old new : List Call) (v : Sender) where
     tail_own = (poked, refl, refl, is)
 
     pub tail_plays : (w : Sender) → IsWritten old new v.layout.port v.layout.tail word true → w ≡ advanced v
-        → Plays old v new w
+        → PlaysWith block old v new w
     tail_plays w made done =
-        subst (Plays old v new) (sym done)
-        (plays_adds old new v Advances refl (event.Write v.layout.port v.layout.tail word) reply.Done tail_own made)
+        subst (PlaysWith block old v new) (sym done)
+        (plays_adds block old new v Advances refl (event.Write v.layout.port v.layout.tail word) reply.Done tail_own
+        tt made)
 
-    pub tail_misses : IsWritten old new v.layout.port v.layout.tail word false → Plays old v new v
+    pub tail_misses : IsWritten old new v.layout.port v.layout.tail word false → PlaysWith block old v new v
     tail_misses (seen, made) =
-        plays_adds old new v Advances refl (event.Write v.layout.port v.layout.tail word) (reply.Stray seen) tail_own
-        made
+        plays_adds block old new v Advances refl (event.Write v.layout.port v.layout.tail word) (reply.Stray seen)
+        tail_own tt made
 
-    pub tail_faults : IsWritten old new v.layout.port v.layout.tail word false → Faults old v new
+    pub tail_faults : IsWritten old new v.layout.port v.layout.tail word false → Faults block old v new
     tail_faults (seen, made) =
-        faults_at old new v Advances (event.Write v.layout.port v.layout.tail word) (reply.Stray seen) tail_own made
+        faults_at block old new v Advances (event.Write v.layout.port v.layout.tail word) (reply.Stray seen) tail_own
+        tt made
         refl
 
   -- looking at the oldest
@@ -54,10 +57,11 @@ module _ (old new : List Call) (v : Sender) where
     look_own = (posted, refl)
 
     pub look_plays : (w : Sender) (d : List ℕ) → IsPeeked old new (descriptor_at v.layout 0) (Some d) → w ≡ looked v d
-        → Plays old v new w
+        → PlaysWith block old v new w
     look_plays w d made is =
-        subst (Plays old v new) (sym is)
-        (plays_adds old new v Looks refl (event.Peek16 (descriptor_at v.layout 0)) (reply.Bytes d) look_own made)
+        subst (PlaysWith block old v new) (sym is)
+        (plays_adds block old new v Looks refl (event.Peek16 (descriptor_at v.layout 0)) (reply.Bytes d) look_own
+        tt made)
 
     pub look_waits : (w : Sender) (d : List ℕ) → IsPeeked old new (descriptor_at v.layout 0) (Some d) → w ≡ looked v d
         → is_sent d ≡ false → LooksLast old v new w
@@ -65,7 +69,7 @@ module _ (old new : List Call) (v : Sender) where
       mid = old;
       before = v;
       bytes = d;
-      plays = plays_none old v;
+      plays = (plays_none block old v).plays;
       looks = made;
       waits = waits;
       posted = posted;
@@ -73,27 +77,29 @@ module _ (old new : List Call) (v : Sender) where
       left = is ∙ ap (λ b. record v { seen = b }) waits;
     }
 
-    pub look_misses : IsPeeked old new (descriptor_at v.layout 0) None → Plays old v new v
+    pub look_misses : IsPeeked old new (descriptor_at v.layout 0) None → PlaysWith block old v new v
     look_misses (inl made) =
-        plays_adds old new v Looks refl (event.Peek16 (descriptor_at v.layout 0)) reply.NotLent look_own made
+        plays_adds block old new v Looks refl (event.Peek16 (descriptor_at v.layout 0)) reply.NotLent look_own tt made
     look_misses (inr made) =
-        plays_adds old new v Looks refl (event.Peek16 (descriptor_at v.layout 0)) reply.Misaligned look_own made
+        plays_adds block old new v Looks refl (event.Peek16 (descriptor_at v.layout 0)) reply.Misaligned look_own
+        tt made
 
-    pub look_faults : IsPeeked old new (descriptor_at v.layout 0) None → Faults old v new
+    pub look_faults : IsPeeked old new (descriptor_at v.layout 0) None → Faults block old v new
     look_faults (inl made) =
-        faults_at old new v Looks (event.Peek16 (descriptor_at v.layout 0)) reply.NotLent look_own made refl
+        faults_at block old new v Looks (event.Peek16 (descriptor_at v.layout 0)) reply.NotLent look_own tt made refl
     look_faults (inr made) =
-        faults_at old new v Looks (event.Peek16 (descriptor_at v.layout 0)) reply.Misaligned look_own made refl
+        faults_at block old new v Looks (event.Peek16 (descriptor_at v.layout 0)) reply.Misaligned look_own tt made refl
 
   -- taking the oldest
 
   module _ (n : ℕ) (own : IsOwn v Reaps (event.Take n)) where
-    pub take_plays : (w : Sender) (b : Block) → IsTaken old new n (Some b) → w ≡ reaped v → Plays old v new w
+    pub take_plays : (w : Sender) (b : Block) → IsTaken old new n (Some b) → w ≡ reaped v → PlaysWith block old v new w
     take_plays w b made is =
-        subst (Plays old v new) (sym is) (plays_adds old new v Reaps refl (event.Take n) (reply.Buf b) own made)
+        subst (PlaysWith block old v new) (sym is)
+        (plays_adds block old new v Reaps refl (event.Take n) (reply.Buf b) own tt made)
 
-    pub take_misses : IsTaken old new n None → Plays old v new v
-    take_misses made = plays_adds old new v Reaps refl (event.Take n) reply.NotLent own made
+    pub take_misses : IsTaken old new n None → PlaysWith block old v new v
+    take_misses made = plays_adds block old new v Reaps refl (event.Take n) reply.NotLent own tt made
 
-    pub take_faults : IsTaken old new n None → Faults old v new
-    take_faults made = faults_at old new v Reaps (event.Take n) reply.NotLent own made refl
+    pub take_faults : IsTaken old new n None → Faults block old v new
+    take_faults made = faults_at block old new v Reaps (event.Take n) reply.NotLent own tt made refl

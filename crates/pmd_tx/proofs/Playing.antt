@@ -1,5 +1,5 @@
 -- What a call adds to a driver's plays.
-use Rattle.std.proofs.Common.{◌≡◌, suc, false, List, [], ◌∷◌, ◌++◌, length, map, refl, sym, ap, ◌∙◌, subst, append_assoc}
+use Rattle.std.proofs.Common.{◌≡◌, ℕ, suc, false, List, [], ◌∷◌, ◌++◌, length, map, refl, sym, ap, ◌∙◌, subst, append_assoc}
 use Rattle.std.proofs.lemmas.List.{append-nil}
 use Rattle.dma_arena.specs.Block.{Block}
 use Rattle.nic_device.specs.declared.event.Event.{Event}
@@ -8,7 +8,7 @@ use Rattle.device_lock.specs.declared.entry.Call.{Call}
 use Rattle.device_lock.specs.Pass.{call_of}
 use Rattle.pmd_base.specs.Made.{Adds, AddsSome}
 use Rattle.pmd_base.proofs.Steps.{steps_marked, steps_last, steps_both}
-use Rattle.pmd_tx.specs.Plays.{Plays, AllOwn, is_elsewhere, played_by, Faults}
+use Rattle.pmd_tx.specs.Plays.{Plays, PlaysWith, AcceptsIn, AllAcceptIn, AllOwn, is_elsewhere, played_by, Faults}
 use Rattle.pmd_tx.specs.Sending.{Sender, Move, Elsewhere, IsOwn, moved, is_healthy}
 
 abbrev pub elsewhere : List Call → List Move
@@ -32,31 +32,46 @@ played-last : (v : Sender) (before : List Call) (m : Move) (e : Event Block) (r 
 played-last v [] m e r = refl
 played-last v (n ∷ before) m e r = played-last v before m e r
 
--- an own event after calls that aren't own
-pub plays_adds : (old new : List Call) (v : Sender) (m : Move) → is_elsewhere m ≡ false → (e : Event Block)
-    (r : Reply Block) → IsOwn v m e → Adds old new e r → Plays old v new (moved v m r)
-plays_adds old new v m mine e r own (before, is, steps) = (
-  elsewhere before ++ m ∷ [],
-  before ++ call_of e r ∷ [],
-  is,
-  own-last v before m e r own,
-  sym (played-last v before m e r),
-  steps_last is_elsewhere Elsewhere m before (call_of e r) mine steps,
-)
+accepts-elsewhere : (block : ℕ) (calls : List Call) → AllAcceptIn block (elsewhere calls)
+accepts-elsewhere block [] = tt
+accepts-elsewhere block (n ∷ calls) = (tt, accepts-elsewhere block calls)
 
-pub plays_some : (old new : List Call) (v : Sender) → AddsSome old new → Plays old v new v
-plays_some old new v (before, is, steps) = (
-  elsewhere before,
-  before,
-  is,
-  own-elsewhere v before,
-  sym (played-elsewhere v before),
-  steps_marked is_elsewhere Elsewhere before steps,
-)
+accepts-last : (block : ℕ) (before : List Call) (m : Move) → AcceptsIn block m
+    → AllAcceptIn block (elsewhere before ++ m ∷ [])
+accepts-last block [] m accepts = (accepts, tt)
+accepts-last block (n ∷ before) m accepts = (tt, accepts-last block before m accepts)
+
+-- an own event after calls that aren't own
+pub plays_adds : (block : ℕ) (old new : List Call) (v : Sender) (m : Move) → is_elsewhere m ≡ false → (e : Event Block)
+    (r : Reply Block) → IsOwn v m e → AcceptsIn block m → Adds old new e r → PlaysWith block old v new (moved v m r)
+plays_adds block old new v m mine e r own accepts (before, is, steps) = record {
+  plays = (
+    elsewhere before ++ m ∷ [],
+    before ++ call_of e r ∷ [],
+    is,
+    own-last v before m e r own,
+    sym (played-last v before m e r),
+    steps_last is_elsewhere Elsewhere m before (call_of e r) mine steps,
+  );
+  accepts = accepts-last block before m accepts;
+}
+
+pub plays_some : (block : ℕ) (old new : List Call) (v : Sender) → AddsSome old new → PlaysWith block old v new v
+plays_some block old new v (before, is, steps) = record {
+  plays = (
+    elsewhere before,
+    before,
+    is,
+    own-elsewhere v before,
+    sym (played-elsewhere v before),
+    steps_marked is_elsewhere Elsewhere before steps,
+  );
+  accepts = accepts-elsewhere block before;
+}
 
 -- nothing was made
-pub plays_none : (old : List Call) (v : Sender) → Plays old v old v
-plays_none old v = plays_some old old v ([], sym (append-nil old), tt)
+pub plays_none : (block : ℕ) (old : List Call) (v : Sender) → PlaysWith block old v old v
+plays_none block old v = plays_some block old old v ([], sym (append-nil old), tt)
 
 -- plays follow each other
 
@@ -80,8 +95,8 @@ own-length v [] (x ∷ s) own = absurd own
 own-length v (k ∷ m) [] own = absurd own
 own-length v (k ∷ m) (x ∷ s) own = ap suc (own-length (moved v k x.reply) m s own.1)
 
-pub plays_both : (a b d : List Call) (v w x : Sender) → Plays a v b w → Plays b w d x → Plays a v d x
-plays_both a b d v w x (m, s, is, own, by, steps) (n, t, then, also, on, more) = (
+pub all_both : (a b d : List Call) (v w x : Sender) → Plays a v b w → Plays b w d x → Plays a v d x
+all_both a b d v w x (m, s, is, own, by, steps) (n, t, then, also, on, more) = (
   m ++ n,
   s ++ t,
   then ∙ ap (λ (l : List Call). l ++ t) is ∙ append_assoc a s t,
@@ -90,31 +105,46 @@ plays_both a b d v w x (m, s, is, own, by, steps) (n, t, then, also, on, more) =
   steps_both is_elsewhere m n s t (own-length v m s own) steps more,
 )
 
+accepts-both : (block : ℕ) (m n : List Move) → AllAcceptIn block m → AllAcceptIn block n → AllAcceptIn block (m ++ n)
+accepts-both block [] n a b = b
+accepts-both block (k ∷ m) n a b = (a.0, accepts-both block m n a.1 b)
+
+pub plays_both : (block : ℕ) (a b d : List Call) (v w x : Sender) → PlaysWith block a v b w
+    → PlaysWith block b w d x → PlaysWith block a v d x
+unfolding all_both
+plays_both block a b d v w x p q = record {
+  plays = all_both a b d v w x p.plays q.plays;
+  accepts = accepts-both block p.plays.0 q.plays.0 p.accepts q.accepts;
+}
+
 -- a reply that no healthy queue gives
-pub faults_at : (old new : List Call) (v : Sender) (m : Move) (e : Event Block) (r : Reply Block) → IsOwn v m e
-    → Adds old new e r → is_healthy m r ≡ false → Faults old v new
-faults_at old new v m e r own adds sick = record {
+pub faults_at : (block : ℕ) (old new : List Call) (v : Sender) (m : Move) (e : Event Block) (r : Reply Block)
+    → IsOwn v m e → AcceptsIn block m → Adds old new e r → is_healthy m r ≡ false → Faults block old v new
+faults_at block old new v m e r own accepts adds sick = record {
   mid = old;
   before = v;
   move = m;
   event = e;
   reply = r;
-  plays = plays_none old v;
+  plays = plays_none block old v;
   own = own;
+  accepts = accepts;
   adds = adds;
   sick = sick;
 }
 
 -- after other plays
-pub faults_after : (a b d : List Call) (v w : Sender) → Plays a v b w → Faults b w d → Faults a v d
-faults_after a b d v w plays f = record {
+pub faults_after : (block : ℕ) (a b d : List Call) (v w : Sender) → PlaysWith block a v b w → Faults block b w d
+    → Faults block a v d
+faults_after block a b d v w plays f = record {
   mid = f.mid;
   before = f.before;
   move = f.move;
   event = f.event;
   reply = f.reply;
-  plays = plays_both a b f.mid v w f.before plays f.plays;
+  plays = plays_both block a b f.mid v w f.before plays f.plays;
   own = f.own;
+  accepts = f.accepts;
   adds = f.adds;
   sick = f.sick;
 }

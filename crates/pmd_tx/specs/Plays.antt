@@ -9,7 +9,7 @@ use Rattle.device_lock.specs.declared.entry.Call.{Call}
 use Rattle.pmd_base.specs.Made.{Adds, StepsWhere}
 use Rattle.pmd_base.specs.declared.fault.PmdFault.{PmdFault}
 use Rattle.pmd_base.specs.declared.fault.PmdFault.TheVariants.{DeviceFault}
-use Rattle.pmd_tx.specs.Sending.{Sender, Move, Elsewhere, IsOwn, moved, is_healthy, is_sent, descriptor_at}
+use Rattle.pmd_tx.specs.Sending.{Sender, Move, Accepts, Elsewhere, IsOwn, moved, is_healthy, is_sent, descriptor_at}
 
 -- the driver after these moves, with the replies of these calls: all that its code knows
 abbrev pub played_by : Sender → List Move → List Call → Sender
@@ -39,6 +39,21 @@ Plays old v new w =
     (moves : List Move) × (since : List Call) × (new ≡ old ++ since) × AllOwn v moves since
     × (w ≡ played_by v moves since) × OthersStep moves since
 
+-- a packet that a move accepts is in the block of this number
+abbrev pub AcceptsIn : ℕ → Move → Type 0
+AcceptsIn block (Accepts p) = p.block ≡ block
+AcceptsIn block m = ⊤
+
+-- so is each that these moves accept
+abbrev pub AllAcceptIn : ℕ → List Move → Type 0
+AllAcceptIn block [] = ⊤
+AllAcceptIn block (m ∷ moves) = AcceptsIn block m × AllAcceptIn block moves
+
+-- some calls were made so, and each packet that they accept is in the block of this number
+pub record PlaysWith (block : ℕ) (old : List Call) (v : Sender) (new : List Call) (w : Sender) : Type 0 where
+  pub plays : Plays old v new w
+  pub accepts : AllAcceptIn block plays.0
+
 -- the last call was a look at the oldest outstanding packet, which isn't done; nothing was accepted before it
 pub record LooksLast (old : List Call) (v : Sender) (new : List Call) (w : Sender) : Type 0 where
   pub mid : List Call
@@ -51,19 +66,21 @@ pub record LooksLast (old : List Call) (v : Sender) (new : List Call) (w : Sende
   pub accepted : before.accepted ≡ v.accepted
   pub left : w ≡ record before { seen = false }
 
--- the last call was a move of the driver's, whose reply isn't that of a healthy queue
-pub record Faults (old : List Call) (v : Sender) (new : List Call) : Type 0 where
+-- the last call was a move of the driver's, whose reply isn't that of a healthy queue. Each packet that was accepted up
+-- to there, or was to be, is in the block of this number
+pub record Faults (block : ℕ) (old : List Call) (v : Sender) (new : List Call) : Type 0 where
   pub mid : List Call
   pub before : Sender
   pub move : Move
   pub event : Event Block
   pub reply : Reply Block
-  pub plays : Plays old v mid before
+  pub plays : PlaysWith block old v mid before
   pub own : IsOwn before move event
+  pub accepts : AcceptsIn block move
   pub adds : Adds mid new event reply
   pub sick : is_healthy move reply ≡ false
 
 -- where the device failed, so it is
-abbrev pub FaultsBy : PmdFault → List Call → Sender → List Call → Type 0
-FaultsBy DeviceFault old v new = Faults old v new
-FaultsBy fault old v new = ⊤
+abbrev pub FaultsBy : PmdFault → ℕ → List Call → Sender → List Call → Type 0
+FaultsBy DeviceFault block old v new = Faults block old v new
+FaultsBy fault block old v new = ⊤

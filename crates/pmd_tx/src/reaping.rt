@@ -2,7 +2,7 @@
 
 ghost use Rattle.std.specs.Prelude.{[], ◌≡◌, ◌<◌, ◌+◌, ◌↔◌, ℕ, length, true, false, Ok, IsTrue, IfOk, IfErr, OnOk, OnErr, if◌then◌else◌};
 ghost use Rattle.pmd_base.specs.Home.{AreOut};
-ghost use Rattle.pmd_tx.specs.Plays.{Plays, LooksLast, FaultsBy};
+ghost use Rattle.pmd_tx.specs.Plays.{PlaysWith, LooksLast, FaultsBy};
 ghost use Rattle.pmd_tx.specs.Sending.{packet_at, blocks_of, reaped};
 ghost use Rattle.pmd_tx.specs.Sends.{Frees, IsLate};
 
@@ -25,7 +25,7 @@ impl TransmitRing {
         arena: &mut Arena,
     ) -> Result<Reaped, PmdFault>
         requires { AreOut arena.old (blocks_of self.old.outstanding) }
-        ensures plays { Plays (N.made nic.old) self.old (N.made nic.new) self.new }
+        ensures plays { (block : ℕ) → PlaysWith block (N.made nic.old) self.old (N.made nic.new) self.new }
         ensures idle { IfOk result (λ done. IsTrue done.idle ↔ (self.new.outstanding ≡ [])) }
         ensures waits { IfOk result (λ done.
             done.idle ≡ false → LooksLast (N.made nic.old) self.old (N.made nic.new) self.new) }
@@ -35,7 +35,8 @@ impl TransmitRing {
         ensures accepted { self.new.accepted ≡ self.old.accepted }
         ensures layout { self.new.layout ≡ record self.old.layout { next = self.new.layout.next } }
         ensures late { IfErr result (λ fault. IsLate fault) }
-        ensures faults { IfErr result (λ fault. FaultsBy fault (N.made nic.old) self.old (N.made nic.new)) }
+        ensures faults { (block : ℕ) → IfErr result (λ fault.
+            FaultsBy fault block (N.made nic.old) self.old (N.made nic.new)) }
         ensures who { N.who nic.new ≡ N.who nic.old }
     {
         match self.post_waiting(alloc, nic) {
@@ -53,7 +54,7 @@ impl TransmitRing {
     ) -> Result<Reaped, PmdFault>
         requires settled { self.old.posted ≡ length self.old.outstanding }
         requires home { AreOut arena.old (blocks_of self.old.outstanding) }
-        ensures plays { Plays (N.made nic.old) self.old (N.made nic.new) self.new }
+        ensures plays { (block : ℕ) → PlaysWith block (N.made nic.old) self.old (N.made nic.new) self.new }
         ensures idle { IfOk result (λ done. IsTrue done.idle ↔ (self.new.outstanding ≡ [])) }
         ensures waits { IfOk result (λ done.
             done.idle ≡ false → LooksLast (N.made nic.old) self.old (N.made nic.new) self.new) }
@@ -63,7 +64,8 @@ impl TransmitRing {
         ensures accepted { self.new.accepted ≡ self.old.accepted }
         ensures layout { self.new.layout ≡ record self.old.layout { next = self.new.layout.next } }
         ensures late { IfErr result (λ fault. IsLate fault) }
-        ensures faults { IfErr result (λ fault. FaultsBy fault (N.made nic.old) self.old (N.made nic.new)) }
+        ensures faults { (block : ℕ) → IfErr result (λ fault.
+            FaultsBy fault block (N.made nic.old) self.old (N.made nic.new)) }
         ensures who { N.who nic.new ≡ N.who nic.old }
     {
         let count = self.count();
@@ -91,7 +93,7 @@ impl TransmitRing {
     ) -> Result<bool, PmdFault>
         requires posted { 0 < self.old.posted }
         requires home { AreOut arena.old (blocks_of self.old.outstanding) }
-        ensures plays { Plays (N.made nic.old) self.old (N.made nic.new) self.new }
+        ensures plays { (block : ℕ) → PlaysWith block (N.made nic.old) self.old (N.made nic.new) self.new }
         ensures waits { result ≡ Ok false → LooksLast (N.made nic.old) self.old (N.made nic.new) self.new }
         ensures freed { IfOk result (λ sent. Frees self.old self.new arena.old arena.new (if sent then 1 else 0)) }
         ensures posted { IfOk result (λ sent. self.new.posted + (if sent then 1 else 0) ≡ self.old.posted) }
@@ -100,7 +102,8 @@ impl TransmitRing {
         ensures accepted { self.new.accepted ≡ self.old.accepted }
         ensures layout { self.new.layout ≡ record self.old.layout { next = self.new.layout.next } }
         ensures late { IfErr result (λ fault. IsLate fault) }
-        ensures faults { IfErr result (λ fault. FaultsBy fault (N.made nic.old) self.old (N.made nic.new)) }
+        ensures faults { (block : ℕ) → IfErr result (λ fault.
+            FaultsBy fault block (N.made nic.old) self.old (N.made nic.new)) }
         ensures who { N.who nic.new ≡ N.who nic.old }
     {
         match self.look(alloc, nic) {
@@ -122,14 +125,15 @@ impl TransmitRing {
     ) -> Result<(), PmdFault>
         requires seen { self.old.seen ≡ true }
         requires home { AreOut arena.old (blocks_of self.old.outstanding) }
-        ensures plays { Plays (N.made nic.old) self.old (N.made nic.new) self.new }
+        ensures plays { (block : ℕ) → PlaysWith block (N.made nic.old) self.old (N.made nic.new) self.new }
         ensures reaped { OnOk result (self.new ≡ reaped self.old) }
         ensures kept { OnErr result (self.new ≡ self.old) }
         ensures freed { OnOk result (Frees self.old self.new arena.old arena.new 1) }
         ensures same { OnErr result (arena.new ≡ arena.old) }
         ensures out { AreOut arena.new (blocks_of self.new.outstanding) }
         ensures late { IfErr result (λ fault. IsLate fault) }
-        ensures faults { IfErr result (λ fault. FaultsBy fault (N.made nic.old) self.old (N.made nic.new)) }
+        ensures faults { (block : ℕ) → IfErr result (λ fault.
+            FaultsBy fault block (N.made nic.old) self.old (N.made nic.new)) }
         ensures who { N.who nic.new ≡ N.who nic.old }
     {
         match self.take_oldest(alloc, nic) {

@@ -3,7 +3,7 @@
 ghost use Rattle.std.specs.Prelude.{[], ◌≡◌, ◌==◌, ◌≢◌, ◌↔◌, ◌<◌, ◌≤◌, ◌+◌, ◌-◌, ℕ, None, All, length, slice_index_or, true, false, Ok, IfOk, IfErr, OnOk, OnErr, IfSome, IsNone};
 ghost use Rattle.pmd_base.specs.Accesses.{IsLent, IsWritten};
 ghost use Rattle.pmd_base.specs.Made.{AddsSome};
-ghost use Rattle.pmd_tx.specs.Plays.{Plays, LooksLast, FaultsBy};
+ghost use Rattle.pmd_tx.specs.Plays.{PlaysWith, LooksLast, FaultsBy};
 ghost use Rattle.pmd_tx.specs.Leaving.{lent_of};
 ghost use Rattle.pmd_tx.specs.Sending.{at_start, blocks_of, no_packet, packet_at, slot_at, descriptor_at, has_lent, asking, asked, is_sent, looked, advanced, reaped, accepted_by};
 ghost use Rattle.std.specs.List.{list_any};
@@ -235,12 +235,13 @@ impl TransmitRing {
         packet: Packet,
     ) -> Result<(), (PmdFault, Packet)>
         requires { MayLend self.old packet }
-        ensures plays { Plays (N.made nic.old) self.old (N.made nic.new) self.new }
+        ensures plays { PlaysWith packet.buf.number (N.made nic.old) self.old (N.made nic.new) self.new }
         ensures accepted { OnOk result (self.new ≡ accepted_by self.old (sent_as packet)) }
         ensures kept { OnErr result (self.new ≡ self.old) }
         ensures back { IfErr result (λ refused. IsBack refused.0 packet refused.1) }
         ensures late { IfErr result (λ refused. IsLate refused.0) }
-        ensures faults { IfErr result (λ refused. FaultsBy refused.0 (N.made nic.old) self.old (N.made nic.new)) }
+        ensures faults { IfErr result (λ refused.
+            FaultsBy refused.0 packet.buf.number (N.made nic.old) self.old (N.made nic.new)) }
         ensures who { N.who nic.new ≡ N.who nic.old }
     {
         let _whole = packet.buf.bytes();
@@ -306,11 +307,12 @@ impl TransmitRing {
     /// `DeviceFault` where the ring isn't lent any more.
     pub(crate) fn ask<N: Nic>(&mut self, alloc: Global, nic: &mut N) -> Result<(), PmdFault>
         requires { self.old.posted < length self.old.outstanding }
-        ensures plays { Plays (N.made nic.old) self.old (N.made nic.new) self.new }
+        ensures plays { (block : ℕ) → PlaysWith block (N.made nic.old) self.old (N.made nic.new) self.new }
         ensures asked { OnOk result (self.new ≡ asked self.old) }
         ensures kept { OnErr result (self.new ≡ self.old) }
         ensures late { IfErr result (λ fault. IsLate fault) }
-        ensures faults { IfErr result (λ fault. FaultsBy fault (N.made nic.old) self.old (N.made nic.new)) }
+        ensures faults { (block : ℕ) → IfErr result (λ fault.
+            FaultsBy fault block (N.made nic.old) self.old (N.made nic.new)) }
         ensures who { N.who nic.new ≡ N.who nic.old }
     {
         let address = self.waiting_descriptor();
@@ -360,11 +362,12 @@ impl TransmitRing {
     /// `DeviceFault` where the port has no such register.
     pub(crate) fn advance<N: Nic>(&mut self, alloc: Global, nic: &mut N) -> Result<(), PmdFault>
         requires { self.old.poked ≡ true }
-        ensures plays { Plays (N.made nic.old) self.old (N.made nic.new) self.new }
+        ensures plays { (block : ℕ) → PlaysWith block (N.made nic.old) self.old (N.made nic.new) self.new }
         ensures advanced { OnOk result (self.new ≡ advanced self.old) }
         ensures kept { OnErr result (self.new ≡ self.old) }
         ensures late { IfErr result (λ fault. IsLate fault) }
-        ensures faults { IfErr result (λ fault. FaultsBy fault (N.made nic.old) self.old (N.made nic.new)) }
+        ensures faults { (block : ℕ) → IfErr result (λ fault.
+            FaultsBy fault block (N.made nic.old) self.old (N.made nic.new)) }
         ensures who { N.who nic.new ≡ N.who nic.old }
     {
         let word = self.next_tail();
@@ -417,12 +420,13 @@ impl TransmitRing {
     /// `DeviceFault` where the ring isn't lent any more.
     pub(crate) fn look<N: Nic>(&mut self, alloc: Global, nic: &mut N) -> Result<bool, PmdFault>
         requires { 0 < self.old.posted }
-        ensures plays { Plays (N.made nic.old) self.old (N.made nic.new) self.new }
+        ensures plays { (block : ℕ) → PlaysWith block (N.made nic.old) self.old (N.made nic.new) self.new }
         ensures seen { IfOk result (λ sent. self.new ≡ record self.old { seen = sent }) }
         ensures waits { result ≡ Ok false → LooksLast (N.made nic.old) self.old (N.made nic.new) self.new }
         ensures kept { OnErr result (self.new ≡ self.old) }
         ensures late { IfErr result (λ fault. IsLate fault) }
-        ensures faults { IfErr result (λ fault. FaultsBy fault (N.made nic.old) self.old (N.made nic.new)) }
+        ensures faults { (block : ℕ) → IfErr result (λ fault.
+            FaultsBy fault block (N.made nic.old) self.old (N.made nic.new)) }
         ensures who { N.who nic.new ≡ N.who nic.old }
     {
         let address = self.oldest_descriptor();
@@ -459,13 +463,14 @@ impl TransmitRing {
         nic: &mut N,
     ) -> Result<Buf, PmdFault>
         requires { self.old.seen ≡ true }
-        ensures plays { Plays (N.made nic.old) self.old (N.made nic.new) self.new }
+        ensures plays { (block : ℕ) → PlaysWith block (N.made nic.old) self.old (N.made nic.new) self.new }
         ensures reaped { OnOk result (self.new ≡ reaped self.old) }
         ensures block { IfOk result (λ buf. buf.number ≡ (packet_at self.old 0).block) }
         ensures some { 0 < length self.old.outstanding }
         ensures kept { OnErr result (self.new ≡ self.old) }
         ensures late { IfErr result (λ fault. IsLate fault) }
-        ensures faults { IfErr result (λ fault. FaultsBy fault (N.made nic.old) self.old (N.made nic.new)) }
+        ensures faults { (block : ℕ) → IfErr result (λ fault.
+            FaultsBy fault block (N.made nic.old) self.old (N.made nic.new)) }
         ensures who { N.who nic.new ≡ N.who nic.old }
     {
         let block = self.oldest_block();

@@ -1,7 +1,7 @@
 //! How a packet is sent: its block is lent, its descriptor written, and the tail moved on.
 
-ghost use Rattle.std.specs.Prelude.{◌≡◌, ◌<◌, ◌+◌, None, length, IfOk, IfErr, OnOk, OnErr, IfSome, IfNone};
-ghost use Rattle.pmd_tx.specs.Plays.{Plays, FaultsBy};
+ghost use Rattle.std.specs.Prelude.{◌≡◌, ◌<◌, ◌+◌, ℕ, None, length, IfOk, IfErr, OnOk, OnErr, IfSome, IfNone};
+ghost use Rattle.pmd_tx.specs.Plays.{PlaysWith, FaultsBy};
 ghost use Rattle.pmd_tx.specs.Sending.{accepted_by};
 ghost use Rattle.pmd_tx.specs.Sends.{gate_of, goes_home, outgoing_of, returned, IsAnswer, IsShut, IsTried, IsAccepted, IsNoneAccepted, IsBack, IsLate};
 ghost use Rattle.pmd_tx.specs.Shown.{MaySend};
@@ -42,7 +42,7 @@ impl TransmitRing {
         elsewhere: bool,
         packet: Packet,
     ) -> Result<TxAnswer, TxFault>
-        ensures plays { Plays (N.made nic.old) self.old (N.made nic.new) self.new }
+        ensures plays { PlaysWith packet.buf.number (N.made nic.old) self.old (N.made nic.new) self.new }
         ensures answer { IsAnswer (gate_of self.old arena.now elsewhere packet) packet result }
         ensures shut { IsShut (gate_of self.old arena.now elsewhere packet)
             → (N.made nic.new ≡ N.made nic.old) × (self.new ≡ self.old) }
@@ -50,7 +50,8 @@ impl TransmitRing {
         ensures kept { IfSome (returned result) (λ back. IsNoneAccepted self.old self.new) }
         ensures back { IfErr result (λ failed. IfSome failed.packet (λ back. IsBack failed.fault packet back)) }
         ensures settled { result ≡ Ok TxAnswer.Taken → self.new.posted ≡ length self.new.outstanding }
-        ensures faults { IfErr result (λ failed. FaultsBy failed.fault (N.made nic.old) self.old (N.made nic.new)) }
+        ensures faults { IfErr result (λ failed.
+            FaultsBy failed.fault packet.buf.number (N.made nic.old) self.old (N.made nic.new)) }
         ensures layout { self.new.layout ≡ self.old.layout }
         ensures who { N.who nic.new ≡ N.who nic.old }
     {
@@ -88,13 +89,14 @@ impl TransmitRing {
         packet: Packet,
     ) -> Result<TxAnswer, TxFault>
         requires { MaySend self.old packet }
-        ensures plays { Plays (N.made nic.old) self.old (N.made nic.new) self.new }
+        ensures plays { PlaysWith packet.buf.number (N.made nic.old) self.old (N.made nic.new) self.new }
         ensures tried { IsTried result }
         ensures accepted { IfNone (returned result) (IsAccepted self.old packet self.new) }
         ensures kept { IfSome (returned result) (λ back. IsNoneAccepted self.old self.new) }
         ensures back { IfErr result (λ failed. IfSome failed.packet (λ back. IsBack failed.fault packet back)) }
         ensures settled { result ≡ Ok TxAnswer.Taken → self.new.posted ≡ length self.new.outstanding }
-        ensures faults { IfErr result (λ failed. FaultsBy failed.fault (N.made nic.old) self.old (N.made nic.new)) }
+        ensures faults { IfErr result (λ failed.
+            FaultsBy failed.fault packet.buf.number (N.made nic.old) self.old (N.made nic.new)) }
         ensures layout { self.new.layout ≡ self.old.layout }
         ensures who { N.who nic.new ≡ N.who nic.old }
     {
@@ -116,13 +118,14 @@ impl TransmitRing {
     ) -> Result<TxAnswer, TxFault>
         requires may { MaySend self.old packet }
         requires settled { self.old.posted ≡ length self.old.outstanding }
-        ensures plays { Plays (N.made nic.old) self.old (N.made nic.new) self.new }
+        ensures plays { PlaysWith packet.buf.number (N.made nic.old) self.old (N.made nic.new) self.new }
         ensures tried { IsTried result }
         ensures accepted { IfNone (returned result) (IsAccepted self.old packet self.new) }
         ensures kept { IfSome (returned result) (λ back. IsNoneAccepted self.old self.new) }
         ensures back { IfErr result (λ failed. IfSome failed.packet (λ back. IsBack failed.fault packet back)) }
         ensures settled { result ≡ Ok TxAnswer.Taken → self.new.posted ≡ length self.new.outstanding }
-        ensures faults { IfErr result (λ failed. FaultsBy failed.fault (N.made nic.old) self.old (N.made nic.new)) }
+        ensures faults { IfErr result (λ failed.
+            FaultsBy failed.fault packet.buf.number (N.made nic.old) self.old (N.made nic.new)) }
         ensures layout { self.new.layout ≡ self.old.layout }
         ensures who { N.who nic.new ≡ N.who nic.old }
     {
@@ -137,13 +140,14 @@ impl TransmitRing {
 
     /// Goes on with the packet that was just accepted.
     fn post_accepted<N: Nic>(&mut self, alloc: Global, nic: &mut N) -> Result<TxAnswer, TxFault>
-        ensures plays { Plays (N.made nic.old) self.old (N.made nic.new) self.new }
+        ensures plays { (block : ℕ) → PlaysWith block (N.made nic.old) self.old (N.made nic.new) self.new }
         ensures tried { IsTried result }
         ensures kept { IsNoneAccepted self.old self.new }
         ensures none { returned result ≡ None }
         ensures taken { IfErr result (λ failed. failed.packet ≡ None) }
         ensures settled { result ≡ Ok TxAnswer.Taken → self.new.posted ≡ length self.new.outstanding }
-        ensures faults { IfErr result (λ failed. FaultsBy failed.fault (N.made nic.old) self.old (N.made nic.new)) }
+        ensures faults { (block : ℕ) → IfErr result (λ failed.
+            FaultsBy failed.fault block (N.made nic.old) self.old (N.made nic.new)) }
         ensures layout { self.new.layout ≡ self.old.layout }
         ensures who { N.who nic.new ≡ N.who nic.old }
     {
@@ -165,12 +169,13 @@ impl TransmitRing {
     ) -> Result<(), (PmdFault, Packet)>
         requires may { MaySend self.old packet }
         requires settled { self.old.posted ≡ length self.old.outstanding }
-        ensures plays { Plays (N.made nic.old) self.old (N.made nic.new) self.new }
+        ensures plays { PlaysWith packet.buf.number (N.made nic.old) self.old (N.made nic.new) self.new }
         ensures accepted { OnOk result (self.new ≡ accepted_by self.old (outgoing_of packet)) }
         ensures kept { OnErr result (self.new ≡ self.old) }
         ensures back { IfErr result (λ refused. IsBack refused.0 packet refused.1) }
         ensures late { IfErr result (λ refused. IsLate refused.0) }
-        ensures faults { IfErr result (λ refused. FaultsBy refused.0 (N.made nic.old) self.old (N.made nic.new)) }
+        ensures faults { IfErr result (λ refused.
+            FaultsBy refused.0 packet.buf.number (N.made nic.old) self.old (N.made nic.new)) }
         ensures who { N.who nic.new ≡ N.who nic.old }
     {
         let start = start_of(&packet);
@@ -193,12 +198,13 @@ impl TransmitRing {
         alloc: Global,
         nic: &mut N,
     ) -> Result<(), PmdFault>
-        ensures plays { Plays (N.made nic.old) self.old (N.made nic.new) self.new }
+        ensures plays { (block : ℕ) → PlaysWith block (N.made nic.old) self.old (N.made nic.new) self.new }
         ensures settled { OnOk result (self.new.posted ≡ length self.new.outstanding) }
         ensures kept { IsNoneAccepted self.old self.new }
         ensures layout { self.new.layout ≡ self.old.layout }
         ensures late { IfErr result (λ fault. IsLate fault) }
-        ensures faults { IfErr result (λ fault. FaultsBy fault (N.made nic.old) self.old (N.made nic.new)) }
+        ensures faults { (block : ℕ) → IfErr result (λ fault.
+            FaultsBy fault block (N.made nic.old) self.old (N.made nic.new)) }
         ensures who { N.who nic.new ≡ N.who nic.old }
     {
         match self.stage() {
@@ -211,12 +217,13 @@ impl TransmitRing {
     /// Writes the descriptor of the packet that waits, and moves the tail on.
     fn ask_and_advance<N: Nic>(&mut self, alloc: Global, nic: &mut N) -> Result<(), PmdFault>
         requires { self.old.posted < length self.old.outstanding }
-        ensures plays { Plays (N.made nic.old) self.old (N.made nic.new) self.new }
+        ensures plays { (block : ℕ) → PlaysWith block (N.made nic.old) self.old (N.made nic.new) self.new }
         ensures settled { OnOk result (self.new.posted ≡ self.old.posted + 1) }
         ensures kept { IsNoneAccepted self.old self.new }
         ensures layout { self.new.layout ≡ self.old.layout }
         ensures late { IfErr result (λ fault. IsLate fault) }
-        ensures faults { IfErr result (λ fault. FaultsBy fault (N.made nic.old) self.old (N.made nic.new)) }
+        ensures faults { (block : ℕ) → IfErr result (λ fault.
+            FaultsBy fault block (N.made nic.old) self.old (N.made nic.new)) }
         ensures who { N.who nic.new ≡ N.who nic.old }
     {
         match self.ask(alloc, nic) {

@@ -9,9 +9,8 @@ use Rattle.dma_ring.specs.Descriptor.{first_half, second_half}
 use Rattle.dma_ring.specs.Receive.{is_done, ends_packet}
 use Rattle.nic_device.proofs.Cases.{either_way}
 use Rattle.pmd_base.specs.declared.packet.Packet.{Packet}
-use Rattle.pmd_rx.specs.Keeping.{fresh_block}
+use Rattle.pmd_rx.specs.Keeping.{fresh_block, has_lent}
 use Rattle.pmd_rx.specs.Receive.{Receive, Stage, Looks, Sees, Holding, Lent, Named, MayLend, LendsNext, PeeksNext, TakesNext, looked, took, lent_one, named, moved}
-use Rattle.receive_laws.specs.Lent.{has_lent}
 
 -- numbers among some
 

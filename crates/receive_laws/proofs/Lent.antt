@@ -15,9 +15,9 @@ use Rattle.nic_device.specs.declared.event.Reply.TheVariants as reply
 use Rattle.nic_device.proofs.Cases.{lent_cases}
 use Rattle.history_laws.specs.Lent.{OnlyLent, LendsAnew, LendsNone, LendsOwn, either, with_lent, without}
 use Rattle.history_laws.proofs.Lent.{only_lent_stays}
-use Rattle.pmd_rx.specs.Keeping.{fresh_block}
+use Rattle.pmd_rx.specs.Keeping.{fresh_block, has_lent}
 use Rattle.pmd_rx.specs.Receive.{Receive, Stage, Looks, Sees, Holding, Lent, Named, IsOwn, LendsNext, PeeksNext, TakesNext, drive, took, lent_one}
-use Rattle.receive_laws.specs.Lent.{has_lent, OwnLendsAreKnown}
+use Rattle.receive_laws.specs.Lent.{OwnLendsAreKnown}
 use Rattle.receive_laws.proofs.HasLent.{Has, has_looked, has_named, has_moved, has_took, has_lent_one, unknown}
 
 -- what is known of the numbers

@@ -1,18 +1,12 @@
 -- Which blocks the driver has lent for receiving.
-use Rattle.std.specs.Prelude.{◌==◌}
-use Rattle.std.specs.List.{list_any}
 use Rattle.dma_arena.specs.Block.{Block}
 use Rattle.device_lock.specs.Alone.{Blocks}
 use Rattle.nic_device.specs.State.{State}
 use Rattle.nic_device.specs.Step.{after, reply_to}
 use Rattle.nic_device.specs.declared.event.Event.{Event}
 use Rattle.history_laws.specs.Lent.{OnlyLent, LendsAnew, LendsOwn, either}
-use Rattle.pmd_rx.specs.Keeping.{lent_of}
+use Rattle.pmd_rx.specs.Keeping.{has_lent}
 use Rattle.pmd_rx.specs.Receive.{Receive, IsOwn, drive}
-
--- whether the driver has a block lent: it is the ring's, one of its slots', or a fresh one
-abbrev pub has_lent : Receive → Blocks
-has_lent v number = list_any (λ b. number == b) (lent_of v)
 
 -- where of some numbers only those are lent that the driver has lent for receiving, or others have, each event of the
 -- driver's own leaves it so; and a block that it lends of these numbers, and others haven't lent, it lends anew

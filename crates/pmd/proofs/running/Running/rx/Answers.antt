@@ -1,8 +1,13 @@
-use Rattle.std.proofs.Common.{refl}
+use Rattle.std.proofs.Common.{IfErr, refl, subst}
+use Rattle.dma_arena.specs.Numbers.{is_own}
+use Rattle.pmd.specs.Apart.{FindsBy}
+use Rattle.pmd.specs.Halves.{halves_of}
 use Rattle.pmd.specs.Running.{Running}
 use Rattle.pmd.proofs.Blocks.{received_up}
 use Rattle.pmd.proofs.Handing.{received_goes}
-use Rattle.pmd.proofs.Both.{receive_drives}
+use Rattle.pmd.proofs.Both.{free_may, receive_drives}
+use Rattle.pmd.proofs.Driving.{err_later}
+use Rattle.pmd.proofs.Finding.{wrong_by}
 use Rattle.pmd.proofs.running.Running.rx.Goals as goal
 
 pub invariant_of-self : goal.invariant_of-self
@@ -23,8 +28,24 @@ returns-clause-drives g c =
       transmit = c.self.inside.transmit;
     } in
     let s : Running = record q { arena = c.receive.new.arena; receive = c.receive.new.self } in
-    receive_drives (g.N.Nic.made c.args.nic.now) (g.N.Nic.made c.receive.new.nic) q c.args.self.now s c.self.view_is
-    c.receive.ensures.plays refl
+    receive_drives (g.N.Nic.made c.args.nic.now) (g.N.Nic.made c.receive.new.nic) q c.args.self.now s _ c.self.view_is
+    c.self.invariant c.receive.ensures.plays c.receive.ensures.keeps refl
+
+pub returns-clause-finds : goal.returns-clause-finds
+returns-clause-finds g c =
+    let q : Running = record {
+      arena = c.self.inside.arena;
+      receive = c.self.inside.receive;
+      transmit = c.self.inside.transmit;
+    } in
+    let old = g.N.Nic.made c.args.nic.now in
+    let new = g.N.Nic.made c.receive.new.nic in
+    subst (λ (y : Running). IfErr c.receive.result (λ f. FindsBy f (is_own y.arena) old (halves_of y) new))
+    c.self.view_is
+    (err_later c.receive.result
+    (λ f fails. wrong_by f (is_own q.arena) q.arena c.receive.new.arena old new (halves_of q) c.receive.new.self
+    (free_may q c.self.invariant) fails)
+    c.receive.ensures.fails)
 
 pub returns-clause-home : goal.returns-clause-home
 returns-clause-home g c =

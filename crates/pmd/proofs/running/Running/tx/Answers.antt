@@ -3,8 +3,9 @@ use Rattle.pmd_base.specs.declared.packet.Packet.{Packet}
 use Rattle.pmd_tx.specs.Sending.{Sender}
 use Rattle.pmd_tx.specs.Sends.{gate_of, IsAnswer, IsShut}
 use Rattle.pmd.specs.Running.{Running, receives}
-use Rattle.pmd.proofs.Both.{transmit_drives}
+use Rattle.pmd.proofs.Driving.{err_later}
 use Rattle.pmd.proofs.Sending.{sent_up}
+use Rattle.pmd.proofs.Sent.{sent_drives, sent_finds}
 use Rattle.pmd.proofs.running.Running.tx.Goals as goal
 
 pub invariant_of-self : goal.invariant_of-self
@@ -31,9 +32,36 @@ returns-clause-drives g c =
       receive = c.self.inside.receive;
       transmit = c.self.inside.transmit;
     } in
-    let s : Running = record q { transmit = c.send.new.self } in
-    transmit_drives (g.N.Nic.made c.args.nic.now) (g.N.Nic.made c.send.new.nic) q c.args.self.now s c.self.view_is
-    c.send.ensures.plays refl
+    let p : Packet = c.args.packet in
+    let is : c.receives-elsewhere.result ≡ receives q p.buf.number =
+    subst (λ (n : ℕ). c.receives-elsewhere.result ≡ receives q n) c.block.ensures.number
+    (subst (λ (y : Running). c.receives-elsewhere.result ≡ receives y c.block.result) (sym c.self.view_is)
+    c.receives-elsewhere.ensures) in
+    let shut = subst (λ (e : Bool). IsShut (gate_of q.transmit q.arena e p)
+    → (g.N.Nic.made c.send.new.nic ≡ g.N.Nic.made c.args.nic.now) × (c.send.new.self ≡ q.transmit)) is
+    c.send.ensures.shut in
+    sent_drives (g.N.Nic.made c.args.nic.now) (g.N.Nic.made c.send.new.nic) q c.args.self.now p c.send.new.self
+    c.self.view_is shut c.send.ensures.plays
+
+pub returns-clause-finds : goal.returns-clause-finds
+returns-clause-finds g c =
+    let q : Running = record {
+      arena = c.self.inside.arena;
+      receive = c.self.inside.receive;
+      transmit = c.self.inside.transmit;
+    } in
+    let p : Packet = c.args.packet in
+    let is : c.receives-elsewhere.result ≡ receives q p.buf.number =
+    subst (λ (n : ℕ). c.receives-elsewhere.result ≡ receives q n) c.block.ensures.number
+    (subst (λ (y : Running). c.receives-elsewhere.result ≡ receives y c.block.result) (sym c.self.view_is)
+    c.receives-elsewhere.ensures) in
+    let shut = subst (λ (e : Bool). IsShut (gate_of q.transmit q.arena e p)
+    → (g.N.Nic.made c.send.new.nic ≡ g.N.Nic.made c.args.nic.now) × (c.send.new.self ≡ q.transmit)) is
+    c.send.ensures.shut in
+    err_later c.send.result
+    (λ failed faults. sent_finds (g.N.Nic.made c.args.nic.now) (g.N.Nic.made c.send.new.nic) q c.args.self.now p
+    c.send.new.self c.self.view_is shut failed.fault faults)
+    c.send.ensures.faults
 
 pub returns-clause-answer : goal.returns-clause-answer
 returns-clause-answer g c =

@@ -3,16 +3,17 @@ use Rattle.std.proofs.lemmas.Result.{err_from_is_err_and}
 use Rattle.pmd_base.proofs.Exchanging.{out_kept}
 use Rattle.pmd_rx.specs.Filling.{StopsFilling}
 use Rattle.pmd_rx.specs.Keeping.{blocks_out}
+use Rattle.pmd_rx.proofs.Earlier.{posts_then}
 use Rattle.pmd_rx.proofs.Failing.{err_same}
 use Rattle.pmd_rx.proofs.Filling.{posts_none, posts_more, posts_stage, posts_handed, posts_room, filled_runs, short_of}
 use Rattle.pmd_rx.proofs.Keeping.{keeps_none, keeps_both}
-use Rattle.pmd_rx.proofs.Playing.{plays_none, plays_both}
+use Rattle.pmd_rx.proofs.Playing.{plays_none}
 use Rattle.pmd_rx.proofs.ring.ReceiveRing.fill.Goals as goal
 
 pub loop-count-init : goal.loop-count-init
 loop-count-init g c = record {
   who = refl;
-  plays = plays_none (g.N.Nic.made c.args.nic.now) c.args.self.now;
+  plays = plays_none c.args.arena.now (g.N.Nic.made c.args.nic.now) c.args.self.now;
   posts = posts_none c.args.arena.now c.args.self.now;
   keeps = keeps_none c.args.arena.now c.args.self.now;
 }
@@ -36,8 +37,9 @@ post-requires-clause-home g c =
 pub loop-count-preserved : goal.loop-count-preserved
 loop-count-preserved g c = record {
   who = c.post.ensures.who ∙ c.loop-count.invariant.who;
-  plays = plays_both (g.N.Nic.made c.args.nic.now) (g.N.Nic.made c.loop-count.nic) (g.N.Nic.made c.post.new.nic)
-      c.args.self.now c.loop-count.self c.post.new.self c.loop-count.invariant.plays c.post.ensures.plays;
+  plays = posts_then c.loop-count._count c.args.arena.now c.loop-count.arena (g.N.Nic.made c.args.nic.now)
+      (g.N.Nic.made c.loop-count.nic) (g.N.Nic.made c.post.new.nic) c.args.self.now c.loop-count.self c.post.new.self
+      c.loop-count.invariant.plays c.loop-count.invariant.posts c.post.ensures.plays;
   posts = posts_more c.loop-count._count c.args.arena.now c.loop-count.arena c.post.new.arena c.args.self.now
       c.loop-count.self c.post.new.self c.loop-count.invariant.posts c.in_ok-post.ensures.posted;
   keeps = keeps_both c.args.arena.now c.loop-count.arena c.post.new.arena c.args.self.now c.loop-count.self
@@ -46,8 +48,9 @@ loop-count-preserved g c = record {
 
 pub returns-in_err-post-clause-plays : goal.returns-in_err-post-clause-plays
 returns-in_err-post-clause-plays g c =
-    plays_both (g.N.Nic.made c.args.nic.now) (g.N.Nic.made c.loop-count.nic) (g.N.Nic.made c.post.new.nic)
-    c.args.self.now c.loop-count.self c.post.new.self c.loop-count.invariant.plays c.post.ensures.plays
+    posts_then c.loop-count._count c.args.arena.now c.loop-count.arena (g.N.Nic.made c.args.nic.now)
+    (g.N.Nic.made c.loop-count.nic) (g.N.Nic.made c.post.new.nic) c.args.self.now c.loop-count.self c.post.new.self
+    c.loop-count.invariant.plays c.loop-count.invariant.posts c.post.ensures.plays
 
 pub returns-in_err-post-clause-handed : goal.returns-in_err-post-clause-handed
 returns-in_err-post-clause-handed g c =
@@ -65,7 +68,8 @@ returns-in_err-post-clause-fails g c =
       mid = g.N.Nic.made c.loop-count.nic;
       arena = c.loop-count.arena;
       ring = c.loop-count.self;
-      plays = c.loop-count.invariant.plays;
+      plays = c.loop-count.invariant.plays.plays;
+      free = c.loop-count.invariant.plays.free;
       posts = c.loop-count.invariant.posts;
       fails = c.in_err-post.ensures.fails;
     } in
@@ -81,7 +85,8 @@ returns-in_err-post-clause-short g c is =
       mid = g.N.Nic.made c.loop-count.nic;
       arena = c.loop-count.arena;
       ring = c.loop-count.self;
-      plays = c.loop-count.invariant.plays;
+      plays = c.loop-count.invariant.plays.plays;
+      free = c.loop-count.invariant.plays.free;
       posts = c.loop-count.invariant.posts;
       fails = c.in_err-post.ensures.fails;
     } in

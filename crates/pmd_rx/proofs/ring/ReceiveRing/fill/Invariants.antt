@@ -1,13 +1,13 @@
 use Rattle.std.proofs.Common.{◌≡◌, []}
 use Rattle.pmd_rx.specs.Filling.{PostsSome}
 use Rattle.pmd_rx.specs.Keeping.{Keeps}
-use Rattle.pmd_rx.specs.Plays.{Plays}
+use Rattle.pmd_rx.specs.Plays.{PlaysFrom}
 use Rattle.pmd_rx.proofs.ring.ReceiveRing.fill.Given as goal
 
 abbrev pub invariant-loop-count : goal.invariant-loop-count
 invariant-loop-count g l = record {
   who : g.N.Nic.who l.nic ≡ g.N.Nic.who l.fn.nic;
-  plays : Plays (g.N.Nic.made l.fn.nic) l.fn.self (g.N.Nic.made l.nic) l.self;
+  plays : PlaysFrom l.fn.arena (g.N.Nic.made l.fn.nic) l.fn.self (g.N.Nic.made l.nic) l.self;
   posts : PostsSome l._count l.fn.arena l.fn.self l.arena l.self;
   keeps : Keeps l.fn.arena l.fn.self l.arena l.self [];
 }

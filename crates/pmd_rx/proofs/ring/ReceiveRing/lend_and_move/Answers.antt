@@ -30,12 +30,13 @@ give_back-requires-clause-away g c =
 
 pub returns-in-Ok-clause-plays : goal.returns-in-Ok-clause-plays
 returns-in-Ok-clause-plays g c =
-    plays_both (g.N.Nic.made c.args.nic.now) (g.N.Nic.made c.lend_fresh.new.nic) (g.N.Nic.made c.name_and_move.new.nic)
-    c.args.self.now c.lend_fresh.new.self c.name_and_move.new.self c.lend_fresh.ensures.plays
-    c.name_and_move.ensures.plays
+    let a = c.args.arena.now in
+    plays_both a (g.N.Nic.made c.args.nic.now) (g.N.Nic.made c.lend_fresh.new.nic)
+    (g.N.Nic.made c.name_and_move.new.nic) c.args.self.now c.lend_fresh.new.self c.name_and_move.new.self
+    (c.lend_fresh.ensures.plays a c.in-Some.ensures.free) (c.name_and_move.ensures.plays a)
 
 pub returns-in_default-clause-plays : goal.returns-in_default-clause-plays
-returns-in_default-clause-plays g c = plays_none (g.N.Nic.made c.args.nic.now) c.args.self.now
+returns-in_default-clause-plays g c = plays_none c.args.arena.now (g.N.Nic.made c.args.nic.now) c.args.self.now
 
 pub returns-in-Ok-clause-moved : goal.returns-in-Ok-clause-moved
 returns-in-Ok-clause-moved g c =
@@ -50,24 +51,26 @@ returns-in-Ok-clause-out g c =
 
 pub returns-in-Ok-clause-fails : goal.returns-in-Ok-clause-fails
 returns-in-Ok-clause-fails g c =
+    let a = c.args.arena.now in
     let old = g.N.Nic.made c.args.nic.now in
     let mid = g.N.Nic.made c.lend_fresh.new.nic in
     let new = g.N.Nic.made c.name_and_move.new.nic in
     fails_all c.name_and_move.result old new c.args.arena.now c.take.new.self c.args.self.now
     c.name_and_move.new.self
-    (faults_after c.name_and_move.result old mid new c.args.self.now c.lend_fresh.new.self c.name_and_move.new.self
-    c.lend_fresh.ensures.plays c.name_and_move.ensures.fault)
+    (faults_after c.name_and_move.result a old mid new c.args.self.now c.lend_fresh.new.self c.name_and_move.new.self
+    (c.lend_fresh.ensures.plays a c.in-Some.ensures.free) (c.name_and_move.ensures.fault a))
 
 pub returns-in-Err-clause-fails : goal.returns-in-Err-clause-fails
 returns-in-Err-clause-fails g c =
     fails_of c.in-Err.fault (g.N.Nic.made c.args.nic.now) (g.N.Nic.made c.lend_fresh.new.nic) c.args.arena.now
-    c.give_back.new.arena c.args.self.now c.lend_fresh.new.self c.in-Err.ensures.fault
+    c.give_back.new.arena c.args.self.now c.lend_fresh.new.self
+    (c.in-Err.ensures.fault c.args.arena.now c.in-Some.ensures.free)
 
 pub returns-in-Ok-clause-same : goal.returns-in-Ok-clause-same
 returns-in-Ok-clause-same g c short =
-    absurd (never_short c.name_and_move.result (g.N.Nic.made c.lend_fresh.new.nic)
+    absurd (never_short c.name_and_move.result c.args.arena.now (g.N.Nic.made c.lend_fresh.new.nic)
     (g.N.Nic.made c.name_and_move.new.nic) c.lend_fresh.new.self c.name_and_move.new.self
-    c.name_and_move.ensures.fault short)
+    (c.name_and_move.ensures.fault c.args.arena.now) short)
 
 pub returns-in-Err-clause-same : goal.returns-in-Err-clause-same
 returns-in-Err-clause-same g c short = c.in-Err.ensures.kept
@@ -95,3 +98,6 @@ returns-in-Err-clause-keeps g c =
 pub returns-in_default-clause-keeps : goal.returns-in_default-clause-keeps
 returns-in_default-clause-keeps g c =
     keeps_still c.args.arena.now c.take.new.self c.args.self.now c.args.self.now c.in_default.ensures.kept refl
+
+pub returns-in-Err-clause-plays : goal.returns-in-Err-clause-plays
+returns-in-Err-clause-plays g c = c.lend_fresh.ensures.plays c.args.arena.now c.in-Some.ensures.free

@@ -9,22 +9,23 @@ use Rattle.pmd_rx.proofs.Playing.{plays_both}
 use Rattle.pmd_rx.proofs.ring.ReceiveRing.look_and_take.Goals as goal
 
 pub returns-in-Ok-Packet-clause-plays : goal.returns-in-Ok-Packet-clause-plays
-returns-in-Ok-Packet-clause-plays g c =
-    plays_both (g.N.Nic.made c.args.nic.now) (g.N.Nic.made c.look.new.nic) (g.N.Nic.made c.take_seen.new.nic)
-    c.args.self.now c.look.new.self c.take_seen.new.self c.look.ensures.plays c.take_seen.ensures.plays
+returns-in-Ok-Packet-clause-plays g c arena =
+    plays_both arena (g.N.Nic.made c.args.nic.now) (g.N.Nic.made c.look.new.nic) (g.N.Nic.made c.take_seen.new.nic)
+    c.args.self.now c.look.new.self c.take_seen.new.self (c.look.ensures.plays arena) (c.take_seen.ensures.plays arena)
 
 pub returns-in-Ok-Packet-clause-fails : goal.returns-in-Ok-Packet-clause-fails
 returns-in-Ok-Packet-clause-fails g c =
     fails_behind c.take_seen.result (g.N.Nic.made c.args.nic.now) (g.N.Nic.made c.look.new.nic)
     (g.N.Nic.made c.take_seen.new.nic) c.args.arena.now c.args.arena.now c.args.self.now c.look.new.self
-    c.take_seen.new.self c.look.ensures.plays c.look.ensures.kept.0 c.look.ensures.kept.1 c.take_seen.ensures.fails
+    c.take_seen.new.self (c.look.ensures.plays c.args.arena.now) c.look.ensures.kept.0 c.look.ensures.kept.1
+    c.take_seen.ensures.fails
 
 pub returns-in-Err-clause-fails : goal.returns-in-Err-clause-fails
 returns-in-Err-clause-fails g c =
     let old = g.N.Nic.made c.args.nic.now in
     let new = g.N.Nic.made c.look.new.nic in
     fails_of c.in-Err.fault old new c.args.arena.now c.args.arena.now c.args.self.now c.look.new.self
-    (refused_fault c.in-Err.fault old new c.args.self.now c.look.new.self c.in-Err.ensures.refused)
+    (refused_fault c.in-Err.fault c.args.arena.now old new c.args.self.now c.look.new.self c.in-Err.ensures.refused)
 
 pub returns-in-Ok-Packet-clause-waits : goal.returns-in-Ok-Packet-clause-waits
 returns-in-Ok-Packet-clause-waits g c short =

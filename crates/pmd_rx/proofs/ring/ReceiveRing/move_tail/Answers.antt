@@ -3,14 +3,16 @@ use Rattle.pmd_rx.proofs.Refilling.{move_keeps}
 use Rattle.pmd_rx.proofs.ring.ReceiveRing.move_tail.Goals as goal
 
 pub returns-clause-plays : goal.returns-clause-plays
-returns-clause-plays g c =
-    move_plays (g.N.Nic.made c.args.nic.now) (g.N.Nic.made c.write_tail.new.nic) c.args.self.now c.write_tail.result
+returns-clause-plays g c arena =
+    move_plays arena (g.N.Nic.made c.args.nic.now) (g.N.Nic.made c.write_tail.new.nic) c.args.self.now
+    c.write_tail.result
     c.write_tail.new.self c.requires c.write_tail.ensures.made c.write_tail.ensures.moved c.write_tail.ensures.kept
     c.write_tail.ensures.failed
 
 pub returns-clause-fault : goal.returns-clause-fault
-returns-clause-fault g c =
-    move_fails (g.N.Nic.made c.args.nic.now) (g.N.Nic.made c.write_tail.new.nic) c.args.self.now c.write_tail.result
+returns-clause-fault g c arena =
+    move_fails arena (g.N.Nic.made c.args.nic.now) (g.N.Nic.made c.write_tail.new.nic) c.args.self.now
+    c.write_tail.result
     c.write_tail.new.self c.requires c.write_tail.ensures.kept c.write_tail.ensures.failed
 
 pub returns-clause-keeps : goal.returns-clause-keeps

@@ -13,9 +13,11 @@ move_tail-requires g c =
     rw c.in-Ok.ensures.named (named_stage c.args.self.now c.requires)
 
 pub returns-in-Ok-clause-plays : goal.returns-in-Ok-clause-plays
-returns-in-Ok-clause-plays g c =
-    plays_both (g.N.Nic.made c.args.nic.now) (g.N.Nic.made c.name_fresh.new.nic) (g.N.Nic.made c.move_tail.new.nic)
-    c.args.self.now c.name_fresh.new.self c.move_tail.new.self c.name_fresh.ensures.plays c.move_tail.ensures.plays
+returns-in-Ok-clause-plays g c arena =
+    plays_both arena (g.N.Nic.made c.args.nic.now) (g.N.Nic.made c.name_fresh.new.nic)
+    (g.N.Nic.made c.move_tail.new.nic)
+    c.args.self.now c.name_fresh.new.self c.move_tail.new.self (c.name_fresh.ensures.plays arena)
+    (c.move_tail.ensures.plays arena)
 
 pub returns-in-Ok-clause-moved : goal.returns-in-Ok-clause-moved
 returns-in-Ok-clause-moved g c =
@@ -23,10 +25,10 @@ returns-in-Ok-clause-moved g c =
     c.in-Ok.ensures.named c.move_tail.ensures.moved
 
 pub returns-in-Ok-clause-fault : goal.returns-in-Ok-clause-fault
-returns-in-Ok-clause-fault g c =
-    faults_after c.move_tail.result (g.N.Nic.made c.args.nic.now) (g.N.Nic.made c.name_fresh.new.nic)
+returns-in-Ok-clause-fault g c arena =
+    faults_after c.move_tail.result arena (g.N.Nic.made c.args.nic.now) (g.N.Nic.made c.name_fresh.new.nic)
     (g.N.Nic.made c.move_tail.new.nic) c.args.self.now c.name_fresh.new.self c.move_tail.new.self
-    c.name_fresh.ensures.plays c.move_tail.ensures.fault
+    (c.name_fresh.ensures.plays arena) (c.move_tail.ensures.fault arena)
 
 pub returns-in-Ok-clause-keeps : goal.returns-in-Ok-clause-keeps
 returns-in-Ok-clause-keeps g c a =
@@ -40,3 +42,6 @@ pub returns-in-Err-clause-keeps : goal.returns-in-Err-clause-keeps
 returns-in-Err-clause-keeps g c a =
     keeps_to a a c.args.self.now c.args.self.now c.name_fresh.new.self [] c.in-Err.ensures.kept
     (keeps_none a c.args.self.now)
+
+pub returns-in-Err-clause-plays : goal.returns-in-Err-clause-plays
+returns-in-Err-clause-plays g c arena = c.name_fresh.ensures.plays arena

@@ -55,12 +55,13 @@ returns-in-Move-clause-err g c =
 pub returns-in-Name-clause-fails : goal.returns-in-Name-clause-fails
 returns-in-Name-clause-fails g c =
     fails_all c.name_and_move.result (g.N.Nic.made c.args.nic.now) (g.N.Nic.made c.name_and_move.new.nic)
-    c.args.arena.now c.args.arena.now c.args.self.now c.name_and_move.new.self c.name_and_move.ensures.fault
+    c.args.arena.now c.args.arena.now c.args.self.now c.name_and_move.new.self
+    (c.name_and_move.ensures.fault c.args.arena.now)
 
 pub returns-in-Move-clause-fails : goal.returns-in-Move-clause-fails
 returns-in-Move-clause-fails g c =
     fails_all c.move_tail.result (g.N.Nic.made c.args.nic.now) (g.N.Nic.made c.move_tail.new.nic)
-    c.args.arena.now c.args.arena.now c.args.self.now c.move_tail.new.self c.move_tail.ensures.fault
+    c.args.arena.now c.args.arena.now c.args.self.now c.move_tail.new.self (c.move_tail.ensures.fault c.args.arena.now)
 
 pub returns-in-Lend-clause-waits : goal.returns-in-Lend-clause-waits
 returns-in-Lend-clause-waits g c short =
@@ -69,16 +70,24 @@ returns-in-Lend-clause-waits g c short =
 
 pub returns-in-Name-clause-waits : goal.returns-in-Name-clause-waits
 returns-in-Name-clause-waits g c short =
-    absurd (never_short c.name_and_move.result (g.N.Nic.made c.args.nic.now) (g.N.Nic.made c.name_and_move.new.nic)
-    c.args.self.now c.name_and_move.new.self c.name_and_move.ensures.fault short)
+    absurd (never_short c.name_and_move.result c.args.arena.now (g.N.Nic.made c.args.nic.now)
+    (g.N.Nic.made c.name_and_move.new.nic)
+    c.args.self.now c.name_and_move.new.self (c.name_and_move.ensures.fault c.args.arena.now) short)
 
 pub returns-in-Move-clause-waits : goal.returns-in-Move-clause-waits
 returns-in-Move-clause-waits g c short =
-    absurd (never_short c.move_tail.result (g.N.Nic.made c.args.nic.now) (g.N.Nic.made c.move_tail.new.nic)
-    c.args.self.now c.move_tail.new.self c.move_tail.ensures.fault short)
+    absurd
+    (never_short c.move_tail.result c.args.arena.now (g.N.Nic.made c.args.nic.now) (g.N.Nic.made c.move_tail.new.nic)
+    c.args.self.now c.move_tail.new.self (c.move_tail.ensures.fault c.args.arena.now) short)
 
 pub returns-in-Name-clause-keeps : goal.returns-in-Name-clause-keeps
 returns-in-Name-clause-keeps g c = c.name_and_move.ensures.keeps c.args.arena.now
 
 pub returns-in-Move-clause-keeps : goal.returns-in-Move-clause-keeps
 returns-in-Move-clause-keeps g c = c.move_tail.ensures.keeps c.args.arena.now
+
+pub returns-in-Name-clause-plays : goal.returns-in-Name-clause-plays
+returns-in-Name-clause-plays g c = c.name_and_move.ensures.plays c.args.arena.now
+
+pub returns-in-Move-clause-plays : goal.returns-in-Move-clause-plays
+returns-in-Move-clause-plays g c = c.move_tail.ensures.plays c.args.arena.now

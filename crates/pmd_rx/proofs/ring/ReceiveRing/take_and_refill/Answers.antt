@@ -32,9 +32,10 @@ lend_and_move-requires-clause-home g c =
 
 pub returns-in-Ok-true-clause-plays : goal.returns-in-Ok-true-clause-plays
 returns-in-Ok-true-clause-plays g c =
-    plays_both (g.N.Nic.made c.args.nic.now) (g.N.Nic.made c.look_and_take.new.nic)
+    let a = c.args.arena.now in
+    plays_both a (g.N.Nic.made c.args.nic.now) (g.N.Nic.made c.look_and_take.new.nic)
     (g.N.Nic.made c.lend_and_move.new.nic) c.args.self.now c.look_and_take.new.self c.lend_and_move.new.self
-    c.look_and_take.ensures.plays c.lend_and_move.ensures.plays
+    (c.look_and_take.ensures.plays a) c.lend_and_move.ensures.plays
 
 pub returns-in-Ok-true-clause-some : goal.returns-in-Ok-true-clause-some
 returns-in-Ok-true-clause-some g c =
@@ -60,7 +61,7 @@ pub returns-in-Ok-true-clause-fails : goal.returns-in-Ok-true-clause-fails
 returns-in-Ok-true-clause-fails g c =
     fails_later c.lend_and_move.result (g.N.Nic.made c.args.nic.now) (g.N.Nic.made c.look_and_take.new.nic)
     (g.N.Nic.made c.lend_and_move.new.nic) c.args.arena.now c.lend_and_move.new.arena c.args.self.now
-    c.look_and_take.new.self c.lend_and_move.new.self c.look_and_take.ensures.plays
+    c.look_and_take.new.self c.lend_and_move.new.self (c.look_and_take.ensures.plays c.args.arena.now)
     (c.look_and_take.ensures.free
     (ok_true c.look_and_take.result c.in-Ok-true.field-0 c.in-Ok-true.is c.in-Ok-true.field-0-test))
     c.lend_and_move.ensures.fails
@@ -82,3 +83,9 @@ returns-in-Ok-false-clause-keeps g c = c.look_and_take.ensures.keeps c.args.aren
 
 pub returns-in-Err-clause-keeps : goal.returns-in-Err-clause-keeps
 returns-in-Err-clause-keeps g c = c.look_and_take.ensures.keeps c.args.arena.now
+
+pub returns-in-Ok-false-clause-plays : goal.returns-in-Ok-false-clause-plays
+returns-in-Ok-false-clause-plays g c = c.look_and_take.ensures.plays c.args.arena.now
+
+pub returns-in-Err-clause-plays : goal.returns-in-Err-clause-plays
+returns-in-Err-clause-plays g c = c.look_and_take.ensures.plays c.args.arena.now

@@ -8,9 +8,9 @@ use Rattle.pmd_tx.proofs.ring.TransmitRing.accept_and_post.Goals as goal
 
 pub returns-in-Ok-clause-plays : goal.returns-in-Ok-clause-plays
 returns-in-Ok-clause-plays g c =
-    plays_both (g.N.Nic.made c.args.nic.now) (g.N.Nic.made c.accept_padded.new.nic)
+    plays_both c.args.packet.buf.number (g.N.Nic.made c.args.nic.now) (g.N.Nic.made c.accept_padded.new.nic)
     (g.N.Nic.made c.post_accepted.new.nic) c.args.self.now c.accept_padded.new.self c.post_accepted.new.self
-    c.accept_padded.ensures.plays c.post_accepted.ensures.plays
+    c.accept_padded.ensures.plays (c.post_accepted.ensures.plays c.args.packet.buf.number)
 
 pub returns-in-Ok-clause-accepted : goal.returns-in-Ok-clause-accepted
 returns-in-Ok-clause-accepted g c =
@@ -26,9 +26,9 @@ returns-in-Ok-clause-back g c = none_back c.post_accepted.result c.args.packet c
 
 pub returns-in-Ok-clause-faults : goal.returns-in-Ok-clause-faults
 returns-in-Ok-clause-faults g c =
-    after_all (λ (f : TxFault). f.fault) c.post_accepted.result (g.N.Nic.made c.args.nic.now)
+    after_all (λ (f : TxFault). f.fault) c.post_accepted.result c.args.packet.buf.number (g.N.Nic.made c.args.nic.now)
     (g.N.Nic.made c.accept_padded.new.nic) (g.N.Nic.made c.post_accepted.new.nic) c.args.self.now
-    c.accept_padded.new.self c.accept_padded.ensures.plays c.post_accepted.ensures.faults
+    c.accept_padded.new.self c.accept_padded.ensures.plays (c.post_accepted.ensures.faults c.args.packet.buf.number)
 
 pub returns-in-Ok-clause-layout : goal.returns-in-Ok-clause-layout
 returns-in-Ok-clause-layout g c =

@@ -18,3 +18,12 @@ returns-in-Err-clause-back g c =
     back_undone c.in-Err.fault c.args.packet c.pad.new.packet c.in-Err.packet c.unpad.new.packet
     c.start_of-start.result c.start_of-start.ensures.whole c.requires.may.short c.pad.ensures
     c.start_of-start.ensures.bytes c.in-Err.ensures.back c.unpad.ensures
+
+pub returns-in-Ok-clause-plays : goal.returns-in-Ok-clause-plays
+returns-in-Ok-clause-plays g c = rw c.pad.ensures at c.accept.ensures.plays
+
+pub returns-in-Err-clause-plays : goal.returns-in-Err-clause-plays
+returns-in-Err-clause-plays g c = rw c.pad.ensures at c.accept.ensures.plays
+
+pub returns-in-Err-clause-faults : goal.returns-in-Err-clause-faults
+returns-in-Err-clause-faults g c = rw c.pad.ensures at c.in-Err.ensures.faults

@@ -3,26 +3,27 @@ use Rattle.pmd_tx.proofs.Playing.{plays_some}
 use Rattle.pmd_tx.proofs.ring.TransmitRing.ask.Goals as goal
 
 pub returns-in-Ok-true-clause-plays : goal.returns-in-Ok-true-clause-plays
-returns-in-Ok-true-clause-plays g c =
-    ask_plays (g.N.Nic.made c.args.nic.now) (g.N.Nic.made c.poke.new.nic) c.args.self.now
+returns-in-Ok-true-clause-plays g c block =
+    ask_plays block (g.N.Nic.made c.args.nic.now) (g.N.Nic.made c.poke.new.nic) c.args.self.now
     c.waiting_descriptor-address.result c.asking-bytes.result
     (c.requires, c.waiting_descriptor-address.ensures, c.asking-bytes.ensures) c.keep_asked.new.self
     (rw c.in-Ok-true.field-0-test at c.in-Ok-true.ensures.made) c.keep_asked.ensures
 
 pub returns-in-Ok-false-clause-plays : goal.returns-in-Ok-false-clause-plays
-returns-in-Ok-false-clause-plays g c =
-    ask_misses (g.N.Nic.made c.args.nic.now) (g.N.Nic.made c.poke.new.nic) c.args.self.now
+returns-in-Ok-false-clause-plays g c block =
+    ask_misses block (g.N.Nic.made c.args.nic.now) (g.N.Nic.made c.poke.new.nic) c.args.self.now
     c.waiting_descriptor-address.result c.asking-bytes.result
     (c.requires, c.waiting_descriptor-address.ensures, c.asking-bytes.ensures)
     (rw c.in-Ok-false.field-0-test at c.in-Ok-false.ensures.made)
 
 pub returns-in-Ok-false-clause-faults : goal.returns-in-Ok-false-clause-faults
-returns-in-Ok-false-clause-faults g c =
-    ask_faults (g.N.Nic.made c.args.nic.now) (g.N.Nic.made c.poke.new.nic) c.args.self.now
+returns-in-Ok-false-clause-faults g c block =
+    ask_faults block (g.N.Nic.made c.args.nic.now) (g.N.Nic.made c.poke.new.nic) c.args.self.now
     c.waiting_descriptor-address.result c.asking-bytes.result
     (c.requires, c.waiting_descriptor-address.ensures, c.asking-bytes.ensures)
     (rw c.in-Ok-false.field-0-test at c.in-Ok-false.ensures.made)
 
 pub returns-in-Err-clause-plays : goal.returns-in-Err-clause-plays
-returns-in-Err-clause-plays g c =
-    plays_some (g.N.Nic.made c.args.nic.now) (g.N.Nic.made c.poke.new.nic) c.args.self.now c.in-Err.ensures.refused
+returns-in-Err-clause-plays g c block =
+    plays_some block (g.N.Nic.made c.args.nic.now) (g.N.Nic.made c.poke.new.nic) c.args.self.now
+    c.in-Err.ensures.refused

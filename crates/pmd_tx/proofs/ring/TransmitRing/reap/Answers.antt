@@ -9,16 +9,17 @@ pub reap_sent-requires-clause-home : goal.reap_sent-requires-clause-home
 reap_sent-requires-clause-home g c = rw c.post_waiting.ensures.kept.outstanding c.requires
 
 pub returns-in-Ok-clause-plays : goal.returns-in-Ok-clause-plays
-returns-in-Ok-clause-plays g c =
-    plays_both (g.N.Nic.made c.args.nic.now) (g.N.Nic.made c.post_waiting.new.nic) (g.N.Nic.made c.reap_sent.new.nic)
-    c.args.self.now c.post_waiting.new.self c.reap_sent.new.self c.post_waiting.ensures.plays
-    c.reap_sent.ensures.plays
+returns-in-Ok-clause-plays g c block =
+    plays_both block (g.N.Nic.made c.args.nic.now) (g.N.Nic.made c.post_waiting.new.nic)
+    (g.N.Nic.made c.reap_sent.new.nic)
+    c.args.self.now c.post_waiting.new.self c.reap_sent.new.self (c.post_waiting.ensures.plays block)
+    (c.reap_sent.ensures.plays block)
 
 pub returns-in-Ok-clause-waits : goal.returns-in-Ok-clause-waits
 returns-in-Ok-clause-waits g c =
     waits_after c.reap_sent.result (g.N.Nic.made c.args.nic.now) (g.N.Nic.made c.post_waiting.new.nic)
     (g.N.Nic.made c.reap_sent.new.nic) c.args.self.now c.post_waiting.new.self c.reap_sent.new.self
-    c.post_waiting.ensures.plays c.post_waiting.ensures.kept.accepted c.reap_sent.ensures.waits
+    (c.post_waiting.ensures.plays 0).plays c.post_waiting.ensures.kept.accepted c.reap_sent.ensures.waits
 
 pub returns-in-Ok-clause-freed : goal.returns-in-Ok-clause-freed
 returns-in-Ok-clause-freed g c =
@@ -39,10 +40,10 @@ returns-in-Ok-clause-layout g c =
     ∙ ap (λ (l : Layout). record l { next = c.reap_sent.new.self.layout.next }) c.post_waiting.ensures.layout
 
 pub returns-in-Ok-clause-faults : goal.returns-in-Ok-clause-faults
-returns-in-Ok-clause-faults g c =
-    after_all (λ fault. fault) c.reap_sent.result (g.N.Nic.made c.args.nic.now)
+returns-in-Ok-clause-faults g c block =
+    after_all (λ fault. fault) c.reap_sent.result block (g.N.Nic.made c.args.nic.now)
     (g.N.Nic.made c.post_waiting.new.nic) (g.N.Nic.made c.reap_sent.new.nic) c.args.self.now c.post_waiting.new.self
-    c.post_waiting.ensures.plays c.reap_sent.ensures.faults
+    (c.post_waiting.ensures.plays block) (c.reap_sent.ensures.faults block)
 
 pub returns-in-Err-clause-some : goal.returns-in-Err-clause-some
 returns-in-Err-clause-some g c = (

@@ -3,17 +3,19 @@ use Rattle.pmd_tx.proofs.Playing.{plays_both}
 use Rattle.pmd_tx.proofs.ring.TransmitRing.reap_oldest.Goals as goal
 
 pub returns-in-Ok-clause-plays : goal.returns-in-Ok-clause-plays
-returns-in-Ok-clause-plays g c =
-    plays_both (g.N.Nic.made c.args.nic.now) (g.N.Nic.made c.look.new.nic) (g.N.Nic.made c.free_oldest.new.nic)
-    c.args.self.now c.look.new.self c.free_oldest.new.self c.look.ensures.plays c.free_oldest.ensures.plays
+returns-in-Ok-clause-plays g c block =
+    plays_both block (g.N.Nic.made c.args.nic.now) (g.N.Nic.made c.look.new.nic) (g.N.Nic.made c.free_oldest.new.nic)
+    c.args.self.now c.look.new.self c.free_oldest.new.self (c.look.ensures.plays block)
+    (c.free_oldest.ensures.plays block)
 
 pub returns-in-Err-free_oldest-clause-plays : goal.returns-in-Err-free_oldest-clause-plays
-returns-in-Err-free_oldest-clause-plays g c =
-    plays_both (g.N.Nic.made c.args.nic.now) (g.N.Nic.made c.look.new.nic) (g.N.Nic.made c.free_oldest.new.nic)
-    c.args.self.now c.look.new.self c.free_oldest.new.self c.look.ensures.plays c.free_oldest.ensures.plays
+returns-in-Err-free_oldest-clause-plays g c block =
+    plays_both block (g.N.Nic.made c.args.nic.now) (g.N.Nic.made c.look.new.nic) (g.N.Nic.made c.free_oldest.new.nic)
+    c.args.self.now c.look.new.self c.free_oldest.new.self (c.look.ensures.plays block)
+    (c.free_oldest.ensures.plays block)
 
 pub returns-in-Err-free_oldest-clause-faults : goal.returns-in-Err-free_oldest-clause-faults
-returns-in-Err-free_oldest-clause-faults g c =
-    by_after c.in-Err-free_oldest.fault (g.N.Nic.made c.args.nic.now) (g.N.Nic.made c.look.new.nic)
-    (g.N.Nic.made c.free_oldest.new.nic) c.args.self.now c.look.new.self c.look.ensures.plays
-    c.in-Err-free_oldest.ensures.faults
+returns-in-Err-free_oldest-clause-faults g c block =
+    by_after c.in-Err-free_oldest.fault block (g.N.Nic.made c.args.nic.now) (g.N.Nic.made c.look.new.nic)
+    (g.N.Nic.made c.free_oldest.new.nic) c.args.self.now c.look.new.self (c.look.ensures.plays block)
+    (c.in-Err-free_oldest.ensures.faults block)

@@ -20,25 +20,25 @@ loop-freed-preserved g c = (
 )
 
 pub returns-in-Ok-false-clause-plays : goal.returns-in-Ok-false-clause-plays
-returns-in-Ok-false-clause-plays g c =
-    plays_both (g.N.Nic.made c.args.nic.now) (g.N.Nic.made c.loop-freed.nic) (g.N.Nic.made c.reap_oldest.new.nic)
-    c.args.self.now c.loop-freed.self c.reap_oldest.new.self c.loop-freed.invariant.0.plays
-    c.reap_oldest.ensures.plays
+returns-in-Ok-false-clause-plays g c block =
+    plays_both block (g.N.Nic.made c.args.nic.now) (g.N.Nic.made c.loop-freed.nic) (g.N.Nic.made c.reap_oldest.new.nic)
+    c.args.self.now c.loop-freed.self c.reap_oldest.new.self (c.loop-freed.invariant.0.plays block)
+    (c.reap_oldest.ensures.plays block)
 
 pub returns-in-Ok-false-clause-waits : goal.returns-in-Ok-false-clause-waits
 returns-in-Ok-false-clause-waits g c = λ is.
     looks_after (g.N.Nic.made c.args.nic.now) (g.N.Nic.made c.loop-freed.nic) (g.N.Nic.made c.reap_oldest.new.nic)
-    c.args.self.now c.loop-freed.self c.reap_oldest.new.self c.loop-freed.invariant.0.plays
+    c.args.self.now c.loop-freed.self c.reap_oldest.new.self (c.loop-freed.invariant.0.plays 0).plays
     c.loop-freed.invariant.0.accepted (c.in-Ok-false.ensures.waits (rw c.in-Ok-false.field-0-test refl))
 
 pub returns-in-Err-clause-plays : goal.returns-in-Err-clause-plays
-returns-in-Err-clause-plays g c =
-    plays_both (g.N.Nic.made c.args.nic.now) (g.N.Nic.made c.loop-freed.nic) (g.N.Nic.made c.reap_oldest.new.nic)
-    c.args.self.now c.loop-freed.self c.reap_oldest.new.self c.loop-freed.invariant.0.plays
-    c.reap_oldest.ensures.plays
+returns-in-Err-clause-plays g c block =
+    plays_both block (g.N.Nic.made c.args.nic.now) (g.N.Nic.made c.loop-freed.nic) (g.N.Nic.made c.reap_oldest.new.nic)
+    c.args.self.now c.loop-freed.self c.reap_oldest.new.self (c.loop-freed.invariant.0.plays block)
+    (c.reap_oldest.ensures.plays block)
 
 pub returns-in-Err-clause-faults : goal.returns-in-Err-clause-faults
-returns-in-Err-clause-faults g c =
-    by_after c.in-Err.fault (g.N.Nic.made c.args.nic.now) (g.N.Nic.made c.loop-freed.nic)
-    (g.N.Nic.made c.reap_oldest.new.nic) c.args.self.now c.loop-freed.self c.loop-freed.invariant.0.plays
-    c.in-Err.ensures.faults
+returns-in-Err-clause-faults g c block =
+    by_after c.in-Err.fault block (g.N.Nic.made c.args.nic.now) (g.N.Nic.made c.loop-freed.nic)
+    (g.N.Nic.made c.reap_oldest.new.nic) c.args.self.now c.loop-freed.self (c.loop-freed.invariant.0.plays block)
+    (c.in-Err.ensures.faults block)

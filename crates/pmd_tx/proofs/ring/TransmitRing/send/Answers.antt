@@ -8,10 +8,10 @@ send_through-requires g c =
     open_may c.args.self.now c.args.arena.now c.args.elsewhere c.args.packet c.in-Open.ensures
 
 pub returns-in-Refused-clause-plays : goal.returns-in-Refused-clause-plays
-returns-in-Refused-clause-plays g c = plays_none (g.N.Nic.made c.args.nic.now) c.args.self.now
+returns-in-Refused-clause-plays g c = plays_none c.args.packet.buf.number (g.N.Nic.made c.args.nic.now) c.args.self.now
 
 pub returns-in-Full-clause-plays : goal.returns-in-Full-clause-plays
-returns-in-Full-clause-plays g c = plays_none (g.N.Nic.made c.args.nic.now) c.args.self.now
+returns-in-Full-clause-plays g c = plays_none c.args.packet.buf.number (g.N.Nic.made c.args.nic.now) c.args.self.now
 
 pub returns-in-Refused-clause-answer : goal.returns-in-Refused-clause-answer
 returns-in-Refused-clause-answer g c = rw (← c.in-Refused.ensures) refl

@@ -12,9 +12,9 @@ accept_and_post-requires-clause-may g c =
 
 pub returns-in-Ok-clause-plays : goal.returns-in-Ok-clause-plays
 returns-in-Ok-clause-plays g c =
-    plays_both (g.N.Nic.made c.args.nic.now) (g.N.Nic.made c.post_waiting.new.nic)
+    plays_both c.args.packet.buf.number (g.N.Nic.made c.args.nic.now) (g.N.Nic.made c.post_waiting.new.nic)
     (g.N.Nic.made c.accept_and_post.new.nic) c.args.self.now c.post_waiting.new.self c.accept_and_post.new.self
-    c.post_waiting.ensures.plays c.accept_and_post.ensures.plays
+    (c.post_waiting.ensures.plays c.args.packet.buf.number) c.accept_and_post.ensures.plays
 
 pub returns-in-Ok-clause-accepted : goal.returns-in-Ok-clause-accepted
 returns-in-Ok-clause-accepted g c =
@@ -28,9 +28,15 @@ returns-in-Ok-clause-kept g c =
 
 pub returns-in-Ok-clause-faults : goal.returns-in-Ok-clause-faults
 returns-in-Ok-clause-faults g c =
-    after_all (λ (f : TxFault). f.fault) c.accept_and_post.result (g.N.Nic.made c.args.nic.now)
+    after_all (λ (f : TxFault). f.fault) c.accept_and_post.result c.args.packet.buf.number (g.N.Nic.made c.args.nic.now)
     (g.N.Nic.made c.post_waiting.new.nic) (g.N.Nic.made c.accept_and_post.new.nic) c.args.self.now
-    c.post_waiting.new.self c.post_waiting.ensures.plays c.accept_and_post.ensures.faults
+    c.post_waiting.new.self (c.post_waiting.ensures.plays c.args.packet.buf.number) c.accept_and_post.ensures.faults
 
 pub returns-in-Err-clause-back : goal.returns-in-Err-clause-back
 returns-in-Err-clause-back g c = back_itself c.in-Err.fault c.args.packet
+
+pub returns-in-Err-clause-plays : goal.returns-in-Err-clause-plays
+returns-in-Err-clause-plays g c = c.post_waiting.ensures.plays c.args.packet.buf.number
+
+pub returns-in-Err-clause-faults : goal.returns-in-Err-clause-faults
+returns-in-Err-clause-faults g c = c.in-Err.ensures.faults c.args.packet.buf.number

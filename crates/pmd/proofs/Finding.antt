@@ -1,0 +1,97 @@
+-- A call of a half whose reply isn't that of a healthy queue.
+use Rattle.std.proofs.Common.{◌≡◌, ℕ, true, false, List, [], ◌∷◌, ◌++◌, length, length-append, refl, sym, ap, ◌∙◌, arith}
+use Rattle.std.specs.Prelude.{IsTrue}
+use Rattle.dma_arena.specs.Block.{Block}
+use Rattle.dma_arena.specs.Numbers.{Numbers, is_free}
+use Rattle.nic_device.specs.declared.event.Event.{Event}
+use Rattle.nic_device.specs.declared.event.Reply.{Reply}
+use Rattle.device_lock.specs.Alone.{Blocks}
+use Rattle.device_lock.specs.Pass.{call_of}
+use Rattle.device_lock.specs.declared.entry.Call.{Call}
+use Rattle.pmd_base.specs.Events.{is_step}
+use Rattle.pmd_base.specs.declared.fault.PmdFault.{PmdFault}
+use Rattle.pmd_base.specs.declared.fault.PmdFault.TheVariants.{DeviceFault}
+use Rattle.pmd_rx.specs.Receive.{Receive}
+use Rattle.pmd_rx.specs.Wrong.{EndsWrong, FailsBy}
+use Rattle.pmd_tx.specs.Plays.{Faults, FaultsBy, is_elsewhere}
+use Rattle.pmd_tx.specs.Sending as sending
+use Rattle.pmd_tx.specs.Sending.{Move, Elsewhere}
+use Rattle.pmd.specs.Apart.{MayLend, FindsFault, FindsBy}
+use Rattle.pmd.specs.Halves.{Halves, Receives, Sends}
+use Rattle.pmd.proofs.Apart.{MaySend, receiving_apart, received_apart, sending_apart, moved_apart}
+
+-- of the receive half
+
+finds_wrong : (own : Blocks) (a : Numbers) (old new : List Call) (h : Halves) (w : Receive)
+    → ((n : ℕ) → is_free a n ≡ true → MayLend own h Receives n) → EndsWrong a old h.receive new w
+    → FindsFault own old h new
+finds_wrong own a old new h w may (mid, e, r, plays, mine, free, adds, sick) =
+    let there : Halves = record h { receive = w } in
+    record {
+      mid = mid;
+      there = there;
+      doer = Receives;
+      event = e;
+      reply = r;
+      drives = receiving_apart own a old mid h there may plays refl;
+      mine = mine;
+      apart = received_apart own a there may e free;
+      adds = adds;
+      sick = sick;
+    }
+
+pub wrong_by : (f : PmdFault) (own : Blocks) (a b : Numbers) (old new : List Call) (h : Halves) (w : Receive)
+    → ((n : ℕ) → is_free a n ≡ true → MayLend own h Receives n) → FailsBy f old a h.receive new b w
+    → FindsBy f own old h new
+wrong_by DeviceFault own a b old new h w may fails = finds_wrong own a old new h w may fails
+wrong_by f own a b old new h w may fails = tt
+
+-- of the transmit half
+
+real_step : (m : Move) (r : Reply Block) (e : Event Block) → sending.is_healthy m r ≡ false → IsTrue (is_elsewhere m)
+    → IsTrue (is_step e)
+real_step Elsewhere r e sick is = cc
+real_step m r e sick is = cc
+
+finds_fault : (own : Blocks) (block : ℕ) (old new : List Call) (h : Halves) → MaySend own h block
+    → Faults block old h.transmit new → FindsFault own old h new
+finds_fault own block old new h may f =
+    let there : Halves = record h { transmit = f.before } in
+    record {
+      mid = f.mid;
+      there = there;
+      doer = Sends f.move;
+      event = f.event;
+      reply = f.reply;
+      drives = sending_apart own block old f.mid h there may f.plays refl;
+      mine = f.own;
+      apart = moved_apart own block there may f.move f.event f.own f.accepts
+          (real_step f.move f.reply f.event f.sick);
+      adds = f.adds;
+      sick = f.sick;
+    }
+
+pub fault_by : (f : PmdFault) (own : Blocks) (block : ℕ) (old new : List Call) (h : Halves) → MaySend own h block
+    → FaultsBy f block old h.transmit new → FindsBy f own old h new
+fault_by DeviceFault own block old new h may faults = finds_fault own block old new h may faults
+fault_by f own block old new h may faults = tt
+
+-- where no call was made, none was such
+
+none_made : (block : ℕ) (old new : List Call) (h : Halves) → new ≡ old → Faults block old h.transmit new → ⊥
+none_made block old new h same f =
+    let last : List Call = f.adds.0 ++ call_of f.event f.reply ∷ [] in
+    let is : new ≡ (old ++ f.plays.plays.1) ++ last =
+    f.adds.1 ∙ ap (λ (calls : List Call). calls ++ last) f.plays.plays.2 in
+    absurd (omega (
+      arith,
+      ap length (sym same ∙ is),
+      length-append (old ++ f.plays.plays.1) last,
+      length-append old f.plays.plays.1,
+      length-append f.adds.0 (call_of f.event f.reply ∷ []),
+    ))
+
+pub still_by : (f : PmdFault) (own : Blocks) (block : ℕ) (old new : List Call) (h : Halves) → new ≡ old
+    → FaultsBy f block old h.transmit new → FindsBy f own old h new
+still_by DeviceFault own block old new h same faults = absurd (none_made block old new h same faults)
+still_by f own block old new h same faults = tt

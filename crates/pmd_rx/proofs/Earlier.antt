@@ -1,0 +1,33 @@
+-- What a ring that is filled lends was free before it was begun.
+use Rattle.std.proofs.Common.{◌≡◌, ◌≢◌, ℕ, ◌⊎◌, inl, inr, true, false, List, [], ◌∷◌, sym, subst}
+use Rattle.std.proofs.lemmas.Bool.{cases_eq}
+use Rattle.dma_arena.specs.Numbers.{Numbers, is_free, with_free}
+use Rattle.dma_arena.proofs.Arenas.{is_own-of_free, is_free-with_free_other}
+use Rattle.device_lock.specs.declared.entry.Call.{Call}
+use Rattle.pmd_base.specs.Home.{IsDrawn}
+use Rattle.pmd_rx.specs.Filling.{PostsSome}
+use Rattle.pmd_rx.specs.Plays.{PlaysFrom}
+use Rattle.pmd_rx.specs.Receive.{Receive}
+use Rattle.pmd_rx.proofs.Playing.{plays_both, plays_in}
+
+-- a block that is free once others were taken was free before
+
+free_at : (a : Numbers) (n k : ℕ) → is_free a n ≡ true → (k ≡ n) ⊎ (k ≢ n) → is_free (with_free a n false) k ≡ true
+    → is_free a k ≡ true
+free_at a n k free (inl same) is = subst (λ (i : ℕ). is_free a i ≡ true) (sym same) free
+free_at a n k free (inr ne) is =
+    let own = is_own-of_free a n free in
+    rw (is_free-with_free_other a n false k own ne) at is
+
+pub free_before : (a : Numbers) (ns : List ℕ) (b : Numbers) → IsDrawn a ns b → (k : ℕ) → is_free b k ≡ true
+    → is_free a k ≡ true
+free_before a [] b is k free = subst (λ (x : Numbers). is_free x k ≡ true) is free
+free_before a (n ∷ ns) b (first, is) k free =
+    free_at a n k first (cases_eq k n) (free_before (with_free a n false) ns b is k free)
+
+-- calls that post some blocks, and then more
+pub posts_then : (count : ℕ) (a b : Numbers) (old mid new : List Call) (v w x : Receive) → PlaysFrom a old v mid w
+    → PostsSome count a v b w → PlaysFrom b mid w new x → PlaysFrom a old v new x
+posts_then count a b old mid new v w x plays posts more =
+    plays_both a old mid new v w x plays
+    (plays_in a b (free_before a posts.blocks b posts.drawn) mid new w x more)

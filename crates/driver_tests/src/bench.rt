@@ -11,19 +11,26 @@ use std::alloc::Global;
 use std::process::Abort;
 use vf_map::Mode;
 
+/// Promiscuous, with neither pools nor hashing.
+pub const PLAIN: Setup = Setup {
+    mode: Mode::Off,
+    mrqc: 0,
+    key: [0; 40],
+    reta: [0; 128],
+    promiscuous: true,
+};
+
 /// A promiscuous device with one virtual function, in whose list so many frames can wait. It steps on the queue of this
 /// number before each call.
 pub fn opened<R: Abort>(rt: &R, alloc: Global, fifo: u16, queue: u16) -> Direct {
+    set_up(rt, alloc, fifo, queue, &PLAIN)
+}
+
+/// The same, set up otherwise.
+pub fn set_up<R: Abort>(rt: &R, alloc: Global, fifo: u16, queue: u16, setup: &Setup) -> Direct {
     let device = done(rt, Device::new(alloc, Config { vfs: 1, fifo }));
     let mut direct = Direct::new(alloc, device, queue);
-    let setup = Setup {
-        mode: Mode::Off,
-        mrqc: 0,
-        key: [0; 40],
-        reta: [0; 128],
-        promiscuous: true,
-    };
-    done(rt, pf_setup(alloc, &mut direct, &setup));
+    done(rt, pf_setup(alloc, &mut direct, setup));
     direct
 }
 

@@ -24,7 +24,7 @@ fn alone<R: Abort>(rt: &R, alloc: Global, nic: Interleaved) -> Interleaved {
 fn ended<R: Abort>(rt: &R, alloc: Global, nic: Interleaved) -> Device {
     let Left {
         device,
-        calls: _,
+        history: _,
         foreign: _,
         lists: _,
         bufs,

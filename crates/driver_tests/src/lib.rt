@@ -10,11 +10,15 @@ mod bench;
 #[cfg(test)]
 mod driver;
 #[cfg(test)]
+mod history;
+#[cfg(test)]
 mod hostile;
 #[cfg(test)]
 mod interleaved;
 #[cfg(test)]
 mod left_alone;
+#[cfg(test)]
+mod other_queues;
 #[cfg(test)]
 mod others;
 #[cfg(test)]

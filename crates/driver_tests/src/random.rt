@@ -1,10 +1,11 @@
 //! A driver among foreign events that are drawn at random, none of which touches its queue.
 
-use crate::bench::{device, reap, started, taken_apart};
+use crate::bench::{opened, reap, started, taken_apart};
+use crate::history::{DRIVER, OTHERS, add_calls, add_entries, is_left_alone};
 use crate::others::{Others, Random};
 use crate::outcome::{done, some};
 use crate::schedule::{Left, all_home, finish, listed, take_all};
-use device_lock::Call;
+use device_lock::Entry;
 use nic_device::{Device, Event, Reply};
 use pmd::Pmd;
 use pmd_base::{Direct, Nic, Packet, Record};
@@ -15,8 +16,32 @@ use std::alloc::Global;
 use std::collections::VecDeque;
 use std::process::Abort;
 
-/// What calls tell of queue 0: the frames that wait, those that were written, how many came and went out, and those
-/// that were collected.
+/// A schedule is drawn from each.
+const SEEDS: [u32; 20] = [
+    1,
+    2,
+    3,
+    5,
+    7,
+    11,
+    82_599,
+    1_000_003,
+    0x2021_1123,
+    0x1234_5678,
+    0x5555_5555,
+    0x7FFF_FFFF,
+    0x8000_0000,
+    0x8086_10FB,
+    0x9E37_79B9,
+    0xAAAA_AAAA,
+    0xC0DE_CAFE,
+    0xDEAD_BEEF,
+    0xFFFF_0000,
+    0xFFFF_FFFF,
+];
+
+/// What a history tells of queue 0: the frames that wait, those that were written, how many came and went out, and
+/// those that were collected.
 #[derive(Drop)]
 struct Tally<'a> {
     waiting: VecDeque<&'a [u8]>,
@@ -27,7 +52,7 @@ struct Tally<'a> {
 }
 
 impl<'a> Tally<'a> {
-    /// Of no calls.
+    /// Of no entries.
     fn new(alloc: Global) -> Self {
         Tally {
             waiting: VecDeque::new(alloc),
@@ -38,9 +63,9 @@ impl<'a> Tally<'a> {
         }
     }
 
-    /// One call more.
-    fn add<R: Abort>(&mut self, rt: &R, call: &'a Call) {
-        match (&call.event, &call.reply) {
+    /// One entry more.
+    fn add<R: Abort>(&mut self, rt: &R, entry: &'a Entry) {
+        match (&entry.event, &entry.reply) {
             (Event::Arrive(frame), Reply::Done) => {
                 self.arrived = self.arrived.saturating_add(1);
                 self.waiting.push_back(frame.bytes()).expect(rt, "memory");
@@ -61,10 +86,10 @@ impl<'a> Tally<'a> {
         }
     }
 
-    /// So many calls more.
-    fn add_all<R: Abort>(&mut self, rt: &R, calls: &'a [Call]) {
-        for call in calls {
-            self.add(rt, call);
+    /// So many entries more.
+    fn add_all<R: Abort>(&mut self, rt: &R, history: &'a [Entry]) {
+        for entry in history {
+            self.add(rt, entry);
         }
     }
 }
@@ -111,27 +136,32 @@ fn drive<R: Abort, N: Nic>(
     }
 }
 
-/// A driver amid random events, and what was made so far.
+/// A driver amid random events, what was made so far, and the history before.
 struct Amid {
     pmd: Pmd,
     left: Left,
+    history: Vec<Entry>,
 }
 
 /// Starts a driver among random events, and drives it.
 fn driven<R: Abort>(rt: &R, alloc: Global, others: &mut Others) -> Amid {
     let lists = others.lists(rt, alloc, 2500);
-    let mut nic = Interleaved::new(alloc, device(rt, alloc, 64), lists);
+    let (device, calls) = opened(rt, alloc, 64, 0).finish();
+    let mut history = Vec::new(alloc);
+    add_calls(rt, &mut history, OTHERS, calls);
+    let mut nic = Interleaved::new(alloc, device, lists);
     let mut pmd = started(rt, alloc, &mut nic);
     drive(rt, alloc, &mut others.random, &mut nic, &mut pmd, 190);
     let left = finish(rt, alloc, nic);
-    Amid { pmd, left }
+    Amid { pmd, left, history }
 }
 
-/// What was handed out are the first of the frames that these calls wrote for queue 0, and no more went out than was
-/// accepted.
-fn is_well<R: Abort>(rt: &R, alloc: Global, calls: &[Call], pmd: &Pmd) {
+/// What was handed out are the first of the frames that a history wrote for queue 0, and no more went out than was
+/// accepted. The history leaves queue 0 alone.
+fn is_well<R: Abort>(rt: &R, alloc: Global, history: &[Entry], pmd: &Pmd) {
+    assert!(rt; is_left_alone(history));
     let mut tally = Tally::new(alloc);
-    tally.add_all(rt, calls);
+    tally.add_all(rt, history);
     assert!(rt; are_first(pmd.handed(), tally.written.as_slice()));
     assert!(rt; tally.sent as usize <= pmd.accepted().len());
 }
@@ -147,7 +177,7 @@ fn settle<R: Abort>(rt: &R, alloc: Global, others: &mut Others, nic: &mut Direct
     reap(rt, alloc, nic, pmd);
 }
 
-/// What the registers count is what the calls tell.
+/// What the registers count is what the history tells.
 fn counts_agree<R: Abort>(rt: &R, device: &Device, tally: &Tally<'_>) {
     let [arrived, written, sent] = [
         some(rt, device.peek_register(0x04074)), // GPRC
@@ -179,22 +209,28 @@ fn all_agree<R: Abort>(rt: &R, home: Home, tally: &Tally<'_>, out: &[&[u8]]) {
 /// One schedule, drawn from a seed. Answers how many foreign events were made.
 fn among_events_of<R: Abort>(rt: &R, alloc: Global, seed: u32) -> usize {
     let mut others = Others::new(rt, alloc, seed);
-    let Amid { mut pmd, left } = driven(rt, alloc, &mut others);
+    let Amid {
+        mut pmd,
+        left,
+        mut history,
+    } = driven(rt, alloc, &mut others);
     let Left {
         device,
-        calls,
+        history: amid,
         foreign,
         lists: _,
         mut bufs,
     } = left;
-    is_well(rt, alloc, calls.as_slice(), &pmd);
+    add_entries(rt, &mut history, amid);
+    is_well(rt, alloc, history.as_slice(), &pmd);
     let mut direct = Direct::new(alloc, device, 0);
     settle(rt, alloc, &mut others, &mut direct, &mut pmd);
     let home = done(rt, pmd.stop(alloc, &mut direct));
     let (device, later) = direct.finish();
+    add_calls(rt, &mut history, DRIVER, later);
+    assert!(rt; is_left_alone(history.as_slice()));
     let mut tally = Tally::new(alloc);
-    tally.add_all(rt, calls.as_slice());
-    tally.add_all(rt, later.as_slice());
+    tally.add_all(rt, history.as_slice());
     counts_agree(rt, &device, &tally);
     let (memory, frames) = taken_apart(device);
     let mut out: Vec<&[u8]> = Vec::new(alloc);
@@ -210,14 +246,15 @@ fn among_events_of<R: Abort>(rt: &R, alloc: Global, seed: u32) -> usize {
     foreign
 }
 
-/// Some 20,000 foreign events in all. What the driver hands out are the first of the frames that were written for its
-/// queue, all of them in the end; what goes out are the first of those that it accepted, all of them in the end.
+/// 100,000 foreign events in all, none of which touches the driver's queue. What the driver hands out are the first of
+/// the frames that were written for its queue, all of them in the end; what goes out are the first of those that it
+/// accepted, all of them in the end.
 #[test]
 fn a_driver_is_well_among_random_events(rt: HostRuntime) {
     let alloc = rt.alloc();
     let mut made: usize = 0;
-    for seed in [1, 82_599, 0x2021_1123, 0xFFFF_FFFF] {
+    for seed in SEEDS {
         made = made.saturating_add(among_events_of(&rt, alloc, seed));
     }
-    assert!(rt; made > 20_000, "made {made}");
+    assert!(rt; made >= 100_000, "made {made}");
 }

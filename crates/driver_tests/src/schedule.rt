@@ -1,7 +1,8 @@
 //! Lists of foreign events for an `Interleaved`, and what is left of them at its end.
 
+use crate::history::add_marked;
 use crate::outcome::{done, none, put, some};
-use device_lock::Call;
+use device_lock::Entry;
 use dma_arena::{Arena, Buf, LentMemory};
 use nic_device::{Device, Dir, Event, Reply};
 use pmd_interleaved::{Finished, Interleaved};
@@ -77,13 +78,13 @@ fn let_all_go<R: Abort>(rt: &R, bufs: &mut Vec<Buf>, mut list: Vec<Event>) {
     list.destroy_empty();
 }
 
-/// What an `Interleaved` leaves: the device, the calls, how many foreign events were made and how many lists weren't,
-/// and the blocks that foreign events took or didn't lend.
+/// What an `Interleaved` leaves: the device, the history of its calls, how many foreign events were made and how many
+/// lists weren't, and the blocks that foreign events took or didn't lend.
 pub struct Left {
     /// The device.
     pub device: Device,
-    /// The calls that were made.
-    pub calls: Vec<Call>,
+    /// The calls that were made. The own ones are the driver's.
+    pub history: Vec<Entry>,
     /// How many foreign events were made.
     pub foreign: usize,
     /// How many lists weren't made.
@@ -94,12 +95,16 @@ pub struct Left {
 
 /// Ends an `Interleaved`, and lets its schedule and the foreign replies go.
 pub fn finish<R: Abort>(rt: &R, alloc: Global, nic: Interleaved) -> Left {
+    let mut marks = Vec::new(alloc);
+    marks.extend_from_slice(nic.own()).expect(rt, "memory");
     let Finished {
         device,
         calls,
         foreign: mut replies,
         mut schedule,
     } = nic.finish();
+    let mut history = Vec::new(alloc);
+    add_marked(rt, &mut history, marks.as_slice(), calls);
     let mut bufs = Vec::new(alloc);
     let (foreign, lists) = (replies.len(), schedule.len());
     for _reply in 0..foreign {
@@ -114,7 +119,7 @@ pub fn finish<R: Abort>(rt: &R, alloc: Global, nic: Interleaved) -> Left {
     schedule.destroy_empty();
     Left {
         device,
-        calls,
+        history,
         foreign,
         lists,
         bufs,

@@ -57,7 +57,7 @@ impl Stranger {
     /// A write that leaves no queue alone, at one of the first three queues.
     fn write(&mut self, port: Port) -> Event {
         let random = &mut self.others.random;
-        let (address, word) = WRITES[usize::from(random.byte() % 24)];
+        let (address, word, _spares) = WRITES[usize::from(random.byte() % 24)];
         let queue = u32::from(random.byte() % 3);
         Event::Write(port, address.saturating_add(64 * queue), word)
     }

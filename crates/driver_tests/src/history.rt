@@ -1,0 +1,49 @@
+//! The calls on a device in hand as a history: a driver of queue 0 made some of them, and others the rest.
+
+use device_lock::{Call, Entry, Watched, left_alone};
+use std::process::Abort;
+
+/// The pass of the driver.
+pub const DRIVER: u8 = 0;
+
+/// The pass of all others.
+pub const OTHERS: u8 = 1;
+
+/// Puts a call behind a history.
+fn add_call<R: Abort>(rt: &R, history: &mut Vec<Entry>, pass: u8, call: Call) {
+    let Call { event, reply } = call;
+    let entry = Entry { pass, event, reply };
+    history.push(entry).expect(rt, "memory");
+}
+
+/// Puts calls of one pass behind a history.
+pub fn add_calls<R: Abort>(rt: &R, history: &mut Vec<Entry>, pass: u8, calls: Vec<Call>) {
+    for call in calls {
+        add_call(rt, history, pass, call);
+    }
+}
+
+/// Puts calls behind a history. The marked ones are the driver's.
+pub fn add_marked<R: Abort>(rt: &R, history: &mut Vec<Entry>, marks: &[bool], calls: Vec<Call>) {
+    for (call, is_own) in calls.into_iter().zip(marks.iter()) {
+        let pass = if *is_own { DRIVER } else { OTHERS };
+        add_call(rt, history, pass, call);
+    }
+}
+
+/// Puts entries behind a history.
+pub fn add_entries<R: Abort>(rt: &R, history: &mut Vec<Entry>, entries: Vec<Entry>) {
+    for entry in entries {
+        history.push(entry).expect(rt, "memory");
+    }
+}
+
+/// Whether a history from a new device leaves the driver's queue alone.
+pub fn is_left_alone(history: &[Entry]) -> bool {
+    let watched = Watched {
+        vfs: 1,
+        pass: DRIVER,
+        queue: 0,
+    };
+    left_alone(watched, history)
+}

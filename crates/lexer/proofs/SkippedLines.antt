@@ -1,7 +1,7 @@
 -- Lines whose first ones are gone past.
-use Rattle.std.proofs.Common.{refl, ap, sym, ◌∙◌, ◌≡◌, ℕ, zero, suc, ◌+◌, cond, List, [], ◌∷◌, drop, drop-drop, arith}
+use Rattle.std.proofs.Common.{refl, ap, sym, subst, ◌∙◌, ◌≡◌, ℕ, zero, suc, ◌+◌, cond, List, [], ◌∷◌, drop, arith}
 use Rattle.std.specs.List.{prefix_len}
-use Rattle.lexer.specs.Lines.{NumberedLine, numbered_from, is_nothing, is_empty}
+use Rattle.lexer.specs.Lines.{numbered_from, is_nothing, is_empty}
 use Rattle.lexer.specs.Place.{PastWordless}
 use Rattle.lexer.specs.Wordless.{are_none, is_wordless}
 
@@ -41,7 +41,13 @@ empties-none first [] none = refl
 empties-none first ([] ∷ ls) none = absurd (omega arith)
 empties-none first ((byte ∷ line) ∷ ls) none = refl
 
--- so many lines more are gone past
-pub drop-more : (all now next : List NumberedLine) (count more : ℕ) → now ≡ drop count all → next ≡ drop more now
-    → next ≡ drop (count + more) all
-drop-more all now next count more is past = past ∙ ap (drop more) is ∙ drop-drop more count all
+-- and so many lines more are gone past
+pub past-more : (count more : ℕ) (ls now next : List (List ℕ)) → PastWordless count ls now
+    → PastWordless more now next → PastWordless (count + more) ls next
+past-more zero more ls now next past on =
+    let same : more ≡ 0 + more = omega arith in
+    subst (λ n. PastWordless n ls next) same (subst (λ l. PastWordless more l next) (sym past) on)
+past-more (suc count) more [] now next past on = absurd past
+past-more (suc count) more (line ∷ ls) now next past on =
+    let same : suc (count + more) ≡ suc count + more = omega arith in
+    subst (λ n. PastWordless n (line ∷ ls) next) same (past.0, past-more count more ls now next past.1 on)

@@ -102,6 +102,21 @@ fn wordless_in_front(text: &str, looks_for_many: bool) -> Option<(usize, &str)>
     Some((count + 1, rest))
 }
 
+/// Lines in front that have no words: how many, and what stands behind them, whose first line isn't empty.
+fn wordless_lines(text: &str) -> (usize, &str)
+    ensures past { PastWordless result.0 (lines text.now) (lines result.1.now) }
+    ensures shorter { result.0 + length result.1.now ≤ length text.now }
+    ensures filled { prefix_len is_nothing (lines result.1.now) ≡ 0 }
+{
+    let mut rest = text;
+    let mut count = 0;
+    'each: while let Some((more, behind)) = wordless_in_front(rest, count % LINES_EACH == 3) {
+        rest = behind;
+        count += more;
+    }
+    (count, rest)
+}
+
 impl<'a> Lines<'a> {
     ghost use Rattle.std.specs.Prelude.{drop, true};
     ghost use Rattle.lexer.specs.Lines.{is_empty};
@@ -122,17 +137,13 @@ impl<'a> Lines<'a> {
 
     /// Goes past lines in front that have no words, and tells how many these were. All that are empty are
     /// among them; a line without a line feed behind it may be left.
+    #[inline(always)]
     pub fn skip_wordless(&mut self) -> usize
         ensures count { result ≤ prefix_len is_wordless self.old }
         ensures behind { self.new ≡ drop result self.old }
         ensures filled { prefix_len is_empty self.new ≡ 0 }
     {
-        let mut rest = self.rest;
-        let mut count = 0;
-        'each: while let Some((more, behind)) = wordless_in_front(rest, count % LINES_EACH == 3) {
-            rest = behind;
-            count += more;
-        }
+        let (count, rest) = wordless_lines(self.rest);
         self.rest = rest;
         self.before += count;
         count
@@ -194,6 +205,7 @@ impl<'a> Iterator for Lines<'a> {
 
     ghost remaining = { item_count (λ lines. lines) };
 
+    #[inline(always)]
     fn next(&mut self) -> Option<Line<'a>> {
         let (text, rest) = split_line(self.rest)?;
         self.rest = rest;

@@ -1,5 +1,5 @@
 -- The digits in front of a text.
-use Rattle.std.proofs.Common.{refl, ap, sym, ◌∙◌, arith, ◌≡◌, ◌<◌, ◌≤◌, ℕ, ◌+◌, ◌-◌, ◌*◌, ◌^◌, ◌&&◌, true, false, cond, min, List, [], ◌∷◌, length, take, drop, Some, None, inl, inr}
+use Rattle.std.proofs.Common.{refl, ap, sym, ◌∙◌, arith, ◌≡◌, ◌<◌, ◌≤◌, ℕ, ◌+◌, ◌-◌, ◌*◌, ◌^◌, ◌&&◌, true, false, cond, min, List, [], ◌∷◌, length, take, drop, None, inl, inr}
 use Rattle.std.specs.List.{list_all}
 use Rattle.std.specs.Char.{is_digit, digit_value}
 use Rattle.std.specs.Str.{IsUtf8, IsCharBoundary}
@@ -49,21 +49,6 @@ pub behind-next : (radix digit byte : ℕ) (rest more : List ℕ) → rest ≡ b
 behind-next radix digit byte rest more is said small =
     let yes : is_digit byte radix ≡ true = rw (← said) (lt-ltb digit radix small) in
     sym (ap (λ r. drop (digits_in_front radix r) r) is ∙ drop-digit radix byte more yes)
-
--- a value that is too large stays so
-pub capped_numeral-stays : (radix : ℕ) (text : List ℕ) → 2 ≤ radix
-    → capped_numeral radix (2 ^ 32) (take (digits_in_front radix text) text) ≡ Some (2 ^ 32)
-capped_numeral-stays radix [] low = refl
-capped_numeral-stays radix (byte ∷ more) low = elim (cases_Bool (is_digit byte radix)) [
-  | inl digit ↦
-      let front = take (digits_in_front radix more) more in
-      let grown = min (2 ^ 32 * radix + digit_value byte) (2 ^ 32) in
-      let full : grown ≡ 2 ^ 32 = omega arith in
-      ap (capped_numeral radix (2 ^ 32)) (take-digit radix byte more digit)
-      ∙ ap (λ b. cond b (capped_numeral radix grown front) None) digit
-      ∙ ap (λ n. capped_numeral radix n front) full ∙ capped_numeral-stays radix more low
-  | inr other ↦ ap (λ n. capped_numeral radix (2 ^ 32) (take n (byte ∷ more))) (front-no radix byte more other)
-]
 
 -- digits with something else behind them are no number
 pub capped_numeral-stopped : (radix value : ℕ) (text : List ℕ)

@@ -41,7 +41,8 @@ place_behind-four bytes rest place next (passed, whole, there) long is =
 -- what stands before a place is in lines without words too
 pub place_behind-take : (place : ℕ) (bytes : List ℕ) (start end : ℕ) → start ≤ end
     → place_behind place (take end bytes) ≢ 24 → place_behind place (take start bytes) ≢ 24
-place_behind-take place [] start end before stays = subst (λ l. place_behind place l ≢ 24) (take-nil end ∙ sym (take-nil start)) stays
+place_behind-take place [] start end before stays =
+    subst (λ l. place_behind place l ≢ 24) (take-nil end ∙ sym (take-nil start)) stays
 place_behind-take place (byte ∷ more) zero end before stays =
     λ is. stays (ap (λ p. place_behind p (take end (byte ∷ more))) is ∙ place_behind-elsewhere (take end (byte ∷ more)))
 place_behind-take place (byte ∷ more) (suc start) zero before stays = absurd (omega arith)

@@ -63,21 +63,6 @@ fn digit_of(radix: u8, byte: u8) -> u8
     }
 }
 
-/// What stands behind the digits of the radix in front.
-fn behind_digits(radix: u8, bytes: &[u8]) -> &[u8]
-    requires { radix ≤ 36 }
-    ensures { result.now ≡ drop (digits_in_front radix bytes.now) bytes.now }
-{
-    let mut rest = bytes;
-    'each: while let Some((byte, more)) = rest.split_first() {
-        if digit_of(radix, *byte) >= radix {
-            break;
-        }
-        rest = more;
-    }
-    rest
-}
-
 /// The number that the digits of the radix in front write, 2^32 in place of a greater one, and what stands behind them.
 #[inline(always)]
 fn split_numeral(radix: u8, bytes: &[u8]) -> (u64, &[u8])
@@ -93,11 +78,8 @@ fn split_numeral(radix: u8, bytes: &[u8]) -> (u64, &[u8])
         if digit >= radix {
             break;
         }
-        value = value * u64::from(radix) + u64::from(digit);
+        value = (value * u64::from(radix) + u64::from(digit)).min(TOO_LARGE);
         rest = more;
-        if value >= TOO_LARGE {
-            return (TOO_LARGE, behind_digits(radix, rest));
-        }
     }
     (value, rest)
 }

@@ -1,10 +1,10 @@
-use Rattle.std.proofs.Common.{◌≡◌, ◌<◌, ◌^◌, length, take, drop}
+use Rattle.std.proofs.Common.{◌≡◌, ◌≤◌, ◌^◌, length, take, drop}
 use Rattle.lexer.specs.Number.{capped_numeral, digits_in_front}
 use Rattle.lexer.proofs.numbers.split_numeral.Given as goal
 
 abbrev pub invariant-each : goal.invariant-each
 invariant-each l = record {
-  small : l.value < 2 ^ 32;
+  capped : l.value ≤ 2 ^ 32;
   front : capped_numeral l.radix l.value (take (digits_in_front l.radix l.rest) l.rest)
       ≡ capped_numeral l.radix 0 (take (digits_in_front l.radix l.bytes) l.bytes);
   behind : drop (digits_in_front l.radix l.rest) l.rest ≡ drop (digits_in_front l.radix l.bytes) l.bytes;

@@ -23,20 +23,16 @@ use Rattle.pmd_queue.specs.Sides.{PollsEnd, missed, quiet, ring_words}
 use Rattle.pmd_rx.specs.Receive.{Receive}
 use Rattle.pmd.specs.Starting.{IsPrepared, IsReceiveReady, PreparingFails}
 use Rattle.start_laws.specs.Along.{AtCalls, BeforeLast, IsAlong}
-use Rattle.start_laws.specs.Points.{HasGround, StepsBetween}
+use Rattle.start_laws.specs.Points.{HasGround}
 use Rattle.start_laws.specs.Quieting.{IsQuiet}
 use Rattle.start_laws.proofs.Made.{first_made, some_made}
 use Rattle.start_laws.proofs.AllAre.{all_missed}
 use Rattle.start_laws.proofs.Prepared.{prepared_some}
-use Rattle.begin_laws.specs.Faultless.{BeforeNext, Never, NoneIsLent, ReceiveIsReady, TransmitIsReady, SwitchingIsNeverStray, StepsPolling, StepsPreparing, StepsReady, StepsSwitching, StepsUnprepared}
+use Rattle.begin_laws.specs.Faultless.{BeforeNext, Never, NoneIsLent, ReceiveIsReady, TransmitIsReady, SwitchingIsNeverStray}
 use Rattle.begin_laws.proofs.DrivenAccesses.{IsDriven, writes_driven, words_are_writes, enable_driven, asked_are_writes, reads_driven, polled_driven}
 use Rattle.begin_laws.proofs.Grounds.{accesses_grounded, lend_grounded, next_on_ground, read_never_stray, writes_never_stop}
 use Rattle.begin_laws.proofs.Last.{last_never}
 use Rattle.begin_laws.proofs.Quiet.{quiet_off, quieting_never_stops}
-
--- A start on a queue whose sides are off finds no device at fault.
-
--- A start on a queue whose sides are off finds no device at fault.
 
 module _ (w : Watched) (q : AtPort) (fifo : ℕ) (h : List Entry) (along : IsAlong w fifo h) where
   abbrev Grounded : List Call → Type 0
@@ -58,81 +54,75 @@ module _ (w : Watched) (q : AtPort) (fifo : ℕ) (h : List Entry) (along : IsAlo
       (subst (λ (calls : List Call). BeforeLast w fifo h calls (λ s. IsFalse (has_block s.memory ring))) all at))
 
   preparing_never_fails : (side : Dir) (size : ℕ) (old : List Call) (a : Numbers) (new : List Call) → old ≢ []
-      → Grounded old → (fails : PreparingFails DeviceFault q side size old a new)
-      → StepsUnprepared q side size old a new fails → NoneIsLent w fifo h new a → Never w fifo h new
-  preparing_never_fails side size old a new some at (ring, free, inl stops) steps none =
+      → Grounded old → PreparingFails DeviceFault q side size old a new → NoneIsLent w fifo h new a
+      → Never w fifo h new
+  preparing_never_fails side size old a new some at (ring, free, inl stops) none =
       writes_never_stop w q fifo h along (ring_words side ring size) old new (words_are_writes side ring size) stops
-      steps some at
-  preparing_never_fails side size old a new some at (ring, free, inr (mid, made, (back, lent))) steps none =
+      some at
+  preparing_never_fails side size old a new some at (ring, free, inr (mid, made, (back, lent))) none =
       lending_is_done ring mid new lent.0 back lent.1 (none ring free)
 
   prepared_grounded : (side : Dir) (size : ℕ) (old : List Call) (a : Numbers) (new : List Call) (b : Numbers)
-      (ring : ℕ) (x : IsPrepared q side size old a new b ring) → StepsPreparing q side size old a new b ring x
-      → old ≢ [] → Grounded old → Grounded new × (new ≢ [])
-  prepared_grounded side size old a new b ring x steps some at =
+      (ring : ℕ) → IsPrepared q side size old a new b ring → old ≢ [] → Grounded old → Grounded new × (new ≢ [])
+  prepared_grounded side size old a new b ring x some at =
       let are = writes_driven (ring_words side ring size) (words_are_writes side ring size) in
-      let there = accesses_grounded w q fifo h along (ring_words side ring size) old x.mid are x.words steps.0 some at
-      in
+      let there = accesses_grounded w q fifo h along (ring_words side ring size) old x.mid are x.words some at in
       let made = some_made q (ring_words side ring size) old x.mid x.words some in (
-        subst Grounded (sym x.lent.1) (lend_grounded w q fifo h along ring x.mid x.lent.0 steps.1 made there),
+        subst Grounded (sym x.lent.1) (lend_grounded w q fifo h along ring x.mid x.lent.0 x.lent.2 made there),
         prepared_some q side size old a new b ring x,
       )
 
   -- the sides are off, and the receive ring is
 
-  quiet_grounded : (old new : List Call) (made : AreMade q old new both_quiet)
-      → StepsBetween q old new both_quiet made → BeforeNext w fifo h old (IsQuiet w.queue q)
+  quiet_grounded : (old new : List Call) → AreMade q old new both_quiet → BeforeNext w fifo h old (IsQuiet w.queue q)
       → Grounded new × (new ≢ [])
-  quiet_grounded old new made steps at = (
-    λ done rest all is. (quiet_off w q fifo h along old new made steps at done rest all is).ground,
+  quiet_grounded old new made at = (
+    λ done rest all is. (quiet_off w q fifo h along old new made at done rest all is).ground,
     first_made q (Sees Rxdctl false) (Sets Rxdctl 0 ∷ Sees Rxdctl false ∷ quiet Tx) old new made,
   )
 
   ready_grounded : (size : ℕ) (old : List Call) (a : Numbers) (new : List Call) (b : Numbers) (v : Receive)
-      (x : IsReceiveReady q size old a new b v) → StepsReady q size old a new b v x
-      → BeforeNext w fifo h old (IsQuiet w.queue q) → Grounded new × (new ≢ [])
-  ready_grounded size old a new b v x steps at =
-      let off = quiet_grounded old x.mid x.quiet steps.0 at in
-      prepared_grounded Rx size x.mid a new b x.ring x.prepared steps.1 off.1 off.0
+      → IsReceiveReady q size old a new b v → BeforeNext w fifo h old (IsQuiet w.queue q) → Grounded new × (new ≢ [])
+  ready_grounded size old a new b v x at =
+      let off = quiet_grounded old x.mid x.quiet at in
+      prepared_grounded Rx size x.mid a new b x.ring x.prepared off.1 off.0
 
   -- both sides are asked on and polled
 
   polls_never_stray : (side : Dir) (polls : ℕ) (old new : List Call) → old ≢ [] → Grounded old
-      → (x : PollsEnd DeviceFault q old new side true polls) → StepsPolling q old new side polls x → Never w fifo h new
-  polls_never_stray side polls old new some at (misses, mid, few, made, stray) steps =
+      → PollsEnd DeviceFault q old new side true polls → Never w fifo h new
+  polls_never_stray side polls old new some at (misses, mid, few, made, stray) =
       let driven = all_missed IsDriven true reads_driven side misses in
-      let there = accesses_grounded w q fifo h along (missed side true misses) old mid driven made steps.0 some at in
+      let there = accesses_grounded w q fifo h along (missed side true misses) old mid driven made some at in
       read_never_stray w q fifo h along mid new (enable_row side) (enable_driven side)
       (next_on_ground w q fifo h along mid (some_made q (missed side true misses) old mid made some) there) stray
-      steps.1
 
   switching_never_fails : (old new : List Call) → old ≢ [] → Grounded old
-      → (fails : SwitchFails DeviceFault q old new true 1000) → StepsSwitching q old new fails → Never w fifo h new
-  switching_never_fails old new some at (inl stops) steps =
-      writes_never_stop w q fifo h along (both_asked true) old new asked_are_writes stops steps some at
-  switching_never_fails old new some at (inr (inl (mid, made, polls))) steps =
+      → SwitchFails DeviceFault q old new true 1000 → Never w fifo h new
+  switching_never_fails old new some at (inl stops) =
+      writes_never_stop w q fifo h along (both_asked true) old new asked_are_writes stops some at
+  switching_never_fails old new some at (inr (inl (mid, made, polls))) =
       polls_never_stray Rx 1000 mid new (some_made q (both_asked true) old mid made some)
       (accesses_grounded w q fifo h along (both_asked true) old mid (writes_driven (both_asked true) asked_are_writes)
-      made steps.0 some at) polls steps.1
-  switching_never_fails old new some at (inr (inr (first, mid, few, made, polls))) steps =
+      made some at) polls
+  switching_never_fails old new some at (inr (inr (first, mid, few, made, polls))) =
       polls_never_stray Tx (1000 - first) mid new (some_made q (receive_polled true first) old mid made some)
-      (accesses_grounded w q fifo h along (receive_polled true first) old mid (polled_driven first) made steps.0 some
-      at) polls steps.1
+      (accesses_grounded w q fifo h along (receive_polled true first) old mid (polled_driven first) made some at) polls
 
 pub receive_is_ready : ReceiveIsReady
-receive_is_ready w q fifo h size old a new along at (inl stops) steps none =
-    quieting_never_stops w q fifo h along old new at stops steps
-receive_is_ready w q fifo h size old a new along at (inr (mid, made, fails)) steps none =
-    let off = quiet_grounded w q fifo h along old mid made steps.0 at in
-    preparing_never_fails w q fifo h along Rx size mid a new off.1 off.0 fails steps.1 none
+receive_is_ready w q fifo h size old a new along at (inl stops) none =
+    quieting_never_stops w q fifo h along old new at stops
+receive_is_ready w q fifo h size old a new along at (inr (mid, made, fails)) none =
+    let off = quiet_grounded w q fifo h along old mid made at in
+    preparing_never_fails w q fifo h along Rx size mid a new off.1 off.0 fails none
 
 pub transmit_is_ready : TransmitIsReady
-transmit_is_ready w q fifo h size old a mid b v new along at ready steps fails more none =
-    let there = ready_grounded w q fifo h along size old a mid b v ready steps at in
-    preparing_never_fails w q fifo h along Tx size mid b new there.1 there.0 fails more none
+transmit_is_ready w q fifo h size old a mid b v new along at ready fails none =
+    let there = ready_grounded w q fifo h along size old a mid b v ready at in
+    preparing_never_fails w q fifo h along Tx size mid b new there.1 there.0 fails none
 
 pub switching_is_never_stray : SwitchingIsNeverStray
-switching_is_never_stray w q fifo h size old a mid b v both c t new along at ready steps more later fails last =
-    let there = ready_grounded w q fifo h along size old a mid b v ready steps at in
-    let then = prepared_grounded w q fifo h along Tx size mid b both c more.ring more.prepared later there.1 there.0 in
-    switching_never_fails w q fifo h along both new then.1 then.0 fails last
+switching_is_never_stray w q fifo h size old a mid b v both c t new along at ready more fails =
+    let there = ready_grounded w q fifo h along size old a mid b v ready at in
+    let then = prepared_grounded w q fifo h along Tx size mid b both c more.ring more.prepared there.1 there.0 in
+    switching_never_fails w q fifo h along both new then.1 then.0 fails

@@ -15,7 +15,7 @@ use Rattle.pmd_queue.specs.Made.{Sees, IsMade}
 use Rattle.pmd_queue.specs.Named.{AtPort}
 use Rattle.pmd.specs.Starting.{GoingOnFails, PreparingFails, ReceiveFails}
 use Rattle.start_laws.specs.Along.{BeforeLast}
-use Rattle.start_laws.specs.Points.{HasGround, StepsBefore}
+use Rattle.start_laws.specs.Points.{HasGround}
 use Rattle.start_laws.specs.Quieting.{IsQuiet}
 use Rattle.start_laws.proofs.On.{switched_sides_agree, switched_sides_go_on}
 use Rattle.begin_laws.specs.Faultless.{BeforeNext}
@@ -68,29 +68,29 @@ faults_are_early_or_filling q size old a new e (inr (inr x)) is =
     })
 
 pub no_fault_is_early : NoFaultIsEarly
-no_fault_is_early w q fifo h size old a new along at (inl x) steps fresh =
-    receive_is_ready w q fifo h size old a new along at x steps fresh
-no_fault_is_early w q fifo h size old a new along at (inr (inl x)) steps fresh =
-    transmit_is_ready w q fifo h size old a x.made x.arena x.empty new along at x.receive steps.0 x.fails steps.1 fresh
-no_fault_is_early w q fifo h size old a new along at (inr (inr x)) steps fresh =
+no_fault_is_early w q fifo h size old a new along at (inl x) fresh =
+    receive_is_ready w q fifo h size old a new along at x fresh
+no_fault_is_early w q fifo h size old a new along at (inr (inl x)) fresh =
+    transmit_is_ready w q fifo h size old a x.made x.arena x.empty new along at x.receive x.fails fresh
+no_fault_is_early w q fifo h size old a new along at (inr (inr x)) fresh =
     switching_is_never_stray w q fifo h size old a x.ready_made x.ready_arena x.empty x.both_made x.both_arena x.sender
-    new along at x.receive steps.0 x.transmit steps.1 x.fails steps.2
+    new along at x.receive x.transmit x.fails
 
 -- just before the first read the queue is named
 first_ground : (w : Watched) (q : AtPort) (fifo : ℕ) (h : List Entry) (row : RowId) (on : Bool) (old new : List Call)
-    → BeforeNext w fifo h old (IsQuiet w.queue q) → (made : IsMade q old new (Sees row on))
-    → StepsBefore q old new (Sees row on) made → BeforeLast w fifo h new (HasGround w.queue q)
-first_ground w q fifo h row on old new at (number, word, named, is, (before, added, stepped)) steps =
+    → BeforeNext w fifo h old (IsQuiet w.queue q) → IsMade q old new (Sees row on)
+    → BeforeLast w fifo h new (HasGround w.queue q)
+first_ground w q fifo h row on old new at (number, word, named, is, (before, added, steps)) =
     subst (λ (calls : List Call). BeforeLast w fifo h calls (HasGround w.queue q)) (sym added)
     (λ done rest e all own calls.
     (at before (call_of (event.Read q.port number) (reply.Word word)) steps refl done rest e all own calls).ground)
 
 pub filling_begins_well : FillingBeginsWell
-filling_begins_well w q fifo h size old a new along sized at x steps done rest all calls =
+filling_begins_well w q fifo h size old a new along sized at x done rest all calls =
     let quiet = x.on.receive.quiet in
-    let well = first_ground w q fifo h Rxdctl false old quiet.0 at quiet.1 steps.quiet.0 in
-    let on = switched_sides_go_on w fifo h q size old a x.mid x.empty x.sender x.on along sized steps well done rest all
+    let well = first_ground w q fifo h Rxdctl false old quiet.0 at quiet.1 in
+    let on = switched_sides_go_on w fifo h q size old a x.mid x.empty x.sender x.on along sized well done rest all
     calls in
-    let agree = switched_sides_agree w fifo h q size old a x.mid x.empty x.sender x.on along sized steps well done rest
+    let agree = switched_sides_agree w fifo h q size old a x.mid x.empty x.sender x.on along sized well done rest
     all calls in
     (on.receives, agree.0, agree.1)

@@ -14,14 +14,14 @@ use Rattle.pmd_base.specs.Made.{AreSteps}
 use Rattle.pmd_queue.specs.Made.{Access, Sees, Sets, AreMade, IsMade, IsOtherwise, IsStrayRead, IsStrayWrite, StopsBy}
 use Rattle.pmd_queue.specs.Named.{AtPort, is_driven}
 use Rattle.start_laws.specs.Along.{AtCalls, IsAlong}
-use Rattle.start_laws.specs.Points.{HasGround, StepsBefore, StepsBetween}
+use Rattle.start_laws.specs.Points.{HasGround}
 use Rattle.start_laws.proofs.Along.{calls_lead}
 use Rattle.start_laws.proofs.Lends.{lending}
 use Rattle.start_laws.proofs.Ground.{ground_kept, read_ground, write_ground, plain_keeps}
 use Rattle.start_laws.proofs.Made.{made_some, some_made}
 use Rattle.start_laws.proofs.AccessLeads.{seen, set}
 use Rattle.start_laws.proofs.AllAre.{AllAre, all_before}
-use Rattle.begin_laws.specs.Faultless.{Never, StepsBeforeOther, StepsUntil}
+use Rattle.begin_laws.specs.Faultless.{Never}
 use Rattle.begin_laws.proofs.Last.{RefutesNext, then_refuted}
 use Rattle.begin_laws.proofs.Replies.{named_registers_reply}
 use Rattle.begin_laws.proofs.DrivenAccesses.{IsDriven, IsWrite, writes_driven}
@@ -30,25 +30,23 @@ module _ (w : Watched) (q : AtPort) (fifo : ℕ) (h : List Entry) (along : IsAlo
   abbrev Grounded : List Call → Type 0
   Grounded calls = AtCalls w fifo h calls (HasGround w.queue q)
 
-  access_grounded : (old new : List Call) (a : Access) → IsDriven a → (made : IsMade q old new a)
-      → StepsBefore q old new a made → old ≢ [] → Grounded old → Grounded new
-  access_grounded old new (Sees row on) driven made steps some at =
+  access_grounded : (old new : List Call) (a : Access) → IsDriven a → IsMade q old new a → old ≢ [] → Grounded old
+      → Grounded new
+  access_grounded old new (Sees row on) driven made some at =
       seen w q fifo h along (HasGround w.queue q) (HasGround w.queue q) row on (ground_kept w (lent_by w.pass h) q)
       (ground_kept w (lent_by w.pass h) q)
-      (λ number word named is s met can told g. read_ground w.queue q s number g) old new made steps some
-      at
-  access_grounded old new (Sets row word) driven made steps some at =
+      (λ number word named is s met can told g. read_ground w.queue q s number g) old new made some at
+  access_grounded old new (Sets row word) driven made some at =
       set w q fifo h along (HasGround w.queue q) (HasGround w.queue q) row word (ground_kept w (lent_by w.pass h) q)
       (ground_kept w (lent_by w.pass h) q)
-      (λ number named s met can told g. write_ground w.queue q s row word number driven named g) old new made
-      steps some at
+      (λ number named s met can told g. write_ground w.queue q s row word number driven named g) old new made some at
 
   pub accesses_grounded : (all : List Access) (old new : List Call) → AllAre IsDriven all
-      → (made : AreMade q old new all) → StepsBetween q old new all made → old ≢ [] → Grounded old → Grounded new
-  accesses_grounded [] old new are made steps some at = subst Grounded (sym made) at
-  accesses_grounded (a ∷ rest) old new are (mid, here, more) steps some at =
-      accesses_grounded rest mid new are.1 more steps.1 (made_some q old mid a here)
-      (access_grounded old mid a are.0 here steps.0 some at)
+      → AreMade q old new all → old ≢ [] → Grounded old → Grounded new
+  accesses_grounded [] old new are made some at = subst Grounded (sym made) at
+  accesses_grounded (a ∷ rest) old new are (mid, here, more) some at =
+      accesses_grounded rest mid new are.1 more (made_some q old mid a here)
+      (access_grounded old mid a are.0 here some at)
 
   -- a block is lent
   pub lend_grounded : (ring : ℕ) (old before : List Call) → AreSteps before → old ≢ [] → Grounded old
@@ -64,8 +62,8 @@ module _ (w : Watched) (q : AtPort) (fifo : ℕ) (h : List Entry) (along : IsAlo
   NextOnGround old = RefutesNext w fifo h along (HasGround w.queue q) old
 
   pub read_never_stray : (old new : List Call) (row : RowId) → is_driven row ≡ true → NextOnGround old
-      → (stray : IsStrayRead q old new row) → AreSteps stray.3.0 → Never w fifo h new
-  read_never_stray old new row driven next (number, word, named, (before, added, stepped)) steps =
+      → IsStrayRead q old new row → Never w fifo h new
+  read_never_stray old new row driven next (number, word, named, (before, added, steps)) =
       subst (Never w fifo h) (sym added)
       (next before (call_of (event.Read q.port number) (reply.Stray word)) steps refl
       (λ s g told.
@@ -74,8 +72,8 @@ module _ (w : Watched) (q : AtPort) (fifo : ℕ) (h : List Entry) (along : IsAlo
       cc))
 
   pub write_never_stray : (old new : List Call) (row : RowId) (word : ℕ) → is_driven row ≡ true → NextOnGround old
-      → (stray : IsStrayWrite q old new row word) → AreSteps stray.3.0 → Never w fifo h new
-  write_never_stray old new row word driven next (number, seen, named, (before, added, stepped)) steps =
+      → IsStrayWrite q old new row word → Never w fifo h new
+  write_never_stray old new row word driven next (number, seen, named, (before, added, steps)) =
       subst (Never w fifo h) (sym added)
       (next before (call_of (event.Write q.port number word) (reply.Stray seen)) steps refl
       (λ s g told.
@@ -88,14 +86,13 @@ module _ (w : Watched) (q : AtPort) (fifo : ℕ) (h : List Entry) (along : IsAlo
       then_refuted w fifo h along (HasGround w.queue q) old (ground_kept w (lent_by w.pass h) q) some at
 
   write_never_fails : (old new : List Call) (a : Access) → IsWrite a → NextOnGround old
-      → (fails : IsOtherwise q old new a) → StepsBeforeOther q old new a fails → Never w fifo h new
-  write_never_fails old new (Sees row on) is next fails steps = absurd is
-  write_never_fails old new (Sets row word) is next fails steps = write_never_stray old new row word is next fails steps
+      → IsOtherwise q old new a → Never w fifo h new
+  write_never_fails old new (Sees row on) is next fails = absurd is
+  write_never_fails old new (Sets row word) is next fails = write_never_stray old new row word is next fails
 
   pub writes_never_stop : (all : List Access) (old new : List Call) → AllAre IsWrite all
-      → (stops : StopsBy DeviceFault q old new all) → StepsUntil q old new all stops → old ≢ [] → Grounded old
-      → Never w fifo h new
-  writes_never_stop all old new are (done, a, rest, mid, is, made, fails) steps some at =
+      → StopsBy DeviceFault q old new all → old ≢ [] → Grounded old → Never w fifo h new
+  writes_never_stop all old new are (done, a, rest, mid, is, made, fails) some at =
       let both = all_before IsWrite done a rest (subst (AllAre IsWrite) is are) in
-      let there = accesses_grounded done old mid (writes_driven done both.0) made steps.0 some at in
-      write_never_fails mid new a both.1 (next_on_ground mid (some_made q done old mid made some) there) fails steps.1
+      let there = accesses_grounded done old mid (writes_driven done both.0) made some at in
+      write_never_fails mid new a both.1 (next_on_ground mid (some_made q done old mid made some) there) fails

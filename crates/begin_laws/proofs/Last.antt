@@ -1,11 +1,10 @@
 -- Calls that can't be the last that a pass made, for what holds just before them.
 use Rattle.std.proofs.Common.{◌≡◌, ◌≢◌, ℕ, List, [], ◌∷◌, ◌++◌, sym, ap, ◌∙◌, subst, append_assoc}
 use Rattle.std.specs.Prelude.{IsFalse}
-use Rattle.std.proofs.lemmas.List.{append-nil}
 use Rattle.nic_device.specs.State.{State, new_state}
 use Rattle.nic_device.specs.Step.{reply_to}
 use Rattle.device_lock.specs.Alone.{lent_by}
-use Rattle.device_lock.specs.History.{IsLegal, calls_of}
+use Rattle.device_lock.specs.History.{IsLegal}
 use Rattle.device_lock.specs.declared.alone.Watched.{Watched}
 use Rattle.device_lock.specs.declared.entry.Call.{Call}
 use Rattle.device_lock.specs.declared.entry.Entry.{Entry}
@@ -14,7 +13,7 @@ use Rattle.pmd_base.specs.Made.{AreSteps}
 use Rattle.receive_laws.proofs.Delivering.{legal_behind}
 use Rattle.start_laws.specs.Along.{AtCalls, BeforeLast, IsAlong, IsKept}
 use Rattle.start_laws.proofs.Along.{calls_lead}
-use Rattle.start_laws.proofs.Parts.{parts, calls_joined, first_own}
+use Rattle.start_laws.proofs.Parts.{around}
 use Rattle.start_laws.proofs.Reached.{reached}
 use Rattle.begin_laws.specs.Faultless.{BeforeNext, Never}
 
@@ -27,23 +26,15 @@ module _ (w : Watched) (fifo : ℕ) (h : List Entry) (along : IsAlong w fifo h) 
       → Never w fifo h (old ++ c ∷ [])
   last_never old c refutes at done rest all is =
       let new = new_state w.vfs fifo in
-      let p = parts w.pass done old (c ∷ []) is in
-      let f = first_own w.pass p.back c [] p.backs in
-      let early : List Entry = p.front ++ f.front in
-      let e : Entry = f.entry in
-      let split : early ++ e ∷ f.back ≡ done =
-      append_assoc p.front f.front (e ∷ f.back) ∙ ap (λ (l : List Entry). p.front ++ l) f.both ∙ p.both in
-      let whole : early ++ e ∷ (f.back ++ rest) ≡ h =
-      sym (append_assoc early (e ∷ f.back) rest) ∙ ap (λ (l : List Entry). l ++ rest) split ∙ all in
-      let made : calls_of w.pass early ≡ old =
-      calls_joined w.pass p.front f.front ∙ (λ i. p.fronts i ++ f.none i) ∙ append-nil old in
-      let before : P (reached w fifo early) =
-      at early (f.back ++ rest) e whole f.own (λ i. made i ++ f.call i ∷ []) in
-      let legal : IsLegal new (early ++ e ∷ (f.back ++ rest)) = subst (IsLegal new) (sym whole) along.legal in
-      let told : e.reply ≡ reply_to (reached w fifo early) e.event =
-      (legal_behind new early (e ∷ (f.back ++ rest)) legal).0 in
-      refutes (reached w fifo early) before
-      (subst (λ (x : Call). x.reply ≡ reply_to (reached w fifo early) x.event) f.call told)
+      let x = around w.pass done old c [] is in
+      let s = reached w fifo x.before in
+      let whole : x.before ++ x.entry ∷ (x.behind ++ rest) ≡ h =
+      sym (append_assoc x.before (x.entry ∷ x.behind) rest) ∙ ap (λ (l : List Entry). l ++ rest) x.all ∙ all in
+      let before : P s = at x.before (x.behind ++ rest) x.entry whole x.own (λ i. x.made i ++ x.call i ∷ []) in
+      let legal : IsLegal new (x.before ++ x.entry ∷ (x.behind ++ rest)) = subst (IsLegal new) (sym whole) along.legal in
+      let told : x.entry.reply ≡ reply_to s x.entry.event =
+      (legal_behind new x.before (x.entry ∷ (x.behind ++ rest)) legal).0 in
+      refutes s before (subst (λ (n : Call). n.reply ≡ reply_to s n.event) x.call told)
 
   -- no call to which the device replies otherwise comes next behind these, beside steps of the device
   abbrev pub RefutesNext : List Call → Type 0

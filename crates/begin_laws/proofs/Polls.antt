@@ -23,7 +23,6 @@ use Rattle.pmd_base.specs.Events.{is_step}
 use Rattle.pmd_base.specs.Made.{AreSteps}
 use Rattle.pmd_queue.specs.Made.{Access, Sees, Sets, AreMade, IsMade}
 use Rattle.pmd_queue.specs.Named.{AtPort, IsNumberOf}
-use Rattle.start_laws.specs.Points.{StepsBefore, StepsBetween}
 use Rattle.begin_laws.specs.Polls.{AreEnables, Enables, PollsAreTold, asked_after, is_missed, missed_in, same_port}
 use Rattle.begin_laws.specs.TimedOut.{Asked, AllEnable, IsOfEnable, asked_by, is_miss, misses, none_asked}
 use Rattle.begin_laws.proofs.Misses.{none_more}
@@ -86,9 +85,8 @@ module _ (q : AtPort) (w : Enables) (are : AreEnables q w) where
   apart : (n : ℕ) → IsNumberOf q.port Txdctl q.queue n → (n == w.receive) ≡ false
   apart n named = ne_eqb n w.receive (numbers_apart q.port q.queue w.receive n are.receive named)
 
-  access_told : (old new : List Call) (a : Access) → IsOfEnable a → (made : IsMade q old new a)
-      → StepsBefore q old new a made → Told old new a
-  access_told old new (Sees Rxdctl on) of (number, word, named, is, (before, added, stepped)) steps = record {
+  access_told : (old new : List Call) (a : Access) → IsOfEnable a → IsMade q old new a → Told old new a
+  access_told old new (Sees Rxdctl on) of (number, word, named, is, (before, added, steps)) = record {
     before = before;
     steps = steps;
     call = call_of (event.Read q.port number) (reply.Word word);
@@ -96,7 +94,7 @@ module _ (q : AtPort) (w : Enables) (are : AreEnables q w) where
     missed = λ x. rw (here, same Rxdctl number w.receive named are.receive, is) refl;
     asked = λ x. refl;
   }
-  access_told old new (Sees Txdctl on) of (number, word, named, is, (before, added, stepped)) steps = record {
+  access_told old new (Sees Txdctl on) of (number, word, named, is, (before, added, steps)) = record {
     before = before;
     steps = steps;
     call = call_of (event.Read q.port number) (reply.Word word);
@@ -104,7 +102,7 @@ module _ (q : AtPort) (w : Enables) (are : AreEnables q w) where
     missed = λ x. rw (here, apart number named, same Txdctl number w.transmit named are.transmit, is) refl;
     asked = λ x. refl;
   }
-  access_told old new (Sets Rxdctl word) of (number, named, (before, added, stepped)) steps = record {
+  access_told old new (Sets Rxdctl word) of (number, named, (before, added, steps)) = record {
     before = before;
     steps = steps;
     call = call_of (event.Write q.port number word) reply.Done;
@@ -112,7 +110,7 @@ module _ (q : AtPort) (w : Enables) (are : AreEnables q w) where
     missed = λ x. refl;
     asked = λ x. rw (here, same Rxdctl number w.receive named are.receive) refl;
   }
-  access_told old new (Sets Txdctl word) of (number, named, (before, added, stepped)) steps = record {
+  access_told old new (Sets Txdctl word) of (number, named, (before, added, steps)) = record {
     before = before;
     steps = steps;
     call = call_of (event.Write q.port number word) reply.Done;
@@ -120,16 +118,15 @@ module _ (q : AtPort) (w : Enables) (are : AreEnables q w) where
     missed = λ x. refl;
     asked = λ x. rw (here, apart number named, same Txdctl number w.transmit named are.transmit) refl;
   }
-  access_told old new (Sees other on) of made steps = absurd of
-  access_told old new (Sets other word) of made steps = absurd of
+  access_told old new (Sees other on) of made = absurd of
+  access_told old new (Sets other word) of made = absurd of
 
-  accesses_told : (all : List Access) (old new : List Call) (x : Asked) → AllEnable all → (made : AreMade q old new all)
-      → StepsBetween q old new all made
+  accesses_told : (all : List Access) (old new : List Call) (x : Asked) → AllEnable all → AreMade q old new all
       → (these : List Call) × (new ≡ old ++ these) × (missed_in w x these ≡ misses x all)
-  accesses_told [] old new x of made steps = ([], made ∙ sym (append-nil old), refl)
-  accesses_told (a ∷ rest) old new x of (mid, one, more) steps =
-      let t = access_told old mid a of.0 one steps.0 in
-      let later = accesses_told rest mid new (asked_by a x) of.1 more steps.1 in
+  accesses_told [] old new x of made = ([], made ∙ sym (append-nil old), refl)
+  accesses_told (a ∷ rest) old new x of (mid, one, more) =
+      let t = access_told old mid a of.0 one in
+      let later = accesses_told rest mid new (asked_by a x) of.1 more in
       let own : List Call = t.before ++ t.call ∷ [] in (
         own ++ later.0,
         later.1 ∙ ap (λ (l : List Call). l ++ later.0) t.all ∙ append_assoc old own later.0,
@@ -140,6 +137,6 @@ module _ (q : AtPort) (w : Enables) (are : AreEnables q w) where
       )
 
 pub polls_are_told : PollsAreTold
-polls_are_told q old new x w are steps =
-    let told = accesses_told q w are x.all (old ++ x.before) new none_asked x.enables x.made steps in
+polls_are_told q old new x w are =
+    let told = accesses_told q w are x.all (old ++ x.before) new none_asked x.enables x.made in
     (told.0, told.1, told.2 ∙ x.polls)

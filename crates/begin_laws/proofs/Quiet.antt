@@ -20,20 +20,15 @@ use Rattle.pmd_queue.specs.Made.{Access, Sees, Sets, AreMade, IsMade, StopsBy}
 use Rattle.pmd_queue.specs.Named.{AtPort}
 use Rattle.pmd_queue.specs.Sides.{quiet}
 use Rattle.start_laws.specs.Along.{AtCalls, BeforeLast, IsAlong, IsKept}
-use Rattle.start_laws.specs.Points.{StepsBefore, StepsBetween}
 use Rattle.start_laws.specs.Quieting.{IsQuiet}
 use Rattle.start_laws.proofs.Made.{made_some, some_made}
 use Rattle.start_laws.proofs.AccessLeads.{seen, set}
 use Rattle.start_laws.proofs.QuietKept.{quiet_kept, read_quiet, write_quiet}
 use Rattle.start_laws.proofs.AllAre.{AllAre, all_before}
 use Rattle.start_laws.proofs.First.{first_seen}
-use Rattle.begin_laws.specs.Faultless.{BeforeNext, Never, StepsUntil}
+use Rattle.begin_laws.specs.Faultless.{BeforeNext, Never}
 use Rattle.begin_laws.proofs.Last.{next_refuted, then_refuted}
 use Rattle.begin_laws.proofs.SeenOff.{IsQuieting, Next, never_otherwise}
-
--- A driver that starts on a queue whose sides are off sees them off.
-
--- A driver that starts on a queue whose sides are off sees them off.
 
 module _ (w : Watched) (q : AtPort) (fifo : ℕ) (h : List Entry) (along : IsAlong w fifo h) where
   abbrev Off : State → Type 0
@@ -47,41 +42,38 @@ module _ (w : Watched) (q : AtPort) (fifo : ℕ) (h : List Entry) (along : IsAlo
 
   -- such an access leaves them off
 
-  see : (row : RowId) (on : Bool) (old new : List Call) → (made : IsMade q old new (Sees row on))
-      → StepsBefore q old new (Sees row on) made → old ≢ [] → AtOff old → AtOff new
-  see row on old new made steps some at =
+  see : (row : RowId) (on : Bool) (old new : List Call) → IsMade q old new (Sees row on) → old ≢ [] → AtOff old
+      → AtOff new
+  see row on old new made some at =
       seen w q fifo h along Off Off row on off_stays off_stays
-      (λ number word named is s met can told x. read_quiet w.queue q s x q.port number) old new made steps some at
+      (λ number word named is s met can told x. read_quiet w.queue q s x q.port number) old new made some at
 
   ask : (side : Dir) (word : ℕ) (old new : List Call) → word ≡ 0
-      → (made : IsMade q old new (Sets (enable_row side) word))
-      → StepsBefore q old new (Sets (enable_row side) word) made → old ≢ [] → AtOff old → AtOff new
-  ask side word old new is made steps some at =
+      → IsMade q old new (Sets (enable_row side) word) → old ≢ [] → AtOff old → AtOff new
+  ask side word old new is made some at =
       set w q fifo h along Off Off (enable_row side) word off_stays off_stays
       (λ number named s met can told x.
-      write_quiet w.queue q s x q.port number word met (side, refl, ap (has_bit 25) is, named)) old new made steps some
-      at
+      write_quiet w.queue q s x q.port number word met (side, refl, ap (has_bit 25) is, named)) old new made some at
 
-  access_off : (old new : List Call) (a : Access) → IsQuieting a → (made : IsMade q old new a)
-      → StepsBefore q old new a made → old ≢ [] → AtOff old → AtOff new
-  access_off old new (Sees row on) is made steps some at = see row on old new made steps some at
-  access_off old new (Sets Rxdctl word) is made steps some at = ask Rx word old new is made steps some at
-  access_off old new (Sets Txdctl word) is made steps some at = ask Tx word old new is made steps some at
-  access_off old new (Sets other word) is made steps some at = absurd is
+  access_off : (old new : List Call) (a : Access) → IsQuieting a → IsMade q old new a → old ≢ [] → AtOff old → AtOff new
+  access_off old new (Sees row on) is made some at = see row on old new made some at
+  access_off old new (Sets Rxdctl word) is made some at = ask Rx word old new is made some at
+  access_off old new (Sets Txdctl word) is made some at = ask Tx word old new is made some at
+  access_off old new (Sets other word) is made some at = absurd is
 
-  accesses_off : (all : List Access) (old new : List Call) → AllAre IsQuieting all → (made : AreMade q old new all)
-      → StepsBetween q old new all made → old ≢ [] → AtOff old → AtOff new
-  accesses_off [] old new are made steps some at = subst AtOff (sym made) at
-  accesses_off (a ∷ rest) old new are (mid, here, more) steps some at =
-      accesses_off rest mid new are.1 more steps.1 (made_some q old mid a here)
-      (access_off old mid a are.0 here steps.0 some at)
+  accesses_off : (all : List Access) (old new : List Call) → AllAre IsQuieting all → AreMade q old new all → old ≢ []
+      → AtOff old → AtOff new
+  accesses_off [] old new are made some at = subst AtOff (sym made) at
+  accesses_off (a ∷ rest) old new are (mid, here, more) some at =
+      accesses_off rest mid new are.1 more (made_some q old mid a here)
+      (access_off old mid a are.0 here some at)
 
   -- the first of them is a read
-  first_off : (row : RowId) (on : Bool) (old new : List Call) → (made : IsMade q old new (Sees row on))
-      → StepsBefore q old new (Sees row on) made → BeforeNext w fifo h old Off → AtOff new
-  first_off row on old new (number, word, named, is, (before, added, stepped)) steps at =
+  first_off : (row : RowId) (on : Bool) (old new : List Call) → IsMade q old new (Sees row on)
+      → BeforeNext w fifo h old Off → AtOff new
+  first_off row on old new (number, word, named, is, (before, added, steps)) at =
       first_seen w q fifo h Off along off_stays (λ s number x. read_quiet w.queue q s x q.port number) row on old new
-      (number, word, named, is, (before, added, stepped))
+      (number, word, named, is, (before, added, steps))
       (subst (λ (calls : List Call). BeforeLast w fifo h calls Off) (sym added)
       (at before (call_of (event.Read q.port number) (reply.Word word)) steps refl))
 
@@ -90,31 +82,26 @@ module _ (w : Watched) (q : AtPort) (fifo : ℕ) (h : List Entry) (along : IsAlo
 
   -- the first access of some that begin with a read, and then the others
   begun_off : (a : Access) (rest more : List Access) (old new : List Call) → both_quiet ≡ a ∷ more
-      → AllAre IsQuieting rest → (made : AreMade q old new (a ∷ rest)) → StepsBetween q old new (a ∷ rest) made
-      → BeforeNext w fifo h old Off → AtOff new
-  begun_off (Sees row on) rest more old new is are (mid, here, then) steps at =
-      accesses_off rest mid new are then steps.1 (made_some q old mid (Sees row on) here)
-      (first_off row on old mid here steps.0 at)
-  begun_off (Sets row word) rest more old new is are made steps at = cc
+      → AllAre IsQuieting rest → AreMade q old new (a ∷ rest) → BeforeNext w fifo h old Off → AtOff new
+  begun_off (Sees row on) rest more old new is are (mid, here, then) at =
+      accesses_off rest mid new are then (made_some q old mid (Sees row on) here) (first_off row on old mid here at)
+  begun_off (Sets row word) rest more old new is are made at = cc
 
   abbrev others : List Access
   others = Sets Rxdctl 0 ∷ Sees Rxdctl false ∷ quiet Tx
 
-  pub quiet_off : (old new : List Call) (made : AreMade q old new both_quiet) → StepsBetween q old new both_quiet made
-      → BeforeNext w fifo h old Off → AtOff new
-  quiet_off old new made steps at =
-      begun_off (Sees Rxdctl false) others others old new refl quieting.1 made steps at
+  pub quiet_off : (old new : List Call) → AreMade q old new both_quiet → BeforeNext w fifo h old Off → AtOff new
+  quiet_off old new made at = begun_off (Sees Rxdctl false) others others old new refl quieting.1 made at
 
   pub quieting_never_stops : (old new : List Call) → BeforeNext w fifo h old Off
-      → (stops : StopsBy DeviceFault q old new both_quiet) → StepsUntil q old new both_quiet stops
-      → Never w fifo h new
-  quieting_never_stops old new at ([], a, rest, mid, is, made, fails) steps =
+      → StopsBy DeviceFault q old new both_quiet → Never w fifo h new
+  quieting_never_stops old new at ([], a, rest, mid, is, made, fails) =
       let both = all_before IsQuieting [] a rest (subst (AllAre IsQuieting) is quieting) in
       never_otherwise w q fifo h along mid new a both.1
-      (subst (Next w q fifo h along) (sym made) (next_refuted w fifo h along Off old at)) fails steps.1
-  quieting_never_stops old new at (d ∷ done, a, rest, mid, is, made, fails) steps =
+      (subst (Next w q fifo h along) (sym made) (next_refuted w fifo h along Off old at)) fails
+  quieting_never_stops old new at (d ∷ done, a, rest, mid, is, made, fails) =
       let both = all_before IsQuieting (d ∷ done) a rest (subst (AllAre IsQuieting) is quieting) in
       let some : mid ≢ [] = some_made q done made.0 mid made.2 (made_some q old made.0 d made.1) in
-      let there = begun_off d done (done ++ a ∷ rest) old mid is both.0.1 made steps.0 at in
+      let there = begun_off d done (done ++ a ∷ rest) old mid is both.0.1 made at in
       never_otherwise w q fifo h along mid new a both.1
-      (then_refuted w fifo h along Off mid off_stays some there) fails steps.1
+      (then_refuted w fifo h along Off mid off_stays some there) fails

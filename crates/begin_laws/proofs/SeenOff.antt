@@ -16,7 +16,7 @@ use Rattle.pmd_queue.specs.Named.{AtPort, IsNumberOf, is_driven}
 use Rattle.start_laws.specs.Along.{IsAlong}
 use Rattle.start_laws.specs.Points.{HasGround}
 use Rattle.start_laws.specs.Quieting.{IsQuiet}
-use Rattle.begin_laws.specs.Faultless.{Never, StepsBeforeOther}
+use Rattle.begin_laws.specs.Faultless.{Never}
 use Rattle.begin_laws.proofs.Grounds.{read_never_stray, write_never_stray}
 use Rattle.begin_laws.proofs.Last.{RefutesNext}
 use Rattle.begin_laws.proofs.Replies.{off_sides_are_seen_off}
@@ -43,27 +43,26 @@ module _ (w : Watched) (q : AtPort) (fifo : ℕ) (h : List Entry) (along : IsAlo
   read_never_on : (row : RowId) (old new : List Call) (on : Bool) → on ≡ false → (is_driven row ≡ true)
       → ((number : ℕ) → IsNumberOf q.port row q.queue number
       → IsNumberOf q.port Rxdctl q.queue number ⊎ IsNumberOf q.port Txdctl q.queue number)
-      → Next old → (fails : IsOtherwise q old new (Sees row on)) → StepsBeforeOther q old new (Sees row on) fails
-      → Never w fifo h new
-  read_never_on row old new on off driven names next (inl (number, word, named, is, (before, added, stepped))) steps =
+      → Next old → IsOtherwise q old new (Sees row on) → Never w fifo h new
+  read_never_on row old new on off driven names next (inl (number, word, named, is, (before, added, steps))) =
       subst (Never w fifo h) (sym added)
       (next before (call_of (event.Read q.port number) (reply.Word word)) steps refl
       (λ s x told.
       both_ways (has_bit 25 word)
       (off_sides_are_seen_off w.queue q s number word x (names number named) (sym told))
       (is ∙ ap not off)))
-  read_never_on row old new on off driven names next (inr stray) steps =
-      read_never_stray w q fifo h along old new row driven (on_ground old next) stray steps
+  read_never_on row old new on off driven names next (inr stray) =
+      read_never_stray w q fifo h along old new row driven (on_ground old next) stray
 
-  pub never_otherwise : (old new : List Call) (a : Access) → IsQuieting a → Next old → (fails : IsOtherwise q old new a)
-      → StepsBeforeOther q old new a fails → Never w fifo h new
-  never_otherwise old new (Sees Rxdctl on) is next fails steps =
-      read_never_on Rxdctl old new on is refl (λ number named. inl named) next fails steps
-  never_otherwise old new (Sees Txdctl on) is next fails steps =
-      read_never_on Txdctl old new on is refl (λ number named. inr named) next fails steps
-  never_otherwise old new (Sees other on) is next fails steps = absurd is
-  never_otherwise old new (Sets Rxdctl word) is next fails steps =
-      write_never_stray w q fifo h along old new Rxdctl word refl (on_ground old next) fails steps
-  never_otherwise old new (Sets Txdctl word) is next fails steps =
-      write_never_stray w q fifo h along old new Txdctl word refl (on_ground old next) fails steps
-  never_otherwise old new (Sets other word) is next fails steps = absurd is
+  pub never_otherwise : (old new : List Call) (a : Access) → IsQuieting a → Next old → IsOtherwise q old new a
+      → Never w fifo h new
+  never_otherwise old new (Sees Rxdctl on) is next fails =
+      read_never_on Rxdctl old new on is refl (λ number named. inl named) next fails
+  never_otherwise old new (Sees Txdctl on) is next fails =
+      read_never_on Txdctl old new on is refl (λ number named. inr named) next fails
+  never_otherwise old new (Sees other on) is next fails = absurd is
+  never_otherwise old new (Sets Rxdctl word) is next fails =
+      write_never_stray w q fifo h along old new Rxdctl word refl (on_ground old next) fails
+  never_otherwise old new (Sets Txdctl word) is next fails =
+      write_never_stray w q fifo h along old new Txdctl word refl (on_ground old next) fails
+  never_otherwise old new (Sets other word) is next fails = absurd is

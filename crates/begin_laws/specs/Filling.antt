@@ -19,9 +19,9 @@ use Rattle.receive_laws.specs.Joint.{Agree}
 use Rattle.receive_laws.specs.Up.{IsUp}
 use Rattle.transmit_laws.specs.Agreeing.{Agrees}
 use Rattle.start_laws.specs.Along.{AtCalls, IsAlong}
-use Rattle.start_laws.specs.On.{AreOn, StepsToOn}
+use Rattle.start_laws.specs.On.{AreOn}
 use Rattle.start_laws.specs.Quieting.{IsQuiet}
-use Rattle.begin_laws.specs.Faultless.{BeforeNext, Never, NoneIsLent, StepsPreparing, StepsReady, StepsSwitching, StepsUnprepared, StepsUnready}
+use Rattle.begin_laws.specs.Faultless.{BeforeNext, Never, NoneIsLent}
 
 -- after the receive ring was made ready, the transmit ring isn't
 pub record FaultsAfterOne (q : AtPort) (size : ℕ) (old : List Call) (a : Numbers) (new : List Call) : Type 0 where
@@ -58,18 +58,6 @@ abbrev pub FaultsEarly : AtPort → ℕ → List Call → Numbers → List Call 
 FaultsEarly q size old a new =
     ReceiveFails DeviceFault q size old a new ⊎ FaultsAfterOne q size old a new ⊎ FaultsSwitching q size old a new
 
--- the other calls of the pass are steps of the device
-abbrev pub StepsEarly : (q : AtPort) (size : ℕ) (old : List Call) (a : Numbers) (new : List Call)
-    → FaultsEarly q size old a new → Type 0
-StepsEarly q size old a new (inl x) = StepsUnready q size old a new x
-StepsEarly q size old a new (inr (inl x)) =
-    StepsReady q size old a x.made x.arena x.empty x.receive
-    × StepsUnprepared q Tx size x.made x.arena new x.fails
-StepsEarly q size old a new (inr (inr x)) =
-    StepsReady q size old a x.ready_made x.ready_arena x.empty x.receive
-    × StepsPreparing q Tx size x.ready_made x.ready_arena x.both_made x.both_arena x.transmit.ring x.transmit.prepared
-    × StepsSwitching q x.both_made new x.fails
-
 -- as a ring's block is lent, none of the blocks is that are free then
 abbrev pub LendsFresh : (w : Watched) (fifo : ℕ) (h : List Entry) (q : AtPort) (size : ℕ) (old : List Call)
     (a : Numbers) (new : List Call) → FaultsEarly q size old a new → Type 0
@@ -89,13 +77,12 @@ abbrev pub NoFaultIsEarly : Type 0
 NoFaultIsEarly =
     (w : Watched) (q : AtPort) (fifo : ℕ) (h : List Entry) (size : ℕ) (old : List Call) (a : Numbers)
     (new : List Call) → IsAlong w fifo h → BeforeNext w fifo h old (IsQuiet w.queue q) →
-    (x : FaultsEarly q size old a new) → StepsEarly q size old a new x → LendsFresh w fifo h q size old a new x →
-    Never w fifo h new
+    (x : FaultsEarly q size old a new) → LendsFresh w fifo h q size old a new x → Never w fifo h new
 
 -- and as it began to fill the ring the device and the driver agreed on both sides, and the receive side was up
 abbrev pub FillingBeginsWell : Type 0
 FillingBeginsWell =
     (w : Watched) (q : AtPort) (fifo : ℕ) (h : List Entry) (size : ℕ) (old : List Call) (a : Numbers)
     (new : List Call) → IsAlong w fifo h → is_size size ≡ true → BeforeNext w fifo h old (IsQuiet w.queue q) →
-    (x : FaultsFilling q size old a new) → StepsToOn q size old a x.mid x.empty x.sender x.on →
+    (x : FaultsFilling q size old a new) →
     AtCalls w fifo h x.mid (λ s. IsUp w.queue s × Agree w.queue s [] x.empty × Agrees s w.queue [] x.sender)

@@ -11,7 +11,6 @@ use Rattle.nic_device.specs.declared.event.Reply.{Reply}
 use Rattle.nic_device.specs.declared.event.Reply.TheVariants as reply
 use Rattle.device_lock.specs.declared.entry.Call.{Call}
 use Rattle.pmd_queue.specs.Named.{AtPort, IsNumberOf}
-use Rattle.start_laws.specs.Points.{StepsBetween}
 use Rattle.begin_laws.specs.TimedOut.{Asked, TimesOut, none_asked}
 
 abbrev pub same_port : Port → Port → Bool
@@ -58,10 +57,8 @@ abbrev pub missed_in : Enables → Asked → List Call → ℕ
 missed_in w x [] = 0
 missed_in w x (c ∷ cs) = (if is_missed w x c.event c.reply then 1 else 0) + missed_in w (asked_after w x c.event) cs
 
--- where a start timed out, 1,000 of its pass's calls do, by whatever numbers the two words have, as long as the other
--- calls are steps of the device
+-- where a start timed out, 1,000 of its pass's calls do, by whatever numbers the two words have
 abbrev pub PollsAreTold : Type 0
 PollsAreTold =
     (q : AtPort) (old new : List Call) (x : TimesOut q old new) (w : Enables) → AreEnables q w →
-    StepsBetween q (old ++ x.before) new x.all x.made →
     (these : List Call) × (new ≡ (old ++ x.before) ++ these) × (missed_in w none_asked these ≡ 1000)

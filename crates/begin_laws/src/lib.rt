@@ -17,8 +17,7 @@ pub fn timeouts_poll_a_thousand_times()
     ensures { TimeoutsPoll }
 {}
 
-/// These reads are among the calls of the start's pass, by the numbers that RXDCTL and TXDCTL have at its port, where
-/// the other calls of the pass are steps of the device.
+/// These reads are among the calls of the start's pass, by the numbers that RXDCTL and TXDCTL have at its port.
 pub fn polls_of_a_timeout_are_told()
     ensures { PollsAreTold }
 {}
@@ -38,8 +37,7 @@ pub fn replies_at_a_start_are_healthy()
 
 /// Over a legal history that leaves the queue alone, where port and queue name it, its sides are off and not wanted on
 /// just before the start's first call, and no block that the start lends is lent already: no start finds the device at
-/// fault as it makes its rings ready, one after the other, or switches both sides on. Other calls of the pass are steps
-/// of the device.
+/// fault as it makes its rings ready, one after the other, or switches both sides on.
 pub fn starts_find_no_device_at_fault()
     ensures receive { ReceiveIsReady }
     ensures transmit { TransmitIsReady }

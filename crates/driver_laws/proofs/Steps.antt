@@ -2,34 +2,26 @@
 use Rattle.std.proofs.Common.{◌≡◌, Bool, true, false, List, [], ◌∷◌, refl, subst}
 use Rattle.std.specs.Prelude.{◌==◌, IsTrue}
 use Rattle.std.proofs.lemmas.Bool.{eqb-false}
-use Rattle.device_lock.specs.Alone.{mode_after}
+use Rattle.vf_map.specs.declared.mode.Mode.{Mode}
+use Rattle.device_lock.specs.Alone.{Blocks, LeavesBlocks, LeavesRegisters, mode_after}
 use Rattle.device_lock.specs.History.{call_in, calls_of}
 use Rattle.device_lock.specs.declared.alone.Watched.{Watched}
 use Rattle.device_lock.specs.declared.entry.Entry.{Entry}
-use Rattle.pmd_base.specs.Events.{is_step}
 use Rattle.receive_laws.proofs.Clear.{no_registers}
 use Rattle.receive_laws.proofs.Histories.{calls_own, calls_other}
 use Rattle.pmd.specs.Halves.{Doer, OthersStep, is_neither}
-use Rattle.driver_laws.specs.Histories.{OthersAreSteps, StepsLeaveAlone, doer_of, doers_after}
+use Rattle.driver_laws.specs.Histories.{StepsLeaveAlone, doer_of, doers_after}
 
-pub steps_leave_alone : StepsLeaveAlone
-steps_leave_alone w mine mode doers [] steps = tt
-steps_leave_alone w mine mode doers (e ∷ es) steps = (
-  λ own neither. no_registers w mode mine e.event (steps.0 own neither),
-  steps_leave_alone w mine (mode_after w.vfs mode e.event) (doers_after (e.pass == w.pass) doers) es steps.1,
-)
-
--- they are such steps where the calls of the pass say so
-
-module _ (w : Watched) (e : Entry) (es : List Entry) where
+module _ (w : Watched) (mine : Blocks) (mode : Mode) (e : Entry) (es : List Entry) where
   abbrev Here : Bool → List Doer → Type 0
   Here b doers =
-      (e.pass ≡ w.pass → IsTrue (is_neither (doer_of true doers)) → IsTrue (is_step e.event))
+      (e.pass ≡ w.pass → IsTrue (is_neither (doer_of true doers))
+      → LeavesRegisters w mode e.event × LeavesBlocks mine e.event)
       × OthersStep (doers_after b doers) (calls_of w.pass es)
 
   own_step : (doers : List Doer) → OthersStep doers (call_in e ∷ calls_of w.pass es) → Here true doers
-  own_step [] steps = (λ own neither. steps.0, steps.1)
-  own_step (d ∷ doers) steps = (λ own neither. steps.0 neither, steps.1)
+  own_step [] steps = (λ own neither. no_registers w mode mine e.event steps.0, steps.1)
+  own_step (d ∷ doers) steps = (λ own neither. no_registers w mode mine e.event (steps.0 neither), steps.1)
 
   one_step : (doers : List Doer) (b : Bool) → (e.pass == w.pass) ≡ b → OthersStep doers (calls_of w.pass (e ∷ es))
       → Here b doers
@@ -39,9 +31,8 @@ module _ (w : Watched) (e : Entry) (es : List Entry) where
     subst (OthersStep doers) (calls_other w.pass e es is) steps,
   )
 
-pub steps_by_calls : (w : Watched) (doers : List Doer) (es : List Entry) → OthersStep doers (calls_of w.pass es)
-    → OthersAreSteps w doers es
-steps_by_calls w doers [] steps = tt
-steps_by_calls w doers (e ∷ es) steps =
-    let here = one_step w e es doers (e.pass == w.pass) refl steps in
-    (here.0, steps_by_calls w (doers_after (e.pass == w.pass) doers) es here.1)
+pub steps_leave_alone : StepsLeaveAlone
+steps_leave_alone w mine mode doers [] steps = tt
+steps_leave_alone w mine mode doers (e ∷ es) steps =
+    let here = one_step w mine mode e es doers (e.pass == w.pass) refl steps in
+    (here.0, steps_leave_alone w mine (mode_after w.vfs mode e.event) (doers_after (e.pass == w.pass) doers) es here.1)

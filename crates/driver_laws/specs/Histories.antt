@@ -8,7 +8,6 @@ use Rattle.device_lock.specs.Alone.{Blocks, LeavesAlone, LeavesRegisters, Leaves
 use Rattle.device_lock.specs.History.{IsLegal, calls_of, leads_to}
 use Rattle.device_lock.specs.declared.alone.Watched.{Watched}
 use Rattle.device_lock.specs.declared.entry.Entry.{Entry}
-use Rattle.pmd_base.specs.Events.{is_step}
 use Rattle.pmd_tx.specs.Sending.{Elsewhere}
 use Rattle.history_laws.specs.Laws.{AreEvents}
 use Rattle.receive_laws.specs.Delivered as receive
@@ -20,7 +19,7 @@ use Rattle.transmit_laws.specs.Laws as transmit
 use Rattle.transmit_laws.specs.Sent.{sent_in, sent_since}
 use Rattle.transmit_laws.specs.Up.{IsUp}
 use Rattle.driver_laws.specs.Agreeing.{AreLent, BothAgree}
-use Rattle.pmd.specs.Halves.{Halves, Doer, Sends, AllOwn, is_neither, played_by}
+use Rattle.pmd.specs.Halves.{Halves, Doer, OthersStep, Sends, AllOwn, is_neither, played_by}
 
 -- whose an entry is, of the driver's pass or of another, and the doers that are left after it: the entries of the pass
 -- are theirs in turn, and those of other passes neither half's
@@ -101,15 +100,9 @@ CountedWhereUp =
     sent_since w.queue (new_state w.vfs fifo) [] (start ++ rest)
     ≡ sent_since w.queue (new_state w.vfs fifo) [] start ++ sent_in w.queue (leads_to (new_state w.vfs fifo) start) rest
 
--- the calls of the driver's pass that are neither half's are steps of the device, as the ways to a device make them
-abbrev pub OthersAreSteps : Watched → List Doer → List Entry → Type 0
-OthersAreSteps w doers [] = ⊤
-OthersAreSteps w doers (e ∷ es) =
-    (e.pass ≡ w.pass → IsTrue (is_neither (doer_of true doers)) → IsTrue (is_step e.event))
-    × OthersAreSteps w (doers_after (e.pass == w.pass) doers) es
-
--- and such steps leave the queue alone
+-- the calls of the driver's pass that are neither half's are steps of the device, as its calls say; and such steps
+-- leave the queue alone
 abbrev pub StepsLeaveAlone : Type 0
 StepsLeaveAlone =
-    (w : Watched) (mine : Blocks) (mode : Mode) (doers : List Doer) (es : List Entry) → OthersAreSteps w doers es →
-    OthersLeaveAlone w mine mode doers es
+    (w : Watched) (mine : Blocks) (mode : Mode) (doers : List Doer) (es : List Entry) →
+    OthersStep doers (calls_of w.pass es) → OthersLeaveAlone w mine mode doers es

@@ -40,7 +40,7 @@ pub fn enable_words_keep_the_agreement()
 {}
 
 /// The steps of the device that the ways to a device make before the driver's calls leave its queue alone: so nothing
-/// more is asked of a pass whose calls that are neither half's are such steps.
+/// more is asked of a pass whose calls that are neither half's are such steps, as the driver's calls say of them.
 pub fn steps_leave_the_queue_alone()
     ensures { StepsLeaveAlone }
 {}

@@ -13,7 +13,8 @@ use Rattle.device_lock.specs.declared.alone.Watched.{Watched}
 use Rattle.device_lock.specs.declared.entry.Entry.{Entry}
 use Rattle.history_laws.specs.Laws.{BeginningIsAlone}
 
-lent_before : (pass n : ℕ) (g h : List Entry) → IsTrue (lent_by pass g n) → IsTrue (lent_by pass (g ++ h) n)
+-- what a pass lends in the beginning of a history it lends in the whole
+pub lent_before : (pass n : ℕ) (g h : List Entry) → IsTrue (lent_by pass g n) → IsTrue (lent_by pass (g ++ h) n)
 lent_before pass n [] h is = cc
 lent_before pass n (e ∷ g) h is = elim (or_cases (lent_in pass e n) (lent_by pass g n) is) [
   | inl here ↦ or_left _ _ here

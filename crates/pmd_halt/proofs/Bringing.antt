@@ -1,5 +1,6 @@
 -- What stays while blocks are brought home.
-use Rattle.std.proofs.Common.{◌≡◌, ◌≢◌, ℕ, zero, suc, ◌+◌, ◌<◌, ◌≤◌, ◌⊎◌, ◌||◌, inl, inr, Bool, true, false, List, [], ◌∷◌, ◌++◌, length, refl, sym, ap, subst, ◌∙◌, arith}
+use Rattle.std.proofs.Common.{◌≡◌, ◌≢◌, ℕ, zero, suc, ◌+◌, ◌<◌, ◌≤◌, ◌⊎◌, inl, inr, true, List, [], ◌∷◌, ◌++◌, length, refl, sym, ap, subst, ◌∙◌, arith}
+use Rattle.std.proofs.Math.Bool.{or-false}
 use Rattle.std.proofs.lemmas.Bool.{cases_eq}
 use Rattle.std.proofs.lemmas.List.{append-nil}
 use Rattle.std.proofs.lemmas.Bool.Decides.{nat_tests}
@@ -56,10 +57,6 @@ brings_few (suc count) s t (mid, before, one) =
     (omega (arith, first.0, then.0), omega (arith, first.1, then.1))
 
 -- which blocks are free or out
-
-or_none : (b : Bool) → (b || false) ≡ b
-or_none true = refl
-or_none false = refl
 
 there_given : (a : Numbers) (xs : List ℕ) (n : ℕ) → AreOut a (n ∷ xs) → (k : ℕ) → (k ≡ n) ⊎ (k ≢ n)
     → is_free_or_out (with_free a n true) xs k ≡ is_free_or_out a (n ∷ xs) k
@@ -121,4 +118,4 @@ all_free_again s t (count, brings, gone) out none k =
     let there : is_free_or_out t.arena [] k ≡ is_free_or_out s.arena s.way.lent k =
     subst (λ (xs : List ℕ). is_free_or_out t.arena xs k ≡ is_free_or_out s.arena s.way.lent k) gone
     (brings_there count s t brings was same k) in
-    rw append-nil (sym (or_none (is_free t.arena k)) ∙ there)
+    rw append-nil (sym (or-false (is_free t.arena k)) ∙ there)

@@ -29,7 +29,6 @@ use Rattle.pmd_laws.proofs.Order.{handed_of_life, sent_of_life}
 use Rattle.pmd_laws.proofs.StopCalls.{failed_stop_ends, failed_stop_takes_once_off, no_call_takes, stop_ends, stop_takes_once_off}
 use Rattle.pmd_laws.proofs.StopParts.{first_made, first_takes}
 use Rattle.pmd_laws.proofs.StopSent.{sent_over_stop}
-use Rattle.pmd_laws.proofs.StopSteps.{steps_home, steps_unstopped}
 use Rattle.pmd_laws.proofs.Stopped.{handed_over_stop}
 
 module _ (w : Watched) (fifo : ℕ) (h : List Entry) (q : AtPort) (size : ℕ) (old : List Call) (a : Numbers)
@@ -67,30 +66,27 @@ left_is_prefix w fifo h q size old a new left late lived x = (
 
 stopped_ends : (q : AtPort) (old : List Call) (h : Halted) (new : List Call) (left : Rest) (late : Option PmdFault)
     → IsStopped q old h new left late → Ends q old new
-stopped_ends q old h new (rest.Home home) None x = stop_ends q old h new home x (steps_home q old h new home x)
+stopped_ends q old h new (rest.Home home) None x = stop_ends q old h new home x
 stopped_ends q old h new (rest.Home home) (Some f) x = absurd x
 stopped_ends q old h new (rest.Running p) None x = absurd x
-stopped_ends q old h new (rest.Running p) (Some f) (after, is, fails) =
-    failed_stop_ends f q old h new after fails (steps_unstopped f q old h new after fails)
+stopped_ends q old h new (rest.Running p) (Some f) (after, is, fails) = failed_stop_ends f q old h new after fails
 
 stopped_takes : (q : AtPort) (old : List Call) (h : Halted) (new : List Call) (left : Rest) (late : Option PmdFault)
     → IsStopped q old h new left late → TakesOnceOff q old new
-stopped_takes q old h new (rest.Home home) None x =
-    stop_takes_once_off q old old h new home x (steps_home q old h new home x) (no_call_takes q old)
+stopped_takes q old h new (rest.Home home) None x = stop_takes_once_off q old old h new home x (no_call_takes q old)
 stopped_takes q old h new (rest.Home home) (Some f) x = absurd x
 stopped_takes q old h new (rest.Running p) None x = absurd x
 stopped_takes q old h new (rest.Running p) (Some f) (after, is, fails) =
-    failed_stop_takes_once_off f q old old h new after fails (steps_unstopped f q old h new after fails)
-    (no_call_takes q old)
+    failed_stop_takes_once_off f q old old h new after fails (no_call_takes q old)
 
 module _ (w : Watched) (fifo : ℕ) (h : List Entry) (q : AtPort) (size : ℕ) (old : List Call) (a : Numbers)
     (new : List Call) (left : Rest) (late : Option PmdFault) (lived : HasLived q size old a new left late)
     (x : IsOver w fifo h q size old a new left late lived) where
-  abbrev now : List Call
+  abbrev pub now : List Call
   now = lived.made ++ x.since
 
-  is_stopping : IsStopping w fifo h q size old a lived.lives.made lived.lives.fresh lived.made (halves_of lived.last)
-      now
+  pub is_stopping : IsStopping w fifo h q size old a lived.lives.made lived.lives.fresh lived.made
+      (halves_of lived.last) now
   is_stopping = record {
     along = x.along;
     life = record { sized = x.sized; up = lived.lives.up; since = lived.lives.drives };

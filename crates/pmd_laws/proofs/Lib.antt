@@ -11,7 +11,6 @@ pub mod Silent
 pub mod StopCalls
 pub mod StopParts
 pub mod StopSent
-pub mod StopSteps
 pub mod Stopped
 pub mod Told
 pub mod Waits

@@ -28,7 +28,7 @@ use Rattle.pmd.specs.Halves.{AllOwn, Drives, Halves, OthersStep, halves_of, play
 use Rattle.pmd.proofs.Calls.{drives_on, receiving_drives}
 use Rattle.driver_laws.specs.Histories.{IsDriven}
 use Rattle.driver_laws.proofs.InOrder.{counted_where_up, handed_is_prefix, idle_is_all_sent, none_is_all, sent_is_prefix}
-use Rattle.driver_laws.proofs.Steps.{steps_by_calls, steps_leave_alone}
+use Rattle.driver_laws.proofs.Steps.{steps_leave_alone}
 use Rattle.pmd_laws.specs.Order as order
 use Rattle.pmd_laws.proofs.FirstHalves.{first_halves, halves_apart, halves_lent}
 
@@ -92,7 +92,7 @@ module _ (w : Watched) (fifo : ℕ) (h : List Entry) (q : AtPort) (size : ℕ) (
           own = subst (AllOwn first whole.0) (sym p.backs) whole.3;
           others =
               steps_leave_alone w (lent_by w.pass (p.front ++ p.back)) (mode_through w.vfs Off p.front) whole.0 p.back
-              (steps_by_calls w whole.0 p.back (subst (OthersStep whole.0) (sym p.backs) whole.5));
+              (subst (OthersStep whole.0) (sym p.backs) whole.5);
         }
 
     pub last : played_by first whole.0 (calls_of w.pass p.back) ≡ k

@@ -1,48 +1,62 @@
 -- On a queue that was switched off behind a life nothing goes on.
-use Rattle.std.proofs.Common.{◌≡◌, ◌≢◌, ℕ, List, [], ◌++◌, refl, sym, ◌∙◌}
-use Rattle.dma_arena.specs.Numbers.{Numbers}
+use Rattle.std.proofs.Common.{◌≡◌, inl, inr, false, List, ◌++◌, Option, Some, None, refl, sym, ap, ◌∙◌, subst}
 use Rattle.device_lock.specs.History.{calls_of}
-use Rattle.device_lock.specs.declared.alone.Watched.{Watched}
 use Rattle.device_lock.specs.declared.entry.Call.{Call}
-use Rattle.device_lock.specs.declared.entry.Entry.{Entry}
-use Rattle.pmd.specs.Running.{Running}
+use Rattle.pmd.specs.Driver.{halted_of}
+use Rattle.pmd.specs.Halves.{halves_of}
+use Rattle.pmd.specs.Life.{IsStopped}
+use Rattle.pmd.specs.declared.driver.Rings.TheVariants.{Up}
+use Rattle.pmd.specs.declared.start.Rest.{Rest}
+use Rattle.pmd.specs.declared.start.Rest.TheVariants as rest
+use Rattle.pmd_base.specs.declared.fault.PmdFault.{PmdFault}
+use Rattle.pmd_halt.specs.Halted.{Halted}
+use Rattle.pmd_halt.specs.Stopping.{closed}
+use Rattle.pmd_queue.specs.Both.{IsSwitched}
 use Rattle.pmd_queue.specs.Named.{AtPort}
-use Rattle.start_laws.specs.Along.{AtCalls}
-use Rattle.start_laws.specs.Points.{HasGround}
-use Rattle.start_laws.specs.Quieting.{IsQuiet}
-use Rattle.start_laws.specs.Silent.{IsSilent}
-use Rattle.start_laws.proofs.Silent.{quiet_queue_is_silent}
-use Rattle.start_laws.proofs.Stopping.{switched_off_asks}
-use Rattle.start_laws.proofs.SwitchedOff.{switching_off_leads}
-use Rattle.pmd.specs.Halves.{Halves}
-use Rattle.pmd_laws.specs.Silent.{IsSwitchedOff, SilentOnceOff}
-use Rattle.pmd_laws.proofs.Looks.{lived_before}
-use Rattle.pmd_laws.proofs.Stopped.{ground_lived, life_some, some_more}
-
-module _ (w : Watched) (fifo : ℕ) (h : List Entry) (q : AtPort) (size : ℕ) (old : List Call) (a : Numbers)
-    (started : List Call) (r : Running) (made : List Call) (k : Halves) (off : List Call)
-    (x : IsSwitchedOff w fifo h q size old a started r made k off) where
-  made_some : made ≢ []
-  made_some = life_some w fifo h q size old a started r made k x.along x.life x.begins
-
-  grounded : AtCalls w fifo h made (HasGround w.queue q)
-  grounded done rest all calls =
-      ground_lived w fifo done q size old a started r k
-      (lived_before w fifo h done rest all q size old a started r made made k k x.life x.along x.begins x.life.since
-      calls)
-
-  quiet : AtCalls w fifo h off (IsQuiet w.queue q)
-  quiet = switching_off_leads w q fifo h made off x.along x.switched x.steps made_some grounded
-
-  off_some : off ≢ []
-  off_some none =
-      let ends = switched_off_asks q made off x.switched x.steps in
-      some_more made ends.0 made_some (sym ends.1 ∙ none)
-
-  pub silent : (done rest : List Entry) → done ++ rest ≡ h → calls_of w.pass done ≡ off → IsSilent w fifo h done
-  silent done rest all calls =
-      quiet_queue_is_silent w q fifo h done rest off (calls_of w.pass h) x.along off_some quiet x.ends refl all calls
+use Rattle.start_laws.specs.Ending.{IsAsking, IsEnding}
+use Rattle.start_laws.specs.Stopping.{Ends, EndsOnceOff}
+use Rattle.start_laws.proofs.Parts.{calls_joined}
+use Rattle.start_laws.proofs.StopCalls.{none_made}
+use Rattle.pmd_laws.specs.Silent.{SilentOnceOff, SilentOverStop, SwitchesOff}
+use Rattle.pmd_laws.proofs.Ends.{is_stopping, now}
+use Rattle.pmd_laws.proofs.StopCalls.{amid_ends, home_ends}
+use Rattle.pmd_laws.proofs.StopParts.{first_made}
+use Rattle.pmd_laws.proofs.StopSent.{silent_off}
 
 pub silent_once_off : SilentOnceOff
-silent_once_off w fifo h q size old a started r made k off done rest x all calls =
-    silent w fifo h q size old a started r made k off x done rest all calls
+silent_once_off w fifo h q size old a started r made k new done rest x y all calls =
+    silent_off w fifo h q size old a started r made k new x y done rest all calls
+
+-- what a driver's stop says
+
+module _ (q : AtPort) (old : List Call) (h : Halted) (new : List Call) where
+  abbrev GoesOff : List Call → Type 0
+  GoesOff off = IsSwitched q old off false 1000 × Ends q off new
+
+  switches_off : (left : Rest) (late : Option PmdFault) (x : IsStopped q old h new left late) (off : List Call)
+      → SwitchesOff q old h new left late x off → GoesOff off
+  switches_off (rest.Home home) None (mid, switched, comes) off is =
+      subst GoesOff (sym is) (switched, home_ends q mid (closed h) new home comes)
+  switches_off (rest.Home home) (Some f) x off is = absurd is
+  switches_off (rest.Running p) None x off is = absurd is
+  switches_off (rest.Running p) (Some f) (after, same, inl unclosed) off is = absurd is
+  switches_off (rest.Running p) (Some f) (after, same, inr (inl unswitched)) off is = absurd is
+  switches_off (rest.Running p) (Some f) (after, same, inr (inr (mid, switched, amid))) off is =
+      subst GoesOff (sym is) (switched, amid_ends f q mid (closed h) new after amid)
+
+pub silent_over_stop : SilentOverStop
+silent_over_stop w fifo h q size old a new left late lived off done rest x stop all calls =
+    let (switched, ends) = switches_off q lived.made (halted_of (Up lived.last)) new left late lived.stopped off stop in
+    let here = now w fifo h q size old a new left late lived x in
+    let on : here ≡ off ++ calls_of w.pass rest =
+    sym x.calls ∙ sym (ap (calls_of w.pass) all) ∙ calls_joined w.pass done rest
+    ∙ ap (λ (cs : List Call). cs ++ calls_of w.pass rest) calls in
+    let y : EndsOnceOff q lived.made here = record {
+      mid = lived.made;
+      off = off;
+      asks = none_made (IsAsking q) lived.made lived.made refl;
+      switched = switched;
+      ends = first_made (IsEnding q) off here new (calls_of w.pass rest) x.rest ends on x.all;
+    } in
+    silent_off w fifo h q size old a lived.lives.made lived.lives.fresh lived.made (halves_of lived.last) here
+    (is_stopping w fifo h q size old a new left late lived x) y done rest all calls

@@ -4,52 +4,57 @@ use Rattle.std.proofs.Common.{inl, inr, false, refl, sym, subst, List}
 use Rattle.device_lock.specs.declared.entry.Call.{Call}
 use Rattle.pmd_base.specs.declared.fault.PmdFault.{PmdFault}
 use Rattle.pmd_halt.specs.Halted.{Halted}
-use Rattle.pmd_halt.specs.Stopping.{IsLeft, IsLeftAmid, bringing, brought, closed}
+use Rattle.pmd_halt.specs.Stopping.{ComesHome, IsLeft, IsLeftAmid, bringing, brought, closed}
+use Rattle.pmd_halt.specs.declared.home.Home.{Home}
 use Rattle.pmd_queue.specs.Both.{IsSwitched}
 use Rattle.pmd_queue.specs.Named.{AtPort}
 use Rattle.start_laws.specs.Ending.{IsAsking, IsEnding}
-use Rattle.start_laws.specs.Stopping.{Asks, Ends, StepsSwitched, TakesOnceOff}
+use Rattle.start_laws.specs.Stopping.{Asks, Ends, TakesOnceOff}
 use Rattle.start_laws.proofs.Stopping.{bringing_ends, switched_off_asks, unswitched_asks}
 use Rattle.start_laws.proofs.StopCalls.{asks_end, none_made, some_made, step_ends, then_made}
-use Rattle.pmd_laws.specs.Stopped.{FailedStopEnds, FailedStopTakesOnceOff, NoCallTakes, StepsAmid, StepsLeft, StopEnds, StopTakesOnceOff}
+use Rattle.pmd_laws.specs.Stopped.{FailedStopEnds, FailedStopTakesOnceOff, NoCallTakes, StopEnds, StopTakesOnceOff}
+
+pub home_ends : (q : AtPort) (old : List Call) (h : Halted) (new : List Call) (home : Home)
+    → ComesHome old h new home → Ends q old new
+home_ends q old h new home comes =
+    bringing_ends q comes.brings.0 (bringing old h) (brought new home) comes.brings.1
 
 pub stop_ends : StopEnds
-stop_ends q old h new home (mid, switched, comes) steps =
-    then_made (IsEnding q) old mid new (asks_end q old mid (switched_off_asks q old mid switched steps.0))
-    (bringing_ends q comes.brings.0 (bringing mid (closed h)) (brought new home) comes.brings.1 steps.1)
+stop_ends q old h new home (mid, switched, comes) =
+    then_made (IsEnding q) old mid new (asks_end q old mid (switched_off_asks q old mid switched))
+    (home_ends q mid (closed h) new home comes)
 
-amid_ends : (f : PmdFault) (q : AtPort) (old : List Call) (h : Halted) (new : List Call) (left : Halted)
-    → (x : IsLeftAmid f old h new left) → StepsAmid f old h new left x → Ends q old new
-amid_ends f q old h new left (refusal, is, (count, mid, some, more, arena, way), same) steps =
-    then_made (IsEnding q) old mid.made new (bringing_ends q count (bringing old h) mid some steps.0)
-    (some_made (IsEnding q) (step_ends q) mid.made new more steps.1)
+pub amid_ends : (f : PmdFault) (q : AtPort) (old : List Call) (h : Halted) (new : List Call) (left : Halted)
+    → IsLeftAmid f old h new left → Ends q old new
+amid_ends f q old h new left (refusal, is, (count, mid, some, more, arena, way), same) =
+    then_made (IsEnding q) old mid.made new (bringing_ends q count (bringing old h) mid some)
+    (some_made (IsEnding q) (step_ends q) mid.made new more)
 
 left_ends : (f : PmdFault) (q : AtPort) (old : List Call) (h : Halted) (new : List Call) (left : Halted)
-    → (x : IsLeft f q old h new left) → StepsLeft f q old h new left x → Ends q old new
-left_ends f q old h new left (inl (fails, same)) steps = asks_end q old new (unswitched_asks f q old new fails steps)
-left_ends f q old h new left (inr (mid, switched, amid)) steps =
-    then_made (IsEnding q) old mid new (asks_end q old mid (switched_off_asks q old mid switched steps.0))
-    (amid_ends f q mid h new left amid steps.1)
+    → IsLeft f q old h new left → Ends q old new
+left_ends f q old h new left (inl (fails, same)) = asks_end q old new (unswitched_asks f q old new fails)
+left_ends f q old h new left (inr (mid, switched, amid)) =
+    then_made (IsEnding q) old mid new (asks_end q old mid (switched_off_asks q old mid switched))
+    (amid_ends f q mid h new left amid)
 
 pub failed_stop_ends : FailedStopEnds
-failed_stop_ends f q old h new left (inl (is, same, after)) steps = none_made (IsEnding q) old new same
-failed_stop_ends f q old h new left (inr x) steps = left_ends f q old (closed h) new left x steps
+failed_stop_ends f q old h new left (inl (is, same, after)) = none_made (IsEnding q) old new same
+failed_stop_ends f q old h new left (inr x) = left_ends f q old (closed h) new left x
 
 -- blocks are taken back behind a switch off
 
-once_off : (q : AtPort) (old mid off new : List Call) → TakesOnceOff q old mid → (x : IsSwitched q mid off false 1000)
-    → StepsSwitched q mid off x → Ends q off new → TakesOnceOff q old new
-once_off q old mid off new (inl asks) x steps ends =
-    inr (record { mid = mid; off = off; asks = asks; switched = x; steps = steps; ends = ends })
-once_off q old mid off new (inr was) x steps ends = inr (record {
+once_off : (q : AtPort) (old mid off new : List Call) → TakesOnceOff q old mid → IsSwitched q mid off false 1000
+    → Ends q off new → TakesOnceOff q old new
+once_off q old mid off new (inl asks) x ends =
+    inr (record { mid = mid; off = off; asks = asks; switched = x; ends = ends })
+once_off q old mid off new (inr was) x ends = inr (record {
   mid = was.mid;
   off = was.off;
   asks = was.asks;
   switched = was.switched;
-  steps = was.steps;
   ends =
       then_made (IsEnding q) was.off mid new was.ends
-      (then_made (IsEnding q) mid off new (asks_end q mid off (switched_off_asks q mid off x steps)) ends);
+      (then_made (IsEnding q) mid off new (asks_end q mid off (switched_off_asks q mid off x)) ends);
 })
 
 more_asks : (q : AtPort) (old mid new : List Call) → TakesOnceOff q old mid → Asks q mid new → TakesOnceOff q old new
@@ -59,7 +64,6 @@ more_asks q old mid new (inr was) more = inr (record {
   off = was.off;
   asks = was.asks;
   switched = was.switched;
-  steps = was.steps;
   ends = then_made (IsEnding q) was.off mid new was.ends (asks_end q mid new more);
 })
 
@@ -67,20 +71,18 @@ pub no_call_takes : NoCallTakes
 no_call_takes q old = inl (none_made (IsAsking q) old old refl)
 
 pub stop_takes_once_off : StopTakesOnceOff
-stop_takes_once_off q old mid h new home (off, switched, comes) steps before =
-    once_off q old mid off new before switched steps.0
-    (bringing_ends q comes.brings.0 (bringing off (closed h)) (brought new home) comes.brings.1 steps.1)
+stop_takes_once_off q old mid h new home (off, switched, comes) before =
+    once_off q old mid off new before switched (home_ends q off (closed h) new home comes)
 
 left_takes : (f : PmdFault) (q : AtPort) (old mid : List Call) (h : Halted) (new : List Call) (left : Halted)
-    → (x : IsLeft f q mid h new left) → StepsLeft f q mid h new left x → TakesOnceOff q old mid
-    → TakesOnceOff q old new
-left_takes f q old mid h new left (inl (fails, same)) steps before =
-    more_asks q old mid new before (unswitched_asks f q mid new fails steps)
-left_takes f q old mid h new left (inr (off, switched, amid)) steps before =
-    once_off q old mid off new before switched steps.0 (amid_ends f q off h new left amid steps.1)
+    → IsLeft f q mid h new left → TakesOnceOff q old mid → TakesOnceOff q old new
+left_takes f q old mid h new left (inl (fails, same)) before =
+    more_asks q old mid new before (unswitched_asks f q mid new fails)
+left_takes f q old mid h new left (inr (off, switched, amid)) before =
+    once_off q old mid off new before switched (amid_ends f q off h new left amid)
 
 pub failed_stop_takes_once_off : FailedStopTakesOnceOff
-failed_stop_takes_once_off f q old mid h new left (inl (is, same, after)) steps before =
+failed_stop_takes_once_off f q old mid h new left (inl (is, same, after)) before =
     subst (TakesOnceOff q old) (sym same) before
-failed_stop_takes_once_off f q old mid h new left (inr x) steps before =
-    left_takes f q old mid (closed h) new left x steps before
+failed_stop_takes_once_off f q old mid h new left (inr x) before =
+    left_takes f q old mid (closed h) new left x before

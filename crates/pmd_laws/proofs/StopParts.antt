@@ -1,5 +1,5 @@
 -- The calls of a stop so far are those of a stop too, and take blocks back only once both sides were seen off.
-use Rattle.std.proofs.Common.{◌≡◌, ◌⊎◌, inl, inr, List, [], ◌∷◌, ◌++◌, refl, sym, ap, ◌∙◌, subst, append_assoc}
+use Rattle.std.proofs.Common.{◌≡◌, ◌⊎◌, inl, inr, List, [], ◌∷◌, ◌++◌, sym, ap, ◌∙◌, subst, append_assoc}
 use Rattle.std.proofs.lemmas.List.{append_cancel_left}
 use Rattle.dma_arena.specs.Block.{Block}
 use Rattle.nic_device.specs.declared.event.Event.{Event}
@@ -7,23 +7,9 @@ use Rattle.device_lock.specs.declared.entry.Call.{Call}
 use Rattle.pmd_queue.specs.Named.{AtPort}
 use Rattle.start_laws.specs.Ending.{Each, IsAsking, IsEnding}
 use Rattle.start_laws.specs.Stopping.{AreMadeOf, Asks, EndsOnceOff, TakesOnceOff}
+use Rattle.start_laws.proofs.Parts.{Begins, one_begins}
 use Rattle.start_laws.proofs.StopCalls.{then_made}
 use Rattle.start_laws.proofs.Stopping.{switched_off_asks}
-
--- some calls go on with others
-abbrev GoesOn : List Call → List Call → Type 0
-GoesOn xs zs = (back : List Call) × (zs ≡ xs ++ back)
-
--- two beginnings of some calls: one begins the other
-one_begins : (xs ys zs ws : List Call) → xs ++ ys ≡ zs ++ ws → GoesOn xs zs ⊎ GoesOn zs xs
-one_begins [] ys zs ws is = inl (zs, refl)
-one_begins (x ∷ xs) ys [] ws is = inr (x ∷ xs, refl)
-one_begins (x ∷ xs) ys (z ∷ zs) ws is =
-    let first : x ≡ z = cc in
-    elim (one_begins xs ys zs ws (cc)) as (λ _. GoesOn (x ∷ xs) (z ∷ zs) ⊎ GoesOn (z ∷ zs) (x ∷ xs)) [
-      | inl (back, both) ↦ inl (back, λ i. sym first i ∷ both i)
-      | inr (back, both) ↦ inr (back, λ i. first i ∷ both i)
-    ]
 
 module _ (P : Event Block → Type 0) where
   each_first : (cs ds : List Call) → Each (λ c. P c.event) (cs ++ ds) → Each (λ c. P c.event) cs
@@ -38,21 +24,23 @@ module _ (P : Event Block → Type 0) where
       (sym is ∙ all ∙ ap (λ (l : List Call). l ++ rest) some ∙ append_assoc old since rest) in
       (since, some, each_first since rest (subst (Each (λ c. P c.event)) both are))
 
+-- up to where both sides are off the calls ask
+pub off_asks : (q : AtPort) (old new : List Call) (x : EndsOnceOff q old new) → Asks q old x.off
+off_asks q old new x = then_made (IsAsking q) old x.mid x.off x.asks (switched_off_asks q x.mid x.off x.switched)
+
 module _ (q : AtPort) (old now new since rest : List Call) (some : now ≡ old ++ since) (all : new ≡ now ++ rest) where
-  once_off : (x : EndsOnceOff q old new) → GoesOn now x.off ⊎ GoesOn x.off now → Asks q old x.off
+  once_off : (x : EndsOnceOff q old new) → Begins now x.off ⊎ Begins x.off now → Asks q old x.off
       → TakesOnceOff q old now
-  once_off x (inl (back, is)) asks = inl (first_made (IsAsking q) old now x.off since back asks some is)
+  once_off x (inl (back, is)) asks = inl (first_made (IsAsking q) old now x.off since back asks some (sym is))
   once_off x (inr (back, is)) asks = inr (record {
     mid = x.mid;
     off = x.off;
     asks = x.asks;
     switched = x.switched;
-    steps = x.steps;
-    ends = first_made (IsEnding q) x.off now new back rest x.ends is all;
+    ends = first_made (IsEnding q) x.off now new back rest x.ends (sym is) all;
   })
 
   pub first_takes : TakesOnceOff q old new → TakesOnceOff q old now
   first_takes (inl asks) = inl (first_made (IsAsking q) old now new since rest asks some all)
   first_takes (inr x) =
-      once_off x (one_begins now rest x.off x.ends.0 (sym all ∙ x.ends.1))
-      (then_made (IsAsking q) old x.mid x.off x.asks (switched_off_asks q x.mid x.off x.switched x.steps))
+      once_off x (one_begins now rest x.off x.ends.0 (sym all ∙ x.ends.1)) (off_asks q old new x)

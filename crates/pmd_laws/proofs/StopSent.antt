@@ -1,15 +1,15 @@
--- What a driver sent, over its stop and on.
-use Rattle.std.proofs.Common.{◌≡◌, ◌≢◌, ℕ, inl, inr, true, List, [], ◌∷◌, ◌++◌, drop, sym, ap, ◌∙◌, subst}
+-- What a driver sent, over its stop and on; and nothing goes on there once both sides are off.
+use Rattle.std.proofs.Common.{◌≡◌, ◌≢◌, ℕ, inl, inr, List, [], ◌++◌, drop, sym, ap, ◌∙◌, subst}
 use Rattle.std.specs.Prelude.{IsTrue}
-use Rattle.std.proofs.lemmas.Bool.{or_cases, or_left, or_right}
 use Rattle.std.proofs.lemmas.List.{append-nil}
 use Rattle.dma_arena.specs.Numbers.{Numbers}
 use Rattle.nic_device.specs.State.{State, new_state}
-use Rattle.device_lock.specs.Alone.{lent_by, lent_in}
-use Rattle.device_lock.specs.History.{leads_to}
+use Rattle.device_lock.specs.Alone.{lent_by}
+use Rattle.device_lock.specs.History.{calls_of, leads_to}
 use Rattle.device_lock.specs.declared.alone.Watched.{Watched}
 use Rattle.device_lock.specs.declared.entry.Call.{Call}
 use Rattle.device_lock.specs.declared.entry.Entry.{Entry}
+use Rattle.history_laws.proofs.Beginning.{lent_before}
 use Rattle.pmd.specs.Running.{Running}
 use Rattle.pmd_queue.specs.Named.{AtPort}
 use Rattle.receive_laws.proofs.Delivering.{leads-append}
@@ -24,12 +24,11 @@ use Rattle.start_laws.specs.Along.{AtCalls, AtEntries}
 use Rattle.start_laws.specs.Ending.{IsAsking}
 use Rattle.start_laws.specs.Points.{HasGround}
 use Rattle.start_laws.specs.Quieting.{IsQuiet}
+use Rattle.start_laws.specs.Silent.{IsSilent}
 use Rattle.start_laws.specs.Stopping.{Asks, EndsOnceOff, TakesOnceOff}
 use Rattle.start_laws.proofs.Ending.{all_lead}
 use Rattle.start_laws.proofs.Parts.{Parts, parts}
 use Rattle.start_laws.proofs.Silent.{quiet_queue_is_silent}
-use Rattle.start_laws.proofs.StopCalls.{then_made}
-use Rattle.start_laws.proofs.Stopping.{switched_off_asks}
 use Rattle.start_laws.proofs.SwitchedOff.{switching_off_leads}
 use Rattle.pmd.specs.Halves.{Halves}
 use Rattle.driver_laws.specs.Agreeing.{AreLent, BothAgree}
@@ -39,15 +38,8 @@ use Rattle.pmd_laws.specs.Stopped.{IsStopping, SentIsPrefix}
 use Rattle.pmd_laws.proofs.Asked.{Keeps, asking_keeps, others_keep}
 use Rattle.pmd_laws.proofs.Looks.{lived_before}
 use Rattle.pmd_laws.proofs.Order.{counted, driven, first, in_parts, last, up, went_on, whole}
+use Rattle.pmd_laws.proofs.StopParts.{off_asks}
 use Rattle.pmd_laws.proofs.Stopped.{ground_lived, life_some, some_more}
-
--- what a pass lends in the beginning of a history it lends in the whole
-lent_before : (pass n : ℕ) (g h : List Entry) → lent_by pass g n ≡ true → lent_by pass (g ++ h) n ≡ true
-lent_before pass n [] h is = cc
-lent_before pass n (e ∷ g) h is = elim (or_cases (lent_in pass e n) (lent_by pass g n) is) [
-  | inl now ↦ or_left _ _ now
-  | inr later ↦ or_right _ _ (lent_before pass n g h later)
-]
 
 more_lent : (pass : ℕ) (g h : List Entry) (k : Halves) → AreLent (lent_by pass g) k → AreLent (lent_by pass (g ++ h)) k
 more_lent pass g h k x = record {
@@ -123,20 +115,23 @@ module _ (w : Watched) (fifo : ℕ) (h : List Entry) (q : AtPort) (size : ℕ) (
   some_asked : (now : List Call) → Asks q made now → now ≢ []
   some_asked now (calls, is, each) none = some_more made calls made_some (sym is ∙ none)
 
-  -- once both sides are off nothing more is sent
+  -- once both sides are off nothing more is received or sent
+  pub silent_off : (y : EndsOnceOff q made new) (done rest : List Entry) → done ++ rest ≡ h
+      → calls_of w.pass done ≡ y.off → IsSilent w fifo h done
+  silent_off y done rest all calls =
+      let grounded : AtCalls w fifo h y.mid (HasGround w.queue q) =
+      λ so_far behind both made. (over_asks y.mid y.asks so_far behind both made).ground in
+      let quiet : AtCalls w fifo h y.off (IsQuiet w.queue q) =
+      switching_off_leads w q fifo h y.mid y.off x.along y.switched (some_asked y.mid y.asks) grounded in
+      quiet_queue_is_silent w q fifo h done rest y.off new x.along (some_asked y.off (off_asks q made new y)) quiet y.ends x.calls
+      all calls
+
   once_off : EndsOnceOff q made new → IsPrefixOf (sent h) (bytes_of k.transmit.accepted)
   once_off y =
-      let asks : Asks q made y.off =
-      then_made (IsAsking q) made y.mid y.off y.asks (switched_off_asks q y.mid y.off y.switched y.steps) in
-      let grounded : AtCalls w fifo h y.mid (HasGround w.queue q) =
-      λ done rest all calls. (over_asks y.mid y.asks done rest all calls).ground in
-      let quiet : AtCalls w fifo h y.off (IsQuiet w.queue q) =
-      switching_off_leads w q fifo h y.mid y.off x.along y.switched y.steps (some_asked y.mid y.asks) grounded in
       let p = parts w.pass h y.off y.ends.0 (x.calls ∙ y.ends.1) in
-      let silent = quiet_queue_is_silent w q fifo h p.front p.back y.off new x.along (some_asked y.off asks) quiet
-      y.ends x.calls p.both p.fronts in
-      subst (λ (xs : List (List ℕ)). IsPrefixOf xs (bytes_of k.transmit.accepted)) (sym silent.sent)
-      (prefix_at p.front (over_asks y.off asks p.front p.back p.both p.fronts))
+      subst (λ (xs : List (List ℕ)). IsPrefixOf xs (bytes_of k.transmit.accepted))
+      (sym (silent_off y p.front p.back p.both p.fronts).sent)
+      (prefix_at p.front (over_asks y.off (off_asks q made new y) p.front p.back p.both p.fronts))
 
   over_stop : TakesOnceOff q made new → IsPrefixOf (sent h) (bytes_of k.transmit.accepted)
   over_stop (inl asks) = prefix_at h (over_asks new asks h [] (append-nil h) x.calls)

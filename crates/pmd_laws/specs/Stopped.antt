@@ -1,6 +1,5 @@
 -- A driver's life, and then calls of its stop.
-use Rattle.std.specs.Prelude.{ℕ, ◌≡◌, ⊤, List, []}
-use Rattle.std.proofs.Common.{inl, inr}
+use Rattle.std.specs.Prelude.{ℕ, ◌≡◌, List, []}
 use Rattle.dma_arena.specs.Numbers.{Numbers}
 use Rattle.nic_device.specs.State.{new_state}
 use Rattle.device_lock.specs.History.{calls_of}
@@ -10,9 +9,8 @@ use Rattle.device_lock.specs.declared.entry.Entry.{Entry}
 use Rattle.pmd.specs.Running.{Running}
 use Rattle.pmd_base.specs.declared.fault.PmdFault.{PmdFault}
 use Rattle.pmd_halt.specs.Halted.{Halted}
-use Rattle.pmd_halt.specs.Stopping.{IsLeft, IsLeftAmid, StopFails, Stops, bringing, brought, closed}
+use Rattle.pmd_halt.specs.Stopping.{StopFails, Stops}
 use Rattle.pmd_halt.specs.declared.home.Home.{Home}
-use Rattle.pmd_base.specs.Made.{AreSteps}
 use Rattle.pmd_queue.specs.Named.{AtPort}
 use Rattle.receive_laws.specs.Delivered as receive
 use Rattle.receive_laws.specs.Delivered.{delivered}
@@ -21,7 +19,7 @@ use Rattle.transmit_laws.specs.Laws as transmit
 use Rattle.transmit_laws.specs.Sent.{sent_since}
 use Rattle.start_laws.specs.Along.{IsAlong}
 use Rattle.start_laws.specs.Start.{BeginsWell}
-use Rattle.start_laws.specs.Stopping.{Ends, StepsBringing, StepsSwitched, StepsUnswitched, TakesOnceOff}
+use Rattle.start_laws.specs.Stopping.{Ends, TakesOnceOff}
 use Rattle.pmd.specs.Halves.{Halves}
 use Rattle.pmd_laws.specs.Life.{IsLife}
 
@@ -53,54 +51,29 @@ SentIsPrefix =
     IsStopping w fifo h q size old a started r made k new → TakesOnceOff q made new →
     transmit.IsPrefixOf (sent_since w.queue (new_state w.vfs fifo) [] h) (bytes_of k.transmit.accepted)
 
--- beside its own calls the pass made steps of the device alone, as the driver stopped
-abbrev pub StepsHome : (q : AtPort) (old : List Call) (h : Halted) (new : List Call) (home : Home)
-    → Stops q old h new home → Type 0
-StepsHome q old h new home x =
-    StepsSwitched q old x.0 x.1
-    × StepsBringing x.2.brings.0 (bringing x.0 (closed h)) (brought new home) x.2.brings.1
-
--- and as it failed to
-
-abbrev pub StepsAmid : (f : PmdFault) (old : List Call) (h : Halted) (new : List Call) (left : Halted)
-    → IsLeftAmid f old h new left → Type 0
-StepsAmid f old h new left x =
-    StepsBringing x.2.0 (bringing old h) x.2.1 x.2.2 × AreSteps x.2.3.0
-
-abbrev pub StepsLeft : (f : PmdFault) (q : AtPort) (old : List Call) (h : Halted) (new : List Call) (left : Halted)
-    → IsLeft f q old h new left → Type 0
-StepsLeft f q old h new left (inl x) = StepsUnswitched f q old new x.0
-StepsLeft f q old h new left (inr x) = StepsSwitched q old x.0 x.1 × StepsAmid f x.0 h new left x.2
-
-abbrev pub StepsUnstopped : (f : PmdFault) (q : AtPort) (old : List Call) (h : Halted) (new : List Call)
-    (left : Halted) → StopFails f q old h new left → Type 0
-StepsUnstopped f q old h new left (inl unclosed) = ⊤
-StepsUnstopped f q old h new left (inr x) = StepsLeft f q old (closed h) new left x
-
--- so its calls are those of a stop
+-- the calls of a driver's stop are such, and so are those of one that fails
 
 abbrev pub StopEnds : Type 0
 StopEnds =
-    (q : AtPort) (old : List Call) (h : Halted) (new : List Call) (home : Home) (x : Stops q old h new home) →
-    StepsHome q old h new home x → Ends q old new
+    (q : AtPort) (old : List Call) (h : Halted) (new : List Call) (home : Home) → Stops q old h new home →
+    Ends q old new
 
 abbrev pub FailedStopEnds : Type 0
 FailedStopEnds =
-    (f : PmdFault) (q : AtPort) (old : List Call) (h : Halted) (new : List Call) (left : Halted)
-    (x : StopFails f q old h new left) → StepsUnstopped f q old h new left x → Ends q old new
+    (f : PmdFault) (q : AtPort) (old : List Call) (h : Halted) (new : List Call) (left : Halted) →
+    StopFails f q old h new left → Ends q old new
 
 -- and blocks are taken back only once both sides were seen off: by a stop, by one that fails, and by one behind another
 
 abbrev pub StopTakesOnceOff : Type 0
 StopTakesOnceOff =
-    (q : AtPort) (old mid : List Call) (h : Halted) (new : List Call) (home : Home) (x : Stops q mid h new home) →
-    StepsHome q mid h new home x → TakesOnceOff q old mid → TakesOnceOff q old new
+    (q : AtPort) (old mid : List Call) (h : Halted) (new : List Call) (home : Home) → Stops q mid h new home →
+    TakesOnceOff q old mid → TakesOnceOff q old new
 
 abbrev pub FailedStopTakesOnceOff : Type 0
 FailedStopTakesOnceOff =
-    (f : PmdFault) (q : AtPort) (old mid : List Call) (h : Halted) (new : List Call) (left : Halted)
-    (x : StopFails f q mid h new left) → StepsUnstopped f q mid h new left x → TakesOnceOff q old mid →
-    TakesOnceOff q old new
+    (f : PmdFault) (q : AtPort) (old mid : List Call) (h : Halted) (new : List Call) (left : Halted) →
+    StopFails f q mid h new left → TakesOnceOff q old mid → TakesOnceOff q old new
 
 abbrev pub NoCallTakes : Type 0
 NoCallTakes = (q : AtPort) (old : List Call) → TakesOnceOff q old old

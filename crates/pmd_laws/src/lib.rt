@@ -10,7 +10,7 @@
 ghost use Rattle.pmd_laws.specs.Ends.{HandedOverStop, LeftIsPrefix, SentOverStop};
 ghost use Rattle.pmd_laws.specs.Looks.{CallsEnd, NoneIsAllBefore};
 ghost use Rattle.pmd_laws.specs.Order.{HandedIsPrefix, NoneIsAll, SentIsPrefix, IdleIsAllSent};
-ghost use Rattle.pmd_laws.specs.Silent.{SilentOnceOff};
+ghost use Rattle.pmd_laws.specs.Silent.{SilentOnceOff, SilentOverStop};
 ghost use Rattle.pmd_laws.specs.Stopped as stopped;
 ghost use Rattle.pmd_laws.specs.Told as told;
 ghost use Rattle.pmd_laws.specs.Waits.{WaitingIsNotAllBefore, WaitingIsNotAllAsTold};
@@ -90,8 +90,11 @@ pub fn stops_take_blocks_once_off()
     ensures fails { stopped.FailedStopTakesOnceOff }
 {}
 
-/// Where such a life is followed by the calls that switch both sides of the queue off, as a stop makes first, nothing
-/// is delivered or sent on the queue any more behind them, while the calls of the driver's pass are those of a stop.
+/// Where such a life is followed by calls of a stop that take blocks back only once both sides were seen off, nothing
+/// is delivered or sent on the queue any more once these were, while the calls of the driver's pass are those of a
+/// stop. So it is of a driver that lived and was stopped, as `worker_runs::run_worker` says of its driver: from where
+/// its stop had switched both sides off, on to any place amid it, and to where it ended, home or not.
 pub fn switched_off_queue_is_silent()
-    ensures { SilentOnceOff }
+    ensures once { SilentOnceOff }
+    ensures over { SilentOverStop }
 {}

@@ -1,5 +1,6 @@
 -- A driver's accesses one after the other, and polls that see a side off: what they rest on, and the sides then.
-use Rattle.std.proofs.Common.{◌≡◌, ℕ, Bool, true, false, ◌||◌, replicate, zero, suc, List, [], ◌∷◌, ◌++◌, refl, ◌∙◌}
+use Rattle.std.proofs.Common.{◌≡◌, ℕ, Bool, true, false, replicate, zero, suc, List, [], ◌∷◌, ◌++◌, refl, ◌∙◌}
+use Rattle.std.proofs.Math.Bool.{or-false}
 use Rattle.reg_table.specs.declared.rows.RowId.{RowId}
 use Rattle.reg_table.specs.declared.rows.RowId.TheVariants.{Rxdctl, Txdctl}
 use Rattle.register_file.specs.declared.dir.Dir.TheVariants.{Rx, Tx}
@@ -20,10 +21,6 @@ after-append (x ∷ xs) ys p = after-append xs ys (after_access x p)
 
 -- polls that see a side off tell nothing
 
-or_false : (b : Bool) → (b || false) ≡ b
-or_false true = refl
-or_false false = refl
-
 pub may_miss : (row : RowId) (on : Bool) → IsEnable row → (n : ℕ) (p : Sides) → AllMay (replicate n (Sees row on)) p
 may_miss row on is zero p = tt
 may_miss row on is (suc n) p = (is, may_miss row on is n (seen_by row on p))
@@ -32,10 +29,10 @@ pub receive_missed : (n : ℕ) (p : Sides) → after_accesses (missed Rx true n)
 receive_missed zero p = refl
 receive_missed (suc n) p =
     receive_missed n (seen_by Rxdctl false p)
-    ∙ (λ k. record p { rx = record p.rx { on = or_false p.rx.on k } })
+    ∙ (λ k. record p { rx = record p.rx { on = or-false p.rx.on k } })
 
 pub transmit_missed : (n : ℕ) (p : Sides) → after_accesses (missed Tx true n) p ≡ p
 transmit_missed zero p = refl
 transmit_missed (suc n) p =
     transmit_missed n (seen_by Txdctl false p)
-    ∙ (λ k. record p { tx = record p.tx { on = or_false p.tx.on k } })
+    ∙ (λ k. record p { tx = record p.tx { on = or-false p.tx.on k } })

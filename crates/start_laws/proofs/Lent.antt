@@ -1,7 +1,7 @@
 -- The blocks that a pass lends, by the calls that it made.
 use Rattle.std.proofs.Common.{◌≡◌, ℕ, ◌<◌, inl, inr, true, List, [], ◌∷◌, ◌++◌, refl, sym, ap, ◌∙◌, subst, append_assoc}
 use Rattle.std.specs.Prelude.{◌==◌}
-use Rattle.std.proofs.lemmas.Bool.{and_from, cases_Bool, eq-eqb, lt-ltb, or_cases, or_left, or_right}
+use Rattle.std.proofs.lemmas.Bool.{and_from, cases_Bool, eq-eqb, lt-ltb, or_left, or_right}
 use Rattle.dma_arena.specs.Block.{zero_block}
 use Rattle.nic_device.specs.declared.event.Event.TheVariants as event
 use Rattle.nic_device.specs.declared.event.Reply.TheVariants as reply
@@ -12,6 +12,7 @@ use Rattle.device_lock.specs.declared.entry.Call.{Call}
 use Rattle.device_lock.specs.declared.entry.Entry.{Entry}
 use Rattle.device_lock.specs.declared.alone.Watched.{Watched}
 use Rattle.history_laws.specs.Laws.{AreEvents}
+use Rattle.history_laws.proofs.Beginning.{lent_before}
 use Rattle.pmd_queue.specs.Named.{AtPort}
 use Rattle.pmd_queue.specs.Made.{Access, AreMade}
 use Rattle.receive_laws.proofs.Histories.{calls_own, calls_other}
@@ -80,13 +81,6 @@ lent_there pass ring (e ∷ h) (x ∷ xs) ys events is =
       | inr other ↦
           later pass ring e h (lent_there pass ring h (x ∷ xs) ys events.1 (sym (calls_other pass e h other) ∙ is))
     ]
-
-pub lent_before : (pass ring : ℕ) (g h : List Entry) → lent_by pass g ring ≡ true → lent_by pass (g ++ h) ring ≡ true
-lent_before pass ring [] h is = cc
-lent_before pass ring (e ∷ g) h is = elim (or_cases (lent_in pass e ring) (lent_by pass g ring) is) [
-  | inl own ↦ or_left _ _ own
-  | inr more ↦ or_right (lent_in pass e ring) _ (lent_before pass ring g h more)
-]
 
 -- so it is wherever more was made
 pub made_has : (q : AtPort) (c : Call) (all : List Access) (old new : List Call) → AreMade q old new all → Has c old

@@ -18,7 +18,6 @@ pub mod Moves
 pub mod Numbers
 pub mod Off
 pub mod On
-pub mod OnlySteps
 pub mod Parts
 pub mod Points
 pub mod PointsAlong

@@ -23,7 +23,7 @@ use Rattle.receive_laws.specs.Joint.{Agree}
 use Rattle.receive_laws.proofs.Delivering.{events_before}
 use Rattle.transmit_laws.specs.Agreeing.{Agrees}
 use Rattle.start_laws.specs.Along.{AtCalls, AtEntries, BeforeLast, IsAlong}
-use Rattle.start_laws.specs.On.{AreOn, StepsToOn, SwitchedSidesAgree, SwitchedSidesGoOn}
+use Rattle.start_laws.specs.On.{AreOn, SwitchedSidesAgree, SwitchedSidesGoOn}
 use Rattle.start_laws.specs.Points.{HasGround, Point, Sides}
 use Rattle.start_laws.specs.Unused.{AreUnused, WentOn}
 use Rattle.start_laws.proofs.Reached.{reached}
@@ -36,11 +36,9 @@ use Rattle.start_laws.proofs.Made.{some_made}
 use Rattle.start_laws.proofs.Rising.{came_up_at, sized}
 use Rattle.start_laws.proofs.Prepared.{prepared_some, prepared_has}
 
--- Once both sides went on the device and the driver agree on both.
-
 module _ (w : Watched) (fifo : ℕ) (h : List Entry) (q : AtPort) (size : ℕ) (old : List Call) (a : Numbers)
     (new : List Call) (v : Receive) (t : Sender) (up : AreOn q size old a new v t)
-    (along : IsAlong w fifo h) (is : is_size size ≡ true) (only : StepsToOn q size old a new v t up)
+    (along : IsAlong w fifo h) (is : is_size size ≡ true)
     (well : BeforeLast w fifo h up.receive.quiet.0 (HasGround w.queue q))
   where
     abbrev ring : ℕ
@@ -80,7 +78,7 @@ module _ (w : Watched) (fifo : ℕ) (h : List Entry) (q : AtPort) (size : ℕ) (
 
     up_at : AtEntries w h new CameUp
     up_at done rest all calls =
-        came_up_at w fifo h q size old a new v t up along is only well (ring_lent done rest all calls)
+        came_up_at w fifo h q size old a new v t up along is well (ring_lent done rest all calls)
         (other_lent done rest all calls) done rest all calls
 
     -- there they are fresh, and so device and driver agree
@@ -141,9 +139,9 @@ module _ (w : Watched) (fifo : ℕ) (h : List Entry) (q : AtPort) (size : ℕ) (
         (prepared_some q Tx size up.ready_made up.ready_arena up.both_made up.both_arena other up.transmit.prepared)
 
 pub switched_sides_agree : SwitchedSidesAgree
-switched_sides_agree w fifo h q size old a new v t up along is only well =
-    agrees_at w fifo h q size old a new v t up along is only well
+switched_sides_agree w fifo h q size old a new v t up along is well =
+    agrees_at w fifo h q size old a new v t up along is well
 
 pub switched_sides_go_on : SwitchedSidesGoOn
-switched_sides_go_on w fifo h q size old a new v t up along is only well =
-    goes_on_at w fifo h q size old a new v t up along is only well
+switched_sides_go_on w fifo h q size old a new v t up along is well =
+    goes_on_at w fifo h q size old a new v t up along is well

@@ -118,12 +118,12 @@ around pass h calls c more is =
       later = f.backs;
     }
 
--- two beginnings of a history: one begins the other
+-- two beginnings of a list, as of a history or of the calls that a pass made: one begins the other
 
-abbrev pub Begins : List Entry → List Entry → Type 0
-Begins xs zs = (back : List Entry) × (xs ++ back ≡ zs)
+abbrev pub Begins : {A : Type 0} → List A → List A → Type 0
+Begins {A} xs zs = (back : List A) × (xs ++ back ≡ zs)
 
-pub one_begins : (xs ys zs ws : List Entry) → xs ++ ys ≡ zs ++ ws → Begins xs zs ⊎ Begins zs xs
+pub one_begins : {A : Type 0} (xs ys zs ws : List A) → xs ++ ys ≡ zs ++ ws → Begins xs zs ⊎ Begins zs xs
 one_begins [] ys zs ws is = inl (zs, refl)
 one_begins (x ∷ xs) ys [] ws is = inr (x ∷ xs, refl)
 one_begins (x ∷ xs) ys (z ∷ zs) ws is =

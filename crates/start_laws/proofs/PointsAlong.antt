@@ -18,7 +18,7 @@ use Rattle.pmd_queue.specs.Named.{AtPort}
 use Rattle.pmd_queue.specs.Sides.{ring_words}
 use Rattle.pmd.specs.Starting.{IsPrepared}
 use Rattle.start_laws.specs.Along.{IsAlong, AtEntries, Leads}
-use Rattle.start_laws.specs.Points.{AccessesLead, Sides, Point, seen_by, after_access, after_accesses, May, AllMay, StepsBefore, StepsBetween}
+use Rattle.start_laws.specs.Points.{AccessesLead, Sides, Point, seen_by, after_access, after_accesses, May, AllMay}
 use Rattle.start_laws.proofs.Reached.{KeptOver, reached, reached_next, state_leads}
 use Rattle.start_laws.proofs.Along.{entries_lead}
 use Rattle.start_laws.proofs.Standing.{standing_sides_are_left}
@@ -72,45 +72,44 @@ module _ (w : Watched) (q : AtPort) (fifo : ℕ) (h : List Entry) (along : IsAlo
       )) steps some at
 
   access_at : (F : Sides → Sides) (old new : List Call) (a : Access) → ((p : Sides) → C p → May a (F p))
-      → (made : IsMade q old new a) → StepsBefore q old new a made → old ≢ [] → At old F
+      → IsMade q old new a → old ≢ [] → At old F
       → At new (λ p. after_access a (F p))
-  access_at F old new (Sees row on) may (number, word, named, is, (before, added, stepped)) steps some at =
+  access_at F old new (Sees row on) may (number, word, named, is, (before, added, steps)) some at =
       subst (λ (calls : List Call). At calls (λ p. seen_by row on (F p))) (sym added)
       (call_leads F (λ p. seen_by row on (F p)) old before (call_of (event.Read q.port number) (reply.Word word))
       (λ s. (refl, refl))
       (λ p known. read_leads w mine q (F p) row on word number named is (may p known)) steps some at)
-  access_at F old new (Sets row word) may (number, named, (before, added, stepped)) steps some at =
+  access_at F old new (Sets row word) may (number, named, (before, added, steps)) some at =
       subst (λ (calls : List Call). At calls (λ p. after_access (Sets row word) (F p))) (sym added)
       (call_leads F (λ p. after_access (Sets row word) (F p)) old before
       (call_of (event.Write q.port number word) reply.Done) (λ s. (refl, refl))
       (λ p known. write_leads w mine q (F p) row word number named (may p known)) steps some at)
 
   pub accesses_at : (all : List Access) (F : Sides → Sides) (old new : List Call)
-      → ((p : Sides) → C p → AllMay all (F p)) → (made : AreMade q old new all)
-      → StepsBetween q old new all made → old ≢ [] → At old F → At new (λ p. after_accesses all (F p))
-  accesses_at [] F old new may made steps some at = subst (λ (calls : List Call). At calls F) (sym made) at
-  accesses_at (a ∷ rest) F old new may (mid, here, more) steps some at =
-      accesses_at rest (λ p. after_access a (F p)) mid new (λ p known. (may p known).1) more steps.1
+      → ((p : Sides) → C p → AllMay all (F p)) → AreMade q old new all → old ≢ [] → At old F
+      → At new (λ p. after_accesses all (F p))
+  accesses_at [] F old new may made some at = subst (λ (calls : List Call). At calls F) (sym made) at
+  accesses_at (a ∷ rest) F old new may (mid, here, more) some at =
+      accesses_at rest (λ p. after_access a (F p)) mid new (λ p known. (may p known).1) more
       (made_some q old mid a here)
-      (access_at F old mid a (λ p known. (may p known).0) here steps.0 some at)
+      (access_at F old mid a (λ p known. (may p known).0) here some at)
 
   -- a ring is prepared: its words are written and its block is lent
   pub prepared_at : (side : Dir) (size : ℕ) (F : Sides → Sides) (old : List Call) (a : Numbers) (new : List Call)
       (b : Numbers) (ring : ℕ) → ((p : Sides) → C p → AllMay (ring_words side ring size) (F p)) → IsLentBy w.pass ring h
-      → (x : IsPrepared q side size old a new b ring) → StepsBetween q old x.mid (ring_words side ring size) x.words
-      → AreSteps x.lent.0 → old ≢ [] → At old F
+      → IsPrepared q side size old a new b ring → old ≢ [] → At old F
       → At new (λ p. with_ring ring (after_accesses (ring_words side ring size) (F p)))
-  prepared_at side size F old a new b ring may lent x words steps some at =
+  prepared_at side size F old a new b ring may lent x some at =
       let there : Sides → Sides = λ p. after_accesses (ring_words side ring size) (F p) in
       subst (λ (calls : List Call). At calls (λ p. with_ring ring (there p))) (sym x.lent.1)
       (call_leads there (λ p. with_ring ring (there p)) x.mid x.lent.0 (lending ring) (λ s. (refl, refl))
-      (λ p known. lend_leads w.queue mine q (there p) ring lent.mine lent.low) steps
+      (λ p known. lend_leads w.queue mine q (there p) ring lent.mine lent.low) x.lent.2
       (some_made q (ring_words side ring size) old x.mid x.words some)
-      (accesses_at (ring_words side ring size) F old x.mid may x.words words some at))
+      (accesses_at (ring_words side ring size) F old x.mid may x.words some at))
 
 pub accesses_lead : AccessesLead
-accesses_lead w q fifo h known F all old new along may made steps some at done rest whole calls =
+accesses_lead w q fifo h known F all old new along may made some at done rest whole calls =
     let (p, is, x, n) = accesses_at w q fifo h along (λ p. IsTrue (known p)) (λ so_far. ⊤)
-    (λ so_far e received sent n. tt) all F old new may made steps some
+    (λ so_far e received sent n. tt) all F old new may made some
     (λ before behind split there. let (z, so, y) = at before behind split there in (z, so, y, tt)) done rest whole calls
     in (p, is, x)

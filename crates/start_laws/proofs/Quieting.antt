@@ -19,7 +19,7 @@ use Rattle.pmd_queue.specs.Named.{AtPort, IsNumberOf}
 use Rattle.transmit_laws.specs.Off as transmit
 use Rattle.transmit_laws.proofs.Guard.{guard_is_off}
 use Rattle.start_laws.specs.Along.{AtCalls, BeforeLast, IsAlong, IsKept, Leads}
-use Rattle.start_laws.specs.Points.{HasGround, StepsBetween}
+use Rattle.start_laws.specs.Points.{HasGround}
 use Rattle.start_laws.specs.Quiet.{IsUnwanted, IsOff}
 use Rattle.start_laws.specs.Quieting.{IsQuiet, QuietingLeads}
 use Rattle.start_laws.proofs.Numbers.{ground_names}
@@ -118,24 +118,23 @@ module _ (w : Watched) (q : AtPort) (fifo : ℕ) (h : List Entry) (along : IsAlo
   abbrev mine : Blocks
   mine = lent_by w.pass h
 
-  quieted : (old new : List Call) (made : AreMade q old new both_quiet) → StepsBetween q old new both_quiet made
+  quieted : (old new : List Call) (made : AreMade q old new both_quiet)
       → BeforeLast w fifo h made.0 Ground → AtCalls w fifo h new (IsQuiet w.queue q)
-  quieted old new (m1, a1, (m2, a2, (m3, a3, (m4, a4, (m5, a5, (m6, a6, e))))))
-      (s1, (s2, (s3, (s4, (s5, (s6, none)))))) at =
+  quieted old new (m1, a1, (m2, a2, (m3, a3, (m4, a4, (m5, a5, (m6, a6, e)))))) at =
       let off = side_off_kept w mine q in
       let asked_at = set w q fifo h along Ground (Asked w.queue q) Rxdctl 0 (ground_kept w mine q) (asked_kept w mine q)
-      (ask_receive w.queue q) m1 m2 a2 s2 (made_some q old m1 (Sees Rxdctl false) a1)
+      (ask_receive w.queue q) m1 m2 a2 (made_some q old m1 (Sees Rxdctl false) a1)
       (first_seen w q fifo h Ground along (ground_kept w mine q) (read_ground w.queue q) Rxdctl false old m1 a1 at) in
       let off_at = seen w q fifo h along (Asked w.queue q) (Off w.queue q) Rxdctl false (asked_kept w mine q) off
-      (see_receive w.queue q) m2 m3 a3 s3 (made_some q m1 m2 (Sets Rxdctl 0) a2) asked_at in
+      (see_receive w.queue q) m2 m3 a3 (made_some q m1 m2 (Sets Rxdctl 0) a2) asked_at in
       let first_at = seen w q fifo h along (Off w.queue q) (Off w.queue q) Txdctl false off off
-      (λ number word named is s met can told x. off_read w.queue q s number x) m3 m4 a4 s4
+      (λ number word named is s met can told x. off_read w.queue q s number x) m3 m4 a4
       (made_some q m2 m3 (Sees Rxdctl false) a3) off_at in
       let second_at = set w q fifo h along (Off w.queue q) (OffAsked w.queue q) Txdctl 0 off (off_asked_kept w mine q)
-      (ask_transmit w.queue q) m4 m5 a5 s5 (made_some q m3 m4 (Sees Txdctl false) a4) first_at in
+      (ask_transmit w.queue q) m4 m5 a5 (made_some q m3 m4 (Sees Txdctl false) a4) first_at in
       subst (λ (calls : List Call). AtCalls w fifo h calls (IsQuiet w.queue q)) (sym e)
       (seen w q fifo h along (OffAsked w.queue q) (IsQuiet w.queue q) Txdctl false (off_asked_kept w mine q)
-      (quiet_kept w mine q) (see_transmit w.queue q) m5 m6 a6 s6 (made_some q m4 m5 (Sets Txdctl 0) a5) second_at)
+      (quiet_kept w mine q) (see_transmit w.queue q) m5 m6 a6 (made_some q m4 m5 (Sets Txdctl 0) a5) second_at)
 
 pub quieting_leads : QuietingLeads
-quieting_leads w q fifo h old new along made steps at = quieted w q fifo h along old new made steps at
+quieting_leads w q fifo h old new along made at = quieted w q fifo h along old new made at

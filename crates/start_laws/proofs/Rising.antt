@@ -18,7 +18,7 @@ use Rattle.pmd_tx.specs.Sending.{Sender}
 use Rattle.pmd.specs.Started.{is_size}
 use Rattle.start_laws.specs.Along.{AtEntries, BeforeLast, IsAlong}
 use Rattle.start_laws.specs.Moves.{IsSized}
-use Rattle.start_laws.specs.On.{AreOn, StepsToOn}
+use Rattle.start_laws.specs.On.{AreOn}
 use Rattle.start_laws.specs.Points.{HasGround, Point, Sides, after_accesses}
 use Rattle.start_laws.specs.Quieting.{are_off}
 use Rattle.start_laws.specs.Unused.{AreUnused}
@@ -33,10 +33,6 @@ use Rattle.start_laws.proofs.Switching.{came_up, comes_up, may_switch, switching
 use Rattle.start_laws.proofs.Laying.{laid, may_lay_receive, may_lay_transmit}
 use Rattle.start_laws.proofs.Unused.{unused_kept}
 use Rattle.start_laws.proofs.Prepared.{prepared_some}
-
--- Both rings come up and both sides go on: how the sides stand then.
-
--- Both rings come up and both sides go on: how the sides stand then.
 
 -- the numbers of slots that a driver may have
 
@@ -59,7 +55,7 @@ unwanted false false false false is = (refl, refl)
 
 module _ (w : Watched) (fifo : ℕ) (h : List Entry) (q : AtPort) (size : ℕ) (old : List Call) (a : Numbers)
     (new : List Call) (v : Receive) (t : Sender) (up : AreOn q size old a new v t)
-    (along : IsAlong w fifo h) (is : is_size size ≡ true) (only : StepsToOn q size old a new v t up)
+    (along : IsAlong w fifo h) (is : is_size size ≡ true)
     (well : BeforeLast w fifo h up.receive.quiet.0 (HasGround w.queue q))
   where
     abbrev pub ring : ℕ
@@ -80,7 +76,7 @@ module _ (w : Watched) (fifo : ℕ) (h : List Entry) (q : AtPort) (size : ℕ) (
     -- both sides are quiet, and stand
     quiet_at : Reaches up.receive.mid (λ p. p)
     quiet_at done rest all calls =
-        let off = quieting_leads w q fifo h old up.receive.mid along up.receive.quiet only.quiet well in
+        let off = quieting_leads w q fifo h old up.receive.mid along up.receive.quiet well in
         let quiet = off done rest all calls in
         let (p, known, x) = quiet_sides_stand w q fifo h up.receive.mid along off done rest all calls in (
           p,
@@ -109,7 +105,7 @@ module _ (w : Watched) (fifo : ℕ) (h : List Entry) (q : AtPort) (size : ℕ) (
           up.ready_arena ring
           (λ p known.
           may_lay_receive ring size other (of_size ring one) (of_size other two) even p (off p known).0)
-          one up.receive.prepared only.receive_words only.receive_lent
+          one up.receive.prepared
           (first_made q (Sees Rxdctl false) (Sets Rxdctl 0 ∷ Sees Rxdctl false ∷ quiet Tx) old up.receive.mid
           up.receive.quiet) quiet_at
 
@@ -120,7 +116,7 @@ module _ (w : Watched) (fifo : ℕ) (h : List Entry) (q : AtPort) (size : ℕ) (
           up.both_arena other
           (λ p known.
           may_lay_transmit ring size other (of_size ring one) (of_size other two) even p (off p known).1)
-          two up.transmit.prepared only.transmit_words only.transmit_lent
+          two up.transmit.prepared
           (prepared_some q Rx size up.receive.mid a up.ready_made up.ready_arena ring up.receive.prepared) ready_at
 
       on_at : Reaches new (λ p. after_accesses (switching up.switched.0 up.switched.1) (laid ring size other p))
@@ -129,7 +125,7 @@ module _ (w : Watched) (fifo : ℕ) (h : List Entry) (q : AtPort) (size : ℕ) (
           (laid ring size other) up.both_made new
           (λ p known.
           may_switch ring size other (of_size ring one) (of_size other two) p (off p known).0 (off p known).1
-          up.switched.0 up.switched.1) up.switched.3 only.switched
+          up.switched.0 up.switched.1) up.switched.3
           (prepared_some q Tx size up.ready_made up.ready_arena up.both_made up.both_arena other up.transmit.prepared)
           both_at
 

@@ -31,10 +31,6 @@ use Rattle.start_laws.proofs.Parts.{calls_joined, Begins, one_begins, none_behin
 use Rattle.start_laws.proofs.Settled.{not_again}
 use Rattle.start_laws.proofs.StaysQuiet.{StaysQuiet, left_stays, ending_stays}
 
--- On a queue whose sides are off nothing is received or sent, over events that leave it alone and calls of a stop.
-
--- On a queue whose sides are off nothing is received or sent, over events that leave it alone and calls of a stop.
-
 none_more : (so_far : Option (List Piece)) → packets_if_any (option_map (λ qs. qs ++ []) so_far) ≡ packets_if_any so_far
 none_more None = refl
 none_more (Some qs) = ap packets_of (append-nil qs)

@@ -8,11 +8,10 @@ use Rattle.pmd.specs.Running.{Running}
 use Rattle.pmd.specs.Started.{AreUp, is_size}
 use Rattle.pmd_queue.specs.Named.{AtPort}
 use Rattle.start_laws.specs.Along.{AtCalls, AtEntries, IsAlong}
-use Rattle.start_laws.specs.On.{AreOn, StepsToOn}
+use Rattle.start_laws.specs.On.{AreOn}
 use Rattle.start_laws.specs.Points.{HasGround}
 use Rattle.start_laws.specs.Start.{BeginsWell, StartAgrees, StartGoesOn}
 use Rattle.start_laws.proofs.Lent.{IsLentBy}
-use Rattle.start_laws.proofs.OnlySteps.{steps_to_on}
 use Rattle.start_laws.proofs.On.{ground_at as ground_is_at, on_some as once_on_some, other_lent as other_is_lent, ring_lent as ring_is_lent, switched_sides_agree, switched_sides_go_on}
 
 module _ (w : Watched) (fifo : ℕ) (h : List Entry) (q : AtPort) (size : ℕ) (old : List Call) (a : Numbers)
@@ -32,35 +31,30 @@ module _ (w : Watched) (fifo : ℕ) (h : List Entry) (q : AtPort) (size : ℕ) (
       switched = up.on.switched;
     }
 
-    steps : StepsToOn q size old a up.on.mid up.empty r.transmit on
-    steps = steps_to_on q size old a up.on.mid up.empty r.transmit on
-
     pub ring_lent : AtEntries w h up.on.mid (λ done. IsLentBy w.pass up.receive.ring h)
     ring_lent =
-        ring_is_lent w fifo h q size old a up.on.mid up.empty r.transmit on along is steps well.ground
+        ring_is_lent w fifo h q size old a up.on.mid up.empty r.transmit on along is well.ground
 
     pub other_lent : AtEntries w h up.on.mid (λ done. IsLentBy w.pass up.transmit.ring h)
     other_lent =
-        other_is_lent w fifo h q size old a up.on.mid up.empty r.transmit on along is steps well.ground
+        other_is_lent w fifo h q size old a up.on.mid up.empty r.transmit on along is well.ground
 
     -- port and queue name this queue there
     pub ground_at : AtCalls w fifo h up.on.mid (HasGround w.queue q)
     ground_at =
-        ground_is_at w fifo h q size old a up.on.mid up.empty r.transmit on along is steps well.ground
+        ground_is_at w fifo h q size old a up.on.mid up.empty r.transmit on along is well.ground
 
     -- some calls were made before both were on
     pub on_some : up.on.mid ≢ []
     on_some =
-        once_on_some w fifo h q size old a up.on.mid up.empty r.transmit on along is steps well.ground
+        once_on_some w fifo h q size old a up.on.mid up.empty r.transmit on along is well.ground
 
 pub start_agrees : StartAgrees
 start_agrees w fifo h q size old a new r up along is well =
     switched_sides_agree w fifo h q size old a up.on.mid up.empty r.transmit
-    (on w fifo h q size old a new r up along is well) along is
-    (steps w fifo h q size old a new r up along is well) well.ground
+    (on w fifo h q size old a new r up along is well) along is well.ground
 
 pub start_goes_on : StartGoesOn
 start_goes_on w fifo h q size old a new r up along is well =
     switched_sides_go_on w fifo h q size old a up.on.mid up.empty r.transmit
-    (on w fifo h q size old a new r up along is well) along is
-    (steps w fifo h q size old a new r up along is well) well.ground
+    (on w fifo h q size old a new r up along is well) along is well.ground

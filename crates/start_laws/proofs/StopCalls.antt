@@ -37,13 +37,13 @@ module _ (P : Event Block → Type 0) where
     steps_are [] are = tt
     steps_are (c ∷ cs) are = (stepping c.event are.0, steps_are cs are.1)
 
-    pub adds_made : (old new : List Call) (e : Event Block) (r : Reply Block) → (x : Adds old new e r) → AreSteps x.0
-        → P e → AreMadeOf P old new
-    adds_made old new e r (before, is, stepped) steps own =
+    pub adds_made : (old new : List Call) (e : Event Block) (r : Reply Block) → Adds old new e r → P e
+        → AreMadeOf P old new
+    adds_made old new e r (before, is, steps) own =
         (before ++ call_of e r ∷ [], is, each_both before (call_of e r ∷ []) (steps_are before steps) (own, tt))
 
-    pub some_made : (old new : List Call) → (x : AddsSome old new) → AreSteps x.0 → AreMadeOf P old new
-    some_made old new (before, is, stepped) steps = (before, is, steps_are before steps)
+    pub some_made : (old new : List Call) → AddsSome old new → AreMadeOf P old new
+    some_made old new (before, is, steps) = (before, is, steps_are before steps)
 
 module _ (q : AtPort) where
   -- a step of the device asks, and calls that ask are those of a stop

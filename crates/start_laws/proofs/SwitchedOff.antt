@@ -21,7 +21,7 @@ use Rattle.pmd_queue.specs.Sides.{polled}
 use Rattle.transmit_laws.specs.Off as transmit
 use Rattle.transmit_laws.proofs.Guard.{guard_is_off}
 use Rattle.start_laws.specs.Along.{AtCalls, IsAlong, IsKept}
-use Rattle.start_laws.specs.Points.{StepsBetween, HasGround}
+use Rattle.start_laws.specs.Points.{HasGround}
 use Rattle.start_laws.specs.Quieting.{IsQuiet}
 use Rattle.start_laws.specs.Silent.{SwitchingOffLeads}
 use Rattle.start_laws.proofs.Numbers.{ground_names}
@@ -84,43 +84,41 @@ module _ (w : Watched) (q : AtPort) (fifo : ℕ) (h : List Entry) (along : IsAlo
       (see : (number word : ℕ) → IsNumberOf q.port (enable_row side) q.queue number → has_bit 25 word ≡ false
       → ByRead w.queue q P Q number word) where
     pub polled_lead : (count : ℕ) (rest : List Access) (old new : List Call)
-        → (made : AreMade q old new (polled side false count ++ rest))
-        → StepsBetween q old new (polled side false count ++ rest) made → old ≢ [] → AtCalls w fifo h old P
-        → ((mid : List Call) (more : AreMade q mid new rest) → StepsBetween q mid new rest more → mid ≢ []
+        → AreMade q old new (polled side false count ++ rest) → old ≢ [] → AtCalls w fifo h old P
+        → ((mid : List Call) → AreMade q mid new rest → mid ≢ []
         → AtCalls w fifo h mid Q → AtCalls w fifo h new R)
         → AtCalls w fifo h new R
-    polled_lead zero rest old new (mid, here, more) steps some at then =
-        then mid more steps.1 (made_some q old mid (Sees (enable_row side) false) here)
-        (seen w q fifo h along P Q (enable_row side) false kept kept_q see old mid here steps.0 some at)
-    polled_lead (suc count) rest old new (mid, here, more) steps some at then =
-        polled_lead count rest mid new more steps.1 (made_some q old mid (Sees (enable_row side) true) here)
+    polled_lead zero rest old new (mid, here, more) some at then =
+        then mid more (made_some q old mid (Sees (enable_row side) false) here)
+        (seen w q fifo h along P Q (enable_row side) false kept kept_q see old mid here some at)
+    polled_lead (suc count) rest old new (mid, here, more) some at then =
+        polled_lead count rest mid new more (made_some q old mid (Sees (enable_row side) true) here)
         (seen w q fifo h along P P (enable_row side) true kept kept (λ number word named is. miss number word) old mid
-        here steps.0 some at) then
+        here some at) then
 
-    pub polled_end : (count : ℕ) (old new : List Call) → (made : AreMade q old new (polled side false count))
-        → StepsBetween q old new (polled side false count) made → old ≢ [] → AtCalls w fifo h old P
-        → AtCalls w fifo h new Q
-    polled_end zero old new (mid, here, more) steps some at =
+    pub polled_end : (count : ℕ) (old new : List Call) → AreMade q old new (polled side false count) → old ≢ []
+        → AtCalls w fifo h old P → AtCalls w fifo h new Q
+    polled_end zero old new (mid, here, more) some at =
         subst (λ (calls : List Call). AtCalls w fifo h calls Q) (sym more)
-        (seen w q fifo h along P Q (enable_row side) false kept kept_q see old mid here steps.0 some at)
-    polled_end (suc count) old new (mid, here, more) steps some at =
-        polled_end count mid new more steps.1 (made_some q old mid (Sees (enable_row side) true) here)
+        (seen w q fifo h along P Q (enable_row side) false kept kept_q see old mid here some at)
+    polled_end (suc count) old new (mid, here, more) some at =
+        polled_end count mid new more (made_some q old mid (Sees (enable_row side) true) here)
         (seen w q fifo h along P P (enable_row side) true kept kept (λ number word named is. miss number word) old mid
-        here steps.0 some at)
+        here some at)
 
 pub switching_off_leads : SwitchingOffLeads
-switching_off_leads w q fifo h old new along (first, second, few, (m1, a1, (m2, a2, more))) (s1, (s2, steps)) some at =
+switching_off_leads w q fifo h old new along (first, second, few, (m1, a1, (m2, a2, more))) some at =
     let mine = lent_by w.pass h in
     let asked = asked_kept w mine q in
     let both = also_kept w mine (Asked w.queue q) (transmit.IsUnwanted w.queue) asked (transmit_unwanted_kept w mine) in
     let one = off_asked_kept w mine q in
     let asked_at = set w q fifo h along (HasGround w.queue q) (Asked w.queue q) Rxdctl 0 (ground_kept w mine q) asked
-    (ask_receive w.queue q) old m1 a1 s1 some at in
+    (ask_receive w.queue q) old m1 a1 some at in
     let both_at = set w q fifo h along (Asked w.queue q) (BothAsked w.queue q) Txdctl 0 asked both
-    (ask_other w.queue q) m1 m2 a2 s2 (made_some q old m1 (Sets Rxdctl 0) a1) asked_at in
+    (ask_other w.queue q) m1 m2 a2 (made_some q old m1 (Sets Rxdctl 0) a1) asked_at in
     polled_lead w q fifo h along (BothAsked w.queue q) (OffAsked w.queue q) (IsQuiet w.queue q) both one Rx
-    (miss_first w.queue q) (see_first w.queue q) first (polled Tx false second) m2 new more steps
+    (miss_first w.queue q) (see_first w.queue q) first (polled Tx false second) m2 new more
     (made_some q m1 m2 (Sets Txdctl 0) a2) both_at
-    (λ mid rest between some_mid one_at.
+    (λ mid rest some_mid one_at.
     polled_end w q fifo h along (OffAsked w.queue q) (IsQuiet w.queue q) (IsQuiet w.queue q) one (quiet_kept w mine q)
-    Tx (miss_second w.queue q) (see_transmit w.queue q) second mid new rest between some_mid one_at)
+    Tx (miss_second w.queue q) (see_transmit w.queue q) second mid new rest some_mid one_at)

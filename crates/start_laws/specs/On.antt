@@ -1,23 +1,20 @@
 -- Both rings came up and both sides went on; the receive ring may be filled next.
-use Rattle.std.specs.Prelude.{ℕ, ◌≡◌, ◌++◌, true, List, []}
+use Rattle.std.specs.Prelude.{ℕ, ◌≡◌, true, List, []}
 use Rattle.dma_arena.specs.Numbers.{Numbers}
-use Rattle.register_file.specs.declared.dir.Dir.TheVariants.{Rx, Tx}
 use Rattle.nic_device.specs.State.{new_state}
 use Rattle.device_lock.specs.declared.alone.Watched.{Watched}
 use Rattle.device_lock.specs.declared.entry.Call.{Call}
 use Rattle.device_lock.specs.declared.entry.Entry.{Entry}
 use Rattle.pmd.specs.Started.{is_size}
 use Rattle.pmd.specs.Starting.{IsReceiveReady, IsTransmitReady}
-use Rattle.pmd_base.specs.Made.{AreSteps}
-use Rattle.pmd_queue.specs.Both.{IsSwitched, both_quiet, receive_polled}
+use Rattle.pmd_queue.specs.Both.{IsSwitched}
 use Rattle.pmd_queue.specs.Named.{AtPort}
-use Rattle.pmd_queue.specs.Sides.{polled, ring_words}
 use Rattle.pmd_rx.specs.Receive.{Receive}
 use Rattle.pmd_tx.specs.Sending.{Sender}
 use Rattle.receive_laws.specs.Joint.{Agree}
 use Rattle.transmit_laws.specs.Agreeing.{Agrees}
 use Rattle.start_laws.specs.Along.{AtCalls, AtEntries, BeforeLast, IsAlong}
-use Rattle.start_laws.specs.Points.{HasGround, StepsBetween}
+use Rattle.start_laws.specs.Points.{HasGround}
 use Rattle.start_laws.specs.Unused.{WentOn}
 
 -- the rings came up one after the other, and then both sides went on
@@ -31,29 +28,13 @@ pub record AreOn (q : AtPort) (size : ℕ) (old : List Call) (a : Numbers) (new 
   pub transmit : IsTransmitReady q size ready_made ready_arena both_made both_arena t
   pub switched : IsSwitched q both_made new true 1000
 
--- beside the driver's accesses its pass made steps of the device alone, up to there
-pub record StepsToOn (q : AtPort) (size : ℕ) (old : List Call) (a : Numbers) (new : List Call) (v : Receive)
-    (t : Sender) (up : AreOn q size old a new v t) : Type 0 where
-  pub quiet : StepsBetween q old up.receive.mid both_quiet up.receive.quiet
-  pub receive_words :
-      StepsBetween q up.receive.mid up.receive.prepared.mid (ring_words Rx up.receive.ring size)
-      up.receive.prepared.words
-  pub receive_lent : AreSteps up.receive.prepared.lent.0
-  pub transmit_words :
-      StepsBetween q up.ready_made up.transmit.prepared.mid (ring_words Tx up.transmit.ring size)
-      up.transmit.prepared.words
-  pub transmit_lent : AreSteps up.transmit.prepared.lent.0
-  pub switched :
-      StepsBetween q up.both_made new (receive_polled true up.switched.0 ++ polled Tx true up.switched.1) up.switched.3
-
 -- wherever the pass has made these calls, device and driver agree on both sides: nothing is posted yet, and nothing is
 -- sent
 abbrev pub SwitchedSidesAgree : Type 0
 SwitchedSidesAgree =
     (w : Watched) (fifo : ℕ) (h : List Entry) (q : AtPort) (size : ℕ) (old : List Call) (a : Numbers)
     (new : List Call) (v : Receive) (t : Sender) (up : AreOn q size old a new v t) → IsAlong w fifo h →
-    is_size size ≡ true → StepsToOn q size old a new v t up →
-    BeforeLast w fifo h up.receive.quiet.0 (HasGround w.queue q) →
+    is_size size ≡ true → BeforeLast w fifo h up.receive.quiet.0 (HasGround w.queue q) →
     AtCalls w fifo h new (λ s. Agree w.queue s [] v × Agrees s w.queue [] t)
 
 -- and both sides are on there, with nothing received or sent since they went on
@@ -61,6 +42,5 @@ abbrev pub SwitchedSidesGoOn : Type 0
 SwitchedSidesGoOn =
     (w : Watched) (fifo : ℕ) (h : List Entry) (q : AtPort) (size : ℕ) (old : List Call) (a : Numbers)
     (new : List Call) (v : Receive) (t : Sender) (up : AreOn q size old a new v t) → IsAlong w fifo h →
-    is_size size ≡ true → StepsToOn q size old a new v t up →
-    BeforeLast w fifo h up.receive.quiet.0 (HasGround w.queue q) →
+    is_size size ≡ true → BeforeLast w fifo h up.receive.quiet.0 (HasGround w.queue q) →
     AtEntries w h new (WentOn w.queue (new_state w.vfs fifo))

@@ -9,8 +9,7 @@ use Rattle.device_lock.specs.Alone.{Blocks, lent_by}
 use Rattle.device_lock.specs.declared.alone.Watched.{Watched}
 use Rattle.device_lock.specs.declared.entry.Entry.{Entry}
 use Rattle.device_lock.specs.declared.entry.Call.{Call}
-use Rattle.pmd_base.specs.Made.{AreSteps}
-use Rattle.pmd_queue.specs.Made.{Access, Sees, Sets, AreMade, IsMade}
+use Rattle.pmd_queue.specs.Made.{Access, Sees, Sets, AreMade}
 use Rattle.pmd_queue.specs.Named.{AtPort}
 use Rattle.start_laws.specs.Along.{AtCalls, IsAlong}
 use Rattle.start_laws.specs.Moves.{MayGoOnReceive, MayGoOnTransmit, receive_seen, transmit_seen}
@@ -76,24 +75,13 @@ abbrev pub AllMay : List Access → Sides → Type 0
 AllMay [] p = ⊤
 AllMay (a ∷ rest) p = May a p × AllMay rest (after_access a p)
 
--- the other calls that were made before an access, and before each of some, are steps of the device
-
-abbrev pub StepsBefore : (q : AtPort) (old new : List Call) (a : Access) → IsMade q old new a → Type 0
-StepsBefore q old new (Sees row on) made = AreSteps made.4.0
-StepsBefore q old new (Sets row word) made = AreSteps made.2.0
-
-abbrev pub StepsBetween : (q : AtPort) (old new : List Call) (all : List Access) → AreMade q old new all → Type 0
-StepsBetween q old new [] made = ⊤
-StepsBetween q old new (a ∷ rest) made =
-    StepsBefore q old made.0 a made.1 × StepsBetween q made.0 new rest made.2
-
 -- over a history that leaves the queue alone: where the pass has made some calls the sides stand as some that are
 -- known; then, where it has made accesses that keep them standing, they stand as after these
 abbrev pub AccessesLead : Type 0
 AccessesLead =
     (w : Watched) (q : AtPort) (fifo : ℕ) (h : List Entry) (known : Sides → Bool) (F : Sides → Sides)
     (all : List Access) (old new : List Call) → IsAlong w fifo h → ((p : Sides) → IsTrue (known p) → AllMay all (F p)) →
-    (made : AreMade q old new all) → StepsBetween q old new all made → old ≢ [] →
+    AreMade q old new all → old ≢ [] →
     AtCalls w fifo h old (λ s. (p : Sides) × IsTrue (known p) × Point w.queue (lent_by w.pass h) q (F p) s) →
     AtCalls w fifo h new
     (λ s. (p : Sides) × IsTrue (known p) × Point w.queue (lent_by w.pass h) q (after_accesses all (F p)) s)

@@ -10,7 +10,7 @@ use Rattle.pmd_queue.specs.Made.{AreMade}
 use Rattle.pmd_queue.specs.Named.{AtPort}
 use Rattle.transmit_laws.specs.Off as transmit
 use Rattle.start_laws.specs.Along.{AtCalls, BeforeLast, IsAlong}
-use Rattle.start_laws.specs.Points.{HasGround, Point, Sides, StepsBetween}
+use Rattle.start_laws.specs.Points.{HasGround, Point, Sides}
 use Rattle.start_laws.specs.Quiet.{IsOff}
 
 -- both sides are off and not wanted on
@@ -24,8 +24,8 @@ pub record IsQuiet (queue : ℕ) (q : AtPort) (s : State) : Type 0 where
 abbrev pub QuietingLeads : Type 0
 QuietingLeads =
     (w : Watched) (q : AtPort) (fifo : ℕ) (h : List Entry) (old new : List Call) → IsAlong w fifo h →
-    (made : AreMade q old new both_quiet) → StepsBetween q old new both_quiet made →
-    BeforeLast w fifo h made.0 (HasGround w.queue q) → AtCalls w fifo h new (IsQuiet w.queue q)
+    (made : AreMade q old new both_quiet) → BeforeLast w fifo h made.0 (HasGround w.queue q) →
+    AtCalls w fifo h new (IsQuiet w.queue q)
 
 -- the sides are off, and not wanted on
 abbrev pub are_off : Sides → Bool

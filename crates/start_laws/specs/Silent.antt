@@ -12,14 +12,14 @@ use Rattle.transmit_laws.specs.Sent.{sent_since}
 use Rattle.start_laws.specs.Along.{AtCalls, IsAlong}
 use Rattle.start_laws.specs.Points.{HasGround}
 use Rattle.start_laws.specs.Quieting.{IsQuiet}
-use Rattle.start_laws.specs.Stopping.{Ends, StepsSwitched}
+use Rattle.start_laws.specs.Stopping.{Ends}
 
 -- wherever the pass has switched both sides off they are off and not wanted on, where the driver's port and queue name
 -- this queue before
 abbrev pub SwitchingOffLeads : Type 0
 SwitchingOffLeads =
     (w : Watched) (q : AtPort) (fifo : ℕ) (h : List Entry) (old new : List Call) → IsAlong w fifo h →
-    (x : IsSwitched q old new false 1000) → StepsSwitched q old new x → old ≢ [] →
+    IsSwitched q old new false 1000 → old ≢ [] →
     AtCalls w fifo h old (HasGround w.queue q) → AtCalls w fifo h new (IsQuiet w.queue q)
 
 -- and from then on nothing is delivered or sent there, where the calls of the pass are those of a stop

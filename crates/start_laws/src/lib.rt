@@ -61,8 +61,7 @@ pub fn guarded_receive_side_is_off()
 {}
 
 /// Over a legal history that leaves the queue alone, both sides are off, and not wanted on, wherever the driver's pass
-/// has made the accesses that see them off; and so they stand as they are. Other calls of the pass in between are steps
-/// of the device.
+/// has made the accesses that see them off; and so they stand as they are.
 pub fn both_sides_are_seen_off()
     ensures quieting { QuietingLeads }
     ensures stand { QuietSidesStand }
@@ -84,8 +83,7 @@ pub fn switched_sides_agree()
 
 /// Over such a history, wherever the driver's pass has made the calls by which a start of it brought both sides up, the
 /// device and the driver agree on both: nothing is posted or sent yet. Both are on there, and nothing was received or
-/// sent since they went on. Other calls of the pass up to there are steps of the device; just before its first access
-/// its port and queue name this queue, and frames are short.
+/// sent since they went on. Just before its first access its port and queue name this queue, and frames are short.
 pub fn start_leaves_sides_that_agree()
     ensures agree { StartAgrees }
     ensures on { StartGoesOn }

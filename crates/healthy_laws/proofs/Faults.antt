@@ -9,11 +9,11 @@ use Rattle.device_lock.specs.Pass.{call_of}
 use Rattle.device_lock.specs.declared.alone.Watched.{Watched}
 use Rattle.device_lock.specs.declared.entry.Call.{Call}
 use Rattle.device_lock.specs.declared.entry.Entry.{Entry}
-use Rattle.pmd_rx.specs.Wrong as receiving
-use Rattle.pmd_tx.specs.Sending as sending
-use Rattle.pmd.specs.Halves.{Halves, Doer, Receives, Sends, AllOwn, after_call, doers_marked, doers_moved, doers_other, played_by}
-use Rattle.pmd.proofs.Calls.{receives_own, sends_own}
-use Rattle.healthy_laws.specs.Faults.{NoReceiveFault, NoTransmitFault}
+use Rattle.pmd_base.specs.Made.{AreSteps}
+use Rattle.pmd.specs.Apart.{LendsApart, AllLendApart, FindsFault, is_healthy}
+use Rattle.pmd.specs.Halves.{Halves, Doer, AllOwn, after_call, doers_other, played_by}
+use Rattle.pmd.proofs.Apart.{both_apart, step_apart}
+use Rattle.healthy_laws.specs.Faults.{NoFault, doers_of}
 use Rattle.healthy_laws.specs.Healthy.{IsHealthy, AreHealthy, IsUnshared}
 use Rattle.healthy_laws.proofs.Healthy.{own_replies_are_healthy}
 
@@ -31,45 +31,67 @@ last_healthy : (before : List Call) (d : Doer) (n : Call) → AreHealthy (doers_
 last_healthy [] d n are = are.0
 last_healthy (m ∷ before) d n are = last_healthy before d n are.1
 
-module _ (w : Watched) (fifo : ℕ) (start rest more : List Entry) (h : Halves) (doers ds : List Doer) (own : Blocks)
-    (old new since before : List Call) (last : Doer) (n : Call) (did : AllOwn h doers (calls_of w.pass rest))
-    (made : new ≡ old ++ calls_of w.pass more) (is : new ≡ (old ++ since) ++ (before ++ n ∷ []))
-    (own_since : AllOwn (played_by h doers (calls_of w.pass rest)) ds since)
-    (x : IsUnshared w fifo start (rest ++ more) h (doers ++ (ds ++ (doers_other before ++ last ∷ []))) own)
+-- steps of the device lend nothing, and then comes a call
+last_apart : (own : Blocks) (h : Halves) (before : List Call) (d : Doer) (n : Call) → AreSteps before
+    → LendsApart own h d n.event → AllLendApart own h (doers_other before ++ d ∷ []) (before ++ n ∷ [])
+last_apart own h [] d n steps apart = (apart, tt)
+last_apart own h (m ∷ before) d n steps apart =
+    (step_apart own h m.event steps.0, last_apart own h before d n steps.1 apart)
+
+module _ (w : Watched) (fifo : ℕ) (start rest more : List Entry) (h : Halves) (doers : List Doer) (own : Blocks)
+    (old new : List Call) (f : FindsFault own old (played_by h doers (calls_of w.pass rest)) new)
+    (did : AllOwn h doers (calls_of w.pass rest)) (apart : AllLendApart own h doers (calls_of w.pass rest))
+    (made : new ≡ old ++ calls_of w.pass more)
+    (x : IsUnshared w fifo start (rest ++ more) h
+    (doers ++ doers_of own old (played_by h doers (calls_of w.pass rest)) new f) own)
   where
+    abbrev there : Halves
+    there = played_by h doers (calls_of w.pass rest)
+
+    abbrev since : List Call
+    since = f.drives.drives.1
+
+    abbrev last : Call
+    last = call_of f.event f.reply
+
+    abbrev ends : List Doer
+    ends = doers_other f.adds.0 ++ f.doer ∷ []
+
     joined : calls_of w.pass (rest ++ more) ≡ calls_of w.pass rest ++ calls_of w.pass more
     joined = rw (filter-append, map-append) refl
 
-    made_last : calls_of w.pass more ≡ since ++ (before ++ n ∷ [])
+    made_last : calls_of w.pass more ≡ since ++ (f.adds.0 ++ last ∷ [])
     made_last =
-        append_cancel_left old (calls_of w.pass more) (since ++ (before ++ n ∷ []))
-        (sym made ∙ is ∙ append_assoc old since (before ++ n ∷ []))
+        append_cancel_left old (calls_of w.pass more) (since ++ (f.adds.0 ++ last ∷ []))
+        (sym made ∙ f.adds.1 ∙ ap (λ (calls : List Call). calls ++ (f.adds.0 ++ last ∷ [])) f.drives.drives.2
+        ∙ append_assoc old since (f.adds.0 ++ last ∷ []))
+
+    -- what these calls lend, the last among them
+    end_apart : AllLendApart own (played_by there f.drives.drives.0 since) ends (f.adds.0 ++ last ∷ [])
+    end_apart =
+        subst (λ (k : Halves). AllLendApart own k ends (f.adds.0 ++ last ∷ [])) f.drives.drives.4
+        (last_apart own f.there f.adds.0 f.doer last f.adds.2 f.apart)
+
+    all_apart : AllLendApart own h (doers ++ (f.drives.drives.0 ++ ends)) (calls_of w.pass (rest ++ more))
+    all_apart =
+        subst (AllLendApart own h (doers ++ (f.drives.drives.0 ++ ends))) (sym joined)
+        (both_apart own h doers (f.drives.drives.0 ++ ends) (calls_of w.pass rest) (calls_of w.pass more) did apart
+        (subst (AllLendApart own there (f.drives.drives.0 ++ ends)) (sym made_last)
+        (both_apart own there f.drives.drives.0 ends since (f.adds.0 ++ last ∷ []) f.drives.drives.3 f.drives.apart
+        end_apart)))
 
     -- the last call's reply is healthy
-    last_is : IsHealthy last n
+    last_is : IsHealthy f.doer last
     last_is =
-        let ends = doers_other before ++ last ∷ [] in
-        let all = subst (AreHealthy (doers ++ (ds ++ ends))) joined
-        (own_replies_are_healthy w fifo start (rest ++ more) h (doers ++ (ds ++ ends)) own x) in
-        let here = subst (AreHealthy (ds ++ ends)) made_last
-        (healthy_behind h doers (ds ++ ends) (calls_of w.pass rest) (calls_of w.pass more) did all) in
-        last_healthy before last n
-        (healthy_behind (played_by h doers (calls_of w.pass rest)) ds ends since (before ++ n ∷ []) own_since here)
+        let all = subst (AreHealthy (doers ++ (f.drives.drives.0 ++ ends))) joined
+        (own_replies_are_healthy w fifo start (rest ++ more) h (doers ++ (f.drives.drives.0 ++ ends)) own x all_apart)
+        in
+        let here = subst (AreHealthy (f.drives.drives.0 ++ ends)) made_last
+        (healthy_behind h doers (f.drives.drives.0 ++ ends) (calls_of w.pass rest) (calls_of w.pass more) did all) in
+        last_healthy f.adds.0 f.doer last
+        (healthy_behind there f.drives.drives.0 ends since (f.adds.0 ++ last ∷ []) f.drives.drives.3 here)
 
-pub no_receive_fault : NoReceiveFault
-no_receive_fault w fifo start rest more h doers own old new k
-    (mid, e, r, (marks, since, played, all, is, others), mine, (before, adds, steps), sick) did made x =
-    let there = played_by h doers (calls_of w.pass rest) in
-    both_ways (receiving.is_healthy e r) sick
-    (last_is w fifo start rest more h doers (doers_marked marks) own old new since before Receives (call_of e r) did
-    made (adds ∙ ap (λ (calls : List Call). calls ++ (before ++ call_of e r ∷ [])) played)
-    (receives_own there marks since all) x)
-
-pub no_transmit_fault : NoTransmitFault
-no_transmit_fault w fifo start rest more h doers own old new f did made x =
-    let there = played_by h doers (calls_of w.pass rest) in
-    let last = call_of f.event f.reply in
-    both_ways (sending.is_healthy f.move f.reply) f.sick
-    (last_is w fifo start rest more h doers (doers_moved f.plays.0) own old new f.plays.1 f.adds.0 (Sends f.move) last
-    did made (f.adds.1 ∙ ap (λ (calls : List Call). calls ++ (f.adds.0 ++ last ∷ [])) f.plays.2)
-    (sends_own there f.plays.0 f.plays.1 f.plays.3) x)
+pub no_fault : NoFault
+no_fault w fifo start rest more h doers own old new f did apart made x =
+    both_ways (is_healthy f.doer (call_of f.event f.reply)) f.sick
+    (last_is w fifo start rest more h doers own old new f did apart made x)

@@ -24,13 +24,16 @@ use Rattle.receive_laws.specs.Short.{AreShort}
 use Rattle.receive_laws.proofs.Delivering.{events_before, events_behind, image_stays, legal_behind, lent_behind, vfs_stays}
 use Rattle.receive_laws.proofs.Short.{frames_stay_short, short_frames_end}
 use Rattle.transmit_laws.specs.Sent.{sent_by}
+use Rattle.pmd.specs.Apart.{LendsApart, AllLendApart}
 use Rattle.pmd.specs.Halves.{Halves, Doer, OwnCall, AllOwn, after_call, is_neither}
 use Rattle.driver_laws.specs.Histories.{OthersLeaveAlone, doer_of, doers_after}
 use Rattle.driver_laws.proofs.Meeting.{Meets}
 use Rattle.driver_laws.proofs.Next.{next_by}
 use Rattle.driver_laws.proofs.Runs.{others_leave, one_entry}
 use Rattle.healthy_laws.specs.Healthy as healthy
-use Rattle.healthy_laws.specs.Healthy.{IsHealthy, AreHealthy, LendsApart, AllLendApart, OwnRepliesAreHealthy}
+use Rattle.healthy_laws.specs.Before.{OnlyPassLends}
+use Rattle.healthy_laws.specs.Healthy.{IsHealthy, AreHealthy, OwnRepliesAreHealthy}
+use Rattle.healthy_laws.proofs.Apart.{apart_by}
 use Rattle.healthy_laws.proofs.Stepping.{healthy_call, known_after, no_setting}
 
 -- the calls of a pass, where the first entry's reply is healthy if the entry is the pass's
@@ -88,24 +91,25 @@ module _ (w : Watched) (mine own : Blocks) where
   along : (mode : Mode) (s : State) (out : List Piece) (sent : List (List ℕ)) (h : Halves) (doers : List Doer)
       (es : List Entry) → Meets w mine mode s out sent h → Rests w.queue own s out h → IsLegal s es → AreEvents es
       → AllAlone w mine mode es → AllOwn h doers (calls_of w.pass es) → OthersLeaveAlone w mine mode doers es
-      → ((n : ℕ) → IsTrue (lent_by w.pass es n) → IsTrue (mine n)) → AllLendApart w own h doers es
-      → AreHealthy doers (calls_of w.pass es)
-  along mode s out sent h doers [] m r legal events alone did others covers apart = none_healthy doers
-  along mode s out sent h doers (e ∷ es) m r legal events alone did others covers apart =
+      → ((n : ℕ) → IsTrue (lent_by w.pass es n) → IsTrue (mine n)) → OnlyPassLends w.pass own es
+      → AllLendApart own h doers (calls_of w.pass es) → AreHealthy doers (calls_of w.pass es)
+  along mode s out sent h doers [] m r legal events alone did others covers none apart = none_healthy doers
+  along mode s out sent h doers (e ∷ es) m r legal events alone did others covers none apart =
       let b = e.pass == w.pass in
       let d = doer_of b doers in
       let next = next_by w.pass h doers e es b refl did in
+      let lends = apart_by w.pass own h doers e es b refl did none.0 apart in
       let goes = one_goes mode s out sent h d e m r legal.0 events.0 next.own
-      (λ neither. (others_leave w mine mode doers e b refl alone.0 others.0 neither).0) apart.0 in
+      (λ neither. (others_leave w mine mode doers e b refl alone.0 others.0 neither).0) lends.0 in
       let then = one_entry w mine mode s out sent h doers e b refl m legal.0 events.0 alone.0 others.0 next.own
       (λ n is. covers n (or_left _ _ is)) in
       all_healthy doers e es w.pass b refl goes.here
       (along (mode_after w.vfs mode e.event) (after s e.event) (out ++ pieces w.queue s e.event)
       (sent ++ sent_by w.queue s e.event) (after_call h d (call_in e)) (doers_after b doers) es then goes.rests legal.1
-      events.1 alone.1 next.rest others.1 (λ n is. covers n (or_right _ _ is)) apart.1)
+      events.1 alone.1 next.rest others.1 (λ n is. covers n (or_right _ _ is)) none.1 lends.1)
 
 pub own_replies_are_healthy : OwnRepliesAreHealthy
-own_replies_are_healthy w fifo start rest h doers own x =
+own_replies_are_healthy w fifo start rest h doers own x apart =
     let d = x.driven in
     let new = new_state w.vfs fifo in
     let before = events_before start rest d.events in
@@ -121,4 +125,4 @@ own_replies_are_healthy w fifo start rest h doers own x =
     })
     (record { ends = tt; short = x.short; known = x.known }) (legal_behind new start rest d.legal)
     (events_behind start rest d.events) (alone_by_entries w start rest d.alone d.begun) d.own d.others
-    (λ n is. lent_behind w.pass n start rest is) x.lends
+    (λ n is. lent_behind w.pass n start rest is) x.others apart

@@ -1,3 +1,4 @@
+pub mod Apart
 pub mod Before
 pub mod Faults
 pub mod Healthy

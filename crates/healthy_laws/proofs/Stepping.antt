@@ -14,9 +14,9 @@ use Rattle.device_lock.specs.Pass.{call_of}
 use Rattle.device_lock.specs.declared.alone.Watched.{Watched}
 use Rattle.device_laws.specs.Laws.{WritesNoSetting}
 use Rattle.pmd_tx.specs.Sending as sending
-use Rattle.pmd_tx.specs.Sending.{Move, Accepts, Asks, Advances, Looks, Reaps, Elsewhere}
-use Rattle.history_laws.specs.Lent.{OnlyLent, either}
-use Rattle.receive_laws.specs.Lent as received
+use Rattle.pmd_tx.specs.Sending.{Outgoing, Move, Accepts, Asks, Advances, Looks, Reaps, Elsewhere}
+use Rattle.history_laws.specs.Lent.{OnlyLent, LendsNone, LendsOwn, either}
+use Rattle.pmd_rx.specs.Keeping as received
 use Rattle.receive_laws.specs.Pieces.{Piece, AllEnd}
 use Rattle.receive_laws.proofs.Healthy as receive
 use Rattle.receive_laws.proofs.Lent as receive_lent
@@ -26,11 +26,32 @@ use Rattle.transmit_laws.proofs.Advancing.{setting_kept}
 use Rattle.transmit_laws.proofs.Healthy as transmit
 use Rattle.transmit_laws.proofs.LeftSide.{left-setting}
 use Rattle.transmit_laws.proofs.Lent as transmit_lent
+use Rattle.pmd.specs.Apart.{LendsApart}
 use Rattle.pmd.specs.Halves.{Halves, Doer, Receives, Sends, OwnCall, after_call, is_neither}
 use Rattle.driver_laws.proofs.Meeting.{Meets}
 use Rattle.driver_laws.proofs.Receiving.{own_spares}
 use Rattle.driver_laws.proofs.Sending.{is_elsewhere, sender_lent}
-use Rattle.healthy_laws.specs.Healthy.{IsHealthy, LendsApart, lent_by}
+use Rattle.healthy_laws.specs.Healthy.{IsHealthy, lent_by}
+
+-- what a half lends, by the kind of its call
+
+lends_received : (own : Blocks) (h : Halves) (e : Event Block) → LendsApart own h Receives e
+    → LendsOwn own (sending.has_lent h.transmit) e
+lends_received own h (event.Lend b) apart = apart
+lends_received own h e apart = tt
+
+lends_sent : (own : Blocks) (h : Halves) (p : Outgoing) (e : Event Block) → LendsApart own h (Sends (Accepts p)) e
+    → LendsOwn own (received.has_lent h.receive) e
+lends_sent own h p (event.Lend b) apart = apart
+lends_sent own h p e apart = tt
+
+lends_none : (own : Blocks) (h : Halves) (e : Event Block) → LendsApart own h (Sends Elsewhere) e → LendsNone own e
+lends_none own h (event.Lend b) apart = apart
+lends_none own h e apart = tt
+
+pub none_apart : (own : Blocks) (h : Halves) (e : Event Block) → LendsNone own e → LendsApart own h (Sends Elsewhere) e
+none_apart own h (event.Lend b) none = none
+none_apart own h e none = tt
 
 -- what either has lent, the other first
 swapped : (own xs ys : Blocks) (m : Memory) → OnlyLent own (either xs ys) m → OnlyLent own (either ys xs) m
@@ -54,7 +75,8 @@ module _ (w : Watched) (mine own : Blocks) (mode : Mode) (s : State) (out : List
     -- a move lends a block anew
     anew : (move : Move) → sending.IsOwn h.transmit move e → LendsApart own h (Sends move) e → AcceptsAnew s move
     anew (Accepts p) mine apart =
-        transmit_lent.own_lends_are_known.anew own rx s h.transmit (Accepts p) e other_first mine apart
+        transmit_lent.own_lends_are_known.anew own rx s h.transmit (Accepts p) e other_first mine
+        (lends_sent own h p e apart)
     anew Asks mine apart = tt
     anew Advances mine apart = tt
     anew Looks mine apart = tt
@@ -65,7 +87,7 @@ module _ (w : Watched) (mine own : Blocks) (mode : Mode) (s : State) (out : List
         → IsHealthy d (call_of e (reply_to s e))
     healthy_call Receives mine apart ends =
         receive.own_replies_are_healthy w.queue s out h.receive e m.both.receive ends mine
-        (receive_lent.own_lends_are_known.anew own tx s h.receive e known mine apart)
+        (receive_lent.own_lends_are_known.anew own tx s h.receive e known mine (lends_received own h e apart))
     healthy_call (Sends move) mine apart ends =
         transmit.own_replies_are_healthy s w.queue sent h.transmit move e m.both.transmit mine (anew move mine apart)
 
@@ -84,7 +106,7 @@ module _ (w : Watched) (mine own : Blocks) (mode : Mode) (s : State) (out : List
     known_after (Sends Advances) mine apart = move_known Advances mine tt
     known_after (Sends Looks) mine apart = move_known Looks mine tt
     known_after (Sends Reaps) mine apart = move_known Reaps mine tt
-    known_after (Sends Elsewhere) mine apart = move_known Elsewhere mine apart
+    known_after (Sends Elsewhere) mine apart = move_known Elsewhere mine (lends_none own h e apart)
 
     -- and no setting is written
     move_setting : (move : Move) (e : Event Block) → is_elsewhere move ≡ false → sending.IsOwn h.transmit move e

@@ -5,22 +5,22 @@
 #![tactic(auto)]
 
 ghost use Rattle.healthy_laws.specs.Before.{FramesStayShortAlong, OnlyPassLent};
-ghost use Rattle.healthy_laws.specs.Faults.{NoReceiveFault, NoTransmitFault};
+ghost use Rattle.healthy_laws.specs.Faults.{NoFault};
 ghost use Rattle.healthy_laws.specs.Healthy.{OwnRepliesAreHealthy};
 
 /// Over a history of a new device that leaves the driver's queue alone, from a place on where the device agrees with
 /// both halves and the receive side has gone on: each call of either half gets a reply that a healthy queue gives.
 /// There the frames that wait for the queue fit a buffer, as do those that are let in; and of the driver's arena only
-/// blocks are lent that the driver has lent, of which no other lends any.
+/// blocks are lent that the driver has lent, and no other pass lends any. What the halves lend is as the clause `drives`
+/// of a driver's calls says: blocks of the arena alone, and none that the other half has lent.
 pub fn own_replies_are_healthy()
     ensures { OwnRepliesAreHealthy }
 {}
 
-/// So no call of a driver ends with the device at fault over such a history: neither one that receives, nor one that
-/// sends or reaps.
+/// So no call of a driver ends with the device at fault over such a history, as the clause `finds` says of one: neither
+/// one that receives, nor one that sends or reaps.
 pub fn no_call_finds_the_device_at_fault()
-    ensures receive { NoReceiveFault }
-    ensures transmit { NoTransmitFault }
+    ensures { NoFault }
 {}
 
 /// What such a history begins with leads there from the driver's start: over entries that write no setting the frames

@@ -18,7 +18,7 @@ use Rattle.pmd.specs.Halves.{Halves, Doer, Receives, Sends, AllOwn, after_call, 
 use Rattle.pmd.proofs.Calls.{receiving_drives, sending_drives, drives_none, drives_on}
 
 -- a step of the device lends nothing
-step_apart : (own : Blocks) (h : Halves) (e : Event Block) → IsTrue (is_step e) → LendsApart own h (Sends Elsewhere) e
+pub step_apart : (own : Blocks) (h : Halves) (e : Event Block) → IsTrue (is_step e) → LendsApart own h (Sends Elsewhere) e
 step_apart own h (event.Lend b) step = cc
 step_apart own h e step = tt
 
@@ -28,7 +28,7 @@ pub apart_none : (own : Blocks) (made : List Call) (h : Halves) → DrivesApart 
 unfolding drives_none
 apart_none own made h = record { drives = drives_none made h; apart = tt }
 
-both_apart : (own : Blocks) (h : Halves) (ds es : List Doer) (ms ns : List Call) → AllOwn h ds ms
+pub both_apart : (own : Blocks) (h : Halves) (ds es : List Doer) (ms ns : List Call) → AllOwn h ds ms
     → AllLendApart own h ds ms → AllLendApart own (played_by h ds ms) es ns
     → AllLendApart own h (ds ++ es) (ms ++ ns)
 both_apart own h [] es [] ns mine first then = then

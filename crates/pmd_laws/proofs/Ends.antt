@@ -42,7 +42,7 @@ module _ (w : Watched) (fifo : ℕ) (h : List Entry) (q : AtPort) (size : ℕ) (
       up = lived.lives.up;
       since =
           subst (λ (cs : List Call). Drives lived.lives.made (halves_of lived.lives.fresh) cs (halves_of lived.last))
-          (sym x.calls) lived.lives.drives;
+          (sym x.calls) lived.lives.drives.apart.drives;
     };
     begins = x.begins;
   }
@@ -89,7 +89,7 @@ module _ (w : Watched) (fifo : ℕ) (h : List Entry) (q : AtPort) (size : ℕ) (
       (halves_of lived.last) now
   is_stopping = record {
     along = x.along;
-    life = record { sized = x.sized; up = lived.lives.up; since = lived.lives.drives };
+    life = record { sized = x.sized; up = lived.lives.up; since = lived.lives.drives.apart.drives };
     begins = x.begins;
     ends =
         first_made (IsEnding q) lived.made now new x.since x.rest

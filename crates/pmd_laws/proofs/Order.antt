@@ -45,7 +45,7 @@ module _ (w : Watched) (fifo : ℕ) (h : List Entry) (q : AtPort) (size : ℕ) (
 
   pub whole : Drives up.on.mid first (calls_of w.pass h) k
   whole = drives_on up.on.mid started (calls_of w.pass h) first (halves_of r) k
-      (receiving_drives up.on.mid started first (halves_of r) up.on.plays refl) x.life.since
+      (receiving_drives up.on.mid started first (halves_of r) up.on.plays.plays refl) x.life.since
 
   -- the history in two parts, of which the first ends there
   pub in_parts : Parts w.pass h up.on.mid whole.1

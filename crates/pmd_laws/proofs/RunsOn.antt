@@ -10,8 +10,7 @@ use Rattle.pmd.specs.declared.driver.Rings.TheVariants.{Up, Down}
 use Rattle.pmd_base.specs.declared.fault.PmdFault.{PmdFault}
 use Rattle.pmd_base.specs.declared.fault.PmdFault.TheVariants.{BadSize}
 use Rattle.pmd.specs.Halves.{Drives, halves_of}
-use Rattle.pmd.proofs.Calls.{drives_on, others_drive}
-use Rattle.pmd.proofs.Living.{drives_none}
+use Rattle.pmd.proofs.Calls.{drives_none, drives_on, others_drive}
 use Rattle.pmd_laws.specs.Told.{AllFollow, Follows, Drove, Keeps, Moment, last}
 
 -- a driver that runs goes on: it runs with these rings
@@ -30,7 +29,8 @@ up_next P (Down x) b r is holds = cc
 
 drove : (m n : Moment) (r : Running) → m.driver.rings ≡ Up r → Drove m n → RunsOn m r n
 drove m n r is x =
-    let (s, up, goes) = up_next _ m.driver.rings n.driver.rings r is x in record { rings = s; up = up; goes = goes }
+    let (s, up, goes) = up_next _ m.driver.rings n.driver.rings r is x in
+    record { rings = s; up = up; goes = goes.apart.drives }
 
 kept : (m n : Moment) (r : Running) → m.driver.rings ≡ Up r → Keeps m n → RunsOn m r n
 kept m n r is (a, same, added) = record {

@@ -89,9 +89,9 @@ pub life_some : (w : Watched) (fifo : ℕ) (h : List Entry) (q : AtPort) (size :
 life_some w fifo h q size old a started r made k along life begins none =
     some_more started life.since.1
     (λ first.
-    some_more life.up.on.mid life.up.on.plays.1
+    some_more life.up.on.mid life.up.on.plays.plays.1
     (on_some w fifo h q size old a started r life.up along life.sized begins)
-    (sym life.up.on.plays.2 ∙ first))
+    (sym life.up.on.plays.plays.2 ∙ first))
     (sym life.since.2 ∙ none)
 
 module _ (w : Watched) (fifo : ℕ) (h : List Entry) (q : AtPort) (size : ℕ) (old : List Call) (a : Numbers)

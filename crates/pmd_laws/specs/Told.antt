@@ -7,8 +7,8 @@ use Rattle.device_lock.specs.History.{calls_of}
 use Rattle.device_lock.specs.declared.alone.Watched.{Watched}
 use Rattle.device_lock.specs.declared.entry.Call.{Call}
 use Rattle.device_lock.specs.declared.entry.Entry.{Entry}
-use Rattle.pmd.specs.Driver.{Driver, WhereUp, accepted_of, handed_of, with_arena}
-use Rattle.pmd.specs.Halves.{Drives, halves_of}
+use Rattle.pmd.specs.Driver.{Driver, accepted_of, handed_of, with_arena}
+use Rattle.pmd.specs.Life.{RunsOn}
 use Rattle.pmd.specs.Started.{HasStarted, IsShut, start_gate}
 use Rattle.pmd.specs.declared.driver.Rings.{Rings}
 use Rattle.pmd.specs.declared.driver.Rings.TheVariants.{Up, Down}
@@ -33,8 +33,7 @@ pub record Moment : Type 0 where
 -- one of `packet` or `release`, or none, by which the arena alone may change, beside steps of the device
 
 abbrev pub Drove : Moment → Moment → Type 0
-Drove m n =
-    WhereUp m.driver.rings n.driver.rings (λ r s. Drives m.made (halves_of r) n.made (halves_of s))
+Drove m n = RunsOn m.made m.driver.rings n.made n.driver.rings
 
 abbrev pub Keeps : Moment → Moment → Type 0
 Keeps m n = (a : Numbers) × (n.driver.rings ≡ with_arena m.driver.rings a) × AddsSome m.made n.made

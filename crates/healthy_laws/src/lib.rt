@@ -11,8 +11,8 @@ ghost use Rattle.healthy_laws.specs.Healthy.{OwnRepliesAreHealthy};
 /// Over a history of a new device that leaves the driver's queue alone, from a place on where the device agrees with
 /// both halves and the receive side has gone on: each call of either half gets a reply that a healthy queue gives.
 /// There the frames that wait for the queue fit a buffer, as do those that are let in; and of the driver's arena only
-/// blocks are lent that the driver has lent, and no other pass lends any. What the halves lend is as the clause `drives`
-/// of a driver's calls says: blocks of the arena alone, and none that the other half has lent.
+/// blocks are lent that the driver has lent, and no other pass lends any. What the halves lend is as the clause
+/// `drives` of a driver's calls says: blocks of the arena alone, and none that the other half has lent.
 pub fn own_replies_are_healthy()
     ensures { OwnRepliesAreHealthy }
 {}

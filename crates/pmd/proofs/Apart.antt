@@ -18,7 +18,8 @@ use Rattle.pmd.specs.Halves.{Halves, Doer, Receives, Sends, AllOwn, after_call, 
 use Rattle.pmd.proofs.Calls.{receiving_drives, sending_drives, drives_none, drives_on}
 
 -- a step of the device lends nothing
-pub step_apart : (own : Blocks) (h : Halves) (e : Event Block) → IsTrue (is_step e) → LendsApart own h (Sends Elsewhere) e
+pub step_apart : (own : Blocks) (h : Halves) (e : Event Block) → IsTrue (is_step e)
+    → LendsApart own h (Sends Elsewhere) e
 step_apart own h (event.Lend b) step = cc
 step_apart own h e step = tt
 

@@ -26,7 +26,7 @@ each_at_start : (port : Port) (tail ring size : ℕ) (P : ℕ → Type 0) → P 
 each_at_start port tail ring size P is =
     record { ring = is; blocks = λ k low. absurd (omega (arith, low)); fresh = tt }
 
-lent_at_start : (port : Port) (tail ring size n : ℕ) → has_lent (transmit.at_start port tail ring size) n ≡ true
+pub lent_at_start : (port : Port) (tail ring size n : ℕ) → has_lent (transmit.at_start port tail ring size) n ≡ true
     → n ≡ ring
 lent_at_start port tail ring size n is = elim (or_cases (n == ring) false is) [
   | inl own ↦ eqb-true n ring own

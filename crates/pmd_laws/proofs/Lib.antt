@@ -3,6 +3,7 @@ pub mod Begun
 pub mod Ends
 pub mod FirstHalves
 pub mod HandedOn
+pub mod Lends
 pub mod Looks
 pub mod Order
 pub mod Plain

@@ -7,7 +7,7 @@ use Rattle.device_lock.specs.History.{calls_of}
 use Rattle.device_lock.specs.declared.alone.Watched.{Watched}
 use Rattle.device_lock.specs.declared.entry.Call.{Call}
 use Rattle.device_lock.specs.declared.entry.Entry.{Entry}
-use Rattle.pmd.specs.Driver.{Driver, accepted_of, handed_of, with_arena}
+use Rattle.pmd.specs.Driver.{Driver, WhereUp, accepted_of, handed_of, with_arena}
 use Rattle.pmd.specs.Life.{RunsOn}
 use Rattle.pmd.specs.Started.{HasStarted, IsShut, start_gate}
 use Rattle.pmd.specs.declared.driver.Rings.{Rings}

@@ -1,13 +1,14 @@
 //! What a driver's whole life so far gives: it started, and since then it received and sent.
 //!
 //! Each law is the contract of a function that does nothing. `specs/Life` says what a life is by the calls of the
-//! driver's pass, and `specs/Told` by what the driver's calls tell; `specs/Order` what holds of it over a history of a
-//! shared device, `specs/Looks` what holds where a look finds no packet, and `specs/Waits` where it finds one waiting.
-//! `specs/Ends` says what holds of what a stopped driver left, `specs/Stopped` what over the calls of its stop, and
-//! `specs/Silent` once these have switched its queue off.
+//! driver's pass, and `specs/Told` by what the driver's calls tell; `specs/Lends` says which blocks it lends. `specs/Order`
+//! says what holds of it over a history of a shared device, `specs/Looks` what holds where a look finds no packet, and
+//! `specs/Waits` where it finds one waiting. `specs/Ends` says what holds of what a stopped driver left, `specs/Stopped`
+//! what over the calls of its stop, and `specs/Silent` once these have switched its queue off.
 #![tactic(auto)]
 
 ghost use Rattle.pmd_laws.specs.Ends.{HandedOverStop, LeftIsPrefix, SentOverStop};
+ghost use Rattle.pmd_laws.specs.Lends.{LifeLendsApart};
 ghost use Rattle.pmd_laws.specs.Looks.{CallsEnd, NoneIsAllBefore};
 ghost use Rattle.pmd_laws.specs.Order.{HandedIsPrefix, NoneIsAll, SentIsPrefix, IdleIsAllSent};
 ghost use Rattle.pmd_laws.specs.Silent.{SilentOnceOff, SilentOverStop};
@@ -25,6 +26,12 @@ pub fn life_in_order()
     ensures none { NoneIsAll }
     ensures sent { SentIsPrefix }
     ensures idle { IdleIsAllSent }
+{}
+
+/// From the place on where both sides of a driver's queue are on, each block that it lends over its life is one of the
+/// arena that came to it, and isn't lent by its other half: those that its start posts, and those that its calls lend.
+pub fn lives_lend_apart()
+    ensures { LifeLendsApart }
 {}
 
 /// Where a pass made some calls, and maybe more behind them, an entry of the history is the last of these.

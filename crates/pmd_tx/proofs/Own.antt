@@ -36,12 +36,13 @@ module _ (block : ℕ) (old new : List Call) (v : Sender) where
         → PlaysWith block old v new w
     tail_plays w made done =
         subst (PlaysWith block old v new) (sym done)
-        (plays_adds block old new v Advances refl (event.Write v.layout.port v.layout.tail word) reply.Done tail_own tt made)
+        (plays_adds block old new v Advances refl (event.Write v.layout.port v.layout.tail word) reply.Done tail_own
+        tt made)
 
     pub tail_misses : IsWritten old new v.layout.port v.layout.tail word false → PlaysWith block old v new v
     tail_misses (seen, made) =
-        plays_adds block old new v Advances refl (event.Write v.layout.port v.layout.tail word) (reply.Stray seen) tail_own
-        tt made
+        plays_adds block old new v Advances refl (event.Write v.layout.port v.layout.tail word) (reply.Stray seen)
+        tail_own tt made
 
     pub tail_faults : IsWritten old new v.layout.port v.layout.tail word false → Faults block old v new
     tail_faults (seen, made) =
@@ -59,7 +60,8 @@ module _ (block : ℕ) (old new : List Call) (v : Sender) where
         → PlaysWith block old v new w
     look_plays w d made is =
         subst (PlaysWith block old v new) (sym is)
-        (plays_adds block old new v Looks refl (event.Peek16 (descriptor_at v.layout 0)) (reply.Bytes d) look_own tt made)
+        (plays_adds block old new v Looks refl (event.Peek16 (descriptor_at v.layout 0)) (reply.Bytes d) look_own
+        tt made)
 
     pub look_waits : (w : Sender) (d : List ℕ) → IsPeeked old new (descriptor_at v.layout 0) (Some d) → w ≡ looked v d
         → is_sent d ≡ false → LooksLast old v new w
@@ -79,7 +81,8 @@ module _ (block : ℕ) (old new : List Call) (v : Sender) where
     look_misses (inl made) =
         plays_adds block old new v Looks refl (event.Peek16 (descriptor_at v.layout 0)) reply.NotLent look_own tt made
     look_misses (inr made) =
-        plays_adds block old new v Looks refl (event.Peek16 (descriptor_at v.layout 0)) reply.Misaligned look_own tt made
+        plays_adds block old new v Looks refl (event.Peek16 (descriptor_at v.layout 0)) reply.Misaligned look_own
+        tt made
 
     pub look_faults : IsPeeked old new (descriptor_at v.layout 0) None → Faults block old v new
     look_faults (inl made) =

@@ -1,0 +1,21 @@
+-- What a driver lends over its life: blocks of the arena that came to it, none of which its other half has lent.
+use Rattle.std.specs.Prelude.{ℕ, List}
+use Rattle.dma_arena.specs.Numbers.{Numbers, is_own}
+use Rattle.device_lock.specs.declared.entry.Call.{Call}
+use Rattle.pmd.specs.Apart.{DrivesApart}
+use Rattle.pmd.specs.Halves.{Halves, halves_of}
+use Rattle.pmd.specs.Life.{Lives}
+use Rattle.pmd.specs.Running.{Running}
+use Rattle.pmd_queue.specs.Named.{AtPort}
+
+-- the halves as both sides are on: nothing is posted yet
+abbrev pub first_of : (q : AtPort) (size : ℕ) (old : List Call) (a : Numbers) (new : List Call) (r : Running)
+    → Lives q size old a new r → Halves
+first_of q size old a new r x = record { receive = x.up.empty; transmit = x.fresh.transmit }
+
+-- from there on the halves are driven on so, by the numbers of that arena
+abbrev pub LifeLendsApart : Type 0
+LifeLendsApart =
+    (q : AtPort) (size : ℕ) (old : List Call) (a : Numbers) (new : List Call) (r : Running)
+    (x : Lives q size old a new r) →
+    DrivesApart (is_own a) x.up.on.mid (first_of q size old a new r x) new (halves_of r)

@@ -57,7 +57,7 @@ module _ (w : Watched) (fifo : ℕ) (h : List Entry) (q : AtPort) (size : ℕ) (
 
     lived : IsLived w fifo h q size old a m.made x.told.started.0 k
     lived =
-        let goes = (runs q size old a m later x.told).goes in
+        let goes = (runs q size old a m later x.told).drives.apart.drives in
         record {
           along = x.along;
           life =
@@ -95,7 +95,7 @@ module _ (w : Watched) (fifo : ℕ) (h : List Entry) (q : AtPort) (size : ℕ) (
         n.made s.receive
         (record {
           along = x.along;
-          life = life q size old a m later x.told (last m later).made runs.goes;
+          life = life q size old a m later x.told (last m later).made runs.drives.apart.drives;
           begins = x.begins;
           looks = looks;
           look = x.look;

@@ -134,7 +134,7 @@ waiting_as_told w fifo h q size old a m later n x before more all is same =
     waiting_before_look w fifo h q size old a m.made x.told.started.0 made (halves_of runs.rings) n.made s.transmit
     (record {
       along = x.along;
-      life = life q size old a m later x.told made runs.goes;
+      life = life q size old a m later x.told made runs.drives.apart.drives;
       begins = x.begins;
       looks = looks;
       look = x.look;

@@ -32,7 +32,7 @@ pub steps_harmless : (calls : List Call) → AreSteps calls → AreHarmless call
 steps_harmless [] steps = tt
 steps_harmless (c ∷ calls) steps = (step_harmless c.event steps.0, steps_harmless calls steps.1)
 
-others_harmless : (doers : List Doer) (calls : List Call) → OthersStep doers calls → OthersHarmless doers calls
+pub others_harmless : (doers : List Doer) (calls : List Call) → OthersStep doers calls → OthersHarmless doers calls
 others_harmless [] calls steps = steps_harmless calls steps
 others_harmless (d ∷ doers) [] steps = tt
 others_harmless (d ∷ doers) (c ∷ calls) steps =

@@ -23,7 +23,7 @@ frames_stay_short_along queue s [] h none = h
 frames_stay_short_along queue s (e ∷ es) h none =
     frames_stay_short_along queue (after s e.event) es (frames_stay_short queue s e.event h none.0) none.1
 
-lends_is : (b : Block) (r : Reply Block) (n : ℕ) → lends (event.Lend b) r n ≡ true → b.number ≡ n
+pub lends_is : (b : Block) (r : Reply Block) (n : ℕ) → lends (event.Lend b) r n ≡ true → b.number ≡ n
 lends_is b reply.Done n is = eqb-true b.number n is
 lends_is b r n is = cc
 

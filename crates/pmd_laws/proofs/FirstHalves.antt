@@ -1,23 +1,29 @@
 -- The halves of a driver whose sides went on just now: each has lent its ring's block, and these are apart.
-use Rattle.std.proofs.Common.{◌≡◌, ℕ, List, sym, subst}
+use Rattle.std.proofs.Common.{◌≡◌, ℕ, true, List, refl, sym, subst}
+use Rattle.std.specs.Prelude.{IsTrue, ◌==◌}
+use Rattle.std.proofs.lemmas.Bool.{eq-eqb, or_left, or_right}
 use Rattle.dma_arena.specs.Numbers.{Numbers}
-use Rattle.device_lock.specs.declared.entry.Call.{Call}
-use Rattle.pmd.specs.Running.{Running}
-use Rattle.pmd.specs.Started.{AreUp}
-use Rattle.pmd_queue.specs.Named.{AtPort}
-use Rattle.driver_laws.specs.Agreeing.{AreApart, AreLent}
-use Rattle.pmd.specs.Halves.{Halves}
-use Rattle.pmd_laws.proofs.Begun.{at_first, drawn_apart, first_apart, first_lent}
-use Rattle.std.specs.Prelude.{IsTrue}
 use Rattle.device_lock.specs.Alone.{Blocks}
+use Rattle.device_lock.specs.declared.entry.Call.{Call}
+use Rattle.pmd_queue.specs.Named.{AtPort}
+use Rattle.pmd_rx.specs.Receive.{Receive}
+use Rattle.pmd_tx.specs.Sending.{Sender}
+use Rattle.driver_laws.specs.Agreeing.{AreApart, AreLent}
+use Rattle.healthy_laws.specs.Healthy.{lent_by}
+use Rattle.pmd.specs.Halves.{Halves}
+use Rattle.start_laws.specs.On.{AreOn}
+use Rattle.pmd_laws.proofs.Begun.{at_first, drawn_apart, first_apart, first_lent}
 
 -- as both sides are on the receive ring is empty
-module _ (q : AtPort) (size : ℕ) (old : List Call) (a : Numbers) (started : List Call) (r : Running)
-    (up : AreUp q size old a started r) where
+module _ (q : AtPort) (size : ℕ) (old : List Call) (a : Numbers) (new : List Call) (v : Receive) (t : Sender)
+    (up : AreOn q size old a new v t) where
   abbrev pub first_halves : Halves
-  first_halves = record { receive = up.empty; transmit = r.transmit }
+  first_halves = record { receive = v; transmit = t }
 
-  first_is : first_halves ≡ at_first q.port size up.receive.ring up.receive.tail up.transmit.ring up.transmit.tail
+  abbrev begun : Halves
+  begun = at_first q.port size up.receive.ring up.receive.tail up.transmit.ring up.transmit.tail
+
+  first_is : first_halves ≡ begun
   first_is = λ i. record { receive = up.receive.fresh i; transmit = up.transmit.fresh i }
 
   pub halves_apart : AreApart first_halves
@@ -32,3 +38,15 @@ module _ (q : AtPort) (size : ℕ) (old : List Call) (a : Numbers) (started : Li
   halves_lent mine one two =
       subst (AreLent mine) (sym first_is)
       (first_lent q.port size up.receive.ring up.receive.tail up.transmit.ring up.transmit.tail mine one two)
+
+  -- both rings are lent
+
+  pub receive_lent : IsTrue (lent_by first_halves up.receive.ring)
+  receive_lent =
+      subst (λ (h : Halves). lent_by h up.receive.ring ≡ true) (sym first_is)
+      (or_left _ _ (or_left (up.receive.ring == up.receive.ring) _ (eq-eqb up.receive.ring up.receive.ring refl)))
+
+  pub transmit_lent : IsTrue (lent_by first_halves up.transmit.ring)
+  transmit_lent =
+      subst (λ (h : Halves). lent_by h up.transmit.ring ≡ true) (sym first_is)
+      (or_right _ _ (or_left (up.transmit.ring == up.transmit.ring) _ (eq-eqb up.transmit.ring up.transmit.ring refl)))

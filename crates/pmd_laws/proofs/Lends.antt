@@ -36,7 +36,7 @@ module _ (q : AtPort) (size : ℕ) (old : List Call) (a : Numbers) (new : List C
       ap (λ (y : Numbers). is_own y n) up.transmit.prepared.drawn
       ∙ is_own-with_free up.ready_arena up.transmit.ring false n ∙ ready_own n
 
-  fresh_own : OwnsSame a x.fresh.arena
+  pub fresh_own : OwnsSame a x.fresh.arena
   fresh_own n =
       let posts = up.on.filled.2 in
       (all_exchanged up.both_arena [] x.fresh.arena (posts.blocks ++ []) (posts.blocks, posts.drawn, λ k. refl)).owns n

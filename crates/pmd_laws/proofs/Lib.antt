@@ -1,12 +1,17 @@
 pub mod Asked
 pub mod Begun
+pub mod Driven
 pub mod Ends
+pub mod Faultless
 pub mod FirstHalves
 pub mod HandedOn
 pub mod Lends
 pub mod Looks
+pub mod NoFault
+pub mod OnlyRings
 pub mod Order
 pub mod Plain
+pub mod RiseCalls
 pub mod RunsOn
 pub mod Silent
 pub mod StopCalls

@@ -1,37 +1,34 @@
 -- What a driver handed out and what it sent in its life.
 use Rattle.std.proofs.Common.{◌≡◌, ℕ, List, [], ◌++◌, refl, sym, ap, ◌∙◌, subst}
 use Rattle.dma_arena.specs.Numbers.{Numbers}
-use Rattle.vf_map.specs.declared.mode.Mode.TheVariants.{Off}
 use Rattle.nic_device.specs.State.{State, new_state}
-use Rattle.device_lock.specs.Alone.{LeavesAlone, lent_by, mode_through}
-use Rattle.device_lock.specs.History.{IsLegal, calls_of, leads_to}
+use Rattle.device_lock.specs.History.{calls_of, leads_to}
 use Rattle.device_lock.specs.declared.alone.Watched.{Watched}
 use Rattle.device_lock.specs.declared.entry.Call.{Call}
 use Rattle.device_lock.specs.declared.entry.Entry.{Entry}
-use Rattle.history_laws.specs.Laws.{AreEvents}
 use Rattle.pmd.specs.Running.{Running}
 use Rattle.pmd.specs.Started.{AreUp}
 use Rattle.pmd_queue.specs.Named.{AtPort}
 use Rattle.receive_laws.specs.Delivered as receive
 use Rattle.receive_laws.specs.Delivered.{delivered}
 use Rattle.receive_laws.specs.Histories.{FindsNone}
-use Rattle.receive_laws.specs.Joint.{Agree}
-use Rattle.transmit_laws.specs.Agreeing.{Agrees, bytes_of}
+use Rattle.transmit_laws.specs.Agreeing.{bytes_of}
 use Rattle.transmit_laws.specs.Laws as transmit
 use Rattle.transmit_laws.specs.Sent.{sent_in, sent_since}
 use Rattle.start_laws.specs.Unused.{WentOn}
-use Rattle.start_laws.proofs.Parts.{Parts, begun, parts}
-use Rattle.start_laws.proofs.Lent.{IsLentBy}
-use Rattle.start_laws.proofs.Start.{on_some, other_lent, ring_lent, start_agrees, start_goes_on}
-use Rattle.driver_laws.specs.Agreeing.{AreLent}
-use Rattle.pmd.specs.Halves.{AllOwn, Halves, halves_of, played_by}
+use Rattle.start_laws.proofs.Parts.{Parts, parts}
+use Rattle.start_laws.specs.On.{AreOn}
+use Rattle.start_laws.proofs.Start.{on}
+use Rattle.pmd.specs.Halves.{Halves, halves_of, played_by}
 use Rattle.pmd.proofs.Calls.{receiving_drives}
-use Rattle.driver_laws.specs.Beside.{Leads, OthersHarmless}
-use Rattle.driver_laws.proofs.Beside.{drives_lead, harmless_leave_alone, leads_on}
+use Rattle.driver_laws.specs.Beside.{Leads}
+use Rattle.driver_laws.proofs.Beside.{drives_lead, leads_on}
 use Rattle.driver_laws.specs.Histories.{IsDriven}
 use Rattle.driver_laws.proofs.InOrder.{counted_where_up, handed_is_prefix, idle_is_all_sent, none_is_all, sent_is_prefix}
 use Rattle.pmd_laws.specs.Order as order
-use Rattle.pmd_laws.proofs.FirstHalves.{first_halves, halves_apart, halves_lent}
+use Rattle.pmd_laws.proofs.Driven as begun_on
+use Rattle.pmd_laws.proofs.Driven.{driven_by}
+use Rattle.pmd_laws.proofs.FirstHalves.{first_halves}
 
 module _ (w : Watched) (fifo : ℕ) (h : List Entry) (q : AtPort) (size : ℕ) (old : List Call) (a : Numbers)
     (started : List Call) (r : Running) (k : Halves) (x : order.IsLived w fifo h q size old a started r k) where
@@ -41,8 +38,11 @@ module _ (w : Watched) (fifo : ℕ) (h : List Entry) (q : AtPort) (size : ℕ) (
   abbrev pub up : AreUp q size old a started r
   up = x.life.up
 
+  abbrev pub begun : AreOn q size old a up.on.mid up.empty r.transmit
+  begun = on w fifo h q size old a started r up x.along x.life.sized x.begins
+
   abbrev pub first : Halves
-  first = first_halves q size old a started r up
+  first = first_halves q size old a up.on.mid up.empty r.transmit begun
 
   pub whole : Leads up.on.mid first (calls_of w.pass h) k
   whole = leads_on up.on.mid started (calls_of w.pass h) first (halves_of r) k
@@ -58,45 +58,15 @@ module _ (w : Watched) (fifo : ℕ) (h : List Entry) (q : AtPort) (size : ℕ) (
     abbrev pub here : State
     here = leads_to new p.front
 
-    agrees : Agree w.queue here [] up.empty × Agrees here w.queue [] r.transmit
-    agrees =
-        start_agrees w fifo h q size old a started r up x.along x.life.sized x.begins p.front p.back p.both p.fronts
-
     pub went_on : WentOn w.queue new p.front
     went_on =
-        start_goes_on w fifo h q size old a started r up x.along x.life.sized x.begins p.front p.back p.both p.fronts
-
-    one : IsLentBy w.pass up.receive.ring h
-    one =
-        ring_lent w fifo h q size old a started r up x.along x.life.sized x.begins p.front p.back p.both p.fronts
-
-    two : IsLentBy w.pass up.transmit.ring h
-    two =
-        other_lent w fifo h q size old a started r up x.along x.life.sized x.begins p.front p.back p.both p.fronts
+        begun_on.went_on w fifo h q size old a up.on.mid up.empty r.transmit begun x.along x.life.sized x.begins.ground
+        whole.1 p
 
     pub driven : IsDriven w fifo p.front p.back first whole.0
     driven =
-        let all = sym p.both in
-        record {
-          new = x.along.new;
-          events = subst AreEvents all x.along.events;
-          legal = subst (IsLegal new) all x.along.legal;
-          alone = subst (LeavesAlone w) all x.along.alone;
-          begun =
-              begun w.pass p.front
-              (λ none.
-              on_some w fifo h q size old a started r up x.along x.life.sized x.begins (sym p.fronts ∙ none));
-          on = went_on.received;
-          up = went_on.receives;
-          agree = record { receive = agrees.0; transmit = agrees.1; apart = halves_apart q size old a started r up };
-          lent =
-              subst (λ (l : List Entry). AreLent (lent_by w.pass l) first) all
-              (halves_lent q size old a started r up (lent_by w.pass h) one.mine two.mine);
-          own = subst (AllOwn first whole.0) (sym p.backs) whole.3;
-          others =
-              harmless_leave_alone w (lent_by w.pass (p.front ++ p.back)) (mode_through w.vfs Off p.front) whole.0
-              p.back (subst (OthersHarmless whole.0) (sym p.backs) whole.5);
-        }
+        driven_by w fifo h q size old a up.on.mid up.empty r.transmit begun x.along x.life.sized x.begins.ground whole.1
+        p whole.0 whole.3 whole.5
 
     pub last : played_by first whole.0 (calls_of w.pass p.back) ≡ k
     last = ap (played_by first whole.0) p.backs ∙ sym whole.4

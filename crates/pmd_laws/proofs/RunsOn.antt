@@ -1,25 +1,50 @@
 -- A driver that runs runs on, over calls as they are told.
-use Rattle.std.proofs.Common.{◌≡◌, ℕ, inl, inr, Bool, true, false, List, [], ◌∷◌, Option, Some, Ok, if◌then◌else◌, refl, ap, ◌∙◌, subst}
-use Rattle.dma_arena.specs.Numbers.{Numbers}
+use Rattle.std.proofs.Common.{◌≡◌, ℕ, inl, inr, Bool, true, false, List, [], ◌∷◌, Option, Some, Ok, if◌then◌else◌, refl, sym, subst}
+use Rattle.dma_arena.specs.Numbers.{Numbers, is_own}
+use Rattle.device_lock.specs.Alone.{Blocks}
 use Rattle.device_lock.specs.declared.entry.Call.{Call}
-use Rattle.pmd.specs.Driver.{Driver, WhereUp, with_arena}
+use Rattle.pmd_base.specs.Made.{AddsSome, AreSteps}
+use Rattle.pmd.specs.Driver.{Driver, WhereUp}
 use Rattle.pmd.specs.Running.{Running}
 use Rattle.pmd.specs.Started.{IsShut}
 use Rattle.pmd.specs.declared.driver.Rings.{Rings}
 use Rattle.pmd.specs.declared.driver.Rings.TheVariants.{Up, Down}
 use Rattle.pmd_base.specs.declared.fault.PmdFault.{PmdFault}
 use Rattle.pmd_base.specs.declared.fault.PmdFault.TheVariants.{BadSize}
-use Rattle.pmd.specs.Halves.{halves_of}
-use Rattle.pmd.proofs.Calls.{drives_none}
-use Rattle.driver_laws.specs.Beside.{Leads}
-use Rattle.driver_laws.proofs.Beside.{drives_lead, harmless_lead, leads_on}
+use Rattle.pmd.specs.Apart.{AllLendApart, DrivesApart, DrivesRings, OwnsSame}
+use Rattle.pmd.specs.Halves.{Halves, doers_other, halves_of}
+use Rattle.pmd.proofs.Apart.{step_apart}
+use Rattle.pmd.proofs.Both.{rings_on, rings_still}
+use Rattle.pmd.proofs.Calls.{others_drive}
 use Rattle.pmd_laws.specs.Told.{AllFollow, Follows, Drove, Keeps, Moment, last}
+
+-- steps of the device alone leave the halves, and lend nothing
+
+others_apart : (own : Blocks) (h : Halves) (calls : List Call) → AreSteps calls
+    → AllLendApart own h (doers_other calls) calls
+others_apart own h [] steps = tt
+others_apart own h (c ∷ calls) steps = (step_apart own h c.event steps.0, others_apart own h calls steps.1)
+
+added_apart : (own : Blocks) (old new : List Call) (h : Halves) → AddsSome old new → DrivesApart own old h new h
+unfolding others_drive
+added_apart own old new h (since, made, steps) = record {
+  drives = others_drive old new h (since, made, steps);
+  apart = others_apart own h since steps;
+}
+
+rings_kept : (old new : List Call) (r s : Running) → halves_of s ≡ halves_of r → OwnsSame r.arena s.arena
+    → AddsSome old new → DrivesRings old r new s
+rings_kept old new r s same owns added = record {
+  apart = subst (λ (k : Halves). DrivesApart (is_own r.arena) old (halves_of r) new k) (sym same)
+      (added_apart (is_own r.arena) old new (halves_of r) added);
+  owns = owns;
+}
 
 -- a driver that runs goes on: it runs with these rings
 pub record RunsOn (m : Moment) (r : Running) (n : Moment) : Type 0 where
   pub rings : Running
   pub up : n.driver.rings ≡ Up rings
-  pub goes : Leads m.made (halves_of r) n.made (halves_of rings)
+  pub drives : DrivesRings m.made r n.made rings
 
 -- where a driver that runs runs on
 
@@ -31,15 +56,13 @@ up_next P (Down x) b r is holds = cc
 
 drove : (m n : Moment) (r : Running) → m.driver.rings ≡ Up r → Drove m n → RunsOn m r n
 drove m n r is x =
-    let (s, up, goes) = up_next _ m.driver.rings n.driver.rings r is x in
-    record { rings = s; up = up; goes = drives_lead m.made n.made (halves_of r) (halves_of s) goes.apart.drives }
+    let (s, up, drives) = up_next _ m.driver.rings n.driver.rings r is x in
+    record { rings = s; up = up; drives = drives }
 
 kept : (m n : Moment) (r : Running) → m.driver.rings ≡ Up r → Keeps m n → RunsOn m r n
-kept m n r is (a, same, added) = record {
-  rings = record r { arena = a };
-  up = same ∙ ap (λ (x : Rings). with_arena x a) is;
-  goes = harmless_lead m.made n.made (halves_of r) added;
-}
+kept m n r is (halves, added) =
+    let (s, up, same) = up_next _ m.driver.rings n.driver.rings r is halves in
+    record { rings = s; up = up; drives = rings_kept m.made n.made r s same.0 same.1 added }
 
 follows : (m n : Moment) (r : Running) → m.driver.rings ≡ Up r → Follows m n → RunsOn m r n
 follows m n r is (inl x) = drove m n r is x
@@ -47,18 +70,15 @@ follows m n r is (inr x) = kept m n r is x
 
 pub all_follow : (m : Moment) (later : List Moment) (r : Running) → m.driver.rings ≡ Up r → AllFollow m later
     → RunsOn m r (last m later)
-all_follow m [] r is x =
-    let none = drives_lead m.made m.made (halves_of r) (halves_of r) (drives_none m.made (halves_of r)) in
-    record { rings = r; up = is; goes = none }
+all_follow m [] r is x = record { rings = r; up = is; drives = rings_still m.made r }
 all_follow m (n ∷ later) r is x =
     let one = follows m n r is x.0 in
     let more = all_follow n later one.rings one.up x.1 in
     record {
       rings = more.rings;
       up = more.up;
-      goes =
-          leads_on m.made n.made (last n later).made (halves_of r) (halves_of one.rings) (halves_of more.rings)
-          one.goes more.goes;
+      drives =
+          rings_on m.made n.made (last n later).made r one.rings more.rings one.drives more.drives;
     }
 
 -- a start that isn't shut has a size that rings may have

@@ -19,6 +19,7 @@ use Rattle.transmit_laws.specs.Laws as transmit
 use Rattle.transmit_laws.specs.Sent.{sent_since}
 use Rattle.pmd.specs.Halves.{Halves, halves_of}
 use Rattle.driver_laws.specs.Beside.{Leads}
+use Rattle.driver_laws.proofs.Beside.{drives_lead}
 use Rattle.pmd_laws.specs.Life.{IsLife}
 use Rattle.pmd_laws.specs.Order.{IsLived}
 use Rattle.pmd_laws.specs.Told as told
@@ -39,6 +40,9 @@ module _ (q : AtPort) (size : ℕ) (old : List Call) (a : Numbers) (m : Moment) 
   abbrev pub now : Halves
   now = halves_of runs.rings
 
+  pub led : Leads m.made (halves_of first) (last m later).made now
+  led = drives_lead m.made (last m later).made (halves_of first) now runs.drives.apart.drives
+
   abbrev pub life : (calls : List Call) → Leads m.made (halves_of first) calls now
       → IsLife q size old a m.made first calls now
   life calls since = record {
@@ -58,7 +62,7 @@ module _ (w : Watched) (fifo : ℕ) (h : List Entry) (q : AtPort) (size : ℕ) (
 
     lived : IsLived w fifo h q size old a m.made x.told.started.0 k
     lived =
-        let goes = (runs q size old a m later x.told).goes in
+        let goes = led q size old a m later x.told in
         record {
           along = x.along;
           life =
@@ -96,7 +100,7 @@ module _ (w : Watched) (fifo : ℕ) (h : List Entry) (q : AtPort) (size : ℕ) (
         n.made s.receive
         (record {
           along = x.along;
-          life = life q size old a m later x.told (last m later).made runs.goes;
+          life = life q size old a m later x.told (last m later).made (led q size old a m later x.told);
           begins = x.begins;
           looks = looks;
           look = x.look;

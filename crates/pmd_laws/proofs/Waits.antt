@@ -31,7 +31,7 @@ use Rattle.pmd_laws.proofs.Looks.{answered, ends_with, lived_before}
 use Rattle.pmd_laws.proofs.Order as order
 use Rattle.pmd_laws.proofs.Order.{in_parts}
 use Rattle.pmd_laws.proofs.RunsOn.{up_next}
-use Rattle.pmd_laws.proofs.Told.{life, runs}
+use Rattle.pmd_laws.proofs.Told.{led, life, runs}
 
 module _ (w : Watched) (fifo : ℕ) (h : List Entry) (q : AtPort) (size : ℕ) (old : List Call) (a : Numbers)
     (started : List Call) (r : Running) (made : List Call) (k : Halves) (made_then : List Call) (v : Sender)
@@ -140,7 +140,7 @@ waiting_as_told w fifo h q size old a m later n x before more all is same =
     waiting_before_look w fifo h q size old a m.made x.told.started.0 made (halves_of runs.rings) n.made s.transmit
     (record {
       along = x.along;
-      life = life q size old a m later x.told made runs.goes;
+      life = life q size old a m later x.told made (led q size old a m later x.told);
       begins = x.begins;
       looks = looks;
       look = x.look;

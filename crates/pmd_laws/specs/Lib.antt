@@ -1,4 +1,5 @@
 pub mod Ends
+pub mod Faultless
 pub mod Lends
 pub mod Life
 pub mod Looks

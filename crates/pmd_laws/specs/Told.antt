@@ -7,11 +7,12 @@ use Rattle.device_lock.specs.History.{calls_of}
 use Rattle.device_lock.specs.declared.alone.Watched.{Watched}
 use Rattle.device_lock.specs.declared.entry.Call.{Call}
 use Rattle.device_lock.specs.declared.entry.Entry.{Entry}
-use Rattle.pmd.specs.Driver.{Driver, WhereUp, accepted_of, handed_of, with_arena}
-use Rattle.pmd.specs.Life.{RunsOn}
+use Rattle.pmd.specs.Driver.{Driver, WhereUp, accepted_of, handed_of}
+use Rattle.pmd.specs.Life.{RunsOn, KeepsHalves}
 use Rattle.pmd.specs.Started.{HasStarted, IsShut, start_gate}
 use Rattle.pmd.specs.declared.driver.Rings.{Rings}
 use Rattle.pmd.specs.declared.driver.Rings.TheVariants.{Up, Down}
+use Rattle.pmd_base.specs.Made.{AddsSome}
 use Rattle.pmd_queue.specs.Named.{AtPort}
 use Rattle.pmd_rx.specs.Plays.{LooksOnce}
 use Rattle.receive_laws.specs.Delivered as receive
@@ -21,7 +22,6 @@ use Rattle.transmit_laws.specs.Laws as transmit
 use Rattle.transmit_laws.specs.Sent.{sent_since}
 use Rattle.start_laws.specs.Along.{IsAlong}
 use Rattle.start_laws.specs.Start.{BeginsWell}
-use Rattle.driver_laws.specs.Beside.{AddsHarmless}
 use Rattle.pmd_laws.specs.Looks.{EndsAt}
 
 -- when a call of the driver has returned: the driver, and the calls that its pass has made
@@ -30,14 +30,13 @@ pub record Moment : Type 0 where
   pub driver : Driver
 
 -- from one moment of a driver that runs to the next: a call of `rx`, `tx` or `reap`, as its clause `drives` tells; or
--- one of `packet` or `release`, or none, by which the arena alone may change, beside steps of the device and what the
--- driver's author makes through the same way: calls that write no register, and lend, take and poke no block
+-- one of `packet` or `release`, as its clause `halves` tells, or none, beside steps of the device
 
 abbrev pub Drove : Moment → Moment → Type 0
 Drove m n = RunsOn m.made m.driver.rings n.made n.driver.rings
 
 abbrev pub Keeps : Moment → Moment → Type 0
-Keeps m n = (a : Numbers) × (n.driver.rings ≡ with_arena m.driver.rings a) × AddsHarmless m.made n.made
+Keeps m n = KeepsHalves m.driver.rings n.driver.rings × AddsSome m.made n.made
 
 abbrev pub Follows : Moment → Moment → Type 0
 Follows m n = Drove m n ⊎ Keeps m n

@@ -8,6 +8,7 @@
 #![tactic(auto)]
 
 ghost use Rattle.pmd_laws.specs.Ends.{HandedOverStop, LeftIsPrefix, SentOverStop};
+ghost use Rattle.pmd_laws.specs.Faultless.{NoCallFindsFault};
 ghost use Rattle.pmd_laws.specs.Lends.{LifeLendsApart};
 ghost use Rattle.pmd_laws.specs.Looks.{CallsEnd, NoneIsAllBefore};
 ghost use Rattle.pmd_laws.specs.Order.{HandedIsPrefix, NoneIsAll, SentIsPrefix, IdleIsAllSent};
@@ -32,6 +33,13 @@ pub fn life_in_order()
 /// arena that came to it, and isn't lent by its other half: those that its start posts, and those that its calls lend.
 pub fn lives_lend_apart()
     ensures { LifeLendsApart }
+{}
+
+/// Where the frames that wait for the queue are short just before the driver's first access, none of its arena's blocks
+/// is lent there, and no other pass lends any of them: no call of `rx`, `tx` or `reap` that comes after its start ends
+/// with the device at fault, over a legal history that leaves the queue alone.
+pub fn no_call_finds_the_device_at_fault()
+    ensures { NoCallFindsFault }
 {}
 
 /// Where a pass made some calls, and maybe more behind them, an entry of the history is the last of these.

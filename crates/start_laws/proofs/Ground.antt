@@ -8,6 +8,7 @@ use Rattle.nic_device.specs.State.{State}
 use Rattle.nic_device.specs.Step.{after}
 use Rattle.nic_device.specs.declared.event.Event.TheVariants as event
 use Rattle.nic_device.specs.declared.event.Event.{Event}
+use Rattle.device_laws.specs.Laws.{WritesNoSetting}
 use Rattle.device_laws.proofs.KeptSettings.{settings_stand}
 use Rattle.device_laws.proofs.Standing.{stays_within}
 use Rattle.device_lock.specs.Alone.{Blocks}
@@ -19,7 +20,7 @@ use Rattle.start_laws.specs.Numbers.{queue_at}
 use Rattle.start_laws.specs.Points.{HasGround}
 use Rattle.start_laws.specs.Ending.{IsPlain}
 use Rattle.start_laws.proofs.Numbers.{ground_names}
-use Rattle.start_laws.proofs.Words.{ground}
+use Rattle.start_laws.proofs.Words.{ground, settings}
 use Rattle.start_laws.proofs.DrivenRows.{driven_plain}
 
 pub ground_same : (queue : ℕ) (q : AtPort) (s t : State) → mode_in t.registers ≡ mode_in s.registers → t.vfs ≡ s.vfs
@@ -44,12 +45,16 @@ module _ (queue : ℕ) (q : AtPort) (s : State) where
       (driven_plain row is) in
       ground_same queue q s (after s (event.Write q.port number word)) k.mode k.vfs k.limit g
 
+  -- write no setting
+  pub plain_setting : (e : Event Block) → IsPlain q e → HasGround queue q s → WritesNoSetting s e
+  plain_setting (event.Write port number word) (row, same, is, named) g =
+      subst (λ p. WritesNoSetting s (event.Write p number word)) (sym same)
+      (settings queue s q.port number word row (ground_names queue q s g row number is named) (driven_plain row is))
+  plain_setting e plain g = tt
+
   pub plain_keeps : (e : Event Block) → IsPlain q e → HasGround queue q s → HasGround queue q (after s e)
-  plain_keeps (event.Write port number word) (row, same, is, named) g =
-      subst (λ p. HasGround queue q (after s (event.Write p number word))) (sym same)
-      (write_ground row word number is named g)
   plain_keeps e plain g =
-      let stay = settings_stand s e tt in
+      let stay = settings_stand s e (plain_setting e plain g) in
       ground_same queue q s (after s e) stay.mode (stays_within s e).vfs stay.limit g
 
   pub read_ground : (number : ℕ) → HasGround queue q s → HasGround queue q (after s (event.Read q.port number))

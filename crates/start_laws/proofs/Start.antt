@@ -20,7 +20,7 @@ module _ (w : Watched) (fifo : ℕ) (h : List Entry) (q : AtPort) (size : ℕ) (
   where
     -- before the receive ring is filled both sides are on
 
-    abbrev on : AreOn q size old a up.on.mid up.empty r.transmit
+    abbrev pub on : AreOn q size old a up.on.mid up.empty r.transmit
     on = record {
       ready_made = up.ready_made;
       both_made = up.both_made;

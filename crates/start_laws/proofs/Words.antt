@@ -32,7 +32,7 @@ module _ (queue : ℕ) (s : State) (port : Port) (n word : ℕ) (row : RowId) (n
       let both : place row queue ≡ p = cc in
       sym both
 
-  settings : is_setting row ≡ false → WritesNoSetting s (event.Write port n word)
+  pub settings : is_setting row ≡ false → WritesNoSetting s (event.Write port n word)
   settings plain p view there =
       let own = no_setting row plain in
       let e = ap (λ (q : Place). q.row) (same_place p view there) in

@@ -1,0 +1,79 @@
+-- From the place on where both sides of a driver's queue are on, a history drives its halves.
+use Rattle.std.proofs.Common.{◌≡◌, ℕ, true, List, [], ◌++◌, sym, ◌∙◌, subst}
+use Rattle.dma_arena.specs.Numbers.{Numbers}
+use Rattle.vf_map.specs.declared.mode.Mode.TheVariants.{Off}
+use Rattle.nic_device.specs.State.{State, new_state}
+use Rattle.device_lock.specs.Alone.{LeavesAlone, lent_by, mode_through}
+use Rattle.device_lock.specs.History.{IsLegal, leads_to}
+use Rattle.device_lock.specs.declared.alone.Watched.{Watched}
+use Rattle.device_lock.specs.declared.entry.Call.{Call}
+use Rattle.device_lock.specs.declared.entry.Entry.{Entry}
+use Rattle.history_laws.specs.Laws.{AreEvents}
+use Rattle.pmd.specs.Halves.{AllOwn, Doer, Halves}
+use Rattle.pmd.specs.Started.{is_size}
+use Rattle.pmd_queue.specs.Named.{AtPort}
+use Rattle.pmd_rx.specs.Receive.{Receive}
+use Rattle.pmd_tx.specs.Sending.{Sender}
+use Rattle.receive_laws.specs.Joint.{Agree}
+use Rattle.transmit_laws.specs.Agreeing.{Agrees}
+use Rattle.start_laws.specs.Along.{BeforeLast, IsAlong}
+use Rattle.start_laws.specs.On.{AreOn}
+use Rattle.start_laws.specs.Points.{HasGround}
+use Rattle.start_laws.specs.Unused.{WentOn}
+use Rattle.start_laws.proofs.Lent.{IsLentBy}
+use Rattle.start_laws.proofs.On.{on_some, other_lent, ring_lent, switched_sides_agree, switched_sides_go_on}
+use Rattle.start_laws.proofs.Parts.{Parts, begun}
+use Rattle.driver_laws.specs.Agreeing.{AreLent}
+use Rattle.driver_laws.specs.Histories.{IsDriven}
+use Rattle.driver_laws.specs.Beside.{OthersHarmless}
+use Rattle.driver_laws.proofs.Beside.{harmless_leave_alone}
+use Rattle.pmd_laws.proofs.FirstHalves.{first_halves, halves_apart, halves_lent}
+
+module _ (w : Watched) (fifo : ℕ) (h : List Entry) (q : AtPort) (size : ℕ) (old : List Call) (a : Numbers)
+    (on : List Call) (v : Receive) (t : Sender) (up : AreOn q size old a on v t) (along : IsAlong w fifo h)
+    (sized : is_size size ≡ true) (well : BeforeLast w fifo h up.receive.quiet.0 (HasGround w.queue q))
+    (ys : List Call) (p : Parts w.pass h on ys) where
+  abbrev new : State
+  new = new_state w.vfs fifo
+
+  abbrev first : Halves
+  first = first_halves q size old a on v t up
+
+  agrees : Agree w.queue (leads_to new p.front) [] v × Agrees (leads_to new p.front) w.queue [] t
+  agrees =
+      switched_sides_agree w fifo h q size old a on v t up along sized well p.front p.back p.both p.fronts
+
+  pub went_on : WentOn w.queue new p.front
+  went_on =
+      switched_sides_go_on w fifo h q size old a on v t up along sized well p.front p.back p.both p.fronts
+
+  one : IsLentBy w.pass up.receive.ring h
+  one = ring_lent w fifo h q size old a on v t up along sized well p.front p.back p.both p.fronts
+
+  two : IsLentBy w.pass up.transmit.ring h
+  two = other_lent w fifo h q size old a on v t up along sized well p.front p.back p.both p.fronts
+
+  -- by the doers of the calls behind it
+  pub driven_by : (doers : List Doer) → AllOwn first doers ys → OthersHarmless doers ys
+      → IsDriven w fifo p.front p.back first doers
+  driven_by doers own harmless =
+      let all = sym p.both in
+      record {
+        new = along.new;
+        events = subst AreEvents all along.events;
+        legal = subst (IsLegal new) all along.legal;
+        alone = subst (LeavesAlone w) all along.alone;
+        begun =
+            begun w.pass p.front
+            (λ none. on_some w fifo h q size old a on v t up along sized well (sym p.fronts ∙ none));
+        on = went_on.received;
+        up = went_on.receives;
+        agree = record { receive = agrees.0; transmit = agrees.1; apart = halves_apart q size old a on v t up };
+        lent =
+            subst (λ (l : List Entry). AreLent (lent_by w.pass l) first) all
+            (halves_lent q size old a on v t up (lent_by w.pass h) one.mine two.mine);
+        own = subst (AllOwn first doers) (sym p.backs) own;
+        others =
+            harmless_leave_alone w (lent_by w.pass (p.front ++ p.back)) (mode_through w.vfs Off p.front) doers p.back
+            (subst (OthersHarmless doers) (sym p.backs) harmless);
+      }

@@ -1,0 +1,166 @@
+-- Of an arena's blocks only the rings' are lent as both sides are on, and the frames that wait fit a buffer.
+use Rattle.std.proofs.Common.{◌≡◌, ℕ, ◌≤◌, inl, inr, true, false, List, [], ◌∷◌, ◌++◌, sym, ap, ◌∙◌, subst, append_assoc, arith}
+use Rattle.std.specs.Prelude.{◌==◌, All}
+use Rattle.std.proofs.lemmas.Bool.{and_parts, both_ways, cases_Bool, eq-eqb, or_cases}
+use Rattle.dma_arena.specs.Block.{Block}
+use Rattle.dma_arena.specs.Numbers.{Numbers}
+use Rattle.reg_table.specs.declared.rows.RowId.TheVariants.{Rxdctl}
+use Rattle.nic_device.specs.State.{State, new_state}
+use Rattle.nic_device.specs.Step.{after}
+use Rattle.nic_device.specs.declared.event.Event.{Event}
+use Rattle.nic_device.specs.declared.event.Event.TheVariants as event
+use Rattle.nic_device.specs.declared.event.Reply.{Reply}
+use Rattle.nic_device.specs.declared.event.Reply.TheVariants as reply
+use Rattle.device_lock.specs.Alone.{Blocks, lends, lent_by, lent_in}
+use Rattle.device_lock.specs.History.{IsLegal, call_in, calls_of, leads_to}
+use Rattle.device_lock.specs.Pass.{call_of}
+use Rattle.device_lock.specs.declared.alone.Watched.{Watched}
+use Rattle.device_lock.specs.declared.entry.Call.{Call}
+use Rattle.device_lock.specs.declared.entry.Entry.{Entry}
+use Rattle.device_laws.specs.Laws.{WritesNoSetting}
+use Rattle.history_laws.specs.Laws.{AreEvents}
+use Rattle.history_laws.specs.Lent.{OnlyLent}
+use Rattle.pmd_queue.specs.Named.{AtPort}
+use Rattle.pmd_rx.specs.Receive.{Receive}
+use Rattle.pmd_tx.specs.Sending.{Sender}
+use Rattle.receive_laws.specs.Short.{IsShortFor}
+use Rattle.receive_laws.proofs.Delivering.{events_before, events_behind, leads-append, legal_behind}
+use Rattle.receive_laws.proofs.Histories.{calls_own, calls_other}
+use Rattle.receive_laws.proofs.Short.{frames_stay_short}
+use Rattle.transmit_laws.proofs.LeftSide.{left-setting}
+use Rattle.start_laws.specs.Along.{AtCalls, BeforeLast, IsAlong, IsKept}
+use Rattle.start_laws.specs.Ending.{Each, IsPlain}
+use Rattle.start_laws.specs.On.{AreOn}
+use Rattle.start_laws.specs.Points.{HasGround}
+use Rattle.start_laws.proofs.Along.{legal_before}
+use Rattle.start_laws.proofs.Ending.{all_lead}
+use Rattle.start_laws.proofs.First.{first_seen}
+use Rattle.start_laws.proofs.Ground.{ground_kept, plain_keeps, plain_setting}
+use Rattle.start_laws.proofs.Made.{made_some}
+use Rattle.start_laws.proofs.Parts.{around}
+use Rattle.start_laws.proofs.Reached.{reached, state_kept, state_leads}
+use Rattle.pmd_queue.specs.Made.{Sees}
+use Rattle.healthy_laws.specs.Before.{OnlyPassLends}
+use Rattle.healthy_laws.proofs.Before.{lends_is, only_pass_lent}
+use Rattle.pmd_laws.specs.Faultless.{IsFresh}
+use Rattle.pmd_laws.proofs.RiseCalls.{IsRising, Rises, rising_are_plain}
+
+-- what a part of a history lends
+
+pub others_before : (pass : ℕ) (own : Blocks) (g l : List Entry) → OnlyPassLends pass own (g ++ l)
+    → OnlyPassLends pass own g
+others_before pass own [] l none = tt
+others_before pass own (e ∷ g) l none = (none.0, others_before pass own g l none.1)
+
+pub others_behind : (pass : ℕ) (own : Blocks) (g l : List Entry) → OnlyPassLends pass own (g ++ l)
+    → OnlyPassLends pass own l
+others_behind pass own [] l none = none
+others_behind pass own (e ∷ g) l none = others_behind pass own g l none.1
+
+-- a pass lends what its calls do
+
+lends_lent : (q : AtPort) (lent : Blocks) (e : Event Block) (r : Reply Block) (n : ℕ) → IsRising q lent e
+    → lends e r n ≡ true → lent n ≡ true
+lends_lent q lent (event.Lend block) r n own is = subst (λ (k : ℕ). lent k ≡ true) (lends_is block r n is) own
+lends_lent q lent e r n own is = cc
+
+lent_is : (q : AtPort) (lent : Blocks) (pass : ℕ) (es : List Entry)
+    → Each (λ c. IsRising q lent c.event) (calls_of pass es) → (n : ℕ) → lent_by pass es n ≡ true → lent n ≡ true
+lent_is q lent pass [] are n is = cc
+lent_is q lent pass (e ∷ es) are n is = elim (cases_Bool (e.pass == pass)) as (λ _. lent n ≡ true) [
+  | inl own ↦
+      let each : Each (λ c. IsRising q lent c.event) (call_in e ∷ calls_of pass es) =
+      subst (Each (λ c. IsRising q lent c.event)) (calls_own pass e es own) are in
+      elim (or_cases (lent_in pass e n) (lent_by pass es n) is) [
+        | inl here ↦
+            let mine = (and_parts _ _ here).1 in
+            lends_lent q lent e.event e.reply n each.0 (and_parts _ _ mine).1
+        | inr later ↦ lent_is q lent pass es each.1 n later
+      ]
+  | inr other ↦
+      let each : Each (λ c. IsRising q lent c.event) (calls_of pass es) =
+      subst (Each (λ c. IsRising q lent c.event)) (calls_other pass e es other) are in
+      elim (or_cases (lent_in pass e n) (lent_by pass es n) is) [
+        | inl here ↦ absurd (both_ways _ other (and_parts _ _ (and_parts _ _ here).1).0)
+        | inr later ↦ lent_is q lent pass es each n later
+      ]
+]
+
+module _ (w : Watched) (fifo : ℕ) (h : List Entry) (q : AtPort) (size : ℕ) (old : List Call) (a : Numbers)
+    (new : List Call) (v : Receive) (t : Sender) (up : AreOn q size old a new v t) (along : IsAlong w fifo h)
+    (well : BeforeLast w fifo h up.receive.quiet.0 (HasGround w.queue q)) (own lent : Blocks)
+    (fresh : BeforeLast w fifo h up.receive.quiet.0 (IsFresh w.queue own))
+    (rises : Rises q lent up.receive.quiet.0 new)
+  where
+    -- the frames that wait
+
+    abbrev pub Short : State → Type 0
+    Short s = HasGround w.queue q s × All (IsShortFor w.queue) s.waiting
+
+    short_after : (s : State) (e : Event Block) → Short s → WritesNoSetting s e
+        → All (IsShortFor w.queue) (after s e).waiting
+    short_after s e (g, short) none =
+        (frames_stay_short w.queue s e
+        (record { limit = subst (λ (n : ℕ). n ≤ 2048) (sym g.limit) (omega arith); waiting = short }) none).waiting
+
+    short_kept : IsKept w (lent_by w.pass h) Short
+    short_kept s e left x = (
+      ground_kept w (lent_by w.pass h) q s e left x.0,
+      short_after s e x (left-setting w s left.vfs e left.registers),
+    )
+
+    plain_short : (s : State) (e : Event Block) → IsPlain q e → Short s → Short (after s e)
+    plain_short s e plain x =
+        (plain_keeps w.queue q s e plain x.0, short_after s e x (plain_setting w.queue q s e plain x.0))
+
+    pub short_at : AtCalls w fifo h new Short
+    short_at done rest all calls =
+        all_lead w fifo h (λ so_far. Short (reached w fifo so_far)) (λ c. IsPlain q c.event) along
+        (state_kept w fifo (lent_by w.pass h) Short short_kept)
+        (λ c plain.
+        state_leads w fifo (lent_by w.pass h) c Short Short (λ s met made told x. plain_short s c.event plain x))
+        rises.0 up.receive.quiet.0 (rising_are_plain q lent rises.0 rises.2)
+        (made_some q old up.receive.quiet.0 (Sees Rxdctl false) up.receive.quiet.1)
+        (first_seen w q fifo h Short along short_kept
+        (λ s number x. plain_short s (event.Read q.port number) tt x) Rxdctl false old up.receive.quiet.0
+        up.receive.quiet.1
+        (λ before behind e split mine is.
+        (well before behind e split mine is, (fresh before behind e split mine is).short)))
+        done rest all (calls ∙ rises.1)
+
+    -- the blocks that are lent
+    module _ (others : OnlyPassLends w.pass own h) (done rest : List Entry) (all : done ++ rest ≡ h)
+        (calls : calls_of w.pass done ≡ new) where
+      abbrev start : State
+      start = new_state w.vfs fifo
+
+      pub known_at : OnlyLent own lent (reached w fifo done).memory
+      known_at =
+          let (number, word, named, seen, (before, added, steps)) = up.receive.quiet.1 in
+          let c = call_of (event.Read q.port number) (reply.Word word) in
+          let x = around w.pass done (old ++ before) c rises.0
+          (calls ∙ rises.1
+          ∙ ap (λ (l : List Call). l ++ rises.0) (added ∙ sym (append_assoc old before (c ∷ [])))
+          ∙ append_assoc (old ++ before) (c ∷ []) rises.0) in
+          let es : List Entry = x.entry ∷ x.behind in
+          let split : (x.before ++ es) ++ rest ≡ h = ap (λ (l : List Entry). l ++ rest) x.all ∙ all in
+          let whole : x.before ++ x.entry ∷ (x.behind ++ rest) ≡ h = sym (append_assoc x.before es rest) ∙ split in
+          let here = fresh x.before (x.behind ++ rest) x.entry whole x.own
+          ((λ i. x.made i ++ x.call i ∷ []) ∙ append_assoc old before (c ∷ []) ∙ sym added) in
+          let s : State = reached w fifo x.before in
+          let none : OnlyLent own (λ n. false) s.memory = λ n is has. absurd (both_ways _ (here.none n is) has) in
+          let events = events_behind x.before es
+          (events_before (x.before ++ es) rest (subst AreEvents (sym split) along.events)) in
+          let legal = legal_behind start x.before es
+          (legal_before start (x.before ++ es) rest (subst (IsLegal start) (sym split) along.legal)) in
+          let spared = others_behind w.pass own x.before es
+          (others_before w.pass own (x.before ++ es) rest (subst (OnlyPassLends w.pass own) (sym split) others)) in
+          let then = only_pass_lent w.pass own (λ n. false) s es legal events spared none in
+          let there : leads_to s es ≡ reached w fifo done =
+          sym (leads-append start x.before es) ∙ ap (reached w fifo) x.all in
+          let are : Each (λ d. IsRising q lent d.event) (calls_of w.pass es) =
+          subst (Each (λ d. IsRising q lent d.event))
+          (sym (calls_own w.pass x.entry x.behind (eq-eqb x.entry.pass w.pass x.own) ∙ (λ i. x.call i ∷ x.later i)))
+          (tt, rises.2) in
+          subst (λ (z : State). OnlyLent own lent z.memory) there
+          (λ n is has. lent_is q lent w.pass es are n (then n is has))

@@ -1,0 +1,92 @@
+-- The calls by which a driver's rings come up write no register but its queue's, and lend no block but the rings'.
+use Rattle.std.proofs.Common.{◌≡◌, ℕ, true, false, List, [], ◌∷◌, ◌++◌, refl}
+use Rattle.std.specs.Prelude.{⊤, IsTrue}
+use Rattle.dma_arena.specs.Block.{Block}
+use Rattle.dma_arena.specs.Numbers.{Numbers}
+use Rattle.reg_table.specs.declared.rows.RowId.TheVariants.{Rxdctl}
+use Rattle.register_file.specs.declared.dir.Dir.{Dir}
+use Rattle.register_file.specs.declared.dir.Dir.TheVariants.{Rx, Tx}
+use Rattle.nic_device.specs.declared.event.Event.{Event}
+use Rattle.nic_device.specs.declared.event.Event.TheVariants as event
+use Rattle.device_lock.specs.Alone.{Blocks}
+use Rattle.device_lock.specs.declared.entry.Call.{Call}
+use Rattle.pmd_base.specs.Events.{is_step}
+use Rattle.pmd_queue.specs.Both.{receive_polled}
+use Rattle.pmd_queue.specs.Made.{Access, Sees, Sets, AreMade, IsMade}
+use Rattle.pmd_queue.specs.Named.{AtPort}
+use Rattle.pmd_queue.specs.Sides.{polled, quiet, ring_words}
+use Rattle.pmd_rx.specs.Receive.{Receive}
+use Rattle.pmd_tx.specs.Sending.{Sender}
+use Rattle.pmd.specs.Starting.{IsPrepared}
+use Rattle.start_laws.specs.Ending.{Each, IsPlain, NamesDriven}
+use Rattle.start_laws.specs.On.{AreOn}
+use Rattle.start_laws.specs.Stopping.{AreMadeOf}
+use Rattle.start_laws.proofs.AllAre.{AllAre, all_both, all_polled}
+use Rattle.start_laws.proofs.StopCalls.{adds_made, none_made, then_made}
+use Rattle.begin_laws.proofs.DrivenAccesses.{IsDriven, polled_driven, reads_driven, words_are_writes, writes_driven}
+
+module _ (q : AtPort) (lent : Blocks) where
+  abbrev pub IsRising : Event Block → Type 0
+  IsRising (event.Write port number word) = NamesDriven q port number
+  IsRising (event.Lend block) = IsTrue (lent block.number)
+  IsRising e = ⊤
+
+  abbrev pub Rises : List Call → List Call → Type 0
+  Rises old new = AreMadeOf IsRising old new
+
+  step_rises : (e : Event Block) → is_step e ≡ true → IsRising e
+  step_rises (event.Write port number word) is = cc
+  step_rises (event.Lend block) is = cc
+  step_rises e is = tt
+
+  made_rises : (a : Access) (old new : List Call) → IsDriven a → IsMade q old new a → Rises old new
+  made_rises (Sees row on) old new driven (number, word, named, is, adds) =
+      adds_made IsRising step_rises old new _ _ adds tt
+  made_rises (Sets row word) old new driven (number, named, adds) =
+      adds_made IsRising step_rises old new _ _ adds (row, refl, driven, named)
+
+  pub all_rise : (all : List Access) (old new : List Call) → AllAre IsDriven all → AreMade q old new all
+      → Rises old new
+  all_rise [] old new are x = none_made IsRising old new x
+  all_rise (a ∷ rest) old new are (mid, here, more) =
+      then_made IsRising old mid new (made_rises a old mid are.0 here) (all_rise rest mid new are.1 more)
+
+  pub prepared_rises : (side : Dir) (size : ℕ) (old : List Call) (a : Numbers) (new : List Call) (b : Numbers)
+      (ring : ℕ) → IsTrue (lent ring) → IsPrepared q side size old a new b ring → Rises old new
+  prepared_rises side size old a new b ring own x =
+      then_made IsRising old x.mid new
+      (all_rise (ring_words side ring size) old x.mid
+      (writes_driven (ring_words side ring size) (words_are_writes side ring size)) x.words)
+      (adds_made IsRising step_rises x.mid new _ _ x.lent own)
+
+  -- behind the first access
+  pub on_rises : (size : ℕ) (old : List Call) (a : Numbers) (new : List Call) (v : Receive) (t : Sender)
+      → (up : AreOn q size old a new v t) → IsTrue (lent up.receive.ring) → IsTrue (lent up.transmit.ring)
+      → Rises up.receive.quiet.0 new
+  on_rises size old a new v t up one two =
+      let first : ℕ = up.switched.0 in
+      let second : ℕ = up.switched.1 in
+      let off : List Access = Sets Rxdctl 0 ∷ Sees Rxdctl false ∷ quiet Tx in
+      let driven : AllAre IsDriven off = (refl, (refl, (refl, (refl, (refl, tt))))) in
+      let quieted = all_rise off up.receive.quiet.0 up.receive.mid driven up.receive.quiet.2 in
+      let switched = all_rise (receive_polled true first ++ polled Tx true second) up.both_made new
+      (all_both IsDriven (receive_polled true first) (polled Tx true second) (polled_driven first)
+      (all_polled IsDriven true reads_driven Tx second))
+      up.switched.3 in
+      then_made IsRising up.receive.quiet.0 up.receive.mid new quieted
+      (then_made IsRising up.receive.mid up.ready_made new
+      (prepared_rises Rx size up.receive.mid a up.ready_made up.ready_arena up.receive.ring one up.receive.prepared)
+      (then_made IsRising up.ready_made up.both_made new
+      (prepared_rises Tx size up.ready_made up.ready_arena up.both_made up.both_arena up.transmit.ring two
+      up.transmit.prepared)
+      switched))
+
+  -- such a call writes no register but the queue's
+
+  rising_plain : (e : Event Block) → IsRising e → IsPlain q e
+  rising_plain (event.Write port number word) rises = rises
+  rising_plain e rises = tt
+
+  pub rising_are_plain : (calls : List Call) → Each (λ c. IsRising c.event) calls → Each (λ c. IsPlain q c.event) calls
+  rising_are_plain [] are = tt
+  rising_are_plain (c ∷ calls) are = (rising_plain c.event are.0, rising_are_plain calls are.1)

@@ -1,0 +1,51 @@
+-- A driver whose blocks nobody else lends: no call of its finds the device at fault.
+use Rattle.std.specs.Prelude.{ℕ, IsTrue, IsFalse, List, ◌≡◌, ◌++◌, All}
+use Rattle.dma_arena.specs.Memory.{has_block}
+use Rattle.dma_arena.specs.Numbers.{Numbers, is_own}
+use Rattle.nic_device.specs.State.{State}
+use Rattle.device_lock.specs.Alone.{Blocks}
+use Rattle.device_lock.specs.History.{calls_of}
+use Rattle.device_lock.specs.declared.alone.Watched.{Watched}
+use Rattle.device_lock.specs.declared.entry.Call.{Call}
+use Rattle.device_lock.specs.declared.entry.Entry.{Entry}
+use Rattle.pmd.specs.Apart.{FindsBy}
+use Rattle.pmd.specs.Driver.{WhereUp}
+use Rattle.pmd.specs.Halves.{halves_of}
+use Rattle.pmd_base.specs.declared.fault.PmdFault.TheVariants.{DeviceFault}
+use Rattle.pmd_queue.specs.Named.{AtPort}
+use Rattle.receive_laws.specs.Short.{IsShortFor}
+use Rattle.start_laws.specs.Along.{BeforeLast, IsAlong}
+use Rattle.start_laws.specs.Start.{BeginsWell}
+use Rattle.healthy_laws.specs.Before.{OnlyPassLends}
+use Rattle.pmd_laws.specs.Told.{IsTold, Moment, last}
+
+-- the frames that wait for a queue fit a buffer, and none of these blocks is lent
+pub record IsFresh (queue : ℕ) (own : Blocks) (s : State) : Type 0 where
+  pub short : All (IsShortFor queue) s.waiting
+  pub none : (number : ℕ) → IsTrue (own number) → IsFalse (has_block s.memory number)
+
+-- a call of `rx`, `tx` or `reap` ended with the device at fault, as its clause `finds` tells
+abbrev pub FindsFault : Moment → Moment → Type 0
+FindsFault m n =
+    WhereUp m.driver.rings n.driver.rings
+    (λ r s. FindsBy DeviceFault (is_own r.arena) m.made (halves_of r) n.made)
+
+-- a legal history of a new device that leaves the queue alone. In it the pass made the calls up to this last moment,
+-- and maybe more behind them. Just before the driver's first access frames were short and none of its arena's blocks
+-- was lent; and no other pass lends any of them
+pub record IsToldApart (w : Watched) (fifo : ℕ) (h : List Entry) (q : AtPort) (size : ℕ) (old : List Call) (a : Numbers)
+    (m : Moment) (later : List Moment) (n : Moment) : Type 0 where
+  pub along : IsAlong w fifo h
+  pub told : IsTold q size old a m later
+  pub begins : BeginsWell w fifo h q size old a m.made told.started.0 told.started.2
+  pub fresh : BeforeLast w fifo h told.started.2.receive.quiet.0 (IsFresh w.queue (is_own a))
+  pub others : OnlyPassLends w.pass (is_own a) h
+  pub more : List Call
+  pub made : calls_of w.pass h ≡ n.made ++ more
+
+-- no such history has such a call
+abbrev pub NoCallFindsFault : Type 0
+NoCallFindsFault =
+    (w : Watched) (fifo : ℕ) (h : List Entry) (q : AtPort) (size : ℕ) (old : List Call) (a : Numbers) (m : Moment)
+    (later : List Moment) (n : Moment) → FindsFault (last m later) n →
+    ¬ IsToldApart w fifo h q size old a m later n

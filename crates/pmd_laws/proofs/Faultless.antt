@@ -29,7 +29,7 @@ use Rattle.pmd_laws.proofs.RunsOn.{RunsOn, open_size, up_next}
 use Rattle.pmd_laws.proofs.Told.{first, runs}
 
 -- calls that lead to such a call are part of it
-found_on : (own : Blocks) (old mid new : List Call) (h j : Halves) → DrivesApart own old h mid j
+pub found_on : (own : Blocks) (old mid new : List Call) (h j : Halves) → DrivesApart own old h mid j
     → FindsFault own mid j new → FindsFault own old h new
 found_on own old mid new h j drives f = record {
   mid = f.mid;

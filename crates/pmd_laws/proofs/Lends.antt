@@ -9,9 +9,11 @@ use Rattle.pmd.specs.Halves.{Halves, Receives, halves_of}
 use Rattle.pmd.specs.Life.{Lives}
 use Rattle.pmd.specs.Running.{Running}
 use Rattle.pmd.specs.Started.{AreUp}
+use Rattle.pmd.specs.Starting.{IsReceiveReady, IsTransmitReady}
 use Rattle.pmd.proofs.Apart.{apart_on, receiving_apart}
 use Rattle.pmd.proofs.Whole.{all_exchanged}
 use Rattle.pmd_queue.specs.Named.{AtPort}
+use Rattle.pmd_rx.specs.Receive.{Receive}
 use Rattle.pmd_tx.specs.Sending.{Sender, has_lent}
 use Rattle.pmd_laws.specs.Lends.{LifeLendsApart, first_of}
 use Rattle.pmd_laws.proofs.Begun.{drawn_apart, lent_at_start}
@@ -20,46 +22,54 @@ never : (b : Bool) → (b ≡ true → ⊥) → b ≡ false
 never true not = absurd (not refl)
 never false not = refl
 
+-- as both rings came up: the arena keeps its numbers, and what is free then the receive half may lend
+module _ (q : AtPort) (size : ℕ) (old : List Call) (a : Numbers) (ready_made : List Call) (ready_arena : Numbers)
+    (both_made : List Call) (both_arena : Numbers) (v : Receive) (t : Sender)
+    (receive : IsReceiveReady q size old a ready_made ready_arena v)
+    (transmit : IsTransmitReady q size ready_made ready_arena both_made both_arena t) where
+  ready_own : OwnsSame a ready_arena
+  ready_own n =
+      ap (λ (y : Numbers). is_own y n) receive.prepared.drawn ∙ is_own-with_free a receive.ring false n
+
+  pub both_own : OwnsSame a both_arena
+  both_own n =
+      ap (λ (y : Numbers). is_own y n) transmit.prepared.drawn
+      ∙ is_own-with_free ready_arena transmit.ring false n ∙ ready_own n
+
+  -- what is free then, the transmit ring hasn't lent
+  unlent : (n : ℕ) → is_free both_arena n ≡ true → has_lent t n ≡ false
+  unlent n free =
+      let apart = drawn_apart ready_arena both_arena transmit.ring n transmit.prepared.free transmit.prepared.drawn free
+      in
+      never (has_lent t n)
+      (λ has. apart (sym (lent_at_start q.port transmit.tail transmit.ring size n
+      (subst (λ (v : Sender). has_lent v n ≡ true) transmit.fresh has))))
+
+  pub may : (n : ℕ) → is_free both_arena n ≡ true
+      → MayLend (is_own a) (record { receive = v; transmit = t }) Receives n
+  may n free = (sym (both_own n) ∙ is_own-of_free both_arena n free, unlent n free)
+
 module _ (q : AtPort) (size : ℕ) (old : List Call) (a : Numbers) (new : List Call) (r : Running)
     (x : Lives q size old a new r) where
   abbrev up : AreUp q size old a x.made x.fresh
   up = x.up
 
-  -- the arena keeps its numbers as the rings come up
-
-  ready_own : OwnsSame a up.ready_arena
-  ready_own n =
-      ap (λ (y : Numbers). is_own y n) up.receive.prepared.drawn ∙ is_own-with_free a up.receive.ring false n
-
-  both_own : OwnsSame a up.both_arena
-  both_own n =
-      ap (λ (y : Numbers). is_own y n) up.transmit.prepared.drawn
-      ∙ is_own-with_free up.ready_arena up.transmit.ring false n ∙ ready_own n
+  abbrev first : Halves
+  first = first_of q size old a new r x
 
   pub fresh_own : OwnsSame a x.fresh.arena
   fresh_own n =
       let posts = up.on.filled.2 in
       (all_exchanged up.both_arena [] x.fresh.arena (posts.blocks ++ []) (posts.blocks, posts.drawn, λ k. refl)).owns n
-      ∙ both_own n
-
-  -- what is free then, the transmit ring hasn't lent
-  unlent : (n : ℕ) → is_free up.both_arena n ≡ true → has_lent x.fresh.transmit n ≡ false
-  unlent n free =
-      let apart = drawn_apart up.ready_arena up.both_arena up.transmit.ring n up.transmit.prepared.free
-      up.transmit.prepared.drawn free in
-      never (has_lent x.fresh.transmit n)
-      (λ has. apart (sym (lent_at_start q.port up.transmit.tail up.transmit.ring size n
-      (subst (λ (v : Sender). has_lent v n ≡ true) up.transmit.fresh has))))
-
-  abbrev first : Halves
-  first = first_of q size old a new r x
-
-  may : (n : ℕ) → is_free up.both_arena n ≡ true → MayLend (is_own a) first Receives n
-  may n free = (sym (both_own n) ∙ is_own-of_free up.both_arena n free, unlent n free)
+      ∙ both_own q size old a up.ready_made up.ready_arena up.both_made up.both_arena up.empty x.fresh.transmit
+      up.receive up.transmit n
 
   filled : DrivesApart (is_own a) up.on.mid first x.made (halves_of x.fresh)
   filled =
-      receiving_apart (is_own a) up.both_arena up.on.mid x.made first (halves_of x.fresh) may up.on.plays refl
+      receiving_apart (is_own a) up.both_arena up.on.mid x.made first (halves_of x.fresh)
+      (may q size old a up.ready_made up.ready_arena up.both_made up.both_arena up.empty x.fresh.transmit up.receive
+      up.transmit)
+      up.on.plays refl
 
   all_apart : DrivesApart (is_own a) up.on.mid first new (halves_of r)
   all_apart =

@@ -14,6 +14,7 @@ pub mod Plain
 pub mod RiseCalls
 pub mod RunsOn
 pub mod Silent
+pub mod StartFaultless
 pub mod StopCalls
 pub mod StopParts
 pub mod StopSent

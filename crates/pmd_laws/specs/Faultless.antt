@@ -1,5 +1,5 @@
 -- A driver whose blocks nobody else lends: no call of its finds the device at fault.
-use Rattle.std.specs.Prelude.{ℕ, IsTrue, IsFalse, List, ◌≡◌, ◌++◌, All}
+use Rattle.std.specs.Prelude.{ℕ, true, IsTrue, IsFalse, List, ◌≡◌, ◌≢◌, ◌++◌, All}
 use Rattle.dma_arena.specs.Memory.{has_block}
 use Rattle.dma_arena.specs.Numbers.{Numbers, is_own}
 use Rattle.nic_device.specs.State.{State}
@@ -11,11 +11,16 @@ use Rattle.device_lock.specs.declared.entry.Entry.{Entry}
 use Rattle.pmd.specs.Apart.{FindsBy}
 use Rattle.pmd.specs.Driver.{WhereUp}
 use Rattle.pmd.specs.Halves.{halves_of}
+use Rattle.pmd.specs.Started.{StopsStarting, is_size}
+use Rattle.pmd.specs.declared.start.StartRefused.{StartRefused}
 use Rattle.pmd_base.specs.declared.fault.PmdFault.TheVariants.{DeviceFault}
 use Rattle.pmd_queue.specs.Named.{AtPort}
 use Rattle.receive_laws.specs.Short.{IsShortFor}
 use Rattle.start_laws.specs.Along.{BeforeLast, IsAlong}
+use Rattle.start_laws.specs.Quieting.{IsQuiet}
 use Rattle.start_laws.specs.Start.{BeginsWell}
+use Rattle.begin_laws.specs.Faultless.{BeforeNext}
+use Rattle.begin_laws.specs.Filling.{FaultsEarly, FaultsFilling, LendsFresh}
 use Rattle.healthy_laws.specs.Before.{OnlyPassLends}
 use Rattle.pmd_laws.specs.Told.{IsTold, Moment, last}
 
@@ -49,3 +54,32 @@ NoCallFindsFault =
     (w : Watched) (fifo : ℕ) (h : List Entry) (q : AtPort) (size : ℕ) (old : List Call) (a : Numbers) (m : Moment)
     (later : List Moment) (n : Moment) → FindsFault (last m later) n →
     ¬ IsToldApart w fifo h q size old a m later n
+
+-- both sides of the queue are off, and so it begins
+abbrev pub IsQuietAndFresh : ℕ → AtPort → Blocks → State → Type 0
+IsQuietAndFresh queue q own s = IsQuiet queue q s × IsFresh queue own s
+
+-- such a history, in which a start made these calls, and maybe more came behind them. Just before its first access both
+-- sides were off, frames were short and none of its arena's blocks was lent; and no other pass lends any of them
+pub record BeginsApart (w : Watched) (fifo : ℕ) (h : List Entry) (q : AtPort) (size : ℕ) (old : List Call) (a : Numbers)
+    (new : List Call) : Type 0 where
+  pub along : IsAlong w fifo h
+  pub sized : is_size size ≡ true
+  pub begins : BeforeNext w fifo h old (IsQuietAndFresh w.queue q (is_own a))
+  pub others : OnlyPassLends w.pass (is_own a) h
+  pub more : List Call
+  pub made : calls_of w.pass h ≡ new ++ more
+
+-- no such start ends with the device at fault as it fills its receive ring
+abbrev pub NoFillingFindsFault : Type 0
+NoFillingFindsFault =
+    (w : Watched) (fifo : ℕ) (h : List Entry) (q : AtPort) (size : ℕ) (old : List Call) (a : Numbers)
+    (new : List Call) → FaultsFilling q size old a new → ¬ BeginsApart w fifo h q size old a new
+
+-- nor does it end so amid its events at all, where as a ring's block is lent none of the blocks is that are free then
+abbrev pub NoStartFindsFault : Type 0
+NoStartFindsFault =
+    (w : Watched) (fifo : ℕ) (h : List Entry) (q : AtPort) (size : ℕ) (old : List Call) (a : Numbers)
+    (new : List Call) (e : StartRefused) → BeginsApart w fifo h q size old a new →
+    ((early : FaultsEarly q size old a new) → LendsFresh w fifo h q size old a new early) →
+    StopsStarting q size old a new e → e.fault ≢ DeviceFault

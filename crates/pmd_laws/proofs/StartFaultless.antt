@@ -1,0 +1,97 @@
+-- No start finds the device at fault as it fills its receive ring, nor before.
+use Rattle.std.proofs.Common.{◌≡◌, ℕ, inl, inr, ◌⊎◌, true, false, List, refl, sym, subst}
+use Rattle.dma_arena.specs.Numbers.{Numbers, is_free, is_own}
+use Rattle.device_lock.specs.declared.alone.Watched.{Watched}
+use Rattle.device_lock.specs.declared.entry.Call.{Call}
+use Rattle.device_lock.specs.declared.entry.Entry.{Entry}
+use Rattle.reg_table.specs.declared.rows.RowId.TheVariants.{Rxdctl}
+use Rattle.nic_device.specs.State.{State}
+use Rattle.nic_device.specs.declared.event.Event.TheVariants as event
+use Rattle.nic_device.specs.declared.event.Reply.TheVariants as reply
+use Rattle.device_lock.specs.Pass.{call_of}
+use Rattle.pmd_base.specs.declared.fault.PmdFault.TheVariants.{DeviceFault}
+use Rattle.pmd_queue.specs.Made.{Sees, IsMade}
+use Rattle.pmd_queue.specs.Named.{AtPort}
+use Rattle.pmd_rx.proofs.Earlier.{free_before}
+use Rattle.pmd.specs.Apart.{FindsFault, MayLend}
+use Rattle.pmd.specs.Halves.{Halves, Receives}
+use Rattle.pmd.proofs.Apart.{receiving_apart}
+use Rattle.pmd.proofs.Finding.{wrong_by}
+use Rattle.start_laws.specs.Along.{BeforeLast}
+use Rattle.start_laws.proofs.Parts.{Parts, parts}
+use Rattle.begin_laws.specs.Faultless.{BeforeNext}
+use Rattle.begin_laws.specs.Filling.{FaultsEarly, FaultsFilling, LendsFresh}
+use Rattle.begin_laws.proofs.Filling.{faults_are_early_or_filling, no_fault_is_early}
+use Rattle.healthy_laws.specs.Before.{OnlyPassLends}
+use Rattle.pmd_laws.specs.Faultless.{BeginsApart, IsQuietAndFresh, NoFillingFindsFault, NoStartFindsFault}
+use Rattle.pmd_laws.proofs.Faultless.{found_on, last_before}
+use Rattle.pmd_laws.proofs.Lends.{may}
+use Rattle.pmd_laws.proofs.Looks.{along_before}
+use Rattle.pmd_laws.proofs.NoFault.{no_fault_once_on}
+use Rattle.pmd_laws.proofs.OnlyRings.{others_before}
+
+-- just before the first read
+first_read : (w : Watched) (q : AtPort) (fifo : ℕ) (h : List Entry) (P : State → Type 0) (old new : List Call)
+    → BeforeNext w fifo h old P → IsMade q old new (Sees Rxdctl false) → BeforeLast w fifo h new P
+first_read w q fifo h P old new at (number, word, named, is, (before, added, steps)) =
+    subst (λ (calls : List Call). BeforeLast w fifo h calls P) (sym added)
+    (at before (call_of (event.Read q.port number) (reply.Word word)) steps refl)
+
+module _ (w : Watched) (fifo : ℕ) (h : List Entry) (q : AtPort) (size : ℕ) (old : List Call) (a : Numbers)
+    (new : List Call) (f : FaultsFilling q size old a new) (x : BeginsApart w fifo h q size old a new) where
+  abbrev first : Halves
+  first = record { receive = f.empty; transmit = f.sender }
+
+  abbrev filled : Halves
+  filled = record { receive = f.fails.ring; transmit = f.sender }
+
+  may_first : (n : ℕ) → is_free f.on.both_arena n ≡ true → MayLend (is_own a) first Receives n
+  may_first =
+      may q size old a f.on.ready_made f.on.ready_arena f.on.both_made f.on.both_arena f.empty f.sender f.on.receive
+      f.on.transmit
+
+  -- the slots that were filled, and the call that wasn't answered well
+  found : FindsFault (is_own a) f.mid first new
+  found =
+      found_on (is_own a) f.mid f.fails.mid new first filled
+      (receiving_apart (is_own a) f.on.both_arena f.mid f.fails.mid first filled may_first
+      (record { plays = f.fails.plays; free = f.fails.free }) refl)
+      (wrong_by DeviceFault (is_own a) f.fails.arena f.arena f.fails.mid new filled f.filled
+      (λ n free.
+      may_first n (free_before f.on.both_arena f.fails.posts.blocks f.fails.arena f.fails.posts.drawn n free))
+      f.fails.fails)
+
+  refuted : Parts w.pass h new x.more → ⊥
+  refuted p =
+      let quiet = f.on.receive.quiet in
+      let at = last_before w fifo h p.front p.back quiet.0 (IsQuietAndFresh w.queue q (is_own a)) p.both
+      (first_read w q fifo h (IsQuietAndFresh w.queue q (is_own a)) old quiet.0 x.begins quiet.1) in
+      no_fault_once_on w fifo p.front q size old a f.mid f.empty f.sender f.on
+      (along_before w fifo h p.front p.back p.both x.along) x.sized
+      (λ done more e both own is. (at done more e both own is).0.ground) (is_own a)
+      (λ done more e both own is. (at done more e both own is).1)
+      (others_before w.pass (is_own a) p.front p.back
+      (subst (OnlyPassLends w.pass (is_own a)) (sym p.both) x.others))
+      (subst (FindsFault (is_own a) f.mid first) (sym p.fronts) found)
+
+pub no_filling_finds_fault : NoFillingFindsFault
+no_filling_finds_fault w fifo h q size old a new f x =
+    refuted w fifo h q size old a new f x (parts w.pass h new x.more x.made)
+
+-- nor amid its events at all
+module _ (w : Watched) (fifo : ℕ) (h : List Entry) (q : AtPort) (size : ℕ) (old : List Call) (a : Numbers)
+    (new : List Call) (x : BeginsApart w fifo h q size old a new)
+    (fresh : (early : FaultsEarly q size old a new) → LendsFresh w fifo h q size old a new early) where
+  never_early : FaultsEarly q size old a new → Parts w.pass h new x.more → ⊥
+  never_early early p =
+      no_fault_is_early w q fifo h size old a new x.along
+      (λ before c steps apart done rest e all own is. (x.begins before c steps apart done rest e all own is).0) early
+      (fresh early) p.front p.back p.both p.fronts
+
+  never_at_fault : FaultsEarly q size old a new ⊎ FaultsFilling q size old a new → ⊥
+  never_at_fault (inl early) = never_early early (parts w.pass h new x.more x.made)
+  never_at_fault (inr filling) = no_filling_finds_fault w fifo h q size old a new filling x
+
+pub no_start_finds_fault : NoStartFindsFault
+no_start_finds_fault w fifo h q size old a new e x fresh stops is =
+    never_at_fault w fifo h q size old a new x fresh (faults_are_early_or_filling q size old a new e stops is)

@@ -70,8 +70,9 @@ pub enum Event<B = Buf> {
 impl Event {
     ghost use Rattle.nic_device.specs.Sound.{AreBytes, IsEvent};
 
-    /// Each event is one that a driver can make. It does nothing.
-    pub(crate) fn is_of_a_driver(&self)
+    /// Each event is one that a driver can make: the numbers, words and bytes in it have the ranges of their types, and
+    /// a block that it lends is whole. It does nothing.
+    pub fn is_of_a_driver(&self)
         ensures { IsEvent self.now }
     {
         match self {

@@ -24,7 +24,7 @@ use Rattle.pmd_laws.specs.Told.{Moment, last}
 use Rattle.pmd_laws.proofs.Lends.{fresh_own, life_lends_apart}
 use Rattle.pmd_laws.proofs.Looks.{along_before, begins_before}
 use Rattle.pmd_laws.proofs.NoFault.{no_fault_once_on}
-use Rattle.pmd_laws.proofs.OnlyRings.{others_before}
+use Rattle.pmd_laws.proofs.PassLends.{others_before}
 use Rattle.pmd_laws.proofs.RunsOn.{RunsOn, open_size, up_next}
 use Rattle.pmd_laws.proofs.Told.{first, runs}
 

@@ -10,6 +10,7 @@ pub mod Looks
 pub mod NoFault
 pub mod OnlyRings
 pub mod Order
+pub mod PassLends
 pub mod Plain
 pub mod RiseCalls
 pub mod RunsOn

@@ -28,7 +28,8 @@ use Rattle.healthy_laws.proofs.Faults.{no_fault}
 use Rattle.pmd_laws.specs.Faultless.{IsFresh}
 use Rattle.pmd_laws.proofs.Driven.{driven_by}
 use Rattle.pmd_laws.proofs.FirstHalves.{first_halves, receive_lent, transmit_lent}
-use Rattle.pmd_laws.proofs.OnlyRings.{known_at, others_behind, short_at}
+use Rattle.pmd_laws.proofs.OnlyRings.{known_at, short_at}
+use Rattle.pmd_laws.proofs.PassLends.{others_behind}
 use Rattle.pmd_laws.proofs.RiseCalls.{Rises, on_rises}
 
 -- a call whose reply no healthy queue gives is a half's

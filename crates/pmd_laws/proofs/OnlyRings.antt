@@ -1,7 +1,7 @@
 -- Of an arena's blocks only the rings' are lent as both sides are on, and the frames that wait fit a buffer.
-use Rattle.std.proofs.Common.{◌≡◌, ℕ, ◌≤◌, inl, inr, true, false, List, [], ◌∷◌, ◌++◌, sym, ap, ◌∙◌, subst, append_assoc, arith}
-use Rattle.std.specs.Prelude.{◌==◌, All}
-use Rattle.std.proofs.lemmas.Bool.{and_parts, both_ways, cases_Bool, eq-eqb, or_cases}
+use Rattle.std.proofs.Common.{◌≡◌, ℕ, ◌≤◌, false, List, [], ◌∷◌, ◌++◌, sym, ap, ◌∙◌, subst, append_assoc, arith}
+use Rattle.std.specs.Prelude.{All}
+use Rattle.std.proofs.lemmas.Bool.{both_ways, eq-eqb}
 use Rattle.dma_arena.specs.Block.{Block}
 use Rattle.dma_arena.specs.Numbers.{Numbers}
 use Rattle.reg_table.specs.declared.rows.RowId.TheVariants.{Rxdctl}
@@ -9,10 +9,9 @@ use Rattle.nic_device.specs.State.{State, new_state}
 use Rattle.nic_device.specs.Step.{after}
 use Rattle.nic_device.specs.declared.event.Event.{Event}
 use Rattle.nic_device.specs.declared.event.Event.TheVariants as event
-use Rattle.nic_device.specs.declared.event.Reply.{Reply}
 use Rattle.nic_device.specs.declared.event.Reply.TheVariants as reply
-use Rattle.device_lock.specs.Alone.{Blocks, lends, lent_by, lent_in}
-use Rattle.device_lock.specs.History.{IsLegal, call_in, calls_of, leads_to}
+use Rattle.device_lock.specs.Alone.{Blocks, lent_by}
+use Rattle.device_lock.specs.History.{IsLegal, calls_of, leads_to}
 use Rattle.device_lock.specs.Pass.{call_of}
 use Rattle.device_lock.specs.declared.alone.Watched.{Watched}
 use Rattle.device_lock.specs.declared.entry.Call.{Call}
@@ -25,7 +24,7 @@ use Rattle.pmd_rx.specs.Receive.{Receive}
 use Rattle.pmd_tx.specs.Sending.{Sender}
 use Rattle.receive_laws.specs.Short.{IsShortFor}
 use Rattle.receive_laws.proofs.Delivering.{events_before, events_behind, leads-append, legal_behind}
-use Rattle.receive_laws.proofs.Histories.{calls_own, calls_other}
+use Rattle.receive_laws.proofs.Histories.{calls_own}
 use Rattle.receive_laws.proofs.Short.{frames_stay_short}
 use Rattle.transmit_laws.proofs.LeftSide.{left-setting}
 use Rattle.start_laws.specs.Along.{AtCalls, BeforeLast, IsAlong, IsKept}
@@ -41,50 +40,10 @@ use Rattle.start_laws.proofs.Parts.{around}
 use Rattle.start_laws.proofs.Reached.{reached, state_kept, state_leads}
 use Rattle.pmd_queue.specs.Made.{Sees}
 use Rattle.healthy_laws.specs.Before.{OnlyPassLends}
-use Rattle.healthy_laws.proofs.Before.{lends_is, only_pass_lent}
+use Rattle.healthy_laws.proofs.Before.{only_pass_lent}
 use Rattle.pmd_laws.specs.Faultless.{IsFresh}
 use Rattle.pmd_laws.proofs.RiseCalls.{IsRising, Rises, rising_are_plain}
-
--- what a part of a history lends
-
-pub others_before : (pass : ℕ) (own : Blocks) (g l : List Entry) → OnlyPassLends pass own (g ++ l)
-    → OnlyPassLends pass own g
-others_before pass own [] l none = tt
-others_before pass own (e ∷ g) l none = (none.0, others_before pass own g l none.1)
-
-pub others_behind : (pass : ℕ) (own : Blocks) (g l : List Entry) → OnlyPassLends pass own (g ++ l)
-    → OnlyPassLends pass own l
-others_behind pass own [] l none = none
-others_behind pass own (e ∷ g) l none = others_behind pass own g l none.1
-
--- a pass lends what its calls do
-
-lends_lent : (q : AtPort) (lent : Blocks) (e : Event Block) (r : Reply Block) (n : ℕ) → IsRising q lent e
-    → lends e r n ≡ true → lent n ≡ true
-lends_lent q lent (event.Lend block) r n own is = subst (λ (k : ℕ). lent k ≡ true) (lends_is block r n is) own
-lends_lent q lent e r n own is = cc
-
-lent_is : (q : AtPort) (lent : Blocks) (pass : ℕ) (es : List Entry)
-    → Each (λ c. IsRising q lent c.event) (calls_of pass es) → (n : ℕ) → lent_by pass es n ≡ true → lent n ≡ true
-lent_is q lent pass [] are n is = cc
-lent_is q lent pass (e ∷ es) are n is = elim (cases_Bool (e.pass == pass)) as (λ _. lent n ≡ true) [
-  | inl own ↦
-      let each : Each (λ c. IsRising q lent c.event) (call_in e ∷ calls_of pass es) =
-      subst (Each (λ c. IsRising q lent c.event)) (calls_own pass e es own) are in
-      elim (or_cases (lent_in pass e n) (lent_by pass es n) is) [
-        | inl here ↦
-            let mine = (and_parts _ _ here).1 in
-            lends_lent q lent e.event e.reply n each.0 (and_parts _ _ mine).1
-        | inr later ↦ lent_is q lent pass es each.1 n later
-      ]
-  | inr other ↦
-      let each : Each (λ c. IsRising q lent c.event) (calls_of pass es) =
-      subst (Each (λ c. IsRising q lent c.event)) (calls_other pass e es other) are in
-      elim (or_cases (lent_in pass e n) (lent_by pass es n) is) [
-        | inl here ↦ absurd (both_ways _ other (and_parts _ _ (and_parts _ _ here).1).0)
-        | inr later ↦ lent_is q lent pass es each n later
-      ]
-]
+use Rattle.pmd_laws.proofs.PassLends.{lent_is, others_before, others_behind}
 
 module _ (w : Watched) (fifo : ℕ) (h : List Entry) (q : AtPort) (size : ℕ) (old : List Call) (a : Numbers)
     (new : List Call) (v : Receive) (t : Sender) (up : AreOn q size old a new v t) (along : IsAlong w fifo h)

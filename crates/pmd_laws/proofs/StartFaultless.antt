@@ -28,7 +28,7 @@ use Rattle.pmd_laws.proofs.Faultless.{found_on, last_before}
 use Rattle.pmd_laws.proofs.Lends.{may}
 use Rattle.pmd_laws.proofs.Looks.{along_before}
 use Rattle.pmd_laws.proofs.NoFault.{no_fault_once_on}
-use Rattle.pmd_laws.proofs.OnlyRings.{others_before}
+use Rattle.pmd_laws.proofs.PassLends.{others_before}
 
 -- just before the first read
 first_read : (w : Watched) (q : AtPort) (fifo : ℕ) (h : List Entry) (P : State → Type 0) (old new : List Call)

@@ -105,5 +105,7 @@ module _ (w : Watched) (mine : Blocks) (mode : Mode) (e : Entry) (es : List Entr
 pub harmless_leave_alone : HarmlessLeaveAlone
 harmless_leave_alone w mine mode doers [] harmless = tt
 harmless_leave_alone w mine mode doers (e ∷ es) harmless =
-    let here = one_call w mine mode e es doers (e.pass == w.pass) refl harmless in
-    (here.0, harmless_leave_alone w mine (mode_after w.vfs mode e.event) (doers_after (e.pass == w.pass) doers) es here.1)
+    let here = one_call w mine mode e es doers (e.pass == w.pass) refl harmless in (
+      here.0,
+      harmless_leave_alone w mine (mode_after w.vfs mode e.event) (doers_after (e.pass == w.pass) doers) es here.1,
+    )

@@ -42,8 +42,8 @@ pub fn enable_words_keep_the_agreement()
 
 /// Calls that write no register and lend, take and poke no block leave every queue alone, and both halves as they are:
 /// the steps of the device that the ways to a device make before the driver's calls, as these say of them, and those
-/// that the driver's own author makes through the same pass, such as the arrival of a frame. So nothing more is asked of
-/// a pass whose calls that are neither half's are such.
+/// that the driver's own author makes through the same pass, such as the arrival of a frame. So nothing more is asked
+/// of a pass whose calls that are neither half's are such.
 pub fn harmless_calls_leave_the_queue_alone()
     ensures driven { DrivesLead }
     ensures harmless { HarmlessLead }

@@ -32,7 +32,8 @@ parts-more byte ([] ∷ []) line behind is = cc
 parts-more byte ((next ∷ part) ∷ []) line behind is =
     let only = rw (is_some next part) at is in (
       byte ∷ next ∷ part,
-      rw (is_some byte (next ∷ part)) (let same : (byte ∷ next ∷ part) ∷ [] ≡ (byte ∷ next ∷ part) ∷ behind = cc in same),
+      rw (is_some byte (next ∷ part))
+          (let same : (byte ∷ next ∷ part) ∷ [] ≡ (byte ∷ next ∷ part) ∷ behind = cc in same),
     )
 parts-more byte (part ∷ second ∷ parts) line behind is = (
   strip_carriage_return (byte ∷ part),

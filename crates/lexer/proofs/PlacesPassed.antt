@@ -87,7 +87,8 @@ past-front (byte ∷ more) back ends stays =
     let all = passes 0 byte more back stays ends in
     let first = (all.follows.blanks refl).first in
     subst (λ n. PastWordless n (lines (byte ∷ more ++ back)) (lines back)) (sym all.counted)
-    (past-one all.count (lines (byte ∷ more ++ back)) all.behind (lines back) first.line first.is_first first.has all.past)
+    (past-one all.count (lines (byte ∷ more ++ back)) all.behind (lines back) first.line first.is_first first.has
+    all.past)
 
 EndsLine-suc : (text : List ℕ) (n : ℕ) → n < length text → get_or text n 0 ≡ 10 → EndsLine (take (suc n) text)
 EndsLine-suc [] n inside feed = absurd (omega arith)

@@ -105,7 +105,8 @@ module _ (w : Watched) (fifo : ℕ) (h : List Entry) (q : AtPort) (size : ℕ) (
         record {
           driven =
               driven_by w fifo h q size old a on v t up along sized well all p doers
-              (own_all own on first (calls_of w.pass h) f) (others_harmless doers all (others_step own on first (calls_of w.pass h) f));
+              (own_all own on first (calls_of w.pass h) f)
+              (others_harmless doers all (others_step own on first (calls_of w.pass h) f));
           short = record {
             limit = subst (λ (n : ℕ). n ≤ 2048) (sym short.0.limit) (omega arith);
             waiting = short.1;

@@ -107,17 +107,19 @@ module _ (q : AtPort) where
   write_plain v m port number word own harmless at = absurd own
 
   transmit_plain : (v : Sender) (m : Move) (e : Event Block) → sending.IsOwn v m e
-      → (IsTrue (is_neither (Sends m)) → IsTrue (is_harmless e)) → NamesDriven q v.layout.port v.layout.tail → IsPlain q e
+      → (IsTrue (is_neither (Sends m)) → IsTrue (is_harmless e)) → NamesDriven q v.layout.port v.layout.tail
+      → IsPlain q e
   transmit_plain v m (event.Write port number word) own harmless at = write_plain v m port number word own harmless at
   transmit_plain v m e own harmless at = tt
 
-  own_plain : (k : Halves) (d : Doer) (c : Call) → OwnCall k d c → (IsTrue (is_neither d) → IsTrue (is_harmless c.event))
+  own_plain : (k : Halves) (d : Doer) (c : Call) → OwnCall k d c
+      → (IsTrue (is_neither d) → IsTrue (is_harmless c.event))
       → ArePlaced k → IsPlain q c.event
   own_plain k Receives c own harmless x = receive_plain k.receive c.event own x.receive
   own_plain k (Sends m) c own harmless x = transmit_plain k.transmit m c.event own harmless x.transmit
 
-  pub all_plain : (k : Halves) (doers : List Doer) (calls : List Call) → AllOwn k doers calls → OthersHarmless doers calls
-      → ArePlaced k → Each (λ c. IsPlain q c.event) calls
+  pub all_plain : (k : Halves) (doers : List Doer) (calls : List Call) → AllOwn k doers calls
+      → OthersHarmless doers calls → ArePlaced k → Each (λ c. IsPlain q c.event) calls
   all_plain k [] [] own harmless x = tt
   all_plain k [] (c ∷ cs) own harmless x = absurd own
   all_plain k (d ∷ doers) [] own harmless x = absurd own

@@ -32,7 +32,7 @@ module _ (w : Watched) (fifo : ℕ) (h : List Entry) (along : IsAlong w fifo h) 
       sym (append_assoc x.before (x.entry ∷ x.behind) rest) ∙ ap (λ (l : List Entry). l ++ rest) x.all ∙ all in
       let before : P s = at x.before (x.behind ++ rest) x.entry whole x.own (λ i. x.made i ++ x.call i ∷ []) in
       let legal : IsLegal new (x.before ++ x.entry ∷ (x.behind ++ rest)) =
-          subst (IsLegal new) (sym whole) along.legal in
+      subst (IsLegal new) (sym whole) along.legal in
       let told : x.entry.reply ≡ reply_to s x.entry.event =
       (legal_behind new x.before (x.entry ∷ (x.behind ++ rest)) legal).0 in
       refutes s before (subst (λ (n : Call). n.reply ≡ reply_to s n.event) x.call told)

@@ -50,7 +50,7 @@ holds_place byte entry place has is =
     let low = and_parts (holds byte entry 0) (holds byte entry 8) all.0 in
     let high = and_parts (holds byte entry 16) (holds byte entry 24) all.1 in
     let at : (other : ℕ) → place ≡ other → holds byte entry other ≡ true
-        → entry / 2 ^ place % 32 ≡ next_place place byte =
+    → entry / 2 ^ place % 32 ≡ next_place place byte =
     λ other same held. subst (λ p. entry / 2 ^ p % 32 ≡ next_place p byte) (sym same)
     (eqb-true (entry / 2 ^ other % 32) (next_place other byte) held) in
     elim (eqb_tells place 0) [

@@ -84,49 +84,49 @@ module _ (w : Watched) (fifo : ℕ) (h : List Entry) (q : AtPort) (size : ℕ) (
   }
 
   module _ (early more : List Entry) (all : early ++ more ≡ late) (is : AddsHarmless made (calls_of w.pass early))
-      where
-    abbrev lived_early : IsLived w fifo early q size old a started r k
-    lived_early =
-        let rest = x.look.entry ∷ x.look.behind in
-        lived_before w fifo h early (more ++ rest)
-        (sym (append_assoc early more rest) ∙ ap (λ (l : List Entry). l ++ rest) all ∙ x.look.all) q size old a started
-        r made (calls_of w.pass early) k k x.life x.along x.begins
-        (leads_on started made (calls_of w.pass early) (halves_of r) k k x.life.since
-        (harmless_lead made (calls_of w.pass early) k is)) refl
+    where
+      abbrev lived_early : IsLived w fifo early q size old a started r k
+      lived_early =
+          let rest = x.look.entry ∷ x.look.behind in
+          lived_before w fifo h early (more ++ rest)
+          (sym (append_assoc early more rest) ∙ ap (λ (l : List Entry). l ++ rest) all ∙ x.look.all) q size old a started
+          r made (calls_of w.pass early) k k x.life x.along x.begins
+          (leads_on started made (calls_of w.pass early) (halves_of r) k k x.life.since
+          (harmless_lead made (calls_of w.pass early) k is)) refl
 
-    p : Parts w.pass early x.life.up.on.mid (order.whole w fifo early q size old a started r k lived_early).1
-    p = in_parts w fifo early q size old a started r k lived_early
+      p : Parts w.pass early x.life.up.on.mid (order.whole w fifo early q size old a started r k lived_early).1
+      p = in_parts w fifo early q size old a started r k lived_early
 
-    abbrev calls : List Call
-    calls = (order.whole w fifo late q size old a started r then lived_then).1
+      abbrev calls : List Call
+      calls = (order.whole w fifo late q size old a started r then lived_then).1
 
-    both : p.front ++ (p.back ++ more) ≡ late
-    both = sym (append_assoc p.front p.back more) ∙ ap (λ (l : List Entry). l ++ more) p.both ∙ all
+      both : p.front ++ (p.back ++ more) ≡ late
+      both = sym (append_assoc p.front p.back more) ∙ ap (λ (l : List Entry). l ++ more) p.both ∙ all
 
-    abbrev p_then : Parts w.pass late x.life.up.on.mid calls
-    p_then = record {
-      front = p.front;
-      back = p.back ++ more;
-      both = both;
-      fronts = p.fronts;
-      backs =
-          append_cancel_left x.life.up.on.mid (calls_of w.pass (p.back ++ more)) calls
-          (ap (λ (l : List Call). l ++ calls_of w.pass (p.back ++ more)) (sym p.fronts)
-          ∙ sym (calls_joined w.pass p.front (p.back ++ more)) ∙ ap (calls_of w.pass) both
-          ∙ (order.whole w fifo late q size old a started r then lived_then).2);
-    }
+      abbrev p_then : Parts w.pass late x.life.up.on.mid calls
+      p_then = record {
+        front = p.front;
+        back = p.back ++ more;
+        both = both;
+        fronts = p.fronts;
+        backs =
+            append_cancel_left x.life.up.on.mid (calls_of w.pass (p.back ++ more)) calls
+            (ap (λ (l : List Call). l ++ calls_of w.pass (p.back ++ more)) (sym p.fronts)
+            ∙ sym (calls_joined w.pass p.front (p.back ++ more)) ∙ ap (calls_of w.pass) both
+            ∙ (order.whole w fifo late q size old a started r then lived_then).2);
+      }
 
-    not_all : bytes_of k.transmit.accepted ≢ sent_since w.queue new [] early
-    not_all same =
-        let last = order.last w fifo late q size old a started r then lived_then p_then in
-        waiting_is_not_all w fifo p.front p.back more
-        (order.first w fifo late q size old a started r then lived_then)
-        (order.whole w fifo late q size old a started r then lived_then).0
-        (order.driven w fifo late q size old a started r then lived_then p_then)
-        (subst (λ (z : Halves). FindsWaiting (leads_to new (p.front ++ (p.back ++ more))) z.transmit) (sym last)
-        (subst (λ (l : List Entry). FindsWaiting (leads_to new l) sender) (sym both) finds))
-        (ap (λ (z : Halves). bytes_of z.transmit.accepted) last ∙ ap bytes_of x.looks.accepted ∙ same
-        ∙ order.counted w fifo early q size old a started r k lived_early p)
+      not_all : bytes_of k.transmit.accepted ≢ sent_since w.queue new [] early
+      not_all same =
+          let last = order.last w fifo late q size old a started r then lived_then p_then in
+          waiting_is_not_all w fifo p.front p.back more
+          (order.first w fifo late q size old a started r then lived_then)
+          (order.whole w fifo late q size old a started r then lived_then).0
+          (order.driven w fifo late q size old a started r then lived_then p_then)
+          (subst (λ (z : Halves). FindsWaiting (leads_to new (p.front ++ (p.back ++ more))) z.transmit) (sym last)
+          (subst (λ (l : List Entry). FindsWaiting (leads_to new l) sender) (sym both) finds))
+          (ap (λ (z : Halves). bytes_of z.transmit.accepted) last ∙ ap bytes_of x.looks.accepted ∙ same
+          ∙ order.counted w fifo early q size old a started r k lived_early p)
 
 pub waiting_before_look : WaitingIsNotAllBefore
 waiting_before_look = not_all

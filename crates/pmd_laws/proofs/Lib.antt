@@ -5,12 +5,15 @@ pub mod Ends
 pub mod Faultless
 pub mod FirstHalves
 pub mod HandedOn
+pub mod Held
+pub mod KnownAlong
 pub mod Lends
 pub mod Looks
 pub mod NoFault
 pub mod OnlyRings
 pub mod Order
 pub mod PassLends
+pub mod Places
 pub mod Plain
 pub mod RiseCalls
 pub mod RunsOn

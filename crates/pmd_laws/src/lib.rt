@@ -13,6 +13,7 @@ ghost use Rattle.pmd_laws.specs.Faultless.{NoCallFindsFault, NoFillingFindsFault
 ghost use Rattle.pmd_laws.specs.Lends.{LifeLendsApart};
 ghost use Rattle.pmd_laws.specs.Looks.{CallsEnd, NoneIsAllBefore};
 ghost use Rattle.pmd_laws.specs.Order.{HandedIsPrefix, NoneIsAll, SentIsPrefix, IdleIsAllSent};
+ghost use Rattle.pmd_laws.specs.Places.{LentIsOut, OutIsLent};
 ghost use Rattle.pmd_laws.specs.Silent.{SilentOnceOff, SilentOverStop};
 ghost use Rattle.pmd_laws.specs.Stopped as stopped;
 ghost use Rattle.pmd_laws.specs.Told as told;
@@ -48,6 +49,14 @@ pub fn no_call_finds_the_device_at_fault()
 pub fn no_start_finds_the_device_at_fault()
     ensures filling { NoFillingFindsFault }
     ensures amid { NoStartFindsFault }
+{}
+
+/// Over a legal history of a new device that leaves the queue alone, where a `start` answered a driver and its calls
+/// came since: each block that the driver has out with a half is lent at the device. Where no block of its arena was
+/// lent just before its first access, and no other pass lends any, each that is lent there is out with a half.
+pub fn blocks_out_are_lent_at_the_device()
+    ensures lent { OutIsLent }
+    ensures known { LentIsOut }
 {}
 
 /// Where a pass made some calls, and maybe more behind them, an entry of the history is the last of these.

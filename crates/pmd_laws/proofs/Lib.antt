@@ -10,6 +10,7 @@ pub mod KnownAlong
 pub mod Lends
 pub mod Looks
 pub mod NoFault
+pub mod OnePlace
 pub mod OnlyRings
 pub mod Order
 pub mod PassLends

@@ -13,7 +13,7 @@ ghost use Rattle.pmd_laws.specs.Faultless.{NoCallFindsFault, NoFillingFindsFault
 ghost use Rattle.pmd_laws.specs.Lends.{LifeLendsApart};
 ghost use Rattle.pmd_laws.specs.Looks.{CallsEnd, NoneIsAllBefore};
 ghost use Rattle.pmd_laws.specs.Order.{HandedIsPrefix, NoneIsAll, SentIsPrefix, IdleIsAllSent};
-ghost use Rattle.pmd_laws.specs.Places.{LentIsOut, OutIsLent};
+ghost use Rattle.pmd_laws.specs.Places.{EachInOnePlace, LentIsOut, OutIsLent};
 ghost use Rattle.pmd_laws.specs.Silent.{SilentOnceOff, SilentOverStop};
 ghost use Rattle.pmd_laws.specs.Stopped as stopped;
 ghost use Rattle.pmd_laws.specs.Told as told;
@@ -57,6 +57,7 @@ pub fn no_start_finds_the_device_at_fault()
 pub fn blocks_out_are_lent_at_the_device()
     ensures lent { OutIsLent }
     ensures known { LentIsOut }
+    ensures once { EachInOnePlace }
 {}
 
 /// Where a pass made some calls, and maybe more behind them, an entry of the history is the last of these.

@@ -6,6 +6,7 @@ pub mod Faultless
 pub mod FirstHalves
 pub mod HandedOn
 pub mod Lends
+pub mod LentSince
 pub mod Looks
 pub mod NoFault
 pub mod OnlyRings
@@ -16,6 +17,7 @@ pub mod RiseCalls
 pub mod RunsOn
 pub mod Silent
 pub mod StartFaultless
+pub mod StartLends
 pub mod StopCalls
 pub mod StopParts
 pub mod StopSent

@@ -14,6 +14,7 @@ pub mod PassLends
 pub mod Plain
 pub mod RiseCalls
 pub mod RunsOn
+pub mod SickCall
 pub mod Silent
 pub mod StartFaultless
 pub mod StopCalls

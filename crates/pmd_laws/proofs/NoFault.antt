@@ -2,7 +2,6 @@
 use Rattle.std.proofs.Common.{◌≡◌, ◌≤◌, ℕ, true, List, ◌++◌, refl, sym, ap, ◌∙◌, subst, append_assoc, arith}
 use Rattle.std.proofs.lemmas.List.{append_cancel_left}
 use Rattle.dma_arena.specs.Numbers.{Numbers}
-use Rattle.nic_device.specs.State.{State, new_state}
 use Rattle.device_lock.specs.Alone.{Blocks}
 use Rattle.device_lock.specs.History.{calls_of}
 use Rattle.device_lock.specs.declared.alone.Watched.{Watched}
@@ -40,9 +39,6 @@ module _ (w : Watched) (fifo : ℕ) (h : List Entry) (q : AtPort) (size : ℕ) (
     (sized : is_size size ≡ true) (well : BeforeLast w fifo h up.receive.quiet.0 (HasGround w.queue q)) (own : Blocks)
     (fresh : BeforeLast w fifo h up.receive.quiet.0 (IsFresh w.queue own)) (others : OnlyPassLends w.pass own h)
   where
-    abbrev start : State
-    start = new_state w.vfs fifo
-
     abbrev first : Halves
     first = first_halves q size old a on v t up
 

@@ -15,6 +15,7 @@ pub mod PassLends
 pub mod Plain
 pub mod RiseCalls
 pub mod RunsOn
+pub mod SickCall
 pub mod Silent
 pub mod StartFaultless
 pub mod StartLends

@@ -8,6 +8,7 @@ use Rattle.nic_device.specs.declared.event.Event.{Event}
 use Rattle.nic_device.specs.declared.event.Event.TheVariants as event
 use Rattle.device_lock.specs.Alone.{Blocks, LeavesBlocks, LeavesRegisters, mode_after}
 use Rattle.device_lock.specs.History.{call_in, calls_of}
+use Rattle.device_lock.specs.Pass.{call_of}
 use Rattle.device_lock.specs.declared.alone.Watched.{Watched}
 use Rattle.device_lock.specs.declared.entry.Call.{Call}
 use Rattle.device_lock.specs.declared.entry.Entry.{Entry}
@@ -16,7 +17,7 @@ use Rattle.pmd_base.specs.Made.{AreSteps}
 use Rattle.pmd.specs.Halves.{AllOwn, Doer, OthersStep, doers_other, is_neither, played_by}
 use Rattle.pmd.proofs.Calls.{both_own, both_played, others_own, others_played, own_length}
 use Rattle.receive_laws.proofs.Histories.{calls_own, calls_other}
-use Rattle.driver_laws.specs.Beside.{AreHarmless, DrivesLead, HarmlessLead, HarmlessLeaveAlone, LeadsOn, OthersHarmless, is_harmless}
+use Rattle.driver_laws.specs.Beside.{AreHarmless, CallsAddHarmless, DrivesLead, HarmlessLead, HarmlessLeaveAlone, LeadsOn, OthersHarmless, StepsAddHarmless, is_harmless}
 use Rattle.driver_laws.specs.Histories.{doer_of, doers_after}
 
 -- steps of the device are harmless
@@ -32,29 +33,47 @@ pub steps_harmless : (calls : List Call) → AreSteps calls → AreHarmless call
 steps_harmless [] steps = tt
 steps_harmless (c ∷ calls) steps = (step_harmless c.event steps.0, steps_harmless calls steps.1)
 
+pub steps_add_harmless : StepsAddHarmless
+steps_add_harmless old new (before, made, steps) = (before, made, steps_harmless before steps)
+
+-- and so is a harmless call behind them
+last_harmless : (calls : List Call) (c : Call) → AreHarmless calls → IsTrue (is_harmless c.event)
+    → AreHarmless (calls ++ c ∷ [])
+last_harmless [] c harmless is = (is, tt)
+last_harmless (d ∷ calls) c harmless is = (harmless.0, last_harmless calls c harmless.1 is)
+
+pub calls_add_harmless : CallsAddHarmless
+calls_add_harmless old new e reply (before, made, steps) is = (
+  before ++ call_of e reply ∷ [],
+  made,
+  last_harmless before (call_of e reply) (steps_harmless before steps) is,
+)
+
+-- the calls of a driver that drives
+
 pub others_harmless : (doers : List Doer) (calls : List Call) → OthersStep doers calls → OthersHarmless doers calls
 others_harmless [] calls steps = steps_harmless calls steps
 others_harmless (d ∷ doers) [] steps = tt
 others_harmless (d ∷ doers) (c ∷ calls) steps =
     (λ neither. step_harmless c.event (steps.0 neither), others_harmless doers calls steps.1)
 
-pub drives_lead : DrivesLead
+unfoldable pub drives_lead : DrivesLead
 drives_lead old new h k (doers, since, made, own, is, steps) =
     (doers, since, made, own, is, others_harmless doers since steps)
 
 -- harmless calls by themselves
 
-marked : (calls : List Call) → AreHarmless calls → OthersHarmless (doers_other calls) calls
+pub marked : (calls : List Call) → AreHarmless calls → OthersHarmless (doers_other calls) calls
 marked [] harmless = tt
 marked (c ∷ calls) harmless = (λ neither. harmless.0, marked calls harmless.1)
 
-pub harmless_lead : HarmlessLead
+unfoldable pub harmless_lead : HarmlessLead
 harmless_lead old new h (more, made, harmless) =
     (doers_other more, more, made, others_own h more, others_played h more, marked more harmless)
 
 -- one after another
 
-harmless_both : (ds es : List Doer) (ms ns : List Call) → length ds ≡ length ms → OthersHarmless ds ms
+pub harmless_both : (ds es : List Doer) (ms ns : List Call) → length ds ≡ length ms → OthersHarmless ds ms
     → OthersHarmless es ns → OthersHarmless (ds ++ es) (ms ++ ns)
 harmless_both [] es [] ns long first then = then
 harmless_both [] es (m ∷ ms) ns long first then = absurd (omega (arith, long))
@@ -62,7 +81,7 @@ harmless_both (d ∷ ds) es [] ns long first then = absurd (omega (arith, long))
 harmless_both (d ∷ ds) es (m ∷ ms) ns long first then =
     (first.0, harmless_both ds es ms ns (omega (arith, long)) first.1 then)
 
-pub leads_on : LeadsOn
+unfoldable pub leads_on : LeadsOn
 leads_on old mid new h j k (ds, ms, made, own, is, harmless) (es, ns, more, then, was, others) =
     let here : AllOwn (played_by h ds ms) es ns = subst (λ x. AllOwn x es ns) is then in (
       ds ++ es,

@@ -4,6 +4,7 @@ pub mod Each
 pub mod Enabling
 pub mod Entries
 pub mod InOrder
+pub mod LeadsApart
 pub mod Led
 pub mod Lending
 pub mod Meeting

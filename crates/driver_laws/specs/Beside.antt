@@ -4,11 +4,13 @@ use Rattle.dma_arena.specs.Block.{Block}
 use Rattle.vf_map.specs.declared.mode.Mode.{Mode}
 use Rattle.nic_device.specs.declared.event.Event.{Event}
 use Rattle.nic_device.specs.declared.event.Event.TheVariants as event
+use Rattle.nic_device.specs.declared.event.Reply.{Reply}
 use Rattle.device_lock.specs.Alone.{Blocks}
 use Rattle.device_lock.specs.History.{calls_of}
 use Rattle.device_lock.specs.declared.alone.Watched.{Watched}
 use Rattle.device_lock.specs.declared.entry.Call.{Call}
 use Rattle.device_lock.specs.declared.entry.Entry.{Entry}
+use Rattle.pmd_base.specs.Made.{Adds, AddsSome}
 use Rattle.pmd.specs.Halves.{AllOwn, Doer, Drives, Halves, is_neither, played_by}
 use Rattle.driver_laws.specs.Histories.{OthersLeaveAlone}
 
@@ -37,6 +39,16 @@ AreHarmless (c ∷ calls) = IsTrue (is_harmless c.event) × AreHarmless calls
 -- some such calls were made
 abbrev pub AddsHarmless : List Call → List Call → Type 0
 AddsHarmless old new = (more : List Call) × (new ≡ old ++ more) × AreHarmless more
+
+-- a call of a harmless event through a way to a device, as the clause `made` of that way tells, adds such calls alone;
+-- and so does one that was refused, as its clause `refused` tells
+abbrev pub CallsAddHarmless : Type 0
+CallsAddHarmless =
+    (old new : List Call) (e : Event Block) (reply : Reply Block) → Adds old new e reply → IsTrue (is_harmless e) →
+    AddsHarmless old new
+
+abbrev pub StepsAddHarmless : Type 0
+StepsAddHarmless = (old new : List Call) → AddsSome old new → AddsHarmless old new
 
 -- the calls that are neither half's are such. Those behind the last doer are neither's
 abbrev pub OthersHarmless : List Doer → List Call → Type 0

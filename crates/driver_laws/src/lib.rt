@@ -5,6 +5,7 @@
 //! what a history is that leaves the driver's queue alone.
 #![tactic(auto)]
 
+ghost use Rattle.driver_laws.specs.Beside.{CallsAddHarmless, StepsAddHarmless};
 ghost use Rattle.driver_laws.specs.Beside.{DrivesLead, HarmlessLead, LeadsOn, HarmlessLeaveAlone};
 ghost use Rattle.driver_laws.specs.Enabling.{EnableWordsKeep};
 ghost use Rattle.pmd.specs.Halves.{ReceivingDrives, SendingDrives, OthersDrive, DrivesOn};
@@ -43,8 +44,11 @@ pub fn enable_words_keep_the_agreement()
 /// Calls that write no register and lend, take and poke no block leave every queue alone, and both halves as they are:
 /// the steps of the device that the ways to a device make before the driver's calls, as these say of them, and those
 /// that the driver's own author makes through the same pass, such as the arrival of a frame. So nothing more is asked
-/// of a pass whose calls that are neither half's are such.
+/// of a pass whose calls that are neither half's are such. A call through a way to a device adds such calls alone where
+/// its event is such, or where it is refused.
 pub fn harmless_calls_leave_the_queue_alone()
+    ensures called { CallsAddHarmless }
+    ensures refused { StepsAddHarmless }
     ensures driven { DrivesLead }
     ensures harmless { HarmlessLead }
     ensures on { LeadsOn }

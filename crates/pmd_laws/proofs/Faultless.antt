@@ -8,7 +8,6 @@ use Rattle.device_lock.specs.declared.entry.Call.{Call}
 use Rattle.device_lock.specs.declared.entry.Entry.{Entry}
 use Rattle.pmd.specs.Apart.{DrivesApart, FindsFault}
 use Rattle.pmd.specs.Halves.{Halves, halves_of}
-use Rattle.pmd.specs.Life.{Lives}
 use Rattle.pmd.specs.Running.{Running}
 use Rattle.pmd.specs.Started.{is_size}
 use Rattle.pmd.proofs.Apart.{apart_on}
@@ -19,11 +18,10 @@ use Rattle.start_laws.proofs.Start.{on}
 use Rattle.healthy_laws.specs.Before.{OnlyPassLends}
 use Rattle.pmd_laws.specs.Faultless as faultless
 use Rattle.pmd_laws.specs.Faultless.{IsFresh, IsToldApart, NoCallFindsFault}
-use Rattle.pmd_laws.specs.Lends.{first_of}
 use Rattle.pmd_laws.specs.Told.{Moment, last}
-use Rattle.pmd_laws.proofs.Lends.{fresh_own, life_lends_apart}
+use Rattle.pmd_laws.proofs.LedApart.{led, owns_still}
 use Rattle.pmd_laws.proofs.Looks.{along_before, begins_before}
-use Rattle.pmd_laws.proofs.NoFault.{no_fault_once_on}
+use Rattle.pmd_laws.proofs.NoFault.{no_fault_led_on}
 use Rattle.pmd_laws.proofs.PassLends.{others_before}
 use Rattle.pmd_laws.proofs.RunsOn.{RunsOn, open_size, up_next}
 use Rattle.pmd_laws.proofs.Told.{first, runs}
@@ -57,34 +55,29 @@ module _ (w : Watched) (fifo : ℕ) (h : List Entry) (q : AtPort) (size : ℕ) (
   abbrev fresh : Running
   fresh = first q size old a m later x.told
 
-  goes : RunsOn m fresh (last m later)
+  abbrev goes : RunsOn m fresh (last m later)
   goes = runs q size old a m later x.told
 
-  abbrev lives : Lives q size old a (last m later).made goes.rings
-  lives = record { made = m.made; fresh = fresh; up = x.told.started.2; drives = goes.drives }
+  abbrev there : Halves
+  there = halves_of goes.rings
 
-  abbrev begins : Halves
-  begins = first_of q size old a (last m later).made goes.rings lives
-
-  -- the call, from where both sides were on
-  found : FindsFault (is_own a) x.told.started.2.on.mid begins n.made
+  found : FindsFault (is_own a) (last m later).made there n.made
   found =
       let (s, after, f) = up_next _ (last m later).driver.rings n.driver.rings goes.rings goes.up finds in
-      found_on (is_own a) x.told.started.2.on.mid (last m later).made n.made begins (halves_of goes.rings)
-      (life_lends_apart q size old a (last m later).made goes.rings lives)
-      (subst (λ (own : Blocks). FindsFault own (last m later).made (halves_of goes.rings) n.made)
-      (λ i k. (goes.drives.owns k ∙ fresh_own q size old a (last m later).made goes.rings lives k) i) f)
+      subst (λ (own : Blocks). FindsFault own (last m later).made there n.made)
+      (λ i k. owns_still q size old a m later x.told k i) f
 
   refuted : Parts w.pass h n.made x.more → ⊥
   refuted p =
       let along = along_before w fifo h p.front p.back p.both x.along in
       let sized = open_size size a old m.made m.driver (is_size size) _ x.told.shut in
       let well = begins_before w fifo h p.front p.back p.both q size old a m.made fresh x.told.started.2 x.begins in
-      no_fault_once_on w fifo p.front q size old a x.told.started.2.on.mid x.told.started.2.empty fresh.transmit
+      no_fault_led_on w fifo p.front q size old a x.told.started.2.on.mid x.told.started.2.empty fresh.transmit
       (on w fifo p.front q size old a m.made fresh x.told.started.2 along sized well) along sized well.ground (is_own a)
       (last_before w fifo h p.front p.back x.told.started.2.receive.quiet.0 (IsFresh w.queue (is_own a)) p.both x.fresh)
       (others_before w.pass (is_own a) p.front p.back (subst (OnlyPassLends w.pass (is_own a)) (sym p.both) x.others))
-      (subst (FindsFault (is_own a) x.told.started.2.on.mid begins) (sym p.fronts) found)
+      (last m later).made there (led q size old a m later x.told)
+      (subst (FindsFault (is_own a) (last m later).made there) (sym p.fronts) found)
 
 pub no_call_finds_fault : NoCallFindsFault
 no_call_finds_fault w fifo h q size old a m later n finds x =

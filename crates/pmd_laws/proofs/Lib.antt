@@ -9,6 +9,7 @@ pub mod FullRing
 pub mod HandedOn
 pub mod Held
 pub mod KnownAlong
+pub mod LedApart
 pub mod Lends
 pub mod LentSince
 pub mod Looks
@@ -21,6 +22,7 @@ pub mod Places
 pub mod Plain
 pub mod RiseCalls
 pub mod RunsOn
+pub mod SickCall
 pub mod Silent
 pub mod StartFaultless
 pub mod StartLends

@@ -1,26 +1,27 @@
 -- From the place on where both sides of a driver's queue are on, no call of its finds the device at fault.
-use Rattle.std.proofs.Common.{◌≡◌, ◌≤◌, ℕ, true, false, List, [], ◌∷◌, ◌++◌, refl, sym, ap, ◌∙◌, subst, append_assoc, arith}
+use Rattle.std.proofs.Common.{◌≡◌, ◌≤◌, ℕ, true, List, ◌++◌, refl, sym, ap, ◌∙◌, subst, append_assoc, arith}
+use Rattle.std.proofs.lemmas.List.{append_cancel_left}
 use Rattle.dma_arena.specs.Numbers.{Numbers}
-use Rattle.nic_device.specs.State.{State, new_state}
 use Rattle.device_lock.specs.Alone.{Blocks}
 use Rattle.device_lock.specs.History.{calls_of}
-use Rattle.device_lock.specs.Pass.{call_of}
 use Rattle.device_lock.specs.declared.alone.Watched.{Watched}
 use Rattle.device_lock.specs.declared.entry.Call.{Call}
 use Rattle.device_lock.specs.declared.entry.Entry.{Entry}
-use Rattle.pmd_base.proofs.Steps.{steps_both, steps_last}
-use Rattle.pmd.specs.Apart.{FindsFault, is_healthy}
-use Rattle.pmd.specs.Halves.{AllOwn, Doer, Halves, OthersStep, OwnCall, Receives, Sends, doers_other, is_neither, played_by}
+use Rattle.pmd.specs.Apart.{AllLendApart, FindsFault}
+use Rattle.pmd.specs.Halves.{AllOwn, Doer, Halves, played_by}
 use Rattle.pmd.specs.Started.{is_size}
-use Rattle.pmd.proofs.Calls.{both_own, others_own, others_played, own_length}
+use Rattle.pmd.proofs.Apart.{apart_none}
+use Rattle.pmd.proofs.Calls.{both_own, own_length}
 use Rattle.pmd_queue.specs.Named.{AtPort}
 use Rattle.pmd_rx.specs.Receive.{Receive}
-use Rattle.pmd_tx.specs.Sending.{Elsewhere, Sender}
+use Rattle.pmd_tx.specs.Sending.{Sender}
 use Rattle.start_laws.specs.Along.{BeforeLast, IsAlong}
 use Rattle.start_laws.specs.On.{AreOn}
 use Rattle.start_laws.specs.Points.{HasGround}
-use Rattle.start_laws.proofs.Parts.{Parts, parts}
-use Rattle.driver_laws.proofs.Beside.{others_harmless}
+use Rattle.start_laws.proofs.Parts.{Parts, calls_joined, parts}
+use Rattle.driver_laws.specs.Beside.{OthersHarmless}
+use Rattle.driver_laws.proofs.Beside.{harmless_both, others_harmless}
+use Rattle.driver_laws.proofs.LeadsApart.{LeadsApart, driven_apart}
 use Rattle.healthy_laws.specs.Before.{OnlyPassLends}
 use Rattle.healthy_laws.specs.Faults.{doers_of}
 use Rattle.healthy_laws.specs.Healthy.{IsUnshared, lent_by}
@@ -31,96 +32,102 @@ use Rattle.pmd_laws.proofs.FirstHalves.{first_halves, receive_lent, transmit_len
 use Rattle.pmd_laws.proofs.OnlyRings.{known_at, short_at}
 use Rattle.pmd_laws.proofs.PassLends.{others_behind}
 use Rattle.pmd_laws.proofs.RiseCalls.{Rises, on_rises}
-
--- a call whose reply no healthy queue gives is a half's
-sick_own : (d : Doer) (n : Call) → is_healthy d n ≡ false → is_neither d ≡ false
-sick_own Receives n sick = refl
-sick_own (Sends Elsewhere) n sick = cc
-sick_own (Sends m) n sick = refl
-
--- the calls up to such a one
-module _ (own : Blocks) (on : List Call) (h : Halves) (new : List Call) (f : FindsFault own on h new) where
-  abbrev before : List Call
-  before = f.adds.0
-
-  abbrev last : Call
-  last = call_of f.event f.reply
-
-  abbrev since : List Call
-  since = f.drives.drives.1
-
-  abbrev pub made : List Call
-  made = since ++ (before ++ last ∷ [])
-
-  abbrev there : Halves
-  there = played_by h f.drives.drives.0 since
-
-  made_is : new ≡ on ++ made
-  made_is =
-      f.adds.1 ∙ ap (λ (l : List Call). l ++ (before ++ last ∷ [])) f.drives.drives.2
-      ∙ append_assoc on since (before ++ last ∷ [])
-
-  last_own : OwnCall (played_by there (doers_other before) before) f.doer last
-  last_own =
-      subst (λ (k : Halves). OwnCall k f.doer last) (f.drives.drives.4 ∙ others_played there before) f.mine
-
-  own_all : AllOwn h (doers_of own on h new f) made
-  own_all =
-      both_own h f.drives.drives.0 (doers_other before ++ f.doer ∷ []) since (before ++ last ∷ []) f.drives.drives.3
-      (both_own there (doers_other before) (f.doer ∷ []) before (last ∷ []) (others_own there before) (last_own, tt))
-
-  others_step : OthersStep (doers_of own on h new f) made
-  others_step =
-      steps_both is_neither f.drives.drives.0 (doers_other before ++ f.doer ∷ []) since (before ++ last ∷ [])
-      (own_length h f.drives.drives.0 since f.drives.drives.3) f.drives.drives.5
-      (steps_last is_neither (Sends Elsewhere) f.doer before last (sick_own f.doer last f.sick) f.adds.2)
+use Rattle.pmd_laws.proofs.SickCall.{made, made_is, others_step, own_all}
 
 module _ (w : Watched) (fifo : ℕ) (h : List Entry) (q : AtPort) (size : ℕ) (old : List Call) (a : Numbers)
     (on : List Call) (v : Receive) (t : Sender) (up : AreOn q size old a on v t) (along : IsAlong w fifo h)
     (sized : is_size size ≡ true) (well : BeforeLast w fifo h up.receive.quiet.0 (HasGround w.queue q)) (own : Blocks)
     (fresh : BeforeLast w fifo h up.receive.quiet.0 (IsFresh w.queue own)) (others : OnlyPassLends w.pass own h)
-    (f : FindsFault own on (first_halves q size old a on v t up) (calls_of w.pass h))
   where
-    abbrev start : State
-    start = new_state w.vfs fifo
-
     abbrev first : Halves
     first = first_halves q size old a on v t up
-
-    abbrev doers : List Doer
-    doers = doers_of own on first (calls_of w.pass h) f
-
-    abbrev all : List Call
-    all = made own on first (calls_of w.pass h) f
 
     rises : Rises q (lent_by first) up.receive.quiet.0 on
     rises =
         on_rises q (lent_by first) size old a on v t up (receive_lent q size old a on v t up)
         (transmit_lent q size old a on v t up)
 
-    unshared : (p : Parts w.pass h on all) → IsUnshared w fifo p.front p.back first doers own
-    unshared p =
-        let short = short_at w fifo h q size old a on v t up along well own (lent_by first) fresh rises p.front p.back
-        p.both p.fronts in
-        record {
-          driven =
-              driven_by w fifo h q size old a on v t up along sized well all p doers
-              (own_all own on first (calls_of w.pass h) f)
-              (others_harmless doers all (others_step own on first (calls_of w.pass h) f));
-          short = record {
-            limit = subst (λ (n : ℕ). n ≤ 2048) (sym short.0.limit) (omega arith);
-            waiting = short.1;
-          };
-          known =
-              known_at w fifo h q size old a on v t up along well own (lent_by first) fresh rises others p.front p.back
-              p.both p.fronts;
-          others = others_behind w.pass own p.front p.back (subst (OnlyPassLends w.pass own) (sym p.both) others);
-        }
+    -- the history in three parts: the sides went on, the halves were led on, and then came that call
+    module _ (front rest more : List Entry) (all : front ++ (rest ++ more) ≡ h) (fronts : calls_of w.pass front ≡ on)
+        (doers : List Doer) (did : AllOwn first doers (calls_of w.pass rest))
+        (harmless : OthersHarmless doers (calls_of w.pass rest))
+        (apart : AllLendApart own first doers (calls_of w.pass rest)) (mid : List Call)
+        (f : FindsFault own mid (played_by first doers (calls_of w.pass rest)) (calls_of w.pass h))
+        (mids : calls_of w.pass h ≡ mid ++ calls_of w.pass more) where
+      abbrev there : Halves
+      there = played_by first doers (calls_of w.pass rest)
 
-    refuted : Parts w.pass h on all → ⊥
-    refuted p =
-        no_fault w fifo p.front [] p.back first [] own on (calls_of w.pass h) f tt tt
-        (made_is own on first (calls_of w.pass h) f ∙ ap (λ (l : List Call). on ++ l) (sym p.backs)) (unshared p)
+      abbrev ends : List Doer
+      ends = doers_of own mid there (calls_of w.pass h) f
 
-    pub no_fault_once_on : ⊥
-    no_fault_once_on = refuted (parts w.pass h on all (made_is own on first (calls_of w.pass h) f))
+      joined : calls_of w.pass (rest ++ more) ≡ calls_of w.pass rest ++ made own mid there (calls_of w.pass h) f
+      joined =
+          calls_joined w.pass rest more
+          ∙ ap (λ (l : List Call). calls_of w.pass rest ++ l)
+          (append_cancel_left mid (calls_of w.pass more) (made own mid there (calls_of w.pass h) f)
+          (sym mids ∙ made_is own mid there (calls_of w.pass h) f))
+
+      own_both : AllOwn first (doers ++ ends) (calls_of w.pass (rest ++ more))
+      own_both =
+          subst (AllOwn first (doers ++ ends)) (sym joined)
+          (both_own first doers ends (calls_of w.pass rest) (made own mid there (calls_of w.pass h) f) did
+          (own_all own mid there (calls_of w.pass h) f))
+
+      others_both : OthersHarmless (doers ++ ends) (calls_of w.pass (rest ++ more))
+      others_both =
+          let last = made own mid there (calls_of w.pass h) f in
+          subst (OthersHarmless (doers ++ ends)) (sym joined)
+          (harmless_both doers ends (calls_of w.pass rest) last (own_length first doers (calls_of w.pass rest) did)
+          harmless (others_harmless ends last (others_step own mid there (calls_of w.pass h) f)))
+
+      abbrev p : Parts w.pass h on (calls_of w.pass (rest ++ more))
+      p = record { front = front; back = rest ++ more; both = all; fronts = fronts; backs = refl }
+
+      unshared : IsUnshared w fifo front (rest ++ more) first (doers ++ ends) own
+      unshared =
+          let short = short_at w fifo h q size old a on v t up along well own (lent_by first) fresh rises front
+          (rest ++ more) all fronts in
+          record {
+            driven =
+                driven_by w fifo h q size old a on v t up along sized well (calls_of w.pass (rest ++ more)) p
+                (doers ++ ends) own_both others_both;
+            short = record {
+              limit = subst (λ (n : ℕ). n ≤ 2048) (sym short.0.limit) (omega arith);
+              waiting = short.1;
+            };
+            known =
+                known_at w fifo h q size old a on v t up along well own (lent_by first) fresh rises others front
+                (rest ++ more) all fronts;
+            others =
+                others_behind w.pass own front (rest ++ more) (subst (OnlyPassLends w.pass own) (sym all) others);
+          }
+
+      none_there : ⊥
+      none_there =
+          no_fault w fifo front rest more first doers own mid (calls_of w.pass h) f did apart mids unshared
+
+    module _ (mid : List Call) (k : Halves) (led : LeadsApart own on first mid k)
+        (f : FindsFault own mid k (calls_of w.pass h)) where
+      in_three : (p : Parts w.pass h mid (made own mid k (calls_of w.pass h) f))
+          → Parts w.pass p.front on led.leads.1 → ⊥
+      in_three p then =
+          let backs = sym then.backs in
+          none_there then.front then.back p.back
+          (sym (append_assoc then.front then.back p.back) ∙ ap (λ (l : List Entry). l ++ p.back) then.both ∙ p.both)
+          then.fronts led.leads.0 (subst (AllOwn first led.leads.0) backs led.leads.3)
+          (subst (OthersHarmless led.leads.0) backs led.leads.5)
+          (subst (AllLendApart own first led.leads.0) backs led.apart) mid
+          (subst (λ (j : Halves). FindsFault own mid j (calls_of w.pass h))
+          (led.leads.4 ∙ ap (played_by first led.leads.0) backs) f)
+          (ap (calls_of w.pass) (sym p.both) ∙ calls_joined w.pass p.front p.back
+          ∙ ap (λ (l : List Call). l ++ calls_of w.pass p.back) p.fronts)
+
+      pub no_fault_led_on : ⊥
+      no_fault_led_on =
+          let p = parts w.pass h mid (made own mid k (calls_of w.pass h) f) (made_is own mid k (calls_of w.pass h) f) in
+          in_three p (parts w.pass p.front on led.leads.1 (p.fronts ∙ led.leads.2))
+
+    -- also where that call comes first
+    pub no_fault_once_on : FindsFault own on first (calls_of w.pass h) → ⊥
+    no_fault_once_on f =
+        no_fault_led_on on first (driven_apart own on on first first (apart_none own on first)) f

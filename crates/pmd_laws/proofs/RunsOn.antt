@@ -1,9 +1,8 @@
--- A driver that runs runs on, over calls as they are told.
-use Rattle.std.proofs.Common.{◌≡◌, ℕ, inl, inr, Bool, true, false, List, [], ◌∷◌, Option, Some, Ok, if◌then◌else◌, refl, sym, subst}
+-- A driver that runs runs on, over calls as they are told, and harmless ones between.
+use Rattle.std.proofs.Common.{◌≡◌, ℕ, inl, inr, Bool, true, false, List, [], ◌∷◌, Option, Some, Ok, if◌then◌else◌, refl, sym, ◌∙◌, subst}
 use Rattle.dma_arena.specs.Numbers.{Numbers, is_own}
 use Rattle.device_lock.specs.Alone.{Blocks}
 use Rattle.device_lock.specs.declared.entry.Call.{Call}
-use Rattle.pmd_base.specs.Made.{AddsSome, AreSteps}
 use Rattle.pmd.specs.Driver.{Driver, WhereUp}
 use Rattle.pmd.specs.Running.{Running}
 use Rattle.pmd.specs.Started.{IsShut}
@@ -11,40 +10,48 @@ use Rattle.pmd.specs.declared.driver.Rings.{Rings}
 use Rattle.pmd.specs.declared.driver.Rings.TheVariants.{Up, Down}
 use Rattle.pmd_base.specs.declared.fault.PmdFault.{PmdFault}
 use Rattle.pmd_base.specs.declared.fault.PmdFault.TheVariants.{BadSize}
-use Rattle.pmd.specs.Apart.{AllLendApart, DrivesApart, DrivesRings, OwnsSame}
-use Rattle.pmd.specs.Halves.{Halves, doers_other, halves_of}
-use Rattle.pmd.proofs.Apart.{step_apart}
-use Rattle.pmd.proofs.Both.{rings_on, rings_still}
-use Rattle.pmd.proofs.Calls.{others_drive}
+use Rattle.pmd.specs.Apart.{DrivesRings, OwnsSame}
+use Rattle.pmd.specs.Halves.{Halves, halves_of}
+use Rattle.pmd.proofs.Both.{rings_still}
+use Rattle.driver_laws.specs.Beside.{AddsHarmless}
+use Rattle.driver_laws.proofs.LeadsApart.{LeadsApart, apart_leads_on, driven_apart, harmless_apart}
 use Rattle.pmd_laws.specs.Told.{AllFollow, Follows, Drove, Keeps, Moment, last}
 
--- steps of the device alone leave the halves, and lend nothing
+-- the halves of a driver that runs were led on so, by the numbers of its arena, and it keeps these
+pub record LeadsRings (old : List Call) (r : Running) (new : List Call) (s : Running) : Type 0 where
+  pub apart : LeadsApart (is_own r.arena) old (halves_of r) new (halves_of s)
+  pub owns : OwnsSame r.arena s.arena
 
-others_apart : (own : Blocks) (h : Halves) (calls : List Call) → AreSteps calls
-    → AllLendApart own h (doers_other calls) calls
-others_apart own h [] steps = tt
-others_apart own h (c ∷ calls) steps = (step_apart own h c.event steps.0, others_apart own h calls steps.1)
-
-added_apart : (own : Blocks) (old new : List Call) (h : Halves) → AddsSome old new → DrivesApart own old h new h
-unfolding others_drive
-added_apart own old new h (since, made, steps) = record {
-  drives = others_drive old new h (since, made, steps);
-  apart = others_apart own h since steps;
+-- by a call of the driver's
+rings_drove : (old new : List Call) (r s : Running) → DrivesRings old r new s → LeadsRings old r new s
+rings_drove old new r s x = record {
+  apart = driven_apart (is_own r.arena) old new (halves_of r) (halves_of s) x.apart;
+  owns = x.owns;
 }
 
+-- by harmless calls alone
 rings_kept : (old new : List Call) (r s : Running) → halves_of s ≡ halves_of r → OwnsSame r.arena s.arena
-    → AddsSome old new → DrivesRings old r new s
+    → AddsHarmless old new → LeadsRings old r new s
 rings_kept old new r s same owns added = record {
-  apart = subst (λ (k : Halves). DrivesApart (is_own r.arena) old (halves_of r) new k) (sym same)
-      (added_apart (is_own r.arena) old new (halves_of r) added);
+  apart = subst (λ (k : Halves). LeadsApart (is_own r.arena) old (halves_of r) new k) (sym same)
+      (harmless_apart (is_own r.arena) old new (halves_of r) added);
   owns = owns;
+}
+
+-- and one after another
+rings_led_on : (old mid new : List Call) (r s t : Running) → LeadsRings old r mid s → LeadsRings mid s new t
+    → LeadsRings old r new t
+rings_led_on old mid new r s t one two = record {
+  apart = apart_leads_on (is_own r.arena) old mid new (halves_of r) (halves_of s) (halves_of t) one.apart
+      (subst (λ (own : Blocks). LeadsApart own mid (halves_of s) new (halves_of t)) (λ i n. one.owns n i) two.apart);
+  owns = λ n. two.owns n ∙ one.owns n;
 }
 
 -- a driver that runs goes on: it runs with these rings
 pub record RunsOn (m : Moment) (r : Running) (n : Moment) : Type 0 where
   pub rings : Running
   pub up : n.driver.rings ≡ Up rings
-  pub drives : DrivesRings m.made r n.made rings
+  pub leads : LeadsRings m.made r n.made rings
 
 -- where a driver that runs runs on
 
@@ -57,12 +64,12 @@ up_next P (Down x) b r is holds = cc
 drove : (m n : Moment) (r : Running) → m.driver.rings ≡ Up r → Drove m n → RunsOn m r n
 drove m n r is x =
     let (s, up, drives) = up_next _ m.driver.rings n.driver.rings r is x in
-    record { rings = s; up = up; drives = drives }
+    record { rings = s; up = up; leads = rings_drove m.made n.made r s drives }
 
 kept : (m n : Moment) (r : Running) → m.driver.rings ≡ Up r → Keeps m n → RunsOn m r n
 kept m n r is (halves, added) =
     let (s, up, same) = up_next _ m.driver.rings n.driver.rings r is halves in
-    record { rings = s; up = up; drives = rings_kept m.made n.made r s same.0 same.1 added }
+    record { rings = s; up = up; leads = rings_kept m.made n.made r s same.0 same.1 added }
 
 follows : (m n : Moment) (r : Running) → m.driver.rings ≡ Up r → Follows m n → RunsOn m r n
 follows m n r is (inl x) = drove m n r is x
@@ -70,15 +77,15 @@ follows m n r is (inr x) = kept m n r is x
 
 pub all_follow : (m : Moment) (later : List Moment) (r : Running) → m.driver.rings ≡ Up r → AllFollow m later
     → RunsOn m r (last m later)
-all_follow m [] r is x = record { rings = r; up = is; drives = rings_still m.made r }
+all_follow m [] r is x = record { rings = r; up = is; leads = rings_drove m.made m.made r r (rings_still m.made r) }
 all_follow m (n ∷ later) r is x =
     let one = follows m n r is x.0 in
     let more = all_follow n later one.rings one.up x.1 in
     record {
       rings = more.rings;
       up = more.up;
-      drives =
-          rings_on m.made n.made (last n later).made r one.rings more.rings one.drives more.drives;
+      leads =
+          rings_led_on m.made n.made (last n later).made r one.rings more.rings one.leads more.leads;
     }
 
 -- a start that isn't shut has a size that rings may have

@@ -19,7 +19,6 @@ use Rattle.transmit_laws.specs.Laws as transmit
 use Rattle.transmit_laws.specs.Sent.{sent_since}
 use Rattle.pmd.specs.Halves.{Halves, halves_of}
 use Rattle.driver_laws.specs.Beside.{Leads}
-use Rattle.driver_laws.proofs.Beside.{drives_lead}
 use Rattle.pmd_laws.specs.Life.{IsLife}
 use Rattle.pmd_laws.specs.Order.{IsLived}
 use Rattle.pmd_laws.specs.Told as told
@@ -41,7 +40,7 @@ module _ (q : AtPort) (size : ℕ) (old : List Call) (a : Numbers) (m : Moment) 
   now = halves_of runs.rings
 
   pub led : Leads m.made (halves_of first) (last m later).made now
-  led = drives_lead m.made (last m later).made (halves_of first) now runs.drives.apart.drives
+  led = runs.leads.apart.leads
 
   abbrev pub life : (calls : List Call) → Leads m.made (halves_of first) calls now
       → IsLife q size old a m.made first calls now

@@ -12,7 +12,6 @@ use Rattle.pmd.specs.Life.{RunsOn, KeepsHalves}
 use Rattle.pmd.specs.Started.{HasStarted, IsShut, start_gate}
 use Rattle.pmd.specs.declared.driver.Rings.{Rings}
 use Rattle.pmd.specs.declared.driver.Rings.TheVariants.{Up, Down}
-use Rattle.pmd_base.specs.Made.{AddsSome}
 use Rattle.pmd_queue.specs.Named.{AtPort}
 use Rattle.pmd_rx.specs.Plays.{LooksOnce}
 use Rattle.receive_laws.specs.Delivered as receive
@@ -20,23 +19,25 @@ use Rattle.receive_laws.specs.Delivered.{delivered}
 use Rattle.transmit_laws.specs.Agreeing.{bytes_of}
 use Rattle.transmit_laws.specs.Laws as transmit
 use Rattle.transmit_laws.specs.Sent.{sent_since}
+use Rattle.driver_laws.specs.Beside.{AddsHarmless}
 use Rattle.start_laws.specs.Along.{IsAlong}
 use Rattle.start_laws.specs.Start.{BeginsWell}
 use Rattle.pmd_laws.specs.Looks.{EndsAt}
 
--- when a call of the driver has returned: the driver, and the calls that its pass has made
+-- when a call of the driver, or of its way to the device, has returned: the driver, and the calls that its pass has made
 pub record Moment : Type 0 where
   pub made : List Call
   pub driver : Driver
 
 -- from one moment of a driver that runs to the next: a call of `rx`, `tx` or `reap`, as its clause `drives` tells; or
--- one of `packet` or `release`, as its clause `halves` tells, or none, beside steps of the device
+-- one of `packet` or `release`, as its clause `halves` tells, or none, beside harmless calls through the same way, as
+-- one by which its author lets a frame arrive
 
 abbrev pub Drove : Moment → Moment → Type 0
 Drove m n = RunsOn m.made m.driver.rings n.made n.driver.rings
 
 abbrev pub Keeps : Moment → Moment → Type 0
-Keeps m n = KeepsHalves m.driver.rings n.driver.rings × AddsSome m.made n.made
+Keeps m n = KeepsHalves m.driver.rings n.driver.rings × AddsHarmless m.made n.made
 
 abbrev pub Follows : Moment → Moment → Type 0
 Follows m n = Drove m n ⊎ Keeps m n

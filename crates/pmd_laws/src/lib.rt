@@ -22,10 +22,10 @@ ghost use Rattle.pmd_laws.specs.Told as told;
 ghost use Rattle.pmd_laws.specs.Waits.{WaitingIsNotAllBefore, WaitingIsNotAllAsTold};
 
 /// Over a legal history of a new device that leaves the driver's queue alone, whose pass made the calls of a start that
-/// brought both rings up, and then calls of the two halves, beside steps of the device: the packets that the driver
-/// handed out are a prefix of those delivered on its queue, and all of them where a look that comes next finds none;
-/// and the frames sent on it are a prefix of those that the driver accepted, and all of them where none is outstanding.
-/// Both are counted since the sides went on.
+/// brought both rings up, and then calls of the two halves, beside harmless ones, which write no register and lend, take
+/// and poke no block: the packets that the driver handed out are a prefix of those delivered on its queue, and all of
+/// them where a look that comes next finds none; and the frames sent on it are a prefix of those that the driver
+/// accepted, and all of them where none is outstanding. Both are counted since the sides went on.
 pub fn life_in_order()
     ensures handed { HandedIsPrefix }
     ensures none { NoneIsAll }
@@ -41,7 +41,8 @@ pub fn lives_lend_apart()
 
 /// Where the frames that wait for the queue are short just before the driver's first access, none of its arena's blocks
 /// is lent there, and no other pass lends any of them: no call of `rx`, `tx` or `reap` that comes after its start ends
-/// with the device at fault, over a legal history that leaves the queue alone.
+/// with the device at fault, over a legal history that leaves the queue alone, whatever harmless calls its author makes
+/// between through the same pass.
 pub fn no_call_finds_the_device_at_fault()
     ensures { NoCallFindsFault }
 {}
@@ -88,18 +89,18 @@ pub fn empty_look_leaves_nothing()
 {}
 
 /// Where a call of such a driver ends with a packet outstanding, as `reap` does that isn't idle, it looked at last; and
-/// before the first event of that call's own not all that the driver had accepted was sent, whatever the others and the
-/// steps of its way did ahead of it. The same by what the calls of a `pmd::Pmd` tell alone.
+/// before the first event of that call's own not all that the driver had accepted was sent, whatever the others, and
+/// harmless calls of its own pass, did ahead of it. The same by what the calls of a `pmd::Pmd` tell alone.
 pub fn waiting_look_leaves_some_unsent()
     ensures before { WaitingIsNotAllBefore }
     ensures told { WaitingIsNotAllAsTold }
 {}
 
 /// The same of a `pmd::Pmd` by what its calls tell alone: `start` answered it, and then came calls of `rx`, `tx`,
-/// `reap`, `packet` and `release`, in any order and with whatever answers, beside steps of the device. The packets that
-/// it handed out are a prefix of those delivered, and where `rx` answers none, all of those that were delivered before
-/// its look; and the frames sent are a prefix of those that it accepted, and all of them where none is outstanding, as
-/// where `reap` answers so.
+/// `reap`, `packet` and `release`, in any order and with whatever answers, and between them harmless calls through the
+/// same pass, as those by which its author lets frames arrive. The packets that it handed out are a prefix of those
+/// delivered, and where `rx` answers none, all of those that were delivered before its look; and the frames sent are a
+/// prefix of those that it accepted, and all of them where none is outstanding, as where `reap` answers so.
 pub fn driver_in_order()
     ensures handed { told.HandedIsPrefix }
     ensures none { told.NoneIsAllBefore }

@@ -1,0 +1,54 @@
+-- The calls of a driver up to one whose reply no healthy queue gives.
+use Rattle.std.proofs.Common.{◌≡◌, false, List, [], ◌∷◌, ◌++◌, refl, ap, ◌∙◌, subst, append_assoc}
+use Rattle.device_lock.specs.Alone.{Blocks}
+use Rattle.device_lock.specs.Pass.{call_of}
+use Rattle.device_lock.specs.declared.entry.Call.{Call}
+use Rattle.pmd_base.proofs.Steps.{steps_both, steps_last}
+use Rattle.pmd.specs.Apart.{FindsFault, is_healthy}
+use Rattle.pmd.specs.Halves.{AllOwn, Doer, Halves, OthersStep, OwnCall, Receives, Sends, doers_other, is_neither, played_by}
+use Rattle.pmd.proofs.Calls.{both_own, others_own, others_played, own_length}
+use Rattle.pmd_tx.specs.Sending.{Elsewhere}
+use Rattle.healthy_laws.specs.Faults.{doers_of}
+
+-- a call whose reply no healthy queue gives is a half's
+sick_own : (d : Doer) (n : Call) → is_healthy d n ≡ false → is_neither d ≡ false
+sick_own Receives n sick = refl
+sick_own (Sends Elsewhere) n sick = cc
+sick_own (Sends m) n sick = refl
+
+-- all of these calls, and whose they are
+module _ (own : Blocks) (on : List Call) (h : Halves) (new : List Call) (f : FindsFault own on h new) where
+  abbrev before : List Call
+  before = f.adds.0
+
+  abbrev last : Call
+  last = call_of f.event f.reply
+
+  abbrev since : List Call
+  since = f.drives.drives.1
+
+  abbrev pub made : List Call
+  made = since ++ (before ++ last ∷ [])
+
+  abbrev there : Halves
+  there = played_by h f.drives.drives.0 since
+
+  pub made_is : new ≡ on ++ made
+  made_is =
+      f.adds.1 ∙ ap (λ (l : List Call). l ++ (before ++ last ∷ [])) f.drives.drives.2
+      ∙ append_assoc on since (before ++ last ∷ [])
+
+  last_own : OwnCall (played_by there (doers_other before) before) f.doer last
+  last_own =
+      subst (λ (k : Halves). OwnCall k f.doer last) (f.drives.drives.4 ∙ others_played there before) f.mine
+
+  pub own_all : AllOwn h (doers_of own on h new f) made
+  own_all =
+      both_own h f.drives.drives.0 (doers_other before ++ f.doer ∷ []) since (before ++ last ∷ []) f.drives.drives.3
+      (both_own there (doers_other before) (f.doer ∷ []) before (last ∷ []) (others_own there before) (last_own, tt))
+
+  pub others_step : OthersStep (doers_of own on h new f) made
+  others_step =
+      steps_both is_neither f.drives.drives.0 (doers_other before ++ f.doer ∷ []) since (before ++ last ∷ [])
+      (own_length h f.drives.drives.0 since f.drives.drives.3) f.drives.drives.5
+      (steps_last is_neither (Sends Elsewhere) f.doer before last (sick_own f.doer last f.sick) f.adds.2)

@@ -11,13 +11,12 @@ use Rattle.nic_device.specs.State.{State}
 use Rattle.nic_device.specs.Step.{after, reply_to}
 use Rattle.nic_device.proofs.Steps.{step_leads, keeps_sound}
 use Rattle.device_lock.specs.Alone.{Blocks, EntryLeavesAlone, LeavesBlocks, LeavesRegisters, WritesOutside, mode_after}
-use Rattle.device_lock.specs.History.{IsLegal, calls_of, call_in}
+use Rattle.device_lock.specs.History.{IsLegal, AreEvents, calls_of, call_in}
 use Rattle.device_lock.specs.declared.alone.Watched.{Watched}
 use Rattle.device_lock.specs.declared.entry.Call.{Call}
 use Rattle.device_lock.specs.declared.entry.Entry.{Entry}
 use Rattle.history_laws.specs.Aligned.{AreAligned}
 use Rattle.history_laws.specs.Alone.{AllAlone}
-use Rattle.history_laws.specs.Laws.{AreEvents}
 use Rattle.history_laws.proofs.Aligned.{events_aligned}
 use Rattle.history_laws.proofs.Modes.{event_told}
 use Rattle.pmd_base.specs.Events.{is_step}

@@ -9,6 +9,7 @@ pub mod HandedOn
 pub mod Held
 pub mod KnownAlong
 pub mod Lends
+pub mod LentSince
 pub mod Looks
 pub mod NoFault
 pub mod OnePlace
@@ -21,6 +22,7 @@ pub mod RiseCalls
 pub mod RunsOn
 pub mod Silent
 pub mod StartFaultless
+pub mod StartLends
 pub mod StopCalls
 pub mod StopParts
 pub mod StopSent

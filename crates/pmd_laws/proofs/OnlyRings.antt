@@ -1,49 +1,39 @@
 -- Of an arena's blocks only the rings' are lent as both sides are on, and the frames that wait fit a buffer.
-use Rattle.std.proofs.Common.{◌≡◌, ℕ, ◌≤◌, false, List, [], ◌∷◌, ◌++◌, sym, ap, ◌∙◌, subst, append_assoc, arith}
+use Rattle.std.proofs.Common.{ℕ, ◌≤◌, false, List, sym, ◌∙◌, subst, arith}
 use Rattle.std.specs.Prelude.{All}
-use Rattle.std.proofs.lemmas.Bool.{both_ways, eq-eqb}
 use Rattle.dma_arena.specs.Block.{Block}
 use Rattle.dma_arena.specs.Numbers.{Numbers}
 use Rattle.reg_table.specs.declared.rows.RowId.TheVariants.{Rxdctl}
-use Rattle.nic_device.specs.State.{State, new_state}
+use Rattle.nic_device.specs.State.{State}
 use Rattle.nic_device.specs.Step.{after}
 use Rattle.nic_device.specs.declared.event.Event.{Event}
 use Rattle.nic_device.specs.declared.event.Event.TheVariants as event
-use Rattle.nic_device.specs.declared.event.Reply.TheVariants as reply
 use Rattle.device_lock.specs.Alone.{Blocks, lent_by}
-use Rattle.device_lock.specs.History.{IsLegal, calls_of, leads_to}
-use Rattle.device_lock.specs.Pass.{call_of}
 use Rattle.device_lock.specs.declared.alone.Watched.{Watched}
 use Rattle.device_lock.specs.declared.entry.Call.{Call}
 use Rattle.device_lock.specs.declared.entry.Entry.{Entry}
 use Rattle.device_laws.specs.Laws.{WritesNoSetting}
-use Rattle.history_laws.specs.Laws.{AreEvents}
 use Rattle.history_laws.specs.Lent.{OnlyLent}
 use Rattle.pmd_queue.specs.Named.{AtPort}
 use Rattle.pmd_rx.specs.Receive.{Receive}
 use Rattle.pmd_tx.specs.Sending.{Sender}
 use Rattle.receive_laws.specs.Short.{IsShortFor}
-use Rattle.receive_laws.proofs.Delivering.{events_before, events_behind, leads-append, legal_behind}
-use Rattle.receive_laws.proofs.Histories.{calls_own}
 use Rattle.receive_laws.proofs.Short.{frames_stay_short}
 use Rattle.transmit_laws.proofs.LeftSide.{left-setting}
 use Rattle.start_laws.specs.Along.{AtCalls, BeforeLast, IsAlong, IsKept}
-use Rattle.start_laws.specs.Ending.{Each, IsPlain}
+use Rattle.start_laws.specs.Ending.{IsPlain}
 use Rattle.start_laws.specs.On.{AreOn}
 use Rattle.start_laws.specs.Points.{HasGround}
-use Rattle.start_laws.proofs.Along.{legal_before}
 use Rattle.start_laws.proofs.Ending.{all_lead}
 use Rattle.start_laws.proofs.First.{first_seen}
 use Rattle.start_laws.proofs.Ground.{ground_kept, plain_keeps, plain_setting}
 use Rattle.start_laws.proofs.Made.{made_some}
-use Rattle.start_laws.proofs.Parts.{around}
 use Rattle.start_laws.proofs.Reached.{reached, state_kept, state_leads}
 use Rattle.pmd_queue.specs.Made.{Sees}
 use Rattle.healthy_laws.specs.Before.{OnlyPassLends}
-use Rattle.healthy_laws.proofs.Before.{only_pass_lent}
 use Rattle.pmd_laws.specs.Faultless.{IsFresh}
-use Rattle.pmd_laws.proofs.RiseCalls.{IsRising, Rises, rising_are_plain}
-use Rattle.pmd_laws.proofs.PassLends.{lent_is, others_before, others_behind}
+use Rattle.pmd_laws.proofs.LentSince.{lent_at}
+use Rattle.pmd_laws.proofs.RiseCalls.{Rises, rising_are_plain}
 
 module _ (w : Watched) (fifo : ℕ) (h : List Entry) (q : AtPort) (size : ℕ) (old : List Call) (a : Numbers)
     (new : List Call) (v : Receive) (t : Sender) (up : AreOn q size old a new v t) (along : IsAlong w fifo h)
@@ -88,38 +78,6 @@ module _ (w : Watched) (fifo : ℕ) (h : List Entry) (q : AtPort) (size : ℕ) (
         done rest all (calls ∙ rises.1)
 
     -- the blocks that are lent
-    module _ (others : OnlyPassLends w.pass own h) (done rest : List Entry) (all : done ++ rest ≡ h)
-        (calls : calls_of w.pass done ≡ new) where
-      abbrev start : State
-      start = new_state w.vfs fifo
-
-      pub known_at : OnlyLent own lent (reached w fifo done).memory
-      known_at =
-          let (number, word, named, seen, (before, added, steps)) = up.receive.quiet.1 in
-          let c = call_of (event.Read q.port number) (reply.Word word) in
-          let x = around w.pass done (old ++ before) c rises.0
-          (calls ∙ rises.1
-          ∙ ap (λ (l : List Call). l ++ rises.0) (added ∙ sym (append_assoc old before (c ∷ [])))
-          ∙ append_assoc (old ++ before) (c ∷ []) rises.0) in
-          let es : List Entry = x.entry ∷ x.behind in
-          let split : (x.before ++ es) ++ rest ≡ h = ap (λ (l : List Entry). l ++ rest) x.all ∙ all in
-          let whole : x.before ++ x.entry ∷ (x.behind ++ rest) ≡ h = sym (append_assoc x.before es rest) ∙ split in
-          let here = fresh x.before (x.behind ++ rest) x.entry whole x.own
-          ((λ i. x.made i ++ x.call i ∷ []) ∙ append_assoc old before (c ∷ []) ∙ sym added) in
-          let s : State = reached w fifo x.before in
-          let none : OnlyLent own (λ n. false) s.memory = λ n is has. absurd (both_ways _ (here.none n is) has) in
-          let events = events_behind x.before es
-          (events_before (x.before ++ es) rest (subst AreEvents (sym split) along.events)) in
-          let legal = legal_behind start x.before es
-          (legal_before start (x.before ++ es) rest (subst (IsLegal start) (sym split) along.legal)) in
-          let spared = others_behind w.pass own x.before es
-          (others_before w.pass own (x.before ++ es) rest (subst (OnlyPassLends w.pass own) (sym split) others)) in
-          let then = only_pass_lent w.pass own (λ n. false) s es legal events spared none in
-          let there : leads_to s es ≡ reached w fifo done =
-          sym (leads-append start x.before es) ∙ ap (reached w fifo) x.all in
-          let are : Each (λ d. IsRising q lent d.event) (calls_of w.pass es) =
-          subst (Each (λ d. IsRising q lent d.event))
-          (sym (calls_own w.pass x.entry x.behind (eq-eqb x.entry.pass w.pass x.own) ∙ (λ i. x.call i ∷ x.later i)))
-          (tt, rises.2) in
-          subst (λ (z : State). OnlyLent own lent z.memory) there
-          (λ n is has. lent_is q lent w.pass es are n (then n is has))
+    pub known_at : OnlyPassLends w.pass own h → AtCalls w fifo h new (λ s. OnlyLent own lent s.memory)
+    known_at others =
+        lent_at w fifo h q old up.receive.quiet.0 along own lent up.receive.quiet.1 fresh others new rises

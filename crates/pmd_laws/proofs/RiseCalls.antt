@@ -11,19 +11,26 @@ use Rattle.nic_device.specs.declared.event.Event.TheVariants as event
 use Rattle.device_lock.specs.Alone.{Blocks}
 use Rattle.device_lock.specs.declared.entry.Call.{Call}
 use Rattle.pmd_base.specs.Events.{is_step}
-use Rattle.pmd_queue.specs.Both.{receive_polled}
+use Rattle.pmd_queue.specs.Both.{both_quiet, receive_polled}
 use Rattle.pmd_queue.specs.Made.{Access, Sees, Sets, AreMade, IsMade}
 use Rattle.pmd_queue.specs.Named.{AtPort}
 use Rattle.pmd_queue.specs.Sides.{polled, quiet, ring_words}
 use Rattle.pmd_rx.specs.Receive.{Receive}
 use Rattle.pmd_tx.specs.Sending.{Sender}
-use Rattle.pmd.specs.Starting.{IsPrepared}
+use Rattle.pmd.specs.Starting.{IsPrepared, IsReceiveReady}
 use Rattle.start_laws.specs.Ending.{Each, IsPlain, NamesDriven}
 use Rattle.start_laws.specs.On.{AreOn}
 use Rattle.start_laws.specs.Stopping.{AreMadeOf}
 use Rattle.start_laws.proofs.AllAre.{AllAre, all_both, all_polled}
 use Rattle.start_laws.proofs.StopCalls.{adds_made, none_made, then_made}
 use Rattle.begin_laws.proofs.DrivenAccesses.{IsDriven, polled_driven, reads_driven, words_are_writes, writes_driven}
+
+-- what is made behind the first access to see both sides off
+abbrev off : List Access
+off = Sets Rxdctl 0 ∷ Sees Rxdctl false ∷ quiet Tx
+
+pub off_driven : AllAre IsDriven off
+off_driven = (refl, (refl, (refl, (refl, (refl, tt)))))
 
 module _ (q : AtPort) (lent : Blocks) where
   abbrev pub IsRising : Event Block → Type 0
@@ -34,7 +41,7 @@ module _ (q : AtPort) (lent : Blocks) where
   abbrev pub Rises : List Call → List Call → Type 0
   Rises old new = AreMadeOf IsRising old new
 
-  step_rises : (e : Event Block) → is_step e ≡ true → IsRising e
+  pub step_rises : (e : Event Block) → is_step e ≡ true → IsRising e
   step_rises (event.Write port number word) is = cc
   step_rises (event.Lend block) is = cc
   step_rises e is = tt
@@ -60,26 +67,32 @@ module _ (q : AtPort) (lent : Blocks) where
       (adds_made IsRising step_rises x.mid new _ _ x.lent own)
 
   -- behind the first access
+
+  pub quieted_rises : (old new : List Call) → (made : AreMade q old new both_quiet) → Rises made.0 new
+  quieted_rises old new made = all_rise off made.0 new off_driven made.2
+
+  pub ready_rises : (size : ℕ) (old : List Call) (a : Numbers) (new : List Call) (b : Numbers) (v : Receive)
+      → (x : IsReceiveReady q size old a new b v) → IsTrue (lent x.ring) → Rises x.quiet.0 new
+  ready_rises size old a new b v x own =
+      then_made IsRising x.quiet.0 x.mid new (quieted_rises old x.mid x.quiet)
+      (prepared_rises Rx size x.mid a new b x.ring own x.prepared)
+
   pub on_rises : (size : ℕ) (old : List Call) (a : Numbers) (new : List Call) (v : Receive) (t : Sender)
       → (up : AreOn q size old a new v t) → IsTrue (lent up.receive.ring) → IsTrue (lent up.transmit.ring)
       → Rises up.receive.quiet.0 new
   on_rises size old a new v t up one two =
       let first : ℕ = up.switched.0 in
       let second : ℕ = up.switched.1 in
-      let off : List Access = Sets Rxdctl 0 ∷ Sees Rxdctl false ∷ quiet Tx in
-      let driven : AllAre IsDriven off = (refl, (refl, (refl, (refl, (refl, tt))))) in
-      let quieted = all_rise off up.receive.quiet.0 up.receive.mid driven up.receive.quiet.2 in
       let switched = all_rise (receive_polled true first ++ polled Tx true second) up.both_made new
       (all_both IsDriven (receive_polled true first) (polled Tx true second) (polled_driven first)
       (all_polled IsDriven true reads_driven Tx second))
       up.switched.3 in
-      then_made IsRising up.receive.quiet.0 up.receive.mid new quieted
-      (then_made IsRising up.receive.mid up.ready_made new
-      (prepared_rises Rx size up.receive.mid a up.ready_made up.ready_arena up.receive.ring one up.receive.prepared)
+      then_made IsRising up.receive.quiet.0 up.ready_made new
+      (ready_rises size old a up.ready_made up.ready_arena v up.receive one)
       (then_made IsRising up.ready_made up.both_made new
       (prepared_rises Tx size up.ready_made up.ready_arena up.both_made up.both_arena up.transmit.ring two
       up.transmit.prepared)
-      switched))
+      switched)
 
   -- such a call writes no register but the queue's
 

@@ -1,26 +1,18 @@
 -- No start finds the device at fault as it fills its receive ring, nor before.
-use Rattle.std.proofs.Common.{◌≡◌, ℕ, inl, inr, ◌⊎◌, true, false, List, refl, sym, subst}
+use Rattle.std.proofs.Common.{◌≡◌, ℕ, inl, inr, ◌⊎◌, true, List, refl, sym, subst}
 use Rattle.dma_arena.specs.Numbers.{Numbers, is_free, is_own}
 use Rattle.device_lock.specs.declared.alone.Watched.{Watched}
 use Rattle.device_lock.specs.declared.entry.Call.{Call}
 use Rattle.device_lock.specs.declared.entry.Entry.{Entry}
-use Rattle.reg_table.specs.declared.rows.RowId.TheVariants.{Rxdctl}
-use Rattle.nic_device.specs.State.{State}
-use Rattle.nic_device.specs.declared.event.Event.TheVariants as event
-use Rattle.nic_device.specs.declared.event.Reply.TheVariants as reply
-use Rattle.device_lock.specs.Pass.{call_of}
 use Rattle.pmd_base.specs.declared.fault.PmdFault.TheVariants.{DeviceFault}
-use Rattle.pmd_queue.specs.Made.{Sees, IsMade}
 use Rattle.pmd_queue.specs.Named.{AtPort}
 use Rattle.pmd_rx.proofs.Earlier.{free_before}
 use Rattle.pmd.specs.Apart.{FindsFault, MayLend}
 use Rattle.pmd.specs.Halves.{Halves, Receives}
 use Rattle.pmd.proofs.Apart.{receiving_apart}
 use Rattle.pmd.proofs.Finding.{wrong_by}
-use Rattle.start_laws.specs.Along.{BeforeLast}
 use Rattle.start_laws.proofs.Parts.{Parts, parts}
-use Rattle.begin_laws.specs.Faultless.{BeforeNext}
-use Rattle.begin_laws.specs.Filling.{FaultsEarly, FaultsFilling, LendsFresh}
+use Rattle.begin_laws.specs.Filling.{FaultsEarly, FaultsFilling}
 use Rattle.begin_laws.proofs.Filling.{faults_are_early_or_filling, no_fault_is_early}
 use Rattle.healthy_laws.specs.Before.{OnlyPassLends}
 use Rattle.pmd_laws.specs.Faultless.{BeginsApart, IsQuietAndFresh, NoFillingFindsFault, NoStartFindsFault}
@@ -29,13 +21,7 @@ use Rattle.pmd_laws.proofs.Lends.{may}
 use Rattle.pmd_laws.proofs.Looks.{along_before}
 use Rattle.pmd_laws.proofs.NoFault.{no_fault_once_on}
 use Rattle.pmd_laws.proofs.PassLends.{others_before}
-
--- just before the first read
-first_read : (w : Watched) (q : AtPort) (fifo : ℕ) (h : List Entry) (P : State → Type 0) (old new : List Call)
-    → BeforeNext w fifo h old P → IsMade q old new (Sees Rxdctl false) → BeforeLast w fifo h new P
-first_read w q fifo h P old new at (number, word, named, is, (before, added, steps)) =
-    subst (λ (calls : List Call). BeforeLast w fifo h calls P) (sym added)
-    (at before (call_of (event.Read q.port number) (reply.Word word)) steps refl)
+use Rattle.pmd_laws.proofs.StartLends.{first_read, none_early}
 
 module _ (w : Watched) (fifo : ℕ) (h : List Entry) (q : AtPort) (size : ℕ) (old : List Call) (a : Numbers)
     (new : List Call) (f : FaultsFilling q size old a new) (x : BeginsApart w fifo h q size old a new) where
@@ -80,18 +66,17 @@ no_filling_finds_fault w fifo h q size old a new f x =
 
 -- nor amid its events at all
 module _ (w : Watched) (fifo : ℕ) (h : List Entry) (q : AtPort) (size : ℕ) (old : List Call) (a : Numbers)
-    (new : List Call) (x : BeginsApart w fifo h q size old a new)
-    (fresh : (early : FaultsEarly q size old a new) → LendsFresh w fifo h q size old a new early) where
+    (new : List Call) (x : BeginsApart w fifo h q size old a new) where
   never_early : FaultsEarly q size old a new → Parts w.pass h new x.more → ⊥
   never_early early p =
       no_fault_is_early w q fifo h size old a new x.along
       (λ before c steps apart done rest e all own is. (x.begins before c steps apart done rest e all own is).0) early
-      (fresh early) p.front p.back p.both p.fronts
+      (none_early w fifo h q size old a new x early) p.front p.back p.both p.fronts
 
   never_at_fault : FaultsEarly q size old a new ⊎ FaultsFilling q size old a new → ⊥
   never_at_fault (inl early) = never_early early (parts w.pass h new x.more x.made)
   never_at_fault (inr filling) = no_filling_finds_fault w fifo h q size old a new filling x
 
 pub no_start_finds_fault : NoStartFindsFault
-no_start_finds_fault w fifo h q size old a new e x fresh stops is =
-    never_at_fault w fifo h q size old a new x fresh (faults_are_early_or_filling q size old a new e stops is)
+no_start_finds_fault w fifo h q size old a new e x stops is =
+    never_at_fault w fifo h q size old a new x (faults_are_early_or_filling q size old a new e stops is)

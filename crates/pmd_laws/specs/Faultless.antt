@@ -1,4 +1,4 @@
--- A driver whose blocks nobody else lends: no call of its finds the device at fault.
+-- A driver whose blocks nobody else lends: no call of its finds the device at fault, and nor does its start.
 use Rattle.std.specs.Prelude.{ℕ, true, IsTrue, IsFalse, List, ◌≡◌, ◌≢◌, ◌++◌, All}
 use Rattle.dma_arena.specs.Memory.{has_block}
 use Rattle.dma_arena.specs.Numbers.{Numbers, is_own}
@@ -20,7 +20,7 @@ use Rattle.start_laws.specs.Along.{BeforeLast, IsAlong}
 use Rattle.start_laws.specs.Quieting.{IsQuiet}
 use Rattle.start_laws.specs.Start.{BeginsWell}
 use Rattle.begin_laws.specs.Faultless.{BeforeNext}
-use Rattle.begin_laws.specs.Filling.{FaultsEarly, FaultsFilling, LendsFresh}
+use Rattle.begin_laws.specs.Filling.{FaultsFilling}
 use Rattle.healthy_laws.specs.Before.{OnlyPassLends}
 use Rattle.pmd_laws.specs.Told.{IsTold, Moment, last}
 
@@ -76,10 +76,9 @@ NoFillingFindsFault =
     (w : Watched) (fifo : ℕ) (h : List Entry) (q : AtPort) (size : ℕ) (old : List Call) (a : Numbers)
     (new : List Call) → FaultsFilling q size old a new → ¬ BeginsApart w fifo h q size old a new
 
--- nor does it end so amid its events at all, where as a ring's block is lent none of the blocks is that are free then
+-- nor does it end so amid its events at all
 abbrev pub NoStartFindsFault : Type 0
 NoStartFindsFault =
     (w : Watched) (fifo : ℕ) (h : List Entry) (q : AtPort) (size : ℕ) (old : List Call) (a : Numbers)
     (new : List Call) (e : StartRefused) → BeginsApart w fifo h q size old a new →
-    ((early : FaultsEarly q size old a new) → LendsFresh w fifo h q size old a new early) →
     StopsStarting q size old a new e → e.fault ≢ DeviceFault

@@ -1,11 +1,11 @@
 //! What a driver's whole life so far gives: it started, and since then it received and sent.
 //!
 //! Each law is the contract of a function that does nothing. `specs/Life` says what a life is by the calls of the
-//! driver's pass, `specs/Lends` which blocks it lends, and `specs/Told` what a life is by what the driver's calls
-//! tell. `specs/Order` says what holds of it over a history of a shared device, `specs/Faultless` that none of its
-//! calls finds the device at fault, `specs/Looks` what holds where a look finds no packet, and `specs/Waits` where it
-//! finds one waiting. `specs/Ends` says what holds of what a stopped driver left, `specs/Stopped` what over the calls
-//! of its stop, and `specs/Silent` once these have switched its queue off.
+//! driver's pass, `specs/Lends` which blocks it lends, and `specs/Told` what a life is by what the driver's calls tell.
+//! `specs/Order` says what holds of it over a history of a shared device, `specs/Faultless` that neither its start nor
+//! a call of its finds the device at fault, `specs/Looks` what holds where a look finds no packet, and `specs/Waits`
+//! where it finds one waiting. `specs/Ends` says what holds of what a stopped driver left, `specs/Stopped` what over
+//! the calls of its stop, and `specs/Silent` once these have switched its queue off.
 #![tactic(auto)]
 
 ghost use Rattle.pmd_laws.specs.Ends.{HandedOverStop, LeftIsPrefix, SentOverStop};
@@ -44,8 +44,8 @@ pub fn no_call_finds_the_device_at_fault()
     ensures { NoCallFindsFault }
 {}
 
-/// Where both sides of its queue are off too, no start ends with the device at fault as it fills its receive ring, over
-/// such a history; nor amid its events at all, where none of the arena's free blocks is lent as a ring's block is.
+/// Where both sides of its queue are off too, and not wanted on, no start ends with the device at fault as it fills its
+/// receive ring, over such a history; nor amid its events at all.
 pub fn no_start_finds_the_device_at_fault()
     ensures filling { NoFillingFindsFault }
     ensures amid { NoStartFindsFault }

@@ -1,0 +1,138 @@
+-- Where a start ends with the device at fault before both sides are on, none of the blocks that are free then is lent.
+use Rattle.std.proofs.Common.{◌≡◌, ℕ, inl, inr, true, false, List, [], ◌∷◌, ◌++◌, refl, sym, ap, ◌∙◌, subst}
+use Rattle.std.specs.Prelude.{IsFalse, ◌==◌}
+use Rattle.std.proofs.lemmas.Bool.{eq-eqb, eqb-true}
+use Rattle.std.proofs.lemmas.List.{append_assoc}
+use Rattle.dma_arena.specs.Block.{Block}
+use Rattle.dma_arena.specs.Memory.{has_block}
+use Rattle.dma_arena.specs.Numbers.{Numbers, is_own}
+use Rattle.dma_arena.proofs.Arenas.{is_own-of_free}
+use Rattle.reg_table.specs.declared.rows.RowId.TheVariants.{Rxdctl}
+use Rattle.register_file.specs.declared.dir.Dir.{Dir}
+use Rattle.register_file.specs.declared.dir.Dir.TheVariants.{Rx, Tx}
+use Rattle.nic_device.specs.State.{State}
+use Rattle.nic_device.specs.declared.event.Event.{Event}
+use Rattle.nic_device.specs.declared.event.Event.TheVariants as event
+use Rattle.nic_device.specs.declared.event.Reply.{Reply}
+use Rattle.nic_device.specs.declared.event.Reply.TheVariants as reply
+use Rattle.device_lock.specs.Alone.{Blocks}
+use Rattle.device_lock.specs.Pass.{call_of}
+use Rattle.device_lock.specs.declared.alone.Watched.{Watched}
+use Rattle.device_lock.specs.declared.entry.Call.{Call}
+use Rattle.device_lock.specs.declared.entry.Entry.{Entry}
+use Rattle.pmd_base.specs.Events.{is_step}
+use Rattle.pmd_base.specs.Made.{Adds}
+use Rattle.pmd_base.specs.declared.fault.PmdFault.TheVariants.{DeviceFault}
+use Rattle.pmd_queue.specs.Both.{both_quiet}
+use Rattle.pmd_queue.specs.Made.{Access, Sees, Sets, IsMade, IsOtherwise, StopsBy}
+use Rattle.pmd_queue.specs.Named.{AtPort}
+use Rattle.pmd_queue.specs.Sides.{ring_words}
+use Rattle.pmd_rx.proofs.Earlier.{free_before}
+use Rattle.pmd.specs.Starting.{PreparingFails}
+use Rattle.start_laws.specs.Along.{BeforeLast}
+use Rattle.start_laws.proofs.AllAre.{AllAre, all_before}
+use Rattle.start_laws.proofs.StopCalls.{some_made, then_made}
+use Rattle.begin_laws.specs.Faultless.{BeforeNext, NoneIsLent}
+use Rattle.begin_laws.specs.Filling.{FaultsEarly, LendsFresh}
+use Rattle.begin_laws.proofs.DrivenAccesses.{IsDriven, words_are_writes, writes_driven}
+use Rattle.pmd_laws.specs.Faultless.{BeginsApart, IsQuietAndFresh}
+use Rattle.pmd_laws.proofs.Begun.{drawn_apart}
+use Rattle.pmd_laws.proofs.LentSince.{RisesToLast, unlent_before}
+use Rattle.pmd_laws.proofs.RiseCalls.{IsRising, Rises, all_rise, off_driven, quieted_rises, ready_rises, step_rises}
+
+-- just before the first read
+pub first_read : (w : Watched) (q : AtPort) (fifo : ℕ) (h : List Entry) (P : State → Type 0) (old new : List Call)
+    → BeforeNext w fifo h old P → IsMade q old new (Sees Rxdctl false) → BeforeLast w fifo h new P
+first_read w q fifo h P old new at (number, word, named, is, (before, added, steps)) =
+    subst (λ (calls : List Call). BeforeLast w fifo h calls P) (sym added)
+    (at before (call_of (event.Read q.port number) (reply.Word word)) steps refl)
+
+-- an access that is answered otherwise adds a call, which is no step of the device
+otherwise_adds : (q : AtPort) (old new : List Call) (a : Access) → IsOtherwise q old new a
+    → (e : Event Block) × (r : Reply Block) × IsFalse (is_step e) × Adds old new e r
+otherwise_adds q old new (Sees row on) (inl (number, word, named, is, adds)) = (_, _, refl, adds)
+otherwise_adds q old new (Sees row on) (inr (number, word, named, adds)) = (_, _, refl, adds)
+otherwise_adds q old new (Sets row word) (number, told, named, adds) = (_, _, refl, adds)
+
+-- behind the first access the calls lend no block but these, up to the last one
+module _ (q : AtPort) (lent : Blocks) (first : List Call) where
+  adds_rise : (old new : List Call) (e : Event Block) (r : Reply Block) → Rises q lent first old → Adds old new e r
+      → RisesToLast q lent first new
+  adds_rise old new e r rises (before, added, steps) = (
+    old ++ before,
+    call_of e r,
+    added ∙ sym (append_assoc old before (call_of e r ∷ [])),
+    then_made (IsRising q lent) first old (old ++ before) rises
+        (some_made (IsRising q lent) (step_rises q lent) old (old ++ before) (before, refl, steps)),
+  )
+
+  otherwise_rise : (old new : List Call) (a : Access) → Rises q lent first old → IsOtherwise q old new a
+      → RisesToLast q lent first new
+  otherwise_rise old new a rises fails =
+      let x = otherwise_adds q old new a fails in adds_rise old new x.0 x.1 rises x.3
+
+  preparing_rise : (side : Dir) (size : ℕ) (old : List Call) (a : Numbers) (new : List Call) → Rises q lent first old
+      → PreparingFails DeviceFault q side size old a new → RisesToLast q lent first new
+  preparing_rise side size old a new rises (ring, free, inl (done, access, rest, mid, is, made, fails)) =
+      let driven = writes_driven (ring_words side ring size) (words_are_writes side ring size) in
+      let are = all_before IsDriven done access rest (subst (AllAre IsDriven) is driven) in
+      otherwise_rise mid new access
+      (then_made (IsRising q lent) first old mid rises (all_rise q lent done old mid are.0 made)) fails
+  preparing_rise side size old a new rises (ring, free, inr (mid, made, (back, lends))) =
+      let driven = writes_driven (ring_words side ring size) (words_are_writes side ring size) in
+      adds_rise mid new _ _
+      (then_made (IsRising q lent) first old mid rises
+      (all_rise q lent (ring_words side ring size) old mid driven made)) lends
+
+module _ (w : Watched) (fifo : ℕ) (h : List Entry) (q : AtPort) (size : ℕ) (old : List Call) (a : Numbers)
+    (new : List Call) (x : BeginsApart w fifo h q size old a new) where
+  abbrev AtFirst : State → Type 0
+  AtFirst = IsQuietAndFresh w.queue q (is_own a)
+
+  -- behind the first access
+  unlent : (lent : Blocks) (first : List Call) → IsMade q old first (Sees Rxdctl false)
+      → RisesToLast q lent first new → (number : ℕ) → is_own a number ≡ true → (lent number ≡ true → ⊥)
+      → BeforeLast w fifo h new (λ s. has_block s.memory number ≡ false)
+  unlent lent first begins =
+      unlent_before w fifo h q old first x.along (is_own a) lent begins
+      (λ done rest e both own is.
+      (first_read w q fifo h AtFirst old first x.begins begins done rest e both own is).1)
+      x.others new
+
+  -- no block is lent up to there
+  abbrev none : Blocks
+  none number = false
+
+  -- a side is seen on, or an access is stray
+  none_quieting : StopsBy DeviceFault q old new both_quiet → NoneIsLent w fifo h new a
+  none_quieting ([], access, rest, mid, is, made, fails) number free =
+      let (e, r, apart, (before, added, steps)) = otherwise_adds q mid new access fails in
+      subst (λ (calls : List Call). BeforeLast w fifo h calls (λ s. has_block s.memory number ≡ false))
+      (sym (added ∙ ap (λ (l : List Call). l ++ (before ++ call_of e r ∷ [])) made))
+      (λ done more entry both own calls.
+      (x.begins before (call_of e r) steps apart done more entry both own calls).1.none number
+      (is_own-of_free a number free))
+  none_quieting (d ∷ done, access, rest, mid, is, made, fails) number free =
+      let same : Sees Rxdctl false ≡ d = cc in
+      let are = all_before IsDriven (d ∷ done) access rest (subst (AllAre IsDriven) is (refl, off_driven)) in
+      unlent none made.0 (subst (IsMade q old made.0) (sym same) made.1)
+      (otherwise_rise q none made.0 mid new access (all_rise q none done made.0 mid are.0.1 made.2) fails)
+      number (is_own-of_free a number free) (λ lent. cc)
+
+  pub none_early : (early : FaultsEarly q size old a new) → LendsFresh w fifo h q size old a new early
+  none_early (inl (inl stops)) = none_quieting stops
+  none_early (inl (inr (mid, made, fails))) = λ number free.
+      unlent none made.0 made.1
+      (preparing_rise q none made.0 Rx size mid a new (quieted_rises q none old mid made) fails)
+      number (is_own-of_free a number free) (λ lent. cc)
+  none_early (inr (inl y)) = λ number free.
+      let ring = y.receive.ring in
+      let drawn = y.receive.prepared.drawn in
+      let lent : Blocks = λ n. n == ring in
+      unlent lent y.receive.quiet.0 y.receive.quiet.1
+      (preparing_rise q lent y.receive.quiet.0 Tx size y.made y.arena new
+      (ready_rises q lent size old a y.made y.arena y.empty y.receive (eq-eqb ring ring refl)) y.fails)
+      number
+      (is_own-of_free a number (free_before a (ring ∷ []) y.arena (y.receive.prepared.free, drawn) number free))
+      (λ is. drawn_apart a y.arena ring number y.receive.prepared.free drawn free (sym (eqb-true number ring is)))
+  none_early (inr (inr y)) = tt

@@ -4,7 +4,6 @@ pub mod Driven
 pub mod Ends
 pub mod Faultless
 pub mod FirstHalves
-pub mod FirstLent
 pub mod HandedOn
 pub mod Held
 pub mod KnownAlong

@@ -31,10 +31,10 @@ use Rattle.pmd_laws.specs.Places.{IsToldAlone, LentIsOut, OutIsLent, is_out, mem
 use Rattle.pmd_laws.specs.Told.{IsToldOf, Moment, last}
 use Rattle.pmd_laws.proofs.Driven.{driven_by}
 use Rattle.pmd_laws.proofs.FirstHalves.{receive_lent, transmit_lent}
-use Rattle.pmd_laws.proofs.FirstLent.{only_lent_at}
 use Rattle.pmd_laws.proofs.Held.{both_lent}
 use Rattle.pmd_laws.proofs.KnownAlong.{known_along}
 use Rattle.pmd_laws.proofs.Lends.{life_lends_apart}
+use Rattle.pmd_laws.proofs.LentSince.{lent_at}
 use Rattle.pmd_laws.proofs.PassLends.{others_behind}
 use Rattle.pmd_laws.proofs.RiseCalls.{Rises, on_rises}
 use Rattle.pmd_laws.proofs.RunsOn.{RunsOn, open_size}
@@ -130,8 +130,8 @@ module _ (w : Watched) (fifo : ℕ) (h : List Entry) (q : AtPort) (size : ℕ) (
 
   at_first : OnlyLent (is_own a) (lent_by first_known) (leads_to (new_state w.vfs fifo) p.front).memory
   at_first =
-      only_lent_at w fifo h q size old a t.told.started.2.on.mid t.told.started.2.empty t.told.started.0.transmit
-      on_there t.along (is_own a) (lent_by first_known) x.fresh rises x.others p.front p.back p.both p.fronts
+      lent_at w fifo h q old on_there.receive.quiet.0 t.along (is_own a) (lent_by first_known) on_there.receive.quiet.1
+      x.fresh x.others t.told.started.2.on.mid rises p.front p.back p.both p.fronts
 
   known : OnlyLent (is_own a) (is_out (last m later).driver.rings) (memory_after w fifo h)
   known =

@@ -1,11 +1,10 @@
 -- Where the blocks of a driver are at the device: lent there are those that it has out with its halves, and of its
 -- arena's no others.
-use Rattle.std.specs.Prelude.{ℕ, ◌≡◌, Bool, false, IsFalse, IsTrue, List, ◌++◌, if◌then◌else◌}
+use Rattle.std.specs.Prelude.{ℕ, ◌≡◌, Bool, false, IsTrue, List, ◌++◌, if◌then◌else◌}
 use Rattle.dma_arena.specs.Memory.{Memory, has_block}
 use Rattle.dma_arena.specs.Numbers.{Numbers, is_free, is_own}
 use Rattle.dma_arena.specs.Whereabouts.{places_of}
-use Rattle.nic_device.specs.State.{State, new_state}
-use Rattle.device_lock.specs.Alone.{Blocks}
+use Rattle.nic_device.specs.State.{new_state}
 use Rattle.device_lock.specs.History.{leads_to}
 use Rattle.device_lock.specs.declared.alone.Watched.{Watched}
 use Rattle.device_lock.specs.declared.entry.Call.{Call}
@@ -20,6 +19,7 @@ use Rattle.pmd_rx.specs.Keeping.{block_in}
 use Rattle.start_laws.specs.Along.{BeforeLast}
 use Rattle.healthy_laws.specs.Before.{OnlyPassLends}
 use Rattle.healthy_laws.specs.Healthy.{lent_by}
+use Rattle.pmd_laws.specs.Faultless.{NoneLent}
 use Rattle.pmd_laws.specs.Told.{IsToldOf, Moment, last}
 
 -- whether a driver that runs has the block of this number out with a half: it is a ring's own, one that is posted or
@@ -38,10 +38,6 @@ OutIsLent =
     (w : Watched) (fifo : ℕ) (h : List Entry) (q : AtPort) (size : ℕ) (old : List Call) (a : Numbers) (m : Moment)
     (later : List Moment) → IsToldOf w fifo h q size old a m later → (number : ℕ) →
     IsTrue (is_out (last m later).driver.rings number) → IsTrue (has_block (memory_after w fifo h) number)
-
--- none of these blocks is lent
-abbrev pub NoneLent : Blocks → State → Type 0
-NoneLent own s = (number : ℕ) → IsTrue (own number) → IsFalse (has_block s.memory number)
 
 -- such a history. Just before the driver's first access none of its arena's blocks was lent; and no other pass lends any
 -- of them

@@ -4,6 +4,7 @@ pub mod Driven
 pub mod Ends
 pub mod Faultless
 pub mod FirstHalves
+pub mod FullRing
 pub mod HandedOn
 pub mod Held
 pub mod KnownAlong

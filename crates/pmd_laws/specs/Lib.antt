@@ -1,5 +1,6 @@
 pub mod Ends
 pub mod Faultless
+pub mod FullRing
 pub mod Lends
 pub mod Life
 pub mod Looks

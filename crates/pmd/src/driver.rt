@@ -8,7 +8,7 @@ ghost use Rattle.pmd_rx.specs.Keeping.{Keeps, handed_block};
 ghost use Rattle.pmd_rx.specs.Plays.{LooksOnce};
 ghost use Rattle.pmd_rx.specs.Wrong.{FailsBy, PacketWaits};
 ghost use Rattle.pmd_tx.specs.Plays.{LooksLast, FaultsBy};
-ghost use Rattle.pmd_tx.specs.Sends.{gate_of, returned, IsAnswer, IsShut, IsAccepted, IsNoneAccepted, IsBack, IsLate, Frees};
+ghost use Rattle.pmd_tx.specs.Sends.{gate_of, returned, IsAnswer, IsFullWhereTold, IsShut, IsAccepted, IsNoneAccepted, IsBack, IsLate, Frees};
 ghost use Rattle.pmd_halt.specs.Halted.{Halted, all_out, is_free_or_out};
 ghost use Rattle.pmd_halt.specs.Stopping.{Stops, StopFails};
 ghost use Rattle.pmd.specs.Apart.{FindsBy};
@@ -138,6 +138,7 @@ impl Pmd {
         ensures drives { RunsOn (N.made nic.old) self.old.rings (N.made nic.new) self.new.rings }
         ensures answer { WhereUp self.old.rings self.new.rings (λ r s. IsAnswer
             (gate_of r.transmit r.arena (receives r packet.buf.number) packet) packet result) }
+        ensures full { WhereUp self.old.rings self.new.rings (λ r s. IsFullWhereTold r.transmit result) }
         ensures shut { WhereUp self.old.rings self.new.rings (λ r s.
             IsShut (gate_of r.transmit r.arena (receives r packet.buf.number) packet)
             → (N.made nic.new ≡ N.made nic.old) × (s ≡ r)) }

@@ -8,7 +8,7 @@ ghost use Rattle.pmd_rx.specs.Keeping.{Keeps, handed_block};
 ghost use Rattle.pmd_rx.specs.Plays.{LooksOnce};
 ghost use Rattle.pmd_rx.specs.Wrong.{FailsBy, PacketWaits};
 ghost use Rattle.pmd_tx.specs.Plays.{LooksLast, FaultsBy};
-ghost use Rattle.pmd_tx.specs.Sends.{gate_of, returned, IsAnswer, IsShut, IsAccepted, IsNoneAccepted, IsBack, IsLate, Frees};
+ghost use Rattle.pmd_tx.specs.Sends.{gate_of, returned, IsAnswer, IsFullWhereTold, IsShut, IsAccepted, IsNoneAccepted, IsBack, IsLate, Frees};
 ghost use Rattle.pmd.specs.Apart.{DrivesRings, FindsBy, OwnsSame};
 ghost use Rattle.pmd.specs.Halves.{halves_of};
 ghost use Rattle.pmd.specs.Running.{IsUp, IsReleased, goes_back, receives};
@@ -123,6 +123,7 @@ impl Running {
         ensures drives { DrivesRings (N.made nic.old) self.old (N.made nic.new) self.new }
         ensures answer { IsAnswer
             (gate_of self.old.transmit self.old.arena (receives self.old packet.buf.number) packet) packet result }
+        ensures full { IsFullWhereTold self.old.transmit result }
         ensures shut { IsShut (gate_of self.old.transmit self.old.arena (receives self.old packet.buf.number) packet)
             → (N.made nic.new ≡ N.made nic.old) × (self.new ≡ self.old) }
         ensures accepted { IfNone (returned result) (IsAccepted self.old.transmit packet self.new.transmit) }

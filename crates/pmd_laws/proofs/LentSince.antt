@@ -26,7 +26,7 @@ use Rattle.start_laws.proofs.Parts.{around}
 use Rattle.start_laws.proofs.Reached.{reached}
 use Rattle.healthy_laws.specs.Before.{OnlyPassLends}
 use Rattle.healthy_laws.proofs.Before.{only_pass_lent}
-use Rattle.pmd_laws.specs.Faultless.{IsFresh}
+use Rattle.pmd_laws.specs.Faultless.{NoneLent}
 use Rattle.pmd_laws.proofs.RiseCalls.{IsRising, Rises}
 use Rattle.pmd_laws.proofs.PassLends.{lent_is, others_before, others_behind}
 
@@ -37,7 +37,7 @@ RisesToLast q lent first new =
 
 module _ (w : Watched) (fifo : ℕ) (h : List Entry) (q : AtPort) (old first : List Call) (along : IsAlong w fifo h)
     (own lent : Blocks) (begins : IsMade q old first (Sees Rxdctl false))
-    (fresh : BeforeLast w fifo h first (IsFresh w.queue own)) (others : OnlyPassLends w.pass own h)
+    (fresh : BeforeLast w fifo h first (NoneLent own)) (others : OnlyPassLends w.pass own h)
   where
     abbrev start : State
     start = new_state w.vfs fifo
@@ -56,7 +56,7 @@ module _ (w : Watched) (fifo : ℕ) (h : List Entry) (q : AtPort) (old first : L
         let here = fresh x.before (x.behind ++ rest) x.entry whole x.own
         ((λ i. x.made i ++ x.call i ∷ []) ∙ append_assoc old before (c ∷ []) ∙ sym added) in
         let s : State = reached w fifo x.before in
-        let none : OnlyLent own (λ n. false) s.memory = λ n is has. absurd (both_ways _ (here.none n is) has) in
+        let none : OnlyLent own (λ n. false) s.memory = λ n is has. absurd (both_ways _ (here n is) has) in
         let events = events_behind x.before es
         (events_before (x.before ++ es) rest (subst AreEvents (sym split) along.events)) in
         let legal = legal_behind start x.before es

@@ -80,4 +80,5 @@ module _ (w : Watched) (fifo : ℕ) (h : List Entry) (q : AtPort) (size : ℕ) (
     -- the blocks that are lent
     pub known_at : OnlyPassLends w.pass own h → AtCalls w fifo h new (λ s. OnlyLent own lent s.memory)
     known_at others =
-        lent_at w fifo h q old up.receive.quiet.0 along own lent up.receive.quiet.1 fresh others new rises
+        lent_at w fifo h q old up.receive.quiet.0 along own lent up.receive.quiet.1
+        (λ before behind e split mine is. (fresh before behind e split mine is).none) others new rises

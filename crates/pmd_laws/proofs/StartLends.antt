@@ -96,7 +96,7 @@ module _ (w : Watched) (fifo : ℕ) (h : List Entry) (q : AtPort) (size : ℕ) (
   unlent lent first begins =
       unlent_before w fifo h q old first x.along (is_own a) lent begins
       (λ done rest e both own is.
-      (first_read w q fifo h AtFirst old first x.begins begins done rest e both own is).1)
+      (first_read w q fifo h AtFirst old first x.begins begins done rest e both own is).1.none)
       x.others new
 
   -- no block is lent up to there

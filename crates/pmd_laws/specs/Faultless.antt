@@ -24,10 +24,14 @@ use Rattle.begin_laws.specs.Filling.{FaultsFilling}
 use Rattle.healthy_laws.specs.Before.{OnlyPassLends}
 use Rattle.pmd_laws.specs.Told.{IsTold, Moment, last}
 
+-- none of these blocks is lent
+abbrev pub NoneLent : Blocks → State → Type 0
+NoneLent own s = (number : ℕ) → IsTrue (own number) → IsFalse (has_block s.memory number)
+
 -- the frames that wait for a queue fit a buffer, and none of these blocks is lent
 pub record IsFresh (queue : ℕ) (own : Blocks) (s : State) : Type 0 where
   pub short : All (IsShortFor queue) s.waiting
-  pub none : (number : ℕ) → IsTrue (own number) → IsFalse (has_block s.memory number)
+  pub none : NoneLent own s
 
 -- a call of `rx`, `tx` or `reap` ended with the device at fault, as its clause `finds` tells
 abbrev pub FindsFault : Moment → Moment → Type 0

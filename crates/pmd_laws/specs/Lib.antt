@@ -1,9 +1,11 @@
 pub mod Ends
 pub mod Faultless
+pub mod FullRing
 pub mod Lends
 pub mod Life
 pub mod Looks
 pub mod Order
+pub mod Places
 pub mod Silent
 pub mod Stopped
 pub mod Told

@@ -4,15 +4,18 @@
 //! driver's pass, `specs/Lends` which blocks it lends, and `specs/Told` what a life is by what the driver's calls tell.
 //! `specs/Order` says what holds of it over a history of a shared device, `specs/Faultless` that neither its start nor
 //! a call of its finds the device at fault, `specs/Looks` what holds where a look finds no packet, and `specs/Waits`
-//! where it finds one waiting. `specs/Ends` says what holds of what a stopped driver left, `specs/Stopped` what over
-//! the calls of its stop, and `specs/Silent` once these have switched its queue off.
+//! where it finds one waiting; `specs/Places` says where its blocks are at the device, and `specs/FullRing` how many
+//! packets are outstanding where its ring is full. `specs/Ends` says what holds of what a stopped driver left,
+//! `specs/Stopped` what over the calls of its stop, and `specs/Silent` once these have switched its queue off.
 #![tactic(auto)]
 
 ghost use Rattle.pmd_laws.specs.Ends.{HandedOverStop, LeftIsPrefix, SentOverStop};
 ghost use Rattle.pmd_laws.specs.Faultless.{NoCallFindsFault, NoFillingFindsFault, NoStartFindsFault};
+ghost use Rattle.pmd_laws.specs.FullRing.{FullIsAllButOne};
 ghost use Rattle.pmd_laws.specs.Lends.{LifeLendsApart};
 ghost use Rattle.pmd_laws.specs.Looks.{CallsEnd, NoneIsAllBefore};
 ghost use Rattle.pmd_laws.specs.Order.{HandedIsPrefix, NoneIsAll, SentIsPrefix, IdleIsAllSent};
+ghost use Rattle.pmd_laws.specs.Places.{EachInOnePlace, LentIsOut, OutIsLent};
 ghost use Rattle.pmd_laws.specs.Silent.{SilentOnceOff, SilentOverStop};
 ghost use Rattle.pmd_laws.specs.Stopped as stopped;
 ghost use Rattle.pmd_laws.specs.Told as told;
@@ -49,6 +52,22 @@ pub fn no_call_finds_the_device_at_fault()
 pub fn no_start_finds_the_device_at_fault()
     ensures filling { NoFillingFindsFault }
     ensures amid { NoStartFindsFault }
+{}
+
+/// Over a legal history of a new device that leaves the queue alone, where a `start` answered a driver and its calls
+/// came since: each block that the driver has out with a half is lent at the device. Where no block of its arena was
+/// lent just before its first access, and no other pass lends any, each of them that is lent there is out with a half.
+/// So each that was free in the arena as it came is in one place: free there, in hand, or lent to the device.
+pub fn blocks_out_are_lent_at_the_device()
+    ensures lent { OutIsLent }
+    ensures known { LentIsOut }
+    ensures once { EachInOnePlace }
+{}
+
+/// Where a `start` answered a driver and its calls came since, and `tx` answers that the ring is full, as many packets
+/// are outstanding as the start was given descriptors, but one.
+pub fn full_ring_has_one_slot_left()
+    ensures { FullIsAllButOne }
 {}
 
 /// Where a pass made some calls, and maybe more behind them, an entry of the history is the last of these.

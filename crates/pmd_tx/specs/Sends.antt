@@ -67,6 +67,12 @@ IsShut (Refused f) = ⊤
 IsShut Full = ⊤
 IsShut Open = ⊥
 
+-- where the ring is told to be full, as many packets are outstanding as it has slots but one
+abbrev pub IsFullWhereTold : Sender → Result TxAnswer TxFault → Type 0
+IsFullWhereTold v (Ok (RingFull p)) = length v.outstanding + 1 ≡ v.layout.size
+IsFullWhereTold v (Ok Taken) = ⊤
+IsFullWhereTold v (Err f) = ⊤
+
 -- the packet that comes back, where one does: one that doesn't was accepted
 abbrev pub returned : Result TxAnswer TxFault → Option Packet
 returned (Ok Taken) = None

@@ -160,7 +160,8 @@ impl TransmitRing {
     /// Whether as many packets are outstanding as the ring has slots, but one.
     #[tactic(auto, using(crate::proofs::Outstanding::outstanding))]
     pub(crate) fn is_full(&self) -> bool
-        ensures { result ≡ is_full self.now }
+        ensures told { result ≡ is_full self.now }
+        ensures full { result ≡ true → length self.now.outstanding + 1 ≡ self.now.layout.size }
     {
         self.blocks.len() + 1 >= usize::from(self.size)
     }

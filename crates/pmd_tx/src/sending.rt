@@ -3,7 +3,7 @@
 ghost use Rattle.std.specs.Prelude.{◌≡◌, ◌<◌, ◌+◌, ℕ, None, length, IfOk, IfErr, OnOk, OnErr, IfSome, IfNone};
 ghost use Rattle.pmd_tx.specs.Plays.{PlaysWith, FaultsBy};
 ghost use Rattle.pmd_tx.specs.Sending.{accepted_by};
-ghost use Rattle.pmd_tx.specs.Sends.{gate_of, goes_home, outgoing_of, returned, IsAnswer, IsShut, IsTried, IsAccepted, IsNoneAccepted, IsBack, IsLate};
+ghost use Rattle.pmd_tx.specs.Sends.{gate_of, goes_home, outgoing_of, returned, IsAnswer, IsFullWhereTold, IsShut, IsTried, IsAccepted, IsNoneAccepted, IsBack, IsLate};
 ghost use Rattle.pmd_tx.specs.Shown.{MaySend};
 
 use crate::answer::{Gate, TxAnswer, TxFault};
@@ -44,6 +44,7 @@ impl TransmitRing {
     ) -> Result<TxAnswer, TxFault>
         ensures plays { PlaysWith packet.buf.number (N.made nic.old) self.old (N.made nic.new) self.new }
         ensures answer { IsAnswer (gate_of self.old arena.now elsewhere packet) packet result }
+        ensures full { IsFullWhereTold self.old result }
         ensures shut { IsShut (gate_of self.old arena.now elsewhere packet)
             → (N.made nic.new ≡ N.made nic.old) × (self.new ≡ self.old) }
         ensures accepted { IfNone (returned result) (IsAccepted self.old packet self.new) }
@@ -67,7 +68,8 @@ impl TransmitRing {
 
     /// What the packet meets before any event.
     fn gate(&self, arena: &Arena, elsewhere: bool, packet: &Packet) -> Gate
-        ensures { result ≡ gate_of self.now arena.now elsewhere packet.now }
+        ensures told { result ≡ gate_of self.now arena.now elsewhere packet.now }
+        ensures full { result ≡ Gate.Full → length self.now.outstanding + 1 ≡ self.now.layout.size }
     {
         if packet.len == 0 || packet.len > LONGEST {
             return Gate::Refused(PmdFault::BadSize);

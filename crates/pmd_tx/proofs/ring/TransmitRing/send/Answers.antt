@@ -5,7 +5,7 @@ use Rattle.pmd_tx.proofs.ring.TransmitRing.send.Goals as goal
 
 pub send_through-requires : goal.send_through-requires
 send_through-requires g c =
-    open_may c.args.self.now c.args.arena.now c.args.elsewhere c.args.packet c.in-Open.ensures
+    open_may c.args.self.now c.args.arena.now c.args.elsewhere c.args.packet c.in-Open.ensures.told
 
 pub returns-in-Refused-clause-plays : goal.returns-in-Refused-clause-plays
 returns-in-Refused-clause-plays g c = plays_none c.args.packet.buf.number (g.N.Nic.made c.args.nic.now) c.args.self.now
@@ -14,13 +14,13 @@ pub returns-in-Full-clause-plays : goal.returns-in-Full-clause-plays
 returns-in-Full-clause-plays g c = plays_none c.args.packet.buf.number (g.N.Nic.made c.args.nic.now) c.args.self.now
 
 pub returns-in-Refused-clause-answer : goal.returns-in-Refused-clause-answer
-returns-in-Refused-clause-answer g c = rw (← c.in-Refused.ensures) refl
+returns-in-Refused-clause-answer g c = rw (← c.in-Refused.ensures.told) refl
 
 pub returns-in-Full-clause-answer : goal.returns-in-Full-clause-answer
-returns-in-Full-clause-answer g c = rw (← c.in-Full.ensures) refl
+returns-in-Full-clause-answer g c = rw (← c.in-Full.ensures.told) refl
 
 pub returns-in-Open-clause-answer : goal.returns-in-Open-clause-answer
-returns-in-Open-clause-answer g c = rw (← c.in-Open.ensures) c.send_through.ensures.tried
+returns-in-Open-clause-answer g c = rw (← c.in-Open.ensures.told) c.send_through.ensures.tried
 
 pub returns-in-Open-clause-shut : goal.returns-in-Open-clause-shut
-returns-in-Open-clause-shut g c = rw (← c.in-Open.ensures) (λ shut. absurd shut)
+returns-in-Open-clause-shut g c = rw (← c.in-Open.ensures.told) (λ shut. absurd shut)

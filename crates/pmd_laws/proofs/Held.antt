@@ -1,0 +1,74 @@
+-- Each block that a half has lent is lent at the device, where device and driver agree.
+use Rattle.std.proofs.Common.{◌≡◌, ℕ, suc, ◌<◌, inl, inr, true, false, List, [], ◌∷◌, ◌++◌, length, sym, ◌∙◌, subst, arith}
+use Rattle.std.specs.Prelude.{◌==◌, slice_index}
+use Rattle.std.specs.List.{list_any}
+use Rattle.std.proofs.lemmas.Bool.{eqb-true, or_cases}
+use Rattle.std.proofs.lemmas.List.Folds.{list_any-append}
+use Rattle.dma_arena.specs.Memory.{has_block}
+use Rattle.nic_device.specs.State.{State}
+use Rattle.pmd.specs.Halves.{Halves}
+use Rattle.pmd_rx.specs.Keeping as received
+use Rattle.pmd_rx.specs.Keeping.{fresh_block}
+use Rattle.pmd_rx.specs.Receive.{Receive, Stage, Looks, Sees, Holding, Lent, Named}
+use Rattle.pmd_tx.specs.Sending as sending
+use Rattle.receive_laws.specs.Pieces.{Piece}
+use Rattle.receive_laws.specs.Steps.{Each, IfFresh}
+use Rattle.driver_laws.specs.Agreeing.{BothAgree}
+use Rattle.driver_laws.proofs.Lending.{receive_lent}
+use Rattle.driver_laws.proofs.Sending.{sender_lent}
+use Rattle.healthy_laws.specs.Healthy.{lent_by}
+
+-- a fact of each block that the receive half has lent
+
+any_place : (xs : List ℕ) (n : ℕ) → list_any (λ b. n == b) xs ≡ true
+    → (k : ℕ) × (k < length xs) × (n ≡ slice_index xs k)
+any_place [] n is = cc
+any_place (x ∷ xs) n is = elim (or_cases (n == x) (list_any (λ b. n == b) xs) is) [
+  | inl here ↦ (0, omega arith, eqb-true n x here)
+  | inr later ↦ let (k, known, same) = any_place xs n later in (suc k, omega (arith, known), same)
+]
+
+only : (P : ℕ → Type 0) (n b : ℕ) → list_any (λ c. n == c) (b ∷ []) ≡ true → P b → P n
+only P n b is has = elim (or_cases (n == b) false is) as (λ _. P n) [
+  | inl same ↦ subst P (sym (eqb-true n b same)) has
+  | inr none ↦ cc
+]
+
+fresh_has : (P : ℕ → Type 0) (n : ℕ) (stage : Stage) → IfFresh stage P
+    → list_any (λ b. n == b) (fresh_block stage) ≡ true → P n
+fresh_has P n Looks has is = cc
+fresh_has P n (Sees first second) has is = cc
+fresh_has P n (Holding p) has is = cc
+fresh_has P n (Lent o b) has is = only P n b is has
+fresh_has P n (Named o b) has is = only P n b is has
+
+part : (P : ℕ → Type 0) (n : ℕ) (xs ys : List ℕ) → (list_any (λ b. n == b) xs ≡ true → P n)
+    → (list_any (λ b. n == b) ys ≡ true → P n) → list_any (λ b. n == b) (xs ++ ys) ≡ true → P n
+part P n xs ys first then is =
+    elim (or_cases (list_any (λ b. n == b) xs) (list_any (λ b. n == b) ys)
+    (sym (list_any-append (λ (b : ℕ). n == b) xs ys) ∙ is)) as (λ _. P n) [
+      | inl here ↦ first here
+      | inr later ↦ then later
+    ]
+
+pub each_has : (v : Receive) (P : ℕ → Type 0) (n : ℕ) → Each v P → received.has_lent v n ≡ true → P n
+each_has v P n each is =
+    let ring : List ℕ = v.layout.ring ∷ [] in
+    part P n v.layout.blocks (fresh_block v.stage ++ ring)
+    (λ posted.
+    let (k, known, same) = any_place v.layout.blocks n posted in
+    subst P (sym same) (each.blocks k known))
+    (part P n (fresh_block v.stage) ring (fresh_has P n v.stage each.fresh)
+    (λ own. only P n v.layout.ring own each.ring))
+    is
+
+-- so what either half has lent is
+pub both_lent : (queue : ℕ) (s : State) (out : List Piece) (sent : List (List ℕ)) (h : Halves)
+    → BothAgree queue s out sent h → (n : ℕ) → lent_by h n ≡ true → has_block s.memory n ≡ true
+both_lent queue s out sent h both n is =
+    elim (or_cases (received.has_lent h.receive n) (sending.has_lent h.transmit n) is) [
+      | inl first ↦
+          each_has h.receive (λ b. has_block s.memory b ≡ true) n (receive_lent queue s out h.receive both.receive)
+          first
+      | inr second ↦ sender_lent s queue sent h.transmit both.transmit.0 both.transmit.1 n second
+    ]

@@ -1,0 +1,99 @@
+-- Each block of a driver's arena is in one place: free there, in hand, or lent to the device.
+use Rattle.std.proofs.Common.{◌≡◌, ℕ, zero, suc, ◌+◌, ◌<◌, Bool, true, false, cond, List, [], ◌∷◌, ◌++◌, refl, sym, subst, ◌∙◌, arith}
+use Rattle.std.specs.Prelude.{◌==◌}
+use Rattle.std.specs.List.{list_any}
+use Rattle.std.proofs.lemmas.Bool.{both_ways, eqb-false, or_from, or_parts, true_from_ne_false}
+use Rattle.dma_arena.specs.Memory.{Memory, has_block}
+use Rattle.dma_arena.specs.Numbers.{Numbers, is_free}
+use Rattle.dma_arena.specs.Whereabouts.{places_of, times_in_hand}
+use Rattle.pmd_base.proofs.Outside.{times-append, times_rest}
+use Rattle.pmd_rx.specs.Keeping as received
+use Rattle.pmd_rx.specs.Keeping.{block_in}
+use Rattle.pmd_rx.specs.Receive.{held_by}
+use Rattle.pmd_tx.specs.Leaving as sending
+use Rattle.pmd_tx.specs.Sending.{has_lent}
+use Rattle.pmd_tx.proofs.Counting.{not_lent}
+use Rattle.pmd.specs.Blocks.{HasAll}
+use Rattle.pmd.specs.Driver.{arena_of, halted_of}
+use Rattle.pmd.specs.Halves.{Halves, halves_of}
+use Rattle.pmd.specs.Running.{Running}
+use Rattle.pmd.specs.declared.driver.Rings.{Rings}
+use Rattle.pmd.specs.declared.driver.Rings.TheVariants.{Up}
+use Rattle.pmd.proofs.Handing.{away_lent, none_any}
+use Rattle.healthy_laws.specs.Healthy.{lent_by}
+use Rattle.pmd_laws.specs.Places.{EachInOnePlace, is_out, memory_after}
+use Rattle.pmd_laws.proofs.Places.{lent_is_out, out_is_lent}
+use Rattle.pmd_laws.proofs.Told.{runs}
+
+-- a block that is out is counted
+
+any_none : (xs : List ℕ) (n : ℕ) → list_any (λ b. n == b) xs ≡ false → times_in_hand xs n ≡ 0
+any_none [] n is = refl
+any_none (x ∷ xs) n is =
+    let parts = or_parts (n == x) (list_any (λ b. n == b) xs) is in
+    times_rest xs x n (eqb-false n x parts.0) ∙ any_none xs n parts.1
+
+some_where : (b : Bool) (t : ℕ) → (t ≡ 0 → b ≡ false) → b ≡ true → 0 < t
+some_where b zero none is = absurd (both_ways b (none refl) is)
+some_where b (suc t) none is = omega arith
+
+module _ (h : Halves) (n : ℕ) where
+  abbrev pub lent : List ℕ
+  lent = received.lent_of h.receive ++ sending.lent_of h.transmit
+
+  abbrev both : times_in_hand lent n
+      ≡ times_in_hand (received.lent_of h.receive) n + times_in_hand (sending.lent_of h.transmit) n
+  both = times-append (received.lent_of h.receive) (sending.lent_of h.transmit) n
+
+  none_out : times_in_hand lent n ≡ 0 → lent_by h n ≡ false
+  none_out none =
+      or_from (received.has_lent h.receive n) (has_lent h.transmit n)
+      (none_any (received.lent_of h.receive) n (omega (arith, none, both)))
+      (away_lent h.transmit n (omega (arith, none, both)))
+
+  out_none : lent_by h n ≡ false → times_in_hand lent n ≡ 0
+  out_none is =
+      let parts = or_parts (received.has_lent h.receive n) (has_lent h.transmit n) is in
+      omega (arith, both, any_none (received.lent_of h.receive) n parts.0, not_lent h.transmit n parts.1)
+
+  out_some : lent_by h n ≡ true → 0 < times_in_hand lent n
+  out_some = some_where (lent_by h n) (times_in_hand lent n) none_out
+
+  some_out : 0 < times_in_hand lent n → lent_by h n ≡ true
+  some_out some = true_from_ne_false (lent_by h n) (λ is. absurd (omega (arith, some, out_none is)))
+
+-- so it counts as lent
+placed : (has f g : Bool) (t k : ℕ) → (has ≡ true → 0 < t) → (0 < t → has ≡ true)
+    → cond f 1 0 + (t + k) ≡ cond g 1 0 → cond f 1 0 + k + cond has 1 0 ≡ cond g 1 0
+placed true f true t k some has same = omega (arith, same, some refl)
+placed true f false t k some has same = absurd (omega (arith, same, some refl))
+placed false f g zero k some has same = omega (arith, same)
+placed false f g (suc t) k some has same = absurd (let e : false ≡ true = has (omega arith) in cc)
+
+module _ (a : Numbers) (hand : List ℕ) (mem : Memory) (n : ℕ) where
+  abbrev InPlace : Rings → Type 0
+  InPlace z =
+      HasAll a (halted_of z) hand → (is_out z n ≡ true → has_block mem n ≡ true)
+      → (has_block mem n ≡ true → is_out z n ≡ true)
+      → places_of (arena_of z) (block_in (halted_of z).held ++ hand) mem n ≡ cond (is_free a n) 1 0
+
+  up_in_place : (r : Running) → InPlace (Up r)
+  up_in_place r all out known =
+      let h : Halves = halves_of r in
+      let held : List ℕ = block_in (held_by r.receive.stage) in
+      placed (has_block mem n) (is_free r.arena n) (is_free a n) (times_in_hand (lent h n) n)
+      (times_in_hand (held ++ hand) n) (λ has. out_some h n (known has)) (λ some. out (some_out h n some))
+      (omega (
+        arith,
+        all.each n,
+        times-append (lent h n) held n,
+        times-append (lent h n ++ held) hand n,
+        times-append held hand n,
+      ))
+
+pub each_in_one_place : EachInOnePlace
+each_in_one_place w fifo h q size old a m later x hand all n own =
+    let mem : Memory = memory_after w fifo h in
+    subst (InPlace a hand mem n) (sym (runs q size old a m later x.told.told).up)
+    (up_in_place a hand mem n (runs q size old a m later x.told.told).rings) all
+    (out_is_lent w fifo h q size old a m later x.told n) (lent_is_out w fifo h q size old a m later x n own)

@@ -1,0 +1,149 @@
+-- Of an arena's blocks those are lent at the device that its driver has out with its halves.
+use Rattle.std.proofs.Common.{◌≡◌, ℕ, true, List, sym, ap, ◌∙◌, subst}
+use Rattle.std.specs.Prelude.{IsTrue}
+use Rattle.dma_arena.specs.Memory.{has_block}
+use Rattle.dma_arena.specs.Numbers.{Numbers, is_own}
+use Rattle.nic_device.specs.State.{State, new_state}
+use Rattle.device_lock.specs.Alone.{Blocks}
+use Rattle.device_lock.specs.History.{calls_of, leads_to}
+use Rattle.device_lock.specs.declared.alone.Watched.{Watched}
+use Rattle.device_lock.specs.declared.entry.Call.{Call}
+use Rattle.device_lock.specs.declared.entry.Entry.{Entry}
+use Rattle.history_laws.specs.Lent.{OnlyLent}
+use Rattle.pmd.specs.Apart.{AllLendApart, DrivesApart}
+use Rattle.pmd.specs.Halves.{Doer, Halves, halves_of, played_by}
+use Rattle.pmd.specs.Life.{Lives}
+use Rattle.pmd.specs.Running.{Running}
+use Rattle.pmd.specs.Started.{AreUp, is_size}
+use Rattle.pmd.specs.declared.driver.Rings.{Rings}
+use Rattle.pmd_queue.specs.Named.{AtPort}
+use Rattle.receive_laws.proofs.Delivering.{leads-append}
+use Rattle.start_laws.specs.On.{AreOn}
+use Rattle.start_laws.proofs.Parts.{Parts, parts}
+use Rattle.start_laws.proofs.Start.{on}
+use Rattle.driver_laws.specs.Histories.{IsDriven}
+use Rattle.driver_laws.proofs.Beside.{others_harmless}
+use Rattle.driver_laws.proofs.InOrder.{led}
+use Rattle.healthy_laws.specs.Before.{OnlyPassLends}
+use Rattle.healthy_laws.specs.Healthy.{lent_by}
+use Rattle.pmd_laws.specs.Lends.{first_of}
+use Rattle.pmd_laws.specs.Places.{IsToldAlone, LentIsOut, OutIsLent, is_out, memory_after}
+use Rattle.pmd_laws.specs.Told.{IsToldOf, Moment, last}
+use Rattle.pmd_laws.proofs.Driven.{driven_by}
+use Rattle.pmd_laws.proofs.FirstHalves.{receive_lent, transmit_lent}
+use Rattle.pmd_laws.proofs.Held.{both_lent}
+use Rattle.pmd_laws.proofs.KnownAlong.{known_along}
+use Rattle.pmd_laws.proofs.Lends.{life_lends_apart}
+use Rattle.pmd_laws.proofs.LentSince.{lent_at}
+use Rattle.pmd_laws.proofs.PassLends.{others_behind}
+use Rattle.pmd_laws.proofs.RiseCalls.{Rises, on_rises}
+use Rattle.pmd_laws.proofs.RunsOn.{RunsOn, open_size}
+use Rattle.pmd_laws.proofs.Told.{first, runs}
+
+module _ (w : Watched) (fifo : ℕ) (h : List Entry) (q : AtPort) (size : ℕ) (old : List Call) (a : Numbers)
+    (m : Moment) (later : List Moment) (x : IsToldOf w fifo h q size old a m later) where
+  abbrev fresh : Running
+  fresh = first q size old a m later x.told
+
+  goes : RunsOn m fresh (last m later)
+  goes = runs q size old a m later x.told
+
+  abbrev lives : Lives q size old a (last m later).made goes.rings
+  lives = record { made = m.made; fresh = fresh; up = x.told.started.2; drives = goes.drives }
+
+  abbrev begins : Halves
+  begins = first_of q size old a (last m later).made goes.rings lives
+
+  abbrev up : AreUp q size old a m.made fresh
+  up = x.told.started.2
+
+  sized : is_size size ≡ true
+  sized = open_size size a old m.made m.driver (is_size size) _ x.told.shut
+
+  abbrev begun : AreOn q size old a up.on.mid up.empty fresh.transmit
+  begun = on w fifo h q size old a m.made fresh up x.along sized x.begins
+
+  -- the calls from there on
+  apart : DrivesApart (is_own a) up.on.mid begins (last m later).made (halves_of goes.rings)
+  apart = life_lends_apart q size old a (last m later).made goes.rings lives
+
+  abbrev doers : List Doer
+  doers = apart.drives.0
+
+  abbrev calls : List Call
+  calls = apart.drives.1
+
+  parted : Parts w.pass h up.on.mid calls
+  parted = parts w.pass h up.on.mid calls (x.made ∙ apart.drives.2)
+
+  driven : IsDriven w fifo parted.front parted.back begins doers
+  driven =
+      driven_by w fifo h q size old a up.on.mid up.empty fresh.transmit begun x.along sized x.begins.ground calls parted
+      doers apart.drives.3 (others_harmless doers calls apart.drives.5)
+
+  -- where they lead
+
+  abbrev start : State
+  start = new_state w.vfs fifo
+
+  abbrev ends : Halves
+  ends = played_by begins doers (calls_of w.pass parted.back)
+
+  ends_is : ends ≡ halves_of goes.rings
+  ends_is = ap (played_by begins doers) parted.backs ∙ sym apart.drives.4
+
+  there : leads_to (leads_to start parted.front) parted.back ≡ leads_to start h
+  there = sym (leads-append start parted.front parted.back) ∙ ap (leads_to start) parted.both
+
+  -- what is told of halves and of the blocks that are lent, there
+  at_last : (P : Blocks → State → Type 0) → P (lent_by ends) (leads_to (leads_to start parted.front) parted.back)
+      → P (is_out (last m later).driver.rings) (leads_to start h)
+  at_last P holds =
+      subst (λ (z : Rings). P (is_out z) (leads_to start h)) (sym goes.up)
+      (subst (λ (k : Halves). P (lent_by k) (leads_to start h)) ends_is (subst (P (lent_by ends)) there holds))
+
+  lent : (n : ℕ) → IsTrue (is_out (last m later).driver.rings n) → IsTrue (has_block (memory_after w fifo h) n)
+  lent =
+      at_last (λ out s. (n : ℕ) → IsTrue (out n) → IsTrue (has_block s.memory n))
+      (both_lent w.queue _ _ _ ends (led w fifo parted.front parted.back begins doers driven).both)
+
+module _ (w : Watched) (fifo : ℕ) (h : List Entry) (q : AtPort) (size : ℕ) (old : List Call) (a : Numbers)
+    (m : Moment) (later : List Moment) (x : IsToldAlone w fifo h q size old a m later) where
+  abbrev t : IsToldOf w fifo h q size old a m later
+  t = x.told
+
+  abbrev p : Parts w.pass h t.told.started.2.on.mid (calls w fifo h q size old a m later t)
+  p = parted w fifo h q size old a m later t
+
+  abbrev first_known : Halves
+  first_known = begins w fifo h q size old a m later t
+
+  abbrev on_there : AreOn q size old a t.told.started.2.on.mid t.told.started.2.empty t.told.started.0.transmit
+  on_there = begun w fifo h q size old a m later t
+
+  rises : Rises q (lent_by first_known) on_there.receive.quiet.0 t.told.started.2.on.mid
+  rises =
+      on_rises q (lent_by first_known) size old a t.told.started.2.on.mid t.told.started.2.empty
+      t.told.started.0.transmit on_there
+      (receive_lent q size old a t.told.started.2.on.mid t.told.started.2.empty t.told.started.0.transmit on_there)
+      (transmit_lent q size old a t.told.started.2.on.mid t.told.started.2.empty t.told.started.0.transmit on_there)
+
+  at_first : OnlyLent (is_own a) (lent_by first_known) (leads_to (new_state w.vfs fifo) p.front).memory
+  at_first =
+      lent_at w fifo h q old on_there.receive.quiet.0 t.along (is_own a) (lent_by first_known) on_there.receive.quiet.1
+      x.fresh x.others t.told.started.2.on.mid rises p.front p.back p.both p.fronts
+
+  known : OnlyLent (is_own a) (is_out (last m later).driver.rings) (memory_after w fifo h)
+  known =
+      let far = apart w fifo h q size old a m later t in
+      at_last w fifo h q size old a m later t (λ out s. OnlyLent (is_own a) out s.memory)
+      (known_along w fifo p.front p.back first_known far.drives.0 (is_own a) (driven w fifo h q size old a m later t)
+      at_first
+      (others_behind w.pass (is_own a) p.front p.back (subst (OnlyPassLends w.pass (is_own a)) (sym p.both) x.others))
+      (subst (AllLendApart (is_own a) first_known far.drives.0) (sym p.backs) far.apart))
+
+pub out_is_lent : OutIsLent
+out_is_lent = lent
+
+pub lent_is_out : LentIsOut
+lent_is_out = known

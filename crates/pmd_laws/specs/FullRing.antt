@@ -1,0 +1,29 @@
+-- How many packets are outstanding where a driver's ring is told to be full.
+use Rattle.std.specs.Prelude.{ℕ, ◌≡◌, ◌+◌, List, Ok, length}
+use Rattle.dma_arena.specs.Numbers.{Numbers}
+use Rattle.device_lock.specs.declared.entry.Call.{Call}
+use Rattle.pmd.specs.Driver.{WhereUp}
+use Rattle.pmd.specs.declared.driver.Rings.{Rings}
+use Rattle.pmd.specs.declared.driver.Rings.TheVariants.{Up, Down}
+use Rattle.pmd_base.specs.declared.packet.Packet.{Packet}
+use Rattle.pmd_queue.specs.Named.{AtPort}
+use Rattle.pmd_tx.specs.Sends.{IsFullWhereTold}
+use Rattle.pmd_tx.specs.declared.answer.TxAnswer.TheVariants.{RingFull}
+use Rattle.pmd_laws.specs.Told.{IsTold, Moment, last}
+
+-- a call of `tx` answered that the ring is full, as its clause `full` tells
+abbrev pub TellsFull : Moment → Moment → Packet → Type 0
+TellsFull m n p =
+    WhereUp m.driver.rings n.driver.rings (λ r s. IsFullWhereTold r.transmit (Ok (RingFull p)))
+
+-- how many packets of a driver that runs are outstanding
+abbrev pub outstanding : Rings → ℕ
+outstanding (Up r) = length r.transmit.outstanding
+outstanding (Down h) = 0
+
+-- as many are outstanding as its start was given descriptors, but one
+abbrev pub FullIsAllButOne : Type 0
+FullIsAllButOne =
+    (q : AtPort) (size : ℕ) (old : List Call) (a : Numbers) (m : Moment) (later : List Moment) (n : Moment)
+    (p : Packet) → IsTold q size old a m later → TellsFull (last m later) n p →
+    outstanding (last m later).driver.rings + 1 ≡ size

@@ -1,0 +1,67 @@
+-- Where the blocks of a driver are at the device: lent there are those that it has out with its halves, and of its
+-- arena's no others.
+use Rattle.std.specs.Prelude.{ℕ, ◌≡◌, Bool, false, IsTrue, List, ◌++◌, if◌then◌else◌}
+use Rattle.dma_arena.specs.Memory.{Memory, has_block}
+use Rattle.dma_arena.specs.Numbers.{Numbers, is_free, is_own}
+use Rattle.dma_arena.specs.Whereabouts.{places_of}
+use Rattle.nic_device.specs.State.{new_state}
+use Rattle.device_lock.specs.History.{leads_to}
+use Rattle.device_lock.specs.declared.alone.Watched.{Watched}
+use Rattle.device_lock.specs.declared.entry.Call.{Call}
+use Rattle.device_lock.specs.declared.entry.Entry.{Entry}
+use Rattle.pmd.specs.Blocks.{HasAll}
+use Rattle.pmd.specs.Driver.{arena_of, halted_of}
+use Rattle.pmd.specs.Halves.{halves_of}
+use Rattle.pmd.specs.declared.driver.Rings.{Rings}
+use Rattle.pmd.specs.declared.driver.Rings.TheVariants.{Up, Down}
+use Rattle.pmd_queue.specs.Named.{AtPort}
+use Rattle.pmd_rx.specs.Keeping.{block_in}
+use Rattle.start_laws.specs.Along.{BeforeLast}
+use Rattle.healthy_laws.specs.Before.{OnlyPassLends}
+use Rattle.healthy_laws.specs.Healthy.{lent_by}
+use Rattle.pmd_laws.specs.Faultless.{NoneLent}
+use Rattle.pmd_laws.specs.Told.{IsToldOf, Moment, last}
+
+-- whether a driver that runs has the block of this number out with a half: it is a ring's own, one that is posted or
+-- about to be, or that of an outstanding packet
+abbrev pub is_out : Rings → ℕ → Bool
+is_out (Up r) n = lent_by (halves_of r) n
+is_out (Down h) n = false
+
+-- the memory that is lent to the device, where these entries led a new one
+abbrev pub memory_after : Watched → ℕ → List Entry → Memory
+memory_after w fifo h = (leads_to (new_state w.vfs fifo) h).memory
+
+-- each block that is out is lent there
+abbrev pub OutIsLent : Type 0
+OutIsLent =
+    (w : Watched) (fifo : ℕ) (h : List Entry) (q : AtPort) (size : ℕ) (old : List Call) (a : Numbers) (m : Moment)
+    (later : List Moment) → IsToldOf w fifo h q size old a m later → (number : ℕ) →
+    IsTrue (is_out (last m later).driver.rings number) → IsTrue (has_block (memory_after w fifo h) number)
+
+-- such a history. Just before the driver's first access none of its arena's blocks was lent; and no other pass lends any
+-- of them
+pub record IsToldAlone (w : Watched) (fifo : ℕ) (h : List Entry) (q : AtPort) (size : ℕ) (old : List Call) (a : Numbers)
+    (m : Moment) (later : List Moment) : Type 0 where
+  pub told : IsToldOf w fifo h q size old a m later
+  pub fresh : BeforeLast w fifo h told.told.started.2.receive.quiet.0 (NoneLent (is_own a))
+  pub others : OnlyPassLends w.pass (is_own a) h
+
+-- each of the arena's blocks that is lent there is out
+abbrev pub LentIsOut : Type 0
+LentIsOut =
+    (w : Watched) (fifo : ℕ) (h : List Entry) (q : AtPort) (size : ℕ) (old : List Call) (a : Numbers) (m : Moment)
+    (later : List Moment) → IsToldAlone w fifo h q size old a m later → (number : ℕ) → IsTrue (is_own a number) →
+    IsTrue (has_block (memory_after w fifo h) number) → IsTrue (is_out (last m later).driver.rings number)
+
+-- so each block that was free in the arena that came to the driver is in one place: free there, in hand, or lent to the
+-- device; and no other block of the arena is in any of them. In hand are the block of a packet that the driver holds,
+-- and those that its clauses on blocks count so, as of packets that it gave away
+abbrev pub EachInOnePlace : Type 0
+EachInOnePlace =
+    (w : Watched) (fifo : ℕ) (h : List Entry) (q : AtPort) (size : ℕ) (old : List Call) (a : Numbers) (m : Moment)
+    (later : List Moment) → IsToldAlone w fifo h q size old a m later → (hand : List ℕ) →
+    HasAll a (halted_of (last m later).driver.rings) hand → (number : ℕ) → IsTrue (is_own a number) →
+    places_of (arena_of (last m later).driver.rings) (block_in (halted_of (last m later).driver.rings).held ++ hand)
+    (memory_after w fifo h) number
+    ≡ (if is_free a number then 1 else 0)

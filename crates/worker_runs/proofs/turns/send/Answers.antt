@@ -16,21 +16,21 @@ returns-in-Err-clause-home g c =
 
 pub returns-in-Ok-Taken-clause-blocks : goal.returns-in-Ok-Taken-clause-blocks
 returns-in-Ok-Taken-clause-blocks g c =
+    let e = c.in-Ok-Taken.ensures in
     let old = c.args.pmd.now.rings in
     let n = c.args.packet.buf.number in
     subst (λ (x : TxAnswer). KeepsAll old (n ∷ []) c.tx.new.self.rings (block_in (returned (Ok x))))
     c.in-Ok-Taken.field-0-is
-    (kept_all old c.tx.new.self.rings (n ∷ []) (block_in (returned (Ok c.in-Ok-Taken.field-0)))
-    c.in-Ok-Taken.ensures.blocks)
+    (kept_all old c.tx.new.self.rings (n ∷ []) (block_in (returned (Ok c.in-Ok-Taken.field-0))) e.blocks)
 
 pub returns-in-Ok-RingFull-clause-blocks : goal.returns-in-Ok-RingFull-clause-blocks
 returns-in-Ok-RingFull-clause-blocks g c =
+    let e = c.in-Ok-RingFull.ensures in
     let old = c.args.pmd.now.rings in
     let n = c.args.packet.buf.number in
     subst (λ (x : TxAnswer). KeepsAll old (n ∷ []) c.tx.new.self.rings (block_in (returned (Ok x))))
     c.in-Ok-RingFull.field-0-is
-    (kept_all old c.tx.new.self.rings (n ∷ []) (block_in (returned (Ok c.in-Ok-RingFull.field-0)))
-    c.in-Ok-RingFull.ensures.blocks)
+    (kept_all old c.tx.new.self.rings (n ∷ []) (block_in (returned (Ok c.in-Ok-RingFull.field-0))) e.blocks)
 
 pub returns-in-Err-clause-blocks : goal.returns-in-Err-clause-blocks
 returns-in-Err-clause-blocks g c =

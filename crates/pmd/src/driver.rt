@@ -159,7 +159,8 @@ impl Pmd {
         ensures layout { WhereUp self.old.rings self.new.rings (λ r s. s.transmit.layout ≡ r.transmit.layout) }
         ensures others { WhereUp self.old.rings self.new.rings (λ r s.
             (s.arena ≡ r.arena) × (s.receive ≡ r.receive)) }
-        ensures blocks { KeepsBlocks self.old.rings (packet.buf.number ∷ []) self.new.rings (block_in (returned result)) }
+        ensures blocks { KeepsBlocks self.old.rings (packet.buf.number ∷ []) self.new.rings
+            (block_in (returned result)) }
         ensures handed { handed_of self.new.rings ≡ handed_of self.old.rings }
         ensures down { IsDown self.old.rings
             → (result ≡ Err (record { fault = PmdFault.DeviceFault; packet = Some packet }))

@@ -40,8 +40,8 @@ OutIsLent =
     (later : List Moment) → IsToldOf w fifo h q size old a m later → (number : ℕ) →
     IsTrue (is_out (last m later).driver.rings number) → IsTrue (has_block (memory_after w fifo h) number)
 
--- such a history. Just before the driver's first access none of its arena's blocks was lent; and no other pass lends any
--- of them
+-- such a history. Just before the driver's first access none of its arena's blocks was lent; and no other pass lends
+-- any of them
 pub record IsToldAlone (w : Watched) (fifo : ℕ) (h : List Entry) (q : AtPort) (size : ℕ) (old : List Call) (a : Numbers)
     (m : Moment) (later : List Moment) : Type 0 where
   pub told : IsToldOf w fifo h q size old a m later

@@ -20,6 +20,7 @@ returns-clause-blocks g c =
     rw (← c.self.view_is) (elim c.match-self.branch [
       | in-Up w ↦
           rw (w.result-is, w.self-inside-is, w.in-Up.is)
-          (up_kept w.in-Up.running w.tx.new.self (c.args.packet.buf.number ∷ []) (block_in (returned w.tx.result)) w.tx.ensures.blocks)
+          (up_kept w.in-Up.running w.tx.new.self (c.args.packet.buf.number ∷ []) (block_in (returned w.tx.result))
+          w.tx.ensures.blocks)
       | in-Down w ↦ rw (w.result-is, w.self-inside-is) (record { owns = λ n. refl; each = λ n. refl })
     ])

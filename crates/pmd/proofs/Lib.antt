@@ -2,6 +2,7 @@ pub mod Apart
 pub mod Blocks
 pub mod Both
 pub mod Calls
+pub mod Counted
 pub mod Driving
 pub mod Finding
 pub mod Handing
@@ -9,9 +10,11 @@ pub mod Homecoming
 pub mod Late
 pub mod Leaving
 pub mod Living
+pub mod ReapedCounted
 pub mod Rising
 pub mod Sending
 pub mod Sent
+pub mod SentCounted
 pub mod Starting
 pub mod Stopping
 pub mod Whole

@@ -4,6 +4,8 @@ use Rattle.dma_arena.specs.Numbers.{Numbers, is_own, is_free}
 use Rattle.dma_arena.specs.Whereabouts.{times_in_hand}
 use Rattle.pmd_halt.specs.Halted.{Halted, all_out}
 use Rattle.pmd.specs.Driver.{halted_of}
+use Rattle.pmd.specs.Running.{Running, rings_out}
+use Rattle.pmd.specs.declared.driver.Rings.{Rings}
 use Rattle.pmd.specs.declared.start.Rest.{Rest}
 use Rattle.pmd.specs.declared.start.Rest.TheVariants as rest
 
@@ -13,6 +15,17 @@ pub record KeepsEach (a : Numbers) (out : List ℕ) (b : Numbers) (new : List �
   pub owns : (n : ℕ) → is_own b n ≡ is_own a n
   pub each : (n : ℕ)
       → (if is_free b n then 1 else 0) + times_in_hand new n ≡ (if is_free a n then 1 else 0) + times_in_hand out n
+
+-- a call of two rings that are up: each block is free in the arena, out, or in hand as often as before. So many were in
+-- hand for the call, and so many are after it
+abbrev pub KeepsUp : Running → List ℕ → Running → List ℕ → Type 0
+KeepsUp r given s back = KeepsEach r.arena (rings_out r ++ given) s.arena (rings_out s ++ back)
+
+-- and so a call of a driver, whether it runs or not
+abbrev pub KeepsBlocks : Rings → List ℕ → Rings → List ℕ → Type 0
+KeepsBlocks old given new back =
+    KeepsEach (halted_of old).arena (all_out (halted_of old) ++ given) (halted_of new).arena
+    (all_out (halted_of new) ++ back)
 
 -- each block that was free in the arena that came to a driver is free there, out, or in hand, and no other is
 abbrev pub HasAll : Numbers → Halted → List ℕ → Type 0

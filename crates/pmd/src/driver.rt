@@ -4,7 +4,7 @@ ghost use Rattle.std.specs.Prelude.{ℕ, ◌≡◌, ◌<◌, ◌⊎◌, ◌++◌
 ghost use Rattle.dma_arena.specs.Numbers.{free_count, is_own, is_free, with_free};
 ghost use Rattle.pmd_base.specs.Fresh.{IsFresh};
 ghost use Rattle.pmd_base.specs.Packet.{kept_of};
-ghost use Rattle.pmd_rx.specs.Keeping.{Keeps, handed_block};
+ghost use Rattle.pmd_rx.specs.Keeping.{Keeps, block_in, handed_block};
 ghost use Rattle.pmd_rx.specs.Plays.{LooksOnce};
 ghost use Rattle.pmd_rx.specs.Wrong.{FailsBy, PacketWaits};
 ghost use Rattle.pmd_tx.specs.Plays.{LooksLast, FaultsBy};
@@ -12,6 +12,7 @@ ghost use Rattle.pmd_tx.specs.Sends.{gate_of, returned, IsAnswer, IsFullWhereTol
 ghost use Rattle.pmd_halt.specs.Halted.{Halted, all_out, is_free_or_out};
 ghost use Rattle.pmd_halt.specs.Stopping.{Stops, StopFails};
 ghost use Rattle.pmd.specs.Apart.{FindsBy};
+ghost use Rattle.pmd.specs.Blocks.{KeepsBlocks};
 ghost use Rattle.pmd.specs.Halves.{halves_of};
 ghost use Rattle.pmd.specs.Life.{KeepsHalves, RunsOn};
 ghost use Rattle.pmd.specs.Running.{receives};
@@ -106,6 +107,7 @@ impl Pmd {
             result ≡ Err PmdFault.NoBuffer → PacketWaits s.receive.stage) }
         ensures keeps { WhereUp self.old.rings self.new.rings (λ r s.
             Keeps r.arena r.receive s.arena s.receive (handed_block result)) }
+        ensures blocks { KeepsBlocks self.old.rings [] self.new.rings (handed_block result) }
         ensures transmit { WhereUp self.old.rings self.new.rings (λ r s. s.transmit ≡ r.transmit) }
         ensures home { IfOk result (λ out. IfSome out (λ packet.
             goes_back_to self.new.rings packet.buf.number ≡ true)) }
@@ -157,6 +159,8 @@ impl Pmd {
         ensures layout { WhereUp self.old.rings self.new.rings (λ r s. s.transmit.layout ≡ r.transmit.layout) }
         ensures others { WhereUp self.old.rings self.new.rings (λ r s.
             (s.arena ≡ r.arena) × (s.receive ≡ r.receive)) }
+        ensures blocks { KeepsBlocks self.old.rings (packet.buf.number ∷ []) self.new.rings
+            (block_in (returned result)) }
         ensures handed { handed_of self.new.rings ≡ handed_of self.old.rings }
         ensures down { IsDown self.old.rings
             → (result ≡ Err (record { fault = PmdFault.DeviceFault; packet = Some packet }))
@@ -198,6 +202,7 @@ impl Pmd {
         ensures finds { WhereUp self.old.rings self.new.rings (λ r s. IfErr result (λ fault.
             FindsBy fault (is_own r.arena) (N.made nic.old) (halves_of r) (N.made nic.new))) }
         ensures receive { WhereUp self.old.rings self.new.rings (λ r s. s.receive ≡ r.receive) }
+        ensures blocks { KeepsBlocks self.old.rings [] self.new.rings [] }
         ensures handed { handed_of self.new.rings ≡ handed_of self.old.rings }
         ensures down { IsDown self.old.rings → (result ≡ Err PmdFault.DeviceFault)
             × (N.made nic.new ≡ N.made nic.old) × (self.new ≡ self.old) }
@@ -217,6 +222,7 @@ impl Pmd {
         ensures none { IsNone result ↔ ((2048 < len) ⊎ (free_count (arena_of self.old.rings) ≡ 0)) }
         ensures made { IsFresh (arena_of self.old.rings) len result (arena_of self.new.rings) }
         ensures rings { self.new.rings ≡ with_arena self.old.rings (arena_of self.new.rings) }
+        ensures blocks { KeepsBlocks self.old.rings [] self.new.rings (block_in result) }
         ensures halves { KeepsHalves self.old.rings self.new.rings }
         ensures queue { self.new.queue ≡ self.old.queue }
     {
@@ -232,6 +238,7 @@ impl Pmd {
         ensures ok { IsOk result ↔ (goes_back_to self.old.rings packet.buf.number ≡ true) }
         ensures released { OnOk result (self.new.rings
             ≡ with_arena self.old.rings (with_free (arena_of self.old.rings) packet.buf.number true)) }
+        ensures blocks { OnOk result (KeepsBlocks self.old.rings (packet.buf.number ∷ []) self.new.rings []) }
         ensures back { IfErr result (λ back. back ≡ packet) }
         ensures kept { OnErr result (self.new.rings ≡ self.old.rings) }
         ensures halves { KeepsHalves self.old.rings self.new.rings }

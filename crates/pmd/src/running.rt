@@ -4,12 +4,13 @@ ghost use Rattle.std.specs.Prelude.{ℕ, ◌≡◌, ◌<◌, ◌⊎◌, ◌++◌
 ghost use Rattle.dma_arena.specs.Numbers.{free_count, is_own};
 ghost use Rattle.pmd_base.specs.Fresh.{IsFresh};
 ghost use Rattle.pmd_base.specs.Packet.{kept_of};
-ghost use Rattle.pmd_rx.specs.Keeping.{Keeps, handed_block};
+ghost use Rattle.pmd_rx.specs.Keeping.{Keeps, block_in, handed_block};
 ghost use Rattle.pmd_rx.specs.Plays.{LooksOnce};
 ghost use Rattle.pmd_rx.specs.Wrong.{FailsBy, PacketWaits};
 ghost use Rattle.pmd_tx.specs.Plays.{LooksLast, FaultsBy};
 ghost use Rattle.pmd_tx.specs.Sends.{gate_of, returned, IsAnswer, IsFullWhereTold, IsShut, IsAccepted, IsNoneAccepted, IsBack, IsLate, Frees};
 ghost use Rattle.pmd.specs.Apart.{DrivesRings, FindsBy, OwnsSame};
+ghost use Rattle.pmd.specs.Blocks.{KeepsUp};
 ghost use Rattle.pmd.specs.Halves.{halves_of};
 ghost use Rattle.pmd.specs.Running.{IsUp, IsReleased, goes_back, receives};
 
@@ -101,6 +102,7 @@ impl Running {
         ensures waits { result ≡ Err PmdFault.NoBuffer → PacketWaits self.new.receive.stage }
         ensures home { IfOk result (λ out. IfSome out (λ packet. goes_back self.new packet.buf.number ≡ true)) }
         ensures keeps { Keeps self.old.arena self.old.receive self.new.arena self.new.receive (handed_block result) }
+        ensures blocks { KeepsUp self.old [] self.new (handed_block result) }
         ensures transmit { self.new.transmit ≡ self.old.transmit }
         ensures who { N.who nic.new ≡ N.who nic.old }
     {
@@ -137,6 +139,7 @@ impl Running {
             FindsBy failed.fault (is_own self.old.arena) (N.made nic.old) (halves_of self.old) (N.made nic.new)) }
         ensures layout { self.new.transmit.layout ≡ self.old.transmit.layout }
         ensures others { (self.new.arena ≡ self.old.arena) × (self.new.receive ≡ self.old.receive) }
+        ensures blocks { KeepsUp self.old (packet.buf.number ∷ []) self.new (block_in (returned result)) }
         ensures who { N.who nic.new ≡ N.who nic.old }
     {
         let elsewhere = self.receives(packet.buf.block());
@@ -167,6 +170,7 @@ impl Running {
         ensures finds { IfErr result (λ fault.
             FindsBy fault (is_own self.old.arena) (N.made nic.old) (halves_of self.old) (N.made nic.new)) }
         ensures receive { self.new.receive ≡ self.old.receive }
+        ensures blocks { KeepsUp self.old [] self.new [] }
         ensures who { N.who nic.new ≡ N.who nic.old }
     {
         self.transmit.reap(alloc, nic, &mut self.arena)
@@ -180,6 +184,7 @@ impl Running {
         ensures made { IsFresh self.old.arena len result self.new.arena }
         ensures rest { self.new ≡ record self.old { arena = self.new.arena } }
         ensures owns { OwnsSame self.old.arena self.new.arena }
+        ensures blocks { KeepsUp self.old [] self.new (block_in result) }
     {
         fresh_packet(&mut self.arena, len)
     }
@@ -203,6 +208,7 @@ impl Running {
     pub fn release(&mut self, packet: Packet) -> Result<(), Packet>
         ensures ok { IsOk result ↔ (goes_back self.old packet.buf.number ≡ true) }
         ensures released { OnOk result (IsReleased self.old packet.buf.number self.new) }
+        ensures blocks { OnOk result (KeepsUp self.old (packet.buf.number ∷ []) self.new []) }
         ensures back { IfErr result (λ back. back ≡ packet) }
         ensures kept { OnErr result (self.new ≡ self.old) }
         ensures halves { (halves_of self.new ≡ halves_of self.old) × OwnsSame self.old.arena self.new.arena }

@@ -1,5 +1,6 @@
 pub mod Asked
 pub mod Begun
+pub mod Books
 pub mod Driven
 pub mod Ends
 pub mod Faultless

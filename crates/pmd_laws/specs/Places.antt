@@ -3,17 +3,18 @@
 use Rattle.std.specs.Prelude.{ℕ, ◌≡◌, Bool, false, IsTrue, List, ◌++◌, if◌then◌else◌}
 use Rattle.dma_arena.specs.Memory.{Memory, has_block}
 use Rattle.dma_arena.specs.Numbers.{Numbers, is_free, is_own}
-use Rattle.dma_arena.specs.Whereabouts.{places_of}
+use Rattle.dma_arena.specs.Whereabouts.{places_of, times_in_hand}
 use Rattle.nic_device.specs.State.{new_state}
 use Rattle.device_lock.specs.History.{leads_to}
 use Rattle.device_lock.specs.declared.alone.Watched.{Watched}
 use Rattle.device_lock.specs.declared.entry.Call.{Call}
 use Rattle.device_lock.specs.declared.entry.Entry.{Entry}
-use Rattle.pmd.specs.Blocks.{HasAll}
+use Rattle.pmd.specs.Blocks.{HasAll, KeepsBlocks}
 use Rattle.pmd.specs.Driver.{arena_of, halted_of}
 use Rattle.pmd.specs.Halves.{halves_of}
 use Rattle.pmd.specs.declared.driver.Rings.{Rings}
 use Rattle.pmd.specs.declared.driver.Rings.TheVariants.{Up, Down}
+use Rattle.pmd_halt.specs.Halted.{Halted}
 use Rattle.pmd_queue.specs.Named.{AtPort}
 use Rattle.pmd_rx.specs.Keeping.{block_in}
 use Rattle.start_laws.specs.Along.{BeforeLast}
@@ -39,8 +40,8 @@ OutIsLent =
     (later : List Moment) → IsToldOf w fifo h q size old a m later → (number : ℕ) →
     IsTrue (is_out (last m later).driver.rings number) → IsTrue (has_block (memory_after w fifo h) number)
 
--- such a history. Just before the driver's first access none of its arena's blocks was lent; and no other pass lends any
--- of them
+-- such a history. Just before the driver's first access none of its arena's blocks was lent; and no other pass lends
+-- any of them
 pub record IsToldAlone (w : Watched) (fifo : ℕ) (h : List Entry) (q : AtPort) (size : ℕ) (old : List Call) (a : Numbers)
     (m : Moment) (later : List Moment) : Type 0 where
   pub told : IsToldOf w fifo h q size old a m later
@@ -54,9 +55,18 @@ LentIsOut =
     (later : List Moment) → IsToldAlone w fifo h q size old a m later → (number : ℕ) → IsTrue (is_own a number) →
     IsTrue (has_block (memory_after w fifo h) number) → IsTrue (is_out (last m later).driver.rings number)
 
+-- where a driver has all blocks of an arena but those in hand, it has them so after a call, as its clause `blocks` tells:
+-- what was in hand for the call isn't after it, and what the call hands out is. The order of those in hand says nothing
+pub record BooksGoOn : Type 0 where
+  pub call :
+      (a : Numbers) (old new : Rings) (given back rest : List ℕ) → KeepsBlocks old given new back
+      → HasAll a (halted_of old) (given ++ rest) → HasAll a (halted_of new) (back ++ rest)
+  pub order :
+      (a : Numbers) (h : Halted) (hand other : List ℕ)
+      → ((number : ℕ) → times_in_hand hand number ≡ times_in_hand other number) → HasAll a h hand → HasAll a h other
+
 -- so each block that was free in the arena that came to the driver is in one place: free there, in hand, or lent to the
--- device; and no other block of the arena is in any of them. In hand are the block of a packet that the driver holds,
--- and those that its clauses on blocks count so, as of packets that it gave away
+-- device; and no other block of the arena is in any of them. The block of a packet that the driver holds is in hand too
 abbrev pub EachInOnePlace : Type 0
 EachInOnePlace =
     (w : Watched) (fifo : ℕ) (h : List Entry) (q : AtPort) (size : ℕ) (old : List Call) (a : Numbers) (m : Moment)

@@ -15,7 +15,7 @@ ghost use Rattle.pmd_laws.specs.FullRing.{FullIsAllButOne};
 ghost use Rattle.pmd_laws.specs.Lends.{LifeLendsApart};
 ghost use Rattle.pmd_laws.specs.Looks.{CallsEnd, NoneIsAllBefore};
 ghost use Rattle.pmd_laws.specs.Order.{HandedIsPrefix, NoneIsAll, SentIsPrefix, IdleIsAllSent};
-ghost use Rattle.pmd_laws.specs.Places.{EachInOnePlace, LentIsOut, OutIsLent};
+ghost use Rattle.pmd_laws.specs.Places.{BooksGoOn, EachInOnePlace, LentIsOut, OutIsLent};
 ghost use Rattle.pmd_laws.specs.Silent.{SilentOnceOff, SilentOverStop};
 ghost use Rattle.pmd_laws.specs.Stopped as stopped;
 ghost use Rattle.pmd_laws.specs.Told as told;
@@ -62,6 +62,13 @@ pub fn blocks_out_are_lent_at_the_device()
     ensures lent { OutIsLent }
     ensures known { LentIsOut }
     ensures once { EachInOnePlace }
+{}
+
+/// Where a driver has all blocks of an arena but those in hand, as where it starts with none in hand, it has them so
+/// after each of its calls, as their clause `blocks` tells, with those in hand that the call handed out, and without
+/// those that it was given.
+pub fn calls_keep_the_books()
+    ensures { BooksGoOn }
 {}
 
 /// Where a `start` answered a driver and its calls came since, and `tx` answers that the ring is full, as many packets

@@ -16,6 +16,7 @@ use Rattle.pmd.specs.Driver.{goes_back_to, WhereUp, IsDown}
 use Rattle.pmd.specs.Running.{Running, goes_back}
 use Rattle.pmd.specs.declared.driver.Rings.{Rings}
 use Rattle.pmd.specs.declared.driver.Rings.TheVariants.{Up, Down}
+use Rattle.pmd.proofs.SentCounted.{fault_block}
 
 -- whether a block of this number can go back, by what a driver has
 abbrev back_at : Numbers → Receive → Layout → List Outgoing → ℕ → Bool
@@ -32,14 +33,6 @@ still_back r s n others layout none back =
     ∙ ap (λ (l : Layout). back_at r.arena r.receive l s.transmit.outstanding n) layout
     ∙ ap (λ (packets : List Outgoing). back_at r.arena r.receive r.transmit.layout packets n) none.outstanding
     ∙ back
-
-pub fault_block : (f : PmdFault) (p back : Packet) → IsBack f p back → back.buf.number ≡ p.buf.number
-fault_block fault.DeviceFault p back is = is
-fault_block fault.BadSize p back is = ap (λ (x : Packet). x.buf.number) is
-fault_block fault.ForeignBlock p back is = ap (λ (x : Packet). x.buf.number) is
-fault_block fault.StartTimeout p back is = ap (λ (x : Packet). x.buf.number) is
-fault_block fault.NoBuffer p back is = ap (λ (x : Packet). x.buf.number) is
-fault_block (fault.Call refusal) p back is = ap (λ (x : Packet). x.buf.number) is
 
 abbrev packet_back : Result TxAnswer TxFault → Option Packet
 packet_back (Ok answer) = None

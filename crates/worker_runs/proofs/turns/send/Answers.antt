@@ -4,7 +4,7 @@ use Rattle.pmd_tx.specs.Sends.{returned}
 use Rattle.pmd_tx.specs.declared.answer.TxAnswer.{TxAnswer}
 use Rattle.pmd.specs.Driver.{Driver}
 use Rattle.worker_runs.specs.Kept.{KeepsAll}
-use Rattle.worker_runs.proofs.Sending.{send_keeps}
+use Rattle.worker_runs.proofs.Keeping.{kept_all}
 use Rattle.worker_runs.proofs.Returning.{fault_back}
 use Rattle.worker_runs.proofs.turns.send.Goals as goal
 
@@ -17,24 +17,22 @@ returns-in-Err-clause-home g c =
 pub returns-in-Ok-Taken-clause-blocks : goal.returns-in-Ok-Taken-clause-blocks
 returns-in-Ok-Taken-clause-blocks g c =
     let e = c.in-Ok-Taken.ensures in
-    subst (λ (x : TxAnswer). KeepsAll c.args.pmd.now.rings (c.args.packet.buf.number ∷ []) c.tx.new.self.rings
-    (block_in (returned (Ok x)))) c.in-Ok-Taken.field-0-is
-    (send_keeps c.args.pmd.now.rings c.tx.new.self.rings c.args.packet (Ok c.in-Ok-Taken.field-0)
-    e.answer e.accepted e.kept e.back e.layout e.others
-    (λ down. let (answer, made, same) = e.down down in (answer, ap (λ (d : Driver). d.rings) same)))
+    let old = c.args.pmd.now.rings in
+    let n = c.args.packet.buf.number in
+    subst (λ (x : TxAnswer). KeepsAll old (n ∷ []) c.tx.new.self.rings (block_in (returned (Ok x))))
+    c.in-Ok-Taken.field-0-is
+    (kept_all old c.tx.new.self.rings (n ∷ []) (block_in (returned (Ok c.in-Ok-Taken.field-0))) e.blocks)
 
 pub returns-in-Ok-RingFull-clause-blocks : goal.returns-in-Ok-RingFull-clause-blocks
 returns-in-Ok-RingFull-clause-blocks g c =
     let e = c.in-Ok-RingFull.ensures in
-    subst (λ (x : TxAnswer). KeepsAll c.args.pmd.now.rings (c.args.packet.buf.number ∷ []) c.tx.new.self.rings
-    (block_in (returned (Ok x)))) c.in-Ok-RingFull.field-0-is
-    (send_keeps c.args.pmd.now.rings c.tx.new.self.rings c.args.packet (Ok c.in-Ok-RingFull.field-0)
-    e.answer e.accepted e.kept e.back e.layout e.others
-    (λ down. let (answer, made, same) = e.down down in (answer, ap (λ (d : Driver). d.rings) same)))
+    let old = c.args.pmd.now.rings in
+    let n = c.args.packet.buf.number in
+    subst (λ (x : TxAnswer). KeepsAll old (n ∷ []) c.tx.new.self.rings (block_in (returned (Ok x))))
+    c.in-Ok-RingFull.field-0-is
+    (kept_all old c.tx.new.self.rings (n ∷ []) (block_in (returned (Ok c.in-Ok-RingFull.field-0))) e.blocks)
 
 pub returns-in-Err-clause-blocks : goal.returns-in-Err-clause-blocks
 returns-in-Err-clause-blocks g c =
-    let e = c.in-Err.ensures in
-    send_keeps c.args.pmd.now.rings c.tx.new.self.rings c.args.packet (Err c.in-Err.field-0)
-    e.answer e.accepted e.kept e.back e.layout e.others
-    (λ down. let (answer, made, same) = e.down down in (answer, ap (λ (d : Driver). d.rings) same))
+    kept_all c.args.pmd.now.rings c.tx.new.self.rings (c.args.packet.buf.number ∷ [])
+    (block_in (returned (Err c.in-Err.field-0))) c.in-Err.ensures.blocks

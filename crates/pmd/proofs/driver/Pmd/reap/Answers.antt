@@ -1,6 +1,7 @@
-use Rattle.std.proofs.Common.{refl}
+use Rattle.std.proofs.Common.{[], refl}
 use Rattle.pmd.specs.Driver.{Driver}
 use Rattle.pmd.proofs.Driving.{never_up}
+use Rattle.pmd.proofs.Counted.{up_kept}
 use Rattle.pmd.proofs.driver.Pmd.reap.Goals as goal
 use Rattle.pmd.proofs.driver.Pmd.reap.Goals.{in-Up, in-Down}
 
@@ -11,3 +12,12 @@ returns-clause-down g c down =
       | in-Up w ↦ absurd (never_up d c.args.self.now w.in-Up.running c.self.view_is w.in-Up.is down)
       | in-Down w ↦ (w.result-is, rw w.nic-is refl, rw w.self-inside-is c.self.view_is)
     ]
+
+pub returns-clause-blocks : goal.returns-clause-blocks
+returns-clause-blocks g c =
+    rw (← c.self.view_is) (elim c.match-self.branch [
+      | in-Up w ↦
+          rw (w.self-inside-is, w.in-Up.is)
+          (up_kept w.in-Up.running w.reap.new.self [] [] w.reap.ensures.blocks)
+      | in-Down w ↦ rw (w.self-inside-is) (record { owns = λ n. refl; each = λ n. refl })
+    ])

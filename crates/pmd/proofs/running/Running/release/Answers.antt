@@ -1,8 +1,10 @@
-use Rattle.std.proofs.Common.{◌≡◌, ℕ, true, false, sym, subst, ◌∙◌}
+use Rattle.std.proofs.Common.{◌≡◌, ℕ, true, false, [], ◌∷◌, ◌++◌, sym, subst, ◌∙◌}
 use Rattle.dma_arena.specs.Numbers.{Numbers}
-use Rattle.pmd.specs.Running.{Running, IsUp, goes_back}
+use Rattle.pmd.specs.Blocks.{KeepsEach, KeepsUp}
+use Rattle.pmd.specs.Running.{Running, IsUp, goes_back, rings_out}
 use Rattle.pmd_halt.proofs.Blocks.{never_back}
 use Rattle.pmd.proofs.Blocks.{back_goes, released_up}
+use Rattle.pmd.proofs.Counted.{released_kept}
 use Rattle.pmd.proofs.running.Running.release.Goals as goal
 
 pub invariant_of-self : goal.invariant_of-self
@@ -25,3 +27,21 @@ returns-clause-ok c =
     never_back (goes_back c.args.self.now c.args.packet.buf.number)
     (subst (λ (k : ℕ). goes_back c.args.self.now k ≡ false) c.block-block.ensures.number
     (sym c.goes_back.ensures ∙ c.if-goes_back.false))
+
+pub returns-then-goes_back-clause-blocks : goal.returns-then-goes_back-clause-blocks
+returns-then-goes_back-clause-blocks c =
+    let q : Running = record {
+      arena = c.self.inside.arena;
+      receive = c.self.inside.receive;
+      transmit = c.self.inside.transmit;
+    } in
+    let s : Running = record q { arena = c.give_packet.new.arena } in
+    let n : ℕ = c.args.packet.buf.number in
+    let goes : goes_back q n ≡ true =
+    subst (λ (y : Running). goes_back y n ≡ true) (sym c.self.view_is)
+    (subst (λ (k : ℕ). goes_back c.args.self.now k ≡ true) c.block-block.ensures.number
+    (sym c.goes_back.ensures ∙ c.if-goes_back.true)) in
+    let back = back_goes q n goes in
+    subst (λ (y : Running). KeepsUp y (n ∷ []) s []) c.self.view_is
+    (subst (λ (a : Numbers). KeepsEach q.arena (rings_out q ++ n ∷ []) a (rings_out q ++ []))
+    (sym c.give_packet.ensures) (released_kept q.arena (rings_out q) n back.own back.away))

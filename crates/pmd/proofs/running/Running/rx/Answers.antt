@@ -1,6 +1,8 @@
-use Rattle.std.proofs.Common.{IfErr, refl, subst}
+use Rattle.std.proofs.Common.{[], IfErr, refl, subst}
 use Rattle.dma_arena.specs.Numbers.{is_own}
+use Rattle.pmd_rx.specs.Keeping.{handed_block}
 use Rattle.pmd.specs.Apart.{FindsBy}
+use Rattle.pmd.specs.Blocks.{KeepsUp}
 use Rattle.pmd.specs.Halves.{halves_of}
 use Rattle.pmd.specs.Running.{Running}
 use Rattle.pmd.proofs.Blocks.{received_up}
@@ -8,6 +10,7 @@ use Rattle.pmd.proofs.Handing.{received_goes}
 use Rattle.pmd.proofs.Both.{free_may, receive_drives}
 use Rattle.pmd.proofs.Driving.{err_later}
 use Rattle.pmd.proofs.Finding.{wrong_by}
+use Rattle.pmd.proofs.Counted.{received_kept}
 use Rattle.pmd.proofs.running.Running.rx.Goals as goal
 
 pub invariant_of-self : goal.invariant_of-self
@@ -56,3 +59,14 @@ returns-clause-home g c =
     } in
     let s : Running = record q { arena = c.receive.new.arena; receive = c.receive.new.self } in
     received_goes c.receive.result q s c.self.invariant c.receive.ensures.keeps refl
+
+pub returns-clause-blocks : goal.returns-clause-blocks
+returns-clause-blocks g c =
+    let q : Running = record {
+      arena = c.self.inside.arena;
+      receive = c.self.inside.receive;
+      transmit = c.self.inside.transmit;
+    } in
+    let s : Running = record q { arena = c.receive.new.arena; receive = c.receive.new.self } in
+    subst (λ (y : Running). KeepsUp y [] s (handed_block c.receive.result)) c.self.view_is
+    (received_kept q s _ c.receive.ensures.keeps refl)

@@ -1,4 +1,4 @@
--- Where the blocks of a driver are once a packet was to be sent.
+-- Where the blocks of a driver are once a packet was to be sent, counted.
 use Rattle.std.proofs.Common.{◌≡◌, ℕ, ◌+◌, ◌&&◌, not, if◌then◌else◌, Bool, true, false, cond, List, [], ◌∷◌, ◌++◌, Option, Some, None, Result, Ok, Err, IfErr, IfSome, IfNone, refl, sym, ap, subst, ◌∙◌, arith}
 use Rattle.std.proofs.lemmas.List.{map-append}
 use Rattle.dma_arena.specs.Numbers.{Numbers, is_own, is_free}
@@ -15,14 +15,8 @@ use Rattle.pmd_tx.specs.Sends.{IsAccepted, IsNoneAccepted, IsAnswer, IsBack, gat
 use Rattle.pmd_tx.specs.declared.answer.TxAnswer.{TxAnswer}
 use Rattle.pmd_tx.specs.declared.answer.TxAnswer.TheVariants.{Taken, RingFull}
 use Rattle.pmd_tx.specs.declared.answer.TxFault.{TxFault}
-use Rattle.pmd.specs.Blocks.{HasAll}
-use Rattle.pmd.specs.Driver.{WhereUp, IsDown, halted_of}
-use Rattle.pmd.specs.Running.{Running, receives}
-use Rattle.pmd.specs.declared.driver.Rings.{Rings}
-use Rattle.pmd.specs.declared.driver.Rings.TheVariants.{Up, Down}
-use Rattle.worker_runs.specs.Kept.{KeepsAll}
-use Rattle.worker_runs.proofs.Keeping.{rings_out, up_has}
-use Rattle.worker_runs.proofs.Returning.{fault_block}
+use Rattle.pmd.specs.Blocks.{KeepsUp}
+use Rattle.pmd.specs.Running.{Running, receives, rings_out}
 
 accepted_count : (v w : Sender) (p : Packet) (n : ℕ) → w.layout ≡ v.layout → IsAccepted v p w
     → times_in_hand (transmit.lent_of w) n
@@ -48,15 +42,14 @@ same_lent v w layout none =
     ap (λ (l : List Outgoing). blocks_of l ++ w.layout.ring ∷ []) none.outstanding
     ∙ ap (λ (x : ℕ). blocks_of v.outstanding ++ x ∷ []) (ap (λ x. x.ring) layout)
 
-sent_has : (a : Numbers) (r s : Running) (p : Packet) (back : Option Packet)
+back_kept : (r s : Running) (p : Packet) (back : Option Packet)
     → IfNone back (IsAccepted r.transmit p s.transmit)
     → IfSome back (λ (q : Packet). IsNoneAccepted r.transmit s.transmit)
     → IfSome back (λ (q : Packet). q.buf.number ≡ p.buf.number) → s.transmit.layout ≡ r.transmit.layout
-    → (s.arena ≡ r.arena) × (s.receive ≡ r.receive) → HasAll a (halted_of (Up r)) (p.buf.number ∷ [])
-    → HasAll a (halted_of (Up s)) (block_in back)
-sent_has a r s p None accepted none same layout others has =
+    → (s.arena ≡ r.arena) × (s.receive ≡ r.receive) → KeepsUp r (p.buf.number ∷ []) s (block_in back)
+back_kept r s p None accepted none same layout others =
     let n : ℕ = p.buf.number in
-    up_has a r s (n ∷ []) [] has (record {
+    record {
       owns = λ k. ap (λ (x : Numbers). is_own x k) others.0;
       each = λ k. omega (
         arith,
@@ -68,9 +61,9 @@ sent_has a r s p None accepted none same layout others has =
         times-append (rings_out s) [] k,
         times-append (rings_out r) (n ∷ []) k,
       );
-    })
-sent_has a r s p (Some q) accepted none same layout others has =
-    up_has a r s (p.buf.number ∷ []) (q.buf.number ∷ []) has (record {
+    }
+back_kept r s p (Some q) accepted none same layout others =
+    record {
       owns = λ k. ap (λ (x : Numbers). is_own x k) others.0;
       each = λ k. omega (
         arith,
@@ -83,7 +76,15 @@ sent_has a r s p (Some q) accepted none same layout others has =
         times-append (rings_out s) (q.buf.number ∷ []) k,
         times-append (rings_out r) (p.buf.number ∷ []) k,
       );
-    })
+    }
+
+pub fault_block : (f : PmdFault) (p back : Packet) → IsBack f p back → back.buf.number ≡ p.buf.number
+fault_block fault.DeviceFault p back is = is
+fault_block fault.BadSize p back is = ap (λ (x : Packet). x.buf.number) is
+fault_block fault.ForeignBlock p back is = ap (λ (x : Packet). x.buf.number) is
+fault_block fault.StartTimeout p back is = ap (λ (x : Packet). x.buf.number) is
+fault_block fault.NoBuffer p back is = ap (λ (x : Packet). x.buf.number) is
+fault_block (fault.Call refusal) p back is = ap (λ (x : Packet). x.buf.number) is
 
 -- the packet that comes back has the block of the one that was given
 
@@ -118,23 +119,13 @@ answer_back v a elsewhere p (Ok Taken) answer back = tt
 answer_back v a elsewhere p (Ok (RingFull q)) answer back = gave_back p (Some q) (full_back v a elsewhere p q answer)
 answer_back v a elsewhere p (Err x) answer back = some_fault x.fault p x.packet back
 
-pub send_keeps : (R S : Rings) (p : Packet) (result : Result TxAnswer TxFault)
-    → WhereUp R S (λ (r s : Running).
-    IsAnswer (gate_of r.transmit r.arena (receives r p.buf.number) p) p result)
-    → WhereUp R S (λ (r s : Running). IfNone (returned result) (IsAccepted r.transmit p s.transmit))
-    → WhereUp R S (λ (r s : Running).
-    IfSome (returned result) (λ (q : Packet). IsNoneAccepted r.transmit s.transmit))
-    → WhereUp R S (λ (r s : Running).
-    IfErr result (λ (x : TxFault). IfSome x.packet (λ (q : Packet). IsBack x.fault p q)))
-    → WhereUp R S (λ (r s : Running). s.transmit.layout ≡ r.transmit.layout)
-    → WhereUp R S (λ (r s : Running). (s.arena ≡ r.arena) × (s.receive ≡ r.receive))
-    → (IsDown R → (result ≡ Err (record { fault = fault.DeviceFault; packet = Some p })) × (S ≡ R))
-    → KeepsAll R (p.buf.number ∷ []) S (block_in (returned result))
-send_keeps (Up r) (Up s) p result answer accepted none back layout others down a has =
-    sent_has a r s p (returned result) accepted none
-    (answer_back r.transmit r.arena (receives r p.buf.number) p result answer back) layout others has
-send_keeps (Up r) (Down h) p result answer accepted none back layout others down a has = absurd layout
-send_keeps (Down h) S p result answer accepted none back layout others down a has =
-    let (is, stays) = down tt in
-    subst (λ (x : Rings). HasAll a (halted_of x) (block_in (returned result))) (sym stays)
-    (subst (λ (o : Option Packet). HasAll a h (block_in o)) (sym (ap returned is)) has)
+pub sent_kept : (r s : Running) (p : Packet) (result : Result TxAnswer TxFault)
+    → IsAnswer (gate_of r.transmit r.arena (receives r p.buf.number) p) p result
+    → IfNone (returned result) (IsAccepted r.transmit p s.transmit)
+    → IfSome (returned result) (λ (q : Packet). IsNoneAccepted r.transmit s.transmit)
+    → IfErr result (λ (x : TxFault). IfSome x.packet (λ (q : Packet). IsBack x.fault p q))
+    → s.transmit.layout ≡ r.transmit.layout → (s.arena ≡ r.arena) × (s.receive ≡ r.receive)
+    → KeepsUp r (p.buf.number ∷ []) s (block_in (returned result))
+sent_kept r s p result answer accepted none back layout others =
+    back_kept r s p (returned result) accepted none
+    (answer_back r.transmit r.arena (receives r p.buf.number) p result answer back) layout others

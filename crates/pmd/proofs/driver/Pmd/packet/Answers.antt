@@ -1,0 +1,17 @@
+use Rattle.std.proofs.Common.{[]}
+use Rattle.pmd_rx.specs.Keeping.{block_in}
+use Rattle.pmd.proofs.Counted.{fresh_down, up_kept}
+use Rattle.pmd.proofs.driver.Pmd.packet.Goals as goal
+use Rattle.pmd.proofs.driver.Pmd.packet.Goals.{in-Up, in-Down}
+
+pub returns-clause-blocks : goal.returns-clause-blocks
+returns-clause-blocks c =
+    rw (← c.self.view_is) (elim c.match-self.branch [
+      | in-Up w ↦
+          rw (w.result-is, w.self-inside-is, w.in-Up.is)
+          (up_kept w.in-Up.running w.packet.new.self [] (block_in w.packet.result) w.packet.ensures.blocks)
+      | in-Down w ↦
+          let d = w.packet-in-Down in
+          rw (w.result-is, w.self-inside-is, w.in-Down.is)
+          (fresh_down w.in-Down.halted d.new.self c.args.len d.result d.ensures.made d.ensures.rest)
+    ])

@@ -1,0 +1,32 @@
+-- What a driver has of an arena's blocks, over its calls.
+use Rattle.std.proofs.Common.{◌≡◌, ℕ, List, [], ◌++◌, append_assoc, subst, arith}
+use Rattle.dma_arena.specs.Numbers.{Numbers}
+use Rattle.dma_arena.specs.Whereabouts.{times_in_hand}
+use Rattle.pmd_base.proofs.Outside.{times-append}
+use Rattle.pmd_halt.specs.Halted.{Halted, all_out}
+use Rattle.pmd.specs.Blocks.{HasAll, KeepsBlocks, KeepsEach}
+use Rattle.pmd.specs.Driver.{halted_of}
+use Rattle.pmd.specs.declared.driver.Rings.{Rings}
+use Rattle.pmd.proofs.Whole.{keeps_beside, keeps_counted, keeps_then}
+use Rattle.pmd_laws.specs.Places.{BooksGoOn}
+
+call_counted : (a : Numbers) (old new : Rings) (given back rest : List ℕ) → KeepsBlocks old given new back
+    → HasAll a (halted_of old) (given ++ rest) → HasAll a (halted_of new) (back ++ rest)
+call_counted a old new given back rest keeps has =
+    let h : Halted = halted_of old in
+    let k : Halted = halted_of new in
+    let beside = keeps_beside h.arena k.arena (all_out h ++ given) (all_out k ++ back) rest keeps in
+    keeps_then a h.arena k.arena [] (all_out h ++ (given ++ rest)) (all_out k ++ (back ++ rest)) has
+    (subst (λ (xs : List ℕ). KeepsEach h.arena xs k.arena (all_out k ++ (back ++ rest)))
+    (append_assoc (all_out h) given rest)
+    (subst (λ (ys : List ℕ). KeepsEach h.arena ((all_out h ++ given) ++ rest) k.arena ys)
+    (append_assoc (all_out k) back rest) beside))
+
+order_counted : (a : Numbers) (h : Halted) (hand other : List ℕ)
+    → ((number : ℕ) → times_in_hand hand number ≡ times_in_hand other number) → HasAll a h hand → HasAll a h other
+order_counted a h hand other same has =
+    keeps_counted a h.arena [] (all_out h ++ hand) (all_out h ++ other)
+    (λ n. omega (arith, same n, times-append (all_out h) hand n, times-append (all_out h) other n)) has
+
+pub books_go_on : BooksGoOn
+books_go_on = record { call = call_counted; order = order_counted }

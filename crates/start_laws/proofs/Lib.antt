@@ -37,8 +37,8 @@ pub mod Standing
 pub mod Start
 pub mod StaysQuiet
 pub mod SteadyReceive
+pub mod SteadyTransmit
 pub mod StillReceive
-pub mod StillTransmit
 pub mod StopCalls
 pub mod Stopping
 pub mod SwitchedOff

@@ -8,6 +8,9 @@ pub mod Ending
 pub mod First
 pub mod Fresh
 pub mod Ground
+pub mod Laid
+pub mod LaidEvents
+pub mod LaidSides
 pub mod Laying
 pub mod LeftZero
 pub mod Lends

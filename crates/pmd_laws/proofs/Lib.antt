@@ -5,6 +5,10 @@ pub mod Ends
 pub mod Faultless
 pub mod FirstHalves
 pub mod HandedOn
+pub mod LaidCalls
+pub mod LaidFilling
+pub mod LaidStarts
+pub mod LaidWords
 pub mod Lends
 pub mod Looks
 pub mod NoFault
@@ -12,6 +16,8 @@ pub mod OnlyRings
 pub mod Order
 pub mod PassLends
 pub mod Plain
+pub mod Refused
+pub mod RefusedCalls
 pub mod RiseCalls
 pub mod RunsOn
 pub mod Silent

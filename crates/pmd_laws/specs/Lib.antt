@@ -4,6 +4,7 @@ pub mod Lends
 pub mod Life
 pub mod Looks
 pub mod Order
+pub mod Refused
 pub mod Silent
 pub mod Stopped
 pub mod Told

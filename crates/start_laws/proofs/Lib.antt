@@ -1,3 +1,4 @@
+pub mod AccessCalls
 pub mod AccessLeads
 pub mod Accesses
 pub mod AccessesInOrder

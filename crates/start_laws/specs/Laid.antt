@@ -70,10 +70,6 @@ abbrev pub LaysOn : AtPort → Laid → List Call → Laid → Type 0
 LaysOn q l [] last = last ≡ l
 LaysOn q l (c ∷ cs) last = (m : Laid) × Lays q l c.event m × LaysOn q m cs last
 
--- those that were made between
-abbrev pub LaysBetween : AtPort → Laid → List Call → List Call → Laid → Type 0
-LaysBetween q l old new last = (calls : List Call) × (new ≡ old ++ calls) × LaysOn q l calls last
-
 -- over a legal history that leaves the queue alone, nothing is sent on it from a call of its pass on before which port
 -- and queue name it and its transmit side is off, where this and the pass's calls behind it are such
 abbrev pub LaidQueueIsSilent : Type 0

@@ -12,7 +12,6 @@ use Rattle.pmd_queue.specs.Named.{AtPort}
 use Rattle.start_laws.specs.Ending.{Each}
 use Rattle.start_laws.specs.Laid.{Laid, Lays, LaysOn}
 use Rattle.start_laws.specs.Stopping.{AreMadeOf}
-use Rattle.start_laws.proofs.StopCalls.{some_made}
 
 -- those that were made between
 abbrev pub LaysBetween : AtPort → Laid → List Call → List Call → Laid → Type 0
@@ -27,7 +26,7 @@ module _ (q : AtPort) where
   step_stays l (event.Write port number word) is = cc
   step_stays l e is = refl
 
-  each_lays : (l : Laid) (calls : List Call) → Each (λ c. Stays q l c.event) calls → LaysOn q l calls l
+  pub each_lays : (l : Laid) (calls : List Call) → Each (λ c. Stays q l c.event) calls → LaysOn q l calls l
   each_lays l [] are = refl
   each_lays l (c ∷ cs) are = (l, are.0, each_lays l cs are.1)
 
@@ -42,6 +41,11 @@ module _ (q : AtPort) where
       let (m, one, two) = first_lays k last cs ds more in (m, (k, here, one), two)
 
   -- steps of the device lay nothing out
+
+  steps_lay : (l : Laid) (cs : List Call) → AreSteps cs → LaysOn q l cs l
+  steps_lay l [] are = refl
+  steps_lay l (c ∷ cs) are = (l, step_stays l c.event are.0, steps_lay l cs are.1)
+
   step_same : (l m : Laid) (e : Event Block) → is_step e ≡ true → Lays q l e m → m ≡ l
   step_same l m (event.Write port number word) is lays = cc
   step_same l m e is lays = lays
@@ -65,5 +69,4 @@ module _ (q : AtPort) where
       → Lays q l e m → LaysBetween q l old new m
   adds_between l m old new e r (before, is, steps) lays =
       let own : List Call = call_of e r ∷ [] in
-      let stay = (some_made (Stays q l) (step_stays l) [] before (before, refl, steps)).2 in
-      (before ++ own, is, lays_then l l m before own (each_lays l before stay) (m, lays, refl))
+      (before ++ own, is, lays_then l l m before own (steps_lay l before steps) (m, lays, refl))

@@ -8,7 +8,7 @@ use Rattle.nic_device.specs.declared.event.Port.{Port}
 use Rattle.device_lock.specs.declared.entry.Call.{Call}
 use Rattle.pmd_queue.specs.Named.{AtPort, IsNumberOf}
 use Rattle.pmd_rx.specs.Plays.{AllOwn, OthersStep, Plays}
-use Rattle.pmd_rx.specs.Receive.{IsOwn, Layout, MovesNext, Named, Receive, Stage}
+use Rattle.pmd_rx.specs.Receive.{IsOwn, Layout, MovesNext, Named, Receive, Stage, drive}
 use Rattle.start_laws.specs.Ending.{Each}
 use Rattle.start_laws.specs.Laid.{Laid}
 use Rattle.start_laws.specs.Stopping.{AreMadeOf}
@@ -38,7 +38,7 @@ module _ (q : AtPort) (l : Laid) where
   all_stay v (true ∷ marks) (c ∷ cs) own others at =
       let same = drive_same v c.event c.reply in (
         own_stays v c.event own.0 at,
-        all_stay _ marks cs own.1 others.1
+        all_stay (drive v c.event c.reply) marks cs own.1 others.1
             (same.0 ∙ at.0, subst (λ n. IsNumberOf q.port Rdt q.queue n) (sym same.1) at.1),
       )
   all_stay v (false ∷ marks) (c ∷ cs) own others at =

@@ -70,7 +70,7 @@ module _ (q : AtPort) where
   stops_made : (f : PmdFault) (all : List Access) (l last : Laid) (old new : List Call) → AllGo l all last
       → StopsBy f q old new all → LaysSome l old new
   stops_made f all l last old new go (done, a, rest, mid, is, made, fails) =
-      let (k, m, some, one) = go_parts done a rest l last (subst (λ (as : List Access). AllGo l as last) is go) in
+      let (k, m, some, one) = go_parts done a rest l last (subst (λ (xs : List Access). AllGo l xs last) is go) in
       let (j, more) = fails_made f a k m mid new one fails in
       (j, then_between q l k j old mid new (all_made done l k old mid some made) more)
 
@@ -81,10 +81,9 @@ module _ (q : AtPort) where
         let base : 2048 * ring % 128 ≡ 0 = omega arith in
         let low : 16 * size < 2 ^ 20 = omega (arith, few) in
         let slots : 16 ≤ 16 * size = omega (arith, some) in
-        let tdbal : Goes Off _ Off = (refl, (refl, base), refl) in
         (
           Off,
-          tdbal,
+          (refl, (refl, base), refl),
           (
             Off,
             (refl, refl, refl),

@@ -1,6 +1,6 @@
 -- A driver whose start was refused sent nothing on its queue.
 use Rattle.std.proofs.Common.{◌≡◌, ℕ, List, [], ◌∷◌, ◌++◌, refl, sym, ap, ◌∙◌, subst, append_assoc}
-use Rattle.std.proofs.lemmas.Bool.{eq-eqb, either_way}
+use Rattle.std.proofs.lemmas.Bool.{eq-eqb}
 use Rattle.std.proofs.lemmas.List.{append_cancel_left}
 use Rattle.dma_arena.specs.Numbers.{Numbers}
 use Rattle.nic_device.specs.State.{State, new_state}
@@ -67,15 +67,18 @@ module _ (w : Watched) (fifo : ℕ) (h : List Entry) (q : AtPort) (size : ℕ) (
 
   lays : (last : Laid) × LaysOn q Off calls last
   lays =
-      let (end, made, is, all) = never_lays q size old a e new left never in
+      let (end, (made, is, all)) = never_lays q size old a e new left never in
       let both : made ≡ x.since ++ x.rest =
       append_cancel_left old made (x.since ++ x.rest) (sym is ∙ x.all ∙ append_assoc old x.since x.rest) in
       let (last, so_far, more) = first_lays q Off end x.since x.rest
       (subst (λ (cs : List Call). LaysOn q Off cs end) both all) in
       let (l, stepped, then) = first_lays q Off last x.begins.steps calls
       (subst (λ (cs : List Call). LaysOn q Off cs last) since_is so_far) in
-      (last, subst (λ (k : Laid). LaysOn q k calls last)
-      (steps_same q Off l x.begins.steps x.begins.stepped stepped) then)
+      (
+        last,
+        subst (λ (k : Laid). LaysOn q k calls last) (steps_same q Off l x.begins.steps x.begins.stepped stepped)
+            then,
+      )
 
   none_sent : sent_in w.queue here (first ∷ behind) ≡ []
   none_sent =
@@ -86,8 +89,10 @@ module _ (w : Watched) (fifo : ℕ) (h : List Entry) (q : AtPort) (size : ℕ) (
   none_handed = (delivered w.queue here (first ∷ behind), refl)
 
   none_accepted : transmit.IsPrefixOf (sent_since w.queue here [] (first ∷ behind)) (bytes_of [])
-  none_accepted = ([], ap (λ (sent : List (List ℕ)). sent ++ [])
-  (sym (since_none w.queue here (first ∷ behind) none_sent)))
+  none_accepted = (
+    [],
+    ap (λ (sent : List (List ℕ)). sent ++ []) (sym (since_none w.queue here (first ∷ behind) none_sent)),
+  )
 
 pub refused_sends_nothing : RefusedSendsNothing
 refused_sends_nothing w fifo h q size old a e new left before first behind never x =

@@ -1,10 +1,8 @@
 -- The calls of a driver whose start was refused lay out an empty transmit ring so far, up to where it came down.
-use Rattle.std.proofs.Common.{◌≡◌, inl, inr, ℕ, true, false, List, [], ◌∷◌, Option, Some, None, Err, refl, sym, ◌∙◌, subst, cond}
-use Rattle.std.specs.Prelude.{nat_lt}
-use Rattle.std.proofs.lemmas.Bool.{cases_Bool}
+use Rattle.std.proofs.Common.{◌≡◌, inl, inr, ℕ, Bool, true, false, List, [], ◌∷◌, Option, Some, None, Err, refl, sym, ◌∙◌, subst, cond}
 use Rattle.std.proofs.lemmas.List.{append-nil}
 use Rattle.dma_arena.specs.Block.{Block}
-use Rattle.dma_arena.specs.Numbers.{Numbers, free_count}
+use Rattle.dma_arena.specs.Numbers.{Numbers}
 use Rattle.reg_table.specs.declared.rows.RowId.TheVariants.{Rxdctl, Txdctl}
 use Rattle.register_file.specs.Bits.{has_bit}
 use Rattle.register_file.specs.declared.dir.Dir.TheVariants.{Rx, Tx}
@@ -69,14 +67,13 @@ stopping_lays q size old a made e new left l (inr (inl x)) down = half_lays q l 
 stopping_lays q size old a made e new left l (inr (inr x)) down = half_lays q l _ e.rest made new left x.left down
 
 -- a start that isn't refused before any event has a size
+
+is_passed : (b : Bool) (more : Option PmdFault) (f : PmdFault) → cond b more (Some f) ≡ None → b ≡ true
+is_passed true more f none = refl
+is_passed false more f none = cc
+
 gate_sized : (a : Numbers) (q : AtPort) (size : ℕ) → start_gate a q size ≡ None → is_size size ≡ true
-gate_sized a q size none = elim (cases_Bool (is_size size)) as (λ _. is_size size ≡ true) [
-  | inl is ↦ is
-  | inr no ↦
-      let bad : Some BadSize ≡ None =
-      subst (λ b. cond b (cond (nat_lt size (free_count a)) _ _) (Some BadSize) ≡ None) no none in
-      cc
-]
+gate_sized a q size none = is_passed (is_size size) _ BadSize none
 
 module _ (q : AtPort) (size : ℕ) (old : List Call) (a : Numbers) (e : StartRefused) (new : List Call) (left : Rest)
     (x : NeverLived q size old a e new left) where

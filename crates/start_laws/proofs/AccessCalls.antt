@@ -1,5 +1,5 @@
 -- The accesses by which a queue is switched are calls of a kind where their writes are, made or failed.
-use Rattle.std.proofs.Common.{◌≡◌, ℕ, inl, inr, true, not, ◌-◌, List, [], ◌∷◌, ◌++◌, subst, Bool}
+use Rattle.std.proofs.Common.{◌≡◌, ℕ, inl, inr, true, ◌-◌, List, [], ◌∷◌, ◌++◌, subst, Bool}
 use Rattle.dma_arena.specs.Block.{Block}
 use Rattle.reg_table.specs.declared.rows.RowId.{RowId}
 use Rattle.register_file.specs.Queue.{enable_row}

@@ -1,5 +1,5 @@
 -- A history over which a driver lays out an empty transmit ring sends nothing on its queue.
-use Rattle.std.proofs.Common.{◌≡◌, ◌≢◌, ℕ, inl, inr, true, List, [], ◌∷◌, ◌++◌, refl, sym, ap, ◌∙◌, subst, append_assoc}
+use Rattle.std.proofs.Common.{◌≡◌, ◌≢◌, ℕ, inl, inr, List, [], ◌∷◌, ◌++◌, refl, sym, ap, ◌∙◌, subst, append_assoc}
 use Rattle.std.specs.Prelude.{◌==◌}
 use Rattle.std.proofs.lemmas.Bool.{cases_Bool, eq-eqb, eqb-false}
 use Rattle.std.proofs.lemmas.List.{append-nil}
@@ -7,7 +7,7 @@ use Rattle.vf_map.specs.declared.mode.Mode.{Mode}
 use Rattle.vf_map.specs.declared.mode.Mode.TheVariants as mode
 use Rattle.nic_device.specs.State.{State, new_state}
 use Rattle.nic_device.specs.Step.{after}
-use Rattle.device_lock.specs.Alone.{Blocks, LeavesAlone, lent_by, mode_after, mode_through}
+use Rattle.device_lock.specs.Alone.{Blocks, lent_by, mode_after, mode_through}
 use Rattle.device_lock.specs.History.{IsLegal, call_in, calls_of, leads_to}
 use Rattle.device_lock.specs.declared.alone.Watched.{Watched}
 use Rattle.device_lock.specs.declared.entry.Call.{Call}
@@ -21,7 +21,7 @@ use Rattle.pmd_queue.specs.Named.{AtPort}
 use Rattle.receive_laws.proofs.Delivering.{leads-append, events_before, events_behind, legal_behind}
 use Rattle.receive_laws.proofs.Histories.{calls_own, calls_other}
 use Rattle.transmit_laws.specs.Off as transmit
-use Rattle.transmit_laws.specs.Sent.{sent_by, sent_in}
+use Rattle.transmit_laws.specs.Sent.{sent_in}
 use Rattle.start_laws.specs.Along.{IsAlong}
 use Rattle.start_laws.specs.Laid.{Laid, LaidQueueIsSilent, LaysOn, Off}
 use Rattle.start_laws.specs.Moves.{IsMet}

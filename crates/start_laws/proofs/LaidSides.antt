@@ -1,8 +1,8 @@
 -- Transmit sides that are off, or whose ring is empty, as the words of an empty ring are written to them.
-use Rattle.std.proofs.Common.{◌≡◌, ℕ, ◌/◌, ◌%◌, ◌^◌, ◌<◌, ◌≤◌, ◌⊎◌, inl, inr, false, true, not, refl, sym, ap, ◌∙◌, subst, arith}
+use Rattle.std.proofs.Common.{◌≡◌, ℕ, ◌/◌, ◌^◌, ◌<◌, ◌≤◌, inl, inr, false, true, not, refl, sym, ap, subst, arith}
 use Rattle.std.proofs.lemmas.Bool.{lt-ltb}
 use Rattle.reg_table.specs.declared.rows.RowId.{RowId}
-use Rattle.reg_table.specs.declared.rows.RowId.TheVariants.{Tdbal, Tdbah, Tdlen, Tdh, Tdt, Tdwbal, Txdctl}
+use Rattle.reg_table.specs.declared.rows.RowId.TheVariants.{Tdbal, Tdbah, Tdlen, Tdh, Tdt, Tdwbal}
 use Rattle.dma_ring.specs.declared.ring.Ring.{Ring}
 use Rattle.register_file.specs.Bits.{has_bit}
 use Rattle.register_laws.specs.Sides.{TransmitQueue}

@@ -50,9 +50,15 @@ module _ (q : AtPort) where
   step_same l m (event.Write port number word) is lays = cc
   step_same l m e is lays = lays
 
-  pub steps_same : (l m : Laid) (cs : List Call) → AreSteps cs → LaysOn q l cs m → m ≡ l
+  steps_same : (l m : Laid) (cs : List Call) → AreSteps cs → LaysOn q l cs m → m ≡ l
   steps_same l m [] are lays = lays
   steps_same l m (c ∷ cs) are (k, here, more) = steps_same k m cs are.1 more ∙ step_same l k c.event are.0 here
+
+  pub lays_behind : (l last : Laid) (steps cs : List Call) → AreSteps steps → LaysOn q l (steps ++ cs) last
+      → LaysOn q l cs last
+  lays_behind l last steps cs are lays =
+      let (m, one, two) = first_lays l last steps cs lays in
+      subst (λ (k : Laid). LaysOn q k cs last) (steps_same l m steps are one) two
 
   pub stays_between : (l : Laid) (old new : List Call) → AreMadeOf (Stays q l) old new → LaysBetween q l old new l
   stays_between l old new (calls, is, are) = (calls, is, each_lays l calls are)

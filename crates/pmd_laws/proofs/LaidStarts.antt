@@ -15,7 +15,7 @@ use Rattle.pmd_queue.specs.Named.{AtPort, IsNumberOf}
 use Rattle.pmd_queue.specs.Sides.{ring_words}
 use Rattle.pmd_rx.specs.Receive.{Receive, at_start}
 use Rattle.pmd.specs.Started.{StopsAfterBoth, StopsAfterOne, StopsStarting, is_size}
-use Rattle.pmd.specs.Starting.{GoingOnFails, IsPrepared, IsReceiveReady, IsTransmitReady, LendingFails, PreparingFails, ReceiveFails}
+use Rattle.pmd.specs.Starting.{GoingOnFails, IsPrepared, IsReceiveReady, LendingFails, PreparingFails, ReceiveFails}
 use Rattle.pmd.specs.declared.start.StartRefused.{StartRefused}
 use Rattle.start_laws.specs.Laid.{Laid, Off, Empty}
 use Rattle.start_laws.specs.Stopping.{AreMadeOf}

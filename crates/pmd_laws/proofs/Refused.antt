@@ -25,7 +25,7 @@ use Rattle.start_laws.specs.Laid.{Laid, LaysOn, Off}
 use Rattle.start_laws.proofs.Laid.{laid_queue_is_silent}
 use Rattle.start_laws.proofs.Parts.{calls_joined}
 use Rattle.pmd_laws.specs.Refused.{IsRefused, LeftOfRefusedIsPrefix, RefusedSendsNothing}
-use Rattle.pmd_laws.proofs.LaidCalls.{first_lays, steps_same}
+use Rattle.pmd_laws.proofs.LaidCalls.{first_lays, lays_behind}
 use Rattle.pmd_laws.proofs.RefusedCalls.{never_lays}
 
 -- where nothing is sent at all, nothing is counted
@@ -72,12 +72,10 @@ module _ (w : Watched) (fifo : ℕ) (h : List Entry) (q : AtPort) (size : ℕ) (
       append_cancel_left old made (x.since ++ x.rest) (sym is ∙ x.all ∙ append_assoc old x.since x.rest) in
       let (last, so_far, more) = first_lays q Off end x.since x.rest
       (subst (λ (cs : List Call). LaysOn q Off cs end) both all) in
-      let (l, stepped, then) = first_lays q Off last x.begins.steps calls
-      (subst (λ (cs : List Call). LaysOn q Off cs last) since_is so_far) in
       (
         last,
-        subst (λ (k : Laid). LaysOn q k calls last) (steps_same q Off l x.begins.steps x.begins.stepped stepped)
-            then,
+        lays_behind q Off last x.begins.steps calls x.begins.stepped
+            (subst (λ (cs : List Call). LaysOn q Off cs last) since_is so_far),
       )
 
   none_sent : sent_in w.queue here (first ∷ behind) ≡ []

@@ -5,6 +5,7 @@ pub mod Ends
 pub mod Faultless
 pub mod FirstHalves
 pub mod HandedOn
+pub mod LaidAccesses
 pub mod LaidCalls
 pub mod LaidFilling
 pub mod LaidStarts

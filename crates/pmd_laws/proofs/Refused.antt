@@ -71,8 +71,7 @@ module _ (w : Watched) (fifo : ℕ) (h : List Entry) (q : AtPort) (size : ℕ) (
       let both : made ≡ x.since ++ x.rest =
       append_cancel_left old made (x.since ++ x.rest) (sym is ∙ x.all ∙ append_assoc old x.since x.rest) in
       let (last, so_far, more) = first_lays q Off end x.since x.rest
-      (subst (λ (cs : List Call). LaysOn q Off cs end) both all) in
-      (
+      (subst (λ (cs : List Call). LaysOn q Off cs end) both all) in (
         last,
         lays_behind q Off last x.begins.steps calls x.begins.stepped
             (subst (λ (cs : List Call). LaysOn q Off cs last) since_is so_far),

@@ -50,8 +50,8 @@ RefusedSendsNothing =
     NeverLived q size old a e new left → IsRefused w fifo h q old new before first behind →
     sent_in w.queue (leads_to (new_state w.vfs fifo) before) (first ∷ behind) ≡ []
 
--- so what is left as handed out is a prefix of what was delivered from there on, counted since the receive side went on;
--- and what was sent from there on, so too, a prefix of what is left as accepted. Both left lists are empty
+-- so what is left as handed out is a prefix of what was delivered from there on, counted since the receive side went
+-- on, and what was sent from there on, counted so too, a prefix of what is left as accepted: both lists left are empty
 abbrev pub LeftOfRefusedIsPrefix : Type 0
 LeftOfRefusedIsPrefix =
     (w : Watched) (fifo : ℕ) (h : List Entry) (q : AtPort) (size : ℕ) (old : List Call) (a : Numbers) (e : StartRefused)

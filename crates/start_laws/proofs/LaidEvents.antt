@@ -104,7 +104,8 @@ module _ (queue : ℕ) (q : AtPort) (l m : Laid) (s : State) (met : IsMet queue 
   write_lays : (port : Port) (n word : ℕ) → IsEvent (event.Write port n word) → Lays q l (event.Write port n word) m
       → LeadsTo queue q m s (event.Write port n word)
   write_lays port n word made (row, same, driven, named, may, is) =
-      let names = subst (λ p. NamesRow s p n row queue) (sym same) (ground_names queue q s x.ground row n driven named) in
+      let names = subst (λ p. NamesRow s p n row queue) (sym same)
+      (ground_names queue q s x.ground row n driven named) in
       record {
         then = record {
           ground = plain_keeps queue q s (event.Write port n word) (row, same, driven, named) x.ground;

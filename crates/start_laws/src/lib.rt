@@ -36,8 +36,8 @@ pub fn standing_sides_are_left()
     ensures { StandingSidesAreLeft }
 {}
 
-/// While a driver lays out the empty transmit ring of a queue whose transmit side is off, and asks the side on only then,
-/// nothing is sent on the queue, over a legal history that leaves it alone: neither before the side is on nor behind.
+/// While a driver lays out the empty transmit ring of a queue whose transmit side is off, and asks the side on only
+/// behind that, nothing is sent on the queue, over a legal history that leaves it alone: be the side off yet, or on.
 pub fn laid_queue_is_silent()
     ensures { LaidQueueIsSilent }
 {}

@@ -36,18 +36,18 @@ module _ (w : Watched) (fifo : ℕ) (h : List Entry) (x : IsAlong w fifo h) wher
     whole : front ++ (back ++ rest) ≡ h
     whole = sym (append_assoc front back rest) ∙ all
 
-    events : AreEvents (front ++ (back ++ rest))
+    pub events : AreEvents (front ++ (back ++ rest))
     events = subst AreEvents (sym whole) x.events
 
-    legal : IsLegal new ((front ++ back) ++ rest)
+    pub legal : IsLegal new ((front ++ back) ++ rest)
     legal = subst (IsLegal new) (sym all) x.legal
 
-    alone : AllAlone w (lent_by w.pass h) (mode_through w.vfs Off front) (back ++ rest)
+    pub alone : AllAlone w (lent_by w.pass h) (mode_through w.vfs Off front) (back ++ rest)
     alone =
         subst (λ (l : List Entry). AllAlone w (lent_by w.pass l) (mode_through w.vfs Off front) (back ++ rest)) whole
         (alone_by_entries w front (back ++ rest) (subst (LeavesAlone w) (sym whole) x.alone) (begun w.pass front some))
 
-    there : Between w (mode_through w.vfs Off front) (leads_to new front)
+    pub there : Between w (mode_through w.vfs Off front) (leads_to new front)
     there =
         let early = events_before front (back ++ rest) events in record {
           small = x.small;

@@ -8,22 +8,18 @@ use Rattle.device_lock.specs.declared.entry.Call.{Call}
 use Rattle.device_lock.specs.declared.entry.Entry.{Entry}
 use Rattle.pmd.specs.Apart.{DrivesApart, FindsFault}
 use Rattle.pmd.specs.Halves.{Halves, halves_of}
-use Rattle.pmd.specs.Life.{Lives}
 use Rattle.pmd.specs.Running.{Running}
 use Rattle.pmd.specs.Started.{is_size}
 use Rattle.pmd.proofs.Apart.{apart_on}
-use Rattle.pmd.proofs.Both.{rings_still}
 use Rattle.pmd_queue.specs.Named.{AtPort}
 use Rattle.start_laws.specs.Along.{BeforeLast}
 use Rattle.start_laws.proofs.Parts.{Parts, parts}
 use Rattle.start_laws.proofs.Start.{on}
-use Rattle.driver_laws.proofs.LeadsApart.{LeadsApart, apart_leads_on, driven_apart}
 use Rattle.healthy_laws.specs.Before.{OnlyPassLends}
 use Rattle.pmd_laws.specs.Faultless as faultless
 use Rattle.pmd_laws.specs.Faultless.{IsFresh, IsToldApart, NoCallFindsFault}
-use Rattle.pmd_laws.specs.Lends.{first_of}
 use Rattle.pmd_laws.specs.Told.{Moment, last}
-use Rattle.pmd_laws.proofs.Lends.{fresh_own, life_lends_apart}
+use Rattle.pmd_laws.proofs.LedApart.{led_apart, owns}
 use Rattle.pmd_laws.proofs.Looks.{along_before, begins_before}
 use Rattle.pmd_laws.proofs.NoFault.{no_fault_led_on}
 use Rattle.pmd_laws.proofs.PassLends.{others_before}
@@ -62,30 +58,14 @@ module _ (w : Watched) (fifo : ℕ) (h : List Entry) (q : AtPort) (size : ℕ) (
   goes : RunsOn m fresh (last m later)
   goes = runs q size old a m later x.told
 
-  -- as its start answered it, it lived
-  abbrev lives : Lives q size old a m.made fresh
-  lives = record { made = m.made; fresh = fresh; up = x.told.started.2; drives = rings_still m.made fresh }
-
-  abbrev begins : Halves
-  begins = first_of q size old a m.made fresh lives
-
   abbrev there : Halves
   there = halves_of goes.rings
-
-  -- the calls up to that one, from where both sides were on
-  led : LeadsApart (is_own a) x.told.started.2.on.mid begins (last m later).made there
-  led =
-      apart_leads_on (is_own a) x.told.started.2.on.mid m.made (last m later).made begins (halves_of fresh) there
-      (driven_apart (is_own a) x.told.started.2.on.mid m.made begins (halves_of fresh)
-      (life_lends_apart q size old a m.made fresh lives))
-      (subst (λ (own : Blocks). LeadsApart own m.made (halves_of fresh) (last m later).made there)
-      (λ i k. fresh_own q size old a m.made fresh lives k i) goes.leads.apart)
 
   found : FindsFault (is_own a) (last m later).made there n.made
   found =
       let (s, after, f) = up_next _ (last m later).driver.rings n.driver.rings goes.rings goes.up finds in
       subst (λ (own : Blocks). FindsFault own (last m later).made there n.made)
-      (λ i k. (goes.leads.owns k ∙ fresh_own q size old a m.made fresh lives k) i) f
+      (λ i k. (goes.leads.owns k ∙ owns q size old a m later x.told k) i) f
 
   refuted : Parts w.pass h n.made x.more → ⊥
   refuted p =
@@ -96,7 +76,7 @@ module _ (w : Watched) (fifo : ℕ) (h : List Entry) (q : AtPort) (size : ℕ) (
       (on w fifo p.front q size old a m.made fresh x.told.started.2 along sized well) along sized well.ground (is_own a)
       (last_before w fifo h p.front p.back x.told.started.2.receive.quiet.0 (IsFresh w.queue (is_own a)) p.both x.fresh)
       (others_before w.pass (is_own a) p.front p.back (subst (OnlyPassLends w.pass (is_own a)) (sym p.both) x.others))
-      (last m later).made there led
+      (last m later).made there (led_apart q size old a m later x.told)
       (subst (FindsFault (is_own a) (last m later).made there) (sym p.fronts) found)
 
 pub no_call_finds_fault : NoCallFindsFault

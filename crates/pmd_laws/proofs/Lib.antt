@@ -14,6 +14,7 @@ pub mod LaidCalls
 pub mod LaidFilling
 pub mod LaidStarts
 pub mod LaidWords
+pub mod LedApart
 pub mod Lends
 pub mod LentSince
 pub mod Looks

@@ -10,9 +10,8 @@ use Rattle.device_lock.specs.declared.alone.Watched.{Watched}
 use Rattle.device_lock.specs.declared.entry.Call.{Call}
 use Rattle.device_lock.specs.declared.entry.Entry.{Entry}
 use Rattle.history_laws.specs.Lent.{OnlyLent}
-use Rattle.pmd.specs.Apart.{AllLendApart, DrivesApart}
+use Rattle.pmd.specs.Apart.{AllLendApart}
 use Rattle.pmd.specs.Halves.{Doer, Halves, halves_of, played_by}
-use Rattle.pmd.specs.Life.{Lives}
 use Rattle.pmd.specs.Running.{Running}
 use Rattle.pmd.specs.Started.{AreUp, is_size}
 use Rattle.pmd.specs.declared.driver.Rings.{Rings}
@@ -22,18 +21,17 @@ use Rattle.start_laws.specs.On.{AreOn}
 use Rattle.start_laws.proofs.Parts.{Parts, parts}
 use Rattle.start_laws.proofs.Start.{on}
 use Rattle.driver_laws.specs.Histories.{IsDriven}
-use Rattle.driver_laws.proofs.Beside.{others_harmless}
 use Rattle.driver_laws.proofs.InOrder.{led}
+use Rattle.driver_laws.proofs.LeadsApart.{LeadsApart}
 use Rattle.healthy_laws.specs.Before.{OnlyPassLends}
 use Rattle.healthy_laws.specs.Healthy.{lent_by}
-use Rattle.pmd_laws.specs.Lends.{first_of}
 use Rattle.pmd_laws.specs.Places.{IsToldAlone, LentIsOut, OutIsLent, is_out, memory_after}
 use Rattle.pmd_laws.specs.Told.{IsToldOf, Moment, last}
 use Rattle.pmd_laws.proofs.Driven.{driven_by}
 use Rattle.pmd_laws.proofs.FirstHalves.{receive_lent, transmit_lent}
 use Rattle.pmd_laws.proofs.Held.{both_lent}
 use Rattle.pmd_laws.proofs.KnownAlong.{known_along}
-use Rattle.pmd_laws.proofs.Lends.{life_lends_apart}
+use Rattle.pmd_laws.proofs.LedApart.{led_apart, begins as begins_of}
 use Rattle.pmd_laws.proofs.LentSince.{lent_at}
 use Rattle.pmd_laws.proofs.PassLends.{others_behind}
 use Rattle.pmd_laws.proofs.RiseCalls.{Rises, on_rises}
@@ -48,11 +46,8 @@ module _ (w : Watched) (fifo : ℕ) (h : List Entry) (q : AtPort) (size : ℕ) (
   goes : RunsOn m fresh (last m later)
   goes = runs q size old a m later x.told
 
-  abbrev lives : Lives q size old a (last m later).made goes.rings
-  lives = record { made = m.made; fresh = fresh; up = x.told.started.2; drives = goes.drives }
-
   abbrev begins : Halves
-  begins = first_of q size old a (last m later).made goes.rings lives
+  begins = begins_of q size old a m later x.told
 
   abbrev up : AreUp q size old a m.made fresh
   up = x.told.started.2
@@ -64,22 +59,22 @@ module _ (w : Watched) (fifo : ℕ) (h : List Entry) (q : AtPort) (size : ℕ) (
   begun = on w fifo h q size old a m.made fresh up x.along sized x.begins
 
   -- the calls from there on
-  apart : DrivesApart (is_own a) up.on.mid begins (last m later).made (halves_of goes.rings)
-  apart = life_lends_apart q size old a (last m later).made goes.rings lives
+  apart : LeadsApart (is_own a) up.on.mid begins (last m later).made (halves_of goes.rings)
+  apart = led_apart q size old a m later x.told
 
   abbrev doers : List Doer
-  doers = apart.drives.0
+  doers = apart.leads.0
 
   abbrev calls : List Call
-  calls = apart.drives.1
+  calls = apart.leads.1
 
   parted : Parts w.pass h up.on.mid calls
-  parted = parts w.pass h up.on.mid calls (x.made ∙ apart.drives.2)
+  parted = parts w.pass h up.on.mid calls (x.made ∙ apart.leads.2)
 
   driven : IsDriven w fifo parted.front parted.back begins doers
   driven =
       driven_by w fifo h q size old a up.on.mid up.empty fresh.transmit begun x.along sized x.begins.ground calls parted
-      doers apart.drives.3 (others_harmless doers calls apart.drives.5)
+      doers apart.leads.3 apart.leads.5
 
   -- where they lead
 
@@ -90,7 +85,7 @@ module _ (w : Watched) (fifo : ℕ) (h : List Entry) (q : AtPort) (size : ℕ) (
   ends = played_by begins doers (calls_of w.pass parted.back)
 
   ends_is : ends ≡ halves_of goes.rings
-  ends_is = ap (played_by begins doers) parted.backs ∙ sym apart.drives.4
+  ends_is = ap (played_by begins doers) parted.backs ∙ sym apart.leads.4
 
   there : leads_to (leads_to start parted.front) parted.back ≡ leads_to start h
   there = sym (leads-append start parted.front parted.back) ∙ ap (leads_to start) parted.both
@@ -137,10 +132,10 @@ module _ (w : Watched) (fifo : ℕ) (h : List Entry) (q : AtPort) (size : ℕ) (
   known =
       let far = apart w fifo h q size old a m later t in
       at_last w fifo h q size old a m later t (λ out s. OnlyLent (is_own a) out s.memory)
-      (known_along w fifo p.front p.back first_known far.drives.0 (is_own a) (driven w fifo h q size old a m later t)
+      (known_along w fifo p.front p.back first_known far.leads.0 (is_own a) (driven w fifo h q size old a m later t)
       at_first
       (others_behind w.pass (is_own a) p.front p.back (subst (OnlyPassLends w.pass (is_own a)) (sym p.both) x.others))
-      (subst (AllLendApart (is_own a) first_known far.drives.0) (sym p.backs) far.apart))
+      (subst (AllLendApart (is_own a) first_known far.leads.0) (sym p.backs) far.apart))
 
 pub out_is_lent : OutIsLent
 out_is_lent = lent

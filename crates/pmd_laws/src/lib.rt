@@ -24,9 +24,9 @@ ghost use Rattle.pmd_laws.specs.Told as told;
 ghost use Rattle.pmd_laws.specs.Waits.{WaitingIsNotAllBefore, WaitingIsNotAllAsTold};
 
 /// Over a legal history of a new device that leaves the driver's queue alone, whose pass made the calls of a start that
-/// brought both rings up, and then calls of the two halves, beside harmless ones, which write no register and lend, take
-/// and poke no block: the packets that the driver handed out are a prefix of those delivered on its queue, and all of
-/// them where a look that comes next finds none; and the frames sent on it are a prefix of those that the driver
+/// brought both rings up, and then calls of the two halves, beside harmless ones, which write no register and lend,
+/// take and poke no block: the packets that the driver handed out are a prefix of those delivered on its queue, and all
+/// of them where a look that comes next finds none; and the frames sent on it are a prefix of those that the driver
 /// accepted, and all of them where none is outstanding. Both are counted since the sides went on.
 pub fn life_in_order()
     ensures handed { HandedIsPrefix }

@@ -19,7 +19,7 @@ use Rattle.healthy_laws.specs.Before.{OnlyPassLends}
 use Rattle.pmd_laws.specs.Faultless as faultless
 use Rattle.pmd_laws.specs.Faultless.{IsFresh, IsToldApart, NoCallFindsFault}
 use Rattle.pmd_laws.specs.Told.{Moment, last}
-use Rattle.pmd_laws.proofs.LedApart.{led_apart, owns}
+use Rattle.pmd_laws.proofs.LedApart.{led, owns_still}
 use Rattle.pmd_laws.proofs.Looks.{along_before, begins_before}
 use Rattle.pmd_laws.proofs.NoFault.{no_fault_led_on}
 use Rattle.pmd_laws.proofs.PassLends.{others_before}
@@ -55,7 +55,7 @@ module _ (w : Watched) (fifo : ℕ) (h : List Entry) (q : AtPort) (size : ℕ) (
   abbrev fresh : Running
   fresh = first q size old a m later x.told
 
-  goes : RunsOn m fresh (last m later)
+  abbrev goes : RunsOn m fresh (last m later)
   goes = runs q size old a m later x.told
 
   abbrev there : Halves
@@ -65,7 +65,7 @@ module _ (w : Watched) (fifo : ℕ) (h : List Entry) (q : AtPort) (size : ℕ) (
   found =
       let (s, after, f) = up_next _ (last m later).driver.rings n.driver.rings goes.rings goes.up finds in
       subst (λ (own : Blocks). FindsFault own (last m later).made there n.made)
-      (λ i k. (goes.leads.owns k ∙ owns q size old a m later x.told k) i) f
+      (λ i k. owns_still q size old a m later x.told k i) f
 
   refuted : Parts w.pass h n.made x.more → ⊥
   refuted p =
@@ -76,7 +76,7 @@ module _ (w : Watched) (fifo : ℕ) (h : List Entry) (q : AtPort) (size : ℕ) (
       (on w fifo p.front q size old a m.made fresh x.told.started.2 along sized well) along sized well.ground (is_own a)
       (last_before w fifo h p.front p.back x.told.started.2.receive.quiet.0 (IsFresh w.queue (is_own a)) p.both x.fresh)
       (others_before w.pass (is_own a) p.front p.back (subst (OnlyPassLends w.pass (is_own a)) (sym p.both) x.others))
-      (last m later).made there (led_apart q size old a m later x.told)
+      (last m later).made there (led q size old a m later x.told)
       (subst (FindsFault (is_own a) (last m later).made there) (sym p.fronts) found)
 
 pub no_call_finds_fault : NoCallFindsFault

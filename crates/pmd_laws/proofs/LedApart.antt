@@ -1,7 +1,5 @@
--- From the place on where both sides of a driver's queue are on, its calls as they are told lead both halves on, and lend
--- as a driver's own do.
-use Rattle.std.proofs.Common.{List, subst}
-use Rattle.std.specs.Prelude.{ℕ}
+-- The calls of a driver, as told, from the place on where both sides of its queue were on.
+use Rattle.std.proofs.Common.{ℕ, List, subst, ◌∙◌}
 use Rattle.dma_arena.specs.Numbers.{Numbers, is_own}
 use Rattle.device_lock.specs.Alone.{Blocks}
 use Rattle.device_lock.specs.declared.entry.Call.{Call}
@@ -20,7 +18,7 @@ use Rattle.pmd_laws.proofs.Told.{first, runs}
 
 module _ (q : AtPort) (size : ℕ) (old : List Call) (a : Numbers) (m : Moment) (later : List Moment)
     (x : IsTold q size old a m later) where
-  abbrev pub fresh : Running
+  abbrev fresh : Running
   fresh = first q size old a m later x
 
   abbrev goes : RunsOn m fresh (last m later)
@@ -33,16 +31,17 @@ module _ (q : AtPort) (size : ℕ) (old : List Call) (a : Numbers) (m : Moment) 
   abbrev pub begins : Halves
   begins = first_of q size old a m.made fresh lives
 
-  -- its arena has the numbers of the one that came to it
-  pub owns : OwnsSame a fresh.arena
-  owns = fresh_own q size old a m.made fresh lives
+  abbrev there : Halves
+  there = halves_of goes.rings
 
-  pub led_apart : LeadsApart (is_own a) x.started.2.on.mid begins (last m later).made (halves_of goes.rings)
-  led_apart =
-      apart_leads_on (is_own a) x.started.2.on.mid m.made (last m later).made begins (halves_of fresh)
-      (halves_of goes.rings)
+  pub led : LeadsApart (is_own a) x.started.2.on.mid begins (last m later).made there
+  led =
+      apart_leads_on (is_own a) x.started.2.on.mid m.made (last m later).made begins (halves_of fresh) there
       (driven_apart (is_own a) x.started.2.on.mid m.made begins (halves_of fresh)
       (life_lends_apart q size old a m.made fresh lives))
-      (subst
-      (λ (own : Blocks). LeadsApart own m.made (halves_of fresh) (last m later).made (halves_of goes.rings))
-      (λ i k. owns k i) goes.leads.apart)
+      (subst (λ (own : Blocks). LeadsApart own m.made (halves_of fresh) (last m later).made there)
+      (λ i k. fresh_own q size old a m.made fresh lives k i) goes.leads.apart)
+
+  -- its arena keeps its numbers
+  pub owns_still : OwnsSame a goes.rings.arena
+  owns_still k = goes.leads.owns k ∙ fresh_own q size old a m.made fresh lives k

@@ -31,7 +31,7 @@ use Rattle.pmd_laws.proofs.Driven.{driven_by}
 use Rattle.pmd_laws.proofs.FirstHalves.{receive_lent, transmit_lent}
 use Rattle.pmd_laws.proofs.Held.{both_lent}
 use Rattle.pmd_laws.proofs.KnownAlong.{known_along}
-use Rattle.pmd_laws.proofs.LedApart.{led_apart, begins as begins_of}
+use Rattle.pmd_laws.proofs.LedApart as led_apart
 use Rattle.pmd_laws.proofs.LentSince.{lent_at}
 use Rattle.pmd_laws.proofs.PassLends.{others_behind}
 use Rattle.pmd_laws.proofs.RiseCalls.{Rises, on_rises}
@@ -43,11 +43,11 @@ module _ (w : Watched) (fifo : ℕ) (h : List Entry) (q : AtPort) (size : ℕ) (
   abbrev fresh : Running
   fresh = first q size old a m later x.told
 
-  goes : RunsOn m fresh (last m later)
+  abbrev goes : RunsOn m fresh (last m later)
   goes = runs q size old a m later x.told
 
   abbrev begins : Halves
-  begins = begins_of q size old a m later x.told
+  begins = led_apart.begins q size old a m later x.told
 
   abbrev up : AreUp q size old a m.made fresh
   up = x.told.started.2
@@ -60,7 +60,7 @@ module _ (w : Watched) (fifo : ℕ) (h : List Entry) (q : AtPort) (size : ℕ) (
 
   -- the calls from there on
   apart : LeadsApart (is_own a) up.on.mid begins (last m later).made (halves_of goes.rings)
-  apart = led_apart q size old a m later x.told
+  apart = led_apart.led q size old a m later x.told
 
   abbrev doers : List Doer
   doers = apart.leads.0

@@ -16,11 +16,6 @@ pub commands_of-none : (lines : List NumberedLine) → lines ≡ [] → commands
 unfolding commands_of
 commands_of-none lines none = rw none refl
 
--- no commands, and others behind them
-pub behind-none : (commands : Result (List Command) ℕ) → commands_then [] commands ≡ commands
-behind-none (Ok commands) = refl
-behind-none (Err number) = refl
-
 pub then-none : (before : List Command) (commands : Result (List Command) ℕ) → commands ≡ Ok []
     → commands_then before commands ≡ Ok before
 then-none before commands none = ap (commands_then before) none ∙ ap Ok (append-nil before)

@@ -1,6 +1,5 @@
 -- How the program ends where an answer was given up.
 use Rattle.std.proofs.Common.{refl, subst, ◌≡◌, inl, inr, ℕ, Bool, true, List, codes, None, Option, Some, Err, IfSome}
-use Rattle.std.specs.Io.KnownBytes.{Appends}
 use Rattle.clap.specs.Words.{HasKind, Kinds, kind_of}
 use Rattle.clap.specs.declared.error.Error.{Error}
 use Rattle.clap.specs.declared.error.ErrorKind.{ErrorKind}

@@ -1,7 +1,7 @@
 -- Answers that are given, or given up.
 use Rattle.std.proofs.Common.{refl, sym, subst, ap, ◌≡◌, ℕ, Bool, List, [], ◌++◌, append_assoc, ◌∙◌, Option, Result, Ok, Err}
 use Rattle.std.specs.Io.KnownBytes.{Appends}
-use Rattle.bench.specs.Answer.{Answer, FailsToWrite, Gives, GivesRight, GivesUp, WritesBeginning}
+use Rattle.bench.specs.Answer.{Answer, Gives, GivesRight, WritesBeginning}
 use Rattle.bench.specs.declared.failure.Failure.{Failure}
 use Rattle.bench.specs.declared.failure.Failure.TheVariants.{OutOfMemory, Read, Write}
 use Rattle.bench.proofs.Appending.{Appends-both, Appends-none}
@@ -21,30 +21,9 @@ module _ (old new : Option (List ℕ)) (has_failed : Bool) where
       → Gives r old new has_failed other
   gives-same r answer other same given = subst (Gives r old new has_failed) same given
 
-  -- a failed write gives an answer up
-  pub fails-to-give : (T : Type 0) (r : Result T Failure) (failure : Failure) (IsBegun : Type 0) → r ≡ Err failure
-      → FailsToWrite r has_failed
-      → GivesUp failure has_failed IsBegun
-  fails-to-give T (Ok x) failure IsBegun is fails = cc
-  fails-to-give T (Err Read) failure IsBegun is fails = let wrong = fails.0 in cc
-  fails-to-give T (Err OutOfMemory) failure IsBegun is fails = let wrong = fails.0 in cc
-  fails-to-give T (Err Write) Read IsBegun is fails = cc
-  fails-to-give T (Err Write) OutOfMemory IsBegun is fails = cc
-  fails-to-give T (Err Write) Write IsBegun is fails = fails.1
-
 -- nothing is the beginning of each text
 pub begins-with-nothing : (old : Option (List ℕ)) (text : List ℕ) → WritesBeginning old old text
 begins-with-nothing old text = record { beginning = []; rest = text; written = Appends-none old; whole = refl }
-
--- the beginning of a text is that of a longer one
-pub begins-longer : (old new : Option (List ℕ)) (text more : List ℕ) → WritesBeginning old new text
-    → WritesBeginning old new (text ++ more)
-begins-longer old new text more begun = record {
-  beginning = begun.beginning;
-  rest = begun.rest ++ more;
-  written = begun.written;
-  whole = sym (append_assoc begun.beginning begun.rest more) ∙ ap (λ (t : List ℕ). t ++ more) begun.whole;
-}
 
 -- an answer behind a text that is written
 pub gives-behind : (old mid new : Option (List ℕ)) (has_failed : Bool) (r : Result ℕ Failure) (text : List ℕ)

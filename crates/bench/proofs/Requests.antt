@@ -7,8 +7,6 @@ use Rattle.clap.specs.Words.{HasKind, IsAmong, Kinds, kind_of}
 use Rattle.clap.specs.declared.error.Error.{Error}
 use Rattle.clap.specs.declared.error.ErrorKind.{ErrorKind}
 use Rattle.clap.specs.declared.error.ErrorKind.TheVariants as kind
-use Rattle.command_line.specs.Asked.{Asks}
-use Rattle.command_line.specs.declared.Asked.{Asked}
 use Rattle.command_line.specs.declared.BytesRequest.{BytesRequest}
 use Rattle.command_line.specs.declared.Request.{Request}
 use Rattle.command_line.specs.declared.Request.TheVariants.{Text}
@@ -116,10 +114,6 @@ begun-by-nothing request remaining old new (Ok status) nothing never = absurd ne
 begun-by-nothing request None old new (Err OutOfMemory) nothing never = tt
 begun-by-nothing request (Some input) old new (Err OutOfMemory) nothing never =
     λ answer right. rw (nothing refl) (begins-with-nothing old answer.text)
-
--- words ask for one thing
-pub asks-one : (words : List (List ℕ)) (one other : Asked) → Asks words one → Asks words other → one ≡ other
-asks-one words one other asks asks_too = let same = sym asks.asked ∙ asks_too.asked in cc
 
 -- the status of an error that has any of the kinds
 pub HasStatusOf-kind : (kinds : Kinds) (e : Error) (status : ℕ) → status ≡ words_status (kind_of e)

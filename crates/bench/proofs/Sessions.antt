@@ -16,16 +16,13 @@ use Rattle.debugger.specs.declared.View.{View}
 use Rattle.bench.specs.Answer.{WritesBeginning, refused_at}
 use Rattle.bench.specs.Debug.{commands_answer, debug_config_of, end_of_script, parted_answer, session_of, session_text}
 use Rattle.bench.specs.View.{answer_line}
-use Rattle.bench.proofs.Appending.{Appends-both, Appends-none}
+use Rattle.bench.proofs.Appending.{Appends-both}
 
 -- some commands are done and their lines written; the others are left
 pub record IsAmid (old new : Option (List ℕ)) (start now : Session) (all rest : List Command) : Type 0 where
   pub done : List ℕ
   pub written : Appends old new done
   pub whole : done ++ session_text now rest ≡ session_text start all
-
-pub at-start : (old : Option (List ℕ)) (start : Session) (all : List Command) → IsAmid old old start start all all
-at-start old start all = record { done = []; written = Appends-none old; whole = refl }
 
 module _ (old new : Option (List ℕ)) (start now : Session) (all rest : List Command)
     (amid : IsAmid old new start now all rest) where

@@ -45,12 +45,6 @@ unfolding machine_at steps_text
 no-steps o m new = record { written = Appends-none o; at = ap (λ s. record m { state = s }) new }
 
 module _ (old new : Option (List ℕ)) (start now : Course) (k limit : ℕ) (after : AfterSteps old new start now k) where
-  pub all-text : k ≡ limit → Appends old new (steps_text start.program start.config limit)
-  all-text is = subst (λ n. Appends old new (steps_text start.program start.config n)) is after.written
-
-  pub all-state : k ≡ limit → now.state ≡ machine_at start.program start.config limit
-  all-state is = ap (λ (m : Course). m.state) after.at ∙ ap (machine_at start.program start.config) is
-
   pub steps-begun : k ≤ limit → WritesBeginning old new (steps_text start.program start.config limit)
   steps-begun within =
       let up_to : k + (limit - k) ≡ limit = omega arith in

@@ -4,12 +4,13 @@ use Rattle.std.proofs.lemmas.Bool.Decides.{nat_tests}
 use Rattle.std.proofs.lemmas.Grind.{common_steps}
 use Rattle.std.proofs.lemmas.List.Sums.{sum_by-append, count_by-le-length}
 use Rattle.dma_arena.specs.Block.{Block}
+use Rattle.nic_device.specs.Sound.{IsEvent}
 use Rattle.nic_device.specs.State.{State, new_state}
 use Rattle.nic_device.specs.Step.{step_of}
 use Rattle.nic_device.specs.declared.event.Event.{Event}
 use Rattle.nic_device.specs.declared.event.Reply.{Reply}
 use Rattle.device_lock.specs.declared.entry.Entry.{Entry}
-use Rattle.device_lock.specs.History.{leads_to, IsLegal, AllBelow, entry_of}
+use Rattle.device_lock.specs.History.{leads_to, IsLegal, AreEvents, AllBelow, entry_of}
 use Rattle.device_lock.specs.Kept.{Held, IsKept, entries_of}
 
 leads_to-snoc : (s : State) (h : List Entry) (e : Entry)
@@ -21,6 +22,10 @@ legal_more : (s : State) (h : List Entry) (e : Entry) → IsLegal s h
     → e.reply ≡ (step_of (leads_to s h) e.event).reply → IsLegal s (h ++ e ∷ [])
 legal_more s [] e legal is = (is, tt)
 legal_more s (x ∷ h) e legal is = (legal.0, legal_more (step_of s x.event).state h e legal.1 is)
+
+events_more : (h : List Entry) (e : Entry) → AreEvents h → IsEvent e.event → AreEvents (h ++ e ∷ [])
+events_more [] e events is = (is, tt)
+events_more (x ∷ h) e events is = (events.0, events_more h e events.1 is)
 
 one_more_below : (n : ℕ) (h : List Entry) (e : Entry) → AllBelow n h → e.pass < n → AllBelow n (h ++ e ∷ [])
 one_more_below n [] e below lt = (lt, tt)
@@ -47,17 +52,18 @@ count_few vfs fifo h counts tag k lt room =
 
 pub kept_more : (vfs fifo : ℕ) (h : Held) (counts : List ℕ) (tag : ℕ) (event note : Event Block)
     (reply told : Reply Block) (device : State) (history : List Entry) (counts' : List ℕ)
-    → IsKept vfs fifo h counts → tag < h.passes → length h.history < h.limit
+    → IsKept vfs fifo h counts → tag < h.passes → length h.history < h.limit → IsEvent event
     → note ≡ event → told ≡ reply → reply ≡ (step_of h.device event).reply → device ≡ (step_of h.device event).state
     → history ≡ h.history ++ entry_of tag note told ∷ []
     → counts' ≡ slice_set counts tag (get_or counts tag 0 + 1)
     → IsKept vfs fifo (record { device = device; history = history; passes = h.passes; limit = h.limit }) counts'
-kept_more vfs fifo h counts tag event note reply told device history counts' k lt room n r made is grown counted =
+kept_more vfs fifo h counts tag event note reply told device history counts' k lt room fit n r made is grown counted =
     let e : Entry = entry_of tag event (step_of h.device event).reply in
     let more : history ≡ h.history ++ e ∷ [] = rw (grown, n, r, made) refl in
     record {
       legal = rw more (legal_more (new_state vfs fifo) h.history e k.legal (rw k.leads refl));
       leads = rw (more, leads_to-snoc (new_state vfs fifo) h.history e, k.leads) (sym is);
+      events = rw more (events_more h.history e k.events fit);
       below = rw more (one_more_below h.passes h.history e k.below lt);
       within = rw (more, length-append h.history (e ∷ [])) (omega arith);
       small = k.small;

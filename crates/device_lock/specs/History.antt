@@ -1,6 +1,7 @@
 -- The calls that a device was shared for, in the order in which it made them.
 use Rattle.std.specs.Prelude.{◌≡◌, ℕ, ◌<◌, ◌==◌, List, [], ◌∷◌, map, filter, ⊤}
 use Rattle.dma_arena.specs.Block.{Block}
+use Rattle.nic_device.specs.Sound.{IsEvent}
 use Rattle.nic_device.specs.State.{State}
 use Rattle.nic_device.specs.Step.{step_of}
 use Rattle.nic_device.specs.declared.event.Event.{Event}
@@ -17,6 +18,11 @@ leads_to s (e ∷ es) = leads_to (step_of s e.event).state es
 abbrev pub IsLegal : State → List Entry → Type 0
 IsLegal s [] = ⊤
 IsLegal s (e ∷ es) = (e.reply ≡ (step_of s e.event).reply) × IsLegal (step_of s e.event).state es
+
+-- each event is one that a driver can make
+abbrev pub AreEvents : List Entry → Type 0
+AreEvents [] = ⊤
+AreEvents (e ∷ es) = IsEvent e.event × AreEvents es
 
 -- each tag is below this number
 abbrev pub AllBelow : ℕ → List Entry → Type 0

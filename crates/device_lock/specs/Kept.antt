@@ -5,7 +5,7 @@ use Rattle.nic_device.specs.State.{State, new_state}
 use Rattle.nic_device.specs.Step.{step_of}
 use Rattle.nic_device.specs.declared.event.Event.{Event}
 use Rattle.device_lock.specs.declared.entry.Entry.{Entry}
-use Rattle.device_lock.specs.History.{leads_to, IsLegal, AllBelow, entry_of}
+use Rattle.device_lock.specs.History.{leads_to, IsLegal, AreEvents, AllBelow, entry_of}
 
 -- a device with the history of its calls, how many passes there are, and how many entries the history may have
 pub record Held : Type 0 where
@@ -18,11 +18,12 @@ pub record Held : Type 0 where
 abbrev pub entries_of : ℕ → List Entry → ℕ
 entries_of tag h = count_by (λ (e : Entry). e.pass == tag) h
 
--- the history is legal from a new device and leads to the one held, its tags are those of the passes, it is no longer
--- than the limit, and each pass has as many entries as its count says
+-- the history is legal from a new device and leads to the one held, its events are such as a driver can make, its tags
+-- are those of the passes, it is no longer than the limit, and each pass has as many entries as its count says
 pub record IsKept (vfs fifo : ℕ) (h : Held) (counts : List ℕ) : Type 0 where
   pub legal : IsLegal (new_state vfs fifo) h.history
   pub leads : leads_to (new_state vfs fifo) h.history ≡ h.device
+  pub events : AreEvents h.history
   pub below : AllBelow h.passes h.history
   pub within : length h.history ≤ h.limit
   pub small : h.limit ≤ 1000000

@@ -2,7 +2,7 @@ ghost use Rattle.std.specs.Prelude.{◌≡◌, ◌↔◌, IsTrue, IfOk, IfErr};
 ghost use Rattle.nic_device.specs.State.{new_state};
 ghost use Rattle.device_lock.specs.Alone.{LeavesAlone};
 ghost use Rattle.device_lock.specs.Closing.{Answers, Closes, IsRefused};
-ghost use Rattle.device_lock.specs.History.{leads_to, IsLegal, AllBelow};
+ghost use Rattle.device_lock.specs.History.{leads_to, IsLegal, AreEvents, AllBelow};
 ghost use Rattle.device_lock.specs.Positions.{positions_of};
 
 use crate::alone::{Watched, left_alone};
@@ -36,11 +36,13 @@ impl<const VFS: u8, const FIFO: u16> Model for Closed<VFS, FIFO> {
 }
 
 impl<const VFS: u8, const FIFO: u16> Closed<VFS, FIFO> {
-    /// All calls, the oldest first. They are legal from a new device, lead to the device held, and are all of a pass.
+    /// All calls, the oldest first. They are legal from a new device, lead to the device held, and are all of a pass,
+    /// and their events are such as a driver can make.
     pub fn history(&self) -> &[Entry]
         ensures entries { result.now ≡ self.now.history }
         ensures legal { IsLegal (new_state VFS FIFO) self.now.history }
         ensures leads { leads_to (new_state VFS FIFO) self.now.history ≡ self.now.device }
+        ensures events { AreEvents self.now.history }
         ensures below { AllBelow self.now.passes self.now.history }
     {
         self.locked.history()

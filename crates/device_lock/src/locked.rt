@@ -3,7 +3,7 @@ ghost use Rattle.nic_device.specs.Answering.{may_answer, note_length};
 ghost use Rattle.nic_device.specs.State.{new_state};
 ghost use Rattle.nic_device.specs.Step.{step_of};
 ghost use Rattle.device_lock.specs.Fault.{event_of};
-ghost use Rattle.device_lock.specs.History.{leads_to, IsLegal, AllBelow};
+ghost use Rattle.device_lock.specs.History.{leads_to, IsLegal, AreEvents, AllBelow};
 ghost use Rattle.device_lock.specs.Kept.{opened, after_call, entries_of};
 
 use crate::entry::Entry;
@@ -78,11 +78,12 @@ impl<const VFS: u8, const FIFO: u16> Locked<VFS, FIFO> {
     }
 
     /// The calls so far, the oldest first. They are legal from a new device, lead to the device held, and are all of a
-    /// pass.
+    /// pass, and their events are such as a driver can make.
     pub fn history(&self) -> &[Entry]
         ensures entries { result.now ≡ self.now.history }
         ensures legal { IsLegal (new_state VFS FIFO) self.now.history }
         ensures leads { leads_to (new_state VFS FIFO) self.now.history ≡ self.now.device }
+        ensures events { AreEvents self.now.history }
         ensures below { AllBelow self.now.passes self.now.history }
         ensures within { length self.now.history ≤ self.now.limit }
     {
@@ -118,6 +119,7 @@ impl<const VFS: u8, const FIFO: u16> Locked<VFS, FIFO> {
             ⊎ (result ≡ Err (CallFault.OutOfMemory event))) }
         ensures unchanged { OnErr result (self.new ≡ self.old) }
     {
+        event.is_of_a_driver();
         if self.history.len() >= self.limit as usize {
             return Err(CallFault::HistoryFull(event));
         }

@@ -7,12 +7,11 @@ use Rattle.nic_device.specs.Sound.{IsEvent}
 use Rattle.nic_device.specs.State.{State}
 use Rattle.nic_device.specs.Step.{after, reply_to}
 use Rattle.device_lock.specs.Alone.{Blocks, EntryLeavesAlone, LeavesRegisters, LeavesBlocks, WritesOutside, lent_by, lent_in, mode_after}
-use Rattle.device_lock.specs.History.{IsLegal, call_in, calls_of}
+use Rattle.device_lock.specs.History.{IsLegal, AreEvents, call_in, calls_of}
 use Rattle.device_lock.specs.Pass.{call_of}
 use Rattle.device_lock.specs.declared.alone.Watched.{Watched}
 use Rattle.device_lock.specs.declared.entry.Entry.{Entry}
 use Rattle.history_laws.specs.Alone.{AllAlone}
-use Rattle.history_laws.specs.Laws.{AreEvents}
 use Rattle.receive_laws.specs.Pieces.{Piece, pieces}
 use Rattle.receive_laws.specs.Up as received
 use Rattle.receive_laws.proofs.Mine.{LendsMine}

@@ -4,9 +4,8 @@ use Rattle.nic_device.specs.State.{State}
 use Rattle.nic_device.specs.Step.{after}
 use Rattle.device_laws.specs.Laws.{WritesNoSetting}
 use Rattle.device_lock.specs.Alone.{Blocks, lent_by}
-use Rattle.device_lock.specs.History.{IsLegal, leads_to}
+use Rattle.device_lock.specs.History.{IsLegal, AreEvents, leads_to}
 use Rattle.device_lock.specs.declared.entry.Entry.{Entry}
-use Rattle.history_laws.specs.Laws.{AreEvents}
 use Rattle.history_laws.specs.Lent.{OnlyLent, LendsNone, either}
 use Rattle.receive_laws.specs.Short.{AreShort}
 

@@ -29,9 +29,9 @@ use Rattle.nic_device.specs.declared.named.Named.TheVariants.{Nothing, Register}
 use Rattle.nic_device.proofs.Steps.{step_leads, keeps_sound}
 use Rattle.device_laws.proofs.Settings.{setting_stands}
 use Rattle.device_lock.specs.Alone.{mode_after, mode_through, mode_written, mode_set}
-use Rattle.device_lock.specs.History.{leads_to}
+use Rattle.device_lock.specs.History.{leads_to, AreEvents}
 use Rattle.device_lock.specs.declared.entry.Entry.{Entry}
-use Rattle.history_laws.specs.Laws.{AreEvents, ModeIsTold}
+use Rattle.history_laws.specs.Laws.{ModeIsTold}
 use Rattle.history_laws.proofs.Naming.{place_in, place_named, IsReal, AreReal, real}
 use Rattle.history_laws.proofs.Parting.{mode_of_written, mode_of_reset, other_mode, control_stands, setting, other_stands}
 

@@ -14,9 +14,8 @@ use Rattle.nic_device.specs.State.{State, new_state}
 use Rattle.nic_device.specs.Step.{after, reply_to}
 use Rattle.nic_device.specs.declared.event.Event.{Event}
 use Rattle.nic_device.specs.declared.event.Event.TheVariants as event
-use Rattle.device_lock.specs.History.{leads_to}
+use Rattle.device_lock.specs.History.{leads_to, AreEvents}
 use Rattle.device_lock.specs.declared.entry.Entry.{Entry}
-use Rattle.history_laws.specs.Laws.{AreEvents}
 
 pub record IsAligned (ring : Ring) : Type 0 where
   pub base : ring.base % 128 ≡ 0

@@ -1,19 +1,14 @@
 -- Laws of legal histories, on which those of a driver's two sides rest.
-use Rattle.std.specs.Prelude.{ℕ, ◌≡◌, ⊤, IsTrue, List, [], ◌∷◌, ◌++◌}
+use Rattle.std.specs.Prelude.{ℕ, ◌≡◌, IsTrue, List, ◌++◌}
 use Rattle.vf_map.specs.declared.mode.Mode.TheVariants.{Off}
 use Rattle.register_file.specs.Pools.{mode_in}
-use Rattle.nic_device.specs.Sound.{IsEvent, IsSound}
+use Rattle.nic_device.specs.Sound.{IsSound}
 use Rattle.nic_device.specs.State.{State, new_state}
 use Rattle.device_lock.specs.Alone.{LeavesAlone, has_begun, lent_by, mode_through}
-use Rattle.device_lock.specs.History.{leads_to}
+use Rattle.device_lock.specs.History.{leads_to, AreEvents}
 use Rattle.device_lock.specs.declared.alone.Watched.{Watched}
 use Rattle.device_lock.specs.declared.entry.Entry.{Entry}
 use Rattle.history_laws.specs.Alone.{AllAlone}
-
--- each event is one that a driver can make
-abbrev pub AreEvents : List Entry → Type 0
-AreEvents [] = ⊤
-AreEvents (e ∷ es) = IsEvent e.event × AreEvents es
 
 -- the mode that the entries tell is the device's, from a new device on
 abbrev pub ModeIsTold : Type 0

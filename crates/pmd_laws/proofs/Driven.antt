@@ -4,11 +4,10 @@ use Rattle.dma_arena.specs.Numbers.{Numbers}
 use Rattle.vf_map.specs.declared.mode.Mode.TheVariants.{Off}
 use Rattle.nic_device.specs.State.{State, new_state}
 use Rattle.device_lock.specs.Alone.{LeavesAlone, lent_by, mode_through}
-use Rattle.device_lock.specs.History.{IsLegal, leads_to}
+use Rattle.device_lock.specs.History.{IsLegal, AreEvents, leads_to}
 use Rattle.device_lock.specs.declared.alone.Watched.{Watched}
 use Rattle.device_lock.specs.declared.entry.Call.{Call}
 use Rattle.device_lock.specs.declared.entry.Entry.{Entry}
-use Rattle.history_laws.specs.Laws.{AreEvents}
 use Rattle.pmd.specs.Halves.{AllOwn, Doer, Halves}
 use Rattle.pmd.specs.Started.{is_size}
 use Rattle.pmd_queue.specs.Named.{AtPort}

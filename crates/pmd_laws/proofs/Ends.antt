@@ -66,7 +66,7 @@ left_is_prefix w fifo h q size old a new left late lived x = (
 
 -- its calls are those of a stop, and take blocks back once both sides were seen off
 
-stopped_ends : (q : AtPort) (old : List Call) (h : Halted) (new : List Call) (left : Rest) (late : Option PmdFault)
+pub stopped_ends : (q : AtPort) (old : List Call) (h : Halted) (new : List Call) (left : Rest) (late : Option PmdFault)
     → IsStopped q old h new left late → Ends q old new
 stopped_ends q old h new (rest.Home home) None x = stop_ends q old h new home x
 stopped_ends q old h new (rest.Home home) (Some f) x = absurd x

@@ -39,7 +39,7 @@ full_is_all_but_one q size old a m later n p x tells =
     let goes = runs q size old a m later x in
     let (s, up, full) = up_next (λ r s. IsFullWhereTold r.transmit (Ok (RingFull p))) (last m later).driver.rings
     n.driver.rings goes.rings goes.up tells in
-    let (doers, since, made, own, is, harmless) = goes.leads.apart.leads in
+    let (doers, since, made, own, is, steps) = goes.leads.apart.leads in
     ap (λ (z : Rings). outstanding z + 1) goes.up ∙ full
     ∙ ap (λ (h : Halves). h.transmit.layout.size) is ∙ played_size _ doers since
     ∙ ap (λ (v : Sender). v.layout.size) x.started.2.transmit.fresh

@@ -10,12 +10,11 @@ use Rattle.nic_device.specs.Step.{after}
 use Rattle.nic_device.specs.declared.event.Reply.{Reply}
 use Rattle.device_lock.specs.Alone as alone
 use Rattle.device_lock.specs.Alone.{Blocks, mode_after, mode_through}
-use Rattle.device_lock.specs.History.{IsLegal, call_in, calls_of, leads_to}
+use Rattle.device_lock.specs.History.{IsLegal, AreEvents, call_in, calls_of, leads_to}
 use Rattle.device_lock.specs.Pass.{call_of}
 use Rattle.device_lock.specs.declared.alone.Watched.{Watched}
 use Rattle.device_lock.specs.declared.entry.Entry.{Entry}
 use Rattle.history_laws.specs.Alone.{AllAlone}
-use Rattle.history_laws.specs.Laws.{AreEvents}
 use Rattle.history_laws.specs.Lent.{OnlyLent}
 use Rattle.history_laws.proofs.Aligned.{histories_aligned, new_aligned}
 use Rattle.history_laws.proofs.Alone.{alone_by_entries}

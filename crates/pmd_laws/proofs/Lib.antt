@@ -9,6 +9,11 @@ pub mod FullRing
 pub mod HandedOn
 pub mod Held
 pub mod KnownAlong
+pub mod LaidAccesses
+pub mod LaidCalls
+pub mod LaidFilling
+pub mod LaidStarts
+pub mod LaidWords
 pub mod LedApart
 pub mod Lends
 pub mod LentSince
@@ -20,6 +25,8 @@ pub mod Order
 pub mod PassLends
 pub mod Places
 pub mod Plain
+pub mod Refused
+pub mod RefusedCalls
 pub mod RiseCalls
 pub mod RunsOn
 pub mod SickCall

@@ -7,12 +7,11 @@ use Rattle.nic_device.specs.Step.{reply_to}
 use Rattle.nic_device.specs.declared.event.Event.TheVariants as event
 use Rattle.nic_device.specs.declared.event.Reply.TheVariants as reply
 use Rattle.device_lock.specs.Alone.{LeavesAlone}
-use Rattle.device_lock.specs.History.{IsLegal, call_in, calls_of, leads_to}
+use Rattle.device_lock.specs.History.{IsLegal, AreEvents, call_in, calls_of, leads_to}
 use Rattle.device_lock.specs.Pass.{call_of}
 use Rattle.device_lock.specs.declared.alone.Watched.{Watched}
 use Rattle.device_lock.specs.declared.entry.Call.{Call}
 use Rattle.device_lock.specs.declared.entry.Entry.{Entry}
-use Rattle.history_laws.specs.Laws.{AreEvents}
 use Rattle.history_laws.proofs.Beginning.{beginning_alone}
 use Rattle.pmd.specs.Running.{Running}
 use Rattle.pmd.specs.Started.{AreUp}

@@ -20,7 +20,7 @@ use Rattle.driver_laws.specs.Beside.{OthersHarmless, is_harmless}
 
 -- the tail's number stays
 
-abbrev SameTail : Receive → Receive → Type 0
+abbrev pub SameTail : Receive → Receive → Type 0
 SameTail v u = (u.layout.port ≡ v.layout.port) × (u.layout.tail ≡ v.layout.tail)
 
 looked_same : (v : Receive) (d : List ℕ) → SameTail v (looked v d)
@@ -43,7 +43,7 @@ moved_same : (v : Receive) (s : Stage) → SameTail v (moved v s)
 moved_same v (Named o b) = (refl, refl)
 moved_same v other = (refl, refl)
 
-drive_same : (v : Receive) (e : Event Block) (r : Reply Block) → SameTail v (drive v e r)
+pub drive_same : (v : Receive) (e : Event Block) (r : Reply Block) → SameTail v (drive v e r)
 drive_same v (event.Peek16 a) (reply.Bytes d) = looked_same v d
 drive_same v (event.Take n) (reply.Buf b) = took_same v v.stage b
 drive_same v (event.Lend b) reply.Done = lent_same v v.stage b.number

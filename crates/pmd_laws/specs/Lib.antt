@@ -6,6 +6,7 @@ pub mod Life
 pub mod Looks
 pub mod Order
 pub mod Places
+pub mod Refused
 pub mod Silent
 pub mod Stopped
 pub mod Told

@@ -24,7 +24,7 @@ use Rattle.start_laws.specs.Along.{IsAlong}
 use Rattle.start_laws.specs.Start.{BeginsWell}
 use Rattle.pmd_laws.specs.Looks.{EndsAt}
 
--- when a call of the driver, or of its way to the device, has returned: the driver, and the calls that its pass has made
+-- when a call of the driver, or of its way to the device, has returned: the driver, and the calls of its pass so far
 pub record Moment : Type 0 where
   pub made : List Call
   pub driver : Driver

@@ -6,7 +6,8 @@
 //! a call of its finds the device at fault, `specs/Looks` what holds where a look finds no packet, and `specs/Waits`
 //! where it finds one waiting; `specs/Places` says where its blocks are at the device, and `specs/FullRing` how many
 //! packets are outstanding where its ring is full. `specs/Ends` says what holds of what a stopped driver left,
-//! `specs/Stopped` what over the calls of its stop, and `specs/Silent` once these have switched its queue off.
+//! `specs/Stopped` what over the calls of its stop, and `specs/Silent` once these have switched its queue off;
+//! `specs/Refused` what holds where its start was refused.
 #![tactic(auto)]
 
 ghost use Rattle.pmd_laws.specs.Ends.{HandedOverStop, LeftIsPrefix, SentOverStop};
@@ -16,15 +17,16 @@ ghost use Rattle.pmd_laws.specs.Lends.{LifeLendsApart};
 ghost use Rattle.pmd_laws.specs.Looks.{CallsEnd, NoneIsAllBefore};
 ghost use Rattle.pmd_laws.specs.Order.{HandedIsPrefix, NoneIsAll, SentIsPrefix, IdleIsAllSent};
 ghost use Rattle.pmd_laws.specs.Places.{BooksGoOn, EachInOnePlace, LentIsOut, OutIsLent};
+ghost use Rattle.pmd_laws.specs.Refused.{LeftOfRefusedIsPrefix, RefusedSendsNothing};
 ghost use Rattle.pmd_laws.specs.Silent.{SilentOnceOff, SilentOverStop};
 ghost use Rattle.pmd_laws.specs.Stopped as stopped;
 ghost use Rattle.pmd_laws.specs.Told as told;
 ghost use Rattle.pmd_laws.specs.Waits.{WaitingIsNotAllBefore, WaitingIsNotAllAsTold};
 
 /// Over a legal history of a new device that leaves the driver's queue alone, whose pass made the calls of a start that
-/// brought both rings up, and then calls of the two halves, beside harmless ones, which write no register and lend, take
-/// and poke no block: the packets that the driver handed out are a prefix of those delivered on its queue, and all of
-/// them where a look that comes next finds none; and the frames sent on it are a prefix of those that the driver
+/// brought both rings up, and then calls of the two halves, beside harmless ones, which write no register and lend,
+/// take and poke no block: the packets that the driver handed out are a prefix of those delivered on its queue, and all
+/// of them where a look that comes next finds none; and the frames sent on it are a prefix of those that the driver
 /// accepted, and all of them where none is outstanding. Both are counted since the sides went on.
 pub fn life_in_order()
     ensures handed { HandedIsPrefix }
@@ -115,6 +117,15 @@ pub fn what_is_left_is_in_order()
     ensures before { LeftIsPrefix }
     ensures handed { HandedOverStop }
     ensures sent { SentOverStop }
+{}
+
+/// Over such a history, where a driver's start was refused, as `worker_runs::run_worker` says of its driver where it
+/// never lived: nothing is sent on the queue from the start's first event on, just before which port and queue name the
+/// queue and both sides are off and not wanted on, to any place amid the start and the stop of what it left, and to
+/// where these ended. So what is left as handed out, and what was sent since, are in order too.
+pub fn refused_start_sends_nothing()
+    ensures sent { RefusedSendsNothing }
+    ensures left { LeftOfRefusedIsPrefix }
 {}
 
 /// Where such a life is followed by calls of a stop, of which none asks for a side to be on, the packets that the

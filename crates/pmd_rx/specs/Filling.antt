@@ -4,7 +4,7 @@ use Rattle.dma_arena.specs.Numbers.{Numbers}
 use Rattle.device_lock.specs.declared.entry.Call.{Call}
 use Rattle.pmd_base.specs.Home.{IsDrawn}
 use Rattle.pmd_base.specs.declared.fault.PmdFault.{PmdFault}
-use Rattle.pmd_rx.specs.Plays.{Plays, AllLendFree}
+use Rattle.pmd_rx.specs.Plays.{Plays, PlaysFrom, AllLendFree}
 use Rattle.pmd_rx.specs.Receive.{Receive}
 use Rattle.pmd_rx.specs.Wrong.{FailsBy}
 
@@ -19,7 +19,7 @@ pub record PostsSome (count : ℕ) (a : Numbers) (v : Receive) (b : Numbers) (w 
 abbrev pub Fills : Numbers → Receive → Numbers → Receive → Type 0
 Fills a v b w = (count : ℕ) × (count + 1 ≡ v.layout.size) × PostsSome count a v b w
 
--- fewer were posted, and the next wasn't for this fault
+-- fewer were posted, and the next wasn't for this fault. All calls that were made are the driver's
 pub record StopsFilling (f : PmdFault) (old : List Call) (a : Numbers) (v : Receive) (new : List Call) (b : Numbers)
     (w : Receive) : Type 0 where
   pub count : ℕ
@@ -31,3 +31,4 @@ pub record StopsFilling (f : PmdFault) (old : List Call) (a : Numbers) (v : Rece
   pub free : AllLendFree a plays.0 plays.1
   pub posts : PostsSome count a v arena ring
   pub fails : FailsBy f mid arena ring new b w
+  pub made : PlaysFrom a old v new w

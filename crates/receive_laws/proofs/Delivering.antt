@@ -7,12 +7,11 @@ use Rattle.nic_device.specs.State.{State, new_state}
 use Rattle.nic_device.specs.Step.{after}
 use Rattle.nic_device.proofs.Steps.{step_leads}
 use Rattle.device_lock.specs.Alone.{lent_by, mode_through}
-use Rattle.device_lock.specs.History.{IsLegal, calls_of, leads_to}
+use Rattle.device_lock.specs.History.{IsLegal, AreEvents, calls_of, leads_to}
 use Rattle.device_lock.specs.declared.alone.Watched.{Watched}
 use Rattle.device_lock.specs.declared.entry.Entry.{Entry}
 use Rattle.pmd_rx.specs.Plays.{played_by}
 use Rattle.pmd_rx.specs.Receive.{Receive}
-use Rattle.history_laws.specs.Laws.{AreEvents}
 use Rattle.history_laws.proofs.Aligned.{histories_aligned, new_aligned}
 use Rattle.history_laws.proofs.Alone.{alone_by_entries}
 use Rattle.history_laws.proofs.Sound.{histories_sound}

@@ -8,13 +8,12 @@ use Rattle.nic_device.specs.Step.{after, reply_to}
 use Rattle.nic_device.specs.declared.event.Event.TheVariants as event
 use Rattle.nic_device.specs.declared.event.Reply.TheVariants.{Bytes}
 use Rattle.device_lock.specs.Alone.{LeavesAlone, has_begun, lent_by}
-use Rattle.device_lock.specs.History.{IsLegal, calls_of, call_in, leads_to}
+use Rattle.device_lock.specs.History.{IsLegal, AreEvents, calls_of, call_in, leads_to}
 use Rattle.device_lock.specs.declared.alone.Watched.{Watched}
 use Rattle.device_lock.specs.declared.entry.Entry.{Entry}
 use Rattle.pmd_base.specs.Events.{is_step}
 use Rattle.pmd_rx.specs.Plays.{AllOwn, after_call, played_by}
 use Rattle.pmd_rx.specs.Receive.{Receive, held, descriptor_at}
-use Rattle.history_laws.specs.Laws.{AreEvents}
 use Rattle.receive_laws.specs.Delivered.{IsPrefixOf, delivered, pieces_since}
 use Rattle.receive_laws.specs.Joint.{Agree}
 use Rattle.receive_laws.specs.Steps.{Each, Leaves, OwnReportsSpare}

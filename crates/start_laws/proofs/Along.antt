@@ -5,12 +5,11 @@ use Rattle.vf_map.specs.declared.mode.Mode.TheVariants.{Off}
 use Rattle.nic_device.specs.State.{State, new_state}
 use Rattle.nic_device.specs.Step.{after}
 use Rattle.device_lock.specs.Alone.{Blocks, LeavesAlone, lent_by, mode_after, mode_through}
-use Rattle.device_lock.specs.History.{IsLegal, calls_of, leads_to}
+use Rattle.device_lock.specs.History.{IsLegal, AreEvents, calls_of, leads_to}
 use Rattle.device_lock.specs.declared.alone.Watched.{Watched}
 use Rattle.device_lock.specs.declared.entry.Call.{Call}
 use Rattle.device_lock.specs.declared.entry.Entry.{Entry}
 use Rattle.history_laws.specs.Alone.{AllAlone}
-use Rattle.history_laws.specs.Laws.{AreEvents}
 use Rattle.history_laws.proofs.Aligned.{histories_aligned, new_aligned}
 use Rattle.history_laws.proofs.Alone.{alone_by_entries}
 use Rattle.history_laws.proofs.Modes.{mode_told}
@@ -37,18 +36,18 @@ module _ (w : Watched) (fifo : ℕ) (h : List Entry) (x : IsAlong w fifo h) wher
     whole : front ++ (back ++ rest) ≡ h
     whole = sym (append_assoc front back rest) ∙ all
 
-    events : AreEvents (front ++ (back ++ rest))
+    pub events : AreEvents (front ++ (back ++ rest))
     events = subst AreEvents (sym whole) x.events
 
-    legal : IsLegal new ((front ++ back) ++ rest)
+    pub legal : IsLegal new ((front ++ back) ++ rest)
     legal = subst (IsLegal new) (sym all) x.legal
 
-    alone : AllAlone w (lent_by w.pass h) (mode_through w.vfs Off front) (back ++ rest)
+    pub alone : AllAlone w (lent_by w.pass h) (mode_through w.vfs Off front) (back ++ rest)
     alone =
         subst (λ (l : List Entry). AllAlone w (lent_by w.pass l) (mode_through w.vfs Off front) (back ++ rest)) whole
         (alone_by_entries w front (back ++ rest) (subst (LeavesAlone w) (sym whole) x.alone) (begun w.pass front some))
 
-    there : Between w (mode_through w.vfs Off front) (leads_to new front)
+    pub there : Between w (mode_through w.vfs Off front) (leads_to new front)
     there =
         let early = events_before front (back ++ rest) events in record {
           small = x.small;

@@ -51,7 +51,7 @@ all_lead w fifo h P Own along kept leads (c ∷ cs) old each some at =
 
 -- a step of the device leaves each queue alone
 
-outside_none : (queue : ℕ) (r : Reply Block) → WritesOutside queue no_block r
+pub outside_none : (queue : ℕ) (r : Reply Block) → WritesOutside queue no_block r
 outside_none queue (Wrote on slot end desc at len) = λ other. (λ a low high. refl, λ a low high. refl)
 outside_none queue (Advanced on slot (Some back)) = λ other. refl
 outside_none queue (Sent on len (Some back)) = λ other. refl

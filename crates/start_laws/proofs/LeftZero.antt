@@ -27,7 +27,7 @@ use Rattle.transmit_laws.proofs.LeftBlocks.{left_alone_is_spared}
 use Rattle.transmit_laws.proofs.Sparing.{transmit_is}
 use Rattle.start_laws.specs.Standing.{IsLeft, StandsReceive}
 use Rattle.start_laws.proofs.StillReceive.{IsElsewhere, receive-left}
-use Rattle.start_laws.proofs.StillTransmit.{IsStill, transmit-idle}
+use Rattle.start_laws.proofs.SteadyTransmit.{Holds, IsIdle, transmit-idle}
 
 -- what a step of receiving owes aside, nothing is owed
 owed_else : (queue : ℕ) (v : transmit.Sender) (s : State) (e : Event Block)
@@ -41,8 +41,8 @@ spared_there queue v (Wrote on slot end desc at len) ne spares = (spares ne).rin
 spared_there queue v other ne spares = tt
 
 module _ (w : Watched) (mine : Blocks) (s : State) (e : Event Block) (x : IsLeft w mine s e) (b : ℕ)
-    (is : mine b ≡ true) (side : TransmitQueue) (still : IsStill w.queue side s) (other_side : ReceiveQueue)
-    (stands : StandsReceive (receive_queue_of s.registers w.queue) other_side) where
+    (is : mine b ≡ true) (P : TransmitQueue → Type 0) (idle : IsIdle P) (still : Holds P w.queue s)
+    (other_side : ReceiveQueue) (stands : StandsReceive (receive_queue_of s.registers w.queue) other_side) where
   -- drivers that have lent this block alone
 
   abbrev receiver : receive.Receive
@@ -88,7 +88,7 @@ module _ (w : Watched) (mine : Blocks) (s : State) (e : Event Block) (x : IsLeft
   left-block = elim (cases_Bool (is_transmit_of w.queue e)) [
     | inl own ↦
         subst (λ (n : Event Block). LeavesBlock b s (after s n)) (sym (transmit_is w.queue e own))
-        (subst (λ (o : Outcome). LeavesBlock b s o.state) (sym (transmit-idle w.queue s side still x.small)) refl)
+        (subst (λ (o : Outcome). LeavesBlock b s o.state) (sym (transmit-idle P idle w.queue s still x.small)) refl)
     | inr other ↦ elim (owed_else w.queue sender s e) [
       | inl own ↦ received own
       | inr owed ↦ spared owed other

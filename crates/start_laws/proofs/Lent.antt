@@ -7,11 +7,10 @@ use Rattle.nic_device.specs.declared.event.Event.TheVariants as event
 use Rattle.nic_device.specs.declared.event.Reply.TheVariants as reply
 use Rattle.nic_device.specs.Sound.{IsEvent}
 use Rattle.device_lock.specs.Alone.{lends, lent_by, lent_in}
-use Rattle.device_lock.specs.History.{call_in, calls_of}
+use Rattle.device_lock.specs.History.{AreEvents, call_in, calls_of}
 use Rattle.device_lock.specs.declared.entry.Call.{Call}
 use Rattle.device_lock.specs.declared.entry.Entry.{Entry}
 use Rattle.device_lock.specs.declared.alone.Watched.{Watched}
-use Rattle.history_laws.specs.Laws.{AreEvents}
 use Rattle.history_laws.proofs.Beginning.{lent_before}
 use Rattle.pmd_queue.specs.Named.{AtPort}
 use Rattle.pmd_queue.specs.Made.{Access, AreMade}

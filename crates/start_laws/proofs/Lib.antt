@@ -1,3 +1,4 @@
+pub mod AccessCalls
 pub mod AccessLeads
 pub mod Accesses
 pub mod AccessesInOrder
@@ -8,6 +9,9 @@ pub mod Ending
 pub mod First
 pub mod Fresh
 pub mod Ground
+pub mod Laid
+pub mod LaidEvents
+pub mod LaidSides
 pub mod Laying
 pub mod LeftZero
 pub mod Lends
@@ -37,8 +41,8 @@ pub mod Standing
 pub mod Start
 pub mod StaysQuiet
 pub mod SteadyReceive
+pub mod SteadyTransmit
 pub mod StillReceive
-pub mod StillTransmit
 pub mod StopCalls
 pub mod Stopping
 pub mod SwitchedOff

@@ -4,10 +4,9 @@ use Rattle.std.specs.Prelude.{IsTrue}
 use Rattle.register_laws.specs.Sides.{receive_queue_of, transmit_queue_of}
 use Rattle.nic_device.specs.State.{State, new_state}
 use Rattle.device_lock.specs.Alone.{lent_by}
-use Rattle.device_lock.specs.History.{leads_to}
+use Rattle.device_lock.specs.History.{leads_to, AreEvents}
 use Rattle.device_lock.specs.declared.alone.Watched.{Watched}
 use Rattle.device_lock.specs.declared.entry.Entry.{Entry}
-use Rattle.history_laws.specs.Laws.{AreEvents}
 use Rattle.history_laws.specs.Staged.{StageWhileOn}
 use Rattle.history_laws.proofs.Staged.{histories_keep_staged, new_sides_stage}
 use Rattle.pmd_queue.specs.Named.{AtPort}

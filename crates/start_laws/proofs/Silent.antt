@@ -6,11 +6,10 @@ use Rattle.register_file.specs.declared.dir.Dir.TheVariants.{Rx, Tx}
 use Rattle.nic_device.specs.State.{State, new_state}
 use Rattle.nic_device.specs.Step.{after}
 use Rattle.device_lock.specs.Alone.{Blocks, lent_by}
-use Rattle.device_lock.specs.History.{calls_of}
+use Rattle.device_lock.specs.History.{AreEvents, calls_of}
 use Rattle.device_lock.specs.declared.alone.Watched.{Watched}
 use Rattle.device_lock.specs.declared.entry.Call.{Call}
 use Rattle.device_lock.specs.declared.entry.Entry.{Entry}
-use Rattle.history_laws.specs.Laws.{AreEvents}
 use Rattle.history_laws.specs.Staged.{StageWhileOn}
 use Rattle.history_laws.proofs.Staged.{histories_keep_staged, new_sides_stage}
 use Rattle.pmd_queue.specs.Named.{AtPort}

@@ -11,13 +11,12 @@ use Rattle.nic_device.specs.State.{State}
 use Rattle.nic_device.specs.Step.{after, reply_to}
 use Rattle.nic_device.proofs.Steps.{step_leads, keeps_sound}
 use Rattle.device_lock.specs.Alone.{Blocks, EntryLeavesAlone, LeavesBlocks, LeavesRegisters, WritesOutside, mode_after}
-use Rattle.device_lock.specs.History.{IsLegal, calls_of, call_in}
+use Rattle.device_lock.specs.History.{IsLegal, AreEvents, calls_of, call_in}
 use Rattle.device_lock.specs.declared.alone.Watched.{Watched}
 use Rattle.device_lock.specs.declared.entry.Call.{Call}
 use Rattle.device_lock.specs.declared.entry.Entry.{Entry}
 use Rattle.history_laws.specs.Aligned.{AreAligned}
 use Rattle.history_laws.specs.Alone.{AllAlone}
-use Rattle.history_laws.specs.Laws.{AreEvents}
 use Rattle.history_laws.proofs.Aligned.{events_aligned}
 use Rattle.history_laws.proofs.Modes.{event_told}
 use Rattle.pmd_base.specs.Events.{is_step}
@@ -37,7 +36,10 @@ pub record Between (w : Watched) (mode : Mode) (s : State) : Type 0 where
   pub vfs : w.vfs ≡ s.vfs
   pub mode_is : mode ≡ mode_in s.registers
 
-next : (w : Watched) (mode : Mode) (s : State) (e : Entry) → Between w mode s → IsEvent e.event
+pub met_in : (w : Watched) (mode : Mode) (s : State) → Between w mode s → IsMet w.queue s
+met_in w mode s b = record { small = b.small; sound = b.sound; aligned = b.aligned }
+
+pub next : (w : Watched) (mode : Mode) (s : State) (e : Entry) → Between w mode s → IsEvent e.event
     → Between w (mode_after w.vfs mode e.event) (after s e.event)
 next w mode s e b made =
     let stays = (step_leads s e.event).stays in record {
@@ -63,7 +65,7 @@ module _ (w : Watched) (mine : Blocks) (mode : Mode) (s : State) (e : Entry) (b 
     steps = subst (WritesOutside w.queue mine) legal alone.steps;
   }
 
-  foreign_left : e.pass ≢ w.pass → IsLeft w mine s e.event
+  pub foreign_left : e.pass ≢ w.pass → IsLeft w mine s e.event
   foreign_left other =
       left_by (subst (λ k. LeavesRegisters w k e.event) b.mode_is (alone.registers other)) (alone.blocks other)
 
@@ -128,11 +130,10 @@ module _ (w : Watched) (fifo : ℕ) (mine : Blocks) where
       own_call on [] none there =
           let same : call_in e ≡ c = cc in
           let rest : calls_of w.pass h ≡ [] = cc in
-          let met : IsMet w.queue s = record { small = b.small; sound = b.sound; aligned = b.aligned } in
           subst Q (append_assoc done (e ∷ []) h)
           (stay Q kept_q (mode_after w.vfs mode e.event) (after s e.event) (done ++ e ∷ []) h (step_on s done e at)
           (next w mode s e b events.0) events.1 legal.1 alone.1 rest
-          (leads done e same (subst (IsMet w.queue) (sym at) met) events.0
+          (leads done e same (subst (IsMet w.queue) (sym at) (met_in w mode s b)) events.0
           (subst (λ (t : State). e.reply ≡ reply_to t e.event) (sym at) legal.0) alone.0.steps p))
       own_call on (x ∷ xs) are there =
           let same : call_in e ≡ x = cc in

@@ -6,12 +6,11 @@ use Rattle.nic_device.specs.State.{State, new_state}
 use Rattle.nic_device.specs.Step.{after, reply_to}
 use Rattle.nic_device.specs.declared.event.Event.{Event}
 use Rattle.device_lock.specs.Alone.{Blocks, LeavesAlone, lent_by}
-use Rattle.device_lock.specs.History.{IsLegal, call_in, calls_of, leads_to}
+use Rattle.device_lock.specs.History.{IsLegal, AreEvents, call_in, calls_of, leads_to}
 use Rattle.device_lock.specs.declared.alone.Watched.{Watched}
 use Rattle.device_lock.specs.declared.entry.Call.{Call}
 use Rattle.device_lock.specs.declared.entry.Entry.{Entry}
 use Rattle.pmd_base.specs.Made.{AreSteps}
-use Rattle.history_laws.specs.Laws.{AreEvents}
 use Rattle.start_laws.specs.Moves.{IsMet}
 use Rattle.start_laws.specs.Standing.{IsLeft}
 

@@ -1,5 +1,6 @@
 pub mod Along
 pub mod Ending
+pub mod Laid
 pub mod Moves
 pub mod Numbers
 pub mod On

@@ -3,6 +3,7 @@
 //! Each law is the contract of a function that does nothing.
 #![tactic(auto)]
 
+ghost use Rattle.start_laws.specs.Laid.{LaidQueueIsSilent};
 ghost use Rattle.start_laws.specs.Moves.{ReceiveWriteStands, TransmitWriteStands, ReceiveReadStands, TransmitReadStands, LendStands, FreshReceiveAgrees, FreshTransmitAgrees};
 ghost use Rattle.start_laws.specs.Numbers.{NamedQueueHasTheNumbers};
 ghost use Rattle.start_laws.specs.On.{SwitchedSidesAgree, SwitchedSidesGoOn};
@@ -33,6 +34,12 @@ pub fn words_of_an_off_side_are_taken()
 /// each byte 0 stay so.
 pub fn standing_sides_are_left()
     ensures { StandingSidesAreLeft }
+{}
+
+/// While a driver lays out the empty transmit ring of a queue whose transmit side is off, and asks the side on only
+/// behind that, nothing is sent on the queue, over a legal history that leaves it alone: be the side off yet, or on.
+pub fn laid_queue_is_silent()
+    ensures { LaidQueueIsSilent }
 {}
 
 /// A driver's own accesses keep such sides: one with the word that is written to it, one that is on where its enable

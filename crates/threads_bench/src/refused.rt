@@ -1,6 +1,6 @@
 //! Why a run prints nothing.
 
-ghost use Rattle.std.specs.Prelude.{◌≡◌};
+ghost use Rattle.std.specs.Prelude.{◌≡◌, ◌↔◌};
 ghost use Rattle.threads_bench.specs.Refused.{both_done, status_of};
 
 use device_lock::{CallFault, CloseFault, NewFault};
@@ -42,12 +42,21 @@ pub(crate) fn both(first: Result<(), Refused>, second: Result<(), Refused>) -> R
 }
 
 impl From<AllocError> for Refused {
+    ghost use Rattle.threads_bench.specs.declared.refused.Refused.TheVariants.{OutOfMemory};
+
+    ghost from_gives = { λ _ refused. refused ≡ OutOfMemory };
+
     fn from(_refused: AllocError) -> Refused {
         Refused::OutOfMemory
     }
 }
 
 impl From<NewFault> for Refused {
+    ghost use Rattle.device_lock.specs.declared.fault.NewFault.{NewFault};
+    ghost use Rattle.threads_bench.specs.declared.refused.Refused.TheVariants.{OutOfMemory};
+
+    ghost from_gives = { λ fault refused. (refused ≡ OutOfMemory) ↔ (fault ≡ NewFault.OutOfMemory) };
+
     fn from(fault: NewFault) -> Refused {
         match fault {
             NewFault::OutOfMemory => Refused::OutOfMemory,
@@ -57,6 +66,11 @@ impl From<NewFault> for Refused {
 }
 
 impl From<CloseFault> for Refused {
+    ghost use Rattle.device_lock.specs.declared.fault.CloseFault.{CloseFault};
+    ghost use Rattle.threads_bench.specs.declared.refused.Refused.TheVariants.{OutOfMemory};
+
+    ghost from_gives = { λ fault refused. (refused ≡ OutOfMemory) ↔ (fault ≡ CloseFault.OutOfMemory) };
+
     fn from(fault: CloseFault) -> Refused {
         match fault {
             CloseFault::OutOfMemory => Refused::OutOfMemory,
@@ -67,6 +81,13 @@ impl From<CloseFault> for Refused {
 }
 
 impl From<PmdFault> for Refused {
+    ghost use Rattle.device_lock.specs.declared.fault.CallFault.{CallFault};
+    ghost use Rattle.pmd_base.specs.declared.fault.PmdFault.{PmdFault};
+    ghost use Rattle.threads_bench.specs.declared.refused.Refused.TheVariants.{OutOfMemory};
+
+    ghost from_gives = { λ fault refused. (refused ≡ OutOfMemory)
+        ↔ (fault ≡ PmdFault.Call (CallFault.OutOfMemory tt)) };
+
     fn from(fault: PmdFault) -> Refused {
         match fault {
             PmdFault::Call(CallFault::OutOfMemory(())) => Refused::OutOfMemory,
@@ -81,6 +102,14 @@ impl From<PmdFault> for Refused {
 }
 
 impl From<WorkerFault> for Refused {
+    ghost use Rattle.device_lock.specs.declared.fault.CallFault.{CallFault};
+    ghost use Rattle.pmd_base.specs.declared.fault.PmdFault.{PmdFault};
+    ghost use Rattle.worker_team.specs.declared.WorkerFault.{WorkerFault};
+    ghost use Rattle.threads_bench.specs.declared.refused.Refused.TheVariants.{OutOfMemory};
+
+    ghost from_gives = { λ fault refused. (refused ≡ OutOfMemory)
+        ↔ (fault ≡ WorkerFault.Pmd (PmdFault.Call (CallFault.OutOfMemory tt))) };
+
     fn from(fault: WorkerFault) -> Refused {
         match fault {
             WorkerFault::Pmd(fault) => Refused::from(fault),
@@ -90,6 +119,11 @@ impl From<WorkerFault> for Refused {
 }
 
 impl From<RunFault> for Refused {
+    ghost use Rattle.worker_team.specs.declared.ends.RunFault.{RunFault};
+    ghost use Rattle.threads_bench.specs.declared.refused.Refused.TheVariants.{OutOfMemory};
+
+    ghost from_gives = { λ fault refused. (refused ≡ OutOfMemory) ↔ (fault ≡ RunFault.OutOfMemory) };
+
     fn from(fault: RunFault) -> Refused {
         match fault {
             RunFault::OutOfMemory => Refused::OutOfMemory,

@@ -8,8 +8,7 @@ use Rattle.nic_device.specs.Step.{after}
 use Rattle.nic_device.specs.declared.event.Reply.{Reply}
 use Rattle.nic_device.specs.declared.event.Reply.TheVariants.{Sent}
 use Rattle.device_lock.specs.declared.entry.Entry.{Entry}
-use Rattle.device_lock.specs.History.{IsLegal, leads_to}
-use Rattle.history_laws.specs.Laws.{AreEvents}
+use Rattle.device_lock.specs.History.{IsLegal, AreEvents, leads_to}
 use Rattle.transmit_laws.specs.Sent.{goes_on, sent_in, sent_since}
 
 -- the transmit side of the queue doesn't go on by any entry

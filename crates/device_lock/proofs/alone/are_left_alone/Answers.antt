@@ -1,4 +1,4 @@
-use Rattle.std.proofs.Common.{arith, ◌≡◌, true, false, length, refl, sym, ◌∙◌}
+use Rattle.std.proofs.Common.{arith, ◌≡◌, length, refl, sym, ◌∙◌}
 use Rattle.device_lock.specs.Watching.{marked}
 use Rattle.device_lock.proofs.Walks.{rest_here, rest_there, rest_last}
 use Rattle.device_lock.proofs.alone.are_left_alone.Goals as goal

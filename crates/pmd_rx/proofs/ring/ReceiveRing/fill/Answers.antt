@@ -72,6 +72,9 @@ returns-in_err-post-clause-fails g c =
       free = c.loop-count.invariant.plays.free;
       posts = c.loop-count.invariant.posts;
       fails = c.in_err-post.ensures.fails;
+      made = posts_then c.loop-count._count c.args.arena.now c.loop-count.arena (g.N.Nic.made c.args.nic.now)
+          (g.N.Nic.made c.loop-count.nic) (g.N.Nic.made c.post.new.nic) c.args.self.now c.loop-count.self
+          c.post.new.self c.loop-count.invariant.plays c.loop-count.invariant.posts c.post.ensures.plays;
     } in
     rw (p.1, p.2) stops
 
@@ -89,6 +92,9 @@ returns-in_err-post-clause-short g c is =
       free = c.loop-count.invariant.plays.free;
       posts = c.loop-count.invariant.posts;
       fails = c.in_err-post.ensures.fails;
+      made = posts_then c.loop-count._count c.args.arena.now c.loop-count.arena (g.N.Nic.made c.args.nic.now)
+          (g.N.Nic.made c.loop-count.nic) (g.N.Nic.made c.post.new.nic) c.args.self.now c.loop-count.self
+          c.post.new.self c.loop-count.invariant.plays c.loop-count.invariant.posts c.post.ensures.plays;
     } in
     short_of c.in_err-post.field-0.0 (g.N.Nic.made c.args.nic.now) (g.N.Nic.made c.post.new.nic) c.args.arena.now
     c.post.new.arena c.args.self.now c.post.new.self (sym p.2 ∙ err_same (sym p.1 ∙ is)) stops

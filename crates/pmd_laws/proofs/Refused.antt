@@ -1,0 +1,107 @@
+-- A driver whose start was refused sent nothing on its queue.
+use Rattle.std.proofs.Common.{◌≡◌, ℕ, List, [], ◌∷◌, ◌++◌, refl, sym, ap, ◌∙◌, subst, append_assoc}
+use Rattle.std.proofs.lemmas.Bool.{eq-eqb}
+use Rattle.std.proofs.lemmas.List.{append_cancel_left}
+use Rattle.dma_arena.specs.Numbers.{Numbers}
+use Rattle.nic_device.specs.State.{State, new_state}
+use Rattle.nic_device.specs.Step.{after}
+use Rattle.nic_device.proofs.Cases.{either_way}
+use Rattle.device_lock.specs.History.{calls_of, call_in, leads_to}
+use Rattle.device_lock.specs.declared.alone.Watched.{Watched}
+use Rattle.device_lock.specs.declared.entry.Call.{Call}
+use Rattle.device_lock.specs.declared.entry.Entry.{Entry}
+use Rattle.pmd_base.specs.Packet.{Kept}
+use Rattle.pmd_queue.specs.Named.{AtPort}
+use Rattle.pmd.specs.Life.{NeverLived}
+use Rattle.pmd.specs.declared.start.Rest.{Rest}
+use Rattle.pmd.specs.declared.start.StartRefused.{StartRefused}
+use Rattle.receive_laws.specs.Delivered as receive
+use Rattle.receive_laws.specs.Delivered.{delivered}
+use Rattle.receive_laws.proofs.Histories.{calls_own}
+use Rattle.transmit_laws.specs.Agreeing.{bytes_of}
+use Rattle.transmit_laws.specs.Laws as transmit
+use Rattle.transmit_laws.specs.Sent.{counted_by, goes_on, sent_by, sent_in, sent_since}
+use Rattle.start_laws.specs.Laid.{Laid, LaysOn, Off}
+use Rattle.start_laws.proofs.Laid.{laid_queue_is_silent}
+use Rattle.start_laws.proofs.Parts.{calls_joined}
+use Rattle.pmd_laws.specs.Refused.{IsRefused, LeftOfRefusedIsPrefix, RefusedSendsNothing}
+use Rattle.pmd_laws.proofs.LaidCalls.{first_lays, lays_behind}
+use Rattle.pmd_laws.proofs.RefusedCalls.{never_lays}
+
+-- where nothing is sent at all, nothing is counted
+
+first_none : (xs ys : List (List ℕ)) → xs ++ ys ≡ [] → xs ≡ []
+first_none [] ys is = refl
+first_none (x ∷ xs) ys is = cc
+
+rest_none : (xs ys : List (List ℕ)) → xs ++ ys ≡ [] → ys ≡ []
+rest_none [] ys is = is
+rest_none (x ∷ xs) ys is = cc
+
+since_none : (queue : ℕ) (s : State) (h : List Entry) → sent_in queue s h ≡ [] → sent_since queue s [] h ≡ []
+since_none queue s [] none = refl
+since_none queue s (e ∷ h) none =
+    let t = after s e.event in
+    let here : counted_by queue s e.event [] ≡ [] =
+    either_way (λ (sent : List (List ℕ)). sent ≡ []) (goes_on queue s e.event) [] (sent_by queue s e.event) refl
+    (first_none (sent_by queue s e.event) (sent_in queue t h) none) in
+    ap (λ (sent : List (List ℕ)). sent_since queue t sent h) here
+    ∙ since_none queue t h (rest_none (sent_by queue s e.event) (sent_in queue t h) none)
+
+module _ (w : Watched) (fifo : ℕ) (h : List Entry) (q : AtPort) (size : ℕ) (old : List Call) (a : Numbers)
+    (e : StartRefused) (new : List Call) (left : Rest) (before : List Entry) (first : Entry) (behind : List Entry)
+    (never : NeverLived q size old a e new left) (x : IsRefused w fifo h q old new before first behind) where
+  abbrev here : State
+  here = leads_to (new_state w.vfs fifo) before
+
+  abbrev calls : List Call
+  calls = call_in first ∷ calls_of w.pass behind
+
+  -- the calls so far, from the first on
+  since_is : x.since ≡ x.begins.steps ++ calls
+  since_is =
+      append_cancel_left old x.since (x.begins.steps ++ calls)
+      (sym x.calls ∙ ap (calls_of w.pass) (sym x.begins.all) ∙ calls_joined w.pass before (first ∷ behind)
+      ∙ (λ k. x.begins.calls k ++ calls_own w.pass first behind (eq-eqb first.pass w.pass x.begins.own) k)
+      ∙ append_assoc old x.begins.steps calls)
+
+  lays : (last : Laid) × LaysOn q Off calls last
+  lays =
+      let (end, (made, is, all)) = never_lays q size old a e new left never in
+      let both : made ≡ x.since ++ x.rest =
+      append_cancel_left old made (x.since ++ x.rest) (sym is ∙ x.all ∙ append_assoc old x.since x.rest) in
+      let (last, so_far, more) = first_lays q Off end x.since x.rest
+      (subst (λ (cs : List Call). LaysOn q Off cs end) both all) in (
+        last,
+        lays_behind q Off last x.begins.steps calls x.begins.stepped
+            (subst (λ (cs : List Call). LaysOn q Off cs last) since_is so_far),
+      )
+
+  none_sent : sent_in w.queue here (first ∷ behind) ≡ []
+  none_sent =
+      laid_queue_is_silent w q fifo h before behind first lays.0 x.along x.begins.all x.begins.own
+      x.begins.quiet.ground x.begins.quiet.transmit lays.1
+
+  none_handed : receive.IsPrefixOf [] (delivered w.queue here (first ∷ behind))
+  none_handed = (delivered w.queue here (first ∷ behind), refl)
+
+  none_accepted : transmit.IsPrefixOf (sent_since w.queue here [] (first ∷ behind)) (bytes_of [])
+  none_accepted = (
+    [],
+    ap (λ (sent : List (List ℕ)). sent ++ []) (sym (since_none w.queue here (first ∷ behind) none_sent)),
+  )
+
+pub refused_sends_nothing : RefusedSendsNothing
+refused_sends_nothing w fifo h q size old a e new left before first behind never x =
+    none_sent w fifo h q size old a e new left before first behind never x
+
+pub left_of_refused_is_prefix : LeftOfRefusedIsPrefix
+left_of_refused_is_prefix w fifo h q size old a e new left before first behind never x =
+    let s = leads_to (new_state w.vfs fifo) before in (
+      subst (λ (kept : List Kept). receive.IsPrefixOf kept (delivered w.queue s (first ∷ behind))) (sym never.handed)
+          (none_handed w fifo h q size old a e new left before first behind never x),
+      subst
+          (λ (kept : List Kept).
+          transmit.IsPrefixOf (sent_since w.queue s [] (first ∷ behind)) (bytes_of kept)) (sym never.accepted)
+          (none_accepted w fifo h q size old a e new left before first behind never x),
+    )

@@ -1,0 +1,123 @@
+-- A history over which a driver lays out an empty transmit ring sends nothing on its queue.
+use Rattle.std.proofs.Common.{◌≡◌, ◌≢◌, ℕ, inl, inr, List, [], ◌∷◌, ◌++◌, refl, sym, ap, ◌∙◌, subst, append_assoc}
+use Rattle.std.specs.Prelude.{◌==◌}
+use Rattle.std.proofs.lemmas.Bool.{cases_Bool, eq-eqb, eqb-false}
+use Rattle.std.proofs.lemmas.List.{append-nil}
+use Rattle.vf_map.specs.declared.mode.Mode.{Mode}
+use Rattle.vf_map.specs.declared.mode.Mode.TheVariants as mode
+use Rattle.nic_device.specs.State.{State, new_state}
+use Rattle.nic_device.specs.Step.{after}
+use Rattle.device_lock.specs.Alone.{Blocks, lent_by, mode_after, mode_through}
+use Rattle.device_lock.specs.History.{IsLegal, AreEvents, call_in, calls_of, leads_to}
+use Rattle.device_lock.specs.declared.alone.Watched.{Watched}
+use Rattle.device_lock.specs.declared.entry.Call.{Call}
+use Rattle.device_lock.specs.declared.entry.Entry.{Entry}
+use Rattle.history_laws.specs.Alone.{AllAlone}
+use Rattle.history_laws.proofs.Aligned.{histories_aligned, new_aligned}
+use Rattle.history_laws.proofs.Sound.{histories_sound}
+use Rattle.history_laws.proofs.Staged.{histories_keep_staged, new_sides_stage}
+use Rattle.pmd_queue.specs.Named.{AtPort}
+use Rattle.receive_laws.proofs.Delivering.{leads-append, events_before, events_behind, legal_behind}
+use Rattle.receive_laws.proofs.Histories.{calls_own, calls_other}
+use Rattle.transmit_laws.specs.Off as transmit
+use Rattle.transmit_laws.specs.Sent.{sent_in}
+use Rattle.start_laws.specs.Along.{IsAlong}
+use Rattle.start_laws.specs.Laid.{Laid, LaidQueueIsSilent, LaysOn, Off}
+use Rattle.start_laws.specs.Moves.{IsMet}
+use Rattle.start_laws.specs.Points.{HasGround}
+use Rattle.start_laws.proofs.Along as along_of
+use Rattle.start_laws.proofs.LaidEvents.{LaidTo, LeadsTo, left_lays, own_lays}
+use Rattle.start_laws.proofs.Made.{ends_some}
+use Rattle.start_laws.proofs.Parts.{calls_joined}
+use Rattle.start_laws.proofs.Walk.{Between, foreign_left, met_in, next}
+
+module _ (w : Watched) (q : AtPort) (mine : Blocks) where
+  -- entry by entry
+  silent : (mode : Mode) (s : State) (h : List Entry) (l last : Laid) → Between w mode s → AreEvents h → IsLegal s h
+      → AllAlone w mine mode h → LaidTo w.queue q l s → LaysOn q l (calls_of w.pass h) last
+      → sent_in w.queue s h ≡ []
+  silent mode s [] l last b events legal alone x lays = refl
+  silent mode s (e ∷ h) l last b events legal alone x lays =
+      let on : (m : Laid) → LeadsTo w.queue q m s e.event → LaysOn q m (calls_of w.pass h) last
+      → sent_in w.queue s (e ∷ h) ≡ [] =
+      λ m leads more.
+      ap (λ sent. sent ++ sent_in w.queue (after s e.event) h) leads.none
+      ∙ silent (mode_after w.vfs mode e.event) (after s e.event) h m last (next w mode s e b events.0) events.1
+      legal.1 alone.1 leads.then more in
+      elim (cases_Bool (e.pass == w.pass)) as (λ _. sent_in w.queue s (e ∷ h) ≡ []) [
+        | inl own ↦
+            let (m, lay, more) = subst (λ (cs : List Call). LaysOn q l cs last) (calls_own w.pass e h own) lays in
+            on m (own_lays w.queue q l m s (met_in w mode s b) x e.event events.0 lay) more
+        | inr other ↦
+            on l
+            (left_lays w mine q l s e.event
+            (foreign_left w mine mode s e b events.0 legal.0 alone.0 (eqb-false e.pass w.pass other)) x)
+            (subst (λ (cs : List Call). LaysOn q l cs last) (calls_other w.pass e h other) lays)
+      ]
+
+module _ (w : Watched) (q : AtPort) (fifo : ℕ) (h done rest : List Entry) (e : Entry) (along : IsAlong w fifo h)
+    (all : done ++ e ∷ rest ≡ h) (own : e.pass ≡ w.pass) where
+  abbrev new : State
+  new = new_state w.vfs fifo
+
+  abbrev here : State
+  here = leads_to new done
+
+  abbrev front : List Entry
+  front = done ++ e ∷ []
+
+  whole : (front ++ []) ++ rest ≡ h
+  whole = ap (λ (l : List Entry). l ++ rest) (append-nil front) ∙ append_assoc done (e ∷ []) rest ∙ all
+
+  some : calls_of w.pass front ≢ []
+  some none =
+      let both = sym (calls_joined w.pass done (e ∷ [])) ∙ none in
+      let last = calls_own w.pass e [] (eq-eqb e.pass w.pass own) in
+      ends_some (calls_of w.pass done) [] (call_in e)
+      (ap (λ (cs : List Call). calls_of w.pass done ++ cs) (sym last) ∙ both)
+
+  early : AreEvents done
+  early = events_before done (e ∷ rest) (subst AreEvents (sym all) along.events)
+
+  now : AreEvents (e ∷ rest)
+  now = events_behind done (e ∷ rest) (subst AreEvents (sym all) along.events)
+
+  met : IsMet w.queue here
+  met = record {
+    small = along.small;
+    sound = histories_sound new done along.new early;
+    aligned = histories_aligned new done along.new early (new_aligned w.vfs fifo);
+  }
+
+  off_there : HasGround w.queue q here → transmit.IsOff w.queue here → LaidTo w.queue q Off here
+  off_there ground off = record {
+    ground = ground;
+    side = record {
+      side = (off.off, off.unwanted);
+      staged =
+          histories_keep_staged new done along.new early (new_sides_stage w.vfs fifo) w.queue along.small off.off;
+    };
+  }
+
+  behind : (m last : Laid) → LaidTo w.queue q m (after here e.event) → LaysOn q m (calls_of w.pass rest) last
+      → sent_in w.queue (after here e.event) rest ≡ []
+  behind m last x lays =
+      let same : leads_to new front ≡ after here e.event = leads-append new done (e ∷ []) in
+      subst (λ (s : State). sent_in w.queue s rest ≡ []) same
+      (silent w q (lent_by w.pass h) (mode_through w.vfs mode.Off front) (leads_to new front) rest m last
+      (along_of.there w fifo h along front [] rest whole some) now.1
+      (legal_behind new front rest
+      (subst (IsLegal new) (ap (λ (l : List Entry). l ++ rest) (append-nil front))
+      (along_of.legal w fifo h along front [] rest whole some)))
+      (along_of.alone w fifo h along front [] rest whole some)
+      (subst (LaidTo w.queue q m) (sym same) x) lays)
+
+  pub silent_from : (last : Laid) → HasGround w.queue q here → transmit.IsOff w.queue here
+      → LaysOn q Off (call_in e ∷ calls_of w.pass rest) last → sent_in w.queue here (e ∷ rest) ≡ []
+  silent_from last ground off (m, lay, more) =
+      let leads = own_lays w.queue q Off m here met (off_there ground off) e.event now.0 lay in
+      ap (λ sent. sent ++ sent_in w.queue (after here e.event) rest) leads.none ∙ behind m last leads.then more
+
+pub laid_queue_is_silent : LaidQueueIsSilent
+laid_queue_is_silent w q fifo h done rest e last along all own ground off lays =
+    silent_from w q fifo h done rest e along all own last ground off lays

@@ -1,0 +1,149 @@
+-- The events by which a driver lays out an empty transmit ring, and those that leave its queue alone.
+use Rattle.std.proofs.Common.{◌≡◌, ◌≢◌, ℕ, ◌^◌, ◌<◌, false, [], refl, sym, ap, ◌∙◌, subst, List}
+use Rattle.std.specs.Prelude.{slice_index_or}
+use Rattle.dma_arena.specs.Block.{Block}
+use Rattle.reg_table.specs.Rows.{row_of}
+use Rattle.reg_table.specs.declared.rows.RowId.{RowId}
+use Rattle.reg_table.specs.declared.rows.RowId.TheVariants.{Rdbal, Rdbah, Rdlen, Rdh, Rdt, Srrctl, Rxdctl, Txdctl}
+use Rattle.register_file.specs.Access.{asks_reset, asks_pool_reset}
+use Rattle.register_file.specs.Columns.{place}
+use Rattle.register_file.specs.Owner.{owner_of}
+use Rattle.register_file.specs.Pools.{mode_in}
+use Rattle.register_file.specs.declared.dir.Dir.TheVariants.{Tx}
+use Rattle.register_file.specs.declared.owner.Owner.TheVariants as owner
+use Rattle.register_laws.specs.Sides.{TransmitQueue, transmit_queue_of}
+use Rattle.register_laws.proofs.Switches.{transmit-asked}
+use Rattle.nic_device.specs.Sound.{IsEvent}
+use Rattle.nic_device.specs.State.{State}
+use Rattle.nic_device.specs.Step.{after, reply_to}
+use Rattle.nic_device.specs.declared.event.Event.{Event}
+use Rattle.nic_device.specs.declared.event.Event.TheVariants as event
+use Rattle.nic_device.specs.declared.event.Port.{Port}
+use Rattle.device_laws.proofs.StandingAccesses.{write_rest}
+use Rattle.device_lock.specs.Alone.{Blocks, LeavesBlocks, LeavesRegisters}
+use Rattle.device_lock.specs.declared.alone.Watched.{Watched}
+use Rattle.pmd_queue.specs.Named.{AtPort}
+use Rattle.transmit_laws.specs.Sent.{sent_by}
+use Rattle.start_laws.specs.Ending.{IsPlain}
+use Rattle.start_laws.specs.Laid.{Laid, Lays, MayAsk, MayLay, MayRing, laid_by}
+use Rattle.start_laws.specs.Moves.{IsMet}
+use Rattle.start_laws.specs.Points.{HasGround}
+use Rattle.start_laws.specs.Quiet.{no_block}
+use Rattle.start_laws.specs.Standing.{IsLeft}
+use Rattle.start_laws.specs.Words.{NamesRow}
+use Rattle.start_laws.proofs.Ending.{free_left, outside_none, watching}
+use Rattle.start_laws.proofs.Ground.{ground_kept, plain_keeps}
+use Rattle.start_laws.proofs.LaidSides.{IsLaid, asked_laid, laid_idle, word_laid}
+use Rattle.start_laws.proofs.Numbers.{ground_names}
+use Rattle.start_laws.proofs.SteadyTransmit.{Holds, idle_kept, idle_sends_none, left_holds}
+use Rattle.start_laws.proofs.TransmitWords.{transmit_words_taken}
+use Rattle.start_laws.proofs.Words.{wrote, wrote_staged}
+
+-- port and queue name the queue, and its transmit side is laid out so far
+pub record LaidTo (queue : ℕ) (q : AtPort) (l : Laid) (s : State) : Type 0 where
+  pub ground : HasGround queue q s
+  pub side : Holds (IsLaid l) queue s
+
+-- a word that the driver writes
+module _ (queue : ℕ) (s : State) (met : IsMet queue s) (l : Laid) (x : Holds (IsLaid l) queue s) (port : Port)
+    (n word : ℕ) (low : word < 2 ^ 32) where
+  abbrev t : State
+  t = after s (event.Write port n word)
+
+  abbrev side : TransmitQueue
+  side = transmit_queue_of s.registers queue
+
+  ring_written : (row : RowId) → MayRing row l word → NamesRow s port n row queue
+      → Holds (IsLaid (laid_by row l)) queue t
+  ring_written row may names =
+      let laying = word_laid row l word side low may x.side in
+      let taken = transmit_words_taken queue s port n word row met.small met.sound met.aligned laying.off laying.fits
+      names in
+      record {
+        side = subst (IsLaid (laid_by row l)) (sym taken.side) laying.then;
+        staged = taken.staged ∙ x.staged;
+      }
+
+  asked : MayAsk l word → NamesRow s port n Txdctl queue → Holds (IsLaid l) queue t
+  asked may names = record {
+    side =
+        subst (IsLaid l)
+        (sym (ap (λ r. transmit_queue_of r queue) (wrote queue s port n word Txdctl names refl)
+        ∙ transmit-asked s.registers met.sound.registers.shape queue met.small 0xFFFFFFFF word))
+        (asked_laid l word side may x.side);
+    staged =
+        ap (λ (xs : List (List ℕ)). slice_index_or xs queue [])
+        (wrote_staged queue s port n word Txdctl names refl) ∙ x.staged;
+  }
+
+  beside : (row : RowId) → NamesRow s port n row queue → asks_reset (row_of row).kind word ≡ false
+      → asks_pool_reset (row_of row).kind word ≡ false → owner_of (place row queue) ≢ owner.Side Tx queue
+      → Holds (IsLaid l) queue t
+  beside row names none none_pool other =
+      left_holds (IsLaid l) (laid_idle l) queue s x t
+      ((write_rest s port n word (place row queue) 0xFFFFFFFF names none none_pool).transmit queue other)
+
+  pub written : (row : RowId) → MayLay row l word → NamesRow s port n row queue
+      → Holds (IsLaid (laid_by row l)) queue t
+  written Txdctl may names = asked may names
+  written Rdbal may names = beside Rdbal names refl refl (λ e. cc)
+  written Rdbah may names = beside Rdbah names refl refl (λ e. cc)
+  written Rdlen may names = beside Rdlen names refl refl (λ e. cc)
+  written Rdh may names = beside Rdh names refl refl (λ e. cc)
+  written Rdt may names = beside Rdt names refl refl (λ e. cc)
+  written Srrctl may names = beside Srrctl names refl refl (λ e. cc)
+  written Rxdctl may names = beside Rxdctl names refl refl (λ e. cc)
+  written row may names = ring_written row may names
+
+-- an event of the driver's own, which sends nothing
+pub record LeadsTo (queue : ℕ) (q : AtPort) (l : Laid) (s : State) (e : Event Block) : Type 0 where
+  pub then : LaidTo queue q l (after s e)
+  pub none : sent_by queue s e ≡ []
+
+module _ (queue : ℕ) (q : AtPort) (l m : Laid) (s : State) (met : IsMet queue s) (x : LaidTo queue q l s) where
+  write_lays : (port : Port) (n word : ℕ) → IsEvent (event.Write port n word) → Lays q l (event.Write port n word) m
+      → LeadsTo queue q m s (event.Write port n word)
+  write_lays port n word made (row, same, driven, named, may, is) =
+      let names = subst (λ p. NamesRow s p n row queue) (sym same)
+      (ground_names queue q s x.ground row n driven named) in
+      record {
+        then = record {
+          ground = plain_keeps queue q s (event.Write port n word) (row, same, driven, named) x.ground;
+          side = subst (λ (k : Laid). Holds (IsLaid k) queue (after s (event.Write port n word))) (sym is)
+              (written queue s met l x.side port n word made.2 row may names);
+        };
+        none = refl;
+      }
+
+  -- one that writes no register
+  free_lays : (e : Event Block) → IsEvent e → IsPlain q e → m ≡ l
+      → LeavesRegisters (watching queue s) (mode_in s.registers) e × LeavesBlocks no_block e → LeadsTo queue q m s e
+  free_lays e made plain is free =
+      let left = free_left (watching queue s) no_block s e met made refl
+      (outside_none queue (reply_to s e)) free in
+      record {
+        then = record {
+          ground = plain_keeps queue q s e plain x.ground;
+          side = subst (λ (k : Laid). Holds (IsLaid k) queue (after s e)) (sym is)
+              (idle_kept (IsLaid l) (laid_idle l) (watching queue s) no_block s e left x.side);
+        };
+        none = idle_sends_none (IsLaid l) (laid_idle l) (watching queue s) no_block s e left x.side;
+      }
+
+  pub own_lays : (e : Event Block) → IsEvent e → Lays q l e m → LeadsTo queue q m s e
+  own_lays (event.Write port n word) made lays = write_lays port n word made lays
+  own_lays (event.Lend b) made lays = free_lays (event.Lend b) made tt lays (tt, refl)
+  own_lays (event.Take n) made lays = free_lays (event.Take n) made tt lays (tt, refl)
+  own_lays (event.Poke16 a bytes) made lays = free_lays (event.Poke16 a bytes) made tt lays (tt, refl)
+  own_lays e made lays = free_lays e made tt lays (tt, tt)
+
+-- an event that leaves the queue alone
+pub left_lays : (w : Watched) (mine : Blocks) (q : AtPort) (l : Laid) (s : State) (e : Event Block) → IsLeft w mine s e
+    → LaidTo w.queue q l s → LeadsTo w.queue q l s e
+left_lays w mine q l s e left x = record {
+  then = record {
+    ground = ground_kept w mine q s e left x.ground;
+    side = idle_kept (IsLaid l) (laid_idle l) w mine s e left x.side;
+  };
+  none = idle_sends_none (IsLaid l) (laid_idle l) w mine s e left x.side;
+}

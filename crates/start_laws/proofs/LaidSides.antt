@@ -1,0 +1,78 @@
+-- Transmit sides that are off, or whose ring is empty, as the words of an empty ring are written to them.
+use Rattle.std.proofs.Common.{◌≡◌, ℕ, ◌/◌, ◌^◌, ◌<◌, ◌≤◌, inl, inr, false, true, not, refl, sym, ap, subst, arith}
+use Rattle.std.proofs.lemmas.Bool.{lt-ltb}
+use Rattle.reg_table.specs.declared.rows.RowId.{RowId}
+use Rattle.reg_table.specs.declared.rows.RowId.TheVariants.{Tdbal, Tdbah, Tdlen, Tdh, Tdt, Tdwbal}
+use Rattle.dma_ring.specs.declared.ring.Ring.{Ring}
+use Rattle.register_file.specs.Bits.{has_bit}
+use Rattle.register_laws.specs.Sides.{TransmitQueue}
+use Rattle.nic_device.specs.Receive.{is_empty}
+use Rattle.start_laws.specs.Laid.{Laid, Off, Sized, Headed, Empty, MayAsk, MayRing, laid_by}
+use Rattle.start_laws.specs.Words.{FitsTransmit, transmit_with}
+use Rattle.start_laws.proofs.SteadyTransmit.{IsIdle}
+
+abbrev pub IsDown : TransmitQueue → Type 0
+IsDown q = (q.on ≡ false) × (q.wanted ≡ false)
+
+-- what holds of a side that is laid out so far
+abbrev pub IsLaid : Laid → TransmitQueue → Type 0
+IsLaid Off q = IsDown q
+IsLaid Sized q = IsDown q × (16 ≤ q.ring.length)
+IsLaid Headed q = IsDown q × (16 ≤ q.ring.length) × (q.ring.head ≡ 0)
+IsLaid Empty q = is_empty q.ring ≡ true
+
+pub laid_idle : (l : Laid) → IsIdle (IsLaid l)
+laid_idle Off = record { idle = λ q x. inl (ap not x.0); switches = λ q x. (x.1, x.1) }
+laid_idle Sized = record { idle = λ q x. inl (ap not x.0.0); switches = λ q x. ((x.0.1, x.0.1), x.1) }
+laid_idle Headed = record { idle = λ q x. inl (ap not x.0.0); switches = λ q x. ((x.0.1, x.0.1), x.1, x.2) }
+laid_idle Empty = record { idle = λ q x. inr x; switches = λ q x. x }
+
+-- the enable word is written
+pub asked_laid : (l : Laid) (word : ℕ) (q : TransmitQueue) → MayAsk l word → IsLaid l q
+    → IsLaid l (record q { wanted = has_bit 25 word })
+asked_laid Off word q may x = (x.0, may)
+asked_laid Sized word q may x = ((x.0.0, may), x.1)
+asked_laid Headed word q may x = ((x.0.0, may), x.1, x.2)
+asked_laid Empty word q may x = x
+
+-- head and tail are slot 0 of a ring that has one
+first_slot : (ring : Ring) → 16 ≤ ring.length → ring.head ≡ 0 → is_empty (record ring { tail = 0 }) ≡ true
+first_slot ring some first =
+    let slots : 0 < ring.length / 16 = omega (arith, some) in
+    rw (first, lt-ltb 0 (ring.length / 16) slots) refl
+
+-- a word of the ring is written, in a side that is off
+pub record IsLaying (row : RowId) (l : Laid) (word : ℕ) (q : TransmitQueue) : Type 0 where
+  pub off : q.on ≡ false
+  pub fits : FitsTransmit row word
+  pub then : IsLaid (laid_by row l) (transmit_with row word q)
+
+-- where so much is laid out, all holds that holds of it
+from : (row : RowId) (l k : Laid) (word : ℕ) (q : TransmitQueue) → l ≡ k → (IsLaid k q → IsLaying row k word q)
+    → IsLaid l q → IsLaying row l word q
+from row l k word q is then = subst (λ (z : Laid). IsLaid z q → IsLaying row z word q) (sym is) then
+
+short : (word n : ℕ) → word ≡ 0 → 0 < n → word < n
+short word n none some = omega (arith, none, some)
+
+pub word_laid : (row : RowId) (l : Laid) (word : ℕ) (q : TransmitQueue) → word < 2 ^ 32 → MayRing row l word
+    → IsLaid l q → IsLaying row l word q
+word_laid Tdbal l word q low may =
+    from Tdbal l Off word q may.0 (λ x. record { off = x.0; fits = (may.1, low); then = x })
+word_laid Tdbah l word q low may = from Tdbah l Off word q may (λ x. record { off = x.0; fits = low; then = x })
+word_laid Tdlen l word q low may =
+    from Tdlen l Off word q may.0
+    (λ x. record { off = x.0; fits = (may.1, may.2); then = (x, may.3) })
+word_laid Tdwbal l word q low may =
+    from Tdwbal l Sized word q may.0 (λ x. record { off = x.0.0; fits = may.1; then = x })
+word_laid Tdh l word q low may =
+    from Tdh l Sized word q may.0
+    (λ x. record { off = x.0.0; fits = short word 65536 may.1 (omega arith); then = (x.0, x.1, may.1) })
+word_laid Tdt l word q low may =
+    from Tdt l Headed word q may.0
+    (λ x. record {
+      off = x.0.0;
+      fits = short word 65536 may.1 (omega arith);
+      then = subst (λ n. is_empty (record q.ring { tail = n }) ≡ true) (sym may.1) (first_slot q.ring x.1 x.2);
+    })
+word_laid other l word q low may = absurd may

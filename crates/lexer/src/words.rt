@@ -1,6 +1,6 @@
 //! Words.
 
-ghost use Rattle.std.specs.Prelude.{◌≡◌, ◌∷◌, [], not, take, drop, position, MatchOption};
+ghost use Rattle.std.specs.Prelude.{◌≡◌, ◌≤◌, ◌+◌, ◌∷◌, [], length, not, take, drop, position, MatchOption};
 ghost use Rattle.std.specs.List.{position_or_len};
 ghost use Rattle.std.specs.Iterator.{YieldsFirstRef, item_count};
 ghost use Rattle.lexer.specs.Words.{is_blank, ends_word, words_of};
@@ -24,6 +24,7 @@ impl<'a> Model for Words<'a> {
     ghost view = { λ words. words_of words.rest.now };
 }
 
+#[inline(always)]
 fn is_blank(byte: u8) -> bool
     ensures { result ≡ is_blank byte }
 {
@@ -44,15 +45,41 @@ fn first_unblank(bytes: &[u8]) -> Option<usize>
     bytes.iter().position(|byte| !is_blank(*byte))
 }
 
-/// How many blanks stand in front.
+/// How many blanks stand in front, looked at one by one.
 #[inline(always)]
-fn blanks_in_front(bytes: &[u8]) -> usize
+fn blanks_each(bytes: &[u8]) -> usize
     ensures { result ≡ position_or_len (λ byte. not (is_blank byte)) bytes.now }
 {
     match first_unblank(bytes) {
         Some(blanks) => blanks,
         None => bytes.len(),
     }
+}
+
+/// What stands behind blanks in front, looked at four at a time. Up to three blanks are left.
+#[inline(always)]
+fn behind_fours(bytes: &[u8]) -> &[u8]
+    ensures blanks { length bytes.now + position_or_len (λ byte. not (is_blank byte)) result.now
+        ≡ length result.now + position_or_len (λ byte. not (is_blank byte)) bytes.now }
+    ensures shorter { length result.now ≤ length bytes.now }
+{
+    let mut rest = bytes;
+    'fours: while let [first, second, third, fourth, more @ ..] = rest {
+        if !(is_blank(*first) && is_blank(*second) && is_blank(*third) && is_blank(*fourth)) {
+            break;
+        }
+        rest = more;
+    }
+    rest
+}
+
+/// How many blanks stand in front.
+#[inline(always)]
+fn blanks_in_front(bytes: &[u8]) -> usize
+    ensures { result ≡ position_or_len (λ byte. not (is_blank byte)) bytes.now }
+{
+    let rest = behind_fours(bytes);
+    bytes.len() - rest.len() + blanks_each(rest)
 }
 
 /// Where the first byte stands that ends a word.

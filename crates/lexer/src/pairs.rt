@@ -10,7 +10,7 @@ ghost use Rattle.lexer.specs.Pair.{RestOfLine, IsOperand, IsPairInFront};
 
 use crate::lines::behind_empty;
 use crate::numbers::number_in_front;
-use crate::words::behind_blanks;
+use crate::words::{behind_blanks, behind_many_blanks};
 
 /// What stands behind one blank in front of a digit.
 #[inline(always)]
@@ -78,7 +78,7 @@ fn behind_blank_line(text: &str) -> Option<&str>
     ensures rest { IfSome result (λ rest. RestOfLine text.now [] (lines rest.now)) }
     ensures shorter { IfSome result (λ rest. length rest.now < length text.now) }
 {
-    let text = behind_blanks(text);
+    let text = behind_many_blanks(text);
     match behind_empty(text) {
         Some(rest) => Some(rest),
         None => behind_comment(text),

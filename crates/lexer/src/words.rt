@@ -45,9 +45,9 @@ fn first_unblank(bytes: &[u8]) -> Option<usize>
     bytes.iter().position(|byte| !is_blank(*byte))
 }
 
-/// How many blanks stand in front, looked at one by one.
+/// How many blanks stand in front.
 #[inline(always)]
-fn blanks_each(bytes: &[u8]) -> usize
+fn blanks_in_front(bytes: &[u8]) -> usize
     ensures { result ≡ position_or_len (λ byte. not (is_blank byte)) bytes.now }
 {
     match first_unblank(bytes) {
@@ -73,13 +73,12 @@ fn behind_fours(bytes: &[u8]) -> &[u8]
     rest
 }
 
-/// How many blanks stand in front.
-#[inline(always)]
-fn blanks_in_front(bytes: &[u8]) -> usize
+/// The same, quicker where there are many.
+fn many_blanks_in_front(bytes: &[u8]) -> usize
     ensures { result ≡ position_or_len (λ byte. not (is_blank byte)) bytes.now }
 {
     let rest = behind_fours(bytes);
-    bytes.len() - rest.len() + blanks_each(rest)
+    bytes.len() - rest.len() + blanks_in_front(rest)
 }
 
 /// Where the first byte stands that ends a word.
@@ -108,6 +107,15 @@ pub(crate) fn behind_blanks(text: &str) -> &str
     &text[blanks..]
 }
 
+/// The same, quicker where there are many.
+#[inline(always)]
+pub(crate) fn behind_many_blanks(text: &str) -> &str
+    ensures { result.now ≡ drop (position_or_len (λ byte. not (is_blank byte)) text.now) text.now }
+{
+    let blanks = many_blanks_in_front(text.as_bytes());
+    &text[blanks..]
+}
+
 /// What stands before the first end of a word, and from there on.
 fn split_at_end(text: &str) -> (&str, &str)
     ensures word { result.0.now ≡ take (position_or_len ends_word text.now) text.now }
@@ -122,7 +130,7 @@ fn split_word(text: &str) -> Option<(&str, &str)>
     ensures { MatchOption result (words_of text.now ≡ [])
         (λ parts. words_of text.now ≡ parts.0.now ∷ words_of parts.1.now) }
 {
-    let (word, behind) = split_at_end(behind_blanks(text));
+    let (word, behind) = split_at_end(behind_many_blanks(text));
     if word.is_empty() {
         None
     } else {

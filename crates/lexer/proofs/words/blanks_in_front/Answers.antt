@@ -1,12 +1,10 @@
-use Rattle.std.proofs.Common.{not, arith}
-use Rattle.std.proofs.lemmas.List.Sums.{prefix_len-le-length}
+use Rattle.std.proofs.Common.{rules, not}
 use Rattle.lexer.specs.Words.{is_blank}
+use Rattle.lexer.proofs.Blanks.{position-at, position-none}
 use Rattle.lexer.proofs.words.blanks_in_front.Goals as goal
 
-pub overflow_add-result : goal.overflow_add-result
-overflow_add-result c = omega (
-  arith,
-  prefix_len-le-length (λ byte. not (not (is_blank byte))) c.behind_fours-rest.result.now,
-  c.blanks_each.ensures,
-  c.behind_fours-rest.ensures.shorter,
-)
+pub returns-in-Some : goal.returns-in-Some
+returns-in-Some c = position-at (λ byte. not (is_blank byte)) c.args.bytes.now c.in-Some.blanks (search rules)
+
+pub returns-in-None : goal.returns-in-None
+returns-in-None c = position-none (λ byte. not (is_blank byte)) c.args.bytes.now (search rules)

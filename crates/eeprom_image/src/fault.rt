@@ -50,7 +50,9 @@ fn highest(words: &[(u32, u16)]) -> u32
     let mut highest = 0;
     let mut rest = words;
     'each: while let Some((given, more)) = rest.split_first() {
-        highest = given.0.max(highest);
+        if given.0 > highest {
+            highest = given.0;
+        }
         rest = more;
     }
     highest

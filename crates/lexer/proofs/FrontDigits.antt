@@ -1,5 +1,5 @@
 -- The digits in front of a text.
-use Rattle.std.proofs.Common.{refl, ap, sym, ◌∙◌, arith, ◌≡◌, ◌<◌, ◌≤◌, ℕ, ◌+◌, ◌-◌, ◌*◌, ◌^◌, ◌&&◌, true, false, cond, min, List, [], ◌∷◌, length, take, drop, None, inl, inr}
+use Rattle.std.proofs.Common.{refl, ap, sym, ◌∙◌, arith, ◌≡◌, ◌<◌, ◌≤◌, ℕ, ◌+◌, ◌-◌, ◌*◌, ◌^◌, ◌==◌, ◌&&◌, true, false, cond, min, List, [], ◌∷◌, length, take, drop, None, inl, inr}
 use Rattle.std.specs.List.{list_all}
 use Rattle.std.specs.Char.{is_digit, digit_value}
 use Rattle.std.specs.Str.{IsUtf8, IsCharBoundary}
@@ -49,6 +49,14 @@ pub behind-next : (radix digit byte : ℕ) (rest more : List ℕ) → rest ≡ b
 behind-next radix digit byte rest more is said small =
     let yes : is_digit byte radix ≡ true = rw (← said) (lt-ltb digit radix small) in
     sym (ap (λ r. drop (digits_in_front radix r) r) is ∙ drop-digit radix byte more yes)
+
+-- a digit in front is one digit at least
+pub long-front : (radix digit byte : ℕ) (text more : List ℕ) → text ≡ byte ∷ more → digit ≡ digit_value byte
+    → digit < radix → (length (take (digits_in_front radix text) text) == 0) ≡ false
+long-front radix digit byte text more is said small =
+    let yes : is_digit byte radix ≡ true = rw (← said) (lt-ltb digit radix small) in
+    let some : (length (byte ∷ take (digits_in_front radix more) more) == 0) ≡ false = grind (arith, nat_tests) in
+    ap (λ t. length t == 0) (ap (λ t. take (digits_in_front radix t) t) is ∙ take-digit radix byte more yes) ∙ some
 
 -- digits with something else behind them are no number
 pub capped_numeral-stopped : (radix value : ℕ) (text : List ℕ)

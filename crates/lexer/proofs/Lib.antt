@@ -13,6 +13,7 @@ pub mod SkippedLines
 pub mod LineBytes
 pub mod LineWords
 pub mod FrontLine
+pub mod FrontOperand
 pub mod FrontComment
 pub mod PlaceTable
 pub mod PlaceBehind

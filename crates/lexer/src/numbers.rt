@@ -1,6 +1,6 @@
 //! Numbers.
 
-ghost use Rattle.std.specs.Prelude.{◌≡◌, ◌≢◌, ◌≤◌, ◌<◌, ℕ, List, ◌∷◌, false, MatchOption, Some, Ok, take, drop, IfSome};
+ghost use Rattle.std.specs.Prelude.{◌≡◌, ◌≢◌, ◌≤◌, ◌<◌, ◌^◌, ℕ, List, ◌∷◌, false, MatchOption, Some, Ok, take, drop, IfSome};
 ghost use Rattle.std.specs.Char.{digit_value, is_digit};
 ghost use Rattle.lexer.specs.Number.{numeral_of, capped_numeral, digits_in_front, number_of, IsNumberInFront};
 
@@ -112,6 +112,34 @@ fn numeral(radix: u8, word: &str) -> Result<u32, NumberFault>
     }
 }
 
+/// The number that the digits of the radix in front write behind others that write a value, and what stands behind
+/// them. `None` where it is too large.
+#[inline(always)]
+fn more_digits(radix: u8, first: u64, bytes: &[u8]) -> Option<(u32, &[u8])>
+    requires low { 2 ≤ radix }
+    requires high { radix ≤ 36 }
+    requires first { first < 2 ^ 32 }
+    ensures value { IfSome result (λ split.
+        capped_numeral radix first (take (digits_in_front radix bytes.now) bytes.now) ≡ Some split.0) }
+    ensures small { IfSome result (λ split. split.0 < 2 ^ 32) }
+    ensures behind { IfSome result (λ split. split.1.now ≡ drop (digits_in_front radix bytes.now) bytes.now) }
+{
+    let mut value = first;
+    let mut rest = bytes;
+    'each: while let Some((byte, more)) = rest.split_first() {
+        let digit = digit_of(radix, *byte);
+        if digit >= radix {
+            break;
+        }
+        value = value * u64::from(radix) + u64::from(digit);
+        if value >= TOO_LARGE {
+            return None;
+        }
+        rest = more;
+    }
+    Some((value as u32, rest))
+}
+
 /// The number that the digits of the radix in front write, and what stands behind them. `None` where there is no digit,
 /// and where the number is too large.
 #[inline(always)]
@@ -122,15 +150,13 @@ fn numeral_in_front(radix: u8, text: &str) -> Option<(u32, &str)>
         (numeral_of radix (take (digits_in_front radix text.now) text.now) ≡ Ok split.0)
         × (split.1.now ≡ drop (digits_in_front radix text.now) text.now)) }
 {
-    let (value, behind) = split_numeral(radix, text.as_bytes());
-    let count = text.len() - behind.len();
-    if count == 0 {
+    let (byte, more) = text.as_bytes().split_first()?;
+    let digit = digit_of(radix, *byte);
+    if digit >= radix {
         return None;
     }
-    if value >= TOO_LARGE {
-        return None;
-    }
-    Some((value as u32, &text[count..]))
+    let (value, behind) = more_digits(radix, u64::from(digit), more)?;
+    Some((value, &text[text.len() - behind.len()..]))
 }
 
 /// What stands behind `0x` in front.

@@ -10,11 +10,11 @@ ghost use Rattle.lexer.specs.Pair.{RestOfLine, IsOperand, IsPairInFront};
 
 use crate::lines::behind_empty;
 use crate::numbers::number_in_front;
-use crate::words::behind_blanks;
+use crate::words::{behind_blanks, behind_many_blanks};
 
-/// What stands behind the blanks in front, of which there is one at least.
+/// What stands behind one blank in front of a digit.
 #[inline(always)]
-fn behind_some_blanks(text: &str) -> Option<&str>
+fn behind_one_blank(text: &str) -> Option<&str>
     ensures { IfSome result (λ behind.
         (behind.now ≡ drop (position_or_len (λ byte. not (is_blank byte)) text.now) text.now)
         × (length behind.now < length text.now)) }
@@ -22,6 +22,15 @@ fn behind_some_blanks(text: &str) -> Option<&str>
     if let [b' ' | b'\t', b'0'..=b'9', ..] = text.as_bytes() {
         return Some(&text[1..]);
     }
+    None
+}
+
+/// What stands behind the blanks in front, of which there is one at least.
+fn behind_some_blanks(text: &str) -> Option<&str>
+    ensures { IfSome result (λ behind.
+        (behind.now ≡ drop (position_or_len (λ byte. not (is_blank byte)) text.now) text.now)
+        × (length behind.now < length text.now)) }
+{
     let behind = behind_blanks(text);
     if behind.len() == text.len() {
         return None;
@@ -34,6 +43,9 @@ fn behind_some_blanks(text: &str) -> Option<&str>
 fn operand(text: &str) -> Option<(u32, &str)>
     ensures { IfSome result (λ split. IsOperand text.now split.0 split.1.now) }
 {
+    if let Some(behind) = behind_one_blank(text) {
+        return number_in_front(behind);
+    }
     number_in_front(behind_some_blanks(text)?)
 }
 
@@ -66,7 +78,7 @@ fn behind_blank_line(text: &str) -> Option<&str>
     ensures rest { IfSome result (λ rest. RestOfLine text.now [] (lines rest.now)) }
     ensures shorter { IfSome result (λ rest. length rest.now < length text.now) }
 {
-    let text = behind_blanks(text);
+    let text = behind_many_blanks(text);
     match behind_empty(text) {
         Some(rest) => Some(rest),
         None => behind_comment(text),
@@ -83,9 +95,10 @@ pub(crate) fn behind_wordless(text: &str) -> Option<&str>
     if let Some(rest) = behind_empty(text) {
         return Some(rest);
     }
-    match behind_comment(text) {
-        Some(rest) => Some(rest),
-        None => behind_blank_line(text),
+    match text.as_bytes().first() {
+        Some(b'#') => behind_comment(text),
+        Some(b' ' | b'\t') => behind_blank_line(text),
+        Some(_) | None => None,
     }
 }
 

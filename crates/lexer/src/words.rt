@@ -1,6 +1,6 @@
 //! Words.
 
-ghost use Rattle.std.specs.Prelude.{◌≡◌, ◌∷◌, [], not, take, drop, position, MatchOption};
+ghost use Rattle.std.specs.Prelude.{◌≡◌, ◌≤◌, ◌+◌, ◌∷◌, [], length, not, take, drop, position, MatchOption};
 ghost use Rattle.std.specs.List.{position_or_len};
 ghost use Rattle.std.specs.Iterator.{YieldsFirstRef, item_count};
 ghost use Rattle.lexer.specs.Words.{is_blank, ends_word, words_of};
@@ -24,6 +24,7 @@ impl<'a> Model for Words<'a> {
     ghost view = { λ words. words_of words.rest.now };
 }
 
+#[inline(always)]
 fn is_blank(byte: u8) -> bool
     ensures { result ≡ is_blank byte }
 {
@@ -55,6 +56,31 @@ fn blanks_in_front(bytes: &[u8]) -> usize
     }
 }
 
+/// What stands behind blanks in front, looked at four at a time. Up to three blanks are left.
+#[inline(always)]
+fn behind_fours(bytes: &[u8]) -> &[u8]
+    ensures blanks { length bytes.now + position_or_len (λ byte. not (is_blank byte)) result.now
+        ≡ length result.now + position_or_len (λ byte. not (is_blank byte)) bytes.now }
+    ensures shorter { length result.now ≤ length bytes.now }
+{
+    let mut rest = bytes;
+    'fours: while let [first, second, third, fourth, more @ ..] = rest {
+        if !(is_blank(*first) && is_blank(*second) && is_blank(*third) && is_blank(*fourth)) {
+            break;
+        }
+        rest = more;
+    }
+    rest
+}
+
+/// The same, quicker where there are many.
+fn many_blanks_in_front(bytes: &[u8]) -> usize
+    ensures { result ≡ position_or_len (λ byte. not (is_blank byte)) bytes.now }
+{
+    let rest = behind_fours(bytes);
+    bytes.len() - rest.len() + blanks_in_front(rest)
+}
+
 /// Where the first byte stands that ends a word.
 fn first_end(bytes: &[u8]) -> Option<usize>
     ensures { result ≡ position ends_word bytes.now }
@@ -81,6 +107,15 @@ pub(crate) fn behind_blanks(text: &str) -> &str
     &text[blanks..]
 }
 
+/// The same, quicker where there are many.
+#[inline(always)]
+pub(crate) fn behind_many_blanks(text: &str) -> &str
+    ensures { result.now ≡ drop (position_or_len (λ byte. not (is_blank byte)) text.now) text.now }
+{
+    let blanks = many_blanks_in_front(text.as_bytes());
+    &text[blanks..]
+}
+
 /// What stands before the first end of a word, and from there on.
 fn split_at_end(text: &str) -> (&str, &str)
     ensures word { result.0.now ≡ take (position_or_len ends_word text.now) text.now }
@@ -95,7 +130,7 @@ fn split_word(text: &str) -> Option<(&str, &str)>
     ensures { MatchOption result (words_of text.now ≡ [])
         (λ parts. words_of text.now ≡ parts.0.now ∷ words_of parts.1.now) }
 {
-    let (word, behind) = split_at_end(behind_blanks(text));
+    let (word, behind) = split_at_end(behind_many_blanks(text));
     if word.is_empty() {
         None
     } else {

@@ -1,24 +1,43 @@
-use Rattle.std.proofs.Common.{sym, ap, rules, arith, ◌≡◌, ◌≢◌, ◌==◌, ◌∙◌, ℕ, false, length, take, drop}
-use Rattle.std.proofs.lemmas.Bool.Decides.{nat_tests}
+use Rattle.std.proofs.Common.{sym, ap, rules, arith, ◌≡◌, ◌<◌, ◌∙◌, ◌∷◌, ◌+◌, ◌*◌, ◌^◌, take, drop, min}
+use Rattle.std.proofs.Math.Nat.{min-eq_left}
 use Rattle.lexer.specs.Number.{digits_in_front}
 use Rattle.lexer.proofs.Digits.{numeral_of-value}
-use Rattle.lexer.proofs.FrontDigits.{IsCharBoundary-behind_digits, count-digits, length-digits}
+use Rattle.lexer.proofs.FrontDigits.{IsCharBoundary-behind_digits, count-digits, front-next, behind-next, long-front}
 use Rattle.lexer.proofs.numbers.numeral_in_front.Goals as goal
 
 pub range_from-requires : goal.range_from-requires
-range_from-requires c = λ _. IsCharBoundary-behind_digits c.args.radix c.args.text.now _ c.requires.high
-    (count-digits c.args.radix c.args.text.now c.split_numeral-value.result.1.now (search rules)) c.utf8.text
-
-not_zero : (n m : ℕ) → m ≢ 0 → n ≡ m → (n == 0) ≡ false
-not_zero n m some is = grind (arith, nat_tests)
+range_from-requires c =
+    let radix = c.args.radix in
+    let text = c.args.text.now in
+    let digit = c.digit_of-digit.result in
+    let first : text ≡ c.in_ok-byte.byte.now ∷ c.in_ok-byte.more.now = search rules in
+    let small : digit < radix = omega arith in
+    let said = c.digit_of-digit.ensures.digit small in
+    let behind = c.in_ok-value.ensures.behind
+    ∙ behind-next radix digit c.in_ok-byte.byte.now text c.in_ok-byte.more.now first said small in
+    λ _. IsCharBoundary-behind_digits radix text _ c.requires.high
+    (count-digits radix text c.in_ok-value.behind.now behind) c.utf8.text
 
 pub returns : goal.returns
 returns c =
+    let radix = c.args.radix in
     let text = c.args.text.now in
-    let front = take (digits_in_front c.args.radix text) text in
-    let count = count-digits c.args.radix text c.split_numeral-value.result.1.now (search rules) in
-    let long = not_zero (length front) _ c.if-count-eq0.false (length-digits c.args.radix text ∙ sym count) in (
-      sym (numeral_of-value c.args.radix c.split_numeral-value.result.0 front c.requires.low long (search rules)
-          c.if-value-ge-TOO_LARGE.false),
+    let byte = c.in_ok-byte.byte.now in
+    let more = c.in_ok-byte.more.now in
+    let digit = c.digit_of-digit.result in
+    let front = take (digits_in_front radix text) text in
+    let first : text ≡ byte ∷ more = search rules in
+    let small : digit < radix = omega arith in
+    let said = c.digit_of-digit.ensures.digit small in
+    let behind = c.in_ok-value.ensures.behind ∙ behind-next radix digit byte text more first said small in
+    let count = count-digits radix text c.in_ok-value.behind.now behind in
+    let begun : c.from.result ≡ min (0 * radix + digit) (2 ^ 32) =
+    (let is : c.from.result ≡ digit = search rules in
+    let same : digit ≡ 0 * radix + digit = omega arith in
+    is ∙ same ∙ sym (min-eq_left (omega arith))) in
+    let value = sym (front-next radix 0 c.from.result digit byte text more first said small begun)
+    ∙ c.in_ok-value.ensures.value in (
+      sym (numeral_of-value radix c.in_ok-value.value front c.requires.low
+          (long-front radix digit byte text more first said small) value c.in_ok-value.ensures.small),
       c.range_from.ensures.value ∙ ap (λ n. drop n text) count,
     )

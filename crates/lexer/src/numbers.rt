@@ -1,6 +1,7 @@
 //! Numbers.
 
-ghost use Rattle.std.specs.Prelude.{◌≡◌, ◌≢◌, ◌≤◌, ◌<◌, ◌^◌, ℕ, List, ◌∷◌, false, MatchOption, Some, Ok, take, drop, IfSome};
+ghost use Rattle.std.specs.Prelude.{◌≡◌, ◌≢◌, ◌≤◌, ◌<◌, ◌^◌, ℕ, List, ◌∷◌, false, MatchOption, Some, Ok, take, drop};
+ghost use Rattle.std.specs.Prelude.{IfSome};
 ghost use Rattle.std.specs.Char.{digit_value, is_digit};
 ghost use Rattle.lexer.specs.Number.{numeral_of, capped_numeral, digits_in_front, number_of, IsNumberInFront};
 

@@ -123,8 +123,8 @@ module _ (w : Watched) (fifo : ℕ) (h : List Entry) (q : AtPort) (size : ℕ) (
       λ so_far behind both made. (over_asks y.mid y.asks so_far behind both made).ground in
       let quiet : AtCalls w fifo h y.off (IsQuiet w.queue q) =
       switching_off_leads w q fifo h y.mid y.off x.along y.switched (some_asked y.mid y.asks) grounded in
-      quiet_queue_is_silent w q fifo h done rest y.off new x.along (some_asked y.off (off_asks q made new y)) quiet y.ends
-      x.calls
+      quiet_queue_is_silent w q fifo h done rest y.off new x.along (some_asked y.off (off_asks q made new y)) quiet
+      y.ends x.calls
       all calls
 
   once_off : EndsOnceOff q made new → IsPrefixOf (sent h) (bytes_of k.transmit.accepted)

@@ -89,8 +89,8 @@ module _ (w : Watched) (fifo : ℕ) (h : List Entry) (q : AtPort) (size : ℕ) (
       lived_early =
           let rest = x.look.entry ∷ x.look.behind in
           lived_before w fifo h early (more ++ rest)
-          (sym (append_assoc early more rest) ∙ ap (λ (l : List Entry). l ++ rest) all ∙ x.look.all) q size old a started
-          r made (calls_of w.pass early) k k x.life x.along x.begins
+          (sym (append_assoc early more rest) ∙ ap (λ (l : List Entry). l ++ rest) all ∙ x.look.all) q size old a
+          started r made (calls_of w.pass early) k k x.life x.along x.begins
           (leads_on started made (calls_of w.pass early) (halves_of r) k k x.life.since
           (harmless_lead made (calls_of w.pass early) k is)) refl
 

@@ -1,8 +1,8 @@
 -- One more line of commands.
 use Rattle.std.proofs.Common.{◌≡◌, refl, ap, ◌∙◌, ℕ, List, [], ◌∷◌, append-nil, Result, Ok, Err}
 use Rattle.debugger.specs.declared.Command.{Command}
-use Rattle.lexer.specs.Lines.{NumberedLine}
-use Rattle.lexer.specs.Words.{words_of}
+use Rattle.text_format.specs.Lines.{NumberedLine}
+use Rattle.text_format.specs.Words.{words_of}
 use Rattle.bench.specs.Command.{commands_of, commands_then, words_and}
 
 -- the lines that are left, from the next on

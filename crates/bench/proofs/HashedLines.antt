@@ -5,9 +5,9 @@ use Rattle.std.proofs.Math.Seq.{take-length}
 use Rattle.std.proofs.lemmas.Grind.{flat_map-append}
 use Rattle.std.proofs.lemmas.List.{take_more}
 use Rattle.std.proofs.lemmas.List.Folds.{flat_map-map}
-use Rattle.lexer.specs.Lines.{NumberedLine}
-use Rattle.lexer.specs.Words.{words_of}
-use Rattle.rss_hash.specs.Toeplitz.{toeplitz_hash}
+use Rattle.text_format.specs.Lines.{NumberedLine}
+use Rattle.text_format.specs.Words.{words_of}
+use Rattle.nic_device.specs.RssHash.Toeplitz.{toeplitz_hash}
 use Rattle.bench.specs.Answer.{refused_at}
 use Rattle.bench.specs.Hash.{bytes_said, hashed, hashes, if_key, inputs_of, keyed_answer, line_and, lines_answer, word_line, words_answer}
 

@@ -1,15 +1,15 @@
 -- Answers of EEPROM texts and images.
 use Rattle.std.proofs.Common.{refl, sym, ap, ◌∙◌, ◌≡◌, ◌≢◌, ℕ, List, Option, Some, None, Result, Ok, Err, IsOkAnd}
-use Rattle.eeprom_image.specs.Bytes.{bytes_of}
-use Rattle.eeprom_image.specs.Content.{Content}
-use Rattle.eeprom_image.specs.File.{told_fault}
-use Rattle.eeprom_image.specs.Image.{IsImage}
-use Rattle.eeprom_image.specs.Text.{Fails, IsImageOf}
-use Rattle.eeprom_image.specs.Triples.{triples_of}
-use Rattle.eeprom_image.specs.declared.AsmFault.{AsmFault}
-use Rattle.eeprom_image.specs.declared.AsmFault.TheVariants as text
-use Rattle.eeprom_image.specs.declared.LoadFault.{LoadFault}
-use Rattle.eeprom_image.specs.declared.LoadFault.TheVariants as file
+use Rattle.nic_device.specs.EepromImage.Bytes.{bytes_of}
+use Rattle.nic_device.specs.EepromImage.Content.{Content}
+use Rattle.nic_device.specs.EepromImage.File.{told_fault}
+use Rattle.nic_device.specs.EepromImage.Image.{IsImage}
+use Rattle.nic_device.specs.EepromImage.Text.{Fails, IsImageOf}
+use Rattle.nic_device.specs.EepromImage.Triples.{triples_of}
+use Rattle.nic_device.specs.EepromImage.declared.AsmFault.{AsmFault}
+use Rattle.nic_device.specs.EepromImage.declared.AsmFault.TheVariants as text
+use Rattle.nic_device.specs.EepromImage.declared.LoadFault.{LoadFault}
+use Rattle.nic_device.specs.EepromImage.declared.LoadFault.TheVariants as file
 use Rattle.bench.specs.Answer.{Answer}
 use Rattle.bench.specs.Eeprom.{IsFileAnswer, IsMeantAnswer, file_refused, text_refused, triples_answer}
 

@@ -2,7 +2,7 @@
 use Rattle.std.proofs.Common.{◌≡◌, ◌+◌, ap, refl, sym, subst, ◌∙◌, ℕ, false, List, [], ◌∷◌, ◌++◌, append-nil, append_assoc, codes, length, Option, Result, Ok, Err}
 use Rattle.std.specs.Io.KnownBytes.{Appends}
 use Rattle.std.specs.Result.{IsOk}
-use Rattle.lexer.specs.Lines.{NumberedLine}
+use Rattle.text_format.specs.Lines.{NumberedLine}
 use Rattle.command_line.specs.declared.DebugOptions.{DebugOptions}
 use Rattle.nic_device.specs.declared.Config.{Config}
 use Rattle.program.specs.Listing.{Listing}

@@ -3,9 +3,9 @@ use Rattle.std.specs.Prelude.{ℕ, List, [], ◌∷◌, ◌++◌, Option, Some, 
 use Rattle.std.specs.Option.{option_map}
 use Rattle.std.specs.Result.{result_ok}
 use Rattle.std.specs.Str.{bytes_eq}
-use Rattle.lexer.specs.Lines.{NumberedLine}
-use Rattle.lexer.specs.Number.{number_of}
-use Rattle.lexer.specs.Words.{words_of}
+use Rattle.text_format.specs.Lines.{NumberedLine}
+use Rattle.text_format.specs.Number.{number_of}
+use Rattle.text_format.specs.Words.{words_of}
 use Rattle.script_asm.specs.Target.{target_of}
 use Rattle.debugger.specs.declared.Command.{Command}
 use Rattle.debugger.specs.declared.Command.TheVariants.{Back, Break, Clear, Continue, Show, ShowVf, Step}

@@ -1,6 +1,6 @@
 -- What `nicbench debug` writes for what it reads.
 use Rattle.std.specs.Prelude.{ℕ, ◌+◌, List, [], ◌∷◌, ◌++◌, Result, Ok, Err, codes, length, if◌then◌else◌}
-use Rattle.lexer.specs.Lines.{NumberedLine, lines_of}
+use Rattle.text_format.specs.Lines.{NumberedLine, lines_of}
 use Rattle.command_line.specs.declared.DebugOptions.{DebugOptions}
 use Rattle.nic_device.specs.declared.Config.{Config}
 use Rattle.program.specs.Listing.{Listing}

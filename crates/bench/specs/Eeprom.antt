@@ -1,17 +1,17 @@
 -- What `nicbench eeprom` writes for what it reads.
 use Rattle.std.specs.Prelude.{◌≡◌, ℕ, List, ◌++◌, Option, Some, None, Result, Ok, Err, codes}
 use Rattle.std.specs.List.{flat_map}
-use Rattle.eeprom_image.specs.Bytes.{bytes_of}
-use Rattle.eeprom_image.specs.Content.{Content}
-use Rattle.eeprom_image.specs.File.{file_fault}
-use Rattle.eeprom_image.specs.Image.{IsImage}
-use Rattle.eeprom_image.specs.Text.{IsImageOf, sound_content}
-use Rattle.eeprom_image.specs.Triples.{triples_of}
-use Rattle.eeprom_image.specs.declared.AsmFault.{AsmFault}
-use Rattle.eeprom_image.specs.declared.AsmFault.TheVariants as text
-use Rattle.eeprom_image.specs.declared.LoadFault.{LoadFault}
-use Rattle.eeprom_image.specs.declared.LoadFault.TheVariants as file
-use Rattle.printed.specs.Word.{address_text, word_text}
+use Rattle.nic_device.specs.EepromImage.Bytes.{bytes_of}
+use Rattle.nic_device.specs.EepromImage.Content.{Content}
+use Rattle.nic_device.specs.EepromImage.File.{file_fault}
+use Rattle.nic_device.specs.EepromImage.Image.{IsImage}
+use Rattle.nic_device.specs.EepromImage.Text.{IsImageOf, sound_content}
+use Rattle.nic_device.specs.EepromImage.Triples.{triples_of}
+use Rattle.nic_device.specs.EepromImage.declared.AsmFault.{AsmFault}
+use Rattle.nic_device.specs.EepromImage.declared.AsmFault.TheVariants as text
+use Rattle.nic_device.specs.EepromImage.declared.LoadFault.{LoadFault}
+use Rattle.nic_device.specs.EepromImage.declared.LoadFault.TheVariants as file
+use Rattle.text_format.specs.Word.{address_text, word_text}
 use Rattle.bench.specs.Answer.{Answer, refused_as, refused_at}
 
 -- why a text means no image

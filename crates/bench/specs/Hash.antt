@@ -1,12 +1,12 @@
 -- What `nicbench hash` writes for what it reads.
 use Rattle.std.specs.Prelude.{ℕ, List, [], ◌∷◌, ◌++◌, ◌==◌, Option, Some, None, Result, Ok, Err, codes, length, map, nat_lt, if◌then◌else◌}
 use Rattle.std.specs.List.{flat_map}
-use Rattle.lexer.specs.HexData.{hex_bytes_of}
-use Rattle.lexer.specs.Lines.{NumberedLine, lines_of}
-use Rattle.lexer.specs.Words.{words_of}
-use Rattle.rss_hash.specs.Toeplitz.{toeplitz_hash}
+use Rattle.text_format.specs.HexData.{hex_bytes_of}
+use Rattle.text_format.specs.Lines.{NumberedLine, lines_of}
+use Rattle.text_format.specs.Words.{words_of}
+use Rattle.nic_device.specs.RssHash.Toeplitz.{toeplitz_hash}
 use Rattle.bench.specs.Answer.{Answer, refused_at}
-use Rattle.printed.specs.Word.{word_text}
+use Rattle.text_format.specs.Word.{word_text}
 
 -- the bytes that the words of a line say, where there is one word and it is whole bytes of hex
 abbrev pub bytes_said : List (List ℕ) → Option (List ℕ)

@@ -1,7 +1,7 @@
 -- The line of a reply: its name and its parts, as text.
 use Rattle.std.specs.Prelude.{ℕ, ◌++◌, List, codes, decimal}
-use Rattle.printed.specs.Bytes.{bytes_text}
-use Rattle.printed.specs.Word.{address_text, word_text}
+use Rattle.text_format.specs.Bytes.{bytes_text}
+use Rattle.text_format.specs.Word.{address_text, word_text}
 use Rattle.bench.specs.Reply.{slot_text}
 use Rattle.bench.specs.declared.reply.Line.{Line}
 use Rattle.bench.specs.declared.reply.Part.{Part}

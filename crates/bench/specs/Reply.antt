@@ -1,16 +1,16 @@
 -- Replies as text.
 use Rattle.std.specs.Prelude.{List, ℕ, Bool, ◌++◌, codes, decimal, if◌then◌else◌}
-use Rattle.dma_arena.specs.Block.{Block}
-use Rattle.dma_ring.specs.declared.RingFault.{RingFault}
-use Rattle.dma_ring.specs.declared.RingFault.TheVariants as fault
-use Rattle.intr_unit.specs.declared.Group.{Group}
-use Rattle.intr_unit.specs.declared.Group.TheVariants.{Pf, Vf}
+use Rattle.program.specs.DmaArena.Block.{Block}
+use Rattle.program.specs.DmaRing.declared.RingFault.{RingFault}
+use Rattle.program.specs.DmaRing.declared.RingFault.TheVariants as fault
+use Rattle.program.specs.IntrUnit.declared.Group.{Group}
+use Rattle.program.specs.IntrUnit.declared.Group.TheVariants.{Pf, Vf}
 use Rattle.nic_device.specs.declared.Reply.{Reply}
 use Rattle.nic_device.specs.declared.Reply.TheVariants as reply
 use Rattle.nic_device.specs.declared.Why.{Why}
 use Rattle.nic_device.specs.declared.Why.TheVariants as why
-use Rattle.printed.specs.Bytes.{bytes_text}
-use Rattle.printed.specs.Word.{word_text, address_text}
+use Rattle.text_format.specs.Bytes.{bytes_text}
+use Rattle.text_format.specs.Word.{word_text, address_text}
 
 -- why a frame was dropped
 abbrev pub why_text : Why → List ℕ

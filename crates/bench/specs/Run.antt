@@ -6,7 +6,7 @@ use Rattle.machine.specs.Machine.{machine_at}
 use Rattle.machine.specs.MachineState.{MachineState}
 use Rattle.machine.specs.declared.Status.{Status}
 use Rattle.machine.specs.declared.Status.TheVariants.{Ended, Failed, Running}
-use Rattle.printed.specs.Word.{word_text}
+use Rattle.text_format.specs.Word.{word_text}
 use Rattle.program.specs.Listing.{Listing}
 use Rattle.script_asm.specs.Script.{program_of}
 use Rattle.script_asm.specs.declared.ScriptFault.{ScriptFault}

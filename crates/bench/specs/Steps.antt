@@ -1,6 +1,6 @@
 -- The lines that a machine's steps print.
 use Rattle.std.specs.Prelude.{ℕ, zero, suc, List, [], ◌++◌, codes, decimal}
-use Rattle.dma_arena.specs.Block.{Block}
+use Rattle.program.specs.DmaArena.Block.{Block}
 use Rattle.nic_device.specs.declared.Config.{Config}
 use Rattle.nic_device.specs.declared.Reply.{Reply}
 use Rattle.machine.specs.Machine.{machine_at, machine_step}

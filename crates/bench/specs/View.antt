@@ -7,7 +7,7 @@ use Rattle.debugger.specs.declared.DebugRefusal.TheVariants as refusal
 use Rattle.debugger.specs.declared.View.{View}
 use Rattle.machine.specs.declared.Status.{Status}
 use Rattle.machine.specs.declared.Status.TheVariants.{Ended, Failed, Running}
-use Rattle.printed.specs.Word.{address_text, word_text}
+use Rattle.text_format.specs.Word.{address_text, word_text}
 use Rattle.bench.specs.Refusal.{refusal_line}
 
 -- how a machine stands

@@ -1,14 +1,14 @@
 //! The debugger's commands, read from lines.
 ghost use Rattle.std.specs.Prelude.{◌≡◌, ℕ, List, [], Err, IfOk, None, Ok, OnOk, Result, Some, option_and_then};
-ghost use Rattle.lexer.specs.Words.{words_of};
+ghost use Rattle.text_format.specs.Words.{words_of};
 ghost use Rattle.debugger.specs.declared.Command.{Command as DebuggerCommand};
 ghost use Rattle.bench.specs.Command.{beside, command_said, commands_of, commands_then, if_function};
 ghost use Rattle.bench.specs.Command.{number_said, table_of_one, table_of_two, target_said, words_and};
 
 use debugger::Command;
-use lexer::{Line, Lines, Words};
 use script_asm::target;
 use std::alloc::{AllocFailed, Global};
+use text_format::{Line, Lines, Words};
 
 /// How many virtual functions there may be.
 const FUNCTIONS: u32 = 63;
@@ -36,7 +36,7 @@ impl<T: Drop> From<AllocFailed<T>> for CommandFault {
 fn number(word: &str) -> Option<u32>
     ensures { result ≡ number_said word.now }
 {
-    lexer::number(word).ok()
+    text_format::number(word).ok()
 }
 
 /// The address that a word names, as in scripts.

@@ -1,7 +1,7 @@
 //! What `nicbench eeprom` makes of a text, and with `--load` of an image.
 ghost use Rattle.std.specs.Prelude.{◌≡◌, ◌≢◌, MatchOption, OnOk};
 ghost use Rattle.std.specs.Io.KnownBytes.{Appends};
-ghost use Rattle.eeprom_image.specs.Triples.{triples_of};
+ghost use Rattle.nic_device.specs.EepromImage.Triples.{triples_of};
 ghost use Rattle.bench.specs.Answer.{FailsToWrite, Gives, GivesRight, refused};
 ghost use Rattle.bench.specs.Eeprom.{IsImageAnswer, IsLoadAnswer, file_refused, text_refused};
 ghost use Rattle.bench.specs.Eeprom.{triple_line, triples_answer};
@@ -9,10 +9,10 @@ ghost use Rattle.bench.specs.Eeprom.{triple_line, triples_answer};
 use crate::failure::Failure;
 use crate::output::Output;
 use crate::refusal::{Refusal, write_refusal};
-use eeprom_image::{AsmFault, Image, LoadFault, assemble, load};
-use printed::{AddressText, WordText};
+use nic_device::{AsmFault, Image, LoadFault, assemble, load};
 use std::alloc::Global;
 use std::io::Write;
+use text_format::{AddressText, WordText};
 
 /// Why a text means no image; none where there is no memory.
 fn refusal_of_text(fault: AsmFault) -> Option<Refusal>

@@ -3,9 +3,9 @@ ghost use Rattle.std.specs.Prelude.{◌≡◌, ℕ, List, [], Err, IfOk, None, O
 ghost use Rattle.std.specs.Prelude.{codes};
 ghost use Rattle.std.specs.Io.KnownBytes.{Appends};
 ghost use Rattle.std.specs.Option.{option_map};
-ghost use Rattle.lexer.specs.Lines.{lines_of};
-ghost use Rattle.lexer.specs.Words.{words_of};
-ghost use Rattle.rss_hash.specs.Toeplitz.{toeplitz_hash};
+ghost use Rattle.text_format.specs.Lines.{lines_of};
+ghost use Rattle.text_format.specs.Words.{words_of};
+ghost use Rattle.nic_device.specs.RssHash.Toeplitz.{toeplitz_hash};
 ghost use Rattle.bench.specs.Answer.{FailsToWrite, Gives, refused_at};
 ghost use Rattle.bench.specs.Hash.{bytes_said, hash_answer, hashed, if_input, if_key, inputs_of};
 ghost use Rattle.bench.specs.Hash.{line_and, lines_answer, word_line, words_answer};
@@ -13,11 +13,10 @@ ghost use Rattle.bench.specs.Hash.{line_and, lines_answer, word_line, words_answ
 use crate::failure::Failure;
 use crate::output::Output;
 use crate::refusal::{Refusal, write_refusal};
-use lexer::{HexFault, Line, Lines, Words, hex_bytes};
-use printed::WordText;
-use rss_hash::{Key, hash};
+use nic_device::{Key, hash};
 use std::alloc::{AllocFailed, Global};
 use std::io::Write;
+use text_format::{HexFault, Line, Lines, WordText, Words, hex_bytes};
 
 /// How many bytes a key has.
 const KEY_BYTES: usize = 40;

@@ -5,10 +5,10 @@ ghost use Rattle.bench.specs.Reply.{end_text, fault_text, group_text, queue_text
 
 use self::Part::{Bytes, Named, NotLent, Number, Numbered, Slot, Word};
 use self::Parts::{One, Two, Zero};
-use dma_ring::RingFault;
 use nic_device::{Group, Reply, ReplyNote, Why};
-use printed::{AddressText, BytesText, WordText};
+use program::RingFault;
 use std::fmt;
+use text_format::{AddressText, BytesText, WordText};
 
 /// A part of a reply, behind its name.
 #[derive(Clone, Copy)]

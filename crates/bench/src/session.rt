@@ -1,6 +1,6 @@
 //! What `nicbench debug` makes of a text.
 ghost use Rattle.std.specs.Prelude.{◌≡◌, ◌<◌, ◌^◌, [], length};
-ghost use Rattle.lexer.specs.Lines.{lines_of};
+ghost use Rattle.text_format.specs.Lines.{lines_of};
 ghost use Rattle.bench.specs.Answer.{Gives};
 ghost use Rattle.bench.specs.Command.{commands_of};
 ghost use Rattle.bench.specs.Debug.{commands_answer, debug_answer, new_session, session_answer};
@@ -14,12 +14,12 @@ use crate::script_run::refusal_of_script;
 use crate::view::{write_done, write_refused};
 use command_line::DebugOptions;
 use debugger::{Command, DebugRefusal, Debugger};
-use lexer::Lines;
 use nic_device::{Config, NewFault};
 use program::Program;
 use script_asm::assemble_before;
 use std::alloc::Global;
 use std::io::Write;
+use text_format::Lines;
 
 /// The word on the line that ends the script.
 const END_OF_SCRIPT: &str = "%";

@@ -10,8 +10,8 @@ use crate::failure::Failure;
 use crate::output::Output;
 use crate::reply::ReplyText;
 use machine::{Machine, Status, StepAnswer};
-use printed::WordText;
 use std::io::Write;
+use text_format::WordText;
 
 /// Writes the line of a step that was made at an instruction; nothing of one without an event.
 fn write_answer<W: Write>(

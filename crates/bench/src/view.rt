@@ -10,9 +10,9 @@ use crate::output::Output;
 use crate::refusal::Refusal;
 use debugger::{Command, DebugRefusal, View};
 use machine::Status;
-use printed::{AddressText, WordText};
 use std::fmt;
 use std::io::Write;
+use text_format::{AddressText, WordText};
 
 /// How a machine stands, as it is printed.
 #[derive(Clone, Copy)]

@@ -1,206 +1,28 @@
-//! Runs tables of small scripts and other inputs through the program, and says which don't print what the table says.
-//!
-//! A table is a file of `data/`. It begins with the lines that each of its scripts begins with. Behind them come its
-//! cases, a blank line before each:
-//!
-//! ```text
-//! == what the case shows
-//! $ nicbench run --limit 2
-//! w GPIE 1         #> done
-//! r GPIE           #> word 0x00000001
-//! r GPIE
-//! -- 1
-//! limit 2
-//! ```
-//!
-//! `$` gives the words, where they aren't `nicbench run`. Behind `#>`, which is a comment to the assembler, stands what
-//! an instruction prints, and behind `--` the status and what is printed after that; with no such line this is `ok`,
-//! with the number of instructions, and status 0. `-- 3 with` asks for no more than that each line below it is printed,
-//! and `-- 2 each` that each line above it, by itself behind the lines of the table, prints what is below.
+//! Runs tables and examples through the program and through the lower libraries, and says which don't answer what
+//! stands there: the scripts of `data/*.cases` (`scripts.rt`), the calls of `data/libraries/` (`library.rt`) and the
+//! examples of `data/examples/` (`examples.rt`).
 #![tactic(auto)]
 
-use bench::{Input, Outcome, Output, bench};
-use std::alloc::{AllocError, Global};
-use std::fmt::Write;
-use std::{fs, io};
+mod call;
+mod descriptors;
+mod examples;
+mod hashing;
+mod images;
+mod interrupts;
+mod library;
+mod objects;
+mod pools;
+mod registers;
+mod scripts;
+mod texts;
 
-/// The tables.
-const TABLES: [&str; 21] = [
-    "grammar",
-    "words",
-    "registers",
-    "settings",
-    "memory",
-    "queues",
-    "queue_registers",
-    "filter",
-    "sorting",
-    "receive",
-    "transmit",
-    "counters",
-    "interrupts",
-    "functions",
-    "eeprom_registers",
-    "jumps",
-    "hash",
-    "eeprom",
-    "objects",
-    "debugger",
-    "commands",
-];
-
-/// What a case is to end with.
-#[derive(Drop)]
-enum Ending<'a> {
-    /// `ok` and the number of instructions, and status 0.
-    Ok,
-    /// A status, and all that is printed behind the instructions' lines.
-    Exactly(u8, &'a str),
-    /// A status, and lines that are printed somewhere.
-    With(u8, &'a str),
-    /// A status, and all that is printed, for each line by itself.
-    Each(u8, &'a str),
-}
-
-/// A case of a table.
-#[derive(Drop)]
-struct Case<'a> {
-    title: &'a str,
-    words: &'a str,
-    lines: &'a str,
-    ending: Ending<'a>,
-}
-
-/// What the text below `--` says.
-fn ending_of(text: &str) -> Option<Ending<'_>> {
-    let (head, printed) = text.split_once("\n")?;
-    let (status, how) = head.split_once(" ").unwrap_or((head, ""));
-    let status = status.parse().ok()?;
-    match how {
-        "" => Some(Ending::Exactly(status, printed)),
-        "with" => Some(Ending::With(status, printed)),
-        "each" => Some(Ending::Each(status, printed)),
-        _ => None,
-    }
-}
-
-/// The case of a text, which is what stands behind its `==`.
-fn case_of(text: &str) -> Option<Case<'_>> {
-    let (title, text) = text.split_once("\n")?;
-    let (words, text) = match text.strip_prefix("$ ") {
-        Some(text) => text.split_once("\n")?,
-        None => ("nicbench run", text),
-    };
-    let (lines, ending) = match text.split_once("-- ") {
-        Some((lines, text)) => (lines, ending_of(text)?),
-        None => (text, Ending::Ok),
-    };
-    Some(Case {
-        title,
-        words,
-        lines,
-        ending,
-    })
-}
-
-/// The lines that the comments of a script promise, each with its instruction's number, and how many there are.
-fn promised(alloc: Global, script: &str) -> Result<(String, u64), AllocError> {
-    let mut printed = String::new(alloc);
-    let mut count = 0u64;
-    for line in script.lines() {
-        match line.split_once("#> ") {
-            Some((_, text)) => {
-                writeln!(printed, "{count} {text}")?;
-                count = count.saturating_add(1);
-            }
-            None => {}
-        }
-    }
-    Ok((printed, count))
-}
-
-/// Whether each line of a text stands somewhere in what was printed.
-fn has_lines(printed: &str, lines: &str) -> bool {
-    for line in lines.lines() {
-        if !printed.contains(line) {
-            return false;
-        }
-    }
-    true
-}
-
-/// No status of the program: what is told of words that leave threads to be run.
-const NOT_ENDED: u8 = 255;
-
-/// What a run prints, and the status that it ends with.
-fn answer(alloc: Global, words: &str, script: &str) -> Result<(String, u8), AllocError> {
-    let words: Vec<&str> = words.split_whitespace().collect(alloc)?;
-    let mut input = Input::of(script.as_bytes());
-    let mut written = Vec::new(alloc);
-    let mut output = Output::of(&mut written);
-    let Outcome::Ended(status) = bench(alloc, &mut input, &mut output, words.as_slice()) else {
-        return Ok((String::new(alloc), NOT_ENDED));
-    };
-    let printed = String::from_utf8(written).unwrap_or(String::new(alloc));
-    Ok((printed, status))
-}
-
-/// Whether a case, behind the lines of its table's setup, ends as it says.
-fn ends_so(alloc: Global, setup: &str, case: &Case<'_>) -> Result<bool, AllocError> {
-    let script = format!(in alloc; "{setup}{}", case.lines)?;
-    let (mut wanted, count) = promised(alloc, script.as_str())?;
-    let wanted_status = match case.ending {
-        Ending::Ok => {
-            writeln!(wanted, "ok {count}")?;
-            0
-        }
-        Ending::Exactly(status, text) => {
-            wanted.push_str(text)?;
-            status
-        }
-        Ending::With(wanted, lines) => {
-            let (printed, status) = answer(alloc, case.words, script.as_str())?;
-            return Ok(status == wanted && has_lines(printed.as_str(), lines));
-        }
-        Ending::Each(wanted, text) => {
-            for line in case.lines.lines() {
-                let script = format!(in alloc; "{setup}{line}")?;
-                let (printed, status) = answer(alloc, case.words, script.as_str())?;
-                if status != wanted || printed.as_str() != text {
-                    return Ok(false);
-                }
-            }
-            return Ok(true);
-        }
-    };
-    let (printed, status) = answer(alloc, case.words, script.as_str())?;
-    Ok(status == wanted_status && printed.as_str() == wanted.as_str())
-}
-
-/// Runs the cases of a table, and prints which of them differ and how many there are.
-fn run_table(rt: &HostRuntime, name: &str) -> io::Result<()> {
-    let alloc = rt.alloc();
-    let path = format!(in alloc; "{name}.cases")?;
-    let text = fs::read_to_string(rt, path.as_str())?;
-    let (setup, cases) = text.split_once("\n== ").unwrap_or(("", ""));
-    let mut count = 0u64;
-    for text in cases.split("\n== ") {
-        match case_of(text) {
-            Some(case) => {
-                if !ends_so(alloc, setup, &case)? {
-                    println!(rt; "{name}: {}: DIFFERS", case.title)?;
-                }
-            }
-            None => println!(rt; "{name}: a case that can't be read: {text}")?,
-        }
-        count = count.saturating_add(1);
-    }
-    println!(rt; "{name}: {count} cases")
-}
+use crate::examples::run_examples;
+use crate::library::run_libraries;
+use crate::scripts::run_tables;
+use std::io;
 
 fn main(rt: HostRuntime) -> io::Result<()> {
-    for name in TABLES {
-        run_table(&rt, name)?;
-    }
-    Ok(())
+    run_tables(&rt)?;
+    run_libraries(&rt)?;
+    run_examples(&rt)
 }

@@ -1,19 +1,19 @@
 -- Register accesses, one after another.
 use Rattle.std.proofs.Common.{cond, ◌≡◌, ◌≢◌, ℕ, refl, ap, sym, ◌∙◌, Some, None, Option}
-use Rattle.reg_table.specs.Rows.{row_of}
-use Rattle.reg_table.specs.Runs.{runs}
-use Rattle.reg_table.specs.Place.{Names, place_among, view_among}
-use Rattle.reg_table.specs.declared.place.Place.{Place}
-use Rattle.reg_table.proofs.Finding.{found-named}
-use Rattle.reg_table.proofs.InRange.{named_in_range}
-use Rattle.register_file.specs.Access.{read_word, after_read, written, stored, asks_reset, asks_pool_reset}
+use Rattle.nic_device.specs.RegTable.Rows.{row_of}
+use Rattle.nic_device.specs.RegTable.Runs.{runs}
+use Rattle.nic_device.specs.RegTable.Place.{Names, place_among, view_among}
+use Rattle.nic_device.specs.RegTable.declared.place.Place.{Place}
+use Rattle.nic_device.proofs.RegTable.Finding.{found-named}
+use Rattle.nic_device.proofs.RegTable.InRange.{named_in_range}
+use Rattle.nic_device.specs.RegisterFile.Access.{read_word, after_read, written, stored, asks_reset, asks_pool_reset}
 use Rattle.nic_device.specs.PoolReset.{with_pool_reset}
-use Rattle.register_file.specs.Bits.{merged}
-use Rattle.register_file.specs.Words.{word_at}
-use Rattle.register_file.specs.Registers.{Registers}
-use Rattle.register_file.proofs.ResetWords.{word_at-reset}
-use Rattle.register_laws.proofs.Puts.{word_at-put_other}
-use Rattle.register_laws.proofs.Shape.{put_stands}
+use Rattle.nic_device.specs.RegisterFile.Bits.{merged}
+use Rattle.nic_device.specs.RegisterFile.Words.{word_at}
+use Rattle.nic_device.specs.RegisterFile.Registers.{Registers}
+use Rattle.nic_device.proofs.RegisterFile.ResetWords.{word_at-reset}
+use Rattle.nic_device.proofs.RegisterLaws.Puts.{word_at-put_other}
+use Rattle.nic_device.proofs.RegisterLaws.Shape.{put_stands}
 use Rattle.nic_device.specs.Eeprom.{reset}
 use Rattle.nic_device.specs.State.{State, new_state}
 use Rattle.nic_device.specs.Outcome.{gives}

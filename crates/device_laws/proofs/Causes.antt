@@ -1,15 +1,15 @@
 -- Each event raises what its reply says, and nothing else.
 use Rattle.std.proofs.Common.{ℕ, List, length, refl, nat_lt, Result, Ok, Err}
-use Rattle.reg_table.specs.declared.rows.RowId.TheVariants.{Mpc, Gprc, Ruc, Roc}
-use Rattle.rx_filter.specs.Sorting.{sorted}
-use Rattle.rx_filter.specs.declared.target.Target.{Target}
-use Rattle.rx_filter.specs.declared.unwanted.Unwanted.{Unwanted}
-use Rattle.rx_filter.specs.declared.unwanted.Unwanted.TheVariants as unwanted
-use Rattle.register_file.specs.Columns.{place}
-use Rattle.register_file.specs.Counters.{counted}
-use Rattle.register_file.specs.Settings.{can_receive, frame_limit}
-use Rattle.register_file.specs.declared.dir.Dir.TheVariants.{Tx}
-use Rattle.register_laws.proofs.Shape.{HasShape-put}
+use Rattle.nic_device.specs.RegTable.declared.rows.RowId.TheVariants.{Mpc, Gprc, Ruc, Roc}
+use Rattle.nic_device.specs.RxFilter.Sorting.{sorted}
+use Rattle.nic_device.specs.RxFilter.declared.target.Target.{Target}
+use Rattle.nic_device.specs.RxFilter.declared.unwanted.Unwanted.{Unwanted}
+use Rattle.nic_device.specs.RxFilter.declared.unwanted.Unwanted.TheVariants as unwanted
+use Rattle.nic_device.specs.RegisterFile.Columns.{place}
+use Rattle.nic_device.specs.RegisterFile.Counters.{counted}
+use Rattle.nic_device.specs.RegisterFile.Settings.{can_receive, frame_limit}
+use Rattle.nic_device.specs.DmaRing.declared.dir.Dir.TheVariants.{Tx}
+use Rattle.nic_device.proofs.RegisterLaws.Shape.{HasShape-put}
 use Rattle.nic_device.specs.Arrival.{arrived, sorted_in}
 use Rattle.nic_device.specs.Interrupt.{missed_cause, link_cause}
 use Rattle.device_laws.specs.Raising.{EventsRaise}

@@ -1,25 +1,25 @@
 -- Words that are of no group leave the interrupts of groups.
 use Rattle.std.proofs.Common.{◌≡◌, ℕ, false, Option, Some, None, refl, ap}
-use Rattle.reg_table.specs.Rows.{row_of}
-use Rattle.reg_table.specs.declared.bank.Bank.TheVariants.{VfCounters}
-use Rattle.reg_table.specs.declared.place.Place.{Place}
-use Rattle.reg_table.specs.declared.rows.RowId.{RowId}
-use Rattle.intr_unit.specs.declared.group.Group.{Group}
-use Rattle.register_file.specs.Columns.{place}
-use Rattle.register_file.specs.Groups.{interrupts_of}
-use Rattle.register_file.specs.Owner.{owner_in, owner_of, is_owner}
-use Rattle.register_file.specs.Queue.{head_row, with_head, shut}
-use Rattle.register_file.specs.Registers.{Registers, with_word}
-use Rattle.register_file.specs.declared.dir.Dir.{Dir}
-use Rattle.register_file.specs.declared.dir.Dir.TheVariants.{Rx, Tx}
-use Rattle.register_file.specs.declared.owner.Owner.TheVariants as owner
-use Rattle.register_laws.specs.Footprint.{of_owner, of_side, of_group, the_word}
-use Rattle.register_laws.proofs.Footprints.{misses-narrower, misses-owner, covers-the_word}
-use Rattle.register_laws.proofs.Stands.{group_stands}
-use Rattle.register_laws.proofs.Within.{within-shut}
-use Rattle.register_laws.proofs.WithinParts.{within-word}
-use Rattle.register_laws.specs.Sound.{HasShape}
-use Rattle.register_laws.proofs.Shape.{HasShape-put}
+use Rattle.nic_device.specs.RegTable.Rows.{row_of}
+use Rattle.nic_device.specs.RegTable.declared.bank.Bank.TheVariants.{VfCounters}
+use Rattle.nic_device.specs.RegTable.declared.place.Place.{Place}
+use Rattle.nic_device.specs.RegTable.declared.rows.RowId.{RowId}
+use Rattle.nic_device.specs.IntrUnit.declared.group.Group.{Group}
+use Rattle.nic_device.specs.RegisterFile.Columns.{place}
+use Rattle.nic_device.specs.RegisterFile.Groups.{interrupts_of}
+use Rattle.nic_device.specs.RegisterFile.Owner.{owner_in, owner_of, is_owner}
+use Rattle.nic_device.specs.RegisterFile.Queue.{head_row, with_head, shut}
+use Rattle.nic_device.specs.RegisterFile.Registers.{Registers, with_word}
+use Rattle.nic_device.specs.DmaRing.declared.dir.Dir.{Dir}
+use Rattle.nic_device.specs.DmaRing.declared.dir.Dir.TheVariants.{Rx, Tx}
+use Rattle.nic_device.specs.RegisterFile.declared.owner.Owner.TheVariants as owner
+use Rattle.nic_device.specs.RegisterLaws.Footprint.{of_owner, of_side, of_group, the_word}
+use Rattle.nic_device.proofs.RegisterLaws.Footprints.{misses-narrower, misses-owner, covers-the_word}
+use Rattle.nic_device.proofs.RegisterLaws.Stands.{group_stands}
+use Rattle.nic_device.proofs.RegisterLaws.Within.{within-shut}
+use Rattle.nic_device.proofs.RegisterLaws.WithinParts.{within-word}
+use Rattle.nic_device.specs.RegisterLaws.Sound.{HasShape}
+use Rattle.nic_device.proofs.RegisterLaws.Shape.{HasShape-put}
 use Rattle.nic_device.specs.Interrupt.{function_counted}
 
 -- a word of a register that is of no group

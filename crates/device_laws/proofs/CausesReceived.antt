@@ -1,19 +1,19 @@
 -- What a step of receiving raises, and a fault.
 use Rattle.std.proofs.Common.{cond, ◌≡◌, ◌∙◌, ℕ, Bool, true, false, refl, ap, arith, Some, None}
-use Rattle.dma_arena.specs.Block.{Block}
-use Rattle.reg_table.specs.declared.rows.RowId.TheVariants.{Qprdc, Qprc, Vfgprc}
-use Rattle.intr_unit.specs.declared.group.Group.{Group}
-use Rattle.rx_ring.specs.declared.filled.Filled.{Filled}
-use Rattle.register_file.specs.Columns.{place}
-use Rattle.register_file.specs.Counters.{counted, counter_of}
-use Rattle.register_file.specs.Groups.{interrupts_of}
-use Rattle.register_file.specs.Queue.{head_row, with_head, shut}
-use Rattle.register_file.specs.Registers.{Registers}
-use Rattle.register_file.specs.declared.dir.Dir.{Dir}
-use Rattle.register_file.specs.declared.dir.Dir.TheVariants.{Rx}
-use Rattle.register_laws.specs.Sound.{HasShape}
-use Rattle.register_laws.proofs.Sound.{sound-shut}
-use Rattle.register_laws.proofs.Shape.{HasShape-put}
+use Rattle.nic_device.specs.DmaArena.Block.{Block}
+use Rattle.nic_device.specs.RegTable.declared.rows.RowId.TheVariants.{Qprdc, Qprc, Vfgprc}
+use Rattle.nic_device.specs.IntrUnit.declared.group.Group.{Group}
+use Rattle.nic_device.specs.RxRing.declared.filled.Filled.{Filled}
+use Rattle.nic_device.specs.RegisterFile.Columns.{place}
+use Rattle.nic_device.specs.RegisterFile.Counters.{counted, counter_of}
+use Rattle.nic_device.specs.RegisterFile.Groups.{interrupts_of}
+use Rattle.nic_device.specs.RegisterFile.Queue.{head_row, with_head, shut}
+use Rattle.nic_device.specs.RegisterFile.Registers.{Registers}
+use Rattle.nic_device.specs.DmaRing.declared.dir.Dir.{Dir}
+use Rattle.nic_device.specs.DmaRing.declared.dir.Dir.TheVariants.{Rx}
+use Rattle.nic_device.specs.RegisterLaws.Sound.{HasShape}
+use Rattle.nic_device.proofs.RegisterLaws.Sound.{sound-shut}
+use Rattle.nic_device.proofs.RegisterLaws.Shape.{HasShape-put}
 use Rattle.nic_device.proofs.Functions.{function_counted_in}
 use Rattle.nic_device.specs.Interrupt.{function_of_queue, device_raised, raised_by, fault_cause}
 use Rattle.nic_device.specs.Outcome.{Outcome}

@@ -1,20 +1,20 @@
 -- What a fetched slot raises.
 use Rattle.std.proofs.Common.{cond, ◌≡◌, ◌∙◌, ℕ, Bool, true, false, List, refl, ap, sym, subst, inl, inr, Option, Some, None, Result, Ok, Err}
 use Rattle.std.specs.Prelude.{⊤, is_some}
-use Rattle.dma_ring.specs.declared.fault.RingFault.{RingFault}
-use Rattle.reg_table.specs.declared.rows.RowId.TheVariants.{Gptc, Qptc, Vfgptc}
-use Rattle.intr_unit.specs.declared.group.Group.{Group}
-use Rattle.tx_ring.specs.declared.fetched.Fetched.{Fetched}
-use Rattle.tx_ring.specs.Fetch as tx
-use Rattle.tx_ring.proofs.Fetches.{takes_slot}
-use Rattle.register_file.specs.Columns.{place}
-use Rattle.register_file.specs.Counters.{counted, counter_of}
-use Rattle.register_file.specs.Groups.{interrupts_of}
-use Rattle.register_file.specs.Queue.{head_row, with_head}
-use Rattle.register_file.specs.Registers.{Registers}
-use Rattle.register_file.specs.declared.dir.Dir.TheVariants.{Tx}
-use Rattle.register_laws.specs.Sound.{HasShape}
-use Rattle.register_laws.proofs.Shape.{HasShape-put}
+use Rattle.nic_device.specs.DmaRing.declared.fault.RingFault.{RingFault}
+use Rattle.nic_device.specs.RegTable.declared.rows.RowId.TheVariants.{Gptc, Qptc, Vfgptc}
+use Rattle.nic_device.specs.IntrUnit.declared.group.Group.{Group}
+use Rattle.nic_device.specs.TxRing.declared.fetched.Fetched.{Fetched}
+use Rattle.nic_device.specs.TxRing.Fetch as tx
+use Rattle.nic_device.proofs.TxRing.Fetches.{takes_slot}
+use Rattle.nic_device.specs.RegisterFile.Columns.{place}
+use Rattle.nic_device.specs.RegisterFile.Counters.{counted, counter_of}
+use Rattle.nic_device.specs.RegisterFile.Groups.{interrupts_of}
+use Rattle.nic_device.specs.RegisterFile.Queue.{head_row, with_head}
+use Rattle.nic_device.specs.RegisterFile.Registers.{Registers}
+use Rattle.nic_device.specs.DmaRing.declared.dir.Dir.TheVariants.{Tx}
+use Rattle.nic_device.specs.RegisterLaws.Sound.{HasShape}
+use Rattle.nic_device.proofs.RegisterLaws.Shape.{HasShape-put}
 use Rattle.nic_device.specs.Interrupt.{function_of_queue, raised_by}
 use Rattle.device_laws.specs.Raising.{raised_reported, raised_sent, after_causes, queue_cause}
 use Rattle.nic_device.specs.Sound.{IsSound}

@@ -3,19 +3,19 @@ use Rattle.std.proofs.Common.{◌≡◌, ◌<◌, ◌^◌, ℕ, List, refl, ap, 
 use Rattle.std.proofs.Math.Nat.{mod-eq_of_lt}
 use Rattle.std.proofs.lemmas.Nat.{and_mask}
 use Rattle.std.specs.Int.Bits.{and_zero_l}
-use Rattle.reg_table.specs.Counter.{bumped}
-use Rattle.reg_table.specs.Runs.{runs}
-use Rattle.reg_table.specs.Place.{view_among}
-use Rattle.reg_table.specs.declared.place.Place.{Place}
-use Rattle.reg_table.specs.declared.rows.RowId.TheVariants.{Gprc}
-use Rattle.reg_table.proofs.Finding.{found-named}
-use Rattle.reg_table.proofs.InRange.{named_in_range}
-use Rattle.register_file.specs.Access.{read_word, after_read}
-use Rattle.register_file.specs.Columns.{place}
-use Rattle.register_file.specs.Registers.{word_of}
-use Rattle.register_file.specs.Words.{word_at}
-use Rattle.register_laws.proofs.Shape.{put_stands}
-use Rattle.register_laws.proofs.Sound.{bumped-lt}
+use Rattle.nic_device.specs.RegTable.Counter.{bumped}
+use Rattle.nic_device.specs.RegTable.Runs.{runs}
+use Rattle.nic_device.specs.RegTable.Place.{view_among}
+use Rattle.nic_device.specs.RegTable.declared.place.Place.{Place}
+use Rattle.nic_device.specs.RegTable.declared.rows.RowId.TheVariants.{Gprc}
+use Rattle.nic_device.proofs.RegTable.Finding.{found-named}
+use Rattle.nic_device.proofs.RegTable.InRange.{named_in_range}
+use Rattle.nic_device.specs.RegisterFile.Access.{read_word, after_read}
+use Rattle.nic_device.specs.RegisterFile.Columns.{place}
+use Rattle.nic_device.specs.RegisterFile.Registers.{word_of}
+use Rattle.nic_device.specs.RegisterFile.Words.{word_at}
+use Rattle.nic_device.proofs.RegisterLaws.Shape.{put_stands}
+use Rattle.nic_device.proofs.RegisterLaws.Sound.{bumped-lt}
 use Rattle.nic_device.specs.State.{State}
 use Rattle.nic_device.specs.Outcome.{Outcome}
 use Rattle.nic_device.specs.Access.{around, named_read}

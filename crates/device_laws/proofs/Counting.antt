@@ -2,32 +2,32 @@
 use Rattle.std.proofs.Common.{cond, ◌≡◌, ◌≢◌, ◌<◌, ◌^◌, ◌*◌, ◌/◌, ◌%◌, ℕ, Bool, true, false, ap, sym, ◌∙◌, inl, inr, arith, refl}
 use Rattle.std.specs.Prelude.{◌&&◌}
 use Rattle.std.proofs.lemmas.Bool.{cases_Bool}
-use Rattle.reg_table.specs.Counter.{bumped}
-use Rattle.reg_table.specs.Rows.{row_of}
-use Rattle.reg_table.specs.declared.kind.Kind.TheVariants as kind
-use Rattle.reg_table.specs.declared.kind.Kind.TheVariants.{Rc}
-use Rattle.reg_table.specs.declared.place.Place.{Place}
-use Rattle.reg_table.specs.declared.rows.RowId.{RowId}
-use Rattle.reg_table.specs.declared.rows.RowId.TheVariants.{Mpc, Qprc, Rdh, Tdh, Rxdctl, Txdctl, Rqsmr, Tqsm, Vfgprc}
-use Rattle.intr_unit.specs.declared.group.Group.{Group}
-use Rattle.intr_unit.specs.declared.group.Group.TheVariants as group
-use Rattle.register_file.specs.Columns.{place}
-use Rattle.register_file.specs.Counters.{counted, counter_of}
-use Rattle.register_file.specs.Groups.{causes_raised}
-use Rattle.register_file.specs.Queue.{with_head, shut}
-use Rattle.register_file.specs.Registers.{Registers, word_of, with_word}
-use Rattle.register_file.specs.Words.{word_at, put}
-use Rattle.register_file.specs.declared.dir.Dir.{Dir}
-use Rattle.register_file.specs.declared.dir.Dir.TheVariants.{Rx, Tx}
-use Rattle.register_laws.specs.Footprint.{is_place, pending, is_pending}
-use Rattle.register_laws.specs.Sound.{HasShape}
-use Rattle.register_laws.proofs.Accessed.{none_pending}
-use Rattle.register_laws.proofs.Owners.{apart, is_place-itself, is_place-same}
-use Rattle.register_laws.proofs.Puts.{word_at-put_other}
-use Rattle.register_laws.proofs.ReadBack.{one_place}
-use Rattle.register_laws.proofs.Shape.{put_stands, HasShape-put}
-use Rattle.register_laws.proofs.Within.{within-causes_raised}
-use Rattle.rx_ring.specs.declared.filled.Filled.{Filled}
+use Rattle.nic_device.specs.RegTable.Counter.{bumped}
+use Rattle.nic_device.specs.RegTable.Rows.{row_of}
+use Rattle.nic_device.specs.RegTable.declared.kind.Kind.TheVariants as kind
+use Rattle.nic_device.specs.RegTable.declared.kind.Kind.TheVariants.{Rc}
+use Rattle.nic_device.specs.RegTable.declared.place.Place.{Place}
+use Rattle.nic_device.specs.RegTable.declared.rows.RowId.{RowId}
+use Rattle.nic_device.specs.RegTable.declared.rows.RowId.TheVariants.{Mpc, Qprc, Rdh, Tdh, Rxdctl, Txdctl, Rqsmr, Tqsm, Vfgprc}
+use Rattle.nic_device.specs.IntrUnit.declared.group.Group.{Group}
+use Rattle.nic_device.specs.IntrUnit.declared.group.Group.TheVariants as group
+use Rattle.nic_device.specs.RegisterFile.Columns.{place}
+use Rattle.nic_device.specs.RegisterFile.Counters.{counted, counter_of}
+use Rattle.nic_device.specs.RegisterFile.Groups.{causes_raised}
+use Rattle.nic_device.specs.RegisterFile.Queue.{with_head, shut}
+use Rattle.nic_device.specs.RegisterFile.Registers.{Registers, word_of, with_word}
+use Rattle.nic_device.specs.RegisterFile.Words.{word_at, put}
+use Rattle.nic_device.specs.DmaRing.declared.dir.Dir.{Dir}
+use Rattle.nic_device.specs.DmaRing.declared.dir.Dir.TheVariants.{Rx, Tx}
+use Rattle.nic_device.specs.RegisterLaws.Footprint.{is_place, pending, is_pending}
+use Rattle.nic_device.specs.RegisterLaws.Sound.{HasShape}
+use Rattle.nic_device.proofs.RegisterLaws.Accessed.{none_pending}
+use Rattle.nic_device.proofs.RegisterLaws.Owners.{apart, is_place-itself, is_place-same}
+use Rattle.nic_device.proofs.RegisterLaws.Puts.{word_at-put_other}
+use Rattle.nic_device.proofs.RegisterLaws.ReadBack.{one_place}
+use Rattle.nic_device.proofs.RegisterLaws.Shape.{put_stands, HasShape-put}
+use Rattle.nic_device.proofs.RegisterLaws.Within.{within-causes_raised}
+use Rattle.nic_device.specs.RxRing.declared.filled.Filled.{Filled}
 use Rattle.device_laws.specs.Counting.{with_one}
 use Rattle.device_laws.proofs.FunctionCounts.{function_keeps}
 use Rattle.nic_device.specs.Interrupt.{function_of_queue, device_raised, raised_by, fault_cause, missed_cause}

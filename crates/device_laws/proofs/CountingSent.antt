@@ -1,22 +1,22 @@
 -- What a fetched slot counts.
 use Rattle.std.proofs.Common.{cond, ◌≡◌, ℕ, Bool, true, false, List, refl, ap, sym, ◌∙◌, arith, Option, Some, None}
 use Rattle.std.specs.Prelude.{◌||◌}
-use Rattle.reg_table.specs.Counter.{bumped}
-use Rattle.reg_table.specs.Rows.{row_of}
-use Rattle.reg_table.specs.declared.kind.Kind.TheVariants.{Rc}
-use Rattle.reg_table.specs.declared.place.Place.{Place}
-use Rattle.reg_table.specs.declared.rows.RowId.TheVariants.{Gptc, Qptc, Tdh, Vfgptc}
-use Rattle.register_file.specs.Columns.{place}
-use Rattle.register_file.specs.Counters.{counted, counter_of}
-use Rattle.register_file.specs.Queue.{with_head}
-use Rattle.register_file.specs.Registers.{Registers, word_of}
-use Rattle.register_file.specs.Words.{word_at}
-use Rattle.register_file.specs.declared.dir.Dir.TheVariants.{Tx}
-use Rattle.register_laws.specs.Footprint.{is_place}
-use Rattle.register_laws.specs.Sound.{HasShape}
-use Rattle.register_laws.proofs.Owners.{is_place-same}
-use Rattle.register_laws.proofs.Shape.{HasShape-put}
-use Rattle.tx_ring.specs.declared.fetched.Fetched.{Fetched}
+use Rattle.nic_device.specs.RegTable.Counter.{bumped}
+use Rattle.nic_device.specs.RegTable.Rows.{row_of}
+use Rattle.nic_device.specs.RegTable.declared.kind.Kind.TheVariants.{Rc}
+use Rattle.nic_device.specs.RegTable.declared.place.Place.{Place}
+use Rattle.nic_device.specs.RegTable.declared.rows.RowId.TheVariants.{Gptc, Qptc, Tdh, Vfgptc}
+use Rattle.nic_device.specs.RegisterFile.Columns.{place}
+use Rattle.nic_device.specs.RegisterFile.Counters.{counted, counter_of}
+use Rattle.nic_device.specs.RegisterFile.Queue.{with_head}
+use Rattle.nic_device.specs.RegisterFile.Registers.{Registers, word_of}
+use Rattle.nic_device.specs.RegisterFile.Words.{word_at}
+use Rattle.nic_device.specs.DmaRing.declared.dir.Dir.TheVariants.{Tx}
+use Rattle.nic_device.specs.RegisterLaws.Footprint.{is_place}
+use Rattle.nic_device.specs.RegisterLaws.Sound.{HasShape}
+use Rattle.nic_device.proofs.RegisterLaws.Owners.{is_place-same}
+use Rattle.nic_device.proofs.RegisterLaws.Shape.{HasShape-put}
+use Rattle.nic_device.specs.TxRing.declared.fetched.Fetched.{Fetched}
 use Rattle.device_laws.specs.Counting.{with_one, counts_sent}
 use Rattle.device_laws.proofs.FunctionCounts.{function_keeps}
 use Rattle.nic_device.specs.Interrupt.{function_of_queue, raised_by}

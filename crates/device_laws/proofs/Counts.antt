@@ -1,29 +1,29 @@
 -- Each event counts where its reply says, and nowhere else.
 use Rattle.std.proofs.Common.{◌≡◌, ℕ, List, [], ◌∷◌, length, refl, arith, Ok, Err, nat_lt}
 use Rattle.std.specs.Prelude.{Result, ◌&&◌, ◌==◌}
-use Rattle.dma_arena.specs.Block.{Block}
-use Rattle.dma_arena.specs.Memory.{Memory}
-use Rattle.dma_ring.specs.declared.fault.RingFault.{RingFault}
-use Rattle.reg_table.specs.Rows.{row_of}
-use Rattle.reg_table.specs.declared.kind.Kind.TheVariants as kind
-use Rattle.reg_table.specs.declared.place.Place.{Place}
-use Rattle.reg_table.specs.declared.rows.RowId.TheVariants.{Gprc, Ruc, Roc, Qprdc, Eerd}
-use Rattle.intr_unit.specs.declared.group.Group.TheVariants as group
-use Rattle.rx_filter.specs.Sorting.{sorted}
-use Rattle.rx_filter.specs.declared.target.Target.{Target}
-use Rattle.rx_filter.specs.declared.unwanted.Unwanted.{Unwanted}
-use Rattle.rx_filter.specs.declared.unwanted.Unwanted.TheVariants as unwanted
-use Rattle.rx_ring.specs.declared.filled.Filled.{Filled}
-use Rattle.rx_ring.specs.Fill.{fill_of}
-use Rattle.register_file.specs.Columns.{place}
-use Rattle.register_file.specs.Counters.{counter_of}
-use Rattle.register_file.specs.Settings.{is_stopped, can_receive, frame_limit, drops}
-use Rattle.register_file.specs.Words.{word_at}
-use Rattle.register_file.specs.declared.dir.Dir.TheVariants.{Rx, Tx}
-use Rattle.register_laws.specs.Sides.{receive_queue_of}
+use Rattle.nic_device.specs.DmaArena.Block.{Block}
+use Rattle.nic_device.specs.DmaArena.Memory.{Memory}
+use Rattle.nic_device.specs.DmaRing.declared.fault.RingFault.{RingFault}
+use Rattle.nic_device.specs.RegTable.Rows.{row_of}
+use Rattle.nic_device.specs.RegTable.declared.kind.Kind.TheVariants as kind
+use Rattle.nic_device.specs.RegTable.declared.place.Place.{Place}
+use Rattle.nic_device.specs.RegTable.declared.rows.RowId.TheVariants.{Gprc, Ruc, Roc, Qprdc, Eerd}
+use Rattle.nic_device.specs.IntrUnit.declared.group.Group.TheVariants as group
+use Rattle.nic_device.specs.RxFilter.Sorting.{sorted}
+use Rattle.nic_device.specs.RxFilter.declared.target.Target.{Target}
+use Rattle.nic_device.specs.RxFilter.declared.unwanted.Unwanted.{Unwanted}
+use Rattle.nic_device.specs.RxFilter.declared.unwanted.Unwanted.TheVariants as unwanted
+use Rattle.nic_device.specs.RxRing.declared.filled.Filled.{Filled}
+use Rattle.nic_device.specs.RxRing.Fill.{fill_of}
+use Rattle.nic_device.specs.RegisterFile.Columns.{place}
+use Rattle.nic_device.specs.RegisterFile.Counters.{counter_of}
+use Rattle.nic_device.specs.RegisterFile.Settings.{is_stopped, can_receive, frame_limit, drops}
+use Rattle.nic_device.specs.RegisterFile.Words.{word_at}
+use Rattle.nic_device.specs.DmaRing.declared.dir.Dir.TheVariants.{Rx, Tx}
+use Rattle.nic_device.specs.RegisterLaws.Sides.{receive_queue_of}
 use Rattle.nic_device.specs.Arrival.{arrived, sorted_in}
 use Rattle.device_laws.specs.Counting.{counts, with_one, EventsCount}
-use Rattle.register_file.specs.Pools.{mode_in}
+use Rattle.nic_device.specs.RegisterFile.Pools.{mode_in}
 use Rattle.nic_device.specs.Named.{named}
 use Rattle.nic_device.specs.Outcome.{Outcome}
 use Rattle.nic_device.specs.Receive as receive

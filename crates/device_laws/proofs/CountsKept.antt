@@ -2,26 +2,26 @@
 use Rattle.std.proofs.Common.{◌≡◌, ◌≢◌, ◌∙◌, ℕ, false, cond, inl, inr, refl, ap, sym}
 use Rattle.std.specs.Prelude.{IsFalse}
 use Rattle.std.proofs.lemmas.Bool.{cases_Bool}
-use Rattle.reg_table.specs.Rows.{row_of}
-use Rattle.reg_table.specs.declared.kind.Kind.{Kind}
-use Rattle.reg_table.specs.declared.kind.Kind.TheVariants as kind
-use Rattle.reg_table.specs.declared.place.Place.{Place}
-use Rattle.register_file.specs.Access.{asks_reset, asks_pool_reset}
-use Rattle.reg_table.specs.declared.bank.Bank.{Bank}
-use Rattle.reg_table.specs.declared.bank.Bank.TheVariants as bank
-use Rattle.register_file.specs.Owner.{owner_in}
-use Rattle.vf_map.specs.Owner.{is_of_pool_by}
-use Rattle.vf_map.specs.declared.mode.Mode.{Mode}
+use Rattle.nic_device.specs.RegTable.Rows.{row_of}
+use Rattle.nic_device.specs.RegTable.declared.kind.Kind.{Kind}
+use Rattle.nic_device.specs.RegTable.declared.kind.Kind.TheVariants as kind
+use Rattle.nic_device.specs.RegTable.declared.place.Place.{Place}
+use Rattle.nic_device.specs.RegisterFile.Access.{asks_reset, asks_pool_reset}
+use Rattle.nic_device.specs.RegTable.declared.bank.Bank.{Bank}
+use Rattle.nic_device.specs.RegTable.declared.bank.Bank.TheVariants as bank
+use Rattle.nic_device.specs.RegisterFile.Owner.{owner_in}
+use Rattle.nic_device.specs.VfMap.Owner.{is_of_pool_by}
+use Rattle.nic_device.specs.VfMap.declared.mode.Mode.{Mode}
 use Rattle.nic_device.proofs.Cases.{either_way}
-use Rattle.register_file.specs.Owner.{owner_of, is_owner}
-use Rattle.register_file.specs.declared.dir.Dir.{Dir}
-use Rattle.register_file.specs.declared.dir.Dir.TheVariants.{Rx, Tx}
-use Rattle.register_file.specs.declared.owner.Owner.TheVariants as owner
-use Rattle.register_laws.specs.Footprint.{is_pending, is_place, of_write, read_by, written_by}
-use Rattle.register_laws.proofs.Accessed.{none_pending_of, none_written_by}
-use Rattle.register_laws.proofs.Owners.{is_place-same}
-use Rattle.register_laws.proofs.NoSide.{counters_own}
-use Rattle.register_laws.proofs.ReadBack.{one_place}
+use Rattle.nic_device.specs.RegisterFile.Owner.{owner_of, is_owner}
+use Rattle.nic_device.specs.DmaRing.declared.dir.Dir.{Dir}
+use Rattle.nic_device.specs.DmaRing.declared.dir.Dir.TheVariants.{Rx, Tx}
+use Rattle.nic_device.specs.RegisterFile.declared.owner.Owner.TheVariants as owner
+use Rattle.nic_device.specs.RegisterLaws.Footprint.{is_pending, is_place, of_write, read_by, written_by}
+use Rattle.nic_device.proofs.RegisterLaws.Accessed.{none_pending_of, none_written_by}
+use Rattle.nic_device.proofs.RegisterLaws.Owners.{is_place-same}
+use Rattle.nic_device.proofs.RegisterLaws.NoSide.{counters_own}
+use Rattle.nic_device.proofs.RegisterLaws.ReadBack.{one_place}
 use Rattle.nic_device.specs.Footprint.{Reach, read_reach, write_reach, reset_reach, below_reset_reach, switch_reach}
 use Rattle.nic_device.specs.declared.named.Named.{Named}
 use Rattle.nic_device.specs.declared.named.Named.TheVariants.{Nothing, Register}

@@ -2,11 +2,11 @@
 use Rattle.std.proofs.Common.{cond, ◌≡◌, ℕ, ◌<◌, ◌≤◌, ◌^◌, Bool, true, false, List, [], ◌∷◌, take, drop, refl, ap, sym, ◌∙◌, subst, nat_eq, arith}
 use Rattle.std.specs.Prelude.{⊤}
 use Rattle.std.proofs.lemmas.Bool.{eq-eqb, lt-ltb}
-use Rattle.dma_arena.specs.Block.{Block}
-use Rattle.dma_arena.specs.Memory.{Memory, read_at, AreApart}
-use Rattle.dma_ring.specs.Receive.{told_of}
-use Rattle.dma_ring.specs.declared.receive.Packet.{Packet}
-use Rattle.rx_ring.proofs.Fills.{driver_reads}
+use Rattle.nic_device.specs.DmaArena.Block.{Block}
+use Rattle.nic_device.specs.DmaArena.Memory.{Memory, read_at, AreApart}
+use Rattle.nic_device.specs.DmaRing.Receive.{told_of}
+use Rattle.nic_device.specs.DmaRing.declared.receive.Packet.{Packet}
+use Rattle.nic_device.proofs.RxRing.Fills.{driver_reads}
 use Rattle.nic_device.specs.State.{State, Waiting}
 use Rattle.nic_device.specs.Outcome.{gives}
 use Rattle.nic_device.specs.Receive.{received, first_received, packet_of}

@@ -2,19 +2,19 @@
 use Rattle.std.proofs.Common.{cond, ◌/◌, ◌≡◌, ◌+◌, ◌*◌, ◌^◌, ◌<◌, ℕ, Bool, true, false, length, refl, ap, ◌∙◌, arith, Option, Some, None}
 use Rattle.std.proofs.Math.Nat.{mod-eq_of_lt, mod-lt}
 use Rattle.std.proofs.lemmas.Nat.{and_mask}
-use Rattle.eeprom_image.specs.Bytes.{word_at as image_word}
-use Rattle.eeprom_image.specs.Image.{doublings}
-use Rattle.eeprom_image.proofs.Sizes.{doublings-is, doublings-few}
-use Rattle.reg_table.specs.Place.{view_among}
-use Rattle.reg_table.specs.Runs.{runs}
-use Rattle.reg_table.specs.declared.rows.RowId.TheVariants.{Eec, Eerd}
-use Rattle.reg_table.proofs.Finding.{found-named}
-use Rattle.register_file.specs.Bits.{has_bit}
-use Rattle.register_file.specs.Columns.{place}
-use Rattle.register_file.specs.Eeprom.{eeprom_index, eeprom_asked, eeprom_answered}
-use Rattle.register_file.specs.Registers.{word_of}
-use Rattle.register_file.specs.Settings.{is_stopped}
-use Rattle.register_laws.proofs.Shape.{put_stands}
+use Rattle.nic_device.specs.EepromImage.Bytes.{word_at as image_word}
+use Rattle.nic_device.specs.EepromImage.Image.{doublings}
+use Rattle.nic_device.proofs.EepromImage.Sizes.{doublings-is, doublings-few}
+use Rattle.nic_device.specs.RegTable.Place.{view_among}
+use Rattle.nic_device.specs.RegTable.Runs.{runs}
+use Rattle.nic_device.specs.RegTable.declared.rows.RowId.TheVariants.{Eec, Eerd}
+use Rattle.nic_device.proofs.RegTable.Finding.{found-named}
+use Rattle.nic_device.specs.RegisterFile.Bits.{has_bit}
+use Rattle.nic_device.specs.RegisterFile.Columns.{place}
+use Rattle.nic_device.specs.RegisterFile.Eeprom.{eeprom_index, eeprom_asked, eeprom_answered}
+use Rattle.nic_device.specs.RegisterFile.Registers.{word_of}
+use Rattle.nic_device.specs.RegisterFile.Settings.{is_stopped}
+use Rattle.nic_device.proofs.RegisterLaws.Shape.{put_stands}
 use Rattle.nic_device.specs.Access.{named_read}
 use Rattle.nic_device.specs.Named.{at_place}
 use Rattle.nic_device.specs.Eeprom.{word_answered}

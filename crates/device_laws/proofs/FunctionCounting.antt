@@ -2,34 +2,34 @@
 use Rattle.std.proofs.Common.{◌≡◌, ◌≢◌, ◌+◌, ◌%◌, ◌^◌, ◌<◌, ◌≤◌, ℕ, false, List, Option, Some, None, refl, ap, sym, ◌∙◌, arith}
 use Rattle.std.specs.Prelude.{◌&&◌, IfSome, nat_lt}
 use Rattle.std.proofs.lemmas.Bool.{cond_both, ltb-true}
-use Rattle.reg_table.specs.Rows.{row_of}
-use Rattle.reg_table.specs.declared.bank.Bank.TheVariants as bank
-use Rattle.reg_table.specs.declared.bank.Bank.TheVariants.{Counters, VfCounters}
-use Rattle.reg_table.specs.declared.place.Place.{Place}
-use Rattle.reg_table.specs.declared.rows.RowId.{RowId}
-use Rattle.reg_table.specs.declared.rows.RowId.TheVariants.{GcrExt, Gptc, Qprc, Qptc, Rdh, Tdh, Vfgprc, Vfgptc}
-use Rattle.intr_unit.specs.declared.group.Group.{Group}
-use Rattle.intr_unit.specs.declared.group.Group.TheVariants as group
-use Rattle.vf_map.specs.Pools.{mode_of, pool_of}
-use Rattle.register_file.specs.Columns.{place}
-use Rattle.register_file.specs.Counters.{counted, counter_of}
-use Rattle.register_file.specs.Groups.{causes_raised}
-use Rattle.register_file.specs.Owner.{owner_in, owner_of, is_owner}
-use Rattle.register_file.specs.Queue.{with_head, shut}
-use Rattle.register_file.specs.Registers.{Registers}
-use Rattle.register_file.specs.Words.{word_at}
-use Rattle.register_file.specs.declared.dir.Dir.{Dir}
-use Rattle.register_file.specs.declared.dir.Dir.TheVariants.{Rx, Tx}
-use Rattle.register_file.specs.declared.owner.Owner.{Owner}
-use Rattle.register_file.specs.declared.owner.Owner.TheVariants as owner
-use Rattle.register_laws.specs.Footprint.{is_place, pending}
-use Rattle.register_laws.specs.Sound.{HasShape}
-use Rattle.register_laws.proofs.Covers.{fails, covers-pending}
-use Rattle.register_laws.proofs.ReadBack.{one_place}
-use Rattle.register_laws.proofs.Shape.{HasShape-put}
-use Rattle.register_laws.proofs.Within.{within-causes_raised, within-counted, within-with_head, within-shut}
-use Rattle.rx_ring.specs.declared.filled.Filled.{Filled}
-use Rattle.tx_ring.specs.declared.fetched.Fetched.{Fetched}
+use Rattle.nic_device.specs.RegTable.Rows.{row_of}
+use Rattle.nic_device.specs.RegTable.declared.bank.Bank.TheVariants as bank
+use Rattle.nic_device.specs.RegTable.declared.bank.Bank.TheVariants.{Counters, VfCounters}
+use Rattle.nic_device.specs.RegTable.declared.place.Place.{Place}
+use Rattle.nic_device.specs.RegTable.declared.rows.RowId.{RowId}
+use Rattle.nic_device.specs.RegTable.declared.rows.RowId.TheVariants.{GcrExt, Gptc, Qprc, Qptc, Rdh, Tdh, Vfgprc, Vfgptc}
+use Rattle.nic_device.specs.IntrUnit.declared.group.Group.{Group}
+use Rattle.nic_device.specs.IntrUnit.declared.group.Group.TheVariants as group
+use Rattle.nic_device.specs.VfMap.Pools.{mode_of, pool_of}
+use Rattle.nic_device.specs.RegisterFile.Columns.{place}
+use Rattle.nic_device.specs.RegisterFile.Counters.{counted, counter_of}
+use Rattle.nic_device.specs.RegisterFile.Groups.{causes_raised}
+use Rattle.nic_device.specs.RegisterFile.Owner.{owner_in, owner_of, is_owner}
+use Rattle.nic_device.specs.RegisterFile.Queue.{with_head, shut}
+use Rattle.nic_device.specs.RegisterFile.Registers.{Registers}
+use Rattle.nic_device.specs.RegisterFile.Words.{word_at}
+use Rattle.nic_device.specs.DmaRing.declared.dir.Dir.{Dir}
+use Rattle.nic_device.specs.DmaRing.declared.dir.Dir.TheVariants.{Rx, Tx}
+use Rattle.nic_device.specs.RegisterFile.declared.owner.Owner.{Owner}
+use Rattle.nic_device.specs.RegisterFile.declared.owner.Owner.TheVariants as owner
+use Rattle.nic_device.specs.RegisterLaws.Footprint.{is_place, pending}
+use Rattle.nic_device.specs.RegisterLaws.Sound.{HasShape}
+use Rattle.nic_device.proofs.RegisterLaws.Covers.{fails, covers-pending}
+use Rattle.nic_device.proofs.RegisterLaws.ReadBack.{one_place}
+use Rattle.nic_device.proofs.RegisterLaws.Shape.{HasShape-put}
+use Rattle.nic_device.proofs.RegisterLaws.Within.{within-causes_raised, within-counted, within-with_head, within-shut}
+use Rattle.nic_device.specs.RxRing.declared.filled.Filled.{Filled}
+use Rattle.nic_device.specs.TxRing.declared.fetched.Fetched.{Fetched}
 use Rattle.nic_device.specs.Interrupt.{function_in, function_of_queue, function_counted, device_raised, raised_by, fault_cause}
 use Rattle.nic_device.specs.Receive.{frame_counted, piece_done}
 use Rattle.nic_device.specs.Sound.{IsSound}

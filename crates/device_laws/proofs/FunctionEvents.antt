@@ -2,28 +2,28 @@
 use Rattle.std.proofs.Common.{◌≡◌, ℕ, false, refl, ap, sym, ◌∙◌}
 use Rattle.std.specs.Prelude.{cond, ◌==◌, ◌&&◌, IsFalse}
 use Rattle.std.proofs.lemmas.Bool.{cond_both, or_parts}
-use Rattle.dma_arena.specs.Block.{Block}
-use Rattle.reg_table.specs.Rows.{row_of}
-use Rattle.reg_table.specs.declared.bank.Bank.TheVariants as bank
-use Rattle.reg_table.specs.declared.bank.Bank.TheVariants.{VfCounters}
-use Rattle.reg_table.specs.declared.place.Place.{Place}
-use Rattle.reg_table.specs.declared.rows.RowId.{RowId}
-use Rattle.reg_table.specs.declared.rows.RowId.TheVariants.{Eerd, Qprdc, Vfgprc, Vfgptc}
-use Rattle.intr_unit.specs.declared.group.Group.TheVariants as group
-use Rattle.vf_map.specs.Owner.{is_of_pool_by}
-use Rattle.vf_map.specs.declared.mode.Mode.{Mode}
-use Rattle.register_file.specs.Access.{asks_reset, asks_pool_reset}
-use Rattle.register_file.specs.Columns.{place}
-use Rattle.register_file.specs.Counters.{counter_of}
-use Rattle.register_file.specs.Owner.{owner_of}
-use Rattle.register_file.specs.Pools.{mode_in}
-use Rattle.register_file.specs.Words.{word_at}
-use Rattle.register_file.specs.declared.dir.Dir.{Dir}
-use Rattle.register_file.specs.declared.dir.Dir.TheVariants.{Rx, Tx}
-use Rattle.register_file.specs.declared.owner.Owner.TheVariants as owner
-use Rattle.register_laws.specs.Footprint.{of_read, of_write}
-use Rattle.register_laws.proofs.Accessed.{covers-of_read, covers-of_write}
-use Rattle.register_laws.proofs.Covers.{fails}
+use Rattle.nic_device.specs.DmaArena.Block.{Block}
+use Rattle.nic_device.specs.RegTable.Rows.{row_of}
+use Rattle.nic_device.specs.RegTable.declared.bank.Bank.TheVariants as bank
+use Rattle.nic_device.specs.RegTable.declared.bank.Bank.TheVariants.{VfCounters}
+use Rattle.nic_device.specs.RegTable.declared.place.Place.{Place}
+use Rattle.nic_device.specs.RegTable.declared.rows.RowId.{RowId}
+use Rattle.nic_device.specs.RegTable.declared.rows.RowId.TheVariants.{Eerd, Qprdc, Vfgprc, Vfgptc}
+use Rattle.nic_device.specs.IntrUnit.declared.group.Group.TheVariants as group
+use Rattle.nic_device.specs.VfMap.Owner.{is_of_pool_by}
+use Rattle.nic_device.specs.VfMap.declared.mode.Mode.{Mode}
+use Rattle.nic_device.specs.RegisterFile.Access.{asks_reset, asks_pool_reset}
+use Rattle.nic_device.specs.RegisterFile.Columns.{place}
+use Rattle.nic_device.specs.RegisterFile.Counters.{counter_of}
+use Rattle.nic_device.specs.RegisterFile.Owner.{owner_of}
+use Rattle.nic_device.specs.RegisterFile.Pools.{mode_in}
+use Rattle.nic_device.specs.RegisterFile.Words.{word_at}
+use Rattle.nic_device.specs.DmaRing.declared.dir.Dir.{Dir}
+use Rattle.nic_device.specs.DmaRing.declared.dir.Dir.TheVariants.{Rx, Tx}
+use Rattle.nic_device.specs.RegisterFile.declared.owner.Owner.TheVariants as owner
+use Rattle.nic_device.specs.RegisterLaws.Footprint.{of_read, of_write}
+use Rattle.nic_device.proofs.RegisterLaws.Accessed.{covers-of_read, covers-of_write}
+use Rattle.nic_device.proofs.RegisterLaws.Covers.{fails}
 use Rattle.nic_device.specs.Footprint.{Reach, read_reach, write_reach, reset_reach, below_reset_reach, pool_reach, in_registers, switch_reach}
 use Rattle.nic_device.specs.Named.{named}
 use Rattle.nic_device.specs.Outcome.{Outcome}

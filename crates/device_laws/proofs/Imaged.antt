@@ -1,17 +1,17 @@
 -- A reset by one image, and by one with one register write more.
 use Rattle.std.proofs.Common.{cond, ◌≡◌, ◌≢◌, ◌⊎◌, inl, inr, ℕ, Bool, true, false, List, [], ◌∷◌, refl, ap, sym, ◌∙◌, Option, Some, None}
 use Rattle.std.proofs.lemmas.List.Sums.{fold-append}
-use Rattle.eeprom_image.specs.Triples.{triples_of}
-use Rattle.reg_table.specs.Place.{place_among, view_among}
-use Rattle.reg_table.specs.Runs.{runs}
-use Rattle.reg_table.specs.declared.place.Place.{Place}
-use Rattle.reg_table.specs.declared.rows.RowId.{RowId}
-use Rattle.reg_table.specs.declared.rows.RowId.TheVariants.{Ctrl, Eerd}
-use Rattle.reg_table.proofs.Finding.{found-named}
+use Rattle.nic_device.specs.EepromImage.Triples.{triples_of}
+use Rattle.nic_device.specs.RegTable.Place.{place_among, view_among}
+use Rattle.nic_device.specs.RegTable.Runs.{runs}
+use Rattle.nic_device.specs.RegTable.declared.place.Place.{Place}
+use Rattle.nic_device.specs.RegTable.declared.rows.RowId.{RowId}
+use Rattle.nic_device.specs.RegTable.declared.rows.RowId.TheVariants.{Ctrl, Eerd}
+use Rattle.nic_device.proofs.RegTable.Finding.{found-named}
 use Rattle.nic_device.specs.Access.{named_written}
 use Rattle.nic_device.specs.Named.{at_place}
-use Rattle.reg_table.specs.Rows.{row_of}
-use Rattle.register_file.specs.Access.{asks_pool_reset, written}
+use Rattle.nic_device.specs.RegTable.Rows.{row_of}
+use Rattle.nic_device.specs.RegisterFile.Access.{asks_pool_reset, written}
 use Rattle.nic_device.specs.PoolReset.{with_pool_reset, written_below_reset}
 use Rattle.nic_device.specs.Eeprom.{is_stepped_over, triple_written, with_triple, with_triples, reset}
 use Rattle.nic_device.specs.State.{State, cleared}

@@ -1,9 +1,9 @@
 -- The frame limit and the mode stand.
 use Rattle.std.proofs.Common.{◌≡◌, ℕ, refl, ap, subst}
-use Rattle.dma_arena.specs.Block.{Block}
-use Rattle.reg_table.specs.declared.place.Place.{Place}
-use Rattle.reg_table.specs.declared.rows.RowId.TheVariants.{Hlreg0, Maxfrs, GcrExt}
-use Rattle.vf_map.specs.Pools.{mode_of}
+use Rattle.nic_device.specs.DmaArena.Block.{Block}
+use Rattle.nic_device.specs.RegTable.declared.place.Place.{Place}
+use Rattle.nic_device.specs.RegTable.declared.rows.RowId.TheVariants.{Hlreg0, Maxfrs, GcrExt}
+use Rattle.nic_device.specs.VfMap.Pools.{mode_of}
 use Rattle.device_laws.specs.Laws.{IsOfNoSetting, WritesNoSetting, OtherEventsKeepSettings}
 use Rattle.nic_device.specs.Named.{named}
 use Rattle.nic_device.specs.State.{State}

@@ -2,22 +2,22 @@
 use Rattle.std.proofs.Common.{◌≡◌, ℕ, ◌<◌, Bool, true, false, cond, subst, Option, Some, None, refl, ap, sym, ◌∙◌, arith}
 use Rattle.std.specs.Prelude.{is_some, nat_lt}
 use Rattle.std.proofs.lemmas.Bool.{and_parts, ltb-true}
-use Rattle.reg_table.specs.declared.rows.RowId.TheVariants.{IvarMisc}
-use Rattle.intr_unit.specs.Interrupts.{after_message, after_message_of, next_bit}
-use Rattle.intr_unit.specs.Laws.{Leaves, told_bits}
-use Rattle.intr_unit.specs.declared.group.Group.{Group}
-use Rattle.intr_unit.specs.declared.group.Group.TheVariants.{Pf, Vf}
-use Rattle.intr_unit.proofs.MessageLaws.{messages_tell, messages_change}
-use Rattle.vf_map.specs.Pools.{queues_of}
-use Rattle.register_file.specs.Groups.{index_of, interrupts_of, with_interrupts, message_of, message_made, masks_by_message}
-use Rattle.register_file.specs.Pools.{mode_in}
-use Rattle.register_file.specs.Registers.{Registers, word_of}
-use Rattle.register_file.specs.Settings.{is_stopped}
-use Rattle.register_file.proofs.Own.{intersection-lt}
-use Rattle.register_laws.proofs.Settled.{settled-after_message_of}
-use Rattle.register_laws.specs.Sound.{HasShape}
-use Rattle.register_laws.proofs.Standing.{interrupts_of-with_interrupts}
-use Rattle.register_laws.proofs.GroupChanges.{settled}
+use Rattle.nic_device.specs.RegTable.declared.rows.RowId.TheVariants.{IvarMisc}
+use Rattle.nic_device.specs.IntrUnit.Interrupts.{after_message, after_message_of, next_bit}
+use Rattle.nic_device.specs.IntrUnit.Laws.{Leaves, told_bits}
+use Rattle.nic_device.specs.IntrUnit.declared.group.Group.{Group}
+use Rattle.nic_device.specs.IntrUnit.declared.group.Group.TheVariants.{Pf, Vf}
+use Rattle.nic_device.proofs.IntrUnit.MessageLaws.{messages_tell, messages_change}
+use Rattle.nic_device.specs.VfMap.Pools.{queues_of}
+use Rattle.nic_device.specs.RegisterFile.Groups.{index_of, interrupts_of, with_interrupts, message_of, message_made, masks_by_message}
+use Rattle.nic_device.specs.RegisterFile.Pools.{mode_in}
+use Rattle.nic_device.specs.RegisterFile.Registers.{Registers, word_of}
+use Rattle.nic_device.specs.RegisterFile.Settings.{is_stopped}
+use Rattle.nic_device.proofs.RegisterFile.Own.{intersection-lt}
+use Rattle.nic_device.proofs.RegisterLaws.Settled.{settled-after_message_of}
+use Rattle.nic_device.specs.RegisterLaws.Sound.{HasShape}
+use Rattle.nic_device.proofs.RegisterLaws.Standing.{interrupts_of-with_interrupts}
+use Rattle.nic_device.proofs.RegisterLaws.GroupChanges.{settled}
 use Rattle.nic_device.specs.Interrupt.{has_group, message_reply, messaged}
 use Rattle.nic_device.specs.Outcome.{Outcome, gives}
 use Rattle.nic_device.specs.Sound.{IsSound}

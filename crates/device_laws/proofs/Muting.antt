@@ -1,8 +1,8 @@
 -- A queue whose pool doesn't send.
 use Rattle.std.proofs.Common.{◌≡◌, true, cond, not, ◌||◌, ap, ◌∙◌}
 use Rattle.std.proofs.lemmas.Bool.{and_from, or_left, or_right, lt-ltb}
-use Rattle.register_file.specs.Settings.{is_stopped, can_transmit}
-use Rattle.register_laws.specs.Sides.{transmit_queue_of}
+use Rattle.nic_device.specs.RegisterFile.Settings.{is_stopped, can_transmit}
+use Rattle.nic_device.specs.RegisterLaws.Sides.{transmit_queue_of}
 use Rattle.nic_device.specs.Outcome.{gives}
 use Rattle.nic_device.specs.Receive.{is_empty}
 use Rattle.nic_device.specs.Step.{step_of}

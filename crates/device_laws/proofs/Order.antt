@@ -3,9 +3,9 @@ use Rattle.std.proofs.Common.{cond, ◌≡◌, Bool, true, false, List, ◌∷�
 use Rattle.std.specs.Prelude.{Result, ◌&&◌, ◌==◌}
 use Rattle.std.proofs.Math.Bool.{and-false}
 use Rattle.std.proofs.lemmas.Bool.{and_from, eq-eqb, ne_eqb}
-use Rattle.dma_ring.specs.declared.fault.RingFault.{RingFault}
-use Rattle.rx_ring.specs.declared.filled.Filled.{Filled}
-use Rattle.register_file.specs.Settings.{is_stopped, drops}
+use Rattle.nic_device.specs.DmaRing.declared.fault.RingFault.{RingFault}
+use Rattle.nic_device.specs.RxRing.declared.filled.Filled.{Filled}
+use Rattle.nic_device.specs.RegisterFile.Settings.{is_stopped, drops}
 use Rattle.device_laws.specs.Order.{side_for, filling, ReceivingHasAnOrder, NothingWaitsIsIdle}
 use Rattle.nic_device.specs.Outcome.{Outcome, gives}
 use Rattle.nic_device.specs.Receive.{received, first_received, without_slot, slot_filled, slot_done, is_empty, slotless_counted}

@@ -1,22 +1,22 @@
 -- Two states that agree on a pool answer alike to its virtual function, and agree on it again.
 use Rattle.std.proofs.Common.{◌≡◌, ℕ, Bool, true, false, [], refl, ap, sym, ◌∙◌, subst}
 use Rattle.std.specs.Prelude.{cond}
-use Rattle.reg_table.specs.Rows.{row_of}
-use Rattle.reg_table.specs.declared.place.Place.{Place}
-use Rattle.vf_map.specs.Map.{located}
-use Rattle.vf_map.specs.Owner.{has_queue}
-use Rattle.vf_map.specs.Pools.{mode_of}
-use Rattle.vf_map.specs.declared.located.Located.{Located}
-use Rattle.vf_map.specs.declared.located.Located.TheVariants as located_as
-use Rattle.vf_map.specs.declared.mode.Mode.{Mode}
-use Rattle.register_file.specs.Access.{asks_pool_reset}
-use Rattle.register_file.specs.Pools.{mode_in}
-use Rattle.register_file.specs.PoolReset.{pool_reset}
-use Rattle.register_laws.specs.Footprint.{AgreeWithin, of_pool}
-use Rattle.register_laws.specs.Laws.{after_write as word_written}
-use Rattle.register_laws.proofs.PoolAfterReset.{agree-reset}
-use Rattle.register_laws.proofs.PoolAgreement.{agree-write}
-use Rattle.register_laws.proofs.PoolPlaces.{shared-written}
+use Rattle.nic_device.specs.RegTable.Rows.{row_of}
+use Rattle.nic_device.specs.RegTable.declared.place.Place.{Place}
+use Rattle.nic_device.specs.VfMap.Map.{located}
+use Rattle.nic_device.specs.VfMap.Owner.{has_queue}
+use Rattle.nic_device.specs.VfMap.Pools.{mode_of}
+use Rattle.nic_device.specs.VfMap.declared.located.Located.{Located}
+use Rattle.nic_device.specs.VfMap.declared.located.Located.TheVariants as located_as
+use Rattle.nic_device.specs.VfMap.declared.mode.Mode.{Mode}
+use Rattle.nic_device.specs.RegisterFile.Access.{asks_pool_reset}
+use Rattle.nic_device.specs.RegisterFile.Pools.{mode_in}
+use Rattle.nic_device.specs.RegisterFile.PoolReset.{pool_reset}
+use Rattle.nic_device.specs.RegisterLaws.Footprint.{AgreeWithin, of_pool}
+use Rattle.nic_device.specs.RegisterLaws.Laws.{after_write as word_written}
+use Rattle.nic_device.proofs.RegisterLaws.PoolAfterReset.{agree-reset}
+use Rattle.nic_device.proofs.RegisterLaws.PoolAgreement.{agree-write}
+use Rattle.nic_device.proofs.RegisterLaws.PoolPlaces.{shared-written}
 use Rattle.nic_device.specs.Access.{named_read, named_written, state_written}
 use Rattle.nic_device.specs.Named.{at_location}
 use Rattle.nic_device.specs.PoolReset.{with_pool_reset, written_below_reset}

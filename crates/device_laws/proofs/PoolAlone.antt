@@ -1,24 +1,24 @@
 -- An access of a virtual function changes nothing but what is its pool's.
 use Rattle.std.proofs.Common.{◌≡◌, ◌≢◌, ℕ, true, false, refl, ap, sym, ◌∙◌, subst, inl, inr}
 use Rattle.std.proofs.lemmas.Bool.{cond_both, cond-false, eqb-true}
-use Rattle.reg_table.specs.Rows.{row_of}
-use Rattle.reg_table.specs.declared.place.Place.{Place}
-use Rattle.reg_table.specs.declared.rows.RowId.{RowId}
-use Rattle.reg_table.specs.declared.rows.RowId.TheVariants as row
-use Rattle.vf_map.specs.Map.{located}
-use Rattle.vf_map.specs.Owner.{is_of_pool, is_of_pool_by, is_shared}
-use Rattle.vf_map.specs.declared.located.Located.{Located}
-use Rattle.vf_map.specs.declared.located.Located.TheVariants as located_as
-use Rattle.vf_map.specs.declared.mode.Mode.{Mode}
-use Rattle.vf_map.proofs.Owners.{located_owner}
-use Rattle.register_file.specs.Access.{after_read, asks_reset, asks_pool_reset}
-use Rattle.register_file.specs.Pools.{mode_in}
-use Rattle.register_file.specs.Registers.{Registers}
-use Rattle.register_laws.specs.Laws.{after_write as word_written}
-use Rattle.register_laws.specs.Footprint.{ChangesWithin, of_pool, of_read, of_write}
-use Rattle.register_laws.proofs.Footprints.{within-refl, within-wider}
-use Rattle.register_laws.proofs.PoolPlaces.{covers-read, covers-write, shared_rows, shared-read, shared-written}
-use Rattle.register_laws.proofs.Within.{within-after_read, within-written}
+use Rattle.nic_device.specs.RegTable.Rows.{row_of}
+use Rattle.nic_device.specs.RegTable.declared.place.Place.{Place}
+use Rattle.nic_device.specs.RegTable.declared.rows.RowId.{RowId}
+use Rattle.nic_device.specs.RegTable.declared.rows.RowId.TheVariants as row
+use Rattle.nic_device.specs.VfMap.Map.{located}
+use Rattle.nic_device.specs.VfMap.Owner.{is_of_pool, is_of_pool_by, is_shared}
+use Rattle.nic_device.specs.VfMap.declared.located.Located.{Located}
+use Rattle.nic_device.specs.VfMap.declared.located.Located.TheVariants as located_as
+use Rattle.nic_device.specs.VfMap.declared.mode.Mode.{Mode}
+use Rattle.nic_device.proofs.VfMap.Owners.{located_owner}
+use Rattle.nic_device.specs.RegisterFile.Access.{after_read, asks_reset, asks_pool_reset}
+use Rattle.nic_device.specs.RegisterFile.Pools.{mode_in}
+use Rattle.nic_device.specs.RegisterFile.Registers.{Registers}
+use Rattle.nic_device.specs.RegisterLaws.Laws.{after_write as word_written}
+use Rattle.nic_device.specs.RegisterLaws.Footprint.{ChangesWithin, of_pool, of_read, of_write}
+use Rattle.nic_device.proofs.RegisterLaws.Footprints.{within-refl, within-wider}
+use Rattle.nic_device.proofs.RegisterLaws.PoolPlaces.{covers-read, covers-write, shared_rows, shared-read, shared-written}
+use Rattle.nic_device.proofs.RegisterLaws.Within.{within-after_read, within-written}
 use Rattle.nic_device.specs.Access.{named_read, named_written, state_written}
 use Rattle.nic_device.specs.Eeprom.{reset}
 use Rattle.nic_device.specs.Named.{at_location}

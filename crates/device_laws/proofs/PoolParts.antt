@@ -3,11 +3,11 @@ use Rattle.std.proofs.Common.{◌≡◌, ◌≢◌, ◌≤◌, ◌<◌, ◌+◌,
 use Rattle.std.specs.Prelude.{filter, not, slice_set, ◌==◌}
 use Rattle.std.proofs.lemmas.Bool.{cases_Bool, cond-true, cond-false, eqb-true, eq-eqb, both_ways, not_from_true, not_from_false}
 use Rattle.std.proofs.lemmas.List.{get_or-set_other}
-use Rattle.vf_map.specs.Laws.{IsAmong}
-use Rattle.vf_map.specs.Owner.{is_pool, has_queue}
-use Rattle.vf_map.specs.Pools.{pool_of, queues_of}
-use Rattle.vf_map.specs.declared.mode.Mode.{Mode}
-use Rattle.vf_map.proofs.Inverse.{inverse}
+use Rattle.nic_device.specs.VfMap.Laws.{IsAmong}
+use Rattle.nic_device.specs.VfMap.Owner.{is_pool, has_queue}
+use Rattle.nic_device.specs.VfMap.Pools.{pool_of, queues_of}
+use Rattle.nic_device.specs.VfMap.declared.mode.Mode.{Mode}
+use Rattle.nic_device.proofs.VfMap.Inverse.{inverse}
 use Rattle.nic_device.specs.PoolReset.{unstaged, pool_unstaged, others_waiting}
 use Rattle.nic_device.specs.State.{Waiting}
 use Rattle.device_laws.specs.Pool.{waiting_of}

@@ -1,29 +1,29 @@
 -- Two states that agree on a pool answer alike to a read of its virtual function, and agree on it again.
 use Rattle.std.proofs.Common.{◌≡◌, ◌≢◌, ℕ, true, false, refl, ap, sym, ◌∙◌, subst}
 use Rattle.std.specs.Prelude.{cond, bit_and}
-use Rattle.reg_table.specs.Rows.{row_of}
-use Rattle.reg_table.specs.declared.kind.Kind.{Kind}
-use Rattle.reg_table.specs.declared.kind.Kind.TheVariants as kind
-use Rattle.reg_table.specs.declared.place.Place.{Place}
-use Rattle.reg_table.specs.declared.rows.RowId.{RowId}
-use Rattle.reg_table.specs.declared.rows.RowId.TheVariants as row
-use Rattle.vf_map.specs.Map.{located}
-use Rattle.vf_map.specs.Owner.{is_of_pool_by, is_of_pool, has_queue}
-use Rattle.vf_map.specs.Pools.{mode_of}
-use Rattle.vf_map.specs.declared.located.Located.{Located}
-use Rattle.vf_map.specs.declared.located.Located.TheVariants as located_as
-use Rattle.vf_map.specs.declared.mode.Mode.{Mode}
-use Rattle.register_file.specs.Access.{read_word, calculated}
-use Rattle.register_file.specs.Bits.{has_bit}
-use Rattle.register_file.specs.Columns.{place}
-use Rattle.register_file.specs.Pools.{mode_in}
-use Rattle.register_file.specs.Registers.{Registers}
-use Rattle.register_file.specs.declared.surroundings.Surroundings.{Surroundings}
-use Rattle.register_laws.specs.Agreement.{told_at}
-use Rattle.register_laws.specs.Footprint.{AgreeWithin, of_pool}
-use Rattle.register_laws.proofs.PoolAgreement.{agree-read}
-use Rattle.register_laws.proofs.PoolPlaces.{shared_rows, shared-read}
-use Rattle.register_laws.proofs.PoolReads.{same_shared, same_told}
+use Rattle.nic_device.specs.RegTable.Rows.{row_of}
+use Rattle.nic_device.specs.RegTable.declared.kind.Kind.{Kind}
+use Rattle.nic_device.specs.RegTable.declared.kind.Kind.TheVariants as kind
+use Rattle.nic_device.specs.RegTable.declared.place.Place.{Place}
+use Rattle.nic_device.specs.RegTable.declared.rows.RowId.{RowId}
+use Rattle.nic_device.specs.RegTable.declared.rows.RowId.TheVariants as row
+use Rattle.nic_device.specs.VfMap.Map.{located}
+use Rattle.nic_device.specs.VfMap.Owner.{is_of_pool_by, is_of_pool, has_queue}
+use Rattle.nic_device.specs.VfMap.Pools.{mode_of}
+use Rattle.nic_device.specs.VfMap.declared.located.Located.{Located}
+use Rattle.nic_device.specs.VfMap.declared.located.Located.TheVariants as located_as
+use Rattle.nic_device.specs.VfMap.declared.mode.Mode.{Mode}
+use Rattle.nic_device.specs.RegisterFile.Access.{read_word, calculated}
+use Rattle.nic_device.specs.RegisterFile.Bits.{has_bit}
+use Rattle.nic_device.specs.RegisterFile.Columns.{place}
+use Rattle.nic_device.specs.RegisterFile.Pools.{mode_in}
+use Rattle.nic_device.specs.RegisterFile.Registers.{Registers}
+use Rattle.nic_device.specs.RegisterFile.declared.surroundings.Surroundings.{Surroundings}
+use Rattle.nic_device.specs.RegisterLaws.Agreement.{told_at}
+use Rattle.nic_device.specs.RegisterLaws.Footprint.{AgreeWithin, of_pool}
+use Rattle.nic_device.proofs.RegisterLaws.PoolAgreement.{agree-read}
+use Rattle.nic_device.proofs.RegisterLaws.PoolPlaces.{shared_rows, shared-read}
+use Rattle.nic_device.proofs.RegisterLaws.PoolReads.{same_shared, same_told}
 use Rattle.nic_device.specs.Access.{around, named_read, state_read, word_read}
 use Rattle.nic_device.specs.Named.{at_location}
 use Rattle.nic_device.specs.Sound.{IsSound}

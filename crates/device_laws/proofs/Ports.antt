@@ -1,12 +1,12 @@
 -- What virtual functions reach is what the physical function reaches at the mapped address.
 use Rattle.std.proofs.Common.{◌≡◌, ℕ, Some, ap, sym, ◌∙◌}
-use Rattle.reg_table.specs.Place.{view_among}
-use Rattle.reg_table.specs.Runs.{runs}
-use Rattle.reg_table.proofs.FirstAddresses.{found_back}
-use Rattle.reg_table.proofs.FirstViews.{first_view}
-use Rattle.vf_map.specs.Map.{located, mapped}
-use Rattle.vf_map.specs.declared.mapped.Mapped.TheVariants as mapped_as
-use Rattle.vf_map.proofs.Reached.{mapped_from, located_hole, located_absent}
+use Rattle.nic_device.specs.RegTable.Place.{view_among}
+use Rattle.nic_device.specs.RegTable.Runs.{runs}
+use Rattle.nic_device.proofs.RegTable.FirstAddresses.{found_back}
+use Rattle.nic_device.proofs.RegTable.FirstViews.{first_view}
+use Rattle.nic_device.specs.VfMap.Map.{located, mapped}
+use Rattle.nic_device.specs.VfMap.declared.mapped.Mapped.TheVariants as mapped_as
+use Rattle.nic_device.proofs.VfMap.Reached.{mapped_from, located_hole, located_absent}
 use Rattle.nic_device.specs.Access.{named_read, named_written}
 use Rattle.nic_device.specs.Interrupt.{mode_in}
 use Rattle.nic_device.specs.Named.{named, at_place, at_location}

@@ -1,8 +1,8 @@
 -- The frames out after each event, and misaligned accesses.
 use Rattle.std.proofs.Common.{cond, ◌≡◌, ◌%◌, ℕ, List, refl, ap, false, [], ◌∷◌, Option, Some, None}
 use Rattle.std.proofs.lemmas.Bool.{ne_eqb}
-use Rattle.dma_arena.specs.Memory.{is_lent, read_at, write_at}
-use Rattle.tx_ring.specs.declared.fetched.Fetched.{Fetched}
+use Rattle.nic_device.specs.DmaArena.Memory.{is_lent, read_at, write_at}
+use Rattle.nic_device.specs.TxRing.declared.fetched.Fetched.{Fetched}
 use Rattle.nic_device.specs.Footprint.{Reach, write_reach}
 use Rattle.nic_device.specs.Link.{oldest_collected}
 use Rattle.nic_device.specs.Named.{named}
@@ -11,8 +11,8 @@ use Rattle.device_laws.specs.Replies.{out_sent, out_collected, EventsMoveFramesO
 use Rattle.nic_device.specs.State.{State}
 use Rattle.nic_device.specs.Step.{step_of}
 use Rattle.nic_device.specs.Transmit.{transmitted, fetched_reply, with_frame}
-use Rattle.register_file.specs.Pools.{mode_in}
-use Rattle.vf_map.specs.declared.mode.Mode.{Mode}
+use Rattle.nic_device.specs.RegisterFile.Pools.{mode_in}
+use Rattle.nic_device.specs.VfMap.declared.mode.Mode.{Mode}
 use Rattle.nic_device.proofs.Cases.{write_cases}
 use Rattle.nic_device.proofs.QueueCases.{transmitted_cases}
 use Rattle.device_laws.proofs.Standing.{stays_within}

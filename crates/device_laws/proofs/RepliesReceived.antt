@@ -1,22 +1,22 @@
 -- What a step of receiving tells of its queue.
 use Rattle.std.proofs.Common.{◌≡◌, ◌<◌, ℕ, List, ◌∷◌, refl, ap, sym, ◌∙◌, subst, arith}
 use Rattle.std.specs.Prelude.{⊤}
-use Rattle.dma_ring.specs.Ring.{slots_of}
-use Rattle.reg_table.specs.declared.rows.RowId.TheVariants.{Qprc, Vfgprc}
-use Rattle.intr_unit.specs.declared.group.Group.TheVariants as group
-use Rattle.rx_ring.specs.declared.filled.Filled.{Filled}
-use Rattle.rx_ring.proofs.Fills.{takes_piece}
-use Rattle.register_file.specs.Counters.{counter_of}
-use Rattle.register_file.specs.Queue.{ring_of, with_head, shut}
-use Rattle.register_file.specs.Registers.{Registers}
-use Rattle.register_file.specs.declared.dir.Dir.TheVariants.{Rx}
-use Rattle.register_laws.specs.Footprint.{ChangesWithin, pending}
-use Rattle.register_laws.specs.Sides.{receive_queue_of}
-use Rattle.register_laws.proofs.Footprints.{within-refl}
-use Rattle.register_laws.proofs.SideWords.{receive-with_head}
-use Rattle.register_laws.proofs.Stands.{receive_stands}
-use Rattle.register_laws.proofs.Switches.{receive-shut}
-use Rattle.register_laws.proofs.Within.{within-causes_raised}
+use Rattle.nic_device.specs.DmaRing.Ring.{slots_of}
+use Rattle.nic_device.specs.RegTable.declared.rows.RowId.TheVariants.{Qprc, Vfgprc}
+use Rattle.nic_device.specs.IntrUnit.declared.group.Group.TheVariants as group
+use Rattle.nic_device.specs.RxRing.declared.filled.Filled.{Filled}
+use Rattle.nic_device.proofs.RxRing.Fills.{takes_piece}
+use Rattle.nic_device.specs.RegisterFile.Counters.{counter_of}
+use Rattle.nic_device.specs.RegisterFile.Queue.{ring_of, with_head, shut}
+use Rattle.nic_device.specs.RegisterFile.Registers.{Registers}
+use Rattle.nic_device.specs.DmaRing.declared.dir.Dir.TheVariants.{Rx}
+use Rattle.nic_device.specs.RegisterLaws.Footprint.{ChangesWithin, pending}
+use Rattle.nic_device.specs.RegisterLaws.Sides.{receive_queue_of}
+use Rattle.nic_device.proofs.RegisterLaws.Footprints.{within-refl}
+use Rattle.nic_device.proofs.RegisterLaws.SideWords.{receive-with_head}
+use Rattle.nic_device.proofs.RegisterLaws.Stands.{receive_stands}
+use Rattle.nic_device.proofs.RegisterLaws.Switches.{receive-shut}
+use Rattle.nic_device.proofs.RegisterLaws.Within.{within-causes_raised}
 use Rattle.nic_device.specs.Footprint.{counts_and_causes}
 use Rattle.nic_device.specs.Interrupt.{raised_by, fault_cause}
 use Rattle.device_laws.specs.Leaving.{IsFirstFor}

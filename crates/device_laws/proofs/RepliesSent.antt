@@ -3,22 +3,22 @@ use Rattle.std.proofs.Common.{cond, ◌≡◌, ◌<◌, ℕ, List, [], refl, ap,
 use Rattle.std.specs.Prelude.{⊤}
 use Rattle.std.proofs.lemmas.Bool.{cases_Bool, ltb-true}
 use Rattle.std.proofs.lemmas.List.{get_or-set_same}
-use Rattle.dma_ring.specs.Ring.{slots_of}
-use Rattle.dma_ring.specs.declared.fault.RingFault.{RingFault}
-use Rattle.reg_table.specs.declared.rows.RowId.TheVariants.{Gptc, Qptc, Vfgptc}
-use Rattle.intr_unit.specs.declared.group.Group.TheVariants as group
-use Rattle.tx_ring.specs.declared.fetched.Fetched.{Fetched}
-use Rattle.tx_ring.proofs.Fetches.{takes_slot}
-use Rattle.register_file.specs.Counters.{counted, counter_of}
-use Rattle.register_file.specs.Queue.{ring_of, with_head, shut}
-use Rattle.register_file.specs.Registers.{Registers}
-use Rattle.register_file.specs.declared.dir.Dir.TheVariants.{Tx}
-use Rattle.register_laws.specs.Footprint.{ChangesWithin, pending}
-use Rattle.register_laws.specs.Sides.{transmit_queue_of}
-use Rattle.register_laws.proofs.SideWords.{transmit-with_head}
-use Rattle.register_laws.proofs.Stands.{transmit_stands}
-use Rattle.register_laws.proofs.Switches.{transmit-shut}
-use Rattle.register_laws.proofs.Within.{within-causes_raised}
+use Rattle.nic_device.specs.DmaRing.Ring.{slots_of}
+use Rattle.nic_device.specs.DmaRing.declared.fault.RingFault.{RingFault}
+use Rattle.nic_device.specs.RegTable.declared.rows.RowId.TheVariants.{Gptc, Qptc, Vfgptc}
+use Rattle.nic_device.specs.IntrUnit.declared.group.Group.TheVariants as group
+use Rattle.nic_device.specs.TxRing.declared.fetched.Fetched.{Fetched}
+use Rattle.nic_device.proofs.TxRing.Fetches.{takes_slot}
+use Rattle.nic_device.specs.RegisterFile.Counters.{counted, counter_of}
+use Rattle.nic_device.specs.RegisterFile.Queue.{ring_of, with_head, shut}
+use Rattle.nic_device.specs.RegisterFile.Registers.{Registers}
+use Rattle.nic_device.specs.DmaRing.declared.dir.Dir.TheVariants.{Tx}
+use Rattle.nic_device.specs.RegisterLaws.Footprint.{ChangesWithin, pending}
+use Rattle.nic_device.specs.RegisterLaws.Sides.{transmit_queue_of}
+use Rattle.nic_device.proofs.RegisterLaws.SideWords.{transmit-with_head}
+use Rattle.nic_device.proofs.RegisterLaws.Stands.{transmit_stands}
+use Rattle.nic_device.proofs.RegisterLaws.Switches.{transmit-shut}
+use Rattle.nic_device.proofs.RegisterLaws.Within.{within-causes_raised}
 use Rattle.nic_device.specs.Footprint.{counts_and_causes}
 use Rattle.nic_device.specs.Interrupt.{raised_by, fault_cause}
 use Rattle.nic_device.specs.Outcome.{Outcome, gives}

@@ -1,17 +1,17 @@
 -- Where a fetched slot is reported.
 use Rattle.std.proofs.Common.{cond, ◌≡◌, ◌^◌, ◌+◌, ◌*◌, ◌/◌, ℕ, Bool, true, false, refl, ap, sym, ◌∙◌, subst, inl, inr, Some, None, Result, Ok, Err}
 use Rattle.std.specs.Prelude.{⊤, unwrap_or}
-use Rattle.dma_ring.specs.Ring.{descriptor_address}
-use Rattle.dma_ring.specs.declared.fault.RingFault.{RingFault}
-use Rattle.reg_table.specs.declared.rows.RowId.TheVariants.{Tdwbal, Tdwbah}
-use Rattle.tx_ring.specs.Fetch as tx
-use Rattle.tx_ring.specs.declared.fetched.Fetched.{Fetched}
-use Rattle.tx_ring.proofs.Fetches.{takes_slot}
-use Rattle.register_file.specs.Bits.{has_bit}
-use Rattle.register_file.specs.Queue.{ring_of}
-use Rattle.register_file.specs.Registers.{word_of}
-use Rattle.register_file.specs.declared.dir.Dir.TheVariants.{Tx}
-use Rattle.register_laws.specs.Sides.{transmit_queue_of}
+use Rattle.nic_device.specs.DmaRing.Ring.{descriptor_address}
+use Rattle.nic_device.specs.DmaRing.declared.fault.RingFault.{RingFault}
+use Rattle.nic_device.specs.RegTable.declared.rows.RowId.TheVariants.{Tdwbal, Tdwbah}
+use Rattle.nic_device.specs.TxRing.Fetch as tx
+use Rattle.nic_device.specs.TxRing.declared.fetched.Fetched.{Fetched}
+use Rattle.nic_device.proofs.TxRing.Fetches.{takes_slot}
+use Rattle.nic_device.specs.RegisterFile.Bits.{has_bit}
+use Rattle.nic_device.specs.RegisterFile.Queue.{ring_of}
+use Rattle.nic_device.specs.RegisterFile.Registers.{word_of}
+use Rattle.nic_device.specs.DmaRing.declared.dir.Dir.TheVariants.{Tx}
+use Rattle.nic_device.specs.RegisterLaws.Sides.{transmit_queue_of}
 use Rattle.device_laws.specs.Replies.{report_of}
 use Rattle.nic_device.specs.State.{State}
 use Rattle.nic_device.proofs.QueueCases.{fetched_by}

@@ -4,13 +4,13 @@ use Rattle.std.specs.Prelude.{IsFalse}
 use Rattle.std.specs.Cmp.{nat_cmp_total}
 use Rattle.std.specs.FinMap as map
 use Rattle.std.proofs.lemmas.Bool.{ne_eqb}
-use Rattle.dma_arena.specs.Memory.{Memory}
-use Rattle.intr_unit.specs.declared.group.Group.{Group}
-use Rattle.register_file.specs.declared.dir.Dir.{Dir}
-use Rattle.register_file.specs.declared.dir.Dir.TheVariants.{Rx, Tx}
-use Rattle.register_laws.specs.Footprint.{Misses, of_side, of_group}
-use Rattle.register_laws.proofs.Stands.{receive_stands, transmit_stands, group_stands}
-use Rattle.register_laws.proofs.Covers.{misses-nothing}
+use Rattle.nic_device.specs.DmaArena.Memory.{Memory}
+use Rattle.nic_device.specs.IntrUnit.declared.group.Group.{Group}
+use Rattle.nic_device.specs.DmaRing.declared.dir.Dir.{Dir}
+use Rattle.nic_device.specs.DmaRing.declared.dir.Dir.TheVariants.{Rx, Tx}
+use Rattle.nic_device.specs.RegisterLaws.Footprint.{Misses, of_side, of_group}
+use Rattle.nic_device.proofs.RegisterLaws.Stands.{receive_stands, transmit_stands, group_stands}
+use Rattle.nic_device.proofs.RegisterLaws.Covers.{misses-nothing}
 use Rattle.nic_device.specs.Footprint.{Reach, StaysWithin}
 use Rattle.nic_device.specs.Step.{after}
 use Rattle.device_laws.specs.Leaving.{LeavesQueues, LeavesMissed, LeavesAllButMemory, EventStaysWithinReach, EventLeavesMissed, MemoryCallsLeaveTheRest, MemoryCallsLeaveOtherBlocks}

@@ -1,28 +1,28 @@
 -- What register accesses leave alone.
 use Rattle.std.proofs.Common.{◌≡◌, ◌≢◌, ℕ, false, refl, ap, ◌∙◌, subst, cond}
 use Rattle.std.specs.Prelude.{IsFalse}
-use Rattle.reg_table.specs.Rows.{row_of}
-use Rattle.reg_table.specs.declared.place.Place.{Place}
-use Rattle.intr_unit.specs.declared.group.Group.{Group}
-use Rattle.register_file.specs.Access.{asks_reset, asks_pool_reset}
-use Rattle.register_file.specs.Owner.{owner_of}
-use Rattle.register_file.specs.declared.dir.Dir.{Dir}
-use Rattle.register_file.specs.declared.dir.Dir.TheVariants.{Rx, Tx}
-use Rattle.register_file.specs.declared.owner.Owner.{Owner}
-use Rattle.register_file.specs.declared.owner.Owner.TheVariants as owner
-use Rattle.register_laws.specs.Footprint.{Misses, of_owner, of_side, of_group, of_read, of_write}
-use Rattle.register_laws.proofs.Covers.{misses-narrower, misses-owner, misses-nothing}
-use Rattle.register_laws.proofs.Accessed.{covers-of_read, covers-of_write}
-use Rattle.register_laws.proofs.NoSide.{read_misses_sides}
-use Rattle.register_laws.proofs.ReadBack.{owners_differ}
+use Rattle.nic_device.specs.RegTable.Rows.{row_of}
+use Rattle.nic_device.specs.RegTable.declared.place.Place.{Place}
+use Rattle.nic_device.specs.IntrUnit.declared.group.Group.{Group}
+use Rattle.nic_device.specs.RegisterFile.Access.{asks_reset, asks_pool_reset}
+use Rattle.nic_device.specs.RegisterFile.Owner.{owner_of}
+use Rattle.nic_device.specs.DmaRing.declared.dir.Dir.{Dir}
+use Rattle.nic_device.specs.DmaRing.declared.dir.Dir.TheVariants.{Rx, Tx}
+use Rattle.nic_device.specs.RegisterFile.declared.owner.Owner.{Owner}
+use Rattle.nic_device.specs.RegisterFile.declared.owner.Owner.TheVariants as owner
+use Rattle.nic_device.specs.RegisterLaws.Footprint.{Misses, of_owner, of_side, of_group, of_read, of_write}
+use Rattle.nic_device.proofs.RegisterLaws.Covers.{misses-narrower, misses-owner, misses-nothing}
+use Rattle.nic_device.proofs.RegisterLaws.Accessed.{covers-of_read, covers-of_write}
+use Rattle.nic_device.proofs.RegisterLaws.NoSide.{read_misses_sides}
+use Rattle.nic_device.proofs.RegisterLaws.ReadBack.{owners_differ}
 use Rattle.nic_device.specs.Footprint.{Reach, StaysWithin, in_registers, read_reach, write_reach, reset_reach, pool_reach, below_reset_reach}
 use Rattle.nic_device.specs.Named.{named}
 use Rattle.nic_device.specs.Step.{after}
 use Rattle.device_laws.specs.Leaving.{ReadLeavesTheRest, WriteLeavesTheRest, WriteLeavesMemory}
 use Rattle.nic_device.specs.State.{State}
 use Rattle.nic_device.proofs.Cases.{write_cases}
-use Rattle.register_file.specs.Pools.{mode_in}
-use Rattle.vf_map.specs.declared.mode.Mode.{Mode}
+use Rattle.nic_device.specs.RegisterFile.Pools.{mode_in}
+use Rattle.nic_device.specs.VfMap.declared.mode.Mode.{Mode}
 use Rattle.device_laws.proofs.Standing.{stays_within, missed, leaves_missed, same_memory}
 use Rattle.nic_device.specs.declared.event.Event.TheVariants as event
 use Rattle.nic_device.specs.declared.event.Port.{Port}

@@ -1,13 +1,13 @@
 -- What the steps of queues leave alone.
 use Rattle.std.proofs.Common.{◌≡◌, ◌≢◌, ℕ, false, List, [], ◌∷◌, refl, sym, inl, inr, ◌⊎◌, Option, Some, None}
 use Rattle.std.proofs.lemmas.Bool.{ne_eqb}
-use Rattle.dma_arena.specs.Block.{Block}
-use Rattle.dma_arena.specs.Memory.{Avoids}
-use Rattle.register_file.specs.declared.dir.Dir.TheVariants.{Rx, Tx}
-use Rattle.register_file.specs.declared.owner.Owner.TheVariants as owner
-use Rattle.register_laws.specs.Footprint.{Misses, of_side}
-use Rattle.register_laws.proofs.Footprints.{misses-owner}
-use Rattle.register_laws.proofs.Covers.{misses-nothing}
+use Rattle.nic_device.specs.DmaArena.Block.{Block}
+use Rattle.nic_device.specs.DmaArena.Memory.{Avoids}
+use Rattle.nic_device.specs.DmaRing.declared.dir.Dir.TheVariants.{Rx, Tx}
+use Rattle.nic_device.specs.RegisterFile.declared.owner.Owner.TheVariants as owner
+use Rattle.nic_device.specs.RegisterLaws.Footprint.{Misses, of_side}
+use Rattle.nic_device.proofs.RegisterLaws.Footprints.{misses-owner}
+use Rattle.nic_device.proofs.RegisterLaws.Covers.{misses-nothing}
 use Rattle.nic_device.specs.Footprint.{receive_reach, received_into, back_into, told_back, counts_and_causes}
 use Rattle.device_laws.specs.Leaving.{IsFirstFor, ReceivingLeavesTheRest, ReceivesOutside, ReceivingLeavesOtherBlocks, TransmittingLeavesTheRest, TransmittingLeavesOtherBlocks, SwitchingLeavesTheRest}
 use Rattle.nic_device.specs.State.{Waiting}

@@ -1,14 +1,14 @@
 -- What frames that arrive, messages, the link and frames out leave alone.
 use Rattle.std.proofs.Common.{◌≡◌, false, refl}
-use Rattle.intr_unit.specs.declared.group.Group.TheVariants as group
-use Rattle.register_file.specs.Columns.{place}
-use Rattle.register_file.specs.Owner.{is_owner}
-use Rattle.register_laws.specs.Footprint.{Misses, the_word, of_owner, counters, pending}
-use Rattle.reg_table.specs.declared.rows.RowId.TheVariants.{Eerd}
-use Rattle.register_file.specs.declared.owner.Owner.{Owner}
-use Rattle.register_file.specs.declared.owner.Owner.TheVariants as owner
-use Rattle.register_laws.proofs.Footprints.{misses-owner, misses-narrower, covers-the_word}
-use Rattle.register_laws.proofs.Covers.{misses-nothing}
+use Rattle.nic_device.specs.IntrUnit.declared.group.Group.TheVariants as group
+use Rattle.nic_device.specs.RegisterFile.Columns.{place}
+use Rattle.nic_device.specs.RegisterFile.Owner.{is_owner}
+use Rattle.nic_device.specs.RegisterLaws.Footprint.{Misses, the_word, of_owner, counters, pending}
+use Rattle.nic_device.specs.RegTable.declared.rows.RowId.TheVariants.{Eerd}
+use Rattle.nic_device.specs.RegisterFile.declared.owner.Owner.{Owner}
+use Rattle.nic_device.specs.RegisterFile.declared.owner.Owner.TheVariants as owner
+use Rattle.nic_device.proofs.RegisterLaws.Footprints.{misses-owner, misses-narrower, covers-the_word}
+use Rattle.nic_device.proofs.RegisterLaws.Covers.{misses-nothing}
 use Rattle.device_laws.specs.Leaving.{ArrivalLeavesTheRest, MessageLeavesTheRest, EepromStepLeavesTheRest, LinkLeavesTheRest, CollectingLeavesTheRest}
 use Rattle.device_laws.proofs.Missed.{misses-either, misses-other_group, pending-misses_side}
 use Rattle.device_laws.proofs.Standing.{stays_within, missed, same_memory, queues_stand}

@@ -1,18 +1,18 @@
 -- Which counters an event counts in, by its reply.
 use Rattle.std.specs.Prelude.{ℕ, ◌≡◌, ◌≢◌, Bool, false, ◌&&◌, ◌||◌, ⊤, IsFalse, List, [], ◌∷◌, if◌then◌else◌}
-use Rattle.dma_arena.specs.Block.{Block}
-use Rattle.reg_table.specs.Counter.{bumped}
-use Rattle.reg_table.specs.Rows.{row_of}
-use Rattle.reg_table.specs.declared.kind.Kind.TheVariants.{Rc}
-use Rattle.reg_table.specs.declared.place.Place.{Place}
-use Rattle.reg_table.specs.declared.rows.RowId.TheVariants.{Mpc, Gprc, Gptc, Ruc, Roc, Qprc, Qprdc, Qptc}
-use Rattle.register_file.specs.Access.{asks_reset}
-use Rattle.register_file.specs.Columns.{place}
-use Rattle.register_file.specs.Counters.{counter_of}
-use Rattle.register_file.specs.Registers.{Registers}
-use Rattle.register_file.specs.Words.{word_at}
-use Rattle.register_file.specs.declared.dir.Dir.TheVariants.{Rx, Tx}
-use Rattle.register_laws.specs.Footprint.{is_place}
+use Rattle.nic_device.specs.DmaArena.Block.{Block}
+use Rattle.nic_device.specs.RegTable.Counter.{bumped}
+use Rattle.nic_device.specs.RegTable.Rows.{row_of}
+use Rattle.nic_device.specs.RegTable.declared.kind.Kind.TheVariants.{Rc}
+use Rattle.nic_device.specs.RegTable.declared.place.Place.{Place}
+use Rattle.nic_device.specs.RegTable.declared.rows.RowId.TheVariants.{Mpc, Gprc, Gptc, Ruc, Roc, Qprc, Qprdc, Qptc}
+use Rattle.nic_device.specs.RegisterFile.Access.{asks_reset}
+use Rattle.nic_device.specs.RegisterFile.Columns.{place}
+use Rattle.nic_device.specs.RegisterFile.Counters.{counter_of}
+use Rattle.nic_device.specs.RegisterFile.Registers.{Registers}
+use Rattle.nic_device.specs.RegisterFile.Words.{word_at}
+use Rattle.nic_device.specs.DmaRing.declared.dir.Dir.TheVariants.{Rx, Tx}
+use Rattle.nic_device.specs.RegisterLaws.Footprint.{is_place}
 use Rattle.nic_device.specs.Step.{after, reply_to}
 use Rattle.nic_device.specs.Sound.{IsSound}
 use Rattle.nic_device.specs.State.{State, Waiting}

@@ -1,14 +1,14 @@
 -- What the EEPROM's image does at a reset, and how it is read.
 use Rattle.std.specs.Prelude.{ℕ, ◌≡◌, ◌≢◌, ◌⊎◌, ◌+◌, ◌*◌, ◌^◌, IsTrue, IsFalse, List, [], ◌∷◌, ◌++◌, length, Some, None}
-use Rattle.eeprom_image.specs.Bytes.{word_at}
-use Rattle.eeprom_image.specs.Triples.{triples_of}
-use Rattle.reg_table.specs.Place.{Names}
-use Rattle.reg_table.specs.Rows.{row_of}
-use Rattle.reg_table.specs.declared.place.Place.{Place}
-use Rattle.reg_table.specs.declared.rows.RowId.TheVariants.{Ctrl, Eerd}
-use Rattle.register_file.specs.Access.{asks_reset}
-use Rattle.register_file.specs.Eeprom.{eeprom_asked}
-use Rattle.register_file.specs.Settings.{is_stopped}
+use Rattle.nic_device.specs.EepromImage.Bytes.{word_at}
+use Rattle.nic_device.specs.EepromImage.Triples.{triples_of}
+use Rattle.nic_device.specs.RegTable.Place.{Names}
+use Rattle.nic_device.specs.RegTable.Rows.{row_of}
+use Rattle.nic_device.specs.RegTable.declared.place.Place.{Place}
+use Rattle.nic_device.specs.RegTable.declared.rows.RowId.TheVariants.{Ctrl, Eerd}
+use Rattle.nic_device.specs.RegisterFile.Access.{asks_reset}
+use Rattle.nic_device.specs.RegisterFile.Eeprom.{eeprom_asked}
+use Rattle.nic_device.specs.RegisterFile.Settings.{is_stopped}
 use Rattle.nic_device.specs.Outcome.{gives}
 use Rattle.nic_device.specs.Sound.{IsSound}
 use Rattle.nic_device.specs.State.{State}

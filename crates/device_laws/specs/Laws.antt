@@ -1,25 +1,25 @@
 -- What the device promises a driver author, whatever happened before. `view` is the bits that an address shows.
 use Rattle.std.specs.Prelude.{ℕ, ◌≡◌, ◌≢◌, ◌<◌, ◌==◌, Bool, ⊤, IsTrue, IsFalse, List, [], ◌∷◌, take, drop, bit_and, if◌then◌else◌}
-use Rattle.reg_table.specs.Rows.{row_of}
-use Rattle.reg_table.specs.Runs.{runs}
-use Rattle.reg_table.specs.Place.{Names, view_among}
-use Rattle.reg_table.specs.declared.place.Place.{Place}
-use Rattle.reg_table.specs.declared.kind.Kind.TheVariants.{Rw, Rc}
-use Rattle.reg_table.specs.declared.rows.RowId.TheVariants.{Ctrl, Hlreg0, Maxfrs, GcrExt}
-use Rattle.reg_table.specs.Counter.{bumped}
-use Rattle.dma_arena.specs.Block.{Block}
-use Rattle.dma_arena.specs.Memory.{read_at, AreApart}
-use Rattle.eeprom_image.specs.Triples.{triples_of}
-use Rattle.intr_unit.specs.BitSet.{IsSubset}
-use Rattle.intr_unit.specs.declared.group.Group.{Group}
-use Rattle.register_file.specs.Access.{asks_reset}
-use Rattle.register_file.specs.Bits.{merged}
-use Rattle.register_file.specs.Groups.{index_of, told_by}
-use Rattle.register_file.specs.Registers.{is_wanted}
-use Rattle.register_file.specs.Words.{word_at}
-use Rattle.register_file.specs.Settings.{is_stopped, frame_limit}
-use Rattle.register_file.specs.declared.dir.Dir.{Dir}
-use Rattle.register_laws.specs.Sound.{pending_bits}
+use Rattle.nic_device.specs.RegTable.Rows.{row_of}
+use Rattle.nic_device.specs.RegTable.Runs.{runs}
+use Rattle.nic_device.specs.RegTable.Place.{Names, view_among}
+use Rattle.nic_device.specs.RegTable.declared.place.Place.{Place}
+use Rattle.nic_device.specs.RegTable.declared.kind.Kind.TheVariants.{Rw, Rc}
+use Rattle.nic_device.specs.RegTable.declared.rows.RowId.TheVariants.{Ctrl, Hlreg0, Maxfrs, GcrExt}
+use Rattle.nic_device.specs.RegTable.Counter.{bumped}
+use Rattle.nic_device.specs.DmaArena.Block.{Block}
+use Rattle.nic_device.specs.DmaArena.Memory.{read_at, AreApart}
+use Rattle.nic_device.specs.EepromImage.Triples.{triples_of}
+use Rattle.nic_device.specs.IntrUnit.BitSet.{IsSubset}
+use Rattle.nic_device.specs.IntrUnit.declared.group.Group.{Group}
+use Rattle.nic_device.specs.RegisterFile.Access.{asks_reset}
+use Rattle.nic_device.specs.RegisterFile.Bits.{merged}
+use Rattle.nic_device.specs.RegisterFile.Groups.{index_of, told_by}
+use Rattle.nic_device.specs.RegisterFile.Registers.{is_wanted}
+use Rattle.nic_device.specs.RegisterFile.Words.{word_at}
+use Rattle.nic_device.specs.RegisterFile.Settings.{is_stopped, frame_limit}
+use Rattle.nic_device.specs.DmaRing.declared.dir.Dir.{Dir}
+use Rattle.nic_device.specs.RegisterLaws.Sound.{pending_bits}
 use Rattle.nic_device.specs.State.{State, Waiting, new_state}
 use Rattle.nic_device.specs.Outcome.{gives}
 use Rattle.nic_device.specs.Interrupt.{has_group, mode_in}

@@ -1,21 +1,21 @@
 -- What an event leaves alone: all that its reach misses.
 use Rattle.std.specs.Prelude.{ℕ, ◌≡◌, ◌≢◌, ◌⊎◌, Bool, ⊤, IsFalse, List, [], ◌∷◌, length, Some}
 use Rattle.std.specs.FinMap as map
-use Rattle.reg_table.specs.Rows.{row_of}
-use Rattle.reg_table.specs.declared.place.Place.{Place}
-use Rattle.dma_arena.specs.Block.{Block}
-use Rattle.dma_arena.specs.Memory.{Avoids}
-use Rattle.tx_ring.specs.Report.{report_length}
-use Rattle.intr_unit.specs.declared.group.Group.{Group}
-use Rattle.intr_unit.specs.declared.group.Group.TheVariants as group
-use Rattle.register_file.specs.Access.{asks_reset, asks_pool_reset}
-use Rattle.register_file.specs.Groups.{interrupts_of}
-use Rattle.register_file.specs.Owner.{owner_of}
-use Rattle.register_file.specs.declared.dir.Dir.{Dir}
-use Rattle.register_file.specs.declared.dir.Dir.TheVariants.{Rx, Tx}
-use Rattle.register_file.specs.declared.owner.Owner.TheVariants as owner
-use Rattle.register_laws.specs.Footprint.{Misses, of_side, of_group}
-use Rattle.register_laws.specs.Sides.{receive_queue_of, transmit_queue_of}
+use Rattle.nic_device.specs.RegTable.Rows.{row_of}
+use Rattle.nic_device.specs.RegTable.declared.place.Place.{Place}
+use Rattle.nic_device.specs.DmaArena.Block.{Block}
+use Rattle.nic_device.specs.DmaArena.Memory.{Avoids}
+use Rattle.nic_device.specs.TxRing.Report.{report_length}
+use Rattle.nic_device.specs.IntrUnit.declared.group.Group.{Group}
+use Rattle.nic_device.specs.IntrUnit.declared.group.Group.TheVariants as group
+use Rattle.nic_device.specs.RegisterFile.Access.{asks_reset, asks_pool_reset}
+use Rattle.nic_device.specs.RegisterFile.Groups.{interrupts_of}
+use Rattle.nic_device.specs.RegisterFile.Owner.{owner_of}
+use Rattle.nic_device.specs.DmaRing.declared.dir.Dir.{Dir}
+use Rattle.nic_device.specs.DmaRing.declared.dir.Dir.TheVariants.{Rx, Tx}
+use Rattle.nic_device.specs.RegisterFile.declared.owner.Owner.TheVariants as owner
+use Rattle.nic_device.specs.RegisterLaws.Footprint.{Misses, of_side, of_group}
+use Rattle.nic_device.specs.RegisterLaws.Sides.{receive_queue_of, transmit_queue_of}
 use Rattle.nic_device.specs.Footprint.{Reach, StaysWithin, reach_of, told_back}
 use Rattle.nic_device.specs.Step.{after, reply_to}
 use Rattle.nic_device.specs.State.{State, Waiting}

@@ -1,12 +1,12 @@
 -- What a message of a group tells a driver, and when there is one.
 use Rattle.std.specs.Prelude.{ℕ, ◌≡◌, ◌<◌, IsTrue, IsFalse}
-use Rattle.reg_table.specs.declared.rows.RowId.TheVariants.{IvarMisc}
-use Rattle.intr_unit.specs.Interrupts.{is_due}
-use Rattle.intr_unit.specs.Laws.{IsMessageOf, Leaves, told_bits}
-use Rattle.intr_unit.specs.declared.group.Group.{Group}
-use Rattle.register_file.specs.Groups.{interrupts_of, masks_by_message}
-use Rattle.register_file.specs.Registers.{Registers, word_of}
-use Rattle.register_file.specs.Settings.{is_stopped}
+use Rattle.nic_device.specs.RegTable.declared.rows.RowId.TheVariants.{IvarMisc}
+use Rattle.nic_device.specs.IntrUnit.Interrupts.{is_due}
+use Rattle.nic_device.specs.IntrUnit.Laws.{IsMessageOf, Leaves, told_bits}
+use Rattle.nic_device.specs.IntrUnit.declared.group.Group.{Group}
+use Rattle.nic_device.specs.RegisterFile.Groups.{interrupts_of, masks_by_message}
+use Rattle.nic_device.specs.RegisterFile.Registers.{Registers, word_of}
+use Rattle.nic_device.specs.RegisterFile.Settings.{is_stopped}
 use Rattle.nic_device.specs.Interrupt.{has_group}
 use Rattle.nic_device.specs.Sound.{IsSound}
 use Rattle.nic_device.specs.State.{State}

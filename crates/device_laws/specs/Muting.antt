@@ -1,8 +1,8 @@
 -- Queues whose pool doesn't send.
 use Rattle.std.specs.Prelude.{ℕ, ◌≡◌, ◌<◌, IsTrue, IsFalse, Some}
-use Rattle.vf_map.specs.Pools.{pool_of}
-use Rattle.register_file.specs.Pools.{mode_in, sends_frames}
-use Rattle.rx_filter.specs.Pools.{uses_pools}
+use Rattle.nic_device.specs.VfMap.Pools.{pool_of}
+use Rattle.nic_device.specs.RegisterFile.Pools.{mode_in, sends_frames}
+use Rattle.nic_device.specs.RxFilter.Pools.{uses_pools}
 use Rattle.nic_device.specs.Outcome.{gives}
 use Rattle.nic_device.specs.State.{State}
 use Rattle.nic_device.specs.Step.{step_of}

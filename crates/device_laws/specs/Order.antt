@@ -1,10 +1,10 @@
 -- What a step of receiving does with the first frame that waits, by the state before it.
 use Rattle.std.specs.Prelude.{◌≡◌, ◌≢◌, IsTrue, IsFalse, List, [], ◌∷◌, Ok, Err}
-use Rattle.dma_ring.specs.declared.fault.RingFault.{RingFault}
-use Rattle.rx_ring.specs.Fill.{Outcome, fill_of}
-use Rattle.rx_ring.specs.declared.filled.Filled.{Filled}
-use Rattle.register_file.specs.Settings.{is_stopped, drops}
-use Rattle.register_laws.specs.Sides.{ReceiveQueue, receive_queue_of}
+use Rattle.nic_device.specs.DmaRing.declared.fault.RingFault.{RingFault}
+use Rattle.nic_device.specs.RxRing.Fill.{Outcome, fill_of}
+use Rattle.nic_device.specs.RxRing.declared.filled.Filled.{Filled}
+use Rattle.nic_device.specs.RegisterFile.Settings.{is_stopped, drops}
+use Rattle.nic_device.specs.RegisterLaws.Sides.{ReceiveQueue, receive_queue_of}
 use Rattle.nic_device.specs.Step.{reply_to, step_of}
 use Rattle.nic_device.specs.Outcome.{gives}
 use Rattle.nic_device.specs.Receive.{is_empty, rest_of}

@@ -1,16 +1,16 @@
 -- What of the device is a virtual function's: its pool, and no more.
 use Rattle.std.specs.Prelude.{ℕ, ◌≡◌, IsTrue, IsFalse, List, [], filter}
-use Rattle.reg_table.specs.Rows.{row_of}
-use Rattle.reg_table.specs.declared.place.Place.{Place}
-use Rattle.reg_table.specs.declared.rows.RowId.TheVariants.{GcrExt}
-use Rattle.vf_map.specs.Owner.{has_queue}
-use Rattle.vf_map.specs.declared.mode.Mode.{Mode}
-use Rattle.register_file.specs.Access.{asks_pool_reset}
-use Rattle.register_file.specs.Pools.{mode_in}
-use Rattle.register_file.specs.Registers.{word_of}
-use Rattle.register_file.specs.Settings.{is_stopped}
-use Rattle.register_laws.specs.Footprint.{ChangesWithin, AgreeWithin, of_pool}
-use Rattle.register_laws.specs.PoolReset.{IsResetAt}
+use Rattle.nic_device.specs.RegTable.Rows.{row_of}
+use Rattle.nic_device.specs.RegTable.declared.place.Place.{Place}
+use Rattle.nic_device.specs.RegTable.declared.rows.RowId.TheVariants.{GcrExt}
+use Rattle.nic_device.specs.VfMap.Owner.{has_queue}
+use Rattle.nic_device.specs.VfMap.declared.mode.Mode.{Mode}
+use Rattle.nic_device.specs.RegisterFile.Access.{asks_pool_reset}
+use Rattle.nic_device.specs.RegisterFile.Pools.{mode_in}
+use Rattle.nic_device.specs.RegisterFile.Registers.{word_of}
+use Rattle.nic_device.specs.RegisterFile.Settings.{is_stopped}
+use Rattle.nic_device.specs.RegisterLaws.Footprint.{ChangesWithin, AgreeWithin, of_pool}
+use Rattle.nic_device.specs.RegisterLaws.PoolReset.{IsResetAt}
 use Rattle.nic_device.specs.Named.{named}
 use Rattle.nic_device.specs.PoolReset.{others_waiting}
 use Rattle.nic_device.specs.Sound.{IsSound}

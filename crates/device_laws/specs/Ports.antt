@@ -1,7 +1,7 @@
 -- What virtual functions reach, beside the physical function.
 use Rattle.std.specs.Prelude.{ℕ, ◌≡◌}
-use Rattle.vf_map.specs.Map.{mapped}
-use Rattle.vf_map.specs.declared.mapped.Mapped.TheVariants as mapped_as
+use Rattle.nic_device.specs.VfMap.Map.{mapped}
+use Rattle.nic_device.specs.VfMap.declared.mapped.Mapped.TheVariants as mapped_as
 use Rattle.nic_device.specs.Interrupt.{mode_in}
 use Rattle.nic_device.specs.Outcome.{gives}
 use Rattle.nic_device.specs.State.{State}

@@ -1,14 +1,14 @@
 -- Which causes an event raises, by its reply.
 use Rattle.std.specs.Prelude.{ℕ, ◌≡◌, false, ⊤, Option, Some, None, if◌then◌else◌}
-use Rattle.dma_arena.specs.Block.{Block}
-use Rattle.intr_unit.specs.Group.{queue_causes}
-use Rattle.intr_unit.specs.Interrupts.{Interrupts, raised}
-use Rattle.intr_unit.specs.declared.group.Group.{Group}
-use Rattle.intr_unit.specs.declared.group.Group.TheVariants as group
-use Rattle.register_file.specs.Groups.{interrupts_of, vector_entry}
-use Rattle.register_file.specs.Owner.{is_group}
-use Rattle.register_file.specs.declared.dir.Dir.{Dir}
-use Rattle.register_file.specs.declared.dir.Dir.TheVariants.{Rx, Tx}
+use Rattle.nic_device.specs.DmaArena.Block.{Block}
+use Rattle.nic_device.specs.IntrUnit.Group.{queue_causes}
+use Rattle.nic_device.specs.IntrUnit.Interrupts.{Interrupts, raised}
+use Rattle.nic_device.specs.IntrUnit.declared.group.Group.{Group}
+use Rattle.nic_device.specs.IntrUnit.declared.group.Group.TheVariants as group
+use Rattle.nic_device.specs.RegisterFile.Groups.{interrupts_of, vector_entry}
+use Rattle.nic_device.specs.RegisterFile.Owner.{is_group}
+use Rattle.nic_device.specs.DmaRing.declared.dir.Dir.{Dir}
+use Rattle.nic_device.specs.DmaRing.declared.dir.Dir.TheVariants.{Rx, Tx}
 use Rattle.nic_device.specs.Interrupt.{group_of_queue, missed_cause, fault_cause, link_cause}
 use Rattle.nic_device.specs.Step.{after, reply_to}
 use Rattle.nic_device.specs.Sound.{IsSound}

@@ -1,14 +1,14 @@
 -- What the reply to a step tells a driver of the state after it.
 use Rattle.std.specs.Prelude.{ℕ, ◌≡◌, ◌≢◌, ◌+◌, ◌*◌, ◌/◌, ◌%◌, ◌^◌, false, ⊤, List, [], ◌∷◌, ◌++◌, length, Option, Some, if◌then◌else◌}
-use Rattle.dma_arena.specs.Block.{Block}
-use Rattle.dma_ring.specs.declared.ring.Ring.{Ring}
-use Rattle.dma_ring.specs.Ring.{slots_of, next_of, descriptor_address}
-use Rattle.reg_table.specs.declared.rows.RowId.TheVariants.{Tdwbal, Tdwbah}
-use Rattle.register_file.specs.Bits.{has_bit}
-use Rattle.register_file.specs.Queue.{ring_of}
-use Rattle.register_file.specs.Registers.{Registers, word_of}
-use Rattle.register_file.specs.declared.dir.Dir.TheVariants.{Rx, Tx}
-use Rattle.register_laws.specs.Sides.{receive_queue_of, transmit_queue_of}
+use Rattle.nic_device.specs.DmaArena.Block.{Block}
+use Rattle.nic_device.specs.DmaRing.declared.ring.Ring.{Ring}
+use Rattle.nic_device.specs.DmaRing.Ring.{slots_of, next_of, descriptor_address}
+use Rattle.nic_device.specs.RegTable.declared.rows.RowId.TheVariants.{Tdwbal, Tdwbah}
+use Rattle.nic_device.specs.RegisterFile.Bits.{has_bit}
+use Rattle.nic_device.specs.RegisterFile.Queue.{ring_of}
+use Rattle.nic_device.specs.RegisterFile.Registers.{Registers, word_of}
+use Rattle.nic_device.specs.DmaRing.declared.dir.Dir.TheVariants.{Rx, Tx}
+use Rattle.nic_device.specs.RegisterLaws.Sides.{receive_queue_of, transmit_queue_of}
 use Rattle.nic_device.specs.Step.{after, reply_to, step_of}
 use Rattle.device_laws.specs.Leaving.{IsFirstFor}
 use Rattle.nic_device.specs.Outcome.{gives}

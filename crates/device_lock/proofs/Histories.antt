@@ -3,7 +3,7 @@ use Rattle.std.proofs.Common.{◌≡◌, ℕ, ◌+◌, ◌<◌, ◌==◌, List, 
 use Rattle.std.proofs.lemmas.Bool.Decides.{nat_tests}
 use Rattle.std.proofs.lemmas.Grind.{common_steps}
 use Rattle.std.proofs.lemmas.List.Sums.{sum_by-append, count_by-le-length}
-use Rattle.dma_arena.specs.Block.{Block}
+use Rattle.nic_device.specs.DmaArena.Block.{Block}
 use Rattle.nic_device.specs.Sound.{IsEvent}
 use Rattle.nic_device.specs.State.{State, new_state}
 use Rattle.nic_device.specs.Step.{step_of}

@@ -2,8 +2,8 @@
 use Rattle.std.proofs.Common.{◌≡◌, ℕ, Bool, true, false, not, ◌||◌, List, [], ◌∷◌, ◌++◌, refl, sym, ap, ◌∙◌, subst}
 use Rattle.std.specs.Prelude.{◌==◌, ◌↔◌, IsTrue}
 use Rattle.std.proofs.lemmas.Bool.{and_parts, and_from}
-use Rattle.vf_map.specs.declared.mode.Mode.{Mode}
-use Rattle.vf_map.specs.declared.mode.Mode.TheVariants.{Off}
+use Rattle.nic_device.specs.VfMap.declared.mode.Mode.{Mode}
+use Rattle.nic_device.specs.VfMap.declared.mode.Mode.TheVariants.{Off}
 use Rattle.device_lock.specs.declared.alone.Watched.{Watched}
 use Rattle.device_lock.specs.declared.entry.Entry.{Entry}
 use Rattle.device_lock.specs.Alone.{Blocks, EntryLeavesAlone, LeavesAlone, has_begun, lent_by, mode_after, mode_through}

@@ -1,20 +1,20 @@
 -- What it is to leave a queue of a shared device alone: what others don't do to it, once its driver has begun.
 use Rattle.std.specs.Prelude.{ℕ, ◌≡◌, ◌≢◌, ◌+◌, ◌/◌, ◌==◌, ◌<◌, ◌≤◌, nat_lt, Bool, true, false, ◌&&◌, ◌||◌, ⊤, IsTrue, IsFalse, List, [], ◌∷◌, ◌++◌, Option, Some, None, if◌then◌else◌}
-use Rattle.reg_table.specs.Place.{place_among}
-use Rattle.reg_table.specs.Rows.{row_of}
-use Rattle.reg_table.specs.Runs.{runs}
-use Rattle.reg_table.specs.declared.place.Place.{Place}
-use Rattle.reg_table.specs.declared.rows.RowId.{RowId}
-use Rattle.reg_table.specs.declared.rows.RowId.TheVariants.{Ctrl, Hlreg0, Maxfrs, GcrExt}
-use Rattle.vf_map.specs.Map.{located}
-use Rattle.vf_map.specs.Owner.{has_queue, is_receive, is_transmit}
-use Rattle.vf_map.specs.Pools.{mode_of}
-use Rattle.vf_map.specs.declared.located.Located.{Located}
-use Rattle.vf_map.specs.declared.located.Located.TheVariants as located_as
-use Rattle.vf_map.specs.declared.mode.Mode.{Mode}
-use Rattle.vf_map.specs.declared.mode.Mode.TheVariants.{Off}
-use Rattle.register_file.specs.Access.{asks_reset, asks_pool_reset}
-use Rattle.dma_arena.specs.Block.{Block}
+use Rattle.nic_device.specs.RegTable.Place.{place_among}
+use Rattle.nic_device.specs.RegTable.Rows.{row_of}
+use Rattle.nic_device.specs.RegTable.Runs.{runs}
+use Rattle.nic_device.specs.RegTable.declared.place.Place.{Place}
+use Rattle.nic_device.specs.RegTable.declared.rows.RowId.{RowId}
+use Rattle.nic_device.specs.RegTable.declared.rows.RowId.TheVariants.{Ctrl, Hlreg0, Maxfrs, GcrExt}
+use Rattle.nic_device.specs.VfMap.Map.{located}
+use Rattle.nic_device.specs.VfMap.Owner.{has_queue, is_receive, is_transmit}
+use Rattle.nic_device.specs.VfMap.Pools.{mode_of}
+use Rattle.nic_device.specs.VfMap.declared.located.Located.{Located}
+use Rattle.nic_device.specs.VfMap.declared.located.Located.TheVariants as located_as
+use Rattle.nic_device.specs.VfMap.declared.mode.Mode.{Mode}
+use Rattle.nic_device.specs.VfMap.declared.mode.Mode.TheVariants.{Off}
+use Rattle.nic_device.specs.RegisterFile.Access.{asks_reset, asks_pool_reset}
+use Rattle.nic_device.specs.DmaArena.Block.{Block}
 use Rattle.nic_device.specs.declared.event.Event.{Event}
 use Rattle.nic_device.specs.declared.event.Event.TheVariants as event
 use Rattle.nic_device.specs.declared.event.Port.{Port}

@@ -1,16 +1,15 @@
 //! Whether a history leaves a queue alone: what others did to it, once its driver had begun.
 
 ghost use Rattle.std.specs.Prelude.{◌≡◌, ◌↔◌, ◌==◌, ◌||◌, not, ℕ, IsTrue, IfSome, IfNone, false};
-ghost use Rattle.vf_map.specs.declared.mode.Mode.TheVariants.{Off};
+ghost use Rattle.nic_device.specs.VfMap.declared.mode.Mode.TheVariants.{Off};
 ghost use Rattle.device_lock.specs.Alone.{LeavesAlone, is_setting, place_at, mode_set, mode_written, mode_after, lends, lent_in, lent_by};
 ghost use Rattle.device_lock.specs.Watching.{marked, spares, spares_if_some, leaves_registers, leaves_blocks, touched, is_clear, writes_outside, leaves_alone, rest_leaves_alone};
 
 use crate::entry::Entry;
-use dma_arena::BLOCK_NUMBERS;
-use nic_device::{Event, EventNote, Port, Reply, ReplyNote};
-use reg_table::{Bank, Place, RowId, bank_of, place_of};
-use register_file::{asks_pool_reset, asks_reset};
-use vf_map::{Located, Mode, has_queue, locate, mode_of};
+use nic_device::{
+    BLOCK_NUMBERS, Bank, Event, EventNote, Located, Mode, Place, Port, Reply, ReplyNote, RowId,
+    asks_pool_reset, asks_reset, bank_of, has_queue, locate, mode_of, place_of,
+};
 
 /// How many bytes a block of packet memory has.
 const BLOCK: u64 = 2048;

@@ -9,6 +9,7 @@
 
 mod bits;
 mod descriptor;
+mod dir;
 mod driver;
 mod fault;
 pub mod laws;
@@ -17,6 +18,7 @@ mod ring;
 mod transmit;
 
 pub use descriptor::{first_half, of_halves, second_half};
+pub use dir::Dir;
 pub use driver::{
     data_descriptor_word, hash_told, is_last, is_sent, is_written_back, length_told, posted_word,
     rss_told,

@@ -1,6 +1,6 @@
 -- Facts of each block that a driver has lent for receiving, together.
 use Rattle.std.proofs.Common.{ℕ}
-use Rattle.pmd_rx.specs.Receive.{Stage, Looks, Sees, Holding, Lent, Named, Receive}
+use Rattle.pmd.specs.PmdRx.Receive.{Stage, Looks, Sees, Holding, Lent, Named, Receive}
 use Rattle.receive_laws.specs.Steps.{Each, IfFresh}
 
 fresh_both : (stage : Stage) (P Q : ℕ → Type 0) → IfFresh stage P → IfFresh stage Q → IfFresh stage (λ b. P b × Q b)

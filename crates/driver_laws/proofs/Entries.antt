@@ -2,9 +2,9 @@
 use Rattle.std.proofs.Common.{◌≡◌, ◌≢◌, ℕ, true, false, List, [], ◌++◌, refl, sym, ◌∙◌, subst}
 use Rattle.std.specs.Prelude.{IsTrue}
 use Rattle.std.proofs.lemmas.List.{append-nil}
-use Rattle.dma_arena.specs.Block.{Block}
-use Rattle.dma_arena.specs.Memory.{has_block}
-use Rattle.vf_map.specs.declared.mode.Mode.{Mode}
+use Rattle.nic_device.specs.DmaArena.Block.{Block}
+use Rattle.nic_device.specs.DmaArena.Memory.{has_block}
+use Rattle.nic_device.specs.VfMap.declared.mode.Mode.{Mode}
 use Rattle.nic_device.specs.Sound.{IsEvent}
 use Rattle.nic_device.specs.State.{State}
 use Rattle.nic_device.specs.Step.{after, reply_to}
@@ -14,12 +14,12 @@ use Rattle.nic_device.proofs.Steps.{step_leads, keeps_sound}
 use Rattle.device_lock.specs.Alone.{Blocks, LeavesRegisters, LeavesBlocks, WritesOutside, mode_after}
 use Rattle.device_lock.specs.Pass.{call_of}
 use Rattle.device_lock.specs.declared.alone.Watched.{Watched}
-use Rattle.pmd_rx.specs.Receive as receiving
-use Rattle.pmd_rx.specs.Receive.{drive}
-use Rattle.pmd_tx.specs.Sending as sending
-use Rattle.pmd_tx.specs.Sending.{Move, Accepts, Asks, Advances, Looks, Reaps, Elsewhere, has_lent, moved}
-use Rattle.history_laws.proofs.Aligned.{events_aligned}
-use Rattle.history_laws.proofs.Modes.{event_told}
+use Rattle.pmd.specs.PmdRx.Receive as receiving
+use Rattle.pmd.specs.PmdRx.Receive.{drive}
+use Rattle.pmd.specs.PmdTx.Sending as sending
+use Rattle.pmd.specs.PmdTx.Sending.{Move, Accepts, Asks, Advances, Looks, Reaps, Elsewhere, has_lent, moved}
+use Rattle.receive_laws.proofs.HistoryLaws.Aligned.{events_aligned}
+use Rattle.receive_laws.proofs.HistoryLaws.Modes.{event_told}
 use Rattle.receive_laws.specs.Joint.{Agree}
 use Rattle.receive_laws.specs.Pieces.{Piece, pieces}
 use Rattle.receive_laws.proofs.Leaving.{leaving_keeps}

@@ -1,15 +1,15 @@
 -- What the driver handed out and what it sent, over a history of a new device.
 use Rattle.std.proofs.Common.{◌≡◌, ℕ, List, [], ◌++◌, length, drop, None, sym, ap, ◌∙◌, subst}
-use Rattle.vf_map.specs.declared.mode.Mode.TheVariants.{Off}
+use Rattle.nic_device.specs.VfMap.declared.mode.Mode.TheVariants.{Off}
 use Rattle.nic_device.specs.State.{State, new_state}
 use Rattle.device_lock.specs.Alone.{lent_by, mode_through}
 use Rattle.device_lock.specs.History.{calls_of, leads_to}
 use Rattle.device_lock.specs.declared.alone.Watched.{Watched}
 use Rattle.device_lock.specs.declared.entry.Entry.{Entry}
-use Rattle.history_laws.proofs.Aligned.{histories_aligned, new_aligned}
-use Rattle.history_laws.proofs.Alone.{alone_by_entries}
-use Rattle.history_laws.proofs.Modes.{mode_told}
-use Rattle.history_laws.proofs.Sound.{histories_sound}
+use Rattle.receive_laws.proofs.HistoryLaws.Aligned.{histories_aligned, new_aligned}
+use Rattle.receive_laws.proofs.HistoryLaws.Alone.{alone_by_entries}
+use Rattle.receive_laws.proofs.HistoryLaws.Modes.{mode_told}
+use Rattle.receive_laws.proofs.HistoryLaws.Sound.{histories_sound}
 use Rattle.receive_laws.specs.Delivered as receive
 use Rattle.receive_laws.specs.Delivered.{delivered, packets_if_any, pieces_in, pieces_since}
 use Rattle.receive_laws.specs.Histories.{FindsNone}

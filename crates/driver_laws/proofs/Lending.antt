@@ -1,16 +1,16 @@
 -- Blocks of the receive half are lent; and a block that is lent leaves the others, and has a number of its own.
 use Rattle.std.proofs.Common.{◌≡◌, ◌≢◌, ℕ, ◌<◌, true, List, length, inl, inr, refl, sym, ap, ◌∙◌, subst}
 use Rattle.std.proofs.lemmas.Bool.{cases_eq, cases_lt}
-use Rattle.dma_arena.specs.Block.{Block}
-use Rattle.dma_arena.specs.Memory.{Memory, has_block}
+use Rattle.nic_device.specs.DmaArena.Block.{Block}
+use Rattle.nic_device.specs.DmaArena.Memory.{Memory, has_block}
 use Rattle.nic_device.specs.Outcome.{Outcome, gives}
 use Rattle.nic_device.specs.State.{State}
 use Rattle.nic_device.specs.Step.{step_of, after, reply_to}
 use Rattle.nic_device.specs.declared.event.Event.TheVariants as event
 use Rattle.nic_device.specs.declared.event.Reply.TheVariants.{Done, Twice}
-use Rattle.device_laws.specs.Leaving.{LeavesBlock}
-use Rattle.device_laws.proofs.Standing.{memory_blocks}
-use Rattle.pmd_rx.specs.Receive.{Layout, Stage, Looks, Sees, Holding, Lent, Named, Receive, block_at}
+use Rattle.receive_laws.specs.DeviceLaws.Leaving.{LeavesBlock}
+use Rattle.receive_laws.proofs.DeviceLaws.Standing.{memory_blocks}
+use Rattle.pmd.specs.PmdRx.Receive.{Layout, Stage, Looks, Sees, Holding, Lent, Named, Receive, block_at}
 use Rattle.receive_laws.specs.Joint.{StageHolds, HasSlots, Agree}
 use Rattle.receive_laws.specs.Pieces.{Piece}
 use Rattle.receive_laws.specs.Steps.{Each, IfFresh}

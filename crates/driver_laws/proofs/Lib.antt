@@ -1,8 +1,13 @@
 pub mod Apart
+pub mod Before
 pub mod Beside
 pub mod Each
 pub mod Enabling
 pub mod Entries
+pub mod Faults
+pub mod Healthy
+pub mod HealthyApart
+pub mod HealthyStepping
 pub mod InOrder
 pub mod LeadsApart
 pub mod Led

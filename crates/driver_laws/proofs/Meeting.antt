@@ -1,10 +1,10 @@
 -- What holds between two entries of a history, and that an event which is neither half's and leaves the queue alone
 -- keeps it.
 use Rattle.std.proofs.Common.{◌≡◌, ℕ, ◌+◌, List, ◌++◌, refl, subst, arith}
-use Rattle.dma_arena.specs.Block.{Block}
-use Rattle.eeprom_image.specs.Image.{blank}
-use Rattle.vf_map.specs.declared.mode.Mode.{Mode}
-use Rattle.register_file.specs.Pools.{mode_in}
+use Rattle.nic_device.specs.DmaArena.Block.{Block}
+use Rattle.nic_device.specs.EepromImage.Image.{blank}
+use Rattle.nic_device.specs.VfMap.declared.mode.Mode.{Mode}
+use Rattle.nic_device.specs.RegisterFile.Pools.{mode_in}
 use Rattle.nic_device.specs.Sound.{IsEvent, IsSound}
 use Rattle.nic_device.specs.State.{State}
 use Rattle.nic_device.specs.Step.{after, reply_to}
@@ -12,7 +12,7 @@ use Rattle.nic_device.specs.declared.event.Event.{Event}
 use Rattle.nic_device.specs.declared.event.Event.TheVariants as event
 use Rattle.device_lock.specs.Alone.{Blocks, LeavesRegisters, LeavesBlocks, WritesOutside}
 use Rattle.device_lock.specs.declared.alone.Watched.{Watched}
-use Rattle.history_laws.specs.Aligned.{AreAligned}
+use Rattle.receive_laws.specs.HistoryLaws.Aligned.{AreAligned}
 use Rattle.receive_laws.specs.Pieces.{Piece, pieces}
 use Rattle.receive_laws.proofs.Foreign.{foreign_keeps}
 use Rattle.transmit_laws.specs.Sent.{sent_by}

@@ -2,13 +2,13 @@
 use Rattle.std.proofs.Common.{◌≡◌, ◌≢◌, ℕ, ◌*◌, true, List, length, refl, sym, ap, ◌∙◌, subst, arith}
 use Rattle.std.specs.FinMap as map
 use Rattle.std.specs.Prelude.{IsTrue}
-use Rattle.dma_arena.specs.Block.{Block}
-use Rattle.dma_arena.specs.Memory.{Avoids, has_block}
-use Rattle.dma_arena.proofs.Inside.{inside_avoids}
-use Rattle.dma_ring.specs.Driver.{posted}
-use Rattle.dma_ring.proofs.Fields.{halves_come_back}
-use Rattle.reg_table.specs.declared.rows.RowId.TheVariants.{Rdt}
-use Rattle.register_file.specs.Columns.{place}
+use Rattle.nic_device.specs.DmaArena.Block.{Block}
+use Rattle.nic_device.specs.DmaArena.Memory.{Avoids, has_block}
+use Rattle.nic_device.proofs.DmaArena.Inside.{inside_avoids}
+use Rattle.nic_device.specs.DmaRing.Driver.{posted}
+use Rattle.nic_device.proofs.DmaRing.Fields.{halves_come_back}
+use Rattle.nic_device.specs.RegTable.declared.rows.RowId.TheVariants.{Rdt}
+use Rattle.nic_device.specs.RegisterFile.Columns.{place}
 use Rattle.nic_device.specs.Named.{named}
 use Rattle.nic_device.specs.Sound.{IsEvent}
 use Rattle.nic_device.specs.State.{State}
@@ -17,12 +17,12 @@ use Rattle.nic_device.specs.declared.event.Event.{Event}
 use Rattle.nic_device.specs.declared.event.Event.TheVariants as event
 use Rattle.nic_device.specs.declared.event.Port.{Port}
 use Rattle.nic_device.specs.declared.named.Named.TheVariants.{Register}
-use Rattle.device_laws.specs.Laws.{WritesNoSetting}
-use Rattle.device_laws.specs.Leaving.{LeavesBlock, LeavesTransmit}
-use Rattle.device_laws.proofs.Standing.{memory_blocks, memory_rest, stays_within}
-use Rattle.device_laws.proofs.StandingAccesses.{write_memory, write_rest}
-use Rattle.pmd_rx.specs.Receive.{Layout, Stage, Looks, Sees, Holding, Lent, Named, Receive, IsOwn, TakesNext, NamesNext, MovesNext, slot_at, vacant}
-use Rattle.pmd_tx.specs.Sending.{Sender, has_lent}
+use Rattle.receive_laws.specs.DeviceLaws.Laws.{WritesNoSetting}
+use Rattle.receive_laws.specs.DeviceLaws.Leaving.{LeavesBlock, LeavesTransmit}
+use Rattle.receive_laws.proofs.DeviceLaws.Standing.{memory_blocks, memory_rest, stays_within}
+use Rattle.receive_laws.proofs.DeviceLaws.StandingAccesses.{write_memory, write_rest}
+use Rattle.pmd.specs.PmdRx.Receive.{Layout, Stage, Looks, Sees, Holding, Lent, Named, Receive, IsOwn, TakesNext, NamesNext, MovesNext, slot_at, vacant}
+use Rattle.pmd.specs.PmdTx.Sending.{Sender, has_lent}
 use Rattle.receive_laws.specs.Joint.{IsNamed, StageHolds, Holds}
 use Rattle.receive_laws.specs.Pieces.{Piece}
 use Rattle.receive_laws.specs.Steps.{Each}

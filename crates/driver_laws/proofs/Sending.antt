@@ -4,24 +4,24 @@ use Rattle.std.specs.FinMap as map
 use Rattle.std.specs.List.{list_any}
 use Rattle.std.specs.Prelude.{◌==◌, IsTrue, slice_index_or}
 use Rattle.std.proofs.lemmas.Bool.{or_cases, eqb-true}
-use Rattle.dma_arena.specs.Block.{Block}
-use Rattle.dma_arena.specs.Memory.{Avoids, has_block}
-use Rattle.dma_arena.proofs.Inside.{inside_avoids}
-use Rattle.reg_table.specs.declared.rows.RowId.TheVariants.{Tdt}
-use Rattle.register_file.specs.Columns.{place}
+use Rattle.nic_device.specs.DmaArena.Block.{Block}
+use Rattle.nic_device.specs.DmaArena.Memory.{Avoids, has_block}
+use Rattle.nic_device.proofs.DmaArena.Inside.{inside_avoids}
+use Rattle.nic_device.specs.RegTable.declared.rows.RowId.TheVariants.{Tdt}
+use Rattle.nic_device.specs.RegisterFile.Columns.{place}
 use Rattle.nic_device.specs.Named.{named}
 use Rattle.nic_device.specs.State.{State}
 use Rattle.nic_device.specs.Step.{after}
 use Rattle.nic_device.specs.declared.event.Event.{Event}
 use Rattle.nic_device.specs.declared.event.Event.TheVariants as event
 use Rattle.nic_device.specs.declared.named.Named.TheVariants.{Register}
-use Rattle.device_laws.specs.Laws.{WritesNoSetting}
-use Rattle.device_laws.specs.Leaving.{LeavesBlock, LeavesReceive}
-use Rattle.device_laws.proofs.KeptSettings.{settings_stand}
-use Rattle.device_laws.proofs.Standing.{memory_blocks, memory_rest, stays_within}
-use Rattle.device_laws.proofs.StandingAccesses.{write_memory, write_rest}
-use Rattle.pmd_rx.specs.Receive.{Receive}
-use Rattle.pmd_tx.specs.Sending.{Outgoing, Sender, Move, Accepts, Asks, Advances, Looks, Reaps, Elsewhere, IsOwn, blocks_of, has_lent, no_packet, packet_at}
+use Rattle.receive_laws.specs.DeviceLaws.Laws.{WritesNoSetting}
+use Rattle.receive_laws.specs.DeviceLaws.Leaving.{LeavesBlock, LeavesReceive}
+use Rattle.receive_laws.proofs.DeviceLaws.KeptSettings.{settings_stand}
+use Rattle.receive_laws.proofs.DeviceLaws.Standing.{memory_blocks, memory_rest, stays_within}
+use Rattle.receive_laws.proofs.DeviceLaws.StandingAccesses.{write_memory, write_rest}
+use Rattle.pmd.specs.PmdRx.Receive.{Receive}
+use Rattle.pmd.specs.PmdTx.Sending.{Outgoing, Sender, Move, Accepts, Asks, Advances, Looks, Reaps, Elsewhere, IsOwn, blocks_of, has_lent, no_packet, packet_at}
 use Rattle.receive_laws.specs.Steps.{Each, Leaves}
 use Rattle.receive_laws.proofs.Each.{each_map}
 use Rattle.transmit_laws.specs.Agreeing.{AgreesAt}

@@ -1,7 +1,7 @@
 -- What the driver's pass may make beside the calls of the driver's halves: events that leave every queue alone.
 use Rattle.std.specs.Prelude.{◌≡◌, Bool, true, false, ⊤, IsTrue, List, [], ◌∷◌, ◌++◌}
-use Rattle.dma_arena.specs.Block.{Block}
-use Rattle.vf_map.specs.declared.mode.Mode.{Mode}
+use Rattle.nic_device.specs.DmaArena.Block.{Block}
+use Rattle.nic_device.specs.VfMap.declared.mode.Mode.{Mode}
 use Rattle.nic_device.specs.declared.event.Event.{Event}
 use Rattle.nic_device.specs.declared.event.Event.TheVariants as event
 use Rattle.nic_device.specs.declared.event.Reply.{Reply}
@@ -10,7 +10,7 @@ use Rattle.device_lock.specs.History.{calls_of}
 use Rattle.device_lock.specs.declared.alone.Watched.{Watched}
 use Rattle.device_lock.specs.declared.entry.Call.{Call}
 use Rattle.device_lock.specs.declared.entry.Entry.{Entry}
-use Rattle.pmd_base.specs.Made.{Adds, AddsSome}
+use Rattle.pmd.specs.PmdSeam.Made.{Adds, AddsSome}
 use Rattle.pmd.specs.Halves.{AllOwn, Doer, Drives, Halves, is_neither, played_by}
 use Rattle.driver_laws.specs.Histories.{OthersLeaveAlone}
 

@@ -2,15 +2,18 @@
 //!
 //! Each law is the contract of a function that does nothing. How a driver's two halves follow from the calls of its
 //! pass is said by crate `pmd`; `specs/Agreeing` says what the device and both halves agree on, and `specs/Histories`
-//! what a history is that leaves the driver's queue alone.
+//! what a history is that leaves the driver's queue alone; `specs/Healthy` over which histories the device never
+//! replies what a queue at fault replies.
 #![tactic(auto)]
 
-ghost use Rattle.driver_laws.specs.Beside.{CallsAddHarmless, StepsAddHarmless};
-ghost use Rattle.driver_laws.specs.Beside.{DrivesLead, HarmlessLead, LeadsOn, HarmlessLeaveAlone};
+ghost use Rattle.driver_laws.specs.Before.{FramesStayShortAlong, OnlyPassLent};
+ghost use Rattle.driver_laws.specs.Beside.{CallsAddHarmless, StepsAddHarmless, DrivesLead, HarmlessLead, LeadsOn, HarmlessLeaveAlone};
 ghost use Rattle.driver_laws.specs.Enabling.{EnableWordsKeep};
-ghost use Rattle.pmd.specs.Halves.{ReceivingDrives, SendingDrives, OthersDrive, DrivesOn};
+ghost use Rattle.driver_laws.specs.Faults.{NoFault};
+ghost use Rattle.driver_laws.specs.Healthy.{OwnRepliesAreHealthy};
 ghost use Rattle.driver_laws.specs.Histories.{HandedIsPrefix, NoneIsAll, SentIsPrefix, IdleIsAllSent, CountedWhereUp};
 ghost use Rattle.driver_laws.specs.Waiting.{WaitingIsNotAll};
+ghost use Rattle.pmd.specs.Halves.{ReceivingDrives, SendingDrives, OthersDrive, DrivesOn};
 
 /// The calls of one half lead both on, where the other half stays as it was; steps of the device leave both; and calls
 /// lead on, one after another. So the halves follow from whatever calls of a driver that runs were made, and each call
@@ -59,4 +62,27 @@ pub fn harmless_calls_leave_the_queue_alone()
 /// any place before isn't all that the driver accepted.
 pub fn waiting_packets_are_not_all_sent()
     ensures { WaitingIsNotAll }
+{}
+
+/// Over a history of a new device that leaves the driver's queue alone, from a place on where the device agrees with
+/// both halves and the receive side has gone on: each call of either half gets a reply that a healthy queue gives.
+/// There the frames that wait for the queue fit a buffer, as do those that are let in; and of the driver's arena only
+/// blocks are lent that the driver has lent, and no other pass lends any. What the halves lend is as the clause
+/// `drives` of a driver's calls says: blocks of the arena alone, and none that the other half has lent.
+pub fn own_replies_are_healthy()
+    ensures { OwnRepliesAreHealthy }
+{}
+
+/// So no call of a driver ends with the device at fault over such a history, as the clause `finds` says of one: neither
+/// one that receives, nor one that sends or reaps.
+pub fn no_call_finds_the_device_at_fault()
+    ensures { NoFault }
+{}
+
+/// What such a history begins with leads there from the driver's start: over entries that write no setting the frames
+/// that wait for the queue stay as short as a buffer; and where no other pass lends a block of the driver's arena, only
+/// those are lent that were before, and those that the pass lent.
+pub fn entries_before_lead_there()
+    ensures short { FramesStayShortAlong }
+    ensures lent { OnlyPassLent }
 {}

@@ -1,15 +1,10 @@
 //! A controller that is set up, a driver of its queue 0, and frames.
 
 use crate::outcome::done;
-use dma_arena::{Arena, LentMemory, Octets};
-use nic_device::{Config, Device, Event, Parts, Port, Reply};
-use pmd::Pmd;
-use pmd_base::{Direct, Nic, Packet, Setup, pf_setup};
-use pmd_halt::Home;
-use pmd_tx::TxAnswer;
+use nic_device::{Arena, Config, Device, Event, LentMemory, Mode, Octets, Parts, Port, Reply};
 use std::alloc::Global;
 use std::process::Abort;
-use vf_map::Mode;
+use workers::{Direct, Home, Nic, Packet, Pmd, Setup, TxAnswer, pf_setup};
 
 /// Promiscuous, with neither pools nor hashing.
 pub const PLAIN: Setup = Setup {

@@ -4,14 +4,10 @@ use crate::bench::{
     self, arrive, blocks, close, frame_of, has_bytes, opened, reap, received, send, started,
 };
 use crate::outcome::{done, refused, some};
-use dma_arena::{Arena, Buf, Octets};
-use nic_device::{Event, Port, Reply};
-use pmd::{Pmd, Rest, StartRefused, StopRefused};
-use pmd_base::{Direct, Nic, Packet, PmdFault};
-use pmd_halt::Home;
-use pmd_tx::TxFault;
+use nic_device::{Arena, Buf, Event, Octets, Port, Reply};
 use std::alloc::Global;
 use std::process::Abort;
+use workers::{Direct, Home, Nic, Packet, Pmd, PmdFault, Rest, StartRefused, StopRefused, TxFault};
 
 /// A frame of TCP over IPv4, of 60 bytes: from 02:00:00:00:00:02 to 02:00:00:00:00:01.
 pub const TCP_FRAME: [u8; 60] = [

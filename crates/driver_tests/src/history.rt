@@ -1,7 +1,7 @@
 //! The calls on a device in hand as a history: a driver of queue 0 made some of them, and others the rest.
 
-use device_lock::{Call, Entry, Watched, left_alone};
 use std::process::Abort;
+use workers::{Call, Entry, Watched, left_alone};
 
 /// The pass of the driver.
 pub const DRIVER: u8 = 0;

@@ -4,17 +4,12 @@ use crate::bench::{PLAIN, frame_of, make, set_up, started, taken_apart};
 use crate::history::{DRIVER, OTHERS, add_calls, add_entries, is_left_alone};
 use crate::outcome::{done, some};
 use crate::schedule::{Left, Schedule, add, all_home, finish, listed, push, push_steps, take_all};
-use device_lock::Entry;
-use dma_arena::{Arena, Buf, Octets};
-use nic_device::{Device, Event, Port};
-use pmd::{Pmd, StopRefused};
-use pmd_base::{Direct, Nic, Packet, Setup};
-use pmd_halt::Home;
-use pmd_interleaved::Interleaved;
-use pmd_tx::{TxAnswer, TxFault};
+use nic_device::{Arena, Buf, Device, Event, Mode, Octets, Port};
 use std::alloc::Global;
 use std::process::Abort;
-use vf_map::Mode;
+use workers::{
+    Direct, Entry, Home, Interleaved, Nic, Packet, Pmd, Setup, StopRefused, TxAnswer, TxFault,
+};
 
 /// Foreign writes, by address and word, that reach queue 0 of a driver or the whole device, and whether the queue is
 /// left alone by each all the same.

@@ -6,14 +6,13 @@ use crate::bench::{
 };
 use crate::outcome::{done, refused, some};
 use crate::schedule::{Left, Schedule, add, all_home, finish, listed, push, take_all};
-use dma_arena::{Arena, Buf, Octets};
-use nic_device::{Device, Dir, Event, Port, Reply};
-use pmd::{Pmd, Rest, StartRefused, StopRefused};
-use pmd_base::{Direct, Nic, Packet, PmdFault};
-use pmd_interleaved::{Finished, Interleaved};
-use pmd_tx::TxAnswer;
+use nic_device::{Arena, Buf, Device, Dir, Event, Octets, Port, Reply};
 use std::alloc::Global;
 use std::process::Abort;
+use workers::{
+    Direct, Finished, Interleaved, Nic, Packet, Pmd, PmdFault, Rest, StartRefused, StopRefused,
+    TxAnswer,
+};
 
 /// A device in hand, and no more foreign events.
 fn alone<R: Abort>(rt: &R, alloc: Global, nic: Interleaved) -> Interleaved {

@@ -1,10 +1,9 @@
 use crate::outcome::{done, some};
-use device_lock::{Pass, Shared};
-use dma_arena::Arena;
-use nic_device::{Event, Parts, Port, Reply};
+use nic_device::{Arena, Event, Parts, Port, Reply};
 use std::alloc::Global;
 use std::process::Abort;
 use std::sync::Wait;
+use workers::{Pass, Shared};
 
 /// A shared device of one virtual function.
 type Bench = Shared<1, 64>;

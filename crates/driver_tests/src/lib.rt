@@ -2,7 +2,7 @@
 //! with the reply to its own event, and that the shared device then closes; that the driver's calls succeed where
 //! memory is ample, over a device in hand, among foreign events and over one that threads share, that what they write
 //! is what the device then does, and that a driver comes to its end whatever others do to its queue, also beside
-//! another on threads.
+//! another on threads; that a task which doesn't begin gives up; and that workers meet point by point.
 #![tactic(auto)]
 
 #[cfg(test)]
@@ -17,6 +17,8 @@ mod hostile;
 mod interleaved;
 #[cfg(test)]
 mod left_alone;
+#[cfg(test)]
+mod meeting_points;
 #[cfg(test)]
 mod other_queues;
 #[cfg(test)]
@@ -33,5 +35,7 @@ mod schedule;
 mod shared_device;
 #[cfg(test)]
 mod stranger;
+#[cfg(test)]
+mod tasks;
 #[cfg(test)]
 mod through_lock;

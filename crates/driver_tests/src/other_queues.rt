@@ -7,12 +7,10 @@ use crate::history::{DRIVER, is_left_alone};
 use crate::hostile::{Begun, begin_on, endures};
 use crate::outcome::{done, some};
 use crate::schedule::push;
-use device_lock::Entry;
-use dma_arena::{Arena, Octets};
-use nic_device::{Dir, Event, Port, Reply};
-use pmd_base::Setup;
+use nic_device::{Arena, Dir, Event, Octets, Port, Reply};
 use std::alloc::Global;
 use std::process::Abort;
+use workers::{Entry, Setup};
 
 /// Each TCP segment over IPv4 is for queue 3, and each other frame for queue 0.
 const HASHED: Setup = Setup {

@@ -3,8 +3,7 @@
 use crate::bench::frame_of;
 use crate::outcome::done;
 use crate::schedule::{Schedule, add, push};
-use dma_arena::{Arena, Octets};
-use nic_device::{Dir, Event, Group, Port};
+use nic_device::{Arena, Dir, Event, Group, Octets, Port};
 use std::alloc::Global;
 use std::process::Abort;
 

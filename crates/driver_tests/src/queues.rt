@@ -2,12 +2,10 @@
 
 use crate::bench::end;
 use crate::outcome::{done, refused, some};
-use nic_device::{Config, Device, Dir, Port};
-use pmd_base::{Direct, PmdFault, Setup, pf_setup};
-use pmd_queue::{POLLS, Queue};
+use nic_device::{Config, Device, Dir, Mode, Port};
 use std::alloc::Global;
 use std::process::Abort;
-use vf_map::Mode;
+use workers::{Direct, POLLS, PmdFault, Queue, Setup, pf_setup};
 
 /// A device of two virtual functions with 64 pools, stepped on its queue 2.
 fn opened<R: Abort>(rt: &R, alloc: Global) -> Direct {

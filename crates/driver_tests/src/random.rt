@@ -5,16 +5,11 @@ use crate::history::{DRIVER, OTHERS, add_calls, add_entries, is_left_alone};
 use crate::others::{Others, Random};
 use crate::outcome::{done, some};
 use crate::schedule::{Left, all_home, finish, listed, take_all};
-use device_lock::Entry;
 use nic_device::{Device, Event, Reply};
-use pmd::Pmd;
-use pmd_base::{Direct, Nic, Packet, Record};
-use pmd_halt::Home;
-use pmd_interleaved::Interleaved;
-use pmd_tx::TxAnswer;
 use std::alloc::Global;
 use std::collections::VecDeque;
 use std::process::Abort;
+use workers::{Direct, Entry, Home, Interleaved, Nic, Packet, Pmd, Record, TxAnswer};
 
 /// A schedule is drawn from each.
 const SEEDS: [u32; 20] = [

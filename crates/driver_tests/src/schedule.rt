@@ -2,12 +2,10 @@
 
 use crate::history::add_marked;
 use crate::outcome::{done, none, put, some};
-use device_lock::Entry;
-use dma_arena::{Arena, Buf, LentMemory};
-use nic_device::{Device, Dir, Event, Reply};
-use pmd_interleaved::{Finished, Interleaved};
+use nic_device::{Arena, Buf, Device, Dir, Event, LentMemory, Reply};
 use std::alloc::Global;
 use std::process::Abort;
+use workers::{Entry, Finished, Interleaved};
 
 /// Lists of foreign events, one for each of the next calls.
 pub type Schedule = Vec<Vec<Event>>;

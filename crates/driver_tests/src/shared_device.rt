@@ -1,10 +1,10 @@
 use crate::outcome::{done, refused, some};
-use device_lock::{CallFault, CloseFault, CloseRefused, Pass, Shared};
 use nic_device::{Device, Event, Parts, Port, Reply};
 use std::alloc::Global;
 use std::process::Abort;
 use std::sync::Wait;
 use std::thread::join_mut;
+use workers::{CallFault, CloseFault, CloseRefused, Pass, Shared};
 
 type Bench = Shared<0, 64>;
 

@@ -7,22 +7,16 @@ use crate::hostile::WRITES;
 use crate::others::{Others, lend};
 use crate::outcome::{done, none, put, some};
 use crate::schedule::{all_home, let_reply_go, listed, take_all};
-use device_lock::{Closed, Pass, Shared};
-use dma_arena::{Arena, Buf};
-use lockstep::Lockstep;
-use nic_device::{Event, Port, ReplyNote};
-use pmd::Rest;
-use pmd_base::{Setup, pf_setup};
-use pmd_halt::Home;
-use pmd_lock::ThroughLock;
+use nic_device::{Arena, Buf, Event, Mode, Port, ReplyNote};
 use std::alloc::Global;
 use std::process::Abort;
 use std::sync::Wait;
 use std::sync::atomic::{AtomicU64, Ordering};
 use std::thread::{Threads, join_mut};
-use vf_map::Mode;
-use worker_team::{Ran, WorkerEnd, run_workers};
-use workers::Job;
+use workers::{
+    Closed, Home, Job, Lockstep, Pass, Ran, Rest, Setup, Shared, ThroughLock, WorkerEnd, pf_setup,
+    run_workers,
+};
 
 type Bench = Shared<1, 64>;
 

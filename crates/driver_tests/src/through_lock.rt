@@ -2,15 +2,12 @@
 
 use crate::bench::end;
 use crate::outcome::{done, refused, some};
-use device_lock::{CallFault, Pass, Shared};
 use nic_device::{Dir, Event, Port, Reply};
-use pmd_base::Nic;
-use pmd_lock::ThroughLock;
-use pmd_queue::{POLLS, Queue};
 use std::alloc::Global;
 use std::process::Abort;
 use std::sync::Wait;
 use std::thread::join_mut;
+use workers::{CallFault, Nic, POLLS, Pass, Queue, Shared, ThroughLock};
 
 type Bench = Shared<0, 64>;
 

@@ -1,7 +1,7 @@
 -- What the lines of a text give is of a right size, and its numbers fit.
 use Rattle.std.proofs.Common.{◌≡◌, ℕ, ◌+◌, ◌*◌, ◌%◌, ◌<◌, true, List, [], ◌∷◌, ◌++◌, length, Some, None, Result, Ok, Err, refl, subst}
 use Rattle.std.specs.List.{AllByRecursion}
-use Rattle.lexer.specs.Lines.{NumberedLine, lines_of}
+use Rattle.text_format.specs.Lines.{NumberedLine, lines_of}
 use Rattle.eeprom_image.specs.Image.{is_size}
 use Rattle.eeprom_image.specs.Line.{text_line}
 use Rattle.eeprom_image.specs.Content.{Content, IsContent, Sized, only_size, with_line, with_lines, sized_by, sized, content_behind, content_of, ◌then◌}

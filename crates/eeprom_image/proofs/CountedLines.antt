@@ -2,8 +2,8 @@
 use Rattle.std.proofs.Common.{◌≡◌, ℕ, ◌+◌, ◌≤◌, List, ◌∷◌, length, drop, length-drop, sym, ap, subst, arith}
 use Rattle.std.specs.List.{prefix_len}
 use Rattle.std.proofs.lemmas.List.Sums.{prefix_len-le-length}
-use Rattle.lexer.specs.Lines.{NumberedLine}
-use Rattle.lexer.specs.Wordless.{is_wordless}
+use Rattle.text_format.specs.Lines.{NumberedLine}
+use Rattle.text_format.specs.Wordless.{is_wordless}
 use Rattle.eeprom_image.proofs.Numbered.{IsNumberedFrom, IsNumberedFrom-drop}
 
 -- so many lines came before the rest, of so many in all

@@ -3,9 +3,9 @@ use Rattle.std.proofs.Common.{refl, sym, ap, ◌∙◌, ◌≡◌, ℕ, zero, su
 use Rattle.std.specs.List.{prefix_len}
 use Rattle.std.proofs.lemmas.Bool.{cases_Bool}
 use Rattle.std.proofs.lemmas.List.Sums.{prefix_len-le-length}
-use Rattle.lexer.specs.Lines.{NumberedLine}
-use Rattle.lexer.specs.Words.{words_of}
-use Rattle.lexer.specs.Wordless.{are_none, is_wordless}
+use Rattle.text_format.specs.Lines.{NumberedLine}
+use Rattle.text_format.specs.Words.{words_of}
+use Rattle.text_format.specs.Wordless.{are_none, is_wordless}
 use Rattle.eeprom_image.specs.Content.{Content, SaysFirst, SaysNext, with_line, with_lines, ◌then◌, sized, sized_by}
 use Rattle.eeprom_image.specs.Line.{line_in, text_line}
 use Rattle.eeprom_image.specs.declared.line.TextLine.{TextLine}

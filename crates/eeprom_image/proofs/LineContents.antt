@@ -5,10 +5,10 @@ use Rattle.std.specs.Str.{bytes_eq}
 use Rattle.std.specs.Str.Parse.{digits_value}
 use Rattle.std.proofs.lemmas.Bool.{and_parts, eqb-true}
 use borrow.Author.Tests.{ltb-true}
-use Rattle.lexer.specs.Number.{is_numeral, numeral_of, number_of}
-use Rattle.lexer.specs.Words.{words_of}
-use Rattle.lexer.specs.declared.numbers.NumberFault.{NumberFault}
-use Rattle.lexer.specs.declared.numbers.NumberFault.TheVariants.{TooLarge}
+use Rattle.text_format.specs.Number.{is_numeral, numeral_of, number_of}
+use Rattle.text_format.specs.Words.{words_of}
+use Rattle.text_format.specs.declared.numbers.NumberFault.{NumberFault}
+use Rattle.text_format.specs.declared.numbers.NumberFault.TheVariants.{TooLarge}
 use Rattle.eeprom_image.specs.Image.{is_size}
 use Rattle.eeprom_image.specs.Line.{number_in, one_number, two_numbers, size_line, word_line, csr_line, line_in, text_line}
 use Rattle.eeprom_image.specs.declared.line.TextLine.{TextLine}

@@ -1,7 +1,7 @@
 -- Lines whose numbers count up.
 use Rattle.std.proofs.Common.{◌≡◌, ℕ, ◌+◌, zero, suc, List, [], ◌∷◌, drop, refl, arith}
 use Rattle.std.specs.Str.Lines.{lines}
-use Rattle.lexer.specs.Lines.{NumberedLine, numbered_from, lines_of}
+use Rattle.text_format.specs.Lines.{NumberedLine, numbered_from, lines_of}
 
 -- the lines have the numbers from the first one on
 abbrev pub IsNumberedFrom : ℕ → List NumberedLine → Type 0

@@ -1,12 +1,12 @@
 -- What lines say that are read in one look.
 use Rattle.std.proofs.Common.{refl, ap, sym, ◌∙◌, ◌≡◌, ℕ, List, [], ◌∷◌, Some, codes}
 use Rattle.std.specs.Result.{result_ok}
-use Rattle.lexer.specs.Lines.{NumberedLine}
-use Rattle.lexer.specs.Words.{words_of}
-use Rattle.lexer.specs.Number.{number_of}
-use Rattle.lexer.specs.Pair.{IsPair}
-use Rattle.lexer.specs.TakenPair.{TakesPair}
-use Rattle.lexer.specs.declared.lines.Pair.{Pair}
+use Rattle.text_format.specs.Lines.{NumberedLine}
+use Rattle.text_format.specs.Words.{words_of}
+use Rattle.text_format.specs.Number.{number_of}
+use Rattle.text_format.specs.Pair.{IsPair}
+use Rattle.text_format.specs.TakenPair.{TakesPair}
+use Rattle.text_format.specs.declared.lines.Pair.{Pair}
 use Rattle.eeprom_image.specs.Line.{two_numbers, word_line, csr_line, line_in, text_line}
 use Rattle.eeprom_image.specs.Content.{SaysFirst}
 

@@ -1,6 +1,6 @@
 -- What a text gives, by its size.
 use Rattle.std.proofs.Common.{refl, sym, ◌∙◌, ap, ◌≡◌, ℕ, ◌+◌, List, [], ◌∷◌, length, Some, None, Ok, Err}
-use Rattle.lexer.specs.Lines.{NumberedLine, lines_of}
+use Rattle.text_format.specs.Lines.{NumberedLine, lines_of}
 use Rattle.eeprom_image.specs.Content.{content_of, with_lines, only_size, sized, sized_by, content_behind, ◌then◌}
 use Rattle.eeprom_image.specs.Line.{text_line}
 use Rattle.eeprom_image.specs.declared.line.TextLine.{TextLine}

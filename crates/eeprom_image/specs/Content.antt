@@ -1,7 +1,7 @@
 -- What the lines of an EEPROM text give.
 use Rattle.std.specs.Prelude.{◌≡◌, ℕ, ◌+◌, ◌*◌, ◌<◌, ◌%◌, List, [], ◌∷◌, ◌++◌, length, Option, Some, None, Result, Ok, Err, IsTrue}
 use Rattle.std.specs.List.{AllByRecursion}
-use Rattle.lexer.specs.Lines.{NumberedLine, lines_of}
+use Rattle.text_format.specs.Lines.{NumberedLine, lines_of}
 use Rattle.eeprom_image.specs.Image.{is_size}
 use Rattle.eeprom_image.specs.Line.{text_line}
 use Rattle.eeprom_image.specs.declared.line.TextLine.{TextLine}

@@ -3,8 +3,8 @@ use Rattle.std.specs.Prelude.{ℕ, ◌%◌, ◌&&◌, ◌==◌, nat_lt, if◌the
 use Rattle.std.specs.Option.{option_map}
 use Rattle.std.specs.Result.{result_ok}
 use Rattle.std.specs.Str.{bytes_eq}
-use Rattle.lexer.specs.Words.{words_of}
-use Rattle.lexer.specs.Number.{number_of}
+use Rattle.text_format.specs.Words.{words_of}
+use Rattle.text_format.specs.Number.{number_of}
 use Rattle.eeprom_image.specs.Image.{is_size}
 use Rattle.eeprom_image.specs.declared.line.TextLine.{TextLine}
 use Rattle.eeprom_image.specs.declared.line.TextLine.TheVariants.{Empty, Size, Word, Csr, Malformed}

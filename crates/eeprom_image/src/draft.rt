@@ -2,15 +2,15 @@
 
 ghost use Rattle.std.specs.Prelude.{◌≡◌, ◌+◌, ◌≤◌, ◌<◌, ◌^◌, [], length, Ok, None, MatchOption, IfSome, IfOk, IfErr};
 ghost use Rattle.std.specs.Option.{option_map};
-ghost use Rattle.lexer.specs.Lines.{lines_of};
+ghost use Rattle.text_format.specs.Lines.{lines_of};
 ghost use Rattle.eeprom_image.specs.Content.{SaysFirst, SaysNext, with_line, with_lines, sized, content_of, only_size, ◌then◌};
 ghost use Rattle.eeprom_image.specs.Text.{Gives, Fails};
 ghost use Rattle.eeprom_image.specs.Draft.{content_in};
 
 use crate::line::{TextLine, csr_line, text_line, word_line};
 use crate::text::AsmFault;
-use lexer::Lines;
 use std::alloc::Global;
+use text_format::Lines;
 
 /// How many bytes a line takes at least that gives a word or a register write, so that neither list grows.
 const LINE_LENGTH: usize = 8;

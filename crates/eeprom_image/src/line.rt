@@ -4,7 +4,7 @@ ghost use Rattle.std.specs.Prelude.{◌≡◌, ◌^◌};
 ghost use Rattle.eeprom_image.specs.Line.{number_in, one_number, two_numbers, size_line, word_line, csr_line, text_line};
 
 use crate::image::is_size;
-use lexer::{Words, number};
+use text_format::{Words, number};
 
 /// What a line says.
 #[derive(Clone, Copy, Debug, PartialEq, Eq)]

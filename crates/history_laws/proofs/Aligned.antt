@@ -1,10 +1,10 @@
 -- Rings stay aligned over every history.
 use Rattle.std.proofs.Common.{◌≡◌, ℕ, ◌+◌, ◌*◌, ◌%◌, ◌^◌, [], ◌∷◌, refl, sym, ◌∙◌, arith}
-use Rattle.reg_table.specs.Rows.{row_of}
-use Rattle.reg_table.specs.declared.rows.RowId.TheVariants.{Rdbal, Rdlen, Tdbal, Tdlen}
-use Rattle.register_file.specs.Access.{asks_reset}
-use Rattle.register_file.specs.Registers.{Registers, reset_registers, word_of}
-use Rattle.register_file.specs.declared.dir.Dir.TheVariants.{Rx, Tx}
+use Rattle.nic_device.specs.RegTable.Rows.{row_of}
+use Rattle.nic_device.specs.RegTable.declared.rows.RowId.TheVariants.{Rdbal, Rdlen, Tdbal, Tdlen}
+use Rattle.nic_device.specs.RegisterFile.Access.{asks_reset}
+use Rattle.nic_device.specs.RegisterFile.Registers.{Registers, reset_registers, word_of}
+use Rattle.nic_device.specs.DmaRing.declared.dir.Dir.TheVariants.{Rx, Tx}
 use Rattle.nic_device.specs.Access.{named_written}
 use Rattle.nic_device.specs.Eeprom.{reset}
 use Rattle.nic_device.specs.Named.{named}

@@ -3,9 +3,9 @@ use Rattle.std.proofs.Common.{◌≡◌, ◌≢◌, ℕ, inl, inr, Bool, true, f
 use Rattle.std.specs.Prelude.{◌==◌, is_some}
 use Rattle.std.specs.FinMap as map
 use Rattle.std.proofs.lemmas.Bool.{cases_eq, both_ways, and_from, or_left, or_right, eq-eqb, ne_eqb}
-use Rattle.dma_arena.specs.Block.{Block}
-use Rattle.dma_arena.specs.Memory.{has_block}
-use Rattle.dma_arena.proofs.Bus.{get-remove_same, get-remove_other}
+use Rattle.nic_device.specs.DmaArena.Block.{Block}
+use Rattle.nic_device.specs.DmaArena.Memory.{has_block}
+use Rattle.nic_device.proofs.DmaArena.Bus.{get-remove_same, get-remove_other}
 use Rattle.nic_device.specs.Outcome.{Outcome}
 use Rattle.nic_device.specs.State.{State}
 use Rattle.nic_device.specs.Step.{step_of, after}

@@ -1,3 +1,4 @@
+pub use Rattle.device_laws.proofs as DeviceLaws
 pub mod Aligned
 pub mod Alone
 pub mod Beginning

@@ -1,19 +1,19 @@
 -- The low seven bits of the words of a ring's base and length stay 0 as a device is reset.
 use Rattle.std.proofs.Common.{◌≡◌, ℕ, ◌%◌, ◌^◌, ◌<◌, List, [], ◌∷◌, Option, Some, None}
 use Rattle.std.specs.List.{AllByRecursion}
-use Rattle.eeprom_image.specs.Triples.{triples_of}
-use Rattle.eeprom_image.proofs.TripleLists.{triples-fit}
-use Rattle.reg_table.specs.Place.{place_among, view_among}
-use Rattle.reg_table.specs.Rows.{row_of}
-use Rattle.reg_table.specs.Runs.{runs}
-use Rattle.reg_table.specs.declared.place.Place.{Place}
-use Rattle.register_file.specs.Access.{asks_pool_reset}
-use Rattle.register_file.specs.Pools.{mode_in}
-use Rattle.register_file.specs.Registers.{reset_registers, word_of}
-use Rattle.register_laws.specs.Laws.{after_write}
-use Rattle.register_laws.specs.Sound.{AreSound}
-use Rattle.register_laws.proofs.PoolSound.{sound-pool_reset}
-use Rattle.register_laws.proofs.Sound.{sound-reset, sound-written}
+use Rattle.nic_device.specs.EepromImage.Triples.{triples_of}
+use Rattle.nic_device.proofs.EepromImage.TripleLists.{triples-fit}
+use Rattle.nic_device.specs.RegTable.Place.{place_among, view_among}
+use Rattle.nic_device.specs.RegTable.Rows.{row_of}
+use Rattle.nic_device.specs.RegTable.Runs.{runs}
+use Rattle.nic_device.specs.RegTable.declared.place.Place.{Place}
+use Rattle.nic_device.specs.RegisterFile.Access.{asks_pool_reset}
+use Rattle.nic_device.specs.RegisterFile.Pools.{mode_in}
+use Rattle.nic_device.specs.RegisterFile.Registers.{reset_registers, word_of}
+use Rattle.nic_device.specs.RegisterLaws.Laws.{after_write}
+use Rattle.nic_device.specs.RegisterLaws.Sound.{AreSound}
+use Rattle.nic_device.proofs.RegisterLaws.PoolSound.{sound-pool_reset}
+use Rattle.nic_device.proofs.RegisterLaws.Sound.{sound-reset, sound-written}
 use Rattle.nic_device.specs.Eeprom.{is_stepped_over, triple_written, with_triple, with_triples, reset}
 use Rattle.nic_device.specs.PoolReset.{with_pool_reset, written_below_reset}
 use Rattle.nic_device.specs.Sound.{IsSound}

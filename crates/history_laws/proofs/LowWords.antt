@@ -4,25 +4,25 @@ use Rattle.std.specs.Prelude.{bit_and, bit_or}
 use Rattle.std.specs.Int.Bits.{and_zero_l}
 use Rattle.std.proofs.lemmas.Bool.{cases_Bool}
 use Rattle.std.proofs.lemmas.Nat.{and_comm, or_mod, and_mod}
-use Rattle.reg_table.specs.Rows.{row_of}
-use Rattle.reg_table.specs.declared.kind.Kind.TheVariants as kind
-use Rattle.reg_table.specs.declared.place.Place.{Place}
-use Rattle.reg_table.specs.declared.rows.RowId.{RowId}
-use Rattle.reg_table.specs.declared.rows.RowId.TheVariants.{Rdbal, Rdlen, Tdbal, Tdlen}
-use Rattle.vf_map.specs.declared.mode.Mode.{Mode}
-use Rattle.register_file.specs.Access.{is_running, stored, written}
-use Rattle.register_file.specs.Bits.{merged}
-use Rattle.register_file.specs.Columns.{place}
-use Rattle.register_file.specs.Owner.{owner_of}
-use Rattle.register_file.specs.PoolReset.{pool_reset}
-use Rattle.register_file.specs.Registers.{Registers, reset_registers, word_of}
-use Rattle.register_laws.specs.Footprint.{is_pending, is_place, of_pool}
-use Rattle.register_laws.specs.Laws.{after_write}
-use Rattle.register_laws.specs.Sound.{HasShape}
-use Rattle.register_laws.proofs.Owners.{is_place-same}
-use Rattle.register_laws.proofs.PoolReset.{renewed-pool}
-use Rattle.register_file.proofs.ResetWords.{word_at-reset}
-use Rattle.register_laws.proofs.Shape.{put_stands}
+use Rattle.nic_device.specs.RegTable.Rows.{row_of}
+use Rattle.nic_device.specs.RegTable.declared.kind.Kind.TheVariants as kind
+use Rattle.nic_device.specs.RegTable.declared.place.Place.{Place}
+use Rattle.nic_device.specs.RegTable.declared.rows.RowId.{RowId}
+use Rattle.nic_device.specs.RegTable.declared.rows.RowId.TheVariants.{Rdbal, Rdlen, Tdbal, Tdlen}
+use Rattle.nic_device.specs.VfMap.declared.mode.Mode.{Mode}
+use Rattle.nic_device.specs.RegisterFile.Access.{is_running, stored, written}
+use Rattle.nic_device.specs.RegisterFile.Bits.{merged}
+use Rattle.nic_device.specs.RegisterFile.Columns.{place}
+use Rattle.nic_device.specs.RegisterFile.Owner.{owner_of}
+use Rattle.nic_device.specs.RegisterFile.PoolReset.{pool_reset}
+use Rattle.nic_device.specs.RegisterFile.Registers.{Registers, reset_registers, word_of}
+use Rattle.nic_device.specs.RegisterLaws.Footprint.{is_pending, is_place, of_pool}
+use Rattle.nic_device.specs.RegisterLaws.Laws.{after_write}
+use Rattle.nic_device.specs.RegisterLaws.Sound.{HasShape}
+use Rattle.nic_device.proofs.RegisterLaws.Owners.{is_place-same}
+use Rattle.nic_device.proofs.RegisterLaws.PoolReset.{renewed-pool}
+use Rattle.nic_device.proofs.RegisterFile.ResetWords.{word_at-reset}
+use Rattle.nic_device.proofs.RegisterLaws.Shape.{put_stands}
 use Rattle.nic_device.proofs.Cases.{either_way}
 use Rattle.history_laws.proofs.OtherWords.{other_written}
 

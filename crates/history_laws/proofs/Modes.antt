@@ -1,19 +1,19 @@
 -- The mode that the entries of a history tell is the device's.
 use Rattle.std.proofs.Common.{◌≡◌, ◌≢◌, ℕ, ◌<◌, ◌⊎◌, inl, inr, Bool, true, false, List, [], ◌∷◌, refl, sym, ap, ◌∙◌, subst, arith, cond}
 use Rattle.std.proofs.lemmas.Bool.{cases_eq}
-use Rattle.dma_arena.specs.Block.{Block}
-use Rattle.eeprom_image.specs.Image.{blank}
-use Rattle.reg_table.specs.Rows.{row_of, number_of}
-use Rattle.reg_table.specs.declared.place.Place.{Place}
-use Rattle.reg_table.specs.declared.rows.RowId.TheVariants.{Ctrl, GcrExt}
-use Rattle.reg_table.proofs.FirstAddresses.{same_number}
-use Rattle.vf_map.specs.Pools.{mode_of}
-use Rattle.vf_map.specs.declared.mode.Mode.TheVariants.{Off}
-use Rattle.register_file.specs.Access.{asks_reset}
-use Rattle.register_file.specs.Columns.{place}
-use Rattle.register_file.specs.Pools.{mode_in}
-use Rattle.register_file.proofs.ResetWords.{word_at-reset}
-use Rattle.register_laws.proofs.Puts.{same_parts}
+use Rattle.nic_device.specs.DmaArena.Block.{Block}
+use Rattle.nic_device.specs.EepromImage.Image.{blank}
+use Rattle.nic_device.specs.RegTable.Rows.{row_of, number_of}
+use Rattle.nic_device.specs.RegTable.declared.place.Place.{Place}
+use Rattle.nic_device.specs.RegTable.declared.rows.RowId.TheVariants.{Ctrl, GcrExt}
+use Rattle.nic_device.proofs.RegTable.FirstAddresses.{same_number}
+use Rattle.nic_device.specs.VfMap.Pools.{mode_of}
+use Rattle.nic_device.specs.VfMap.declared.mode.Mode.TheVariants.{Off}
+use Rattle.nic_device.specs.RegisterFile.Access.{asks_reset}
+use Rattle.nic_device.specs.RegisterFile.Columns.{place}
+use Rattle.nic_device.specs.RegisterFile.Pools.{mode_in}
+use Rattle.nic_device.proofs.RegisterFile.ResetWords.{word_at-reset}
+use Rattle.nic_device.proofs.RegisterLaws.Puts.{same_parts}
 use Rattle.nic_device.specs.Access.{named_written}
 use Rattle.nic_device.specs.Eeprom.{reset}
 use Rattle.nic_device.specs.PoolReset.{written_below_reset}

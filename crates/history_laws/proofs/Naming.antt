@@ -1,18 +1,18 @@
 -- What a number of a port names.
 use Rattle.std.proofs.Common.{◌≡◌, ℕ, ◌<◌, inr, refl, sym, Option, Some, None}
 use Rattle.std.specs.Prelude.{⊤}
-use Rattle.reg_table.specs.Place.{place_among, view_among}
-use Rattle.reg_table.specs.Rows.{row_of}
-use Rattle.reg_table.specs.Runs.{runs}
-use Rattle.reg_table.specs.declared.place.Place.{Place}
-use Rattle.reg_table.proofs.Finding.{found-named}
-use Rattle.reg_table.proofs.InRange.{named_in_range}
-use Rattle.vf_map.specs.Map.{located}
-use Rattle.vf_map.specs.declared.located.Located.{Located}
-use Rattle.vf_map.specs.declared.located.Located.TheVariants as located_as
-use Rattle.vf_map.specs.declared.mode.Mode.{Mode}
-use Rattle.vf_map.proofs.Owners.{located_in_range}
-use Rattle.register_file.specs.Pools.{mode_in}
+use Rattle.nic_device.specs.RegTable.Place.{place_among, view_among}
+use Rattle.nic_device.specs.RegTable.Rows.{row_of}
+use Rattle.nic_device.specs.RegTable.Runs.{runs}
+use Rattle.nic_device.specs.RegTable.declared.place.Place.{Place}
+use Rattle.nic_device.proofs.RegTable.Finding.{found-named}
+use Rattle.nic_device.proofs.RegTable.InRange.{named_in_range}
+use Rattle.nic_device.specs.VfMap.Map.{located}
+use Rattle.nic_device.specs.VfMap.declared.located.Located.{Located}
+use Rattle.nic_device.specs.VfMap.declared.located.Located.TheVariants as located_as
+use Rattle.nic_device.specs.VfMap.declared.mode.Mode.{Mode}
+use Rattle.nic_device.proofs.VfMap.Owners.{located_in_range}
+use Rattle.nic_device.specs.RegisterFile.Pools.{mode_in}
 use Rattle.nic_device.specs.Named.{named, at_place, at_location}
 use Rattle.nic_device.specs.State.{State}
 use Rattle.nic_device.specs.declared.event.Port.{Port}

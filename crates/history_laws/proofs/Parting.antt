@@ -1,23 +1,23 @@
 -- Writes of registers, and how they part the queues among pools.
 use Rattle.std.proofs.Common.{◌≡◌, ◌≢◌, ℕ, false, refl, sym, ap, ◌∙◌, arith, cond}
 use Rattle.std.specs.Prelude.{◌==◌, if◌then◌else◌}
-use Rattle.dma_arena.specs.Block.{Block}
-use Rattle.eeprom_image.specs.Image.{blank}
-use Rattle.eeprom_image.specs.Triples.{triples_of}
-use Rattle.eeprom_image.proofs.Blank.{triples_of-blank}
-use Rattle.reg_table.specs.Rows.{row_of}
-use Rattle.reg_table.specs.declared.place.Place.{Place}
-use Rattle.reg_table.specs.declared.rows.RowId.{RowId}
-use Rattle.reg_table.specs.declared.rows.RowId.TheVariants.{Ctrl, GcrExt}
-use Rattle.vf_map.specs.Pools.{mode_of}
-use Rattle.vf_map.specs.declared.mode.Mode.{Mode}
-use Rattle.vf_map.specs.declared.mode.Mode.TheVariants.{Off, Pools16, Pools32, Pools64}
-use Rattle.register_file.specs.Access.{asks_reset}
-use Rattle.register_file.specs.Columns.{place}
-use Rattle.register_file.specs.Pools.{mode_in}
-use Rattle.register_file.specs.Registers.{word_of}
-use Rattle.register_file.proofs.ResetWords.{word_at-reset}
-use Rattle.register_laws.proofs.Shape.{put_stands}
+use Rattle.nic_device.specs.DmaArena.Block.{Block}
+use Rattle.nic_device.specs.EepromImage.Image.{blank}
+use Rattle.nic_device.specs.EepromImage.Triples.{triples_of}
+use Rattle.nic_device.proofs.EepromImage.Blank.{triples_of-blank}
+use Rattle.nic_device.specs.RegTable.Rows.{row_of}
+use Rattle.nic_device.specs.RegTable.declared.place.Place.{Place}
+use Rattle.nic_device.specs.RegTable.declared.rows.RowId.{RowId}
+use Rattle.nic_device.specs.RegTable.declared.rows.RowId.TheVariants.{Ctrl, GcrExt}
+use Rattle.nic_device.specs.VfMap.Pools.{mode_of}
+use Rattle.nic_device.specs.VfMap.declared.mode.Mode.{Mode}
+use Rattle.nic_device.specs.VfMap.declared.mode.Mode.TheVariants.{Off, Pools16, Pools32, Pools64}
+use Rattle.nic_device.specs.RegisterFile.Access.{asks_reset}
+use Rattle.nic_device.specs.RegisterFile.Columns.{place}
+use Rattle.nic_device.specs.RegisterFile.Pools.{mode_in}
+use Rattle.nic_device.specs.RegisterFile.Registers.{word_of}
+use Rattle.nic_device.proofs.RegisterFile.ResetWords.{word_at-reset}
+use Rattle.nic_device.proofs.RegisterLaws.Shape.{put_stands}
 use Rattle.nic_device.specs.Access.{named_written}
 use Rattle.nic_device.specs.Eeprom.{with_triples}
 use Rattle.nic_device.specs.Footprint.{write_reach, reset_reach, below_reset_reach}

@@ -2,18 +2,18 @@
 use Rattle.std.proofs.Common.{cond, ◌≡◌, ℕ, ◌+◌, ◌*◌, ◌/◌, ◌%◌, ◌^◌, ◌≤◌, Bool, true, false, inl, inr, ap, sym, subst, arith, Some, None}
 use Rattle.std.proofs.lemmas.Bool.{cases_lt}
 use Rattle.std.proofs.lemmas.List.{get_or_past}
-use Rattle.dma_arena.specs.Block.{Block}
-use Rattle.dma_arena.specs.Memory.{LiesIn}
-use Rattle.dma_ring.specs.Ring.{descriptor_address}
-use Rattle.reg_table.specs.declared.rows.RowId.TheVariants.{Tdbal, Tdbah, Tdwbal, Tdwbah}
-use Rattle.register_file.specs.Bits.{has_bit}
-use Rattle.register_file.specs.Queue.{ring_of}
-use Rattle.register_file.specs.Registers.{Registers, word_of}
-use Rattle.register_file.specs.Settings.{writeback_of}
-use Rattle.register_file.specs.Words.{row_words}
-use Rattle.register_file.specs.declared.dir.Dir.TheVariants.{Tx}
-use Rattle.register_laws.specs.Sound.{HasShape}
-use Rattle.tx_ring.specs.Report.{report_length}
+use Rattle.nic_device.specs.DmaArena.Block.{Block}
+use Rattle.nic_device.specs.DmaArena.Memory.{LiesIn}
+use Rattle.nic_device.specs.DmaRing.Ring.{descriptor_address}
+use Rattle.nic_device.specs.RegTable.declared.rows.RowId.TheVariants.{Tdbal, Tdbah, Tdwbal, Tdwbah}
+use Rattle.nic_device.specs.RegisterFile.Bits.{has_bit}
+use Rattle.nic_device.specs.RegisterFile.Queue.{ring_of}
+use Rattle.nic_device.specs.RegisterFile.Registers.{Registers, word_of}
+use Rattle.nic_device.specs.RegisterFile.Settings.{writeback_of}
+use Rattle.nic_device.specs.RegisterFile.Words.{row_words}
+use Rattle.nic_device.specs.DmaRing.declared.dir.Dir.TheVariants.{Tx}
+use Rattle.nic_device.specs.RegisterLaws.Sound.{HasShape}
+use Rattle.nic_device.specs.TxRing.Report.{report_length}
 use Rattle.nic_device.specs.Footprint.{told_back}
 use Rattle.nic_device.specs.State.{State}
 use Rattle.nic_device.specs.Step.{after, reply_to}

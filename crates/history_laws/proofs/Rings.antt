@@ -1,13 +1,13 @@
 -- Rings stay aligned where sides of queues are left, as slots are fetched, and as sides are switched.
 use Rattle.std.proofs.Common.{◌≡◌, ◌≢◌, ℕ, ◌<◌, inl, inr, refl, ap, sym, subst}
 use Rattle.std.proofs.lemmas.Bool.{cases_eq}
-use Rattle.dma_ring.specs.declared.ring.Ring.{Ring}
-use Rattle.register_file.specs.Queue.{ring_of, switched}
-use Rattle.register_file.specs.Registers.{is_wanted}
-use Rattle.register_file.specs.declared.dir.Dir.{Dir}
-use Rattle.register_file.specs.declared.dir.Dir.TheVariants.{Rx, Tx}
-use Rattle.register_laws.specs.Sides.{ReceiveQueue, TransmitQueue}
-use Rattle.register_laws.proofs.Switches.{receive-switched, transmit-switched}
+use Rattle.nic_device.specs.DmaRing.declared.ring.Ring.{Ring}
+use Rattle.nic_device.specs.RegisterFile.Queue.{ring_of, switched}
+use Rattle.nic_device.specs.RegisterFile.Registers.{is_wanted}
+use Rattle.nic_device.specs.DmaRing.declared.dir.Dir.{Dir}
+use Rattle.nic_device.specs.DmaRing.declared.dir.Dir.TheVariants.{Rx, Tx}
+use Rattle.nic_device.specs.RegisterLaws.Sides.{ReceiveQueue, TransmitQueue}
+use Rattle.nic_device.proofs.RegisterLaws.Switches.{receive-switched, transmit-switched}
 use Rattle.nic_device.specs.Outcome.{Outcome}
 use Rattle.nic_device.specs.Sound.{IsSound}
 use Rattle.nic_device.specs.State.{State}

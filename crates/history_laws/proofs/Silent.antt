@@ -2,11 +2,11 @@
 use Rattle.std.proofs.Common.{◌≡◌, ℕ, ◌<◌, Bool, true, false, not, ◌||◌, List, refl, ap, Option, Some, None}
 use Rattle.std.specs.Prelude.{IsFalse}
 use Rattle.std.proofs.lemmas.Bool.{lt-ltb}
-use Rattle.tx_ring.specs.declared.fetched.Fetched.{Fetched}
-use Rattle.register_file.specs.Queue.{is_on}
-use Rattle.register_file.specs.Settings.{is_stopped, can_transmit}
-use Rattle.register_laws.specs.Sides.{transmit_queue_of}
-use Rattle.register_file.specs.declared.dir.Dir.TheVariants.{Tx}
+use Rattle.nic_device.specs.TxRing.declared.fetched.Fetched.{Fetched}
+use Rattle.nic_device.specs.RegisterFile.Queue.{is_on}
+use Rattle.nic_device.specs.RegisterFile.Settings.{is_stopped, can_transmit}
+use Rattle.nic_device.specs.RegisterLaws.Sides.{transmit_queue_of}
+use Rattle.nic_device.specs.DmaRing.declared.dir.Dir.TheVariants.{Tx}
 use Rattle.nic_device.specs.Outcome.{gives}
 use Rattle.nic_device.specs.Receive.{is_empty}
 use Rattle.nic_device.specs.State.{State}

@@ -1,21 +1,21 @@
 -- The write of a register that a queue doesn't rest on leaves both sides of the queue.
 use Rattle.std.proofs.Common.{◌≡◌, ◌≢◌, ℕ, inl, inr, true, false, refl, sym, ap, ◌∙◌, subst, cond}
 use Rattle.std.proofs.lemmas.Bool.{cases_Bool, eqb-true}
-use Rattle.reg_table.specs.Rows.{row_of}
-use Rattle.reg_table.specs.declared.bank.Bank.{Bank}
-use Rattle.reg_table.specs.declared.bank.Bank.TheVariants as bank
-use Rattle.reg_table.specs.declared.place.Place.{Place}
-use Rattle.reg_table.specs.declared.rows.RowId.{RowId}
-use Rattle.reg_table.specs.declared.rows.RowId.TheVariants.{Ctrl, Hlreg0, Maxfrs, GcrExt}
-use Rattle.vf_map.specs.Owner.{has_queue, is_of_pool_by, is_receive_bank, is_transmit_bank}
-use Rattle.vf_map.specs.declared.mode.Mode.{Mode}
-use Rattle.register_file.specs.Access.{asks_reset, asks_pool_reset}
-use Rattle.register_file.specs.Owner.{owner_in, is_owner}
-use Rattle.register_file.specs.Pools.{mode_in}
-use Rattle.register_file.specs.declared.dir.Dir.{Dir}
-use Rattle.register_file.specs.declared.dir.Dir.TheVariants.{Rx, Tx}
-use Rattle.register_file.specs.declared.owner.Owner.TheVariants as owner
-use Rattle.register_laws.specs.Footprint.{Misses, of_pool, of_side, of_write}
+use Rattle.nic_device.specs.RegTable.Rows.{row_of}
+use Rattle.nic_device.specs.RegTable.declared.bank.Bank.{Bank}
+use Rattle.nic_device.specs.RegTable.declared.bank.Bank.TheVariants as bank
+use Rattle.nic_device.specs.RegTable.declared.place.Place.{Place}
+use Rattle.nic_device.specs.RegTable.declared.rows.RowId.{RowId}
+use Rattle.nic_device.specs.RegTable.declared.rows.RowId.TheVariants.{Ctrl, Hlreg0, Maxfrs, GcrExt}
+use Rattle.nic_device.specs.VfMap.Owner.{has_queue, is_of_pool_by, is_receive_bank, is_transmit_bank}
+use Rattle.nic_device.specs.VfMap.declared.mode.Mode.{Mode}
+use Rattle.nic_device.specs.RegisterFile.Access.{asks_reset, asks_pool_reset}
+use Rattle.nic_device.specs.RegisterFile.Owner.{owner_in, is_owner}
+use Rattle.nic_device.specs.RegisterFile.Pools.{mode_in}
+use Rattle.nic_device.specs.DmaRing.declared.dir.Dir.{Dir}
+use Rattle.nic_device.specs.DmaRing.declared.dir.Dir.TheVariants.{Rx, Tx}
+use Rattle.nic_device.specs.RegisterFile.declared.owner.Owner.TheVariants as owner
+use Rattle.nic_device.specs.RegisterLaws.Footprint.{Misses, of_pool, of_side, of_write}
 use Rattle.nic_device.specs.Access.{named_written}
 use Rattle.nic_device.specs.Footprint.{StaysWithin, write_reach, reset_reach, below_reset_reach, pool_reach, in_registers}
 use Rattle.nic_device.specs.Named.{named}

@@ -2,12 +2,12 @@
 use Rattle.std.proofs.Common.{◌≢◌, ℕ, ◌<◌, inl, inr, [], ◌∷◌, refl, sym, ap, ◌∙◌, subst}
 use Rattle.std.proofs.lemmas.Bool.{both_ways, cases_Bool, cases_eq, cond_both}
 use Rattle.std.proofs.lemmas.List.{get_or-replicate, get_or-set_same}
-use Rattle.register_file.specs.Queue.{is_on, switched}
-use Rattle.register_file.specs.Registers.{is_wanted}
-use Rattle.register_laws.specs.Sides.{TransmitQueue}
-use Rattle.register_file.specs.declared.dir.Dir.{Dir}
-use Rattle.register_file.specs.declared.dir.Dir.TheVariants.{Rx, Tx}
-use Rattle.register_laws.proofs.Switches.{transmit-switched}
+use Rattle.nic_device.specs.RegisterFile.Queue.{is_on, switched}
+use Rattle.nic_device.specs.RegisterFile.Registers.{is_wanted}
+use Rattle.nic_device.specs.RegisterLaws.Sides.{TransmitQueue}
+use Rattle.nic_device.specs.DmaRing.declared.dir.Dir.{Dir}
+use Rattle.nic_device.specs.DmaRing.declared.dir.Dir.TheVariants.{Rx, Tx}
+use Rattle.nic_device.proofs.RegisterLaws.Switches.{transmit-switched}
 use Rattle.nic_device.specs.Outcome.{Outcome}
 use Rattle.nic_device.specs.Sound.{IsSound}
 use Rattle.nic_device.specs.State.{State}

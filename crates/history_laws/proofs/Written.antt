@@ -2,9 +2,9 @@
 use Rattle.std.proofs.Common.{◌≡◌, ℕ, ◌+◌, ◌%◌, ◌^◌, ◌⊎◌, inl, inr, Bool, true, false, List, [], ◌∷◌, refl, ap, ◌∙◌, arith, cond}
 use Rattle.std.specs.Prelude.{bit_and, bit_or}
 use Rattle.std.proofs.lemmas.Nat.{or_mod, and_mod, and_mask, and_le_l, and_le_r, or_disjoint}
-use Rattle.reg_table.specs.Place.{view_among}
-use Rattle.reg_table.specs.Run.{Run, has_address}
-use Rattle.register_file.specs.Bits.{merged}
+use Rattle.nic_device.specs.RegTable.Place.{view_among}
+use Rattle.nic_device.specs.RegTable.Run.{Run, has_address}
+use Rattle.nic_device.specs.RegisterFile.Bits.{merged}
 
 none_or : (x : ℕ) → bit_or 0 x ≡ x
 none_or x =

@@ -1,13 +1,13 @@
 -- Rings whose bases and lengths are multiples of 128: no write reaches the low seven bits of their words.
 use Rattle.std.specs.Prelude.{ℕ, ◌/◌, ◌%◌, ◌≡◌, ◌<◌, List, Some}
-use Rattle.dma_arena.specs.Block.{Block}
-use Rattle.dma_arena.specs.Memory.{LiesIn}
-use Rattle.dma_ring.specs.declared.ring.Ring.{Ring}
-use Rattle.register_file.specs.Queue.{ring_of}
-use Rattle.register_file.specs.Registers.{Registers}
-use Rattle.register_file.specs.declared.dir.Dir.{Dir}
-use Rattle.register_laws.specs.Sides.{transmit_queue_of}
-use Rattle.tx_ring.specs.Report.{report_length}
+use Rattle.nic_device.specs.DmaArena.Block.{Block}
+use Rattle.nic_device.specs.DmaArena.Memory.{LiesIn}
+use Rattle.nic_device.specs.DmaRing.declared.ring.Ring.{Ring}
+use Rattle.nic_device.specs.RegisterFile.Queue.{ring_of}
+use Rattle.nic_device.specs.RegisterFile.Registers.{Registers}
+use Rattle.nic_device.specs.DmaRing.declared.dir.Dir.{Dir}
+use Rattle.nic_device.specs.RegisterLaws.Sides.{transmit_queue_of}
+use Rattle.nic_device.specs.TxRing.Report.{report_length}
 use Rattle.nic_device.specs.Footprint.{told_back}
 use Rattle.nic_device.specs.Sound.{IsSound}
 use Rattle.nic_device.specs.State.{State, new_state}

@@ -1,6 +1,6 @@
 -- What it is to leave a queue alone, entry by entry.
 use Rattle.std.specs.Prelude.{⊤, List, [], ◌∷◌}
-use Rattle.vf_map.specs.declared.mode.Mode.{Mode}
+use Rattle.nic_device.specs.VfMap.declared.mode.Mode.{Mode}
 use Rattle.device_lock.specs.Alone.{Blocks, EntryLeavesAlone, mode_after}
 use Rattle.device_lock.specs.declared.alone.Watched.{Watched}
 use Rattle.device_lock.specs.declared.entry.Entry.{Entry}

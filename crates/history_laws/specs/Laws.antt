@@ -1,7 +1,7 @@
 -- Laws of legal histories, on which those of a driver's two sides rest.
 use Rattle.std.specs.Prelude.{ℕ, ◌≡◌, IsTrue, List, ◌++◌}
-use Rattle.vf_map.specs.declared.mode.Mode.TheVariants.{Off}
-use Rattle.register_file.specs.Pools.{mode_in}
+use Rattle.nic_device.specs.VfMap.declared.mode.Mode.TheVariants.{Off}
+use Rattle.nic_device.specs.RegisterFile.Pools.{mode_in}
 use Rattle.nic_device.specs.Sound.{IsSound}
 use Rattle.nic_device.specs.State.{State, new_state}
 use Rattle.device_lock.specs.Alone.{LeavesAlone, has_begun, lent_by, mode_through}

@@ -1,8 +1,8 @@
 -- Transmit sides stage bytes only while they are on.
 use Rattle.std.specs.Prelude.{ℕ, ◌≡◌, ◌<◌, IsFalse, List, []}
-use Rattle.dma_arena.specs.Block.{Block}
-use Rattle.register_file.specs.Queue.{is_on}
-use Rattle.register_file.specs.declared.dir.Dir.TheVariants.{Tx}
+use Rattle.nic_device.specs.DmaArena.Block.{Block}
+use Rattle.nic_device.specs.RegisterFile.Queue.{is_on}
+use Rattle.nic_device.specs.DmaRing.declared.dir.Dir.TheVariants.{Tx}
 use Rattle.nic_device.specs.Sound.{IsSound}
 use Rattle.nic_device.specs.State.{State, new_state}
 use Rattle.nic_device.specs.Step.{after}

@@ -1,8 +1,7 @@
 //! An EEPROM image in a device.
 
 use crate::outcome::done;
-use eeprom_image::{Image, assemble};
-use nic_device::{Config, Device, Event, Parts, Port, Reply};
+use nic_device::{Config, Device, Event, Image, Parts, Port, Reply, assemble};
 use std::alloc::Global;
 use std::process::Abort;
 

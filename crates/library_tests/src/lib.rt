@@ -2,7 +2,7 @@
 //! that packet memory can go to another thread; an EEPROM's image in a device; the longest texts; and reads and writes
 //! of the program that fail.
 //!
-//! What the libraries answer is tried by the tables of `library_cases`, and what the program prints by those of
+//! What the libraries answer is tried by the tables of `conformance`, and what the program prints by those of
 //! `conformance`.
 #![tactic(auto)]
 

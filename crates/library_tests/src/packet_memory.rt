@@ -1,5 +1,5 @@
 use crate::outcome::{done, some};
-use dma_arena::{Arena, Buf, LentMemory, Octets};
+use nic_device::{Arena, Buf, LentMemory, Octets};
 
 /// What is asked of a value that goes to another thread.
 fn can_be_sent<T: Send>() {}

@@ -1,20 +1,13 @@
 //! A poll loop of a driver, on each of two threads that share a controller.
 
 use crate::outcome::{done, some};
-use device_lock::{Pass, Shared};
-use dma_arena::{Arena, Octets};
-use nic_device::{Event, Parts, Port, Reply};
-use pmd::Pmd;
-use pmd_base::{Nic, Setup, pf_setup};
-use pmd_halt::Home;
-use pmd_lock::ThroughLock;
-use pmd_tx::TxAnswer;
+use nic_device::{Arena, Event, Mode, Octets, Parts, Port, Reply};
 use std::alloc::Global;
 use std::process::Abort;
 use std::sync::Wait;
 use std::thread::join_mut;
 use threads_bench::{KEY, OVER_IPV4, OVER_IPV6};
-use vf_map::Mode;
+use workers::{Home, Nic, Pass, Pmd, Setup, Shared, ThroughLock, TxAnswer, pf_setup};
 
 type Bench = Shared<0, 64>;
 

@@ -1,7 +1,7 @@
 -- An event that moves no block leaves the same blocks lent, and its reply has none.
 use Rattle.std.proofs.Common.{◌≡◌, refl, false}
-use Rattle.dma_arena.specs.Block.{Block}
-use Rattle.dma_arena.specs.Memory.{SameLent}
+use Rattle.program.specs.DmaArena.Block.{Block}
+use Rattle.program.specs.DmaArena.Memory.{SameLent}
 use Rattle.nic_device.specs.Outcome.{Outcome}
 use Rattle.nic_device.specs.State.{State}
 use Rattle.nic_device.specs.Step.{step_of, moves_block, hands_out}

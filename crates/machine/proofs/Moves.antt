@@ -1,9 +1,9 @@
 -- Events of a machine's device: which blocks are free and lent before and after.
 use Rattle.std.proofs.Common.{◌≡◌, refl, sym, ◌∙◌, ap, subst, ℕ, Bool, true, false, Option, Some, None}
 use Rattle.std.specs.FinMap as map
-use Rattle.dma_arena.specs.Block.{Block, zero_block}
-use Rattle.dma_arena.specs.Memory.{has_block, block_at}
-use Rattle.dma_arena.specs.Numbers.{Numbers, is_free, is_own, with_free}
+use Rattle.program.specs.DmaArena.Block.{Block, zero_block}
+use Rattle.program.specs.DmaArena.Memory.{has_block, block_at}
+use Rattle.program.specs.DmaArena.Numbers.{Numbers, is_free, is_own, with_free}
 use Rattle.nic_device.specs.Lending.{block_taken, taken}
 use Rattle.nic_device.specs.Outcome.{Outcome, gives}
 use Rattle.nic_device.specs.State.{State}

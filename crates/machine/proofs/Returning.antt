@@ -3,10 +3,10 @@ use Rattle.std.proofs.Common.{◌≡◌, refl, sym, ◌∙◌, ap, ℕ, ◌<◌,
 use Rattle.std.specs.FinMap as map
 use Rattle.std.proofs.lemmas.Bool.Decides.{eqb_tells}
 use Rattle.std.proofs.lemmas.Bool.{cases_lt}
-use Rattle.dma_arena.specs.Block.{Block}
-use Rattle.dma_arena.specs.Memory.{Memory, has_block, block_at}
-use Rattle.dma_arena.specs.Numbers.{Numbers, with_free}
-use Rattle.dma_arena.proofs.Bus.{get-remove_same, get-remove_other}
+use Rattle.program.specs.DmaArena.Block.{Block}
+use Rattle.program.specs.DmaArena.Memory.{Memory, has_block, block_at}
+use Rattle.program.specs.DmaArena.Numbers.{Numbers, with_free}
+use Rattle.program.proofs.DmaArena.Bus.{get-remove_same, get-remove_other}
 use Rattle.machine.specs.Board.{AreShared}
 use Rattle.machine.proofs.Sharing.{shared-taken}
 

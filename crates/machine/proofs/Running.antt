@@ -2,7 +2,7 @@
 use Rattle.std.proofs.Common.{◌≡◌, ◌≢◌, refl, sym, ◌∙◌, ap, ℕ, zero, suc, ◌+◌, ◌-◌, ◌^◌, ◌<◌, Bool, true, false, cond, length, Option, Some, None, arith, inl, inr}
 use Rattle.std.proofs.lemmas.Bool.{lt-ltb}
 use Rattle.std.proofs.lemmas.Option.{slice_get_cases}
-use Rattle.dma_arena.specs.Block.{Block}
+use Rattle.program.specs.DmaArena.Block.{Block}
 use Rattle.nic_device.specs.declared.Config.{Config}
 use Rattle.nic_device.specs.declared.Reply.{Reply}
 use Rattle.machine.specs.Deed.{deed_of}

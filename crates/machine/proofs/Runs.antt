@@ -1,6 +1,6 @@
 -- The device of a machine is where the events that it made lead.
 use Rattle.std.proofs.Common.{◌≡◌, refl, sym, ◌∙◌, ap, ℕ, zero, suc, Bool, true, false, cond, List, [], ◌∷◌, ◌++◌, Option, Some, None}
-use Rattle.dma_arena.specs.Block.{Block, zero_block}
+use Rattle.program.specs.DmaArena.Block.{Block, zero_block}
 use Rattle.nic_device.specs.Run.{state_after}
 use Rattle.nic_device.specs.State.{State, new_state}
 use Rattle.nic_device.specs.Step.{step_of}

@@ -4,10 +4,10 @@ use Rattle.std.specs.FinMap as map
 use Rattle.std.specs.Ordering.{nat_cmp}
 use Rattle.std.proofs.lemmas.Bool.Decides.{eqb_tells}
 use Rattle.std.proofs.lemmas.List.{length-set, length-replicate}
-use Rattle.dma_arena.specs.Memory.{Memory, has_block, SameLent}
-use Rattle.dma_arena.specs.Numbers.{Numbers, is_own, is_free, are_all_free, with_free}
-use Rattle.dma_arena.proofs.Arenas.{own_of_within, own_within, is_own-of_free, is_free_from, is_free-with_free_same, is_free-with_free_other, is_own-all_free, is_free-all_free, CountsFree-numbers}
-use Rattle.dma_arena.proofs.Bus.{get-insert_same, get-insert_other, get-remove_same, get-remove_other}
+use Rattle.program.specs.DmaArena.Memory.{Memory, has_block, SameLent}
+use Rattle.program.specs.DmaArena.Numbers.{Numbers, is_own, is_free, are_all_free, with_free}
+use Rattle.program.proofs.DmaArena.Arenas.{own_of_within, own_within, is_own-of_free, is_free_from, is_free-with_free_same, is_free-with_free_other, is_own-all_free, is_free-all_free, CountsFree-numbers}
+use Rattle.program.proofs.DmaArena.Bus.{get-insert_same, get-insert_other, get-remove_same, get-remove_other}
 use Rattle.machine.specs.Board.{AreShared, all_blocks}
 
 -- a machine's arena owns its numbers

@@ -1,9 +1,9 @@
 -- The device and the packet memory of a machine: blocks 0 to 255, each of them free or lent.
 use Rattle.std.specs.Prelude.{◌≡◌, ◌<◌, ℕ, Bool, not, true, false, length, ⊤, List, Option, Some, None, refl, if◌then◌else◌}
 use Rattle.std.specs.Coded.{Coded, code_by, coded×, coded_ℕ, coded_bool, coded_list}
-use Rattle.dma_arena.specs.Block.{Block, zero_block}
-use Rattle.dma_arena.specs.Memory.{Memory, has_block}
-use Rattle.dma_arena.specs.Numbers.{Numbers, is_own, is_free, with_free, all_free}
+use Rattle.program.specs.DmaArena.Block.{Block, zero_block}
+use Rattle.program.specs.DmaArena.Memory.{Memory, has_block}
+use Rattle.program.specs.DmaArena.Numbers.{Numbers, is_own, is_free, with_free, all_free}
 use Rattle.nic_device.specs.State.{State, state_code}
 use Rattle.nic_device.specs.Step.{step_of}
 use Rattle.nic_device.specs.declared.Event.{Event}

@@ -1,7 +1,7 @@
 -- What a step of the machine does, and where so many steps lead.
 use Rattle.std.specs.Prelude.{ℕ, zero, suc, ◌+◌, ◌*◌, ◌-◌, ◌^◌, Bool, true, false, ◌&&◌, ◌==◌, nat_lt, bit_and, List, [], ◌∷◌, ◌++◌, length, slice_get, slice_index, Option, Some, None, ⊤, if◌then◌else◌}
-use Rattle.dma_arena.specs.Block.{Block, zero_block}
-use Rattle.dma_arena.specs.Numbers.{Numbers, is_free, with_free}
+use Rattle.program.specs.DmaArena.Block.{Block, zero_block}
+use Rattle.program.specs.DmaArena.Numbers.{Numbers, is_free, with_free}
 use Rattle.nic_device.specs.State.{new_state}
 use Rattle.nic_device.specs.Outcome.{Outcome}
 use Rattle.nic_device.specs.Step.{step_of, TakesMemory}

@@ -1,6 +1,6 @@
 -- What a machine is between two steps.
 use Rattle.std.specs.Prelude.{ℕ}
-use Rattle.dma_arena.specs.Numbers.{Numbers}
+use Rattle.program.specs.DmaArena.Numbers.{Numbers}
 use Rattle.nic_device.specs.State.{State}
 use Rattle.machine.specs.declared.machine.Status.{Status}
 

@@ -3,17 +3,17 @@
 ghost use Rattle.std.specs.Prelude.{◌≡◌, ◌<◌, ◌≤◌, ◌↔◌, ℕ, [], true, false, IfOk, OnOk, OnErr, Err};
 ghost use Rattle.std.specs.FinMap as map;
 ghost use Rattle.std.specs.Vec.{vec_capacity};
-ghost use Rattle.dma_arena.specs.Block.{Block, zero_block};
-ghost use Rattle.dma_arena.specs.Memory.{has_block};
-ghost use Rattle.dma_arena.specs.Numbers.{is_free, is_own, with_free};
+ghost use Rattle.program.specs.DmaArena.Block.{Block, zero_block};
+ghost use Rattle.program.specs.DmaArena.Memory.{has_block};
+ghost use Rattle.program.specs.DmaArena.Numbers.{is_free, is_own, with_free};
 ghost use Rattle.nic_device.specs.Config.{IsBadFifo};
 ghost use Rattle.nic_device.specs.State.{new_state};
 ghost use Rattle.nic_device.specs.Step.{step_of, word_told, TakesMemory};
 ghost use Rattle.machine.specs.Board.{all_blocks, arena_after, reply_of_lend, after_lend, AreShared, CanReturn, Lends, HasNone, MovesNone};
 
 use crate::machine::OutOfMemory;
-use dma_arena::{Arena, Buf, LentMemory, Octets};
 use nic_device::{Config, Device, Event, MAX_VFS, NewFault, Note, Parts, Port, Reply, ReplyNote};
+use program::{Arena, Buf, LentMemory, Octets};
 use std::alloc::Global;
 use std::marker::Model;
 

@@ -10,9 +10,8 @@ ghost use Rattle.program.specs.Listing.{IsSound};
 use crate::board::Board;
 use crate::deed::{Deed, Kept, LocalDeed, deed_of};
 use crate::machine::{OutOfMemory, Status, StepAnswer};
-use dma_arena::{BLOCK_BYTES, Octets};
 use nic_device::{Event, Reply, ReplyNote};
-use program::{Instruction, Program};
+use program::{BLOCK_BYTES, Instruction, Octets, Program};
 use std::alloc::Global;
 
 /// A machine but for its program.

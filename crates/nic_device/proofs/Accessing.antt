@@ -1,8 +1,8 @@
 -- Register accesses: where they lead.
 use Rattle.std.proofs.Common.{ap, ◌≡◌, ℕ, cond, true, refl}
 use Rattle.std.proofs.lemmas.Bool.{cond_both}
-use Rattle.reg_table.specs.Rows.{row_of}
-use Rattle.reg_table.specs.declared.place.Place.{Place}
+use Rattle.register_file.specs.RegTable.Rows.{row_of}
+use Rattle.register_file.specs.RegTable.declared.place.Place.{Place}
 use Rattle.register_file.specs.Access.{asks_reset, asks_pool_reset, after_read}
 use Rattle.register_file.specs.Pools.{mode_in}
 use Rattle.register_laws.specs.Laws.{after_write}
@@ -17,7 +17,7 @@ use Rattle.nic_device.proofs.PoolReset.{pool_reset_sound, pool_reset_stays}
 use Rattle.nic_device.specs.Eeprom.{reset}
 use Rattle.nic_device.specs.State.{State}
 use Rattle.nic_device.proofs.Triples.{reset_sound, reset_leaves}
-use Rattle.dma_arena.specs.Memory.{Memory, has_block}
+use Rattle.rx_ring.specs.DmaArena.Memory.{Memory, has_block}
 use Rattle.std.specs.FinMap as map
 use Rattle.nic_device.proofs.Keeping.{sound-registers, stays-registers}
 use Rattle.nic_device.proofs.Leads.{Leads, leads-still, leads-to}

@@ -2,9 +2,9 @@
 use Rattle.std.proofs.Common.{◌≡◌, ◌≤◌, ℕ, true, List, [], ◌∷◌, length, refl, sym, subst, arith, Option, Some, None, eq-eqb}
 use Rattle.std.specs.Prelude.{Result, Ok, Err, IfOk, option_map}
 use Rattle.std.specs.FinMap as map
-use Rattle.dma_arena.specs.Block.{Block}
-use Rattle.dma_arena.specs.Memory.{IsWhole}
-use Rattle.intr_unit.specs.declared.group.Group.{Group}
+use Rattle.rx_ring.specs.DmaArena.Block.{Block}
+use Rattle.rx_ring.specs.DmaArena.Memory.{IsWhole}
+use Rattle.register_file.specs.IntrUnit.declared.group.Group.{Group}
 use Rattle.register_file.specs.Groups.{message_of}
 use Rattle.nic_device.specs.Access.{named_read, named_written}
 use Rattle.nic_device.specs.Answering.{may_answer, note_length, note_room}

@@ -1,6 +1,6 @@
 -- Frames that arrive: where they lead.
 use Rattle.std.proofs.Common.{◌≡◌, ℕ, true, false, List, [], ◌∷◌, ◌++◌, refl}
-use Rattle.reg_table.specs.declared.rows.RowId.TheVariants.{Gprc, Ruc, Roc}
+use Rattle.register_file.specs.RegTable.declared.rows.RowId.TheVariants.{Gprc, Ruc, Roc}
 use Rattle.register_file.specs.Counters.{counted}
 use Rattle.nic_device.specs.Arrival.{arrived, missed, let_in, with_count}
 use Rattle.nic_device.specs.State.{State}

@@ -6,11 +6,11 @@ use Rattle.std.specs.Ordering.{nat_cmp}
 use Rattle.std.specs.Int.{Width, w64, byte_at, bytes_low_first, byte_len, to_le_bytes}
 use Rattle.std.proofs.lemmas.Bool.{cases_eq}
 use Rattle.std.proofs.lemmas.List.Elements.{All-nil, All-cons, All-head, All-tail, All-append, All-set}
-use Rattle.dma_arena.specs.Block.{Block}
-use Rattle.dma_arena.specs.Memory.{Memory, with_byte, set_byte, write_at}
-use Rattle.dma_arena.proofs.Bus.{get-insert_same, get-insert_other, get-remove_same, get-remove_other, IsWhole-write_at}
-use Rattle.dma_arena.proofs.Moves.{IsWhole-insert, IsWhole-remove}
-use Rattle.dma_ring.specs.Descriptor.{of_halves}
+use Rattle.rx_ring.specs.DmaArena.Block.{Block}
+use Rattle.rx_ring.specs.DmaArena.Memory.{Memory, with_byte, set_byte, write_at}
+use Rattle.rx_ring.proofs.DmaArena.Bus.{get-insert_same, get-insert_other, get-remove_same, get-remove_other, IsWhole-write_at}
+use Rattle.rx_ring.proofs.DmaArena.Moves.{IsWhole-insert, IsWhole-remove}
+use Rattle.rx_ring.specs.DmaRing.Descriptor.{of_halves}
 use Rattle.nic_device.specs.Sound.{AreBytes, AreBlocks, IsLendable}
 
 -- the bytes of a word

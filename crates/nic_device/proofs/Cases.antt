@@ -3,13 +3,13 @@ use Rattle.std.proofs.Common.{cond, ◌≡◌, ◌<◌, ℕ, Bool, true, false, 
 use Rattle.std.specs.Prelude.{Result}
 use Rattle.std.proofs.lemmas.Bool.{cond_both, ltb-true}
 use Rattle.std.specs.FinMap as map
-use Rattle.dma_arena.specs.Block.{Block}
-use Rattle.dma_arena.specs.Memory.{write_at}
-use Rattle.reg_table.specs.declared.rows.RowId.TheVariants.{Gprc, Ruc, Roc}
-use Rattle.intr_unit.specs.declared.group.Group.{Group}
+use Rattle.rx_ring.specs.DmaArena.Block.{Block}
+use Rattle.rx_ring.specs.DmaArena.Memory.{write_at}
+use Rattle.register_file.specs.RegTable.declared.rows.RowId.TheVariants.{Gprc, Ruc, Roc}
+use Rattle.register_file.specs.IntrUnit.declared.group.Group.{Group}
 use Rattle.register_file.specs.Groups.{message_of, message_made}
 use Rattle.register_file.specs.Settings.{is_stopped, can_receive, frame_limit}
-use Rattle.register_file.specs.declared.dir.Dir.{Dir}
+use Rattle.rx_ring.specs.DmaRing.declared.dir.Dir.{Dir}
 use Rattle.rx_filter.specs.Sorting.{sorted}
 use Rattle.rx_filter.specs.declared.target.Target.{Target}
 use Rattle.rx_filter.specs.declared.unwanted.Unwanted.{Unwanted}
@@ -20,9 +20,9 @@ use Rattle.nic_device.specs.Arrival.{arrived, let_in, with_count, missed, sorted
 use Rattle.nic_device.specs.Interrupt.{device_raised, link_cause, has_group, message_reply, messaged, interrupted}
 use Rattle.nic_device.specs.Switching.{queue_switched, side_switched}
 use Rattle.nic_device.specs.Link.{link_set, collected, oldest_collected}
-use Rattle.reg_table.specs.Rows.{row_of}
-use Rattle.reg_table.specs.declared.place.Place.{Place}
-use Rattle.vf_map.specs.declared.mode.Mode.{Mode}
+use Rattle.register_file.specs.RegTable.Rows.{row_of}
+use Rattle.register_file.specs.RegTable.declared.place.Place.{Place}
+use Rattle.register_file.specs.VfMap.declared.mode.Mode.{Mode}
 use Rattle.register_file.specs.Access.{asks_reset, asks_pool_reset}
 use Rattle.register_laws.specs.Footprint.{of_write}
 use Rattle.nic_device.specs.Footprint.{Reach, nowhere, in_registers, reset_reach, pool_reach, write_reach}

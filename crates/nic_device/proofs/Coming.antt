@@ -1,18 +1,18 @@
 -- Registers that come of others within a footprint.
 use Rattle.std.proofs.Common.{◌≡◌, ℕ, subst}
 use Rattle.std.proofs.lemmas.Bool.{or_left, or_right}
-use Rattle.intr_unit.specs.Group.{queue_causes}
-use Rattle.intr_unit.specs.declared.group.Group.{Group}
-use Rattle.reg_table.specs.Rows.{row_of}
-use Rattle.reg_table.specs.declared.bank.Bank.TheVariants.{Counters}
-use Rattle.reg_table.specs.declared.kind.Kind.TheVariants.{Rc}
-use Rattle.reg_table.specs.declared.rows.RowId.{RowId}
+use Rattle.register_file.specs.IntrUnit.Group.{queue_causes}
+use Rattle.register_file.specs.IntrUnit.declared.group.Group.{Group}
+use Rattle.register_file.specs.RegTable.Rows.{row_of}
+use Rattle.register_file.specs.RegTable.declared.bank.Bank.TheVariants.{Counters}
+use Rattle.register_file.specs.RegTable.declared.kind.Kind.TheVariants.{Rc}
+use Rattle.register_file.specs.RegTable.declared.rows.RowId.{RowId}
 use Rattle.register_file.specs.Columns.{place}
 use Rattle.register_file.specs.Counters.{counted}
 use Rattle.register_file.specs.Groups.{vector_entry, causes_raised}
 use Rattle.register_file.specs.Owner.{owner_in}
 use Rattle.register_file.specs.Registers.{Registers}
-use Rattle.register_file.specs.declared.dir.Dir.{Dir}
+use Rattle.rx_ring.specs.DmaRing.declared.dir.Dir.{Dir}
 use Rattle.register_laws.specs.Footprint.{Footprint, ChangesWithin, Covers, either, counters, any_pending, pending, the_word, of_owner}
 use Rattle.register_laws.specs.Sound.{AreSound}
 use Rattle.register_laws.proofs.Covers.{covers-trans}

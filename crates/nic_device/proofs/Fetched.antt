@@ -3,11 +3,11 @@ use Rattle.std.proofs.Common.{◌≡◌, ◌≤◌, ◌+◌, ℕ, Bool, List, []
 use Rattle.std.specs.Int.{w32}
 use Rattle.std.proofs.lemmas.Bool.{cases_lt}
 use Rattle.std.proofs.lemmas.List.{get_or_past}
-use Rattle.dma_arena.specs.Memory.{Memory}
-use Rattle.dma_arena.proofs.Bus.{length-read_at}
-use Rattle.dma_ring.specs.Descriptor.{first_half, second_half}
-use Rattle.dma_ring.specs.Transmit.{with_done}
-use Rattle.dma_ring.specs.declared.ring.Ring.{Ring}
+use Rattle.rx_ring.specs.DmaArena.Memory.{Memory}
+use Rattle.rx_ring.proofs.DmaArena.Bus.{length-read_at}
+use Rattle.rx_ring.specs.DmaRing.Descriptor.{first_half, second_half}
+use Rattle.rx_ring.specs.DmaRing.Transmit.{with_done}
+use Rattle.rx_ring.specs.DmaRing.declared.ring.Ring.{Ring}
 use Rattle.tx_ring.specs.Fetch.{Outcome as Fetching, fetch_of, descriptor_of, command_in, buffer_bytes}
 use Rattle.tx_ring.specs.Report.{new_head, report_bytes, report_address, reported}
 use Rattle.tx_ring.specs.declared.tx.Tx.{Tx as Sending}
@@ -15,7 +15,7 @@ use Rattle.tx_ring.proofs.Fetches.{fetch_cases}
 use Rattle.register_file.specs.Registers.{Registers}
 use Rattle.register_file.specs.Settings.{frame_limit}
 use Rattle.register_laws.specs.Sound.{AreSound}
-use Rattle.reg_table.specs.declared.rows.RowId.TheVariants.{Maxfrs, Hlreg0}
+use Rattle.register_file.specs.RegTable.declared.rows.RowId.TheVariants.{Maxfrs, Hlreg0}
 use Rattle.register_file.specs.Bits.{has_bit}
 use Rattle.register_file.specs.Columns.{place}
 use Rattle.register_file.specs.Registers.{word_of}

@@ -1,9 +1,9 @@
 -- A slot that meets a fault.
 use Rattle.std.proofs.Common.{◌≡◌, ℕ, List, length, ap, Some}
 use Rattle.std.specs.Prelude.{Err}
-use Rattle.dma_arena.specs.Memory.{Memory}
-use Rattle.dma_ring.specs.declared.ring.Ring.{Ring}
-use Rattle.dma_ring.specs.declared.fault.RingFault.{RingFault}
+use Rattle.rx_ring.specs.DmaArena.Memory.{Memory}
+use Rattle.rx_ring.specs.DmaRing.declared.ring.Ring.{Ring}
+use Rattle.rx_ring.specs.DmaRing.declared.fault.RingFault.{RingFault}
 use Rattle.tx_ring.specs.declared.tx.Tx.{Tx}
 use Rattle.tx_ring.specs.Fetch.{fetch_of, fault_of, fault_outcome, outcome_of}
 use Rattle.register_laws.specs.Sides.{TransmitQueue}

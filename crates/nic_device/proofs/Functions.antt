@@ -2,14 +2,14 @@
 use Rattle.std.proofs.Common.{◌≡◌, ◌<◌, ℕ, ◌*◌, ◌/◌, Option, Some, None, nat_lt, ap, sym, ◌∙◌, arith}
 use Rattle.std.specs.Prelude.{IfSome}
 use Rattle.std.proofs.lemmas.Bool.{cond_both, ltb-true}
-use Rattle.reg_table.specs.Rows.{row_of}
-use Rattle.reg_table.specs.declared.bank.Bank.TheVariants.{VfCounters}
-use Rattle.reg_table.specs.declared.kind.Kind.TheVariants.{Ro}
-use Rattle.reg_table.specs.declared.place.Place.{Place}
-use Rattle.reg_table.specs.declared.rows.RowId.{RowId}
-use Rattle.vf_map.specs.Pools.{pool_of, pools_in, queues_each}
-use Rattle.vf_map.specs.declared.mode.Mode.{Mode}
-use Rattle.vf_map.specs.declared.mode.Mode.TheVariants.{Off, Pools16, Pools32, Pools64}
+use Rattle.register_file.specs.RegTable.Rows.{row_of}
+use Rattle.register_file.specs.RegTable.declared.bank.Bank.TheVariants.{VfCounters}
+use Rattle.register_file.specs.RegTable.declared.kind.Kind.TheVariants.{Ro}
+use Rattle.register_file.specs.RegTable.declared.place.Place.{Place}
+use Rattle.register_file.specs.RegTable.declared.rows.RowId.{RowId}
+use Rattle.register_file.specs.VfMap.Pools.{pool_of, pools_in, queues_each}
+use Rattle.register_file.specs.VfMap.declared.mode.Mode.{Mode}
+use Rattle.register_file.specs.VfMap.declared.mode.Mode.TheVariants.{Off, Pools16, Pools32, Pools64}
 use Rattle.register_file.specs.Columns.{place}
 use Rattle.register_file.specs.Registers.{Registers}
 use Rattle.register_laws.specs.Footprint.{Footprint, Covers, the_word}

@@ -1,12 +1,12 @@
 -- Hashes and RSS types fit what descriptors have for them.
 use Rattle.std.proofs.Common.{ℕ, ◌^◌, ◌<◌, List, [], ◌∷◌, map, fold, bit_xor, arith}
 use Rattle.std.proofs.lemmas.Nat.{xor_lt}
-use Rattle.rss_hash.specs.Bits.{set_bits, bits_from}
-use Rattle.rss_hash.specs.Choice.{code_of}
-use Rattle.rss_hash.specs.Toeplitz.{toeplitz_hash}
-use Rattle.rss_hash.specs.declared.choice.RssType.{RssType}
-use Rattle.rss_hash.specs.declared.choice.RssType.TheVariants.{NoHash, TcpIpv4, Ipv4, TcpIpv6, Ipv6, UdpIpv4, UdpIpv6}
-use Rattle.rss_hash.proofs.Sliding.{bits_from-lt}
+use Rattle.register_file.specs.RssHash.Bits.{set_bits, bits_from}
+use Rattle.register_file.specs.RssHash.Choice.{code_of}
+use Rattle.register_file.specs.RssHash.Toeplitz.{toeplitz_hash}
+use Rattle.register_file.specs.RssHash.declared.choice.RssType.{RssType}
+use Rattle.register_file.specs.RssHash.declared.choice.RssType.TheVariants.{NoHash, TcpIpv4, Ipv4, TcpIpv6, Ipv6, UdpIpv4, UdpIpv6}
+use Rattle.register_file.proofs.RssHash.Sliding.{bits_from-lt}
 
 fold_windows-lt : (key ks : List ℕ) (acc : ℕ) → acc < 2 ^ 32
     → fold bit_xor acc (map (λ k. bits_from key k 32) ks) < 2 ^ 32

@@ -4,7 +4,7 @@ use Rattle.std.specs.Prelude.{slice_set}
 use Rattle.std.proofs.lemmas.List.{length-set}
 use Rattle.std.proofs.lemmas.List.Elements.{All-set, All-replicate}
 use Rattle.std.proofs.lemmas.List.{length-replicate}
-use Rattle.dma_arena.specs.Memory.{Memory}
+use Rattle.rx_ring.specs.DmaArena.Memory.{Memory}
 use Rattle.eeprom_image.specs.Image.{IsImage}
 use Rattle.register_file.specs.Registers.{Registers}
 use Rattle.register_laws.specs.Footprint.{ChangesWithin}

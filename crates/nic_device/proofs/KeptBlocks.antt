@@ -1,8 +1,8 @@
 -- No block comes or goes but by lending and taking.
 use Rattle.std.proofs.Common.{◌≡◌, ℕ, false, List, [], ◌∷◌, refl}
-use Rattle.dma_arena.specs.Block.{Block}
-use Rattle.register_file.specs.declared.dir.Dir.{Dir}
-use Rattle.register_file.specs.declared.dir.Dir.TheVariants.{Rx, Tx}
+use Rattle.rx_ring.specs.DmaArena.Block.{Block}
+use Rattle.rx_ring.specs.DmaRing.declared.dir.Dir.{Dir}
+use Rattle.rx_ring.specs.DmaRing.declared.dir.Dir.TheVariants.{Rx, Tx}
 use Rattle.nic_device.specs.Footprint.{Reach, read_reach, write_reach, reach_by, receive_reach, switch_reach}
 use Rattle.nic_device.specs.Kept.{OtherEventsKeepBlocks}
 use Rattle.nic_device.specs.Named.{named}
@@ -10,7 +10,7 @@ use Rattle.nic_device.specs.State.{State, Waiting}
 use Rattle.nic_device.specs.Step.{step_of, moves_block}
 use Rattle.nic_device.proofs.Cases.{write_cases}
 use Rattle.register_file.specs.Pools.{mode_in}
-use Rattle.vf_map.specs.declared.mode.Mode.{Mode}
+use Rattle.register_file.specs.VfMap.declared.mode.Mode.{Mode}
 use Rattle.nic_device.proofs.Steps.{step_leads}
 use Rattle.nic_device.specs.declared.event.Event.{Event}
 use Rattle.nic_device.specs.declared.event.Event.TheVariants as event

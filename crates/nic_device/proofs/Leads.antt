@@ -2,8 +2,8 @@
 use Rattle.std.proofs.Common.{◌≡◌, ℕ, refl}
 use Rattle.std.specs.FinMap as map
 use Rattle.std.specs.Prelude.{IsTrue, IsFalse}
-use Rattle.dma_arena.specs.Block.{Block}
-use Rattle.dma_arena.specs.Memory.{Memory, has_block}
+use Rattle.rx_ring.specs.DmaArena.Block.{Block}
+use Rattle.rx_ring.specs.DmaArena.Memory.{Memory, has_block}
 use Rattle.register_file.specs.Registers.{Registers}
 use Rattle.register_laws.proofs.Footprints.{within-refl}
 use Rattle.nic_device.specs.Footprint.{reach_by, StaysWithin}

@@ -1,3 +1,13 @@
+pub use Rattle.register_file.proofs.RegTable
+pub use Rattle.rx_ring.proofs.DmaArena
+pub use Rattle.rx_ring.proofs.DmaRing
+pub use Rattle.rx_ring.proofs as RxRing
+pub use Rattle.tx_ring.proofs as TxRing
+pub use Rattle.register_file.proofs.VfMap
+pub use Rattle.register_file.proofs.IntrUnit
+pub use Rattle.eeprom_image.proofs as EepromImage
+pub use Rattle.register_file.proofs as RegisterFile
+pub use Rattle.register_laws.proofs as RegisterLaws
 pub mod Accessing
 pub mod Answering
 pub mod Arriving

@@ -1,7 +1,7 @@
 -- A run so far, and one event more.
 use Rattle.std.proofs.Common.{◌≡◌, ℕ, ◌+◌, ◌<◌, List, [], ◌∷◌, ◌++◌, length, take, drop, get_or, refl, ap, sym, ◌∙◌, reverse}
 use Rattle.std.proofs.lemmas.List.{take_more, drop_more, reverse-append, reverse-reverse}
-use Rattle.dma_arena.specs.Block.{Block}
+use Rattle.rx_ring.specs.DmaArena.Block.{Block}
 use Rattle.nic_device.specs.State.{State}
 use Rattle.nic_device.specs.Step.{step_of}
 use Rattle.nic_device.specs.Run.{replies_of, state_after}

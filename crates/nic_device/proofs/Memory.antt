@@ -2,10 +2,10 @@
 use Rattle.std.proofs.Common.{◌≡◌, ◌+◌, ◌*◌, inl, inr, ℕ, false, List, length, refl, ap}
 use Rattle.std.specs.Prelude.{is_some, nat_lt}
 use Rattle.std.proofs.lemmas.Bool.{cases_lt, eqb-false, lt-ltb, and_from, both_ways}
-use Rattle.dma_arena.specs.Block.{Block}
-use Rattle.dma_arena.specs.Memory.{Avoids}
-use Rattle.dma_arena.proofs.Blocks.{get-write_at_out}
-use Rattle.dma_arena.proofs.Bus.{get-insert_other, get-remove_other, SameLent-write_at}
+use Rattle.rx_ring.specs.DmaArena.Block.{Block}
+use Rattle.rx_ring.specs.DmaArena.Memory.{Avoids}
+use Rattle.rx_ring.proofs.DmaArena.Blocks.{get-write_at_out}
+use Rattle.rx_ring.proofs.DmaArena.Bus.{get-insert_other, get-remove_other, SameLent-write_at}
 use Rattle.nic_device.specs.Footprint.{has_some_of}
 use Rattle.nic_device.specs.Lending.{lent, taken, peeked, poked}
 use Rattle.nic_device.specs.State.{State}

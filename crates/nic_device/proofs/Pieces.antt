@@ -1,8 +1,8 @@
 -- A piece of a frame.
 use Rattle.std.proofs.Common.{◌≡◌, ◌≤◌, ◌+◌, ℕ, length, arith, ap}
 use Rattle.std.specs.Prelude.{Ok}
-use Rattle.dma_arena.specs.Memory.{Memory}
-use Rattle.dma_ring.specs.declared.ring.Ring.{Ring}
+use Rattle.rx_ring.specs.DmaArena.Memory.{Memory}
+use Rattle.rx_ring.specs.DmaRing.declared.ring.Ring.{Ring}
 use Rattle.rx_ring.specs.Fill.{Rest, fill_of}
 use Rattle.rx_ring.specs.declared.filled.Filled.{Filled}
 use Rattle.rx_ring.proofs.Fills.{takes_piece}

@@ -4,12 +4,12 @@ use Rattle.std.specs.Prelude.{All, filter, not}
 use Rattle.std.proofs.lemmas.Bool.{cond_both, eq-eqb}
 use Rattle.std.proofs.lemmas.List.{get_or-set_other}
 use Rattle.std.proofs.lemmas.List.Elements.{All-head, All-tail, All-filter}
-use Rattle.reg_table.specs.Rows.{row_of}
-use Rattle.vf_map.specs.Laws.{IsAmong}
-use Rattle.vf_map.specs.Owner.{is_pool, has_queue}
-use Rattle.vf_map.specs.Pools.{pool_of, queues_of}
-use Rattle.vf_map.specs.declared.mode.Mode.{Mode}
-use Rattle.vf_map.proofs.Inverse.{inverse}
+use Rattle.register_file.specs.RegTable.Rows.{row_of}
+use Rattle.register_file.specs.VfMap.Laws.{IsAmong}
+use Rattle.register_file.specs.VfMap.Owner.{is_pool, has_queue}
+use Rattle.register_file.specs.VfMap.Pools.{pool_of, queues_of}
+use Rattle.register_file.specs.VfMap.declared.mode.Mode.{Mode}
+use Rattle.register_file.proofs.VfMap.Inverse.{inverse}
 use Rattle.register_file.specs.Access.{asks_pool_reset}
 use Rattle.register_file.specs.Pools.{mode_in}
 use Rattle.register_laws.proofs.PoolReset.{renewed-pool}
@@ -18,7 +18,7 @@ use Rattle.nic_device.specs.Footprint.{pool_reach, StaysWithin}
 use Rattle.nic_device.specs.PoolReset.{unstaged, pool_unstaged, others_waiting, with_pool_reset, written_below_reset}
 use Rattle.nic_device.specs.Sound.{IsSound, IsUnbegun, AreWaiting, AreStaged}
 use Rattle.nic_device.specs.State.{State, Waiting}
-use Rattle.reg_table.specs.declared.place.Place.{Place}
+use Rattle.register_file.specs.RegTable.declared.place.Place.{Place}
 use Rattle.register_laws.proofs.Sound.{sound-written}
 use Rattle.nic_device.proofs.Cases.{either_way}
 use Rattle.nic_device.proofs.Keeping.{sound-registers, sound-waiting, sound-staged, AreStaged-set}

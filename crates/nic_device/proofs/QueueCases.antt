@@ -1,7 +1,7 @@
 -- What steps of receiving and of transmitting can answer, and the state that they leave.
 use Rattle.std.proofs.Common.{◌≡◌, ℕ, List, [], ◌∷◌, refl, Ok, Err}
 use Rattle.std.specs.Prelude.{Result, ◌&&◌, ◌==◌}
-use Rattle.dma_ring.specs.declared.fault.RingFault.{RingFault}
+use Rattle.rx_ring.specs.DmaRing.declared.fault.RingFault.{RingFault}
 use Rattle.rx_ring.specs.declared.filled.Filled.{Filled}
 use Rattle.rx_ring.specs.Fill as rx
 use Rattle.tx_ring.specs.declared.fetched.Fetched.{Fetched}

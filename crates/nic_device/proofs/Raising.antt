@@ -1,17 +1,17 @@
 -- What the steps of queues make of the registers: a side changes, frames are counted and causes raised.
 use Rattle.std.proofs.Common.{◌<◌, ◌^◌, ℕ, List, Option, Some, None, refl}
 use Rattle.std.specs.Prelude.{⊤}
-use Rattle.intr_unit.specs.declared.group.Group.TheVariants.{Pf}
-use Rattle.reg_table.specs.declared.rows.RowId.{RowId}
-use Rattle.reg_table.specs.declared.rows.RowId.TheVariants.{Mpc, Gptc, Qprc, Qprdc, Qptc, Vfgprc, Vfgptc}
+use Rattle.register_file.specs.IntrUnit.declared.group.Group.TheVariants.{Pf}
+use Rattle.register_file.specs.RegTable.declared.rows.RowId.{RowId}
+use Rattle.register_file.specs.RegTable.declared.rows.RowId.TheVariants.{Mpc, Gptc, Qprc, Qprdc, Qptc, Vfgprc, Vfgptc}
 use Rattle.rx_ring.specs.declared.filled.Filled.{Filled}
 use Rattle.tx_ring.specs.declared.fetched.Fetched.{Fetched}
 use Rattle.register_file.specs.Columns.{place}
 use Rattle.register_file.specs.Counters.{counted, counter_of}
 use Rattle.register_file.specs.Queue.{head_row, with_head, shut}
 use Rattle.register_file.specs.Registers.{Registers}
-use Rattle.register_file.specs.declared.dir.Dir.{Dir}
-use Rattle.register_file.specs.declared.dir.Dir.TheVariants.{Rx, Tx}
+use Rattle.rx_ring.specs.DmaRing.declared.dir.Dir.{Dir}
+use Rattle.rx_ring.specs.DmaRing.declared.dir.Dir.TheVariants.{Rx, Tx}
 use Rattle.register_laws.specs.Footprint.{Footprint, Covers, either, counters, any_pending, pending, the_word, of_side}
 use Rattle.register_laws.proofs.Covers.{covers-trans}
 use Rattle.register_laws.proofs.Footprints.{within-refl, covers-the_word}

@@ -3,10 +3,10 @@ use Rattle.std.proofs.Common.{◌≡◌, ◌<◌, ◌≤◌, ◌+◌, ◌^◌, �
 use Rattle.std.specs.Prelude.{⊤}
 use Rattle.std.proofs.lemmas.Bool.{or_parts}
 use Rattle.std.proofs.lemmas.List.Elements.{All-take, All-drop}
-use Rattle.dma_arena.specs.Memory.{Memory}
-use Rattle.dma_ring.specs.Receive.{written_back}
-use Rattle.dma_ring.specs.Ring.{slots_of}
-use Rattle.dma_ring.specs.declared.ring.Ring.{Ring}
+use Rattle.rx_ring.specs.DmaArena.Memory.{Memory}
+use Rattle.rx_ring.specs.DmaRing.Receive.{written_back}
+use Rattle.rx_ring.specs.DmaRing.Ring.{slots_of}
+use Rattle.rx_ring.specs.DmaRing.declared.ring.Ring.{Ring}
 use Rattle.rx_ring.specs.Fill.{Rest, Outcome as Filling, fill_of}
 use Rattle.rx_ring.specs.declared.filled.Filled.{Filled}
 use Rattle.rx_ring.proofs.Fills.{takes_piece, writes_inside_slot, fill_keeps_blocks}
@@ -28,13 +28,13 @@ use Rattle.nic_device.proofs.Pieces.{piece_fits}
 use Rattle.nic_device.proofs.Queued.{AreWaiting-others, AreWaiting-after_piece, length-after_piece}
 use Rattle.nic_device.proofs.Coming.{Comes}
 use Rattle.nic_device.proofs.Raising.{slotless-comes, receive_failed-comes, piece-comes, of_step}
-use Rattle.register_file.specs.declared.dir.Dir.TheVariants.{Rx}
+use Rattle.rx_ring.specs.DmaRing.declared.dir.Dir.TheVariants.{Rx}
 use Rattle.register_file.specs.Registers.{Registers}
 use Rattle.nic_device.specs.declared.event.Event.TheVariants as event
 use Rattle.nic_device.specs.declared.event.Reply.TheVariants.{Idle, Dropped, Fault, Wrote}
 use Rattle.nic_device.specs.declared.event.Why.TheVariants.{NoSlot}
 use Rattle.nic_device.specs.declared.event.Reply.{Reply}
-use Rattle.dma_arena.specs.Block.{Block}
+use Rattle.rx_ring.specs.DmaArena.Block.{Block}
 
 -- filled memory has whole blocks
 AreBlocks-fill : (m : Memory) (r : Ring) (srrctl : ℕ) (rest : Rest) → AreBlocks m → AreBytes rest.bytes

@@ -4,9 +4,9 @@ use Rattle.std.specs.Prelude.{◌==◌, slice_set}
 use Rattle.std.specs.FinMap as map
 use Rattle.std.proofs.lemmas.Bool.{eqb-false}
 use Rattle.std.proofs.lemmas.List.{get_or-set_other}
-use Rattle.dma_arena.specs.Memory.{Memory}
-use Rattle.dma_ring.specs.Ring.{slots_of}
-use Rattle.dma_ring.specs.declared.fault.RingFault.{RingFault}
+use Rattle.rx_ring.specs.DmaArena.Memory.{Memory}
+use Rattle.rx_ring.specs.DmaRing.Ring.{slots_of}
+use Rattle.rx_ring.specs.DmaRing.declared.fault.RingFault.{RingFault}
 use Rattle.tx_ring.specs.Laws.{ChangesOnlyReport}
 use Rattle.tx_ring.specs.Report.{report_length}
 use Rattle.tx_ring.specs.declared.fetched.Fetched.{Fetched}

@@ -1,9 +1,9 @@
 -- The table of events: each keeps a device sound, and changes nothing outside its reach.
 use Rattle.std.proofs.Common.{◌≡◌, ℕ, Bool, true, false, refl, sym, subst, arith, Option, Some, None}
 use Rattle.std.specs.Prelude.{⊤, Result, Ok, Err, OnOk, OnErr}
-use Rattle.dma_arena.specs.Block.{Block}
-use Rattle.intr_unit.specs.declared.group.Group.{Group}
-use Rattle.intr_unit.specs.declared.group.Group.TheVariants as group
+use Rattle.rx_ring.specs.DmaArena.Block.{Block}
+use Rattle.register_file.specs.IntrUnit.declared.group.Group.{Group}
+use Rattle.register_file.specs.IntrUnit.declared.group.Group.TheVariants as group
 use Rattle.eeprom_image.proofs.Blank.{IsImage-blank}
 use Rattle.register_file.specs.Groups.{causes_raised, message_of, message_made}
 use Rattle.register_laws.specs.Footprint.{nothing}

@@ -6,8 +6,8 @@ use Rattle.std.proofs.lemmas.List.{get_or-set_other}
 use Rattle.register_file.specs.Columns.{place}
 use Rattle.register_file.specs.Queue.{enable_row, switched}
 use Rattle.register_file.specs.Registers.{Registers, is_wanted}
-use Rattle.register_file.specs.declared.dir.Dir.{Dir}
-use Rattle.register_file.specs.declared.dir.Dir.TheVariants.{Rx, Tx}
+use Rattle.rx_ring.specs.DmaRing.declared.dir.Dir.{Dir}
+use Rattle.rx_ring.specs.DmaRing.declared.dir.Dir.TheVariants.{Rx, Tx}
 use Rattle.register_laws.specs.Footprint.{Covers, of_side, the_word}
 use Rattle.register_laws.proofs.Footprints.{within-wider, covers-the_word}
 use Rattle.register_laws.proofs.Sound.{sound-switched}

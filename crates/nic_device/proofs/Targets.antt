@@ -5,12 +5,12 @@ use Rattle.std.specs.Prelude.{find, ◌==◌}
 use Rattle.std.specs.List.{range_with_len}
 use Rattle.std.proofs.lemmas.Bool.{cond_both}
 use Rattle.std.proofs.lemmas.Bool.Decides.{nat_tests}
-use Rattle.rss_hash.specs.Choice.{code_of}
-use Rattle.rss_hash.specs.Mrqc.{queue_mode_of}
-use Rattle.rss_hash.specs.Registers.{entry_of}
-use Rattle.rss_hash.specs.declared.mrqc.QueueMode.{QueueMode}
-use Rattle.rss_hash.specs.declared.mrqc.QueueMode.TheVariants.{Single, Rss, Pools64, Pools32Rss, Pools64Rss}
-use Rattle.reg_table.specs.declared.rows.RowId.TheVariants.{Rxcsum, VtCtl, Mrqc, Reta}
+use Rattle.register_file.specs.RssHash.Choice.{code_of}
+use Rattle.register_file.specs.RssHash.Mrqc.{queue_mode_of}
+use Rattle.register_file.specs.RssHash.Registers.{entry_of}
+use Rattle.register_file.specs.RssHash.declared.mrqc.QueueMode.{QueueMode}
+use Rattle.register_file.specs.RssHash.declared.mrqc.QueueMode.TheVariants.{Single, Rss, Pools64, Pools32Rss, Pools64Rss}
+use Rattle.register_file.specs.RegTable.declared.rows.RowId.TheVariants.{Rxcsum, VtCtl, Mrqc, Reta}
 use Rattle.register_file.specs.Bits.{has_bit}
 use Rattle.register_file.specs.Registers.{Registers, word_of}
 use Rattle.register_file.specs.Words.{row_words}

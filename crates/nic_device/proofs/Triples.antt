@@ -3,11 +3,11 @@ use Rattle.std.proofs.Common.{length, ap, sym, zero, suc, take, add-one, ◌+◌
 use Rattle.std.specs.List.{AllByRecursion, slice_get}
 use Rattle.eeprom_image.specs.Triples.{triples_of}
 use Rattle.eeprom_image.proofs.TripleLists.{triples-fit}
-use Rattle.reg_table.specs.Place.{place_among, view_among}
-use Rattle.reg_table.specs.Runs.{runs}
-use Rattle.reg_table.specs.declared.place.Place.{Place}
+use Rattle.register_file.specs.RegTable.Place.{place_among, view_among}
+use Rattle.register_file.specs.RegTable.Runs.{runs}
+use Rattle.register_file.specs.RegTable.declared.place.Place.{Place}
 use Rattle.register_file.specs.Registers.{reset_registers}
-use Rattle.reg_table.specs.Rows.{row_of}
+use Rattle.register_file.specs.RegTable.Rows.{row_of}
 use Rattle.register_file.specs.Access.{asks_pool_reset}
 use Rattle.register_laws.proofs.Sound.{sound-reset}
 use Rattle.nic_device.specs.Eeprom.{is_stepped_over, triple_written, with_triple, with_triples, reset}

@@ -1,8 +1,8 @@
 -- Register accesses, by the kind of the row.
 use Rattle.std.specs.Prelude.{ℕ, length, bit_and, if◌then◌else◌}
 use Rattle.eeprom_image.specs.Image.{doublings}
-use Rattle.reg_table.specs.Rows.{row_of}
-use Rattle.reg_table.specs.declared.place.Place.{Place}
+use Rattle.register_file.specs.RegTable.Rows.{row_of}
+use Rattle.register_file.specs.RegTable.declared.place.Place.{Place}
 use Rattle.register_file.specs.Access.{read_word, after_read, asks_reset}
 use Rattle.register_file.specs.declared.surroundings.Surroundings.{Surroundings}
 use Rattle.nic_device.specs.Eeprom.{reset}

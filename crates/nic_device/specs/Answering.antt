@@ -1,6 +1,6 @@
 -- What an event can be answered, and how long that is in a note.
 use Rattle.std.specs.Prelude.{ℕ, ◌==◌, Bool, true, false, length}
-use Rattle.dma_arena.specs.Block.{Block}
+use Rattle.rx_ring.specs.DmaArena.Block.{Block}
 use Rattle.nic_device.specs.Link.{next_out_of}
 use Rattle.nic_device.specs.State.{State}
 use Rattle.nic_device.specs.declared.event.Event.{Event}

@@ -1,7 +1,7 @@
 -- A frame arrives from the link.
 use Rattle.std.specs.Prelude.{ℕ, nat_lt, List, [], ◌∷◌, ◌++◌, length, Result, Ok, Err, if◌then◌else◌}
-use Rattle.reg_table.specs.declared.rows.RowId.{RowId}
-use Rattle.reg_table.specs.declared.rows.RowId.TheVariants.{Mpc, Gprc, Ruc, Roc}
+use Rattle.register_file.specs.RegTable.declared.rows.RowId.{RowId}
+use Rattle.register_file.specs.RegTable.declared.rows.RowId.TheVariants.{Mpc, Gprc, Ruc, Roc}
 use Rattle.register_file.specs.Counters.{counted}
 use Rattle.register_file.specs.Settings.{can_receive, frame_limit}
 use Rattle.rx_filter.specs.Sorting.{sorted}

@@ -2,11 +2,11 @@
 use Rattle.std.specs.Prelude.{ℕ, Bool, true, false, List, fold, Option, Some, None, if◌then◌else◌}
 use Rattle.eeprom_image.specs.Bytes.{word_at}
 use Rattle.eeprom_image.specs.Triples.{triples_of}
-use Rattle.reg_table.specs.Place.{place_among, view_among}
-use Rattle.reg_table.specs.Runs.{runs}
-use Rattle.reg_table.specs.declared.place.Place.{Place}
-use Rattle.reg_table.specs.declared.rows.RowId.{RowId}
-use Rattle.reg_table.specs.declared.rows.RowId.TheVariants.{Ctrl, Eerd}
+use Rattle.register_file.specs.RegTable.Place.{place_among, view_among}
+use Rattle.register_file.specs.RegTable.Runs.{runs}
+use Rattle.register_file.specs.RegTable.declared.place.Place.{Place}
+use Rattle.register_file.specs.RegTable.declared.rows.RowId.{RowId}
+use Rattle.register_file.specs.RegTable.declared.rows.RowId.TheVariants.{Ctrl, Eerd}
 use Rattle.register_file.specs.Eeprom.{eeprom_asked, eeprom_answered}
 use Rattle.register_file.specs.Settings.{is_stopped}
 use Rattle.nic_device.specs.Outcome.{Outcome, gives}

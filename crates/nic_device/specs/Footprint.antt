@@ -1,21 +1,21 @@
 -- What of a device an event may change.
 use Rattle.std.specs.Prelude.{ℕ, ◌≡◌, ◌+◌, ◌*◌, ◌==◌, nat_lt, Bool, true, false, ◌&&◌, ◌||◌, IsFalse, List, [], ◌∷◌, length, Option, Some, None, if◌then◌else◌}
 use Rattle.std.specs.FinMap as map
-use Rattle.dma_arena.specs.Block.{Block}
-use Rattle.dma_arena.specs.Memory.{has_block}
-use Rattle.reg_table.specs.Rows.{row_of}
-use Rattle.reg_table.specs.declared.bank.Bank.{Bank}
-use Rattle.reg_table.specs.declared.bank.Bank.TheVariants as bank
-use Rattle.reg_table.specs.declared.place.Place.{Place}
-use Rattle.reg_table.specs.declared.rows.RowId.TheVariants.{Eerd}
-use Rattle.vf_map.specs.Owner.{has_queue}
-use Rattle.vf_map.specs.declared.mode.Mode.{Mode}
-use Rattle.intr_unit.specs.declared.group.Group.TheVariants as group
+use Rattle.rx_ring.specs.DmaArena.Block.{Block}
+use Rattle.rx_ring.specs.DmaArena.Memory.{has_block}
+use Rattle.register_file.specs.RegTable.Rows.{row_of}
+use Rattle.register_file.specs.RegTable.declared.bank.Bank.{Bank}
+use Rattle.register_file.specs.RegTable.declared.bank.Bank.TheVariants as bank
+use Rattle.register_file.specs.RegTable.declared.place.Place.{Place}
+use Rattle.register_file.specs.RegTable.declared.rows.RowId.TheVariants.{Eerd}
+use Rattle.register_file.specs.VfMap.Owner.{has_queue}
+use Rattle.register_file.specs.VfMap.declared.mode.Mode.{Mode}
+use Rattle.register_file.specs.IntrUnit.declared.group.Group.TheVariants as group
 use Rattle.register_file.specs.Access.{asks_reset, asks_pool_reset}
 use Rattle.register_file.specs.Columns.{place}
 use Rattle.register_file.specs.Pools.{mode_in}
-use Rattle.register_file.specs.declared.dir.Dir.{Dir}
-use Rattle.register_file.specs.declared.dir.Dir.TheVariants.{Rx, Tx}
+use Rattle.rx_ring.specs.DmaRing.declared.dir.Dir.{Dir}
+use Rattle.rx_ring.specs.DmaRing.declared.dir.Dir.TheVariants.{Rx, Tx}
 use Rattle.register_laws.specs.Footprint.{Footprint, ChangesWithin, nothing, everything, either, the_word, counters, of_side, of_pool, pending, any_pending, of_read, of_write}
 use Rattle.register_laws.specs.Sides.{transmit_queue_of}
 use Rattle.tx_ring.specs.Report.{report_length}

@@ -1,16 +1,16 @@
 -- Interrupts: what queues and the device raise, and one message.
 use Rattle.std.specs.Prelude.{ℕ, ◌^◌, Bool, true, ◌&&◌, nat_lt, Option, Some, None, is_some, if◌then◌else◌}
-use Rattle.dma_arena.specs.Block.{Block}
-use Rattle.intr_unit.specs.declared.group.Group.{Group}
-use Rattle.intr_unit.specs.declared.group.Group.TheVariants.{Pf, Vf}
-use Rattle.reg_table.specs.declared.rows.RowId.{RowId}
-use Rattle.vf_map.specs.Pools.{queues_of, pool_of}
+use Rattle.rx_ring.specs.DmaArena.Block.{Block}
+use Rattle.register_file.specs.IntrUnit.declared.group.Group.{Group}
+use Rattle.register_file.specs.IntrUnit.declared.group.Group.TheVariants.{Pf, Vf}
+use Rattle.register_file.specs.RegTable.declared.rows.RowId.{RowId}
+use Rattle.register_file.specs.VfMap.Pools.{queues_of, pool_of}
 use Rattle.register_file.specs.Counters.{counted_wrapping}
 use Rattle.register_file.specs.Groups.{causes_raised, queue_raised, message_of, message_made}
 pub use Rattle.register_file.specs.Pools.{mode_in}
 use Rattle.register_file.specs.Registers.{Registers}
 use Rattle.register_file.specs.Settings.{is_stopped}
-use Rattle.register_file.specs.declared.dir.Dir.{Dir}
+use Rattle.rx_ring.specs.DmaRing.declared.dir.Dir.{Dir}
 use Rattle.nic_device.specs.State.{State}
 use Rattle.nic_device.specs.Outcome.{Outcome, gives}
 use Rattle.nic_device.specs.declared.event.Reply.{Reply}

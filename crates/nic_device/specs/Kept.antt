@@ -1,7 +1,7 @@
 -- What every event keeps.
 use Rattle.std.specs.Prelude.{ℕ, ◌<◌, ◌≤◌, IsFalse}
-use Rattle.dma_arena.specs.Block.{Block}
-use Rattle.dma_arena.specs.Memory.{SameLent}
+use Rattle.rx_ring.specs.DmaArena.Block.{Block}
+use Rattle.rx_ring.specs.DmaArena.Memory.{SameLent}
 use Rattle.nic_device.specs.Sound.{IsSound, IsEvent}
 use Rattle.nic_device.specs.State.{State, new_state}
 use Rattle.nic_device.specs.Step.{after, reply_to, moves_block, hands_out}

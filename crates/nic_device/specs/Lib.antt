@@ -1,3 +1,15 @@
+pub use Rattle.register_file.specs.RegTable
+pub use Rattle.rx_ring.specs.DmaArena
+pub use Rattle.rx_ring.specs.DmaRing
+pub use Rattle.rx_ring.specs as RxRing
+pub use Rattle.tx_ring.specs as TxRing
+pub use Rattle.register_file.specs.VfMap
+pub use Rattle.register_file.specs.RssHash
+pub use Rattle.register_file.specs.IntrUnit
+pub use Rattle.eeprom_image.specs as EepromImage
+pub use Rattle.register_file.specs as RegisterFile
+pub use Rattle.register_laws.specs as RegisterLaws
+pub use Rattle.rx_filter.specs as RxFilter
 pub mod Named
 pub mod PoolReset
 pub mod Access

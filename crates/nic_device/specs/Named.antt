@@ -1,12 +1,12 @@
 -- What the numbers of registers name: addresses of the physical function, and offsets of virtual functions.
 use Rattle.std.specs.Prelude.{ℕ, ◌<◌, ⊤, Option, Some, None}
-use Rattle.reg_table.specs.Place.{place_among, view_among}
-use Rattle.reg_table.specs.Rows.{row_of}
-use Rattle.reg_table.specs.Runs.{runs}
-use Rattle.reg_table.specs.declared.place.Place.{Place}
-use Rattle.vf_map.specs.Map.{located}
-use Rattle.vf_map.specs.declared.located.Located.{Located}
-use Rattle.vf_map.specs.declared.located.Located.TheVariants as located_as
+use Rattle.register_file.specs.RegTable.Place.{place_among, view_among}
+use Rattle.register_file.specs.RegTable.Rows.{row_of}
+use Rattle.register_file.specs.RegTable.Runs.{runs}
+use Rattle.register_file.specs.RegTable.declared.place.Place.{Place}
+use Rattle.register_file.specs.VfMap.Map.{located}
+use Rattle.register_file.specs.VfMap.declared.located.Located.{Located}
+use Rattle.register_file.specs.VfMap.declared.located.Located.TheVariants as located_as
 use Rattle.nic_device.specs.Interrupt.{mode_in}
 use Rattle.nic_device.specs.State.{State}
 use Rattle.nic_device.specs.declared.event.Port.{Port}

@@ -1,6 +1,6 @@
 use Rattle.nic_device.specs.State.{State}
 use Rattle.nic_device.specs.declared.event.Reply.{Reply}
-use Rattle.dma_arena.specs.Block.{Block}
+use Rattle.rx_ring.specs.DmaArena.Block.{Block}
 
 -- a reply, and the state after it
 pub record Outcome : Type 0 where

@@ -1,10 +1,10 @@
 -- The reset of a pool, and writes that ask for no reset of the device.
 use Rattle.std.specs.Prelude.{ℕ, zero, suc, ◌+◌, not, List, [], filter, slice_set, Option, Some, None, if◌then◌else◌}
-use Rattle.reg_table.specs.Rows.{row_of}
-use Rattle.reg_table.specs.declared.place.Place.{Place}
-use Rattle.vf_map.specs.Owner.{has_queue}
-use Rattle.vf_map.specs.Pools.{queues_of}
-use Rattle.vf_map.specs.declared.mode.Mode.{Mode}
+use Rattle.register_file.specs.RegTable.Rows.{row_of}
+use Rattle.register_file.specs.RegTable.declared.place.Place.{Place}
+use Rattle.register_file.specs.VfMap.Owner.{has_queue}
+use Rattle.register_file.specs.VfMap.Pools.{queues_of}
+use Rattle.register_file.specs.VfMap.declared.mode.Mode.{Mode}
 use Rattle.register_file.specs.Access.{written, asks_pool_reset}
 use Rattle.register_file.specs.PoolReset.{pool_reset}
 use Rattle.register_file.specs.Pools.{mode_in}

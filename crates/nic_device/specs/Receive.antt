@@ -1,21 +1,21 @@
 -- One step of receiving: the frame that waits longest is written on, one descriptor at a time.
 use Rattle.std.specs.Prelude.{ℕ, ◌+◌, ◌==◌, Bool, ◌&&◌, not, List, [], ◌∷◌, drop, Result, Ok, Err, if◌then◌else◌}
-use Rattle.dma_ring.specs.declared.ring.Ring.{Ring}
-use Rattle.dma_ring.specs.declared.fault.RingFault.{RingFault}
-use Rattle.dma_ring.specs.Receive.{told_of}
-use Rattle.dma_ring.specs.Ring.{is_outside}
-use Rattle.dma_ring.specs.declared.receive.Packet.{Packet}
-use Rattle.rss_hash.specs.Flow.{flow_of}
-use Rattle.reg_table.specs.declared.rows.RowId.TheVariants.{Qprc, Qprdc, Vfgprc}
+use Rattle.rx_ring.specs.DmaRing.declared.ring.Ring.{Ring}
+use Rattle.rx_ring.specs.DmaRing.declared.fault.RingFault.{RingFault}
+use Rattle.rx_ring.specs.DmaRing.Receive.{told_of}
+use Rattle.rx_ring.specs.DmaRing.Ring.{is_outside}
+use Rattle.rx_ring.specs.DmaRing.declared.receive.Packet.{Packet}
+use Rattle.register_file.specs.RssHash.Flow.{flow_of}
+use Rattle.register_file.specs.RegTable.declared.rows.RowId.TheVariants.{Qprc, Qprdc, Vfgprc}
 use Rattle.register_file.specs.Counters.{counted, counter_of}
 use Rattle.register_file.specs.Registers.{Registers}
 use Rattle.rx_ring.specs.Fill.{Rest, fill_of}
 use Rattle.rx_ring.specs.declared.filled.Filled.{Filled}
 use Rattle.register_file.specs.Queue.{with_head, shut}
 use Rattle.register_file.specs.Settings.{is_stopped, drops}
-use Rattle.register_file.specs.declared.dir.Dir.TheVariants.{Rx}
+use Rattle.rx_ring.specs.DmaRing.declared.dir.Dir.TheVariants.{Rx}
 use Rattle.register_laws.specs.Sides.{ReceiveQueue, receive_queue_of}
-use Rattle.dma_arena.specs.Memory.{Memory}
+use Rattle.rx_ring.specs.DmaArena.Memory.{Memory}
 use Rattle.nic_device.specs.State.{State, Waiting}
 use Rattle.nic_device.specs.Interrupt.{function_of_queue, function_counted, raised_by, device_raised, fault_cause}
 use Rattle.nic_device.specs.Outcome.{Outcome, gives}

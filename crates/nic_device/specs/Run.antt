@@ -1,6 +1,6 @@
 -- A list of events, from the first one on.
 use Rattle.std.specs.Prelude.{◌≡◌, ◌<◌, List, [], ◌∷◌, length, take, drop}
-use Rattle.dma_arena.specs.Block.{Block}
+use Rattle.rx_ring.specs.DmaArena.Block.{Block}
 use Rattle.nic_device.specs.State.{State}
 use Rattle.nic_device.specs.Step.{step_of}
 use Rattle.nic_device.specs.declared.event.Event.{Event}

@@ -1,8 +1,8 @@
 -- What is true of a device between two events, whatever the events before, and of each event that a driver can make.
 use Rattle.std.specs.Prelude.{ℕ, ◌≡◌, ◌<◌, ◌≤◌, ◌^◌, List, [], ◌∷◌, length, All, ⊤, Some}
 use Rattle.std.specs.FinMap as map
-use Rattle.dma_arena.specs.Block.{Block, IsBlock}
-use Rattle.dma_arena.specs.Memory.{Memory, IsWhole}
+use Rattle.rx_ring.specs.DmaArena.Block.{Block, IsBlock}
+use Rattle.rx_ring.specs.DmaArena.Memory.{Memory, IsWhole}
 use Rattle.eeprom_image.specs.Image.{IsImage}
 use Rattle.register_file.specs.Groups.{index_of}
 use Rattle.register_laws.specs.Sound.{AreSound}

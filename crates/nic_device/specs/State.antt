@@ -2,7 +2,7 @@
 use Rattle.std.specs.Prelude.{ℕ, Bool, true, List, [], replicate, refl}
 use Rattle.std.specs.Coded.{Coded, code_by, coded×, coded_ℕ, coded_bool, coded_list}
 use Rattle.std.specs.FinMap as map
-use Rattle.dma_arena.specs.Memory.{Memory}
+use Rattle.rx_ring.specs.DmaArena.Memory.{Memory}
 use Rattle.eeprom_image.specs.Image.{blank}
 use Rattle.register_file.specs.Registers.{Registers, registers_code, reset_registers}
 

@@ -1,6 +1,6 @@
 -- One event.
 use Rattle.std.specs.Prelude.{ℕ, ◌≡◌, ◌≢◌, Bool, true, false, Option, Some, None}
-use Rattle.dma_arena.specs.Block.{Block}
+use Rattle.rx_ring.specs.DmaArena.Block.{Block}
 use Rattle.nic_device.specs.State.{State}
 use Rattle.nic_device.specs.Outcome.{Outcome}
 use Rattle.nic_device.specs.Access.{register_read, register_written}

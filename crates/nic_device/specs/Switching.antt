@@ -4,8 +4,8 @@ use Rattle.std.specs.Bool.{beq}
 use Rattle.register_file.specs.Registers.{is_wanted}
 use Rattle.register_file.specs.Queue.{is_on, switched}
 use Rattle.register_file.specs.Settings.{is_stopped}
-use Rattle.register_file.specs.declared.dir.Dir.{Dir}
-use Rattle.register_file.specs.declared.dir.Dir.TheVariants.{Rx, Tx}
+use Rattle.rx_ring.specs.DmaRing.declared.dir.Dir.{Dir}
+use Rattle.rx_ring.specs.DmaRing.declared.dir.Dir.TheVariants.{Rx, Tx}
 use Rattle.nic_device.specs.State.{State, Waiting}
 use Rattle.nic_device.specs.Outcome.{Outcome, gives}
 use Rattle.nic_device.specs.declared.event.Reply.TheVariants.{Done, Idle, NoQueue}

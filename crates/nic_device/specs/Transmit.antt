@@ -1,20 +1,20 @@
 -- One step of transmitting: one descriptor of a queue is fetched.
 use Rattle.std.specs.Prelude.{ℕ, ◌||◌, ◌&&◌, not, Bool, false, nat_lt, List, [], ◌∷◌, ◌++◌, length, slice_set, slice_index_or, Option, Some, None, Result, Ok, Err, if◌then◌else◌}
-use Rattle.dma_arena.specs.Block.{Block}
-use Rattle.dma_arena.specs.Memory.{Memory}
-use Rattle.dma_ring.specs.declared.fault.RingFault.{RingFault}
+use Rattle.rx_ring.specs.DmaArena.Block.{Block}
+use Rattle.rx_ring.specs.DmaArena.Memory.{Memory}
+use Rattle.rx_ring.specs.DmaRing.declared.fault.RingFault.{RingFault}
 use Rattle.tx_ring.specs.Fetch.{fetch_of}
 use Rattle.tx_ring.specs.declared.fetched.Fetched.{Fetched}
 use Rattle.tx_ring.specs.declared.tx.Tx.{Tx as Sending}
-use Rattle.reg_table.specs.declared.rows.RowId.TheVariants.{Gptc, Qptc, Vfgptc}
+use Rattle.register_file.specs.RegTable.declared.rows.RowId.TheVariants.{Gptc, Qptc, Vfgptc}
 use Rattle.register_file.specs.Counters.{counted, counter_of}
 use Rattle.register_file.specs.Registers.{Registers}
 use Rattle.register_file.specs.Queue.{with_head, shut}
 use Rattle.register_file.specs.Pools.{mode_in, is_pool_on}
-use Rattle.vf_map.specs.Pools.{pool_of}
+use Rattle.register_file.specs.VfMap.Pools.{pool_of}
 use Rattle.rx_filter.specs.Pools.{uses_pools}
 use Rattle.register_file.specs.Settings.{is_stopped, can_transmit, frame_limit, pads}
-use Rattle.register_file.specs.declared.dir.Dir.TheVariants.{Tx}
+use Rattle.rx_ring.specs.DmaRing.declared.dir.Dir.TheVariants.{Tx}
 use Rattle.register_laws.specs.Sides.{TransmitQueue, transmit_queue_of}
 use Rattle.nic_device.specs.State.{State}
 use Rattle.nic_device.specs.Interrupt.{function_of_queue, function_counted, raised_by, device_raised, fault_cause}

@@ -1,7 +1,7 @@
 //! Register accesses.
 
 ghost use Rattle.std.specs.Prelude.{◌≡◌, ◌<◌, [], length, replicate};
-ghost use Rattle.reg_table.specs.Rows.{row_of};
+ghost use Rattle.register_file.specs.RegTable.Rows.{row_of};
 ghost use Rattle.nic_device.specs.State.{cleared};
 ghost use Rattle.nic_device.specs.Eeprom.{reset};
 ghost use Rattle.nic_device.specs.Access.{around, register_read, register_written, state_written};
@@ -11,8 +11,7 @@ ghost use Rattle.nic_device.specs.Step.{word_told};
 use crate::engine::Engine;
 use crate::event::{Port, Reply};
 use crate::named::Named;
-use reg_table::Place;
-use register_file::{Surroundings, asks_pool_reset, asks_reset};
+use register_file::{Place, Surroundings, asks_pool_reset, asks_reset};
 use tx_ring::Staged;
 
 impl Engine {

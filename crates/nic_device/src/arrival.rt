@@ -7,10 +7,9 @@ use crate::engine::Engine;
 use crate::event::{Event, OutOfMemory, Reply, Why};
 use crate::interrupt::RECEIVE_MISS;
 use crate::waiting::Waiting;
-use dma_arena::Octets;
-use intr_unit::Group;
-use reg_table::RowId;
+use register_file::{Group, RowId};
 use rx_filter::{Target, Unwanted, sort};
+use rx_ring::Octets;
 
 /// How many bytes a frame has at least, its frame check sequence left out.
 const SHORTEST_FRAME: usize = 60;

@@ -9,8 +9,8 @@ ghost use Rattle.nic_device.specs.Step.{step_of, TakesMemory, word_told};
 use crate::config::{Config, MAX_FIFO, MAX_VFS, NewFault};
 use crate::engine::Engine;
 use crate::event::{Event, OutOfMemory, Port, Reply};
-use dma_arena::{BLOCK_BYTES, LentMemory, Octets};
 use eeprom_image::Image;
+use rx_ring::{BLOCK_BYTES, LentMemory, Octets};
 use std::alloc::Global;
 use std::marker::Model;
 

@@ -7,7 +7,7 @@ ghost use Rattle.nic_device.specs.Eeprom.{is_stepped_over, with_triple, with_tri
 use crate::engine::Engine;
 use crate::event::Reply;
 use eeprom_image::Image;
-use reg_table::{RowId, resolve};
+use register_file::{RowId, resolve};
 use std::mem;
 
 impl Engine {

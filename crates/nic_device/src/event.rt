@@ -1,9 +1,7 @@
 ghost use Rattle.std.specs.Prelude.{◌≡◌};
 
-use dma_arena::{Buf, Octets};
-use dma_ring::RingFault;
-use intr_unit::Group;
-use register_file::Dir;
+use register_file::Group;
+use rx_ring::{Buf, Dir, Octets, RingFault};
 use std::marker::Model;
 
 /// The function of the card that a register access comes through.
@@ -245,7 +243,7 @@ pub struct Note {
 }
 
 impl Model for Note {
-    ghost use Rattle.dma_arena.specs.Block.{Block};
+    ghost use Rattle.rx_ring.specs.DmaArena.Block.{Block};
 
     ghost Value = { Block };
 

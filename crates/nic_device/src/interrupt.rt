@@ -1,17 +1,15 @@
 //! Interrupts: what queues and the device raise, and messages.
 
 ghost use Rattle.std.specs.Prelude.{◌≡◌, ◌<◌, IfSome};
-ghost use Rattle.reg_table.specs.Rows.{row_of};
-ghost use Rattle.reg_table.specs.declared.kind.Kind.TheVariants.{Ro};
+ghost use Rattle.register_file.specs.RegTable.Rows.{row_of};
+ghost use Rattle.register_file.specs.RegTable.declared.kind.Kind.TheVariants.{Ro};
 ghost use Rattle.register_file.specs.Groups.{index_of};
 ghost use Rattle.nic_device.specs.Interrupt.{mode_in, function_of_queue, group_of_queue, function_counted, raised_by, has_group, messaged, interrupted};
 
 use crate::engine::Engine;
 use crate::event::Reply;
-use intr_unit::Group;
-use reg_table::RowId;
-use register_file::{Dir, RegisterFile};
-use vf_map::{Mode, pool_of, queues_of};
+use register_file::{Group, Mode, RegisterFile, RowId, pool_of, queues_of};
+use rx_ring::Dir;
 
 /// EICR: a frame was missed for want of room.
 pub(crate) const RECEIVE_MISS: u32 = 0x0002_0000;

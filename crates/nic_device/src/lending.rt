@@ -5,7 +5,7 @@ ghost use Rattle.nic_device.specs.Lending.{lent, taken, peeked, poked};
 
 use crate::engine::Engine;
 use crate::event::{Event, OutOfMemory, Reply};
-use dma_arena::{Buf, LendRefused};
+use rx_ring::{Buf, LendRefused};
 
 /// A driver looks at memory by so many bytes, and at their multiples.
 const PEEK_BYTES: u32 = 16;

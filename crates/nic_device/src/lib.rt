@@ -31,8 +31,16 @@ mod waiting;
 
 pub use config::{Config, MAX_FIFO, MAX_VFS, NewFault};
 pub use device::{Device, Parts};
+pub use eeprom_image::{AsmFault, Image, LoadFault, assemble, load};
 pub use event::{Event, EventNote, Note, OutOfMemory, Port, Reply, ReplyNote, Why};
-pub use intr_unit::Group;
 pub use named::Named;
-pub use register_file::Dir;
+pub use register_file::{
+    Bank, Group, Key, Located, Mode, Place, RowId, addr_of, asks_pool_reset, asks_reset, bank_of,
+    has_queue, hash, locate, mode_of, place_of,
+};
 pub use runs::RunStop;
+pub use rx_ring::{
+    Arena, BLOCK_BYTES, BLOCK_NUMBERS, Buf, Dir, LentMemory, Octets, data_descriptor_word,
+    first_half, hash_told, is_last, is_sent, is_written_back, length_told, of_halves, posted_word,
+    rss_told, second_half,
+};

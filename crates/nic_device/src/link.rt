@@ -5,7 +5,7 @@ ghost use Rattle.nic_device.specs.Link.{link_set, collected};
 
 use crate::engine::Engine;
 use crate::event::Reply;
-use intr_unit::Group;
+use register_file::Group;
 
 /// EICR: the link went up or down.
 const LINK_CHANGE: u32 = 0x0010_0000;

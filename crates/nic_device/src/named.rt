@@ -1,15 +1,14 @@
 //! What the number of a register names.
 
 ghost use Rattle.std.specs.Prelude.{◌≡◌, ◌<◌};
-ghost use Rattle.reg_table.specs.Place.{place_among, view_among};
-ghost use Rattle.reg_table.specs.Runs.{runs};
-ghost use Rattle.vf_map.specs.Laws.{IsInRange as IsLocatedInRange};
+ghost use Rattle.register_file.specs.RegTable.Place.{place_among, view_among};
+ghost use Rattle.register_file.specs.RegTable.Runs.{runs};
+ghost use Rattle.register_file.specs.VfMap.Laws.{IsInRange as IsLocatedInRange};
 ghost use Rattle.nic_device.specs.Named.{at_place, at_location, named, IsInRange};
 
 use crate::engine::Engine;
 use crate::event::Port;
-use reg_table::{Place, resolve};
-use vf_map::{Located, locate};
+use register_file::{Located, Place, locate, resolve};
 
 /// What a read sees at a hole, and of a virtual function that there isn't.
 const HOLE: u32 = 0;

@@ -6,7 +6,7 @@ ghost use Rattle.std.specs.Vec.{vec_capacity};
 ghost use Rattle.nic_device.specs.Answering.{note_length};
 
 use crate::event::{Event, EventNote, Note, Reply, ReplyNote};
-use dma_arena::{Buf, Octets};
+use rx_ring::{Buf, Octets};
 use std::alloc::{AllocError, Global};
 
 impl Note {

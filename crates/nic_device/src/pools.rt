@@ -5,9 +5,9 @@ ghost use Rattle.nic_device.specs.PoolReset.{unstaged, others_waiting, with_pool
 
 use crate::engine::Engine;
 use crate::waiting::Waiting;
+use register_file::{Mode, has_queue, queues_of};
 use std::collections::VecDeque;
 use tx_ring::Staged;
-use vf_map::{Mode, has_queue, queues_of};
 
 impl Engine {
     /// Resets pool v, below 64: its registers, the frames that wait for its queues, and their staged bytes.

@@ -8,11 +8,8 @@ use crate::engine::Engine;
 use crate::event::{Reply, Why};
 use crate::interrupt::{PCI_EXCEPTION, count_function, function_of_queue, raise_by};
 use crate::waiting::Waiting;
-use dma_ring::Ring;
-use intr_unit::Group;
-use reg_table::RowId;
-use register_file::{Dir, RegisterFile};
-use rx_ring::{Filled, fill};
+use register_file::{Group, RegisterFile, RowId};
+use rx_ring::{Dir, Filled, Ring, fill};
 use std::collections::VecDeque;
 
 impl Engine {

@@ -1,5 +1,5 @@
 ghost use Rattle.std.specs.Prelude.{◌≡◌, ◌<◌, IfOk, IfErr, OnOk, List, ◌∷◌, length};
-ghost use Rattle.dma_arena.specs.Block.{Block};
+ghost use Rattle.rx_ring.specs.DmaArena.Block.{Block};
 ghost use Rattle.nic_device.specs.Run.{replies_of, state_after, IsStop};
 ghost use Rattle.nic_device.specs.Step.{TakesMemory};
 ghost use Rattle.nic_device.specs.declared.event.Event.{Event};

@@ -6,7 +6,8 @@ ghost use Rattle.nic_device.specs.Switching.{queue_switched, side_switched, empt
 use crate::engine::Engine;
 use crate::event::Reply;
 use crate::waiting::Waiting;
-use register_file::{Dir, QUEUES};
+use register_file::QUEUES;
+use rx_ring::Dir;
 use std::collections::VecDeque;
 
 impl Engine {

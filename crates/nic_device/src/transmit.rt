@@ -9,14 +9,11 @@ use crate::engine::Engine;
 use crate::event::{Event, OutOfMemory, Reply};
 use crate::interrupt::{PCI_EXCEPTION, count_function, function_of_queue, raise_by};
 use crate::receive::is_empty;
-use dma_arena::Octets;
-use intr_unit::Group;
-use reg_table::RowId;
-use register_file::{Dir, QUEUES, RegisterFile};
+use register_file::{Group, QUEUES, RegisterFile, RowId, pool_of};
 use rx_filter::uses_pools;
+use rx_ring::{Dir, Octets};
 use std::collections::VecDeque;
 use tx_ring::{Fetched, Tx, TxRefused, fetch};
-use vf_map::pool_of;
 
 impl Engine {
     /// One step of transmitting.

@@ -6,11 +6,9 @@ ghost use Rattle.nic_device.specs.State.{Waiting};
 ghost use Rattle.nic_device.specs.Arrival.{let_in};
 ghost use Rattle.nic_device.specs.Receive.{rest_of as rest_of_waiting, packet_of};
 
-use dma_arena::Octets;
-use dma_ring::{Packet, packet_word};
-use rss_hash::classify;
+use register_file::classify;
 use rx_filter::Target;
-use rx_ring::Item;
+use rx_ring::{Item, Octets, Packet, packet_word};
 use std::marker::Model;
 
 /// A frame that waits to be received: its bytes, its queue, its hash with the type, and how many of its bytes are
@@ -28,7 +26,7 @@ pub(crate) struct Waiting {
 
 impl Model for Waiting {
     ghost use Rattle.std.specs.Prelude.{◌≡◌, ◌<◌, ◌≤◌, length};
-    ghost use Rattle.dma_ring.specs.Receive.{told_of};
+    ghost use Rattle.rx_ring.specs.DmaRing.Receive.{told_of};
     ghost use Rattle.nic_device.specs.Receive.{packet_of};
     ghost use Rattle.nic_device.specs.State.{Waiting, waiting_code};
 

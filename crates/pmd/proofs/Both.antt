@@ -1,11 +1,11 @@
 -- A call of one half drives both on, and what it lends is the driver's own.
 use Rattle.std.proofs.Common.{◌≡◌, ℕ, true, false, List, [], ◌∷◌, ◌++◌, refl, ◌∙◌, subst, arith}
-use Rattle.dma_arena.specs.Numbers.{is_own, is_free}
-use Rattle.dma_arena.specs.Whereabouts.{times_in_hand}
-use Rattle.dma_arena.proofs.Arenas.{is_own-of_free}
-use Rattle.device_lock.specs.Alone.{Blocks}
-use Rattle.device_lock.specs.declared.entry.Call.{Call}
-use Rattle.pmd_base.proofs.Outside.{times-cons, times-append, out_fewer, out_first, out_free}
+use Rattle.nic_device.specs.DmaArena.Numbers.{is_own, is_free}
+use Rattle.nic_device.specs.DmaArena.Whereabouts.{times_in_hand}
+use Rattle.nic_device.proofs.DmaArena.Arenas.{is_own-of_free}
+use Rattle.pmd_rx.specs.DeviceLock.Alone.{Blocks}
+use Rattle.pmd_rx.specs.DeviceLock.declared.entry.Call.{Call}
+use Rattle.pmd_rx.proofs.PmdSeam.Outside.{times-cons, times-append, out_fewer, out_first, out_free}
 use Rattle.pmd_rx.specs.Keeping as receiving
 use Rattle.pmd_rx.specs.Keeping.{Keeps, block_in, blocks_out}
 use Rattle.pmd_rx.specs.Plays as receive

@@ -1,15 +1,15 @@
 -- Where the blocks of a driver are, counted: after a look for a packet, one that was made, and one that was released.
 use Rattle.std.proofs.Common.{◌≡◌, ℕ, true, false, List, [], ◌∷◌, ◌++◌, Option, Some, None, Result, Ok, Err, IsOk, OnOk, ◌↔◌, refl, ap, subst, sym, arith}
 use Rattle.std.proofs.lemmas.Bool.Decides.{nat_tests}
-use Rattle.dma_arena.specs.Numbers.{Numbers, is_free, is_own, with_free}
-use Rattle.dma_arena.specs.Whereabouts.{times_in_hand}
-use Rattle.pmd_base.specs.Fresh.{IsFresh}
-use Rattle.pmd_base.specs.declared.packet.Packet.{Packet}
-use Rattle.pmd_base.proofs.Outside.{times-cons, times-append}
+use Rattle.nic_device.specs.DmaArena.Numbers.{Numbers, is_free, is_own, with_free}
+use Rattle.nic_device.specs.DmaArena.Whereabouts.{times_in_hand}
+use Rattle.pmd_rx.specs.PmdSeam.Fresh.{IsFresh}
+use Rattle.pmd_rx.specs.PmdSeam.declared.packet.Packet.{Packet}
+use Rattle.pmd_rx.proofs.PmdSeam.Outside.{times-cons, times-append}
 use Rattle.pmd_rx.specs.Keeping.{Keeps, blocks_out, lent_of, block_in}
 use Rattle.pmd_rx.specs.Receive.{held_by}
 use Rattle.pmd_tx.specs.Leaving as transmit
-use Rattle.pmd_halt.specs.Halted.{Halted, all_out, goes_back}
+use Rattle.pmd.specs.Halted.{Halted, all_out, goes_back}
 use Rattle.pmd.specs.Blocks.{KeepsBlocks, KeepsEach, KeepsUp}
 use Rattle.pmd.specs.Driver.{halted_of}
 use Rattle.pmd.specs.Running.{Running, rings_out}

@@ -1,7 +1,7 @@
 -- A driver as a whole, from what its rings are.
 use Rattle.std.proofs.Common.{◌≡◌, Result, Ok, Err, IfErr, sym, subst}
-use Rattle.pmd_halt.specs.Halted.{Halted}
-use Rattle.pmd_queue.specs.Named.{AtPort}
+use Rattle.pmd.specs.Halted.{Halted}
+use Rattle.pmd_rx.specs.PmdSeam.Named.{AtPort}
 use Rattle.pmd.specs.Driver.{Driver, IsDown, halted_of}
 use Rattle.pmd.specs.Running.{Running}
 use Rattle.pmd.specs.declared.driver.Rings.{Rings}

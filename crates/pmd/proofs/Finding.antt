@@ -1,16 +1,16 @@
 -- A call of a half whose reply isn't that of a healthy queue.
 use Rattle.std.proofs.Common.{◌≡◌, ℕ, true, false, List, [], ◌∷◌, ◌++◌, length, length-append, refl, sym, ap, ◌∙◌, arith}
 use Rattle.std.specs.Prelude.{IsTrue}
-use Rattle.dma_arena.specs.Block.{Block}
-use Rattle.dma_arena.specs.Numbers.{Numbers, is_free}
+use Rattle.nic_device.specs.DmaArena.Block.{Block}
+use Rattle.nic_device.specs.DmaArena.Numbers.{Numbers, is_free}
 use Rattle.nic_device.specs.declared.event.Event.{Event}
 use Rattle.nic_device.specs.declared.event.Reply.{Reply}
-use Rattle.device_lock.specs.Alone.{Blocks}
-use Rattle.device_lock.specs.Pass.{call_of}
-use Rattle.device_lock.specs.declared.entry.Call.{Call}
-use Rattle.pmd_base.specs.Events.{is_step}
-use Rattle.pmd_base.specs.declared.fault.PmdFault.{PmdFault}
-use Rattle.pmd_base.specs.declared.fault.PmdFault.TheVariants.{DeviceFault}
+use Rattle.pmd_rx.specs.DeviceLock.Alone.{Blocks}
+use Rattle.pmd_rx.specs.DeviceLock.Pass.{call_of}
+use Rattle.pmd_rx.specs.DeviceLock.declared.entry.Call.{Call}
+use Rattle.pmd_rx.specs.PmdSeam.Events.{is_step}
+use Rattle.pmd_rx.specs.PmdSeam.declared.fault.PmdFault.{PmdFault}
+use Rattle.pmd_rx.specs.PmdSeam.declared.fault.PmdFault.TheVariants.{DeviceFault}
 use Rattle.pmd_rx.specs.Receive.{Receive}
 use Rattle.pmd_rx.specs.Wrong.{EndsWrong, FailsBy}
 use Rattle.pmd_tx.specs.Plays.{Faults, FaultsBy, is_elsewhere}

@@ -1,15 +1,15 @@
 -- The arena that comes home from a driver that had all blocks of another.
 use Rattle.std.proofs.Common.{◌≡◌, ℕ, ◌+◌, ◌||◌, nat_lt, Bool, true, false, cond, List, [], refl, ◌∙◌, arith}
 use Rattle.std.proofs.lemmas.Bool.Decides.{nat_tests}
-use Rattle.dma_arena.specs.Numbers.{Numbers, is_own, is_free}
-use Rattle.dma_arena.specs.Whereabouts.{times_in_hand}
-use Rattle.device_lock.specs.declared.entry.Call.{Call}
-use Rattle.pmd_base.proofs.Outside.{times-append}
-use Rattle.pmd_queue.specs.Named.{AtPort}
-use Rattle.pmd_halt.specs.Halted.{Halted, all_out, is_free_or_out}
-use Rattle.pmd_halt.specs.Stopping.{Stops, bringing, brought, closed}
-use Rattle.pmd_halt.specs.declared.home.Home.{Home}
-use Rattle.pmd_halt.proofs.Bringing.{brings_few}
+use Rattle.nic_device.specs.DmaArena.Numbers.{Numbers, is_own, is_free}
+use Rattle.nic_device.specs.DmaArena.Whereabouts.{times_in_hand}
+use Rattle.pmd_rx.specs.DeviceLock.declared.entry.Call.{Call}
+use Rattle.pmd_rx.proofs.PmdSeam.Outside.{times-append}
+use Rattle.pmd_rx.specs.PmdSeam.Named.{AtPort}
+use Rattle.pmd.specs.Halted.{Halted, all_out, is_free_or_out}
+use Rattle.pmd.specs.Stopping.{Stops, bringing, brought, closed}
+use Rattle.pmd.specs.declared.home.Home.{Home}
+use Rattle.pmd.proofs.Bringing.{brings_few}
 use Rattle.pmd.specs.Blocks.{HasAll, LosesNone}
 
 by_count : (f g : Bool) (t : ℕ) → cond f 1 0 + t ≡ cond g 1 0 → (f || nat_lt 0 t) ≡ g

@@ -1,19 +1,19 @@
 -- Which faults come once events are made.
 use Rattle.std.proofs.Common.{◌≡◌, ℕ, ◌+◌, ◌≤◌, ◌<◌, Bool, List, Result, Ok, Err, IfErr, inl, inr, refl, arith}
-use Rattle.dma_arena.specs.Numbers.{Numbers}
-use Rattle.device_lock.specs.declared.entry.Call.{Call}
-use Rattle.register_file.specs.declared.dir.Dir.{Dir}
-use Rattle.register_file.specs.declared.dir.Dir.TheVariants.{Rx}
-use Rattle.pmd_base.specs.declared.fault.PmdFault.{PmdFault}
-use Rattle.pmd_base.specs.declared.fault.PmdFault.TheVariants as fault
-use Rattle.pmd_queue.specs.Both.{SwitchFails}
-use Rattle.pmd_queue.specs.Made.{Access, StopsBy}
-use Rattle.pmd_queue.specs.Named.{AtPort}
-use Rattle.pmd_queue.specs.Sides.{PollsEnd}
+use Rattle.nic_device.specs.DmaArena.Numbers.{Numbers}
+use Rattle.pmd_rx.specs.DeviceLock.declared.entry.Call.{Call}
+use Rattle.nic_device.specs.DmaRing.declared.dir.Dir.{Dir}
+use Rattle.nic_device.specs.DmaRing.declared.dir.Dir.TheVariants.{Rx}
+use Rattle.pmd_rx.specs.PmdSeam.declared.fault.PmdFault.{PmdFault}
+use Rattle.pmd_rx.specs.PmdSeam.declared.fault.PmdFault.TheVariants as fault
+use Rattle.pmd_rx.specs.PmdSeam.Both.{SwitchFails}
+use Rattle.pmd_rx.specs.PmdSeam.QueueMade.{Access, StopsBy}
+use Rattle.pmd_rx.specs.PmdSeam.Named.{AtPort}
+use Rattle.pmd_rx.specs.PmdSeam.Sides.{PollsEnd}
 use Rattle.pmd_rx.specs.Filling.{StopsFilling}
 use Rattle.pmd_rx.specs.Receive.{Receive}
 use Rattle.pmd.specs.Starting.{ComesLate, PreparingFails, LendingFails, ReceiveFails}
-use Rattle.dma_arena.specs.Block.{Block}
+use Rattle.nic_device.specs.DmaArena.Block.{Block}
 
 stops_late : (f : PmdFault) (q : AtPort) (old new : List Call) (all : List Access) → StopsBy f q old new all
     → ComesLate f

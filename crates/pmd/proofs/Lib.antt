@@ -1,10 +1,17 @@
+pub use Rattle.pmd_rx.proofs.PmdSeam
+pub use Rattle.pmd_rx.proofs as PmdRx
+pub use Rattle.pmd_tx.proofs as PmdTx
 pub mod Apart
 pub mod Blocks
 pub mod Both
+pub mod Bringing
 pub mod Calls
 pub mod Counted
 pub mod Driving
+pub mod Few
 pub mod Finding
+pub mod HaltedBlocks
+pub mod HaltedBoth
 pub mod Handing
 pub mod Homecoming
 pub mod Late

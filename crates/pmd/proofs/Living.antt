@@ -1,9 +1,9 @@
 -- A driver's life, call by call.
 use Rattle.std.proofs.Common.{◌≡◌, ℕ, List, Option, sym, ap, ◌∙◌, subst}
-use Rattle.dma_arena.specs.Numbers.{Numbers, is_own}
-use Rattle.device_lock.specs.declared.entry.Call.{Call}
-use Rattle.pmd_base.specs.declared.fault.PmdFault.{PmdFault}
-use Rattle.pmd_queue.specs.Named.{AtPort}
+use Rattle.nic_device.specs.DmaArena.Numbers.{Numbers, is_own}
+use Rattle.pmd_rx.specs.DeviceLock.declared.entry.Call.{Call}
+use Rattle.pmd_rx.specs.PmdSeam.declared.fault.PmdFault.{PmdFault}
+use Rattle.pmd_rx.specs.PmdSeam.Named.{AtPort}
 use Rattle.pmd.specs.Driver.{Driver, accepted_of, handed_of, halted_of}
 use Rattle.pmd.specs.Apart.{DrivesApart}
 use Rattle.pmd.specs.Halves.{Halves, halves_of}

@@ -1,10 +1,10 @@
 -- Where the blocks of a driver are once packets were reaped, counted.
 use Rattle.std.proofs.Common.{◌≡◌, ℕ, true, cond, List, [], ◌∷◌, ◌++◌, take, drop, refl, sym, ap, ◌∙◌, arith}
 use Rattle.std.proofs.lemmas.List.{drop-map, take-append-drop}
-use Rattle.dma_arena.specs.Numbers.{Numbers, is_own, is_free, with_free}
-use Rattle.dma_arena.specs.Whereabouts.{times_in_hand}
-use Rattle.pmd_base.specs.Home.{AreOut}
-use Rattle.pmd_base.proofs.Outside.{times-cons, times-append, out_fewer, out_first, out_given}
+use Rattle.nic_device.specs.DmaArena.Numbers.{Numbers, is_own, is_free, with_free}
+use Rattle.nic_device.specs.DmaArena.Whereabouts.{times_in_hand}
+use Rattle.pmd_rx.specs.PmdSeam.Home.{AreOut}
+use Rattle.pmd_rx.proofs.PmdSeam.Outside.{times-cons, times-append, out_fewer, out_first, out_given}
 use Rattle.pmd_rx.specs.Keeping.{blocks_out}
 use Rattle.pmd_rx.specs.Receive.{Receive}
 use Rattle.pmd_tx.specs.Leaving as transmit

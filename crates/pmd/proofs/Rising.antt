@@ -1,10 +1,10 @@
 -- Where the blocks of a driver are as its rings come up.
 use Rattle.std.proofs.Common.{ℕ, false, List, [], ◌∷◌, ◌++◌, refl, sym, subst, arith}
-use Rattle.dma_arena.specs.Numbers.{Numbers, with_free}
-use Rattle.device_lock.specs.declared.entry.Call.{Call}
-use Rattle.pmd_base.proofs.Outside.{times-cons, times-append}
-use Rattle.pmd_halt.specs.Halted.{Halted, with_rings, with_receive_ring}
-use Rattle.pmd_queue.specs.Named.{AtPort}
+use Rattle.nic_device.specs.DmaArena.Numbers.{Numbers, with_free}
+use Rattle.pmd_rx.specs.DeviceLock.declared.entry.Call.{Call}
+use Rattle.pmd_rx.proofs.PmdSeam.Outside.{times-cons, times-append}
+use Rattle.pmd.specs.Halted.{Halted, with_rings, with_receive_ring}
+use Rattle.pmd_rx.specs.PmdSeam.Named.{AtPort}
 use Rattle.pmd_rx.specs.Keeping.{Keeps, blocks_out, lent_of, block_in}
 use Rattle.pmd_rx.specs.Receive.{Receive, held_by}
 use Rattle.pmd_tx.specs.Leaving as transmit

@@ -1,16 +1,16 @@
 -- Where the blocks of a driver are once a packet is sent, and once packets are reaped.
 use Rattle.std.proofs.Common.{◌≡◌, ℕ, zero, suc, true, List, [], ◌∷◌, ◌++◌, take, drop, Option, Some, None, Result, Ok, Err, IfSome, IfNone, IfOk, OnErr, refl, sym, ap, ◌∙◌, arith}
 use Rattle.std.proofs.lemmas.List.{map-append, drop-map}
-use Rattle.dma_arena.specs.Numbers.{Numbers, is_own, with_free}
-use Rattle.dma_arena.proofs.Arenas.{is_own-with_free}
-use Rattle.pmd_base.specs.Home.{AreOut}
-use Rattle.pmd_base.specs.declared.packet.Packet.{Packet}
-use Rattle.pmd_base.proofs.Outside.{times-cons, times-append, out_fewer, out_given}
+use Rattle.nic_device.specs.DmaArena.Numbers.{Numbers, is_own, with_free}
+use Rattle.nic_device.proofs.DmaArena.Arenas.{is_own-with_free}
+use Rattle.pmd_rx.specs.PmdSeam.Home.{AreOut}
+use Rattle.pmd_rx.specs.PmdSeam.declared.packet.Packet.{Packet}
+use Rattle.pmd_rx.proofs.PmdSeam.Outside.{times-cons, times-append, out_fewer, out_given}
 use Rattle.pmd_rx.specs.Keeping.{blocks_out}
 use Rattle.pmd_tx.specs.Leaving.{lent_of}
 use Rattle.pmd_tx.specs.Sending.{Sender, Outgoing, blocks_of}
 use Rattle.pmd_tx.specs.Sends.{Frees, given, gate_of, outgoing_of, returned, IsAnswer, IsAccepted, IsNoneAccepted}
-use Rattle.pmd_base.specs.declared.fault.PmdFault.{PmdFault}
+use Rattle.pmd_rx.specs.PmdSeam.declared.fault.PmdFault.{PmdFault}
 use Rattle.pmd_tx.proofs.Passing.{gone_home}
 use Rattle.pmd_tx.specs.declared.answer.Reaped.{Reaped}
 use Rattle.pmd_tx.specs.declared.answer.TxAnswer.{TxAnswer}

@@ -1,12 +1,12 @@
 -- Where the blocks of a driver are once a packet was to be sent, counted.
 use Rattle.std.proofs.Common.{◌≡◌, ℕ, ◌+◌, ◌&&◌, not, if◌then◌else◌, Bool, true, false, cond, List, [], ◌∷◌, ◌++◌, Option, Some, None, Result, Ok, Err, IfErr, IfSome, IfNone, refl, sym, ap, subst, ◌∙◌, arith}
 use Rattle.std.proofs.lemmas.List.{map-append}
-use Rattle.dma_arena.specs.Numbers.{Numbers, is_own, is_free}
-use Rattle.dma_arena.specs.Whereabouts.{times_in_hand}
-use Rattle.pmd_base.specs.declared.fault.PmdFault.{PmdFault}
-use Rattle.pmd_base.specs.declared.fault.PmdFault.TheVariants as fault
-use Rattle.pmd_base.specs.declared.packet.Packet.{Packet}
-use Rattle.pmd_base.proofs.Outside.{times-append}
+use Rattle.nic_device.specs.DmaArena.Numbers.{Numbers, is_own, is_free}
+use Rattle.nic_device.specs.DmaArena.Whereabouts.{times_in_hand}
+use Rattle.pmd_rx.specs.PmdSeam.declared.fault.PmdFault.{PmdFault}
+use Rattle.pmd_rx.specs.PmdSeam.declared.fault.PmdFault.TheVariants as fault
+use Rattle.pmd_rx.specs.PmdSeam.declared.packet.Packet.{Packet}
+use Rattle.pmd_rx.proofs.PmdSeam.Outside.{times-append}
 use Rattle.pmd_rx.specs.Keeping.{blocks_out, block_in}
 use Rattle.pmd_rx.specs.Receive.{Receive}
 use Rattle.pmd_tx.specs.Leaving as transmit

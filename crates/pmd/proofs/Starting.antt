@@ -1,12 +1,12 @@
 -- Where the blocks of a driver are as its rings come up.
 use Rattle.std.proofs.Common.{◌≡◌, ℕ, ◌+◌, ◌≤◌, Bool, true, false, cond, List, [], ◌∷◌, ◌++◌, refl, sym, ap, subst, ◌∙◌, arith}
-use Rattle.dma_arena.specs.Numbers.{Numbers, free_count, is_own, is_free, with_free}
-use Rattle.dma_arena.proofs.Arenas.{is_own-of_free, free_count_taken}
-use Rattle.device_lock.specs.declared.entry.Call.{Call}
-use Rattle.register_file.specs.declared.dir.Dir.{Dir}
-use Rattle.pmd_base.specs.Home.{AreOut}
-use Rattle.pmd_base.proofs.Outside.{times-cons, times-append, out_fewer, out_drawn, out_exchanged}
-use Rattle.pmd_queue.specs.Named.{AtPort}
+use Rattle.nic_device.specs.DmaArena.Numbers.{Numbers, free_count, is_own, is_free, with_free}
+use Rattle.nic_device.proofs.DmaArena.Arenas.{is_own-of_free, free_count_taken}
+use Rattle.pmd_rx.specs.DeviceLock.declared.entry.Call.{Call}
+use Rattle.nic_device.specs.DmaRing.declared.dir.Dir.{Dir}
+use Rattle.pmd_rx.specs.PmdSeam.Home.{AreOut}
+use Rattle.pmd_rx.proofs.PmdSeam.Outside.{times-cons, times-append, out_fewer, out_drawn, out_exchanged}
+use Rattle.pmd_rx.specs.PmdSeam.Named.{AtPort}
 use Rattle.pmd_rx.specs.Keeping.{Keeps, blocks_out}
 use Rattle.pmd_rx.specs.Receive.{Receive, Looks}
 use Rattle.pmd_tx.specs.Leaving.{lent_of}

@@ -1,18 +1,18 @@
 -- Where the blocks of a driver are whose stop failed.
 use Rattle.std.proofs.Common.{◌≡◌, ℕ, zero, suc, inl, inr, true, cond, List, [], ◌∷◌, ◌++◌, Option, Some, None, refl, sym, ap, subst, ◌∙◌, arith}
-use Rattle.dma_arena.specs.Numbers.{Numbers, is_own, is_free, with_free}
-use Rattle.dma_arena.specs.Whereabouts.{times_in_hand}
-use Rattle.dma_arena.proofs.Arenas.{is_own-with_free}
-use Rattle.device_lock.specs.declared.entry.Call.{Call}
-use Rattle.pmd_base.specs.Home.{AreOut, Bringing, BringsOne, Brings}
-use Rattle.pmd_base.specs.declared.fault.PmdFault.{PmdFault}
-use Rattle.pmd_base.specs.declared.packet.Packet.{Packet}
-use Rattle.pmd_base.proofs.Outside.{times-cons, times-append, out_fewer, out_first}
-use Rattle.pmd_queue.specs.Named.{AtPort}
+use Rattle.nic_device.specs.DmaArena.Numbers.{Numbers, is_own, is_free, with_free}
+use Rattle.nic_device.specs.DmaArena.Whereabouts.{times_in_hand}
+use Rattle.nic_device.proofs.DmaArena.Arenas.{is_own-with_free}
+use Rattle.pmd_rx.specs.DeviceLock.declared.entry.Call.{Call}
+use Rattle.pmd_rx.specs.PmdSeam.Home.{AreOut, Bringing, BringsOne, Brings}
+use Rattle.pmd_rx.specs.PmdSeam.declared.fault.PmdFault.{PmdFault}
+use Rattle.pmd_rx.specs.PmdSeam.declared.packet.Packet.{Packet}
+use Rattle.pmd_rx.proofs.PmdSeam.Outside.{times-cons, times-append, out_fewer, out_first}
+use Rattle.pmd_rx.specs.PmdSeam.Named.{AtPort}
 use Rattle.pmd_rx.specs.Keeping.{block_in, with_home}
-use Rattle.pmd_halt.specs.Halted.{Halted, all_out}
-use Rattle.pmd_halt.specs.Stopping.{StopFails, IsLeft, IsLeftAmid, bringing, closed}
-use Rattle.pmd_halt.proofs.Bringing.{brings_out, brings_own, brings_few}
+use Rattle.pmd.specs.Halted.{Halted, all_out}
+use Rattle.pmd.specs.Stopping.{StopFails, IsLeft, IsLeftAmid, bringing, closed}
+use Rattle.pmd.proofs.Bringing.{brings_out, brings_own, brings_few}
 use Rattle.pmd.specs.Blocks.{KeepsEach, HasAll, LosesNone}
 use Rattle.pmd.proofs.Whole.{has_out, keeps_then, keeps_counted, one_given}
 

@@ -1,12 +1,12 @@
 -- Each block is free or out as often as before.
 use Rattle.std.proofs.Common.{◌≡◌, ◌≢◌, ℕ, ◌+◌, ◌≤◌, ◌⊎◌, inl, inr, Bool, true, false, cond, List, [], ◌∷◌, ◌++◌, refl, sym, subst, ◌∙◌, arith}
 use Rattle.std.proofs.lemmas.Bool.{cases_eq}
-use Rattle.dma_arena.specs.Numbers.{Numbers, is_own, is_free, with_free}
-use Rattle.dma_arena.specs.Whereabouts.{times_in_hand}
-use Rattle.dma_arena.proofs.Arenas.{is_own-of_free, is_own-with_free, is_free-with_free_same, is_free-with_free_other}
-use Rattle.pmd_base.specs.Home.{AreOut, IsDrawn, Exchanges}
-use Rattle.pmd_base.proofs.Outside.{times_first, times_rest, times-cons, times-append}
-use Rattle.pmd_halt.specs.Halted.{Halted, all_out}
+use Rattle.nic_device.specs.DmaArena.Numbers.{Numbers, is_own, is_free, with_free}
+use Rattle.nic_device.specs.DmaArena.Whereabouts.{times_in_hand}
+use Rattle.nic_device.proofs.DmaArena.Arenas.{is_own-of_free, is_own-with_free, is_free-with_free_same, is_free-with_free_other}
+use Rattle.pmd_rx.specs.PmdSeam.Home.{AreOut, IsDrawn, Exchanges}
+use Rattle.pmd_rx.proofs.PmdSeam.Outside.{times_first, times_rest, times-cons, times-append}
+use Rattle.pmd.specs.Halted.{Halted, all_out}
 use Rattle.pmd.specs.Blocks.{KeepsEach, HasAll}
 
 pub keeps_then : (a b d : Numbers) (x y z : List ℕ) → KeepsEach a x b y → KeepsEach b y d z → KeepsEach a x d z

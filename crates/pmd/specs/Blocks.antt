@@ -1,8 +1,8 @@
 -- The blocks of a driver: none comes from nowhere, and none goes astray.
 use Rattle.std.specs.Prelude.{◌≡◌, ℕ, ◌+◌, List, [], ◌++◌, if◌then◌else◌}
-use Rattle.dma_arena.specs.Numbers.{Numbers, is_own, is_free}
-use Rattle.dma_arena.specs.Whereabouts.{times_in_hand}
-use Rattle.pmd_halt.specs.Halted.{Halted, all_out}
+use Rattle.nic_device.specs.DmaArena.Numbers.{Numbers, is_own, is_free}
+use Rattle.nic_device.specs.DmaArena.Whereabouts.{times_in_hand}
+use Rattle.pmd.specs.Halted.{Halted, all_out}
 use Rattle.pmd.specs.Driver.{halted_of}
 use Rattle.pmd.specs.Running.{Running, rings_out}
 use Rattle.pmd.specs.declared.driver.Rings.{Rings}

@@ -1,10 +1,10 @@
 -- A driver of one queue, which runs or doesn't.
 use Rattle.std.specs.Prelude.{ℕ, Bool, List, ⊤}
-use Rattle.dma_arena.specs.Numbers.{Numbers}
-use Rattle.pmd_base.specs.Packet.{Kept}
-use Rattle.pmd_queue.specs.Named.{AtPort}
-use Rattle.pmd_halt.specs.Halted as halted
-use Rattle.pmd_halt.specs.Halted.{Halted, with_rings}
+use Rattle.nic_device.specs.DmaArena.Numbers.{Numbers}
+use Rattle.pmd_rx.specs.PmdSeam.Packet.{Kept}
+use Rattle.pmd_rx.specs.PmdSeam.Named.{AtPort}
+use Rattle.pmd.specs.Halted as halted
+use Rattle.pmd.specs.Halted.{Halted, with_rings}
 use Rattle.pmd.specs.Running as running
 use Rattle.pmd.specs.Running.{Running}
 use Rattle.pmd.specs.declared.driver.Rings.{Rings}

@@ -1,8 +1,15 @@
+pub use Rattle.pmd_rx.specs.PmdSeam
+pub use Rattle.pmd_rx.specs as PmdRx
+pub use Rattle.pmd_tx.specs as PmdTx
 pub mod Apart
 pub mod Blocks
 pub mod Driver
+pub mod Ends
+pub mod Halted
 pub mod Halves
+pub mod Leaving
 pub mod Life
 pub mod Running
 pub mod Started
 pub mod Starting
+pub mod Stopping

@@ -1,11 +1,11 @@
 -- A driver's life: its start, the calls that drove its halves on, and its end.
 use Rattle.std.specs.Prelude.{ℕ, ◌≡◌, List, [], Option, Some, None, Err}
-use Rattle.dma_arena.specs.Numbers.{Numbers}
-use Rattle.device_lock.specs.declared.entry.Call.{Call}
-use Rattle.pmd_base.specs.declared.fault.PmdFault.{PmdFault}
-use Rattle.pmd_queue.specs.Named.{AtPort}
-use Rattle.pmd_halt.specs.Halted.{Halted}
-use Rattle.pmd_halt.specs.Stopping.{Stops, StopFails}
+use Rattle.nic_device.specs.DmaArena.Numbers.{Numbers}
+use Rattle.pmd_rx.specs.DeviceLock.declared.entry.Call.{Call}
+use Rattle.pmd_rx.specs.PmdSeam.declared.fault.PmdFault.{PmdFault}
+use Rattle.pmd_rx.specs.PmdSeam.Named.{AtPort}
+use Rattle.pmd.specs.Halted.{Halted}
+use Rattle.pmd.specs.Stopping.{Stops, StopFails}
 use Rattle.pmd.specs.Apart.{DrivesRings, OwnsSame}
 use Rattle.pmd.specs.Driver.{WhereUp, halted_of}
 use Rattle.pmd.specs.Halves.{halves_of}

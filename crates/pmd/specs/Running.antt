@@ -1,8 +1,8 @@
 -- A driver whose two rings are up.
 use Rattle.std.specs.Prelude.{◌≡◌, ℕ, ◌&&◌, nat_lt, not, Bool, true, List, ◌++◌}
-use Rattle.dma_arena.specs.Numbers.{Numbers, with_free}
-use Rattle.dma_arena.specs.Whereabouts.{times_in_hand}
-use Rattle.pmd_base.specs.Home.{AreOut}
+use Rattle.nic_device.specs.DmaArena.Numbers.{Numbers, with_free}
+use Rattle.nic_device.specs.DmaArena.Whereabouts.{times_in_hand}
+use Rattle.pmd_rx.specs.PmdSeam.Home.{AreOut}
 use Rattle.pmd_rx.specs.Receive.{Receive}
 use Rattle.pmd_rx.specs.Keeping.{blocks_out, IsRunning}
 use Rattle.pmd_tx.specs.Sending.{Sender}

@@ -1,15 +1,15 @@
 -- What a start leaves, and why it is refused.
 use Rattle.std.specs.Prelude.{ℕ, ◌≡◌, ◌⊎◌, ◌&&◌, ◌==◌, ◌%◌, nat_le, nat_lt, Bool, List, [], Option, Some, None, Result, Ok, Err, ⊤, if◌then◌else◌}
-use Rattle.dma_arena.specs.Numbers.{Numbers, free_count}
-use Rattle.device_lock.specs.declared.entry.Call.{Call}
-use Rattle.register_file.specs.declared.dir.Dir.TheVariants.{Tx}
-use Rattle.pmd_base.specs.Packet.{Kept}
-use Rattle.pmd_base.specs.declared.fault.PmdFault.{PmdFault}
-use Rattle.pmd_base.specs.declared.fault.PmdFault.TheVariants.{BadSize, NoBuffer, DeviceFault}
-use Rattle.pmd_queue.specs.Named.{AtPort, queues_named}
+use Rattle.nic_device.specs.DmaArena.Numbers.{Numbers, free_count}
+use Rattle.pmd_rx.specs.DeviceLock.declared.entry.Call.{Call}
+use Rattle.nic_device.specs.DmaRing.declared.dir.Dir.TheVariants.{Tx}
+use Rattle.pmd_rx.specs.PmdSeam.Packet.{Kept}
+use Rattle.pmd_rx.specs.PmdSeam.declared.fault.PmdFault.{PmdFault}
+use Rattle.pmd_rx.specs.PmdSeam.declared.fault.PmdFault.TheVariants.{BadSize, NoBuffer, DeviceFault}
+use Rattle.pmd_rx.specs.PmdSeam.Named.{AtPort, queues_named}
 use Rattle.pmd_rx.specs.Receive.{Receive}
 use Rattle.pmd_tx.specs.Sending.{Sender}
-use Rattle.pmd_halt.specs.Halted.{Halted, with_rings, with_receive_ring}
+use Rattle.pmd.specs.Halted.{Halted, with_rings, with_receive_ring}
 use Rattle.pmd.specs.Driver.{Driver, accepted_of, handed_of}
 use Rattle.pmd.specs.Running.{Running}
 use Rattle.pmd.specs.Starting.{IsReceiveReady, IsTransmitReady, GoesOn, ReceiveFails, PreparingFails, GoingOnFails}

@@ -1,19 +1,19 @@
 -- How the rings of a driver come up, one after the other.
 use Rattle.std.specs.Prelude.{ℕ, ◌≡◌, ◌⊎◌, ⊤, true, false, List, Some, None}
-use Rattle.dma_arena.specs.Block.{Block, zero_block}
-use Rattle.dma_arena.specs.Numbers.{Numbers, is_free, with_free}
-use Rattle.device_lock.specs.declared.entry.Call.{Call}
-use Rattle.register_file.specs.Queue.{tail_row}
-use Rattle.register_file.specs.declared.dir.Dir.{Dir}
-use Rattle.register_file.specs.declared.dir.Dir.TheVariants.{Rx, Tx}
-use Rattle.pmd_base.specs.Accesses.{IsLent}
-use Rattle.pmd_base.specs.Made.{AddsSome}
-use Rattle.pmd_base.specs.declared.fault.PmdFault.{PmdFault}
-use Rattle.pmd_base.specs.declared.fault.PmdFault.TheVariants as fault
-use Rattle.pmd_queue.specs.Both.{both_quiet, IsSwitched, SwitchFails}
-use Rattle.pmd_queue.specs.Made.{AreMade, StopsBy}
-use Rattle.pmd_queue.specs.Named.{AtPort, IsNumberOf}
-use Rattle.pmd_queue.specs.Sides.{ring_words}
+use Rattle.nic_device.specs.DmaArena.Block.{Block, zero_block}
+use Rattle.nic_device.specs.DmaArena.Numbers.{Numbers, is_free, with_free}
+use Rattle.pmd_rx.specs.DeviceLock.declared.entry.Call.{Call}
+use Rattle.nic_device.specs.RegisterFile.Queue.{tail_row}
+use Rattle.nic_device.specs.DmaRing.declared.dir.Dir.{Dir}
+use Rattle.nic_device.specs.DmaRing.declared.dir.Dir.TheVariants.{Rx, Tx}
+use Rattle.pmd_rx.specs.PmdSeam.Accesses.{IsLent}
+use Rattle.pmd_rx.specs.PmdSeam.Made.{AddsSome}
+use Rattle.pmd_rx.specs.PmdSeam.declared.fault.PmdFault.{PmdFault}
+use Rattle.pmd_rx.specs.PmdSeam.declared.fault.PmdFault.TheVariants as fault
+use Rattle.pmd_rx.specs.PmdSeam.Both.{both_quiet, IsSwitched, SwitchFails}
+use Rattle.pmd_rx.specs.PmdSeam.QueueMade.{AreMade, StopsBy}
+use Rattle.pmd_rx.specs.PmdSeam.Named.{AtPort, IsNumberOf}
+use Rattle.pmd_rx.specs.PmdSeam.Sides.{ring_words}
 use Rattle.pmd_rx.specs.Filling.{Fills, StopsFilling}
 use Rattle.pmd_rx.specs.Plays.{PlaysFrom}
 use Rattle.pmd_rx.specs.Receive.{Receive}

@@ -1,16 +1,16 @@
 //! A driver of one queue.
 
 ghost use Rattle.std.specs.Prelude.{ℕ, ◌≡◌, ◌<◌, ◌⊎◌, ◌++◌, ◌∷◌, ◌↔◌, length, [], true, false, None, Some, Ok, Err, IfOk, IfErr, IfSome, IfNone, IsNone, IsOk, OnOk, OnErr, IsTrue};
-ghost use Rattle.dma_arena.specs.Numbers.{free_count, is_own, is_free, with_free};
-ghost use Rattle.pmd_base.specs.Fresh.{IsFresh};
-ghost use Rattle.pmd_base.specs.Packet.{kept_of};
+ghost use Rattle.nic_device.specs.DmaArena.Numbers.{free_count, is_own, is_free, with_free};
+ghost use Rattle.pmd_rx.specs.PmdSeam.Fresh.{IsFresh};
+ghost use Rattle.pmd_rx.specs.PmdSeam.Packet.{kept_of};
 ghost use Rattle.pmd_rx.specs.Keeping.{Keeps, block_in, handed_block};
 ghost use Rattle.pmd_rx.specs.Plays.{LooksOnce};
 ghost use Rattle.pmd_rx.specs.Wrong.{FailsBy, PacketWaits};
 ghost use Rattle.pmd_tx.specs.Plays.{LooksLast, FaultsBy};
 ghost use Rattle.pmd_tx.specs.Sends.{gate_of, returned, IsAnswer, IsFullWhereTold, IsShut, IsAccepted, IsNoneAccepted, IsBack, IsLate, Frees};
-ghost use Rattle.pmd_halt.specs.Halted.{Halted, all_out, is_free_or_out};
-ghost use Rattle.pmd_halt.specs.Stopping.{Stops, StopFails};
+ghost use Rattle.pmd.specs.Halted.{Halted, all_out, is_free_or_out};
+ghost use Rattle.pmd.specs.Stopping.{Stops, StopFails};
 ghost use Rattle.pmd.specs.Apart.{FindsBy};
 ghost use Rattle.pmd.specs.Blocks.{KeepsBlocks};
 ghost use Rattle.pmd.specs.Halves.{halves_of};
@@ -18,10 +18,10 @@ ghost use Rattle.pmd.specs.Life.{KeepsHalves, RunsOn};
 ghost use Rattle.pmd.specs.Running.{receives};
 ghost use Rattle.pmd.specs.Driver.{arena_of, handed_of, accepted_of, goes_back_to, with_arena, halted_of, WhereUp, IsDown};
 
+use crate::halted::Halted;
+use crate::home::{Home, StopFailed};
 use crate::running::Running;
-use pmd_base::{Nic, Packet, PmdFault, Record};
-use pmd_halt::{Halted, Home, StopFailed};
-use pmd_queue::Queue;
+use pmd_rx::{Nic, Packet, PmdFault, Queue, Record};
 use pmd_tx::{Reaped, TxAnswer, TxFault};
 use std::alloc::Global;
 use std::marker::Model;

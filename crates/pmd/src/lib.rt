@@ -3,13 +3,28 @@
 //! `running.rt` has a driver whose two rings are up: what it receives and sends, and where each block is. `rings.rt`
 //! has the steps by which they come up, `start.rt` these steps in order, and `driver.rt` the driver as a whole, `Pmd`:
 //! started, running, and stopped.
+//!
+//! `Halted` is a driver whose start went wrong with a block lent, or whose stop has begun. `Halted::stop` switches
+//! both sides of its queue off and takes its blocks home; it may be tried again. `ends.rt` has its two halves, each
+//! of them a ring or blocks on their way, and `stopping.rt` what is done once both rings are closed.
 #![tactic(auto)]
 
 mod driver;
+mod ends;
+mod halted;
+mod home;
 mod rings;
 mod running;
 mod start;
+mod stopping;
 
 pub use driver::{Pmd, StopRefused};
+pub use halted::Halted;
+pub use home::{Home, StopFailed};
+pub use pmd_rx::{
+    Direct, Finished, Interleaved, Nic, POLLS, Packet, PmdFault, Queue, Record, Setup, ThroughLock,
+    pf_setup,
+};
+pub use pmd_tx::{Reaped, TxAnswer, TxFault};
 pub use running::Running;
 pub use start::{Rest, StartRefused};

@@ -1,17 +1,14 @@
 //! The rings of a driver as they come up: one function for each step, which leaves the arena as it was where it fails.
 
 ghost use Rattle.std.specs.Prelude.{◌≡◌, ◌<◌, ◌≤◌, ◌+◌, [], true, false, IfOk, IfErr, OnOk, OnErr};
-ghost use Rattle.dma_arena.specs.Numbers.{free_count};
-ghost use Rattle.pmd_base.specs.Home.{AreOut};
+ghost use Rattle.nic_device.specs.DmaArena.Numbers.{free_count};
+ghost use Rattle.pmd_rx.specs.PmdSeam.Home.{AreOut};
 ghost use Rattle.pmd_rx.specs.Keeping.{blocks_out, IsRunning, Keeps};
 ghost use Rattle.pmd_rx.specs.Receive.{Looks};
 ghost use Rattle.pmd.specs.Starting.{ComesLate, IsPrepared, PreparingFails, IsReceiveReady, ReceiveFails, IsTransmitReady, GoesOn, GoingOnFails};
 
-use dma_arena::Arena;
-use nic_device::Dir;
-use pmd_base::{Nic, PmdFault, give_back, lend};
-use pmd_queue::Queue;
-use pmd_rx::ReceiveRing;
+use nic_device::{Arena, Dir};
+use pmd_rx::{Nic, PmdFault, Queue, ReceiveRing, give_back, lend};
 use pmd_tx::TransmitRing;
 use std::alloc::Global;
 

@@ -1,9 +1,9 @@
 //! A driver whose two rings are up.
 
 ghost use Rattle.std.specs.Prelude.{ℕ, ◌≡◌, ◌<◌, ◌⊎◌, ◌++◌, ◌∷◌, ◌↔◌, length, [], true, false, Ok, Err, IfOk, IfErr, IfSome, IfNone, IsNone, IsOk, OnOk, OnErr, IsTrue};
-ghost use Rattle.dma_arena.specs.Numbers.{free_count, is_own};
-ghost use Rattle.pmd_base.specs.Fresh.{IsFresh};
-ghost use Rattle.pmd_base.specs.Packet.{kept_of};
+ghost use Rattle.nic_device.specs.DmaArena.Numbers.{free_count, is_own};
+ghost use Rattle.pmd_rx.specs.PmdSeam.Fresh.{IsFresh};
+ghost use Rattle.pmd_rx.specs.PmdSeam.Packet.{kept_of};
 ghost use Rattle.pmd_rx.specs.Keeping.{Keeps, block_in, handed_block};
 ghost use Rattle.pmd_rx.specs.Plays.{LooksOnce};
 ghost use Rattle.pmd_rx.specs.Wrong.{FailsBy, PacketWaits};
@@ -14,9 +14,8 @@ ghost use Rattle.pmd.specs.Blocks.{KeepsUp};
 ghost use Rattle.pmd.specs.Halves.{halves_of};
 ghost use Rattle.pmd.specs.Running.{IsUp, IsReleased, goes_back, receives};
 
-use dma_arena::Arena;
-use pmd_base::{Nic, Packet, PmdFault, Record, fresh_packet, give_packet};
-use pmd_rx::ReceiveRing;
+use nic_device::Arena;
+use pmd_rx::{Nic, Packet, PmdFault, ReceiveRing, Record, fresh_packet, give_packet};
 use pmd_tx::{Reaped, TransmitRing, TxAnswer, TxFault};
 use std::alloc::Global;
 use std::marker::Model;

@@ -1,21 +1,20 @@
 //! How a driver starts.
 
 ghost use Rattle.std.specs.Prelude.{◌≡◌, ◌<◌, ◌≤◌, [], None, Some, IfOk, IfErr, OnOk};
-ghost use Rattle.dma_arena.specs.Numbers.{free_count};
-ghost use Rattle.pmd_halt.specs.Halted.{Halted};
+ghost use Rattle.nic_device.specs.DmaArena.Numbers.{free_count};
+ghost use Rattle.pmd.specs.Halted.{Halted};
 ghost use Rattle.pmd.specs.Starting.{ComesLate};
 ghost use Rattle.pmd.specs.Blocks.{HasAll, IsWhole};
 ghost use Rattle.pmd.specs.Driver.{handed_of, halted_of};
 ghost use Rattle.pmd.specs.Started.{is_size, start_gate, left_accepted, left_handed, IsHome, IsShut, HasStarted, IsHalfStarted, StopsStarting};
 
 use crate::driver::{Pmd, Rings};
+use crate::halted::Halted;
+use crate::home::Home;
 use crate::rings::{go_on, receive_ring, transmit_ring};
 use crate::running::Running;
-use dma_arena::Arena;
-use nic_device::Port;
-use pmd_base::{Nic, PmdFault};
-use pmd_halt::{Halted, Home};
-use pmd_queue::Queue;
+use nic_device::{Arena, Port};
+use pmd_rx::{Nic, PmdFault, Queue};
 use std::alloc::Global;
 
 /// What a start leaves that is refused.

@@ -2,11 +2,11 @@
 use Rattle.std.proofs.Common.{◌≡◌, ℕ, List, [], ◌∷◌, ◌++◌, refl, sym, ap, ◌∙◌, subst, cond}
 use Rattle.std.specs.Prelude.{IsFalse}
 use Rattle.std.proofs.lemmas.List.{append-nil}
-use Rattle.dma_arena.specs.Block.{Block}
-use Rattle.register_file.specs.Bits.{has_bit}
-use Rattle.register_file.specs.Pools.{mode_in}
-use Rattle.register_file.specs.Queue.{enable_row}
-use Rattle.register_file.specs.declared.dir.Dir.{Dir}
+use Rattle.nic_device.specs.DmaArena.Block.{Block}
+use Rattle.nic_device.specs.RegisterFile.Bits.{has_bit}
+use Rattle.nic_device.specs.RegisterFile.Pools.{mode_in}
+use Rattle.nic_device.specs.RegisterFile.Queue.{enable_row}
+use Rattle.nic_device.specs.DmaRing.declared.dir.Dir.{Dir}
 use Rattle.nic_device.specs.Sound.{IsEvent}
 use Rattle.nic_device.specs.State.{State, new_state}
 use Rattle.nic_device.specs.Step.{after, reply_to}
@@ -16,12 +16,12 @@ use Rattle.device_lock.specs.Alone.{Blocks, WritesOutside}
 use Rattle.device_lock.specs.declared.alone.Watched.{Watched}
 use Rattle.device_lock.specs.declared.entry.Call.{Call}
 use Rattle.device_lock.specs.declared.entry.Entry.{Entry}
-use Rattle.pmd_queue.specs.Named.{AtPort, IsNumberOf}
-use Rattle.receive_laws.specs.Pieces.{Piece, pieces}
-use Rattle.receive_laws.proofs.Clear.{no_registers}
-use Rattle.receive_laws.proofs.Delivering.{image_stays, vfs_stays}
-use Rattle.transmit_laws.specs.Sent.{sent_by, sent_since}
-use Rattle.transmit_laws.proofs.Counting.{sent_is_counted}
+use Rattle.pmd.specs.PmdSeam.Named.{AtPort, IsNumberOf}
+use Rattle.start_laws.specs.ReceiveLaws.Pieces.{Piece, pieces}
+use Rattle.start_laws.proofs.ReceiveLaws.Clear.{no_registers}
+use Rattle.start_laws.proofs.ReceiveLaws.Delivering.{image_stays, vfs_stays}
+use Rattle.start_laws.specs.TransmitLaws.Sent.{sent_by, sent_since}
+use Rattle.start_laws.proofs.TransmitLaws.Counting.{sent_is_counted}
 use Rattle.start_laws.specs.Ending.{IsAsking}
 use Rattle.start_laws.specs.Moves.{IsMet}
 use Rattle.start_laws.specs.Points.{HasGround}

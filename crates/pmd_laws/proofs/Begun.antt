@@ -2,14 +2,14 @@
 use Rattle.std.proofs.Common.{◌≡◌, ◌≢◌, ℕ, inl, inr, true, false, sym, ap, ◌∙◌, subst, arith}
 use Rattle.std.specs.Prelude.{IsTrue, ◌==◌}
 use Rattle.std.proofs.lemmas.Bool.{both_ways, eqb-true, or_cases}
-use Rattle.dma_arena.specs.Numbers.{Numbers, is_free, with_free}
-use Rattle.dma_arena.proofs.Arenas.{is_free-with_free_same, is_own-of_free}
+use Rattle.nic_device.specs.DmaArena.Numbers.{Numbers, is_free, with_free}
+use Rattle.nic_device.proofs.DmaArena.Arenas.{is_free-with_free_same, is_own-of_free}
 use Rattle.nic_device.specs.declared.event.Port.{Port}
 use Rattle.device_lock.specs.Alone.{Blocks}
-use Rattle.pmd_rx.specs.Receive as receive
-use Rattle.pmd_tx.specs.Sending as transmit
-use Rattle.pmd_tx.specs.Sending.{Sender, has_lent}
-use Rattle.receive_laws.specs.Steps.{Each}
+use Rattle.pmd.specs.PmdRx.Receive as receive
+use Rattle.pmd.specs.PmdTx.Sending as transmit
+use Rattle.pmd.specs.PmdTx.Sending.{Sender, has_lent}
+use Rattle.start_laws.specs.ReceiveLaws.Steps.{Each}
 use Rattle.driver_laws.specs.Agreeing.{AreApart, AreLent}
 use Rattle.pmd.specs.Halves.{Halves}
 

@@ -1,9 +1,9 @@
 -- What a driver has of an arena's blocks, over its calls.
 use Rattle.std.proofs.Common.{◌≡◌, ℕ, List, [], ◌++◌, append_assoc, subst, arith}
-use Rattle.dma_arena.specs.Numbers.{Numbers}
-use Rattle.dma_arena.specs.Whereabouts.{times_in_hand}
-use Rattle.pmd_base.proofs.Outside.{times-append}
-use Rattle.pmd_halt.specs.Halted.{Halted, all_out}
+use Rattle.nic_device.specs.DmaArena.Numbers.{Numbers}
+use Rattle.nic_device.specs.DmaArena.Whereabouts.{times_in_hand}
+use Rattle.pmd.proofs.PmdSeam.Outside.{times-append}
+use Rattle.pmd.specs.Halted.{Halted, all_out}
 use Rattle.pmd.specs.Blocks.{HasAll, KeepsBlocks, KeepsEach}
 use Rattle.pmd.specs.Driver.{halted_of}
 use Rattle.pmd.specs.declared.driver.Rings.{Rings}

@@ -1,7 +1,7 @@
 -- From the place on where both sides of a driver's queue are on, a history drives its halves.
 use Rattle.std.proofs.Common.{◌≡◌, ℕ, true, List, [], ◌++◌, sym, ◌∙◌, subst}
-use Rattle.dma_arena.specs.Numbers.{Numbers}
-use Rattle.vf_map.specs.declared.mode.Mode.TheVariants.{Off}
+use Rattle.nic_device.specs.DmaArena.Numbers.{Numbers}
+use Rattle.nic_device.specs.VfMap.declared.mode.Mode.TheVariants.{Off}
 use Rattle.nic_device.specs.State.{State, new_state}
 use Rattle.device_lock.specs.Alone.{LeavesAlone, lent_by, mode_through}
 use Rattle.device_lock.specs.History.{IsLegal, AreEvents, leads_to}
@@ -10,11 +10,11 @@ use Rattle.device_lock.specs.declared.entry.Call.{Call}
 use Rattle.device_lock.specs.declared.entry.Entry.{Entry}
 use Rattle.pmd.specs.Halves.{AllOwn, Doer, Halves}
 use Rattle.pmd.specs.Started.{is_size}
-use Rattle.pmd_queue.specs.Named.{AtPort}
-use Rattle.pmd_rx.specs.Receive.{Receive}
-use Rattle.pmd_tx.specs.Sending.{Sender}
-use Rattle.receive_laws.specs.Joint.{Agree}
-use Rattle.transmit_laws.specs.Agreeing.{Agrees}
+use Rattle.pmd.specs.PmdSeam.Named.{AtPort}
+use Rattle.pmd.specs.PmdRx.Receive.{Receive}
+use Rattle.pmd.specs.PmdTx.Sending.{Sender}
+use Rattle.start_laws.specs.ReceiveLaws.Joint.{Agree}
+use Rattle.start_laws.specs.TransmitLaws.Agreeing.{Agrees}
 use Rattle.start_laws.specs.Along.{BeforeLast, IsAlong}
 use Rattle.start_laws.specs.On.{AreOn}
 use Rattle.start_laws.specs.Points.{HasGround}

@@ -1,6 +1,6 @@
 -- What a driver that lived, and was stopped, handed out and sent.
 use Rattle.std.proofs.Common.{ℕ, List, [], ◌++◌, Option, Some, None, refl, sym, subst}
-use Rattle.dma_arena.specs.Numbers.{Numbers}
+use Rattle.nic_device.specs.DmaArena.Numbers.{Numbers}
 use Rattle.nic_device.specs.State.{new_state}
 use Rattle.device_lock.specs.declared.alone.Watched.{Watched}
 use Rattle.device_lock.specs.declared.entry.Call.{Call}
@@ -13,15 +13,15 @@ use Rattle.pmd.specs.Life.{HasLived, IsStopped}
 use Rattle.pmd.specs.declared.driver.Rings.TheVariants.{Up}
 use Rattle.pmd.specs.declared.start.Rest.{Rest}
 use Rattle.pmd.specs.declared.start.Rest.TheVariants as rest
-use Rattle.pmd_base.specs.declared.fault.PmdFault.{PmdFault}
-use Rattle.pmd_base.specs.Packet.{Kept}
-use Rattle.pmd_halt.specs.Halted.{Halted}
-use Rattle.pmd_queue.specs.Named.{AtPort}
-use Rattle.receive_laws.specs.Delivered as receive
-use Rattle.receive_laws.specs.Delivered.{delivered}
-use Rattle.transmit_laws.specs.Agreeing.{bytes_of}
-use Rattle.transmit_laws.specs.Laws as transmit
-use Rattle.transmit_laws.specs.Sent.{sent_since}
+use Rattle.pmd.specs.PmdSeam.declared.fault.PmdFault.{PmdFault}
+use Rattle.pmd.specs.PmdSeam.Packet.{Kept}
+use Rattle.pmd.specs.Halted.{Halted}
+use Rattle.pmd.specs.PmdSeam.Named.{AtPort}
+use Rattle.start_laws.specs.ReceiveLaws.Delivered as receive
+use Rattle.start_laws.specs.ReceiveLaws.Delivered.{delivered}
+use Rattle.start_laws.specs.TransmitLaws.Agreeing.{bytes_of}
+use Rattle.start_laws.specs.TransmitLaws.Laws as transmit
+use Rattle.start_laws.specs.TransmitLaws.Sent.{sent_since}
 use Rattle.start_laws.specs.Ending.{IsEnding}
 use Rattle.start_laws.specs.Stopping.{Ends, TakesOnceOff}
 use Rattle.pmd_laws.specs.Ends.{HandedOverStop, IsOver, IsToStop, LeftIsPrefix, SentOverStop}

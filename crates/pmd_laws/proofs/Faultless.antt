@@ -1,6 +1,6 @@
 -- No call of a driver finds the device at fault, over its whole life.
 use Rattle.std.proofs.Common.{◌≡◌, ℕ, List, ◌∷◌, ◌++◌, sym, ap, ◌∙◌, subst, append_assoc}
-use Rattle.dma_arena.specs.Numbers.{Numbers, is_own}
+use Rattle.nic_device.specs.DmaArena.Numbers.{Numbers, is_own}
 use Rattle.nic_device.specs.State.{State}
 use Rattle.device_lock.specs.Alone.{Blocks}
 use Rattle.device_lock.specs.declared.alone.Watched.{Watched}
@@ -11,11 +11,11 @@ use Rattle.pmd.specs.Halves.{Halves, halves_of}
 use Rattle.pmd.specs.Running.{Running}
 use Rattle.pmd.specs.Started.{is_size}
 use Rattle.pmd.proofs.Apart.{apart_on}
-use Rattle.pmd_queue.specs.Named.{AtPort}
+use Rattle.pmd.specs.PmdSeam.Named.{AtPort}
 use Rattle.start_laws.specs.Along.{BeforeLast}
 use Rattle.start_laws.proofs.Parts.{Parts, parts}
 use Rattle.start_laws.proofs.Start.{on}
-use Rattle.healthy_laws.specs.Before.{OnlyPassLends}
+use Rattle.driver_laws.specs.Before.{OnlyPassLends}
 use Rattle.pmd_laws.specs.Faultless as faultless
 use Rattle.pmd_laws.specs.Faultless.{IsFresh, IsToldApart, NoCallFindsFault}
 use Rattle.pmd_laws.specs.Told.{Moment, last}

@@ -2,14 +2,14 @@
 use Rattle.std.proofs.Common.{◌≡◌, ℕ, true, List, refl, sym, subst}
 use Rattle.std.specs.Prelude.{IsTrue, ◌==◌}
 use Rattle.std.proofs.lemmas.Bool.{eq-eqb, or_left, or_right}
-use Rattle.dma_arena.specs.Numbers.{Numbers}
+use Rattle.nic_device.specs.DmaArena.Numbers.{Numbers}
 use Rattle.device_lock.specs.Alone.{Blocks}
 use Rattle.device_lock.specs.declared.entry.Call.{Call}
-use Rattle.pmd_queue.specs.Named.{AtPort}
-use Rattle.pmd_rx.specs.Receive.{Receive}
-use Rattle.pmd_tx.specs.Sending.{Sender}
+use Rattle.pmd.specs.PmdSeam.Named.{AtPort}
+use Rattle.pmd.specs.PmdRx.Receive.{Receive}
+use Rattle.pmd.specs.PmdTx.Sending.{Sender}
 use Rattle.driver_laws.specs.Agreeing.{AreApart, AreLent}
-use Rattle.healthy_laws.specs.Healthy.{lent_by}
+use Rattle.driver_laws.specs.Healthy.{lent_by}
 use Rattle.pmd.specs.Halves.{Halves}
 use Rattle.start_laws.specs.On.{AreOn}
 use Rattle.pmd_laws.proofs.Begun.{at_first, drawn_apart, first_apart, first_lent}

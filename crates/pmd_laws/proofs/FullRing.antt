@@ -1,14 +1,14 @@
 -- A driver's transmit ring has as many slots as its start was given, so that all but one are taken where it is full.
 use Rattle.std.proofs.Common.{◌≡◌, ◌+◌, List, [], ◌∷◌, Ok, refl, ap, ◌∙◌}
-use Rattle.dma_arena.specs.Block.{Block}
+use Rattle.nic_device.specs.DmaArena.Block.{Block}
 use Rattle.nic_device.specs.declared.event.Reply.{Reply}
 use Rattle.nic_device.specs.declared.event.Reply.TheVariants as reply
 use Rattle.device_lock.specs.declared.entry.Call.{Call}
 use Rattle.pmd.specs.Halves.{Doer, Halves, Receives, Sends, after_call, played_by}
 use Rattle.pmd.specs.declared.driver.Rings.{Rings}
-use Rattle.pmd_tx.specs.Sending.{Accepts, Advances, Asks, Looks, Move, Reaps, Sender, moved}
-use Rattle.pmd_tx.specs.Sends.{IsFullWhereTold}
-use Rattle.pmd_tx.specs.declared.answer.TxAnswer.TheVariants.{RingFull}
+use Rattle.pmd.specs.PmdTx.Sending.{Accepts, Advances, Asks, Looks, Move, Reaps, Sender, moved}
+use Rattle.pmd.specs.PmdTx.Sends.{IsFullWhereTold}
+use Rattle.pmd.specs.PmdTx.declared.answer.TxAnswer.TheVariants.{RingFull}
 use Rattle.pmd_laws.specs.FullRing.{FullIsAllButOne, outstanding}
 use Rattle.pmd_laws.specs.Told.{last}
 use Rattle.pmd_laws.proofs.RunsOn.{up_next}

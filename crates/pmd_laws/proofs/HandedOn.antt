@@ -7,11 +7,11 @@ use Rattle.device_lock.specs.Alone.{Blocks}
 use Rattle.device_lock.specs.declared.alone.Watched.{Watched}
 use Rattle.device_lock.specs.declared.entry.Call.{Call}
 use Rattle.device_lock.specs.declared.entry.Entry.{Entry}
-use Rattle.pmd_base.specs.Packet.{Kept}
-use Rattle.pmd_queue.specs.Named.{AtPort}
-use Rattle.receive_laws.specs.Delivered.{IsPrefixOf, delivered, packets_if_any, pieces_since}
-use Rattle.receive_laws.specs.Pieces.{Piece, packets_behind, packet_told, pieces}
-use Rattle.receive_laws.proofs.Delivering.{since-append}
+use Rattle.pmd.specs.PmdSeam.Packet.{Kept}
+use Rattle.pmd.specs.PmdSeam.Named.{AtPort}
+use Rattle.start_laws.specs.ReceiveLaws.Delivered.{IsPrefixOf, delivered, packets_if_any, pieces_since}
+use Rattle.start_laws.specs.ReceiveLaws.Pieces.{Piece, packets_behind, packet_told, pieces}
+use Rattle.start_laws.proofs.ReceiveLaws.Delivering.{since-append}
 use Rattle.start_laws.specs.Ending.{IsEnding}
 use Rattle.start_laws.specs.Points.{HasGround}
 use Rattle.start_laws.proofs.Reached.{KeptOver, LeadsOver, reached, reached_next}

@@ -4,19 +4,19 @@ use Rattle.std.specs.Prelude.{◌==◌, slice_index}
 use Rattle.std.specs.List.{list_any}
 use Rattle.std.proofs.lemmas.Bool.{eqb-true, or_cases}
 use Rattle.std.proofs.lemmas.List.Folds.{list_any-append}
-use Rattle.dma_arena.specs.Memory.{has_block}
+use Rattle.nic_device.specs.DmaArena.Memory.{has_block}
 use Rattle.nic_device.specs.State.{State}
 use Rattle.pmd.specs.Halves.{Halves}
-use Rattle.pmd_rx.specs.Keeping as received
-use Rattle.pmd_rx.specs.Keeping.{fresh_block}
-use Rattle.pmd_rx.specs.Receive.{Receive, Stage, Looks, Sees, Holding, Lent, Named}
-use Rattle.pmd_tx.specs.Sending as sending
-use Rattle.receive_laws.specs.Pieces.{Piece}
-use Rattle.receive_laws.specs.Steps.{Each, IfFresh}
+use Rattle.pmd.specs.PmdRx.Keeping as received
+use Rattle.pmd.specs.PmdRx.Keeping.{fresh_block}
+use Rattle.pmd.specs.PmdRx.Receive.{Receive, Stage, Looks, Sees, Holding, Lent, Named}
+use Rattle.pmd.specs.PmdTx.Sending as sending
+use Rattle.start_laws.specs.ReceiveLaws.Pieces.{Piece}
+use Rattle.start_laws.specs.ReceiveLaws.Steps.{Each, IfFresh}
 use Rattle.driver_laws.specs.Agreeing.{BothAgree}
 use Rattle.driver_laws.proofs.Lending.{receive_lent}
 use Rattle.driver_laws.proofs.Sending.{sender_lent}
-use Rattle.healthy_laws.specs.Healthy.{lent_by}
+use Rattle.driver_laws.specs.Healthy.{lent_by}
 
 -- a fact of each block that the receive half has lent
 

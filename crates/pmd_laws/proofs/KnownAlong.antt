@@ -2,9 +2,9 @@
 use Rattle.std.proofs.Common.{ℕ, List, [], ◌∷◌, ◌++◌, refl, sym, subst}
 use Rattle.std.specs.Prelude.{◌==◌, IsTrue}
 use Rattle.std.proofs.lemmas.Bool.{or_left, or_right}
-use Rattle.dma_arena.specs.Block.{Block}
-use Rattle.vf_map.specs.declared.mode.Mode.{Mode}
-use Rattle.vf_map.specs.declared.mode.Mode.TheVariants.{Off}
+use Rattle.nic_device.specs.DmaArena.Block.{Block}
+use Rattle.nic_device.specs.VfMap.declared.mode.Mode.{Mode}
+use Rattle.nic_device.specs.VfMap.declared.mode.Mode.TheVariants.{Off}
 use Rattle.nic_device.specs.State.{State, new_state}
 use Rattle.nic_device.specs.Step.{after}
 use Rattle.nic_device.specs.declared.event.Reply.{Reply}
@@ -14,25 +14,25 @@ use Rattle.device_lock.specs.History.{IsLegal, AreEvents, call_in, calls_of, lea
 use Rattle.device_lock.specs.Pass.{call_of}
 use Rattle.device_lock.specs.declared.alone.Watched.{Watched}
 use Rattle.device_lock.specs.declared.entry.Entry.{Entry}
-use Rattle.history_laws.specs.Alone.{AllAlone}
-use Rattle.history_laws.specs.Lent.{OnlyLent}
-use Rattle.history_laws.proofs.Aligned.{histories_aligned, new_aligned}
-use Rattle.history_laws.proofs.Alone.{alone_by_entries}
-use Rattle.history_laws.proofs.Modes.{mode_told}
-use Rattle.history_laws.proofs.Sound.{histories_sound}
-use Rattle.receive_laws.specs.Pieces.{Piece, pieces}
-use Rattle.receive_laws.proofs.Delivering.{events_before, events_behind, image_stays, legal_behind, lent_behind, vfs_stays}
-use Rattle.transmit_laws.specs.Sent.{sent_by}
+use Rattle.start_laws.specs.HistoryLaws.Alone.{AllAlone}
+use Rattle.start_laws.specs.HistoryLaws.Lent.{OnlyLent}
+use Rattle.start_laws.proofs.HistoryLaws.Aligned.{histories_aligned, new_aligned}
+use Rattle.start_laws.proofs.HistoryLaws.Alone.{alone_by_entries}
+use Rattle.start_laws.proofs.HistoryLaws.Modes.{mode_told}
+use Rattle.start_laws.proofs.HistoryLaws.Sound.{histories_sound}
+use Rattle.start_laws.specs.ReceiveLaws.Pieces.{Piece, pieces}
+use Rattle.start_laws.proofs.ReceiveLaws.Delivering.{events_before, events_behind, image_stays, legal_behind, lent_behind, vfs_stays}
+use Rattle.start_laws.specs.TransmitLaws.Sent.{sent_by}
 use Rattle.pmd.specs.Apart.{AllLendApart}
 use Rattle.pmd.specs.Halves.{AllOwn, Doer, Halves, OwnCall, after_call, played_by}
 use Rattle.driver_laws.specs.Histories.{IsDriven, OthersLeaveAlone, doer_of, doers_after}
 use Rattle.driver_laws.proofs.Meeting.{Meets}
 use Rattle.driver_laws.proofs.Next.{next_by}
 use Rattle.driver_laws.proofs.Runs.{one_entry}
-use Rattle.healthy_laws.specs.Before.{OnlyPassLends}
-use Rattle.healthy_laws.specs.Healthy.{lent_by}
-use Rattle.healthy_laws.proofs.Apart.{apart_by}
-use Rattle.healthy_laws.proofs.Stepping.{known_after}
+use Rattle.driver_laws.specs.Before.{OnlyPassLends}
+use Rattle.driver_laws.specs.Healthy.{lent_by}
+use Rattle.driver_laws.proofs.HealthyApart.{apart_by}
+use Rattle.driver_laws.proofs.HealthyStepping.{known_after}
 
 module _ (w : Watched) (mine own : Blocks) where
   along : (mode : Mode) (s : State) (out : List Piece) (sent : List (List ℕ)) (h : Halves) (doers : List Doer)

@@ -1,18 +1,18 @@
 -- A start's accesses beside those of its transmit ring lay out no more of it.
 use Rattle.std.proofs.Common.{ℕ, inl, inr, true, List, refl}
-use Rattle.dma_arena.specs.Block.{Block}
-use Rattle.dma_arena.specs.Numbers.{Numbers}
-use Rattle.reg_table.specs.declared.rows.RowId.TheVariants.{Rdt}
-use Rattle.register_file.specs.declared.dir.Dir.TheVariants.{Rx}
+use Rattle.nic_device.specs.DmaArena.Block.{Block}
+use Rattle.nic_device.specs.DmaArena.Numbers.{Numbers}
+use Rattle.nic_device.specs.RegTable.declared.rows.RowId.TheVariants.{Rdt}
+use Rattle.nic_device.specs.DmaRing.declared.dir.Dir.TheVariants.{Rx}
 use Rattle.device_lock.specs.declared.entry.Call.{Call}
-use Rattle.pmd_base.specs.declared.fault.PmdFault.{PmdFault}
-use Rattle.pmd_base.specs.declared.fault.PmdFault.TheVariants.{BadSize, DeviceFault, ForeignBlock, NoBuffer, StartTimeout}
-use Rattle.pmd_base.specs.declared.fault.PmdFault.TheVariants as fault
-use Rattle.pmd_queue.specs.Both.{both_asked, both_quiet}
-use Rattle.pmd_queue.specs.Made.{Access, AreMade, StopsBy}
-use Rattle.pmd_queue.specs.Named.{AtPort, IsNumberOf}
-use Rattle.pmd_queue.specs.Sides.{ring_words}
-use Rattle.pmd_rx.specs.Receive.{Receive, at_start}
+use Rattle.pmd.specs.PmdSeam.declared.fault.PmdFault.{PmdFault}
+use Rattle.pmd.specs.PmdSeam.declared.fault.PmdFault.TheVariants.{BadSize, DeviceFault, ForeignBlock, NoBuffer, StartTimeout}
+use Rattle.pmd.specs.PmdSeam.declared.fault.PmdFault.TheVariants as fault
+use Rattle.pmd.specs.PmdSeam.Both.{both_asked, both_quiet}
+use Rattle.pmd.specs.PmdSeam.QueueMade.{Access, AreMade, StopsBy}
+use Rattle.pmd.specs.PmdSeam.Named.{AtPort, IsNumberOf}
+use Rattle.pmd.specs.PmdSeam.Sides.{ring_words}
+use Rattle.pmd.specs.PmdRx.Receive.{Receive, at_start}
 use Rattle.pmd.specs.Starting.{GoingOnFails, IsPrepared, IsReceiveReady, LendingFails, ReceiveFails}
 use Rattle.start_laws.specs.Laid.{Laid, Off, Empty}
 use Rattle.start_laws.specs.Stopping.{AreMadeOf}

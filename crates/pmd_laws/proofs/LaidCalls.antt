@@ -1,14 +1,14 @@
 -- Calls by which a driver lays out an empty transmit ring, in turn.
 use Rattle.std.proofs.Common.{◌≡◌, true, List, [], ◌∷◌, ◌++◌, refl, ap, ◌∙◌, subst, append_assoc}
-use Rattle.dma_arena.specs.Block.{Block}
+use Rattle.nic_device.specs.DmaArena.Block.{Block}
 use Rattle.nic_device.specs.declared.event.Event.{Event}
 use Rattle.nic_device.specs.declared.event.Event.TheVariants as event
 use Rattle.nic_device.specs.declared.event.Reply.{Reply}
 use Rattle.device_lock.specs.Pass.{call_of}
 use Rattle.device_lock.specs.declared.entry.Call.{Call}
-use Rattle.pmd_base.specs.Events.{is_step}
-use Rattle.pmd_base.specs.Made.{Adds, AreSteps}
-use Rattle.pmd_queue.specs.Named.{AtPort}
+use Rattle.pmd.specs.PmdSeam.Events.{is_step}
+use Rattle.pmd.specs.PmdSeam.Made.{Adds, AreSteps}
+use Rattle.pmd.specs.PmdSeam.Named.{AtPort}
 use Rattle.start_laws.specs.Ending.{Each}
 use Rattle.start_laws.specs.Laid.{Laid, Lays, LaysOn}
 use Rattle.start_laws.specs.Stopping.{AreMadeOf}

@@ -1,14 +1,14 @@
 -- The calls by which a receive ring is filled lay out no more of a transmit ring.
 use Rattle.std.proofs.Common.{◌≡◌, ℕ, Bool, true, false, List, [], ◌∷◌, refl, sym, ◌∙◌, subst}
-use Rattle.dma_arena.specs.Block.{Block}
-use Rattle.reg_table.specs.declared.rows.RowId.TheVariants.{Rdt}
+use Rattle.nic_device.specs.DmaArena.Block.{Block}
+use Rattle.nic_device.specs.RegTable.declared.rows.RowId.TheVariants.{Rdt}
 use Rattle.nic_device.specs.declared.event.Event.{Event}
 use Rattle.nic_device.specs.declared.event.Event.TheVariants as event
 use Rattle.nic_device.specs.declared.event.Port.{Port}
 use Rattle.device_lock.specs.declared.entry.Call.{Call}
-use Rattle.pmd_queue.specs.Named.{AtPort, IsNumberOf}
-use Rattle.pmd_rx.specs.Plays.{AllOwn, OthersStep, Plays}
-use Rattle.pmd_rx.specs.Receive.{IsOwn, Layout, MovesNext, Named, Receive, Stage, drive}
+use Rattle.pmd.specs.PmdSeam.Named.{AtPort, IsNumberOf}
+use Rattle.pmd.specs.PmdRx.Plays.{AllOwn, OthersStep, Plays}
+use Rattle.pmd.specs.PmdRx.Receive.{IsOwn, Layout, MovesNext, Named, Receive, Stage, drive}
 use Rattle.start_laws.specs.Ending.{Each}
 use Rattle.start_laws.specs.Laid.{Laid}
 use Rattle.start_laws.specs.Stopping.{AreMadeOf}

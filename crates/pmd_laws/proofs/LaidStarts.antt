@@ -1,11 +1,11 @@
 -- A start that was refused laid out an empty transmit ring so far.
 use Rattle.std.proofs.Common.{◌≡◌, ℕ, inl, inr, true, List, refl, subst}
-use Rattle.dma_arena.specs.Numbers.{Numbers}
-use Rattle.register_file.specs.declared.dir.Dir.TheVariants.{Tx}
+use Rattle.nic_device.specs.DmaArena.Numbers.{Numbers}
+use Rattle.nic_device.specs.DmaRing.declared.dir.Dir.TheVariants.{Tx}
 use Rattle.device_lock.specs.declared.entry.Call.{Call}
-use Rattle.pmd_base.specs.declared.fault.PmdFault.{PmdFault}
-use Rattle.pmd_queue.specs.Named.{AtPort}
-use Rattle.pmd_rx.specs.Receive.{Receive}
+use Rattle.pmd.specs.PmdSeam.declared.fault.PmdFault.{PmdFault}
+use Rattle.pmd.specs.PmdSeam.Named.{AtPort}
+use Rattle.pmd.specs.PmdRx.Receive.{Receive}
 use Rattle.pmd.specs.Started.{StopsAfterBoth, StopsAfterOne, StopsStarting, is_size}
 use Rattle.pmd.specs.Starting.{GoingOnFails, IsPrepared, PreparingFails}
 use Rattle.pmd.specs.declared.start.StartRefused.{StartRefused}

@@ -2,16 +2,16 @@
 use Rattle.std.proofs.Common.{◌≡◌, ℕ, ◌*◌, ◌%◌, ◌^◌, ◌<◌, ◌≤◌, inl, inr, true, not, List, [], ◌∷◌, ◌++◌, refl, sym, ◌∙◌, subst, arith}
 use Rattle.std.specs.Prelude.{⊤}
 use Rattle.std.proofs.lemmas.List.{append-nil}
-use Rattle.reg_table.specs.declared.rows.RowId.{RowId}
-use Rattle.register_file.specs.declared.dir.Dir.TheVariants.{Tx}
+use Rattle.nic_device.specs.RegTable.declared.rows.RowId.{RowId}
+use Rattle.nic_device.specs.DmaRing.declared.dir.Dir.TheVariants.{Tx}
 use Rattle.nic_device.specs.declared.event.Event.TheVariants as event
 use Rattle.device_lock.specs.declared.entry.Call.{Call}
-use Rattle.pmd_base.specs.declared.fault.PmdFault.{PmdFault}
-use Rattle.pmd_base.specs.declared.fault.PmdFault.TheVariants.{BadSize, DeviceFault, ForeignBlock, NoBuffer, StartTimeout}
-use Rattle.pmd_base.specs.declared.fault.PmdFault.TheVariants as fault
-use Rattle.pmd_queue.specs.Made.{Access, Sees, Sets, AreMade, FailsBy, IsMade, IsOtherwise, StopsBy}
-use Rattle.pmd_queue.specs.Named.{AtPort, IsNumberOf, is_driven}
-use Rattle.pmd_queue.specs.Sides.{ring_words}
+use Rattle.pmd.specs.PmdSeam.declared.fault.PmdFault.{PmdFault}
+use Rattle.pmd.specs.PmdSeam.declared.fault.PmdFault.TheVariants.{BadSize, DeviceFault, ForeignBlock, NoBuffer, StartTimeout}
+use Rattle.pmd.specs.PmdSeam.declared.fault.PmdFault.TheVariants as fault
+use Rattle.pmd.specs.PmdSeam.QueueMade.{Access, Sees, Sets, AreMade, FailsBy, IsMade, IsOtherwise, StopsBy}
+use Rattle.pmd.specs.PmdSeam.Named.{AtPort, IsNumberOf, is_driven}
+use Rattle.pmd.specs.PmdSeam.Sides.{ring_words}
 use Rattle.start_laws.specs.Laid.{Laid, Off, Sized, Headed, Empty, MayLay, laid_by}
 use Rattle.start_laws.proofs.StopCalls.{some_made}
 use Rattle.pmd_laws.proofs.LaidCalls.{LaysBetween, Stays, adds_between, stays_between, step_stays, then_between}

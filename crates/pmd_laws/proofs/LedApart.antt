@@ -1,6 +1,6 @@
 -- The calls of a driver, as told, from the place on where both sides of its queue were on.
 use Rattle.std.proofs.Common.{ℕ, List, subst, ◌∙◌}
-use Rattle.dma_arena.specs.Numbers.{Numbers, is_own}
+use Rattle.nic_device.specs.DmaArena.Numbers.{Numbers, is_own}
 use Rattle.device_lock.specs.Alone.{Blocks}
 use Rattle.device_lock.specs.declared.entry.Call.{Call}
 use Rattle.pmd.specs.Apart.{OwnsSame}
@@ -8,7 +8,7 @@ use Rattle.pmd.specs.Halves.{Halves, halves_of}
 use Rattle.pmd.specs.Life.{Lives}
 use Rattle.pmd.specs.Running.{Running}
 use Rattle.pmd.proofs.Both.{rings_still}
-use Rattle.pmd_queue.specs.Named.{AtPort}
+use Rattle.pmd.specs.PmdSeam.Named.{AtPort}
 use Rattle.driver_laws.proofs.LeadsApart.{LeadsApart, apart_leads_on, driven_apart}
 use Rattle.pmd_laws.specs.Lends.{first_of}
 use Rattle.pmd_laws.specs.Told.{IsTold, Moment, last}

@@ -1,7 +1,7 @@
 -- What a driver lends from the place on where both sides are on.
 use Rattle.std.proofs.Common.{◌≡◌, ℕ, Bool, true, false, List, [], ◌++◌, refl, sym, ap, ◌∙◌, subst}
-use Rattle.dma_arena.specs.Numbers.{Numbers, is_own, is_free}
-use Rattle.dma_arena.proofs.Arenas.{is_own-of_free, is_own-with_free}
+use Rattle.nic_device.specs.DmaArena.Numbers.{Numbers, is_own, is_free}
+use Rattle.nic_device.proofs.DmaArena.Arenas.{is_own-of_free, is_own-with_free}
 use Rattle.device_lock.specs.Alone.{Blocks}
 use Rattle.device_lock.specs.declared.entry.Call.{Call}
 use Rattle.pmd.specs.Apart.{DrivesApart, MayLend, OwnsSame}
@@ -12,9 +12,9 @@ use Rattle.pmd.specs.Started.{AreUp}
 use Rattle.pmd.specs.Starting.{IsReceiveReady, IsTransmitReady}
 use Rattle.pmd.proofs.Apart.{apart_on, receiving_apart}
 use Rattle.pmd.proofs.Whole.{all_exchanged}
-use Rattle.pmd_queue.specs.Named.{AtPort}
-use Rattle.pmd_rx.specs.Receive.{Receive}
-use Rattle.pmd_tx.specs.Sending.{Sender, has_lent}
+use Rattle.pmd.specs.PmdSeam.Named.{AtPort}
+use Rattle.pmd.specs.PmdRx.Receive.{Receive}
+use Rattle.pmd.specs.PmdTx.Sending.{Sender, has_lent}
 use Rattle.pmd_laws.specs.Lends.{LifeLendsApart, first_of}
 use Rattle.pmd_laws.proofs.Begun.{drawn_apart, lent_at_start}
 

@@ -3,8 +3,8 @@ use Rattle.std.proofs.Common.{◌≡◌, ℕ, false, List, [], ◌∷◌, ◌++�
 use Rattle.std.specs.Prelude.{IsTrue}
 use Rattle.std.proofs.lemmas.Bool.{both_ways, eq-eqb, false_from_ne_true}
 use Rattle.std.proofs.lemmas.List.{same_from_push}
-use Rattle.dma_arena.specs.Memory.{has_block}
-use Rattle.reg_table.specs.declared.rows.RowId.TheVariants.{Rxdctl}
+use Rattle.nic_device.specs.DmaArena.Memory.{has_block}
+use Rattle.nic_device.specs.RegTable.declared.rows.RowId.TheVariants.{Rxdctl}
 use Rattle.nic_device.specs.State.{State, new_state}
 use Rattle.nic_device.specs.declared.event.Event.TheVariants as event
 use Rattle.nic_device.specs.declared.event.Reply.TheVariants as reply
@@ -14,18 +14,18 @@ use Rattle.device_lock.specs.Pass.{call_of}
 use Rattle.device_lock.specs.declared.alone.Watched.{Watched}
 use Rattle.device_lock.specs.declared.entry.Call.{Call}
 use Rattle.device_lock.specs.declared.entry.Entry.{Entry}
-use Rattle.history_laws.specs.Lent.{OnlyLent}
-use Rattle.pmd_queue.specs.Made.{Sees, IsMade}
-use Rattle.pmd_queue.specs.Named.{AtPort}
-use Rattle.receive_laws.proofs.Delivering.{events_before, events_behind, leads-append, legal_behind}
-use Rattle.receive_laws.proofs.Histories.{calls_own}
+use Rattle.start_laws.specs.HistoryLaws.Lent.{OnlyLent}
+use Rattle.pmd.specs.PmdSeam.QueueMade.{Sees, IsMade}
+use Rattle.pmd.specs.PmdSeam.Named.{AtPort}
+use Rattle.start_laws.proofs.ReceiveLaws.Delivering.{events_before, events_behind, leads-append, legal_behind}
+use Rattle.start_laws.proofs.ReceiveLaws.Histories.{calls_own}
 use Rattle.start_laws.specs.Along.{AtCalls, BeforeLast, IsAlong}
 use Rattle.start_laws.specs.Ending.{Each}
 use Rattle.start_laws.proofs.Along.{legal_before}
 use Rattle.start_laws.proofs.Parts.{around}
 use Rattle.start_laws.proofs.Reached.{reached}
-use Rattle.healthy_laws.specs.Before.{OnlyPassLends}
-use Rattle.healthy_laws.proofs.Before.{only_pass_lent}
+use Rattle.driver_laws.specs.Before.{OnlyPassLends}
+use Rattle.driver_laws.proofs.Before.{only_pass_lent}
 use Rattle.pmd_laws.specs.Faultless.{NoneLent}
 use Rattle.pmd_laws.proofs.RiseCalls.{IsRising, Rises}
 use Rattle.pmd_laws.proofs.PassLends.{lent_is, others_before, others_behind}

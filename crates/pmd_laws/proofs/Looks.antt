@@ -1,7 +1,7 @@
 -- A look that finds no packet, within a longer history.
 use Rattle.std.proofs.Common.{◌≡◌, ℕ, List, [], ◌∷◌, ◌++◌, refl, sym, ap, ◌∙◌, subst, append_assoc}
 use Rattle.std.proofs.lemmas.List.{same_from_push}
-use Rattle.dma_arena.specs.Numbers.{Numbers}
+use Rattle.nic_device.specs.DmaArena.Numbers.{Numbers}
 use Rattle.nic_device.specs.State.{new_state}
 use Rattle.nic_device.specs.Step.{reply_to}
 use Rattle.nic_device.specs.declared.event.Event.TheVariants as event
@@ -12,14 +12,14 @@ use Rattle.device_lock.specs.Pass.{call_of}
 use Rattle.device_lock.specs.declared.alone.Watched.{Watched}
 use Rattle.device_lock.specs.declared.entry.Call.{Call}
 use Rattle.device_lock.specs.declared.entry.Entry.{Entry}
-use Rattle.history_laws.proofs.Beginning.{beginning_alone}
+use Rattle.start_laws.proofs.HistoryLaws.Beginning.{beginning_alone}
 use Rattle.pmd.specs.Running.{Running}
 use Rattle.pmd.specs.Started.{AreUp}
-use Rattle.pmd_queue.specs.Named.{AtPort}
-use Rattle.pmd_rx.specs.Receive.{Receive, descriptor_at}
-use Rattle.receive_laws.specs.Delivered.{delivered}
-use Rattle.receive_laws.specs.Histories.{FindsNone}
-use Rattle.receive_laws.proofs.Delivering.{events_before, legal_behind}
+use Rattle.pmd.specs.PmdSeam.Named.{AtPort}
+use Rattle.pmd.specs.PmdRx.Receive.{Receive, descriptor_at}
+use Rattle.start_laws.specs.ReceiveLaws.Delivered.{delivered}
+use Rattle.start_laws.specs.ReceiveLaws.Histories.{FindsNone}
+use Rattle.start_laws.proofs.ReceiveLaws.Delivering.{events_before, legal_behind}
 use Rattle.start_laws.specs.Along.{IsAlong}
 use Rattle.start_laws.specs.Start.{BeginsWell}
 use Rattle.start_laws.proofs.Along.{legal_before}

@@ -1,7 +1,7 @@
 -- From the place on where both sides of a driver's queue are on, no call of its finds the device at fault.
 use Rattle.std.proofs.Common.{◌≡◌, ◌≤◌, ℕ, true, List, ◌++◌, refl, sym, ap, ◌∙◌, subst, append_assoc, arith}
 use Rattle.std.proofs.lemmas.List.{append_cancel_left}
-use Rattle.dma_arena.specs.Numbers.{Numbers}
+use Rattle.nic_device.specs.DmaArena.Numbers.{Numbers}
 use Rattle.device_lock.specs.Alone.{Blocks}
 use Rattle.device_lock.specs.History.{calls_of}
 use Rattle.device_lock.specs.declared.alone.Watched.{Watched}
@@ -12,9 +12,9 @@ use Rattle.pmd.specs.Halves.{AllOwn, Doer, Halves, played_by}
 use Rattle.pmd.specs.Started.{is_size}
 use Rattle.pmd.proofs.Apart.{apart_none}
 use Rattle.pmd.proofs.Calls.{both_own, own_length}
-use Rattle.pmd_queue.specs.Named.{AtPort}
-use Rattle.pmd_rx.specs.Receive.{Receive}
-use Rattle.pmd_tx.specs.Sending.{Sender}
+use Rattle.pmd.specs.PmdSeam.Named.{AtPort}
+use Rattle.pmd.specs.PmdRx.Receive.{Receive}
+use Rattle.pmd.specs.PmdTx.Sending.{Sender}
 use Rattle.start_laws.specs.Along.{BeforeLast, IsAlong}
 use Rattle.start_laws.specs.On.{AreOn}
 use Rattle.start_laws.specs.Points.{HasGround}
@@ -22,10 +22,10 @@ use Rattle.start_laws.proofs.Parts.{Parts, calls_joined, parts}
 use Rattle.driver_laws.specs.Beside.{OthersHarmless}
 use Rattle.driver_laws.proofs.Beside.{harmless_both, others_harmless}
 use Rattle.driver_laws.proofs.LeadsApart.{LeadsApart, driven_apart}
-use Rattle.healthy_laws.specs.Before.{OnlyPassLends}
-use Rattle.healthy_laws.specs.Faults.{doers_of}
-use Rattle.healthy_laws.specs.Healthy.{IsUnshared, lent_by}
-use Rattle.healthy_laws.proofs.Faults.{no_fault}
+use Rattle.driver_laws.specs.Before.{OnlyPassLends}
+use Rattle.driver_laws.specs.Faults.{doers_of}
+use Rattle.driver_laws.specs.Healthy.{IsUnshared, lent_by}
+use Rattle.driver_laws.proofs.Faults.{no_fault}
 use Rattle.pmd_laws.specs.Faultless.{IsFresh}
 use Rattle.pmd_laws.proofs.Driven.{driven_by}
 use Rattle.pmd_laws.proofs.FirstHalves.{first_halves, receive_lent, transmit_lent}

@@ -3,16 +3,16 @@ use Rattle.std.proofs.Common.{◌≡◌, ℕ, zero, suc, ◌+◌, ◌<◌, Bool,
 use Rattle.std.specs.Prelude.{◌==◌}
 use Rattle.std.specs.List.{list_any}
 use Rattle.std.proofs.lemmas.Bool.{both_ways, eqb-false, or_from, or_parts, true_from_ne_false}
-use Rattle.dma_arena.specs.Memory.{Memory, has_block}
-use Rattle.dma_arena.specs.Numbers.{Numbers, is_free}
-use Rattle.dma_arena.specs.Whereabouts.{places_of, times_in_hand}
-use Rattle.pmd_base.proofs.Outside.{times-append, times_rest}
-use Rattle.pmd_rx.specs.Keeping as received
-use Rattle.pmd_rx.specs.Keeping.{block_in}
-use Rattle.pmd_rx.specs.Receive.{held_by}
-use Rattle.pmd_tx.specs.Leaving as sending
-use Rattle.pmd_tx.specs.Sending.{has_lent}
-use Rattle.pmd_tx.proofs.Counting.{not_lent}
+use Rattle.nic_device.specs.DmaArena.Memory.{Memory, has_block}
+use Rattle.nic_device.specs.DmaArena.Numbers.{Numbers, is_free}
+use Rattle.nic_device.specs.DmaArena.Whereabouts.{places_of, times_in_hand}
+use Rattle.pmd.proofs.PmdSeam.Outside.{times-append, times_rest}
+use Rattle.pmd.specs.PmdRx.Keeping as received
+use Rattle.pmd.specs.PmdRx.Keeping.{block_in}
+use Rattle.pmd.specs.PmdRx.Receive.{held_by}
+use Rattle.pmd.specs.PmdTx.Leaving as sending
+use Rattle.pmd.specs.PmdTx.Sending.{has_lent}
+use Rattle.pmd.proofs.PmdTx.Counting.{not_lent}
 use Rattle.pmd.specs.Blocks.{HasAll}
 use Rattle.pmd.specs.Driver.{arena_of, halted_of}
 use Rattle.pmd.specs.Halves.{Halves, halves_of}
@@ -20,7 +20,7 @@ use Rattle.pmd.specs.Running.{Running}
 use Rattle.pmd.specs.declared.driver.Rings.{Rings}
 use Rattle.pmd.specs.declared.driver.Rings.TheVariants.{Up}
 use Rattle.pmd.proofs.Handing.{away_lent, none_any}
-use Rattle.healthy_laws.specs.Healthy.{lent_by}
+use Rattle.driver_laws.specs.Healthy.{lent_by}
 use Rattle.pmd_laws.specs.Places.{EachInOnePlace, is_out, memory_after}
 use Rattle.pmd_laws.proofs.Places.{lent_is_out, out_is_lent}
 use Rattle.pmd_laws.proofs.Told.{runs}

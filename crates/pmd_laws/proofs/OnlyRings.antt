@@ -1,9 +1,9 @@
 -- Of an arena's blocks only the rings' are lent as both sides are on, and the frames that wait fit a buffer.
 use Rattle.std.proofs.Common.{ℕ, ◌≤◌, false, List, sym, ◌∙◌, subst, arith}
 use Rattle.std.specs.Prelude.{All}
-use Rattle.dma_arena.specs.Block.{Block}
-use Rattle.dma_arena.specs.Numbers.{Numbers}
-use Rattle.reg_table.specs.declared.rows.RowId.TheVariants.{Rxdctl}
+use Rattle.nic_device.specs.DmaArena.Block.{Block}
+use Rattle.nic_device.specs.DmaArena.Numbers.{Numbers}
+use Rattle.nic_device.specs.RegTable.declared.rows.RowId.TheVariants.{Rxdctl}
 use Rattle.nic_device.specs.State.{State}
 use Rattle.nic_device.specs.Step.{after}
 use Rattle.nic_device.specs.declared.event.Event.{Event}
@@ -12,14 +12,14 @@ use Rattle.device_lock.specs.Alone.{Blocks, lent_by}
 use Rattle.device_lock.specs.declared.alone.Watched.{Watched}
 use Rattle.device_lock.specs.declared.entry.Call.{Call}
 use Rattle.device_lock.specs.declared.entry.Entry.{Entry}
-use Rattle.device_laws.specs.Laws.{WritesNoSetting}
-use Rattle.history_laws.specs.Lent.{OnlyLent}
-use Rattle.pmd_queue.specs.Named.{AtPort}
-use Rattle.pmd_rx.specs.Receive.{Receive}
-use Rattle.pmd_tx.specs.Sending.{Sender}
-use Rattle.receive_laws.specs.Short.{IsShortFor}
-use Rattle.receive_laws.proofs.Short.{frames_stay_short}
-use Rattle.transmit_laws.proofs.LeftSide.{left-setting}
+use Rattle.start_laws.specs.DeviceLaws.Laws.{WritesNoSetting}
+use Rattle.start_laws.specs.HistoryLaws.Lent.{OnlyLent}
+use Rattle.pmd.specs.PmdSeam.Named.{AtPort}
+use Rattle.pmd.specs.PmdRx.Receive.{Receive}
+use Rattle.pmd.specs.PmdTx.Sending.{Sender}
+use Rattle.start_laws.specs.ReceiveLaws.Short.{IsShortFor}
+use Rattle.start_laws.proofs.ReceiveLaws.Short.{frames_stay_short}
+use Rattle.start_laws.proofs.TransmitLaws.LeftSide.{left-setting}
 use Rattle.start_laws.specs.Along.{AtCalls, BeforeLast, IsAlong, IsKept}
 use Rattle.start_laws.specs.Ending.{IsPlain}
 use Rattle.start_laws.specs.On.{AreOn}
@@ -29,8 +29,8 @@ use Rattle.start_laws.proofs.First.{first_seen}
 use Rattle.start_laws.proofs.Ground.{ground_kept, plain_keeps, plain_setting}
 use Rattle.start_laws.proofs.Made.{made_some}
 use Rattle.start_laws.proofs.Reached.{reached, state_kept, state_leads}
-use Rattle.pmd_queue.specs.Made.{Sees}
-use Rattle.healthy_laws.specs.Before.{OnlyPassLends}
+use Rattle.pmd.specs.PmdSeam.QueueMade.{Sees}
+use Rattle.driver_laws.specs.Before.{OnlyPassLends}
 use Rattle.pmd_laws.specs.Faultless.{IsFresh}
 use Rattle.pmd_laws.proofs.LentSince.{lent_at}
 use Rattle.pmd_laws.proofs.RiseCalls.{Rises, rising_are_plain}

@@ -1,6 +1,6 @@
 -- What a driver handed out and what it sent in its life.
 use Rattle.std.proofs.Common.{◌≡◌, ℕ, List, [], ◌++◌, refl, sym, ap, ◌∙◌, subst}
-use Rattle.dma_arena.specs.Numbers.{Numbers}
+use Rattle.nic_device.specs.DmaArena.Numbers.{Numbers}
 use Rattle.nic_device.specs.State.{State, new_state}
 use Rattle.device_lock.specs.History.{calls_of, leads_to}
 use Rattle.device_lock.specs.declared.alone.Watched.{Watched}
@@ -8,13 +8,13 @@ use Rattle.device_lock.specs.declared.entry.Call.{Call}
 use Rattle.device_lock.specs.declared.entry.Entry.{Entry}
 use Rattle.pmd.specs.Running.{Running}
 use Rattle.pmd.specs.Started.{AreUp}
-use Rattle.pmd_queue.specs.Named.{AtPort}
-use Rattle.receive_laws.specs.Delivered as receive
-use Rattle.receive_laws.specs.Delivered.{delivered}
-use Rattle.receive_laws.specs.Histories.{FindsNone}
-use Rattle.transmit_laws.specs.Agreeing.{bytes_of}
-use Rattle.transmit_laws.specs.Laws as transmit
-use Rattle.transmit_laws.specs.Sent.{sent_in, sent_since}
+use Rattle.pmd.specs.PmdSeam.Named.{AtPort}
+use Rattle.start_laws.specs.ReceiveLaws.Delivered as receive
+use Rattle.start_laws.specs.ReceiveLaws.Delivered.{delivered}
+use Rattle.start_laws.specs.ReceiveLaws.Histories.{FindsNone}
+use Rattle.start_laws.specs.TransmitLaws.Agreeing.{bytes_of}
+use Rattle.start_laws.specs.TransmitLaws.Laws as transmit
+use Rattle.start_laws.specs.TransmitLaws.Sent.{sent_in, sent_since}
 use Rattle.start_laws.specs.Unused.{WentOn}
 use Rattle.start_laws.proofs.Parts.{Parts, parts}
 use Rattle.start_laws.specs.On.{AreOn}

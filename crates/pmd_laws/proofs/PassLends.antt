@@ -2,18 +2,18 @@
 use Rattle.std.proofs.Common.{◌≡◌, ℕ, inl, inr, true, List, [], ◌∷◌, ◌++◌, subst}
 use Rattle.std.specs.Prelude.{◌==◌}
 use Rattle.std.proofs.lemmas.Bool.{and_parts, both_ways, cases_Bool, or_cases}
-use Rattle.dma_arena.specs.Block.{Block}
+use Rattle.nic_device.specs.DmaArena.Block.{Block}
 use Rattle.nic_device.specs.declared.event.Event.{Event}
 use Rattle.nic_device.specs.declared.event.Event.TheVariants as event
 use Rattle.nic_device.specs.declared.event.Reply.{Reply}
 use Rattle.device_lock.specs.Alone.{Blocks, lends, lent_by, lent_in}
 use Rattle.device_lock.specs.History.{call_in, calls_of}
 use Rattle.device_lock.specs.declared.entry.Entry.{Entry}
-use Rattle.pmd_queue.specs.Named.{AtPort}
-use Rattle.receive_laws.proofs.Histories.{calls_own, calls_other}
+use Rattle.pmd.specs.PmdSeam.Named.{AtPort}
+use Rattle.start_laws.proofs.ReceiveLaws.Histories.{calls_own, calls_other}
 use Rattle.start_laws.specs.Ending.{Each}
-use Rattle.healthy_laws.specs.Before.{OnlyPassLends}
-use Rattle.healthy_laws.proofs.Before.{lends_is}
+use Rattle.driver_laws.specs.Before.{OnlyPassLends}
+use Rattle.driver_laws.proofs.Before.{lends_is}
 use Rattle.pmd_laws.proofs.RiseCalls.{IsRising}
 
 -- what a part of a history lends

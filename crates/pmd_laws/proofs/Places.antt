@@ -1,30 +1,30 @@
 -- Of an arena's blocks those are lent at the device that its driver has out with its halves.
 use Rattle.std.proofs.Common.{◌≡◌, ℕ, true, List, sym, ap, ◌∙◌, subst}
 use Rattle.std.specs.Prelude.{IsTrue}
-use Rattle.dma_arena.specs.Memory.{has_block}
-use Rattle.dma_arena.specs.Numbers.{Numbers, is_own}
+use Rattle.nic_device.specs.DmaArena.Memory.{has_block}
+use Rattle.nic_device.specs.DmaArena.Numbers.{Numbers, is_own}
 use Rattle.nic_device.specs.State.{State, new_state}
 use Rattle.device_lock.specs.Alone.{Blocks}
 use Rattle.device_lock.specs.History.{calls_of, leads_to}
 use Rattle.device_lock.specs.declared.alone.Watched.{Watched}
 use Rattle.device_lock.specs.declared.entry.Call.{Call}
 use Rattle.device_lock.specs.declared.entry.Entry.{Entry}
-use Rattle.history_laws.specs.Lent.{OnlyLent}
+use Rattle.start_laws.specs.HistoryLaws.Lent.{OnlyLent}
 use Rattle.pmd.specs.Apart.{AllLendApart}
 use Rattle.pmd.specs.Halves.{Doer, Halves, halves_of, played_by}
 use Rattle.pmd.specs.Running.{Running}
 use Rattle.pmd.specs.Started.{AreUp, is_size}
 use Rattle.pmd.specs.declared.driver.Rings.{Rings}
-use Rattle.pmd_queue.specs.Named.{AtPort}
-use Rattle.receive_laws.proofs.Delivering.{leads-append}
+use Rattle.pmd.specs.PmdSeam.Named.{AtPort}
+use Rattle.start_laws.proofs.ReceiveLaws.Delivering.{leads-append}
 use Rattle.start_laws.specs.On.{AreOn}
 use Rattle.start_laws.proofs.Parts.{Parts, parts}
 use Rattle.start_laws.proofs.Start.{on}
 use Rattle.driver_laws.specs.Histories.{IsDriven}
 use Rattle.driver_laws.proofs.InOrder.{led}
 use Rattle.driver_laws.proofs.LeadsApart.{LeadsApart}
-use Rattle.healthy_laws.specs.Before.{OnlyPassLends}
-use Rattle.healthy_laws.specs.Healthy.{lent_by}
+use Rattle.driver_laws.specs.Before.{OnlyPassLends}
+use Rattle.driver_laws.specs.Healthy.{lent_by}
 use Rattle.pmd_laws.specs.Places.{IsToldAlone, LentIsOut, OutIsLent, is_out, memory_after}
 use Rattle.pmd_laws.specs.Told.{IsToldOf, Moment, last}
 use Rattle.pmd_laws.proofs.Driven.{driven_by}

@@ -1,7 +1,7 @@
 -- The calls of a driver's life write no register but the tails of its queue.
 use Rattle.std.proofs.Common.{◌≡◌, ℕ, true, List, [], ◌∷◌, refl, sym, subst}
 use Rattle.std.specs.Prelude.{IsTrue}
-use Rattle.dma_arena.specs.Block.{Block}
+use Rattle.nic_device.specs.DmaArena.Block.{Block}
 use Rattle.nic_device.specs.declared.event.Event.{Event}
 use Rattle.nic_device.specs.declared.event.Event.TheVariants as event
 use Rattle.nic_device.specs.declared.event.Port.{Port}
@@ -9,11 +9,11 @@ use Rattle.nic_device.specs.declared.event.Reply.{Reply}
 use Rattle.nic_device.specs.declared.event.Reply.TheVariants as reply
 use Rattle.nic_device.proofs.Cases.{either_way}
 use Rattle.device_lock.specs.declared.entry.Call.{Call}
-use Rattle.pmd_queue.specs.Named.{AtPort}
-use Rattle.pmd_rx.specs.Receive as receiving
-use Rattle.pmd_rx.specs.Receive.{Layout, Receive, Stage, Looks, Sees, Holding, Lent, Named, MovesNext, looked, took, lent_one, named, moved, drive}
-use Rattle.pmd_tx.specs.Sending as sending
-use Rattle.pmd_tx.specs.Sending.{Sender, Move, Accepts, Asks, Advances, Reaps, Elsewhere}
+use Rattle.pmd.specs.PmdSeam.Named.{AtPort}
+use Rattle.pmd.specs.PmdRx.Receive as receiving
+use Rattle.pmd.specs.PmdRx.Receive.{Layout, Receive, Stage, Looks, Sees, Holding, Lent, Named, MovesNext, looked, took, lent_one, named, moved, drive}
+use Rattle.pmd.specs.PmdTx.Sending as sending
+use Rattle.pmd.specs.PmdTx.Sending.{Sender, Move, Accepts, Asks, Advances, Reaps, Elsewhere}
 use Rattle.start_laws.specs.Ending.{Each, IsPlain, NamesDriven}
 use Rattle.pmd.specs.Halves.{AllOwn, Doer, Halves, OwnCall, Receives, Sends, after_call, is_neither}
 use Rattle.driver_laws.specs.Beside.{OthersHarmless, is_harmless}

@@ -1,18 +1,18 @@
 -- The calls of a driver whose start was refused lay out an empty transmit ring so far, up to where it came down.
 use Rattle.std.proofs.Common.{◌≡◌, inl, inr, ℕ, Bool, true, false, List, [], ◌∷◌, Option, Some, None, Err, refl, sym, ◌∙◌, subst, cond}
 use Rattle.std.proofs.lemmas.List.{append-nil}
-use Rattle.dma_arena.specs.Block.{Block}
-use Rattle.dma_arena.specs.Numbers.{Numbers}
-use Rattle.reg_table.specs.declared.rows.RowId.TheVariants.{Rxdctl, Txdctl}
-use Rattle.register_file.specs.Bits.{has_bit}
-use Rattle.register_file.specs.declared.dir.Dir.TheVariants.{Rx, Tx}
+use Rattle.nic_device.specs.DmaArena.Block.{Block}
+use Rattle.nic_device.specs.DmaArena.Numbers.{Numbers}
+use Rattle.nic_device.specs.RegTable.declared.rows.RowId.TheVariants.{Rxdctl, Txdctl}
+use Rattle.nic_device.specs.RegisterFile.Bits.{has_bit}
+use Rattle.nic_device.specs.DmaRing.declared.dir.Dir.TheVariants.{Rx, Tx}
 use Rattle.nic_device.specs.declared.event.Event.{Event}
 use Rattle.nic_device.specs.declared.event.Event.TheVariants as event
 use Rattle.device_lock.specs.declared.entry.Call.{Call}
-use Rattle.pmd_base.specs.declared.fault.PmdFault.{PmdFault}
-use Rattle.pmd_base.specs.declared.fault.PmdFault.TheVariants.{BadSize}
-use Rattle.pmd_halt.specs.Halted.{Halted}
-use Rattle.pmd_queue.specs.Named.{AtPort}
+use Rattle.pmd.specs.PmdSeam.declared.fault.PmdFault.{PmdFault}
+use Rattle.pmd.specs.PmdSeam.declared.fault.PmdFault.TheVariants.{BadSize}
+use Rattle.pmd.specs.Halted.{Halted}
+use Rattle.pmd.specs.PmdSeam.Named.{AtPort}
 use Rattle.pmd.specs.Life.{ComesDown, NeverLived}
 use Rattle.pmd.specs.Started.{IsHalfStarted, IsHome, IsShut, StopsStarting, is_size, start_gate}
 use Rattle.pmd.specs.declared.start.Rest.{Rest}

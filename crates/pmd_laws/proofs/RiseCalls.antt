@@ -1,29 +1,29 @@
 -- The calls by which a driver's rings come up write no register but its queue's, and lend no block but the rings'.
 use Rattle.std.proofs.Common.{◌≡◌, ℕ, true, false, List, [], ◌∷◌, ◌++◌, refl}
 use Rattle.std.specs.Prelude.{⊤, IsTrue}
-use Rattle.dma_arena.specs.Block.{Block}
-use Rattle.dma_arena.specs.Numbers.{Numbers}
-use Rattle.reg_table.specs.declared.rows.RowId.TheVariants.{Rxdctl}
-use Rattle.register_file.specs.declared.dir.Dir.{Dir}
-use Rattle.register_file.specs.declared.dir.Dir.TheVariants.{Rx, Tx}
+use Rattle.nic_device.specs.DmaArena.Block.{Block}
+use Rattle.nic_device.specs.DmaArena.Numbers.{Numbers}
+use Rattle.nic_device.specs.RegTable.declared.rows.RowId.TheVariants.{Rxdctl}
+use Rattle.nic_device.specs.DmaRing.declared.dir.Dir.{Dir}
+use Rattle.nic_device.specs.DmaRing.declared.dir.Dir.TheVariants.{Rx, Tx}
 use Rattle.nic_device.specs.declared.event.Event.{Event}
 use Rattle.nic_device.specs.declared.event.Event.TheVariants as event
 use Rattle.device_lock.specs.Alone.{Blocks}
 use Rattle.device_lock.specs.declared.entry.Call.{Call}
-use Rattle.pmd_base.specs.Events.{is_step}
-use Rattle.pmd_queue.specs.Both.{both_quiet, receive_polled}
-use Rattle.pmd_queue.specs.Made.{Access, Sees, Sets, AreMade, IsMade}
-use Rattle.pmd_queue.specs.Named.{AtPort}
-use Rattle.pmd_queue.specs.Sides.{polled, quiet, ring_words}
-use Rattle.pmd_rx.specs.Receive.{Receive}
-use Rattle.pmd_tx.specs.Sending.{Sender}
+use Rattle.pmd.specs.PmdSeam.Events.{is_step}
+use Rattle.pmd.specs.PmdSeam.Both.{both_quiet, receive_polled}
+use Rattle.pmd.specs.PmdSeam.QueueMade.{Access, Sees, Sets, AreMade, IsMade}
+use Rattle.pmd.specs.PmdSeam.Named.{AtPort}
+use Rattle.pmd.specs.PmdSeam.Sides.{polled, quiet, ring_words}
+use Rattle.pmd.specs.PmdRx.Receive.{Receive}
+use Rattle.pmd.specs.PmdTx.Sending.{Sender}
 use Rattle.pmd.specs.Starting.{IsPrepared, IsReceiveReady}
 use Rattle.start_laws.specs.Ending.{Each, IsPlain, NamesDriven}
 use Rattle.start_laws.specs.On.{AreOn}
 use Rattle.start_laws.specs.Stopping.{AreMadeOf}
 use Rattle.start_laws.proofs.AllAre.{AllAre, all_both, all_polled}
 use Rattle.start_laws.proofs.StopCalls.{adds_made, none_made, then_made}
-use Rattle.begin_laws.proofs.DrivenAccesses.{IsDriven, polled_driven, reads_driven, words_are_writes, writes_driven}
+use Rattle.start_laws.proofs.DrivenAccesses.{IsDriven, polled_driven, reads_driven, words_are_writes, writes_driven}
 
 -- what is made behind the first access to see both sides off
 abbrev off : List Access

@@ -1,6 +1,6 @@
 -- A driver that runs runs on, over calls as they are told, and harmless ones between.
 use Rattle.std.proofs.Common.{◌≡◌, ℕ, inl, inr, Bool, true, false, List, [], ◌∷◌, Option, Some, Ok, if◌then◌else◌, refl, sym, ◌∙◌, subst}
-use Rattle.dma_arena.specs.Numbers.{Numbers, is_own}
+use Rattle.nic_device.specs.DmaArena.Numbers.{Numbers, is_own}
 use Rattle.device_lock.specs.Alone.{Blocks}
 use Rattle.device_lock.specs.declared.entry.Call.{Call}
 use Rattle.pmd.specs.Driver.{Driver, WhereUp}
@@ -8,8 +8,8 @@ use Rattle.pmd.specs.Running.{Running}
 use Rattle.pmd.specs.Started.{IsShut}
 use Rattle.pmd.specs.declared.driver.Rings.{Rings}
 use Rattle.pmd.specs.declared.driver.Rings.TheVariants.{Up, Down}
-use Rattle.pmd_base.specs.declared.fault.PmdFault.{PmdFault}
-use Rattle.pmd_base.specs.declared.fault.PmdFault.TheVariants.{BadSize}
+use Rattle.pmd.specs.PmdSeam.declared.fault.PmdFault.{PmdFault}
+use Rattle.pmd.specs.PmdSeam.declared.fault.PmdFault.TheVariants.{BadSize}
 use Rattle.pmd.specs.Apart.{DrivesRings, OwnsSame}
 use Rattle.pmd.specs.Halves.{Halves, halves_of}
 use Rattle.pmd.proofs.Both.{rings_still}

@@ -3,12 +3,12 @@ use Rattle.std.proofs.Common.{◌≡◌, false, List, [], ◌∷◌, ◌++◌, r
 use Rattle.device_lock.specs.Alone.{Blocks}
 use Rattle.device_lock.specs.Pass.{call_of}
 use Rattle.device_lock.specs.declared.entry.Call.{Call}
-use Rattle.pmd_base.proofs.Steps.{steps_both, steps_last}
+use Rattle.pmd.proofs.PmdSeam.Steps.{steps_both, steps_last}
 use Rattle.pmd.specs.Apart.{FindsFault, is_healthy}
 use Rattle.pmd.specs.Halves.{AllOwn, Doer, Halves, OthersStep, OwnCall, Receives, Sends, doers_other, is_neither, played_by}
 use Rattle.pmd.proofs.Calls.{both_own, others_own, others_played, own_length}
-use Rattle.pmd_tx.specs.Sending.{Elsewhere}
-use Rattle.healthy_laws.specs.Faults.{doers_of}
+use Rattle.pmd.specs.PmdTx.Sending.{Elsewhere}
+use Rattle.driver_laws.specs.Faults.{doers_of}
 
 -- a call whose reply no healthy queue gives is a half's
 sick_own : (d : Doer) (n : Call) → is_healthy d n ≡ false → is_neither d ≡ false

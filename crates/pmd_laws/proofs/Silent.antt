@@ -8,11 +8,11 @@ use Rattle.pmd.specs.Life.{IsStopped}
 use Rattle.pmd.specs.declared.driver.Rings.TheVariants.{Up}
 use Rattle.pmd.specs.declared.start.Rest.{Rest}
 use Rattle.pmd.specs.declared.start.Rest.TheVariants as rest
-use Rattle.pmd_base.specs.declared.fault.PmdFault.{PmdFault}
-use Rattle.pmd_halt.specs.Halted.{Halted}
-use Rattle.pmd_halt.specs.Stopping.{closed}
-use Rattle.pmd_queue.specs.Both.{IsSwitched}
-use Rattle.pmd_queue.specs.Named.{AtPort}
+use Rattle.pmd.specs.PmdSeam.declared.fault.PmdFault.{PmdFault}
+use Rattle.pmd.specs.Halted.{Halted}
+use Rattle.pmd.specs.Stopping.{closed}
+use Rattle.pmd.specs.PmdSeam.Both.{IsSwitched}
+use Rattle.pmd.specs.PmdSeam.Named.{AtPort}
 use Rattle.start_laws.specs.Ending.{IsAsking, IsEnding}
 use Rattle.start_laws.specs.Stopping.{Ends, EndsOnceOff}
 use Rattle.start_laws.proofs.Parts.{calls_joined}

@@ -1,20 +1,20 @@
 -- No start finds the device at fault as it fills its receive ring, nor before.
 use Rattle.std.proofs.Common.{◌≡◌, ℕ, inl, inr, ◌⊎◌, true, List, refl, sym, subst}
-use Rattle.dma_arena.specs.Numbers.{Numbers, is_free, is_own}
+use Rattle.nic_device.specs.DmaArena.Numbers.{Numbers, is_free, is_own}
 use Rattle.device_lock.specs.declared.alone.Watched.{Watched}
 use Rattle.device_lock.specs.declared.entry.Call.{Call}
 use Rattle.device_lock.specs.declared.entry.Entry.{Entry}
-use Rattle.pmd_base.specs.declared.fault.PmdFault.TheVariants.{DeviceFault}
-use Rattle.pmd_queue.specs.Named.{AtPort}
-use Rattle.pmd_rx.proofs.Earlier.{free_before}
+use Rattle.pmd.specs.PmdSeam.declared.fault.PmdFault.TheVariants.{DeviceFault}
+use Rattle.pmd.specs.PmdSeam.Named.{AtPort}
+use Rattle.pmd.proofs.PmdRx.Earlier.{free_before}
 use Rattle.pmd.specs.Apart.{FindsFault, MayLend}
 use Rattle.pmd.specs.Halves.{Halves, Receives}
 use Rattle.pmd.proofs.Apart.{receiving_apart}
 use Rattle.pmd.proofs.Finding.{wrong_by}
 use Rattle.start_laws.proofs.Parts.{Parts, parts}
-use Rattle.begin_laws.specs.Filling.{FaultsEarly, FaultsFilling}
-use Rattle.begin_laws.proofs.Filling.{faults_are_early_or_filling, no_fault_is_early}
-use Rattle.healthy_laws.specs.Before.{OnlyPassLends}
+use Rattle.start_laws.specs.Filling.{FaultsEarly, FaultsFilling}
+use Rattle.start_laws.proofs.Filling.{faults_are_early_or_filling, no_fault_is_early}
+use Rattle.driver_laws.specs.Before.{OnlyPassLends}
 use Rattle.pmd_laws.specs.Faultless.{BeginsApart, IsQuietAndFresh, NoFillingFindsFault, NoStartFindsFault}
 use Rattle.pmd_laws.proofs.Faultless.{found_on, last_before}
 use Rattle.pmd_laws.proofs.Lends.{may}

@@ -3,13 +3,13 @@ use Rattle.std.proofs.Common.{◌≡◌, ℕ, inl, inr, true, false, List, [], �
 use Rattle.std.specs.Prelude.{IsFalse, ◌==◌}
 use Rattle.std.proofs.lemmas.Bool.{eq-eqb, eqb-true}
 use Rattle.std.proofs.lemmas.List.{append_assoc}
-use Rattle.dma_arena.specs.Block.{Block}
-use Rattle.dma_arena.specs.Memory.{has_block}
-use Rattle.dma_arena.specs.Numbers.{Numbers, is_own}
-use Rattle.dma_arena.proofs.Arenas.{is_own-of_free}
-use Rattle.reg_table.specs.declared.rows.RowId.TheVariants.{Rxdctl}
-use Rattle.register_file.specs.declared.dir.Dir.{Dir}
-use Rattle.register_file.specs.declared.dir.Dir.TheVariants.{Rx, Tx}
+use Rattle.nic_device.specs.DmaArena.Block.{Block}
+use Rattle.nic_device.specs.DmaArena.Memory.{has_block}
+use Rattle.nic_device.specs.DmaArena.Numbers.{Numbers, is_own}
+use Rattle.nic_device.proofs.DmaArena.Arenas.{is_own-of_free}
+use Rattle.nic_device.specs.RegTable.declared.rows.RowId.TheVariants.{Rxdctl}
+use Rattle.nic_device.specs.DmaRing.declared.dir.Dir.{Dir}
+use Rattle.nic_device.specs.DmaRing.declared.dir.Dir.TheVariants.{Rx, Tx}
 use Rattle.nic_device.specs.State.{State}
 use Rattle.nic_device.specs.declared.event.Event.{Event}
 use Rattle.nic_device.specs.declared.event.Event.TheVariants as event
@@ -20,21 +20,21 @@ use Rattle.device_lock.specs.Pass.{call_of}
 use Rattle.device_lock.specs.declared.alone.Watched.{Watched}
 use Rattle.device_lock.specs.declared.entry.Call.{Call}
 use Rattle.device_lock.specs.declared.entry.Entry.{Entry}
-use Rattle.pmd_base.specs.Events.{is_step}
-use Rattle.pmd_base.specs.Made.{Adds}
-use Rattle.pmd_base.specs.declared.fault.PmdFault.TheVariants.{DeviceFault}
-use Rattle.pmd_queue.specs.Both.{both_quiet}
-use Rattle.pmd_queue.specs.Made.{Access, Sees, Sets, IsMade, IsOtherwise, StopsBy}
-use Rattle.pmd_queue.specs.Named.{AtPort}
-use Rattle.pmd_queue.specs.Sides.{ring_words}
-use Rattle.pmd_rx.proofs.Earlier.{free_before}
+use Rattle.pmd.specs.PmdSeam.Events.{is_step}
+use Rattle.pmd.specs.PmdSeam.Made.{Adds}
+use Rattle.pmd.specs.PmdSeam.declared.fault.PmdFault.TheVariants.{DeviceFault}
+use Rattle.pmd.specs.PmdSeam.Both.{both_quiet}
+use Rattle.pmd.specs.PmdSeam.QueueMade.{Access, Sees, Sets, IsMade, IsOtherwise, StopsBy}
+use Rattle.pmd.specs.PmdSeam.Named.{AtPort}
+use Rattle.pmd.specs.PmdSeam.Sides.{ring_words}
+use Rattle.pmd.proofs.PmdRx.Earlier.{free_before}
 use Rattle.pmd.specs.Starting.{PreparingFails}
 use Rattle.start_laws.specs.Along.{BeforeLast}
 use Rattle.start_laws.proofs.AllAre.{AllAre, all_before}
 use Rattle.start_laws.proofs.StopCalls.{some_made, then_made}
-use Rattle.begin_laws.specs.Faultless.{BeforeNext, NoneIsLent}
-use Rattle.begin_laws.specs.Filling.{FaultsEarly, LendsFresh}
-use Rattle.begin_laws.proofs.DrivenAccesses.{IsDriven, words_are_writes, writes_driven}
+use Rattle.start_laws.specs.Faultless.{BeforeNext, NoneIsLent}
+use Rattle.start_laws.specs.Filling.{FaultsEarly, LendsFresh}
+use Rattle.start_laws.proofs.DrivenAccesses.{IsDriven, words_are_writes, writes_driven}
 use Rattle.pmd_laws.specs.Faultless.{BeginsApart, IsQuietAndFresh}
 use Rattle.pmd_laws.proofs.Begun.{drawn_apart}
 use Rattle.pmd_laws.proofs.LentSince.{RisesToLast, unlent_before}

@@ -2,12 +2,12 @@
 -- are off.
 use Rattle.std.proofs.Common.{inl, inr, false, refl, sym, subst, List}
 use Rattle.device_lock.specs.declared.entry.Call.{Call}
-use Rattle.pmd_base.specs.declared.fault.PmdFault.{PmdFault}
-use Rattle.pmd_halt.specs.Halted.{Halted}
-use Rattle.pmd_halt.specs.Stopping.{ComesHome, IsLeft, IsLeftAmid, bringing, brought, closed}
-use Rattle.pmd_halt.specs.declared.home.Home.{Home}
-use Rattle.pmd_queue.specs.Both.{IsSwitched}
-use Rattle.pmd_queue.specs.Named.{AtPort}
+use Rattle.pmd.specs.PmdSeam.declared.fault.PmdFault.{PmdFault}
+use Rattle.pmd.specs.Halted.{Halted}
+use Rattle.pmd.specs.Stopping.{ComesHome, IsLeft, IsLeftAmid, bringing, brought, closed}
+use Rattle.pmd.specs.declared.home.Home.{Home}
+use Rattle.pmd.specs.PmdSeam.Both.{IsSwitched}
+use Rattle.pmd.specs.PmdSeam.Named.{AtPort}
 use Rattle.start_laws.specs.Ending.{IsAsking, IsEnding}
 use Rattle.start_laws.specs.Stopping.{Asks, Ends, TakesOnceOff}
 use Rattle.start_laws.proofs.Stopping.{bringing_ends, switched_off_asks, unswitched_asks}

@@ -2,24 +2,24 @@
 use Rattle.std.proofs.Common.{◌≡◌, ◌≢◌, ℕ, inl, inr, List, [], ◌++◌, drop, sym, ap, ◌∙◌, subst}
 use Rattle.std.specs.Prelude.{IsTrue}
 use Rattle.std.proofs.lemmas.List.{append-nil}
-use Rattle.dma_arena.specs.Numbers.{Numbers}
+use Rattle.nic_device.specs.DmaArena.Numbers.{Numbers}
 use Rattle.nic_device.specs.State.{State, new_state}
 use Rattle.device_lock.specs.Alone.{lent_by}
 use Rattle.device_lock.specs.History.{calls_of, leads_to}
 use Rattle.device_lock.specs.declared.alone.Watched.{Watched}
 use Rattle.device_lock.specs.declared.entry.Call.{Call}
 use Rattle.device_lock.specs.declared.entry.Entry.{Entry}
-use Rattle.history_laws.proofs.Beginning.{lent_before}
+use Rattle.start_laws.proofs.HistoryLaws.Beginning.{lent_before}
 use Rattle.pmd.specs.Running.{Running}
-use Rattle.pmd_queue.specs.Named.{AtPort}
-use Rattle.receive_laws.proofs.Delivering.{leads-append}
-use Rattle.receive_laws.proofs.Each.{each_map}
-use Rattle.receive_laws.specs.Delivered.{pieces_in}
-use Rattle.receive_laws.specs.Pieces.{Piece}
-use Rattle.transmit_laws.specs.Agreeing.{bytes_of, kept_in}
-use Rattle.transmit_laws.specs.Laws.{IsPrefixOf}
-use Rattle.transmit_laws.specs.Sent.{sent_in, sent_since}
-use Rattle.transmit_laws.specs.Up.{IsUp}
+use Rattle.pmd.specs.PmdSeam.Named.{AtPort}
+use Rattle.start_laws.proofs.ReceiveLaws.Delivering.{leads-append}
+use Rattle.start_laws.proofs.ReceiveLaws.Each.{each_map}
+use Rattle.start_laws.specs.ReceiveLaws.Delivered.{pieces_in}
+use Rattle.start_laws.specs.ReceiveLaws.Pieces.{Piece}
+use Rattle.start_laws.specs.TransmitLaws.Agreeing.{bytes_of, kept_in}
+use Rattle.start_laws.specs.TransmitLaws.Laws.{IsPrefixOf}
+use Rattle.start_laws.specs.TransmitLaws.Sent.{sent_in, sent_since}
+use Rattle.start_laws.specs.TransmitLaws.Up.{IsUp}
 use Rattle.start_laws.specs.Along.{AtCalls, AtEntries}
 use Rattle.start_laws.specs.Ending.{IsAsking}
 use Rattle.start_laws.specs.Points.{HasGround}

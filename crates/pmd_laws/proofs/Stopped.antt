@@ -1,7 +1,7 @@
 -- What a driver handed out, over its stop and on.
 use Rattle.std.proofs.Common.{◌≢◌, ℕ, inl, List, [], ◌∷◌, ◌++◌, refl, sym, ◌∙◌, subst}
 use Rattle.std.proofs.lemmas.List.{append-nil}
-use Rattle.dma_arena.specs.Numbers.{Numbers}
+use Rattle.nic_device.specs.DmaArena.Numbers.{Numbers}
 use Rattle.nic_device.specs.State.{new_state}
 use Rattle.device_lock.specs.Alone.{lent_by}
 use Rattle.device_lock.specs.History.{leads_to}
@@ -9,10 +9,10 @@ use Rattle.device_lock.specs.declared.alone.Watched.{Watched}
 use Rattle.device_lock.specs.declared.entry.Call.{Call}
 use Rattle.device_lock.specs.declared.entry.Entry.{Entry}
 use Rattle.pmd.specs.Running.{Running}
-use Rattle.pmd_queue.specs.Named.{AtPort}
-use Rattle.pmd_rx.specs.Receive.{Receive}
-use Rattle.pmd_tx.specs.Sending.{Sender}
-use Rattle.receive_laws.proofs.Delivering.{leads-append}
+use Rattle.pmd.specs.PmdSeam.Named.{AtPort}
+use Rattle.pmd.specs.PmdRx.Receive.{Receive}
+use Rattle.pmd.specs.PmdTx.Sending.{Sender}
+use Rattle.start_laws.proofs.ReceiveLaws.Delivering.{leads-append}
 use Rattle.start_laws.specs.Along.{AtEntries, IsAlong}
 use Rattle.start_laws.specs.Ending.{IsEnding, IsPlain, NamesDriven}
 use Rattle.start_laws.specs.Points.{HasGround}

@@ -1,6 +1,6 @@
 -- A driver's life as its calls tell it is a life.
 use Rattle.std.proofs.Common.{◌≡◌, ℕ, List, [], sym, ap, ◌∙◌, subst}
-use Rattle.dma_arena.specs.Numbers.{Numbers}
+use Rattle.nic_device.specs.DmaArena.Numbers.{Numbers}
 use Rattle.nic_device.specs.State.{new_state}
 use Rattle.device_lock.specs.History.{calls_of}
 use Rattle.device_lock.specs.declared.alone.Watched.{Watched}
@@ -11,12 +11,12 @@ use Rattle.pmd.specs.Running.{Running}
 use Rattle.pmd.specs.Started.{is_size}
 use Rattle.pmd.specs.declared.driver.Rings.{Rings}
 use Rattle.pmd.specs.declared.driver.Rings.TheVariants.{Up}
-use Rattle.pmd_queue.specs.Named.{AtPort}
-use Rattle.receive_laws.specs.Delivered as receive
-use Rattle.receive_laws.specs.Delivered.{delivered}
-use Rattle.transmit_laws.specs.Agreeing.{bytes_of}
-use Rattle.transmit_laws.specs.Laws as transmit
-use Rattle.transmit_laws.specs.Sent.{sent_since}
+use Rattle.pmd.specs.PmdSeam.Named.{AtPort}
+use Rattle.start_laws.specs.ReceiveLaws.Delivered as receive
+use Rattle.start_laws.specs.ReceiveLaws.Delivered.{delivered}
+use Rattle.start_laws.specs.TransmitLaws.Agreeing.{bytes_of}
+use Rattle.start_laws.specs.TransmitLaws.Laws as transmit
+use Rattle.start_laws.specs.TransmitLaws.Sent.{sent_since}
 use Rattle.pmd.specs.Halves.{Halves, halves_of}
 use Rattle.driver_laws.specs.Beside.{Leads}
 use Rattle.pmd_laws.specs.Life.{IsLife}

@@ -1,7 +1,7 @@
 -- A driver whose blocks nobody else lends: no call of its finds the device at fault, and nor does its start.
 use Rattle.std.specs.Prelude.{ℕ, true, IsTrue, IsFalse, List, ◌≡◌, ◌≢◌, ◌++◌, All}
-use Rattle.dma_arena.specs.Memory.{has_block}
-use Rattle.dma_arena.specs.Numbers.{Numbers, is_own}
+use Rattle.nic_device.specs.DmaArena.Memory.{has_block}
+use Rattle.nic_device.specs.DmaArena.Numbers.{Numbers, is_own}
 use Rattle.nic_device.specs.State.{State}
 use Rattle.device_lock.specs.Alone.{Blocks}
 use Rattle.device_lock.specs.History.{calls_of}
@@ -13,15 +13,15 @@ use Rattle.pmd.specs.Driver.{WhereUp}
 use Rattle.pmd.specs.Halves.{halves_of}
 use Rattle.pmd.specs.Started.{StopsStarting, is_size}
 use Rattle.pmd.specs.declared.start.StartRefused.{StartRefused}
-use Rattle.pmd_base.specs.declared.fault.PmdFault.TheVariants.{DeviceFault}
-use Rattle.pmd_queue.specs.Named.{AtPort}
-use Rattle.receive_laws.specs.Short.{IsShortFor}
+use Rattle.pmd.specs.PmdSeam.declared.fault.PmdFault.TheVariants.{DeviceFault}
+use Rattle.pmd.specs.PmdSeam.Named.{AtPort}
+use Rattle.start_laws.specs.ReceiveLaws.Short.{IsShortFor}
 use Rattle.start_laws.specs.Along.{BeforeLast, IsAlong}
 use Rattle.start_laws.specs.Quieting.{IsQuiet}
 use Rattle.start_laws.specs.Start.{BeginsWell}
-use Rattle.begin_laws.specs.Faultless.{BeforeNext}
-use Rattle.begin_laws.specs.Filling.{FaultsFilling}
-use Rattle.healthy_laws.specs.Before.{OnlyPassLends}
+use Rattle.start_laws.specs.Faultless.{BeforeNext}
+use Rattle.start_laws.specs.Filling.{FaultsFilling}
+use Rattle.driver_laws.specs.Before.{OnlyPassLends}
 use Rattle.pmd_laws.specs.Told.{IsTold, Moment, last}
 
 -- none of these blocks is lent

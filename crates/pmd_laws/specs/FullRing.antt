@@ -1,14 +1,14 @@
 -- How many packets are outstanding where a driver's ring is told to be full.
 use Rattle.std.specs.Prelude.{ℕ, ◌≡◌, ◌+◌, List, Ok, length}
-use Rattle.dma_arena.specs.Numbers.{Numbers}
+use Rattle.nic_device.specs.DmaArena.Numbers.{Numbers}
 use Rattle.device_lock.specs.declared.entry.Call.{Call}
 use Rattle.pmd.specs.Driver.{WhereUp}
 use Rattle.pmd.specs.declared.driver.Rings.{Rings}
 use Rattle.pmd.specs.declared.driver.Rings.TheVariants.{Up, Down}
-use Rattle.pmd_base.specs.declared.packet.Packet.{Packet}
-use Rattle.pmd_queue.specs.Named.{AtPort}
-use Rattle.pmd_tx.specs.Sends.{IsFullWhereTold}
-use Rattle.pmd_tx.specs.declared.answer.TxAnswer.TheVariants.{RingFull}
+use Rattle.pmd.specs.PmdSeam.declared.packet.Packet.{Packet}
+use Rattle.pmd.specs.PmdSeam.Named.{AtPort}
+use Rattle.pmd.specs.PmdTx.Sends.{IsFullWhereTold}
+use Rattle.pmd.specs.PmdTx.declared.answer.TxAnswer.TheVariants.{RingFull}
 use Rattle.pmd_laws.specs.Told.{IsTold, Moment, last}
 
 -- a call of `tx` answered that the ring is full, as its clause `full` tells

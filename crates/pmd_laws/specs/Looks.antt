@@ -1,16 +1,16 @@
 -- A call of a driver that looks once and finds no packet.
 use Rattle.std.specs.Prelude.{ℕ, ◌≡◌, List, [], ◌∷◌, ◌++◌}
-use Rattle.dma_arena.specs.Numbers.{Numbers}
+use Rattle.nic_device.specs.DmaArena.Numbers.{Numbers}
 use Rattle.nic_device.specs.State.{new_state}
 use Rattle.device_lock.specs.History.{call_in, calls_of}
 use Rattle.device_lock.specs.declared.alone.Watched.{Watched}
 use Rattle.device_lock.specs.declared.entry.Call.{Call}
 use Rattle.device_lock.specs.declared.entry.Entry.{Entry}
 use Rattle.pmd.specs.Running.{Running}
-use Rattle.pmd_queue.specs.Named.{AtPort}
-use Rattle.pmd_rx.specs.Plays.{LooksOnce}
-use Rattle.pmd_rx.specs.Receive.{Receive}
-use Rattle.receive_laws.specs.Delivered.{delivered}
+use Rattle.pmd.specs.PmdSeam.Named.{AtPort}
+use Rattle.pmd.specs.PmdRx.Plays.{LooksOnce}
+use Rattle.pmd.specs.PmdRx.Receive.{Receive}
+use Rattle.start_laws.specs.ReceiveLaws.Delivered.{delivered}
 use Rattle.start_laws.specs.Along.{IsAlong}
 use Rattle.start_laws.specs.Start.{BeginsWell}
 use Rattle.pmd.specs.Halves.{Halves}

@@ -1,9 +1,9 @@
 -- Where the blocks of a driver are at the device: lent there are those that it has out with its halves, and of its
 -- arena's no others.
 use Rattle.std.specs.Prelude.{ℕ, ◌≡◌, Bool, false, IsTrue, List, ◌++◌, if◌then◌else◌}
-use Rattle.dma_arena.specs.Memory.{Memory, has_block}
-use Rattle.dma_arena.specs.Numbers.{Numbers, is_free, is_own}
-use Rattle.dma_arena.specs.Whereabouts.{places_of, times_in_hand}
+use Rattle.nic_device.specs.DmaArena.Memory.{Memory, has_block}
+use Rattle.nic_device.specs.DmaArena.Numbers.{Numbers, is_free, is_own}
+use Rattle.nic_device.specs.DmaArena.Whereabouts.{places_of, times_in_hand}
 use Rattle.nic_device.specs.State.{new_state}
 use Rattle.device_lock.specs.History.{leads_to}
 use Rattle.device_lock.specs.declared.alone.Watched.{Watched}
@@ -14,12 +14,12 @@ use Rattle.pmd.specs.Driver.{arena_of, halted_of}
 use Rattle.pmd.specs.Halves.{halves_of}
 use Rattle.pmd.specs.declared.driver.Rings.{Rings}
 use Rattle.pmd.specs.declared.driver.Rings.TheVariants.{Up, Down}
-use Rattle.pmd_halt.specs.Halted.{Halted}
-use Rattle.pmd_queue.specs.Named.{AtPort}
-use Rattle.pmd_rx.specs.Keeping.{block_in}
+use Rattle.pmd.specs.Halted.{Halted}
+use Rattle.pmd.specs.PmdSeam.Named.{AtPort}
+use Rattle.pmd.specs.PmdRx.Keeping.{block_in}
 use Rattle.start_laws.specs.Along.{BeforeLast}
-use Rattle.healthy_laws.specs.Before.{OnlyPassLends}
-use Rattle.healthy_laws.specs.Healthy.{lent_by}
+use Rattle.driver_laws.specs.Before.{OnlyPassLends}
+use Rattle.driver_laws.specs.Healthy.{lent_by}
 use Rattle.pmd_laws.specs.Faultless.{NoneLent}
 use Rattle.pmd_laws.specs.Told.{IsToldOf, Moment, last}
 

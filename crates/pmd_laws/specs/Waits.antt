@@ -1,6 +1,6 @@
 -- A call of a driver that ends with a packet outstanding.
 use Rattle.std.specs.Prelude.{ℕ, ◌≡◌, ◌≢◌, List, [], ◌++◌}
-use Rattle.dma_arena.specs.Numbers.{Numbers}
+use Rattle.nic_device.specs.DmaArena.Numbers.{Numbers}
 use Rattle.nic_device.specs.State.{new_state}
 use Rattle.device_lock.specs.History.{calls_of}
 use Rattle.device_lock.specs.declared.alone.Watched.{Watched}
@@ -8,12 +8,12 @@ use Rattle.device_lock.specs.declared.entry.Call.{Call}
 use Rattle.device_lock.specs.declared.entry.Entry.{Entry}
 use Rattle.pmd.specs.Driver.{WhereUp, accepted_of}
 use Rattle.pmd.specs.Running.{Running}
-use Rattle.pmd_queue.specs.Named.{AtPort}
-use Rattle.pmd_tx.specs.Plays.{LooksLast}
-use Rattle.pmd_tx.specs.Sending.{Sender}
-use Rattle.transmit_laws.specs.Agreeing.{bytes_of}
+use Rattle.pmd.specs.PmdSeam.Named.{AtPort}
+use Rattle.pmd.specs.PmdTx.Plays.{LooksLast}
+use Rattle.pmd.specs.PmdTx.Sending.{Sender}
+use Rattle.start_laws.specs.TransmitLaws.Agreeing.{bytes_of}
 use Rattle.driver_laws.specs.Beside.{AddsHarmless}
-use Rattle.transmit_laws.specs.Sent.{sent_since}
+use Rattle.start_laws.specs.TransmitLaws.Sent.{sent_since}
 use Rattle.start_laws.specs.Along.{IsAlong}
 use Rattle.start_laws.specs.Start.{BeginsWell}
 use Rattle.pmd.specs.Halves.{Halves}

@@ -110,7 +110,7 @@ pub fn driver_in_order()
     ensures idle { told.IdleIsAllSent }
 {}
 
-/// Over such a history up to where a driver that lived was to stop, as `worker_runs::run_worker` says of its driver:
+/// Over such a history up to where a driver that lived was to stop, as `workers::run_worker` says of its driver:
 /// what is left as handed out is a prefix of what was delivered, and what was sent a prefix of what is left as
 /// accepted. So it is also over a history that goes on to any place amid its stop, or to where this ended, home or not.
 pub fn what_is_left_is_in_order()
@@ -119,7 +119,7 @@ pub fn what_is_left_is_in_order()
     ensures sent { SentOverStop }
 {}
 
-/// Over such a history, where a driver's start was refused, as `worker_runs::run_worker` says of its driver where it
+/// Over such a history, where a driver's start was refused, as `workers::run_worker` says of its driver where it
 /// never lived: nothing is sent on the queue from the start's first event on, just before which port and queue name the
 /// queue and both sides are off and not wanted on, to any place amid the start and the stop of what it left, and to
 /// where these ended. So what is left as handed out, and what was sent since, are in order too.
@@ -153,7 +153,7 @@ pub fn stops_take_blocks_once_off()
 
 /// Where such a life is followed by calls of a stop that take blocks back only once both sides were seen off, nothing
 /// is delivered or sent on the queue any more once these were, while the calls of the driver's pass are those of a
-/// stop. So it is of a driver that lived and was stopped, as `worker_runs::run_worker` says of its driver: from where
+/// stop. So it is of a driver that lived and was stopped, as `workers::run_worker` says of its driver: from where
 /// its stop had switched both sides off, on to any place amid it, and to where it ended, home or not.
 pub fn switched_off_queue_is_silent()
     ensures once { SilentOnceOff }

@@ -1,11 +1,11 @@
 -- A ring that is closed: where its blocks are then.
 use Rattle.std.proofs.Common.{◌≡◌, ℕ, true, false, List, [], ◌∷◌, ◌++◌, Option, Some, None, refl, sym, ap, ◌∙◌, arith}
 use Rattle.std.specs.Prelude.{IfSome}
-use Rattle.dma_arena.specs.Numbers.{Numbers, is_own, is_free}
-use Rattle.dma_arena.specs.Whereabouts.{times_in_hand}
-use Rattle.pmd_base.specs.Home.{AreOut}
-use Rattle.pmd_base.specs.declared.packet.Packet.{Packet}
-use Rattle.pmd_base.proofs.Outside.{times-append, times-cons, out_fewer, out_first, out_given}
+use Rattle.nic_device.specs.DmaArena.Numbers.{Numbers, is_own, is_free}
+use Rattle.nic_device.specs.DmaArena.Whereabouts.{times_in_hand}
+use Rattle.pmd_seam.specs.Home.{AreOut}
+use Rattle.pmd_seam.specs.declared.packet.Packet.{Packet}
+use Rattle.pmd_seam.proofs.Outside.{times-append, times-cons, out_fewer, out_first, out_given}
 use Rattle.pmd_rx.specs.Keeping.{fresh_block, lent_at, lent_of, out_at, block_in, with_home}
 use Rattle.pmd_rx.specs.Receive.{Receive, Layout, Stage, held_by}
 use Rattle.pmd_rx.specs.Shown.{stage_of, HoldsRight}

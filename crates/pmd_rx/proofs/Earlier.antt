@@ -1,10 +1,10 @@
 -- What a ring that is filled lends was free before it was begun.
 use Rattle.std.proofs.Common.{◌≡◌, ◌≢◌, ℕ, ◌⊎◌, inl, inr, true, false, List, [], ◌∷◌, sym, subst}
 use Rattle.std.proofs.lemmas.Bool.{cases_eq}
-use Rattle.dma_arena.specs.Numbers.{Numbers, is_free, with_free}
-use Rattle.dma_arena.proofs.Arenas.{is_own-of_free, is_free-with_free_other}
-use Rattle.device_lock.specs.declared.entry.Call.{Call}
-use Rattle.pmd_base.specs.Home.{IsDrawn}
+use Rattle.nic_device.specs.DmaArena.Numbers.{Numbers, is_free, with_free}
+use Rattle.nic_device.proofs.DmaArena.Arenas.{is_own-of_free, is_free-with_free_other}
+use Rattle.pmd_seam.specs.DeviceLock.declared.entry.Call.{Call}
+use Rattle.pmd_seam.specs.Home.{IsDrawn}
 use Rattle.pmd_rx.specs.Filling.{PostsSome}
 use Rattle.pmd_rx.specs.Plays.{PlaysFrom}
 use Rattle.pmd_rx.specs.Receive.{Receive}

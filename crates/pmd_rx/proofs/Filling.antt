@@ -1,12 +1,12 @@
 -- A ring that is filled, block by block.
 use Rattle.std.proofs.Common.{◌≡◌, ℕ, ◌+◌, ◌<◌, true, false, List, [], ◌∷◌, ◌++◌, length, refl, sym, ap, subst, ◌∙◌, append_assoc, arith}
 use Rattle.std.proofs.lemmas.List.{append-nil, length_push}
-use Rattle.dma_arena.specs.Numbers.{Numbers, free_count, is_free, with_free}
-use Rattle.dma_arena.proofs.Arenas.{free_count_taken}
-use Rattle.device_lock.specs.declared.entry.Call.{Call}
-use Rattle.pmd_base.specs.Home.{IsDrawn}
-use Rattle.pmd_base.specs.declared.fault.PmdFault.{PmdFault}
-use Rattle.pmd_base.specs.declared.fault.PmdFault.TheVariants as fault
+use Rattle.nic_device.specs.DmaArena.Numbers.{Numbers, free_count, is_free, with_free}
+use Rattle.nic_device.proofs.DmaArena.Arenas.{free_count_taken}
+use Rattle.pmd_seam.specs.DeviceLock.declared.entry.Call.{Call}
+use Rattle.pmd_seam.specs.Home.{IsDrawn}
+use Rattle.pmd_seam.specs.declared.fault.PmdFault.{PmdFault}
+use Rattle.pmd_seam.specs.declared.fault.PmdFault.TheVariants as fault
 use Rattle.pmd_rx.specs.Filling.{PostsSome, StopsFilling}
 use Rattle.pmd_rx.specs.Keeping.{IsRunning, Posts}
 use Rattle.pmd_rx.specs.Receive.{Receive, Looks, extended}

@@ -1,12 +1,12 @@
 -- Blocks that are taken from the driver's arena.
 use Rattle.std.proofs.Common.{◌≡◌, ◌≢◌, ℕ, ◌+◌, ◌<◌, true, false, List, [], ◌∷◌, length, get_or, refl, sym, subst, ◌∙◌, arith}
-use Rattle.dma_arena.specs.Block.{Block}
-use Rattle.dma_arena.specs.Numbers.{Numbers, is_own, is_free, with_free}
-use Rattle.dma_arena.proofs.Arenas.{is_own-of_free, is_own-with_free, is_free-with_free_same}
-use Rattle.dma_arena.proofs.Cuts.{given_back}
-use Rattle.dma_arena.specs.Whereabouts.{times_in_hand}
-use Rattle.pmd_base.specs.Home.{AreOut}
-use Rattle.pmd_base.proofs.Outside.{times_at, times_first, out_free}
+use Rattle.nic_device.specs.DmaArena.Block.{Block}
+use Rattle.nic_device.specs.DmaArena.Numbers.{Numbers, is_own, is_free, with_free}
+use Rattle.nic_device.proofs.DmaArena.Arenas.{is_own-of_free, is_own-with_free, is_free-with_free_same}
+use Rattle.nic_device.proofs.DmaArena.Cuts.{given_back}
+use Rattle.nic_device.specs.DmaArena.Whereabouts.{times_in_hand}
+use Rattle.pmd_seam.specs.Home.{AreOut}
+use Rattle.pmd_seam.proofs.Outside.{times_at, times_first, out_free}
 use Rattle.pmd_rx.specs.Keeping.{blocks_out}
 use Rattle.pmd_rx.specs.Receive.{Receive, Stage, Looks, Sees, Holding, Lent, Named, MayLend, lent_one, held_by}
 use Rattle.pmd_rx.specs.Shown.{CanLend, HasLent}

@@ -1,10 +1,10 @@
 -- What each step keeps: where the blocks are, the ring, and that the driver runs.
 use Rattle.std.proofs.Common.{◌≡◌, ℕ, ◌+◌, ◌<◌, Bool, true, false, List, [], ◌∷◌, ◌++◌, length, get_or, drop, refl, sym, ap, subst, ◌∙◌, arith, cond}
-use Rattle.dma_arena.specs.Block.{Block}
-use Rattle.dma_arena.specs.Numbers.{Numbers}
-use Rattle.dma_arena.specs.Whereabouts.{times_in_hand}
-use Rattle.pmd_base.proofs.Exchanging.{exchanges_both}
-use Rattle.pmd_base.proofs.Outside.{times-append, times-cons}
+use Rattle.nic_device.specs.DmaArena.Block.{Block}
+use Rattle.nic_device.specs.DmaArena.Numbers.{Numbers}
+use Rattle.nic_device.specs.DmaArena.Whereabouts.{times_in_hand}
+use Rattle.pmd_seam.proofs.Exchanging.{exchanges_both}
+use Rattle.pmd_seam.proofs.Outside.{times-append, times-cons}
 use Rattle.pmd_rx.specs.Keeping.{Keeps, KeepsAt, fresh_block, block_in, lent_at, out_at, blocks_out}
 use Rattle.pmd_rx.specs.Receive.{Receive, Layout, Stage, Looks, Sees, Holding, Lent, Named, block_at, looked, took, held_by}
 use Rattle.pmd_rx.specs.Shown.{CanLook, HasSeen}

@@ -1,3 +1,4 @@
+pub use Rattle.pmd_seam.proofs as PmdSeam
 pub mod Closing
 pub mod Earlier
 pub mod Failing

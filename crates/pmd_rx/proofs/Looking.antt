@@ -3,9 +3,9 @@ use Rattle.std.proofs.Common.{◌≡◌, ℕ, ◌<◌, List, length, Some, None,
 use Rattle.std.specs.Prelude.{IsFalse}
 use Rattle.nic_device.specs.declared.event.Event.TheVariants as event
 use Rattle.nic_device.specs.declared.event.Reply.TheVariants as reply
-use Rattle.dma_arena.specs.Numbers.{Numbers}
-use Rattle.device_lock.specs.declared.entry.Call.{Call}
-use Rattle.pmd_base.specs.Accesses.{IsPeeked}
+use Rattle.nic_device.specs.DmaArena.Numbers.{Numbers}
+use Rattle.pmd_seam.specs.DeviceLock.declared.entry.Call.{Call}
+use Rattle.pmd_seam.specs.Accesses.{IsPeeked}
 use Rattle.pmd_rx.specs.Plays.{PlaysFrom}
 use Rattle.pmd_rx.specs.Receive.{Receive, Stage, Looks, Sees, Holding, Lent, Named, IsOwn, looked, descriptor_at}
 use Rattle.pmd_rx.specs.Shown.{CanLook}

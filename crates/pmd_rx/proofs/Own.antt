@@ -1,18 +1,18 @@
 -- Taking a packet's block, and posting a fresh one.
 use Rattle.std.proofs.Common.{◌≡◌, ℕ, ◌+◌, true, false, List, Option, Some, None, Result, Ok, Err, IfErr, OnOk, OnErr, refl, sym, subst, inl, inr}
-use Rattle.dma_arena.specs.Block.{Block}
-use Rattle.dma_arena.specs.Numbers.{Numbers, is_free}
+use Rattle.nic_device.specs.DmaArena.Block.{Block}
+use Rattle.nic_device.specs.DmaArena.Numbers.{Numbers, is_free}
 use Rattle.nic_device.specs.declared.event.Event.TheVariants as event
 use Rattle.nic_device.specs.declared.event.Reply.TheVariants as reply
-use Rattle.device_lock.specs.declared.entry.Call.{Call}
-use Rattle.pmd_base.specs.Accesses.{IsTaken, IsLent, IsPoked}
-use Rattle.pmd_base.specs.declared.fault.PmdFault.{PmdFault}
-use Rattle.pmd_base.specs.declared.fault.PmdFault.TheVariants as fault
+use Rattle.pmd_seam.specs.DeviceLock.declared.entry.Call.{Call}
+use Rattle.pmd_seam.specs.Accesses.{IsTaken, IsLent, IsPoked}
+use Rattle.pmd_seam.specs.declared.fault.PmdFault.{PmdFault}
+use Rattle.pmd_seam.specs.declared.fault.PmdFault.TheVariants as fault
 use Rattle.pmd_rx.specs.Plays.{PlaysFrom}
 use Rattle.pmd_rx.specs.Receive.{Receive, Layout, Stage, Looks, Sees, Holding, Lent, Named, TakesNext, LendsNext, NamesNext, MovesNext, MayLend, took, lent_one, named, moved, naming, fresh_of, slot_at, block_at, vacant, descriptor_at}
 use Rattle.pmd_rx.specs.Shown.{HasSeen, CanLend, HasLent, HasNamed, IsTailWritten, IsUnwritten}
 use Rattle.pmd_rx.specs.Wrong.{EndsWrong, IsFault}
-use Rattle.pmd_base.specs.declared.packet.Packet.{Packet}
+use Rattle.pmd_seam.specs.declared.packet.Packet.{Packet}
 use Rattle.pmd_rx.proofs.Failing.{wrong_here}
 use Rattle.pmd_rx.proofs.Playing.{plays_adds, plays_some}
 

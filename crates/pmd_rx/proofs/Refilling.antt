@@ -2,10 +2,10 @@
 use Rattle.std.specs.Prelude.{IsSome}
 use Rattle.std.proofs.Common.{◌≡◌, ℕ, ◌+◌, ◌<◌, true, false, [], ◌∷◌, length, Option, Some, None, Result, Ok, Err, IfOk, OnOk, OnErr, refl, sym, subst, arith}
 use Rattle.std.proofs.lemmas.List.{length_push}
-use Rattle.dma_arena.specs.Numbers.{Numbers, is_free, with_free}
-use Rattle.pmd_base.specs.declared.fault.PmdFault.{PmdFault}
-use Rattle.pmd_base.specs.declared.packet.Packet.{Packet}
-use Rattle.pmd_base.proofs.Outside.{times-append, times-cons}
+use Rattle.nic_device.specs.DmaArena.Numbers.{Numbers, is_free, with_free}
+use Rattle.pmd_seam.specs.declared.fault.PmdFault.{PmdFault}
+use Rattle.pmd_seam.specs.declared.packet.Packet.{Packet}
+use Rattle.pmd_seam.proofs.Outside.{times-append, times-cons}
 use Rattle.pmd_rx.specs.Keeping.{Keeps, KeepsAt, IsSameRing, block_in, out_at, handed_block}
 use Rattle.pmd_rx.specs.Receive.{Receive, Layout, Stage, Looks, Sees, Holding, Lent, Named, lent_one, named, moved, listed, held_by}
 use Rattle.pmd_rx.specs.Shown.{CanLend, HasLent, HasNamed}

@@ -1,7 +1,7 @@
 -- What the stages keep.
 use Rattle.std.proofs.Common.{◌≡◌, ℕ, ◌++◌, true, false, Result, Ok, Err, Option, IfOk, OnOk, refl, sym, subst, ◌∙◌}
-use Rattle.dma_arena.specs.Numbers.{Numbers, is_free, with_free}
-use Rattle.pmd_base.specs.declared.packet.Packet.{Packet}
+use Rattle.nic_device.specs.DmaArena.Numbers.{Numbers, is_free, with_free}
+use Rattle.pmd_seam.specs.declared.packet.Packet.{Packet}
 use Rattle.pmd_rx.specs.Receive.{Receive, Stage, Looks, Sees, Holding, Lent, Named, named, moved, lent_one, refilled, fresh_of, held_by, listed}
 use Rattle.pmd_rx.specs.Shown.{CanLend, HasLent, HasNamed}
 use Rattle.pmd_rx.proofs.Fresh.{lent_held}

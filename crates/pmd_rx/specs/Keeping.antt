@@ -1,10 +1,10 @@
 -- What the calls of the driver keep: its ring, the slots that are posted, and where each block is.
 use Rattle.std.specs.Prelude.{ℕ, ◌≡◌, ◌==◌, ◌+◌, ◌<◌, Bool, true, false, List, [], ◌∷◌, ◌++◌, length, Option, Some, None, IsSome, ⊤, Result, Ok, Err}
 use Rattle.std.specs.List.{list_any}
-use Rattle.dma_arena.specs.Numbers.{Numbers, is_free, with_free}
-use Rattle.pmd_base.specs.Home.{Exchanges}
-use Rattle.pmd_base.specs.declared.fault.PmdFault.{PmdFault}
-use Rattle.pmd_base.specs.declared.packet.Packet.{Packet}
+use Rattle.nic_device.specs.DmaArena.Numbers.{Numbers, is_free, with_free}
+use Rattle.pmd_seam.specs.Home.{Exchanges}
+use Rattle.pmd_seam.specs.declared.fault.PmdFault.{PmdFault}
+use Rattle.pmd_seam.specs.declared.packet.Packet.{Packet}
 use Rattle.pmd_rx.specs.Receive.{Receive, Layout, Stage, Looks, Sees, Holding, Lent, Named, held, held_by, extended}
 
 -- the block that is lent and not posted yet

@@ -1,3 +1,5 @@
+pub use Rattle.pmd_seam.specs.DeviceLock
+pub use Rattle.pmd_seam.specs as PmdSeam
 pub mod Filling
 pub mod Keeping
 pub mod Plays

@@ -1,15 +1,15 @@
 -- How a driver follows from the calls that were made: some of them, which marks single out, are its own.
 use Rattle.std.specs.Prelude.{ℕ, ◌≡◌, ◌<◌, Bool, true, false, not, List, [], ◌∷◌, ◌++◌, length, IsFalse, ⊤, if◌then◌else◌}
-use Rattle.dma_arena.specs.Block.{Block}
-use Rattle.dma_arena.specs.Numbers.{Numbers, is_free}
-use Rattle.dma_ring.specs.Descriptor.{second_half}
-use Rattle.dma_ring.specs.Receive.{is_done}
+use Rattle.nic_device.specs.DmaArena.Block.{Block}
+use Rattle.nic_device.specs.DmaArena.Numbers.{Numbers, is_free}
+use Rattle.nic_device.specs.DmaRing.Descriptor.{second_half}
+use Rattle.nic_device.specs.DmaRing.Receive.{is_done}
 use Rattle.nic_device.specs.declared.event.Event.{Event}
 use Rattle.nic_device.specs.declared.event.Event.TheVariants as event
 use Rattle.nic_device.specs.declared.event.Reply.TheVariants as reply
-use Rattle.device_lock.specs.declared.entry.Call.{Call}
-use Rattle.device_lock.specs.Pass.{call_of}
-use Rattle.pmd_base.specs.Made.{AreSteps, StepsWhere}
+use Rattle.pmd_seam.specs.DeviceLock.declared.entry.Call.{Call}
+use Rattle.pmd_seam.specs.DeviceLock.Pass.{call_of}
+use Rattle.pmd_seam.specs.Made.{AreSteps, StepsWhere}
 use Rattle.pmd_rx.specs.Receive.{Receive, IsOwn, drive, held, descriptor_at}
 
 -- the driver after one call, where it is its own

@@ -1,18 +1,18 @@
 -- What a driver knows of its receive ring, and how that follows from its own calls.
 use Rattle.std.specs.Prelude.{ℕ, ◌≡◌, ◌≢◌, ◌+◌, ◌*◌, ◌<◌, ◌&&◌, List, [], ◌∷◌, ◌++◌, length, drop, slice_index, Option, Some, None, if◌then◌else◌}
-use Rattle.dma_arena.specs.Block.{Block}
-use Rattle.dma_ring.specs.Descriptor.{second_half, first_half, of_halves}
-use Rattle.dma_ring.specs.Driver.{posted, rss_in, hash_in}
-use Rattle.dma_ring.specs.Ring.{next_of}
-use Rattle.dma_ring.specs.Receive.{is_done, ends_packet, bytes_in}
+use Rattle.nic_device.specs.DmaArena.Block.{Block}
+use Rattle.nic_device.specs.DmaRing.Descriptor.{second_half, first_half, of_halves}
+use Rattle.nic_device.specs.DmaRing.Driver.{posted, rss_in, hash_in}
+use Rattle.nic_device.specs.DmaRing.Ring.{next_of}
+use Rattle.nic_device.specs.DmaRing.Receive.{is_done, ends_packet, bytes_in}
 use Rattle.nic_device.specs.declared.event.Event.{Event}
 use Rattle.nic_device.specs.declared.event.Event.TheVariants as event
 use Rattle.nic_device.specs.declared.event.Port.{Port}
 use Rattle.nic_device.specs.declared.event.Reply.{Reply}
 use Rattle.nic_device.specs.declared.event.Reply.TheVariants as reply
-use Rattle.pmd_base.specs.Packet.{Kept, kept_of}
-use Rattle.pmd_base.specs.Slots.{wrapped, descriptor_in}
-use Rattle.pmd_base.specs.declared.packet.Packet.{Packet}
+use Rattle.pmd_seam.specs.Packet.{Kept, kept_of}
+use Rattle.pmd_seam.specs.Slots.{wrapped, descriptor_in}
+use Rattle.pmd_seam.specs.declared.packet.Packet.{Packet}
 
 -- the packet in a block, with what the two halves of its descriptor tell
 abbrev pub told : Block → ℕ → ℕ → Packet

@@ -1,12 +1,12 @@
 -- The driver's receive ring as its code keeps it.
 use Rattle.std.specs.Prelude.{ℕ, ◌≡◌, ◌+◌, ◌<◌, ◌≤◌, List, Bool, false, length, Option, Some, None, IsSome, ⊤}
-use Rattle.pmd_base.specs.Accesses.{IsWritten}
-use Rattle.pmd_base.specs.Made.{AddsSome}
-use Rattle.pmd_base.specs.declared.fault.PmdFault.{PmdFault}
-use Rattle.pmd_base.specs.declared.fault.PmdFault.TheVariants as fault
-use Rattle.device_lock.specs.declared.entry.Call.{Call}
+use Rattle.pmd_seam.specs.Accesses.{IsWritten}
+use Rattle.pmd_seam.specs.Made.{AddsSome}
+use Rattle.pmd_seam.specs.declared.fault.PmdFault.{PmdFault}
+use Rattle.pmd_seam.specs.declared.fault.PmdFault.TheVariants as fault
+use Rattle.pmd_seam.specs.DeviceLock.declared.entry.Call.{Call}
 use Rattle.pmd_rx.specs.Receive.{slot_at, vacant, Layout, Stage, Looks, Sees, Holding, Lent, Named}
-use Rattle.pmd_base.specs.declared.packet.Packet.{Packet}
+use Rattle.pmd_seam.specs.declared.packet.Packet.{Packet}
 use Rattle.pmd_rx.specs.declared.ring.At.{At}
 use Rattle.pmd_rx.specs.declared.ring.At.TheVariants as at
 

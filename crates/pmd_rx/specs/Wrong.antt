@@ -1,17 +1,17 @@
 -- Why a call of the driver fails.
 use Rattle.std.specs.Prelude.{ℕ, ◌≡◌, ◌||◌, not, Bool, true, false, List, IsFalse, ⊤}
-use Rattle.dma_arena.specs.Block.{Block}
-use Rattle.dma_arena.specs.Numbers.{Numbers, free_count}
-use Rattle.dma_ring.specs.Descriptor.{second_half}
-use Rattle.dma_ring.specs.Receive.{is_done, ends_packet}
+use Rattle.nic_device.specs.DmaArena.Block.{Block}
+use Rattle.nic_device.specs.DmaArena.Numbers.{Numbers, free_count}
+use Rattle.nic_device.specs.DmaRing.Descriptor.{second_half}
+use Rattle.nic_device.specs.DmaRing.Receive.{is_done, ends_packet}
 use Rattle.nic_device.specs.declared.event.Event.{Event}
 use Rattle.nic_device.specs.declared.event.Event.TheVariants as event
 use Rattle.nic_device.specs.declared.event.Reply.{Reply}
 use Rattle.nic_device.specs.declared.event.Reply.TheVariants as reply
-use Rattle.device_lock.specs.declared.entry.Call.{Call}
-use Rattle.pmd_base.specs.Made.{Adds}
-use Rattle.pmd_base.specs.declared.fault.PmdFault.{PmdFault}
-use Rattle.pmd_base.specs.declared.fault.PmdFault.TheVariants as fault
+use Rattle.pmd_seam.specs.DeviceLock.declared.entry.Call.{Call}
+use Rattle.pmd_seam.specs.Made.{Adds}
+use Rattle.pmd_seam.specs.declared.fault.PmdFault.{PmdFault}
+use Rattle.pmd_seam.specs.declared.fault.PmdFault.TheVariants as fault
 use Rattle.pmd_rx.specs.Plays.{LendsFree, PlaysFrom}
 use Rattle.pmd_rx.specs.Receive.{Receive, Stage, Looks, Sees, Holding, Lent, Named, IsOwn}
 

@@ -9,4 +9,8 @@ mod posting;
 mod receive;
 mod ring;
 
+pub use pmd_seam::{
+    CallFault, Direct, Finished, Homeward, Interleaved, Nic, POLLS, Packet, PmdFault, Queue,
+    Record, Setup, ThroughLock, fresh_packet, give_back, give_packet, lend, pf_setup,
+};
 pub use ring::ReceiveRing;

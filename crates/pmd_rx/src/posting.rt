@@ -1,9 +1,9 @@
 //! What the driver does with its receive ring: calls one after the other, each of which may be the last that is made.
 
 ghost use Rattle.std.specs.Prelude.{ℕ, ◌≡◌, ◌<◌, ◌≤◌, ◌+◌, ◌++◌, ◌∷◌, [], length, true, false, Ok, Err, IfOk, IfErr, IfSome, IfNone, OnOk, OnErr};
-ghost use Rattle.dma_arena.specs.Numbers.{Numbers, free_count, is_free, with_free};
-ghost use Rattle.pmd_base.specs.Home.{AreOut};
-ghost use Rattle.pmd_base.specs.Packet.{kept_of};
+ghost use Rattle.nic_device.specs.DmaArena.Numbers.{Numbers, free_count, is_free, with_free};
+ghost use Rattle.pmd_seam.specs.Home.{AreOut};
+ghost use Rattle.pmd_seam.specs.Packet.{kept_of};
 ghost use Rattle.pmd_rx.specs.Filling.{Fills, StopsFilling};
 ghost use Rattle.pmd_rx.specs.Keeping.{Keeps, IsRunning, Posts, blocks_out, handed_block};
 ghost use Rattle.pmd_rx.specs.Plays.{PlaysFrom, LooksOnce};
@@ -13,8 +13,8 @@ ghost use Rattle.pmd_rx.specs.Wrong.{FailsBy, IsFault, PacketWaits};
 
 use crate::receive::Look;
 use crate::ring::{Due, ReceiveRing};
-use dma_arena::Arena;
-use pmd_base::{Nic, Packet, PmdFault, give_back};
+use nic_device::Arena;
+use pmd_seam::{Nic, Packet, PmdFault, give_back};
 use std::alloc::Global;
 
 impl ReceiveRing {

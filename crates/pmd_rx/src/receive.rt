@@ -2,9 +2,9 @@
 
 ghost use Rattle.std.specs.Prelude.{◌≡◌, ◌<◌, ◌≤◌, ◌+◌, ◌++◌, length, IsFalse, Ok, true, false, IfOk, IfErr, OnOk, OnErr, [], vec_len};
 ghost use Rattle.std.specs.Vec.{vec_capacity};
-ghost use Rattle.dma_arena.specs.Numbers.{Numbers, is_free};
-ghost use Rattle.dma_ring.specs.Descriptor.{second_half};
-ghost use Rattle.dma_ring.specs.Receive.{is_done};
+ghost use Rattle.nic_device.specs.DmaArena.Numbers.{Numbers, is_free};
+ghost use Rattle.nic_device.specs.DmaRing.Descriptor.{second_half};
+ghost use Rattle.nic_device.specs.DmaRing.Receive.{is_done};
 ghost use Rattle.pmd_rx.specs.Plays.{PlaysFrom, LooksOnce};
 ghost use Rattle.pmd_rx.specs.Receive.{looked, took, lent_one, named, moved, descriptor_at, slot_at, block_at, vacant, naming, fresh_of, held_by, listed, MayLend};
 ghost use Rattle.pmd_rx.specs.Wrong.{EndsWrong, IsFault, IsRefused, is_whole};
@@ -12,15 +12,13 @@ ghost use Rattle.pmd_rx.specs.Keeping.{Keeps, handed_block};
 ghost use Rattle.pmd_rx.specs.Shown.{CanLook, HasSeen, IsHolding, CanLend, HasLent, HasNamed, IsTailWritten, IsUnwritten};
 
 use crate::ring::{At, ReceiveRing};
-use device_lock::CallFault;
-use dma_arena::{BLOCK_BYTES, Buf};
-use dma_ring::{
-    first_half, hash_told, is_last, is_written_back, length_told, of_halves, posted_word, rss_told,
-    second_half,
+use nic_device::{
+    BLOCK_BYTES, Buf, first_half, hash_told, is_last, is_written_back, length_told, of_halves,
+    posted_word, rss_told, second_half,
 };
-use pmd_base::{
-    Nic, Packet, PmdFault, Record, descriptor_address, lend, next_slot, peek, poke, slot_after,
-    take, write,
+use pmd_seam::{
+    CallFault, Nic, Packet, PmdFault, Record, descriptor_address, lend, next_slot, peek, poke,
+    slot_after, take, write,
 };
 use std::alloc::Global;
 

@@ -2,16 +2,15 @@
 
 ghost use Rattle.std.specs.Prelude.{◌≡◌, ◌<◌, ◌≤◌, ◌+◌, ◌++◌, ◌∷◌, [], ◌↔◌, true, false, length, option_to_list, IfOk, IfErr, IfSome, OnOk, OnErr};
 ghost use Rattle.std.specs.VecDeque.{deque_len, deque_capacity};
-ghost use Rattle.dma_arena.specs.Numbers.{is_own, is_free};
-ghost use Rattle.pmd_base.specs.Home.{AreOut};
-ghost use Rattle.dma_arena.specs.Whereabouts.{times_in_hand};
+ghost use Rattle.nic_device.specs.DmaArena.Numbers.{is_own, is_free};
+ghost use Rattle.pmd_seam.specs.Home.{AreOut};
+ghost use Rattle.nic_device.specs.DmaArena.Whereabouts.{times_in_hand};
 ghost use Rattle.pmd_rx.specs.Keeping.{blocks_out, lent_of, fresh_block, block_in, with_home};
 ghost use Rattle.pmd_rx.specs.Receive.{at_start, held_by};
 ghost use Rattle.pmd_rx.specs.Shown.{CanLook, IsHolding, HasLent, HasNamed};
 
-use dma_arena::Arena;
-use nic_device::Port;
-use pmd_base::{Homeward, Packet, Record, give_packet};
+use nic_device::{Arena, Port};
+use pmd_seam::{Homeward, Packet, Record, give_packet};
 use std::alloc::Global;
 use std::collections::VecDeque;
 use std::marker::Model;

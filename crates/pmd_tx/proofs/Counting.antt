@@ -3,8 +3,8 @@ use Rattle.std.proofs.Common.{◌≡◌, ◌≢◌, ℕ, ◌==◌, ◌⊎◌, in
 use Rattle.std.specs.List.{list_any}
 use Rattle.std.proofs.lemmas.Bool.{cases_eq}
 use Rattle.std.proofs.lemmas.Bool.Decides.{nat_tests}
-use Rattle.dma_arena.specs.Whereabouts.{times_in_hand}
-use Rattle.pmd_base.proofs.Outside.{times_first, times_rest, times-append}
+use Rattle.nic_device.specs.DmaArena.Whereabouts.{times_in_hand}
+use Rattle.pmd_seam.proofs.Outside.{times_first, times_rest, times-append}
 use Rattle.pmd_tx.specs.Leaving.{lent_of}
 use Rattle.pmd_tx.specs.Sending.{Sender, blocks_of, has_lent}
 

@@ -5,10 +5,10 @@ use Rattle.std.proofs.lemmas.List.{length-drop, length-take, length_push}
 use Rattle.std.proofs.lemmas.List.Elements.{All-push}
 use Rattle.std.proofs.lemmas.Map.Keys.{IsDistinct-tail, IsDistinct-push, IsDistinct-from_apart}
 use Rattle.std.specs.List.{list_any}
-use Rattle.dma_ring.specs.Ring.{next_of}
-use Rattle.pmd_base.specs.Packet.{Kept, kept_of}
-use Rattle.pmd_base.specs.declared.packet.Packet.{Packet}
-use Rattle.pmd_base.proofs.Places.{next_below}
+use Rattle.nic_device.specs.DmaRing.Ring.{next_of}
+use Rattle.pmd_seam.specs.Packet.{Kept, kept_of}
+use Rattle.pmd_seam.specs.declared.packet.Packet.{Packet}
+use Rattle.pmd_seam.proofs.Places.{next_below}
 use Rattle.pmd_tx.specs.Sending.{Sender, Layout, blocks_of, has_lent}
 use Rattle.pmd_tx.specs.Shown.{MayLend, IsRing, AreDistinct, outstanding_of}
 use Rattle.pmd_tx.proofs.Outstanding.{blocks-outstanding, length-outstanding}

@@ -1,9 +1,9 @@
 -- Blocks that come home to the driver's arena.
 use Rattle.std.proofs.Common.{◌≡◌, ℕ, ◌+◌, ◌<◌, ◌≤◌, true, false, List, [], ◌∷◌, ◌++◌, length, take, drop, get_or, Result, Ok, Err, IfOk, OnErr, refl, sym, ap, ◌∙◌, subst, arith}
 use Rattle.std.proofs.lemmas.List.{length-drop, drop-drop, drop-take, take-take, drop-map, take-append-drop}
-use Rattle.dma_arena.specs.Numbers.{Numbers, is_own, is_free, with_free}
-use Rattle.pmd_base.proofs.Outside.{out_first, out_given}
-use Rattle.pmd_base.specs.Home.{AreOut}
+use Rattle.nic_device.specs.DmaArena.Numbers.{Numbers, is_own, is_free, with_free}
+use Rattle.pmd_seam.proofs.Outside.{out_first, out_given}
+use Rattle.pmd_seam.specs.Home.{AreOut}
 use Rattle.pmd_tx.specs.declared.answer.Reaped.{Reaped}
 use Rattle.pmd_tx.specs.Sending.{Sender, Outgoing, no_packet, blocks_of, packet_at, reaped}
 use Rattle.pmd_tx.specs.Sends.{Frees, given}

@@ -1,14 +1,14 @@
 -- Lending a packet's block, by what is made.
 use Rattle.std.proofs.Common.{◌≡◌, ℕ, List, length, take, None, Result, Ok, Err, OnOk, OnErr, IfErr, refl, sym, ap, subst, arith}
 use Rattle.std.proofs.lemmas.List.{length-take-le}
-use Rattle.dma_arena.specs.Block.{IsBlock}
+use Rattle.nic_device.specs.DmaArena.Block.{IsBlock}
 use Rattle.nic_device.specs.declared.event.Event.TheVariants as event
 use Rattle.nic_device.specs.declared.event.Reply.TheVariants as reply
-use Rattle.device_lock.specs.declared.entry.Call.{Call}
-use Rattle.pmd_base.specs.Accesses.{IsLent}
-use Rattle.pmd_base.specs.declared.fault.PmdFault.{PmdFault}
-use Rattle.pmd_base.specs.declared.fault.PmdFault.TheVariants as fault
-use Rattle.pmd_base.specs.declared.packet.Packet.{Packet}
+use Rattle.pmd_seam.specs.DeviceLock.declared.entry.Call.{Call}
+use Rattle.pmd_seam.specs.Accesses.{IsLent}
+use Rattle.pmd_seam.specs.declared.fault.PmdFault.{PmdFault}
+use Rattle.pmd_seam.specs.declared.fault.PmdFault.TheVariants as fault
+use Rattle.pmd_seam.specs.declared.packet.Packet.{Packet}
 use Rattle.pmd_tx.specs.Plays.{PlaysWith, FaultsBy}
 use Rattle.pmd_tx.specs.Sending.{Sender, Accepts, MayAccept, accepted_by}
 use Rattle.pmd_tx.specs.Sends.{IsLate, IsBack}

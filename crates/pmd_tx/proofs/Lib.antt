@@ -1,3 +1,4 @@
+pub use Rattle.pmd_seam.proofs as PmdSeam
 pub mod Counting
 pub mod Ending
 pub mod Fields

@@ -1,9 +1,9 @@
 -- What the loop over the packets that were sent keeps.
 use Rattle.std.proofs.Common.{◌≡◌, ℕ, ◌+◌, List, length, refl, ap, ◌∙◌, add-zero, arith}
 use Rattle.std.proofs.lemmas.List.{length-drop}
-use Rattle.dma_arena.specs.Numbers.{Numbers}
-use Rattle.device_lock.specs.declared.entry.Call.{Call}
-use Rattle.pmd_base.specs.Home.{AreOut}
+use Rattle.nic_device.specs.DmaArena.Numbers.{Numbers}
+use Rattle.pmd_seam.specs.DeviceLock.declared.entry.Call.{Call}
+use Rattle.pmd_seam.specs.Home.{AreOut}
 use Rattle.pmd_tx.specs.Plays.{PlaysWith}
 use Rattle.pmd_tx.specs.Sending.{Sender, Layout, blocks_of}
 use Rattle.pmd_tx.specs.Sends.{Frees}

@@ -1,7 +1,7 @@
 -- The outstanding packets, by their blocks and by what was accepted.
 use Rattle.std.proofs.Common.{◌≡◌, ℕ, zero, suc, ◌+◌, ◌-◌, ◌<◌, ◌≤◌, List, [], ◌∷◌, ◌++◌, length, drop, get_or, refl, sym, ap, ◌∙◌, arith}
 use Rattle.std.proofs.lemmas.List.{length-drop, length_push, get_or-drop, drop-drop, drop-append-le}
-use Rattle.pmd_base.specs.Packet.{Kept}
+use Rattle.pmd_seam.specs.Packet.{Kept}
 use Rattle.pmd_tx.specs.Sending.{Outgoing, no_packet, blocks_of}
 use Rattle.pmd_tx.specs.Shown.{paired, outstanding_of}
 

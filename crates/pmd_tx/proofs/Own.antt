@@ -1,10 +1,10 @@
 -- Each move of a driver that sends, by what is made.
 use Rattle.std.proofs.Common.{◌≡◌, ℕ, ◌+◌, ◌<◌, true, false, List, Some, None, refl, sym, ap, ◌∙◌, subst, inl, inr}
-use Rattle.dma_arena.specs.Block.{Block}
+use Rattle.nic_device.specs.DmaArena.Block.{Block}
 use Rattle.nic_device.specs.declared.event.Event.TheVariants as event
 use Rattle.nic_device.specs.declared.event.Reply.TheVariants as reply
-use Rattle.device_lock.specs.declared.entry.Call.{Call}
-use Rattle.pmd_base.specs.Accesses.{IsTaken, IsPoked, IsPeeked, IsWritten}
+use Rattle.pmd_seam.specs.DeviceLock.declared.entry.Call.{Call}
+use Rattle.pmd_seam.specs.Accesses.{IsTaken, IsPoked, IsPeeked, IsWritten}
 use Rattle.pmd_tx.specs.Plays.{PlaysWith, Faults, LooksLast}
 use Rattle.pmd_tx.specs.Sending.{Sender, Asks, Advances, Looks, Reaps, IsOwn, asked, advanced, looked, reaped, is_sent, slot_at, descriptor_at}
 use Rattle.pmd_tx.proofs.Playing.{plays_adds, plays_none, faults_at}

@@ -2,13 +2,13 @@
 use Rattle.std.proofs.Common.{◌≡◌, ℕ, ◌+◌, ◌-◌, ◌≤◌, List, ◌++◌, length, take, drop, replicate, refl, sym, ap, ◌∙◌, arith, inl, inr}
 use Rattle.std.proofs.lemmas.Bool.{cases_lt}
 use Rattle.std.proofs.lemmas.List.{length-append, length-take-le, length-replicate, take-replicate, take_at, drop_at, take-append-drop}
-use Rattle.dma_arena.proofs.Bytes.{put_bytes-none}
-use Rattle.dma_arena.specs.Block.{Block, IsBlock}
-use Rattle.dma_arena.specs.Memory.{put_bytes}
-use Rattle.pmd_base.specs.Packet.{Kept, kept_of}
-use Rattle.pmd_base.specs.declared.packet.Packet.{Packet}
-use Rattle.pmd_base.specs.declared.fault.PmdFault.{PmdFault}
-use Rattle.pmd_base.specs.declared.fault.PmdFault.TheVariants.{DeviceFault}
+use Rattle.nic_device.proofs.DmaArena.Bytes.{put_bytes-none}
+use Rattle.nic_device.specs.DmaArena.Block.{Block, IsBlock}
+use Rattle.nic_device.specs.DmaArena.Memory.{put_bytes}
+use Rattle.pmd_seam.specs.Packet.{Kept, kept_of}
+use Rattle.pmd_seam.specs.declared.packet.Packet.{Packet}
+use Rattle.pmd_seam.specs.declared.fault.PmdFault.{PmdFault}
+use Rattle.pmd_seam.specs.declared.fault.PmdFault.TheVariants.{DeviceFault}
 use Rattle.pmd_tx.specs.Sending.{Sender}
 use Rattle.pmd_tx.specs.Sends.{accepted_of, outgoing_of, IsBack}
 use Rattle.pmd_tx.specs.Shown.{padded_packet, unpadded, sent_as, MaySend, MayLend}

@@ -1,13 +1,13 @@
 -- What a call adds to a driver's plays.
 use Rattle.std.proofs.Common.{◌≡◌, ℕ, suc, false, List, [], ◌∷◌, ◌++◌, length, map, refl, sym, ap, ◌∙◌, subst, append_assoc}
 use Rattle.std.proofs.lemmas.List.{append-nil}
-use Rattle.dma_arena.specs.Block.{Block}
+use Rattle.nic_device.specs.DmaArena.Block.{Block}
 use Rattle.nic_device.specs.declared.event.Event.{Event}
 use Rattle.nic_device.specs.declared.event.Reply.{Reply}
-use Rattle.device_lock.specs.declared.entry.Call.{Call}
-use Rattle.device_lock.specs.Pass.{call_of}
-use Rattle.pmd_base.specs.Made.{Adds, AddsSome}
-use Rattle.pmd_base.proofs.Steps.{steps_marked, steps_last, steps_both}
+use Rattle.pmd_seam.specs.DeviceLock.declared.entry.Call.{Call}
+use Rattle.pmd_seam.specs.DeviceLock.Pass.{call_of}
+use Rattle.pmd_seam.specs.Made.{Adds, AddsSome}
+use Rattle.pmd_seam.proofs.Steps.{steps_marked, steps_last, steps_both}
 use Rattle.pmd_tx.specs.Plays.{Plays, PlaysWith, AcceptsIn, AllAcceptIn, AllOwn, is_elsewhere, played_by, Faults}
 use Rattle.pmd_tx.specs.Sending.{Sender, Move, Elsewhere, IsOwn, moved, is_healthy}
 

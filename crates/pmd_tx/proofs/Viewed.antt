@@ -2,8 +2,8 @@
 use Rattle.std.proofs.Common.{◌≡◌, ◌≢◌, ℕ, ◌-◌, ◌<◌, ◌==◌, Bool, false, nat_eq, List, length, drop, refl, sym, ap, ◌∙◌, arith}
 use Rattle.std.proofs.lemmas.Bool.Decides.{nat_tests}
 use Rattle.std.specs.List.{list_any}
-use Rattle.dma_ring.specs.Ring.{next_of}
-use Rattle.pmd_base.specs.Packet.{Kept}
+use Rattle.nic_device.specs.DmaRing.Ring.{next_of}
+use Rattle.pmd_seam.specs.Packet.{Kept}
 use Rattle.pmd_tx.specs.Sending.{Sender, Layout, blocks_of, has_lent, reaped}
 use Rattle.pmd_tx.specs.Sends.{forgotten}
 use Rattle.pmd_tx.specs.Shown.{IsRing}

@@ -1,3 +1,4 @@
+pub use Rattle.pmd_seam.specs as PmdSeam
 pub mod Leaving
 pub mod Plays
 pub mod Sending

@@ -1,18 +1,18 @@
 -- What a driver knows of its transmit ring, and how that follows from its own calls.
 use Rattle.std.specs.Prelude.{ℕ, ◌≡◌, ◌+◌, ◌-◌, ◌*◌, ◌<◌, ◌≤◌, ◌==◌, ◌||◌, Bool, true, false, ⊤, List, [], ◌∷◌, ◌++◌, length, take, drop, map, slice_index_or}
 use Rattle.std.specs.List.{list_any}
-use Rattle.dma_arena.specs.Block.{Block}
-use Rattle.dma_ring.specs.Bits.{has_bit}
-use Rattle.dma_ring.specs.Descriptor.{second_half, of_halves}
-use Rattle.dma_ring.specs.Driver.{data_word}
-use Rattle.dma_ring.specs.Ring.{next_of}
+use Rattle.nic_device.specs.DmaArena.Block.{Block}
+use Rattle.nic_device.specs.DmaRing.Bits.{has_bit}
+use Rattle.nic_device.specs.DmaRing.Descriptor.{second_half, of_halves}
+use Rattle.nic_device.specs.DmaRing.Driver.{data_word}
+use Rattle.nic_device.specs.DmaRing.Ring.{next_of}
 use Rattle.nic_device.specs.declared.event.Event.{Event}
 use Rattle.nic_device.specs.declared.event.Event.TheVariants as event
 use Rattle.nic_device.specs.declared.event.Port.{Port}
 use Rattle.nic_device.specs.declared.event.Reply.{Reply}
 use Rattle.nic_device.specs.declared.event.Reply.TheVariants as reply
-use Rattle.pmd_base.specs.Packet.{Kept}
-use Rattle.pmd_base.specs.Slots.{wrapped, descriptor_in}
+use Rattle.pmd_seam.specs.Packet.{Kept}
+use Rattle.pmd_seam.specs.Slots.{wrapped, descriptor_in}
 
 -- a packet that was accepted: the block that has its bytes, and what is kept of it
 pub record Outgoing : Type 0 where

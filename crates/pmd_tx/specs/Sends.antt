@@ -1,11 +1,11 @@
 -- What a driver that sends promises of one packet, and of the blocks that it frees.
 use Rattle.std.specs.Prelude.{ℕ, ◌≡◌, ◌-◌, ◌+◌, ◌==◌, ◌||◌, ◌&&◌, ◌≤◌, not, nat_lt, Bool, true, false, ⊤, List, [], ◌∷◌, ◌++◌, length, take, drop, replicate, Option, Some, None, Result, Ok, Err, if◌then◌else◌}
-use Rattle.dma_arena.specs.Numbers.{Numbers, is_own, is_free, with_free}
-use Rattle.dma_ring.specs.Ring.{next_of}
-use Rattle.pmd_base.specs.Packet.{Kept}
-use Rattle.pmd_base.specs.declared.fault.PmdFault.{PmdFault}
-use Rattle.pmd_base.specs.declared.fault.PmdFault.TheVariants.{BadSize, ForeignBlock, DeviceFault, Call}
-use Rattle.pmd_base.specs.declared.packet.Packet.{Packet}
+use Rattle.nic_device.specs.DmaArena.Numbers.{Numbers, is_own, is_free, with_free}
+use Rattle.nic_device.specs.DmaRing.Ring.{next_of}
+use Rattle.pmd_seam.specs.Packet.{Kept}
+use Rattle.pmd_seam.specs.declared.fault.PmdFault.{PmdFault}
+use Rattle.pmd_seam.specs.declared.fault.PmdFault.TheVariants.{BadSize, ForeignBlock, DeviceFault, Call}
+use Rattle.pmd_seam.specs.declared.packet.Packet.{Packet}
 use Rattle.pmd_tx.specs.declared.answer.Gate.{Gate}
 use Rattle.pmd_tx.specs.declared.answer.Gate.TheVariants.{Refused, Full, Open}
 use Rattle.pmd_tx.specs.declared.answer.TxAnswer.{TxAnswer}

@@ -1,14 +1,14 @@
 -- The driver's transmit ring as its code keeps it.
 use Rattle.std.specs.Prelude.{ℕ, ◌≡◌, ◌+◌, ◌-◌, ◌<◌, ◌≤◌, nat_eq, Bool, true, false, List, [], ◌∷◌, length, drop, replicate, All, Some}
 use Rattle.std.specs.List.{IsDistinct}
-use Rattle.dma_arena.specs.Memory.{put_bytes}
-use Rattle.device_lock.specs.declared.entry.Call.{Call}
-use Rattle.pmd_base.specs.Accesses.{IsLent}
-use Rattle.pmd_base.specs.Made.{AddsSome}
-use Rattle.pmd_base.specs.Packet.{Kept, kept_of}
-use Rattle.pmd_base.specs.declared.fault.PmdFault.{PmdFault}
-use Rattle.pmd_base.specs.declared.fault.PmdFault.TheVariants as fault
-use Rattle.pmd_base.specs.declared.packet.Packet.{Packet}
+use Rattle.nic_device.specs.DmaArena.Memory.{put_bytes}
+use Rattle.pmd_seam.specs.DeviceLock.declared.entry.Call.{Call}
+use Rattle.pmd_seam.specs.Accesses.{IsLent}
+use Rattle.pmd_seam.specs.Made.{AddsSome}
+use Rattle.pmd_seam.specs.Packet.{Kept, kept_of}
+use Rattle.pmd_seam.specs.declared.fault.PmdFault.{PmdFault}
+use Rattle.pmd_seam.specs.declared.fault.PmdFault.TheVariants as fault
+use Rattle.pmd_seam.specs.declared.packet.Packet.{Packet}
 use Rattle.pmd_tx.specs.Sending.{Sender, Layout, Outgoing, has_lent}
 
 -- packets in blocks, each with what is kept of it

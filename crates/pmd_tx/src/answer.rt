@@ -1,6 +1,6 @@
 //! What a driver answers that sends.
 
-use pmd_base::{Packet, PmdFault};
+use pmd_seam::{Packet, PmdFault};
 
 /// What the driver answers to a packet.
 pub enum TxAnswer {

@@ -1,10 +1,10 @@
 //! Padding: a packet is sent with 60 bytes at least.
 
 ghost use Rattle.std.specs.Prelude.{◌≡◌, ◌≤◌, take};
-ghost use Rattle.dma_arena.specs.Block.{IsBlock};
+ghost use Rattle.nic_device.specs.DmaArena.Block.{IsBlock};
 ghost use Rattle.pmd_tx.specs.Shown.{padded_packet, unpadded};
 
-use pmd_base::Packet;
+use pmd_seam::Packet;
 
 /// How many bytes a packet has at least, as it is sent.
 const SHORTEST: usize = 60;

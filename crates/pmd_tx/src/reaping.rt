@@ -1,15 +1,15 @@
 //! How the blocks of packets that were sent come home.
 
 ghost use Rattle.std.specs.Prelude.{[], ◌≡◌, ◌<◌, ◌+◌, ◌↔◌, ℕ, length, true, false, Ok, IsTrue, IfOk, IfErr, OnOk, OnErr, if◌then◌else◌};
-ghost use Rattle.pmd_base.specs.Home.{AreOut};
+ghost use Rattle.pmd_seam.specs.Home.{AreOut};
 ghost use Rattle.pmd_tx.specs.Plays.{PlaysWith, LooksLast, FaultsBy};
 ghost use Rattle.pmd_tx.specs.Sending.{packet_at, blocks_of, reaped};
 ghost use Rattle.pmd_tx.specs.Sends.{Frees, IsLate};
 
 use crate::answer::Reaped;
 use crate::ring::TransmitRing;
-use dma_arena::Arena;
-use pmd_base::{Nic, PmdFault, give_back};
+use nic_device::Arena;
+use pmd_seam::{Nic, PmdFault, give_back};
 use std::alloc::Global;
 
 impl TransmitRing {

@@ -1,25 +1,22 @@
 //! The transmit ring of the driver: one step for each of its moves.
 
 ghost use Rattle.std.specs.Prelude.{[], ◌≡◌, ◌==◌, ◌≢◌, ◌↔◌, ◌<◌, ◌≤◌, ◌+◌, ◌-◌, ℕ, None, All, length, slice_index_or, true, false, Ok, IfOk, IfErr, OnOk, OnErr, IfSome, IsNone};
-ghost use Rattle.pmd_base.specs.Accesses.{IsLent, IsWritten};
-ghost use Rattle.pmd_base.specs.Made.{AddsSome};
+ghost use Rattle.pmd_seam.specs.Accesses.{IsLent, IsWritten};
+ghost use Rattle.pmd_seam.specs.Made.{AddsSome};
 ghost use Rattle.pmd_tx.specs.Plays.{PlaysWith, LooksLast, FaultsBy};
 ghost use Rattle.pmd_tx.specs.Leaving.{lent_of};
 ghost use Rattle.pmd_tx.specs.Sending.{at_start, blocks_of, no_packet, packet_at, slot_at, descriptor_at, has_lent, asking, asked, is_sent, looked, advanced, reaped, accepted_by};
 ghost use Rattle.std.specs.List.{list_any};
-ghost use Rattle.dma_ring.specs.Ring.{next_of};
-ghost use Rattle.pmd_base.specs.Packet.{Kept};
+ghost use Rattle.nic_device.specs.DmaRing.Ring.{next_of};
+ghost use Rattle.pmd_seam.specs.Packet.{Kept};
 ghost use Rattle.pmd_tx.specs.Sends.{is_full, forgotten, IsLate, IsBack};
 ghost use Rattle.pmd_tx.specs.Stages.{IsAt};
 ghost use Rattle.pmd_tx.specs.Shown.{MayLend, sent_as, IsUnlent};
 
-use device_lock::CallFault;
-use dma_arena::{BLOCK_BYTES, Buf};
-use dma_ring::{data_descriptor_word, is_sent, of_halves, second_half};
-use nic_device::Port;
-use pmd_base::{
-    Homeward, Nic, Packet, PmdFault, Record, descriptor_address, lend, next_slot, peek, poke,
-    slot_after, take, write,
+use nic_device::{BLOCK_BYTES, Buf, Port, data_descriptor_word, is_sent, of_halves, second_half};
+use pmd_seam::{
+    CallFault, Homeward, Nic, Packet, PmdFault, Record, descriptor_address, lend, next_slot, peek,
+    poke, slot_after, take, write,
 };
 use std::alloc::Global;
 use std::collections::VecDeque;

@@ -9,8 +9,8 @@ ghost use Rattle.pmd_tx.specs.Shown.{MaySend};
 use crate::answer::{Gate, TxAnswer, TxFault};
 use crate::padding::{pad, start_of, unpad};
 use crate::ring::{Stage, TransmitRing};
-use dma_arena::Arena;
-use pmd_base::{Nic, Packet, PmdFault};
+use nic_device::Arena;
+use pmd_seam::{Nic, Packet, PmdFault};
 use std::alloc::Global;
 
 /// How many bytes a packet has at most.

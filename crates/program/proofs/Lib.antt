@@ -1,3 +1,4 @@
+pub use Rattle.dma_arena.proofs as DmaArena
 pub mod Strings
 pub mod Instructions
 pub mod Pieces

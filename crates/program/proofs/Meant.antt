@@ -3,7 +3,7 @@ use Rattle.std.proofs.Common.{◌≡◌, ℕ, ◌+◌, ◌%◌, ◌<◌, true, f
 use Rattle.std.proofs.lemmas.Bool.{and_from, lt-ltb, le-leb, eq-eqb, cond-true}
 use Rattle.std.specs.List.{AllByRecursion}
 use Rattle.intr_unit.specs.declared.Group.TheVariants.{Pf, Vf}
-use Rattle.register_file.specs.declared.Dir.TheVariants.{Rx, Tx}
+use Rattle.dma_ring.specs.declared.Dir.TheVariants.{Rx, Tx}
 use Rattle.program.specs.declared.fields.Fields.{Fields}
 use Rattle.program.specs.declared.instruction.Instruction.{Instruction}
 use Rattle.program.specs.declared.instruction.Instruction.TheVariants.{Write, Read, VfWrite, VfRead, Lend, Unlend}

@@ -1,7 +1,7 @@
 -- The table of the operations: the fields of each instruction.
 use Rattle.std.specs.Prelude.{ℕ, ◌<◌, ◌^◌, Bool, true, false, ◌&&◌, ◌==◌}
 use Rattle.intr_unit.specs.declared.Group.TheVariants.{Pf, Vf}
-use Rattle.register_file.specs.declared.Dir.TheVariants.{Rx, Tx}
+use Rattle.dma_ring.specs.declared.Dir.TheVariants.{Rx, Tx}
 use Rattle.program.specs.declared.fields.Fields.{Fields}
 use Rattle.program.specs.declared.instruction.Instruction.{Instruction}
 use Rattle.program.specs.declared.instruction.Instruction.TheVariants.{Write, Read, VfWrite, VfRead, Lend, Unlend}

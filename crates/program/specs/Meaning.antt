@@ -4,8 +4,8 @@ use Rattle.std.specs.Prelude.{Result, Ok, Err}
 use Rattle.std.specs.Prelude.{if◌then◌else◌}
 use Rattle.intr_unit.specs.declared.Group.{Group}
 use Rattle.intr_unit.specs.declared.Group.TheVariants.{Pf, Vf}
-use Rattle.register_file.specs.declared.Dir.{Dir}
-use Rattle.register_file.specs.declared.Dir.TheVariants.{Rx, Tx}
+use Rattle.dma_ring.specs.declared.Dir.{Dir}
+use Rattle.dma_ring.specs.declared.Dir.TheVariants.{Rx, Tx}
 use Rattle.program.specs.declared.fields.Fields.{Fields}
 use Rattle.program.specs.declared.instruction.Instruction.{Instruction}
 use Rattle.program.specs.declared.instruction.Instruction.TheVariants.{Write, Read, VfWrite, VfRead, Lend, Unlend}

@@ -6,8 +6,8 @@ ghost use Rattle.program.specs.Bytes.{bytes_of_fields, fields_in};
 
 use crate::instruction::Instruction;
 use crate::numbers::{number16_at, number32_at};
+use dma_ring::Dir;
 use intr_unit::Group;
-use register_file::Dir;
 use std::alloc::AllocError;
 
 /// How many bytes an instruction has in an object.

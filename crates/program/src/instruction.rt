@@ -1,7 +1,7 @@
 //! Instructions.
 
+use dma_ring::Dir;
 use intr_unit::Group;
-use register_file::Dir;
 
 /// One step of a program, or of a text that is read.
 ///

@@ -16,8 +16,11 @@ mod program;
 mod reading;
 mod writing;
 
+pub use dma_arena::{Arena, BLOCK_BYTES, Buf, LentMemory, Octets};
+pub use dma_ring::{Dir, RingFault};
 pub use fault::ObjectFault;
 pub use instruction::Instruction;
+pub use intr_unit::Group;
 pub use laws::{first_fault_decides, instructions_decide, objects_read_back};
 pub use program::{DATA_BYTES, DATA_LIMIT, INSTRUCTION_LIMIT, Program};
 pub use reading::read;

@@ -7,8 +7,8 @@ ghost use Rattle.program.specs.Meaning.{low_byte, group_of, direction_of, instru
 use crate::fields::Fields;
 use crate::instruction::Instruction;
 use dma_arena::Octets;
+use dma_ring::Dir;
 use intr_unit::Group;
-use register_file::Dir;
 
 /// What may be wrong with the fields of an instruction, the fault that is told first standing first.
 #[derive(Clone, Copy, Debug, PartialEq, Eq)]

@@ -1,24 +1,24 @@
 -- The slot at the head of the driver's queue was filled: the head moved on, and the two agree on one piece more.
 use Rattle.std.proofs.Common.{◌≡◌, ℕ, ◌+◌, ◌^◌, ◌<◌, List, [], ◌∷◌, ◌++◌, length, sym, ap, ◌∙◌, subst, Ok, append_assoc}
 use Rattle.std.proofs.lemmas.List.{length_push}
-use Rattle.dma_arena.specs.Memory.{Memory}
-use Rattle.dma_ring.specs.Ring.{slots_of, next_of}
-use Rattle.rx_ring.specs.declared.filled.Filled.{Filled}
-use Rattle.rx_ring.specs.Fill.{Rest}
-use Rattle.rx_ring.proofs.Fills.{takes_piece}
-use Rattle.register_file.specs.Pools.{mode_in}
-use Rattle.register_file.specs.Queue.{ring_of}
-use Rattle.register_file.specs.declared.dir.Dir.TheVariants.{Rx}
-use Rattle.register_laws.specs.Sides.{ReceiveQueue, receive_queue_of}
+use Rattle.nic_device.specs.DmaArena.Memory.{Memory}
+use Rattle.nic_device.specs.DmaRing.Ring.{slots_of, next_of}
+use Rattle.nic_device.specs.RxRing.declared.filled.Filled.{Filled}
+use Rattle.nic_device.specs.RxRing.Fill.{Rest}
+use Rattle.nic_device.proofs.RxRing.Fills.{takes_piece}
+use Rattle.nic_device.specs.RegisterFile.Pools.{mode_in}
+use Rattle.nic_device.specs.RegisterFile.Queue.{ring_of}
+use Rattle.nic_device.specs.DmaRing.declared.dir.Dir.TheVariants.{Rx}
+use Rattle.nic_device.specs.RegisterLaws.Sides.{ReceiveQueue, receive_queue_of}
 use Rattle.nic_device.specs.Outcome.{Outcome}
 use Rattle.nic_device.specs.Sound.{IsSound}
 use Rattle.nic_device.specs.State.{State}
 use Rattle.nic_device.specs.Step.{step_of}
 use Rattle.nic_device.specs.declared.event.Event.TheVariants as event
-use Rattle.device_laws.specs.Replies.{received_tells, moved_on}
-use Rattle.device_laws.proofs.KeptSettings.{settings_stand}
-use Rattle.device_laws.proofs.RepliesReceived.{receiving_tells}
-use Rattle.device_laws.proofs.Standing.{stays_within}
+use Rattle.history_laws.specs.DeviceLaws.Replies.{received_tells, moved_on}
+use Rattle.history_laws.proofs.DeviceLaws.KeptSettings.{settings_stand}
+use Rattle.history_laws.proofs.DeviceLaws.RepliesReceived.{receiving_tells}
+use Rattle.history_laws.proofs.DeviceLaws.Standing.{stays_within}
 use Rattle.pmd_rx.specs.Receive.{Layout, Receive, slot_at, descriptor_at, block_at}
 use Rattle.receive_laws.specs.Joint.{IsSetUp, StageHolds, HasSlots, Holds}
 use Rattle.receive_laws.specs.Pieces.{Piece}

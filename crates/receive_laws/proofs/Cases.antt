@@ -3,12 +3,12 @@
 use Rattle.std.proofs.Common.{◌≡◌, ℕ, true, false, List, [], ◌∷◌, refl, sym, ap, ◌∙◌, subst, Ok, Err}
 use Rattle.std.specs.Prelude.{Result, ◌&&◌, ◌==◌, ⊤}
 use Rattle.std.proofs.lemmas.Bool.{cond_both}
-use Rattle.dma_arena.specs.Block.{Block}
-use Rattle.dma_ring.specs.declared.fault.RingFault.{RingFault}
-use Rattle.rx_ring.specs.declared.filled.Filled.{Filled}
-use Rattle.rx_ring.specs.Fill as rx
-use Rattle.register_file.specs.Settings.{is_stopped, drops}
-use Rattle.register_laws.specs.Sides.{receive_queue_of}
+use Rattle.nic_device.specs.DmaArena.Block.{Block}
+use Rattle.nic_device.specs.DmaRing.declared.fault.RingFault.{RingFault}
+use Rattle.nic_device.specs.RxRing.declared.filled.Filled.{Filled}
+use Rattle.nic_device.specs.RxRing.Fill as rx
+use Rattle.nic_device.specs.RegisterFile.Settings.{is_stopped, drops}
+use Rattle.nic_device.specs.RegisterLaws.Sides.{receive_queue_of}
 use Rattle.nic_device.specs.State.{State, Waiting}
 use Rattle.nic_device.specs.Outcome.{Outcome, gives}
 use Rattle.nic_device.specs.Receive as receive

@@ -2,20 +2,20 @@
 use Rattle.std.proofs.Common.{true, ◌≡◌, ℕ, ◌+◌, ◌*◌, ◌/◌, ◌<◌, false, inl, inr, sym, ap, ◌∙◌, arith}
 use Rattle.std.specs.Prelude.{IsTrue}
 use Rattle.std.proofs.lemmas.Bool.{cases_lt}
-use Rattle.dma_arena.specs.Block.{Block}
-use Rattle.dma_arena.specs.Memory.{Avoids}
+use Rattle.nic_device.specs.DmaArena.Block.{Block}
+use Rattle.nic_device.specs.DmaArena.Memory.{Avoids}
 use Rattle.nic_device.specs.declared.event.Reply.{Reply}
 use Rattle.nic_device.specs.declared.event.Reply.TheVariants.{Wrote}
 use Rattle.device_lock.specs.Alone.{Blocks, IsClear, WritesOutside}
 use Rattle.pmd_rx.specs.Receive.{Receive}
 use Rattle.receive_laws.specs.Steps.{Each, IsOutside, SparesBlocks}
 use Rattle.receive_laws.proofs.Each.{each_map}
-use Rattle.vf_map.specs.declared.mode.Mode.{Mode}
+use Rattle.nic_device.specs.VfMap.declared.mode.Mode.{Mode}
 use Rattle.nic_device.specs.declared.event.Event.{Event}
 use Rattle.nic_device.specs.declared.event.Event.TheVariants as event
 use Rattle.device_lock.specs.Alone.{LeavesRegisters, LeavesBlocks}
 use Rattle.device_lock.specs.declared.alone.Watched.{Watched}
-use Rattle.pmd_base.specs.Events.{is_step}
+use Rattle.pmd_rx.specs.PmdSeam.Events.{is_step}
 
 -- bytes that are in none of the pass's blocks are outside each of them
 pub clear_avoids : (mine : Blocks) (at len b : ℕ) → IsClear mine at len → IsTrue (mine b) → 0 < len → Avoids b at len

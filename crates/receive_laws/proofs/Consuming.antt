@@ -2,11 +2,11 @@
 use Rattle.std.proofs.Common.{◌≡◌, ◌≢◌, ℕ, ◌+◌, ◌*◌, ◌<◌, ◌≤◌, List, length, drop, sym, ap, ◌∙◌, subst, arith}
 use Rattle.std.specs.FinMap as map
 use Rattle.std.proofs.lemmas.List.{get_or-drop, length-drop}
-use Rattle.dma_arena.specs.Memory.{Memory}
-use Rattle.dma_arena.proofs.Bus.{get-remove_other}
-use Rattle.register_laws.specs.Sides.{ReceiveQueue}
-use Rattle.pmd_base.specs.Slots.{wrapped}
-use Rattle.pmd_base.proofs.Places.{next_below, wrapped_next}
+use Rattle.nic_device.specs.DmaArena.Memory.{Memory}
+use Rattle.nic_device.proofs.DmaArena.Bus.{get-remove_other}
+use Rattle.nic_device.specs.RegisterLaws.Sides.{ReceiveQueue}
+use Rattle.pmd_rx.specs.PmdSeam.Slots.{wrapped}
+use Rattle.pmd_rx.proofs.PmdSeam.Places.{next_below, wrapped_next}
 use Rattle.pmd_rx.specs.Receive.{Layout, consumed, slot_at, descriptor_at, block_at}
 use Rattle.receive_laws.specs.Joint.{IsPosted, IsFilled, IsRing, IsSetUp, HasSlots}
 use Rattle.receive_laws.specs.Pieces.{Piece, no_piece, piece_at}

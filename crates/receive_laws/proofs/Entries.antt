@@ -3,10 +3,10 @@ use Rattle.std.proofs.Common.{◌≡◌, ◌≢◌, ℕ, ◌<◌, Bool, true, fa
 use Rattle.std.specs.Prelude.{◌==◌, IsTrue, IsFalse}
 use Rattle.std.proofs.lemmas.Bool.{and_from, eq-eqb, lt-ltb}
 use Rattle.std.proofs.lemmas.List.{append-nil}
-use Rattle.dma_arena.specs.Block.{Block}
-use Rattle.eeprom_image.specs.Image.{blank}
-use Rattle.vf_map.specs.declared.mode.Mode.{Mode}
-use Rattle.register_file.specs.Pools.{mode_in}
+use Rattle.nic_device.specs.DmaArena.Block.{Block}
+use Rattle.nic_device.specs.EepromImage.Image.{blank}
+use Rattle.nic_device.specs.VfMap.declared.mode.Mode.{Mode}
+use Rattle.nic_device.specs.RegisterFile.Pools.{mode_in}
 use Rattle.nic_device.specs.Sound.{IsEvent, IsSound}
 use Rattle.nic_device.specs.State.{State}
 use Rattle.nic_device.specs.Step.{after, reply_to}
@@ -19,7 +19,7 @@ use Rattle.device_lock.specs.Alone.{Blocks, EntryLeavesAlone, lends, lent_in, mo
 use Rattle.device_lock.specs.History.{call_in}
 use Rattle.device_lock.specs.declared.alone.Watched.{Watched}
 use Rattle.device_lock.specs.declared.entry.Entry.{Entry}
-use Rattle.pmd_base.specs.Events.{is_step}
+use Rattle.pmd_rx.specs.PmdSeam.Events.{is_step}
 use Rattle.pmd_rx.specs.Plays.{OwnCall, after_call}
 use Rattle.pmd_rx.specs.Receive.{Receive, Layout, Stage, Looks, Sees, Holding, Lent, Named, IsOwn, LendsNext, drive}
 use Rattle.history_laws.specs.Aligned.{AreAligned}

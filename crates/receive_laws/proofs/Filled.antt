@@ -1,20 +1,20 @@
 -- What filling a slot does to memory: the slot gets a piece, and the others stay.
 use Rattle.std.proofs.Common.{◌≡◌, ◌≢◌, ℕ, ◌+◌, ◌*◌, ◌^◌, ◌<◌, ◌≤◌, true, List, [], ◌∷◌, ◌++◌, length, take, sym, ap, ◌∙◌, subst, arith, Ok}
 use Rattle.std.proofs.lemmas.List.{length-take-le, length_push, get_or_append_left}
-use Rattle.dma_arena.specs.Memory.{Memory, has_block, read_at, IsWhole, SameLent, AreApart}
-use Rattle.dma_ring.specs.declared.ring.Ring.{Ring}
-use Rattle.dma_ring.specs.Descriptor.{first_half, second_half}
-use Rattle.dma_ring.specs.Receive.{is_done, ends_packet, bytes_in}
-use Rattle.rx_ring.specs.declared.filled.Filled.{Filled}
-use Rattle.rx_ring.specs.Control.{buffer_size_of}
-use Rattle.rx_ring.specs.Fill.{Rest, head_address, buffer_address, fill_of}
-use Rattle.rx_ring.specs.Laws.{TakesPiece}
-use Rattle.rx_ring.proofs.Fills.{takes_piece, driver_reads, writes_inside_slot, fill_keeps_blocks}
+use Rattle.nic_device.specs.DmaArena.Memory.{Memory, has_block, read_at, IsWhole, SameLent, AreApart}
+use Rattle.nic_device.specs.DmaRing.declared.ring.Ring.{Ring}
+use Rattle.nic_device.specs.DmaRing.Descriptor.{first_half, second_half}
+use Rattle.nic_device.specs.DmaRing.Receive.{is_done, ends_packet, bytes_in}
+use Rattle.nic_device.specs.RxRing.declared.filled.Filled.{Filled}
+use Rattle.nic_device.specs.RxRing.Control.{buffer_size_of}
+use Rattle.nic_device.specs.RxRing.Fill.{Rest, head_address, buffer_address, fill_of}
+use Rattle.nic_device.specs.RxRing.Laws.{TakesPiece}
+use Rattle.nic_device.proofs.RxRing.Fills.{takes_piece, driver_reads, writes_inside_slot, fill_keeps_blocks}
 use Rattle.pmd_rx.specs.Receive.{Layout, Stage, Looks, Sees, Holding, Lent, Named, slot_at, descriptor_at, block_at, vacant}
 use Rattle.receive_laws.specs.Joint.{IsPosted, IsFilled, IsRing, StageHolds}
 use Rattle.receive_laws.specs.Pieces.{Piece, no_piece, piece_at}
 use Rattle.receive_laws.proofs.Kept.{IsPosted-kept, IsFilled-kept, IsLoose-kept, slot_low}
-use Rattle.pmd_base.proofs.Places.{wrapped_apart}
+use Rattle.pmd_rx.proofs.PmdSeam.Places.{wrapped_apart}
 use Rattle.receive_laws.proofs.Places.{slots_apart, buffer_and_slot, slot_and_buffer, buffers_apart, less_apart}
 
 -- the piece that a filled slot takes of what is left

@@ -3,26 +3,26 @@ use Rattle.std.proofs.Common.{◌≡◌, ℕ, ◌/◌, ◌%◌, inl, inr, List, 
 use Rattle.std.specs.Prelude.{IsTrue, IsFalse}
 use Rattle.std.proofs.lemmas.Bool.{cases_eq}
 use Rattle.std.proofs.lemmas.List.{append-nil}
-use Rattle.dma_arena.specs.Block.{Block}
-use Rattle.dma_arena.specs.Memory.{Avoids}
-use Rattle.dma_arena.proofs.Inside.{inside_avoids}
-use Rattle.register_file.specs.Pools.{mode_in}
-use Rattle.register_file.specs.declared.dir.Dir.{Dir}
-use Rattle.register_file.specs.declared.dir.Dir.TheVariants.{Rx, Tx}
+use Rattle.nic_device.specs.DmaArena.Block.{Block}
+use Rattle.nic_device.specs.DmaArena.Memory.{Avoids}
+use Rattle.nic_device.proofs.DmaArena.Inside.{inside_avoids}
+use Rattle.nic_device.specs.RegisterFile.Pools.{mode_in}
+use Rattle.nic_device.specs.DmaRing.declared.dir.Dir.{Dir}
+use Rattle.nic_device.specs.DmaRing.declared.dir.Dir.TheVariants.{Rx, Tx}
 use Rattle.nic_device.specs.Outcome.{Outcome}
 use Rattle.nic_device.specs.Sound.{IsEvent, IsSound}
 use Rattle.nic_device.specs.State.{State}
 use Rattle.nic_device.specs.Step.{after, reply_to}
 use Rattle.nic_device.specs.declared.event.Event.{Event}
 use Rattle.nic_device.specs.declared.event.Event.TheVariants as event
-use Rattle.device_laws.specs.Laws.{WritesNoSetting}
-use Rattle.device_laws.specs.Leaving.{LeavesReceive, LeavesBlock, LeavesMemory}
-use Rattle.device_laws.proofs.KeptSettings.{settings_stand}
-use Rattle.device_laws.proofs.RepliesOut.{misaligned}
-use Rattle.device_laws.proofs.Standing.{stays_within, memory_rest, memory_blocks}
-use Rattle.device_laws.proofs.StandingAccesses.{read_rest}
-use Rattle.device_laws.proofs.StandingQueues.{switching_rest}
-use Rattle.device_laws.proofs.StandingRest.{arrival_rest, message_rest, eeprom_rest, link_rest, collecting_rest}
+use Rattle.history_laws.specs.DeviceLaws.Laws.{WritesNoSetting}
+use Rattle.history_laws.specs.DeviceLaws.Leaving.{LeavesReceive, LeavesBlock, LeavesMemory}
+use Rattle.history_laws.proofs.DeviceLaws.KeptSettings.{settings_stand}
+use Rattle.history_laws.proofs.DeviceLaws.RepliesOut.{misaligned}
+use Rattle.history_laws.proofs.DeviceLaws.Standing.{stays_within, memory_rest, memory_blocks}
+use Rattle.history_laws.proofs.DeviceLaws.StandingAccesses.{read_rest}
+use Rattle.history_laws.proofs.DeviceLaws.StandingQueues.{switching_rest}
+use Rattle.history_laws.proofs.DeviceLaws.StandingRest.{arrival_rest, message_rest, eeprom_rest, link_rest, collecting_rest}
 use Rattle.device_lock.specs.Alone.{Blocks, WritesOutside, SparesIfSome, place_at, LeavesRegisters, LeavesBlocks}
 use Rattle.device_lock.specs.declared.alone.Watched.{Watched}
 use Rattle.pmd_rx.specs.Receive.{Receive}

@@ -4,11 +4,11 @@ use Rattle.std.specs.Prelude.{suc, ◌==◌, slice_index}
 use Rattle.std.specs.List.{list_any}
 use Rattle.std.proofs.lemmas.Bool.{or_cases, or_left, or_right, or_from, eqb-true, ne_eqb}
 use Rattle.std.proofs.lemmas.List.Folds.{list_any-append}
-use Rattle.dma_arena.specs.Block.{Block}
-use Rattle.dma_ring.specs.Descriptor.{first_half, second_half}
-use Rattle.dma_ring.specs.Receive.{is_done, ends_packet}
+use Rattle.nic_device.specs.DmaArena.Block.{Block}
+use Rattle.nic_device.specs.DmaRing.Descriptor.{first_half, second_half}
+use Rattle.nic_device.specs.DmaRing.Receive.{is_done, ends_packet}
 use Rattle.nic_device.proofs.Cases.{either_way}
-use Rattle.pmd_base.specs.declared.packet.Packet.{Packet}
+use Rattle.pmd_rx.specs.PmdSeam.declared.packet.Packet.{Packet}
 use Rattle.pmd_rx.specs.Keeping.{fresh_block, has_lent}
 use Rattle.pmd_rx.specs.Receive.{Receive, Stage, Looks, Sees, Holding, Lent, Named, MayLend, LendsNext, PeeksNext, TakesNext, looked, took, lent_one, named, moved}
 

@@ -2,11 +2,11 @@
 use Rattle.std.proofs.Common.{◌≡◌, ℕ, ◌<◌, ◌≤◌, inl, inr, true, not, List, [], ◌∷◌, ◌++◌, length, refl, sym, ap, ◌∙◌, subst, arith}
 use Rattle.std.specs.FinMap as map
 use Rattle.std.proofs.lemmas.Bool.{cases_Bool, or_left, or_right}
-use Rattle.dma_arena.specs.Block.{Block}
-use Rattle.dma_arena.specs.Memory.{read_at}
-use Rattle.dma_arena.proofs.Bus.{of_some}
-use Rattle.dma_ring.specs.Descriptor.{second_half}
-use Rattle.dma_ring.specs.Receive.{is_done, ends_packet}
+use Rattle.nic_device.specs.DmaArena.Block.{Block}
+use Rattle.nic_device.specs.DmaArena.Memory.{read_at}
+use Rattle.nic_device.proofs.DmaArena.Bus.{of_some}
+use Rattle.nic_device.specs.DmaRing.Descriptor.{second_half}
+use Rattle.nic_device.specs.DmaRing.Receive.{is_done, ends_packet}
 use Rattle.nic_device.specs.Outcome.{Outcome}
 use Rattle.nic_device.specs.State.{State}
 use Rattle.nic_device.specs.Step.{reply_to}

@@ -3,9 +3,9 @@ use Rattle.std.proofs.Common.{◌≡◌, ℕ, Bool, true, false, ◌&&◌, not, 
 use Rattle.std.specs.Prelude.{◌==◌, IsTrue}
 use Rattle.std.proofs.lemmas.Bool.{cases_Bool, eqb-true, eqb-false, or_left, or_right}
 use Rattle.std.proofs.lemmas.List.{append-nil}
-use Rattle.vf_map.specs.declared.mode.Mode.{Mode}
-use Rattle.register_file.specs.Queue.{is_on}
-use Rattle.register_file.specs.declared.dir.Dir.TheVariants.{Rx}
+use Rattle.nic_device.specs.VfMap.declared.mode.Mode.{Mode}
+use Rattle.nic_device.specs.RegisterFile.Queue.{is_on}
+use Rattle.nic_device.specs.DmaRing.declared.dir.Dir.TheVariants.{Rx}
 use Rattle.nic_device.specs.State.{State}
 use Rattle.nic_device.specs.Step.{after}
 use Rattle.device_lock.specs.Alone.{Blocks, lent_by, mode_after}

@@ -2,11 +2,11 @@
 use Rattle.std.proofs.Common.{◌≡◌, ◌≢◌, ℕ, ◌+◌, ◌<◌, ◌≤◌, inl, inr, false, List, [], ◌∷◌, length, refl, sym, ◌∙◌, subst, arith, Ok}
 use Rattle.std.specs.Prelude.{⊤}
 use Rattle.std.proofs.lemmas.Bool.{cases_eq, cases_lt}
-use Rattle.dma_arena.specs.Block.{Block}
-use Rattle.dma_arena.specs.Memory.{LiesIn}
-use Rattle.rx_ring.specs.declared.filled.Filled.{Filled}
-use Rattle.rx_ring.proofs.Fills.{takes_piece}
-use Rattle.register_laws.specs.Sides.{receive_queue_of}
+use Rattle.nic_device.specs.DmaArena.Block.{Block}
+use Rattle.nic_device.specs.DmaArena.Memory.{LiesIn}
+use Rattle.nic_device.specs.RxRing.declared.filled.Filled.{Filled}
+use Rattle.nic_device.proofs.RxRing.Fills.{takes_piece}
+use Rattle.nic_device.specs.RegisterLaws.Sides.{receive_queue_of}
 use Rattle.nic_device.specs.Outcome.{Outcome}
 use Rattle.nic_device.specs.Receive.{rest_of, is_empty}
 use Rattle.nic_device.specs.State.{State, Waiting}

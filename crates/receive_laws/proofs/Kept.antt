@@ -2,22 +2,22 @@
 use Rattle.std.proofs.Common.{◌≡◌, ℕ, ◌+◌, ◌*◌, ◌≤◌, ◌<◌, List, length, refl, ap, ◌∙◌, arith}
 use Rattle.std.specs.Prelude.{is_some}
 use Rattle.std.specs.FinMap as map
-use Rattle.dma_arena.specs.Memory.{Memory, has_block, read_at, LiesIn}
-use Rattle.dma_arena.proofs.Inside.{reads_its_block}
-use Rattle.dma_ring.specs.Descriptor.{first_half, second_half}
-use Rattle.dma_ring.specs.Receive.{is_done, ends_packet, bytes_in}
-use Rattle.vf_map.specs.Map.{located}
-use Rattle.vf_map.specs.declared.mode.Mode.{Mode}
+use Rattle.nic_device.specs.DmaArena.Memory.{Memory, has_block, read_at, LiesIn}
+use Rattle.nic_device.proofs.DmaArena.Inside.{reads_its_block}
+use Rattle.nic_device.specs.DmaRing.Descriptor.{first_half, second_half}
+use Rattle.nic_device.specs.DmaRing.Receive.{is_done, ends_packet, bytes_in}
+use Rattle.nic_device.specs.VfMap.Map.{located}
+use Rattle.nic_device.specs.VfMap.declared.mode.Mode.{Mode}
 use Rattle.nic_device.specs.Named.{named, at_location}
 use Rattle.nic_device.specs.State.{State}
 use Rattle.nic_device.specs.declared.event.Port.{Port}
 use Rattle.nic_device.specs.declared.event.Port.TheVariants.{Pf, Vf}
-use Rattle.register_file.specs.Pools.{mode_in}
+use Rattle.nic_device.specs.RegisterFile.Pools.{mode_in}
 use Rattle.pmd_rx.specs.Receive.{Layout, Stage, Looks, Sees, Holding, Lent, Named, slot_at, descriptor_at, block_at, vacant}
 use Rattle.receive_laws.specs.Joint.{IsPosted, IsFilled, IsRing, IsNamed, IsLoose, StageHolds, HasSlots}
 use Rattle.receive_laws.specs.Pieces.{Piece, piece_at}
 use Rattle.receive_laws.specs.Steps.{IfFresh}
-use Rattle.pmd_base.proofs.Places.{wrapped_below}
+use Rattle.pmd_rx.proofs.PmdSeam.Places.{wrapped_below}
 use Rattle.receive_laws.proofs.Places.{slot_inside, bytes_inside}
 
 -- a slot whose reads are the same stays what it is

@@ -1,9 +1,9 @@
 -- An event that leaves a queue's receive side, but whether it is on and wanted on, keeps the agreement.
 use Rattle.std.proofs.Common.{◌≡◌, ℕ, List, length, ap, ◌∙◌}
-use Rattle.dma_ring.specs.declared.ring.Ring.{Ring}
+use Rattle.nic_device.specs.DmaRing.declared.ring.Ring.{Ring}
 use Rattle.nic_device.specs.State.{State}
-use Rattle.register_laws.specs.Sides.{ReceiveQueue, receive_queue_of}
-use Rattle.rx_ring.specs.Control.{buffer_size_of, descriptor_type_of}
+use Rattle.nic_device.specs.RegisterLaws.Sides.{ReceiveQueue, receive_queue_of}
+use Rattle.nic_device.specs.RxRing.Control.{buffer_size_of, descriptor_type_of}
 use Rattle.pmd_rx.specs.Receive.{Layout, Receive}
 use Rattle.receive_laws.specs.Joint.{IsSetUp, Holds}
 use Rattle.receive_laws.specs.Pieces.{Piece}

@@ -2,18 +2,18 @@
 use Rattle.std.proofs.Common.{◌≡◌, ℕ, inl, inr, Bool, true, false, refl, sym, ap, subst}
 use Rattle.std.specs.Prelude.{◌==◌}
 use Rattle.std.proofs.lemmas.Bool.{eqb-true, eqb-false}
-use Rattle.dma_arena.specs.Block.{Block}
-use Rattle.register_file.specs.Pools.{mode_in}
-use Rattle.register_file.specs.declared.dir.Dir.TheVariants.{Rx, Tx}
+use Rattle.nic_device.specs.DmaArena.Block.{Block}
+use Rattle.nic_device.specs.RegisterFile.Pools.{mode_in}
+use Rattle.nic_device.specs.DmaRing.declared.dir.Dir.TheVariants.{Rx, Tx}
 use Rattle.nic_device.specs.State.{State}
 use Rattle.nic_device.specs.Step.{after}
 use Rattle.nic_device.specs.declared.event.Event.{Event}
 use Rattle.nic_device.specs.declared.event.Event.TheVariants as event
-use Rattle.device_laws.specs.Leaving.{LeavesReceive}
-use Rattle.device_laws.proofs.Standing.{memory_rest}
-use Rattle.device_laws.proofs.StandingAccesses.{read_rest}
-use Rattle.device_laws.proofs.StandingQueues.{transmitting_rest, switching_rest}
-use Rattle.device_laws.proofs.StandingRest.{arrival_rest, message_rest, eeprom_rest, link_rest, collecting_rest}
+use Rattle.history_laws.specs.DeviceLaws.Leaving.{LeavesReceive}
+use Rattle.history_laws.proofs.DeviceLaws.Standing.{memory_rest}
+use Rattle.history_laws.proofs.DeviceLaws.StandingAccesses.{read_rest}
+use Rattle.history_laws.proofs.DeviceLaws.StandingQueues.{transmitting_rest, switching_rest}
+use Rattle.history_laws.proofs.DeviceLaws.StandingRest.{arrival_rest, message_rest, eeprom_rest, link_rest, collecting_rest}
 use Rattle.device_lock.specs.Alone.{LeavesRegisters, SparesIfSome, place_at}
 use Rattle.device_lock.specs.declared.alone.Watched.{Watched}
 use Rattle.nic_device.specs.declared.event.Port.TheVariants.{Pf}

@@ -1,3 +1,5 @@
+pub use Rattle.history_laws.proofs.DeviceLaws
+pub use Rattle.history_laws.proofs as HistoryLaws
 pub mod Advancing
 pub mod Cases
 pub mod Clear

@@ -3,9 +3,9 @@ use Rattle.std.proofs.Common.{◌≡◌, ℕ, ◌+◌, Bool, true, false, ◌&&�
 use Rattle.std.specs.Prelude.{if◌then◌else◌, IsTrue, ⊤}
 use Rattle.std.proofs.lemmas.Bool.{cases_lt}
 use Rattle.std.proofs.lemmas.List.{get_or-drop, length-drop}
-use Rattle.dma_arena.specs.Block.{Block}
-use Rattle.dma_ring.specs.Descriptor.{first_half, second_half}
-use Rattle.dma_ring.specs.Receive.{is_done, ends_packet}
+use Rattle.nic_device.specs.DmaArena.Block.{Block}
+use Rattle.nic_device.specs.DmaRing.Descriptor.{first_half, second_half}
+use Rattle.nic_device.specs.DmaRing.Receive.{is_done, ends_packet}
 use Rattle.nic_device.specs.declared.event.Event.{Event}
 use Rattle.nic_device.specs.declared.event.Event.TheVariants as event
 use Rattle.nic_device.specs.declared.event.Reply.{Reply}

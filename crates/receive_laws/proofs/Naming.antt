@@ -1,24 +1,24 @@
 -- The descriptor at the vacant slot names the block that was lent.
 use Rattle.std.proofs.Common.{◌≡◌, ◌≢◌, ℕ, ◌*◌, ◌<◌, ◌≤◌, true, List, ◌++◌, length, sym, ap, ◌∙◌, subst, arith, Option}
-use Rattle.dma_arena.specs.Memory.{Memory, is_lent, read_at, write_at, IsWhole, SameLent, AreApart}
-use Rattle.dma_arena.proofs.Bus.{SameLent-write_at, read_at-write_at_same, read_at-write_at_apart}
-use Rattle.dma_ring.specs.Descriptor.{first_half, second_half}
-use Rattle.dma_ring.specs.Driver.{posted}
-use Rattle.dma_ring.specs.Laws.{HasHalves}
-use Rattle.dma_ring.specs.Receive.{is_done}
-use Rattle.dma_ring.proofs.Fields.{halves_come_back}
+use Rattle.nic_device.specs.DmaArena.Memory.{Memory, is_lent, read_at, write_at, IsWhole, SameLent, AreApart}
+use Rattle.nic_device.proofs.DmaArena.Bus.{SameLent-write_at, read_at-write_at_same, read_at-write_at_apart}
+use Rattle.nic_device.specs.DmaRing.Descriptor.{first_half, second_half}
+use Rattle.nic_device.specs.DmaRing.Driver.{posted}
+use Rattle.nic_device.specs.DmaRing.Laws.{HasHalves}
+use Rattle.nic_device.specs.DmaRing.Receive.{is_done}
+use Rattle.nic_device.proofs.DmaRing.Fields.{halves_come_back}
 use Rattle.nic_device.specs.State.{State}
 use Rattle.nic_device.specs.Outcome.{Outcome}
 use Rattle.nic_device.specs.Step.{after, reply_to}
 use Rattle.nic_device.specs.declared.event.Event.TheVariants as event
 use Rattle.history_laws.proofs.Calls.{poked_is}
-use Rattle.pmd_base.specs.declared.packet.Packet.{Packet}
+use Rattle.pmd_rx.specs.PmdSeam.declared.packet.Packet.{Packet}
 use Rattle.pmd_rx.specs.Receive.{Layout, Lent, Receive, slot_at, descriptor_at, block_at, vacant, held, naming, named, drive}
 use Rattle.receive_laws.specs.Joint.{IsPosted, IsRing, IsLoose, StageHolds, HasSlots, Agree}
 use Rattle.receive_laws.specs.Pieces.{Piece, piece_at}
 use Rattle.receive_laws.proofs.Kept.{IsPosted-kept, IsFilled-kept, IsLoose-kept, slot_low}
 use Rattle.receive_laws.proofs.Looking.{descriptor_lent}
-use Rattle.pmd_base.proofs.Places.{wrapped_apart}
+use Rattle.pmd_rx.proofs.PmdSeam.Places.{wrapped_apart}
 use Rattle.receive_laws.proofs.Places.{aligned, slots_apart, buffer_and_slot}
 
 module _ (m : Memory) (l : Layout) (here : List Piece) (ring : IsRing l) (h : HasSlots m l here) (whole : IsWhole m)

@@ -3,10 +3,10 @@ use Rattle.std.proofs.Common.{◌≡◌, ◌≢◌, ℕ, ◌+◌, ◌*◌, ◌/�
 use Rattle.std.specs.Prelude.{◌==◌, nat_lt}
 use Rattle.std.proofs.lemmas.Bool.{cases_lt, lt-ltb}
 use Rattle.std.proofs.lemmas.Bool.Decides.{nat_tests}
-use Rattle.dma_arena.specs.Memory.{AreApart, LiesIn}
-use Rattle.dma_ring.specs.declared.ring.Ring.{Ring}
-use Rattle.dma_ring.specs.Ring.{is_outside}
-use Rattle.pmd_base.specs.Slots.{wrapped}
+use Rattle.nic_device.specs.DmaArena.Memory.{AreApart, LiesIn}
+use Rattle.nic_device.specs.DmaRing.declared.ring.Ring.{Ring}
+use Rattle.nic_device.specs.DmaRing.Ring.{is_outside}
+use Rattle.pmd_rx.specs.PmdSeam.Slots.{wrapped}
 
 -- places
 

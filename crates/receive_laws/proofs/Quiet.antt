@@ -2,16 +2,16 @@
 use Rattle.std.proofs.Common.{◌≡◌, ◌≢◌, ℕ, List, [], ◌++◌, refl, sym, ◌∙◌, subst}
 use Rattle.std.proofs.lemmas.Bool.{ne_eqb}
 use Rattle.std.proofs.lemmas.List.{append-nil}
-use Rattle.dma_arena.specs.Block.{Block}
+use Rattle.nic_device.specs.DmaArena.Block.{Block}
 use Rattle.nic_device.specs.State.{State, Waiting}
 use Rattle.nic_device.specs.Step.{after, reply_to}
 use Rattle.nic_device.specs.declared.event.Event.TheVariants as event
 use Rattle.nic_device.specs.declared.event.Reply.{Reply}
 use Rattle.nic_device.specs.declared.event.Reply.TheVariants.{Wrote}
-use Rattle.device_laws.specs.Leaving.{IsFirstFor, LeavesBlock}
-use Rattle.device_laws.proofs.KeptSettings.{settings_stand}
-use Rattle.device_laws.proofs.Standing.{stays_within}
-use Rattle.device_laws.proofs.StandingQueues.{receiving_rest}
+use Rattle.history_laws.specs.DeviceLaws.Leaving.{IsFirstFor, LeavesBlock}
+use Rattle.history_laws.proofs.DeviceLaws.KeptSettings.{settings_stand}
+use Rattle.history_laws.proofs.DeviceLaws.Standing.{stays_within}
+use Rattle.history_laws.proofs.DeviceLaws.StandingQueues.{receiving_rest}
 use Rattle.pmd_rx.specs.Receive.{Receive}
 use Rattle.receive_laws.specs.Joint.{Agree}
 use Rattle.receive_laws.specs.Pieces.{Piece, pieces, pieces_told}

@@ -4,13 +4,13 @@ use Rattle.std.specs.Prelude.{◌==◌}
 use Rattle.std.specs.FinMap as map
 use Rattle.std.proofs.lemmas.Bool.{cases_lt, cases_eq, eq-eqb}
 use Rattle.std.proofs.lemmas.List.{append-nil}
-use Rattle.dma_arena.specs.Memory.{Memory}
-use Rattle.dma_ring.specs.declared.fault.RingFault.{RingFault}
-use Rattle.rx_ring.specs.declared.filled.Filled.{Filled}
-use Rattle.register_file.specs.Pools.{mode_in}
-use Rattle.register_file.specs.Queue.{ring_of}
-use Rattle.register_file.specs.declared.dir.Dir.TheVariants.{Rx}
-use Rattle.register_laws.specs.Sides.{receive_queue_of}
+use Rattle.nic_device.specs.DmaArena.Memory.{Memory}
+use Rattle.nic_device.specs.DmaRing.declared.fault.RingFault.{RingFault}
+use Rattle.nic_device.specs.RxRing.declared.filled.Filled.{Filled}
+use Rattle.nic_device.specs.RegisterFile.Pools.{mode_in}
+use Rattle.nic_device.specs.RegisterFile.Queue.{ring_of}
+use Rattle.nic_device.specs.DmaRing.declared.dir.Dir.TheVariants.{Rx}
+use Rattle.nic_device.specs.RegisterLaws.Sides.{receive_queue_of}
 use Rattle.nic_device.specs.Outcome.{Outcome}
 use Rattle.nic_device.specs.Receive.{rest_of, is_empty, piece_done, slot_done}
 use Rattle.nic_device.specs.Sound.{IsSound, AreWaiting}
@@ -18,9 +18,9 @@ use Rattle.nic_device.specs.State.{State, Waiting}
 use Rattle.nic_device.specs.Step.{after, reply_to}
 use Rattle.nic_device.specs.declared.event.Event.TheVariants as event
 use Rattle.nic_device.specs.declared.event.Reply.TheVariants.{Wrote}
-use Rattle.device_laws.proofs.Delivered.{told-lt}
-use Rattle.device_laws.specs.Leaving.{IsFirstFor, LeavesReceive, LeavesBlock}
-use Rattle.device_laws.specs.Replies.{moved_on}
+use Rattle.history_laws.proofs.DeviceLaws.Delivered.{told-lt}
+use Rattle.history_laws.specs.DeviceLaws.Leaving.{IsFirstFor, LeavesReceive, LeavesBlock}
+use Rattle.history_laws.specs.DeviceLaws.Replies.{moved_on}
 use Rattle.pmd_rx.specs.Receive.{Receive}
 use Rattle.history_laws.proofs.RingsReceived.{slotless_stands}
 use Rattle.receive_laws.specs.Joint.{Agree, Holds}

@@ -3,21 +3,21 @@
 use Rattle.std.proofs.Common.{◌≡◌, ◌≢◌, ℕ, ◌+◌, ◌*◌, ◌^◌, ◌<◌, ◌≤◌, ◌⊎◌, inl, inr, true, false, List, [], ◌∷◌, ◌++◌, length, refl, sym, ap, ◌∙◌, subst, arith, Ok, Err}
 use Rattle.std.proofs.lemmas.Bool.{cases_lt, eq-eqb, both_ways, and_from, not_from_false}
 use Rattle.std.proofs.lemmas.List.{length_push, get_or_push, get_or_append_left}
-use Rattle.dma_arena.specs.Memory.{Memory, is_lent, read_at, IsWhole}
-use Rattle.dma_arena.proofs.Blocks.{is_lent_in}
-use Rattle.dma_ring.specs.declared.ring.Ring.{Ring}
-use Rattle.dma_ring.specs.declared.fault.RingFault.{RingFault}
-use Rattle.dma_ring.specs.Descriptor.{first_half}
-use Rattle.dma_ring.specs.Ring.{slots_of, is_outside, next_of}
-use Rattle.rx_ring.specs.declared.filled.Filled.{Filled}
-use Rattle.rx_ring.specs.Fill.{Rest, Outcome, head_address, buffer_address}
-use Rattle.rx_ring.specs.Laws.{IsHealthy}
-use Rattle.rx_ring.proofs.Fills.{takes_piece}
-use Rattle.rx_ring.proofs.Tests.{fill_healthy}
-use Rattle.register_laws.specs.Sides.{ReceiveQueue, receive_queue_of}
+use Rattle.nic_device.specs.DmaArena.Memory.{Memory, is_lent, read_at, IsWhole}
+use Rattle.nic_device.proofs.DmaArena.Blocks.{is_lent_in}
+use Rattle.nic_device.specs.DmaRing.declared.ring.Ring.{Ring}
+use Rattle.nic_device.specs.DmaRing.declared.fault.RingFault.{RingFault}
+use Rattle.nic_device.specs.DmaRing.Descriptor.{first_half}
+use Rattle.nic_device.specs.DmaRing.Ring.{slots_of, is_outside, next_of}
+use Rattle.nic_device.specs.RxRing.declared.filled.Filled.{Filled}
+use Rattle.nic_device.specs.RxRing.Fill.{Rest, Outcome, head_address, buffer_address}
+use Rattle.nic_device.specs.RxRing.Laws.{IsHealthy}
+use Rattle.nic_device.proofs.RxRing.Fills.{takes_piece}
+use Rattle.nic_device.proofs.RxRing.Tests.{fill_healthy}
+use Rattle.nic_device.specs.RegisterLaws.Sides.{ReceiveQueue, receive_queue_of}
 use Rattle.nic_device.specs.Receive.{is_empty}
 use Rattle.nic_device.specs.State.{State}
-use Rattle.pmd_base.specs.Slots.{wrapped}
+use Rattle.pmd_rx.specs.PmdSeam.Slots.{wrapped}
 use Rattle.pmd_rx.specs.Receive.{Layout, slot_at, descriptor_at, block_at, vacant}
 use Rattle.receive_laws.specs.Joint.{IsFilled, IsRing, IsSetUp, HasSlots}
 use Rattle.receive_laws.specs.Pieces.{Piece, no_piece, piece_at}
@@ -25,7 +25,7 @@ use Rattle.receive_laws.proofs.Cases.{fill_on}
 use Rattle.receive_laws.proofs.Filled.{piece_in, Fills, fills_slot, filled_beside, posted_beside}
 use Rattle.receive_laws.proofs.Kept.{slot_below, slot_low}
 use Rattle.receive_laws.proofs.Looking.{descriptor_lent}
-use Rattle.pmd_base.proofs.Places.{next_wrapped}
+use Rattle.pmd_rx.proofs.PmdSeam.Places.{next_wrapped}
 use Rattle.receive_laws.proofs.Places.{address_small, buffer_even, inside_of}
 
 -- the head of the queue is the first slot that isn't filled

@@ -3,11 +3,11 @@ use Rattle.std.proofs.Common.{◌≡◌, ℕ, ◌≤◌, true, List, [], ◌∷�
 use Rattle.std.specs.Prelude.{◌==◌, All}
 use Rattle.std.proofs.lemmas.Bool.{cond_both, eqb-true}
 use Rattle.std.proofs.lemmas.List.Elements.{All-head}
-use Rattle.dma_arena.specs.Block.{Block}
-use Rattle.rx_ring.specs.Control.{buffer_size_of}
-use Rattle.rx_ring.specs.declared.filled.Filled.{Filled}
-use Rattle.rx_ring.proofs.Fills.{takes_piece}
-use Rattle.register_laws.specs.Sides.{receive_queue_of}
+use Rattle.nic_device.specs.DmaArena.Block.{Block}
+use Rattle.nic_device.specs.RxRing.Control.{buffer_size_of}
+use Rattle.nic_device.specs.RxRing.declared.filled.Filled.{Filled}
+use Rattle.nic_device.proofs.RxRing.Fills.{takes_piece}
+use Rattle.nic_device.specs.RegisterLaws.Sides.{receive_queue_of}
 use Rattle.nic_device.specs.Outcome.{Outcome}
 use Rattle.nic_device.specs.Receive.{rest_of}
 use Rattle.nic_device.specs.State.{State, Waiting}
@@ -15,7 +15,7 @@ use Rattle.nic_device.specs.Step.{step_of}
 use Rattle.nic_device.specs.declared.event.Event.{Event}
 use Rattle.nic_device.specs.declared.event.Event.TheVariants as event
 use Rattle.nic_device.proofs.QueueCases.{filled_by, received_cases}
-use Rattle.device_laws.proofs.KeptSettings.{settings_stand}
+use Rattle.history_laws.proofs.DeviceLaws.KeptSettings.{settings_stand}
 use Rattle.receive_laws.specs.Pieces.{Piece, AllEnd, pieces, pieces_told}
 use Rattle.receive_laws.specs.Short.{IsShortFor, AreShort, FramesStayShort, ShortFramesEnd}
 use Rattle.receive_laws.proofs.Waiting.{waiting_after}

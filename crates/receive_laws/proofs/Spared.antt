@@ -3,15 +3,15 @@ use Rattle.std.proofs.Common.{◌≡◌, ℕ, inl, inr, take, refl, sym, ap, ◌
 use Rattle.std.specs.Prelude.{⊤}
 use Rattle.std.specs.FinMap as map
 use Rattle.std.proofs.lemmas.Bool.{cases_lt}
-use Rattle.dma_arena.specs.Block.{Block}
-use Rattle.dma_arena.specs.Memory.{Memory, Avoids, write_at}
-use Rattle.dma_arena.proofs.Blocks.{get-write_at_out}
-use Rattle.dma_ring.specs.Descriptor.{of_halves}
-use Rattle.dma_ring.specs.Receive.{written_back}
-use Rattle.dma_ring.proofs.Fields.{halves_come_back}
-use Rattle.rx_ring.specs.declared.filled.Filled.{Filled}
-use Rattle.rx_ring.specs.Fill.{Rest, memory_with}
-use Rattle.rx_ring.proofs.Fills.{takes_piece}
+use Rattle.nic_device.specs.DmaArena.Block.{Block}
+use Rattle.nic_device.specs.DmaArena.Memory.{Memory, Avoids, write_at}
+use Rattle.nic_device.proofs.DmaArena.Blocks.{get-write_at_out}
+use Rattle.nic_device.specs.DmaRing.Descriptor.{of_halves}
+use Rattle.nic_device.specs.DmaRing.Receive.{written_back}
+use Rattle.nic_device.proofs.DmaRing.Fields.{halves_come_back}
+use Rattle.nic_device.specs.RxRing.declared.filled.Filled.{Filled}
+use Rattle.nic_device.specs.RxRing.Fill.{Rest, memory_with}
+use Rattle.nic_device.proofs.RxRing.Fills.{takes_piece}
 use Rattle.nic_device.specs.Outcome.{Outcome}
 use Rattle.nic_device.specs.State.{State}
 use Rattle.nic_device.specs.Step.{step_of, after, reply_to}
@@ -19,8 +19,8 @@ use Rattle.nic_device.specs.declared.event.Event.TheVariants as event
 use Rattle.nic_device.specs.declared.event.Reply.{Reply}
 use Rattle.nic_device.specs.declared.event.Reply.TheVariants.{Wrote}
 use Rattle.nic_device.proofs.QueueCases.{received_cases}
-use Rattle.device_laws.specs.Leaving.{LeavesBlock, ReceivesOutside}
-use Rattle.device_laws.proofs.StandingQueues.{receiving_blocks}
+use Rattle.history_laws.specs.DeviceLaws.Leaving.{LeavesBlock, ReceivesOutside}
+use Rattle.history_laws.proofs.DeviceLaws.StandingQueues.{receiving_blocks}
 use Rattle.receive_laws.specs.Steps.{IsOutside}
 
 -- what a reply says was received is outside a block

@@ -1,17 +1,17 @@
 -- A write of the tail of the queue through the driver's number for it.
 use Rattle.std.proofs.Common.{◌≡◌, ℕ, ◌%◌, ◌^◌, ◌<◌, inl, refl, ap, ◌∙◌}
 use Rattle.std.proofs.Math.Nat.{mod-eq_of_lt}
-use Rattle.reg_table.specs.declared.place.Place.{Place}
-use Rattle.reg_table.specs.declared.rows.RowId.TheVariants.{Rdt, GcrExt}
-use Rattle.vf_map.specs.Pools.{mode_of}
-use Rattle.register_file.specs.Columns.{place}
-use Rattle.register_file.specs.Pools.{mode_in}
-use Rattle.register_file.specs.Registers.{Registers, word_of}
-use Rattle.register_laws.specs.Laws.{after_write, word_after}
-use Rattle.register_laws.specs.Sides.{ReceiveQueue, receive_queue_of}
-use Rattle.register_laws.specs.Sound.{HasShape}
-use Rattle.register_laws.proofs.Puts.{word_at-put_other}
-use Rattle.register_laws.proofs.SideWords.{receive-written}
+use Rattle.nic_device.specs.RegTable.declared.place.Place.{Place}
+use Rattle.nic_device.specs.RegTable.declared.rows.RowId.TheVariants.{Rdt, GcrExt}
+use Rattle.nic_device.specs.VfMap.Pools.{mode_of}
+use Rattle.nic_device.specs.RegisterFile.Columns.{place}
+use Rattle.nic_device.specs.RegisterFile.Pools.{mode_in}
+use Rattle.nic_device.specs.RegisterFile.Registers.{Registers, word_of}
+use Rattle.nic_device.specs.RegisterLaws.Laws.{after_write, word_after}
+use Rattle.nic_device.specs.RegisterLaws.Sides.{ReceiveQueue, receive_queue_of}
+use Rattle.nic_device.specs.RegisterLaws.Sound.{HasShape}
+use Rattle.nic_device.proofs.RegisterLaws.Puts.{word_at-put_other}
+use Rattle.nic_device.proofs.RegisterLaws.SideWords.{receive-written}
 use Rattle.history_laws.proofs.Written.{merged_low}
 use Rattle.nic_device.specs.Access.{named_written}
 use Rattle.nic_device.specs.Outcome.{gives}

@@ -1,16 +1,16 @@
 -- The block of the next slot is taken: its packet is the oldest that was delivered and is neither held nor handed out.
 use Rattle.std.proofs.Common.{◌≡◌, ℕ, List, [], ◌∷◌, ◌++◌, drop, refl, sym, ap, subst, ◌*◌, ◌<◌, true, length, take, ◌∙◌, arith, append_assoc, Some}
 use Rattle.std.specs.FinMap as map
-use Rattle.dma_arena.specs.Block.{Block}
-use Rattle.dma_arena.specs.Memory.{IsWhole, Memory, part}
-use Rattle.dma_arena.proofs.Bus.{of_some}
-use Rattle.dma_ring.specs.Receive.{bytes_in}
-use Rattle.register_laws.specs.Sides.{receive_queue_of}
+use Rattle.nic_device.specs.DmaArena.Block.{Block}
+use Rattle.nic_device.specs.DmaArena.Memory.{IsWhole, Memory, part}
+use Rattle.nic_device.proofs.DmaArena.Bus.{of_some}
+use Rattle.nic_device.specs.DmaRing.Receive.{bytes_in}
+use Rattle.nic_device.specs.RegisterLaws.Sides.{receive_queue_of}
 use Rattle.nic_device.specs.State.{State}
 use Rattle.nic_device.specs.Outcome.{Outcome}
 use Rattle.nic_device.specs.Step.{after, reply_to}
 use Rattle.nic_device.specs.declared.event.Event.TheVariants as event
-use Rattle.pmd_base.specs.Packet.{kept_of}
+use Rattle.pmd_rx.specs.PmdSeam.Packet.{kept_of}
 use Rattle.history_laws.proofs.Calls.{taken_is}
 use Rattle.pmd_rx.specs.Receive.{Receive, Sees, told, took, drive, held, descriptor_at, block_at, Holding, consumed}
 use Rattle.receive_laws.specs.Joint.{IsFilled, Saw, StageHolds, Agree, InOrder}
@@ -18,8 +18,8 @@ use Rattle.receive_laws.specs.Pieces.{Piece, piece_at, packet_told, whole_packet
 use Rattle.receive_laws.proofs.Kept.{named_kept}
 use Rattle.receive_laws.proofs.Consuming.{ring_on, slots_on, set_up_on}
 use Rattle.std.proofs.lemmas.List.{append-nil, map-append, drop_more}
-use Rattle.dma_arena.proofs.Blocks.{read_at_in}
-use Rattle.pmd_base.specs.declared.packet.Packet.{Packet}
+use Rattle.nic_device.proofs.DmaArena.Blocks.{read_at_in}
+use Rattle.pmd_rx.specs.PmdSeam.declared.packet.Packet.{Packet}
 
 part_front : (xs : List ℕ) (n : ℕ) → part xs 0 n ≡ take n xs
 unfolding part

@@ -2,11 +2,11 @@
 use Rattle.std.proofs.Common.{◌≡◌, ◌≢◌, ℕ, ◌/◌, inl, inr, refl, sym, ap, ◌∙◌, subst, Option, Some, None}
 use Rattle.std.specs.Prelude.{IsTrue, IsFalse}
 use Rattle.std.proofs.lemmas.Bool.{cases_eq}
-use Rattle.dma_arena.specs.Block.{Block}
-use Rattle.dma_arena.specs.Memory.{Avoids}
-use Rattle.dma_arena.proofs.Inside.{inside_avoids}
-use Rattle.register_laws.specs.Sides.{transmit_queue_of}
-use Rattle.tx_ring.specs.Report.{report_length}
+use Rattle.nic_device.specs.DmaArena.Block.{Block}
+use Rattle.nic_device.specs.DmaArena.Memory.{Avoids}
+use Rattle.nic_device.proofs.DmaArena.Inside.{inside_avoids}
+use Rattle.nic_device.specs.RegisterLaws.Sides.{transmit_queue_of}
+use Rattle.nic_device.specs.TxRing.Report.{report_length}
 use Rattle.nic_device.specs.Footprint.{told_back}
 use Rattle.nic_device.specs.Sound.{IsSound}
 use Rattle.nic_device.specs.State.{State}
@@ -14,12 +14,12 @@ use Rattle.nic_device.specs.Step.{after, reply_to}
 use Rattle.nic_device.specs.declared.event.Event.TheVariants as event
 use Rattle.nic_device.specs.declared.event.Reply.{Reply}
 use Rattle.nic_device.specs.declared.event.Reply.TheVariants.{Advanced, Sent}
-use Rattle.device_laws.specs.Leaving.{LeavesBlock}
-use Rattle.device_laws.specs.Replies.{sent_tells}
-use Rattle.device_laws.proofs.KeptSettings.{settings_stand}
-use Rattle.device_laws.proofs.RepliesSent.{transmitting_tells}
-use Rattle.device_laws.proofs.Standing.{stays_within}
-use Rattle.device_laws.proofs.StandingQueues.{transmitting_rest, transmitting_blocks}
+use Rattle.history_laws.specs.DeviceLaws.Leaving.{LeavesBlock}
+use Rattle.history_laws.specs.DeviceLaws.Replies.{sent_tells}
+use Rattle.history_laws.proofs.DeviceLaws.KeptSettings.{settings_stand}
+use Rattle.history_laws.proofs.DeviceLaws.RepliesSent.{transmitting_tells}
+use Rattle.history_laws.proofs.DeviceLaws.Standing.{stays_within}
+use Rattle.history_laws.proofs.DeviceLaws.StandingQueues.{transmitting_rest, transmitting_blocks}
 use Rattle.device_lock.specs.Alone.{Blocks, WritesOutside}
 use Rattle.pmd_rx.specs.Receive.{Receive}
 use Rattle.history_laws.specs.Aligned.{AreAligned}

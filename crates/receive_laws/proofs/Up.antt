@@ -1,11 +1,11 @@
 -- A receive side that is on and wanted on stays so, where device and driver agree.
 use Rattle.std.proofs.Common.{◌≡◌, ℕ, ◌+◌, inl, inr, List, [], ◌∷◌, refl, sym, ap, ◌∙◌, subst}
 use Rattle.std.proofs.lemmas.Bool.{cases_Bool, cases_eq}
-use Rattle.dma_arena.specs.Block.{Block}
-use Rattle.register_file.specs.Pools.{mode_in}
-use Rattle.register_file.specs.Queue.{ring_of}
-use Rattle.register_file.specs.declared.dir.Dir.TheVariants.{Rx}
-use Rattle.register_laws.specs.Sides.{ReceiveQueue, receive_queue_of}
+use Rattle.nic_device.specs.DmaArena.Block.{Block}
+use Rattle.nic_device.specs.RegisterFile.Pools.{mode_in}
+use Rattle.nic_device.specs.RegisterFile.Queue.{ring_of}
+use Rattle.nic_device.specs.DmaRing.declared.dir.Dir.TheVariants.{Rx}
+use Rattle.nic_device.specs.RegisterLaws.Sides.{ReceiveQueue, receive_queue_of}
 use Rattle.nic_device.specs.Outcome.{Outcome}
 use Rattle.nic_device.specs.Receive.{piece_done}
 use Rattle.nic_device.specs.Sound.{IsSound}
@@ -14,10 +14,10 @@ use Rattle.nic_device.specs.Step.{after, step_of}
 use Rattle.nic_device.specs.declared.event.Event.{Event}
 use Rattle.nic_device.specs.declared.event.Event.TheVariants as event
 use Rattle.nic_device.specs.declared.event.Port.{Port}
-use Rattle.device_laws.specs.Leaving.{IsFirstFor}
-use Rattle.device_laws.specs.Replies.{moved_on}
-use Rattle.device_laws.proofs.Standing.{memory_rest}
-use Rattle.device_laws.proofs.StandingQueues.{receiving_rest}
+use Rattle.history_laws.specs.DeviceLaws.Leaving.{IsFirstFor}
+use Rattle.history_laws.specs.DeviceLaws.Replies.{moved_on}
+use Rattle.history_laws.proofs.DeviceLaws.Standing.{memory_rest}
+use Rattle.history_laws.proofs.DeviceLaws.StandingQueues.{receiving_rest}
 use Rattle.device_lock.specs.Alone.{LeavesRegisters}
 use Rattle.device_lock.specs.declared.alone.Watched.{Watched}
 use Rattle.history_laws.proofs.RingsReceived.{slotless_stands}

@@ -3,19 +3,19 @@ use Rattle.std.proofs.Common.{◌≡◌, ℕ, ◌+◌, ◌≤◌, List, [], ◌�
 use Rattle.std.specs.Prelude.{Result, All, not}
 use Rattle.std.proofs.lemmas.Bool.{cond_both, ltb-false}
 use Rattle.std.proofs.lemmas.List.Elements.{All-cons, All-tail, All-push, All-filter}
-use Rattle.dma_arena.specs.Block.{Block}
-use Rattle.reg_table.specs.Rows.{row_of}
-use Rattle.reg_table.specs.declared.place.Place.{Place}
-use Rattle.vf_map.specs.Owner.{has_queue}
-use Rattle.register_file.specs.Access.{asks_pool_reset}
-use Rattle.register_file.specs.Pools.{mode_in}
-use Rattle.register_file.specs.Registers.{is_wanted}
-use Rattle.register_file.specs.Settings.{can_receive, frame_limit}
-use Rattle.register_file.specs.declared.dir.Dir.TheVariants.{Rx, Tx}
-use Rattle.rx_filter.specs.Sorting.{sorted}
-use Rattle.rx_filter.specs.declared.target.Target.{Target}
-use Rattle.rx_filter.specs.declared.unwanted.Unwanted.{Unwanted}
-use Rattle.rx_ring.specs.declared.filled.Filled.{Filled}
+use Rattle.nic_device.specs.DmaArena.Block.{Block}
+use Rattle.nic_device.specs.RegTable.Rows.{row_of}
+use Rattle.nic_device.specs.RegTable.declared.place.Place.{Place}
+use Rattle.nic_device.specs.VfMap.Owner.{has_queue}
+use Rattle.nic_device.specs.RegisterFile.Access.{asks_pool_reset}
+use Rattle.nic_device.specs.RegisterFile.Pools.{mode_in}
+use Rattle.nic_device.specs.RegisterFile.Registers.{is_wanted}
+use Rattle.nic_device.specs.RegisterFile.Settings.{can_receive, frame_limit}
+use Rattle.nic_device.specs.DmaRing.declared.dir.Dir.TheVariants.{Rx, Tx}
+use Rattle.nic_device.specs.RxFilter.Sorting.{sorted}
+use Rattle.nic_device.specs.RxFilter.declared.target.Target.{Target}
+use Rattle.nic_device.specs.RxFilter.declared.unwanted.Unwanted.{Unwanted}
+use Rattle.nic_device.specs.RxRing.declared.filled.Filled.{Filled}
 use Rattle.nic_device.specs.Access.{named_written}
 use Rattle.nic_device.specs.Arrival.{let_in, sorted_in}
 use Rattle.nic_device.specs.Named.{named}
@@ -30,10 +30,10 @@ use Rattle.nic_device.specs.declared.named.Named.{Named}
 use Rattle.nic_device.specs.declared.named.Named.TheVariants.{Nothing, Register}
 use Rattle.nic_device.proofs.Cases.{either_way, switched_cases}
 use Rattle.nic_device.proofs.QueueCases.{filled_by, received_cases}
-use Rattle.device_laws.specs.Laws.{WritesNoSetting, IsOfNoSetting}
-use Rattle.device_laws.proofs.Settings.{no_reset}
-use Rattle.device_laws.proofs.Standing.{stays_within}
-use Rattle.device_laws.proofs.StandingAccesses.{read_rest}
+use Rattle.history_laws.specs.DeviceLaws.Laws.{WritesNoSetting, IsOfNoSetting}
+use Rattle.history_laws.proofs.DeviceLaws.Settings.{no_reset}
+use Rattle.history_laws.proofs.DeviceLaws.Standing.{stays_within}
+use Rattle.history_laws.proofs.DeviceLaws.StandingAccesses.{read_rest}
 
 module _ (P : Waiting → Type 0) (s : State) (h : All P s.waiting) where
   abbrev Wait : Outcome → Type 0

@@ -1,9 +1,9 @@
 -- A write of a register that the driver's queue doesn't rest on leaves its receive side.
 use Rattle.std.proofs.Common.{◌≡◌, ℕ, refl, sym, ap, ◌∙◌, subst}
 use Rattle.std.specs.FinMap as map
-use Rattle.dma_arena.specs.Memory.{Memory}
-use Rattle.reg_table.specs.declared.place.Place.{Place}
-use Rattle.register_file.specs.Pools.{mode_in}
+use Rattle.nic_device.specs.DmaArena.Memory.{Memory}
+use Rattle.nic_device.specs.RegTable.declared.place.Place.{Place}
+use Rattle.nic_device.specs.RegisterFile.Pools.{mode_in}
 use Rattle.nic_device.specs.Named.{named}
 use Rattle.nic_device.specs.State.{State}
 use Rattle.nic_device.specs.Step.{after}
@@ -11,11 +11,11 @@ use Rattle.nic_device.specs.declared.event.Event.TheVariants as event
 use Rattle.nic_device.specs.declared.event.Port.{Port}
 use Rattle.nic_device.specs.declared.named.Named.{Named}
 use Rattle.nic_device.specs.declared.named.Named.TheVariants.{Nothing, Register}
-use Rattle.device_laws.specs.Laws.{IsOfNoSetting}
-use Rattle.device_laws.specs.Leaving.{LeavesReceive, LeavesBlock}
-use Rattle.device_laws.proofs.KeptSettings.{settings_stand}
-use Rattle.device_laws.proofs.Standing.{stays_within}
-use Rattle.device_laws.proofs.StandingAccesses.{write_memory}
+use Rattle.history_laws.specs.DeviceLaws.Laws.{IsOfNoSetting}
+use Rattle.history_laws.specs.DeviceLaws.Leaving.{LeavesReceive, LeavesBlock}
+use Rattle.history_laws.proofs.DeviceLaws.KeptSettings.{settings_stand}
+use Rattle.history_laws.proofs.DeviceLaws.Standing.{stays_within}
+use Rattle.history_laws.proofs.DeviceLaws.StandingAccesses.{write_memory}
 use Rattle.device_lock.specs.Alone.{Spares, SparesIfSome, place_at}
 use Rattle.history_laws.proofs.Naming.{place_in, place_named}
 use Rattle.history_laws.proofs.Sparing.{no_setting, spared_written, stray_written}

@@ -1,11 +1,11 @@
 -- What a history delivers on a queue.
 use Rattle.std.specs.Prelude.{ℕ, ◌≡◌, ◌&&◌, not, Bool, List, [], ◌∷◌, ◌++◌, Option, Some, None, option_map, if◌then◌else◌}
-use Rattle.register_file.specs.Queue.{is_on}
-use Rattle.register_file.specs.declared.dir.Dir.TheVariants.{Rx}
+use Rattle.nic_device.specs.RegisterFile.Queue.{is_on}
+use Rattle.nic_device.specs.DmaRing.declared.dir.Dir.TheVariants.{Rx}
 use Rattle.nic_device.specs.State.{State}
 use Rattle.nic_device.specs.Step.{after}
 use Rattle.device_lock.specs.declared.entry.Entry.{Entry}
-use Rattle.pmd_base.specs.Packet.{Kept}
+use Rattle.pmd_rx.specs.PmdSeam.Packet.{Kept}
 use Rattle.receive_laws.specs.Pieces.{Piece, pieces, packets_of}
 
 -- the pieces that a history writes on a queue, from a state on

@@ -1,8 +1,8 @@
 -- The replies to the driver's own events: those of a healthy queue, wherever the device and the driver agree.
 use Rattle.std.specs.Prelude.{ℕ, ◌≡◌, ◌≤◌, List, IsTrue}
-use Rattle.dma_arena.specs.Block.{Block}
-use Rattle.dma_ring.specs.Descriptor.{second_half}
-use Rattle.dma_ring.specs.Receive.{is_done, ends_packet, bytes_in}
+use Rattle.nic_device.specs.DmaArena.Block.{Block}
+use Rattle.nic_device.specs.DmaRing.Descriptor.{second_half}
+use Rattle.nic_device.specs.DmaRing.Receive.{is_done, ends_packet, bytes_in}
 use Rattle.nic_device.specs.State.{State}
 use Rattle.nic_device.specs.Step.{reply_to}
 use Rattle.nic_device.specs.declared.event.Event.{Event}

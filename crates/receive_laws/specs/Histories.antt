@@ -1,7 +1,7 @@
 -- What the driver hands out, over histories that leave its queue alone.
 use Rattle.std.specs.Prelude.{ℕ, ◌≡◌, ◌<◌, ◌==◌, ◌⊎◌, Bool, true, false, List, [], ◌∷◌, ◌++◌, length, Some, None, ⊤, IsTrue, IsFalse}
-use Rattle.dma_ring.specs.Descriptor.{second_half}
-use Rattle.dma_ring.specs.Receive.{is_done}
+use Rattle.nic_device.specs.DmaRing.Descriptor.{second_half}
+use Rattle.nic_device.specs.DmaRing.Receive.{is_done}
 use Rattle.nic_device.specs.Sound.{IsSound}
 use Rattle.nic_device.specs.State.{State, new_state}
 use Rattle.nic_device.specs.Step.{after, reply_to}
@@ -11,7 +11,7 @@ use Rattle.device_lock.specs.Alone.{LeavesAlone, has_begun, lent_by}
 use Rattle.device_lock.specs.History.{IsLegal, AreEvents, calls_of, call_in, leads_to}
 use Rattle.device_lock.specs.declared.alone.Watched.{Watched}
 use Rattle.device_lock.specs.declared.entry.Entry.{Entry}
-use Rattle.pmd_base.specs.Events.{is_step}
+use Rattle.pmd_rx.specs.PmdSeam.Events.{is_step}
 use Rattle.pmd_rx.specs.Plays.{AllOwn, after_call, played_by}
 use Rattle.pmd_rx.specs.Receive.{Receive, held, descriptor_at}
 use Rattle.receive_laws.specs.Delivered.{IsPrefixOf, delivered, pieces_since}

@@ -1,6 +1,6 @@
 -- Where a step of receiving on the driver's own queue writes.
 use Rattle.std.specs.Prelude.{ℕ, ◌≡◌, ◌<◌, Bool, List, length}
-use Rattle.dma_arena.specs.Memory.{LiesIn}
+use Rattle.nic_device.specs.DmaArena.Memory.{LiesIn}
 use Rattle.nic_device.specs.Sound.{IsSound}
 use Rattle.nic_device.specs.State.{State}
 use Rattle.nic_device.specs.Step.{reply_to}

@@ -1,12 +1,12 @@
 -- What the device and a driver agree on, between two events, of the receive side of the driver's queue.
 use Rattle.std.specs.Prelude.{ℕ, ◌≡◌, ◌≢◌, ◌+◌, ◌*◌, ◌<◌, ◌≤◌, List, ◌++◌, length, map, ⊤, IsTrue, IsFalse}
-use Rattle.dma_arena.specs.Memory.{Memory, has_block, read_at}
-use Rattle.dma_ring.specs.Descriptor.{first_half, second_half}
-use Rattle.dma_ring.specs.Receive.{is_done, ends_packet, bytes_in}
-use Rattle.reg_table.specs.declared.rows.RowId.TheVariants.{Rdt}
-use Rattle.register_file.specs.Columns.{place}
-use Rattle.register_laws.specs.Sides.{ReceiveQueue, receive_queue_of}
-use Rattle.rx_ring.specs.Control.{descriptor_type_of, buffer_size_of}
+use Rattle.nic_device.specs.DmaArena.Memory.{Memory, has_block, read_at}
+use Rattle.nic_device.specs.DmaRing.Descriptor.{first_half, second_half}
+use Rattle.nic_device.specs.DmaRing.Receive.{is_done, ends_packet, bytes_in}
+use Rattle.nic_device.specs.RegTable.declared.rows.RowId.TheVariants.{Rdt}
+use Rattle.nic_device.specs.RegisterFile.Columns.{place}
+use Rattle.nic_device.specs.RegisterLaws.Sides.{ReceiveQueue, receive_queue_of}
+use Rattle.nic_device.specs.RxRing.Control.{descriptor_type_of, buffer_size_of}
 use Rattle.nic_device.specs.Named.{named}
 use Rattle.nic_device.specs.State.{State}
 use Rattle.nic_device.specs.declared.named.Named.TheVariants.{Register}

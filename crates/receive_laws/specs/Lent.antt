@@ -1,5 +1,5 @@
 -- Which blocks the driver has lent for receiving.
-use Rattle.dma_arena.specs.Block.{Block}
+use Rattle.nic_device.specs.DmaArena.Block.{Block}
 use Rattle.device_lock.specs.Alone.{Blocks}
 use Rattle.nic_device.specs.State.{State}
 use Rattle.nic_device.specs.Step.{after, reply_to}

@@ -1,3 +1,5 @@
+pub use Rattle.history_laws.specs.DeviceLaws
+pub use Rattle.history_laws.specs as HistoryLaws
 pub mod Delivered
 pub mod Healthy
 pub mod Histories

@@ -1,8 +1,8 @@
 -- What an event writes on a queue, piece by piece, and the packets that pieces make.
 use Rattle.std.specs.Prelude.{ℕ, ◌≡◌, ◌==◌, Bool, true, false, List, [], ◌∷◌, ◌++◌, slice_index_or, if◌then◌else◌, ⊤}
-use Rattle.dma_arena.specs.Block.{Block}
-use Rattle.dma_ring.specs.Driver.{rss_in, hash_in}
-use Rattle.dma_ring.specs.Receive.{told_of}
+use Rattle.nic_device.specs.DmaArena.Block.{Block}
+use Rattle.nic_device.specs.DmaRing.Driver.{rss_in, hash_in}
+use Rattle.nic_device.specs.DmaRing.Receive.{told_of}
 use Rattle.nic_device.specs.Receive.{packet_of}
 use Rattle.nic_device.specs.State.{State, Waiting}
 use Rattle.nic_device.specs.Step.{reply_to}
@@ -10,8 +10,8 @@ use Rattle.nic_device.specs.declared.event.Event.{Event}
 use Rattle.nic_device.specs.declared.event.Event.TheVariants as event
 use Rattle.nic_device.specs.declared.event.Reply.{Reply}
 use Rattle.nic_device.specs.declared.event.Reply.TheVariants.{Wrote}
-use Rattle.device_laws.specs.Laws.{piece_of}
-use Rattle.pmd_base.specs.Packet.{Kept}
+use Rattle.history_laws.specs.DeviceLaws.Laws.{piece_of}
+use Rattle.pmd_rx.specs.PmdSeam.Packet.{Kept}
 
 -- what one step writes on a queue: the bytes, the first half of the descriptor, and whether the frame ends there
 pub record Piece : Type 0 where

@@ -1,11 +1,11 @@
 -- Frames that fit a buffer of the driver's ring: each ends in the slot where it is written on.
 use Rattle.std.specs.Prelude.{ℕ, ◌≡◌, ◌≤◌, List, ◌++◌, length, All}
-use Rattle.dma_arena.specs.Block.{Block}
-use Rattle.register_file.specs.Settings.{frame_limit}
+use Rattle.nic_device.specs.DmaArena.Block.{Block}
+use Rattle.nic_device.specs.RegisterFile.Settings.{frame_limit}
 use Rattle.nic_device.specs.State.{State, Waiting}
 use Rattle.nic_device.specs.Step.{after}
 use Rattle.nic_device.specs.declared.event.Event.{Event}
-use Rattle.device_laws.specs.Laws.{WritesNoSetting}
+use Rattle.history_laws.specs.DeviceLaws.Laws.{WritesNoSetting}
 use Rattle.pmd_rx.specs.Receive.{Receive}
 use Rattle.receive_laws.specs.Joint.{Agree}
 use Rattle.receive_laws.specs.Pieces.{Piece, AllEnd, pieces}

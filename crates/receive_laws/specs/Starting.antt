@@ -1,8 +1,8 @@
 -- What a start of the driver leaves, as the receive side of its queue goes on.
 use Rattle.std.specs.Prelude.{ℕ, ◌≡◌, ◌*◌, ◌<◌, ◌≤◌, [], IsTrue}
-use Rattle.dma_arena.specs.Memory.{has_block}
-use Rattle.register_laws.specs.Sides.{ReceiveQueue, receive_queue_of}
-use Rattle.rx_ring.specs.Control.{descriptor_type_of, buffer_size_of}
+use Rattle.nic_device.specs.DmaArena.Memory.{has_block}
+use Rattle.nic_device.specs.RegisterLaws.Sides.{ReceiveQueue, receive_queue_of}
+use Rattle.nic_device.specs.RxRing.Control.{descriptor_type_of, buffer_size_of}
 use Rattle.nic_device.specs.State.{State}
 use Rattle.nic_device.specs.declared.event.Port.{Port}
 use Rattle.pmd_rx.specs.Receive.{at_start}

@@ -8,8 +8,8 @@ use Rattle.intr_unit.specs.declared.group.Group.{Group}
 use Rattle.intr_unit.specs.declared.group.Group.TheVariants.{Pf, Vf}
 use Rattle.register_file.specs.Bits.{has_bit}
 use Rattle.register_file.specs.Registers.{Registers, word_of, with_word}
-use Rattle.register_file.specs.declared.dir.Dir.{Dir}
-use Rattle.register_file.specs.declared.dir.Dir.TheVariants.{Rx, Tx}
+use Rattle.dma_ring.specs.declared.dir.Dir.{Dir}
+use Rattle.dma_ring.specs.declared.dir.Dir.TheVariants.{Rx, Tx}
 
 -- the rows of a group's words, and the group's index in them
 abbrev pub cause_row : Group → RowId

@@ -1,3 +1,8 @@
+pub use Rattle.reg_table.specs as RegTable
+pub use Rattle.dma_ring.specs as DmaRing
+pub use Rattle.vf_map.specs as VfMap
+pub use Rattle.rss_hash.specs as RssHash
+pub use Rattle.intr_unit.specs as IntrUnit
 pub mod Access
 pub mod AllGroups
 pub mod Bits

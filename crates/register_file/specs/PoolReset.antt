@@ -9,8 +9,8 @@ use Rattle.vf_map.specs.Pools.{queues_of}
 use Rattle.vf_map.specs.declared.mode.Mode.{Mode}
 use Rattle.register_file.specs.Groups.{with_told}
 use Rattle.register_file.specs.Registers.{Registers, with_word, with_wanted}
-use Rattle.register_file.specs.declared.dir.Dir.{Dir}
-use Rattle.register_file.specs.declared.dir.Dir.TheVariants.{Rx, Tx}
+use Rattle.dma_ring.specs.declared.dir.Dir.{Dir}
+use Rattle.dma_ring.specs.declared.dir.Dir.TheVariants.{Rx, Tx}
 
 -- the rows that a pool has once, those of a side of a queue, and that of the vectors of two queues
 abbrev pub function_rows : List RowId

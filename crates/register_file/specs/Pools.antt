@@ -6,8 +6,8 @@ use Rattle.vf_map.specs.Pools.{mode_of}
 use Rattle.vf_map.specs.declared.mode.Mode.{Mode}
 use Rattle.register_file.specs.Bits.{has_bit}
 use Rattle.register_file.specs.Registers.{Registers, word_of}
-use Rattle.register_file.specs.declared.dir.Dir.{Dir}
-use Rattle.register_file.specs.declared.dir.Dir.TheVariants.{Rx, Tx}
+use Rattle.dma_ring.specs.declared.dir.Dir.{Dir}
+use Rattle.dma_ring.specs.declared.dir.Dir.TheVariants.{Rx, Tx}
 
 -- how GCR_EXT parts the queues among pools
 abbrev pub mode_in : Registers → Mode

@@ -5,8 +5,8 @@ use Rattle.reg_table.specs.declared.rows.RowId.TheVariants.{Rdbal, Rdbah, Rdlen,
 use Rattle.dma_ring.specs.declared.ring.Ring.{Ring}
 use Rattle.register_file.specs.Bits.{has_bit, bit_set, bit_cleared}
 use Rattle.register_file.specs.Registers.{Registers, word_of, with_word, is_wanted, with_wanted}
-use Rattle.register_file.specs.declared.dir.Dir.{Dir}
-use Rattle.register_file.specs.declared.dir.Dir.TheVariants.{Rx, Tx}
+use Rattle.dma_ring.specs.declared.dir.Dir.{Dir}
+use Rattle.dma_ring.specs.declared.dir.Dir.TheVariants.{Rx, Tx}
 
 -- the rows of a side's ring
 abbrev pub base_low_row : Dir → RowId

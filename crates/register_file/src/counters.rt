@@ -5,8 +5,8 @@ ghost use Rattle.reg_table.specs.Rows.{row_of};
 ghost use Rattle.reg_table.specs.declared.kind.Kind.TheVariants.{Rc, Ro};
 ghost use Rattle.register_file.specs.Counters.{counted, counted_wrapping, mapping_row, counter_of};
 
-use crate::dir::Dir;
 use crate::register_file::RegisterFile;
+use dma_ring::Dir;
 use reg_table::{RowId, bump};
 
 /// RQSMR and TQSM: how many bits of a word say the counter of one queue.

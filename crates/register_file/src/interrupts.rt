@@ -7,8 +7,8 @@ ghost use Rattle.register_file.specs.Registers.{with_word};
 ghost use Rattle.register_file.specs.Groups.{index_of, auto_clear_row, auto_mask_row, clears_others, masks_by_message, auto_masks, vector_row, vector_entry, causes_raised, queue_raised, message_of, message_made};
 ghost use Rattle.register_file.specs.Access.{group_read, causes_written, masks_set, causes_set, masks_cleared};
 
-use crate::dir::Dir;
 use crate::register_file::RegisterFile;
+use dma_ring::Dir;
 use intr_unit::Group;
 use reg_table::RowId;
 

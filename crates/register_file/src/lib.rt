@@ -19,7 +19,6 @@
 mod access;
 mod banks;
 mod counters;
-mod dir;
 mod eeprom;
 mod groups;
 mod hashing;
@@ -34,7 +33,11 @@ mod surroundings;
 mod words;
 
 pub use access::{asks_pool_reset, asks_reset};
-pub use dir::Dir;
+pub use dma_ring::Dir;
+pub use intr_unit::Group;
 pub use owner::{Owner, owner_of};
+pub use reg_table::{Bank, Place, RowId, addr_of, bank_of, place_of, resolve};
 pub use register_file::{QUEUES, RegisterFile};
+pub use rss_hash::{Input, Key, QueueMode, choose, classify, entry, hash};
 pub use surroundings::Surroundings;
+pub use vf_map::{Located, Mode, has_queue, locate, mode_of, pool_of, queues_of};

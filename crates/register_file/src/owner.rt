@@ -4,7 +4,7 @@ ghost use Rattle.std.specs.Prelude.{◌≡◌, ◌<◌};
 ghost use Rattle.reg_table.specs.Rows.{row_of};
 ghost use Rattle.register_file.specs.Owner.{owner_of, IsThere};
 
-use crate::dir::Dir;
+use dma_ring::Dir;
 use intr_unit::Group;
 use reg_table::{Bank, Place, bank_of};
 

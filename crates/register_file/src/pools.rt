@@ -4,11 +4,11 @@ ghost use Rattle.std.specs.Prelude.{◌≡◌, ◌+◌, ◌<◌, ◌≤◌, fold
 ghost use Rattle.std.specs.List.{range_with_len};
 ghost use Rattle.register_file.specs.Pools.{mode_in, pool_row, is_pool_on};
 ghost use Rattle.register_file.specs.PoolReset.{side_reset, queue_reset, vectors_reset, function_reset, pool_reset};
-ghost use Rattle.register_file.specs.declared.dir.Dir.TheVariants.{Rx, Tx};
+ghost use Rattle.dma_ring.specs.declared.dir.Dir.TheVariants.{Rx, Tx};
 
-use crate::dir::Dir;
 use crate::register_file::RegisterFile;
 use crate::side::{ReceiveSide, TransmitSide};
+use dma_ring::Dir;
 use reg_table::RowId;
 use vf_map::{Mode, mode_of, queues_of};
 

@@ -5,9 +5,8 @@ ghost use Rattle.dma_ring.specs.Ring.{slots_of};
 ghost use Rattle.register_file.specs.Registers.{with_word};
 ghost use Rattle.register_file.specs.Queue.{enable_row, ring_of, is_on, with_head, switched, switched_on, switched_off, shut};
 
-use crate::dir::Dir;
 use crate::register_file::RegisterFile;
-use dma_ring::Ring;
+use dma_ring::{Dir, Ring};
 use reg_table::RowId;
 
 /// RXDCTL and TXDCTL: the queue's side is on.

@@ -5,9 +5,9 @@ ghost use Rattle.reg_table.specs.Rows.{row_of};
 ghost use Rattle.register_file.specs.Registers.{reset_registers, word_of, is_wanted, with_wanted};
 
 use crate::banks::{Counters, Settings, Tables};
-use crate::dir::Dir;
 use crate::groups::Groups;
 use crate::side::{ReceiveSide, TransmitSide};
+use dma_ring::Dir;
 use reg_table::RowId;
 use rss_hash::HashKey;
 use std::marker::Model;

@@ -1,14 +1,14 @@
 -- What a change of one part of the registers leaves of the others.
 use Rattle.std.proofs.Common.{◌≡◌, ◌≢◌, ℕ, Bool, false, refl, ap, sym}
 use Rattle.std.proofs.lemmas.List.{get_or-set_other}
-use Rattle.reg_table.specs.declared.place.Place.{Place}
-use Rattle.intr_unit.specs.declared.group.Group.{Group}
-use Rattle.intr_unit.specs.declared.group.Group.TheVariants.{Pf, Vf}
+use Rattle.register_file.specs.RegTable.declared.place.Place.{Place}
+use Rattle.register_file.specs.IntrUnit.declared.group.Group.{Group}
+use Rattle.register_file.specs.IntrUnit.declared.group.Group.TheVariants.{Pf, Vf}
 use Rattle.register_file.specs.Groups.{told_by, with_told}
 use Rattle.register_file.specs.Registers.{Registers, is_wanted, with_wanted}
 use Rattle.register_file.specs.Words.{put}
-use Rattle.register_file.specs.declared.dir.Dir.{Dir}
-use Rattle.register_file.specs.declared.dir.Dir.TheVariants.{Rx, Tx}
+use Rattle.register_file.specs.DmaRing.declared.dir.Dir.{Dir}
+use Rattle.register_file.specs.DmaRing.declared.dir.Dir.TheVariants.{Rx, Tx}
 
 pub is_wanted-put : (r : Registers) (p : Place) (v : ℕ) (dir : Dir) (queue : ℕ)
     → is_wanted (record r { words = put r.words p v }) dir queue ≡ is_wanted r dir queue

@@ -1,6 +1,6 @@
 -- Which rows are calculated.
 use Rattle.std.proofs.Common.{refl, inl, inr}
-use Rattle.reg_table.specs.declared.rows.RowId.TheVariants as row
+use Rattle.register_file.specs.RegTable.declared.rows.RowId.TheVariants as row
 use Rattle.register_laws.specs.Laws.{CalculatedRowsHaveFormulas}
 
 pub calculated_rows : CalculatedRowsHaveFormulas

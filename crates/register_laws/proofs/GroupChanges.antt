@@ -1,11 +1,11 @@
 -- Each access and each step of a group puts settled interrupts into its registers.
 use Rattle.std.proofs.Common.{◌≡◌, ℕ, Bool, true, false, cond, Option, Some, None, refl}
 use Rattle.std.specs.Prelude.{is_some}
-use Rattle.reg_table.specs.declared.kind.Kind.{Kind}
-use Rattle.reg_table.specs.declared.kind.Kind.TheVariants as kind
-use Rattle.reg_table.specs.declared.rows.RowId.TheVariants.{IvarMisc}
-use Rattle.intr_unit.specs.Interrupts.{Interrupts, after_message_of, next_bit}
-use Rattle.intr_unit.specs.declared.group.Group.{Group}
+use Rattle.register_file.specs.RegTable.declared.kind.Kind.{Kind}
+use Rattle.register_file.specs.RegTable.declared.kind.Kind.TheVariants as kind
+use Rattle.register_file.specs.RegTable.declared.rows.RowId.TheVariants.{IvarMisc}
+use Rattle.register_file.specs.IntrUnit.Interrupts.{Interrupts, after_message_of, next_bit}
+use Rattle.register_file.specs.IntrUnit.declared.group.Group.{Group}
 use Rattle.register_file.specs.Access.{group_read, interrupts_written}
 use Rattle.register_file.specs.Groups.{cause_row, mask_row, auto_clear_row, auto_mask_row, index_of, told_by, interrupts_of, with_interrupts, clears_others, masks_by_message, auto_masks, causes_raised, message_of, message_made}
 use Rattle.register_file.specs.Registers.{Registers, word_of}

@@ -1,13 +1,13 @@
 -- What no access and no count of an owner's register has: reads, counts and interrupts have nothing of a side.
 use Rattle.std.proofs.Common.{◌≡◌, ℕ, refl, ap}
-use Rattle.reg_table.specs.Rows.{row_of}
-use Rattle.reg_table.specs.declared.kind.Kind.{Kind}
-use Rattle.reg_table.specs.declared.kind.Kind.TheVariants as kind
-use Rattle.reg_table.specs.declared.place.Place.{Place}
-use Rattle.reg_table.specs.declared.rows.RowId.{RowId}
-use Rattle.reg_table.specs.declared.rows.RowId.TheVariants as row
+use Rattle.register_file.specs.RegTable.Rows.{row_of}
+use Rattle.register_file.specs.RegTable.declared.kind.Kind.{Kind}
+use Rattle.register_file.specs.RegTable.declared.kind.Kind.TheVariants as kind
+use Rattle.register_file.specs.RegTable.declared.place.Place.{Place}
+use Rattle.register_file.specs.RegTable.declared.rows.RowId.{RowId}
+use Rattle.register_file.specs.RegTable.declared.rows.RowId.TheVariants as row
 use Rattle.register_file.specs.Owner.{owner_in, owner_of, is_owner}
-use Rattle.register_file.specs.declared.dir.Dir.{Dir}
+use Rattle.register_file.specs.DmaRing.declared.dir.Dir.{Dir}
 use Rattle.register_file.specs.declared.owner.Owner.TheVariants as owner
 use Rattle.register_laws.specs.Footprint.{Misses, the_word, of_owner, of_side, of_group, pending, read_by}
 use Rattle.register_laws.specs.Laws.{CountersAreTheirOwn, PendingMissesSides, ReadMissesSides}

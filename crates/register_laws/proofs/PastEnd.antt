@@ -2,14 +2,14 @@
 use Rattle.std.proofs.Common.{List, length, set, get_or, ◌≡◌, ℕ, ◌<◌, Bool, false, cond, nat_lt, sym, ◌∙◌, subst, inl, inr, arith}
 use Rattle.std.proofs.lemmas.Bool.{cases_lt, cond-true, cond-false, lt-ltb, le-ltb}
 use Rattle.std.proofs.lemmas.List.{get_or-set_same, get_or_past, length-set}
-use Rattle.reg_table.specs.Rows.{row_of}
-use Rattle.reg_table.specs.declared.place.Place.{Place}
-use Rattle.intr_unit.specs.declared.group.Group.TheVariants.{Vf}
+use Rattle.register_file.specs.RegTable.Rows.{row_of}
+use Rattle.register_file.specs.RegTable.declared.place.Place.{Place}
+use Rattle.register_file.specs.IntrUnit.declared.group.Group.TheVariants.{Vf}
 use Rattle.register_file.specs.Groups.{told_by, with_told}
 use Rattle.register_file.specs.Registers.{Registers, is_wanted, with_wanted}
 use Rattle.register_file.specs.Words.{word_at, put, row_words}
-use Rattle.register_file.specs.declared.dir.Dir.{Dir}
-use Rattle.register_file.specs.declared.dir.Dir.TheVariants.{Rx, Tx}
+use Rattle.register_file.specs.DmaRing.declared.dir.Dir.{Dir}
+use Rattle.register_file.specs.DmaRing.declared.dir.Dir.TheVariants.{Rx, Tx}
 use Rattle.register_laws.specs.Sound.{HasShape}
 use Rattle.register_laws.proofs.Shape.{put_stands, HasShape-put}
 

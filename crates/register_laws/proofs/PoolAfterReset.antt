@@ -2,16 +2,16 @@
 use Rattle.std.proofs.Common.{◌≡◌, ℕ, ◌<◌, false, sym, ◌∙◌, inl, inr, arith}
 use Rattle.std.proofs.lemmas.Bool.{cases_lt}
 use Rattle.std.proofs.lemmas.List.{get_or_past}
-use Rattle.reg_table.specs.Rows.{row_of}
-use Rattle.reg_table.specs.declared.place.Place.{Place}
-use Rattle.intr_unit.specs.declared.group.Group.{Group}
-use Rattle.intr_unit.specs.declared.group.Group.TheVariants.{Pf, Vf}
+use Rattle.register_file.specs.RegTable.Rows.{row_of}
+use Rattle.register_file.specs.RegTable.declared.place.Place.{Place}
+use Rattle.register_file.specs.IntrUnit.declared.group.Group.{Group}
+use Rattle.register_file.specs.IntrUnit.declared.group.Group.TheVariants.{Pf, Vf}
 use Rattle.register_file.specs.Groups.{index_of, told_by}
 use Rattle.register_file.specs.PoolReset.{pool_reset}
 use Rattle.register_file.specs.Registers.{Registers, is_wanted}
 use Rattle.register_file.specs.Words.{word_at, row_words}
-use Rattle.register_file.specs.declared.dir.Dir.{Dir}
-use Rattle.register_file.specs.declared.dir.Dir.TheVariants.{Rx, Tx}
+use Rattle.register_file.specs.DmaRing.declared.dir.Dir.{Dir}
+use Rattle.register_file.specs.DmaRing.declared.dir.Dir.TheVariants.{Rx, Tx}
 use Rattle.register_laws.specs.Agreement.{PoolResetMakesAgreement}
 use Rattle.register_laws.specs.Sound.{HasShape}
 use Rattle.register_laws.proofs.PoolReset.{renewed-pool}

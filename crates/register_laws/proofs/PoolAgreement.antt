@@ -3,17 +3,17 @@ use Rattle.std.proofs.Common.{◌≡◌, ℕ, Bool, true, refl, ap}
 use Rattle.std.specs.Prelude.{bit_and}
 use Rattle.std.specs.Option.{option_map_or}
 use Rattle.std.proofs.lemmas.Bool.{eq-eqb}
-use Rattle.reg_table.specs.Rows.{row_of}
-use Rattle.reg_table.specs.declared.kind.Kind.{Kind}
-use Rattle.reg_table.specs.declared.kind.Kind.TheVariants as kind
-use Rattle.reg_table.specs.declared.place.Place.{Place}
-use Rattle.reg_table.specs.declared.rows.RowId.TheVariants.{Pvteicr, Pvteims, Pvteiac, Pvteiam}
-use Rattle.intr_unit.specs.Group.{bits_cleared_by_read}
-use Rattle.intr_unit.specs.Interrupts.{of_words, raised, after_read as causes_read, after_write_one, after_mask_set, after_mask_clear}
-use Rattle.intr_unit.specs.declared.group.Group.{Group}
-use Rattle.intr_unit.specs.declared.group.Group.TheVariants.{Vf}
-use Rattle.vf_map.specs.Owner.{is_of_pool, has_queue}
-use Rattle.vf_map.specs.declared.mode.Mode.{Mode}
+use Rattle.register_file.specs.RegTable.Rows.{row_of}
+use Rattle.register_file.specs.RegTable.declared.kind.Kind.{Kind}
+use Rattle.register_file.specs.RegTable.declared.kind.Kind.TheVariants as kind
+use Rattle.register_file.specs.RegTable.declared.place.Place.{Place}
+use Rattle.register_file.specs.RegTable.declared.rows.RowId.TheVariants.{Pvteicr, Pvteims, Pvteiac, Pvteiam}
+use Rattle.register_file.specs.IntrUnit.Group.{bits_cleared_by_read}
+use Rattle.register_file.specs.IntrUnit.Interrupts.{of_words, raised, after_read as causes_read, after_write_one, after_mask_set, after_mask_clear}
+use Rattle.register_file.specs.IntrUnit.declared.group.Group.{Group}
+use Rattle.register_file.specs.IntrUnit.declared.group.Group.TheVariants.{Vf}
+use Rattle.register_file.specs.VfMap.Owner.{is_of_pool, has_queue}
+use Rattle.register_file.specs.VfMap.declared.mode.Mode.{Mode}
 use Rattle.register_file.specs.Access.{after_read, written, stored, group_in, group_read, interrupts_written, is_running, asked}
 use Rattle.register_file.specs.Bits.{has_bit, merged}
 use Rattle.register_file.specs.Columns.{place}
@@ -21,8 +21,8 @@ use Rattle.register_file.specs.Groups.{interrupts_of, clears_others}
 use Rattle.register_file.specs.Owner.{owner_of}
 use Rattle.register_file.specs.Queue.{enable_row, is_on}
 use Rattle.register_file.specs.Registers.{Registers}
-use Rattle.register_file.specs.declared.dir.Dir.{Dir}
-use Rattle.register_file.specs.declared.dir.Dir.TheVariants.{Rx, Tx}
+use Rattle.register_file.specs.DmaRing.declared.dir.Dir.{Dir}
+use Rattle.register_file.specs.DmaRing.declared.dir.Dir.TheVariants.{Rx, Tx}
 use Rattle.register_file.specs.declared.owner.Owner.{Owner}
 use Rattle.register_file.specs.declared.owner.Owner.TheVariants as owner
 use Rattle.register_laws.specs.Agreement.{PoolReadsKeepAgreement, PoolWritesKeepAgreement}

@@ -3,18 +3,18 @@ use Rattle.std.proofs.Common.{◌≡◌, ℕ, ◌/◌, Bool, true, false, ◌==�
 use Rattle.std.specs.Prelude.{fold}
 use Rattle.std.specs.List.{range_with_len}
 use Rattle.std.proofs.Math.Bool.{or-false}
-use Rattle.reg_table.specs.Rows.{row_of}
-use Rattle.reg_table.specs.declared.bank.Bank.{Bank}
-use Rattle.reg_table.specs.declared.bank.Bank.TheVariants as bank
-use Rattle.reg_table.specs.declared.rows.RowId.{RowId}
-use Rattle.reg_table.specs.declared.rows.RowId.TheVariants as row
-use Rattle.intr_unit.specs.declared.group.Group.{Group}
-use Rattle.intr_unit.specs.declared.group.Group.TheVariants.{Vf}
+use Rattle.register_file.specs.RegTable.Rows.{row_of}
+use Rattle.register_file.specs.RegTable.declared.bank.Bank.{Bank}
+use Rattle.register_file.specs.RegTable.declared.bank.Bank.TheVariants as bank
+use Rattle.register_file.specs.RegTable.declared.rows.RowId.{RowId}
+use Rattle.register_file.specs.RegTable.declared.rows.RowId.TheVariants as row
+use Rattle.register_file.specs.IntrUnit.declared.group.Group.{Group}
+use Rattle.register_file.specs.IntrUnit.declared.group.Group.TheVariants.{Vf}
 use Rattle.register_file.specs.Owner.{owner_in, is_owner, is_group}
 use Rattle.register_file.specs.PoolReset.{function_rows, side_rows, vector_rows, rows_reset, side_reset, queue_reset, vectors_reset, function_reset, queues_reset}
 use Rattle.register_file.specs.Registers.{Registers}
-use Rattle.register_file.specs.declared.dir.Dir.{Dir}
-use Rattle.register_file.specs.declared.dir.Dir.TheVariants.{Rx, Tx}
+use Rattle.register_file.specs.DmaRing.declared.dir.Dir.{Dir}
+use Rattle.register_file.specs.DmaRing.declared.dir.Dir.TheVariants.{Rx, Tx}
 use Rattle.register_file.specs.declared.owner.Owner.TheVariants as owner
 use Rattle.register_laws.specs.Footprint.{Footprint, nothing, either, of_owner, of_side}
 use Rattle.register_laws.proofs.Renewed.{IsRenewed, IsSame, any_of, wanted_of, told_of, renewed-refl, renewed-either, renewed-each, renewed-same, renewed-with_wanted, renewed-with_told}

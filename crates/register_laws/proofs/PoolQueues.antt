@@ -1,10 +1,10 @@
 -- Which queues a pool has.
 use Rattle.std.proofs.Common.{◌≡◌, ℕ, ◌+◌, ◌*◌, ◌/◌, ◌<◌, false, ◌==◌, nat_lt, ◌||◌, arith}
 use Rattle.std.proofs.lemmas.Bool.Decides.{nat_tests}
-use Rattle.vf_map.specs.Owner.{has_queue}
-use Rattle.vf_map.specs.Pools.{pools_in}
-use Rattle.vf_map.specs.declared.mode.Mode.{Mode}
-use Rattle.vf_map.specs.declared.mode.Mode.TheVariants.{Off, Pools16, Pools32, Pools64}
+use Rattle.register_file.specs.VfMap.Owner.{has_queue}
+use Rattle.register_file.specs.VfMap.Pools.{pools_in}
+use Rattle.register_file.specs.VfMap.declared.mode.Mode.{Mode}
+use Rattle.register_file.specs.VfMap.declared.mode.Mode.TheVariants.{Off, Pools16, Pools32, Pools64}
 
 -- a test of two numbers either way round
 pub turned : (a b : ℕ) → (a == b) ≡ (b == a)

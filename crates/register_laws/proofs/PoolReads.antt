@@ -1,13 +1,13 @@
 -- Registers that agree of a pool tell the same at its places.
 use Rattle.std.proofs.Common.{◌≡◌, ℕ, true, false, cond, refl, ap}
-use Rattle.reg_table.specs.Rows.{row_of}
-use Rattle.reg_table.specs.declared.kind.Kind.{Kind}
-use Rattle.reg_table.specs.declared.kind.Kind.TheVariants as kind
-use Rattle.reg_table.specs.declared.place.Place.{Place}
-use Rattle.reg_table.specs.declared.rows.RowId.{RowId}
-use Rattle.reg_table.specs.declared.rows.RowId.TheVariants as row
-use Rattle.vf_map.specs.Owner.{is_of_pool, is_of_pool_by}
-use Rattle.vf_map.specs.declared.mode.Mode.{Mode}
+use Rattle.register_file.specs.RegTable.Rows.{row_of}
+use Rattle.register_file.specs.RegTable.declared.kind.Kind.{Kind}
+use Rattle.register_file.specs.RegTable.declared.kind.Kind.TheVariants as kind
+use Rattle.register_file.specs.RegTable.declared.place.Place.{Place}
+use Rattle.register_file.specs.RegTable.declared.rows.RowId.{RowId}
+use Rattle.register_file.specs.RegTable.declared.rows.RowId.TheVariants as row
+use Rattle.register_file.specs.VfMap.Owner.{is_of_pool, is_of_pool_by}
+use Rattle.register_file.specs.VfMap.declared.mode.Mode.{Mode}
 use Rattle.register_file.specs.Access.{read_word}
 use Rattle.register_file.specs.Registers.{Registers}
 use Rattle.register_file.specs.declared.surroundings.Surroundings.{Surroundings}

@@ -2,19 +2,19 @@
 use Rattle.std.proofs.Common.{◌≡◌, ℕ, ◌+◌, ◌*◌, ◌/◌, ◌<◌, Bool, true, false, cond, ◌==◌, nat_lt, ◌&&◌, ◌||◌, Option, Some, None, refl, sym, ◌∙◌, arith}
 use Rattle.std.proofs.lemmas.Bool.{ltb-true}
 use Rattle.std.proofs.Math.Bool.{or-false}
-use Rattle.reg_table.specs.Rows.{row_of}
-use Rattle.reg_table.specs.declared.bank.Bank.{Bank}
-use Rattle.reg_table.specs.declared.bank.Bank.TheVariants as bank
-use Rattle.intr_unit.specs.declared.group.Group.TheVariants.{Vf}
-use Rattle.vf_map.specs.Owner.{has_queue, is_of_pool_by}
-use Rattle.vf_map.specs.Pools.{queues_of, queues_each, pools_in}
-use Rattle.vf_map.specs.declared.mode.Mode.{Mode}
-use Rattle.vf_map.specs.declared.mode.Mode.TheVariants.{Off, Pools16, Pools32, Pools64}
+use Rattle.register_file.specs.RegTable.Rows.{row_of}
+use Rattle.register_file.specs.RegTable.declared.bank.Bank.{Bank}
+use Rattle.register_file.specs.RegTable.declared.bank.Bank.TheVariants as bank
+use Rattle.register_file.specs.IntrUnit.declared.group.Group.TheVariants.{Vf}
+use Rattle.register_file.specs.VfMap.Owner.{has_queue, is_of_pool_by}
+use Rattle.register_file.specs.VfMap.Pools.{queues_of, queues_each, pools_in}
+use Rattle.register_file.specs.VfMap.declared.mode.Mode.{Mode}
+use Rattle.register_file.specs.VfMap.declared.mode.Mode.TheVariants.{Off, Pools16, Pools32, Pools64}
 use Rattle.register_file.specs.Owner.{owner_in, is_owner, is_group}
 use Rattle.register_file.specs.PoolReset.{function_reset, pool_reset}
 use Rattle.register_file.specs.Registers.{Registers}
-use Rattle.register_file.specs.declared.dir.Dir.{Dir}
-use Rattle.register_file.specs.declared.dir.Dir.TheVariants.{Rx, Tx}
+use Rattle.register_file.specs.DmaRing.declared.dir.Dir.{Dir}
+use Rattle.register_file.specs.DmaRing.declared.dir.Dir.TheVariants.{Rx, Tx}
 use Rattle.register_file.specs.declared.owner.Owner.TheVariants as owner
 use Rattle.register_laws.specs.Footprint.{Footprint, either, of_pool}
 use Rattle.register_laws.proofs.PoolParts.{is_own, of_function, of_queues, renewed-function, renewed-queues}

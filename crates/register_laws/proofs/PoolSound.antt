@@ -1,16 +1,16 @@
 -- Registers stay sound where a pool is reset.
 use Rattle.std.proofs.Common.{◌≡◌, ℕ, ◌<◌, ◌^◌, false, refl, ap, sym, ◌∙◌, subst, inl, inr}
 use Rattle.std.proofs.lemmas.Bool.{cases_Bool}
-use Rattle.reg_table.specs.Rows.{row_of}
-use Rattle.reg_table.specs.declared.place.Place.{Place}
-use Rattle.reg_table.specs.declared.bank.Bank.{Bank}
-use Rattle.reg_table.specs.declared.bank.Bank.TheVariants as bank
-use Rattle.intr_unit.specs.BitSet.{IsSubset}
-use Rattle.intr_unit.specs.declared.group.Group.{Group}
-use Rattle.intr_unit.specs.declared.group.Group.TheVariants.{Vf}
-use Rattle.intr_unit.proofs.Subsets.{IsSubset-no_bits}
-use Rattle.vf_map.specs.Owner.{is_of_pool_by}
-use Rattle.vf_map.specs.declared.mode.Mode.{Mode}
+use Rattle.register_file.specs.RegTable.Rows.{row_of}
+use Rattle.register_file.specs.RegTable.declared.place.Place.{Place}
+use Rattle.register_file.specs.RegTable.declared.bank.Bank.{Bank}
+use Rattle.register_file.specs.RegTable.declared.bank.Bank.TheVariants as bank
+use Rattle.register_file.specs.IntrUnit.BitSet.{IsSubset}
+use Rattle.register_file.specs.IntrUnit.declared.group.Group.{Group}
+use Rattle.register_file.specs.IntrUnit.declared.group.Group.TheVariants.{Vf}
+use Rattle.register_file.proofs.IntrUnit.Subsets.{IsSubset-no_bits}
+use Rattle.register_file.specs.VfMap.Owner.{is_of_pool_by}
+use Rattle.register_file.specs.VfMap.declared.mode.Mode.{Mode}
 use Rattle.register_file.specs.Groups.{told_by}
 use Rattle.register_file.specs.Owner.{owner_in, owner_of, is_group}
 use Rattle.register_file.specs.PoolReset.{pool_reset}

@@ -1,14 +1,14 @@
 -- Pools have nothing in common.
 use Rattle.std.proofs.Common.{◌≡◌, ◌≢◌, ℕ, ◌*◌, true, false, ◌==◌, Option, Some, None, refl, sym, ◌∙◌}
 use Rattle.std.proofs.lemmas.Bool.{eqb-true, ne_eqb}
-use Rattle.reg_table.specs.Rows.{row_of}
-use Rattle.reg_table.specs.declared.bank.Bank.{Bank}
-use Rattle.reg_table.specs.declared.bank.Bank.TheVariants as bank
-use Rattle.intr_unit.specs.declared.group.Group.{Group}
-use Rattle.intr_unit.specs.declared.group.Group.TheVariants.{Pf, Vf}
-use Rattle.vf_map.specs.Owner.{is_pool, is_of_pool_by, has_queue}
-use Rattle.vf_map.specs.Pools.{pool_of}
-use Rattle.vf_map.specs.declared.mode.Mode.{Mode}
+use Rattle.register_file.specs.RegTable.Rows.{row_of}
+use Rattle.register_file.specs.RegTable.declared.bank.Bank.{Bank}
+use Rattle.register_file.specs.RegTable.declared.bank.Bank.TheVariants as bank
+use Rattle.register_file.specs.IntrUnit.declared.group.Group.{Group}
+use Rattle.register_file.specs.IntrUnit.declared.group.Group.TheVariants.{Pf, Vf}
+use Rattle.register_file.specs.VfMap.Owner.{is_pool, is_of_pool_by, has_queue}
+use Rattle.register_file.specs.VfMap.Pools.{pool_of}
+use Rattle.register_file.specs.VfMap.declared.mode.Mode.{Mode}
 use Rattle.register_file.specs.Owner.{is_group}
 use Rattle.register_laws.specs.Agreement.{PoolsHaveNothingInCommon, MissedAgreementStands}
 

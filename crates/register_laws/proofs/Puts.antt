@@ -3,10 +3,10 @@ use Rattle.std.proofs.Common.{◌≡◌, ◌≢◌, ℕ, ◌<◌, ◌≤◌, [],
 use Rattle.std.proofs.Math.ListN.{set}
 use Rattle.std.proofs.lemmas.List.{get_or-set_same, get_or-set_other, get_or_past, length-set}
 use Rattle.std.proofs.lemmas.Bool.{cases_eq, cases_lt}
-use Rattle.reg_table.specs.Rows.{number_of}
-use Rattle.reg_table.specs.declared.place.Place.{Place}
-use Rattle.reg_table.specs.declared.rows.RowId.{RowId}
-use Rattle.reg_table.proofs.FirstAddresses.{same_number}
+use Rattle.register_file.specs.RegTable.Rows.{number_of}
+use Rattle.register_file.specs.RegTable.declared.place.Place.{Place}
+use Rattle.register_file.specs.RegTable.declared.rows.RowId.{RowId}
+use Rattle.register_file.proofs.RegTable.FirstAddresses.{same_number}
 use Rattle.register_file.specs.Words.{Words, word_at, put, row_words}
 
 pub same_parts : (p q : Place) → p.row ≡ q.row → p.index ≡ q.index → p ≡ q

@@ -1,9 +1,9 @@
 -- What a reset of rows at an index does.
 use Rattle.std.proofs.Common.{◌≡◌, ℕ, Bool, true, false, ◌==◌, ◌&&◌, ◌||◌, List, [], ◌∷◌, refl, ap, ◌∙◌}
 use Rattle.std.specs.List.{list_any}
-use Rattle.reg_table.specs.Rows.{number_of}
-use Rattle.reg_table.specs.declared.place.Place.{Place}
-use Rattle.reg_table.specs.declared.rows.RowId.{RowId}
+use Rattle.register_file.specs.RegTable.Rows.{number_of}
+use Rattle.register_file.specs.RegTable.declared.place.Place.{Place}
+use Rattle.register_file.specs.RegTable.declared.rows.RowId.{RowId}
 use Rattle.register_file.specs.Columns.{place}
 use Rattle.register_file.specs.PoolReset.{word_reset, rows_reset}
 use Rattle.register_file.specs.Registers.{Registers}

@@ -1,17 +1,17 @@
 -- Registers stay sound where a word is put at a place, another side is wanted on, or a group has other interrupts.
 use Rattle.std.proofs.Common.{◌≡◌, ℕ, ◌<◌, ◌^◌, Bool, true, false, refl, ap, sym, ◌∙◌, subst, inl, inr}
 use Rattle.std.proofs.lemmas.Bool.{cases_Bool}
-use Rattle.reg_table.specs.Rows.{row_of}
-use Rattle.reg_table.specs.declared.place.Place.{Place}
-use Rattle.intr_unit.specs.BitSet.{intersection, IsSubset}
-use Rattle.intr_unit.specs.Interrupts.{Interrupts}
-use Rattle.intr_unit.specs.declared.group.Group.{Group}
+use Rattle.register_file.specs.RegTable.Rows.{row_of}
+use Rattle.register_file.specs.RegTable.declared.place.Place.{Place}
+use Rattle.register_file.specs.IntrUnit.BitSet.{intersection, IsSubset}
+use Rattle.register_file.specs.IntrUnit.Interrupts.{Interrupts}
+use Rattle.register_file.specs.IntrUnit.declared.group.Group.{Group}
 use Rattle.register_file.specs.Columns.{place}
 use Rattle.register_file.specs.Groups.{cause_row, mask_row, index_of, told_by, with_interrupts}
 use Rattle.register_file.specs.Owner.{is_group}
 use Rattle.register_file.specs.Registers.{Registers, with_wanted}
 use Rattle.register_file.specs.Words.{word_at, put}
-use Rattle.register_file.specs.declared.dir.Dir.{Dir}
+use Rattle.register_file.specs.DmaRing.declared.dir.Dir.{Dir}
 use Rattle.register_file.specs.declared.owner.Owner.TheVariants as owner
 use Rattle.register_laws.proofs.Settled.{IsSettled}
 use Rattle.register_laws.specs.Footprint.{Footprint, ChangesWithin, Misses, is_place, is_pending, nothing, the_word, of_group, pending, any_pending}

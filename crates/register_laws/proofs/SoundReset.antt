@@ -1,10 +1,10 @@
 -- Registers are sound after a reset.
 use Rattle.std.proofs.Common.{◌≡◌, ◌<◌, refl, sym, subst}
 use Rattle.std.proofs.lemmas.List.{get_or-replicate}
-use Rattle.intr_unit.specs.BitSet.{IsSubset}
-use Rattle.intr_unit.specs.declared.group.Group.{Group}
-use Rattle.intr_unit.specs.declared.group.Group.TheVariants.{Pf, Vf}
-use Rattle.intr_unit.proofs.Subsets.{IsSubset-no_bits}
+use Rattle.register_file.specs.IntrUnit.BitSet.{IsSubset}
+use Rattle.register_file.specs.IntrUnit.declared.group.Group.{Group}
+use Rattle.register_file.specs.IntrUnit.declared.group.Group.TheVariants.{Pf, Vf}
+use Rattle.register_file.proofs.IntrUnit.Subsets.{IsSubset-no_bits}
 use Rattle.register_file.specs.Groups.{index_of, told_by}
 use Rattle.register_file.specs.Registers.{reset_registers}
 use Rattle.register_laws.specs.Sound.{AreSound, pending_bits}

@@ -1,14 +1,14 @@
 -- The interrupts of a group that were put into its registers.
 use Rattle.std.proofs.Common.{◌≡◌, ◌≢◌, ℕ, ◌^◌, ◌<◌, false, length, refl, ap, sym, ◌∙◌, subst, lit<}
 use Rattle.std.proofs.lemmas.List.{get_or-set_same}
-use Rattle.reg_table.specs.Rows.{row_of}
-use Rattle.reg_table.specs.declared.place.Place.{Place}
-use Rattle.reg_table.specs.declared.rows.RowId.TheVariants.{Eicr, Eims, Pvteicr, Pvteims}
-use Rattle.intr_unit.specs.BitSet.{intersection}
-use Rattle.intr_unit.specs.Group.{group_bits}
-use Rattle.intr_unit.specs.Interrupts.{Interrupts, IsConsistent}
-use Rattle.intr_unit.specs.declared.group.Group.{Group}
-use Rattle.intr_unit.specs.declared.group.Group.TheVariants.{Pf, Vf}
+use Rattle.register_file.specs.RegTable.Rows.{row_of}
+use Rattle.register_file.specs.RegTable.declared.place.Place.{Place}
+use Rattle.register_file.specs.RegTable.declared.rows.RowId.TheVariants.{Eicr, Eims, Pvteicr, Pvteims}
+use Rattle.register_file.specs.IntrUnit.BitSet.{intersection}
+use Rattle.register_file.specs.IntrUnit.Group.{group_bits}
+use Rattle.register_file.specs.IntrUnit.Interrupts.{Interrupts, IsConsistent}
+use Rattle.register_file.specs.IntrUnit.declared.group.Group.{Group}
+use Rattle.register_file.specs.IntrUnit.declared.group.Group.TheVariants.{Pf, Vf}
 use Rattle.register_file.specs.Columns.{place}
 use Rattle.register_file.specs.Groups.{cause_row, mask_row, auto_clear_row, auto_mask_row, index_of, told_by, with_told, interrupts_of, with_interrupts}
 use Rattle.register_file.specs.Registers.{Registers, word_of, with_word}

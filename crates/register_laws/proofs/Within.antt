@@ -2,14 +2,14 @@
 use Rattle.std.proofs.Common.{◌≡◌, ℕ, ◌+◌, ◌%◌, ◌^◌, Bool, true, false, refl, ap, sym, ◌∙◌, subst}
 use Rattle.std.specs.Prelude.{bit_and}
 use Rattle.std.specs.Option.{option_map_or}
-use Rattle.reg_table.specs.Counter.{bumped}
-use Rattle.reg_table.specs.Rows.{row_of}
-use Rattle.reg_table.specs.declared.place.Place.{Place}
-use Rattle.reg_table.specs.declared.kind.Kind.{Kind}
-use Rattle.reg_table.specs.declared.kind.Kind.TheVariants as kind
-use Rattle.reg_table.specs.declared.rows.RowId.{RowId}
-use Rattle.reg_table.specs.declared.rows.RowId.TheVariants.{Eerd}
-use Rattle.intr_unit.specs.declared.group.Group.{Group}
+use Rattle.register_file.specs.RegTable.Counter.{bumped}
+use Rattle.register_file.specs.RegTable.Rows.{row_of}
+use Rattle.register_file.specs.RegTable.declared.place.Place.{Place}
+use Rattle.register_file.specs.RegTable.declared.kind.Kind.{Kind}
+use Rattle.register_file.specs.RegTable.declared.kind.Kind.TheVariants as kind
+use Rattle.register_file.specs.RegTable.declared.rows.RowId.{RowId}
+use Rattle.register_file.specs.RegTable.declared.rows.RowId.TheVariants.{Eerd}
+use Rattle.register_file.specs.IntrUnit.declared.group.Group.{Group}
 use Rattle.register_file.specs.Access.{after_read, written, stored, group_in, group_read, group_written, is_running, asked}
 use Rattle.register_file.specs.Bits.{has_bit}
 use Rattle.register_file.specs.Columns.{place}
@@ -19,8 +19,8 @@ use Rattle.register_file.specs.Groups.{with_interrupts, message_made, causes_rai
 use Rattle.register_file.specs.Owner.{owner_of, is_owner}
 use Rattle.register_file.specs.Queue.{head_row, enable_row, with_head, switched, switched_on, switched_off, shut}
 use Rattle.register_file.specs.Registers.{Registers, word_of, is_wanted}
-use Rattle.register_file.specs.declared.dir.Dir.{Dir}
-use Rattle.register_file.specs.declared.dir.Dir.TheVariants.{Rx, Tx}
+use Rattle.register_file.specs.DmaRing.declared.dir.Dir.{Dir}
+use Rattle.register_file.specs.DmaRing.declared.dir.Dir.TheVariants.{Rx, Tx}
 use Rattle.register_file.specs.declared.owner.Owner.{Owner}
 use Rattle.register_file.specs.declared.owner.Owner.TheVariants as owner
 use Rattle.register_laws.specs.Footprint.{Footprint, ChangesWithin, Covers, nothing, of_owner, the_word, the_enable, pending, pending_of, of_side, read_by, of_read, written_by, of_write}

@@ -1,15 +1,15 @@
 -- What a word that is put at a place, a side that is wanted on, and other interrupts of a group change.
 use Rattle.std.proofs.Common.{◌≡◌, ℕ, Bool, true, ap, sym, ◌∙◌}
 use Rattle.std.proofs.lemmas.Bool.{both_ways}
-use Rattle.reg_table.specs.declared.place.Place.{Place}
-use Rattle.reg_table.specs.declared.rows.RowId.{RowId}
-use Rattle.intr_unit.specs.Interrupts.{Interrupts}
-use Rattle.intr_unit.specs.declared.group.Group.{Group}
+use Rattle.register_file.specs.RegTable.declared.place.Place.{Place}
+use Rattle.register_file.specs.RegTable.declared.rows.RowId.{RowId}
+use Rattle.register_file.specs.IntrUnit.Interrupts.{Interrupts}
+use Rattle.register_file.specs.IntrUnit.declared.group.Group.{Group}
 use Rattle.register_file.specs.Columns.{place}
 use Rattle.register_file.specs.Groups.{cause_row, mask_row, index_of, with_told, with_interrupts}
 use Rattle.register_file.specs.Registers.{Registers, with_word, with_wanted}
 use Rattle.register_file.specs.Words.{word_at, put}
-use Rattle.register_file.specs.declared.dir.Dir.{Dir}
+use Rattle.register_file.specs.DmaRing.declared.dir.Dir.{Dir}
 use Rattle.register_laws.specs.Footprint.{Footprint, ChangesWithin, the_word, pending}
 use Rattle.register_laws.proofs.Fields.{is_wanted-put, told_by-put, words-with_wanted, is_wanted-with_wanted_other, told_by-with_wanted, words-with_told, is_wanted-with_told, told_by-with_told_other}
 use Rattle.register_laws.proofs.Covers.{cause_is_pending, mask_is_pending}

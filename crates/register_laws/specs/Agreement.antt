@@ -1,9 +1,9 @@
 -- What accesses of a pool's registers, and the pool's reset, change and tell: of all registers the pool's alone.
 use Rattle.std.specs.Prelude.{ℕ, ◌≡◌, ◌≢◌, IsTrue}
-use Rattle.reg_table.specs.Rows.{row_of}
-use Rattle.reg_table.specs.declared.place.Place.{Place}
-use Rattle.vf_map.specs.Owner.{is_of_pool, is_shared}
-use Rattle.vf_map.specs.declared.mode.Mode.{Mode}
+use Rattle.register_file.specs.RegTable.Rows.{row_of}
+use Rattle.register_file.specs.RegTable.declared.place.Place.{Place}
+use Rattle.register_file.specs.VfMap.Owner.{is_of_pool, is_shared}
+use Rattle.register_file.specs.VfMap.declared.mode.Mode.{Mode}
 use Rattle.register_file.specs.Access.{read_word, after_read}
 use Rattle.register_file.specs.PoolReset.{pool_reset}
 use Rattle.register_file.specs.Registers.{Registers}

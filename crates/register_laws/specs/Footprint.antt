@@ -1,19 +1,19 @@
 -- What of the registers an operation may change.
 use Rattle.std.specs.Prelude.{ℕ, ◌≡◌, ◌==◌, Bool, true, false, ◌&&◌, ◌||◌, IsTrue, IsFalse}
-use Rattle.reg_table.specs.Rows.{row_of, number_of}
-use Rattle.reg_table.specs.declared.place.Place.{Place}
-use Rattle.reg_table.specs.declared.kind.Kind.{Kind}
-use Rattle.reg_table.specs.declared.kind.Kind.TheVariants as kind
-use Rattle.intr_unit.specs.declared.group.Group.{Group}
-use Rattle.intr_unit.specs.declared.group.Group.TheVariants.{Vf}
-use Rattle.vf_map.specs.Owner.{is_of_pool, has_queue}
-use Rattle.vf_map.specs.declared.mode.Mode.{Mode}
+use Rattle.register_file.specs.RegTable.Rows.{row_of, number_of}
+use Rattle.register_file.specs.RegTable.declared.place.Place.{Place}
+use Rattle.register_file.specs.RegTable.declared.kind.Kind.{Kind}
+use Rattle.register_file.specs.RegTable.declared.kind.Kind.TheVariants as kind
+use Rattle.register_file.specs.IntrUnit.declared.group.Group.{Group}
+use Rattle.register_file.specs.IntrUnit.declared.group.Group.TheVariants.{Vf}
+use Rattle.register_file.specs.VfMap.Owner.{is_of_pool, has_queue}
+use Rattle.register_file.specs.VfMap.declared.mode.Mode.{Mode}
 use Rattle.register_file.specs.Columns.{place}
 use Rattle.register_file.specs.Groups.{cause_row, mask_row, index_of, told_by}
 use Rattle.register_file.specs.Owner.{owner_of, is_owner, is_group}
 use Rattle.register_file.specs.Registers.{Registers, is_wanted}
 use Rattle.register_file.specs.Words.{word_at}
-use Rattle.register_file.specs.declared.dir.Dir.{Dir}
+use Rattle.register_file.specs.DmaRing.declared.dir.Dir.{Dir}
 use Rattle.register_file.specs.declared.owner.Owner.{Owner}
 use Rattle.register_file.specs.declared.owner.Owner.TheVariants as owner
 

@@ -1,10 +1,10 @@
 -- Registers that a device can have.
 use Rattle.std.specs.Prelude.{ℕ, ◌^◌, ◌≡◌, ◌<◌, length}
-use Rattle.reg_table.specs.Rows.{row_of, rows}
-use Rattle.reg_table.specs.declared.place.Place.{Place}
-use Rattle.reg_table.specs.declared.rows.RowId.{RowId}
-use Rattle.intr_unit.specs.BitSet.{intersection, IsSubset}
-use Rattle.intr_unit.specs.declared.group.Group.{Group}
+use Rattle.register_file.specs.RegTable.Rows.{row_of, rows}
+use Rattle.register_file.specs.RegTable.declared.place.Place.{Place}
+use Rattle.register_file.specs.RegTable.declared.rows.RowId.{RowId}
+use Rattle.register_file.specs.IntrUnit.BitSet.{intersection, IsSubset}
+use Rattle.register_file.specs.IntrUnit.declared.group.Group.{Group}
 use Rattle.register_file.specs.Groups.{cause_row, mask_row, index_of, told_by}
 use Rattle.register_file.specs.Registers.{Registers, word_of}
 use Rattle.register_file.specs.Words.{row_words, word_at}

@@ -3,8 +3,8 @@ use Rattle.std.proofs.Common.{◌≡◌, ◌≢◌, ℕ, Bool, true, false, cond
 use Rattle.std.proofs.Common.{refl, ap}
 use Rattle.std.specs.Prelude.{Result}
 use Rattle.std.proofs.lemmas.Bool.{cond-false}
-use Rattle.rss_hash.specs.Mrqc.{queue_mode_of}
-use Rattle.reg_table.specs.declared.rows.RowId.TheVariants.{Mrqc}
+use Rattle.register_file.specs.RssHash.Mrqc.{queue_mode_of}
+use Rattle.register_file.specs.RegTable.declared.rows.RowId.TheVariants.{Mrqc}
 use Rattle.register_file.specs.Registers.{Registers, word_of}
 use Rattle.rx_filter.specs.Address.{passes}
 use Rattle.rx_filter.specs.Pools.{uses_pools, takes_frames, has_queues, checked_pool, pool_of, chosen_pool}

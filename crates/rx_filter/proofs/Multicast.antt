@@ -3,7 +3,7 @@ use Rattle.std.proofs.Common.{◌≡◌, ℕ, ◌+◌, ◌*◌, ◌/◌, ◌%◌
 use Rattle.std.proofs.Common.{sym, ap, ◌∙◌, ◌⊎◌, inl, inr, arith}
 use Rattle.std.specs.Prelude.{is_some, slice_index}
 use Rattle.std.proofs.lemmas.Bool.{cond-true, cond-false}
-use Rattle.reg_table.specs.declared.rows.RowId.TheVariants.{Mcstctrl, Mta}
+use Rattle.register_file.specs.RegTable.declared.rows.RowId.TheVariants.{Mcstctrl, Mta}
 use Rattle.register_file.specs.Bits.{has_bit}
 use Rattle.register_file.specs.Registers.{Registers, word_of}
 use Rattle.rx_filter.specs.Address.{destination_high, first_match, is_broadcast, is_multicast, multicast_shift}

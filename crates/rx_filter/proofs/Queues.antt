@@ -4,15 +4,15 @@ use Rattle.std.proofs.Common.{sym, ap, ◌∙◌, inl, inr, eq-eqb}
 use Rattle.std.specs.Prelude.{Result}
 use Rattle.std.proofs.lemmas.Bool.{cond-true, cond-false}
 use Rattle.std.proofs.lemmas.Bool.Decides.{eqb_tells}
-use Rattle.reg_table.specs.declared.rows.RowId.TheVariants.{VtCtl, Mrqc, Reta}
+use Rattle.register_file.specs.RegTable.declared.rows.RowId.TheVariants.{VtCtl, Mrqc, Reta}
 use Rattle.register_file.specs.Bits.{has_bit}
 use Rattle.register_file.specs.Registers.{Registers, word_of}
 use Rattle.register_file.specs.Words.{row_words}
-use Rattle.rss_hash.specs.Choice.{code_of}
-use Rattle.rss_hash.specs.Mrqc.{queue_mode_of}
-use Rattle.rss_hash.specs.Registers.{entry_of}
-use Rattle.rss_hash.specs.declared.mrqc.QueueMode.{QueueMode}
-use Rattle.rss_hash.specs.declared.mrqc.QueueMode.TheVariants.{Rss, Pools64, Pools32Rss, Pools64Rss}
+use Rattle.register_file.specs.RssHash.Choice.{code_of}
+use Rattle.register_file.specs.RssHash.Mrqc.{queue_mode_of}
+use Rattle.register_file.specs.RssHash.Registers.{entry_of}
+use Rattle.register_file.specs.RssHash.declared.mrqc.QueueMode.{QueueMode}
+use Rattle.register_file.specs.RssHash.declared.mrqc.QueueMode.TheVariants.{Rss, Pools64, Pools32Rss, Pools64Rss}
 use Rattle.rx_filter.specs.Address.{passes}
 use Rattle.rx_filter.specs.Pools.{uses_pools, takes_frames, has_queues, default_pool, matched_pool, or_default}
 use Rattle.rx_filter.specs.Pools.{checked_pool, pool_of, chosen_pool}

@@ -2,7 +2,7 @@
 use Rattle.std.proofs.Common.{◌≡◌, ℕ, ◌/◌, ◌%◌, ◌<◌, ◌^◌, ◌==◌, ◌&&◌, ◌||◌, Bool, true, false, cond, List}
 use Rattle.std.proofs.Common.{Err, refl, ap, ◌∙◌, arith}
 use Rattle.std.specs.Prelude.{is_some}
-use Rattle.reg_table.specs.declared.rows.RowId.TheVariants.{Fctrl, Mcstctrl, Mta, Rah, Ral}
+use Rattle.register_file.specs.RegTable.declared.rows.RowId.TheVariants.{Fctrl, Mcstctrl, Mta, Rah, Ral}
 use Rattle.register_file.specs.Bits.{has_bit}
 use Rattle.register_file.specs.Columns.{place}
 use Rattle.register_file.specs.Registers.{reset_registers, word_of}

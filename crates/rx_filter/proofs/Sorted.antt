@@ -3,20 +3,20 @@ use Rattle.std.proofs.Common.{◌≡◌, ℕ, ◌==◌, Bool, true, false, cond,
 use Rattle.std.proofs.Common.{Option, Some, None, Ok, Err, refl, sym, ap, ◌∙◌, arith}
 use Rattle.std.specs.Prelude.{Result}
 use Rattle.std.proofs.lemmas.Bool.{cond-true, cond-false}
-use Rattle.reg_table.specs.declared.rows.RowId.TheVariants.{Mrqc, Reta, Rssrk, Rxcsum}
+use Rattle.register_file.specs.RegTable.declared.rows.RowId.TheVariants.{Mrqc, Reta, Rssrk, Rxcsum}
 use Rattle.register_file.specs.Bits.{has_bit}
 use Rattle.register_file.specs.Registers.{Registers, word_of}
 use Rattle.register_file.specs.Words.{row_words}
-use Rattle.rss_hash.specs.Choice.{code_of, rss_type_of, hashed_part, first_enabled}
-use Rattle.rss_hash.specs.Flow.{flow_of}
-use Rattle.rss_hash.specs.Mrqc.{queue_mode_of, is_hashing}
-use Rattle.rss_hash.specs.Registers.{bytes_of_registers, entry_of}
-use Rattle.rss_hash.specs.Toeplitz.{toeplitz_hash}
-use Rattle.rss_hash.specs.declared.choice.RssType.{RssType}
-use Rattle.rss_hash.specs.declared.choice.RssType.TheVariants.{NoHash}
-use Rattle.rss_hash.specs.declared.flow.Flow.{Flow}
-use Rattle.rss_hash.specs.declared.mrqc.QueueMode.{QueueMode}
-use Rattle.rss_hash.specs.declared.mrqc.QueueMode.TheVariants.{Single, Rss, Pools64, Pools32Rss, Pools64Rss}
+use Rattle.register_file.specs.RssHash.Choice.{code_of, rss_type_of, hashed_part, first_enabled}
+use Rattle.register_file.specs.RssHash.Flow.{flow_of}
+use Rattle.register_file.specs.RssHash.Mrqc.{queue_mode_of, is_hashing}
+use Rattle.register_file.specs.RssHash.Registers.{bytes_of_registers, entry_of}
+use Rattle.register_file.specs.RssHash.Toeplitz.{toeplitz_hash}
+use Rattle.register_file.specs.RssHash.declared.choice.RssType.{RssType}
+use Rattle.register_file.specs.RssHash.declared.choice.RssType.TheVariants.{NoHash}
+use Rattle.register_file.specs.RssHash.declared.flow.Flow.{Flow}
+use Rattle.register_file.specs.RssHash.declared.mrqc.QueueMode.{QueueMode}
+use Rattle.register_file.specs.RssHash.declared.mrqc.QueueMode.TheVariants.{Single, Rss, Pools64, Pools32Rss, Pools64Rss}
 use Rattle.rx_filter.specs.Address.{passes}
 use Rattle.rx_filter.specs.Pools.{uses_pools, takes_frames, has_queues, checked_pool, pool_of, chosen_pool}
 use Rattle.rx_filter.specs.Sorting.{queue_of, rss_type, rss_entry, target_of, pool_target, sorted}

@@ -2,7 +2,7 @@
 use Rattle.std.specs.Prelude.{ℕ, ◌+◌, ◌*◌, ◌/◌, ◌%◌, ◌^◌, ◌==◌, ◌&&◌, ◌||◌}
 use Rattle.std.specs.Prelude.{Bool, List, slice_index, find, Option, is_some, if◌then◌else◌}
 use Rattle.std.specs.List.{range_with_len}
-use Rattle.reg_table.specs.declared.rows.RowId.TheVariants.{Fctrl, Mcstctrl, Mta, Ral, Rah}
+use Rattle.register_file.specs.RegTable.declared.rows.RowId.TheVariants.{Fctrl, Mcstctrl, Mta, Ral, Rah}
 use Rattle.register_file.specs.Bits.{has_bit}
 use Rattle.register_file.specs.Registers.{Registers, word_of}
 use Rattle.rx_filter.specs.declared.fields.TheConstants.{MPE, UPE, BAM, MO, MFE, AV}

@@ -1,12 +1,12 @@
 -- What a driver's author can rest on.
 use Rattle.std.specs.Prelude.{ℕ, ◌≡◌, ◌≢◌, ◌<◌, ◌+◌, ◌*◌, ◌/◌, ◌%◌, ◌^◌, ◌==◌, ◌↔◌, ◌⊎◌}
 use Rattle.std.specs.Prelude.{Bool, true, false, IsTrue, IsFalse, List, Some, None, Ok, Err, slice_index, if◌then◌else◌}
-use Rattle.reg_table.specs.declared.rows.RowId.TheVariants.{Fctrl, Mcstctrl, Mta, VtCtl, Mrqc, Reta}
-use Rattle.rss_hash.specs.Choice.{code_of}
-use Rattle.rss_hash.specs.Mrqc.{queue_mode_of}
-use Rattle.rss_hash.specs.Registers.{bytes_of_registers}
-use Rattle.rss_hash.specs.declared.mrqc.QueueMode.{QueueMode}
-use Rattle.rss_hash.specs.declared.mrqc.QueueMode.TheVariants.{Single, Rss, Pools64, Pools32Rss, Pools64Rss}
+use Rattle.register_file.specs.RegTable.declared.rows.RowId.TheVariants.{Fctrl, Mcstctrl, Mta, VtCtl, Mrqc, Reta}
+use Rattle.register_file.specs.RssHash.Choice.{code_of}
+use Rattle.register_file.specs.RssHash.Mrqc.{queue_mode_of}
+use Rattle.register_file.specs.RssHash.Registers.{bytes_of_registers}
+use Rattle.register_file.specs.RssHash.declared.mrqc.QueueMode.{QueueMode}
+use Rattle.register_file.specs.RssHash.declared.mrqc.QueueMode.TheVariants.{Single, Rss, Pools64, Pools32Rss, Pools64Rss}
 use Rattle.register_file.specs.Bits.{has_bit}
 use Rattle.register_file.specs.Registers.{Registers, reset_registers, word_of}
 use Rattle.register_file.specs.Words.{row_words}

@@ -2,10 +2,10 @@
 use Rattle.std.specs.Prelude.{ℕ, ◌+◌, ◌*◌, ◌/◌, ◌%◌, ◌^◌, Bool, true, List, find, nat_lt}
 use Rattle.std.specs.Prelude.{Option, Some, None, Result, Ok, Err, if◌then◌else◌}
 use Rattle.std.specs.List.{range_with_len}
-use Rattle.reg_table.specs.declared.rows.RowId.TheVariants.{VtCtl, Mpsar, Mrqc}
-use Rattle.rss_hash.specs.Mrqc.{queue_mode_of}
-use Rattle.rss_hash.specs.declared.mrqc.QueueMode.{QueueMode}
-use Rattle.rss_hash.specs.declared.mrqc.QueueMode.TheVariants.{Pools32Rss}
+use Rattle.register_file.specs.RegTable.declared.rows.RowId.TheVariants.{VtCtl, Mpsar, Mrqc}
+use Rattle.register_file.specs.RssHash.Mrqc.{queue_mode_of}
+use Rattle.register_file.specs.RssHash.declared.mrqc.QueueMode.{QueueMode}
+use Rattle.register_file.specs.RssHash.declared.mrqc.QueueMode.TheVariants.{Pools32Rss}
 use Rattle.register_file.specs.Bits.{has_bit}
 use Rattle.register_file.specs.Pools.{pool_bit}
 pub use Rattle.register_file.specs.Pools.{takes_frames}

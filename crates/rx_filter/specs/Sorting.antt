@@ -1,14 +1,14 @@
 -- The queue that a frame is for, and its hash.
 use Rattle.std.specs.Prelude.{ℕ, ◌+◌, ◌*◌, ◌%◌, ◌==◌, List, Result, Ok, Err, if◌then◌else◌}
-use Rattle.reg_table.specs.declared.rows.RowId.TheVariants.{Mrqc, Reta, Rssrk, Rxcsum}
-use Rattle.rss_hash.specs.Choice.{code_of, rss_type_of, hashed_part}
-use Rattle.rss_hash.specs.Flow.{flow_of}
-use Rattle.rss_hash.specs.Mrqc.{queue_mode_of}
-use Rattle.rss_hash.specs.Registers.{bytes_of_registers, entry_of}
-use Rattle.rss_hash.specs.Toeplitz.{toeplitz_hash}
-use Rattle.rss_hash.specs.declared.choice.RssType.{RssType}
-use Rattle.rss_hash.specs.declared.mrqc.QueueMode.{QueueMode}
-use Rattle.rss_hash.specs.declared.mrqc.QueueMode.TheVariants.{Single, Rss, Pools64, Pools32Rss, Pools64Rss}
+use Rattle.register_file.specs.RegTable.declared.rows.RowId.TheVariants.{Mrqc, Reta, Rssrk, Rxcsum}
+use Rattle.register_file.specs.RssHash.Choice.{code_of, rss_type_of, hashed_part}
+use Rattle.register_file.specs.RssHash.Flow.{flow_of}
+use Rattle.register_file.specs.RssHash.Mrqc.{queue_mode_of}
+use Rattle.register_file.specs.RssHash.Registers.{bytes_of_registers, entry_of}
+use Rattle.register_file.specs.RssHash.Toeplitz.{toeplitz_hash}
+use Rattle.register_file.specs.RssHash.declared.choice.RssType.{RssType}
+use Rattle.register_file.specs.RssHash.declared.mrqc.QueueMode.{QueueMode}
+use Rattle.register_file.specs.RssHash.declared.mrqc.QueueMode.TheVariants.{Single, Rss, Pools64, Pools32Rss, Pools64Rss}
 use Rattle.register_file.specs.Bits.{has_bit}
 use Rattle.register_file.specs.Registers.{Registers, word_of}
 use Rattle.register_file.specs.Words.{row_words}

@@ -4,8 +4,7 @@ ghost use Rattle.std.specs.Prelude.{◌≡◌, ◌<◌, slice_index, IfSome};
 ghost use Rattle.rx_filter.specs.Address.{destination_low, destination_high, matches, first_match, is_broadcast, is_multicast, multicast_shift, multicast_number, is_in_table, lets_multicast, lets_unicast, lets_broadcast, passes};
 
 use crate::fields::{AV, BAM, MFE, MO, MPE, UPE, has_bit};
-use reg_table::RowId;
-use register_file::RegisterFile;
+use register_file::{RegisterFile, RowId};
 
 /// How many addresses there are.
 const ADDRESSES: u16 = 128;

@@ -1,17 +1,15 @@
 //! Which pool of queues a frame is for.
 
 ghost use Rattle.std.specs.Prelude.{◌≡◌, ◌<◌, IfSome, IfOk, IsTrue};
-ghost use Rattle.reg_table.specs.declared.rows.RowId.TheVariants.{Mrqc};
+ghost use Rattle.register_file.specs.RegTable.declared.rows.RowId.TheVariants.{Mrqc};
 ghost use Rattle.register_file.specs.Registers.{word_of};
-ghost use Rattle.rss_hash.specs.Mrqc.{queue_mode_of};
+ghost use Rattle.register_file.specs.RssHash.Mrqc.{queue_mode_of};
 ghost use Rattle.rx_filter.specs.Pools.{uses_pools, selects, lowest_pool, default_pool, pool_of, has_queues, checked_pool, chosen_pool};
 
 use crate::address::first_match;
 use crate::fields::{DEF_PL, DIS_DEF_POOL, VT_ENA, has_bit};
 use crate::unwanted::Unwanted;
-use reg_table::RowId;
-use register_file::{Dir, RegisterFile};
-use rss_hash::QueueMode;
+use register_file::{Dir, QueueMode, RegisterFile, RowId};
 
 /// How many pools there are at most.
 const POOLS: u16 = 64;

@@ -1,13 +1,13 @@
 //! The queue that a frame is for, and its hash.
 
 ghost use Rattle.std.specs.Prelude.{◌≡◌, ◌<◌, ◌==◌, IfOk, IsTrue, if◌then◌else◌};
-ghost use Rattle.reg_table.specs.declared.rows.RowId.TheVariants.{Mrqc, Reta, Rssrk, Rxcsum};
+ghost use Rattle.register_file.specs.RegTable.declared.rows.RowId.TheVariants.{Mrqc, Reta, Rssrk, Rxcsum};
 ghost use Rattle.register_file.specs.Bits.{has_bit};
 ghost use Rattle.register_file.specs.Registers.{word_of};
 ghost use Rattle.register_file.specs.Words.{row_words};
-ghost use Rattle.rss_hash.specs.Mrqc.{queue_mode_of};
-ghost use Rattle.rss_hash.specs.Registers.{bytes_of_registers, entry_of};
-ghost use Rattle.rss_hash.specs.Toeplitz.{toeplitz_hash};
+ghost use Rattle.register_file.specs.RssHash.Mrqc.{queue_mode_of};
+ghost use Rattle.register_file.specs.RssHash.Registers.{bytes_of_registers, entry_of};
+ghost use Rattle.register_file.specs.RssHash.Toeplitz.{toeplitz_hash};
 ghost use Rattle.rx_filter.specs.Pools.{has_queues};
 ghost use Rattle.rx_filter.specs.Sorting.{queue_of, target_of, sorted};
 
@@ -16,9 +16,7 @@ use crate::fields::{PCSD, has_bit};
 use crate::pools::chosen_pool;
 use crate::target::Target;
 use crate::unwanted::Unwanted;
-use reg_table::RowId;
-use register_file::RegisterFile;
-use rss_hash::{Input, QueueMode, choose, classify, entry};
+use register_file::{Input, QueueMode, RegisterFile, RowId, choose, classify, entry};
 
 /// Where a frame goes, given without its frame check sequence, or why it goes nowhere; any bytes will do, and bytes
 /// that a frame doesn't have read as 0. `Filter` where its destination isn't let in, then `NoPool` where there is no

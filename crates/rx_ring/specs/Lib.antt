@@ -1,3 +1,5 @@
+pub use Rattle.dma_arena.specs as DmaArena
+pub use Rattle.dma_ring.specs as DmaRing
 pub mod Control
 pub mod Fill
 pub mod Frames

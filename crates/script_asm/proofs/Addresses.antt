@@ -4,8 +4,8 @@ use Rattle.std.specs.Prelude.{decimal}
 use Rattle.std.specs.Option.{ok_or}
 use Rattle.std.proofs.lemmas.Bool.{lt-ltb}
 use Rattle.std.proofs.lemmas.Bool.Decides.{eqb_tells}
-use Rattle.lexer.specs.Name.{is_name}
-use Rattle.printed.specs.Word.{word_text}
+use Rattle.text_format.specs.Name.{is_name}
+use Rattle.text_format.specs.Word.{word_text}
 use Rattle.reg_table.specs.declared.place.Place.{Place}
 use Rattle.reg_table.specs.declared.rows.RowId.{RowId}
 use Rattle.reg_table.specs.Place.{place_among, address_among}

@@ -1,6 +1,6 @@
 -- What the first fault of a script decides.
 use Rattle.std.proofs.Common.{◌≡◌, ◌∙◌, ap, ℕ, List, [], ◌∷◌, ◌++◌, Result, Ok}
-use Rattle.lexer.specs.Lines.{NumberedLine}
+use Rattle.text_format.specs.Lines.{NumberedLine}
 use Rattle.program.specs.declared.instruction.Instruction.{Instruction as Step}
 use Rattle.script_asm.specs.Fault.{◌then◌}
 use Rattle.script_asm.specs.Laws.{FirstFaultDecides}

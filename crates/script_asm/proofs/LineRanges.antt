@@ -3,7 +3,7 @@ use Rattle.std.proofs.Common.{◌≤◌, ℕ, cond, length, List, [], ◌∷◌,
 use Rattle.std.specs.Bool.{⊤}
 use Rattle.std.specs.Option.{ok_or}
 use Rattle.std.proofs.lemmas.Bool.Decides.{eqb_tells}
-use Rattle.lexer.specs.HexData.{hex_bytes_of}
+use Rattle.text_format.specs.HexData.{hex_bytes_of}
 use Rattle.script_asm.specs.Fault.{both}
 use Rattle.script_asm.specs.Operation.{instruction_in}
 use Rattle.script_asm.specs.Resolved.{IsInRange}

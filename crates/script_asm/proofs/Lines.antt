@@ -1,6 +1,6 @@
 -- One more line of a script.
 use Rattle.std.proofs.Common.{◌≡◌, refl, List, [], ◌∷◌, Result, Ok, Err}
-use Rattle.lexer.specs.Lines.{NumberedLine}
+use Rattle.text_format.specs.Lines.{NumberedLine}
 use Rattle.script_asm.specs.Fault.{◌then◌}
 use Rattle.script_asm.specs.Outline.{Outline}
 use Rattle.script_asm.specs.Script.{with_line, with_lines}

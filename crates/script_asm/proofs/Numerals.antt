@@ -8,9 +8,9 @@ use Rattle.std.specs.Str.Parse.{AllDigits, IsNumeral, digits_value}
 use Rattle.std.proofs.lemmas.Bool.{lt-ltb, le-leb}
 use Rattle.std.proofs.lemmas.Bool.Decides.{nat_tests}
 use Rattle.std.proofs.lemmas.Fmt.{digits_is_IsNumeral, decimal_is_IsNumeral, length-decimal-le}
-use Rattle.lexer.specs.Name.{is_name, begins_name, continues_name}
-use Rattle.lexer.specs.Number.{numeral_of, number_of}
-use Rattle.printed.specs.Word.{word_text}
+use Rattle.text_format.specs.Name.{is_name, begins_name, continues_name}
+use Rattle.text_format.specs.Number.{numeral_of, number_of}
+use Rattle.text_format.specs.Word.{word_text}
 use Rattle.script_asm.specs.Target.{name_in}
 use Rattle.script_asm.proofs.Plain.{IsWord, is_plain, list_all-weaker, both_all}
 

@@ -7,8 +7,8 @@ use Rattle.std.proofs.lemmas.Bool.{and_parts}
 use Rattle.std.proofs.lemmas.Bool.Decides.{nat_tests}
 use Rattle.std.proofs.lemmas.List.Folds.{list_all-append}
 use Rattle.std.proofs.lemmas.List.Splits.{slice_split_at, slice_split_none}
-use Rattle.lexer.specs.Words.{is_blank, before_comment, words_between_blanks, words_of}
-use Rattle.lexer.proofs.Parts.{HasFirst, slice_split-HasFirst}
+use Rattle.text_format.specs.Words.{is_blank, before_comment, words_between_blanks, words_of}
+use Rattle.text_format.proofs.Parts.{HasFirst, slice_split-HasFirst}
 
 -- a byte of a word, and one of a line
 abbrev pub is_plain : ℕ → Bool

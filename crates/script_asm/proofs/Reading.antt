@@ -1,7 +1,7 @@
 -- Each instruction of a program reads back from its line.
 use Rattle.std.proofs.Common.{refl, ℕ, List, [], ◌∷◌, arith}
 use Rattle.std.specs.Prelude.{codes}
-use Rattle.printed.specs.Word.{word_text}
+use Rattle.text_format.specs.Word.{word_text}
 use Rattle.program.specs.Encoding.{HaveWidths, fields_of}
 use Rattle.program.specs.Listing.{IsSound}
 use Rattle.program.specs.declared.instruction.Instruction.{Instruction as Step}

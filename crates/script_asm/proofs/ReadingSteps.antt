@@ -1,11 +1,11 @@
 -- The steps of interrupts, queues and the link read back from their lines.
 use Rattle.std.proofs.Common.{refl, ℕ, Bool, true, false, List, [], ◌∷◌, arith}
 use Rattle.std.specs.Prelude.{codes}
-use Rattle.intr_unit.specs.declared.Group.{Group}
-use Rattle.intr_unit.specs.declared.Group.TheVariants.{Pf, Vf}
-use Rattle.register_file.specs.declared.dir.Dir.{Dir}
-use Rattle.register_file.specs.declared.dir.Dir.TheVariants.{Rx, Tx}
-use Rattle.printed.specs.Word.{word_text}
+use Rattle.program.specs.IntrUnit.declared.Group.{Group}
+use Rattle.program.specs.IntrUnit.declared.Group.TheVariants.{Pf, Vf}
+use Rattle.program.specs.DmaRing.declared.dir.Dir.{Dir}
+use Rattle.program.specs.DmaRing.declared.dir.Dir.TheVariants.{Rx, Tx}
+use Rattle.text_format.specs.Word.{word_text}
 use Rattle.program.specs.Encoding.{HaveWidths, fields_of}
 use Rattle.program.specs.Listing.{IsSound}
 use Rattle.program.specs.declared.instruction.Instruction.TheVariants.{IntStep, QueueStep, Link}

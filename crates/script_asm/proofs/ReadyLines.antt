@@ -1,7 +1,7 @@
 -- What all lines have said makes a program, line by line.
 use Rattle.std.proofs.Common.{◌≡◌, subst, ℕ, List, [], ◌∷◌, Result, Ok, Err, IfOk}
-use Rattle.lexer.specs.Lines.{NumberedLine}
-use Rattle.lexer.specs.Words.{words_of}
+use Rattle.text_format.specs.Lines.{NumberedLine}
+use Rattle.text_format.specs.Words.{words_of}
 use Rattle.script_asm.specs.Fault.{◌then◌, at_line}
 use Rattle.script_asm.specs.Outline.{Outline, blank}
 use Rattle.script_asm.specs.Resolved.{IsReady}

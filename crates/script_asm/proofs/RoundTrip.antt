@@ -1,7 +1,7 @@
 -- The text of a program means the program.
 use Rattle.std.proofs.Common.{◌≡◌, refl, sym, ◌∙◌, ℕ, zero, suc, ◌==◌, ◌<◌, Bool, true, false, ◌||◌, List, [], ◌∷◌, length, map, arith, eq-eqb}
 use Rattle.std.specs.List.{AllByRecursion}
-use Rattle.lexer.specs.Lines.{lines_of}
+use Rattle.text_format.specs.Lines.{lines_of}
 use Rattle.std.specs.Str.Lines.{lines}
 use Rattle.program.specs.Listing.{Listing, IsSound, IsListing, string_at}
 use Rattle.program.specs.declared.instruction.Instruction.{Instruction as Step}

@@ -3,9 +3,9 @@ use Rattle.std.proofs.Common.{◌≡◌, refl, ℕ, ◌^◌, ◌<◌, List, [], 
 use Rattle.std.specs.Prelude.{codes, decimal}
 use Rattle.std.specs.List.{AllByRecursion}
 use Rattle.std.proofs.lemmas.Bool.{lt-ltb}
-use Rattle.intr_unit.specs.declared.Group.TheVariants.{Vf}
-use Rattle.register_file.specs.declared.dir.Dir.TheVariants.{Rx, Tx}
-use Rattle.printed.specs.Word.{word_text}
+use Rattle.program.specs.IntrUnit.declared.Group.TheVariants.{Vf}
+use Rattle.program.specs.DmaRing.declared.dir.Dir.TheVariants.{Rx, Tx}
+use Rattle.text_format.specs.Word.{word_text}
 use Rattle.program.specs.declared.instruction.Instruction.{Instruction as Step}
 use Rattle.program.specs.declared.instruction.Instruction.TheVariants.{Write, Read, VfWrite, VfRead, Lend, Unlend, Poke, Peek, Arrive, RxStep, TxStep, IntStep, QueueStep, EepromStep, Link, Collect, Expect, And, JumpIfEqual, JumpUnlessEqual, Jump, Halt}
 use Rattle.script_asm.specs.Operation.{Draft}

@@ -8,10 +8,10 @@ use Rattle.std.proofs.lemmas.Bool.Decides.{nat_tests}
 use Rattle.std.proofs.lemmas.List.Sums.{AllPass-from_list_all}
 use Rattle.hex.specs.Hex.{encode_with, lower_digits}
 use Rattle.hex.proofs.HexLemmas.{decode_of-encode_lower}
-use Rattle.lexer.specs.Words.{words_of}
-use Rattle.lexer.specs.HexData.{hex_bytes_of}
-use Rattle.lexer.proofs.HexData.{hex_bytes_of-decoded}
-use Rattle.printed.specs.Bytes.{bytes_text}
+use Rattle.text_format.specs.Words.{words_of}
+use Rattle.text_format.specs.HexData.{hex_bytes_of}
+use Rattle.text_format.proofs.HexData.{hex_bytes_of-decoded}
+use Rattle.text_format.specs.Bytes.{bytes_text}
 use Rattle.program.specs.Listing.{IsDataString}
 use Rattle.script_asm.specs.Disassembly.{data_line, data_lines}
 use Rattle.script_asm.specs.Fault.{◌then◌}

@@ -2,8 +2,8 @@
 use Rattle.std.specs.Prelude.{ℕ, Bool, false, List, [], ◌∷◌, Result}
 use Rattle.std.specs.List.{after_first, before_first, list_any}
 use Rattle.std.specs.Str.{bytes_eq}
-use Rattle.lexer.specs.Lines.{NumberedLine}
-use Rattle.lexer.specs.Words.{words_of}
+use Rattle.text_format.specs.Lines.{NumberedLine}
+use Rattle.text_format.specs.Words.{words_of}
 use Rattle.program.specs.Listing.{Listing}
 use Rattle.script_asm.specs.Script.{program_of_lines}
 use Rattle.script_asm.specs.declared.faults.ScriptFault.{ScriptFault}

@@ -1,7 +1,7 @@
 -- The faults of a script, and which of them is told.
 use Rattle.std.specs.Prelude.{◌≡◌, ◌≢◌, ℕ, Result, Ok, Err}
-use Rattle.lexer.specs.declared.numbers.NumberFault.{NumberFault}
-use Rattle.lexer.specs.declared.numbers.NumberFault.TheVariants.{Malformed, TooLarge}
+use Rattle.text_format.specs.declared.numbers.NumberFault.{NumberFault}
+use Rattle.text_format.specs.declared.numbers.NumberFault.TheVariants.{Malformed, TooLarge}
 use Rattle.script_asm.specs.declared.faults.LineFault.{LineFault}
 use Rattle.script_asm.specs.declared.faults.LineFault.TheVariants as line
 use Rattle.script_asm.specs.declared.faults.ScriptFault.{ScriptFault}

@@ -1,6 +1,6 @@
 -- The line of an instruction: its name and its operands, as text.
 use Rattle.std.specs.Prelude.{ℕ, ◌++◌, List, codes, decimal}
-use Rattle.printed.specs.Word.{word_text}
+use Rattle.text_format.specs.Word.{word_text}
 use Rattle.script_asm.specs.Printing.{target_text}
 use Rattle.script_asm.specs.declared.printing.Line.{Line}
 use Rattle.script_asm.specs.declared.printing.Operand.{Operand}

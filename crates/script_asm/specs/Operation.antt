@@ -1,10 +1,10 @@
 -- The instruction of an operation and its operands, as its line writes it.
 use Rattle.std.specs.Prelude.{ℕ, ◌^◌, Bool, List, [], ◌∷◌, Result, Ok, Err, true, false, codes, if◌then◌else◌}
 use Rattle.std.specs.Str.{bytes_eq}
-use Rattle.intr_unit.specs.declared.Group.{Group}
-use Rattle.intr_unit.specs.declared.Group.TheVariants.{Pf, Vf}
-use Rattle.register_file.specs.declared.dir.Dir.{Dir}
-use Rattle.register_file.specs.declared.dir.Dir.TheVariants.{Rx, Tx}
+use Rattle.program.specs.IntrUnit.declared.Group.{Group}
+use Rattle.program.specs.IntrUnit.declared.Group.TheVariants.{Pf, Vf}
+use Rattle.program.specs.DmaRing.declared.dir.Dir.{Dir}
+use Rattle.program.specs.DmaRing.declared.dir.Dir.TheVariants.{Rx, Tx}
 use Rattle.program.specs.declared.instruction.Instruction.{Instruction}
 use Rattle.program.specs.declared.instruction.Instruction.TheVariants.{Write, Read, VfWrite, VfRead, Lend, Unlend, Poke}
 use Rattle.program.specs.declared.instruction.Instruction.TheVariants.{Peek, Arrive, RxStep, TxStep, IntStep, QueueStep}

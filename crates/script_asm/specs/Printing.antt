@@ -1,11 +1,11 @@
 -- Instructions as text.
 use Rattle.std.specs.Prelude.{ℕ, Bool, true, false, ◌==◌, ◌++◌, List, Option, Some, None, unwrap_or, codes, decimal}
 use Rattle.std.specs.Prelude.{if◌then◌else◌}
-use Rattle.intr_unit.specs.declared.Group.{Group}
-use Rattle.intr_unit.specs.declared.Group.TheVariants.{Pf, Vf}
-use Rattle.register_file.specs.declared.dir.Dir.{Dir}
-use Rattle.register_file.specs.declared.dir.Dir.TheVariants.{Rx, Tx}
-use Rattle.printed.specs.Word.{word_text}
+use Rattle.program.specs.IntrUnit.declared.Group.{Group}
+use Rattle.program.specs.IntrUnit.declared.Group.TheVariants.{Pf, Vf}
+use Rattle.program.specs.DmaRing.declared.dir.Dir.{Dir}
+use Rattle.program.specs.DmaRing.declared.dir.Dir.TheVariants.{Rx, Tx}
+use Rattle.text_format.specs.Word.{word_text}
 use Rattle.program.specs.declared.instruction.Instruction.{Instruction}
 use Rattle.program.specs.declared.instruction.Instruction.TheVariants.{Write, Read, VfWrite, VfRead, Lend, Unlend, Poke}
 use Rattle.program.specs.declared.instruction.Instruction.TheVariants.{Peek, Arrive, RxStep, TxStep, IntStep, QueueStep}

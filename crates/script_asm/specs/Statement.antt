@@ -2,7 +2,7 @@
 use Rattle.std.specs.Prelude.{ℕ, ◌==◌, List, [], ◌∷◌, length, Option, Some, None, Result, Ok, Err, codes, if◌then◌else◌}
 use Rattle.std.specs.Option.{ok_or}
 use Rattle.std.specs.Str.{bytes_eq}
-use Rattle.lexer.specs.HexData.{hex_bytes_of}
+use Rattle.text_format.specs.HexData.{hex_bytes_of}
 use Rattle.script_asm.specs.declared.faults.LineFault.{LineFault}
 use Rattle.script_asm.specs.declared.faults.LineFault.TheVariants.{Syntax}
 use Rattle.script_asm.specs.declared.statements.Statement.{Statement}

@@ -8,8 +8,8 @@ use Rattle.reg_table.specs.Rows.{row_of}
 use Rattle.reg_table.specs.Runs.{runs}
 use Rattle.reg_table.specs.Named.{row_with_name}
 use Rattle.reg_table.specs.Place.{address_among}
-use Rattle.lexer.specs.Name.{is_name}
-use Rattle.lexer.specs.Number.{number_of}
+use Rattle.text_format.specs.Name.{is_name}
+use Rattle.text_format.specs.Number.{number_of}
 use Rattle.script_asm.specs.declared.faults.LineFault.{LineFault}
 use Rattle.script_asm.specs.declared.faults.LineFault.TheVariants.{Syntax, UnknownName, Range, TooLong}
 use Rattle.script_asm.specs.Fault.{◌then◌, both, number_fault}

@@ -2,8 +2,8 @@
 
 ghost use Rattle.std.specs.Prelude.{◌≡◌, ◌≢◌, IfOk, IfErr, IfSome, IsOk, None, Ok, Err, false, true};
 ghost use Rattle.std.specs.List.{after_first, before_first, list_any};
-ghost use Rattle.lexer.specs.Lines.{line_of, lines_of};
-ghost use Rattle.lexer.specs.Words.{words_of};
+ghost use Rattle.text_format.specs.Lines.{line_of, lines_of};
+ghost use Rattle.text_format.specs.Words.{words_of};
 ghost use Rattle.script_asm.specs.End.{has_end, is_end, is_only, lines_behind, program_before};
 ghost use Rattle.script_asm.specs.Fault.{Gives};
 ghost use Rattle.script_asm.specs.Outline.{blank};
@@ -12,9 +12,9 @@ ghost use Rattle.script_asm.specs.Script.{with_line, with_lines, program_of};
 use crate::faults::ScriptFault;
 use crate::sheet::Sheet;
 use crate::statements::read_line;
-use lexer::{Line, Lines, Words};
 use program::Program;
 use std::alloc::Global;
+use text_format::{Line, Lines, Words};
 
 /// Adds what a line says.
 fn add_line<'a>(alloc: Global, sheet: &mut Sheet<'a>, line: Line<'a>) -> Result<(), ScriptFault>

@@ -5,11 +5,10 @@ ghost use Rattle.script_asm.specs.Disassembly.{jumps_to, is_target, data_line, d
 ghost use Rattle.script_asm.specs.Disassembly.{code_lines, text_of};
 
 use crate::printing::InstructionText;
-use dma_arena::Octets;
-use printed::BytesText;
-use program::{Instruction, Program};
+use program::{Instruction, Octets, Program};
 use std::alloc::Global;
 use std::fmt::Write;
+use text_format::BytesText;
 use thiserror::Error;
 
 /// There was no memory for the text of a program.

@@ -3,8 +3,8 @@
 ghost use Rattle.std.specs.Prelude.{◌≡◌};
 ghost use Rattle.script_asm.specs.Fault.{both, told_first, fault_at};
 
-use lexer::NumberFault;
 use std::alloc::{AllocError, AllocFailed};
+use text_format::NumberFault;
 use thiserror::Error;
 
 /// Why a text is no script. Lines are numbered from 1.

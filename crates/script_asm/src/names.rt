@@ -4,8 +4,8 @@ ghost use Rattle.std.specs.Prelude.{◌≡◌};
 ghost use Rattle.script_asm.specs.Target.{name_in};
 
 use crate::faults::LineFault;
-use lexer::{NAME_LIMIT, is_name};
 use std::marker::Model;
+use text_format::{NAME_LIMIT, is_name};
 
 /// A name of at most 32 bytes, which contracts see as its bytes.
 #[derive(Debug, Drop)]

@@ -8,10 +8,8 @@ ghost use Rattle.script_asm.specs.Target.{number_below};
 use crate::faults::{LineFault, both};
 use crate::names::Name;
 use crate::targets::{number, number_below, target};
-use intr_unit::Group;
-use lexer::Words;
-use program::Instruction;
-use register_file::Dir;
+use program::{Dir, Group, Instruction};
+use text_format::Words;
 
 /// An instruction as its line writes it, with labels and data by name.
 pub(crate) type Draft<'a> = Instruction<Name<'a>, Name<'a>>;

@@ -7,12 +7,10 @@ ghost use Rattle.script_asm.specs.Line.{operand_text, line_text};
 
 use self::Operand::{Data, Label, Named, Target, Word};
 use self::Operands::{One, Three, Two, Zero};
-use intr_unit::Group;
-use printed::WordText;
-use program::Instruction;
+use program::{Dir, Group, Instruction};
 use reg_table::{Place, addr_of, count_of, name_of, place_of};
-use register_file::Dir;
 use std::fmt;
+use text_format::WordText;
 
 /// A place of the register table as it is printed: its row's name, with its index where the row has several.
 #[derive(Clone, Copy)]

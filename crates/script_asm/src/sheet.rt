@@ -12,8 +12,7 @@ use crate::names::Name;
 use crate::operations::Draft;
 use crate::places::Places;
 use crate::statements::Statement;
-use dma_arena::Octets;
-use program::{DATA_BYTES, DATA_LIMIT, INSTRUCTION_LIMIT, Instruction, Program};
+use program::{DATA_BYTES, DATA_LIMIT, INSTRUCTION_LIMIT, Instruction, Octets, Program};
 use std::alloc::Global;
 use std::marker::Model;
 

@@ -2,7 +2,7 @@
 
 ghost use Rattle.std.specs.Prelude.{◌≡◌};
 ghost use Rattle.std.specs.Option.{option_copied};
-ghost use Rattle.lexer.specs.Words.{words_of};
+ghost use Rattle.text_format.specs.Words.{words_of};
 ghost use Rattle.script_asm.specs.Fault.{Gives, at_line};
 ghost use Rattle.script_asm.specs.Statement.{bytes_in, label_in, data_in, label_or_instruction, statement_of};
 ghost use Rattle.script_asm.specs.Target.{before_last_byte};
@@ -10,9 +10,9 @@ ghost use Rattle.script_asm.specs.Target.{before_last_byte};
 use crate::faults::{LineFault, ScriptFault};
 use crate::names::Name;
 use crate::operations::{Draft, read_instruction};
-use dma_arena::Octets;
-use lexer::{HexFault, Line, Words, hex_bytes};
+use program::Octets;
 use std::alloc::Global;
+use text_format::{HexFault, Line, Words, hex_bytes};
 
 /// What a line says.
 #[derive(Debug, Drop)]

@@ -7,14 +7,14 @@ ghost use Rattle.script_asm.specs.Target.{number_in, number_below, row_in, regis
 ghost use Rattle.script_asm.specs.Target.{before_last_byte, target_of};
 
 use crate::faults::{LineFault, both};
-use lexer::is_name;
 use reg_table::{Place, RowId, addr_of, count_of, row_named};
+use text_format::is_name;
 
 /// The number that a word writes.
 pub(crate) fn number(word: &str) -> Result<u32, LineFault>
     ensures { result ≡ number_in word.now }
 {
-    let number = lexer::number(word)?;
+    let number = text_format::number(word)?;
     Ok(number)
 }
 

@@ -1,22 +1,22 @@
 -- The accesses by which a queue is switched are calls of a kind where their writes are, made or failed.
 use Rattle.std.proofs.Common.{◌≡◌, ℕ, inl, inr, true, ◌-◌, List, [], ◌∷◌, ◌++◌, subst, Bool}
-use Rattle.dma_arena.specs.Block.{Block}
-use Rattle.reg_table.specs.declared.rows.RowId.{RowId}
-use Rattle.register_file.specs.Queue.{enable_row}
-use Rattle.register_file.specs.declared.dir.Dir.{Dir}
-use Rattle.register_file.specs.declared.dir.Dir.TheVariants.{Rx, Tx}
+use Rattle.nic_device.specs.DmaArena.Block.{Block}
+use Rattle.nic_device.specs.RegTable.declared.rows.RowId.{RowId}
+use Rattle.nic_device.specs.RegisterFile.Queue.{enable_row}
+use Rattle.nic_device.specs.DmaRing.declared.dir.Dir.{Dir}
+use Rattle.nic_device.specs.DmaRing.declared.dir.Dir.TheVariants.{Rx, Tx}
 use Rattle.nic_device.specs.declared.event.Event.{Event}
 use Rattle.nic_device.specs.declared.event.Event.TheVariants as event
 use Rattle.nic_device.specs.declared.event.Port.{Port}
 use Rattle.device_lock.specs.declared.entry.Call.{Call}
-use Rattle.pmd_base.specs.Events.{is_step}
-use Rattle.pmd_base.specs.declared.fault.PmdFault.{PmdFault}
-use Rattle.pmd_base.specs.declared.fault.PmdFault.TheVariants.{BadSize, DeviceFault, ForeignBlock, NoBuffer, StartTimeout}
-use Rattle.pmd_base.specs.declared.fault.PmdFault.TheVariants as fault
-use Rattle.pmd_queue.specs.Both.{IsSwitched, SwitchFails, both_asked, receive_polled}
-use Rattle.pmd_queue.specs.Made.{Access, Sees, Sets, AreMade, FailsBy, IsMade, IsOtherwise, IsStrayRead, StopsBy}
-use Rattle.pmd_queue.specs.Named.{AtPort, IsNumberOf}
-use Rattle.pmd_queue.specs.Sides.{PollsEnd, missed, polled}
+use Rattle.pmd.specs.PmdSeam.Events.{is_step}
+use Rattle.pmd.specs.PmdSeam.declared.fault.PmdFault.{PmdFault}
+use Rattle.pmd.specs.PmdSeam.declared.fault.PmdFault.TheVariants.{BadSize, DeviceFault, ForeignBlock, NoBuffer, StartTimeout}
+use Rattle.pmd.specs.PmdSeam.declared.fault.PmdFault.TheVariants as fault
+use Rattle.pmd.specs.PmdSeam.Both.{IsSwitched, SwitchFails, both_asked, receive_polled}
+use Rattle.pmd.specs.PmdSeam.QueueMade.{Access, Sees, Sets, AreMade, FailsBy, IsMade, IsOtherwise, IsStrayRead, StopsBy}
+use Rattle.pmd.specs.PmdSeam.Named.{AtPort, IsNumberOf}
+use Rattle.pmd.specs.PmdSeam.Sides.{PollsEnd, missed, polled}
 use Rattle.start_laws.specs.Stopping.{AreMadeOf}
 use Rattle.start_laws.proofs.StopCalls.{adds_made, none_made, some_made, then_made}
 use Rattle.start_laws.proofs.AllAre.{AllAre, all_before, all_both, all_missed, all_polled}

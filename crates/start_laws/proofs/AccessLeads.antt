@@ -1,7 +1,7 @@
 -- An access of a driver leads from what holds before it to what holds behind it, over a history.
 use Rattle.std.proofs.Common.{◌≡◌, ◌≢◌, ℕ, Bool, List, [], sym, subst}
-use Rattle.reg_table.specs.declared.rows.RowId.{RowId}
-use Rattle.register_file.specs.Bits.{has_bit}
+use Rattle.nic_device.specs.RegTable.declared.rows.RowId.{RowId}
+use Rattle.nic_device.specs.RegisterFile.Bits.{has_bit}
 use Rattle.nic_device.specs.State.{State}
 use Rattle.nic_device.specs.declared.event.Event.TheVariants as event
 use Rattle.nic_device.specs.declared.event.Reply.TheVariants as reply
@@ -10,8 +10,8 @@ use Rattle.device_lock.specs.Pass.{call_of}
 use Rattle.device_lock.specs.declared.alone.Watched.{Watched}
 use Rattle.device_lock.specs.declared.entry.Call.{Call}
 use Rattle.device_lock.specs.declared.entry.Entry.{Entry}
-use Rattle.pmd_queue.specs.Made.{Sees, Sets, IsMade}
-use Rattle.pmd_queue.specs.Named.{AtPort, IsNumberOf}
+use Rattle.pmd.specs.PmdSeam.QueueMade.{Sees, Sets, IsMade}
+use Rattle.pmd.specs.PmdSeam.Named.{AtPort, IsNumberOf}
 use Rattle.start_laws.specs.Along.{AtCalls, IsAlong, IsKept, Leads}
 use Rattle.start_laws.proofs.Along.{calls_lead}
 

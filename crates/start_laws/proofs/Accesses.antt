@@ -4,15 +4,15 @@ use Rattle.std.specs.Prelude.{bit_and, ◌==◌, IsTrue}
 use Rattle.std.specs.FinMap as map
 use Rattle.std.proofs.lemmas.Bool.{cases_Bool, eqb-true, eqb-false, or_cases}
 use Rattle.std.proofs.lemmas.Nat.{and_mask}
-use Rattle.dma_arena.specs.Block.{zero_block}
-use Rattle.dma_arena.specs.Memory.{Memory}
-use Rattle.dma_arena.proofs.Bus.{get-insert_same, get-insert_other}
-use Rattle.reg_table.specs.declared.rows.RowId.TheVariants.{Rxdctl, Txdctl}
-use Rattle.register_file.specs.Bits.{has_bit}
-use Rattle.register_file.specs.Queue.{is_on}
-use Rattle.register_file.specs.Registers.{word_of}
-use Rattle.register_file.specs.declared.dir.Dir.TheVariants.{Rx, Tx}
-use Rattle.register_laws.specs.Sides.{ReceiveQueue, TransmitQueue}
+use Rattle.nic_device.specs.DmaArena.Block.{zero_block}
+use Rattle.nic_device.specs.DmaArena.Memory.{Memory}
+use Rattle.nic_device.proofs.DmaArena.Bus.{get-insert_same, get-insert_other}
+use Rattle.nic_device.specs.RegTable.declared.rows.RowId.TheVariants.{Rxdctl, Txdctl}
+use Rattle.nic_device.specs.RegisterFile.Bits.{has_bit}
+use Rattle.nic_device.specs.RegisterFile.Queue.{is_on}
+use Rattle.nic_device.specs.RegisterFile.Registers.{word_of}
+use Rattle.nic_device.specs.DmaRing.declared.dir.Dir.TheVariants.{Rx, Tx}
+use Rattle.nic_device.specs.RegisterLaws.Sides.{ReceiveQueue, TransmitQueue}
 use Rattle.nic_device.specs.Access.{named_read}
 use Rattle.nic_device.specs.Outcome.{Outcome}
 use Rattle.nic_device.specs.State.{State}
@@ -21,7 +21,7 @@ use Rattle.nic_device.specs.declared.event.Event.TheVariants as event
 use Rattle.nic_device.specs.declared.event.Port.{Port}
 use Rattle.nic_device.specs.declared.event.Reply.TheVariants as reply
 use Rattle.nic_device.proofs.Cases.{lent_cases}
-use Rattle.device_laws.proofs.StandingAccesses.{read_rest}
+use Rattle.receive_laws.proofs.DeviceLaws.StandingAccesses.{read_rest}
 use Rattle.device_lock.specs.Alone.{Blocks}
 use Rattle.start_laws.specs.Moves.{and_one, receive_seen, transmit_seen, ReceiveReadStands, TransmitReadStands, LendStands}
 use Rattle.start_laws.specs.Standing.{IsZero, Stand, StandsReceive, StandsTransmit}

@@ -1,11 +1,11 @@
 -- A driver's accesses one after the other, and polls that see a side off: what they rest on, and the sides then.
 use Rattle.std.proofs.Common.{◌≡◌, ℕ, Bool, true, false, replicate, zero, suc, List, [], ◌∷◌, ◌++◌, refl, ◌∙◌}
 use Rattle.std.proofs.Math.Bool.{or-false}
-use Rattle.reg_table.specs.declared.rows.RowId.{RowId}
-use Rattle.reg_table.specs.declared.rows.RowId.TheVariants.{Rxdctl, Txdctl}
-use Rattle.register_file.specs.declared.dir.Dir.TheVariants.{Rx, Tx}
-use Rattle.pmd_queue.specs.Made.{Access, Sees}
-use Rattle.pmd_queue.specs.Sides.{missed}
+use Rattle.nic_device.specs.RegTable.declared.rows.RowId.{RowId}
+use Rattle.nic_device.specs.RegTable.declared.rows.RowId.TheVariants.{Rxdctl, Txdctl}
+use Rattle.nic_device.specs.DmaRing.declared.dir.Dir.TheVariants.{Rx, Tx}
+use Rattle.pmd.specs.PmdSeam.QueueMade.{Access, Sees}
+use Rattle.pmd.specs.PmdSeam.Sides.{missed}
 use Rattle.start_laws.specs.Points.{AllMay, IsEnable, Sides, after_access, after_accesses, seen_by}
 
 -- accesses in order

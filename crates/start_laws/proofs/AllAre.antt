@@ -1,10 +1,10 @@
 -- Accesses of which each is of a kind.
 use Rattle.std.proofs.Common.{ℕ, zero, suc, not, List, [], ◌∷◌, ◌++◌, Bool}
 use Rattle.std.specs.Prelude.{⊤}
-use Rattle.register_file.specs.Queue.{enable_row}
-use Rattle.register_file.specs.declared.dir.Dir.{Dir}
-use Rattle.pmd_queue.specs.Made.{Access, Sees}
-use Rattle.pmd_queue.specs.Sides.{missed, polled}
+use Rattle.nic_device.specs.RegisterFile.Queue.{enable_row}
+use Rattle.nic_device.specs.DmaRing.declared.dir.Dir.{Dir}
+use Rattle.pmd.specs.PmdSeam.QueueMade.{Access, Sees}
+use Rattle.pmd.specs.PmdSeam.Sides.{missed, polled}
 
 -- each of these accesses is so
 abbrev pub AllAre : (Access → Type 0) → List Access → Type 0

@@ -1,7 +1,7 @@
 -- What holds at the points of a history, call by call of its pass.
 use Rattle.std.proofs.Common.{◌≡◌, ◌≢◌, ℕ, List, [], ◌∷◌, ◌++◌, refl, sym, ap, ◌∙◌, subst, append_assoc}
-use Rattle.vf_map.specs.declared.mode.Mode.{Mode}
-use Rattle.vf_map.specs.declared.mode.Mode.TheVariants.{Off}
+use Rattle.nic_device.specs.VfMap.declared.mode.Mode.{Mode}
+use Rattle.nic_device.specs.VfMap.declared.mode.Mode.TheVariants.{Off}
 use Rattle.nic_device.specs.State.{State, new_state}
 use Rattle.nic_device.specs.Step.{after}
 use Rattle.device_lock.specs.Alone.{Blocks, LeavesAlone, lent_by, mode_after, mode_through}
@@ -9,12 +9,12 @@ use Rattle.device_lock.specs.History.{IsLegal, AreEvents, calls_of, leads_to}
 use Rattle.device_lock.specs.declared.alone.Watched.{Watched}
 use Rattle.device_lock.specs.declared.entry.Call.{Call}
 use Rattle.device_lock.specs.declared.entry.Entry.{Entry}
-use Rattle.history_laws.specs.Alone.{AllAlone}
-use Rattle.history_laws.proofs.Aligned.{histories_aligned, new_aligned}
-use Rattle.history_laws.proofs.Alone.{alone_by_entries}
-use Rattle.history_laws.proofs.Modes.{mode_told}
-use Rattle.history_laws.proofs.Sound.{histories_sound}
-use Rattle.pmd_base.specs.Made.{AreSteps}
+use Rattle.receive_laws.specs.HistoryLaws.Alone.{AllAlone}
+use Rattle.receive_laws.proofs.HistoryLaws.Aligned.{histories_aligned, new_aligned}
+use Rattle.receive_laws.proofs.HistoryLaws.Alone.{alone_by_entries}
+use Rattle.receive_laws.proofs.HistoryLaws.Modes.{mode_told}
+use Rattle.receive_laws.proofs.HistoryLaws.Sound.{histories_sound}
+use Rattle.pmd.specs.PmdSeam.Made.{AreSteps}
 use Rattle.receive_laws.proofs.Delivering.{legal_behind, events_before, events_behind, image_stays, vfs_stays}
 use Rattle.start_laws.specs.Along.{IsAlong, AtEntries, CallsLead}
 use Rattle.start_laws.proofs.Reached.{KeptOver, LeadsOver, reached, state_kept, state_leads}

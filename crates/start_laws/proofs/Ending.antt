@@ -1,14 +1,14 @@
 -- The calls of a driver's stop leave its receive side settled.
 use Rattle.std.proofs.Common.{◌≡◌, ◌≢◌, ℕ, true, false, List, [], ◌∷◌, ◌++◌, refl, sym, subst, append_assoc, Some}
 use Rattle.std.proofs.lemmas.List.{append-nil}
-use Rattle.dma_arena.specs.Block.{Block}
-use Rattle.reg_table.specs.declared.rows.RowId.TheVariants.{Rxdctl, Txdctl}
-use Rattle.register_file.specs.Bits.{has_bit}
-use Rattle.register_file.specs.Columns.{place}
-use Rattle.register_file.specs.Pools.{mode_in}
-use Rattle.register_file.specs.Queue.{enable_row}
-use Rattle.register_file.specs.declared.dir.Dir.{Dir}
-use Rattle.register_file.specs.declared.dir.Dir.TheVariants.{Rx, Tx}
+use Rattle.nic_device.specs.DmaArena.Block.{Block}
+use Rattle.nic_device.specs.RegTable.declared.rows.RowId.TheVariants.{Rxdctl, Txdctl}
+use Rattle.nic_device.specs.RegisterFile.Bits.{has_bit}
+use Rattle.nic_device.specs.RegisterFile.Columns.{place}
+use Rattle.nic_device.specs.RegisterFile.Pools.{mode_in}
+use Rattle.nic_device.specs.RegisterFile.Queue.{enable_row}
+use Rattle.nic_device.specs.DmaRing.declared.dir.Dir.{Dir}
+use Rattle.nic_device.specs.DmaRing.declared.dir.Dir.TheVariants.{Rx, Tx}
 use Rattle.nic_device.specs.Sound.{IsEvent}
 use Rattle.nic_device.specs.State.{State}
 use Rattle.nic_device.specs.Step.{after, reply_to}
@@ -16,14 +16,14 @@ use Rattle.nic_device.specs.declared.event.Event.{Event}
 use Rattle.nic_device.specs.declared.event.Event.TheVariants as event
 use Rattle.nic_device.specs.declared.event.Reply.{Reply}
 use Rattle.nic_device.specs.declared.event.Reply.TheVariants.{Wrote, Advanced, Sent}
-use Rattle.device_laws.proofs.Standing.{memory_rest}
-use Rattle.device_laws.proofs.StandingAccesses.{read_rest, write_rest}
+use Rattle.receive_laws.proofs.DeviceLaws.Standing.{memory_rest}
+use Rattle.receive_laws.proofs.DeviceLaws.StandingAccesses.{read_rest, write_rest}
 use Rattle.device_lock.specs.Alone.{Blocks, LeavesBlocks, LeavesRegisters, WritesOutside, lent_by}
 use Rattle.device_lock.specs.declared.alone.Watched.{Watched}
 use Rattle.device_lock.specs.declared.entry.Call.{Call}
 use Rattle.device_lock.specs.declared.entry.Entry.{Entry}
-use Rattle.pmd_base.specs.Events.{is_step}
-use Rattle.pmd_queue.specs.Named.{AtPort, IsNumberOf, is_driven}
+use Rattle.pmd.specs.PmdSeam.Events.{is_step}
+use Rattle.pmd.specs.PmdSeam.Named.{AtPort, IsNumberOf, is_driven}
 use Rattle.receive_laws.proofs.Clear.{no_registers}
 use Rattle.start_laws.specs.Along.{AtEntries, IsAlong}
 use Rattle.start_laws.specs.Ending.{Each, IsEnding, IsPlain}

@@ -1,7 +1,7 @@
 -- What holds just before a call of a pass that keeps it holds wherever that call is the last that it made.
 use Rattle.std.proofs.Common.{◌≡◌, ℕ, List, [], ◌∷◌, ◌++◌, sym, ap, ◌∙◌, subst, append_assoc, Bool}
 use Rattle.std.proofs.lemmas.Bool.{eq-eqb}
-use Rattle.reg_table.specs.declared.rows.RowId.{RowId}
+use Rattle.nic_device.specs.RegTable.declared.rows.RowId.{RowId}
 use Rattle.nic_device.specs.State.{State}
 use Rattle.nic_device.specs.Step.{after}
 use Rattle.nic_device.specs.declared.event.Event.TheVariants as event
@@ -12,8 +12,8 @@ use Rattle.device_lock.specs.declared.alone.Watched.{Watched}
 use Rattle.device_lock.specs.declared.entry.Call.{Call}
 use Rattle.device_lock.specs.declared.entry.Entry.{Entry}
 use Rattle.device_lock.specs.Pass.{call_of}
-use Rattle.pmd_queue.specs.Made.{Sees, IsMade}
-use Rattle.pmd_queue.specs.Named.{AtPort}
+use Rattle.pmd.specs.PmdSeam.QueueMade.{Sees, IsMade}
+use Rattle.pmd.specs.PmdSeam.Named.{AtPort}
 use Rattle.receive_laws.proofs.Histories.{calls_own}
 use Rattle.start_laws.specs.Along.{AtCalls, BeforeLast, IsAlong, IsKept}
 use Rattle.start_laws.proofs.Along.{kept_on}

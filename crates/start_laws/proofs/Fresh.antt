@@ -1,9 +1,9 @@
 -- Where fresh sides stand whose rings are lent, device and driver agree.
 use Rattle.std.proofs.Common.{◌≡◌, ℕ, ◌+◌, ◌<◌, ◌*◌, ◌/◌, ◌%◌, ◌^◌, true, refl, ap, ◌∙◌, arith}
 use Rattle.std.proofs.lemmas.Bool.Decides.{nat_tests}
-use Rattle.dma_arena.specs.Memory.{Memory, has_block}
-use Rattle.register_laws.specs.Sides.{ReceiveQueue, TransmitQueue}
-use Rattle.pmd_base.specs.Slots.{wrapped}
+use Rattle.nic_device.specs.DmaArena.Memory.{Memory, has_block}
+use Rattle.nic_device.specs.RegisterLaws.Sides.{ReceiveQueue, TransmitQueue}
+use Rattle.pmd.specs.PmdSeam.Slots.{wrapped}
 use Rattle.receive_laws.proofs.Starting.{start_agrees}
 use Rattle.start_laws.specs.Moves.{FreshReceiveAgrees, FreshTransmitAgrees}
 use Rattle.start_laws.specs.Standing.{IsZero}

@@ -3,8 +3,8 @@ use Rattle.std.proofs.Common.{◌≡◌, ◌≢◌, ℕ, inl, inr, List, [], ◌
 use Rattle.std.specs.Prelude.{◌==◌}
 use Rattle.std.proofs.lemmas.Bool.{cases_Bool, eq-eqb, eqb-false}
 use Rattle.std.proofs.lemmas.List.{append-nil}
-use Rattle.vf_map.specs.declared.mode.Mode.{Mode}
-use Rattle.vf_map.specs.declared.mode.Mode.TheVariants as mode
+use Rattle.nic_device.specs.VfMap.declared.mode.Mode.{Mode}
+use Rattle.nic_device.specs.VfMap.declared.mode.Mode.TheVariants as mode
 use Rattle.nic_device.specs.State.{State, new_state}
 use Rattle.nic_device.specs.Step.{after}
 use Rattle.device_lock.specs.Alone.{Blocks, lent_by, mode_after, mode_through}
@@ -12,11 +12,11 @@ use Rattle.device_lock.specs.History.{IsLegal, AreEvents, call_in, calls_of, lea
 use Rattle.device_lock.specs.declared.alone.Watched.{Watched}
 use Rattle.device_lock.specs.declared.entry.Call.{Call}
 use Rattle.device_lock.specs.declared.entry.Entry.{Entry}
-use Rattle.history_laws.specs.Alone.{AllAlone}
-use Rattle.history_laws.proofs.Aligned.{histories_aligned, new_aligned}
-use Rattle.history_laws.proofs.Sound.{histories_sound}
-use Rattle.history_laws.proofs.Staged.{histories_keep_staged, new_sides_stage}
-use Rattle.pmd_queue.specs.Named.{AtPort}
+use Rattle.receive_laws.specs.HistoryLaws.Alone.{AllAlone}
+use Rattle.receive_laws.proofs.HistoryLaws.Aligned.{histories_aligned, new_aligned}
+use Rattle.receive_laws.proofs.HistoryLaws.Sound.{histories_sound}
+use Rattle.receive_laws.proofs.HistoryLaws.Staged.{histories_keep_staged, new_sides_stage}
+use Rattle.pmd.specs.PmdSeam.Named.{AtPort}
 use Rattle.receive_laws.proofs.Delivering.{leads-append, events_before, events_behind, legal_behind}
 use Rattle.receive_laws.proofs.Histories.{calls_own, calls_other}
 use Rattle.transmit_laws.specs.Off as transmit

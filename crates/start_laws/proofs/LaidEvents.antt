@@ -1,28 +1,28 @@
 -- The events by which a driver lays out an empty transmit ring, and those that leave its queue alone.
 use Rattle.std.proofs.Common.{◌≡◌, ◌≢◌, ℕ, ◌^◌, ◌<◌, false, [], refl, sym, ap, ◌∙◌, subst, List}
 use Rattle.std.specs.Prelude.{slice_index_or}
-use Rattle.dma_arena.specs.Block.{Block}
-use Rattle.reg_table.specs.Rows.{row_of}
-use Rattle.reg_table.specs.declared.rows.RowId.{RowId}
-use Rattle.reg_table.specs.declared.rows.RowId.TheVariants.{Rdbal, Rdbah, Rdlen, Rdh, Rdt, Srrctl, Rxdctl, Txdctl}
-use Rattle.register_file.specs.Access.{asks_reset, asks_pool_reset}
-use Rattle.register_file.specs.Columns.{place}
-use Rattle.register_file.specs.Owner.{owner_of}
-use Rattle.register_file.specs.Pools.{mode_in}
-use Rattle.register_file.specs.declared.dir.Dir.TheVariants.{Tx}
-use Rattle.register_file.specs.declared.owner.Owner.TheVariants as owner
-use Rattle.register_laws.specs.Sides.{TransmitQueue, transmit_queue_of}
-use Rattle.register_laws.proofs.Switches.{transmit-asked}
+use Rattle.nic_device.specs.DmaArena.Block.{Block}
+use Rattle.nic_device.specs.RegTable.Rows.{row_of}
+use Rattle.nic_device.specs.RegTable.declared.rows.RowId.{RowId}
+use Rattle.nic_device.specs.RegTable.declared.rows.RowId.TheVariants.{Rdbal, Rdbah, Rdlen, Rdh, Rdt, Srrctl, Rxdctl, Txdctl}
+use Rattle.nic_device.specs.RegisterFile.Access.{asks_reset, asks_pool_reset}
+use Rattle.nic_device.specs.RegisterFile.Columns.{place}
+use Rattle.nic_device.specs.RegisterFile.Owner.{owner_of}
+use Rattle.nic_device.specs.RegisterFile.Pools.{mode_in}
+use Rattle.nic_device.specs.DmaRing.declared.dir.Dir.TheVariants.{Tx}
+use Rattle.nic_device.specs.RegisterFile.declared.owner.Owner.TheVariants as owner
+use Rattle.nic_device.specs.RegisterLaws.Sides.{TransmitQueue, transmit_queue_of}
+use Rattle.nic_device.proofs.RegisterLaws.Switches.{transmit-asked}
 use Rattle.nic_device.specs.Sound.{IsEvent}
 use Rattle.nic_device.specs.State.{State}
 use Rattle.nic_device.specs.Step.{after, reply_to}
 use Rattle.nic_device.specs.declared.event.Event.{Event}
 use Rattle.nic_device.specs.declared.event.Event.TheVariants as event
 use Rattle.nic_device.specs.declared.event.Port.{Port}
-use Rattle.device_laws.proofs.StandingAccesses.{write_rest}
+use Rattle.receive_laws.proofs.DeviceLaws.StandingAccesses.{write_rest}
 use Rattle.device_lock.specs.Alone.{Blocks, LeavesBlocks, LeavesRegisters}
 use Rattle.device_lock.specs.declared.alone.Watched.{Watched}
-use Rattle.pmd_queue.specs.Named.{AtPort}
+use Rattle.pmd.specs.PmdSeam.Named.{AtPort}
 use Rattle.transmit_laws.specs.Sent.{sent_by}
 use Rattle.start_laws.specs.Ending.{IsPlain}
 use Rattle.start_laws.specs.Laid.{Laid, Lays, MayAsk, MayLay, MayRing, laid_by}

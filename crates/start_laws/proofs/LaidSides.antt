@@ -1,11 +1,11 @@
 -- Transmit sides that are off, or whose ring is empty, as the words of an empty ring are written to them.
 use Rattle.std.proofs.Common.{◌≡◌, ℕ, ◌/◌, ◌^◌, ◌<◌, ◌≤◌, inl, inr, false, true, not, refl, sym, ap, subst, arith}
 use Rattle.std.proofs.lemmas.Bool.{lt-ltb}
-use Rattle.reg_table.specs.declared.rows.RowId.{RowId}
-use Rattle.reg_table.specs.declared.rows.RowId.TheVariants.{Tdbal, Tdbah, Tdlen, Tdh, Tdt, Tdwbal}
-use Rattle.dma_ring.specs.declared.ring.Ring.{Ring}
-use Rattle.register_file.specs.Bits.{has_bit}
-use Rattle.register_laws.specs.Sides.{TransmitQueue}
+use Rattle.nic_device.specs.RegTable.declared.rows.RowId.{RowId}
+use Rattle.nic_device.specs.RegTable.declared.rows.RowId.TheVariants.{Tdbal, Tdbah, Tdlen, Tdh, Tdt, Tdwbal}
+use Rattle.nic_device.specs.DmaRing.declared.ring.Ring.{Ring}
+use Rattle.nic_device.specs.RegisterFile.Bits.{has_bit}
+use Rattle.nic_device.specs.RegisterLaws.Sides.{TransmitQueue}
 use Rattle.nic_device.specs.Receive.{is_empty}
 use Rattle.start_laws.specs.Laid.{Laid, Off, Sized, Headed, Empty, MayAsk, MayRing, laid_by}
 use Rattle.start_laws.specs.Words.{FitsTransmit, transmit_with}

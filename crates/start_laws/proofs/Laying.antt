@@ -1,11 +1,11 @@
 -- The words of both rings may be written where neither side is wanted on.
 use Rattle.std.proofs.Common.{◌≡◌, ℕ, ◌*◌, ◌%◌, ◌^◌, ◌<◌, inl, inr, false, refl, arith}
 use Rattle.std.proofs.lemmas.Bool.{both_ways}
-use Rattle.reg_table.specs.declared.rows.RowId.{RowId}
-use Rattle.reg_table.specs.declared.rows.RowId.TheVariants.{Rdbal, Rdbah, Rdlen, Rdh, Rdt, Srrctl, Tdbal, Tdbah, Tdlen, Tdh, Tdt, Tdwbal}
-use Rattle.register_file.specs.declared.dir.Dir.TheVariants.{Rx, Tx}
-use Rattle.register_laws.specs.Sides.{ReceiveQueue, TransmitQueue}
-use Rattle.pmd_queue.specs.Sides.{ring_words}
+use Rattle.nic_device.specs.RegTable.declared.rows.RowId.{RowId}
+use Rattle.nic_device.specs.RegTable.declared.rows.RowId.TheVariants.{Rdbal, Rdbah, Rdlen, Rdh, Rdt, Srrctl, Tdbal, Tdbah, Tdlen, Tdh, Tdt, Tdwbal}
+use Rattle.nic_device.specs.DmaRing.declared.dir.Dir.TheVariants.{Rx, Tx}
+use Rattle.nic_device.specs.RegisterLaws.Sides.{ReceiveQueue, TransmitQueue}
+use Rattle.pmd.specs.PmdSeam.Sides.{ring_words}
 use Rattle.start_laws.specs.Moves.{IsSized}
 use Rattle.start_laws.specs.Points.{AllMay, Sides, after_accesses, MayReceive, MayTransmit}
 use Rattle.start_laws.specs.Words.{receive_with, transmit_with, FitsReceive, FitsTransmit}

@@ -2,8 +2,8 @@
 use Rattle.std.proofs.Common.{◌≡◌, ℕ, ◌⊎◌, inl, inr, true, false, refl, sym, subst, arith}
 use Rattle.std.specs.Prelude.{IsTrue, ◌==◌}
 use Rattle.std.proofs.lemmas.Bool.{cases_Bool, eq-eqb, eqb-true, or_cases, or_left}
-use Rattle.dma_arena.specs.Block.{Block}
-use Rattle.register_laws.specs.Sides.{ReceiveQueue, TransmitQueue, receive_queue_of}
+use Rattle.nic_device.specs.DmaArena.Block.{Block}
+use Rattle.nic_device.specs.RegisterLaws.Sides.{ReceiveQueue, TransmitQueue, receive_queue_of}
 use Rattle.nic_device.specs.Outcome.{Outcome}
 use Rattle.nic_device.specs.State.{State}
 use Rattle.nic_device.specs.Step.{after, reply_to}
@@ -12,12 +12,12 @@ use Rattle.nic_device.specs.declared.event.Event.TheVariants as event
 use Rattle.nic_device.specs.declared.event.Port.TheVariants.{Pf}
 use Rattle.nic_device.specs.declared.event.Reply.{Reply}
 use Rattle.nic_device.specs.declared.event.Reply.TheVariants.{Wrote}
-use Rattle.device_laws.specs.Leaving.{LeavesBlock}
+use Rattle.receive_laws.specs.DeviceLaws.Leaving.{LeavesBlock}
 use Rattle.device_lock.specs.Alone.{Blocks}
 use Rattle.device_lock.specs.declared.alone.Watched.{Watched}
-use Rattle.pmd_rx.specs.Receive as receive
-use Rattle.pmd_tx.specs.Sending as transmit
-use Rattle.pmd_tx.specs.Sending.{has_lent}
+use Rattle.pmd.specs.PmdRx.Receive as receive
+use Rattle.pmd.specs.PmdTx.Sending as transmit
+use Rattle.pmd.specs.PmdTx.Sending.{has_lent}
 use Rattle.receive_laws.specs.Steps.{Each, SparesBlocks}
 use Rattle.receive_laws.proofs.Clear.{spares_mine}
 use Rattle.receive_laws.proofs.Spared.{IsSparedBy, spared_block}

@@ -2,7 +2,7 @@
 use Rattle.std.proofs.Common.{◌≡◌, ℕ, ◌<◌, inl, inr, true, List, [], ◌∷◌, ◌++◌, refl, sym, ap, ◌∙◌, subst, append_assoc}
 use Rattle.std.specs.Prelude.{◌==◌}
 use Rattle.std.proofs.lemmas.Bool.{and_from, cases_Bool, eq-eqb, lt-ltb, or_left, or_right}
-use Rattle.dma_arena.specs.Block.{zero_block}
+use Rattle.nic_device.specs.DmaArena.Block.{zero_block}
 use Rattle.nic_device.specs.declared.event.Event.TheVariants as event
 use Rattle.nic_device.specs.declared.event.Reply.TheVariants as reply
 use Rattle.nic_device.specs.Sound.{IsEvent}
@@ -11,9 +11,9 @@ use Rattle.device_lock.specs.History.{AreEvents, call_in, calls_of}
 use Rattle.device_lock.specs.declared.entry.Call.{Call}
 use Rattle.device_lock.specs.declared.entry.Entry.{Entry}
 use Rattle.device_lock.specs.declared.alone.Watched.{Watched}
-use Rattle.history_laws.proofs.Beginning.{lent_before}
-use Rattle.pmd_queue.specs.Named.{AtPort}
-use Rattle.pmd_queue.specs.Made.{Access, AreMade}
+use Rattle.receive_laws.proofs.HistoryLaws.Beginning.{lent_before}
+use Rattle.pmd.specs.PmdSeam.Named.{AtPort}
+use Rattle.pmd.specs.PmdSeam.QueueMade.{Access, AreMade}
 use Rattle.receive_laws.proofs.Histories.{calls_own, calls_other}
 use Rattle.receive_laws.proofs.Delivering.{events_before}
 use Rattle.start_laws.specs.Along.{AtEntries, IsAlong}

@@ -2,8 +2,8 @@
 use Rattle.std.proofs.Common.{◌≡◌, ◌≢◌, List, [], ◌∷◌, ◌++◌, sym, ◌∙◌, ap, append_assoc}
 use Rattle.std.proofs.lemmas.List.{append-nil}
 use Rattle.device_lock.specs.declared.entry.Call.{Call}
-use Rattle.pmd_queue.specs.Made.{Access, Sees, Sets, AreMade, IsMade}
-use Rattle.pmd_queue.specs.Named.{AtPort}
+use Rattle.pmd.specs.PmdSeam.QueueMade.{Access, Sees, Sets, AreMade, IsMade}
+use Rattle.pmd.specs.PmdSeam.Named.{AtPort}
 
 pub ends_some : (old before : List Call) (c : Call) → old ++ (before ++ c ∷ []) ≢ []
 ends_some [] [] c e = cc

@@ -4,7 +4,7 @@ use Rattle.std.specs.Prelude.{bit_and, bit_or}
 use Rattle.std.specs.Int.Bits.{and_zero_l, or_zero_l}
 use Rattle.std.proofs.lemmas.Nat.{and_comm, and_mask, and_mod, or_mod}
 use Rattle.std.proofs.lemmas.Nat.Bits.{and_high_mask}
-use Rattle.register_file.specs.Bits.{merged}
+use Rattle.nic_device.specs.RegisterFile.Bits.{merged}
 
 -- a multiple of 128 through a mask of bits 31 to 7
 pub merged-high : (old new : ℕ) → old % 2 ^ 7 ≡ 0 → new % 128 ≡ 0 → new < 2 ^ 32 → merged 0xFFFFFF80 old new ≡ new

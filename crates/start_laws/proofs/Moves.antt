@@ -2,10 +2,10 @@
 use Rattle.std.proofs.Common.{◌≡◌, ℕ, Bool, true, false, refl, sym, ap, ◌∙◌, subst}
 use Rattle.std.specs.FinMap as map
 use Rattle.std.proofs.lemmas.Bool.{both_ways}
-use Rattle.dma_arena.specs.Memory.{Memory}
-use Rattle.reg_table.specs.declared.rows.RowId.{RowId}
-use Rattle.reg_table.specs.declared.rows.RowId.TheVariants.{Rdbal, Rdbah, Rdlen, Rdh, Rdt, Srrctl, Rxdctl, Tdbal, Tdbah, Tdlen, Tdh, Tdt, Tdwbal, Txdctl}
-use Rattle.register_laws.specs.Sides.{ReceiveQueue, TransmitQueue, receive_queue_of, transmit_queue_of}
+use Rattle.nic_device.specs.DmaArena.Memory.{Memory}
+use Rattle.nic_device.specs.RegTable.declared.rows.RowId.{RowId}
+use Rattle.nic_device.specs.RegTable.declared.rows.RowId.TheVariants.{Rdbal, Rdbah, Rdlen, Rdh, Rdt, Srrctl, Rxdctl, Tdbal, Tdbah, Tdlen, Tdh, Tdt, Tdwbal, Txdctl}
+use Rattle.nic_device.specs.RegisterLaws.Sides.{ReceiveQueue, TransmitQueue, receive_queue_of, transmit_queue_of}
 use Rattle.nic_device.specs.Receive.{is_empty}
 use Rattle.start_laws.specs.Moves.{ReceiveWriteStands, TransmitWriteStands}
 use Rattle.start_laws.specs.Standing.{StandsReceive, StandsTransmit}

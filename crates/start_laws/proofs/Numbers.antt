@@ -1,24 +1,24 @@
 -- A driver's numbers name the registers of the queue that its port and queue name.
 use Rattle.std.proofs.Common.{◌≡◌, ◌≢◌, ℕ, ◌+◌, ◌*◌, ◌%◌, ◌<◌, ◌≤◌, true, nat_lt, refl, ap, ◌∙◌, arith, Some, None}
 use Rattle.std.proofs.lemmas.Bool.{ltb-true, ne_eqb}
-use Rattle.reg_table.specs.Rows.{rows}
-use Rattle.reg_table.specs.declared.place.Place.{Place}
-use Rattle.reg_table.specs.declared.rows.RowId.{RowId}
-use Rattle.reg_table.specs.declared.rows.RowId.TheVariants.{Rdbal, Rdbah, Rdlen, Rdh, Srrctl, Rdt, Rxdctl, Tdbal, Tdbah, Tdlen, Tdh, Tdt, Txdctl, Tdwbal}
-use Rattle.vf_map.specs.Map.{own_entries, receive_rows, transmit_rows, located}
-use Rattle.vf_map.specs.Parts.{of_queue, place_at, queues_entries, located_at, row_behind}
-use Rattle.vf_map.specs.Pools.{queues_of}
-use Rattle.vf_map.specs.declared.located.Located.TheVariants as located_as
-use Rattle.vf_map.specs.declared.mode.Mode.{Mode}
-use Rattle.vf_map.proofs.Places.{receive_at, transmit_at, vector_absent}
-use Rattle.vf_map.proofs.Whole.{entries_queues, located_some}
-use Rattle.register_file.specs.Columns.{place}
-use Rattle.register_file.specs.Pools.{mode_in}
+use Rattle.nic_device.specs.RegTable.Rows.{rows}
+use Rattle.nic_device.specs.RegTable.declared.place.Place.{Place}
+use Rattle.nic_device.specs.RegTable.declared.rows.RowId.{RowId}
+use Rattle.nic_device.specs.RegTable.declared.rows.RowId.TheVariants.{Rdbal, Rdbah, Rdlen, Rdh, Srrctl, Rdt, Rxdctl, Tdbal, Tdbah, Tdlen, Tdh, Tdt, Txdctl, Tdwbal}
+use Rattle.nic_device.specs.VfMap.Map.{own_entries, receive_rows, transmit_rows, located}
+use Rattle.nic_device.specs.VfMap.Parts.{of_queue, place_at, queues_entries, located_at, row_behind}
+use Rattle.nic_device.specs.VfMap.Pools.{queues_of}
+use Rattle.nic_device.specs.VfMap.declared.located.Located.TheVariants as located_as
+use Rattle.nic_device.specs.VfMap.declared.mode.Mode.{Mode}
+use Rattle.nic_device.proofs.VfMap.Places.{receive_at, transmit_at, vector_absent}
+use Rattle.nic_device.proofs.VfMap.Whole.{entries_queues, located_some}
+use Rattle.nic_device.specs.RegisterFile.Columns.{place}
+use Rattle.nic_device.specs.RegisterFile.Pools.{mode_in}
 use Rattle.nic_device.specs.Named.{at_place, at_location}
 use Rattle.nic_device.specs.State.{State}
 use Rattle.nic_device.specs.declared.event.Port.{Port}
 use Rattle.nic_device.specs.declared.event.Port.TheVariants.{Pf, Vf}
-use Rattle.pmd_queue.specs.Named.{AtPort, IsNumberOf, is_driven, offset_of}
+use Rattle.pmd.specs.PmdSeam.Named.{AtPort, IsNumberOf, is_driven, offset_of}
 use Rattle.start_laws.specs.Numbers.{queue_in, queue_at, NumbersName, NamedQueueHasTheNumbers}
 use Rattle.start_laws.specs.Points.{HasGround}
 use Rattle.start_laws.specs.Words.{NamesRow}

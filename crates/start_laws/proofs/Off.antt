@@ -1,6 +1,6 @@
 -- What events that leave the queue alone keep, as a driver sees the queue off.
 use Rattle.std.proofs.Common.{◌≡◌, false, [], ◌∷◌, refl}
-use Rattle.dma_arena.specs.Block.{Block}
+use Rattle.nic_device.specs.DmaArena.Block.{Block}
 use Rattle.nic_device.specs.State.{State}
 use Rattle.nic_device.specs.declared.event.Event.{Event}
 use Rattle.nic_device.specs.declared.event.Reply.TheVariants as reply

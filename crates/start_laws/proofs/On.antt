@@ -2,10 +2,10 @@
 use Rattle.std.proofs.Common.{◌≡◌, ◌≢◌, ℕ, true, List, [], ◌∷◌, ◌++◌, refl, sym, ap, subst}
 use Rattle.std.specs.Prelude.{◌==◌}
 use Rattle.std.proofs.lemmas.Bool.{eq-eqb, or_left, or_right}
-use Rattle.dma_arena.specs.Numbers.{Numbers}
-use Rattle.reg_table.specs.declared.rows.RowId.TheVariants.{Rdt, Tdt}
-use Rattle.register_file.specs.declared.dir.Dir.TheVariants.{Rx, Tx}
-use Rattle.register_laws.specs.Sides.{ReceiveQueue, TransmitQueue}
+use Rattle.nic_device.specs.DmaArena.Numbers.{Numbers}
+use Rattle.nic_device.specs.RegTable.declared.rows.RowId.TheVariants.{Rdt, Tdt}
+use Rattle.nic_device.specs.DmaRing.declared.dir.Dir.TheVariants.{Rx, Tx}
+use Rattle.nic_device.specs.RegisterLaws.Sides.{ReceiveQueue, TransmitQueue}
 use Rattle.nic_device.specs.Sound.{IsSound}
 use Rattle.nic_device.specs.State.{State, new_state}
 use Rattle.device_lock.specs.History.{AreEvents}
@@ -13,11 +13,11 @@ use Rattle.device_lock.specs.Alone.{lent_by}
 use Rattle.device_lock.specs.declared.alone.Watched.{Watched}
 use Rattle.device_lock.specs.declared.entry.Call.{Call}
 use Rattle.device_lock.specs.declared.entry.Entry.{Entry}
-use Rattle.history_laws.proofs.Sound.{histories_sound}
-use Rattle.pmd_queue.specs.Named.{AtPort}
-use Rattle.pmd_queue.specs.Sides.{ring_words}
-use Rattle.pmd_rx.specs.Receive.{Receive}
-use Rattle.pmd_tx.specs.Sending.{Sender}
+use Rattle.receive_laws.proofs.HistoryLaws.Sound.{histories_sound}
+use Rattle.pmd.specs.PmdSeam.Named.{AtPort}
+use Rattle.pmd.specs.PmdSeam.Sides.{ring_words}
+use Rattle.pmd.specs.PmdRx.Receive.{Receive}
+use Rattle.pmd.specs.PmdTx.Sending.{Sender}
 use Rattle.pmd.specs.Started.{is_size}
 use Rattle.receive_laws.specs.Joint.{Agree}
 use Rattle.receive_laws.proofs.Delivering.{events_before}

@@ -1,16 +1,16 @@
 -- How sides stand after one access of a driver.
 use Rattle.std.proofs.Common.{◌≡◌, ℕ, inl, inr, Bool, refl, sym, subst}
-use Rattle.reg_table.specs.declared.rows.RowId.{RowId}
-use Rattle.reg_table.specs.declared.rows.RowId.TheVariants.{Rxdctl, Txdctl}
-use Rattle.register_file.specs.Bits.{has_bit}
+use Rattle.nic_device.specs.RegTable.declared.rows.RowId.{RowId}
+use Rattle.nic_device.specs.RegTable.declared.rows.RowId.TheVariants.{Rxdctl, Txdctl}
+use Rattle.nic_device.specs.RegisterFile.Bits.{has_bit}
 use Rattle.nic_device.specs.Step.{after}
 use Rattle.nic_device.specs.declared.event.Event.TheVariants as event
 use Rattle.nic_device.specs.declared.event.Reply.TheVariants as reply
 use Rattle.device_lock.specs.Alone.{Blocks}
 use Rattle.device_lock.specs.Pass.{call_of}
 use Rattle.device_lock.specs.declared.alone.Watched.{Watched}
-use Rattle.pmd_queue.specs.Made.{Sets}
-use Rattle.pmd_queue.specs.Named.{AtPort, IsNumberOf}
+use Rattle.pmd.specs.PmdSeam.QueueMade.{Sets}
+use Rattle.pmd.specs.PmdSeam.Named.{AtPort, IsNumberOf}
 use Rattle.start_laws.specs.Along.{IsKept, Leads}
 use Rattle.start_laws.specs.Moves.{receive_seen, transmit_seen}
 use Rattle.start_laws.specs.Points.{Sides, Point, seen_by, after_access, IsEnable, May}

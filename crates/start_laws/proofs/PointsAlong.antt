@@ -1,8 +1,8 @@
 -- How sides stand after a driver's accesses, over a history.
 use Rattle.std.proofs.Common.{◌≢◌, ℕ, List, [], ◌∷◌, ◌++◌, refl, sym, subst}
 use Rattle.std.specs.Prelude.{⊤, IsTrue}
-use Rattle.dma_arena.specs.Numbers.{Numbers}
-use Rattle.register_file.specs.declared.dir.Dir.{Dir}
+use Rattle.nic_device.specs.DmaArena.Numbers.{Numbers}
+use Rattle.nic_device.specs.DmaRing.declared.dir.Dir.{Dir}
 use Rattle.nic_device.specs.Step.{after}
 use Rattle.nic_device.specs.declared.event.Event.TheVariants as event
 use Rattle.nic_device.specs.declared.event.Reply.TheVariants as reply
@@ -12,10 +12,10 @@ use Rattle.device_lock.specs.Pass.{call_of}
 use Rattle.device_lock.specs.declared.alone.Watched.{Watched}
 use Rattle.device_lock.specs.declared.entry.Call.{Call}
 use Rattle.device_lock.specs.declared.entry.Entry.{Entry}
-use Rattle.pmd_base.specs.Made.{AreSteps}
-use Rattle.pmd_queue.specs.Made.{Access, Sees, Sets, AreMade, IsMade}
-use Rattle.pmd_queue.specs.Named.{AtPort}
-use Rattle.pmd_queue.specs.Sides.{ring_words}
+use Rattle.pmd.specs.PmdSeam.Made.{AreSteps}
+use Rattle.pmd.specs.PmdSeam.QueueMade.{Access, Sees, Sets, AreMade, IsMade}
+use Rattle.pmd.specs.PmdSeam.Named.{AtPort}
+use Rattle.pmd.specs.PmdSeam.Sides.{ring_words}
 use Rattle.pmd.specs.Starting.{IsPrepared}
 use Rattle.start_laws.specs.Along.{IsAlong, AtEntries, Leads}
 use Rattle.start_laws.specs.Points.{AccessesLead, Sides, Point, seen_by, after_access, after_accesses, May, AllMay}

@@ -1,9 +1,9 @@
 -- Where a ring was prepared some calls were made, and its block was lent by one of them.
 use Rattle.std.proofs.Common.{◌≢◌, ℕ, List, [], ◌∷◌, sym, ◌∙◌, ◌++◌, append_assoc}
-use Rattle.dma_arena.specs.Numbers.{Numbers}
-use Rattle.register_file.specs.declared.dir.Dir.{Dir}
+use Rattle.nic_device.specs.DmaArena.Numbers.{Numbers}
+use Rattle.nic_device.specs.DmaRing.declared.dir.Dir.{Dir}
 use Rattle.device_lock.specs.declared.entry.Call.{Call}
-use Rattle.pmd_queue.specs.Named.{AtPort}
+use Rattle.pmd.specs.PmdSeam.Named.{AtPort}
 use Rattle.pmd.specs.Starting.{IsPrepared}
 use Rattle.start_laws.proofs.Lends.{lending}
 use Rattle.start_laws.proofs.Made.{ends_some}

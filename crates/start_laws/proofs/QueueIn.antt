@@ -1,9 +1,9 @@
 -- What it says that a port and a queue's number name a queue of a pool.
 use Rattle.std.proofs.Common.{◌≡◌, ℕ, ◌+◌, ◌*◌, ◌<◌, ◌≤◌, Bool, true, false, nat_lt, refl, ap, subst, arith, Option, Some, None, if◌then◌else◌}
 use Rattle.std.proofs.lemmas.Bool.{ltb-true}
-use Rattle.vf_map.specs.Pools.{queues_of, queues_each, pools_in}
-use Rattle.vf_map.specs.declared.mode.Mode.{Mode}
-use Rattle.vf_map.specs.declared.mode.Mode.TheVariants.{Off, Pools16, Pools32, Pools64}
+use Rattle.nic_device.specs.VfMap.Pools.{queues_of, queues_each, pools_in}
+use Rattle.nic_device.specs.VfMap.declared.mode.Mode.{Mode}
+use Rattle.nic_device.specs.VfMap.declared.mode.Mode.TheVariants.{Off, Pools16, Pools32, Pools64}
 use Rattle.start_laws.specs.Numbers.{queue_in}
 
 -- A driver's numbers name the registers of the queue that its port and queue name.

@@ -1,14 +1,14 @@
 -- A receive side that isn't wanted on stays so.
 use Rattle.std.proofs.Common.{◌≡◌, refl, sym, ap, ◌∙◌, false}
 use Rattle.std.proofs.lemmas.Bool.{both_ways}
-use Rattle.dma_arena.specs.Block.{Block}
-use Rattle.reg_table.specs.declared.rows.RowId.TheVariants.{Rxdctl}
-use Rattle.register_laws.specs.Sides.{ReceiveQueue, receive_queue_of}
-use Rattle.register_laws.proofs.Switches.{receive-asked}
+use Rattle.nic_device.specs.DmaArena.Block.{Block}
+use Rattle.nic_device.specs.RegTable.declared.rows.RowId.TheVariants.{Rxdctl}
+use Rattle.nic_device.specs.RegisterLaws.Sides.{ReceiveQueue, receive_queue_of}
+use Rattle.nic_device.proofs.RegisterLaws.Switches.{receive-asked}
 use Rattle.nic_device.specs.State.{State}
 use Rattle.nic_device.specs.Step.{after}
 use Rattle.nic_device.specs.declared.event.Event.{Event}
-use Rattle.device_laws.proofs.StandingAccesses.{read_rest}
+use Rattle.receive_laws.proofs.DeviceLaws.StandingAccesses.{read_rest}
 use Rattle.device_lock.specs.Alone.{Blocks}
 use Rattle.device_lock.specs.declared.alone.Watched.{Watched}
 use Rattle.start_laws.specs.Quiet.{IsUnwanted, ReceiveGuardIsOff, OffSidesStand}

@@ -1,25 +1,25 @@
 -- What keeps both sides of a queue off.
 use Rattle.std.proofs.Common.{◌≡◌, ℕ, false, refl, sym, ap, ◌∙◌, subst}
-use Rattle.dma_arena.specs.Block.{Block}
-use Rattle.reg_table.specs.declared.rows.RowId.TheVariants.{Rxdctl, Txdctl}
-use Rattle.register_file.specs.Bits.{has_bit}
-use Rattle.register_file.specs.Columns.{place}
-use Rattle.register_file.specs.Queue.{enable_row}
-use Rattle.register_file.specs.declared.dir.Dir.{Dir}
-use Rattle.register_file.specs.declared.dir.Dir.TheVariants.{Rx, Tx}
-use Rattle.register_laws.specs.Sides.{ReceiveQueue, receive_queue_of, transmit_queue_of, TransmitQueue}
-use Rattle.register_laws.proofs.Switches.{receive-asked, transmit-asked}
+use Rattle.nic_device.specs.DmaArena.Block.{Block}
+use Rattle.nic_device.specs.RegTable.declared.rows.RowId.TheVariants.{Rxdctl, Txdctl}
+use Rattle.nic_device.specs.RegisterFile.Bits.{has_bit}
+use Rattle.nic_device.specs.RegisterFile.Columns.{place}
+use Rattle.nic_device.specs.RegisterFile.Queue.{enable_row}
+use Rattle.nic_device.specs.DmaRing.declared.dir.Dir.{Dir}
+use Rattle.nic_device.specs.DmaRing.declared.dir.Dir.TheVariants.{Rx, Tx}
+use Rattle.nic_device.specs.RegisterLaws.Sides.{ReceiveQueue, receive_queue_of, transmit_queue_of, TransmitQueue}
+use Rattle.nic_device.proofs.RegisterLaws.Switches.{receive-asked, transmit-asked}
 use Rattle.nic_device.specs.State.{State}
 use Rattle.nic_device.specs.Step.{after}
 use Rattle.nic_device.specs.declared.event.Event.TheVariants as event
 use Rattle.nic_device.specs.declared.event.Port.{Port}
 use Rattle.nic_device.specs.declared.event.Event.{Event}
-use Rattle.device_laws.specs.Leaving.{LeavesReceive, LeavesTransmit}
-use Rattle.device_laws.proofs.StandingAccesses.{read_rest, write_rest}
-use Rattle.device_laws.proofs.Standing.{memory_rest}
+use Rattle.receive_laws.specs.DeviceLaws.Leaving.{LeavesReceive, LeavesTransmit}
+use Rattle.receive_laws.proofs.DeviceLaws.StandingAccesses.{read_rest, write_rest}
+use Rattle.receive_laws.proofs.DeviceLaws.Standing.{memory_rest}
 use Rattle.device_lock.specs.Alone.{Blocks}
 use Rattle.device_lock.specs.declared.alone.Watched.{Watched}
-use Rattle.pmd_queue.specs.Named.{AtPort, IsNumberOf}
+use Rattle.pmd.specs.PmdSeam.Named.{AtPort, IsNumberOf}
 use Rattle.transmit_laws.specs.Off as transmit
 use Rattle.start_laws.specs.Along.{IsKept}
 use Rattle.start_laws.specs.Quiet.{IsOff}

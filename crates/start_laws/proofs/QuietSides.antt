@@ -1,15 +1,15 @@
 -- Two sides that are seen off stand as they are, with no block lent.
 use Rattle.std.proofs.Common.{◌≡◌, ◌<◌, Bool, true, false, not, ◌&&◌, List, refl, sym, subst}
 use Rattle.std.specs.Prelude.{IsTrue}
-use Rattle.register_laws.specs.Sides.{receive_queue_of, transmit_queue_of}
+use Rattle.nic_device.specs.RegisterLaws.Sides.{receive_queue_of, transmit_queue_of}
 use Rattle.nic_device.specs.State.{State, new_state}
 use Rattle.device_lock.specs.Alone.{lent_by}
 use Rattle.device_lock.specs.History.{leads_to, AreEvents}
 use Rattle.device_lock.specs.declared.alone.Watched.{Watched}
 use Rattle.device_lock.specs.declared.entry.Entry.{Entry}
-use Rattle.history_laws.specs.Staged.{StageWhileOn}
-use Rattle.history_laws.proofs.Staged.{histories_keep_staged, new_sides_stage}
-use Rattle.pmd_queue.specs.Named.{AtPort}
+use Rattle.receive_laws.specs.HistoryLaws.Staged.{StageWhileOn}
+use Rattle.receive_laws.proofs.HistoryLaws.Staged.{histories_keep_staged, new_sides_stage}
+use Rattle.pmd.specs.PmdSeam.Named.{AtPort}
 use Rattle.receive_laws.proofs.Delivering.{events_before}
 use Rattle.start_laws.specs.Points.{Point, Sides}
 use Rattle.start_laws.specs.Quiet.{no_block}

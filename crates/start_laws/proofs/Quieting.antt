@@ -1,21 +1,21 @@
 -- A driver that starts sees both sides of its queue off.
 use Rattle.std.proofs.Common.{◌≡◌, ℕ, false, List, refl, sym, subst}
-use Rattle.reg_table.specs.declared.rows.RowId.TheVariants.{Rxdctl, Txdctl}
-use Rattle.register_file.specs.Bits.{has_bit}
-use Rattle.register_file.specs.Columns.{place}
+use Rattle.nic_device.specs.RegTable.declared.rows.RowId.TheVariants.{Rxdctl, Txdctl}
+use Rattle.nic_device.specs.RegisterFile.Bits.{has_bit}
+use Rattle.nic_device.specs.RegisterFile.Columns.{place}
 use Rattle.nic_device.specs.State.{State}
 use Rattle.nic_device.specs.Step.{after}
 use Rattle.nic_device.specs.declared.event.Event.TheVariants as event
 use Rattle.nic_device.specs.declared.event.Reply.TheVariants as reply
-use Rattle.device_laws.proofs.StandingAccesses.{read_rest, write_rest}
+use Rattle.receive_laws.proofs.DeviceLaws.StandingAccesses.{read_rest, write_rest}
 use Rattle.device_lock.specs.Alone.{Blocks, lent_by}
 use Rattle.device_lock.specs.Pass.{call_of}
 use Rattle.device_lock.specs.declared.alone.Watched.{Watched}
 use Rattle.device_lock.specs.declared.entry.Call.{Call}
 use Rattle.device_lock.specs.declared.entry.Entry.{Entry}
-use Rattle.pmd_queue.specs.Both.{both_quiet}
-use Rattle.pmd_queue.specs.Made.{Sees, Sets, AreMade}
-use Rattle.pmd_queue.specs.Named.{AtPort, IsNumberOf}
+use Rattle.pmd.specs.PmdSeam.Both.{both_quiet}
+use Rattle.pmd.specs.PmdSeam.QueueMade.{Sees, Sets, AreMade}
+use Rattle.pmd.specs.PmdSeam.Named.{AtPort, IsNumberOf}
 use Rattle.transmit_laws.specs.Off as transmit
 use Rattle.transmit_laws.proofs.Guard.{guard_is_off}
 use Rattle.start_laws.specs.Along.{AtCalls, BeforeLast, IsAlong, IsKept, Leads}

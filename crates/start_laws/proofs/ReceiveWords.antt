@@ -1,20 +1,20 @@
 -- A word of a row of the receive side.
 use Rattle.std.proofs.Common.{◌≡◌, ◌≢◌, ℕ, ◌+◌, ◌*◌, ◌/◌, ◌%◌, ◌^◌, ◌<◌, inl, inr, false, refl, sym, ap, ◌∙◌, arith}
 use Rattle.std.proofs.Math.Nat.{mod-eq_of_lt}
-use Rattle.reg_table.specs.Rows.{row_of}
-use Rattle.reg_table.specs.declared.rows.RowId.{RowId}
-use Rattle.reg_table.specs.declared.rows.RowId.TheVariants.{Rdbal, Rdbah, Rdlen, Rdh, Rdt, Srrctl, Rxdctl}
-use Rattle.register_file.specs.Access.{asks_reset, asks_pool_reset}
-use Rattle.register_file.specs.Columns.{place}
-use Rattle.register_file.specs.Owner.{owner_of}
-use Rattle.register_file.specs.Queue.{is_on, ring_of}
-use Rattle.register_file.specs.Registers.{Registers, word_of}
-use Rattle.register_file.specs.declared.dir.Dir.TheVariants.{Rx, Tx}
-use Rattle.register_file.specs.declared.owner.Owner.TheVariants as owner
-use Rattle.register_laws.specs.Laws.{after_write, word_after}
-use Rattle.register_laws.specs.Sides.{receive_queue_of}
-use Rattle.register_laws.proofs.SideWords.{receive-written}
-use Rattle.register_laws.proofs.Switches.{receive-asked}
+use Rattle.nic_device.specs.RegTable.Rows.{row_of}
+use Rattle.nic_device.specs.RegTable.declared.rows.RowId.{RowId}
+use Rattle.nic_device.specs.RegTable.declared.rows.RowId.TheVariants.{Rdbal, Rdbah, Rdlen, Rdh, Rdt, Srrctl, Rxdctl}
+use Rattle.nic_device.specs.RegisterFile.Access.{asks_reset, asks_pool_reset}
+use Rattle.nic_device.specs.RegisterFile.Columns.{place}
+use Rattle.nic_device.specs.RegisterFile.Owner.{owner_of}
+use Rattle.nic_device.specs.RegisterFile.Queue.{is_on, ring_of}
+use Rattle.nic_device.specs.RegisterFile.Registers.{Registers, word_of}
+use Rattle.nic_device.specs.DmaRing.declared.dir.Dir.TheVariants.{Rx, Tx}
+use Rattle.nic_device.specs.RegisterFile.declared.owner.Owner.TheVariants as owner
+use Rattle.nic_device.specs.RegisterLaws.Laws.{after_write, word_after}
+use Rattle.nic_device.specs.RegisterLaws.Sides.{receive_queue_of}
+use Rattle.nic_device.proofs.RegisterLaws.SideWords.{receive-written}
+use Rattle.nic_device.proofs.RegisterLaws.Switches.{receive-asked}
 use Rattle.nic_device.specs.Access.{named_written}
 use Rattle.nic_device.specs.Outcome.{gives}
 use Rattle.nic_device.specs.Sound.{IsSound}
@@ -24,10 +24,10 @@ use Rattle.nic_device.specs.declared.event.Event.TheVariants as event
 use Rattle.nic_device.specs.declared.event.Port.{Port}
 use Rattle.nic_device.specs.declared.event.Reply.TheVariants.{Done}
 use Rattle.nic_device.specs.declared.named.Named.TheVariants.{Register}
-use Rattle.device_laws.proofs.StandingAccesses.{write_rest}
+use Rattle.receive_laws.proofs.DeviceLaws.StandingAccesses.{write_rest}
 use Rattle.device_lock.specs.Alone.{is_setting}
-use Rattle.history_laws.specs.Aligned.{AreAligned}
-use Rattle.history_laws.proofs.Written.{merged_low, merged_all}
+use Rattle.receive_laws.specs.HistoryLaws.Aligned.{AreAligned}
+use Rattle.receive_laws.proofs.HistoryLaws.Written.{merged_low, merged_all}
 use Rattle.start_laws.specs.Words.{receive_with, FitsReceive, NamesRow, TakesReceive, ReceiveWordsAreTaken}
 use Rattle.start_laws.proofs.Masks.{merged-high, merged-length}
 use Rattle.start_laws.proofs.Words.{ground, wrote}

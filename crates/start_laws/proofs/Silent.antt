@@ -1,8 +1,8 @@
 -- On a queue whose sides are off nothing is received or sent, over events that leave it alone and calls of a stop.
 use Rattle.std.proofs.Common.{cond, ◌≡◌, ◌≢◌, ℕ, inl, inr, List, [], ◌∷◌, ◌++◌, Option, Some, None, option_map, refl, sym, ap, ◌∙◌, subst, append_assoc}
 use Rattle.std.proofs.lemmas.List.{append-nil}
-use Rattle.register_file.specs.Queue.{is_on}
-use Rattle.register_file.specs.declared.dir.Dir.TheVariants.{Rx, Tx}
+use Rattle.nic_device.specs.RegisterFile.Queue.{is_on}
+use Rattle.nic_device.specs.DmaRing.declared.dir.Dir.TheVariants.{Rx, Tx}
 use Rattle.nic_device.specs.State.{State, new_state}
 use Rattle.nic_device.specs.Step.{after}
 use Rattle.device_lock.specs.Alone.{Blocks, lent_by}
@@ -10,9 +10,9 @@ use Rattle.device_lock.specs.History.{AreEvents, calls_of}
 use Rattle.device_lock.specs.declared.alone.Watched.{Watched}
 use Rattle.device_lock.specs.declared.entry.Call.{Call}
 use Rattle.device_lock.specs.declared.entry.Entry.{Entry}
-use Rattle.history_laws.specs.Staged.{StageWhileOn}
-use Rattle.history_laws.proofs.Staged.{histories_keep_staged, new_sides_stage}
-use Rattle.pmd_queue.specs.Named.{AtPort}
+use Rattle.receive_laws.specs.HistoryLaws.Staged.{StageWhileOn}
+use Rattle.receive_laws.proofs.HistoryLaws.Staged.{histories_keep_staged, new_sides_stage}
+use Rattle.pmd.specs.PmdSeam.Named.{AtPort}
 use Rattle.receive_laws.specs.Delivered.{packets_if_any, pieces_since}
 use Rattle.receive_laws.specs.Pieces.{Piece, packets_of, pieces}
 use Rattle.receive_laws.proofs.Delivering.{events_before, since-append}

@@ -1,7 +1,7 @@
 -- An event by which nothing is received or sent on a queue whose sides are off.
 use Rattle.std.proofs.Common.{◌≡◌, ℕ, [], refl}
-use Rattle.dma_arena.specs.Block.{Block}
-use Rattle.register_laws.specs.Sides.{receive_queue_of, transmit_queue_of}
+use Rattle.nic_device.specs.DmaArena.Block.{Block}
+use Rattle.nic_device.specs.RegisterLaws.Sides.{receive_queue_of, transmit_queue_of}
 use Rattle.nic_device.specs.Sound.{IsEvent}
 use Rattle.nic_device.specs.State.{State}
 use Rattle.nic_device.specs.Step.{after}
@@ -9,8 +9,8 @@ use Rattle.nic_device.specs.declared.event.Event.{Event}
 use Rattle.nic_device.specs.declared.event.Event.TheVariants as event
 use Rattle.device_lock.specs.Alone.{Blocks}
 use Rattle.device_lock.specs.declared.alone.Watched.{Watched}
-use Rattle.history_laws.specs.Staged.{StageWhileOn}
-use Rattle.pmd_queue.specs.Named.{AtPort}
+use Rattle.receive_laws.specs.HistoryLaws.Staged.{StageWhileOn}
+use Rattle.pmd.specs.PmdSeam.Named.{AtPort}
 use Rattle.receive_laws.specs.Pieces.{pieces}
 use Rattle.transmit_laws.specs.Sent.{sent_by}
 use Rattle.start_laws.specs.Ending.{IsEnding}

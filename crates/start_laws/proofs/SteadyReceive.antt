@@ -1,13 +1,13 @@
 -- What stays of a receive side as it is shut, takes a slot or is switched stays over each event that leaves it alone.
 use Rattle.std.proofs.Common.{◌≡◌, ℕ, ◌<◌, inl, inr, List, [], ◌∷◌, refl, sym, subst, Ok, false}
 use Rattle.std.proofs.lemmas.Bool.{cases_Bool, cases_eq}
-use Rattle.dma_arena.specs.Block.{Block}
-use Rattle.dma_ring.specs.declared.ring.Ring.{Ring}
-use Rattle.register_file.specs.Queue.{switched}
-use Rattle.register_file.specs.Registers.{is_wanted}
-use Rattle.register_file.specs.declared.dir.Dir.TheVariants.{Rx}
-use Rattle.register_laws.specs.Sides.{ReceiveQueue, receive_queue_of}
-use Rattle.register_laws.proofs.Switches.{receive-switched}
+use Rattle.nic_device.specs.DmaArena.Block.{Block}
+use Rattle.nic_device.specs.DmaRing.declared.ring.Ring.{Ring}
+use Rattle.nic_device.specs.RegisterFile.Queue.{switched}
+use Rattle.nic_device.specs.RegisterFile.Registers.{is_wanted}
+use Rattle.nic_device.specs.DmaRing.declared.dir.Dir.TheVariants.{Rx}
+use Rattle.nic_device.specs.RegisterLaws.Sides.{ReceiveQueue, receive_queue_of}
+use Rattle.nic_device.proofs.RegisterLaws.Switches.{receive-switched}
 use Rattle.nic_device.specs.Outcome.{Outcome}
 use Rattle.nic_device.specs.Receive.{receive_failed, slot_done}
 use Rattle.nic_device.specs.Sound.{IsSound}
@@ -18,13 +18,13 @@ use Rattle.nic_device.specs.declared.event.Event.{Event}
 use Rattle.nic_device.specs.declared.event.Event.TheVariants as event
 use Rattle.nic_device.proofs.Cases.{either_way, switched_cases}
 use Rattle.nic_device.proofs.QueueCases.{filled_by, received_cases}
-use Rattle.device_laws.specs.Leaving.{IsFirstFor, LeavesReceive}
-use Rattle.device_laws.specs.Replies.{received_tells, moved_on}
-use Rattle.device_laws.proofs.RepliesReceived.{receiving_tells}
-use Rattle.device_laws.proofs.StandingQueues.{receiving_rest}
+use Rattle.receive_laws.specs.DeviceLaws.Leaving.{IsFirstFor, LeavesReceive}
+use Rattle.receive_laws.specs.DeviceLaws.Replies.{received_tells, moved_on}
+use Rattle.receive_laws.proofs.DeviceLaws.RepliesReceived.{receiving_tells}
+use Rattle.receive_laws.proofs.DeviceLaws.StandingQueues.{receiving_rest}
 use Rattle.device_lock.specs.Alone.{Blocks}
 use Rattle.device_lock.specs.declared.alone.Watched.{Watched}
-use Rattle.history_laws.proofs.RingsReceived.{slotless_stands}
+use Rattle.receive_laws.proofs.HistoryLaws.RingsReceived.{slotless_stands}
 use Rattle.start_laws.specs.Along.{IsKept}
 use Rattle.receive_laws.proofs.LeftReceive.{is_receive, is_receive_switch, receive_is, receive_switch_is, left-receive}
 

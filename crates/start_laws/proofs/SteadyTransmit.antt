@@ -2,13 +2,13 @@
 use Rattle.std.proofs.Common.{◌≡◌, ℕ, ◌<◌, ◌⊎◌, inl, inr, Bool, true, false, not, ◌||◌, [], refl, sym, ◌∙◌, subst}
 use Rattle.std.proofs.lemmas.Bool.{cases_Bool, eq-eqb, lt-ltb}
 use Rattle.std.proofs.lemmas.List.{get_or-set_same}
-use Rattle.dma_arena.specs.Block.{Block}
-use Rattle.register_file.specs.Queue.{switched}
-use Rattle.register_file.specs.Registers.{is_wanted}
-use Rattle.register_file.specs.Settings.{is_stopped, can_transmit}
-use Rattle.register_file.specs.declared.dir.Dir.TheVariants.{Tx}
-use Rattle.register_laws.specs.Sides.{TransmitQueue, transmit_queue_of}
-use Rattle.register_laws.proofs.Switches.{transmit-switched}
+use Rattle.nic_device.specs.DmaArena.Block.{Block}
+use Rattle.nic_device.specs.RegisterFile.Queue.{switched}
+use Rattle.nic_device.specs.RegisterFile.Registers.{is_wanted}
+use Rattle.nic_device.specs.RegisterFile.Settings.{is_stopped, can_transmit}
+use Rattle.nic_device.specs.DmaRing.declared.dir.Dir.TheVariants.{Tx}
+use Rattle.nic_device.specs.RegisterLaws.Sides.{TransmitQueue, transmit_queue_of}
+use Rattle.nic_device.proofs.RegisterLaws.Switches.{transmit-switched}
 use Rattle.nic_device.specs.Outcome.{Outcome, gives}
 use Rattle.nic_device.specs.Receive.{is_empty}
 use Rattle.nic_device.specs.Sound.{IsSound}
@@ -20,7 +20,7 @@ use Rattle.nic_device.specs.declared.event.Event.{Event}
 use Rattle.nic_device.specs.declared.event.Event.TheVariants as event
 use Rattle.nic_device.specs.declared.event.Reply.TheVariants.{Idle}
 use Rattle.nic_device.proofs.Cases.{either_way, switched_cases}
-use Rattle.device_laws.specs.Leaving.{LeavesTransmit}
+use Rattle.receive_laws.specs.DeviceLaws.Leaving.{LeavesTransmit}
 use Rattle.device_lock.specs.Alone.{Blocks}
 use Rattle.device_lock.specs.declared.alone.Watched.{Watched}
 use Rattle.transmit_laws.specs.Sent.{frames_added, sent_by}

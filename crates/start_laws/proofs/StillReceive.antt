@@ -2,12 +2,12 @@
 use Rattle.std.proofs.Common.{◌≡◌, ◌≢◌, ℕ, ◌+◌, ◌<◌, inl, inr, List, [], ◌∷◌, refl, sym, ap, ◌∙◌, subst, arith}
 use Rattle.std.specs.Prelude.{⊤}
 use Rattle.std.proofs.lemmas.Bool.{both_ways, cases_eq, ne_eqb}
-use Rattle.dma_arena.specs.Block.{Block}
-use Rattle.register_file.specs.Queue.{switched}
-use Rattle.register_file.specs.Registers.{is_wanted}
-use Rattle.register_file.specs.declared.dir.Dir.TheVariants.{Rx}
-use Rattle.register_laws.specs.Sides.{ReceiveQueue, receive_queue_of}
-use Rattle.register_laws.proofs.Switches.{receive-switched}
+use Rattle.nic_device.specs.DmaArena.Block.{Block}
+use Rattle.nic_device.specs.RegisterFile.Queue.{switched}
+use Rattle.nic_device.specs.RegisterFile.Registers.{is_wanted}
+use Rattle.nic_device.specs.DmaRing.declared.dir.Dir.TheVariants.{Rx}
+use Rattle.nic_device.specs.RegisterLaws.Sides.{ReceiveQueue, receive_queue_of}
+use Rattle.nic_device.proofs.RegisterLaws.Switches.{receive-switched}
 use Rattle.nic_device.specs.Outcome.{Outcome}
 use Rattle.nic_device.specs.Receive.{is_empty}
 use Rattle.nic_device.specs.Sound.{IsSound}
@@ -18,9 +18,9 @@ use Rattle.nic_device.specs.declared.event.Event.TheVariants as event
 use Rattle.nic_device.specs.declared.event.Reply.{Reply}
 use Rattle.nic_device.specs.declared.event.Reply.TheVariants.{Wrote}
 use Rattle.nic_device.proofs.Cases.{either_way, switched_cases}
-use Rattle.device_laws.specs.Leaving.{IsFirstFor, LeavesReceive}
-use Rattle.device_laws.proofs.StandingQueues.{receiving_rest}
-use Rattle.history_laws.proofs.RingsReceived.{slotless_stands}
+use Rattle.receive_laws.specs.DeviceLaws.Leaving.{IsFirstFor, LeavesReceive}
+use Rattle.receive_laws.proofs.DeviceLaws.StandingQueues.{receiving_rest}
+use Rattle.receive_laws.proofs.HistoryLaws.RingsReceived.{slotless_stands}
 use Rattle.receive_laws.specs.Pieces.{pieces_told}
 use Rattle.receive_laws.proofs.Cases.{IsTried, IsOn, step_cases, wrote_first, wrote_none}
 use Rattle.start_laws.specs.Standing.{StandsReceive}

@@ -1,16 +1,16 @@
 -- Switching a queue off asks for its sides to be off, and taking blocks back is of a stop, beside steps of the device.
 use Rattle.std.proofs.Common.{◌≡◌, ℕ, zero, suc, inl, inr, false, refl, ap, subst}
 use Rattle.std.specs.Prelude.{⊤, IsFalse}
-use Rattle.reg_table.specs.declared.rows.RowId.{RowId}
-use Rattle.register_file.specs.Bits.{has_bit}
-use Rattle.register_file.specs.Queue.{enable_row}
-use Rattle.register_file.specs.declared.dir.Dir.{Dir}
-use Rattle.register_file.specs.declared.dir.Dir.TheVariants.{Rx, Tx}
+use Rattle.nic_device.specs.RegTable.declared.rows.RowId.{RowId}
+use Rattle.nic_device.specs.RegisterFile.Bits.{has_bit}
+use Rattle.nic_device.specs.RegisterFile.Queue.{enable_row}
+use Rattle.nic_device.specs.DmaRing.declared.dir.Dir.{Dir}
+use Rattle.nic_device.specs.DmaRing.declared.dir.Dir.TheVariants.{Rx, Tx}
 use Rattle.nic_device.specs.declared.event.Event.TheVariants as event
-use Rattle.pmd_base.specs.Home.{Bringing, BringsOne}
-use Rattle.pmd_queue.specs.Both.{both_asked}
-use Rattle.pmd_queue.specs.Made.{Access, Sees, Sets}
-use Rattle.pmd_queue.specs.Named.{AtPort, IsNumberOf}
+use Rattle.pmd.specs.PmdSeam.Home.{Bringing, BringsOne}
+use Rattle.pmd.specs.PmdSeam.Both.{both_asked}
+use Rattle.pmd.specs.PmdSeam.QueueMade.{Access, Sees, Sets}
+use Rattle.pmd.specs.PmdSeam.Named.{AtPort, IsNumberOf}
 use Rattle.start_laws.specs.Ending.{IsAsking, IsEnding}
 use Rattle.start_laws.specs.Stopping.{BringingEnds, Ends, SwitchedOffAsks, UnswitchedAsks}
 use Rattle.start_laws.proofs.AccessCalls.{switched_are, unswitched_are}

@@ -1,23 +1,23 @@
 -- A driver that switches its queue off sees both sides off.
 use Rattle.std.proofs.Common.{◌≡◌, ◌≢◌, ℕ, zero, suc, true, false, List, [], ◌++◌, refl, ap, ◌∙◌, sym, subst}
-use Rattle.reg_table.specs.declared.rows.RowId.TheVariants.{Rxdctl, Txdctl}
-use Rattle.register_file.specs.Bits.{has_bit}
-use Rattle.register_file.specs.Columns.{place}
-use Rattle.register_file.specs.Queue.{enable_row}
-use Rattle.register_file.specs.declared.dir.Dir.{Dir}
-use Rattle.register_file.specs.declared.dir.Dir.TheVariants.{Rx, Tx}
-use Rattle.register_laws.specs.Sides.{ReceiveQueue, TransmitQueue}
+use Rattle.nic_device.specs.RegTable.declared.rows.RowId.TheVariants.{Rxdctl, Txdctl}
+use Rattle.nic_device.specs.RegisterFile.Bits.{has_bit}
+use Rattle.nic_device.specs.RegisterFile.Columns.{place}
+use Rattle.nic_device.specs.RegisterFile.Queue.{enable_row}
+use Rattle.nic_device.specs.DmaRing.declared.dir.Dir.{Dir}
+use Rattle.nic_device.specs.DmaRing.declared.dir.Dir.TheVariants.{Rx, Tx}
+use Rattle.nic_device.specs.RegisterLaws.Sides.{ReceiveQueue, TransmitQueue}
 use Rattle.nic_device.specs.State.{State}
 use Rattle.nic_device.specs.Step.{after}
 use Rattle.nic_device.specs.declared.event.Event.TheVariants as event
-use Rattle.device_laws.proofs.StandingAccesses.{read_rest, write_rest}
+use Rattle.receive_laws.proofs.DeviceLaws.StandingAccesses.{read_rest, write_rest}
 use Rattle.device_lock.specs.declared.alone.Watched.{Watched}
 use Rattle.device_lock.specs.declared.entry.Call.{Call}
 use Rattle.device_lock.specs.declared.entry.Entry.{Entry}
 use Rattle.device_lock.specs.Alone.{lent_by}
-use Rattle.pmd_queue.specs.Made.{Access, AreMade, Sees, Sets}
-use Rattle.pmd_queue.specs.Named.{AtPort, IsNumberOf}
-use Rattle.pmd_queue.specs.Sides.{polled}
+use Rattle.pmd.specs.PmdSeam.QueueMade.{Access, AreMade, Sees, Sets}
+use Rattle.pmd.specs.PmdSeam.Named.{AtPort, IsNumberOf}
+use Rattle.pmd.specs.PmdSeam.Sides.{polled}
 use Rattle.transmit_laws.specs.Off as transmit
 use Rattle.transmit_laws.proofs.Guard.{guard_is_off}
 use Rattle.start_laws.specs.Along.{AtCalls, IsAlong, IsKept}

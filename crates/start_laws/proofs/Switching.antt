@@ -1,12 +1,12 @@
 -- Both sides are asked on and polled until they are: the fresh sides that that leads to.
 use Rattle.std.proofs.Common.{◌≡◌, ℕ, ◌+◌, ◌*◌, ◌/◌, ◌%◌, ◌^◌, ◌<◌, inl, inr, Bool, true, false, ◌||◌, List, [], ◌∷◌, ◌++◌, refl, ap, ◌∙◌, arith, None}
-use Rattle.dma_ring.specs.declared.ring.Ring.{Ring}
-use Rattle.reg_table.specs.declared.rows.RowId.TheVariants.{Rxdctl, Txdctl}
-use Rattle.register_file.specs.declared.dir.Dir.TheVariants.{Rx, Tx}
+use Rattle.nic_device.specs.DmaRing.declared.ring.Ring.{Ring}
+use Rattle.nic_device.specs.RegTable.declared.rows.RowId.TheVariants.{Rxdctl, Txdctl}
+use Rattle.nic_device.specs.DmaRing.declared.dir.Dir.TheVariants.{Rx, Tx}
 use Rattle.nic_device.specs.Receive.{is_empty}
-use Rattle.pmd_queue.specs.Both.{receive_polled}
-use Rattle.pmd_queue.specs.Made.{Access, Sees, Sets}
-use Rattle.pmd_queue.specs.Sides.{missed, polled}
+use Rattle.pmd.specs.PmdSeam.Both.{receive_polled}
+use Rattle.pmd.specs.PmdSeam.QueueMade.{Access, Sees, Sets}
+use Rattle.pmd.specs.PmdSeam.Sides.{missed, polled}
 use Rattle.receive_laws.proofs.Places.{inside_of}
 use Rattle.start_laws.specs.Moves.{IsSized, fresh_receive, fresh_transmit}
 use Rattle.start_laws.specs.Points.{AllMay, Sides, after_access, after_accesses, seen_by}

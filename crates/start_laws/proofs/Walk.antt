@@ -3,9 +3,9 @@ use Rattle.std.proofs.Common.{◌≡◌, ◌≢◌, ℕ, ◌<◌, inl, inr, true
 use Rattle.std.specs.Prelude.{◌==◌}
 use Rattle.std.proofs.lemmas.Bool.{cases_Bool, eqb-false}
 use Rattle.std.proofs.lemmas.List.{append-nil}
-use Rattle.eeprom_image.specs.Image.{blank}
-use Rattle.vf_map.specs.declared.mode.Mode.{Mode}
-use Rattle.register_file.specs.Pools.{mode_in}
+use Rattle.nic_device.specs.EepromImage.Image.{blank}
+use Rattle.nic_device.specs.VfMap.declared.mode.Mode.{Mode}
+use Rattle.nic_device.specs.RegisterFile.Pools.{mode_in}
 use Rattle.nic_device.specs.Sound.{IsEvent, IsSound}
 use Rattle.nic_device.specs.State.{State}
 use Rattle.nic_device.specs.Step.{after, reply_to}
@@ -15,12 +15,12 @@ use Rattle.device_lock.specs.History.{IsLegal, AreEvents, calls_of, call_in}
 use Rattle.device_lock.specs.declared.alone.Watched.{Watched}
 use Rattle.device_lock.specs.declared.entry.Call.{Call}
 use Rattle.device_lock.specs.declared.entry.Entry.{Entry}
-use Rattle.history_laws.specs.Aligned.{AreAligned}
-use Rattle.history_laws.specs.Alone.{AllAlone}
-use Rattle.history_laws.proofs.Aligned.{events_aligned}
-use Rattle.history_laws.proofs.Modes.{event_told}
-use Rattle.pmd_base.specs.Events.{is_step}
-use Rattle.pmd_base.specs.Made.{AreSteps}
+use Rattle.receive_laws.specs.HistoryLaws.Aligned.{AreAligned}
+use Rattle.receive_laws.specs.HistoryLaws.Alone.{AllAlone}
+use Rattle.receive_laws.proofs.HistoryLaws.Aligned.{events_aligned}
+use Rattle.receive_laws.proofs.HistoryLaws.Modes.{event_told}
+use Rattle.pmd.specs.PmdSeam.Events.{is_step}
+use Rattle.pmd.specs.PmdSeam.Made.{AreSteps}
 use Rattle.receive_laws.proofs.Clear.{no_registers}
 use Rattle.receive_laws.proofs.Histories.{calls_own, calls_other}
 use Rattle.start_laws.specs.Moves.{IsMet}

@@ -1,6 +1,6 @@
 -- A legal history of a new device that leaves a queue alone, and what holds wherever its pass has made so many calls.
 use Rattle.std.specs.Prelude.{ℕ, ◌≡◌, ◌≢◌, ◌<◌, List, [], ◌∷◌, ◌++◌}
-use Rattle.dma_arena.specs.Block.{Block}
+use Rattle.nic_device.specs.DmaArena.Block.{Block}
 use Rattle.nic_device.specs.Sound.{IsEvent, IsSound}
 use Rattle.nic_device.specs.State.{State, new_state}
 use Rattle.nic_device.specs.Step.{after, reply_to}
@@ -10,7 +10,7 @@ use Rattle.device_lock.specs.History.{IsLegal, AreEvents, call_in, calls_of, lea
 use Rattle.device_lock.specs.declared.alone.Watched.{Watched}
 use Rattle.device_lock.specs.declared.entry.Call.{Call}
 use Rattle.device_lock.specs.declared.entry.Entry.{Entry}
-use Rattle.pmd_base.specs.Made.{AreSteps}
+use Rattle.pmd.specs.PmdSeam.Made.{AreSteps}
 use Rattle.start_laws.specs.Moves.{IsMet}
 use Rattle.start_laws.specs.Standing.{IsLeft}
 

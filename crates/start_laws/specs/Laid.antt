@@ -1,9 +1,9 @@
 -- How far a driver has laid out the empty transmit ring of a queue that is off: nothing is sent there meanwhile.
 use Rattle.std.specs.Prelude.{ℕ, ◌≡◌, ◌%◌, ◌^◌, ◌<◌, ◌≤◌, ⊤, true, IsFalse, List, [], ◌∷◌, ◌++◌}
-use Rattle.dma_arena.specs.Block.{Block}
-use Rattle.reg_table.specs.declared.rows.RowId.{RowId}
-use Rattle.reg_table.specs.declared.rows.RowId.TheVariants.{Rdbal, Rdbah, Rdlen, Rdh, Rdt, Srrctl, Rxdctl, Tdbal, Tdbah, Tdlen, Tdh, Tdt, Tdwbal, Txdctl}
-use Rattle.register_file.specs.Bits.{has_bit}
+use Rattle.nic_device.specs.DmaArena.Block.{Block}
+use Rattle.nic_device.specs.RegTable.declared.rows.RowId.{RowId}
+use Rattle.nic_device.specs.RegTable.declared.rows.RowId.TheVariants.{Rdbal, Rdbah, Rdlen, Rdh, Rdt, Srrctl, Rxdctl, Tdbal, Tdbah, Tdlen, Tdh, Tdt, Tdwbal, Txdctl}
+use Rattle.nic_device.specs.RegisterFile.Bits.{has_bit}
 use Rattle.nic_device.specs.State.{new_state}
 use Rattle.nic_device.specs.declared.event.Event.{Event}
 use Rattle.nic_device.specs.declared.event.Event.TheVariants as event
@@ -11,7 +11,7 @@ use Rattle.device_lock.specs.History.{call_in, calls_of, leads_to}
 use Rattle.device_lock.specs.declared.alone.Watched.{Watched}
 use Rattle.device_lock.specs.declared.entry.Call.{Call}
 use Rattle.device_lock.specs.declared.entry.Entry.{Entry}
-use Rattle.pmd_queue.specs.Named.{AtPort, IsNumberOf, is_driven}
+use Rattle.pmd.specs.PmdSeam.Named.{AtPort, IsNumberOf, is_driven}
 use Rattle.transmit_laws.specs.Off as transmit
 use Rattle.transmit_laws.specs.Sent.{sent_in}
 use Rattle.start_laws.specs.Along.{IsAlong}

@@ -1,12 +1,12 @@
 -- What a driver's own accesses do to sides that stand still, and what these are in the end.
 use Rattle.std.specs.Prelude.{ℕ, ◌≡◌, ◌*◌, ◌<◌, ◌≤◌, ◌==◌, ◌||◌, Bool, true, IsTrue, IsFalse, [], None}
-use Rattle.dma_arena.specs.Block.{zero_block}
-use Rattle.reg_table.specs.declared.rows.RowId.{RowId}
-use Rattle.reg_table.specs.declared.rows.RowId.TheVariants.{Rxdctl, Txdctl, Tdt}
-use Rattle.register_file.specs.Bits.{has_bit}
-use Rattle.register_file.specs.Columns.{place}
-use Rattle.register_file.specs.Settings.{frame_limit}
-use Rattle.register_laws.specs.Sides.{ReceiveQueue, TransmitQueue}
+use Rattle.nic_device.specs.DmaArena.Block.{zero_block}
+use Rattle.nic_device.specs.RegTable.declared.rows.RowId.{RowId}
+use Rattle.nic_device.specs.RegTable.declared.rows.RowId.TheVariants.{Rxdctl, Txdctl, Tdt}
+use Rattle.nic_device.specs.RegisterFile.Bits.{has_bit}
+use Rattle.nic_device.specs.RegisterFile.Columns.{place}
+use Rattle.nic_device.specs.RegisterFile.Settings.{frame_limit}
+use Rattle.nic_device.specs.RegisterLaws.Sides.{ReceiveQueue, TransmitQueue}
 use Rattle.nic_device.specs.Named.{named}
 use Rattle.nic_device.specs.Receive.{is_empty}
 use Rattle.nic_device.specs.Sound.{IsSound}
@@ -17,9 +17,9 @@ use Rattle.nic_device.specs.declared.event.Port.{Port}
 use Rattle.nic_device.specs.declared.event.Reply.TheVariants as reply
 use Rattle.nic_device.specs.declared.named.Named.TheVariants.{Register}
 use Rattle.device_lock.specs.Alone.{Blocks}
-use Rattle.history_laws.specs.Aligned.{AreAligned}
-use Rattle.pmd_rx.specs.Receive as receive
-use Rattle.pmd_tx.specs.Sending as transmit
+use Rattle.receive_laws.specs.HistoryLaws.Aligned.{AreAligned}
+use Rattle.pmd.specs.PmdRx.Receive as receive
+use Rattle.pmd.specs.PmdTx.Sending as transmit
 use Rattle.receive_laws.specs.Joint.{IsNamed, Agree}
 use Rattle.transmit_laws.specs.Agreeing.{Agrees}
 use Rattle.start_laws.specs.Standing.{Stand}

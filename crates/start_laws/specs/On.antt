@@ -1,16 +1,16 @@
 -- Both rings came up and both sides went on; the receive ring may be filled next.
 use Rattle.std.specs.Prelude.{ℕ, ◌≡◌, true, List, []}
-use Rattle.dma_arena.specs.Numbers.{Numbers}
+use Rattle.nic_device.specs.DmaArena.Numbers.{Numbers}
 use Rattle.nic_device.specs.State.{new_state}
 use Rattle.device_lock.specs.declared.alone.Watched.{Watched}
 use Rattle.device_lock.specs.declared.entry.Call.{Call}
 use Rattle.device_lock.specs.declared.entry.Entry.{Entry}
 use Rattle.pmd.specs.Started.{is_size}
 use Rattle.pmd.specs.Starting.{IsReceiveReady, IsTransmitReady}
-use Rattle.pmd_queue.specs.Both.{IsSwitched}
-use Rattle.pmd_queue.specs.Named.{AtPort}
-use Rattle.pmd_rx.specs.Receive.{Receive}
-use Rattle.pmd_tx.specs.Sending.{Sender}
+use Rattle.pmd.specs.PmdSeam.Both.{IsSwitched}
+use Rattle.pmd.specs.PmdSeam.Named.{AtPort}
+use Rattle.pmd.specs.PmdRx.Receive.{Receive}
+use Rattle.pmd.specs.PmdTx.Sending.{Sender}
 use Rattle.receive_laws.specs.Joint.{Agree}
 use Rattle.transmit_laws.specs.Agreeing.{Agrees}
 use Rattle.start_laws.specs.Along.{AtCalls, AtEntries, BeforeLast, IsAlong}

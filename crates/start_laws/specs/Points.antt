@@ -1,16 +1,16 @@
 -- How the sides of a queue stand at a point of a history, and how a driver's accesses move that on.
 use Rattle.std.specs.Prelude.{ℕ, ◌≡◌, ◌≢◌, ◌<◌, ◌⊎◌, ⊤, Bool, IsTrue, IsFalse, List, [], ◌∷◌}
-use Rattle.reg_table.specs.declared.rows.RowId.{RowId}
-use Rattle.reg_table.specs.declared.rows.RowId.TheVariants.{Rxdctl, Txdctl}
-use Rattle.register_file.specs.Settings.{frame_limit}
-use Rattle.register_laws.specs.Sides.{ReceiveQueue, TransmitQueue}
+use Rattle.nic_device.specs.RegTable.declared.rows.RowId.{RowId}
+use Rattle.nic_device.specs.RegTable.declared.rows.RowId.TheVariants.{Rxdctl, Txdctl}
+use Rattle.nic_device.specs.RegisterFile.Settings.{frame_limit}
+use Rattle.nic_device.specs.RegisterLaws.Sides.{ReceiveQueue, TransmitQueue}
 use Rattle.nic_device.specs.State.{State}
 use Rattle.device_lock.specs.Alone.{Blocks, lent_by}
 use Rattle.device_lock.specs.declared.alone.Watched.{Watched}
 use Rattle.device_lock.specs.declared.entry.Entry.{Entry}
 use Rattle.device_lock.specs.declared.entry.Call.{Call}
-use Rattle.pmd_queue.specs.Made.{Access, Sees, Sets, AreMade}
-use Rattle.pmd_queue.specs.Named.{AtPort}
+use Rattle.pmd.specs.PmdSeam.QueueMade.{Access, Sees, Sets, AreMade}
+use Rattle.pmd.specs.PmdSeam.Named.{AtPort}
 use Rattle.start_laws.specs.Along.{AtCalls, IsAlong}
 use Rattle.start_laws.specs.Moves.{MayGoOnReceive, MayGoOnTransmit, receive_seen, transmit_seen}
 use Rattle.start_laws.specs.Numbers.{NamesQueue}

@@ -5,9 +5,9 @@ use Rattle.device_lock.specs.Alone.{lent_by}
 use Rattle.device_lock.specs.declared.alone.Watched.{Watched}
 use Rattle.device_lock.specs.declared.entry.Call.{Call}
 use Rattle.device_lock.specs.declared.entry.Entry.{Entry}
-use Rattle.pmd_queue.specs.Both.{both_quiet}
-use Rattle.pmd_queue.specs.Made.{AreMade}
-use Rattle.pmd_queue.specs.Named.{AtPort}
+use Rattle.pmd.specs.PmdSeam.Both.{both_quiet}
+use Rattle.pmd.specs.PmdSeam.QueueMade.{AreMade}
+use Rattle.pmd.specs.PmdSeam.Named.{AtPort}
 use Rattle.transmit_laws.specs.Off as transmit
 use Rattle.start_laws.specs.Along.{AtCalls, BeforeLast, IsAlong}
 use Rattle.start_laws.specs.Points.{HasGround, Point, Sides}

@@ -1,11 +1,11 @@
 -- The two sides of a queue that stand still: each is off, or on with an empty ring.
 use Rattle.std.specs.Prelude.{ℕ, ◌≡◌, ◌<◌, true, IsTrue, [], Some}
 use Rattle.std.specs.FinMap as map
-use Rattle.dma_arena.specs.Block.{Block, zero_block}
-use Rattle.dma_arena.specs.Memory.{Memory}
-use Rattle.register_file.specs.Pools.{mode_in}
-use Rattle.register_file.specs.Settings.{frame_limit}
-use Rattle.register_laws.specs.Sides.{ReceiveQueue, TransmitQueue, receive_queue_of, transmit_queue_of}
+use Rattle.nic_device.specs.DmaArena.Block.{Block, zero_block}
+use Rattle.nic_device.specs.DmaArena.Memory.{Memory}
+use Rattle.nic_device.specs.RegisterFile.Pools.{mode_in}
+use Rattle.nic_device.specs.RegisterFile.Settings.{frame_limit}
+use Rattle.nic_device.specs.RegisterLaws.Sides.{ReceiveQueue, TransmitQueue, receive_queue_of, transmit_queue_of}
 use Rattle.nic_device.specs.Receive.{is_empty}
 use Rattle.nic_device.specs.Sound.{IsEvent, IsSound}
 use Rattle.nic_device.specs.State.{State}
@@ -14,7 +14,7 @@ use Rattle.nic_device.specs.Transmit.{staged_by}
 use Rattle.nic_device.specs.declared.event.Event.{Event}
 use Rattle.device_lock.specs.Alone.{Blocks, LeavesRegisters, LeavesBlocks, WritesOutside}
 use Rattle.device_lock.specs.declared.alone.Watched.{Watched}
-use Rattle.history_laws.specs.Aligned.{AreAligned}
+use Rattle.receive_laws.specs.HistoryLaws.Aligned.{AreAligned}
 use Rattle.receive_laws.specs.Pieces.{pieces}
 use Rattle.transmit_laws.specs.Sent.{sent_by}
 

@@ -1,12 +1,12 @@
 -- What a run prints.
 use Rattle.std.specs.Prelude.{◌≡◌, ℕ, suc, ◌+◌, Bool, true, false, List, [], ◌∷◌, ◌++◌, Option, codes, decimal, length, count_by}
 use Rattle.std.specs.Io.KnownBytes.{Appends}
-use Rattle.dma_arena.specs.Block.{Block}
+use Rattle.nic_device.specs.DmaArena.Block.{Block}
 use Rattle.nic_device.specs.State.{new_state}
 use Rattle.nic_device.specs.declared.event.Reply.{Reply}
 use Rattle.nic_device.specs.declared.event.Reply.TheVariants.{Sent}
-use Rattle.device_lock.specs.declared.entry.Entry.{Entry}
-use Rattle.device_lock.specs.History.{IsLegal}
+use Rattle.workers.specs.DeviceLock.declared.entry.Entry.{Entry}
+use Rattle.workers.specs.DeviceLock.History.{IsLegal}
 use Rattle.workers.specs.declared.reports.Report.{Report}
 
 -- how many bytes the packets of reports have

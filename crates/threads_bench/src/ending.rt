@@ -1,11 +1,9 @@
 //! How what a run holds is ended.
 
 use crate::refused::Refused;
-use dma_arena::Arena;
-use nic_device::{Device, Parts};
+use nic_device::{Arena, Device, Parts};
 use std::mem::ManuallyDrop;
-use worker_team::{Home, Rest};
-use workers::Job;
+use workers::{Home, Job, Rest};
 
 /// Leaves a value that can't be dropped and can't be ended either. Its memory is lost to the process, which ends next:
 /// this happens only on the way to a status other than 0.

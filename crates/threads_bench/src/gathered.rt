@@ -4,10 +4,8 @@ ghost use Rattle.std.specs.Prelude.{◌≡◌, ◌+◌, IfOk, OnOk, vec_len};
 
 use crate::ending::end_rest;
 use crate::refused::{Refused, both};
-use device_lock::Pass;
 use std::alloc::Global;
-use worker_team::{Ran, WorkerEnd};
-use workers::Report;
+use workers::{Pass, Ran, Report, WorkerEnd};
 
 /// What came back from the workers.
 #[derive(Drop)]

@@ -4,13 +4,9 @@ ghost use Rattle.std.specs.Prelude.{◌≡◌, ◌≤◌, IfOk, vec_len};
 
 use crate::ending::end_jobs;
 use crate::refused::Refused;
-use device_lock::Pass;
-use dma_arena::Arena;
-use nic_device::Port;
-use pmd_base::Setup;
+use nic_device::{Arena, Mode, Port};
 use std::alloc::{AllocError, Global};
-use vf_map::Mode;
-use workers::Job;
+use workers::{Job, Pass, Setup};
 
 /// MRQC: RSS by the redirection table, of TCP over IPv4 and over IPv6.
 const RSS_OF_TCP: u32 = 0x0021_0001;

@@ -3,10 +3,8 @@
 ghost use Rattle.std.specs.Prelude.{◌≡◌, ◌↔◌};
 ghost use Rattle.threads_bench.specs.Refused.{both_done, status_of};
 
-use device_lock::{CallFault, CloseFault, NewFault};
-use pmd_base::PmdFault;
 use std::alloc::AllocError;
-use worker_team::{RunFault, WorkerFault};
+use workers::{CallFault, CloseFault, NewFault, PmdFault, RunFault, WorkerFault};
 
 /// Why a run prints nothing.
 #[derive(Clone, Copy, PartialEq, Eq, Debug)]
@@ -52,7 +50,7 @@ impl From<AllocError> for Refused {
 }
 
 impl From<NewFault> for Refused {
-    ghost use Rattle.device_lock.specs.declared.fault.NewFault.{NewFault};
+    ghost use Rattle.workers.specs.DeviceLock.declared.fault.NewFault.{NewFault};
     ghost use Rattle.threads_bench.specs.declared.refused.Refused.TheVariants.{OutOfMemory};
 
     ghost from_gives = { λ fault refused. (refused ≡ OutOfMemory) ↔ (fault ≡ NewFault.OutOfMemory) };
@@ -66,7 +64,7 @@ impl From<NewFault> for Refused {
 }
 
 impl From<CloseFault> for Refused {
-    ghost use Rattle.device_lock.specs.declared.fault.CloseFault.{CloseFault};
+    ghost use Rattle.workers.specs.DeviceLock.declared.fault.CloseFault.{CloseFault};
     ghost use Rattle.threads_bench.specs.declared.refused.Refused.TheVariants.{OutOfMemory};
 
     ghost from_gives = { λ fault refused. (refused ≡ OutOfMemory) ↔ (fault ≡ CloseFault.OutOfMemory) };
@@ -81,8 +79,8 @@ impl From<CloseFault> for Refused {
 }
 
 impl From<PmdFault> for Refused {
-    ghost use Rattle.device_lock.specs.declared.fault.CallFault.{CallFault};
-    ghost use Rattle.pmd_base.specs.declared.fault.PmdFault.{PmdFault};
+    ghost use Rattle.workers.specs.DeviceLock.declared.fault.CallFault.{CallFault};
+    ghost use Rattle.workers.specs.PmdSeam.declared.fault.PmdFault.{PmdFault};
     ghost use Rattle.threads_bench.specs.declared.refused.Refused.TheVariants.{OutOfMemory};
 
     ghost from_gives = { λ fault refused. (refused ≡ OutOfMemory)
@@ -102,9 +100,9 @@ impl From<PmdFault> for Refused {
 }
 
 impl From<WorkerFault> for Refused {
-    ghost use Rattle.device_lock.specs.declared.fault.CallFault.{CallFault};
-    ghost use Rattle.pmd_base.specs.declared.fault.PmdFault.{PmdFault};
-    ghost use Rattle.worker_team.specs.declared.WorkerFault.{WorkerFault};
+    ghost use Rattle.workers.specs.DeviceLock.declared.fault.CallFault.{CallFault};
+    ghost use Rattle.workers.specs.PmdSeam.declared.fault.PmdFault.{PmdFault};
+    ghost use Rattle.workers.specs.declared.WorkerFault.{WorkerFault};
     ghost use Rattle.threads_bench.specs.declared.refused.Refused.TheVariants.{OutOfMemory};
 
     ghost from_gives = { λ fault refused. (refused ≡ OutOfMemory)
@@ -119,7 +117,7 @@ impl From<WorkerFault> for Refused {
 }
 
 impl From<RunFault> for Refused {
-    ghost use Rattle.worker_team.specs.declared.ends.RunFault.{RunFault};
+    ghost use Rattle.workers.specs.declared.ends.RunFault.{RunFault};
     ghost use Rattle.threads_bench.specs.declared.refused.Refused.TheVariants.{OutOfMemory};
 
     ghost from_gives = { λ fault refused. (refused ≡ OutOfMemory) ↔ (fault ≡ RunFault.OutOfMemory) };

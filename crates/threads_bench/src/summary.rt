@@ -6,10 +6,9 @@ ghost use Rattle.bench.specs.Answer.{FailsToWrite};
 ghost use Rattle.threads_bench.specs.Summary.{byte_count, is_sent, queue_line, queue_lines, sent_in, summary_text};
 
 use bench::{Failure, Output};
-use device_lock::Entry;
 use nic_device::ReplyNote;
 use std::io::Write;
-use workers::Report;
+use workers::{Entry, Report};
 
 /// What a run tells.
 #[derive(Drop)]

@@ -10,15 +10,13 @@ use crate::jobs::{jobs, setup};
 use crate::refused::Refused;
 use crate::summary::{Summary, sent_in, write_summary};
 use bench::Output;
-use device_lock::{CloseRefused, Pass, Shared};
-use lockstep::Lockstep;
-use pmd_base::pf_setup;
-use pmd_lock::ThroughLock;
 use std::alloc::Global;
 use std::io::Write;
 use std::sync::Wait;
 use std::thread::Threads;
-use worker_team::{RunRefused, run_workers};
+use workers::{
+    CloseRefused, Lockstep, Pass, RunRefused, Shared, ThroughLock, pf_setup, run_workers,
+};
 
 /// The controller that the workers share.
 type Bench = Shared<0, 64>;

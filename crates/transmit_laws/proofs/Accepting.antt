@@ -4,11 +4,11 @@ use Rattle.std.specs.Prelude.{is_some}
 use Rattle.std.specs.FinMap as fin
 use Rattle.std.proofs.lemmas.Bool.{cases_lt}
 use Rattle.std.proofs.lemmas.List.{map-append, length-append, drop-append-le, get_or_append_left, get_or_push}
-use Rattle.dma_arena.specs.Block.{Block}
-use Rattle.dma_arena.specs.Memory.{Memory, part}
-use Rattle.dma_arena.proofs.Blocks.{read_at_in}
-use Rattle.dma_arena.proofs.Bus.{get-insert_same, get-insert_other}
-use Rattle.pmd_base.specs.Packet.{Kept}
+use Rattle.nic_device.specs.DmaArena.Block.{Block}
+use Rattle.nic_device.specs.DmaArena.Memory.{Memory, part}
+use Rattle.nic_device.proofs.DmaArena.Blocks.{read_at_in}
+use Rattle.nic_device.proofs.DmaArena.Bus.{get-insert_same, get-insert_other}
+use Rattle.pmd_tx.specs.PmdSeam.Packet.{Kept}
 use Rattle.pmd_tx.specs.Sending.{Outgoing, Sender, MayAccept, no_packet, packet_at, accepted_by}
 use Rattle.transmit_laws.specs.Agreeing.{IsLayout, IsReady, IsCounted, Shows, bytes_of, kept_in}
 use Rattle.transmit_laws.proofs.Blocks.{has_lent-ring, has_lent-packet, unlike, shows-same}

@@ -1,12 +1,12 @@
 -- The driver's writes of the tail keep what it and the device agree on.
 use Rattle.std.proofs.Common.{◌≡◌, ℕ, ◌+◌, ◌<◌, ◌≤◌, inl, inr, true, List, refl, sym, ap, ◌∙◌, subst, arith}
 use Rattle.std.proofs.lemmas.Bool.{cases_eq}
-use Rattle.reg_table.specs.declared.rows.RowId.TheVariants.{Tdt}
-use Rattle.register_file.specs.Columns.{place}
-use Rattle.register_laws.specs.Laws.{after_write}
-use Rattle.register_file.specs.Queue.{ring_of}
-use Rattle.register_laws.specs.Sides.{TransmitQueue, transmit_queue_of}
-use Rattle.register_file.specs.declared.dir.Dir.TheVariants.{Tx}
+use Rattle.nic_device.specs.RegTable.declared.rows.RowId.TheVariants.{Tdt}
+use Rattle.nic_device.specs.RegisterFile.Columns.{place}
+use Rattle.nic_device.specs.RegisterLaws.Laws.{after_write}
+use Rattle.nic_device.specs.RegisterFile.Queue.{ring_of}
+use Rattle.nic_device.specs.RegisterLaws.Sides.{TransmitQueue, transmit_queue_of}
+use Rattle.nic_device.specs.DmaRing.declared.dir.Dir.TheVariants.{Tx}
 use Rattle.nic_device.specs.Named.{named}
 use Rattle.nic_device.specs.Outcome.{Outcome, gives}
 use Rattle.nic_device.specs.Sound.{IsEvent}
@@ -16,7 +16,7 @@ use Rattle.nic_device.specs.Access.{named_written}
 use Rattle.nic_device.specs.declared.event.Event.TheVariants as event
 use Rattle.nic_device.specs.declared.event.Port.{Port}
 use Rattle.nic_device.specs.declared.event.Reply.TheVariants as reply
-use Rattle.device_laws.specs.Laws.{WritesNoSetting}
+use Rattle.history_laws.specs.DeviceLaws.Laws.{WritesNoSetting}
 use Rattle.pmd_tx.specs.Sending.{Sender, Move, Advances, IsOwn, packet_at, slot_at, descriptor_at, moved, advanced}
 use Rattle.transmit_laws.specs.Agreeing.{IsBased, IsPosted, AgreesAt, Agrees}
 use Rattle.transmit_laws.specs.Up.{IsUp}

@@ -1,13 +1,13 @@
 -- A history that leaves the queue of a driver alone may run, and so what is sent is a prefix of what was accepted.
 use Rattle.std.proofs.Common.{◌≡◌, ℕ, List, [], ◌∷◌, ◌++◌, sym, ◌∙◌, subst, Option, Some, None}
-use Rattle.dma_arena.specs.Block.{Block}
+use Rattle.nic_device.specs.DmaArena.Block.{Block}
 use Rattle.nic_device.specs.State.{State}
 use Rattle.nic_device.specs.Step.{after, reply_to}
 use Rattle.nic_device.specs.declared.event.Event.{Event}
 use Rattle.device_lock.specs.Alone.{Blocks}
 use Rattle.device_lock.specs.History.{IsLegal}
 use Rattle.device_lock.specs.declared.alone.Watched.{Watched}
-use Rattle.device_laws.proofs.Standing.{stays_within}
+use Rattle.history_laws.proofs.DeviceLaws.Standing.{stays_within}
 use Rattle.history_laws.specs.Aligned.{AreAligned}
 use Rattle.history_laws.proofs.Aligned.{events_aligned}
 use Rattle.pmd_tx.specs.Sending.{Sender, Move, Accepts, Asks, Advances, Looks, Reaps, Elsewhere, has_lent}

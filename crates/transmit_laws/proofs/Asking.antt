@@ -1,6 +1,6 @@
 -- Writing the descriptor of the packet that waits keeps what driver and device agree on.
 use Rattle.std.proofs.Common.{◌≡◌, ℕ, ◌<◌, List, length, sym, ◌∙◌, subst, arith}
-use Rattle.dma_arena.specs.Memory.{Memory, read_at, write_at}
+use Rattle.nic_device.specs.DmaArena.Memory.{Memory, read_at, write_at}
 use Rattle.nic_device.specs.Sound.{IsEvent}
 use Rattle.nic_device.specs.State.{State}
 use Rattle.nic_device.specs.Step.{step_of}

@@ -1,9 +1,9 @@
 -- What an event keeps that writes no setting.
 use Rattle.std.proofs.Common.{◌≡◌, ℕ, false, List, refl, sym, ap, ◌∙◌}
-use Rattle.dma_arena.specs.Block.{Block}
-use Rattle.reg_table.specs.declared.place.Place.{Place}
-use Rattle.vf_map.specs.Map.{located}
-use Rattle.register_file.specs.Pools.{mode_in}
+use Rattle.nic_device.specs.DmaArena.Block.{Block}
+use Rattle.nic_device.specs.RegTable.declared.place.Place.{Place}
+use Rattle.nic_device.specs.VfMap.Map.{located}
+use Rattle.nic_device.specs.RegisterFile.Pools.{mode_in}
 use Rattle.nic_device.specs.Named.{named, at_location}
 use Rattle.nic_device.specs.Outcome.{Outcome}
 use Rattle.nic_device.specs.Sound.{IsEvent}
@@ -16,9 +16,9 @@ use Rattle.nic_device.specs.declared.event.Port.TheVariants.{Pf, Vf}
 use Rattle.nic_device.specs.declared.named.Named.TheVariants.{Register}
 use Rattle.nic_device.proofs.Steps.{keeps_sound}
 use Rattle.device_lock.specs.Alone.{is_setting}
-use Rattle.device_laws.specs.Laws.{WritesNoSetting}
-use Rattle.device_laws.proofs.KeptSettings.{settings_stand}
-use Rattle.device_laws.proofs.Standing.{stays_within}
+use Rattle.history_laws.specs.DeviceLaws.Laws.{WritesNoSetting}
+use Rattle.history_laws.proofs.DeviceLaws.KeptSettings.{settings_stand}
+use Rattle.history_laws.proofs.DeviceLaws.Standing.{stays_within}
 use Rattle.history_laws.proofs.Sparing.{no_setting}
 use Rattle.pmd_tx.specs.Sending.{Layout, Sender, Move, moved}
 use Rattle.transmit_laws.specs.Agreeing.{IsBased, Agrees}

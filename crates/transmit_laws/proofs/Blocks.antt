@@ -4,9 +4,9 @@ use Rattle.std.specs.Prelude.{◌==◌, zero, suc, List, [], ◌∷◌, slice_in
 use Rattle.std.specs.List.{list_any}
 use Rattle.std.specs.FinMap as map
 use Rattle.std.proofs.lemmas.Bool.{cases_lt, eq-eqb, both_ways}
-use Rattle.dma_arena.specs.Memory.{Memory, has_block, is_lent, read_at, AreApart, LiesIn}
-use Rattle.dma_arena.proofs.Blocks.{is_lent_in}
-use Rattle.dma_arena.proofs.Inside.{reads_its_block}
+use Rattle.nic_device.specs.DmaArena.Memory.{Memory, has_block, is_lent, read_at, AreApart, LiesIn}
+use Rattle.nic_device.proofs.DmaArena.Blocks.{is_lent_in}
+use Rattle.nic_device.proofs.DmaArena.Inside.{reads_its_block}
 use Rattle.pmd_tx.specs.Sending.{Outgoing, Sender, no_packet, packet_at, slot_at, descriptor_at, has_lent, blocks_of}
 use Rattle.transmit_laws.specs.Agreeing.{IsLayout, IsReady, IsCounted, Shows}
 use Rattle.transmit_laws.proofs.Slots.{slot-below, slot-apart}

@@ -1,7 +1,7 @@
 -- What is counted of the frames that a queue sends, over whole histories.
 use Rattle.std.proofs.Common.{◌≡◌, ℕ, ◌+◌, ◌≤◌, ◌==◌, Bool, true, false, List, [], ◌∷◌, ◌++◌, length, length-append, if◌then◌else◌, refl, sym, ap, ◌∙◌, append_assoc, arith}
 use Rattle.std.proofs.lemmas.List.{append-nil}
-use Rattle.dma_arena.specs.Block.{Block}
+use Rattle.nic_device.specs.DmaArena.Block.{Block}
 use Rattle.nic_device.specs.State.{State}
 use Rattle.nic_device.specs.Step.{after, reply_to}
 use Rattle.nic_device.specs.declared.event.Event.{Event}
@@ -11,8 +11,8 @@ use Rattle.nic_device.specs.declared.event.Reply.TheVariants.{Sent}
 use Rattle.nic_device.proofs.Cases.{either_way}
 use Rattle.device_lock.specs.declared.entry.Entry.{Entry}
 use Rattle.device_lock.specs.History.{leads_to}
-use Rattle.device_laws.specs.Replies.{out_sent}
-use Rattle.device_laws.proofs.RepliesOut.{frames_out}
+use Rattle.history_laws.specs.DeviceLaws.Replies.{out_sent}
+use Rattle.history_laws.proofs.DeviceLaws.RepliesOut.{frames_out}
 use Rattle.transmit_laws.specs.Counting.{NeverGoesOn, IsEndOf, SentIsCounted}
 use Rattle.transmit_laws.specs.Sent.{frames_added, sent_by, sent_in, goes_on, counted_by, sent_since}
 use Rattle.transmit_laws.proofs.Frames.{added-one, added-none}

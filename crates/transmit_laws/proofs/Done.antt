@@ -1,14 +1,14 @@
 -- The memory after the oldest packet that wasn't fetched is: its descriptor is done, and the rest is as it was.
 use Rattle.std.proofs.Common.{◌≡◌, ◌≢◌, ℕ, ◌+◌, ◌<◌, inl, inr, List, ◌∙◌, arith}
 use Rattle.std.proofs.lemmas.Bool.{cases_eq}
-use Rattle.dma_arena.specs.Memory.{Memory, read_at, write_at}
-use Rattle.tx_ring.specs.Report.{done_descriptor}
+use Rattle.nic_device.specs.DmaArena.Memory.{Memory, read_at, write_at}
+use Rattle.nic_device.specs.TxRing.Report.{done_descriptor}
 use Rattle.nic_device.specs.State.{State}
 use Rattle.pmd_tx.specs.Sending.{Outgoing, Sender, packet_at, descriptor_at, asking}
 use Rattle.transmit_laws.specs.Agreeing.{IsDone, Shows, AgreesAt}
 use Rattle.transmit_laws.proofs.Fetching.{length-done}
 use Rattle.transmit_laws.proofs.Writing.{read-here, read-other, lent-still, ready-still}
-use Rattle.dma_arena.specs.Memory.{IsWhole}
+use Rattle.nic_device.specs.DmaArena.Memory.{IsWhole}
 use Rattle.transmit_laws.proofs.Stepping.{small}
 
 module _ (s : State) (queue : ℕ) (sent : List (List ℕ)) (v : Sender) (f : ℕ) (h : AgreesAt s queue sent v f)

@@ -1,13 +1,13 @@
 -- A word that is written to the enable register of the driver's transmit side keeps what the two agree on.
 use Rattle.std.proofs.Common.{refl, ap, ◌∙◌}
 use Rattle.std.specs.FinMap as map
-use Rattle.dma_arena.specs.Memory.{Memory}
-use Rattle.reg_table.specs.declared.rows.RowId.TheVariants.{Txdctl}
-use Rattle.register_file.specs.Columns.{place}
-use Rattle.register_laws.specs.Sides.{TransmitQueue, transmit_queue_of}
+use Rattle.nic_device.specs.DmaArena.Memory.{Memory}
+use Rattle.nic_device.specs.RegTable.declared.rows.RowId.TheVariants.{Txdctl}
+use Rattle.nic_device.specs.RegisterFile.Columns.{place}
+use Rattle.nic_device.specs.RegisterLaws.Sides.{TransmitQueue, transmit_queue_of}
 use Rattle.nic_device.specs.Step.{after}
 use Rattle.nic_device.specs.declared.event.Event.TheVariants as event
-use Rattle.device_laws.proofs.StandingAccesses.{write_memory}
+use Rattle.history_laws.proofs.DeviceLaws.StandingAccesses.{write_memory}
 use Rattle.transmit_laws.specs.Enable.{EnableWordsKeep}
 use Rattle.transmit_laws.proofs.Basing.{plain-write}
 use Rattle.transmit_laws.proofs.Guard.{asked-side, asked-staged}

@@ -1,24 +1,24 @@
 -- A posted slot that is fetched: its packet goes out, and its descriptor is done.
 use Rattle.std.proofs.Common.{◌≡◌, ℕ, ◌-◌, ◌*◌, ◌<◌, ◌≤◌, ◌^◌, Bool, true, false, List, [], length, refl, ap, ◌∙◌, arith, Some, None, Ok}
 use Rattle.std.proofs.lemmas.List.{append-nil}
-use Rattle.dma_arena.specs.Memory.{Memory, has_block, is_lent, read_at, write_at}
-use Rattle.dma_arena.proofs.Blocks.{is_lent_in}
-use Rattle.dma_ring.specs.Descriptor.{first_half, second_half}
-use Rattle.dma_ring.specs.Driver.{data_word, data_command, IsDataWord}
-use Rattle.dma_ring.specs.Ring.{is_outside}
-use Rattle.dma_ring.specs.Transmit.{with_done}
-use Rattle.dma_ring.specs.declared.ring.Ring.{Ring}
-use Rattle.dma_ring.specs.declared.transmit.Command.{Command}
-use Rattle.dma_ring.proofs.Agreement.{data_is_asked}
-use Rattle.dma_ring.proofs.Fields.{halves_come_back}
-use Rattle.tx_ring.specs.Fetch.{Outcome, descriptor_of, command_in, buffer_in, buffer_bytes, CanSend, data_outcome, fetch_of}
-use Rattle.tx_ring.specs.Frame.{frame_of}
-use Rattle.tx_ring.specs.Laws.{command_at, HasData}
-use Rattle.tx_ring.specs.Report.{head_address, new_head, done_descriptor}
-use Rattle.tx_ring.specs.declared.fetched.Fetched.{Fetched}
-use Rattle.tx_ring.specs.declared.tx.Tx.{Tx}
-use Rattle.tx_ring.proofs.Reports.{done_changes_done_alone}
-use Rattle.tx_ring.proofs.Tests.{tests_in_order}
+use Rattle.nic_device.specs.DmaArena.Memory.{Memory, has_block, is_lent, read_at, write_at}
+use Rattle.nic_device.proofs.DmaArena.Blocks.{is_lent_in}
+use Rattle.nic_device.specs.DmaRing.Descriptor.{first_half, second_half}
+use Rattle.nic_device.specs.DmaRing.Driver.{data_word, data_command, IsDataWord}
+use Rattle.nic_device.specs.DmaRing.Ring.{is_outside}
+use Rattle.nic_device.specs.DmaRing.Transmit.{with_done}
+use Rattle.nic_device.specs.DmaRing.declared.ring.Ring.{Ring}
+use Rattle.nic_device.specs.DmaRing.declared.transmit.Command.{Command}
+use Rattle.nic_device.proofs.DmaRing.Agreement.{data_is_asked}
+use Rattle.nic_device.proofs.DmaRing.Fields.{halves_come_back}
+use Rattle.nic_device.specs.TxRing.Fetch.{Outcome, descriptor_of, command_in, buffer_in, buffer_bytes, CanSend, data_outcome, fetch_of}
+use Rattle.nic_device.specs.TxRing.Frame.{frame_of}
+use Rattle.nic_device.specs.TxRing.Laws.{command_at, HasData}
+use Rattle.nic_device.specs.TxRing.Report.{head_address, new_head, done_descriptor}
+use Rattle.nic_device.specs.TxRing.declared.fetched.Fetched.{Fetched}
+use Rattle.nic_device.specs.TxRing.declared.tx.Tx.{Tx}
+use Rattle.nic_device.proofs.TxRing.Reports.{done_changes_done_alone}
+use Rattle.nic_device.proofs.TxRing.Tests.{tests_in_order}
 use Rattle.pmd_tx.specs.Sending.{Outgoing, asking, is_sent}
 use Rattle.transmit_laws.specs.Agreeing.{IsPosted}
 

@@ -3,10 +3,10 @@ use Rattle.std.proofs.Common.{◌≡◌, ℕ, ◌<◌, Bool, true, false, ◌||�
 use Rattle.std.specs.Prelude.{slice_set}
 use Rattle.std.proofs.lemmas.Bool.{lt-ltb}
 use Rattle.std.proofs.lemmas.List.{drop_at, drop_all}
-use Rattle.dma_arena.specs.Memory.{write_at}
-use Rattle.dma_ring.specs.declared.ring.Ring.{Ring}
-use Rattle.tx_ring.specs.Report.{head_address, done_descriptor}
-use Rattle.register_laws.specs.Sides.{transmit_queue_of}
+use Rattle.nic_device.specs.DmaArena.Memory.{write_at}
+use Rattle.nic_device.specs.DmaRing.declared.ring.Ring.{Ring}
+use Rattle.nic_device.specs.TxRing.Report.{head_address, done_descriptor}
+use Rattle.nic_device.specs.RegisterLaws.Sides.{transmit_queue_of}
 use Rattle.nic_device.specs.Outcome.{gives}
 use Rattle.nic_device.specs.State.{State}
 use Rattle.nic_device.specs.Step.{step_of}

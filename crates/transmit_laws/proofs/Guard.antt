@@ -2,13 +2,13 @@
 use Rattle.std.proofs.Common.{◌≡◌, ℕ, ◌^◌, ◌/◌, ◌%◌, ◌<◌, false, sym, ap, ◌∙◌, subst, arith}
 use Rattle.std.specs.Prelude.{bit_and, ◌==◌}
 use Rattle.std.proofs.lemmas.Nat.{and_mask}
-use Rattle.reg_table.specs.declared.rows.RowId.TheVariants.{Txdctl}
-use Rattle.register_file.specs.Bits.{has_bit}
-use Rattle.register_file.specs.Columns.{place}
-use Rattle.register_file.specs.Registers.{word_of}
-use Rattle.register_laws.specs.Laws.{after_write}
-use Rattle.register_laws.specs.Sides.{TransmitQueue, transmit_queue_of}
-use Rattle.register_laws.proofs.Switches.{transmit-asked}
+use Rattle.nic_device.specs.RegTable.declared.rows.RowId.TheVariants.{Txdctl}
+use Rattle.nic_device.specs.RegisterFile.Bits.{has_bit}
+use Rattle.nic_device.specs.RegisterFile.Columns.{place}
+use Rattle.nic_device.specs.RegisterFile.Registers.{word_of}
+use Rattle.nic_device.specs.RegisterLaws.Laws.{after_write}
+use Rattle.nic_device.specs.RegisterLaws.Sides.{TransmitQueue, transmit_queue_of}
+use Rattle.nic_device.proofs.RegisterLaws.Switches.{transmit-asked}
 use Rattle.nic_device.specs.Access.{named_read, named_written}
 use Rattle.nic_device.specs.Outcome.{Outcome, gives}
 use Rattle.nic_device.specs.Sound.{IsSound}

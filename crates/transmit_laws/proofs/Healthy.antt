@@ -2,9 +2,9 @@
 use Rattle.std.proofs.Common.{◌≡◌, ℕ, ◌%◌, ◌<◌, true, false, List, length, refl, sym, ap, ◌∙◌, subst, arith}
 use Rattle.std.specs.FinMap as map
 use Rattle.std.proofs.lemmas.Bool.{eq-eqb}
-use Rattle.dma_arena.specs.Block.{Block}
-use Rattle.dma_arena.specs.Memory.{has_block}
-use Rattle.dma_arena.proofs.Bus.{of_some}
+use Rattle.nic_device.specs.DmaArena.Block.{Block}
+use Rattle.nic_device.specs.DmaArena.Memory.{has_block}
+use Rattle.nic_device.proofs.DmaArena.Bus.{of_some}
 use Rattle.nic_device.specs.Outcome.{Outcome}
 use Rattle.nic_device.specs.State.{State}
 use Rattle.nic_device.specs.Step.{reply_to}

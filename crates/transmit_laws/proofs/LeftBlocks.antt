@@ -2,10 +2,10 @@
 use Rattle.std.proofs.Common.{◌≡◌, ◌≢◌, ℕ, ◌+◌, ◌*◌, ◌/◌, ◌%◌, ◌<◌, ◌≤◌, inl, inr, true, false, length, List, refl, ap, sym, ◌∙◌, subst, arith, Some, None}
 use Rattle.std.specs.FinMap as map
 use Rattle.std.proofs.lemmas.Bool.{cases_eq, cases_lt, both_ways, eqb-false}
-use Rattle.dma_arena.specs.Block.{Block}
-use Rattle.dma_arena.specs.Memory.{Avoids}
-use Rattle.tx_ring.specs.Report.{report_length}
-use Rattle.register_laws.specs.Sides.{transmit_queue_of}
+use Rattle.nic_device.specs.DmaArena.Block.{Block}
+use Rattle.nic_device.specs.DmaArena.Memory.{Avoids}
+use Rattle.nic_device.specs.TxRing.Report.{report_length}
+use Rattle.nic_device.specs.RegisterLaws.Sides.{transmit_queue_of}
 use Rattle.nic_device.specs.Footprint.{told_back}
 use Rattle.nic_device.specs.Outcome.{Outcome}
 use Rattle.nic_device.specs.Sound.{IsEvent, IsSound}
@@ -15,17 +15,17 @@ use Rattle.nic_device.specs.declared.event.Event.{Event}
 use Rattle.nic_device.specs.declared.event.Event.TheVariants as event
 use Rattle.nic_device.specs.declared.event.Reply.{Reply}
 use Rattle.nic_device.specs.declared.event.Reply.TheVariants.{Wrote, Advanced, Sent}
-use Rattle.dma_arena.proofs.Inside.{inside_avoids as in_block_avoids}
+use Rattle.nic_device.proofs.DmaArena.Inside.{inside_avoids as in_block_avoids}
 use Rattle.history_laws.specs.Aligned.{AreAligned}
 use Rattle.history_laws.proofs.Reported.{reports_lie}
 use Rattle.device_lock.specs.Alone.{Blocks, LeavesBlocks, IsClear, WritesOutside}
-use Rattle.device_laws.specs.Leaving.{LeavesBlock, ReceivesOutside}
-use Rattle.device_laws.specs.Replies.{sent_tells}
-use Rattle.device_laws.proofs.RepliesOut.{misaligned}
-use Rattle.device_laws.proofs.RepliesSent.{transmitting_tells}
-use Rattle.device_laws.proofs.Standing.{memory_blocks, stays_within}
-use Rattle.device_laws.proofs.StandingAccesses.{read_rest, write_memory}
-use Rattle.device_laws.proofs.StandingQueues.{receiving_blocks, transmitting_blocks, switching_rest}
+use Rattle.history_laws.specs.DeviceLaws.Leaving.{LeavesBlock, ReceivesOutside}
+use Rattle.history_laws.specs.DeviceLaws.Replies.{sent_tells}
+use Rattle.history_laws.proofs.DeviceLaws.RepliesOut.{misaligned}
+use Rattle.history_laws.proofs.DeviceLaws.RepliesSent.{transmitting_tells}
+use Rattle.history_laws.proofs.DeviceLaws.Standing.{memory_blocks, stays_within}
+use Rattle.history_laws.proofs.DeviceLaws.StandingAccesses.{read_rest, write_memory}
+use Rattle.history_laws.proofs.DeviceLaws.StandingQueues.{receiving_blocks, transmitting_blocks, switching_rest}
 use Rattle.pmd_tx.specs.Sending.{Sender, has_lent}
 use Rattle.transmit_laws.specs.Laws.{LeftAloneIsSpared}
 use Rattle.transmit_laws.specs.Sparing.{is_transmit_of, ReceiveOwes, Owes}

@@ -1,10 +1,10 @@
 -- An event that leaves a queue alone leaves its transmit side, and writes no setting.
 use Rattle.std.proofs.Common.{◌≡◌, ℕ, inl, inr, false, refl, ap, sym, ◌∙◌, subst, Some}
 use Rattle.std.proofs.lemmas.Bool.{eqb-false}
-use Rattle.dma_arena.specs.Block.{Block}
-use Rattle.reg_table.specs.declared.place.Place.{Place}
-use Rattle.register_file.specs.Pools.{mode_in}
-use Rattle.register_file.specs.declared.dir.Dir.TheVariants.{Rx, Tx}
+use Rattle.nic_device.specs.DmaArena.Block.{Block}
+use Rattle.nic_device.specs.RegTable.declared.place.Place.{Place}
+use Rattle.nic_device.specs.RegisterFile.Pools.{mode_in}
+use Rattle.nic_device.specs.DmaRing.declared.dir.Dir.TheVariants.{Rx, Tx}
 use Rattle.nic_device.specs.Named.{named}
 use Rattle.nic_device.specs.State.{State}
 use Rattle.nic_device.specs.Step.{after}
@@ -15,12 +15,12 @@ use Rattle.nic_device.specs.declared.named.Named.{Named}
 use Rattle.nic_device.specs.declared.named.Named.TheVariants.{Nothing, Register}
 use Rattle.device_lock.specs.Alone.{LeavesRegisters, Spares, SparesIfSome, place_at}
 use Rattle.device_lock.specs.declared.alone.Watched.{Watched}
-use Rattle.device_laws.specs.Laws.{WritesNoSetting}
-use Rattle.device_laws.specs.Leaving.{LeavesTransmit}
-use Rattle.device_laws.proofs.Standing.{memory_rest}
-use Rattle.device_laws.proofs.StandingAccesses.{read_rest}
-use Rattle.device_laws.proofs.StandingQueues.{receiving_rest, transmitting_rest, switching_rest}
-use Rattle.device_laws.proofs.StandingRest.{arrival_rest, message_rest, eeprom_rest, link_rest, collecting_rest}
+use Rattle.history_laws.specs.DeviceLaws.Laws.{WritesNoSetting}
+use Rattle.history_laws.specs.DeviceLaws.Leaving.{LeavesTransmit}
+use Rattle.history_laws.proofs.DeviceLaws.Standing.{memory_rest}
+use Rattle.history_laws.proofs.DeviceLaws.StandingAccesses.{read_rest}
+use Rattle.history_laws.proofs.DeviceLaws.StandingQueues.{receiving_rest, transmitting_rest, switching_rest}
+use Rattle.history_laws.proofs.DeviceLaws.StandingRest.{arrival_rest, message_rest, eeprom_rest, link_rest, collecting_rest}
 use Rattle.history_laws.proofs.Naming.{place_in, place_named}
 use Rattle.history_laws.proofs.Sparing.{no_setting, spared_written, stray_written}
 use Rattle.transmit_laws.specs.Sparing.{is_transmit_of, is_switch_of}

@@ -1,8 +1,8 @@
 -- The driver's looks tell whether the oldest packet was fetched, and keep what it and the device agree on.
 use Rattle.std.proofs.Common.{◌≡◌, ℕ, ◌%◌, ◌<◌, ◌≤◌, inl, inr, Bool, true, false, List, length, refl, sym, ap, ◌∙◌, subst, arith}
 use Rattle.std.proofs.lemmas.Bool.{cases_lt, eq-eqb, both_ways}
-use Rattle.dma_arena.specs.Memory.{read_at}
-use Rattle.dma_arena.proofs.Bus.{small_of_lent}
+use Rattle.nic_device.specs.DmaArena.Memory.{read_at}
+use Rattle.nic_device.proofs.DmaArena.Bus.{small_of_lent}
 use Rattle.nic_device.specs.Outcome.{Outcome, gives}
 use Rattle.nic_device.specs.State.{State}
 use Rattle.nic_device.specs.Step.{step_of}

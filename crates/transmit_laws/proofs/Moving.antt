@@ -1,7 +1,7 @@
 -- The driver's own moves keep what it and the device agree on.
 use Rattle.std.proofs.Common.{◌≡◌, ℕ, ◌+◌, ◌-◌, List, ◌++◌, drop, sym, subst, arith}
-use Rattle.dma_arena.specs.Block.{Block}
-use Rattle.register_laws.specs.Sides.{transmit_queue_of}
+use Rattle.nic_device.specs.DmaArena.Block.{Block}
+use Rattle.nic_device.specs.RegisterLaws.Sides.{transmit_queue_of}
 use Rattle.nic_device.specs.Sound.{IsEvent}
 use Rattle.nic_device.specs.State.{State}
 use Rattle.nic_device.specs.Step.{step_of}

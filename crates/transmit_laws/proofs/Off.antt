@@ -1,8 +1,8 @@
 -- A transmit side that isn't wanted on stays so; one that is off besides stays off, and sends nothing.
 use Rattle.std.proofs.Common.{◌≡◌, ℕ, ◌<◌, inl, inr, List, [], ◌∷◌, refl, sym, ap, ◌∙◌, subst}
 use Rattle.std.proofs.lemmas.Bool.{cases_Bool, eq-eqb}
-use Rattle.dma_arena.specs.Block.{Block}
-use Rattle.register_laws.specs.Sides.{TransmitQueue}
+use Rattle.nic_device.specs.DmaArena.Block.{Block}
+use Rattle.nic_device.specs.RegisterLaws.Sides.{TransmitQueue}
 use Rattle.nic_device.specs.Outcome.{Outcome}
 use Rattle.nic_device.specs.State.{State}
 use Rattle.nic_device.specs.Step.{after}

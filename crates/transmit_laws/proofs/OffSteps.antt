@@ -1,10 +1,10 @@
 -- Steps of a transmit side that isn't wanted on.
 use Rattle.std.proofs.Common.{◌≡◌, ℕ, ◌<◌, ap, ◌∙◌}
-use Rattle.register_file.specs.Queue.{switched}
-use Rattle.register_file.specs.Registers.{is_wanted}
-use Rattle.register_file.specs.declared.dir.Dir.TheVariants.{Tx}
-use Rattle.register_laws.specs.Sides.{TransmitQueue}
-use Rattle.register_laws.proofs.Switches.{transmit-switched}
+use Rattle.nic_device.specs.RegisterFile.Queue.{switched}
+use Rattle.nic_device.specs.RegisterFile.Registers.{is_wanted}
+use Rattle.nic_device.specs.DmaRing.declared.dir.Dir.TheVariants.{Tx}
+use Rattle.nic_device.specs.RegisterLaws.Sides.{TransmitQueue}
+use Rattle.nic_device.proofs.RegisterLaws.Switches.{transmit-switched}
 use Rattle.nic_device.specs.Outcome.{Outcome, gives}
 use Rattle.nic_device.specs.Sound.{IsSound}
 use Rattle.nic_device.specs.State.{State}
@@ -14,8 +14,8 @@ use Rattle.nic_device.specs.declared.event.Event.TheVariants as event
 use Rattle.nic_device.specs.declared.event.Reply.TheVariants.{Idle}
 use Rattle.nic_device.proofs.Cases.{either_way, switched_cases}
 use Rattle.nic_device.proofs.QueueCases.{transmitted_cases}
-use Rattle.device_laws.specs.Replies.{sent_tells}
-use Rattle.device_laws.proofs.RepliesSent.{transmitting_tells}
+use Rattle.history_laws.specs.DeviceLaws.Replies.{sent_tells}
+use Rattle.history_laws.proofs.DeviceLaws.RepliesSent.{transmitting_tells}
 use Rattle.history_laws.proofs.Silent.{off_idle, took}
 use Rattle.transmit_laws.specs.Off.{IsUnwanted, IsOff}
 

@@ -3,11 +3,11 @@ use Rattle.std.proofs.Common.{◌≡◌, ℕ, ◌+◌, ◌-◌, ◌<◌, List, �
 use Rattle.std.specs.Prelude.{is_some}
 use Rattle.std.specs.FinMap as fin
 use Rattle.std.proofs.lemmas.List.{length-drop, drop-drop, get_or-drop}
-use Rattle.dma_arena.specs.Memory.{Memory, read_at}
-use Rattle.dma_arena.proofs.Bus.{get-remove_other}
+use Rattle.nic_device.specs.DmaArena.Memory.{Memory, read_at}
+use Rattle.nic_device.proofs.DmaArena.Bus.{get-remove_other}
 use Rattle.pmd_tx.specs.Sending.{Outgoing, Sender, no_packet, packet_at, slot_at, descriptor_at, asking, reaped}
 use Rattle.transmit_laws.specs.Agreeing.{IsLayout, IsSetUp, IsReady, IsPosted, IsCounted, Shows, bytes_of, kept_in}
-use Rattle.register_laws.specs.Sides.{TransmitQueue}
+use Rattle.nic_device.specs.RegisterLaws.Sides.{TransmitQueue}
 use Rattle.transmit_laws.proofs.Blocks.{ready-same, slot-same}
 use Rattle.transmit_laws.proofs.Slots.{slot-later, descriptor-later}
 

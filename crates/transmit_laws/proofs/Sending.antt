@@ -3,9 +3,9 @@ use Rattle.std.proofs.Common.{◌≡◌, ℕ, ◌+◌, ◌<◌, inl, inr, true, 
 use Rattle.std.specs.Prelude.{◌==◌, if◌then◌else◌}
 use Rattle.std.proofs.lemmas.Bool.{eq-eqb, lt-ltb, cases_Bool}
 use Rattle.std.proofs.lemmas.List.{append-nil, drop_more, get_or-set_same}
-use Rattle.tx_ring.specs.Report.{head_address, new_head}
-use Rattle.register_file.specs.Settings.{is_stopped, can_transmit}
-use Rattle.register_laws.specs.Sides.{TransmitQueue, transmit_queue_of}
+use Rattle.nic_device.specs.TxRing.Report.{head_address, new_head}
+use Rattle.nic_device.specs.RegisterFile.Settings.{is_stopped, can_transmit}
+use Rattle.nic_device.specs.RegisterLaws.Sides.{TransmitQueue, transmit_queue_of}
 use Rattle.nic_device.specs.Outcome.{Outcome, gives}
 use Rattle.nic_device.specs.Receive.{is_empty}
 use Rattle.nic_device.specs.State.{State}
@@ -13,8 +13,8 @@ use Rattle.nic_device.specs.Step.{step_of, after}
 use Rattle.nic_device.specs.Transmit.{staged_by, is_muted, is_silent}
 use Rattle.nic_device.specs.declared.event.Event.TheVariants as event
 use Rattle.nic_device.specs.declared.event.Reply.TheVariants.{Sent, Idle}
-use Rattle.device_laws.specs.Replies.{sent_tells}
-use Rattle.device_laws.proofs.RepliesSent.{transmitting_tells}
+use Rattle.history_laws.specs.DeviceLaws.Replies.{sent_tells}
+use Rattle.history_laws.proofs.DeviceLaws.RepliesSent.{transmitting_tells}
 use Rattle.pmd_tx.specs.Sending.{Outgoing, Sender, no_packet, packet_at, slot_at}
 use Rattle.transmit_laws.specs.Agreeing.{IsBased, IsSetUp, IsCounted, AgreesAt, Agrees, bytes_of, kept_in}
 use Rattle.transmit_laws.specs.Sent.{frames_added}

@@ -1,8 +1,8 @@
 -- The slots of a ring, which go round once at most.
 use Rattle.std.proofs.Common.{◌≡◌, ◌≢◌, ℕ, ◌+◌, ◌<◌, ◌≤◌, ap, arith}
-use Rattle.dma_ring.specs.Ring.{next_of}
-use Rattle.pmd_base.specs.Slots.{descriptor_in}
-use Rattle.pmd_base.proofs.Places.{wrapped_below, wrapped_apart, next_below, next_wrapped, wrapped_next}
+use Rattle.nic_device.specs.DmaRing.Ring.{next_of}
+use Rattle.pmd_tx.specs.PmdSeam.Slots.{descriptor_in}
+use Rattle.pmd_tx.proofs.PmdSeam.Places.{wrapped_below, wrapped_apart, next_below, next_wrapped, wrapped_next}
 use Rattle.pmd_tx.specs.Sending.{Layout, slot_at, descriptor_at}
 use Rattle.transmit_laws.specs.Agreeing.{IsLayout}
 

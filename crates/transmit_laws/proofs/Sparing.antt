@@ -3,12 +3,12 @@ use Rattle.std.proofs.Common.{◌≡◌, ℕ, ◌<◌, inl, inr, true, false, Li
 use Rattle.std.specs.Prelude.{IsTrue}
 use Rattle.std.proofs.lemmas.Bool.{cases_Bool, eqb-true}
 use Rattle.std.proofs.lemmas.List.{append-nil, get_or-set_same}
-use Rattle.dma_arena.specs.Block.{Block}
-use Rattle.register_file.specs.Queue.{switched}
-use Rattle.register_file.specs.Registers.{is_wanted}
-use Rattle.register_file.specs.declared.dir.Dir.TheVariants.{Rx, Tx}
-use Rattle.register_laws.specs.Sides.{TransmitQueue, transmit_queue_of}
-use Rattle.register_laws.proofs.Switches.{transmit-switched}
+use Rattle.nic_device.specs.DmaArena.Block.{Block}
+use Rattle.nic_device.specs.RegisterFile.Queue.{switched}
+use Rattle.nic_device.specs.RegisterFile.Registers.{is_wanted}
+use Rattle.nic_device.specs.DmaRing.declared.dir.Dir.TheVariants.{Rx, Tx}
+use Rattle.nic_device.specs.RegisterLaws.Sides.{TransmitQueue, transmit_queue_of}
+use Rattle.nic_device.proofs.RegisterLaws.Switches.{transmit-switched}
 use Rattle.nic_device.specs.Outcome.{Outcome, gives}
 use Rattle.nic_device.specs.Sound.{IsEvent, IsSound}
 use Rattle.nic_device.specs.State.{State}
@@ -19,8 +19,8 @@ use Rattle.nic_device.specs.declared.event.Event.{Event}
 use Rattle.nic_device.specs.declared.event.Event.TheVariants as event
 use Rattle.nic_device.specs.declared.event.Reply.TheVariants.{Done}
 use Rattle.nic_device.proofs.Cases.{either_way, switched_cases}
-use Rattle.device_laws.specs.Laws.{WritesNoSetting}
-use Rattle.device_laws.specs.Leaving.{LeavesBlock}
+use Rattle.history_laws.specs.DeviceLaws.Laws.{WritesNoSetting}
+use Rattle.history_laws.specs.DeviceLaws.Leaving.{LeavesBlock}
 use Rattle.pmd_tx.specs.Sending.{Layout, Sender, has_lent}
 use Rattle.transmit_laws.specs.Agreeing.{IsSetUp, AgreesAt, Agrees}
 use Rattle.transmit_laws.specs.Laws.{SparingEventsKeep}

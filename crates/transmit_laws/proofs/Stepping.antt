@@ -3,10 +3,10 @@ use Rattle.std.proofs.Common.{◌≡◌, ◌≢◌, ℕ, ◌+◌, ◌*◌, ◌%�
 use Rattle.std.specs.Prelude.{◌==◌}
 use Rattle.std.proofs.lemmas.Bool.{and_cases, eqb-false, lt-ltb, cases_lt, both_ways}
 use Rattle.std.proofs.Math.Nat.{mod-eq_of_lt}
-use Rattle.dma_arena.proofs.Bus.{small_of_lent}
-use Rattle.dma_ring.specs.Ring.{slots_of, is_outside}
-use Rattle.tx_ring.specs.Report.{head_address}
-use Rattle.register_laws.specs.Sides.{TransmitQueue, transmit_queue_of}
+use Rattle.nic_device.proofs.DmaArena.Bus.{small_of_lent}
+use Rattle.nic_device.specs.DmaRing.Ring.{slots_of, is_outside}
+use Rattle.nic_device.specs.TxRing.Report.{head_address}
+use Rattle.nic_device.specs.RegisterLaws.Sides.{TransmitQueue, transmit_queue_of}
 use Rattle.nic_device.specs.Receive.{is_empty}
 use Rattle.nic_device.specs.State.{State}
 use Rattle.nic_device.specs.Transmit.{sending_of}

@@ -4,15 +4,15 @@ use Rattle.std.specs.Prelude.{bit_and, bit_or}
 use Rattle.std.specs.Int.Bits.{and_zero_l}
 use Rattle.std.proofs.Math.Nat.{mod-eq_of_lt}
 use Rattle.std.proofs.lemmas.Nat.{and_mask, and_comm, or_mod, and_mod, or_shifted}
-use Rattle.reg_table.specs.declared.rows.RowId.TheVariants.{Tdt}
-use Rattle.register_file.specs.Bits.{merged}
-use Rattle.register_file.specs.Columns.{place}
-use Rattle.register_file.specs.Queue.{ring_of}
-use Rattle.register_file.specs.Registers.{Registers, word_of}
-use Rattle.register_file.specs.declared.dir.Dir.TheVariants.{Tx}
-use Rattle.register_laws.specs.Laws.{HasShape, after_write}
-use Rattle.register_laws.specs.Sides.{transmit_queue_of}
-use Rattle.register_laws.proofs.SideWords.{transmit-written}
+use Rattle.nic_device.specs.RegTable.declared.rows.RowId.TheVariants.{Tdt}
+use Rattle.nic_device.specs.RegisterFile.Bits.{merged}
+use Rattle.nic_device.specs.RegisterFile.Columns.{place}
+use Rattle.nic_device.specs.RegisterFile.Queue.{ring_of}
+use Rattle.nic_device.specs.RegisterFile.Registers.{Registers, word_of}
+use Rattle.nic_device.specs.DmaRing.declared.dir.Dir.TheVariants.{Tx}
+use Rattle.nic_device.specs.RegisterLaws.Laws.{HasShape, after_write}
+use Rattle.nic_device.specs.RegisterLaws.Sides.{transmit_queue_of}
+use Rattle.nic_device.proofs.RegisterLaws.SideWords.{transmit-written}
 
 merged-low : (old new : ℕ) → new < 65536 → merged 0xFFFF old new % 2 ^ 16 ≡ new
 merged-low old new small =

@@ -3,7 +3,7 @@ use Rattle.std.proofs.Common.{◌≡◌, ℕ, ◌==◌, Bool, true, false, List,
 use Rattle.std.specs.List.{flat_map}
 use Rattle.std.proofs.lemmas.Bool.{eqb-true}
 use Rattle.std.proofs.lemmas.List.{map-append}
-use Rattle.dma_arena.specs.Block.{Block}
+use Rattle.nic_device.specs.DmaArena.Block.{Block}
 use Rattle.nic_device.specs.Answering.{may_answer}
 use Rattle.nic_device.specs.Sound.{IsEvent, IsSound}
 use Rattle.nic_device.specs.State.{State}
@@ -15,8 +15,8 @@ use Rattle.nic_device.specs.declared.event.Reply.TheVariants.{Sent}
 use Rattle.nic_device.proofs.Answering.{step_suits}
 use Rattle.nic_device.proofs.Steps.{keeps_sound}
 use Rattle.device_lock.specs.declared.entry.Entry.{Entry}
-use Rattle.device_laws.specs.Replies.{out_sent}
-use Rattle.device_laws.proofs.RepliesOut.{frames_out}
+use Rattle.history_laws.specs.DeviceLaws.Replies.{out_sent}
+use Rattle.history_laws.proofs.DeviceLaws.RepliesOut.{frames_out}
 use Rattle.transmit_laws.specs.Counting.{lengths_told, SentIsTold}
 use Rattle.transmit_laws.specs.Sent.{frames_added, sent_by, sent_in}
 use Rattle.transmit_laws.proofs.Frames.{added-one, added-none}

@@ -1,12 +1,12 @@
 -- A transmit side that is on and wanted on stays so, where device and driver agree.
 use Rattle.std.proofs.Common.{ℕ, ◌<◌, inl, inr, List, sym, ap, ◌∙◌, subst}
 use Rattle.std.proofs.lemmas.Bool.{cases_Bool}
-use Rattle.dma_arena.specs.Block.{Block}
-use Rattle.register_file.specs.Queue.{switched}
-use Rattle.register_file.specs.Registers.{is_wanted}
-use Rattle.register_laws.specs.Sides.{TransmitQueue}
-use Rattle.register_file.specs.declared.dir.Dir.TheVariants.{Tx}
-use Rattle.register_laws.proofs.Switches.{transmit-switched}
+use Rattle.nic_device.specs.DmaArena.Block.{Block}
+use Rattle.nic_device.specs.RegisterFile.Queue.{switched}
+use Rattle.nic_device.specs.RegisterFile.Registers.{is_wanted}
+use Rattle.nic_device.specs.RegisterLaws.Sides.{TransmitQueue}
+use Rattle.nic_device.specs.DmaRing.declared.dir.Dir.TheVariants.{Tx}
+use Rattle.nic_device.proofs.RegisterLaws.Switches.{transmit-switched}
 use Rattle.nic_device.specs.Outcome.{Outcome}
 use Rattle.nic_device.specs.Sound.{IsSound}
 use Rattle.nic_device.specs.State.{State}
@@ -15,8 +15,8 @@ use Rattle.nic_device.specs.Switching.{emptied, side_switched}
 use Rattle.nic_device.specs.declared.event.Event.{Event}
 use Rattle.nic_device.specs.declared.event.Event.TheVariants as event
 use Rattle.nic_device.proofs.Cases.{either_way, switched_cases}
-use Rattle.device_laws.specs.Leaving.{LeavesTransmit}
-use Rattle.device_laws.proofs.Standing.{memory_rest}
+use Rattle.history_laws.specs.DeviceLaws.Leaving.{LeavesTransmit}
+use Rattle.history_laws.proofs.DeviceLaws.Standing.{memory_rest}
 use Rattle.pmd_tx.specs.Sending.{Sender, Move, Accepts, Asks, Advances, Looks, Reaps, Elsewhere}
 use Rattle.transmit_laws.specs.Agreeing.{AgreesAt}
 use Rattle.transmit_laws.specs.Sparing.{is_transmit_of, is_switch_of, Spares}

@@ -1,7 +1,7 @@
 -- A descriptor of the ring that is written: the others and the packets stay.
 use Rattle.std.proofs.Common.{◌≡◌, ◌≢◌, ℕ, ◌*◌, ◌<◌, true, List, length, ◌∙◌, arith}
-use Rattle.dma_arena.specs.Memory.{Memory, has_block, read_at, write_at, AreApart, IsWhole}
-use Rattle.dma_arena.proofs.Bus.{read_at-write_at_same, read_at-write_at_apart, SameLent-write_at}
+use Rattle.nic_device.specs.DmaArena.Memory.{Memory, has_block, read_at, write_at, AreApart, IsWhole}
+use Rattle.nic_device.proofs.DmaArena.Bus.{read_at-write_at_same, read_at-write_at_apart, SameLent-write_at}
 use Rattle.pmd_tx.specs.Sending.{Outgoing, Sender, descriptor_at}
 use Rattle.transmit_laws.specs.Agreeing.{IsLayout, IsReady}
 use Rattle.transmit_laws.proofs.Blocks.{slot-lent, slots-apart, packet-apart}

@@ -1,17 +1,17 @@
 -- What a device and a driver that sends on one of its queues agree on.
 use Rattle.std.specs.Prelude.{ℕ, ◌*◌, ◌≡◌, ◌≢◌, ◌<◌, ◌≤◌, true, IsTrue, List, [], ◌++◌, length, drop, map, None}
-use Rattle.dma_arena.specs.Memory.{Memory, has_block, read_at}
-use Rattle.reg_table.specs.declared.rows.RowId.TheVariants.{Tdt}
-use Rattle.register_file.specs.Columns.{place}
-use Rattle.register_file.specs.Settings.{frame_limit}
-use Rattle.register_laws.specs.Sides.{TransmitQueue, transmit_queue_of}
-use Rattle.tx_ring.specs.Report.{done_descriptor}
+use Rattle.nic_device.specs.DmaArena.Memory.{Memory, has_block, read_at}
+use Rattle.nic_device.specs.RegTable.declared.rows.RowId.TheVariants.{Tdt}
+use Rattle.nic_device.specs.RegisterFile.Columns.{place}
+use Rattle.nic_device.specs.RegisterFile.Settings.{frame_limit}
+use Rattle.nic_device.specs.RegisterLaws.Sides.{TransmitQueue, transmit_queue_of}
+use Rattle.nic_device.specs.TxRing.Report.{done_descriptor}
 use Rattle.nic_device.specs.Named.{named}
 use Rattle.nic_device.specs.Sound.{IsSound}
 use Rattle.nic_device.specs.State.{State}
 use Rattle.nic_device.specs.Transmit.{staged_by}
 use Rattle.nic_device.specs.declared.named.Named.TheVariants.{Register}
-use Rattle.pmd_base.specs.Packet.{Kept}
+use Rattle.pmd_tx.specs.PmdSeam.Packet.{Kept}
 use Rattle.pmd_tx.specs.Sending.{Layout, Outgoing, Sender, packet_at, slot_at, descriptor_at, asking}
 
 -- the bytes of packets

@@ -1,7 +1,7 @@
 -- A history that leaves the queue of a driver alone, turn by turn.
 use Rattle.std.specs.Prelude.{⊤, IsTrue, List, [], ◌∷◌, Option, Some, None}
-use Rattle.dma_arena.specs.Block.{Block}
-use Rattle.register_file.specs.Pools.{mode_in}
+use Rattle.nic_device.specs.DmaArena.Block.{Block}
+use Rattle.nic_device.specs.RegisterFile.Pools.{mode_in}
 use Rattle.nic_device.specs.Sound.{IsEvent}
 use Rattle.nic_device.specs.State.{State}
 use Rattle.nic_device.specs.Step.{after, reply_to}

@@ -1,7 +1,7 @@
 -- The replies to the driver's own moves: those of a healthy queue, wherever device and driver agree.
 use Rattle.std.specs.Prelude.{ℕ, IsTrue, IsFalse, List, ⊤}
-use Rattle.dma_arena.specs.Block.{Block}
-use Rattle.dma_arena.specs.Memory.{has_block}
+use Rattle.nic_device.specs.DmaArena.Block.{Block}
+use Rattle.nic_device.specs.DmaArena.Memory.{has_block}
 use Rattle.nic_device.specs.State.{State}
 use Rattle.nic_device.specs.Step.{reply_to}
 use Rattle.nic_device.specs.declared.event.Event.{Event}

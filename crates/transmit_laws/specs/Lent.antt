@@ -1,6 +1,6 @@
 -- Of an arena's blocks only those are lent that its driver has lent.
 use Rattle.std.specs.Prelude.{⊤}
-use Rattle.dma_arena.specs.Block.{Block}
+use Rattle.nic_device.specs.DmaArena.Block.{Block}
 use Rattle.device_lock.specs.Alone.{Blocks}
 use Rattle.nic_device.specs.State.{State}
 use Rattle.nic_device.specs.Step.{after, reply_to}

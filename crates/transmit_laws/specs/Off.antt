@@ -1,12 +1,12 @@
 -- A queue whose transmit side is off, and isn't wanted on.
 use Rattle.std.specs.Prelude.{ℕ, ◌≡◌, ◌<◌, IsFalse, ⊤, List, [], ◌∷◌}
-use Rattle.dma_arena.specs.Block.{Block}
-use Rattle.reg_table.specs.declared.rows.RowId.TheVariants.{Txdctl}
-use Rattle.register_file.specs.Bits.{has_bit}
-use Rattle.register_file.specs.Columns.{place}
-use Rattle.register_file.specs.Queue.{is_on}
-use Rattle.register_file.specs.Registers.{is_wanted}
-use Rattle.register_file.specs.declared.dir.Dir.TheVariants.{Tx}
+use Rattle.nic_device.specs.DmaArena.Block.{Block}
+use Rattle.nic_device.specs.RegTable.declared.rows.RowId.TheVariants.{Txdctl}
+use Rattle.nic_device.specs.RegisterFile.Bits.{has_bit}
+use Rattle.nic_device.specs.RegisterFile.Columns.{place}
+use Rattle.nic_device.specs.RegisterFile.Queue.{is_on}
+use Rattle.nic_device.specs.RegisterFile.Registers.{is_wanted}
+use Rattle.nic_device.specs.DmaRing.declared.dir.Dir.TheVariants.{Tx}
 use Rattle.nic_device.specs.Named.{named}
 use Rattle.nic_device.specs.Sound.{IsEvent, IsSound}
 use Rattle.nic_device.specs.State.{State}
@@ -18,7 +18,7 @@ use Rattle.nic_device.specs.declared.event.Reply.TheVariants as reply
 use Rattle.nic_device.specs.declared.named.Named.TheVariants.{Register}
 use Rattle.device_lock.specs.History.{leads_to}
 use Rattle.device_lock.specs.declared.entry.Entry.{Entry}
-use Rattle.device_laws.specs.Leaving.{LeavesTransmit}
+use Rattle.history_laws.specs.DeviceLaws.Leaving.{LeavesTransmit}
 use Rattle.transmit_laws.specs.Sent.{sent_in}
 use Rattle.transmit_laws.specs.Sparing.{is_transmit_of, is_switch_of}
 

@@ -1,6 +1,6 @@
 -- A history in which one pass is a driver that sends: each entry of the pass is a move of the driver's.
 use Rattle.std.specs.Prelude.{ℕ, ◌==◌, ⊤, List, [], ◌∷◌, map, Option, Some, None, if◌then◌else◌}
-use Rattle.dma_arena.specs.Block.{Block}
+use Rattle.nic_device.specs.DmaArena.Block.{Block}
 use Rattle.device_lock.specs.declared.entry.Entry.{Entry}
 use Rattle.device_lock.specs.History.{IsLegal}
 use Rattle.nic_device.specs.Sound.{IsEvent}

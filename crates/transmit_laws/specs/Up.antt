@@ -1,9 +1,9 @@
 -- A queue whose transmit side is on, and wanted on.
 use Rattle.std.specs.Prelude.{ℕ, IsTrue, List}
-use Rattle.dma_arena.specs.Block.{Block}
-use Rattle.register_file.specs.Queue.{is_on}
-use Rattle.register_file.specs.Registers.{is_wanted}
-use Rattle.register_file.specs.declared.dir.Dir.TheVariants.{Tx}
+use Rattle.nic_device.specs.DmaArena.Block.{Block}
+use Rattle.nic_device.specs.RegisterFile.Queue.{is_on}
+use Rattle.nic_device.specs.RegisterFile.Registers.{is_wanted}
+use Rattle.nic_device.specs.DmaRing.declared.dir.Dir.TheVariants.{Tx}
 use Rattle.nic_device.specs.State.{State}
 use Rattle.nic_device.specs.Step.{after}
 use Rattle.nic_device.specs.declared.event.Event.{Event}

@@ -1,2 +1,11 @@
-pub mod Sharing
 pub mod Arriving
+pub mod Coming
+pub mod Emptied
+pub mod Ending
+pub mod Gathering
+pub mod Keeping
+pub mod Returning
+pub mod Sharing
+pub mod Sitting
+pub mod Telling
+pub mod Ways

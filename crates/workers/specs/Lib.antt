@@ -1,2 +1,13 @@
+pub use Rattle.device_lock.specs as DeviceLock
+pub use Rattle.pmd.specs.PmdSeam
+pub mod Coming
+pub mod Ended
+pub mod Ends
 pub mod Feeding
+pub mod Kept
+pub mod Lived
 pub mod Overlap
+pub mod Refusing
+pub mod Seats
+pub mod Standing
+pub mod Told

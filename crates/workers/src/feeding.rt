@@ -6,8 +6,7 @@ ghost use Rattle.nic_device.specs.Answering.{may_arrive};
 ghost use Rattle.workers.specs.Feeding.{IsFed, HaveArrived, arrives, is_done, done_in, gained, without_frame, IsTurnedAway};
 
 use device_lock::{Call, CallFault, Pass, Shared};
-use dma_arena::Octets;
-use nic_device::{Event, Reply};
+use nic_device::{Event, Octets, Reply};
 use std::alloc::Global;
 use std::sync::Wait;
 

@@ -4,8 +4,7 @@ ghost use Rattle.std.specs.Prelude.{ℕ, ◌<◌, ◌↔◌, IsTrue, IfSome, IfN
 ghost use Rattle.workers.specs.Overlap.{Share, SharesEarlier, IsFirstToShare};
 
 use device_lock::Pass;
-use dma_arena::Arena;
-use nic_device::Port;
+use nic_device::{Arena, Port};
 
 /// What a worker is to do. It can't be dropped.
 pub struct Job {

@@ -1,13 +1,55 @@
-//! Workers of the driver, each on a thread of its own.
+//! Workers of the driver at a shared device, each on a thread of its own.
 //!
-//! `job.rt` has what a worker is to do, `reports.rt` the way of its reports to the calling thread, and `feeding.rt` the
-//! frames that arrive meanwhile.
+//! `run_workers` has the jobs done, with the calling thread to feed them and to collect what they tell; `run_worker` is
+//! the run of one of them, over any way to a device.
+//!
+//! Tasks on threads: a task sits in a `Seat`, and after `run` its end does; one whose thread doesn't begin in time gives
+//! up, so that nobody waits for it, and `Start` tells whether it began. A place to meet: `Gate` is what a worker asks of
+//! it, and `Lockstep` is the gate at which all members meet that haven't left.
+//!
+//! A worker: `job.rt` has what it is to do, `reports.rt` the way of its reports, `feeding.rt` the frames that arrive
+//! meanwhile; `turns.rt` takes one packet, tells of it and sends it again; `driving.rt` has a whole run and the points
+//! at which it meets the others. The team: `duty.rt` has what a worker takes to its thread and what comes back,
+//! `labour.rt` its task there, `room.rt` all room that is made before a thread starts, `host.rt` the calling thread's
+//! part, `ends.rt` how workers end, and `team.rt` a whole run.
 #![tactic(auto)]
 
+mod driving;
+mod duty;
+mod ends;
+mod fault;
 mod feeding;
+mod gate;
+mod host;
+mod hosted;
 mod job;
+mod labour;
+mod meeting;
 mod reports;
+mod room;
+mod seat;
+mod standing;
+mod start;
+mod team;
+mod turns;
 
+pub use device_lock::{
+    Call, CallFault, CloseFault, CloseRefused, Closed, Entry, NewFault, Pass, Shared, Watched,
+    left_alone,
+};
+pub use driving::{Order, run_worker};
+pub use ends::{Ran, RunFault, RunRefused, WorkerEnd};
+pub use fault::WorkerFault;
 pub use feeding::{Fed, feed};
+pub use gate::Gate;
+pub use hosted::run;
 pub use job::{Job, overlap};
+pub use meeting::{Lockstep, MAX_MEMBERS};
+pub use pmd::{
+    Direct, Finished, Home, Interleaved, Nic, POLLS, Packet, Pmd, PmdFault, Queue, Record, Rest,
+    Setup, StartRefused, StopRefused, ThroughLock, TxAnswer, TxFault, pf_setup,
+};
 pub use reports::{Collector, Report};
+pub use seat::{Seat, Task};
+pub use start::Start;
+pub use team::run_workers;

@@ -1,6 +1,6 @@
 use Rattle.std.proofs.Common.{Err, sym, ap, ◌∙◌, ◌≡◌}
 use Rattle.std.proofs.lemmas.Result.{err_from_is_err_and}
-use Rattle.lexer.specs.Lines.{line_of}
+use Rattle.text_format.specs.Lines.{line_of}
 use Rattle.bench.specs.declared.commands.CommandFault.TheVariants.{Syntax}
 use Rattle.bench.specs.Command.{commands_of, commands_then}
 use Rattle.bench.proofs.CommandLines.{commands_of-line, commands_of-none, then-none, then-refused}

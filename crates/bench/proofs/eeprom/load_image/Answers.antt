@@ -1,5 +1,5 @@
-use Rattle.eeprom_image.specs.File.{file_fault}
-use Rattle.eeprom_image.specs.Triples.{triples_of}
+use Rattle.nic_device.specs.EepromImage.File.{file_fault}
+use Rattle.nic_device.specs.EepromImage.Triples.{triples_of}
 use Rattle.bench.specs.Eeprom.{IsLoadAnswer, file_refused, triples_answer}
 use Rattle.bench.proofs.Giving.{begins-with-nothing, gives-right}
 use Rattle.bench.proofs.Images.{fault-of-file, triples-of-file}

@@ -1,6 +1,6 @@
 use Rattle.std.proofs.Common.{refl}
 use Rattle.std.proofs.lemmas.Result.{err_from_is_err_and}
-use Rattle.eeprom_image.specs.Text.{sound_content}
+use Rattle.nic_device.specs.EepromImage.Text.{sound_content}
 use Rattle.bench.specs.Eeprom.{IsImageAnswer, text_refused}
 use Rattle.bench.proofs.Giving.{begins-with-nothing, gives-right}
 use Rattle.bench.proofs.Images.{fault-meant, image-meant}

@@ -1,7 +1,7 @@
 use Rattle.std.proofs.Common.{◌≡◌, ℕ, List, ◌++◌}
 use Rattle.std.specs.Io.KnownBytes.{Appends}
 use Rattle.std.specs.List.{flat_map}
-use Rattle.eeprom_image.specs.Triples.{triples_of}
+use Rattle.nic_device.specs.EepromImage.Triples.{triples_of}
 use Rattle.bench.specs.Eeprom.{triple_line}
 use Rattle.bench.proofs.eeprom.write_triples.Given as goal
 

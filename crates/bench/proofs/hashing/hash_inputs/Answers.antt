@@ -1,6 +1,6 @@
 use Rattle.std.proofs.Common.{Err, sym, ap, ◌∙◌, ◌≡◌}
 use Rattle.std.proofs.lemmas.Result.{err_from_is_err_and}
-use Rattle.lexer.specs.Lines.{line_of}
+use Rattle.text_format.specs.Lines.{line_of}
 use Rattle.bench.specs.declared.hashing.HashFault.TheVariants.{Syntax}
 use Rattle.bench.specs.Hash.{hashed, inputs_of}
 use Rattle.bench.proofs.HashedLines.{hashed-nil, hashed-refused, inputs_of-line, inputs_of-none}

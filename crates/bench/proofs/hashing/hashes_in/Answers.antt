@@ -1,6 +1,6 @@
 use Rattle.std.proofs.Common.{sym, ◌∙◌}
 use Rattle.std.proofs.lemmas.Result.{IfOk-weaker}
-use Rattle.lexer.specs.Lines.{line_of, lines_of}
+use Rattle.text_format.specs.Lines.{line_of, lines_of}
 use Rattle.bench.proofs.HashedLines.{lines_answer-hashed, lines_answer-refused}
 use Rattle.bench.proofs.hashing.hashes_in.Goals as goal
 

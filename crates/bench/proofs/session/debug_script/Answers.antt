@@ -1,5 +1,5 @@
 use Rattle.std.proofs.Common.{ap, Ok}
-use Rattle.lexer.specs.Lines.{lines_of}
+use Rattle.text_format.specs.Lines.{lines_of}
 use Rattle.bench.proofs.Giving.{gives-same}
 use Rattle.bench.proofs.Sessions.{missing-end}
 use Rattle.bench.proofs.session.debug_script.Goals as goal

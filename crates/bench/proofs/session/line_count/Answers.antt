@@ -1,6 +1,6 @@
 use Rattle.std.proofs.Common.{◌∙◌, ap, length, arith}
-use Rattle.eeprom_image.proofs.LineCount.{length-lines_of-le}
-use Rattle.eeprom_image.proofs.Numbered.{IsNumberedFrom-lines_of}
+use Rattle.nic_device.proofs.EepromImage.LineCount.{length-lines_of-le}
+use Rattle.nic_device.proofs.EepromImage.Numbered.{IsNumberedFrom-lines_of}
 use Rattle.bench.proofs.session.line_count.Goals as goal
 
 pub loop-line-init : goal.loop-line-init

@@ -1,6 +1,6 @@
 use Rattle.std.proofs.Common.{◌≡◌, ◌+◌, length}
-use Rattle.eeprom_image.proofs.Numbered.{IsNumberedFrom}
-use Rattle.lexer.specs.Lines.{lines_of}
+use Rattle.nic_device.proofs.EepromImage.Numbered.{IsNumberedFrom}
+use Rattle.text_format.specs.Lines.{lines_of}
 use Rattle.bench.proofs.session.line_count.Given as goal
 
 abbrev pub invariant-loop-line : goal.invariant-loop-line

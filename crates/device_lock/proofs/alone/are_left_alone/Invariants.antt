@@ -1,5 +1,5 @@
 use Rattle.std.proofs.Common.{◌≡◌, false, drop}
-use Rattle.vf_map.specs.declared.mode.Mode.TheVariants.{Off}
+use Rattle.nic_device.specs.VfMap.declared.mode.Mode.TheVariants.{Off}
 use Rattle.device_lock.specs.Watching.{marked, rest_leaves_alone}
 use Rattle.device_lock.proofs.alone.are_left_alone.Given as goal
 

@@ -1,5 +1,5 @@
 use Rattle.std.proofs.Common.{refl, ◌≡◌, sym, subst, None, rules}
-use Rattle.lexer.specs.Name.{is_name}
+use Rattle.text_format.specs.Name.{is_name}
 use Rattle.eeprom_image.specs.Content.{SaysFirst}
 use Rattle.eeprom_image.proofs.PairLines.{SaysFirst-word, SaysFirst-csr}
 use Rattle.eeprom_image.proofs.draft.next_pair.Goals as goal

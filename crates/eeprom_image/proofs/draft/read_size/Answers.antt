@@ -1,5 +1,5 @@
 use Rattle.std.proofs.Common.{refl, inl, inr, ◌≡◌, ◌+◌, ◌∙◌, ap, sym, subst, length, Err, arith}
-use Rattle.lexer.specs.Lines.{lines_of, line_of}
+use Rattle.text_format.specs.Lines.{lines_of, line_of}
 use Rattle.eeprom_image.specs.Content.{sized}
 use Rattle.eeprom_image.specs.declared.line.TextLine.TheVariants.{Empty, Size, Word, Csr, Malformed}
 use Rattle.eeprom_image.specs.declared.line.TextLine.{TextLine}

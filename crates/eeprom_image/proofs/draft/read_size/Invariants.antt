@@ -1,5 +1,5 @@
 use Rattle.std.proofs.Common.{◌≡◌, length}
-use Rattle.lexer.specs.Lines.{lines_of}
+use Rattle.text_format.specs.Lines.{lines_of}
 use Rattle.eeprom_image.specs.Content.{sized}
 use Rattle.eeprom_image.proofs.CountedLines.{CountsOn}
 use Rattle.eeprom_image.proofs.draft.read_size.Given as goal

@@ -1,5 +1,5 @@
 use Rattle.std.proofs.Common.{◌≡◌, ◌<◌, ℕ, false}
-use Rattle.dma_arena.specs.Memory.{has_block}
+use Rattle.program.specs.DmaArena.Memory.{has_block}
 use Rattle.machine.specs.Board.{AreShared}
 use Rattle.machine.proofs.board.close.Given as goal
 

@@ -1,5 +1,5 @@
 use Rattle.std.proofs.Common.{◌∙◌, sym, ap}
-use Rattle.dma_arena.specs.Memory.{has_block}
+use Rattle.program.specs.DmaArena.Memory.{has_block}
 use Rattle.machine.proofs.Returning.{returned-shared, removed_same, removed_other}
 use Rattle.machine.proofs.board.take_back.Goals as goal
 

@@ -1,5 +1,5 @@
 use Rattle.std.proofs.Common.{true}
-use Rattle.dma_arena.specs.Numbers.{free_count}
+use Rattle.nic_device.specs.DmaArena.Numbers.{free_count}
 use Rattle.pmd.proofs.Late.{switching_late, filling_late}
 use Rattle.pmd.proofs.rings.go_on.Goals as goal
 

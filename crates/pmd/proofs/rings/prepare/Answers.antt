@@ -1,5 +1,5 @@
 use Rattle.std.proofs.Common.{ap, refl}
-use Rattle.dma_arena.specs.Block.{Block}
+use Rattle.nic_device.specs.DmaArena.Block.{Block}
 use Rattle.pmd_rx.proofs.Fresh.{back_home}
 use Rattle.pmd.proofs.rings.prepare.Goals as goal
 

@@ -1,10 +1,10 @@
 use Rattle.std.proofs.Common.{[], ◌∙◌, inl, inr, sym, ap, subst, arith}
-use Rattle.dma_arena.specs.Numbers.{Numbers}
-use Rattle.pmd_base.specs.Home.{AreOut}
-use Rattle.pmd_halt.specs.Halted.{Halted, with_receive_ring}
+use Rattle.nic_device.specs.DmaArena.Numbers.{Numbers}
+use Rattle.pmd_rx.specs.PmdSeam.Home.{AreOut}
+use Rattle.pmd.specs.Halted.{Halted, with_receive_ring}
 use Rattle.pmd_rx.specs.Keeping.{blocks_out}
 use Rattle.pmd_tx.specs.Leaving.{lent_of}
-use Rattle.register_file.specs.declared.dir.Dir.TheVariants.{Tx}
+use Rattle.nic_device.specs.DmaRing.declared.dir.Dir.TheVariants.{Tx}
 use Rattle.pmd.specs.Blocks.{KeepsEach, HasAll, IsWhole}
 use Rattle.pmd.specs.Driver.{Driver, handed_of, halted_of}
 use Rattle.pmd.specs.Running.{Running}

@@ -1,4 +1,4 @@
-use Rattle.lexer.specs.Lines.{lines_of}
+use Rattle.text_format.specs.Lines.{lines_of}
 use Rattle.script_asm.proofs.ReadyLines.{text-ready}
 use Rattle.script_asm.proofs.assembly.assemble.Goals as goal
 

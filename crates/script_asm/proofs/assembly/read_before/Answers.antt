@@ -1,6 +1,6 @@
 use Rattle.std.proofs.Common.{sym, ◌∙◌}
 use Rattle.std.proofs.lemmas.Result.{err_from_is_err_and}
-use Rattle.lexer.specs.Lines.{line_of}
+use Rattle.text_format.specs.Lines.{line_of}
 use Rattle.script_asm.proofs.Cuts.{before-added, before-ended, before-none, before-stopped, behind-next, end-next}
 use Rattle.script_asm.proofs.assembly.read_before.Goals as goal
 

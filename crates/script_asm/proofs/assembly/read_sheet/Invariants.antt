@@ -1,5 +1,5 @@
 use Rattle.std.proofs.Common.{◌≡◌}
-use Rattle.lexer.specs.Lines.{lines_of}
+use Rattle.text_format.specs.Lines.{lines_of}
 use Rattle.script_asm.specs.Outline.{blank}
 use Rattle.script_asm.specs.Script.{with_lines}
 use Rattle.script_asm.proofs.assembly.read_sheet.Given as goal

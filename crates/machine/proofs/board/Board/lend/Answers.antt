@@ -1,5 +1,5 @@
 use Rattle.std.proofs.Common.{◌≡◌, ◌∙◌, sym, ap}
-use Rattle.dma_arena.specs.Block.{Block}
+use Rattle.program.specs.DmaArena.Block.{Block}
 use Rattle.nic_device.specs.declared.Event.TheVariants as event
 use Rattle.machine.specs.Board.{after_lend}
 use Rattle.machine.proofs.Moves.{not_false, lent-none, lent-shared, after_lend-is, gave-back}

@@ -2,7 +2,7 @@ use Rattle.std.proofs.Common.{rules, ◌≡◌, ◌<◌, ap, ◌∙◌, sym, [],
 use Rattle.std.specs.Prelude.{Err}
 use Rattle.std.proofs.lemmas.List.{get_or_read_under}
 use Rattle.register_file.specs.Queue.{ring_of}
-use Rattle.register_file.specs.declared.dir.Dir.TheVariants.{Tx}
+use Rattle.rx_ring.specs.DmaRing.declared.dir.Dir.TheVariants.{Tx}
 use Rattle.register_laws.specs.Sides.{transmit_queue_of}
 use Rattle.nic_device.specs.State.{State}
 use Rattle.nic_device.specs.Transmit.{staged_by, sending_of, transmit_failed}

@@ -1,5 +1,5 @@
 use Rattle.std.proofs.Common.{subst}
-use Rattle.pmd_queue.specs.Named.{AtPort}
+use Rattle.pmd_rx.specs.PmdSeam.Named.{AtPort}
 use Rattle.pmd.specs.Started.{StopsStarting}
 use Rattle.pmd.proofs.Driving.{err_later}
 use Rattle.pmd.proofs.Leaving.{home_accepted, home_handed, stops_accepted}

@@ -1,7 +1,7 @@
 use Rattle.std.proofs.Common.{◌∙◌, ap}
-use Rattle.pmd_halt.specs.Halted.{Halted}
-use Rattle.pmd_halt.specs.Stopping.{Stops, StopFails}
-use Rattle.pmd_queue.specs.Named.{AtPort}
+use Rattle.pmd.specs.Halted.{Halted}
+use Rattle.pmd.specs.Stopping.{Stops, StopFails}
+use Rattle.pmd_rx.specs.PmdSeam.Named.{AtPort}
 use Rattle.pmd.specs.Driver.{Driver}
 use Rattle.pmd.specs.declared.driver.Rings.TheVariants.{Down}
 use Rattle.pmd.proofs.Driving.{stops_as}

@@ -1,5 +1,5 @@
 use Rattle.std.proofs.Common.{ℕ, [], IfErr, ap, refl, subst}
-use Rattle.dma_arena.specs.Numbers.{is_own}
+use Rattle.nic_device.specs.DmaArena.Numbers.{is_own}
 use Rattle.pmd_tx.specs.Sending.{Layout}
 use Rattle.pmd.specs.Apart.{FindsBy}
 use Rattle.pmd.specs.Blocks.{KeepsUp}

@@ -1,8 +1,8 @@
 use Rattle.std.proofs.Common.{◌≡◌, ℕ, true, false, [], ◌∷◌, ◌++◌, sym, subst, ◌∙◌}
-use Rattle.dma_arena.specs.Numbers.{Numbers}
+use Rattle.nic_device.specs.DmaArena.Numbers.{Numbers}
 use Rattle.pmd.specs.Blocks.{KeepsEach, KeepsUp}
 use Rattle.pmd.specs.Running.{Running, IsUp, goes_back, rings_out}
-use Rattle.pmd_halt.proofs.Blocks.{never_back}
+use Rattle.pmd.proofs.HaltedBlocks.{never_back}
 use Rattle.pmd.proofs.Blocks.{back_goes, released_up}
 use Rattle.pmd.proofs.Counted.{released_kept}
 use Rattle.pmd.proofs.running.Running.release.Goals as goal

@@ -1,5 +1,5 @@
 use Rattle.std.proofs.Common.{[], IfErr, refl, subst}
-use Rattle.dma_arena.specs.Numbers.{is_own}
+use Rattle.nic_device.specs.DmaArena.Numbers.{is_own}
 use Rattle.pmd_rx.specs.Keeping.{handed_block}
 use Rattle.pmd.specs.Apart.{FindsBy}
 use Rattle.pmd.specs.Blocks.{KeepsUp}

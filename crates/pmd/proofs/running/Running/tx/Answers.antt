@@ -1,5 +1,5 @@
 use Rattle.std.proofs.Common.{◌≡◌, ℕ, Bool, [], ◌∷◌, refl, sym, ap, ◌∙◌, subst}
-use Rattle.pmd_base.specs.declared.packet.Packet.{Packet}
+use Rattle.pmd_rx.specs.PmdSeam.declared.packet.Packet.{Packet}
 use Rattle.pmd_tx.specs.Sending.{Sender}
 use Rattle.pmd_rx.specs.Keeping.{block_in}
 use Rattle.pmd_tx.specs.Sends.{gate_of, returned, IsAnswer, IsShut}

@@ -1,7 +1,7 @@
 use Rattle.std.proofs.Common.{◌≡◌, ℕ, List, Option, ap, sym, subst, ◌∙◌}
-use Rattle.dma_arena.specs.Numbers.{Numbers}
-use Rattle.pmd_base.specs.Home.{AreOut, Homebound}
-use Rattle.pmd_base.specs.declared.packet.Packet.{Packet}
+use Rattle.nic_device.specs.DmaArena.Numbers.{Numbers}
+use Rattle.pmd_seam.specs.Home.{AreOut, Homebound}
+use Rattle.pmd_seam.specs.declared.packet.Packet.{Packet}
 use Rattle.pmd_rx.specs.Keeping.{lent_of, with_home}
 use Rattle.pmd_rx.specs.Receive.{Receive, held_by}
 use Rattle.pmd_rx.proofs.Closing.{held_out, closed_out, held_same, lent_is}

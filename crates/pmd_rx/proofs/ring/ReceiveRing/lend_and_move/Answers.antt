@@ -1,5 +1,5 @@
 use Rattle.std.proofs.Common.{[], refl, sym, subst}
-use Rattle.dma_arena.specs.Numbers.{Numbers}
+use Rattle.nic_device.specs.DmaArena.Numbers.{Numbers}
 use Rattle.pmd_rx.specs.Keeping.{Keeps, handed_block}
 use Rattle.pmd_rx.specs.Receive.{lent_one}
 use Rattle.pmd_rx.proofs.Failing.{faults_after, fails_all, fails_of, never_short}

@@ -1,5 +1,5 @@
 use Rattle.std.proofs.Common.{ℕ, [], Some, None, subst}
-use Rattle.pmd_base.specs.Accesses.{IsPeeked}
+use Rattle.pmd_seam.specs.Accesses.{IsPeeked}
 use Rattle.pmd_rx.specs.Receive.{looked}
 use Rattle.pmd_rx.proofs.Failing.{ok_same}
 use Rattle.pmd_rx.proofs.Keeping.{keeps_none, keeps_to, looked_keeps}

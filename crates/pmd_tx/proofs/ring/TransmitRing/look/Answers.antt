@@ -1,5 +1,5 @@
 use Rattle.std.proofs.Common.{◌≡◌, ℕ, Bool, false, Some, None, subst, ap, sym, ◌∙◌}
-use Rattle.pmd_base.specs.Accesses.{IsPeeked}
+use Rattle.pmd_seam.specs.Accesses.{IsPeeked}
 use Rattle.pmd_tx.specs.Sending.{is_sent}
 use Rattle.pmd_tx.proofs.Own.{look_plays, look_waits, look_misses, look_faults}
 use Rattle.pmd_tx.proofs.Playing.{plays_some}

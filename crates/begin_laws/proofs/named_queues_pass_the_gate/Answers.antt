@@ -1,5 +1,0 @@
-use Rattle.begin_laws.proofs.Gate.{named_queues_pass}
-use Rattle.begin_laws.proofs.named_queues_pass_the_gate.Goals as goal
-
-pub returns : goal.returns
-returns c = named_queues_pass

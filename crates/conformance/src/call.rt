@@ -1,0 +1,45 @@
+//! The call of a case: its name and the words behind it.
+
+use text_format::Words;
+
+/// A call as a table writes it. A word that is missing is empty, and one that is no number is 0.
+#[derive(Clone, Copy)]
+pub struct Call<'a> {
+    /// The name of what is called.
+    pub name: &'a str,
+    /// All that stands behind the name.
+    pub text: &'a str,
+}
+
+impl<'a> Call<'a> {
+    /// The call of what stands in front of a case's `=`.
+    pub fn of(text: &'a str) -> Call<'a> {
+        let (name, text) = text.split_once(" ").unwrap_or((text, ""));
+        Call { name, text }
+    }
+
+    /// The word of this number, counted from 0.
+    pub fn word(self, at: usize) -> &'a str {
+        Words::of(self.text).nth(at).unwrap_or("")
+    }
+
+    /// The word of this number, as a number.
+    pub fn number(self, at: usize) -> u32 {
+        text_format::number(self.word(at)).unwrap_or(0)
+    }
+
+    /// The word of this number, as a number of 16 bits.
+    pub fn half(self, at: usize) -> u16 {
+        (self.number(at) % 0x1_0000) as u16
+    }
+
+    /// The word of this number, as a number of 8 bits.
+    pub fn byte(self, at: usize) -> u8 {
+        (self.number(at) % 0x100) as u8
+    }
+
+    /// Two words, as the high and the low half of a number.
+    pub fn long(self, high: usize, low: usize) -> u64 {
+        u64::from(self.number(high)) * 0x1_0000_0000 + u64::from(self.number(low))
+    }
+}

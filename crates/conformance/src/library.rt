@@ -1,0 +1,70 @@
+//! Tables of what the public calls of the lower libraries answer, with values typed from the datasheet, from published
+//! examples and by hand.
+//!
+//! `data/libraries/NAME.cases` is the table of the library NAME. A case is a line `CALL WORDS = ANSWER`; the module of the
+//! library says which calls there are. Empty lines and lines that begin with `#` say nothing. Data costs no proof, so
+//! that a case which a call can show stands here and not in a test.
+
+use crate::call::Call;
+use std::alloc::{AllocError, Global};
+use std::{fs, io};
+
+/// The libraries, each with a table.
+const LIBRARIES: [&str; 8] = [
+    "text_format",
+    "reg_table",
+    "dma_ring",
+    "vf_map",
+    "rss_hash",
+    "intr_unit",
+    "eeprom_image",
+    "program",
+];
+
+/// What a call of a library answers.
+fn answer(alloc: Global, library: &str, call: Call<'_>) -> Result<String, AllocError> {
+    match library {
+        "text_format" => crate::texts::answer(alloc, call),
+        "reg_table" => crate::registers::answer(alloc, call),
+        "dma_ring" => crate::descriptors::answer(alloc, call),
+        "vf_map" => crate::pools::answer(alloc, call),
+        "rss_hash" => crate::hashing::answer(alloc, call),
+        "intr_unit" => crate::interrupts::answer(alloc, call),
+        "eeprom_image" => crate::images::answer(alloc, call),
+        "program" => crate::objects::answer(alloc, call),
+        _ => format!(in alloc; "no such library"),
+    }
+}
+
+/// Makes the call of a case, and prints the case where the answer is another.
+fn run_case(rt: &HostRuntime, library: &str, case: &str) -> io::Result<()> {
+    let (asked, wanted) = case.split_once(" = ").unwrap_or((case, ""));
+    let answered = answer(rt.alloc(), library, Call::of(asked))?;
+    if answered.as_str() == wanted {
+        return Ok(());
+    }
+    println!(rt; "FAIL {library}: {asked} = {answered}")
+}
+
+/// Runs the cases of a library's table, and prints how many there are.
+fn run_table(rt: &HostRuntime, library: &str) -> io::Result<()> {
+    let alloc = rt.alloc();
+    let path = format!(in alloc; "libraries/{library}.cases")?;
+    let text = fs::read_to_string(rt, path.as_str())?;
+    let mut count = 0u64;
+    for line in text.lines() {
+        if !line.is_empty() && !line.starts_with("#") {
+            run_case(rt, library, line)?;
+            count = count.saturating_add(1);
+        }
+    }
+    println!(rt; "{library}: {count} cases")
+}
+
+/// Runs the table of each library.
+pub fn run_libraries(rt: &HostRuntime) -> io::Result<()> {
+    for library in LIBRARIES {
+        run_table(rt, library)?;
+    }
+    Ok(())
+}

@@ -1,0 +1,61 @@
+//! `text_format`: lines, words, numbers, names and hex data.
+//!
+//! In a text `\n`, `\r` and `\t` stand for the end of a line, a carriage return and a tab. `lines` gives a bar, and
+//! for each line its number, what it says and a bar; `words` the words between bars.
+
+use crate::call::Call;
+use std::alloc::{AllocError, Global};
+use std::fmt::Write;
+use text_format::{Lines, NAME_LIMIT, Words, hex_bytes, is_name, number};
+
+/// What a call answers.
+pub fn answer(alloc: Global, call: Call<'_>) -> Result<String, AllocError> {
+    match call.name {
+        "lines" => lines_text(alloc, call.text),
+        "words" => words_text(alloc, call.text),
+        "number" => number_text(alloc, call.text),
+        "name" => format!(in alloc; "{}", is_name(call.text)),
+        "name_limit" => format!(in alloc; "{NAME_LIMIT}"),
+        "hex" => hex_text(alloc, call.text),
+        _ => format!(in alloc; "no such call"),
+    }
+}
+
+/// A text of a table with its line ends, carriage returns and tabs.
+pub fn plain(alloc: Global, text: &str) -> Result<String, AllocError> {
+    let text = text.replace(alloc, "\\n", "\n")?;
+    let text = text.replace(alloc, "\\r", "\r")?;
+    text.replace(alloc, "\\t", "\t")
+}
+
+fn lines_text(alloc: Global, text: &str) -> Result<String, AllocError> {
+    let text = plain(alloc, text)?;
+    let mut answer = format!(in alloc; "|")?;
+    for line in Lines::of(text.as_str()) {
+        write!(answer, "{} {:?}|", line.number, line.text)?;
+    }
+    Ok(answer)
+}
+
+fn words_text(alloc: Global, text: &str) -> Result<String, AllocError> {
+    let text = plain(alloc, text)?;
+    let mut answer = format!(in alloc; "|")?;
+    for word in Words::of(text.as_str()) {
+        write!(answer, "{word}|")?;
+    }
+    Ok(answer)
+}
+
+fn number_text(alloc: Global, text: &str) -> Result<String, AllocError> {
+    match number(text) {
+        Ok(number) => format!(in alloc; "{number}"),
+        Err(fault) => format!(in alloc; "{fault:?}"),
+    }
+}
+
+fn hex_text(alloc: Global, text: &str) -> Result<String, AllocError> {
+    match hex_bytes(alloc, text) {
+        Ok(bytes) => format!(in alloc; "{:?}", bytes.as_slice()),
+        Err(fault) => format!(in alloc; "{fault:?}"),
+    }
+}

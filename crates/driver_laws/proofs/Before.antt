@@ -1,0 +1,84 @@
+-- Entries ahead of the place where the device agrees with both halves.
+use Rattle.std.proofs.Common.{◌≡◌, ◌≢◌, ℕ, inl, inr, Bool, true, false, ◌||◌, ◌&&◌, ◌<◌, [], ◌∷◌, refl, sym, subst, nat_lt}
+use Rattle.std.specs.Prelude.{◌==◌}
+use Rattle.std.proofs.lemmas.Bool.{or_cases, or_left, or_right, and_from, eqb-false, eqb-true, eq-eqb, lt-ltb}
+use Rattle.nic_device.specs.DmaArena.Block.{Block}
+use Rattle.nic_device.specs.Sound.{IsEvent}
+use Rattle.nic_device.specs.State.{State}
+use Rattle.nic_device.specs.Step.{step_of, after, reply_to}
+use Rattle.nic_device.specs.declared.event.Event.{Event}
+use Rattle.nic_device.specs.declared.event.Event.TheVariants as event
+use Rattle.nic_device.specs.declared.event.Reply.{Reply}
+use Rattle.nic_device.specs.declared.event.Reply.TheVariants as reply
+use Rattle.nic_device.proofs.Cases.{lent_cases}
+use Rattle.device_lock.specs.Alone.{Blocks, lends, lent_by, lent_in}
+use Rattle.device_lock.specs.declared.entry.Entry.{Entry}
+use Rattle.receive_laws.specs.HistoryLaws.Lent.{OnlyLent, LendsNone, either, with_lent}
+use Rattle.receive_laws.proofs.HistoryLaws.Lent.{only_lent_stays}
+use Rattle.receive_laws.proofs.Short.{frames_stay_short}
+use Rattle.driver_laws.specs.Before.{FramesStayShortAlong, OnlyPassLent}
+
+pub frames_stay_short_along : FramesStayShortAlong
+frames_stay_short_along queue s [] h none = h
+frames_stay_short_along queue s (e ∷ es) h none =
+    frames_stay_short_along queue (after s e.event) es (frames_stay_short queue s e.event h none.0) none.1
+
+pub lends_is : (b : Block) (r : Reply Block) (n : ℕ) → lends (event.Lend b) r n ≡ true → b.number ≡ n
+lends_is b reply.Done n is = eqb-true b.number n is
+lends_is b r n is = cc
+
+module _ (own known : Blocks) (s : State) (only : OnlyLent own known s.memory) where
+  -- a block is lent, by whichever pass
+  lent_here : (b : Block)
+      → OnlyLent own (λ n. known n || lends (event.Lend b) (reply_to s (event.Lend b)) n)
+      (after s (event.Lend b)).memory
+  unfolding step_of
+  lent_here b =
+      lent_cases (λ o. OnlyLent own (with_lent known b.number) o.state.memory
+      → OnlyLent own (λ n. known n || lends (event.Lend b) o.reply n) o.state.memory) s b
+      (λ given n is has. or_left (known n) false (only n is has))
+      (λ given n is has. elim (or_cases (n == b.number) (known n) (given n is has)) [
+        | inl same ↦ or_right (known n) (b.number == n) (eq-eqb b.number n (sym (eqb-true n b.number same)))
+        | inr before ↦ or_left (known n) (b.number == n) before
+      ]) (only_lent_stays.lend own known s b only)
+
+  -- an event of the pass
+  abbrev Lent : Event Block → Reply Block → Blocks
+  Lent e r n = known n || (nat_lt n 65536 && lends e r n)
+
+  pass_lent : (e : Event Block) → IsEvent e → OnlyLent own (Lent e (reply_to s e)) (after s e).memory
+  pass_lent (event.Lend b) made n is has =
+      let r = reply_to s (event.Lend b) in
+      let now = nat_lt n 65536 && lends (event.Lend b) r n in
+      elim (or_cases (known n) (lends (event.Lend b) r n) (lent_here b n is has)) [
+        | inl before ↦ or_left (known n) now before
+        | inr lent ↦
+            let low = subst (λ (k : ℕ). k < 65536) (lends_is b r n lent) made.whole.small in
+            or_right (known n) now (and_from (nat_lt n 65536) (lends (event.Lend b) r n) (lt-ltb n 65536 low) lent)
+      ]
+  pass_lent e made n is has =
+      or_left (known n) (nat_lt n 65536 && lends e (reply_to s e) n)
+      (only_lent_stays.others own known s e tt only n is has)
+
+  entry_lent : (pass : ℕ) (e : Entry) → e.reply ≡ reply_to s e.event → IsEvent e.event
+      → (e.pass ≢ pass → LendsNone own e.event) → (b : Bool) → (e.pass == pass) ≡ b
+      → OnlyLent own (either known (lent_in pass e)) (after s e.event).memory
+  entry_lent pass e legal made none true mine n is has =
+      subst (λ (r : Reply Block). (known n || (nat_lt n 65536 && ((e.pass == pass) && lends e.event r n))) ≡ true)
+      (sym legal)
+      (subst (λ (b : Bool). (known n || (nat_lt n 65536 && (b && lends e.event (reply_to s e.event) n))) ≡ true)
+      (sym mine) (pass_lent e.event made n is has))
+  entry_lent pass e legal made none false other n is has =
+      or_left (known n) (lent_in pass e n)
+      (only_lent_stays.others own known s e.event (none (eqb-false e.pass pass other)) only n is has)
+
+joined : (a b c : Bool) → ((a || b) || c) ≡ true → (a || (b || c)) ≡ true
+joined true b c is = refl
+joined false b c is = is
+
+pub only_pass_lent : OnlyPassLent
+only_pass_lent pass own known s [] legal events none only n is has = or_left (known n) false (only n is has)
+only_pass_lent pass own known s (e ∷ es) legal events none only n is has =
+    joined (known n) (lent_in pass e n) (lent_by pass es n)
+    (only_pass_lent pass own (either known (lent_in pass e)) (after s e.event) es legal.1 events.1 none.1
+    (entry_lent own known s only pass e legal.0 events.0 none.0 (e.pass == pass) refl) n is has)

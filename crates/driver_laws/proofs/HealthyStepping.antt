@@ -1,0 +1,131 @@
+-- One call of a driver: its reply is healthy, and what that rests on holds behind it.
+use Rattle.std.proofs.Common.{◌≡◌, ℕ, inl, inr, true, false, List, refl, subst}
+use Rattle.std.proofs.lemmas.Bool.{or_cases, or_left, or_right}
+use Rattle.nic_device.specs.DmaArena.Block.{Block}
+use Rattle.nic_device.specs.DmaArena.Memory.{Memory}
+use Rattle.nic_device.specs.VfMap.declared.mode.Mode.{Mode}
+use Rattle.nic_device.specs.Sound.{IsEvent}
+use Rattle.nic_device.specs.State.{State}
+use Rattle.nic_device.specs.Step.{after, reply_to}
+use Rattle.nic_device.specs.declared.event.Event.{Event}
+use Rattle.nic_device.specs.declared.event.Event.TheVariants as event
+use Rattle.device_lock.specs.Alone.{Blocks, LeavesRegisters}
+use Rattle.device_lock.specs.Pass.{call_of}
+use Rattle.device_lock.specs.declared.alone.Watched.{Watched}
+use Rattle.receive_laws.specs.DeviceLaws.Laws.{WritesNoSetting}
+use Rattle.pmd.specs.PmdTx.Sending as sending
+use Rattle.pmd.specs.PmdTx.Sending.{Outgoing, Move, Accepts, Asks, Advances, Looks, Reaps, Elsewhere}
+use Rattle.receive_laws.specs.HistoryLaws.Lent.{OnlyLent, LendsNone, LendsOwn, either}
+use Rattle.pmd.specs.PmdRx.Keeping as received
+use Rattle.receive_laws.specs.Pieces.{Piece, AllEnd}
+use Rattle.receive_laws.proofs.Healthy as receive
+use Rattle.receive_laws.proofs.Lent as receive_lent
+use Rattle.transmit_laws.specs.Healthy.{AcceptsAnew}
+use Rattle.transmit_laws.specs.Lent.{SparesNumbers}
+use Rattle.transmit_laws.proofs.Advancing.{setting_kept}
+use Rattle.transmit_laws.proofs.Healthy as transmit
+use Rattle.transmit_laws.proofs.LeftSide.{left-setting}
+use Rattle.transmit_laws.proofs.Lent as transmit_lent
+use Rattle.pmd.specs.Apart.{LendsApart}
+use Rattle.pmd.specs.Halves.{Halves, Doer, Receives, Sends, OwnCall, after_call, is_neither}
+use Rattle.driver_laws.proofs.Meeting.{Meets}
+use Rattle.driver_laws.proofs.Receiving.{own_spares}
+use Rattle.driver_laws.proofs.Sending.{is_elsewhere, sender_lent}
+use Rattle.driver_laws.specs.Healthy.{IsHealthy, lent_by}
+
+-- what a half lends, by the kind of its call
+
+lends_received : (own : Blocks) (h : Halves) (e : Event Block) → LendsApart own h Receives e
+    → LendsOwn own (sending.has_lent h.transmit) e
+lends_received own h (event.Lend b) apart = apart
+lends_received own h e apart = tt
+
+lends_sent : (own : Blocks) (h : Halves) (p : Outgoing) (e : Event Block) → LendsApart own h (Sends (Accepts p)) e
+    → LendsOwn own (received.has_lent h.receive) e
+lends_sent own h p (event.Lend b) apart = apart
+lends_sent own h p e apart = tt
+
+lends_none : (own : Blocks) (h : Halves) (e : Event Block) → LendsApart own h (Sends Elsewhere) e → LendsNone own e
+lends_none own h (event.Lend b) apart = apart
+lends_none own h e apart = tt
+
+pub none_apart : (own : Blocks) (h : Halves) (e : Event Block) → LendsNone own e → LendsApart own h (Sends Elsewhere) e
+none_apart own h (event.Lend b) none = none
+none_apart own h e none = tt
+
+-- what either has lent, the other first
+swapped : (own xs ys : Blocks) (m : Memory) → OnlyLent own (either xs ys) m → OnlyLent own (either ys xs) m
+swapped own xs ys m only n is has = elim (or_cases (xs n) (ys n) (only n is has)) [
+  | inl first ↦ or_right (ys n) (xs n) first
+  | inr second ↦ or_left (ys n) (xs n) second
+]
+
+module _ (w : Watched) (mine own : Blocks) (mode : Mode) (s : State) (out : List Piece) (sent : List (List ℕ))
+    (h : Halves) (m : Meets w mine mode s out sent h) (known : OnlyLent own (lent_by h) s.memory) (e : Event Block)
+  where
+    abbrev rx : Blocks
+    rx = received.has_lent h.receive
+
+    abbrev tx : Blocks
+    tx = sending.has_lent h.transmit
+
+    other_first : OnlyLent own (either tx rx) s.memory
+    other_first = swapped own rx tx s.memory known
+
+    -- a move lends a block anew
+    anew : (move : Move) → sending.IsOwn h.transmit move e → LendsApart own h (Sends move) e → AcceptsAnew s move
+    anew (Accepts p) mine apart =
+        transmit_lent.own_lends_are_known.anew own rx s h.transmit (Accepts p) e other_first mine
+        (lends_sent own h p e apart)
+    anew Asks mine apart = tt
+    anew Advances mine apart = tt
+    anew Looks mine apart = tt
+    anew Reaps mine apart = tt
+    anew Elsewhere mine apart = tt
+
+    pub healthy_call : (d : Doer) → OwnCall h d (call_of e (reply_to s e)) → LendsApart own h d e → AllEnd out
+        → IsHealthy d (call_of e (reply_to s e))
+    healthy_call Receives mine apart ends =
+        receive.own_replies_are_healthy w.queue s out h.receive e m.both.receive ends mine
+        (receive_lent.own_lends_are_known.anew own tx s h.receive e known mine (lends_received own h e apart))
+    healthy_call (Sends move) mine apart ends =
+        transmit.own_replies_are_healthy s w.queue sent h.transmit move e m.both.transmit mine (anew move mine apart)
+
+    -- only blocks are lent that the halves have lent
+    move_known : (move : Move) → sending.IsOwn h.transmit move e → SparesNumbers own move e
+        → OnlyLent own (either rx (sending.has_lent (sending.moved h.transmit move (reply_to s e)))) (after s e).memory
+    move_known move mine spares =
+        swapped own (sending.has_lent (sending.moved h.transmit move (reply_to s e))) rx (after s e).memory
+        (transmit_lent.own_lends_are_known.kept own rx s h.transmit move e other_first mine spares)
+
+    pub known_after : (d : Doer) → OwnCall h d (call_of e (reply_to s e)) → LendsApart own h d e
+        → OnlyLent own (lent_by (after_call h d (call_of e (reply_to s e)))) (after s e).memory
+    known_after Receives mine apart = receive_lent.own_lends_are_known.kept own tx s h.receive e known mine
+    known_after (Sends (Accepts p)) mine apart = move_known (Accepts p) mine tt
+    known_after (Sends Asks) mine apart = move_known Asks mine tt
+    known_after (Sends Advances) mine apart = move_known Advances mine tt
+    known_after (Sends Looks) mine apart = move_known Looks mine tt
+    known_after (Sends Reaps) mine apart = move_known Reaps mine tt
+    known_after (Sends Elsewhere) mine apart = move_known Elsewhere mine (lends_none own h e apart)
+
+    -- and no setting is written
+    move_setting : (move : Move) (e : Event Block) → is_elsewhere move ≡ false → sending.IsOwn h.transmit move e
+        → WritesNoSetting s e
+    move_setting (Accepts p) (event.Lend b) real mine = tt
+    move_setting Asks (event.Poke16 a bytes) real mine = tt
+    move_setting Advances (event.Write port n word) real mine =
+        setting_kept s w.queue sent h.transmit m.both.transmit.0 m.both.transmit.1 port n word mine
+    move_setting Looks (event.Peek16 a) real mine = tt
+    move_setting Reaps (event.Take n) real mine = tt
+    move_setting Elsewhere e real mine = cc
+    move_setting move e real mine = absurd mine
+
+    pub no_setting : IsEvent e → (d : Doer) → OwnCall h d (call_of e (reply_to s e))
+        → (is_neither d ≡ true → LeavesRegisters w mode e) → WritesNoSetting s e
+    no_setting made Receives mine others =
+        let (gone, here, holds) = m.both.receive in
+        let blocks = sender_lent s w.queue sent h.transmit m.both.transmit.0 m.both.transmit.1 in
+        (own_spares w.queue s out h.receive gone here holds h.transmit blocks m.both.apart e made mine).setting
+    no_setting made (Sends Elsewhere) mine others =
+        left-setting w s m.vfs e (subst (λ k. LeavesRegisters w k e) m.mode_is (others refl))
+    no_setting made (Sends move) mine others = move_setting move e refl mine

@@ -1,0 +1,32 @@
+-- Entries ahead of the place where the device agrees with both halves, as those of a driver's start.
+use Rattle.std.specs.Prelude.{ℕ, ◌≢◌, List, [], ◌∷◌, ⊤}
+use Rattle.nic_device.specs.State.{State}
+use Rattle.nic_device.specs.Step.{after}
+use Rattle.receive_laws.specs.DeviceLaws.Laws.{WritesNoSetting}
+use Rattle.device_lock.specs.Alone.{Blocks, lent_by}
+use Rattle.device_lock.specs.History.{IsLegal, AreEvents, leads_to}
+use Rattle.device_lock.specs.declared.entry.Entry.{Entry}
+use Rattle.receive_laws.specs.HistoryLaws.Lent.{OnlyLent, LendsNone, either}
+use Rattle.receive_laws.specs.Short.{AreShort}
+
+-- each entry writes no setting
+abbrev pub NoneSets : State → List Entry → Type 0
+NoneSets s [] = ⊤
+NoneSets s (e ∷ es) = WritesNoSetting s e.event × NoneSets (after s e.event) es
+
+-- no other pass lends any of these numbers
+abbrev pub OnlyPassLends : ℕ → Blocks → List Entry → Type 0
+OnlyPassLends pass own [] = ⊤
+OnlyPassLends pass own (e ∷ es) = (e.pass ≢ pass → LendsNone own e.event) × OnlyPassLends pass own es
+
+-- over such entries the frames that wait for a queue stay as short as a buffer
+abbrev pub FramesStayShortAlong : Type 0
+FramesStayShortAlong =
+    (queue : ℕ) (s : State) (es : List Entry) → AreShort queue s → NoneSets s es → AreShort queue (leads_to s es)
+
+-- and of the numbers only those are lent that were before, and those that the pass lent
+abbrev pub OnlyPassLent : Type 0
+OnlyPassLent =
+    (pass : ℕ) (own known : Blocks) (s : State) (es : List Entry) → IsLegal s es → AreEvents es →
+    OnlyPassLends pass own es → OnlyLent own known s.memory →
+    OnlyLent own (either known (lent_by pass es)) (leads_to s es).memory

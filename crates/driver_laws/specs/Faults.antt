@@ -1,0 +1,27 @@
+-- A driver's call that ends with the device at fault.
+use Rattle.std.specs.Prelude.{ℕ, ◌≡◌, List, [], ◌∷◌, ◌++◌}
+use Rattle.device_lock.specs.Alone.{Blocks}
+use Rattle.device_lock.specs.History.{calls_of}
+use Rattle.device_lock.specs.declared.alone.Watched.{Watched}
+use Rattle.device_lock.specs.declared.entry.Call.{Call}
+use Rattle.device_lock.specs.declared.entry.Entry.{Entry}
+use Rattle.pmd.specs.Apart.{AllLendApart, FindsFault}
+use Rattle.pmd.specs.Halves.{Halves, Doer, AllOwn, doers_other, played_by}
+use Rattle.driver_laws.specs.Healthy.{IsUnshared}
+
+-- whose the calls are that such a call makes: some of the halves, then some of neither, and last the one that got a
+-- reply of no healthy queue
+abbrev pub doers_of : (own : Blocks) (old : List Call) (h : Halves) (new : List Call) → FindsFault own old h new
+    → List Doer
+doers_of own old h new f = f.drives.drives.0 ++ (doers_other f.adds.0 ++ f.doer ∷ [])
+
+-- no history that drives the halves, and shares the numbers with no other, has such a call behind calls that lend as
+-- the driver's do
+abbrev pub NoFault : Type 0
+NoFault =
+    (w : Watched) (fifo : ℕ) (start rest more : List Entry) (h : Halves) (doers : List Doer) (own : Blocks)
+    (old new : List Call) (f : FindsFault own old (played_by h doers (calls_of w.pass rest)) new) →
+    AllOwn h doers (calls_of w.pass rest) → AllLendApart own h doers (calls_of w.pass rest) →
+    new ≡ old ++ calls_of w.pass more →
+    ¬ IsUnshared w fifo start (rest ++ more) h
+    (doers ++ doers_of own old (played_by h doers (calls_of w.pass rest)) new f) own

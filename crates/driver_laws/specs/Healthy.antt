@@ -1,0 +1,48 @@
+-- The replies to a driver's calls, over a history that leaves its queue alone: those of a healthy queue.
+use Rattle.std.specs.Prelude.{ℕ, IsTrue, List, [], ◌∷◌, ⊤}
+use Rattle.nic_device.specs.State.{new_state}
+use Rattle.device_lock.specs.Alone.{Blocks}
+use Rattle.device_lock.specs.History.{calls_of, leads_to}
+use Rattle.device_lock.specs.declared.alone.Watched.{Watched}
+use Rattle.device_lock.specs.declared.entry.Call.{Call}
+use Rattle.device_lock.specs.declared.entry.Entry.{Entry}
+use Rattle.pmd.specs.PmdRx.Keeping as received
+use Rattle.pmd.specs.PmdTx.Sending as sending
+use Rattle.receive_laws.specs.HistoryLaws.Lent.{OnlyLent, either}
+use Rattle.receive_laws.specs.Short.{AreShort}
+use Rattle.pmd.specs.Apart.{AllLendApart, is_healthy}
+use Rattle.pmd.specs.Halves.{Halves, Doer}
+use Rattle.driver_laws.specs.Histories.{IsDriven}
+use Rattle.driver_laws.specs.Before.{OnlyPassLends}
+
+-- the reply to a call is one that a healthy queue gives
+abbrev pub IsHealthy : Doer → Call → Type 0
+IsHealthy d n = IsTrue (is_healthy d n)
+
+-- so it is with each of these calls
+abbrev pub AreHealthy : List Doer → List Call → Type 0
+AreHealthy [] calls = ⊤
+AreHealthy (d ∷ doers) [] = ⊤
+AreHealthy (d ∷ doers) (n ∷ calls) = IsHealthy d n × AreHealthy doers calls
+
+-- the blocks that either half has lent
+abbrev pub lent_by : Halves → Blocks
+lent_by h = either (received.has_lent h.receive) (sending.has_lent h.transmit)
+
+-- a history that drives the halves, and shares these numbers with no other: no other pass lends a block of them. As its
+-- first entries end, the frames that wait for the queue fit a buffer, and of the numbers only those are lent that the
+-- halves have lent
+pub record IsUnshared (w : Watched) (fifo : ℕ) (start rest : List Entry) (h : Halves) (doers : List Doer)
+    (own : Blocks) : Type 0 where
+  pub driven : IsDriven w fifo start rest h doers
+  pub short : AreShort w.queue (leads_to (new_state w.vfs fifo) start)
+  pub known : OnlyLent own (lent_by h) (leads_to (new_state w.vfs fifo) start).memory
+  pub others : OnlyPassLends w.pass own rest
+
+-- where the halves lend blocks of these numbers alone, and each none that the other has lent, as the clause `drives` of
+-- a driver's calls says, each call of either half gets such a reply
+abbrev pub OwnRepliesAreHealthy : Type 0
+OwnRepliesAreHealthy =
+    (w : Watched) (fifo : ℕ) (start rest : List Entry) (h : Halves) (doers : List Doer) (own : Blocks) →
+    IsUnshared w fifo start rest h doers own → AllLendApart own h doers (calls_of w.pass rest) →
+    AreHealthy doers (calls_of w.pass rest)

@@ -1,5 +1,0 @@
-use Rattle.healthy_laws.proofs.Before.{frames_stay_short_along, only_pass_lent}
-use Rattle.healthy_laws.proofs.entries_before_lead_there.Goals as goal
-
-pub returns : goal.returns
-returns c = record { short = frames_stay_short_along; lent = only_pass_lent }

@@ -1,5 +1,0 @@
-use Rattle.healthy_laws.proofs.Faults.{no_fault}
-use Rattle.healthy_laws.proofs.no_call_finds_the_device_at_fault.Goals as goal
-
-pub returns : goal.returns
-returns c = no_fault

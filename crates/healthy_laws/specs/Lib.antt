@@ -1,3 +1,0 @@
-pub mod Before
-pub mod Faults
-pub mod Healthy

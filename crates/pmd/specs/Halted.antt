@@ -1,0 +1,69 @@
+-- A driver that isn't running: its blocks are on their way home.
+use Rattle.std.specs.Prelude.{ℕ, ◌+◌, ◌<◌, ◌&&◌, ◌||◌, nat_lt, not, Bool, List, [], ◌++◌, length, Option}
+use Rattle.nic_device.specs.DmaArena.Numbers.{Numbers, is_own, is_free}
+use Rattle.nic_device.specs.DmaArena.Whereabouts.{times_in_hand}
+use Rattle.pmd_rx.specs.PmdSeam.Home.{AreOut, Homebound}
+use Rattle.pmd_rx.specs.PmdSeam.Packet.{Kept}
+use Rattle.pmd_rx.specs.PmdSeam.declared.packet.Packet.{Packet}
+use Rattle.pmd_rx.specs.Keeping as receive
+use Rattle.pmd_rx.specs.Receive.{Receive, held_by}
+use Rattle.pmd_tx.specs.Leaving as transmit
+use Rattle.pmd_tx.specs.Sending.{Sender}
+
+-- the driver's arena; the packet that its receive ring took and didn't hand out; its other blocks, on their way home;
+-- and what it handed out and accepted
+pub record Halted : Type 0 where
+  pub arena : Numbers
+  pub held : Option Packet
+  pub way : Homebound
+  pub handed : List Kept
+  pub accepted : List Kept
+
+-- all blocks that the driver has out of its arena
+abbrev pub all_out : Halted → List ℕ
+all_out h = h.way.lent ++ receive.block_in h.held
+
+-- each block is in one place, and the lost ones can be counted
+pub record IsHalted (h : Halted) : Type 0 where
+  pub home : AreOut h.arena (all_out h)
+  pub few : h.way.lost + length h.way.lent < 4294967296
+
+-- whether the driver has the block of this number out
+abbrev pub is_out : Halted → ℕ → Bool
+is_out h n = nat_lt 0 (times_in_hand (all_out h) n)
+
+-- whether a packet's block can go back: its number is one of the arena's, isn't free there, and isn't out
+abbrev pub goes_back : Halted → ℕ → Bool
+goes_back h n = is_own h.arena n && not (is_free h.arena n) && not (is_out h n)
+
+-- whether a number is free in the arena, or one of those that are out
+abbrev pub is_free_or_out : Numbers → List ℕ → ℕ → Bool
+is_free_or_out a out n = is_free a n || nat_lt 0 (times_in_hand out n)
+
+-- two ways as one: the blocks of the first, then those of the second
+abbrev pub both_ways : Homebound → Homebound → Homebound
+both_ways a b = record { lent = a.lent ++ b.lent; lost = a.lost + b.lost }
+
+-- none of these is lost yet
+abbrev pub way_of : List ℕ → Homebound
+way_of lent = record { lent = lent; lost = 0 }
+
+-- a driver of two rings of one queue
+abbrev pub with_rings : Numbers → Receive → Sender → Halted
+with_rings a v w = record {
+  arena = a;
+  held = held_by v.stage;
+  way = both_ways (way_of (receive.lent_of v)) (way_of (transmit.lent_of w));
+  handed = v.handed;
+  accepted = w.accepted;
+}
+
+-- a driver that had no transmit ring yet
+abbrev pub with_receive_ring : Numbers → Receive → Halted
+with_receive_ring a v = record {
+  arena = a;
+  held = held_by v.stage;
+  way = both_ways (way_of (receive.lent_of v)) (way_of []);
+  handed = v.handed;
+  accepted = [];
+}

@@ -1,0 +1,25 @@
+//! What a driver leaves.
+
+use crate::halted::Halted;
+use nic_device::Arena;
+use pmd_rx::{PmdFault, Record};
+
+/// What a driver leaves that has stopped. It can't be dropped, as its arena can't.
+pub struct Home {
+    /// The arena of its blocks.
+    pub arena: Arena,
+    /// How many blocks the device had no longer as they were to be taken back.
+    pub lost: u32,
+    /// The packets that it handed out, the oldest first.
+    pub handed: Vec<Record>,
+    /// What it accepted, the oldest first.
+    pub accepted: Vec<Record>,
+}
+
+/// A stop that failed: why, and the driver where it was left. It may be tried again.
+pub struct StopFailed {
+    /// Why it failed.
+    pub fault: PmdFault,
+    /// The driver.
+    pub halted: Halted,
+}

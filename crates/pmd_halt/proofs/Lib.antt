@@ -1,4 +1,0 @@
-pub mod Blocks
-pub mod Both
-pub mod Bringing
-pub mod Few

@@ -1,4 +1,0 @@
-pub mod Ends
-pub mod Halted
-pub mod Leaving
-pub mod Stopping

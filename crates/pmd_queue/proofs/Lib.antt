@@ -1,3 +1,0 @@
-pub mod Polling
-pub mod Sequences
-pub mod Words

@@ -1,9 +1,0 @@
-use Rattle.std.proofs.Common.{◌≡◌, map, take}
-use Rattle.pmd_queue.specs.Made.{AreMade}
-use Rattle.pmd_queue.specs.Sides.{set_of}
-use Rattle.pmd_queue.proofs.names.Queue.set_all.Given as goal
-
-abbrev pub invariant-loop-word : goal.invariant-loop-word
-invariant-loop-word g l =
-    (g.N.Nic.who l.nic ≡ g.N.Nic.who l.fn.nic)
-    × AreMade l.self (g.N.Nic.made l.fn.nic) (g.N.Nic.made l.nic) (map set_of (take l.word-index l.words))

@@ -1,4 +1,0 @@
-pub mod Named
-pub mod Made
-pub mod Sides
-pub mod Both

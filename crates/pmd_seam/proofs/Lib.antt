@@ -1,0 +1,13 @@
+pub mod Amid
+pub mod Bringing
+pub mod Exchanging
+pub mod LockStepping
+pub mod Making
+pub mod Outside
+pub mod Places
+pub mod Polling
+pub mod QueueSequences
+pub mod Sequences
+pub mod Stepping
+pub mod Steps
+pub mod Words

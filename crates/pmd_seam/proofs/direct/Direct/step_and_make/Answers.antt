@@ -1,0 +1,13 @@
+use Rattle.pmd_seam.specs.Made.{steps_of_queue}
+use Rattle.pmd_seam.proofs.Stepping.{queue_steps, reply_adds, refused_amid}
+use Rattle.pmd_seam.proofs.direct.Direct.step_and_make.Goals as goal
+
+pub returns-in-Ok-clause-adds : goal.returns-in-Ok-clause-adds
+returns-in-Ok-clause-adds c =
+    reply_adds (steps_of_queue c.args.self.now.queue) c.args.event c.make_last.result c.args.self.now c.step_on.new.self
+    c.make_last.new.self (queue_steps c.args.self.now.queue) c.in-Ok.ensures.made c.make_last.ensures.adds
+
+pub returns-in-Ok-clause-amid : goal.returns-in-Ok-clause-amid
+returns-in-Ok-clause-amid c =
+    refused_amid c.make_last.result c.args.self.now c.step_on.new.self c.make_last.new.self c.in-Ok.ensures.made
+    c.make_last.ensures.unchanged

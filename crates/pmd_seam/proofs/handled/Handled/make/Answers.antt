@@ -1,0 +1,20 @@
+use Rattle.std.proofs.Common.{sym, ap}
+use Rattle.nic_device.specs.DmaArena.Block.{Block}
+use Rattle.nic_device.specs.declared.event.Reply.{Reply}
+use Rattle.device_lock.specs.Pass.{call_of}
+use Rattle.pmd_seam.specs.Scheduled.{Handled}
+use Rattle.pmd_seam.proofs.Making.{made_more}
+use Rattle.pmd_seam.proofs.handled.Handled.make.Goals as goal
+
+pub returns-in-Ok-clause-own : goal.returns-in-Ok-clause-own
+returns-in-Ok-clause-own c =
+    let was : Handled = record {
+      device = c.self.inside.device;
+      calls = c.self.inside.calls.items;
+      own = c.self.inside.own.items;
+      foreign = c.self.inside.foreign.items;
+    } in
+    made_more was c.args.self.now c.make_noted.new.calls.items c.push_reserved.new.self.items
+    c.reserve.new.self.items _ _ c.self.invariant c.self.view_is c.in-Ok.ensures.calls
+    (ap (λ (y : Reply Block). call_of c.args.event y) (sym c.in-Ok.ensures.reply)) c.reserve.ensures.items
+    c.push_reserved.ensures.items

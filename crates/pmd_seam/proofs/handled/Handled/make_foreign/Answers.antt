@@ -1,0 +1,15 @@
+use Rattle.pmd_seam.specs.Scheduled.{Handled}
+use Rattle.pmd_seam.proofs.Making.{made_still}
+use Rattle.pmd_seam.proofs.handled.Handled.make_foreign.Goals as goal
+
+pub returns-clause-none : goal.returns-clause-none
+returns-clause-none c =
+    let was : Handled = record {
+      device = c.self.inside.device;
+      calls = c.self.inside.calls.items;
+      own = c.self.inside.own.items;
+      foreign = c.self.inside.foreign.items;
+    } in
+    made_still was c.args.self.now c.make_noted.new.calls.items c.push_reserved-2.new.self.items
+    c.reserve-else-is_err.new.self.items _ c.self.invariant c.self.view_is c.in_ok-reply.ensures.calls
+    c.reserve-else-is_err.ensures.items c.push_reserved-2.ensures.items

@@ -1,0 +1,16 @@
+use Rattle.std.proofs.Common.{List, subst, ◌∙◌}
+use Rattle.nic_device.specs.DmaArena.Block.{Block}
+use Rattle.nic_device.specs.declared.event.Event.{Event}
+use Rattle.pmd_seam.specs.Scheduled.{IsMadeTo}
+use Rattle.pmd_seam.proofs.Making.{one_more}
+use Rattle.pmd_seam.proofs.handled.Handled.make_list.Goals as goal
+
+pub loop-event-preserved : goal.loop-event-preserved
+loop-event-preserved c = (
+  one_more c.args.self.now c.loop-event.self c.make_foreign.new.self c.args.list.now.items c.pop_front.new.self.items
+      c.in-Some.event
+      (subst (λ (es : List (Event Block)). IsMadeTo c.args.self.now c.args.list.now.items c.loop-event.self es)
+      c.in-Some.ensures.items c.loop-event.invariant.0)
+      c.in_default-make_foreign.ensures.made,
+  c.in_default-make_foreign.ensures.none ∙ c.loop-event.invariant.1,
+)

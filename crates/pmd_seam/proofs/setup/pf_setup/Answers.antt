@@ -1,0 +1,98 @@
+use Rattle.std.proofs.Common.{List, [], ◌∷◌, ◌∙◌, subst}
+use Rattle.nic_device.specs.RegTable.declared.rows.RowId.TheVariants.{Mrqc, Rssrk, Reta}
+use Rattle.pmd_seam.specs.Setup.{AreSet, StopsSetting, pool_settings, opening, setting, packed}
+use Rattle.pmd_seam.specs.declared.setup.Setting.{Setting}
+use Rattle.pmd_seam.proofs.Amid.{on_err, in_first, in_second, in_third, in_fourth, in_fifth, all_five, opening_known}
+use Rattle.pmd_seam.proofs.setup.pf_setup.Goals as goal
+
+pub returns-in_err-set_all-clause-failed : goal.returns-in_err-set_all-clause-failed
+returns-in_err-set_all-clause-failed g c =
+    let s = c.args.setup.now in
+    let old = g.N.Nic.made c.args.nic.now in
+    let new = g.N.Nic.made c.set_all.new.nic in
+    on_err _
+    (in_first old (pool_settings s.mode) (setting Mrqc 0 s.mrqc ∷ []) (packed Rssrk s.key 10) (packed Reta s.reta 32)
+    (opening s.promiscuous) new
+    (subst (λ (l : List Setting). StopsSetting old new l) c.pool_settings.ensures c.in_err-set_all.ensures.failed))
+
+pub returns-in_err-set_all-2-clause-failed : goal.returns-in_err-set_all-2-clause-failed
+returns-in_err-set_all-2-clause-failed g c =
+    let s = c.args.setup.now in
+    let old = g.N.Nic.made c.args.nic.now in
+    let i = g.N.Nic.made c.set_all.new.nic in
+    let new = g.N.Nic.made c.set_all-2.new.nic in
+    on_err _
+    (in_second old (pool_settings s.mode) (setting Mrqc 0 s.mrqc ∷ []) (packed Rssrk s.key 10) (packed Reta s.reta 32)
+    (opening s.promiscuous) i new
+    (subst (λ (l : List Setting). AreSet old i l) c.pool_settings.ensures c.in_ok-set_all.ensures.set)
+    (subst (λ (x : Setting). StopsSetting i new (x ∷ [])) c.setting_of.ensures c.in_err-set_all-2.ensures.failed))
+
+pub returns-in_err-set_packed-clause-failed : goal.returns-in_err-set_packed-clause-failed
+returns-in_err-set_packed-clause-failed g c =
+    let s = c.args.setup.now in
+    let old = g.N.Nic.made c.args.nic.now in
+    let i = g.N.Nic.made c.set_all.new.nic in
+    let j = g.N.Nic.made c.set_all-2.new.nic in
+    on_err _
+    (in_third old (pool_settings s.mode) (setting Mrqc 0 s.mrqc ∷ []) (packed Rssrk s.key 10) (packed Reta s.reta 32)
+    (opening s.promiscuous) i j (g.N.Nic.made c.set_packed.new.nic)
+    (subst (λ (l : List Setting). AreSet old i l) c.pool_settings.ensures c.in_ok-set_all.ensures.set)
+    (subst (λ (x : Setting). AreSet i j (x ∷ [])) c.setting_of.ensures c.in_ok-set_all-2.ensures.set)
+    c.in_err-set_packed.ensures.failed)
+
+pub returns-in_err-set_packed-2-clause-failed : goal.returns-in_err-set_packed-2-clause-failed
+returns-in_err-set_packed-2-clause-failed g c =
+    let s = c.args.setup.now in
+    let old = g.N.Nic.made c.args.nic.now in
+    let i = g.N.Nic.made c.set_all.new.nic in
+    let j = g.N.Nic.made c.set_all-2.new.nic in
+    on_err _
+    (in_fourth old (pool_settings s.mode) (setting Mrqc 0 s.mrqc ∷ []) (packed Rssrk s.key 10) (packed Reta s.reta 32)
+    (opening s.promiscuous) i j (g.N.Nic.made c.set_packed.new.nic) (g.N.Nic.made c.set_packed-2.new.nic)
+    (subst (λ (l : List Setting). AreSet old i l) c.pool_settings.ensures c.in_ok-set_all.ensures.set)
+    (subst (λ (x : Setting). AreSet i j (x ∷ [])) c.setting_of.ensures c.in_ok-set_all-2.ensures.set)
+    c.in_ok-set_packed.ensures.set c.in_err-set_packed-2.ensures.failed)
+
+pub set_all-requires-3 : goal.set_all-requires-3
+set_all-requires-3 g c = rw c.opening.ensures (opening_known c.args.setup.now.promiscuous)
+
+pub returns-in_err-set_all-3-clause-who : goal.returns-in_err-set_all-3-clause-who
+returns-in_err-set_all-3-clause-who g c =
+    c.set_all-3.ensures.who ∙ c.set_packed-2.ensures.who ∙ c.set_packed.ensures.who ∙ c.set_all-2.ensures.who
+    ∙ c.set_all.ensures.who
+
+pub returns-in_err-set_all-3-clause-failed : goal.returns-in_err-set_all-3-clause-failed
+returns-in_err-set_all-3-clause-failed g c =
+    let s = c.args.setup.now in
+    let old = g.N.Nic.made c.args.nic.now in
+    let i = g.N.Nic.made c.set_all.new.nic in
+    let j = g.N.Nic.made c.set_all-2.new.nic in
+    let l = g.N.Nic.made c.set_packed-2.new.nic in
+    let new = g.N.Nic.made c.set_all-3.new.nic in
+    on_err _
+    (in_fifth old (pool_settings s.mode) (setting Mrqc 0 s.mrqc ∷ []) (packed Rssrk s.key 10) (packed Reta s.reta 32)
+    (opening s.promiscuous) i j (g.N.Nic.made c.set_packed.new.nic) l new
+    (subst (λ (x : List Setting). AreSet old i x) c.pool_settings.ensures c.in_ok-set_all.ensures.set)
+    (subst (λ (x : Setting). AreSet i j (x ∷ [])) c.setting_of.ensures c.in_ok-set_all-2.ensures.set)
+    c.in_ok-set_packed.ensures.set c.in_ok-set_packed-2.ensures.set
+    (subst (λ (x : List Setting). StopsSetting l new x) c.opening.ensures c.in_err-set_all-3.ensures.failed))
+
+pub returns-clause-set : goal.returns-clause-set
+returns-clause-set g c =
+    let s = c.args.setup.now in
+    let old = g.N.Nic.made c.args.nic.now in
+    let i = g.N.Nic.made c.set_all.new.nic in
+    let j = g.N.Nic.made c.set_all-2.new.nic in
+    let l = g.N.Nic.made c.set_packed-2.new.nic in
+    let new = g.N.Nic.made c.set_all-3.new.nic in
+    all_five old (pool_settings s.mode) (setting Mrqc 0 s.mrqc ∷ []) (packed Rssrk s.key 10) (packed Reta s.reta 32)
+    (opening s.promiscuous) i j (g.N.Nic.made c.set_packed.new.nic) l new
+    (subst (λ (x : List Setting). AreSet old i x) c.pool_settings.ensures c.in_ok-set_all.ensures.set)
+    (subst (λ (x : Setting). AreSet i j (x ∷ [])) c.setting_of.ensures c.in_ok-set_all-2.ensures.set)
+    c.in_ok-set_packed.ensures.set c.in_ok-set_packed-2.ensures.set
+    (subst (λ (x : List Setting). AreSet l new x) c.opening.ensures c.in_ok-set_all-3.ensures.set)
+
+pub returns-clause-who : goal.returns-clause-who
+returns-clause-who g c =
+    c.set_all-3.ensures.who ∙ c.set_packed-2.ensures.who ∙ c.set_packed.ensures.who ∙ c.set_all-2.ensures.who
+    ∙ c.set_all.ensures.who

@@ -1,0 +1,8 @@
+use Rattle.std.proofs.Common.{◌≡◌, take}
+use Rattle.pmd_seam.specs.Setup.{AreSet}
+use Rattle.pmd_seam.proofs.setup.set_all.Given as goal
+
+abbrev pub invariant-loop-setting : goal.invariant-loop-setting
+invariant-loop-setting g l =
+    (g.N.Nic.who l.nic ≡ g.N.Nic.who l.fn.nic)
+    × AreSet (g.N.Nic.made l.fn.nic) (g.N.Nic.made l.nic) (take l.setting-index l.settings)

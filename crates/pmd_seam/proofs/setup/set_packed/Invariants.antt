@@ -1,0 +1,8 @@
+use Rattle.std.proofs.Common.{◌≡◌}
+use Rattle.pmd_seam.specs.Setup.{AreSet, packed}
+use Rattle.pmd_seam.proofs.setup.set_packed.Given as goal
+
+abbrev pub invariant-loop-index : goal.invariant-loop-index
+invariant-loop-index g l =
+    (g.N.Nic.who l.nic ≡ g.N.Nic.who l.fn.nic)
+    × AreSet (g.N.Nic.made l.fn.nic) (g.N.Nic.made l.nic) (packed l.row l.bytes l.index)

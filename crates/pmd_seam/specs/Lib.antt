@@ -1,0 +1,15 @@
+pub use Rattle.device_lock.specs as DeviceLock
+pub mod Accesses
+pub mod Both
+pub mod Events
+pub mod Fresh
+pub mod Home
+pub mod Made
+pub mod Named
+pub mod Packet
+pub mod QueueMade
+pub mod Scheduled
+pub mod Setup
+pub mod Sides
+pub mod Slots
+pub mod Stepped

@@ -1,0 +1,62 @@
+-- What a call through a way to a device adds to what was made.
+use Rattle.std.specs.Prelude.{◌≡◌, ℕ, Bool, IsTrue, ⊤, List, [], ◌∷◌, ◌++◌, take}
+use Rattle.nic_device.specs.DmaArena.Block.{Block}
+use Rattle.nic_device.specs.State.{State}
+use Rattle.nic_device.specs.Step.{step_of}
+use Rattle.nic_device.specs.declared.event.Event.{Event}
+use Rattle.nic_device.specs.declared.event.Event.TheVariants as event
+use Rattle.nic_device.specs.declared.event.Reply.{Reply}
+use Rattle.nic_device.specs.DmaRing.declared.dir.Dir.TheVariants as dir
+use Rattle.device_lock.specs.declared.entry.Call.{Call}
+use Rattle.device_lock.specs.Pass.{call_of}
+use Rattle.pmd_seam.specs.Events.{is_step}
+
+-- each of these calls is a step of the device
+abbrev pub AreSteps : List Call → Type 0
+AreSteps [] = ⊤
+AreSteps (c ∷ calls) = IsTrue (is_step c.event) × AreSteps calls
+
+-- some steps of the device were made, and then this call
+abbrev pub Adds : List Call → List Call → Event Block → Reply Block → Type 0
+Adds old new event reply =
+    (before : List Call) × (new ≡ old ++ (before ++ call_of event reply ∷ [])) × AreSteps before
+
+-- some steps of the device were made
+abbrev pub AddsSome : List Call → List Call → Type 0
+AddsSome old new = (before : List Call) × (new ≡ old ++ before) × AreSteps before
+
+-- of calls that are marked in turn, those whose mark is of another than the driver are steps of the device, and so are
+-- those behind the last mark
+abbrev pub StepsWhere : {D : Type 0} → (D → Bool) → List D → List Call → Type 0
+StepsWhere other [] calls = AreSteps calls
+StepsWhere other (d ∷ marks) [] = ⊤
+StepsWhere other (d ∷ marks) (c ∷ calls) =
+    (IsTrue (other d) → IsTrue (is_step c.event)) × StepsWhere other marks calls
+
+-- a device in hand: the queue that it is stepped on, and the calls that were made
+pub record InHand : Type 0 where
+  pub device : State
+  pub queue : ℕ
+  pub calls : List Call
+
+-- after one event
+abbrev pub after_event : InHand → Event Block → InHand
+after_event h e = record h {
+  device = (step_of h.device e).state;
+  calls = h.calls ++ call_of e (step_of h.device e).reply ∷ [];
+}
+
+-- after a list of events
+abbrev pub after_events : InHand → List (Event Block) → InHand
+after_events h [] = h
+after_events h (e ∷ es) = after_events (after_event h e) es
+
+-- the device steps that are made before each call: both sides of the queue are switched, then it sends, then it
+-- receives
+abbrev pub steps_of_queue : ℕ → List (Event Block)
+steps_of_queue queue =
+    event.QueueStep dir.Rx queue ∷ event.QueueStep dir.Tx queue ∷ event.TxStep queue ∷ event.RxStep ∷ []
+
+-- so many of these steps were made, and no more
+abbrev pub StopsAmid : InHand → InHand → Type 0
+StopsAmid old new = (made : ℕ) × (new ≡ after_events old (take made (steps_of_queue old.queue)))

@@ -1,0 +1,49 @@
+-- A pass to a shared device, whose queue is stepped on before each call.
+use Rattle.std.specs.Prelude.{◌≡◌, ℕ, List, [], ◌∷◌, ◌++◌, map, take}
+use Rattle.nic_device.specs.DmaArena.Block.{Block}
+use Rattle.nic_device.specs.declared.event.Event.{Event}
+use Rattle.nic_device.specs.declared.event.Reply.{Reply}
+use Rattle.device_lock.specs.declared.entry.Call.{Call}
+use Rattle.device_lock.specs.declared.fault.CallFault.{CallFault}
+use Rattle.device_lock.specs.declared.fault.CallFault.TheVariants.{ForeignPass, HistoryFull, OutOfMemory}
+use Rattle.device_lock.specs.Pass.{PassValue, call_of}
+use Rattle.pmd_seam.specs.Made.{steps_of_queue}
+
+-- a pass, the number of the shared device's bench, and the queue that is stepped on
+pub record AtLock : Type 0 where
+  pub bench : ℕ
+  pub queue : ℕ
+  pub pass : PassValue
+
+-- whose calls they are: the number of a bench, and a tag
+abbrev pub caller_of : AtLock → ℕ × ℕ
+caller_of t = (t.pass.bench, t.pass.tag)
+
+-- the same pass with these calls more
+abbrev pub with_calls : AtLock → List Call → AtLock
+with_calls t calls = record t { pass = record t.pass { calls = t.pass.calls ++ calls } }
+
+-- the events of calls, in their order
+abbrev pub events_in : List Call → List (Event Block)
+events_in calls = map (λ (c : Call). c.event) calls
+
+-- the pass made these events, whatever the replies
+abbrev pub AreStepped : AtLock → AtLock → List (Event Block) → Type 0
+AreStepped old new events =
+    (steps : List Call) × (events_in steps ≡ events) × (new ≡ with_calls old steps)
+
+-- so many of the device steps of the queue were made, and nothing else
+abbrev pub StopsStepping : AtLock → AtLock → Type 0
+StopsStepping old new = (count : ℕ) × AreStepped old new (take count (steps_of_queue old.queue))
+
+-- the device steps of the queue were made, and then this event
+abbrev pub StepsAndMakes : AtLock → AtLock → Event Block → Reply Block → Type 0
+StepsAndMakes old new event reply =
+    (steps : List Call) × (events_in steps ≡ steps_of_queue old.queue)
+    × (new ≡ with_calls old (steps ++ call_of event reply ∷ []))
+
+-- the same refusal, of this event
+abbrev pub fault_with : CallFault (Unit {0}) → Event Block → CallFault (Event Block)
+fault_with (ForeignPass nothing) event = ForeignPass event
+fault_with (HistoryFull nothing) event = HistoryFull event
+fault_with (OutOfMemory nothing) event = OutOfMemory event

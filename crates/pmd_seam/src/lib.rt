@@ -1,0 +1,42 @@
+//! The driver's seam to the device.
+//!
+//! `Nic` is a way to the device: a call makes some foreign events and then its own. There are three: `Direct` is a
+//! device in hand, which it steps on before each call; `ThroughLock` makes each event of a shared device under its
+//! lock, by a pass; `Interleaved` makes lists of foreign events that it was given beforehand. Contracts see what a way
+//! made as the list of its calls.
+//!
+//! On it stand the accesses that a driver makes, each with the replies that it can have (`accesses.rt`), the set-up of
+//! the whole device (`pf_setup`), a queue with the numbers of its registers at a port, its sides made ready and
+//! switched (`Queue`), the slots of a ring (`slots.rt`) and the way of blocks home (`Homeward`).
+#![tactic(auto)]
+
+mod accesses;
+mod both;
+mod direct;
+mod fault;
+mod handled;
+mod home;
+mod interleaved;
+mod names;
+mod nic;
+mod noted;
+mod packet;
+mod setup;
+mod sides;
+mod slots;
+mod through_lock;
+
+pub use accesses::{lend, peek, poke, read, take, write};
+pub use device_lock::CallFault;
+pub use direct::Direct;
+pub use fault::PmdFault;
+pub use home::{Homeward, give_back};
+pub use interleaved::{Finished, Interleaved};
+pub use names::Queue;
+pub use nic::Nic;
+pub use noted::{let_reply_go, make_noted};
+pub use packet::{Packet, Record, fresh_packet, give_packet};
+pub use setup::{Setting, Setup, pf_setup, set};
+pub use sides::POLLS;
+pub use slots::{descriptor_address, next_slot, slot_after};
+pub use through_lock::ThroughLock;

@@ -1,0 +1,27 @@
+ghost use Rattle.std.specs.Prelude.{◌≡◌, ℕ, List, true, IfOk, IfErr};
+ghost use Rattle.device_lock.specs.Fault.{event_of};
+ghost use Rattle.device_lock.specs.declared.entry.Call.{Call};
+ghost use Rattle.nic_device.specs.Answering.{may_answer};
+ghost use Rattle.pmd_seam.specs.Made.{Adds, AddsSome};
+
+use device_lock::CallFault;
+use nic_device::{Event, Reply};
+use std::alloc::Global;
+
+/// A way to a device. A call makes some steps of the device, and then this event; others may make events of their own
+/// between them, which aren't calls of this way.
+pub trait Nic {
+    /// The calls that were made through it, with the replies, the oldest first.
+    ghost made: { Self → List Call };
+
+    /// Whose calls they are: the number of a bench, and a tag.
+    ghost who: { Self → ℕ × ℕ };
+
+    /// Makes one event, after some steps of the device. A refused event comes back, and isn't made; some of the steps
+    /// may be.
+    fn call(&mut self, alloc: Global, event: Event) -> Result<Reply, CallFault>
+        ensures made { IfOk result (λ reply. Adds (made self.old) (made self.new) event reply) }
+        ensures who { who self.new ≡ who self.old }
+        ensures fits { IfOk result (λ reply. may_answer event reply ≡ true) }
+        ensures refused { IfErr result (λ fault. (event_of fault ≡ event) × AddsSome (made self.old) (made self.new)) };
+}

@@ -1,0 +1,192 @@
+ghost use Rattle.std.specs.Prelude.{◌≡◌, ◌≢◌, [], ◌∷◌, true, Err, IfOk, IfErr, OnOk, OnErr};
+ghost use Rattle.device_lock.specs.Fault.{event_of};
+ghost use Rattle.device_lock.specs.Pass.{call_of};
+ghost use Rattle.nic_device.specs.Answering.{may_answer};
+ghost use Rattle.pmd_seam.specs.Events.{is_step, same_fault};
+ghost use Rattle.pmd_seam.specs.Made.{Adds, AddsSome, steps_of_queue};
+ghost use Rattle.pmd_seam.specs.Stepped.{StepsAndMakes, StopsStepping, AreStepped, with_calls, fault_with, caller_of};
+
+use crate::nic::Nic;
+use crate::noted::let_reply_go;
+use device_lock::{Call, CallFault, Pass, Shared};
+use nic_device::{Dir, Event, Reply};
+use std::alloc::Global;
+use std::marker::Model;
+use std::sync::Wait;
+
+/// A pass to a shared device, which makes each event under the device's lock. Before each call the device is stepped
+/// on: both sides of a queue are switched, the queue sends, and the device receives.
+pub struct ThroughLock<'a, R: Wait, const VFS: u8, const FIFO: u16> {
+    rt: &'a R,
+    shared: &'a Shared<VFS, FIFO>,
+    pass: Pass,
+    queue: u16,
+}
+
+impl<'a, R: Wait, const VFS: u8, const FIFO: u16> Model for ThroughLock<'a, R, VFS, FIFO> {
+    ghost use Rattle.pmd_seam.specs.Stepped.{AtLock};
+
+    ghost Value = { AtLock };
+
+    ghost view = { λ t. record { bench = t.shared.now.bench; queue = t.queue; pass = t.pass } };
+}
+
+impl<'a, R: Wait, const VFS: u8, const FIFO: u16> ThroughLock<'a, R, VFS, FIFO> {
+    /// A way to the shared device by this pass, which steps on the queue of this number before each call.
+    pub fn new(rt: &'a R, shared: &'a Shared<VFS, FIFO>, pass: Pass, queue: u16) -> Self
+        ensures { result ≡ record { bench = shared.now.bench; queue = queue; pass = pass } }
+    {
+        ThroughLock {
+            rt,
+            shared,
+            pass,
+            queue,
+        }
+    }
+
+    /// The calls that the pass made, with their replies, the oldest first.
+    pub fn calls(&self) -> &[Call]
+        ensures { result.now ≡ self.now.pass.calls }
+    {
+        self.pass.calls()
+    }
+
+    /// The pass, with the calls that it made.
+    pub fn finish(self) -> Pass
+        ensures { result ≡ self.entry.pass }
+    {
+        let ThroughLock {
+            rt: _,
+            shared: _,
+            pass,
+            queue: _,
+        } = self;
+        pass
+    }
+
+    /// Makes one event. It waits for the lock.
+    fn make(&mut self, alloc: Global, event: Event) -> Result<Reply, CallFault>
+        ensures made { IfOk result (λ reply. self.new ≡ with_calls self.old (call_of event reply ∷ [])) }
+        ensures fits { IfOk result (λ reply. may_answer event reply ≡ true) }
+        ensures foreign { self.old.pass.bench ≢ self.old.bench → result ≡ Err (CallFault.ForeignPass event) }
+        ensures back { IfErr result (λ fault. event_of fault ≡ event) }
+        ensures unchanged { OnErr result (self.new ≡ self.old) }
+    {
+        self.shared.call(self.rt, alloc, &mut self.pass, event)
+    }
+}
+
+impl<'a, R: Wait, const VFS: u8, const FIFO: u16> ThroughLock<'a, R, VFS, FIFO> {
+    /// Makes one device step. Its reply is in the pass.
+    fn make_step(&mut self, alloc: Global, step: Event) -> Result<(), CallFault<()>>
+        requires { is_step step ≡ true }
+        ensures made { OnOk result (AreStepped self.old self.new (step ∷ [])) }
+        ensures foreign { self.old.pass.bench ≢ self.old.bench → result ≡ Err (CallFault.ForeignPass tt) }
+        ensures unchanged { OnErr result (self.new ≡ self.old) }
+    {
+        match self.make(alloc, step) {
+            Ok(reply) => {
+                let_reply_go(reply);
+                Ok(())
+            }
+            Err(fault) => Err(without_step(fault)),
+        }
+    }
+
+    /// The device steps that are made before each call.
+    fn step_on(&mut self, alloc: Global) -> Result<(), CallFault<()>>
+        ensures made { OnOk result (AreStepped self.old self.new (steps_of_queue self.old.queue)) }
+        ensures foreign { self.old.pass.bench ≢ self.old.bench
+            → (result ≡ Err (CallFault.ForeignPass tt)) × (self.new ≡ self.old) }
+        ensures amid { OnErr result (StopsStepping self.old self.new) }
+    {
+        let queue = self.queue;
+        self.make_step(alloc, Event::QueueStep(Dir::Rx, queue))?;
+        self.make_step(alloc, Event::QueueStep(Dir::Tx, queue))?;
+        self.make_step(alloc, Event::TxStep(queue))?;
+        self.make_step(alloc, Event::RxStep)?;
+        Ok(())
+    }
+
+    /// Makes the device steps, and then the event, each under the lock. `Nic::call` does the same.
+    ///
+    /// `ForeignPass` where the pass is of another bench: nothing is made. Else what `Shared::call` refuses one of them
+    /// for: the steps so far are made, and the event isn't.
+    pub fn step_and_make(&mut self, alloc: Global, event: Event) -> Result<Reply, CallFault>
+        ensures exact { IfOk result (λ reply. StepsAndMakes self.old self.new event reply) }
+        ensures fits { IfOk result (λ reply. may_answer event reply ≡ true) }
+        ensures foreign { self.old.pass.bench ≢ self.old.bench
+            → (result ≡ Err (CallFault.ForeignPass event)) × (self.new ≡ self.old) }
+        ensures back { IfErr result (λ fault. event_of fault ≡ event) }
+        ensures amid { OnErr result (StopsStepping self.old self.new) }
+    {
+        match self.step_on(alloc) {
+            Ok(()) => self.make(alloc, event),
+            Err(fault) => Err(with_event(fault, event)),
+        }
+    }
+}
+
+impl<'a, R: Wait, const VFS: u8, const FIFO: u16> Nic for ThroughLock<'a, R, VFS, FIFO> {
+    ghost made = { λ t. t.pass.calls };
+
+    ghost who = { caller_of };
+
+    fn call(&mut self, alloc: Global, event: Event) -> Result<Reply, CallFault>
+        ensures made { IfOk result (λ reply. Adds self.old.pass.calls self.new.pass.calls event reply) }
+        ensures who { caller_of self.new ≡ caller_of self.old }
+        ensures fits { IfOk result (λ reply. may_answer event reply ≡ true) }
+        ensures refused { IfErr result (λ fault.
+            (event_of fault ≡ event) × AddsSome self.old.pass.calls self.new.pass.calls) }
+        ensures steps { IfOk result (λ reply. StepsAndMakes self.old self.new event reply) }
+        ensures amid { OnErr result (StopsStepping self.old self.new) }
+    {
+        self.step_and_make(alloc, event)
+    }
+}
+
+/// The refusal of a device step, without the step.
+fn without_step(fault: CallFault) -> CallFault<()>
+    requires { is_step (event_of fault) ≡ true }
+    ensures { result ≡ same_fault fault }
+{
+    match fault {
+        CallFault::ForeignPass(step) => {
+            let_step_go(step);
+            CallFault::ForeignPass(())
+        }
+        CallFault::HistoryFull(step) => {
+            let_step_go(step);
+            CallFault::HistoryFull(())
+        }
+        CallFault::OutOfMemory(step) => {
+            let_step_go(step);
+            CallFault::OutOfMemory(())
+        }
+    }
+}
+
+/// The same refusal, of this event.
+fn with_event(fault: CallFault<()>, event: Event) -> CallFault
+    ensures { result ≡ fault_with fault event }
+{
+    match fault {
+        CallFault::ForeignPass(()) => CallFault::ForeignPass(event),
+        CallFault::HistoryFull(()) => CallFault::HistoryFull(event),
+        CallFault::OutOfMemory(()) => CallFault::OutOfMemory(event),
+    }
+}
+
+/// Lets a device step go.
+fn let_step_go(step: Event)
+    requires { is_step step ≡ true }
+{
+    match step {
+        Event::RxStep
+        | Event::TxStep(_)
+        | Event::IntStep(_)
+        | Event::QueueStep(_, _)
+        | Event::EepromStep => {}
+        _ => unreachable!(),
+    }
+}

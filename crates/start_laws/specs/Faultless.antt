@@ -1,0 +1,58 @@
+-- A start on a queue whose sides are off finds no device at fault, over a history that leaves the queue alone.
+use Rattle.std.specs.Prelude.{ℕ, ◌≡◌, true, IsFalse, List, [], ◌∷◌, ◌++◌}
+use Rattle.nic_device.specs.DmaArena.Memory.{has_block}
+use Rattle.nic_device.specs.DmaArena.Numbers.{Numbers, is_free}
+use Rattle.nic_device.specs.DmaRing.declared.dir.Dir.TheVariants.{Tx}
+use Rattle.nic_device.specs.State.{State}
+use Rattle.device_lock.specs.declared.alone.Watched.{Watched}
+use Rattle.device_lock.specs.declared.entry.Call.{Call}
+use Rattle.device_lock.specs.declared.entry.Entry.{Entry}
+use Rattle.pmd.specs.PmdSeam.Events.{is_step}
+use Rattle.pmd.specs.PmdSeam.declared.fault.PmdFault.TheVariants.{DeviceFault}
+use Rattle.pmd.specs.PmdSeam.Made.{AreSteps}
+use Rattle.pmd.specs.PmdSeam.Both.{SwitchFails}
+use Rattle.pmd.specs.PmdSeam.Named.{AtPort}
+use Rattle.pmd.specs.PmdRx.Receive.{Receive}
+use Rattle.pmd.specs.PmdTx.Sending.{Sender}
+use Rattle.pmd.specs.Starting.{IsReceiveReady, IsTransmitReady, PreparingFails, ReceiveFails}
+use Rattle.start_laws.specs.Along.{AtCalls, BeforeLast, IsAlong}
+use Rattle.start_laws.specs.Quieting.{IsQuiet}
+
+-- the history has no point where the pass has made just these calls
+abbrev pub Never : Watched → ℕ → List Entry → List Call → Type 0
+Never w fifo h calls = AtCalls w fifo h calls (λ s. ⊥)
+
+-- it holds just before the pass's first call behind these that is no step of the device
+abbrev pub BeforeNext : Watched → ℕ → List Entry → List Call → (State → Type 0) → Type 0
+BeforeNext w fifo h old P =
+    (before : List Call) (c : Call) → AreSteps before → IsFalse (is_step c.event) →
+    BeforeLast w fifo h (old ++ (before ++ c ∷ [])) P
+
+-- just before the last of these calls none of the arena's free blocks is lent
+abbrev pub NoneIsLent : Watched → ℕ → List Entry → List Call → Numbers → Type 0
+NoneIsLent w fifo h calls a =
+    (number : ℕ) → is_free a number ≡ true → BeforeLast w fifo h calls (λ s. IsFalse (has_block s.memory number))
+
+-- a start whose queue is off just before its first call: no side is seen on, each word of the receive ring is taken,
+-- and so is its block
+abbrev pub ReceiveIsReady : Type 0
+ReceiveIsReady =
+    (w : Watched) (q : AtPort) (fifo : ℕ) (h : List Entry) (size : ℕ) (old : List Call) (a : Numbers)
+    (new : List Call) → IsAlong w fifo h → BeforeNext w fifo h old (IsQuiet w.queue q) →
+    ReceiveFails DeviceFault q size old a new → NoneIsLent w fifo h new a → Never w fifo h new
+
+-- then each word of the transmit ring is, and its block
+abbrev pub TransmitIsReady : Type 0
+TransmitIsReady =
+    (w : Watched) (q : AtPort) (fifo : ℕ) (h : List Entry) (size : ℕ) (old : List Call) (a : Numbers)
+    (mid : List Call) (b : Numbers) (v : Receive) (new : List Call) → IsAlong w fifo h →
+    BeforeNext w fifo h old (IsQuiet w.queue q) → IsReceiveReady q size old a mid b v →
+    PreparingFails DeviceFault q Tx size mid b new → NoneIsLent w fifo h new b → Never w fifo h new
+
+-- and both sides are asked on and polled without a stray access
+abbrev pub SwitchingIsNeverStray : Type 0
+SwitchingIsNeverStray =
+    (w : Watched) (q : AtPort) (fifo : ℕ) (h : List Entry) (size : ℕ) (old : List Call) (a : Numbers)
+    (mid : List Call) (b : Numbers) (v : Receive) (both : List Call) (c : Numbers) (t : Sender) (new : List Call) →
+    IsAlong w fifo h → BeforeNext w fifo h old (IsQuiet w.queue q) → IsReceiveReady q size old a mid b v →
+    IsTransmitReady q size mid b both c t → SwitchFails DeviceFault q both new true 1000 → Never w fifo h new

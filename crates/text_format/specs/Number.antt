@@ -1,0 +1,41 @@
+-- The number that a word writes.
+use Rattle.std.specs.Prelude.{◌≡◌, ℕ, ◌+◌, ◌*◌, ◌^◌, Bool, true, false, not, ◌&&◌, ◌==◌, List, [], ◌∷◌, ◌++◌, length, drop, min, Option, Some, None, Result, Ok, Err, nat_eq, nat_lt, codes, if◌then◌else◌}
+use Rattle.std.specs.List.{list_all, prefix_len, starts_with}
+use Rattle.std.specs.Char.{is_digit, digit_value}
+use Rattle.std.specs.Str.Parse.{digits_value}
+use Rattle.text_format.specs.Name.{continues_name}
+use Rattle.text_format.specs.declared.numbers.NumberFault.{NumberFault}
+use Rattle.text_format.specs.declared.numbers.NumberFault.TheVariants.{Malformed, TooLarge}
+
+-- one digit at least, and nothing else
+abbrev pub is_numeral : ℕ → List ℕ → Bool
+is_numeral radix word = not (length word == 0) && list_all (λ byte. is_digit byte radix) word
+
+-- the number that digits write, which is below 2^32
+abbrev pub numeral_of : ℕ → List ℕ → Result ℕ NumberFault
+numeral_of radix word =
+    if is_numeral radix word then
+    if nat_lt (digits_value radix word) (2 ^ 32) then Ok (digits_value radix word) else Err TooLarge
+    else Err Malformed
+
+-- the number that digits write behind others that write a value, and 2^32 in place of a greater one
+abbrev pub capped_numeral : ℕ → ℕ → List ℕ → Option ℕ
+capped_numeral radix value [] = Some value
+capped_numeral radix value (byte ∷ more) =
+    if is_digit byte radix then capped_numeral radix (min (value * radix + digit_value byte) (2 ^ 32)) more else None
+
+-- how many digits stand in front
+abbrev pub digits_in_front : ℕ → List ℕ → ℕ
+digits_in_front radix text = prefix_len (λ byte. is_digit byte radix) text
+
+-- the number of a word: hex digits behind 0x, else decimal digits
+unfoldable pub number_of : List ℕ → Result ℕ NumberFault
+number_of word = if starts_with nat_eq word (codes "0x") then numeral_of 16 (drop 2 word) else numeral_of 10 word
+
+-- a text is a word of letters and digits that writes the value, and what stands behind it
+pub record IsNumberInFront (text : List ℕ) (value : ℕ) (behind : List ℕ) : Type 0 where
+  pub word : List ℕ
+  pub whole : text ≡ word ++ behind
+  pub long : (length word == 0) ≡ false
+  pub plain : list_all continues_name word ≡ true
+  pub writes : number_of word ≡ Ok value

@@ -1,0 +1,34 @@
+//! Bytes as they are printed.
+ghost use Rattle.std.specs.Prelude.{Some};
+ghost use Rattle.text_format.specs.Bytes.{bytes_text};
+
+use std::{fmt, str};
+
+/// How many bytes are written at once.
+const CHUNK: usize = 256;
+
+/// Bytes as they are printed: each in two lower-case hex digits, with nothing between them.
+#[derive(Clone, Copy)]
+pub struct BytesText<'a>(
+    /// The bytes.
+    pub &'a [u8],
+);
+
+impl fmt::Display for BytesText<'_> {
+    ghost output = { λ b. Some (bytes_text b.0.now) };
+
+    fn fmt<W: fmt::Write>(&self, f: &mut fmt::Formatter<W>) -> fmt::Result {
+        let mut digits = [0u8; 2 * CHUNK];
+        for chunk in self.0.chunks(CHUNK) {
+            let digits = &mut digits[..2 * chunk.len()];
+            let Ok(()) = hex::encode_to_slice(chunk, digits) else {
+                unreachable!();
+            };
+            let Ok(text) = str::from_utf8(digits) else {
+                unreachable!();
+            };
+            f.write_str(text)?;
+        }
+        Ok(())
+    }
+}

@@ -1,0 +1,25 @@
+//! What all texts of the bench are made of: register scripts, EEPROM texts, debugger commands, hash lines, and what is
+//! printed.
+//!
+//! Lines, words, numbers, names and hex data are read; each call works on a line or a word at a time, and only hex data
+//! takes memory. Words, addresses and bytes are printed: each type prints what its definition says (`word_text`,
+//! `address_text`, `bytes_text`), and takes no memory.
+#![tactic(auto)]
+
+mod bytes;
+mod hex_data;
+mod lines;
+mod names;
+mod numbers;
+mod pairs;
+mod places;
+mod word;
+mod words;
+
+pub use bytes::BytesText;
+pub use hex_data::{HexFault, hex_bytes};
+pub use lines::{Line, Lines, Pair};
+pub use names::{NAME_LIMIT, is_name};
+pub use numbers::{NumberFault, number};
+pub use word::{AddressText, WordText};
+pub use words::Words;

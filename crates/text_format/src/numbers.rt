@@ -1,0 +1,198 @@
+//! Numbers.
+
+ghost use Rattle.std.specs.Prelude.{◌≡◌, ◌≢◌, ◌≤◌, ◌<◌, ◌^◌, ℕ, List, ◌∷◌, false, MatchOption, Some, Ok, take, drop};
+ghost use Rattle.std.specs.Prelude.{IfSome};
+ghost use Rattle.std.specs.Char.{digit_value, is_digit};
+ghost use Rattle.text_format.specs.Number.{numeral_of, capped_numeral, digits_in_front, number_of, IsNumberInFront};
+
+use thiserror::Error;
+
+/// Why a word is no number.
+#[derive(Clone, Copy, Debug, PartialEq, Eq, Error)]
+pub enum NumberFault {
+    /// It isn't decimal digits, or hex digits behind `0x`.
+    #[error("no number")]
+    Malformed,
+    /// It writes a number from 2^32 on.
+    #[error("a number of 2^32 or more")]
+    TooLarge,
+}
+
+/// The least number that is too large.
+const TOO_LARGE: u64 = 0x1_0000_0000;
+
+/// The value of each byte as a digit of radix 36, where it is a digit or a letter; 36 for every other byte.
+#[rattlefmt::skip]
+static DIGIT_VALUES: [u8; 256] = [
+    36, 36, 36, 36, 36, 36, 36, 36, 36, 36, 36, 36, 36, 36, 36, 36,
+    36, 36, 36, 36, 36, 36, 36, 36, 36, 36, 36, 36, 36, 36, 36, 36,
+    36, 36, 36, 36, 36, 36, 36, 36, 36, 36, 36, 36, 36, 36, 36, 36,
+    0, 1, 2, 3, 4, 5, 6, 7, 8, 9, 36, 36, 36, 36, 36, 36,
+    36, 10, 11, 12, 13, 14, 15, 16, 17, 18, 19, 20, 21, 22, 23, 24,
+    25, 26, 27, 28, 29, 30, 31, 32, 33, 34, 35, 36, 36, 36, 36, 36,
+    36, 10, 11, 12, 13, 14, 15, 16, 17, 18, 19, 20, 21, 22, 23, 24,
+    25, 26, 27, 28, 29, 30, 31, 32, 33, 34, 35, 36, 36, 36, 36, 36,
+    36, 36, 36, 36, 36, 36, 36, 36, 36, 36, 36, 36, 36, 36, 36, 36,
+    36, 36, 36, 36, 36, 36, 36, 36, 36, 36, 36, 36, 36, 36, 36, 36,
+    36, 36, 36, 36, 36, 36, 36, 36, 36, 36, 36, 36, 36, 36, 36, 36,
+    36, 36, 36, 36, 36, 36, 36, 36, 36, 36, 36, 36, 36, 36, 36, 36,
+    36, 36, 36, 36, 36, 36, 36, 36, 36, 36, 36, 36, 36, 36, 36, 36,
+    36, 36, 36, 36, 36, 36, 36, 36, 36, 36, 36, 36, 36, 36, 36, 36,
+    36, 36, 36, 36, 36, 36, 36, 36, 36, 36, 36, 36, 36, 36, 36, 36,
+    36, 36, 36, 36, 36, 36, 36, 36, 36, 36, 36, 36, 36, 36, 36, 36,
+];
+
+/// The value of a digit or a letter, as a digit of radix 36; 36 for every other byte.
+#[inline(always)]
+fn digit_value(byte: u8) -> u8
+    ensures { result ≡ digit_value byte }
+{
+    DIGIT_VALUES[usize::from(byte)]
+}
+
+/// The value of a byte as a digit of the radix, and no less than the radix where it's none.
+#[inline(always)]
+fn digit_of(radix: u8, byte: u8) -> u8
+    requires { radix ≤ 36 }
+    ensures digit { result < radix → result ≡ digit_value byte }
+    ensures other { radix ≤ result → is_digit byte radix ≡ false }
+{
+    if radix <= 10 {
+        byte.wrapping_sub(b'0')
+    } else {
+        digit_value(byte)
+    }
+}
+
+/// The number that the digits of the radix in front write, 2^32 in place of a greater one, and what stands behind them.
+#[inline(always)]
+fn split_numeral(radix: u8, bytes: &[u8]) -> (u64, &[u8])
+    requires low { 2 ≤ radix }
+    requires high { radix ≤ 36 }
+    ensures value { capped_numeral radix 0 (take (digits_in_front radix bytes.now) bytes.now) ≡ Some result.0 }
+    ensures behind { result.1.now ≡ drop (digits_in_front radix bytes.now) bytes.now }
+{
+    let mut value = 0;
+    let mut rest = bytes;
+    'each: while let Some((byte, more)) = rest.split_first() {
+        let digit = digit_of(radix, *byte);
+        if digit >= radix {
+            break;
+        }
+        value = (value * u64::from(radix) + u64::from(digit)).min(TOO_LARGE);
+        rest = more;
+    }
+    (value, rest)
+}
+
+/// The number that digits of the radix write, 2^32 in place of a greater one. `None` where there is another character.
+fn capped_numeral(radix: u8, digits: &[u8]) -> Option<u64>
+    requires low { 2 ≤ radix }
+    requires high { radix ≤ 36 }
+    ensures { result ≡ capped_numeral radix 0 digits.now }
+{
+    match split_numeral(radix, digits) {
+        (value, []) => Some(value),
+        (_, [_, ..]) => None,
+    }
+}
+
+/// The number that digits of the radix write.
+fn numeral(radix: u8, word: &str) -> Result<u32, NumberFault>
+    requires low { 2 ≤ radix }
+    requires high { radix ≤ 36 }
+    ensures { result ≡ numeral_of radix word.now }
+{
+    if word.is_empty() {
+        return Err(NumberFault::Malformed);
+    }
+    match capped_numeral(radix, word.as_bytes()) {
+        None => Err(NumberFault::Malformed),
+        Some(value) if value < TOO_LARGE => Ok(value as u32),
+        Some(_) => Err(NumberFault::TooLarge),
+    }
+}
+
+/// The number that the digits of the radix in front write behind others that write a value, and what stands behind
+/// them. `None` where it is too large.
+#[inline(always)]
+fn more_digits(radix: u8, first: u64, bytes: &[u8]) -> Option<(u32, &[u8])>
+    requires low { 2 ≤ radix }
+    requires high { radix ≤ 36 }
+    requires first { first < 2 ^ 32 }
+    ensures value { IfSome result (λ split.
+        capped_numeral radix first (take (digits_in_front radix bytes.now) bytes.now) ≡ Some split.0) }
+    ensures small { IfSome result (λ split. split.0 < 2 ^ 32) }
+    ensures behind { IfSome result (λ split. split.1.now ≡ drop (digits_in_front radix bytes.now) bytes.now) }
+{
+    let mut value = first;
+    let mut rest = bytes;
+    'each: while let Some((byte, more)) = rest.split_first() {
+        let digit = digit_of(radix, *byte);
+        if digit >= radix {
+            break;
+        }
+        value = value * u64::from(radix) + u64::from(digit);
+        if value >= TOO_LARGE {
+            return None;
+        }
+        rest = more;
+    }
+    Some((value as u32, rest))
+}
+
+/// The number that the digits of the radix in front write, and what stands behind them. `None` where there is no digit,
+/// and where the number is too large.
+#[inline(always)]
+fn numeral_in_front(radix: u8, text: &str) -> Option<(u32, &str)>
+    requires low { 2 ≤ radix }
+    requires high { radix ≤ 36 }
+    ensures { IfSome result (λ split.
+        (numeral_of radix (take (digits_in_front radix text.now) text.now) ≡ Ok split.0)
+        × (split.1.now ≡ drop (digits_in_front radix text.now) text.now)) }
+{
+    let (byte, more) = text.as_bytes().split_first()?;
+    let digit = digit_of(radix, *byte);
+    if digit >= radix {
+        return None;
+    }
+    let (value, behind) = more_digits(radix, u64::from(digit), more)?;
+    Some((value, &text[text.len() - behind.len()..]))
+}
+
+/// What stands behind `0x` in front.
+#[inline(always)]
+fn behind_mark(text: &str) -> Option<&str>
+    ensures { MatchOption result ((rest : List ℕ) → text.now ≢ 48 ∷ 120 ∷ rest)
+        (λ behind. text.now ≡ 48 ∷ 120 ∷ behind.now) }
+{
+    match text.as_bytes().first() {
+        Some(b'0') => text.strip_prefix("0x"),
+        Some(_) | None => None,
+    }
+}
+
+/// The number in front, and what stands behind its last digit. `None` where there is no number, or one too large.
+#[inline(always)]
+pub(crate) fn number_in_front(text: &str) -> Option<(u32, &str)>
+    ensures { IfSome result (λ split. IsNumberInFront text.now split.0 split.1.now) }
+{
+    match behind_mark(text) {
+        Some(digits) => numeral_in_front(16, digits),
+        None => numeral_in_front(10, text),
+    }
+}
+
+/// The number that a word writes: decimal digits, or `0x` and hex digits of either case, as many as
+/// one likes. No sign, no `_` and no `0X`.
+///
+/// `Malformed` where it has another form, else `TooLarge` from 2^32 on.
+#[tactic(auto, unfolding(crate::specs::Number::number_of))]
+pub fn number(word: &str) -> Result<u32, NumberFault>
+    ensures { result ≡ number_of word.now }
+{
+    match word.strip_prefix("0x") {
+        Some(digits) => numeral(16, digits),
+        None => numeral(10, word),
+    }
+}

@@ -1,0 +1,162 @@
+//! Words.
+
+ghost use Rattle.std.specs.Prelude.{◌≡◌, ◌≤◌, ◌+◌, ◌∷◌, [], length, not, take, drop, position, MatchOption};
+ghost use Rattle.std.specs.List.{position_or_len};
+ghost use Rattle.std.specs.Iterator.{YieldsFirstRef, item_count};
+ghost use Rattle.text_format.specs.Words.{is_blank, ends_word, words_of};
+
+use std::marker::Model;
+
+/// The words of a line, in order: what stands between its spaces and tabs, before the first `#`.
+///
+/// Every other character is part of a word.
+#[derive(Debug, Drop)]
+pub struct Words<'a> {
+    rest: &'a str,
+}
+
+impl<'a> Model for Words<'a> {
+    ghost use Rattle.std.specs.Prelude.{List, ℕ};
+    ghost use Rattle.text_format.specs.Words.{words_of};
+
+    ghost Value = { List (List ℕ) };
+
+    ghost view = { λ words. words_of words.rest.now };
+}
+
+#[inline(always)]
+fn is_blank(byte: u8) -> bool
+    ensures { result ≡ is_blank byte }
+{
+    byte == b' ' || byte == b'\t'
+}
+
+fn ends_word(byte: u8) -> bool
+    ensures { result ≡ ends_word byte }
+{
+    byte == b'#' || is_blank(byte)
+}
+
+/// Where the first byte stands that is no blank.
+#[inline(always)]
+fn first_unblank(bytes: &[u8]) -> Option<usize>
+    ensures { result ≡ position (λ byte. not (is_blank byte)) bytes.now }
+{
+    bytes.iter().position(|byte| !is_blank(*byte))
+}
+
+/// How many blanks stand in front.
+#[inline(always)]
+fn blanks_in_front(bytes: &[u8]) -> usize
+    ensures { result ≡ position_or_len (λ byte. not (is_blank byte)) bytes.now }
+{
+    match first_unblank(bytes) {
+        Some(blanks) => blanks,
+        None => bytes.len(),
+    }
+}
+
+/// What stands behind blanks in front, looked at four at a time. Up to three blanks are left.
+#[inline(always)]
+fn behind_fours(bytes: &[u8]) -> &[u8]
+    ensures blanks { length bytes.now + position_or_len (λ byte. not (is_blank byte)) result.now
+        ≡ length result.now + position_or_len (λ byte. not (is_blank byte)) bytes.now }
+    ensures shorter { length result.now ≤ length bytes.now }
+{
+    let mut rest = bytes;
+    'fours: while let [first, second, third, fourth, more @ ..] = rest {
+        if !(is_blank(*first) && is_blank(*second) && is_blank(*third) && is_blank(*fourth)) {
+            break;
+        }
+        rest = more;
+    }
+    rest
+}
+
+/// The same, quicker where there are many.
+fn many_blanks_in_front(bytes: &[u8]) -> usize
+    ensures { result ≡ position_or_len (λ byte. not (is_blank byte)) bytes.now }
+{
+    let rest = behind_fours(bytes);
+    bytes.len() - rest.len() + blanks_in_front(rest)
+}
+
+/// Where the first byte stands that ends a word.
+fn first_end(bytes: &[u8]) -> Option<usize>
+    ensures { result ≡ position ends_word bytes.now }
+{
+    bytes.iter().position(|byte| ends_word(*byte))
+}
+
+/// How many bytes stand before the end of a word.
+fn word_length(bytes: &[u8]) -> usize
+    ensures { result ≡ position_or_len ends_word bytes.now }
+{
+    match first_end(bytes) {
+        Some(end) => end,
+        None => bytes.len(),
+    }
+}
+
+/// A text without the blanks in front.
+#[inline(always)]
+pub(crate) fn behind_blanks(text: &str) -> &str
+    ensures { result.now ≡ drop (position_or_len (λ byte. not (is_blank byte)) text.now) text.now }
+{
+    let blanks = blanks_in_front(text.as_bytes());
+    &text[blanks..]
+}
+
+/// The same, quicker where there are many.
+#[inline(always)]
+pub(crate) fn behind_many_blanks(text: &str) -> &str
+    ensures { result.now ≡ drop (position_or_len (λ byte. not (is_blank byte)) text.now) text.now }
+{
+    let blanks = many_blanks_in_front(text.as_bytes());
+    &text[blanks..]
+}
+
+/// What stands before the first end of a word, and from there on.
+fn split_at_end(text: &str) -> (&str, &str)
+    ensures word { result.0.now ≡ take (position_or_len ends_word text.now) text.now }
+    ensures behind { result.1.now ≡ drop (position_or_len ends_word text.now) text.now }
+{
+    let end = word_length(text.as_bytes());
+    (&text[..end], &text[end..])
+}
+
+/// The first word of a text, and what stands behind it.
+fn split_word(text: &str) -> Option<(&str, &str)>
+    ensures { MatchOption result (words_of text.now ≡ [])
+        (λ parts. words_of text.now ≡ parts.0.now ∷ words_of parts.1.now) }
+{
+    let (word, behind) = split_at_end(behind_many_blanks(text));
+    if word.is_empty() {
+        None
+    } else {
+        Some((word, behind))
+    }
+}
+
+impl<'a> Words<'a> {
+    /// The words of a line.
+    pub fn of(line: &'a str) -> Words<'a>
+        ensures { result ≡ words_of line.now }
+    {
+        Words { rest: line }
+    }
+}
+
+impl<'a> Iterator for Words<'a> {
+    type Item = &'a str;
+
+    ghost next_gives = { YieldsFirstRef (λ words. words) };
+
+    ghost remaining = { item_count (λ words. words) };
+
+    fn next(&mut self) -> Option<&'a str> {
+        let (word, rest) = split_word(self.rest)?;
+        self.rest = rest;
+        Some(word)
+    }
+}

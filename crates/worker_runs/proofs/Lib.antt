@@ -1,4 +1,0 @@
-pub mod Ending
-pub mod Keeping
-pub mod Returning
-pub mod Telling

@@ -1,8 +1,0 @@
-use Rattle.std.proofs.Common.{[]}
-use Rattle.pmd_rx.specs.Keeping.{handed_block}
-use Rattle.worker_runs.proofs.Keeping.{kept_all}
-use Rattle.worker_runs.proofs.turns.receive.Goals as goal
-
-pub returns-clause-blocks : goal.returns-clause-blocks
-returns-clause-blocks g c =
-    kept_all c.args.pmd.now.rings c.rx.new.self.rings [] (handed_block c.rx.result) c.rx.ensures.blocks

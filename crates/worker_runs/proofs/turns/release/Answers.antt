@@ -1,7 +1,0 @@
-use Rattle.std.proofs.Common.{[], ◌∷◌}
-use Rattle.worker_runs.proofs.Keeping.{kept_all}
-use Rattle.worker_runs.proofs.turns.release.Goals as goal
-
-pub returns-clause-blocks : goal.returns-clause-blocks
-returns-clause-blocks c =
-    kept_all c.args.pmd.now.rings c.release.new.self.rings (c.args.packet.buf.number ∷ []) [] c.in-Ok.ensures.blocks

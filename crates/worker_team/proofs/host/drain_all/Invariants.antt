@@ -1,5 +1,0 @@
-use Rattle.worker_team.specs.Coming.{AreDrained}
-use Rattle.worker_team.proofs.host.drain_all.Given as goal
-
-abbrev pub invariant-loop-collector : goal.invariant-loop-collector
-invariant-loop-collector l = AreDrained l.fn.collectors l.collectors

@@ -1,3 +1,0 @@
-pub mod Coming
-pub mod Ends
-pub mod Refusing

@@ -1,0 +1,15 @@
+use Rattle.std.proofs.Common.{◌≡◌, ◌+◌, ◌≤◌}
+use Rattle.std.specs.Vec.{vec_len, vec_capacity}
+use Rattle.workers.specs.Coming.{HaveCome}
+use Rattle.workers.proofs.Gathering.{IsGathered}
+use Rattle.workers.proofs.ends.gather.Given as goal
+
+abbrev pub invariant-loop : goal.invariant-loop
+invariant-loop g l =
+    record {
+      gathered : IsGathered l.fn.seats.items l.seats.items l.ends.items;
+      come : HaveCome l.seats.items l.collectors.items;
+      left : vec_len l.seats + l.counter ≡ vec_len l.fn.seats;
+      made : vec_len l.ends ≡ l.counter;
+      room : vec_len l.fn.seats ≤ vec_capacity l.ends;
+    }

@@ -1,0 +1,31 @@
+use Rattle.std.proofs.Common.{rules, sym, subst}
+use Rattle.device_lock.specs.Pass.{PassValue}
+use Rattle.pmd.specs.Blocks.{IsWhole}
+use Rattle.pmd.specs.PmdSeam.Stepped.{AtLock}
+use Rattle.workers.specs.Lived.{HasRun}
+use Rattle.workers.specs.declared.duty.Duty.{Duty}
+use Rattle.workers.proofs.labour.LabourTaskBack.run.Goals as goal
+
+pub returns : goal.returns
+returns g c =
+    let d : Duty = c.self.inside.duty in
+    let left = c.run_worker-rest.result in (
+      record {
+        bench = search rules;
+        tag = search rules;
+        lived = λ has.
+            subst (λ (x : Duty). HasRun (record { port = x.job.port; queue = x.job.queue }) x.job.size x.job.pass.calls
+            x.job.arena c.finish.result.calls left.0 left.1) c.self.view_is
+            (subst (λ (p : PassValue). HasRun (record { port = d.job.port; queue = d.job.queue }) d.job.size
+            d.job.pass.calls d.job.arena p.calls left.0 left.1) (sym c.finish.ensures)
+            (subst (λ (t : AtLock). HasRun (record { port = d.job.port; queue = d.job.queue }) d.job.size t.pass.calls
+            d.job.arena c.run_worker-rest.new.nic.pass.calls left.0 left.1) c.new-nic.ensures
+            c.run_worker-rest.ensures.lived));
+        reports = search rules;
+        few = search rules;
+        home = search rules;
+        whole = subst (λ (x : Duty). IsWhole x.job.arena left.0) c.self.view_is c.run_worker-rest.ensures.whole;
+        idle = search rules;
+      },
+      search rules,
+    )

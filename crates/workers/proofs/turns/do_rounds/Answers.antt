@@ -1,0 +1,32 @@
+use Rattle.std.proofs.Common.{rules, refl, ◌∙◌}
+use Rattle.pmd.proofs.Living.{runs_still, runs_on}
+use Rattle.workers.proofs.turns.do_rounds.Goals as goal
+
+pub loop-init : goal.loop-init
+loop-init g c = record {
+  told = c.requires.told;
+  ring = search rules;
+  room = search rules;
+  few = search rules;
+  drives = runs_still _ _;
+  queue = refl;
+  blocks = λ a has. has;
+  who = refl;
+}
+
+pub loop-preserved : goal.loop-preserved
+loop-preserved g c =
+    let i = c.loop.invariant in
+    record {
+      told = c.round.ensures.told;
+      ring = search rules;
+      room = search rules;
+      few = search rules;
+      drives = runs_on _ _ _ _ _ _ i.drives c.round.ensures.drives;
+      queue = c.round.ensures.queue ∙ i.queue;
+      blocks = λ a has. c.round.ensures.blocks a (i.blocks a has);
+      who = c.round.ensures.who ∙ i.who;
+    }
+
+pub returns-in_err-round-clause-drives : goal.returns-in_err-round-clause-drives
+returns-in_err-round-clause-drives g c = runs_on _ _ _ _ _ _ c.loop.invariant.drives c.round.ensures.drives

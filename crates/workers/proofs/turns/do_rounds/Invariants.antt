@@ -1,0 +1,20 @@
+use Rattle.std.proofs.Common.{[], ◌≡◌, ◌+◌, ◌≤◌, length}
+use Rattle.rtrb.specs.Ring.{sent, known_free, SameProducer}
+use Rattle.pmd.specs.Driver.{handed_of}
+use Rattle.pmd.specs.Life.{RunsOn}
+use Rattle.workers.specs.Told.{reports_of}
+use Rattle.workers.specs.Kept.{KeepsAll}
+use Rattle.workers.proofs.turns.do_rounds.Given as goal
+
+abbrev pub invariant-loop : goal.invariant-loop
+invariant-loop g l =
+    record {
+      told : sent l.producer ≡ reports_of l.queue (handed_of l.pmd.rings);
+      ring : SameProducer l.fn.producer l.producer;
+      room : l.rounds ≤ known_free l.producer + l.counter;
+      few : length (handed_of l.pmd.rings) ≤ l.counter;
+      drives : RunsOn (g.N.Nic.made l.fn.nic) l.fn.pmd.rings (g.N.Nic.made l.nic) l.pmd.rings;
+      queue : l.pmd.queue ≡ l.fn.pmd.queue;
+      blocks : KeepsAll l.fn.pmd.rings [] l.pmd.rings [];
+      who : g.N.Nic.who l.nic ≡ g.N.Nic.who l.fn.nic;
+    }

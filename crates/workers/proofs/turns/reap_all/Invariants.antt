@@ -1,0 +1,15 @@
+use Rattle.std.proofs.Common.{[], ◌≡◌}
+use Rattle.pmd.specs.Driver.{handed_of}
+use Rattle.pmd.specs.Life.{RunsOn}
+use Rattle.workers.specs.Kept.{KeepsAll}
+use Rattle.workers.proofs.turns.reap_all.Given as goal
+
+abbrev pub invariant-loop : goal.invariant-loop
+invariant-loop g l =
+    record {
+      handed : handed_of l.pmd.rings ≡ handed_of l.fn.pmd.rings;
+      drives : RunsOn (g.N.Nic.made l.fn.nic) l.fn.pmd.rings (g.N.Nic.made l.nic) l.pmd.rings;
+      queue : l.pmd.queue ≡ l.fn.pmd.queue;
+      blocks : KeepsAll l.fn.pmd.rings [] l.pmd.rings [];
+      who : g.N.Nic.who l.nic ≡ g.N.Nic.who l.fn.nic;
+    }

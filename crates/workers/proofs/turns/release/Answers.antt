@@ -1,0 +1,7 @@
+use Rattle.std.proofs.Common.{[], ◌∷◌}
+use Rattle.workers.proofs.Keeping.{kept_all}
+use Rattle.workers.proofs.turns.release.Goals as goal
+
+pub returns-clause-blocks : goal.returns-clause-blocks
+returns-clause-blocks c =
+    kept_all c.args.pmd.now.rings c.release.new.self.rings (c.args.packet.buf.number ∷ []) [] c.in-Ok.ensures.blocks

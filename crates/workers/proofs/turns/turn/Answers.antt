@@ -1,0 +1,24 @@
+use Rattle.std.proofs.Common.{◌≡◌, ◌∷◌, ◌++◌, [], length, List, Option, IfSome, ap, sym, ◌∙◌, subst}
+use Rattle.rtrb.specs.Ring.{sent}
+use Rattle.pmd.specs.PmdSeam.Packet.{Kept, kept_of}
+use Rattle.pmd.specs.PmdSeam.declared.packet.Packet.{Packet}
+use Rattle.pmd.specs.Driver.{handed_of}
+use Rattle.pmd.proofs.Living.{runs_on}
+use Rattle.workers.specs.Told.{report_of, reports_of}
+use Rattle.workers.proofs.Telling.{told_more}
+use Rattle.workers.proofs.turns.turn.Goals as goal
+
+pub returns-in-Some-clause-told : goal.returns-in-Some-clause-told
+returns-in-Some-clause-told g c =
+    let old : List Kept = handed_of c.args.pmd.now.rings in
+    let k : Kept = kept_of c.in-Some.packet in
+    let given = subst
+    (λ (o : Option Packet). IfSome o (λ (p : Packet). handed_of c.receive.new.pmd.rings ≡ old ++ kept_of p ∷ []))
+    c.in-Some.is c.in_ok-receive.ensures.given in
+    c.tell.ensures.sent
+    ∙ (ap (λ (h : List Kept). sent c.args.producer.now ++ report_of c.args.queue (length h) k ∷ []) c.handed.ensures
+    ∙ (told_more c.args.queue old k (sent c.args.producer.now) c.requires.told
+    ∙ ap (λ (l : List Kept). reports_of c.args.queue l) (sym given ∙ sym c.forward.ensures.handed)))
+
+pub returns-in-Some-clause-drives : goal.returns-in-Some-clause-drives
+returns-in-Some-clause-drives g c = runs_on _ _ _ _ _ _ c.receive.ensures.drives c.forward.ensures.drives

@@ -1,0 +1,20 @@
+-- What became of a worker's driver.
+use Rattle.std.specs.Prelude.{ℕ, ◌≡◌, ◌⊎◌, List, Option, Some, Result}
+use Rattle.nic_device.specs.DmaArena.Numbers.{Numbers}
+use Rattle.device_lock.specs.declared.entry.Call.{Call}
+use Rattle.pmd.specs.PmdSeam.declared.fault.PmdFault.{PmdFault}
+use Rattle.pmd.specs.PmdSeam.Named.{AtPort}
+use Rattle.pmd.specs.Life.{HasLived, NeverLived}
+use Rattle.pmd.specs.declared.start.Rest.{Rest}
+use Rattle.pmd.specs.declared.start.StartRefused.{StartRefused}
+use Rattle.workers.specs.Ended.{first_fault}
+use Rattle.workers.specs.declared.fault.WorkerFault.{WorkerFault}
+use Rattle.workers.specs.declared.fault.WorkerFault.TheVariants.{Pmd}
+
+-- a worker had one driver of its queue. It lived, and was stopped, and the worker tells why it ended early, or else why
+-- the driver didn't stop; or the start was refused, and it tells why
+abbrev pub HasRun : AtPort → ℕ → List Call → Numbers → List Call → Rest → Option WorkerFault → Type 0
+HasRun q size old a new left fault =
+    ((worked : Result (Unit {0}) WorkerFault) × (late : Option PmdFault) × (fault ≡ first_fault worked late)
+    × HasLived q size old a new left late)
+    ⊎ ((e : StartRefused) × (fault ≡ Some (Pmd e.fault)) × NeverLived q size old a e new left)

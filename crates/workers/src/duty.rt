@@ -1,0 +1,28 @@
+//! What a worker takes to its thread, and what comes back.
+
+ghost use Rattle.std.specs.Prelude.{◌≡◌, ◌≤◌, []};
+ghost use Rattle.rtrb.specs.Ring.{sent, known_free};
+
+use crate::fault::WorkerFault;
+use crate::job::Job;
+use crate::reports::Report;
+use device_lock::Pass;
+use pmd::Rest;
+use rtrb::Producer;
+
+/// A worker's job, and its end of the way of its reports, which has room for all of them.
+pub(crate) struct Duty {
+    pub(crate) worker: usize,
+    pub(crate) job: Job,
+    pub(crate) producer: Producer<Report>,
+    pub(crate) ghost fresh: { sent producer ≡ [] },
+    pub(crate) ghost room: { job.rounds ≤ known_free producer },
+}
+
+/// What comes back from a worker's thread.
+pub(crate) struct Back {
+    pub(crate) pass: Pass,
+    pub(crate) rest: Rest,
+    pub(crate) fault: Option<WorkerFault>,
+    pub(crate) producer: Producer<Report>,
+}

@@ -1,0 +1,76 @@
+//! The room that is made before a thread starts.
+
+ghost use Rattle.std.specs.Prelude.{◌≡◌, ◌≤◌, [], IfOk, length, vec_len, vec_capacity};
+ghost use Rattle.workers.specs.Coming.{AreWays, AllSit};
+
+use crate::duty::{Back, Duty};
+use crate::gate::Gate;
+use crate::job::Job;
+use crate::labour::Labour;
+use crate::reports::{Collector, Report};
+use crate::seat::Seat;
+use crate::start::Start;
+use device_lock::Shared;
+use rtrb::Producer;
+use std::alloc::{AllocError, Global};
+use std::sync::Wait;
+
+/// What is made for jobs that can be dropped: a start for each thread, and both ends of each way for reports.
+#[derive(Drop)]
+pub(crate) struct Room {
+    pub(crate) starts: Vec<Start>,
+    pub(crate) producers: Vec<Producer<Report>>,
+    pub(crate) collectors: Vec<Collector>,
+}
+
+/// Room for all that the jobs' workers can tell.
+pub(crate) fn make_room(alloc: Global, jobs: &[Job]) -> Result<Room, AllocError>
+    ensures starts { IfOk result (λ room. vec_len room.starts ≡ length jobs.now) }
+    ensures ways { IfOk result (λ room. AreWays jobs.now room.producers.items room.collectors.items) }
+{
+    let mut starts = Vec::new(alloc);
+    let mut producers = Vec::new(alloc);
+    let mut collectors = Vec::new(alloc);
+    for job in jobs {
+        let (producer, collector) = Collector::with_room(alloc, job.rounds)?;
+        starts.push(Start::new())?;
+        producers.push(producer)?;
+        collectors.push(collector)?;
+    }
+    Ok(Room {
+        starts,
+        producers,
+        collectors,
+    })
+}
+
+/// Each job in a seat, with its worker's end of the way for reports. There is room for the seats.
+pub(crate) fn sit<'a, R: Wait, G: Gate, const VFS: u8, const FIFO: u16>(
+    rt: &'a R,
+    alloc: Global,
+    gate: &'a G,
+    shared: &'a Shared<VFS, FIFO>,
+    jobs: Vec<Job>,
+    producers: Vec<Producer<Report>>,
+    collectors: &[Collector],
+    room: Vec<Seat<Labour<'a, R, G, VFS, FIFO>, Back>>,
+) -> Vec<Seat<Labour<'a, R, G, VFS, FIFO>, Back>>
+    requires ways { AreWays jobs.items producers.items collectors.now }
+    requires empty { room.items ≡ [] }
+    requires room { vec_len jobs ≤ vec_capacity room }
+    ensures { AllSit jobs.items result.items collectors.now }
+{
+    let mut jobs = jobs;
+    let mut producers = producers;
+    let mut seats = room;
+    for worker in 0..jobs.len() {
+        let duty = Duty {
+            worker,
+            job: jobs.remove(0),
+            producer: producers.remove(0),
+        };
+        seats.push_reserved(Seat::Waits(Labour::new(rt, alloc, gate, shared, duty)));
+    }
+    jobs.destroy_empty();
+    seats
+}

@@ -1,0 +1,194 @@
+//! A run of workers.
+
+ghost use Rattle.std.specs.Prelude.{◌≡◌, ◌≤◌, [], All, length, map, vec_len, vec_capacity, true, IfOk, IfErr, IfSome, IfNone, OnOk, OnErr};
+ghost use Rattle.workers.specs.Seats.{waits, EachEnded};
+ghost use Rattle.workers.specs.Feeding.{AreFed, done_in, gained};
+ghost use Rattle.workers.specs.Coming.{AreDrained, AreWays};
+ghost use Rattle.workers.specs.Ends.{AreEnds, IsBack};
+ghost use Rattle.workers.specs.Refusing.{IsTeam, IsWhy, is_certain, is_team_size};
+
+use crate::duty::Back;
+use crate::ends::{Ran, RunFault, RunRefused, WorkerEnd, gather};
+use crate::gate::Gate;
+use crate::host::host;
+use crate::hosted::run;
+use crate::job::{Job, overlap};
+use crate::labour::Labour;
+use crate::reports::Collector;
+use crate::room::{Room, make_room, sit};
+use crate::seat::Seat;
+use crate::start::Start;
+use device_lock::{Pass, Shared};
+use std::alloc::Global;
+use std::mem;
+use std::sync::Wait;
+use std::thread::Threads;
+
+/// How many jobs there may be.
+const MAX_JOBS: usize = 16;
+
+/// Whether there may be so many jobs.
+fn is_team_size(count: usize) -> bool
+    ensures { result ≡ is_team_size count }
+{
+    1 <= count && count <= MAX_JOBS
+}
+
+/// Why the jobs can't be run, whatever memory there is.
+fn refusal(jobs: &[Job]) -> Option<RunFault>
+    ensures some { IfSome result (λ fault. IsWhy jobs.now fault) }
+    ensures certain { IfSome result (λ fault. is_certain fault ≡ true) }
+    ensures none { IfNone result (IsTeam jobs.now) }
+{
+    if !is_team_size(jobs.len()) {
+        return Some(RunFault::NoJobs);
+    }
+    match overlap(jobs) {
+        Some(at) => Some(RunFault::Overlap(at)),
+        None => None,
+    }
+}
+
+/// Does the tasks in their seats, each on a thread of its own, and the calling thread's part meanwhile. How many frames
+/// were let in.
+fn run_seats<R: Threads + Wait + Sync, G: Gate + Sync, const VFS: u8, const FIFO: u16>(
+    rt: &R,
+    alloc: Global,
+    gate: &G,
+    shared: &Shared<VFS, FIFO>,
+    starts: &[Start],
+    pass: &mut Pass,
+    frames: Vec<Vec<u8>>,
+    collectors: &mut [Collector],
+    seats: &mut [Seat<Labour<'_, R, G, VFS, FIFO>, Back>],
+) -> usize
+    requires waits { All (λ s. waits s ≡ true) seats.old }
+    requires starts { length starts.now ≡ length seats.old }
+    ensures ended { EachEnded IsBack seats.old seats.new }
+    ensures fed { AreFed (map (λ frame. frame.items) frames.items) pass.old pass.new }
+    ensures count { result ≡ done_in (gained pass.old pass.new) }
+    ensures drained { AreDrained collectors.old collectors.new }
+{
+    let mut frames = frames;
+    let mut fed = 0;
+    run(
+        rt,
+        starts,
+        &mut || -> ()
+            ensures fed { AreFed (map (λ frame. frame.items) frames.entry.items) pass.entry.now pass.exit.now }
+            ensures count { fed.exit ≡ done_in (gained pass.entry.now pass.exit.now) }
+            ensures drained { AreDrained collectors.entry.now collectors.exit.now }
+        {
+            let frames = mem::replace(&mut frames, Vec::new(alloc));
+            fed = host(rt, alloc, gate, shared, starts, pass, frames, collectors);
+        },
+        seats,
+    );
+    fed
+}
+
+/// Has the jobs done, for which all room is made.
+fn run_in<R: Threads + Wait + Sync, G: Gate + Sync, const VFS: u8, const FIFO: u16>(
+    rt: &R,
+    alloc: Global,
+    gate: &G,
+    shared: &Shared<VFS, FIFO>,
+    jobs: Vec<Job>,
+    pass: &mut Pass,
+    frames: Vec<Vec<u8>>,
+    room: Room,
+    seats: Vec<Seat<Labour<'_, R, G, VFS, FIFO>, Back>>,
+    ends: Vec<WorkerEnd>,
+) -> Ran
+    requires starts { vec_len room.starts ≡ vec_len jobs }
+    requires ways { AreWays jobs.items room.producers.items room.collectors.items }
+    requires seats { (seats.items ≡ []) × (vec_len jobs ≤ vec_capacity seats) }
+    requires ends { (ends.items ≡ []) × (vec_len jobs ≤ vec_capacity ends) }
+    ensures ends { AreEnds jobs.items result.ends.items }
+    ensures fed { AreFed (map (λ frame. frame.items) frames.items) pass.old pass.new }
+    ensures count { result.fed ≡ done_in (gained pass.old pass.new) }
+{
+    let Room {
+        starts,
+        producers,
+        mut collectors,
+    } = room;
+    let mut seats = sit(rt, alloc, gate, shared, jobs, producers, &collectors, seats);
+    let fed = run_seats(
+        rt,
+        alloc,
+        gate,
+        shared,
+        &starts,
+        pass,
+        frames,
+        &mut collectors,
+        &mut seats,
+    );
+    Ran {
+        ends: gather(seats, collectors, ends),
+        fed,
+    }
+}
+
+/// Has jobs done at a shared device, each on a thread of its own, while frames arrive by the calling thread's pass.
+///
+/// Each worker starts a driver of its queue, passes the points 0 and 1 of the gate, looks `rounds` times for a packet,
+/// tells of each and sends it again, reaps, passes point 2, and stops the driver. The calling thread, whose number at
+/// the gate is that of the jobs, passes point 0, has the frames arrive up to the first that is refused, none where the
+/// gate doesn't let it on, passes point 1 and leaves; then it takes what the workers told, and joins them. A worker
+/// that ends early leaves the gate, and so does the calling thread for one whose thread doesn't begin.
+///
+/// `NoJobs` where there are none or more than 16, `Overlap` where two arenas share a number, and `OutOfMemory`, in this
+/// order: each hands jobs and frames back, and nothing is done.
+pub fn run_workers<R: Threads + Wait + Sync, G: Gate + Sync, const VFS: u8, const FIFO: u16>(
+    rt: &R,
+    alloc: Global,
+    gate: &G,
+    shared: &Shared<VFS, FIFO>,
+    jobs: Vec<Job>,
+    pass: &mut Pass,
+    frames: Vec<Vec<u8>>,
+) -> Result<Ran, RunRefused>
+    ensures team { OnOk result (IsTeam jobs.items) }
+    ensures ends { IfOk result (λ ran. AreEnds jobs.items ran.ends.items) }
+    ensures fed { OnOk result (AreFed (map (λ frame. frame.items) frames.items) pass.old pass.new) }
+    ensures count { IfOk result (λ ran. ran.fed ≡ done_in (gained pass.old pass.new)) }
+    ensures refused { IfErr result (λ refused. IsWhy jobs.items refused.fault) }
+    ensures back { IfErr result (λ refused. (refused.jobs ≡ jobs) × (refused.frames ≡ frames)) }
+    ensures unchanged { OnErr result (pass.new ≡ pass.old) }
+{
+    if let Some(fault) = refusal(&jobs) {
+        return Err(RunRefused {
+            fault,
+            jobs,
+            frames,
+        });
+    }
+    let fault = RunFault::OutOfMemory;
+    let Ok(room) = make_room(alloc, &jobs) else {
+        return Err(RunRefused {
+            fault,
+            jobs,
+            frames,
+        });
+    };
+    let Ok(seats) = Vec::with_capacity(alloc, jobs.len()) else {
+        return Err(RunRefused {
+            fault,
+            jobs,
+            frames,
+        });
+    };
+    let Ok(ends) = Vec::with_capacity(alloc, jobs.len()) else {
+        seats.destroy_empty();
+        return Err(RunRefused {
+            fault,
+            jobs,
+            frames,
+        });
+    };
+    Ok(run_in(
+        rt, alloc, gate, shared, jobs, pass, frames, room, seats, ends,
+    ))
+}

@@ -8,6 +8,7 @@ pub mod Bringing
 pub mod Calls
 pub mod Counted
 pub mod Driving
+pub mod FailedStop
 pub mod Few
 pub mod Finding
 pub mod HaltedBlocks
@@ -23,5 +24,4 @@ pub mod Sending
 pub mod Sent
 pub mod SentCounted
 pub mod Starting
-pub mod Stopping
 pub mod Whole

@@ -73,8 +73,8 @@ pub fn own_replies_are_healthy()
     ensures { OwnRepliesAreHealthy }
 {}
 
-/// So no call of a driver ends with the device at fault over such a history, as the clause `finds` says of one: neither
-/// one that receives, nor one that sends or reaps.
+/// So no call of a driver ends with the device at fault over such a history, as `finds` in its clauses says of one:
+/// neither one that receives, nor one that sends or reaps.
 pub fn no_call_finds_the_device_at_fault()
     ensures { NoFault }
 {}

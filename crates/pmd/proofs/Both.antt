@@ -62,23 +62,21 @@ packet_may q n goes = (
 
 -- the halves driven on
 
-pub receive_drives : (old new : List Call) (q r s : Running) (out : List ℕ) → q ≡ r → IsUp q
+pub receive_drives : (old new : List Call) (q s : Running) (out : List ℕ) → IsUp q
     → receive.PlaysFrom q.arena old q.receive new s.receive → Keeps q.arena q.receive s.arena s.receive out
-    → s.transmit ≡ q.transmit → DrivesRings old r new s
-receive_drives old new q r s out is up plays keeps same =
-    subst (λ (y : Running). DrivesRings old y new s) is (record {
-      apart = receiving_apart (is_own q.arena) q.arena old new (halves_of q) (halves_of s) (free_may q up) plays same;
-      owns = (all_exchanged q.arena (blocks_out q.receive) s.arena (out ++ blocks_out s.receive) keeps.arena).owns;
-    })
+    → s.transmit ≡ q.transmit → DrivesRings old q new s
+receive_drives old new q s out up plays keeps same = record {
+  apart = receiving_apart (is_own q.arena) q.arena old new (halves_of q) (halves_of s) (free_may q up) plays same;
+  owns = (all_exchanged q.arena (blocks_out q.receive) s.arena (out ++ blocks_out s.receive) keeps.arena).owns;
+}
 
-pub transmit_drives : (old new : List Call) (block : ℕ) (q r s : Running) → q ≡ r
+pub transmit_drives : (old new : List Call) (block : ℕ) (q s : Running)
     → MaySend (is_own q.arena) (halves_of q) block → transmit.PlaysWith block old q.transmit new s.transmit
-    → OwnsSame q.arena s.arena → s.receive ≡ q.receive → DrivesRings old r new s
-transmit_drives old new block q r s is may plays owns same =
-    subst (λ (y : Running). DrivesRings old y new s) is (record {
-      apart = sending_apart (is_own q.arena) block old new (halves_of q) (halves_of s) may plays same;
-      owns = owns;
-    })
+    → OwnsSame q.arena s.arena → s.receive ≡ q.receive → DrivesRings old q new s
+transmit_drives old new block q s may plays owns same = record {
+  apart = sending_apart (is_own q.arena) block old new (halves_of q) (halves_of s) may plays same;
+  owns = owns;
+}
 
 -- without any call, and one after another
 

@@ -31,7 +31,7 @@ module _ (q : Running) (p : Packet) where
   way : Way
   way = by_tests _ _ refl refl
 
-module _ (old new : List Call) (q r : Running) (p : Packet) (w : Sender) (is : q ≡ r)
+module _ (old new : List Call) (q : Running) (p : Packet) (w : Sender)
     (shut : IsShut (gate_of q.transmit q.arena (receives q p.buf.number) p) → (new ≡ old) × (w ≡ q.transmit))
   where
     abbrev sent : Running
@@ -41,18 +41,17 @@ module _ (old new : List Call) (q r : Running) (p : Packet) (w : Sender) (is : q
     Plays = transmit.PlaysWith p.buf.number old q.transmit new w
 
     -- a way that is shut leaves all as it was
-    stays : (new ≡ old) × (w ≡ q.transmit) → DrivesRings old r new sent
+    stays : (new ≡ old) × (w ≡ q.transmit) → DrivesRings old q new sent
     stays same =
-        subst (λ (y : Running). DrivesRings old y new sent) is
-        (subst (λ (made : List Call). DrivesRings old q made sent) (sym same.0)
-        (subst (λ (t : Sender). DrivesRings old q old (record q { transmit = t })) (sym same.1) (rings_still old q)))
+        subst (λ (made : List Call). DrivesRings old q made sent) (sym same.0)
+        (subst (λ (t : Sender). DrivesRings old q old (record q { transmit = t })) (sym same.1) (rings_still old q))
 
-    drives_by : Way q p → Plays → DrivesRings old r new sent
+    drives_by : Way q p → Plays → DrivesRings old q new sent
     drives_by (inl none) plays = stays (shut none)
     drives_by (inr goes) plays =
-        transmit_drives old new p.buf.number q r sent is (packet_may q p.buf.number goes) plays (λ n. refl) refl
+        transmit_drives old new p.buf.number q sent (packet_may q p.buf.number goes) plays (λ n. refl) refl
 
-    pub sent_drives : Plays → DrivesRings old r new sent
+    pub sent_drives : Plays → DrivesRings old q new sent
     sent_drives = drives_by (way q p)
 
     finds_by : Way q p → (f : PmdFault) → transmit.FaultsBy f p.buf.number old q.transmit new
@@ -63,6 +62,5 @@ module _ (old new : List Call) (q r : Running) (p : Packet) (w : Sender) (is : q
         fault_by f (is_own q.arena) p.buf.number old new (halves_of q) (packet_may q p.buf.number goes) faults
 
     pub sent_finds : (f : PmdFault) → transmit.FaultsBy f p.buf.number old q.transmit new
-        → FindsBy f (is_own r.arena) old (halves_of r) new
-    sent_finds f faults =
-        subst (λ (y : Running). FindsBy f (is_own y.arena) old (halves_of y) new) is (finds_by (way q p) f faults)
+        → FindsBy f (is_own q.arena) old (halves_of q) new
+    sent_finds = finds_by (way q p)

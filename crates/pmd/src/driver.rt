@@ -1,21 +1,16 @@
 //! A driver of one queue.
 
-ghost use Rattle.std.specs.Prelude.{ℕ, ◌≡◌, ◌<◌, ◌⊎◌, ◌++◌, ◌∷◌, ◌↔◌, length, [], true, false, None, Some, Ok, Err, IfOk, IfErr, IfSome, IfNone, IsNone, IsOk, OnOk, OnErr, IsTrue};
+ghost use Rattle.std.specs.Prelude.{ℕ, ◌≡◌, ◌<◌, ◌⊎◌, ◌++◌, ◌∷◌, ◌↔◌, [], true, Some, Err, IfOk, IfErr, IfSome, IsNone, IsOk, OnOk, OnErr};
 ghost use Rattle.nic_device.specs.DmaArena.Numbers.{free_count, is_own, is_free, with_free};
 ghost use Rattle.pmd_rx.specs.PmdSeam.Fresh.{IsFresh};
 ghost use Rattle.pmd_rx.specs.PmdSeam.Packet.{kept_of};
-ghost use Rattle.pmd_rx.specs.Keeping.{Keeps, block_in, handed_block};
-ghost use Rattle.pmd_rx.specs.Plays.{LooksOnce};
-ghost use Rattle.pmd_rx.specs.Wrong.{FailsBy, PacketWaits};
-ghost use Rattle.pmd_tx.specs.Plays.{LooksLast, FaultsBy};
-ghost use Rattle.pmd_tx.specs.Sends.{gate_of, returned, IsAnswer, IsFullWhereTold, IsShut, IsAccepted, IsNoneAccepted, IsBack, IsLate, Frees};
+ghost use Rattle.pmd_rx.specs.Keeping.{block_in, handed_block};
+ghost use Rattle.pmd_tx.specs.Sends.{returned};
 ghost use Rattle.pmd.specs.Halted.{Halted, all_out, is_free_or_out};
 ghost use Rattle.pmd.specs.Stopping.{Stops, StopFails};
-ghost use Rattle.pmd.specs.Apart.{FindsBy};
 ghost use Rattle.pmd.specs.Blocks.{KeepsBlocks};
-ghost use Rattle.pmd.specs.Halves.{halves_of};
+ghost use Rattle.pmd.specs.Calls.{IsReceiveCall, IsSendCall, IsReapCall};
 ghost use Rattle.pmd.specs.Life.{KeepsHalves, RunsOn};
-ghost use Rattle.pmd.specs.Running.{receives};
 ghost use Rattle.pmd.specs.Driver.{arena_of, handed_of, accepted_of, goes_back_to, with_arena, halted_of, WhereUp, IsDown};
 
 use crate::halted::Halted;
@@ -93,22 +88,9 @@ impl Pmd {
     /// it was, and the next call goes on. `DeviceFault` without any event where the driver doesn't run.
     pub fn rx<N: Nic>(&mut self, alloc: Global, nic: &mut N) -> Result<Option<Packet>, PmdFault>
         ensures drives { RunsOn (N.made nic.old) self.old.rings (N.made nic.new) self.new.rings }
-        ensures some { WhereUp self.old.rings self.new.rings (λ r s. IfOk result (λ out. IfSome out (λ packet.
-            s.receive.handed ≡ r.receive.handed ++ kept_of packet ∷ []))) }
-        ensures none { WhereUp self.old.rings self.new.rings (λ r s. IfOk result (λ out. IfNone out (
-            LooksOnce (N.made nic.old) r.receive (N.made nic.new) s.receive))) }
-        ensures err { WhereUp self.old.rings self.new.rings (λ r s.
-            OnErr result (s.receive.handed ≡ r.receive.handed)) }
-        ensures fails { WhereUp self.old.rings self.new.rings (λ r s. IfErr result (λ f.
-            FailsBy f (N.made nic.old) r.arena r.receive (N.made nic.new) s.arena s.receive)) }
-        ensures finds { WhereUp self.old.rings self.new.rings (λ r s. IfErr result (λ f.
-            FindsBy f (is_own r.arena) (N.made nic.old) (halves_of r) (N.made nic.new))) }
-        ensures waits { WhereUp self.old.rings self.new.rings (λ r s.
-            result ≡ Err PmdFault.NoBuffer → PacketWaits s.receive.stage) }
-        ensures keeps { WhereUp self.old.rings self.new.rings (λ r s.
-            Keeps r.arena r.receive s.arena s.receive (handed_block result)) }
+        ensures received { WhereUp self.old.rings self.new.rings (λ r s.
+            IsReceiveCall result (N.made nic.old) r (N.made nic.new) s) }
         ensures blocks { KeepsBlocks self.old.rings [] self.new.rings (handed_block result) }
-        ensures transmit { WhereUp self.old.rings self.new.rings (λ r s. s.transmit ≡ r.transmit) }
         ensures home { IfOk result (λ out. IfSome out (λ packet.
             goes_back_to self.new.rings packet.buf.number ≡ true)) }
         ensures given { IfOk result (λ out. IfSome out (λ packet.
@@ -138,27 +120,8 @@ impl Pmd {
         packet: Packet,
     ) -> Result<TxAnswer, TxFault>
         ensures drives { RunsOn (N.made nic.old) self.old.rings (N.made nic.new) self.new.rings }
-        ensures answer { WhereUp self.old.rings self.new.rings (λ r s. IsAnswer
-            (gate_of r.transmit r.arena (receives r packet.buf.number) packet) packet result) }
-        ensures full { WhereUp self.old.rings self.new.rings (λ r s. IsFullWhereTold r.transmit result) }
-        ensures shut { WhereUp self.old.rings self.new.rings (λ r s.
-            IsShut (gate_of r.transmit r.arena (receives r packet.buf.number) packet)
-            → (N.made nic.new ≡ N.made nic.old) × (s ≡ r)) }
-        ensures accepted { WhereUp self.old.rings self.new.rings (λ r s.
-            IfNone (returned result) (IsAccepted r.transmit packet s.transmit)) }
-        ensures kept { WhereUp self.old.rings self.new.rings (λ r s.
-            IfSome (returned result) (λ back. IsNoneAccepted r.transmit s.transmit)) }
-        ensures back { WhereUp self.old.rings self.new.rings (λ r s.
-            IfErr result (λ failed. IfSome failed.packet (λ back. IsBack failed.fault packet back))) }
-        ensures settled { WhereUp self.old.rings self.new.rings (λ r s.
-            result ≡ Ok TxAnswer.Taken → s.transmit.posted ≡ length s.transmit.outstanding) }
-        ensures faults { WhereUp self.old.rings self.new.rings (λ r s. IfErr result (λ failed.
-            FaultsBy failed.fault packet.buf.number (N.made nic.old) r.transmit (N.made nic.new))) }
-        ensures finds { WhereUp self.old.rings self.new.rings (λ r s. IfErr result (λ failed.
-            FindsBy failed.fault (is_own r.arena) (N.made nic.old) (halves_of r) (N.made nic.new))) }
-        ensures layout { WhereUp self.old.rings self.new.rings (λ r s. s.transmit.layout ≡ r.transmit.layout) }
-        ensures others { WhereUp self.old.rings self.new.rings (λ r s.
-            (s.arena ≡ r.arena) × (s.receive ≡ r.receive)) }
+        ensures sent { WhereUp self.old.rings self.new.rings (λ r s.
+            IsSendCall packet result (N.made nic.old) r (N.made nic.new) s) }
         ensures blocks { KeepsBlocks self.old.rings (packet.buf.number ∷ []) self.new.rings
             (block_in (returned result)) }
         ensures handed { handed_of self.new.rings ≡ handed_of self.old.rings }
@@ -184,24 +147,8 @@ impl Pmd {
     /// what was freed before stays free. `DeviceFault` without any event where the driver doesn't run.
     pub fn reap<N: Nic>(&mut self, alloc: Global, nic: &mut N) -> Result<Reaped, PmdFault>
         ensures drives { RunsOn (N.made nic.old) self.old.rings (N.made nic.new) self.new.rings }
-        ensures idle { WhereUp self.old.rings self.new.rings (λ r s. IfOk result (λ done.
-            IsTrue done.idle ↔ (s.transmit.outstanding ≡ []))) }
-        ensures waits { WhereUp self.old.rings self.new.rings (λ r s. IfOk result (λ done.
-            done.idle ≡ false → LooksLast (N.made nic.old) r.transmit (N.made nic.new) s.transmit)) }
-        ensures freed { WhereUp self.old.rings self.new.rings (λ r s. IfOk result (λ done.
-            Frees r.transmit s.transmit r.arena s.arena done.freed)) }
-        ensures some { WhereUp self.old.rings self.new.rings (λ r s. OnErr result ((count : ℕ)
-            × Frees r.transmit s.transmit r.arena s.arena count)) }
-        ensures accepted { WhereUp self.old.rings self.new.rings (λ r s.
-            s.transmit.accepted ≡ r.transmit.accepted) }
-        ensures layout { WhereUp self.old.rings self.new.rings (λ r s.
-            s.transmit.layout ≡ record r.transmit.layout { next = s.transmit.layout.next }) }
-        ensures late { WhereUp self.old.rings self.new.rings (λ r s. IfErr result (λ fault. IsLate fault)) }
-        ensures faults { WhereUp self.old.rings self.new.rings (λ r s. (block : ℕ) → IfErr result (λ fault.
-            FaultsBy fault block (N.made nic.old) r.transmit (N.made nic.new))) }
-        ensures finds { WhereUp self.old.rings self.new.rings (λ r s. IfErr result (λ fault.
-            FindsBy fault (is_own r.arena) (N.made nic.old) (halves_of r) (N.made nic.new))) }
-        ensures receive { WhereUp self.old.rings self.new.rings (λ r s. s.receive ≡ r.receive) }
+        ensures reaped { WhereUp self.old.rings self.new.rings (λ r s.
+            IsReapCall result (N.made nic.old) r (N.made nic.new) s) }
         ensures blocks { KeepsBlocks self.old.rings [] self.new.rings [] }
         ensures handed { handed_of self.new.rings ≡ handed_of self.old.rings }
         ensures down { IsDown self.old.rings → (result ≡ Err PmdFault.DeviceFault)

@@ -1,16 +1,13 @@
 //! A driver whose two rings are up.
 
-ghost use Rattle.std.specs.Prelude.{ℕ, ◌≡◌, ◌<◌, ◌⊎◌, ◌++◌, ◌∷◌, ◌↔◌, length, [], true, false, Ok, Err, IfOk, IfErr, IfSome, IfNone, IsNone, IsOk, OnOk, OnErr, IsTrue};
-ghost use Rattle.nic_device.specs.DmaArena.Numbers.{free_count, is_own};
+ghost use Rattle.std.specs.Prelude.{◌≡◌, ◌<◌, ◌⊎◌, ◌∷◌, ◌↔◌, [], true, IfOk, IfErr, IfSome, IsNone, IsOk, OnOk, OnErr};
+ghost use Rattle.nic_device.specs.DmaArena.Numbers.{free_count};
 ghost use Rattle.pmd_rx.specs.PmdSeam.Fresh.{IsFresh};
-ghost use Rattle.pmd_rx.specs.PmdSeam.Packet.{kept_of};
-ghost use Rattle.pmd_rx.specs.Keeping.{Keeps, block_in, handed_block};
-ghost use Rattle.pmd_rx.specs.Plays.{LooksOnce};
-ghost use Rattle.pmd_rx.specs.Wrong.{FailsBy, PacketWaits};
-ghost use Rattle.pmd_tx.specs.Plays.{LooksLast, FaultsBy};
-ghost use Rattle.pmd_tx.specs.Sends.{gate_of, returned, IsAnswer, IsFullWhereTold, IsShut, IsAccepted, IsNoneAccepted, IsBack, IsLate, Frees};
-ghost use Rattle.pmd.specs.Apart.{DrivesRings, FindsBy, OwnsSame};
+ghost use Rattle.pmd_rx.specs.Keeping.{block_in, handed_block};
+ghost use Rattle.pmd_tx.specs.Sends.{returned};
+ghost use Rattle.pmd.specs.Apart.{DrivesRings, OwnsSame};
 ghost use Rattle.pmd.specs.Blocks.{KeepsUp};
+ghost use Rattle.pmd.specs.Calls.{IsReceiveCall, IsSendCall, IsReapCall};
 ghost use Rattle.pmd.specs.Halves.{halves_of};
 ghost use Rattle.pmd.specs.Running.{IsUp, IsReleased, goes_back, receives};
 
@@ -89,20 +86,9 @@ impl Running {
     /// it was, and the next call goes on.
     pub fn rx<N: Nic>(&mut self, alloc: Global, nic: &mut N) -> Result<Option<Packet>, PmdFault>
         ensures drives { DrivesRings (N.made nic.old) self.old (N.made nic.new) self.new }
-        ensures some { IfOk result (λ out. IfSome out (λ packet.
-            self.new.receive.handed ≡ self.old.receive.handed ++ kept_of packet ∷ [])) }
-        ensures none { IfOk result (λ out. IfNone out (
-            LooksOnce (N.made nic.old) self.old.receive (N.made nic.new) self.new.receive)) }
-        ensures err { OnErr result (self.new.receive.handed ≡ self.old.receive.handed) }
-        ensures fails { IfErr result (λ f. FailsBy f (N.made nic.old) self.old.arena self.old.receive
-            (N.made nic.new) self.new.arena self.new.receive) }
-        ensures finds { IfErr result (λ f.
-            FindsBy f (is_own self.old.arena) (N.made nic.old) (halves_of self.old) (N.made nic.new)) }
-        ensures waits { result ≡ Err PmdFault.NoBuffer → PacketWaits self.new.receive.stage }
+        ensures received { IsReceiveCall result (N.made nic.old) self.old (N.made nic.new) self.new }
         ensures home { IfOk result (λ out. IfSome out (λ packet. goes_back self.new packet.buf.number ≡ true)) }
-        ensures keeps { Keeps self.old.arena self.old.receive self.new.arena self.new.receive (handed_block result) }
         ensures blocks { KeepsUp self.old [] self.new (handed_block result) }
-        ensures transmit { self.new.transmit ≡ self.old.transmit }
         ensures who { N.who nic.new ≡ N.who nic.old }
     {
         self.receive.receive(alloc, nic, &mut self.arena)
@@ -122,22 +108,7 @@ impl Running {
         packet: Packet,
     ) -> Result<TxAnswer, TxFault>
         ensures drives { DrivesRings (N.made nic.old) self.old (N.made nic.new) self.new }
-        ensures answer { IsAnswer
-            (gate_of self.old.transmit self.old.arena (receives self.old packet.buf.number) packet) packet result }
-        ensures full { IsFullWhereTold self.old.transmit result }
-        ensures shut { IsShut (gate_of self.old.transmit self.old.arena (receives self.old packet.buf.number) packet)
-            → (N.made nic.new ≡ N.made nic.old) × (self.new ≡ self.old) }
-        ensures accepted { IfNone (returned result) (IsAccepted self.old.transmit packet self.new.transmit) }
-        ensures kept { IfSome (returned result) (λ back. IsNoneAccepted self.old.transmit self.new.transmit) }
-        ensures back { IfErr result (λ failed. IfSome failed.packet (λ back. IsBack failed.fault packet back)) }
-        ensures settled { result ≡ Ok TxAnswer.Taken
-            → self.new.transmit.posted ≡ length self.new.transmit.outstanding }
-        ensures faults { IfErr result (λ failed.
-            FaultsBy failed.fault packet.buf.number (N.made nic.old) self.old.transmit (N.made nic.new)) }
-        ensures finds { IfErr result (λ failed.
-            FindsBy failed.fault (is_own self.old.arena) (N.made nic.old) (halves_of self.old) (N.made nic.new)) }
-        ensures layout { self.new.transmit.layout ≡ self.old.transmit.layout }
-        ensures others { (self.new.arena ≡ self.old.arena) × (self.new.receive ≡ self.old.receive) }
+        ensures sent { IsSendCall packet result (N.made nic.old) self.old (N.made nic.new) self.new }
         ensures blocks { KeepsUp self.old (packet.buf.number ∷ []) self.new (block_in (returned result)) }
         ensures who { N.who nic.new ≡ N.who nic.old }
     {
@@ -153,22 +124,7 @@ impl Running {
     /// what was freed before stays free.
     pub fn reap<N: Nic>(&mut self, alloc: Global, nic: &mut N) -> Result<Reaped, PmdFault>
         ensures drives { DrivesRings (N.made nic.old) self.old (N.made nic.new) self.new }
-        ensures idle { IfOk result (λ done. IsTrue done.idle ↔ (self.new.transmit.outstanding ≡ [])) }
-        ensures waits { IfOk result (λ done. done.idle ≡ false
-            → LooksLast (N.made nic.old) self.old.transmit (N.made nic.new) self.new.transmit) }
-        ensures freed { IfOk result (λ done.
-            Frees self.old.transmit self.new.transmit self.old.arena self.new.arena done.freed) }
-        ensures some { OnErr result ((count : ℕ)
-            × Frees self.old.transmit self.new.transmit self.old.arena self.new.arena count) }
-        ensures accepted { self.new.transmit.accepted ≡ self.old.transmit.accepted }
-        ensures layout { self.new.transmit.layout
-            ≡ record self.old.transmit.layout { next = self.new.transmit.layout.next } }
-        ensures late { IfErr result (λ fault. IsLate fault) }
-        ensures faults { (block : ℕ) → IfErr result (λ fault.
-            FaultsBy fault block (N.made nic.old) self.old.transmit (N.made nic.new)) }
-        ensures finds { IfErr result (λ fault.
-            FindsBy fault (is_own self.old.arena) (N.made nic.old) (halves_of self.old) (N.made nic.new)) }
-        ensures receive { self.new.receive ≡ self.old.receive }
+        ensures reaped { IsReapCall result (N.made nic.old) self.old (N.made nic.new) self.new }
         ensures blocks { KeepsUp self.old [] self.new [] }
         ensures who { N.who nic.new ≡ N.who nic.old }
     {

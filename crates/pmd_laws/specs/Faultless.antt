@@ -33,7 +33,7 @@ pub record IsFresh (queue : ℕ) (own : Blocks) (s : State) : Type 0 where
   pub short : All (IsShortFor queue) s.waiting
   pub none : NoneLent own s
 
--- a call of `rx`, `tx` or `reap` ended with the device at fault, as its clause `finds` tells
+-- a call of `rx`, `tx` or `reap` ended with the device at fault, as `finds` in its clauses tells
 abbrev pub FindsFault : Moment → Moment → Type 0
 FindsFault m n =
     WhereUp m.driver.rings n.driver.rings

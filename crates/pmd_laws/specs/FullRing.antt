@@ -11,7 +11,7 @@ use Rattle.pmd.specs.PmdTx.Sends.{IsFullWhereTold}
 use Rattle.pmd.specs.PmdTx.declared.answer.TxAnswer.TheVariants.{RingFull}
 use Rattle.pmd_laws.specs.Told.{IsTold, Moment, last}
 
--- a call of `tx` answered that the ring is full, as its clause `full` tells
+-- a call of `tx` answered that the ring is full, as `full` in its clause `sent` tells
 abbrev pub TellsFull : Moment → Moment → Packet → Type 0
 TellsFull m n p =
     WhereUp m.driver.rings n.driver.rings (λ r s. IsFullWhereTold r.transmit (Ok (RingFull p)))

@@ -95,7 +95,7 @@ IdleIsAllSent =
     (later : List Moment) → IsToldOf w fifo h q size old a m later → HasNoneOut (last m later).driver.rings →
     bytes_of (accepted_of (last m later).driver.rings) ≡ sent_since w.queue (new_state w.vfs fifo) [] h
 
--- a call of `rx` answered none, as its clause `none` tells
+-- a call of `rx` answered none, as `none` in its clause `received` tells
 abbrev pub LooksInVain : Moment → Moment → Type 0
 LooksInVain m n =
     WhereUp m.driver.rings n.driver.rings (λ r s. LooksOnce m.made r.receive n.made s.receive)

@@ -42,7 +42,8 @@ WaitingIsNotAllBefore =
     before ++ more ≡ looked.look.before → AddsHarmless made (calls_of w.pass before) →
     bytes_of k.transmit.accepted ≢ sent_since w.queue (new_state w.vfs fifo) [] before
 
--- the same by what a driver's calls tell alone: a call of `reap` answered, and wasn't idle, as its clause `waits` tells
+-- the same by what a driver's calls tell alone: a call of `reap` answered, and wasn't idle, as `waits` in its clause
+-- `reaped` tells
 abbrev pub Waits : Moment → Moment → Type 0
 Waits m n =
     WhereUp m.driver.rings n.driver.rings (λ r s. LooksLast m.made r.transmit n.made s.transmit)

@@ -1,6 +1,7 @@
 -- Packets that come back, whose blocks can go home still.
 use Rattle.std.proofs.Common.{◌≡◌, ℕ, ◌==◌, ◌||◌, ◌&&◌, not, nat_lt, Bool, true, List, Option, Some, None, Result, Ok, Err, IfSome, sym, ap, ◌∙◌, subst}
 use Rattle.std.specs.List.{list_any}
+use Rattle.device_lock.specs.declared.entry.Call.{Call}
 use Rattle.nic_device.specs.DmaArena.Numbers.{Numbers, is_own, is_free}
 use Rattle.nic_device.specs.DmaArena.Whereabouts.{times_in_hand}
 use Rattle.pmd.specs.PmdSeam.declared.fault.PmdFault.{PmdFault}
@@ -12,6 +13,7 @@ use Rattle.pmd.specs.PmdTx.Sending.{Layout, Outgoing, blocks_of}
 use Rattle.pmd.specs.PmdTx.Sends.{IsNoneAccepted, IsBack}
 use Rattle.pmd.specs.PmdTx.declared.answer.TxAnswer.{TxAnswer}
 use Rattle.pmd.specs.PmdTx.declared.answer.TxFault.{TxFault}
+use Rattle.pmd.specs.Calls.{IsSendCall}
 use Rattle.pmd.specs.Driver.{goes_back_to, WhereUp, IsDown}
 use Rattle.pmd.specs.Running.{Running, goes_back}
 use Rattle.pmd.specs.declared.driver.Rings.{Rings}
@@ -49,19 +51,16 @@ some_back r s f p (Some back) home is others layout none =
     (still_back r s p.buf.number others layout none home)
 
 -- a packet that comes back with a fault
-pub fault_back : (R S : Rings) (p : Packet) (failed : TxFault) → goes_back_to R p.buf.number ≡ true
-    → WhereUp R S (λ (r s : Running). IfSome failed.packet (λ (back : Packet). IsBack failed.fault p back))
-    → WhereUp R S (λ (r s : Running). (s.arena ≡ r.arena) × (s.receive ≡ r.receive))
-    → WhereUp R S (λ (r s : Running). s.transmit.layout ≡ r.transmit.layout)
-    → WhereUp R S (λ (r s : Running). IfSome failed.packet (λ (back : Packet).
-    IsNoneAccepted r.transmit s.transmit))
+pub fault_back : (old new : List Call) (R S : Rings) (p : Packet) (failed : TxFault)
+    → goes_back_to R p.buf.number ≡ true
+    → WhereUp R S (λ (r s : Running). IsSendCall p (Err failed) old r new s)
     → (IsDown R → ◌≡◌ {A = Result TxAnswer TxFault} (Err failed)
     (Err (record { fault = fault.DeviceFault; packet = Some p })) × (S ≡ R))
     → IfSome failed.packet (λ (back : Packet). goes_back_to S back.buf.number ≡ true)
-fault_back (Up r) (Up s) p failed home is others layout none down =
-    some_back r s failed.fault p failed.packet home is others layout none
-fault_back (Up r) (Down h) p failed home is others layout none down = absurd is
-fault_back (Down h) S p failed home is others layout none down =
+fault_back old new (Up r) (Up s) p failed home sent down =
+    some_back r s failed.fault p failed.packet home sent.back sent.others sent.layout sent.kept
+fault_back old new (Up r) (Down h) p failed home sent down = absurd sent
+fault_back old new (Down h) S p failed home sent down =
     let (same, stays) = down tt in
     subst (λ (o : Option Packet). IfSome o (λ (back : Packet). goes_back_to S back.buf.number ≡ true))
     (sym (ap (λ (x : Result TxAnswer TxFault). packet_back x) same))

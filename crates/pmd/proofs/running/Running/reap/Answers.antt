@@ -11,25 +11,13 @@ use Rattle.pmd.proofs.ReapedCounted.{reaped_kept}
 use Rattle.pmd.proofs.running.Running.reap.Goals as goal
 
 pub reap-requires : goal.reap-requires
-reap-requires g c =
-    let q : Running = record {
-      arena = c.self.inside.arena;
-      receive = c.self.inside.receive;
-      transmit = c.self.inside.transmit;
-    } in
-    outstanding_out q c.self.invariant
+reap-requires g c = outstanding_out _ c.self.invariant
 
 pub invariant_of-self : goal.invariant_of-self
 invariant_of-self g c =
-    let q : Running = record {
-      arena = c.self.inside.arena;
-      receive = c.self.inside.receive;
-      transmit = c.self.inside.transmit;
-    } in
-    let s : Running = record q { arena = c.reap.new.arena; transmit = c.reap.new.self } in
-    let some =
-    some_freed c.reap.result q.transmit s.transmit q.arena s.arena c.reap.ensures.freed c.reap.ensures.some in
-    reaped_up q s some.0 c.self.invariant some.1 c.reap.ensures.layout refl
+    let e = c.reap.ensures in
+    let (count, frees) = some_freed c.reap.result _ _ _ _ e.freed e.some in
+    reaped_up _ _ count c.self.invariant frees e.layout refl
 
 pub returns : goal.returns
 returns g c =

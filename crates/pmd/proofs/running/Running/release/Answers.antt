@@ -1,6 +1,5 @@
-use Rattle.std.proofs.Common.{◌≡◌, ℕ, true, false, [], ◌∷◌, ◌++◌, sym, subst, ◌∙◌}
+use Rattle.std.proofs.Common.{◌≡◌, ℕ, true, sym, subst}
 use Rattle.nic_device.specs.DmaArena.Numbers.{Numbers}
-use Rattle.pmd.specs.Blocks.{KeepsEach, KeepsUp}
 use Rattle.pmd.specs.Running.{Running, IsUp, goes_back, rings_out}
 use Rattle.pmd.proofs.HaltedBlocks.{never_back}
 use Rattle.pmd.proofs.Blocks.{back_goes, released_up}
@@ -15,18 +14,12 @@ invariant_of-self c =
       transmit = c.self.inside.transmit;
     } in
     let n : ℕ = c.args.packet.buf.number in
-    let goes : goes_back q n ≡ true =
-    subst (λ (y : Running). goes_back y n ≡ true) (sym c.self.view_is)
-    (subst (λ (k : ℕ). goes_back c.args.self.now k ≡ true) c.block-block.ensures.number
-    (sym c.goes_back.ensures ∙ c.if-goes_back.true)) in
+    let goes : goes_back q n ≡ true = cc in
     subst (λ (a : Numbers). IsUp (record q { arena = a })) (sym c.give_packet.ensures)
     (released_up q n (back_goes q n goes) c.self.invariant)
 
 pub returns-clause-ok : goal.returns-clause-ok
-returns-clause-ok c =
-    never_back (goes_back c.args.self.now c.args.packet.buf.number)
-    (subst (λ (k : ℕ). goes_back c.args.self.now k ≡ false) c.block-block.ensures.number
-    (sym c.goes_back.ensures ∙ c.if-goes_back.false))
+returns-clause-ok c = never_back (goes_back c.args.self.now c.args.packet.buf.number) cc
 
 pub returns-then-goes_back-clause-blocks : goal.returns-then-goes_back-clause-blocks
 returns-then-goes_back-clause-blocks c =
@@ -35,13 +28,7 @@ returns-then-goes_back-clause-blocks c =
       receive = c.self.inside.receive;
       transmit = c.self.inside.transmit;
     } in
-    let s : Running = record q { arena = c.give_packet.new.arena } in
     let n : ℕ = c.args.packet.buf.number in
-    let goes : goes_back q n ≡ true =
-    subst (λ (y : Running). goes_back y n ≡ true) (sym c.self.view_is)
-    (subst (λ (k : ℕ). goes_back c.args.self.now k ≡ true) c.block-block.ensures.number
-    (sym c.goes_back.ensures ∙ c.if-goes_back.true)) in
+    let goes : goes_back q n ≡ true = cc in
     let back = back_goes q n goes in
-    subst (λ (y : Running). KeepsUp y (n ∷ []) s []) c.self.view_is
-    (subst (λ (a : Numbers). KeepsEach q.arena (rings_out q ++ n ∷ []) a (rings_out q ++ []))
-    (sym c.give_packet.ensures) (released_kept q.arena (rings_out q) n back.own back.away))
+    rw (← c.self.view_is, c.give_packet.ensures) (released_kept q.arena (rings_out q) n back.own back.away)

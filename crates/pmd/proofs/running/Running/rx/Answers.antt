@@ -11,14 +11,7 @@ use Rattle.pmd.proofs.Counted.{received_kept}
 use Rattle.pmd.proofs.running.Running.rx.Goals as goal
 
 pub invariant_of-self : goal.invariant_of-self
-invariant_of-self g c =
-    let q : Running = record {
-      arena = c.self.inside.arena;
-      receive = c.self.inside.receive;
-      transmit = c.self.inside.transmit;
-    } in
-    let s : Running = record q { arena = c.receive.new.arena; receive = c.receive.new.self } in
-    received_up q s _ c.self.invariant c.receive.ensures.keeps refl
+invariant_of-self g c = received_up _ _ _ c.self.invariant c.receive.ensures.keeps refl
 
 pub returns : goal.returns
 returns g c =

@@ -1,4 +1,4 @@
-use Rattle.std.proofs.Common.{◌≡◌, ℕ, Bool, refl, sym, ap, subst}
+use Rattle.std.proofs.Common.{◌≡◌, refl, ap}
 use Rattle.pmd_rx.specs.PmdSeam.declared.packet.Packet.{Packet}
 use Rattle.pmd_tx.specs.Sending.{Sender}
 use Rattle.pmd_tx.specs.Sends.{gate_of, IsAnswer, IsShut}
@@ -16,15 +16,10 @@ invariant_of-self g c =
       receive = c.self.inside.receive;
       transmit = c.self.inside.transmit;
     } in
-    let s : Running = record q { transmit = c.send.new.self } in
     let p : Packet = c.args.packet in
-    let is : c.receives-elsewhere.result ≡ receives q p.buf.number =
-    subst (λ (n : ℕ). c.receives-elsewhere.result ≡ receives q n) c.block.ensures.number
-    (subst (λ (y : Running). c.receives-elsewhere.result ≡ receives y c.block.result) (sym c.self.view_is)
-    c.receives-elsewhere.ensures) in
-    sent_up q s p c.send.result c.self.invariant
-    (subst (λ (e : Bool). IsAnswer (gate_of q.transmit q.arena e p) p c.send.result) is c.send.ensures.answer)
-    c.send.ensures.accepted c.send.ensures.kept c.send.ensures.layout refl refl
+    let is : c.receives-elsewhere.result ≡ receives q p.buf.number = cc in
+    let e = c.send.ensures in
+    sent_up q _ p c.send.result c.self.invariant (rw (← is) e.answer) e.accepted e.kept e.layout refl refl
 
 pub returns : goal.returns
 returns g c =
@@ -35,10 +30,7 @@ returns g c =
     } in
     let s : Running = record q { transmit = c.send.new.self } in
     let p : Packet = c.args.packet in
-    let is : c.receives-elsewhere.result ≡ receives q p.buf.number =
-    subst (λ (n : ℕ). c.receives-elsewhere.result ≡ receives q n) c.block.ensures.number
-    (subst (λ (y : Running). c.receives-elsewhere.result ≡ receives y c.block.result) (sym c.self.view_is)
-    c.receives-elsewhere.ensures) in
+    let is : c.receives-elsewhere.result ≡ receives q p.buf.number = cc in
     let old = g.N.Nic.made c.args.nic.now in
     let new = g.N.Nic.made c.send.new.nic in
     let e = c.send.ensures in

@@ -38,7 +38,7 @@ fn words_at_end<R: Abort>(rt: &R, direct: Direct) -> [u32; 4] {
 /// Both sides of a queue are made ready and switched on, and are then on.
 fn bring_up<R: Abort>(rt: &R, alloc: Global, direct: &mut Direct, queue: &Queue) {
     for side in [Dir::Rx, Dir::Tx] {
-        done(rt, queue.quieten(alloc, direct, side));
+        done(rt, queue.disable(alloc, direct, side));
         done(rt, queue.lay_out(alloc, direct, side, 3, 8));
         done(rt, queue.ask(alloc, direct, side, true));
         assert_eq!(rt;
@@ -76,7 +76,7 @@ fn a_queue_that_is_on_is_not_made_ready(rt: HostRuntime) {
     let mut direct = opened(&rt, alloc);
     let queue = some(&rt, Queue::new(Port::Pf, 2));
     bring_up(&rt, alloc, &mut direct, &queue);
-    match refused(&rt, queue.quieten(alloc, &mut direct, Dir::Rx)) {
+    match refused(&rt, queue.disable(alloc, &mut direct, Dir::Rx)) {
         PmdFault::DeviceFault => {}
         _other => panic!(rt; "another fault"),
     }
@@ -101,7 +101,7 @@ fn a_function_that_is_not_there_has_no_queue(rt: HostRuntime) {
     let alloc = rt.alloc();
     let mut direct = opened(&rt, alloc);
     let queue = some(&rt, Queue::new(Port::Vf(2), 0));
-    match refused(&rt, queue.quieten(alloc, &mut direct, Dir::Tx)) {
+    match refused(&rt, queue.disable(alloc, &mut direct, Dir::Tx)) {
         PmdFault::DeviceFault => {}
         _other => panic!(rt; "another fault"),
     }

@@ -7,19 +7,19 @@ ghost use Rattle.pmd_rx.specs.Keeping.{block_in, with_home};
 ghost use Rattle.pmd.specs.Ends.{received_way, held_of, handed_of, sent_way, accepted_of};
 
 use nic_device::Arena;
-use pmd_rx::{Homeward, ReceiveRing, Record};
+use pmd_rx::{ReceiveRing, Reclaim, Record};
 use pmd_tx::TransmitRing;
 
 /// The receive half: its ring, or its blocks on their way home with the packets that were handed out.
 pub(crate) enum Receiving {
     Ring(ReceiveRing),
-    Leaves(Homeward, Vec<Record>),
+    Leaves(Reclaim, Vec<Record>),
 }
 
 /// The transmit half: its ring, or its blocks on their way home with what was accepted.
 pub(crate) enum Sending {
     Ring(TransmitRing),
-    Leaves(Homeward, Vec<Record>),
+    Leaves(Reclaim, Vec<Record>),
 }
 
 impl Receiving {
@@ -45,7 +45,7 @@ impl Receiving {
     }
 
     /// Closes the ring, where it isn't closed yet: the block of a packet that it holds is given to the arena.
-    pub(crate) fn close(self, arena: &mut Arena) -> Result<(Homeward, Vec<Record>), Receiving>
+    pub(crate) fn close(self, arena: &mut Arena) -> Result<(Reclaim, Vec<Record>), Receiving>
         requires { AreOut arena.old ((received_way self).lent ++ block_in (held_of self)) }
         ensures way { IfOk result (λ ends. ends.0 ≡ received_way self) }
         ensures records { IfOk result (λ ends. ends.1.items ≡ handed_of self) }
@@ -85,7 +85,7 @@ impl Sending {
     }
 
     /// Closes the ring, where it isn't closed yet.
-    pub(crate) fn close(self) -> Result<(Homeward, Vec<Record>), Sending>
+    pub(crate) fn close(self) -> Result<(Reclaim, Vec<Record>), Sending>
         ensures way { IfOk result (λ ends. ends.0 ≡ sent_way self) }
         ensures records { IfOk result (λ ends. ends.1.items ≡ accepted_of self) }
         ensures back { IfErr result (λ half. half ≡ self) }

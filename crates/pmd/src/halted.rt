@@ -15,7 +15,7 @@ use crate::home::{Home, StopFailed};
 use crate::stopping::Leaving;
 use nic_device::Arena;
 use pmd_rx::{
-    CallFault, Homeward, Nic, Packet, PmdFault, Queue, ReceiveRing, Record, fresh_packet,
+    CallFault, Nic, Packet, PmdFault, Queue, ReceiveRing, Reclaim, Record, fresh_packet,
     give_packet,
 };
 use pmd_tx::TransmitRing;
@@ -65,7 +65,7 @@ impl Halted {
         Halted {
             arena,
             receive: Receiving::Ring(receive),
-            transmit: Sending::Leaves(Homeward::new(alloc), Vec::new(alloc)),
+            transmit: Sending::Leaves(Reclaim::new(alloc), Vec::new(alloc)),
         }
     }
 

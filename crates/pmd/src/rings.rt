@@ -75,7 +75,7 @@ pub(crate) fn receive_ring<N: Nic>(
     ensures kept { OnErr result (arena.new ≡ arena.old) }
     ensures who { N.who nic.new ≡ N.who nic.old }
 {
-    match queue.quieten_both(alloc, nic) {
+    match queue.disable_both(alloc, nic) {
         Ok(()) => {}
         Err(fault) => return Err(fault),
     }

@@ -9,14 +9,14 @@ ghost use Rattle.pmd.specs.Stopping.{ComesHome, GoesHome, IsLeft, IsLeftAmid};
 use crate::halted::Halted;
 use crate::home::{Home, StopFailed};
 use nic_device::Arena;
-use pmd_rx::{CallFault, Homeward, Nic, PmdFault, Queue, Record};
+use pmd_rx::{CallFault, Nic, PmdFault, Queue, Reclaim, Record};
 use std::alloc::Global;
 
 /// A driver whose rings are closed: their blocks are on their way home.
 pub(crate) struct Leaving {
     pub(crate) arena: Arena,
-    pub(crate) receive: Homeward,
-    pub(crate) transmit: Homeward,
+    pub(crate) receive: Reclaim,
+    pub(crate) transmit: Reclaim,
     pub(crate) handed: Vec<Record>,
     pub(crate) accepted: Vec<Record>,
 }
@@ -89,8 +89,8 @@ fn bring_both<N: Nic>(
     alloc: Global,
     nic: &mut N,
     arena: &mut Arena,
-    first: &mut Homeward,
-    second: &mut Homeward,
+    first: &mut Reclaim,
+    second: &mut Reclaim,
 ) -> Result<(), CallFault<()>>
     requires { AreOut arena.old (first.old.lent ++ second.old.lent) }
     ensures all { OnOk result (BringsAll

@@ -10,7 +10,7 @@ ghost use Rattle.pmd_rx.specs.Receive.{at_start, held_by};
 ghost use Rattle.pmd_rx.specs.Shown.{CanLook, IsHolding, HasLent, HasNamed};
 
 use nic_device::{Arena, Port};
-use pmd_seam::{Homeward, Packet, Record, give_packet};
+use pmd_seam::{Packet, Reclaim, Record, give_packet};
 use std::alloc::Global;
 use std::collections::VecDeque;
 use std::marker::Model;
@@ -170,7 +170,7 @@ impl ReceiveRing {
 impl ReceiveRing {
     /// Ends the ring: its blocks are on their way home, the block of a packet that is held is given to the arena, and
     /// the records are handed out. Where there is no memory, the ring comes back as it was.
-    pub fn close(self, arena: &mut Arena) -> Result<(Homeward, Vec<Record>), ReceiveRing>
+    pub fn close(self, arena: &mut Arena) -> Result<(Reclaim, Vec<Record>), ReceiveRing>
         requires { AreOut arena.old (blocks_out self) }
         ensures way { IfOk result (λ ends. ends.0 ≡ record { lent = lent_of self; lost = 0 }) }
         ensures records { IfOk result (λ ends. ends.1.items ≡ self.handed) }
@@ -197,7 +197,7 @@ impl ReceiveRing {
         } = ended;
         let lent = with_ring(blocks, fresh, ring);
         give_held(arena, held);
-        Ok((Homeward::of(lent), handed))
+        Ok((Reclaim::of(lent), handed))
     }
 
     /// The block that is lent and not posted yet.

@@ -15,13 +15,13 @@ impl Queue {
     /// Sees to it that both sides of the queue are off and stay so, the receive side first.
     ///
     /// `DeviceFault` where one is on, or the port has no such register.
-    pub fn quieten_both<N: Nic>(&self, alloc: Global, nic: &mut N) -> Result<(), PmdFault>
+    pub fn disable_both<N: Nic>(&self, alloc: Global, nic: &mut N) -> Result<(), PmdFault>
         ensures made { OnOk result (AreMade self.now (N.made nic.old) (N.made nic.new) both_quiet) }
         ensures failed { IfErr result (λ f. StopsBy f self.now (N.made nic.old) (N.made nic.new) both_quiet) }
         ensures who { N.who nic.new ≡ N.who nic.old }
     {
-        self.quieten(alloc, nic, Dir::Rx)?;
-        self.quieten(alloc, nic, Dir::Tx)
+        self.disable(alloc, nic, Dir::Rx)?;
+        self.disable(alloc, nic, Dir::Tx)
     }
 
     /// Asks for both sides of the queue to go on or off, and polls until they are, the receive side first: `POLLS`

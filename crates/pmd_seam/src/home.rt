@@ -16,12 +16,12 @@ use std::marker::Model;
 
 /// Blocks on their way home: the numbers of those that are lent still, and how many of them the device had no longer.
 #[derive(Debug, Drop)]
-pub struct Homeward {
+pub struct Reclaim {
     lent: VecDeque<u32>,
     lost: u32,
 }
 
-impl Model for Homeward {
+impl Model for Reclaim {
     ghost use Rattle.std.specs.Prelude.{◌+◌, ◌<◌, length};
     ghost use Rattle.pmd_seam.specs.Home.{Homebound};
 
@@ -32,23 +32,23 @@ impl Model for Homeward {
     ghost invariant = { λ h. h.lost + length h.lent.items < 4294967296 };
 }
 
-impl Homeward {
+impl Reclaim {
     /// No block is on its way, and none is lost.
-    pub fn new(alloc: Global) -> Homeward
+    pub fn new(alloc: Global) -> Reclaim
         ensures { result ≡ record { lent = []; lost = 0 } }
     {
-        Homeward {
+        Reclaim {
             lent: VecDeque::new(alloc),
             lost: 0,
         }
     }
 
     /// Blocks that are lent, fewer than 2^32, by their numbers.
-    pub fn of(lent: VecDeque<u32>) -> Homeward
+    pub fn of(lent: VecDeque<u32>) -> Reclaim
         requires { length lent.items < 4294967296 }
         ensures { result ≡ record { lent = lent.items; lost = 0 } }
     {
-        Homeward { lent, lost: 0 }
+        Reclaim { lent, lost: 0 }
     }
 
     /// Adds the number of a block that is lent. Nothing is added where there is no memory.

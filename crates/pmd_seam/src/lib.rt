@@ -7,7 +7,7 @@
 //!
 //! On it stand the accesses that a driver makes, each with the replies that it can have (`accesses.rt`), the set-up of
 //! the whole device (`pf_setup`), a queue with the numbers of its registers at a port, its sides made ready and
-//! switched (`Queue`), the slots of a ring (`slots.rt`) and the way of blocks home (`Homeward`).
+//! switched (`Queue`), the slots of a ring (`slots.rt`) and the way of blocks home (`Reclaim`).
 #![tactic(auto)]
 
 mod accesses;
@@ -30,7 +30,7 @@ pub use accesses::{lend, peek, poke, read, take, write};
 pub use device_lock::CallFault;
 pub use direct::Direct;
 pub use fault::PmdFault;
-pub use home::{Homeward, give_back};
+pub use home::{Reclaim, give_back};
 pub use interleaved::{Finished, Interleaved};
 pub use names::Queue;
 pub use nic::Nic;

@@ -99,7 +99,7 @@ impl Queue {
     /// Sees to it that a side of the queue is off and stays so: it is seen off, asked to be off, and seen off again.
     ///
     /// `DeviceFault` where it is on, or the port has no such register.
-    pub fn quieten<N: Nic>(&self, alloc: Global, nic: &mut N, side: Dir) -> Result<(), PmdFault>
+    pub fn disable<N: Nic>(&self, alloc: Global, nic: &mut N, side: Dir) -> Result<(), PmdFault>
         ensures made { OnOk result (AreMade self.now (N.made nic.old) (N.made nic.new) (quiet side)) }
         ensures failed { IfErr result (λ f. StopsBy f self.now (N.made nic.old) (N.made nic.new) (quiet side)) }
         ensures who { N.who nic.new ≡ N.who nic.old }

@@ -15,7 +15,7 @@ ghost use Rattle.pmd_tx.specs.Shown.{MayLend, sent_as, IsUnlent};
 
 use nic_device::{BLOCK_BYTES, Buf, Port, data_descriptor_word, is_sent, of_halves, second_half};
 use pmd_seam::{
-    CallFault, Homeward, Nic, Packet, PmdFault, Record, descriptor_address, lend, next_slot, peek,
+    CallFault, Nic, Packet, PmdFault, Reclaim, Record, descriptor_address, lend, next_slot, peek,
     poke, slot_after, take, write,
 };
 use std::alloc::Global;
@@ -112,7 +112,7 @@ impl TransmitRing {
     /// Ends the ring: its blocks are on their way home, and what was accepted is given away, the oldest first. Where
     /// there is no memory, the ring comes back as it was.
     #[tactic(auto, using(crate::proofs::Outstanding::outstanding))]
-    pub fn close(self) -> Result<(Homeward, Vec<Record>), TransmitRing>
+    pub fn close(self) -> Result<(Reclaim, Vec<Record>), TransmitRing>
         ensures way { IfOk result (λ ends. ends.0 ≡ record { lent = lent_of self; lost = 0 }) }
         ensures records { IfOk result (λ ends. ends.1.items ≡ self.accepted) }
         ensures back { IfErr result (λ ring. ring ≡ self) }
@@ -135,7 +135,7 @@ impl TransmitRing {
         } = ended;
         let mut lent = blocks;
         lent.push_back_reserved(u32::from(ring));
-        Ok((Homeward::of(lent), accepted))
+        Ok((Reclaim::of(lent), accepted))
     }
 
     /// The number of the block that the ring is in, below 65,536.

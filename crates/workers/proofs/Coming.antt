@@ -11,8 +11,8 @@ use Rattle.workers.specs.declared.job.Job.{Job}
 use Rattle.workers.specs.declared.reports.Collector.{Collector}
 use Rattle.workers.specs.Coming.{Sits, AllSit, IsDrained, AreDrained, HasEnded, AllEnded, HasCome, HaveCome, IsMade, AreMade}
 use Rattle.workers.specs.Ends.{IsEndOf, IsBack, IsEnd, AreEnds}
-use Rattle.workers.specs.declared.duty.Back.{Back}
-use Rattle.workers.specs.declared.duty.Duty.{Duty}
+use Rattle.workers.specs.declared.assignment.Back.{Back}
+use Rattle.workers.specs.declared.assignment.Assignment.{Assignment}
 use Rattle.workers.specs.declared.ends.WorkerEnd.{WorkerEnd}
 
 drained_again : (a b c : Collector) → IsDrained a b → IsDrained b c → IsDrained a c
@@ -50,9 +50,9 @@ drained_more old cs i x d inside drained one = (
 )
 
 -- one worker's seat, and the collector of its reports, after the run
-one_ended : (j : Job) (s t : Seat Duty Back) (c d : Collector) → Sits j s c → IsEnded IsBack s t → IsDrained c d
+one_ended : (j : Job) (s t : Seat Assignment Back) (c d : Collector) → Sits j s c → IsEnded IsBack s t → IsDrained c d
     → HasEnded j t d
-one_ended j (Waits duty) (Ended b) c d (is, pair, room) (end, ring) (same, kept) = (
+one_ended j (Waits assignment) (Ended b) c d (is, pair, room) (end, ring) (same, kept) = (
   subst (λ (x : Job). IsEndOf x b.pass b.rest (sent b.producer) b.fault) is end,
   (
     same.0.0 ∙ (pair.0 ∙ sym ring.0.0),
@@ -62,12 +62,12 @@ one_ended j (Waits duty) (Ended b) c d (is, pair, room) (end, ring) (same, kept)
   ),
   rw kept room,
 )
-one_ended j (Waits duty) (Waits other) c d sits ended drained = absurd ended
-one_ended j (Waits duty) Empty c d sits ended drained = absurd ended
+one_ended j (Waits assignment) (Waits other) c d sits ended drained = absurd ended
+one_ended j (Waits assignment) Empty c d sits ended drained = absurd ended
 one_ended j (Ended b) t c d sits ended drained = absurd sits
 one_ended j Empty t c d sits ended drained = absurd sits
 
-pub all_ended : (jobs : List Job) (seats after : List (Seat Duty Back)) (old new : List Collector)
+pub all_ended : (jobs : List Job) (seats after : List (Seat Assignment Back)) (old new : List Collector)
     → AllSit jobs seats old → length after ≡ length seats → EachEnded IsBack seats after → AreDrained old new
     → AllEnded jobs after new
 all_ended [] [] [] [] [] sit count ended drained = tt
@@ -91,21 +91,21 @@ taken : {A : Type 0} → (xs rest : List A) (n : ℕ) → n ≡ length xs → ta
 taken xs rest n is = ap (λ (k : ℕ). take k (xs ++ rest)) is ∙ take-append_seam xs rest
 
 -- a run over the seats and the collectors of vectors
-pub run_over : (jobs : List Job) (seats after : List (Seat Duty Back)) (old new : List Collector) (len count : ℕ)
-    (rest : List (Seat Duty Back)) (left : List Collector) → AllSit jobs seats old → len ≡ length seats
+pub run_over : (jobs : List Job) (seats after : List (Seat Assignment Back)) (old new : List Collector) (len count : ℕ)
+    (rest : List (Seat Assignment Back)) (left : List Collector) → AllSit jobs seats old → len ≡ length seats
     → length after ≡ length seats → count ≡ length old → EachEnded IsBack seats after → AreDrained old new
     → AllEnded jobs (take len (after ++ rest)) (take count (new ++ left))
 run_over jobs seats after old new len count rest left sit is same has ended drained =
     rw (taken after rest len (is ∙ sym same), taken new left count (has ∙ sym drained.0))
     (all_ended jobs seats after old new sit same ended drained)
 
-one_come : (j : Job) (t : Seat Duty Back) (d : Collector) → HasEnded j t d → HasCome t d
+one_come : (j : Job) (t : Seat Assignment Back) (d : Collector) → HasEnded j t d → HasCome t d
 one_come j (Ended b) d (end, pair, room) = (pair, omega (arith, end.few, room))
-one_come j (Waits duty) d ended = absurd ended
+one_come j (Waits assignment) d ended = absurd ended
 one_come j Empty d ended = absurd ended
 
 -- the rest of all reports can be taken
-pub all_come : (jobs : List Job) (seats : List (Seat Duty Back)) (collectors : List Collector)
+pub all_come : (jobs : List Job) (seats : List (Seat Assignment Back)) (collectors : List Collector)
     → AllEnded jobs seats collectors → HaveCome seats collectors
 all_come [] [] [] ended = tt
 all_come (j ∷ jobs) (t ∷ seats) (d ∷ collectors) ended =
@@ -115,13 +115,13 @@ all_come [] [] (d ∷ collectors) ended = absurd ended
 all_come (j ∷ jobs) [] collectors ended = absurd ended
 all_come (j ∷ jobs) (t ∷ seats) [] ended = absurd ended
 
-one_end : (j : Job) (t : Seat Duty Back) (d : Collector) (e : WorkerEnd) → HasEnded j t d → IsMade t e → IsEnd j e
+one_end : (j : Job) (t : Seat Assignment Back) (d : Collector) (e : WorkerEnd) → HasEnded j t d → IsMade t e → IsEnd j e
 one_end j (Ended b) d e ended (pass, rest, reports, fault) = rw (pass, rest, reports, fault) ended.0
-one_end j (Waits duty) d e ended made = absurd ended
+one_end j (Waits assignment) d e ended made = absurd ended
 one_end j Empty d e ended made = absurd ended
 
 -- the ends that were made are those of the jobs
-pub all_ends : (jobs : List Job) (seats : List (Seat Duty Back)) (collectors : List Collector)
+pub all_ends : (jobs : List Job) (seats : List (Seat Assignment Back)) (collectors : List Collector)
     (ends : List WorkerEnd) → AllEnded jobs seats collectors → AreMade seats ends → AreEnds jobs ends
 all_ends [] [] [] [] ended made = tt
 all_ends (j ∷ jobs) (t ∷ seats) (d ∷ collectors) (e ∷ ends) ended made =

@@ -4,7 +4,7 @@ use Rattle.std.specs.List.{remove}
 use Rattle.workers.specs.declared.seat.Seat.{Seat}
 use Rattle.workers.specs.declared.reports.Collector.{Collector}
 use Rattle.workers.specs.Coming.{HasCome, HaveCome, IsMade, AreMade}
-use Rattle.workers.specs.declared.duty.Back.{Back}
+use Rattle.workers.specs.declared.assignment.Back.{Back}
 use Rattle.workers.specs.declared.ends.WorkerEnd.{WorkerEnd}
 
 module _ {T : Type 0} where

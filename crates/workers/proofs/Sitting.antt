@@ -11,11 +11,11 @@ use Rattle.workers.specs.declared.job.Job.{Job}
 use Rattle.workers.specs.declared.reports.Collector.{Collector}
 use Rattle.workers.specs.declared.reports.Report.{Report}
 use Rattle.workers.specs.Coming.{AreWays, Sits, AllSit}
-use Rattle.workers.specs.declared.duty.Back.{Back}
-use Rattle.workers.specs.declared.duty.Duty.{Duty}
+use Rattle.workers.specs.declared.assignment.Back.{Back}
+use Rattle.workers.specs.declared.assignment.Assignment.{Assignment}
 
 -- one more sits
-sit_more : (jobs : List Job) (ss : List (Seat Duty Back)) (cs : List Collector) (j : Job) (s : Seat Duty Back)
+sit_more : (jobs : List Job) (ss : List (Seat Assignment Back)) (cs : List Collector) (j : Job) (s : Seat Assignment Back)
     (c : Collector) → AllSit jobs ss cs → Sits j s c → AllSit (jobs ++ j ∷ []) (ss ++ s ∷ []) (cs ++ c ∷ [])
 sit_more [] [] [] j s c sit sits = (sits, tt)
 sit_more (k ∷ jobs) (t ∷ ss) (d ∷ cs) j s c sit sits = (sit.0, sit_more jobs ss cs j s c sit.1 sits)
@@ -26,7 +26,7 @@ sit_more (k ∷ jobs) (t ∷ ss) [] j s c sit sits = absurd sit
 
 -- some jobs sit, and the others have ways
 pub record IsSitting (all : List Job) (collectors : List Collector) (jobs : List Job)
-    (ps : List (Producer Report Global AnyItems)) (ss : List (Seat Duty Back)) : Type 0 where
+    (ps : List (Producer Report Global AnyItems)) (ss : List (Seat Assignment Back)) : Type 0 where
   pub before : List Job
   pub taken : List Collector
   pub left : List Collector
@@ -36,7 +36,7 @@ pub record IsSitting (all : List Job) (collectors : List Collector) (jobs : List
   pub ways : AreWays jobs ps left
 
 first_sits : (all : List Job) (collectors : List Collector) (jobs : List Job)
-    (ps : List (Producer Report Global AnyItems)) (ss : List (Seat Duty Back)) (d : Duty) (k : Job)
+    (ps : List (Producer Report Global AnyItems)) (ss : List (Seat Assignment Back)) (d : Assignment) (k : Job)
     (q : Producer Report Global AnyItems) (before : List Job) (taken left : List Collector)
     → before ++ jobs ≡ all → taken ++ left ≡ collectors → AllSit before ss taken
     → AreWays jobs ps left → 0 < length jobs → d.job ≡ slice_index_or jobs 0 k
@@ -61,7 +61,7 @@ first_sits all collectors (j ∷ jobs) (p ∷ ps) ss d k q before taken [] jobs_
 
 -- the first of the others sits down
 pub one_sits : (all : List Job) (collectors : List Collector) (jobs : List Job)
-    (ps : List (Producer Report Global AnyItems)) (ss : List (Seat Duty Back)) (d : Duty) (k : Job)
+    (ps : List (Producer Report Global AnyItems)) (ss : List (Seat Assignment Back)) (d : Assignment) (k : Job)
     (q : Producer Report Global AnyItems) → IsSitting all collectors jobs ps ss → 0 < length jobs → d.job ≡ k
     → k ≡ slice_index_or jobs 0 k → d.producer ≡ q → q ≡ slice_index_or ps 0 q
     → IsSitting all collectors (remove jobs 0) (remove ps 0) (ss ++ Waits d ∷ [])
@@ -71,14 +71,14 @@ one_sits all collectors jobs ps ss d k q i some job is producer here =
 
 -- nobody sits yet
 pub none_sits : (all : List Job) (collectors : List Collector) (ps : List (Producer Report Global AnyItems))
-    (ss : List (Seat Duty Back)) → ss ≡ [] → AreWays all ps collectors → IsSitting all collectors all ps ss
+    (ss : List (Seat Assignment Back)) → ss ≡ [] → AreWays all ps collectors → IsSitting all collectors all ps ss
 none_sits all collectors ps ss empty ways = record {
   before = [];
   taken = [];
   left = collectors;
   jobs_are = refl;
   collectors_are = refl;
-  sit = subst (λ (l : List (Seat Duty Back)). AllSit [] l []) (sym empty) tt;
+  sit = subst (λ (l : List (Seat Assignment Back)). AllSit [] l []) (sym empty) tt;
   ways = ways;
 }
 
@@ -89,7 +89,7 @@ nobody_left (p ∷ ps) left ways = absurd ways
 
 -- when all sit, each has its collector
 pub all_sit : (all : List Job) (collectors : List Collector) (ps : List (Producer Report Global AnyItems))
-    (ss : List (Seat Duty Back)) → IsSitting all collectors [] ps ss → AllSit all ss collectors
+    (ss : List (Seat Assignment Back)) → IsSitting all collectors [] ps ss → AllSit all ss collectors
 all_sit all collectors ps ss i =
     let none = nobody_left ps i.left i.ways in
     subst (λ (l : List Job). AllSit l ss collectors) (sym (append-nil i.before) ∙ i.jobs_are)
@@ -97,9 +97,9 @@ all_sit all collectors ps ss i =
     (sym (append-nil i.taken) ∙ (ap (λ (l : List Collector). i.taken ++ l) (sym none) ∙ i.collectors_are)) i.sit)
 
 -- each seat has a task
-pub seats_wait : (jobs : List Job) (ss : List (Seat Duty Back)) (cs : List Collector) → AllSit jobs ss cs
-    → (k : ℕ) (d : Seat Duty Back) → k < length ss → waits (slice_index_or ss k d) ≡ true
-seats_wait (j ∷ jobs) (Waits duty ∷ ss) (c ∷ cs) sit zero d inside = refl
+pub seats_wait : (jobs : List Job) (ss : List (Seat Assignment Back)) (cs : List Collector) → AllSit jobs ss cs
+    → (k : ℕ) (d : Seat Assignment Back) → k < length ss → waits (slice_index_or ss k d) ≡ true
+seats_wait (j ∷ jobs) (Waits assignment ∷ ss) (c ∷ cs) sit zero d inside = refl
 seats_wait (j ∷ jobs) (Ended b ∷ ss) (c ∷ cs) sit zero d inside = absurd sit.0
 seats_wait (j ∷ jobs) (Empty ∷ ss) (c ∷ cs) sit zero d inside = absurd sit.0
 seats_wait (j ∷ jobs) (s ∷ ss) (c ∷ cs) sit (suc k) d inside =
@@ -111,7 +111,7 @@ seats_wait (j ∷ jobs) [] cs sit k d inside = absurd sit
 seats_wait (j ∷ jobs) (s ∷ ss) [] sit k d inside = absurd sit
 
 -- there is a seat for each job
-pub sit_count : (jobs : List Job) (ss : List (Seat Duty Back)) (cs : List Collector) → AllSit jobs ss cs
+pub sit_count : (jobs : List Job) (ss : List (Seat Assignment Back)) (cs : List Collector) → AllSit jobs ss cs
     → length ss ≡ length jobs
 sit_count [] [] [] sit = refl
 sit_count (j ∷ jobs) (s ∷ ss) (c ∷ cs) sit = ap (λ (n : ℕ). suc n) (sit_count jobs ss cs sit.1)

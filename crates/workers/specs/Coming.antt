@@ -11,8 +11,8 @@ use Rattle.workers.specs.declared.job.Job.{Job}
 use Rattle.workers.specs.declared.reports.Collector.{Collector}
 use Rattle.workers.specs.declared.reports.Report.{Report}
 use Rattle.workers.specs.Ends.{IsEndOf}
-use Rattle.workers.specs.declared.duty.Back.{Back}
-use Rattle.workers.specs.declared.duty.Duty.{Duty}
+use Rattle.workers.specs.declared.assignment.Back.{Back}
+use Rattle.workers.specs.declared.assignment.Assignment.{Assignment}
 use Rattle.workers.specs.declared.ends.WorkerEnd.{WorkerEnd}
 
 -- each job has a way for its reports, with room for all of them
@@ -24,11 +24,11 @@ AreWays (j ∷ jobs) (p ∷ producers) (c ∷ collectors) =
 AreWays jobs producers collectors = ⊥
 
 -- the job sits there, and its reports come to this collector
-abbrev pub Sits : Job → Seat Duty Back → Collector → Type 0
+abbrev pub Sits : Job → Seat Assignment Back → Collector → Type 0
 Sits j (Waits d) c = (d.job ≡ j) × IsPair d.producer c.consumer × (j.rounds ≤ vec_capacity c.reports)
 Sits j other c = ⊥
 
-abbrev pub AllSit : List Job → List (Seat Duty Back) → List Collector → Type 0
+abbrev pub AllSit : List Job → List (Seat Assignment Back) → List Collector → Type 0
 AllSit [] [] [] = ⊤
 AllSit (j ∷ jobs) (s ∷ seats) (c ∷ collectors) = Sits j s c × AllSit jobs seats collectors
 AllSit jobs seats collectors = ⊥
@@ -42,13 +42,13 @@ AreDrained old new = (length new ≡ length old)
     × ((at : ℕ) (c : Collector) → at < length old → IsDrained (slice_index_or old at c) (slice_index_or new at c))
 
 -- the worker of a job ended, and the rest of its reports can be taken
-abbrev pub HasEnded : Job → Seat Duty Back → Collector → Type 0
+abbrev pub HasEnded : Job → Seat Assignment Back → Collector → Type 0
 HasEnded j (Ended b) c =
     IsEndOf j b.pass b.rest (sent b.producer) b.fault × IsPair b.producer c.consumer
     × (j.rounds ≤ vec_capacity c.reports)
 HasEnded j other c = ⊥
 
-abbrev pub AllEnded : List Job → List (Seat Duty Back) → List Collector → Type 0
+abbrev pub AllEnded : List Job → List (Seat Assignment Back) → List Collector → Type 0
 AllEnded [] [] [] = ⊤
 AllEnded (j ∷ jobs) (s ∷ seats) (c ∷ collectors) = HasEnded j s c × AllEnded jobs seats collectors
 AllEnded jobs seats collectors = ⊥

@@ -12,8 +12,8 @@ use Rattle.workers.specs.Lived.{HasRun}
 use Rattle.workers.specs.Told.{reports_of}
 use Rattle.workers.specs.declared.fault.WorkerFault.{WorkerFault}
 use Rattle.workers.specs.declared.fault.WorkerFault.TheVariants.{NoThread}
-use Rattle.workers.specs.declared.duty.Back.{Back}
-use Rattle.workers.specs.declared.duty.Duty.{Duty}
+use Rattle.workers.specs.declared.assignment.Back.{Back}
+use Rattle.workers.specs.declared.assignment.Assignment.{Assignment}
 use Rattle.workers.specs.declared.ends.WorkerEnd.{WorkerEnd}
 
 -- how the worker of a job ends, with its pass, what its driver left, what it told, and a fault
@@ -34,8 +34,8 @@ pub record IsEndOf (j : Job) (pass : PassValue) (rest : Rest) (told : List Repor
   -- without a thread nothing was done
   pub idle : fault ≡ Some NoThread → (pass ≡ j.pass) × IsHome j.arena rest
 
--- what comes back from the thread of a duty
-abbrev pub IsBack : Duty → Back → Type 0
+-- what comes back from the thread of a assignment
+abbrev pub IsBack : Assignment → Back → Type 0
 IsBack d b = IsEndOf d.job b.pass b.rest (sent b.producer) b.fault × SameProducer d.producer b.producer
 
 abbrev pub IsEnd : Job → WorkerEnd → Type 0

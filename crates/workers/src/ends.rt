@@ -3,7 +3,7 @@
 ghost use Rattle.std.specs.Prelude.{◌≡◌, [], ◌≤◌, length, vec_len, vec_capacity};
 ghost use Rattle.workers.specs.Coming.{HasCome, HaveCome, IsMade, AreMade};
 
-use crate::duty::Back;
+use crate::assignment::Back;
 use crate::fault::WorkerFault;
 use crate::job::Job;
 use crate::reports::{Collector, Report};

@@ -9,13 +9,13 @@
 //!
 //! A worker: `job.rt` has what it is to do, `reports.rt` the way of its reports, `feeding.rt` the frames that arrive
 //! meanwhile; `turns.rt` takes one packet, tells of it and sends it again; `driving.rt` has a whole run and the points
-//! at which it meets the others. The team: `duty.rt` has what a worker takes to its thread and what comes back,
-//! `labour.rt` its task there, `room.rt` all room that is made before a thread starts, `host.rt` the calling thread's
+//! at which it meets the others. The team: `assignment.rt` has what a worker takes to its thread and what comes back,
+//! `worker_task.rt` its task there, `room.rt` all room that is made before a thread starts, `host.rt` the calling thread's
 //! part, `ends.rt` how workers end, and `team.rt` a whole run.
 #![tactic(auto)]
 
+mod assignment;
 mod driving;
-mod duty;
 mod ends;
 mod fault;
 mod feeding;
@@ -23,7 +23,6 @@ mod gate;
 mod host;
 mod hosted;
 mod job;
-mod labour;
 mod meeting;
 mod reports;
 mod room;
@@ -32,6 +31,7 @@ mod standing;
 mod start;
 mod team;
 mod turns;
+mod worker_task;
 
 pub use device_lock::{
     Call, CallFault, CloseFault, CloseRefused, Closed, Entry, NewFault, Pass, Shared, Watched,

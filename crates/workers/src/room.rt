@@ -3,13 +3,13 @@
 ghost use Rattle.std.specs.Prelude.{◌≡◌, ◌≤◌, [], IfOk, length, vec_len, vec_capacity};
 ghost use Rattle.workers.specs.Coming.{AreWays, AllSit};
 
-use crate::duty::{Back, Duty};
+use crate::assignment::{Assignment, Back};
 use crate::gate::Gate;
 use crate::job::Job;
-use crate::labour::Labour;
 use crate::reports::{Collector, Report};
 use crate::seat::Seat;
 use crate::start::Start;
+use crate::worker_task::WorkerTask;
 use device_lock::Shared;
 use rtrb::Producer;
 use std::alloc::{AllocError, Global};
@@ -53,8 +53,8 @@ pub(crate) fn sit<'a, R: Wait, G: Gate, const VFS: u8, const FIFO: u16>(
     jobs: Vec<Job>,
     producers: Vec<Producer<Report>>,
     collectors: &[Collector],
-    room: Vec<Seat<Labour<'a, R, G, VFS, FIFO>, Back>>,
-) -> Vec<Seat<Labour<'a, R, G, VFS, FIFO>, Back>>
+    room: Vec<Seat<WorkerTask<'a, R, G, VFS, FIFO>, Back>>,
+) -> Vec<Seat<WorkerTask<'a, R, G, VFS, FIFO>, Back>>
     requires ways { AreWays jobs.items producers.items collectors.now }
     requires empty { room.items ≡ [] }
     requires room { vec_len jobs ≤ vec_capacity room }
@@ -64,12 +64,12 @@ pub(crate) fn sit<'a, R: Wait, G: Gate, const VFS: u8, const FIFO: u16>(
     let mut producers = producers;
     let mut seats = room;
     for worker in 0..jobs.len() {
-        let duty = Duty {
+        let assignment = Assignment {
             worker,
             job: jobs.remove(0),
             producer: producers.remove(0),
         };
-        seats.push_reserved(Seat::Waits(Labour::new(rt, alloc, gate, shared, duty)));
+        seats.push_reserved(Seat::Waits(WorkerTask::new(rt, alloc, gate, shared, assignment)));
     }
     jobs.destroy_empty();
     seats

@@ -7,17 +7,17 @@ ghost use Rattle.workers.specs.Coming.{AreDrained, AreWays};
 ghost use Rattle.workers.specs.Ends.{AreEnds, IsBack};
 ghost use Rattle.workers.specs.Refusing.{IsTeam, IsWhy, is_certain, is_team_size};
 
-use crate::duty::Back;
+use crate::assignment::Back;
 use crate::ends::{Ran, RunFault, RunRefused, WorkerEnd, gather};
 use crate::gate::Gate;
 use crate::host::host;
 use crate::hosted::run;
 use crate::job::{Job, overlap};
-use crate::labour::Labour;
 use crate::reports::Collector;
 use crate::room::{Room, make_room, sit};
 use crate::seat::Seat;
 use crate::start::Start;
+use crate::worker_task::WorkerTask;
 use device_lock::{Pass, Shared};
 use std::alloc::Global;
 use std::mem;
@@ -60,7 +60,7 @@ fn run_seats<R: Threads + Wait + Sync, G: Gate + Sync, const VFS: u8, const FIFO
     pass: &mut Pass,
     frames: Vec<Vec<u8>>,
     collectors: &mut [Collector],
-    seats: &mut [Seat<Labour<'_, R, G, VFS, FIFO>, Back>],
+    seats: &mut [Seat<WorkerTask<'_, R, G, VFS, FIFO>, Back>],
 ) -> usize
     requires waits { All (λ s. waits s ≡ true) seats.old }
     requires starts { length starts.now ≡ length seats.old }
@@ -97,7 +97,7 @@ fn run_in<R: Threads + Wait + Sync, G: Gate + Sync, const VFS: u8, const FIFO: u
     pass: &mut Pass,
     frames: Vec<Vec<u8>>,
     room: Room,
-    seats: Vec<Seat<Labour<'_, R, G, VFS, FIFO>, Back>>,
+    seats: Vec<Seat<WorkerTask<'_, R, G, VFS, FIFO>, Back>>,
     ends: Vec<WorkerEnd>,
 ) -> Ran
     requires starts { vec_len room.starts ≡ vec_len jobs }

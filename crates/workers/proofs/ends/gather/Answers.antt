@@ -1,6 +1,6 @@
 use Rattle.std.proofs.Common.{◌<◌, List, length, arith, subst}
 use Rattle.workers.specs.declared.seat.Seat.{Seat}
-use Rattle.workers.specs.declared.duty.Back.{Back}
+use Rattle.workers.specs.declared.assignment.Back.{Back}
 use Rattle.workers.proofs.Emptied.{emptied}
 use Rattle.workers.proofs.Gathering.{IsGathered, first_come, one_gathered, all_gathered}
 use Rattle.workers.proofs.ends.gather.Goals as goal

@@ -1,6 +1,6 @@
 use Rattle.std.proofs.Common.{List, ap, length, arith, subst}
 use Rattle.workers.specs.declared.job.Job.{Job}
-use Rattle.workers.specs.declared.duty.Duty.{Duty}
+use Rattle.workers.specs.declared.assignment.Assignment.{Assignment}
 use Rattle.workers.proofs.Emptied.{emptied}
 use Rattle.workers.proofs.Sitting.{IsSitting, one_sits, none_sits, all_sit}
 use Rattle.workers.proofs.room.sit.Goals as goal
@@ -22,8 +22,8 @@ loop-worker-preserved g c =
           (one_sits c.args.jobs.items c.args.collectors.now c.loop-worker.jobs.items c.loop-worker.producers.items
           c.loop-worker.seats.items c.new.result c.remove.result c.remove-in-loop-worker.result i.sitting
           (omega (arith, i.left, c.loop-worker-test.true, c.len-worker-end.ensures, c.loop-worker.jobs.ok.0))
-          (ap (λ (d : Duty). d.job) c.new.ensures) c.remove.ensures.value
-          (ap (λ (d : Duty). d.producer) c.new.ensures) c.remove-in-loop-worker.ensures.value);
+          (ap (λ (d : Assignment). d.job) c.new.ensures) c.remove.ensures.value
+          (ap (λ (d : Assignment). d.producer) c.new.ensures) c.remove-in-loop-worker.ensures.value);
       left = omega (arith, c.remove.ensures.len, i.left);
       seated = omega (arith, c.push_reserved.ensures.len, i.seated);
       room = rw c.push_reserved.ensures.capacity i.room;

@@ -11,7 +11,7 @@ use pmd::Rest;
 use rtrb::Producer;
 
 /// A worker's job, and its end of the way of its reports, which has room for all of them.
-pub(crate) struct Duty {
+pub(crate) struct Assignment {
     pub(crate) worker: usize,
     pub(crate) job: Job,
     pub(crate) producer: Producer<Report>,

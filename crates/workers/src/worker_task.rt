@@ -3,8 +3,8 @@
 ghost use Rattle.std.specs.Prelude.{◌≡◌};
 ghost use Rattle.workers.specs.Ends.{IsBack};
 
+use crate::assignment::{Assignment, Back};
 use crate::driving::{Order, run_worker};
-use crate::duty::{Back, Duty};
 use crate::fault::WorkerFault;
 use crate::gate::Gate;
 use crate::job::Job;
@@ -15,61 +15,62 @@ use std::alloc::Global;
 use std::marker::Model;
 use std::sync::Wait;
 
-/// A worker's duty at a gate and a shared device. Contracts see the duty.
-pub(crate) struct Labour<'a, R: Wait, G: Gate, const VFS: u8, const FIFO: u16> {
+/// A worker's assignment at a gate and a shared device. Contracts see the assignment.
+pub(crate) struct WorkerTask<'a, R: Wait, G: Gate, const VFS: u8, const FIFO: u16> {
     rt: &'a R,
     alloc: Global,
     gate: &'a G,
     shared: &'a Shared<VFS, FIFO>,
-    duty: Duty,
+    assignment: Assignment,
 }
 
-impl<'a, R: Wait, G: Gate, const VFS: u8, const FIFO: u16> Model for Labour<'a, R, G, VFS, FIFO> {
-    ghost use Rattle.workers.specs.declared.duty.Duty.{Duty};
+impl<'a, R: Wait, G: Gate, const VFS: u8, const FIFO: u16> Model
+    for WorkerTask<'a, R, G, VFS, FIFO> {
+    ghost use Rattle.workers.specs.declared.assignment.Assignment.{Assignment};
 
-    ghost Value = { Duty };
+    ghost Value = { Assignment };
 
-    ghost view = { λ l. l.duty };
+    ghost view = { λ l. l.assignment };
 }
 
-impl<'a, R: Wait, G: Gate, const VFS: u8, const FIFO: u16> Labour<'a, R, G, VFS, FIFO> {
-    /// A duty at this gate and this device.
+impl<'a, R: Wait, G: Gate, const VFS: u8, const FIFO: u16> WorkerTask<'a, R, G, VFS, FIFO> {
+    /// An assignment at this gate and this device.
     pub(crate) fn new(
         rt: &'a R,
         alloc: Global,
         gate: &'a G,
         shared: &'a Shared<VFS, FIFO>,
-        duty: Duty,
+        assignment: Assignment,
     ) -> Self
-        ensures { result ≡ duty }
+        ensures { result ≡ assignment }
     {
-        Labour {
+        WorkerTask {
             rt,
             alloc,
             gate,
             shared,
-            duty,
+            assignment,
         }
     }
 }
 
 impl<'a, R: Wait, G: Gate, const VFS: u8, const FIFO: u16> Task<Back>
-    for Labour<'a, R, G, VFS, FIFO> {
+    for WorkerTask<'a, R, G, VFS, FIFO> {
     ghost ends = { IsBack };
 
     fn run(self) -> Back {
-        let Labour {
+        let WorkerTask {
             rt,
             alloc,
             gate,
             shared,
-            duty,
+            assignment,
         } = self;
-        let Duty {
+        let Assignment {
             worker,
             job,
             mut producer,
-        } = duty;
+        } = assignment;
         let Job {
             pass,
             port,
@@ -98,18 +99,18 @@ impl<'a, R: Wait, G: Gate, const VFS: u8, const FIFO: u16> Task<Back>
 
     /// It leaves the gate, and its arena is home.
     fn give_up(self) -> Back {
-        let Labour {
+        let WorkerTask {
             rt: _,
             alloc,
             gate,
             shared: _,
-            duty,
+            assignment,
         } = self;
-        let Duty {
+        let Assignment {
             worker,
             job,
             producer,
-        } = duty;
+        } = assignment;
         let Job {
             pass,
             port: _,

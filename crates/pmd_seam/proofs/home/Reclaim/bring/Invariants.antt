@@ -1,6 +1,6 @@
 use Rattle.std.proofs.Common.{◌≡◌, ◌+◌, length}
 use Rattle.pmd_seam.specs.Home.{AreOut, Brings}
-use Rattle.pmd_seam.proofs.home.Homeward.bring.Given as goal
+use Rattle.pmd_seam.proofs.home.Reclaim.bring.Given as goal
 
 abbrev pub invariant-loop-count : goal.invariant-loop-count
 invariant-loop-count g l =

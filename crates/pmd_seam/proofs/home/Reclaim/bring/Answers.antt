@@ -2,7 +2,7 @@ use Rattle.std.proofs.Common.{◌∙◌, arith}
 use Rattle.pmd_seam.specs.Home.{Bringing, StopsBringing}
 use Rattle.pmd_seam.proofs.Amid.{on_err}
 use Rattle.pmd_seam.proofs.Bringing.{one_less, brings_more, brings_all}
-use Rattle.pmd_seam.proofs.home.Homeward.bring.Goals as goal
+use Rattle.pmd_seam.proofs.home.Reclaim.bring.Goals as goal
 
 pub bring_one-requires-clause-some : goal.bring_one-requires-clause-some
 bring_one-requires-clause-some g c =

@@ -3,7 +3,7 @@ use Rattle.std.proofs.lemmas.Result.{err_from_is_err_and}
 use Rattle.nic_device.specs.RegisterFile.Queue.{enable_row}
 use Rattle.pmd_seam.specs.QueueMade.{Sees, Sets}
 use Rattle.pmd_seam.proofs.QueueSequences.{later, later_ok, stops_first, stops_second, stops_third, three_made}
-use Rattle.pmd_seam.proofs.names.Queue.quieten.Goals as goal
+use Rattle.pmd_seam.proofs.names.Queue.disable.Goals as goal
 
 pub returns-in_err-see_off-clause-failed : goal.returns-in_err-see_off-clause-failed
 returns-in_err-see_off-clause-failed g c =

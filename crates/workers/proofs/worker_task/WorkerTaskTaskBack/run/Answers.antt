@@ -3,18 +3,18 @@ use Rattle.device_lock.specs.Pass.{PassValue}
 use Rattle.pmd.specs.Blocks.{IsWhole}
 use Rattle.pmd.specs.PmdSeam.Stepped.{AtLock}
 use Rattle.workers.specs.Lived.{HasRun}
-use Rattle.workers.specs.declared.duty.Duty.{Duty}
-use Rattle.workers.proofs.labour.LabourTaskBack.run.Goals as goal
+use Rattle.workers.specs.declared.assignment.Assignment.{Assignment}
+use Rattle.workers.proofs.worker_task.WorkerTaskTaskBack.run.Goals as goal
 
 pub returns : goal.returns
 returns g c =
-    let d : Duty = c.self.inside.duty in
+    let d : Assignment = c.self.inside.assignment in
     let left = c.run_worker-rest.result in (
       record {
         bench = search rules;
         tag = search rules;
         lived = λ has.
-            subst (λ (x : Duty). HasRun (record { port = x.job.port; queue = x.job.queue }) x.job.size x.job.pass.calls
+            subst (λ (x : Assignment). HasRun (record { port = x.job.port; queue = x.job.queue }) x.job.size x.job.pass.calls
             x.job.arena c.finish.result.calls left.0 left.1) c.self.view_is
             (subst (λ (p : PassValue). HasRun (record { port = d.job.port; queue = d.job.queue }) d.job.size
             d.job.pass.calls d.job.arena p.calls left.0 left.1) (sym c.finish.ensures)
@@ -24,7 +24,7 @@ returns g c =
         reports = search rules;
         few = search rules;
         home = search rules;
-        whole = subst (λ (x : Duty). IsWhole x.job.arena left.0) c.self.view_is c.run_worker-rest.ensures.whole;
+        whole = subst (λ (x : Assignment). IsWhole x.job.arena left.0) c.self.view_is c.run_worker-rest.ensures.whole;
         idle = search rules;
       },
       search rules,

@@ -1,5 +1,8 @@
 //! Instructions.
 
+ghost use Rattle.std.specs.Prelude.{◌≡◌, Result};
+ghost use Rattle.program.specs.Mapped.{AnswersBy, try_map};
+
 use dma_ring::Dir;
 use intr_unit::Group;
 
@@ -72,4 +75,62 @@ pub enum Instruction<L = u16, D = u16> {
     Jump(L),
     /// `halt`: the program ends.
     Halt,
+}
+
+impl<L, D> Instruction<L, D> {
+    /// The same instruction, with what `label` gives for where it jumps, and `string` for its data string; or the error
+    /// that one gives. Neither is called where the instruction names no such thing.
+    pub fn try_map<M, N, E, F, G>(&self, label: F, string: G) -> Result<Instruction<M, N>, E>
+    where
+        F: FnOnce(&L) -> Result<M, E> + Drop,
+        G: FnOnce(&D) -> Result<N, E> + Drop,
+        requires label { F.IsAlwaysCallable label }
+        requires string { G.IsAlwaysCallable string }
+        ensures { (to_label : L → Result M E) (to_string : D → Result N E) → AnswersBy F.FnOnce label to_label
+            → AnswersBy G.FnOnce string to_string → result ≡ try_map to_label to_string self.now }
+    {
+        match *self {
+            Instruction::Write(address, word) => Ok(Instruction::Write(address, word)),
+            Instruction::Read(address) => Ok(Instruction::Read(address)),
+            Instruction::VfWrite {
+                function,
+                offset,
+                word,
+            } => Ok(Instruction::VfWrite {
+                function,
+                offset,
+                word,
+            }),
+            Instruction::VfRead { function, offset } => Ok(Instruction::VfRead {
+                function,
+                offset,
+            }),
+            Instruction::Lend(block) => Ok(Instruction::Lend(block)),
+            Instruction::Unlend(block) => Ok(Instruction::Unlend(block)),
+            Instruction::Poke(address, ref name) => Ok(Instruction::Poke(address, string(name)?)),
+            Instruction::Peek(address, word) => Ok(Instruction::Peek(address, word)),
+            Instruction::Arrive(ref name) => Ok(Instruction::Arrive(string(name)?)),
+            Instruction::RxStep => Ok(Instruction::RxStep),
+            Instruction::TxStep(queue) => Ok(Instruction::TxStep(queue)),
+            Instruction::IntStep(group) => Ok(Instruction::IntStep(group)),
+            Instruction::QueueStep(direction, queue) => Ok(Instruction::QueueStep(
+                direction, queue,
+            )),
+            Instruction::EepromStep => Ok(Instruction::EepromStep),
+            Instruction::Link(up) => Ok(Instruction::Link(up)),
+            Instruction::Collect => Ok(Instruction::Collect),
+            Instruction::Expect { want, mask } => Ok(Instruction::Expect { want, mask }),
+            Instruction::And(word) => Ok(Instruction::And(word)),
+            Instruction::JumpIfEqual(word, ref name) => Ok(Instruction::JumpIfEqual(
+                word,
+                label(name)?,
+            )),
+            Instruction::JumpUnlessEqual(word, ref name) => Ok(Instruction::JumpUnlessEqual(
+                word,
+                label(name)?,
+            )),
+            Instruction::Jump(ref name) => Ok(Instruction::Jump(label(name)?)),
+            Instruction::Halt => Ok(Instruction::Halt),
+        }
+    }
 }

@@ -16,6 +16,12 @@ pub then-IfOk_of : {A B E : Type 0} (P : B → Type 0) (Q : A → Type 0) (r : R
 then-IfOk_of P Q (Ok x) f is h = h x is
 then-IfOk_of P Q (Err e) f is h = tt
 
+-- and of three, of which the second can't be refused
+pub then_then-IfOk : {A B C E : Type 0} (P : C → Type 0) (Q : A → Type 0) (r : Result A E) (f : A → B)
+    (g : B → Result C E) → IfOk r Q → ((x : A) → Q x → IfOk (g (f x)) P) → IfOk ((r then λ x. Ok (f x)) then g) P
+then_then-IfOk P Q (Ok x) f g is h = h x is
+then_then-IfOk P Q (Err e) f g is h = tt
+
 pub cond-IfOk : {B E : Type 0} (P : B → Type 0) (b : Bool) (r s : Result B E) → IfOk r P → IfOk s P
     → IfOk (cond b r s) P
 cond-IfOk P true r s h k = h
@@ -47,3 +53,15 @@ pub stepped : {A B E : Type 0} (r : Result A E) (f : A → Result B E) (y : B) �
     → (x : A) × (r ≡ Ok x) × (f x ≡ Ok y)
 stepped (Ok x) f y e = (x, refl, e)
 stepped (Err fault) f y e = cc
+
+-- and of three, of which the second can't be refused
+pub stepped_on : {A B C E : Type 0} (r : Result A E) (f : A → B) (g : B → Result C E) (y : C)
+    → ((r then λ x. Ok (f x)) then g) ≡ Ok y → (x : A) × (r ≡ Ok x) × (g (f x) ≡ Ok y)
+stepped_on (Ok x) f g y e = (x, refl, e)
+stepped_on (Err fault) f g y e = cc
+
+-- what a test let through
+pub passed : {A E : Type 0} (test : Bool) (x y : A) (e : E) → cond test (Ok x) (Err e) ≡ Ok y
+    → (test ≡ true) × (x ≡ y)
+passed true x y e is = (refl, cc)
+passed false x y e is = cc

@@ -7,20 +7,12 @@ use Rattle.program.specs.declared.instruction.Instruction.TheVariants.{Write, Re
 use Rattle.script_asm.specs.Operation.{Draft}
 use Rattle.script_asm.specs.Outline.{Outline}
 use Rattle.script_asm.specs.Places.{place_of}
-use Rattle.script_asm.specs.Resolved.{resolved, with_resolved, label_named, data_named, if_of_16, poked, IsInRange, IsReady}
+use Rattle.script_asm.specs.Resolved.{resolved, with_resolved, label_named, data_named, fitting, IsInRange, IsReady}
 use Rattle.script_asm.specs.declared.faults.ScriptFault.{ScriptFault}
 use Rattle.script_asm.specs.declared.faults.ScriptFault.TheVariants.{UnknownLabel}
 use Rattle.script_asm.specs.declared.sheet.DraftLine.{DraftLine}
-use Rattle.script_asm.proofs.Outcomes.{then-IfOk, then-IfOk_of, ok_or-IfOk, IfOk-of, stepped}
+use Rattle.script_asm.proofs.Outcomes.{then_then-IfOk, ok_or-IfOk, IfOk-of, stepped}
 use Rattle.script_asm.proofs.Resolving.{Step}
-
--- data that is poked has 16 bytes
-pub if_of_16-Ok : (outline : Outline) (line number : ℕ)
-    → IfOk (if_of_16 outline line number) (λ found. (number ≡ found) × (length (string_at outline.strings found) ≡ 16))
-if_of_16-Ok outline line number = elim (eqb_tells (length (string_at outline.strings number)) 16) [
-  | inl (test, is) ↦ rw test (refl, is)
-  | inr (test, other) ↦ rw test tt
-]
 
 label_named-IfOk : (o : Outline) (line : ℕ) (name : List ℕ) → IsReady o
     → IfOk (label_named o line name) (λ pc. pc ≤ length o.drafts)
@@ -33,19 +25,14 @@ data_named-IfOk o line name ready =
     ok_or-IfOk (λ number. number < length o.strings) (place_of o.data_numbers name) (UnknownLabel line)
     (ready.data_numbers name)
 
-second : {A : Type 0} (P : A → Type 0) (n : A) (r : Result A ScriptFault) → IfOk r (λ found. (n ≡ found) × P found)
-    → IfOk r P
-second P n (Ok m) h = h.1
-second P n (Err e) h = tt
-
-poked-IfOk : (o : Outline) (line : ℕ) (name : List ℕ)
-    → IfOk (poked o line name) (λ number. length (string_at o.strings number) ≡ 16)
-poked-IfOk o line name =
-    then-IfOk (λ number. length (string_at o.strings number) ≡ 16) (data_named o line name) (if_of_16 o line)
-    (λ n. second (λ number. length (string_at o.strings number) ≡ 16) n (if_of_16 o line n) (if_of_16-Ok o line n))
-
 abbrev Sound : Outline → Step → Type 0
 Sound o i = IsSound o.strings (length o.drafts) i
+
+poked-sound : (o : Outline) (line address number : ℕ) → IfOk (fitting o line (Poke address number)) (Sound o)
+poked-sound o line address number = elim (eqb_tells (length (string_at o.strings number)) 16) [
+  | inl (test, is) ↦ rw test is
+  | inr (test, other) ↦ rw test tt
+]
 
 -- what an instruction names is there
 resolved-sound : (o : Outline) (line : ℕ) (d : Draft) → IsReady o → IsInRange d → IfOk (resolved o line d) (Sound o)
@@ -56,11 +43,11 @@ resolved-sound o line (VfRead function offset) ready h = h
 resolved-sound o line (Lend block) ready h = h
 resolved-sound o line (Unlend block) ready h = h
 resolved-sound o line (Poke address name) ready h =
-    then-IfOk_of (Sound o) (λ number. length (string_at o.strings number) ≡ 16) (poked o line name) _
-    (poked-IfOk o line name) (λ number is. is)
+    then_then-IfOk (Sound o) (λ number. number < length o.strings) (data_named o line name) (Poke address)
+    (fitting o line) (data_named-IfOk o line name ready) (λ number is. poked-sound o line address number)
 resolved-sound o line (Peek address word) ready h = h
 resolved-sound o line (Arrive name) ready h =
-    then-IfOk_of (Sound o) (λ number. number < length o.strings) (data_named o line name) _
+    then_then-IfOk (Sound o) (λ number. number < length o.strings) (data_named o line name) Arrive (fitting o line)
     (data_named-IfOk o line name ready) (λ number is. is)
 resolved-sound o line RxStep ready h = tt
 resolved-sound o line (TxStep queue) ready h = h
@@ -72,14 +59,14 @@ resolved-sound o line Collect ready h = tt
 resolved-sound o line (Expect want mask) ready h = tt
 resolved-sound o line (And word) ready h = tt
 resolved-sound o line (JumpIfEqual word name) ready h =
-    then-IfOk_of (Sound o) (λ pc. pc ≤ length o.drafts) (label_named o line name) _ (label_named-IfOk o line name ready)
-    (λ pc is. is)
+    then_then-IfOk (Sound o) (λ pc. pc ≤ length o.drafts) (label_named o line name) (JumpIfEqual word) (fitting o line)
+    (label_named-IfOk o line name ready) (λ pc is. is)
 resolved-sound o line (JumpUnlessEqual word name) ready h =
-    then-IfOk_of (Sound o) (λ pc. pc ≤ length o.drafts) (label_named o line name) _ (label_named-IfOk o line name ready)
-    (λ pc is. is)
+    then_then-IfOk (Sound o) (λ pc. pc ≤ length o.drafts) (label_named o line name) (JumpUnlessEqual word) (fitting o line)
+    (label_named-IfOk o line name ready) (λ pc is. is)
 resolved-sound o line (Jump name) ready h =
-    then-IfOk_of (Sound o) (λ pc. pc ≤ length o.drafts) (label_named o line name) _ (label_named-IfOk o line name ready)
-    (λ pc is. is)
+    then_then-IfOk (Sound o) (λ pc. pc ≤ length o.drafts) (label_named o line name) Jump (fitting o line)
+    (label_named-IfOk o line name ready) (λ pc is. is)
 resolved-sound o line Halt ready h = tt
 
 pub AllByRecursion-push : {X : Type 0} (P : X → Type 0) (xs : List X) (x : X) → AllByRecursion P xs → P x

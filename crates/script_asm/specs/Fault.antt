@@ -2,16 +2,11 @@
 use Rattle.std.specs.Prelude.{◌≡◌, ◌≢◌, ℕ, Result, Ok, Err}
 use Rattle.text_format.specs.declared.numbers.NumberFault.{NumberFault}
 use Rattle.text_format.specs.declared.numbers.NumberFault.TheVariants.{Malformed, TooLarge}
+pub use Rattle.program.specs.Mapped.{◌then◌}
 use Rattle.script_asm.specs.declared.faults.LineFault.{LineFault}
 use Rattle.script_asm.specs.declared.faults.LineFault.TheVariants as line
 use Rattle.script_asm.specs.declared.faults.ScriptFault.{ScriptFault}
 use Rattle.script_asm.specs.declared.faults.ScriptFault.TheVariants.{Syntax, UnknownName, Range, TooLong, OutOfMemory}
-
--- the second step, where the first gave a value
-infixl 10 ◌then◌
-abbrev pub ◌then◌ : {A B E : Type 0} → Result A E → (A → Result B E) → Result B E
-Ok x then f = f x
-Err e then f = Err e
 
 -- of two faults of a line, the one that is told
 abbrev pub told_first : LineFault → LineFault → LineFault

@@ -8,6 +8,7 @@ use Rattle.program.specs.declared.instruction.Instruction.TheVariants.{Peek, Arr
 use Rattle.program.specs.declared.instruction.Instruction.TheVariants.{EepromStep, Link, Collect, Expect, And}
 use Rattle.program.specs.declared.instruction.Instruction.TheVariants.{JumpIfEqual, JumpUnlessEqual, Jump, Halt}
 use Rattle.program.specs.Listing.{string_at, IsDataString, IsFunction, IsGroup}
+use Rattle.program.specs.Mapped.{try_map}
 use Rattle.script_asm.specs.declared.faults.ScriptFault.{ScriptFault}
 use Rattle.script_asm.specs.declared.faults.ScriptFault.TheVariants.{UnknownLabel, Range}
 use Rattle.script_asm.specs.declared.sheet.DraftLine.{DraftLine}
@@ -24,39 +25,16 @@ label_named outline line name = ok_or (place_of outline.labels name) (UnknownLab
 abbrev pub data_named : Outline → ℕ → List ℕ → Result ℕ ScriptFault
 data_named outline line name = ok_or (place_of outline.data_numbers name) (UnknownLabel line)
 
--- the number of a data string, which has 16 bytes
-abbrev pub if_of_16 : Outline → ℕ → ℕ → Result ℕ ScriptFault
-if_of_16 outline line number = if length (string_at outline.strings number) == 16 then Ok number else Err (Range line)
-
--- the number of the data string of 16 bytes that a line pokes
-abbrev pub poked : Outline → ℕ → List ℕ → Result ℕ ScriptFault
-poked outline line name = data_named outline line name then if_of_16 outline line
+-- an instruction, unless it pokes data of other than 16 bytes
+abbrev pub fitting : Outline → ℕ → Instruction ℕ ℕ → Result (Instruction ℕ ℕ) ScriptFault
+fitting outline line (Poke address number) =
+    if length (string_at outline.strings number) == 16 then Ok (Poke address number) else Err (Range line)
+fitting outline line other = Ok other
 
 -- the instruction that a line wrote, with its label and its data by number
 abbrev pub resolved : Outline → ℕ → Draft → Result (Instruction ℕ ℕ) ScriptFault
-resolved outline line (Write address word) = Ok (Write address word)
-resolved outline line (Read address) = Ok (Read address)
-resolved outline line (VfWrite function offset word) = Ok (VfWrite function offset word)
-resolved outline line (VfRead function offset) = Ok (VfRead function offset)
-resolved outline line (Lend block) = Ok (Lend block)
-resolved outline line (Unlend block) = Ok (Unlend block)
-resolved outline line (Poke address name) = poked outline line name then λ number. Ok (Poke address number)
-resolved outline line (Peek address word) = Ok (Peek address word)
-resolved outline line (Arrive name) = data_named outline line name then λ number. Ok (Arrive number)
-resolved outline line RxStep = Ok RxStep
-resolved outline line (TxStep queue) = Ok (TxStep queue)
-resolved outline line (IntStep group) = Ok (IntStep group)
-resolved outline line (QueueStep direction queue) = Ok (QueueStep direction queue)
-resolved outline line EepromStep = Ok EepromStep
-resolved outline line (Link up) = Ok (Link up)
-resolved outline line Collect = Ok Collect
-resolved outline line (Expect want mask) = Ok (Expect want mask)
-resolved outline line (And word) = Ok (And word)
-resolved outline line (JumpIfEqual word name) = label_named outline line name then λ pc. Ok (JumpIfEqual word pc)
-resolved outline line (JumpUnlessEqual word name) = label_named outline line name
-    then λ pc. Ok (JumpUnlessEqual word pc)
-resolved outline line (Jump name) = label_named outline line name then λ pc. Ok (Jump pc)
-resolved outline line Halt = Ok Halt
+resolved outline line draft =
+    try_map (label_named outline line) (data_named outline line) draft then fitting outline line
 
 -- the instructions before, and these: the first line that can't be resolved decides
 unfoldable pub with_resolved : Outline → List (Instruction ℕ ℕ) → List DraftLine

@@ -3,7 +3,7 @@
 ghost use Rattle.std.specs.Prelude.{◌≡◌, ◌≤◌, ◌++◌, ◌∷◌, [], length, Ok, Err};
 ghost use Rattle.script_asm.specs.Fault.{Gives, ◌then◌};
 ghost use Rattle.script_asm.specs.Outline.{blank};
-ghost use Rattle.script_asm.specs.Resolved.{label_named, data_named, poked, resolved, with_resolved, IsReady};
+ghost use Rattle.script_asm.specs.Resolved.{label_named, data_named, fitting, resolved, with_resolved, IsReady};
 ghost use Rattle.script_asm.specs.Script.{with_label, with_data, with_draft, with_statement, program_in};
 ghost use Rattle.program.specs.Listing.{string_at};
 
@@ -147,13 +147,15 @@ impl<'a> Sheet<'a> {
         }
     }
 
-    /// The number of the data string of 16 bytes that a line pokes.
-    fn poked(&self, line: usize, name: &Name<'_>) -> Result<u16, ScriptFault>
-        ensures { result ≡ poked self.now line name.now }
+    /// An instruction, unless it pokes data of other than 16 bytes.
+    fn fitting(&self, line: usize, instruction: Instruction) -> Result<Instruction, ScriptFault>
+        ensures { result ≡ fitting self.now line instruction }
     {
-        let number = self.data_named(line, name)?;
+        let Instruction::Poke(_, number) = instruction else {
+            return Ok(instruction);
+        };
         if self.bytes_of(number) == 16 {
-            Ok(number)
+            Ok(instruction)
         } else {
             Err(ScriptFault::Range(line))
         }
@@ -163,52 +165,14 @@ impl<'a> Sheet<'a> {
     fn resolved(&self, line: usize, draft: &Draft<'a>) -> Result<Instruction, ScriptFault>
         ensures { result ≡ resolved self.now line draft.now }
     {
-        match *draft {
-            Instruction::Write(address, word) => Ok(Instruction::Write(address, word)),
-            Instruction::Read(address) => Ok(Instruction::Read(address)),
-            Instruction::VfWrite {
-                function,
-                offset,
-                word,
-            } => Ok(Instruction::VfWrite {
-                function,
-                offset,
-                word,
-            }),
-            Instruction::VfRead { function, offset } => Ok(Instruction::VfRead {
-                function,
-                offset,
-            }),
-            Instruction::Lend(block) => Ok(Instruction::Lend(block)),
-            Instruction::Unlend(block) => Ok(Instruction::Unlend(block)),
-            Instruction::Poke(address, ref name) => Ok(Instruction::Poke(
-                address,
-                self.poked(line, name)?,
-            )),
-            Instruction::Peek(address, word) => Ok(Instruction::Peek(address, word)),
-            Instruction::Arrive(ref name) => Ok(Instruction::Arrive(self.data_named(line, name)?)),
-            Instruction::RxStep => Ok(Instruction::RxStep),
-            Instruction::TxStep(queue) => Ok(Instruction::TxStep(queue)),
-            Instruction::IntStep(group) => Ok(Instruction::IntStep(group)),
-            Instruction::QueueStep(direction, queue) => Ok(Instruction::QueueStep(
-                direction, queue,
-            )),
-            Instruction::EepromStep => Ok(Instruction::EepromStep),
-            Instruction::Link(up) => Ok(Instruction::Link(up)),
-            Instruction::Collect => Ok(Instruction::Collect),
-            Instruction::Expect { want, mask } => Ok(Instruction::Expect { want, mask }),
-            Instruction::And(word) => Ok(Instruction::And(word)),
-            Instruction::JumpIfEqual(word, ref name) => Ok(Instruction::JumpIfEqual(
-                word,
-                self.label_named(line, name)?,
-            )),
-            Instruction::JumpUnlessEqual(word, ref name) => Ok(Instruction::JumpUnlessEqual(
-                word,
-                self.label_named(line, name)?,
-            )),
-            Instruction::Jump(ref name) => Ok(Instruction::Jump(self.label_named(line, name)?)),
-            Instruction::Halt => Ok(Instruction::Halt),
-        }
+        let label = |name: &Name<'_>|
+            ensures { result ≡ label_named self.entry.now line name.now }
+        { self.label_named(line, name) };
+        let string = |name: &Name<'_>|
+            ensures { result ≡ data_named self.entry.now line name.now }
+        { self.data_named(line, name) };
+        let instruction = draft.try_map(label, string)?;
+        self.fitting(line, instruction)
     }
 
     /// Adds an instruction with its label and its data by number.

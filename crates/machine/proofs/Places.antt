@@ -5,13 +5,13 @@ use Rattle.std.specs.Prelude.{⊤}
 use Rattle.std.proofs.lemmas.Bool.Decides.{eqb_tells}
 use Rattle.std.proofs.lemmas.Option.{none-some, slice_get_within}
 use Rattle.nic_device.specs.declared.Config.{Config}
-use Rattle.machine.specs.Deed.{StaysInside, deed_of}
+use Rattle.machine.specs.Action.{StaysInside, action_of}
 use Rattle.machine.specs.Machine.{Step, start_of, moved_to, acted, done, executed_if_some, next_instruction, machine_step, machine_at}
 use Rattle.machine.specs.MachineState.{MachineState}
-use Rattle.machine.specs.declared.deed.Deed.{Deed}
-use Rattle.machine.specs.declared.deed.Deed.TheVariants.{Make, Lend, TakeBack, Arrive, Local}
-use Rattle.machine.specs.declared.deed.LocalDeed.{LocalDeed}
-use Rattle.machine.specs.declared.deed.LocalDeed.TheVariants as act
+use Rattle.machine.specs.declared.action.Action.{Action}
+use Rattle.machine.specs.declared.action.Action.TheVariants.{Make, Lend, TakeBack, Arrive, Local}
+use Rattle.machine.specs.declared.action.LocalAction.{LocalAction}
+use Rattle.machine.specs.declared.action.LocalAction.TheVariants as act
 use Rattle.machine.specs.declared.machine.Status.TheVariants.{Running, Ended, Failed}
 use Rattle.program.specs.Listing.{Listing, IsSound, IsListing}
 use Rattle.program.specs.declared.instruction.Instruction.{Instruction}
@@ -43,8 +43,8 @@ inside_either : (limit : ℕ) (b : Bool) (x y : ℕ) → x ≤ limit → y ≤ l
 inside_either limit true x y h k = h
 inside_either limit false x y h k = k
 
-placed-acted : (program : Listing) (s : MachineState) (deed : LocalDeed) → s.pc < length program.instructions
-    → StaysInside program deed → IsPlaced program (acted program s deed)
+placed-acted : (program : Listing) (s : MachineState) (action : LocalAction) → s.pc < length program.instructions
+    → StaysInside program action → IsPlaced program (acted program s action)
 placed-acted program s (act.Expect want mask) below stays =
     placed_either program _ _ _ (placed-moved program s (s.pc + 1) (omega arith))
     (λ running. absurd (failed_running _ _ _ running))
@@ -62,16 +62,16 @@ placed_step : (program : Listing) (b : Bool) (x y : Step) → IsPlaced program x
 placed_step program true x y h k = h
 placed_step program false x y h k = k
 
--- the jumps of a deed stay inside
-abbrev JumpsInside : Listing → Deed → Type 0
-JumpsInside program (Local deed) = StaysInside program deed
+-- the jumps of an action stay inside
+abbrev JumpsInside : Listing → Action → Type 0
+JumpsInside program (Local action) = StaysInside program action
 JumpsInside program (Make event kept) = ⊤
 JumpsInside program (Lend block) = ⊤
 JumpsInside program (TakeBack block) = ⊤
 JumpsInside program (Arrive number) = ⊤
 
 jumps-inside : (program : Listing) (i : Instruction ℕ ℕ) → IsSound program.strings (length program.instructions) i
-    → JumpsInside program (deed_of program i)
+    → JumpsInside program (action_of program i)
 jumps-inside program (instr.Write address word) sound = tt
 jumps-inside program (instr.Read address) sound = tt
 jumps-inside program (instr.VfWrite function offset word) sound = tt
@@ -95,15 +95,15 @@ jumps-inside program (instr.JumpUnlessEqual word target) sound = sound
 jumps-inside program (instr.Jump target) sound = sound
 jumps-inside program instr.Halt sound = tt
 
-placed-done : (program : Listing) (s : MachineState) (deed : Deed) → s.pc < length program.instructions
-    → JumpsInside program deed → IsPlaced program (done program s deed).state
+placed-done : (program : Listing) (s : MachineState) (action : Action) → s.pc < length program.instructions
+    → JumpsInside program action → IsPlaced program (done program s action).state
 placed-done program s (Make event kept) below inside = placed-moved program s (s.pc + 1) (omega arith)
 placed-done program s (Lend block) below inside =
     placed_step program _ _ _ (placed-moved program s (s.pc + 1) (omega arith))
     (placed-moved program s (s.pc + 1) (omega arith))
 placed-done program s (TakeBack block) below inside = placed-moved program s (s.pc + 1) (omega arith)
 placed-done program s (Arrive number) below inside = placed-moved program s (s.pc + 1) (omega arith)
-placed-done program s (Local deed) below inside = placed-acted program s deed below inside
+placed-done program s (Local action) below inside = placed-acted program s action below inside
 
 -- each instruction of a list that all are so is so
 each : (P : Instruction ℕ ℕ → Type 0) (xs : List (Instruction ℕ ℕ)) (k : ℕ) (i : Instruction ℕ ℕ)
@@ -122,7 +122,7 @@ placed-next : (program : Listing) (s : MachineState) (next : Option (Instruction
     → IsPlaced program (executed_if_some program s next).state
 placed-next program s None listing placed at = placed
 placed-next program s (Some i) listing placed at =
-    placed-done program s (deed_of program i) (slice_get_within program.instructions s.pc i (at i refl))
+    placed-done program s (action_of program i) (slice_get_within program.instructions s.pc i (at i refl))
     (jumps-inside program i
     (each (IsSound program.strings (length program.instructions)) program.instructions s.pc i listing.sound
     (at i refl)))

@@ -5,12 +5,12 @@ use Rattle.std.proofs.lemmas.Option.{slice_get_cases}
 use Rattle.program.specs.DmaArena.Block.{Block}
 use Rattle.nic_device.specs.declared.Config.{Config}
 use Rattle.nic_device.specs.declared.Reply.{Reply}
-use Rattle.machine.specs.Deed.{deed_of}
+use Rattle.machine.specs.Action.{action_of}
 use Rattle.machine.specs.Laws.{StepsCount, RunningMachinesStep, StoppedMachinesStay}
 use Rattle.machine.specs.Machine.{Step, is_running, done, executed_if_some, next_instruction, machine_step, machine_at}
 use Rattle.machine.specs.MachineState.{MachineState}
-use Rattle.machine.specs.declared.deed.Deed.{Deed}
-use Rattle.machine.specs.declared.deed.Deed.TheVariants.{Make, Lend, TakeBack, Arrive, Local}
+use Rattle.machine.specs.declared.action.Action.{Action}
+use Rattle.machine.specs.declared.action.Action.TheVariants.{Make, Lend, TakeBack, Arrive, Local}
 use Rattle.machine.specs.declared.machine.Status.{Status}
 use Rattle.machine.specs.declared.machine.Status.TheVariants.{Running, Ended, Failed}
 use Rattle.machine.specs.declared.machine.StepAnswer.TheVariants as answer
@@ -33,23 +33,24 @@ made_not_stopped r e = cc
 local_not_stopped : answer.Local ≢ answer.Stopped
 local_not_stopped e = cc
 
-done_not_stopped : (program : Listing) (s : MachineState) (deed : Deed) → (done program s deed).answer ≢ answer.Stopped
+done_not_stopped : (program : Listing) (s : MachineState) (action : Action)
+    → (done program s action).answer ≢ answer.Stopped
 done_not_stopped program s (Make event kept) = made_not_stopped _
 done_not_stopped program s (Lend block) = answered _ _ _ (made_not_stopped _) no_block_not_stopped
 done_not_stopped program s (TakeBack block) = made_not_stopped _
 done_not_stopped program s (Arrive number) = made_not_stopped _
-done_not_stopped program s (Local deed) = local_not_stopped
+done_not_stopped program s (Local action) = local_not_stopped
 
 stays : (program : Listing) (s : MachineState) (next : Option (Instruction ℕ ℕ))
     → (executed_if_some program s next).answer ≡ answer.Stopped → (executed_if_some program s next).state ≡ s
 stays program s None e = refl
-stays program s (Some instruction) e = absurd (done_not_stopped program s (deed_of program instruction) e)
+stays program s (Some instruction) e = absurd (done_not_stopped program s (action_of program instruction) e)
 
 counts : (program : Listing) (s : MachineState) (next : Option (Instruction ℕ ℕ))
     → (executed_if_some program s next).answer ≢ answer.Stopped
     → (executed_if_some program s next).state.steps ≡ s.steps + 1
 counts program s None other = absurd (other refl)
-counts program s (Some instruction) other = steps-done program s (deed_of program instruction)
+counts program s (Some instruction) other = steps-done program s (action_of program instruction)
 
 pub steps_count : StepsCount
 unfolding machine_step
@@ -96,6 +97,6 @@ running_machines_step = record {
   steps = λ program config n listing running few.
       let s = machine_at program config n in
       let next = found program s running few (runs-inside program config n listing running) in
-      λ stopped. done_not_stopped program s (deed_of program next.0)
+      λ stopped. done_not_stopped program s (action_of program next.0)
       (ap (λ (o : Option (Instruction ℕ ℕ)). (executed_if_some program s o).answer) (sym next.1) ∙ stopped);
 }

@@ -6,14 +6,14 @@ use Rattle.nic_device.specs.State.{State, new_state}
 use Rattle.nic_device.specs.Step.{step_of}
 use Rattle.nic_device.specs.declared.Event.{Event}
 use Rattle.nic_device.specs.declared.Event.TheVariants as event
-use Rattle.machine.specs.Deed.{deed_of}
+use Rattle.machine.specs.Action.{action_of}
 use Rattle.machine.specs.Laws.{MachinesRunTheirDevice}
 use Rattle.machine.specs.Machine.{Step, acted, done, events_of, events_if_some, events_until, executed_if_some, next_instruction, machine_step, machine_at}
 use Rattle.machine.specs.MachineState.{MachineState}
-use Rattle.machine.specs.declared.deed.Deed.{Deed}
-use Rattle.machine.specs.declared.deed.Deed.TheVariants.{Make, Lend, TakeBack, Arrive, Local}
-use Rattle.machine.specs.declared.deed.LocalDeed.{LocalDeed}
-use Rattle.machine.specs.declared.deed.LocalDeed.TheVariants as act
+use Rattle.machine.specs.declared.action.Action.{Action}
+use Rattle.machine.specs.declared.action.Action.TheVariants.{Make, Lend, TakeBack, Arrive, Local}
+use Rattle.machine.specs.declared.action.LocalAction.{LocalAction}
+use Rattle.machine.specs.declared.action.LocalAction.TheVariants as act
 use Rattle.program.specs.Listing.{Listing}
 use Rattle.program.specs.declared.instruction.Instruction.{Instruction}
 
@@ -22,7 +22,8 @@ device-either : (device : State) (b : Bool) (x y : MachineState) → x.device �
 device-either device true x y h k = h
 device-either device false x y h k = k
 
-device-acted : (program : Listing) (s : MachineState) (deed : LocalDeed) → (acted program s deed).device ≡ s.device
+device-acted : (program : Listing) (s : MachineState) (action : LocalAction)
+    → (acted program s action).device ≡ s.device
 device-acted program s (act.Expect want mask) = device-either s.device _ _ _ refl refl
 device-acted program s (act.And word) = refl
 device-acted program s (act.JumpIfEqual word target) = refl
@@ -36,18 +37,18 @@ device-step : (device : State) (b : Bool) (x y : Step) (made : List (Event Block
 device-step device true x y made h k = h
 device-step device false x y made h k = k
 
-device-done : (program : Listing) (s : MachineState) (deed : Deed)
-    → (done program s deed).state.device ≡ state_after s.device (events_of program s deed)
+device-done : (program : Listing) (s : MachineState) (action : Action)
+    → (done program s action).state.device ≡ state_after s.device (events_of program s action)
 device-done program s (Make event kept) = refl
 device-done program s (Lend block) = device-step s.device _ _ _ (event.Lend (zero_block block) ∷ []) refl refl
 device-done program s (TakeBack block) = refl
 device-done program s (Arrive number) = refl
-device-done program s (Local deed) = device-acted program s deed
+device-done program s (Local action) = device-acted program s action
 
 device-next : (program : Listing) (s : MachineState) (next : Option (Instruction ℕ ℕ))
     → (executed_if_some program s next).state.device ≡ state_after s.device (events_if_some program s next)
 device-next program s None = refl
-device-next program s (Some instruction) = device-done program s (deed_of program instruction)
+device-next program s (Some instruction) = device-done program s (action_of program instruction)
 
 -- events in two parts
 state_after-append : (s : State) (front back : List (Event Block))

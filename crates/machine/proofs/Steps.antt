@@ -3,14 +3,14 @@ use Rattle.std.proofs.Common.{◌≡◌, ◌⊎◌, refl, sym, ◌∙◌, ap, �
 use Rattle.nic_device.specs.State.{new_state}
 use Rattle.nic_device.specs.declared.Config.{Config}
 use Rattle.machine.specs.Board.{Holdings, all_blocks}
-use Rattle.machine.specs.Deed.{deed_of}
+use Rattle.machine.specs.Action.{action_of}
 use Rattle.machine.specs.MachineState.{MachineState}
 use Rattle.machine.specs.Machine.{Step, start_of, status_at, acted, done, executed_if_some, next_instruction, machine_step, machine_at}
 use Rattle.machine.specs.Processor.{IsWhereStepsLead}
-use Rattle.machine.specs.declared.deed.Deed.{Deed}
-use Rattle.machine.specs.declared.deed.Deed.TheVariants.{Make, Lend, TakeBack, Arrive, Local}
-use Rattle.machine.specs.declared.deed.LocalDeed.{LocalDeed}
-use Rattle.machine.specs.declared.deed.LocalDeed.TheVariants as act
+use Rattle.machine.specs.declared.action.Action.{Action}
+use Rattle.machine.specs.declared.action.Action.TheVariants.{Make, Lend, TakeBack, Arrive, Local}
+use Rattle.machine.specs.declared.action.LocalAction.{LocalAction}
+use Rattle.machine.specs.declared.action.LocalAction.TheVariants as act
 use Rattle.program.specs.Listing.{Listing}
 use Rattle.program.specs.declared.instruction.Instruction.{Instruction}
 
@@ -24,7 +24,8 @@ either_step : (s : MachineState) (b : Bool) (x y : Step) → x.state.steps ≡ s
 either_step s true x y h k = h
 either_step s false x y h k = k
 
-steps-acted : (program : Listing) (s : MachineState) (deed : LocalDeed) → (acted program s deed).steps ≡ s.steps + 1
+steps-acted : (program : Listing) (s : MachineState) (action : LocalAction)
+    → (acted program s action).steps ≡ s.steps + 1
 steps-acted program s (act.Expect want mask) = either_state s _ _ _ refl refl
 steps-acted program s (act.And word) = refl
 steps-acted program s (act.JumpIfEqual word target) = refl
@@ -33,19 +34,20 @@ steps-acted program s (act.Jump target) = refl
 steps-acted program s act.Halt = refl
 
 -- an executed instruction counts one step
-pub steps-done : (program : Listing) (s : MachineState) (deed : Deed) → (done program s deed).state.steps ≡ s.steps + 1
+pub steps-done : (program : Listing) (s : MachineState) (action : Action)
+    → (done program s action).state.steps ≡ s.steps + 1
 steps-done program s (Make event kept) = refl
 steps-done program s (Lend block) = either_step s _ _ _ refl refl
 steps-done program s (TakeBack block) = refl
 steps-done program s (Arrive number) = refl
-steps-done program s (Local deed) = steps-acted program s deed
+steps-done program s (Local action) = steps-acted program s action
 
 -- a step counts, or leaves the machine as it is
 counts_or_stays : (program : Listing) (s : MachineState) (next : Option (Instruction ℕ ℕ))
     → ((executed_if_some program s next).state ≡ s) ⊎ ((executed_if_some program s next).state.steps ≡ suc s.steps)
 counts_or_stays program s None = inl refl
 counts_or_stays program s (Some instruction) =
-    inr (steps-done program s (deed_of program instruction) ∙ add-one s.steps)
+    inr (steps-done program s (action_of program instruction) ∙ add-one s.steps)
 
 pub leads-start : (program : Listing) (config : Config) (s : MachineState) → s ≡ start_of program config
     → IsWhereStepsLead program config s

@@ -1,6 +1,6 @@
 pub mod Board
 pub mod MachineState
-pub mod Deed
+pub mod Action
 pub mod Machine
 pub mod Course
 pub mod Processor

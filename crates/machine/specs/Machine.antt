@@ -11,14 +11,14 @@ use Rattle.nic_device.specs.declared.Event.TheVariants as event
 use Rattle.nic_device.specs.declared.Reply.{Reply}
 use Rattle.nic_device.specs.declared.Reply.TheVariants as reply
 use Rattle.machine.specs.Board.{all_blocks, arena_after}
-use Rattle.machine.specs.Deed.{deed_of}
+use Rattle.machine.specs.Action.{action_of}
 use Rattle.machine.specs.MachineState.{MachineState}
-use Rattle.machine.specs.declared.deed.Deed.{Deed}
-use Rattle.machine.specs.declared.deed.Deed.TheVariants.{Make, Lend, TakeBack, Arrive, Local}
-use Rattle.machine.specs.declared.deed.Kept.{Kept}
-use Rattle.machine.specs.declared.deed.Kept.TheVariants.{Nothing, Word, Part}
-use Rattle.machine.specs.declared.deed.LocalDeed.{LocalDeed}
-use Rattle.machine.specs.declared.deed.LocalDeed.TheVariants as act
+use Rattle.machine.specs.declared.action.Action.{Action}
+use Rattle.machine.specs.declared.action.Action.TheVariants.{Make, Lend, TakeBack, Arrive, Local}
+use Rattle.machine.specs.declared.action.Kept.{Kept}
+use Rattle.machine.specs.declared.action.Kept.TheVariants.{Nothing, Word, Part}
+use Rattle.machine.specs.declared.action.LocalAction.{LocalAction}
+use Rattle.machine.specs.declared.action.LocalAction.TheVariants as act
 use Rattle.machine.specs.declared.machine.Status.{Status}
 use Rattle.machine.specs.declared.machine.Status.TheVariants.{Running, Ended, Failed}
 use Rattle.machine.specs.declared.machine.StepAnswer.{StepAnswer}
@@ -95,7 +95,7 @@ made program s kept arena outcome = record {
 }
 
 -- what is done without an event: acc must be what is wanted under a mask, or is masked, or another instruction is next
-abbrev pub acted : Listing → MachineState → LocalDeed → MachineState
+abbrev pub acted : Listing → MachineState → LocalAction → MachineState
 acted program s (act.Expect want mask) =
     if bit_and s.acc mask == want then moved_on program s else stopped_as s (Failed s.pc (bit_and s.acc mask) want)
 acted program s (act.And word) = moved_on program (record s { acc = bit_and s.acc word })
@@ -105,7 +105,7 @@ acted program s (act.Jump target) = moved_to program s target
 acted program s act.Halt = stopped_as s Ended
 
 -- the event that is made
-abbrev pub events_of : Listing → MachineState → Deed → List (Event Block)
+abbrev pub events_of : Listing → MachineState → Action → List (Event Block)
 events_of program s (Make event kept) = event ∷ []
 events_of program s (Lend block) = if is_free s.arena block then event.Lend (zero_block block) ∷ [] else []
 events_of program s (TakeBack block) = event.Take block ∷ []
@@ -113,7 +113,7 @@ events_of program s (Arrive number) = event.Arrive (string_at program.strings nu
 events_of program s (Local local) = []
 
 -- what an instruction does: a block that isn't free isn't lent
-abbrev pub done : Listing → MachineState → Deed → Step
+abbrev pub done : Listing → MachineState → Action → Step
 done program s (Make event kept) = made program s kept s.arena (step_of s.device event)
 done program s (Lend block) =
     if is_free s.arena block
@@ -137,7 +137,7 @@ next_instruction program s =
 -- the next instruction is executed; without one the machine stays as it is
 abbrev pub executed_if_some : Listing → MachineState → Option (Instruction ℕ ℕ) → Step
 executed_if_some program s None = record { answer = answer.Stopped; state = s }
-executed_if_some program s (Some instruction) = done program s (deed_of program instruction)
+executed_if_some program s (Some instruction) = done program s (action_of program instruction)
 
 -- one step of the machine
 unfoldable pub machine_step : Listing → MachineState → Step
@@ -151,7 +151,7 @@ machine_at program config (suc n) = (machine_step program (machine_at program co
 -- the event that a step makes, if it makes one
 abbrev pub events_if_some : Listing → MachineState → Option (Instruction ℕ ℕ) → List (Event Block)
 events_if_some program s None = []
-events_if_some program s (Some instruction) = events_of program s (deed_of program instruction)
+events_if_some program s (Some instruction) = events_of program s (action_of program instruction)
 
 -- the events that the first n steps make
 unfoldable pub events_until : Listing → Config → ℕ → List (Event Block)
@@ -162,7 +162,7 @@ events_until program config (suc n) =
 
 -- what an instruction does may be refused for want of memory: to copy the block that comes back, or the frame that
 -- arrives; to lend a block that is free, and for the transmit step of a queue that isn't idle
-abbrev pub TakesSome : MachineState → Deed → Type 0
+abbrev pub TakesSome : MachineState → Action → Type 0
 TakesSome s (Make event kept) = TakesMemory s.device event
 TakesSome s (Lend block) = TakesMemory s.device (event.Lend (zero_block block))
 TakesSome s (TakeBack block) = ⊤
@@ -171,7 +171,7 @@ TakesSome s (Local local) = ⊥
 
 abbrev pub NextTakesSome : Listing → MachineState → Option (Instruction ℕ ℕ) → Type 0
 NextTakesSome program s None = ⊥
-NextTakesSome program s (Some instruction) = TakesSome s (deed_of program instruction)
+NextTakesSome program s (Some instruction) = TakesSome s (action_of program instruction)
 
 -- a step may be refused for want of memory
 abbrev pub StepTakesMemory : Listing → MachineState → Type 0

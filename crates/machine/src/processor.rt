@@ -1,14 +1,14 @@
 //! What steps through a program: the device with its packet memory, and where the machine is.
 
 ghost use Rattle.std.specs.Prelude.{◌≡◌, ◌+◌, ◌-◌, ◌*◌, ◌<◌, ◌≤◌, ◌^◌, IfOk, IfSome, IsSome, OnOk, OnErr, length};
+ghost use Rattle.machine.specs.Action.{IsPart, IsSoundAction, StaysInside};
 ghost use Rattle.machine.specs.Board.{MovesNone};
-ghost use Rattle.machine.specs.Deed.{IsPart, IsSoundDeed, StaysInside};
 ghost use Rattle.machine.specs.Machine.{status_at, moved_to, moved_on, stopped_as, word_read, word_in, word_peeked, acc_after, acted, next_instruction, done, executed_if_some, TakesSome, machine_step, StepTakesMemory};
 ghost use Rattle.machine.specs.Processor.{state_of};
 ghost use Rattle.program.specs.Listing.{IsSound};
 
+use crate::action::{Action, Kept, LocalAction, action_of};
 use crate::board::Board;
-use crate::deed::{Deed, Kept, LocalDeed, deed_of};
 use crate::machine::{OutOfMemory, Status, StepAnswer};
 use nic_device::{Event, Reply, ReplyNote};
 use program::{BLOCK_BYTES, Instruction, Octets, Program};
@@ -148,13 +148,13 @@ impl Processor {
     }
 
     /// Does what makes no event.
-    fn act(&mut self, program: &Program, deed: LocalDeed)
+    fn act(&mut self, program: &Program, action: LocalAction)
         requires inside { self.old.pc < 4096 }
         requires counts { self.old.steps < 2 ^ 64 - 1 }
-        ensures { state_of self.new ≡ acted program.now (state_of self.old) deed }
+        ensures { state_of self.new ≡ acted program.now (state_of self.old) action }
     {
-        match deed {
-            LocalDeed::Expect(want, mask) => {
+        match action {
+            LocalAction::Expect(want, mask) => {
                 let have = self.acc & mask;
                 if have == want {
                     self.move_on(program);
@@ -166,11 +166,11 @@ impl Processor {
                     });
                 }
             }
-            LocalDeed::And(word) => {
+            LocalAction::And(word) => {
                 self.acc &= word;
                 self.move_on(program);
             }
-            LocalDeed::JumpIfEqual(word, target) => {
+            LocalAction::JumpIfEqual(word, target) => {
                 let next = if self.acc == word {
                     target
                 } else {
@@ -178,7 +178,7 @@ impl Processor {
                 };
                 self.move_to(program, next);
             }
-            LocalDeed::JumpUnlessEqual(word, target) => {
+            LocalAction::JumpUnlessEqual(word, target) => {
                 let next = if self.acc == word {
                     self.pc + 1
                 } else {
@@ -186,8 +186,8 @@ impl Processor {
                 };
                 self.move_to(program, next);
             }
-            LocalDeed::Jump(target) => self.move_to(program, target),
-            LocalDeed::Halt => self.stop_as(Status::Ended),
+            LocalAction::Jump(target) => self.move_to(program, target),
+            LocalAction::Halt => self.stop_as(Status::Ended),
         }
     }
 
@@ -203,11 +203,11 @@ impl Processor {
         requires inside { self.old.pc < 4096 }
         requires counts { self.old.steps < 2 ^ 64 - 1 }
         ensures answer { IfOk result
-            (λ answer. answer ≡ (done program.now (state_of self.old) (Deed.Make event kept)).answer) }
+            (λ answer. answer ≡ (done program.now (state_of self.old) (Action.Make event kept)).answer) }
         ensures state { OnOk result
-            (state_of self.new ≡ (done program.now (state_of self.old) (Deed.Make event kept)).state) }
+            (state_of self.new ≡ (done program.now (state_of self.old) (Action.Make event kept)).state) }
         ensures unchanged { OnErr result (state_of self.new ≡ state_of self.old) }
-        ensures memory { OnErr result (TakesSome (state_of self.old) (Deed.Make event kept)) }
+        ensures memory { OnErr result (TakesSome (state_of self.old) (Action.Make event kept)) }
     {
         let reply = self.board.make(event)?;
         self.acc = acc_after(kept, &reply, self.acc);
@@ -220,11 +220,11 @@ impl Processor {
         requires inside { self.old.pc < 4096 }
         requires counts { self.old.steps < 2 ^ 64 - 1 }
         ensures answer { IfOk result
-            (λ answer. answer ≡ (done program.now (state_of self.old) (Deed.Lend block)).answer) }
+            (λ answer. answer ≡ (done program.now (state_of self.old) (Action.Lend block)).answer) }
         ensures state { OnOk result
-            (state_of self.new ≡ (done program.now (state_of self.old) (Deed.Lend block)).state) }
+            (state_of self.new ≡ (done program.now (state_of self.old) (Action.Lend block)).state) }
         ensures unchanged { OnErr result (state_of self.new ≡ state_of self.old) }
-        ensures memory { OnErr result (TakesSome (state_of self.old) (Deed.Lend block)) }
+        ensures memory { OnErr result (TakesSome (state_of self.old) (Action.Lend block)) }
     {
         match self.board.lend(u32::from(block))? {
             Some(reply) => {
@@ -243,9 +243,9 @@ impl Processor {
         requires inside { self.old.pc < 4096 }
         requires counts { self.old.steps < 2 ^ 64 - 1 }
         ensures answer { IfOk result
-            (λ answer. answer ≡ (done program.now (state_of self.old) (Deed.TakeBack block)).answer) }
+            (λ answer. answer ≡ (done program.now (state_of self.old) (Action.TakeBack block)).answer) }
         ensures state { OnOk result
-            (state_of self.new ≡ (done program.now (state_of self.old) (Deed.TakeBack block)).state) }
+            (state_of self.new ≡ (done program.now (state_of self.old) (Action.TakeBack block)).state) }
         ensures unchanged { OnErr result (state_of self.new ≡ state_of self.old) }
     {
         let Ok(room) = Vec::with_capacity(self.alloc, BLOCK_BYTES) else {
@@ -261,9 +261,9 @@ impl Processor {
         requires inside { self.old.pc < 4096 }
         requires counts { self.old.steps < 2 ^ 64 - 1 }
         ensures answer { IfOk result
-            (λ answer. answer ≡ (done program.now (state_of self.old) (Deed.Arrive number)).answer) }
+            (λ answer. answer ≡ (done program.now (state_of self.old) (Action.Arrive number)).answer) }
         ensures state { OnOk result
-            (state_of self.new ≡ (done program.now (state_of self.old) (Deed.Arrive number)).state) }
+            (state_of self.new ≡ (done program.now (state_of self.old) (Action.Arrive number)).state) }
         ensures unchanged { OnErr result (state_of self.new ≡ state_of self.old) }
     {
         let Ok(frame) = Vec::from_slice(self.alloc, program.string(number)) else {
@@ -273,21 +273,21 @@ impl Processor {
     }
 
     /// Does what an instruction says.
-    fn execute(&mut self, program: &Program, deed: Deed) -> Result<StepAnswer, OutOfMemory>
-        requires sound { IsSoundDeed program.now deed }
+    fn execute(&mut self, program: &Program, action: Action) -> Result<StepAnswer, OutOfMemory>
+        requires sound { IsSoundAction program.now action }
         requires inside { self.old.pc < 4096 }
         requires counts { self.old.steps < 2 ^ 64 - 1 }
-        ensures answer { IfOk result (λ answer. answer ≡ (done program.now (state_of self.old) deed).answer) }
-        ensures state { OnOk result (state_of self.new ≡ (done program.now (state_of self.old) deed).state) }
+        ensures answer { IfOk result (λ answer. answer ≡ (done program.now (state_of self.old) action).answer) }
+        ensures state { OnOk result (state_of self.new ≡ (done program.now (state_of self.old) action).state) }
         ensures unchanged { OnErr result (state_of self.new ≡ state_of self.old) }
-        ensures memory { OnErr result (TakesSome (state_of self.old) deed) }
+        ensures memory { OnErr result (TakesSome (state_of self.old) action) }
     {
-        match deed {
-            Deed::Make(event, kept) => self.make(program, event, kept),
-            Deed::Lend(block) => self.lend(program, block),
-            Deed::TakeBack(block) => self.take_back(program, block),
-            Deed::Arrive(number) => self.arrive(program, number),
-            Deed::Local(local) => {
+        match action {
+            Action::Make(event, kept) => self.make(program, event, kept),
+            Action::Lend(block) => self.lend(program, block),
+            Action::TakeBack(block) => self.take_back(program, block),
+            Action::Arrive(number) => self.arrive(program, number),
+            Action::Local(local) => {
                 self.act(program, local);
                 Ok(StepAnswer::Local)
             }
@@ -304,7 +304,7 @@ impl Processor {
     {
         match self.next_instruction(program) {
             None => Ok(StepAnswer::Stopped),
-            Some(instruction) => self.execute(program, deed_of(program, instruction)),
+            Some(instruction) => self.execute(program, action_of(program, instruction)),
         }
     }
 }

@@ -118,7 +118,9 @@ Means-resolved o line (Link up) i is = ap Ok (sym is)
 Means-resolved o line Collect i is = ap Ok (sym is)
 Means-resolved o line (Expect want mask) i is = ap Ok (sym is)
 Means-resolved o line (And word) i is = ap Ok (sym is)
-Means-resolved o line (JumpIfEqual word name) i is = Ok-label o line name i (JumpIfEqual word) (λ n. refl) is.0 is.1 is.2
-Means-resolved o line (JumpUnlessEqual word name) i is = Ok-label o line name i (JumpUnlessEqual word) (λ n. refl) is.0 is.1 is.2
+Means-resolved o line (JumpIfEqual word name) i is =
+    Ok-label o line name i (JumpIfEqual word) (λ n. refl) is.0 is.1 is.2
+Means-resolved o line (JumpUnlessEqual word name) i is =
+    Ok-label o line name i (JumpUnlessEqual word) (λ n. refl) is.0 is.1 is.2
 Means-resolved o line (Jump name) i is = Ok-label o line name i Jump (λ n. refl) is.0 is.1 is.2
 Means-resolved o line Halt i is = ap Ok (sym is)

@@ -62,8 +62,8 @@ resolved-sound o line (JumpIfEqual word name) ready h =
     then_then-IfOk (Sound o) (λ pc. pc ≤ length o.drafts) (label_named o line name) (JumpIfEqual word) (fitting o line)
     (label_named-IfOk o line name ready) (λ pc is. is)
 resolved-sound o line (JumpUnlessEqual word name) ready h =
-    then_then-IfOk (Sound o) (λ pc. pc ≤ length o.drafts) (label_named o line name) (JumpUnlessEqual word) (fitting o line)
-    (label_named-IfOk o line name ready) (λ pc is. is)
+    then_then-IfOk (Sound o) (λ pc. pc ≤ length o.drafts) (label_named o line name) (JumpUnlessEqual word)
+    (fitting o line) (label_named-IfOk o line name ready) (λ pc is. is)
 resolved-sound o line (Jump name) ready h =
     then_then-IfOk (Sound o) (λ pc. pc ≤ length o.drafts) (label_named o line name) Jump (fitting o line)
     (label_named-IfOk o line name ready) (λ pc is. is)

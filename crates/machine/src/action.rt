@@ -2,7 +2,7 @@
 
 ghost use Rattle.std.specs.Prelude.{◌≡◌, length};
 ghost use Rattle.program.specs.Listing.{IsSound};
-ghost use Rattle.machine.specs.Deed.{deed_of, IsSoundDeed};
+ghost use Rattle.machine.specs.Action.{action_of, IsSoundAction};
 
 use nic_device::{Event, Port};
 use program::{Instruction, Program};
@@ -20,7 +20,7 @@ pub(crate) enum Kept {
 
 /// What an instruction does without an event.
 #[derive(Clone, Copy, Debug, PartialEq, Eq)]
-pub(crate) enum LocalDeed {
+pub(crate) enum LocalAction {
     /// The machine fails unless `acc` is this word, in the bits of this mask.
     Expect(u32, u32),
     /// `acc` keeps the bits of this word alone.
@@ -36,7 +36,7 @@ pub(crate) enum LocalDeed {
 }
 
 /// What an instruction does.
-pub(crate) enum Deed {
+pub(crate) enum Action {
     /// Makes an event that moves no block, and keeps something of the reply.
     Make(Event, Kept),
     /// Takes a block of the arena, and lends it.
@@ -46,7 +46,7 @@ pub(crate) enum Deed {
     /// Lets a copy of a data string arrive.
     Arrive(u16),
     /// Makes no event.
-    Local(LocalDeed),
+    Local(LocalAction),
 }
 
 /// The 16 bytes of a data string.
@@ -60,51 +60,53 @@ fn sixteen(string: &[u8]) -> [u8; 16]
 }
 
 /// What an instruction of a program does.
-pub(crate) fn deed_of(program: &Program, instruction: Instruction) -> Deed
+pub(crate) fn action_of(program: &Program, instruction: Instruction) -> Action
     requires { IsSound program.now.strings (length program.now.instructions) instruction }
-    ensures deed { result ≡ deed_of program.now instruction }
-    ensures sound { IsSoundDeed program.now result }
+    ensures action { result ≡ action_of program.now instruction }
+    ensures sound { IsSoundAction program.now result }
 {
     match instruction {
         Instruction::Write(address, word) => {
-            Deed::Make(Event::Write(Port::Pf, address, word), Kept::Nothing)
+            Action::Make(Event::Write(Port::Pf, address, word), Kept::Nothing)
         }
-        Instruction::Read(address) => Deed::Make(Event::Read(Port::Pf, address), Kept::Word),
+        Instruction::Read(address) => Action::Make(Event::Read(Port::Pf, address), Kept::Word),
         Instruction::VfWrite {
             function,
             offset,
             word,
-        } => Deed::Make(
+        } => Action::Make(
             Event::Write(Port::Vf(function), offset, word),
             Kept::Nothing,
         ),
         Instruction::VfRead { function, offset } => {
-            Deed::Make(Event::Read(Port::Vf(function), offset), Kept::Word)
+            Action::Make(Event::Read(Port::Vf(function), offset), Kept::Word)
         }
-        Instruction::Lend(block) => Deed::Lend(block),
-        Instruction::Unlend(block) => Deed::TakeBack(block),
+        Instruction::Lend(block) => Action::Lend(block),
+        Instruction::Unlend(block) => Action::TakeBack(block),
         Instruction::Poke(address, number) => {
             let bytes = sixteen(program.string(number));
-            Deed::Make(Event::Poke16(address, bytes), Kept::Nothing)
+            Action::Make(Event::Poke16(address, bytes), Kept::Nothing)
         }
-        Instruction::Peek(address, word) => Deed::Make(Event::Peek16(address), Kept::Part(word)),
-        Instruction::Arrive(number) => Deed::Arrive(number),
-        Instruction::RxStep => Deed::Make(Event::RxStep, Kept::Nothing),
-        Instruction::TxStep(queue) => Deed::Make(Event::TxStep(queue), Kept::Nothing),
-        Instruction::IntStep(group) => Deed::Make(Event::IntStep(group), Kept::Nothing),
+        Instruction::Peek(address, word) => Action::Make(Event::Peek16(address), Kept::Part(word)),
+        Instruction::Arrive(number) => Action::Arrive(number),
+        Instruction::RxStep => Action::Make(Event::RxStep, Kept::Nothing),
+        Instruction::TxStep(queue) => Action::Make(Event::TxStep(queue), Kept::Nothing),
+        Instruction::IntStep(group) => Action::Make(Event::IntStep(group), Kept::Nothing),
         Instruction::QueueStep(direction, queue) => {
-            Deed::Make(Event::QueueStep(direction, queue), Kept::Nothing)
+            Action::Make(Event::QueueStep(direction, queue), Kept::Nothing)
         }
-        Instruction::EepromStep => Deed::Make(Event::EepromStep, Kept::Nothing),
-        Instruction::Link(up) => Deed::Make(Event::Link(up), Kept::Nothing),
-        Instruction::Collect => Deed::Make(Event::Collect, Kept::Nothing),
-        Instruction::Expect { want, mask } => Deed::Local(LocalDeed::Expect(want, mask)),
-        Instruction::And(word) => Deed::Local(LocalDeed::And(word)),
-        Instruction::JumpIfEqual(word, target) => Deed::Local(LocalDeed::JumpIfEqual(word, target)),
+        Instruction::EepromStep => Action::Make(Event::EepromStep, Kept::Nothing),
+        Instruction::Link(up) => Action::Make(Event::Link(up), Kept::Nothing),
+        Instruction::Collect => Action::Make(Event::Collect, Kept::Nothing),
+        Instruction::Expect { want, mask } => Action::Local(LocalAction::Expect(want, mask)),
+        Instruction::And(word) => Action::Local(LocalAction::And(word)),
+        Instruction::JumpIfEqual(word, target) => Action::Local(LocalAction::JumpIfEqual(
+            word, target,
+        )),
         Instruction::JumpUnlessEqual(word, target) => {
-            Deed::Local(LocalDeed::JumpUnlessEqual(word, target))
+            Action::Local(LocalAction::JumpUnlessEqual(word, target))
         }
-        Instruction::Jump(target) => Deed::Local(LocalDeed::Jump(target)),
-        Instruction::Halt => Deed::Local(LocalDeed::Halt),
+        Instruction::Jump(target) => Action::Local(LocalAction::Jump(target)),
+        Instruction::Halt => Action::Local(LocalAction::Halt),
     }
 }

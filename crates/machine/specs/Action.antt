@@ -1,0 +1,62 @@
+-- What the instructions of a program do.
+use Rattle.std.specs.Prelude.{◌<◌, ◌≤◌, ℕ, length, ⊤}
+use Rattle.nic_device.specs.declared.Event.TheVariants as event
+use Rattle.nic_device.specs.declared.Port.TheVariants.{Pf, Vf}
+use Rattle.machine.specs.Board.{MovesNone}
+use Rattle.machine.specs.declared.action.Action.{Action}
+use Rattle.machine.specs.declared.action.Action.TheVariants.{Make, Lend, TakeBack, Arrive, Local}
+use Rattle.machine.specs.declared.action.Kept.{Kept}
+use Rattle.machine.specs.declared.action.Kept.TheVariants.{Nothing, Word, Part}
+use Rattle.machine.specs.declared.action.LocalAction.{LocalAction}
+use Rattle.machine.specs.declared.action.LocalAction.TheVariants as act
+use Rattle.program.specs.Listing.{Listing, string_at}
+use Rattle.program.specs.declared.instruction.Instruction.{Instruction}
+use Rattle.program.specs.declared.instruction.Instruction.TheVariants as instr
+
+-- what an instruction does: the event that it makes and what it keeps of the reply, or what it does without an event
+abbrev pub action_of : Listing → Instruction ℕ ℕ → Action
+action_of program (instr.Write address word) = Make (event.Write Pf address word) Nothing
+action_of program (instr.Read address) = Make (event.Read Pf address) Word
+action_of program (instr.VfWrite function offset word) = Make (event.Write (Vf function) offset word) Nothing
+action_of program (instr.VfRead function offset) = Make (event.Read (Vf function) offset) Word
+action_of program (instr.Lend block) = Lend block
+action_of program (instr.Unlend block) = TakeBack block
+action_of program (instr.Poke address number) = Make (event.Poke16 address (string_at program.strings number)) Nothing
+action_of program (instr.Peek address word) = Make (event.Peek16 address) (Part word)
+action_of program (instr.Arrive number) = Arrive number
+action_of program instr.RxStep = Make event.RxStep Nothing
+action_of program (instr.TxStep queue) = Make (event.TxStep queue) Nothing
+action_of program (instr.IntStep group) = Make (event.IntStep group) Nothing
+action_of program (instr.QueueStep direction queue) = Make (event.QueueStep direction queue) Nothing
+action_of program instr.EepromStep = Make event.EepromStep Nothing
+action_of program (instr.Link up) = Make (event.Link up) Nothing
+action_of program instr.Collect = Make event.Collect Nothing
+action_of program (instr.Expect want mask) = Local (act.Expect want mask)
+action_of program (instr.And word) = Local (act.And word)
+action_of program (instr.JumpIfEqual word target) = Local (act.JumpIfEqual word target)
+action_of program (instr.JumpUnlessEqual word target) = Local (act.JumpUnlessEqual word target)
+action_of program (instr.Jump target) = Local (act.Jump target)
+action_of program instr.Halt = Local act.Halt
+
+-- a jump goes to an instruction of the program, or to its end
+abbrev pub StaysInside : Listing → LocalAction → Type 0
+StaysInside program (act.Expect want mask) = ⊤
+StaysInside program (act.And word) = ⊤
+StaysInside program (act.JumpIfEqual word target) = target ≤ length program.instructions
+StaysInside program (act.JumpUnlessEqual word target) = target ≤ length program.instructions
+StaysInside program (act.Jump target) = target ≤ length program.instructions
+StaysInside program act.Halt = ⊤
+
+-- one of four words is kept
+abbrev pub IsPart : Kept → Type 0
+IsPart Nothing = ⊤
+IsPart Word = ⊤
+IsPart (Part word) = word < 4
+
+-- what the instructions of a program can ask for
+abbrev pub IsSoundAction : Listing → Action → Type 0
+IsSoundAction program (Make event kept) = MovesNone event × IsPart kept
+IsSoundAction program (Lend block) = ⊤
+IsSoundAction program (TakeBack block) = ⊤
+IsSoundAction program (Arrive number) = ⊤
+IsSoundAction program (Local local) = StaysInside program local

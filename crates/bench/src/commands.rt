@@ -6,12 +6,10 @@ ghost use Rattle.bench.specs.Command.{beside, command_said, commands_of, command
 ghost use Rattle.bench.specs.Command.{number_said, table_of_one, table_of_two, target_said, words_and};
 
 use debugger::Command;
+use nic_device::MAX_VFS;
 use script_asm::target;
 use std::alloc::{AllocFailed, Global};
 use text_format::{Line, Lines, Words};
-
-/// How many virtual functions there may be.
-const FUNCTIONS: u32 = 63;
 
 /// Why there are no commands.
 #[derive(Clone, Copy, Debug, PartialEq, Eq)]
@@ -51,7 +49,7 @@ fn function(word: &str) -> Option<u8>
     ensures { result ≡ option_and_then if_function (number_said word.now) }
 {
     let number = number(word)?;
-    if number < FUNCTIONS {
+    if number < u32::from(MAX_VFS) {
         Some(number as u8)
     } else {
         None

@@ -9,6 +9,7 @@ ghost use Rattle.bench.specs.Eeprom.{triple_line, triples_answer};
 use crate::failure::Failure;
 use crate::output::Output;
 use crate::refusal::{Refusal, write_refusal};
+use crate::status::DONE;
 use nic_device::{AsmFault, Image, LoadFault, assemble, load};
 use std::alloc::Global;
 use std::io::Write;
@@ -59,7 +60,7 @@ pub(crate) fn write_image<W: Write>(
         Ok(image) => {
             let bytes = image.to_bytes(alloc)?;
             output.write_bytes(&bytes)?;
-            Ok(0)
+            Ok(DONE)
         }
         Err(fault) => match refusal_of_text(fault) {
             Some(refusal) => write_refusal(output, &refusal),
@@ -87,7 +88,7 @@ fn write_triples<W: Write>(image: &Image, output: &mut Output<W>) -> Result<u8, 
     for triple in image.triples() {
         write_triple(output, triple)?;
     }
-    Ok(0)
+    Ok(DONE)
 }
 
 /// Writes the register writes of the image whose file the bytes are.

@@ -11,6 +11,7 @@ use crate::answering::answer;
 use crate::failure::Failure;
 use crate::input::Input;
 use crate::output::Output;
+use crate::status::{DONE, FAILED, NO_MEMORY, REFUSED_WORDS};
 use clap::Error;
 use clap::error::ErrorKind;
 use command_line::{Asked, Request, ThreadsOptions, asked};
@@ -21,10 +22,7 @@ use std::io::{Read, Write};
 /// How the program ends.
 #[derive(Clone, Copy, Debug, PartialEq, Eq)]
 pub enum Outcome {
-    /// With this status: 0; 1 where a script's machine still runs after its last step
-    /// or met another word than it expected; 2 where the
-    /// input is refused, or a read or a write failed; 3 where the words are refused; 4 where there
-    /// is no memory.
+    /// With this status: `DONE`, `NOT_ENDED`, `FAILED`, `REFUSED_WORDS` or `NO_MEMORY`.
     Ended(u8),
     /// Not yet: the words ask for `threads`, for which nothing is read or written here.
     Threads {
@@ -35,7 +33,7 @@ pub enum Outcome {
     },
 }
 
-/// Says a refusal by its name, and ends with this status; or with 2 where that can't be written.
+/// Says a refusal by its name, and ends with this status; or with `FAILED` where that can't be written.
 fn end_saying<W: Write>(output: &mut Output<W>, name: &str, status: u8) -> Outcome
     ensures { EndsSaying (W.contents output.old.writer) (W.contents output.new.writer)
         output.new.has_failed (record { text = refusal_line name.now None; status = status })
@@ -43,7 +41,7 @@ fn end_saying<W: Write>(output: &mut Output<W>, name: &str, status: u8) -> Outco
 {
     match output.write(format_args!("refused {name}\n")) {
         Ok(()) => Outcome::Ended(status),
-        Err(_) => Outcome::Ended(2),
+        Err(_) => Outcome::Ended(FAILED),
     }
 }
 
@@ -57,9 +55,9 @@ fn end_given_up<W: Write>(output: &mut Output<W>, failure: Failure) -> Outcome
         → (result ≡ Outcome.Ended 2) × (output.new ≡ output.old) }
 {
     match failure {
-        Failure::Read => end_saying(output, "Input", 2),
-        Failure::Write => Outcome::Ended(2),
-        Failure::OutOfMemory => end_saying(output, "OutOfMemory", 4),
+        Failure::Read => end_saying(output, "Input", FAILED),
+        Failure::Write => Outcome::Ended(FAILED),
+        Failure::OutOfMemory => end_saying(output, "OutOfMemory", NO_MEMORY),
     }
 }
 
@@ -84,9 +82,9 @@ fn status_of(kind: ErrorKind) -> u8
     ensures { result ≡ words_status kind }
 {
     match kind {
-        ErrorKind::DisplayHelp => 0,
-        ErrorKind::DisplayVersion => 0,
-        _ => 3,
+        ErrorKind::DisplayHelp => DONE,
+        ErrorKind::DisplayVersion => DONE,
+        _ => REFUSED_WORDS,
     }
 }
 
@@ -97,11 +95,11 @@ fn end_words<W: Write>(output: &mut Output<W>, error: &Error) -> Outcome
 {
     let kind = error.kind();
     if kind == ErrorKind::OutOfMemory {
-        return end_saying(output, "OutOfMemory", 4);
+        return end_saying(output, "OutOfMemory", NO_MEMORY);
     }
     match output.write(error) {
         Ok(()) => Outcome::Ended(status_of(kind)),
-        Err(_) => Outcome::Ended(2),
+        Err(_) => Outcome::Ended(FAILED),
     }
 }
 

@@ -13,6 +13,7 @@ ghost use Rattle.bench.specs.Hash.{line_and, lines_answer, word_line, words_answ
 use crate::failure::Failure;
 use crate::output::Output;
 use crate::refusal::{Refusal, write_refusal};
+use crate::status::DONE;
 use nic_device::{Key, hash};
 use std::alloc::{AllocFailed, Global};
 use std::io::Write;
@@ -171,7 +172,7 @@ fn write_hashes<W: Write>(output: &mut Output<W>, hashes: &[u32]) -> Result<u8, 
     for hash in hashes {
         write_hash(output, *hash)?;
     }
-    Ok(0)
+    Ok(DONE)
 }
 
 /// Reads a key of 40 bytes on the first line of a text and inputs of 36 bytes at most on those behind

@@ -20,6 +20,7 @@ mod refusal;
 mod reply;
 mod script_run;
 mod session;
+mod status;
 mod steps;
 mod view;
 
@@ -30,3 +31,4 @@ pub use input::{Input, READS};
 pub use output::Output;
 pub use reading::{BYTES, InputFault, read_input};
 pub use refusal::Refusal;
+pub use status::{DONE, FAILED, NO_MEMORY, NOT_ENDED, REFUSED_WORDS};

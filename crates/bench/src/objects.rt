@@ -7,6 +7,7 @@ use crate::failure::Failure;
 use crate::output::Output;
 use crate::refusal::{Refusal, write_refusal};
 use crate::script_run::refusal_of_script;
+use crate::status::DONE;
 use program::{ObjectFault, read};
 use script_asm::{assemble, disassemble};
 use std::alloc::Global;
@@ -42,7 +43,7 @@ pub(crate) fn write_object<W: Write>(
         Ok(program) => {
             let bytes = program.to_bytes(alloc)?;
             output.write_bytes(&bytes)?;
-            Ok(0)
+            Ok(DONE)
         }
         Err(fault) => match refusal_of_script(fault) {
             Some(refusal) => write_refusal(output, &refusal),
@@ -66,7 +67,7 @@ pub(crate) fn write_script<W: Write>(
                 return Err(Failure::OutOfMemory);
             };
             output.write_bytes(text.as_bytes())?;
-            Ok(0)
+            Ok(DONE)
         }
         Err(fault) => match refusal_of_object(fault) {
             Some(refusal) => write_refusal(output, &refusal),

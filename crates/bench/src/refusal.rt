@@ -4,6 +4,7 @@ ghost use Rattle.bench.specs.Answer.{FailsToWrite, Gives, refused};
 
 use crate::failure::Failure;
 use crate::output::Output;
+use crate::status::FAILED;
 use std::fmt;
 use std::io::Write;
 
@@ -59,5 +60,5 @@ pub(crate) fn write_refusal<W: Write>(
     ensures err { FailsToWrite result output.new.has_failed }
 {
     output.write(format_args!("refused {refusal}\n"))?;
-    Ok(2)
+    Ok(FAILED)
 }

@@ -11,6 +11,7 @@ use crate::failure::Failure;
 use crate::output::Output;
 use crate::refusal::{Refusal, write_refusal};
 use crate::script_run::refusal_of_script;
+use crate::status::DONE;
 use crate::view::{write_done, write_refused};
 use command_line::DebugOptions;
 use debugger::{Command, DebugRefusal, Debugger};
@@ -54,7 +55,7 @@ fn do_commands<W: Write>(
             Err(refusal) => write_refused(output, refusal)?,
         }
     }
-    Ok(0)
+    Ok(DONE)
 }
 
 /// Debugs a program on a new controller.

@@ -9,6 +9,7 @@ ghost use Rattle.bench.specs.Steps.{answer_text, steps_text};
 use crate::failure::Failure;
 use crate::output::Output;
 use crate::reply::ReplyText;
+use crate::status::{DONE, NOT_ENDED};
 use machine::{Machine, Status, StepAnswer};
 use std::io::Write;
 use text_format::WordText;
@@ -68,18 +69,18 @@ fn write_end<W: Write>(machine: &Machine, output: &mut Output<W>) -> Result<u8, 
         Status::Running => {
             let pc = machine.pc();
             output.write(format_args!("limit {pc}\n"))?;
-            Ok(1)
+            Ok(NOT_ENDED)
         }
         Status::Ended => {
             let steps = machine.steps();
             output.write(format_args!("ok {steps}\n"))?;
-            Ok(0)
+            Ok(DONE)
         }
         Status::Failed { pc, have, want } => {
             let have = WordText(have);
             let want = WordText(want);
             output.write(format_args!("failed {pc} have {have} want {want}\n"))?;
-            Ok(1)
+            Ok(NOT_ENDED)
         }
     }
 }

@@ -1,7 +1,7 @@
 //! `nicbench`: the program over standard input and standard output.
 #![tactic(auto)]
 
-use bench::{Input, Outcome, Output, bench};
+use bench::{FAILED, Input, NO_MEMORY, Outcome, Output, REFUSED_WORDS, bench};
 use std::alloc::Global;
 use std::env;
 use std::io::{self, BufWriter, ErrorKind, Write};
@@ -9,15 +9,6 @@ use std::process::ExitCode;
 use std::sync::Wait;
 use std::thread::Threads;
 use threads_bench::bench_threads;
-
-/// The status of standard input or standard output that fail.
-const FAILED: u8 = 2;
-
-/// The status of words that are no text.
-const REFUSED_WORDS: u8 = 3;
-
-/// The status where there is no memory.
-const NO_MEMORY: u8 = 4;
 
 fn main(rt: HostRuntime) -> ExitCode {
     let status = match run(&rt) {

@@ -3,6 +3,7 @@
 ghost use Rattle.std.specs.Prelude.{◌≡◌, ◌↔◌};
 ghost use Rattle.threads_bench.specs.Refused.{both_done, status_of};
 
+use bench::{FAILED, NO_MEMORY};
 use std::alloc::AllocError;
 use workers::{CallFault, CloseFault, NewFault, PmdFault, RunFault, WorkerFault};
 
@@ -21,8 +22,8 @@ impl Refused {
         ensures { result ≡ status_of self }
     {
         match self {
-            Refused::OutOfMemory => 4,
-            Refused::Other => 2,
+            Refused::OutOfMemory => NO_MEMORY,
+            Refused::Other => FAILED,
         }
     }
 }

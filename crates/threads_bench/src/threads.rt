@@ -9,7 +9,7 @@ use crate::gathered::{Gathered, gather};
 use crate::jobs::{jobs, setup};
 use crate::refused::Refused;
 use crate::summary::{Summary, sent_in, write_summary};
-use bench::Output;
+use bench::{DONE, FAILED, Output};
 use std::alloc::Global;
 use std::io::Write;
 use std::sync::Wait;
@@ -156,12 +156,12 @@ pub fn bench_threads<R: Threads + Wait + Sync, W: Write>(
     ensures number { ((workers ≡ 0) ⊎ (8 < workers)) → (result ≡ 2) × (output.new ≡ output.old) }
 {
     if workers == 0 || workers > MAX_WORKERS {
-        return 2;
+        return FAILED;
     }
     match run(rt, alloc, workers, frames) {
         Ok(summary) => match write_summary(output, &summary) {
-            Ok(()) => 0,
-            Err(_) => 2,
+            Ok(()) => DONE,
+            Err(_) => FAILED,
         },
         Err(refused) => refused.status(),
     }

@@ -24,3 +24,4 @@ pub use intr_unit::Group;
 pub use laws::{first_fault_decides, instructions_decide, objects_read_back};
 pub use program::{DATA_BYTES, DATA_LIMIT, INSTRUCTION_LIMIT, Program};
 pub use reading::read;
+pub use vf_map::MAX_VFS;

@@ -9,6 +9,7 @@ use crate::instruction::Instruction;
 use dma_arena::Octets;
 use dma_ring::Dir;
 use intr_unit::Group;
+use vf_map::MAX_VFS;
 
 /// What may be wrong with the fields of an instruction, the fault that is told first standing first.
 #[derive(Clone, Copy, Debug, PartialEq, Eq)]
@@ -107,17 +108,20 @@ fn fault_in(strings: &[Octets], count: u16, instruction: Instruction) -> Option<
     ensures { result ≡ fault_in strings.now count instruction }
 {
     match instruction {
-        Instruction::VfWrite { function, .. } => unless(function < 63, FieldFault::Operand),
-        Instruction::VfRead { function, .. } => unless(function < 63, FieldFault::Operand),
-        Instruction::IntStep(Group::Vf(function)) => unless(function < 63, FieldFault::Operand),
+        Instruction::VfWrite { function, .. }
+        | Instruction::VfRead { function, .. }
+        | Instruction::IntStep(Group::Vf(function)) => unless(
+            function < MAX_VFS,
+            FieldFault::Operand,
+        ),
         Instruction::Poke(_, data) => unless(bytes_of(strings, data) == 16, FieldFault::Operand),
         Instruction::Peek(_, word) => unless(word < 4, FieldFault::Operand),
         Instruction::Arrive(data) => {
             unless(usize::from(data) < strings.len(), FieldFault::Operand)
         }
-        Instruction::JumpIfEqual(_, target) => unless(target <= count, FieldFault::Target),
-        Instruction::JumpUnlessEqual(_, target) => unless(target <= count, FieldFault::Target),
-        Instruction::Jump(target) => unless(target <= count, FieldFault::Target),
+        Instruction::JumpIfEqual(_, target)
+        | Instruction::JumpUnlessEqual(_, target)
+        | Instruction::Jump(target) => unless(target <= count, FieldFault::Target),
         Instruction::Write(..)
         | Instruction::Read(_)
         | Instruction::Lend(_)

@@ -12,9 +12,6 @@ use reg_table::RowId;
 use rss_hash::HashKey;
 use std::marker::Model;
 
-/// How many queues there are, each with a receive and a transmit side.
-pub const QUEUES: u16 = 128;
-
 /// The words of all registers, which sides of queues are wanted on, and which interrupt causes messages told.
 #[derive(Drop)]
 pub struct RegisterFile {

@@ -41,9 +41,9 @@ fn jumps_to(instruction: &Instruction, pc: u16) -> bool
     ensures { result ≡ jumps_to pc instruction.now }
 {
     match *instruction {
-        Instruction::JumpIfEqual(_, target) => target == pc,
-        Instruction::JumpUnlessEqual(_, target) => target == pc,
-        Instruction::Jump(target) => target == pc,
+        Instruction::JumpIfEqual(_, target)
+        | Instruction::JumpUnlessEqual(_, target)
+        | Instruction::Jump(target) => target == pc,
         _ => false,
     }
 }

@@ -8,7 +8,7 @@ ghost use Rattle.script_asm.specs.Target.{number_below};
 use crate::faults::{LineFault, both};
 use crate::names::Name;
 use crate::targets::{number, number_below, target};
-use program::{Dir, Group, Instruction};
+use program::{Dir, Group, Instruction, MAX_VFS};
 use text_format::Words;
 
 /// An instruction as its line writes it, with labels and data by name.
@@ -40,7 +40,7 @@ fn link(word: &str) -> Result<bool, LineFault>
 fn function(word: &str) -> Result<u8, LineFault>
     ensures { result ≡ number_below 63 word.now }
 {
-    let number = number_below(63, word)?;
+    let number = number_below(u32::from(MAX_VFS), word)?;
     Ok(number as u8)
 }
 

@@ -24,4 +24,4 @@ pub use located::Located;
 pub use mapped::Mapped;
 pub use mapping::{locate, map};
 pub use mode::Mode;
-pub use pools::{has_queue, mode_of, pool_of, queues_of};
+pub use pools::{MAX_VFS, QUEUES, has_queue, mode_of, pool_of, queues_of};

@@ -7,8 +7,11 @@ use crate::mode::Mode;
 /// The bits of GCR_EXT that hold the mode.
 const MODE_MASK: u32 = 0x3;
 
-/// How many queues the device has.
-const QUEUES: u16 = 128;
+/// How many queues the device has, each with a receive and a transmit side.
+pub const QUEUES: u16 = 128;
+
+/// How many virtual functions the device has at most.
+pub const MAX_VFS: u8 = 63;
 
 /// The mode in GCR_EXT: its bits 1:0. The other bits say nothing here.
 pub fn mode_of(gcr_ext: u32) -> Mode

@@ -2,9 +2,6 @@ ghost use Rattle.std.specs.Prelude.{◌≡◌};
 
 use std::alloc::AllocError;
 
-/// How many virtual functions a device has at most.
-pub const MAX_VFS: u8 = 63;
-
 /// How many frames the receive list takes at most.
 pub const MAX_FIFO: u16 = 4096;
 

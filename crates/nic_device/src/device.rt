@@ -6,10 +6,11 @@ ghost use Rattle.nic_device.specs.Link.{next_out_of};
 ghost use Rattle.nic_device.specs.Sound.{IsSound};
 ghost use Rattle.nic_device.specs.Step.{step_of, TakesMemory, word_told};
 
-use crate::config::{Config, MAX_FIFO, MAX_VFS, NewFault};
+use crate::config::{Config, MAX_FIFO, NewFault};
 use crate::engine::Engine;
 use crate::event::{Event, OutOfMemory, Port, Reply};
 use eeprom_image::Image;
+use register_file::MAX_VFS;
 use rx_ring::{BLOCK_BYTES, LentMemory, Octets};
 use std::alloc::Global;
 use std::marker::Model;

@@ -29,14 +29,14 @@ mod switching;
 mod transmit;
 mod waiting;
 
-pub use config::{Config, MAX_FIFO, MAX_VFS, NewFault};
+pub use config::{Config, MAX_FIFO, NewFault};
 pub use device::{Device, Parts};
 pub use eeprom_image::{AsmFault, Image, LoadFault, assemble, load};
 pub use event::{Event, EventNote, Note, OutOfMemory, Port, Reply, ReplyNote, Why};
 pub use named::Named;
 pub use register_file::{
-    Bank, Group, Key, Located, Mode, Place, RowId, addr_of, asks_pool_reset, asks_reset, bank_of,
-    has_queue, hash, locate, mode_of, place_of,
+    Bank, Group, Key, Located, MAX_VFS, Mode, Place, QUEUES, RowId, addr_of, asks_pool_reset,
+    asks_reset, bank_of, has_queue, hash, locate, mode_of, place_of,
 };
 pub use runs::RunStop;
 pub use rx_ring::{

@@ -5,11 +5,8 @@ ghost use Rattle.pmd_seam.specs.Setup.{IsAddressOf};
 ghost use Rattle.pmd_seam.specs.Named.{CanName, IsNumberOf, IsDriven, is_driven, offset_of};
 ghost use Rattle.nic_device.specs.RegisterFile.Queue.{tail_row};
 
-use nic_device::{Dir, Place, Port, RowId, addr_of};
+use nic_device::{Dir, Place, Port, QUEUES, RowId, addr_of};
 use std::marker::Model;
-
-/// How many queues the physical function names.
-const QUEUES: u16 = 128;
 
 /// How many queues of its own a virtual function's offsets have room for.
 const OWN_QUEUES: u16 = 64;

@@ -73,7 +73,7 @@ fn note_returned(arena: &mut Arena, reply: Reply, room: Vec<u8>) -> ReplyNote
     match reply.into_note() {
         Ok(note) => note,
         Err(buf) => {
-            let note = Note::new(buf.block(), Octets::copied(buf.bytes(), room));
+            let note = Note::of(&buf, room);
             give_back(arena, buf);
             Reply::Buf(note)
         }

@@ -43,9 +43,51 @@ fn note_of(reply: Reply) -> ReplyNote
     requires { HasNone reply }
     ensures { result ≡ reply }
 {
-    match reply.into_note() {
-        Ok(note) => note,
-        Err(_buf) => unreachable!(),
+    match reply {
+        Reply::Word(word) => Reply::Word(word),
+        Reply::Stray(word) => Reply::Stray(word),
+        Reply::Done => Reply::Done,
+        Reply::Bytes(bytes) => Reply::Bytes(bytes),
+        Reply::Buf(_buf) => unreachable!(),
+        Reply::Twice(_buf) => unreachable!(),
+        Reply::NotLent => Reply::NotLent,
+        Reply::Misaligned => Reply::Misaligned,
+        Reply::NoQueue => Reply::NoQueue,
+        Reply::NoGroup => Reply::NoGroup,
+        Reply::Message { group, vector } => Reply::Message { group, vector },
+        Reply::Idle => Reply::Idle,
+        Reply::Dropped(why) => Reply::Dropped(why),
+        Reply::Wrote {
+            queue,
+            slot,
+            end,
+            desc,
+            at,
+            len,
+        } => Reply::Wrote {
+            queue,
+            slot,
+            end,
+            desc,
+            at,
+            len,
+        },
+        Reply::Advanced { queue, slot, back } => Reply::Advanced { queue, slot, back },
+        Reply::Sent { queue, len, back } => Reply::Sent { queue, len, back },
+        Reply::Fault { queue, fault } => Reply::Fault { queue, fault },
+        Reply::Frame { queue, bytes } => Reply::Frame { queue, bytes },
+    }
+}
+
+/// The bytes of a block, copied into a vector that has room for them.
+fn copy_bytes(mut room: Vec<u8>, buf: &Buf) -> Octets
+    requires empty { room.items ≡ [] }
+    requires room { vec_capacity room ≡ 2048 }
+    ensures { result ≡ buf.now.bytes }
+{
+    match room.extend_from_slice(buf.bytes()) {
+        Ok(()) => Octets::of(room),
+        Err(_) => unreachable!(),
     }
 }
 
@@ -70,13 +112,12 @@ fn note_returned(arena: &mut Arena, reply: Reply, room: Vec<u8>) -> ReplyNote
     ensures reply { result ≡ reply }
     ensures arena { arena.new ≡ arena_after arena.old reply }
 {
-    match reply.into_note() {
-        Ok(note) => note,
-        Err(buf) => {
-            let note = Note::of(&buf, room);
-            give_back(arena, buf);
-            Reply::Buf(note)
-        }
+    if let Reply::Buf(buf) = reply {
+        let note = Note::new(buf.block(), copy_bytes(room, &buf));
+        give_back(arena, buf);
+        Reply::Buf(note)
+    } else {
+        note_of(reply)
     }
 }
 
@@ -84,9 +125,14 @@ fn note_returned(arena: &mut Arena, reply: Reply, room: Vec<u8>) -> ReplyNote
 fn let_go(event: Event)
     requires { MovesNone event }
 {
-    match event.into_buf() {
-        None => {}
-        Some(_buf) => unreachable!(),
+    match event {
+        Event::Read(_, _) | Event::Write(_, _, _) => {}
+        Event::Lend(_buf) => unreachable!(),
+        Event::Take(_) => {}
+        Event::Peek16(_) | Event::Poke16(_, _) => {}
+        Event::Arrive(_frame) => {}
+        Event::RxStep | Event::TxStep(_) | Event::IntStep(_) | Event::QueueStep(_, _) => {}
+        Event::EepromStep | Event::Link(_) | Event::Collect => {}
     }
 }
 
@@ -95,9 +141,9 @@ fn lent_block(event: Event) -> Buf
     requires { Lends event }
     ensures { event ≡ Event.Lend result }
 {
-    match event.into_buf() {
-        Some(buf) => buf,
-        None => unreachable!(),
+    match event {
+        Event::Lend(buf) => buf,
+        _ => unreachable!(),
     }
 }
 

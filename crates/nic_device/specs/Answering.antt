@@ -1,5 +1,5 @@
 -- What an event can be answered, and how long that is in a note.
-use Rattle.std.specs.Prelude.{ℕ, ◌==◌, Bool, true, false, length, Option, Some, None, Result, Ok, Err}
+use Rattle.std.specs.Prelude.{ℕ, ◌==◌, Bool, true, false, length}
 use Rattle.rx_ring.specs.DmaArena.Block.{Block}
 use Rattle.nic_device.specs.Link.{next_out_of}
 use Rattle.nic_device.specs.State.{State}
@@ -107,17 +107,6 @@ may_answer (event.QueueStep dir queue) r = may_switch r
 may_answer event.EepromStep r = may_answer_eeprom r
 may_answer (event.Link up) r = may_link r
 may_answer event.Collect r = may_collect r
-
--- the block that an event would have lent, if it lends one
-abbrev pub block_lent : Event Block → Option Block
-block_lent (event.Lend block) = Some block
-block_lent other = None
-
--- a reply's note where it hands out no block, and else that block
-abbrev pub note_or_block : Reply Block → Result (Reply Block) Block
-note_or_block (reply.Buf block) = Err block
-note_or_block (reply.Twice block) = Err block
-note_or_block other = Ok other
 
 -- how many bytes of a reply its note copies: those of a block, or of a frame
 abbrev pub note_length : Reply Block → ℕ

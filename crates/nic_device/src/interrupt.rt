@@ -4,7 +4,7 @@ ghost use Rattle.std.specs.Prelude.{◌≡◌, ◌<◌, IfSome};
 ghost use Rattle.register_file.specs.RegTable.Rows.{row_of};
 ghost use Rattle.register_file.specs.RegTable.declared.kind.Kind.TheVariants.{Ro};
 ghost use Rattle.register_file.specs.Groups.{index_of};
-ghost use Rattle.nic_device.specs.Interrupt.{mode_in, function_of_queue, group_of_queue, function_counted, raised_by, side_failed, has_group, messaged, interrupted};
+ghost use Rattle.nic_device.specs.Interrupt.{mode_in, function_of_queue, group_of_queue, function_counted, raised_by, has_group, messaged, interrupted};
 
 use crate::engine::Engine;
 use crate::event::Reply;
@@ -47,15 +47,6 @@ fn group_of_queue(registers: &RegisterFile, vfs: u8, queue: u16) -> Group
         Some(v) => Group::Vf(v),
         None => Group::Pf,
     }
-}
-
-/// A side of a queue after a fault: it is off and not wanted on, and the cause of faults is raised.
-pub(crate) fn fail_side(registers: &mut RegisterFile, dir: Dir, queue: u16)
-    requires { queue < 128 }
-    ensures { registers.new ≡ side_failed registers.old dir queue }
-{
-    registers.shut(dir, queue);
-    registers.raise(Group::Pf, PCI_EXCEPTION);
 }
 
 /// A frame of a virtual function, where there is one, is counted in a row of what is counted of functions.

@@ -3,7 +3,7 @@
 
 ghost use Rattle.std.specs.Prelude.{◌≡◌, ◌≤◌, ◌↔◌, IsTrue, IfOk, [], length, false};
 ghost use Rattle.std.specs.Vec.{vec_capacity};
-ghost use Rattle.nic_device.specs.Answering.{block_lent, note_length, note_or_block};
+ghost use Rattle.nic_device.specs.Answering.{note_length};
 
 use crate::event::{Event, EventNote, Note, Reply, ReplyNote};
 use rx_ring::{Buf, Octets};
@@ -53,19 +53,6 @@ impl Event {
             Event::EepromStep => Ok(Event::EepromStep),
             Event::Link(up) => Ok(Event::Link(*up)),
             Event::Collect => Ok(Event::Collect),
-        }
-    }
-
-    /// The buffer that the event would have lent, where it lends one. The event goes.
-    pub fn into_buf(self) -> Option<Buf>
-        ensures { result ≡ block_lent self }
-    {
-        match self {
-            Event::Lend(buf) => Some(buf),
-            Event::Read(_, _) | Event::Write(_, _, _) => None,
-            Event::Take(_) | Event::Peek16(_) | Event::Poke16(_, _) | Event::Arrive(_) => None,
-            Event::RxStep | Event::TxStep(_) | Event::IntStep(_) | Event::QueueStep(_, _) => None,
-            Event::EepromStep | Event::Link(_) | Event::Collect => None,
         }
     }
 }
@@ -180,47 +167,6 @@ impl Reply {
                 queue: *queue,
                 bytes: Octets::copied(bytes.bytes(), room),
             },
-        }
-    }
-}
-
-impl Reply {
-    /// The reply as its note tells it, where it hands out no buffer, and else that buffer. Nothing is copied.
-    pub fn into_note(self) -> Result<ReplyNote, Buf>
-        ensures { result ≡ note_or_block self }
-    {
-        match self {
-            Reply::Buf(buf) | Reply::Twice(buf) => Err(buf),
-            Reply::Word(word) => Ok(Reply::Word(word)),
-            Reply::Stray(word) => Ok(Reply::Stray(word)),
-            Reply::Done => Ok(Reply::Done),
-            Reply::Bytes(bytes) => Ok(Reply::Bytes(bytes)),
-            Reply::NotLent => Ok(Reply::NotLent),
-            Reply::Misaligned => Ok(Reply::Misaligned),
-            Reply::NoQueue => Ok(Reply::NoQueue),
-            Reply::NoGroup => Ok(Reply::NoGroup),
-            Reply::Idle => Ok(Reply::Idle),
-            Reply::Dropped(why) => Ok(Reply::Dropped(why)),
-            Reply::Wrote {
-                queue,
-                slot,
-                end,
-                desc,
-                at,
-                len,
-            } => Ok(Reply::Wrote {
-                queue,
-                slot,
-                end,
-                desc,
-                at,
-                len,
-            }),
-            Reply::Advanced { queue, slot, back } => Ok(Reply::Advanced { queue, slot, back }),
-            Reply::Sent { queue, len, back } => Ok(Reply::Sent { queue, len, back }),
-            Reply::Fault { queue, fault } => Ok(Reply::Fault { queue, fault }),
-            Reply::Message { group, vector } => Ok(Reply::Message { group, vector }),
-            Reply::Frame { queue, bytes } => Ok(Reply::Frame { queue, bytes }),
         }
     }
 }

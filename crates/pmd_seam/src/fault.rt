@@ -36,9 +36,14 @@ pub(crate) fn no_memory(refused: OutOfMemory<Event>) -> CallFault
 pub(crate) fn let_go(event: Event)
     requires { lends event ≡ false }
 {
-    match event.into_buf() {
-        None => {}
-        Some(_buf) => unreachable!(),
+    match event {
+        Event::Read(_, _) | Event::Write(_, _, _) => {}
+        Event::Lend(_buf) => unreachable!(),
+        Event::Take(_) => {}
+        Event::Peek16(_) | Event::Poke16(_, _) => {}
+        Event::Arrive(_frame) => {}
+        Event::RxStep | Event::TxStep(_) | Event::IntStep(_) | Event::QueueStep(_, _) => {}
+        Event::EepromStep | Event::Link(_) | Event::Collect => {}
     }
 }
 
@@ -68,9 +73,9 @@ fn block_of(event: Event) -> Buf
     requires { lends event ≡ true }
     ensures { event ≡ Event.Lend result }
 {
-    match event.into_buf() {
-        Some(buf) => buf,
-        None => unreachable!(),
+    match event {
+        Event::Lend(buf) => buf,
+        _ => unreachable!(),
     }
 }
 

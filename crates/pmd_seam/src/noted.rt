@@ -48,8 +48,17 @@ pub fn make_noted(
 pub fn let_reply_go(reply: Reply)
     requires { hands_out reply ≡ false }
 {
-    match reply.into_note() {
-        Ok(_note) => {}
-        Err(_buf) => unreachable!(),
+    match reply {
+        Reply::Buf(_buf) => unreachable!(),
+        Reply::Twice(_buf) => unreachable!(),
+        Reply::Word(_) | Reply::Stray(_) | Reply::Done | Reply::Bytes(_) => {}
+        Reply::NotLent | Reply::Misaligned | Reply::NoQueue | Reply::NoGroup | Reply::Idle => {}
+        Reply::Dropped(_) => {}
+        Reply::Wrote { .. } => {}
+        Reply::Advanced { .. } => {}
+        Reply::Sent { .. } => {}
+        Reply::Fault { .. } => {}
+        Reply::Message { .. } => {}
+        Reply::Frame { .. } => {}
     }
 }

@@ -181,8 +181,12 @@ fn with_event(fault: CallFault<()>, event: Event) -> CallFault
 fn let_step_go(step: Event)
     requires { is_step step ≡ true }
 {
-    match step.into_buf() {
-        None => {}
-        Some(_buf) => unreachable!(),
+    match step {
+        Event::RxStep
+        | Event::TxStep(_)
+        | Event::IntStep(_)
+        | Event::QueueStep(_, _)
+        | Event::EepromStep => {}
+        _ => unreachable!(),
     }
 }

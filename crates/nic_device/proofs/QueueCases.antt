@@ -11,9 +11,11 @@ use Rattle.register_laws.specs.Sides.{receive_queue_of, transmit_queue_of}
 use Rattle.nic_device.specs.State.{State, Waiting}
 use Rattle.nic_device.specs.Outcome.{Outcome, gives}
 use Rattle.nic_device.specs.Receive as receive
-use Rattle.nic_device.specs.Receive.{received, rest_of, slotless_counted, receive_failed}
+use Rattle.nic_device.specs.Interrupt.{side_failed}
+use Rattle.nic_device.specs.Receive.{received, rest_of, slotless_counted}
 use Rattle.nic_device.specs.Transmit as transmit
 use Rattle.nic_device.specs.Transmit.{transmitted, staged_by, sending_of}
+use Rattle.rx_ring.specs.DmaRing.declared.dir.Dir.TheVariants.{Rx}
 use Rattle.nic_device.specs.declared.event.Reply.TheVariants.{Idle, NoQueue, Dropped, Fault}
 use Rattle.nic_device.specs.declared.event.Why.{Why}
 use Rattle.nic_device.specs.declared.event.Why.TheVariants.{QueueOff, NoSlot}
@@ -34,7 +36,7 @@ pub record Receives (P : Outcome → Type 0) (s : State) : Type 0 where
       → P (gives (Dropped NoSlot)
       (record s { registers = slotless_counted s.registers w.queue; waiting = others }))
   pub fault : (w : Waiting) (others : List Waiting) → s.waiting ≡ w ∷ others → (fault : RingFault)
-      → P (gives (Fault w.queue fault) (record s { registers = receive_failed s.registers w.queue; waiting = others }))
+      → P (gives (Fault w.queue fault) (record s { registers = side_failed s.registers Rx w.queue; waiting = others }))
   pub filled : (w : Waiting) (others : List Waiting) → s.waiting ≡ w ∷ others → (f : Filled)
       → (filled_by s w).answer ≡ Ok f → P (receive.slot_done s w others (Ok f) (filled_by s w).memory)
 

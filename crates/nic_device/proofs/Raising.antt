@@ -19,9 +19,9 @@ use Rattle.register_laws.proofs.Sound.{sound-causes_raised, sound-with_head, sou
 use Rattle.register_laws.proofs.Within.{within-causes_raised, within-with_head, within-shut}
 use Rattle.nic_device.specs.Footprint.{counts_and_causes, function_counts}
 use Rattle.nic_device.proofs.Functions.{function_counted_in}
-use Rattle.nic_device.specs.Interrupt.{function_of_queue, device_raised, raised_by, missed_cause, fault_cause}
-use Rattle.nic_device.specs.Receive.{frame_counted, slotless_counted, piece_done, receive_failed}
-use Rattle.nic_device.specs.Transmit.{slot_counted, slot_reported, transmit_failed}
+use Rattle.nic_device.specs.Interrupt.{function_of_queue, device_raised, side_failed, raised_by, missed_cause, fault_cause}
+use Rattle.nic_device.specs.Receive.{frame_counted, slotless_counted, piece_done}
+use Rattle.nic_device.specs.Transmit.{slot_counted, slot_reported}
 use Rattle.nic_device.proofs.Cases.{either_way}
 use Rattle.nic_device.proofs.Coming.{covers-first, covers-second, Comes, IsCounter, then_within, raised, counted_in, raised_by_queue}
 
@@ -67,18 +67,12 @@ head_moved r dir queue head small =
     (covers-side dir queue) (covers-head dir queue))
     (within-with_head r dir queue head) (λ is h. sound-with_head r dir queue head h (small is))
 
-side_failed : (r : Registers) (dir : Dir) (queue : ℕ)
-    → Comes ⊤ (of_step dir queue) r (device_raised (shut r dir queue) fault_cause)
-side_failed r dir queue =
+pub side_failed-comes : (r : Registers) (dir : Dir) (queue : ℕ)
+    → Comes ⊤ (of_step dir queue) r (side_failed r dir queue)
+side_failed-comes r dir queue =
     raised (of_step dir queue) r (shut r dir queue) Pf fault_cause (covers-counts dir queue have_causes)
     (then_within (of_step dir queue) (of_side dir queue) r r (shut r dir queue) (comes-itself (of_step dir queue) r)
     (covers-side dir queue) (within-shut r dir queue) (λ is h. sound-shut r dir queue h))
-
-pub receive_failed-comes : (r : Registers) (queue : ℕ) → Comes ⊤ (of_step Rx queue) r (receive_failed r queue)
-receive_failed-comes r queue = side_failed r Rx queue
-
-pub transmit_failed-comes : (r : Registers) (queue : ℕ) → Comes ⊤ (of_step Tx queue) r (transmit_failed r queue)
-transmit_failed-comes r queue = side_failed r Tx queue
 
 -- a frame without a slot, and a piece of a frame
 

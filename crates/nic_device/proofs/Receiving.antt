@@ -15,9 +15,10 @@ use Rattle.register_laws.specs.Sides.{receive_queue_of}
 use Rattle.register_laws.proofs.Footprints.{within-refl}
 use Rattle.nic_device.specs.Footprint.{receive_reach, StaysWithin}
 use Rattle.nic_device.specs.Outcome.{gives}
-use Rattle.nic_device.specs.Receive.{received, rest_of, slot_done, after_piece, receive_failed, slotless_counted}
+use Rattle.nic_device.specs.Receive.{received, rest_of, slot_done, after_piece, slotless_counted}
 use Rattle.nic_device.specs.Sound.{AreBytes, AreBlocks, AreWaiting, IsSound}
 use Rattle.nic_device.specs.State.{State, Waiting}
+use Rattle.nic_device.specs.Interrupt.{side_failed}
 use Rattle.nic_device.specs.Step.{hands_out}
 use Rattle.nic_device.proofs.Blocks.{AreBlocks-write_at, of_halves-small}
 use Rattle.nic_device.proofs.QueueCases.{filled_by, received_cases}
@@ -27,7 +28,7 @@ use Rattle.nic_device.proofs.Memory.{avoids-none}
 use Rattle.nic_device.proofs.Pieces.{piece_fits}
 use Rattle.nic_device.proofs.Queued.{AreWaiting-others, AreWaiting-after_piece, length-after_piece}
 use Rattle.nic_device.proofs.Coming.{Comes}
-use Rattle.nic_device.proofs.Raising.{slotless-comes, receive_failed-comes, piece-comes, of_step}
+use Rattle.nic_device.proofs.Raising.{slotless-comes, side_failed-comes, piece-comes, of_step}
 use Rattle.rx_ring.specs.DmaRing.declared.dir.Dir.TheVariants.{Rx}
 use Rattle.register_file.specs.Registers.{Registers}
 use Rattle.nic_device.specs.declared.event.Event.TheVariants as event
@@ -132,7 +133,7 @@ receive_leads s = received_cases (Leads s event.RxStep) s (record {
       first_dropped s w others (Dropped NoSlot) (slotless_counted s.registers w.queue) e
       (slotless-comes s.registers w.queue) refl;
   fault = λ w others e fault.
-      first_dropped s w others (Fault w.queue fault) (receive_failed s.registers w.queue) e
-      (receive_failed-comes s.registers w.queue) refl;
+      first_dropped s w others (Fault w.queue fault) (side_failed s.registers Rx w.queue) e
+      (side_failed-comes s.registers Rx w.queue) refl;
   filled = λ w others e f is. filled_leads s w others e f is;
 })

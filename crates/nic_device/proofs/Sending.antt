@@ -17,14 +17,16 @@ use Rattle.register_laws.specs.Sides.{transmit_queue_of}
 use Rattle.nic_device.specs.Footprint.{told_back, back_into}
 use Rattle.nic_device.specs.Sound.{IsSound}
 use Rattle.nic_device.specs.State.{State}
+use Rattle.nic_device.specs.Interrupt.{side_failed}
 use Rattle.nic_device.specs.Step.{hands_out, is_fault}
-use Rattle.nic_device.specs.Transmit.{transmitted, slot_done, staged_by, sending_of, fetched_reply, slot_reported, transmit_failed}
+use Rattle.nic_device.specs.Transmit.{transmitted, slot_done, staged_by, sending_of, fetched_reply, slot_reported}
 use Rattle.nic_device.proofs.QueueCases.{fetched_by, transmitted_cases}
 use Rattle.nic_device.proofs.Fetched.{AreBlocks-fetched, IsStaged-fetched, frame_limit-lt, IsStaged-by}
 use Rattle.nic_device.proofs.Keeping.{sound-registers, sound-memory, sound-staged, sound-rest, AreStaged-set}
 use Rattle.nic_device.proofs.Leads.{Leads, leads-still, leads-to}
 use Rattle.nic_device.proofs.Memory.{avoids-none}
-use Rattle.nic_device.proofs.Raising.{slot-comes, transmit_failed-comes}
+use Rattle.nic_device.proofs.Raising.{slot-comes, side_failed-comes}
+use Rattle.rx_ring.specs.DmaRing.declared.dir.Dir.TheVariants.{Tx}
 use Rattle.nic_device.specs.declared.event.Event.TheVariants as event
 use Rattle.nic_device.specs.declared.event.Reply.TheVariants.{Idle, NoQueue, Fault}
 
@@ -57,9 +59,9 @@ staged_stays staged queue bytes other apart =
 fault_leads : (s : State) (queue : ℕ) (fault : RingFault) (memory : Memory) (bytes : List ℕ)
     → Leads s (event.TxStep queue) (slot_done s queue (Err fault) memory bytes)
 fault_leads s queue fault memory bytes =
-    let comes = transmit_failed-comes s.registers queue in
+    let comes = side_failed-comes s.registers Tx queue in
     leads-to s (event.TxStep queue) (Fault queue fault) _
-    (λ h is. sound-registers (record s { staged = slice_set s.staged queue [] }) (transmit_failed s.registers queue)
+    (λ h is. sound-registers (record s { staged = slice_set s.staged queue [] }) (side_failed s.registers Tx queue)
     (sound-staged s _ h (AreStaged-set s.staged queue [] h.staged (omega arith))) (comes.sound tt h.registers))
     (assumption (comes.within, staged_stays s.staged queue [])) refl refl
 

@@ -8,6 +8,7 @@ use Rattle.register_file.specs.VfMap.Pools.{queues_of, pool_of}
 use Rattle.register_file.specs.Counters.{counted_wrapping}
 use Rattle.register_file.specs.Groups.{causes_raised, queue_raised, message_of, message_made}
 pub use Rattle.register_file.specs.Pools.{mode_in}
+use Rattle.register_file.specs.Queue.{shut}
 use Rattle.register_file.specs.Registers.{Registers}
 use Rattle.register_file.specs.Settings.{is_stopped}
 use Rattle.rx_ring.specs.DmaRing.declared.dir.Dir.{Dir}
@@ -29,6 +30,10 @@ link_cause = 2 ^ 20
 -- the registers after the device raised a cause of the physical function
 abbrev pub device_raised : Registers → ℕ → Registers
 device_raised r cause = causes_raised r Pf cause
+
+-- the registers after a fault: the side of the queue is off and not wanted on, and the cause of faults is raised
+abbrev pub side_failed : Registers → Dir → ℕ → Registers
+side_failed r dir queue = device_raised (shut r dir queue) fault_cause
 
 -- the virtual function that a queue is of: that of its pool, where the device has it
 abbrev pub function_in : (vfs : ℕ) → Option ℕ → Option ℕ

@@ -11,13 +11,13 @@ use Rattle.register_file.specs.Counters.{counted, counter_of}
 use Rattle.register_file.specs.Registers.{Registers}
 use Rattle.rx_ring.specs.Fill.{Rest, fill_of}
 use Rattle.rx_ring.specs.declared.filled.Filled.{Filled}
-use Rattle.register_file.specs.Queue.{with_head, shut}
+use Rattle.register_file.specs.Queue.{with_head}
 use Rattle.register_file.specs.Settings.{is_stopped, drops}
 use Rattle.rx_ring.specs.DmaRing.declared.dir.Dir.TheVariants.{Rx}
 use Rattle.register_laws.specs.Sides.{ReceiveQueue, receive_queue_of}
 use Rattle.rx_ring.specs.DmaArena.Memory.{Memory}
 use Rattle.nic_device.specs.State.{State, Waiting}
-use Rattle.nic_device.specs.Interrupt.{function_of_queue, function_counted, raised_by, device_raised, fault_cause}
+use Rattle.nic_device.specs.Interrupt.{function_of_queue, function_counted, raised_by, side_failed}
 use Rattle.nic_device.specs.Outcome.{Outcome, gives}
 use Rattle.nic_device.specs.declared.event.Reply.TheVariants.{Idle, Dropped, Wrote, Fault}
 use Rattle.nic_device.specs.declared.event.Why.TheVariants.{QueueOff, NoSlot}
@@ -59,10 +59,6 @@ piece_done r vfs queue f =
     if f.end then raised_by (frame_counted (with_head r Rx queue f.head) vfs queue) vfs Rx queue
     else with_head r Rx queue f.head
 
--- the registers after a fault: the receive side is off and not wanted on, and the cause of faults is raised
-abbrev pub receive_failed : Registers → ℕ → Registers
-receive_failed r queue = device_raised (shut r Rx queue) fault_cause
-
 -- the queue has no slot: a frame of which nothing is written is dropped where the queue drops, any other waits on
 abbrev pub without_slot : State → Waiting → List Waiting → Outcome
 without_slot s w others =
@@ -84,7 +80,7 @@ slot_done s w others (Ok f) memory =
       waiting = after_piece w others f;
     })
 slot_done s w others (Err fault) memory =
-    gives (Fault w.queue fault) (record s { registers = receive_failed s.registers w.queue; waiting = others })
+    gives (Fault w.queue fault) (record s { registers = side_failed s.registers Rx w.queue; waiting = others })
 
 -- the slot at the head of a queue is filled with what is left of a frame
 abbrev pub slot_filled : State → Waiting → List Waiting → ReceiveQueue → Outcome

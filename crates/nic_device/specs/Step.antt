@@ -1,5 +1,5 @@
 -- One event.
-use Rattle.std.specs.Prelude.{ℕ, ◌≡◌, ◌≢◌, Bool, true, false, Option, Some, None}
+use Rattle.std.specs.Prelude.{ℕ, ◌≡◌, ◌≢◌, Bool, true, false, Option, Some, None, is_some}
 use Rattle.rx_ring.specs.DmaArena.Block.{Block}
 use Rattle.nic_device.specs.State.{State}
 use Rattle.nic_device.specs.Outcome.{Outcome}
@@ -55,6 +55,16 @@ abbrev pub word_told : Reply Block → Option ℕ
 word_told (reply.Word word) = Some word
 word_told other = None
 
+-- the block that an event lends, and the one that a reply hands out
+abbrev pub lent_block : Event Block → Option Block
+lent_block (event.Lend block) = Some block
+lent_block other = None
+
+abbrev pub handed_block : Reply Block → Option Block
+handed_block (reply.Buf block) = Some block
+handed_block (reply.Twice block) = Some block
+handed_block other = None
+
 -- whether an event lends a block or takes one back, and whether a reply hands one out
 abbrev pub moves_block : Event Block → Bool
 moves_block (event.Lend block) = true
@@ -62,9 +72,7 @@ moves_block (event.Take number) = true
 moves_block other = false
 
 abbrev pub hands_out : Reply Block → Bool
-hands_out (reply.Buf block) = true
-hands_out (reply.Twice block) = true
-hands_out other = false
+hands_out r = is_some (handed_block r)
 
 -- whether a reply tells of a slot that couldn't be processed
 abbrev pub is_fault : Reply Block → Bool

@@ -9,7 +9,7 @@ use Rattle.tx_ring.specs.declared.tx.Tx.{Tx as Sending}
 use Rattle.register_file.specs.RegTable.declared.rows.RowId.TheVariants.{Gptc, Qptc, Vfgptc}
 use Rattle.register_file.specs.Counters.{counted, counter_of}
 use Rattle.register_file.specs.Registers.{Registers}
-use Rattle.register_file.specs.Queue.{with_head, shut}
+use Rattle.register_file.specs.Queue.{with_head}
 use Rattle.register_file.specs.Pools.{mode_in, is_pool_on}
 use Rattle.register_file.specs.VfMap.Pools.{pool_of}
 use Rattle.rx_filter.specs.Pools.{uses_pools}
@@ -17,7 +17,7 @@ use Rattle.register_file.specs.Settings.{is_stopped, can_transmit, frame_limit, 
 use Rattle.rx_ring.specs.DmaRing.declared.dir.Dir.TheVariants.{Tx}
 use Rattle.register_laws.specs.Sides.{TransmitQueue, transmit_queue_of}
 use Rattle.nic_device.specs.State.{State}
-use Rattle.nic_device.specs.Interrupt.{function_of_queue, function_counted, raised_by, device_raised, fault_cause}
+use Rattle.nic_device.specs.Interrupt.{function_of_queue, function_counted, raised_by, side_failed}
 use Rattle.nic_device.specs.Outcome.{Outcome, gives}
 use Rattle.nic_device.specs.Receive.{is_empty}
 use Rattle.nic_device.specs.declared.event.Reply.{Reply}
@@ -53,10 +53,6 @@ abbrev pub slot_reported : Registers → (vfs : ℕ) → ℕ → Fetched → Reg
 slot_reported r vfs queue f =
     if f.rs then raised_by (slot_counted r vfs queue f f.frame) vfs Tx queue else slot_counted r vfs queue f f.frame
 
--- the registers after a fault: the transmit side is off and not wanted on, and the cause of faults is raised
-abbrev pub transmit_failed : Registers → ℕ → Registers
-transmit_failed r queue = device_raised (shut r Tx queue) fault_cause
-
 -- the slot at the queue's head was fetched, or met a fault, which drops the staged bytes and shuts the transmit side
 abbrev pub slot_done : State → ℕ → Result Fetched RingFault → Memory → List ℕ → Outcome
 slot_done s queue (Ok f) memory staged =
@@ -69,7 +65,7 @@ slot_done s queue (Ok f) memory staged =
     })
 slot_done s queue (Err fault) memory staged =
     gives (Fault queue fault)
-    (record s { registers = transmit_failed s.registers queue; staged = slice_set s.staged queue [] })
+    (record s { registers = side_failed s.registers Tx queue; staged = slice_set s.staged queue [] })
 
 -- the slot at the head of a queue is fetched
 abbrev pub slot_fetched : State → ℕ → TransmitQueue → Outcome

@@ -1,4 +1,5 @@
 ghost use Rattle.std.specs.Prelude.{◌≡◌};
+ghost use Rattle.nic_device.specs.Step.{lent_block};
 
 use register_file::Group;
 use rx_ring::{Buf, Dir, Octets, RingFault};
@@ -115,6 +116,20 @@ impl Event {
             | Event::EepromStep
             | Event::Link(_)
             | Event::Collect => {}
+        }
+    }
+
+    /// Lets an event go: the block that it would have lent.
+    pub fn into_buf(self) -> Option<Buf>
+        ensures { result ≡ lent_block self }
+    {
+        match self {
+            Event::Lend(buf) => Some(buf),
+            Event::Read(_, _) | Event::Write(_, _, _) | Event::Take(_) => None,
+            Event::Peek16(_) | Event::Poke16(_, _) => None,
+            Event::Arrive(_frame) => None,
+            Event::RxStep | Event::TxStep(_) | Event::IntStep(_) | Event::QueueStep(_, _) => None,
+            Event::EepromStep | Event::Link(_) | Event::Collect => None,
         }
     }
 

@@ -4,7 +4,7 @@ ghost use Rattle.std.specs.Prelude.{◌≡◌, ◌<◌, IfSome};
 ghost use Rattle.register_file.specs.RegTable.Rows.{row_of};
 ghost use Rattle.register_file.specs.RegTable.declared.kind.Kind.TheVariants.{Ro};
 ghost use Rattle.register_file.specs.Groups.{index_of};
-ghost use Rattle.nic_device.specs.Interrupt.{mode_in, function_of_queue, group_of_queue, function_counted, raised_by, has_group, messaged, interrupted};
+ghost use Rattle.nic_device.specs.Interrupt.{mode_in, function_of_queue, group_of_queue, function_counted, raised_by, side_failed, has_group, messaged, interrupted};
 
 use crate::engine::Engine;
 use crate::event::Reply;
@@ -69,6 +69,15 @@ pub(crate) fn raise_by(registers: &mut RegisterFile, vfs: u8, dir: Dir, queue: u
 {
     let group = group_of_queue(registers, vfs, queue);
     registers.raise_queue(group, dir, queue);
+}
+
+/// A slot met a fault: its side of the queue is off and not wanted on, and the cause of faults is raised.
+pub(crate) fn fail_side(registers: &mut RegisterFile, dir: Dir, queue: u16)
+    requires { queue < 128 }
+    ensures { registers.new ≡ side_failed registers.old dir queue }
+{
+    registers.shut(dir, queue);
+    registers.raise(Group::Pf, PCI_EXCEPTION);
 }
 
 impl Engine {

@@ -2,13 +2,13 @@
 
 ghost use Rattle.std.specs.Prelude.{◌≡◌, ◌<◌, ◌+◌, ◌≤◌, length};
 ghost use Rattle.std.specs.VecDeque.{deque_len, deque_capacity};
-ghost use Rattle.nic_device.specs.Receive.{received, first_received, is_empty, after_piece, slotless_counted, piece_done, receive_failed};
+ghost use Rattle.nic_device.specs.Receive.{received, first_received, is_empty, after_piece, slotless_counted, piece_done};
 
 use crate::engine::Engine;
 use crate::event::{Reply, Why};
-use crate::interrupt::{PCI_EXCEPTION, count_function, function_of_queue, raise_by};
+use crate::interrupt::{count_function, fail_side, function_of_queue, raise_by};
 use crate::waiting::Waiting;
-use register_file::{Group, RegisterFile, RowId};
+use register_file::{RegisterFile, RowId};
 use rx_ring::{Dir, Filled, Ring, fill};
 use std::collections::VecDeque;
 
@@ -53,7 +53,7 @@ impl Engine {
                 wrote(queue, &filled)
             }
             Err(fault) => {
-                fail_side(&mut self.registers, queue);
+                fail_side(&mut self.registers, Dir::Rx, queue);
                 Reply::Fault { queue, fault }
             }
         }
@@ -89,15 +89,6 @@ fn end_piece(registers: &mut RegisterFile, vfs: u8, queue: u16, filled: &Filled)
         count_function(registers, function, RowId::Vfgprc);
         raise_by(registers, vfs, Dir::Rx, queue);
     }
-}
-
-/// A slot met a fault: the receive side is off and not wanted on, and the cause of faults is raised.
-fn fail_side(registers: &mut RegisterFile, queue: u16)
-    requires { queue < 128 }
-    ensures { registers.new ≡ receive_failed registers.old queue }
-{
-    registers.shut(Dir::Rx, queue);
-    registers.raise(Group::Pf, PCI_EXCEPTION);
 }
 
 /// What is told of a piece.

@@ -3,13 +3,13 @@
 ghost use Rattle.std.specs.Prelude.{◌≡◌, ◌≢◌, ◌<◌, false, IfSome, IfOk, IfErr, OnOk, OnErr};
 ghost use Rattle.std.specs.VecDeque.{deque_len, deque_capacity};
 ghost use Rattle.register_laws.specs.Sides.{transmit_queue_of};
-ghost use Rattle.nic_device.specs.Transmit.{transmitted, slot_fetched, is_silent, is_muted, is_muted_pool, sending_of, fetched_reply, with_frame, slot_reported, transmit_failed};
+ghost use Rattle.nic_device.specs.Transmit.{transmitted, slot_fetched, is_silent, is_muted, is_muted_pool, sending_of, fetched_reply, with_frame, slot_reported};
 
 use crate::engine::Engine;
 use crate::event::{Event, OutOfMemory, Reply};
-use crate::interrupt::{PCI_EXCEPTION, count_function, function_of_queue, raise_by};
+use crate::interrupt::{count_function, fail_side, function_of_queue, raise_by};
 use crate::receive::is_empty;
-use register_file::{Group, QUEUES, RegisterFile, RowId, pool_of};
+use register_file::{QUEUES, RegisterFile, RowId, pool_of};
 use rx_filter::uses_pools;
 use rx_ring::{Dir, Octets};
 use std::collections::VecDeque;
@@ -85,7 +85,7 @@ impl Engine {
             }
             Err(TxRefused::Fault(fault)) => {
                 self.staged[usize::from(queue)].clear();
-                fail_side(&mut self.registers, queue);
+                fail_side(&mut self.registers, Dir::Tx, queue);
                 Ok(Reply::Fault { queue, fault })
             }
             Err(TxRefused::OutOfMemory) => Err(OutOfMemory {
@@ -131,15 +131,6 @@ fn end_slot(registers: &mut RegisterFile, vfs: u8, queue: u16, fetched: &Fetched
     if fetched.rs {
         raise_by(registers, vfs, Dir::Tx, queue);
     }
-}
-
-/// A slot met a fault: the transmit side is off and not wanted on, and the cause of faults is raised.
-fn fail_side(registers: &mut RegisterFile, queue: u16)
-    requires { queue < 128 }
-    ensures { registers.new ≡ transmit_failed registers.old queue }
-{
-    registers.shut(Dir::Tx, queue);
-    registers.raise(Group::Pf, PCI_EXCEPTION);
 }
 
 /// The frame that a fetched slot may have ended goes out, and what became of the slot is told.

@@ -4,8 +4,9 @@ use Rattle.std.proofs.lemmas.List.{get_or_read_under}
 use Rattle.register_file.specs.Queue.{ring_of}
 use Rattle.rx_ring.specs.DmaRing.declared.dir.Dir.TheVariants.{Tx}
 use Rattle.register_laws.specs.Sides.{transmit_queue_of}
+use Rattle.nic_device.specs.Interrupt.{side_failed}
 use Rattle.nic_device.specs.State.{State}
-use Rattle.nic_device.specs.Transmit.{staged_by, sending_of, transmit_failed}
+use Rattle.nic_device.specs.Transmit.{staged_by, sending_of}
 use Rattle.nic_device.proofs.Fetches.{slot_fetched-fault}
 use Rattle.nic_device.proofs.Staging.{set-again}
 use Rattle.nic_device.proofs.engine.Engine.fetch_slot.Goals as goal
@@ -30,7 +31,7 @@ returns-in-Err-Fault c =
     let told = (c.in-Err-Fault.ensures.fault c.in-Err-Fault.fault).0 (ap Err c.in-Err-Fault.field-0-is) in
     let met = slot_fetched-fault s queue q c.in-Err-Fault.fault _ _ _ _ told memory ring sending by in
     let failed = c.fail_side.ensures
-    ∙ ap (λ r. transmit_failed r queue) (c.deref_mut-in-Err-Fault.ensures.value ∙ registers) in
+    ∙ ap (λ r. side_failed r Tx queue) (c.deref_mut-in-Err-Fault.ensures.value ∙ registers) in
     let cleared = set-again items s.staged c.from.result c.from-in-Err-Fault.result queue c.fetch.new.staged
     c.clear.new.self c.from.ensures c.from-in-Err-Fault.ensures c.clear.ensures (ap (λ (t : State). t.staged) view) in
     let kept = c.in-Err-Fault.ensures.memory_kept ∙ memory in

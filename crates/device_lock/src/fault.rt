@@ -1,3 +1,6 @@
+ghost use Rattle.std.specs.Prelude.{◌≡◌};
+ghost use Rattle.device_lock.specs.Fault.{event_of, fault_with};
+
 use nic_device::Event;
 
 /// Why no shared device was made.
@@ -20,6 +23,20 @@ pub enum CallFault<E = Event> {
     HistoryFull(E),
     /// There was no memory for the event or its notes.
     OutOfMemory(E),
+}
+
+impl<E> CallFault<E> {
+    /// The same refusal with this in its event's place, and the event.
+    pub fn replace<F>(self, other: F) -> (CallFault<F>, E)
+        ensures fault { result.0 ≡ fault_with self other }
+        ensures event { result.1 ≡ event_of self }
+    {
+        match self {
+            CallFault::ForeignPass(event) => (CallFault::ForeignPass(other), event),
+            CallFault::HistoryFull(event) => (CallFault::HistoryFull(other), event),
+            CallFault::OutOfMemory(event) => (CallFault::OutOfMemory(other), event),
+        }
+    }
 }
 
 /// Why a shared device stays open.

@@ -1,5 +1,5 @@
 ghost use Rattle.std.specs.Prelude.{◌≡◌, ◌≤◌, ◌<◌, ◌↔◌, ◌⊎◌, true, Err, Some, IfOk, IfErr, OnOk, OnErr, IfNone, length, slice_index, slice_set, replicate, ◌+◌};
-ghost use Rattle.nic_device.specs.Answering.{may_answer, note_length};
+ghost use Rattle.nic_device.specs.Answering.{may_answer};
 ghost use Rattle.nic_device.specs.State.{new_state};
 ghost use Rattle.nic_device.specs.Step.{step_of};
 ghost use Rattle.device_lock.specs.Fault.{event_of};
@@ -98,11 +98,11 @@ impl<const VFS: u8, const FIFO: u16> Locked<VFS, FIFO> {
         self.counts[usize::from(tag)]
     }
 
-    /// How many bytes of the reply to an event its note copies at most.
-    pub(crate) fn note_room(&self, event: &Event) -> usize
-        ensures { note_length (step_of self.now.device event.now).reply ≤ result }
+    /// The device, to look at.
+    pub(crate) fn device(&self) -> &Device
+        ensures { result.now ≡ self.now.device }
     {
-        self.device.note_room(event)
+        &self.device
     }
 
     /// Makes one event for the pass of this tag, which is below the number of passes, and appends its entry.
@@ -123,13 +123,7 @@ impl<const VFS: u8, const FIFO: u16> Locked<VFS, FIFO> {
         if self.history.len() >= self.limit as usize {
             return Err(CallFault::HistoryFull(event));
         }
-        if self.history.reserve(1).is_err() {
-            return Err(CallFault::OutOfMemory(event));
-        }
-        let Ok(note) = event.note(alloc) else {
-            return Err(CallFault::OutOfMemory(event));
-        };
-        let Ok(room) = Vec::with_capacity(alloc, self.device.note_room(&event)) else {
+        let Ok((note, room)) = self.device.ready_notes(alloc, &mut self.history, &event) else {
             return Err(CallFault::OutOfMemory(event));
         };
         match self.device.step(event) {

@@ -86,13 +86,7 @@ impl Pass {
         if self.tag >= locked.passes() {
             return Err(CallFault::ForeignPass(event));
         }
-        if self.calls.reserve(1).is_err() {
-            return Err(CallFault::OutOfMemory(event));
-        }
-        let Ok(note) = event.note(alloc) else {
-            return Err(CallFault::OutOfMemory(event));
-        };
-        let Ok(room) = Vec::with_capacity(alloc, locked.note_room(&event)) else {
+        let Ok((note, room)) = locked.device().ready_notes(alloc, &mut self.calls, &event) else {
             return Err(CallFault::OutOfMemory(event));
         };
         let reply = locked.step(alloc, self.tag, event)?;

@@ -25,6 +25,6 @@ invariant_of-self-in-Ok-step g c =
     })
     c.self.inside.counts.items c.args.tag c.args.event c.in-Ok.note c.in-Ok-step.reply c.note_in-told.result
     c.step.new.self c.push_reserved.new.self.items c.count_one.new.counts.items k lt room
-    c.is_of_a_driver.ensures c.in-Ok.ensures c.note_in-told.ensures c.in-Ok-step.ensures.reply
-    c.in-Ok-step.ensures.state (rw (c.push_reserved.ensures.items, c.reserve.ensures.items) refl)
+    c.is_of_a_driver.ensures c.in-Ok.ensures.note c.note_in-told.ensures c.in-Ok-step.ensures.reply
+    c.in-Ok-step.ensures.state (rw (c.push_reserved.ensures.items, c.ready_notes.ensures.same) refl)
     c.count_one.ensures

@@ -4,8 +4,6 @@ use Rattle.nic_device.specs.DmaArena.Block.{Block}
 use Rattle.nic_device.specs.declared.event.Event.{Event}
 use Rattle.nic_device.specs.declared.event.Reply.{Reply}
 use Rattle.device_lock.specs.declared.entry.Call.{Call}
-use Rattle.device_lock.specs.declared.fault.CallFault.{CallFault}
-use Rattle.device_lock.specs.declared.fault.CallFault.TheVariants.{ForeignPass, HistoryFull, OutOfMemory}
 use Rattle.device_lock.specs.Pass.{PassValue, call_of}
 use Rattle.pmd_seam.specs.Made.{steps_of_queue}
 
@@ -41,9 +39,3 @@ abbrev pub StepsAndMakes : AtLock → AtLock → Event Block → Reply Block →
 StepsAndMakes old new event reply =
     (steps : List Call) × (events_in steps ≡ steps_of_queue old.queue)
     × (new ≡ with_calls old (steps ++ call_of event reply ∷ []))
-
--- the same refusal, of this event
-abbrev pub fault_with : CallFault (Unit {0}) → Event Block → CallFault (Event Block)
-fault_with (ForeignPass nothing) event = ForeignPass event
-fault_with (HistoryFull nothing) event = HistoryFull event
-fault_with (OutOfMemory nothing) event = OutOfMemory event

@@ -5,7 +5,7 @@ ghost use Rattle.nic_device.specs.Step.{step_of};
 ghost use Rattle.pmd_seam.specs.Made.{Adds, StopsAmid, after_event, after_events, steps_of_queue};
 ghost use Rattle.pmd_seam.specs.Events.{is_step};
 
-use crate::fault::{let_go, no_memory};
+use crate::fault::no_memory;
 use crate::nic::Nic;
 use crate::noted::{let_reply_go, make_noted};
 use device_lock::{Call, CallFault};
@@ -116,10 +116,10 @@ impl Direct {
                 let_reply_go(reply);
                 Ok(())
             }
-            Err(refused) => {
-                let_go(refused.event);
-                Err(OutOfMemory { event: () })
-            }
+            Err(refused) => match refused.event.into_buf() {
+                None => Err(OutOfMemory { event: () }),
+                Some(_buf) => unreachable!(),
+            },
         }
     }
 }

@@ -1,8 +1,8 @@
 //! Why a call of the driver fails.
 
-ghost use Rattle.std.specs.Prelude.{◌≡◌, true, false};
-ghost use Rattle.device_lock.specs.Fault.{event_of};
-ghost use Rattle.pmd_seam.specs.Events.{lends, same_fault};
+ghost use Rattle.std.specs.Prelude.{◌≡◌, true, None, Some, is_some};
+ghost use Rattle.device_lock.specs.Fault.{event_of, fault_with};
+ghost use Rattle.nic_device.specs.Step.{lent_block};
 
 use device_lock::CallFault;
 use nic_device::{Buf, Event, OutOfMemory};
@@ -32,62 +32,27 @@ pub(crate) fn no_memory(refused: OutOfMemory<Event>) -> CallFault
     CallFault::OutOfMemory(event)
 }
 
-/// Lets an event go that holds no buffer.
-pub(crate) fn let_go(event: Event)
-    requires { lends event ≡ false }
-{
-    match event {
-        Event::Read(_, _) | Event::Write(_, _, _) => {}
-        Event::Lend(_buf) => unreachable!(),
-        Event::Take(_) => {}
-        Event::Peek16(_) | Event::Poke16(_, _) => {}
-        Event::Arrive(_frame) => {}
-        Event::RxStep | Event::TxStep(_) | Event::IntStep(_) | Event::QueueStep(_, _) => {}
-        Event::EepromStep | Event::Link(_) | Event::Collect => {}
-    }
-}
-
 /// The same refusal without its event, which holds no buffer.
 pub(crate) fn without_event(fault: CallFault) -> CallFault<()>
-    requires { lends (event_of fault) ≡ false }
-    ensures { result ≡ same_fault fault }
+    requires { lent_block (event_of fault) ≡ None }
+    ensures { result ≡ fault_with fault tt }
 {
-    match fault {
-        CallFault::ForeignPass(event) => {
-            let_go(event);
-            CallFault::ForeignPass(())
-        }
-        CallFault::HistoryFull(event) => {
-            let_go(event);
-            CallFault::HistoryFull(())
-        }
-        CallFault::OutOfMemory(event) => {
-            let_go(event);
-            CallFault::OutOfMemory(())
-        }
-    }
-}
-
-/// The block that an event would have lent.
-fn block_of(event: Event) -> Buf
-    requires { lends event ≡ true }
-    ensures { event ≡ Event.Lend result }
-{
-    match event {
-        Event::Lend(buf) => buf,
-        _ => unreachable!(),
+    let (fault, event) = fault.replace(());
+    match event.into_buf() {
+        None => fault,
+        Some(_buf) => unreachable!(),
     }
 }
 
 /// The same refusal without its event, and the block that it would have lent.
 pub(crate) fn with_block(fault: CallFault) -> (CallFault<()>, Buf)
-    requires { lends (event_of fault) ≡ true }
-    ensures fault { result.0 ≡ same_fault fault }
-    ensures block { event_of fault ≡ Event.Lend result.1 }
+    requires { is_some (lent_block (event_of fault)) ≡ true }
+    ensures fault { result.0 ≡ fault_with fault tt }
+    ensures block { lent_block (event_of fault) ≡ Some result.1 }
 {
-    match fault {
-        CallFault::ForeignPass(event) => (CallFault::ForeignPass(()), block_of(event)),
-        CallFault::HistoryFull(event) => (CallFault::HistoryFull(()), block_of(event)),
-        CallFault::OutOfMemory(event) => (CallFault::OutOfMemory(()), block_of(event)),
+    let (fault, event) = fault.replace(());
+    match event.into_buf() {
+        Some(buf) => (fault, buf),
+        None => unreachable!(),
     }
 }

@@ -26,13 +26,7 @@ pub fn make_noted(
     ensures back { IfErr result (λ refused. refused.event ≡ event) }
     ensures unchanged { OnErr result ((device.new ≡ device.old) × (calls.new.items ≡ calls.old.items)) }
 {
-    if calls.reserve(1).is_err() {
-        return Err(OutOfMemory { event });
-    }
-    let Ok(note) = event.note(alloc) else {
-        return Err(OutOfMemory { event });
-    };
-    let Ok(room) = Vec::with_capacity(alloc, device.note_room(&event)) else {
+    let Ok((note, room)) = device.ready_notes(alloc, calls, &event) else {
         return Err(OutOfMemory { event });
     };
     let reply = device.step(event)?;
@@ -48,17 +42,8 @@ pub fn make_noted(
 pub fn let_reply_go(reply: Reply)
     requires { hands_out reply ≡ false }
 {
-    match reply {
-        Reply::Buf(_buf) => unreachable!(),
-        Reply::Twice(_buf) => unreachable!(),
-        Reply::Word(_) | Reply::Stray(_) | Reply::Done | Reply::Bytes(_) => {}
-        Reply::NotLent | Reply::Misaligned | Reply::NoQueue | Reply::NoGroup | Reply::Idle => {}
-        Reply::Dropped(_) => {}
-        Reply::Wrote { .. } => {}
-        Reply::Advanced { .. } => {}
-        Reply::Sent { .. } => {}
-        Reply::Fault { .. } => {}
-        Reply::Message { .. } => {}
-        Reply::Frame { .. } => {}
+    match reply.into_buf() {
+        None => {}
+        Some(_buf) => unreachable!(),
     }
 }

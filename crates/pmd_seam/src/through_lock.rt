@@ -2,10 +2,11 @@ ghost use Rattle.std.specs.Prelude.{◌≡◌, ◌≢◌, [], ◌∷◌, true, E
 ghost use Rattle.device_lock.specs.Fault.{event_of};
 ghost use Rattle.device_lock.specs.Pass.{call_of};
 ghost use Rattle.nic_device.specs.Answering.{may_answer};
-ghost use Rattle.pmd_seam.specs.Events.{is_step, same_fault};
+ghost use Rattle.pmd_seam.specs.Events.{is_step};
 ghost use Rattle.pmd_seam.specs.Made.{Adds, AddsSome, steps_of_queue};
-ghost use Rattle.pmd_seam.specs.Stepped.{StepsAndMakes, StopsStepping, AreStepped, with_calls, fault_with, caller_of};
+ghost use Rattle.pmd_seam.specs.Stepped.{StepsAndMakes, StopsStepping, AreStepped, with_calls, caller_of};
 
+use crate::fault::without_event;
 use crate::nic::Nic;
 use crate::noted::let_reply_go;
 use device_lock::{Call, CallFault, Pass, Shared};
@@ -89,7 +90,7 @@ impl<'a, R: Wait, const VFS: u8, const FIFO: u16> ThroughLock<'a, R, VFS, FIFO> 
                 let_reply_go(reply);
                 Ok(())
             }
-            Err(fault) => Err(without_step(fault)),
+            Err(fault) => Err(without_event(fault)),
         }
     }
 
@@ -122,7 +123,7 @@ impl<'a, R: Wait, const VFS: u8, const FIFO: u16> ThroughLock<'a, R, VFS, FIFO> 
     {
         match self.step_on(alloc) {
             Ok(()) => self.make(alloc, event),
-            Err(fault) => Err(with_event(fault, event)),
+            Err(fault) => Err(fault.replace(event).0),
         }
     }
 }
@@ -142,51 +143,5 @@ impl<'a, R: Wait, const VFS: u8, const FIFO: u16> Nic for ThroughLock<'a, R, VFS
         ensures amid { OnErr result (StopsStepping self.old self.new) }
     {
         self.step_and_make(alloc, event)
-    }
-}
-
-/// The refusal of a device step, without the step.
-fn without_step(fault: CallFault) -> CallFault<()>
-    requires { is_step (event_of fault) ≡ true }
-    ensures { result ≡ same_fault fault }
-{
-    match fault {
-        CallFault::ForeignPass(step) => {
-            let_step_go(step);
-            CallFault::ForeignPass(())
-        }
-        CallFault::HistoryFull(step) => {
-            let_step_go(step);
-            CallFault::HistoryFull(())
-        }
-        CallFault::OutOfMemory(step) => {
-            let_step_go(step);
-            CallFault::OutOfMemory(())
-        }
-    }
-}
-
-/// The same refusal, of this event.
-fn with_event(fault: CallFault<()>, event: Event) -> CallFault
-    ensures { result ≡ fault_with fault event }
-{
-    match fault {
-        CallFault::ForeignPass(()) => CallFault::ForeignPass(event),
-        CallFault::HistoryFull(()) => CallFault::HistoryFull(event),
-        CallFault::OutOfMemory(()) => CallFault::OutOfMemory(event),
-    }
-}
-
-/// Lets a device step go.
-fn let_step_go(step: Event)
-    requires { is_step step ≡ true }
-{
-    match step {
-        Event::RxStep
-        | Event::TxStep(_)
-        | Event::IntStep(_)
-        | Event::QueueStep(_, _)
-        | Event::EepromStep => {}
-        _ => unreachable!(),
     }
 }

@@ -3,7 +3,6 @@ pub mod Places
 pub mod Running
 pub mod Sharing
 pub mod Returning
-pub mod Leaving
 pub mod Moves
 pub mod Runs
 pub mod Jumps

@@ -1,5 +1,5 @@
 -- Events of a machine's device: which blocks are free and lent before and after.
-use Rattle.std.proofs.Common.{◌≡◌, refl, sym, ◌∙◌, ap, subst, ℕ, Bool, true, false, Option, Some, None}
+use Rattle.std.proofs.Common.{◌≡◌, IsFalse, refl, sym, ◌∙◌, ap, subst, ℕ, Bool, true, false, Option, Some, None}
 use Rattle.std.specs.FinMap as map
 use Rattle.program.specs.DmaArena.Block.{Block, zero_block}
 use Rattle.program.specs.DmaArena.Memory.{has_block, block_at}
@@ -7,26 +7,27 @@ use Rattle.program.specs.DmaArena.Numbers.{Numbers, is_free, is_own, with_free}
 use Rattle.nic_device.specs.Lending.{block_taken, taken}
 use Rattle.nic_device.specs.Outcome.{Outcome, gives}
 use Rattle.nic_device.specs.State.{State}
-use Rattle.nic_device.specs.Step.{step_of}
+use Rattle.nic_device.specs.Step.{step_of, moves_block, hands_out}
 use Rattle.nic_device.specs.declared.Event.{Event}
 use Rattle.nic_device.specs.declared.Event.TheVariants as event
 use Rattle.nic_device.specs.declared.Reply.{Reply}
 use Rattle.nic_device.specs.declared.Reply.TheVariants.{Done}
-use Rattle.machine.specs.Board.{Holdings, AreShared, MovesNone, HasNone, CanReturn, arena_after, after_lend}
-use Rattle.machine.proofs.Leaving.{step_of-leaves}
+use Rattle.nic_device.proofs.KeptBlocks.{keeps_blocks}
+use Rattle.machine.specs.Board.{Holdings, AreShared, CanReturn, arena_after, after_lend}
 use Rattle.machine.proofs.Sharing.{own_shared, lent_away, free_not_lent, shared-taken, shared-lent, shared-same, with_free-back}
 use Rattle.machine.proofs.Returning.{taken_block}
 
 -- an event that moves no block
 
-pub made-none : (s : State) (e : Event Block) (r : Reply Block) → MovesNone e → r ≡ (step_of s e).reply → HasNone r
-made-none s e r none is = subst HasNone (sym is) (step_of-leaves s e none).none
+pub made-none : (s : State) (e : Event Block) (r : Reply Block) → IsFalse (moves_block e) → r ≡ (step_of s e).reply
+    → IsFalse (hands_out r)
+made-none s e r none is = ap hands_out is ∙ (keeps_blocks s e none).none
 
-pub made-shared : (s t : State) (a : Numbers) (e : Event Block) → AreShared s.memory a → MovesNone e
+pub made-shared : (s t : State) (a : Numbers) (e : Event Block) → AreShared s.memory a → IsFalse (moves_block e)
     → t ≡ (step_of s e).state → AreShared t.memory a
 made-shared s t a e h none is =
     subst (λ (u : State). AreShared u.memory a) (sym is)
-    (shared-same s.memory (step_of s e).state.memory a h (step_of-leaves s e none).lent)
+    (shared-same s.memory (step_of s e).state.memory a h (keeps_blocks s e none).lent)
 
 -- a free block is lent
 
@@ -51,8 +52,8 @@ lent-is s a n b h = ap (λ b. step_of s (event.Lend b)) h.zero
     ∙ lent-done s (zero_block n) (free_not_lent s.memory a n h.shared h.free)
 
 pub lent-none : (s : State) (a : Numbers) (n : ℕ) (b : Block) (r : Reply Block) → IsLent s a n b
-    → r ≡ (step_of s (event.Lend b)).reply → HasNone r
-lent-none s a n b r h is = subst HasNone (sym (is ∙ ap (λ (o : Outcome). o.reply) (lent-is s a n b h))) tt
+    → r ≡ (step_of s (event.Lend b)).reply → IsFalse (hands_out r)
+lent-none s a n b r h is = ap hands_out (is ∙ ap (λ (o : Outcome). o.reply) (lent-is s a n b h))
 
 pub lent-shared : (s t : State) (a after : Numbers) (n : ℕ) (b : Block) → IsLent s a n b
     → t ≡ (step_of s (event.Lend b)).state → after ≡ with_free a n false → AreShared t.memory after

@@ -1,8 +1,8 @@
 -- What the instructions of a program do.
-use Rattle.std.specs.Prelude.{◌<◌, ◌≤◌, ℕ, length, ⊤}
+use Rattle.std.specs.Prelude.{◌<◌, ◌≤◌, ℕ, IsFalse, length, ⊤}
+use Rattle.nic_device.specs.Step.{moves_block}
 use Rattle.nic_device.specs.declared.Event.TheVariants as event
 use Rattle.nic_device.specs.declared.Port.TheVariants.{Pf, Vf}
-use Rattle.machine.specs.Board.{MovesNone}
 use Rattle.machine.specs.declared.action.Action.{Action}
 use Rattle.machine.specs.declared.action.Action.TheVariants.{Make, Lend, TakeBack, Arrive, Local}
 use Rattle.machine.specs.declared.action.Kept.{Kept}
@@ -55,7 +55,7 @@ IsPart (Part word) = word < 4
 
 -- what the instructions of a program can ask for
 abbrev pub IsSoundAction : Listing → Action → Type 0
-IsSoundAction program (Make event kept) = MovesNone event × IsPart kept
+IsSoundAction program (Make event kept) = IsFalse (moves_block event) × IsPart kept
 IsSoundAction program (Lend block) = ⊤
 IsSoundAction program (TakeBack block) = ⊤
 IsSoundAction program (Arrive number) = ⊤

@@ -6,7 +6,6 @@ use Rattle.program.specs.DmaArena.Memory.{Memory, has_block}
 use Rattle.program.specs.DmaArena.Numbers.{Numbers, is_own, is_free, with_free, all_free}
 use Rattle.nic_device.specs.State.{State, state_code}
 use Rattle.nic_device.specs.Step.{step_of}
-use Rattle.nic_device.specs.declared.Event.{Event}
 use Rattle.nic_device.specs.declared.Event.TheVariants as event
 use Rattle.nic_device.specs.declared.Reply.{Reply}
 use Rattle.nic_device.specs.declared.Reply.TheVariants.{Buf, Twice}
@@ -37,23 +36,6 @@ pub record AreShared (memory : Memory) (arena : Numbers) : Type 0 where
   pub count : length arena.free ≡ 256
   pub either : (number : ℕ) → number < 256 → is_free arena number ≡ not (has_block memory number)
   pub few : (number : ℕ) → has_block memory number ≡ true → number < 256
-
--- the event moves no block
-abbrev pub MovesNone : Event Block → Type 0
-MovesNone (event.Lend block) = ⊥
-MovesNone (event.Take number) = ⊥
-MovesNone other = ⊤
-
--- the event lends a block
-abbrev pub Lends : Event Block → Type 0
-Lends (event.Lend block) = ⊤
-Lends other = ⊥
-
--- the reply has no block
-abbrev pub HasNone : Reply Block → Type 0
-HasNone (Buf block) = ⊥
-HasNone (Twice block) = ⊥
-HasNone other = ⊤
 
 -- the block of the reply, if it has one, is the arena's and can be given back
 abbrev pub CanReturn : Numbers → Reply Block → Type 0

@@ -1,6 +1,6 @@
 //! The device of a machine, and the packet memory that it shares with it.
 
-ghost use Rattle.std.specs.Prelude.{◌≡◌, ◌<◌, ◌≤◌, ◌↔◌, ℕ, [], true, false, IfOk, OnOk, OnErr, Err};
+ghost use Rattle.std.specs.Prelude.{◌≡◌, ◌<◌, ◌≤◌, ◌↔◌, ℕ, [], true, false, IsFalse, IfOk, OnOk, OnErr, Err};
 ghost use Rattle.std.specs.FinMap as map;
 ghost use Rattle.std.specs.Vec.{vec_capacity};
 ghost use Rattle.program.specs.DmaArena.Block.{Block, zero_block};
@@ -8,8 +8,8 @@ ghost use Rattle.program.specs.DmaArena.Memory.{has_block};
 ghost use Rattle.program.specs.DmaArena.Numbers.{is_free, is_own, with_free};
 ghost use Rattle.nic_device.specs.Config.{IsBadFifo};
 ghost use Rattle.nic_device.specs.State.{new_state};
-ghost use Rattle.nic_device.specs.Step.{step_of, word_told, TakesMemory};
-ghost use Rattle.machine.specs.Board.{all_blocks, arena_after, reply_of_lend, after_lend, AreShared, CanReturn, Lends, HasNone, MovesNone};
+ghost use Rattle.nic_device.specs.Step.{step_of, word_told, moves_block, hands_out, TakesMemory};
+ghost use Rattle.machine.specs.Board.{all_blocks, arena_after, reply_of_lend, after_lend, AreShared, CanReturn};
 
 use crate::machine::OutOfMemory;
 use nic_device::{Config, Device, Event, MAX_VFS, NewFault, Note, Parts, Port, Reply, ReplyNote};
@@ -40,54 +40,12 @@ impl Model for Board {
 
 /// A reply without a block, as its note tells it.
 fn note_of(reply: Reply) -> ReplyNote
-    requires { HasNone reply }
+    requires { IsFalse (hands_out reply) }
     ensures { result ≡ reply }
 {
-    match reply {
-        Reply::Word(word) => Reply::Word(word),
-        Reply::Stray(word) => Reply::Stray(word),
-        Reply::Done => Reply::Done,
-        Reply::Bytes(bytes) => Reply::Bytes(bytes),
-        Reply::Buf(_buf) => unreachable!(),
-        Reply::Twice(_buf) => unreachable!(),
-        Reply::NotLent => Reply::NotLent,
-        Reply::Misaligned => Reply::Misaligned,
-        Reply::NoQueue => Reply::NoQueue,
-        Reply::NoGroup => Reply::NoGroup,
-        Reply::Message { group, vector } => Reply::Message { group, vector },
-        Reply::Idle => Reply::Idle,
-        Reply::Dropped(why) => Reply::Dropped(why),
-        Reply::Wrote {
-            queue,
-            slot,
-            end,
-            desc,
-            at,
-            len,
-        } => Reply::Wrote {
-            queue,
-            slot,
-            end,
-            desc,
-            at,
-            len,
-        },
-        Reply::Advanced { queue, slot, back } => Reply::Advanced { queue, slot, back },
-        Reply::Sent { queue, len, back } => Reply::Sent { queue, len, back },
-        Reply::Fault { queue, fault } => Reply::Fault { queue, fault },
-        Reply::Frame { queue, bytes } => Reply::Frame { queue, bytes },
-    }
-}
-
-/// The bytes of a block, copied into a vector that has room for them.
-fn copy_bytes(mut room: Vec<u8>, buf: &Buf) -> Octets
-    requires empty { room.items ≡ [] }
-    requires room { vec_capacity room ≡ 2048 }
-    ensures { result ≡ buf.now.bytes }
-{
-    match room.extend_from_slice(buf.bytes()) {
-        Ok(()) => Octets::of(room),
-        Err(_) => unreachable!(),
+    match reply.into_note() {
+        Ok(note) => note,
+        Err(_buf) => unreachable!(),
     }
 }
 
@@ -112,38 +70,13 @@ fn note_returned(arena: &mut Arena, reply: Reply, room: Vec<u8>) -> ReplyNote
     ensures reply { result ≡ reply }
     ensures arena { arena.new ≡ arena_after arena.old reply }
 {
-    if let Reply::Buf(buf) = reply {
-        let note = Note::new(buf.block(), copy_bytes(room, &buf));
-        give_back(arena, buf);
-        Reply::Buf(note)
-    } else {
-        note_of(reply)
-    }
-}
-
-/// Lets an event go that moves no block.
-fn let_go(event: Event)
-    requires { MovesNone event }
-{
-    match event {
-        Event::Read(_, _) | Event::Write(_, _, _) => {}
-        Event::Lend(_buf) => unreachable!(),
-        Event::Take(_) => {}
-        Event::Peek16(_) | Event::Poke16(_, _) => {}
-        Event::Arrive(_frame) => {}
-        Event::RxStep | Event::TxStep(_) | Event::IntStep(_) | Event::QueueStep(_, _) => {}
-        Event::EepromStep | Event::Link(_) | Event::Collect => {}
-    }
-}
-
-/// The block that would have been lent.
-fn lent_block(event: Event) -> Buf
-    requires { Lends event }
-    ensures { event ≡ Event.Lend result }
-{
-    match event {
-        Event::Lend(buf) => buf,
-        _ => unreachable!(),
+    match reply.into_note() {
+        Ok(note) => note,
+        Err(buf) => {
+            let note = Note::new(buf.block(), Octets::copied(buf.bytes(), room));
+            give_back(arena, buf);
+            Reply::Buf(note)
+        }
     }
 }
 
@@ -222,19 +155,19 @@ impl Board {
 
     /// Makes an event that moves no block.
     pub(crate) fn make(&mut self, event: Event) -> Result<ReplyNote, OutOfMemory>
-        requires { MovesNone event }
+        requires { IsFalse (moves_block event) }
         ensures reply { IfOk result (λ reply. reply ≡ (step_of self.old.device event).reply) }
         ensures state { OnOk result (self.new ≡ record self.old { device = (step_of self.old.device event).state }) }
-        ensures none { IfOk result HasNone }
+        ensures none { IfOk result (λ reply. IsFalse (hands_out reply)) }
         ensures unchanged { OnErr result (self.new ≡ self.old) }
         ensures memory { OnErr result (TakesMemory self.old.device event) }
     {
         match self.device.step(event) {
             Ok(reply) => return Ok(note_of(reply)),
-            Err(refused) => {
-                let_go(refused.event);
-                return Err(OutOfMemory);
-            }
+            Err(refused) => match refused.event.into_buf() {
+                None => return Err(OutOfMemory),
+                Some(_buf) => unreachable!(),
+            },
         }
     }
 
@@ -250,10 +183,13 @@ impl Board {
         };
         match self.device.step(Event::Lend(buf)) {
             Ok(reply) => Ok(Some(note_of(reply))),
-            Err(refused) => {
-                give_back(&mut self.arena, lent_block(refused.event));
-                Err(OutOfMemory)
-            }
+            Err(refused) => match refused.event.into_buf() {
+                Some(buf) => {
+                    give_back(&mut self.arena, buf);
+                    Err(OutOfMemory)
+                }
+                None => unreachable!(),
+            },
         }
     }
 

@@ -1,8 +1,8 @@
 //! What steps through a program: the device with its packet memory, and where the machine is.
 
-ghost use Rattle.std.specs.Prelude.{◌≡◌, ◌+◌, ◌-◌, ◌*◌, ◌<◌, ◌≤◌, ◌^◌, IfOk, IfSome, IsSome, OnOk, OnErr, length};
+ghost use Rattle.std.specs.Prelude.{◌≡◌, ◌+◌, ◌-◌, ◌*◌, ◌<◌, ◌≤◌, ◌^◌, IsFalse, IfOk, IfSome, IsSome, OnOk, OnErr, length};
+ghost use Rattle.nic_device.specs.Step.{moves_block};
 ghost use Rattle.machine.specs.Action.{IsPart, IsSoundAction, StaysInside};
-ghost use Rattle.machine.specs.Board.{MovesNone};
 ghost use Rattle.machine.specs.Machine.{status_at, moved_to, moved_on, stopped_as, word_read, word_in, word_peeked, acc_after, acted, next_instruction, done, executed_if_some, TakesSome, machine_step, StepTakesMemory};
 ghost use Rattle.machine.specs.Processor.{state_of};
 ghost use Rattle.program.specs.Listing.{IsSound};
@@ -198,7 +198,7 @@ impl Processor {
         event: Event,
         kept: Kept,
     ) -> Result<StepAnswer, OutOfMemory>
-        requires none { MovesNone event }
+        requires none { IsFalse (moves_block event) }
         requires part { IsPart kept }
         requires inside { self.old.pc < 4096 }
         requires counts { self.old.steps < 2 ^ 64 - 1 }

@@ -1,6 +1,6 @@
-use Rattle.std.proofs.Common.{◌≡◌, ◌∙◌, sym, ap}
+use Rattle.std.proofs.Common.{◌≡◌, ◌∙◌, sym, ap, Some}
 use Rattle.program.specs.DmaArena.Block.{Block}
-use Rattle.nic_device.specs.declared.Event.TheVariants as event
+use Rattle.nic_device.specs.Step.{lent_block}
 use Rattle.machine.specs.Board.{after_lend}
 use Rattle.machine.proofs.Moves.{not_false, lent-none, lent-shared, after_lend-is, gave-back}
 use Rattle.machine.proofs.board.Board.lend.Goals as goal
@@ -28,13 +28,13 @@ returns-in-Ok-clause-state c =
     c.in-Ok.ensures.state c.in-Some.ensures.taken
     ∙ ap (λ h. after_lend h c.args.block) c.self.view_is
 
-pub returns-in-Err-clause-unchanged : goal.returns-in-Err-clause-unchanged
-returns-in-Err-clause-unchanged c =
-    let same : event.Lend c.lent_block.result ≡ event.Lend c.in-Some.buf = sym c.lent_block.ensures
-    ∙ c.in-Err.ensures.back in
-    let block : c.lent_block.result ≡ c.in-Some.buf = cc in
+pub returns-in-Some-into_buf-clause-unchanged : goal.returns-in-Some-into_buf-clause-unchanged
+returns-in-Some-into_buf-clause-unchanged c =
+    let same : Some c.in-Some-into_buf.buf ≡ Some c.in-Some.buf =
+    sym c.in-Some-into_buf.is ∙ c.into_buf.ensures ∙ ap lent_block c.in-Err.ensures.back in
+    let block : c.in-Some-into_buf.buf ≡ c.in-Some.buf = cc in
     gave-back c.self.inside.device c.step.new.self c.self.inside.arena c.take_at.new.self c.give_back.new.arena
-    c.args.block c.lent_block.result
+    c.args.block c.in-Some-into_buf.buf
     (not_false _ c.in-Some.ensures.none.1) c.in-Some.ensures.taken
     (ap (λ (b : Block). b.number) (block ∙ c.in-Some.ensures.zero))
     c.give_back.ensures c.in-Err.ensures.unchanged

@@ -1,5 +1,5 @@
-use Rattle.std.proofs.Common.{sym, subst}
-use Rattle.machine.specs.Board.{HasNone}
+use Rattle.std.proofs.Common.{ap, ◌∙◌}
+use Rattle.nic_device.specs.Step.{hands_out}
 use Rattle.machine.proofs.Moves.{made-none, made-shared}
 use Rattle.machine.proofs.board.Board.make.Goals as goal
 
@@ -13,5 +13,5 @@ invariant_of-self c =
 
 pub returns-in-Ok-clause-none : goal.returns-in-Ok-clause-none
 returns-in-Ok-clause-none c =
-    subst HasNone (sym c.note_of.ensures)
-    (made-none c.self.inside.device c.args.event c.in-Ok.reply c.requires c.in-Ok.ensures.reply)
+    ap hands_out c.note_of.ensures
+    ∙ made-none c.self.inside.device c.args.event c.in-Ok.reply c.requires c.in-Ok.ensures.reply

@@ -99,9 +99,9 @@ fn arrive<R: Wait, const VFS: u8, const FIFO: u16>(
 fn let_reply_go(reply: Reply)
     requires { may_arrive reply ≡ true }
 {
-    match reply.into_buf() {
-        None => {}
-        Some(_buf) => unreachable!(),
+    match reply {
+        Reply::Done | Reply::Dropped(_) => {}
+        _ => unreachable!(),
     }
 }
 
@@ -130,8 +130,8 @@ fn without_frame(fault: CallFault) -> CallFault<()>
 fn let_frame_go(event: Event)
     requires { arrives event ≡ true }
 {
-    match event.into_buf() {
-        None => {}
-        Some(_buf) => unreachable!(),
+    match event {
+        Event::Arrive(_frame) => {}
+        _ => unreachable!(),
     }
 }

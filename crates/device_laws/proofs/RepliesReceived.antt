@@ -18,10 +18,10 @@ use Rattle.nic_device.proofs.RegisterLaws.Stands.{receive_stands}
 use Rattle.nic_device.proofs.RegisterLaws.Switches.{receive-shut}
 use Rattle.nic_device.proofs.RegisterLaws.Within.{within-causes_raised}
 use Rattle.nic_device.specs.Footprint.{counts_and_causes}
-use Rattle.nic_device.specs.Interrupt.{raised_by, fault_cause}
+use Rattle.nic_device.specs.Interrupt.{raised_by, side_failed, fault_cause}
 use Rattle.device_laws.specs.Leaving.{IsFirstFor}
 use Rattle.nic_device.specs.Outcome.{Outcome}
-use Rattle.nic_device.specs.Receive.{frame_counted, piece_done, receive_failed}
+use Rattle.nic_device.specs.Receive.{frame_counted, piece_done}
 use Rattle.device_laws.specs.Replies.{received_tells, ReceivingTells}
 use Rattle.nic_device.specs.Sound.{IsSound, AreWaiting}
 use Rattle.nic_device.specs.State.{State, Waiting}
@@ -65,9 +65,9 @@ module _ (s : State) (h : IsSound s) (w : Waiting) (others : List Waiting) (e : 
       (piece_rest s.registers s.vfs w.queue f)
       ∙ receive-with_head s.registers h.registers.shape w.queue queue_small f.head (omega arith)
 
-  side_failed : receive_queue_of (receive_failed s.registers w.queue) w.queue
+  side_shut : receive_queue_of (side_failed s.registers Rx w.queue) w.queue
       ≡ receive_queue_of (shut s.registers Rx w.queue) w.queue
-  side_failed =
+  side_shut =
       receive_stands (pending group.Pf) _ _ w.queue (pending-misses_side group.Pf Rx w.queue)
       (within-causes_raised (shut s.registers Rx w.queue) group.Pf fault_cause)
 
@@ -82,7 +82,7 @@ receiving_tells s h = received_cases (Tells s) s (record {
   slotless = λ w others e. tt;
   fault = λ w others e fault. record {
     first = waits_first s h w others e;
-    side = side_failed s h w others e
+    side = side_shut s h w others e
         ∙ receive-shut s.registers h.registers.shape w.queue (queue_small s h w others e);
   };
   filled = λ w others e f is.

@@ -36,26 +36,15 @@ pub fn push_steps<R: Abort>(rt: &R, list: &mut Vec<Event>) {
 
 /// Lets an event go. The block that it would have lent is its hand's.
 pub fn let_go<R: Abort>(rt: &R, bufs: &mut Vec<Buf>, event: Event) {
-    match event {
-        Event::Lend(buf) => keep(rt, bufs, buf),
-        Event::Read(_, _) | Event::Write(_, _, _) | Event::Take(_) => {}
-        Event::Peek16(_) | Event::Poke16(_, _) => {}
-        Event::Arrive(_frame) => {}
-        Event::RxStep | Event::TxStep(_) | Event::IntStep(_) | Event::QueueStep(_, _) => {}
-        Event::EepromStep | Event::Link(_) | Event::Collect => {}
+    if let Some(buf) = event.into_buf() {
+        keep(rt, bufs, buf);
     }
 }
 
 /// Lets a reply go. The block that it hands out is its hand's.
 pub fn let_reply_go<R: Abort>(rt: &R, bufs: &mut Vec<Buf>, reply: Reply) {
-    match reply {
-        Reply::Buf(buf) | Reply::Twice(buf) => keep(rt, bufs, buf),
-        Reply::Word(_) | Reply::Stray(_) | Reply::Done | Reply::Bytes(_) => {}
-        Reply::NotLent | Reply::Misaligned | Reply::NoQueue | Reply::NoGroup | Reply::Idle => {}
-        Reply::Dropped(_) => {}
-        Reply::Wrote { .. } | Reply::Advanced { .. } | Reply::Sent { .. } => {}
-        Reply::Fault { .. } | Reply::Message { .. } => {}
-        Reply::Frame { .. } => {}
+    if let Some(buf) = reply.into_buf() {
+        keep(rt, bufs, buf);
     }
 }
 

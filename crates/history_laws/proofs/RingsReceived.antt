@@ -10,8 +10,9 @@ use Rattle.nic_device.specs.DmaRing.declared.dir.Dir.TheVariants.{Rx, Tx}
 use Rattle.nic_device.specs.RegisterLaws.Sides.{ReceiveQueue, receive_queue_of}
 use Rattle.nic_device.proofs.RegisterLaws.Stands.{receive_stands}
 use Rattle.nic_device.specs.Footprint.{counts_and_causes}
+use Rattle.nic_device.specs.Interrupt.{side_failed}
 use Rattle.nic_device.specs.Outcome.{Outcome}
-use Rattle.nic_device.specs.Receive.{receive_failed, slot_done, slotless_counted}
+use Rattle.nic_device.specs.Receive.{slot_done, slotless_counted}
 use Rattle.nic_device.specs.Sound.{IsSound}
 use Rattle.nic_device.specs.State.{State, Waiting}
 use Rattle.nic_device.specs.Step.{step_of, after}
@@ -66,7 +67,7 @@ module _ (s : State) (a : AreAligned s.registers) where
         same_aligned _ _ (ap (λ (x : ReceiveQueue). x.ring) (slotless_stands s.registers w.queue queue))
         (a Rx queue small);
     fault = λ w others e fault tells rest.
-        by_first (record s { registers = receive_failed s.registers w.queue; waiting = others }) w others e rest
+        by_first (record s { registers = side_failed s.registers Rx w.queue; waiting = others }) w others e rest
         (λ small.
         same_aligned _ _ (ap (λ (x : ReceiveQueue). x.ring) tells.side) (a Rx w.queue small));
     filled = λ w others e f is tells rest.

@@ -4,15 +4,17 @@ use Rattle.std.proofs.Common.{◌≡◌, ℕ, true, false, List, [], ◌∷◌, 
 use Rattle.std.specs.Prelude.{Result, ◌&&◌, ◌==◌, ⊤}
 use Rattle.std.proofs.lemmas.Bool.{cond_both}
 use Rattle.nic_device.specs.DmaArena.Block.{Block}
+use Rattle.nic_device.specs.DmaRing.declared.dir.Dir.TheVariants.{Rx}
 use Rattle.nic_device.specs.DmaRing.declared.fault.RingFault.{RingFault}
 use Rattle.nic_device.specs.RxRing.declared.filled.Filled.{Filled}
 use Rattle.nic_device.specs.RxRing.Fill as rx
 use Rattle.nic_device.specs.RegisterFile.Settings.{is_stopped, drops}
 use Rattle.nic_device.specs.RegisterLaws.Sides.{receive_queue_of}
 use Rattle.nic_device.specs.State.{State, Waiting}
+use Rattle.nic_device.specs.Interrupt.{side_failed}
 use Rattle.nic_device.specs.Outcome.{Outcome, gives}
 use Rattle.nic_device.specs.Receive as receive
-use Rattle.nic_device.specs.Receive.{first_received, rest_of, is_empty, slotless_counted, receive_failed}
+use Rattle.nic_device.specs.Receive.{first_received, rest_of, is_empty, slotless_counted}
 use Rattle.nic_device.specs.Step.{step_of, reply_to}
 use Rattle.nic_device.specs.declared.event.Event.TheVariants as event
 use Rattle.nic_device.specs.declared.event.Reply.{Reply}
@@ -37,7 +39,7 @@ pub record Receives (P : Outcome → Type 0) (s : State) (w : Waiting) (others :
   pub slotless : P (gives (Dropped NoSlot)
       (record s { registers = slotless_counted s.registers w.queue; waiting = others }))
   pub fault : IsTried s w.queue → (fault : RingFault) → (fill_on s w.queue (rest_of w)).answer ≡ Err fault
-      → P (gives (Fault w.queue fault) (record s { registers = receive_failed s.registers w.queue; waiting = others }))
+      → P (gives (Fault w.queue fault) (record s { registers = side_failed s.registers Rx w.queue; waiting = others }))
   pub filled : IsTried s w.queue → (f : Filled) → (fill_on s w.queue (rest_of w)).answer ≡ Ok f
       → P (receive.slot_done s w others (Ok f) (fill_on s w.queue (rest_of w)).memory)
 

@@ -8,8 +8,9 @@ use Rattle.nic_device.specs.RegisterFile.Registers.{is_wanted}
 use Rattle.nic_device.specs.DmaRing.declared.dir.Dir.TheVariants.{Rx}
 use Rattle.nic_device.specs.RegisterLaws.Sides.{ReceiveQueue, receive_queue_of}
 use Rattle.nic_device.proofs.RegisterLaws.Switches.{receive-switched}
+use Rattle.nic_device.specs.Interrupt.{side_failed}
 use Rattle.nic_device.specs.Outcome.{Outcome}
-use Rattle.nic_device.specs.Receive.{receive_failed, slot_done}
+use Rattle.nic_device.specs.Receive.{slot_done}
 use Rattle.nic_device.specs.Sound.{IsSound}
 use Rattle.nic_device.specs.State.{State, Waiting}
 use Rattle.nic_device.specs.Step.{step_of, after}
@@ -70,7 +71,7 @@ module _ (P : ReceiveQueue → Type 0) (steady : IsSteady P) (queue : ℕ) (s : 
         slotless = λ x rest f tells. subst P (sym (slotless_stands s.registers x.queue queue)) p;
         fault = λ x rest f fault tells.
             changed (λ q. record q { on = false; wanted = false })
-            (record s { registers = receive_failed s.registers x.queue; waiting = rest }) x.queue (own x rest f)
+            (record s { registers = side_failed s.registers Rx x.queue; waiting = rest }) x.queue (own x rest f)
             steady.shuts tells.side;
         filled = λ x rest f g is tells.
             changed (λ q. record q { ring = moved_on q.ring }) (slot_done s x rest (Ok g) (filled_by s x).memory).state

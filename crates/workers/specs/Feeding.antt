@@ -7,13 +7,8 @@ use Rattle.nic_device.specs.declared.event.Reply.{Reply}
 use Rattle.nic_device.specs.declared.event.Reply.TheVariants.{Done}
 use Rattle.device_lock.specs.declared.entry.Call.{Call}
 use Rattle.device_lock.specs.declared.fault.CallFault.{CallFault}
-use Rattle.device_lock.specs.declared.fault.CallFault.TheVariants.{ForeignPass, HistoryFull, OutOfMemory}
+use Rattle.device_lock.specs.declared.fault.CallFault.TheVariants.{ForeignPass}
 use Rattle.device_lock.specs.Pass.{PassValue}
-
--- whether a frame arrives
-abbrev pub arrives : Event Block → Bool
-arrives (Arrive frame) = true
-arrives other = false
 
 abbrev pub is_done : Reply Block → Bool
 is_done Done = true
@@ -42,12 +37,6 @@ IsFed frames (Some refusal) old new =
 -- the first so many of these frames arrived
 abbrev pub AreFed : List (List ℕ) → PassValue → PassValue → Type 0
 AreFed frames old new = (count : ℕ) × HaveArrived (take count frames) old new
-
--- the same refusal, without the frame
-abbrev pub without_frame : CallFault (Event Block) → CallFault (Unit {0})
-without_frame (ForeignPass frame) = ForeignPass tt
-without_frame (HistoryFull frame) = HistoryFull tt
-without_frame (OutOfMemory frame) = OutOfMemory tt
 
 -- the first frame, where there is one, was refused by a pass of another bench
 abbrev pub IsTurnedAway : {T : Type 0} → List T → Option (CallFault (Unit {0})) → Type 0

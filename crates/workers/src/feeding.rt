@@ -1,9 +1,8 @@
 //! Frames that arrive while workers run.
 
 ghost use Rattle.std.specs.Prelude.{◌≡◌, ◌≢◌, true, ◌∷◌, [], OnOk, OnErr, map};
-ghost use Rattle.device_lock.specs.Fault.{event_of};
 ghost use Rattle.nic_device.specs.Answering.{may_arrive};
-ghost use Rattle.workers.specs.Feeding.{IsFed, HaveArrived, arrives, is_done, done_in, gained, without_frame, IsTurnedAway};
+ghost use Rattle.workers.specs.Feeding.{IsFed, HaveArrived, is_done, done_in, gained, IsTurnedAway};
 
 use device_lock::{Call, CallFault, Pass, Shared};
 use nic_device::{Event, Octets, Reply};
@@ -91,7 +90,13 @@ fn arrive<R: Wait, const VFS: u8, const FIFO: u16>(
             let_reply_go(reply);
             Ok(())
         }
-        Err(fault) => Err(without_frame(fault)),
+        Err(fault) => {
+            let (fault, event) = fault.replace(());
+            match event.into_buf() {
+                None => Err(fault),
+                Some(_buf) => unreachable!(),
+            }
+        }
     }
 }
 
@@ -101,37 +106,6 @@ fn let_reply_go(reply: Reply)
 {
     match reply {
         Reply::Done | Reply::Dropped(_) => {}
-        _ => unreachable!(),
-    }
-}
-
-/// The refusal of a frame, without the frame.
-fn without_frame(fault: CallFault) -> CallFault<()>
-    requires { arrives (event_of fault) ≡ true }
-    ensures { result ≡ without_frame fault }
-{
-    match fault {
-        CallFault::ForeignPass(frame) => {
-            let_frame_go(frame);
-            CallFault::ForeignPass(())
-        }
-        CallFault::HistoryFull(frame) => {
-            let_frame_go(frame);
-            CallFault::HistoryFull(())
-        }
-        CallFault::OutOfMemory(frame) => {
-            let_frame_go(frame);
-            CallFault::OutOfMemory(())
-        }
-    }
-}
-
-/// Lets a frame go that wasn't let in.
-fn let_frame_go(event: Event)
-    requires { arrives event ≡ true }
-{
-    match event {
-        Event::Arrive(_frame) => {}
         _ => unreachable!(),
     }
 }

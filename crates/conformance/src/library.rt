@@ -1,9 +1,9 @@
 //! Tables of what the public calls of the lower libraries answer, with values typed from the datasheet, from published
 //! examples and by hand.
 //!
-//! `data/libraries/NAME.cases` is the table of the library NAME. A case is a line `CALL WORDS = ANSWER`; the module of the
-//! library says which calls there are. Empty lines and lines that begin with `#` say nothing. Data costs no proof, so
-//! that a case which a call can show stands here and not in a test.
+//! `data/libraries/NAME.cases` is the table of the library NAME. A case is a line `CALL WORDS = ANSWER`; the module of
+//! the library says which calls there are. Empty lines and lines that begin with `#` say nothing. Data costs no proof,
+//! so that a case which a call can show stands here and not in a test.
 
 use crate::call::Call;
 use std::alloc::{AllocError, Global};

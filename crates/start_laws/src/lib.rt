@@ -1,6 +1,6 @@
-//! Where a start of the driver leads: what it leaves, the device and the driver agreeing on both sides of its queue; and
-//! why one is refused, what its calls have in common where it times out, and that on a queue whose sides are off it finds
-//! no device at fault.
+//! Where a start of the driver leads: what it leaves, the device and the driver agreeing on both sides of its queue;
+//! and why one is refused: what its calls have in common where it times out, and that on a queue whose sides are off it
+//! finds no device at fault.
 //!
 //! Each law is the contract of a function that does nothing.
 #![tactic(auto)]

@@ -3,15 +3,15 @@
 //! `run_workers` has the jobs done, with the calling thread to feed them and to collect what they tell; `run_worker` is
 //! the run of one of them, over any way to a device.
 //!
-//! Tasks on threads: a task sits in a `Seat`, and after `run` its end does; one whose thread doesn't begin in time gives
-//! up, so that nobody waits for it, and `Start` tells whether it began. A place to meet: `Gate` is what a worker asks of
-//! it, and `Lockstep` is the gate at which all members meet that haven't left.
+//! Tasks on threads: a task sits in a `Seat`, and after `run` its end does; one whose thread doesn't begin in time
+//! gives up, so that nobody waits for it, and `Start` tells whether it began. A place to meet: `Gate` is what a worker
+//! asks of it, and `Lockstep` is the gate at which all members meet that haven't left.
 //!
 //! A worker: `job.rt` has what it is to do, `reports.rt` the way of its reports, `feeding.rt` the frames that arrive
 //! meanwhile; `turns.rt` takes one packet, tells of it and sends it again; `driving.rt` has a whole run and the points
 //! at which it meets the others. The team: `assignment.rt` has what a worker takes to its thread and what comes back,
-//! `worker_task.rt` its task there, `room.rt` all room that is made before a thread starts, `host.rt` the calling thread's
-//! part, `ends.rt` how workers end, and `team.rt` a whole run.
+//! `worker_task.rt` its task there, `room.rt` all room that is made before a thread starts, `host.rt` the calling
+//! thread's part, `ends.rt` how workers end, and `team.rt` a whole run.
 #![tactic(auto)]
 
 mod assignment;

@@ -34,12 +34,17 @@ def side_rows(bank, offset):
     return [(f"0x{offset + row.runs[0].first - first:04X} + 0x40*x, x below k", f"{row.name}[v*k + x]") for row in rows]
 
 
-def table():
+def rows_of_offsets():
+    """All registers of a function, in the order of their offsets."""
     rows = own_rows()
     rows.append(("0x0120 + 0x04*x, x below k/2", "PVTIVAR[v*k/2 + x]"))
     rows += side_rows("Receive", 0x1000) + side_rows("Transmit", 0x2000)
-    rows.sort(key=lambda row: int(row[0][:6], 16))
-    return "| Offset | Register |\n|---|---|\n" + "".join(f"| {offset} | {name} |\n" for offset, name in rows)
+    return sorted(rows, key=lambda row: int(row[0][:6], 16))
+
+
+def table():
+    lines = "".join(f"| {offset} | {name} |\n" for offset, name in rows_of_offsets())
+    return "| Offset | Register |\n|---|---|\n" + lines
 
 
 def page(text):

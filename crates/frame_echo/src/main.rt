@@ -10,11 +10,15 @@ mod failure;
 use ending::{end_device, end_home, end_rest, leave};
 use failure::Failure;
 use nic_device::{Arena, Config, Device, Event, Mode, Octets, Port, Reply};
-use pmd::{Direct, Nic, Packet, Pmd, PmdFault, Setup, StartRefused, StopRefused, TxAnswer, TxFault, pf_setup};
+use pmd::{
+    Direct, Nic, Packet, Pmd, PmdFault, Setup, StartRefused, StopRefused, TxAnswer, TxFault,
+    pf_setup,
+};
 use std::alloc::Global;
 
 /// A TCP segment over IPv4 of a published vector of the RSS hash, padded to 60 bytes.
-const FRAME: &[u8] = b"\x02\x00\x00\x00\x00\x01\x02\x00\x00\x00\x00\x02\x08\x00\x45\x00\x00\x28\x00\x00\
+const FRAME: &[u8] =
+    b"\x02\x00\x00\x00\x00\x01\x02\x00\x00\x00\x00\x02\x08\x00\x45\x00\x00\x28\x00\x00\
 \x00\x00\x40\x06\x00\x00\x42\x09\x95\xbb\xa1\x8e\x64\x50\x0a\xea\x06\xe6\x00\x00\
 \x00\x00\x00\x00\x00\x00\x50\x10\x00\x00\x00\x00\x00\x00\x00\x00\x00\x00\x00\x00";
 
@@ -75,8 +79,10 @@ fn echo(rt: &HostRuntime, nic: &mut Direct, pmd: &mut Pmd) -> Result<(), Failure
     let Some(packet) = pmd.rx(alloc, nic)? else {
         return Err(Failure::NoPacket);
     };
-    let Packet { buf: _, len, rss, hash } = &packet;
-    let told = println!(rt; "received {len} bytes, RSS type {rss}, hash {hash:#010x}");
+    let told = println!(rt;
+        "received {} bytes, RSS type {}, hash {:#010x}",
+        packet.len, packet.rss, packet.hash
+    );
     send(alloc, nic, pmd, packet)?;
     told?;
     for _look in 0..10 {

@@ -5,7 +5,8 @@
     tools/descriptor_tables.py --check    says whether the page is stale, and ends with status 1 if it is
 
 The bits of descriptors are the constants of crates/dma_ring/src, the types of hashes and the bits of MRQC those of
-crates/rss_hash/specs, and the offsets of virtual functions those of tools/vf_map_table.py. The text around is the page's own.
+crates/rss_hash/specs, and the offsets of virtual functions those of tools/vf_map_table.py. The text around them is the
+page's own.
 """
 
 import re
@@ -34,8 +35,9 @@ def arms(name, path):
 
 
 def table(heads, rows):
-    lines = [heads, ["---"] * len(heads), *rows]
-    return "".join("| " + " | ".join(cells) + " |\n" for cells in lines).replace("| --- ", "|---").replace("--- |", "---|")
+    rule = "|---" * len(heads) + "|\n"
+    lines = ["| " + " | ".join(cells) + " |\n" for cells in [heads, *rows]]
+    return lines[0] + rule + "".join(lines[1:])
 
 
 def span(low, width):
@@ -114,7 +116,7 @@ def type_table():
 
 
 def name_in_a_function(name):
-    """What drivers of virtual functions call a register: VF in front, or VT where the function's interrupts are meant."""
+    """What drivers of virtual functions call a register: VF in front, or VT of the function's interrupts."""
     for old, new in (("PVFCTRL", "VFCTRL"), ("PVTE", "VTE"), ("PVTIVAR", "VTIVAR")):
         if name.startswith(old):
             return new + name[len(old) :]

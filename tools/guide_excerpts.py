@@ -4,8 +4,9 @@
     tools/guide_excerpts.py            rewrites the page
     tools/guide_excerpts.py --check    says whether the page is stale, and ends with status 1 if it is
 
-A piece is the block of code after a line '<!-- FILE: ITEM ITEM .. -->', FILE a file of the repository and ITEM a function
-or a constant of it, without the comment above it; or 'head', what stands above them all; or '*', the whole file.
+A piece is the block of code after a line '<!-- FILE: ITEM ITEM .. -->', FILE a file of the repository and ITEM a
+function or a constant of it, without the comment above it; or 'head', what stands above them all; or '*', the whole
+file.
 """
 
 import re
@@ -18,7 +19,7 @@ PIECE = re.compile(r"<!-- ([\w./]+): ([\w* ]+) -->\n\n((?:    .*\n|\n(?=    ))*)
 
 
 def item_of(text, name):
-    """The lines of a function or a constant, from its own line to the one that ends it; of 'head' those above them all."""
+    """The lines of a function or a constant, from its own line to its last; of 'head' those above them all."""
     lines = text.rstrip("\n").split("\n")
     if name == "*":
         return lines

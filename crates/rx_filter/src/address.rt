@@ -74,14 +74,14 @@ fn destination_high(frame: &[u8]) -> u32
     u32::from(byte(frame, 4)) + 0x100 * u32::from(byte(frame, 5))
 }
 
-/// Whether a frame is a broadcast.
+/// Whether a frame is for all.
 fn is_broadcast(frame: &[u8]) -> bool
     ensures { result ≡ is_broadcast frame.now }
 {
     destination_low(frame) == 0xFFFF_FFFF && destination_high(frame) == 0xFFFF
 }
 
-/// Whether a frame is a multicast, broadcasts among them.
+/// Whether a frame is for several.
 fn is_multicast(frame: &[u8]) -> bool
     ensures { result ≡ is_multicast frame.now }
 {

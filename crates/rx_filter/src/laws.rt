@@ -7,19 +7,19 @@ pub fn fields_stand_at_their_bits()
     ensures { FieldsStandAtTheirBits }
 {}
 
-/// A broadcast frame, whose destination is six bytes 0xFF, is let in exactly where FCTRL BAM or MPE is 1.
+/// A frame for all, whose destination is six bytes 0xFF, is let in exactly where FCTRL BAM or MPE is 1.
 pub fn broadcast_is_let_in()
     ensures destination { BroadcastIsAllOnes }
     ensures exact { BroadcastIsLetIn }
 {}
 
-/// A multicast frame that isn't a broadcast is let in exactly where FCTRL MPE is 1, a valid address is its destination,
-/// or MCSTCTRL MFE and its bit of MTA are 1.
+/// A frame for several is let in exactly where FCTRL MPE is 1, a valid address is its destination, or MCSTCTRL MFE and
+/// its bit of MTA are 1.
 pub fn multicast_is_let_in()
     ensures { MulticastIsLetIn }
 {}
 
-/// A unicast frame is let in exactly where FCTRL UPE is 1, or a valid address is its destination.
+/// A frame for one is let in exactly where FCTRL UPE is 1, or a valid address is its destination.
 pub fn unicast_is_let_in()
     ensures { UnicastIsLetIn }
 {}

@@ -1,7 +1,8 @@
 -- A history with one entry more.
-use Rattle.std.proofs.Common.{◌≡◌, ℕ, ◌+◌, ◌<◌, ◌==◌, List, [], ◌∷◌, ◌++◌, length, get_or, slice_set, refl, sym, arith, rules, length-append, length-set}
+use Rattle.std.proofs.Common.{◌≡◌, ℕ, ◌+◌, ◌<◌, ◌≤◌, ◌==◌, List, [], ◌∷◌, ◌++◌, length, get_or, replicate, slice_set, refl, sym, arith, rules, length-append, length-set}
 use Rattle.std.proofs.lemmas.Bool.Decides.{nat_tests}
 use Rattle.std.proofs.lemmas.Grind.{common_steps}
+use Rattle.std.proofs.lemmas.List.{get_or-replicate}
 use Rattle.std.proofs.lemmas.List.Sums.{sum_by-append, count_by-le-length}
 use Rattle.nic_device.specs.DmaArena.Block.{Block}
 use Rattle.nic_device.specs.Sound.{IsEvent}
@@ -41,8 +42,22 @@ counts_more : (n : ℕ) (counts : List ℕ) (h : List Entry) (e : Entry) → len
 counts_more n counts h e each lt counted tag below =
     rw (entries_of-append tag h (e ∷ [])) (grind (arith, nat_tests, common_steps, counted tag below))
 
+-- with no history each count is 0
+pub kept_opened : (vfs fifo : ℕ) (device : State) (history : List Entry) (limit : ℕ) (counts : List ℕ)
+    → device ≡ new_state vfs fifo → history ≡ [] → limit ≤ 1000000 → counts ≡ replicate 64 0
+    → IsKept vfs fifo (record { device = device; history = history; limit = limit }) counts
+kept_opened vfs fifo device history limit counts is none small zero = rw (none, is, zero) (record {
+  legal = tt;
+  leads = refl;
+  events = tt;
+  below = tt;
+  within = omega arith;
+  small = small;
+  counted = λ tag lt. get_or-replicate 64 tag 0 0 lt;
+})
+
 -- a count is no more than the history is long
-pub count_few : (vfs fifo : ℕ) (h : Held) (counts : List ℕ) (tag : ℕ) → IsKept vfs fifo h counts → tag < h.passes
+pub count_few : (vfs fifo : ℕ) (h : Held) (counts : List ℕ) (tag : ℕ) → IsKept vfs fifo h counts → tag < 64
     → length h.history < h.limit → get_or counts tag 0 < 1000000
 count_few vfs fifo h counts tag k lt room =
     let n = k.counted tag lt in
@@ -52,21 +67,20 @@ count_few vfs fifo h counts tag k lt room =
 
 pub kept_more : (vfs fifo : ℕ) (h : Held) (counts : List ℕ) (tag : ℕ) (event note : Event Block)
     (reply told : Reply Block) (device : State) (history : List Entry) (counts' : List ℕ)
-    → IsKept vfs fifo h counts → tag < h.passes → length h.history < h.limit → IsEvent event
+    → IsKept vfs fifo h counts → length counts ≡ 64 → tag < 64 → length h.history < h.limit → IsEvent event
     → note ≡ event → told ≡ reply → reply ≡ (step_of h.device event).reply → device ≡ (step_of h.device event).state
     → history ≡ h.history ++ entry_of tag note told ∷ []
     → counts' ≡ slice_set counts tag (get_or counts tag 0 + 1)
-    → IsKept vfs fifo (record { device = device; history = history; passes = h.passes; limit = h.limit }) counts'
-kept_more vfs fifo h counts tag event note reply told device history counts' k lt room fit n r made is grown counted =
+    → IsKept vfs fifo (record { device = device; history = history; limit = h.limit }) counts'
+kept_more vfs fifo h counts tag event note reply told device history counts' k each lt room fit n r made is grown counted =
     let e : Entry = entry_of tag event (step_of h.device event).reply in
     let more : history ≡ h.history ++ e ∷ [] = rw (grown, n, r, made) refl in
     record {
       legal = rw more (legal_more (new_state vfs fifo) h.history e k.legal (rw k.leads refl));
       leads = rw (more, leads_to-snoc (new_state vfs fifo) h.history e, k.leads) (sym is);
       events = rw more (events_more h.history e k.events fit);
-      below = rw more (one_more_below h.passes h.history e k.below lt);
+      below = rw more (one_more_below 64 h.history e k.below lt);
       within = rw (more, length-append h.history (e ∷ [])) (omega arith);
       small = k.small;
-      each = rw (counted, length-set) k.each;
-      counted = rw (more, counted) (counts_more h.passes counts h.history e k.each lt k.counted);
+      counted = rw (more, counted) (counts_more 64 counts h.history e each lt k.counted);
     }

@@ -1,3 +1,4 @@
+pub mod Closing
 pub mod Fresh
 pub mod Histories
 pub mod Places

@@ -1,20 +1,22 @@
 -- Which passes close a history.
-use Rattle.std.specs.Prelude.{◌≡◌, ℕ, ◌<◌, ◌==◌, ◌&&◌, List, All, count_by, Option, Some, None}
-use Rattle.nic_device.specs.State.{new_state}
+use Rattle.std.specs.Prelude.{◌≡◌, ◌≢◌, ℕ, ◌<◌, ◌==◌, ◌&&◌, List, All, count_by, Option, Some, None}
+use Rattle.nic_device.specs.State.{State, new_state}
 use Rattle.device_lock.specs.declared.entry.Entry.{Entry}
 use Rattle.device_lock.specs.declared.fault.CloseFault.{CloseFault}
 use Rattle.device_lock.specs.declared.fault.CloseFault.TheVariants.{MissingPass, ForeignPass, Mismatch, OutOfMemory}
-use Rattle.device_lock.specs.History.{leads_to, IsLegal, calls_of}
-use Rattle.device_lock.specs.Kept.{Held}
-use Rattle.device_lock.specs.Pass.{PassValue}
+use Rattle.device_lock.specs.History.{IsLegal, AllBelow, calls_of}
+use Rattle.device_lock.specs.Kept.{entries_of}
+use Rattle.device_lock.specs.Pass.{PassValue, IsOwn}
+
+-- a closed device: the device, the history of its calls, and how many passes there were
+pub record ClosedValue : Type 0 where
+  pub device : State
+  pub history : List Entry
+  pub passes : ℕ
 
 -- how many passes of the bench have this tag
 abbrev pub tag_count : ℕ → ℕ → List PassValue → ℕ
 tag_count bench tag ps = count_by (λ (p : PassValue). (p.bench == bench) && (p.tag == tag)) ps
-
--- the pass is one of the bench, which has so many
-abbrev pub IsOwn : ℕ → ℕ → PassValue → Type 0
-IsOwn bench count p = (p.bench ≡ bench) × (p.tag < count)
 
 -- the calls of the pass are the entries with its tag, in their order
 abbrev pub StandsIn : List Entry → PassValue → Type 0
@@ -29,9 +31,10 @@ pub record AreAll (bench count : ℕ) (ps : List PassValue) : Type 0 where
   pub own : All (IsOwn bench count) ps
   pub once : (tag : ℕ) → tag < count → tag_count bench tag ps ≡ 1
 
--- the passes of a tag have the calls that the history has of it
-abbrev pub TagStands : List Entry → ℕ → List PassValue → Type 0
-TagStands h tag ps = All (λ p. p.tag ≡ tag → StandsIn h p) ps
+-- the passes of a tag have the calls that the history has of it, and a tag that no pass has is the tag of no entry
+pub record TagStands (h : List Entry) (tag : ℕ) (ps : List PassValue) : Type 0 where
+  pub own : All (λ p. p.tag ≡ tag → StandsIn h p) ps
+  pub none : All (λ p. p.tag ≢ tag) ps → entries_of tag h ≡ 0
 
 -- the lowest tag that is absent
 pub record IsMissing (bench count : ℕ) (ps : List PassValue) (tag : ℕ) : Type 0 where
@@ -39,29 +42,33 @@ pub record IsMissing (bench count : ℕ) (ps : List PassValue) (tag : ℕ) : Typ
   pub absent : tag_count bench tag ps ≡ 0
   pub lowest : (other : ℕ) → other < tag → 0 < tag_count bench other ps
 
--- the lowest tag whose calls are not the entries that the history has of it
-pub record IsMismatch (h : List Entry) (count : ℕ) (ps : List PassValue) (tag : ℕ) : Type 0 where
-  pub below : tag < count
+-- no tag is absent, and a pass is of another bench, has no tag of this one, or has the tag of another pass
+abbrev pub IsSurplus : ℕ → ℕ → List PassValue → Type 0
+IsSurplus bench count ps = AllThere bench count ps × ¬ AreAll bench count ps
+
+-- the lowest tag whose entries are not the calls of its pass
+pub record IsMismatch (h : List Entry) (ps : List PassValue) (tag : ℕ) : Type 0 where
+  pub below : tag < 64
   pub differs : ¬ TagStands h tag ps
   pub lowest : (other : ℕ) → other < tag → TagStands h other ps
 
--- these passes close what was held: they are all, and the calls of each stand in the history, in its order
-pub record Closes (bench : ℕ) (h : Held) (ps : List PassValue) : Type 0 where
-  pub all : AreAll bench h.passes ps
-  pub stand : All (StandsIn h.history) ps
+-- these passes close a history: they are all, the calls of each stand in it, in their order, and no other entry does
+pub record Closes (bench count : ℕ) (h : List Entry) (ps : List PassValue) : Type 0 where
+  pub all : AreAll bench count ps
+  pub stand : All (StandsIn h) ps
+  pub below : AllBelow count h
 
--- what closing answers: nothing where the passes close what was held; else the lowest tag that is absent, a pass too
+-- what closing answers: nothing where the passes close the history; else the lowest tag that is absent, a pass too
 -- many, or the lowest tag whose calls differ, in this order
-abbrev pub Answers : ℕ → Held → List PassValue → Option CloseFault → Type 0
-Answers bench h ps None = Closes bench h ps
-Answers bench h ps (Some (MissingPass tag)) = IsMissing bench h.passes ps tag
-Answers bench h ps (Some ForeignPass) = AllThere bench h.passes ps × ¬ AreAll bench h.passes ps
-Answers bench h ps (Some (Mismatch tag)) = AreAll bench h.passes ps × IsMismatch h.history h.passes ps tag
-Answers bench h ps (Some OutOfMemory) = ⊥
+abbrev pub Answers : ℕ → ℕ → List Entry → List PassValue → Option CloseFault → Type 0
+Answers bench count h ps None = Closes bench count h ps
+Answers bench count h ps (Some (MissingPass tag)) = IsMissing bench count ps tag
+Answers bench count h ps (Some ForeignPass) = IsSurplus bench count ps
+Answers bench count h ps (Some (Mismatch tag)) = AreAll bench count ps × IsMismatch h ps tag
+Answers bench count h ps (Some OutOfMemory) = ⊥
 
--- what is held has a legal history, and these passes don't close it for this reason
-pub record IsRefused (vfs fifo bench : ℕ) (ps : List PassValue) (fault : CloseFault) : Type 0 where
-  pub held : Held
-  pub legal : IsLegal (new_state vfs fifo) held.history
-  pub leads : leads_to (new_state vfs fifo) held.history ≡ held.device
-  pub answers : Answers bench held ps (Some fault)
+-- a shared device has a legal history, whose entries of this tag, and of none below, are not the calls of its pass
+pub record Differs (vfs fifo : ℕ) (ps : List PassValue) (tag : ℕ) : Type 0 where
+  pub history : List Entry
+  pub legal : IsLegal (new_state vfs fifo) history
+  pub differs : IsMismatch history ps tag

@@ -7,33 +7,30 @@ use Rattle.nic_device.specs.declared.event.Event.{Event}
 use Rattle.device_lock.specs.declared.entry.Entry.{Entry}
 use Rattle.device_lock.specs.History.{leads_to, IsLegal, AreEvents, AllBelow, entry_of}
 
--- a device with the history of its calls, how many passes there are, and how many entries the history may have
+-- a device with the history of its calls, and how many entries the history may have
 pub record Held : Type 0 where
   pub device : State
   pub history : List Entry
-  pub passes : ℕ
   pub limit : ℕ
 
--- how many entries of the history are of this pass
+-- how many entries of the history have this tag
 abbrev pub entries_of : ℕ → List Entry → ℕ
 entries_of tag h = count_by (λ (e : Entry). e.pass == tag) h
 
 -- the history is legal from a new device and leads to the one held, its events are such as a driver can make, its tags
--- are those of the passes, it is no longer than the limit, and each pass has as many entries as its count says
+-- are below 64, it is no longer than the limit, and each tag has as many entries as its count says
 pub record IsKept (vfs fifo : ℕ) (h : Held) (counts : List ℕ) : Type 0 where
   pub legal : IsLegal (new_state vfs fifo) h.history
   pub leads : leads_to (new_state vfs fifo) h.history ≡ h.device
   pub events : AreEvents h.history
-  pub below : AllBelow h.passes h.history
+  pub below : AllBelow 64 h.history
   pub within : length h.history ≤ h.limit
   pub small : h.limit ≤ 1000000
-  pub each : length counts ≡ h.passes
-  pub counted : (tag : ℕ) → tag < h.passes → slice_index counts tag ≡ entries_of tag h.history
+  pub counted : (tag : ℕ) → tag < 64 → slice_index counts tag ≡ entries_of tag h.history
 
 -- nothing was called yet
-abbrev pub opened : ℕ → ℕ → ℕ → ℕ → Held
-opened vfs fifo passes limit =
-    record { device = new_state vfs fifo; history = []; passes = passes; limit = limit }
+abbrev pub opened : ℕ → ℕ → ℕ → Held
+opened vfs fifo limit = record { device = new_state vfs fifo; history = []; limit = limit }
 
 -- after one call: the device is where the event leads, and the history has its entry
 abbrev pub after_call : Held → ℕ → Event Block → Held

@@ -1,4 +1,5 @@
 pub mod Alone
+pub mod Calling
 pub mod Closing
 pub mod Fault
 pub mod History

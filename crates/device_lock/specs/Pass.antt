@@ -1,5 +1,5 @@
--- What a caller knows of its own calls.
-use Rattle.std.specs.Prelude.{◌≡◌, ℕ, ◌+◌, ⊤, List, [], ◌∷◌, ◌++◌}
+-- What a caller knows of a shared device and of its own calls.
+use Rattle.std.specs.Prelude.{◌≡◌, ℕ, ◌+◌, ◌<◌, ⊤, List, [], ◌∷◌, ◌++◌}
 use Rattle.nic_device.specs.DmaArena.Block.{Block}
 use Rattle.nic_device.specs.declared.event.Event.{Event}
 use Rattle.nic_device.specs.declared.event.Reply.{Reply}
@@ -13,6 +13,15 @@ pub record PassValue : Type 0 where
 
 abbrev pub call_of : Event Block → Reply Block → Call
 call_of event reply = record { event = event; reply = reply }
+
+-- a shared device: the number of its bench, and how many passes it has
+pub record SharedValue : Type 0 where
+  pub bench : ℕ
+  pub passes : ℕ
+
+-- the pass is one of the bench of this number, which has so many
+abbrev pub IsOwn : ℕ → ℕ → PassValue → Type 0
+IsOwn bench count p = (p.bench ≡ bench) × (p.tag < count)
 
 -- a pass that made no call
 abbrev pub fresh_pass : ℕ → ℕ → PassValue

@@ -1,7 +1,7 @@
-ghost use Rattle.std.specs.Prelude.{◌≡◌, ◌↔◌, IsTrue, IfOk, IfErr};
+ghost use Rattle.std.specs.Prelude.{◌≡◌, ◌≢◌, ◌≤◌, ◌↔◌, ℕ, IsTrue, IsErrAnd, IfOk, IfErr};
 ghost use Rattle.nic_device.specs.State.{new_state};
 ghost use Rattle.device_lock.specs.Alone.{LeavesAlone};
-ghost use Rattle.device_lock.specs.Closing.{Answers, Closes, IsRefused};
+ghost use Rattle.device_lock.specs.Closing.{Answers, AreAll, Closes, Differs, IsMissing, IsSurplus};
 ghost use Rattle.device_lock.specs.History.{leads_to, IsLegal, AreEvents, AllBelow};
 ghost use Rattle.device_lock.specs.Positions.{positions_of};
 
@@ -21,18 +21,22 @@ use std::sync::Mutex;
 /// A device that was shared, with the history of its calls. It can't be dropped: the device is taken out in the end.
 pub struct Closed<const VFS: u8, const FIFO: u16> {
     locked: Locked<VFS, FIFO>,
+    passes: u8,
 }
 
 impl<const VFS: u8, const FIFO: u16> Model for Closed<VFS, FIFO> {
     ghost use Rattle.std.specs.Coded.{codes};
     ghost use Rattle.nic_device.specs.State.{state_code};
-    ghost use Rattle.device_lock.specs.Kept.{Held};
+    ghost use Rattle.device_lock.specs.Closing.{ClosedValue};
+    ghost use Rattle.device_lock.specs.History.{AllBelow};
 
-    ghost Value = { Held };
+    ghost Value = { ClosedValue };
 
     ghost coded = { Prim.hlevel (codes, state_code) };
 
-    ghost view = { λ c. c.locked };
+    ghost view = { λ c. record { device = c.locked.device; history = c.locked.history; passes = c.passes } };
+
+    ghost invariant = { λ c. AllBelow c.passes c.locked.history };
 }
 
 impl<const VFS: u8, const FIFO: u16> Closed<VFS, FIFO> {
@@ -72,29 +76,30 @@ impl<const VFS: u8, const FIFO: u16> Closed<VFS, FIFO> {
     pub fn into_device(self) -> Device
         ensures { result ≡ self.entry.device }
     {
-        let Closed { locked } = self;
+        let Closed { locked, passes: _ } = self;
         locked.into_device()
     }
 }
 
 impl<const VFS: u8, const FIFO: u16> Locked<VFS, FIFO> {
-    /// Why these passes don't close the history. None where they do.
+    /// Why these passes don't close the history, of a bench of this number that has so many passes, at most 64. None
+    /// where they do.
     ///
     /// `MissingPass` where a tag is absent, `ForeignPass` where a pass is of another bench, has no tag of this one or
-    /// comes twice, and `Mismatch` where the calls of a pass aren't the entries with its tag, in this order.
-    pub fn refusal(&self, bench: u64, passes: &[Pass]) -> Option<CloseFault>
-        ensures answers { Answers bench self.now passes.now result }
+    /// comes twice, and `Mismatch` where the entries with a tag aren't the calls of its pass, in their order.
+    pub fn refusal(&self, bench: u64, count: u8, passes: &[Pass]) -> Option<CloseFault>
+        requires { count ≤ 64 }
+        ensures answers { Answers bench count self.now.history passes.now result }
         ensures legal { IsLegal (new_state VFS FIFO) self.now.history }
-        ensures leads { leads_to (new_state VFS FIFO) self.now.history ≡ self.now.device }
     {
         let history = self.history();
-        if let Some(tag) = lowest_missing(bench, self.passes(), passes) {
+        if let Some(tag) = lowest_missing(bench, count, passes) {
             return Some(CloseFault::MissingPass(tag));
         }
-        if !are_all(bench, self.passes(), passes) {
+        if !are_all(bench, count, passes) {
             return Some(CloseFault::ForeignPass);
         }
-        if let Some(tag) = lowest_mismatch(history, self.passes(), passes) {
+        if let Some(tag) = lowest_mismatch(history, self.counts(), passes) {
             return Some(CloseFault::Mismatch(tag));
         }
         None
@@ -104,22 +109,40 @@ impl<const VFS: u8, const FIFO: u16> Locked<VFS, FIFO> {
 impl<const VFS: u8, const FIFO: u16> Shared<VFS, FIFO> {
     /// Closes a shared device with its passes. It waits for nobody.
     ///
-    /// It stays open for the reason that `Locked::refusal` gives, and the passes come back.
+    /// `MissingPass` exactly where no pass of this bench has a tag, with the lowest, and `ForeignPass` exactly where
+    /// none is absent and a pass is of another bench, has no tag of this one or comes twice. Else `Mismatch` where the
+    /// entries with a tag aren't the calls of its pass, with the lowest. Each hands shared device and passes back.
     pub fn close(self, passes: Vec<Pass>) -> Result<Closed<VFS, FIFO>, CloseRefused<VFS, FIFO>>
-        ensures closed { IfOk result (λ closed. Closes self.entry.bench closed passes.items) }
-        ensures refused { IfErr result (λ refused. IsRefused VFS FIFO self.entry.bench passes.items refused.fault) }
+        ensures closed { IfOk result
+            (λ closed. Closes self.entry.bench self.entry.passes closed.history passes.items) }
+        ensures count { IfOk result (λ closed. closed.passes ≡ self.entry.passes) }
+        ensures missing { (tag : ℕ) → IsErrAnd result (λ refused. refused.fault ≡ CloseFault.MissingPass tag)
+            ↔ IsMissing self.entry.bench self.entry.passes passes.items tag }
+        ensures foreign { IsErrAnd result (λ refused. refused.fault ≡ CloseFault.ForeignPass)
+            ↔ IsSurplus self.entry.bench self.entry.passes passes.items }
+        ensures mismatch { (tag : ℕ) → IsErrAnd result (λ refused. refused.fault ≡ CloseFault.Mismatch tag)
+            → AreAll self.entry.bench self.entry.passes passes.items × Differs VFS FIFO passes.items tag }
+        ensures memory { IfErr result (λ refused. refused.fault ≢ CloseFault.OutOfMemory) }
+        ensures shared { IfErr result (λ refused. refused.shared ≡ self.entry) }
         ensures passes { IfErr result (λ refused. refused.passes.items ≡ passes.items) }
-        ensures bench { IfErr result (λ refused. refused.shared.bench ≡ self.entry.bench) }
     {
-        let Shared { lock, bench } = self;
+        let Shared {
+            lock,
+            bench,
+            passes: count,
+        } = self;
         let locked = lock.into_inner();
-        match locked.refusal(bench, passes.as_slice()) {
-            None => Ok(Closed { locked }),
+        match locked.refusal(bench, count, passes.as_slice()) {
+            None => Ok(Closed {
+                locked,
+                passes: count,
+            }),
             Some(fault) => Err(CloseRefused {
                 fault,
                 shared: Shared {
                     lock: Mutex::new(locked),
                     bench,
+                    passes: count,
                 },
                 passes,
             }),

@@ -1,11 +1,15 @@
 //! Passes that come back, against the history.
 
-ghost use Rattle.std.specs.Prelude.{◌≡◌, ◌<◌, ◌↔◌, ℕ, IsTrue, IfSome, IfNone, All};
-ghost use Rattle.device_lock.specs.Closing.{tag_count, IsOwn, AllThere, AreAll, StandsIn, TagStands, IsMissing, IsMismatch};
+ghost use Rattle.std.specs.Prelude.{◌≡◌, ◌≢◌, ◌<◌, ◌↔◌, ℕ, IsTrue, IfSome, IfNone, All, slice_index};
+ghost use Rattle.device_lock.specs.Closing.{tag_count, AllThere, AreAll, StandsIn, TagStands, IsMissing, IsMismatch};
 ghost use Rattle.device_lock.specs.History.{calls_of};
+ghost use Rattle.device_lock.specs.Kept.{entries_of};
+ghost use Rattle.device_lock.specs.Pass.{IsOwn};
 
 use crate::entry::{Call, Entry};
+use crate::locked::Counts;
 use crate::pass::Pass;
+use crate::shared::MAX_PASSES;
 
 /// Whether the calls are the entries with this tag, in their order.
 pub(crate) fn stands(history: &[Entry], tag: u8, calls: &[Call]) -> bool
@@ -23,9 +27,24 @@ pub(crate) fn stands(history: &[Entry], tag: u8, calls: &[Call]) -> bool
     next == calls.len()
 }
 
-/// Whether the passes of a tag have the calls that the history has of it.
-fn tag_stands(history: &[Entry], tag: u8, passes: &[Pass]) -> bool
+/// Whether the passes of a tag have the calls that the history has of it, and there is one where it has any.
+fn tag_stands(history: &[Entry], count: u32, tag: u8, passes: &[Pass]) -> bool
+    requires { count ≡ entries_of tag history.now }
     ensures { IsTrue result ↔ TagStands history.now tag passes.now }
+{
+    own_stand(history, tag, passes) && (count == 0 || !is_unused(tag, passes))
+}
+
+/// Whether no pass has this tag.
+fn is_unused(tag: u8, passes: &[Pass]) -> bool
+    ensures { IsTrue result ↔ All (λ p. p.tag ≢ tag) passes.now }
+{
+    passes.iter().all(|pass| pass.tag() != tag)
+}
+
+/// Whether the passes of a tag have the calls that the history has of it.
+fn own_stand(history: &[Entry], tag: u8, passes: &[Pass]) -> bool
+    ensures { IsTrue result ↔ All (λ p. p.tag ≡ tag → StandsIn history.now p) passes.now }
 {
     passes.iter().all(|pass| stands_as(history, tag, pass))
 }
@@ -88,13 +107,14 @@ fn is_each_once(bench: u64, count: u8, passes: &[Pass]) -> bool
     true
 }
 
-/// The lowest tag whose calls are not the entries that the history has of it.
-pub(crate) fn lowest_mismatch(history: &[Entry], count: u8, passes: &[Pass]) -> Option<u8>
-    ensures some { IfSome result (λ tag. IsMismatch history.now count passes.now tag) }
-    ensures none { IfNone result ((tag : ℕ) → tag < count → TagStands history.now tag passes.now) }
+/// The lowest tag whose entries are not the calls of its pass, where it is known how many entries each tag has.
+pub(crate) fn lowest_mismatch(history: &[Entry], counts: &Counts, passes: &[Pass]) -> Option<u8>
+    requires { (tag : ℕ) → tag < 64 → slice_index counts.now tag ≡ entries_of tag history.now }
+    ensures some { IfSome result (λ tag. IsMismatch history.now passes.now tag) }
+    ensures none { IfNone result ((tag : ℕ) → tag < 64 → TagStands history.now tag passes.now) }
 {
-    for tag in 0..count {
-        if !tag_stands(history, tag, passes) {
+    for tag in 0..MAX_PASSES {
+        if !tag_stands(history, counts[usize::from(tag)], tag, passes) {
             return Some(tag);
         }
     }

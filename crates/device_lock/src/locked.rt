@@ -1,4 +1,4 @@
-ghost use Rattle.std.specs.Prelude.{◌≡◌, ◌≤◌, ◌<◌, ◌↔◌, ◌⊎◌, true, Err, Some, IfOk, IfErr, OnOk, OnErr, IfNone, length, slice_index, slice_set, replicate, ◌+◌};
+ghost use Rattle.std.specs.Prelude.{◌≡◌, ℕ, ◌≤◌, ◌<◌, ◌↔◌, ◌⊎◌, true, Err, IfOk, OnOk, OnErr, length, slice_index, slice_set, replicate, ◌+◌};
 ghost use Rattle.nic_device.specs.Answering.{may_answer};
 ghost use Rattle.nic_device.specs.State.{new_state};
 ghost use Rattle.nic_device.specs.Step.{step_of};
@@ -8,9 +8,13 @@ ghost use Rattle.device_lock.specs.Kept.{opened, after_call, entries_of};
 
 use crate::entry::Entry;
 use crate::fault::CallFault;
+use crate::shared::MAX_PASSES;
 use nic_device::{Config, Device, Event, OutOfMemory, Reply};
 use std::alloc::{AllocError, Global};
 use std::marker::Model;
+
+/// For each tag that a pass can have, how many entries have it.
+pub(crate) type Counts = [u32; MAX_PASSES as usize];
 
 /// What lies under the lock: the device, and the history of its calls.
 ///
@@ -19,8 +23,7 @@ use std::marker::Model;
 pub struct Locked<const VFS: u8, const FIFO: u16> {
     device: Device,
     history: Vec<Entry>,
-    counts: Vec<u32>,
-    passes: u8,
+    counts: Counts,
     limit: u32,
 }
 
@@ -33,20 +36,20 @@ impl<const VFS: u8, const FIFO: u16> Model for Locked<VFS, FIFO> {
 
     ghost coded = { Prim.hlevel (codes, state_code) };
 
-    ghost view = { λ l. record { device = l.device; history = l.history.items; passes = l.passes; limit = l.limit } };
+    ghost view = { λ l. record { device = l.device; history = l.history.items; limit = l.limit } };
 
     ghost invariant = { λ l. IsKept VFS FIFO
-        (record { device = l.device; history = l.history.items; passes = l.passes; limit = l.limit }) l.counts.items };
+        (record { device = l.device; history = l.history.items; limit = l.limit }) l.counts };
 }
 
 impl<const VFS: u8, const FIFO: u16> Locked<VFS, FIFO> {
-    /// A new device with no history, for so many passes and entries.
-    pub(crate) fn new(alloc: Global, passes: u8, limit: u32) -> Result<Self, AllocError>
+    /// A new device with no history, which may have so many entries.
+    pub(crate) fn new(alloc: Global, limit: u32) -> Result<Self, AllocError>
         requires device { (VFS ≤ 63) × (0 < FIFO) × (FIFO ≤ 4096) }
         requires limit { limit ≤ 1000000 }
-        ensures { IfOk result (λ locked. locked ≡ opened VFS FIFO passes limit) }
+        ensures { IfOk result (λ locked. locked ≡ opened VFS FIFO limit) }
     {
-        let counts = no_entries(alloc, passes)?;
+        let counts = no_entries();
         let config = Config {
             vfs: VFS,
             fifo: FIFO,
@@ -58,16 +61,8 @@ impl<const VFS: u8, const FIFO: u16> Locked<VFS, FIFO> {
             device,
             history: Vec::new(alloc),
             counts,
-            passes,
             limit,
         })
-    }
-
-    /// How many passes there are: each tag is below this.
-    pub fn passes(&self) -> u8
-        ensures { result ≡ self.now.passes }
-    {
-        self.passes
     }
 
     /// How many entries the history may have.
@@ -77,40 +72,49 @@ impl<const VFS: u8, const FIFO: u16> Locked<VFS, FIFO> {
         self.limit
     }
 
-    /// The calls so far, the oldest first. They are legal from a new device, lead to the device held, and are all of a
-    /// pass, and their events are such as a driver can make.
+    /// The calls so far, the oldest first. They are legal from a new device and lead to the device held, their events
+    /// are such as a driver can make, and their tags are below 64.
     pub fn history(&self) -> &[Entry]
         ensures entries { result.now ≡ self.now.history }
         ensures legal { IsLegal (new_state VFS FIFO) self.now.history }
         ensures leads { leads_to (new_state VFS FIFO) self.now.history ≡ self.now.device }
         ensures events { AreEvents self.now.history }
-        ensures below { AllBelow self.now.passes self.now.history }
+        ensures below { AllBelow 64 self.now.history }
         ensures within { length self.now.history ≤ self.now.limit }
     {
         self.history.as_slice()
     }
 
-    /// How many entries are of the pass of this tag, which is below the number of passes.
+    /// How many entries have this tag, which is below 64.
     pub fn entries_of(&self, tag: u8) -> u32
-        requires { tag < self.now.passes }
+        requires { tag < 64 }
         ensures { result ≡ entries_of tag self.now.history }
     {
         self.counts[usize::from(tag)]
     }
 
-    /// The device, to look at.
+    /// For each tag below 64, how many entries have it.
+    pub(crate) fn counts(&self) -> &Counts
+        ensures { (tag : ℕ) → tag < 64 → slice_index result.now tag ≡ entries_of tag self.now.history }
+    {
+        &self.counts
+    }
+
+    /// The device, to look at. It is where the history leads.
     pub(crate) fn device(&self) -> &Device
-        ensures { result.now ≡ self.now.device }
+        ensures value { result.now ≡ self.now.device }
+        ensures legal { IsLegal (new_state VFS FIFO) self.now.history }
+        ensures leads { leads_to (new_state VFS FIFO) self.now.history ≡ self.now.device }
     {
         &self.device
     }
 
-    /// Makes one event for the pass of this tag, which is below the number of passes, and appends its entry.
+    /// Makes one event for the pass of this tag, which is below 64, and appends its entry.
     ///
     /// `HistoryFull` exactly where the history has as many entries as it may, else `OutOfMemory`. Both hand the event
     /// back, and change nothing.
     pub fn step(&mut self, alloc: Global, tag: u8, event: Event) -> Result<Reply, CallFault>
-        requires { tag < self.old.passes }
+        requires { tag < 64 }
         ensures reply { IfOk result (λ reply. reply ≡ (step_of self.old.device event).reply) }
         ensures made { OnOk result (self.new ≡ after_call self.old tag event) }
         ensures fits { IfOk result (λ reply. may_answer event reply ≡ true) }
@@ -149,25 +153,24 @@ impl<const VFS: u8, const FIFO: u16> Locked<VFS, FIFO> {
             device,
             history: _,
             counts: _,
-            passes: _,
             limit: _,
         } = self;
         device
     }
 }
 
-/// For each pass no entry.
-fn no_entries(alloc: Global, passes: u8) -> Result<Vec<u32>, AllocError>
-    ensures { IfOk result (λ counts. counts.items ≡ replicate passes 0) }
+/// For each tag no entry.
+fn no_entries() -> Counts
+    ensures { result ≡ replicate 64 0 }
 {
-    vec![in alloc; 0; usize::from(passes)]
+    [0; MAX_PASSES as usize]
 }
 
-/// One entry more of a pass.
-fn count_one(counts: &mut Vec<u32>, tag: u8)
-    requires pass { tag < length counts.old.items }
-    requires few { slice_index counts.old.items tag < 1000000 }
-    ensures { counts.new.items ≡ slice_set counts.old.items tag (slice_index counts.old.items tag + 1) }
+/// One entry more of a tag.
+fn count_one(counts: &mut Counts, tag: u8)
+    requires tag { tag < 64 }
+    requires few { slice_index counts.old tag < 1000000 }
+    ensures { counts.new ≡ slice_set counts.old tag (slice_index counts.old tag + 1) }
 {
     let at = usize::from(tag);
     let count = counts[at];

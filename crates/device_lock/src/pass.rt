@@ -1,7 +1,9 @@
-ghost use Rattle.std.specs.Prelude.{◌≡◌, ◌≤◌, ◌↔◌, true, Err, IfOk, IfErr, OnOk, OnErr, length};
+ghost use Rattle.std.specs.Prelude.{◌≡◌, ◌≢◌, ◌<◌, true, Err, IfOk, IfErr, OnOk, OnErr, length};
 ghost use Rattle.nic_device.specs.Answering.{may_answer};
+ghost use Rattle.nic_device.specs.State.{new_state};
 ghost use Rattle.nic_device.specs.Step.{step_of};
 ghost use Rattle.device_lock.specs.Fault.{event_of};
+ghost use Rattle.device_lock.specs.History.{leads_to, IsLegal};
 ghost use Rattle.device_lock.specs.Kept.{after_call};
 ghost use Rattle.device_lock.specs.Pass.{fresh_pass, with_call};
 
@@ -65,27 +67,27 @@ impl Pass {
 impl Pass {
     /// Makes one event under the lock, and keeps its call here.
     ///
-    /// `ForeignPass` exactly where the tag is none of the lock's, `HistoryFull` exactly where the history has as many
-    /// entries as it may, and `OutOfMemory`. Each hands the event back, and changes nothing.
+    /// `HistoryFull` only where the history has as many entries as it may, else `OutOfMemory`. Both hand the event back,
+    /// and change nothing.
     pub(crate) fn call<const VFS: u8, const FIFO: u16>(
         &mut self,
         alloc: Global,
         locked: &mut Locked<VFS, FIFO>,
         event: Event,
     ) -> Result<Reply, CallFault>
+        requires { self.old.tag < 64 }
+        ensures legal { IsLegal (new_state VFS FIFO) locked.old.history }
+        ensures leads { leads_to (new_state VFS FIFO) locked.old.history ≡ locked.old.device }
         ensures reply { IfOk result (λ reply. reply ≡ (step_of locked.old.device event).reply) }
         ensures fits { IfOk result (λ reply. may_answer event reply ≡ true) }
         ensures made { OnOk result (locked.new ≡ after_call locked.old self.old.tag event) }
         ensures noted { IfOk result (λ reply. self.new ≡ with_call self.old event reply) }
-        ensures foreign { (result ≡ Err (CallFault.ForeignPass event)) ↔ (locked.old.passes ≤ self.old.tag) }
+        ensures own { result ≢ Err (CallFault.ForeignPass event) }
         ensures full { result ≡ Err (CallFault.HistoryFull event)
             → length locked.old.history ≡ locked.old.limit }
         ensures back { IfErr result (λ fault. event_of fault ≡ event) }
         ensures unchanged { OnErr result ((locked.new ≡ locked.old) × (self.new ≡ self.old)) }
     {
-        if self.tag >= locked.passes() {
-            return Err(CallFault::ForeignPass(event));
-        }
         let Ok((note, room)) = locked.device().ready_notes(alloc, &mut self.calls, &event) else {
             return Err(CallFault::OutOfMemory(event));
         };

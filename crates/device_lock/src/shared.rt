@@ -1,13 +1,15 @@
-ghost use Rattle.std.specs.Prelude.{◌≡◌, ◌≢◌, ◌≤◌, ◌<◌, ◌↔◌, ◌⊎◌, true, Err, IfOk, IfErr, OnErr, vec_len};
+ghost use Rattle.std.specs.Prelude.{◌≡◌, ◌≤◌, ◌<◌, ◌↔◌, ◌⊎◌, true, Err, IfOk, IfErr, OnErr, vec_len};
 ghost use Rattle.nic_device.specs.Answering.{may_answer};
+ghost use Rattle.device_lock.specs.Calling.{IsAnswered, IsFull};
 ghost use Rattle.device_lock.specs.Fault.{event_of};
-ghost use Rattle.device_lock.specs.Pass.{AreFresh, with_call};
+ghost use Rattle.device_lock.specs.Pass.{AreFresh, IsOwn, with_call};
 
 use crate::fault::{CallFault, CloseFault, NewFault};
 use crate::locked::Locked;
 use crate::pass::Pass;
 use nic_device::{Event, Reply};
 use std::alloc::{AllocError, Global};
+use std::marker::Model;
 use std::sync::{Mutex, Wait};
 
 /// How many passes a shared device can have.
@@ -16,11 +18,23 @@ pub const MAX_PASSES: u8 = 64;
 /// How many entries a history can have.
 pub const MAX_LIMIT: u32 = 1_000_000;
 
-/// A device that threads share, known by the number of its bench. It has `VFS` virtual functions, at most 63, and its
+/// A device that threads share, known by the number of its bench and of its passes. It has `VFS` virtual functions, at most 63, and its
 /// receive list takes `FIFO` frames, from 1 to 4,096. It can't be dropped: it is closed in the end.
 pub struct Shared<const VFS: u8, const FIFO: u16> {
     pub(crate) lock: Mutex<Locked<VFS, FIFO>>,
     pub(crate) bench: u64,
+    pub(crate) passes: u8,
+}
+
+impl<const VFS: u8, const FIFO: u16> Model for Shared<VFS, FIFO> {
+    ghost use Rattle.std.specs.Prelude.{◌<◌, ◌≤◌};
+    ghost use Rattle.device_lock.specs.Pass.{SharedValue};
+
+    ghost Value = { SharedValue };
+
+    ghost view = { λ s. record { bench = s.bench; passes = s.passes } };
+
+    ghost invariant = { λ s. (0 < s.passes) × (s.passes ≤ 64) };
 }
 
 /// A shared device that stays open: why, and what was passed.
@@ -45,7 +59,7 @@ impl<const VFS: u8, const FIFO: u16> Shared<VFS, FIFO> {
         limit: u32,
     ) -> Result<(Self, Vec<Pass>), NewFault>
         requires device { (VFS ≤ 63) × (0 < FIFO) × (FIFO ≤ 4096) }
-        ensures shared { IfOk result (λ r. r.0.bench ≡ bench) }
+        ensures shared { IfOk result (λ r. r.0 ≡ record { bench = bench; passes = passes }) }
         ensures count { IfOk result (λ r. vec_len r.1 ≡ passes) }
         ensures fresh { IfOk result (λ r. AreFresh bench 0 r.1.items) }
         ensures passes { (result ≡ Err NewFault.Passes) ↔ ((passes ≡ 0) ⊎ (64 < passes)) }
@@ -61,11 +75,12 @@ impl<const VFS: u8, const FIFO: u16> Shared<VFS, FIFO> {
         let Ok(all) = fresh_passes(alloc, bench, passes) else {
             return Err(NewFault::OutOfMemory);
         };
-        match Locked::new(alloc, passes, limit) {
+        match Locked::new(alloc, limit) {
             Ok(locked) => Ok((
                 Shared {
                     lock: Mutex::new(locked),
                     bench,
+                    passes,
                 },
                 all,
             )),
@@ -80,10 +95,19 @@ impl<const VFS: u8, const FIFO: u16> Shared<VFS, FIFO> {
         self.bench
     }
 
+    /// How many passes there are: each tag is below this.
+    pub fn passes(&self) -> u8
+        ensures number { result ≡ self.now.passes }
+        ensures range { (0 < result) × (result ≤ 64) }
+    {
+        self.passes
+    }
+
     /// Makes one event on the device, and keeps the call in the pass. It waits for the lock.
     ///
-    /// `ForeignPass` where the pass is of another bench or has no tag of this one, `HistoryFull` where the history has
-    /// as many entries as it may, and `OutOfMemory`. Each hands the event back, and changes nothing.
+    /// `ForeignPass` exactly where the pass is of another bench or has no tag of this one: this takes no lock.
+    /// `HistoryFull` only where the history has as many entries as it may, else `OutOfMemory`. Each hands the event back,
+    /// and changes nothing.
     pub fn call<R: Wait>(
         &self,
         rt: &R,
@@ -92,12 +116,15 @@ impl<const VFS: u8, const FIFO: u16> Shared<VFS, FIFO> {
         event: Event,
     ) -> Result<Reply, CallFault>
         ensures noted { IfOk result (λ reply. pass.new ≡ with_call pass.old event reply) }
+        ensures answered { IfOk result (λ reply. IsAnswered VFS FIFO event reply) }
         ensures fits { IfOk result (λ reply. may_answer event reply ≡ true) }
-        ensures foreign { pass.old.bench ≢ self.now.bench → result ≡ Err (CallFault.ForeignPass event) }
+        ensures foreign { (result ≡ Err (CallFault.ForeignPass event))
+            ↔ ¬ IsOwn self.now.bench self.now.passes pass.old }
+        ensures full { result ≡ Err (CallFault.HistoryFull event) → IsFull VFS FIFO }
         ensures back { IfErr result (λ fault. event_of fault ≡ event) }
         ensures unchanged { OnErr result (pass.new ≡ pass.old) }
     {
-        if pass.bench() != self.bench {
+        if pass.bench() != self.bench || pass.tag() >= self.passes {
             return Err(CallFault::ForeignPass(event));
         }
         let mut locked = self.lock.lock(rt);

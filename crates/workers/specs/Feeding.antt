@@ -38,7 +38,7 @@ IsFed frames (Some refusal) old new =
 abbrev pub AreFed : List (List ℕ) → PassValue → PassValue → Type 0
 AreFed frames old new = (count : ℕ) × HaveArrived (take count frames) old new
 
--- the first frame, where there is one, was refused by a pass of another bench
+-- the first frame, where there is one, was refused as one by a foreign pass
 abbrev pub IsTurnedAway : {T : Type 0} → List T → Option (CallFault (Unit {0})) → Type 0
 IsTurnedAway [] refused = refused ≡ None
 IsTurnedAway (frame ∷ frames) refused = refused ≡ Some (ForeignPass tt)

@@ -1,7 +1,8 @@
 //! Frames that arrive while workers run.
 
-ghost use Rattle.std.specs.Prelude.{◌≡◌, ◌≢◌, true, ◌∷◌, [], OnOk, OnErr, map};
+ghost use Rattle.std.specs.Prelude.{◌≡◌, ◌≢◌, ◌↔◌, true, ◌∷◌, [], Some, Err, OnOk, OnErr, map};
 ghost use Rattle.nic_device.specs.Answering.{may_arrive};
+ghost use Rattle.device_lock.specs.Pass.{IsOwn};
 ghost use Rattle.workers.specs.Feeding.{IsFed, HaveArrived, is_done, done_in, gained, IsTurnedAway};
 
 use device_lock::{Call, CallFault, Pass, Shared};
@@ -18,7 +19,8 @@ pub struct Fed {
     pub refused: Option<CallFault<()>>,
 }
 
-/// Has frames arrive by a pass, in order, up to the first call that is refused.
+/// Has frames arrive by a pass, in order, up to the first call that is refused. Where the pass is foreign to the shared
+/// device, that is the first, and none arrives.
 pub fn feed<R: Wait, const VFS: u8, const FIFO: u16>(
     rt: &R,
     alloc: Global,
@@ -28,7 +30,10 @@ pub fn feed<R: Wait, const VFS: u8, const FIFO: u16>(
 ) -> Fed
     ensures fed { IsFed (map (λ frame. frame.items) frames.items) result.refused pass.old pass.new }
     ensures count { result.done ≡ done_in (gained pass.old pass.new) }
-    ensures foreign { pass.old.bench ≢ shared.now.bench → IsTurnedAway frames.items result.refused }
+    ensures foreign { ¬ IsOwn shared.now.bench shared.now.passes pass.old
+        → IsTurnedAway frames.items result.refused × (pass.new ≡ pass.old) }
+    ensures own { IsOwn shared.now.bench shared.now.passes pass.old
+        → result.refused ≢ Some (CallFault.ForeignPass tt) }
 {
     let before = pass.calls().len();
     let refused = arrive_all(rt, alloc, shared, pass, frames);
@@ -62,7 +67,9 @@ fn arrive_all<R: Wait, const VFS: u8, const FIFO: u16>(
     frames: Vec<Vec<u8>>,
 ) -> Option<CallFault<()>>
     ensures fed { IsFed (map (λ frame. frame.items) frames.items) result pass.old pass.new }
-    ensures foreign { pass.old.bench ≢ shared.now.bench → IsTurnedAway frames.items result }
+    ensures foreign { ¬ IsOwn shared.now.bench shared.now.passes pass.old
+        → IsTurnedAway frames.items result × (pass.new ≡ pass.old) }
+    ensures own { IsOwn shared.now.bench shared.now.passes pass.old → result ≢ Some (CallFault.ForeignPass tt) }
 {
     for frame in frames {
         match arrive(rt, alloc, shared, pass, frame) {
@@ -83,7 +90,8 @@ fn arrive<R: Wait, const VFS: u8, const FIFO: u16>(
 ) -> Result<(), CallFault<()>>
     ensures arrived { OnOk result (HaveArrived (frame.items ∷ []) pass.old pass.new) }
     ensures refused { OnErr result (pass.new ≡ pass.old) }
-    ensures foreign { pass.old.bench ≢ shared.now.bench → result ≡ Err (CallFault.ForeignPass tt) }
+    ensures foreign { (result ≡ Err (CallFault.ForeignPass tt))
+        ↔ ¬ IsOwn shared.now.bench shared.now.passes pass.old }
 {
     match shared.call(rt, alloc, pass, Event::Arrive(Octets::of(frame))) {
         Ok(reply) => {

@@ -1,5 +1,6 @@
-use Rattle.std.proofs.Common.{◌≡◌, ◌≢◌, List, [], ◌++◌, ℕ, map}
+use Rattle.std.proofs.Common.{◌≡◌, List, [], ◌++◌, ℕ, map}
 use Rattle.std.specs.Vec.Iter.{into_iter_items}
+use Rattle.device_lock.specs.Pass.{IsOwn}
 use Rattle.workers.specs.Feeding.{HaveArrived}
 use Rattle.workers.proofs.feeding.arrive_all.Given as goal
 
@@ -9,4 +10,4 @@ invariant-loop-frame g l =
     × (before ++ map (λ frame. frame.items) (into_iter_items l.frame-iterator)
     ≡ map (λ frame. frame.items) l.fn.frames.items)
     × HaveArrived before l.fn.pass l.pass
-    × (l.fn.pass.bench ≢ l.fn.shared.bench → before ≡ [])
+    × (¬ IsOwn l.fn.shared.bench l.fn.shared.passes l.fn.pass → (before ≡ []) × (l.pass ≡ l.fn.pass))

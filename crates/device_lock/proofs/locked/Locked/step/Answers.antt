@@ -1,30 +1,26 @@
-use Rattle.std.proofs.Common.{arith, ◌<◌, length, ap, refl}
-use Rattle.device_lock.specs.Kept.{Held}
+use Rattle.std.proofs.Common.{arith, ◌<◌, length, refl}
 use Rattle.device_lock.proofs.Histories.{kept_more, count_few}
 use Rattle.device_lock.proofs.locked.Locked.step.Goals as goal
 
 pub count_one-requires : goal.count_one-requires
 count_one-requires g c =
-    let k = c.self.invariant in
-    let lt : c.args.tag < c.self.inside.passes = rw (ap (λ (h : Held). h.passes) c.self.view_is) c.requires in
     let room : length c.self.inside.history.items < c.self.inside.limit = omega arith in
-    let few = count_few g.row.VFS g.row.FIFO _ c.self.inside.counts.items c.args.tag k lt room in
-    record { pass = omega (arith, k.each, lt); few = few }
+    record {
+      tag = c.requires;
+      few = count_few g.row.VFS g.row.FIFO _ c.self.inside.counts c.args.tag c.self.invariant c.requires room;
+    }
 
 pub invariant_of-self-in-Ok-step : goal.invariant_of-self-in-Ok-step
 invariant_of-self-in-Ok-step g c =
-    let k = c.self.invariant in
-    let lt : c.args.tag < c.self.inside.passes = rw (ap (λ (h : Held). h.passes) c.self.view_is) c.requires in
     let room : length c.self.inside.history.items < c.self.inside.limit = omega arith in
     kept_more g.row.VFS g.row.FIFO
     (record {
       device = c.self.inside.device;
       history = c.self.inside.history.items;
-      passes = c.self.inside.passes;
       limit = c.self.inside.limit;
     })
-    c.self.inside.counts.items c.args.tag c.args.event c.in-Ok.note c.in-Ok-step.reply c.note_in-told.result
-    c.step.new.self c.push_reserved.new.self.items c.count_one.new.counts.items k lt room
+    c.self.inside.counts c.args.tag c.args.event c.in-Ok.note c.in-Ok-step.reply c.note_in-told.result
+    c.step.new.self c.push_reserved.new.self.items c.count_one.new.counts c.self.invariant (omega arith) c.requires room
     c.is_of_a_driver.ensures c.in-Ok.ensures.note c.note_in-told.ensures c.in-Ok-step.ensures.reply
     c.in-Ok-step.ensures.state (rw (c.push_reserved.ensures.items, c.ready_notes.ensures.same) refl)
     c.count_one.ensures

@@ -1,0 +1,6 @@
+pub mod Accesses
+pub mod Names
+pub mod Queues
+pub mod Shown
+pub mod Status
+pub mod Steps

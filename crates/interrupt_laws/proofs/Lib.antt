@@ -6,8 +6,11 @@ pub mod Bytes
 pub mod Causes
 pub mod Counters
 pub mod Groups
+pub mod Lasting
+pub mod LastingAccesses
 pub mod Masks
 pub mod Muting
+pub mod Owned
 pub mod Pools
 pub mod Raising
 pub mod Reading

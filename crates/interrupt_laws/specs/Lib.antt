@@ -1,4 +1,5 @@
 pub mod Accesses
+pub mod Lasting
 pub mod Names
 pub mod Queues
 pub mod Shown

@@ -7,6 +7,7 @@
 #![tactic(auto)]
 
 ghost use Rattle.interrupt_laws.specs.Names.{HasLowViews, RegistersHaveAddresses};
+ghost use Rattle.interrupt_laws.specs.Lasting.{MasksLast};
 ghost use Rattle.interrupt_laws.specs.Queues.{IvarNamesCauses, PvtivarNamesCauses, MappingsNameCounters, VfteMutesPools};
 ghost use Rattle.interrupt_laws.specs.Status.{StatusTellsOfSteps, LinksTellsTheLink, LinksTellsTheLinkSet};
 ghost use Rattle.interrupt_laws.specs.Steps.{MessageStepsTellWhatIsDue};
@@ -82,4 +83,11 @@ pub fn mappings_name_counters()
 /// While VT_CTL bit 0 is 1, queues of a pool p are idle, and change nothing, where bit p mod 32 of VFTE[p/32] is 0.
 pub fn vfte_mutes_pools()
     ensures { VfteMutesPools }
+{}
+
+/// A mask that is set stays set through every event but a write of EIMC with the bit, an access of EICR that the
+/// auto-mask turns on the bit, a message of the group while GPIE bit 30 is 1 and the auto-mask has the bit, and a reset
+/// of the device or of the function's pool.
+pub fn masks_last()
+    ensures { MasksLast }
 {}

@@ -1,5 +1,5 @@
 -- Every event that spares a mask keeps it.
-use Rattle.std.proofs.Common.{◌≡◌, ◌≢◌, ℕ, ◌<◌, Bool, true, false, not, ◌&&◌, cond, Option, Some, None, refl, ap, sym, ◌∙◌, subst, arith, inl, inr}
+use Rattle.std.proofs.Common.{◌≡◌, ◌≢◌, ℕ, ◌<◌, Bool, true, false, not, ◌&&◌, Option, Some, None, refl, ap, sym, ◌∙◌, subst, arith, inl, inr}
 use Rattle.std.specs.Prelude.{IsFalse, is_some}
 use Rattle.std.proofs.lemmas.Bool.{cases_Bool, cond_both, or_left, both_ways}
 use Rattle.nic_device.specs.DmaArena.Block.{Block}
@@ -11,7 +11,7 @@ use Rattle.nic_device.specs.RegTable.declared.rows.RowId.TheVariants.{IvarMisc}
 use Rattle.nic_device.proofs.RegTable.Finding.{found-named}
 use Rattle.nic_device.proofs.RegTable.InRange.{named_in_range}
 use Rattle.nic_device.specs.IntrUnit.BitSet.{contains, only}
-use Rattle.nic_device.specs.IntrUnit.Interrupts.{Interrupts, after_message, after_message_of, next_bit}
+use Rattle.nic_device.specs.IntrUnit.Interrupts.{Interrupts, after_message_of, next_bit}
 use Rattle.nic_device.specs.IntrUnit.declared.group.Group.{Group}
 use Rattle.nic_device.proofs.IntrUnit.BitLaws.{raises_change}
 use Rattle.nic_device.proofs.IntrUnit.SetLaws.{contains-difference, contains-acting}
@@ -19,7 +19,7 @@ use Rattle.nic_device.specs.VfMap.Map.{located}
 use Rattle.nic_device.specs.VfMap.declared.located.Located.{Located}
 use Rattle.nic_device.specs.VfMap.declared.located.Located.TheVariants as located_as
 use Rattle.nic_device.proofs.VfMap.Owners.{located_in_range}
-use Rattle.nic_device.specs.RegisterFile.Groups.{index_of, interrupts_of, with_interrupts, message_of, message_made, masks_by_message}
+use Rattle.nic_device.specs.RegisterFile.Groups.{interrupts_of, with_interrupts, message_of, message_made, masks_by_message}
 use Rattle.nic_device.specs.RegisterFile.Owner.{is_group}
 use Rattle.nic_device.specs.RegisterFile.Pools.{mode_in}
 use Rattle.nic_device.specs.RegisterFile.Registers.{Registers, word_of}
@@ -29,8 +29,7 @@ use Rattle.nic_device.proofs.RegisterLaws.GroupChanges.{settled}
 use Rattle.nic_device.proofs.RegisterLaws.Owners.{is_group-itself, is_group-same}
 use Rattle.nic_device.proofs.RegisterLaws.Settled.{settled-after_message_of}
 use Rattle.nic_device.proofs.RegisterLaws.Standing.{interrupts_of-with_interrupts}
-use Rattle.nic_device.specs.Access.{named_read, named_written, state_read, state_written}
-use Rattle.nic_device.specs.Interrupt.{interrupted}
+use Rattle.nic_device.specs.Access.{named_read, named_written}
 use Rattle.nic_device.specs.Named.{named, at_place, at_location}
 use Rattle.nic_device.specs.Outcome.{Outcome}
 use Rattle.nic_device.specs.Sound.{IsSound}
@@ -43,13 +42,13 @@ use Rattle.nic_device.specs.declared.event.Port.TheVariants as port
 use Rattle.nic_device.specs.declared.named.Named.{Named}
 use Rattle.nic_device.specs.declared.named.Named.TheVariants.{Nothing, Register}
 use Rattle.nic_device.proofs.Cases.{interrupted_cases}
-use Rattle.device_laws.specs.Raising.{Causes, IsOfTheDevice, raises, after_causes}
+use Rattle.device_laws.specs.Raising.{Causes, IsOfTheDevice, after_causes}
 use Rattle.device_laws.proofs.Causes.{events_raise}
 use Rattle.device_laws.proofs.StandingRest.{message_rest}
-use Rattle.interrupt_laws.specs.Lasting.{SparesMask, Spares, MasksLast, masks_itself}
+use Rattle.interrupt_laws.specs.Lasting.{SparesMask, MasksLast, masks_itself}
 use Rattle.interrupt_laws.specs.Names.{IsGroup, bits_in, cause_register, general_address}
 use Rattle.interrupt_laws.specs.Shown.{Bit, bit_of, reads_one}
-use Rattle.interrupt_laws.proofs.Groups.{index_small, bit_in, bit_of-in, bit_stands}
+use Rattle.interrupt_laws.proofs.Groups.{index_small, bit_of-in, bit_stands}
 use Rattle.interrupt_laws.proofs.LastingAccesses.{read_keeps, write_keeps}
 use Rattle.interrupt_laws.proofs.Words.{general_bit, small}
 

@@ -1,9 +1,8 @@
 -- Which register accesses keep a mask.
-use Rattle.std.proofs.Common.{◌≡◌, ◌≢◌, ℕ, ◌<◌, Bool, true, false, not, ◌&&◌, ◌||◌, nat_lt, cond, refl, ap, sym, ◌∙◌, subst, arith, inl, inr}
+use Rattle.std.proofs.Common.{◌≡◌, ◌≢◌, ℕ, ◌<◌, Bool, true, false, not, ◌&&◌, ◌||◌, refl, ap, sym, ◌∙◌, subst, arith, inl, inr}
 use Rattle.std.specs.Prelude.{IsFalse}
 use Rattle.std.proofs.lemmas.Bool.{cases_Bool, cond_both, or_left, ne_eqb, both_ways}
 use Rattle.nic_device.specs.RegTable.Rows.{row_of}
-use Rattle.nic_device.specs.RegTable.Runs.{runs}
 use Rattle.nic_device.specs.RegTable.declared.place.Place.{Place}
 use Rattle.nic_device.specs.RegTable.declared.rows.RowId.{RowId}
 use Rattle.nic_device.specs.RegTable.declared.rows.RowId.TheVariants as row
@@ -16,7 +15,6 @@ use Rattle.nic_device.specs.RegisterFile.Columns.{place}
 use Rattle.nic_device.specs.RegisterFile.Groups.{interrupts_of}
 use Rattle.nic_device.specs.RegisterFile.Owner.{owner_of, is_owner}
 use Rattle.nic_device.specs.RegisterFile.Pools.{mode_in}
-use Rattle.nic_device.specs.RegisterFile.Registers.{Registers}
 use Rattle.nic_device.specs.RegisterFile.Words.{word_at}
 use Rattle.nic_device.specs.RegisterFile.declared.owner.Owner.TheVariants as owner
 use Rattle.nic_device.specs.RegisterLaws.Footprint.{of_owner, of_group, of_read, of_write}
@@ -40,7 +38,7 @@ use Rattle.interrupt_laws.proofs.Causes.{set_at, cleared_at, read_at}
 use Rattle.interrupt_laws.proofs.Groups.{bit_stands}
 use Rattle.interrupt_laws.proofs.Masks.{set_at as mask_set_at, cleared_at as mask_cleared_at}
 use Rattle.interrupt_laws.proofs.Owned.{IsOne, causes, cause_set, masks, mask_clear, auto_clear, auto_mask, one_of_group}
-use Rattle.interrupt_laws.proofs.Words.{by_words, bit_of-words, small}
+use Rattle.interrupt_laws.proofs.Words.{bit_of-words, small}
 
 -- a mask that isn't cleared
 keeps : (mask gone : Bool) → mask ≡ true → gone ≡ false → (mask && not gone) ≡ true

@@ -1,5 +1,6 @@
 pub mod Addresses
 pub mod Alone
+pub mod Arriving
 pub mod AutoWords
 pub mod Bits
 pub mod Bytes
@@ -11,6 +12,7 @@ pub mod LastingAccesses
 pub mod Masks
 pub mod Muting
 pub mod Owned
+pub mod Plain
 pub mod Pools
 pub mod Raising
 pub mod Reading

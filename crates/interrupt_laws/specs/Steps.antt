@@ -40,8 +40,8 @@ abbrev pub valid_vector : Bool → ℕ → Option ℕ
 valid_vector valid vector = if valid && nat_lt vector 16 then Some vector else None
 
 -- the vector of a bit: bits 0 to 15 of the physical function have their own number, bits 16 to 29 what IVAR_MISC has in
--- bits 13 to 8, valid by bit 15, and bit 30 what it has in bits 5 to 0, valid by bit 7; those of a virtual function have
--- their own number
+-- bits 13 to 8, valid by bit 15, and bit 30 what it has in bits 5 to 0, valid by bit 7; those of a virtual function
+-- have their own number
 abbrev pub vector_by : (misc : ℕ) → Group → ℕ → Option ℕ
 vector_by misc Pf bit =
     if nat_le bit 15 then Some bit

@@ -7,7 +7,9 @@
 #![tactic(auto)]
 
 ghost use Rattle.interrupt_laws.specs.Names.{HasLowViews, RegistersHaveAddresses};
+ghost use Rattle.interrupt_laws.specs.Arriving.{VfreLetsIntoPools};
 ghost use Rattle.interrupt_laws.specs.Lasting.{MasksLast};
+ghost use Rattle.interrupt_laws.specs.Plain.{PlainWriteIsAlone, ArePlain, TimersHaveNoEffect};
 ghost use Rattle.interrupt_laws.specs.Queues.{IvarNamesCauses, PvtivarNamesCauses, MappingsNameCounters, VfteMutesPools};
 ghost use Rattle.interrupt_laws.specs.Status.{StatusTellsOfSteps, LinksTellsTheLink, LinksTellsTheLinkSet};
 ghost use Rattle.interrupt_laws.specs.Steps.{MessageStepsTellWhatIsDue};
@@ -66,8 +68,8 @@ pub fn status_and_links_are_told()
 {}
 
 /// A frame's end on queue q raises the cause that byte 2(q mod 2) of IVAR[q/2] names in EICR, and a report of it what
-/// the next byte names; for queue x of virtual function v with k queues the bytes are those of PVTIVAR[v*k/2 + x/2], and
-/// the cause is in PVTEICR[v]. A byte names the cause in its bits 5 to 0 where bit 7 is 1, at most 15, and 2.
+/// the next byte names; for queue x of virtual function v with k queues the bytes are those of PVTIVAR[v*k/2 + x/2],
+/// and the cause is in PVTEICR[v]. A byte names the cause in its bits 5 to 0 where bit 7 is 1, at most 15, and 2.
 pub fn vectors_name_causes()
     ensures ivar { IvarNamesCauses }
     ensures pvtivar { PvtivarNamesCauses }
@@ -90,4 +92,20 @@ pub fn vfte_mutes_pools()
 /// of the device or of the function's pool.
 pub fn masks_last()
     ensures { MasksLast }
+{}
+
+/// A write of a plain read/write register changes what no other register reads, and nothing else of the device. EIAC,
+/// EIAM and EITR are plain, and so are PVTEIAC and PVTEIAM; EITR keeps all bits, and no message step answers otherwise
+/// for it.
+pub fn plain_writes_are_alone()
+    ensures alone { PlainWriteIsAlone }
+    ensures plain { ArePlain }
+    ensures timers { TimersHaveNoEffect }
+{}
+
+/// While VT_CTL bit 0 is 1, a frame that is let in waits, last of all, for a queue of a pool p whose bit p mod 32 of
+/// VFRE[p/32] is 1: queue 2p with MRQC bits 3 to 0 at 8, one of the four from 4p on with 10, one of the two from 2p on
+/// with 11.
+pub fn vfre_lets_into_pools()
+    ensures { VfreLetsIntoPools }
 {}

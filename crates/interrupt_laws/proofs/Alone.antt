@@ -1,0 +1,47 @@
+-- An access of a register of one group leaves the other groups.
+use Rattle.std.proofs.Common.{◌≡◌, ◌≢◌, ℕ, ◌&&◌, ap, sym, ◌∙◌}
+use Rattle.std.specs.Prelude.{bit_and, IsFalse}
+use Rattle.nic_device.specs.RegTable.Place.{Names, view_among}
+use Rattle.nic_device.specs.RegTable.Rows.{row_of}
+use Rattle.nic_device.specs.RegTable.Runs.{runs}
+use Rattle.nic_device.specs.RegTable.declared.place.Place.{Place}
+use Rattle.nic_device.specs.IntrUnit.BitSet.{contains}
+use Rattle.nic_device.specs.IntrUnit.declared.group.Group.{Group}
+use Rattle.nic_device.specs.RegisterFile.Access.{asks_reset, asks_pool_reset}
+use Rattle.nic_device.specs.RegisterFile.Bits.{has_bit}
+use Rattle.nic_device.specs.RegisterFile.Groups.{interrupts_of}
+use Rattle.nic_device.specs.RegisterFile.Owner.{owner_of}
+use Rattle.nic_device.specs.RegisterFile.declared.owner.Owner.TheVariants as owner
+use Rattle.nic_device.specs.State.{State}
+use Rattle.nic_device.specs.Step.{after}
+use Rattle.nic_device.specs.declared.event.Event.TheVariants as event
+use Rattle.nic_device.specs.declared.event.Port.TheVariants as port
+use Rattle.nic_device.specs.declared.named.Named.TheVariants.{Register}
+use Rattle.device_laws.specs.Laws.{after_write}
+use Rattle.device_laws.proofs.StandingAccesses.{read_rest, write_rest}
+use Rattle.interrupt_laws.proofs.Bits.{has_bit-and}
+use Rattle.interrupt_laws.proofs.Words.{named-at}
+
+group_apart : (g h : Group) → h ≢ g → owner.Group g ≢ owner.Group h
+group_apart g h apart e = let same : h ≡ g = cc in apart same
+
+pub write_alone : (s : State) (g : Group) (p : Place) (a word : ℕ) → Names a p → owner_of p ≡ owner.Group g
+    → IsFalse (asks_reset (row_of p.row).kind word) → IsFalse (asks_pool_reset (row_of p.row).kind word)
+    → (h : Group) → h ≢ g → interrupts_of (after_write s a word).registers h ≡ interrupts_of s.registers h
+write_alone s g p a word is own none plain h apart =
+    (write_rest s port.Pf a word p (view_among runs a) (named-at s a p is) none plain).groups h
+    (λ e. group_apart g h apart (sym own ∙ e))
+
+pub read_alone : (s : State) (g : Group) (p : Place) (a : ℕ) → Names a p → owner_of p ≡ owner.Group g
+    → (h : Group) → h ≢ g
+    → interrupts_of (after s (event.Read port.Pf a)).registers h ≡ interrupts_of s.registers h
+read_alone s g p a is own h apart =
+    (read_rest s port.Pf a).groups h (λ q view found e.
+    let same : Register p (view_among runs a) ≡ Register q view = sym (named-at s a p is) ∙ found in
+    let one : p ≡ q = cc in
+    group_apart g h apart (sym own ∙ ap owner_of one ∙ e))
+
+-- a bit that is written through a view
+pub written : (word view bit : ℕ) → contains (bit_and word view) bit ≡ (has_bit bit word && has_bit bit view)
+unfolding contains
+written word view bit = has_bit-and word view bit

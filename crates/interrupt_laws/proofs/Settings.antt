@@ -1,0 +1,52 @@
+-- What reads of CTRL, GCR_EXT and IVAR_MISC show.
+use Rattle.std.proofs.Common.{◌≡◌, ℕ, zero, suc, ◌<◌, ◌%◌, ◌==◌, if◌then◌else◌, refl, ap, ◌∙◌, arith, lit<}
+use Rattle.nic_device.specs.RegTable.declared.rows.RowId.TheVariants.{Ctrl, GcrExt, IvarMisc}
+use Rattle.nic_device.proofs.RegTable.FirstAddresses.{first_address}
+use Rattle.nic_device.specs.VfMap.Pools.{pools_in}
+use Rattle.nic_device.specs.VfMap.declared.mode.Mode.{Mode}
+use Rattle.nic_device.specs.VfMap.declared.mode.Mode.TheVariants.{Off, Pools16, Pools32, Pools64}
+use Rattle.nic_device.specs.RegisterFile.Columns.{place}
+use Rattle.nic_device.specs.RegisterFile.Pools.{mode_in}
+use Rattle.nic_device.specs.RegisterFile.Registers.{word_of}
+use Rattle.nic_device.specs.RegisterFile.Settings.{is_stopped}
+use Rattle.nic_device.specs.Sound.{IsSound}
+use Rattle.nic_device.specs.State.{State}
+use Rattle.interrupt_laws.specs.Shown.{read_at, reads_one}
+use Rattle.interrupt_laws.specs.Steps.{control_address, mode_address, misc_address, pools_by, pools_of}
+use Rattle.interrupt_laws.proofs.Addresses.{address_of}
+use Rattle.interrupt_laws.proofs.Reading.{read-word}
+use Rattle.interrupt_laws.proofs.Words.{whole-read}
+
+pub stops : (s : State) → reads_one s control_address 2 ≡ is_stopped s.registers
+stops s =
+    whole-read s control_address 2 (place Ctrl 0)
+    (address_of (place Ctrl 0) control_address (first_address (place Ctrl 0) (lit< tt))) (omega arith)
+
+pub misc_word : (s : State) → IsSound s → read_at s misc_address ≡ word_of s.registers IvarMisc 0
+misc_word s h =
+    read-word s misc_address (place IvarMisc 0)
+    (address_of (place IvarMisc 0) misc_address (first_address (place IvarMisc 0) (lit< tt)))
+    (h.registers.words (place IvarMisc 0))
+
+pub mode_word : (s : State) → IsSound s → read_at s mode_address ≡ word_of s.registers GcrExt 0
+mode_word s h =
+    read-word s mode_address (place GcrExt 0)
+    (address_of (place GcrExt 0) mode_address (first_address (place GcrExt 0) (lit< tt)))
+    (h.registers.words (place GcrExt 0))
+
+-- the mode by the field of GCR_EXT
+abbrev pub mode_by : ℕ → Mode
+mode_by n =
+    if n == 0 then Off else (if n == 1 then Pools16 else (if n == 2 then Pools32 else Pools64))
+
+pools_same : (n : ℕ) → n < 4 → pools_by n ≡ pools_in (mode_by n)
+pools_same zero h = refl
+pools_same (suc zero) h = refl
+pools_same (suc (suc zero)) h = refl
+pools_same (suc (suc (suc zero))) h = refl
+pools_same (suc (suc (suc (suc n)))) h = absurd (omega arith)
+
+pub pools_there : (s : State) → IsSound s → pools_of s ≡ pools_in (mode_in s.registers)
+pools_there s h =
+    ap (λ w. pools_by (w % 4)) (mode_word s h)
+    ∙ pools_same (word_of s.registers GcrExt 0 % 4) (omega arith)

@@ -1,0 +1,35 @@
+-- Which pools VFRE lets frames into.
+use Rattle.std.specs.Prelude.{ℕ, ◌≡◌, ◌<◌, ◌*◌, ◌/◌, ◌%◌, List, [], ◌∷◌, ◌++◌, IsTrue}
+use Rattle.nic_device.specs.Sound.{IsSound}
+use Rattle.nic_device.specs.State.{State, Waiting}
+use Rattle.nic_device.specs.Step.{after, reply_to}
+use Rattle.nic_device.specs.declared.event.Event.TheVariants as event
+use Rattle.nic_device.specs.declared.event.Reply.TheVariants.{Done}
+use Rattle.interrupt_laws.specs.Queues.{pool_bit_at}
+use Rattle.interrupt_laws.specs.Shown.{read_at, reads_one}
+
+-- MRQC bits 3 to 0
+abbrev pub queue_mode : State → ℕ
+queue_mode s = read_at s 0x05818 % 16
+
+-- a queue is of a pool whose bit of VFRE is 1: 2p of pool p with MRQC bits 3 to 0 at 8, one of the four from 4p on with
+-- 10, and one of the two from 2p on with 11
+pub record IsOfOpenPool (s : State) (queue pool : ℕ) : Type 0 where
+  pub small : pool < 64
+  pub on : IsTrue (pool_bit_at s 0x051E0 pool)
+  pub single : queue_mode s ≡ 8 → queue ≡ 2 * pool
+  pub four : queue_mode s ≡ 10 → queue / 4 ≡ pool
+  pub two : queue_mode s ≡ 11 → queue / 2 ≡ pool
+
+-- the frame joined those that wait, last, and waits for a queue of such a pool
+pub record JoinsOpenPool (s new : State) : Type 0 where
+  pub frame : Waiting
+  pub pool : ℕ
+  pub joins : new.waiting ≡ s.waiting ++ frame ∷ []
+  pub is_of : IsOfOpenPool s frame.queue pool
+
+-- while VT_CTL bit 0 is 1, so does every frame that is let in
+abbrev pub VfreLetsIntoPools : Type 0
+VfreLetsIntoPools =
+    (s : State) → IsSound s → IsTrue (reads_one s 0x051B0 0) → (frame : List ℕ) →
+    reply_to s (event.Arrive frame) ≡ Done → JoinsOpenPool s (after s (event.Arrive frame))

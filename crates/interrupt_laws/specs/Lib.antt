@@ -1,0 +1,9 @@
+pub mod Accesses
+pub mod Arriving
+pub mod Lasting
+pub mod Names
+pub mod Plain
+pub mod Queues
+pub mod Shown
+pub mod Status
+pub mod Steps

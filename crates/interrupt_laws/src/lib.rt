@@ -1,0 +1,111 @@
+//! What the device promises of interrupts and of registers by their names, above the definitions that the contracts of
+//! `nic_device` cite.
+//!
+//! Each law is the contract of a function that does nothing: what it ensures holds of `step_of`, by which
+//! `nic_device::Device::step` makes each event, in terms of the addresses and bits of the datasheet and of what reads
+//! give.
+#![tactic(auto)]
+
+ghost use Rattle.interrupt_laws.specs.Names.{HasLowViews, RegistersHaveAddresses};
+ghost use Rattle.interrupt_laws.specs.Arriving.{VfreLetsIntoPools};
+ghost use Rattle.interrupt_laws.specs.Lasting.{MasksLast};
+ghost use Rattle.interrupt_laws.specs.Plain.{PlainWriteIsAlone, ArePlain, TimersHaveNoEffect};
+ghost use Rattle.interrupt_laws.specs.Queues.{IvarNamesCauses, PvtivarNamesCauses, MappingsNameCounters, VfteMutesPools};
+ghost use Rattle.interrupt_laws.specs.Status.{StatusTellsOfSteps, LinksTellsTheLink, LinksTellsTheLinkSet};
+ghost use Rattle.interrupt_laws.specs.Steps.{MessageStepsTellWhatIsDue};
+ghost use Rattle.interrupt_laws.specs.Accesses.{WriteOfCauseSetSets, WriteOfCausesClears, ReadOfCausesClears, WriteOfMasksSets, WriteOfMaskClearClears, SetAndClearReadZero, WriteOfAutoClearIsKept, WriteOfAutoMaskIsKept, ReadsShowTheView};
+
+/// The interrupt registers of the physical function and of each of 64 virtual functions are at the datasheet's
+/// addresses, and EICS, EIMS, EIMC and EIAM have low views, which show bits 15 to 0 alone.
+pub fn interrupt_registers_have_addresses()
+    ensures whole { RegistersHaveAddresses }
+    ensures low { HasLowViews }
+    ensures view { ReadsShowTheView }
+{}
+
+/// A write of EICS or PVTEICS sets the causes of the bits that are written as 1, and EICS and PVTEICS read as 0.
+pub fn causes_are_set()
+    ensures { WriteOfCauseSetSets }
+{}
+
+/// A write of EICR or PVTEICR clears the causes of the bits that are written as 1, and no other; a read clears all of
+/// them, or with GPIE bit 5 at 1 of EICR bits 29 to 16 alone.
+pub fn causes_are_cleared()
+    ensures write { WriteOfCausesClears }
+    ensures read { ReadOfCausesClears }
+{}
+
+/// A write of EIMS or PVTEIMS sets masks, one of EIMC or PVTEIMC clears them, and neither changes a cause.
+pub fn masks_are_set_and_cleared()
+    ensures set { WriteOfMasksSets }
+    ensures clear { WriteOfMaskClearClears }
+{}
+
+/// EICS, PVTEICS, EIMC and PVTEIMC read as 0.
+pub fn set_and_clear_read_zero()
+    ensures { SetAndClearReadZero }
+{}
+
+/// EIAC, PVTEIAC, EIAM and PVTEIAM keep what is written to the bits of their group.
+pub fn auto_words_are_kept()
+    ensures clear { WriteOfAutoClearIsKept }
+    ensures mask { WriteOfAutoMaskIsKept }
+{}
+
+/// A message step answers that there is no group exactly for a virtual function that the device hasn't or that has no
+/// pool. Else it is idle and changes nothing exactly while CTRL bit 2 is 1 or where no bit is due, and tells the lowest
+/// bit that is due, by its own number, or by the vector that IVAR_MISC has for bits 16 to 29 or for bit 30.
+pub fn message_steps_tell_what_is_due()
+    ensures { MessageStepsTellWhatIsDue }
+{}
+
+/// STATUS reads 0x00080000, or 0 while CTRL bit 2 is 1. LINKS reads 0x70000000 with link, else 0, also right after the
+/// link was set up or down.
+pub fn status_and_links_are_told()
+    ensures status { StatusTellsOfSteps }
+    ensures links { LinksTellsTheLink }
+    ensures set { LinksTellsTheLinkSet }
+{}
+
+/// A frame's end on queue q raises the cause that byte 2(q mod 2) of IVAR[q/2] names in EICR, and a report of it what
+/// the next byte names; for queue x of virtual function v with k queues the bytes are those of PVTIVAR[v*k/2 + x/2],
+/// and the cause is in PVTEICR[v]. A byte names the cause in its bits 5 to 0 where bit 7 is 1, at most 15, and 2.
+pub fn vectors_name_causes()
+    ensures ivar { IvarNamesCauses }
+    ensures pvtivar { PvtivarNamesCauses }
+{}
+
+/// A frame that is written to its end on queue q is counted in the QPRC, and one that is dropped for want of a slot in
+/// the QPRDC, whose number RQSMR[q/4] has in bits 8(q mod 4)+3 to 8(q mod 4); one that is sent in the QPTC whose number
+/// TQSM[q/4] has there. The other counters of these stay.
+pub fn mappings_name_counters()
+    ensures { MappingsNameCounters }
+{}
+
+/// While VT_CTL bit 0 is 1, queues of a pool p are idle, and change nothing, where bit p mod 32 of VFTE[p/32] is 0.
+pub fn vfte_mutes_pools()
+    ensures { VfteMutesPools }
+{}
+
+/// A mask that is set stays set through every event but a write of EIMC with the bit, an access of EICR that the
+/// auto-mask turns on the bit, a message of the group while GPIE bit 30 is 1 and the auto-mask has the bit, and a reset
+/// of the device or of the function's pool.
+pub fn masks_last()
+    ensures { MasksLast }
+{}
+
+/// A write of a plain read/write register changes what no other register reads, and nothing else of the device. EIAC,
+/// EIAM and EITR are plain, and so are PVTEIAC and PVTEIAM; EITR keeps all bits, and no message step answers otherwise
+/// for it.
+pub fn plain_writes_are_alone()
+    ensures alone { PlainWriteIsAlone }
+    ensures plain { ArePlain }
+    ensures timers { TimersHaveNoEffect }
+{}
+
+/// While VT_CTL bit 0 is 1, a frame that is let in waits, last of all, for a queue of a pool p whose bit p mod 32 of
+/// VFRE[p/32] is 1: queue 2p with MRQC bits 3 to 0 at 8, one of the four from 4p on with 10, one of the two from 2p on
+/// with 11.
+pub fn vfre_lets_into_pools()
+    ensures { VfreLetsIntoPools }
+{}

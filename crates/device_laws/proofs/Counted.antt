@@ -14,6 +14,7 @@ use Rattle.nic_device.specs.RegisterFile.Access.{read_word, after_read}
 use Rattle.nic_device.specs.RegisterFile.Columns.{place}
 use Rattle.nic_device.specs.RegisterFile.Registers.{word_of}
 use Rattle.nic_device.specs.RegisterFile.Words.{word_at}
+use Rattle.nic_device.proofs.RegisterLaws.RowBits.{word_small}
 use Rattle.nic_device.proofs.RegisterLaws.Shape.{put_stands}
 use Rattle.nic_device.proofs.RegisterLaws.Sound.{bumped-lt}
 use Rattle.nic_device.specs.State.{State}
@@ -69,7 +70,7 @@ word-arrived s frame h = arrived_cases (Counts s) s frame (record {
   short = λ no. cc;
   long = λ no. cc;
   missed = λ no. cc;
-  joined = λ t is room _. put_stands s.registers (place Gprc 0) _ h.registers.shape (omega arith);
+  joined = λ t is room long short _. put_stands s.registers (place Gprc 0) _ h.registers.shape (omega arith);
 })
 
 -- GPRC reads as its word
@@ -80,7 +81,7 @@ good_frames-read s small =
 
 pub let_in_is_counted : LetInFrameIsCounted
 let_in_is_counted s h frame done word told =
-    let small = h.registers.words (place Gprc 0) in
+    let small = word_small s.registers h.registers (place Gprc 0) in
     let more = word-arrived s frame h done in
     let read = good_frames-read s small in
     let same : word_of s.registers Gprc 0 ≡ word = cc in

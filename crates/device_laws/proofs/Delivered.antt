@@ -13,6 +13,7 @@ use Rattle.nic_device.specs.Receive.{received, first_received, packet_of}
 use Rattle.nic_device.specs.Sound.{AreWaiting, IsSound, IsWaiting}
 use Rattle.nic_device.specs.Step.{step_of}
 use Rattle.device_laws.specs.Laws.{piece_of, piece_on, PieceIsReadBack, StoppedDeviceIsIdle}
+use Rattle.nic_device.proofs.Hashes.{type-lt}
 use Rattle.nic_device.proofs.QueueCases.{received_cases}
 use Rattle.nic_device.specs.declared.event.Reply.{Reply}
 use Rattle.nic_device.specs.declared.event.Reply.TheVariants.{Wrote, Idle}
@@ -27,7 +28,7 @@ told_of-lt p hash rss =
     omega (arith, cond-le p.ipv4 (2 ^ 4), cond-le p.ipv6 (2 ^ 6), cond-le p.tcp (2 ^ 8), cond-le p.udp (2 ^ 9))
 
 pub told-lt : (w : Waiting) → IsWaiting w → told_of (packet_of w) < 2 ^ 64
-told-lt w h = told_of-lt (packet_of w) h.hash h.rss
+told-lt w h = told_of-lt (packet_of w) h.hash (type-lt w.rss h.rss)
 
 -- memory has the piece that a reply tells of
 abbrev HasPiece : List Waiting → Memory → Reply Block → Type 0

@@ -26,7 +26,8 @@ use Rattle.nic_device.specs.Step.{step_of}
 use Rattle.nic_device.specs.Transmit.{staged_by}
 use Rattle.device_laws.specs.Pool.{AgreeOnPool, VfSeesItsPoolAlone, waiting_of}
 use Rattle.device_laws.proofs.PoolAlone.{IsReached, own, shared, reached, below_reset, own_reset, changes_alone}
-use Rattle.device_laws.proofs.PoolParts.{none_of_the_pool, none_staged_of}
+use Rattle.nic_device.proofs.PoolReset.{none_staged_of}
+use Rattle.device_laws.proofs.PoolParts.{none_of_the_pool}
 use Rattle.device_laws.proofs.PoolReadsAgree.{PartsAgree, same_parts, agree_after, read_reply, read_parts}
 
 -- writes

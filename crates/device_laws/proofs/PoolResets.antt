@@ -16,7 +16,7 @@ use Rattle.nic_device.specs.State.{State}
 use Rattle.nic_device.specs.Step.{step_of}
 use Rattle.device_laws.specs.Pool.{IsPoolReset, AskedPoolResetResets}
 use Rattle.device_laws.proofs.PoolAlone.{alone_reset}
-use Rattle.device_laws.proofs.PoolParts.{none_staged_of}
+use Rattle.nic_device.proofs.PoolReset.{none_staged_of}
 
 -- PVFCTRL asks for no reset of the device
 pool_only : (r : RowId) (word : ℕ) → asks_pool_reset (row_of r).kind word ≡ true

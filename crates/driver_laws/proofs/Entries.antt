@@ -18,7 +18,6 @@ use Rattle.pmd.specs.PmdRx.Receive as receiving
 use Rattle.pmd.specs.PmdRx.Receive.{drive}
 use Rattle.pmd.specs.PmdTx.Sending as sending
 use Rattle.pmd.specs.PmdTx.Sending.{Move, Accepts, Asks, Advances, Looks, Reaps, Elsewhere, has_lent, moved}
-use Rattle.receive_laws.proofs.HistoryLaws.Aligned.{events_aligned}
 use Rattle.receive_laws.proofs.HistoryLaws.Modes.{event_told}
 use Rattle.receive_laws.specs.Joint.{Agree}
 use Rattle.receive_laws.specs.Pieces.{Piece, pieces}
@@ -131,7 +130,6 @@ module _ (w : Watched) (mine : Blocks) (mode : Mode) (s : State) (out : List Pie
       let stays = (step_leads s e).stays in
       record {
         sound = keeps_sound s m.sound e made;
-        aligned = events_aligned s e m.sound m.aligned;
         image = stays.image ∙ m.image;
         vfs = m.vfs ∙ sym stays.vfs;
         mode_is = (λ i. mode_after (m.vfs i) (m.mode_is i) e) ∙ event_told s m.sound m.image e;

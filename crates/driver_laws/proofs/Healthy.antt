@@ -14,7 +14,6 @@ use Rattle.device_lock.specs.declared.alone.Watched.{Watched}
 use Rattle.device_lock.specs.declared.entry.Entry.{Entry}
 use Rattle.receive_laws.specs.HistoryLaws.Alone.{AllAlone}
 use Rattle.receive_laws.specs.HistoryLaws.Lent.{OnlyLent}
-use Rattle.receive_laws.proofs.HistoryLaws.Aligned.{histories_aligned, new_aligned}
 use Rattle.receive_laws.proofs.HistoryLaws.Alone.{alone_by_entries}
 use Rattle.receive_laws.proofs.HistoryLaws.Modes.{mode_told}
 use Rattle.receive_laws.proofs.HistoryLaws.Sound.{histories_sound}
@@ -115,7 +114,6 @@ own_replies_are_healthy w fifo start rest h doers own x apart =
     along w (lent_by w.pass (start ++ rest)) own (mode_through w.vfs Off start) (leads_to new start) [] [] h doers rest
     (record {
       sound = histories_sound new start d.new before;
-      aligned = histories_aligned new start d.new before (new_aligned w.vfs fifo);
       image = image_stays new start;
       vfs = sym (vfs_stays new start);
       mode_is = mode_told w.vfs fifo start d.new before;

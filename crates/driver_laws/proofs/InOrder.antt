@@ -6,7 +6,6 @@ use Rattle.device_lock.specs.Alone.{lent_by, mode_through}
 use Rattle.device_lock.specs.History.{calls_of, leads_to}
 use Rattle.device_lock.specs.declared.alone.Watched.{Watched}
 use Rattle.device_lock.specs.declared.entry.Entry.{Entry}
-use Rattle.receive_laws.proofs.HistoryLaws.Aligned.{histories_aligned, new_aligned}
 use Rattle.receive_laws.proofs.HistoryLaws.Alone.{alone_by_entries}
 use Rattle.receive_laws.proofs.HistoryLaws.Modes.{mode_told}
 use Rattle.receive_laws.proofs.HistoryLaws.Sound.{histories_sound}
@@ -44,7 +43,6 @@ module _ (w : Watched) (fifo : ℕ) (start rest : List Entry) (h : Halves) (doer
       leads w (lent_by w.pass (start ++ rest)) (mode_through w.vfs Off start) here [] [] h doers rest
       (record {
         sound = histories_sound new start d.new before;
-        aligned = histories_aligned new start d.new before (new_aligned w.vfs fifo);
         image = image_stays new start;
         vfs = sym (vfs_stays new start);
         mode_is = mode_told w.vfs fifo start d.new before;

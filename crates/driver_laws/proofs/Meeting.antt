@@ -12,7 +12,6 @@ use Rattle.nic_device.specs.declared.event.Event.{Event}
 use Rattle.nic_device.specs.declared.event.Event.TheVariants as event
 use Rattle.device_lock.specs.Alone.{Blocks, LeavesRegisters, LeavesBlocks, WritesOutside}
 use Rattle.device_lock.specs.declared.alone.Watched.{Watched}
-use Rattle.receive_laws.specs.HistoryLaws.Aligned.{AreAligned}
 use Rattle.receive_laws.specs.Pieces.{Piece, pieces}
 use Rattle.receive_laws.proofs.Foreign.{foreign_keeps}
 use Rattle.transmit_laws.specs.Sent.{sent_by}
@@ -23,12 +22,11 @@ use Rattle.pmd.specs.Halves.{Halves}
 use Rattle.driver_laws.specs.Agreeing.{AreLent, BothAgree}
 use Rattle.driver_laws.proofs.Stepping.{received_spares, reports_spare}
 
--- what holds between two entries: the device is sound, its rings aligned, its image blank, the mode is the one that was
--- told, the device agrees with both halves, and their blocks are among these
+-- what holds between two entries: the device is sound, its image blank, the mode is the one that was told, the device
+-- agrees with both halves, and their blocks are among these
 pub record Meets (w : Watched) (mine : Blocks) (mode : Mode) (s : State) (out : List Piece) (sent : List (List ℕ))
     (h : Halves) : Type 0 where
   pub sound : IsSound s
-  pub aligned : AreAligned s.registers
   pub image : s.image ≡ blank
   pub vfs : w.vfs ≡ s.vfs
   pub mode_is : mode ≡ mode_in s.registers
@@ -52,7 +50,6 @@ module _ (w : Watched) (mine : Blocks) (mode : Mode) (s : State) (out : List Pie
       m.both.apart
   spared_by e is registers blocks outside = left_alone_is_spared w mine h.transmit s e (record {
     sound = m.sound;
-    aligned = m.aligned;
     made = is;
     functions = m.vfs;
     lent = m.lent.transmit;
@@ -71,7 +68,6 @@ module _ (w : Watched) (mine : Blocks) (mode : Mode) (s : State) (out : List Pie
               (record { pass = w.pass + 1; event = e; reply = reply_to s e })
               (record {
                 sound = m.sound;
-                aligned = m.aligned;
                 vfs = m.vfs;
                 mode_is = m.mode_is;
                 reply = refl;

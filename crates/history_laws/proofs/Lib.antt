@@ -1,21 +1,14 @@
 pub use Rattle.device_laws.proofs as DeviceLaws
-pub mod Aligned
 pub mod Alone
 pub mod Beginning
 pub mod Calls
 pub mod Lent
-pub mod LowResets
-pub mod LowWords
 pub mod Modes
 pub mod Naming
-pub mod OtherWords
 pub mod Parting
 pub mod Reported
-pub mod Rings
-pub mod RingsReceived
 pub mod Silent
+pub mod Slotless
 pub mod Sound
 pub mod Sparing
-pub mod Staged
-pub mod StagedWrites
 pub mod Written

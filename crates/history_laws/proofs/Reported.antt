@@ -1,7 +1,5 @@
--- Where rings are aligned, what a step of transmitting reports lies in the block where it begins.
-use Rattle.std.proofs.Common.{cond, ◌≡◌, ℕ, ◌+◌, ◌*◌, ◌/◌, ◌%◌, ◌^◌, ◌≤◌, Bool, true, false, inl, inr, ap, sym, subst, arith, Some, None}
-use Rattle.std.proofs.lemmas.Bool.{cases_lt}
-use Rattle.std.proofs.lemmas.List.{get_or_past}
+-- What a step of transmitting reports lies in the block where it begins, since rings are aligned.
+use Rattle.std.proofs.Common.{cond, ◌≡◌, ℕ, ◌+◌, ◌*◌, ◌/◌, ◌%◌, ◌^◌, Bool, true, false, sym, subst, arith, Some, None}
 use Rattle.nic_device.specs.DmaArena.Block.{Block}
 use Rattle.nic_device.specs.DmaArena.Memory.{LiesIn}
 use Rattle.nic_device.specs.DmaRing.Ring.{descriptor_address}
@@ -10,9 +8,9 @@ use Rattle.nic_device.specs.RegisterFile.Bits.{has_bit}
 use Rattle.nic_device.specs.RegisterFile.Queue.{ring_of}
 use Rattle.nic_device.specs.RegisterFile.Registers.{Registers, word_of}
 use Rattle.nic_device.specs.RegisterFile.Settings.{writeback_of}
-use Rattle.nic_device.specs.RegisterFile.Words.{row_words}
 use Rattle.nic_device.specs.DmaRing.declared.dir.Dir.TheVariants.{Tx}
-use Rattle.nic_device.specs.RegisterLaws.Sound.{HasShape}
+use Rattle.nic_device.specs.RegisterLaws.SoundWords.{IsAligned}
+use Rattle.nic_device.proofs.RegisterLaws.SoundWords.{rings_aligned}
 use Rattle.nic_device.specs.TxRing.Report.{report_length}
 use Rattle.nic_device.specs.Footprint.{told_back}
 use Rattle.nic_device.specs.State.{State}
@@ -22,7 +20,7 @@ use Rattle.nic_device.specs.declared.event.Reply.{Reply}
 use Rattle.nic_device.specs.declared.event.Reply.TheVariants.{Advanced, Sent}
 use Rattle.device_laws.specs.Replies.{report_of, sent_tells}
 use Rattle.device_laws.proofs.RepliesSent.{transmitting_tells}
-use Rattle.history_laws.specs.Aligned.{AreAligned, ReportsLieInBlocks}
+use Rattle.history_laws.specs.Reports.{ReportsLieInBlocks}
 
 -- what is told is where the queue reports
 pub reported : (own : ℕ) (r : Reply Block) (s t : State) → sent_tells own r s t → (back : ℕ)
@@ -38,31 +36,21 @@ lies_by : (b : Bool) (high low at : ℕ) → at % 16 ≡ 0
 lies_by true high low at even = (omega arith, omega arith)
 lies_by false high low at even = (omega (arith, even), omega (arith, even))
 
--- queues of 128 or more have no ring
-past_end : (r : Registers) → HasShape r → (queue : ℕ) → 128 ≤ queue → word_of r Tdbal queue ≡ 0
-past_end r shape queue past =
-    get_or_past (row_words r.words Tdbal) queue 0 (subst (λ n. n ≤ queue) (sym (shape.has_indices Tdbal)) past)
-
 head_even : (high low head : ℕ) → low % 16 ≡ 0 → (high * 2 ^ 32 + low + 16 * head) % 2 ^ 64 % 16 ≡ 0
 head_even high low head even = omega (arith, even)
 
-module _ (r : Registers) (shape : HasShape r) (a : AreAligned r) (queue : ℕ) where
-  low_even : word_of r Tdbal queue % 16 ≡ 0
-  low_even = elim (cases_lt queue 128) as (λ _. word_of r Tdbal queue % 16 ≡ 0) [
-    | inl small ↦ let base = (a Tx queue small).base in omega (arith, base)
-    | inr past ↦ ap (λ (n : ℕ). n % 16) (past_end r shape queue past)
-  ]
-
-  lies : LiesIn (report_of r queue / 2048) (report_of r queue) (report_length (writeback_of r queue))
-  lies =
-      lies_by (has_bit 0 (word_of r Tdwbal queue)) (word_of r Tdwbah queue) (word_of r Tdwbal queue)
-      (descriptor_address (ring_of r Tx queue) (ring_of r Tx queue).head)
-      (head_even (word_of r Tdbah queue) (word_of r Tdbal queue) (ring_of r Tx queue).head low_even)
+lies : (r : Registers) (queue : ℕ) → IsAligned (ring_of r Tx queue)
+    → LiesIn (report_of r queue / 2048) (report_of r queue) (report_length (writeback_of r queue))
+lies r queue a =
+    let base = a.base in
+    lies_by (has_bit 0 (word_of r Tdwbal queue)) (word_of r Tdwbah queue) (word_of r Tdwbal queue)
+    (descriptor_address (ring_of r Tx queue) (ring_of r Tx queue).head)
+    (head_even (word_of r Tdbah queue) (word_of r Tdbal queue) (ring_of r Tx queue).head (omega (arith, base)))
 
 pub reports_lie : ReportsLieInBlocks
-reports_lie s sound a queue back told =
+reports_lie s sound queue back told =
     let r = s.registers in
     let is = reported queue (reply_to s (event.TxStep queue)) s (after s (event.TxStep queue))
     (transmitting_tells s sound queue) back told in
     subst (λ x. LiesIn (x / 2048) x (report_length (writeback_of r queue))) (sym is)
-    (lies r sound.registers.shape a queue)
+    (lies r queue (rings_aligned r sound.registers Tx queue))

@@ -3,10 +3,9 @@
 //! Each law is the contract of a function that does nothing.
 #![tactic(auto)]
 
-ghost use Rattle.history_laws.specs.Aligned.{NewRingsAreAligned, EventsKeepAligned, HistoriesKeepAligned, ReportsLieInBlocks};
 ghost use Rattle.history_laws.specs.Lent.{OnlyLentStays, AnewIsDone};
 ghost use Rattle.history_laws.specs.Laws.{ModeIsTold, AloneByEntries, BeginningIsAlone, HistoriesKeepSound};
-ghost use Rattle.history_laws.specs.Staged.{NewSidesStageWhileOn, EventsKeepStaged, HistoriesKeepStaged};
+ghost use Rattle.history_laws.specs.Reports.{ReportsLieInBlocks};
 
 /// The mode by which the queues are parted among pools, read off the entries of a history, is the device's own: what
 /// its register GCR_EXT says.
@@ -26,20 +25,10 @@ pub fn histories_keep_devices_sound()
     ensures { HistoriesKeepSound }
 {}
 
-/// The base and the length of each ring of a device are multiples of 128, in a new device and through every history;
-/// and so what a step of transmitting reports lies in the block where it begins.
-pub fn rings_stay_aligned()
-    ensures new { NewRingsAreAligned }
-    ensures event { EventsKeepAligned }
-    ensures history { HistoriesKeepAligned }
-    ensures reports { ReportsLieInBlocks }
-{}
-
-/// Nothing is staged on a transmit side that is off, in a new device and through every history.
-pub fn sides_stage_bytes_while_on()
-    ensures new { NewSidesStageWhileOn }
-    ensures event { EventsKeepStaged }
-    ensures history { HistoriesKeepStaged }
+/// What a step of transmitting writes back lies in the block where it begins: the rings of a sound device lie at
+/// multiples of 128.
+pub fn reports_lie_in_their_blocks()
+    ensures { ReportsLieInBlocks }
 {}
 
 /// Where of some numbers only those are lent that a driver knows to be, it stays so over every event: over one that

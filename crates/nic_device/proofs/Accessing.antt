@@ -6,14 +6,15 @@ use Rattle.register_file.specs.RegTable.declared.place.Place.{Place}
 use Rattle.register_file.specs.Access.{asks_reset, asks_pool_reset, after_read}
 use Rattle.register_file.specs.Pools.{mode_in}
 use Rattle.register_laws.specs.Laws.{after_write}
-use Rattle.register_laws.proofs.Sound.{sound-after_read, sound-written}
+use Rattle.register_laws.specs.Footprint.{of_read}
+use Rattle.register_laws.proofs.Sound.{sound-after_read}
 use Rattle.register_laws.proofs.Within.{within-after_read, within-written}
 use Rattle.nic_device.specs.Access.{named_read, named_written}
 use Rattle.nic_device.specs.Named.{named}
 use Rattle.nic_device.specs.Footprint.{read_reach, write_reach, StaysWithin}
 use Rattle.nic_device.specs.Outcome.{Outcome, gives}
 use Rattle.nic_device.specs.PoolReset.{with_pool_reset}
-use Rattle.nic_device.proofs.PoolReset.{pool_reset_sound, pool_reset_stays}
+use Rattle.nic_device.proofs.PoolReset.{pool_reset_sound, pool_reset_stays, written_sound}
 use Rattle.nic_device.specs.Eeprom.{reset}
 use Rattle.nic_device.specs.State.{State}
 use Rattle.nic_device.proofs.Triples.{reset_sound, reset_leaves}
@@ -21,6 +22,7 @@ use Rattle.rx_ring.specs.DmaArena.Memory.{Memory, has_block}
 use Rattle.std.specs.FinMap as map
 use Rattle.nic_device.proofs.Keeping.{sound-registers, stays-registers}
 use Rattle.nic_device.proofs.Leads.{Leads, leads-still, leads-to}
+use Rattle.nic_device.proofs.SidesOn.{on_kept, sides_kept, spares-of_read}
 use Rattle.nic_device.specs.declared.event.Event.TheVariants as event
 use Rattle.nic_device.specs.declared.event.Port.{Port}
 use Rattle.nic_device.specs.declared.named.Named.{Named}
@@ -35,9 +37,11 @@ pub read_leads : (s : State) (port : Port) (n : ℕ) (m : Named)
 read_leads s port n (Nothing seen) here = leads-still s (event.Read port n) (Stray seen) (λ no. refl)
 read_leads s port n (Register p view) here =
     let r = after_read (row_of p.row).kind s.registers p in
-    leads-to s (event.Read port n) _ _ (λ h is. sound-registers s r h (sound-after_read s.registers p h.registers))
-    (here (named_read s (Register p view))
-    (stays-registers (read_reach (Register p view)) s r (within-after_read s.registers p))) refl refl
+    let within = within-after_read s.registers p in
+    let sides = sides_kept (of_read p) s.registers r (spares-of_read p) within in
+    leads-to s (event.Read port n) _ _
+    (λ h is. sound-registers s r h (sound-after_read s.registers p h.registers) (on_kept s.registers r sides))
+    (here (named_read s (Register p view)) (stays-registers (read_reach (Register p view)) s r within)) refl refl
 
 reset_stays : (s : State) (p : Place) (view word : ℕ) → asks_reset (row_of p.row).kind word ≡ true
     → StaysWithin (write_reach (mode_in s.registers) (Register p view) word) s (reset s)
@@ -73,6 +77,6 @@ write_leads s port n word (Register p view) here =
     (λ asks. leads-to s e Done _ (λ h is. pool_reset_sound s p.index h)
     (here (gives Done pool) (rw (none, asks) (pool_reset_stays s p.index))) refl refl)
     (λ plain. leads-to s e Done _
-    (λ h is. sound-registers s r h (sound-written s.registers p view word h.registers is.2))
+    (λ h is. written_sound s p view word h)
     (here (gives Done (record s { registers = r }))
     (stays-registers reach s r (rw (none, plain) (within-written s.registers p view word)))) refl refl))

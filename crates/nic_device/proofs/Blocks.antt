@@ -1,13 +1,15 @@
 -- Lent blocks stay whole, and their bytes bytes.
-use Rattle.std.proofs.Common.{◌≡◌, ℕ, zero, suc, ◌+◌, ◌/◌, ◌%◌, ◌<◌, inl, inr, List, [], ◌∷◌, refl, sym, subst, ◌∙◌, arith, Option, Some, None}
+use Rattle.std.proofs.Common.{◌≡◌, ℕ, zero, suc, ◌+◌, ◌/◌, ◌%◌, ◌<◌, inl, inr, List, [], ◌∷◌, length, get_or, refl, sym, subst, ◌∙◌, arith, Option, Some, None}
+use Rattle.std.specs.Prelude.{IfSome, unwrap_or}
 use Rattle.std.proofs.Math.ListN.{set}
 use Rattle.std.specs.FinMap as map
 use Rattle.std.specs.Ordering.{nat_cmp}
 use Rattle.std.specs.Int.{Width, w64, byte_at, bytes_low_first, byte_len, to_le_bytes}
-use Rattle.std.proofs.lemmas.Bool.{cases_eq}
+use Rattle.std.proofs.lemmas.Bool.{cases_eq, cases_lt}
+use Rattle.std.proofs.lemmas.List.{get_or_past}
 use Rattle.std.proofs.lemmas.List.Elements.{All-nil, All-cons, All-head, All-tail, All-append, All-set}
 use Rattle.rx_ring.specs.DmaArena.Block.{Block}
-use Rattle.rx_ring.specs.DmaArena.Memory.{Memory, with_byte, set_byte, write_at}
+use Rattle.rx_ring.specs.DmaArena.Memory.{Memory, byte_at as memory_byte, read_at, with_byte, set_byte, write_at}
 use Rattle.rx_ring.proofs.DmaArena.Bus.{get-insert_same, get-insert_other, get-remove_same, get-remove_other, IsWhole-write_at}
 use Rattle.rx_ring.proofs.DmaArena.Moves.{IsWhole-insert, IsWhole-remove}
 use Rattle.rx_ring.specs.DmaRing.Descriptor.{of_halves}
@@ -93,6 +95,30 @@ AreBlocks-write_at m a bytes h small = record {
   whole = IsWhole-write_at m a bytes h.whole;
   bytes = HasBytes-write_at m a bytes h.bytes small;
 }
+
+-- and bytes that are read
+byte-of : (o : Option (List ℕ)) (i : ℕ) → IfSome o AreBytes → get_or (unwrap_or o []) i 0 < 256
+byte-of None i is = omega arith
+byte-of (Some bytes) i is = elim (cases_lt i (length bytes)) as (λ _. get_or bytes i 0 < 256) [
+  | inl inside ↦ is i 0 inside
+  | inr past ↦ rw (get_or_past bytes i 0 past) (omega arith)
+]
+
+bytes-of : (m : Memory) (number : ℕ) (o : Option (List ℕ)) → HasBytes m → map.get m number ≡ o → IfSome o AreBytes
+bytes-of m number None h got = tt
+bytes-of m number (Some block) h got = h number block got
+
+byte_at-small : (m : Memory) (a : ℕ) → HasBytes m → memory_byte m a < 256
+unfolding memory_byte
+byte_at-small m a h =
+    byte-of (map.get m (a / 2048)) (a % 2048) (bytes-of m (a / 2048) (map.get m (a / 2048)) h refl)
+
+pub read_at-small : (m : Memory) → AreBlocks m → (a n : ℕ) → AreBytes (read_at m a n)
+unfolding read_at
+read_at-small m h a zero = All-nil (λ byte. byte < 256)
+read_at-small m h a (suc n) =
+    All-cons (λ byte. byte < 256) (memory_byte m a) (read_at m (a + 1) n) (byte_at-small m a h.bytes)
+    (read_at-small m h (a + 1) n)
 
 -- no block is lent
 pub AreBlocks-empty : AreBlocks map.empty

@@ -1,7 +1,7 @@
 -- What accesses, memory calls, arrivals, the link, enables and messages can answer, and the state that they leave.
-use Rattle.std.proofs.Common.{cond, ◌≡◌, ◌<◌, ℕ, Bool, true, false, List, [], ◌∷◌, ◌++◌, length, refl, Option, Some, None, Ok, Err, nat_lt}
+use Rattle.std.proofs.Common.{cond, ◌≡◌, ◌<◌, ◌≤◌, ℕ, Bool, true, false, List, [], ◌∷◌, ◌++◌, length, refl, Option, Some, None, Ok, Err, nat_lt}
 use Rattle.std.specs.Prelude.{Result}
-use Rattle.std.proofs.lemmas.Bool.{cond_both, ltb-true}
+use Rattle.std.proofs.lemmas.Bool.{cond_both, ltb-true, ltb-false}
 use Rattle.std.specs.FinMap as map
 use Rattle.rx_ring.specs.DmaArena.Block.{Block}
 use Rattle.rx_ring.specs.DmaArena.Memory.{write_at}
@@ -19,7 +19,7 @@ use Rattle.nic_device.specs.Lending.{lent, taken, block_taken, peeked, poked}
 use Rattle.nic_device.specs.Arrival.{arrived, let_in, with_count, missed, sorted_in, why_unwanted}
 use Rattle.nic_device.specs.Interrupt.{device_raised, link_cause, has_group, message_reply, messaged, interrupted}
 use Rattle.nic_device.specs.Switching.{queue_switched, side_switched}
-use Rattle.nic_device.specs.Link.{link_set, collected, oldest_collected}
+use Rattle.nic_device.specs.Link.{link_set}
 use Rattle.register_file.specs.RegTable.Rows.{row_of}
 use Rattle.register_file.specs.RegTable.declared.place.Place.{Place}
 use Rattle.register_file.specs.VfMap.declared.mode.Mode.{Mode}
@@ -28,7 +28,7 @@ use Rattle.register_laws.specs.Footprint.{of_write}
 use Rattle.nic_device.specs.Footprint.{Reach, nowhere, in_registers, reset_reach, pool_reach, write_reach}
 use Rattle.nic_device.specs.declared.named.Named.{Named}
 use Rattle.nic_device.specs.declared.named.Named.TheVariants.{Nothing, Register}
-use Rattle.nic_device.specs.declared.event.Reply.TheVariants.{Done, Idle, NoQueue, NoGroup, NotLent, Misaligned, Bytes, Buf, Twice, Dropped, Frame}
+use Rattle.nic_device.specs.declared.event.Reply.TheVariants.{Done, Idle, NoQueue, NoGroup, NotLent, Misaligned, Bytes, Buf, Twice, Dropped}
 use Rattle.nic_device.specs.declared.event.Why.{Why}
 use Rattle.nic_device.specs.declared.event.Why.TheVariants.{LinkDown, Off, Short, Long, Full}
 
@@ -88,22 +88,25 @@ pub record Arrives (P : Outcome → Type 0) (s : State) (frame : List ℕ) : Typ
   pub short : P (gives (Dropped Short) (with_count s Ruc))
   pub long : P (gives (Dropped Long) (with_count s Roc))
   pub missed : P (gives (Dropped Full) (missed s))
-  pub joined : (t : Target) → sorted s.registers frame ≡ Ok t → length s.waiting < s.fifo
+  pub joined : (t : Target) → sorted s.registers frame ≡ Ok t → length s.waiting < s.fifo → 60 ≤ length frame
+      → length frame ≤ frame_limit s.registers
       → P (gives Done (record (with_count s Gprc) { waiting = s.waiting ++ let_in frame t ∷ [] }))
 
-sorted_cases : (P : Outcome → Type 0) (s : State) (frame : List ℕ) → Arrives P s frame
-    → (answer : Result Target Unwanted) → sorted s.registers frame ≡ answer → P (sorted_in s frame answer)
-sorted_cases P s frame a (Ok t) is =
-    cond_both (nat_lt (length s.waiting) s.fifo) _ _ P (λ room. a.joined t is (ltb-true _ _ room)) (λ full. a.missed)
-sorted_cases P s frame a (Err why) is = a.dropped (why_unwanted why)
+sorted_cases : (P : Outcome → Type 0) (s : State) (frame : List ℕ) → Arrives P s frame → 60 ≤ length frame
+    → length frame ≤ frame_limit s.registers → (answer : Result Target Unwanted) → sorted s.registers frame ≡ answer
+    → P (sorted_in s frame answer)
+sorted_cases P s frame a long short (Ok t) is =
+    cond_both (nat_lt (length s.waiting) s.fifo) _ _ P (λ room. a.joined t is (ltb-true _ _ room) long short)
+    (λ full. a.missed)
+sorted_cases P s frame a long short (Err why) is = a.dropped (why_unwanted why)
 
 pub arrived_cases : (P : Outcome → Type 0) (s : State) (frame : List ℕ) → Arrives P s frame → P (arrived s frame)
 arrived_cases P s frame a =
     either_way P s.link _ _
     (either_way P (can_receive s.registers) _ _
-    (either_way P (nat_lt (length frame) 60) _ _ a.short
-    (either_way P (nat_lt (frame_limit s.registers) (length frame)) _ _ a.long
-    (sorted_cases P s frame a _ refl)))
+    (cond_both (nat_lt (length frame) 60) _ _ P (λ short. a.short) (λ long.
+    cond_both (nat_lt (frame_limit s.registers) (length frame)) _ _ P (λ longer. a.long) (λ short.
+    sorted_cases P s frame a (ltb-false _ _ long) (ltb-false _ _ short) _ refl)))
     (a.dropped Off))
     (a.dropped LinkDown)
 
@@ -112,19 +115,6 @@ arrived_cases P s frame a =
 pub link_cases : (P : Outcome → Type 0) (s : State) (up : Bool) → P (gives Idle s)
     → P (gives Done (record s { link = up; registers = device_raised s.registers link_cause })) → P (link_set s up)
 link_cases P s up idle done = either_way P _ _ _ idle done
-
-collected_oldest : (P : Outcome → Type 0) (s : State) (out : List (ℕ × List ℕ)) → P (gives Idle s)
-    → ((queue : ℕ) (bytes : List ℕ) (others : List (ℕ × List ℕ))
-    → P (gives (Frame queue bytes) (record s { out = others })))
-    → P (oldest_collected s out)
-collected_oldest P s [] idle frame = idle
-collected_oldest P s (f ∷ others) idle frame = frame f.0 f.1 others
-
-pub collected_cases : (P : Outcome → Type 0) (s : State) → P (gives Idle s)
-    → ((queue : ℕ) (bytes : List ℕ) (others : List (ℕ × List ℕ))
-    → P (gives (Frame queue bytes) (record s { out = others })))
-    → P (collected s)
-collected_cases P s idle frame = collected_oldest P s s.out idle frame
 
 -- steps of a side's enable
 

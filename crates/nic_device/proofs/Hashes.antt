@@ -1,12 +1,13 @@
 -- Hashes and RSS types fit what descriptors have for them.
-use Rattle.std.proofs.Common.{ℕ, ◌^◌, ◌<◌, List, [], ◌∷◌, map, fold, bit_xor, arith}
+use Rattle.std.proofs.Common.{◌≡◌, ℕ, ◌^◌, ◌<◌, List, [], ◌∷◌, map, fold, bit_xor, refl, subst, arith}
 use Rattle.std.proofs.lemmas.Nat.{xor_lt}
 use Rattle.register_file.specs.RssHash.Bits.{set_bits, bits_from}
-use Rattle.register_file.specs.RssHash.Choice.{code_of}
+use Rattle.register_file.specs.RssHash.Choice.{code_of, hashed_part}
 use Rattle.register_file.specs.RssHash.Toeplitz.{toeplitz_hash}
 use Rattle.register_file.specs.RssHash.declared.choice.RssType.{RssType}
 use Rattle.register_file.specs.RssHash.declared.choice.RssType.TheVariants.{NoHash, TcpIpv4, Ipv4, TcpIpv6, Ipv6, UdpIpv4, UdpIpv6}
 use Rattle.register_file.proofs.RssHash.Sliding.{bits_from-lt}
+use Rattle.nic_device.specs.Sound.{IsTypeNumber}
 
 fold_windows-lt : (key ks : List ℕ) (acc : ℕ) → acc < 2 ^ 32
     → fold bit_xor acc (map (λ k. bits_from key k 32) ks) < 2 ^ 32
@@ -19,6 +20,11 @@ pub hash-lt : (key input : List ℕ) → toeplitz_hash key input < 2 ^ 32
 unfolding toeplitz_hash
 hash-lt key input = fold_windows-lt key (set_bits input) 0 (omega arith)
 
+-- the hash of nothing
+pub hash-none : (key : List ℕ) → toeplitz_hash key [] ≡ 0
+unfolding toeplitz_hash
+hash-none key = refl
+
 pub code-lt : (t : RssType) → code_of t < 16
 code-lt NoHash = omega arith
 code-lt TcpIpv4 = omega arith
@@ -27,3 +33,12 @@ code-lt TcpIpv6 = omega arith
 code-lt Ipv6 = omega arith
 code-lt UdpIpv4 = omega arith
 code-lt UdpIpv6 = omega arith
+
+-- the number of a type fits its four bits
+pub type-lt : (number : ℕ) → IsTypeNumber number → number < 16
+type-lt number is = subst (λ n. n < 16) is.1 (code-lt is.0)
+
+-- what has no type has no hash
+pub unhashed : (key input : List ℕ) (t : RssType) → code_of t ≡ 0 → toeplitz_hash key (hashed_part t input) ≡ 0
+unhashed key input NoHash none = hash-none key
+unhashed key input other none = absurd (omega (arith, none))

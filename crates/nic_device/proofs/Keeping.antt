@@ -1,57 +1,100 @@
 -- Parts of a state that are replaced: it stays sound, and within its reach.
-use Rattle.std.proofs.Common.{◌≤◌, ℕ, Bool, List, [], length, arith}
-use Rattle.std.specs.Prelude.{slice_set}
-use Rattle.std.proofs.lemmas.List.{length-set}
-use Rattle.std.proofs.lemmas.List.Elements.{All-set, All-replicate}
-use Rattle.std.proofs.lemmas.List.{length-replicate}
+use Rattle.std.proofs.Common.{◌≡◌, ◌<◌, ◌≤◌, ℕ, zero, suc, Bool, false, List, [], ◌∷◌, length, get_or, refl, ◌∙◌, subst, inl, inr, arith}
+use Rattle.std.specs.Prelude.{All, slice_set}
+use Rattle.std.proofs.lemmas.Bool.{cases_eq, cases_lt}
+use Rattle.std.proofs.lemmas.List.{get_or_past, get_or-replicate, get_or-set_other, length-replicate, length-set}
+use Rattle.std.proofs.lemmas.List.Elements.{All-nil, All-replicate, All-set, All-weaker}
 use Rattle.rx_ring.specs.DmaArena.Memory.{Memory}
+use Rattle.rx_ring.specs.DmaRing.declared.dir.Dir.TheVariants.{Rx, Tx}
 use Rattle.eeprom_image.specs.Image.{IsImage}
+use Rattle.register_file.specs.Queue.{is_on}
 use Rattle.register_file.specs.Registers.{Registers}
 use Rattle.register_laws.specs.Footprint.{ChangesWithin}
 use Rattle.register_laws.specs.Sound.{AreSound}
 use Rattle.register_laws.proofs.Footprints.{within-refl}
 use Rattle.nic_device.specs.Footprint.{Reach, StaysWithin}
-use Rattle.nic_device.specs.Sound.{AreBlocks, AreWaiting, AreStaged, IsStaged, IsSound}
+use Rattle.nic_device.specs.Sound.{AreBlocks, AreStaged, AreStagedWhileOn, AreWaiting, IsBegunWhileOn, IsOut, IsSound, IsStaged}
 use Rattle.nic_device.specs.State.{State, Waiting, none_staged}
+use Rattle.nic_device.proofs.SidesOn.{KeepsOn, was_off}
 
 -- sound parts
 
-pub sound-registers : (s : State) (r : Registers) → IsSound s → AreSound r → IsSound (record s { registers = r })
-sound-registers s r h sound = assumption
+-- other registers, frames that wait and staged bytes, which are sound together
+pub sound-changed : (s : State) (r : Registers) (ws : List Waiting) (staged : List (List ℕ)) → IsSound s → AreSound r
+    → AreWaiting ws → All (IsBegunWhileOn r) ws → length ws ≤ s.fifo → AreStaged staged → AreStagedWhileOn r staged
+    → IsSound (record s { registers = r; waiting = ws; staged = staged })
+sound-changed s r ws staged h sound waiting begun room short bare = assumption
+
+-- other registers, in which each side that was on is on
+pub sound-registers : (s : State) (r : Registers) → IsSound s → AreSound r → KeepsOn s.registers r
+    → IsSound (record s { registers = r })
+sound-registers s r h sound on =
+    let begun = All-weaker (IsBegunWhileOn s.registers) (IsBegunWhileOn r) (λ w was some. on Rx w.queue (was some))
+    s.waiting h.begun in
+    sound-changed s r s.waiting s.staged h sound h.waiting begun h.room h.staged
+    (λ queue off. h.bare queue (was_off s.registers r on Tx queue off))
 
 pub sound-memory : (s : State) (m : Memory) → IsSound s → AreBlocks m → IsSound (record s { memory = m })
 sound-memory s m h blocks = assumption
 
-pub sound-waiting : (s : State) (ws : List Waiting) → IsSound s → AreWaiting ws → length ws ≤ s.fifo
-    → IsSound (record s { waiting = ws })
-sound-waiting s ws h waiting room = assumption
+pub sound-waiting : (s : State) (ws : List Waiting) → IsSound s → AreWaiting ws → All (IsBegunWhileOn s.registers) ws
+    → length ws ≤ s.fifo → IsSound (record s { waiting = ws })
+sound-waiting s ws h waiting begun room = assumption
 
 pub sound-staged : (s : State) (staged : List (List ℕ)) → IsSound s → AreStaged staged
-    → IsSound (record s { staged = staged })
-sound-staged s staged h short = assumption
+    → AreStagedWhileOn s.registers staged → IsSound (record s { staged = staged })
+sound-staged s staged h short bare = assumption
 
--- the frames out and the link are of any kind
-pub sound-rest : (s : State) (out : List (ℕ × List ℕ)) (link : Bool) → IsSound s
-    → IsSound (record s { out = out; link = link })
-sound-rest s out link h = assumption
+pub sound-out : (s : State) (out : List (ℕ × List ℕ)) → IsSound s → All IsOut out → IsSound (record s { out = out })
+sound-out s out h sent = assumption
+
+-- the link is up or down
+pub sound-link : (s : State) (link : Bool) → IsSound s → IsSound (record s { link = link })
+sound-link s link h = assumption
 
 pub sound-image : (s : State) (image : List ℕ) → IsSound s → IsImage image → IsSound (record s { image = image })
 sound-image s image h is = assumption
 
 -- staged bytes
 
+pub IsStaged-none : IsStaged []
+IsStaged-none = record { bytes = All-nil (λ byte. byte < 256); short = omega arith }
+
 pub AreStaged-none : AreStaged none_staged
 AreStaged-none = record {
   queues = length-replicate {A = List ℕ} 128 [];
-  short = All-replicate IsStaged 128 [] (omega arith);
+  each = All-replicate IsStaged 128 [] IsStaged-none;
 }
+
+pub bare-none : (r : Registers) → AreStagedWhileOn r none_staged
+bare-none r queue off = elim (cases_lt queue 128) as (λ _. get_or none_staged queue [] ≡ []) [
+  | inl small ↦ get_or-replicate 128 queue [] [] small
+  | inr past ↦ get_or_past none_staged queue [] past
+]
 
 pub AreStaged-set : (staged : List (List ℕ)) (queue : ℕ) (bytes : List ℕ) → AreStaged staged → IsStaged bytes
     → AreStaged (slice_set staged queue bytes)
 AreStaged-set staged queue bytes h short = record {
   queues = simp length-set h.queues;
-  short = All-set IsStaged staged queue bytes short h.short;
+  each = All-set IsStaged staged queue bytes short h.each;
 }
+
+-- bytes that are dropped are none
+pub dropped-none : (staged : List (List ℕ)) (i : ℕ) → get_or (slice_set staged i []) i [] ≡ []
+dropped-none [] i = refl
+dropped-none (x ∷ xs) zero = refl
+dropped-none (x ∷ xs) (suc i) = dropped-none xs i
+
+-- a queue has other staged bytes: its side is on, or they are none
+pub bare-set : (r : Registers) (staged : List (List ℕ)) (queue : ℕ) (bytes : List ℕ) → AreStagedWhileOn r staged
+    → (is_on r Tx queue ≡ false → bytes ≡ []) → AreStagedWhileOn r (slice_set staged queue bytes)
+bare-set r staged queue bytes bare own other off =
+    elim (cases_eq other queue) as (λ _. get_or (slice_set staged queue bytes) other [] ≡ []) [
+      | inl same ↦
+          let none = own (subst (λ n. is_on r Tx n ≡ false) same off) in
+          rw (same, none) (dropped-none staged queue)
+      | inr apart ↦ get_or-set_other staged queue other bytes [] apart ∙ bare other off
+    ]
 
 -- what stays
 

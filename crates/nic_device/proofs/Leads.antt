@@ -13,6 +13,7 @@ use Rattle.nic_device.specs.State.{State}
 use Rattle.nic_device.specs.Step.{moves_block, hands_out, is_fault}
 use Rattle.nic_device.proofs.Keeping.{sound-registers, sound-memory, stays-still, stays-registers}
 use Rattle.nic_device.proofs.Coming.{Comes}
+use Rattle.nic_device.proofs.SidesOn.{SparesEnables, on_kept, sides_kept}
 use Rattle.nic_device.specs.declared.event.Event.{Event}
 use Rattle.nic_device.specs.declared.event.Reply.{Reply}
 
@@ -46,10 +47,13 @@ leads-memory s e reply m sound blocks lent hands no_fault = record {
   faults = λ told. cc;
 }
 
--- one that changes registers alone
+-- one that changes registers alone, and turns no side on or off
 pub leads-registers : (s : State) (e : Event Block) (reply : Reply Block) (r : Registers) {good : Type 0}
     → (IsSound s → IsEvent e → good) → Comes good (reach_by s e reply).registers s.registers r
-    → IsFalse (hands_out reply) → Leads s e (gives reply (record s { registers = r }))
-leads-registers s e reply r is comes none =
-    leads-to s e reply _ (λ h made. sound-registers s r h (comes.sound (is h made) h.registers))
+    → SparesEnables (reach_by s e reply).registers → IsFalse (hands_out reply)
+    → Leads s e (gives reply (record s { registers = r }))
+leads-registers s e reply r is comes spares none =
+    let sides = sides_kept (reach_by s e reply).registers s.registers r spares comes.within in
+    leads-to s e reply _
+    (λ h made. sound-registers s r h (comes.sound (is h made) h.registers) (on_kept s.registers r sides))
     (stays-registers (reach_by s e reply) s r comes.within) none refl

@@ -30,6 +30,7 @@ pub mod Queued
 pub mod Raising
 pub mod Receiving
 pub mod Sending
+pub mod SidesOn
 pub mod Staging
 pub mod Steps
 pub mod SwitchedSides

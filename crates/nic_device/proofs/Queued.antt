@@ -1,34 +1,50 @@
 -- Frames that wait.
-use Rattle.std.proofs.Common.{◌≡◌, ◌<◌, ◌≤◌, ◌+◌, ℕ, List, [], ◌∷◌, ◌++◌, length, length-append, refl, arith, Ok}
-use Rattle.std.specs.Prelude.{◌&&◌, ◌==◌, not}
-use Rattle.std.proofs.lemmas.List.Elements.{All-nil, All-head, All-tail, All-push}
+use Rattle.std.proofs.Common.{◌≡◌, ◌<◌, ◌≤◌, ◌+◌, ℕ, true, false, List, [], ◌∷◌, ◌++◌, length, length-append, refl, ◌∙◌, arith, Ok}
+use Rattle.std.specs.Prelude.{◌&&◌, ◌==◌, not, All}
+use Rattle.std.proofs.lemmas.Bool.{cond_both}
+use Rattle.std.proofs.lemmas.Bool.Decides.{nat_tests}
+use Rattle.std.proofs.lemmas.List.Elements.{All-nil, All-cons, All-head, All-tail, All-push, All-weaker}
 use Rattle.rx_filter.specs.Sorting.{sorted}
 use Rattle.rx_filter.specs.declared.target.Target.{Target}
 use Rattle.rx_ring.specs.declared.filled.Filled.{Filled}
+use Rattle.rx_ring.specs.DmaRing.declared.dir.Dir.TheVariants.{Rx}
+use Rattle.register_file.specs.Queue.{is_on}
 use Rattle.register_file.specs.Registers.{Registers}
 use Rattle.nic_device.specs.State.{Waiting}
 use Rattle.nic_device.specs.Arrival.{let_in}
 use Rattle.nic_device.specs.Receive.{after_piece}
-use Rattle.nic_device.specs.Sound.{AreBytes, IsUnbegun, AreWaiting}
+use Rattle.nic_device.specs.Sound.{AreBytes, AreWaiting, IsBegunWhileOn, IsUnbegun}
 use Rattle.nic_device.specs.Switching.{without_part}
 use Rattle.nic_device.proofs.Cases.{either_way}
 use Rattle.nic_device.proofs.Targets.{sorted-small}
 
 -- a frame that is let in
-IsUnbegun-let_in : (r : Registers) (frame : List ℕ) (t : Target) → sorted r frame ≡ Ok t → AreBytes frame
-    → IsUnbegun (let_in frame t)
-IsUnbegun-let_in r frame t is bytes =
+pub IsUnbegun-let_in : (r : Registers) (frame : List ℕ) (t : Target) → sorted r frame ≡ Ok t → AreBytes frame
+    → 60 ≤ length frame → length frame ≤ 65535 → IsUnbegun (let_in frame t)
+IsUnbegun-let_in r frame t is bytes long short =
     let small = sorted-small r frame t is in
     record {
-      waits = record { bytes = bytes; queue = small.queue; hash = small.hash; rss = small.rss; offset = omega arith };
+      waits = record {
+        bytes = bytes;
+        least = long;
+        most = short;
+        offset = omega arith;
+        queue = small.queue;
+        rss = small.rss;
+        hash = small.hash;
+        unhashed = small.unhashed;
+      };
       none = refl;
     }
 
-pub AreWaiting-joined : (r : Registers) (ws : List Waiting) (frame : List ℕ) (t : Target) → sorted r frame ≡ Ok t
-    → AreBytes frame → AreWaiting ws → AreWaiting (ws ++ let_in frame t ∷ [])
-AreWaiting-joined r [] frame t is bytes h = ((IsUnbegun-let_in r frame t is bytes).waits, All-nil IsUnbegun)
-AreWaiting-joined r (w ∷ ws) frame t is bytes h =
-    (h.0, All-push IsUnbegun ws (let_in frame t) h.1 (IsUnbegun-let_in r frame t is bytes))
+pub AreWaiting-joined : (ws : List Waiting) (w : Waiting) → IsUnbegun w → AreWaiting ws → AreWaiting (ws ++ w ∷ [])
+AreWaiting-joined [] w new h = (new.waits, All-nil IsUnbegun)
+AreWaiting-joined (v ∷ ws) w new h = (h.0, All-push IsUnbegun ws w h.1 new)
+
+-- what isn't begun asks for no side
+pub begun-unbegun : (r : Registers) (ws : List Waiting) → All IsUnbegun ws → All (IsBegunWhileOn r) ws
+begun-unbegun r ws h =
+    All-weaker IsUnbegun (IsBegunWhileOn r) (λ w is some. let none = is.none in absurd (omega arith)) ws h
 
 -- the frames after the first
 pub AreWaiting-others : (w : Waiting) (others : List Waiting) → AreWaiting (w ∷ others) → AreWaiting others
@@ -36,17 +52,56 @@ AreWaiting-others w [] h = tt
 AreWaiting-others w (v ∷ others) h = ((All-head IsUnbegun v others h.1).waits, All-tail IsUnbegun v others h.1)
 
 -- a piece of the first was written
-pub AreWaiting-after_piece : (w : Waiting) (others : List Waiting) (f : Filled) → w.offset + f.len ≤ length w.frame
-    → AreWaiting (w ∷ others) → AreWaiting (after_piece w others f)
+pub AreWaiting-after_piece : (w : Waiting) (others : List Waiting) (f : Filled)
+    → (f.end ≡ false → w.offset + f.len < length w.frame) → AreWaiting (w ∷ others)
+    → AreWaiting (after_piece w others f)
 AreWaiting-after_piece w others f inside h =
-    either_way AreWaiting f.end others (record w { offset = w.offset + f.len } ∷ others)
-    (AreWaiting-others w others h)
-    (record { bytes = h.0.bytes; queue = h.0.queue; hash = h.0.hash; rss = h.0.rss; offset = inside }, h.1)
+    let first = h.0 in
+    cond_both f.end others (record w { offset = w.offset + f.len } ∷ others) AreWaiting
+    (λ end. AreWaiting-others w others h)
+    (λ more. (
+      record {
+        bytes = first.bytes;
+        least = first.least;
+        most = first.most;
+        offset = inside more;
+        queue = first.queue;
+        rss = first.rss;
+        hash = first.hash;
+        unhashed = first.unhashed;
+      },
+      h.1,
+    ))
+
+-- its queue's side is on
+pub begun-after_piece : (r : Registers) (w : Waiting) (others : List Waiting) (f : Filled) → is_on r Rx w.queue ≡ true
+    → AreWaiting (w ∷ others) → All (IsBegunWhileOn r) (after_piece w others f)
+begun-after_piece r w others f on h =
+    either_way (All (IsBegunWhileOn r)) f.end others (record w { offset = w.offset + f.len } ∷ others)
+    (begun-unbegun r others h.1)
+    (All-cons (IsBegunWhileOn r) (record w { offset = w.offset + f.len }) others (λ some. on)
+    (begun-unbegun r others h.1))
+
+begun_elsewhere : (queue : ℕ) (w : Waiting) → queue ≡ w.queue → 0 < w.offset
+    → (w.queue == queue && not (w.offset == 0)) ≡ false → ⊥
+begun_elsewhere queue w same some kept = grind (arith, nat_tests)
 
 pub AreWaiting-without_part : (queue : ℕ) (ws : List Waiting) → AreWaiting ws → AreWaiting (without_part queue ws)
 AreWaiting-without_part queue [] h = tt
 AreWaiting-without_part queue (w ∷ others) h =
     either_way AreWaiting (w.queue == queue && not (w.offset == 0)) others (w ∷ others) (AreWaiting-others w others h) h
+
+-- a frame begun on another queue than the one that goes off
+pub begun-without_part : (r s : Registers) (queue : ℕ)
+    → ((other : ℕ) → (queue ≡ other → ⊥) → is_on s Rx other ≡ is_on r Rx other) → (ws : List Waiting)
+    → AreWaiting ws → All (IsBegunWhileOn r) ws → All (IsBegunWhileOn s) (without_part queue ws)
+begun-without_part r s queue others_stay [] waiting h = All-nil (IsBegunWhileOn s)
+begun-without_part r s queue others_stay (w ∷ others) waiting h =
+    let rest = begun-unbegun s others waiting.1 in
+    cond_both (w.queue == queue && not (w.offset == 0)) others (w ∷ others) (All (IsBegunWhileOn s)) (λ own. rest)
+    (λ kept. All-cons (IsBegunWhileOn s) w others (λ some.
+    let apart : queue ≡ w.queue → ⊥ = λ same. begun_elsewhere queue w same some kept in
+    others_stay w.queue apart ∙ All-head (IsBegunWhileOn r) w others h some) rest)
 
 -- and no more wait
 pub length-after_piece : (w : Waiting) (others : List Waiting) (f : Filled) (n : ℕ) → length (w ∷ others) ≤ n

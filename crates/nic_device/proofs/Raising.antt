@@ -1,5 +1,5 @@
 -- What the steps of queues make of the registers: a side changes, frames are counted and causes raised.
-use Rattle.std.proofs.Common.{◌<◌, ◌^◌, ℕ, List, Option, Some, None, refl}
+use Rattle.std.proofs.Common.{◌≡◌, ◌<◌, ◌^◌, ℕ, false, List, Option, Some, None, refl}
 use Rattle.std.specs.Prelude.{⊤}
 use Rattle.register_file.specs.IntrUnit.declared.group.Group.TheVariants.{Pf}
 use Rattle.register_file.specs.RegTable.declared.rows.RowId.{RowId}
@@ -8,7 +8,7 @@ use Rattle.rx_ring.specs.declared.filled.Filled.{Filled}
 use Rattle.tx_ring.specs.declared.fetched.Fetched.{Fetched}
 use Rattle.register_file.specs.Columns.{place}
 use Rattle.register_file.specs.Counters.{counted, counter_of}
-use Rattle.register_file.specs.Queue.{head_row, with_head, shut}
+use Rattle.register_file.specs.Queue.{enable_row, head_row, is_on, with_head, shut}
 use Rattle.register_file.specs.Registers.{Registers}
 use Rattle.rx_ring.specs.DmaRing.declared.dir.Dir.{Dir}
 use Rattle.rx_ring.specs.DmaRing.declared.dir.Dir.TheVariants.{Rx, Tx}
@@ -23,6 +23,7 @@ use Rattle.nic_device.specs.Interrupt.{function_of_queue, device_raised, side_fa
 use Rattle.nic_device.specs.Receive.{frame_counted, slotless_counted, piece_done}
 use Rattle.nic_device.specs.Transmit.{slot_counted, slot_reported}
 use Rattle.nic_device.proofs.Cases.{either_way}
+use Rattle.nic_device.proofs.SidesOn.{KeepsSides, of_move, on_stays, sides_kept, spares-counts, spares-move}
 use Rattle.nic_device.proofs.Coming.{covers-first, covers-second, Comes, IsCounter, then_within, raised, counted_in, raised_by_queue}
 
 -- what a step of a side changes: the side, counters and causes
@@ -58,14 +59,33 @@ covers-head : (dir : Dir) (queue : ℕ) → Covers (of_side dir queue) (the_word
 covers-head Rx queue = covers-the_word (place (head_row Rx) queue)
 covers-head Tx queue = covers-the_word (place (head_row Tx) queue)
 
+-- a footprint with the head, counters and causes
+record HasMove (f : Footprint) (dir : Dir) (queue : ℕ) : Type 0 where
+  head : Covers f (the_word (place (head_row dir) queue))
+  counts : Covers f counts_and_causes
+
+step_has : (dir : Dir) (queue : ℕ) → HasMove (of_step dir queue) dir queue
+step_has dir queue = record {
+  head = covers-trans (of_step dir queue) (of_side dir queue) (the_word (place (head_row dir) queue))
+      (covers-side dir queue) (covers-head dir queue);
+  counts = covers-second (of_side dir queue) counts_and_causes;
+}
+
+move_has : (dir : Dir) (queue : ℕ) → HasMove (of_move dir queue) dir queue
+move_has dir queue = record {
+  head = covers-first (the_word (place (head_row dir) queue)) counts_and_causes;
+  counts = covers-second (the_word (place (head_row dir) queue)) counts_and_causes;
+}
+
+head_in : {good : Type 0} (f : Footprint) (r : Registers) (dir : Dir) (queue head : ℕ) → HasMove f dir queue
+    → (good → head < 2 ^ 16) → Comes good f r (with_head r dir queue head)
+head_in f r dir queue head has small =
+    then_within f (the_word (place (head_row dir) queue)) r r (with_head r dir queue head) (comes-itself f r) has.head
+    (within-with_head r dir queue head) (λ is h. sound-with_head r dir queue head h (small is))
+
 pub head_moved : {good : Type 0} (r : Registers) (dir : Dir) (queue head : ℕ) → (good → head < 2 ^ 16)
     → Comes good (of_step dir queue) r (with_head r dir queue head)
-head_moved r dir queue head small =
-    then_within (of_step dir queue) (the_word (place (head_row dir) queue)) r r (with_head r dir queue head)
-    (comes-itself (of_step dir queue) r)
-    (covers-trans (of_step dir queue) (of_side dir queue) (the_word (place (head_row dir) queue))
-    (covers-side dir queue) (covers-head dir queue))
-    (within-with_head r dir queue head) (λ is h. sound-with_head r dir queue head h (small is))
+head_moved r dir queue head small = head_in (of_step dir queue) r dir queue head (step_has dir queue) small
 
 pub side_failed-comes : (r : Registers) (dir : Dir) (queue : ℕ)
     → Comes ⊤ (of_step dir queue) r (side_failed r dir queue)
@@ -74,6 +94,13 @@ side_failed-comes r dir queue =
     (then_within (of_step dir queue) (of_side dir queue) r r (shut r dir queue) (comes-itself (of_step dir queue) r)
     (covers-side dir queue) (within-shut r dir queue) (λ is h. sound-shut r dir queue h))
 
+-- and no other side
+pub sides-failed : (r : Registers) (dir side : Dir) (queue other : ℕ)
+    → (of_step dir queue).words (place (enable_row side) other) ≡ false
+    → is_on (side_failed r dir queue) side other ≡ is_on r side other
+sides-failed r dir side queue other apart =
+    on_stays (of_step dir queue) r (side_failed r dir queue) side other apart (side_failed-comes r dir queue).within
+
 -- a frame without a slot, and a piece of a frame
 
 pub slotless-comes : (r : Registers) (queue : ℕ) → Comes ⊤ (of_step Rx queue) r (slotless_counted r queue)
@@ -81,42 +108,70 @@ slotless-comes r queue =
     counted_in (of_step Rx queue) r r Qprdc (counter_of r Rx queue) (covers-counts Rx queue have_counters)
     (record { bank = refl; kind = refl }) (comes-itself (of_step Rx queue) r)
 
-pub piece-comes : (r : Registers) (vfs queue : ℕ) (f : Filled)
-    → Comes (f.head < 2 ^ 16) (of_step Rx queue) r (piece_done r vfs queue f)
-piece-comes r vfs queue f =
+pub sides-slotless : (r : Registers) (queue : ℕ) → KeepsSides r (slotless_counted r queue)
+sides-slotless r queue =
+    sides_kept counts_and_causes r (slotless_counted r queue) spares-counts
+    (counted_in {good = ⊤} counts_and_causes r r Qprdc (counter_of r Rx queue) have_counters
+    (record { bank = refl; kind = refl }) (comes-itself counts_and_causes r)).within
+
+piece_in : (e : Footprint) (r : Registers) (vfs queue : ℕ) (f : Filled) → HasMove e Rx queue
+    → Comes (f.head < 2 ^ 16) e r (piece_done r vfs queue f)
+piece_in e r vfs queue f has =
     let moved = with_head r Rx queue f.head in
     let ended = frame_counted moved vfs queue in
-    let head = head_moved r Rx queue f.head (λ (is : f.head < 2 ^ 16). is) in
-    either_way (Comes (f.head < 2 ^ 16) (of_step Rx queue) r) f.end (raised_by ended vfs Rx queue) moved
-    (raised_by_queue (of_step Rx queue) r ended vfs Rx queue (covers-counts Rx queue have_causes)
-    (function_counted_in (of_step Rx queue) r _ (function_of_queue moved vfs queue) Vfgprc
-    (covers-counts Rx queue have_functions) (record { bank = refl; kind = refl })
-    (counted_in (of_step Rx queue) r moved Qprc (counter_of moved Rx queue) (covers-counts Rx queue have_counters)
+    let head = head_in e r Rx queue f.head has (λ (is : f.head < 2 ^ 16). is) in
+    either_way (Comes (f.head < 2 ^ 16) e r) f.end (raised_by ended vfs Rx queue) moved
+    (raised_by_queue e r ended vfs Rx queue (covers-trans _ _ _ has.counts have_causes)
+    (function_counted_in e r _ (function_of_queue moved vfs queue) Vfgprc
+    (covers-trans _ _ _ has.counts have_functions) (record { bank = refl; kind = refl })
+    (counted_in e r moved Qprc (counter_of moved Rx queue) (covers-trans _ _ _ has.counts have_counters)
     (record { bank = refl; kind = refl }) head)))
     head
 
+pub piece-comes : (r : Registers) (vfs queue : ℕ) (f : Filled)
+    → Comes (f.head < 2 ^ 16) (of_step Rx queue) r (piece_done r vfs queue f)
+piece-comes r vfs queue f = piece_in (of_step Rx queue) r vfs queue f (step_has Rx queue)
+
+pub sides-piece : (r : Registers) (vfs queue : ℕ) (f : Filled) → KeepsSides r (piece_done r vfs queue f)
+sides-piece r vfs queue f =
+    sides_kept (of_move Rx queue) r (piece_done r vfs queue f) (spares-move Rx queue)
+    (piece_in (of_move Rx queue) r vfs queue f (move_has Rx queue)).within
+
 -- a fetched slot
+
+slot_counted_in : (e : Footprint) (r : Registers) (vfs queue : ℕ) (f : Fetched) (o : Option (List ℕ))
+    → HasMove e Tx queue → Comes (f.head < 2 ^ 16) e r (slot_counted r vfs queue f o)
+slot_counted_in e r vfs queue f (Some frame) has =
+    let moved = with_head r Tx queue f.head in
+    function_counted_in e r _ (function_of_queue r vfs queue) Vfgptc
+    (covers-trans _ _ _ has.counts have_functions) (record { bank = refl; kind = refl })
+    (counted_in e r (counted moved Gptc 0) Qptc (counter_of r Tx queue)
+    (covers-trans _ _ _ has.counts have_counters) (record { bank = refl; kind = refl })
+    (counted_in e r moved Gptc 0 (covers-trans _ _ _ has.counts have_counters)
+    (record { bank = refl; kind = refl })
+    (head_in e r Tx queue f.head has (λ (is : f.head < 2 ^ 16). is))))
+slot_counted_in e r vfs queue f None has = head_in e r Tx queue f.head has (λ (is : f.head < 2 ^ 16). is)
 
 pub slot_counted-comes : (r : Registers) (vfs queue : ℕ) (f : Fetched) (o : Option (List ℕ))
     → Comes (f.head < 2 ^ 16) (of_step Tx queue) r (slot_counted r vfs queue f o)
-slot_counted-comes r vfs queue f (Some frame) =
-    let moved = with_head r Tx queue f.head in
-    function_counted_in (of_step Tx queue) r _ (function_of_queue r vfs queue) Vfgptc
-    (covers-counts Tx queue have_functions) (record { bank = refl; kind = refl })
-    (counted_in (of_step Tx queue) r (counted moved Gptc 0) Qptc (counter_of r Tx queue)
-    (covers-counts Tx queue have_counters) (record { bank = refl; kind = refl })
-    (counted_in (of_step Tx queue) r moved Gptc 0 (covers-counts Tx queue have_counters)
-    (record { bank = refl; kind = refl })
-    (head_moved r Tx queue f.head (λ (is : f.head < 2 ^ 16). is))))
-slot_counted-comes r vfs queue f None = head_moved r Tx queue f.head (λ (is : f.head < 2 ^ 16). is)
+slot_counted-comes r vfs queue f o = slot_counted_in (of_step Tx queue) r vfs queue f o (step_has Tx queue)
+
+slot_in : (e : Footprint) (r : Registers) (vfs queue : ℕ) (f : Fetched) → HasMove e Tx queue
+    → Comes (f.head < 2 ^ 16) e r (slot_reported r vfs queue f)
+slot_in e r vfs queue f has =
+    let counted = slot_counted r vfs queue f f.frame in
+    let kept = slot_counted_in e r vfs queue f f.frame has in
+    either_way (Comes (f.head < 2 ^ 16) e r) f.rs (raised_by counted vfs Tx queue) counted
+    (raised_by_queue e r counted vfs Tx queue (covers-trans _ _ _ has.counts have_causes) kept) kept
 
 pub slot-comes : (r : Registers) (vfs queue : ℕ) (f : Fetched)
     → Comes (f.head < 2 ^ 16) (of_step Tx queue) r (slot_reported r vfs queue f)
-slot-comes r vfs queue f =
-    let counted = slot_counted r vfs queue f f.frame in
-    let kept = slot_counted-comes r vfs queue f f.frame in
-    either_way (Comes (f.head < 2 ^ 16) (of_step Tx queue) r) f.rs (raised_by counted vfs Tx queue) counted
-    (raised_by_queue (of_step Tx queue) r counted vfs Tx queue (covers-counts Tx queue have_causes) kept) kept
+slot-comes r vfs queue f = slot_in (of_step Tx queue) r vfs queue f (step_has Tx queue)
+
+pub sides-slot : (r : Registers) (vfs queue : ℕ) (f : Fetched) → KeepsSides r (slot_reported r vfs queue f)
+sides-slot r vfs queue f =
+    sides_kept (of_move Tx queue) r (slot_reported r vfs queue f) (spares-move Tx queue)
+    (slot_in (of_move Tx queue) r vfs queue f (move_has Tx queue)).within
 
 -- a frame that arrives is counted, and one that finds no room raises its cause
 

@@ -1,8 +1,9 @@
 -- Steps of transmitting: where they lead.
-use Rattle.std.proofs.Common.{◌≡◌, ◌<◌, ◌^◌, ℕ, false, List, [], get_or, refl, ap, subst, arith, Option, Some, None, Ok, Err}
+use Rattle.std.proofs.Common.{◌≡◌, ◌<◌, ◌^◌, ℕ, Bool, true, false, not, ◌||◌, nat_lt, List, [], get_or, refl, ap, sym, ◌∙◌, subst, inl, inr, arith, Option, Some, None, Ok, Err}
 use Rattle.std.specs.Prelude.{◌==◌, slice_set}
 use Rattle.std.specs.FinMap as map
-use Rattle.std.proofs.lemmas.Bool.{eqb-false}
+use Rattle.std.proofs.lemmas.Bool.{both_ways, cases_Bool, cases_eq, cond_both, eqb-false, ltb-true, ne_eqb}
+use Rattle.std.proofs.lemmas.List.Elements.{All-weaker}
 use Rattle.std.proofs.lemmas.List.{get_or-set_other}
 use Rattle.rx_ring.specs.DmaArena.Memory.{Memory}
 use Rattle.rx_ring.specs.DmaRing.Ring.{slots_of}
@@ -13,20 +14,26 @@ use Rattle.tx_ring.specs.declared.fetched.Fetched.{Fetched}
 use Rattle.tx_ring.specs.declared.tx.Tx.{Tx as Sending}
 use Rattle.tx_ring.proofs.Fetches.{takes_slot}
 use Rattle.tx_ring.proofs.Reported.{writes_inside_report, fetch_keeps_blocks}
+use Rattle.register_file.specs.Queue.{is_on}
+use Rattle.register_file.specs.Registers.{Registers}
+use Rattle.register_file.specs.Settings.{is_stopped, can_transmit}
 use Rattle.register_laws.specs.Sides.{transmit_queue_of}
 use Rattle.nic_device.specs.Footprint.{told_back, back_into}
-use Rattle.nic_device.specs.Sound.{IsSound}
+use Rattle.nic_device.specs.Outcome.{gives}
+use Rattle.nic_device.specs.Receive.{is_empty}
+use Rattle.nic_device.specs.Sound.{AreStagedWhileOn, IsBegunWhileOn, IsSound}
 use Rattle.nic_device.specs.State.{State}
 use Rattle.nic_device.specs.Interrupt.{side_failed}
 use Rattle.nic_device.specs.Step.{hands_out, is_fault}
-use Rattle.nic_device.specs.Transmit.{transmitted, slot_done, staged_by, sending_of, fetched_reply, slot_reported}
+use Rattle.nic_device.specs.Transmit.{transmitted, queue_sent, slot_fetched, is_muted, is_silent, slot_done, staged_by, sending_of, fetched_reply, slot_reported}
 use Rattle.nic_device.proofs.QueueCases.{fetched_by, transmitted_cases}
-use Rattle.nic_device.proofs.Fetched.{AreBlocks-fetched, IsStaged-fetched, frame_limit-lt, IsStaged-by}
-use Rattle.nic_device.proofs.Keeping.{sound-registers, sound-memory, sound-staged, sound-rest, AreStaged-set}
+use Rattle.nic_device.proofs.Fetched.{AreBlocks-fetched, AreOut-with_frame, IsOut-fetched, IsStaged-fetched, frame_limit-lt, IsStaged-by}
+use Rattle.nic_device.proofs.Keeping.{sound-changed, sound-registers, sound-memory, sound-staged, sound-out, AreStaged-set, IsStaged-none, bare-set, dropped-none}
 use Rattle.nic_device.proofs.Leads.{Leads, leads-still, leads-to}
 use Rattle.nic_device.proofs.Memory.{avoids-none}
-use Rattle.nic_device.proofs.Raising.{slot-comes, side_failed-comes}
-use Rattle.rx_ring.specs.DmaRing.declared.dir.Dir.TheVariants.{Tx}
+use Rattle.nic_device.proofs.Raising.{slot-comes, side_failed-comes, sides-failed, sides-slot}
+use Rattle.nic_device.proofs.SidesOn.{on_kept}
+use Rattle.rx_ring.specs.DmaRing.declared.dir.Dir.TheVariants.{Rx, Tx}
 use Rattle.nic_device.specs.declared.event.Event.TheVariants as event
 use Rattle.nic_device.specs.declared.event.Reply.TheVariants.{Idle, NoQueue, Fault}
 
@@ -56,43 +63,74 @@ staged_stays : (staged : List (List ℕ)) (queue : ℕ) (bytes : List ℕ) (othe
 staged_stays staged queue bytes other apart =
     get_or-set_other staged queue other bytes [] (eqb-false other queue apart)
 
+-- a fault drops what was staged, as its side goes off
+other_side : (r : Registers) (queue other : ℕ) → (other ≡ queue → ⊥)
+    → is_on (side_failed r Tx queue) Tx other ≡ is_on r Tx other
+other_side r queue other apart =
+    let ne : (queue == other) ≡ false = ne_eqb queue other (λ same. apart (sym same)) in
+    sides-failed r Tx Tx queue other (rw ne refl)
+
+failed_bare : (s : State) (queue : ℕ) → AreStagedWhileOn s.registers s.staged
+    → AreStagedWhileOn (side_failed s.registers Tx queue) (slice_set s.staged queue [])
+failed_bare s queue bare other off =
+    elim (cases_eq other queue) as (λ _. get_or (slice_set s.staged queue []) other [] ≡ []) [
+      | inl same ↦ rw same (dropped-none s.staged queue)
+      | inr apart ↦ get_or-set_other s.staged queue other [] [] apart
+          ∙ bare other (sym (other_side s.registers queue other apart) ∙ off)
+    ]
+
+failed_sound : (s : State) (queue : ℕ) → IsSound s
+    → IsSound (record s { registers = side_failed s.registers Tx queue; staged = slice_set s.staged queue [] })
+failed_sound s queue h =
+    let r = side_failed s.registers Tx queue in
+    let comes = side_failed-comes s.registers Tx queue in
+    let begun = All-weaker (IsBegunWhileOn s.registers) (IsBegunWhileOn r)
+    (λ w was some. sides-failed s.registers Tx Rx queue w.queue refl ∙ was some) s.waiting h.begun in
+    sound-changed s r s.waiting (slice_set s.staged queue []) h (comes.sound tt h.registers) h.waiting begun h.room
+    (AreStaged-set s.staged queue [] h.staged IsStaged-none) (failed_bare s queue h.bare)
+
 fault_leads : (s : State) (queue : ℕ) (fault : RingFault) (memory : Memory) (bytes : List ℕ)
     → Leads s (event.TxStep queue) (slot_done s queue (Err fault) memory bytes)
 fault_leads s queue fault memory bytes =
     let comes = side_failed-comes s.registers Tx queue in
     leads-to s (event.TxStep queue) (Fault queue fault) _
-    (λ h is. sound-registers (record s { staged = slice_set s.staged queue [] }) (side_failed s.registers Tx queue)
-    (sound-staged s _ h (AreStaged-set s.staged queue [] h.staged (omega arith))) (comes.sound tt h.registers))
+    (λ h is. failed_sound s queue h)
     (assumption (comes.within, staged_stays s.staged queue [])) refl refl
 
 head-small : (s : State) (queue : ℕ) (f : Fetched) → f.head < slots_of (transmit_queue_of s.registers queue).ring
     → f.head < 2 ^ 16
 head-small s queue f inside = omega arith
 
-fetched_sound : (s : State) (queue : ℕ) (f : Fetched) → (fetched_by s queue).answer ≡ Ok f → IsSound s
+fetched_sound : (s : State) (queue : ℕ) (f : Fetched) → (fetched_by s queue).answer ≡ Ok f → queue < 128
+    → is_on s.registers Tx queue ≡ true → IsSound s
     → IsSound (slot_done s queue (Ok f) (fetched_by s queue).memory (fetched_by s queue).staged).state
-fetched_sound s queue f is h =
+fetched_sound s queue f is few on h =
     let q = transmit_queue_of s.registers queue in
     let tx = sending_of s.registers q in
     let o = fetched_by s queue in
     let taken = takes_slot _ _ _ _ f is in
     let small = head-small s queue f taken.inside in
-    let kept = IsStaged-fetched s.memory (staged_by s queue) q.ring tx (IsStaged-by s queue h.staged)
-    (frame_limit-lt s.registers h.registers) in
+    let short = IsStaged-by s queue h.staged in
+    let limit = frame_limit-lt s.registers h.registers in
+    let kept = IsStaged-fetched s.memory (staged_by s queue) q.ring tx h.blocks short limit in
+    let sent = IsOut-fetched s.memory (staged_by s queue) q.ring tx queue h.blocks short limit few f is in
     sound-registers _ (slot_reported s.registers s.vfs queue f)
     (sound-staged _ (slice_set s.staged queue o.staged)
-    (sound-memory _ o.memory (sound-rest s _ s.link h)
+    (sound-memory _ o.memory (sound-out s _ h (AreOut-with_frame s.out queue f.frame h.out sent))
     (AreBlocks-fetched s.memory (staged_by s queue) q.ring tx h.blocks))
-    (AreStaged-set s.staged queue o.staged h.staged kept))
+    (AreStaged-set s.staged queue o.staged h.staged kept)
+    (bare-set s.registers s.staged queue o.staged h.bare (λ off. absurd (both_ways _ off on))))
     ((slot-comes s.registers s.vfs queue f).sound small h.registers)
+    (on_kept s.registers (slot_reported s.registers s.vfs queue f) (sides-slot s.registers s.vfs queue f))
 
-fetched_leads : (s : State) (queue : ℕ) (f : Fetched) → (fetched_by s queue).answer ≡ Ok f
+fetched_leads : (s : State) (queue : ℕ) (f : Fetched) → (fetched_by s queue).answer ≡ Ok f → queue < 128
+    → is_on s.registers Tx queue ≡ true
     → Leads s (event.TxStep queue) (slot_done s queue (Ok f) (fetched_by s queue).memory (fetched_by s queue).staged)
-fetched_leads s queue f is =
+fetched_leads s queue f is few on =
     let q = transmit_queue_of s.registers queue in
     let tx = sending_of s.registers q in
     record {
-      sound = λ h made. fetched_sound s queue f is h;
+      sound = λ h made. fetched_sound s queue f is few on h;
       stays = record {
         registers = (slot-comes s.registers s.vfs queue f).within;
         blocks = λ n none.
@@ -112,10 +150,46 @@ fetched_leads s queue f is =
       faults = λ told. let no = no_fault queue f f.frame in cc;
     }
 
-pub transmit_leads : (s : State) (queue : ℕ) → Leads s (event.TxStep queue) (transmitted s queue)
-transmit_leads s queue = transmitted_cases (Leads s (event.TxStep queue)) s queue (record {
+-- a queue whose side is on, and one whose side is off
+
+on_leads : (s : State) (queue : ℕ) → queue < 128 → is_on s.registers Tx queue ≡ true
+    → Leads s (event.TxStep queue) (transmitted s queue)
+on_leads s queue few on = transmitted_cases (Leads s (event.TxStep queue)) s queue (record {
   none = leads-still s (event.TxStep queue) NoQueue (λ no. refl);
   idle = leads-still s (event.TxStep queue) Idle (λ no. refl);
   fault = λ fault. fault_leads s queue fault (fetched_by s queue).memory (fetched_by s queue).staged;
-  fetched = λ f is. fetched_leads s queue f is;
+  fetched = λ f is. fetched_leads s queue f is few on;
 })
+
+silent_off : (a b c d e f : Bool) → d ≡ true → (a || b || c || d || e || f) ≡ true
+silent_off true b c d e f is = refl
+silent_off false true c d e f is = refl
+silent_off false false true d e f is = refl
+silent_off false false false d e f is = rw is refl
+
+pub off_silent : (s : State) (queue : ℕ) → is_on s.registers Tx queue ≡ false
+    → is_silent s queue (transmit_queue_of s.registers queue) ≡ true
+off_silent s queue off =
+    let q = transmit_queue_of s.registers queue in
+    silent_off (is_stopped s.registers) (not s.link) (not (can_transmit s.registers)) (not q.on)
+    (is_muted s.registers queue) (is_empty q.ring) (ap not off)
+
+off_leads : (s : State) (queue : ℕ) → is_on s.registers Tx queue ≡ false
+    → Leads s (event.TxStep queue) (queue_sent s queue (transmit_queue_of s.registers queue))
+off_leads s queue off =
+    let e = event.TxStep queue in
+    let q = transmit_queue_of s.registers queue in
+    cond_both (is_silent s queue q) (gives Idle s) (slot_fetched s queue q) (Leads s e)
+    (λ silent. leads-still s e Idle (λ no. refl)) (λ sends. absurd (both_ways _ sends (off_silent s queue off)))
+
+pub transmit_leads : (s : State) (queue : ℕ) → Leads s (event.TxStep queue) (transmitted s queue)
+transmit_leads s queue =
+    let e = event.TxStep queue in
+    let q = transmit_queue_of s.registers queue in
+    cond_both (nat_lt queue 128) (queue_sent s queue q) (gives NoQueue s) (Leads s e)
+    (λ few. elim (cases_Bool (is_on s.registers Tx queue)) as (λ _. Leads s e (queue_sent s queue q)) [
+      | inl on ↦
+          let there : transmitted s queue ≡ queue_sent s queue q = rw few refl in
+          subst (Leads s e) there (on_leads s queue (ltb-true _ _ few) on)
+      | inr off ↦ off_leads s queue off
+    ]) (λ many. leads-still s e NoQueue (λ no. refl))

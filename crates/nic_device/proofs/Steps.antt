@@ -1,12 +1,14 @@
 -- The table of events: each keeps a device sound, and changes nothing outside its reach.
-use Rattle.std.proofs.Common.{◌≡◌, ℕ, Bool, true, false, refl, sym, subst, arith, Option, Some, None}
-use Rattle.std.specs.Prelude.{⊤, Result, Ok, Err, OnOk, OnErr}
+use Rattle.std.proofs.Common.{◌≡◌, ℕ, Bool, true, false, List, [], ◌∷◌, refl, sym, subst, arith, Option, Some, None}
+use Rattle.std.specs.Prelude.{⊤, All, Result, Ok, Err, OnOk, OnErr}
+use Rattle.std.proofs.lemmas.List.Elements.{All-nil, All-tail}
 use Rattle.rx_ring.specs.DmaArena.Block.{Block}
 use Rattle.register_file.specs.IntrUnit.declared.group.Group.{Group}
 use Rattle.register_file.specs.IntrUnit.declared.group.Group.TheVariants as group
 use Rattle.eeprom_image.proofs.Blank.{IsImage-blank}
 use Rattle.register_file.specs.Groups.{causes_raised, message_of, message_made}
-use Rattle.register_laws.specs.Footprint.{nothing}
+use Rattle.register_file.specs.Registers.{reset_registers}
+use Rattle.register_laws.specs.Footprint.{nothing, pending}
 use Rattle.register_laws.proofs.Footprints.{within-refl}
 use Rattle.register_laws.proofs.Sound.{sound-message_made, sound-causes_raised, sound-answered, sound-reset}
 use Rattle.register_laws.proofs.Within.{within-message_made, within-causes_raised, within-answered}
@@ -17,20 +19,21 @@ use Rattle.register_file.specs.Eeprom.{eeprom_asked, eeprom_answered}
 use Rattle.register_file.specs.Settings.{is_stopped}
 use Rattle.nic_device.specs.Outcome.{gives}
 use Rattle.nic_device.specs.Eeprom.{word_answered, eeprom_stepped}
-use Rattle.nic_device.specs.Link.{link_set, collected}
+use Rattle.nic_device.specs.Link.{link_set, collected, oldest_collected}
 use Rattle.nic_device.specs.Named.{named}
-use Rattle.nic_device.specs.Sound.{IsEvent, IsSound}
+use Rattle.nic_device.specs.Sound.{IsBegunWhileOn, IsEvent, IsOut, IsSound}
 use Rattle.nic_device.specs.State.{State}
 use Rattle.nic_device.specs.Step.{step_of, hands_out}
 use Rattle.nic_device.proofs.Accessing.{read_leads, write_leads}
 use Rattle.nic_device.proofs.Arriving.{arrive_leads}
 use Rattle.nic_device.proofs.Blocks.{AreBlocks-empty}
-use Rattle.nic_device.proofs.Cases.{either_way, link_cases, collected_cases, interrupted_cases}
-use Rattle.nic_device.proofs.Keeping.{sound-registers, sound-rest, AreStaged-none}
+use Rattle.nic_device.proofs.Cases.{either_way, link_cases, interrupted_cases}
+use Rattle.nic_device.proofs.Keeping.{sound-registers, sound-out, sound-link, AreStaged-none, bare-none}
 use Rattle.nic_device.proofs.Leads.{Leads, leads-still, leads-to, leads-registers}
 use Rattle.nic_device.proofs.Memory.{lend_leads, take_leads, peek_leads, poke_leads}
 use Rattle.nic_device.proofs.Receiving.{receive_leads}
 use Rattle.nic_device.proofs.Sending.{transmit_leads}
+use Rattle.nic_device.proofs.SidesOn.{on_kept, sides_kept, spares-answer, spares-pending}
 use Rattle.nic_device.proofs.SwitchedSides.{switch_leads}
 use Rattle.nic_device.specs.declared.event.Event.{Event}
 use Rattle.nic_device.specs.declared.event.Event.TheVariants as event
@@ -49,7 +52,7 @@ message_leads s g =
     (leads-registers s e (message_reply g (message_of s.registers g)) (message_made s.registers g) {good = ⊤}
     (λ h is. tt)
     (record { sound = λ good h. sound-message_made s.registers g h; within = within-message_made s.registers g })
-    (none_handed g (message_of s.registers g)))
+    (spares-pending g) (none_handed g (message_of s.registers g)))
 
 -- the EEPROM
 
@@ -61,7 +64,7 @@ word_leads s (Some index) =
       sound = λ image h. sound-answered s.registers (word_at s.image index) (image.fits index) h;
       within = within-answered s.registers (word_at s.image index);
     })
-    refl
+    spares-answer refl
 
 eeprom_leads : (s : State) → Leads s event.EepromStep (eeprom_stepped s)
 eeprom_leads s =
@@ -74,19 +77,25 @@ eeprom_leads s =
 link_leads : (s : State) (up : Bool) → Leads s (event.Link up) (link_set s up)
 link_leads s up =
     let r = causes_raised s.registers group.Pf link_cause in
+    let within = within-causes_raised s.registers group.Pf link_cause in
+    let sides = sides_kept (pending group.Pf) s.registers r (spares-pending group.Pf) within in
     let changed : true ≡ false → up ≡ s.link = λ no. cc in
     link_cases (Leads s (event.Link up)) s up (leads-still s (event.Link up) Idle (λ no. refl))
     (leads-to s (event.Link up) Done _
-    (λ h is. sound-registers (record s { link = up }) r (sound-rest s s.out up h)
-    (sound-causes_raised s.registers group.Pf link_cause h.registers))
-    (assumption (within-causes_raised s.registers group.Pf link_cause, changed)) refl refl)
+    (λ h is. sound-registers (record s { link = up }) r (sound-link s up h)
+    (sound-causes_raised s.registers group.Pf link_cause h.registers) (on_kept s.registers r sides))
+    (assumption (within, changed)) refl refl)
+
+oldest_leads : (s : State) (out : List (ℕ × List ℕ)) → s.out ≡ out → Leads s event.Collect (oldest_collected s out)
+oldest_leads s [] e = leads-still s event.Collect Idle (λ no. refl)
+oldest_leads s (sent ∷ others) e =
+    let fewer : true ≡ false → others ≡ s.out = λ no. cc in
+    leads-to s event.Collect (Frame sent.0 sent.1) _
+    (λ h is. sound-out s others h (All-tail IsOut sent others (subst (All IsOut) e h.out)))
+    (assumption (within-refl nothing s.registers, fewer)) refl refl
 
 collect_leads : (s : State) → Leads s event.Collect (collected s)
-collect_leads s = collected_cases (Leads s event.Collect) s (leads-still s event.Collect Idle (λ no. refl))
-    (λ queue bytes others.
-    let fewer : true ≡ false → others ≡ s.out = λ no. cc in
-    leads-to s event.Collect (Frame queue bytes) _ (λ h is. sound-rest s others s.link h)
-    (assumption (within-refl nothing s.registers, fewer)) refl refl)
+collect_leads s = oldest_leads s s.out refl
 
 -- where each event leads
 
@@ -114,8 +123,11 @@ new_sound vfs fifo few_vfs some few = record {
   registers = sound-reset;
   blocks = AreBlocks-empty;
   waiting = tt;
+  begun = All-nil (IsBegunWhileOn reset_registers);
   room = omega arith;
   staged = AreStaged-none;
+  bare = bare-none reset_registers;
+  out = All-nil IsOut;
   image = IsImage-blank;
   vfs = few_vfs;
   some = some;

@@ -1,10 +1,11 @@
 -- Steps of a side's enable: where they lead.
-use Rattle.std.proofs.Common.{◌≡◌, ℕ, true, false, [], refl, arith}
+use Rattle.std.proofs.Common.{◌≡◌, ℕ, true, false, [], get_or, refl, sym, ◌∙◌, inl, inr}
 use Rattle.std.specs.Prelude.{⊤, ◌==◌, slice_set}
-use Rattle.std.proofs.lemmas.Bool.{eqb-false}
+use Rattle.std.proofs.lemmas.Bool.{cases_eq, cond_both, eqb-false, ne_eqb}
 use Rattle.std.proofs.lemmas.List.{get_or-set_other}
+use Rattle.std.proofs.lemmas.List.Elements.{All-weaker}
 use Rattle.register_file.specs.Columns.{place}
-use Rattle.register_file.specs.Queue.{enable_row, switched}
+use Rattle.register_file.specs.Queue.{enable_row, is_on, switched}
 use Rattle.register_file.specs.Registers.{Registers, is_wanted}
 use Rattle.rx_ring.specs.DmaRing.declared.dir.Dir.{Dir}
 use Rattle.rx_ring.specs.DmaRing.declared.dir.Dir.TheVariants.{Rx, Tx}
@@ -14,14 +15,15 @@ use Rattle.register_laws.proofs.Sound.{sound-switched}
 use Rattle.register_laws.proofs.Within.{within-switched}
 use Rattle.nic_device.specs.Footprint.{switch_reach, StaysWithin}
 use Rattle.nic_device.specs.Outcome.{gives}
-use Rattle.nic_device.specs.Sound.{IsSound}
+use Rattle.nic_device.specs.Sound.{IsBegunWhileOn, IsSound}
 use Rattle.nic_device.specs.State.{State}
 use Rattle.nic_device.specs.Transmit.{staged_by}
 use Rattle.nic_device.specs.Switching.{queue_switched, side_switched, emptied, without_part}
-use Rattle.nic_device.proofs.Cases.{either_way, switched_cases}
-use Rattle.nic_device.proofs.Keeping.{sound-registers, sound-waiting, sound-staged, stays-registers, AreStaged-set}
+use Rattle.nic_device.proofs.Cases.{switched_cases}
+use Rattle.nic_device.proofs.Keeping.{sound-changed, sound-registers, stays-registers, AreStaged-set, IsStaged-none, dropped-none}
 use Rattle.nic_device.proofs.Leads.{Leads, leads-still, leads-to}
-use Rattle.nic_device.proofs.Queued.{AreWaiting-without_part, length-without_part}
+use Rattle.nic_device.proofs.Queued.{AreWaiting-without_part, begun-without_part, length-without_part}
+use Rattle.nic_device.proofs.SidesOn.{others_switched, wanted_keeps}
 use Rattle.nic_device.proofs.Coming.{Comes}
 use Rattle.nic_device.specs.declared.event.Event.TheVariants as event
 use Rattle.nic_device.specs.declared.event.Reply.TheVariants.{Done, Idle, NoQueue}
@@ -37,12 +39,40 @@ switched-comes r dir queue = record {
       (covers-enable dir queue) (within-switched r dir queue);
 }
 
-emptied_sound : (s : State) (dir : Dir) (queue : ℕ) → IsSound s → IsSound (emptied s dir queue)
-emptied_sound s Rx queue h =
-    sound-waiting s (without_part queue s.waiting) h (AreWaiting-without_part queue s.waiting h.waiting)
-    (length-without_part queue s.waiting s.fifo h.room)
-emptied_sound s Tx queue h =
-    sound-staged s (slice_set s.staged queue []) h (AreStaged-set s.staged queue [] h.staged (omega arith))
+-- another side of the same kind stands
+apart_switched : (r : Registers) (dir : Dir) (queue other : ℕ) → (queue ≡ other → ⊥)
+    → is_on (switched r dir queue) dir other ≡ is_on r dir other
+apart_switched r Rx queue other apart = others_switched r Rx Rx queue other (rw (ne_eqb queue other apart) refl)
+apart_switched r Tx queue other apart = others_switched r Tx Tx queue other (rw (ne_eqb queue other apart) refl)
+
+-- a side that goes off loses what it has begun
+switched_off_sound : (s : State) (dir : Dir) (queue : ℕ) → IsSound s
+    → IsSound (record (emptied s dir queue) { registers = switched s.registers dir queue })
+switched_off_sound s Rx queue h =
+    let r = switched s.registers Rx queue in
+    sound-changed s r (without_part queue s.waiting) s.staged h (sound-switched s.registers Rx queue h.registers)
+    (AreWaiting-without_part queue s.waiting h.waiting)
+    (begun-without_part s.registers r queue (apart_switched s.registers Rx queue) s.waiting h.waiting h.begun)
+    (length-without_part queue s.waiting s.fifo h.room) h.staged
+    (λ other off. h.bare other (sym (others_switched s.registers Rx Tx queue other refl) ∙ off))
+switched_off_sound s Tx queue h =
+    let r = switched s.registers Tx queue in
+    let begun = All-weaker (IsBegunWhileOn s.registers) (IsBegunWhileOn r)
+    (λ w was some. others_switched s.registers Tx Rx queue w.queue refl ∙ was some) s.waiting h.begun in
+    sound-changed s r s.waiting (slice_set s.staged queue []) h (sound-switched s.registers Tx queue h.registers)
+    h.waiting begun h.room (AreStaged-set s.staged queue [] h.staged IsStaged-none)
+    (λ other off. elim (cases_eq other queue) as (λ _. get_or (slice_set s.staged queue []) other [] ≡ []) [
+      | inl same ↦ rw same (dropped-none s.staged queue)
+      | inr apart ↦ get_or-set_other s.staged queue other [] [] apart
+          ∙ h.bare other (sym (apart_switched s.registers Tx queue other (λ same. apart (sym same))) ∙ off)
+    ])
+
+-- and one that goes on, or stays on, nothing
+switched_on_sound : (s : State) (dir : Dir) (queue : ℕ) → is_wanted s.registers dir queue ≡ true → IsSound s
+    → IsSound (record s { registers = switched s.registers dir queue })
+switched_on_sound s dir queue wanted h =
+    sound-registers s (switched s.registers dir queue) h (sound-switched s.registers dir queue h.registers)
+    (wanted_keeps s.registers h.registers.shape dir queue wanted)
 
 wanted_stays : (s : State) (dir : Dir) (queue : ℕ)
     → StaysWithin (switch_reach dir queue) s (record s { registers = switched s.registers dir queue })
@@ -71,14 +101,12 @@ side_leads : (s : State) (dir : Dir) (queue : ℕ)
 side_leads s dir queue =
     let e = event.QueueStep dir queue in
     let r = switched s.registers dir queue in
-    either_way (λ (t : State). Leads s e (gives Done t)) (is_wanted s.registers dir queue)
-    (record s { registers = r }) (record (emptied s dir queue) { registers = r })
-    (leads-to s e Done _ (λ h is. sound-registers s r h (sound-switched s.registers dir queue h.registers))
-    (wanted_stays s dir queue) refl refl)
-    (leads-to s e Done _
-    (λ h is. sound-registers (emptied s dir queue) r (emptied_sound s dir queue h)
-    (sound-switched s.registers dir queue h.registers))
-    (emptied_stays s dir queue) refl (emptied_memory s dir queue))
+    cond_both (is_wanted s.registers dir queue) (record s { registers = r })
+    (record (emptied s dir queue) { registers = r }) (λ (t : State). Leads s e (gives Done t))
+    (λ wanted. leads-to s e Done _ (λ h is. switched_on_sound s dir queue wanted h) (wanted_stays s dir queue) refl
+    refl)
+    (λ unwanted. leads-to s e Done _ (λ h is. switched_off_sound s dir queue h) (emptied_stays s dir queue) refl
+    (emptied_memory s dir queue))
 
 pub switch_leads : (s : State) (dir : Dir) (queue : ℕ)
     → Leads s (event.QueueStep dir queue) (queue_switched s dir queue)

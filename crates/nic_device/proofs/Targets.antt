@@ -21,7 +21,8 @@ use Rattle.rx_filter.specs.declared.target.Target.{Target}
 use Rattle.rx_filter.specs.declared.unwanted.Unwanted.{Unwanted}
 use Rattle.rx_filter.specs.declared.unwanted.Unwanted.TheVariants.{Filter, PoolOff}
 use Rattle.nic_device.proofs.Cases.{either_way}
-use Rattle.nic_device.proofs.Hashes.{hash-lt, code-lt}
+use Rattle.nic_device.specs.Sound.{IsTypeNumber}
+use Rattle.nic_device.proofs.Hashes.{hash-lt, unhashed}
 
 -- a pool has queues: it is below 64, and below 32 where there are 32
 record HasQueues (mode : QueueMode) (pool : ℕ) : Type 0 where
@@ -90,12 +91,13 @@ entry-lt : (table : List ℕ) (hash : ℕ) → entry_of table hash < 16
 unfolding entry_of
 entry-lt table hash = omega arith
 
--- where a frame goes, and what its descriptors tell: the queue is below 128, the hash a word, and the RSS type fits its
--- four bits
+-- where a frame goes, and what its descriptors tell: the queue is below 128, the RSS type one that there is, and the
+-- hash a word, 0 without a type
 pub record IsSmall (t : Target) : Type 0 where
   pub queue : t.queue < 128
+  pub rss : IsTypeNumber t.rss
   pub hash : t.hash < 2 ^ 32
-  pub rss : t.rss < 16
+  pub unhashed : t.rss ≡ 0 → t.hash ≡ 0
 
 abbrev Small : Result Target Unwanted → Type 0
 Small (Ok t) = IsSmall t
@@ -110,7 +112,9 @@ pool_target-small r frame (Ok pool) has = record {
       (entry_of (row_words r.words Reta) (rss_hash r frame)) (omega arith) (entry-lt _ _));
   hash = either_way (λ (h : ℕ). h < 2 ^ 32) (has_bit 13 (word_of r Rxcsum 0)) (rss_hash r frame) 0 (hash-lt _ _)
       (omega arith);
-  rss = code-lt (rss_type r frame);
+  rss = (rss_type r frame, refl);
+  unhashed = λ none. either_way (λ (h : ℕ). h ≡ 0) (has_bit 13 (word_of r Rxcsum 0)) (rss_hash r frame) 0
+      (unhashed _ _ (rss_type r frame) none) refl;
 }
 pool_target-small r frame (Err why) has = tt
 

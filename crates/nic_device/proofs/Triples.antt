@@ -1,8 +1,8 @@
 -- A reset, with what it takes from the image: the device stays sound, and what is left alone.
-use Rattle.std.proofs.Common.{length, ap, sym, zero, suc, take, add-one, ◌+◌, ◌≡◌, ◌<◌, ◌^◌, ℕ, [], ◌∷◌, List, arith, ◌∙◌, Option, Some, None}
-use Rattle.std.specs.List.{AllByRecursion, slice_get}
+use Rattle.std.proofs.Common.{length, ap, sym, zero, suc, take, add-one, ◌+◌, ◌≡◌, ◌<◌, ℕ, [], ◌∷◌, List, arith, ◌∙◌, Option, Some, None}
+use Rattle.std.specs.List.{slice_get}
+use Rattle.std.proofs.lemmas.List.Elements.{All-nil}
 use Rattle.eeprom_image.specs.Triples.{triples_of}
-use Rattle.eeprom_image.proofs.TripleLists.{triples-fit}
 use Rattle.register_file.specs.RegTable.Place.{place_among, view_among}
 use Rattle.register_file.specs.RegTable.Runs.{runs}
 use Rattle.register_file.specs.RegTable.declared.place.Place.{Place}
@@ -13,10 +13,10 @@ use Rattle.register_laws.proofs.Sound.{sound-reset}
 use Rattle.nic_device.specs.Eeprom.{is_stepped_over, triple_written, with_triple, with_triples, reset}
 use Rattle.nic_device.specs.PoolReset.{with_pool_reset, written_below_reset}
 use Rattle.nic_device.proofs.PoolReset.{below_reset_sound}
-use Rattle.nic_device.specs.Sound.{IsSound}
-use Rattle.nic_device.specs.State.{State, cleared}
+use Rattle.nic_device.specs.Sound.{IsBegunWhileOn, IsSound}
+use Rattle.nic_device.specs.State.{State, cleared, none_staged}
 use Rattle.nic_device.proofs.Cases.{either_way}
-use Rattle.nic_device.proofs.Keeping.{sound-registers, sound-waiting, sound-staged, AreStaged-none}
+use Rattle.nic_device.proofs.Keeping.{sound-changed, AreStaged-none, bare-none}
 
 -- all but the registers, the frames that wait and the staged bytes is as it was
 pub record LeavesRest (s t : State) : Type 0 where
@@ -74,30 +74,27 @@ none_inside [] index inside h = omega arith
 none_inside (t ∷ ts) zero inside h = cc
 none_inside (t ∷ ts) (suc index) inside h = none_inside ts index (omega arith) h
 
-triple_sound : (s : State) (o : Option Place) (view word : ℕ) → word < 2 ^ 32 → IsSound s
-    → IsSound (triple_written s o view word)
-triple_sound s None view word small h = h
-triple_sound s (Some p) view word small h =
+triple_sound : (s : State) (o : Option Place) (view word : ℕ) → IsSound s → IsSound (triple_written s o view word)
+triple_sound s None view word h = h
+triple_sound s (Some p) view word h =
     either_way IsSound (is_stepped_over p.row) s (written_below_reset s p view word) h
-    (below_reset_sound s p view word small h)
+    (below_reset_sound s p view word h)
 
-triples_sound : (s : State) (ts : List (ℕ × ℕ)) → AllByRecursion (λ t. t.1 < 2 ^ 32) ts → IsSound s
-    → IsSound (with_triples s ts)
-triples_sound s [] small h = h
-triples_sound s (t ∷ ts) small h =
-    triples_sound (with_triple s t) ts small.1
-    (triple_sound s (place_among runs t.0) (view_among runs t.0) t.1 small.0 h)
+triples_sound : (s : State) (ts : List (ℕ × ℕ)) → IsSound s → IsSound (with_triples s ts)
+triples_sound s [] h = h
+triples_sound s (t ∷ ts) h =
+    triples_sound (with_triple s t) ts (triple_sound s (place_among runs t.0) (view_among runs t.0) t.1 h)
 
 -- a reset
 
 cleared_sound : (s : State) → IsSound s → IsSound (cleared s)
 cleared_sound s h =
-    sound-registers (record s { waiting = []; staged = _ }) reset_registers
-    (sound-staged (record s { waiting = [] }) _ (sound-waiting s [] h tt (omega arith)) AreStaged-none) sound-reset
+    sound-changed s reset_registers [] none_staged h sound-reset tt (All-nil (IsBegunWhileOn reset_registers))
+    (omega arith) AreStaged-none (bare-none reset_registers)
 
 pub reset_sound : (s : State) → IsSound s → IsSound (reset s)
 reset_sound s h =
-    triples_sound (cleared s) (triples_of s.image) (triples-fit s.image h.image) (cleared_sound s h)
+    triples_sound (cleared s) (triples_of s.image) (cleared_sound s h)
 
 pub reset_leaves : (s : State) → LeavesRest s (reset s)
 reset_leaves s =

@@ -1,10 +1,15 @@
 -- What is true of a device between two events, whatever the events before, and of each event that a driver can make.
-use Rattle.std.specs.Prelude.{ℕ, ◌≡◌, ◌<◌, ◌≤◌, ◌^◌, List, [], ◌∷◌, length, All, ⊤, Some}
+use Rattle.std.specs.Prelude.{ℕ, ◌≡◌, ◌<◌, ◌≤◌, ◌^◌, IsTrue, IsFalse, List, [], ◌∷◌, length, slice_index_or, All, ⊤, Some}
 use Rattle.std.specs.FinMap as map
 use Rattle.rx_ring.specs.DmaArena.Block.{Block, IsBlock}
 use Rattle.rx_ring.specs.DmaArena.Memory.{Memory, IsWhole}
 use Rattle.eeprom_image.specs.Image.{IsImage}
+use Rattle.rx_ring.specs.DmaRing.declared.dir.Dir.TheVariants.{Rx, Tx}
+use Rattle.register_file.specs.RssHash.Choice.{code_of}
+use Rattle.register_file.specs.RssHash.declared.choice.RssType.{RssType}
 use Rattle.register_file.specs.Groups.{index_of}
+use Rattle.register_file.specs.Queue.{is_on}
+use Rattle.register_file.specs.Registers.{Registers}
 use Rattle.register_laws.specs.Sound.{AreSound}
 use Rattle.nic_device.specs.State.{State, Waiting}
 use Rattle.nic_device.specs.declared.event.Event.{Event}
@@ -21,14 +26,21 @@ pub record AreBlocks (m : Memory) : Type 0 where
   pub whole : IsWhole m
   pub bytes : (number : ℕ) (block : List ℕ) → map.get m number ≡ Some block → AreBytes block
 
--- a frame that waits, of which no more is written than it has: its queue is below 128, and descriptors have room for
--- its hash and its RSS type
+-- the number of an RSS type
+abbrev pub IsTypeNumber : ℕ → Type 0
+IsTypeNumber number = (type : RssType) × (code_of type ≡ number)
+
+-- a frame that waits: it has 60 bytes at least and no more than the longest frame limit, of which some are left to
+-- write; its queue is below 128, its RSS type is one that there is, and its hash is a word, 0 where the type is 0
 pub record IsWaiting (w : Waiting) : Type 0 where
   pub bytes : AreBytes w.frame
+  pub least : 60 ≤ length w.frame
+  pub most : length w.frame ≤ 65535
+  pub offset : w.offset < length w.frame
   pub queue : w.queue < 128
+  pub rss : IsTypeNumber w.rss
   pub hash : w.hash < 2 ^ 32
-  pub rss : w.rss < 16
-  pub offset : w.offset ≤ length w.frame
+  pub unhashed : w.rss ≡ 0 → w.hash ≡ 0
 
 -- a frame that waits, of which nothing is written
 pub record IsUnbegun (w : Waiting) : Type 0 where
@@ -40,24 +52,43 @@ abbrev pub AreWaiting : List Waiting → Type 0
 AreWaiting [] = ⊤
 AreWaiting (w ∷ others) = IsWaiting w × All IsUnbegun others
 
--- the staged bytes of a queue are no more than the longest frame limit
-abbrev pub IsStaged : List ℕ → Type 0
-IsStaged bytes = length bytes ≤ 65535
+-- where a part of a frame is written, the receive side of its queue is on
+abbrev pub IsBegunWhileOn : Registers → Waiting → Type 0
+IsBegunWhileOn r w = 0 < w.offset → IsTrue (is_on r Rx w.queue)
+
+-- the staged bytes of a queue: no more than the longest frame limit
+pub record IsStaged (staged : List ℕ) : Type 0 where
+  pub bytes : AreBytes staged
+  pub short : length staged ≤ 65535
 
 -- each of the 128 queues has its staged bytes
 pub record AreStaged (staged : List (List ℕ)) : Type 0 where
   pub queues : length staged ≡ 128
-  pub short : All IsStaged staged
+  pub each : All IsStaged staged
 
--- what every event keeps: the registers are sound and the lent blocks whole, each frame that waits has its queue and
--- only the first is begun, each queue stages no more than a frame, the image is one, there are no more virtual
--- functions than a device can have, and no more frames wait than the receive list takes
+-- nothing is staged on a transmit side that is off
+abbrev pub AreStagedWhileOn : Registers → List (List ℕ) → Type 0
+AreStagedWhileOn r staged = (queue : ℕ) → IsFalse (is_on r Tx queue) → slice_index_or staged queue [] ≡ []
+
+-- a frame out: its queue is below 128, and it has no more bytes than the longest frame limit
+pub record IsOut (sent : ℕ × List ℕ) : Type 0 where
+  pub queue : sent.0 < 128
+  pub bytes : AreBytes sent.1
+  pub short : length sent.1 ≤ 65535
+
+-- what every event keeps: the registers are sound and the lent blocks whole; only the first of the frames that wait is
+-- begun, on a receive side that is on, and no more wait than the receive list takes; each queue stages no more than a
+-- frame, and on a transmit side that is off nothing; each frame out is of a queue; the image is one, and there are no
+-- more virtual functions than a device can have
 pub record IsSound (s : State) : Type 0 where
   pub registers : AreSound s.registers
   pub blocks : AreBlocks s.memory
   pub waiting : AreWaiting s.waiting
+  pub begun : All (IsBegunWhileOn s.registers) s.waiting
   pub room : length s.waiting ≤ s.fifo
   pub staged : AreStaged s.staged
+  pub bare : AreStagedWhileOn s.registers s.staged
+  pub out : All IsOut s.out
   pub image : IsImage s.image
   pub vfs : s.vfs ≤ 63
   pub some : 0 < s.fifo

@@ -84,7 +84,6 @@ module _ (w : Watched) (fifo : ℕ) (q : AtPort) (mine : Blocks) (k : Halves) wh
       let mode = mode_in s.registers in
       let m : Meets w mine mode s x.out (sent done) k = record {
         sound = left.sound;
-        aligned = left.aligned;
         image = image_stays new done;
         vfs = left.vfs;
         mode_is = refl;

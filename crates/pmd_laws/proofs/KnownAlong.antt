@@ -16,7 +16,6 @@ use Rattle.device_lock.specs.declared.alone.Watched.{Watched}
 use Rattle.device_lock.specs.declared.entry.Entry.{Entry}
 use Rattle.start_laws.specs.HistoryLaws.Alone.{AllAlone}
 use Rattle.start_laws.specs.HistoryLaws.Lent.{OnlyLent}
-use Rattle.start_laws.proofs.HistoryLaws.Aligned.{histories_aligned, new_aligned}
 use Rattle.start_laws.proofs.HistoryLaws.Alone.{alone_by_entries}
 use Rattle.start_laws.proofs.HistoryLaws.Modes.{mode_told}
 use Rattle.start_laws.proofs.HistoryLaws.Sound.{histories_sound}
@@ -72,7 +71,6 @@ known_along w fifo start rest h doers own d known others apart =
     rest
     (record {
       sound = histories_sound new start d.new before;
-      aligned = histories_aligned new start d.new before (new_aligned w.vfs fifo);
       image = image_stays new start;
       vfs = sym (vfs_stays new start);
       mode_is = mode_told w.vfs fifo start d.new before;

@@ -12,7 +12,6 @@ use Rattle.device_lock.specs.declared.alone.Watched.{Watched}
 use Rattle.device_lock.specs.declared.entry.Entry.{Entry}
 use Rattle.pmd_rx.specs.Plays.{played_by}
 use Rattle.pmd_rx.specs.Receive.{Receive}
-use Rattle.history_laws.proofs.Aligned.{histories_aligned, new_aligned}
 use Rattle.history_laws.proofs.Alone.{alone_by_entries}
 use Rattle.history_laws.proofs.Sound.{histories_sound}
 use Rattle.history_laws.proofs.Modes.{mode_told}
@@ -73,8 +72,6 @@ module _ (w : Watched) (fifo : ℕ) (start rest : List Entry) (v : Receive) (mar
       plays w (lent_by w.pass (start ++ rest)) (mode_through w.vfs Off start) here [] v marks rest
       (record {
         sound = histories_sound new start d.new (events_before start rest d.events);
-        aligned =
-            histories_aligned new start d.new (events_before start rest d.events) (new_aligned w.vfs fifo);
         image = image_stays new start;
         vfs = sym (vfs_stays new start);
         mode_is = mode_told w.vfs fifo start d.new (events_before start rest d.events);

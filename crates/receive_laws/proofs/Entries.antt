@@ -22,8 +22,6 @@ use Rattle.device_lock.specs.declared.entry.Entry.{Entry}
 use Rattle.pmd_rx.specs.PmdSeam.Events.{is_step}
 use Rattle.pmd_rx.specs.Plays.{OwnCall, after_call}
 use Rattle.pmd_rx.specs.Receive.{Receive, Layout, Stage, Looks, Sees, Holding, Lent, Named, IsOwn, LendsNext, drive}
-use Rattle.history_laws.specs.Aligned.{AreAligned}
-use Rattle.history_laws.proofs.Aligned.{events_aligned}
 use Rattle.history_laws.proofs.Modes.{event_told}
 use Rattle.receive_laws.specs.Histories.{SparesReceive}
 use Rattle.receive_laws.specs.Joint.{Agree}
@@ -36,11 +34,10 @@ use Rattle.receive_laws.specs.Up.{IsUp}
 use Rattle.receive_laws.proofs.Own.{own_keeps}
 use Rattle.receive_laws.proofs.Up.{entry_stays_up, left_up, own_stays_up}
 
--- what holds between two entries: the device is sound, its rings aligned, its image blank, the mode is the one that was
--- told, the two agree, the side is up, and the driver's blocks are among these
+-- what holds between two entries: the device is sound, its image blank, the mode is the one that was told, the two
+-- agree, the side is up, and the driver's blocks are among these
 pub record Meets (w : Watched) (mine : Blocks) (mode : Mode) (s : State) (out : List Piece) (v : Receive) : Type 0 where
   pub sound : IsSound s
-  pub aligned : AreAligned s.registers
   pub image : s.image ≡ blank
   pub vfs : w.vfs ≡ s.vfs
   pub mode_is : mode ≡ mode_in s.registers
@@ -77,7 +74,7 @@ module _ (w : Watched) (mine : Blocks) (mode : Mode) (s : State) (out : List Pie
   t = after s e.event
 
   met : IsMetBy w mode s e
-  met = record { sound = m.sound; aligned = m.aligned; vfs = m.vfs; mode_is = m.mode_is; reply = legal; event = made }
+  met = record { sound = m.sound; vfs = m.vfs; mode_is = m.mode_is; reply = legal; event = made }
 
   goes_to : (u : Receive) → Agree w.queue t (out ++ pieces w.queue s e.event) u → IsUp w.queue t
       → Each u (λ b. IsTrue (mine b))
@@ -86,7 +83,6 @@ module _ (w : Watched) (mine : Blocks) (mode : Mode) (s : State) (out : List Pie
       let stays = (step_leads s e.event).stays in
       record {
         sound = keeps_sound s m.sound e.event made;
-        aligned = events_aligned s e.event m.sound m.aligned;
         image = stays.image ∙ m.image;
         vfs = m.vfs ∙ sym stays.vfs;
         mode_is = (λ k. mode_after (m.vfs k) (m.mode_is k) e.event) ∙ event_told s m.sound m.image e.event;

@@ -26,7 +26,6 @@ use Rattle.history_laws.proofs.DeviceLaws.StandingRest.{arrival_rest, message_re
 use Rattle.device_lock.specs.Alone.{Blocks, WritesOutside, SparesIfSome, place_at, LeavesRegisters, LeavesBlocks}
 use Rattle.device_lock.specs.declared.alone.Watched.{Watched}
 use Rattle.pmd_rx.specs.Receive.{Receive}
-use Rattle.history_laws.specs.Aligned.{AreAligned}
 use Rattle.receive_laws.specs.Joint.{Agree}
 use Rattle.receive_laws.specs.Pieces.{Piece, pieces}
 use Rattle.receive_laws.specs.Steps.{Each, Leaves, OwnReportsSpare, ForeignEntryKeeps, DeviceStepKeeps}
@@ -39,7 +38,7 @@ use Rattle.receive_laws.proofs.Writing.{left_memory, write_leaves}
 use Rattle.receive_laws.proofs.Clear.{spares_mine, no_registers}
 
 module _ (w : Watched) (mine : Blocks) (s : State) (out : List Piece) (v : Receive) (sound : IsSound s)
-    (aligned : AreAligned s.registers) (vfs : w.vfs ≡ s.vfs) (j : Agree w.queue s out v)
+    (vfs : w.vfs ≡ s.vfs) (j : Agree w.queue s out v)
     (m : Each v (λ b. IsTrue (mine b))) where
   still : (t : State) → Leaves w.queue v s t → Agree w.queue t (out ++ []) v
   still t l = subst (λ xs. Agree w.queue t xs v) (sym (append-nil out)) (leaving_keeps w.queue s t out v l j)
@@ -118,7 +117,7 @@ module _ (w : Watched) (mine : Blocks) (s : State) (out : List Piece) (v : Recei
   entry_keeps spare event.RxStep is registers blocks steps =
       receive_keeps w.queue s out v sound j (spares_mine w.queue mine v (reply_to s event.RxStep) m steps)
   entry_keeps spare (event.TxStep queue) is registers blocks steps =
-      still (after s (event.TxStep queue)) (transmit_leaves w.queue mine s v sound m aligned spare queue steps)
+      still (after s (event.TxStep queue)) (transmit_leaves w.queue mine s v sound m spare queue steps)
   entry_keeps spare (event.IntStep g) is registers blocks steps =
       quiet (event.IntStep g) tt ((message_rest s g).queues.receive w.queue) (message_rest s g).memory
   entry_keeps spare (event.QueueStep dir queue) is registers blocks steps = switched dir queue
@@ -131,12 +130,12 @@ module _ (w : Watched) (mine : Blocks) (s : State) (out : List Piece) (v : Recei
 
 pub foreign_keeps : ForeignEntryKeeps
 foreign_keeps w mine mode s out v e met j m spare alone other =
-    entry_keeps w mine s out v met.sound met.aligned met.vfs j m spare e.event met.event
+    entry_keeps w mine s out v met.sound met.vfs j m spare e.event met.event
     (subst (λ k. LeavesRegisters w k e.event) met.mode_is (alone.registers other)) (alone.blocks other)
     (subst (WritesOutside w.queue mine) met.reply alone.steps)
 
 pub steps_keep : DeviceStepKeeps
 steps_keep w mine mode s out v e met j m spare alone is =
     let free = no_registers w (mode_in s.registers) mine e.event is in
-    entry_keeps w mine s out v met.sound met.aligned met.vfs j m spare e.event met.event free.0 free.1
+    entry_keeps w mine s out v met.sound met.vfs j m spare e.event met.event free.0 free.1
     (subst (WritesOutside w.queue mine) met.reply alone.steps)

@@ -22,7 +22,7 @@ use Rattle.history_laws.proofs.DeviceLaws.Delivered.{told-lt}
 use Rattle.history_laws.specs.DeviceLaws.Leaving.{IsFirstFor, LeavesReceive, LeavesBlock}
 use Rattle.history_laws.specs.DeviceLaws.Replies.{moved_on}
 use Rattle.pmd_rx.specs.Receive.{Receive}
-use Rattle.history_laws.proofs.RingsReceived.{slotless_stands}
+use Rattle.history_laws.proofs.Slotless.{slotless_stands}
 use Rattle.receive_laws.specs.Joint.{Agree, Holds}
 use Rattle.receive_laws.specs.Pieces.{Piece, pieces, pieces_told}
 use Rattle.receive_laws.specs.Steps.{SparesBlocks, ReceiveStepKeeps}

@@ -22,7 +22,6 @@ use Rattle.history_laws.proofs.DeviceLaws.Standing.{stays_within}
 use Rattle.history_laws.proofs.DeviceLaws.StandingQueues.{transmitting_rest, transmitting_blocks}
 use Rattle.device_lock.specs.Alone.{Blocks, WritesOutside}
 use Rattle.pmd_rx.specs.Receive.{Receive}
-use Rattle.history_laws.specs.Aligned.{AreAligned}
 use Rattle.history_laws.proofs.Reported.{reports_lie}
 use Rattle.receive_laws.specs.Steps.{Each, Leaves, OwnReportsSpare}
 use Rattle.receive_laws.proofs.Each.{each_of, each_map}
@@ -44,8 +43,7 @@ report_outside queue on mine (Sent told len None) s t tells ne outside back is =
 report_outside queue on mine other s t tells ne outside back is = cc
 
 module _ (queue : ℕ) (mine : Blocks) (s : State) (v : Receive) (sound : IsSound s)
-    (all_mine : Each v (λ b. IsTrue (mine b)))
-    (aligned : AreAligned s.registers) (spare : OwnReportsSpare queue v s) where
+    (all_mine : Each v (λ b. IsTrue (mine b))) (spare : OwnReportsSpare queue v s) where
   -- the address of a report is of none of the driver's blocks
   elsewhere : (on : ℕ) → WritesOutside queue mine (reply_to s (event.TxStep on)) → (back : ℕ)
       → told_back (reply_to s (event.TxStep on)) ≡ Some back → Each v (λ b. b ≢ back / 2048)
@@ -67,7 +65,7 @@ module _ (queue : ℕ) (mine : Blocks) (s : State) (v : Receive) (sound : IsSoun
       (λ b ne back same.
       let here : at ≡ back = cc in
       subst (λ x. Avoids b x (report_length (transmit_queue_of s.registers on).writeback)) here
-      (inside_avoids (at / 2048) b at _ (reports_lie s sound aligned on at is) ne))
+      (inside_avoids (at / 2048) b at _ (reports_lie s sound on at is) ne))
       (elsewhere on outside at is)
 
   pub transmit_leaves : (on : ℕ) → WritesOutside queue mine (reply_to s (event.TxStep on))

@@ -20,7 +20,7 @@ use Rattle.history_laws.proofs.DeviceLaws.Standing.{memory_rest}
 use Rattle.history_laws.proofs.DeviceLaws.StandingQueues.{receiving_rest}
 use Rattle.device_lock.specs.Alone.{LeavesRegisters}
 use Rattle.device_lock.specs.declared.alone.Watched.{Watched}
-use Rattle.history_laws.proofs.RingsReceived.{slotless_stands}
+use Rattle.history_laws.proofs.Slotless.{slotless_stands}
 use Rattle.pmd_rx.specs.Receive.{MovesNext, Receive, Stage, Looks, Sees, Holding, Lent, Named, slot_at, vacant}
 use Rattle.receive_laws.specs.Joint.{Agree, StageHolds}
 use Rattle.receive_laws.specs.Pieces.{Piece}

@@ -21,7 +21,6 @@ use Rattle.nic_device.specs.declared.event.Event.TheVariants as event
 use Rattle.nic_device.specs.declared.event.Reply.{Reply}
 use Rattle.nic_device.specs.declared.event.Reply.TheVariants.{Bytes, Wrote}
 use Rattle.history_laws.specs.DeviceLaws.Leaving.{LeavesReceive, LeavesBlock}
-use Rattle.history_laws.specs.Aligned.{AreAligned}
 use Rattle.pmd_rx.specs.Receive.{Receive, Stage, Looks, Sees, Holding, Lent, Named, IsOwn, drive, descriptor_at, block_at}
 use Rattle.receive_laws.specs.Joint.{Holds, Agree}
 use Rattle.receive_laws.specs.Pieces.{Piece, pieces, piece_at}
@@ -76,11 +75,10 @@ abbrev pub OwnReportsSpare : ℕ → Receive → State → Type 0
 OwnReportsSpare queue v s =
     (back : ℕ) → told_back (reply_to s (event.TxStep queue)) ≡ Some back → Each v (λ b. b ≢ back / 2048)
 
--- what an entry that isn't the driver's own is made on: a sound device with aligned rings, whose queues are parted by
--- the mode of the entries so far
+-- what an entry that isn't the driver's own is made on: a sound device, whose queues are parted by the mode of
+-- the entries so far
 pub record IsMetBy (w : Watched) (mode : Mode) (s : State) (e : Entry) : Type 0 where
   pub sound : IsSound s
-  pub aligned : AreAligned s.registers
   pub vfs : w.vfs ≡ s.vfs
   pub mode_is : mode ≡ mode_in s.registers
   pub reply : e.reply ≡ reply_to s e.event

@@ -22,6 +22,7 @@ pub mod PoolsApart
 pub mod Puts
 pub mod ReadBack
 pub mod Renewed
+pub mod RowBits
 pub mod RowsReset
 pub mod Settled
 pub mod Shape
@@ -30,6 +31,7 @@ pub mod Small
 pub mod Sound
 pub mod SoundParts
 pub mod SoundReset
+pub mod SoundWords
 pub mod Standing
 pub mod Stands
 pub mod Switches

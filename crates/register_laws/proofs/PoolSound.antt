@@ -1,8 +1,7 @@
 -- Registers stay sound where a pool is reset.
-use Rattle.std.proofs.Common.{◌≡◌, ℕ, ◌<◌, ◌^◌, false, refl, ap, sym, ◌∙◌, subst, inl, inr}
+use Rattle.std.proofs.Common.{◌≡◌, ℕ, false, refl, ap, sym, ◌∙◌, subst, inl, inr}
 use Rattle.std.proofs.lemmas.Bool.{cases_Bool}
 use Rattle.register_file.specs.RegTable.Rows.{row_of}
-use Rattle.register_file.specs.RegTable.declared.place.Place.{Place}
 use Rattle.register_file.specs.RegTable.declared.bank.Bank.{Bank}
 use Rattle.register_file.specs.RegTable.declared.bank.Bank.TheVariants as bank
 use Rattle.register_file.specs.IntrUnit.BitSet.{IsSubset}
@@ -18,24 +17,23 @@ use Rattle.register_file.specs.Registers.{Registers}
 use Rattle.register_file.specs.Words.{word_at}
 use Rattle.register_file.specs.declared.owner.Owner.TheVariants as owner
 use Rattle.register_laws.specs.Footprint.{Misses, of_group, of_pool, pending}
-use Rattle.register_laws.specs.Sound.{AreSound, pending_bits}
+use Rattle.register_laws.specs.Sound.{AreSound, bits_of_row, pending_bits}
 use Rattle.register_laws.proofs.Footprints.{misses-within, covers-pending}
 use Rattle.register_laws.proofs.Owners.{is_group-same, is_owner-same}
 use Rattle.register_laws.proofs.PoolQueues.{turned}
 use Rattle.register_laws.proofs.PoolReset.{renewed-pool}
-use Rattle.register_laws.proofs.Small.{reset_small, small_where}
+use Rattle.register_laws.proofs.RowBits.{HaveRowBits, bits_where_inside, reset_bits}
 use Rattle.register_laws.proofs.SoundParts.{told_stands}
 
--- words of 32 bits
-small : (r : Registers) (mode : Mode) (v : ℕ) → AreSound r → (p : Place)
-    → word_at (pool_reset mode v r).words p < 2 ^ 32
-small r mode v sound p =
+-- bits of rows
+own_bits : (r : Registers) (mode : Mode) (v : ℕ) → AreSound r → HaveRowBits (pool_reset mode v r)
+own_bits r mode v sound p =
     let new = renewed-pool r mode v in
     let f = of_pool mode v in
-    elim (cases_Bool (f.words p)) as (λ _. word_at (pool_reset mode v r).words p < 2 ^ 32) [
+    elim (cases_Bool (f.words p)) as (λ _. IsSubset (word_at (pool_reset mode v r).words p) (bits_of_row p.row)) [
       | inr out ↦ rw (new.alone.words p out) (sound.words p)
-      | inl in_pool ↦ small_where (pool_reset mode v r) (new.shape sound.shape) p
-          (λ b. rw (new.words sound.shape p in_pool b) (reset_small p.row))
+      | inl in_pool ↦ bits_where_inside (pool_reset mode v r) (new.shape sound.shape) p
+          (λ b. rw (new.words sound.shape p in_pool b) (reset_bits p.row))
     ]
 
 -- what is pending of another group isn't the pool's
@@ -60,7 +58,7 @@ sound-pool_reset r mode v sound =
     let new = renewed-pool r mode v in
     record {
       shape = new.shape sound.shape;
-      words = small r mode v sound;
+      words = own_bits r mode v sound;
       told = λ g b. elim (cases_Bool (is_group (Vf v) g)) as
           (λ _. IsSubset (told_by (pool_reset mode v r) g) (pending_bits (pool_reset mode v r) g)) [
             | inr out ↦ told_stands (of_pool mode v) r (pool_reset mode v r) g (others_miss mode v g out) new.alone

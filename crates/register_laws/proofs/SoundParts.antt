@@ -1,11 +1,13 @@
 -- Registers stay sound where a word is put at a place, another side is wanted on, or a group has other interrupts.
-use Rattle.std.proofs.Common.{◌≡◌, ℕ, ◌<◌, ◌^◌, Bool, true, false, refl, ap, sym, ◌∙◌, subst, inl, inr}
+use Rattle.std.proofs.Common.{◌≡◌, ℕ, ◌<◌, Bool, true, false, refl, ap, sym, ◌∙◌, subst, inl, inr}
 use Rattle.std.proofs.lemmas.Bool.{cases_Bool}
 use Rattle.register_file.specs.RegTable.Rows.{row_of}
 use Rattle.register_file.specs.RegTable.declared.place.Place.{Place}
 use Rattle.register_file.specs.IntrUnit.BitSet.{intersection, IsSubset}
-use Rattle.register_file.specs.IntrUnit.Interrupts.{Interrupts}
+use Rattle.register_file.specs.IntrUnit.Group.{group_bits}
+use Rattle.register_file.specs.IntrUnit.Interrupts.{Interrupts, IsConsistent}
 use Rattle.register_file.specs.IntrUnit.declared.group.Group.{Group}
+use Rattle.register_file.specs.IntrUnit.declared.group.Group.TheVariants.{Pf, Vf}
 use Rattle.register_file.specs.Columns.{place}
 use Rattle.register_file.specs.Groups.{cause_row, mask_row, index_of, told_by, with_interrupts}
 use Rattle.register_file.specs.Owner.{is_group}
@@ -15,7 +17,7 @@ use Rattle.register_file.specs.DmaRing.declared.dir.Dir.{Dir}
 use Rattle.register_file.specs.declared.owner.Owner.TheVariants as owner
 use Rattle.register_laws.proofs.Settled.{IsSettled}
 use Rattle.register_laws.specs.Footprint.{Footprint, ChangesWithin, Misses, is_place, is_pending, nothing, the_word, of_group, pending, any_pending}
-use Rattle.register_laws.specs.Sound.{AreSound, pending_bits}
+use Rattle.register_laws.specs.Sound.{AreSound, bits_of_row, pending_bits}
 use Rattle.register_laws.proofs.Fields.{words-with_wanted, words-with_told}
 use Rattle.register_laws.proofs.Covers.{fails, cause_is_pending, mask_is_pending}
 use Rattle.register_laws.proofs.Footprints.{misses-narrower, misses-within, misses-owner, covers-pending, covers-any_pending}
@@ -23,7 +25,8 @@ use Rattle.register_laws.proofs.Owners.{is_group-itself, is_group-same, is_place
 use Rattle.register_laws.proofs.Shape.{HasShape-put, HasShape-with_wanted, HasShape-with_interrupts}
 use Rattle.register_laws.proofs.Standing.{causes_there, enabled_there, told_there}
 use Rattle.register_laws.proofs.WithinParts.{within-put, within-with_wanted, within-with_interrupts}
-use Rattle.register_laws.proofs.Small.{AreSmall, word_at-put-lt}
+use Rattle.register_laws.proofs.ReadBack.{masks}
+use Rattle.register_laws.proofs.RowBits.{HaveRowBits, row_bits-put}
 
 -- told bits stand where a footprint misses what is pending of their group
 pub told_stands : (f : Footprint) (r s : Registers) (g : Group) → Misses f (pending g) → ChangesWithin f r s
@@ -45,11 +48,11 @@ steady_misses p g steady = misses-within (the_word p) any_pending (pending g) (c
   told = λ h is. refl;
 })
 
-pub sound-put : (r : Registers) (p : Place) (v : ℕ) → AreSound r → v < 2 ^ 32 → is_pending (row_of p.row).kind ≡ false
-    → AreSound (record r { words = put r.words p v })
-sound-put r p v sound small steady = record {
+pub sound-put : (r : Registers) (p : Place) (v : ℕ) → AreSound r → IsSubset v (bits_of_row p.row)
+    → is_pending (row_of p.row).kind ≡ false → AreSound (record r { words = put r.words p v })
+sound-put r p v sound own steady = record {
   shape = HasShape-put r p v sound.shape;
-  words = word_at-put-lt r p v sound.shape sound.words small;
+  words = row_bits-put r p v sound.shape sound.words own;
   told = λ g b. told_stands (the_word p) r (record r { words = put r.words p v }) g (steady_misses p g steady)
       (within-put (the_word p) r p v (is_place-itself p)) (sound.told g b);
 }
@@ -62,7 +65,8 @@ pub sound-with_wanted : (r : Registers) (dir : Dir) (queue : ℕ) (wanted : Bool
 unfolding wanted_alone
 sound-with_wanted r dir queue wanted sound = record {
   shape = HasShape-with_wanted r dir queue wanted sound.shape;
-  words = λ p. subst (λ ws. word_at ws p < 2 ^ 32) (sym (words-with_wanted r dir queue wanted)) (sound.words p);
+  words = λ p. subst (λ ws. IsSubset (word_at ws p) (bits_of_row p.row)) (sym (words-with_wanted r dir queue wanted))
+      (sound.words p);
   told = λ g b. told_stands (wanted_alone dir queue) r (with_wanted r dir queue wanted) g
       (record { words = λ p is. refl; wanted = λ other number is. cc; told = λ h is. refl })
       (within-with_wanted (wanted_alone dir queue) r dir queue wanted refl) (sound.told g b);
@@ -75,20 +79,32 @@ others_miss g h other =
     (misses-within (of_group h) (of_group g) (pending g) (covers-pending g)
     (misses-owner (owner.Group h) (owner.Group g) other))
 
-small-with_interrupts : (r : Registers) (s : Interrupts) → AreSound r → IsSettled s → AreSmall (with_interrupts r s)
-small-with_interrupts r s sound settled p =
+-- a group's causes and masks have only bits of the group
+cause_bits : (g : Group) → bits_of_row (cause_row g) ≡ group_bits g
+cause_bits Pf = (masks Pf).0
+cause_bits (Vf v) = (masks (Vf v)).0
+
+mask_bits : (g : Group) → bits_of_row (mask_row g) ≡ group_bits g
+mask_bits Pf = (masks Pf).1
+mask_bits (Vf v) = (masks (Vf v)).1
+
+bits-with_interrupts : (r : Registers) (s : Interrupts) → AreSound r → IsConsistent s
+    → HaveRowBits (with_interrupts r s)
+bits-with_interrupts r s sound c p =
     let cause : Place = place (cause_row s.group) (index_of s.group) in
     let caused : Registers = record r { words = put r.words cause s.causes } in
     let mask : Place = place (mask_row s.group) (index_of s.group) in
     let masked : Registers = record caused { words = put caused.words mask s.enabled } in
-    subst (λ ws. word_at ws p < 2 ^ 32) (sym (words-with_told masked s.group s.told))
-    (word_at-put-lt caused mask s.enabled (HasShape-put r cause s.causes sound.shape)
-    (word_at-put-lt r cause s.causes sound.shape sound.words settled.causes) settled.enabled p)
+    subst (λ ws. IsSubset (word_at ws p) (bits_of_row p.row)) (sym (words-with_told masked s.group s.told))
+    (row_bits-put caused mask s.enabled (HasShape-put r cause s.causes sound.shape)
+    (row_bits-put r cause s.causes sound.shape sound.words
+    (subst (IsSubset s.causes) (sym (cause_bits s.group)) c.causes_exist))
+    (subst (IsSubset s.enabled) (sym (mask_bits s.group)) c.masks_exist) p)
 
 pub sound-with_interrupts : (r : Registers) (s : Interrupts) → AreSound r → IsSettled s → AreSound (with_interrupts r s)
 sound-with_interrupts r s sound settled = record {
   shape = HasShape-with_interrupts r s sound.shape;
-  words = small-with_interrupts r s sound settled;
+  words = bits-with_interrupts r s sound settled.consistent;
   told =
       λ g b. elim (cases_Bool (is_group s.group g)) as (λ _. IsSubset (told_by (with_interrupts r s) g)
       (pending_bits (with_interrupts r s) g)) [

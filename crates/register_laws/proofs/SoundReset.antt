@@ -9,7 +9,7 @@ use Rattle.register_file.specs.Groups.{index_of, told_by}
 use Rattle.register_file.specs.Registers.{reset_registers}
 use Rattle.register_laws.specs.Sound.{AreSound, pending_bits}
 use Rattle.register_laws.proofs.Shape.{HasShape-reset}
-use Rattle.register_laws.proofs.Small.{word_at-reset-lt}
+use Rattle.register_laws.proofs.RowBits.{row_bits-reset}
 
 -- after a reset
 pub none_told : (g : Group) → index_of g < 64 → told_by reset_registers g ≡ 0
@@ -19,7 +19,7 @@ none_told (Vf v) b = get_or-replicate 64 v 0 0 b
 pub sound-reset : AreSound reset_registers
 sound-reset = record {
   shape = HasShape-reset;
-  words = word_at-reset-lt;
+  words = row_bits-reset;
   told =
       λ g b. subst (λ t. IsSubset t (pending_bits reset_registers g)) (sym (none_told g b))
       (IsSubset-no_bits (pending_bits reset_registers g));

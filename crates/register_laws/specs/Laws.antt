@@ -342,7 +342,7 @@ ReadKeepsSound = (r : Registers) → AreSound r → (p : Place) → AreSound (af
 
 abbrev pub WriteKeepsSound : Type 0
 WriteKeepsSound =
-    (r : Registers) → AreSound r → (p : Place) (view word : ℕ) → word < 2 ^ 32 → AreSound (after_write r p view word)
+    (r : Registers) → AreSound r → (p : Place) (view word : ℕ) → AreSound (after_write r p view word)
 
 abbrev pub CountKeepsSound : Type 0
 CountKeepsSound =

@@ -4,3 +4,4 @@ pub mod Laws
 pub mod PoolReset
 pub mod Sides
 pub mod Sound
+pub mod SoundWords

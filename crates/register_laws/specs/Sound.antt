@@ -1,6 +1,8 @@
 -- Registers that a device can have.
-use Rattle.std.specs.Prelude.{ℕ, ◌^◌, ◌≡◌, ◌<◌, length}
+use Rattle.std.specs.Prelude.{ℕ, ◌^◌, ◌≡◌, ◌<◌, length, bit_or}
 use Rattle.register_file.specs.RegTable.Rows.{row_of, rows}
+use Rattle.register_file.specs.RegTable.declared.kind.Kind.{Kind}
+use Rattle.register_file.specs.RegTable.declared.kind.Kind.TheVariants as kind
 use Rattle.register_file.specs.RegTable.declared.place.Place.{Place}
 use Rattle.register_file.specs.RegTable.declared.rows.RowId.{RowId}
 use Rattle.register_file.specs.IntrUnit.BitSet.{intersection, IsSubset}
@@ -17,12 +19,35 @@ pub record HasShape (r : Registers) : Type 0 where
   pub wanted_tx : length r.wanted_tx ≡ 128
   pub told_vf : length r.told_vf ≡ 64
 
+-- the bits that can become 1 in a word of this kind and mask: of a written word those of the mask, of an enable word
+-- bit 25 too, which a switch sets; of a counter and of EERD, into which an answer is put, all; and of a register that
+-- only acts or is calculated none
+abbrev pub bits_of_kind : Kind → ℕ → ℕ
+bits_of_kind kind.Rw mask = mask
+bits_of_kind kind.Ro mask = 0xFFFFFFFF
+bits_of_kind kind.Calc mask = 0
+bits_of_kind kind.Rc mask = 0xFFFFFFFF
+bits_of_kind kind.Cause mask = mask
+bits_of_kind kind.Ones mask = mask
+bits_of_kind kind.Set mask = 0
+bits_of_kind kind.Clear mask = 0
+bits_of_kind kind.Held mask = mask
+bits_of_kind kind.Enable mask = bit_or mask (2 ^ 25)
+bits_of_kind kind.Ctrl mask = mask
+bits_of_kind kind.Vreset mask = 0
+bits_of_kind kind.Eerd mask = 0xFFFFFFFF
+
+-- the bits that a word of a row can have: those of its reset value, and those that can become 1
+abbrev pub bits_of_row : RowId → ℕ
+bits_of_row row = bit_or (row_of row).reset (bits_of_kind (row_of row).kind (row_of row).mask)
+
 -- the bits of a group whose cause and mask are 1
 abbrev pub pending_bits : Registers → Group → ℕ
 pending_bits r g = intersection (word_of r (cause_row g) (index_of g)) (word_of r (mask_row g) (index_of g))
 
--- the registers have their shape, words of 32 bits, and told bits only where cause and mask are 1
+-- the registers have their shape, in each word only bits that its row can have, and told bits only where cause and mask
+-- are 1
 pub record AreSound (r : Registers) : Type 0 where
   pub shape : HasShape r
-  pub words : (p : Place) → word_at r.words p < 2 ^ 32
+  pub words : (p : Place) → IsSubset (word_at r.words p) (bits_of_row p.row)
   pub told : (g : Group) → index_of g < 64 → IsSubset (told_by r g) (pending_bits r g)

@@ -8,11 +8,12 @@
 #![tactic(auto)]
 
 ghost use Rattle.register_laws.specs.Laws.{ResetIsSound, ReadKeepsSound, WriteKeepsSound, CountKeepsSound, CountWrappingKeepsSound, AnswerKeepsSound, RaiseKeepsSound, QueueRaiseKeepsSound, MessageKeepsSound, HeadKeepsSound, SwitchKeepsSound, ShutKeepsSound, ResetGivesResetValues, ResetSwitchesOff, ResetTellsNothing, PutWordIsThere, PutWordIsAlone, GroupBitsAreMasks, StoredWordReadsBack, ReadStaysWithin, WriteStaysWithin, CountStaysWithin, CountWrappingStaysWithin, AnswerStaysWithin, RaiseStaysWithin, QueueRaiseStaysWithin, MessageStaysWithin, HeadStaysWithin, SwitchStaysWithin, ShutStaysWithin, ReadStaysWithOwner, WriteStaysWithOwner, OwnersAreApart, OwnersDiffer, WordIsOnePlace, PendingIsPending, CountersAreTheirOwn, PendingMissesSides, ReadMissesSides, MissedReceiveStands, MissedTransmitStands, MissedInterruptsStand, MissedSettingsStand, HeadMovesReceive, HeadMovesTransmit, SwitchObeysReceive, SwitchObeysTransmit, SwitchedSideStays, ShutIsOffReceive, ShutIsOffTransmit, RingIsHeldWhileOn, WrittenReceiveIsTheSides, WrittenTransmitIsTheSides, EnableWriteAsksReceive, EnableWriteAsksTransmit, EnableReadTellsOn, CountersCount, ReadOnlyCountersGoRound, CalculatedRowsHaveFormulas, EepromAnswerIsRead, InterruptsStand};
+ghost use Rattle.register_laws.specs.SoundWords.{SoundWordsAreSmall, ActingWordsAreNone, NoWordAsksReset, RingsAreAligned};
 ghost use Rattle.register_laws.specs.PoolReset.{PoolIsReset, PoolResetStaysWithin, PoolResetKeepsSound};
 ghost use Rattle.register_laws.specs.Agreement.{PoolReadsStayWithin, PoolWritesStayWithin, SharedReadsChangeNothing, SharedWritesChangeNothing, PoolReadsTellTheSame, SharedReadsTellTheSame, PoolReadsKeepAgreement, PoolWritesKeepAgreement, PoolResetMakesAgreement, PoolsHaveNothingInCommon, MissedAgreementStands};
 
-/// Registers are sound after a reset and through every change: they have each place of the table, words of 32 bits, and
-/// told bits only where cause and mask are 1.
+/// Registers are sound after a reset and through every change: they have each place of the table, in each word only
+/// bits that its row can have, and told bits only where cause and mask are 1.
 pub fn soundness_is_kept()
     ensures reset { ResetIsSound }
     ensures read { ReadKeepsSound }
@@ -26,6 +27,15 @@ pub fn soundness_is_kept()
     ensures head { HeadKeepsSound }
     ensures switch { SwitchKeepsSound }
     ensures shut { ShutKeepsSound }
+{}
+
+/// A word of sound registers has 32 bits. It is 0 where the register only acts or is calculated, and none whose write
+/// would ask for a reset; and each ring has its base and its length at multiples of 128.
+pub fn sound_words_are_of_their_rows()
+    ensures small { SoundWordsAreSmall }
+    ensures none { ActingWordsAreNone }
+    ensures reset { NoWordAsksReset }
+    ensures rings { RingsAreAligned }
 {}
 
 /// After a reset each register has its reset value, no side of a queue is on or wanted on, and nothing is told.

@@ -10,7 +10,6 @@ use Rattle.device_lock.specs.declared.alone.Watched.{Watched}
 use Rattle.device_lock.specs.declared.entry.Call.{Call}
 use Rattle.device_lock.specs.declared.entry.Entry.{Entry}
 use Rattle.receive_laws.specs.HistoryLaws.Alone.{AllAlone}
-use Rattle.receive_laws.proofs.HistoryLaws.Aligned.{histories_aligned, new_aligned}
 use Rattle.receive_laws.proofs.HistoryLaws.Alone.{alone_by_entries}
 use Rattle.receive_laws.proofs.HistoryLaws.Modes.{mode_told}
 use Rattle.receive_laws.proofs.HistoryLaws.Sound.{histories_sound}
@@ -52,7 +51,6 @@ module _ (w : Watched) (fifo : ℕ) (h : List Entry) (x : IsAlong w fifo h) wher
         let early = events_before front (back ++ rest) events in record {
           small = x.small;
           sound = histories_sound new front x.new early;
-          aligned = histories_aligned new front x.new early (new_aligned w.vfs fifo);
           image = image_stays new front;
           vfs = sym (vfs_stays new front);
           mode_is = mode_told w.vfs fifo front x.new early;

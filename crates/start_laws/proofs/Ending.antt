@@ -66,7 +66,6 @@ pub free_left : (w : Watched) (mine : Blocks) (s : State) (e : Event Block) → 
 free_left w mine s e met made vfs steps free = record {
   small = met.small;
   sound = met.sound;
-  aligned = met.aligned;
   vfs = vfs;
   made = made;
   registers = free.0;

@@ -13,9 +13,7 @@ use Rattle.device_lock.specs.declared.alone.Watched.{Watched}
 use Rattle.device_lock.specs.declared.entry.Call.{Call}
 use Rattle.device_lock.specs.declared.entry.Entry.{Entry}
 use Rattle.receive_laws.specs.HistoryLaws.Alone.{AllAlone}
-use Rattle.receive_laws.proofs.HistoryLaws.Aligned.{histories_aligned, new_aligned}
 use Rattle.receive_laws.proofs.HistoryLaws.Sound.{histories_sound}
-use Rattle.receive_laws.proofs.HistoryLaws.Staged.{histories_keep_staged, new_sides_stage}
 use Rattle.pmd.specs.PmdSeam.Named.{AtPort}
 use Rattle.receive_laws.proofs.Delivering.{leads-append, events_before, events_behind, legal_behind}
 use Rattle.receive_laws.proofs.Histories.{calls_own, calls_other}
@@ -86,17 +84,12 @@ module _ (w : Watched) (q : AtPort) (fifo : ℕ) (h done rest : List Entry) (e :
   met = record {
     small = along.small;
     sound = histories_sound new done along.new early;
-    aligned = histories_aligned new done along.new early (new_aligned w.vfs fifo);
   }
 
   off_there : HasGround w.queue q here → transmit.IsOff w.queue here → LaidTo w.queue q Off here
   off_there ground off = record {
     ground = ground;
-    side = record {
-      side = (off.off, off.unwanted);
-      staged =
-          histories_keep_staged new done along.new early (new_sides_stage w.vfs fifo) w.queue along.small off.off;
-    };
+    side = record { side = (off.off, off.unwanted); staged = met.sound.bare w.queue off.off };
   }
 
   behind : (m last : Laid) → LaidTo w.queue q m (after here e.event) → LaysOn q m (calls_of w.pass rest) last

@@ -57,7 +57,7 @@ module _ (queue : ℕ) (s : State) (met : IsMet queue s) (l : Laid) (x : Holds (
       → Holds (IsLaid (laid_by row l)) queue t
   ring_written row may names =
       let laying = word_laid row l word side low may x.side in
-      let taken = transmit_words_taken queue s port n word row met.small met.sound met.aligned laying.off laying.fits
+      let taken = transmit_words_taken queue s port n word row met.small met.sound laying.off laying.fits
       names in
       record {
         side = subst (IsLaid (laid_by row l)) (sym taken.side) laying.then;

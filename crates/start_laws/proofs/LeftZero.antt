@@ -72,7 +72,6 @@ module _ (w : Watched) (mine : Blocks) (s : State) (e : Event Block) (x : IsLeft
   spared owed other =
       let left : sparing.IsLeft w mine sender s e = record {
         sound = x.sound;
-        aligned = x.aligned;
         made = x.made;
         functions = x.vfs;
         lent = alone;

@@ -86,7 +86,7 @@ pub receive_write_stands : ReceiveWriteStands
 receive_write_stands queue s rx tx rings port n word row met stand unwanted fits goes names =
     let x = stand.receives in
     let off = off_where (receive_queue_of s.registers queue).on rx.wanted x.wanted unwanted in
-    let t = receive_words_taken queue s port n word row met.small met.sound met.aligned off fits names in
+    let t = receive_words_taken queue s port n word row met.small met.sound off fits names in
     record {
       receives = receive_stands_off _ _
           (t.side ∙ ap (receive_with row word) (receive_off _ rx x unwanted) ∙ receive_on_beside row word rx false fits)
@@ -100,7 +100,7 @@ pub transmit_write_stands : TransmitWriteStands
 transmit_write_stands queue s rx tx rings port n word row met stand unwanted fits goes names =
     let x = stand.transmits in
     let off = off_where (transmit_queue_of s.registers queue).on tx.wanted x.wanted unwanted in
-    let t = transmit_words_taken queue s port n word row met.small met.sound met.aligned off fits names in
+    let t = transmit_words_taken queue s port n word row met.small met.sound off fits names in
     record {
       receives = subst (λ (z : ReceiveQueue). StandsReceive z rx) (sym t.other) stand.receives;
       transmits = transmit_stands_off _ _

@@ -40,7 +40,7 @@ receive_guard_is_off = record {
 }
 
 pub off_sides_stand : OffSidesStand
-off_sides_stand queue s small bare off transmit_off = record {
+off_sides_stand queue s sound off transmit_off = record {
   receives = record {
     same = refl;
     seen = λ on. on;
@@ -53,6 +53,6 @@ off_sides_stand queue s small bare off transmit_off = record {
     wanted = λ on. absurd (both_ways _ transmit_off.off on);
     empty = λ wanted. absurd (both_ways _ transmit_off.unwanted wanted);
   };
-  staged = bare queue small transmit_off.off;
+  staged = sound.bare queue transmit_off.off;
   zero = λ b is. cc;
 }

@@ -1,14 +1,14 @@
 -- Two sides that are seen off stand as they are, with no block lent.
-use Rattle.std.proofs.Common.{◌≡◌, ◌<◌, Bool, true, false, not, ◌&&◌, List, refl, sym, subst}
+use Rattle.std.proofs.Common.{◌≡◌, Bool, true, false, not, ◌&&◌, List, refl, sym, subst}
 use Rattle.std.specs.Prelude.{IsTrue}
 use Rattle.nic_device.specs.RegisterLaws.Sides.{receive_queue_of, transmit_queue_of}
+use Rattle.nic_device.specs.Sound.{IsSound}
 use Rattle.nic_device.specs.State.{State, new_state}
 use Rattle.device_lock.specs.Alone.{lent_by}
 use Rattle.device_lock.specs.History.{leads_to, AreEvents}
 use Rattle.device_lock.specs.declared.alone.Watched.{Watched}
 use Rattle.device_lock.specs.declared.entry.Entry.{Entry}
-use Rattle.receive_laws.specs.HistoryLaws.Staged.{StageWhileOn}
-use Rattle.receive_laws.proofs.HistoryLaws.Staged.{histories_keep_staged, new_sides_stage}
+use Rattle.receive_laws.proofs.HistoryLaws.Sound.{histories_sound}
 use Rattle.pmd.specs.PmdSeam.Named.{AtPort}
 use Rattle.receive_laws.proofs.Delivering.{events_before}
 use Rattle.start_laws.specs.Points.{Point, Sides}
@@ -20,9 +20,9 @@ all_off : (a b c d : Bool) → a ≡ false → b ≡ false → c ≡ false → d
     → ((not a && not b) && (not c && not d)) ≡ true
 all_off a b c d e f g i = rw (e, f, g, i) refl
 
-quiet_stand : (w : Watched) (q : AtPort) (h : List Entry) (s : State) → w.queue < 128 → StageWhileOn s
-    → IsQuiet w.queue q s → (p : Sides) × IsTrue (are_off p) × Point w.queue (lent_by w.pass h) q p s
-quiet_stand w q h s small bare quiet = (
+quiet_stand : (w : Watched) (q : AtPort) (h : List Entry) (s : State) → IsSound s → IsQuiet w.queue q s
+    → (p : Sides) × IsTrue (are_off p) × Point w.queue (lent_by w.pass h) q p s
+quiet_stand w q h s sound quiet = (
   record {
     rx = receive_queue_of s.registers w.queue;
     tx = transmit_queue_of s.registers w.queue;
@@ -32,7 +32,7 @@ quiet_stand w q h s small bare quiet = (
       (transmit_queue_of s.registers w.queue).on (transmit_queue_of s.registers w.queue).wanted quiet.receive.off
       quiet.receive.unwanted quiet.transmit.off quiet.transmit.unwanted,
   record {
-    stand = off_sides_stand w.queue s small bare quiet.receive quiet.transmit;
+    stand = off_sides_stand w.queue s sound quiet.receive quiet.transmit;
     ground = quiet.ground;
     covers = λ n is. cc;
     low = λ n is. cc;
@@ -43,5 +43,4 @@ pub quiet_sides_stand : QuietSidesStand
 quiet_sides_stand w q fifo h calls along quiet done rest all is =
     let new = new_state w.vfs fifo in
     let events = events_before done rest (subst AreEvents (sym all) along.events) in
-    quiet_stand w q h (leads_to new done) along.small
-    (histories_keep_staged new done along.new events (new_sides_stage w.vfs fifo)) (quiet done rest all is)
+    quiet_stand w q h (leads_to new done) (histories_sound new done along.new events) (quiet done rest all is)

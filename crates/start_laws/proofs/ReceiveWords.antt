@@ -1,5 +1,5 @@
 -- A word of a row of the receive side.
-use Rattle.std.proofs.Common.{◌≡◌, ◌≢◌, ℕ, ◌+◌, ◌*◌, ◌/◌, ◌%◌, ◌^◌, ◌<◌, inl, inr, false, refl, sym, ap, ◌∙◌, arith}
+use Rattle.std.proofs.Common.{◌≡◌, ◌≢◌, ℕ, ◌+◌, ◌*◌, ◌/◌, ◌%◌, ◌^◌, ◌<◌, inl, inr, false, refl, ap, ◌∙◌, arith}
 use Rattle.std.proofs.Math.Nat.{mod-eq_of_lt}
 use Rattle.nic_device.specs.RegTable.Rows.{row_of}
 use Rattle.nic_device.specs.RegTable.declared.rows.RowId.{RowId}
@@ -13,6 +13,8 @@ use Rattle.nic_device.specs.DmaRing.declared.dir.Dir.TheVariants.{Rx, Tx}
 use Rattle.nic_device.specs.RegisterFile.declared.owner.Owner.TheVariants as owner
 use Rattle.nic_device.specs.RegisterLaws.Laws.{after_write, word_after}
 use Rattle.nic_device.specs.RegisterLaws.Sides.{receive_queue_of}
+use Rattle.nic_device.proofs.RegisterLaws.RowBits.{word_small}
+use Rattle.nic_device.proofs.RegisterLaws.SoundWords.{low_bits}
 use Rattle.nic_device.proofs.RegisterLaws.SideWords.{receive-written}
 use Rattle.nic_device.proofs.RegisterLaws.Switches.{receive-asked}
 use Rattle.nic_device.specs.Access.{named_written}
@@ -26,29 +28,21 @@ use Rattle.nic_device.specs.declared.event.Reply.TheVariants.{Done}
 use Rattle.nic_device.specs.declared.named.Named.TheVariants.{Register}
 use Rattle.receive_laws.proofs.DeviceLaws.StandingAccesses.{write_rest}
 use Rattle.device_lock.specs.Alone.{is_setting}
-use Rattle.receive_laws.specs.HistoryLaws.Aligned.{AreAligned}
 use Rattle.receive_laws.proofs.HistoryLaws.Written.{merged_low, merged_all}
 use Rattle.start_laws.specs.Words.{receive_with, FitsReceive, NamesRow, TakesReceive, ReceiveWordsAreTaken}
 use Rattle.start_laws.proofs.Masks.{merged-high, merged-length}
 use Rattle.start_laws.proofs.Words.{ground, wrote}
 
-module _ (queue : ℕ) (s : State) (small : queue < 128) (sound : IsSound s) (aligned : AreAligned s.registers)
+module _ (queue : ℕ) (s : State) (small : queue < 128) (sound : IsSound s)
     (off : is_on s.registers Rx queue ≡ false) where
   abbrev r : Registers
   r = s.registers
 
   low_base : word_of r Rdbal queue % 2 ^ 7 ≡ 0
-  low_base =
-      let even = (aligned Rx queue small).base in
-      let e : (word_of r Rdbah queue * 2 ^ 32 + word_of r Rdbal queue) % 128 ≡ word_of r Rdbal queue % 2 ^ 7 =
-      omega arith in
-      sym e ∙ even
+  low_base = low_bits r sound.registers Rdbal queue refl
 
   low_length : word_of r Rdlen queue % 2 ^ 7 ≡ 0
-  low_length =
-      let even = (aligned Rx queue small).length in
-      let e : word_of r Rdlen queue % 2 ^ 20 % 128 ≡ word_of r Rdlen queue % 2 ^ 7 = omega arith in
-      sym e ∙ even
+  low_length = low_bits r sound.registers Rdlen queue refl
 
   abbrev low : ℕ
   low = word_of r Rdbal queue
@@ -60,7 +54,7 @@ module _ (queue : ℕ) (s : State) (small : queue < 128) (sound : IsSound s) (al
       → receive_queue_of (after_write r (place row queue) 0xFFFFFFFF word) queue
       ≡ receive_with row word (receive_queue_of r queue)
   receive_side Rdbal word fits =
-      let short : low < 2 ^ 32 = sound.registers.words (place Rdbal queue) in
+      let short : low < 2 ^ 32 = word_small r sound.registers (place Rdbal queue) in
       let kept : high ≡ (high * 2 ^ 32 + low) / 2 ^ 32 = omega (arith, short) in
       let taken = merged-high low word low_base fits.0 fits.1 in
       receive-written r sound.registers.shape Rdbal queue refl small (inr (refl, off)) 0xFFFFFFFF word
@@ -68,7 +62,7 @@ module _ (queue : ℕ) (s : State) (small : queue < 128) (sound : IsSound s) (al
         ring = record (ring_of r Rx queue) { base = kept k * 2 ^ 32 + taken k };
       })
   receive_side Rdbah word fits =
-      let short : low < 2 ^ 32 = sound.registers.words (place Rdbal queue) in
+      let short : low < 2 ^ 32 = word_small r sound.registers (place Rdbal queue) in
       let kept : low ≡ (high * 2 ^ 32 + low) % 2 ^ 32 = omega (arith, short) in
       let taken : word_after r (place Rdbah queue) 0xFFFFFFFF word ≡ word = merged_all high word ∙ mod-eq_of_lt fits in
       receive-written r sound.registers.shape Rdbah queue refl small (inr (refl, off)) 0xFFFFFFFF word
@@ -98,7 +92,7 @@ module _ (queue : ℕ) (s : State) (small : queue < 128) (sound : IsSound s) (al
   receive_side other word fits = absurd fits
 
 module _ (queue : ℕ) (s : State) (port : Port) (n word : ℕ) (small : queue < 128) (sound : IsSound s)
-    (aligned : AreAligned s.registers) (off : is_on s.registers Rx queue ≡ false) where
+    (off : is_on s.registers Rx queue ≡ false) where
   receive_row : (row : RowId) → FitsReceive row word → (names : NamesRow s port n row queue)
       → is_setting row ≡ false → asks_reset (row_of row).kind word ≡ false
       → asks_pool_reset (row_of row).kind word ≡ false
@@ -109,7 +103,7 @@ module _ (queue : ℕ) (s : State) (port : Port) (n word : ℕ) (small : queue <
   receive_row row fits names plain none none_pool own only = record {
     side =
         ap (λ (r : Registers). receive_queue_of r queue) (wrote queue s port n word row names only)
-        ∙ receive_side queue s small sound aligned off row word fits;
+        ∙ receive_side queue s small sound off row word fits;
     other = (write_rest s port n word (place row queue) 0xFFFFFFFF names none none_pool).transmit queue own;
     ground = ground queue s port n word row names plain;
   }
@@ -126,5 +120,5 @@ module _ (queue : ℕ) (s : State) (port : Port) (n word : ℕ) (small : queue <
   taken other fits names = absurd fits
 
 pub receive_words_taken : ReceiveWordsAreTaken
-receive_words_taken queue s port n word row small sound aligned off fits names =
-    taken queue s port n word small sound aligned off row fits names
+receive_words_taken queue s port n word row small sound off fits names =
+    taken queue s port n word small sound off row fits names

@@ -6,16 +6,14 @@ use Rattle.nic_device.specs.DmaRing.declared.dir.Dir.TheVariants.{Rx, Tx}
 use Rattle.nic_device.specs.State.{State, new_state}
 use Rattle.nic_device.specs.Step.{after}
 use Rattle.device_lock.specs.Alone.{Blocks, lent_by}
-use Rattle.device_lock.specs.History.{AreEvents, calls_of}
+use Rattle.device_lock.specs.History.{calls_of}
 use Rattle.device_lock.specs.declared.alone.Watched.{Watched}
 use Rattle.device_lock.specs.declared.entry.Call.{Call}
 use Rattle.device_lock.specs.declared.entry.Entry.{Entry}
-use Rattle.receive_laws.specs.HistoryLaws.Staged.{StageWhileOn}
-use Rattle.receive_laws.proofs.HistoryLaws.Staged.{histories_keep_staged, new_sides_stage}
 use Rattle.pmd.specs.PmdSeam.Named.{AtPort}
 use Rattle.receive_laws.specs.Delivered.{packets_if_any, pieces_since}
 use Rattle.receive_laws.specs.Pieces.{Piece, packets_of, pieces}
-use Rattle.receive_laws.proofs.Delivering.{events_before, since-append}
+use Rattle.receive_laws.proofs.Delivering.{since-append}
 use Rattle.transmit_laws.specs.Sent.{sent_by, sent_since}
 use Rattle.transmit_laws.proofs.Counting.{sent_is_counted}
 use Rattle.start_laws.specs.Along.{AtCalls, AtEntries, IsAlong}
@@ -41,12 +39,11 @@ module _ (w : Watched) (q : AtPort) (fifo : ℕ) (done : List Entry) where
   -- the sides are off, and no more was received or sent than before
   record Silent (now : List Entry) : Type 0 where
     quiet : IsQuiet w.queue q (reached w fifo now)
-    bare : StageWhileOn (reached w fifo now)
     same : IsSilent w fifo now done
 
-  silent_on : (now : List Entry) (e : Entry) → StageWhileOn (after (reached w fifo now) e.event)
-      → StaysQuiet w.queue q (reached w fifo now) e.event → Silent now → Silent (now ++ e ∷ [])
-  silent_on now e bare stays x =
+  silent_on : (now : List Entry) (e : Entry) → StaysQuiet w.queue q (reached w fifo now) e.event → Silent now
+      → Silent (now ++ e ∷ [])
+  silent_on now e stays x =
       let s = reached w fifo now in
       let t = after s e.event in
       let so_far = pieces_since w.queue new None now in
@@ -56,7 +53,6 @@ module _ (w : Watched) (q : AtPort) (fifo : ℕ) (done : List Entry) where
       (inr stays.quiet.transmit.off) in
       record {
         quiet = subst (IsQuiet w.queue q) (sym (reached_next w fifo now e)) stays.quiet;
-        bare = subst StageWhileOn (sym (reached_next w fifo now e)) bare;
         same = record {
           delivered =
               ap packets_if_any (since-append w.queue new None now (e ∷ []))
@@ -73,26 +69,19 @@ module _ (w : Watched) (q : AtPort) (fifo : ℕ) (done : List Entry) where
 
   others_silent : (mine : Blocks) → KeptOver w fifo mine Silent
   others_silent mine now e left x =
-      silent_on now e (histories_keep_staged (reached w fifo now) (e ∷ []) left.sound (left.made, tt) x.bare)
-      (left_stays w mine q (reached w fifo now) e.event left x.bare x.quiet) x
+      silent_on now e (left_stays w mine q (reached w fifo now) e.event left x.quiet) x
 
   ending_silent : (mine : Blocks) (c : Call) → IsEnding q c.event → LeadsOver w fifo mine c Silent Silent
   ending_silent mine c own now e same met made told steps x =
       let ends = subst (λ (n : Call). IsEnding q n.event) (sym same) own in
-      silent_on now e (histories_keep_staged (reached w fifo now) (e ∷ []) met.sound (made, tt) x.bare)
-      (ending_stays w.queue q (reached w fifo now) e.event met made ends x.bare x.quiet) x
+      silent_on now e (ending_stays w.queue q (reached w fifo now) e.event met made ends x.quiet) x
 
 module _ (w : Watched) (q : AtPort) (fifo : ℕ) (h done rest : List Entry) (old : List Call) (along : IsAlong w fifo h)
     (some : old ≢ []) (at : AtCalls w fifo h old (IsQuiet w.queue q)) (all : done ++ rest ≡ h)
     (calls : calls_of w.pass done ≡ old) where
   here : (base now after : List Entry) → now ++ after ≡ h → calls_of w.pass now ≡ old → IsSilent w fifo now base
       → Silent w q fifo base now
-  here base now after both made same = record {
-    quiet = at now after both made;
-    bare = histories_keep_staged (new_state w.vfs fifo) now along.new
-        (events_before now after (subst AreEvents (sym both) along.events)) (new_sides_stage w.vfs fifo);
-    same = same;
-  }
+  here base now after both made same = record { quiet = at now after both made; same = same }
 
   itself : (now : List Entry) → IsSilent w fifo now now
   itself now = record { delivered = refl; sent = refl }

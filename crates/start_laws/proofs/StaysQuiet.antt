@@ -9,7 +9,6 @@ use Rattle.nic_device.specs.declared.event.Event.{Event}
 use Rattle.nic_device.specs.declared.event.Event.TheVariants as event
 use Rattle.device_lock.specs.Alone.{Blocks}
 use Rattle.device_lock.specs.declared.alone.Watched.{Watched}
-use Rattle.receive_laws.specs.HistoryLaws.Staged.{StageWhileOn}
 use Rattle.pmd.specs.PmdSeam.Named.{AtPort}
 use Rattle.receive_laws.specs.Pieces.{pieces}
 use Rattle.transmit_laws.specs.Sent.{sent_by}
@@ -30,23 +29,23 @@ pub record StaysQuiet (queue : ℕ) (q : AtPort) (s : State) (e : Event Block) :
   pub sent : sent_by queue s e ≡ []
 
 pub left_stays : (w : Watched) (mine : Blocks) (q : AtPort) (s : State) (e : Event Block) → IsLeft w mine s e
-    → StageWhileOn s → IsQuiet w.queue q s → StaysQuiet w.queue q s e
-left_stays w mine q s e left bare x =
+    → IsQuiet w.queue q s → StaysQuiet w.queue q s e
+left_stays w mine q s e left x =
     let l = standing_sides_are_left w mine no_block s e (receive_queue_of s.registers w.queue)
     (transmit_queue_of s.registers w.queue) left (λ n is. cc)
-    (off_sides_stand w.queue s left.small bare x.receive x.transmit) in record {
+    (off_sides_stand w.queue s left.sound x.receive x.transmit) in record {
       quiet = quiet_kept w mine q s e left x;
       received = l.received;
       sent = l.sent;
     }
 
 pub ending_stays : (queue : ℕ) (q : AtPort) (s : State) (e : Event Block) → IsMet queue s → IsEvent e → IsEnding q e
-    → StageWhileOn s → IsQuiet queue q s → StaysQuiet queue q s e
-ending_stays queue q s (event.Write port number word) met made own bare x =
+    → IsQuiet queue q s → StaysQuiet queue q s e
+ending_stays queue q s (event.Write port number word) met made own x =
     record { quiet = write_quiet queue q s x port number word met own; received = refl; sent = refl }
-ending_stays queue q s (event.Read port number) met made own bare x =
+ending_stays queue q s (event.Read port number) met made own x =
     record { quiet = read_quiet queue q s x port number; received = refl; sent = refl }
-ending_stays queue q s (event.Take number) met made own bare x =
+ending_stays queue q s (event.Take number) met made own x =
     record { quiet = take_quiet queue q s x number; received = refl; sent = refl }
-ending_stays queue q s e met made own bare x =
-    left_stays (watching queue s) no_block q s e (step_left queue s e met made own) bare x
+ending_stays queue q s e met made own x =
+    left_stays (watching queue s) no_block q s e (step_left queue s e met made own) x

@@ -25,7 +25,7 @@ use Rattle.receive_laws.proofs.DeviceLaws.RepliesReceived.{receiving_tells}
 use Rattle.receive_laws.proofs.DeviceLaws.StandingQueues.{receiving_rest}
 use Rattle.device_lock.specs.Alone.{Blocks}
 use Rattle.device_lock.specs.declared.alone.Watched.{Watched}
-use Rattle.receive_laws.proofs.HistoryLaws.RingsReceived.{slotless_stands}
+use Rattle.receive_laws.proofs.HistoryLaws.Slotless.{slotless_stands}
 use Rattle.start_laws.specs.Along.{IsKept}
 use Rattle.receive_laws.proofs.LeftReceive.{is_receive, is_receive_switch, receive_is, receive_switch_is, left-receive}
 

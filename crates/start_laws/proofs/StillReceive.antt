@@ -20,7 +20,7 @@ use Rattle.nic_device.specs.declared.event.Reply.TheVariants.{Wrote}
 use Rattle.nic_device.proofs.Cases.{either_way, switched_cases}
 use Rattle.receive_laws.specs.DeviceLaws.Leaving.{IsFirstFor, LeavesReceive}
 use Rattle.receive_laws.proofs.DeviceLaws.StandingQueues.{receiving_rest}
-use Rattle.receive_laws.proofs.HistoryLaws.RingsReceived.{slotless_stands}
+use Rattle.receive_laws.proofs.HistoryLaws.Slotless.{slotless_stands}
 use Rattle.receive_laws.specs.Pieces.{pieces_told}
 use Rattle.receive_laws.proofs.Cases.{IsTried, IsOn, step_cases, wrote_first, wrote_none}
 use Rattle.start_laws.specs.Standing.{StandsReceive}

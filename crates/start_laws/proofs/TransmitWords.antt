@@ -1,5 +1,5 @@
 -- A word of a row of the transmit side.
-use Rattle.std.proofs.Common.{◌≡◌, ◌≢◌, ℕ, ◌+◌, ◌*◌, ◌/◌, ◌%◌, ◌^◌, ◌<◌, inl, inr, false, refl, sym, ap, ◌∙◌, arith, List, []}
+use Rattle.std.proofs.Common.{◌≡◌, ◌≢◌, ℕ, ◌+◌, ◌*◌, ◌/◌, ◌%◌, ◌^◌, ◌<◌, inl, inr, false, refl, ap, ◌∙◌, arith, List, []}
 use Rattle.std.specs.Prelude.{slice_index_or, ◌==◌, Some, None, if◌then◌else◌}
 use Rattle.nic_device.specs.RegisterFile.Bits.{has_bit}
 use Rattle.std.proofs.Math.Nat.{mod-eq_of_lt}
@@ -15,6 +15,8 @@ use Rattle.nic_device.specs.DmaRing.declared.dir.Dir.TheVariants.{Rx, Tx}
 use Rattle.nic_device.specs.RegisterFile.declared.owner.Owner.TheVariants as owner
 use Rattle.nic_device.specs.RegisterLaws.Laws.{after_write, word_after}
 use Rattle.nic_device.specs.RegisterLaws.Sides.{transmit_queue_of}
+use Rattle.nic_device.proofs.RegisterLaws.RowBits.{word_small}
+use Rattle.nic_device.proofs.RegisterLaws.SoundWords.{low_bits}
 use Rattle.nic_device.proofs.RegisterLaws.SideWords.{transmit-written}
 use Rattle.nic_device.proofs.RegisterLaws.Switches.{transmit-asked}
 use Rattle.nic_device.specs.Access.{named_written}
@@ -28,7 +30,6 @@ use Rattle.nic_device.specs.declared.event.Reply.TheVariants.{Done}
 use Rattle.nic_device.specs.declared.named.Named.TheVariants.{Register}
 use Rattle.receive_laws.proofs.DeviceLaws.StandingAccesses.{write_rest}
 use Rattle.device_lock.specs.Alone.{is_setting}
-use Rattle.receive_laws.specs.HistoryLaws.Aligned.{AreAligned}
 use Rattle.receive_laws.proofs.HistoryLaws.Written.{merged_low, merged_all}
 use Rattle.start_laws.specs.Words.{transmit_with, FitsTransmit, NamesRow, TakesTransmit, TransmitWordsAreTaken}
 use Rattle.start_laws.proofs.Masks.{merged-high, merged-length, merged-even}
@@ -39,23 +40,16 @@ no_bit word even =
     let e : word / 2 ^ 0 % 2 ≡ 0 = omega (arith, even) in
     ap (λ n. n == 1) e
 
-module _ (queue : ℕ) (s : State) (small : queue < 128) (sound : IsSound s) (aligned : AreAligned s.registers)
+module _ (queue : ℕ) (s : State) (small : queue < 128) (sound : IsSound s)
     (off : is_on s.registers Tx queue ≡ false) where
   abbrev r : Registers
   r = s.registers
 
   low_base : word_of r Tdbal queue % 2 ^ 7 ≡ 0
-  low_base =
-      let even = (aligned Tx queue small).base in
-      let e : (word_of r Tdbah queue * 2 ^ 32 + word_of r Tdbal queue) % 128 ≡ word_of r Tdbal queue % 2 ^ 7 =
-      omega arith in
-      sym e ∙ even
+  low_base = low_bits r sound.registers Tdbal queue refl
 
   low_length : word_of r Tdlen queue % 2 ^ 7 ≡ 0
-  low_length =
-      let even = (aligned Tx queue small).length in
-      let e : word_of r Tdlen queue % 2 ^ 20 % 128 ≡ word_of r Tdlen queue % 2 ^ 7 = omega arith in
-      sym e ∙ even
+  low_length = low_bits r sound.registers Tdlen queue refl
 
   abbrev low : ℕ
   low = word_of r Tdbal queue
@@ -67,7 +61,7 @@ module _ (queue : ℕ) (s : State) (small : queue < 128) (sound : IsSound s) (al
       → transmit_queue_of (after_write r (place row queue) 0xFFFFFFFF word) queue
       ≡ transmit_with row word (transmit_queue_of r queue)
   transmit_side Tdbal word fits =
-      let short : low < 2 ^ 32 = sound.registers.words (place Tdbal queue) in
+      let short : low < 2 ^ 32 = word_small r sound.registers (place Tdbal queue) in
       let kept : high ≡ (high * 2 ^ 32 + low) / 2 ^ 32 = omega (arith, short) in
       let taken = merged-high low word low_base fits.0 fits.1 in
       transmit-written r sound.registers.shape Tdbal queue refl small (inr (refl, off)) 0xFFFFFFFF word
@@ -75,7 +69,7 @@ module _ (queue : ℕ) (s : State) (small : queue < 128) (sound : IsSound s) (al
         ring = record (ring_of r Tx queue) { base = kept k * 2 ^ 32 + taken k };
       })
   transmit_side Tdbah word fits =
-      let short : low < 2 ^ 32 = sound.registers.words (place Tdbal queue) in
+      let short : low < 2 ^ 32 = word_small r sound.registers (place Tdbal queue) in
       let kept : low ≡ (high * 2 ^ 32 + low) % 2 ^ 32 = omega (arith, short) in
       let taken : word_after r (place Tdbah queue) 0xFFFFFFFF word ≡ word = merged_all high word ∙ mod-eq_of_lt fits in
       transmit-written r sound.registers.shape Tdbah queue refl small (inr (refl, off)) 0xFFFFFFFF word
@@ -111,7 +105,7 @@ module _ (queue : ℕ) (s : State) (small : queue < 128) (sound : IsSound s) (al
   transmit_side other word fits = absurd fits
 
 module _ (queue : ℕ) (s : State) (port : Port) (n word : ℕ) (small : queue < 128) (sound : IsSound s)
-    (aligned : AreAligned s.registers) (off : is_on s.registers Tx queue ≡ false) where
+    (off : is_on s.registers Tx queue ≡ false) where
   transmit_row : (row : RowId) → FitsTransmit row word → (names : NamesRow s port n row queue)
       → is_setting row ≡ false → asks_reset (row_of row).kind word ≡ false
       → asks_pool_reset (row_of row).kind word ≡ false
@@ -122,7 +116,7 @@ module _ (queue : ℕ) (s : State) (port : Port) (n word : ℕ) (small : queue <
   transmit_row row fits names plain none none_pool own only = record {
     side =
         ap (λ (r : Registers). transmit_queue_of r queue) (wrote queue s port n word row names only)
-        ∙ transmit_side queue s small sound aligned off row word fits;
+        ∙ transmit_side queue s small sound off row word fits;
     staged =
         ap (λ (xs : List (List ℕ)). slice_index_or xs queue []) (wrote_staged queue s port n word row names only);
     other = (write_rest s port n word (place row queue) 0xFFFFFFFF names none none_pool).receive queue own;
@@ -141,5 +135,5 @@ module _ (queue : ℕ) (s : State) (port : Port) (n word : ℕ) (small : queue <
   taken other fits names = absurd fits
 
 pub transmit_words_taken : TransmitWordsAreTaken
-transmit_words_taken queue s port n word row small sound aligned off fits names =
-    taken queue s port n word small sound aligned off row fits names
+transmit_words_taken queue s port n word row small sound off fits names =
+    taken queue s port n word small sound off row fits names

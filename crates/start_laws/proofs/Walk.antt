@@ -15,9 +15,7 @@ use Rattle.device_lock.specs.History.{IsLegal, AreEvents, calls_of, call_in}
 use Rattle.device_lock.specs.declared.alone.Watched.{Watched}
 use Rattle.device_lock.specs.declared.entry.Call.{Call}
 use Rattle.device_lock.specs.declared.entry.Entry.{Entry}
-use Rattle.receive_laws.specs.HistoryLaws.Aligned.{AreAligned}
 use Rattle.receive_laws.specs.HistoryLaws.Alone.{AllAlone}
-use Rattle.receive_laws.proofs.HistoryLaws.Aligned.{events_aligned}
 use Rattle.receive_laws.proofs.HistoryLaws.Modes.{event_told}
 use Rattle.pmd.specs.PmdSeam.Events.{is_step}
 use Rattle.pmd.specs.PmdSeam.Made.{AreSteps}
@@ -31,13 +29,12 @@ use Rattle.start_laws.proofs.Reached.{KeptOver, LeadsOver, reached, reached_next
 pub record Between (w : Watched) (mode : Mode) (s : State) : Type 0 where
   pub small : w.queue < 128
   pub sound : IsSound s
-  pub aligned : AreAligned s.registers
   pub image : s.image ≡ blank
   pub vfs : w.vfs ≡ s.vfs
   pub mode_is : mode ≡ mode_in s.registers
 
 pub met_in : (w : Watched) (mode : Mode) (s : State) → Between w mode s → IsMet w.queue s
-met_in w mode s b = record { small = b.small; sound = b.sound; aligned = b.aligned }
+met_in w mode s b = record { small = b.small; sound = b.sound }
 
 pub next : (w : Watched) (mode : Mode) (s : State) (e : Entry) → Between w mode s → IsEvent e.event
     → Between w (mode_after w.vfs mode e.event) (after s e.event)
@@ -45,7 +42,6 @@ next w mode s e b made =
     let stays = (step_leads s e.event).stays in record {
       small = b.small;
       sound = keeps_sound s b.sound e.event made;
-      aligned = events_aligned s e.event b.sound b.aligned;
       image = stays.image ∙ b.image;
       vfs = b.vfs ∙ sym stays.vfs;
       mode_is = (λ k. mode_after (b.vfs k) (b.mode_is k) e.event) ∙ event_told s b.sound b.image e.event;
@@ -57,7 +53,6 @@ module _ (w : Watched) (mine : Blocks) (mode : Mode) (s : State) (e : Entry) (b 
   left_by registers blocks = record {
     small = b.small;
     sound = b.sound;
-    aligned = b.aligned;
     vfs = b.vfs;
     made = made;
     registers = registers;

@@ -17,7 +17,6 @@ use Rattle.nic_device.specs.declared.event.Port.{Port}
 use Rattle.nic_device.specs.declared.event.Reply.TheVariants as reply
 use Rattle.nic_device.specs.declared.named.Named.TheVariants.{Register}
 use Rattle.device_lock.specs.Alone.{Blocks}
-use Rattle.receive_laws.specs.HistoryLaws.Aligned.{AreAligned}
 use Rattle.pmd.specs.PmdRx.Receive as receive
 use Rattle.pmd.specs.PmdTx.Sending as transmit
 use Rattle.receive_laws.specs.Joint.{IsNamed, Agree}
@@ -29,7 +28,6 @@ use Rattle.start_laws.specs.Words.{receive_with, transmit_with, FitsReceive, Fit
 pub record IsMet (queue : ℕ) (s : State) : Type 0 where
   pub small : queue < 128
   pub sound : IsSound s
-  pub aligned : AreAligned s.registers
 
 -- a word is written to a register of a side that isn't wanted on: the side stands with it, where its ring is empty if
 -- it is wanted on now

@@ -1,5 +1,5 @@
 -- A queue whose receive side isn't wanted on, and one whose two sides are off.
-use Rattle.std.specs.Prelude.{ℕ, ◌≡◌, ◌<◌, false, IsFalse}
+use Rattle.std.specs.Prelude.{ℕ, ◌≡◌, false, IsFalse}
 use Rattle.nic_device.specs.DmaArena.Block.{Block}
 use Rattle.nic_device.specs.RegTable.declared.rows.RowId.TheVariants.{Rxdctl}
 use Rattle.nic_device.specs.RegisterFile.Bits.{has_bit}
@@ -7,6 +7,7 @@ use Rattle.nic_device.specs.RegisterFile.Queue.{is_on}
 use Rattle.nic_device.specs.RegisterFile.Registers.{is_wanted}
 use Rattle.nic_device.specs.DmaRing.declared.dir.Dir.TheVariants.{Rx}
 use Rattle.nic_device.specs.RegisterLaws.Sides.{receive_queue_of, transmit_queue_of}
+use Rattle.nic_device.specs.Sound.{IsSound}
 use Rattle.nic_device.specs.State.{State}
 use Rattle.nic_device.specs.Step.{after, reply_to}
 use Rattle.nic_device.specs.declared.event.Event.{Event}
@@ -15,7 +16,6 @@ use Rattle.nic_device.specs.declared.event.Port.{Port}
 use Rattle.nic_device.specs.declared.event.Reply.TheVariants as reply
 use Rattle.device_lock.specs.Alone.{Blocks}
 use Rattle.device_lock.specs.declared.alone.Watched.{Watched}
-use Rattle.receive_laws.specs.HistoryLaws.Staged.{StageWhileOn}
 use Rattle.transmit_laws.specs.Off as transmit
 use Rattle.start_laws.specs.Moves.{IsMet}
 use Rattle.start_laws.specs.Standing.{IsLeft, Stand}
@@ -48,8 +48,8 @@ pub record ReceiveGuardIsOff : Type 0 where
 abbrev pub no_block : Blocks
 no_block number = false
 
--- two sides that are off and not wanted on stand as they are, in a device whose sides stage bytes only while they're on
+-- two sides that are off and not wanted on stand as they are, in a sound device
 abbrev pub OffSidesStand : Type 0
 OffSidesStand =
-    (queue : ℕ) (s : State) → queue < 128 → StageWhileOn s → IsOff queue s → transmit.IsOff queue s →
+    (queue : ℕ) (s : State) → IsSound s → IsOff queue s → transmit.IsOff queue s →
     Stand queue (receive_queue_of s.registers queue) (transmit_queue_of s.registers queue) no_block s

@@ -14,7 +14,6 @@ use Rattle.nic_device.specs.Transmit.{staged_by}
 use Rattle.nic_device.specs.declared.event.Event.{Event}
 use Rattle.device_lock.specs.Alone.{Blocks, LeavesRegisters, LeavesBlocks, WritesOutside}
 use Rattle.device_lock.specs.declared.alone.Watched.{Watched}
-use Rattle.receive_laws.specs.HistoryLaws.Aligned.{AreAligned}
 use Rattle.receive_laws.specs.Pieces.{pieces}
 use Rattle.transmit_laws.specs.Sent.{sent_by}
 
@@ -46,11 +45,10 @@ pub record Stand (queue : ℕ) (receive : ReceiveQueue) (transmit : TransmitQueu
     pub zero : (number : ℕ) → IsTrue (rings number) → IsZero s.memory number
 
 -- an event that leaves the queue and these blocks alone, by the clauses by which a closed history is judged, made on a
--- sound device with aligned rings
+-- sound device
 pub record IsLeft (w : Watched) (mine : Blocks) (s : State) (e : Event Block) : Type 0 where
   pub small : w.queue < 128
   pub sound : IsSound s
-  pub aligned : AreAligned s.registers
   pub vfs : w.vfs ≡ s.vfs
   pub made : IsEvent e
   pub registers : LeavesRegisters w (mode_in s.registers) e

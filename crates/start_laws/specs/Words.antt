@@ -19,7 +19,6 @@ use Rattle.nic_device.specs.declared.event.Event.TheVariants as event
 use Rattle.nic_device.specs.declared.event.Port.{Port}
 use Rattle.nic_device.specs.declared.named.Named.TheVariants.{Register}
 use Rattle.receive_laws.specs.DeviceLaws.Leaving.{LeavesReceive, LeavesTransmit, LeavesMemory}
-use Rattle.receive_laws.specs.HistoryLaws.Aligned.{AreAligned}
 
 -- a ring with another low or high half of its base
 
@@ -99,15 +98,15 @@ pub record TakesTransmit (queue : ℕ) (row : RowId) (word : ℕ) (s t : State) 
   pub other : LeavesReceive queue s t
   pub ground : KeepsGround s t
 
--- a write by such a number, in a sound device with aligned rings, while the side is off
+-- a write by such a number, in a sound device, while the side is off
 abbrev pub ReceiveWordsAreTaken : Type 0
 ReceiveWordsAreTaken =
     (queue : ℕ) (s : State) (port : Port) (number word : ℕ) (row : RowId) → queue < 128 → IsSound s →
-    AreAligned s.registers → IsFalse (is_on s.registers Rx queue) → FitsReceive row word →
-    NamesRow s port number row queue → TakesReceive queue row word s (after s (event.Write port number word))
+    IsFalse (is_on s.registers Rx queue) → FitsReceive row word → NamesRow s port number row queue →
+    TakesReceive queue row word s (after s (event.Write port number word))
 
 abbrev pub TransmitWordsAreTaken : Type 0
 TransmitWordsAreTaken =
     (queue : ℕ) (s : State) (port : Port) (number word : ℕ) (row : RowId) → queue < 128 → IsSound s →
-    AreAligned s.registers → IsFalse (is_on s.registers Tx queue) → FitsTransmit row word →
-    NamesRow s port number row queue → TakesTransmit queue row word s (after s (event.Write port number word))
+    IsFalse (is_on s.registers Tx queue) → FitsTransmit row word → NamesRow s port number row queue →
+    TakesTransmit queue row word s (after s (event.Write port number word))

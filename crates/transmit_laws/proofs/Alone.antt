@@ -8,8 +8,6 @@ use Rattle.device_lock.specs.Alone.{Blocks}
 use Rattle.device_lock.specs.History.{IsLegal}
 use Rattle.device_lock.specs.declared.alone.Watched.{Watched}
 use Rattle.history_laws.proofs.DeviceLaws.Standing.{stays_within}
-use Rattle.history_laws.specs.Aligned.{AreAligned}
-use Rattle.history_laws.proofs.Aligned.{events_aligned}
 use Rattle.pmd_tx.specs.Sending.{Sender, Move, Accepts, Asks, Advances, Looks, Reaps, Elsewhere, has_lent}
 use Rattle.transmit_laws.specs.Agreeing.{Agrees}
 use Rattle.transmit_laws.specs.Alone.{IsAlone, LendsOneOf, MayMoveAlone, MayComeAlone, MayRunAlone}
@@ -21,12 +19,11 @@ use Rattle.transmit_laws.proofs.Mine.{AreMine, mine-moved}
 use Rattle.transmit_laws.proofs.Runs.{one-turn, sent_is_prefix}
 
 module _ (w : Watched) (mine : Blocks) (s : State) (sent : List (List ℕ)) (v : Sender) (j : Agrees s w.queue sent v)
-    (aligned : AreAligned s.registers) (functions : w.vfs ≡ s.vfs) (all : AreMine mine v) (e : Event Block)
+    (functions : w.vfs ≡ s.vfs) (all : AreMine mine v) (e : Event Block)
   where
     spared : (blocks : Blocks) → AreMine blocks v → IsAlone w blocks v s e → MayCome w.queue v s e None
     spared blocks lent a = left_alone_is_spared w blocks v s e (record {
       sound = j.1.based.sound;
-      aligned = aligned;
       made = a.made;
       functions = functions;
       lent = lent;
@@ -61,30 +58,30 @@ module _ (w : Watched) (mine : Blocks) (s : State) (sent : List (List ℕ)) (v :
     mine_after (Some m) a = mine-moved mine v all m (reply_to s e) (lends m a)
 
 run : (w : Watched) (mine : Blocks) (s : State) (sent : List (List ℕ)) (v : Sender) (ts : List Turn)
-    → Agrees s w.queue sent v → AreAligned s.registers → w.vfs ≡ s.vfs → AreMine mine v → IsLegal s (entries_of ts)
+    → Agrees s w.queue sent v → w.vfs ≡ s.vfs → AreMine mine v → IsLegal s (entries_of ts)
     → MayRunAlone w mine v s ts → MayRun w.queue v s ts
-run w mine s sent v [] j aligned functions all legal alone = tt
-run w mine s sent v (t ∷ ts) j aligned functions all legal alone =
+run w mine s sent v [] j functions all legal alone = tt
+run w mine s sent v (t ∷ ts) j functions all legal alone =
     let e = t.entry.event in
-    let m = may w mine s sent v j aligned functions all e t.move alone.0 in
+    let m = may w mine s sent v j functions all e t.move alone.0 in
     let next = one-turn s w.queue sent v e t.entry.reply t.move j legal.0 m in
     let left : AreMine mine (known v t.move t.entry.reply) =
     subst (λ r. AreMine mine (known v t.move r)) (sym legal.0)
-    (mine_after w mine s sent v j aligned functions all e t.move alone.0) in (
+    (mine_after w mine s sent v j functions all e t.move alone.0) in (
       m,
       run w mine (after s e) (sent ++ sent_by w.queue s e) (known v t.move t.entry.reply) ts next
-          (events_aligned s e j.1.based.sound aligned) (functions ∙ sym (stays_within s e).vfs) left legal.1 alone.1,
+          (functions ∙ sym (stays_within s e).vfs) left legal.1 alone.1,
     )
 
 pub alone_may_run : AloneMayRun
-alone_may_run w mine s v ts agreed aligned functions lent legal alone =
-    run w mine s [] v ts agreed aligned functions lent legal alone
+alone_may_run w mine s v ts agreed functions lent legal alone =
+    run w mine s [] v ts agreed functions lent legal alone
 
 pub sent_is_prefix_where_alone : SentIsPrefixWhereAlone
-sent_is_prefix_where_alone w mine s v ts agreed aligned functions lent legal alone =
+sent_is_prefix_where_alone w mine s v ts agreed functions lent legal alone =
     sent_is_prefix w.queue s v ts
     (record {
       agreed = agreed;
       legal = legal;
-      may = alone_may_run w mine s v ts agreed aligned functions lent legal alone;
+      may = alone_may_run w mine s v ts agreed functions lent legal alone;
     })

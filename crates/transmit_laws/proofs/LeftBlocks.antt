@@ -16,7 +16,6 @@ use Rattle.nic_device.specs.declared.event.Event.TheVariants as event
 use Rattle.nic_device.specs.declared.event.Reply.{Reply}
 use Rattle.nic_device.specs.declared.event.Reply.TheVariants.{Wrote, Advanced, Sent}
 use Rattle.nic_device.proofs.DmaArena.Inside.{inside_avoids as in_block_avoids}
-use Rattle.history_laws.specs.Aligned.{AreAligned}
 use Rattle.history_laws.proofs.Reported.{reports_lie}
 use Rattle.device_lock.specs.Alone.{Blocks, LeavesBlocks, IsClear, WritesOutside}
 use Rattle.history_laws.specs.DeviceLaws.Leaving.{LeavesBlock, ReceivesOutside}
@@ -94,30 +93,30 @@ module _ (queue : ℕ) (mine : Blocks) (v : Sender) (s : State) (b : ℕ) (lent 
               subst (λ (o : Outcome). LeavesBlock b s o.state) (sym ((misaligned s a odd).poke bytes)) refl
         ]
 
-    left-block : (e : Event Block) → IsSound s → AreAligned s.registers → IsEvent e → LeavesBlocks mine e
-        → WritesOutside queue mine (reply_to s e)
-        → Owes queue v s e → is_transmit_of queue e ≡ false → LeavesBlock b s (after s e)
-    left-block (event.Read port n) sound aligned made left outside owes other =
+    left-block : (e : Event Block) → IsSound s → IsEvent e → LeavesBlocks mine e
+        → WritesOutside queue mine (reply_to s e) → Owes queue v s e → is_transmit_of queue e ≡ false
+        → LeavesBlock b s (after s e)
+    left-block (event.Read port n) sound made left outside owes other =
         ap (λ m. map.get m b) (read_rest s port n).memory
-    left-block (event.Write port n word) sound aligned made left outside owes other =
+    left-block (event.Write port n word) sound made left outside owes other =
         ap (λ m. map.get m b) (write_memory s port n word)
-    left-block (event.Lend block) sound aligned made left outside owes other =
+    left-block (event.Lend block) sound made left outside owes other =
         memory_blocks.lend s block b (not_mine mine b block.number is left)
-    left-block (event.Take number) sound aligned made left outside owes other =
+    left-block (event.Take number) sound made left outside owes other =
         memory_blocks.take s number b (not_mine mine b number is left)
-    left-block (event.Poke16 a bytes) sound aligned made left outside owes other = poke_block a bytes made.1 left
-    left-block event.RxStep sound aligned made left outside owes other =
+    left-block (event.Poke16 a bytes) sound made left outside owes other = poke_block a bytes made.1 left
+    left-block event.RxStep sound made left outside owes other =
         receiving_blocks s b (received_outside queue mine v (reply_to s event.RxStep) b lent is outside owes)
-    left-block (event.TxStep on) sound aligned made left outside owes other =
+    left-block (event.TxStep on) sound made left outside owes other =
         transmitting_blocks s on b (λ back told.
         in_block_avoids (back / 2048) b back (report_length (transmit_queue_of s.registers on).writeback)
-        (reports_lie s sound aligned on back told)
+        (reports_lie s sound on back told)
         (not_mine mine b (back / 2048) is
         (told_apart queue on mine s (after s (event.TxStep on)) (reply_to s (event.TxStep on))
         (eqb-false on queue other) (transmitting_tells s sound on) outside back told)))
-    left-block (event.QueueStep dir on) sound aligned made left outside owes other =
+    left-block (event.QueueStep dir on) sound made left outside owes other =
         ap (λ m. map.get m b) (switching_rest s dir on).memory
-    left-block e sound aligned made left outside owes other = (stays_within s e).blocks b refl
+    left-block e sound made left outside owes other = (stays_within s e).blocks b refl
 
 pub left_alone_is_spared : LeftAloneIsSpared
 left_alone_is_spared w mine v s e h = record {
@@ -125,5 +124,5 @@ left_alone_is_spared w mine v s e h = record {
   setting = left-setting w s h.functions e h.registers;
   side = left-side w s h.functions e h.registers;
   blocks = λ other b lent.
-      left-block w.queue mine v s b lent (h.lent b lent) e h.sound h.aligned h.made h.blocks h.steps h.owed other;
+      left-block w.queue mine v s b lent (h.lent b lent) e h.sound h.made h.blocks h.steps h.owed other;
 }

@@ -9,7 +9,6 @@ use Rattle.device_lock.specs.declared.entry.Entry.{Entry}
 use Rattle.device_lock.specs.Alone.{Blocks}
 use Rattle.device_lock.specs.declared.alone.Watched.{Watched}
 use Rattle.device_lock.specs.History.{IsLegal, leads_to, calls_of}
-use Rattle.history_laws.specs.Aligned.{AreAligned}
 use Rattle.pmd_tx.specs.Plays.{played_by}
 use Rattle.pmd_tx.specs.Sending.{Sender, Move, is_sent, descriptor_at, has_lent, moved}
 use Rattle.nic_device.specs.declared.event.Reply.TheVariants as reply
@@ -83,19 +82,17 @@ SentIsPrefixOfTaken =
     IsLegal s h → MayRun queue v s (turns_of pass moves h) →
     IsPrefixOf (sent_in queue s h) (bytes_of (played_by v moves (calls_of pass h)).accepted)
 
--- where each turn leaves the queue alone or is a move, from aligned rings on, and the driver's lends are of blocks that
--- others leave alone, each may come; and so what was sent is a prefix of what was accepted
+-- where each turn leaves the queue alone or is a move, and the driver's lends are of blocks that others leave alone,
+-- each may come; and so what was sent is a prefix of what was accepted
 abbrev pub AloneMayRun : Type 0
 AloneMayRun =
     (w : Watched) (mine : Blocks) (s : State) (v : Sender) (ts : List Turn) → Agrees s w.queue [] v →
-    AreAligned s.registers → w.vfs ≡ s.vfs →
-    ((number : ℕ) → IsTrue (has_lent v number) → IsTrue (mine number)) → IsLegal s (entries_of ts) →
+    w.vfs ≡ s.vfs → ((number : ℕ) → IsTrue (has_lent v number) → IsTrue (mine number)) → IsLegal s (entries_of ts) →
     MayRunAlone w mine v s ts → MayRun w.queue v s ts
 
 abbrev pub SentIsPrefixWhereAlone : Type 0
 SentIsPrefixWhereAlone =
     (w : Watched) (mine : Blocks) (s : State) (v : Sender) (ts : List Turn) → Agrees s w.queue [] v →
-    AreAligned s.registers → w.vfs ≡ s.vfs →
-    ((number : ℕ) → IsTrue (has_lent v number) → IsTrue (mine number)) → IsLegal s (entries_of ts) →
+    w.vfs ≡ s.vfs → ((number : ℕ) → IsTrue (has_lent v number) → IsTrue (mine number)) → IsLegal s (entries_of ts) →
     MayRunAlone w mine v s ts →
     IsPrefixOf (sent_in w.queue s (entries_of ts)) (bytes_of (sender_after v ts).accepted)

@@ -15,7 +15,6 @@ use Rattle.device_lock.specs.Alone.{Blocks, LeavesRegisters, LeavesBlocks, Write
 use Rattle.device_lock.specs.declared.alone.Watched.{Watched}
 use Rattle.history_laws.specs.DeviceLaws.Laws.{WritesNoSetting}
 use Rattle.history_laws.specs.DeviceLaws.Leaving.{LeavesTransmit, LeavesBlock}
-use Rattle.history_laws.specs.Aligned.{AreAligned}
 use Rattle.pmd_tx.specs.Sending.{Sender, has_lent}
 
 -- whether an event is a step of transmitting of this queue, and whether it is one of its transmit side's enable
@@ -47,10 +46,9 @@ abbrev pub Owes : ℕ → Sender → State → Event Block → Type 0
 Owes queue v s event.RxStep = ReceiveOwes queue v (reply_to s event.RxStep)
 Owes queue v s other = ⊤
 
--- an event leaves a queue of a sound device with aligned rings alone, and all blocks among which are the sender's
+-- an event leaves a queue of a sound device alone, and all blocks among which are the sender's
 pub record IsLeft (w : Watched) (mine : Blocks) (v : Sender) (s : State) (e : Event Block) : Type 0 where
   pub sound : IsSound s
-  pub aligned : AreAligned s.registers
   pub made : IsEvent e
   pub functions : w.vfs ≡ s.vfs
   pub lent : (number : ℕ) → IsTrue (has_lent v number) → IsTrue (mine number)

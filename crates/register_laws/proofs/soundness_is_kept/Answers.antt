@@ -9,7 +9,7 @@ pub returns-clause-read : goal.returns-clause-read
 returns-clause-read c = λ r sound p. sound-after_read r p sound
 
 pub returns-clause-write : goal.returns-clause-write
-returns-clause-write c = λ r sound p view word small. sound-written r p view word sound small
+returns-clause-write c = λ r sound p view word. sound-written r p view word sound
 
 pub returns-clause-count : goal.returns-clause-count
 returns-clause-count c = λ r sound row index e. sound-counted r row index e sound

@@ -1,0 +1,16 @@
+-- Where a step of transmitting reports.
+use Rattle.std.specs.Prelude.{ℕ, ◌/◌, ◌≡◌, Some}
+use Rattle.nic_device.specs.DmaArena.Memory.{LiesIn}
+use Rattle.nic_device.specs.RegisterLaws.Sides.{transmit_queue_of}
+use Rattle.nic_device.specs.TxRing.Report.{report_length}
+use Rattle.nic_device.specs.Footprint.{told_back}
+use Rattle.nic_device.specs.Sound.{IsSound}
+use Rattle.nic_device.specs.State.{State}
+use Rattle.nic_device.specs.Step.{reply_to}
+use Rattle.nic_device.specs.declared.event.Event.TheVariants as event
+
+-- what is written back lies in the block where it begins
+abbrev pub ReportsLieInBlocks : Type 0
+ReportsLieInBlocks =
+    (s : State) → IsSound s → (queue back : ℕ) → told_back (reply_to s (event.TxStep queue)) ≡ Some back →
+    LiesIn (back / 2048) back (report_length (transmit_queue_of s.registers queue).writeback)

@@ -1,0 +1,51 @@
+-- What the words of sound registers are.
+use Rattle.std.specs.Prelude.{ℕ, ◌%◌, ◌^◌, ◌≡◌, ◌<◌, Bool, true, false, IsTrue, IsFalse}
+use Rattle.register_file.specs.RegTable.Rows.{row_of}
+use Rattle.register_file.specs.RegTable.declared.kind.Kind.{Kind}
+use Rattle.register_file.specs.RegTable.declared.kind.Kind.TheVariants as kind
+use Rattle.register_file.specs.RegTable.declared.place.Place.{Place}
+use Rattle.register_file.specs.Access.{asks_reset}
+use Rattle.register_file.specs.Queue.{ring_of}
+use Rattle.register_file.specs.Registers.{Registers}
+use Rattle.register_file.specs.Words.{word_at}
+use Rattle.register_file.specs.DmaRing.declared.dir.Dir.{Dir}
+use Rattle.register_file.specs.DmaRing.declared.ring.Ring.{Ring}
+use Rattle.register_laws.specs.Sound.{AreSound}
+
+-- each has 32 bits
+abbrev pub SoundWordsAreSmall : Type 0
+SoundWordsAreSmall = (r : Registers) → AreSound r → (p : Place) → word_at r.words p < 2 ^ 32
+
+-- whether a register of this kind keeps no word: it only acts, or it is calculated
+abbrev pub keeps_none : Kind → Bool
+keeps_none kind.Rw = false
+keeps_none kind.Ro = false
+keeps_none kind.Calc = true
+keeps_none kind.Rc = false
+keeps_none kind.Cause = false
+keeps_none kind.Ones = false
+keeps_none kind.Set = true
+keeps_none kind.Clear = true
+keeps_none kind.Held = false
+keeps_none kind.Enable = false
+keeps_none kind.Ctrl = false
+keeps_none kind.Vreset = true
+keeps_none kind.Eerd = false
+
+-- the word of such a register is 0
+abbrev pub ActingWordsAreNone : Type 0
+ActingWordsAreNone =
+    (r : Registers) → AreSound r → (p : Place) → IsTrue (keeps_none (row_of p.row).kind) → word_at r.words p ≡ 0
+
+-- no word is one that asks for a reset where it is written
+abbrev pub NoWordAsksReset : Type 0
+NoWordAsksReset =
+    (r : Registers) → AreSound r → (p : Place) → IsFalse (asks_reset (row_of p.row).kind (word_at r.words p))
+
+-- each ring has its base and its length at multiples of 128
+pub record IsAligned (ring : Ring) : Type 0 where
+  pub base : ring.base % 128 ≡ 0
+  pub length : ring.length % 128 ≡ 0
+
+abbrev pub RingsAreAligned : Type 0
+RingsAreAligned = (r : Registers) → AreSound r → (dir : Dir) (queue : ℕ) → IsAligned (ring_of r dir queue)

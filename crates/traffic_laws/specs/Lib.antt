@@ -1,0 +1,6 @@
+pub mod Bits
+pub mod Arrival
+pub mod Receiving
+pub mod Transmitting
+pub mod Switching
+pub mod Memory

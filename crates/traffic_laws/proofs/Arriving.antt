@@ -44,7 +44,8 @@ module _ (s : State) (frame : List ℕ) where
   heard-comes : IsHeard s → arrived s frame ≡ sized
   heard-comes h =
       cond-true s.link linked (gives (Dropped LinkDown) s) h.link
-      ∙ cond-true (can_receive s.registers) sized (gives (Dropped Off) s) (has-one 0 (word_of s.registers Rxctrl 0) h.on)
+      ∙ cond-true (can_receive s.registers) sized (gives (Dropped Off) s)
+      (has-one 0 (word_of s.registers Rxctrl 0) h.on)
 
   long-comes : IsHeard s → 60 ≤ length frame → arrived s frame ≡ limited
   long-comes h enough =

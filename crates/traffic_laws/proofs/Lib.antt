@@ -6,6 +6,8 @@ pub mod Joining
 pub mod Slots
 pub mod Receiving
 pub mod Leaving
+pub mod AtHead
+pub mod Faults
 pub mod Silence
 pub mod GoingOut
 pub mod Fetched

@@ -83,14 +83,14 @@ module _ (r : Registers) (queue : ℕ) (parted : bit 0 (word_of r VtCtl 0) ≡ 1
       cond_both (w % 4 == 1) Pools16 (cond (w % 4 == 2) Pools32 Pools64) In (λ is. mutes_none 0 0 refl) (λ not_16.
       cond_both (w % 4 == 2) Pools32 Pools64 In
       (λ is. let two = eqb-true (w % 4) 2 is in
-      cond_both (nat_lt queue 128) (Some (queue / 4)) None Mutes (λ small. mutes_in (queue / 4) (inl (omega arith, refl)))
-      (λ past no. cc))
+      cond_both (nat_lt queue 128) (Some (queue / 4)) None Mutes
+      (λ small. mutes_in (queue / 4) (inl (omega arith, refl))) (λ past is. cc))
       (λ not_32.
       let a = eqb-false (w % 4) 0 not_off in
       let b = eqb-false (w % 4) 1 not_16 in
       let c = eqb-false (w % 4) 2 not_32 in
-      cond_both (nat_lt queue 128) (Some (queue / 2)) None Mutes (λ small. mutes_in (queue / 2) (inr (omega arith, refl)))
-      (λ past no. cc))))
+      cond_both (nat_lt queue 128) (Some (queue / 2)) None Mutes
+      (λ small. mutes_in (queue / 2) (inr (omega arith, refl))) (λ past is. cc))))
 
 is-muted : (r : Registers) (queue : ℕ) → is_muted r queue ≡ true → IsMuted r queue
 unfolding is_muted

@@ -32,6 +32,20 @@ slot-empty ring inside same =
     and_from (not (is_outside ring)) (ring.head == ring.tail) (ap (λ b. not (not b)) both)
     (eq-eqb ring.head ring.tail same)
 
+-- head and tail are slots
+pub slots-inside : (ring : Ring) → is_outside ring ≡ false
+    → (ring.head < slots_of ring) × (ring.tail < slots_of ring)
+slots-inside ring e =
+    let both = not-false (nat_lt ring.head (slots_of ring) && nat_lt ring.tail (slots_of ring)) e in
+    let inside = and_parts (nat_lt ring.head (slots_of ring)) (nat_lt ring.tail (slots_of ring)) both in
+    (ltb-true ring.head (slots_of ring) inside.0, ltb-true ring.tail (slots_of ring) inside.1)
+
+pub inside-slots : (ring : Ring) → ring.head < slots_of ring → ring.tail < slots_of ring → is_outside ring ≡ false
+inside-slots ring head tail =
+    ap not
+    (and_from (nat_lt ring.head (slots_of ring)) (nat_lt ring.tail (slots_of ring))
+    (lt-ltb ring.head (slots_of ring) head) (lt-ltb ring.tail (slots_of ring) tail))
+
 pub receive-slotless : (r : Registers) (queue : ℕ) → is_empty (ring_of r Rx queue) ≡ true → receiving.HasNoSlot r queue
 receive-slotless r queue e =
     let here = empty-slot (ring_of r Rx queue) e in

@@ -127,7 +127,8 @@ pub record Joins (s : State) (frame : List ℕ) (new : State) : Type 0 where
   pub hash : last.hash ≡ target.hash
   pub rss : last.rss ≡ target.rss
 
--- the frames that wait after one arrived, by the reply: it joins them where it is let in, and else they are as they were
+-- the frames that wait after one arrived, by the reply: it joins them where it is let in, and else they are as they
+-- were
 abbrev pub WaitsAfterArriving : State → List ℕ → Reply Block → State → Type 0
 WaitsAfterArriving s frame Done new = Joins s frame new
 WaitsAfterArriving s frame other new = new.waiting ≡ s.waiting

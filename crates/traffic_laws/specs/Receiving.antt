@@ -1,7 +1,9 @@
 -- What a step of receiving does with the first frame that waits, by the bits of registers.
-use Rattle.std.specs.Prelude.{ℕ, ◌≡◌, ◌≢◌, ◌<◌, ◌⊎◌, ◌+◌, ◌/◌, Bool, true, false, List, [], ◌∷◌, length}
+use Rattle.std.specs.Prelude.{ℕ, ◌≡◌, ◌≢◌, ◌<◌, ◌≤◌, ◌⊎◌, ◌+◌, ◌*◌, ◌/◌, ◌%◌, ◌^◌, IsFalse, Bool, true, false, List, [], ◌∷◌, length}
 use Rattle.nic_device.specs.DmaArena.Block.{Block}
-use Rattle.nic_device.specs.RegTable.declared.rows.RowId.TheVariants.{Ctrl, Rxdctl, Srrctl, Rdlen, Rdh, Rdt}
+use Rattle.nic_device.specs.DmaArena.Memory.{read_at}
+use Rattle.nic_device.specs.DmaRing.Descriptor.{first_half}
+use Rattle.nic_device.specs.RegTable.declared.rows.RowId.TheVariants.{Ctrl, Rxdctl, Srrctl, Rdbal, Rdbah, Rdlen, Rdh, Rdt}
 use Rattle.nic_device.specs.RegisterFile.Registers.{Registers, word_of}
 use Rattle.nic_device.specs.Outcome.{gives}
 use Rattle.nic_device.specs.Sound.{IsSound}
@@ -128,3 +130,20 @@ abbrev pub FramesLeaveAtTheirEnd : Type 0
 FramesLeaveAtTheirEnd =
     (s : State) → IsSound s →
     WaitsAfterReceiving (reply_to s event.RxStep) s.waiting (after s event.RxStep).waiting
+
+-- a slot that is written: the one in RDH bits 15 to 0; its descriptor stands 16 bytes for each slot behind the base in
+-- RDBAH and RDBAL, and names the buffer, bit 0 left out, in its first half; SRRCTL says in bits 27 to 25 that
+-- descriptors have one buffer, and in bits 4 to 0 how many KB it has, which a piece in the middle of a frame fills
+pub record WritesAtHead (s : State) (queue slot : ℕ) (end : Bool) (desc at len : ℕ) : Type 0 where
+  pub head : slot ≡ field 15 0 (word_of s.registers Rdh queue)
+  pub descriptor :
+      desc ≡ (word_of s.registers Rdbah queue * 2 ^ 32 + word_of s.registers Rdbal queue + 16 * slot) % 2 ^ 64
+  pub buffer : at ≡ 2 * (first_half (read_at s.memory desc 16) / 2)
+  pub type : field 27 25 (word_of s.registers Srrctl queue) ≡ 1
+  pub room : len ≤ 1024 * field 4 0 (word_of s.registers Srrctl queue)
+  pub full : IsFalse end → len ≡ 1024 * field 4 0 (word_of s.registers Srrctl queue)
+
+abbrev pub SlotsAreWrittenAtHead : Type 0
+SlotsAreWrittenAtHead =
+    (s : State) (queue slot : ℕ) (end : Bool) (desc at len : ℕ) →
+    reply_to s event.RxStep ≡ Wrote queue slot end desc at len → WritesAtHead s queue slot end desc at len

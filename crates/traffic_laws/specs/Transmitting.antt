@@ -22,7 +22,8 @@ IsInPool r queue pool =
     ((field 1 0 (word_of r GcrExt 0) ≡ 2) × (pool ≡ queue / 4))
     ⊎ ((field 1 0 (word_of r GcrExt 0) ≡ 3) × (pool ≡ queue / 2))
 
--- a queue is muted: VT_CTL bit 0 is 1, and its pool's bit in VFTE is 0; VFTE[0] has pools 0 to 31, VFTE[1] pools 32 to 63
+-- a queue is muted: VT_CTL bit 0 is 1, and its pool's bit in VFTE is 0; VFTE[0] has pools 0 to 31, VFTE[1] pools 32 to
+-- 63
 pub record IsMuted (r : Registers) (queue : ℕ) : Type 0 where
   pub parted : bit 0 (word_of r VtCtl 0) ≡ 1
   pub pool : ℕ
@@ -35,8 +36,8 @@ pub record HasNoSlot (r : Registers) (queue : ℕ) : Type 0 where
   pub inside : field 15 0 (word_of r Tdh queue) < field 19 0 (word_of r Tdlen queue) / 16
   pub same : field 15 0 (word_of r Tdh queue) ≡ field 15 0 (word_of r Tdt queue)
 
--- each reason for which a queue sends nothing: CTRL bit 2 is 1, the link is down, DMATXCTL bit 0, TE, is 0, the queue is
--- off (TXDCTL bit 25 is 0), its pool is muted, or it has no slot
+-- each reason for which a queue sends nothing: CTRL bit 2 is 1, the link is down, DMATXCTL bit 0, TE, is 0, the queue
+-- is off (TXDCTL bit 25 is 0), its pool is muted, or it has no slot
 pub data IsSilent (s : State) (queue : ℕ) : Type 0 where
   stopped : bit 2 (word_of s.registers Ctrl 0) ≡ 1 → IsSilent s queue
   down : IsFalse s.link → IsSilent s queue
@@ -56,8 +57,8 @@ pub record SendsOnReason (s : State) (queue : ℕ) : Type 0 where
 abbrev pub SilenceHasItsReasons : Type 0
 SilenceHasItsReasons = (s : State) (queue : ℕ) → SendsOnReason s queue
 
--- the descriptor at the head of a transmit queue: 16 bytes at the base in TDBAH and TDBAL, and 16 for each slot up to the
--- one in TDH bits 15 to 0
+-- the descriptor at the head of a transmit queue: 16 bytes at the base in TDBAH and TDBAL, and 16 for each slot up to
+-- the one in TDH bits 15 to 0
 abbrev pub head_descriptor : State → ℕ → List ℕ
 head_descriptor s queue =
     read_at s.memory

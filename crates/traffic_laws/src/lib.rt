@@ -6,28 +6,29 @@
 #![tactic(auto)]
 
 ghost use Rattle.traffic_laws.specs.Arrival.{ArrivingHasAnOrder, FramesJoinLast};
+ghost use Rattle.traffic_laws.specs.Faults.{SlotsHaveTheirFaults};
 ghost use Rattle.traffic_laws.specs.Memory.{MemoryCallsAnswer, PokedIsPeeked, LentIsPeeked, TakenIsAsPeeked};
-ghost use Rattle.traffic_laws.specs.Receiving.{ReceivedForAReason, EachReasonIsMet, FramesLeaveAtTheirEnd};
+ghost use Rattle.traffic_laws.specs.Receiving.{ReceivedForAReason, EachReasonIsMet, FramesLeaveAtTheirEnd, SlotsAreWrittenAtHead};
 ghost use Rattle.traffic_laws.specs.Switching.{SwitchingHasItsReason, SwitchedSideIsAsWanted};
 ghost use Rattle.traffic_laws.specs.Transmitting.{SilenceHasItsReasons, FramesGoOutWhole};
 
-/// A frame that arrives is dropped for the first of these reasons that is there: the link is down; RXCTRL bit 0 is 0; it
-/// has fewer than 60 bytes; it is above the limit, 1,514 bytes or with HLREG0 bit 2 MAXFRS bits 31 to 16 less 4; its
-/// destination doesn't pass the filter; while VT_CTL bit 0 is 1, it has no pool, or its pool's bit of VFRE is 0; as many
-/// frames wait as the list holds. Else it is let in.
+/// A frame that arrives is dropped for the first of these reasons that is there: the link is down; RXCTRL bit 0 is 0;
+/// it has fewer than 60 bytes; it is above the limit, 1,514 bytes or with HLREG0 bit 2 MAXFRS bits 31 to 16 less 4; its
+/// destination doesn't pass the filter; while VT_CTL bit 0 is 1, it has no pool, or its pool's bit of VFRE is 0; as
+/// many frames wait as the list holds. Else it is let in.
 pub fn arriving_has_an_order()
     ensures { ArrivingHasAnOrder }
 {}
 
-/// A frame that is let in joins the frames that wait, last of all, with its bytes, its queue and its hash, nothing of it
-/// written. One that isn't leaves the list as it was.
+/// A frame that is let in joins the frames that wait, last of all, with its bytes, its queue and its hash, nothing of
+/// it written. One that isn't leaves the list as it was.
 pub fn frames_join_last()
     ensures { FramesJoinLast }
 {}
 
 /// A step of receiving is idle while CTRL bit 2 is 1 or no frame waits. The first frame is dropped where its queue is
-/// off, RXDCTL bit 25 being 0. Without a slot, RDH being RDT inside the ring, it is dropped where SRRCTL bit 28 is 1 and
-/// nothing of it is written, and else the step is idle. In every other case a slot is written, or has a fault.
+/// off, RXDCTL bit 25 being 0. Without a slot, RDH being RDT inside the ring, it is dropped where SRRCTL bit 28 is 1
+/// and nothing of it is written, and else the step is idle. In every other case a slot is written, or has a fault.
 pub fn receiving_has_its_reasons()
     ensures reason { ReceivedForAReason }
     ensures met { EachReasonIsMet }
@@ -39,6 +40,20 @@ pub fn frames_leave_at_their_end()
     ensures { FramesLeaveAtTheirEnd }
 {}
 
+/// A slot that is written is the one at the head: its number is RDH, its descriptor stands at the base in RDBAH and
+/// RDBAL, and its bytes go where the descriptor says, no more than SRRCTL says that a buffer has; a piece in the middle
+/// of a frame fills it.
+pub fn slots_are_written_at_the_head()
+    ensures { SlotsAreWrittenAtHead }
+{}
+
+/// A slot that a step of receiving looks at is written where its queue is set up by RDLEN, RDH, RDT and SRRCTL, and its
+/// descriptor and the bytes of its buffer are lent. Else it has the first fault that is there: head or tail outside, the
+/// descriptor type, the buffer size, the descriptor, the buffer.
+pub fn slots_have_their_faults()
+    ensures { SlotsHaveTheirFaults }
+{}
+
 /// A step of transmitting of a queue from 128 on finds no queue. One below is idle exactly where CTRL bit 2 is 1, the
 /// link is down, DMATXCTL bit 0 is 0, TXDCTL bit 25 is 0, the queue's pool is muted by VFTE, or TDH is TDT inside the
 /// ring. Neither changes anything.
@@ -46,8 +61,8 @@ pub fn silence_has_its_reasons()
     ensures { SilenceHasItsReasons }
 {}
 
-/// A frame that goes out is the bytes that its queue staged and those of the descriptor at the head, while HLREG0 bit 10
-/// is 1 with zero bytes up to 60; a descriptor that doesn't end the packet has its bytes staged, a context one none.
+/// A frame that goes out is the bytes that its queue staged and those of the descriptor at the head, while HLREG0 bit
+/// 10 is 1 with zero bytes up to 60; a descriptor that doesn't end the packet has its bytes staged, a context one none.
 pub fn frames_go_out_whole()
     ensures { FramesGoOutWhole }
 {}

@@ -48,8 +48,8 @@ pub fn slots_are_written_at_the_head()
 {}
 
 /// A slot that a step of receiving looks at is written where its queue is set up by RDLEN, RDH, RDT and SRRCTL, and its
-/// descriptor and the bytes of its buffer are lent. Else it has the first fault that is there: head or tail outside, the
-/// descriptor type, the buffer size, the descriptor, the buffer.
+/// descriptor and the bytes of its buffer are lent. Else it has the first fault that is there: head or tail outside,
+/// the descriptor type, the buffer size, the descriptor, the buffer.
 pub fn slots_have_their_faults()
     ensures { SlotsHaveTheirFaults }
 {}

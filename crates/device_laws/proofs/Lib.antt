@@ -18,6 +18,7 @@ pub mod Ports
 pub mod PoolParts
 pub mod PoolAlone
 pub mod PoolAgrees
+pub mod PoolFrames
 pub mod PoolReadsAgree
 pub mod PoolResets
 pub mod KeptSettings

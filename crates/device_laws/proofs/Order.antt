@@ -1,12 +1,12 @@
 -- The cases of a step of receiving.
-use Rattle.std.proofs.Common.{cond, ◌≡◌, Bool, true, false, List, ◌∷◌, ap, ◌∙◌, Ok, Err}
-use Rattle.std.specs.Prelude.{Result, ◌&&◌, ◌==◌}
+use Rattle.std.proofs.Common.{cond, ◌≡◌, ◌≢◌, ◌⊎◌, Bool, true, false, List, ◌∷◌, refl, ap, sym, ◌∙◌, subst, Ok, Err, inl, inr}
+use Rattle.std.specs.Prelude.{Result, ◌&&◌, ◌==◌, is_ok}
 use Rattle.std.proofs.Math.Bool.{and-false}
-use Rattle.std.proofs.lemmas.Bool.{and_from, eq-eqb, ne_eqb}
+use Rattle.std.proofs.lemmas.Bool.{cond_both, and_parts, and_cases, and_from, eq-eqb, ne_eqb, eqb-true, eqb-false}
 use Rattle.nic_device.specs.DmaRing.declared.fault.RingFault.{RingFault}
 use Rattle.nic_device.specs.RxRing.declared.filled.Filled.{Filled}
 use Rattle.nic_device.specs.RegisterFile.Settings.{is_stopped, drops}
-use Rattle.device_laws.specs.Order.{side_for, filling, ReceivingHasAnOrder, NothingWaitsIsIdle}
+use Rattle.device_laws.specs.Order.{side_for, filling, IsSlotless, HasSlot, CaseOf, ReceivingHasAnOrder, EachReplyInItsCase, NothingWaitsIsIdle}
 use Rattle.nic_device.specs.Outcome.{Outcome, gives}
 use Rattle.nic_device.specs.Receive.{received, first_received, without_slot, slot_filled, slot_done, is_empty, slotless_counted}
 use Rattle.nic_device.specs.State.{State, Waiting}
@@ -21,8 +21,7 @@ pub nothing_waits : NothingWaitsIsIdle
 unfolding step_of
 nothing_waits s runs e = running s runs ∙ ap (first_received s) e
 
-module _ (s : State) (w : Waiting) (others : List Waiting) (runs : is_stopped s.registers ≡ false)
-    (e : s.waiting ≡ w ∷ others) where
+module _ (s : State) (w : Waiting) (others : List Waiting) where
   abbrev dropped : Outcome
   dropped = gives (Dropped QueueOff) (record s { waiting = others })
 
@@ -30,16 +29,18 @@ module _ (s : State) (w : Waiting) (others : List Waiting) (runs : is_stopped s.
   looked_at =
       cond (is_empty (side_for s w).ring) (without_slot s w others) (slot_filled s w others (side_for s w))
 
-  looks : received s ≡ cond (side_for s w).on looked_at dropped
+module _ (s : State) (w : Waiting) (others : List Waiting) (runs : is_stopped s.registers ≡ false)
+    (e : s.waiting ≡ w ∷ others) where
+  looks : received s ≡ cond (side_for s w).on (looked_at s w others) (dropped s w others)
   looks = running s runs ∙ ap (first_received s) e
 
-  looks_off : (side_for s w).on ≡ false → received s ≡ dropped
-  looks_off off = looks ∙ ap (λ b. cond b looked_at dropped) off
+  looks_off : (side_for s w).on ≡ false → received s ≡ dropped s w others
+  looks_off off = looks ∙ ap (λ b. cond b (looked_at s w others) (dropped s w others)) off
 
   looks_at : (empty : Bool) → (side_for s w).on ≡ true → is_empty (side_for s w).ring ≡ empty
       → received s ≡ cond empty (without_slot s w others) (slot_filled s w others (side_for s w))
   looks_at empty on is =
-      looks ∙ ap (λ b. cond b looked_at dropped) on
+      looks ∙ ap (λ b. cond b (looked_at s w others) (dropped s w others)) on
       ∙ ap (λ b. cond b (without_slot s w others) (slot_filled s w others (side_for s w))) is
 
   drops_or_waits : (b : Bool) → (drops s.registers w.queue && w.offset == 0) ≡ b
@@ -78,3 +79,42 @@ receiving_order s runs w others e = record {
       ap (λ (o : Outcome). o.reply)
       (looks_at s w others runs e false on some ∙ answered s w others runs e (Err fault) is);
 }
+
+-- each reply is told in its case alone
+
+kept : (s : State) (w : Waiting) → (drops s.registers w.queue ≡ false) ⊎ ((w.offset == 0) ≡ false)
+    → (drops s.registers w.queue ≡ false) ⊎ (w.offset ≢ 0)
+kept s w (inl keeps) = inl keeps
+kept s w (inr begun) = inr (eqb-false w.offset 0 begun)
+
+module _ (s : State) (w : Waiting) (others : List Waiting) where
+  abbrev InCase : Outcome → Type 0
+  InCase o = CaseOf s w o.reply
+
+  slotless_case : IsSlotless s w → InCase (without_slot s w others)
+  slotless_case none =
+      cond_both (drops s.registers w.queue && w.offset == 0)
+      (gives (Dropped NoSlot) (record s { registers = slotless_counted s.registers w.queue; waiting = others }))
+      (gives Idle s) InCase
+      (λ b. let parts = and_parts (drops s.registers w.queue) (w.offset == 0) b in
+      (none, parts.0, eqb-true w.offset 0 parts.1))
+      (λ b. (none, kept s w (and_cases (drops s.registers w.queue) (w.offset == 0) b)))
+
+  done_case : HasSlot s w → (answer : Result Filled RingFault) → (filling s w).answer ≡ answer
+      → InCase (slot_done s w others answer (filling s w).memory)
+  done_case slot (Ok f) is = (slot, ap is_ok is)
+  done_case slot (Err fault) is = (slot, ap is_ok is)
+
+  looked_case : InCase (cond (side_for s w).on (looked_at s w others) (dropped s w others))
+  looked_case =
+      cond_both (side_for s w).on (looked_at s w others) (dropped s w others) InCase
+      (λ on.
+      cond_both (is_empty (side_for s w).ring) (without_slot s w others) (slot_filled s w others (side_for s w)) InCase
+      (λ empty. slotless_case (record { on = on; empty = empty }))
+      (λ some. done_case (record { on = on; some = some }) (filling s w).answer refl))
+      (λ off. off)
+
+pub in_its_case : EachReplyInItsCase
+unfolding step_of
+in_its_case s runs w others e =
+    subst (λ (o : Outcome). CaseOf s w o.reply) (sym (looks s w others runs e)) (looked_case s w others)

@@ -57,7 +57,7 @@ below_reset s mode v p view word is =
 
 -- a reset that it asks for is of its own pool
 
-only_control : (r : RowId) (word : ℕ) → asks_pool_reset (row_of r).kind word ≡ true → r ≡ row.Pvfctrl
+pub only_control : (r : RowId) (word : ℕ) → asks_pool_reset (row_of r).kind word ≡ true → r ≡ row.Pvfctrl
 only_control row.Pvfctrl word e = refl
 only_control other word e = cc
 

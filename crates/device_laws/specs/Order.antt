@@ -1,5 +1,6 @@
 -- What a step of receiving does with the first frame that waits, by the state before it.
-use Rattle.std.specs.Prelude.{◌≡◌, ◌≢◌, IsTrue, IsFalse, List, [], ◌∷◌, Ok, Err}
+use Rattle.std.specs.Prelude.{◌≡◌, ◌≢◌, ◌⊎◌, IsTrue, IsFalse, List, [], ◌∷◌, Ok, Err, is_ok}
+use Rattle.nic_device.specs.DmaArena.Block.{Block}
 use Rattle.nic_device.specs.DmaRing.declared.fault.RingFault.{RingFault}
 use Rattle.nic_device.specs.RxRing.Fill.{Outcome, fill_of}
 use Rattle.nic_device.specs.RxRing.declared.filled.Filled.{Filled}
@@ -10,7 +11,9 @@ use Rattle.nic_device.specs.Outcome.{gives}
 use Rattle.nic_device.specs.Receive.{is_empty, rest_of}
 use Rattle.nic_device.specs.State.{State, Waiting}
 use Rattle.nic_device.specs.declared.event.Event.TheVariants as event
+use Rattle.nic_device.specs.declared.event.Reply.{Reply}
 use Rattle.nic_device.specs.declared.event.Reply.TheVariants.{Idle, Dropped, Wrote, Fault}
+use Rattle.nic_device.specs.declared.event.Why.{Why}
 use Rattle.nic_device.specs.declared.event.Why.TheVariants.{QueueOff, NoSlot}
 
 -- the receive side that a frame waits for, and what filling the slot at its head answers
@@ -45,6 +48,34 @@ abbrev pub ReceivingHasAnOrder : Type 0
 ReceivingHasAnOrder =
     (s : State) → IsFalse (is_stopped s.registers) → (w : Waiting) (others : List Waiting) → s.waiting ≡ w ∷ others →
     ReceivesInOrder s w others
+
+-- the first frame's queue is on, and has no slot of the device, or has one
+pub record IsSlotless (s : State) (w : Waiting) : Type 0 where
+  pub on : IsTrue (side_for s w).on
+  pub empty : IsTrue (is_empty (side_for s w).ring)
+
+pub record HasSlot (s : State) (w : Waiting) : Type 0 where
+  pub on : IsTrue (side_for s w).on
+  pub some : IsFalse (is_empty (side_for s w).ring)
+
+-- the case that a reply tells of: of these no two are there at once
+abbrev pub DroppedCase : State → Waiting → Why → Type 0
+DroppedCase s w QueueOff = IsFalse (side_for s w).on
+DroppedCase s w NoSlot = IsSlotless s w × IsTrue (drops s.registers w.queue) × (w.offset ≡ 0)
+DroppedCase s w other = ⊥
+
+abbrev pub CaseOf : State → Waiting → Reply Block → Type 0
+CaseOf s w Idle = IsSlotless s w × (IsFalse (drops s.registers w.queue) ⊎ (w.offset ≢ 0))
+CaseOf s w (Dropped why) = DroppedCase s w why
+CaseOf s w (Wrote queue slot end desc at len) = HasSlot s w × IsTrue (is_ok (filling s w).answer)
+CaseOf s w (Fault queue fault) = HasSlot s w × IsFalse (is_ok (filling s w).answer)
+CaseOf s w other = ⊥
+
+-- each reply is told in its case alone
+abbrev pub EachReplyInItsCase : Type 0
+EachReplyInItsCase =
+    (s : State) → IsFalse (is_stopped s.registers) → (w : Waiting) (others : List Waiting) → s.waiting ≡ w ∷ others →
+    CaseOf s w (reply_to s event.RxStep)
 
 abbrev pub NothingWaitsIsIdle : Type 0
 NothingWaitsIsIdle =

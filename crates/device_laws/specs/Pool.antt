@@ -1,8 +1,8 @@
 -- What of the device is a virtual function's: its pool, and no more.
-use Rattle.std.specs.Prelude.{ℕ, ◌≡◌, IsTrue, IsFalse, List, [], filter}
+use Rattle.std.specs.Prelude.{ℕ, ◌≡◌, ◌≢◌, ◌⊎◌, ◌/◌, ◌%◌, ◌^◌, IsTrue, IsFalse, List, [], filter}
 use Rattle.nic_device.specs.RegTable.Rows.{row_of}
 use Rattle.nic_device.specs.RegTable.declared.place.Place.{Place}
-use Rattle.nic_device.specs.RegTable.declared.rows.RowId.TheVariants.{GcrExt}
+use Rattle.nic_device.specs.RegTable.declared.rows.RowId.TheVariants.{GcrExt, Pvfctrl}
 use Rattle.nic_device.specs.VfMap.Owner.{has_queue}
 use Rattle.nic_device.specs.VfMap.declared.mode.Mode.{Mode}
 use Rattle.nic_device.specs.RegisterFile.Access.{asks_pool_reset}
@@ -48,6 +48,25 @@ pub record AccessesChangePoolAlone (s : State) (v offset : ℕ) : Type 0 where
 
 abbrev pub VfChangesItsPoolAlone : Type 0
 VfChangesItsPoolAlone = (s : State) (v offset : ℕ) → AccessesChangePoolAlone s v offset
+
+-- the frames of the pool too: what is staged, and what waits, is as it was
+pub record KeepsFrames (old new : State) : Type 0 where
+  pub staged : new.staged ≡ old.staged
+  pub waiting : new.waiting ≡ old.waiting
+
+-- a write that asks for no reset of the pool: its register isn't PVFCTRL, or bit 26 of the word is 0
+abbrev pub AsksNoPoolReset : State → (v offset word : ℕ) → Type 0
+AsksNoPoolReset s v offset word =
+    (p : Place) (view : ℕ) → named s (Vf v) offset ≡ Register p view → (p.row ≢ Pvfctrl) ⊎ (word / 2 ^ 26 % 2 ≡ 0)
+
+-- an access of a virtual function keeps the frames of every pool, its own too, but where it asks for a reset of it
+pub record AccessesKeepFrames (s : State) (v offset : ℕ) : Type 0 where
+  pub read : KeepsFrames s (after s (event.Read (Vf v) offset))
+  pub write : (word : ℕ) → AsksNoPoolReset s v offset word
+      → KeepsFrames s (after s (event.Write (Vf v) offset word))
+
+abbrev pub VfKeepsFramesButByReset : Type 0
+VfKeepsFramesButByReset = (s : State) (v offset : ℕ) → AccessesKeepFrames s v offset
 
 -- two states agree on a pool: of what is the pool's, and in the number of virtual functions, in GCR_EXT, in whether the
 -- device makes steps, and in the link

@@ -12,10 +12,10 @@ ghost use Rattle.device_laws.specs.Messages.{DueBitIsTold};
 ghost use Rattle.device_laws.specs.Muting.{MutedQueueIsIdle};
 ghost use Rattle.device_laws.specs.Raising.{EventsRaise};
 ghost use Rattle.device_laws.specs.Replies.{ReceivingTells, TransmittingTells, EventsMoveFramesOut, MisalignedChangesNothing};
-ghost use Rattle.device_laws.specs.Pool.{VfChangesItsPoolAlone, VfSeesItsPoolAlone, AskedPoolResetResets};
+ghost use Rattle.device_laws.specs.Pool.{VfChangesItsPoolAlone, VfKeepsFramesButByReset, VfSeesItsPoolAlone, AskedPoolResetResets};
 ghost use Rattle.device_laws.specs.Ports.{AccessIsThePhysicalFunctions, HolesAndAbsentFunctionsMeetNothing};
 ghost use Rattle.device_laws.specs.Eeprom.{LastWriteIsMade, SteppedOverWriteIsNotMade, ControlTellsSize, StepGivesWord, StepWithoutStartIsIdle};
-ghost use Rattle.device_laws.specs.Order.{ReceivingHasAnOrder, NothingWaitsIsIdle};
+ghost use Rattle.device_laws.specs.Order.{ReceivingHasAnOrder, EachReplyInItsCase, NothingWaitsIsIdle};
 ghost use Rattle.device_laws.specs.Leaving.{EventStaysWithinReach, EventLeavesMissed, ReadLeavesTheRest, WriteLeavesTheRest, WriteLeavesMemory, MemoryCallsLeaveTheRest, MemoryCallsLeaveOtherBlocks, ArrivalLeavesTheRest, ReceivingLeavesTheRest, ReceivingLeavesOtherBlocks, TransmittingLeavesTheRest, TransmittingLeavesOtherBlocks, SwitchingLeavesTheRest, MessageLeavesTheRest, EepromStepLeavesTheRest, LinkLeavesTheRest, CollectingLeavesTheRest};
 
 /// A new device is sound, and every event that a driver can make keeps it so.
@@ -187,9 +187,10 @@ pub fn link_leaves_the_rest()
 
 /// A step of receiving is idle where no frame waits. The first frame is dropped where its queue is off; without a slot
 /// of the device it is dropped where the queue drops and nothing of it is written, and else waits on; with one the slot
-/// is filled, or has a fault.
+/// is filled, or has a fault. Each reply is told in its case alone.
 pub fn receiving_has_an_order()
     ensures order { ReceivingHasAnOrder }
+    ensures alone { EachReplyInItsCase }
     ensures nothing { NothingWaitsIsIdle }
 {}
 
@@ -255,11 +256,12 @@ pub fn vf_access_is_the_physical_functions()
 {}
 
 /// An access of a virtual function changes nothing but what is its pool's: words, wanted enables, told bits, staged
-/// bytes and waiting frames of its own queues; the frames of other pools keep their order. Two devices that agree
-/// there, in the number of functions, in GCR_EXT, in CTRL bit 2 and in the link give one reply to it, and agree there
-/// again.
+/// bytes and waiting frames of its own queues; the frames of other pools keep their order. Staged bytes and waiting
+/// frames of its own pool too it changes only where it asks for a reset of the pool. Two devices that agree there, in
+/// the number of functions, in GCR_EXT, in CTRL bit 2 and in the link give one reply to it, and agree there again.
 pub fn vf_stays_in_its_pool()
     ensures changes { VfChangesItsPoolAlone }
+    ensures keeps { VfKeepsFramesButByReset }
     ensures agrees { VfSeesItsPoolAlone }
 {}
 

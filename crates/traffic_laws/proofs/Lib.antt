@@ -1,0 +1,17 @@
+pub mod Bits
+pub mod Limits
+pub mod Pools
+pub mod Arriving
+pub mod Joining
+pub mod Slots
+pub mod Receiving
+pub mod Leaving
+pub mod AtHead
+pub mod Faults
+pub mod Silence
+pub mod GoingOut
+pub mod Fetched
+pub mod Switching
+pub mod Switched
+pub mod Memory
+pub mod Shown

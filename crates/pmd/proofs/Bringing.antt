@@ -98,7 +98,7 @@ abbrev pub AreUnheld : Bringing → Type 0
 AreUnheld s = AreOut s.arena (s.way.lent ++ []) × (s.way.lost + length s.way.lent < 4294967296)
 
 pub stopped_unheld : (s t : Bringing) → StopsBringing s t → AreUnheld s → AreUnheld t
-stopped_unheld s t (count, mid, brings, adds, arena, way) (out, few) =
+stopped_unheld s t (count, mid, brings, adds, arena, way, waits) (out, few) =
     let was : AreOut s.arena s.way.lent = rw append-nil at out in
     let here : AreOut mid.arena mid.way.lent = brings_out count s mid brings was in
     let fewer = brings_few count s mid brings in

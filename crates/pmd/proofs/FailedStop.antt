@@ -107,7 +107,7 @@ left_has a k left count s t none unheld_left is way arena same brings lost has =
 
 amid_loses : (a : Numbers) (f : PmdFault) (old new : List Call) (h left : Halted)
     → IsLeftAmid f old (closed h) new left → LosesNone a (closed h) → LosesNone a left
-amid_loses a f old new h left (refusal, is, (count, mid, brings, adds, arena, way), same) (owns, has) =
+amid_loses a f old new h left (refusal, is, (count, mid, brings, adds, arena, way, waits), same) (owns, has) =
     let s : Bringing = bringing old (closed h) in
     let few = brings_few count s mid brings in (
       λ n. rw arena (brings_own count s mid brings n ∙ owns n),

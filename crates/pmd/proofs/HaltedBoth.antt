@@ -1,5 +1,5 @@
 -- Two ways home as one.
-use Rattle.std.proofs.Common.{◌≡◌, ℕ, zero, suc, ◌+◌, inl, inr, List, [], ◌++◌, refl, sym, ap, subst, arith}
+use Rattle.std.proofs.Common.{◌≡◌, ℕ, zero, suc, ◌+◌, inl, inr, List, [], ◌++◌, length-append, refl, sym, ap, subst, arith}
 use Rattle.pmd_rx.specs.DeviceLock.declared.entry.Call.{Call}
 use Rattle.nic_device.specs.DmaArena.Numbers.{Numbers}
 use Rattle.pmd_rx.specs.PmdSeam.Home.{AreOut, Homebound, Bringing, BringsOne, Brings, BringsAll, StopsBringing}
@@ -110,18 +110,19 @@ module _ (old mid : List Call) (a b : Numbers) (first left second : Homebound) w
 
   pub first_stops : StopsBringing start halfway
       → StopsBringing (bringing_both old a first second) (bringing_both mid b left second)
-  first_stops (count, m, brings, adds, same, way) = (
+  first_stops (count, m, brings, adds, same, way, waits) = (
     count,
     before_others second.lent second.lost m,
     all_before second.lent second.lost count start m brings,
     adds,
     same,
     ap (λ (w : Homebound). both_ways w second) way,
+    omega (arith, waits, length-append m.way.lent second.lent),
   )
 
   pub second_stops : (t : Bringing) → BringsAll start halfway → StopsBringing onward t
       → StopsBringing (bringing_both old a first second) (bringing_both t.made t.arena left t.way)
-  second_stops t (count, brings, none) (more, m, then, adds, same, way) =
+  second_stops t (count, brings, none) (more, m, then, adds, same, way, waits) =
       let whole = onto m count more brings none then in (
         whole.0,
         bringing_both m.made m.arena left m.way,
@@ -129,4 +130,5 @@ module _ (old mid : List Call) (a b : Numbers) (first left second : Homebound) w
         adds,
         same,
         ap (λ (w : Homebound). both_ways left w) way,
+        omega (arith, waits, length-append left.lent m.way.lent),
       )

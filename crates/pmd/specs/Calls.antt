@@ -29,7 +29,7 @@ pub record IsReceiveCall (result : Result (Option Packet) PmdFault) (old : List 
   pub none : IfOk result (λ out. IfNone out (LooksOnce old r.receive new s.receive))
   -- with a fault it hands out nothing
   pub err : OnErr result (s.receive.handed ≡ r.receive.handed)
-  -- the fault is one of its receive half
+  -- the fault is one of its receive half: where a call was refused, its event is one that this half may make next
   pub fails : IfErr result (λ f. FailsBy f old r.arena r.receive new s.arena s.receive)
   -- where the device is at fault, both halves were driven on up to a last call whose reply no healthy queue gives
   pub finds : IfErr result (λ f. FindsBy f (is_own r.arena) old (halves_of r) new)
@@ -57,7 +57,8 @@ pub record IsSendCall (packet : Packet) (result : Result TxAnswer TxFault) (old 
   pub back : IfErr result (λ failed. IfSome failed.packet (λ back. IsBack failed.fault packet back))
   -- once it is taken, all outstanding packets are posted
   pub settled : result ≡ Ok Taken → s.transmit.posted ≡ length s.transmit.outstanding
-  -- where the device is at fault, the last call was one of the transmit half whose reply no healthy queue gives,
+  -- where a call was refused, its event is one that the transmit half may make next. Where the device is at fault, the
+  -- last call was one of that half whose reply no healthy queue gives,
   pub faults : IfErr result (λ failed. FaultsBy failed.fault packet.buf.number old r.transmit new)
   -- and both halves were driven on up to it
   pub finds : IfErr result (λ failed. FindsBy failed.fault (is_own r.arena) old (halves_of r) new)
@@ -83,8 +84,8 @@ pub record IsReapCall (result : Result Reaped PmdFault) (old : List Call) (r : R
   pub layout : s.transmit.layout ≡ record r.transmit.layout { next = s.transmit.layout.next }
   -- a fault is the device's, or comes of a call that was refused
   pub late : IfErr result (λ fault. IsLate fault)
-  -- where the device is at fault, the last call was one of the transmit half whose reply no healthy queue gives, and no
-  -- packet was accepted,
+  -- where a call was refused, its event is one that the transmit half may make next. Where the device is at fault, the
+  -- last call was one of that half whose reply no healthy queue gives, and no packet was accepted,
   pub faults : (block : ℕ) → IfErr result (λ fault. FaultsBy fault block old r.transmit new)
   -- and both halves were driven on up to it
   pub finds : IfErr result (λ fault. FindsBy fault (is_own r.arena) old (halves_of r) new)

@@ -12,6 +12,7 @@ ghost use Rattle.pmd.specs.Blocks.{KeepsBlocks};
 ghost use Rattle.pmd.specs.Calls.{IsReceiveCall, IsSendCall, IsReapCall};
 ghost use Rattle.pmd.specs.Life.{KeepsHalves, RunsOn};
 ghost use Rattle.pmd.specs.Driver.{arena_of, handed_of, accepted_of, goes_back_to, with_arena, halted_of, WhereUp, IsDown};
+ghost use Rattle.pmd_rx.specs.PmdSeam.Refusals.{CanFail};
 
 use crate::halted::Halted;
 use crate::home::{Home, StopFailed};
@@ -99,6 +100,8 @@ impl Pmd {
             × (N.made nic.new ≡ N.made nic.old) × (self.new ≡ self.old) }
         ensures queue { self.new.queue ≡ self.old.queue }
         ensures who { N.who nic.new ≡ N.who nic.old }
+        ensures refuses { N.refuses nic.new ≡ N.refuses nic.old }
+        ensures refusal { IfErr result (λ f. CanFail (N.refuses nic.new) f) }
     {
         match &mut self.rings {
             Rings::Up(running) => running.rx(alloc, nic),
@@ -130,6 +133,8 @@ impl Pmd {
             × (N.made nic.new ≡ N.made nic.old) × (self.new ≡ self.old) }
         ensures queue { self.new.queue ≡ self.old.queue }
         ensures who { N.who nic.new ≡ N.who nic.old }
+        ensures refuses { N.refuses nic.new ≡ N.refuses nic.old }
+        ensures refusal { IfErr result (λ failed. CanFail (N.refuses nic.new) failed.fault) }
     {
         match &mut self.rings {
             Rings::Up(running) => running.tx(alloc, nic, packet),
@@ -155,6 +160,8 @@ impl Pmd {
             × (N.made nic.new ≡ N.made nic.old) × (self.new ≡ self.old) }
         ensures queue { self.new.queue ≡ self.old.queue }
         ensures who { N.who nic.new ≡ N.who nic.old }
+        ensures refuses { N.refuses nic.new ≡ N.refuses nic.old }
+        ensures refusal { IfErr result (λ f. CanFail (N.refuses nic.new) f) }
     {
         match &mut self.rings {
             Rings::Up(running) => running.reap(alloc, nic),
@@ -210,6 +217,8 @@ impl Pmd {
             × (refused.pmd ≡ record { queue = self.queue; rings = Rings.Down h })
             × StopFails refused.fault self.queue (N.made nic.old) (halted_of self.rings) (N.made nic.new) h) }
         ensures who { N.who nic.new ≡ N.who nic.old }
+        ensures refuses { N.refuses nic.new ≡ N.refuses nic.old }
+        ensures refusal { IfErr result (λ refused. CanFail (N.refuses nic.new) refused.fault) }
     {
         let Pmd { queue, rings } = self;
         let halted = halt(rings);

@@ -9,6 +9,7 @@ ghost use Rattle.pmd_tx.specs.Leaving.{lent_of};
 ghost use Rattle.pmd.specs.Halted.{IsHalted, all_out, is_out, goes_back, is_free_or_out, with_rings, with_receive_ring};
 ghost use Rattle.pmd.specs.Stopping.{Stops, StopFails, IsUnclosed, closed};
 ghost use Rattle.pmd.specs.Leaving.{leaving_as};
+ghost use Rattle.pmd_rx.specs.PmdSeam.Refusals.{CanFail};
 
 use crate::ends::{Receiving, Sending};
 use crate::home::{Home, StopFailed};
@@ -141,6 +142,8 @@ impl Halted {
         ensures failed { IfErr result (λ failed.
             StopFails failed.fault queue.now (N.made nic.old) self (N.made nic.new) failed.halted) }
         ensures who { N.who nic.new ≡ N.who nic.old }
+        ensures refuses { N.refuses nic.new ≡ N.refuses nic.old }
+        ensures refusal { IfErr result (λ failed. CanFail (N.refuses nic.new) failed.fault) }
     {
         match self.close() {
             Ok(leaving) => leaving.go_home(alloc, nic, queue),

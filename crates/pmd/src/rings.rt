@@ -6,6 +6,7 @@ ghost use Rattle.pmd_rx.specs.PmdSeam.Home.{AreOut};
 ghost use Rattle.pmd_rx.specs.Keeping.{blocks_out, IsRunning, Keeps};
 ghost use Rattle.pmd_rx.specs.Receive.{Looks};
 ghost use Rattle.pmd.specs.Starting.{ComesLate, IsPrepared, PreparingFails, IsReceiveReady, ReceiveFails, IsTransmitReady, GoesOn, GoingOnFails};
+ghost use Rattle.pmd_rx.specs.PmdSeam.Refusals.{CanFail};
 
 use nic_device::{Arena, Dir};
 use pmd_rx::{Nic, PmdFault, Queue, ReceiveRing, give_back, lend};
@@ -31,6 +32,8 @@ fn prepare<N: Nic>(
         PreparingFails f queue.now side size (N.made nic.old) arena.old (N.made nic.new)) }
     ensures kept { OnErr result (arena.new ≡ arena.old) }
     ensures who { N.who nic.new ≡ N.who nic.old }
+    ensures refuses { N.refuses nic.new ≡ N.refuses nic.old }
+    ensures refusal { IfErr result (λ f. CanFail (N.refuses nic.new) f) }
 {
     let Some(buf) = arena.take() else {
         unreachable!()
@@ -74,6 +77,8 @@ pub(crate) fn receive_ring<N: Nic>(
         ReceiveFails f queue.now size (N.made nic.old) arena.old (N.made nic.new)) }
     ensures kept { OnErr result (arena.new ≡ arena.old) }
     ensures who { N.who nic.new ≡ N.who nic.old }
+    ensures refuses { N.refuses nic.new ≡ N.refuses nic.old }
+    ensures refusal { IfErr result (λ f. CanFail (N.refuses nic.new) f) }
 {
     match queue.disable_both(alloc, nic) {
         Ok(()) => {}
@@ -105,6 +110,8 @@ pub(crate) fn transmit_ring<N: Nic>(
         PreparingFails f queue.now Dir.Tx size (N.made nic.old) arena.old (N.made nic.new)) }
     ensures kept { OnErr result (arena.new ≡ arena.old) }
     ensures who { N.who nic.new ≡ N.who nic.old }
+    ensures refuses { N.refuses nic.new ≡ N.refuses nic.old }
+    ensures refusal { IfErr result (λ f. CanFail (N.refuses nic.new) f) }
 {
     match prepare(alloc, nic, queue, arena, Dir::Tx, size) {
         Ok(ring) => {
@@ -136,6 +143,8 @@ pub(crate) fn go_on<N: Nic>(
     ensures handed { receive.new.handed ≡ receive.old.handed }
     ensures keeps { Keeps arena.old receive.old arena.new receive.new [] }
     ensures who { N.who nic.new ≡ N.who nic.old }
+    ensures refuses { N.refuses nic.new ≡ N.refuses nic.old }
+    ensures refusal { IfErr result (λ f. CanFail (N.refuses nic.new) f) }
 {
     match queue.switch_both(alloc, nic, true) {
         Ok(()) => receive.fill(alloc, nic, arena),

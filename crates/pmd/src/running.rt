@@ -10,6 +10,7 @@ ghost use Rattle.pmd.specs.Blocks.{KeepsUp};
 ghost use Rattle.pmd.specs.Calls.{IsReceiveCall, IsSendCall, IsReapCall};
 ghost use Rattle.pmd.specs.Halves.{halves_of};
 ghost use Rattle.pmd.specs.Running.{IsUp, IsReleased, goes_back, receives};
+ghost use Rattle.pmd_rx.specs.PmdSeam.Refusals.{CanFail};
 
 use nic_device::Arena;
 use pmd_rx::{Nic, Packet, PmdFault, ReceiveRing, Record, fresh_packet, give_packet};
@@ -90,6 +91,8 @@ impl Running {
         ensures home { IfOk result (λ out. IfSome out (λ packet. goes_back self.new packet.buf.number ≡ true)) }
         ensures blocks { KeepsUp self.old [] self.new (handed_block result) }
         ensures who { N.who nic.new ≡ N.who nic.old }
+        ensures refuses { N.refuses nic.new ≡ N.refuses nic.old }
+        ensures refusal { IfErr result (λ f. CanFail (N.refuses nic.new) f) }
     {
         self.receive.receive(alloc, nic, &mut self.arena)
     }
@@ -111,6 +114,8 @@ impl Running {
         ensures sent { IsSendCall packet result (N.made nic.old) self.old (N.made nic.new) self.new }
         ensures blocks { KeepsUp self.old (packet.buf.number ∷ []) self.new (block_in (returned result)) }
         ensures who { N.who nic.new ≡ N.who nic.old }
+        ensures refuses { N.refuses nic.new ≡ N.refuses nic.old }
+        ensures refusal { IfErr result (λ failed. CanFail (N.refuses nic.new) failed.fault) }
     {
         let elsewhere = self.receives(packet.buf.block());
         self.transmit
@@ -127,6 +132,8 @@ impl Running {
         ensures reaped { IsReapCall result (N.made nic.old) self.old (N.made nic.new) self.new }
         ensures blocks { KeepsUp self.old [] self.new [] }
         ensures who { N.who nic.new ≡ N.who nic.old }
+        ensures refuses { N.refuses nic.new ≡ N.refuses nic.old }
+        ensures refusal { IfErr result (λ f. CanFail (N.refuses nic.new) f) }
     {
         self.transmit.reap(alloc, nic, &mut self.arena)
     }

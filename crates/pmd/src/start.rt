@@ -7,6 +7,7 @@ ghost use Rattle.pmd.specs.Starting.{ComesLate};
 ghost use Rattle.pmd.specs.Blocks.{HasAll, IsWhole};
 ghost use Rattle.pmd.specs.Driver.{handed_of, halted_of};
 ghost use Rattle.pmd.specs.Started.{is_size, start_gate, left_accepted, left_handed, IsHome, IsShut, HasStarted, IsHalfStarted, StopsStarting};
+ghost use Rattle.pmd_rx.specs.PmdSeam.Refusals.{Refusals, CanFail};
 
 use crate::driver::{Pmd, Rings};
 use crate::halted::Halted;
@@ -47,6 +48,7 @@ fn named(arena: &Arena, port: Port, queue: u16, size: u16) -> Result<Queue, PmdF
     ensures queue { IfOk result (λ q. q ≡ record { port = port; queue = queue }) }
     ensures size { OnOk result ((8 ≤ size) × (size ≤ 128)) }
     ensures free { OnOk result (size < free_count arena.now) }
+    ensures refusal { (way : Refusals) → IfErr result (λ f. CanFail way f) }
 {
     if !is_size(size) {
         return Err(PmdFault::BadSize);
@@ -106,6 +108,8 @@ fn bring_up<N: Nic>(
     ensures blocks { IfOk result (λ p. HasAll arena (halted_of p.rings) []) }
     ensures whole { IfErr result (λ e. IsWhole arena e.rest) }
     ensures who { N.who nic.new ≡ N.who nic.old }
+    ensures refuses { N.refuses nic.new ≡ N.refuses nic.old }
+    ensures refusal { IfErr result (λ e. CanFail (N.refuses nic.new) e.fault) }
 {
     let mut arena = arena;
     let mut receive = match receive_ring(alloc, nic, &queue, &mut arena, size) {
@@ -161,6 +165,8 @@ impl Pmd {
         ensures blocks { IfOk result (λ p. HasAll arena (halted_of p.rings) []) }
         ensures whole { IfErr result (λ e. IsWhole arena e.rest) }
         ensures who { N.who nic.new ≡ N.who nic.old }
+        ensures refuses { N.refuses nic.new ≡ N.refuses nic.old }
+        ensures refusal { IfErr result (λ e. CanFail (N.refuses nic.new) e.fault) }
     {
         match named(&arena, port, queue, size) {
             Ok(queue) => bring_up(alloc, nic, queue, size, arena),

@@ -5,6 +5,7 @@ ghost use Rattle.pmd_rx.specs.PmdSeam.Home.{AreOut, BringsAll, StopsBringing};
 ghost use Rattle.pmd.specs.Halted.{IsHalted};
 ghost use Rattle.pmd.specs.Leaving.{leaving_as, bringing_both};
 ghost use Rattle.pmd.specs.Stopping.{ComesHome, GoesHome, IsLeft, IsLeftAmid};
+ghost use Rattle.pmd_rx.specs.PmdSeam.Refusals.{CanFail, CanRefuse};
 
 use crate::halted::Halted;
 use crate::home::{Home, StopFailed};
@@ -35,6 +36,8 @@ impl Leaving {
         ensures failed { IfErr result (λ failed.
             IsLeft failed.fault queue.now (N.made nic.old) (leaving_as self) (N.made nic.new) failed.halted) }
         ensures who { N.who nic.new ≡ N.who nic.old }
+        ensures refuses { N.refuses nic.new ≡ N.refuses nic.old }
+        ensures refusal { IfErr result (λ failed. CanFail (N.refuses nic.new) failed.fault) }
     {
         match queue.switch_both(alloc, nic, false) {
             Ok(()) => self.bring(alloc, nic),
@@ -52,6 +55,8 @@ impl Leaving {
         ensures failed { IfErr result (λ failed.
             IsLeftAmid failed.fault (N.made nic.old) (leaving_as self) (N.made nic.new) failed.halted) }
         ensures who { N.who nic.new ≡ N.who nic.old }
+        ensures refuses { N.refuses nic.new ≡ N.refuses nic.old }
+        ensures refusal { IfErr result (λ failed. CanFail (N.refuses nic.new) failed.fault) }
     {
         let Leaving {
             arena,
@@ -100,6 +105,8 @@ fn bring_both<N: Nic>(
         (bringing_both (N.made nic.old) arena.old first.old second.old)
         (bringing_both (N.made nic.new) arena.new first.new second.new)) }
     ensures who { N.who nic.new ≡ N.who nic.old }
+    ensures refuses { N.refuses nic.new ≡ N.refuses nic.old }
+    ensures refusal { IfErr result (λ refusal. CanRefuse (N.refuses nic.new) refusal) }
 {
     match first.bring(alloc, nic, arena) {
         Ok(()) => second.bring(alloc, nic, arena),

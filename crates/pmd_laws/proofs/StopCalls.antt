@@ -26,7 +26,7 @@ stop_ends q old h new home (mid, switched, comes) =
 
 pub amid_ends : (f : PmdFault) (q : AtPort) (old : List Call) (h : Halted) (new : List Call) (left : Halted)
     → IsLeftAmid f old h new left → Ends q old new
-amid_ends f q old h new left (refusal, is, (count, mid, some, more, arena, way), same) =
+amid_ends f q old h new left (refusal, is, (count, mid, some, more, arena, way, waits), same) =
     then_made (IsEnding q) old mid.made new (bringing_ends q count (bringing old h) mid some)
     (some_made (IsEnding q) (step_ends q) mid.made new more)
 

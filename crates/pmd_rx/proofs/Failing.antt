@@ -11,7 +11,7 @@ use Rattle.pmd_seam.specs.declared.fault.PmdFault.{PmdFault}
 use Rattle.pmd_seam.specs.declared.fault.PmdFault.TheVariants as fault
 use Rattle.pmd_rx.specs.Plays.{LendsFree, PlaysFrom}
 use Rattle.pmd_rx.specs.Receive.{Receive, IsOwn}
-use Rattle.pmd_rx.specs.Wrong.{is_healthy, EndsWrong, IsRefused, IsFault, FailsBy}
+use Rattle.pmd_rx.specs.Wrong.{is_healthy, EndsWrong, IsFault, FailsBy}
 use Rattle.pmd_rx.proofs.Playing.{plays_none, plays_both}
 
 pub wrong_here : (arena : Numbers) (old new : List Call) (v : Receive) (e : Event Block) (r : Reply Block) → IsOwn v e
@@ -31,16 +31,6 @@ fault_after fault.StartTimeout arena a b d v w x plays is = is
 fault_after fault.NoBuffer arena a b d v w x plays is = is
 fault_after fault.DeviceFault arena a b d v w x plays is = wrong_after arena a b d v w x plays is
 fault_after (fault.Call refusal) arena a b d v w x plays is = is
-
--- a refused call
-pub refused_fault : (f : PmdFault) (arena : Numbers) (old new : List Call) (v w : Receive) → IsRefused f
-    → IsFault f arena old v new w
-refused_fault fault.BadSize arena old new v w is = is
-refused_fault fault.ForeignBlock arena old new v w is = is
-refused_fault fault.StartTimeout arena old new v w is = is
-refused_fault fault.NoBuffer arena old new v w is = is
-refused_fault fault.DeviceFault arena old new v w is = absurd is
-refused_fault (fault.Call refusal) arena old new v w is = is
 
 -- with an arena beside
 pub fails_of : (f : PmdFault) (old new : List Call) (a b : Numbers) (v w : Receive) → IsFault f a old v new w
@@ -111,7 +101,7 @@ fails_behind (Ok o) old mid new a b v w x plays l h is = tt
 fails_behind (Err f) old mid new a b v w x plays l h is = fails_after f old mid new a b v w x plays l h is
 
 -- a device's fault is no want of a block
-no_short : (f : PmdFault) (a : Numbers) (old new : List Call) (v w : Receive) → IsFault f a old v new w
+pub no_short : (f : PmdFault) (a : Numbers) (old new : List Call) (v w : Receive) → IsFault f a old v new w
     → f ≡ fault.NoBuffer → ⊥
 no_short f a old new v w is short = subst (λ (g : PmdFault). IsFault g a old v new w) short is
 

@@ -1,15 +1,13 @@
 -- What the calls of a driver hand out.
-use Rattle.std.proofs.Common.{◌≡◌, ◌≢◌, ℕ, ◌+◌, ◌<◌, true, false, List, [], ◌∷◌, ◌++◌, length, Option, Some, None, Result, Ok, Err, IfOk, OnOk, OnErr, refl, sym, ap, subst, ◌∙◌, arith}
+use Rattle.std.proofs.Common.{◌≡◌, ◌≢◌, ℕ, ◌+◌, ◌<◌, true, false, List, [], ◌∷◌, ◌++◌, length, Option, Some, None, Result, Ok, Err, IfOk, OnOk, OnErr, refl, sym, ap, ◌∙◌, arith}
 use Rattle.std.specs.Prelude.{IsSome, IfSome, IfNone}
 use Rattle.nic_device.specs.DmaArena.Numbers.{Numbers, is_free, with_free}
 use Rattle.pmd_seam.specs.Packet.{kept_of}
 use Rattle.pmd_seam.specs.declared.packet.Packet.{Packet}
-use Rattle.pmd_seam.specs.declared.fault.PmdFault.{PmdFault}
-use Rattle.pmd_seam.specs.declared.fault.PmdFault.TheVariants as fault
 use Rattle.pmd_rx.specs.Keeping.{IsRunning, HoldsOne}
 use Rattle.pmd_rx.specs.Receive.{Receive, Stage, Looks, Sees, Holding, Lent, Named, moved, refilled, held, held_by, listed}
 use Rattle.pmd_rx.specs.Shown.{CanLook, HasSeen, IsHolding, CanLend, HasLent, HasNamed}
-use Rattle.pmd_rx.specs.Wrong.{IsRefused, PacketWaits}
+use Rattle.pmd_rx.specs.Wrong.{PacketWaits}
 use Rattle.pmd_rx.proofs.Stages.{moved_out}
 
 -- what the stages say
@@ -122,7 +120,3 @@ pub handed_through : {A E : Type 0} (r : Result A E) (v w x : Receive) → w.han
     → OnErr r (x.handed ≡ w.handed) → OnErr r (x.handed ≡ v.handed)
 handed_through (Ok o) v w x same is = tt
 handed_through (Err e) v w x same is = is ∙ same
-
--- a refused call is no want of a block
-pub refused_never : (f : PmdFault) → IsRefused f → f ≡ fault.NoBuffer → ⊥
-refused_never f refused short = subst (λ (g : PmdFault). IsRefused g) short refused

@@ -9,7 +9,7 @@ use Rattle.pmd_seam.specs.Accesses.{IsPeeked}
 use Rattle.pmd_rx.specs.Plays.{PlaysFrom}
 use Rattle.pmd_rx.specs.Receive.{Receive, Stage, Looks, Sees, Holding, Lent, Named, IsOwn, looked, descriptor_at}
 use Rattle.pmd_rx.specs.Shown.{CanLook}
-use Rattle.pmd_rx.specs.Wrong.{is_whole, EndsWrong}
+use Rattle.pmd_rx.specs.Wrong.{is_whole, AsksNext, EndsWrong}
 use Rattle.pmd_rx.proofs.Failing.{wrong_here}
 use Rattle.pmd_rx.proofs.Playing.{plays_adds}
 
@@ -21,6 +21,9 @@ look_own v (Sees first second) is can some = rw is (refl, some)
 look_own v (Holding p) is can some = absurd can
 look_own v (Lent o b) is can some = absurd can
 look_own v (Named o b) is can some = absurd can
+
+pub look_asks : (arena : Numbers) (v : Receive) → CanLook v.stage → 0 < length v.layout.blocks → AsksNext arena v
+look_asks arena v can some = (event.Peek16 (descriptor_at v.layout 0), look_own v v.stage refl can some, tt)
 
 module _ (arena : Numbers) (old new : List Call) (v : Receive) (can : CanLook v.stage)
     (some : 0 < length v.layout.blocks) where

@@ -11,7 +11,7 @@ use Rattle.pmd_seam.specs.declared.fault.PmdFault.TheVariants as fault
 use Rattle.pmd_rx.specs.Plays.{PlaysFrom}
 use Rattle.pmd_rx.specs.Receive.{Receive, Layout, Stage, Looks, Sees, Holding, Lent, Named, TakesNext, LendsNext, NamesNext, MovesNext, MayLend, took, lent_one, named, moved, naming, fresh_of, slot_at, block_at, vacant, descriptor_at}
 use Rattle.pmd_rx.specs.Shown.{HasSeen, CanLend, HasLent, HasNamed, IsTailWritten, IsUnwritten}
-use Rattle.pmd_rx.specs.Wrong.{EndsWrong, IsFault}
+use Rattle.pmd_rx.specs.Wrong.{AsksNext, EndsWrong, IsFault}
 use Rattle.pmd_seam.specs.declared.packet.Packet.{Packet}
 use Rattle.pmd_rx.proofs.Failing.{wrong_here}
 use Rattle.pmd_rx.proofs.Playing.{plays_adds, plays_some}
@@ -46,6 +46,19 @@ move_own l (Sees first second) done = absurd done
 move_own l (Holding p) done = absurd done
 move_own l (Lent o b) done = absurd done
 move_own l (Named o b) done = (refl, refl, refl)
+
+-- what is refused where the call at a stage is
+
+pub take_asks : (arena : Numbers) (v : Receive) (n : ℕ) → HasSeen v.stage → n ≡ block_at v.layout 0 → AsksNext arena v
+take_asks arena v n seen is = (event.Take n, take_own v.layout v.stage n seen is, tt)
+
+pub lend_asks : (arena : Numbers) (v : Receive) (b : Block) → CanLend v.stage → MayLend v.layout b
+    → is_free arena b.number ≡ true → AsksNext arena v
+lend_asks arena v b can may free = (event.Lend b, lend_own v.layout v.stage b can may, free)
+
+pub name_asks : (arena : Numbers) (v : Receive) (a : ℕ) (bytes : List ℕ) → HasLent v.stage
+    → a ≡ descriptor_at v.layout (vacant v.layout) → bytes ≡ naming (fresh_of v.stage) → AsksNext arena v
+name_asks arena v a bytes lent at is = (event.Poke16 a bytes, name_own v.layout v.stage a bytes lent at is, tt)
 
 module _ (arena : Numbers) (old new : List Call) (v : Receive) where
   pub take_plays : (w : Receive) (n : ℕ) (b : Block) → HasSeen v.stage → n ≡ block_at v.layout 0
@@ -126,7 +139,11 @@ module _ (arena : Numbers) (old new : List Call) (v : Receive) where
   unmoved_fault fault.DeviceFault done (seen, adds) =
       wrong_here arena old new v (event.Write v.layout.port v.layout.tail (slot_at v.layout (vacant v.layout + 1)))
       (reply.Stray seen) (move_own v.layout v.stage done) tt adds refl
-  unmoved_fault (fault.Call refusal) done some = tt
+  unmoved_fault (fault.Call refusal) done some = (
+    event.Write v.layout.port v.layout.tail (slot_at v.layout (vacant v.layout + 1)),
+    move_own v.layout v.stage done,
+    tt,
+  )
   unmoved_fault fault.BadSize done not = not
   unmoved_fault fault.ForeignBlock done not = not
   unmoved_fault fault.StartTimeout done not = not

@@ -50,20 +50,16 @@ pub record IsShort (a : Numbers) (v : Receive) (b : Numbers) (w : Receive) : Typ
   pub layout : w.layout ≡ v.layout
   pub handed : w.handed ≡ v.handed
 
--- a call was refused, or there was no memory for it
-abbrev pub IsRefused : PmdFault → Type 0
-IsRefused (fault.Call refusal) = ⊤
-IsRefused fault.BadSize = ⊥
-IsRefused fault.ForeignBlock = ⊥
-IsRefused fault.StartTimeout = ⊥
-IsRefused fault.NoBuffer = ⊥
-IsRefused fault.DeviceFault = ⊥
+-- the event that was refused is one that the driver may make next: a look at the next slot, a take of the block there, a
+-- lend of a block that is free in an arena, the name of one in the vacant slot, or a move of the tail
+abbrev pub AsksNext : Numbers → Receive → Type 0
+AsksNext a w = (e : Event Block) × IsOwn w e × LendsFree a true e
 
--- the device is at fault, or a call was refused, after these calls, which led from this driver to that, with an arena
--- beside
+-- the device is at fault, or the driver's next event was refused, after these calls, which led from this driver to that,
+-- with an arena beside
 abbrev pub IsFault : PmdFault → Numbers → List Call → Receive → List Call → Receive → Type 0
 IsFault fault.DeviceFault a old v new w = EndsWrong a old v new w
-IsFault (fault.Call refusal) a old v new w = ⊤
+IsFault (fault.Call refusal) a old v new w = AsksNext a w
 IsFault fault.BadSize a old v new w = ⊥
 IsFault fault.ForeignBlock a old v new w = ⊥
 IsFault fault.StartTimeout a old v new w = ⊥
@@ -73,7 +69,7 @@ IsFault fault.NoBuffer a old v new w = ⊥
 abbrev pub FailsBy : PmdFault → List Call → Numbers → Receive → List Call → Numbers → Receive → Type 0
 FailsBy fault.NoBuffer old a v new b w = IsShort a v b w
 FailsBy fault.DeviceFault old a v new b w = EndsWrong a old v new w
-FailsBy (fault.Call refusal) old a v new b w = ⊤
+FailsBy (fault.Call refusal) old a v new b w = AsksNext a w
 FailsBy fault.BadSize old a v new b w = ⊥
 FailsBy fault.ForeignBlock old a v new b w = ⊥
 FailsBy fault.StartTimeout old a v new b w = ⊥

@@ -10,6 +10,7 @@ ghost use Rattle.pmd_rx.specs.Plays.{PlaysFrom, LooksOnce};
 ghost use Rattle.pmd_rx.specs.Receive.{Looks, fresh_of, held_by, refilled};
 ghost use Rattle.pmd_rx.specs.Shown.{CanLook, HasSeen, IsHolding, CanLend, HasLent, HasNamed};
 ghost use Rattle.pmd_rx.specs.Wrong.{FailsBy, IsFault, PacketWaits};
+ghost use Rattle.pmd_seam.specs.Refusals.{CanFail};
 
 use crate::receive::Look;
 use crate::ring::{Due, ReceiveRing};
@@ -33,6 +34,8 @@ impl ReceiveRing {
             IsFault f a (N.made nic.old) self.old (N.made nic.new) self.new) }
         ensures keeps { (a : Numbers) → Keeps a self.old a self.new (handed_block result) }
         ensures who { N.who nic.new ≡ N.who nic.old }
+        ensures refuses { N.refuses nic.new ≡ N.refuses nic.old }
+        ensures refusal { IfErr result (λ f. CanFail (N.refuses nic.new) f) }
     {
         match self.name_fresh(alloc, nic) {
             Ok(()) => self.move_tail(alloc, nic),
@@ -62,6 +65,8 @@ impl ReceiveRing {
         ensures same { result ≡ Err PmdFault.NoBuffer → self.new ≡ self.old }
         ensures keeps { Keeps arena.old self.old arena.new self.new (handed_block result) }
         ensures who { N.who nic.new ≡ N.who nic.old }
+        ensures refuses { N.refuses nic.new ≡ N.refuses nic.old }
+        ensures refusal { IfErr result (λ f. CanFail (N.refuses nic.new) f) }
     {
         let Some(buf) = arena.take() else {
             return Err(PmdFault::NoBuffer);
@@ -99,6 +104,8 @@ impl ReceiveRing {
         ensures waits { result ≡ Err PmdFault.NoBuffer → PacketWaits self.new.stage }
         ensures keeps { (a : Numbers) → Keeps a self.old a self.new [] }
         ensures who { N.who nic.new ≡ N.who nic.old }
+        ensures refuses { N.refuses nic.new ≡ N.refuses nic.old }
+        ensures refusal { IfErr result (λ f. CanFail (N.refuses nic.new) f) }
     {
         match self.look(alloc, nic) {
             Ok(Look::Nothing) => Ok(false),
@@ -127,6 +134,8 @@ impl ReceiveRing {
         ensures same { result ≡ Err PmdFault.NoBuffer → self.new ≡ self.old }
         ensures keeps { (a : Numbers) → Keeps a self.old a self.new [] }
         ensures who { N.who nic.new ≡ N.who nic.old }
+        ensures refuses { N.refuses nic.new ≡ N.refuses nic.old }
+        ensures refusal { IfErr result (λ f. CanFail (N.refuses nic.new) f) }
     {
         if arena.free_blocks() == 0 {
             return Err(PmdFault::NoBuffer);
@@ -159,6 +168,8 @@ impl ReceiveRing {
             FailsBy f (N.made nic.old) arena.old self.old (N.made nic.new) arena.new self.new) }
         ensures keeps { Keeps arena.old self.old arena.new self.new [] }
         ensures who { N.who nic.new ≡ N.who nic.old }
+        ensures refuses { N.refuses nic.new ≡ N.refuses nic.old }
+        ensures refusal { IfErr result (λ f. CanFail (N.refuses nic.new) f) }
     {
         match self.lend_and_move(alloc, nic, arena) {
             Ok(None) => Ok(()),
@@ -189,6 +200,8 @@ impl ReceiveRing {
         ensures short { result ≡ Err PmdFault.NoBuffer → free_count arena.old + 1 < self.old.layout.size }
         ensures keeps { Keeps arena.old self.old arena.new self.new [] }
         ensures who { N.who nic.new ≡ N.who nic.old }
+        ensures refuses { N.refuses nic.new ≡ N.refuses nic.old }
+        ensures refusal { IfErr result (λ f. CanFail (N.refuses nic.new) f) }
     {
         let slots = self.spare_slots();
         for _count in 0..slots {
@@ -233,6 +246,8 @@ impl ReceiveRing {
         ensures waits { result ≡ Err PmdFault.NoBuffer → PacketWaits self.new.stage }
         ensures keeps { Keeps arena.old self.old arena.new self.new (handed_block result) }
         ensures who { N.who nic.new ≡ N.who nic.old }
+        ensures refuses { N.refuses nic.new ≡ N.refuses nic.old }
+        ensures refusal { IfErr result (λ f. CanFail (N.refuses nic.new) f) }
     {
         match self.due() {
             Due::Look => self.take_and_refill(alloc, nic, arena),
@@ -263,6 +278,8 @@ impl ReceiveRing {
         ensures waits { result ≡ Err PmdFault.NoBuffer → PacketWaits self.new.stage }
         ensures keeps { Keeps arena.old self.old arena.new self.new (handed_block result) }
         ensures who { N.who nic.new ≡ N.who nic.old }
+        ensures refuses { N.refuses nic.new ≡ N.refuses nic.old }
+        ensures refusal { IfErr result (λ f. CanFail (N.refuses nic.new) f) }
     {
         match self.look_and_take(alloc, nic, arena) {
             Ok(true) => self.lend_and_move(alloc, nic, arena),

@@ -7,9 +7,10 @@ ghost use Rattle.nic_device.specs.DmaRing.Descriptor.{second_half};
 ghost use Rattle.nic_device.specs.DmaRing.Receive.{is_done};
 ghost use Rattle.pmd_rx.specs.Plays.{PlaysFrom, LooksOnce};
 ghost use Rattle.pmd_rx.specs.Receive.{looked, took, lent_one, named, moved, descriptor_at, slot_at, block_at, vacant, naming, fresh_of, held_by, listed, MayLend};
-ghost use Rattle.pmd_rx.specs.Wrong.{EndsWrong, IsFault, IsRefused, is_whole};
+ghost use Rattle.pmd_rx.specs.Wrong.{EndsWrong, IsFault, is_whole};
 ghost use Rattle.pmd_rx.specs.Keeping.{Keeps, handed_block};
 ghost use Rattle.pmd_rx.specs.Shown.{CanLook, HasSeen, IsHolding, CanLend, HasLent, HasNamed, IsTailWritten, IsUnwritten};
+ghost use Rattle.pmd_seam.specs.Refusals.{CanFail};
 
 use crate::ring::{At, ReceiveRing};
 use nic_device::{
@@ -70,10 +71,13 @@ impl ReceiveRing {
         ensures packet { result ≡ Ok Look.Packet → HasSeen self.new.stage }
         ensures wrong { result ≡ Ok Look.Wrong
             → (a : Numbers) → EndsWrong a (N.made nic.old) self.old (N.made nic.new) self.new }
-        ensures refused { IfErr result (λ fault. IsRefused fault) }
+        ensures fault { (a : Numbers) → IfErr result (λ f.
+            IsFault f a (N.made nic.old) self.old (N.made nic.new) self.new) }
         ensures kept { (self.new.layout ≡ self.old.layout) × (self.new.handed ≡ self.old.handed) }
         ensures keeps { (a : Numbers) → Keeps a self.old a self.new [] }
         ensures who { N.who nic.new ≡ N.who nic.old }
+        ensures refuses { N.refuses nic.new ≡ N.refuses nic.old }
+        ensures refusal { IfErr result (λ f. CanFail (N.refuses nic.new) f) }
     {
         let address = self.next_descriptor();
         match peek(alloc, nic, address) {
@@ -97,6 +101,8 @@ impl ReceiveRing {
             IsFault f a (N.made nic.old) self.old (N.made nic.new) self.new) }
         ensures keeps { (a : Numbers) → Keeps a self.old a self.new [] }
         ensures who { N.who nic.new ≡ N.who nic.old }
+        ensures refuses { N.refuses nic.new ≡ N.refuses nic.old }
+        ensures refusal { IfErr result (λ f. CanFail (N.refuses nic.new) f) }
     {
         let block = self.next_block();
         match take(alloc, nic, block) {
@@ -167,6 +173,8 @@ impl ReceiveRing {
         ensures fault { (a : Numbers) → is_free a buf.number ≡ true → IfErr result (λ refused.
             IsFault refused.0 a (N.made nic.old) self.old (N.made nic.new) self.new) }
         ensures who { N.who nic.new ≡ N.who nic.old }
+        ensures refuses { N.refuses nic.new ≡ N.refuses nic.old }
+        ensures refusal { IfErr result (λ refused. CanFail (N.refuses nic.new) refused.0) }
     {
         let block = buf.block();
         match lend(alloc, nic, buf) {
@@ -200,6 +208,8 @@ impl ReceiveRing {
         ensures fault { (a : Numbers) → IfErr result (λ f.
             IsFault f a (N.made nic.old) self.old (N.made nic.new) self.new) }
         ensures who { N.who nic.new ≡ N.who nic.old }
+        ensures refuses { N.refuses nic.new ≡ N.refuses nic.old }
+        ensures refusal { IfErr result (λ f. CanFail (N.refuses nic.new) f) }
     {
         let address = self.vacant_descriptor();
         let bytes = self.fresh_descriptor();
@@ -260,6 +270,8 @@ impl ReceiveRing {
             IsFault f a (N.made nic.old) self.old (N.made nic.new) self.new) }
         ensures keeps { (a : Numbers) → Keeps a self.old a self.new (handed_block result) }
         ensures who { N.who nic.new ≡ N.who nic.old }
+        ensures refuses { N.refuses nic.new ≡ N.refuses nic.old }
+        ensures refusal { IfErr result (λ f. CanFail (N.refuses nic.new) f) }
     {
         self.write_tail(alloc, nic)
     }
@@ -274,6 +286,8 @@ impl ReceiveRing {
         ensures failed { IfErr result (λ f.
             IsUnwritten f (N.made nic.old) (N.made nic.new) self.old.layout) }
         ensures who { N.who nic.new ≡ N.who nic.old }
+        ensures refuses { N.refuses nic.new ≡ N.refuses nic.old }
+        ensures refusal { IfErr result (λ f. CanFail (N.refuses nic.new) f) }
     {
         let At::Named(block) = self.at else {
             unreachable!()

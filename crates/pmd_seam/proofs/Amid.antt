@@ -3,6 +3,7 @@ use Rattle.std.proofs.Common.{ℕ, Bool, List, [], ◌∷◌, ◌++◌, All, if�
 use Rattle.device_lock.specs.declared.entry.Call.{Call}
 use Rattle.nic_device.specs.RegTable.declared.rows.RowId.TheVariants.{Rxcsum, Fctrl, Hlreg0, Dmatxctl, Rxctrl}
 use Rattle.pmd_seam.specs.Setup.{AreSet, StopsSetting, IsInRow, setting, opening}
+use Rattle.pmd_seam.specs.declared.fault.PmdFault.{PmdFault}
 use Rattle.pmd_seam.specs.declared.setup.Setting.{Setting}
 use Rattle.pmd_seam.proofs.Sequences.{set_both, stops_first, stops_second}
 
@@ -22,39 +23,40 @@ pub opening_known : (promiscuous : Bool) → All (λ (s : Setting). IsInRow s.pl
 opening_known promiscuous = known (if promiscuous then 0x700 else 0x400)
 
 module _ (old : List Call) (a b c d e : List Setting) where
-  pub in_first : (new : List Call) → StopsSetting old new a → StopsSetting old new (a ++ b ++ c ++ d ++ e)
-  in_first new s =
-      stops_first old new (a ++ b ++ c ++ d) e
-      (stops_first old new (a ++ b ++ c) d (stops_first old new (a ++ b) c (stops_first old new a b s)))
-
-  pub in_second : (i new : List Call) → AreSet old i a → StopsSetting i new b
-      → StopsSetting old new (a ++ b ++ c ++ d ++ e)
-  in_second i new p s =
-      stops_first old new (a ++ b ++ c ++ d) e
-      (stops_first old new (a ++ b ++ c) d (stops_first old new (a ++ b) c (stops_second old i new a b p s)))
-
-  pub in_third : (i j new : List Call) → AreSet old i a → AreSet i j b → StopsSetting j new c
-      → StopsSetting old new (a ++ b ++ c ++ d ++ e)
-  in_third i j new p q s =
-      stops_first old new (a ++ b ++ c ++ d) e
-      (stops_first old new (a ++ b ++ c) d (stops_second old j new (a ++ b) c (set_both old i j a b p q) s))
-
-  pub in_fourth : (i j k new : List Call) → AreSet old i a → AreSet i j b → AreSet j k c → StopsSetting k new d
-      → StopsSetting old new (a ++ b ++ c ++ d ++ e)
-  in_fourth i j k new p q r s =
-      stops_first old new (a ++ b ++ c ++ d) e
-      (stops_second old k new (a ++ b ++ c) d (set_both old j k (a ++ b) c (set_both old i j a b p q) r) s)
-
   pub up_to_fourth : (i j k l : List Call) → AreSet old i a → AreSet i j b → AreSet j k c → AreSet k l d
       → AreSet old l (a ++ b ++ c ++ d)
   up_to_fourth i j k l p q r s =
       set_both old k l (a ++ b ++ c) d (set_both old j k (a ++ b) c (set_both old i j a b p q) r) s
 
-  pub in_fifth : (i j k l new : List Call) → AreSet old i a → AreSet i j b → AreSet j k c → AreSet k l d
-      → StopsSetting l new e → StopsSetting old new (a ++ b ++ c ++ d ++ e)
-  in_fifth i j k l new p q r s t = stops_second old l new (a ++ b ++ c ++ d) e (up_to_fourth i j k l p q r s) t
-
   pub all_five : (i j k l new : List Call) → AreSet old i a → AreSet i j b → AreSet j k c → AreSet k l d
       → AreSet l new e
       → AreSet old new (a ++ b ++ c ++ d ++ e)
   all_five i j k l new p q r s t = set_both old l new (a ++ b ++ c ++ d) e (up_to_fourth i j k l p q r s) t
+
+module _ (f : PmdFault) (old : List Call) (a b c d e : List Setting) where
+  pub in_first : (new : List Call) → StopsSetting f old new a → StopsSetting f old new (a ++ b ++ c ++ d ++ e)
+  in_first new s =
+      stops_first f old new (a ++ b ++ c ++ d) e
+      (stops_first f old new (a ++ b ++ c) d (stops_first f old new (a ++ b) c (stops_first f old new a b s)))
+
+  pub in_second : (i new : List Call) → AreSet old i a → StopsSetting f i new b
+      → StopsSetting f old new (a ++ b ++ c ++ d ++ e)
+  in_second i new p s =
+      stops_first f old new (a ++ b ++ c ++ d) e
+      (stops_first f old new (a ++ b ++ c) d (stops_first f old new (a ++ b) c (stops_second f old i new a b p s)))
+
+  pub in_third : (i j new : List Call) → AreSet old i a → AreSet i j b → StopsSetting f j new c
+      → StopsSetting f old new (a ++ b ++ c ++ d ++ e)
+  in_third i j new p q s =
+      stops_first f old new (a ++ b ++ c ++ d) e
+      (stops_first f old new (a ++ b ++ c) d (stops_second f old j new (a ++ b) c (set_both old i j a b p q) s))
+
+  pub in_fourth : (i j k new : List Call) → AreSet old i a → AreSet i j b → AreSet j k c → StopsSetting f k new d
+      → StopsSetting f old new (a ++ b ++ c ++ d ++ e)
+  in_fourth i j k new p q r s =
+      stops_first f old new (a ++ b ++ c ++ d) e
+      (stops_second f old k new (a ++ b ++ c) d (set_both old j k (a ++ b) c (set_both old i j a b p q) r) s)
+
+  pub in_fifth : (i j k l new : List Call) → AreSet old i a → AreSet i j b → AreSet j k c → AreSet k l d
+      → StopsSetting f l new e → StopsSetting f old new (a ++ b ++ c ++ d ++ e)
+  in_fifth i j k l new p q r s t = stops_second f old l new (a ++ b ++ c ++ d) e (up_to_fourth old a b c d e i j k l p q r s) t

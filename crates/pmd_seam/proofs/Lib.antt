@@ -7,6 +7,7 @@ pub mod Outside
 pub mod Places
 pub mod Polling
 pub mod QueueSequences
+pub mod Refusals
 pub mod Sequences
 pub mod Stepping
 pub mod Steps

@@ -8,6 +8,7 @@ use Rattle.nic_device.specs.declared.event.Event.TheVariants as event
 use Rattle.nic_device.specs.declared.event.Reply.{Reply}
 use Rattle.nic_device.specs.DmaRing.declared.dir.Dir.TheVariants as dir
 use Rattle.device_lock.specs.declared.fault.CallFault.{CallFault}
+use Rattle.device_lock.specs.declared.fault.CallFault.TheVariants.{OutOfMemory}
 use Rattle.device_lock.specs.Fault.{event_of}
 use Rattle.device_lock.specs.declared.entry.Call.{Call}
 use Rattle.device_lock.specs.Pass.{call_of}
@@ -93,7 +94,8 @@ refused_amid (Ok x) old mid new all same = tt
 refused_amid (Err f) old mid new all same = stops_after old mid new all same
 
 pub refused_adds : (e : Event Block) (r : Result (Reply Block) (CallFault (Event Block))) (old new : InHand)
-    → IfErr r (λ f. event_of f ≡ e) → OnErr r (StopsAmid old new)
+    → IfErr r (λ f. f ≡ OutOfMemory e) → OnErr r (StopsAmid old new)
     → IfErr r (λ f. (event_of f ≡ e) × AddsSome old.calls new.calls)
 refused_adds e (Ok x) old new back amid = tt
-refused_adds e (Err f) old new back amid = (back, amid_adds old new amid)
+refused_adds e (Err f) old new back amid =
+    (ap (λ (g : CallFault (Event Block)). event_of g) back, amid_adds old new amid)

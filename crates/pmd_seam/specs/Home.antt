@@ -1,5 +1,5 @@
 -- Blocks that are out of the arena that they were taken from, and their way home.
-use Rattle.std.specs.Prelude.{◌≡◌, ℕ, zero, suc, ◌+◌, ◌≤◌, ◌⊎◌, true, false, List, [], ◌∷◌, ◌++◌, if◌then◌else◌}
+use Rattle.std.specs.Prelude.{◌≡◌, ℕ, zero, suc, ◌+◌, ◌<◌, ◌≤◌, ◌⊎◌, true, false, List, [], ◌∷◌, ◌++◌, length, if◌then◌else◌}
 use Rattle.nic_device.specs.DmaArena.Block.{Block}
 use Rattle.nic_device.specs.DmaArena.Numbers.{Numbers, is_own, is_free, with_free}
 use Rattle.nic_device.specs.DmaArena.Whereabouts.{times_in_hand}
@@ -61,8 +61,8 @@ Brings (suc count) s t = (mid : Bringing) × Brings count s mid × BringsOne mid
 abbrev pub BringsAll : Bringing → Bringing → Type 0
 BringsAll s t = (count : ℕ) × Brings count s t × (t.way.lent ≡ [])
 
--- some were brought, and then perhaps other calls were made
+-- some were brought, and the take of the next was refused: no more than steps of the device were made for it
 abbrev pub StopsBringing : Bringing → Bringing → Type 0
 StopsBringing s t =
     (count : ℕ) × (mid : Bringing) × Brings count s mid
-    × AddsSome mid.made t.made × (t.arena ≡ mid.arena) × (t.way ≡ mid.way)
+    × AddsSome mid.made t.made × (t.arena ≡ mid.arena) × (t.way ≡ mid.way) × (0 < length mid.way.lent)

@@ -8,6 +8,7 @@ pub mod Made
 pub mod Named
 pub mod Packet
 pub mod QueueMade
+pub mod Refusals
 pub mod Scheduled
 pub mod Setup
 pub mod Sides

@@ -14,7 +14,9 @@ use Rattle.nic_device.specs.RegisterFile.Columns.{place}
 use Rattle.nic_device.specs.VfMap.declared.mode.Mode.{Mode}
 use Rattle.nic_device.specs.VfMap.declared.mode.Mode.TheVariants.{Off, Pools16, Pools32, Pools64}
 use Rattle.device_lock.specs.declared.entry.Call.{Call}
-use Rattle.pmd_seam.specs.Made.{Adds}
+use Rattle.pmd_seam.specs.Made.{Adds, AddsSome}
+use Rattle.pmd_seam.specs.declared.fault.PmdFault.{PmdFault}
+use Rattle.pmd_seam.specs.declared.fault.PmdFault.TheVariants as fault
 use Rattle.pmd_seam.specs.declared.setup.Setting.{Setting}
 use Rattle.pmd_seam.specs.declared.setup.Setup.{Setup}
 
@@ -38,15 +40,22 @@ abbrev pub AreSet : List Call → List Call → List Setting → Type 0
 AreSet old new [] = new ≡ old
 AreSet old new (s ∷ ss) = (mid : List Call) × IsSet old mid s × AreSet mid new ss
 
--- some calls were made, whatever they are
-abbrev pub AddsAny : List Call → List Call → Type 0
-AddsAny old new = (more : List Call) × (new ≡ old ++ more)
+-- why a register isn't written: the device knows it not, or the write was refused
+abbrev pub SettingFails : PmdFault → List Call → List Call → Setting → Type 0
+SettingFails fault.DeviceFault old new s =
+    (address : ℕ) × (seen : ℕ) × IsAddressOf address s.place
+    × Adds old new (event.Write Pf address s.word) (reply.Stray seen)
+SettingFails (fault.Call refusal) old new s = AddsSome old new
+SettingFails fault.BadSize old new s = ⊥
+SettingFails fault.ForeignBlock old new s = ⊥
+SettingFails fault.StartTimeout old new s = ⊥
+SettingFails fault.NoBuffer old new s = ⊥
 
--- some of the registers were written, from the first on, and perhaps other calls were made
-abbrev pub StopsSetting : List Call → List Call → List Setting → Type 0
-StopsSetting old new ss =
-    (done : List Setting) × (rest : List Setting) × (mid : List Call)
-    × (ss ≡ done ++ rest) × AreSet old mid done × AddsAny mid new
+-- some of the registers were written, from the first on, and the next one wasn't
+abbrev pub StopsSetting : PmdFault → List Call → List Call → List Setting → Type 0
+StopsSetting f old new ss =
+    (done : List Setting) × (s : Setting) × (rest : List Setting) × (mid : List Call)
+    × (ss ≡ done ++ s ∷ rest) × AreSet old mid done × SettingFails f mid new s
 
 abbrev pub setting : RowId → ℕ → ℕ → Setting
 setting row index word = record { place = place row index; word = word }

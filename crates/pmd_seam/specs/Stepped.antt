@@ -1,11 +1,12 @@
 -- A pass to a shared device, whose queue is stepped on before each call.
-use Rattle.std.specs.Prelude.{◌≡◌, ℕ, List, [], ◌∷◌, ◌++◌, map, take}
+use Rattle.std.specs.Prelude.{◌≡◌, ℕ, true, List, [], ◌∷◌, ◌++◌, map, take}
 use Rattle.nic_device.specs.DmaArena.Block.{Block}
 use Rattle.nic_device.specs.declared.event.Event.{Event}
 use Rattle.nic_device.specs.declared.event.Reply.{Reply}
 use Rattle.device_lock.specs.declared.entry.Call.{Call}
 use Rattle.device_lock.specs.Pass.{PassValue, call_of}
 use Rattle.pmd_seam.specs.Made.{steps_of_queue}
+use Rattle.pmd_seam.specs.Refusals.{Refusals}
 
 -- a pass, the number of the shared device's bench, and the queue that is stepped on
 pub record AtLock : Type 0 where
@@ -16,6 +17,10 @@ pub record AtLock : Type 0 where
 -- whose calls they are: the number of a bench, and a tag
 abbrev pub caller_of : AtLock → ℕ × ℕ
 caller_of t = (t.pass.bench, t.pass.tag)
+
+-- what it may refuse calls for, as far as the shared device says: whatever a call can be refused for
+abbrev pub refusals_of : AtLock → Refusals
+refusals_of t = record { foreign = true; full = true }
 
 -- the same pass with these calls more
 abbrev pub with_calls : AtLock → List Call → AtLock

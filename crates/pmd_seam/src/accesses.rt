@@ -3,6 +3,7 @@
 ghost use Rattle.std.specs.Prelude.{◌≡◌, IfOk, IfErr, OnErr, IfSome};
 ghost use Rattle.pmd_seam.specs.Accesses.{IsRead, IsWritten, IsLent, IsTaken, IsPeeked, IsPoked};
 ghost use Rattle.pmd_seam.specs.Made.{AddsSome};
+ghost use Rattle.pmd_seam.specs.Refusals.{CanRefuse};
 
 use crate::fault::{with_block, without_event};
 use crate::nic::Nic;
@@ -19,6 +20,8 @@ pub fn read<N: Nic>(
 ) -> Result<Option<u32>, CallFault<()>>
     ensures made { IfOk result (λ word. IsRead (N.made nic.old) (N.made nic.new) port number word) }
     ensures who { N.who nic.new ≡ N.who nic.old }
+    ensures refuses { N.refuses nic.new ≡ N.refuses nic.old }
+    ensures refusal { IfErr result (λ refusal. CanRefuse (N.refuses nic.new) refusal) }
     ensures refused { OnErr result (AddsSome (N.made nic.old) (N.made nic.new)) }
 {
     match nic.call(alloc, Event::Read(port, number)) {
@@ -41,6 +44,8 @@ pub fn write<N: Nic>(
 ) -> Result<bool, CallFault<()>>
     ensures made { IfOk result (λ known. IsWritten (N.made nic.old) (N.made nic.new) port number word known) }
     ensures who { N.who nic.new ≡ N.who nic.old }
+    ensures refuses { N.refuses nic.new ≡ N.refuses nic.old }
+    ensures refusal { IfErr result (λ refusal. CanRefuse (N.refuses nic.new) refusal) }
     ensures refused { OnErr result (AddsSome (N.made nic.old) (N.made nic.new)) }
 {
     match nic.call(alloc, Event::Write(port, number, word)) {
@@ -62,6 +67,8 @@ pub fn lend<N: Nic>(
     ensures made { IfOk result (λ twice. IsLent (N.made nic.old) (N.made nic.new) buf twice) }
     ensures number { IfOk result (λ twice. IfSome twice (λ back. back.number ≡ buf.number)) }
     ensures who { N.who nic.new ≡ N.who nic.old }
+    ensures refuses { N.refuses nic.new ≡ N.refuses nic.old }
+    ensures refusal { IfErr result (λ refused. CanRefuse (N.refuses nic.new) refused.0) }
     ensures back { IfErr result (λ refused. refused.1 ≡ buf) }
     ensures refused { OnErr result (AddsSome (N.made nic.old) (N.made nic.new)) }
 {
@@ -80,6 +87,8 @@ pub fn take<N: Nic>(alloc: Global, nic: &mut N, block: u32) -> Result<Option<Buf
     ensures made { IfOk result (λ taken. IsTaken (N.made nic.old) (N.made nic.new) block taken) }
     ensures number { IfOk result (λ taken. IfSome taken (λ buf. buf.number ≡ block)) }
     ensures who { N.who nic.new ≡ N.who nic.old }
+    ensures refuses { N.refuses nic.new ≡ N.refuses nic.old }
+    ensures refusal { IfErr result (λ refusal. CanRefuse (N.refuses nic.new) refusal) }
     ensures refused { OnErr result (AddsSome (N.made nic.old) (N.made nic.new)) }
 {
     match nic.call(alloc, Event::Take(block)) {
@@ -100,6 +109,8 @@ pub fn peek<N: Nic>(
 ) -> Result<Option<[u8; 16]>, CallFault<()>>
     ensures made { IfOk result (λ bytes. IsPeeked (N.made nic.old) (N.made nic.new) address bytes) }
     ensures who { N.who nic.new ≡ N.who nic.old }
+    ensures refuses { N.refuses nic.new ≡ N.refuses nic.old }
+    ensures refusal { IfErr result (λ refusal. CanRefuse (N.refuses nic.new) refusal) }
     ensures refused { OnErr result (AddsSome (N.made nic.old) (N.made nic.new)) }
 {
     match nic.call(alloc, Event::Peek16(address)) {
@@ -121,6 +132,8 @@ pub fn poke<N: Nic>(
 ) -> Result<bool, CallFault<()>>
     ensures made { IfOk result (λ known. IsPoked (N.made nic.old) (N.made nic.new) address bytes known) }
     ensures who { N.who nic.new ≡ N.who nic.old }
+    ensures refuses { N.refuses nic.new ≡ N.refuses nic.old }
+    ensures refusal { IfErr result (λ refusal. CanRefuse (N.refuses nic.new) refusal) }
     ensures refused { OnErr result (AddsSome (N.made nic.old) (N.made nic.new)) }
 {
     match nic.call(alloc, Event::Poke16(address, bytes)) {

@@ -3,6 +3,7 @@
 ghost use Rattle.std.specs.Prelude.{◌≡◌, IfErr, OnOk};
 ghost use Rattle.pmd_seam.specs.Both.{both_quiet, both_asked, IsSwitched, SwitchFails};
 ghost use Rattle.pmd_seam.specs.QueueMade.{AreMade, StopsBy};
+ghost use Rattle.pmd_seam.specs.Refusals.{CanFail};
 
 use crate::fault::PmdFault;
 use crate::names::Queue;
@@ -19,6 +20,8 @@ impl Queue {
         ensures made { OnOk result (AreMade self.now (N.made nic.old) (N.made nic.new) both_quiet) }
         ensures failed { IfErr result (λ f. StopsBy f self.now (N.made nic.old) (N.made nic.new) both_quiet) }
         ensures who { N.who nic.new ≡ N.who nic.old }
+        ensures refuses { N.refuses nic.new ≡ N.refuses nic.old }
+        ensures refusal { IfErr result (λ f. CanFail (N.refuses nic.new) f) }
     {
         self.disable(alloc, nic, Dir::Rx)?;
         self.disable(alloc, nic, Dir::Tx)
@@ -32,6 +35,8 @@ impl Queue {
         ensures switched { OnOk result (IsSwitched self.now (N.made nic.old) (N.made nic.new) on 1000) }
         ensures failed { IfErr result (λ f. SwitchFails f self.now (N.made nic.old) (N.made nic.new) on 1000) }
         ensures who { N.who nic.new ≡ N.who nic.old }
+        ensures refuses { N.refuses nic.new ≡ N.refuses nic.old }
+        ensures refusal { IfErr result (λ f. CanFail (N.refuses nic.new) f) }
     {
         self.ask_both(alloc, nic, on)?;
         let left = self.poll(alloc, nic, Dir::Rx, on, POLLS)?;
@@ -44,6 +49,8 @@ impl Queue {
         ensures made { OnOk result (AreMade self.now (N.made nic.old) (N.made nic.new) (both_asked on)) }
         ensures failed { IfErr result (λ f. StopsBy f self.now (N.made nic.old) (N.made nic.new) (both_asked on)) }
         ensures who { N.who nic.new ≡ N.who nic.old }
+        ensures refuses { N.refuses nic.new ≡ N.refuses nic.old }
+        ensures refusal { IfErr result (λ f. CanFail (N.refuses nic.new) f) }
     {
         self.ask(alloc, nic, Dir::Rx, on)?;
         self.ask(alloc, nic, Dir::Tx, on)

@@ -1,9 +1,9 @@
 ghost use Rattle.std.specs.Prelude.{◌≡◌, [], true, IfOk, IfErr, OnOk, OnErr};
-ghost use Rattle.device_lock.specs.Fault.{event_of};
 ghost use Rattle.nic_device.specs.Answering.{may_answer};
 ghost use Rattle.nic_device.specs.Step.{step_of};
 ghost use Rattle.pmd_seam.specs.Made.{Adds, StopsAmid, after_event, after_events, steps_of_queue};
 ghost use Rattle.pmd_seam.specs.Events.{is_step};
+ghost use Rattle.pmd_seam.specs.Refusals.{memory_alone};
 
 use crate::fault::no_memory;
 use crate::nic::Nic;
@@ -52,7 +52,7 @@ impl Direct {
         self.calls.as_slice()
     }
 
-    /// The device where the calls led it, and the calls.
+    /// The device, and the calls that were made.
     pub fn finish(self) -> (Device, Vec<Call>)
         ensures device { result.0 ≡ self.device }
         ensures calls { result.1.items ≡ self.calls }
@@ -96,7 +96,7 @@ impl Direct {
         ensures made { OnOk result (self.new ≡ after_event self.old event) }
         ensures adds { IfOk result (λ reply. Adds self.old.calls self.new.calls event reply) }
         ensures fits { IfOk result (λ reply. may_answer event reply ≡ true) }
-        ensures back { IfErr result (λ fault. event_of fault ≡ event) }
+        ensures memory { IfErr result (λ fault. fault ≡ CallFault.OutOfMemory event) }
         ensures unchanged { OnErr result (self.new ≡ self.old) }
     {
         match self.make(alloc, event) {
@@ -134,7 +134,7 @@ impl Direct {
             (self.new ≡ after_event (after_events self.old (steps_of_queue self.old.queue)) event) }
         ensures adds { IfOk result (λ reply. Adds self.old.calls self.new.calls event reply) }
         ensures fits { IfOk result (λ reply. may_answer event reply ≡ true) }
-        ensures back { IfErr result (λ fault. event_of fault ≡ event) }
+        ensures memory { IfErr result (λ fault. fault ≡ CallFault.OutOfMemory event) }
         ensures amid { OnErr result (StopsAmid self.old self.new) }
     {
         match self.step_on(alloc) {
@@ -148,6 +148,8 @@ impl Nic for Direct {
     ghost made = { λ d. d.calls };
 
     ghost who = { λ d. (0, 0) };
+
+    ghost refuses = { λ d. memory_alone };
 
     fn call(&mut self, alloc: Global, event: Event) -> Result<Reply, CallFault> {
         self.step_and_make(alloc, event)

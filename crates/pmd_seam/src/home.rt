@@ -1,10 +1,11 @@
 //! Blocks on their way home to the arena that they were taken from.
 
-ghost use Rattle.std.specs.Prelude.{◌≡◌, ◌<◌, ◌+◌, ◌++◌, ◌∷◌, [], length, IsTrue, ◌↔◌, true, false, OnOk, OnErr};
+ghost use Rattle.std.specs.Prelude.{◌≡◌, ◌<◌, ◌+◌, ◌++◌, ◌∷◌, [], length, IsTrue, ◌↔◌, true, false, OnOk, OnErr, IfErr};
 ghost use Rattle.nic_device.specs.DmaArena.Numbers.{is_own, is_free, with_free};
 ghost use Rattle.nic_device.specs.DmaArena.Whereabouts.{times_in_hand};
 ghost use Rattle.pmd_seam.specs.Home.{AreOut, BringsOne, BringsAll, StopsBringing};
 ghost use Rattle.pmd_seam.specs.Made.{AddsSome};
+ghost use Rattle.pmd_seam.specs.Refusals.{CanRefuse};
 
 use crate::accesses::take;
 use crate::nic::Nic;
@@ -94,6 +95,8 @@ impl Reclaim {
             (record { made = N.made nic.new; arena = arena.new; way = self.new })) }
         ensures out { AreOut arena.new self.new.lent }
         ensures who { N.who nic.new ≡ N.who nic.old }
+        ensures refuses { N.refuses nic.new ≡ N.refuses nic.old }
+        ensures refusal { IfErr result (λ refusal. CanRefuse (N.refuses nic.new) refusal) }
     {
         for _count in 0..self.waiting() {
             self.bring_one(alloc, nic, arena)?;
@@ -124,6 +127,8 @@ impl Reclaim {
         ensures same { OnErr result ((self.new ≡ self.old) × (arena.new ≡ arena.old)) }
         ensures refused { OnErr result (AddsSome (N.made nic.old) (N.made nic.new)) }
         ensures who { N.who nic.new ≡ N.who nic.old }
+        ensures refuses { N.refuses nic.new ≡ N.refuses nic.old }
+        ensures refusal { IfErr result (λ refusal. CanRefuse (N.refuses nic.new) refusal) }
     {
         let block = self.lent[0];
         match take(alloc, nic, block)? {

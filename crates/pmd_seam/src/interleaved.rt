@@ -5,6 +5,7 @@ ghost use Rattle.device_lock.specs.Fault.{event_of};
 ghost use Rattle.nic_device.specs.Answering.{may_answer};
 ghost use Rattle.nic_device.specs.Step.{step_of};
 ghost use Rattle.pmd_seam.specs.Made.{Adds, AddsSome};
+ghost use Rattle.pmd_seam.specs.Refusals.{CanRefuse, memory_alone};
 ghost use Rattle.pmd_seam.specs.Scheduled.{StopsInList, StopsCall, after_call, after_list, made_of, next_list, with_list_made};
 
 use crate::handled::Handled;
@@ -37,7 +38,7 @@ impl Model for Interleaved {
 
 /// What an `Interleaved` held at its end.
 pub struct Finished {
-    /// The device where the calls led it.
+    /// The device.
     pub device: Device,
     /// The calls that were made, foreign and own, with their replies, the oldest first.
     pub calls: Vec<Call>,
@@ -132,6 +133,8 @@ impl Nic for Interleaved {
 
     ghost who = { λ i. (0, 0) };
 
+    ghost refuses = { λ i. memory_alone };
+
     /// Makes the next list of foreign events, and then the event.
     ///
     /// `OutOfMemory` where there was no memory for one of them or its note: those before it are made, and the event
@@ -142,6 +145,7 @@ impl Nic for Interleaved {
         ensures fits { IfOk result (λ reply. may_answer event reply ≡ true) }
         ensures refused { IfErr result (λ fault.
             (event_of fault ≡ event) × AddsSome (made_of self.old.handled) (made_of self.new.handled)) }
+        ensures refusal { IfErr result (λ fault. CanRefuse memory_alone fault) }
         ensures exact { OnOk result (self.new ≡ after_call self.old event) }
         ensures reply { IfOk result (λ reply.
             reply ≡ (step_of (after_list self.old.handled (next_list self.old.lists)).device event).reply) }

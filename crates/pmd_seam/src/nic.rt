@@ -3,6 +3,7 @@ ghost use Rattle.device_lock.specs.Fault.{event_of};
 ghost use Rattle.device_lock.specs.declared.entry.Call.{Call};
 ghost use Rattle.nic_device.specs.Answering.{may_answer};
 ghost use Rattle.pmd_seam.specs.Made.{Adds, AddsSome};
+ghost use Rattle.pmd_seam.specs.Refusals.{Refusals, CanRefuse};
 
 use device_lock::CallFault;
 use nic_device::{Event, Reply};
@@ -17,11 +18,16 @@ pub trait Nic {
     /// Whose calls they are: the number of a bench, and a tag.
     ghost who: { Self → ℕ × ℕ };
 
+    /// What it may refuse calls for, beside want of memory.
+    ghost refuses: { Self → Refusals };
+
     /// Makes one event, after some steps of the device. A refused event comes back, and isn't made; some of the steps
     /// may be.
     fn call(&mut self, alloc: Global, event: Event) -> Result<Reply, CallFault>
         ensures made { IfOk result (λ reply. Adds (made self.old) (made self.new) event reply) }
         ensures who { who self.new ≡ who self.old }
+        ensures refuses { refuses self.new ≡ refuses self.old }
+        ensures refusal { IfErr result (λ fault. CanRefuse (refuses self.new) fault) }
         ensures fits { IfOk result (λ reply. may_answer event reply ≡ true) }
         ensures refused { IfErr result (λ fault. (event_of fault ≡ event) × AddsSome (made self.old) (made self.new)) };
 }

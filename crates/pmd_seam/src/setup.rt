@@ -1,8 +1,9 @@
 //! The set-up of the whole device, before any queue is started.
 
-ghost use Rattle.std.specs.Prelude.{◌≡◌, ◌+◌, ◌*◌, ◌/◌, ◌<◌, ◌≤◌, [], ◌∷◌, All, length, OnOk, OnErr};
+ghost use Rattle.std.specs.Prelude.{◌≡◌, ◌+◌, ◌*◌, ◌/◌, ◌<◌, ◌≤◌, [], ◌∷◌, All, length, OnOk, IfErr};
 ghost use Rattle.nic_device.specs.RegTable.Rows.{row_of};
-ghost use Rattle.pmd_seam.specs.Setup.{AddsAny, AreSet, StopsSetting, IsAddressOf, IsInRow, mode_word, pools_word, pool_settings, opening, setting, word_in, packed, settings_of};
+ghost use Rattle.pmd_seam.specs.Setup.{AreSet, SettingFails, StopsSetting, IsAddressOf, IsInRow, mode_word, pools_word, pool_settings, opening, setting, word_in, packed, settings_of};
+ghost use Rattle.pmd_seam.specs.Refusals.{CanFail};
 
 use crate::accesses::write;
 use crate::fault::PmdFault;
@@ -87,7 +88,9 @@ pub fn set<N: Nic>(alloc: Global, nic: &mut N, setting: Setting) -> Result<(), P
     requires { IsInRow setting.place }
     ensures set { OnOk result (AreSet (N.made nic.old) (N.made nic.new) (setting ∷ [])) }
     ensures who { N.who nic.new ≡ N.who nic.old }
-    ensures failed { OnErr result (AddsAny (N.made nic.old) (N.made nic.new)) }
+    ensures refuses { N.refuses nic.new ≡ N.refuses nic.old }
+    ensures refusal { IfErr result (λ f. CanFail (N.refuses nic.new) f) }
+    ensures failed { IfErr result (λ f. SettingFails f (N.made nic.old) (N.made nic.new) setting) }
 {
     let address = address_of(setting.place);
     match write(alloc, nic, Port::Pf, address, setting.word) {
@@ -102,7 +105,9 @@ fn set_all<N: Nic>(alloc: Global, nic: &mut N, settings: &[Setting]) -> Result<(
     requires { All (λ s. IsInRow s.place) settings.now }
     ensures set { OnOk result (AreSet (N.made nic.old) (N.made nic.new) settings.now) }
     ensures who { N.who nic.new ≡ N.who nic.old }
-    ensures failed { OnErr result (StopsSetting (N.made nic.old) (N.made nic.new) settings.now) }
+    ensures refuses { N.refuses nic.new ≡ N.refuses nic.old }
+    ensures refusal { IfErr result (λ f. CanFail (N.refuses nic.new) f) }
+    ensures failed { IfErr result (λ f. StopsSetting f (N.made nic.old) (N.made nic.new) settings.now) }
 {
     for setting in settings {
         set(alloc, nic, *setting)?;
@@ -133,7 +138,10 @@ fn set_packed<N: Nic>(
     requires bytes { 4 * count ≤ length bytes.now }
     ensures set { OnOk result (AreSet (N.made nic.old) (N.made nic.new) (packed row bytes.now count)) }
     ensures who { N.who nic.new ≡ N.who nic.old }
-    ensures failed { OnErr result (StopsSetting (N.made nic.old) (N.made nic.new) (packed row bytes.now count)) }
+    ensures refuses { N.refuses nic.new ≡ N.refuses nic.old }
+    ensures refusal { IfErr result (λ f. CanFail (N.refuses nic.new) f) }
+    ensures failed { IfErr result (λ f.
+        StopsSetting f (N.made nic.old) (N.made nic.new) (packed row bytes.now count)) }
 {
     for index in 0..count {
         let word = word_in(bytes, usize::from(index));
@@ -188,7 +196,9 @@ fn setting_of(row: RowId, index: u16, word: u32) -> Setting
 pub fn pf_setup<N: Nic>(alloc: Global, nic: &mut N, setup: &Setup) -> Result<(), PmdFault>
     ensures set { OnOk result (AreSet (N.made nic.old) (N.made nic.new) (settings_of setup.now)) }
     ensures who { N.who nic.new ≡ N.who nic.old }
-    ensures failed { OnErr result (StopsSetting (N.made nic.old) (N.made nic.new) (settings_of setup.now)) }
+    ensures refuses { N.refuses nic.new ≡ N.refuses nic.old }
+    ensures refusal { IfErr result (λ f. CanFail (N.refuses nic.new) f) }
+    ensures failed { IfErr result (λ f. StopsSetting f (N.made nic.old) (N.made nic.new) (settings_of setup.now)) }
 {
     set_all(alloc, nic, &pool_settings(setup.mode))?;
     set_all(alloc, nic, &[setting_of(RowId::Mrqc, 0, setup.mrqc)])?;

@@ -5,6 +5,7 @@ ghost use Rattle.nic_device.specs.RegisterFile.Queue.{enable_row};
 ghost use Rattle.pmd_seam.specs.QueueMade.{Sees, Sets, IsSeen, IsSet, AreMade, StopsBy, FailsBy, ReadFails};
 ghost use Rattle.pmd_seam.specs.Named.{IsDriven};
 ghost use Rattle.pmd_seam.specs.Sides.{quiet, ring_words, asked, enable_word, polled, set_of, PollsEnd};
+ghost use Rattle.pmd_seam.specs.Refusals.{CanFail};
 
 use crate::accesses::{read, write};
 use crate::fault::PmdFault;
@@ -37,6 +38,8 @@ impl Queue {
         ensures seen { IfOk result (λ on. IsSeen self.now (N.made nic.old) (N.made nic.new) (enable_row side) on) }
         ensures failed { IfErr result (λ f. ReadFails f self.now (N.made nic.old) (N.made nic.new) (enable_row side)) }
         ensures who { N.who nic.new ≡ N.who nic.old }
+        ensures refuses { N.refuses nic.new ≡ N.refuses nic.old }
+        ensures refusal { IfErr result (λ f. CanFail (N.refuses nic.new) f) }
     {
         let number = self.number_of(enable_row(side));
         match read(alloc, nic, self.port(), number) {
@@ -52,6 +55,8 @@ impl Queue {
         ensures set { OnOk result (IsSet self.now (N.made nic.old) (N.made nic.new) row word) }
         ensures failed { IfErr result (λ f. FailsBy f self.now (N.made nic.old) (N.made nic.new) (Sets row word)) }
         ensures who { N.who nic.new ≡ N.who nic.old }
+        ensures refuses { N.refuses nic.new ≡ N.refuses nic.old }
+        ensures refusal { IfErr result (λ f. CanFail (N.refuses nic.new) f) }
     {
         let number = self.number_of(row);
         match write(alloc, nic, self.port(), number, word) {
@@ -73,6 +78,8 @@ impl Queue {
         ensures failed { IfErr result (λ f.
             FailsBy f self.now (N.made nic.old) (N.made nic.new) (Sets (enable_row side) word)) }
         ensures who { N.who nic.new ≡ N.who nic.old }
+        ensures refuses { N.refuses nic.new ≡ N.refuses nic.old }
+        ensures refusal { IfErr result (λ f. CanFail (N.refuses nic.new) f) }
     {
         match side {
             Dir::Rx => self.set(alloc, nic, RowId::Rxdctl, word),
@@ -86,6 +93,8 @@ impl Queue {
         ensures failed { IfErr result (λ f.
             FailsBy f self.now (N.made nic.old) (N.made nic.new) (Sees (enable_row side) false)) }
         ensures who { N.who nic.new ≡ N.who nic.old }
+        ensures refuses { N.refuses nic.new ≡ N.refuses nic.old }
+        ensures refusal { IfErr result (λ f. CanFail (N.refuses nic.new) f) }
     {
         match self.is_on(alloc, nic, side) {
             Ok(false) => Ok(()),
@@ -103,6 +112,8 @@ impl Queue {
         ensures made { OnOk result (AreMade self.now (N.made nic.old) (N.made nic.new) (quiet side)) }
         ensures failed { IfErr result (λ f. StopsBy f self.now (N.made nic.old) (N.made nic.new) (quiet side)) }
         ensures who { N.who nic.new ≡ N.who nic.old }
+        ensures refuses { N.refuses nic.new ≡ N.refuses nic.old }
+        ensures refusal { IfErr result (λ f. CanFail (N.refuses nic.new) f) }
     {
         self.see_off(alloc, nic, side)?;
         self.set_enable(alloc, nic, side, 0)?;
@@ -127,6 +138,8 @@ impl Queue {
         ensures failed { IfErr result (λ f.
             StopsBy f self.now (N.made nic.old) (N.made nic.new) (ring_words side ring size)) }
         ensures who { N.who nic.new ≡ N.who nic.old }
+        ensures refuses { N.refuses nic.new ≡ N.refuses nic.old }
+        ensures refusal { IfErr result (λ f. CanFail (N.refuses nic.new) f) }
     {
         self.set_all(alloc, nic, &ring_words(side, ring, size))
     }
@@ -138,6 +151,8 @@ impl Queue {
         ensures failed { IfErr result (λ f.
             StopsBy f self.now (N.made nic.old) (N.made nic.new) (map set_of words.now)) }
         ensures who { N.who nic.new ≡ N.who nic.old }
+        ensures refuses { N.refuses nic.new ≡ N.refuses nic.old }
+        ensures refusal { IfErr result (λ f. CanFail (N.refuses nic.new) f) }
     {
         for word in words {
             self.set(alloc, nic, word.row, word.word)?;
@@ -158,6 +173,8 @@ impl Queue {
         ensures made { OnOk result (AreMade self.now (N.made nic.old) (N.made nic.new) (asked side on)) }
         ensures failed { IfErr result (λ f. StopsBy f self.now (N.made nic.old) (N.made nic.new) (asked side on)) }
         ensures who { N.who nic.new ≡ N.who nic.old }
+        ensures refuses { N.refuses nic.new ≡ N.refuses nic.old }
+        ensures refusal { IfErr result (λ f. CanFail (N.refuses nic.new) f) }
     {
         self.set_enable(alloc, nic, side, enable_word(on))
     }
@@ -179,6 +196,8 @@ impl Queue {
             AreMade self.now (N.made nic.old) (N.made nic.new) (polled side on (polls - left))) }
         ensures failed { IfErr result (λ f. PollsEnd f self.now (N.made nic.old) (N.made nic.new) side on polls) }
         ensures who { N.who nic.new ≡ N.who nic.old }
+        ensures refuses { N.refuses nic.new ≡ N.refuses nic.old }
+        ensures refusal { IfErr result (λ f. CanFail (N.refuses nic.new) f) }
     {
         for misses in 0..polls {
             if self.is_on(alloc, nic, side)? == on {

@@ -4,7 +4,8 @@ ghost use Rattle.device_lock.specs.Pass.{call_of};
 ghost use Rattle.nic_device.specs.Answering.{may_answer};
 ghost use Rattle.pmd_seam.specs.Events.{is_step};
 ghost use Rattle.pmd_seam.specs.Made.{Adds, AddsSome, steps_of_queue};
-ghost use Rattle.pmd_seam.specs.Stepped.{StepsAndMakes, StopsStepping, AreStepped, with_calls, caller_of};
+ghost use Rattle.pmd_seam.specs.Refusals.{CanRefuse};
+ghost use Rattle.pmd_seam.specs.Stepped.{StepsAndMakes, StopsStepping, AreStepped, with_calls, caller_of, refusals_of};
 
 use crate::fault::without_event;
 use crate::nic::Nic;
@@ -25,6 +26,7 @@ pub struct ThroughLock<'a, R: Wait, const VFS: u8, const FIFO: u16> {
 }
 
 impl<'a, R: Wait, const VFS: u8, const FIFO: u16> Model for ThroughLock<'a, R, VFS, FIFO> {
+    ghost use Rattle.pmd_seam.specs.Refusals.{CanRefuse};
     ghost use Rattle.pmd_seam.specs.Stepped.{AtLock};
 
     ghost Value = { AtLock };
@@ -133,9 +135,13 @@ impl<'a, R: Wait, const VFS: u8, const FIFO: u16> Nic for ThroughLock<'a, R, VFS
 
     ghost who = { caller_of };
 
+    ghost refuses = { refusals_of };
+
     fn call(&mut self, alloc: Global, event: Event) -> Result<Reply, CallFault>
         ensures made { IfOk result (λ reply. Adds self.old.pass.calls self.new.pass.calls event reply) }
         ensures who { caller_of self.new ≡ caller_of self.old }
+        ensures refuses { refusals_of self.new ≡ refusals_of self.old }
+        ensures refusal { IfErr result (λ fault. CanRefuse (refusals_of self.new) fault) }
         ensures fits { IfOk result (λ reply. may_answer event reply ≡ true) }
         ensures refused { IfErr result (λ fault.
             (event_of fault ≡ event) × AddsSome self.old.pass.calls self.new.pass.calls) }

@@ -2,15 +2,16 @@
 use Rattle.std.proofs.Common.{◌≡◌, ℕ, false, List, Result, Ok, Err, IfErr, IfOk, ◌∙◌}
 use Rattle.pmd_seam.specs.DeviceLock.declared.entry.Call.{Call}
 use Rattle.pmd_seam.specs.declared.fault.PmdFault.{PmdFault}
-use Rattle.pmd_seam.specs.declared.fault.PmdFault.TheVariants.{DeviceFault}
+use Rattle.pmd_seam.specs.declared.fault.PmdFault.TheVariants as fault
 use Rattle.pmd_tx.specs.declared.answer.Reaped.{Reaped}
 use Rattle.pmd_tx.specs.Plays.{Plays, PlaysWith, FaultsBy, LooksLast}
 use Rattle.pmd_tx.specs.Sending.{Sender}
-use Rattle.pmd_tx.proofs.Playing.{all_both, faults_after}
+use Rattle.pmd_tx.proofs.Playing.{all_both, faults_after, asks_after}
 
-pub by_after : (fault : PmdFault) (block : ℕ) (a b d : List Call) (v w : Sender) → PlaysWith block a v b w
-    → FaultsBy fault block b w d → FaultsBy fault block a v d
-by_after DeviceFault block a b d v w plays f = faults_after block a b d v w plays f
+pub by_after : (f : PmdFault) (block : ℕ) (a b d : List Call) (v w : Sender) → PlaysWith block a v b w
+    → FaultsBy f block b w d → FaultsBy f block a v d
+by_after fault.DeviceFault block a b d v w plays f = faults_after block a b d v w plays f
+by_after (fault.Call refusal) block a b d v w plays f = asks_after block a b d v w plays f
 by_after other block a b d v w plays f = tt
 
 pub looks_after : (a b d : List Call) (v w x : Sender) → Plays a v b w → w.accepted ≡ v.accepted → LooksLast b w d x

@@ -13,7 +13,7 @@ use Rattle.pmd_tx.specs.Plays.{PlaysWith, FaultsBy}
 use Rattle.pmd_tx.specs.Sending.{Sender, Accepts, MayAccept, accepted_by}
 use Rattle.pmd_tx.specs.Sends.{IsLate, IsBack}
 use Rattle.pmd_tx.specs.Shown.{MayLend, sent_as, IsUnlent}
-use Rattle.pmd_tx.proofs.Playing.{plays_adds, plays_some, faults_at}
+use Rattle.pmd_tx.proofs.Playing.{plays_adds, plays_some, faults_at, asks_at}
 
 -- a packet that was padded may be accepted by lending its block
 may_accept : (v : Sender) (p : Packet) → MayLend v p → IsBlock p.buf → MayAccept v (sent_as p) p.buf
@@ -58,7 +58,10 @@ module _ (old new : List Call) (v : Sender) where
         faults_at p.buf.number old new v (Accepts (sent_as p)) (event.Lend p.buf) (reply.Twice back.buf)
         (may_accept v p may block)
         refl made refl
-    lend_faults other back failed = tt
+    lend_faults (fault.Call f) back (some, same) =
+        asks_at p.buf.number old new v (Accepts (sent_as p)) (event.Lend p.buf) (may_accept v p may block) refl refl
+        some
+    lend_faults other back failed = absurd failed
 
   pub unlent_late : (p : Packet) (f : PmdFault) (back : Packet) → IsUnlent f old new p back → IsLate f
   unlent_late p fault.DeviceFault back failed = tt

@@ -5,9 +5,10 @@ use Rattle.nic_device.specs.declared.event.Event.TheVariants as event
 use Rattle.nic_device.specs.declared.event.Reply.TheVariants as reply
 use Rattle.pmd_seam.specs.DeviceLock.declared.entry.Call.{Call}
 use Rattle.pmd_seam.specs.Accesses.{IsTaken, IsPoked, IsPeeked, IsWritten}
-use Rattle.pmd_tx.specs.Plays.{PlaysWith, Faults, LooksLast}
+use Rattle.pmd_seam.specs.Made.{AddsSome}
+use Rattle.pmd_tx.specs.Plays.{PlaysWith, AsksNext, Faults, LooksLast}
 use Rattle.pmd_tx.specs.Sending.{Sender, Asks, Advances, Looks, Reaps, IsOwn, asked, advanced, looked, reaped, is_sent, slot_at, descriptor_at}
-use Rattle.pmd_tx.proofs.Playing.{plays_adds, plays_none, faults_at}
+use Rattle.pmd_tx.proofs.Playing.{plays_adds, plays_none, faults_at, asks_at}
 
 module _ (block : ℕ) (old new : List Call) (v : Sender) where
   -- writing a descriptor
@@ -25,6 +26,9 @@ module _ (block : ℕ) (old new : List Call) (v : Sender) where
     pub ask_faults : IsPoked old new a bytes false → Faults block old v new
     ask_faults (inl made) = faults_at block old new v Asks (event.Poke16 a bytes) reply.NotLent own tt made refl
     ask_faults (inr made) = faults_at block old new v Asks (event.Poke16 a bytes) reply.Misaligned own tt made refl
+
+    pub ask_refused : AddsSome old new → AsksNext block old v new
+    ask_refused some = asks_at block old new v Asks (event.Poke16 a bytes) own refl tt some
 
   -- moving the tail on
 
@@ -49,6 +53,10 @@ module _ (block : ℕ) (old new : List Call) (v : Sender) where
         faults_at block old new v Advances (event.Write v.layout.port v.layout.tail word) (reply.Stray seen) tail_own
         tt made
         refl
+
+    pub tail_refused : AddsSome old new → AsksNext block old v new
+    tail_refused some =
+        asks_at block old new v Advances (event.Write v.layout.port v.layout.tail word) tail_own refl tt some
 
   -- looking at the oldest
 
@@ -90,6 +98,9 @@ module _ (block : ℕ) (old new : List Call) (v : Sender) where
     look_faults (inr made) =
         faults_at block old new v Looks (event.Peek16 (descriptor_at v.layout 0)) reply.Misaligned look_own tt made refl
 
+    pub look_refused : AddsSome old new → AsksNext block old v new
+    look_refused some = asks_at block old new v Looks (event.Peek16 (descriptor_at v.layout 0)) look_own refl tt some
+
   -- taking the oldest
 
   module _ (n : ℕ) (own : IsOwn v Reaps (event.Take n)) where
@@ -103,3 +114,6 @@ module _ (block : ℕ) (old new : List Call) (v : Sender) where
 
     pub take_faults : IsTaken old new n None → Faults block old v new
     take_faults made = faults_at block old new v Reaps (event.Take n) reply.NotLent own tt made refl
+
+    pub take_refused : AddsSome old new → AsksNext block old v new
+    take_refused some = asks_at block old new v Reaps (event.Take n) own refl tt some

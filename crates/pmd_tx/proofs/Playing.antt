@@ -8,7 +8,7 @@ use Rattle.pmd_seam.specs.DeviceLock.declared.entry.Call.{Call}
 use Rattle.pmd_seam.specs.DeviceLock.Pass.{call_of}
 use Rattle.pmd_seam.specs.Made.{Adds, AddsSome}
 use Rattle.pmd_seam.proofs.Steps.{steps_marked, steps_last, steps_both}
-use Rattle.pmd_tx.specs.Plays.{Plays, PlaysWith, AcceptsIn, AllAcceptIn, AllOwn, is_elsewhere, played_by, Faults}
+use Rattle.pmd_tx.specs.Plays.{Plays, PlaysWith, AcceptsIn, AllAcceptIn, AllOwn, is_elsewhere, played_by, AsksNext, Faults}
 use Rattle.pmd_tx.specs.Sending.{Sender, Move, Elsewhere, IsOwn, moved, is_healthy}
 
 abbrev pub elsewhere : List Call → List Move
@@ -147,4 +147,29 @@ faults_after block a b d v w plays f = record {
   accepts = f.accepts;
   adds = f.adds;
   sick = f.sick;
+}
+
+-- a call that was refused
+pub asks_at : (block : ℕ) (old new : List Call) (v : Sender) (m : Move) (e : Event Block) → IsOwn v m e
+    → is_elsewhere m ≡ false → AcceptsIn block m → AddsSome old new → AsksNext block old v new
+asks_at block old new v m e own mine accepts some = record {
+  before = v;
+  move = m;
+  event = e;
+  plays = plays_some block old new v some;
+  own = own;
+  mine = mine;
+  accepts = accepts;
+}
+
+pub asks_after : (block : ℕ) (a b d : List Call) (v w : Sender) → PlaysWith block a v b w → AsksNext block b w d
+    → AsksNext block a v d
+asks_after block a b d v w plays f = record {
+  before = f.before;
+  move = f.move;
+  event = f.event;
+  plays = plays_both block a b d v w f.before plays f.plays;
+  own = f.own;
+  mine = f.mine;
+  accepts = f.accepts;
 }

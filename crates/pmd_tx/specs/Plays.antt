@@ -8,7 +8,7 @@ use Rattle.nic_device.specs.declared.event.Reply.TheVariants as reply
 use Rattle.pmd_seam.specs.DeviceLock.declared.entry.Call.{Call}
 use Rattle.pmd_seam.specs.Made.{Adds, StepsWhere}
 use Rattle.pmd_seam.specs.declared.fault.PmdFault.{PmdFault}
-use Rattle.pmd_seam.specs.declared.fault.PmdFault.TheVariants.{DeviceFault}
+use Rattle.pmd_seam.specs.declared.fault.PmdFault.TheVariants as fault
 use Rattle.pmd_tx.specs.Sending.{Sender, Move, Accepts, Elsewhere, IsOwn, moved, is_healthy, is_sent, descriptor_at}
 
 -- the driver after these moves, with the replies of these calls: all that its code knows
@@ -80,7 +80,19 @@ pub record Faults (block : ℕ) (old : List Call) (v : Sender) (new : List Call)
   pub adds : Adds mid new event reply
   pub sick : is_healthy move reply ≡ false
 
--- where the device failed, so it is
+-- the event that was refused is a move that the driver may make next, after these calls. Each packet that was accepted
+-- up to there, or was to be, is in the block of this number
+pub record AsksNext (block : ℕ) (old : List Call) (v : Sender) (new : List Call) : Type 0 where
+  pub before : Sender
+  pub move : Move
+  pub event : Event Block
+  pub plays : PlaysWith block old v new before
+  pub own : IsOwn before move event
+  pub mine : is_elsewhere move ≡ false
+  pub accepts : AcceptsIn block move
+
+-- where the device failed, or a call was refused, so it is
 abbrev pub FaultsBy : PmdFault → ℕ → List Call → Sender → List Call → Type 0
-FaultsBy DeviceFault block old v new = Faults block old v new
-FaultsBy fault block old v new = ⊤
+FaultsBy fault.DeviceFault block old v new = Faults block old v new
+FaultsBy (fault.Call refusal) block old v new = AsksNext block old v new
+FaultsBy other block old v new = ⊤

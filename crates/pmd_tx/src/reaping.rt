@@ -5,6 +5,7 @@ ghost use Rattle.pmd_seam.specs.Home.{AreOut};
 ghost use Rattle.pmd_tx.specs.Plays.{PlaysWith, LooksLast, FaultsBy};
 ghost use Rattle.pmd_tx.specs.Sending.{packet_at, blocks_of, reaped};
 ghost use Rattle.pmd_tx.specs.Sends.{Frees, IsLate};
+ghost use Rattle.pmd_seam.specs.Refusals.{CanFail};
 
 use crate::answer::Reaped;
 use crate::ring::TransmitRing;
@@ -38,6 +39,8 @@ impl TransmitRing {
         ensures faults { (block : ℕ) → IfErr result (λ fault.
             FaultsBy fault block (N.made nic.old) self.old (N.made nic.new)) }
         ensures who { N.who nic.new ≡ N.who nic.old }
+        ensures refuses { N.refuses nic.new ≡ N.refuses nic.old }
+        ensures refusal { IfErr result (λ f. CanFail (N.refuses nic.new) f) }
     {
         match self.post_waiting(alloc, nic) {
             Ok(()) => self.reap_sent(alloc, nic, arena),
@@ -67,6 +70,8 @@ impl TransmitRing {
         ensures faults { (block : ℕ) → IfErr result (λ fault.
             FaultsBy fault block (N.made nic.old) self.old (N.made nic.new)) }
         ensures who { N.who nic.new ≡ N.who nic.old }
+        ensures refuses { N.refuses nic.new ≡ N.refuses nic.old }
+        ensures refusal { IfErr result (λ f. CanFail (N.refuses nic.new) f) }
     {
         let count = self.count();
         for freed in 0..count {
@@ -105,6 +110,8 @@ impl TransmitRing {
         ensures faults { (block : ℕ) → IfErr result (λ fault.
             FaultsBy fault block (N.made nic.old) self.old (N.made nic.new)) }
         ensures who { N.who nic.new ≡ N.who nic.old }
+        ensures refuses { N.refuses nic.new ≡ N.refuses nic.old }
+        ensures refusal { IfErr result (λ f. CanFail (N.refuses nic.new) f) }
     {
         match self.look(alloc, nic) {
             Ok(true) => match self.free_oldest(alloc, nic, arena) {
@@ -135,6 +142,8 @@ impl TransmitRing {
         ensures faults { (block : ℕ) → IfErr result (λ fault.
             FaultsBy fault block (N.made nic.old) self.old (N.made nic.new)) }
         ensures who { N.who nic.new ≡ N.who nic.old }
+        ensures refuses { N.refuses nic.new ≡ N.refuses nic.old }
+        ensures refusal { IfErr result (λ f. CanFail (N.refuses nic.new) f) }
     {
         match self.take_oldest(alloc, nic) {
             Ok(buf) => {

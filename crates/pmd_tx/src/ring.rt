@@ -12,6 +12,7 @@ ghost use Rattle.pmd_seam.specs.Packet.{Kept};
 ghost use Rattle.pmd_tx.specs.Sends.{is_full, forgotten, IsLate, IsBack};
 ghost use Rattle.pmd_tx.specs.Stages.{IsAt};
 ghost use Rattle.pmd_tx.specs.Shown.{MayLend, sent_as, IsUnlent};
+ghost use Rattle.pmd_seam.specs.Refusals.{CanFail, CanRefuse};
 
 use nic_device::{BLOCK_BYTES, Buf, Port, data_descriptor_word, is_sent, of_halves, second_half};
 use pmd_seam::{
@@ -241,6 +242,8 @@ impl TransmitRing {
         ensures faults { IfErr result (λ refused.
             FaultsBy refused.0 packet.buf.number (N.made nic.old) self.old (N.made nic.new)) }
         ensures who { N.who nic.new ≡ N.who nic.old }
+        ensures refuses { N.refuses nic.new ≡ N.refuses nic.old }
+        ensures refusal { IfErr result (λ refused. CanFail (N.refuses nic.new) refused.0) }
     {
         let _whole = packet.buf.bytes();
         self.lend_packet(alloc, nic, packet)
@@ -261,6 +264,8 @@ impl TransmitRing {
         ensures failed { IfErr result (λ refused.
             IsUnlent refused.0 (N.made nic.old) (N.made nic.new) packet refused.1) }
         ensures who { N.who nic.new ≡ N.who nic.old }
+        ensures refuses { N.refuses nic.new ≡ N.refuses nic.old }
+        ensures refusal { IfErr result (λ refused. CanFail (N.refuses nic.new) refused.0) }
     {
         let no_memory = PmdFault::Call(CallFault::OutOfMemory(()));
         if self.blocks.reserve(1).is_err() {
@@ -312,6 +317,8 @@ impl TransmitRing {
         ensures faults { (block : ℕ) → IfErr result (λ fault.
             FaultsBy fault block (N.made nic.old) self.old (N.made nic.new)) }
         ensures who { N.who nic.new ≡ N.who nic.old }
+        ensures refuses { N.refuses nic.new ≡ N.refuses nic.old }
+        ensures refusal { IfErr result (λ f. CanFail (N.refuses nic.new) f) }
     {
         let address = self.waiting_descriptor();
         let bytes = self.asking();
@@ -367,6 +374,8 @@ impl TransmitRing {
         ensures faults { (block : ℕ) → IfErr result (λ fault.
             FaultsBy fault block (N.made nic.old) self.old (N.made nic.new)) }
         ensures who { N.who nic.new ≡ N.who nic.old }
+        ensures refuses { N.refuses nic.new ≡ N.refuses nic.old }
+        ensures refusal { IfErr result (λ f. CanFail (N.refuses nic.new) f) }
     {
         let word = self.next_tail();
         match self.write_tail(alloc, nic, word) {
@@ -397,6 +406,8 @@ impl TransmitRing {
         ensures made { IfOk result (λ known.
             IsWritten (N.made nic.old) (N.made nic.new) self.now.layout.port self.now.layout.tail word known) }
         ensures who { N.who nic.new ≡ N.who nic.old }
+        ensures refuses { N.refuses nic.new ≡ N.refuses nic.old }
+        ensures refusal { IfErr result (λ refusal. CanRefuse (N.refuses nic.new) refusal) }
         ensures refused { OnErr result (AddsSome (N.made nic.old) (N.made nic.new)) }
     {
         write(alloc, nic, self.port, self.tail, word)
@@ -426,6 +437,8 @@ impl TransmitRing {
         ensures faults { (block : ℕ) → IfErr result (λ fault.
             FaultsBy fault block (N.made nic.old) self.old (N.made nic.new)) }
         ensures who { N.who nic.new ≡ N.who nic.old }
+        ensures refuses { N.refuses nic.new ≡ N.refuses nic.old }
+        ensures refusal { IfErr result (λ f. CanFail (N.refuses nic.new) f) }
     {
         let address = self.oldest_descriptor();
         match peek(alloc, nic, address) {
@@ -470,6 +483,8 @@ impl TransmitRing {
         ensures faults { (block : ℕ) → IfErr result (λ fault.
             FaultsBy fault block (N.made nic.old) self.old (N.made nic.new)) }
         ensures who { N.who nic.new ≡ N.who nic.old }
+        ensures refuses { N.refuses nic.new ≡ N.refuses nic.old }
+        ensures refusal { IfErr result (λ f. CanFail (N.refuses nic.new) f) }
     {
         let block = self.oldest_block();
         match take(alloc, nic, block) {

@@ -5,6 +5,7 @@ ghost use Rattle.pmd_tx.specs.Plays.{PlaysWith, FaultsBy};
 ghost use Rattle.pmd_tx.specs.Sending.{accepted_by};
 ghost use Rattle.pmd_tx.specs.Sends.{gate_of, goes_home, outgoing_of, returned, IsAnswer, IsFullWhereTold, IsShut, IsTried, IsAccepted, IsNoneAccepted, IsBack, IsLate};
 ghost use Rattle.pmd_tx.specs.Shown.{MaySend};
+ghost use Rattle.pmd_seam.specs.Refusals.{CanFail};
 
 use crate::answer::{Gate, TxAnswer, TxFault};
 use crate::padding::{pad, start_of, unpad};
@@ -55,6 +56,8 @@ impl TransmitRing {
             FaultsBy failed.fault packet.buf.number (N.made nic.old) self.old (N.made nic.new)) }
         ensures layout { self.new.layout ≡ self.old.layout }
         ensures who { N.who nic.new ≡ N.who nic.old }
+        ensures refuses { N.refuses nic.new ≡ N.refuses nic.old }
+        ensures refusal { IfErr result (λ failed. CanFail (N.refuses nic.new) failed.fault) }
     {
         match self.gate(arena, elsewhere, &packet) {
             Gate::Refused(fault) => Err(TxFault {
@@ -101,6 +104,8 @@ impl TransmitRing {
             FaultsBy failed.fault packet.buf.number (N.made nic.old) self.old (N.made nic.new)) }
         ensures layout { self.new.layout ≡ self.old.layout }
         ensures who { N.who nic.new ≡ N.who nic.old }
+        ensures refuses { N.refuses nic.new ≡ N.refuses nic.old }
+        ensures refusal { IfErr result (λ failed. CanFail (N.refuses nic.new) failed.fault) }
     {
         match self.post_waiting(alloc, nic) {
             Ok(()) => self.accept_and_post(alloc, nic, packet),
@@ -130,6 +135,8 @@ impl TransmitRing {
             FaultsBy failed.fault packet.buf.number (N.made nic.old) self.old (N.made nic.new)) }
         ensures layout { self.new.layout ≡ self.old.layout }
         ensures who { N.who nic.new ≡ N.who nic.old }
+        ensures refuses { N.refuses nic.new ≡ N.refuses nic.old }
+        ensures refusal { IfErr result (λ failed. CanFail (N.refuses nic.new) failed.fault) }
     {
         match self.accept_padded(alloc, nic, packet) {
             Ok(()) => self.post_accepted(alloc, nic),
@@ -152,6 +159,8 @@ impl TransmitRing {
             FaultsBy failed.fault block (N.made nic.old) self.old (N.made nic.new)) }
         ensures layout { self.new.layout ≡ self.old.layout }
         ensures who { N.who nic.new ≡ N.who nic.old }
+        ensures refuses { N.refuses nic.new ≡ N.refuses nic.old }
+        ensures refusal { IfErr result (λ failed. CanFail (N.refuses nic.new) failed.fault) }
     {
         match self.post_waiting(alloc, nic) {
             Ok(()) => Ok(TxAnswer::Taken),
@@ -179,6 +188,8 @@ impl TransmitRing {
         ensures faults { IfErr result (λ refused.
             FaultsBy refused.0 packet.buf.number (N.made nic.old) self.old (N.made nic.new)) }
         ensures who { N.who nic.new ≡ N.who nic.old }
+        ensures refuses { N.refuses nic.new ≡ N.refuses nic.old }
+        ensures refusal { IfErr result (λ refused. CanFail (N.refuses nic.new) refused.0) }
     {
         let start = start_of(&packet);
         let len = packet.len;
@@ -208,6 +219,8 @@ impl TransmitRing {
         ensures faults { (block : ℕ) → IfErr result (λ fault.
             FaultsBy fault block (N.made nic.old) self.old (N.made nic.new)) }
         ensures who { N.who nic.new ≡ N.who nic.old }
+        ensures refuses { N.refuses nic.new ≡ N.refuses nic.old }
+        ensures refusal { IfErr result (λ f. CanFail (N.refuses nic.new) f) }
     {
         match self.stage() {
             Stage::Settled => Ok(()),
@@ -227,6 +240,8 @@ impl TransmitRing {
         ensures faults { (block : ℕ) → IfErr result (λ fault.
             FaultsBy fault block (N.made nic.old) self.old (N.made nic.new)) }
         ensures who { N.who nic.new ≡ N.who nic.old }
+        ensures refuses { N.refuses nic.new ≡ N.refuses nic.old }
+        ensures refusal { IfErr result (λ f. CanFail (N.refuses nic.new) f) }
     {
         match self.ask(alloc, nic) {
             Ok(()) => self.advance(alloc, nic),

@@ -177,3 +177,14 @@ returns-in-Err-go_on-clause-whole g c =
     (filled_all _ _ _ _ _ _ _ _ _ _ _ _
     c.in-Ok.ensures.ready c.in-Ok-transmit_ring.ensures.ready c.go_on.ensures.keeps))
     c.half_started-in-Err-go_on.ensures.rest
+
+pub returns-in-Err-clause-refusal : goal.returns-in-Err-clause-refusal
+returns-in-Err-clause-refusal g c = rw c.at_home.ensures.fault c.in-Err.ensures.refusal
+
+pub returns-in-Err-transmit_ring-clause-refusal : goal.returns-in-Err-transmit_ring-clause-refusal
+returns-in-Err-transmit_ring-clause-refusal g c =
+    rw c.half_started.ensures.fault c.in-Err-transmit_ring.ensures.refusal
+
+pub returns-in-Err-go_on-clause-refusal : goal.returns-in-Err-go_on-clause-refusal
+returns-in-Err-go_on-clause-refusal g c =
+    rw c.half_started-in-Err-go_on.ensures.fault c.in-Err-go_on.ensures.refusal

@@ -6,3 +6,4 @@ abbrev pub invariant-loop-setting : goal.invariant-loop-setting
 invariant-loop-setting g l =
     (g.N.Nic.who l.nic ≡ g.N.Nic.who l.fn.nic)
     × AreSet (g.N.Nic.made l.fn.nic) (g.N.Nic.made l.nic) (take l.setting-index l.settings)
+    × (g.N.Nic.refuses l.nic ≡ g.N.Nic.refuses l.fn.nic)

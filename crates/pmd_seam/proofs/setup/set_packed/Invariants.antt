@@ -6,3 +6,4 @@ abbrev pub invariant-loop-index : goal.invariant-loop-index
 invariant-loop-index g l =
     (g.N.Nic.who l.nic ≡ g.N.Nic.who l.fn.nic)
     × AreSet (g.N.Nic.made l.fn.nic) (g.N.Nic.made l.nic) (packed l.row l.bytes l.index)
+    × (g.N.Nic.refuses l.nic ≡ g.N.Nic.refuses l.fn.nic)

@@ -25,3 +25,6 @@ returns-in-Err-clause-accepted g c = home_accepted _ _ c.at_home.ensures.rest
 pub returns-in-Ok-clause-accepted : goal.returns-in-Ok-clause-accepted
 returns-in-Ok-clause-accepted g c =
     err_later c.bring_up.result (λ e stops. stops_accepted _ _ _ _ _ e stops) c.bring_up.ensures.stops
+
+pub returns-in-Err-clause-refusal : goal.returns-in-Err-clause-refusal
+returns-in-Err-clause-refusal g c = rw c.at_home.ensures.fault (c.in-Err.ensures.refusal _)

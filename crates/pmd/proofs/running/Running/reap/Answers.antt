@@ -51,4 +51,6 @@ returns g c =
       };
       blocks = reaped_kept q s some.0 some.1 (ap (λ (l : Layout). l.ring) e.layout) refl c.self.invariant;
       who = e.who;
+      refuses = e.refuses;
+      refusal = e.refusal;
     })

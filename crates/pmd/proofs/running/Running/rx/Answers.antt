@@ -42,4 +42,6 @@ returns g c =
       home = received_goes c.receive.result q s c.self.invariant e.keeps refl;
       blocks = received_kept q s _ e.keeps refl;
       who = e.who;
+      refuses = e.refuses;
+      refusal = e.refusal;
     })

@@ -57,4 +57,6 @@ returns g c =
       };
       blocks = sent_kept q s p c.send.result answer e.accepted e.kept e.back e.layout (refl, refl);
       who = e.who;
+      refuses = e.refuses;
+      refusal = e.refusal;
     })

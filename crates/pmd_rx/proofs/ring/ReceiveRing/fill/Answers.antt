@@ -13,6 +13,7 @@ use Rattle.pmd_rx.proofs.ring.ReceiveRing.fill.Goals as goal
 pub loop-count-init : goal.loop-count-init
 loop-count-init g c = record {
   who = refl;
+  refuses = refl;
   plays = plays_none c.args.arena.now (g.N.Nic.made c.args.nic.now) c.args.self.now;
   posts = posts_none c.args.arena.now c.args.self.now;
   keeps = keeps_none c.args.arena.now c.args.self.now;
@@ -37,6 +38,7 @@ post-requires-clause-home g c =
 pub loop-count-preserved : goal.loop-count-preserved
 loop-count-preserved g c = record {
   who = c.post.ensures.who ∙ c.loop-count.invariant.who;
+  refuses = c.post.ensures.refuses ∙ c.loop-count.invariant.refuses;
   plays = posts_then c.loop-count._count c.args.arena.now c.loop-count.arena (g.N.Nic.made c.args.nic.now)
       (g.N.Nic.made c.loop-count.nic) (g.N.Nic.made c.post.new.nic) c.args.self.now c.loop-count.self c.post.new.self
       c.loop-count.invariant.plays c.loop-count.invariant.posts c.post.ensures.plays;
@@ -107,6 +109,9 @@ returns-in_err-post-clause-keeps g c =
 pub returns-in_err-post-clause-who : goal.returns-in_err-post-clause-who
 returns-in_err-post-clause-who g c = c.post.ensures.who ∙ c.loop-count.invariant.who
 
+pub returns-in_err-post-clause-refuses : goal.returns-in_err-post-clause-refuses
+returns-in_err-post-clause-refuses g c = c.post.ensures.refuses ∙ c.loop-count.invariant.refuses
+
 pub returns-clause-plays : goal.returns-clause-plays
 returns-clause-plays g c = c.loop-count.invariant.plays
 
@@ -134,3 +139,6 @@ returns-clause-keeps g c = c.loop-count.invariant.keeps
 
 pub returns-clause-who : goal.returns-clause-who
 returns-clause-who g c = c.loop-count.invariant.who
+
+pub returns-clause-refuses : goal.returns-clause-refuses
+returns-clause-refuses g c = c.loop-count.invariant.refuses

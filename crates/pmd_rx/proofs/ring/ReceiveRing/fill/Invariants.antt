@@ -7,6 +7,7 @@ use Rattle.pmd_rx.proofs.ring.ReceiveRing.fill.Given as goal
 abbrev pub invariant-loop-count : goal.invariant-loop-count
 invariant-loop-count g l = record {
   who : g.N.Nic.who l.nic ≡ g.N.Nic.who l.fn.nic;
+  refuses : g.N.Nic.refuses l.nic ≡ g.N.Nic.refuses l.fn.nic;
   plays : PlaysFrom l.fn.arena (g.N.Nic.made l.fn.nic) l.fn.self (g.N.Nic.made l.nic) l.self;
   posts : PostsSome l._count l.fn.arena l.fn.self l.arena l.self;
   keeps : Keeps l.fn.arena l.fn.self l.arena l.self [];

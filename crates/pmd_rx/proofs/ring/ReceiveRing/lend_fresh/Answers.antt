@@ -1,6 +1,6 @@
 use Rattle.std.proofs.Common.{◌≡◌, ℕ, subst}
 use Rattle.pmd_rx.specs.Receive.{lent_one}
-use Rattle.pmd_rx.proofs.Own.{lend_plays, lend_misses, lend_wrong}
+use Rattle.pmd_rx.proofs.Own.{lend_asks, lend_plays, lend_misses, lend_wrong}
 use Rattle.pmd_rx.proofs.Playing.{plays_some}
 use Rattle.pmd_rx.proofs.ring.ReceiveRing.lend_fresh.Goals as goal
 
@@ -28,3 +28,7 @@ returns-in-Ok-Some-clause-fault g c arena free =
     lend_wrong arena (g.N.Nic.made c.args.nic.now) (g.N.Nic.made c.lend.new.nic) c.args.self.now c.args.buf
     c.in-Ok-Some.buf
     c.requires.stage c.requires.fresh free (rw c.in-Ok-Some.field-0-is at c.in-Ok-Some.ensures.made)
+
+pub returns-in-Err-clause-fault : goal.returns-in-Err-clause-fault
+returns-in-Err-clause-fault g c arena free =
+    lend_asks arena c.args.self.now c.args.buf c.requires.stage c.requires.fresh free

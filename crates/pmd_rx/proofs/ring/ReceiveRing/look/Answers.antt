@@ -3,7 +3,7 @@ use Rattle.pmd_seam.specs.Accesses.{IsPeeked}
 use Rattle.pmd_rx.specs.Receive.{looked}
 use Rattle.pmd_rx.proofs.Failing.{ok_same}
 use Rattle.pmd_rx.proofs.Keeping.{keeps_none, keeps_to, looked_keeps}
-use Rattle.pmd_rx.proofs.Looking.{look_plays, look_misses, look_wrong, look_wrong_none}
+use Rattle.pmd_rx.proofs.Looking.{look_asks, look_plays, look_misses, look_wrong, look_wrong_none}
 use Rattle.pmd_rx.proofs.Playing.{plays_some}
 use Rattle.pmd_rx.proofs.ring.ReceiveRing.look.Goals as goal
 
@@ -45,6 +45,9 @@ returns-in-Ok-None-clause-wrong g c is arena =
     let at : ℕ → Type 0 = λ a. IsPeeked old new a None in
     look_wrong_none arena old new c.args.self.now c.requires.stage c.requires.some
     (subst at c.next_descriptor-address.ensures (rw c.in-Ok-None.field-0-is at c.in-Ok-None.ensures.made))
+
+pub returns-in-Err-clause-fault : goal.returns-in-Err-clause-fault
+returns-in-Err-clause-fault g c arena = look_asks arena c.args.self.now c.requires.stage c.requires.some
 
 pub returns-in-Ok-Some-clause-keeps : goal.returns-in-Ok-Some-clause-keeps
 returns-in-Ok-Some-clause-keeps g c a =

@@ -2,8 +2,8 @@ use Rattle.std.proofs.Common.{[], Ok, ap, sym, subst}
 use Rattle.pmd_rx.specs.Receive.{Receive}
 use Rattle.pmd_rx.specs.Wrong.{PacketWaits}
 use Rattle.pmd_rx.specs.declared.receive.Look.{Look}
-use Rattle.pmd_rx.proofs.Failing.{fails_behind, fails_of, refused_fault, err_same}
-use Rattle.pmd_rx.proofs.Handing.{seen_waits, refused_never}
+use Rattle.pmd_rx.proofs.Failing.{fails_behind, fails_of, no_short, err_same}
+use Rattle.pmd_rx.proofs.Handing.{seen_waits}
 use Rattle.pmd_rx.proofs.Keeping.{keeps_both}
 use Rattle.pmd_rx.proofs.Playing.{plays_both}
 use Rattle.pmd_rx.proofs.ring.ReceiveRing.look_and_take.Goals as goal
@@ -25,7 +25,7 @@ returns-in-Err-clause-fails g c =
     let old = g.N.Nic.made c.args.nic.now in
     let new = g.N.Nic.made c.look.new.nic in
     fails_of c.in-Err.fault old new c.args.arena.now c.args.arena.now c.args.self.now c.look.new.self
-    (refused_fault c.in-Err.fault c.args.arena.now old new c.args.self.now c.look.new.self c.in-Err.ensures.refused)
+    (c.in-Err.ensures.fault c.args.arena.now)
 
 pub returns-in-Ok-Packet-clause-waits : goal.returns-in-Ok-Packet-clause-waits
 returns-in-Ok-Packet-clause-waits g c short =
@@ -35,7 +35,9 @@ returns-in-Ok-Packet-clause-waits g c short =
 
 pub returns-in-Err-clause-waits : goal.returns-in-Err-clause-waits
 returns-in-Err-clause-waits g c short =
-    absurd (refused_never c.in-Err.fault c.in-Err.ensures.refused (err_same short))
+    absurd
+    (no_short c.in-Err.fault c.args.arena.now (g.N.Nic.made c.args.nic.now) (g.N.Nic.made c.look.new.nic)
+    c.args.self.now c.look.new.self (c.in-Err.ensures.fault c.args.arena.now) (err_same short))
 
 pub returns-in-Ok-Packet-clause-keeps : goal.returns-in-Ok-Packet-clause-keeps
 returns-in-Ok-Packet-clause-keeps g c a =

@@ -1,4 +1,4 @@
-use Rattle.pmd_rx.proofs.Own.{name_plays, name_misses, name_wrong}
+use Rattle.pmd_rx.proofs.Own.{name_asks, name_plays, name_misses, name_wrong}
 use Rattle.pmd_rx.proofs.Playing.{plays_some}
 use Rattle.pmd_rx.proofs.ring.ReceiveRing.name_fresh.Goals as goal
 
@@ -24,3 +24,8 @@ returns-in-Ok-false-clause-fault g c arena =
     name_wrong arena (g.N.Nic.made c.args.nic.now) (g.N.Nic.made c.poke.new.nic) c.args.self.now
     c.vacant_descriptor-address.result c.fresh_descriptor-bytes.result c.requires c.vacant_descriptor-address.ensures
     c.fresh_descriptor-bytes.ensures (rw c.in-Ok-false.field-0-test at c.in-Ok-false.ensures.made)
+
+pub returns-in-Err-clause-fault : goal.returns-in-Err-clause-fault
+returns-in-Err-clause-fault g c arena =
+    name_asks arena c.args.self.now c.vacant_descriptor-address.result c.fresh_descriptor-bytes.result c.requires
+    c.vacant_descriptor-address.ensures c.fresh_descriptor-bytes.ensures

@@ -1,7 +1,7 @@
 use Rattle.std.proofs.Common.{[], ◌∙◌}
 use Rattle.pmd_rx.specs.Receive.{took}
 use Rattle.pmd_rx.proofs.Keeping.{keeps_none, keeps_to, took_keeps}
-use Rattle.pmd_rx.proofs.Own.{take_plays, take_misses, take_wrong}
+use Rattle.pmd_rx.proofs.Own.{take_asks, take_plays, take_misses, take_wrong}
 use Rattle.pmd_rx.proofs.Playing.{plays_some}
 use Rattle.pmd_rx.proofs.ring.ReceiveRing.take_packet.Goals as goal
 
@@ -27,6 +27,10 @@ returns-in-Ok-None-clause-fault g c arena =
     take_wrong arena (g.N.Nic.made c.args.nic.now) (g.N.Nic.made c.take.new.nic) c.args.self.now
     c.next_block-block.result
     c.requires.stage c.next_block-block.ensures (rw c.in-Ok-None.field-0-is at c.in-Ok-None.ensures.made)
+
+pub returns-in-Err-clause-fault : goal.returns-in-Err-clause-fault
+returns-in-Err-clause-fault g c arena =
+    take_asks arena c.args.self.now c.next_block-block.result c.requires.stage c.next_block-block.ensures
 
 pub returns-in-Ok-Some-clause-keeps : goal.returns-in-Ok-Some-clause-keeps
 returns-in-Ok-Some-clause-keeps g c a =

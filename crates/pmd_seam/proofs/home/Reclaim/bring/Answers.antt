@@ -26,6 +26,7 @@ returns-in_err-bring_one-clause-stopped g c =
       c.in_err-bring_one.ensures.refused,
       c.in_err-bring_one.ensures.same.1,
       c.in_err-bring_one.ensures.same.0,
+      omega (arith, c.loop-count.invariant.2, c.loop-count-test.true, c.waiting-count-end.ensures),
     ) in
     on_err _ stopped
 
@@ -47,6 +48,12 @@ returns-clause-who g c = c.loop-count.invariant.0
 pub returns-in_err-bring_one-clause-who : goal.returns-in_err-bring_one-clause-who
 returns-in_err-bring_one-clause-who g c = c.bring_one.ensures.who ∙ c.loop-count.invariant.0
 
+pub returns-clause-refuses : goal.returns-clause-refuses
+returns-clause-refuses g c = c.loop-count.invariant.4
+
+pub returns-in_err-bring_one-clause-refuses : goal.returns-in_err-bring_one-clause-refuses
+returns-in_err-bring_one-clause-refuses g c = c.bring_one.ensures.refuses ∙ c.loop-count.invariant.4
+
 pub loop-count-preserved : goal.loop-count-preserved
 loop-count-preserved g c =
     let s : Bringing =
@@ -59,4 +66,5 @@ loop-count-preserved g c =
       c.bring_one.ensures.out,
       omega (arith, c.loop-count.invariant.2, one_less m t c.in_ok-bring_one.ensures.one),
       brings_more c.loop-count._count s m t c.loop-count.invariant.3 c.in_ok-bring_one.ensures.one,
+      c.bring_one.ensures.refuses ∙ c.loop-count.invariant.4,
     )

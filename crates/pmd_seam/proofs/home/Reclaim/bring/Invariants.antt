@@ -8,3 +8,4 @@ invariant-loop-count g l =
     × (length l.self.lent + l._count ≡ length l.fn.self.lent)
     × Brings l._count (record { made = g.N.Nic.made l.fn.nic; arena = l.fn.arena; way = l.fn.self })
     (record { made = g.N.Nic.made l.nic; arena = l.arena; way = l.self })
+    × (g.N.Nic.refuses l.nic ≡ g.N.Nic.refuses l.fn.nic)

@@ -14,4 +14,5 @@ loop-misses-preserved g c = (
   missed_next c.args.self.now (g.N.Nic.made c.args.nic.now) (g.N.Nic.made c.loop-misses.nic)
       (g.N.Nic.made c.is_on.new.nic) c.args.side c.args.on _ c.loop-misses.misses c.loop-misses.invariant.1
       c.in_ok-is_on.ensures.seen c.if-branch-on.false,
+  c.is_on.ensures.refuses ∙ c.loop-misses.invariant.2,
 )

@@ -7,3 +7,4 @@ abbrev pub invariant-loop-misses : goal.invariant-loop-misses
 invariant-loop-misses g l =
     (g.N.Nic.who l.nic ≡ g.N.Nic.who l.fn.nic)
     × AreMade l.self (g.N.Nic.made l.fn.nic) (g.N.Nic.made l.nic) (missed l.side l.on l.misses)
+    × (g.N.Nic.refuses l.nic ≡ g.N.Nic.refuses l.fn.nic)

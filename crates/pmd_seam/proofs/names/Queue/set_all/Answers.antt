@@ -17,4 +17,5 @@ loop-word-preserved g c = (
   words_next c.args.self.now (g.N.Nic.made c.args.nic.now) (g.N.Nic.made c.loop-word.nic)
       (g.N.Nic.made c.set.new.nic) c.args.words.now c.loop-word.word-index _ c.loop-word-test.true
       c.loop-word.invariant.1 c.in_ok-set.ensures.set,
+  c.set.ensures.refuses ∙ c.loop-word.invariant.2,
 )

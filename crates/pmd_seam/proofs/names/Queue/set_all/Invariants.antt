@@ -7,3 +7,4 @@ abbrev pub invariant-loop-word : goal.invariant-loop-word
 invariant-loop-word g l =
     (g.N.Nic.who l.nic ≡ g.N.Nic.who l.fn.nic)
     × AreMade l.self (g.N.Nic.made l.fn.nic) (g.N.Nic.made l.nic) (map set_of (take l.word-index l.words))
+    × (g.N.Nic.refuses l.nic ≡ g.N.Nic.refuses l.fn.nic)

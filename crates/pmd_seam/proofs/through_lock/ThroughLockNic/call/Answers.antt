@@ -1,4 +1,5 @@
 use Rattle.pmd_seam.proofs.LockStepping.{made_adds, refused_adds}
+use Rattle.pmd_seam.proofs.Refusals.{any_refuses}
 use Rattle.pmd_seam.proofs.through_lock.ThroughLockNic.call.Goals as goal
 
 pub returns-clause-made : goal.returns-clause-made
@@ -9,3 +10,6 @@ pub returns-clause-refused : goal.returns-clause-refused
 returns-clause-refused g c =
     refused_adds c.step_and_make.result c.args.event c.args.self.now c.step_and_make.new.self
     c.step_and_make.ensures.back c.step_and_make.ensures.amid
+
+pub returns-clause-refusal : goal.returns-clause-refusal
+returns-clause-refusal g c = any_refuses c.step_and_make.result

@@ -1,4 +1,4 @@
-use Rattle.pmd_tx.proofs.Own.{tail_plays, tail_misses, tail_faults}
+use Rattle.pmd_tx.proofs.Own.{tail_plays, tail_misses, tail_faults, tail_refused}
 use Rattle.pmd_tx.proofs.Playing.{plays_some}
 use Rattle.pmd_tx.proofs.ring.TransmitRing.advance.Goals as goal
 
@@ -24,3 +24,8 @@ pub returns-in-Err-clause-plays : goal.returns-in-Err-clause-plays
 returns-in-Err-clause-plays g c block =
     plays_some block (g.N.Nic.made c.args.nic.now) (g.N.Nic.made c.write_tail.new.nic) c.args.self.now
     c.in-Err.ensures.refused
+
+pub returns-in-Err-clause-faults : goal.returns-in-Err-clause-faults
+returns-in-Err-clause-faults g c block =
+    tail_refused block (g.N.Nic.made c.args.nic.now) (g.N.Nic.made c.write_tail.new.nic) c.args.self.now
+    c.next_tail-word.result c.requires c.next_tail-word.ensures c.in-Err.ensures.refused

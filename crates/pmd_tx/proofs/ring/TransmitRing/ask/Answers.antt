@@ -1,4 +1,4 @@
-use Rattle.pmd_tx.proofs.Own.{ask_plays, ask_misses, ask_faults}
+use Rattle.pmd_tx.proofs.Own.{ask_plays, ask_misses, ask_faults, ask_refused}
 use Rattle.pmd_tx.proofs.Playing.{plays_some}
 use Rattle.pmd_tx.proofs.ring.TransmitRing.ask.Goals as goal
 
@@ -27,3 +27,9 @@ pub returns-in-Err-clause-plays : goal.returns-in-Err-clause-plays
 returns-in-Err-clause-plays g c block =
     plays_some block (g.N.Nic.made c.args.nic.now) (g.N.Nic.made c.poke.new.nic) c.args.self.now
     c.in-Err.ensures.refused
+
+pub returns-in-Err-clause-faults : goal.returns-in-Err-clause-faults
+returns-in-Err-clause-faults g c block =
+    ask_refused block (g.N.Nic.made c.args.nic.now) (g.N.Nic.made c.poke.new.nic) c.args.self.now
+    c.waiting_descriptor-address.result c.asking-bytes.result
+    (c.requires, c.waiting_descriptor-address.ensures, c.asking-bytes.ensures) c.in-Err.ensures.refused

@@ -1,7 +1,7 @@
 use Rattle.std.proofs.Common.{◌≡◌, ℕ, Bool, false, Some, None, subst, ap, sym, ◌∙◌}
 use Rattle.pmd_seam.specs.Accesses.{IsPeeked}
 use Rattle.pmd_tx.specs.Sending.{is_sent}
-use Rattle.pmd_tx.proofs.Own.{look_plays, look_waits, look_misses, look_faults}
+use Rattle.pmd_tx.proofs.Own.{look_plays, look_waits, look_misses, look_faults, look_refused}
 use Rattle.pmd_tx.proofs.Playing.{plays_some}
 use Rattle.pmd_tx.proofs.ring.TransmitRing.look.Goals as goal
 
@@ -47,4 +47,9 @@ returns-in-Ok-None-clause-faults g c block =
 pub returns-in-Err-clause-plays : goal.returns-in-Err-clause-plays
 returns-in-Err-clause-plays g c block =
     plays_some block (g.N.Nic.made c.args.nic.now) (g.N.Nic.made c.peek.new.nic) c.args.self.now
+    c.in-Err.ensures.refused
+
+pub returns-in-Err-clause-faults : goal.returns-in-Err-clause-faults
+returns-in-Err-clause-faults g c block =
+    look_refused block (g.N.Nic.made c.args.nic.now) (g.N.Nic.made c.peek.new.nic) c.args.self.now c.requires
     c.in-Err.ensures.refused

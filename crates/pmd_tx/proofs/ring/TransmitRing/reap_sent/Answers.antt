@@ -8,6 +8,7 @@ pub loop-freed-init : goal.loop-freed-init
 loop-freed-init g c = (
   reaped_none (g.N.Nic.made c.args.nic.now) c.args.self.now c.args.arena.now c.requires.settled c.requires.home,
   refl,
+  refl,
 )
 
 pub loop-freed-preserved : goal.loop-freed-preserved
@@ -17,6 +18,7 @@ loop-freed-preserved g c = (
       (rw c.in-Ok-true.field-0-test at c.in-Ok-true.ensures.posted)
       (rw c.in-Ok-true.field-0-test at c.in-Ok-true.ensures.freed) c.reap_oldest.ensures.out,
   c.reap_oldest.ensures.who ∙ c.loop-freed.invariant.1,
+  c.reap_oldest.ensures.refuses ∙ c.loop-freed.invariant.2,
 )
 
 pub returns-in-Ok-false-clause-plays : goal.returns-in-Ok-false-clause-plays

@@ -1,4 +1,4 @@
-use Rattle.pmd_tx.proofs.Own.{take_plays, take_misses, take_faults}
+use Rattle.pmd_tx.proofs.Own.{take_plays, take_misses, take_faults, take_refused}
 use Rattle.pmd_tx.proofs.Playing.{plays_some}
 use Rattle.pmd_tx.proofs.ring.TransmitRing.take_oldest.Goals as goal
 
@@ -25,3 +25,8 @@ pub returns-in-Err-clause-plays : goal.returns-in-Err-clause-plays
 returns-in-Err-clause-plays g c block =
     plays_some block (g.N.Nic.made c.args.nic.now) (g.N.Nic.made c.take.new.nic) c.args.self.now
     c.in-Err.ensures.refused
+
+pub returns-in-Err-clause-faults : goal.returns-in-Err-clause-faults
+returns-in-Err-clause-faults g c block =
+    take_refused block (g.N.Nic.made c.args.nic.now) (g.N.Nic.made c.take.new.nic) c.args.self.now
+    c.oldest_block-block.result (c.requires, c.oldest_block-block.ensures.block) c.in-Err.ensures.refused

@@ -6,7 +6,7 @@ use std::alloc::AllocError;
 use std::io;
 use thiserror::Error;
 
-/// Why the program fails. Its message is written to standard error, and the status is 1.
+/// Why the program fails. `main` has it written to standard error, and the status is 1.
 #[derive(Debug, Drop, Error)]
 pub(crate) enum Failure {
     #[error("the device wasn't made: {0:?}")]

@@ -14,7 +14,7 @@ from nicframes import descriptor, summary  # noqa: E402
 from nicmemory import Ring, Seen, ring_of  # noqa: E402
 from nicreasons import Reason  # noqa: E402
 from nicregs import REGISTERS  # noqa: E402
-from nictrace import Op, Step, Trace  # noqa: E402
+from nictrace import Step, Trace  # noqa: E402
 
 Memory = dict[int, bytes | None]
 MARKS = {"device": "D", "done": "+", "driver": ".", "nobody": "?"}

@@ -12,7 +12,8 @@ from dataclasses import dataclass, field
 
 sys.dont_write_bytecode = True
 from nicregs import ENABLE, REGISTERS, first  # noqa: E402
-from nictrace import Instruction, Op, Step, Trace, number_after, word_of  # noqa: E402
+from nicscript import Instruction, Op  # noqa: E402
+from nictrace import Step, Trace, number_after, word_of  # noqa: E402
 
 SCRIPT_LIMIT = 4_096
 RUNS = 16
@@ -140,6 +141,12 @@ class Replay:
             return []
         return [*asked.values(), answers[count:]]
 
+    def collects(self, steps: list[Step], sent: list[Frame]) -> list[str]:
+        """As many lines `collect` as frames are out behind some steps; none where all bytes are known."""
+        if all(frame.data is not None for frame in sent):
+            return []
+        return ["collect"] * (len(sent) - sum(step.reply.startswith("frame") for step in steps))
+
     def up_to(self, count: int, room: int) -> list[Step] | None:
         """The steps below a number, without those that leave memory alone where there would be no room; None where
         there is none even so."""
@@ -246,15 +253,15 @@ def look(trace: Trace) -> Seen:
     arrived, sent = _account(trace)
     replay = Replay(trace)
     asked = Watch(trace, sides).steps()
-    collected = sum(step.reply.startswith("frame") for step in trace.steps)
-    _ask_memory(trace, replay, asked)
-    _collect(replay, sent, collected)
-    _find_queues(trace, replay, sides, arrived)
+    _ask_memory(trace, replay, asked, sent)
+    _lost(trace)
+    _collect(replay, sent)
+    _find_queues(trace, replay, arrived)
     return Seen(sides, arrived, sent)
 
 
-def _ask_memory(trace: Trace, replay: Replay, asked: list[tuple[int, list[int]]]) -> None:
-    """Runs the steps with peeks between them, as few times as they fit."""
+def _ask_memory(trace: Trace, replay: Replay, asked: list[tuple[int, list[int]]], sent: list[Frame]) -> None:
+    """Runs the steps with peeks between them, as few times as they fit; the last time it collects what went out."""
     runs, at = 0, 0
     while at < len(asked):
         end, room = at, 0
@@ -263,18 +270,22 @@ def _ask_memory(trace: Trace, replay: Replay, asked: list[tuple[int, list[int]]]
             end += 1
         if end == at or runs == RUNS:
             trace.notes.append(f"from step {asked[at][0]} on lent memory isn't shown: there is no room for peeks behind so many steps")
-            _unknown(trace, asked[at:])
+            for number, units in asked[at:]:
+                trace.steps[number].memory = [(unit, None) for unit in units]
             return
-        steps = replay.up_to(asked[end - 1][0] + 1, room) or []
+        steps, behind = replay.up_to(asked[end - 1][0] + 1, room) or [], []
+        if end == len(asked) and (every := replay.up_to(1 << 62, room + len(sent))) is not None:
+            steps, behind = every, replay.collects(every, sent)
         numbers = {step.number for step in steps}
-        between = {_last(numbers, number): [] for number, _ in asked[at:end]}
+        between: dict[int, list[str]] = {}
         for number, units in asked[at:end]:
-            between[_last(numbers, number)] += [f"peek 0x{unit:x} 0" for unit in units]
-        answers = iter(one for some in replay.run(steps, between, [])[:-1] for one in some)
+            between.setdefault(_last(numbers, number), []).extend(f"peek 0x{unit:x} 0" for unit in units)
+        *peeked, collected = replay.run(steps, between, behind) or [[]]
+        answers = iter(one for some in peeked for one in some)
         for number, units in asked[at:end]:
             trace.steps[number].memory = [(unit, _bytes(next(answers, ""))) for unit in units]
+        _give_bytes(sent, collected)
         at, runs = end, runs + 1
-    _lost(trace)
 
 
 def _last(numbers: set[int], number: int) -> int:
@@ -286,12 +297,6 @@ def _last(numbers: set[int], number: int) -> int:
 
 def _bytes(answer: str) -> bytes | None:
     return bytes.fromhex(answer.removeprefix("bytes ")) if answer.startswith("bytes ") else None
-
-
-def _unknown(trace: Trace, asked: list[tuple[int, list[int]]]) -> None:
-    for number, units in asked:
-        trace.steps[number].memory = [(unit, None) for unit in units]
-    _lost(trace)
 
 
 def _lost(trace: Trace) -> None:
@@ -368,22 +373,20 @@ def _pool_reset(one: Instruction) -> int | None:
     return None
 
 
-def _collect(replay: Replay, sent: list[Frame], collected: int) -> None:
-    """The bytes of frames that went out and that the script doesn't collect."""
-    rest = [frame for frame in sent if frame.data is None]
-    if not rest:
-        return
-    steps = replay.up_to(1 << 62, len(sent))
-    if steps is None:
-        return
-    dropped = any(step.reply.startswith("frame") for step in steps)
-    lines = ["collect"] * (len(rest) if dropped or not collected else len(sent))
-    answers = [answer for answer in (replay.run(steps, {}, lines) or [[]])[-1] if answer.startswith("frame")]
-    for frame, answer in zip(reversed(sent), reversed(answers)):
+def _give_bytes(sent: list[Frame], answers: list[str]) -> None:
+    """Gives the frames that went out last the bytes that were collected at the end."""
+    collected = [answer for answer in answers if answer.startswith("frame")]
+    for frame, answer in zip(reversed(sent), reversed(collected)):
         frame.data = bytes.fromhex(answer.split()[-1])
 
 
-def _find_queues(trace: Trace, replay: Replay, sides: list[tuple[str, int]], arrived: list[Frame]) -> None:
+def _collect(replay: Replay, sent: list[Frame]) -> None:
+    """The bytes of frames that went out and whose bytes nothing told yet."""
+    if any(frame.data is None for frame in sent) and (steps := replay.up_to(1 << 62, len(sent))) is not None:
+        _give_bytes(sent, (replay.run(steps, {}, replay.collects(steps, sent)) or [[]])[-1])
+
+
+def _find_queues(trace: Trace, replay: Replay, arrived: list[Frame]) -> None:
     """The queues of frames whose queue no reply told."""
     waiting: list[int] = []
     states: list[tuple[int, list[int]]] = []

@@ -14,7 +14,8 @@ import nicregs  # noqa: E402
 from nicframes import address  # noqa: E402
 from nicmemory import Frame, Seen, ring_of  # noqa: E402
 from nicregs import ENABLE, queues_of_pool  # noqa: E402
-from nictrace import Op, Step, Trace, number_after, word_of  # noqa: E402
+from nicscript import Op  # noqa: E402
+from nictrace import Step, Trace, number_after, word_of  # noqa: E402
 
 Words = dict[int, int]
 

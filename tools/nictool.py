@@ -9,7 +9,7 @@ from collections.abc import Callable
 from typing import NoReturn
 
 sys.dont_write_bytecode = True
-from nictrace import Fault, Refused  # noqa: E402
+from nicscript import Fault, Refused  # noqa: E402
 
 
 class Parser(argparse.ArgumentParser):

@@ -72,7 +72,14 @@ class Advice:
                     k = nicregs.queues_of_pool(one.b)
 
     def all(self) -> list[Warning]:
-        found = [*self._strays(), *self._words(), *self._queues("Receive"), *self._queues("Transmit"), *self._messages(), *self._causes()]
+        found = [
+            *self._strays(),
+            *self._words(),
+            *self._queues("Receive"),
+            *self._queues("Transmit"),
+            *self._messages(),
+            *self._causes(),
+        ]
         return sorted(set(found))
 
     def _at(self, pc: int, text: str) -> Warning:
@@ -90,7 +97,9 @@ class Advice:
         for pc in self.strays:
             one = self.script.instructions[pc]
             if one.op in (Op.VF_READ, Op.VF_WRITE):
-                yield self._at(pc, f"offset 0x{one.a:04x} of a virtual function names no register: the access is `stray`")
+                yield self._at(
+                    pc, f"offset 0x{one.a:04x} of a virtual function names no register: the access is `stray`"
+                )
             elif one.a in absent:
                 name, what = absent[one.a]
                 yield self._at(pc, f"0x{one.a:05x} is {name}, which the bench hasn't: {what}")
@@ -106,10 +115,16 @@ class Advice:
                 continue
             rest = nicregs.reserved(row, word)
             if rest:
-                yield self._at(access.pc, f"{name}: bits 0x{rest:08x} of the word are reserved; write 0 there, later cards may use them")
+                yield self._at(
+                    access.pc,
+                    f"{name}: bits 0x{rest:08x} of the word are reserved; write 0 there, later cards may use them",
+                )
             lost = word & ~row.mask & ~rest & 0xFFFF_FFFF
             if row.kind in ("Rw", "Held") and lost:
-                why = {"DLEN": "; a ring's length is a multiple of 128 bytes", "DBAL": "; a ring begins at a multiple of 128"}.get(row.name[1:], "")
+                why = {
+                    "DLEN": "; a ring's length is a multiple of 128 bytes",
+                    "DBAL": "; a ring begins at a multiple of 128",
+                }.get(row.name[1:], "")
                 yield self._at(access.pc, f"{name} doesn't keep bits 0x{lost:08x}{why}")
 
     def _queues(self, bank: str) -> Iterator[Warning]:
@@ -123,47 +138,84 @@ class Advice:
             name = f"{letter}XDCTL[{queue}]"
             mine = [one for one in tails if one.register.index == queue]
             if side == "tx" and not [pc for pc in sends if pc < enable.pc]:
-                yield self._at(enable.pc, f"{name}.ENABLE is written before DMATXCTL.TE is 1: on the card TE comes first, or the queue may not start")
+                yield self._at(
+                    enable.pc,
+                    f"{name}.ENABLE is written before DMATXCTL.TE is 1: on the card TE comes first, or the queue may not start",
+                )
             on = next((pc for pc, x in switched if x == queue and pc > enable.pc), None)
             if on is None:
-                yield self._at(enable.pc, f"no `qstep {side} {queue}` follows: the queue stays off until the device makes that step")
+                yield self._at(
+                    enable.pc,
+                    f"no `qstep {side} {queue}` follows: the queue stays off until the device makes that step",
+                )
             if not mine:
-                yield self._at(enable.pc, f"{letter}DT[{queue}] is never written: no slot of the ring becomes the device's")
+                yield self._at(
+                    enable.pc, f"{letter}DT[{queue}] is never written: no slot of the ring becomes the device's"
+                )
             for one in mine:
                 if one.word and one.pc < (on if on is not None else enable.pc):
-                    what = "the device may lose it" if side == "rx" else "the device may fetch from a ring that isn't set up"
-                    yield self._at(one.pc, f"{one.register.name} is written before the queue is on: write the tail once {name}.ENABLE reads 1, or {what}")
+                    what = (
+                        "the device may lose it"
+                        if side == "rx"
+                        else "the device may fetch from a ring that isn't set up"
+                    )
+                    yield self._at(
+                        one.pc,
+                        f"{one.register.name} is written before the queue is on: write the tail once {name}.ENABLE reads 1, or {what}",
+                    )
             yield from self._held(bank, queue, on)
             if side == "rx":
                 yield from self._buffers(queue, enable)
 
     def _held(self, bank: str, queue: int, on: int | None) -> Iterator[Warning]:
         """Writes of a ring's place while its queue is on."""
-        off = [one.pc for one in self._of(("R" if bank == "Receive" else "T") + "XDCTL") if one.register.index == queue and not one.word & ENABLE]
+        off = [
+            one.pc
+            for one in self._of(("R" if bank == "Receive" else "T") + "XDCTL")
+            if one.register.index == queue and not one.word & ENABLE
+        ]
         for access in self.writes:
             row = access.register.row
-            if row.kind == "Held" and row.bank == bank and access.register.index == queue and on is not None and access.pc > on:
+            if (
+                row.kind == "Held"
+                and row.bank == bank
+                and access.register.index == queue
+                and on is not None
+                and access.pc > on
+            ):
                 if not [pc for pc in off if on < pc < access.pc]:
-                    yield self._at(access.pc, f"{access.register.name} is written while the queue is on: it is held, and the write changes nothing")
+                    yield self._at(
+                        access.pc,
+                        f"{access.register.name} is written while the queue is on: it is held, and the write changes nothing",
+                    )
 
     def _buffers(self, queue: int, enable: Access) -> Iterator[Warning]:
         """The form of a receive queue's descriptors."""
         control = [one for one in self._of("SRRCTL") if one.register.index == queue]
         if not control:
-            yield self._at(enable.pc, f"SRRCTL[{queue}] is never written: after a reset it says legacy descriptors, which are a fault here")
+            yield self._at(
+                enable.pc,
+                f"SRRCTL[{queue}] is never written: after a reset it says legacy descriptors, which are a fault here",
+            )
         for one in control:
             kind, size = one.word >> 25 & 7, one.word & 31
             if kind != 1:
-                yield self._at(one.pc, f"SRRCTL[{queue}].DESCTYPE {kind}: the bench has 1 alone, advanced with one buffer; a receive step is a fault")
+                yield self._at(
+                    one.pc,
+                    f"SRRCTL[{queue}].DESCTYPE {kind}: the bench has 1 alone, advanced with one buffer; a receive step is a fault",
+                )
             elif not size:
-                yield self._at(one.pc, f"SRRCTL[{queue}].BSIZEPACKET 0: a buffer has no room; a receive step is a fault")
+                yield self._at(
+                    one.pc, f"SRRCTL[{queue}].BSIZEPACKET 0: a buffer has no room; a receive step is a fault"
+                )
 
     def _messages(self) -> Iterator[Warning]:
         """Messages that the card wouldn't send so."""
         steps = [pc for pc, one in self._instructions(Op.INT) if not one.sub]
         if steps and not [one for one in self._of("GPIE") if one.word & 0x10]:
             yield self._at(
-                steps[0], "GPIE.Multiple_MSIX isn't set: without MSI-X mode the card sends one message for all causes, whatever IVAR says"
+                steps[0],
+                "GPIE.Multiple_MSIX isn't set: without MSI-X mode the card sends one message for all causes, whatever IVAR says",
             )
 
     def _causes(self) -> Iterator[Warning]:
@@ -185,15 +237,27 @@ class Advice:
                 entry = one.word >> 8 * byte & 0xFF
                 queue, side = 2 * one.register.index + byte // 2, "tx" if byte & 1 else "rx"
                 if entry and not entry & 0x80:
-                    yield self._at(one.pc, f"{one.register.name} INT_Alloc[{byte}] ({side} {queue}): bit 7 is 0, so the entry doesn't count")
+                    yield self._at(
+                        one.pc,
+                        f"{one.register.name} INT_Alloc[{byte}] ({side} {queue}): bit 7 is 0, so the entry doesn't count",
+                    )
                 elif entry and entry & 63 > 15:
-                    yield self._at(one.pc, f"{one.register.name} INT_Alloc[{byte}] ({side} {queue}): there is no cause {entry & 63}, of 15 at most here")
+                    yield self._at(
+                        one.pc,
+                        f"{one.register.name} INT_Alloc[{byte}] ({side} {queue}): there is no cause {entry & 63}, of 15 at most here",
+                    )
                 elif entry and not masked >> (entry & 63) & 1:
-                    yield self._at(one.pc, f"{side} {queue} raises cause {entry & 63}, whose mask in EIMS is never set: no message tells it")
+                    yield self._at(
+                        one.pc,
+                        f"{side} {queue} raises cause {entry & 63}, whose mask in EIMS is never set: no message tells it",
+                    )
                 raised |= 1 << (entry & 63) if entry & 0x80 else 0
         for one in self._of("EICS"):
             raised |= one.word
         for one in masks:
             silent = one.word & 0xFFFF & ~raised
             if silent:
-                yield self._at(one.pc, f"{', '.join(nicregs.bits('EIMS', silent))}: no entry of IVAR names these causes, so nothing raises them")
+                yield self._at(
+                    one.pc,
+                    f"{', '.join(nicregs.bits('EIMS', silent))}: no entry of IVAR names these causes, so nothing raises them",
+                )

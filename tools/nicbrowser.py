@@ -31,13 +31,23 @@ class Browser:
         self.folder = tempfile.mkdtemp()
         read_in, self.write = os.pipe()
         self.read, write_out = os.pipe()
-        flags = ["--headless=new", "--no-sandbox", "--disable-gpu", "--remote-debugging-pipe", f"--user-data-dir={self.folder}", "about:blank"]
+        flags = [
+            "--headless=new",
+            "--no-sandbox",
+            "--disable-gpu",
+            "--remote-debugging-pipe",
+            f"--user-data-dir={self.folder}",
+            "about:blank",
+        ]
         # Chromium reads from 3 and writes to 4; high numbers first, so that neither is written over.
         starter = f"exec 3<&{read_in} 4>&{write_out}; exec {found} " + " ".join(flags)
-        self.process = subprocess.Popen(["bash", "-c", starter], pass_fds=(read_in, write_out), stdout=subprocess.DEVNULL, stderr=subprocess.DEVNULL)
+        self.process = subprocess.Popen(
+            ["bash", "-c", starter], pass_fds=(read_in, write_out), stdout=subprocess.DEVNULL, stderr=subprocess.DEVNULL
+        )
         os.close(read_in)
         os.close(write_out)
-        self.rest, self.count, self.errors, self.loaded = b"", 0, [], False
+        self.rest, self.count, self.loaded = b"", 0, False
+        self.errors: list[str] = []
         target = self.ask("Target.createTarget", {"url": "about:blank"}, "")["targetId"]
         self.session = self.ask("Target.attachToTarget", {"targetId": target, "flatten": True}, "")["sessionId"]
         for domain in ("Page", "Runtime", "Log"):
@@ -67,14 +77,19 @@ class Browser:
         if method == "Page.loadEventFired":
             self.loaded = True
         elif method == "Runtime.exceptionThrown":
-            self.errors.append(message["params"]["exceptionDetails"].get("exception", {}).get("description", "an exception"))
+            self.errors.append(
+                message["params"]["exceptionDetails"].get("exception", {}).get("description", "an exception")
+            )
         elif method == "Log.entryAdded" and message["params"]["entry"]["level"] in ("error", "warning"):
             self.errors.append(message["params"]["entry"]["text"])
         return message
 
     def size(self, width: int, height: int, dark: bool) -> None:
         """The window, and whether the reader wants dark pages."""
-        self.ask("Emulation.setDeviceMetricsOverride", {"width": width, "height": height, "deviceScaleFactor": 1, "mobile": False})
+        self.ask(
+            "Emulation.setDeviceMetricsOverride",
+            {"width": width, "height": height, "deviceScaleFactor": 1, "mobile": False},
+        )
         scheme = {"name": "prefers-color-scheme", "value": "dark" if dark else "light"}
         self.ask("Emulation.setEmulatedMedia", {"features": [scheme]})
 

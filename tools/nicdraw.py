@@ -88,13 +88,16 @@ class State:
 
 def text(trace: Trace, seen: Seen, reasons: list[list[Reason]]) -> Iterator[str]:
     """The lines of a run."""
-    state, script, drawn = State(trace, seen), trace.script, {}
+    state, script = State(trace, seen), trace.script
+    drawn: dict[str, list[str]] = {}
     yield "D the device's slot, + done, . the driver's; H head, T tail, B both"
     for step, why in zip(trace.steps, reasons):
         state.make(step)
         comment = script.comment(step.pc)
         yield ""
-        yield f"{step.number:4}  line {script.line_of[step.pc]}: {script.shown(step.pc)}" + (f"    # {comment}" if comment else "")
+        yield f"{step.number:4}  line {script.line_of[step.pc]}: {script.shown(step.pc)}" + (
+            f"    # {comment}" if comment else ""
+        )
         yield f"      {step.reply}" if step.reply else f"      acc 0x{step.acc:08x}, {step.status}"
         for reason in why:
             yield f"        {'*' if reason.held else ' '} {reason.text}"
@@ -104,11 +107,15 @@ def text(trace: Trace, seen: Seen, reasons: list[list[Reason]]) -> Iterator[str]
         for sign, frames in step.waiting:
             for frame in frames:
                 one = seen.arrived[frame]
-                yield f"      {'waits' if sign == '+' else 'waits no more'}: {summary(one.data or b'')}" + (f", queue {one.queue}" if one.queue is not None else "")
+                yield f"      {'waits' if sign == '+' else 'waits no more'}: {summary(one.data or b'')}" + (
+                    f", queue {one.queue}" if one.queue is not None else ""
+                )
         for sign, frames in step.out:
             for frame in frames:
                 shown = seen.sent[frame]
-                yield f"      {'out' if sign == '+' else 'collected'}: " + (summary(shown.data) if shown.data else f"a frame of queue {shown.queue}")
+                yield f"      {'out' if sign == '+' else 'collected'}: " + (
+                    summary(shown.data) if shown.data else f"a frame of queue {shown.queue}"
+                )
         for ring in state.rings():
             lines = ring_lines(ring, state.memory)
             if drawn.get(ring.name) != lines:
@@ -152,12 +159,17 @@ def _svg_ring(ring: Ring, memory: Memory) -> list[str]:
     parts, count = [], max(ring.slots, 1)
     for slot in range(ring.slots):
         start, end, shown = slot / count, (slot + 1) / count, look(ring, memory, slot)
-        outer, inner = f"M{_turn(start, 86)} A86 86 0 0 1 {_turn(end, 86)}", f"L{_turn(end, 52)} A52 52 0 0 0 {_turn(start, 52)} Z"
+        outer, inner = (
+            f"M{_turn(start, 86)} A86 86 0 0 1 {_turn(end, 86)}",
+            f"L{_turn(end, 52)} A52 52 0 0 0 {_turn(start, 52)} Z",
+        )
         parts.append(f'<path class="slot {shown}" d="{outer} {inner}"/>')
         x, y = _point((start + end) / 2, 69)
         if count <= 32:
             parts.append(_svg_text(x, y + 4, str(slot), f"on-{shown}", "middle"))
-    marks = {"head": "head, tail" if ring.head == ring.tail else "head"} | ({} if ring.head == ring.tail else {"tail": "tail"})
+    marks = {"head": "head, tail" if ring.head == ring.tail else "head"} | (
+        {} if ring.head == ring.tail else {"tail": "tail"}
+    )
     for which, name in marks.items():
         place = ring.head if which == "head" else ring.tail
         if place < ring.slots:
@@ -166,7 +178,11 @@ def _svg_ring(ring: Ring, memory: Memory) -> list[str]:
             x, y = _point(angle, 104)
             parts.append(f'<polygon class="{which}" points="{points}"/>')
             parts.append(_svg_text(x, y + 4, name, which, "start" if x > 125 else "end" if x < 107 else "middle"))
-    for y, words, kind in ((108, ring.name, "title"), (125, "on" if ring.on else "off", ""), (141, f"{ring.slots} slots", "faint")):
+    for y, words, kind in (
+        (108, ring.name, "title"),
+        (125, "on" if ring.on else "off", ""),
+        (141, f"{ring.slots} slots", "faint"),
+    ):
         parts.append(_svg_text(116, y, words, kind, "middle"))
     return parts
 
@@ -214,20 +230,30 @@ def _beside(ring: Ring, state: State, top: float) -> list[str]:
     for slot in range(ring.slots):
         told = _slot(ring, state.memory, slot)
         if told and len(lines) < 8:
-            whose = {"device": "the device's", "done": "done", "driver": "the driver's"}.get(look(ring, state.memory, slot), "")
+            whose = {"device": "the device's", "done": "done", "driver": "the driver's"}.get(
+                look(ring, state.memory, slot), ""
+            )
             for n, line in enumerate(_wrapped(f"slot {slot}, {whose}. {told}", 54)):
                 lines.append((line if n == 0 else "    " + line, ""))
     waiting = [state.seen.arrived[one] for one in state.waiting]
     mine = [one for one in waiting if one.queue == ring.queue and one.data is not None] if ring.side == "rx" else []
     for frame in mine[:2]:
         lines += [(line, "held") for line in _wrapped(f"waits: {summary(frame.data or b'')}", 54)]
-    sent = [state.seen.sent[one] for one in state.out if state.seen.sent[one].queue == ring.queue] if ring.side == "tx" else []
+    sent = (
+        [state.seen.sent[one] for one in state.out if state.seen.sent[one].queue == ring.queue]
+        if ring.side == "tx"
+        else []
+    )
     for frame in sent[:2]:
         lines += [(line, "faint") for line in _wrapped(f"out: {summary(frame.data or b'')}", 54)]
     for line, kind in lines:
         parts.append(_svg_text(left, y, line, kind))
         y += 20
-    for x, kind, name in ((left, "device", "the device's"), (left + 116, "done", "done"), (left + 184, "driver", "the driver's")):
+    for x, kind, name in (
+        (left, "device", "the device's"),
+        (left + 116, "done", "done"),
+        (left + 184, "driver", "the driver's"),
+    ):
         parts.append(f'<rect class="{kind}" x="{x}" y="{top + 160:.0f}" width="11" height="11" rx="2"/>')
         parts.append(_svg_text(x + 16, top + 170, name, "faint"))
     return parts

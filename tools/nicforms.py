@@ -1,13 +1,14 @@
 """Why the bench refuses a line of a script: the word, what was expected there, and what comes near.
 
-That a script is refused, by which fault and at which line, the bench says; here the line is looked at again to say it in
-more words. The forms are those of docs/GUIDE.md.
+That a script is refused, by which fault and at which line, the bench says; here the line is looked at again to say it
+in more words. The forms are those of docs/GUIDE.md.
 """
 
 from __future__ import annotations
 
 import re
 import sys
+from collections.abc import Callable
 from dataclasses import dataclass
 
 sys.dont_write_bytecode = True
@@ -93,7 +94,7 @@ class Looker:
             return self._too_long()
         if name == "Input":
             return Place(0, 0, 0, "the input is no text in UTF-8", [])
-        finders = {"Syntax": self._syntax, "UnknownName": self._unknown_name, "UnknownLabel": self._unknown_label}
+        finders: dict[str, Callable[[], Place | None]] = {"Syntax": self._syntax, "UnknownName": self._unknown_name, "UnknownLabel": self._unknown_label}
         finders |= {"TwoLabels": self._twice, "Range": self._range}
         found = finders[name]() if self.words and name in finders else None
         return found or self._at(0, f"the bench refuses this line: {name}")
@@ -110,7 +111,11 @@ class Looker:
         first, rest = self.words[0][1], self.words[1:]
         if first not in FORMS:
             if first.endswith(":"):
-                what = "a label stands alone on its line" if NAME.fullmatch(first[:-1]) else "a label is a name and a colon: letters, digits and _"
+                what = (
+                    "a label stands alone on its line"
+                    if NAME.fullmatch(first[:-1])
+                    else "a label is a name and a colon: letters, digits and _"
+                )
                 return self._at(1 if rest and NAME.fullmatch(first[:-1]) else 0, what)
             return self._at(0, f"no operation {first}", near_words(first))
         form, kinds = f"{first} {FORMS[first]}".strip(), self._kinds()
@@ -172,7 +177,13 @@ class Looker:
             if kind in ("DATA", "LABEL"):
                 names, what = (data, "data") if kind == "DATA" else (labels, "label")
                 word = self.words[n][1]
-                other = " (there is a label of this name)" if word in labels else " (there is data of this name)" if word in data else ""
+                other = (
+                    " (there is a label of this name)"
+                    if word in labels
+                    else " (there is data of this name)"
+                    if word in data
+                    else ""
+                )
                 return self._at(n, f"no {what} {word}{other}", near(word, list(names)) or list(names)[:6])
         return self._at(0, "no such label")
 
@@ -188,7 +199,9 @@ class Looker:
             for number, line in enumerate(self.lines, 1):
                 words = [word for _, word in words_of(line)]
                 if words[:2] == ["data", self.words[2][1]] and len(words) == 3 and len(words[2]) != 32:
-                    return self._at(2, f"poke writes 16 bytes, and {words[1]} at line {number} has {len(words[2]) // 2}")
+                    return self._at(
+                        2, f"poke writes 16 bytes, and {words[1]} at line {number} has {len(words[2]) // 2}"
+                    )
         if self.words[0][1] == "data":
             return self._at(2, "data has from 1 to 16384 bytes")
         for n, (kind, (_, word)) in enumerate(zip(self._kinds(), self.words[1:]), 1):
@@ -197,7 +210,9 @@ class Looker:
             if kind == "TARGET" and found and found[1] in ROWS and found[2] is not None:
                 count = ROWS[found[1]].count
                 if (number_of(found[2]) or 0) >= count:
-                    return self._at(n, f"{found[1]} has {count} register{'s' if count > 1 else ''}, from [0] to [{count - 1}]")
+                    return self._at(
+                        n, f"{found[1]} has {count} register{'s' if count > 1 else ''}, from [0] to [{count - 1}]"
+                    )
             value = number_of(word)
             if value is not None and value > MOST.get(kind, value):
                 return self._at(n, f"{kind} is at most {MOST[kind]}, and this is {value}")
@@ -216,7 +231,9 @@ class Looker:
                 return Place(number, 0, 4, f"data {name} has {len(words[2]) // 2} bytes, of 16384 at most", [])
             count += bool(words) and not is_label and words[0] != "data"
             if count > 4_096:
-                return Place(number, 0, len(line), "this is instruction 4097 of 4096 at most: cut the script, or make a loop", [])
+                return Place(
+                    number, 0, len(line), "this is instruction 4097 of 4096 at most: cut the script, or make a loop", []
+                )
         return Place(0, 0, 0, f"the script has {len(data)} data strings, of 1024 at most", [])
 
 
@@ -224,8 +241,19 @@ def near_words(word: str) -> list[str]:
     """Operations like a word."""
     from difflib import get_close_matches
 
-    others = {"write": "w", "read": "r", "jump": "jmp", "recv": "rx", "send": "tx", "receive": "rx", "transmit": "tx", "irq": "int"}
-    return ([others[word.lower()]] if word.lower() in others else []) + get_close_matches(word.lower(), list(FORMS), 4, 0.5)
+    others = {
+        "write": "w",
+        "read": "r",
+        "jump": "jmp",
+        "recv": "rx",
+        "send": "tx",
+        "receive": "rx",
+        "transmit": "tx",
+        "irq": "int",
+    }
+    return ([others[word.lower()]] if word.lower() in others else []) + get_close_matches(
+        word.lower(), list(FORMS), 4, 0.5
+    )
 
 
 def explained(text: str, refused: Refused) -> Place:

@@ -41,7 +41,9 @@ def headers(frame: bytes) -> list[Header]:
     at = 14
     if kind == 0x8100 and len(frame) >= 18:
         tag, kind = _number(frame[14:16]), _number(frame[16:18])
-        found.append(Header("VLAN tag", [("id", str(tag & 0xFFF)), ("priority", str(tag >> 13)), ("type", f"0x{kind:04x}")]))
+        found.append(
+            Header("VLAN tag", [("id", str(tag & 0xFFF)), ("priority", str(tag >> 13)), ("type", f"0x{kind:04x}")])
+        )
         at = 18
     if kind == 0x0800:
         found += _ipv4(frame[at:])

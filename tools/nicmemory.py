@@ -1,8 +1,8 @@
 """What lent memory holds after each step, which frames wait, for which queue, and which went out.
 
-The debugger has no command for memory, so a script is run again with `peek` lines between its own: a peek changes nothing
-of the device. Its instructions stand there in the order in which they were made, jumps and tests left out. Where that
-doesn't fit into one script, several are run, each from the start up to where its peeks stand.
+The debugger has no command for memory, so a script is run again with `peek` lines between its own: a peek changes
+nothing of the device. Its instructions stand there in the order in which they were made, jumps and tests left out. Where
+that doesn't fit into one script, several are run, each from the start up to where its peeks stand.
 """
 
 from __future__ import annotations
@@ -116,7 +116,9 @@ class Replay:
         data = enumerate(trace.script.data)
         self.data = "".join(f"data d{n} {one.hex()}\n" for n, one in data)
 
-    def run(self, steps: list[Step], between: dict[int, list[str]], behind: list[str], limit: int = 0) -> list[list[str]]:
+    def run(
+        self, steps: list[Step], between: dict[int, list[str]], behind: list[str], limit: int = 0
+    ) -> list[list[str]]:
         """The replies to the lines that stand behind each step by its number, in the order of the steps; last those to
         the lines behind all."""
         lines, marks = [], []
@@ -129,7 +131,8 @@ class Replay:
         count = len(lines)
         printed = self.trace.bench.run(self.data + "\n".join(lines + behind) + "\n", limit or len(lines) + len(behind))
         answers = [line.partition(" ")[2] for line in printed[:-1]]
-        replies, own, asked = iter(steps), [], {}
+        replies, own = iter(steps), []
+        asked: dict[int, list[str]] = {}
         for mark, answer in zip(marks, answers):
             if mark < 0:
                 own.append((next(replies), answer))
@@ -137,7 +140,9 @@ class Replay:
                 asked.setdefault(mark, []).append(answer)
         odd = [step for step, answer in own if answer != step.reply]
         if odd:
-            self.trace.notes.append(f"the run that looks at memory answers step {odd[0].number} otherwise; what it says is left out")
+            self.trace.notes.append(
+                f"the run that looks at memory answers step {odd[0].number} otherwise; what it says is left out"
+            )
             return []
         return [*asked.values(), answers[count:]]
 
@@ -269,7 +274,9 @@ def _ask_memory(trace: Trace, replay: Replay, asked: list[tuple[int, list[int]]]
             room += len(asked[end][1])
             end += 1
         if end == at or runs == RUNS:
-            trace.notes.append(f"from step {asked[at][0]} on lent memory isn't shown: there is no room for peeks behind so many steps")
+            trace.notes.append(
+                f"from step {asked[at][0]} on lent memory isn't shown: there is no room for peeks behind so many steps"
+            )
             for number, units in asked[at:]:
                 trace.steps[number].memory = [(unit, None) for unit in units]
             return

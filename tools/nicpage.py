@@ -47,8 +47,12 @@ def routes(trace: Trace, words: dict[int, int], sides: list[tuple[str, int]]) ->
             index, byte, row, group, most = queue // 2, 2 * (queue % 2) + (side == "tx"), "IVAR", "pf", 15
         entry = word_of(words, row, index) >> 8 * byte & 0xFF
         if entry:
-            state = "" if entry & 0x80 and entry & 63 <= most else ", not valid" if not entry & 0x80 else ", no such cause"
-            told.append(f"{side} {queue} raises cause {entry & 63} of {group} ({row}[{index}] INT_Alloc[{byte}]{state})")
+            state = (
+                "" if entry & 0x80 and entry & 63 <= most else ", not valid" if not entry & 0x80 else ", no such cause"
+            )
+            told.append(
+                f"{side} {queue} raises cause {entry & 63} of {group} ({row}[{index}] INT_Alloc[{byte}]{state})"
+            )
     return told
 
 
@@ -73,7 +77,7 @@ def sides_of(seen: Seen) -> list[dict[str, Any]]:
 
 def groups_of(trace: Trace) -> list[dict[str, Any]]:
     """The groups of interrupts, with the addresses of their registers and the names of their bits."""
-    groups = [{"name": "pf", **{key: first(name) for key, name in _GROUP.items()}, "bits": _bit_names("EICR")}]
+    groups: list[dict[str, Any]] = [{"name": "pf", **{key: first(name) for key, name in _GROUP.items()}, "bits": _bit_names("EICR")}]
     for v in range(trace.bench.vfs):
         addresses = {key: first("PVT" + name, v) for key, name in _GROUP.items()}
         groups.append({"name": f"vf {v}", **addresses, "bits": _bit_names("PVTEICR")})
@@ -106,8 +110,9 @@ def _descriptors(trace: Trace, seen: Seen) -> dict[str, list[Any]]:
     found: dict[str, list[Any]] = {}
     for step in trace.steps:
         for _, content in step.memory:
-            for side in kinds if content is not None else ():
-                key = side + content.hex()
+            if content is None:
+                continue
+            for key, side in ((side + content.hex(), side) for side in kinds):
                 if key not in found:
                     one = descriptor(side, content)
                     found[key] = [one.form, int(one.done), one.fields]
@@ -119,7 +124,8 @@ class Data:
 
     def __init__(self, trace: Trace, seen: Seen, reasons: list[list[Reason]]):
         self.trace, self.seen, self.reasons = trace, seen, reasons
-        self.texts, self.packets, self.told = Table(), Table(), {}
+        self.texts, self.packets = Table(), Table()
+        self.told: dict[str, str] = {}
         self.words = dict(trace.start)
 
     def _tell(self, address: int, word: int) -> None:
@@ -148,6 +154,7 @@ class Data:
         return [step.pc, self.texts.number(step.reply), step.acc, [[a, new] for a, _, new in step.changes], more]
 
     def whole(self) -> dict[str, Any]:
+        """All that the page is made of."""
         trace, script = self.trace, self.trace.script
         for address, word in trace.start.items():
             self._tell(address, word)

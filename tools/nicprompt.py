@@ -1,7 +1,7 @@
 """The commands of tools/nicdebug: a session of `nicbench debug` that is asked one command at a time.
 
-The debugger reads all its commands at once. So a session keeps those that were taken so far, and each further command runs
-them anew with itself behind them; the debugger comes to the same place each time.
+The debugger reads all its commands at once. So a session keeps those that were taken so far, and each further command
+runs them anew with itself behind them; the debugger comes to the same place each time.
 """
 
 from __future__ import annotations
@@ -31,7 +31,16 @@ why                why the last step was idle, dropped a frame or met a fault
 restart            to the start; breakpoints stay       where, w           this place
 help, h            these lines                          quit, q            ends the session (also ^D)
 An empty line does the last `step`, `back` or `continue` again."""
-SHORT = {"s": "step", "b": "back", "c": "continue", "r": "show", "p": "show", "print": "show", "l": "list", "w": "where"}
+SHORT = {
+    "s": "step",
+    "b": "back",
+    "c": "continue",
+    "r": "show",
+    "p": "show",
+    "print": "show",
+    "l": "list",
+    "w": "where",
+}
 SHORT |= {"h": "help", "?": "help", "q": "quit", "exit": "quit", "n": "step", "next": "step", "x": "peek"}
 MEANINGS = {"NoSuchPc": ": no such instruction, or no breakpoint there", "TooManyBreaks": ": 32 are set already"}
 SHOWN = 12
@@ -92,7 +101,9 @@ def line_at(session: Session, pc: int) -> str:
 def told_view(session: Session) -> str:
     """Where the machine is, and what comes next."""
     status = session.view.split()[-1]
-    return f"{session.view}\n{line_at(session, session.pc)}" if status == "running" else f"{session.view}: {session.last}"
+    return (
+        f"{session.view}\n{line_at(session, session.pc)}" if status == "running" else f"{session.view}: {session.last}"
+    )
 
 
 def place(session: Session, words: list[str]) -> int:
@@ -189,6 +200,7 @@ def do_back(session: Session, words: list[str]) -> list[str]:
 
 
 def do_continue(session: Session, words: list[str]) -> list[str]:
+    """On to a breakpoint. Where registers are watched, every step up to it is looked at first."""
     before, count = session.at, count_of(words, session.limit)
     end = int(session.ask([f"continue {count}"])[0].split()[1])
     addresses = list(session.watched)
@@ -258,10 +270,14 @@ def _queues(session: Session) -> int:
 def do_offsets(session: Session, words: list[str]) -> list[str]:
     function, k = count_of(words, 0), _queues(session)
     if function >= session.bench.vfs or not k:
-        raise Wrong(f"there is no function {function}: the device has {session.bench.vfs} (--vfs), and GCR_EXT.VT_Mode gives {128 // k if k else 'no'} pools")
+        raise Wrong(
+            f"there is no function {function}: the device has {session.bench.vfs} (--vfs), and GCR_EXT.VT_Mode gives {128 // k if k else 'no'} pools"
+        )
     named = nicregs.function_offsets(k, function)
     shown = session.ask([f"showvf {function} {offset}" for offset, _ in named], len(named))
-    return [f"0x{offset:04x}  {register.name:12} {answer.split()[1]}" for (offset, register), answer in zip(named, shown)]
+    return [
+        f"0x{offset:04x}  {register.name:12} {answer.split()[1]}" for (offset, register), answer in zip(named, shown)
+    ]
 
 
 def do_watch(session: Session, words: list[str]) -> list[str]:
@@ -311,7 +327,11 @@ def do_why(session: Session, words: list[str]) -> list[str]:
         raise Wrong(f"only the first {len(session.steps)} steps can be told of; --limit takes more")
     step, reasons = session.steps[session.at - 1], session.trace()[2][session.at - 1]
     head = f"{line_at(session, step.pc)}    -> {step.reply or 'no event'}"
-    return [head] + [f"  {'*' if one.held else ' '} {one.text}" for one in reasons] if reasons else [head + ": it did what was asked"]
+    return (
+        [head] + [f"  {'*' if one.held else ' '} {one.text}" for one in reasons]
+        if reasons
+        else [head + ": it did what was asked"]
+    )
 
 
 def do_restart(session: Session, words: list[str]) -> list[str]:
@@ -361,7 +381,9 @@ def prompt(session: Session) -> None:
     readline.set_completer_delims(" ")
     readline.parse_and_bind("tab: complete")
     is_terminal = sys.stdin.isatty()
-    print(f"{session.script.path}: {len(session.script.instructions)} instructions; help lists the commands\n{told_view(session)}")
+    print(
+        f"{session.script.path}: {len(session.script.instructions)} instructions; help lists the commands\n{told_view(session)}"
+    )
     again = ""
     while True:
         try:

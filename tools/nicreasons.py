@@ -58,7 +58,9 @@ class Reasons:
             for one, _, new in step.changes:
                 self.words[one] = new
             for sign, frames in step.waiting:
-                self.waiting = self.waiting + frames if sign == "+" else [one for one in self.waiting if one not in frames]
+                self.waiting = (
+                    self.waiting + frames if sign == "+" else [one for one in self.waiting if one not in frames]
+                )
             instruction = self.trace.instruction(step)
             if instruction.op == Op.LEND and step.reply == "done":
                 self.lent.add(instruction.x)
@@ -104,14 +106,19 @@ class Reasons:
     def _receive(self, step: Step) -> list[Reason]:
         """Of a receive step that wrote nothing."""
         frame, words = self._front(), self.words
-        reasons = [_disabled(words), Reason(frame is None, "no frame waits" if frame is None else self._told_waiting(frame))]
+        reasons = [
+            _disabled(words),
+            Reason(frame is None, "no frame waits" if frame is None else self._told_waiting(frame)),
+        ]
         if frame is None:
             return reasons
         if frame.queue is None:
             return reasons + [Reason(True, "the frame in front waits for a queue that couldn't be asked for")]
         queue = frame.queue
         enable, told = _flag(words, "RXDCTL", "ENABLE", queue)
-        reasons.append(Reason(not enable, told + ("" if enable else f": the queue is off{self._asked(step, 'RXDCTL', queue)}")))
+        reasons.append(
+            Reason(not enable, told + ("" if enable else f": the queue is off{self._asked(step, 'RXDCTL', queue)}"))
+        )
         if step.reply == "dropped queue off":
             return reasons
         ring = ring_of(words, "rx", queue)
@@ -155,14 +162,21 @@ class Reasons:
             _disabled(words),
             Reason(not link, told_link + ("" if link else ": the link is down")),
             Reason(not sends, told_sends + ("" if sends else ": the device doesn't send")),
-            Reason(not enable, told_enable + ("" if enable else f": the queue is off{self._asked(at, 'TXDCTL', queue)}")),
+            Reason(
+                not enable, told_enable + ("" if enable else f": the queue is off{self._asked(at, 'TXDCTL', queue)}")
+            ),
         ]
         k = queues_of_pool(word_of(words, "GCR_EXT"))
         pools, told = _flag(words, "VT_CTL", "VT_Ena")
         if pools and k:
             pool = queue // k
             bit = word_of(words, "VFTE", pool // 32) >> pool % 32 & 1
-            reasons.append(Reason(not bit, f"{told}, VFTE[{pool // 32}] bit {pool % 32} {bit}: pool {pool} sends{'' if bit else ' not'}"))
+            reasons.append(
+                Reason(
+                    not bit,
+                    f"{told}, VFTE[{pool // 32}] bit {pool % 32} {bit}: pool {pool} sends{'' if bit else ' not'}",
+                )
+            )
         ring = ring_of(words, "tx", queue)
         empty = ring.head == ring.tail
         why = ": the ring is empty" if empty else ""
@@ -226,13 +240,23 @@ class Reasons:
         ring, letter = ring_of(words, side, queue), side[0].upper()
         if why == "outside":
             return [
-                Reason(ring.head >= ring.slots, f"{letter}DH[{queue}] {ring.head} of {ring.slots} slots ({letter}DLEN[{queue}] / 16)"),
-                Reason(ring.tail >= ring.slots, f"{letter}DT[{queue}] {ring.tail} of {ring.slots} slots ({letter}DLEN[{queue}] / 16)"),
+                Reason(
+                    ring.head >= ring.slots,
+                    f"{letter}DH[{queue}] {ring.head} of {ring.slots} slots ({letter}DLEN[{queue}] / 16)",
+                ),
+                Reason(
+                    ring.tail >= ring.slots,
+                    f"{letter}DT[{queue}] {ring.tail} of {ring.slots} slots ({letter}DLEN[{queue}] / 16)",
+                ),
             ]
         if why.startswith("not lent"):
             at = int(why.split()[-1], 16)
             slot = f"slot {ring.head} is at 0x{ring.base + 16 * ring.head:x}"
-            return [Reason(True, f"0x{at:x} is in block {at // 2_048}, or runs from there into one, that isn't lent; {slot}")]
+            return [
+                Reason(
+                    True, f"0x{at:x} is in block {at // 2_048}, or runs from there into one, that isn't lent; {slot}"
+                )
+            ]
         if why in ("type", "no buffer size"):
             field = "DESCTYPE" if why == "type" else "BSIZEPACKET"
             wanted = "1 is the form that the bench has" if why == "type" else "a buffer has no room"
@@ -282,7 +306,9 @@ class Reasons:
         return [
             i
             for i in range(128)
-            if word_of(words, "RAH", i) >> 31 and word_of(words, "RAL", i) == low and word_of(words, "RAH", i) & 0xFFFF == high
+            if word_of(words, "RAH", i) >> 31
+            and word_of(words, "RAL", i) == low
+            and word_of(words, "RAH", i) & 0xFFFF == high
         ]
 
     def _filter(self, to: bytes) -> list[Reason]:
@@ -310,7 +336,9 @@ class Reasons:
             pair = word_of(words, "MPSAR", 2 * found[0]) | word_of(words, "MPSAR", 2 * found[0] + 1) << 32
         default, told = _flag(words, "VT_CTL", "DEF_PL")
         if pair:
-            pool, whence = (pair & -pair).bit_length() - 1, f"the lowest of MPSAR[{2 * found[0]}] and [{2 * found[0] + 1}]"
+            pool, whence = (
+                pair & -pair
+            ).bit_length() - 1, f"the lowest of MPSAR[{2 * found[0]}] and [{2 * found[0] + 1}]"
         else:
             pool, whence = default, told
         if why == "pool off":

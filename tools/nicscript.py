@@ -119,11 +119,17 @@ class Bench:
     def call(self, words: list[str], text: bytes) -> tuple[int, bytes]:
         """Its status and output; Refused where it refuses the input, Fault where it gives no answer."""
         if len(text) > LIMIT:
-            raise Fault(f"the input is too long: the bench reads {LIMIT:,} bytes, and this has {len(text):,}; cut the script")
+            raise Fault(
+                f"the input is too long: the bench reads {LIMIT:,} bytes, and this has {len(text):,}; cut the script"
+            )
         try:
-            ran = subprocess.Popen([str(PROGRAM), *words], stdin=subprocess.PIPE, stdout=subprocess.PIPE, stderr=subprocess.PIPE)
+            ran = subprocess.Popen(
+                [str(PROGRAM), *words], stdin=subprocess.PIPE, stdout=subprocess.PIPE, stderr=subprocess.PIPE
+            )
         except OSError as error:
-            raise Fault(f"{PROGRAM} can't be started ({error.strerror}): set NICBENCH, or use a whole clone", True) from None
+            raise Fault(
+                f"{PROGRAM} can't be started ({error.strerror}): set NICBENCH, or use a whole clone", True
+            ) from None
         with ThreadPoolExecutor(1) as pool:
             said = pool.submit(_hear, ran.stderr)
             out, _ = _talk(ran, text)
@@ -235,7 +241,9 @@ def instructions_of(script: bytes) -> tuple[list[Instruction], list[bytes]]:
     count, strings = int.from_bytes(script[6:8], "little"), int.from_bytes(script[8:10], "little")
     instructions, at = [], 16
     for _ in range(count):
-        op, sub, x, a, b = (int.from_bytes(script[at + n : at + m], "little") for n, m in ((0, 1), (1, 2), (2, 4), (4, 8), (8, 12)))
+        op, sub, x, a, b = (
+            int.from_bytes(script[at + n : at + m], "little") for n, m in ((0, 1), (1, 2), (2, 4), (4, 8), (8, 12))
+        )
         instructions.append(Instruction(Op(op), sub, x, a, b))
         at += 12
     data = []
@@ -254,7 +262,9 @@ def load(bench: Bench, path: str) -> Script:
 def of_text(bench: Bench, path: str, text: str) -> Script:
     """A script from its text. What its lines mean, `nicbench asm` says; which lines they are is counted here."""
     instructions, data = instructions_of(bench.call(["asm"], text.encode())[1])
-    lines, line_of, labels, names = text.split("\n"), [], {}, []
+    line_of: list[int] = []
+    labels: dict[str, int] = {}
+    lines, names = text.split("\n"), []
     lines = [line.removesuffix("\r") for line in (lines if lines[-1] else lines[:-1])]
     for number, line in enumerate(lines, 1):
         words = line.split("#")[0].split()
@@ -267,5 +277,7 @@ def of_text(bench: Bench, path: str, text: str) -> Script:
         else:
             line_of.append(number)
     if len(line_of) != len(instructions) or len(names) != len(data):
-        raise Fault(f"{path} has {len(instructions)} instructions, but {len(line_of)} lines of them: tell the bench's makers")
+        raise Fault(
+            f"{path} has {len(instructions)} instructions, but {len(line_of)} lines of them: tell the bench's makers"
+        )
     return Script(path, lines, instructions, data, line_of, labels, names)

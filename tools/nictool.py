@@ -35,7 +35,9 @@ def number(low: int, high: int) -> Callable[[str], int]:
 def sizes(parser: argparse.ArgumentParser) -> None:
     """The options that size the device."""
     parser.add_argument("--vfs", type=number(0, 63), metavar="N", help="how many virtual functions the device has (0)")
-    parser.add_argument("--fifo", type=number(1, 4_096), metavar="N", help="how many frames may wait to be received (64)")
+    parser.add_argument(
+        "--fifo", type=number(1, 4_096), metavar="N", help="how many frames may wait to be received (64)"
+    )
 
 
 def ended(main: Callable[[], int], name: str) -> int:

@@ -1,9 +1,9 @@
 """A run of a script on the bench, step by step: what `nicbench` answers, and the registers after each step.
 
-Everything comes from the program: `asm` gives the instructions, `run` the replies, `debug` the registers. Since a show of
-every register after every step would be millions of them, only those are asked for that the step's instruction and reply
-can change, by docs/REGISTERS.md; at the end all registers are asked for, and one that was missed is asked for at every
-step in a second run.
+Everything comes from the program: `asm` gives the instructions, `run` the replies, `debug` the registers. Since a show
+of every register after every step would be millions of them, only those are asked for that the step's instruction and
+reply can change, by docs/REGISTERS.md; at the end all registers are asked for, and one that was missed is asked for at
+every step in a second run.
 """
 
 from __future__ import annotations
@@ -95,7 +95,9 @@ class Plan:
             pf = bank == "Interrupts"
             return [first("EICR"), first("EIMS")] if pf else [first("PVTEICR", i), first("PVTEIMS", i)]
         if kind == "Ctrl" and written is not None:
-            return sorted(self.seen | {register.address}) if written & RESET_BITS else [register.address, first("STATUS")]
+            return (
+                sorted(self.seen | {register.address}) if written & RESET_BITS else [register.address, first("STATUS")]
+            )
         if kind == "Vreset":
             return sorted(self.seen) if (written or 0) & 1 << 26 else []
         return [register.address] if written is not None or kind == "Rc" else []
@@ -115,7 +117,9 @@ class Plan:
         if reply.endswith(" end") or reply.startswith("sent"):
             row, total, each = ("RQSMR", "QPRC", "VFGPRC") if rx else ("TQSM", "QPTC", "VFGPTC")
             asked += [first(total, n) for n in sorted(self.counters[row])]
-            asked += [first(each, v) for v in {queue // 2, queue // 4} if v < self.vfs] + ([] if rx else [first("GPTC")])
+            asked += [first(each, v) for v in {queue // 2, queue // 4} if v < self.vfs] + (
+                [] if rx else [first("GPTC")]
+            )
         return asked
 
     def after(self, one: Instruction, reply: str) -> list[int]:
@@ -125,9 +129,16 @@ class Plan:
             asked = self.access(nicregs.register_at(one.a), one.b if one.op == Op.WRITE else None)
         elif one.op in (Op.VF_WRITE, Op.VF_READ):
             for k in (2, 4):
-                asked += self.access(nicregs.function_register(k, one.x, one.a), one.b if one.op == Op.VF_WRITE else None)
+                asked += self.access(
+                    nicregs.function_register(k, one.x, one.a), one.b if one.op == Op.VF_WRITE else None
+                )
         elif one.op == Op.ARRIVE:
-            counted = {"done": ["GPRC"], "dropped short": ["RUC"], "dropped long": ["ROC"], "dropped full": ["MPC", "EICR"]}
+            counted = {
+                "done": ["GPRC"],
+                "dropped short": ["RUC"],
+                "dropped long": ["ROC"],
+                "dropped full": ["MPC", "EICR"],
+            }
             asked = [first(name) for name in counted.get(reply, [])]
         elif one.op in (Op.RX, Op.TX) and reply not in ("idle", "dropped queue off", "no queue"):
             queue = number_after(reply, "queue")
@@ -212,7 +223,7 @@ def _registers(
 ) -> tuple[dict[int, int], dict[int, int]]:
     """Asks for the registers that each step can change, and notes the changes. Answers the registers at the start, those
     that any step can change, and all registers at the end."""
-    plan, text = Plan(bench, script), script.text()
+    plan = Plan(bench, script)
     asked = [sorted(set(plan.after(script.instructions[step.pc], step.reply)) | always) for step in steps]
     seen, parts, begin, lines = sorted(plan.seen | always), [], 0, 0
     for k, addresses in enumerate(asked):
@@ -228,9 +239,8 @@ def _registers(
     start: dict[int, int] = {}
     every: dict[int, int] = {}
     for job in jobs:
-        before, answers, behind = job.result()
-        start.update(before)
-        every.update(behind)
+        start.update(job.result()[0])
+        every.update(job.result()[2])
     words = dict(start)
     for (begin, end), job in zip(parts, jobs):
         for step, shown in zip(steps[begin:end], job.result()[1]):

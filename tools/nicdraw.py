@@ -31,6 +31,8 @@ def look(ring: Ring, memory: Memory, slot: int) -> str:
 def ring_lines(ring: Ring, memory: Memory) -> list[str]:
     """A ring as a strip: `H` over the head, `T` over the tail, `B` where they are the same."""
     facts = f"{ring.name} {'on' if ring.on else 'off'}  base 0x{ring.base:x}  {ring.slots} slots  head {ring.head}  tail {ring.tail}"
+    if ring.back is not None:
+        facts += f"  head written back to 0x{ring.back:x}: {written_head(ring, memory)}"
     if ring.slots == 0 or ring.is_outside():
         return [facts + ("  (outside: no slot of the ring)" if ring.slots else "")]
     lines = [facts]
@@ -44,6 +46,13 @@ def ring_lines(ring: Ring, memory: Memory) -> list[str]:
         told = _slot(ring, memory, slot)
         lines += [f"  {slot:4} {told}"] if told else []
     return lines
+
+
+def written_head(ring: Ring, memory: Memory) -> str:
+    """The head that stands in memory, where it is written back."""
+    content = memory.get((ring.back or 0) & ~15)
+    at = (ring.back or 0) & 15
+    return "not lent" if content is None else str(int.from_bytes(content[at : at + 4], "little"))
 
 
 def _pointer(ring: Ring, slot: int) -> str:

@@ -94,7 +94,11 @@ class Looker:
             return self._too_long()
         if name == "Input":
             return Place(0, 0, 0, "the input is no text in UTF-8", [])
-        finders: dict[str, Callable[[], Place | None]] = {"Syntax": self._syntax, "UnknownName": self._unknown_name, "UnknownLabel": self._unknown_label}
+        finders: dict[str, Callable[[], Place | None]] = {
+            "Syntax": self._syntax,
+            "UnknownName": self._unknown_name,
+            "UnknownLabel": self._unknown_label,
+        }
         finders |= {"TwoLabels": self._twice, "Range": self._range}
         found = finders[name]() if self.words and name in finders else None
         return found or self._at(0, f"the bench refuses this line: {name}")

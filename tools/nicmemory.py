@@ -32,6 +32,7 @@ class Ring:
     head: int
     tail: int
     on: bool
+    back: int | None  # where its head is written back
 
     @property
     def name(self) -> str:
@@ -55,7 +56,14 @@ def ring_of(words: dict[int, int], side: str, queue: int) -> Ring:
     base = word_of(words, f"{letter}DBAH", queue) << 32 | word_of(words, f"{letter}DBAL", queue)
     slots = word_of(words, f"{letter}DLEN", queue) // 16
     head, tail = word_of(words, f"{letter}DH", queue), word_of(words, f"{letter}DT", queue)
-    return Ring(side, queue, base, slots, head, tail, bool(word_of(words, f"{letter}XDCTL", queue) & ENABLE))
+    on = bool(word_of(words, f"{letter}XDCTL", queue) & ENABLE)
+    return Ring(side, queue, base, slots, head, tail, on, head_word(words, queue) if side == "tx" else None)
+
+
+def head_word(words: dict[int, int], queue: int) -> int | None:
+    """Where a transmit queue's head is written back, if it is."""
+    low = word_of(words, "TDWBAL", queue)
+    return word_of(words, "TDWBAH", queue) << 32 | low & ~3 if low & 1 else None
 
 
 def sides_in_use(trace: Trace) -> list[tuple[str, int]]:
@@ -198,7 +206,10 @@ class Watch:
     def _is_new_ring(self, step: Step) -> bool:
         """Whether a ring may lie elsewhere now, or other blocks are lent."""
         names = {REGISTERS[address].row.name[1:] for address, _, _ in step.changes}
-        return bool(names & {"DBAL", "DBAH", "DLEN"}) or self.trace.instruction(step).op in (Op.LEND, Op.UNLEND)
+        return bool(names & {"DBAL", "DBAH", "DLEN", "DWBAL", "DWBAH"}) or self.trace.instruction(step).op in (
+            Op.LEND,
+            Op.UNLEND,
+        )
 
     def _rings(self) -> set[int]:
         """The units of the rings in use: of a long one those alone that were written."""
@@ -210,18 +221,13 @@ class Watch:
             ring = ring_of(self.words, side, queue)
             if ring.slots <= WHOLE_RING:
                 units.update(ring.base + 16 * slot for slot in range(ring.slots))
-            if side == "tx" and (unit := self._head_word(queue)) is not None:
-                units.add(unit & ~15)
+            if ring.back is not None:
+                units.add(ring.back & ~15)
         return {unit for unit in units if unit >> 11 in self.lent}
 
     def _is_of_long(self, unit: int) -> bool:
         """Whether a unit is a slot of a long ring, and lent."""
         return unit >> 11 in self.lent and any(0 <= unit - ring.base < 16 * ring.slots for ring in self.long)
-
-    def _head_word(self, queue: int) -> int | None:
-        """Where a queue's head is written back, if it is."""
-        low = word_of(self.words, "TDWBAL", queue)
-        return word_of(self.words, "TDWBAH", queue) << 32 | low & ~3 if low & 1 else None
 
     def _changed(self, step: Step, before: dict[int, int]) -> set[int]:
         """The units that a step may have written, or lost."""
@@ -238,8 +244,7 @@ class Watch:
             return self._received(step, before)
         elif one.op == Op.TX and step.reply.startswith(("sent", "advanced")):
             ring = ring_of(before, "tx", one.x)
-            head = self._head_word(one.x)
-            return {ring.base + 16 * ring.head} | ({head & ~15} if head is not None else set())
+            return {ring.base + 16 * ring.head} | ({ring.back & ~15} if ring.back is not None else set())
         return set()
 
     def _received(self, step: Step, before: dict[int, int]) -> set[int]:

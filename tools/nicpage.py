@@ -77,7 +77,9 @@ def sides_of(seen: Seen) -> list[dict[str, Any]]:
 
 def groups_of(trace: Trace) -> list[dict[str, Any]]:
     """The groups of interrupts, with the addresses of their registers and the names of their bits."""
-    groups: list[dict[str, Any]] = [{"name": "pf", **{key: first(name) for key, name in _GROUP.items()}, "bits": _bit_names("EICR")}]
+    groups: list[dict[str, Any]] = [
+        {"name": "pf", **{key: first(name) for key, name in _GROUP.items()}, "bits": _bit_names("EICR")}
+    ]
     for v in range(trace.bench.vfs):
         addresses = {key: first("PVT" + name, v) for key, name in _GROUP.items()}
         groups.append({"name": f"vf {v}", **addresses, "bits": _bit_names("PVTEICR")})

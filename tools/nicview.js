@@ -143,13 +143,17 @@ function slots(state, ring) {
   const left = told.length - some.length;
   return make("div", { className: "scroll" }, table, left ? make("p", { className: "faint" }, `and ${left} more that hold a descriptor`) : null);
 }
+function writtenHead(state, address) {
+  const content = state.memory.get(address - address % 16), at = 2 * (address % 16);
+  return content ? [3, 2, 1, 0].reduce((word, byte) => word * 256 + parseInt(content.substr(at + 2 * byte, 2), 16), 0) : "not lent";
+}
 function showRings(state) {
   const rings = run.sides.map((side) => ringOf(state, side)).filter((ring) => ring.slots || ring.on);
   element("rings-part").hidden = !run.sides.length;
   element("rings").replaceChildren(...rings.map((ring) => {
     const facts = make("p", { className: "mono" }, `${ring.name}: base 0x${ring.base.toString(16)}, ${ring.slots} slots, head ${ring.head}, tail ${ring.tail}, ${ring.on ? "on" : "off"}`);
     if (ring.outside) facts.append(make("span", { className: "bad" }, " (head or tail is no slot)"));
-    if (ring.back !== null) facts.append(` ; head written back to 0x${ring.back.toString(16)}`);
+    if (ring.back !== null) facts.append(`; head written back to 0x${ring.back.toString(16)}: ${writtenHead(state, ring.back)}`);
     const told = make("div", { className: "slots" }, facts, ring.slots ? slots(state, ring) : null);
     return make("div", { className: "ring" }, ring.slots && ring.slots <= 64 ? circle(state, ring) : ring.slots ? strip(state, ring) : null, told);
   }));
@@ -169,6 +173,9 @@ function showNow(n, state) {
   const answer = make("code", { className: { fault: "bad", message: "good", idle: "" }[kindOf(reply)] ?? "" }, reply || `acc ${hex(acc)}`);
   now.replaceChildren(make("div", { className: "now" }, make("code", {}, run.shown[pc]), " → ", answer));
   if (more.s) now.append(make("p", { className: more.s === "failed" ? "bad" : "faint" }, `The script ${more.s}: ${run.last}`));
+  for (const [key, all, words] of [["w", run.arrived, { "+": "It waits", "-": "It waits no more" }], ["o", run.sent, { "+": "It is out", "-": "It is collected" }]])
+    for (const [sign, frames] of more[key] || [])
+      for (const frame of frames.slice(0, 8)) now.append(make("div", { className: "faint", style: "margin-top:6px" }, words[sign] + ": "), told(all[frame], key === "w" ? "came" : "sent"));
   if (more.y) now.append(make("ul", { className: "why" }, ...more.y.map(([held, text]) => make("li", { className: held ? "held" : "" }, run.texts[text]))));
   const before = machine(n - 1).words;
   const rows = changes.map(([address, word]) => {
@@ -216,11 +223,13 @@ function told(frame, way) {
 }
 function showFrames(state) {
   element("frames-part").hidden = !run.arrived.length && !run.sent.length;
-  const counted = (n) => (n ? `${n} frame${n > 1 ? "s" : ""}` : "No frame");
-  const list = (title, frames, all, way) => [make("p", { style: "margin:6px 0 2px" }, make(frames.length ? "b" : "span", {}, `${counted(frames.length)} ${title}`)),
+  const list = (title, frames, all, way) => [make("p", { style: "margin:6px 0 2px" }, make(frames.length ? "b" : "span", {}, title)),
     ...frames.slice(0, 20).map((one) => told(all[one], way)), frames.length > 20 ? make("p", { className: "faint" }, `and ${frames.length - 20} more`) : ""];
-  element("frames").replaceChildren(...list(`waiting to be received, of at most ${run.fifo}`, state.waiting, run.arrived, "came"),
-    ...(run.sent.length ? list("out, not collected", state.out, run.sent, "sent") : []));
+  const counted = (n, verb, verbs) => (n === 0 ? `No frame ${verb}` : n === 1 ? `1 frame ${verb}` : `${n} frames ${verbs}`);
+  const waiting = counted(state.waiting.length, "waits", "wait") + " to be received" + (state.waiting.length ? `, of at most ${run.fifo}` : "");
+  const out = counted(state.out.length, "is", "are") + " out" + (state.out.length ? ", not collected" : "");
+  element("frames").replaceChildren(...list(waiting, state.waiting, run.arrived, "came"),
+    ...(run.sent.length ? list(out, state.out, run.sent, "sent") : []));
 }
 
 let lastLine = null;

@@ -140,7 +140,7 @@ class Advice:
             if side == "tx" and not [pc for pc in sends if pc < enable.pc]:
                 yield self._at(
                     enable.pc,
-                    f"{name}.ENABLE is written before DMATXCTL.TE is 1: on the card TE comes first, or the queue may not start",
+                    f"{name}.ENABLE is written before DMATXCTL.TE is 1: TE comes first, or the queue may not start",
                 )
             on = next((pc for pc, x in switched if x == queue and pc > enable.pc), None)
             if on is None:
@@ -161,7 +161,7 @@ class Advice:
                     )
                     yield self._at(
                         one.pc,
-                        f"{one.register.name} is written before the queue is on: write the tail once {name}.ENABLE reads 1, or {what}",
+                        f"{one.register.name} is written before {name}.ENABLE reads 1: write it behind that, or {what}",
                     )
             yield from self._held(bank, queue, on)
             if side == "rx":
@@ -186,7 +186,7 @@ class Advice:
                 if not [pc for pc in off if on < pc < access.pc]:
                     yield self._at(
                         access.pc,
-                        f"{access.register.name} is written while the queue is on: it is held, and the write changes nothing",
+                        f"{access.register.name} is held while the queue is on: the write changes nothing",
                     )
 
     def _buffers(self, queue: int, enable: Access) -> Iterator[Warning]:
@@ -202,7 +202,7 @@ class Advice:
             if kind != 1:
                 yield self._at(
                     one.pc,
-                    f"SRRCTL[{queue}].DESCTYPE {kind}: the bench has 1 alone, advanced with one buffer; a receive step is a fault",
+                    f"SRRCTL[{queue}].DESCTYPE {kind}: a receive step is a fault; the bench has 1, one buffer, alone",
                 )
             elif not size:
                 yield self._at(
@@ -215,7 +215,7 @@ class Advice:
         if steps and not [one for one in self._of("GPIE") if one.word & 0x10]:
             yield self._at(
                 steps[0],
-                "GPIE.Multiple_MSIX isn't set: without MSI-X mode the card sends one message for all causes, whatever IVAR says",
+                "GPIE.Multiple_MSIX isn't set: without MSI-X mode the card has one message for all causes",
             )
 
     def _causes(self) -> Iterator[Warning]:
@@ -239,17 +239,17 @@ class Advice:
                 if entry and not entry & 0x80:
                     yield self._at(
                         one.pc,
-                        f"{one.register.name} INT_Alloc[{byte}] ({side} {queue}): bit 7 is 0, so the entry doesn't count",
+                        f"{one.register.name} INT_Alloc[{byte}] ({side} {queue}) doesn't count: its bit 7 is 0",
                     )
                 elif entry and entry & 63 > 15:
                     yield self._at(
                         one.pc,
-                        f"{one.register.name} INT_Alloc[{byte}] ({side} {queue}): there is no cause {entry & 63}, of 15 at most here",
+                        f"{one.register.name} INT_Alloc[{byte}] ({side} {queue}): {entry & 63} is no cause of 0 to 15",
                     )
                 elif entry and not masked >> (entry & 63) & 1:
                     yield self._at(
                         one.pc,
-                        f"{side} {queue} raises cause {entry & 63}, whose mask in EIMS is never set: no message tells it",
+                        f"{side} {queue} raises cause {entry & 63}, which EIMS never has: no message tells it",
                     )
                 raised |= 1 << (entry & 63) if entry & 0x80 else 0
         for one in self._of("EICS"):
@@ -257,7 +257,5 @@ class Advice:
         for one in masks:
             silent = one.word & 0xFFFF & ~raised
             if silent:
-                yield self._at(
-                    one.pc,
-                    f"{', '.join(nicregs.bits('EIMS', silent))}: no entry of IVAR names these causes, so nothing raises them",
-                )
+                names = ", ".join(nicregs.bits("EIMS", silent))
+                yield self._at(one.pc, f"{names}: no entry of IVAR names these causes, so nothing raises them")

@@ -30,7 +30,8 @@ def look(ring: Ring, memory: Memory, slot: int) -> str:
 
 def ring_lines(ring: Ring, memory: Memory) -> list[str]:
     """A ring as a strip: `H` over the head, `T` over the tail, `B` where they are the same."""
-    facts = f"{ring.name} {'on' if ring.on else 'off'}  base 0x{ring.base:x}  {ring.slots} slots  head {ring.head}  tail {ring.tail}"
+    facts = f"{ring.name} {'on' if ring.on else 'off'}  base 0x{ring.base:x}  {ring.slots} slots"
+    facts += f"  head {ring.head}  tail {ring.tail}"
     if ring.back is not None:
         facts += f"  head written back to 0x{ring.back:x}: {written_head(ring, memory)}"
     if ring.slots == 0 or ring.is_outside():
@@ -135,14 +136,19 @@ def text(trace: Trace, seen: Seen, reasons: list[list[Reason]]) -> Iterator[str]
     yield from (f"note: {note}" for note in trace.notes)
 
 
-STYLE = """text { font: 13px system-ui, "DejaVu Sans", sans-serif; fill: #1c232d; } .mono { font-family: "DejaVu Sans Mono", monospace; }
+STYLE = """text { font: 13px system-ui, "DejaVu Sans", sans-serif; fill: #1c232d; }
+.mono { font-family: "DejaVu Sans Mono", monospace; }
 .ground { fill: #ffffff; stroke: #d9dee5; } .faint { fill: #5d6877; } .title { font-size: 15px; font-weight: 600; }
-.device { fill: #2f6fd0; } .done { fill: #2c8a57; } .driver, .nobody { fill: #e4e8ee; } .slot { stroke: #ffffff; stroke-width: 2; }
-.on-device, .on-done { fill: #ffffff; } .on-driver, .on-nobody { fill: #4b5563; } .head { fill: #b3261e; } .tail { fill: #7a3fb5; }
+.device { fill: #2f6fd0; } .done { fill: #2c8a57; } .driver, .nobody { fill: #e4e8ee; }
+.slot { stroke: #ffffff; stroke-width: 2; } .on-device, .on-done { fill: #ffffff; }
+.on-driver, .on-nobody { fill: #4b5563; }
+.head { fill: #b3261e; } .tail { fill: #7a3fb5; }
 .held { fill: #b8740f; }
-@media (prefers-color-scheme: dark) { text { fill: #e3e8ef; } .ground { fill: #1a2029; stroke: #303947; } .faint { fill: #9aa6b6; }
+@media (prefers-color-scheme: dark) { text { fill: #e3e8ef; } .faint { fill: #9aa6b6; }
+.ground { fill: #1a2029; stroke: #303947; }
 .device { fill: #4b86e0; } .done { fill: #2f8f5f; } .driver, .nobody { fill: #2a323e; } .slot { stroke: #1a2029; }
-.on-device, .on-done { fill: #ffffff; } .on-driver, .on-nobody { fill: #b6c1cf; } .head { fill: #ff8a80; } .tail { fill: #c9a0f5; }
+.on-device, .on-done { fill: #ffffff; } .on-driver, .on-nobody { fill: #b6c1cf; }
+.head { fill: #ff8a80; } .tail { fill: #c9a0f5; }
 .held { fill: #e0a64a; } }"""
 
 WIDTH, SIZE = 780, 216
@@ -204,13 +210,14 @@ def _wrapped(words: str, width: int) -> list[str]:
 
 
 def picture(trace: Trace, seen: Seen, reasons: list[list[Reason]], number: int) -> str:
-    """The machine after a step, as SVG: its rings, what their slots say, the frames that wait, and why a step was idle."""
+    """The machine after a step, as SVG: its rings, what their slots say, frames that wait, and why a step was idle."""
     state = State(trace, seen)
     for one in trace.steps[: number + 1]:
         state.make(one)
     step, parts, y = trace.steps[number], [], 28.0
     name = Path(trace.script.path).name
-    parts.append(_svg_text(18, y, f"{name}, step {number}: {trace.script.shown(step.pc)} → {step.reply}", "title mono"))
+    title = f"{name}, step {number}: {trace.script.shown(step.pc)} → {step.reply}"
+    parts.append(_svg_text(18, y, title, "title mono"))
     y += 14
     for ring in [one for one in state.rings() if one.slots <= LONG]:
         drawn = "".join(_svg_ring(ring, state.memory))
@@ -221,12 +228,13 @@ def picture(trace: Trace, seen: Seen, reasons: list[list[Reason]], number: int) 
     for line in held:
         y += 20
         parts.append(_svg_text(18, y, line, "held"))
-    height = y + 18
-    body = "\n".join(parts)
+    height, body = y + 18, "\n".join(parts)
+    size = f'viewBox="0 0 {WIDTH} {height:.0f}" width="{WIDTH}" height="{height:.0f}"'
+    ground = f'<rect class="ground" x="0.5" y="0.5" width="{WIDTH - 1}" height="{height - 1:.0f}" rx="10"/>'
     return (
-        f'<svg xmlns="http://www.w3.org/2000/svg" viewBox="0 0 {WIDTH} {height:.0f}" width="{WIDTH}" height="{height:.0f}" role="img">\n'
+        f'<svg xmlns="http://www.w3.org/2000/svg" {size} role="img">\n'
         f"<title>{escape(name)}, after step {number}</title>\n<style>{STYLE}</style>\n"
-        f'<rect class="ground" x="0.5" y="0.5" width="{WIDTH - 1}" height="{height - 1:.0f}" rx="10"/>\n{body}\n</svg>\n'
+        f"{ground}\n{body}\n</svg>\n"
     )
 
 
@@ -242,7 +250,7 @@ def _beside(ring: Ring, state: State, top: float) -> list[str]:
             whose = {"device": "the device's", "done": "done", "driver": "the driver's"}.get(
                 look(ring, state.memory, slot), ""
             )
-            for n, line in enumerate(_wrapped(f"slot {slot}, {whose}. {told}", 54)):
+            for n, line in enumerate(_wrapped(f"slot {slot} ({whose}), {told}", 54)):
                 lines.append((line if n == 0 else "    " + line, ""))
     waiting = [state.seen.arrived[one] for one in state.waiting]
     mine = [one for one in waiting if one.queue == ring.queue and one.data is not None] if ring.side == "rx" else []

@@ -137,7 +137,7 @@ def descriptor(side: str, content: bytes | None) -> Descriptor:
 
 def _receive(low: int, high: int) -> Descriptor:
     if not high & 1:
-        form = "empty" if low == high == 0 else "read"
+        form = "empty" if low == high == 0 else "read format"
         header = [("header buffer (ignored)", f"0x{high:x}")] if high else []
         return Descriptor(form, False, [("buffer", f"0x{low & ~1:x}"), *header])
     names = {4: "IPv4", 6: "IPv6", 8: "TCP", 9: "UDP"}

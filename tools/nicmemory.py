@@ -1,8 +1,8 @@
 """What lent memory holds after each step, which frames wait, for which queue, and which went out.
 
 The debugger has no command for memory, so a script is run again with `peek` lines between its own: a peek changes
-nothing of the device. Its instructions stand there in the order in which they were made, jumps and tests left out. Where
-that doesn't fit into one script, several are run, each from the start up to where its peeks stand.
+nothing of the device. Its instructions stand there in the order in which they were made, jumps and tests left out.
+Where that doesn't fit into one script, several are run, each from the start up to where its peeks stand.
 """
 
 from __future__ import annotations
@@ -415,8 +415,8 @@ def _find_queues(trace: Trace, replay: Replay, arrived: list[Frame]) -> None:
 
 
 def _waiting_queues(trace: Trace, replay: Replay, count: int, frames: int) -> list[int | None]:
-    """The queues of the frames that wait after so many steps, in order. Behind those steps all queues are switched on with
-    a tail that is no slot of theirs: so a receive step takes the frame in front, and its reply names the queue."""
+    """The queues of the frames that wait after so many steps, in order. Behind those steps all queues are switched on
+    with a tail that is no slot of theirs: so a receive step takes the frame in front, and its reply names the queue."""
     queues, rounds = range(128), min(frames + 1, 9)
     words = trace.registers(count)
     lines = [f"w 0x{first('CTRL'):x} 0"] if word_of(words, "CTRL") & 4 else []

@@ -271,7 +271,8 @@ def do_offsets(session: Session, words: list[str]) -> list[str]:
     function, k = count_of(words, 0), _queues(session)
     if function >= session.bench.vfs or not k:
         raise Wrong(
-            f"there is no function {function}: the device has {session.bench.vfs} (--vfs), and GCR_EXT.VT_Mode gives {128 // k if k else 'no'} pools"
+            f"there is no function {function}: the device has {session.bench.vfs} (--vfs), "
+            f"and GCR_EXT.VT_Mode gives {128 // k if k else 'no'} pools"
         )
     named = nicregs.function_offsets(k, function)
     shown = session.ask([f"showvf {function} {offset}" for offset, _ in named], len(named))
@@ -372,18 +373,26 @@ def answer(session: Session, line: str) -> list[str]:
         return [str(fault)]
 
 
+def completer(names: list[str]) -> Callable[[str, int], str | None]:
+    """Completes the last word to one of these names."""
+
+    def complete(text: str, number: int) -> str | None:
+        begun = [name for name in names if name.lower().startswith(text.lower())]
+        return begun[number] if number < len(begun) else None
+
+    return complete
+
+
 def prompt(session: Session) -> None:
     """Reads commands until the session is ended."""
     import readline
 
-    names = [*COMMANDS, "quit", *nicregs.ROWS, *session.script.labels]
-    readline.set_completer(lambda text, n: ([one for one in names if one.lower().startswith(text.lower())] + [None])[n])  # type: ignore[list-item]
+    readline.set_completer(completer([*COMMANDS, "quit", *nicregs.ROWS, *session.script.labels]))
     readline.set_completer_delims(" ")
     readline.parse_and_bind("tab: complete")
     is_terminal = sys.stdin.isatty()
-    print(
-        f"{session.script.path}: {len(session.script.instructions)} instructions; help lists the commands\n{told_view(session)}"
-    )
+    print(f"{session.script.path}: {len(session.script.instructions)} instructions; help lists the commands")
+    print(told_view(session))
     again = ""
     while True:
         try:

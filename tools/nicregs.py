@@ -114,7 +114,8 @@ _LINES = {
     "TDLEN": "*LEN 19:0",
     "TDH": "*TDH 15:0",
     "TDT": "*TDT 15:0",
-    "SRRCTL": "*BSIZEPACKET 4:0, BSIZEHEADER 13:8, RDMTS 24:22, *DESCTYPE 27:25 legacy|advanced, one buffer, *Drop_En 28",
+    "SRRCTL": "*BSIZEPACKET 4:0, BSIZEHEADER 13:8, RDMTS 24:22, *DESCTYPE 27:25 legacy|advanced, one buffer, "
+    "*Drop_En 28",
     "RXDCTL": "*ENABLE 25, VME 30",
     "TXDCTL": "PTHRESH 6:0, HTHRESH 14:8, WTHRESH 22:16, *ENABLE 25, SWFLSH 26",
     "TDWBAL": "*Head_WB_En 0, *HeadWB_Low 31:2 hex",

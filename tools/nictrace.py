@@ -25,8 +25,8 @@ RESET_BITS = 1 << 3 | 1 << 26
 @dataclass
 class Step:
     """One step: the instruction at `pc`, the reply to it, and what it changed. `changes` are (address, old, new) of
-    registers, `memory` (bus address, 16 bytes or None where they are unknown). `acc` and `status` are those of a step that asks
-    nothing of the device; of another one the reply tells them."""
+    registers, `memory` (bus address, 16 bytes or None where they are unknown). `acc` and `status` are those of a step
+    that asks nothing of the device; of another one the reply tells them."""
 
     number: int
     pc: int
@@ -221,8 +221,8 @@ def _missed(tracked: dict[int, int], shown: dict[int, int]) -> set[int]:
 def _registers(
     pool: ThreadPoolExecutor, bench: Bench, script: Script, steps: list[Step], always: set[int]
 ) -> tuple[dict[int, int], dict[int, int]]:
-    """Asks for the registers that each step can change, and notes the changes. Answers the registers at the start, those
-    that any step can change, and all registers at the end."""
+    """Asks for the registers that each step can change, and notes the changes. Answers the registers at the start,
+    those that any step can change, and all registers at the end."""
     plan = Plan(bench, script)
     asked = [sorted(set(plan.after(script.instructions[step.pc], step.reply)) | always) for step in steps]
     seen, parts, begin, lines = sorted(plan.seen | always), [], 0, 0
@@ -255,8 +255,8 @@ Shown = list[tuple[int, int]]
 def _part(
     bench: Bench, script: Script, steps: list[Step], asked: list[list[int]], before: list[int], behind: list[int]
 ) -> tuple[Shown, list[Shown], Shown]:
-    """The registers after each of some steps in a row, with some before and some behind all. A step is made together with
-    the next one where nothing is asked of it and its view tells nothing."""
+    """The registers after each of some steps in a row, with some before and some behind all. A step is made together
+    with the next one where nothing is asked of it and its view tells nothing."""
     show = lambda addresses: [f"show 0x{address:x}" for address in addresses]  # noqa: E731
     commands, views, together = ([f"step {steps[0].number}"] if steps and steps[0].number else []) + show(before), [], 0
     skipped = len(commands) - len(before)

@@ -128,7 +128,7 @@ class Looker:
         if len(rest) < fewest:
             return self._at(len(rest) + 1, f"{needs}; {kinds[len(rest)]} is missing")
         if len(rest) > len(kinds):
-            return self._at(len(kinds) + 1, f"{needs}; this word is one more")
+            return self._at(len(kinds) + 1, f"{needs}; this word is one too many")
         for n, (kind, (_, word)) in enumerate(zip(kinds, rest), 1):
             if (wrong := self._wrong(kind, word)) is not None:
                 return self._at(n, f"{wrong}; the form is {form}")
@@ -151,7 +151,7 @@ class Looker:
             if not re.fullmatch(r"[0-9a-fA-F]*", word):
                 odd = next(letter for letter in word if letter not in "0123456789abcdefABCDEF")
                 return f"expected hex digits without 0x, not {odd}"
-            return f"expected two digits a byte, and these are {len(word)}" if len(word) % 2 else None
+            return f"expected two digits a byte, and not {len(word)} in all" if len(word) % 2 else None
         return None if number_of(word) is not None else f"expected a number, decimal or 0x and hex digits, not {word}"
 
     def _unknown_name(self) -> Place:

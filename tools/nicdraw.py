@@ -117,9 +117,9 @@ def text(trace: Trace, seen: Seen, reasons: list[list[Reason]]) -> Iterator[str]
         for sign, frames in step.waiting:
             for frame in frames:
                 one = seen.arrived[frame]
-                yield f"      {'waits' if sign == '+' else 'waits no more'}: {summary(one.data or b'')}" + (
-                    f", queue {one.queue}" if one.queue is not None else ""
-                )
+                queue = f", queue {one.queue}" if one.queue is not None else ""
+                rss = f", RSS {one.rss}" if one.rss and sign == "-" else ""
+                yield f"      {'waits' if sign == '+' else 'waits no more'}: {summary(one.data or b'')}{queue}{rss}"
         for sign, frames in step.out:
             for frame in frames:
                 shown = seen.sent[frame]

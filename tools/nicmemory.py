@@ -11,6 +11,7 @@ import sys
 from dataclasses import dataclass, field
 
 sys.dont_write_bytecode = True
+from nicframes import descriptor  # noqa: E402
 from nicregs import ENABLE, REGISTERS, first  # noqa: E402
 from nicscript import Instruction, Op  # noqa: E402
 from nictrace import Step, Trace, number_after, word_of  # noqa: E402
@@ -91,6 +92,7 @@ class Frame:
     step: int
     data: bytes | None
     queue: int | None = None
+    rss: str = ""
     slots: list[str] = field(default_factory=list)
 
 
@@ -265,6 +267,7 @@ def look(trace: Trace) -> Seen:
     asked = Watch(trace, sides).steps()
     _ask_memory(trace, replay, asked, sent)
     _lost(trace)
+    _give_hashes(trace, arrived)
     _collect(replay, sent)
     _find_queues(trace, replay, arrived)
     return Seen(sides, arrived, sent)
@@ -320,6 +323,19 @@ def _lost(trace: Trace) -> None:
             step.memory += [(unit, None) for unit in held if unit >> 11 == one.x]
         step.memory = [(unit, content) for unit, content in step.memory if held.get(unit, b"") != content]
         held.update(step.memory)
+
+
+def _give_hashes(trace: Trace, arrived: list[Frame]) -> None:
+    """Gives each frame that was written the RSS type and hash that its descriptor tells."""
+    waiting: list[int] = []
+    for step in trace.steps:
+        written = [descriptor("rx", content) for _, content in step.memory] if step.reply.startswith("wrote") else []
+        for one in written:
+            if one.done and waiting:
+                said = dict(one.fields)
+                arrived[waiting[0]].rss = f"type {said['RSS type']}, hash {said['RSS hash']}"
+        for sign, frames in step.waiting:
+            waiting = waiting + frames if sign == "+" else [one for one in waiting if one not in frames]
 
 
 def _account(trace: Trace) -> tuple[list[Frame], list[Frame]]:

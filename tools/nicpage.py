@@ -95,14 +95,14 @@ def _bit_names(row: str) -> list[str]:
 
 
 def _frames(frames: list[Frame], packets: Table) -> list[list[Any]]:
-    """The frames as step, queue, slots and the number of their packet."""
+    """The frames as step, queue, slots, the number of their packet, and their RSS type and hash."""
     shown = []
     for frame in frames:
         packet = None
         if frame.data is not None:
             layers = [[header.name, header.fields] for header in headers(frame.data)]
             packet = packets.number([summary(frame.data), layers, frame.data[:256].hex(), len(frame.data)])
-        shown.append([frame.step, frame.queue, frame.slots, packet])
+        shown.append([frame.step, frame.queue, frame.slots, packet, frame.rss])
     return shown
 
 

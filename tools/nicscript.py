@@ -10,9 +10,10 @@ from concurrent.futures import ThreadPoolExecutor
 from dataclasses import dataclass
 from enum import IntEnum
 from pathlib import Path
+from threading import Lock
 
 ROOT = Path(__file__).resolve().parent.parent
-PROGRAM = Path(os.environ.get("NICBENCH", ROOT / "nicbench"))
+PROGRAM = Path(os.environ.get("NICBENCH") or ROOT / "nicbench")
 LIMIT = 8_388_608
 
 
@@ -107,8 +108,14 @@ class Instruction:
         return self.op >= Op.EXPECT
 
 
+# The starter compiles the program where there is none: that is done once, before any calls side by side.
+_STARTED = Lock()
+
+
 class Bench:
     """The program `nicbench`, with the sizes of its device."""
+
+    is_made = False
 
     def __init__(self, vfs: int | None = None, fifo: int | None = None):
         self.vfs, self.fifo = vfs or 0, 64 if fifo is None else fifo
@@ -118,6 +125,13 @@ class Bench:
 
     def call(self, words: list[str], text: bytes) -> tuple[int, bytes]:
         """Its status and output; Refused where it refuses the input, Fault where it gives no answer."""
+        with _STARTED:
+            if not Bench.is_made:
+                self._call(["--version"], b"")
+                Bench.is_made = True
+        return self._call(words, text)
+
+    def _call(self, words: list[str], text: bytes) -> tuple[int, bytes]:
         if len(text) > LIMIT:
             raise Fault(
                 f"the input is too long: the bench reads {LIMIT:,} bytes, and this has {len(text):,}; cut the script"
@@ -135,7 +149,7 @@ class Bench:
             out, _ = _talk(ran, text)
         if ran.returncode == 2 and (found := re.fullmatch(rb"refused (\w+)(?: (\d+))?\n", out)):
             raise Refused(found[1].decode(), int(found[2] or 0))
-        if ran.returncode not in (0, 1):
+        if ran.returncode not in ((0, 1) if words[0] == "run" else (0,)) or not out:
             reason = (out.decode(errors="replace") + said.result()).strip().splitlines()
             last = reason[-1] if reason else "it printed nothing"
             raise Fault(f"{PROGRAM} {' '.join(words)} ended with status {ran.returncode}: {last}", True)

@@ -241,7 +241,7 @@ function showInterrupts(state) {
   element("interrupts").replaceChildren(...(parts.length ? parts : [faint("No cause, mask or vector is set.")]));
 }
 // A frame in one line, which opens to its headers.
-function told([step, queue, slots, packet], way) {
+function told([step, queue, slots, packet, rss], way) {
   const whose = queue !== null ? `queue ${queue}` : "queue not known";
   const where = `${whose}, ${way} at step ${step}` + (slots.length ? `, in ${slots.join(", ")}` : "");
   if (packet === null) return make("details", {}, make("summary", {}, `a frame (${where})`));
@@ -249,8 +249,10 @@ function told([step, queue, slots, packet], way) {
   const list = (title, pairs) => make("dl", {}, make("dt", {}, make("b", {}, title)), make("dd", {}), ...pairs);
   const pair = ([key, value]) => [make("dt", {}, key), make("dd", {}, value)];
   const bytes = make("dd", { className: "mono" }, octets + (length > octets.length / 2 ? ".." : ""));
+  const hashed = rss ? make("dl", {}, make("dt", {}, "RSS, as its descriptor tells"), make("dd", {}, rss)) : "";
   return make("details", {}, make("summary", {}, `${summary} (${where})`),
-    ...layers.map(([name, pairs]) => list(name, pairs.flatMap(pair))), make("dl", {}, make("dt", {}, "bytes"), bytes));
+    ...layers.map(([name, pairs]) => list(name, pairs.flatMap(pair))), hashed,
+    make("dl", {}, make("dt", {}, "bytes"), bytes));
 }
 function showFrames(state) {
   const counted = (n, one, more) => (n === 0 ? `No frame ${one}` : n === 1 ? `1 frame ${one}` : `${n} frames ${more}`);

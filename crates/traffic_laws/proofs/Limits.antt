@@ -7,6 +7,7 @@ use Rattle.nic_device.specs.RegisterFile.Columns.{place}
 use Rattle.nic_device.specs.RegisterFile.Registers.{Registers, word_of}
 use Rattle.nic_device.specs.RegisterFile.Settings.{frame_limit}
 use Rattle.nic_device.specs.RegisterLaws.Sound.{AreSound}
+use Rattle.nic_device.proofs.RegisterLaws.RowBits.{word_small}
 use Rattle.traffic_laws.specs.Arrival.{IsLimit}
 use Rattle.traffic_laws.specs.Bits.{field}
 use Rattle.traffic_laws.proofs.Bits.{has-one, has-zero, one-has, zero-has}
@@ -16,7 +17,7 @@ upper_half : (word : ℕ) → word < 2 ^ 32 → field 31 16 word ≡ word / 2 ^ 
 upper_half word small = omega arith
 
 jumbo : (r : Registers) → AreSound r → field 31 16 (word_of r Maxfrs 0) - 4 ≡ word_of r Maxfrs 0 / 2 ^ 16 - 4
-jumbo r h = ap (λ n. n - 4) (upper_half (word_of r Maxfrs 0) (h.words (place Maxfrs 0)))
+jumbo r h = ap (λ n. n - 4) (upper_half (word_of r Maxfrs 0) (word_small r h (place Maxfrs 0)))
 
 pub limit-is : (r : Registers) → AreSound r → (limit : ℕ) → IsLimit r limit → limit ≡ frame_limit r
 limit-is r h limit (inl e) =

@@ -26,7 +26,7 @@ use Rattle.nic_device.specs.declared.event.Reply.TheVariants.{Done}
 use Rattle.nic_device.proofs.Cases.{either_way, arrived_cases}
 use Rattle.interrupt_laws.specs.Arriving.{IsOfOpenPool, JoinsOpenPool, VfreLetsIntoPools, queue_mode}
 use Rattle.interrupt_laws.proofs.Addresses.{address_of}
-use Rattle.interrupt_laws.proofs.Reading.{read-word}
+use Rattle.interrupt_laws.proofs.Reading.{read-word, word_lt}
 use Rattle.interrupt_laws.proofs.Words.{whole-read}
 
 -- the pool of a frame is below 64
@@ -117,7 +117,7 @@ module _ (s : State) (h : IsSound s) where
   mrqc =
       ap (λ w. w % 16) (read-word s 0x05818 (place Mrqc 0)
       (address_of (place Mrqc 0) 0x05818 (first_address (place Mrqc 0) (lit< tt)))
-      (h.registers.words (place Mrqc 0)))
+      (word_lt s h (place Mrqc 0)))
 
   is_of : (queue : ℕ) (q : IsSorted s.registers queue) → IsOfOpenPool s queue q.pool
   unfolding mode_by
@@ -155,5 +155,5 @@ lets_in s h bit frame =
       short = λ e. absurd (cc);
       long = λ e. absurd (cc);
       missed = λ e. absurd (cc);
-      joined = λ t is room e. joined s h uses frame t is _ refl;
+      joined = λ t is room least most e. joined s h uses frame t is _ refl;
     })

@@ -22,7 +22,7 @@ use Rattle.interrupt_laws.specs.Queues.{IsQueueOf, byte_of, side_byte, pf_byte, 
 use Rattle.interrupt_laws.specs.Shown.{read_at}
 use Rattle.interrupt_laws.proofs.Addresses.{address_of}
 use Rattle.interrupt_laws.proofs.Pools.{is_in, halves, queues_there}
-use Rattle.interrupt_laws.proofs.Reading.{read-word}
+use Rattle.interrupt_laws.proofs.Reading.{read-word, word_lt}
 
 -- the cause that a byte names
 
@@ -65,7 +65,7 @@ pub pf_entry : (s : State) → IsSound s → (dir : Dir) (queue : ℕ) → queue
 pf_entry s h dir queue small =
     let p = place Ivar (queue / 2) in
     let a : ℕ = 0x00900 + 4 * (queue / 2) in
-    let word = read-word s a p (address_of p a (first_address p (omega arith))) (h.registers.words p) in
+    let word = read-word s a p (address_of p a (first_address p (omega arith))) (word_lt s h p) in
     same_byte dir (read_at s a) queue queue refl Pf s.registers (sym word)
 
 pub vf_entry : (s : State) → IsSound s → (dir : Dir) (v x queue : ℕ) → IsQueueOf s v x queue
@@ -76,7 +76,7 @@ vf_entry s h dir v x queue q =
     let small = parts.small in
     let p = place Pvtivar (queue / 2) in
     let a : ℕ = 0x12500 + 4 * (queue / 2) in
-    let word = read-word s a p (address_of p a (first_address p (omega arith))) (h.registers.words p) in
+    let word = read-word s a p (address_of p a (first_address p (omega arith))) (word_lt s h p) in
     ap (λ n. byte_of (read_at s (0x12500 + 4 * (v * n / 2 + x / 2))) (2 * (x % 2) + side_byte dir)) k
     ∙ ap (λ n. byte_of (read_at s (0x12500 + 4 * n)) (2 * (x % 2) + side_byte dir)) parts.word
     ∙ same_byte dir (read_at s a) x queue parts.half (Vf v) s.registers (sym word)

@@ -11,6 +11,7 @@ pub mod Lasting
 pub mod LastingAccesses
 pub mod Masks
 pub mod Muting
+pub mod OtherBits
 pub mod Owned
 pub mod Plain
 pub mod Pools

@@ -4,7 +4,10 @@ use Rattle.std.specs.Prelude.{bit_and}
 use Rattle.std.proofs.lemmas.Nat.{and_mask}
 use Rattle.nic_device.specs.DmaArena.Block.{Block}
 use Rattle.nic_device.specs.RegTable.declared.place.Place.{Place}
+use Rattle.nic_device.specs.RegisterFile.Words.{word_at}
+use Rattle.nic_device.proofs.RegisterLaws.RowBits.{word_small}
 use Rattle.nic_device.specs.Access.{word_read}
+use Rattle.nic_device.specs.Sound.{IsSound}
 use Rattle.nic_device.specs.State.{State}
 use Rattle.nic_device.specs.declared.event.Reply.{Reply}
 use Rattle.interrupt_laws.specs.Names.{IsAddressOf}
@@ -21,3 +24,7 @@ read-word s a p is h =
     ap (λ (r : Reply Block). word_in r) (reply-read s a p is.named)
     ∙ ap (bit_and (word_read s p)) is.view
     ∙ whole_word (word_read s p) h
+
+-- the words of a sound device are of 32 bits
+pub word_lt : (s : State) → IsSound s → (p : Place) → word_at s.registers.words p < 2 ^ 32
+word_lt s h p = word_small s.registers h.registers p

@@ -14,7 +14,7 @@ use Rattle.nic_device.specs.State.{State}
 use Rattle.interrupt_laws.specs.Shown.{read_at, reads_one}
 use Rattle.interrupt_laws.specs.Steps.{control_address, mode_address, misc_address, pools_by, pools_of}
 use Rattle.interrupt_laws.proofs.Addresses.{address_of}
-use Rattle.interrupt_laws.proofs.Reading.{read-word}
+use Rattle.interrupt_laws.proofs.Reading.{read-word, word_lt}
 use Rattle.interrupt_laws.proofs.Words.{whole-read}
 
 pub stops : (s : State) → reads_one s control_address 2 ≡ is_stopped s.registers
@@ -26,13 +26,13 @@ pub misc_word : (s : State) → IsSound s → read_at s misc_address ≡ word_of
 misc_word s h =
     read-word s misc_address (place IvarMisc 0)
     (address_of (place IvarMisc 0) misc_address (first_address (place IvarMisc 0) (lit< tt)))
-    (h.registers.words (place IvarMisc 0))
+    (word_lt s h (place IvarMisc 0))
 
 pub mode_word : (s : State) → IsSound s → read_at s mode_address ≡ word_of s.registers GcrExt 0
 mode_word s h =
     read-word s mode_address (place GcrExt 0)
     (address_of (place GcrExt 0) mode_address (first_address (place GcrExt 0) (lit< tt)))
-    (h.registers.words (place GcrExt 0))
+    (word_lt s h (place GcrExt 0))
 
 -- the mode by the field of GCR_EXT
 abbrev pub mode_by : ℕ → Mode

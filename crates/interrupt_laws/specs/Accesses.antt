@@ -1,5 +1,5 @@
 -- What accesses of a group's registers do, as later reads show it.
-use Rattle.std.specs.Prelude.{ℕ, ◌≡◌, ◌<◌, Bool, false, not, ◌&&◌, ◌||◌, nat_le, if◌then◌else◌}
+use Rattle.std.specs.Prelude.{ℕ, ◌≡◌, ◌<◌, ◌≤◌, Bool, false, not, ◌&&◌, ◌||◌, nat_le, if◌then◌else◌}
 use Rattle.nic_device.specs.RegTable.Place.{Names, view_among}
 use Rattle.nic_device.specs.RegTable.Runs.{runs}
 use Rattle.nic_device.specs.RegTable.declared.place.Place.{Place}
@@ -13,7 +13,7 @@ use Rattle.nic_device.specs.declared.event.Event.TheVariants as event
 use Rattle.nic_device.specs.declared.event.Port.TheVariants as port
 use Rattle.nic_device.specs.declared.event.Reply.TheVariants.{Word}
 use Rattle.device_laws.specs.Laws.{reply_to_read, after_write}
-use Rattle.interrupt_laws.specs.Names.{IsGroup, cause_register, cause_set_register, mask_register, mask_clear_register, auto_clear_register, auto_mask_register, general_address}
+use Rattle.interrupt_laws.specs.Names.{IsGroup, bits_in, cause_register, cause_set_register, mask_register, mask_clear_register, auto_clear_register, auto_mask_register, general_address}
 use Rattle.interrupt_laws.specs.Shown.{Bit, bit_of, reads_one, masks_by_access, ShowsThen}
 
 -- whether an address shows a bit, and whether a bit is written as 1 through it
@@ -107,3 +107,9 @@ abbrev pub ReadsShowTheView : Type 0
 ReadsShowTheView =
     (s : State) (p : Place) (whole address bit : ℕ) → Names whole p → view_among runs whole ≡ 0xFFFFFFFF →
     Names address p → bit < 32 → reads_one s address bit ≡ (reads_one s whole bit && shows address bit)
+
+-- no bit reads as 1 that the group's registers don't have
+abbrev pub OtherBitsReadZero : Type 0
+OtherBitsReadZero =
+    (s : State) → IsSound s → (g : Group) → IsGroup g → (bit : ℕ) → bits_in g ≤ bit → bit < 32 →
+    bit_of s g bit ≡ record { cause = false; mask = false; auto_clear = false; auto_mask = false }

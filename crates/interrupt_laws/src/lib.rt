@@ -13,7 +13,7 @@ ghost use Rattle.interrupt_laws.specs.Plain.{PlainWriteIsAlone, ArePlain, Timers
 ghost use Rattle.interrupt_laws.specs.Queues.{IvarNamesCauses, PvtivarNamesCauses, MappingsNameCounters, VfteMutesPools};
 ghost use Rattle.interrupt_laws.specs.Status.{StatusTellsOfSteps, LinksTellsTheLink, LinksTellsTheLinkSet};
 ghost use Rattle.interrupt_laws.specs.Steps.{MessageStepsTellWhatIsDue};
-ghost use Rattle.interrupt_laws.specs.Accesses.{WriteOfCauseSetSets, WriteOfCausesClears, ReadOfCausesClears, WriteOfMasksSets, WriteOfMaskClearClears, SetAndClearReadZero, WriteOfAutoClearIsKept, WriteOfAutoMaskIsKept, ReadsShowTheView};
+ghost use Rattle.interrupt_laws.specs.Accesses.{WriteOfCauseSetSets, WriteOfCausesClears, ReadOfCausesClears, WriteOfMasksSets, WriteOfMaskClearClears, SetAndClearReadZero, WriteOfAutoClearIsKept, WriteOfAutoMaskIsKept, ReadsShowTheView, OtherBitsReadZero};
 
 /// The interrupt registers of the physical function and of each of 64 virtual functions are at the datasheet's
 /// addresses, and EICS, EIMS, EIMC and EIAM have low views, which show bits 15 to 0 alone.
@@ -108,4 +108,10 @@ pub fn plain_writes_are_alone()
 /// with 11.
 pub fn vfre_lets_into_pools()
     ensures { VfreLetsIntoPools }
+{}
+
+/// No bit of EICR, EIMS, EIAC and EIAM reads as 1 but bits 0 to 30, nor one of PVTEICR, PVTEIMS, PVTEIAC and PVTEIAM
+/// but bits 0 to 2.
+pub fn other_bits_read_zero()
+    ensures { OtherBitsReadZero }
 {}

@@ -12,7 +12,7 @@ use Rattle.device_lock.specs.Fault.{event_of}
 use Rattle.pmd_seam.specs.Made.{Adds, AddsSome, AreSteps, steps_of_queue}
 use Rattle.pmd_seam.proofs.Stepping.{first_steps, queue_steps}
 use Rattle.pmd_seam.proofs.Steps.{AllSteps}
-use Rattle.pmd_seam.specs.Stepped.{AtLock, AreStepped, StepsAndMakes, StopsStepping, events_in, with_calls}
+use Rattle.pmd_seam.specs.Stepped.{AtLock, AreStepped, StepsAndMakes, StopsStepping, events_in, refusals_of, with_calls}
 
 -- calls after calls
 with_both : (t : AtLock) (a b : List Call) → with_calls (with_calls t a) b ≡ with_calls t (a ++ b)
@@ -88,3 +88,14 @@ refused_adds (Err f) e old new back (count, made) = (
         (subst AllSteps (sym made.1) (first_steps count (steps_of_queue old.queue) (queue_steps old.queue))),
   ),
 )
+
+-- and what it may refuse calls for stays
+
+stepped_same : (old new : AtLock) (events : List (Event Block)) → AreStepped old new events
+    → refusals_of new ≡ refusals_of old
+stepped_same old new events (steps, are, is) = ap (λ (t : AtLock). refusals_of t) is
+
+pub call_same : (r : Result (Reply Block) (CallFault (Event Block))) (e : Event Block) (old new : AtLock)
+    → IfOk r (λ x. StepsAndMakes old new e x) → OnErr r (StopsStepping old new) → refusals_of new ≡ refusals_of old
+call_same (Ok x) e old new (steps, are, is) stops = ap (λ (t : AtLock). refusals_of t) is
+call_same (Err f) e old new makes (count, made) = stepped_same old new _ made

@@ -1,5 +1,5 @@
 -- A pass to a shared device, whose queue is stepped on before each call.
-use Rattle.std.specs.Prelude.{◌≡◌, ℕ, true, List, [], ◌∷◌, ◌++◌, map, take}
+use Rattle.std.specs.Prelude.{◌≡◌, ◌==◌, ◌&&◌, ℕ, Bool, true, not, nat_lt, List, [], ◌∷◌, ◌++◌, map, take}
 use Rattle.nic_device.specs.DmaArena.Block.{Block}
 use Rattle.nic_device.specs.declared.event.Event.{Event}
 use Rattle.nic_device.specs.declared.event.Reply.{Reply}
@@ -8,9 +8,10 @@ use Rattle.device_lock.specs.Pass.{PassValue, call_of}
 use Rattle.pmd_seam.specs.Made.{steps_of_queue}
 use Rattle.pmd_seam.specs.Refusals.{Refusals}
 
--- a pass, the number of the shared device's bench, and the queue that is stepped on
+-- a pass, the number of the shared device's bench and how many passes it has, and the queue that is stepped on
 pub record AtLock : Type 0 where
   pub bench : ℕ
+  pub passes : ℕ
   pub queue : ℕ
   pub pass : PassValue
 
@@ -18,9 +19,13 @@ pub record AtLock : Type 0 where
 abbrev pub caller_of : AtLock → ℕ × ℕ
 caller_of t = (t.pass.bench, t.pass.tag)
 
--- what it may refuse calls for, as far as the shared device says: whatever a call can be refused for
+-- whether the pass is none of the shared device's: it is of another bench, or its tag is none of this one
+abbrev pub is_foreign : AtLock → Bool
+is_foreign t = not ((t.pass.bench == t.bench) && nat_lt t.pass.tag t.passes)
+
+-- what it may refuse calls for: a foreign pass where it has one, and a full history
 abbrev pub refusals_of : AtLock → Refusals
-refusals_of t = record { foreign = true; full = true }
+refusals_of t = record { foreign = is_foreign t; full = true }
 
 -- the same pass with these calls more
 abbrev pub with_calls : AtLock → List Call → AtLock

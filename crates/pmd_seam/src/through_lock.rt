@@ -1,11 +1,11 @@
-ghost use Rattle.std.specs.Prelude.{◌≡◌, ◌≢◌, [], ◌∷◌, true, Err, IfOk, IfErr, OnOk, OnErr};
+ghost use Rattle.std.specs.Prelude.{◌≡◌, ◌↔◌, [], ◌∷◌, true, IsTrue, Err, IfOk, IfErr, OnOk, OnErr};
 ghost use Rattle.device_lock.specs.Fault.{event_of};
 ghost use Rattle.device_lock.specs.Pass.{call_of};
 ghost use Rattle.nic_device.specs.Answering.{may_answer};
 ghost use Rattle.pmd_seam.specs.Events.{is_step};
 ghost use Rattle.pmd_seam.specs.Made.{Adds, AddsSome, steps_of_queue};
 ghost use Rattle.pmd_seam.specs.Refusals.{CanRefuse};
-ghost use Rattle.pmd_seam.specs.Stepped.{StepsAndMakes, StopsStepping, AreStepped, with_calls, caller_of, refusals_of};
+ghost use Rattle.pmd_seam.specs.Stepped.{StepsAndMakes, StopsStepping, AreStepped, with_calls, caller_of, is_foreign, refusals_of};
 
 use crate::fault::without_event;
 use crate::nic::Nic;
@@ -31,13 +31,15 @@ impl<'a, R: Wait, const VFS: u8, const FIFO: u16> Model for ThroughLock<'a, R, V
 
     ghost Value = { AtLock };
 
-    ghost view = { λ t. record { bench = t.shared.now.bench; queue = t.queue; pass = t.pass } };
+    ghost view = { λ t.
+        record { bench = t.shared.now.bench; passes = t.shared.now.passes; queue = t.queue; pass = t.pass } };
 }
 
 impl<'a, R: Wait, const VFS: u8, const FIFO: u16> ThroughLock<'a, R, VFS, FIFO> {
     /// A way to the shared device by this pass, which steps on the queue of this number before each call.
     pub fn new(rt: &'a R, shared: &'a Shared<VFS, FIFO>, pass: Pass, queue: u16) -> Self
-        ensures { result ≡ record { bench = shared.now.bench; queue = queue; pass = pass } }
+        ensures { result
+            ≡ record { bench = shared.now.bench; passes = shared.now.passes; queue = queue; pass = pass } }
     {
         ThroughLock {
             rt,
@@ -71,7 +73,7 @@ impl<'a, R: Wait, const VFS: u8, const FIFO: u16> ThroughLock<'a, R, VFS, FIFO> 
     fn make(&mut self, alloc: Global, event: Event) -> Result<Reply, CallFault>
         ensures made { IfOk result (λ reply. self.new ≡ with_calls self.old (call_of event reply ∷ [])) }
         ensures fits { IfOk result (λ reply. may_answer event reply ≡ true) }
-        ensures foreign { self.old.pass.bench ≢ self.old.bench → result ≡ Err (CallFault.ForeignPass event) }
+        ensures foreign { (result ≡ Err (CallFault.ForeignPass event)) ↔ IsTrue (is_foreign self.old) }
         ensures back { IfErr result (λ fault. event_of fault ≡ event) }
         ensures unchanged { OnErr result (self.new ≡ self.old) }
     {
@@ -84,7 +86,7 @@ impl<'a, R: Wait, const VFS: u8, const FIFO: u16> ThroughLock<'a, R, VFS, FIFO> 
     fn make_step(&mut self, alloc: Global, step: Event) -> Result<(), CallFault<()>>
         requires { is_step step ≡ true }
         ensures made { OnOk result (AreStepped self.old self.new (step ∷ [])) }
-        ensures foreign { self.old.pass.bench ≢ self.old.bench → result ≡ Err (CallFault.ForeignPass tt) }
+        ensures foreign { (result ≡ Err (CallFault.ForeignPass tt)) ↔ IsTrue (is_foreign self.old) }
         ensures unchanged { OnErr result (self.new ≡ self.old) }
     {
         match self.make(alloc, step) {
@@ -99,8 +101,9 @@ impl<'a, R: Wait, const VFS: u8, const FIFO: u16> ThroughLock<'a, R, VFS, FIFO> 
     /// The device steps that are made before each call.
     fn step_on(&mut self, alloc: Global) -> Result<(), CallFault<()>>
         ensures made { OnOk result (AreStepped self.old self.new (steps_of_queue self.old.queue)) }
-        ensures foreign { self.old.pass.bench ≢ self.old.bench
+        ensures foreign { IsTrue (is_foreign self.old)
             → (result ≡ Err (CallFault.ForeignPass tt)) × (self.new ≡ self.old) }
+        ensures only { result ≡ Err (CallFault.ForeignPass tt) → IsTrue (is_foreign self.old) }
         ensures amid { OnErr result (StopsStepping self.old self.new) }
     {
         let queue = self.queue;
@@ -113,13 +116,14 @@ impl<'a, R: Wait, const VFS: u8, const FIFO: u16> ThroughLock<'a, R, VFS, FIFO> 
 
     /// Makes the device steps, and then the event, each under the lock. `Nic::call` does the same.
     ///
-    /// `ForeignPass` where the pass is of another bench: nothing is made. Else what `Shared::call` refuses one of them
-    /// for: the steps so far are made, and the event isn't.
+    /// `ForeignPass` exactly where the pass is of another bench or has no tag of this one: nothing is made. Else what
+    /// `Shared::call` refuses one of them for: the steps so far are made, and the event isn't.
     pub fn step_and_make(&mut self, alloc: Global, event: Event) -> Result<Reply, CallFault>
         ensures exact { IfOk result (λ reply. StepsAndMakes self.old self.new event reply) }
         ensures fits { IfOk result (λ reply. may_answer event reply ≡ true) }
-        ensures foreign { self.old.pass.bench ≢ self.old.bench
+        ensures foreign { IsTrue (is_foreign self.old)
             → (result ≡ Err (CallFault.ForeignPass event)) × (self.new ≡ self.old) }
+        ensures only { result ≡ Err (CallFault.ForeignPass event) → IsTrue (is_foreign self.old) }
         ensures back { IfErr result (λ fault. event_of fault ≡ event) }
         ensures amid { OnErr result (StopsStepping self.old self.new) }
     {

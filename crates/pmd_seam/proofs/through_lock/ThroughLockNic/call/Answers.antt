@@ -1,5 +1,8 @@
-use Rattle.pmd_seam.proofs.LockStepping.{made_adds, refused_adds}
-use Rattle.pmd_seam.proofs.Refusals.{any_refuses}
+use Rattle.std.proofs.Common.{sym, subst, IfErr}
+use Rattle.pmd_seam.specs.Refusals.{Refusals, CanRefuse}
+use Rattle.pmd_seam.specs.Stepped.{is_foreign}
+use Rattle.pmd_seam.proofs.LockStepping.{made_adds, refused_adds, call_same}
+use Rattle.pmd_seam.proofs.Refusals.{lock_refuses}
 use Rattle.pmd_seam.proofs.through_lock.ThroughLockNic.call.Goals as goal
 
 pub returns-clause-made : goal.returns-clause-made
@@ -12,4 +15,9 @@ returns-clause-refused g c =
     c.step_and_make.ensures.back c.step_and_make.ensures.amid
 
 pub returns-clause-refusal : goal.returns-clause-refusal
-returns-clause-refusal g c = any_refuses c.step_and_make.result
+returns-clause-refusal g c =
+    subst (λ (way : Refusals). IfErr c.step_and_make.result (λ f. CanRefuse way f))
+    (sym (call_same c.step_and_make.result c.args.event c.args.self.now c.step_and_make.new.self
+    c.step_and_make.ensures.exact c.step_and_make.ensures.amid))
+    (lock_refuses (is_foreign c.args.self.now) c.args.event c.step_and_make.result c.step_and_make.ensures.only
+    c.step_and_make.ensures.back)

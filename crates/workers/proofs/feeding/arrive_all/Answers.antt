@@ -1,6 +1,6 @@
 use Rattle.std.proofs.Common.{ℕ, List, [], ◌∷◌, ◌++◌, map, sym, ap, ◌∙◌, subst, append_assoc}
 use Rattle.std.proofs.lemmas.List.{nil_from_length}
-use Rattle.device_lock.specs.Pass.{PassValue}
+use Rattle.device_lock.specs.Pass.{PassValue, IsOwn}
 use Rattle.workers.specs.Feeding.{HaveArrived}
 use Rattle.workers.proofs.Arriving.{one_more, all_came, stops_before}
 use Rattle.workers.proofs.feeding.arrive_all.Goals as goal
@@ -15,7 +15,8 @@ loop-frame-preserved g c =
           ∙ are,
       one_more before (bytes ∷ []) _ _ _ arrived c.in-Ok.ensures.arrived,
       λ foreign.
-          let no = c.in-Ok.ensures.foreign (λ e. foreign (sym (ap (λ (p : PassValue). p.bench) arrived.made) ∙ e)) in
+          let no = c.in-Ok.ensures.foreign (λ own. foreign
+              (subst (λ (p : PassValue). IsOwn c.args.shared.now.bench c.args.shared.now.passes p) arrived.made own)) in
           absurd cc,
     )
 

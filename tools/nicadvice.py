@@ -35,13 +35,18 @@ class Access:
 
 
 def absent_registers() -> dict[int, tuple[str, str]]:
-    """Registers of the card that the bench hasn't, by address: names and what to do, from docs/CARD.md."""
+    """Registers of the card that the bench hasn't, by address: names and what to do, from docs/CARD.md. A row of its
+    table has names and addresses of a family; where these aren't as many, an address has all the names."""
     found: dict[int, tuple[str, str]] = {}
     for line in (ROOT / "docs/CARD.md").read_text().splitlines():
-        cells = [cell.strip() for cell in line.strip("|").split("|")]
-        if len(cells) == 4 and re.match(r"0x[0-9A-F]{5}", cells[1]):
-            for name, address in zip(cells[0].split(", "), re.findall(r"0x[0-9A-Fa-f]+", cells[1])):
-                found[int(address, 16)] = (name, cells[3])
+        cells = [cell.strip() for cell in line.strip().strip("|").split("|")]
+        if len(cells) != 4 or not re.match(r"0x[0-9A-F]{5}", cells[1]):
+            continue
+        names = [re.sub(r" \(.*?\)", "", name.replace("*", "")) for name in cells[0].split(", ")]
+        names = ["a counter"] if names[0].startswith("counters") else [name for name in names if name[0].isupper()]
+        addresses = [int(match[0], 16) for part in cells[1].split(", ") if (match := re.match(r"0x[0-9A-Fa-f]+", part))]
+        for n, address in enumerate(addresses):
+            found[address] = (names[n] if len(names) == len(addresses) else ", ".join(names), cells[3].split(". ")[0])
     return found
 
 

@@ -146,7 +146,7 @@ def _receive(low: int, high: int) -> Descriptor:
     fields = [
         ("DD", str(high & 1)),
         ("EOP", str(high >> 1 & 1)),
-        ("length", str(high >> 32 & 0xFFFF)),
+        ("PKT_LEN", str(high >> 32 & 0xFFFF)),
         ("packet type", packet),
         ("RSS type", f"{kind} ({RSS_TYPES[kind]})" if kind in RSS_TYPES else str(kind)),
         ("RSS hash", f"0x{low >> 32:08x}"),

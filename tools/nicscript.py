@@ -60,6 +60,7 @@ class Op(IntEnum):
     HALT = 22
 
 
+_NUMBERS = {int(one) for one in Op}
 JUMPS = (Op.JEQ, Op.JNE, Op.JMP)
 
 
@@ -258,6 +259,8 @@ def instructions_of(script: bytes) -> tuple[list[Instruction], list[bytes]]:
         op, sub, x, a, b = (
             int.from_bytes(script[at + n : at + m], "little") for n, m in ((0, 1), (1, 2), (2, 4), (4, 8), (8, 12))
         )
+        if op not in _NUMBERS:
+            raise Fault(f"the bench has an operation {op} that these tools don't know: take both from one clone", True)
         instructions.append(Instruction(Op(op), sub, x, a, b))
         at += 12
     data = []

@@ -1,11 +1,16 @@
 -- How many steps a machine has counted after so many.
-use Rattle.std.proofs.Common.{◌≡◌, ◌≢◌, refl, sym, ◌∙◌, ap, ℕ, zero, suc, ◌+◌, ◌≤◌, Bool, true, false, if◌then◌else◌, [], arith, add-zero, add-suc}
+use Rattle.std.proofs.Common.{◌≡◌, ◌≢◌, refl, sym, ◌∙◌, ap, ℕ, zero, suc, ◌+◌, ◌≤◌, Bool, true, false, if◌then◌else◌, Option, Some, None, [], arith, add-zero, add-suc}
 use Rattle.nic_device.specs.declared.Config.{Config}
-use Rattle.machine.specs.Machine.{machine_at, machine_step}
+use Rattle.machine.specs.Action.{action_of}
+use Rattle.machine.specs.Machine.{done, executed_if_some, machine_at, machine_step, next_instruction}
+use Rattle.machine.specs.Machine.{NextTakesSome, Step, StepTakesMemory}
 use Rattle.machine.specs.MachineState.{MachineState}
 use Rattle.machine.specs.declared.machine.StepAnswer.{StepAnswer}
 use Rattle.machine.specs.declared.machine.StepAnswer.TheVariants as answer
+use Rattle.program.specs.DmaArena.Numbers.{is_free}
 use Rattle.program.specs.Listing.{Listing}
+use Rattle.program.specs.declared.instruction.Instruction.{Instruction}
+use Rattle.program.specs.declared.instruction.Instruction.TheVariants.{Write, Read, VfWrite, VfRead, Lend, Unlend, Poke, Peek, Arrive, RxStep, TxStep, IntStep, QueueStep, EepromStep, Link, Collect, Expect, And, JumpIfEqual, JumpUnlessEqual, Jump, Halt}
 use Rattle.machine.proofs.Running.{steps_count, stopped_for_good}
 use Rattle.debugger.specs.Running.{is_stopped, stops_at, run_on}
 
@@ -26,6 +31,45 @@ stays p s stopped = steps_count.stays p s (stopped-is (machine_step p s).answer 
 pub counts : (p : Listing) (s : MachineState) → is_stopped (machine_step p s).answer ≡ false
     → (machine_step p s).state.steps ≡ s.steps + 1
 counts p s going = steps_count.counts p s (going-is (machine_step p s).answer going)
+
+-- a step that may take memory is made
+either-goes : (b : Bool) (x y : Step) → is_stopped x.answer ≡ false → is_stopped y.answer ≡ false
+    → is_stopped (if b then x else y).answer ≡ false
+either-goes true x y first second = first
+either-goes false x y first second = second
+
+done-goes : (p : Listing) (s : MachineState) (i : Instruction ℕ ℕ) → is_stopped (done p s (action_of p i)).answer ≡ false
+done-goes p s (Write address word) = refl
+done-goes p s (Read address) = refl
+done-goes p s (VfWrite function offset word) = refl
+done-goes p s (VfRead function offset) = refl
+done-goes p s (Lend block) = either-goes (is_free s.arena block) _ _ refl refl
+done-goes p s (Unlend block) = refl
+done-goes p s (Poke address number) = refl
+done-goes p s (Peek address word) = refl
+done-goes p s (Arrive number) = refl
+done-goes p s RxStep = refl
+done-goes p s (TxStep queue) = refl
+done-goes p s (IntStep group) = refl
+done-goes p s (QueueStep direction queue) = refl
+done-goes p s EepromStep = refl
+done-goes p s (Link up) = refl
+done-goes p s Collect = refl
+done-goes p s (Expect want mask) = refl
+done-goes p s (And word) = refl
+done-goes p s (JumpIfEqual word target) = refl
+done-goes p s (JumpUnlessEqual word target) = refl
+done-goes p s (Jump target) = refl
+done-goes p s Halt = refl
+
+pub takes-goes : (p : Listing) (s : MachineState) → StepTakesMemory p s → is_stopped (machine_step p s).answer ≡ false
+unfolding machine_step
+takes-goes p s takes = go (next_instruction p s) takes
+  where
+    go : (next : Option (Instruction ℕ ℕ)) → NextTakesSome p s next
+        → is_stopped (executed_if_some p s next).answer ≡ false
+    go None never = absurd never
+    go (Some instruction) takes = done-goes p s instruction
 
 -- one step more counts one more at most
 one_more : (p : Listing) (c : Config) (n : ℕ) (stopped : Bool) → stops_at p c n ≡ stopped

@@ -1,12 +1,12 @@
 -- So many steps on.
-use Rattle.std.proofs.Common.{◌≡◌, refl, sym, ◌∙◌, ap, subst, ℕ, suc, ◌+◌, ◌-◌, ◌<◌, ◌≤◌, Bool, true, false, List, Result, Ok, Err, OnErr, arith, add-one}
+use Rattle.std.proofs.Common.{◌≡◌, refl, sym, ◌∙◌, ap, subst, ℕ, suc, ◌+◌, ◌-◌, ◌<◌, ◌≤◌, Bool, true, false, if◌then◌else◌, List, Result, Ok, Err, OnErr, arith, add-one}
 use Rattle.nic_device.specs.declared.Config.{Config}
 use Rattle.machine.specs.Course.{Course}
-use Rattle.machine.specs.Machine.{machine_at, machine_step}
+use Rattle.machine.specs.Machine.{machine_at, machine_step, StepTakesMemory}
 use Rattle.program.specs.Listing.{Listing}
 use Rattle.debugger.specs.Breakpoints.{has_break}
 use Rattle.debugger.specs.Running.{is_stopped, stops_at, run_on}
-use Rattle.debugger.proofs.Counted.{stays, counts}
+use Rattle.debugger.proofs.Counted.{stays, counts, takes-goes}
 use Rattle.debugger.proofs.Ends.{runs_end_first}
 
 pub run_on-stopped : (p : Listing) (c : Config) (b : List ℕ) (n limit : ℕ) → stops_at p c n ≡ true
@@ -23,6 +23,16 @@ pub run_on-goes : (p : Listing) (c : Config) (b : List ℕ) (n limit : ℕ) → 
     → has_break b (machine_at p c (suc n)).pc ≡ false → run_on p c b n (suc limit) ≡ run_on p c b (suc n) limit
 unfolding run_on
 run_on-goes p c b n limit going passes = rw (going, passes) refl
+
+-- a run of one step or more of a machine that doesn't stop makes one
+run_on-further : (p : Listing) (c : Config) (b : List ℕ) (n limit : ℕ) → stops_at p c n ≡ false
+    → n < run_on p c b n (suc limit)
+unfolding run_on
+run_on-further p c b n limit going = rw going (either (has_break b (machine_at p c (suc n)).pc))
+  where
+    either : (meets : Bool) → n < (if meets then suc n else run_on p c b (suc n) limit)
+    either true = omega arith
+    either false = let on = (runs_end_first p c b (suc n) limit).from in omega (arith, on)
 
 -- whether there is a breakpoint at the next instruction
 pub meets-at : (b : List ℕ) (pc told number : ℕ) (meets : Bool) → told ≡ pc → number ≡ told
@@ -51,15 +61,29 @@ module _ (start now : Course) (b : List ℕ) (limit made : ℕ) (ran : RanOn sta
   all-ran is = sym (ap (run_on start.program start.config b now.state.steps)
       (let none : limit - made ≡ 0 = omega arith in none)) ∙ ran.left
 
-  up_to : now.state.steps ≤ run_on start.program start.config b start.state.steps limit
-  up_to = subst (λ n. now.state.steps ≤ n) ran.left
-      (runs_end_first start.program start.config b now.state.steps (limit - made)).from
+  -- where the next step may take memory, it is one that is left to make
+  short : made < limit → StepTakesMemory now.program now.state
+      → now.state.steps < run_on start.program start.config b start.state.steps limit
+  short within takes =
+      let one : suc (limit - made - 1) ≡ limit - made = omega arith in
+      subst (λ n. now.state.steps < n)
+      (ap (run_on start.program start.config b now.state.steps) one ∙ ran.left)
+      (run_on-further start.program start.config b now.state.steps (limit - made - 1)
+      (stops-is false (sym (takes-goes now.program now.state takes))))
 
-  -- where the next step is refused
-  pub refused-up_to : {A E : Type 0} (result : Result A E) (later : Course) → later ≡ now
-      → OnErr result (later.state.steps ≤ run_on start.program start.config b start.state.steps limit)
-  refused-up_to (Ok x) later same = tt
-  refused-up_to (Err e) later same = rw same up_to
+  -- where it is refused
+  pub refused-short : {A E : Type 0} (result : Result A E) (later : Course) → later ≡ now → made < limit
+      → StepTakesMemory now.program now.state
+      → OnErr result (later.state.steps < run_on start.program start.config b start.state.steps limit)
+  refused-short (Ok x) later same within takes = tt
+  refused-short (Err e) later same within takes = rw same (short within takes)
+
+  pub refused-takes : {A E : Type 0} (result : Result A E) (later : Course) → later ≡ now
+      → StepTakesMemory now.program now.state
+      → OnErr result (StepTakesMemory start.program (machine_at start.program start.config later.state.steps))
+  refused-takes (Ok x) later same takes = tt
+  refused-takes (Err e) later same takes =
+      rw same (subst (λ (m : Course). StepTakesMemory m.program m.state) ran.at takes)
 
   module _ (later : Course) (step : later ≡ record now { state = (machine_step now.program now.state).state }) where
     -- where it has stopped

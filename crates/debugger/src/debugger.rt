@@ -75,7 +75,7 @@ impl Debugger {
     }
 
     /// Does a command, and tells where the machine is then. After a refusal the debugger is as it was, but a step or a
-    /// continue that finds no memory has made the steps before.
+    /// continue that finds no memory has made the steps before, and stands in front of one that may take memory.
     pub fn exec(&mut self, command: Command) -> Result<View, DebugRefusal>
         ensures answer { result ≢ Err DebugRefusal.OutOfMemory → result ≡ (command_of self.old command).answer }
         ensures session { result ≢ Err DebugRefusal.OutOfMemory → self.new ≡ (command_of self.old command).session }

@@ -1,9 +1,9 @@
 //! So many steps on.
 
-ghost use Rattle.std.specs.Prelude.{◌≡◌, ◌≤◌, [], IfOk, IsOk, OnOk, OnErr, Ok};
+ghost use Rattle.std.specs.Prelude.{◌≡◌, ◌<◌, ◌≤◌, [], IfOk, IsOk, OnOk, OnErr, Ok};
 ghost use Rattle.debugger.specs.Running.{is_stopped, run_on};
 ghost use Rattle.debugger.specs.Session.{CanBeMade};
-ghost use Rattle.machine.specs.Machine.{machine_at, machine_step, start_of};
+ghost use Rattle.machine.specs.Machine.{machine_at, machine_step, start_of, StepTakesMemory};
 ghost use Rattle.program.specs.Object.{read_of};
 
 use crate::breakpoints::{Breakpoints, has_break};
@@ -20,6 +20,7 @@ fn step(machine: &mut Machine) -> Result<bool, OutOfMemory>
     ensures state { OnOk result (machine.new ≡
         record machine.old { state = (machine_step machine.old.program machine.old.state).state }) }
     ensures unchanged { OnErr result (machine.new ≡ machine.old) }
+    ensures memory { OnErr result (StepTakesMemory machine.old.program machine.old.state) }
 {
     match machine.step()? {
         StepAnswer::Stopped => Ok(true),
@@ -40,8 +41,10 @@ pub(crate) fn run_on(
     ensures steps { OnOk result (machine.new.state.steps ≡
         run_on machine.old.program machine.old.config breakpoints.now.items machine.old.state.steps limit) }
     ensures from { machine.old.state.steps ≤ machine.new.state.steps }
-    ensures up_to { OnErr result (machine.new.state.steps ≤
+    ensures short { OnErr result (machine.new.state.steps <
         run_on machine.old.program machine.old.config breakpoints.now.items machine.old.state.steps limit) }
+    ensures takes { OnErr result (StepTakesMemory machine.old.program
+        (machine_at machine.old.program machine.old.config machine.new.state.steps)) }
 {
     for _ in 0..limit {
         if step(machine)? {

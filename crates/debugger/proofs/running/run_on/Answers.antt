@@ -1,10 +1,16 @@
 use Rattle.std.proofs.Common.{sym, ◌∙◌, arith}
-use Rattle.debugger.proofs.Ran.{all-ran, meets-at, refused-up_to, stopped-at, stopped-from, stopped-steps, next-at, next-from, next-ran, break-steps}
+use Rattle.debugger.proofs.Ran.{all-ran, meets-at, refused-short, refused-takes, stopped-at, stopped-from, stopped-steps, next-at, next-from, next-ran, break-steps}
 use Rattle.debugger.proofs.running.run_on.Goals as goal
 
-pub returns-in_err-step-clause-up_to : goal.returns-in_err-step-clause-up_to
-returns-in_err-step-clause-up_to c =
-    refused-up_to _ _ _ _ _ c.loop.invariant c.from_residual.result _ c.in_err-step.ensures.unchanged
+pub returns-in_err-step-clause-short : goal.returns-in_err-step-clause-short
+returns-in_err-step-clause-short c =
+    refused-short _ _ _ _ _ c.loop.invariant c.from_residual.result _ c.in_err-step.ensures.unchanged (omega arith)
+    c.in_err-step.ensures.memory
+
+pub returns-in_err-step-clause-takes : goal.returns-in_err-step-clause-takes
+returns-in_err-step-clause-takes c =
+    refused-takes _ _ _ _ _ c.loop.invariant c.from_residual.result _ c.in_err-step.ensures.unchanged
+    c.in_err-step.ensures.memory
 
 pub returns-then-branch-clause-at : goal.returns-then-branch-clause-at
 returns-then-branch-clause-at c =

@@ -1,5 +1,5 @@
 -- The lines of a program's text, and what they say.
-use Rattle.std.proofs.Common.{◌≡◌, refl, sym, ◌∙◌, ap, subst, ℕ, zero, suc, ◌+◌, ◌/◌, ◌%◌, ◌<◌, ◌≤◌, true, false, cond, ◌==◌, List, [], ◌∷◌, ◌++◌, length, map, slice_index, append_assoc, Result, Ok, Err, Some, arith}
+use Rattle.std.proofs.Common.{◌≡◌, refl, sym, ◌∙◌, ap, subst, ℕ, zero, suc, ◌+◌, ◌/◌, ◌%◌, ◌<◌, ◌≤◌, true, false, cond, ◌==◌, List, [], ◌∷◌, ◌++◌, length, map, get_or, slice_index, append_assoc, Result, Ok, Err, Some, arith}
 use Rattle.std.specs.Prelude.{codes, decimal}
 use Rattle.std.specs.List.{AllByRecursion, list_all}
 use Rattle.std.specs.Option.{ok_or}
@@ -70,6 +70,10 @@ are_bytes : (xs : List ℕ) → AllByRecursion (λ b. b < 256) xs → (i : ℕ) 
 are_bytes [] all i = omega arith
 are_bytes (x ∷ xs) all zero = all.0
 are_bytes (x ∷ xs) all (suc i) = are_bytes xs all.1 i
+
+pub each_byte : (xs : List ℕ) → ((i : ℕ) → get_or xs i 0 < 256) → AllByRecursion (λ b. b < 256) xs
+each_byte [] small = tt
+each_byte (x ∷ xs) small = (small 0, each_byte xs (λ i. small (suc i)))
 
 bytes_in-text : (xs : List ℕ) → 1 ≤ length xs → AllByRecursion (λ b. b < 256) xs → bytes_in (bytes_text xs) ≡ Ok xs
 bytes_in-text xs some all =

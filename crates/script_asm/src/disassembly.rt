@@ -1,11 +1,14 @@
 //! From a program to its text.
 
-ghost use Rattle.std.specs.Prelude.{◌≡◌, ◌++◌, ◌≤◌, length, IfOk, string_bytes};
+ghost use Rattle.std.specs.Prelude.{◌≡◌, ◌++◌, ◌<◌, ◌≤◌, length, IfOk, Ok, string_bytes};
+ghost use Rattle.std.specs.List.{AllByRecursion};
+ghost use Rattle.program.specs.Encoding.{HaveWidths, fields_of};
 ghost use Rattle.script_asm.specs.Disassembly.{jumps_to, is_target, data_line, data_lines, label_line_at, code_line};
 ghost use Rattle.script_asm.specs.Disassembly.{code_lines, text_of};
+ghost use Rattle.script_asm.specs.Script.{program_of};
 
 use crate::printing::InstructionText;
-use program::{Instruction, Octets, Program};
+use program::{Dir, Group, Instruction, Octets, Program};
 use std::alloc::Global;
 use std::fmt::Write;
 use text_format::BytesText;
@@ -96,12 +99,83 @@ fn push_code_lines(text: &mut String, code: &[Instruction]) -> Result<(), OutOfM
     push_label_line(text, code, code.len() as u16)
 }
 
+/// Each byte is below 256. It does nothing.
+fn are_bytes(bytes: &[u8])
+    ensures { AllByRecursion (λ byte. byte < 256) bytes.now }
+{
+    let _all = bytes;
+}
+
+/// Data strings are of bytes. It does nothing.
+fn have_bytes(strings: &[Octets])
+    ensures { AllByRecursion (AllByRecursion (λ byte. byte < 256)) strings.now }
+{
+    for string in strings {
+        are_bytes(string.bytes());
+    }
+}
+
+/// The numbers of an instruction have as many bits as an object keeps of them. It does nothing.
+fn has_widths(instruction: Instruction)
+    ensures { HaveWidths (fields_of instruction) }
+{
+    match instruction {
+        Instruction::Write(_address, _word) => {}
+        Instruction::Read(_address) => {}
+        Instruction::VfWrite {
+            function: _function,
+            offset: _offset,
+            word: _word,
+        } => {}
+        Instruction::VfRead {
+            function: _function,
+            offset: _offset,
+        } => {}
+        Instruction::Lend(_block) => {}
+        Instruction::Unlend(_block) => {}
+        Instruction::Poke(_address, _data) => {}
+        Instruction::Peek(_address, _word) => {}
+        Instruction::Arrive(_data) => {}
+        Instruction::RxStep => {}
+        Instruction::TxStep(_queue) => {}
+        Instruction::IntStep(Group::Pf) => {}
+        Instruction::IntStep(Group::Vf(_function)) => {}
+        Instruction::QueueStep(Dir::Rx, _queue) => {}
+        Instruction::QueueStep(Dir::Tx, _queue) => {}
+        Instruction::EepromStep => {}
+        Instruction::Link(_up) => {}
+        Instruction::Collect => {}
+        Instruction::Expect {
+            want: _want,
+            mask: _mask,
+        } => {}
+        Instruction::And(_word) => {}
+        Instruction::JumpIfEqual(_word, _target) => {}
+        Instruction::JumpUnlessEqual(_word, _target) => {}
+        Instruction::Jump(_target) => {}
+        Instruction::Halt => {}
+    }
+}
+
+/// The same of instructions. It does nothing.
+fn have_widths(code: &[Instruction])
+    ensures { AllByRecursion (λ i. HaveWidths (fields_of i)) code.now }
+{
+    for instruction in code {
+        has_widths(*instruction);
+    }
+}
+
 /// The text of a program: its data strings as `d0`, `d1` and so on, then its instructions, with a label before each one
 /// that is jumped to: `L` and its number. Registers are named where the address is their first one, with the index
-/// where their row has several; all other numbers are words of eight hex digits.
+/// where their row has several; all other numbers are words of eight hex digits. It is a script that means the program, so
+/// that it assembles to one with the same bytes.
 pub fn disassemble(alloc: Global, program: &Program) -> Result<String, OutOfMemory>
     ensures text { IfOk result (λ text. string_bytes text ≡ text_of program.now) }
+    ensures means { IfOk result (λ text. program_of (string_bytes text) ≡ Ok program.now) }
 {
+    have_bytes(program.strings());
+    have_widths(program.code());
     let mut text = String::new(alloc);
     push_data_lines(&mut text, program.strings())?;
     push_code_lines(&mut text, program.code())?;

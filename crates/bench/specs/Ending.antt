@@ -1,5 +1,5 @@
 -- What words are answered, and how the program ends.
-use Rattle.std.specs.Prelude.{◌≡◌, ◌≢◌, ◌⊎◌, ℕ, Bool, List, [], ◌∷◌, ◌++◌, None, IfSome, MatchResult, Option, Result, Ok, Err, codes, true}
+use Rattle.std.specs.Prelude.{◌≡◌, ◌≢◌, ◌⊎◌, ℕ, Bool, List, [], ◌∷◌, ◌++◌, None, IfSome, MatchResult, Option, Result, Ok, Err, codes, true, if◌then◌else◌}
 use Rattle.std.specs.Io.KnownBytes.{Appends}
 use Rattle.clap.specs.Words.{Kinds}
 use Rattle.clap.specs.declared.error.ErrorKind.{ErrorKind}
@@ -23,6 +23,7 @@ use Rattle.bench.specs.declared.failure.Failure.{Failure}
 use Rattle.bench.specs.declared.failure.Failure.TheVariants.{OutOfMemory, Read, Write}
 use Rattle.bench.specs.declared.ending.Outcome.{Outcome}
 use Rattle.bench.specs.declared.ending.Outcome.TheVariants.{Ended, Threads}
+use Rattle.bench.specs.declared.output.Output.{Output}
 
 -- the answer is what is asked for, of a text
 abbrev pub IsTextAnswer : TextRequest → List ℕ → Answer → Type 0
@@ -75,22 +76,34 @@ pub record StopsForMemory (old new : Option (List ℕ)) (text : List ℕ) : Type
   pub written : Appends old new (beginning ++ refusal_line (codes "OutOfMemory") None)
   pub whole : beginning ++ rest ≡ text
 
--- it ends with this answer, or with 2, where a write has failed
-abbrev pub EndsSaying : Option (List ℕ) → Option (List ℕ) → Bool → Answer → Outcome → Type 0
-EndsSaying old new has_failed answer (Ended status) =
-    Writes old new answer status ⊎ ((status ≡ 2) × (has_failed ≡ true))
-EndsSaying old new has_failed answer (Threads workers frames) = ⊥
+-- the status that a failed write ends with: 4 where its error is want of memory, and else 2
+abbrev pub unwritten_status : Bool → ℕ
+unwritten_status lacked_memory = if lacked_memory then 4 else 2
 
--- it ends with the status of such an error of clap's; or with 2, where a write has failed
-abbrev pub EndsSaid : ErrorKind → Bool → Outcome → Type 0
-EndsSaid kind has_failed (Ended status) = (status ≡ words_status kind) ⊎ ((status ≡ 2) × (has_failed ≡ true))
-EndsSaid kind has_failed (Threads workers frames) = ⊥
+-- a write has failed, and this is the status that it ends with
+abbrev pub IsUnwritten : {W : Type 0} → Output W → ℕ → Type 0
+IsUnwritten output status = (output.has_failed ≡ true) × (status ≡ unwritten_status output.lacked_memory)
+
+-- it ends with such a status
+abbrev pub EndsUnwritten : (ℕ → Type 0) → Outcome → Type 0
+EndsUnwritten IsFailed (Ended status) = IsFailed status
+EndsUnwritten IsFailed (Threads workers frames) = ⊥
+
+-- it ends with this answer, or where a write has failed with the status of that
+abbrev pub EndsSaying : Option (List ℕ) → Option (List ℕ) → (ℕ → Type 0) → Answer → Outcome → Type 0
+EndsSaying old new IsFailed answer (Ended status) = Writes old new answer status ⊎ IsFailed status
+EndsSaying old new IsFailed answer (Threads workers frames) = ⊥
+
+-- it ends with the status of such an error of clap's; or where a write has failed with the status of that
+abbrev pub EndsSaid : ErrorKind → (ℕ → Type 0) → Outcome → Type 0
+EndsSaid kind IsFailed (Ended status) = (status ≡ words_status kind) ⊎ IsFailed status
+EndsSaid kind IsFailed (Threads workers frames) = ⊥
 
 -- it ends by an error of clap's: want of memory is said as everywhere, another one is written as clap has it
-abbrev pub EndsOf : ErrorKind → Option (List ℕ) → Option (List ℕ) → Bool → Outcome → Type 0
-EndsOf of old new has_failed outcome =
-    ((of ≡ kind.OutOfMemory) × EndsSaying old new has_failed no_memory outcome)
-    ⊎ ((of ≢ kind.OutOfMemory) × EndsSaid of has_failed outcome)
+abbrev pub EndsOf : ErrorKind → Option (List ℕ) → Option (List ℕ) → (ℕ → Type 0) → Outcome → Type 0
+EndsOf of old new IsFailed outcome =
+    ((of ≡ kind.OutOfMemory) × EndsSaying old new IsFailed no_memory outcome)
+    ⊎ ((of ≢ kind.OutOfMemory) × EndsSaid of IsFailed outcome)
 
 -- what is asked for is left to whoever called, and this holds
 abbrev pub IsLeft : ThreadsOptions → Type 0 → Outcome → Type 0
@@ -99,21 +112,23 @@ IsLeft options holds (Threads workers frames) =
     (workers ≡ options.workers) × (frames ≡ options.frames) × holds
 
 -- it ends with the status of the answer to what was read, all of which is written; or with 4, where there was no
--- memory; or with 2, where the input could not be read, which is said; or with 2, where a write has failed
-abbrev pub EndsAs : Request → Option (List ℕ) → Type 0 → Option (List ℕ) → Option (List ℕ) → Bool → Outcome → Type 0
-EndsAs request remaining IsUnread old new has_failed (Ended status) =
+-- memory; or with 2, where the input could not be read, which is said; or where a write has failed with the status of
+-- that
+abbrev pub EndsAs : Request → Option (List ℕ) → Type 0 → Option (List ℕ) → Option (List ℕ) → (ℕ → Type 0) → Outcome
+    → Type 0
+EndsAs request remaining IsUnread old new IsFailed (Ended status) =
     IfSome remaining (λ input. WritesRight old new (IsAnswerTo request input) status)
     ⊎ (((status ≡ 4) × IfSome remaining (λ input. (answer : Answer) → IsAnswerTo request input answer
     → StopsForMemory old new answer.text))
     ⊎ ((IsUnread × Writes old new (refused_as (codes "Input")) status)
-    ⊎ ((status ≡ 2) × (has_failed ≡ true))))
-EndsAs request remaining IsUnread old new has_failed (Threads workers frames) = ⊥
+    ⊎ IsFailed status))
+EndsAs request remaining IsUnread old new IsFailed (Threads workers frames) = ⊥
 
 -- words that ask for nothing end with the status of one of clap's kinds; or with 4, where there was no memory; or
--- with 2, where a write has failed
-abbrev pub EndsWords : Kinds → Option (List ℕ) → Option (List ℕ) → Bool → Outcome → Type 0
-EndsWords kinds old new has_failed (Ended status) =
+-- where a write has failed with the status of that
+abbrev pub EndsWords : Kinds → Option (List ℕ) → Option (List ℕ) → (ℕ → Type 0) → Outcome → Type 0
+EndsWords kinds old new IsFailed (Ended status) =
     HasStatusOf kinds status
     ⊎ (((status ≡ 4) × Appends old new (refusal_line (codes "OutOfMemory") None))
-    ⊎ ((status ≡ 2) × (has_failed ≡ true)))
-EndsWords kinds old new has_failed (Threads workers frames) = ⊥
+    ⊎ IsFailed status)
+EndsWords kinds old new IsFailed (Threads workers frames) = ⊥

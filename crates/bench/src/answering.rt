@@ -1,5 +1,5 @@
 //! What a request is answered.
-ghost use Rattle.std.specs.Prelude.{◌≡◌, Err, true};
+ghost use Rattle.std.specs.Prelude.{◌≡◌, Err, false, true};
 ghost use Rattle.bench.specs.Answer.{GivesRight};
 ghost use Rattle.bench.specs.Ending.{AnswersRequest, IsBytesAnswer, IsGivenAnswer, IsTextAnswer};
 ghost use Rattle.bench.specs.Reading.{CouldNotBeRead};
@@ -73,7 +73,8 @@ fn answer_input<W: Write>(
     }
 }
 
-/// Reads all input, and writes what is asked for of it. An `Ok` has the status; then what is written and the status
+/// Reads all input, and writes what is asked for of it, to an output of which no write has failed before: so an answer is
+/// given up for a write only where one fails meanwhile. An `Ok` has the status; then what is written and the status
 /// are those of what is asked for, of all bytes of the input. After `Failure::Read` nothing is written, after
 /// `Failure::OutOfMemory` a part of the answer from its beginning on, and after `Failure::Write` nothing more is
 /// written.
@@ -83,6 +84,7 @@ pub fn answer<R: Read, W: Write>(
     output: &mut Output<W>,
     request: Request,
 ) -> Result<u8, Failure>
+    requires { output.old.has_failed ≡ false }
     ensures answer { AnswersRequest request (R.remaining input.old.reader)
         (W.contents output.old.writer) (W.contents output.new.writer) result }
     ensures unread { result ≡ Err Failure.Read

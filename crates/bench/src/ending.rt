@@ -1,9 +1,10 @@
 //! The program, from words to a status.
-ghost use Rattle.std.specs.Prelude.{◌≡◌, ◌⊎◌, None, codes, map};
+ghost use Rattle.std.specs.Prelude.{◌≡◌, ◌⊎◌, None, codes, false, map};
 ghost use Rattle.clap.specs.Words.{kind_of};
 ghost use Rattle.command_line.specs.Asked.{Asks, refusal_of};
 ghost use Rattle.bench.specs.Answer.{no_memory, refused_as};
-ghost use Rattle.bench.specs.Ending.{EndsAs, EndsOf, EndsSaying, EndsWords, IsLeft, words_status};
+ghost use Rattle.bench.specs.Ending.{EndsAs, EndsOf, EndsSaying, EndsWords, IsLeft, IsUnwritten};
+ghost use Rattle.bench.specs.Ending.{unwritten_status, words_status};
 ghost use Rattle.bench.specs.Reading.{CouldNotBeRead};
 ghost use Rattle.bench.specs.Refusal.{refusal_line};
 
@@ -33,30 +34,30 @@ pub enum Outcome {
     },
 }
 
-/// Says a refusal by its name, and ends with this status; or with `FAILED` where that can't be written.
+/// Says a refusal by its name, and ends with this status; or with that of a failed write where it can't be written.
 fn end_saying<W: Write>(output: &mut Output<W>, name: &str, status: u8) -> Outcome
     ensures { EndsSaying (W.contents output.old.writer) (W.contents output.new.writer)
-        output.new.has_failed (record { text = refusal_line name.now None; status = status })
+        (IsUnwritten output.new) (record { text = refusal_line name.now None; status = status })
         result }
 {
     match output.write(format_args!("refused {name}\n")) {
         Ok(()) => Outcome::Ended(status),
-        Err(_) => Outcome::Ended(FAILED),
+        Err(_) => Outcome::Ended(output.failed_status()),
     }
 }
 
 /// Ends where an answer was given up.
 fn end_given_up<W: Write>(output: &mut Output<W>, failure: Failure) -> Outcome
     ensures read { failure ≡ Failure.Read → EndsSaying (W.contents output.old.writer)
-        (W.contents output.new.writer) output.new.has_failed (refused_as (codes "Input")) result }
+        (W.contents output.new.writer) (IsUnwritten output.new) (refused_as (codes "Input")) result }
     ensures memory { failure ≡ Failure.OutOfMemory → EndsSaying (W.contents output.old.writer)
-        (W.contents output.new.writer) output.new.has_failed no_memory result }
+        (W.contents output.new.writer) (IsUnwritten output.new) no_memory result }
     ensures write { failure ≡ Failure.Write
-        → (result ≡ Outcome.Ended 2) × (output.new ≡ output.old) }
+        → (result ≡ Outcome.Ended (unwritten_status output.old.lacked_memory)) × (output.new ≡ output.old) }
 {
     match failure {
         Failure::Read => end_saying(output, "Input", FAILED),
-        Failure::Write => Outcome::Ended(FAILED),
+        Failure::Write => Outcome::Ended(output.failed_status()),
         Failure::OutOfMemory => end_saying(output, "OutOfMemory", NO_MEMORY),
     }
 }
@@ -68,8 +69,9 @@ fn end_request<R: Read, W: Write>(
     output: &mut Output<W>,
     request: Request,
 ) -> Outcome
+    requires { output.old.has_failed ≡ false }
     ensures { EndsAs request (R.remaining input.old.reader) (CouldNotBeRead input.new)
-        (W.contents output.old.writer) (W.contents output.new.writer) output.new.has_failed result }
+        (W.contents output.old.writer) (W.contents output.new.writer) (IsUnwritten output.new) result }
 {
     match answer(alloc, input, output, request) {
         Ok(status) => Outcome::Ended(status),
@@ -91,7 +93,7 @@ fn status_of(kind: ErrorKind) -> u8
 /// Writes what clap has to say of the words, and ends with the status of that.
 fn end_words<W: Write>(output: &mut Output<W>, error: &Error) -> Outcome
     ensures { EndsOf (kind_of error.now) (W.contents output.old.writer) (W.contents output.new.writer)
-        output.new.has_failed result }
+        (IsUnwritten output.new) result }
 {
     let kind = error.kind();
     if kind == ErrorKind::OutOfMemory {
@@ -99,31 +101,34 @@ fn end_words<W: Write>(output: &mut Output<W>, error: &Error) -> Outcome
     }
     match output.write(error) {
         Ok(()) => Outcome::Ended(status_of(kind)),
-        Err(_) => Outcome::Ended(FAILED),
+        Err(_) => Outcome::Ended(output.failed_status()),
     }
 }
 
-/// Reads the words, the program's own name first, then all input where they ask for it, and writes all output. The
-/// words are read before anything else, and where they are refused nothing else is. After a failed write nothing more
-/// is written. It ends as `answer` answers; a failed read is the refusal `Input`, want of memory the refusal
-/// `OutOfMemory`. Where they ask for `threads` nothing is read or written, but for that refusal.
+/// Reads the words, the program's own name first, then all input where they ask for it, and writes all output, to an
+/// output of which no write has failed before. The words are read before anything else, and where they are refused
+/// nothing else is. After a failed write nothing more is written, and the status is that of the write: `NO_MEMORY` where
+/// the writer says that it had none, and else `FAILED`. It ends as `answer` answers; a failed read is the refusal
+/// `Input`, want of memory the refusal `OutOfMemory`. Where they ask for `threads` nothing is read or written, but for
+/// that refusal.
 pub fn bench<'a, R: Read, W: Write, S: AsStr>(
     alloc: Global,
     input: &mut Input<R>,
     output: &mut Output<W>,
     words: &'a [S],
 ) -> Outcome
+    requires { output.old.has_failed ≡ false }
     ensures asked { (request : Request) → Asks (map S.text words.entry.now) (Asked.Input request)
         → EndsAs request (R.remaining input.old.reader) (CouldNotBeRead input.new)
-        (W.contents output.old.writer) (W.contents output.new.writer) output.new.has_failed
+        (W.contents output.old.writer) (W.contents output.new.writer) (IsUnwritten output.new)
         result }
     ensures threads { (options : ThreadsOptions) → Asks (map S.text words.entry.now) (Asked.Threads options)
         → (input.new ≡ input.old) × (IsLeft options (output.new ≡ output.old) result
         ⊎ EndsSaying (W.contents output.old.writer) (W.contents output.new.writer)
-        output.new.has_failed no_memory result) }
+        (IsUnwritten output.new) no_memory result) }
     ensures refused { ((what : Asked) → Asks (map S.text words.entry.now) what → ⊥)
         → EndsWords (refusal_of (map S.text words.entry.now)) (W.contents output.old.writer)
-        (W.contents output.new.writer) output.new.has_failed result × (input.new ≡ input.old) }
+        (W.contents output.new.writer) (IsUnwritten output.new) result × (input.new ≡ input.old) }
 {
     match asked(alloc, words) {
         Ok(Asked::Input(request)) => end_request(alloc, input, output, request),

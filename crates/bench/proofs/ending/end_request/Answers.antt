@@ -1,4 +1,5 @@
-use Rattle.std.proofs.Common.{ap, inl, ◌∙◌, Err}
+use Rattle.std.proofs.Common.{ap, inl, subst, sym, ◌∙◌, Err}
+use Rattle.bench.specs.Ending.{EndsUnwritten, IsUnwritten, unwritten_status}
 use Rattle.bench.proofs.Endings.{ended-given-up}
 use Rattle.bench.proofs.ending.end_request.Goals as goal
 
@@ -12,4 +13,7 @@ returns-in-Err g c =
     (λ is. let told = c.in-Err.ensures.unread (ap Err is) in (told.0, ap (λ o. g.W.Write.contents o.writer) told.1))
     c.end_given_up.ensures.read c.end_given_up.ensures.memory
     (λ is. let told = c.end_given_up.ensures.write is in
-    (told.0, ap (λ o. o.has_failed) told.1 ∙ c.in-Err.ensures.unwritten (ap Err is)))
+    subst (EndsUnwritten (IsUnwritten c.end_given_up.new.output)) (sym told.0) (
+      ap (λ o. o.has_failed) told.1 ∙ c.in-Err.ensures.unwritten (ap Err is),
+      ap (λ o. unwritten_status o.lacked_memory) (sym told.1),
+    ))

@@ -33,10 +33,10 @@ const SCRIPTS: [(&str, u8); 9] = [
 ];
 
 /// The EEPROM texts.
-const IMAGES: [&str; 1] = ["image"];
+const IMAGES: [&str; 3] = ["image", "blank", "setting"];
 
 /// The scripts whose objects stand beside them.
-const OBJECTS: [&str; 1] = ["first"];
+const OBJECTS: [&str; 2] = ["first", "listing"];
 
 /// No status of the program: what is told of words that leave threads to be run.
 const NOT_ENDED: u8 = 255;
@@ -72,7 +72,7 @@ fn is_as_written(
 }
 
 /// The bytes that lines of hex are, none where they are something else.
-fn bytes_of(alloc: Global, lines: &str) -> Result<Vec<u8>, AllocError> {
+pub fn bytes_of(alloc: Global, lines: &str) -> Result<Vec<u8>, AllocError> {
     let mut digits = String::new(alloc);
     for line in lines.lines() {
         digits.push_str(line)?;

@@ -13,11 +13,14 @@
 //! limit 2
 //! ```
 //!
-//! `$` gives the words, where they aren't `nicbench run`. Behind `#>`, which is a comment to the assembler, stands what
-//! an instruction prints, and behind `--` the status and what is printed after that; with no such line this is `ok`,
-//! with the number of instructions, and status 0. `-- 3 with` asks for no more than that each line below it is printed,
-//! and `-- 2 each` that each line above it, by itself behind the lines of the table, prints what is below.
+//! `$` gives the words, where they aren't `nicbench run`; with `$x` the lines are the bytes of the input, in hex. Behind
+//! `#>`, which is a comment to the assembler, stands what an instruction prints, and behind `--` the status and what is
+//! printed after that; with no such line this is `ok`, with the number of instructions, and status 0. `-- 3 with` asks
+//! for no more than that each line below it, of which there is one at least, is a part of what is printed, and
+//! `-- 2 each` that each line above it, of which there is one at least, by itself behind the lines of the table, prints
+//! what is below.
 
+use crate::examples::bytes_of;
 use bench::{Input, Outcome, Output, bench};
 use std::alloc::{AllocError, Global};
 use std::fmt::Write;
@@ -66,6 +69,7 @@ enum Ending<'a> {
 struct Case<'a> {
     title: &'a str,
     words: &'a str,
+    is_hex: bool,
     lines: &'a str,
     ending: Ending<'a>,
 }
@@ -86,7 +90,8 @@ fn ending_of(text: &str) -> Option<Ending<'_>> {
 /// The case of a text, which is what stands behind its `==`.
 fn case_of(text: &str) -> Option<Case<'_>> {
     let (title, text) = text.split_once("\n")?;
-    let (words, text) = match text.strip_prefix("$ ") {
+    let is_hex = text.starts_with("$x ");
+    let (words, text) = match text.strip_prefix("$ ").or(text.strip_prefix("$x ")) {
         Some(text) => text.split_once("\n")?,
         None => ("nicbench run", text),
     };
@@ -97,6 +102,7 @@ fn case_of(text: &str) -> Option<Case<'_>> {
     Some(Case {
         title,
         words,
+        is_hex,
         lines,
         ending,
     })
@@ -118,23 +124,23 @@ fn promised(alloc: Global, script: &str) -> Result<(String, u64), AllocError> {
     Ok((printed, count))
 }
 
-/// Whether each line of a text stands somewhere in what was printed.
-fn has_lines(printed: &str, lines: &str) -> bool {
-    for line in lines.lines() {
-        if !printed.contains(line) {
+/// Whether there are parts, each on a line, and each stands somewhere in what was printed.
+fn has_parts(printed: &str, parts: &str) -> bool {
+    for part in parts.lines() {
+        if part.is_empty() || !printed.contains(part) {
             return false;
         }
     }
-    true
+    !parts.is_empty()
 }
 
 /// No status of the program: what is told of words that leave threads to be run.
 const NOT_ENDED: u8 = 255;
 
 /// What a run prints, and the status that it ends with.
-fn answer(alloc: Global, words: &str, script: &str) -> Result<(String, u8), AllocError> {
+fn answer(alloc: Global, words: &str, input: &[u8]) -> Result<(String, u8), AllocError> {
     let words: Vec<&str> = words.split_whitespace().collect(alloc)?;
-    let mut input = Input::of(script.as_bytes());
+    let mut input = Input::of(input);
     let mut written = Vec::new(alloc);
     let mut output = Output::of(&mut written);
     let Outcome::Ended(status) = bench(alloc, &mut input, &mut output, words.as_slice()) else {
@@ -144,9 +150,37 @@ fn answer(alloc: Global, words: &str, script: &str) -> Result<(String, u8), Allo
     Ok((printed, status))
 }
 
+/// What a case's run reads, behind the lines of its table's setup.
+fn input_of(alloc: Global, case: &Case<'_>, script: &str) -> Result<Vec<u8>, AllocError> {
+    if case.is_hex {
+        return bytes_of(alloc, script);
+    }
+    Ok(script.as_bytes().to_vec(alloc)?)
+}
+
+/// Whether each line of a case, by itself behind the lines of its table's setup, prints a text and ends with a status.
+/// There is one at least.
+fn each_ends_so(
+    alloc: Global,
+    setup: &str,
+    case: &Case<'_>,
+    wanted: u8,
+    text: &str,
+) -> Result<bool, AllocError> {
+    for line in case.lines.lines() {
+        let script = format!(in alloc; "{setup}{line}")?;
+        let (printed, status) = answer(alloc, case.words, script.as_bytes())?;
+        if status != wanted || printed.as_str() != text {
+            return Ok(false);
+        }
+    }
+    Ok(!case.lines.is_empty())
+}
+
 /// Whether a case, behind the lines of its table's setup, ends as it says.
 fn ends_so(alloc: Global, setup: &str, case: &Case<'_>) -> Result<bool, AllocError> {
     let script = format!(in alloc; "{setup}{}", case.lines)?;
+    let input = input_of(alloc, case, script.as_str())?;
     let (mut wanted, count) = promised(alloc, script.as_str())?;
     let wanted_status = match case.ending {
         Ending::Ok => {
@@ -158,21 +192,12 @@ fn ends_so(alloc: Global, setup: &str, case: &Case<'_>) -> Result<bool, AllocErr
             status
         }
         Ending::With(wanted, lines) => {
-            let (printed, status) = answer(alloc, case.words, script.as_str())?;
-            return Ok(status == wanted && has_lines(printed.as_str(), lines));
+            let (printed, status) = answer(alloc, case.words, input.as_slice())?;
+            return Ok(status == wanted && has_parts(printed.as_str(), lines));
         }
-        Ending::Each(wanted, text) => {
-            for line in case.lines.lines() {
-                let script = format!(in alloc; "{setup}{line}")?;
-                let (printed, status) = answer(alloc, case.words, script.as_str())?;
-                if status != wanted || printed.as_str() != text {
-                    return Ok(false);
-                }
-            }
-            return Ok(true);
-        }
+        Ending::Each(wanted, text) => return each_ends_so(alloc, setup, case, wanted, text),
     };
-    let (printed, status) = answer(alloc, case.words, script.as_str())?;
+    let (printed, status) = answer(alloc, case.words, input.as_slice())?;
     Ok(status == wanted_status && printed.as_str() == wanted.as_str())
 }
 

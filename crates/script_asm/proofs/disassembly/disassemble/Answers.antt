@@ -10,11 +10,11 @@ pub returns : goal.returns
 unfolding text_of
 returns c =
     let text = c.in_ok-push_code_lines.ensures
-        ∙ ap (λ text. text ++ code_lines c.code-2.result.now 0 c.code-2.result.now)
-        (c.in_ok-push_data_lines.ensures
-        ∙ ap (λ text. text ++ data_lines 0 c.strings-2.result.now) c.new-text.ensures.bytes
-        ∙ ap (data_lines 0) c.strings-2.ensures.strings)
-        ∙ ap (λ code. data_lines 0 c.args.program.now.strings ++ code_lines code 0 code) c.code-2.ensures.code in
+    ∙ ap (λ text. text ++ code_lines c.code-2.result.now 0 c.code-2.result.now)
+    (c.in_ok-push_data_lines.ensures
+    ∙ ap (λ text. text ++ data_lines 0 c.strings-2.result.now) c.new-text.ensures.bytes
+    ∙ ap (data_lines 0) c.strings-2.ensures.strings)
+    ∙ ap (λ code. data_lines 0 c.args.program.now.strings ++ code_lines code 0 code) c.code-2.ensures.code in
     record {
       text = text;
       means = ap program_of text ∙ texts_read_back c.args.program.now c.strings.ensures.listing (record {

@@ -4,7 +4,7 @@
 use bench::{FAILED, Input, NO_MEMORY, Outcome, Output, REFUSED_WORDS, bench};
 use std::alloc::Global;
 use std::env;
-use std::io::{self, BufWriter, ErrorKind, Write};
+use std::io::{self, BufWriter, ErrorKind};
 use std::process::ExitCode;
 use std::sync::Wait;
 use std::thread::Threads;
@@ -24,23 +24,25 @@ fn main(rt: HostRuntime) -> ExitCode {
 }
 
 /// Says that there is no memory for the words or the writer, and gives the status.
-fn refused_for_memory(rt: &HostRuntime) -> u8 {
+fn refused_for_memory<R: Print>(rt: &R) -> u8 {
     match println!(rt; "refused OutOfMemory") {
         Ok(()) => NO_MEMORY,
         Err(_) => FAILED,
     }
 }
 
-/// Runs the bench on the process's words, standard input and standard output. How it ends.
+/// Runs the bench on the process's words, standard input and standard output. How it ends. After a failed write nothing
+/// is written, nor what the buffer still has.
 fn run(rt: &HostRuntime) -> io::Result<Outcome> {
     let alloc = rt.alloc();
     let words: Vec<String> = env::args(rt)?.collect(alloc)?;
     let mut writer = BufWriter::new(alloc, rt.stdout())?;
     let mut input = Input::of(rt.stdin());
     let mut output = Output::of(&mut writer);
-    let outcome = bench(alloc, &mut input, &mut output, words.as_slice());
-    writer.flush()?;
-    Ok(outcome)
+    match bench(alloc, &mut input, &mut output, words.as_slice()) {
+        Outcome::Ended(status) => Ok(Outcome::Ended(output.flush(status))),
+        Outcome::Threads { workers, frames } => Ok(Outcome::Threads { workers, frames }),
+    }
 }
 
 /// Runs workers on threads, prints what they tell on standard output, and gives the status.
@@ -51,12 +53,12 @@ fn run_threads<R: Print + Threads + Wait + Sync>(
     frames: u8,
 ) -> u8 {
     let Ok(mut writer) = BufWriter::new(alloc, io::writer(rt)) else {
-        return NO_MEMORY;
+        return refused_for_memory(rt);
     };
     let mut output = Output::of(&mut writer);
     let status = bench_threads(rt, alloc, &mut output, workers, frames);
-    match writer.flush() {
-        Ok(()) => status,
-        Err(_) => FAILED,
+    if output.has_failed() {
+        return output.failed_status();
     }
+    output.flush(status)
 }

@@ -66,10 +66,11 @@ impl Read for FailingReader {
     }
 }
 
-/// Takes so many writes and fails at the next, and counts the writes after that.
+/// Takes so many writes and fails at the next, with an error of this kind, and counts the writes after that.
 #[derive(Drop)]
 pub struct FailingWriter {
     pub taken: u32,
+    pub kind: ErrorKind,
     pub has_failed: bool,
     pub later: u32,
 }
@@ -81,13 +82,30 @@ impl Write for FailingWriter {
         }
         if self.taken == 0 {
             self.has_failed = true;
-            return Err(Error::from(ErrorKind::BrokenPipe));
+            return Err(Error::from(self.kind));
         }
         self.taken -= 1;
         Ok(buf.len())
     }
 
     fn flush(&mut self) -> Result<()> {
+        if self.has_failed {
+            self.later = self.later.saturating_add(1);
+        }
         Ok(())
+    }
+}
+
+/// Takes each write, and fails where it is to write what it keeps back, with an error of this kind.
+#[derive(Drop)]
+pub struct FailingFlush(pub ErrorKind);
+
+impl Write for FailingFlush {
+    fn write(&mut self, buf: &[u8]) -> Result<usize> {
+        Ok(buf.len())
+    }
+
+    fn flush(&mut self) -> Result<()> {
+        Err(Error::from(self.0))
     }
 }

@@ -1,10 +1,10 @@
 //! What is read, and reads and writes that fail.
 
-use crate::fakes::{Drip, FailingReader, FailingWriter, Flood, Newlines};
+use crate::fakes::{Drip, FailingFlush, FailingReader, FailingWriter, Flood, Newlines};
 use bench::{Failure, Input, InputFault, Outcome, Output, answer, bench, read_input};
 use command_line::{Request, RunOptions, TextRequest};
 use std::alloc::Global;
-use std::io::Read;
+use std::io::{ErrorKind, Read};
 use std::process::Abort;
 
 const RUN: [&str; 2] = ["nicbench", "run"];
@@ -21,7 +21,7 @@ const HASH_REQUEST: Request = Request::Text(TextRequest::Hash);
 
 const SCRIPT: &[u8] = b"w GPIE 1\nr GPIE\n";
 
-const REFUSED_SCRIPT: &[u8] = b"w GPIE 1\nr GPIE\nr NOSUCH[0]";
+const FAILED_SCRIPT: &[u8] = b"w GPIE 1\nr GPIE\nexpect 2\n";
 
 const HASHED: &[u8] =
     b"6d5a56da255b0ec24167253d43a38fb0d0ca2bcbae7b30b477cb2da38030f20c6a42b73bbeac01fa
@@ -94,38 +94,61 @@ fn input_faults(rt: HostRuntime) {
     assert!(rt; input.as_slice() == SCRIPT);
 }
 
-/// A writer that takes so many writes and fails at the next.
-fn writer(taken: u32) -> FailingWriter {
+/// A writer that takes so many writes and fails at the next, with an error of this kind.
+fn writer(taken: u32, kind: ErrorKind) -> FailingWriter {
     FailingWriter {
         taken,
+        kind,
         has_failed: false,
         later: 0,
     }
 }
 
-/// The program ends with status 2 and no later write where a writer fails. Gives whether it came to fail.
-fn fails_at(rt: &impl Abort, alloc: Global, words: &[&str], input: &[u8], taken: u32) -> bool {
-    let mut writer = writer(taken);
+/// The program ends with this status and no later write where a writer fails with an error of this kind, and else with
+/// the input's own. Gives whether it came to fail.
+fn fails_at(
+    rt: &impl Abort,
+    alloc: Global,
+    (words, input, own): (&[&str], &[u8], u8),
+    taken: u32,
+    (kind, failed): (ErrorKind, u8),
+) -> bool {
+    let mut writer = writer(taken, kind);
     let mut output = Output::of(&mut writer);
     let outcome = bench(alloc, &mut Input::of(input), &mut output, words);
-    assert!(rt;
-        outcome == Outcome::Ended(2) && writer.later == 0,
-        "{taken} writes"
-    );
+    let wanted = if output.has_failed() { failed } else { own };
+    assert!(rt; outcome == Outcome::Ended(wanted), "{taken} writes");
+    assert_eq!(rt; output.flush(wanted), wanted);
+    assert!(rt; writer.later == 0, "{taken} writes");
     writer.has_failed
 }
 
-/// A writer that fails, at whatever write.
+/// A writer that fails, at whatever write: the status is 2, or 4 where its error is want of memory.
 #[test]
 fn failing_writers(rt: HostRuntime) {
-    for taken in 0..12 {
-        let _ = fails_at(&rt, rt.alloc(), &RUN, REFUSED_SCRIPT, taken);
+    let pipe = (ErrorKind::BrokenPipe, 2);
+    let memory = (ErrorKind::OutOfMemory, 4);
+    for (words, input, own) in [
+        (&RUN[..], SCRIPT, 0),
+        (&RUN[..], FAILED_SCRIPT, 1),
+        (&HASH[..], HASHED, 0),
+    ] {
+        for taken in 0..4 {
+            assert!(rt; fails_at(&rt, rt.alloc(), (words, input, own), taken, pipe));
+            assert!(rt; fails_at(&rt, rt.alloc(), (words, input, own), taken, memory));
+        }
+        assert!(rt; !fails_at(&rt, rt.alloc(), (words, input, own), 1_000, pipe));
     }
-    for taken in 0..6 {
-        assert!(rt; fails_at(&rt, rt.alloc(), &RUN, SCRIPT, taken));
-    }
-    for taken in 0..4 {
-        assert!(rt; fails_at(&rt, rt.alloc(), &HASH, HASHED, taken));
+}
+
+/// A writer that can't write what it keeps back: the same, and it isn't asked again.
+#[test]
+fn failing_flushes(rt: HostRuntime) {
+    for (kind, wanted) in [(ErrorKind::BrokenPipe, 2), (ErrorKind::OutOfMemory, 4)] {
+        let mut output = Output::of(FailingFlush(kind));
+        assert_eq!(rt; output.flush(1), wanted);
+        assert!(rt; output.has_failed() && output.failed_status() == wanted);
+        assert_eq!(rt; output.flush(1), 1);
     }
 }
 
@@ -138,7 +161,7 @@ fn failures(rt: HostRuntime) {
         let mut failing = Input::of(FailingReader(1));
         let read = answer(alloc, &mut failing, &mut Output::of(&mut written), request);
         assert!(rt; read == Err(Failure::Read) && written.is_empty());
-        let mut output = Output::of(writer(0));
+        let mut output = Output::of(writer(0, ErrorKind::BrokenPipe));
         let write = answer(alloc, &mut Input::of(input), &mut output, request);
         assert!(rt; write == Err(Failure::Write) && output.has_failed());
         let mut output = Output::of(&mut written);

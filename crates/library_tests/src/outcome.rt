@@ -17,3 +17,11 @@ pub fn some<T>(rt: &impl Abort, answer: Option<T>) -> T {
         None => panic!(rt; "none"),
     }
 }
+
+/// Why an answer was refused.
+pub fn refused<T, E>(rt: &impl Abort, answer: Result<T, E>) -> E {
+    match answer {
+        Ok(_value) => panic!(rt; "not refused"),
+        Err(fault) => fault,
+    }
+}

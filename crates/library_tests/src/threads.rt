@@ -3,6 +3,7 @@
 use crate::fakes::FailingWriter;
 use bench::{Input, Outcome, Output, bench};
 use std::alloc::Global;
+use std::io::ErrorKind;
 use std::process::Abort;
 use std::sync::Wait;
 use std::thread::Threads;
@@ -81,11 +82,13 @@ fn a_failed_write_ends_the_summary(rt: HostRuntime) {
     for taken in 0..4 {
         let mut writer = FailingWriter {
             taken,
+            kind: ErrorKind::BrokenPipe,
             has_failed: false,
             later: 0,
         };
         let mut output = Output::of(&mut writer);
         assert_eq!(rt; bench_threads(&rt, alloc, &mut output, 1, 1), 2);
+        assert_eq!(rt; output.flush(2), 2);
         assert!(rt; writer.has_failed && writer.later == 0, "{taken} writes");
     }
 }

@@ -10,6 +10,8 @@ mod bench;
 #[cfg(test)]
 mod driver;
 #[cfg(test)]
+mod gates;
+#[cfg(test)]
 mod history;
 #[cfg(test)]
 mod hostile;

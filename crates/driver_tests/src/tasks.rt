@@ -11,8 +11,8 @@ struct Meet<'a, R: Wait> {
     come: &'a Mutex<u64>,
 }
 
-/// Whether two have come, within the turns.
-fn meets<R: Wait>(rt: &R, come: &Mutex<u64>) -> bool {
+/// Comes to a place. Whether two have come, within the turns.
+pub fn meets<R: Wait>(rt: &R, come: &Mutex<u64>) -> bool {
     {
         let mut come = come.lock(rt);
         *come = come.wrapping_add(1);
@@ -76,12 +76,4 @@ fn two_tasks_meet(rt: HostRuntime) {
         }
     }
     assert_eq!(rt; missing, 0);
-}
-
-/// Tasks that are done one after the other don't meet.
-#[test]
-fn one_after_the_other_is_alone(rt: HostRuntime) {
-    let come = Mutex::new(0);
-    assert!(rt; !meets(&rt, &come));
-    assert!(rt; meets(&rt, &come));
 }

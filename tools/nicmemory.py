@@ -123,6 +123,7 @@ class Replay:
         self.trace = trace
         self.steps = [step for step in trace.steps if is_event(trace.instruction(step))]
         self.short = [step for step in self.steps if not _leaves_memory(trace.instruction(step), step)]
+        self.asked = 0
         data = enumerate(trace.script.data)
         self.data = "".join(f"data d{n} {one.hex()}\n" for n, one in data)
 
@@ -155,6 +156,11 @@ class Replay:
             )
             return []
         return [*asked.values(), answers[count:]]
+
+    def behind(self, count: int, lines: list[str], more: int) -> list[str]:
+        """The replies to lines behind so many steps, of which so many instructions more are made."""
+        steps = self.up_to(count, len(lines))
+        return [] if steps is None else (self.run(steps, {}, lines, len(steps) + more) or [[]])[-1]
 
     def collects(self, steps: list[Step], sent: list[Frame]) -> list[str]:
         """As many lines `collect` as frames are out behind some steps; none where all bytes are known."""
@@ -262,8 +268,8 @@ class Watch:
 def look(trace: Trace) -> Seen:
     """Gives each step what it changed of memory, of the frames that wait and of those that went out."""
     sides = sides_in_use(trace)
-    arrived, sent = _account(trace)
     replay = Replay(trace)
+    arrived, sent = _account(trace, replay)
     asked = Watch(trace, sides).steps()
     _ask_memory(trace, replay, asked, sent)
     _lost(trace)
@@ -338,7 +344,7 @@ def _give_hashes(trace: Trace, arrived: list[Frame]) -> None:
             waiting = waiting + frames if sign == "+" else [one for one in waiting if one not in frames]
 
 
-def _account(trace: Trace) -> tuple[list[Frame], list[Frame]]:
+def _account(trace: Trace, replay: Replay) -> tuple[list[Frame], list[Frame]]:
     """The frames that were let in and those that went out, by the replies, and at which step they came and left."""
     arrived: list[Frame] = []
     sent: list[Frame] = []
@@ -365,40 +371,34 @@ def _account(trace: Trace) -> tuple[list[Frame], list[Frame]]:
         elif one.op == Op.COLLECT and reply.startswith("frame") and out:
             sent[out[0]].data = bytes.fromhex(reply.split()[-1])
             step.out.append(("-", [out.pop(0)]))
-        elif waiting and (gone := _forgotten(trace, step, waiting, arrived)):
+        elif waiting and (gone := _forgotten(trace, replay, step, waiting, arrived)):
             step.waiting.append(("-", gone))
             waiting = [one for one in waiting if one not in gone]
     return arrived, sent
 
 
-def _forgotten(trace: Trace, step: Step, waiting: list[int], arrived: list[Frame]) -> list[int]:
+def _forgotten(trace: Trace, replay: Replay, step: Step, waiting: list[int], arrived: list[Frame]) -> list[int]:
     """The frames that wait no more, though no receive step took them: a reset, or a queue off in the middle of one."""
     one = trace.instruction(step)
-    is_reset = one.op == Op.WRITE and one.a in (0, 4) and one.b & (1 << 3 | 1 << 26)
-    if is_reset:
+    if one.op == Op.WRITE and one.a in (0, 4) and one.b & (1 << 3 | 1 << 26):
         return list(waiting)
     front = arrived[waiting[0]]
     if one.op == Op.QSTEP and not one.sub and step.reply == "done" and front.slots and front.queue == one.x:
         return [waiting[0]]
-    pool = _pool_reset(one)
-    if pool is None:
+    if step.reply != "done" or not _is_pool_reset(one):
         return []
-    replay = Replay(trace)
-    queues, after = (_waiting_queues(trace, replay, count, len(waiting)) for count in (step.number, step.number + 1))
+    before, after = (_waiting_queues(trace, replay, count, len(waiting)) for count in (step.number, step.number + 1))
     kept: list[int] = []
-    for frame, queue in zip(waiting, queues):
-        if queue is not None and len(kept) < len(after) and after[len(kept)] == queue:
+    for frame, queue in zip(waiting, before):
+        if len(kept) < len(after) and after[len(kept)] == queue:
             kept.append(frame)
-    return [frame for frame in waiting if frame not in kept]
+    return [frame for frame in waiting[: len(before)] if frame not in kept]
 
 
-def _pool_reset(one: Instruction) -> int | None:
-    """The pool that an instruction may reset."""
-    if one.op == Op.VF_WRITE and one.a == 0 and one.b & 1 << 26:
-        return one.x
-    if one.op == Op.WRITE and first("PVFCTRL") <= one.a < first("PVFCTRL", 63) + 4 and one.b & 1 << 26:
-        return (one.a - first("PVFCTRL")) // 4
-    return None
+def _is_pool_reset(one: Instruction) -> bool:
+    """Whether an instruction may reset a pool."""
+    is_control = one.op == Op.WRITE and first("PVFCTRL") <= one.a < first("PVFCTRL", 63) + 4
+    return (is_control or one.op == Op.VF_WRITE and one.a == 0) and bool(one.b & 1 << 26)
 
 
 def _give_bytes(sent: list[Frame], answers: list[str]) -> None:
@@ -424,27 +424,41 @@ def _find_queues(trace: Trace, replay: Replay, arrived: list[Frame]) -> None:
                 states.append((step.number, list(waiting)))
             waiting = waiting + frames if sign == "+" else [one for one in waiting if one not in frames]
     states.append((len(trace.steps), waiting))
-    for probes, (count, frames) in enumerate(states):
-        if probes < RUNS and any(arrived[one].queue is None for one in frames):
+    for count, frames in states:
+        if any(arrived[one].queue is None for one in frames):
             for frame, queue in zip(frames, _waiting_queues(trace, replay, count, len(frames))):
                 arrived[frame].queue = queue
 
 
-def _waiting_queues(trace: Trace, replay: Replay, count: int, frames: int) -> list[int | None]:
-    """The queues of the frames that wait after so many steps, in order. Behind those steps all queues are switched on
-    with a tail that is no slot of theirs: so a receive step takes the frame in front, and its reply names the queue."""
-    queues, rounds = range(128), min(frames + 1, 9)
-    words = trace.registers(count)
-    lines = [f"w 0x{first('CTRL'):x} 0"] if word_of(words, "CTRL") & 4 else []
-    lines.append("again:")
+def _waiting_queues(trace: Trace, replay: Replay, count: int, frames: int) -> list[int]:
+    """The queues of the frames that wait after so many steps, in order; of fewer frames, or of none, where there is no
+    room to ask. Behind those steps all queues are switched on with a tail that is no slot of theirs: so a receive step
+    takes the frame in front, its reply names the queue, and this goes off. Where that hides a further frame of it, the
+    queues that were named are switched on anew for each frame."""
+    if replay.asked == 2 * RUNS:
+        trace.notes.append(f"which frames wait, and for which queue, isn't asked for at step {count} and further ones")
+    replay.asked += 1
+    if replay.asked > 2 * RUNS:
+        return []
+    lines = [f"w 0x{first('CTRL'):x} 0", *_armed(list(range(128))), "again:", "rx", "jmp again"]
+    answers = replay.behind(count, lines, 128 * 3 + 1 + 2 * frames)
+    named = _named(answers)
+    if "dropped queue off" in answers:
+        lines = [f"w 0x{first('CTRL'):x} 0", "again:", *_armed(named), "rx", "jmp again"]
+        answers = replay.behind(count, lines, 1 + (3 * len(named) + 2) * frames)
+        named = _named(answers)
+    return named
+
+
+def _named(answers: list[str]) -> list[int]:
+    """The queues that faults name."""
+    return [int(answer.split()[2]) for answer in answers if answer.startswith("fault queue")]
+
+
+def _armed(queues: list[int]) -> list[str]:
+    """Lines that switch queues on, with a tail that is no slot."""
+    lines = []
     for queue in queues:
         control, tail = first("RXDCTL", queue), first("RDT", queue)
         lines += [f"w 0x{control:x} 0x{ENABLE:x}", f"qstep rx {queue}", f"w 0x{tail:x} 0xffff"]
-    lines += ["rx", "jmp again"]
-    steps = replay.up_to(count, len(lines))
-    if steps is None:
-        return []
-    limit = len(steps) + 1 + rounds * (3 * len(queues) + 2)
-    answers = (replay.run(steps, {}, lines, limit) or [[]])[-1]
-    found = [number_after(answer, "queue") for answer in answers if answer.startswith("fault queue")]
-    return list(found)
+    return lines

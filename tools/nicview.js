@@ -178,7 +178,7 @@ function showRings(state) {
     const told = make("div", { className: "slots" }, facts, ring.slots ? slots(state, ring) : null);
     return make("div", { className: "ring" }, picture, told);
   });
-  element("rings").replaceChildren(...(shown.length ? shown : [faint("No ring has a length yet.")]));
+  element("rings").replaceChildren(...(shown.length ? shown : [faint("No ring has a length.")]));
 }
 
 // The step, interrupts, frames.

@@ -16,7 +16,7 @@ loop-frame-preserved g c =
       one_more before (bytes ∷ []) _ _ _ arrived c.in-Ok.ensures.arrived,
       λ foreign.
           let no = c.in-Ok.ensures.foreign (λ own. foreign
-              (subst (λ (p : PassValue). IsOwn c.args.shared.now.bench c.args.shared.now.passes p) arrived.made own)) in
+          (subst (λ (p : PassValue). IsOwn c.args.shared.now.bench c.args.shared.now.passes p) arrived.made own)) in
           absurd cc,
     )
 

@@ -73,8 +73,8 @@ fn answer_input<W: Write>(
     }
 }
 
-/// Reads all input, and writes what is asked for of it, to an output of which no write has failed before: so an answer is
-/// given up for a write only where one fails meanwhile. An `Ok` has the status; then what is written and the status
+/// Reads all input, and writes what is asked for of it, to an output of which no write has failed before: so an answer
+/// is given up for a write only where one fails meanwhile. An `Ok` has the status; then what is written and the status
 /// are those of what is asked for, of all bytes of the input. After `Failure::Read` nothing is written, after
 /// `Failure::OutOfMemory` a part of the answer from its beginning on, and after `Failure::Write` nothing more is
 /// written.

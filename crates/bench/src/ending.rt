@@ -107,8 +107,8 @@ fn end_words<W: Write>(output: &mut Output<W>, error: &Error) -> Outcome
 
 /// Reads the words, the program's own name first, then all input where they ask for it, and writes all output, to an
 /// output of which no write has failed before. The words are read before anything else, and where they are refused
-/// nothing else is. After a failed write nothing more is written, and the status is that of the write: `NO_MEMORY` where
-/// the writer says that it had none, and else `FAILED`. It ends as `answer` answers; a failed read is the refusal
+/// nothing else is. After a failed write nothing more is written, and the status is that of the write: `NO_MEMORY`
+/// where the writer says that it had none, and else `FAILED`. It ends as `answer` answers; a failed read is the refusal
 /// `Input`, want of memory the refusal `OutOfMemory`. Where they ask for `threads` nothing is read or written, but for
 /// that refusal.
 pub fn bench<'a, R: Read, W: Write, S: AsStr>(

@@ -13,12 +13,12 @@
 //! limit 2
 //! ```
 //!
-//! `$` gives the words, where they aren't `nicbench run`; with `$x` the lines are the bytes of the input, in hex. Behind
-//! `#>`, which is a comment to the assembler, stands what an instruction prints, and behind `--` the status and what is
-//! printed after that; with no such line this is `ok`, with the number of instructions, and status 0. `-- 3 with` asks
-//! for no more than that each line below it, of which there is one at least, is a part of what is printed, and
-//! `-- 2 each` that each line above it, of which there is one at least, by itself behind the lines of the table, prints
-//! what is below.
+//! `$` gives the words, where they aren't `nicbench run`; with `$x` the lines are the bytes of the input, in hex.
+//! Behind `#>`, which is a comment to the assembler, stands what an instruction prints, and behind `--` the status and
+//! what is printed after that; with no such line this is `ok`, with the number of instructions, and status 0. `-- 3
+//! with` asks for no more than that each line below it, of which there is one at least, is a part of what is printed,
+//! and `-- 2 each` that each line above it, of which there is one at least, by itself behind the lines of the table,
+//! prints what is below.
 
 use crate::examples::bytes_of;
 use bench::{Input, Outcome, Output, bench};

@@ -58,17 +58,17 @@ command_of s (Clear pc) = with_breakpoints s (without_break s.breakpoints pc)
 command_of s (Show address) = shows s (peeked s Pf address)
 command_of s (ShowVf function offset) = shows s (peeked s (Vf function) offset)
 
--- some of the steps to another session are made, and nothing else is done: the next step, which is one of them, may take
--- memory
+-- some of the steps to another session are made, and nothing else is done: the next step, which is one of them, may
+-- take memory
 pub record IsOnTheWay (before after target : Session) : Type 0 where
   pub same : after ≡ at before after.steps
   pub from : before.steps ≤ after.steps
   pub short : after.steps < target.steps
   pub takes : StepTakesMemory before.program (machine_at before.program before.config after.steps)
 
--- what want of memory leaves: a step or a continue has made some of its steps, and the next one may take memory, so that
--- none is wanting where no step is left to make; a way back takes memory where it is one, and changes nothing; the rest
--- take none
+-- what want of memory leaves: a step or a continue has made some of its steps, and the next one may take memory, so
+-- that none is wanting where no step is left to make; a way back takes memory where it is one, and changes nothing; the
+-- rest take none
 abbrev pub LeftBy : Session → Command → Session → Type 0
 LeftBy s (Step count) after = IsOnTheWay s after (stepped s count)
 LeftBy s (Back count) after = (count ≤ s.steps) × (after ≡ s)

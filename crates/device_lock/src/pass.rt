@@ -67,8 +67,8 @@ impl Pass {
 impl Pass {
     /// Makes one event under the lock, and keeps its call here.
     ///
-    /// `HistoryFull` only where the history has as many entries as it may, else `OutOfMemory`. Both hand the event back,
-    /// and change nothing.
+    /// `HistoryFull` only where the history has as many entries as it may, else `OutOfMemory`. Both hand the event
+    /// back, and change nothing.
     pub(crate) fn call<const VFS: u8, const FIFO: u16>(
         &mut self,
         alloc: Global,

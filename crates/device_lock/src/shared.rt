@@ -18,8 +18,8 @@ pub const MAX_PASSES: u8 = 64;
 /// How many entries a history can have.
 pub const MAX_LIMIT: u32 = 1_000_000;
 
-/// A device that threads share, known by the number of its bench and of its passes. It has `VFS` virtual functions, at most 63, and its
-/// receive list takes `FIFO` frames, from 1 to 4,096. It can't be dropped: it is closed in the end.
+/// A device that threads share, known by the number of its bench and of its passes. It has `VFS` virtual functions, at
+/// most 63, and its receive list takes `FIFO` frames, from 1 to 4,096. It can't be dropped: it is closed in the end.
 pub struct Shared<const VFS: u8, const FIFO: u16> {
     pub(crate) lock: Mutex<Locked<VFS, FIFO>>,
     pub(crate) bench: u64,
@@ -106,8 +106,8 @@ impl<const VFS: u8, const FIFO: u16> Shared<VFS, FIFO> {
     /// Makes one event on the device, and keeps the call in the pass. It waits for the lock.
     ///
     /// `ForeignPass` exactly where the pass is of another bench or has no tag of this one: this takes no lock.
-    /// `HistoryFull` only where the history has as many entries as it may, else `OutOfMemory`. Each hands the event back,
-    /// and changes nothing.
+    /// `HistoryFull` only where the history has as many entries as it may, else `OutOfMemory`. Each hands the event
+    /// back, and changes nothing.
     pub fn call<R: Wait>(
         &self,
         rt: &R,

@@ -109,8 +109,8 @@ fn opened<R: Abort + Wait>(rt: &R, alloc: Global) -> (Bench, Vec<Pass>, Pass) {
     (bench, passes, host)
 }
 
-/// Runs two workers at a gate, while a frame arrives. Answers how many frames were let in, and how many workers the gate
-/// shut out.
+/// Runs two workers at a gate, while a frame arrives. Answers how many frames were let in, and how many workers the
+/// gate shut out.
 fn run_at<R: Abort + Threads + Wait + Sync, G: Gate + Sync>(
     rt: &R,
     alloc: Global,

@@ -50,13 +50,13 @@ pub record IsShort (a : Numbers) (v : Receive) (b : Numbers) (w : Receive) : Typ
   pub layout : w.layout ≡ v.layout
   pub handed : w.handed ≡ v.handed
 
--- the event that was refused is one that the driver may make next: a look at the next slot, a take of the block there, a
--- lend of a block that is free in an arena, the name of one in the vacant slot, or a move of the tail
+-- the event that was refused is one that the driver may make next: a look at the next slot, a take of the block there,
+-- a lend of a block that is free in an arena, the name of one in the vacant slot, or a move of the tail
 abbrev pub AsksNext : Numbers → Receive → Type 0
 AsksNext a w = (e : Event Block) × IsOwn w e × LendsFree a true e
 
--- the device is at fault, or the driver's next event was refused, after these calls, which led from this driver to that,
--- with an arena beside
+-- the device is at fault, or the driver's next event was refused, after these calls, which led from this driver to
+-- that, with an arena beside
 abbrev pub IsFault : PmdFault → Numbers → List Call → Receive → List Call → Receive → Type 0
 IsFault fault.DeviceFault a old v new w = EndsWrong a old v new w
 IsFault (fault.Call refusal) a old v new w = AsksNext a w

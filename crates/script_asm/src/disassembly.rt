@@ -168,8 +168,8 @@ fn have_widths(code: &[Instruction])
 
 /// The text of a program: its data strings as `d0`, `d1` and so on, then its instructions, with a label before each one
 /// that is jumped to: `L` and its number. Registers are named where the address is their first one, with the index
-/// where their row has several; all other numbers are words of eight hex digits. It is a script that means the program, so
-/// that it assembles to one with the same bytes.
+/// where their row has several; all other numbers are words of eight hex digits. It is a script that means the program,
+/// so that it assembles to one with the same bytes.
 pub fn disassemble(alloc: Global, program: &Program) -> Result<String, OutOfMemory>
     ensures text { IfOk result (λ text. string_bytes text ≡ text_of program.now) }
     ensures means { IfOk result (λ text. program_of (string_bytes text) ≡ Ok program.now) }

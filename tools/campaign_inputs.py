@@ -236,8 +236,8 @@ class Inputs:
     def words(self):
         it = self.dice
         # (threads alone writes nothing where its words are right, so it stands here with wrong ones)
-        known = "run debug asm dis eeprom hash --load --vfs --fifo --limit --vfs=4 -h --help -V --version help -- -".split()
-        known += ["", "threads", "--workers", "0", "9", "--frames", "61"]
+        known = "run debug asm dis eeprom hash --load --vfs --fifo --limit --vfs=4 -h --help -V --version help".split()
+        known += ["--", "-", "", "threads", "--workers", "0", "9", "--frames", "61"]
         return [it.choice(known) if it.random() < 0.8 else self.noise() for _ in range(it.randrange(5))], b""
 
     def noise(self):

@@ -4,12 +4,12 @@
     tools/pcap2nic.py FILE [--first N] [--count N] [--name NAME] [--step]
 
 FILE is a capture as tcpdump, tshark or Wireshark write it (pcap of either byte order, with microseconds or nanoseconds,
-or pcapng), of Ethernet frames; `-` is standard input. Of its frames those from number N (1 if it isn't given) are taken,
-as many as --count says, at most the 1,024 that a script can name. They are called NAME1, NAME2 and so on (`frame` if it
-isn't given). With --step each `arrive` is followed by `rx`, one step of receiving.
+or pcapng), of Ethernet frames; `-` is standard input. Of its frames those from number N (1 if it isn't given) are
+taken, as many as --count says, at most the 1,024 that a script can name. They are called NAME1, NAME2 and so on
+(`frame` if it isn't given). With --step each `arrive` is followed by `rx`, one step of receiving.
 
-A frame that was captured in part, is empty or has more than 16,384 bytes can't be one of a script, and ends the run with
-status 1; so does a capture of another link than Ethernet, and a file that is none.
+A frame that was captured in part, is empty or has more than 16,384 bytes can't be one of a script, and ends the run
+with status 1; so does a capture of another link than Ethernet, and a file that is none.
 
     tools/pcap2nic.py http.pcap --count 20 --step > arrivals.nic
     cat setup.nic arrivals.nic | ./nicbench run

@@ -38,7 +38,8 @@ either-goes : (b : Bool) (x y : Step) → is_stopped x.answer ≡ false → is_s
 either-goes true x y first second = first
 either-goes false x y first second = second
 
-done-goes : (p : Listing) (s : MachineState) (i : Instruction ℕ ℕ) → is_stopped (done p s (action_of p i)).answer ≡ false
+done-goes : (p : Listing) (s : MachineState) (i : Instruction ℕ ℕ)
+    → is_stopped (done p s (action_of p i)).answer ≡ false
 done-goes p s (Write address word) = refl
 done-goes p s (Read address) = refl
 done-goes p s (VfWrite function offset word) = refl

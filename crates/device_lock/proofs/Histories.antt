@@ -72,9 +72,9 @@ pub kept_more : (vfs fifo : ℕ) (h : Held) (counts : List ℕ) (tag : ℕ) (eve
     → history ≡ h.history ++ entry_of tag note told ∷ []
     → counts' ≡ slice_set counts tag (get_or counts tag 0 + 1)
     → IsKept vfs fifo (record { device = device; history = history; limit = h.limit }) counts'
-kept_more vfs fifo h counts tag event note reply told device history counts' k each lt room fit n r made is grown counted =
+kept_more vfs fifo h counts tag event note reply told device history counts' k each lt room fit n r made is gr counted =
     let e : Entry = entry_of tag event (step_of h.device event).reply in
-    let more : history ≡ h.history ++ e ∷ [] = rw (grown, n, r, made) refl in
+    let more : history ≡ h.history ++ e ∷ [] = rw (gr, n, r, made) refl in
     record {
       legal = rw more (legal_more (new_state vfs fifo) h.history e k.legal (rw k.leads refl));
       leads = rw (more, leads_to-snoc (new_state vfs fifo) h.history e, k.leads) (sym is);

@@ -59,4 +59,5 @@ module _ (f : PmdFault) (old : List Call) (a b c d e : List Setting) where
 
   pub in_fifth : (i j k l new : List Call) → AreSet old i a → AreSet i j b → AreSet j k c → AreSet k l d
       → StopsSetting f l new e → StopsSetting f old new (a ++ b ++ c ++ d ++ e)
-  in_fifth i j k l new p q r s t = stops_second f old l new (a ++ b ++ c ++ d) e (up_to_fourth old a b c d e i j k l p q r s) t
+  in_fifth i j k l new p q r s t =
+      stops_second f old l new (a ++ b ++ c ++ d) e (up_to_fourth old a b c d e i j k l p q r s) t

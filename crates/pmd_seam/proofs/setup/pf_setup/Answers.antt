@@ -51,7 +51,8 @@ pub returns-in_err-set_packed-2-clause-failed : goal.returns-in_err-set_packed-2
 returns-in_err-set_packed-2-clause-failed g c =
     let s = c.args.setup.now in
     let f = c.in_err-set_packed-2.field-0.0 in
-    let p = err_from_is_err_and c.from_residual-in_err-set_packed-2.result c.from_residual-in_err-set_packed-2.ensures.1 in
+    let p = err_from_is_err_and c.from_residual-in_err-set_packed-2.result
+    c.from_residual-in_err-set_packed-2.ensures.1 in
     let old = g.N.Nic.made c.args.nic.now in
     let i = g.N.Nic.made c.set_all.new.nic in
     let j = g.N.Nic.made c.set_all-2.new.nic in

@@ -15,8 +15,9 @@ use Rattle.workers.specs.declared.assignment.Back.{Back}
 use Rattle.workers.specs.declared.assignment.Assignment.{Assignment}
 
 -- one more sits
-sit_more : (jobs : List Job) (ss : List (Seat Assignment Back)) (cs : List Collector) (j : Job) (s : Seat Assignment Back)
-    (c : Collector) → AllSit jobs ss cs → Sits j s c → AllSit (jobs ++ j ∷ []) (ss ++ s ∷ []) (cs ++ c ∷ [])
+sit_more : (jobs : List Job) (ss : List (Seat Assignment Back)) (cs : List Collector) (j : Job)
+    (s : Seat Assignment Back) (c : Collector) → AllSit jobs ss cs → Sits j s c
+    → AllSit (jobs ++ j ∷ []) (ss ++ s ∷ []) (cs ++ c ∷ [])
 sit_more [] [] [] j s c sit sits = (sits, tt)
 sit_more (k ∷ jobs) (t ∷ ss) (d ∷ cs) j s c sit sits = (sit.0, sit_more jobs ss cs j s c sit.1 sits)
 sit_more [] (t ∷ ss) cs j s c sit sits = absurd sit

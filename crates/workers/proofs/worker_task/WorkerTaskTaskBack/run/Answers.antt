@@ -14,8 +14,8 @@ returns g c =
         bench = search rules;
         tag = search rules;
         lived = λ has.
-            subst (λ (x : Assignment). HasRun (record { port = x.job.port; queue = x.job.queue }) x.job.size x.job.pass.calls
-            x.job.arena c.finish.result.calls left.0 left.1) c.self.view_is
+            subst (λ (x : Assignment). HasRun (record { port = x.job.port; queue = x.job.queue }) x.job.size
+            x.job.pass.calls x.job.arena c.finish.result.calls left.0 left.1) c.self.view_is
             (subst (λ (p : PassValue). HasRun (record { port = d.job.port; queue = d.job.queue }) d.job.size
             d.job.pass.calls d.job.arena p.calls left.0 left.1) (sym c.finish.ensures)
             (subst (λ (t : AtLock). HasRun (record { port = d.job.port; queue = d.job.queue }) d.job.size t.pass.calls

@@ -1,0 +1,99 @@
+/* Which frames come in, by what the driver was asked for: its own address, further ones, all, multicast ones. */
+#include "exchange.h"
+
+#include <string.h>
+
+#include "bus.h"
+#include "frames.h"
+
+/* Whether a frame to this address comes in to the driver, as it was sent. A driver by vectors gives nothing to who asks
+   for one packet alone. */
+static bool comes_in(uint16_t port, const struct rte_ether_addr *to)
+{
+    struct frame frame;
+    struct rte_mbuf *packets[BURST];
+    bool alike = false;
+    make_frame(&frame, 0, to->addr_bytes, peer_mac);
+    if (!bus_arrive(frame.bytes, frame.length))
+        return false;
+    bus_receive();
+    for (uint16_t queue = 0; queue < QUEUES; queue++) {
+        uint16_t count = rte_eth_rx_burst(port, queue, packets, BURST);
+        if (count == 1)
+            alike = rte_pktmbuf_pkt_len(packets[0]) == frame.length
+                    && memcmp(rte_pktmbuf_mtod(packets[0], const void *), frame.bytes, frame.length) == 0;
+        rte_pktmbuf_free_bulk(packets, count);
+    }
+    return alike;
+}
+
+static struct rte_ether_addr own, other = {{0x02, 0, 0, 0, 0, 0x77}}, group = {{0x01, 0, 0x5e, 0, 0, 0x05}},
+                             second = {{0x01, 0, 0x5e, 0x01, 0x02, 0x03}},
+                             everyone = {{0xff, 0xff, 0xff, 0xff, 0xff, 0xff}};
+
+static int nothing(uint16_t port)
+{
+    (void)port;
+    return 0;
+}
+
+static int add(uint16_t port)
+{
+    return rte_eth_dev_mac_addr_add(port, &other, 0);
+}
+
+static int take_away(uint16_t port)
+{
+    return rte_eth_dev_mac_addr_remove(port, &other);
+}
+
+static int list(uint16_t port)
+{
+    return rte_eth_dev_set_mc_addr_list(port, &group, 1);
+}
+
+static int list_none(uint16_t port)
+{
+    return rte_eth_dev_set_mc_addr_list(port, NULL, 0);
+}
+
+/* what the driver is asked for, and which of the frames then come in */
+static const struct {
+    const char *what;
+    int (*ask)(uint16_t port);
+    bool other, group, second;
+} rows[] = {
+    {"as it starts", nothing, false, false, false},
+    {"promiscuous", rte_eth_promiscuous_enable, true, true, true},
+    {"no longer", rte_eth_promiscuous_disable, false, false, false},
+    {"all multicast", rte_eth_allmulticast_enable, false, true, true},
+    {"no longer", rte_eth_allmulticast_disable, false, false, false},
+    {"a second address", add, true, false, false},
+    {"no longer", take_away, false, false, false},
+    {"a multicast address", list, false, true, false},
+    {"no longer", list_none, false, false, false},
+};
+
+static const char *told(uint16_t port, const struct rte_ether_addr *to, bool expected, const char *what)
+{
+    bool in = comes_in(port, to);
+    if (in != expected)
+        problem("%s: a frame to " RTE_ETHER_ADDR_PRT_FMT " %s", what, RTE_ETHER_ADDR_BYTES(to),
+                in ? "comes in" : "doesn't come in");
+    return in ? "in" : "-";
+}
+
+void filters(uint16_t port)
+{
+    memcpy(own.addr_bytes, card_mac, sizeof card_mac);
+    printf("  %-20s %-5s %-5s %-10s %-10s %s\n", "frames to", "own", "other", "multicast", "multicast", "broadcast");
+    for (size_t i = 0; i < RTE_DIM(rows); i++) {
+        if (rows[i].ask(port) != 0)
+            problem("the driver refuses: %s", rows[i].what);
+        printf("  %-20s %-5s ", rows[i].what, told(port, &own, true, rows[i].what));
+        printf("%-5s %-10s ", told(port, &other, rows[i].other, rows[i].what),
+               told(port, &group, rows[i].group, rows[i].what));
+        printf("%-10s %s\n", told(port, &second, rows[i].second, rows[i].what),
+               told(port, &everyone, true, rows[i].what));
+    }
+}

@@ -1,0 +1,78 @@
+/* A race of a poll loop, shown by an order of calls. A driver that found its ring empty lets the interrupt come again.
+   One that also clears EICR there loses the frame that came in between: it lies in the ring, and nothing tells of it.
+   Here the frame comes at that moment, since its arrival and its receive step are calls like any other. */
+#include <stdio.h>
+
+#include "nic82599.h"
+
+enum { QUEUE = 0, CAUSE = 1u << 5 };
+
+/* The poll's end as two drivers have it. */
+enum ending { UNMASK, CLEAR_AND_UNMASK };
+
+static void bring_up(nic *n)
+{
+    nic_told told;
+    nic_lend_all(n);
+    nic_write32(n, NIC_RXCTRL, NIC_RXCTRL_RXEN);
+    nic_write32(n, NIC_FCTRL, NIC_FCTRL_UPE);
+    nic_write32(n, NIC_RDLEN(QUEUE), 128);
+    nic_write32(n, NIC_SRRCTL(QUEUE), NIC_SRRCTL_DESCTYPE_IS(1) | NIC_SRRCTL_BSIZEPACKET_IS(2));
+    nic_write32(n, NIC_RXDCTL(QUEUE), NIC_RXDCTL_ENABLE);
+    nic_queue_step(n, false, QUEUE, &told);
+    for (uint32_t slot = 0; slot < 7; slot++)
+        nic_put64(n, 16 * slot, NIC_BLOCK_BYTES);
+    nic_write32(n, NIC_RDT(QUEUE), 7);
+    nic_write32(n, NIC_IVAR(0), NIC_IVAR_INT_ALLOC_0_IS(5) | NIC_IVAR_INT_ALLOC_VAL_0);
+    nic_write32(n, NIC_EIMS, CAUSE);
+}
+
+/* A frame comes, and the device writes it. */
+static void receive(nic *n)
+{
+    static const uint8_t frame[60] = {2, 0, 0, 0, 0, 1, 2, 0, 0, 0, 0, 2, 0x88, 0xB5};
+    nic_told told;
+    nic_arrive(n, frame, sizeof frame, &told);
+    nic_rx_step(n, &told);
+}
+
+/* How many descriptors are done. */
+static unsigned done(nic *n)
+{
+    unsigned count = 0;
+    for (uint32_t slot = 0; slot < 7; slot++) {
+        uint64_t second = 0;
+        nic_get64(n, 16 * slot + 8, &second);
+        count += second & 1;
+    }
+    return count;
+}
+
+static void poll(enum ending ending)
+{
+    nic n;
+    nic_told told;
+    if (nic_open(&n, 0, 64, 2) != NIC_DONE)
+        return;
+    bring_up(&n);
+    receive(&n);
+    printf("message: %s\n", nic_status_name(nic_int_step(&n, 0, &told)));
+    nic_write32(&n, NIC_EIMC, CAUSE);
+    nic_get(&n, NIC_EICR);
+    printf("polled: %u done\n", done(&n));
+    receive(&n); /* the driver has looked, and doesn't look again */
+    if (ending == CLEAR_AND_UNMASK)
+        nic_get(&n, NIC_EICR);
+    nic_write32(&n, NIC_EIMS, CAUSE);
+    printf("message: %s, and %u are done\n", nic_status_name(nic_int_step(&n, 0, &told)), done(&n));
+    nic_close(&n);
+}
+
+int main(void)
+{
+    printf("a driver that unmasks\n");
+    poll(UNMASK);
+    printf("a driver that clears EICR and unmasks\n");
+    poll(CLEAR_AND_UNMASK);
+    return 0;
+}

@@ -1,0 +1,41 @@
+/* A frame of TCP arrives, is sorted to queue 3 by its hash, is written to its ring, and is told by an interrupt. */
+#include <stdio.h>
+
+#include "nic82599.h"
+
+static const uint8_t frame[60] = {
+    2, 0, 0, 0, 0, 1, 2, 0, 0, 0, 0, 2, 8, 0,                                         /* Ethernet: IPv4 */
+    0x45, 0, 0, 40, 0, 0, 0, 0, 64, 6, 0, 0, 66, 9, 149, 187, 161, 142, 100, 80,      /* IPv4: TCP */
+    10, 234, 6, 230, 0, 0, 0, 0, 0, 0, 0, 0, 0x50, 16, 0, 0, 0, 0, 0, 0};             /* ports 2794 and 1766 */
+
+int main(void)
+{
+    nic n;
+    nic_told told[16];
+    size_t count;
+    uint64_t written = 0;
+    if (nic_open(&n, 0, 64, 2) != NIC_DONE) /* no virtual functions, 64 frames may wait, 2 blocks of memory */
+        return 1;
+    nic_lend_all(&n);
+    nic_write32(&n, NIC_RXCTRL, NIC_RXCTRL_RXEN);
+    nic_write32(&n, NIC_FCTRL, NIC_FCTRL_UPE); /* all unicast frames are let in */
+    nic_write32(&n, NIC_MRQC, NIC_MRQC_MRQE_IS(1) | NIC_MRQC_TCPIPV4);
+    nic_write32(&n, NIC_RETA(0), NIC_RETA_ENTRY_0_IS(3)); /* under a key of zeros the hash is 0 */
+    nic_write32(&n, NIC_RDLEN(3), 128);                   /* eight descriptors from bus address 0 on */
+    nic_write32(&n, NIC_SRRCTL(3), NIC_SRRCTL_DESCTYPE_IS(1) | NIC_SRRCTL_BSIZEPACKET_IS(2));
+    nic_write32(&n, NIC_RXDCTL(3), NIC_RXDCTL_ENABLE);
+    nic_write32(&n, NIC_IVAR(1), NIC_IVAR_INT_ALLOC_2_IS(5) | NIC_IVAR_INT_ALLOC_VAL_2); /* its cause: bit 5 */
+    nic_write32(&n, NIC_EIMS, 1u << 5);
+    nic_settle(&n, 4, told, 16, &count); /* the queue goes on */
+    nic_put64(&n, 0, 0x800);             /* the first descriptor: its buffer is block 1 */
+    nic_write32(&n, NIC_RDT(3), 1);      /* and it is the device's */
+    printf("arrives: %s\n", nic_status_name(nic_arrive(&n, frame, sizeof frame, told)));
+    nic_settle(&n, 4, told, 16, &count);
+    for (size_t k = 0; k < count; k++)
+        printf("%s %u: %s\n", nic_step_name(told[k].step), told[k].of, nic_status_name(told[k].status));
+    nic_get64(&n, 8, &written);
+    printf("done %u, %u bytes, head %u\n", (unsigned)(written & 1), (unsigned)(written >> 32 & 0xFFFF),
+           (unsigned)nic_get(&n, NIC_RDH(3)));
+    nic_close(&n);
+    return 0;
+}

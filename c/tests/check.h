@@ -1,0 +1,48 @@
+/* What the tests have in common: a check that stops the program where it fails, and numbers by chance. */
+#ifndef CHECK_H
+#define CHECK_H
+
+#include <stdint.h>
+#include <stdio.h>
+#include <stdlib.h>
+
+#include "nic82599.h"
+
+#define CHECK(fact)                                                                                                    \
+    do {                                                                                                               \
+        if (!(fact)) {                                                                                                 \
+            fprintf(stderr, "%s:%d: not so: %s\n", __FILE__, __LINE__, #fact);                                         \
+            exit(1);                                                                                                   \
+        }                                                                                                              \
+    } while (0)
+
+/* A status that must be this one. */
+static inline void check_status(const char *file, int line, const char *call, uint8_t got, uint8_t want)
+{
+    if (got != want) {
+        fprintf(stderr, "%s:%d: %s answers %s", file, line, call, nic_status_name(got));
+        fprintf(stderr, ", not %s\n", nic_status_name(want));
+        exit(1);
+    }
+}
+
+#define ANSWERS(status, call) check_status(__FILE__, __LINE__, #call, call, status)
+
+static uint64_t chance_state = 1;
+
+/* The next number by chance (xorshift64*). */
+static inline uint64_t chance(void)
+{
+    chance_state ^= chance_state >> 12;
+    chance_state ^= chance_state << 25;
+    chance_state ^= chance_state >> 27;
+    return chance_state * UINT64_C(2685821657736338717) >> 16;
+}
+
+/* A number below another one. */
+static inline uint32_t below(uint32_t bound)
+{
+    return (uint32_t)(chance() % bound);
+}
+
+#endif

@@ -1,0 +1,265 @@
+/* Calls that no driver should make: each function with each bad number, and 100,000 calls by chance. Every call answers
+   a status that the header gives it, and none writes beside its buffers. */
+#include <string.h>
+
+#include "check.h"
+
+enum { CALLS = 100000, GUARD = 64 };
+
+/* Whether a call may answer a status: it is one of a list that ends with 255. */
+static void allowed(const char *call, uint8_t status, const uint8_t *list)
+{
+    for (; *list != 255; list++)
+        if (*list == status)
+            return;
+    fprintf(stderr, "hostile: %s answers %u, %s\n", call, status, nic_status_name(status));
+    exit(1);
+}
+
+#define MAY(call, ...)                                                                                                 \
+    do {                                                                                                               \
+        static const uint8_t list[] = {__VA_ARGS__, 255};                                                              \
+        allowed(#call, call, list);                                                                                    \
+    } while (0)
+
+static void bad_sizes(void)
+{
+    nic n;
+    static const uint32_t blocks[] = {0, 65537, 1u << 20, 1u << 31, UINT32_MAX};
+    for (unsigned vfs = 64; vfs < 256; vfs++)
+        ANSWERS(NIC_TOO_MANY_VFS, nic_open(&n, (uint8_t)vfs, 64, 1));
+    for (uint32_t fifo = 4097; fifo < 65536; fifo += 77)
+        ANSWERS(NIC_BAD_FIFO, nic_open(&n, 0, (uint16_t)fifo, 1));
+    ANSWERS(NIC_BAD_FIFO, nic_open(&n, 0, 0, 1));
+    ANSWERS(NIC_BAD_FIFO, nic_open(&n, 0, 65535, 1));
+    for (size_t k = 0; k < sizeof blocks / sizeof *blocks; k++)
+        ANSWERS(NIC_BAD_BLOCKS, nic_open(&n, 0, 1, blocks[k]));
+    ANSWERS(NIC_BAD_BLOCKS, nic_open(&n, 64, 0, 0));
+    ANSWERS(NIC_TOO_MANY_VFS, nic_open(&n, 64, 0, 1));
+    nic_close(&n);
+    for (unsigned k = 0; k < 4; k++) {
+        ANSWERS(NIC_DONE, nic_open(&n, k & 1 ? 63 : 0, k & 2 ? 4096 : 1, k & 1 ? 65536 : 1));
+        nic_close(&n);
+    }
+}
+
+static void bad_registers(nic *n)
+{
+    static const uint32_t at[] = {0xC, 1, 2, 3, 0x1001, 0x1FFFC, 0x20000, 1u << 31, UINT32_MAX, UINT32_MAX - 3};
+    uint32_t word;
+    for (size_t k = 0; k < sizeof at / sizeof *at; k++) {
+        word = 1;
+        ANSWERS(NIC_STRAY, nic_read32(n, at[k], &word));
+        CHECK(word == 0);
+        ANSWERS(NIC_STRAY, nic_write32(n, at[k], UINT32_MAX));
+        ANSWERS(NIC_STRAY, nic_peek32(n, at[k], &word));
+    }
+    for (unsigned vf = 0; vf < 256; vf++) {
+        word = 1;
+        ANSWERS(NIC_STRAY, nic_vf_read32(n, (uint8_t)vf, NIC_VTEIMS, &word));
+        CHECK(word == UINT32_MAX);
+        ANSWERS(NIC_STRAY, nic_vf_write32(n, (uint8_t)vf, NIC_VTEIMS, 1));
+        ANSWERS(NIC_STRAY, nic_vf_peek32(n, (uint8_t)vf, NIC_VTEIMS, &word));
+    }
+}
+
+static void bad_memory(nic *n, uint32_t blocks)
+{
+    static const uint64_t at[] = {1u << 27, UINT64_C(1) << 32, UINT64_C(1) << 63, UINT64_MAX, UINT64_MAX - 2047};
+    uint8_t bytes[32] = {0};
+    uint64_t end = (uint64_t)blocks * NIC_BLOCK_BYTES;
+    ANSWERS(NIC_NO_BLOCK, nic_lend(n, blocks));
+    ANSWERS(NIC_NO_BLOCK, nic_lend(n, UINT32_MAX));
+    ANSWERS(NIC_NOT_LENT, nic_take(n, 0));
+    ANSWERS(NIC_NOT_LENT, nic_take(n, blocks));
+    ANSWERS(NIC_NOT_LENT, nic_take(n, UINT32_MAX));
+    ANSWERS(NIC_NOT_LENT, nic_dma_read(n, 0, bytes, 1));
+    ANSWERS(NIC_DONE, nic_lend_all(n));
+    ANSWERS(NIC_DONE, nic_lend_all(n));
+    ANSWERS(NIC_NO_BLOCK, nic_lend(n, 0));
+    for (size_t k = 0; k < sizeof at / sizeof *at; k++) {
+        ANSWERS(NIC_NOT_LENT, nic_dma_read(n, at[k], bytes, 1));
+        ANSWERS(NIC_NOT_LENT, nic_dma_write(n, at[k], bytes, sizeof bytes));
+    }
+    ANSWERS(NIC_DONE, nic_dma_write(n, end - 32, bytes, 32));
+    ANSWERS(NIC_NOT_LENT, nic_dma_write(n, end - 31, bytes, 32));
+    ANSWERS(NIC_NOT_LENT, nic_dma_read(n, end, bytes, 1));
+    ANSWERS(NIC_DONE, nic_dma_read(n, 0, bytes, 0));
+    ANSWERS(NIC_DONE, nic_dma_write(n, 0, bytes, 0));
+}
+
+/* A range that goes over the border of two blocks is written whole, and one that ends in a block that isn't lent not
+   at all. */
+static void borders(nic *n)
+{
+    uint8_t bytes[4096], got[4096];
+    for (size_t k = 0; k < sizeof bytes; k++)
+        bytes[k] = (uint8_t)(k * 7 + k / 256);
+    ANSWERS(NIC_DONE, nic_dma_write(n, 1000, bytes, sizeof bytes));
+    ANSWERS(NIC_DONE, nic_dma_read(n, 1000, got, sizeof got));
+    CHECK(memcmp(bytes, got, sizeof bytes) == 0);
+    ANSWERS(NIC_DONE, nic_take(n, 1));
+    ANSWERS(NIC_NOT_LENT, nic_dma_write(n, 2047, got + 1, 2));
+    ANSWERS(NIC_DONE, nic_dma_read(n, 2047, got, 1));
+    CHECK(got[0] == bytes[1047]);
+    ANSWERS(NIC_NOT_LENT, nic_dma_read(n, 1000, got, sizeof got));
+    ANSWERS(NIC_DONE, nic_lend(n, 1));
+    ANSWERS(NIC_DONE, nic_dma_read(n, 2048, got, 2048));
+    for (size_t k = 0; k < 2048; k++)
+        CHECK(got[k] == 0);
+}
+
+static void bad_steps(nic *n)
+{
+    nic_told told;
+    size_t count = 9;
+    for (uint32_t queue = 128; queue < 65536; queue++) {
+        ANSWERS(NIC_NO_QUEUE, nic_tx_step(n, (uint16_t)queue, &told));
+        ANSWERS(NIC_NO_QUEUE, nic_queue_step(n, queue & 1, (uint16_t)queue, &told));
+    }
+    for (uint32_t group = 1; group < 256; group++)
+        ANSWERS(NIC_NO_GROUP, nic_int_step(n, (uint8_t)group, &told));
+    ANSWERS(NIC_NO_QUEUE, nic_settle(n, UINT16_MAX, &told, 1, &count));
+    CHECK(count == 0);
+    ANSWERS(NIC_NO_QUEUE, nic_settle(n, 129, &told, 1, &count));
+    ANSWERS(NIC_DONE, nic_settle(n, 128, &told, 1, &count));
+    CHECK(count == 0);
+    ANSWERS(NIC_MORE, nic_settle(n, 4, &told, 0, &count));
+    CHECK(count == 0);
+}
+
+static void bad_frames(nic *n)
+{
+    static uint8_t frame[100000];
+    nic_told told;
+    uint32_t hash;
+    uint8_t key[40] = {0};
+    ANSWERS(NIC_DROPPED, nic_arrive(n, frame, 0, &told));
+    ANSWERS(NIC_DROPPED, nic_arrive(n, frame, sizeof frame, &told));
+    ANSWERS(NIC_DONE, nic_write32(n, NIC_RXCTRL, 1));
+    ANSWERS(NIC_DROPPED, nic_arrive(n, frame, 0, &told));
+    CHECK(told.why == NIC_WHY_SHORT);
+    ANSWERS(NIC_DROPPED, nic_arrive(n, frame, sizeof frame, &told));
+    CHECK(told.why == NIC_WHY_LONG);
+    ANSWERS(NIC_IDLE, nic_collect(n, frame, 0, &told));
+    ANSWERS(NIC_DONE, nic_hash(key, frame, 0, &hash));
+    CHECK(hash == 0);
+    ANSWERS(NIC_DONE, nic_hash(key, frame, 36, &hash));
+    ANSWERS(NIC_NO_ROOM, nic_hash(key, frame, 37, &hash));
+    ANSWERS(NIC_NO_ROOM, nic_hash(key, frame, sizeof frame, &hash));
+}
+
+static void bad_images(nic *n)
+{
+    static uint8_t bytes[65536];
+    uint64_t line = 9;
+    static const char syntax[] = "size 64\nword x\n", twice[] = "size 64\nword 1 2\nword 1 3\n";
+    static const char reserved[] = "size 64\nword 0x3f 2\n", beyond[] = "size 64\nword 99 1\n";
+    static const char outside[] = "size 64\nword 3 0x10\n";
+    ANSWERS(NIC_IMAGE_BAD_SIZE, nic_install_image(n, bytes, 0));
+    ANSWERS(NIC_IMAGE_ODD_LENGTH, nic_install_image(n, bytes, 1));
+    ANSWERS(NIC_IMAGE_BAD_SIZE, nic_install_image(n, bytes, 2));
+    ANSWERS(NIC_IMAGE_BAD_SIZE, nic_install_image(n, bytes, sizeof bytes));
+    ANSWERS(NIC_IMAGE_BAD_CHECKSUM, nic_install_image(n, bytes, 128));
+    ANSWERS(NIC_TEXT_SYNTAX, nic_install_text(n, bytes, 0, &line));
+    ANSWERS(NIC_TEXT_SYNTAX, nic_install_text(n, (const uint8_t *)syntax, sizeof syntax - 1, &line));
+    CHECK(line == 2);
+    ANSWERS(NIC_TEXT_TWO_VALUES, nic_install_text(n, (const uint8_t *)twice, sizeof twice - 1, &line));
+    CHECK(line == 1);
+    ANSWERS(NIC_TEXT_RESERVED, nic_install_text(n, (const uint8_t *)reserved, sizeof reserved - 1, &line));
+    CHECK(line == 0x3f);
+    ANSWERS(NIC_TEXT_DOES_NOT_FIT, nic_install_text(n, (const uint8_t *)beyond, sizeof beyond - 1, &line));
+    CHECK(line == 0);
+    ANSWERS(NIC_TEXT_POINTER_OUTSIDE, nic_install_text(n, (const uint8_t *)outside, sizeof outside - 1, &line));
+}
+
+/* --- by chance --- */
+
+static uint32_t some32(void)
+{
+    switch (below(4)) {
+    case 0: return (uint32_t)chance();
+    case 1: return below(0x14000) & ~3u;
+    case 2: return UINT32_MAX - below(8);
+    default: return below(300);
+    }
+}
+
+static uint64_t some64(void)
+{
+    return below(3) ? below(40000) : chance() << below(30);
+}
+
+static void one_call(nic *n)
+{
+    static uint8_t bytes[5000 + GUARD];
+    nic_told told[8];
+    size_t count = 0, length = below(4) ? below(100) : below(5000);
+    uint64_t line = 0;
+    uint32_t word = 0;
+    uint8_t key[40];
+    for (size_t k = 0; k < 48; k++)
+        bytes[k] = (uint8_t)chance();
+    memset(bytes + length, 0x5A, GUARD);
+    memset(key, (int)below(256), sizeof key);
+    switch (below(24)) {
+    case 0: MAY(nic_read32(n, some32(), &word), NIC_DONE, NIC_STRAY); break;
+    case 1: MAY(nic_write32(n, some32(), some32()), NIC_DONE, NIC_STRAY); break;
+    case 2: MAY(nic_vf_read32(n, (uint8_t)chance(), some32(), &word), NIC_DONE, NIC_STRAY); break;
+    case 3: MAY(nic_vf_write32(n, (uint8_t)chance(), some32(), some32()), NIC_DONE, NIC_STRAY); break;
+    case 4: MAY(nic_peek32(n, some32(), &word), NIC_DONE, NIC_STRAY); break;
+    case 5: MAY(nic_vf_peek32(n, (uint8_t)below(70), some32(), &word), NIC_DONE, NIC_STRAY); break;
+    case 6: MAY(nic_lend(n, below(3) ? below(20) : some32()), NIC_DONE, NIC_NO_BLOCK); break;
+    case 7: MAY(nic_take(n, below(3) ? below(20) : some32()), NIC_DONE, NIC_NOT_LENT); break;
+    case 8: if (!below(50)) MAY(nic_lend_all(n), NIC_DONE); break;
+    case 9: MAY(nic_dma_read(n, some64(), bytes, length), NIC_DONE, NIC_NOT_LENT); break;
+    case 10: MAY(nic_dma_write(n, some64(), bytes, length), NIC_DONE, NIC_NOT_LENT); break;
+    case 11: MAY(nic_arrive(n, bytes, length, told), NIC_DONE, NIC_DROPPED); break;
+    case 12: MAY(nic_collect(n, bytes, length, told), NIC_FRAME, NIC_IDLE, NIC_NO_ROOM); break;
+    case 13: CHECK(nic_next_out(n) < 20000); break;
+    case 14: MAY(nic_link(n, below(8)), NIC_DONE, NIC_IDLE); break;
+    case 15: MAY(nic_rx_step(n, told), NIC_WROTE, NIC_DROPPED, NIC_FAULT, NIC_IDLE); break;
+    case 16:
+        MAY(nic_tx_step(n, (uint16_t)some32(), told), NIC_ADVANCED, NIC_SENT, NIC_FAULT, NIC_IDLE, NIC_NO_QUEUE);
+        break;
+    case 17: MAY(nic_queue_step(n, below(2), (uint16_t)some32(), told), NIC_DONE, NIC_IDLE, NIC_NO_QUEUE); break;
+    case 18: MAY(nic_eeprom_step(n, told), NIC_DONE, NIC_IDLE); break;
+    case 19: MAY(nic_int_step(n, (uint8_t)some32(), told), NIC_MESSAGE, NIC_IDLE, NIC_NO_GROUP); break;
+    case 20:
+        MAY(nic_settle(n, (uint16_t)below(140), told, below(9), &count), NIC_DONE, NIC_MORE, NIC_NO_QUEUE);
+        CHECK(count <= 8);
+        break;
+    case 21:
+        MAY(nic_install_image(n, bytes, length), NIC_DONE, NIC_IMAGE_ODD_LENGTH, NIC_IMAGE_BAD_SIZE,
+            NIC_IMAGE_SECTION_OUTSIDE, NIC_IMAGE_BAD_CHECKSUM, NIC_IMAGE_NOT_TRIPLES);
+        break;
+    case 22: MAY(nic_install_text(n, bytes, length, &line), NIC_TEXT_SYNTAX, NIC_TEXT_NOT_UTF8); break;
+    default: MAY(nic_hash(key, bytes, below(2) ? length : below(37), &word), NIC_DONE, NIC_NO_ROOM);
+    }
+    for (size_t k = length; k < length + GUARD; k++)
+        CHECK(bytes[k] == 0x5A);
+}
+
+int main(void)
+{
+    nic n, other;
+    bad_sizes();
+    ANSWERS(NIC_DONE, nic_open(&n, 4, 8, 16));
+    bad_registers(&n);
+    bad_memory(&n, 16);
+    borders(&n);
+    bad_steps(&n);
+    bad_frames(&n);
+    bad_images(&n);
+    for (unsigned call = 0; call < CALLS; call++) {
+        if (call % 20000 == 0) {
+            ANSWERS(NIC_DONE, nic_open(&other, (uint8_t)below(64), (uint16_t)(1 + below(4096)), 1 + below(65536)));
+            nic_close(&n);
+            n = other;
+        }
+        one_call(&n);
+    }
+    nic_close(&n);
+    printf("%d calls by chance\n", CALLS);
+    return 0;
+}

@@ -1,0 +1,34 @@
+use Rattle.std.proofs.Common.{rules, ◌≡◌, ◌∷◌, ◌∙◌, false, length}
+use Rattle.std.specs.Prelude.{◌==◌}
+use Rattle.nic82599_c.specs.Settling.{course}
+use Rattle.nic82599_c.proofs.Courses.{walk-next, walk-ended, walk-done}
+use Rattle.nic82599_c.proofs.settling.walk.Goals as goal
+
+pub each-preserved : goal.each-preserved
+each-preserved c =
+    let first : c.each.left.now ≡ c.in-Some.step.now ∷ c.in-Some.rest.now = search rules in
+    let done : c.make-ended.result ≡ 0 = search rules in
+    record {
+      room = c.make-ended.ensures.room ∙ c.each.invariant.room;
+      count = c.make-ended.ensures.count;
+      course = walk-next (length c.args.told.now) (course c.each.card c.each.told c.each.count 0)
+          (course c.make-ended.new.card c.make-ended.new.told c.make-ended.new.count 0) _
+          c.in-Some.step.now c.each.left.now c.in-Some.rest.now first
+          (rw (done, c.each.invariant.room) at (c.make-ended.ensures.course (search rules)))
+          c.each.invariant.course;
+    }
+
+pub returns-then-ended-ne-DONE-clause-course : goal.returns-then-ended-ne-DONE-clause-course
+returns-then-ended-ne-DONE-clause-course c =
+    let first : c.each.left.now ≡ c.in-Some.step.now ∷ c.in-Some.rest.now = search rules in
+    let ended : (c.make-ended.result == 0) ≡ false = search rules in
+    λ some. walk-ended (length c.args.told.now) (course c.each.card c.each.told c.each.count 0)
+    (course c.make-ended.new.card c.make-ended.new.told c.make-ended.new.count c.make-ended.result) _
+    c.in-Some.step.now c.each.left.now c.in-Some.rest.now first
+    (rw c.each.invariant.room at (c.make-ended.ensures.course some)) ended c.each.invariant.course
+
+pub returns-clause-course : goal.returns-clause-course
+returns-clause-course c =
+    let none : length c.each.left.now ≡ 0 = c.in_default.ensures.cases in
+    λ some. walk-done (length c.args.told.now) (course c.each.card c.each.told c.each.count 0) _ c.each.left.now none
+    c.each.invariant.course

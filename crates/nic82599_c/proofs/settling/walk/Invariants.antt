@@ -1,0 +1,15 @@
+use Rattle.std.proofs.Common.{◌≡◌, ◌≤◌, length}
+use Rattle.nic82599_c.specs.Settling.{course, walked}
+use Rattle.nic82599_c.proofs.settling.walk.Given as goal
+
+-- the steps that are left lead where all of them do
+abbrev pub invariant-each : goal.invariant-each
+invariant-each l = record {
+  room : length l.told ≡ length l.fn.told;
+  count : l.count ≤ length l.told;
+  course : walked (length l.fn.told) (course l.card l.told l.count 0) l.left
+      ≡ walked (length l.fn.told) (course l.fn.card l.fn.told l.fn.count 0) l.steps;
+}
+
+abbrev pub decreases-each : goal.decreases-each
+decreases-each l = length l.left

@@ -1,0 +1,114 @@
+-- The device's steps, made round by round until there is nothing to do.
+use Rattle.std.specs.Prelude.{ℕ, zero, suc, ◌==◌, ◌||◌, Bool, true, nat_lt, List, [], ◌∷◌, ◌++◌, length, take, if◌then◌else◌}
+use Rattle.nic_device.specs.DmaArena.Block.{Block}
+use Rattle.nic_device.specs.DmaRing.declared.dir.Dir.TheVariants as dir
+use Rattle.nic_device.specs.Step.{reply_to}
+use Rattle.nic_device.specs.declared.event.Event.{Event}
+use Rattle.nic_device.specs.declared.event.Event.TheVariants as event
+use Rattle.nic82599_c.specs.Card.{Holdings, made}
+use Rattle.nic82599_c.specs.Told.{status_of, told_of, group_of}
+use Rattle.nic82599_c.specs.declared.settling.Step.{Step}
+use Rattle.nic82599_c.specs.declared.settling.Step.TheVariants as step
+use Rattle.nic82599_c.specs.declared.told.Told.{Told}
+
+-- the event of a step
+abbrev pub event_of : Step → Event Block
+event_of (step.RxEnable queue) = event.QueueStep dir.Rx queue
+event_of (step.TxEnable queue) = event.QueueStep dir.Tx queue
+event_of step.Eeprom = event.EepromStep
+event_of (step.Transmit queue) = event.TxStep queue
+event_of step.Receive = event.RxStep
+event_of (step.Interrupt group) = event.IntStep (group_of group)
+
+-- the number of a step, and that of its queue or group
+abbrev pub number_of : Step → ℕ
+number_of (step.RxEnable queue) = 0
+number_of (step.TxEnable queue) = 1
+number_of step.Eeprom = 2
+number_of (step.Transmit queue) = 3
+number_of step.Receive = 4
+number_of (step.Interrupt group) = 5
+
+abbrev pub place_of : Step → ℕ
+place_of (step.RxEnable queue) = queue
+place_of (step.TxEnable queue) = queue
+place_of step.Eeprom = 0
+place_of (step.Transmit queue) = queue
+place_of step.Receive = 0
+place_of (step.Interrupt group) = group
+
+-- what is told of a step
+abbrev pub named : Told → Step → Told
+named told s = record told { step = number_of s; of = place_of s }
+
+-- the enables of each queue below a number
+unfoldable pub enables : ℕ → List Step
+enables zero = []
+enables (suc queue) = (enables queue ++ step.RxEnable queue ∷ []) ++ step.TxEnable queue ∷ []
+
+-- one transmit step of each queue below a number
+unfoldable pub transmits : ℕ → List Step
+transmits zero = []
+transmits (suc queue) = transmits queue ++ step.Transmit queue ∷ []
+
+-- the interrupts of each group below a number
+unfoldable pub interrupts : ℕ → List Step
+interrupts zero = []
+interrupts (suc group) = interrupts group ++ step.Interrupt group ∷ []
+
+-- the steps of a round: of each queue below a number its receive enable and its transmit enable; the EEPROM; of each
+-- such queue one transmit step; one receive step; the interrupts of the physical function and of 63 virtual functions
+abbrev pub round_of : ℕ → List Step
+round_of queues =
+    (((enables queues ++ step.Eeprom ∷ []) ++ transmits queues) ++ step.Receive ∷ []) ++ interrupts 64
+
+-- how far a settling is: the card, what was told of it, and how it ended, 0 while it goes on
+pub record Course : Type 0 where
+  pub card : Holdings
+  pub told : List Told
+  pub ended : ℕ
+
+-- whether a status says that nothing was done
+abbrev pub is_quiet : ℕ → Bool
+is_quiet status = status == 2 || status == 18 || status == 19
+
+-- a step is made, and told where it did something
+abbrev pub step_made : Course → Step → Course
+step_made c s =
+    if is_quiet (status_of (reply_to c.card.device (event_of s)))
+    then record c { card = made c.card (event_of s) }
+    else record c {
+      card = made c.card (event_of s);
+      told = c.told ++ named (told_of (reply_to c.card.device (event_of s))) s ∷ [];
+    }
+
+-- the next step is made, unless the array has no room or the settling has ended
+abbrev pub stepped : ℕ → Course → Step → Course
+stepped room c s =
+    if c.ended == 0 then (if nat_lt (length c.told) room then step_made c s else record c { ended = 38 }) else c
+
+-- steps in order
+unfoldable pub walked : ℕ → Course → List Step → Course
+walked room c [] = c
+walked room c (s ∷ rest) = walked room (stepped room c s) rest
+
+-- where a round leads: the end where it ended or told nothing, and else to the next round
+abbrev pub is_over : ℕ → ℕ → ℕ → Bool
+is_over ended before after = if ended == 0 then before == after else true
+
+abbrev pub is_last : Course → Course → Bool
+is_last before after = is_over after.ended (length before.told) (length after.told)
+
+-- so many rounds at most
+unfoldable pub rounds : ℕ → ℕ → List Step → Course → Course
+rounds zero room steps c = record c { ended = 38 }
+rounds (suc more) room steps c =
+    if is_last c (walked room c steps) then walked room c steps else rounds more room steps (walked room c steps)
+
+-- a settling, with an array of so many entries: each round but the last fills one at least
+abbrev pub settled : ℕ → ℕ → Holdings → Course
+settled queues room card = rounds room room (round_of queues) (record { card = card; told = []; ended = 0 })
+
+-- a course, of which the first entries of an array tell
+abbrev pub course : Holdings → List Told → ℕ → ℕ → Course
+course card told count ended = record { card = card; told = take count told; ended = ended }

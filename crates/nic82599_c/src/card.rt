@@ -1,0 +1,251 @@
+//! A device, and the packet memory that it shares with its holder.
+
+ghost use Rattle.std.specs.Prelude.{◌≡◌, ◌<◌, ◌≤◌, ◌↔◌, ◌⊎◌, ℕ, true, false, IsFalse, IfOk, IfErr, OnOk, OnErr, Ok, Err};
+ghost use Rattle.std.specs.FinMap as map;
+ghost use Rattle.nic_device.specs.DmaArena.Block.{zero_block};
+ghost use Rattle.nic_device.specs.DmaArena.Memory.{has_block};
+ghost use Rattle.nic_device.specs.DmaArena.Numbers.{count_of, is_free, is_own, with_free};
+ghost use Rattle.nic_device.specs.Link.{next_out_of};
+ghost use Rattle.nic_device.specs.Step.{step_of, reply_to, word_told, moves_block, hands_out, TakesMemory};
+ghost use Rattle.nic82599_c.specs.Card.{AreShared, new_card, made, with_lent, with_taken, lent_below, with_image};
+
+use nic_device::{
+    Arena, Buf, Config, Device, Event, Image, LentMemory, Parts, Port, Reply, ReplyNote,
+};
+use std::alloc::Global;
+use std::marker::Model;
+
+/// An event that found no memory. It wasn't made.
+#[derive(Clone, Copy, Debug, PartialEq, Eq)]
+pub(crate) struct OutOfMemory;
+
+/// A device, and an arena of the blocks from 0 on. Each of these is free in the arena or lent to the device.
+pub struct Card {
+    pub(crate) device: Device,
+    arena: Arena,
+}
+
+impl Model for Card {
+    ghost use Rattle.nic82599_c.specs.Card.{Holdings, AreShared, holdings_code};
+
+    ghost Value = { Holdings };
+
+    ghost coded = { holdings_code };
+
+    ghost view = { λ c. record { device = c.device; arena = c.arena } };
+
+    ghost invariant = { λ c. AreShared c.device.memory c.arena };
+}
+
+/// A reply without a block, as its note tells it.
+fn note_of(reply: Reply) -> ReplyNote
+    requires { IsFalse (hands_out reply) }
+    ensures { result ≡ reply }
+{
+    match reply.into_note() {
+        Ok(note) => note,
+        Err(_buf) => unreachable!(),
+    }
+}
+
+/// Lets the reply to a block that was lent go.
+fn is_lent_by(reply: Reply) -> bool
+    requires { IsFalse (hands_out reply) }
+    ensures { result ≡ true }
+{
+    let _done = note_of(reply);
+    true
+}
+
+/// Gives a block back to the arena that it was taken from.
+fn give_back(arena: &mut Arena, buf: Buf)
+    requires own { is_own arena.old buf.number ≡ true }
+    requires away { is_free arena.old buf.number ≡ false }
+    ensures { arena.new ≡ with_free arena.old buf.number true }
+{
+    match arena.give(buf) {
+        Ok(()) => {}
+        Err(_buf) => unreachable!(),
+    }
+}
+
+/// Ends lent memory without a block.
+fn end_memory(memory: LentMemory)
+    requires { (number : ℕ) → has_block memory number ≡ false }
+{
+    match memory.lowest() {
+        Some(_) => unreachable!(),
+        None => {}
+    }
+    match memory.finish() {
+        Ok(()) => {}
+        Err(_memory) => unreachable!(),
+    }
+}
+
+/// Takes a block back, where it is lent, and gives it to the arena.
+fn take_back(memory: &mut LentMemory, arena: &mut Arena, number: u32)
+    requires { AreShared memory.old arena.old }
+    ensures shared { AreShared memory.new arena.new }
+    ensures count { count_of arena.new ≡ count_of arena.old }
+    ensures taken { has_block memory.new number ≡ false }
+    ensures others { (other : ℕ) → has_block memory.old other ≡ false → has_block memory.new other ≡ false }
+{
+    if let Some(buf) = memory.take(number) {
+        give_back(arena, buf);
+    }
+}
+
+/// Takes all blocks back, and closes the arena.
+fn close(mut memory: LentMemory, mut arena: Arena)
+    requires { AreShared memory arena }
+{
+    let count = arena.count();
+    for number in 0..count {
+        take_back(&mut memory, &mut arena, number);
+    }
+    end_memory(memory);
+    match arena.close() {
+        Ok(()) => {}
+        Err(_arena) => unreachable!(),
+    }
+}
+
+/// Ends a device that no memory is lent to.
+fn end_device(device: Device)
+    requires { device.memory ≡ map.empty }
+{
+    let Parts {
+        memory,
+        frames: _,
+        image: _,
+    } = device.dismantle();
+    match memory.finish() {
+        Ok(()) => {}
+        Err(_memory) => unreachable!(),
+    }
+}
+
+impl Card {
+    /// A new device, and so many blocks, all free. What is refused is told as want of memory.
+    pub(crate) fn new(alloc: Global, config: Config, blocks: u32) -> Result<Card, OutOfMemory>
+        ensures { IfOk result (λ card. card ≡ new_card config.vfs config.fifo blocks) }
+    {
+        let Ok(device) = Device::new(alloc, config) else {
+            return Err(OutOfMemory);
+        };
+        match Arena::new(alloc, 0, blocks) {
+            Ok(arena) => Ok(Card { device, arena }),
+            Err(_) => {
+                end_device(device);
+                Err(OutOfMemory)
+            }
+        }
+    }
+
+    /// Makes an event that moves no block.
+    pub(crate) fn make(&mut self, event: Event) -> Result<ReplyNote, OutOfMemory>
+        requires { IsFalse (moves_block event) }
+        ensures reply { IfOk result (λ reply. reply ≡ reply_to self.old.device event) }
+        ensures made { OnOk result (self.new ≡ made self.old event) }
+        ensures unchanged { OnErr result (self.new ≡ self.old) }
+        ensures memory { OnErr result (TakesMemory self.old.device event) }
+    {
+        match self.device.step(event) {
+            Ok(reply) => return Ok(note_of(reply)),
+            Err(refused) => match refused.event.into_buf() {
+                None => return Err(OutOfMemory),
+                Some(_buf) => unreachable!(),
+            },
+        }
+    }
+
+    /// Lends a block that is free, whose bytes are 0. `false` where it isn't free.
+    pub(crate) fn lend(&mut self, block: u32) -> Result<bool, OutOfMemory>
+        ensures free { IfOk result (λ lent. lent ≡ is_free self.old.arena block) }
+        ensures lent { OnOk result (self.new ≡ with_lent self.old block) }
+        ensures unchanged { OnErr result (self.new ≡ self.old) }
+        ensures memory { OnErr result (is_free self.old.arena block ≡ true) }
+    {
+        let Some(buf) = self.arena.take_at(block) else {
+            return Ok(false);
+        };
+        match self.device.step(Event::Lend(buf)) {
+            Ok(reply) => Ok(is_lent_by(reply)),
+            Err(refused) => match refused.event.into_buf() {
+                Some(buf) => {
+                    give_back(&mut self.arena, buf);
+                    Err(OutOfMemory)
+                }
+                None => unreachable!(),
+            },
+        }
+    }
+
+    /// Takes a block back, and gives it to the arena. `false` where it isn't lent.
+    pub(crate) fn take(&mut self, block: u32) -> bool
+        ensures lent { result ≡ has_block self.old.device.memory block }
+        ensures taken { self.new ≡ with_taken self.old block }
+    {
+        match self.device.step(Event::Take(block)) {
+            Ok(reply) => match reply.into_buf() {
+                None => false,
+                Some(buf) => {
+                    give_back(&mut self.arena, buf);
+                    true
+                }
+            },
+            Err(_refused) => unreachable!(),
+        }
+    }
+
+    #[tactic(auto, unfolding(crate::specs::Card::lent_below))]
+    /// Lends the free blocks in order. Where there is no memory for one, those below it are lent.
+    pub(crate) fn lend_all(&mut self) -> Result<(), OutOfMemory>
+        ensures lent { OnOk result (self.new ≡ lent_below self.old (count_of self.old.arena)) }
+        ensures stopped { OnErr result ((block : ℕ) × (block < count_of self.old.arena)
+            × (self.new ≡ lent_below self.old block)) }
+    {
+        for block in 0..self.arena.count() {
+            self.lend(block)?;
+        }
+        Ok(())
+    }
+
+    /// What a read of a register would give, without its effects. `None` where it would be stray.
+    pub(crate) fn peek(&self, port: Port, number: u32) -> Option<u32>
+        ensures { result ≡ word_told (reply_to self.now.device (Event.Read port number)) }
+    {
+        match port {
+            Port::Pf => self.device.peek_register(number),
+            Port::Vf(v) => self.device.peek_vf(v, number),
+        }
+    }
+
+    /// How many bytes the frame has that would be collected. 0 without one.
+    pub(crate) fn next_out(&self) -> usize
+        ensures { result ≡ next_out_of self.now.device.out }
+    {
+        self.device.next_out()
+    }
+
+    /// Puts an EEPROM image into the device.
+    pub(crate) fn install(&mut self, image: Image)
+        ensures { self.new ≡ with_image self.old image }
+    {
+        let _former = self.device.install(image);
+    }
+}
+
+/// Takes all lent blocks back, and ends both.
+impl Drop for Card {
+    fn drop(self) {
+        let Card { device, arena } = self;
+        let Parts {
+            memory,
+            frames: _,
+            image: _,
+        } = device.dismantle();
+        close(memory, arena);
+    }
+}

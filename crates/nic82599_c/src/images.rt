@@ -1,0 +1,132 @@
+//! EEPROM images.
+
+ghost use Rattle.std.specs.Prelude.{◌≡◌, ◌≢◌, ℕ, List, None, IsOkAnd};
+ghost use Rattle.nic_device.specs.EepromImage.Bytes.{bytes_of};
+ghost use Rattle.nic_device.specs.EepromImage.File.{file_fault};
+ghost use Rattle.nic_device.specs.EepromImage.Image.{IsImage};
+ghost use Rattle.nic_device.specs.EepromImage.Text.{sound_content, IsImageOf};
+ghost use Rattle.nic82599_c.specs.Card.{with_image};
+ghost use Rattle.nic82599_c.specs.Images.{load_status, load_fault_status};
+ghost use Rattle.nic82599_c.specs.Images.{text_status, text_line, text_fault_status, line_of};
+ghost use Rattle.nic82599_c.specs.Images.{content_status, content_line};
+
+use crate::card::Card;
+use crate::handle::Handle;
+use crate::status::{DONE, OUT_OF_MEMORY};
+use nic_device::{AsmFault, LoadFault, assemble, load};
+use std::alloc::Global;
+
+/// The statuses of an image that is refused are this and the number of the fault.
+pub const IMAGE: u8 = 64;
+
+/// The statuses of a text that is refused are this and the number of the fault.
+pub const TEXT: u8 = 96;
+
+/// The text isn't UTF-8.
+pub const NOT_UTF8: u8 = 6;
+
+/// The status that tells why bytes are no image.
+fn status_of_load(fault: LoadFault) -> u8
+    ensures { result ≡ load_fault_status fault }
+{
+    match fault {
+        LoadFault::OddLength => IMAGE + 1,
+        LoadFault::BadSize => IMAGE + 2,
+        LoadFault::SectionOutside => IMAGE + 3,
+        LoadFault::BadChecksum => IMAGE + 4,
+        LoadFault::NotTriples => IMAGE + 5,
+        LoadFault::OutOfMemory => OUT_OF_MEMORY,
+    }
+}
+
+/// The status that tells why a text means no image.
+fn status_of_text(fault: AsmFault) -> u8
+    ensures { result ≡ text_fault_status fault }
+{
+    match fault {
+        AsmFault::Syntax(_) => TEXT + 1,
+        AsmFault::TwoValues(_) => TEXT + 2,
+        AsmFault::Reserved(_) => TEXT + 3,
+        AsmFault::DoesNotFit => TEXT + 4,
+        AsmFault::PointerOutside => TEXT + 5,
+        AsmFault::OutOfMemory => OUT_OF_MEMORY,
+    }
+}
+
+/// The line or the index that a fault of a text tells, 0 without one.
+fn line_of(fault: AsmFault) -> u64
+    ensures { result ≡ line_of fault }
+{
+    match fault {
+        AsmFault::Syntax(line) => line as u64,
+        AsmFault::TwoValues(index) | AsmFault::Reserved(index) => u64::from(index),
+        AsmFault::DoesNotFit | AsmFault::PointerOutside | AsmFault::OutOfMemory => 0,
+    }
+}
+
+/// Puts the EEPROM image into the device whose file the bytes are: DONE, IMAGE and the number of the fault, or
+/// OUT_OF_MEMORY. What is refused leaves the old image.
+#[unsafe(no_mangle)]
+pub extern "C" fn nic_install_image(alloc: Global, nic: &mut Handle, bytes: &[u8]) -> u8
+    ensures status { result ≢ OUT_OF_MEMORY → result ≡ load_status (file_fault bytes.now) }
+    ensures image { result ≡ DONE → (image : List ℕ) × IsImage image × (bytes.now ≡ bytes_of image)
+        × (nic.new.card ≡ with_image nic.old.card image) }
+    ensures memory { result ≡ OUT_OF_MEMORY → file_fault bytes.now ≡ None }
+    ensures unchanged { result ≢ DONE → nic.new.card ≡ nic.old.card }
+{
+    match load(alloc, bytes) {
+        Ok(image) => {
+            nic.lend().install(image);
+            DONE
+        }
+        Err(fault) => status_of_load(fault),
+    }
+}
+
+/// Puts the image that a text means into the card.
+fn install_text(alloc: Global, card: &mut Card, text: &str, line: &mut u64) -> u8
+    ensures status { result ≢ OUT_OF_MEMORY → result ≡ content_status (sound_content text.now) }
+    ensures line { result ≢ OUT_OF_MEMORY → line.new ≡ content_line (sound_content text.now) }
+    ensures image { result ≡ DONE → (image : List ℕ)
+        × IsOkAnd (sound_content text.now) (λ content. IsImageOf content image)
+        × (card.new ≡ with_image card.old image) }
+    ensures unchanged { result ≢ DONE → card.new ≡ card.old }
+{
+    match assemble(alloc, text) {
+        Ok(image) => {
+            card.install(image);
+            *line = 0;
+            DONE
+        }
+        Err(fault) => {
+            *line = line_of(fault);
+            status_of_text(fault)
+        }
+    }
+}
+
+/// Puts the EEPROM image into the device that the text means: DONE, TEXT and the number of the fault, or
+/// OUT_OF_MEMORY. What is refused leaves the old image, and puts the line or the index that the fault tells into
+/// `line`, 0 without one.
+#[unsafe(no_mangle)]
+pub extern "C" fn nic_install_text(
+    alloc: Global,
+    nic: &mut Handle,
+    text: &[u8],
+    line: &mut u64,
+) -> u8
+    ensures status { result ≢ OUT_OF_MEMORY → result ≡ text_status text.now }
+    ensures line { result ≢ OUT_OF_MEMORY → line.new ≡ text_line text.now }
+    ensures image { result ≡ DONE → (image : List ℕ)
+        × IsOkAnd (sound_content text.now) (λ content. IsImageOf content image)
+        × (nic.new.card ≡ with_image nic.old.card image) }
+    ensures unchanged { result ≢ DONE → nic.new.card ≡ nic.old.card }
+{
+    match str::from_utf8(text) {
+        Ok(text) => install_text(alloc, nic.lend(), text, line),
+        Err(_) => {
+            *line = 0;
+            TEXT + NOT_UTF8
+        }
+    }
+}

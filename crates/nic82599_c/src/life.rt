@@ -1,0 +1,64 @@
+//! A card is made, and ends.
+
+ghost use Rattle.std.specs.Prelude.{◌≡◌, ◌≢◌};
+ghost use Rattle.nic82599_c.specs.Life.{new_status};
+
+use crate::card::Card;
+use crate::handle::{Handle, Opaque};
+use crate::status::{BAD_BLOCKS, BAD_FIFO, DONE, OUT_OF_MEMORY, TOO_MANY_VFS};
+use nic_device::{BLOCK_NUMBERS, Config, MAX_FIFO, MAX_VFS};
+use std::alloc::Global;
+
+/// What a new card answers where there is memory.
+fn new_status(vfs: u8, fifo: u16, blocks: u32) -> u8
+    ensures { result ≡ new_status vfs fifo blocks }
+{
+    if blocks == 0 || blocks > BLOCK_NUMBERS {
+        return BAD_BLOCKS;
+    }
+    if vfs > MAX_VFS {
+        return TOO_MANY_VFS;
+    }
+    if fifo == 0 || fifo > MAX_FIFO {
+        return BAD_FIFO;
+    }
+    DONE
+}
+
+/// A new card: a device after its reset with so many virtual functions, at most 63, and a receive list of `fifo`
+/// frames, 1 to 4,096; and 1 to 65,536 blocks of packet memory, none of them lent. Its pointer is put into `device`.
+///
+/// BAD_BLOCKS, TOO_MANY_VFS, BAD_FIFO and OUT_OF_MEMORY, in this order; then `device` stays as it is.
+#[unsafe(no_mangle)]
+pub extern "C" fn nic_new(
+    alloc: Global,
+    vfs: u8,
+    fifo: u16,
+    blocks: u32,
+    device: &mut *mut Opaque,
+) -> u8
+    ensures status { result ≢ OUT_OF_MEMORY → result ≡ new_status vfs fifo blocks }
+    ensures memory { result ≡ OUT_OF_MEMORY → new_status vfs fifo blocks ≡ DONE }
+    ensures kept { result ≢ DONE → device.new ≡ device.old }
+{
+    let refused = new_status(vfs, fifo, blocks);
+    if refused != DONE {
+        return refused;
+    }
+    let Ok(card) = Card::new(alloc, Config { vfs, fifo }, blocks) else {
+        return OUT_OF_MEMORY;
+    };
+    match Box::new(alloc, card) {
+        Ok(boxed) => {
+            *device = Box::into_raw(boxed) as *mut Opaque;
+            DONE
+        }
+        Err(_) => OUT_OF_MEMORY,
+    }
+}
+
+/// Ends the card: its device is dismantled, its blocks go home, and all memory is given back.
+#[unsafe(no_mangle)]
+pub extern "C" fn nic_free(nic: Handle) {
+    drop(nic);
+}

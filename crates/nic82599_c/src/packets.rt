@@ -1,0 +1,53 @@
+//! Packet memory: which blocks are lent.
+
+ghost use Rattle.std.specs.Prelude.{◌≡◌, ◌≢◌, ◌<◌, ℕ};
+ghost use Rattle.nic_device.specs.DmaArena.Numbers.{count_of};
+ghost use Rattle.nic82599_c.specs.Card.{with_lent, with_taken, lent_below, lend_status, take_status};
+
+use crate::handle::Handle;
+use crate::status::{DONE, NO_BLOCK, NOT_LENT, OUT_OF_MEMORY};
+
+/// Lends a free block to the device; its bytes are 0. DONE, NO_BLOCK where no block of this number is free, or
+/// OUT_OF_MEMORY.
+#[unsafe(no_mangle)]
+pub extern "C" fn nic_lend(nic: &mut Handle, block: u32) -> u8
+    ensures status { result ≢ OUT_OF_MEMORY → result ≡ lend_status nic.old.card block }
+    ensures lent { result ≢ OUT_OF_MEMORY → nic.new.card ≡ with_lent nic.old.card block }
+    ensures memory { result ≡ OUT_OF_MEMORY → lend_status nic.old.card block ≡ DONE }
+    ensures unchanged { result ≡ OUT_OF_MEMORY → nic.new.card ≡ nic.old.card }
+{
+    match nic.lend().lend(block) {
+        Ok(true) => DONE,
+        Ok(false) => NO_BLOCK,
+        Err(_) => OUT_OF_MEMORY,
+    }
+}
+
+/// Takes a block back, which is free then. DONE, or NOT_LENT.
+#[unsafe(no_mangle)]
+pub extern "C" fn nic_take(nic: &mut Handle, block: u32) -> u8
+    ensures status { result ≡ take_status nic.old.card block }
+    ensures taken { nic.new.card ≡ with_taken nic.old.card block }
+{
+    if nic.lend().take(block) {
+        DONE
+    } else {
+        NOT_LENT
+    }
+}
+
+/// Lends each block that is free, in order. DONE, or OUT_OF_MEMORY, where those below the first one that found no
+/// memory are lent.
+#[unsafe(no_mangle)]
+pub extern "C" fn nic_lend_all(nic: &mut Handle) -> u8
+    ensures status { result ≢ OUT_OF_MEMORY → result ≡ DONE }
+    ensures lent { result ≢ OUT_OF_MEMORY
+        → nic.new.card ≡ lent_below nic.old.card (count_of nic.old.card.arena) }
+    ensures stopped { result ≡ OUT_OF_MEMORY → (block : ℕ) × (block < count_of nic.old.card.arena)
+        × (nic.new.card ≡ lent_below nic.old.card block) }
+{
+    match nic.lend().lend_all() {
+        Ok(()) => DONE,
+        Err(_) => OUT_OF_MEMORY,
+    }
+}

@@ -1,0 +1,121 @@
+//! Accesses to registers.
+
+ghost use Rattle.std.specs.Prelude.{◌≡◌, unwrap_or};
+ghost use Rattle.nic_device.specs.Step.{reply_to, word_told};
+ghost use Rattle.nic82599_c.specs.Card.{made, peek_status};
+ghost use Rattle.nic82599_c.specs.Told.{status_of, word_of};
+
+use crate::card::Card;
+use crate::handle::Handle;
+use crate::status::{DONE, STRAY};
+use crate::told::status_of;
+use nic_device::{Event, Port, Reply, ReplyNote};
+
+/// The word that a read gives, also a stray one. No other reply has one.
+fn word_of(reply: &ReplyNote) -> u32
+    ensures { result ≡ word_of reply.now }
+{
+    match reply {
+        Reply::Word(word) | Reply::Stray(word) => *word,
+        _ => 0,
+    }
+}
+
+/// Reads a register at a port.
+fn read(card: &mut Card, port: Port, number: u32, word: &mut u32) -> u8
+    ensures status { result ≡ status_of (reply_to card.old.device (Event.Read port number)) }
+    ensures word { word.new ≡ word_of (reply_to card.old.device (Event.Read port number)) }
+    ensures card { card.new ≡ made card.old (Event.Read port number) }
+{
+    match card.make(Event::Read(port, number)) {
+        Ok(reply) => {
+            *word = word_of(&reply);
+            status_of(&reply)
+        }
+        Err(_) => unreachable!(),
+    }
+}
+
+/// Writes a register at a port.
+fn write(card: &mut Card, port: Port, number: u32, word: u32) -> u8
+    ensures status { result ≡ status_of (reply_to card.old.device (Event.Write port number word)) }
+    ensures card { card.new ≡ made card.old (Event.Write port number word) }
+{
+    match card.make(Event::Write(port, number, word)) {
+        Ok(reply) => status_of(&reply),
+        Err(_) => unreachable!(),
+    }
+}
+
+/// Looks at a register at a port.
+fn peek(card: &Card, port: Port, number: u32, word: &mut u32) -> u8
+    ensures status { result ≡ peek_status (word_told (reply_to card.now.device (Event.Read port number))) }
+    ensures word { word.new ≡ unwrap_or (word_told (reply_to card.now.device (Event.Read port number))) word.old }
+{
+    match card.peek(port, number) {
+        Some(found) => {
+            *word = found;
+            DONE
+        }
+        None => STRAY,
+    }
+}
+
+/// Reads a register of the physical function by its address. DONE and the word, or STRAY and what a driver would see.
+#[unsafe(no_mangle)]
+pub extern "C" fn nic_read32(nic: &mut Handle, address: u32, word: &mut u32) -> u8
+    ensures status { result ≡ status_of (reply_to nic.old.card.device (Event.Read Port.Pf address)) }
+    ensures word { word.new ≡ word_of (reply_to nic.old.card.device (Event.Read Port.Pf address)) }
+    ensures card { nic.new.card ≡ made nic.old.card (Event.Read Port.Pf address) }
+{
+    read(nic.lend(), Port::Pf, address, word)
+}
+
+/// Writes a register of the physical function by its address. DONE, or STRAY.
+#[unsafe(no_mangle)]
+pub extern "C" fn nic_write32(nic: &mut Handle, address: u32, word: u32) -> u8
+    ensures status { result ≡ status_of (reply_to nic.old.card.device (Event.Write Port.Pf address word)) }
+    ensures card { nic.new.card ≡ made nic.old.card (Event.Write Port.Pf address word) }
+{
+    write(nic.lend(), Port::Pf, address, word)
+}
+
+/// Reads a register of a virtual function by its offset. DONE and the word, or STRAY and what a driver would see, also
+/// of a function that isn't there.
+#[unsafe(no_mangle)]
+pub extern "C" fn nic_vf_read32(nic: &mut Handle, vf: u8, offset: u32, word: &mut u32) -> u8
+    ensures status { result ≡ status_of (reply_to nic.old.card.device (Event.Read (Port.Vf vf) offset)) }
+    ensures word { word.new ≡ word_of (reply_to nic.old.card.device (Event.Read (Port.Vf vf) offset)) }
+    ensures card { nic.new.card ≡ made nic.old.card (Event.Read (Port.Vf vf) offset) }
+{
+    read(nic.lend(), Port::Vf(vf), offset, word)
+}
+
+/// Writes a register of a virtual function by its offset. DONE, or STRAY.
+#[unsafe(no_mangle)]
+pub extern "C" fn nic_vf_write32(nic: &mut Handle, vf: u8, offset: u32, word: u32) -> u8
+    ensures status { result ≡ status_of (reply_to nic.old.card.device (Event.Write (Port.Vf vf) offset word)) }
+    ensures card { nic.new.card ≡ made nic.old.card (Event.Write (Port.Vf vf) offset word) }
+{
+    write(nic.lend(), Port::Vf(vf), offset, word)
+}
+
+/// What `nic_read32` would give, without its effects. STRAY leaves `word` as it is.
+#[unsafe(no_mangle)]
+pub extern "C" fn nic_peek32(nic: &mut Handle, address: u32, word: &mut u32) -> u8
+    ensures status { result ≡ peek_status (word_told (reply_to nic.old.card.device (Event.Read Port.Pf address))) }
+    ensures word { word.new ≡ unwrap_or (word_told (reply_to nic.old.card.device (Event.Read Port.Pf address))) word.old }
+    ensures unchanged { nic.new.card ≡ nic.old.card }
+{
+    peek(nic.lend(), Port::Pf, address, word)
+}
+
+/// What `nic_vf_read32` would give, without its effects. STRAY leaves `word` as it is.
+#[unsafe(no_mangle)]
+pub extern "C" fn nic_vf_peek32(nic: &mut Handle, vf: u8, offset: u32, word: &mut u32) -> u8
+    ensures status { result ≡ peek_status (word_told (reply_to nic.old.card.device (Event.Read (Port.Vf vf) offset))) }
+    ensures word { word.new ≡ unwrap_or (word_told (reply_to nic.old.card.device (Event.Read (Port.Vf vf) offset))) word.old }
+    ensures unchanged { nic.new.card ≡ nic.old.card }
+{
+    peek(nic.lend(), Port::Vf(vf), offset, word)
+}

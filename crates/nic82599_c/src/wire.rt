@@ -1,0 +1,102 @@
+//! Frames from and to the link, without their check sequence.
+
+ghost use Rattle.std.specs.Prelude.{◌≡◌, ◌≢◌, ◌<◌, ◌≤◌, length};
+ghost use Rattle.nic_device.specs.Link.{next_out_of};
+ghost use Rattle.nic_device.specs.Step.{reply_to};
+ghost use Rattle.nic82599_c.specs.Card.{made};
+ghost use Rattle.nic82599_c.specs.Told.{status_of, told_of, with_frame};
+
+use crate::card::Card;
+use crate::handle::Handle;
+use crate::status::{NO_ROOM, OUT_OF_MEMORY};
+use crate::steps::tell;
+use crate::told::{Told, status_of, told_of};
+use nic_device::{Event, Octets, Reply};
+use std::alloc::Global;
+
+/// A frame arrives from the link: DONE, DROPPED or OUT_OF_MEMORY.
+#[unsafe(no_mangle)]
+pub extern "C" fn nic_arrive(alloc: Global, nic: &mut Handle, frame: &[u8], told: &mut Told) -> u8
+    ensures status { result ≢ OUT_OF_MEMORY
+        → result ≡ status_of (reply_to nic.old.card.device (Event.Arrive frame.now)) }
+    ensures told { result ≢ OUT_OF_MEMORY
+        → told.new ≡ told_of (reply_to nic.old.card.device (Event.Arrive frame.now)) }
+    ensures card { result ≢ OUT_OF_MEMORY → nic.new.card ≡ made nic.old.card (Event.Arrive frame.now) }
+    ensures unchanged { result ≡ OUT_OF_MEMORY → (nic.new.card ≡ nic.old.card) × (told.new ≡ told.old) }
+{
+    let mut bytes = Vec::new(alloc);
+    match bytes.extend_from_slice(frame) {
+        Ok(()) => tell(nic.lend(), Event::Arrive(Octets::of(bytes)), told),
+        Err(_) => OUT_OF_MEMORY,
+    }
+}
+
+/// How many bytes the frame has that `nic_collect` would give. 0 without one.
+#[unsafe(no_mangle)]
+pub extern "C" fn nic_next_out(nic: &mut Handle) -> usize
+    ensures next { result ≡ next_out_of nic.old.card.device.out }
+    ensures unchanged { nic.new.card ≡ nic.old.card }
+{
+    nic.lend().next_out()
+}
+
+/// Collects the oldest frame that went out, where the room has as many bytes.
+#[tactic(auto, using(crate::proofs::Frames::frame_fits))]
+fn collect(card: &mut Card, room: &mut [u8], told: &mut Told) -> u8
+    ensures fits { next_out_of card.old.device.out ≤ length room.old
+        → result ≡ status_of (reply_to card.old.device Event.Collect) }
+    ensures told { next_out_of card.old.device.out ≤ length room.old
+        → told.new ≡ told_of (reply_to card.old.device Event.Collect) }
+    ensures card { next_out_of card.old.device.out ≤ length room.old → card.new ≡ made card.old Event.Collect }
+    ensures room { next_out_of card.old.device.out ≤ length room.old
+        → room.new ≡ with_frame room.old (reply_to card.old.device Event.Collect) }
+    ensures no_room { length room.old < next_out_of card.old.device.out → result ≡ NO_ROOM }
+    ensures unchanged { length room.old < next_out_of card.old.device.out
+        → (card.new ≡ card.old) × (room.new ≡ room.old) × (told.new ≡ told.old) }
+{
+    if card.next_out() > room.len() {
+        return NO_ROOM;
+    }
+    match card.make(Event::Collect) {
+        Ok(reply) => {
+            *told = told_of(&reply);
+            if let Reply::Frame { queue: _, bytes } = &reply {
+                let all = bytes.bytes();
+                room[..all.len()].copy_from_slice(all);
+            }
+            status_of(&reply)
+        }
+        Err(_) => unreachable!(),
+    }
+}
+
+/// Collects the oldest frame that went out: FRAME, with its bytes at the start of `room`, or IDLE. Where the room is
+/// shorter than the frame, NO_ROOM, and the frame stays.
+#[unsafe(no_mangle)]
+pub extern "C" fn nic_collect(nic: &mut Handle, room: &mut [u8], told: &mut Told) -> u8
+    ensures fits { next_out_of nic.old.card.device.out ≤ length room.old
+        → result ≡ status_of (reply_to nic.old.card.device Event.Collect) }
+    ensures told { next_out_of nic.old.card.device.out ≤ length room.old
+        → told.new ≡ told_of (reply_to nic.old.card.device Event.Collect) }
+    ensures card { next_out_of nic.old.card.device.out ≤ length room.old
+        → nic.new.card ≡ made nic.old.card Event.Collect }
+    ensures room { next_out_of nic.old.card.device.out ≤ length room.old
+        → room.new ≡ with_frame room.old (reply_to nic.old.card.device Event.Collect) }
+    ensures no_room { length room.old < next_out_of nic.old.card.device.out → result ≡ NO_ROOM }
+    ensures unchanged { length room.old < next_out_of nic.old.card.device.out
+        → (nic.new.card ≡ nic.old.card) × (room.new ≡ room.old) × (told.new ≡ told.old) }
+{
+    collect(nic.lend(), room, told)
+}
+
+/// The link goes up or down: DONE, or IDLE where it is so already.
+#[unsafe(no_mangle)]
+pub extern "C" fn nic_link(nic: &mut Handle, up: bool) -> u8
+    ensures status { result ≡ status_of (reply_to nic.old.card.device (Event.Link up)) }
+    ensures card { nic.new.card ≡ made nic.old.card (Event.Link up) }
+{
+    match nic.lend().make(Event::Link(up)) {
+        Ok(reply) => status_of(&reply),
+        Err(_) => unreachable!(),
+    }
+}

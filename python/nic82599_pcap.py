@@ -1,0 +1,103 @@
+"""Captures of Ethernet frames: reads pcap (either byte order, microseconds or nanoseconds) and pcapng, writes pcap."""
+
+from __future__ import annotations
+
+import struct
+from collections.abc import Iterable, Iterator
+from os import PathLike
+
+ETHERNET = 1
+MAGICS = {b"\xd4\xc3\xb2\xa1": "<", b"\x4d\x3c\xb2\xa1": "<", b"\xa1\xb2\xc3\xd4": ">", b"\xa1\xb2\x3c\x4d": ">"}
+SECTION, INTERFACE, SIMPLE, ENHANCED = 0x0A0D0D0A, 1, 3, 6
+HEADER = struct.pack("<IHHiIII", 0xA1B2C3D4, 2, 4, 0, 0, 0xFFFF, ETHERNET)
+
+
+class NoCapture(Exception):
+    """The bytes are no capture, or none that frames can be taken of."""
+
+
+def _unpacked(form: str, data: bytes, at: int) -> tuple[int, ...]:
+    size = struct.calcsize(form)
+    if at + size > len(data):
+        raise NoCapture("the capture is cut off")
+    return struct.unpack_from(form, data, at)
+
+
+def frames_of(data: bytes) -> Iterator[bytes]:
+    """The frames of a capture, in their order; NoCapture where it is none of whole Ethernet frames."""
+    if data[:4] in MAGICS:
+        return _pcap_frames(data, MAGICS[data[:4]])
+    if data[:4] == struct.pack("<I", SECTION):
+        return _pcapng_frames(data)
+    raise NoCapture("no capture: neither pcap nor pcapng")
+
+
+def _whole(data: bytes, at: int, kept: int, length: int) -> bytes:
+    if kept != length:
+        raise NoCapture(f"a frame of {length} bytes was captured in part: {kept} bytes")
+    if at + kept > len(data):
+        raise NoCapture("the capture is cut off")
+    return data[at : at + kept]
+
+
+def _pcap_frames(data: bytes, order: str) -> Iterator[bytes]:
+    (link,) = _unpacked(order + "I", data, 20)
+    if link & 0xFFFF != ETHERNET:
+        raise NoCapture(f"a capture of link type {link & 0xFFFF}, and not of Ethernet")
+    at = 24
+    while at < len(data):
+        _, _, kept, length = _unpacked(order + "IIII", data, at)
+        yield _whole(data, at + 16, kept, length)
+        at += 16 + kept
+
+
+def _pcapng_frames(data: bytes) -> Iterator[bytes]:
+    at, order, links = 0, "<", []
+    while at < len(data):
+        (kind,) = _unpacked(order + "I", data, at)
+        if kind == SECTION:
+            # Each section says its own byte order, by the number behind its length.
+            order = "<" if data[at + 8 : at + 12] == b"\x4d\x3c\x2b\x1a" else ">"
+            links = []
+        (size,) = _unpacked(order + "I", data, at + 4)
+        if size < 12 or size % 4 or at + size > len(data):
+            raise NoCapture("the capture is cut off")
+        if kind == INTERFACE:
+            links.append(_unpacked(order + "HHI", data, at + 8)[::2])
+        elif kind in (SIMPLE, ENHANCED):
+            yield _packet_in(data, at + 8, order, kind, links)
+        at += size
+
+
+def _packet_in(data: bytes, at: int, order: str, kind: int, links: list[tuple[int, ...]]) -> bytes:
+    """The frame of a block of pcapng."""
+    number = _unpacked(order + "I", data, at)[0] if kind == ENHANCED else 0
+    if number >= len(links):
+        raise NoCapture("a packet of an interface that the capture doesn't describe")
+    link, longest = links[number]
+    if link != ETHERNET:
+        raise NoCapture(f"a packet of link type {link}, and not of Ethernet")
+    if kind == ENHANCED:
+        kept, length = _unpacked(order + "II", data, at + 12)
+        return _whole(data, at + 20, kept, length)
+    (length,) = _unpacked(order + "I", data, at)
+    return _whole(data, at + 4, min(length, longest or length), length)
+
+
+def record_of(microseconds: int, frame: bytes) -> bytes:
+    """A frame with its time, as a capture has it."""
+    return struct.pack("<IIII", *divmod(microseconds, 1_000_000), len(frame), len(frame)) + frame
+
+
+def read_pcap(path: str | PathLike[str]) -> list[bytes]:
+    """The frames of a capture file; NoCapture, OSError."""
+    with open(path, "rb") as file:
+        return list(frames_of(file.read()))
+
+
+def write_pcap(path: str | PathLike[str], frames: Iterable[bytes]) -> int:
+    """Writes a capture of frames, a microsecond apart, and answers how many they are; OSError."""
+    records = [record_of(number, bytes(frame)) for number, frame in enumerate(frames)]
+    with open(path, "wb") as file:
+        file.write(HEADER + b"".join(records))
+    return len(records)

@@ -1,0 +1,59 @@
+#!/usr/bin/env python3
+"""Tests of the Python module: what its texts show at a prompt, what each call gives and refuses, and calls by chance
+beside `nicbench run` of the same events. c/test runs it; the variables NIC82599_LIBRARY and NICBENCH say by what.
+
+    python/tests/all.py [--seed S] [--batches N]
+"""
+
+from __future__ import annotations
+
+import argparse
+import doctest
+import sys
+import tempfile
+import unittest
+from pathlib import Path
+
+sys.dont_write_bytecode = True
+HERE = Path(__file__).resolve().parent
+sys.path[:0] = [str(HERE.parent), str(HERE)]
+import calls  # noqa: E402
+import chance  # noqa: E402
+import nic82599  # noqa: E402
+
+
+def texts() -> int:
+    """How many examples the texts show, each of which gives what stands there."""
+    module = doctest.testmod(nic82599)
+    prompt = doctest.testfile(str(HERE.parent / "examples/prompt.txt"), module_relative=False)
+    if module.failed or prompt.failed:
+        sys.exit(1)
+    return module.attempted + prompt.attempted
+
+
+def units() -> int:
+    """How many tests of calls there are, all of which pass."""
+    suite = unittest.defaultTestLoader.loadTestsFromModule(calls)
+    told = unittest.TextTestRunner(stream=sys.stderr, verbosity=0).run(suite)
+    if not told.wasSuccessful():
+        sys.exit(1)
+    return told.testsRun
+
+
+def main() -> None:
+    parser = argparse.ArgumentParser(prog="python/tests/all.py")
+    parser.add_argument("--seed", type=int, default=1)
+    parser.add_argument("--batches", type=int, default=4)
+    given = parser.parse_args()
+    print(f"{texts()} examples of texts")
+    print(f"{units()} tests of calls")
+    made = answers = 0
+    with tempfile.TemporaryDirectory() as folder:
+        for batch in range(given.batches):
+            more = chance.batch(given.seed * 1000 + batch, (0, 2, 63)[batch % 3], Path(folder))
+            made, answers = made + more[0], answers + more[1]
+    print(f"{made} calls by chance, {answers} answers alike")
+
+
+if __name__ == "__main__":
+    main()

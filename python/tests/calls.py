@@ -1,0 +1,276 @@
+"""What the calls of the Python module give and refuse."""
+
+from __future__ import annotations
+
+import gc
+import os
+import tempfile
+import unittest
+from pathlib import Path
+
+import nic82599
+from nic82599 import Advanced, Dropped, Fault, Frame, Message, Nic, Sent, Wrote
+
+FRAME = bytes.fromhex("0200000000010200000000020800450000280000000040060000420995bba18e64500aea06e6") + bytes(22)
+KEY = bytes.fromhex("6d5a56da255b0ec24167253d43a38fb0d0ca2bcbae7b30b477cb2da38030f20c6a42b73bbeac01fa")
+TYPE = 0x0200_0002
+ENABLE = 0x0200_0000
+
+
+def half(value: int) -> bytes:
+    return value.to_bytes(8, "little")
+
+
+class Life(unittest.TestCase):
+    def test_sizes(self) -> None:
+        for words, refusal in (
+            ({"vfs": 64}, nic82599.TooManyVfs), ({"vfs": 256}, nic82599.TooManyVfs), ({"vfs": -1}, nic82599.TooManyVfs),
+            ({"fifo": 0}, nic82599.BadFifo), ({"fifo": 4097}, nic82599.BadFifo), ({"fifo": 1 << 40}, nic82599.BadFifo),
+            ({"blocks": 0}, nic82599.BadBlocks), ({"blocks": 65_537}, nic82599.BadBlocks),
+        ):  # fmt: skip
+            with self.subTest(words), self.assertRaises(refusal):
+                Nic(**words)
+
+    def test_closed(self) -> None:
+        with Nic() as nic:
+            function = nic.vf(0)
+        nic.close()
+        for call in (lambda: nic["CTRL"], lambda: function["VFSTATUS"], nic.settle, nic.collect):
+            with self.assertRaises(nic82599.Closed):
+                call()
+
+    def test_many(self) -> None:
+        for _ in range(3):
+            Nic(63, 4096, 65_536).lend(0, 65_535)
+        gc.collect()
+
+    def test_missing_library(self) -> None:
+        with self.assertRaisesRegex(nic82599.LibraryMissing, "no library of the controller"):
+            Nic(library="/nowhere/libnic82599.so")
+        with tempfile.NamedTemporaryFile() as file, self.assertRaises(nic82599.LibraryMissing):
+            Nic(library=file.name)
+        told = os.environ.pop("NIC82599_LIBRARY", None)
+        try:
+            os.environ["NIC82599_LIBRARY"] = "/nowhere/libnic82599.so"
+            with self.assertRaisesRegex(nic82599.LibraryMissing, "make -C c"):
+                Nic()
+        finally:
+            del os.environ["NIC82599_LIBRARY"]
+            if told is not None:
+                os.environ["NIC82599_LIBRARY"] = told
+
+
+class Registers(unittest.TestCase):
+    def setUp(self) -> None:
+        self.nic = Nic(vfs=2, blocks=4)
+
+    def tearDown(self) -> None:
+        self.nic.close()
+
+    def test_names(self) -> None:
+        nic = self.nic
+        nic["RETA[3]"] = 0x03020100
+        self.assertEqual((nic[0x05C0C], nic[0x0EB0C], nic.peek("RETA[3]")), (0x03020100,) * 3)
+        nic["MAXFRS"] = 0xFFFF_FFFF
+        self.assertEqual(nic["MAXFRS[0]"], 0xFFFF_0000)
+        self.assertEqual(nic82599.address_of("RDT[64]"), 0x0D018)
+        self.assertEqual(nic82599.address_of("EITR[30]"), 0x12318)
+        self.assertEqual(nic82599.offset_of("VFRDT[1]"), 0x1058)
+        self.assertEqual(nic82599.fields_of("SRRCTL[2]", TYPE)["DESCTYPE"], 1)
+        for name in ("NOSUCH", "RDT[128]", "RDT[x]", "RDT[", "", "RXCTRL[1]", "rdt"):
+            with self.subTest(name), self.assertRaises(nic82599.NoSuchRegister):
+                nic[name]
+        with self.assertRaisesRegex(nic82599.NoSuchRegister, "RXDCTL"):
+            nic["RXDCTRL[3]"] = 1
+
+    def test_strays(self) -> None:
+        nic = self.nic
+        with self.assertRaises(nic82599.Stray) as caught:
+            nic[0xC]
+        self.assertEqual(caught.exception.word, 0)
+        with self.assertRaises(nic82599.Stray):
+            nic[0xC] = 1
+        with self.assertRaises(nic82599.Stray):
+            nic.peek(0x1FFFC)
+        self.assertEqual((nic.read32(0xC), nic.write32(0xC, 1), nic.peek32(0xC)), ((0, True), False, None))
+        self.assertEqual(nic.vf(2).read32(0x101C), (0xFFFF_FFFF, True))
+        for bad in (-1, 1 << 32):
+            with self.assertRaises(ValueError):
+                nic[bad]
+            with self.assertRaises(ValueError):
+                nic["RXCTRL"] = bad
+
+    def test_peek_has_no_effect(self) -> None:
+        nic = self.nic
+        nic["EICS"] = 5
+        self.assertEqual((nic.peek("EICR"), nic.peek("EICR"), nic["EICR"], nic["EICR"]), (5, 5, 5, 0))
+
+    def test_function(self) -> None:
+        nic = self.nic
+        nic["GCR_EXT"] = 3
+        one = nic.vf(1)
+        one["VTEIMS"] = 3
+        one["VFRDLEN[1]"] = 128
+        self.assertEqual((one["VTEIMS"], nic["PVTEIMS[1]"], nic["RDLEN[3]"], one.peek("VFRDLEN[1]")), (3, 3, 128, 128))
+        self.assertEqual(nic.vf(0)["VTEIMS"], 0)
+        for name in ("VFRDT[4]", "VTEIMS[1]", "RDT"):
+            with self.subTest(name), self.assertRaises(nic82599.NoSuchRegister):
+                one[name]
+        with self.assertRaises(nic82599.Stray):
+            one["VFRDT[3]"]
+
+
+class MemoryOfPackets(unittest.TestCase):
+    def test_ranges(self) -> None:
+        with Nic(blocks=3) as nic:
+            with self.assertRaises(nic82599.NotLent):
+                nic.memory[0]
+            nic.lend(0, 1)
+            data = bytes(range(256)) * 10
+            nic.memory[1000:3560] = data
+            self.assertEqual(nic.memory[1000:3560], data)
+            self.assertEqual((nic.memory[1001], nic.memory[0:0]), (1, b""))
+            nic.memory[1001] = 77
+            self.assertEqual(nic.memory.read(1000, 3), bytes([0, 77, 2]))
+            with self.assertRaises(nic82599.NotLent):
+                nic.memory[4090:4100] = bytes(10)
+            self.assertEqual(nic.memory[4090:4096], bytes(6))
+            for part in (slice(None, 4), slice(4, None), slice(0, 4, 2), slice(4, 0)):
+                with self.assertRaises(ValueError):
+                    nic.memory[part]
+            with self.assertRaises(ValueError):
+                nic.memory[0:4] = bytes(5)
+            with self.assertRaises(ValueError):
+                nic.memory[-1]
+
+    def test_blocks(self) -> None:
+        with Nic(blocks=3) as nic:
+            nic.lend(1)
+            with self.assertRaises(nic82599.NoBlock):
+                nic.lend(1)
+            with self.assertRaises(nic82599.NoBlock):
+                nic.lend(3)
+            nic.memory[2048:2050] = b"ab"
+            nic.take(1)
+            with self.assertRaises(nic82599.NotLent):
+                nic.take(1)
+            nic.lend()
+            self.assertEqual(nic.memory[2048:2050], bytes(2))
+            nic.lend()
+
+
+class Steps(unittest.TestCase):
+    def setUp(self) -> None:
+        self.nic = nic = Nic(fifo=2, blocks=4)
+        nic.lend()
+        nic["RXCTRL"], nic["DMATXCTL"], nic["FCTRL"] = 1, 1, 0x200
+        nic["RDLEN[0]"], nic["SRRCTL[0]"], nic["RXDCTL[0]"] = 128, TYPE, ENABLE
+        nic["TDBAL[0]"], nic["TDLEN[0]"], nic["TXDCTL[0]"] = 0x1000, 128, ENABLE
+        nic["IVAR[0]"], nic["EIMS"] = 0x8085, 0x20
+
+    def tearDown(self) -> None:
+        self.nic.close()
+
+    def test_receives(self) -> None:
+        nic = self.nic
+        self.assertTrue(nic.queue_step("rx", 0))
+        self.assertFalse(nic.queue_step("rx", 0))
+        nic.memory[0:8], nic["RDT[0]"] = half(0x800), 1
+        self.assertIsNone(nic.arrive(FRAME))
+        self.assertEqual(nic.rx_step(), Wrote(0, 0, True, 0, 0x800, 60))
+        self.assertEqual(nic.int_step(), Message(None, 5))
+        self.assertIsNone(nic.int_step())
+        self.assertIsNone(nic.rx_step())
+        self.assertEqual(nic.memory[0x800:0x83C], FRAME)
+
+    def test_sends(self) -> None:
+        nic = self.nic
+        nic.memory[0x1800:0x1820] = FRAME[:32]
+        nic.memory[0x1000:0x1010] = half(0x1800) + half(0x2230_0010)
+        nic.memory[0x1010:0x1020] = half(0x1810) + half(0x0008_0000_2B30_0010)
+        nic["TDT[0]"] = 2
+        events = [it for it in nic.settle(1) if not isinstance(it, (nic82599.Done, Message))]
+        self.assertEqual(events, [Advanced(0, 0, None), Sent(0, 60, 0x1010)])
+        self.assertEqual(nic.next_out(), 60)
+        self.assertEqual(nic.collect(), Frame(0, FRAME[:32] + bytes(28)))
+        self.assertIsNone(nic.collect())
+
+    def test_refuses(self) -> None:
+        nic = self.nic
+        for call in (lambda: nic.tx_step(128), lambda: nic.queue_step("tx", 65_535), lambda: nic.settle(129)):
+            with self.assertRaises(nic82599.NoQueue):
+                call()
+        for function in (0, 63, 255):
+            with self.assertRaises(nic82599.NoGroup):
+                nic.int_step(function)
+        for call in (lambda: nic.tx_step(-1), lambda: nic.tx_step(65_536), lambda: nic.queue_step("up", 0)):
+            with self.assertRaises(ValueError):
+                call()
+
+    def test_drops_and_faults(self) -> None:
+        nic = self.nic
+        self.assertEqual(nic.arrive(FRAME[:59]), Dropped("short"))
+        self.assertEqual(nic.arrive(bytes(60_000)), Dropped("long"))
+        self.assertEqual(nic.arrive(b""), Dropped("short"))
+        self.assertEqual(nic.arrive(b"\xff" * 60), Dropped("filter"))
+        self.assertTrue(nic.link(False))
+        self.assertFalse(nic.link(False))
+        self.assertEqual(nic.arrive(FRAME), Dropped("link down"))
+        nic.link(True)
+        self.assertEqual([nic.arrive(FRAME) for _ in range(3)], [None, None, Dropped("full")])
+        self.assertEqual(nic.rx_step(), Dropped("queue off"))
+        nic.queue_step("rx", 0)
+        nic.memory[0:8], nic["RDT[0]"] = half(0x9000), 1
+        self.assertEqual(nic.rx_step(), Fault("rx", 0, "not lent", 0x9000))
+        nic["TDT[0]"] = 100
+        nic.queue_step("tx", 0)
+        self.assertEqual(nic.tx_step(0), Fault("tx", 0, "outside", None))
+
+    def test_a_long_settle(self) -> None:
+        nic = self.nic
+        nic["TDLEN[0]"] = 4096
+        nic.take(2, 3)
+        nic.lend(2, 3)
+        nic.memory[0x1000:0x1FF0] = (half(0x0800) + half(0x0008_0000_2B30_0020)) * 255
+        nic["TDT[0]"] = 255
+        nic["EICR"] = 0xFFFF_FFFF
+        events = nic.settle(1)
+        self.assertEqual(sum(isinstance(it, Sent) for it in events), 255)
+        self.assertEqual(events[0], nic82599.Done("qstep rx", 0))
+        self.assertGreater(len(events), 256)
+        self.assertEqual(sum(nic.collect() is not None for _ in range(300)), 255)
+
+
+class Rest(unittest.TestCase):
+    def test_hash(self) -> None:
+        self.assertEqual(nic82599.rss_hash(KEY, FRAME[26:38]), 0x51CCC178)
+        self.assertEqual(nic82599.rss_hash(KEY, b""), 0)
+        with self.assertRaises(nic82599.TooLong):
+            nic82599.rss_hash(KEY, bytes(37))
+        with self.assertRaises(ValueError):
+            nic82599.rss_hash(KEY[1:], b"")
+
+    def test_images(self) -> None:
+        with Nic() as nic:
+            nic.install_text("size 64\nword 0 0x1234\n")
+            nic["EERD"] = 1
+            self.assertTrue(nic.eeprom_step())
+            self.assertFalse(nic.eeprom_step())
+            self.assertEqual(nic["EERD"] >> 16, 0x1234)
+            with self.assertRaises(nic82599.TextRefused) as caught:
+                nic.install_text("size 64\n\nwurd 0 1\n")
+            self.assertEqual((caught.exception.why, caught.exception.at), ("Syntax", 3))
+            with self.assertRaisesRegex(nic82599.ImageRefused, "OddLength"):
+                nic.install_image(b"x")
+            with self.assertRaisesRegex(nic82599.ImageRefused, "BadSize"):
+                nic.install_image(b"")
+
+    def test_captures(self) -> None:
+        frames = [FRAME, FRAME + b"xyz", bytes(1514)]
+        with tempfile.TemporaryDirectory() as folder:
+            path = Path(folder) / "frames.pcap"
+            self.assertEqual(nic82599.write_pcap(path, frames), 3)
+            self.assertEqual(nic82599.read_pcap(path), frames)
+            path.write_bytes(path.read_bytes()[:-1])
+            with self.assertRaises(nic82599.NoCapture):
+                nic82599.read_pcap(path)

@@ -93,7 +93,7 @@ linear key a b same =
 
 -- ---- zero bytes at the end
 
-slice_index-zeros : (count i : ℕ) → slice_index (replicate count 0) i ≡ 0
+pub slice_index-zeros : (count i : ℕ) → slice_index (replicate count 0) i ≡ 0
 slice_index-zeros zero i = refl
 slice_index-zeros (suc count) zero = refl
 slice_index-zeros (suc count) (suc i) = slice_index-zeros count i

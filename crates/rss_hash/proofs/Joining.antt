@@ -1,79 +1,101 @@
--- A hash that is joined byte by byte from the windows of a key.
-use Rattle.std.proofs.Common.{◌≡◌, ℕ, zero, suc, ◌+◌, ◌-◌, ◌*◌, ◌/◌, ◌%◌, ◌<◌, ◌≤◌, ◌==◌}
-use Rattle.std.proofs.Common.{true, false, List, cond, map, slice_index, bit_xor, refl, sym, ap, ◌∙◌, arith}
+-- A hash that is joined byte by byte from the tables of a key.
+use Rattle.std.proofs.Common.{◌≡◌, ℕ, ◌+◌, ◌-◌, ◌*◌, ◌/◌, ◌%◌, ◌<◌, ◌==◌, true, false, List, [], cond}
+use Rattle.std.proofs.Common.{slice_index, get_or, bit_xor, refl, sym, ap, ◌∙◌, arith}
 use Rattle.std.specs.Int.{bit_at}
 use Rattle.std.specs.Int.Bits.{xor_assoc, xor_zero_r}
-use Rattle.std.specs.List.{range_with_len}
-use Rattle.std.proofs.lemmas.List.FromFn.{get_or-map-range_with_len, map-range_with_len_more}
-use Rattle.std.proofs.lemmas.List.Sums.{fold_push}
+use Rattle.std.proofs.lemmas.List.FromFn.{get_or-map-range_with_len}
 use Rattle.rss_hash.specs.Bits.{bit_of, bits_from}
 use Rattle.rss_hash.specs.Registers.{bytes_of_registers}
-use Rattle.rss_hash.specs.Toeplitz.{xor_of}
-use Rattle.rss_hash.specs.Windows.{windows_of, where_one, byte_share}
+use Rattle.rss_hash.specs.Tables.{where_one, joined, table_at, tables_of, high_share, low_share}
+use Rattle.rss_hash.proofs.HashLaws.{xor_swap}
 use Rattle.rss_hash.proofs.Windows.{hash_below, hash_below_more}
 
--- bit j of byte i
-bit_in_byte : (input : List ℕ) (i j : ℕ) → j < 8 → bit_of input (8 * i + j) ≡ bit_at (slice_index input i) (7 - j)
-bit_in_byte input i j within =
-    let byte : (8 * i + j) / 8 ≡ i = omega arith in
-    let place : 7 - (8 * i + j) % 8 ≡ 7 - j = omega arith in
-    ap (λ n. bit_at (slice_index input n) (7 - (8 * i + j) % 8)) byte ∙ ap (bit_at (slice_index input i)) place
-
-window_at : (words : List ℕ) (k : ℕ) → k < 288 →
-    slice_index (windows_of words) k ≡ bits_from (bytes_of_registers words) k 32
-unfolding windows_of
-window_at words k within =
-    get_or-map-range_with_len (λ k. bits_from (bytes_of_registers words) k 32) 0 288 k k 0 within (omega arith)
-
 -- one more input bit
-hash_joined : (key input : List ℕ) (n : ℕ) →
-    bit_xor (hash_below key input n) (where_one (bit_of input n) (bits_from key n 32)) ≡ hash_below key input (n + 1)
-hash_joined key input n =
-    let below = hash_below key input n in
-    let next = bits_from key n 32 in
-    elim (bit_of input n == 1) as (λ t. bit_xor below (cond t next 0) ≡ cond t (bit_xor below next) below) [
+bit_joined : (key input : List ℕ) (k next bit : ℕ) → bit_of input k ≡ bit → k + 1 ≡ next →
+    bit_xor (hash_below key input k) (where_one bit (bits_from key k 32)) ≡ hash_below key input next
+bit_joined key input k next bit is follows =
+    let below = hash_below key input k in
+    let window = bits_from key k 32 in
+    ap (λ bit. bit_xor below (where_one bit window)) (sym is)
+    ∙ elim (bit_of input k == 1) as (λ t. bit_xor below (cond t window 0) ≡ cond t (bit_xor below window) below) [
       | true ↦ refl
       | false ↦ xor_zero_r below
-    ] ∙ sym (hash_below_more key input n)
+    ] ∙ sym (hash_below_more key input k) ∙ ap (hash_below key input) follows
 
--- what bit j of byte i adds
-abbrev bit_share : (words input : List ℕ) (i j : ℕ) → ℕ
-bit_share words input i j =
-    where_one (bit_at (slice_index input i) (7 - j)) (slice_index (windows_of words) (8 * i + j))
+regrouped : (h a b c d : ℕ) →
+    bit_xor h (bit_xor (bit_xor (bit_xor a b) c) d) ≡ bit_xor (bit_xor (bit_xor (bit_xor h a) b) c) d
+regrouped h a b c d =
+    sym (xor_assoc h (bit_xor (bit_xor a b) c) d)
+    ∙ ap (λ n. bit_xor n d) (sym (xor_assoc h (bit_xor a b) c) ∙ ap (λ n. bit_xor n c) (sym (xor_assoc h a b)))
 
--- the first bits of a byte
-bits_joined : (words input : List ℕ) (i n : ℕ) → i < 36 → n ≤ 8 →
-    bit_xor (hash_below (bytes_of_registers words) input (8 * i)) (
-    xor_of (map (bit_share words input i) (range_with_len 0 n))
-    )
-    ≡ hash_below (bytes_of_registers words) input (8 * i + n)
-bits_joined words input i zero low within =
-    xor_zero_r (hash_below (bytes_of_registers words) input (8 * i))
-    ∙ ap (hash_below (bytes_of_registers words) input) (omega arith)
-bits_joined words input i (suc n) low within =
+-- half a byte has the number v
+record IsHalf (input : List ℕ) (n v : ℕ) : Type 0 where
+  first : bit_of input (4 * n) ≡ bit_at v 3
+  second : bit_of input (4 * n + 1) ≡ bit_at v 2
+  third : bit_of input (4 * n + 2) ≡ bit_at v 1
+  fourth : bit_of input (4 * n + 3) ≡ bit_at v 0
+
+-- half a byte more
+half_joined : (words input : List ℕ) (n v : ℕ) → n < 72 → v < 16 → IsHalf input n v →
+    bit_xor (hash_below (bytes_of_registers words) input (4 * n)) (slice_index (get_or (tables_of words) n []) v)
+    ≡ hash_below (bytes_of_registers words) input (4 * (n + 1))
+unfolding tables_of
+half_joined words input n v low small half =
     let key = bytes_of_registers words in
-    let start = hash_below key input (8 * i) in
-    let share = bit_share words input i in
-    let before = xor_of (map share (range_with_len 0 n)) in
-    let next : suc n ≡ n + 1 = omega arith in
-    let k : ℕ = 8 * i + n in
-    let last : share n ≡ where_one (bit_of input k) (bits_from key k 32) =
-    rw (bit_in_byte input i n (omega arith), window_at words k (omega arith)) refl in
-    ap (λ m. bit_xor start (xor_of (map share (range_with_len 0 m)))) next
-    ∙ ap (λ shares. bit_xor start (xor_of shares)) (map-range_with_len_more share 0 n n (omega arith))
-    ∙ ap (bit_xor start) (fold_push bit_xor 0 (map share (range_with_len 0 n)) (share n))
-    ∙ sym (xor_assoc start before (share n))
-    ∙ ap (λ hash. bit_xor hash (share n)) (bits_joined words input i n low (omega arith))
-    ∙ ap (bit_xor (hash_below key input k)) last
-    ∙ hash_joined key input k
-    ∙ ap (hash_below key input) (omega arith)
+    let k : ℕ = 4 * n in
+    let start = hash_below key input k in
+    let a = where_one (bit_at v 3) (bits_from key k 32) in
+    let b = where_one (bit_at v 2) (bits_from key (k + 1) 32) in
+    let c = where_one (bit_at v 1) (bits_from key (k + 2) 32) in
+    let d = where_one (bit_at v 0) (bits_from key (k + 3) 32) in
+    let entry : slice_index (get_or (tables_of words) n []) v ≡ bit_xor (bit_xor (bit_xor a b) c) d =
+    ap (λ row. slice_index row v) (get_or-map-range_with_len (table_at key) 0 72 n n [] low (omega arith))
+    ∙ get_or-map-range_with_len (joined (bits_from key k 32) (bits_from key (k + 1) 32) (bits_from key (k + 2) 32)
+    (bits_from key (k + 3) 32)) 0 16 v v 0 small (omega arith) in
+    ap (bit_xor start) entry ∙ regrouped start a b c d
+    ∙ ap (λ h. bit_xor (bit_xor (bit_xor h b) c) d) (bit_joined key input k (k + 1) _ half.first refl)
+    ∙ ap (λ h. bit_xor (bit_xor h c) d) (bit_joined key input (k + 1) (k + 2) _ half.second (omega arith))
+    ∙ ap (λ h. bit_xor h d) (bit_joined key input (k + 2) (k + 3) _ half.third (omega arith))
+    ∙ bit_joined key input (k + 3) (4 * (n + 1)) _ half.fourth (omega arith)
+
+-- bit j of byte i
+bit_in_byte : (input : List ℕ) (i j k : ℕ) → j < 8 → k ≡ 8 * i + j →
+    bit_of input k ≡ bit_at (slice_index input i) (7 - j)
+bit_in_byte input i j k within is =
+    let byte : k / 8 ≡ i = omega arith in
+    let place : 7 - k % 8 ≡ 7 - j = omega arith in
+    ap (λ n. bit_at (slice_index input n) (7 - k % 8)) byte ∙ ap (bit_at (slice_index input i)) place
+
+high_half : (input : List ℕ) (i : ℕ) → IsHalf input (2 * i) (slice_index input i / 16)
+high_half input i = record {
+  first = bit_in_byte input i 0 (4 * (2 * i)) (omega arith) (omega arith) ∙ omega arith;
+  second = bit_in_byte input i 1 (4 * (2 * i) + 1) (omega arith) (omega arith) ∙ omega arith;
+  third = bit_in_byte input i 2 (4 * (2 * i) + 2) (omega arith) (omega arith) ∙ omega arith;
+  fourth = bit_in_byte input i 3 (4 * (2 * i) + 3) (omega arith) (omega arith) ∙ omega arith;
+}
+
+low_half : (input : List ℕ) (i : ℕ) → IsHalf input (2 * i + 1) (slice_index input i % 16)
+low_half input i = record {
+  first = bit_in_byte input i 4 (4 * (2 * i + 1)) (omega arith) (omega arith) ∙ omega arith;
+  second = bit_in_byte input i 5 (4 * (2 * i + 1) + 1) (omega arith) (omega arith) ∙ omega arith;
+  third = bit_in_byte input i 6 (4 * (2 * i + 1) + 2) (omega arith) (omega arith) ∙ omega arith;
+  fourth = bit_in_byte input i 7 (4 * (2 * i + 1) + 3) (omega arith) (omega arith) ∙ omega arith;
+}
 
 -- one more byte
-pub byte_joined : (words input : List ℕ) (i : ℕ) → i < 36 →
-    bit_xor (hash_below (bytes_of_registers words) input (8 * i)) (
-    byte_share (windows_of words) i (slice_index input i)
-    )
-    ≡ hash_below (bytes_of_registers words) input (8 * (i + 1))
-unfolding byte_share
-byte_joined words input i low =
-    bits_joined words input i 8 low (omega arith) ∙ ap (hash_below (bytes_of_registers words) input) (omega arith)
+pub byte_joined : (words input : List ℕ) (i high low first second : ℕ) → i < 36 → slice_index input i < 256
+    → first ≡ high_share (tables_of words) i (slice_index input i)
+    → second ≡ low_share (tables_of words) i (slice_index input i)
+    → bit_xor high low ≡ hash_below (bytes_of_registers words) input (8 * i)
+    → bit_xor (bit_xor high first) (bit_xor low second) ≡ hash_below (bytes_of_registers words) input (8 * (i + 1))
+byte_joined words input i high low first second within small is_first is_second before =
+    let below = hash_below (bytes_of_registers words) input in
+    let byte = slice_index input i in
+    xor_swap high first low second ∙ sym (xor_assoc (bit_xor high low) first second)
+    ∙ ap (λ h. bit_xor (bit_xor h first) second) (before ∙ ap below (omega arith))
+    ∙ ap (λ share. bit_xor (bit_xor (below (4 * (2 * i))) share) second) is_first
+    ∙ ap (λ h. bit_xor h second)
+    (half_joined words input (2 * i) (byte / 16) (omega arith) (omega arith) (high_half input i))
+    ∙ ap (bit_xor (below (4 * (2 * i + 1)))) is_second
+    ∙ half_joined words input (2 * i + 1) (byte % 16) (omega arith) (omega arith) (low_half input i)
+    ∙ ap below (omega arith)

@@ -6,10 +6,10 @@ pub mod HashLaws
 pub mod Ipv4Frames
 pub mod Ipv6Frames
 pub mod Joining
-pub mod Masks
 pub mod Packets
 pub mod Parts
 pub mod RegisterBytes
 pub mod Sliding
 pub mod Types
 pub mod Windows
+pub mod ZeroKey

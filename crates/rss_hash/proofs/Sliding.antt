@@ -5,7 +5,7 @@ use Rattle.std.proofs.lemmas.Nat.Bits.{bit_at-lt}
 use Rattle.rss_hash.specs.Bits.{bit_of, bits_from}
 use Rattle.rss_hash.proofs.Windows.{bits_from_more}
 
-no_bits : (bytes : List ℕ) (k : ℕ) → bits_from bytes k 0 ≡ 0
+pub no_bits : (bytes : List ℕ) (k : ℕ) → bits_from bytes k 0 ≡ 0
 unfolding bits_from
 no_bits bytes k = refl
 

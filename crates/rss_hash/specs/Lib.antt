@@ -8,7 +8,7 @@ pub mod Flow
 pub mod Mrqc
 pub mod Choice
 pub mod Registers
-pub mod Windows
+pub mod Tables
 pub mod HashKeys
 pub mod Built
 pub mod Laws

@@ -1,21 +1,18 @@
-ghost use Rattle.std.specs.Prelude.{◌≡◌, ◌*◌, ◌<◌, ◌≤◌, length, replicate, slice_set};
-ghost use Rattle.std.specs.Int.{bit_at};
+ghost use Rattle.std.specs.Prelude.{◌≡◌, ◌<◌, ◌≤◌, length, replicate, slice_set};
 ghost use Rattle.rss_hash.specs.Registers.{bytes_of_registers};
 ghost use Rattle.rss_hash.specs.Toeplitz.{toeplitz_hash};
-ghost use Rattle.rss_hash.specs.Windows.{windows_of, where_one, byte_share};
 
-use crate::key::Key;
-use crate::toeplitz::bit;
+use crate::tables::{fill_tables, shares};
 use std::marker::Model;
 
-/// The hash key as the registers RSSRK hold it, kept with the 32 key bits from each bit on, so that
-/// a hash only joins them. Contracts see it as the list of the ten words.
+/// The hash key as the registers RSSRK hold it, kept with what each half byte of an input adds, so that
+/// a hash only joins two numbers a byte. Contracts see it as the list of the ten words.
 ///
 /// Intel 82599 datasheet, section on receive side scaling.
 #[derive(Drop)]
 pub struct HashKey {
     words: [u32; 10],
-    windows: [u32; 288],
+    tables: [[u32; 16]; 72],
 }
 
 impl Model for HashKey {
@@ -23,21 +20,23 @@ impl Model for HashKey {
 
     ghost Value = { List ℕ };
 
-    ghost use Rattle.rss_hash.specs.HashKeys.{HasItsWindows};
+    ghost use Rattle.rss_hash.specs.HashKeys.{HasItsTables};
 
     ghost view = { λ key. key.words };
 
-    ghost invariant = { HasItsWindows };
+    ghost invariant = { HasItsTables };
 }
 
 impl HashKey {
     /// The key whose bits are all 0.
+    #[tactic(auto, using(crate::proofs::ZeroKey::tables_of_zeros))]
     pub fn zero() -> HashKey
         ensures { result ≡ replicate 10 0 }
     {
-        let words = [0; 10];
-        let windows = windows_of(&words);
-        HashKey { words, windows }
+        HashKey {
+            words: [0; 10],
+            tables: [[0; 16]; 72],
+        }
     }
 
     /// The words of RSSRK.
@@ -53,56 +52,22 @@ impl HashKey {
         ensures { self.new ≡ slice_set self.old index word }
     {
         self.words[index] = word;
-        self.windows = windows_of(&self.words);
+        fill_tables(&mut self.tables, &self.words);
     }
 
-    /// The Toeplitz hash of an input of at most 36 bytes, with no branch on its bits.
+    /// The Toeplitz hash of an input of at most 36 bytes, with no branch on its bits. What high and what low
+    /// halves of bytes add is joined apart, so that neither waits for the other.
     pub fn hash(&self, input: &[u8]) -> u32
         requires { length input.now ≤ 36 }
         ensures { result ≡ toeplitz_hash (bytes_of_registers self.now) input.now }
     {
-        let mut hash = 0;
+        let mut high = 0;
+        let mut low = 0;
         for i in 0..input.len() {
-            hash ^= byte_share(&self.windows, i, input[i]);
+            let (high_share, low_share) = shares(&self.tables, i, input[i]);
+            high ^= high_share;
+            low ^= low_share;
         }
-        hash
+        high ^ low
     }
-}
-
-/// For each bit that an input of 36 bytes can have, the 32 key bits from there on.
-fn windows_of(words: &[u32; 10]) -> [u32; 288]
-    ensures { result ≡ windows_of words.now }
-{
-    let key = Key::from_words(words);
-    let mut windows = [0; 288];
-    let mut window = key.window(0);
-    for k in 0..288 {
-        windows[k] = window;
-        window = 2 * (window % 0x8000_0000) + u32::from(bit(&key.0, k + 32));
-    }
-    windows
-}
-
-/// What byte `i` of an input adds to its hash: the windows at those of its bits that are 1, joined.
-fn byte_share(windows: &[u32; 288], i: usize, byte: u8) -> u32
-    requires { i < 36 }
-    ensures { result ≡ byte_share windows.now i byte }
-{
-    let first = 8 * i;
-    where_one(byte, 7, windows[first])
-        ^ where_one(byte, 6, windows[first + 1])
-        ^ where_one(byte, 5, windows[first + 2])
-        ^ where_one(byte, 4, windows[first + 3])
-        ^ where_one(byte, 3, windows[first + 4])
-        ^ where_one(byte, 2, windows[first + 5])
-        ^ where_one(byte, 1, windows[first + 6])
-        ^ where_one(byte, 0, windows[first + 7])
-}
-
-/// The number where a bit of the byte is 1, else 0.
-fn where_one(byte: u8, place: u32, number: u32) -> u32
-    requires { place < 8 }
-    ensures { result ≡ where_one (bit_at byte place) number }
-{
-    number & 0u32.wrapping_sub(u32::from(byte >> place & 1))
 }

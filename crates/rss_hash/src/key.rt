@@ -1,4 +1,4 @@
-ghost use Rattle.std.specs.Prelude.{◌≡◌, ◌+◌, ◌≤◌};
+ghost use Rattle.std.specs.Prelude.{◌≡◌, ◌+◌, ◌<◌, ◌≤◌};
 ghost use Rattle.rss_hash.specs.Bits.{bits_from};
 ghost use Rattle.rss_hash.specs.Registers.{bytes_of_registers};
 
@@ -33,5 +33,15 @@ impl Key {
             window = 2 * window + u32::from(bit(&self.0, first + k));
         }
         window
+    }
+
+    /// The same from the next bit on, given the window from bit `first` on.
+    #[tactic(auto, using(crate::proofs::Sliding::bits_from_next))]
+    pub(crate) fn next_window(&self, first: usize, window: u32) -> u32
+        requires room { first + 32 < 320 }
+        requires window { window ≡ bits_from self.now.0 first 32 }
+        ensures { result ≡ bits_from self.now.0 (first + 1) 32 }
+    {
+        2 * (window % 0x8000_0000) + u32::from(bit(&self.0, first + 32))
     }
 }

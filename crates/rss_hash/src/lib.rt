@@ -13,6 +13,7 @@ mod key;
 mod laws;
 mod mrqc;
 mod redirection;
+mod tables;
 mod toeplitz;
 
 pub use choice::{RssType, choose};

@@ -1,0 +1,62 @@
+//! What the half bytes of an input add to its hash, in tables that are filled when a key is written.
+
+ghost use Rattle.std.specs.Prelude.{◌≡◌, ◌<◌, map};
+ghost use Rattle.std.specs.List.{range_with_len};
+ghost use Rattle.rss_hash.specs.Tables.{joined, tables_of, high_share, low_share};
+
+use crate::key::Key;
+
+/// Fills in the tables for a key in ten registers: row n has what each value of half byte n adds.
+pub(crate) fn fill_tables(tables: &mut [[u32; 16]; 72], words: &[u32; 10])
+    ensures { tables.new ≡ tables_of words.now }
+{
+    let key = Key::from_words(words);
+    let mut window = key.window(0);
+    for n in 0..72 {
+        let first = window;
+        let second = key.next_window(4 * n, first);
+        let third = key.next_window(4 * n + 1, second);
+        let fourth = key.next_window(4 * n + 2, third);
+        window = key.next_window(4 * n + 3, fourth);
+        tables[n] = choices(first, second, third, fourth);
+    }
+}
+
+/// The exclusive or of each choice of four numbers: entry v is that of those at which the bits 3 to 0
+/// of v are 1.
+#[inline(always)]
+fn choices(a: u32, b: u32, c: u32, d: u32) -> [u32; 16]
+    ensures { result ≡ map (joined a b c d) (range_with_len 0 16) }
+{
+    let (ab, cd) = (a ^ b, c ^ d);
+    [
+        0,
+        d,
+        c,
+        cd,
+        b,
+        b ^ d,
+        b ^ c,
+        b ^ cd,
+        a,
+        a ^ d,
+        a ^ c,
+        a ^ cd,
+        ab,
+        ab ^ d,
+        ab ^ c,
+        ab ^ cd,
+    ]
+}
+
+/// What the high and the low half of byte `i` of an input add to its hash.
+#[inline(always)]
+pub(crate) fn shares(tables: &[[u32; 16]; 72], i: usize, byte: u8) -> (u32, u32)
+    requires { i < 36 }
+    ensures high { result.0 ≡ high_share tables.now i byte }
+    ensures low { result.1 ≡ low_share tables.now i byte }
+{
+    let high = tables[2 * i][usize::from(byte / 16)];
+    let low = tables[2 * i + 1][usize::from(byte % 16)];
+    (high, low)
+}

@@ -10,6 +10,7 @@ pub mod Inside
 pub mod Joined
 pub mod Moves
 mod Numbers
+mod RawSteps
 pub mod Owned
 pub mod Places
 mod Shown

@@ -4,5 +4,6 @@ pub mod LendRefused
 pub mod Loan
 pub mod Memory
 pub mod Numbers
+pub mod Raw
 pub mod Shown
 pub mod Whereabouts

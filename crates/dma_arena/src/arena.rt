@@ -3,15 +3,12 @@ ghost use Rattle.std.specs.List.{list_all};
 ghost use Rattle.dma_arena.specs.Block.{zero_block};
 ghost use Rattle.dma_arena.specs.Numbers.{count_of, free_count, is_own, is_free, are_all_free, all_free, with_free, numbers_below, numbers_from, IsArena, IsInside};
 
-use crate::buf::{BLOCK_BYTES, Buf};
+use crate::buf::{Buf, RawBlock, make};
 use std::alloc::{AllocError, Global};
 use std::marker::Model;
 
 /// How many block numbers there are: every number is below this.
 pub const BLOCK_NUMBERS: u32 = 65536;
-
-/// The memory of a block that is free.
-type Memory = Box<[u8; BLOCK_BYTES]>;
 
 /// Blocks of packet memory by their numbers, each of them free or not.
 ///
@@ -19,7 +16,7 @@ type Memory = Box<[u8; BLOCK_BYTES]>;
 /// dropped: it is closed in the end, once all of its blocks are free.
 pub struct Arena {
     first: u16,
-    slots: Vec<Option<Memory>>,
+    slots: Vec<Option<RawBlock>>,
 }
 
 impl Model for Arena {
@@ -165,8 +162,11 @@ impl Arena {
     {
         match self.place(buf.block()) {
             Some(at) if self.slots[at].is_none() => {
-                self.slots[at] = Some(buf.into_memory());
-                Ok(())
+                let former = self.slots[at].replace(buf.into_memory());
+                match former {
+                    None => Ok(()),
+                    Some(_) => unreachable!(),
+                }
             }
             _ => Err(buf),
         }
@@ -209,7 +209,8 @@ impl Arena {
         if !self.are_all_free() {
             return Err(self);
         }
-        let Arena { first: _, slots: _ } = self;
+        let Arena { first: _, slots } = self;
+        free_all(slots);
         Ok(())
     }
 
@@ -273,27 +274,43 @@ impl Arena {
 }
 
 /// The first slot with a free block.
-fn first_free(slots: &[Option<Memory>]) -> Option<usize>
+fn first_free(slots: &[Option<RawBlock>]) -> Option<usize>
     ensures { result ≡ position (λ slot. is_some slot) slots.now }
 {
     slots.iter().position(|slot| slot.is_some())
 }
 
 /// Whether each slot has a free block.
-fn all_are_free(slots: &[Option<Memory>]) -> bool
+fn all_are_free(slots: &[Option<RawBlock>]) -> bool
     ensures { result ≡ list_all (λ slot. is_some slot) slots.now }
 {
     slots.iter().all(|slot| slot.is_some())
 }
 
 /// The memory of `count` free blocks.
-fn free_slots(alloc: Global, count: usize) -> Result<Vec<Option<Memory>>, AllocError>
+fn free_slots(alloc: Global, count: usize) -> Result<Vec<Option<RawBlock>>, AllocError>
     ensures { IfOk result (λ slots. map is_some slots.items ≡ replicate count true) }
 {
     let mut slots = Vec::with_capacity(alloc, count)?;
     for _made in 0..count {
-        let memory = Box::new(alloc, [0; BLOCK_BYTES])?;
-        slots.push(Some(memory))?;
+        let Ok(memory) = make(alloc) else {
+            free_all(slots);
+            return Err(AllocError);
+        };
+        match slots.push(Some(memory)) {
+            Ok(()) => {}
+            Err(_) => unreachable!(),
+        }
     }
     Ok(slots)
+}
+
+/// Frees the blocks of the slots, one by one.
+fn free_all(mut slots: Vec<Option<RawBlock>>) {
+    while let Some(slot) = slots.pop() {
+        if let Some(memory) = slot {
+            memory.free();
+        }
+    }
+    slots.destroy_empty();
 }

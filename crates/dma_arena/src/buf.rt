@@ -3,10 +3,20 @@ ghost use Rattle.std.specs.Borrow.{sem};
 ghost use Rattle.dma_arena.specs.Block.{IsBlock, bus_of, zero_block};
 ghost use Rattle.dma_arena.specs.Memory.{put_bytes};
 
+use crate::raw::Raw;
+use std::alloc::{AllocError, Global};
 use std::marker::Model;
 
 /// How many bytes a block has.
 pub const BLOCK_BYTES: usize = 2048;
+
+/// The memory of one block. It is moved from owner to owner, and freed by `free` alone.
+pub(crate) type RawBlock = Raw<[u8; BLOCK_BYTES], Global>;
+
+/// Memory for a block.
+pub(crate) fn make(alloc: Global) -> Result<RawBlock, AllocError> {
+    Ok(Raw::of(Box::new(alloc, [0; BLOCK_BYTES])?))
+}
 
 /// A block of packet memory in hand.
 ///
@@ -14,7 +24,7 @@ pub const BLOCK_BYTES: usize = 2048;
 /// cloned, and it cannot be dropped, so it is given to an arena or lent in the end.
 pub struct Buf {
     number: u16,
-    bytes: Box<[u8; BLOCK_BYTES]>,
+    bytes: RawBlock,
 }
 
 impl Model for Buf {
@@ -29,15 +39,15 @@ impl Buf {
     ghost use Rattle.dma_arena.specs.Loan.{LendsBytes};
 
     /// The block in hand, cleared.
-    pub(crate) fn cleared(number: u16, mut bytes: Box<[u8; BLOCK_BYTES]>) -> Buf
+    pub(crate) fn cleared(number: u16, mut bytes: RawBlock) -> Buf
         ensures { result ≡ zero_block number }
     {
-        *bytes = [0; BLOCK_BYTES];
+        *bytes.get_mut() = [0; BLOCK_BYTES];
         Buf { number, bytes }
     }
 
     /// The memory of a block that is no longer in hand.
-    pub(crate) fn into_memory(self) -> Box<[u8; BLOCK_BYTES]> {
+    pub(crate) fn into_memory(self) -> RawBlock {
         let Buf { number: _, bytes } = self;
         bytes
     }
@@ -73,7 +83,7 @@ impl Buf {
     {
         // A number is below 65,536 by its type.
         let _number = self.number;
-        let bytes = self.bytes.as_ref();
+        let bytes = self.bytes.get();
         let all: &[u8] = bytes;
         prove!(all.len() == BLOCK_BYTES);
         bytes
@@ -85,6 +95,6 @@ impl Buf {
         ensures* written { sem 𝓛 (LendsBytes self.entry result) }
         ensures value { result.now ≡ self.old.bytes }
     {
-        &mut self.bytes
+        self.bytes.get_mut()
     }
 }

@@ -16,6 +16,7 @@ pub mod laws;
 mod lent;
 mod octets;
 mod ranges;
+mod raw;
 
 pub use arena::{Arena, ArenaFault, BLOCK_NUMBERS, SplitFault, SplitRefused};
 pub use buf::{BLOCK_BYTES, Buf};

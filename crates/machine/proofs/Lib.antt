@@ -6,3 +6,4 @@ pub mod Returning
 pub mod Moves
 pub mod Runs
 pub mod Jumps
+pub mod Restoring

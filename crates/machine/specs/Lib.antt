@@ -5,3 +5,4 @@ pub mod Machine
 pub mod Course
 pub mod Processor
 pub mod Laws
+pub mod Snapshot

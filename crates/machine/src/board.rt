@@ -1,18 +1,21 @@
 //! The device of a machine, and the packet memory that it shares with it.
 
-ghost use Rattle.std.specs.Prelude.{◌≡◌, ◌<◌, ◌≤◌, ◌↔◌, ℕ, [], true, false, IsFalse, IfOk, OnOk, OnErr, Err};
+ghost use Rattle.std.specs.Prelude.{◌≡◌, ◌<◌, ◌≤◌, ◌↔◌, ℕ, [], true, false, IsTrue, IsFalse, IfOk, OnOk, OnErr, Err};
 ghost use Rattle.std.specs.FinMap as map;
 ghost use Rattle.std.specs.Vec.{vec_capacity};
 ghost use Rattle.program.specs.DmaArena.Block.{Block, zero_block};
 ghost use Rattle.program.specs.DmaArena.Memory.{has_block};
-ghost use Rattle.program.specs.DmaArena.Numbers.{is_free, is_own, with_free};
+ghost use Rattle.program.specs.DmaArena.Numbers.{Numbers, are_all_free, is_free, is_own, with_free};
 ghost use Rattle.nic_device.specs.Config.{IsBadFifo};
 ghost use Rattle.nic_device.specs.State.{new_state};
 ghost use Rattle.nic_device.specs.Step.{step_of, word_told, moves_block, hands_out, TakesMemory};
 ghost use Rattle.machine.specs.Board.{all_blocks, arena_after, reply_of_lend, after_lend, AreShared, CanReturn};
 
 use crate::machine::OutOfMemory;
-use nic_device::{Config, Device, Event, MAX_VFS, NewFault, Note, Parts, Port, Reply, ReplyNote};
+use nic_device::{
+    Config, Device, Event, MAX_VFS, NewFault, Note, Parts, Port, Reply, ReplyNote, RestoreRefused,
+    Snapshot,
+};
 use program::{Arena, Buf, LentMemory, Octets};
 use std::alloc::Global;
 use std::marker::Model;
@@ -94,6 +97,16 @@ fn end_memory(memory: LentMemory)
     }
 }
 
+/// Ends an arena whose blocks are all free.
+fn end_arena(arena: Arena)
+    requires { IsTrue (are_all_free arena) }
+{
+    match arena.close() {
+        Ok(()) => {}
+        Err(_arena) => unreachable!(),
+    }
+}
+
 /// Takes a block back, where it is lent, and gives it to the arena.
 fn take_back(memory: &mut LentMemory, arena: &mut Arena, number: u32)
     requires { AreShared memory.old arena.old }
@@ -114,10 +127,7 @@ fn close(mut memory: LentMemory, mut arena: Arena)
         take_back(&mut memory, &mut arena, number);
     }
     end_memory(memory);
-    match arena.close() {
-        Ok(()) => {}
-        Err(_arena) => unreachable!(),
-    }
+    end_arena(arena);
 }
 
 /// Ends a device that no memory is lent to.
@@ -149,6 +159,37 @@ impl Board {
             Err(_) => {
                 end_device(device);
                 Err(NewFault::OutOfMemory)
+            }
+        }
+    }
+
+    /// A snapshot of the device. The blocks that are lent to it are those that aren't free in the arena.
+    pub(crate) fn snapshot(&self) -> Result<Snapshot, OutOfMemory>
+        ensures device { IfOk result (λ snapshot. snapshot ≡ self.now.device) }
+        ensures shared { AreShared self.now.device.memory self.now.arena }
+    {
+        match self.device.snapshot() {
+            Ok(snapshot) => Ok(snapshot),
+            Err(_) => Err(OutOfMemory),
+        }
+    }
+
+    /// The device of a snapshot once more, with blocks of its own. No block from 256 on is lent to it.
+    pub(crate) fn restore(alloc: Global, snapshot: &Snapshot) -> Result<Board, OutOfMemory>
+        requires { (number : ℕ) → has_block snapshot.now.memory number ≡ true → number < 256 }
+        ensures device { IfOk result (λ board. board.device ≡ snapshot.now) }
+        ensures arena { IfOk result (λ board.
+            (arena : Numbers) → AreShared snapshot.now.memory arena → board.arena ≡ arena) }
+    {
+        let Ok(mut arena) = Arena::new(alloc, 0, BLOCKS) else {
+            return Err(OutOfMemory);
+        };
+        match Device::restore(snapshot, &mut arena) {
+            Ok(device) => Ok(Board { device, arena }),
+            Err(RestoreRefused::NotFree(_block)) => unreachable!(),
+            Err(RestoreRefused::OutOfMemory) => {
+                end_arena(arena);
+                Err(OutOfMemory)
             }
         }
     }

@@ -10,6 +10,8 @@ mod board;
 pub mod laws;
 mod machine;
 mod processor;
+mod snapshot;
 
 pub use board::BLOCKS;
 pub use machine::{Machine, NewRefused, OutOfMemory, Status, StepAnswer};
+pub use snapshot::MachineSnapshot;

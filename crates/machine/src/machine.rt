@@ -62,9 +62,9 @@ pub struct NewRefused {
 /// A program, the device that it runs on with an arena of blocks 0 to 255, and how far it has run: after n counted
 /// steps a machine is `machine_at` n. It isn't dropped, but finished.
 pub struct Machine {
-    program: Program,
-    config: Config,
-    processor: Processor,
+    pub(crate) program: Program,
+    pub(crate) config: Config,
+    pub(crate) processor: Processor,
 }
 
 impl Model for Machine {

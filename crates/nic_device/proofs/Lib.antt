@@ -11,6 +11,7 @@ pub use Rattle.register_laws.proofs as RegisterLaws
 pub mod Accessing
 pub mod Answering
 pub mod Arriving
+pub mod BlockCopies
 pub mod Blocks
 pub mod Cases
 pub mod Coming
@@ -21,6 +22,7 @@ pub mod Hashes
 pub mod Keeping
 pub mod KeptBlocks
 pub mod Leads
+pub mod Leaving
 pub mod Lists
 pub mod Memory
 pub mod Pieces
@@ -28,6 +30,7 @@ pub mod PoolReset
 pub mod QueueCases
 pub mod Queued
 pub mod Raising
+pub mod Ranges
 pub mod Receiving
 pub mod Sending
 pub mod SidesOn

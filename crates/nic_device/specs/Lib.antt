@@ -15,6 +15,8 @@ pub mod PoolReset
 pub mod Access
 pub mod Answering
 pub mod Arrival
+pub mod Blocks
+pub mod Bus
 pub mod Config
 pub mod Eeprom
 pub mod Footprint
@@ -24,6 +26,7 @@ pub mod Lending
 pub mod Link
 pub mod Outcome
 pub mod Receive
+pub mod Restoring
 pub mod Run
 pub mod Sound
 pub mod State

@@ -19,7 +19,7 @@ use std::marker::Model;
 ///
 /// It is sound between two events: `stays_sound` says so.
 pub struct Device {
-    engine: Engine,
+    pub(crate) engine: Engine,
 }
 
 impl Model for Device {

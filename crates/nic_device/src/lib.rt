@@ -12,7 +12,9 @@
 
 mod access;
 mod arrival;
+mod bus;
 mod config;
+mod copies;
 mod device;
 mod eeprom;
 mod engine;
@@ -24,7 +26,9 @@ mod named;
 mod notes;
 mod pools;
 mod receive;
+mod rest;
 mod runs;
+mod snapshot;
 mod switching;
 mod transmit;
 mod waiting;
@@ -44,3 +48,4 @@ pub use rx_ring::{
     first_half, hash_told, is_last, is_sent, is_written_back, length_told, of_halves, posted_word,
     rss_told, second_half,
 };
+pub use snapshot::{RestoreRefused, Snapshot};

@@ -1,6 +1,6 @@
 //! A frame that waits to be received.
 
-ghost use Rattle.std.specs.Prelude.{◌≡◌, ◌<◌, ◌≤◌, ◌+◌, ◌*◌, ◌^◌, ◌==◌, not, length};
+ghost use Rattle.std.specs.Prelude.{◌≡◌, ◌<◌, ◌≤◌, ◌+◌, ◌*◌, ◌^◌, ◌==◌, not, length, IfOk};
 ghost use Rattle.rx_ring.specs.Item.{rest_of};
 ghost use Rattle.nic_device.specs.State.{Waiting};
 ghost use Rattle.nic_device.specs.Arrival.{let_in};
@@ -9,6 +9,7 @@ ghost use Rattle.nic_device.specs.Receive.{rest_of as rest_of_waiting, packet_of
 use register_file::classify;
 use rx_filter::Target;
 use rx_ring::{Item, Octets, Packet, packet_word};
+use std::alloc::{AllocError, Global};
 use std::marker::Model;
 
 /// A frame that waits to be received: its bytes, its queue, its hash with the type, and how many of its bytes are
@@ -62,6 +63,21 @@ impl Waiting {
             offset: 0,
             first,
         }
+    }
+
+    /// The same frame once more, as far as it is written.
+    pub(crate) fn copy(&self, alloc: Global) -> Result<Waiting, AllocError>
+        ensures { IfOk result (λ waiting. waiting ≡ self.now) }
+    {
+        let bytes = Vec::from_slice(alloc, self.frame.bytes())?;
+        Ok(Waiting {
+            frame: Octets::of(bytes),
+            queue: self.queue,
+            hash: self.hash,
+            rss: self.rss,
+            offset: self.offset,
+            first: self.first,
+        })
     }
 
     /// The frame's queue.

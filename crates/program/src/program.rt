@@ -52,6 +52,18 @@ impl Program {
         }
     }
 
+    /// The same program once more.
+    pub fn copy(&self, alloc: Global) -> Result<Program, AllocError>
+        ensures { IfOk result (λ program. program ≡ self.now) }
+    {
+        let strings = copied(alloc, &self.strings)?;
+        let instructions = Vec::from_slice(alloc, &self.instructions)?;
+        Ok(Program {
+            strings,
+            instructions,
+        })
+    }
+
     /// How many instructions there are.
     pub fn instructions(&self) -> u16
         ensures count { result ≡ length self.now.instructions }
@@ -102,4 +114,16 @@ impl Program {
     {
         object(alloc, &self.strings, &self.instructions)
     }
+}
+
+/// Copies of data strings.
+fn copied(alloc: Global, strings: &[Octets]) -> Result<Vec<Octets>, AllocError>
+    ensures { IfOk result (λ copies. copies.items ≡ strings.now) }
+{
+    let mut copies = Vec::with_capacity(alloc, strings.len())?;
+    for string in strings {
+        let bytes = Vec::from_slice(alloc, string.bytes())?;
+        copies.push(Octets::of(bytes))?;
+    }
+    Ok(copies)
 }

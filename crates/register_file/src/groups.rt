@@ -42,6 +42,16 @@ impl Groups {
         }
     }
 
+    /// The same groups once more.
+    pub(crate) fn copy(&self) -> Self
+        ensures { result ≡ self.now }
+    {
+        Groups {
+            pf: self.pf,
+            vf: self.vf,
+        }
+    }
+
     /// Makes the group of a virtual function anew, as a reset leaves it.
     pub(crate) fn renew(&mut self, v: u8)
         requires { v < 64 }

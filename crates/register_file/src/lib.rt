@@ -18,6 +18,7 @@
 
 mod access;
 mod banks;
+mod copying;
 mod counters;
 mod eeprom;
 mod groups;

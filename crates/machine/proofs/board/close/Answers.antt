@@ -1,4 +1,4 @@
-use Rattle.std.proofs.Common.{◌≡◌, false, true, arith}
+use Rattle.std.proofs.Common.{arith}
 use Rattle.machine.proofs.Sharing.{all_free_at_last}
 use Rattle.machine.proofs.Returning.{none_lent}
 use Rattle.machine.proofs.board.close.Goals as goal
@@ -8,9 +8,8 @@ end_memory-requires c =
     λ number. none_lent c.loop-number.memory c.loop-number.arena number c.loop-number.invariant.shared
     (λ small. c.loop-number.invariant.taken number (omega arith))
 
-pub unreachable-requires : goal.unreachable-requires
-unreachable-requires c =
-    let all = all_free_at_last c.loop-number.memory c.loop-number.arena c.loop-number.invariant.shared
+pub end_arena-requires : goal.end_arena-requires
+end_arena-requires c =
+    all_free_at_last c.loop-number.memory c.loop-number.arena c.loop-number.invariant.shared
     (λ number. none_lent c.loop-number.memory c.loop-number.arena number c.loop-number.invariant.shared
-    (λ small. c.loop-number.invariant.taken number (omega arith))) in
-    let no : false ≡ true = c.in-Err.ensures.ok.1 all in cc
+    (λ small. c.loop-number.invariant.taken number (omega arith)))

@@ -1,0 +1,104 @@
+//! Snapshots of a machine, and machines that are restored from them.
+
+ghost use Rattle.std.specs.Prelude.{◌≡◌, IfOk};
+ghost use Rattle.machine.specs.Machine.{machine_at};
+
+use crate::board::Board;
+use crate::machine::{Machine, OutOfMemory, Status};
+use crate::processor::Processor;
+use nic_device::{Config, Snapshot};
+use program::Program;
+use std::alloc::Global;
+use std::marker::Model;
+
+/// A machine as plain data: its program, and where it is. It can be dropped.
+#[derive(Drop)]
+pub struct MachineSnapshot {
+    alloc: Global,
+    program: Program,
+    config: Config,
+    device: Snapshot,
+    pc: u16,
+    acc: u32,
+    status: Status,
+    steps: u64,
+}
+
+impl Model for MachineSnapshot {
+    ghost use Rattle.machine.specs.Course.{Course};
+
+    ghost Value = { Course };
+
+    ghost use Rattle.std.specs.Coded.{codes};
+    ghost use Rattle.nic_device.specs.State.{state_code};
+
+    ghost coded = { Prim.hlevel (codes, state_code) };
+
+    ghost use Rattle.machine.specs.Machine.{machine_at};
+    ghost use Rattle.machine.specs.Snapshot.{Holds};
+
+    ghost view = { λ s. record {
+      program = s.program;
+      config = s.config;
+      state = machine_at s.program s.config s.steps;
+    } };
+
+    ghost invariant = { λ s. Holds s.device s.pc s.acc s.status s.steps (machine_at s.program s.config s.steps) };
+}
+
+impl MachineSnapshot {
+    /// How many steps the machine had counted.
+    pub fn steps(&self) -> u64
+        ensures count { result ≡ self.now.state.steps }
+        ensures at { self.now.state ≡ machine_at self.now.program self.now.config result }
+    {
+        self.steps
+    }
+}
+
+impl Machine {
+    /// A snapshot of the machine, which stays as it is.
+    pub fn snapshot(&self) -> Result<MachineSnapshot, OutOfMemory>
+        ensures { IfOk result (λ snapshot. snapshot ≡ self.now) }
+    {
+        let processor = &self.processor;
+        let Ok(program) = self.program.copy(processor.alloc) else {
+            return Err(OutOfMemory);
+        };
+        let device = processor.board.snapshot()?;
+        Ok(MachineSnapshot {
+            alloc: processor.alloc,
+            program,
+            config: self.config,
+            device,
+            pc: processor.pc,
+            acc: processor.acc,
+            status: processor.status,
+            steps: processor.steps,
+        })
+    }
+
+    /// The machine of a snapshot once more, with packet memory of its own.
+    pub fn restore(snapshot: &MachineSnapshot) -> Result<Machine, OutOfMemory>
+        ensures { IfOk result (λ machine. machine ≡ snapshot.now) }
+    {
+        let alloc = snapshot.alloc;
+        let Ok(program) = snapshot.program.copy(alloc) else {
+            return Err(OutOfMemory);
+        };
+        let board = Board::restore(alloc, &snapshot.device)?;
+        let processor = Processor {
+            alloc,
+            board,
+            pc: snapshot.pc,
+            acc: snapshot.acc,
+            status: snapshot.status,
+            steps: snapshot.steps,
+        };
+        Ok(Machine {
+            program,
+            config: snapshot.config,
+            processor,
+        })
+    }
+}

@@ -1,0 +1,124 @@
+-- Ranges of the bus as events: n peeks or pokes in order do what one read or write does.
+use Rattle.std.proofs.Common.{◌≡◌, ℕ, zero, suc, ◌+◌, ◌*◌, ◌%◌, ◌≤◌, true, List, [], ◌∷◌, ◌++◌, length, take, drop, refl, sym, ap, subst, Bool, false, ◌∙◌, arith}
+use Rattle.std.proofs.lemmas.Bool.{and_parts}
+use Rattle.std.proofs.lemmas.List.{length-drop, length-take-le, nil_from_length, take-append-drop}
+use Rattle.rx_ring.specs.DmaArena.Memory.{Memory, is_lent, read_at, write_at}
+use Rattle.rx_ring.proofs.DmaArena.Bus.{SameLent-write_at, is_lent-same}
+use Rattle.rx_ring.proofs.DmaArena.Joined.{is_lent-append, read_at-append, write_at-append}
+use Rattle.nic_device.specs.Bus.{peeks, pokes, bytes_told, PeeksTell, PokesLead}
+use Rattle.nic_device.specs.Lending.{peeked, poked}
+use Rattle.nic_device.specs.Outcome.{Outcome, gives}
+use Rattle.nic_device.specs.Run.{replies_of, state_after}
+use Rattle.nic_device.specs.Sound.{AreBytes, IsSound}
+use Rattle.nic_device.specs.State.{State}
+use Rattle.nic_device.specs.Step.{step_of}
+use Rattle.nic_device.proofs.Blocks.{AreBlocks-write_at}
+use Rattle.nic_device.proofs.Keeping.{sound-memory}
+use Rattle.nic_device.specs.declared.event.Reply.TheVariants.{Bytes, Done}
+
+-- one event
+
+peeked-lent : (s : State) (a : ℕ) → a % 16 ≡ 0 → is_lent s.memory a 16 ≡ true
+    → peeked s a ≡ gives (Bytes (read_at s.memory a 16)) s
+peeked-lent s a aligned lent = rw (aligned, lent) refl
+
+poked-lent : (s : State) (a : ℕ) (bytes : List ℕ) → a % 16 ≡ 0 → is_lent s.memory a 16 ≡ true
+    → poked s a bytes ≡ gives Done (record s { memory = write_at s.memory a bytes })
+poked-lent s a bytes aligned lent = rw (aligned, lent) refl
+
+-- a range of 16 bytes and one behind it
+
+lent_parts : (m : Memory) (a n : ℕ) → is_lent m a (16 * suc n) ≡ true
+    → (is_lent m a 16 ≡ true) × (is_lent m (a + 16) (16 * n) ≡ true)
+lent_parts m a n lent =
+    let split : 16 * suc n ≡ 16 + 16 * n = omega arith in
+    let both : is_lent m a (16 + 16 * n) ≡ true = subst (λ (k : ℕ). is_lent m a k ≡ true) split lent in
+    and_parts (is_lent m a 16) (is_lent m (a + 16) (16 * n)) (sym (is_lent-append m a 16 (16 * n)) ∙ both)
+
+read_at-parts : (m : Memory) (a n : ℕ)
+    → read_at m a 16 ++ read_at m (a + 16) (16 * n) ≡ read_at m a (16 * suc n)
+read_at-parts m a n =
+    let split : 16 + 16 * n ≡ 16 * suc n = omega arith in
+    sym (read_at-append m a 16 (16 * n)) ∙ ap (read_at m a) split
+
+read_at-none : (m : Memory) (a : ℕ) → read_at m a 0 ≡ []
+unfolding read_at
+read_at-none m a = refl
+
+write_at-none : (m : Memory) (a : ℕ) → write_at m a [] ≡ m
+unfolding write_at
+write_at-none m a = refl
+
+-- n peeks
+
+pub peeks_tell : (s : State) (a n : ℕ) → a % 16 ≡ 0 → is_lent s.memory a (16 * n) ≡ true
+    → PeeksTell s a n (read_at s.memory a (16 * n))
+unfolding step_of
+peeks_tell s a zero aligned lent = record { state = refl; told = sym (read_at-none s.memory a) }
+peeks_tell s a (suc n) aligned lent =
+    let parts = lent_parts s.memory a n lent in
+    let rest = peeks_tell s (a + 16) n (omega arith) parts.1 in
+    let first = peeked-lent s a aligned parts.0 in record {
+      state = ap (λ (o : Outcome). state_after o.state (peeks (a + 16) n)) first ∙ rest.state;
+      told = ap (λ (o : Outcome). bytes_told (o.reply ∷ replies_of o.state (peeks (a + 16) n))) first
+          ∙ ap (λ (xs : List ℕ). read_at s.memory a 16 ++ xs) rest.told ∙ read_at-parts s.memory a n;
+    }
+
+-- n pokes
+
+poked_last : (s : State) (a : ℕ) (bytes : List ℕ) → length bytes ≡ 0
+    → s ≡ record s { memory = write_at s.memory a bytes }
+poked_last s a bytes none = rw (nil_from_length bytes none, write_at-none s.memory a) refl
+
+write_at-parts : (m : Memory) (a : ℕ) (bytes : List ℕ) → 16 ≤ length bytes
+    → write_at (write_at m a (take 16 bytes)) (a + 16) (drop 16 bytes) ≡ write_at m a bytes
+write_at-parts m a bytes long =
+    let first : length (take 16 bytes) ≡ 16 = length-take-le 16 bytes long in
+    ap (λ (n : ℕ). write_at (write_at m a (take 16 bytes)) (a + n) (drop 16 bytes)) (sym first)
+    ∙ sym (write_at-append m a (take 16 bytes) (drop 16 bytes))
+    ∙ ap (write_at m a) (take-append-drop 16 bytes)
+
+pub pokes_lead : (s : State) (a n : ℕ) (bytes : List ℕ) → a % 16 ≡ 0 → length bytes ≡ 16 * n
+    → is_lent s.memory a (16 * n) ≡ true
+    → PokesLead s a n bytes (record s { memory = write_at s.memory a bytes })
+unfolding step_of
+pokes_lead s a zero bytes aligned long lent = record { state = poked_last s a bytes long; made = refl }
+pokes_lead s a (suc n) bytes aligned long lent =
+    let m : Memory = write_at s.memory a (take 16 bytes) in
+    let parts = lent_parts s.memory a n lent in
+    let still : is_lent m (a + 16) (16 * n) ≡ true =
+    is_lent-same m s.memory (SameLent-write_at s.memory a (take 16 bytes)) (a + 16) (16 * n) ∙ parts.1 in
+    let left : length (drop 16 bytes) ≡ 16 * n = length-drop 16 bytes ∙ omega arith in
+    let rest = pokes_lead (record s { memory = m }) (a + 16) n (drop 16 bytes) (omega arith) left still in
+    let first = poked-lent s a (take 16 bytes) aligned parts.0 in
+    let joined = write_at-parts s.memory a bytes (omega arith) in record {
+      state = ap (λ (o : Outcome). state_after o.state (pokes (a + 16) (drop 16 bytes) n)) first ∙ rest.state
+          ∙ ap (λ (x : Memory). let t : State = record s { memory = x } in t) joined;
+      made = ap (λ (o : Outcome). o.reply ∷ replies_of o.state (pokes (a + 16) (drop 16 bytes) n)) first
+          ∙ ap (λ rs. Done ∷ rs) rest.made;
+    }
+
+-- what is read and written at once
+
+pub peeks-read : (s : State) (a len n : ℕ) (bytes : List ℕ) → is_lent s.memory a len ≡ true
+    → bytes ≡ read_at s.memory a len → a % 16 ≡ 0 → len ≡ 16 * n → PeeksTell s a n bytes
+peeks-read s a len n bytes lent is aligned long =
+    let all : is_lent s.memory a (16 * n) ≡ true = subst (λ (k : ℕ). is_lent s.memory a k ≡ true) long lent in
+    let read : bytes ≡ read_at s.memory a (16 * n) = is ∙ ap (read_at s.memory a) long in
+    subst (λ (xs : List ℕ). PeeksTell s a n xs) (sym read) (peeks_tell s a n aligned all)
+
+pub pokes-written : (s t : State) (a n : ℕ) (bytes : List ℕ) → is_lent s.memory a (length bytes) ≡ true
+    → t ≡ record s { memory = write_at s.memory a bytes } → a % 16 ≡ 0 → length bytes ≡ 16 * n
+    → PokesLead s a n bytes t
+pokes-written s t a n bytes lent is aligned long =
+    let all : is_lent s.memory a (16 * n) ≡ true = subst (λ (k : ℕ). is_lent s.memory a k ≡ true) long lent in
+    subst (λ (u : State). PokesLead s a n bytes u) (sym is) (pokes_lead s a n bytes aligned long all)
+
+-- what is written at once leaves a device sound
+pub sound-written : (s t : State) (a : ℕ) (bytes : List ℕ) (done : Bool)
+    → (done ≡ true → t ≡ record s { memory = write_at s.memory a bytes }) → (done ≡ false → t ≡ s) → IsSound s
+    → AreBytes bytes → IsSound t
+sound-written s t a bytes true written kept h small =
+    subst IsSound (sym (written refl))
+    (sound-memory s (write_at s.memory a bytes) h (AreBlocks-write_at s.memory a bytes h.blocks small))
+sound-written s t a bytes false written kept h small = subst IsSound (sym (kept refl)) h

@@ -1,0 +1,13 @@
+use Rattle.std.proofs.Common.{◌≤◌, drop, length}
+use Rattle.nic_device.specs.Blocks.{memory_of, TellsTaken}
+use Rattle.nic_device.proofs.copies.Blocks.lowest_taken.Given as goal
+
+-- the copies from one on are looked at
+abbrev pub invariant-each : goal.invariant-each
+invariant-each l = record {
+  inside : l.at ≤ length l.copies.items;
+  told : TellsTaken l.arena (memory_of (drop l.at l.copies.items)) l.lowest;
+}
+
+abbrev pub decreases-each : goal.decreases-each
+decreases-each l = l.at

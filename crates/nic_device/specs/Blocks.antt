@@ -1,0 +1,46 @@
+-- Copies of blocks, and blocks that leave an arena to be lent.
+use Rattle.std.specs.Prelude.{ℕ, ◌≡◌, ◌<◌, ◌≤◌, true, false, List, [], ◌∷◌, length, ⊤, Option, Some, None}
+use Rattle.std.specs.FinMap as map
+use Rattle.rx_ring.specs.DmaArena.Memory.{Memory, has_block}
+use Rattle.rx_ring.specs.DmaArena.Numbers.{Numbers, is_own, is_free}
+
+-- the memory that copies of blocks stand for
+abbrev pub memory_of : List (ℕ × List ℕ) → Memory
+memory_of copies = map.from_entries copies
+
+-- the lowest block is copied first, and the highest last
+abbrev pub AreRising : List (ℕ × List ℕ) → Type 0
+AreRising [] = ⊤
+AreRising (copy ∷ copies) =
+    ((number : ℕ) → has_block (memory_of copies) number ≡ true → copy.0 < number) × AreRising copies
+
+-- each block of the memory is free in the arena
+abbrev pub AreFree : Numbers → Memory → Type 0
+AreFree a m = (number : ℕ) → has_block m number ≡ true → is_free a number ≡ true
+
+-- no block of the memory is free in the arena, but each is one of its own
+abbrev pub AreAway : Numbers → Memory → Type 0
+AreAway a m = (number : ℕ) → has_block m number ≡ true → (is_own a number ≡ true) × (is_free a number ≡ false)
+
+-- the lowest block of the memory that isn't free in the arena
+pub record IsLowestTaken (a : Numbers) (m : Memory) (block : ℕ) : Type 0 where
+  pub lent : has_block m block ≡ true
+  pub taken : is_free a block ≡ false
+  pub lowest : (number : ℕ) → number < block → has_block m number ≡ true → is_free a number ≡ true
+
+-- which block that is, where there is one
+abbrev pub TellsTaken : Numbers → Memory → Option ℕ → Type 0
+TellsTaken a m None = AreFree a m
+TellsTaken a m (Some block) = IsLowestTaken a m block
+
+-- the blocks of the memory have left the arena, where each was free; the others are as they were
+pub record HaveLeft (before after : Numbers) (m : Memory) : Type 0 where
+  pub first : after.first ≡ before.first
+  pub count : length after.free ≡ length before.free
+  pub lent : (number : ℕ) → has_block m number ≡ true → (is_free before number ≡ true) × (is_free after number ≡ false)
+  pub others : (number : ℕ) → has_block m number ≡ false → is_free after number ≡ is_free before number
+
+-- one memory has the other's blocks from a number on, and none below it
+pub record IsFrom (whole part : Memory) (start : ℕ) : Type 0 where
+  pub below : (number : ℕ) → number < start → map.get part number ≡ None
+  pub above : (number : ℕ) → start ≤ number → map.get part number ≡ map.get whole number

@@ -1,0 +1,35 @@
+-- Ranges of the bus, and the events that read and write them 16 bytes at a time.
+use Rattle.std.specs.Prelude.{ℕ, zero, suc, ◌≡◌, ◌+◌, List, [], ◌∷◌, ◌++◌, take, drop, replicate}
+use Rattle.rx_ring.specs.DmaArena.Block.{Block}
+use Rattle.nic_device.specs.Run.{replies_of, state_after}
+use Rattle.nic_device.specs.State.{State}
+use Rattle.nic_device.specs.declared.event.Event.{Event}
+use Rattle.nic_device.specs.declared.event.Event.TheVariants as event
+use Rattle.nic_device.specs.declared.event.Reply.{Reply}
+use Rattle.nic_device.specs.declared.event.Reply.TheVariants as reply
+
+-- n peeks from an address on, 16 bytes apart
+abbrev pub peeks : ℕ → ℕ → List (Event Block)
+peeks a zero = []
+peeks a (suc n) = event.Peek16 a ∷ peeks (a + 16) n
+
+-- n pokes from an address on, 16 bytes apart, each with the next 16 of the bytes
+abbrev pub pokes : ℕ → List ℕ → ℕ → List (Event Block)
+pokes a bytes zero = []
+pokes a bytes (suc n) = event.Poke16 a (take 16 bytes) ∷ pokes (a + 16) (drop 16 bytes) n
+
+-- the bytes that replies tell, one after another
+abbrev pub bytes_told : List (Reply Block) → List ℕ
+bytes_told [] = []
+bytes_told (reply.Bytes bytes ∷ replies) = bytes ++ bytes_told replies
+bytes_told (other ∷ replies) = bytes_told replies
+
+-- n peeks in order change nothing, and tell these bytes
+pub record PeeksTell (s : State) (a n : ℕ) (bytes : List ℕ) : Type 0 where
+  pub state : state_after s (peeks a n) ≡ s
+  pub told : bytes_told (replies_of s (peeks a n)) ≡ bytes
+
+-- n pokes of these bytes in order are all made, and lead to this state
+pub record PokesLead (s : State) (a n : ℕ) (bytes : List ℕ) (t : State) : Type 0 where
+  pub state : state_after s (pokes a bytes n) ≡ t
+  pub made : replies_of s (pokes a bytes n) ≡ replicate n reply.Done

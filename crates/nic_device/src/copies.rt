@@ -1,0 +1,183 @@
+//! Copies of lent blocks, and memory that is lent again with the bytes of the copies.
+
+ghost use Rattle.std.specs.Prelude.{◌≡◌, ◌<◌, ◌≤◌, ℕ, true, false, length, Some, None, IfOk, OnOk, OnErr};
+ghost use Rattle.std.specs.FinMap as map;
+ghost use Rattle.rx_ring.specs.DmaArena.Memory.{Memory, has_block, IsWhole};
+ghost use Rattle.rx_ring.specs.DmaArena.Numbers.{Numbers, is_free, is_own, with_free};
+ghost use Rattle.nic_device.specs.Blocks.{AreFree, AreAway, TellsTaken, HaveLeft, memory_of, AreRising};
+
+use rx_ring::{Arena, BLOCK_BYTES, BLOCK_NUMBERS, Buf, LendRefused, LentMemory, Octets};
+use std::alloc::{AllocError, Global};
+use std::collections::VecDeque;
+use std::marker::Model;
+
+/// Copies of blocks by their numbers, the lowest first. Contracts see them as the memory that they stand for.
+#[derive(Drop)]
+pub(crate) struct Blocks {
+    copies: Vec<(u32, Octets)>,
+}
+
+impl Model for Blocks {
+    ghost use Rattle.std.specs.Coded.{coded_ℕ, coded_list};
+    ghost use Rattle.std.specs.FinMap as map;
+    ghost use Rattle.rx_ring.specs.DmaArena.Memory.{Memory};
+    ghost use Rattle.nic_device.specs.Blocks.{memory_of, AreRising};
+
+    ghost Value = { Memory };
+
+    ghost coded = { map.code coded_ℕ (coded_list coded_ℕ) };
+
+    ghost view = { λ b. memory_of b.copies.items };
+
+    ghost invariant = { λ b. AreRising b.copies.items };
+}
+
+impl Blocks {
+    /// Copies of all blocks that are lent.
+    pub(crate) fn copied(alloc: Global, memory: &LentMemory) -> Result<Blocks, AllocError>
+        requires { IsWhole memory.now }
+        ensures { IfOk result (λ blocks. blocks ≡ memory.now) }
+    {
+        let mut copies = VecDeque::new(alloc);
+        let mut number = BLOCK_NUMBERS;
+        'each: while number > 0 {
+            number -= 1;
+            if let Some(bytes) = copy_of(alloc, memory, number)? {
+                copies.push_front((number, bytes))?;
+            }
+        }
+        Ok(Blocks {
+            copies: copies.into_vec(),
+        })
+    }
+
+    /// The lowest of the blocks that isn't free in the arena. `None` where all are free.
+    pub(crate) fn lowest_taken(&self, arena: &Arena) -> Option<u32>
+        ensures { TellsTaken arena.now self.now result }
+    {
+        let copies = &self.copies;
+        let mut lowest = None;
+        let mut at = copies.len();
+        'each: while at > 0 {
+            at -= 1;
+            let number = copies[at].0;
+            if !arena.is_free(number) {
+                lowest = Some(number);
+            }
+        }
+        lowest
+    }
+
+    /// Takes blocks of these numbers out of the arena, where all are free, and lends them with the copied bytes.
+    /// Without memory for that the arena is as it was.
+    pub(crate) fn lent(&self, alloc: Global, arena: &mut Arena) -> Result<LentMemory, AllocError>
+        requires free { AreFree arena.old self.now }
+        requires whole { IsWhole self.now }
+        ensures lent { IfOk result (λ memory. memory ≡ self.now) }
+        ensures left { OnOk result (HaveLeft arena.old arena.new self.now) }
+        ensures kept { OnErr result (arena.new ≡ arena.old) }
+    {
+        let mut memory = LentMemory::new(alloc);
+        match lend_all(&self.copies, arena, &mut memory) {
+            Ok(()) => Ok(memory),
+            Err(error) => {
+                give_all_back(memory, arena);
+                Err(error)
+            }
+        }
+    }
+}
+
+/// A copy of a lent block. `None` where no block of the number is lent.
+fn copy_of(alloc: Global, memory: &LentMemory, number: u32) -> Result<Option<Octets>, AllocError>
+    ensures { IfOk result (λ copy. copy ≡ map.get memory.now number) }
+{
+    let bus = u64::from(number) * 2048;
+    if !memory.is_lent(bus, BLOCK_BYTES) {
+        return Ok(None);
+    }
+    let mut bytes = [0; BLOCK_BYTES];
+    memory.read_at(bus, &mut bytes);
+    let copy = Vec::from_slice(alloc, &bytes)?;
+    Ok(Some(Octets::of(copy)))
+}
+
+/// Lends a block of the arena for each of the copies, the highest first.
+fn lend_all(
+    copies: &[(u32, Octets)],
+    arena: &mut Arena,
+    memory: &mut LentMemory,
+) -> Result<(), AllocError>
+    requires rising { AreRising copies.now }
+    requires free { AreFree arena.old (memory_of copies.now) }
+    requires whole { IsWhole (memory_of copies.now) }
+    requires empty { memory.old ≡ map.empty }
+    ensures lent { OnOk result (memory.new ≡ memory_of copies.now) }
+    ensures left { HaveLeft arena.old arena.new memory.new }
+{
+    let mut at = copies.len();
+    'each: while at > 0 {
+        at -= 1;
+        let (number, bytes) = &copies[at];
+        lend_copy(arena, memory, *number, bytes)?;
+    }
+    Ok(())
+}
+
+/// Lends a block that is free in the arena, with these bytes.
+fn lend_copy(
+    arena: &mut Arena,
+    memory: &mut LentMemory,
+    number: u32,
+    bytes: &Octets,
+) -> Result<(), AllocError>
+    requires free { is_free arena.old number ≡ true }
+    requires apart { has_block memory.old number ≡ false }
+    requires whole { length bytes.now ≡ 2048 }
+    ensures lent { OnOk result (memory.new ≡ map.insert memory.old number bytes.now) }
+    ensures left { OnOk result (arena.new ≡ with_free arena.old number false) }
+    ensures unlent { OnErr result (memory.new ≡ memory.old) }
+    ensures kept { OnErr result (arena.new ≡ arena.old) }
+{
+    let Some(mut buf) = arena.take_at(number) else {
+        unreachable!()
+    };
+    buf.put(0, bytes.bytes());
+    match memory.lend(buf) {
+        Ok(()) => Ok(()),
+        Err(LendRefused::Twice(_buf)) => unreachable!(),
+        Err(LendRefused::OutOfMemory(buf)) => {
+            give_back(arena, buf);
+            Err(AllocError)
+        }
+    }
+}
+
+/// Gives a block back to the arena that it was taken from.
+fn give_back(arena: &mut Arena, buf: Buf)
+    requires own { is_own arena.old buf.number ≡ true }
+    requires away { is_free arena.old buf.number ≡ false }
+    ensures { arena.new ≡ with_free arena.old buf.number true }
+{
+    match arena.give(buf) {
+        Ok(()) => {}
+        Err(_buf) => unreachable!(),
+    }
+}
+
+/// Ends lent memory, and gives all of its blocks back to the arena that they were taken from.
+fn give_all_back(mut memory: LentMemory, arena: &mut Arena)
+    requires { AreAway arena.old memory }
+    ensures { (before : Numbers) → HaveLeft before arena.old memory → arena.new ≡ before }
+{
+    'each: while let Some(number) = memory.lowest() {
+        match memory.take(number) {
+            Some(buf) => give_back(arena, buf),
+            None => unreachable!(),
+        }
+    }
+    match memory.finish() {
+        Ok(()) => {}
+        Err(_memory) => unreachable!(),
+    }
+}

@@ -1,0 +1,213 @@
+//! A device without packet memory, as plain data.
+
+ghost use Rattle.std.specs.Prelude.{◌≡◌, ◌++◌, length, IfOk, OnOk};
+ghost use Rattle.std.specs.FinMap as map;
+
+use crate::config::Config;
+use crate::engine::Engine;
+use crate::waiting::Waiting;
+use eeprom_image::Image;
+use register_file::RegisterFile;
+use rx_ring::{LentMemory, Octets};
+use std::alloc::{AllocError, Global};
+use std::collections::VecDeque;
+use std::marker::Model;
+use tx_ring::Staged;
+
+/// All of a device but its packet memory. Contracts see it as a state in which no block is lent.
+#[derive(Drop)]
+pub(crate) struct Rest {
+    registers: Box<RegisterFile>,
+    waiting: VecDeque<Waiting>,
+    staged: Vec<Staged>,
+    out: VecDeque<(u8, Octets)>,
+    link: bool,
+    image: Image,
+    config: Config,
+    pub(crate) alloc: Global,
+}
+
+impl Model for Rest {
+    ghost use Rattle.std.specs.Prelude.{◌≡◌, length};
+    ghost use Rattle.std.specs.FinMap as map;
+    ghost use Rattle.nic_device.specs.State.{State, state_code};
+
+    ghost Value = { State };
+
+    ghost coded = { state_code };
+
+    ghost view = { λ d. record {
+      registers = d.registers.value;
+      memory = map.empty;
+      waiting = d.waiting.items;
+      staged = d.staged.items;
+      out = d.out.items;
+      link = d.link;
+      image = d.image;
+      vfs = d.config.vfs;
+      fifo = d.config.fifo;
+    } };
+
+    ghost invariant = { λ d. length d.staged.items ≡ 128 };
+}
+
+impl Engine {
+    /// A copy of all but the packet memory.
+    pub(crate) fn rest(&self) -> Result<Rest, AllocError>
+        ensures { IfOk result (λ rest. rest ≡ record self.now { memory = map.empty }) }
+    {
+        let alloc = self.alloc;
+        let registers = copied_registers(alloc, &self.registers)?;
+        let waiting = copied_waiting(alloc, &self.waiting)?;
+        let staged = copied_staged(alloc, &self.staged)?;
+        let out = copied_out(alloc, &self.out)?;
+        let image = self.image.copy()?;
+        Ok(Rest {
+            registers,
+            waiting,
+            staged,
+            out,
+            link: self.link,
+            image,
+            config: self.config,
+            alloc,
+        })
+    }
+}
+
+impl Rest {
+    /// The same once more.
+    pub(crate) fn copy(&self) -> Result<Rest, AllocError>
+        ensures { IfOk result (λ rest. rest ≡ self.now) }
+    {
+        let alloc = self.alloc;
+        let registers = copied_registers(alloc, &self.registers)?;
+        let waiting = copied_waiting(alloc, &self.waiting)?;
+        let staged = copied_staged(alloc, &self.staged)?;
+        let out = copied_out(alloc, &self.out)?;
+        let image = self.image.copy()?;
+        Ok(Rest {
+            registers,
+            waiting,
+            staged,
+            out,
+            link: self.link,
+            image,
+            config: self.config,
+            alloc,
+        })
+    }
+
+    /// The device with this memory lent to it.
+    pub(crate) fn with_memory(self, memory: LentMemory) -> Engine
+        ensures { result ≡ record self { memory = memory } }
+    {
+        let Rest {
+            registers,
+            waiting,
+            staged,
+            out,
+            link,
+            image,
+            config,
+            alloc,
+        } = self;
+        Engine {
+            registers,
+            memory,
+            waiting,
+            staged,
+            out,
+            link,
+            image,
+            config,
+            alloc,
+        }
+    }
+}
+
+/// A copy of the registers.
+fn copied_registers(
+    alloc: Global,
+    registers: &RegisterFile,
+) -> Result<Box<RegisterFile>, AllocError>
+    ensures { IfOk result (λ copy. copy.value ≡ registers.now) }
+{
+    let copy = Box::new(alloc, registers.copy()).map_err(AllocError::from)?;
+    Ok(copy)
+}
+
+/// A copy of the bytes.
+fn copied_bytes(alloc: Global, bytes: &Octets) -> Result<Octets, AllocError>
+    ensures { IfOk result (λ copy. copy ≡ bytes.now) }
+{
+    let copy = Vec::from_slice(alloc, bytes.bytes())?;
+    Ok(Octets::of(copy))
+}
+
+/// Copies of the frames that wait.
+fn copied_waiting(
+    alloc: Global,
+    waiting: &VecDeque<Waiting>,
+) -> Result<VecDeque<Waiting>, AllocError>
+    ensures { IfOk result (λ copies. copies.items ≡ waiting.now.items) }
+{
+    let (front, back) = waiting.as_slices();
+    let mut copies = Vec::new(alloc);
+    add_waiting(&mut copies, alloc, front)?;
+    add_waiting(&mut copies, alloc, back)?;
+    Ok(VecDeque::from_vec(copies))
+}
+
+/// Adds copies of frames that wait.
+fn add_waiting(
+    copies: &mut Vec<Waiting>,
+    alloc: Global,
+    waiting: &[Waiting],
+) -> Result<(), AllocError>
+    ensures { OnOk result (copies.new.items ≡ copies.old.items ++ waiting.now) }
+{
+    for frame in waiting {
+        copies.push(frame.copy(alloc)?)?;
+    }
+    Ok(())
+}
+
+/// Copies of the staged bytes of each queue.
+fn copied_staged(alloc: Global, staged: &[Staged]) -> Result<Vec<Staged>, AllocError>
+    ensures { IfOk result (λ copies. copies.items ≡ staged.now) }
+{
+    let mut copies = Vec::with_capacity(alloc, staged.len())?;
+    for bytes in staged {
+        copies.push(bytes.copy(alloc)?)?;
+    }
+    Ok(copies)
+}
+
+/// Copies of the frames that went out.
+fn copied_out(
+    alloc: Global,
+    out: &VecDeque<(u8, Octets)>,
+) -> Result<VecDeque<(u8, Octets)>, AllocError>
+    ensures { IfOk result (λ copies. copies.items ≡ out.now.items) }
+{
+    let (front, back) = out.as_slices();
+    let mut copies = Vec::new(alloc);
+    add_out(&mut copies, alloc, front)?;
+    add_out(&mut copies, alloc, back)?;
+    Ok(VecDeque::from_vec(copies))
+}
+
+/// Adds copies of frames that went out.
+fn add_out(
+    copies: &mut Vec<(u8, Octets)>,
+    alloc: Global,
+    out: &[(u8, Octets)],
+) -> Result<(), AllocError>
+    ensures { OnOk result (copies.new.items ≡ copies.old.items ++ out.now) }
+{
+    for (queue, frame) in out {
+        copies.push((*queue, copied_bytes(alloc, frame)?))?;
+    }
+    Ok(())
+}

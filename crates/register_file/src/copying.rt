@@ -1,0 +1,36 @@
+//! Copies of the registers.
+
+ghost use Rattle.std.specs.Prelude.{◌≡◌};
+
+use crate::register_file::RegisterFile;
+use rss_hash::HashKey;
+
+impl RegisterFile {
+    /// The same registers once more, with the enables that were asked for and what messages told.
+    pub fn copy(&self) -> RegisterFile
+        ensures { result ≡ self.now }
+    {
+        RegisterFile {
+            settings: self.settings,
+            groups: self.groups.copy(),
+            receive: self.receive,
+            transmit: self.transmit,
+            counters: self.counters,
+            tables: self.tables,
+            key: copied(&self.key),
+        }
+    }
+}
+
+/// The same key once more.
+fn copied(key: &HashKey) -> HashKey
+    ensures { result ≡ key.now }
+{
+    let words: &[u32] = key.words();
+    prove!(words.len() == 10);
+    let mut copy = HashKey::zero();
+    for index in 0..10 {
+        copy.set_word(index, words[index]);
+    }
+    copy
+}

@@ -1,19 +1,9 @@
-/* The same register table in C: addresses are looked up by binary search, accesses go by the kind of the row, and the hash is
-   taken bit by bit. Its table is written by benchmarks/run from tools/register_table.py. Prints a line for each measure: its
-   name, how many things, and the nanoseconds. */
-#include <stdint.h>
-#include <stdio.h>
+/* The same register table in C: addresses are looked up by binary search, accesses go by the kind of the row, and the
+   hash is taken bit by bit, and by windows of the key made beforehand. Its table is written by benchmarks/run from
+   tools/register_table.py. Prints a line for each measure: its name, how many things, and the nanoseconds. */
 #include <string.h>
-#include <time.h>
 
-enum kind { RW, RO, CALC, RC, CAUSE, ONES, SET, CLEAR, HELD, ENABLE, CTRL, VRESET, EERD };
-
-struct entry {
-    uint32_t address, mask, view;
-    uint16_t cell, target, enable;
-    uint8_t kind;
-};
-
+#include "measure.h"
 #include "same_table.h"
 
 static uint32_t cells[CELLS], wanted[CELLS];
@@ -122,45 +112,40 @@ __attribute__((noinline)) static uint32_t hash(const uint8_t *key, const uint8_t
     return result;
 }
 
-static uint64_t now(void)
+static uint32_t windows[288];
+
+static void make_windows(const uint8_t *key)
 {
-    struct timespec t;
-    clock_gettime(CLOCK_MONOTONIC, &t);
-    return (uint64_t)t.tv_sec * 1000000000u + t.tv_nsec;
+    for (unsigned k = 0; k < 288; k++) {
+        uint64_t bits = 0;
+        for (unsigned j = 0; j < 5; j++)
+            bits = bits << 8 | key[k / 8 + j];
+        windows[k] = (uint32_t)(bits >> (8 - k % 8));
+    }
 }
 
-static volatile uint32_t sink;
-
-#define MEASURE(name, things, rounds, work)                                                     \
-    do {                                                                                        \
-        uint64_t began = now();                                                                 \
-        for (unsigned round = 0; round < (rounds); round++) {                                   \
-            work;                                                                               \
-        }                                                                                       \
-        printf("%s %llu %llu\n", name, (unsigned long long)(things) * (rounds),                 \
-               (unsigned long long)(now() - began));                                            \
-    } while (0)
+__attribute__((noinline)) static uint32_t hash_by_windows(const uint8_t *input, unsigned length)
+{
+    uint32_t result = 0;
+    for (unsigned i = 0; i < length; i++)
+        for (unsigned bit = 0; bit < 8; bit++)
+            result ^= windows[8 * i + bit] & -(uint32_t)(input[i] >> (7 - bit) & 1);
+    return result;
+}
 
 int main(void)
 {
-    uint32_t seed = 2463534242u, sum = 0;
+    uint32_t sum = 0;
     uint8_t key[40], input[36];
     for (uint32_t i = 0; i < ENTRIES; i++)
         order[i] = table[i].address;
-    for (uint32_t i = ENTRIES - 1; i > 0; i--) {
-        seed ^= seed << 13;
-        seed ^= seed >> 17;
-        seed ^= seed << 5;
-        uint32_t j = seed % (i + 1), other = order[i];
-        order[i] = order[j];
-        order[j] = other;
-    }
+    shuffle(order, ENTRIES);
     for (int i = 0; i < 40; i++)
         key[i] = (uint8_t)(i * 37 + 11);
     for (int i = 0; i < 36; i++)
         input[i] = (uint8_t)(i * 91 + 5);
     MEASURE("read", ENTRIES, 2000, for (int i = 0; i < ENTRIES; i++) sum ^= read_register(order[i]));
-    MEASURE("write", ENTRIES, 2000, for (int i = 0; i < ENTRIES; i++) sum += write_register(order[i], 0x5a5a0050));
+    MEASURE("write", ENTRIES, 2000, for (int i = 0; i < ENTRIES; i++) sum += write_register(order[i], WORD));
     MEASURE("tails", 256, 20000, for (uint32_t q = 0; q < 64; q++) {
         sum += write_register(0x01018 + 0x40 * q, q);
         sum ^= read_register(0x01018 + 0x40 * q);
@@ -169,6 +154,11 @@ int main(void)
     });
     MEASURE("hash12", 1, 2000000, sum ^= hash(key, input, 12); input[round % 12]++);
     MEASURE("hash36", 1, 1000000, sum ^= hash(key, input, 36); input[round % 36]++);
+    make_windows(key);
+    if (hash_by_windows(input, 36) != hash(key, input, 36))
+        return 1;
+    MEASURE("windows12", 1, 2000000, sum ^= hash_by_windows(input, 12); input[round % 12]++);
+    MEASURE("windows36", 1, 1000000, sum ^= hash_by_windows(input, 36); input[round % 36]++);
     sink = sum;
     return 0;
 }

@@ -17,7 +17,7 @@ ROOT = Path(__file__).resolve().parent.parent
 PROMISES = ROOT / "docs/PROMISES.md"
 
 IMPL = re.compile(r"impl(?:<[^>]*>)? (?:[\w:<>', ]+ for )?(\w+)")
-FUNCTION = re.compile(r"( *)(pub(?:\([a-z]+\))? )?(?:const )?fn (\w+)")
+FUNCTION = re.compile(r"( *)(pub(?:\([a-z]+\))? )?(?:const )?(?:extern \"C\" )?fn (\w+)")
 CLAUSE = re.compile(r" *ensures\*? (\w+) \{")
 GHOST_ITEM = re.compile(r"    ghost (\w+) = \{")
 TYPE = re.compile(r"pub (?:struct|enum|trait) (\w+)")

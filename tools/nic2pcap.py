@@ -11,11 +11,14 @@ frame isn't one, or the file can't be written.
 
 import argparse
 import re
-import struct
 import sys
+from pathlib import Path
+
+sys.dont_write_bytecode = True
+sys.path.append(str(Path(__file__).resolve().parent.parent / "python"))
+from nic82599_pcap import HEADER, record_of  # noqa: E402
 
 FRAME = re.compile(r"(\d+) frame queue (\d+) ((?:[0-9a-f]{2})*)")
-HEADER = struct.pack("<IHHiIII", 0xA1B2C3D4, 2, 4, 0, 0, 0xFFFF, 1)
 
 
 class NoFrame(Exception):
@@ -31,10 +34,6 @@ def frames_in(lines):
             if not found:
                 raise NoFrame(f"no line of a frame: {line[:60]}")
             yield int(found[1]), int(found[2]), bytes.fromhex(found[3])
-
-
-def record_of(number, frame):
-    return struct.pack("<IIII", number // 1_000_000, number % 1_000_000, len(frame), len(frame)) + frame
 
 
 def main():

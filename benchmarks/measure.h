@@ -1,0 +1,39 @@
+/* What the measuring programs in C have in common: the clock, a pack of addresses that is shuffled, and the lines that
+   they print, each the name of a measure, how many things, and the nanoseconds. */
+#include <stdint.h>
+#include <stdio.h>
+#include <time.h>
+
+/* What is written to registers: it asks for no reset and lets the device make its steps. */
+#define WORD 0x5a5a0050u
+
+static uint64_t now(void)
+{
+    struct timespec t;
+    clock_gettime(CLOCK_MONOTONIC, &t);
+    return (uint64_t)t.tv_sec * 1000000000u + (uint64_t)t.tv_nsec;
+}
+
+static void shuffle(uint32_t *order, uint32_t count)
+{
+    uint32_t seed = 2463534242u;
+    for (uint32_t i = count - 1; i > 0; i--) {
+        seed ^= seed << 13;
+        seed ^= seed >> 17;
+        seed ^= seed << 5;
+        uint32_t j = seed % (i + 1), other = order[i];
+        order[i] = order[j];
+        order[j] = other;
+    }
+}
+
+static volatile uint32_t sink;
+
+#define MEASURE(name, things, rounds, work)                                                                             \
+    do {                                                                                                                \
+        uint64_t began = now();                                                                                         \
+        for (unsigned round = 0; round < (rounds); round++) {                                                           \
+            work;                                                                                                       \
+        }                                                                                                               \
+        printf("%s %llu %llu\n", name, (unsigned long long)(things) * (rounds), (unsigned long long)(now() - began));   \
+    } while (0)

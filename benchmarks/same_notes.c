@@ -1,0 +1,66 @@
+/* The least that the driver's notes cost, in C: a frame's calls, and its bytes as often as notes and records keep them, are
+   written to memory that is touched for the first time. Prints a line for each measure: its name, how many frames, and the
+   nanoseconds. */
+#include <stdlib.h>
+#include <string.h>
+#include <sys/mman.h>
+
+#include "measure.h"
+
+/* as in driver_frames.rt.in */
+enum { RUNS = 50, FRAMES = 2000 };
+/* the calls of a frame: four device steps before each of twelve events */
+enum { CALLS = 60 };
+/* the bytes of a call, and of an entry of the history */
+enum { CALL = 80, ENTRY = 88 };
+/* the notes of a frame with its bytes: it arrives, is taken, lent, taken and collected; and its two records */
+enum { NOTES = 5, RECORDS = 2 };
+
+static uint8_t frame[2048], call[ENTRY];
+
+static uint8_t *put(uint8_t *at, const uint8_t *bytes, size_t count)
+{
+    memcpy(at, bytes, count);
+    return at + count;
+}
+
+/* one frame's calls, in one list or, under the lock, in two, and its bytes */
+__attribute__((noinline)) static uint8_t *note(uint8_t *at, size_t length, int locked)
+{
+    for (int i = 0; i < CALLS; i++) {
+        call[i] ^= (uint8_t)length;
+        at = put(at, call, CALL);
+        if (locked)
+            at = put(at, call, ENTRY);
+    }
+    for (int i = 0; i < NOTES * (1 + locked) + RECORDS; i++)
+        at = put(at, frame, length);
+    return at;
+}
+
+static void measure(const char *name, size_t length, int locked)
+{
+    size_t size = FRAMES * (CALLS * (size_t)(CALL + locked * ENTRY) + (NOTES * (1 + locked) + RECORDS) * length);
+    uint64_t took = 0;
+    for (int run = 0; run < RUNS; run++) {
+        uint8_t *fresh = mmap(NULL, size, PROT_READ | PROT_WRITE, MAP_PRIVATE | MAP_ANONYMOUS, -1, 0), *at = fresh;
+        if (fresh == MAP_FAILED)
+            exit(1);
+        uint64_t began = now();
+        for (int i = 0; i < FRAMES; i++)
+            at = note(at, length, locked);
+        took += now() - began;
+        munmap(fresh, size);
+    }
+    printf("%s %d %llu\n", name, RUNS * FRAMES, (unsigned long long)took);
+}
+
+int main(void)
+{
+    memset(frame, 0x42, sizeof frame);
+    measure("driven60", 60, 0);
+    measure("locked60", 60, 1);
+    measure("driven1514", 1514, 0);
+    measure("locked1514", 1514, 1);
+    return 0;
+}

@@ -1,0 +1,260 @@
+//! Events of a device in hand, and a run of several.
+
+use crate::outcome::{done, none, put, some};
+use crate::sums::{START, end_device, with, with_device, with_event};
+use crate::trial::{Trial, tried};
+use nic_device::{Arena, Config, Device, Dir, Event, Octets, OutOfMemory, Port, Reply, RunStop};
+use std::alloc::Global;
+use std::process::Abort;
+use std::sync::Wait;
+
+/// Registers, by address and word, that let frames in and give queue 0 a ring of eight slots for each direction: one in
+/// the first bytes of block 0, the other from its byte 1,024 on. Slot 0 of each is the device's.
+#[rattlefmt::skip]
+const WRITES: [(u32, u32); 11] = [
+    (0x03000, 1),            // RXCTRL
+    (0x05080, 0x700),        // FCTRL
+    (0x01008, 128),          // RDLEN
+    (0x01014, 0x0200_0002),  // SRRCTL
+    (0x01028, 0x0200_0000),  // RXDCTL
+    (0x01018, 1),            // RDT
+    (0x04A80, 0x8100_0001),  // DMATXCTL
+    (0x06000, 0x400),        // TDBAL
+    (0x06008, 128),          // TDLEN
+    (0x06028, 0x0200_0000),  // TXDCTL
+    (0x06018, 1),            // TDT
+];
+
+/// Names block 1.
+const POSTED: [u8; 16] = [0, 8, 0, 0, 0, 0, 0, 0, 0, 0, 0, 0, 0, 0, 0, 0];
+
+/// Names a frame of 60 bytes in block 2, which is told of.
+const OUTGOING: [u8; 16] = [0, 16, 0, 0, 0, 0, 0, 0, 60, 0, 0x30, 0x2B, 0, 0, 15, 0];
+
+/// A frame of 60 bytes.
+pub fn frame<R: Abort>(rt: &R, alloc: Global) -> Octets {
+    let mut bytes = Vec::new(alloc);
+    for number in 0..60u8 {
+        bytes.push(number).expect(rt, "memory");
+    }
+    Octets::of(bytes)
+}
+
+/// Makes an event that the device just does.
+fn make<R: Abort>(rt: &R, device: &mut Device, event: Event) {
+    match done(rt, device.step(event)) {
+        Reply::Done => {}
+        _other => panic!(rt; "not done"),
+    }
+}
+
+/// A device whose queue 0 is ready, to which the blocks 0 to 2 of an arena are lent, and the arena.
+pub fn ready<R: Abort>(rt: &R, alloc: Global) -> (Device, Arena) {
+    let mut device = done(rt, Device::new(alloc, Config { vfs: 0, fifo: 64 }));
+    let mut arena = done(rt, Arena::new(alloc, 0, 24));
+    for block in 0..3 {
+        make(rt, &mut device, Event::Lend(some(rt, arena.take_at(block))));
+    }
+    make(rt, &mut device, Event::Poke16(0, POSTED));
+    make(rt, &mut device, Event::Poke16(0x400, OUTGOING));
+    for (address, word) in WRITES {
+        make(rt, &mut device, Event::Write(Port::Pf, address, word));
+    }
+    make(rt, &mut device, Event::QueueStep(Dir::Rx, 0));
+    make(rt, &mut device, Event::QueueStep(Dir::Tx, 0));
+    (device, arena)
+}
+
+/// A block with bytes, to be lent.
+pub fn to_lend<R: Abort>(rt: &R, arena: &mut Arena) -> Event {
+    let mut buf = some(rt, arena.take_at(3));
+    buf.bytes_mut()[100] = 0xA5;
+    Event::Lend(buf)
+}
+
+/// What an event was answered with, as a number.
+pub fn number_of<R: Abort>(rt: &R, reply: Reply) -> u64 {
+    match reply {
+        Reply::Done => 1,
+        Reply::Idle => 2,
+        Reply::Word(word) => with(3, u64::from(word)),
+        Reply::Sent { queue: _, len, .. } => with(4, len as u64),
+        Reply::Wrote { queue: _, len, .. } => with(5, len as u64),
+        _other => panic!(rt; "another reply"),
+    }
+}
+
+/// An event that a device is to make.
+struct Stepping {
+    device: Device,
+    arena: Arena,
+    event: Option<Event>,
+    sum: u64,
+}
+
+impl Stepping {
+    /// One on a device that is ready for it, to which fifteen blocks are lent: as many as the map of lent blocks has room
+    /// for in one node. A block is lent where there is no event.
+    fn new<R: Abort>(rt: &R, alloc: Global, event: Option<Event>) -> Stepping {
+        let (mut device, mut arena) = ready(rt, alloc);
+        for block in 4..16 {
+            make(rt, &mut device, Event::Lend(some(rt, arena.take_at(block))));
+        }
+        let event = match event {
+            Some(event) => event,
+            None => to_lend(rt, &mut arena),
+        };
+        Stepping {
+            device,
+            arena,
+            event: Some(event),
+            sum: START,
+        }
+    }
+}
+
+impl Trial for Stepping {
+    fn call<R: Abort + Wait>(&mut self, rt: &R, _alloc: Global) -> bool {
+        match self.device.step(some(rt, self.event.take())) {
+            Ok(reply) => {
+                self.sum = with(self.sum, number_of(rt, reply));
+                true
+            }
+            Err(OutOfMemory { event }) => {
+                put(rt, &mut self.event, event);
+                false
+            }
+        }
+    }
+
+    fn picture<R: Abort>(&mut self, rt: &R) -> u64 {
+        with_device(rt, with_event(self.sum, &self.event), &mut self.device)
+    }
+
+    fn end<R: Abort + Wait>(self, rt: &R, _alloc: Global) -> u64 {
+        let Stepping {
+            mut device,
+            arena,
+            event,
+            mut sum,
+        } = self;
+        none(rt, event);
+        for _step in 0..2 {
+            sum = with(sum, number_of(rt, done(rt, device.step(Event::RxStep))));
+        }
+        end_device(rt, sum, device, arena)
+    }
+}
+
+#[test]
+fn a_block_is_lent_to_a_device(rt: HostRuntime) {
+    let alloc = rt.alloc();
+    tried(
+        &rt,
+        alloc,
+        Stepping::new(&rt, alloc, None),
+        Stepping::new(&rt, alloc, None),
+    );
+}
+
+#[test]
+fn a_frame_arrives(rt: HostRuntime) {
+    let alloc = rt.alloc();
+    let subject = Stepping::new(&rt, alloc, Some(Event::Arrive(frame(&rt, alloc))));
+    let calm = Stepping::new(&rt, alloc, Some(Event::Arrive(frame(&rt, alloc))));
+    tried(&rt, alloc, subject, calm);
+}
+
+#[test]
+fn a_frame_is_sent(rt: HostRuntime) {
+    let alloc = rt.alloc();
+    let subject = Stepping::new(&rt, alloc, Some(Event::TxStep(0)));
+    let calm = Stepping::new(&rt, alloc, Some(Event::TxStep(0)));
+    tried(&rt, alloc, subject, calm);
+}
+
+/// Events that a device is to run. Those made before the refused one stay made.
+struct Running {
+    device: Device,
+    arena: Arena,
+    events: Option<Vec<Event>>,
+    sum: u64,
+}
+
+impl Running {
+    /// A block is lent, a frame arrives and is written, one is sent, and a register is read.
+    fn new<R: Abort>(rt: &R, alloc: Global) -> Running {
+        let (device, mut arena) = ready(rt, alloc);
+        let list = [
+            to_lend(rt, &mut arena),
+            Event::Arrive(frame(rt, alloc)),
+            Event::RxStep,
+            Event::TxStep(0),
+            Event::Read(Port::Pf, 0x04074),
+        ];
+        let events = match Vec::from_array(alloc, list) {
+            Ok(events) => events,
+            Err(_refused) => panic!(rt; "memory"),
+        };
+        Running {
+            device,
+            arena,
+            events: Some(events),
+            sum: START,
+        }
+    }
+
+    /// Puts replies behind those before.
+    fn note<R: Abort>(&mut self, rt: &R, replies: Vec<Reply>) {
+        let mut replies = replies;
+        replies.reverse();
+        for _reply in 0..replies.len() {
+            let reply = some(rt, replies.pop());
+            self.sum = with(self.sum, number_of(rt, reply));
+        }
+        assert!(rt; replies.is_empty());
+        replies.destroy_empty();
+    }
+}
+
+impl Trial for Running {
+    fn call<R: Abort + Wait>(&mut self, rt: &R, alloc: Global) -> bool {
+        match self.device.run(alloc, some(rt, self.events.take())) {
+            Ok(replies) => {
+                self.note(rt, replies);
+                true
+            }
+            Err(RunStop { replies, rest }) => {
+                self.note(rt, replies);
+                put(rt, &mut self.events, rest);
+                false
+            }
+        }
+    }
+
+    fn picture<R: Abort>(&mut self, _rt: &R) -> u64 {
+        0
+    }
+
+    fn end<R: Abort + Wait>(self, rt: &R, _alloc: Global) -> u64 {
+        let Running {
+            device,
+            arena,
+            events,
+            sum,
+        } = self;
+        none(rt, events);
+        end_device(rt, sum, device, arena)
+    }
+}
+
+#[test]
+fn a_list_of_events_is_run(rt: HostRuntime) {
+    let alloc = rt.alloc();
+    tried(
+        &rt,
+        alloc,
+        Running::new(&rt, alloc),
+        Running::new(&rt, alloc),
+    );
+}

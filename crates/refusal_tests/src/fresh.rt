@@ -1,0 +1,184 @@
+//! Calls that make something anew, and change nothing else.
+
+use crate::outcome::done;
+use crate::sums::{START, end_arena, with, with_bytes, with_device};
+use crate::trial::{Trial, tried};
+use dma_arena::ArenaFault;
+use nic_device::{
+    Arena, AsmFault, Config, Device, Image, LoadFault, NewFault, Parts, assemble as image_of, load,
+};
+use std::alloc::Global;
+use std::process::Abort;
+use std::sync::Wait;
+
+/// An image with a word and a register write.
+const EEPROM: &str = "size 128\nword 0 5\ncsr 0x05080 0x00000400\n";
+
+/// What is made.
+#[derive(Clone, Copy)]
+enum Kind {
+    Arena,
+    Blank,
+    Image,
+    Load,
+    ImageBytes,
+    Device,
+}
+
+/// A call, what it is made of, and a number that shows what it made.
+struct Fresh {
+    kind: Kind,
+    image: Image,
+    sum: u64,
+}
+
+/// The file of a blank image.
+fn blank_file() -> [u8; 128] {
+    let mut file = [0xFF; 128];
+    file[0x7E] = 0xF9;
+    file[0x7F] = 0xBA;
+    file
+}
+
+fn sum_of_image(image: &Image) -> u64 {
+    let mut sum = START;
+    for word in image.words() {
+        sum = with(sum, u64::from(*word));
+    }
+    sum
+}
+
+fn sum_of_device<R: Abort>(rt: &R, device: Device) -> u64 {
+    let mut device = device;
+    let sum = with_device(rt, START, &mut device);
+    let Parts {
+        memory,
+        frames: _,
+        image: _,
+    } = device.dismantle();
+    done(rt, memory.finish());
+    sum
+}
+
+/// Two blocks.
+fn arena<R: Abort>(rt: &R, alloc: Global) -> Option<u64> {
+    match Arena::new(alloc, 4, 2) {
+        Ok(arena) => Some(end_arena(rt, START, arena)),
+        Err(ArenaFault::OutOfMemory) => None,
+        Err(ArenaFault::Empty | ArenaFault::TooMany) => panic!(rt; "another refusal"),
+    }
+}
+
+/// A device of two functions.
+fn device<R: Abort>(rt: &R, alloc: Global) -> Option<u64> {
+    match Device::new(alloc, Config { vfs: 2, fifo: 64 }) {
+        Ok(device) => Some(sum_of_device(rt, device)),
+        Err(NewFault::OutOfMemory) => None,
+        Err(NewFault::TooManyVfs | NewFault::Fifo) => panic!(rt; "another refusal"),
+    }
+}
+
+/// An image that a text means.
+fn assembled_image<R: Abort>(rt: &R, alloc: Global) -> Option<u64> {
+    match image_of(alloc, EEPROM) {
+        Ok(image) => Some(sum_of_image(&image)),
+        Err(AsmFault::OutOfMemory) => None,
+        Err(_fault) => panic!(rt; "another refusal"),
+    }
+}
+
+/// An image that a file has.
+fn loaded_image<R: Abort>(rt: &R, alloc: Global) -> Option<u64> {
+    match load(alloc, &blank_file()) {
+        Ok(image) => Some(sum_of_image(&image)),
+        Err(LoadFault::OutOfMemory) => None,
+        Err(_fault) => panic!(rt; "another refusal"),
+    }
+}
+
+impl Fresh {
+    fn new<R: Abort>(rt: &R, alloc: Global, kind: Kind) -> Fresh {
+        Fresh {
+            kind,
+            image: done(rt, image_of(alloc, EEPROM)),
+            sum: 0,
+        }
+    }
+
+    /// A sum of what the call makes; none where it was refused for want of memory.
+    fn make<R: Abort>(&self, rt: &R, alloc: Global) -> Option<u64> {
+        match self.kind {
+            Kind::Arena => arena(rt, alloc),
+            Kind::Blank => Some(sum_of_image(&Image::blank(alloc).ok()?)),
+            Kind::Image => assembled_image(rt, alloc),
+            Kind::Load => loaded_image(rt, alloc),
+            Kind::Device => device(rt, alloc),
+            Kind::ImageBytes => Some(with_bytes(START, &self.image.to_bytes(alloc).ok()?)),
+        }
+    }
+}
+
+impl Trial for Fresh {
+    fn call<R: Abort + Wait>(&mut self, rt: &R, alloc: Global) -> bool {
+        match self.make(rt, alloc) {
+            Some(sum) => {
+                self.sum = sum;
+                true
+            }
+            None => false,
+        }
+    }
+
+    fn picture<R: Abort>(&mut self, _rt: &R) -> u64 {
+        sum_of_image(&self.image)
+    }
+
+    fn end<R: Abort + Wait>(self, _rt: &R, _alloc: Global) -> u64 {
+        let Fresh {
+            kind: _,
+            image,
+            sum,
+        } = self;
+        sum ^ sum_of_image(&image)
+    }
+}
+
+/// Makes something of a kind.
+fn made<R: Abort + Wait + Print>(rt: &R, alloc: Global, kind: Kind) {
+    tried(
+        rt,
+        alloc,
+        Fresh::new(rt, alloc, kind),
+        Fresh::new(rt, alloc, kind),
+    );
+}
+
+#[test]
+fn a_new_arena(rt: HostRuntime) {
+    made(&rt, rt.alloc(), Kind::Arena);
+}
+
+#[test]
+fn a_blank_image(rt: HostRuntime) {
+    made(&rt, rt.alloc(), Kind::Blank);
+}
+
+#[test]
+fn an_assembled_image(rt: HostRuntime) {
+    made(&rt, rt.alloc(), Kind::Image);
+}
+
+#[test]
+fn a_loaded_image(rt: HostRuntime) {
+    made(&rt, rt.alloc(), Kind::Load);
+}
+
+#[test]
+fn the_bytes_of_an_image(rt: HostRuntime) {
+    made(&rt, rt.alloc(), Kind::ImageBytes);
+}
+
+#[test]
+fn a_new_device(rt: HostRuntime) {
+    made(&rt, rt.alloc(), Kind::Device);
+}

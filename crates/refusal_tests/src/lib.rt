@@ -1,0 +1,20 @@
+//! Want of memory: each call that may be refused for it, with one of its growths refused.
+//!
+//! A test makes one call, in front of which it prints `call` and behind it `end`. Where the call was refused it sees
+//! that nothing changed and that what was moved in is back, and makes it again: then all ends as it does where nothing
+//! was refused. By itself no growth is refused here; `tools/refusals` runs each test once for each growth of its call,
+//! which is refused then.
+#![tactic(auto)]
+
+#[cfg(test)]
+mod arenas;
+#[cfg(test)]
+mod devices;
+#[cfg(test)]
+mod fresh;
+#[cfg(test)]
+mod outcome;
+#[cfg(test)]
+mod sums;
+#[cfg(test)]
+mod trial;

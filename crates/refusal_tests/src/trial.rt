@@ -1,0 +1,36 @@
+//! The way of one call whose growths are refused.
+
+use std::alloc::Global;
+use std::process::Abort;
+use std::sync::Wait;
+
+/// A call with all that it needs.
+pub trait Trial {
+    /// Makes the call. False where it was refused for want of memory: then what was moved in is back here.
+    fn call<R: Abort + Wait>(&mut self, rt: &R, alloc: Global) -> bool;
+
+    /// A number that shows what a refused call leaves as it was, with what is moved in.
+    fn picture<R: Abort>(&mut self, rt: &R) -> u64;
+
+    /// Ends all, and gives a number that shows what it was.
+    fn end<R: Abort + Wait>(self, rt: &R, alloc: Global) -> u64;
+}
+
+/// Makes a call that may be refused for want of memory, and sees that all ends as for one, set up alike, that isn't.
+pub fn tried<R: Abort + Wait + Print, T: Trial>(rt: &R, alloc: Global, subject: T, calm: T) {
+    let (mut subject, mut calm) = (subject, calm);
+    let before = subject.picture(rt);
+    let _told = println!(rt; "call");
+    let made = subject.call(rt, alloc);
+    let _told = println!(rt; "end");
+    if !made {
+        assert!(rt;
+            subject.picture(rt) == before,
+            "a refused call changed something"
+        );
+        assert!(rt; subject.call(rt, alloc), "with memory the call is refused");
+    }
+    assert!(rt; calm.call(rt, alloc), "the call is refused");
+    let (ends, wanted) = (subject.end(rt, alloc), calm.end(rt, alloc));
+    assert!(rt; ends == wanted, "it ends otherwise");
+}

@@ -62,6 +62,14 @@ impl Image {
         Ok(Image { words })
     }
 
+    /// The same image once more.
+    pub fn copy(&self) -> Result<Image, AllocError>
+        ensures { IfOk result (λ image. image ≡ self.now) }
+    {
+        let words = Vec::from_slice(*self.words.allocator(), &self.words)?;
+        Ok(Image { words })
+    }
+
     /// The words, which are those of an image.
     pub fn words(&self) -> &[u16]
         ensures words { result.now ≡ self.now }

@@ -1,4 +1,4 @@
-ghost use Rattle.std.specs.Prelude.{◌≡◌, ◌+◌, ◌<◌, ◌≤◌, ◌^◌, if◌then◌else◌, [], ◌++◌, length, replicate, Some, None, IsTrue, OnOk, OnErr};
+ghost use Rattle.std.specs.Prelude.{◌≡◌, ◌+◌, ◌<◌, ◌≤◌, ◌^◌, if◌then◌else◌, [], ◌++◌, length, replicate, Some, None, IsTrue, IfOk, OnOk, OnErr};
 ghost use Rattle.dma_arena.specs.Memory.{is_lent, put_bytes, read_at};
 
 use dma_arena::{LentMemory, Octets};
@@ -28,6 +28,14 @@ impl Staged {
         Staged {
             bytes: Vec::new(alloc),
         }
+    }
+
+    /// The same bytes once more.
+    pub fn copy(&self, alloc: Global) -> Result<Staged, AllocError>
+        ensures { IfOk result (λ staged. staged ≡ self.now) }
+    {
+        let bytes = Vec::from_slice(alloc, &self.bytes)?;
+        Ok(Staged { bytes })
     }
 
     /// The bytes, in order.

@@ -88,6 +88,17 @@ module _ {A : Type 0} where
       let e : (first + k) - first ≡ k = omega arith in
       rw (e, h) (grind (arith, common_steps))
 
+-- a place of an arena is a number of it
+
+pub is_free-at : (a : Numbers) (k : ℕ) → get_or a.free k false ≡ true → is_free a (a.first + k) ≡ true
+is_free-at a k h =
+    let e : (a.first + k) - a.first ≡ k = omega arith in
+    rw (e, h) (grind (arith, common_steps))
+
+pub with_free-at : (a : Numbers) (block at : ℕ) (free : Bool) → a.first + at ≡ block
+    → (record { first = a.first; free = set a.free at free }) ≡ with_free a block free
+with_free-at a block at free place = let e : block - a.first ≡ at = omega arith in rw e refl
+
 -- laws of the numbers of an arena
 
 and_false : (x : Bool) → (x && false) ≡ false

@@ -1,6 +1,7 @@
 pub mod Block
 pub mod Laws
 pub mod LendRefused
+pub mod Links
 pub mod Loan
 pub mod Memory
 pub mod Numbers

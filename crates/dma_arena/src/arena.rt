@@ -1,10 +1,10 @@
-ghost use Rattle.std.specs.Prelude.{◌≡◌, ◌+◌, ◌-◌, ◌<◌, ◌≤◌, ◌↔◌, true, false, length, map, is_some, replicate, slice_index_or, position, IsTrue, IfOk, IfErr, IsOk, OnOk, OnErr, IfSome, IfNone, OnSome, IsNone};
-ghost use Rattle.std.specs.List.{list_all};
+ghost use Rattle.std.specs.Prelude.{◌≡◌, ◌+◌, ◌-◌, ◌<◌, ◌≤◌, ◌↔◌, true, false, length, is_some, slice_index_or, IsTrue, IfOk, IfErr, IsOk, OnOk, OnErr, IfSome, IfNone, OnSome, IsNone};
 ghost use Rattle.dma_arena.specs.Block.{zero_block};
 ghost use Rattle.dma_arena.specs.Numbers.{count_of, free_count, is_own, is_free, are_all_free, all_free, with_free, numbers_below, numbers_from, IsArena, IsInside};
 
-use crate::buf::{Buf, RawBlock, make};
-use std::alloc::{AllocError, Global};
+use crate::buf::Buf;
+use crate::free_list::FreeList;
+use std::alloc::Global;
 use std::marker::Model;
 
 /// How many block numbers there are: every number is below this.
@@ -16,18 +16,17 @@ pub const BLOCK_NUMBERS: u32 = 65536;
 /// dropped: it is closed in the end, once all of its blocks are free.
 pub struct Arena {
     first: u16,
-    slots: Vec<Option<RawBlock>>,
+    list: FreeList,
 }
 
 impl Model for Arena {
-    ghost use Rattle.std.specs.Prelude.{map, is_some};
     ghost use Rattle.dma_arena.specs.Numbers.{Numbers, IsArena};
 
     ghost Value = { Numbers };
 
-    ghost view = { λ a. record { first = a.first; free = map is_some a.slots.items } };
+    ghost view = { λ a. record { first = a.first; free = a.list } };
 
-    ghost invariant = { λ a. IsArena (record { first = a.first; free = map is_some a.slots.items }) };
+    ghost invariant = { λ a. IsArena (record { first = a.first; free = a.list }) };
 }
 
 /// Why there is no arena of these numbers.
@@ -77,10 +76,10 @@ impl Arena {
         if first > BLOCK_NUMBERS || count > BLOCK_NUMBERS - first {
             return Err(ArenaFault::TooMany);
         }
-        match free_slots(alloc, count as usize) {
-            Ok(slots) => Ok(Arena {
+        match FreeList::full(alloc, count as usize) {
+            Ok(list) => Ok(Arena {
                 first: first as u16,
-                slots,
+                list,
             }),
             Err(_) => Err(ArenaFault::OutOfMemory),
         }
@@ -97,7 +96,7 @@ impl Arena {
     pub fn count(&self) -> u32
         ensures { result ≡ count_of self.now }
     {
-        self.slots.len() as u32
+        self.list.len() as u32
     }
 
     /// Whether the block number is one of this arena's.
@@ -113,7 +112,7 @@ impl Arena {
         ensures { result ≡ is_free self.now block }
     {
         match self.place(block) {
-            Some(at) => self.slots[at].is_some(),
+            Some(at) => self.list.is_free(at),
             None => false,
         }
     }
@@ -122,7 +121,7 @@ impl Arena {
     pub fn free_blocks(&self) -> u32
         ensures { result ≡ free_count self.now }
     {
-        self.slots.iter().filter(|slot| slot.is_some()).count() as u32
+        self.list.count_free()
     }
 
     /// Takes some free block, of whose bytes each is 0. None exactly when none is free.
@@ -135,7 +134,7 @@ impl Arena {
         ensures taken { IfSome result (λ b. self.new ≡ with_free self.old b.number false) }
         ensures kept { IfNone result (self.new ≡ self.old) }
     {
-        let number = self.lowest_free()?;
+        let number = self.first_free()?;
         self.take_at(number)
     }
 
@@ -148,8 +147,10 @@ impl Arena {
         ensures kept { IfNone result (self.new ≡ self.old) }
     {
         let at = self.place(block)?;
-        let memory = self.slots[at].take()?;
-        Some(Buf::cleared(block as u16, memory))
+        if !self.list.is_free(at) {
+            return None;
+        }
+        Some(Buf::cleared(block as u16, self.list.take(at as u32)))
     }
 
     /// Takes a block back, which is free here from then on. A block whose number is none of
@@ -161,12 +162,9 @@ impl Arena {
         ensures kept { OnErr result (self.new ≡ self.old) }
     {
         match self.place(buf.block()) {
-            Some(at) if self.slots[at].is_none() => {
-                let former = self.slots[at].replace(buf.into_memory());
-                match former {
-                    None => Ok(()),
-                    Some(_) => unreachable!(),
-                }
+            Some(at) if !self.list.is_free(at) => {
+                self.list.put(at as u32, buf.into_memory());
+                Ok(())
             }
             _ => Err(buf),
         }
@@ -209,8 +207,8 @@ impl Arena {
         if !self.are_all_free() {
             return Err(self);
         }
-        let Arena { first: _, slots } = self;
-        free_all(slots);
+        let Arena { first: _, list } = self;
+        list.free_all();
         Ok(())
     }
 
@@ -228,31 +226,31 @@ impl Arena {
             return None;
         }
         let at = (block - first) as usize;
-        if at < self.slots.len() {
+        if at < self.list.len() {
             Some(at)
         } else {
             None
         }
     }
 
-    /// The lowest number that is free.
-    fn lowest_free(&self) -> Option<u32>
+    /// The number of the first block in the list of the free ones.
+    fn first_free(&self) -> Option<u32>
         ensures free { IfSome result (λ number. IsTrue (is_free self.now number)) }
         ensures none { IfNone result (free_count self.now ≡ 0) }
     {
-        let place = first_free(&self.slots)?;
-        Some(u32::from(self.first) + place as u32)
+        let place = self.list.first()?;
+        Some(u32::from(self.first) + place)
     }
 
     /// Whether no block is in use.
     fn are_all_free(&self) -> bool
         ensures { result ≡ are_all_free self.now }
     {
-        all_are_free(&self.slots)
+        self.list.all_free()
     }
 
-    /// Parts the list of slots.
-    fn split_at(mut self, place: usize) -> Result<(Arena, Arena), SplitRefused>
+    /// Parts the list of blocks.
+    fn split_at(self, place: usize) -> Result<(Arena, Arena), SplitRefused>
         requires free { IsTrue (are_all_free self) }
         requires inside { (0 < place) × (place < count_of self) }
         ensures below { IfOk result (λ p. p.0 ≡ all_free self.first place) }
@@ -260,57 +258,22 @@ impl Arena {
         ensures fault { IfErr result (λ r. r.fault ≡ SplitFault.OutOfMemory) }
         ensures back { IfErr result (λ r. r.arena ≡ self) }
     {
-        match self.slots.split_off(place) {
-            Ok(slots) => {
-                let first = self.first + place as u16;
-                Ok((self, Arena { first, slots }))
+        let Arena { first, list } = self;
+        match list.split(place) {
+            Ok((below, above)) => {
+                let start = first + place as u16;
+                Ok((
+                    Arena { first, list: below },
+                    Arena {
+                        first: start,
+                        list: above,
+                    },
+                ))
             }
-            Err(_) => Err(SplitRefused {
+            Err(list) => Err(SplitRefused {
                 fault: SplitFault::OutOfMemory,
-                arena: self,
+                arena: Arena { first, list },
             }),
         }
     }
-}
-
-/// The first slot with a free block.
-fn first_free(slots: &[Option<RawBlock>]) -> Option<usize>
-    ensures { result ≡ position (λ slot. is_some slot) slots.now }
-{
-    slots.iter().position(|slot| slot.is_some())
-}
-
-/// Whether each slot has a free block.
-fn all_are_free(slots: &[Option<RawBlock>]) -> bool
-    ensures { result ≡ list_all (λ slot. is_some slot) slots.now }
-{
-    slots.iter().all(|slot| slot.is_some())
-}
-
-/// The memory of `count` free blocks.
-fn free_slots(alloc: Global, count: usize) -> Result<Vec<Option<RawBlock>>, AllocError>
-    ensures { IfOk result (λ slots. map is_some slots.items ≡ replicate count true) }
-{
-    let mut slots = Vec::with_capacity(alloc, count)?;
-    for _made in 0..count {
-        let Ok(memory) = make(alloc) else {
-            free_all(slots);
-            return Err(AllocError);
-        };
-        match slots.push(Some(memory)) {
-            Ok(()) => {}
-            Err(_) => unreachable!(),
-        }
-    }
-    Ok(slots)
-}
-
-/// Frees the blocks of the slots, one by one.
-fn free_all(mut slots: Vec<Option<RawBlock>>) {
-    while let Some(slot) = slots.pop() {
-        if let Some(memory) = slot {
-            memory.free();
-        }
-    }
-    slots.destroy_empty();
 }

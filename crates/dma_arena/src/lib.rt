@@ -12,8 +12,10 @@
 
 mod arena;
 mod buf;
+mod free_list;
 pub mod laws;
 mod lent;
+mod links;
 mod octets;
 mod ranges;
 mod raw;

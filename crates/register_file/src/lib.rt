@@ -39,6 +39,6 @@ pub use intr_unit::Group;
 pub use owner::{Owner, owner_of};
 pub use reg_table::{Bank, Place, RowId, addr_of, bank_of, place_of, resolve};
 pub use register_file::RegisterFile;
-pub use rss_hash::{Input, Key, QueueMode, choose, classify, entry, hash};
+pub use rss_hash::{Input, Key, QueueMode, choose, choose_bytes, classify, entry, hash};
 pub use surroundings::Surroundings;
 pub use vf_map::{Located, MAX_VFS, Mode, QUEUES, has_queue, locate, mode_of, pool_of, queues_of};

@@ -1,4 +1,4 @@
-ghost use Rattle.std.specs.Prelude.{◌≡◌, []};
+ghost use Rattle.std.specs.Prelude.{◌≡◌, ◌≤◌, [], length, take};
 ghost use Rattle.rss_hash.specs.Choice.{code_of, is_enabled, first_enabled, rss_type_of, hashed_part};
 
 use crate::flow::Flow;
@@ -76,14 +76,34 @@ pub fn choose(mrqc: u32, flow: &Flow) -> (u8, Input)
     ensures input { result.1 ≡ hashed_part (rss_type_of mrqc flow.now) flow.now.input }
     ensures nothing { result.0 ≡ 0 → result.1 ≡ [] }
 {
+    let (rss_type, bytes) = choose_bytes(mrqc, flow);
+    (rss_type, Input::empty().with(bytes))
+}
+
+/// The same, with the bytes that are hashed as they lie in the flow, 36 at most.
+pub fn choose_bytes(mrqc: u32, flow: &Flow) -> (u8, &[u8])
+    ensures rss_type { result.0 ≡ code_of (rss_type_of mrqc flow.now) }
+    ensures bytes { result.1.now ≡ hashed_part (rss_type_of mrqc flow.now) flow.now.input }
+    ensures fits { length result.1.now ≤ 36 }
+    ensures nothing { result.0 ≡ 0 → result.1.now ≡ [] }
+{
     let rss_type = RssType::of(mrqc, flow);
-    let input = match rss_type {
-        RssType::NoHash => Input::empty(),
-        RssType::Ipv4 => flow.input.first(IPV4_ADDRESSES),
-        RssType::Ipv6 => flow.input.first(IPV6_ADDRESSES),
-        RssType::TcpIpv4 | RssType::UdpIpv4 | RssType::TcpIpv6 | RssType::UdpIpv6 => flow.input,
+    let input = flow.input.as_slice();
+    let bytes = match rss_type {
+        RssType::NoHash => &input[..0],
+        RssType::Ipv4 => first(input, IPV4_ADDRESSES),
+        RssType::Ipv6 => first(input, IPV6_ADDRESSES),
+        RssType::TcpIpv4 | RssType::UdpIpv4 | RssType::TcpIpv6 | RssType::UdpIpv6 => input,
     };
-    (rss_type.code(), input)
+    (rss_type.code(), bytes)
+}
+
+/// The first `len` bytes, or all where there are fewer.
+fn first(bytes: &[u8], len: usize) -> &[u8]
+    ensures value { result.now ≡ take len bytes.now }
+    ensures fits { length result.now ≤ length bytes.now }
+{
+    &bytes[..len.min(bytes.len())]
 }
 
 /// The lengths of two addresses in bytes.

@@ -1,4 +1,4 @@
-ghost use Rattle.std.specs.Prelude.{◌≡◌, ◌+◌, ◌≤◌, [], ◌++◌, length, take};
+ghost use Rattle.std.specs.Prelude.{◌≡◌, ◌+◌, ◌≤◌, [], ◌++◌, length};
 
 use std::marker::Model;
 
@@ -49,14 +49,6 @@ impl Input {
         self.bytes[start..end].copy_from_slice(more);
         self.len = end;
         self
-    }
-
-    /// The first `len` bytes, or all where there are fewer.
-    pub(crate) fn first(&self, len: usize) -> Input
-        ensures { result ≡ take len self.now }
-    {
-        let bytes = self.as_slice();
-        Input::empty().with(&bytes[..len.min(bytes.len())])
     }
 
     /// The bytes that are hashed, 36 at most.

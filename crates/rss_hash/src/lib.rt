@@ -16,7 +16,7 @@ mod redirection;
 mod tables;
 mod toeplitz;
 
-pub use choice::{RssType, choose};
+pub use choice::{RssType, choose, choose_bytes};
 pub use flow::{Flow, classify, tagged_frames_are_no_flow};
 pub use hash_key::HashKey;
 pub use input::Input;

@@ -6,7 +6,9 @@ ghost use Rattle.rss_hash.specs.Tables.{joined, tables_of, high_share, low_share
 
 use crate::key::Key;
 
-/// Fills in the tables for a key in ten registers: row n has what each value of half byte n adds.
+/// Fills in the tables for a key in ten registers: row n has what each value of half byte n adds. It stays a call, so
+/// that writes of other registers don't carry it.
+#[inline(never)]
 pub(crate) fn fill_tables(tables: &mut [[u32; 16]; 72], words: &[u32; 10])
     ensures { tables.new ≡ tables_of words.now }
 {

@@ -1,13 +1,12 @@
 //! The queue that a frame is for, and its hash.
 
 ghost use Rattle.std.specs.Prelude.{◌≡◌, ◌<◌, ◌==◌, IfOk, IsTrue, if◌then◌else◌};
-ghost use Rattle.register_file.specs.RegTable.declared.rows.RowId.TheVariants.{Mrqc, Reta, Rssrk, Rxcsum};
+ghost use Rattle.register_file.specs.RegTable.declared.rows.RowId.TheVariants.{Mrqc, Reta, Rxcsum};
 ghost use Rattle.register_file.specs.Bits.{has_bit};
 ghost use Rattle.register_file.specs.Registers.{word_of};
 ghost use Rattle.register_file.specs.Words.{row_words};
 ghost use Rattle.register_file.specs.RssHash.Mrqc.{queue_mode_of};
-ghost use Rattle.register_file.specs.RssHash.Registers.{bytes_of_registers, entry_of};
-ghost use Rattle.register_file.specs.RssHash.Toeplitz.{toeplitz_hash};
+ghost use Rattle.register_file.specs.RssHash.Registers.{entry_of};
 ghost use Rattle.rx_filter.specs.Pools.{has_queues};
 ghost use Rattle.rx_filter.specs.Sorting.{queue_of, target_of, sorted};
 
@@ -16,7 +15,7 @@ use crate::fields::{PCSD, has_bit};
 use crate::pools::chosen_pool;
 use crate::target::Target;
 use crate::unwanted::Unwanted;
-use register_file::{Input, QueueMode, RegisterFile, RowId, choose, classify, entry};
+use register_file::{QueueMode, RegisterFile, RowId, choose_bytes, classify, entry};
 
 /// Where a frame goes, given without its frame check sequence, or why it goes nowhere; any bytes will do, and bytes
 /// that a frame doesn't have read as 0. `Filter` where its destination isn't let in, then `NoPool` where there is no
@@ -44,21 +43,15 @@ fn target(registers: &RegisterFile, frame: &[u8], pool: u16) -> Target
     ensures small { (result.queue < 128) × (result.rss < 16) }
 {
     let mrqc = registers.word(RowId::Mrqc, 0);
-    let (rss, input) = choose(mrqc, &classify(frame));
-    let hash = hash_of(registers, &input);
+    let flow = classify(frame);
+    let (rss, input) = choose_bytes(mrqc, &flow);
+    let hash = registers.hash(input);
     let entry = entry_at(registers, rss, hash);
     Target {
         queue: queue(QueueMode::of(mrqc), pool, entry),
         rss,
         hash: told(registers, hash),
     }
-}
-
-/// The hash of an input, with the key of RSSRK.
-fn hash_of(registers: &RegisterFile, input: &Input) -> u32
-    ensures { result ≡ toeplitz_hash (bytes_of_registers (row_words registers.now.words Rssrk)) input.now }
-{
-    registers.hash(input.as_slice())
 }
 
 /// The entry of RETA that a hash selects, and 0 for a frame of type 0.

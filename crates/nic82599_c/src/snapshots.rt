@@ -42,13 +42,11 @@ pub extern "C" fn nic_restore(alloc: Global, nic: &mut Handle, kept: &mut KeptHa
     ensures unchanged { result ≡ OUT_OF_MEMORY → nic.new.card ≡ nic.old.card }
     ensures kept { kept.new.kept ≡ kept.old.kept }
 {
-    match kept.lend().card(alloc) {
-        Ok(card) => {
-            drop(mem::replace(nic.lend(), card));
-            DONE
-        }
-        Err(_) => OUT_OF_MEMORY,
-    }
+    let Ok(card) = kept.lend().card(alloc) else {
+        return OUT_OF_MEMORY;
+    };
+    drop(mem::replace(nic.lend(), card));
+    DONE
 }
 
 /// Ends what is kept, and gives its memory back.

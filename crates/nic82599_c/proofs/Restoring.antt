@@ -1,6 +1,6 @@
 -- A card's blocks beside a device that is kept or restored.
 use Rattle.std.proofs.Common.{◌≡◌, refl, sym, subst, ◌∙◌, ap, ℕ, ◌+◌, ◌-◌, ◌<◌, ◌≤◌, Bool, true, false, not, List, length, map, get_or, arith}
-use Rattle.std.specs.Prelude.{range_with_len}
+use Rattle.std.specs.List.{range_with_len}
 use Rattle.std.proofs.lemmas.List.{ext_get_or, length-replicate}
 use Rattle.std.proofs.lemmas.List.FromFn.{get_or-map-range_with_len, length-map-range_with_len}
 use Rattle.nic_device.specs.Blocks.{HaveLeft, IsLowestTaken}

@@ -1,5 +1,6 @@
 -- A card that is kept as plain data: which of its blocks are free follows from which are lent.
-use Rattle.std.specs.Prelude.{ℕ, not, map, range_with_len}
+use Rattle.std.specs.Prelude.{ℕ, not, map}
+use Rattle.std.specs.List.{range_with_len}
 use Rattle.nic_device.specs.DmaArena.Memory.{Memory, has_block}
 use Rattle.nic_device.specs.DmaArena.Numbers.{Numbers}
 

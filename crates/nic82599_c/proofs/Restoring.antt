@@ -26,7 +26,7 @@ free-beside : (m : Memory) (a : Numbers) → AreShared m a
 free-beside m a h =
     ext_get_or false a.free _ (sym (length-map-range_with_len (λ n. not (has_block m n)) 0 (length a.free)))
     (λ i small. slot-shared m a i h small
-    ∙ sym (get_or-map-range_with_len (λ n. not (has_block m n)) 0 (length a.free) i i false small refl))
+    ∙ sym (get_or-map-range_with_len (λ n. not (has_block m n)) 0 (length a.free) i i false small (omega arith)))
 
 pub beside-is : (m : Memory) (a : Numbers) → AreShared m a → blocks_beside (count_of a) m ≡ a
 beside-is m a h =

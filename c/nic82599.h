@@ -34,6 +34,12 @@ typedef struct nic {
     void *device;
 } nic;
 
+/* A snapshot of a controller. `kept` is null before nic_snapshot and after nic_drop_snapshot, and never looked into. A
+   copy of the struct is the same snapshot, so only one of them is dropped. */
+typedef struct nic_kept {
+    void *kept;
+} nic_kept;
+
 /* What a call answers, as uint8_t. */
 enum nic_status {
     /* the device's replies; NOT_LENT, NO_QUEUE and NO_GROUP refuse, and nothing is changed */
@@ -140,6 +146,25 @@ uint8_t nic_new(uint8_t vfs, uint16_t fifo, uint32_t blocks, void **device);
 /* Ends a controller, with its memory and its frames. It must be one that nic_new made and nic_free didn't end. */
 void nic_free(nic n);
 
+/* --- snapshots --- */
+
+/* Keeps the controller as it is: registers, lent blocks with their bytes, frames that wait to be received, bytes that
+   are staged to be sent, frames that went out and weren't collected, the link, the EEPROM's image, and which blocks are
+   in hand. That is all that a controller has: one that is restored answers every call as this one would from here on.
+   The controller stays as it is. DONE, and *kept is the snapshot, which nic_drop_snapshot ends; OUT_OF_MEMORY, and
+   *kept is as it was. A snapshot takes 2,048 bytes for each lent block, and none for the others. */
+uint8_t nic_snapshot(nic *n, nic_kept *kept);
+
+/* Makes a controller what was kept: the same one, later, or any other, whose blocks and virtual functions become those
+   of the snapshot. DONE, and what the controller was is gone; OUT_OF_MEMORY, and it is as it was. Either way the
+   snapshot stays, and is restored as often as it is wanted. For its time the call has both controllers' memory. As a
+   handle, a snapshot is given to one call at a time. */
+uint8_t nic_restore(nic *n, const nic_kept *kept);
+
+/* Ends a snapshot, which must be one that nic_snapshot made and that wasn't ended. No controller minds.
+   nic_drop_snapshot, below, is the same with a pointer, and may be called again. */
+void nic_free_snapshot(nic_kept kept);
+
 /* --- registers --- */
 
 /* Reads and writes a register of the physical function by its address, with all effects of a read. DONE with the word,
@@ -233,6 +258,14 @@ static inline void nic_close(nic *n)
     if (n->device)
         nic_free(*n);
     n->device = NULL;
+}
+
+/* nic_free_snapshot with a pointer; of a snapshot that is null it does nothing. */
+static inline void nic_drop_snapshot(nic_kept *kept)
+{
+    if (kept->kept)
+        nic_free_snapshot(*kept);
+    kept->kept = NULL;
 }
 
 /* The word that a driver sees, whatever the status. */

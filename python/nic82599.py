@@ -35,8 +35,8 @@ from nic82599_regs import FIELDS, OFFSETS, REGISTERS
 __all__ = [
     "Advanced", "BadBlocks", "BadFifo", "Closed", "Done", "Dropped", "Event", "Fault", "Frame", "Function",
     "ImageRefused", "LibraryMissing", "Memory", "Message", "Nic", "NicError", "NoBlock", "NoCapture", "NoGroup",
-    "NoQueue", "NoSuchRegister", "NotLent", "OutOfMemory", "Sent", "Stray", "TextRefused", "TooLong", "TooManyVfs",
-    "Word", "Wrote", "address_of", "fields_of", "offset_of", "read_pcap", "rss_hash", "write_pcap",
+    "NoQueue", "NoSuchRegister", "NotLent", "OutOfMemory", "Sent", "Snapshot", "Stray", "TextRefused", "TooLong",
+    "TooManyVfs", "Word", "Wrote", "address_of", "fields_of", "offset_of", "read_pcap", "rss_hash", "write_pcap",
 ]  # fmt: skip
 
 BLOCK_BYTES = 2048
@@ -56,7 +56,7 @@ class LibraryMissing(NicError):
 
 
 class Closed(NicError):
-    """The controller was closed."""
+    """The controller was closed, or the snapshot dropped."""
 
 
 class OutOfMemory(NicError, MemoryError):
@@ -214,6 +214,10 @@ class _Handle(ctypes.Structure):
     _fields_ = [("device", ctypes.c_void_p)]
 
 
+class _Kept(ctypes.Structure):
+    _fields_ = [("kept", ctypes.c_void_p)]
+
+
 class _Told(ctypes.Structure):
     _fields_ = [
         ("desc", ctypes.c_uint64),
@@ -247,9 +251,11 @@ _STEPS = ("qstep rx", "qstep tx", "eestep", "tx", "rx", "int")
 
 _U8, _U16, _U32, _U64, _SIZE = ctypes.c_uint8, ctypes.c_uint16, ctypes.c_uint32, ctypes.c_uint64, ctypes.c_size_t
 _BYTES, _AT, _BOOL = ctypes.c_void_p, ctypes.c_void_p, ctypes.c_bool
-_NIC = ctypes.POINTER(_Handle)
+_NIC, _KEPT = ctypes.POINTER(_Handle), ctypes.POINTER(_Kept)
 _CALLS: dict[str, list[object]] = {
     "nic_new": [_U8, _U16, _U32, _AT],
+    "nic_snapshot": [_NIC, _KEPT],
+    "nic_restore": [_NIC, _KEPT],
     "nic_read32": [_NIC, _U32, _AT],
     "nic_write32": [_NIC, _U32, _U32],
     "nic_vf_read32": [_NIC, _U8, _U32, _AT],
@@ -304,6 +310,7 @@ def _library(path: str | os.PathLike[str] | None = None) -> ctypes.PyDLL:
                 call.argtypes, call.restype = takes, ctypes.c_uint8
             library.nic_next_out.argtypes, library.nic_next_out.restype = [_NIC], ctypes.c_size_t
             library.nic_free.argtypes, library.nic_free.restype = [_Handle], None
+            library.nic_free_snapshot.argtypes, library.nic_free_snapshot.restype = [_Kept], None
         except (OSError, AttributeError) as fault:
             raise LibraryMissing(f"{place} is no library of the controller: {fault}") from fault
         _loaded[place] = library
@@ -492,6 +499,38 @@ class Memory:
         self.write(start, data)
 
 
+class Snapshot:
+    """What `Nic.snapshot` keeps of a controller: all that it has. It ends by `drop`, or at the end of a `with`."""
+
+    def __init__(self, nic: Nic) -> None:
+        self._kept: _Kept | None = None
+        self._library = nic._library
+        self.vfs, self.fifo, self.blocks = nic.vfs, nic.fifo, nic.blocks
+        kept = _Kept()
+        nic._ask("nic_snapshot", ctypes.byref(kept))
+        self._kept = kept
+
+    def drop(self) -> None:
+        """Ends the snapshot with its memory; a second time it does nothing."""
+        kept, self._kept = self._kept, None
+        if kept is not None:
+            self._library.nic_free_snapshot(kept)
+
+    def __enter__(self) -> Snapshot:
+        return self
+
+    def __exit__(self, *_fault: object) -> None:
+        self.drop()
+
+    def __del__(self) -> None:
+        if getattr(self, "_kept", None) is not None:
+            self.drop()
+
+    def __repr__(self) -> str:
+        ended = "" if self._kept else ", dropped"
+        return f"<Snapshot of {self.vfs} virtual functions and {self.blocks} blocks{ended}>"
+
+
 class Nic(_Registers):
     """A controller after a power-up, with so many virtual functions (63 at most), room for so many frames that arrived
     and weren't written yet (1 to 4,096), and so many blocks of packet memory (1 to 65,536), none of them lent.
@@ -550,6 +589,23 @@ class Nic(_Registers):
         if status != _DONE:
             shown = ", ".join(str(word) for word in words if isinstance(word, int))
             raise _refused(status, f"{name.removeprefix('nic_')} {shown}".strip())
+
+    # --- snapshots ---
+
+    def snapshot(self) -> Snapshot:
+        """Keeps the controller as it is: registers, lent blocks with their bytes, frames that wait, are staged or went
+        out, the link and the EEPROM's image. It stays as it is. OutOfMemory."""
+        return Snapshot(self)
+
+    def restore(self, kept: Snapshot) -> None:
+        """Makes the controller what was kept of it or of another one, as often as it is wanted. OutOfMemory, and
+        Closed where the snapshot was dropped; then the controller is as it was."""
+        if kept._kept is None:
+            raise Closed("the snapshot was dropped")
+        if kept._library is not self._library:
+            raise ValueError("a snapshot of another library's controller")
+        self._ask("nic_restore", ctypes.byref(kept._kept))
+        self.vfs, self.fifo, self.blocks = kept.vfs, kept.fifo, kept.blocks
 
     # --- registers ---
 

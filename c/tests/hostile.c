@@ -190,6 +190,8 @@ static uint64_t some64(void)
     return below(3) ? below(40000) : chance() << below(30);
 }
 
+static nic_kept kept;
+
 static void one_call(nic *n)
 {
     static uint8_t bytes[5000 + GUARD];
@@ -202,7 +204,7 @@ static void one_call(nic *n)
         bytes[k] = (uint8_t)chance();
     memset(bytes + length, 0x5A, GUARD);
     memset(key, (int)below(256), sizeof key);
-    switch (below(24)) {
+    switch (below(26)) {
     case 0: MAY(nic_read32(n, some32(), &word), NIC_DONE, NIC_STRAY); break;
     case 1: MAY(nic_write32(n, some32(), some32()), NIC_DONE, NIC_STRAY); break;
     case 2: MAY(nic_vf_read32(n, (uint8_t)chance(), some32(), &word), NIC_DONE, NIC_STRAY); break;
@@ -234,6 +236,13 @@ static void one_call(nic *n)
             NIC_IMAGE_SECTION_OUTSIDE, NIC_IMAGE_BAD_CHECKSUM, NIC_IMAGE_NOT_TRIPLES);
         break;
     case 22: MAY(nic_install_text(n, bytes, length, &line), NIC_TEXT_SYNTAX, NIC_TEXT_NOT_UTF8); break;
+    case 23:
+        if (!below(20)) {
+            nic_drop_snapshot(&kept);
+            MAY(nic_snapshot(n, &kept), NIC_DONE);
+        }
+        break;
+    case 24: if (kept.kept && !below(20)) MAY(nic_restore(n, &kept), NIC_DONE); break;
     default: MAY(nic_hash(key, bytes, below(2) ? length : below(37), &word), NIC_DONE, NIC_NO_ROOM);
     }
     for (size_t k = length; k < length + GUARD; k++)
@@ -259,6 +268,8 @@ int main(void)
         }
         one_call(&n);
     }
+    nic_drop_snapshot(&kept);
+    nic_drop_snapshot(&kept);
     nic_close(&n);
     printf("%d calls by chance\n", CALLS);
     return 0;

@@ -60,6 +60,69 @@ class Life(unittest.TestCase):
                 os.environ["NIC82599_LIBRARY"] = told
 
 
+class Snapshots(unittest.TestCase):
+    def test_goes_back(self) -> None:
+        with Nic(vfs=2, blocks=4) as nic:
+            nic.lend(0, 2)
+            nic["RETA[3]"] = 0x03020100
+            nic.memory[0x1000:0x1004] = b"kept"
+            with nic.snapshot() as kept:
+                self.assertEqual(repr(kept), "<Snapshot of 2 virtual functions and 4 blocks>")
+                for _ in range(2):
+                    nic["RETA[3]"] = 7
+                    nic.take(2)
+                    nic.lend(3)
+                    nic.restore(kept)
+                    self.assertEqual((nic["RETA[3]"], nic.memory[0x1000:0x1004]), (0x03020100, b"kept"))
+                    with self.assertRaises(nic82599.NotLent):
+                        nic.take(3)
+                with Nic(blocks=1) as other:
+                    other.restore(kept)
+                    self.assertEqual((other.vfs, other.fifo, other.blocks), (2, 64, 4))
+                    self.assertEqual((other["RETA[3]"], other.memory[0x1000:0x1004]), (0x03020100, b"kept"))
+                    with self.assertRaises(nic82599.NoBlock):
+                        other.lend(2)
+            self.assertEqual(repr(kept), "<Snapshot of 2 virtual functions and 4 blocks, dropped>")
+            kept.drop()
+            with self.assertRaises(nic82599.Closed):
+                nic.restore(kept)
+
+    def test_goes_on_alike(self) -> None:
+        with Nic(blocks=2) as nic:
+            nic.lend()
+            for name, word in (("RXCTRL", 1), ("FCTRL", 0x200), ("RDLEN[0]", 128), ("SRRCTL[0]", TYPE)):
+                nic[name] = word
+            nic["RXDCTL[0]"] = ENABLE
+            nic.settle()
+            nic.memory[0:8] = half(0x800)
+            self.assertIsNone(nic.arrive(FRAME))
+            kept = nic.snapshot()
+
+            def goes_on() -> tuple[list[nic82599.Event], bytes, int]:
+                nic["RDT[0]"] = 1
+                return nic.settle(), nic.memory[0x800 : 0x800 + len(FRAME)], nic["GPRC"]
+
+            first = goes_on()
+            self.assertEqual(first[1:], (FRAME, 1))
+            nic.restore(kept)
+            self.assertEqual(goes_on(), first)
+            kept.drop()
+
+    def test_outlives(self) -> None:
+        nic = Nic(blocks=1)
+        nic["RETA[0]"] = 5
+        kept = nic.snapshot()
+        nic.close()
+        for call in (nic.snapshot, lambda: nic.restore(kept)):
+            with self.assertRaises(nic82599.Closed):
+                call()
+        with Nic(blocks=3) as other:
+            other.restore(kept)
+            self.assertEqual(other["RETA[0]"], 5)
+        del kept, nic
+        gc.collect()
+
+
 class Registers(unittest.TestCase):
     def setUp(self) -> None:
         self.nic = Nic(vfs=2, blocks=4)

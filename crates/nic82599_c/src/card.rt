@@ -22,7 +22,7 @@ pub(crate) struct OutOfMemory;
 /// A device, and an arena of the blocks from 0 on. Each of these is free in the arena or lent to the device.
 pub struct Card {
     pub(crate) device: Device,
-    arena: Arena,
+    pub(crate) arena: Arena,
 }
 
 impl Model for Card {

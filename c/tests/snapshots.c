@@ -1,0 +1,274 @@
+/* Snapshots: a controller that is restored gives the same answers to the same calls, also another one that becomes what
+   was kept; a snapshot is restored as often as it is wanted; and a restore that finds no memory changes nothing. */
+#define _XOPEN_SOURCE 700
+#include <string.h>
+#include <sys/resource.h>
+
+#include "check.h"
+
+enum { RX = 3, TX = 1, RING = 0, TX_RING = 0x1000, TX_BUFFER = 0x1800, BLOCKS = 6, CALLS = 4000, MANY = 32768 };
+
+static const uint32_t addresses[] = {
+#define ADDRESS(address) address,
+#include "addresses.inc"
+#undef ADDRESS
+};
+
+/* --- what a controller answers, as one number --- */
+
+static uint64_t mixed(uint64_t sum, uint64_t number)
+{
+    return (sum ^ number) * UINT64_C(0x100000001B3) ^ sum >> 29;
+}
+
+static uint64_t mixed_bytes(uint64_t sum, const uint8_t *bytes, size_t length)
+{
+    for (size_t k = 0; k < length; k++)
+        sum = mixed(sum, bytes[k]);
+    return sum;
+}
+
+static uint64_t mixed_told(uint64_t sum, const nic_told *t)
+{
+    const uint64_t fields[] = {t->desc, t->at, t->len, t->bus, t->queue, t->slot, t->group, t->of,
+                               t->status, t->step, t->end, t->back, t->why, t->vector};
+    for (size_t k = 0; k < sizeof fields / sizeof *fields; k++)
+        sum = mixed(sum, fields[k]);
+    return sum;
+}
+
+/* All that can be looked at without an effect: each register, the lent memory, and the frame that went out. */
+static uint64_t looked(nic *n)
+{
+    uint8_t bytes[NIC_BLOCK_BYTES];
+    uint32_t word;
+    uint64_t sum = nic_next_out(n);
+    for (size_t k = 0; k < sizeof addresses / sizeof *addresses; k++) {
+        word = 0;
+        sum = mixed(sum, nic_peek32(n, addresses[k], &word));
+        sum = mixed(sum, word);
+    }
+    for (unsigned block = 0; block < BLOCKS + 2; block++) {
+        memset(bytes, 0, sizeof bytes);
+        sum = mixed(sum, nic_dma_read(n, (uint64_t)block * NIC_BLOCK_BYTES, bytes, sizeof bytes));
+        sum = mixed_bytes(sum, bytes, sizeof bytes);
+    }
+    return sum;
+}
+
+/* One call by chance, and its answer. */
+static uint64_t one_call(nic *n)
+{
+    uint8_t bytes[600] = {0};
+    nic_told told;
+    uint32_t word = 0, address = addresses[below(sizeof addresses / sizeof *addresses)];
+    size_t length = 40 + below(400);
+    memset(&told, 0, sizeof told);
+    for (size_t k = 0; k < 60; k++)
+        bytes[k] = (uint8_t)chance();
+    switch (below(16)) {
+    case 0: return mixed(nic_read32(n, address, &word), word);
+    case 1: return address == NIC_CTRL ? 0 : nic_write32(n, address, (uint32_t)chance());
+    case 2: return mixed(nic_vf_read32(n, (uint8_t)below(4), below(0x2100) & ~3u, &word), word);
+    case 3: return nic_lend(n, below(BLOCKS + 2));
+    case 4: return below(4) ? 0 : nic_take(n, below(BLOCKS + 2));
+    case 5: return mixed(nic_dma_read(n, below(BLOCKS * NIC_BLOCK_BYTES), bytes, length), mixed_bytes(1, bytes, 600));
+    case 6: return nic_dma_write(n, below(BLOCKS * NIC_BLOCK_BYTES), bytes, length);
+    case 7: bytes[0] = 2; return mixed_told(nic_arrive(n, bytes, length, &told), &told);
+    case 8: return nic_write32(n, NIC_RDT(RX), below(8));
+    case 9: return mixed_told(nic_rx_step(n, &told), &told);
+    case 10: return nic_write32(n, NIC_TDT(TX), below(8));
+    case 11: return mixed_told(nic_tx_step(n, TX, &told), &told);
+    case 12: return mixed_told(nic_int_step(n, (uint8_t)below(4), &told), &told);
+    case 13: return mixed_told(nic_queue_step(n, below(2), (uint16_t)below(4), &told), &told);
+    case 14: return mixed(nic_collect(n, bytes, sizeof bytes, &told), mixed_bytes(told.len, bytes, sizeof bytes));
+    default: return nic_next_out(n);
+    }
+}
+
+/* The answers of the same calls, by the seed. */
+static void course(nic *n, uint64_t seed, uint64_t *answers)
+{
+    chance_state = seed;
+    for (size_t k = 0; k < CALLS; k++)
+        answers[k] = one_call(n);
+}
+
+/* --- a controller in the midst of things --- */
+
+/* Two frames wait and a third was written, half of a frame is staged, and two frames went out. */
+static void set_off(nic *n)
+{
+    static const uint8_t frame[60] = {2, 0, 0, 0, 0, 1, 2, 0, 0, 0, 0, 2, 8, 0};
+    nic_told told;
+    ANSWERS(NIC_DONE, nic_open(n, 2, 8, BLOCKS));
+    for (uint32_t block = 0; block < 4; block++)
+        ANSWERS(NIC_DONE, nic_lend(n, block));
+    ANSWERS(NIC_DONE, nic_write32(n, NIC_RXCTRL, NIC_RXCTRL_RXEN));
+    ANSWERS(NIC_DONE, nic_write32(n, NIC_FCTRL, NIC_FCTRL_UPE));
+    ANSWERS(NIC_DONE, nic_write32(n, NIC_MRQC, NIC_MRQC_MRQE_IS(1) | NIC_MRQC_TCPIPV4));
+    for (uint32_t k = 0; k < NIC_RETA_COUNT; k++)
+        ANSWERS(NIC_DONE, nic_write32(n, NIC_RETA(k), UINT32_C(0x03030303)));
+    ANSWERS(NIC_DONE, nic_write32(n, NIC_RDLEN(RX), 128));
+    ANSWERS(NIC_DONE, nic_write32(n, NIC_SRRCTL(RX), NIC_SRRCTL_DESCTYPE_IS(1) | NIC_SRRCTL_BSIZEPACKET_IS(2)));
+    ANSWERS(NIC_DONE, nic_write32(n, NIC_RXDCTL(RX), NIC_RXDCTL_ENABLE));
+    ANSWERS(NIC_DONE, nic_queue_step(n, false, RX, &told));
+    ANSWERS(NIC_DONE, nic_write32(n, NIC_DMATXCTL, NIC_DMATXCTL_TE));
+    ANSWERS(NIC_DONE, nic_write32(n, NIC_TDBAL(TX), TX_RING));
+    ANSWERS(NIC_DONE, nic_write32(n, NIC_TDLEN(TX), 128));
+    ANSWERS(NIC_DONE, nic_write32(n, NIC_TXDCTL(TX), NIC_TXDCTL_ENABLE));
+    ANSWERS(NIC_DONE, nic_queue_step(n, true, TX, &told));
+    ANSWERS(NIC_DONE, nic_dma_write(n, TX_BUFFER, frame, sizeof frame));
+    for (unsigned slot = 0; slot < 7; slot++) {
+        uint64_t command = slot == 2 ? UINT64_C(0x0008000022300020) : UINT64_C(0x000800002b300020);
+        ANSWERS(NIC_DONE, nic_put64(n, TX_RING + 16 * slot, TX_BUFFER));
+        ANSWERS(NIC_DONE, nic_put64(n, TX_RING + 16 * slot + 8, command));
+        ANSWERS(NIC_DONE, nic_put64(n, RING + 16 * slot, 0x800));
+    }
+    ANSWERS(NIC_DONE, nic_write32(n, NIC_TDT(TX), 5));
+    ANSWERS(NIC_SENT, nic_tx_step(n, TX, &told));
+    ANSWERS(NIC_SENT, nic_tx_step(n, TX, &told));
+    ANSWERS(NIC_ADVANCED, nic_tx_step(n, TX, &told));
+    for (unsigned k = 0; k < 3; k++)
+        ANSWERS(NIC_DONE, nic_arrive(n, frame, sizeof frame, &told));
+    ANSWERS(NIC_DONE, nic_write32(n, NIC_RDT(RX), 4));
+    ANSWERS(NIC_WROTE, nic_rx_step(n, &told));
+    CHECK(nic_next_out(n) == 60);
+}
+
+/* --- the tests --- */
+
+static void goes_on_alike(void)
+{
+    static uint64_t first[CALLS], again[CALLS];
+    nic n, other;
+    nic_kept kept = {NULL}, later = {NULL};
+    set_off(&n);
+    uint64_t before = looked(&n);
+    ANSWERS(NIC_DONE, nic_snapshot(&n, &kept));
+    CHECK(looked(&n) == before);
+    for (uint64_t seed = 1; seed < 9; seed++) {
+        course(&n, seed, first);
+        ANSWERS(NIC_DONE, nic_restore(&n, &kept));
+        CHECK(looked(&n) == before);
+        course(&n, seed, again);
+        CHECK(memcmp(first, again, sizeof first) == 0);
+        ANSWERS(NIC_DONE, nic_restore(&n, &kept));
+        ANSWERS(NIC_DONE, nic_restore(&n, &kept));
+    }
+    /* another controller, of other sizes, becomes what was kept */
+    ANSWERS(NIC_DONE, nic_open(&other, 63, 1, 40000));
+    ANSWERS(NIC_DONE, nic_lend(&other, 39999));
+    ANSWERS(NIC_DONE, nic_restore(&other, &kept));
+    CHECK(looked(&other) == before);
+    ANSWERS(NIC_NOT_LENT, nic_take(&other, 39999));
+    ANSWERS(NIC_NO_BLOCK, nic_lend(&other, BLOCKS));
+    ANSWERS(NIC_NO_BLOCK, nic_lend(&other, 3));
+    course(&n, 99, first);
+    course(&other, 99, again);
+    CHECK(memcmp(first, again, sizeof first) == 0);
+    /* a snapshot outlives the controller that it was taken of, and others of it */
+    ANSWERS(NIC_DONE, nic_snapshot(&other, &later));
+    nic_close(&n);
+    nic_drop_snapshot(&kept);
+    nic_drop_snapshot(&kept);
+    uint64_t end = looked(&other);
+    ANSWERS(NIC_DONE, nic_open(&n, 0, 1, 1));
+    ANSWERS(NIC_DONE, nic_restore(&n, &later));
+    CHECK(looked(&n) == end);
+    nic_close(&other);
+    nic_drop_snapshot(&later);
+    CHECK(looked(&n) == end);
+    nic_close(&n);
+}
+
+/* The least and the most that can be kept. */
+static void sizes(void)
+{
+    nic n;
+    nic_kept kept;
+    uint8_t byte = 77;
+    ANSWERS(NIC_DONE, nic_open(&n, 63, 4096, 65536));
+    ANSWERS(NIC_DONE, nic_lend(&n, 65535));
+    ANSWERS(NIC_DONE, nic_dma_write(&n, UINT64_C(65535) * NIC_BLOCK_BYTES, &byte, 1));
+    ANSWERS(NIC_DONE, nic_snapshot(&n, &kept));
+    ANSWERS(NIC_DONE, nic_take(&n, 65535));
+    ANSWERS(NIC_DONE, nic_restore(&n, &kept));
+    byte = 0;
+    ANSWERS(NIC_DONE, nic_dma_read(&n, UINT64_C(65535) * NIC_BLOCK_BYTES, &byte, 1));
+    CHECK(byte == 77);
+    nic_drop_snapshot(&kept);
+    nic_close(&n);
+    ANSWERS(NIC_DONE, nic_open(&n, 0, 1, 1));
+    ANSWERS(NIC_DONE, nic_snapshot(&n, &kept));
+    ANSWERS(NIC_DONE, nic_restore(&n, &kept));
+    ANSWERS(NIC_DONE, nic_lend(&n, 0));
+    nic_drop_snapshot(&kept);
+    nic_close(&n);
+}
+
+/* How many bytes of address space the process has, or 0 where that isn't told. */
+static size_t space(void)
+{
+    size_t pages = 0;
+    FILE *file = fopen("/proc/self/statm", "r");
+    if (!file)
+        return 0;
+    if (fscanf(file, "%zu", &pages) != 1)
+        pages = 0;
+    fclose(file);
+    return pages * 4096;
+}
+
+/* Under a limit that is raised bit by bit: each call that finds no memory changes nothing. How many did. */
+static unsigned refused(void)
+{
+    struct rlimit limit;
+    nic n;
+    nic_kept kept = {NULL}, spare = {NULL};
+    unsigned count = 0;
+    uint64_t before, mark = UINT64_C(0x0123456789ABCDEF), got = 0;
+    size_t first;
+    ANSWERS(NIC_DONE, nic_open(&n, 0, 64, MANY));
+    ANSWERS(NIC_DONE, nic_lend_all(&n));
+    ANSWERS(NIC_DONE, nic_snapshot(&n, &kept));
+    ANSWERS(NIC_DONE, nic_put64(&n, (uint64_t)(MANY - 1) * NIC_BLOCK_BYTES, mark));
+    ANSWERS(NIC_DONE, nic_write32(&n, NIC_RDBAL(RX), 0x800));
+    before = looked(&n);
+    first = space();
+    CHECK(getrlimit(RLIMIT_AS, &limit) == 0);
+    rlim_t most = limit.rlim_cur;
+    for (size_t more = 0;; more += (size_t)4 << 20) {
+        limit.rlim_cur = first + more;
+        CHECK(setrlimit(RLIMIT_AS, &limit) == 0);
+        uint8_t keeps = nic_snapshot(&n, &spare);
+        CHECK(keeps == NIC_OUT_OF_MEMORY ? !spare.kept : keeps == NIC_DONE);
+        nic_drop_snapshot(&spare);
+        uint8_t status = nic_restore(&n, &kept);
+        limit.rlim_cur = most;
+        CHECK(setrlimit(RLIMIT_AS, &limit) == 0);
+        if (status == NIC_DONE)
+            break;
+        CHECK(status == NIC_OUT_OF_MEMORY);
+        CHECK(looked(&n) == before);
+        ANSWERS(NIC_DONE, nic_get64(&n, (uint64_t)(MANY - 1) * NIC_BLOCK_BYTES, &got));
+        CHECK(got == mark);
+        count++;
+    }
+    CHECK(looked(&n) != before);
+    ANSWERS(NIC_DONE, nic_get64(&n, (uint64_t)(MANY - 1) * NIC_BLOCK_BYTES, &got));
+    CHECK(got == 0);
+    nic_drop_snapshot(&kept);
+    nic_close(&n);
+    return count;
+}
+
+int main(int count, char **words)
+{
+    goes_on_alike();
+    sizes();
+    /* (a sanitizer takes more address space than any limit would leave it) */
+    if (count > 1 && strcmp(words[1], "limited") == 0 && space())
+        CHECK(refused() > 0);
+    return 0;
+}

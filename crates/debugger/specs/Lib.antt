@@ -3,3 +3,4 @@ pub mod Session
 pub mod Running
 pub mod Commands
 pub mod Laws
+pub mod Snapshots

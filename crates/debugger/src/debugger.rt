@@ -9,6 +9,7 @@ ghost use Rattle.nic_device.specs.Config.{IsBadFifo};
 use crate::breakpoints::{Breakpoints, clear_break, set_break};
 use crate::command::{Command, DebugRefusal, View};
 use crate::running::{replay, run_on};
+use crate::snapshots::Snapshots;
 use crate::source::object_of;
 use machine::{Machine, NewRefused, OutOfMemory};
 use nic_device::{Config, MAX_VFS, NewFault};
@@ -17,18 +18,21 @@ use std::alloc::Global;
 use std::marker::Model;
 use std::mem;
 
-/// A machine with breakpoints, whose program and configuration are kept, so that it can go back. It isn't dropped, but
-/// finished.
+/// A machine with breakpoints. Its program and configuration are kept, and snapshots on its way, so that it can go back:
+/// one at each multiple of 256 steps that it first reaches, the first 64 of them, where there is memory for it. It isn't
+/// dropped, but finished.
 pub struct Debugger {
     alloc: Global,
     object: Vec<u8>,
     config: Config,
     machine: Machine,
     breakpoints: Breakpoints,
+    snapshots: Snapshots,
 }
 
 impl Model for Debugger {
     ghost use Rattle.debugger.specs.Session.{Session, CanBeReplayed};
+    ghost use Rattle.debugger.specs.Snapshots.{AreReplayed};
 
     ghost Value = { Session };
 
@@ -40,7 +44,9 @@ impl Model for Debugger {
           d.breakpoints.items;
     } };
 
-    ghost invariant = { λ d. CanBeReplayed d.object.items d.config d.machine };
+    ghost invariant = { λ d.
+        CanBeReplayed d.object.items d.config d.machine ×
+        AreReplayed d.object.items d.config d.snapshots.kept.items };
 }
 
 impl Debugger {
@@ -66,6 +72,7 @@ impl Debugger {
                 config,
                 machine,
                 breakpoints: Breakpoints::new(),
+                snapshots: Snapshots::new(alloc),
             }),
             Err(_) => Err(NewRefused {
                 fault: NewFault::OutOfMemory,
@@ -102,6 +109,7 @@ impl Debugger {
             config: _,
             machine,
             breakpoints: _,
+            snapshots: _,
         } = self;
         machine.finish();
     }
@@ -123,7 +131,12 @@ impl Debugger {
     fn step(&mut self, count: u64) -> Result<View, DebugRefusal>
         ensures { Does self.old (Command.Step count) result self.new }
     {
-        match run_on(&mut self.machine, &Breakpoints::new(), count) {
+        match run_on(
+            &mut self.machine,
+            &Breakpoints::new(),
+            &mut self.snapshots,
+            count,
+        ) {
             Ok(()) => Ok(self.view(None)),
             Err(OutOfMemory) => Err(DebugRefusal::OutOfMemory),
         }
@@ -133,13 +146,19 @@ impl Debugger {
     fn go_on(&mut self, limit: u64) -> Result<View, DebugRefusal>
         ensures { Does self.old (Command.Continue limit) result self.new }
     {
-        match run_on(&mut self.machine, &self.breakpoints, limit) {
+        match run_on(
+            &mut self.machine,
+            &self.breakpoints,
+            &mut self.snapshots,
+            limit,
+        ) {
             Ok(()) => Ok(self.view(None)),
             Err(OutOfMemory) => Err(DebugRefusal::OutOfMemory),
         }
     }
 
-    /// So many steps back: from the start on, in a machine that takes the place of this one when it is done.
+    /// So many steps back: from the last snapshot that isn't later, else from the start on, in a machine that takes the
+    /// place of this one when it is done.
     fn back(&mut self, count: u64) -> Result<View, DebugRefusal>
         ensures { Does self.old (Command.Back count) result self.new }
     {
@@ -147,7 +166,13 @@ impl Debugger {
         if steps < count {
             return Err(DebugRefusal::AtStart);
         }
-        match replay(self.alloc, &self.object, self.config, steps - count) {
+        match replay(
+            self.alloc,
+            &self.object,
+            self.config,
+            &self.snapshots,
+            steps - count,
+        ) {
             Ok(machine) => {
                 let former = mem::replace(&mut self.machine, machine);
                 former.finish();

@@ -10,6 +10,7 @@ mod command;
 mod debugger;
 pub mod laws;
 mod running;
+mod snapshots;
 mod source;
 
 pub use breakpoints::BREAK_LIMIT;

@@ -3,10 +3,12 @@
 ghost use Rattle.std.specs.Prelude.{◌≡◌, ◌<◌, ◌≤◌, [], IfOk, IsOk, OnOk, OnErr, Ok};
 ghost use Rattle.debugger.specs.Running.{is_stopped, run_on};
 ghost use Rattle.debugger.specs.Session.{CanBeMade};
+ghost use Rattle.debugger.specs.Snapshots.{AreReplayed, StayOf};
 ghost use Rattle.machine.specs.Machine.{machine_at, machine_step, start_of, StepTakesMemory};
 ghost use Rattle.program.specs.Object.{read_of};
 
 use crate::breakpoints::{Breakpoints, has_break};
+use crate::snapshots::Snapshots;
 use crate::source::program_of;
 use machine::{Machine, OutOfMemory, StepAnswer};
 use nic_device::{Config, NewFault};
@@ -29,9 +31,11 @@ fn step(machine: &mut Machine) -> Result<bool, OutOfMemory>
 }
 
 /// Makes so many steps, or fewer where the machine stops, or where its next instruction has a breakpoint after a step.
+/// Snapshots that are due on the way are kept.
 pub(crate) fn run_on(
     machine: &mut Machine,
     breakpoints: &Breakpoints,
+    snapshots: &mut Snapshots,
     limit: u64,
 ) -> Result<(), OutOfMemory>
     requires { machine.old.state ≡ machine_at machine.old.program machine.old.config machine.old.state.steps }
@@ -45,11 +49,13 @@ pub(crate) fn run_on(
         run_on machine.old.program machine.old.config breakpoints.now.items machine.old.state.steps limit) }
     ensures takes { OnErr result (StepTakesMemory machine.old.program
         (machine_at machine.old.program machine.old.config machine.new.state.steps)) }
+    ensures of { StayOf machine.old snapshots.old.kept.items snapshots.new.kept.items }
 {
     for _ in 0..limit {
         if step(machine)? {
             return Ok(());
         }
+        snapshots.keep(machine);
         if has_break(breakpoints, u32::from(machine.pc())) {
             return Ok(());
         }
@@ -72,23 +78,57 @@ fn start(alloc: Global, program: Program, config: Config) -> Result<Machine, Out
     }
 }
 
-/// The machine of an object's program, after so many steps from the start, or fewer where it stops.
-pub(crate) fn replay(
+/// A machine on the way to so many steps: from a snapshot that isn't later, else before its first step.
+fn early(
     alloc: Global,
     object: &[u8],
     config: Config,
+    snapshots: &Snapshots,
     steps: u64,
 ) -> Result<Machine, OutOfMemory>
     requires object { IsOk (read_of object.now) }
     requires config { CanBeMade config }
+    requires of { AreReplayed object.now config snapshots.now.kept.items }
+    ensures program { IfOk result (λ machine. read_of object.now ≡ Ok machine.program) }
+    ensures config { IfOk result (λ machine. machine.config ≡ config) }
+    ensures at { IfOk result (λ machine. machine.state ≡ machine_at machine.program config machine.state.steps) }
+    ensures early { IfOk result (λ machine. machine.state.steps ≤ steps) }
+{
+    match snapshots.before(steps) {
+        Some(snapshot) => {
+            let machine = Machine::restore(snapshot)?;
+            let _steps = machine.steps();
+            Ok(machine)
+        }
+        None => {
+            let machine = start(alloc, program_of(alloc, object)?, config)?;
+            let _steps = machine.steps();
+            Ok(machine)
+        }
+    }
+}
+
+/// The machine of an object's program, after so many steps, or fewer where it stops. It is run on from the last of the
+/// snapshots that isn't later, else from the start.
+pub(crate) fn replay(
+    alloc: Global,
+    object: &[u8],
+    config: Config,
+    snapshots: &Snapshots,
+    steps: u64,
+) -> Result<Machine, OutOfMemory>
+    requires object { IsOk (read_of object.now) }
+    requires config { CanBeMade config }
+    requires of { AreReplayed object.now config snapshots.now.kept.items }
     ensures program { IfOk result (λ machine. read_of object.now ≡ Ok machine.program) }
     ensures config { IfOk result (λ machine. machine.config ≡ config) }
     ensures at { IfOk result (λ machine. machine.state ≡ machine_at machine.program config machine.state.steps) }
     ensures steps { IfOk result (λ machine. machine.state.steps ≡ run_on machine.program config [] 0 steps) }
 {
-    let program = program_of(alloc, object)?;
-    let mut machine = start(alloc, program, config)?;
-    match run_on(&mut machine, &Breakpoints::new(), steps) {
+    let mut machine = early(alloc, object, config, snapshots, steps)?;
+    let left = steps - machine.steps();
+    let mut none = Snapshots::none(alloc);
+    match run_on(&mut machine, &Breakpoints::new(), &mut none, left) {
         Ok(()) => Ok(machine),
         Err(refused) => {
             machine.finish();

@@ -51,7 +51,7 @@ module _ (nodes : Nodes) (rank : ℕ → ℕ) (ring : IsRing nodes rank) (p : �
       → (y : Links) × (n3 r ≡ Some y) × LeadsTo p e.next r x y
   went_first r x at ne is_first not_end =
       let it : h ≡ x = same (n2 e.next) h x h_at
-          (ap n2 (sym is_first) ∙ ends.others r not_end ∙ own.others r ne ∙ at) in (
+      (ap n2 (sym is_first) ∙ ends.others r not_end ∙ own.others r ne ∙ at) in (
         record { next = h.next; prev = p },
         ap n3 is_first ∙ first.there,
         record {

@@ -121,7 +121,7 @@ filled-step n (suc j) xs some le is =
     let m : n - (suc j - 1) ≡ suc (n - suc j) = omega (arith, le) in (
       omega (arith, ap length is, filled_length (suc j) (n - suc j)),
       ap (λ ys. get_or ys (suc j - 1) false) is ∙ ap (λ i. get_or (filled (suc j) (n - suc j)) i false) e
-      ∙ filled_in_use j (n - suc j),
+          ∙ filled_in_use j (n - suc j),
       ap (λ ys. set ys (suc j - 1) true) is ∙ ap (λ i. set (filled (suc j) (n - suc j)) i true) e
-      ∙ filled_more j (n - suc j) ∙ sym (λ i. filled (e i) (m i)),
+          ∙ filled_more j (n - suc j) ∙ sym (λ i. filled (e i) (m i)),
     )

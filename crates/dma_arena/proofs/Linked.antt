@@ -50,10 +50,10 @@ module _ (nodes : Nodes) (rank : ℕ → ℕ) (ring : IsRing nodes rank) (p : �
           let x = comes.came r y there other in
           elim (cases_eq r list_end) [
             | inl ends ↦ (
-                record { next = e.next; prev = list_end },
-                ap new (x.2.next_to ends) ∙ comes.there,
-                sym ends,
-              )
+              record { next = e.next; prev = list_end },
+              ap new (x.2.next_to ends) ∙ comes.there,
+              sym ends,
+            )
             | inr inner ↦
                 let m = ring.next r x.0 x.1 in
                 let z = comes.went x.0.next m.0 m.1 (linked_other x.0.next m.0 m.1) in (
@@ -75,10 +75,10 @@ module _ (nodes : Nodes) (rank : ℕ → ℕ) (ring : IsRing nodes rank) (p : �
           let x = comes.came r y there other in
           elim (cases_eq r e.next) [
             | inl first ↦ (
-                record { next = e.next; prev = list_end },
-                ap new (x.2.prev_to first) ∙ comes.there,
-                sym first,
-              )
+              record { next = e.next; prev = list_end },
+              ap new (x.2.prev_to first) ∙ comes.there,
+              sym first,
+            )
             | inr inner ↦
                 let m = ring.prev r x.0 x.1 in
                 let z = comes.went x.0.prev m.0 m.1 (linked_other x.0.prev m.0 m.1) in (

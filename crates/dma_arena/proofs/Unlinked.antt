@@ -27,7 +27,7 @@ module _ (nodes : Nodes) (rank : ℕ → ℕ) (ring : IsRing nodes rank)
       → (y : Links) × (n3 r ≡ Some y) × LeadsPast p l x y
   went_both r x there apart is_next is_prev =
       let it = same (n1 l.next) h (record { next = l.next; prev = b.prev }) h_at
-          (ap n1 (sym is_next ∙ is_prev) ∙ first.there) in (
+      (ap n1 (sym is_next ∙ is_prev) ∙ first.there) in (
         record { next = h.next; prev = l.prev },
         rest r apart ∙ ap n2 is_next ∙ second.there,
         record {
@@ -42,7 +42,7 @@ module _ (nodes : Nodes) (rank : ℕ → ℕ) (ring : IsRing nodes rank)
       → (y : Links) × (n3 r ≡ Some y) × LeadsPast p l x y
   went_next r x there apart is_next not_prev =
       let it : h ≡ x = same (n1 l.next) h x h_at
-          (first.others l.next (λ e. not_prev (is_next ∙ e)) ∙ ap nodes (sym is_next) ∙ there) in (
+      (first.others l.next (λ e. not_prev (is_next ∙ e)) ∙ ap nodes (sym is_next) ∙ there) in (
         record { next = h.next; prev = l.prev },
         rest r apart ∙ ap n2 is_next ∙ second.there,
         record {

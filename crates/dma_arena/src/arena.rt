@@ -226,11 +226,7 @@ impl Arena {
             return None;
         }
         let at = (block - first) as usize;
-        if at < self.list.len() {
-            Some(at)
-        } else {
-            None
-        }
+        if at < self.list.len() { Some(at) } else { None }
     }
 
     /// The number of the first block in the list of the free ones.

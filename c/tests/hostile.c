@@ -237,12 +237,12 @@ static void one_call(nic *n)
         break;
     case 22: MAY(nic_install_text(n, bytes, length, &line), NIC_TEXT_SYNTAX, NIC_TEXT_NOT_UTF8); break;
     case 23:
-        if (!below(20)) {
+        if (!below(200)) {
             nic_drop_snapshot(&kept);
             MAY(nic_snapshot(n, &kept), NIC_DONE);
         }
         break;
-    case 24: if (kept.kept && !below(20)) MAY(nic_restore(n, &kept), NIC_DONE); break;
+    case 24: if (kept.kept && !below(200)) MAY(nic_restore(n, &kept), NIC_DONE); break;
     default: MAY(nic_hash(key, bytes, below(2) ? length : below(37), &word), NIC_DONE, NIC_NO_ROOM);
     }
     for (size_t k = length; k < length + GUARD; k++)

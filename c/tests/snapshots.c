@@ -6,7 +6,7 @@
 
 #include "check.h"
 
-enum { RX = 3, TX = 1, RING = 0, TX_RING = 0x1000, TX_BUFFER = 0x1800, BLOCKS = 6, CALLS = 4000, MANY = 32768 };
+enum { RX = 0, TX = 1, RING = 0, TX_RING = 0x1000, TX_BUFFER = 0x1800, BLOCKS = 6, CALLS = 4000, MANY = 32768 };
 
 static const uint32_t addresses[] = {
 #define ADDRESS(address) address,
@@ -106,9 +106,6 @@ static void set_off(nic *n)
         ANSWERS(NIC_DONE, nic_lend(n, block));
     ANSWERS(NIC_DONE, nic_write32(n, NIC_RXCTRL, NIC_RXCTRL_RXEN));
     ANSWERS(NIC_DONE, nic_write32(n, NIC_FCTRL, NIC_FCTRL_UPE));
-    ANSWERS(NIC_DONE, nic_write32(n, NIC_MRQC, NIC_MRQC_MRQE_IS(1) | NIC_MRQC_TCPIPV4));
-    for (uint32_t k = 0; k < NIC_RETA_COUNT; k++)
-        ANSWERS(NIC_DONE, nic_write32(n, NIC_RETA(k), UINT32_C(0x03030303)));
     ANSWERS(NIC_DONE, nic_write32(n, NIC_RDLEN(RX), 128));
     ANSWERS(NIC_DONE, nic_write32(n, NIC_SRRCTL(RX), NIC_SRRCTL_DESCTYPE_IS(1) | NIC_SRRCTL_BSIZEPACKET_IS(2)));
     ANSWERS(NIC_DONE, nic_write32(n, NIC_RXDCTL(RX), NIC_RXDCTL_ENABLE));

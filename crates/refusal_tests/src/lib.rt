@@ -13,7 +13,15 @@ mod devices;
 #[cfg(test)]
 mod fresh;
 #[cfg(test)]
+mod kept;
+#[cfg(test)]
+mod locks;
+#[cfg(test)]
+mod machines;
+#[cfg(test)]
 mod outcome;
+#[cfg(test)]
+mod programs;
 #[cfg(test)]
 mod sums;
 #[cfg(test)]

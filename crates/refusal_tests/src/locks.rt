@@ -1,0 +1,258 @@
+//! A device that passes share.
+
+use crate::devices::{frame, number_of, to_lend};
+use crate::outcome::{done, none, put, some};
+use crate::sums::{START, end_device, with, with_event};
+use crate::trial::{Trial, tried};
+use device_lock::{CallFault, Closed, NewFault, Pass, Shared};
+use nic_device::{Arena, Event, Port};
+use std::alloc::Global;
+use std::process::Abort;
+use std::sync::Wait;
+
+/// A shared device without virtual functions.
+pub type Bench = Shared<0, 64>;
+
+/// A shared device of one pass.
+pub struct Opened {
+    /// The device.
+    pub bench: Bench,
+    /// Its pass.
+    pub pass: Pass,
+    /// Blocks for it.
+    pub arena: Arena,
+}
+
+/// A shared device that lets frames in.
+pub fn open_bench<R: Abort + Wait>(rt: &R, alloc: Global) -> Opened {
+    let (bench, mut passes) = done(rt, Bench::new(alloc, 7, 1, 100));
+    let mut pass = some(rt, passes.pop());
+    for (address, word) in [(0x03000, 1), (0x05080, 0x700)] {
+        let event = Event::Write(Port::Pf, address, word);
+        let _number = number_of(rt, done(rt, bench.call(rt, alloc, &mut pass, event)));
+    }
+    let arena = done(rt, Arena::new(alloc, 0, 8));
+    Opened { bench, pass, arena }
+}
+
+/// Closes a shared device with its pass.
+pub fn closed<R: Abort>(rt: &R, alloc: Global, bench: Bench, pass: Pass) -> Closed<0, 64> {
+    let mut passes = Vec::new(alloc);
+    passes.push(pass).expect(rt, "memory");
+    done(rt, bench.close(passes))
+}
+
+/// How many entries a history has, and how many of them lent a block or let a frame arrive.
+pub fn with_history(sum: u64, closed: &Closed<0, 64>) -> u64 {
+    let mut sum = with(sum, closed.history().len() as u64);
+    for entry in closed.history() {
+        match &entry.event {
+            Event::Lend(note) => sum = with(sum, u64::from(note.number())),
+            Event::Arrive(frame) => sum = with(sum, frame.bytes().len() as u64),
+            _other => {}
+        }
+    }
+    sum
+}
+
+/// How often a history lends a block.
+pub fn lends_in(closed: &Closed<0, 64>) -> u64 {
+    let mut lends: u64 = 0;
+    for entry in closed.history() {
+        if let Event::Lend(_note) = &entry.event {
+            lends = lends.saturating_add(1);
+        }
+    }
+    lends
+}
+
+/// A call that a pass is to make.
+struct Calling {
+    opened: Opened,
+    event: Option<Event>,
+    sum: u64,
+}
+
+impl Calling {
+    /// A frame arrives, or a block is lent.
+    fn new<R: Abort + Wait>(rt: &R, alloc: Global, arrives: bool) -> Calling {
+        let mut opened = open_bench(rt, alloc);
+        let event = if arrives {
+            Event::Arrive(frame(rt, alloc))
+        } else {
+            to_lend(rt, &mut opened.arena)
+        };
+        Calling {
+            opened,
+            event: Some(event),
+            sum: START,
+        }
+    }
+}
+
+impl Trial for Calling {
+    fn call<R: Abort + Wait>(&mut self, rt: &R, alloc: Global) -> bool {
+        let Opened {
+            bench,
+            pass,
+            arena: _,
+        } = &mut self.opened;
+        match bench.call(rt, alloc, pass, some(rt, self.event.take())) {
+            Ok(reply) => {
+                self.sum = with(self.sum, number_of(rt, reply));
+                true
+            }
+            Err(CallFault::OutOfMemory(event)) => {
+                put(rt, &mut self.event, event);
+                false
+            }
+            Err(CallFault::ForeignPass(_) | CallFault::HistoryFull(_)) => {
+                panic!(rt; "another refusal")
+            }
+        }
+    }
+
+    fn picture<R: Abort>(&mut self, _rt: &R) -> u64 {
+        with_event(self.opened.pass.calls().len() as u64, &self.event)
+    }
+
+    fn end<R: Abort + Wait>(self, rt: &R, alloc: Global) -> u64 {
+        let Calling {
+            opened: Opened { bench, pass, arena },
+            event,
+            sum,
+        } = self;
+        none(rt, event);
+        let closed = closed(rt, alloc, bench, pass);
+        let sum = with_history(sum, &closed);
+        end_device(rt, sum, closed.into_device(), arena)
+    }
+}
+
+#[test]
+fn a_pass_lends_a_block(rt: HostRuntime) {
+    let alloc = rt.alloc();
+    tried(
+        &rt,
+        alloc,
+        Calling::new(&rt, alloc, false),
+        Calling::new(&rt, alloc, false),
+    );
+}
+
+#[test]
+fn a_frame_arrives_by_a_pass(rt: HostRuntime) {
+    let alloc = rt.alloc();
+    tried(
+        &rt,
+        alloc,
+        Calling::new(&rt, alloc, true),
+        Calling::new(&rt, alloc, true),
+    );
+}
+
+/// A shared device that is to be made.
+struct Opening {
+    made: Option<(Bench, Vec<Pass>)>,
+}
+
+impl Trial for Opening {
+    fn call<R: Abort + Wait>(&mut self, rt: &R, alloc: Global) -> bool {
+        match Bench::new(alloc, 7, 3, 100) {
+            Ok(made) => {
+                put(rt, &mut self.made, made);
+                true
+            }
+            Err(NewFault::OutOfMemory) => false,
+            Err(NewFault::Passes | NewFault::Limit) => panic!(rt; "another refusal"),
+        }
+    }
+
+    fn picture<R: Abort>(&mut self, _rt: &R) -> u64 {
+        0
+    }
+
+    fn end<R: Abort + Wait>(self, rt: &R, alloc: Global) -> u64 {
+        let Opening { made } = self;
+        let (bench, passes) = some(rt, made);
+        let count = passes.len() as u64;
+        let closed = done(rt, bench.close(passes));
+        let arena = done(rt, Arena::new(alloc, 0, 1));
+        end_device(
+            rt,
+            with_history(count, &closed),
+            closed.into_device(),
+            arena,
+        )
+    }
+}
+
+#[test]
+fn a_shared_device_is_made(rt: HostRuntime) {
+    tried(
+        &rt,
+        rt.alloc(),
+        Opening { made: None },
+        Opening { made: None },
+    );
+}
+
+/// The positions of a pass in a history that is closed.
+struct Positions {
+    closed: Closed<0, 64>,
+    arena: Arena,
+    found: u64,
+}
+
+impl Positions {
+    fn new<R: Abort + Wait>(rt: &R, alloc: Global) -> Positions {
+        let Opened { bench, pass, arena } = open_bench(rt, alloc);
+        Positions {
+            closed: closed(rt, alloc, bench, pass),
+            arena,
+            found: 0,
+        }
+    }
+}
+
+impl Trial for Positions {
+    fn call<R: Abort + Wait>(&mut self, _rt: &R, alloc: Global) -> bool {
+        match self.closed.of_pass(alloc, 0) {
+            Ok(positions) => {
+                self.found = positions.len() as u64;
+                true
+            }
+            Err(_) => false,
+        }
+    }
+
+    fn picture<R: Abort>(&mut self, _rt: &R) -> u64 {
+        with_history(START, &self.closed)
+    }
+
+    fn end<R: Abort + Wait>(self, rt: &R, _alloc: Global) -> u64 {
+        let Positions {
+            closed,
+            arena,
+            found,
+        } = self;
+        assert!(rt; found == 2);
+        end_device(
+            rt,
+            with_history(found, &closed),
+            closed.into_device(),
+            arena,
+        )
+    }
+}
+
+#[test]
+fn the_calls_of_a_pass_are_found(rt: HostRuntime) {
+    let alloc = rt.alloc();
+    tried(
+        &rt,
+        alloc,
+        Positions::new(&rt, alloc),
+        Positions::new(&rt, alloc),
+    );
+}

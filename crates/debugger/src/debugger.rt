@@ -18,9 +18,9 @@ use std::alloc::Global;
 use std::marker::Model;
 use std::mem;
 
-/// A machine with breakpoints. Its program and configuration are kept, and snapshots on its way, so that it can go back:
-/// one at each multiple of 256 steps that it first reaches, the first 64 of them, where there is memory for it. It isn't
-/// dropped, but finished.
+/// A machine with breakpoints. Its program and configuration are kept, and snapshots on its way, so that it can go
+/// back: one at each multiple of 256 steps that it first reaches, the first 64 of them, where there is memory for it.
+/// It isn't dropped, but finished.
 pub struct Debugger {
     alloc: Global,
     object: Vec<u8>,

@@ -46,7 +46,8 @@ module _ (nodes : Nodes) (rank : ℕ → ℕ) (ring : IsRing nodes rank) where
       ]
 
   -- one leaves
-  module _ (new : Nodes) (p : ℕ) (l : Links) (at : nodes p ≡ Some l) (ne : p ≢ list_end) (left : Leaves nodes new p l) where
+  module _ (new : Nodes) (p : ℕ) (l : Links) (at : nodes p ≡ Some l) (ne : p ≢ list_end)
+      (left : Leaves nodes new p l) where
     leave_next : (r : ℕ) (y : Links) → new r ≡ Some y → (m : Links) × (new y.next ≡ Some m) × (m.prev ≡ r)
     leave_next r y there =
         let x = left.came r y there in

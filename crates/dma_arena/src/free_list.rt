@@ -1,4 +1,5 @@
-//! The blocks of an arena by their places, each free or not. The free ones are a list, linked through their first bytes.
+//! The blocks of an arena by their places, each free or not. The free ones are a list, linked through their first
+//! bytes.
 
 ghost use Rattle.std.specs.Prelude.{ℕ, ◌≡◌, ◌+◌, ◌-◌, ◌<◌, ◌≤◌, true, false, is_some, map, Some, None, length, replicate, count_by, slice_index_or, slice_set, IfOk, IfErr, IfSome, IfNone, IsTrue};
 ghost use Rattle.std.specs.List.{list_all};
@@ -137,7 +138,8 @@ impl FreeList {
         requires fits { from + length self.old ≤ 65536 }
         requires there { (k : ℕ) → k < length self.old → slice_index_or other.old (from + k) false ≡ true }
         ensures filled { self.new ≡ replicate (length self.old) true }
-        ensures kept { (p : ℕ) → from + length self.old ≤ p → slice_index_or other.new p false ≡ slice_index_or other.old p false }
+        ensures kept { (p : ℕ) → from + length self.old ≤ p
+            → slice_index_or other.new p false ≡ slice_index_or other.old p false }
     {
         let mut left = self.len();
         while left > 0 {

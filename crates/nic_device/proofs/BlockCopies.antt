@@ -175,7 +175,8 @@ pub next-copy : (copies : List (ℕ × List ℕ)) (at : ℕ) (copy : ℕ × List
     → at ≤ length copies → copy ≡ get_or copies (at - 1) copy → IsNext copies at copy
 next-copy copies at copy rising some inside is =
     let next = drop-at copies at copy some inside is in
-    let rises : AreRising (copy ∷ drop at copies) = subst AreRising next (rising_drop copies (at - 1) rising) in record {
+    let rises : AreRising (copy ∷ drop at copies) = subst AreRising next (rising_drop copies (at - 1) rising) in
+    record {
       next = next;
       rising = rises;
       there = get-at copies at copy rising next;

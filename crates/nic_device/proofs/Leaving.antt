@@ -116,7 +116,8 @@ pub same-numbers : (a b : Numbers) → a.first ≡ b.first → length a.free ≡
 same-numbers a b first count same =
     let free : a.free ≡ b.free = ext_get_or false a.free b.free count
     (λ k inside. at-index a k ∙ same (a.first + k) ∙ ap (λ f. is_free b (f + k)) first ∙ sym (at-index b k)) in
-    ap (λ f. record a { first = f }) first ∙ ap (λ xs. let c : Numbers = record { first = b.first; free = xs } in c) free
+    ap (λ f. record a { first = f }) first
+    ∙ ap (λ xs. let c : Numbers = record { first = b.first; free = xs } in c) free
 
 -- where nothing is left to come back, the arena is as it was
 pub left-none : (before after : Numbers) → HaveLeft before after map.empty → after ≡ before

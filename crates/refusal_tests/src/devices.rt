@@ -93,8 +93,8 @@ struct Stepping {
 }
 
 impl Stepping {
-    /// One on a device that is ready for it, to which fifteen blocks are lent: as many as the map of lent blocks has room
-    /// for in one node. A block is lent where there is no event.
+    /// One on a device that is ready for it, to which fifteen blocks are lent: as many as the map of lent blocks has
+    /// room for in one node. A block is lent where there is no event.
     fn new<R: Abort>(rt: &R, alloc: Global, event: Option<Event>) -> Stepping {
         let (mut device, mut arena) = ready(rt, alloc);
         for block in 4..16 {

@@ -27,5 +27,6 @@ returns c =
     ap is_some (sym (nodes-block c.args.ends c.args.slots.now c.args.place c.if-place-eq-END.false))
     ∙ c.requires.there in
     nodes-block c.args.ends c.args.slots.now c.args.place c.if-place-eq-END.false
-    ∙ sym (any_default c.args.slots.now c.args.place c.index-slots-place.result (within c.args.slots.now c.args.place h))
+    ∙ sym (any_default c.args.slots.now c.args.place c.index-slots-place.result
+    (within c.args.slots.now c.args.place h))
     ∙ sym c.index-slots-place.is ∙ c.in-Some.is ∙ ap Some (sym c.links.ensures)

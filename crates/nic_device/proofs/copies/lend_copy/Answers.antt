@@ -9,8 +9,8 @@ pub returns-in-Ok-clause-lent : goal.returns-in-Ok-clause-lent
 returns-in-Ok-clause-lent c =
     let put = c.put.ensures ∙ ap (λ (xs : List ℕ). let b : Block =
     record c.in-Some.buf { bytes = put_bytes c.in-Some.buf.bytes 0 xs } in b) c.bytes.ensures in
-    lent-whole c.args.memory.now _ c.args.number c.in-Some.buf c.put.new.self c.args.bytes.now c.in-Some.ensures.zero put
-    c.requires.whole c.in-Ok.ensures.lent
+    lent-whole c.args.memory.now _ c.args.number c.in-Some.buf c.put.new.self c.args.bytes.now c.in-Some.ensures.zero
+    put c.requires.whole c.in-Ok.ensures.lent
 
 pub returns-in-Err-OutOfMemory-clause-kept : goal.returns-in-Err-OutOfMemory-clause-kept
 returns-in-Err-OutOfMemory-clause-kept c =

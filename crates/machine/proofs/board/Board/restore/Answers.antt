@@ -7,7 +7,8 @@ use Rattle.machine.proofs.board.Board.restore.Goals as goal
 pub unreachable-requires : goal.unreachable-requires
 unreachable-requires c =
     let why = rw c.in-Err-NotFree.field-0-is at c.in-Err-NotFree.ensures.why in
-    let is = subst (λ (a : Numbers). IsLowestTaken a c.args.snapshot.now.memory c.in-Err-NotFree._block) c.in-Ok.ensures.ok why in
+    let is = subst (λ (a : Numbers). IsLowestTaken a c.args.snapshot.now.memory c.in-Err-NotFree._block)
+    c.in-Ok.ensures.ok why in
     let no : true ≡ false = never_taken c.args.snapshot.now.memory c.in-Err-NotFree._block c.requires is in cc
 
 pub end_arena-requires : goal.end_arena-requires

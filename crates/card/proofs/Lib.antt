@@ -1,0 +1,4 @@
+mod Moves
+mod Restoring
+mod Returning
+mod Sharing

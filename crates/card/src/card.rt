@@ -1,0 +1,287 @@
+//! A device with an arena of packet memory: what moves blocks between the two, and its other events.
+
+ghost use Rattle.std.specs.Prelude.{◌≡◌, ◌<◌, ◌≤◌, ◌↔◌, ℕ, [], true, false, IsFalse, IfOk, OnOk, OnErr, Ok, Err};
+ghost use Rattle.std.specs.FinMap as map;
+ghost use Rattle.std.specs.Vec.{vec_capacity};
+ghost use Rattle.nic_device.specs.Config.{IsBadFifo};
+ghost use Rattle.nic_device.specs.DmaArena.Block.{zero_block};
+ghost use Rattle.nic_device.specs.DmaArena.Memory.{has_block};
+ghost use Rattle.nic_device.specs.DmaArena.Numbers.{count_of, is_free, is_own, with_free};
+ghost use Rattle.nic_device.specs.Link.{next_out_of};
+ghost use Rattle.nic_device.specs.Step.{reply_to, word_told, moves_block, hands_out, TakesMemory};
+ghost use Rattle.card.specs.Card.{AreShared, CanReturn, arena_after, new_card, made, with_lent, with_taken, lent_below, with_image};
+
+use nic_device::{
+    Arena, Buf, Config, Device, Event, Image, LentMemory, MAX_VFS, NewFault, Note, Octets, Parts,
+    Port, Reply, ReplyNote,
+};
+use std::alloc::{AllocError, Global};
+use std::marker::Model;
+
+/// A device, and an arena of the blocks from 0 on. Each of these is free in the arena or lent to the device.
+pub struct Card {
+    pub(crate) device: Device,
+    pub(crate) arena: Arena,
+}
+
+impl Model for Card {
+    ghost use Rattle.card.specs.Card.{Holdings, AreShared, holdings_code};
+
+    ghost Value = { Holdings };
+
+    ghost coded = { holdings_code };
+
+    ghost view = { λ c. record { device = c.device; arena = c.arena } };
+
+    ghost invariant = { λ c. AreShared c.device.memory c.arena };
+}
+
+/// A reply without a block, as its note tells it.
+fn note_of(reply: Reply) -> ReplyNote
+    requires { IsFalse (hands_out reply) }
+    ensures { result ≡ reply }
+{
+    match reply.into_note() {
+        Ok(note) => note,
+        Err(_buf) => unreachable!(),
+    }
+}
+
+/// Lets the reply to a block that was lent go.
+fn is_lent_by(reply: Reply) -> bool
+    requires { IsFalse (hands_out reply) }
+    ensures { result ≡ true }
+{
+    let _done = note_of(reply);
+    true
+}
+
+/// Gives a block back to the arena that it was taken from.
+fn give_back(arena: &mut Arena, buf: Buf)
+    requires own { is_own arena.old buf.number ≡ true }
+    requires away { is_free arena.old buf.number ≡ false }
+    ensures { arena.new ≡ with_free arena.old buf.number true }
+{
+    match arena.give(buf) {
+        Ok(()) => {}
+        Err(_buf) => unreachable!(),
+    }
+}
+
+/// A reply as its note tells it. A block that it has is given back to the arena, and its bytes are copied into `room`.
+fn note_returned(arena: &mut Arena, reply: Reply, room: Vec<u8>) -> ReplyNote
+    requires own { CanReturn arena.old reply }
+    requires empty { room.items ≡ [] }
+    requires room { vec_capacity room ≡ 2048 }
+    ensures reply { result ≡ reply }
+    ensures arena { arena.new ≡ arena_after arena.old reply }
+{
+    match reply.into_note() {
+        Ok(note) => note,
+        Err(buf) => {
+            let note = Note::new(buf.block(), Octets::copied(buf.bytes(), room));
+            give_back(arena, buf);
+            Reply::Buf(note)
+        }
+    }
+}
+
+/// Ends lent memory without a block.
+fn end_memory(memory: LentMemory)
+    requires { (number : ℕ) → has_block memory number ≡ false }
+{
+    match memory.lowest() {
+        Some(_) => unreachable!(),
+        None => {}
+    }
+    match memory.finish() {
+        Ok(()) => {}
+        Err(_memory) => unreachable!(),
+    }
+}
+
+/// Takes a block back, where it is lent, and gives it to the arena.
+fn take_back(memory: &mut LentMemory, arena: &mut Arena, number: u32)
+    requires { AreShared memory.old arena.old }
+    ensures shared { AreShared memory.new arena.new }
+    ensures count { count_of arena.new ≡ count_of arena.old }
+    ensures taken { has_block memory.new number ≡ false }
+    ensures others { (other : ℕ) → has_block memory.old other ≡ false → has_block memory.new other ≡ false }
+{
+    if let Some(buf) = memory.take(number) {
+        give_back(arena, buf);
+    }
+}
+
+/// Takes all blocks back, and closes the arena.
+fn close(mut memory: LentMemory, mut arena: Arena)
+    requires { AreShared memory arena }
+{
+    let count = arena.count();
+    for number in 0..count {
+        take_back(&mut memory, &mut arena, number);
+    }
+    end_memory(memory);
+    match arena.close() {
+        Ok(()) => {}
+        Err(_arena) => unreachable!(),
+    }
+}
+
+/// Ends a device that no memory is lent to.
+fn end_device(device: Device)
+    requires { device.memory ≡ map.empty }
+{
+    let Parts {
+        memory,
+        frames: _,
+        image: _,
+    } = device.dismantle();
+    match memory.finish() {
+        Ok(()) => {}
+        Err(_memory) => unreachable!(),
+    }
+}
+
+impl Card {
+    /// A new device, and so many blocks, 1 to 65,536, all free. A refused configuration is told before memory is asked
+    /// for.
+    pub fn new(alloc: Global, config: Config, blocks: u32) -> Result<Card, NewFault>
+        requires some { 0 < blocks }
+        requires few { blocks ≤ 65536 }
+        ensures made { IfOk result (λ card. card ≡ new_card config.vfs config.fifo blocks) }
+        ensures too_many_vfs { (result ≡ Err NewFault.TooManyVfs) ↔ (MAX_VFS < config.vfs) }
+        ensures fifo { (result ≡ Err NewFault.Fifo) ↔ ((config.vfs ≤ MAX_VFS) × IsBadFifo config.fifo) }
+    {
+        let device = Device::new(alloc, config)?;
+        match Arena::new(alloc, 0, blocks) {
+            Ok(arena) => Ok(Card { device, arena }),
+            Err(_) => {
+                end_device(device);
+                Err(NewFault::OutOfMemory)
+            }
+        }
+    }
+
+    /// Makes an event that moves no block.
+    pub fn make(&mut self, event: Event) -> Result<ReplyNote, AllocError>
+        requires { IsFalse (moves_block event) }
+        ensures reply { IfOk result (λ reply. reply ≡ reply_to self.old.device event) }
+        ensures made { OnOk result (self.new ≡ made self.old event) }
+        ensures none { IfOk result (λ reply. IsFalse (hands_out reply)) }
+        ensures unchanged { OnErr result (self.new ≡ self.old) }
+        ensures memory { OnErr result (TakesMemory self.old.device event) }
+    {
+        match self.device.step(event) {
+            Ok(reply) => return Ok(note_of(reply)),
+            Err(refused) => match refused.event.into_buf() {
+                None => return Err(AllocError),
+                Some(_buf) => unreachable!(),
+            },
+        }
+    }
+
+    /// Lends a block that is free, whose bytes are 0: the device replies `Done`. `false` where it isn't free.
+    pub fn lend(&mut self, block: u32) -> Result<bool, AllocError>
+        ensures free { IfOk result (λ lent. lent ≡ is_free self.old.arena block) }
+        ensures lent { OnOk result (self.new ≡ with_lent self.old block) }
+        ensures done { result ≡ Ok true → reply_to self.old.device (Event.Lend (zero_block block)) ≡ Reply.Done }
+        ensures unchanged { OnErr result (self.new ≡ self.old) }
+        ensures wanted { OnErr result (is_free self.old.arena block ≡ true) }
+        ensures memory { OnErr result (TakesMemory self.old.device (Event.Lend (zero_block block))) }
+    {
+        let Some(buf) = self.arena.take_at(block) else {
+            return Ok(false);
+        };
+        match self.device.step(Event::Lend(buf)) {
+            Ok(reply) => Ok(is_lent_by(reply)),
+            Err(refused) => match refused.event.into_buf() {
+                Some(buf) => {
+                    give_back(&mut self.arena, buf);
+                    Err(AllocError)
+                }
+                None => unreachable!(),
+            },
+        }
+    }
+
+    /// Takes a block back, and gives it to the arena. `false` where it isn't lent.
+    pub fn take(&mut self, block: u32) -> bool
+        ensures lent { result ≡ has_block self.old.device.memory block }
+        ensures taken { self.new ≡ with_taken self.old block }
+    {
+        match self.device.step(Event::Take(block)) {
+            Ok(reply) => match reply.into_buf() {
+                None => false,
+                Some(buf) => {
+                    give_back(&mut self.arena, buf);
+                    true
+                }
+            },
+            Err(_refused) => unreachable!(),
+        }
+    }
+
+    /// Takes a block back, and gives it to the arena. Where it is lent, its bytes are copied into `room`.
+    pub fn take_noted(&mut self, block: u32, room: Vec<u8>) -> ReplyNote
+        requires empty { room.items ≡ [] }
+        requires room { vec_capacity room ≡ 2048 }
+        ensures reply { result ≡ reply_to self.old.device (Event.Take block) }
+        ensures taken { self.new ≡ with_taken self.old block }
+    {
+        match self.device.step(Event::Take(block)) {
+            Ok(reply) => note_returned(&mut self.arena, reply, room),
+            Err(_refused) => unreachable!(),
+        }
+    }
+
+    #[tactic(auto, unfolding(crate::specs::Card::lent_below))]
+    /// Lends the free blocks in order. Where there is no memory for one, those below it are lent.
+    pub fn lend_all(&mut self) -> Result<(), AllocError>
+        ensures lent { OnOk result (self.new ≡ lent_below self.old (count_of self.old.arena)) }
+        ensures stopped { OnErr result ((block : ℕ) × (block < count_of self.old.arena)
+            × (self.new ≡ lent_below self.old block)) }
+    {
+        for block in 0..self.arena.count() {
+            self.lend(block)?;
+        }
+        Ok(())
+    }
+
+    /// What a read of a register would give, without its effects. `None` where it would be stray.
+    pub fn peek(&self, port: Port, number: u32) -> Option<u32>
+        ensures { result ≡ word_told (reply_to self.now.device (Event.Read port number)) }
+    {
+        match port {
+            Port::Pf => self.device.peek_register(number),
+            Port::Vf(v) => self.device.peek_vf(v, number),
+        }
+    }
+
+    /// How many bytes the frame has that would be collected. 0 without one.
+    pub fn next_out(&self) -> usize
+        ensures { result ≡ next_out_of self.now.device.out }
+    {
+        self.device.next_out()
+    }
+
+    /// Puts an EEPROM image into the device.
+    pub fn install(&mut self, image: Image)
+        ensures { self.new ≡ with_image self.old image }
+    {
+        let _former = self.device.install(image);
+    }
+}
+
+/// Takes all lent blocks back, and ends both.
+impl Drop for Card {
+    fn drop(self) {
+        let Card { device, arena } = self;
+        let Parts {
+            memory,
+            frames: _,
+            image: _,
+        } = device.dismantle();
+        close(memory, arena);
+    }
+}

@@ -1,0 +1,74 @@
+//! A card that is kept as plain data.
+
+ghost use Rattle.std.specs.Prelude.{◌≡◌, IsTrue, IfOk};
+ghost use Rattle.nic_device.specs.DmaArena.Numbers.{are_all_free};
+
+use crate::card::Card;
+use nic_device::{Arena, Device, RestoreRefused, Snapshot};
+use std::alloc::{AllocError, Global};
+use std::marker::Model;
+
+/// What a card holds: a snapshot of its device, with the bytes of the blocks that are lent to it, and how many blocks
+/// the card has. Those that aren't lent are free.
+#[derive(Drop)]
+pub struct Kept {
+    device: Snapshot,
+    blocks: u32,
+}
+
+impl Model for Kept {
+    ghost use Rattle.card.specs.Card.{Holdings, AreShared, holdings_code};
+    ghost use Rattle.card.specs.Kept.{blocks_beside};
+
+    ghost Value = { Holdings };
+
+    ghost coded = { holdings_code };
+
+    ghost view = { λ k. record { device = k.device; arena = blocks_beside k.blocks k.device.memory } };
+
+    ghost invariant = { λ k. AreShared k.device.memory (blocks_beside k.blocks k.device.memory) };
+}
+
+/// Ends an arena whose blocks are all free.
+fn end_arena(arena: Arena)
+    requires { IsTrue (are_all_free arena) }
+{
+    match arena.close() {
+        Ok(()) => {}
+        Err(_arena) => unreachable!(),
+    }
+}
+
+impl Card {
+    /// The card as plain data; it stays as it is.
+    pub fn keep(&self) -> Result<Kept, AllocError>
+        ensures { IfOk result (λ kept. kept ≡ self.now) }
+    {
+        match self.device.snapshot() {
+            Ok(device) => Ok(Kept {
+                device,
+                blocks: self.arena.count(),
+            }),
+            Err(_) => Err(AllocError),
+        }
+    }
+}
+
+impl Kept {
+    /// The card that was kept once more, with packet memory of its own.
+    pub fn card(&self, alloc: Global) -> Result<Card, AllocError>
+        ensures { IfOk result (λ card. card ≡ self.now) }
+    {
+        let Ok(mut arena) = Arena::new(alloc, 0, self.blocks) else {
+            return Err(AllocError);
+        };
+        match Device::restore(&self.device, &mut arena) {
+            Ok(device) => Ok(Card { device, arena }),
+            Err(RestoreRefused::NotFree(_block)) => unreachable!(),
+            Err(RestoreRefused::OutOfMemory) => {
+                end_arena(arena);
+                Err(AllocError)
+            }
+        }
+    }
+}

@@ -1,0 +1,14 @@
+//! A card: a device, and the packet memory that it shares with its holder.
+//!
+//! A `Card` has a device and an arena of the blocks from 0 on; each of these is free in the arena or lent to the
+//! device. Its calls move blocks between the two, so that none is lost, and make the device's other events. A card is
+//! `Kept` as plain data, and made again from that. What each call answers and leaves is said by the device's own
+//! definition of the event that it makes (`nic_device/specs/Step.antt`).
+#![tactic(auto)]
+
+mod bus;
+mod card;
+mod kept;
+
+pub use card::Card;
+pub use kept::Kept;

@@ -1,12 +1,11 @@
 -- A machine stands where its steps lead.
 use Rattle.std.proofs.Common.{◌≡◌, ◌⊎◌, refl, sym, ◌∙◌, ap, ℕ, suc, ◌+◌, Bool, true, false, cond, Option, Some, None, inl, inr, ⊎_elim, add-one, Result, Ok, Err, OnOk, OnErr}
-use Rattle.nic_device.specs.State.{new_state}
 use Rattle.nic_device.specs.declared.Config.{Config}
-use Rattle.machine.specs.Board.{Holdings, all_blocks}
+use Rattle.card.specs.Card.{Holdings, new_card}
 use Rattle.machine.specs.Action.{action_of}
 use Rattle.machine.specs.MachineState.{MachineState}
 use Rattle.machine.specs.Machine.{Step, start_of, status_at, acted, done, executed_if_some, next_instruction, machine_step, machine_at}
-use Rattle.machine.specs.Processor.{IsWhereStepsLead}
+use Rattle.machine.specs.Processor.{state_with, IsWhereStepsLead}
 use Rattle.machine.specs.declared.action.Action.{Action}
 use Rattle.machine.specs.declared.action.Action.TheVariants.{Make, Lend, TakeBack, Arrive, Local}
 use Rattle.machine.specs.declared.action.LocalAction.{LocalAction}
@@ -54,21 +53,11 @@ pub leads-start : (program : Listing) (config : Config) (s : MachineState) → s
 unfolding machine_at
 leads-start program config s new = new ∙ ap (λ (t : MachineState). machine_at program config t.steps) (sym new)
 
-pub leads-new : (program : Listing) (config : Config) (board : Holdings) (s : MachineState)
-    → board ≡ record { device = new_state config.vfs config.fifo; arena = all_blocks }
-    → s ≡ record {
-      device = board.device;
-      arena = board.arena;
-      pc = 0;
-      acc = 0;
-      status = status_at program 0;
-      steps =
-          0;
-    } → IsWhereStepsLead program config s
-leads-new program config board s new made =
-    leads-start program config s
-    (made ∙ ap (λ (b : Holdings). record
-    { device = b.device; arena = b.arena; pc = 0; acc = 0; status = status_at program 0; steps = 0 }) new)
+pub leads-new : (program : Listing) (config : Config) (card : Holdings) (s : MachineState)
+    → card ≡ new_card config.vfs config.fifo 256
+    → s ≡ state_with card 0 0 (status_at program 0) 0 → IsWhereStepsLead program config s
+leads-new program config card s new made =
+    leads-start program config s (made ∙ ap (λ c. state_with c 0 0 (status_at program 0) 0) new)
 
 pub leads-step : (program : Listing) (config : Config) (s : MachineState) → IsWhereStepsLead program config s
     → IsWhereStepsLead program config (machine_step program s).state

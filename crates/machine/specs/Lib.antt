@@ -1,8 +1,6 @@
-pub mod Board
 pub mod MachineState
 pub mod Action
 pub mod Machine
 pub mod Course
 pub mod Processor
 pub mod Laws
-pub mod Snapshot

@@ -1,7 +1,8 @@
 -- What a step of the machine does, and where so many steps lead.
 use Rattle.std.specs.Prelude.{ℕ, zero, suc, ◌+◌, ◌*◌, ◌-◌, ◌^◌, Bool, true, false, ◌&&◌, ◌==◌, nat_lt, bit_and, List, [], ◌∷◌, ◌++◌, length, slice_get, slice_index, Option, Some, None, ⊤, if◌then◌else◌}
 use Rattle.program.specs.DmaArena.Block.{Block, zero_block}
-use Rattle.program.specs.DmaArena.Numbers.{Numbers, is_free, with_free}
+use Rattle.program.specs.DmaArena.Numbers.{Numbers, is_free, with_free, all_free}
+use Rattle.card.specs.Card.{arena_after}
 use Rattle.nic_device.specs.State.{new_state}
 use Rattle.nic_device.specs.Outcome.{Outcome}
 use Rattle.nic_device.specs.Step.{step_of, TakesMemory}
@@ -10,7 +11,6 @@ use Rattle.nic_device.specs.declared.Event.{Event}
 use Rattle.nic_device.specs.declared.Event.TheVariants as event
 use Rattle.nic_device.specs.declared.Reply.{Reply}
 use Rattle.nic_device.specs.declared.Reply.TheVariants as reply
-use Rattle.machine.specs.Board.{all_blocks, arena_after}
 use Rattle.machine.specs.Action.{action_of}
 use Rattle.machine.specs.MachineState.{MachineState}
 use Rattle.machine.specs.declared.action.Action.{Action}
@@ -29,6 +29,10 @@ use Rattle.program.specs.declared.instruction.Instruction.{Instruction}
 -- a machine has ended as soon as its next instruction would be the one behind the last
 abbrev pub status_at : Listing → ℕ → Status
 status_at program pc = if pc == length program.instructions then Ended else Running
+
+-- the blocks of a machine before its first step
+abbrev pub all_blocks : Numbers
+all_blocks = all_free 0 256
 
 -- a new machine: a new device, all blocks free, and the first instruction next
 abbrev pub start_of : Listing → Config → MachineState

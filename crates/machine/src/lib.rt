@@ -6,12 +6,10 @@
 #![tactic(auto)]
 
 mod action;
-mod board;
 pub mod laws;
 mod machine;
 mod processor;
 mod snapshot;
 
-pub use board::BLOCKS;
-pub use machine::{Machine, NewRefused, OutOfMemory, Status, StepAnswer};
+pub use machine::{BLOCKS, Machine, NewRefused, OutOfMemory, Status, StepAnswer};
 pub use snapshot::MachineSnapshot;

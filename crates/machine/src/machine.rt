@@ -6,13 +6,16 @@ ghost use Rattle.nic_device.specs.Config.{IsBadFifo};
 ghost use Rattle.nic_device.specs.Step.{step_of, word_told};
 ghost use Rattle.machine.specs.Machine.{start_of, machine_step, machine_at, StepTakesMemory};
 
-use crate::board::Board;
 use crate::processor::Processor;
+use card::Card;
 use nic_device::{Config, Event, MAX_VFS, NewFault, Port, ReplyNote};
 use program::Program;
 use std::alloc::Global;
 use std::marker::Model;
 use thiserror::Error;
+
+/// How many blocks of packet memory a machine has: those numbered from 0 on.
+pub const BLOCKS: u32 = 256;
 
 /// Whether a machine runs.
 #[derive(Clone, Copy, Debug, PartialEq, Eq)]
@@ -96,11 +99,11 @@ impl Machine {
         ensures fifo { IsErrAnd result (λ refused. refused.fault ≡ NewFault.Fifo)
             ↔ ((config.vfs ≤ MAX_VFS) × IsBadFifo config.fifo) }
     {
-        let board = match Board::new(alloc, config) {
-            Ok(board) => board,
+        let card = match Card::new(alloc, config, BLOCKS) {
+            Ok(card) => card,
             Err(fault) => return Err(NewRefused { fault, program }),
         };
-        let processor = Processor::new(alloc, board, &program);
+        let processor = Processor::new(alloc, card, &program);
         Ok(Machine {
             program,
             config,
@@ -155,7 +158,7 @@ impl Machine {
     pub fn peek_register(&self, address: u32) -> Option<u32>
         ensures { result ≡ word_told (step_of self.now.state.device (Event.Read Port.Pf address)).reply }
     {
-        self.processor.board.peek_register(address)
+        self.processor.card.peek(Port::Pf, address)
     }
 
     /// What a read of an offset through a virtual function would give, without its effects. `None` where it would be
@@ -163,7 +166,7 @@ impl Machine {
     pub fn peek_vf(&self, function: u8, offset: u32) -> Option<u32>
         ensures { result ≡ word_told (step_of self.now.state.device (Event.Read (Port.Vf function) offset)).reply }
     {
-        self.processor.board.peek_vf(function, offset)
+        self.processor.card.peek(Port::Vf(function), offset)
     }
 
     /// Its program.
@@ -184,13 +187,13 @@ impl Machine {
         } = self;
         let Processor {
             alloc: _,
-            board,
+            card,
             pc: _,
             acc: _,
             status: _,
             steps: _,
         } = processor;
-        board.finish();
+        drop(card);
         program
     }
 

@@ -4,12 +4,12 @@ ghost use Rattle.std.specs.Prelude.{◌≡◌, ◌+◌, ◌-◌, ◌*◌, ◌<�
 ghost use Rattle.nic_device.specs.Step.{moves_block};
 ghost use Rattle.machine.specs.Action.{IsPart, IsSoundAction, StaysInside};
 ghost use Rattle.machine.specs.Machine.{status_at, moved_to, moved_on, stopped_as, word_read, word_in, word_peeked, acc_after, acted, next_instruction, done, executed_if_some, TakesSome, machine_step, StepTakesMemory};
-ghost use Rattle.machine.specs.Processor.{state_of};
+ghost use Rattle.machine.specs.Processor.{state_with, state_of};
 ghost use Rattle.program.specs.Listing.{IsSound};
 
 use crate::action::{Action, Kept, LocalAction, action_of};
-use crate::board::Board;
 use crate::machine::{OutOfMemory, Status, StepAnswer};
+use card::Card;
 use nic_device::{Event, Reply, ReplyNote};
 use program::{BLOCK_BYTES, Instruction, Octets, Program};
 use std::alloc::Global;
@@ -17,7 +17,7 @@ use std::alloc::Global;
 /// A machine but for its program.
 pub(crate) struct Processor {
     pub(crate) alloc: Global,
-    pub(crate) board: Board,
+    pub(crate) card: Card,
     pub(crate) pc: u16,
     pub(crate) acc: u32,
     pub(crate) status: Status,
@@ -82,20 +82,12 @@ fn status_at(program: &Program, pc: u16) -> Status
 
 impl Processor {
     /// Before the first step of a program.
-    pub(crate) fn new(alloc: Global, board: Board, program: &Program) -> Processor
-        ensures { state_of result ≡
-            record {
-              device = board.device;
-              arena = board.arena;
-              pc = 0;
-              acc = 0;
-              status = status_at program.now 0;
-              steps = 0;
-            } }
+    pub(crate) fn new(alloc: Global, card: Card, program: &Program) -> Processor
+        ensures { state_of result ≡ state_with card 0 0 (status_at program.now 0) 0 }
     {
         Processor {
             alloc,
-            board,
+            card,
             pc: 0,
             acc: 0,
             status: status_at(program, 0),
@@ -209,7 +201,9 @@ impl Processor {
         ensures unchanged { OnErr result (state_of self.new ≡ state_of self.old) }
         ensures memory { OnErr result (TakesSome (state_of self.old) (Action.Make event kept)) }
     {
-        let reply = self.board.make(event)?;
+        let Ok(reply) = self.card.make(event) else {
+            return Err(OutOfMemory);
+        };
         self.acc = acc_after(kept, &reply, self.acc);
         self.move_on(program);
         Ok(StepAnswer::Made(reply))
@@ -226,15 +220,16 @@ impl Processor {
         ensures unchanged { OnErr result (state_of self.new ≡ state_of self.old) }
         ensures memory { OnErr result (TakesSome (state_of self.old) (Action.Lend block)) }
     {
-        match self.board.lend(u32::from(block))? {
-            Some(reply) => {
+        match self.card.lend(u32::from(block)) {
+            Ok(true) => {
                 self.move_on(program);
-                Ok(StepAnswer::Made(reply))
+                Ok(StepAnswer::Made(Reply::Done))
             }
-            None => {
+            Ok(false) => {
                 self.move_on(program);
                 Ok(StepAnswer::NoBlock)
             }
+            Err(_) => Err(OutOfMemory),
         }
     }
 
@@ -251,7 +246,7 @@ impl Processor {
         let Ok(room) = Vec::with_capacity(self.alloc, BLOCK_BYTES) else {
             return Err(OutOfMemory);
         };
-        let reply = self.board.unlend(u32::from(block), room);
+        let reply = self.card.take_noted(u32::from(block), room);
         self.move_on(program);
         Ok(StepAnswer::Made(reply))
     }

@@ -3,10 +3,10 @@
 ghost use Rattle.std.specs.Prelude.{◌≡◌, IfOk};
 ghost use Rattle.machine.specs.Machine.{machine_at};
 
-use crate::board::Board;
 use crate::machine::{Machine, OutOfMemory, Status};
 use crate::processor::Processor;
-use nic_device::{Config, Snapshot};
+use card::Kept;
+use nic_device::Config;
 use program::Program;
 use std::alloc::Global;
 use std::marker::Model;
@@ -17,7 +17,7 @@ pub struct MachineSnapshot {
     alloc: Global,
     program: Program,
     config: Config,
-    device: Snapshot,
+    card: Kept,
     pc: u16,
     acc: u32,
     status: Status,
@@ -34,16 +34,16 @@ impl Model for MachineSnapshot {
 
     ghost coded = { Prim.hlevel (codes, state_code) };
 
-    ghost use Rattle.machine.specs.Machine.{machine_at};
-    ghost use Rattle.machine.specs.Snapshot.{Holds};
+    ghost use Rattle.machine.specs.Processor.{state_with, IsWhereStepsLead};
 
     ghost view = { λ s. record {
       program = s.program;
       config = s.config;
-      state = machine_at s.program s.config s.steps;
+      state = state_with s.card s.pc s.acc s.status s.steps;
     } };
 
-    ghost invariant = { λ s. Holds s.device s.pc s.acc s.status s.steps (machine_at s.program s.config s.steps) };
+    ghost invariant = { λ s.
+      IsWhereStepsLead s.program s.config (state_with s.card s.pc s.acc s.status s.steps) };
 }
 
 impl MachineSnapshot {
@@ -65,12 +65,14 @@ impl Machine {
         let Ok(program) = self.program.copy(processor.alloc) else {
             return Err(OutOfMemory);
         };
-        let device = processor.board.snapshot()?;
+        let Ok(card) = processor.card.keep() else {
+            return Err(OutOfMemory);
+        };
         Ok(MachineSnapshot {
             alloc: processor.alloc,
             program,
             config: self.config,
-            device,
+            card,
             pc: processor.pc,
             acc: processor.acc,
             status: processor.status,
@@ -86,10 +88,12 @@ impl Machine {
         let Ok(program) = snapshot.program.copy(alloc) else {
             return Err(OutOfMemory);
         };
-        let board = Board::restore(alloc, &snapshot.device)?;
+        let Ok(card) = snapshot.card.card(alloc) else {
+            return Err(OutOfMemory);
+        };
         let processor = Processor {
             alloc,
-            board,
+            card,
             pc: snapshot.pc,
             acc: snapshot.acc,
             status: snapshot.status,

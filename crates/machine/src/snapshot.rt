@@ -43,7 +43,7 @@ impl Model for MachineSnapshot {
     } };
 
     ghost invariant = { λ s.
-      IsWhereStepsLead s.program s.config (state_with s.card s.pc s.acc s.status s.steps) };
+        IsWhereStepsLead s.program s.config (state_with s.card s.pc s.acc s.status s.steps) };
 }
 
 impl MachineSnapshot {

@@ -6,8 +6,8 @@ use Rattle.std_alloc.proofs.BoxSteps.Form.{Bx}
 use Rattle.std_heap.specs.contracts.Global as Heap
 use Rattle.std_heap.specs.contracts.GlobalAllocator.TheImpl.{ghosts, dict}
 use Rattle.std_heap.proofs.Global.TheLaws as heap
-use Rattle.nic82599_c.specs.contracts.card.Card as Card
-use Rattle.nic82599_c.proofs.card.Card.TheLaws as card
+use Rattle.card.specs.contracts.card.Card as Card
+use Rattle.card.proofs.card.Card.TheLaws as card
 use Rattle.nic82599_c.specs.contracts.parts.Parts as Parts
 use Rattle.nic82599_c.specs.contracts.handle.Handle as Handle
 

@@ -3,7 +3,7 @@ use Rattle.std.proofs.Common.{◌≡◌, refl, sym, ◌∙◌, ap, ℕ, suc, ◌
 use Rattle.std.specs.Prelude.{◌==◌}
 use Rattle.std.proofs.lemmas.Bool.{eqb-true}
 use Rattle.std.proofs.lemmas.List.{length-take-le}
-use Rattle.nic82599_c.specs.Card.{Holdings}
+use Rattle.card.specs.Card.{Holdings}
 use Rattle.nic82599_c.specs.Settling.{Course, course, is_last, is_over, rounds, stepped, walked}
 use Rattle.nic82599_c.specs.declared.settling.Step.{Step}
 use Rattle.nic82599_c.specs.declared.told.Told.{Told}

@@ -6,8 +6,8 @@ use Rattle.std_alloc.proofs.BoxSteps.Form.{Bx}
 use Rattle.std_heap.specs.contracts.Global as Heap
 use Rattle.std_heap.specs.contracts.GlobalAllocator.TheImpl.{ghosts, dict}
 use Rattle.std_heap.proofs.Global.TheLaws as heap
-use Rattle.nic82599_c.specs.contracts.kept.Kept as Kept
-use Rattle.nic82599_c.proofs.kept.Kept.TheLaws as kept
+use Rattle.card.specs.contracts.kept.Kept as Kept
+use Rattle.card.proofs.kept.Kept.TheLaws as kept
 use Rattle.nic82599_c.specs.contracts.parts.Parts as Parts
 use Rattle.nic82599_c.specs.contracts.kept_handle.KeptHandle as KeptHandle
 

@@ -5,7 +5,7 @@ use denote.RawPtr.{Ptr}
 use Rattle.std.specs.Box.Ownership.{box_owns}
 use Rattle.std.specs.Global.{Global}
 use Rattle.std_heap.specs.contracts.GlobalAllocator.TheImpl.{ghosts}
-use Rattle.nic82599_c.specs.contracts.card.Card.{the_row}
+use Rattle.card.specs.contracts.card.Card.{the_row}
 
 abbrev pub handle_owns : Global → Ptr → the_row.Denot → Fml
 handle_owns alloc = box_owns (ghosts.dealloc_token alloc) the_row

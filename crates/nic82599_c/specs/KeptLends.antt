@@ -2,7 +2,7 @@
 use base.Fml.{Fml}
 use denote.Ref.{MutBor}
 use denote.Follow.{follows}
-use Rattle.nic82599_c.specs.contracts.kept.Kept.{the_row as kept-row}
+use Rattle.card.specs.contracts.kept.Kept.{the_row as kept-row}
 use Rattle.nic82599_c.specs.contracts.kept_handle.KeptHandle.{the_row as handle-row}
 
 -- once the borrow r ends, the handle behind h holds the last kept card written through r

@@ -2,7 +2,7 @@
 use base.Fml.{Fml}
 use denote.Ref.{MutBor}
 use denote.Follow.{follows}
-use Rattle.nic82599_c.specs.contracts.card.Card.{the_row as card-row}
+use Rattle.card.specs.contracts.card.Card.{the_row as card-row}
 use Rattle.nic82599_c.specs.contracts.handle.Handle.{the_row as handle-row}
 
 -- once the borrow r ends, the handle behind h holds the last card written through r

@@ -1,10 +1,9 @@
-pub mod Card
 pub mod Handle
 pub mod Images
-pub mod Kept
 pub mod KeptHandle
 pub mod KeptLends
 pub mod Lends
 pub mod Life
 pub mod Settling
+pub mod Statuses
 pub mod Told

@@ -5,7 +5,7 @@ use Rattle.nic_device.specs.DmaRing.declared.dir.Dir.TheVariants as dir
 use Rattle.nic_device.specs.Step.{reply_to}
 use Rattle.nic_device.specs.declared.event.Event.{Event}
 use Rattle.nic_device.specs.declared.event.Event.TheVariants as event
-use Rattle.nic82599_c.specs.Card.{Holdings, made}
+use Rattle.card.specs.Card.{Holdings, made}
 use Rattle.nic82599_c.specs.Told.{status_of, told_of, group_of}
 use Rattle.nic82599_c.specs.declared.settling.Step.{Step}
 use Rattle.nic82599_c.specs.declared.settling.Step.TheVariants as step

@@ -2,31 +2,11 @@
 
 ghost use Rattle.std.specs.Prelude.{◌≡◌, true, false, length};
 ghost use Rattle.nic_device.specs.DmaArena.Memory.{is_lent, read_at};
-ghost use Rattle.nic82599_c.specs.Card.{bus_status, written};
+ghost use Rattle.card.specs.Card.{written};
+ghost use Rattle.nic82599_c.specs.Statuses.{bus_status};
 
-use crate::card::Card;
 use crate::handle::Handle;
 use crate::status::{DONE, NOT_LENT};
-
-impl Card {
-    /// Fills the slice with the bytes from a bus address on. `false` where one of them isn't lent.
-    pub(crate) fn dma_read(&self, bus: u64, bytes: &mut [u8]) -> bool
-        ensures lent { result ≡ is_lent self.now.device.memory bus (length bytes.old) }
-        ensures read { result ≡ true → bytes.new ≡ read_at self.now.device.memory bus (length bytes.old) }
-        ensures kept { result ≡ false → bytes.new ≡ bytes.old }
-    {
-        self.device.dma_read(bus, bytes)
-    }
-
-    /// Writes the bytes of the slice from a bus address on. `false` where one of them isn't lent.
-    pub(crate) fn dma_write(&mut self, bus: u64, bytes: &[u8]) -> bool
-        ensures lent { result ≡ is_lent self.old.device.memory bus (length bytes.now) }
-        ensures written { result ≡ true → self.new ≡ written self.old bus bytes.now }
-        ensures kept { result ≡ false → self.new ≡ self.old }
-    {
-        self.device.dma_write(bus, bytes)
-    }
-}
 
 /// Reads bytes of packet memory from a bus address on, also across blocks: all of them, or NOT_LENT.
 #[unsafe(no_mangle)]

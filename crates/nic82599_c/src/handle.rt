@@ -1,11 +1,11 @@
 //! What C holds of a card: a pointer that it never follows.
 
 ghost use Rattle.std.specs.Prelude.{◌≡◌};
-ghost use Rattle.nic82599_c.specs.declared.card.Card.{Card};
+ghost use Rattle.card.specs.declared.card.Card.{Card};
 ghost use Rattle.nic82599_c.specs.Handle.{card_coded, handle_owns};
 
-use crate::card::Card;
 use crate::parts::Parts;
+use card::Card;
 use std::alloc::Global;
 use std::marker::Model;
 

@@ -5,14 +5,14 @@ ghost use Rattle.nic_device.specs.EepromImage.Bytes.{bytes_of};
 ghost use Rattle.nic_device.specs.EepromImage.File.{file_fault};
 ghost use Rattle.nic_device.specs.EepromImage.Image.{IsImage};
 ghost use Rattle.nic_device.specs.EepromImage.Text.{sound_content, IsImageOf};
-ghost use Rattle.nic82599_c.specs.Card.{with_image};
+ghost use Rattle.card.specs.Card.{with_image};
 ghost use Rattle.nic82599_c.specs.Images.{load_status, load_fault_status};
 ghost use Rattle.nic82599_c.specs.Images.{text_status, text_line, text_fault_status, line_of};
 ghost use Rattle.nic82599_c.specs.Images.{content_status, content_line};
 
-use crate::card::Card;
 use crate::handle::Handle;
 use crate::status::{DONE, OUT_OF_MEMORY};
+use card::Card;
 use nic_device::{AsmFault, LoadFault, assemble, load};
 use std::alloc::Global;
 

@@ -1,12 +1,12 @@
 //! What C holds of a card that is kept: a pointer that it never follows.
 
 ghost use Rattle.std.specs.Prelude.{◌≡◌};
-ghost use Rattle.nic82599_c.specs.declared.kept.Kept.{Kept};
+ghost use Rattle.card.specs.declared.kept.Kept.{Kept};
 ghost use Rattle.nic82599_c.specs.KeptHandle.{kept_coded, kept_handle_owns};
 
 use crate::handle::Opaque;
-use crate::kept::Kept;
 use crate::parts::Parts;
+use card::Kept;
 use std::alloc::Global;
 use std::marker::Model;
 

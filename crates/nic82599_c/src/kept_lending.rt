@@ -4,8 +4,8 @@ ghost use Rattle.std.specs.Prelude.{◌≡◌};
 ghost use Rattle.nic82599_c.specs.KeptLends.{kept_handle_lends};
 ghost use types.Logic.{sem};
 
-use crate::kept::Kept;
 use crate::kept_handle::KeptHandle;
+use card::Kept;
 
 impl KeptHandle {
     /// The kept card. The handle has in the end the one that was last written here.

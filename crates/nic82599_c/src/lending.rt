@@ -4,8 +4,8 @@ ghost use Rattle.std.specs.Prelude.{◌≡◌};
 ghost use Rattle.nic82599_c.specs.Lends.{handle_lends};
 ghost use types.Logic.{sem};
 
-use crate::card::Card;
 use crate::handle::Handle;
+use card::Card;
 
 impl Handle {
     /// The card. The handle has in the end the card that was last written here.

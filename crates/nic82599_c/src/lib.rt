@@ -8,11 +8,9 @@
 #![tactic(auto)]
 
 mod bus;
-mod card;
 mod handle;
 mod hashing;
 mod images;
-mod kept;
 mod kept_handle;
 mod kept_lending;
 mod lending;

@@ -3,9 +3,9 @@
 ghost use Rattle.std.specs.Prelude.{◌≡◌, ◌≢◌};
 ghost use Rattle.nic82599_c.specs.Life.{new_status};
 
-use crate::card::Card;
 use crate::handle::{Handle, Opaque};
 use crate::status::{BAD_BLOCKS, BAD_FIFO, DONE, OUT_OF_MEMORY, TOO_MANY_VFS};
+use card::Card;
 use nic_device::{BLOCK_NUMBERS, Config, MAX_FIFO, MAX_VFS};
 use std::alloc::Global;
 

@@ -2,7 +2,8 @@
 
 ghost use Rattle.std.specs.Prelude.{◌≡◌, ◌≢◌, ◌<◌, ℕ};
 ghost use Rattle.nic_device.specs.DmaArena.Numbers.{count_of};
-ghost use Rattle.nic82599_c.specs.Card.{with_lent, with_taken, lent_below, lend_status, take_status};
+ghost use Rattle.card.specs.Card.{with_lent, with_taken, lent_below};
+ghost use Rattle.nic82599_c.specs.Statuses.{lend_status, take_status};
 
 use crate::handle::Handle;
 use crate::status::{DONE, NO_BLOCK, NOT_LENT, OUT_OF_MEMORY};

@@ -2,13 +2,14 @@
 
 ghost use Rattle.std.specs.Prelude.{◌≡◌, unwrap_or};
 ghost use Rattle.nic_device.specs.Step.{reply_to, word_told};
-ghost use Rattle.nic82599_c.specs.Card.{made, peek_status};
+ghost use Rattle.card.specs.Card.{made};
+ghost use Rattle.nic82599_c.specs.Statuses.{peek_status};
 ghost use Rattle.nic82599_c.specs.Told.{status_of, word_of};
 
-use crate::card::Card;
 use crate::handle::Handle;
 use crate::status::{DONE, STRAY};
 use crate::told::status_of;
+use card::Card;
 use nic_device::{Event, Port, Reply, ReplyNote};
 
 /// The word that a read gives, also a stray one. No other reply has one.

@@ -4,10 +4,10 @@ ghost use Rattle.std.specs.Prelude.{◌≡◌, ◌≢◌, ◌<◌, ◌≤◌, If
 ghost use Rattle.nic82599_c.specs.Settling.{event_of, named, is_quiet, round_of};
 ghost use Rattle.nic82599_c.specs.Settling.{course, is_over, stepped, walked, rounds, settled};
 
-use crate::card::Card;
 use crate::handle::Handle;
 use crate::status::{DONE, IDLE, MORE, NO_GROUP, NO_QUEUE, OUT_OF_MEMORY};
 use crate::told::{Told, group_of, status_of, told_of};
+use card::Card;
 use nic_device::{Dir, Event, MAX_VFS, QUEUES};
 use std::alloc::{AllocError, Global};
 

@@ -2,13 +2,13 @@
 
 ghost use Rattle.std.specs.Prelude.{◌≡◌, ◌≢◌, IsFalse};
 ghost use Rattle.nic_device.specs.Step.{reply_to, moves_block, TakesMemory};
-ghost use Rattle.nic82599_c.specs.Card.{made};
+ghost use Rattle.card.specs.Card.{made};
 ghost use Rattle.nic82599_c.specs.Told.{status_of, told_of, group_of, dir_of};
 
-use crate::card::Card;
 use crate::handle::Handle;
 use crate::status::OUT_OF_MEMORY;
 use crate::told::{Told, group_of, status_of, told_of};
+use card::Card;
 use nic_device::{Dir, Event};
 
 /// Makes an event that moves no block, and tells of it.

@@ -3,14 +3,14 @@
 ghost use Rattle.std.specs.Prelude.{◌≡◌, ◌≢◌, ◌<◌, ◌≤◌, length};
 ghost use Rattle.nic_device.specs.Link.{next_out_of};
 ghost use Rattle.nic_device.specs.Step.{reply_to};
-ghost use Rattle.nic82599_c.specs.Card.{made};
+ghost use Rattle.card.specs.Card.{made};
 ghost use Rattle.nic82599_c.specs.Told.{status_of, told_of, with_frame};
 
-use crate::card::Card;
 use crate::handle::Handle;
 use crate::status::{NO_ROOM, OUT_OF_MEMORY};
 use crate::steps::tell;
 use crate::told::{Told, status_of, told_of};
+use card::Card;
 use nic_device::{Event, Octets, Reply};
 use std::alloc::Global;
 

@@ -37,7 +37,7 @@ use Rattle.std_alloc.proofs.VecSteps.Shapes.{after}
 use Rattle.std_alloc.proofs.BoxSteps.Form.{D, R, X, τ, word, handle}
 use Rattle.std_alloc.proofs.BoxSteps.Form as form
 use Rattle.std_alloc.proofs.BoxSteps.Steps.{box_out, box_in}
-use Rattle.nic82599_c.specs.contracts.card.Card as Card
+use Rattle.card.specs.contracts.card.Card as Card
 use Rattle.nic82599_c.specs.contracts.handle.Handle as Handle
 use Rattle.nic82599_c.specs.contracts.handle.Handle.lend as F
 use Rattle.nic82599_c.specs.contracts.handle.Handle.lend.Key.{name as #self}

@@ -1,0 +1,21 @@
+-- The statuses of calls that make no event, or one whose reply isn't told.
+use Rattle.std.specs.Prelude.{ℕ, Bool, Option, Some, None, if◌then◌else◌}
+use Rattle.nic_device.specs.DmaArena.Memory.{has_block}
+use Rattle.nic_device.specs.DmaArena.Numbers.{is_free}
+use Rattle.card.specs.Card.{Holdings}
+
+-- whether a word is told
+abbrev pub peek_status : Option ℕ → ℕ
+peek_status (Some word) = 0
+peek_status None = 1
+
+-- what a lending and a taking back answer where there is memory
+abbrev pub lend_status : Holdings → ℕ → ℕ
+lend_status c block = if is_free c.arena block then 0 else 37
+
+abbrev pub take_status : Holdings → ℕ → ℕ
+take_status c block = if has_block c.device.memory block then 0 else 16
+
+-- what is read or written over the bus is lent, or not
+abbrev pub bus_status : Bool → ℕ
+bus_status lent = if lent then 0 else 16

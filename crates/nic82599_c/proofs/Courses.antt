@@ -49,7 +49,8 @@ round-next more room steps before after end is last leads =
     let e : is_last before (walked room before steps) ≡ false = ap (is_last before) (sym is) ∙ last in
     ap (rounds more room steps) is ∙ (rw e at leads)
 
-pub round-none : (room : ℕ) (steps : List Step) (before : Course) → rounds 0 room steps before ≡ record before { ended = 38 }
+pub round-none : (room : ℕ) (steps : List Step) (before : Course) → rounds 0 room steps before ≡ record before
+    { ended = 38 }
 unfolding rounds
 round-none room steps before = refl
 

@@ -2,20 +2,21 @@
 use mir.Syntax.{impl, tnil, dnil}
 use mathlib.Core.List.{[]}
 use denote.Signature.{Slot, plain}
+use Rattle.core.proofs.alloc.Calls.{Al}
 use Rattle.std_alloc.proofs.BoxSteps.Form.{Bx}
 use Rattle.std_heap.specs.contracts.Global as Heap
 use Rattle.std_heap.specs.contracts.GlobalAllocator.TheImpl.{ghosts, dict}
 use Rattle.std_heap.proofs.Global.TheLaws as heap
 use Rattle.card.specs.contracts.kept.Kept as Kept
 use Rattle.card.proofs.kept.Kept.TheLaws as kept
-use Rattle.nic82599_c.specs.contracts.parts.Parts as Parts
 use Rattle.nic82599_c.specs.contracts.kept_handle.KeptHandle as KeptHandle
 
-abbrev pub E : Bx
-E = record { row = Kept.the_row; laws = kept.the_row_laws; al = record { row = Heap.the_row; laws = heap.the_row_laws; g = ghosts; d = dict; drops = impl [] tnil dnil } }
+abbrev heap_al : Al
+heap_al =
+    record { row = Heap.the_row; laws = heap.the_row_laws; g = ghosts; d = dict; drops = impl [] tnil dnil }
 
-abbrev pub FromParts : Slot 0
-FromParts = plain (λ _. Parts.the_row Kept.the_row Heap.the_row ghosts)
+abbrev pub E : Bx
+E = record { row = Kept.the_row; laws = kept.the_row_laws; al = heap_al }
 
 abbrev pub FromHandle : Slot 0
 FromHandle = plain (λ _. KeptHandle.the_row)

@@ -28,17 +28,6 @@ impl Model for Handle {
 }
 
 impl Handle {
-    /// The handle of a box's parts.
-    pub fn of_parts(parts: Parts<Card, Global>) -> Handle
-        ensures { result.card ≡ parts.value }
-    {
-        let Parts { ptr, alloc } = parts;
-        Handle {
-            ptr: ptr as *mut Opaque,
-            alloc,
-        }
-    }
-
     /// The parts of the box that it was made of.
     pub fn into_parts(self) -> Parts<Card, Global>
         ensures { result.value ≡ self.card }

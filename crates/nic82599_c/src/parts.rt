@@ -18,16 +18,6 @@ impl<T, A: Allocator> Model for Parts<T, A> {
 }
 
 impl<T, A: Allocator> Parts<T, A> {
-    /// Those of a box.
-    pub fn of(b: Box<T, A>) -> Parts<T, A>
-    where
-        T: Drop,
-        ensures { result.value ≡ b.value }
-    {
-        let (ptr, alloc) = Box::into_raw_with_allocator(b);
-        Parts { ptr, alloc }
-    }
-
     /// The box of them.
     pub fn into_box(self) -> Box<T, A>
         ensures { result.value ≡ self.value }

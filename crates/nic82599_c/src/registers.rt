@@ -105,7 +105,8 @@ pub extern "C" fn nic_vf_write32(nic: &mut Handle, vf: u8, offset: u32, word: u3
 #[unsafe(no_mangle)]
 pub extern "C" fn nic_peek32(nic: &mut Handle, address: u32, word: &mut u32) -> u8
     ensures status { result ≡ peek_status (word_told (reply_to nic.old.card.device (Event.Read Port.Pf address))) }
-    ensures word { word.new ≡ unwrap_or (word_told (reply_to nic.old.card.device (Event.Read Port.Pf address))) word.old }
+    ensures word { word.new ≡ unwrap_or
+        (word_told (reply_to nic.old.card.device (Event.Read Port.Pf address))) word.old }
     ensures unchanged { nic.new.card ≡ nic.old.card }
 {
     peek(nic.lend(), Port::Pf, address, word)
@@ -115,7 +116,8 @@ pub extern "C" fn nic_peek32(nic: &mut Handle, address: u32, word: &mut u32) -> 
 #[unsafe(no_mangle)]
 pub extern "C" fn nic_vf_peek32(nic: &mut Handle, vf: u8, offset: u32, word: &mut u32) -> u8
     ensures status { result ≡ peek_status (word_told (reply_to nic.old.card.device (Event.Read (Port.Vf vf) offset))) }
-    ensures word { word.new ≡ unwrap_or (word_told (reply_to nic.old.card.device (Event.Read (Port.Vf vf) offset))) word.old }
+    ensures word { word.new ≡ unwrap_or
+        (word_told (reply_to nic.old.card.device (Event.Read (Port.Vf vf) offset))) word.old }
     ensures unchanged { nic.new.card ≡ nic.old.card }
 {
     peek(nic.lend(), Port::Vf(vf), offset, word)

@@ -163,18 +163,26 @@ pub(crate) fn status_of(reply: &ReplyNote) -> u8
     }
 }
 
-/// What a reply tells.
-pub(crate) fn told_of(reply: &ReplyNote) -> Told
-    ensures { result ≡ told_of reply.now }
+/// A slot of a queue, and a length, are told.
+fn placed(queue: u16, slot: u16, len: usize) -> Told
+    ensures { result ≡ record nothing { queue = queue; slot = slot; len = len } }
 {
-    let told = Told {
-        status: status_of(reply),
+    Told {
+        queue,
+        slot,
+        len: len as u64,
         ..NOTHING
-    };
+    }
+}
+
+/// What a reply tells beside its status.
+fn fields_of(reply: &ReplyNote) -> Told
+    ensures { result ≡ fields_of reply.now }
+{
     match reply {
         Reply::Dropped(why) => Told {
             why: number_of_why(*why),
-            ..told
+            ..NOTHING
         },
         Reply::Wrote {
             queue,
@@ -184,48 +192,36 @@ pub(crate) fn told_of(reply: &ReplyNote) -> Told
             at,
             len,
         } => Told {
-            queue: *queue,
-            slot: *slot,
             end: u8::from(*end),
             desc: *desc,
             at: *at,
-            len: *len as u64,
-            ..told
+            ..placed(*queue, *slot, *len)
         },
-        Reply::Advanced { queue, slot, back } => with_back(
-            Told {
-                queue: *queue,
-                slot: *slot,
-                ..told
-            },
-            *back,
-        ),
-        Reply::Sent { queue, len, back } => with_back(
-            Told {
-                queue: *queue,
-                len: *len as u64,
-                ..told
-            },
-            *back,
-        ),
+        Reply::Advanced { queue, slot, back } => with_back(placed(*queue, *slot, 0), *back),
+        Reply::Sent { queue, len, back } => with_back(placed(*queue, 0, *len), *back),
         Reply::Fault { queue, fault } => Told {
-            queue: *queue,
             why: number_of_fault(*fault),
             bus: bus_of_fault(*fault),
-            ..told
+            ..placed(*queue, 0, 0)
         },
         Reply::Message { group, vector } => Told {
             group: number_of_group(*group),
             vector: *vector,
-            ..told
+            ..NOTHING
         },
-        Reply::Frame { queue, bytes } => Told {
-            queue: *queue,
-            len: bytes.bytes().len() as u64,
-            ..told
-        },
-        Reply::Word(_) | Reply::Stray(_) | Reply::Done | Reply::Bytes(_) | Reply::Buf(_) => told,
-        Reply::Twice(_) | Reply::NotLent | Reply::Misaligned => told,
-        Reply::NoQueue | Reply::NoGroup | Reply::Idle => told,
+        Reply::Frame { queue, bytes } => placed(*queue, 0, bytes.bytes().len()),
+        Reply::Word(_) | Reply::Stray(_) | Reply::Done | Reply::Bytes(_) | Reply::Buf(_) => NOTHING,
+        Reply::Twice(_) | Reply::NotLent | Reply::Misaligned => NOTHING,
+        Reply::NoQueue | Reply::NoGroup | Reply::Idle => NOTHING,
+    }
+}
+
+/// What a reply tells.
+pub(crate) fn told_of(reply: &ReplyNote) -> Told
+    ensures { result ≡ told_of reply.now }
+{
+    Told {
+        status: status_of(reply),
+        ..fields_of(reply)
     }
 }

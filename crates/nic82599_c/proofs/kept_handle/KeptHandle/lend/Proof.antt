@@ -67,7 +67,16 @@ module _ {M : Type 1} {𝓤 : Ura M} (𝓛 : Logic 𝓤) (at_mem : Memory → SP
 
   module _ (κ : Lft) (q : Share) (rb ro : ℕ) (γ : GName) (h : B.Denot) where
     abbrev bound : (walk_of 𝓛 F.ended stayed (F.clauses 𝓛 at_mem run)).Ghost
-    bound = (((κ, tt), (q, tt), tt, (record { ref_ptr = (rb, ro); ghost_name = γ; now = h }, tt), (vptr rb ro ∷ [], tt)), tt)
+    bound = (
+      (
+        (κ, tt),
+        (q, tt),
+        tt,
+        (record { ref_ptr = (rb, ro); ghost_name = γ; now = h }, tt),
+        (vptr rb ro ∷ [], tt),
+      ),
+      tt,
+    )
 
     abbrev Post : Val → SProp 𝓤
     Post = (walk_of 𝓛 F.ended stayed (F.clauses 𝓛 at_mem run)).post bound
@@ -75,26 +84,38 @@ module _ {M : Type 1} {𝓤 : Ura M} (𝓛 : Logic 𝓤) (at_mem : Memory → SP
     module _ (b o : ℕ) (hv : Val) where
       -- all of the handle but its kept card
       abbrev Rest : Fml
-      Rest = fsep (fsep (token E.al h.alloc (bare (τ E)) (block_ptr b o)) (handle E h.alloc hv)) (cell_at full_share B.mir (word E hv b o ∷ []) rb ro)
+      Rest = fsep (fsep (token E.al h.alloc (bare (τ E)) (block_ptr b o)) (handle E h.alloc hv))
+          (cell_at full_share B.mir (word E hv b o ∷ []) rb ro)
 
-      back : h.ptr ≡ block_ptr b o → (w : X E) → ent 𝓤 (sep 𝓤 (sem 𝓛 ((mem T).own_at w b o)) (sem 𝓛 Rest)) (sem 𝓛 ((mem B).own_at (with_kept h w) rb ro))
+      back : h.ptr ≡ block_ptr b o → (w : X E) → ent 𝓤 (sep 𝓤 (sem 𝓛 ((mem T).own_at w b o)) (sem 𝓛 Rest))
+          (sem 𝓛 ((mem B).own_at (with_kept h w) rb ro))
       unfolding part_of
       back at_b w =
-          qed 𝓛 (‵ (part_at (R E) full_share w b o) ∷ ‵ Rest ∷ []) ∵ move ! (1 ∷ []) $ fsplit ! $ fsplit ! $ move ! (3 ∷ []) $
-          box_in E ! (box_of (with_kept h w)) b o w at_b refl $ use1 𝓛 (‵ (B.own_val (with_kept h w) (word E hv b o ∷ []))) (id⊢ 𝓤 _) $ move ! (1 ∷ 0 ∷ []) $ fjoin ! $
-          fpack ! (List Val) (λ us. fsep (cell_at full_share B.mir us rb ro) (B.own_val (with_kept h w) us)) (word E hv b o ∷ []) $ done !
+          qed 𝓛 (‵ (part_at (R E) full_share w b o) ∷ ‵ Rest ∷ []) ∵ move ! (1 ∷ []) $ fsplit ! $ fsplit ! $
+          move ! (3 ∷ []) $
+          box_in E ! (box_of (with_kept h w)) b o w at_b refl $
+          use1 𝓛 (‵ (B.own_val (with_kept h w) (word E hv b o ∷ []))) (id⊢ 𝓤 _) $ move ! (1 ∷ 0 ∷ []) $ fjoin ! $
+          fpack ! (List Val) (λ us. fsep (cell_at full_share B.mir us rb ro) (B.own_val (with_kept h w) us))
+          (word E hv b o ∷ []) $ done !
 
       exits : (γ' : GName)
-          → ent 𝓤 (sep 𝓤 (sem 𝓛 ((MutRef (named 0) κ T).own_val (record { ref_ptr = (b, o); ghost_name = γ'; now = h.kept }) (vptr b o ∷ []))) (sep 𝓤 (A.lft κ q) (sem 𝓛 (follows B T γ γ' (with_kept h))))) (Post (vptr b o))
+          → ent 𝓤 (sep 𝓤 (sem 𝓛 ((MutRef (named 0) κ T).own_val
+          (record { ref_ptr = (b, o); ghost_name = γ'; now = h.kept }) (vptr b o ∷ [])))
+          (sep 𝓤 (A.lft κ q) (sem 𝓛 (follows B T γ γ' (with_kept h))))) (Post (vptr b o))
       exits γ' =
-          qed 𝓛 (‵ ((MutRef (named 0) κ T).own_val (record { ref_ptr = (b, o); ghost_name = γ'; now = h.kept }) (vptr b o ∷ [])) ∷ ‵ (flft κ q) ∷ ‵ (follows B T γ γ' (with_kept h)) ∷ []) ∵
-          suffices ! _ (ends_at 𝓛 F.ended stayed (F.clauses 𝓛 at_mem run) bound (vptr b o) (record { ref_ptr = (b, o); ghost_name = γ'; now = h.kept }) (tt, tt) (tt, tt)) $
-          nothing ! $ nothing ! $ fjoin ! $ join ! $ nothing ! $ move ! (2 ∷ 0 ∷ []) $ join ! $ join ! $ frame ! $ says ! refl $ done !
+          qed 𝓛 (‵ ((MutRef (named 0) κ T).own_val (record { ref_ptr = (b, o); ghost_name = γ'; now = h.kept })
+          (vptr b o ∷ [])) ∷ ‵ (flft κ q) ∷ ‵ (follows B T γ γ' (with_kept h)) ∷ []) ∵
+          suffices ! _ (ends_at 𝓛 F.ended stayed (F.clauses 𝓛 at_mem run) bound (vptr b o)
+          (record { ref_ptr = (b, o); ghost_name = γ'; now = h.kept }) (tt, tt) (tt, tt)) $
+          nothing ! $ nothing ! $ fjoin ! $ join ! $ nothing ! $ move ! (2 ∷ 0 ∷ []) $ join ! $ join ! $ frame ! $
+          says ! refl $ done !
 
     module _ (C : Calls 𝓤 H) (Λ : Loops 𝓤 H) where
-      walk : ent 𝓤 (on_entry 𝓛 F.signature (κ, tt) (q, tt) (record { ref_ptr = (rb, ro); ghost_name = γ; now = h }, tt) (vptr rb ro ∷ [], tt)) (WpFn 𝓤 H C Λ code.function (vptr rb ro ∷ []) Post)
+      walk : ent 𝓤 (on_entry 𝓛 F.signature (κ, tt) (q, tt) (record { ref_ptr = (rb, ro); ghost_name = γ; now = h }, tt)
+          (vptr rb ro ∷ [], tt)) (WpFn 𝓤 H C Λ code.function (vptr rb ro ∷ []) Post)
       walk =
-          qed 𝓛 ((‵ (flft κ q) ⊛ ‵ ftrue) ∷ ‵ (owns (MutRef (named 0) κ B ∷ []) (record { ref_ptr = (rb, ro); ghost_name = γ; now = h }, tt) (vptr rb ro ∷ [], tt)) ∷ []) ∵
+          qed 𝓛 ((‵ (flft κ q) ⊛ ‵ ftrue) ∷ ‵ (owns (MutRef (named 0) κ B ∷ [])
+          (record { ref_ptr = (rb, ro); ghost_name = γ; now = h }, tt) (vptr rb ro ∷ [], tt)) ∷ []) ∵
           enter ! C Λ code.function (vptr rb ro ∷ []) _ $
           alloc_all ! (λ l. pass_all ! refl ((tt, tt), tt) $
           let En : Env 𝓤 H = env code.function.locals l in
@@ -103,25 +124,32 @@ module _ {M : Type 1} {𝓤 : Ura M} (𝓛 : Logic 𝓤) (at_mem : Memory → SP
           box_out E ! (box_of h) vs (λ b o hv at_b ws fa. move ! (1 ∷ 2 ∷ []) $ fjoin ! $ move ! (1 ∷ []) $
           rewrite ! 2 (λ (us : List Val). ‵ (cell_at full_share B.mir us rb ro)) ws refl $
           first ! $ blocks ! $
-          sets ! (of_opd ! (load ! (through ! refl (fld ! refl (stop !))) (look_in ! 2 (sub ! 0 refl (whole !))))) refl (tt, tt) $
+          sets ! (of_opd ! (load ! (through ! refl (fld ! refl (stop !))) (look_in ! 2 (sub ! 0 refl (whole !))))) refl
+          (tt, tt) $
           sets ! (of_opd ! (get ! refl)) refl (tt, tt) $
           sets_last ! (addr ! (through ! refl (stop !))) refl (tt, tt) $
           exec ! C Λ En (after 1 code.function.body) (at_ret En Post) $
           sets ! (of_opd ! (get ! refl)) refl (tt, tt) $
           move ! (1 ∷ 2 ∷ []) $ fjoin ! $ move ! (2 ∷ 3 ∷ 4 ∷ 1 ∷ 0 ∷ []) $ group ! 5 $
-          use1 𝓛 (later (some (λ (γ' : GName). raw (Part 𝓛 B T (with_kept h) (named 0) κ q rb ro b o γ (sem 𝓛 (Rest b o hv)) (back b o hv at_b) h.kept γ'))))
-          (lends_Part 𝓛 B T (with_kept h) (named 0) κ q rb ro b o γ (sem 𝓛 (Rest b o hv)) (back b o hv at_b) (B.coded.code h) (B.coded.code h) h.kept) $ await ! tt $ pick ! (λ γ'.
+          use1 𝓛 (later (some (λ (γ' : GName). raw (Part 𝓛 B T (with_kept h) (named 0) κ q rb ro b o γ
+          (sem 𝓛 (Rest b o hv)) (back b o hv at_b) h.kept γ'))))
+          (lends_Part 𝓛 B T (with_kept h) (named 0) κ q rb ro b o γ (sem 𝓛 (Rest b o hv)) (back b o hv at_b)
+          (B.coded.code h) (B.coded.code h) h.kept) $ await ! tt $ pick ! (λ γ'.
           returns ! (look_at ! 0 refl) $ free_all ! refl $
           keep ! (0 ∷ []) $ by ! (exits b o hv γ')))))
 
   meets : (𝓣 : Tables 𝓤 H) → Meets 𝓛 F.signature (WpFn 𝓤 H 𝓣.C 𝓣.Λ code.function) (F.spec 𝓛 at_mem run)
   meets 𝓣 =
-      walk_Meets 𝓛 F.ended stayed (Goes-spent_ref 𝓛 1 (0 ∷ []) tt (plain (λ _. B)), tt) (F.clauses 𝓛 at_mem run) (WpFn 𝓤 H 𝓣.C 𝓣.Λ code.function) (WpFn-mono 𝓤 H 𝓛.laws 𝓣 code.function)
-      (walked 𝓛 F.ended stayed (F.clauses 𝓛 at_mem run) (WpFn 𝓤 H 𝓣.C 𝓣.Λ code.function) (λ κs. (mut_vals, tt)) (λ κs. (mut_Tells (named 0) κs.0 B, tt))
-      (λ κs qs bounds a g are. via 𝓤 _ (fst∗ 𝓤 _ (emp 𝓤)) (walk κs.0 qs.0 a.0.ref_ptr.0 a.0.ref_ptr.1 a.0.ghost_name a.0.now 𝓣.C 𝓣.Λ)))
+      walk_Meets 𝓛 F.ended stayed (Goes-spent_ref 𝓛 1 (0 ∷ []) tt (plain (λ _. B)), tt) (F.clauses 𝓛 at_mem run)
+      (WpFn 𝓤 H 𝓣.C 𝓣.Λ code.function) (WpFn-mono 𝓤 H 𝓛.laws 𝓣 code.function)
+      (walked 𝓛 F.ended stayed (F.clauses 𝓛 at_mem run) (WpFn 𝓤 H 𝓣.C 𝓣.Λ code.function) (λ κs. (mut_vals, tt))
+      (λ κs. (mut_Tells (named 0) κs.0 B, tt))
+      (λ κs qs bounds a g are. via 𝓤 _ (fst∗ 𝓤 _ (emp 𝓤)) (walk κs.0 qs.0 a.0.ref_ptr.0 a.0.ref_ptr.1 a.0.ghost_name
+      a.0.now 𝓣.C 𝓣.Λ)))
 
 pub lend_spec : {M : Type 1} → stated.statement M
 unfolding tables_of
 lend_spec 𝓤 𝓛 𝓜 𝓡 wired =
     let 𝓣 : Tables 𝓤 𝓛.H = tables_of 𝓤 𝓛.H 𝓜 (tables 𝓤 𝓛.H 𝓜 𝓡 𝓡.env) in
-    entered 𝓤 𝓛.H (triple_of 𝓛 F.signature (F.spec 𝓛 𝓜.mem 𝓡.returns)) 𝓣.C 𝓣.Λ #self code.function (code.unfolded 𝓤 𝓛.H 𝓜 𝓡 wired) (meets 𝓛 𝓜.mem 𝓡.returns 𝓣)
+    entered 𝓤 𝓛.H (triple_of 𝓛 F.signature (F.spec 𝓛 𝓜.mem 𝓡.returns)) 𝓣.C 𝓣.Λ #self code.function
+    (code.unfolded 𝓤 𝓛.H 𝓜 𝓡 wired) (meets 𝓛 𝓜.mem 𝓡.returns 𝓣)

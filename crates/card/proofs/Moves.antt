@@ -1,9 +1,14 @@
 -- Events of a card's device: which blocks are free and lent before and after.
-use Rattle.std.proofs.Common.{◌≡◌, IsFalse, refl, sym, ◌∙◌, ap, subst, ℕ, Bool, true, false, is_some, option_map, List, Option, Some, None}
+use Rattle.std.proofs.Common.{◌≡◌, IsFalse, refl, sym, ◌∙◌, ap, subst, ℕ, Bool, true, false, is_some, option_map, List, Option, Some, None, Result, Ok, Err, OnOk, OnErr}
 use Rattle.std.specs.FinMap as map
 use Rattle.nic_device.specs.DmaArena.Block.{Block, zero_block}
 use Rattle.nic_device.specs.DmaArena.Memory.{Memory, has_block, block_at, write_at}
 use Rattle.nic_device.specs.DmaArena.Numbers.{Numbers, is_own, is_free, with_free}
+use Rattle.nic_device.specs.Access.{named_written}
+use Rattle.nic_device.specs.Named.{named}
+use Rattle.nic_device.specs.declared.event.Port.{Port}
+use Rattle.nic_device.specs.declared.named.Named.{Named}
+use Rattle.nic_device.specs.declared.named.Named.TheVariants.{Nothing, Register}
 use Rattle.nic_device.specs.Lending.{block_taken, taken}
 use Rattle.nic_device.specs.Outcome.{Outcome, gives}
 use Rattle.nic_device.specs.State.{State}
@@ -14,7 +19,7 @@ use Rattle.nic_device.specs.declared.Reply.{Reply}
 use Rattle.nic_device.specs.declared.Reply.TheVariants.{Done}
 use Rattle.nic_device.proofs.DmaArena.Bus.{SameLent-write_at}
 use Rattle.nic_device.proofs.KeptBlocks.{keeps_blocks}
-use Rattle.card.specs.Card.{Holdings, AreShared, CanReturn, arena_after, with_lent, with_taken}
+use Rattle.card.specs.Card.{Holdings, AreShared, CanReturn, arena_after, IsOfWrite, with_lent, with_taken}
 use Rattle.card.proofs.Sharing.{lent_away, free_not_lent, shared-taken, shared-lent, shared-same, with_free-back}
 use Rattle.card.proofs.Returning.{taken_block}
 
@@ -29,6 +34,23 @@ pub made-shared : (s t : State) (a : Numbers) (e : Event Block) → AreShared s.
 made-shared s t a e h none is =
     subst (λ (u : State). AreShared u.memory a) (sym is)
     (shared-same s.memory (step_of s e).state.memory a h (keeps_blocks s e none).lent)
+
+-- also where it may have been refused
+pub made-tried : {A E : Type 0} (s t : State) (a : Numbers) (e : Event Block) (result : Result A E)
+    → AreShared s.memory a → IsFalse (moves_block e) → OnOk result (t ≡ (step_of s e).state)
+    → OnErr result (t ≡ s) → AreShared t.memory a
+made-tried s t a e (Ok reply) h none made refused = made-shared s t a e h none made
+made-tried s t a e (Err why) h none made refused = subst (λ (u : State). AreShared u.memory a) (sym refused) h
+
+-- what is replied to a write
+written_is : (s : State) (named : Named) (word : ℕ) → IsOfWrite (named_written s named word).reply
+written_is s (Nothing seen) word = refl
+written_is s (Register place view) word = tt
+
+pub write-replies : (s : State) (port : Port) (number word : ℕ) (r : Reply Block)
+    → r ≡ (step_of s (event.Write port number word)).reply → IsOfWrite r
+unfolding step_of
+write-replies s port number word r is = subst IsOfWrite (sym is) (written_is s (named s port number) word)
 
 -- a free block is lent
 

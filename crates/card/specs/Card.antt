@@ -9,7 +9,7 @@ use Rattle.nic_device.specs.Step.{after, reply_to, handed_block}
 use Rattle.nic_device.specs.declared.event.Event.{Event}
 use Rattle.nic_device.specs.declared.event.Event.TheVariants as event
 use Rattle.nic_device.specs.declared.event.Reply.{Reply}
-use Rattle.nic_device.specs.declared.event.Reply.TheVariants.{Buf, Twice}
+use Rattle.nic_device.specs.declared.event.Reply.TheVariants.{Buf, Twice, Word, Stray, Done}
 
 -- a device, and which blocks are free
 pub record Holdings : Type 0 where
@@ -40,6 +40,22 @@ new_card vfs fifo blocks = record { device = new_state vfs fifo; arena = all_fre
 -- the card after an event that moves no block
 abbrev pub made : Holdings → Event Block → Holdings
 made c e = record c { device = after c.device e }
+
+-- what the device replies to a read, by the word that it gives and whether the access was stray
+abbrev pub reply_of_read : (word : ℕ) (stray : Bool) → Reply Block
+reply_of_read word true = Stray word
+reply_of_read word false = Word word
+
+-- what it replies to a write, by whether the access was stray
+abbrev pub reply_of_write : (stray : Bool) → Reply Block
+reply_of_write true = Stray 0
+reply_of_write false = Done
+
+-- it replies nothing else
+abbrev pub IsOfWrite : Reply Block → Type 0
+IsOfWrite (Stray word) = word ≡ 0
+IsOfWrite Done = ⊤
+IsOfWrite other = ⊥
 
 -- the card after a block is lent, where it is free; its bytes are 0
 abbrev pub with_lent : Holdings → ℕ → Holdings

@@ -9,7 +9,7 @@ ghost use Rattle.nic_device.specs.DmaArena.Memory.{has_block};
 ghost use Rattle.nic_device.specs.DmaArena.Numbers.{count_of, is_free, is_own, with_free};
 ghost use Rattle.nic_device.specs.Link.{next_out_of};
 ghost use Rattle.nic_device.specs.Step.{reply_to, word_told, moves_block, hands_out, TakesMemory};
-ghost use Rattle.card.specs.Card.{AreShared, CanReturn, arena_after, new_card, made, with_lent, with_taken, lent_below, with_image};
+ghost use Rattle.card.specs.Card.{AreShared, CanReturn, arena_after, new_card, made, reply_of_read, reply_of_write, IsOfWrite, with_lent, with_taken, lent_below, with_image};
 
 use nic_device::{
     Arena, Buf, Config, Device, Event, Image, LentMemory, MAX_VFS, NewFault, Note, Octets, Parts,
@@ -54,6 +54,19 @@ fn is_lent_by(reply: Reply) -> bool
 {
     let _done = note_of(reply);
     true
+}
+
+/// Whether a write was stray, by what the device replies to it.
+#[inline]
+fn is_stray(reply: Reply) -> bool
+    requires { IsOfWrite reply }
+    ensures { reply ≡ reply_of_write result }
+{
+    match reply {
+        Reply::Done => false,
+        Reply::Stray(_zero) => true,
+        _ => unreachable!(),
+    }
 }
 
 /// Gives a block back to the arena that it was taken from.
@@ -178,6 +191,32 @@ impl Card {
                 None => return Err(AllocError),
                 Some(_buf) => unreachable!(),
             },
+        }
+    }
+
+    /// Reads a register at a port, with the read's effects: the word that it gives, and whether the access was stray.
+    #[inline]
+    pub fn read(&mut self, port: Port, number: u32) -> (u32, bool)
+        ensures reply { reply_to self.old.device (Event.Read port number) ≡ reply_of_read result.0 result.1 }
+        ensures made { self.new ≡ made self.old (Event.Read port number) }
+    {
+        match self.device.step(Event::Read(port, number)) {
+            Ok(Reply::Word(word)) => (word, false),
+            Ok(Reply::Stray(word)) => (word, true),
+            Ok(_reply) => unreachable!(),
+            Err(_refused) => unreachable!(),
+        }
+    }
+
+    /// Writes a register at a port: whether the access was stray.
+    #[inline]
+    pub fn write(&mut self, port: Port, number: u32, word: u32) -> bool
+        ensures reply { reply_to self.old.device (Event.Write port number word) ≡ reply_of_write result }
+        ensures made { self.new ≡ made self.old (Event.Write port number word) }
+    {
+        match self.device.step(Event::Write(port, number, word)) {
+            Ok(reply) => is_stray(reply),
+            Err(_refused) => unreachable!(),
         }
     }
 

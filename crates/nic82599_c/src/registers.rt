@@ -1,25 +1,22 @@
 //! Accesses to registers.
 
-ghost use Rattle.std.specs.Prelude.{◌≡◌, unwrap_or};
+ghost use Rattle.std.specs.Prelude.{◌≡◌, ℕ, unwrap_or};
 ghost use Rattle.nic_device.specs.Step.{reply_to, word_told};
-ghost use Rattle.card.specs.Card.{made};
+ghost use Rattle.card.specs.Card.{made, reply_of_read, reply_of_write};
 ghost use Rattle.nic82599_c.specs.Statuses.{peek_status};
 ghost use Rattle.nic82599_c.specs.Told.{status_of, word_of};
 
 use crate::handle::Handle;
 use crate::status::{DONE, STRAY};
-use crate::told::status_of;
 use card::Card;
-use nic_device::{Event, Port, Reply, ReplyNote};
+use nic_device::{Event, Port};
 
-/// The word that a read gives, also a stray one. No other reply has one.
-fn word_of(reply: &ReplyNote) -> u32
-    ensures { result ≡ word_of reply.now }
+/// The status of an access.
+fn access_status(stray: bool) -> u8
+    ensures read { (word : ℕ) → result ≡ status_of (reply_of_read word stray) }
+    ensures write { result ≡ status_of (reply_of_write stray) }
 {
-    match reply {
-        Reply::Word(word) | Reply::Stray(word) => *word,
-        _ => 0,
-    }
+    if stray { STRAY } else { DONE }
 }
 
 /// Reads a register at a port.
@@ -28,13 +25,9 @@ fn read(card: &mut Card, port: Port, number: u32, word: &mut u32) -> u8
     ensures word { word.new ≡ word_of (reply_to card.old.device (Event.Read port number)) }
     ensures card { card.new ≡ made card.old (Event.Read port number) }
 {
-    match card.make(Event::Read(port, number)) {
-        Ok(reply) => {
-            *word = word_of(&reply);
-            status_of(&reply)
-        }
-        Err(_) => unreachable!(),
-    }
+    let (found, stray) = card.read(port, number);
+    *word = found;
+    access_status(stray)
 }
 
 /// Writes a register at a port.
@@ -42,10 +35,7 @@ fn write(card: &mut Card, port: Port, number: u32, word: u32) -> u8
     ensures status { result ≡ status_of (reply_to card.old.device (Event.Write port number word)) }
     ensures card { card.new ≡ made card.old (Event.Write port number word) }
 {
-    match card.make(Event::Write(port, number, word)) {
-        Ok(reply) => status_of(&reply),
-        Err(_) => unreachable!(),
-    }
+    access_status(card.write(port, number, word))
 }
 
 /// Looks at a register at a port.

@@ -1,6 +1,6 @@
 //! Snapshots on the way of a machine, from which a debugger goes back.
 
-ghost use Rattle.std.specs.Prelude.{◌≡◌, [], IfSome};
+ghost use Rattle.std.specs.Prelude.{◌≡◌, ◌-◌, ◌*◌, ◌^◌, ◌<◌, ◌≤◌, [], IfSome};
 ghost use Rattle.debugger.specs.Snapshots.{AreOf, IsBefore, StayOf};
 ghost use Rattle.machine.specs.Course.{Course};
 
@@ -14,7 +14,7 @@ const SNAPSHOT_STEPS: u64 = 256;
 const SNAPSHOT_LIMIT: usize = 64;
 
 /// The last number of steps whose snapshot stays.
-const FIRST_STEPS: u64 = 64 * SNAPSHOT_STEPS;
+const FIRST_STEPS: u64 = SNAPSHOT_LIMIT as u64 * SNAPSHOT_STEPS;
 
 /// Snapshots of one machine, the earliest first: behind those that stay, one that later ones take the place of.
 #[derive(Drop)]
@@ -79,10 +79,13 @@ impl Snapshots {
     }
 }
 
-/// Behind a snapshot, the number of steps at which the next one is due: up to `FIRST_STEPS` the next multiple, and then
-/// the last multiple that isn't more than half as many again, so that a way back is less than half as long as the way to
-/// the snapshot that it begins at.
-fn next_after(steps: u64) -> u64 {
+/// The number of steps at which a snapshot is due after the one at so many: up to `FIRST_STEPS` the next multiple, and
+/// then the last multiple that isn't more than half as many again, so that a way back from the furthest step that was
+/// reached is less than a third of the way to it.
+fn next_after(steps: u64) -> u64
+    ensures later { steps < 2 ^ 64 - 1 → steps < result }
+    ensures near { FIRST_STEPS ≤ steps → 2 * result ≤ 3 * steps }
+{
     if steps < FIRST_STEPS {
         steps + SNAPSHOT_STEPS
     } else {

@@ -1,7 +1,7 @@
 -- Snapshots of a machine, and runs from one that isn't later.
-use Rattle.std.proofs.Common.{◌≡◌, refl, sym, subst, ◌∙◌, ap, ℕ, ◌+◌, ◌-◌, ◌<◌, ◌≤◌, Bool, true, false, if◌then◌else◌, List, [], ◌∷◌, ◌++◌, length, get_or, Result, Ok, Err, arith}
+use Rattle.std.proofs.Common.{◌≡◌, refl, sym, subst, ◌∙◌, ap, ℕ, ◌+◌, ◌-◌, ◌<◌, ◌≤◌, Bool, true, false, if◌then◌else◌, List, [], ◌∷◌, ◌++◌, length, take, get_or, Result, Ok, Err, arith}
 use Rattle.std.specs.Prelude.{All, IsOk}
-use Rattle.std.proofs.lemmas.List.Elements.{All-nil, All-cons, All-append}
+use Rattle.std.proofs.lemmas.List.Elements.{All-nil, All-cons, All-append, All-take}
 use Rattle.nic_device.specs.declared.Config.{Config}
 use Rattle.machine.specs.Course.{Course}
 use Rattle.machine.specs.Machine.{machine_at, machine_step, start_of}
@@ -110,6 +110,14 @@ stay-pushed machine before after snapshot true is pushed =
     subst (λ (xs : List Course). StayOf machine before xs) (sym pushed) (stay-more machine before snapshot is)
 stay-pushed machine before after snapshot false is pushed =
     λ m same all. subst (λ (xs : List Course). AreOf m xs) (sym pushed) all
+
+-- the same where only the first snapshots stay beside it
+pub stay-replaced : (machine : Course) (stay : ℕ) (before first after : List Course) (snapshot : Course) (ok : Bool)
+    → snapshot ≡ machine → first ≡ take stay before → after ≡ (if ok then first ++ snapshot ∷ [] else first)
+    → StayOf machine before after
+stay-replaced machine stay before first after snapshot ok is taken pushed m same all =
+    stay-pushed machine first after snapshot ok is pushed m same
+    (subst (λ (xs : List Course). AreOf m xs) (sym taken) (All-take (IsOf m) stay before all))
 
 -- one of the snapshots that isn't later
 pub before-is : (machine snapshot : Course) (snapshots kept : List Course) (at told steps : ℕ) → AreOf machine snapshots

@@ -19,8 +19,8 @@ use std::marker::Model;
 use std::mem;
 
 /// A machine with breakpoints. Its program and configuration are kept, and snapshots on its way, so that it can go
-/// back: one at each multiple of 256 steps that it first reaches, the first 64 of them, where there is memory for it.
-/// It isn't dropped, but finished.
+/// back: one at each multiple of 256 steps that it first reaches, the first 64 of them, and behind these one more that
+/// moves on with it, where there is memory for them. It isn't dropped, but finished.
 pub struct Debugger {
     alloc: Global,
     object: Vec<u8>,

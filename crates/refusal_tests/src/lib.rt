@@ -9,6 +9,8 @@
 #[cfg(test)]
 mod arenas;
 #[cfg(test)]
+mod debuggers;
+#[cfg(test)]
 mod devices;
 #[cfg(test)]
 mod fresh;

@@ -13,6 +13,8 @@ mod debuggers;
 #[cfg(test)]
 mod devices;
 #[cfg(test)]
+mod drivers;
+#[cfg(test)]
 mod fresh;
 #[cfg(test)]
 mod kept;
@@ -28,3 +30,5 @@ mod programs;
 mod sums;
 #[cfg(test)]
 mod trial;
+#[cfg(test)]
+mod ways;

@@ -29,6 +29,8 @@ mod programs;
 #[cfg(test)]
 mod sums;
 #[cfg(test)]
+mod team;
+#[cfg(test)]
 mod trial;
 #[cfg(test)]
 mod ways;

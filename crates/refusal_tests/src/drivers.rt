@@ -85,6 +85,29 @@ fn is_for_memory<R: Abort>(rt: &R, fault: PmdFault) {
     }
 }
 
+/// The arena of a driver that came home and lost no block.
+pub fn arena_of<R: Abort>(rt: &R, home: Home) -> Arena {
+    let Home {
+        arena,
+        lost,
+        handed: _,
+        accepted: _,
+    } = home;
+    assert!(rt; lost == 0);
+    arena
+}
+
+/// The same arena, all of whose blocks are free: each is taken and given in its turn, so that the next ones that are
+/// taken are the same, whatever was taken and given before.
+fn in_turn<R: Abort>(rt: &R, arena: Arena) -> Arena {
+    let mut arena = arena;
+    for block in 0..32 {
+        let buf = some(rt, arena.take_at(block));
+        done(rt, arena.give(buf));
+    }
+    arena
+}
+
 /// A call of a driver.
 #[derive(Clone, Copy, PartialEq, Eq)]
 enum Kind {
@@ -149,7 +172,7 @@ impl Driving {
 
     /// What is left of a start that was refused is its arena, all of whose blocks are free, once it is stopped.
     fn start<R: Abort>(&mut self, rt: &R, alloc: Global) -> bool {
-        let arena = some(rt, self.arena.take());
+        let arena = in_turn(rt, some(rt, self.arena.take()));
         match Pmd::start(alloc, &mut self.nic, Port::Pf, 0, 8, arena) {
             Ok(pmd) => {
                 put(rt, &mut self.pmd, pmd);
@@ -161,13 +184,8 @@ impl Driving {
                     Rest::Home(home) => home,
                     Rest::Running(pmd) => done(rt, pmd.stop(alloc, &mut self.nic)),
                 };
-                let Home {
-                    arena,
-                    lost,
-                    handed: _,
-                    accepted: _,
-                } = home;
-                assert!(rt; arena.free_blocks() == 32 && lost == 0);
+                let arena = arena_of(rt, home);
+                assert!(rt; arena.free_blocks() == 32);
                 put(rt, &mut self.arena, arena);
                 false
             }

@@ -1,7 +1,7 @@
 //! Workers on threads.
 
 use crate::devices::frame;
-use crate::drivers::PLAIN;
+use crate::drivers::{PLAIN, arena_of};
 use crate::locks::Bench;
 use crate::outcome::{done, some};
 use nic_device::{Arena, Parts, Port};
@@ -10,8 +10,8 @@ use std::process::Abort;
 use std::sync::Wait;
 use std::thread::Threads;
 use workers::{
-    CallFault, Home, Job, Lockstep, Pass, PmdFault, Ran, Rest, RunFault, RunRefused, Setup,
-    ThroughLock, WorkerEnd, WorkerFault, pf_setup, run_workers,
+    CallFault, Job, Lockstep, Pass, PmdFault, Ran, Rest, RunFault, RunRefused, Setup, ThroughLock,
+    WorkerEnd, WorkerFault, pf_setup, run_workers,
 };
 
 /// With hashing. Frames of no known kind go to queue 0.
@@ -105,14 +105,7 @@ fn bring_home<R: Abort + Wait>(
             (home, nic.finish())
         }
     };
-    let Home {
-        arena,
-        lost,
-        handed: _,
-        accepted: _,
-    } = home;
-    assert!(rt; lost == 0);
-    done(rt, arena.close());
+    done(rt, arena_of(rt, home).close());
     pass
 }
 

@@ -2,7 +2,7 @@
 
 use crate::outcome::done;
 use crate::sums::{START, end_arena, with, with_bytes, with_device};
-use crate::trial::{Trial, tried};
+use crate::trial::{Maker, makes};
 use dma_arena::ArenaFault;
 use nic_device::{
     Arena, AsmFault, Config, Device, Image, LoadFault, NewFault, Parts, assemble as image_of, load,
@@ -22,14 +22,15 @@ enum Kind {
     Image,
     Load,
     ImageBytes,
+    ImageCopy,
     Device,
 }
 
-/// A call, what it is made of, and a number that shows what it made.
+/// A call, and what it is made of.
+#[derive(Drop)]
 struct Fresh {
     kind: Kind,
     image: Image,
-    sum: u64,
 }
 
 /// The file of a blank image.
@@ -101,11 +102,11 @@ impl Fresh {
         Fresh {
             kind,
             image: done(rt, image_of(alloc, EEPROM)),
-            sum: 0,
         }
     }
+}
 
-    /// A sum of what the call makes; none where it was refused for want of memory.
+impl Maker for Fresh {
     fn make<R: Abort>(&self, rt: &R, alloc: Global) -> Option<u64> {
         match self.kind {
             Kind::Arena => arena(rt, alloc),
@@ -114,38 +115,18 @@ impl Fresh {
             Kind::Load => loaded_image(rt, alloc),
             Kind::Device => device(rt, alloc),
             Kind::ImageBytes => Some(with_bytes(START, &self.image.to_bytes(alloc).ok()?)),
-        }
-    }
-}
-
-impl Trial for Fresh {
-    fn call<R: Abort + Wait>(&mut self, rt: &R, alloc: Global) -> bool {
-        match self.make(rt, alloc) {
-            Some(sum) => {
-                self.sum = sum;
-                true
-            }
-            None => false,
+            Kind::ImageCopy => Some(sum_of_image(&self.image.copy().ok()?)),
         }
     }
 
-    fn picture<R: Abort>(&mut self, _rt: &R) -> u64 {
+    fn picture(&self) -> u64 {
         sum_of_image(&self.image)
     }
-
-    fn end<R: Abort + Wait>(self, _rt: &R, _alloc: Global) -> u64 {
-        let Fresh {
-            kind: _,
-            image,
-            sum,
-        } = self;
-        sum ^ sum_of_image(&image)
-    }
 }
 
-/// Makes something of a kind.
+/// Maker something of a kind.
 fn made<R: Abort + Wait + Print>(rt: &R, alloc: Global, kind: Kind) {
-    tried(
+    makes(
         rt,
         alloc,
         Fresh::new(rt, alloc, kind),
@@ -176,6 +157,11 @@ fn a_loaded_image(rt: HostRuntime) {
 #[test]
 fn the_bytes_of_an_image(rt: HostRuntime) {
     made(&rt, rt.alloc(), Kind::ImageBytes);
+}
+
+#[test]
+fn a_copied_image(rt: HostRuntime) {
+    made(&rt, rt.alloc(), Kind::ImageCopy);
 }
 
 #[test]

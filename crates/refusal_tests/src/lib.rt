@@ -9,7 +9,11 @@
 #[cfg(test)]
 mod arenas;
 #[cfg(test)]
+mod debuggers;
+#[cfg(test)]
 mod devices;
+#[cfg(test)]
+mod drivers;
 #[cfg(test)]
 mod fresh;
 #[cfg(test)]
@@ -25,4 +29,8 @@ mod programs;
 #[cfg(test)]
 mod sums;
 #[cfg(test)]
+mod team;
+#[cfg(test)]
 mod trial;
+#[cfg(test)]
+mod ways;

@@ -1,13 +1,15 @@
 //! The machine of scripts.
 
-use crate::outcome::done;
+use crate::outcome::{done, none, put, some};
 use crate::sums::{START, with};
-use machine::Machine;
-use nic_device::Config;
+use crate::trial::{Trial, tried};
+use machine::{Machine, NewRefused, OutOfMemory, StepAnswer};
+use nic_device::{Config, NewFault};
 use program::Program;
 use script_asm::assemble;
 use std::alloc::Global;
 use std::process::Abort;
+use std::sync::Wait;
 
 /// Steps that lend a block, take it back, let a frame in and receive it.
 const SCRIPT: &str = "data f 000102030405060708090a0b0c0d0e0f000102030405060708090a0b0c0d0e0f\
@@ -30,10 +32,11 @@ rx
 peek 0 3
 ";
 
-const CONFIG: Config = Config { vfs: 1, fifo: 8 };
+/// One virtual function, and room for eight frames.
+pub const CONFIG: Config = Config { vfs: 1, fifo: 8 };
 
 /// The program of the script.
-fn program<R: Abort>(rt: &R, alloc: Global) -> Program {
+pub fn program<R: Abort>(rt: &R, alloc: Global) -> Program {
     done(rt, assemble(alloc, SCRIPT))
 }
 
@@ -48,6 +51,80 @@ pub fn with_machine(sum: u64, machine: &Machine) -> u64 {
         }
     }
     sum
+}
+
+/// What is made of a program.
+pub trait OfProgram {
+    /// Makes it.
+    fn of(alloc: Global, program: Program) -> Result<Self, NewRefused>;
+
+    /// Goes on to the script's end, and gives a sum of what was seen there.
+    fn to_end<R: Abort>(self, rt: &R) -> u64;
+}
+
+/// Something that is to be made of a program.
+pub struct Building<M> {
+    program: Option<Program>,
+    made: Option<M>,
+}
+
+impl<M> Building<M> {
+    /// Of the script's program.
+    pub fn new<R: Abort>(rt: &R, alloc: Global) -> Building<M> {
+        Building {
+            program: Some(program(rt, alloc)),
+            made: None,
+        }
+    }
+}
+
+impl<M: OfProgram> Trial for Building<M> {
+    fn call<R: Abort + Wait>(&mut self, rt: &R, alloc: Global) -> bool {
+        match M::of(alloc, some(rt, self.program.take())) {
+            Ok(made) => {
+                put(rt, &mut self.made, made);
+                true
+            }
+            Err(NewRefused { fault, program }) => {
+                assert!(rt; fault == NewFault::OutOfMemory);
+                put(rt, &mut self.program, program);
+                false
+            }
+        }
+    }
+
+    fn picture<R: Abort>(&mut self, _rt: &R) -> u64 {
+        match &self.program {
+            Some(program) => u64::from(program.instructions()),
+            None => 0,
+        }
+    }
+
+    fn end<R: Abort + Wait>(self, rt: &R, _alloc: Global) -> u64 {
+        let Building { program: _, made } = self;
+        some(rt, made).to_end(rt)
+    }
+}
+
+impl OfProgram for Machine {
+    fn of(alloc: Global, program: Program) -> Result<Machine, NewRefused> {
+        Machine::new(alloc, program, CONFIG)
+    }
+
+    fn to_end<R: Abort>(self, rt: &R) -> u64 {
+        end_machine(rt, self)
+    }
+}
+
+#[test]
+fn a_machine_is_made(rt: HostRuntime) {
+    let alloc = rt.alloc();
+    tried(
+        &rt,
+        alloc,
+        Building::<Machine>::new(&rt, alloc),
+        Building::<Machine>::new(&rt, alloc),
+    );
 }
 
 /// A machine that has made so many steps of the script.
@@ -72,4 +149,56 @@ pub fn end_machine<R: Abort>(rt: &R, machine: Machine) -> u64 {
     let sum = with_machine(sum, &machine);
     machine.finish();
     sum
+}
+
+/// A machine that is to make one step.
+struct Stepping {
+    machine: Machine,
+}
+
+impl Trial for Stepping {
+    fn call<R: Abort + Wait>(&mut self, rt: &R, _alloc: Global) -> bool {
+        match self.machine.step() {
+            Ok(StepAnswer::Made(_reply)) => true,
+            Ok(StepAnswer::Local | StepAnswer::NoBlock | StepAnswer::Stopped) => {
+                panic!(rt; "no event")
+            }
+            Err(OutOfMemory) => false,
+        }
+    }
+
+    fn picture<R: Abort>(&mut self, _rt: &R) -> u64 {
+        with_machine(START, &self.machine)
+    }
+
+    fn end<R: Abort + Wait>(self, rt: &R, _alloc: Global) -> u64 {
+        let Stepping { machine } = self;
+        end_machine(rt, machine)
+    }
+}
+
+/// The step behind so many others.
+fn steps<R: Abort + Wait + Print>(rt: &R, alloc: Global, steps: u32) {
+    let subject = Stepping {
+        machine: machine_after(rt, alloc, steps),
+    };
+    let calm = Stepping {
+        machine: machine_after(rt, alloc, steps),
+    };
+    tried(rt, alloc, subject, calm);
+}
+
+#[test]
+fn a_machine_lends(rt: HostRuntime) {
+    steps(&rt, rt.alloc(), 6);
+}
+
+#[test]
+fn a_machine_takes_back(rt: HostRuntime) {
+    steps(&rt, rt.alloc(), 9);
+}
+
+#[test]
+fn a_frame_arrives_at_a_machine(rt: HostRuntime) {
+    steps(&rt, rt.alloc(), 12);
 }

@@ -2,7 +2,7 @@
 
 use crate::outcome::done;
 use crate::sums::{START, with, with_bytes};
-use crate::trial::{Trial, tried};
+use crate::trial::{Maker, makes};
 use program::{ObjectFault, Program, read};
 use script_asm::{ScriptFault, assemble, disassemble};
 use std::alloc::Global;
@@ -26,11 +26,11 @@ enum Kind {
     Text,
 }
 
-/// A call, what it is made of, and a number that shows what it made.
+/// A call, and what it is made of.
+#[derive(Drop)]
 struct Written {
     kind: Kind,
     program: Program,
-    sum: u64,
 }
 
 fn sum_of_program(program: &Program) -> u64 {
@@ -64,11 +64,11 @@ impl Written {
         Written {
             kind,
             program: done(rt, assemble(alloc, SCRIPT)),
-            sum: 0,
         }
     }
+}
 
-    /// A sum of what the call makes; none where it was refused for want of memory.
+impl Maker for Written {
     fn make<R: Abort>(&self, rt: &R, alloc: Global) -> Option<u64> {
         match self.kind {
             Kind::Program => assembled_program(rt, alloc),
@@ -81,38 +81,17 @@ impl Written {
             }
         }
     }
-}
 
-impl Trial for Written {
-    fn call<R: Abort + Wait>(&mut self, rt: &R, alloc: Global) -> bool {
-        match self.make(rt, alloc) {
-            Some(sum) => {
-                self.sum = sum;
-                true
-            }
-            None => false,
-        }
-    }
-
-    fn picture<R: Abort>(&mut self, _rt: &R) -> u64 {
+    fn picture(&self) -> u64 {
         sum_of_program(&self.program)
     }
-
-    fn end<R: Abort + Wait>(self, _rt: &R, _alloc: Global) -> u64 {
-        let Written {
-            kind: _,
-            program,
-            sum,
-        } = self;
-        sum ^ sum_of_program(&program)
-    }
 }
 
-/// Makes something of a kind.
+/// Maker something of a kind.
 fn made<R: Abort + Wait + Print>(rt: &R, alloc: Global, kind: Kind) {
     let subject = Written::new(rt, alloc, kind);
     let calm = Written::new(rt, alloc, kind);
-    tried(rt, alloc, subject, calm);
+    makes(rt, alloc, subject, calm);
 }
 
 #[test]

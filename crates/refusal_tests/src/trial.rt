@@ -6,7 +6,7 @@ use std::sync::Wait;
 
 /// A call with all that it needs.
 pub trait Trial {
-    /// Makes the call. False where it was refused for want of memory: then what was moved in is back here.
+    /// Maker the call. False where it was refused for want of memory: then what was moved in is back here.
     fn call<R: Abort + Wait>(&mut self, rt: &R, alloc: Global) -> bool;
 
     /// A number that shows what a refused call leaves as it was, with what is moved in.
@@ -16,7 +16,7 @@ pub trait Trial {
     fn end<R: Abort + Wait>(self, rt: &R, alloc: Global) -> u64;
 }
 
-/// Makes a call that may be refused for want of memory, and sees that all ends as for one, set up alike, that isn't.
+/// Maker a call that may be refused for want of memory, and sees that all ends as for one, set up alike, that isn't.
 pub fn tried<R: Abort + Wait + Print, T: Trial>(rt: &R, alloc: Global, subject: T, calm: T) {
     let (mut subject, mut calm) = (subject, calm);
     let before = subject.picture(rt);
@@ -33,4 +33,53 @@ pub fn tried<R: Abort + Wait + Print, T: Trial>(rt: &R, alloc: Global, subject: 
     assert!(rt; calm.call(rt, alloc), "the call is refused");
     let (ends, wanted) = (subject.end(rt, alloc), calm.end(rt, alloc));
     assert!(rt; ends == wanted, "it ends otherwise");
+}
+
+/// A call that makes something anew, and changes nothing else.
+pub trait Maker: Drop {
+    /// A sum of what the call makes; none where it was refused for want of memory.
+    fn make<R: Abort>(&self, rt: &R, alloc: Global) -> Option<u64>;
+
+    /// A number that shows what it is made of.
+    fn picture(&self) -> u64;
+}
+
+/// Such a call, and a sum of what it made.
+#[derive(Drop)]
+struct Making<M> {
+    maker: M,
+    sum: u64,
+}
+
+impl<M: Maker> Trial for Making<M> {
+    fn call<R: Abort + Wait>(&mut self, rt: &R, alloc: Global) -> bool {
+        match self.maker.make(rt, alloc) {
+            Some(sum) => {
+                self.sum = sum;
+                true
+            }
+            None => false,
+        }
+    }
+
+    fn picture<R: Abort>(&mut self, _rt: &R) -> u64 {
+        self.maker.picture()
+    }
+
+    fn end<R: Abort + Wait>(self, _rt: &R, _alloc: Global) -> u64 {
+        self.sum ^ self.maker.picture()
+    }
+}
+
+/// Maker something by a call that may be refused for want of memory, and sees that it is the same as by one that isn't.
+pub fn makes<R: Abort + Wait + Print, M: Maker>(rt: &R, alloc: Global, subject: M, calm: M) {
+    let subject = Making {
+        maker: subject,
+        sum: 0,
+    };
+    let calm = Making {
+        maker: calm,
+        sum: 0,
+    };
+    tried(rt, alloc, subject, calm);
 }

@@ -1,0 +1,368 @@
+//! The set-up of a device, and the calls of a driver.
+
+use crate::devices::{frame, number_of};
+use crate::outcome::{done, none, put, some};
+use crate::sums::{START, end_device, with, with_arena, with_bytes};
+use crate::trial::{Trial, tried};
+use device_lock::CallFault;
+use nic_device::{Arena, Config, Device, Event, Mode, Port};
+use std::alloc::Global;
+use std::process::Abort;
+use std::sync::Wait;
+use workers::{
+    Direct, Home, Nic, Packet, Pmd, PmdFault, Record, Rest, Setup, StartRefused, StopRefused,
+    TxAnswer, TxFault, pf_setup,
+};
+
+/// Promiscuous, with neither pools nor hashing.
+pub const PLAIN: Setup = Setup {
+    mode: Mode::Off,
+    mrqc: 0,
+    key: [0x6D; 40],
+    reta: [0; 128],
+    promiscuous: true,
+};
+
+/// A new device in hand.
+fn direct<R: Abort>(rt: &R, alloc: Global) -> Direct {
+    let device = done(rt, Device::new(alloc, Config { vfs: 0, fifo: 64 }));
+    Direct::new(alloc, device, 0)
+}
+
+/// A device that is to be set up.
+struct Setting {
+    nic: Direct,
+    arena: Arena,
+}
+
+impl Setting {
+    fn new<R: Abort>(rt: &R, alloc: Global) -> Setting {
+        Setting {
+            nic: direct(rt, alloc),
+            arena: done(rt, Arena::new(alloc, 0, 1)),
+        }
+    }
+}
+
+impl Trial for Setting {
+    fn call<R: Abort + Wait>(&mut self, rt: &R, alloc: Global) -> bool {
+        match pf_setup(alloc, &mut self.nic, &PLAIN) {
+            Ok(()) => true,
+            Err(fault) => {
+                is_for_memory(rt, fault);
+                false
+            }
+        }
+    }
+
+    fn picture<R: Abort>(&mut self, _rt: &R) -> u64 {
+        0
+    }
+
+    fn end<R: Abort + Wait>(self, rt: &R, _alloc: Global) -> u64 {
+        let Setting { nic, arena } = self;
+        let (device, _calls) = nic.finish();
+        end_device(rt, START, device, arena)
+    }
+}
+
+#[test]
+fn a_device_is_set_up(rt: HostRuntime) {
+    let alloc = rt.alloc();
+    tried(
+        &rt,
+        alloc,
+        Setting::new(&rt, alloc),
+        Setting::new(&rt, alloc),
+    );
+}
+
+/// Sees that a driver's call was refused for want of memory.
+fn is_for_memory<R: Abort>(rt: &R, fault: PmdFault) {
+    match fault {
+        PmdFault::Call(CallFault::OutOfMemory(())) => {}
+        _other => panic!(rt; "another fault"),
+    }
+}
+
+/// The arena of a driver that came home and lost no block.
+pub fn arena_of<R: Abort>(rt: &R, home: Home) -> Arena {
+    let Home {
+        arena,
+        lost,
+        handed: _,
+        accepted: _,
+    } = home;
+    assert!(rt; lost == 0);
+    arena
+}
+
+/// The same arena, all of whose blocks are free: each is taken and given in its turn, so that the next ones that are
+/// taken are the same, whatever was taken and given before.
+fn in_turn<R: Abort>(rt: &R, arena: Arena) -> Arena {
+    let mut arena = arena;
+    for block in 0..32 {
+        let buf = some(rt, arena.take_at(block));
+        done(rt, arena.give(buf));
+    }
+    arena
+}
+
+/// A call of a driver.
+#[derive(Clone, Copy, PartialEq, Eq)]
+enum Kind {
+    Start,
+    Rx,
+    Tx,
+    Reap,
+    Stop,
+}
+
+/// A driver of queue 0 that is to make a call, with the packet that it is to send or that it received, and where its
+/// arena is while it isn't started.
+struct Driving {
+    kind: Kind,
+    nic: Direct,
+    arena: Option<Arena>,
+    pmd: Option<Pmd>,
+    packet: Option<Packet>,
+    home: Option<Home>,
+}
+
+impl Driving {
+    /// One that comes to the call.
+    fn new<R: Abort>(rt: &R, alloc: Global, kind: Kind) -> Driving {
+        let mut nic = direct(rt, alloc);
+        done(rt, pf_setup(alloc, &mut nic, &PLAIN));
+        let mut driving = Driving {
+            kind,
+            nic,
+            arena: Some(done(rt, Arena::new(alloc, 0, 32))),
+            pmd: None,
+            packet: None,
+            home: None,
+        };
+        if kind != Kind::Start {
+            assert!(rt; driving.start(rt, alloc));
+            driving.ready(rt, alloc);
+        }
+        driving
+    }
+
+    /// Lets a frame arrive, or gives it a packet to send, by the call.
+    fn ready<R: Abort>(&mut self, rt: &R, alloc: Global) {
+        let mut pmd = some(rt, self.pmd.take());
+        match self.kind {
+            Kind::Rx | Kind::Stop => {
+                let arrived = self.nic.call(alloc, Event::Arrive(frame(rt, alloc)));
+                assert!(rt; number_of(rt, done(rt, arrived)) == 1);
+            }
+            Kind::Tx => put(rt, &mut self.packet, some(rt, pmd.packet(60))),
+            Kind::Reap => {
+                let packet = some(rt, pmd.packet(60));
+                match done(rt, pmd.tx(alloc, &mut self.nic, packet)) {
+                    TxAnswer::Taken => {}
+                    TxAnswer::RingFull(_packet) => panic!(rt; "the ring is full"),
+                }
+            }
+            Kind::Start => {}
+        }
+        put(rt, &mut self.pmd, pmd);
+    }
+
+    /// What is left of a start that was refused is its arena, all of whose blocks are free, once it is stopped.
+    fn start<R: Abort>(&mut self, rt: &R, alloc: Global) -> bool {
+        let arena = in_turn(rt, some(rt, self.arena.take()));
+        match Pmd::start(alloc, &mut self.nic, Port::Pf, 0, 8, arena) {
+            Ok(pmd) => {
+                put(rt, &mut self.pmd, pmd);
+                true
+            }
+            Err(StartRefused { fault, rest }) => {
+                is_for_memory(rt, fault);
+                let home = match rest {
+                    Rest::Home(home) => home,
+                    Rest::Running(pmd) => done(rt, pmd.stop(alloc, &mut self.nic)),
+                };
+                let arena = arena_of(rt, home);
+                assert!(rt; arena.free_blocks() == 32);
+                put(rt, &mut self.arena, arena);
+                false
+            }
+        }
+    }
+
+    /// A packet that was taken isn't lost: the next call goes on.
+    fn rx<R: Abort>(&mut self, rt: &R, alloc: Global, pmd: &mut Pmd) -> bool {
+        match pmd.rx(alloc, &mut self.nic) {
+            Ok(Some(packet)) => {
+                put(rt, &mut self.packet, packet);
+                true
+            }
+            Ok(None) => panic!(rt; "no packet"),
+            Err(fault) => {
+                is_for_memory(rt, fault);
+                false
+            }
+        }
+    }
+
+    /// A packet that doesn't come back is accepted.
+    fn tx<R: Abort>(&mut self, rt: &R, alloc: Global, pmd: &mut Pmd) -> bool {
+        let Some(packet) = self.packet.take() else {
+            return true;
+        };
+        match pmd.tx(alloc, &mut self.nic, packet) {
+            Ok(TxAnswer::Taken) => true,
+            Ok(TxAnswer::RingFull(_packet)) => panic!(rt; "the ring is full"),
+            Err(TxFault { fault, packet }) => {
+                is_for_memory(rt, fault);
+                assert!(rt; pmd.accepted().len() == usize::from(packet.is_none()));
+                if let Some(packet) = packet {
+                    put(rt, &mut self.packet, packet);
+                }
+                false
+            }
+        }
+    }
+
+    /// Nothing is outstanding behind it.
+    fn reap<R: Abort>(&mut self, rt: &R, alloc: Global, pmd: &mut Pmd) -> bool {
+        match pmd.reap(alloc, &mut self.nic) {
+            Ok(reaped) => reaped.idle,
+            Err(fault) => {
+                is_for_memory(rt, fault);
+                false
+            }
+        }
+    }
+
+    /// A driver whose stop was refused is there again.
+    fn stop<R: Abort>(&mut self, rt: &R, alloc: Global) -> bool {
+        match some(rt, self.pmd.take()).stop(alloc, &mut self.nic) {
+            Ok(home) => {
+                put(rt, &mut self.home, home);
+                true
+            }
+            Err(StopRefused { fault, pmd }) => {
+                is_for_memory(rt, fault);
+                put(rt, &mut self.pmd, pmd);
+                false
+            }
+        }
+    }
+
+    /// One of the calls on a driver that has started.
+    fn drive<R: Abort>(&mut self, rt: &R, alloc: Global) -> bool {
+        let mut pmd = some(rt, self.pmd.take());
+        let made = match self.kind {
+            Kind::Rx => self.rx(rt, alloc, &mut pmd),
+            Kind::Tx => self.tx(rt, alloc, &mut pmd),
+            Kind::Start | Kind::Reap | Kind::Stop => self.reap(rt, alloc, &mut pmd),
+        };
+        put(rt, &mut self.pmd, pmd);
+        made
+    }
+
+    /// Releases a packet in hand, has what was accepted go out, and stops.
+    fn settle<R: Abort>(&mut self, rt: &R, alloc: Global) {
+        let mut pmd = some(rt, self.pmd.take());
+        if let Some(packet) = self.packet.take() {
+            done(rt, pmd.release(packet));
+        }
+        for _turn in 0..4 {
+            let _reaped = done(rt, pmd.reap(alloc, &mut self.nic));
+        }
+        put(rt, &mut self.pmd, pmd);
+        assert!(rt; self.stop(rt, alloc));
+    }
+}
+
+/// A sum with a driver's records in it.
+fn with_records(sum: u64, records: &[Record]) -> u64 {
+    let mut sum = with(sum, records.len() as u64);
+    for record in records {
+        sum = with_bytes(sum, record.bytes());
+    }
+    sum
+}
+
+impl Trial for Driving {
+    fn call<R: Abort + Wait>(&mut self, rt: &R, alloc: Global) -> bool {
+        match self.kind {
+            Kind::Start => self.start(rt, alloc),
+            Kind::Stop => self.stop(rt, alloc),
+            Kind::Rx | Kind::Tx | Kind::Reap => self.drive(rt, alloc),
+        }
+    }
+
+    fn picture<R: Abort>(&mut self, _rt: &R) -> u64 {
+        match &self.arena {
+            Some(arena) => with_arena(START, arena),
+            None => 0,
+        }
+    }
+
+    fn end<R: Abort + Wait>(self, rt: &R, alloc: Global) -> u64 {
+        let mut driving = self;
+        if driving.pmd.is_some() {
+            driving.settle(rt, alloc);
+        }
+        let Driving {
+            kind: _,
+            nic,
+            arena,
+            pmd,
+            packet,
+            home,
+        } = driving;
+        none(rt, arena);
+        none(rt, pmd);
+        none(rt, packet);
+        let Home {
+            arena,
+            lost,
+            handed,
+            accepted,
+        } = some(rt, home);
+        assert!(rt; lost == 0);
+        let sum = with_records(with_records(START, handed.as_slice()), accepted.as_slice());
+        let (device, _calls) = nic.finish();
+        end_device(rt, sum, device, arena)
+    }
+}
+
+/// A driver makes a call.
+fn drives<R: Abort + Wait + Print>(rt: &R, alloc: Global, kind: Kind) {
+    tried(
+        rt,
+        alloc,
+        Driving::new(rt, alloc, kind),
+        Driving::new(rt, alloc, kind),
+    );
+}
+
+#[test]
+fn a_driver_starts(rt: HostRuntime) {
+    drives(&rt, rt.alloc(), Kind::Start);
+}
+
+#[test]
+fn a_driver_receives(rt: HostRuntime) {
+    drives(&rt, rt.alloc(), Kind::Rx);
+}
+
+#[test]
+fn a_driver_sends(rt: HostRuntime) {
+    drives(&rt, rt.alloc(), Kind::Tx);
+}
+
+#[test]
+fn a_driver_reaps(rt: HostRuntime) {
+    drives(&rt, rt.alloc(), Kind::Reap);
+}
+
+#[test]
+fn a_driver_stops(rt: HostRuntime) {
+    drives(&rt, rt.alloc(), Kind::Stop);
+}

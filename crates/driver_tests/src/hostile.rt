@@ -94,7 +94,7 @@ fn traffic<R: Abort>(rt: &R, alloc: Global, schedule: &mut Schedule, count: u16)
 }
 
 /// Sends a packet. It is released where it comes back.
-fn offer<R: Abort, N: Nic>(rt: &R, alloc: Global, nic: &mut N, pmd: &mut Pmd, packet: Packet) {
+pub fn offer<R: Abort, N: Nic>(rt: &R, alloc: Global, nic: &mut N, pmd: &mut Pmd, packet: Packet) {
     match pmd.tx(alloc, nic, packet) {
         Ok(TxAnswer::Taken) => {}
         Ok(TxAnswer::RingFull(packet)) => done(rt, pmd.release(packet)),

@@ -20,7 +20,11 @@ mod interleaved;
 #[cfg(test)]
 mod left_alone;
 #[cfg(test)]
+mod limits;
+#[cfg(test)]
 mod meeting_points;
+#[cfg(test)]
+mod neighbours;
 #[cfg(test)]
 mod other_queues;
 #[cfg(test)]
@@ -35,6 +39,8 @@ mod random;
 mod schedule;
 #[cfg(test)]
 mod shared_device;
+#[cfg(test)]
+mod storm;
 #[cfg(test)]
 mod stranger;
 #[cfg(test)]

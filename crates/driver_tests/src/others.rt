@@ -14,6 +14,11 @@ pub struct Random {
 }
 
 impl Random {
+    /// Those of a seed that isn't 0.
+    pub fn of(seed: u32) -> Random {
+        Random { state: seed }
+    }
+
     /// The next number: three shifts, each joined by exclusive or.
     pub fn next(&mut self) -> u32 {
         self.state ^= self.state.wrapping_mul(8192);
@@ -89,7 +94,7 @@ impl Others {
     /// With all blocks free.
     pub fn new<R: Abort>(rt: &R, alloc: Global, seed: u32) -> Others {
         Others {
-            random: Random { state: seed },
+            random: Random::of(seed),
             first: done(rt, Arena::new(alloc, 200, 32)),
             second: done(rt, Arena::new(alloc, 200, 32)),
         }

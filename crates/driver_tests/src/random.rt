@@ -12,7 +12,7 @@ use std::process::Abort;
 use workers::{Direct, Entry, Home, Interleaved, Nic, Packet, Pmd, Record, TxAnswer};
 
 /// A schedule is drawn from each.
-const SEEDS: [u32; 20] = [
+pub const SEEDS: [u32; 20] = [
     1,
     2,
     3,

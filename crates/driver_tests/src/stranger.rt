@@ -18,10 +18,11 @@ use workers::{
     run_workers,
 };
 
-type Bench = Shared<1, 64>;
+/// A shared device of one virtual function.
+pub type Bench = Shared<1, 64>;
 
 /// How many blocks each worker has: one those from 0 on, the other those from 32 on.
-const BLOCKS: u32 = 32;
+pub const BLOCKS: u32 = 32;
 
 /// How many frames arrive.
 const FRAMES: u8 = 40;
@@ -103,10 +104,10 @@ fn meddle<R: Abort + Wait>(
     }
 }
 
-/// TCP segments over IPv4, each from another port.
-fn segments<R: Abort>(rt: &R, alloc: Global) -> Vec<Vec<u8>> {
+/// So many TCP segments over IPv4, each from another port.
+pub fn segments<R: Abort>(rt: &R, alloc: Global, count: u8) -> Vec<Vec<u8>> {
     let mut frames = Vec::new(alloc);
-    for number in 0..FRAMES {
+    for number in 0..count {
         let mut frame = TCP_FRAME;
         frame[35] = number;
         let bytes = Vec::from_array(alloc, frame).expect(rt, "memory");
@@ -125,14 +126,14 @@ fn work<R: Abort + Threads + Wait + Sync>(
     ended: &AtomicU64,
 ) -> Ran {
     let gate = Lockstep::new(rt, 3);
-    let frames = segments(rt, alloc);
+    let frames = segments(rt, alloc, FRAMES);
     let ran = done(rt, run_workers(rt, alloc, &gate, bench, jobs, pass, frames));
     ended.store(1, Ordering::SeqCst);
     ran
 }
 
 /// Parts TCP segments over IPv4 between the queues 0 and 1.
-fn set_up<R: Abort + Wait>(rt: &R, alloc: Global, bench: &Bench, pass: Pass) -> Pass {
+pub fn set_up<R: Abort + Wait>(rt: &R, alloc: Global, bench: &Bench, pass: Pass) -> Pass {
     let mut reta = [0; 128];
     for entry in 0..64usize {
         reta[2 * entry] = 1;
@@ -149,8 +150,8 @@ fn set_up<R: Abort + Wait>(rt: &R, alloc: Global, bench: &Bench, pass: Pass) -> 
     nic.finish()
 }
 
-/// A job for each of two passes, on the queue of the pass's number.
-fn jobs<R: Abort>(rt: &R, alloc: Global, passes: Vec<Pass>) -> Vec<Job> {
+/// A job for each of two passes, on the queue of the pass's number, of so many rounds.
+pub fn jobs<R: Abort>(rt: &R, alloc: Global, passes: Vec<Pass>, rounds: u32) -> Vec<Job> {
     let mut jobs = Vec::new(alloc);
     for pass in passes {
         let queue = u16::from(pass.tag() % 2);
@@ -161,7 +162,7 @@ fn jobs<R: Abort>(rt: &R, alloc: Global, passes: Vec<Pass>) -> Vec<Job> {
             pf_queue: queue,
             size: 8,
             arena: done(rt, Arena::new(alloc, BLOCKS * u32::from(queue), BLOCKS)),
-            rounds: 60,
+            rounds,
         };
         match jobs.push(job) {
             Ok(()) => {}
@@ -246,7 +247,7 @@ fn run_beside<R: Abort + Threads + Wait + Sync>(
     let mut strange = some(rt, passes.pop());
     let mut host = set_up(rt, alloc, bench, some(rt, passes.pop()));
     let mut stranger = Stranger::new(rt, alloc, seed);
-    let mut jobs = Some(jobs(rt, alloc, passes));
+    let mut jobs = Some(jobs(rt, alloc, passes, 60));
     let mut ran = None;
     let ended = AtomicU64::new(0);
     join_mut(

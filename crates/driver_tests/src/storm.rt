@@ -1,5 +1,5 @@
-//! Two drivers of the queues of one pool, beside a stranger that resets the device, the pool and the function, takes and
-//! lends blocks of their rings, and writes what the queues rest on at random, while 10,000 frames arrive.
+//! Two drivers of the queues of one pool, beside a stranger that resets the device, the pool and the function, takes
+//! and lends blocks of their rings, and writes what the queues rest on at random, while 10,000 frames arrive.
 
 use crate::bench::taken_apart;
 use crate::driver::TCP_FRAME;

@@ -1,5 +1,7 @@
-pub mod AsBox
 mod Courses
 mod Frames
-pub mod KeptAsBox
+mod HandleForm
+mod Handles
+mod IntoParts
+mod Lending
 mod Texts

@@ -1,10 +1,10 @@
--- What is lent of the card behind a handle goes back to it.
+-- What is lent of the value behind a handle goes back to it.
 use base.Fml.{Fml}
+use denote.RattleType.{RattleType}
 use denote.Ref.{MutBor}
 use denote.Follow.{follows}
-use Rattle.card.specs.contracts.card.Card.{the_row as card-row}
-use Rattle.nic82599_c.specs.contracts.handle.Handle.{the_row as handle-row}
 
--- once the borrow r ends, the handle behind h holds the last card written through r
-abbrev pub handle_lends : MutBor handle-row.Denot → MutBor card-row.Denot → Fml
-handle_lends h r = follows handle-row card-row h.ghost_name r.ghost_name (λ w. record h.now { card = w })
+-- once the borrow r ends, the handle behind h, of the row H, is the one with the value last written through r
+abbrev pub lends :
+    (H R : RattleType) → (H.Denot → R.Denot → H.Denot) → MutBor H.Denot → MutBor R.Denot → Fml
+lends H R with_value h r = follows H R h.ghost_name r.ghost_name (with_value h.now)

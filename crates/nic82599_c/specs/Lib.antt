@@ -1,7 +1,5 @@
 pub mod Handle
 pub mod Images
-pub mod KeptHandle
-pub mod KeptLends
 pub mod Lends
 pub mod Life
 pub mod Settling

@@ -1,11 +1,17 @@
-//! What C holds of a card: a pointer that it never follows.
+//! What C holds of a card, and of a card that is kept: pointers that it never follows.
+//!
+//! A struct with type parameters can't be passed to C, so each has a struct of its own. Both own what a box of their
+//! value does, and one proof holds of both, as of any such struct (`proofs/HandleForm.antt`).
 
 ghost use Rattle.std.specs.Prelude.{◌≡◌};
+ghost use Rattle.card.specs.contracts.card.Card.{the_row as card_row};
+ghost use Rattle.card.specs.contracts.kept.Kept.{the_row as kept_row};
 ghost use Rattle.card.specs.declared.card.Card.{Card};
-ghost use Rattle.nic82599_c.specs.Handle.{card_coded, handle_owns};
+ghost use Rattle.card.specs.declared.kept.Kept.{Kept};
+ghost use Rattle.nic82599_c.specs.Handle.{owns_box};
 
 use crate::parts::Parts;
-use card::Card;
+use card::{Card, Kept};
 use std::alloc::Global;
 use std::marker::Model;
 
@@ -18,16 +24,32 @@ pub struct Opaque {
 /// A card on the heap. In C it is a struct with one pointer.
 #[repr(C)]
 pub struct Handle {
-    pub(crate) ptr: *mut Opaque,
+    ptr: *mut Opaque,
     alloc: Global,
-    pub ghost card: { Card } by { card_coded },
+    pub ghost card: { Card } by { card_row.coded },
+}
+
+/// A kept card on the heap. In C it is a struct with one pointer.
+#[repr(C)]
+pub struct KeptHandle {
+    ptr: *mut Opaque,
+    alloc: Global,
+    pub ghost kept: { Kept } by { kept_row.coded },
 }
 
 impl Model for Handle {
-    ghost also_owns = { λ h. handle_owns h.alloc h.ptr h.card };
+    ghost also_owns = { λ h. owns_box card_row h.alloc h.ptr h.card };
+}
+
+impl Model for KeptHandle {
+    ghost also_owns = { λ h. owns_box kept_row h.alloc h.ptr h.kept };
 }
 
 impl Handle {
+    ghost use Rattle.nic82599_c.specs.Lends.{lends};
+    ghost use Rattle.nic82599_c.specs.contracts.handle.Handle.{the_row as handle_row};
+    ghost use types.Logic.{sem};
+
     /// The parts of the box that it was made of.
     pub fn into_parts(self) -> Parts<Card, Global>
         ensures { result.value ≡ self.card }
@@ -38,9 +60,48 @@ impl Handle {
             alloc,
         }
     }
+
+    /// The card. The handle has in the end the card that was last written here.
+    pub fn lend(&mut self) -> &mut Card
+        ensures* writes_back { sem 𝓛 (lends handle_row card_row (λ h w. record h { card = w }) self.entry result) }
+        ensures value { result.now ≡ self.old.card }
+    {
+        unsafe { &mut *(self.ptr as *mut Card) }
+    }
+}
+
+impl KeptHandle {
+    ghost use Rattle.nic82599_c.specs.Lends.{lends};
+    ghost use Rattle.nic82599_c.specs.contracts.handle.KeptHandle.{the_row as handle_row};
+    ghost use types.Logic.{sem};
+
+    /// The parts of the box that it was made of.
+    pub fn into_parts(self) -> Parts<Kept, Global>
+        ensures { result.value ≡ self.kept }
+    {
+        let KeptHandle { ptr, alloc } = self;
+        Parts {
+            ptr: ptr as *mut Kept,
+            alloc,
+        }
+    }
+
+    /// The kept card. The handle has in the end the one that was last written here.
+    pub fn lend(&mut self) -> &mut Kept
+        ensures* writes_back { sem 𝓛 (lends handle_row kept_row (λ h w. record h { kept = w }) self.entry result) }
+        ensures value { result.now ≡ self.old.kept }
+    {
+        unsafe { &mut *(self.ptr as *mut Kept) }
+    }
 }
 
 impl Drop for Handle {
+    fn drop(self) {
+        drop(self.into_parts().into_box());
+    }
+}
+
+impl Drop for KeptHandle {
     fn drop(self) {
         drop(self.into_parts().into_box());
     }

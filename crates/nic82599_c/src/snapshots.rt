@@ -2,8 +2,7 @@
 
 ghost use Rattle.std.specs.Prelude.{◌≡◌, ◌≢◌};
 
-use crate::handle::{Handle, Opaque};
-use crate::kept_handle::KeptHandle;
+use crate::handle::{Handle, KeptHandle, Opaque};
 use crate::status::{DONE, OUT_OF_MEMORY};
 use std::alloc::Global;
 use std::mem;

@@ -1,0 +1,102 @@
+-- `into_parts` at any handle: it moves two fields, and what they own goes with them. Assumes `Logic`.
+use Rattle.std.proofs.Common.{◌≡◌, List, [], ◌∷◌, ◌++◌, refl, sym, subst}
+use seplogic.Ra.Ura.{Ura}
+use mir.Syntax.{Fn, Callee, ty_ptr, local, value_local, place, field, copy, assign, rv_opd, aggregate, seq, return}
+use mir.Val.{Val}
+use base.Logic.{SProp, ent, emp, id⊢}
+use base.Fml.{ftrue, fsep}
+use prog.Model.{Model}
+use prog.Wp.{Closed, WpFn}
+use types.Logic.{Logic}
+use types.Kit.{‵, raw, ◌⊛◌, ◌$◌, ◌∵◌, !, qed, by, move, keep, drop, split, fsplit, fjoin, suffices, use0, use1}
+use types.Run.{stop, fld, no_more, and_then, of_opd, returns, enter}
+use types.ByLocal.{alloc_all, pass_all, free_all, look_at, get, get_in, sets}
+use types.Part.{sub, whole, agg}
+use contract.Running.{Running, tables}
+use contract.Monad.{fact, fact_i}
+use contract.Notation.{connectives}
+use denote.Exit.{yes}
+use denote.RattleType.{RattleType}
+use denote.Signature.{Signature, plain}
+use denote.Steps.{nothing}
+use denote.Param.{layout}
+use denote.Triple.Clauses.{Clauses, Ended, closing}
+use denote.Triple.Spec.{Meets}
+use denote.Triple.Walked.{Stays, stay_dropped, walk_of, Goes-dropped}
+use Rattle.std.proofs.raw_atomic.Walks.{proved_at, leaves}
+use Rattle.std_alloc.proofs.BoxSteps.Form.{word, box_typed}
+use Rattle.std_alloc.proofs.BoxSteps.Form as box
+use Rattle.std_alloc.proofs.BoxSteps.Steps.{box_out, box_in}
+use Rattle.std_heap.specs.contracts.Global as Heap
+use Rattle.std_heap.specs.contracts.GlobalAllocator.TheImpl.{ghosts}
+use Rattle.nic82599_c.specs.contracts.parts.Parts as Parts
+use Rattle.nic82599_c.proofs.HandleForm.{Form, E, R, B}
+
+module _ (F : Form) where
+  abbrev To : RattleType
+  To = Parts.the_row (R F) Heap.the_row ghosts
+
+  -- the code, at the types of any handle and its value
+  abbrev pub function : Fn
+  function = record {
+    lifetimes = 0;
+    outlives = [];
+    ty_params = [];
+    givens = 0;
+    params = 1;
+    locals = local (layout To) value_local ∷ local (layout (B F)) value_local ∷ local ty_ptr value_local
+        ∷ local (layout Heap.the_row) value_local ∷ local ty_ptr value_local ∷ [];
+    body = seq (assign (place 2 []) (rv_opd (copy (place 1 (field 0 ∷ [])))))
+        (seq (assign (place 3 []) (rv_opd (copy (place 1 (field 1 ∷ [])))))
+        (seq (assign (place 4 []) (rv_opd (copy (place 2 []))))
+        (seq (assign (place 0 []) (aggregate (copy (place 4 []) ∷ copy (place 3 []) ∷ []))) return)));
+  }
+
+  abbrev pub signature : Signature
+  signature = record {
+    lifetimes = 0;
+    outlives = [];
+    params = plain (λ κs. B F) ∷ [];
+    result = plain (λ κs. To);
+  }
+
+  abbrev pub ended : Ended
+  ended = record { signature = signature; kept = (yes, tt) }
+
+  abbrev stayed : Stays ended.signature.params ended.kept
+  stayed = (stay_dropped (plain (λ κs. B F)) yes, tt)
+
+  module _ {M : Type 1} {𝓤 : Ura M} (𝓛 : Logic 𝓤) where
+    abbrev pub clauses : Clauses 𝓤 ended
+    clauses = λ κs a. record {
+      ghost = Unit {0};
+      requires = λ g. (connectives 𝓤).⊤ₛ;
+      ensures = λ g r e. fact 𝓤 (r.value ≡ (F.box a.0).value);
+    }
+
+    module _ (𝓜 : Model 𝓤 𝓛.H) (𝓡 : Running 𝓤 𝓛.H 𝓜) (k : Callee) where
+      pub meets : Closed 𝓤 𝓛.H (tables 𝓤 𝓛.H 𝓜 𝓡 𝓡.env).C (tables 𝓤 𝓛.H 𝓜 𝓡 𝓡.env).Λ k function
+          → Meets 𝓛 signature ((tables 𝓤 𝓛.H 𝓜 𝓡 𝓡.env).C k) (closing 𝓛 ended clauses)
+      meets closed =
+          let 𝓣 = tables 𝓤 𝓛.H 𝓜 𝓡 𝓡.env in
+          proved_at 𝓛 ended stayed clauses 𝓜 𝓡 (Goes-dropped 𝓛 0 (plain (λ κs. B F)) yes (λ κs x f. refl), tt) k
+          function closed (λ z are.
+          let v = F.box z.0.3.0 in let made : To.Denot = record { ptr = v.ptr; alloc = v.alloc; value = v.value } in
+          let Post : Val → SProp 𝓤 = (walk_of 𝓛 ended stayed clauses).post z in
+          let Run : List Val → SProp 𝓤 = λ ws. WpFn 𝓤 𝓛.H 𝓣.C 𝓣.Λ function ws Post in
+          qed 𝓛 ((‵ ftrue ⊛ ‵ (fsep ((box.B (E F)).own_val v z.0.4.0) ftrue)) ∷ raw (emp 𝓤) ∷ []) ∵
+          split ! $ drop ! $ fsplit ! $
+          box_out (E F) ! v z.0.4.0 (λ b o hv lies ws fits. box_in (E F) ! v b o v.value lies refl $
+          use1 𝓛 (‵ (To.own_val made (word (E F) hv b o ∷ []))) (id⊢ 𝓤 _) $ move ! (1 ∷ 2 ∷ []) $ drop ! $ drop ! $
+          let w : Val = word (E F) hv b o in let typed = box_typed (E F) hv b o fits in
+          suffices ! (Run (w ∷ []))
+          (subst (λ (us : List Val). ent 𝓤 (Run (w ∷ [])) (Run us)) (sym (λ i. ws i ++ [])) (id⊢ 𝓤 (Run (w ∷ [])))) $
+          enter ! 𝓣.C 𝓣.Λ function (w ∷ []) Post $ alloc_all ! (λ l. pass_all ! refl (typed, tt) $
+          sets ! (of_opd ! (get_in ! (fld ! refl (stop !)) (sub ! 0 refl (whole !)))) refl (tt, tt) $
+          sets ! (of_opd ! (get_in ! (fld ! refl (stop !)) (sub ! 1 refl (whole !)))) refl fits $
+          sets ! (of_opd ! (get ! refl)) refl (tt, tt) $
+          sets ! (agg ! (and_then ! (get ! refl) (and_then ! (get ! refl) (no_more !)))) refl typed $
+          returns ! (look_at ! 0 refl) $ free_all ! refl $
+          use0 𝓛 (raw (fact 𝓤 (v.value ≡ v.value))) (fact_i 𝓤 (v.value ≡ v.value) (emp 𝓤) refl) $
+          nothing ! $ nothing ! $ fjoin ! $ nothing ! $ keep ! (0 ∷ 1 ∷ 3 ∷ 2 ∷ []) $
+          by ! (leaves 𝓛 ended stayed clauses z w made (tt, tt) (tt, tt)))))

@@ -1,5 +1,5 @@
 -- How bytes are answered that are to be the text of an EEPROM image.
-use Rattle.std.proofs.Common.{◌≡◌, ◌≢◌, refl, sym, ◌∙◌, ap, ℕ, List, Ok, Err, Result}
+use Rattle.std.proofs.Common.{◌≡◌, ◌≢◌, refl, sym, ap, ℕ, List, Ok, Err, Result}
 use Rattle.std.specs.Prelude.{IsOkAnd}
 use Rattle.std.specs.Str.{is_utf8, IsUtf8}
 use Rattle.std.proofs.lemmas.Bool.{false_from_ne_true}

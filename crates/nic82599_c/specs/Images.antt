@@ -1,5 +1,5 @@
 -- What a call answers that installs an EEPROM image.
-use Rattle.std.specs.Prelude.{ℕ, ◌+◌, List, Option, Some, None, Result, Ok, Err, if◌then◌else◌}
+use Rattle.std.specs.Prelude.{ℕ, List, Option, Some, None, Result, Ok, Err, if◌then◌else◌}
 use Rattle.std.specs.Str.{is_utf8}
 use Rattle.nic_device.specs.EepromImage.Content.{Content}
 use Rattle.nic_device.specs.EepromImage.Text.{sound_content}

@@ -46,21 +46,17 @@ unfoldable pub enables : ℕ → List Step
 enables zero = []
 enables (suc queue) = (enables queue ++ step.RxEnable queue ∷ []) ++ step.TxEnable queue ∷ []
 
--- one transmit step of each queue below a number
-unfoldable pub transmits : ℕ → List Step
-transmits zero = []
-transmits (suc queue) = transmits queue ++ step.Transmit queue ∷ []
-
--- the interrupts of each group below a number
-unfoldable pub interrupts : ℕ → List Step
-interrupts zero = []
-interrupts (suc group) = interrupts group ++ step.Interrupt group ∷ []
+-- one step of each queue or group below a number
+unfoldable pub of_each : (ℕ → Step) → ℕ → List Step
+of_each of zero = []
+of_each of (suc place) = of_each of place ++ of place ∷ []
 
 -- the steps of a round: of each queue below a number its receive enable and its transmit enable; the EEPROM; of each
 -- such queue one transmit step; one receive step; the interrupts of the physical function and of 63 virtual functions
 abbrev pub round_of : ℕ → List Step
 round_of queues =
-    (((enables queues ++ step.Eeprom ∷ []) ++ transmits queues) ++ step.Receive ∷ []) ++ interrupts 64
+    (((enables queues ++ step.Eeprom ∷ []) ++ of_each step.Transmit queues) ++ step.Receive ∷ [])
+    ++ of_each step.Interrupt 64
 
 -- how far a settling is: the card, what was told of it, and how it ended, 0 while it goes on
 pub record Course : Type 0 where

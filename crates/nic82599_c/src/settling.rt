@@ -68,7 +68,7 @@ fn is_quiet(status: u8) -> bool
 }
 
 /// The steps of a round.
-#[tactic(auto, unfolding(crate::specs::Settling::enables, crate::specs::Settling::transmits, crate::specs::Settling::interrupts))]
+#[tactic(auto, unfolding(crate::specs::Settling::enables, crate::specs::Settling::of_each))]
 fn round_of(alloc: Global, queues: u16) -> Result<Vec<Step>, AllocError>
     ensures { IfOk result (λ steps. steps.items ≡ round_of queues) }
 {

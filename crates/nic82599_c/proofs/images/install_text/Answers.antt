@@ -1,4 +1,4 @@
-use Rattle.std.proofs.Common.{◌≡◌, ◌∙◌, sym, ap}
+use Rattle.std.proofs.Common.{◌∙◌}
 use Rattle.nic_device.specs.EepromImage.Text.{sound_content, IsImageOf}
 use Rattle.nic82599_c.proofs.Texts.{good_text, bad_text}
 use Rattle.nic82599_c.proofs.images.install_text.Goals as goal

@@ -1,4 +1,4 @@
-use Rattle.std.proofs.Common.{◌≡◌, ◌∙◌, sym, ap}
+use Rattle.std.proofs.Common.{◌∙◌}
 use Rattle.nic82599_c.proofs.Texts.{no_text, is_text}
 use Rattle.nic82599_c.proofs.images.nic_install_text.Goals as goal
 

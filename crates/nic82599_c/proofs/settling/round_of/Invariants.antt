@@ -1,5 +1,5 @@
 use Rattle.std.proofs.Common.{◌≡◌, [], ◌∷◌, ◌++◌}
-use Rattle.nic82599_c.specs.Settling.{enables, transmits, interrupts}
+use Rattle.nic82599_c.specs.Settling.{enables, of_each}
 use Rattle.nic82599_c.specs.declared.settling.Step.TheVariants as step
 use Rattle.nic82599_c.proofs.settling.round_of.Given as goal
 
@@ -7,8 +7,9 @@ abbrev pub invariant-loop-queue : goal.invariant-loop-queue
 invariant-loop-queue l = l.steps.items ≡ enables l.queue
 
 abbrev pub invariant-loop-queue-2 : goal.invariant-loop-queue-2
-invariant-loop-queue-2 l = l.steps.items ≡ (enables l.queues ++ step.Eeprom ∷ []) ++ transmits l.queue
+invariant-loop-queue-2 l = l.steps.items ≡ (enables l.queues ++ step.Eeprom ∷ []) ++ of_each step.Transmit l.queue
 
 abbrev pub invariant-loop-group : goal.invariant-loop-group
 invariant-loop-group l = l.steps.items
-    ≡ (((enables l.queues ++ step.Eeprom ∷ []) ++ transmits l.queues) ++ step.Receive ∷ []) ++ interrupts l.group
+    ≡ (((enables l.queues ++ step.Eeprom ∷ []) ++ of_each step.Transmit l.queues) ++ step.Receive ∷ [])
+    ++ of_each step.Interrupt l.group

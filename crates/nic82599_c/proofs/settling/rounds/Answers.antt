@@ -1,5 +1,5 @@
-use Rattle.std.proofs.Common.{rules, ◌≡◌, ◌∙◌, ℕ, suc, ◌-◌, ◌+◌, sym, length, arith}
-use Rattle.nic82599_c.specs.Settling.{course, rounds}
+use Rattle.std.proofs.Common.{rules, ◌≡◌, ◌∙◌, suc, ◌-◌, ◌+◌, sym, length, arith}
+use Rattle.nic82599_c.specs.Settling.{course}
 use Rattle.nic82599_c.proofs.Courses.{round-last, round-next, round-none, last-is, over-done}
 use Rattle.nic82599_c.proofs.settling.rounds.Goals as goal
 

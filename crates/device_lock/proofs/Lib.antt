@@ -1,3 +1,4 @@
+pub mod AtRest
 pub mod Closing
 pub mod Fresh
 pub mod Histories
@@ -6,5 +7,6 @@ pub mod Ranges
 pub mod Runs
 pub mod Sparing
 pub mod Stands
+pub mod Stepped
 pub mod Walks
 pub mod Watching

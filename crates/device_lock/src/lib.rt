@@ -16,7 +16,9 @@ pub mod laws;
 mod locked;
 mod pass;
 mod positions;
+mod resting;
 mod shared;
+mod stepping;
 
 pub use alone::{Watched, left_alone};
 pub use closed::Closed;
@@ -24,4 +26,5 @@ pub use entry::{Call, Entry};
 pub use fault::{CallFault, CloseFault, NewFault};
 pub use locked::Locked;
 pub use pass::Pass;
+pub use resting::{STEPS, keep_idle};
 pub use shared::{CloseRefused, MAX_LIMIT, MAX_PASSES, Shared};

@@ -1,14 +1,15 @@
-ghost use Rattle.std.specs.Prelude.{◌≡◌, [], true, IfOk, IfErr, OnOk, OnErr};
+ghost use Rattle.std.specs.Prelude.{◌≡◌, [], true, false, IfOk, IfErr, OnOk, OnErr};
 ghost use Rattle.nic_device.specs.Answering.{may_answer};
 ghost use Rattle.nic_device.specs.Step.{step_of};
-ghost use Rattle.pmd_seam.specs.Made.{Adds, StopsAmid, after_event, after_events, steps_of_queue};
-ghost use Rattle.pmd_seam.specs.Events.{is_step};
+ghost use Rattle.device_lock.specs.Events.{is_step};
+ghost use Rattle.device_lock.specs.Stepping.{steps_of_queue};
+ghost use Rattle.pmd_seam.specs.Made.{Adds, StopsAmid, after_event, after_events};
 ghost use Rattle.pmd_seam.specs.Refusals.{memory_alone};
 
 use crate::fault::no_memory;
 use crate::nic::Nic;
 use crate::noted::{let_reply_go, make_noted};
-use device_lock::{Call, CallFault};
+use device_lock::{Call, CallFault, STEPS, keep_idle};
 use nic_device::{Device, Dir, Event, OutOfMemory, Reply};
 use std::alloc::Global;
 use std::marker::Model;
@@ -80,6 +81,30 @@ impl Direct {
 impl Direct {
     /// The device steps that are made before each call.
     fn step_on(&mut self, alloc: Global) -> Result<(), OutOfMemory<()>>
+        ensures made { OnOk result (self.new ≡ after_events self.old (steps_of_queue self.old.queue)) }
+        ensures refused { OnErr result (StopsAmid self.old self.new) }
+    {
+        if self.rest() {
+            return Ok(());
+        }
+        self.make_steps(alloc)
+    }
+
+    /// Makes them where the queue is at rest and there is memory: each is idle. Else it makes none of them. Answers
+    /// whether they are made.
+    fn rest(&mut self) -> bool
+        ensures made { result ≡ true → self.new ≡ after_events self.old (steps_of_queue self.old.queue) }
+        ensures unchanged { result ≡ false → self.new ≡ self.old }
+    {
+        if !self.device.is_at_rest(self.queue) || self.calls.reserve(STEPS).is_err() {
+            return false;
+        }
+        keep_idle(&mut self.calls, self.queue);
+        true
+    }
+
+    /// Makes them one after the other.
+    fn make_steps(&mut self, alloc: Global) -> Result<(), OutOfMemory<()>>
         ensures made { OnOk result (self.new ≡ after_events self.old (steps_of_queue self.old.queue)) }
         ensures refused { OnErr result (StopsAmid self.old self.new) }
     {

@@ -2,6 +2,7 @@ pub mod AtRest
 pub mod Closing
 pub mod Fresh
 pub mod Histories
+pub mod MadeCalls
 pub mod Places
 pub mod Ranges
 pub mod Runs

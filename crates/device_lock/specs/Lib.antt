@@ -1,5 +1,6 @@
 pub mod Alone
 pub mod Calling
+pub mod Calls
 pub mod Closing
 pub mod Events
 pub mod Fault

@@ -8,6 +8,7 @@
 #![tactic(auto)]
 
 mod alone;
+mod calls;
 mod closed;
 mod compare;
 mod entry;
@@ -21,10 +22,10 @@ mod shared;
 mod stepping;
 
 pub use alone::{Watched, left_alone};
+pub use calls::{Calls, Made};
 pub use closed::Closed;
 pub use entry::{Call, Entry};
 pub use fault::{CallFault, CloseFault, NewFault};
 pub use locked::Locked;
 pub use pass::Pass;
-pub use resting::{STEPS, keep_idle};
 pub use shared::{CloseRefused, MAX_LIMIT, MAX_PASSES, Shared};

@@ -12,7 +12,7 @@ use crate::entry::{Call, Entry};
 use nic_device::{Dir, Event, EventNote, Reply};
 
 /// How many device steps are made before a call.
-pub const STEPS: usize = 4;
+pub(crate) const STEPS: usize = 4;
 
 /// The call of a step that was idle.
 fn idle_call(event: EventNote) -> Call
@@ -25,9 +25,11 @@ fn idle_call(event: EventNote) -> Call
 }
 
 /// Keeps the calls of the device steps of a queue, each of which was idle. There is room for them.
-pub fn keep_idle(calls: &mut Vec<Call>, queue: u16)
+pub(crate) fn keep_idle(calls: &mut Vec<Call>, queue: u16)
     requires { vec_len calls.old + 4 ≤ vec_capacity calls.old }
-    ensures { calls.new.items ≡ calls.old.items ++ idle_calls (steps_of_queue queue) }
+    ensures items { calls.new.items ≡ calls.old.items ++ idle_calls (steps_of_queue queue) }
+    ensures len { vec_len calls.new ≡ vec_len calls.old + 4 }
+    ensures room { vec_capacity calls.new ≡ vec_capacity calls.old }
 {
     calls.push_reserved(idle_call(Event::QueueStep(Dir::Rx, queue)));
     calls.push_reserved(idle_call(Event::QueueStep(Dir::Tx, queue)));

@@ -8,8 +8,7 @@ ghost use Rattle.pmd_seam.specs.Refusals.{memory_alone};
 
 use crate::fault::no_memory;
 use crate::nic::Nic;
-use crate::noted::{let_reply_go, make_noted};
-use device_lock::{Call, CallFault, STEPS, keep_idle};
+use device_lock::{CallFault, Calls};
 use nic_device::{Device, Dir, Event, OutOfMemory, Reply};
 use std::alloc::Global;
 use std::marker::Model;
@@ -19,7 +18,7 @@ use std::marker::Model;
 pub struct Direct {
     device: Device,
     queue: u16,
-    calls: Vec<Call>,
+    calls: Calls,
 }
 
 impl Model for Direct {
@@ -31,7 +30,7 @@ impl Model for Direct {
 
     ghost coded = { Prim.hlevel (codes, state_code) };
 
-    ghost view = { λ d. record { device = d.device; queue = d.queue; calls = d.calls.items } };
+    ghost view = { λ d. record { device = d.device; queue = d.queue; calls = d.calls } };
 }
 
 impl Direct {
@@ -42,21 +41,21 @@ impl Direct {
         Direct {
             device,
             queue,
-            calls: Vec::new(alloc),
+            calls: Calls::new(alloc),
         }
     }
 
     /// The calls that were made, with their replies, the oldest first.
-    pub fn calls(&self) -> &[Call]
+    pub fn calls(&self) -> &Calls
         ensures { result.now ≡ self.now.calls }
     {
-        self.calls.as_slice()
+        &self.calls
     }
 
     /// The device, and the calls that were made.
-    pub fn finish(self) -> (Device, Vec<Call>)
+    pub fn finish(self) -> (Device, Calls)
         ensures device { result.0 ≡ self.device }
-        ensures calls { result.1.items ≡ self.calls }
+        ensures calls { result.1 ≡ self.calls }
     {
         let Direct {
             device,
@@ -74,7 +73,7 @@ impl Direct {
         ensures back { IfErr result (λ refused. refused.event ≡ event) }
         ensures unchanged { OnErr result (self.new ≡ self.old) }
     {
-        make_noted(alloc, &mut self.device, &mut self.calls, event)
+        self.calls.make(alloc, &mut self.device, event)
     }
 }
 
@@ -96,11 +95,7 @@ impl Direct {
         ensures made { result ≡ true → self.new ≡ after_events self.old (steps_of_queue self.old.queue) }
         ensures unchanged { result ≡ false → self.new ≡ self.old }
     {
-        if !self.device.is_at_rest(self.queue) || self.calls.reserve(STEPS).is_err() {
-            return false;
-        }
-        keep_idle(&mut self.calls, self.queue);
-        true
+        self.calls.rest(&self.device, self.queue)
     }
 
     /// Makes them one after the other.
@@ -137,10 +132,10 @@ impl Direct {
         ensures unchanged { OnErr result (self.new ≡ self.old) }
     {
         match self.make(alloc, step) {
-            Ok(reply) => {
-                let_reply_go(reply);
-                Ok(())
-            }
+            Ok(reply) => match reply.into_buf() {
+                None => Ok(()),
+                Some(_buf) => unreachable!(),
+            },
             Err(refused) => match refused.event.into_buf() {
                 None => Err(OutOfMemory { event: () }),
                 Some(_buf) => unreachable!(),

@@ -12,8 +12,8 @@ ghost use Rattle.nic_device.specs.Step.{reply_to, word_told, moves_block, hands_
 ghost use Rattle.card.specs.Card.{AreShared, CanReturn, arena_after, new_card, made, reply_of_read, reply_of_write, IsOfWrite, with_lent, with_taken, lent_below, with_image};
 
 use nic_device::{
-    Arena, Buf, Config, Device, Event, Image, LentMemory, MAX_VFS, NewFault, Note, Octets, Parts,
-    Port, Reply, ReplyNote,
+    Arena, Buf, Config, Device, Event, Image, LentMemory, MAX_VFS, NewFault, Note, Parts, Port,
+    Reply, ReplyNote,
 };
 use std::alloc::{AllocError, Global};
 use std::marker::Model;
@@ -92,7 +92,7 @@ fn note_returned(arena: &mut Arena, reply: Reply, room: Vec<u8>) -> ReplyNote
     match reply.into_note() {
         Ok(note) => note,
         Err(buf) => {
-            let note = Note::new(buf.block(), Octets::copied(buf.bytes(), room));
+            let note = Note::of(&buf, room);
             give_back(arena, buf);
             Reply::Buf(note)
         }

@@ -32,7 +32,7 @@ one_more_below : (n : ℕ) (h : List Entry) (e : Entry) → AllBelow n h → e.p
 one_more_below n [] e below lt = (lt, tt)
 one_more_below n (x ∷ h) e below lt = (below.0, one_more_below n h e below.1 lt)
 
-entries_of-append : (tag : ℕ) (g h : List Entry) → entries_of tag (g ++ h) ≡ entries_of tag g + entries_of tag h
+pub entries_of-append : (tag : ℕ) (g h : List Entry) → entries_of tag (g ++ h) ≡ entries_of tag g + entries_of tag h
 entries_of-append tag g h = search (rules, sum_by-append)
 
 counts_more : (n : ℕ) (counts : List ℕ) (h : List Entry) (e : Entry) → length counts ≡ n → e.pass < n

@@ -3,11 +3,12 @@
 //! `Shared::new` gives a shared device and one `Pass` for each caller. `Shared::call` makes one event under the lock:
 //! it appends one `Entry` to the history and one `Call` to the pass, or changes nothing. What lies under the lock is a
 //! `Locked`, whose type keeps that the history is legal from a new device and leads to the device held.
-//! `Shared::close` takes all passes back and gives the one history in which each pass's calls stand in its order. The
-//! driver and the threads of the bench stand on this crate.
+//! `Shared::close` takes all passes back and gives the one history in which each pass's calls stand in its order. `Calls`
+//! are those of a device that isn't shared. The driver and the threads of the bench stand on this crate.
 #![tactic(auto)]
 
 mod alone;
+mod calls;
 mod closed;
 mod compare;
 mod entry;
@@ -16,9 +17,12 @@ pub mod laws;
 mod locked;
 mod pass;
 mod positions;
+mod resting;
 mod shared;
+mod stepping;
 
 pub use alone::{Watched, left_alone};
+pub use calls::{Calls, Made};
 pub use closed::Closed;
 pub use entry::{Call, Entry};
 pub use fault::{CallFault, CloseFault, NewFault};

@@ -1,13 +1,16 @@
-ghost use Rattle.std.specs.Prelude.{◌≡◌, ℕ, ◌≤◌, ◌<◌, ◌↔◌, ◌⊎◌, true, Err, IfOk, OnOk, OnErr, length, slice_index, slice_set, replicate, ◌+◌};
+ghost use Rattle.std.specs.Prelude.{◌≡◌, ℕ, ◌≤◌, ◌<◌, ◌↔◌, ◌⊎◌, true, false, Err, IfOk, OnOk, OnErr, length, slice_index, slice_set, replicate, ◌+◌};
 ghost use Rattle.nic_device.specs.Answering.{may_answer};
 ghost use Rattle.nic_device.specs.State.{new_state};
 ghost use Rattle.nic_device.specs.Step.{step_of};
 ghost use Rattle.device_lock.specs.Fault.{event_of};
 ghost use Rattle.device_lock.specs.History.{leads_to, IsLegal, AreEvents, AllBelow};
 ghost use Rattle.device_lock.specs.Kept.{opened, after_call, entries_of};
+ghost use Rattle.device_lock.specs.Resting.{after_calls};
+ghost use Rattle.device_lock.specs.Stepping.{steps_of_queue};
 
 use crate::entry::Entry;
 use crate::fault::CallFault;
+use crate::resting::{STEPS, has_room, keep_entries};
 use crate::shared::MAX_PASSES;
 use nic_device::{Config, Device, Event, OutOfMemory, Reply};
 use std::alloc::{AllocError, Global};
@@ -145,6 +148,22 @@ impl<const VFS: u8, const FIFO: u16> Locked<VFS, FIFO> {
         }
     }
 
+    /// Makes the device steps of a queue for the pass of this tag, which is below 64, where the queue is at rest, the
+    /// history has room for their entries, and there is memory: each is idle. Else it makes none of them. Answers
+    /// whether they are made.
+    pub(crate) fn rest(&mut self, tag: u8, queue: u16) -> bool
+        requires { tag < 64 }
+        ensures made { result ≡ true → self.new ≡ after_calls self.old tag (steps_of_queue queue) }
+        ensures unchanged { result ≡ false → self.new ≡ self.old }
+    {
+        if !self.device.is_at_rest(queue) || !has_room(&mut self.history, self.limit) {
+            return false;
+        }
+        keep_entries(&mut self.history, tag, queue);
+        count_steps(&mut self.counts, tag);
+        true
+    }
+
     /// The device, once nothing is shared any more.
     pub(crate) fn into_device(self) -> Device
         ensures { result ≡ self.entry.device }
@@ -175,4 +194,15 @@ fn count_one(counts: &mut Counts, tag: u8)
     let at = usize::from(tag);
     let count = counts[at];
     counts[at] = count + 1;
+}
+
+/// The entries of a tag's device steps more.
+fn count_steps(counts: &mut Counts, tag: u8)
+    requires tag { tag < 64 }
+    requires few { slice_index counts.old tag + 4 ≤ 1000000 }
+    ensures { counts.new ≡ slice_set counts.old tag (slice_index counts.old tag + 4) }
+{
+    let at = usize::from(tag);
+    let count = counts[at];
+    counts[at] = count + STEPS as u32;
 }

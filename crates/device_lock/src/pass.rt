@@ -1,4 +1,4 @@
-ghost use Rattle.std.specs.Prelude.{◌≡◌, ◌≢◌, ◌<◌, true, Err, IfOk, IfErr, OnOk, OnErr, length};
+ghost use Rattle.std.specs.Prelude.{◌≡◌, ◌≢◌, ◌<◌, true, false, Err, IfOk, IfErr, OnOk, OnErr, length};
 ghost use Rattle.nic_device.specs.Answering.{may_answer};
 ghost use Rattle.nic_device.specs.State.{new_state};
 ghost use Rattle.nic_device.specs.Step.{step_of};
@@ -6,10 +6,13 @@ ghost use Rattle.device_lock.specs.Fault.{event_of};
 ghost use Rattle.device_lock.specs.History.{leads_to, IsLegal};
 ghost use Rattle.device_lock.specs.Kept.{after_call};
 ghost use Rattle.device_lock.specs.Pass.{fresh_pass, with_call};
+ghost use Rattle.device_lock.specs.Resting.{after_calls};
+ghost use Rattle.device_lock.specs.Stepping.{AreStepped, steps_of_queue};
 
 use crate::entry::Call;
 use crate::fault::CallFault;
 use crate::locked::Locked;
+use crate::resting::{STEPS, keep_idle};
 use nic_device::{Event, Reply};
 use std::alloc::Global;
 use std::marker::Model;
@@ -65,6 +68,27 @@ impl Pass {
 }
 
 impl Pass {
+    /// Makes the device steps of a queue where it is at rest, the history has room for their entries, and there is
+    /// memory: each is idle. Else it makes none of them. Answers whether they are made.
+    pub(crate) fn rest<const VFS: u8, const FIFO: u16>(
+        &mut self,
+        locked: &mut Locked<VFS, FIFO>,
+        queue: u16,
+    ) -> bool
+        requires { self.old.tag < 64 }
+        ensures made { result ≡ true → AreStepped self.old self.new (steps_of_queue queue) }
+        ensures kept { result ≡ true → locked.new ≡ after_calls locked.old self.old.tag (steps_of_queue queue) }
+        ensures unchanged { result ≡ false → self.new ≡ self.old }
+        ensures refused { result ≡ false → locked.new ≡ locked.old }
+        ensures tag { self.new.tag ≡ self.old.tag }
+    {
+        if self.calls.reserve(STEPS).is_err() || !locked.rest(self.tag, queue) {
+            return false;
+        }
+        keep_idle(&mut self.calls, queue);
+        true
+    }
+
     /// Makes one event under the lock, and keeps its call here.
     ///
     /// `HistoryFull` only where the history has as many entries as it may, else `OutOfMemory`. Both hand the event

@@ -20,6 +20,7 @@ use Rattle.nic_device.specs.Step.{step_of}
 use Rattle.nic_device.specs.Transmit.{transmitted, fetched_reply}
 use Rattle.nic_device.proofs.Cases.{either_way, lent_cases, peeked_cases, poked_cases, arrived_cases, link_cases, switched_cases, interrupted_cases}
 use Rattle.nic_device.proofs.QueueCases.{received_cases, transmitted_cases}
+use Rattle.nic_device.proofs.Trimmed.{kept_len_le}
 use Rattle.tx_ring.specs.declared.fetched.Fetched.{Fetched}
 use Rattle.nic_device.specs.declared.event.Event.{Event}
 use Rattle.nic_device.specs.declared.event.Event.TheVariants as event
@@ -61,8 +62,9 @@ eeprom_suits s =
 
 lend_suits : (s : State) (block : Block) → length block.bytes ≡ 2048 → Suits s (event.Lend block) (lent s block).reply
 lend_suits s block size =
+    let few = kept_len_le block.bytes in
     lent_cases (λ o. Suits s (event.Lend block) o.reply) s block
-    (record { fits = eq-eqb block.number block.number refl; room = omega arith })
+    (record { fits = eq-eqb block.number block.number refl; room = omega (arith, size, few) })
     (record { fits = refl; room = omega arith })
 
 took_suits : (s : State) (number : ℕ) (o : Option (List ℕ))
@@ -71,7 +73,9 @@ took_suits : (s : State) (number : ℕ) (o : Option (List ℕ))
     (block_taken s number (option_map (λ bytes. record { number = number; bytes = bytes }) o)).reply
 took_suits s number None size = record { fits = refl; room = omega arith }
 took_suits s number (Some bytes) size =
-    let n = size bytes refl in record { fits = eq-eqb number number refl; room = omega arith }
+    let n = size bytes refl in
+    let few = kept_len_le bytes in
+    record { fits = eq-eqb number number refl; room = omega (arith, n, few) }
 
 take_suits : (s : State) (number : ℕ) → IsWhole s.memory → Suits s (event.Take number) (taken s number).reply
 take_suits s number whole =

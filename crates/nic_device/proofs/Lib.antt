@@ -10,6 +10,7 @@ pub use Rattle.register_file.proofs as RegisterFile
 pub use Rattle.register_laws.proofs as RegisterLaws
 pub mod Accessing
 pub mod Answering
+pub mod AtRest
 pub mod Arriving
 pub mod BlockCopies
 pub mod Blocks
@@ -38,4 +39,5 @@ pub mod Staging
 pub mod Steps
 pub mod SwitchedSides
 pub mod Targets
+pub mod Trimmed
 pub mod Triples

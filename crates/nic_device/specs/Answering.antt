@@ -3,6 +3,7 @@ use Rattle.std.specs.Prelude.{ℕ, ◌==◌, Bool, true, false, length}
 use Rattle.rx_ring.specs.DmaArena.Block.{Block}
 use Rattle.nic_device.specs.Link.{next_out_of}
 use Rattle.nic_device.specs.State.{State}
+use Rattle.nic_device.specs.Trimming.{kept_len}
 use Rattle.nic_device.specs.declared.event.Event.{Event}
 use Rattle.nic_device.specs.declared.event.Event.TheVariants as event
 use Rattle.nic_device.specs.declared.event.Reply.{Reply}
@@ -110,8 +111,8 @@ may_answer event.Collect r = may_collect r
 
 -- how many bytes of a reply its note copies: those of a block, or of a frame
 abbrev pub note_length : Reply Block → ℕ
-note_length (reply.Buf block) = length block.bytes
-note_length (reply.Twice block) = length block.bytes
+note_length (reply.Buf block) = kept_len block.bytes
+note_length (reply.Twice block) = kept_len block.bytes
 note_length (reply.Frame queue bytes) = length bytes
 note_length other = 0
 

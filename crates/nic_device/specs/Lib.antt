@@ -26,6 +26,7 @@ pub mod Lending
 pub mod Link
 pub mod Outcome
 pub mod Receive
+pub mod Resting
 pub mod Restoring
 pub mod Run
 pub mod Sound
@@ -33,3 +34,4 @@ pub mod State
 pub mod Step
 pub mod Switching
 pub mod Transmit
+pub mod Trimming

@@ -1,5 +1,6 @@
-ghost use Rattle.std.specs.Prelude.{◌≡◌};
+ghost use Rattle.std.specs.Prelude.{◌≡◌, ◌↔◌, ◌-◌, ◌++◌, IsTrue, length, replicate, take};
 ghost use Rattle.nic_device.specs.Step.{lent_block};
+ghost use Rattle.nic_device.specs.Trimming.{kept_len};
 
 use register_file::Group;
 use rx_ring::{Buf, Dir, Octets, RingFault};
@@ -250,27 +251,38 @@ pub enum Reply<B = Buf> {
 }
 
 /// What a packet buffer holds, in a note. Contracts see it as they see the buffer, by its number and its bytes, so that
-/// an event and its note are one.
+/// an event and its note are one. It keeps the bytes up to the last that isn't 0, and how many zero bytes follow.
 #[derive(Debug, Drop)]
 pub struct Note {
     number: u32,
-    bytes: Octets,
+    zeros: u32,
+    kept: Octets,
 }
 
 impl Model for Note {
+    ghost use Rattle.std.specs.Prelude.{◌≡◌, ◌++◌, length, replicate};
     ghost use Rattle.rx_ring.specs.DmaArena.Block.{Block};
+    ghost use Rattle.nic_device.specs.Trimming.{kept_len};
 
     ghost Value = { Block };
 
-    ghost view = { λ n. record { number = n.number; bytes = n.bytes } };
+    ghost view = { λ n. record { number = n.number; bytes = n.kept ++ replicate n.zeros 0 } };
+
+    ghost invariant = { λ n. kept_len n.kept ≡ length n.kept };
 }
 
 impl Note {
-    /// The note of a block of this number with these bytes.
-    pub fn new(number: u32, bytes: Octets) -> Note
-        ensures { result ≡ record { number = number; bytes = bytes } }
+    /// The note of a block of this number, with these bytes and so many zero bytes behind them. The last of these bytes
+    /// isn't 0.
+    pub(crate) fn new(number: u32, kept: Octets, zeros: u32) -> Note
+        requires { kept_len kept ≡ length kept }
+        ensures { result ≡ record { number = number; bytes = kept ++ replicate zeros 0 } }
     {
-        Note { number, bytes }
+        Note {
+            number,
+            zeros,
+            kept,
+        }
     }
 
     /// The block's number.
@@ -280,11 +292,25 @@ impl Note {
         self.number
     }
 
-    /// The block's bytes.
-    pub fn bytes(&self) -> &[u8]
-        ensures { result.now ≡ self.now.bytes }
+    /// The block's bytes up to the last that isn't 0.
+    pub fn kept(&self) -> &[u8]
+        ensures { result.now ≡ take (kept_len self.now.bytes) self.now.bytes }
     {
-        self.bytes.bytes()
+        self.kept.bytes()
+    }
+
+    /// How many zero bytes the block has behind these.
+    pub fn zeros(&self) -> u32
+        ensures { result ≡ length self.now.bytes - kept_len self.now.bytes }
+    {
+        self.zeros
+    }
+
+    /// Whether both are notes of one block: its number and its bytes.
+    pub fn same(&self, other: &Note) -> bool
+        ensures { IsTrue result ↔ (self.now ≡ other.now) }
+    {
+        self.zeros == other.zeros && self.number == other.number && self.kept.same(&other.kept)
     }
 }
 

@@ -27,10 +27,12 @@ mod notes;
 mod pools;
 mod receive;
 mod rest;
+mod resting;
 mod runs;
 mod snapshot;
 mod switching;
 mod transmit;
+mod trimming;
 mod waiting;
 
 pub use config::{Config, MAX_FIFO, NewFault};

@@ -6,28 +6,57 @@ ghost use Rattle.std.specs.Vec.{vec_len, vec_capacity};
 ghost use Rattle.std.specs.Result.{result_err};
 ghost use Rattle.nic_device.specs.Answering.{note_length};
 ghost use Rattle.nic_device.specs.Step.{step_of, handed_block};
+ghost use Rattle.nic_device.specs.Trimming.{kept_len};
 
 use crate::device::Device;
 use crate::event::{Event, EventNote, Note, Reply, ReplyNote};
+use crate::trimming::kept_len;
 use rx_ring::{Buf, Octets};
 use std::alloc::{AllocError, Global};
 
 impl Note {
-    /// The note of a block of packet memory. Its bytes are copied into a vector that has room for them.
+    /// The note of a block of packet memory. What it keeps of the block's bytes is copied into a vector that has room
+    /// for all; the room that is left is given back.
     pub fn of(buf: &Buf, room: Vec<u8>) -> Note
         requires empty { room.items ≡ [] }
-        requires room { length buf.now.bytes ≤ vec_capacity room }
+        requires room { 2048 ≤ vec_capacity room }
         ensures { result ≡ buf.now }
     {
-        Note::new(buf.block(), Octets::copied(buf.bytes(), room))
+        let _whole = buf.bytes();
+        Note::kept_of(buf, room)
     }
 
-    /// Whether both are notes of one block: its number and its bytes.
-    pub fn same(&self, other: &Note) -> bool
-        ensures { IsTrue result ↔ (self.now ≡ other.now) }
+    /// The same, where the vector has room for what the note keeps.
+    fn kept_of(buf: &Buf, room: Vec<u8>) -> Note
+        requires empty { room.items ≡ [] }
+        requires room { kept_len buf.now.bytes ≤ vec_capacity room }
+        ensures { result ≡ buf.now }
     {
-        self.number() == other.number() && self.bytes() == other.bytes()
+        Note::with_kept(buf, kept_len(buf.bytes()), room)
     }
+
+    /// The same, where it is known how many bytes the note keeps.
+    fn with_kept(buf: &Buf, kept: usize, room: Vec<u8>) -> Note
+        requires kept { kept ≡ kept_len buf.now.bytes }
+        requires empty { room.items ≡ [] }
+        requires room { kept ≤ vec_capacity room }
+        ensures { result ≡ buf.now }
+    {
+        let bytes: &[u8] = buf.bytes();
+        let zeros = (bytes.len() - kept) as u32;
+        Note::new(buf.block(), fitted(&bytes[..kept], room), zeros)
+    }
+}
+
+/// A copy of the bytes, in a vector that has room for them. The room that is left is given back.
+fn fitted(bytes: &[u8], room: Vec<u8>) -> Octets
+    requires empty { room.items ≡ [] }
+    requires room { length bytes.now ≤ vec_capacity room }
+    ensures { result ≡ bytes.now }
+{
+    let mut copy = Octets::copied(bytes, room).into_vec();
+    copy.shrink_to_fit();
+    Octets::of(copy)
 }
 
 impl Event {
@@ -39,8 +68,9 @@ impl Event {
             Event::Read(port, address) => Ok(Event::Read(*port, *address)),
             Event::Write(port, address, word) => Ok(Event::Write(*port, *address, *word)),
             Event::Lend(buf) => {
-                let room = Vec::with_capacity(alloc, buf.bytes().len())?;
-                Ok(Event::Lend(Note::of(buf, room)))
+                let kept = kept_len(buf.bytes());
+                let room = Vec::with_capacity(alloc, kept)?;
+                Ok(Event::Lend(Note::with_kept(buf, kept, room)))
             }
             Event::Take(number) => Ok(Event::Take(*number)),
             Event::Peek16(address) => Ok(Event::Peek16(*address)),
@@ -95,12 +125,12 @@ impl Event<Note> {
 }
 
 impl Reply {
-    /// How many bytes of the reply its note copies: those of a block, or of a frame.
+    /// How many bytes of the reply its note copies: those of a block up to the last that isn't 0, or of a frame.
     pub fn note_length(&self) -> usize
         ensures { result ≡ note_length self.now }
     {
         match self {
-            Reply::Buf(buf) | Reply::Twice(buf) => buf.bytes().len(),
+            Reply::Buf(buf) | Reply::Twice(buf) => kept_len(buf.bytes()),
             Reply::Frame { queue: _, bytes } => bytes.bytes().len(),
             _ => 0,
         }
@@ -125,8 +155,8 @@ impl Reply {
             Reply::Stray(word) => Reply::Stray(*word),
             Reply::Done => Reply::Done,
             Reply::Bytes(bytes) => Reply::Bytes(*bytes),
-            Reply::Buf(buf) => Reply::Buf(Note::of(buf, room)),
-            Reply::Twice(buf) => Reply::Twice(Note::of(buf, room)),
+            Reply::Buf(buf) => Reply::Buf(Note::kept_of(buf, room)),
+            Reply::Twice(buf) => Reply::Twice(Note::kept_of(buf, room)),
             Reply::NotLent => Reply::NotLent,
             Reply::Misaligned => Reply::Misaligned,
             Reply::NoQueue => Reply::NoQueue,

@@ -35,7 +35,7 @@ impl Engine {
     }
 
     /// Whether a queue sends nothing as things stand.
-    fn is_silent(&self, queue: u16) -> bool
+    pub(crate) fn is_silent(&self, queue: u16) -> bool
         requires { queue < 128 }
         ensures { result ≡ is_silent self.now queue (transmit_queue_of self.now.registers queue) }
     {

@@ -1,6 +1,6 @@
 //! The receive side of the driver: one step for each of its calls, from one stage to the next.
 
-ghost use Rattle.std.specs.Prelude.{◌≡◌, ◌<◌, ◌≤◌, ◌+◌, ◌++◌, length, IsFalse, Ok, true, false, IfOk, IfErr, OnOk, OnErr, [], vec_len};
+ghost use Rattle.std.specs.Prelude.{◌≡◌, ◌<◌, ◌≤◌, ◌+◌, ◌++◌, length, IsFalse, Ok, true, false, IfOk, IfErr, IfSome, OnOk, OnErr, [], min, vec_len};
 ghost use Rattle.std.specs.Vec.{vec_capacity};
 ghost use Rattle.nic_device.specs.DmaArena.Numbers.{Numbers, is_free};
 ghost use Rattle.nic_device.specs.DmaRing.Descriptor.{second_half};
@@ -14,8 +14,8 @@ ghost use Rattle.pmd_seam.specs.Refusals.{CanFail};
 
 use crate::ring::{At, ReceiveRing};
 use nic_device::{
-    BLOCK_BYTES, Buf, first_half, hash_told, is_last, is_written_back, length_told, of_halves,
-    posted_word, rss_told, second_half,
+    Buf, first_half, hash_told, is_last, is_written_back, length_told, of_halves, posted_word,
+    rss_told, second_half,
 };
 use pmd_seam::{
     CallFault, Nic, Packet, PmdFault, Record, descriptor_address, lend, next_slot, peek, poke,
@@ -299,7 +299,7 @@ impl ReceiveRing {
         if self.handed.reserve(1).is_err() {
             return Err(no_memory);
         }
-        let Ok(room) = Vec::with_capacity(alloc, BLOCK_BYTES) else {
+        let Ok(room) = Vec::with_capacity(alloc, record_room(&self.held)) else {
             return Err(no_memory);
         };
         let word = u32::from(self.slot(self.blocks.len() as u16 + 1));
@@ -315,10 +315,20 @@ impl ReceiveRing {
     }
 }
 
+/// How many bytes the record of the packet that is held keeps.
+fn record_room(held: &Option<Packet>) -> usize
+    ensures { IfSome held.now (λ packet. min packet.len 2048 ≤ result) }
+{
+    match held {
+        Some(packet) => packet.record_room(),
+        None => 0,
+    }
+}
+
 /// Hands out the packet that is held, and keeps its record.
 fn hand_out(held: &mut Option<Packet>, handed: &mut Vec<Record>, room: Vec<u8>) -> Option<Packet>
     requires empty { room.items ≡ [] }
-    requires bytes { 2048 ≤ vec_capacity room }
+    requires bytes { IfSome held.old (λ packet. min packet.len 2048 ≤ vec_capacity room) }
     requires record { vec_len handed.old < vec_capacity handed.old }
     ensures out { result ≡ held.old }
     ensures none { held.new ≡ None }

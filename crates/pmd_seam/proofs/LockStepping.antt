@@ -1,64 +1,44 @@
 -- A pass that is stepped on.
-use Rattle.std.proofs.Common.{◌≡◌, ℕ, List, [], ◌∷◌, ◌++◌, take, refl, sym, ap, ◌∙◌, subst, append_assoc, Result, Ok, Err, IfOk, IfErr, OnErr}
-use Rattle.std.proofs.lemmas.List.{map-append}
+use Rattle.std.proofs.Common.{◌≡◌, List, [], ◌∷◌, ◌++◌, take, sym, ap, ◌∙◌, subst, Result, Ok, Err, IfOk, IfErr, OnErr}
 use Rattle.nic_device.specs.DmaArena.Block.{Block}
 use Rattle.nic_device.specs.declared.event.Event.{Event}
-use Rattle.nic_device.specs.declared.event.Event.TheVariants as event
 use Rattle.nic_device.specs.declared.event.Reply.{Reply}
-use Rattle.nic_device.specs.DmaRing.declared.dir.Dir.TheVariants as dir
 use Rattle.device_lock.specs.declared.entry.Call.{Call}
 use Rattle.device_lock.specs.declared.fault.CallFault.{CallFault}
 use Rattle.device_lock.specs.Fault.{event_of}
-use Rattle.pmd_seam.specs.Made.{Adds, AddsSome, AreSteps, steps_of_queue}
+use Rattle.device_lock.specs.Pass.{PassValue, call_of}
+use Rattle.device_lock.specs.Stepping.{steps_of_queue, events_in}
+use Rattle.device_lock.specs.Stepping as stepping
+use Rattle.pmd_seam.specs.Made.{Adds, AddsSome, AreSteps}
 use Rattle.pmd_seam.proofs.Stepping.{first_steps, queue_steps}
 use Rattle.pmd_seam.proofs.Steps.{AllSteps}
-use Rattle.pmd_seam.specs.Stepped.{AtLock, AreStepped, StepsAndMakes, StopsStepping, events_in, refusals_of, with_calls}
+use Rattle.pmd_seam.specs.Stepped.{AtLock, AreStepped, StepsAndMakes, StopsStepping, refusals_of, with_calls}
 
--- calls after calls
-with_both : (t : AtLock) (a b : List Call) → with_calls (with_calls t a) b ≡ with_calls t (a ++ b)
-with_both t a b =
-    ap (λ (l : List Call). record t { pass = record t.pass { calls = l } }) (append_assoc t.pass.calls a b)
+-- what the pass made, through the lock
 
-pub both_stepped : (old mid new : AtLock) (xs ys : List (Event Block)) → AreStepped old mid xs → AreStepped mid new ys
-    → AreStepped old new (xs ++ ys)
-both_stepped old mid new xs ys (a, is_a, to) (b, is_b, then) = (
-  a ++ b,
-  map-append (λ (c : Call). c.event) a b ∙ ap (λ (l : List (Event Block)). l ++ events_in b) is_a
-      ∙ ap (λ (l : List (Event Block)). xs ++ l) is_b,
-  then ∙ ap (λ (t : AtLock). with_calls t b) to ∙ with_both old a b,
+pub pass_made : (r : Result (Reply Block) (CallFault (Event Block))) (e : Event Block) (old view : AtLock)
+    (pass : PassValue) → view ≡ old → IfOk r (λ x. stepping.StepsAndMakes view.queue view.pass pass e x)
+    → IfOk r (λ x. StepsAndMakes old (record view { pass = pass }) e x)
+pass_made (Ok x) e old view pass same (steps, are, is) = (
+  steps,
+  are ∙ ap (λ (t : AtLock). steps_of_queue t.queue) same,
+  ap (λ (p : PassValue). record view { pass = p }) is
+      ∙ ap (λ (t : AtLock). with_calls t (steps ++ call_of e x ∷ [])) same,
 )
+pass_made (Err f) e old view pass same makes = tt
 
-pub two_stepped : (old i j : AtLock) (x y : Event Block) → AreStepped old i (x ∷ []) → AreStepped i j (y ∷ [])
-    → AreStepped old j (x ∷ y ∷ [])
-two_stepped old i j x y p q = both_stepped old i j (x ∷ []) (y ∷ []) p q
-
-pub three_stepped : (old i j k : AtLock) (x y z : Event Block) → AreStepped old i (x ∷ []) → AreStepped i j (y ∷ [])
-    → AreStepped j k (z ∷ []) → AreStepped old k (x ∷ y ∷ z ∷ [])
-three_stepped old i j k x y z p q r =
-    both_stepped old j k (x ∷ y ∷ []) (z ∷ []) (two_stepped old i j x y p q) r
-
-pub all_stepped : (old i j k new : AtLock) (queue : ℕ) → queue ≡ old.queue
-    → AreStepped old i (event.QueueStep dir.Rx queue ∷ []) → AreStepped i j (event.QueueStep dir.Tx queue ∷ [])
-    → AreStepped j k (event.TxStep queue ∷ []) → AreStepped k new (event.RxStep ∷ [])
-    → AreStepped old new (steps_of_queue old.queue)
-all_stepped old i j k new queue own p q r s =
-    subst (λ n. AreStepped old new (steps_of_queue n)) own
-    (both_stepped old k new _ (event.RxStep ∷ []) (three_stepped old i j k _ _ _ p q r) s)
-
--- the steps stop after so many, and nothing else is made
-pub stopped : (old mid new : AtLock) (queue count : ℕ) → queue ≡ old.queue
-    → AreStepped old mid (take count (steps_of_queue queue)) → new ≡ mid → StopsStepping old new
-stopped old mid new queue count own made same = (
+pub pass_stops : (r : Result (Reply Block) (CallFault (Event Block))) (old view : AtLock) (pass : PassValue)
+    → view ≡ old → OnErr r (stepping.StopsStepping view.queue view.pass pass)
+    → OnErr r (StopsStepping old (record view { pass = pass }))
+pass_stops (Ok x) old view pass same stops = tt
+pass_stops (Err f) old view pass same (count, (steps, are, is)) = (
   count,
-  subst (λ n. AreStepped old new (take count (steps_of_queue n))) own
-      (subst (λ (t : AtLock). AreStepped old t (take count (steps_of_queue queue))) (sym same) made),
+  (
+    steps,
+    are ∙ ap (λ (t : AtLock). take count (steps_of_queue t.queue)) same,
+    ap (λ (p : PassValue). record view { pass = p }) is ∙ ap (λ (t : AtLock). with_calls t steps) same,
+  ),
 )
-
--- all steps were made, and the event was refused
-pub none_after : (r : Result (Reply Block) (CallFault (Event Block))) (old mid new : AtLock)
-    → AreStepped old mid (steps_of_queue old.queue) → OnErr r (new ≡ mid) → OnErr r (StopsStepping old new)
-none_after (Ok x) old mid new made same = tt
-none_after (Err f) old mid new made same = stopped old mid new old.queue 4 refl made same
 
 -- so the steps and the event are what a way to the device adds
 

@@ -12,7 +12,8 @@ use Rattle.device_lock.specs.declared.fault.CallFault.TheVariants.{OutOfMemory}
 use Rattle.device_lock.specs.Fault.{event_of}
 use Rattle.device_lock.specs.declared.entry.Call.{Call}
 use Rattle.device_lock.specs.Pass.{call_of}
-use Rattle.pmd_seam.specs.Made.{InHand, Adds, AddsSome, StopsAmid, after_event, after_events, steps_of_queue}
+use Rattle.device_lock.specs.Stepping.{steps_of_queue}
+use Rattle.pmd_seam.specs.Made.{InHand, Adds, AddsSome, StopsAmid, after_event, after_events}
 use Rattle.pmd_seam.proofs.Steps.{AllSteps, steps-append}
 
 -- steps add their calls

@@ -4,7 +4,7 @@ use Rattle.std.specs.Prelude.{IsTrue, ⊤}
 use Rattle.nic_device.specs.DmaArena.Block.{Block}
 use Rattle.nic_device.specs.declared.event.Event.{Event}
 use Rattle.device_lock.specs.declared.entry.Call.{Call}
-use Rattle.pmd_seam.specs.Events.{is_step}
+use Rattle.device_lock.specs.Events.{is_step}
 use Rattle.pmd_seam.specs.Made.{AreSteps, StepsWhere}
 
 -- each of these events is a step

@@ -1,7 +1,7 @@
 pub use Rattle.device_lock.specs as DeviceLock
+pub use Rattle.device_lock.specs.Events
 pub mod Accesses
 pub mod Both
-pub mod Events
 pub mod Fresh
 pub mod Home
 pub mod Made

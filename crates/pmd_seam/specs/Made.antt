@@ -4,12 +4,11 @@ use Rattle.nic_device.specs.DmaArena.Block.{Block}
 use Rattle.nic_device.specs.State.{State}
 use Rattle.nic_device.specs.Step.{step_of}
 use Rattle.nic_device.specs.declared.event.Event.{Event}
-use Rattle.nic_device.specs.declared.event.Event.TheVariants as event
 use Rattle.nic_device.specs.declared.event.Reply.{Reply}
-use Rattle.nic_device.specs.DmaRing.declared.dir.Dir.TheVariants as dir
 use Rattle.device_lock.specs.declared.entry.Call.{Call}
 use Rattle.device_lock.specs.Pass.{call_of}
-use Rattle.pmd_seam.specs.Events.{is_step}
+use Rattle.device_lock.specs.Stepping.{steps_of_queue}
+use Rattle.device_lock.specs.Events.{is_step}
 
 -- each of these calls is a step of the device
 abbrev pub AreSteps : List Call → Type 0
@@ -50,12 +49,6 @@ after_event h e = record h {
 abbrev pub after_events : InHand → List (Event Block) → InHand
 after_events h [] = h
 after_events h (e ∷ es) = after_events (after_event h e) es
-
--- the device steps that are made before each call: both sides of the queue are switched, then it sends, then it
--- receives
-abbrev pub steps_of_queue : ℕ → List (Event Block)
-steps_of_queue queue =
-    event.QueueStep dir.Rx queue ∷ event.QueueStep dir.Tx queue ∷ event.TxStep queue ∷ event.RxStep ∷ []
 
 -- so many of these steps were made, and no more
 abbrev pub StopsAmid : InHand → InHand → Type 0

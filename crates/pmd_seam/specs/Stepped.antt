@@ -1,11 +1,12 @@
 -- A pass to a shared device, whose queue is stepped on before each call.
-use Rattle.std.specs.Prelude.{◌≡◌, ◌==◌, ◌&&◌, ℕ, Bool, true, not, nat_lt, List, [], ◌∷◌, ◌++◌, map, take}
+use Rattle.std.specs.Prelude.{◌≡◌, ◌==◌, ◌&&◌, ℕ, Bool, true, not, nat_lt, List, [], ◌∷◌, ◌++◌, take}
 use Rattle.nic_device.specs.DmaArena.Block.{Block}
 use Rattle.nic_device.specs.declared.event.Event.{Event}
 use Rattle.nic_device.specs.declared.event.Reply.{Reply}
 use Rattle.device_lock.specs.declared.entry.Call.{Call}
 use Rattle.device_lock.specs.Pass.{PassValue, call_of}
-use Rattle.pmd_seam.specs.Made.{steps_of_queue}
+use Rattle.device_lock.specs.Stepping.{steps_of_queue, events_in}
+use Rattle.device_lock.specs.Stepping as stepping
 use Rattle.pmd_seam.specs.Refusals.{Refusals}
 
 -- a pass, the number of the shared device's bench and how many passes it has, and the queue that is stepped on
@@ -27,13 +28,9 @@ is_foreign t = not ((t.pass.bench == t.bench) && nat_lt t.pass.tag t.passes)
 abbrev pub refusals_of : AtLock → Refusals
 refusals_of t = record { foreign = is_foreign t; full = true }
 
--- the same pass with these calls more
+-- the same with these calls of the pass more
 abbrev pub with_calls : AtLock → List Call → AtLock
-with_calls t calls = record t { pass = record t.pass { calls = t.pass.calls ++ calls } }
-
--- the events of calls, in their order
-abbrev pub events_in : List Call → List (Event Block)
-events_in calls = map (λ (c : Call). c.event) calls
+with_calls t calls = record t { pass = stepping.with_calls t.pass calls }
 
 -- the pass made these events, whatever the replies
 abbrev pub AreStepped : AtLock → AtLock → List (Event Block) → Type 0

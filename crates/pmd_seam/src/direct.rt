@@ -1,14 +1,14 @@
-ghost use Rattle.std.specs.Prelude.{◌≡◌, [], true, IfOk, IfErr, OnOk, OnErr};
+ghost use Rattle.std.specs.Prelude.{◌≡◌, [], true, false, IfOk, IfErr, OnOk, OnErr};
 ghost use Rattle.nic_device.specs.Answering.{may_answer};
 ghost use Rattle.nic_device.specs.Step.{step_of};
-ghost use Rattle.pmd_seam.specs.Made.{Adds, StopsAmid, after_event, after_events, steps_of_queue};
-ghost use Rattle.pmd_seam.specs.Events.{is_step};
+ghost use Rattle.device_lock.specs.Events.{is_step};
+ghost use Rattle.device_lock.specs.Stepping.{steps_of_queue};
+ghost use Rattle.pmd_seam.specs.Made.{Adds, StopsAmid, after_event, after_events};
 ghost use Rattle.pmd_seam.specs.Refusals.{memory_alone};
 
 use crate::fault::no_memory;
 use crate::nic::Nic;
-use crate::noted::{let_reply_go, make_noted};
-use device_lock::{Call, CallFault};
+use device_lock::{CallFault, Calls};
 use nic_device::{Device, Dir, Event, OutOfMemory, Reply};
 use std::alloc::Global;
 use std::marker::Model;
@@ -18,7 +18,7 @@ use std::marker::Model;
 pub struct Direct {
     device: Device,
     queue: u16,
-    calls: Vec<Call>,
+    calls: Calls,
 }
 
 impl Model for Direct {
@@ -30,7 +30,7 @@ impl Model for Direct {
 
     ghost coded = { Prim.hlevel (codes, state_code) };
 
-    ghost view = { λ d. record { device = d.device; queue = d.queue; calls = d.calls.items } };
+    ghost view = { λ d. record { device = d.device; queue = d.queue; calls = d.calls } };
 }
 
 impl Direct {
@@ -41,21 +41,21 @@ impl Direct {
         Direct {
             device,
             queue,
-            calls: Vec::new(alloc),
+            calls: Calls::new(alloc),
         }
     }
 
     /// The calls that were made, with their replies, the oldest first.
-    pub fn calls(&self) -> &[Call]
+    pub fn calls(&self) -> &Calls
         ensures { result.now ≡ self.now.calls }
     {
-        self.calls.as_slice()
+        &self.calls
     }
 
     /// The device, and the calls that were made.
-    pub fn finish(self) -> (Device, Vec<Call>)
+    pub fn finish(self) -> (Device, Calls)
         ensures device { result.0 ≡ self.device }
-        ensures calls { result.1.items ≡ self.calls }
+        ensures calls { result.1 ≡ self.calls }
     {
         let Direct {
             device,
@@ -73,13 +73,33 @@ impl Direct {
         ensures back { IfErr result (λ refused. refused.event ≡ event) }
         ensures unchanged { OnErr result (self.new ≡ self.old) }
     {
-        make_noted(alloc, &mut self.device, &mut self.calls, event)
+        self.calls.make(alloc, &mut self.device, event)
     }
 }
 
 impl Direct {
     /// The device steps that are made before each call.
     fn step_on(&mut self, alloc: Global) -> Result<(), OutOfMemory<()>>
+        ensures made { OnOk result (self.new ≡ after_events self.old (steps_of_queue self.old.queue)) }
+        ensures refused { OnErr result (StopsAmid self.old self.new) }
+    {
+        if self.rest() {
+            return Ok(());
+        }
+        self.make_steps(alloc)
+    }
+
+    /// Makes them where the queue is at rest and there is memory: each is idle. Else it makes none of them. Answers
+    /// whether they are made.
+    fn rest(&mut self) -> bool
+        ensures made { result ≡ true → self.new ≡ after_events self.old (steps_of_queue self.old.queue) }
+        ensures unchanged { result ≡ false → self.new ≡ self.old }
+    {
+        self.calls.rest(&self.device, self.queue)
+    }
+
+    /// Makes them one after the other.
+    fn make_steps(&mut self, alloc: Global) -> Result<(), OutOfMemory<()>>
         ensures made { OnOk result (self.new ≡ after_events self.old (steps_of_queue self.old.queue)) }
         ensures refused { OnErr result (StopsAmid self.old self.new) }
     {
@@ -112,10 +132,10 @@ impl Direct {
         ensures unchanged { OnErr result (self.new ≡ self.old) }
     {
         match self.make(alloc, step) {
-            Ok(reply) => {
-                let_reply_go(reply);
-                Ok(())
-            }
+            Ok(reply) => match reply.into_buf() {
+                None => Ok(()),
+                Some(_buf) => unreachable!(),
+            },
             Err(refused) => match refused.event.into_buf() {
                 None => Err(OutOfMemory { event: () }),
                 Some(_buf) => unreachable!(),

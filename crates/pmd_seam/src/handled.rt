@@ -6,8 +6,7 @@ ghost use Rattle.nic_device.specs.Step.{step_of};
 ghost use Rattle.device_lock.specs.Pass.{call_of};
 ghost use Rattle.pmd_seam.specs.Scheduled.{after_own, after_foreign, after_list, made_of, IsMadeTo};
 
-use crate::noted::make_noted;
-use device_lock::{Call, CallFault};
+use device_lock::{CallFault, Calls};
 use nic_device::{Device, Event, OutOfMemory, Reply};
 use std::alloc::Global;
 use std::collections::VecDeque;
@@ -16,7 +15,7 @@ use std::marker::Model;
 /// A device, the calls that were made of it, which of them are own, and the replies to the foreign ones.
 pub(crate) struct Handled {
     pub(crate) device: Device,
-    pub(crate) calls: Vec<Call>,
+    pub(crate) calls: Calls,
     pub(crate) own: Vec<bool>,
     pub(crate) foreign: Vec<Reply>,
 }
@@ -33,12 +32,12 @@ impl Model for Handled {
 
     ghost view = { λ h. record {
       device = h.device;
-      calls = h.calls.items;
+      calls = h.calls;
       own = h.own.items;
       foreign = h.foreign.items;
     } };
 
-    ghost invariant = { λ h. length h.own.items ≡ length h.calls.items };
+    ghost invariant = { λ h. length h.own.items ≡ length h.calls };
 }
 
 impl Handled {
@@ -62,7 +61,7 @@ impl Handled {
         if self.own.reserve(1).is_err() {
             return Err(CallFault::OutOfMemory(event));
         }
-        match make_noted(alloc, &mut self.device, &mut self.calls, event) {
+        match self.calls.make(alloc, &mut self.device, event) {
             Ok(reply) => {
                 self.own.push_reserved(true);
                 Ok(reply)
@@ -81,7 +80,7 @@ impl Handled {
         if self.foreign.reserve(1).is_err() || self.own.reserve(1).is_err() {
             return Err(OutOfMemory { event });
         }
-        let reply = make_noted(alloc, &mut self.device, &mut self.calls, event)?;
+        let reply = self.calls.make(alloc, &mut self.device, event)?;
         self.foreign.push_reserved(reply);
         self.own.push_reserved(false);
         Ok(())

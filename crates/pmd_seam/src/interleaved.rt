@@ -10,7 +10,7 @@ ghost use Rattle.pmd_seam.specs.Scheduled.{StopsInList, StopsCall, after_call, a
 
 use crate::handled::Handled;
 use crate::nic::Nic;
-use device_lock::{Call, CallFault};
+use device_lock::{CallFault, Calls};
 use nic_device::{Device, Event, OutOfMemory, Reply};
 use std::alloc::Global;
 use std::collections::VecDeque;
@@ -41,7 +41,7 @@ pub struct Finished {
     /// The device.
     pub device: Device,
     /// The calls that were made, foreign and own, with their replies, the oldest first.
-    pub calls: Vec<Call>,
+    pub calls: Calls,
     /// The replies to the foreign events, the oldest first. They may hold blocks.
     pub foreign: Vec<Reply>,
     /// The lists of foreign events that weren't made, the next first.
@@ -58,7 +58,7 @@ impl Interleaved {
     {
         let handled = Handled {
             device,
-            calls: Vec::new(alloc),
+            calls: Calls::new(alloc),
             own: Vec::new(alloc),
             foreign: Vec::new(alloc),
         };
@@ -69,10 +69,10 @@ impl Interleaved {
     }
 
     /// The calls that were made, foreign and own, with their replies, the oldest first.
-    pub fn calls(&self) -> &[Call]
+    pub fn calls(&self) -> &Calls
         ensures { result.now ≡ self.now.handled.calls }
     {
-        self.handled.calls.as_slice()
+        &self.handled.calls
     }
 
     /// For each of these calls, in turn, whether it is own: made by `Nic::call` for its caller, and not foreign.
@@ -86,7 +86,7 @@ impl Interleaved {
     /// All that it holds: the device, the calls, the foreign replies and the lists that weren't made.
     pub fn finish(self) -> Finished
         ensures device { result.device ≡ self.handled.device }
-        ensures calls { result.calls.items ≡ self.handled.calls }
+        ensures calls { result.calls ≡ self.handled.calls }
         ensures foreign { result.foreign.items ≡ self.handled.foreign }
         ensures schedule { map (λ list. list.items) result.schedule.items ≡ self.lists }
     {

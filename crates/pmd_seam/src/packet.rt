@@ -71,15 +71,24 @@ impl Model for Record {
     ghost view = { λ r. record { bytes = r.bytes; rss = r.rss; hash = r.hash } };
 }
 
+impl Packet {
+    /// How many bytes a record of the packet keeps: the packet's, and no more than a block has.
+    pub fn record_room(&self) -> usize
+        ensures { result ≡ min self.now.len 2048 }
+    {
+        usize::from(self.len).min(BLOCK_BYTES)
+    }
+}
+
 impl Record {
-    /// The record of a packet. Its bytes are copied into a vector that has room for a block.
+    /// The record of a packet. Its bytes are copied into a vector that has room for them.
     pub fn of(packet: &Packet, room: Vec<u8>) -> Record
         requires empty { room.items ≡ [] }
-        requires room { 2048 ≤ vec_capacity room }
+        requires room { min packet.now.len 2048 ≤ vec_capacity room }
         ensures { result ≡ kept_of packet.now }
     {
         let bytes: &[u8] = packet.buf.bytes();
-        let count = usize::from(packet.len).min(BLOCK_BYTES);
+        let count = packet.record_room();
         Record {
             bytes: Octets::copied(&bytes[..count], room),
             rss: packet.rss,

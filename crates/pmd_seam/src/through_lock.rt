@@ -2,22 +2,19 @@ ghost use Rattle.std.specs.Prelude.{◌≡◌, ◌↔◌, [], ◌∷◌, true, I
 ghost use Rattle.device_lock.specs.Fault.{event_of};
 ghost use Rattle.device_lock.specs.Pass.{call_of};
 ghost use Rattle.nic_device.specs.Answering.{may_answer};
-ghost use Rattle.pmd_seam.specs.Events.{is_step};
-ghost use Rattle.pmd_seam.specs.Made.{Adds, AddsSome, steps_of_queue};
+ghost use Rattle.pmd_seam.specs.Made.{Adds, AddsSome};
 ghost use Rattle.pmd_seam.specs.Refusals.{CanRefuse};
-ghost use Rattle.pmd_seam.specs.Stepped.{StepsAndMakes, StopsStepping, AreStepped, with_calls, caller_of, is_foreign, refusals_of};
+ghost use Rattle.pmd_seam.specs.Stepped.{StepsAndMakes, StopsStepping, caller_of, is_foreign, refusals_of};
 
-use crate::fault::without_event;
 use crate::nic::Nic;
-use crate::noted::let_reply_go;
 use device_lock::{Call, CallFault, Pass, Shared};
-use nic_device::{Dir, Event, Reply};
+use nic_device::{Event, Reply};
 use std::alloc::Global;
 use std::marker::Model;
 use std::sync::Wait;
 
 /// A pass to a shared device, which makes each event under the device's lock. Before each call the device is stepped
-/// on: both sides of a queue are switched, the queue sends, and the device receives.
+/// on: both sides of a queue are switched, the queue sends, and the device receives. The lock is held meanwhile.
 pub struct ThroughLock<'a, R: Wait, const VFS: u8, const FIFO: u16> {
     rt: &'a R,
     shared: &'a Shared<VFS, FIFO>,
@@ -69,52 +66,7 @@ impl<'a, R: Wait, const VFS: u8, const FIFO: u16> ThroughLock<'a, R, VFS, FIFO> 
         pass
     }
 
-    /// Makes one event. It waits for the lock.
-    fn make(&mut self, alloc: Global, event: Event) -> Result<Reply, CallFault>
-        ensures made { IfOk result (λ reply. self.new ≡ with_calls self.old (call_of event reply ∷ [])) }
-        ensures fits { IfOk result (λ reply. may_answer event reply ≡ true) }
-        ensures foreign { (result ≡ Err (CallFault.ForeignPass event)) ↔ IsTrue (is_foreign self.old) }
-        ensures back { IfErr result (λ fault. event_of fault ≡ event) }
-        ensures unchanged { OnErr result (self.new ≡ self.old) }
-    {
-        self.shared.call(self.rt, alloc, &mut self.pass, event)
-    }
-}
-
-impl<'a, R: Wait, const VFS: u8, const FIFO: u16> ThroughLock<'a, R, VFS, FIFO> {
-    /// Makes one device step. Its reply is in the pass.
-    fn make_step(&mut self, alloc: Global, step: Event) -> Result<(), CallFault<()>>
-        requires { is_step step ≡ true }
-        ensures made { OnOk result (AreStepped self.old self.new (step ∷ [])) }
-        ensures foreign { (result ≡ Err (CallFault.ForeignPass tt)) ↔ IsTrue (is_foreign self.old) }
-        ensures unchanged { OnErr result (self.new ≡ self.old) }
-    {
-        match self.make(alloc, step) {
-            Ok(reply) => {
-                let_reply_go(reply);
-                Ok(())
-            }
-            Err(fault) => Err(without_event(fault)),
-        }
-    }
-
-    /// The device steps that are made before each call.
-    fn step_on(&mut self, alloc: Global) -> Result<(), CallFault<()>>
-        ensures made { OnOk result (AreStepped self.old self.new (steps_of_queue self.old.queue)) }
-        ensures foreign { IsTrue (is_foreign self.old)
-            → (result ≡ Err (CallFault.ForeignPass tt)) × (self.new ≡ self.old) }
-        ensures only { result ≡ Err (CallFault.ForeignPass tt) → IsTrue (is_foreign self.old) }
-        ensures amid { OnErr result (StopsStepping self.old self.new) }
-    {
-        let queue = self.queue;
-        self.make_step(alloc, Event::QueueStep(Dir::Rx, queue))?;
-        self.make_step(alloc, Event::QueueStep(Dir::Tx, queue))?;
-        self.make_step(alloc, Event::TxStep(queue))?;
-        self.make_step(alloc, Event::RxStep)?;
-        Ok(())
-    }
-
-    /// Makes the device steps, and then the event, each under the lock. `Nic::call` does the same.
+    /// Makes the device steps, and then the event, under the lock, which is waited for once. `Nic::call` does the same.
     ///
     /// `ForeignPass` exactly where the pass is of another bench or has no tag of this one: nothing is made. Else what
     /// `Shared::call` refuses one of them for: the steps so far are made, and the event isn't.
@@ -127,10 +79,8 @@ impl<'a, R: Wait, const VFS: u8, const FIFO: u16> ThroughLock<'a, R, VFS, FIFO> 
         ensures back { IfErr result (λ fault. event_of fault ≡ event) }
         ensures amid { OnErr result (StopsStepping self.old self.new) }
     {
-        match self.step_on(alloc) {
-            Ok(()) => self.make(alloc, event),
-            Err(fault) => Err(fault.replace(event).0),
-        }
+        self.shared
+            .call_stepped(self.rt, alloc, &mut self.pass, self.queue, event)
     }
 }
 

@@ -14,7 +14,7 @@ ghost use Rattle.pmd_tx.specs.Stages.{IsAt};
 ghost use Rattle.pmd_tx.specs.Shown.{MayLend, sent_as, IsUnlent};
 ghost use Rattle.pmd_seam.specs.Refusals.{CanFail, CanRefuse};
 
-use nic_device::{BLOCK_BYTES, Buf, Port, data_descriptor_word, is_sent, of_halves, second_half};
+use nic_device::{Buf, Port, data_descriptor_word, is_sent, of_halves, second_half};
 use pmd_seam::{
     CallFault, Nic, Packet, PmdFault, Reclaim, Record, descriptor_address, lend, next_slot, peek,
     poke, slot_after, take, write,
@@ -274,7 +274,7 @@ impl TransmitRing {
         if self.accepted.reserve(1).is_err() {
             return Err((no_memory, packet));
         }
-        let Ok(room) = Vec::with_capacity(alloc, BLOCK_BYTES) else {
+        let Ok(room) = Vec::with_capacity(alloc, packet.record_room()) else {
             return Err((no_memory, packet));
         };
         let record = Record::of(&packet, room);

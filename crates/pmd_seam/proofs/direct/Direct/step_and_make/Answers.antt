@@ -1,4 +1,4 @@
-use Rattle.pmd_seam.specs.Made.{steps_of_queue}
+use Rattle.device_lock.specs.Stepping.{steps_of_queue}
 use Rattle.pmd_seam.proofs.Stepping.{queue_steps, reply_adds, refused_amid}
 use Rattle.pmd_seam.proofs.direct.Direct.step_and_make.Goals as goal
 

@@ -10,11 +10,11 @@ pub returns-in-Ok-clause-own : goal.returns-in-Ok-clause-own
 returns-in-Ok-clause-own c =
     let was : Handled = record {
       device = c.self.inside.device;
-      calls = c.self.inside.calls.items;
+      calls = c.self.inside.calls;
       own = c.self.inside.own.items;
       foreign = c.self.inside.foreign.items;
     } in
-    made_more was c.args.self.now c.make_noted.new.calls.items c.push_reserved.new.self.items
+    made_more was c.args.self.now c.make.new.self c.push_reserved.new.self.items
     c.reserve.new.self.items _ _ c.self.invariant c.self.view_is c.in-Ok.ensures.calls
     (ap (λ (y : Reply Block). call_of c.args.event y) (sym c.in-Ok.ensures.reply)) c.reserve.ensures.items
     c.push_reserved.ensures.items

@@ -6,10 +6,10 @@ pub returns-clause-none : goal.returns-clause-none
 returns-clause-none c =
     let was : Handled = record {
       device = c.self.inside.device;
-      calls = c.self.inside.calls.items;
+      calls = c.self.inside.calls;
       own = c.self.inside.own.items;
       foreign = c.self.inside.foreign.items;
     } in
-    made_still was c.args.self.now c.make_noted.new.calls.items c.push_reserved-2.new.self.items
+    made_still was c.args.self.now c.make.new.self c.push_reserved-2.new.self.items
     c.reserve-else-is_err.new.self.items _ c.self.invariant c.self.view_is c.in_ok-reply.ensures.calls
     c.reserve-else-is_err.ensures.items c.push_reserved-2.ensures.items

@@ -1,7 +1,10 @@
-use Rattle.pmd_seam.proofs.LockStepping.{none_after}
+use Rattle.pmd_seam.proofs.LockStepping.{pass_made, pass_stops}
 use Rattle.pmd_seam.proofs.through_lock.ThroughLock.step_and_make.Goals as goal
 
-pub returns-in-Ok-clause-amid : goal.returns-in-Ok-clause-amid
-returns-in-Ok-clause-amid g c =
-    none_after c.make.result c.args.self.now c.step_on.new.self c.make.new.self c.in-Ok.ensures.made
-    c.make.ensures.unchanged
+pub returns-clause-exact : goal.returns-clause-exact
+returns-clause-exact g c =
+    pass_made c.call_stepped.result c.args.event c.args.self.now _ _ c.self.view_is c.call_stepped.ensures.exact
+
+pub returns-clause-amid : goal.returns-clause-amid
+returns-clause-amid g c =
+    pass_stops c.call_stepped.result c.args.self.now _ _ c.self.view_is c.call_stepped.ensures.amid

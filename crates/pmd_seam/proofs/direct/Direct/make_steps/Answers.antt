@@ -2,7 +2,7 @@ use Rattle.std.proofs.Common.{ap}
 use Rattle.pmd_seam.specs.Made.{InHand}
 use Rattle.pmd_seam.proofs.Amid.{on_err}
 use Rattle.pmd_seam.proofs.Stepping.{two_made, three_made}
-use Rattle.pmd_seam.proofs.direct.Direct.step_on.Goals as goal
+use Rattle.pmd_seam.proofs.direct.Direct.make_steps.Goals as goal
 
 pub returns-in_err-make_step-3-clause-refused : goal.returns-in_err-make_step-3-clause-refused
 returns-in_err-make_step-3-clause-refused c =

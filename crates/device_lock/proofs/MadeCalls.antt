@@ -1,0 +1,19 @@
+-- Calls as they are kept, and one more.
+use Rattle.std.proofs.Common.{◌≡◌, ℕ, Option, None, List, [], ◌∷◌, ◌++◌, refl, sym, ap, ◌∙◌, append_assoc, append-nil}
+use Rattle.device_lock.specs.declared.calls.Made.{Made}
+use Rattle.device_lock.specs.declared.entry.Call.{Call}
+use Rattle.device_lock.specs.Calls.{rested_calls, made_calls, calls_in}
+
+pub made-more : (made : List Made) (m : Made) → made_calls (made ++ m ∷ []) ≡ calls_in made m.rested ++ m.call ∷ []
+made-more [] m = refl
+made-more (x ∷ made) m =
+    let first = rested_calls x.rested in
+    let then = x.call ∷ made_calls made in
+    let last = rested_calls m.rested in
+    ap (λ (l : List Call). first ++ (x.call ∷ l)) (made-more made m)
+    ∙ sym (ap (λ (l : List Call). l ++ m.call ∷ []) (append_assoc first then last)
+    ∙ append_assoc first (then ++ last) (m.call ∷ []))
+
+pub calls-more : (made : List Made) (rested : Option ℕ) (call : Call)
+    → calls_in (made ++ record { rested = rested; call = call } ∷ []) None ≡ calls_in made rested ++ call ∷ []
+calls-more made rested call = append-nil _ ∙ made-more made (record { rested = rested; call = call })

@@ -1,0 +1,153 @@
+//! The calls that were made of a device in hand.
+
+ghost use Rattle.std.specs.Prelude.{◌≡◌, ◌++◌, ◌∷◌, ◌*◌, ◌+◌, ◌≤◌, [], true, false, IfOk, IfErr, OnOk, OnErr};
+ghost use Rattle.std.specs.Vec.{vec_len, vec_capacity};
+ghost use Rattle.nic_device.specs.Answering.{may_answer};
+ghost use Rattle.nic_device.specs.Resting.{Rests};
+ghost use Rattle.nic_device.specs.Step.{step_of};
+ghost use Rattle.device_lock.specs.Calls.{calls_in, rested_calls};
+ghost use Rattle.device_lock.specs.Pass.{call_of};
+ghost use Rattle.device_lock.specs.Resting.{idle_calls};
+ghost use Rattle.device_lock.specs.Stepping.{steps_of_queue};
+
+use crate::entry::Call;
+use crate::resting::{STEPS, keep_idle};
+use nic_device::{Device, Event, OutOfMemory, Reply};
+use std::alloc::Global;
+use std::marker::Model;
+
+/// A call, and what was made before it.
+#[derive(Debug, Drop)]
+pub struct Made {
+    /// The queue whose device steps were made before the call, each of them idle. None where they weren't.
+    pub rested: Option<u16>,
+    /// The call.
+    pub call: Call,
+}
+
+/// The calls that were made of a device, with their replies, the oldest first. The device steps of a queue at rest take
+/// no room of their own.
+#[derive(Debug, Drop)]
+pub struct Calls {
+    made: Vec<Made>,
+    rested: Option<u16>,
+}
+
+impl Model for Calls {
+    ghost use Rattle.std.specs.Prelude.{List};
+    ghost use Rattle.device_lock.specs.Calls.{calls_in};
+    ghost use Rattle.device_lock.specs.declared.entry.Call.{Call};
+
+    ghost Value = { List Call };
+
+    ghost view = { λ c. calls_in c.made.items c.rested };
+}
+
+impl Calls {
+    /// No call.
+    pub fn new(alloc: Global) -> Calls
+        ensures { result ≡ [] }
+    {
+        Calls {
+            made: Vec::new(alloc),
+            rested: None,
+        }
+    }
+
+    /// The calls as they are kept: each with what was made before it, and the queue whose device steps were made behind
+    /// the last and were idle. None where they weren't.
+    pub fn kept(&self) -> (&[Made], Option<u16>)
+        ensures { calls_in result.0.now result.1 ≡ self.now }
+    {
+        (self.made.as_slice(), self.rested)
+    }
+
+    /// Makes the device steps of a queue where it is at rest: each is idle, and changes nothing. Else it makes none of
+    /// them, nor where some were made and no call since. Answers whether they are made. It takes no memory.
+    pub fn rest(&mut self, device: &Device, queue: u16) -> bool
+        ensures made { result ≡ true → self.new ≡ self.old ++ idle_calls (steps_of_queue queue) }
+        ensures idle { result ≡ true → Rests device.now queue }
+        ensures unchanged { result ≡ false → self.new ≡ self.old }
+    {
+        if self.rested.is_some() || !device.is_at_rest(queue) {
+            return false;
+        }
+        self.rested = Some(queue);
+        true
+    }
+
+    /// Makes one event of a device, and keeps the call.
+    ///
+    /// `OutOfMemory` where there is no memory for it or its note: the event comes back, and nothing is made.
+    pub fn make(
+        &mut self,
+        alloc: Global,
+        device: &mut Device,
+        event: Event,
+    ) -> Result<Reply, OutOfMemory<Event>>
+        ensures device { OnOk result (device.new ≡ (step_of device.old event).state) }
+        ensures calls { OnOk result (self.new ≡ self.old ++ call_of event (step_of device.old event).reply ∷ []) }
+        ensures reply { IfOk result (λ reply. reply ≡ (step_of device.old event).reply) }
+        ensures fits { IfOk result (λ reply. may_answer event reply ≡ true) }
+        ensures back { IfErr result (λ refused. refused.event ≡ event) }
+        ensures unchanged { OnErr result ((device.new ≡ device.old) × (self.new ≡ self.old)) }
+    {
+        let Ok((note, room)) = device.ready_notes(alloc, &mut self.made, &event) else {
+            return Err(OutOfMemory { event });
+        };
+        let reply = device.step(event)?;
+        let told = reply.note_in(room);
+        self.made.push_reserved(Made {
+            rested: self.rested,
+            call: Call {
+                event: note,
+                reply: told,
+            },
+        });
+        self.rested = None;
+        Ok(reply)
+    }
+
+    /// The calls one by one. Where there is no memory for so many, they come back as they were.
+    pub fn into_vec(self, alloc: Global) -> Result<Vec<Call>, Calls>
+        ensures calls { IfOk result (λ calls. calls.items ≡ self) }
+        ensures refused { IfErr result (λ calls. calls ≡ self) }
+    {
+        let mut calls = Vec::new(alloc);
+        if !reserve_for(&mut calls, self.made.len()) {
+            return Err(self);
+        }
+        let Calls { made, rested } = self;
+        for it in made {
+            put_rested(&mut calls, it.rested);
+            calls.push_reserved(it.call);
+        }
+        put_rested(&mut calls, rested);
+        Ok(calls)
+    }
+}
+
+/// Takes room for so many calls, for the device steps before each, and for those behind the last. Answers whether there
+/// is memory for it.
+fn reserve_for(calls: &mut Vec<Call>, count: usize) -> bool
+    requires { calls.old.items ≡ [] }
+    ensures same { calls.new.items ≡ [] }
+    ensures room { result ≡ true → count * 5 + 4 ≤ vec_capacity calls.new }
+{
+    match count.checked_mul(STEPS + 1) {
+        Some(most) if most <= usize::MAX - STEPS => calls.reserve(most + STEPS).is_ok(),
+        _ => false,
+    }
+}
+
+/// Puts the calls of device steps that were idle, where there were some. There is room for them.
+fn put_rested(calls: &mut Vec<Call>, rested: Option<u16>)
+    requires { vec_len calls.old + 4 ≤ vec_capacity calls.old }
+    ensures items { calls.new.items ≡ calls.old.items ++ rested_calls rested }
+    ensures len { vec_len calls.new ≤ vec_len calls.old + 4 }
+    ensures room { vec_capacity calls.new ≡ vec_capacity calls.old }
+{
+    if let Some(queue) = rested {
+        keep_idle(calls, queue);
+    }
+}

@@ -1,0 +1,140 @@
+//! Device steps that a pass makes before its calls, while the lock is held.
+
+ghost use Rattle.std.specs.Prelude.{◌≡◌, ◌≢◌, ◌<◌, ◌↔◌, ◌∷◌, [], true, Err, IfOk, IfErr, OnOk, OnErr};
+ghost use Rattle.nic_device.specs.Answering.{may_answer};
+ghost use Rattle.device_lock.specs.Events.{is_step};
+ghost use Rattle.device_lock.specs.Fault.{event_of};
+ghost use Rattle.device_lock.specs.Pass.{IsOwn};
+ghost use Rattle.device_lock.specs.Stepping.{steps_of_queue, AreStepped, StepsAndMakes, StopsStepping};
+
+use crate::fault::CallFault;
+use crate::locked::Locked;
+use crate::pass::Pass;
+use crate::shared::Shared;
+use nic_device::{Dir, Event, Reply};
+use std::alloc::Global;
+use std::sync::Wait;
+
+impl Pass {
+    /// Makes one device step under the lock. Its reply is in the pass.
+    fn make_step<const VFS: u8, const FIFO: u16>(
+        &mut self,
+        alloc: Global,
+        locked: &mut Locked<VFS, FIFO>,
+        step: Event,
+    ) -> Result<(), CallFault<()>>
+        requires tag { self.old.tag < 64 }
+        requires step { is_step step ≡ true }
+        ensures made { OnOk result (AreStepped self.old self.new (step ∷ [])) }
+        ensures tag { self.new.tag ≡ self.old.tag }
+        ensures own { result ≢ Err (CallFault.ForeignPass tt) }
+        ensures unchanged { OnErr result (self.new ≡ self.old) }
+    {
+        match self.call(alloc, locked, step) {
+            Ok(reply) => match reply.into_buf() {
+                None => Ok(()),
+                Some(_buf) => unreachable!(),
+            },
+            Err(fault) => {
+                let (fault, event) = fault.replace(());
+                match event.into_buf() {
+                    None => Err(fault),
+                    Some(_buf) => unreachable!(),
+                }
+            }
+        }
+    }
+
+    /// The device steps that are made before each call: both sides of a queue are switched, then it sends, then the
+    /// device receives.
+    fn step_on<const VFS: u8, const FIFO: u16>(
+        &mut self,
+        alloc: Global,
+        locked: &mut Locked<VFS, FIFO>,
+        queue: u16,
+    ) -> Result<(), CallFault<()>>
+        requires { self.old.tag < 64 }
+        ensures made { OnOk result (AreStepped self.old self.new (steps_of_queue queue)) }
+        ensures tag { self.new.tag ≡ self.old.tag }
+        ensures own { result ≢ Err (CallFault.ForeignPass tt) }
+        ensures amid { OnErr result (StopsStepping queue self.old self.new) }
+    {
+        if self.rest(locked, queue) {
+            return Ok(());
+        }
+        self.make_steps(alloc, locked, queue)
+    }
+
+    /// The same, one step after the other.
+    fn make_steps<const VFS: u8, const FIFO: u16>(
+        &mut self,
+        alloc: Global,
+        locked: &mut Locked<VFS, FIFO>,
+        queue: u16,
+    ) -> Result<(), CallFault<()>>
+        requires { self.old.tag < 64 }
+        ensures made { OnOk result (AreStepped self.old self.new (steps_of_queue queue)) }
+        ensures tag { self.new.tag ≡ self.old.tag }
+        ensures own { result ≢ Err (CallFault.ForeignPass tt) }
+        ensures amid { OnErr result (StopsStepping queue self.old self.new) }
+    {
+        self.make_step(alloc, locked, Event::QueueStep(Dir::Rx, queue))?;
+        self.make_step(alloc, locked, Event::QueueStep(Dir::Tx, queue))?;
+        self.make_step(alloc, locked, Event::TxStep(queue))?;
+        self.make_step(alloc, locked, Event::RxStep)?;
+        Ok(())
+    }
+
+    /// Makes the device steps of a queue, and then the event.
+    fn step_and_call<const VFS: u8, const FIFO: u16>(
+        &mut self,
+        alloc: Global,
+        locked: &mut Locked<VFS, FIFO>,
+        queue: u16,
+        event: Event,
+    ) -> Result<Reply, CallFault>
+        requires { self.old.tag < 64 }
+        ensures exact { IfOk result (λ reply. StepsAndMakes queue self.old self.new event reply) }
+        ensures fits { IfOk result (λ reply. may_answer event reply ≡ true) }
+        ensures own { result ≢ Err (CallFault.ForeignPass event) }
+        ensures back { IfErr result (λ fault. event_of fault ≡ event) }
+        ensures amid { OnErr result (StopsStepping queue self.old self.new) }
+    {
+        match self.step_on(alloc, locked, queue) {
+            Ok(()) => self.call(alloc, locked, event),
+            Err(fault) => Err(fault.replace(event).0),
+        }
+    }
+}
+
+impl<const VFS: u8, const FIFO: u16> Shared<VFS, FIFO> {
+    /// Makes the device steps of a queue, and then the event, as so many calls: the lock is waited for once, and held
+    /// until all are made. The steps are: both sides of the queue are switched, then it sends, then the device
+    /// receives.
+    ///
+    /// `ForeignPass` exactly where the pass is of another bench or has no tag of this one: this takes no lock, and
+    /// nothing is made. Else what `call` refuses one of them for: the steps so far are made, and the event isn't. Each
+    /// hands the event back.
+    pub fn call_stepped<R: Wait>(
+        &self,
+        rt: &R,
+        alloc: Global,
+        pass: &mut Pass,
+        queue: u16,
+        event: Event,
+    ) -> Result<Reply, CallFault>
+        ensures exact { IfOk result (λ reply. StepsAndMakes queue pass.old pass.new event reply) }
+        ensures fits { IfOk result (λ reply. may_answer event reply ≡ true) }
+        ensures foreign { (result ≡ Err (CallFault.ForeignPass event))
+            ↔ ¬ IsOwn self.now.bench self.now.passes pass.old }
+        ensures nothing { ¬ IsOwn self.now.bench self.now.passes pass.old → pass.new ≡ pass.old }
+        ensures back { IfErr result (λ fault. event_of fault ≡ event) }
+        ensures amid { OnErr result (StopsStepping queue pass.old pass.new) }
+    {
+        if pass.bench() != self.bench || pass.tag() >= self.passes {
+            return Err(CallFault::ForeignPass(event));
+        }
+        let mut locked = self.lock.lock(rt);
+        pass.step_and_call(alloc, &mut *locked, queue, event)
+    }
+}

@@ -1,0 +1,117 @@
+-- Bytes up to the last that isn't 0, and zero bytes behind them.
+use Rattle.std.proofs.Common.{◌≡◌, ◌≢◌, ℕ, zero, suc, ◌+◌, ◌-◌, ◌<◌, ◌≤◌, List, [], ◌∷◌, ◌++◌, length, take, replicate, get_or, refl, sym, ap, ◌∙◌, arith, Bool, true, false, eqb}
+use Rattle.std.specs.Prelude.{not}
+use Rattle.std.proofs.lemmas.Bool.{eqb-true}
+use Rattle.std.proofs.lemmas.List.{length-append, length-replicate, length-take-le, take_at}
+use Rattle.rx_ring.specs.DmaArena.Block.{Block}
+use Rattle.nic_device.specs.Trimming.{kept_with, kept_len}
+
+with_le : (kept byte n : ℕ) → kept ≤ n → kept_with kept byte ≤ suc n
+with_le (suc kept) byte n h = omega arith
+with_le zero zero n h = omega arith
+with_le zero (suc byte) n h = omega arith
+
+pub kept_len_le : (bytes : List ℕ) → kept_len bytes ≤ length bytes
+unfolding kept_len
+kept_len_le [] = omega arith
+kept_len_le (b ∷ bytes) = with_le (kept_len bytes) b (length bytes) (kept_len_le bytes)
+
+kept-zeros : (n : ℕ) → kept_len (replicate n 0) ≡ 0
+unfolding kept_len
+kept-zeros zero = refl
+kept-zeros (suc n) = ap (λ (k : ℕ). kept_with k 0) (kept-zeros n)
+
+pub kept-zeros_behind : (bytes : List ℕ) (n : ℕ) → kept_len (bytes ++ replicate n 0) ≡ kept_len bytes
+unfolding kept_len
+kept-zeros_behind [] n = kept-zeros n
+kept-zeros_behind (b ∷ bytes) n = ap (λ (k : ℕ). kept_with k b) (kept-zeros_behind bytes n)
+
+whole_with : (k b : ℕ) (bytes : List ℕ) → take k bytes ++ replicate (length bytes - k) 0 ≡ bytes
+    → take (kept_with k b) (b ∷ bytes) ++ replicate (suc (length bytes) - kept_with k b) 0 ≡ b ∷ bytes
+whole_with (suc k) b bytes is =
+    let less : suc (length bytes) - suc (suc k) ≡ length bytes - suc k = omega arith in
+    ap (λ (m : ℕ). b ∷ (take (suc k) bytes ++ replicate m 0)) less ∙ ap (λ (l : List ℕ). b ∷ l) is
+whole_with zero zero bytes is =
+    let less : suc (length bytes) - 0 ≡ suc (length bytes - 0) = omega arith in
+    ap (λ (m : ℕ). replicate m 0) less ∙ ap (λ (l : List ℕ). 0 ∷ l) is
+whole_with zero (suc b) bytes is =
+    let less : suc (length bytes) - 1 ≡ length bytes - 0 = omega arith in
+    ap (λ (m : ℕ). suc b ∷ replicate m 0) less ∙ ap (λ (l : List ℕ). suc b ∷ l) is
+
+-- behind those that are kept there are zero bytes alone
+pub kept-whole : (bytes : List ℕ)
+    → take (kept_len bytes) bytes ++ replicate (length bytes - kept_len bytes) 0 ≡ bytes
+unfolding kept_len
+kept-whole [] = refl
+kept-whole (b ∷ bytes) = whole_with (kept_len bytes) b bytes (kept-whole bytes)
+
+pub kept-none : (bytes : List ℕ) → ((k : ℕ) → get_or bytes k 0 ≡ 0) → kept_len bytes ≡ 0
+unfolding kept_len
+kept-none [] zeros = refl
+kept-none (b ∷ bytes) zeros =
+    ap (λ (k : ℕ). kept_with k b) (kept-none bytes (λ k. zeros (suc k))) ∙ ap (λ (x : ℕ). kept_with 0 x) (zeros 0)
+
+with-last : (b : ℕ) → b ≢ 0 → kept_with 0 b ≡ 1
+with-last zero last = absurd (last refl)
+with-last (suc b) last = refl
+
+-- the last byte that isn't 0 is at m
+pub kept-last : (bytes : List ℕ) (m : ℕ) → ((k : ℕ) → m < k → get_or bytes k 0 ≡ 0) → get_or bytes m 0 ≢ 0
+    → kept_len bytes ≡ suc m
+unfolding kept_len
+kept-last [] m zeros last = absurd (last refl)
+kept-last (b ∷ bytes) zero zeros last =
+    ap (λ (k : ℕ). kept_with k b) (kept-none bytes (λ k. zeros (suc k) (omega arith))) ∙ with-last b last
+kept-last (b ∷ bytes) (suc m) zeros last =
+    ap (λ (k : ℕ). kept_with k b) (kept-last bytes m (λ k h. zeros (suc k) (omega arith)) last)
+
+-- of those that are kept all are kept
+pub kept-take : (bytes : List ℕ) → kept_len (take (kept_len bytes) bytes) ≡ length (take (kept_len bytes) bytes)
+kept-take bytes =
+    let kept = take (kept_len bytes) bytes in
+    let behind = kept-zeros_behind kept (length bytes - kept_len bytes) in
+    let all : kept_len bytes ≡ kept_len kept = ap kept_len (sym (kept-whole bytes)) ∙ behind in
+    sym all ∙ sym (length-take-le (kept_len bytes) bytes (kept_len_le bytes))
+
+module _ (kept : List ℕ) (zeros : ℕ) (trimmed : kept_len kept ≡ length kept) where
+  behind : kept_len (kept ++ replicate zeros 0) ≡ length kept
+  behind = kept-zeros_behind kept zeros ∙ trimmed
+
+  -- what is kept of bytes, where they are kept so
+  pub kept_of_all : take (kept_len (kept ++ replicate zeros 0)) (kept ++ replicate zeros 0) ≡ kept
+  kept_of_all =
+      ap (λ (n : ℕ). take n (kept ++ replicate zeros 0)) behind ∙ take_at kept (replicate zeros 0) (length kept) refl
+
+  pub zeros_of_all : length (kept ++ replicate zeros 0) - kept_len (kept ++ replicate zeros 0) ≡ zeros
+  zeros_of_all =
+      let all = length-append kept (replicate zeros 0) in
+      let rest = length-replicate {A = ℕ} zeros 0 in
+      omega (arith, behind, all, rest)
+
+-- a block by its number, and by what is kept of its bytes and how many zero bytes follow
+abbrev pub block : ℕ → List ℕ → ℕ → Block
+block number kept zeros = record { number = number; bytes = kept ++ replicate zeros 0 }
+
+pub block-same : (n m : ℕ) (kept other : List ℕ) (zeros others : ℕ) → n ≡ m → kept ≡ other → zeros ≡ others
+    → block n kept zeros ≡ block m other others
+block-same n m kept other zeros others number bytes behind =
+    ap (λ (i : ℕ). block i kept zeros) number ∙ ap (λ (l : List ℕ). block m l zeros) bytes ∙ ap (block m other) behind
+
+-- a block is kept in one way
+pub same-block : (n m : ℕ) (kept other : List ℕ) (zeros others : ℕ)
+    → kept_len kept ≡ length kept → kept_len other ≡ length other → block n kept zeros ≡ block m other others
+    → (n ≡ m) × (kept ≡ other) × (zeros ≡ others)
+same-block n m kept other zeros others trimmed short is = (
+  ap (λ (b : Block). b.number) is,
+  sym (kept_of_all kept zeros trimmed) ∙ ap (λ (b : Block). take (kept_len b.bytes) b.bytes) is
+      ∙ kept_of_all other others short,
+  sym (zeros_of_all kept zeros trimmed) ∙ ap (λ (b : Block). length b.bytes - kept_len b.bytes) is
+      ∙ zeros_of_all other others short,
+)
+
+zero_when : (b : Bool) → not b ≡ false → b ≡ true
+zero_when true is = refl
+zero_when false is = sym is
+
+pub zero_from_not : (byte : ℕ) → not (eqb byte 0) ≡ false → byte ≡ 0
+zero_from_not byte is = eqb-true byte 0 (zero_when (eqb byte 0) is)

@@ -1,0 +1,42 @@
+-- A device whose steps on a queue do nothing.
+use Rattle.std.specs.Prelude.{◌≡◌, ℕ, ◌&&◌, Bool, true, false, nat_lt, List, [], ◌∷◌}
+use Rattle.std.specs.Bool.{beq}
+use Rattle.register_file.specs.Registers.{is_wanted}
+use Rattle.register_file.specs.Queue.{is_on}
+use Rattle.register_laws.specs.Sides.{transmit_queue_of}
+use Rattle.rx_ring.specs.DmaArena.Block.{Block}
+use Rattle.rx_ring.specs.DmaRing.declared.dir.Dir.{Dir}
+use Rattle.rx_ring.specs.DmaRing.declared.dir.Dir.TheVariants.{Rx, Tx}
+use Rattle.nic_device.specs.State.{State, Waiting}
+use Rattle.nic_device.specs.Outcome.{gives}
+use Rattle.nic_device.specs.Step.{step_of}
+use Rattle.nic_device.specs.Transmit.{is_silent}
+use Rattle.nic_device.specs.declared.event.Event.{Event}
+use Rattle.nic_device.specs.declared.event.Event.TheVariants as event
+use Rattle.nic_device.specs.declared.event.Reply.TheVariants.{Idle}
+
+-- no frame waits
+abbrev pub none_waits : List Waiting → Bool
+none_waits [] = true
+none_waits (w ∷ others) = false
+
+-- a side of a queue is what it is wanted to be
+abbrev pub is_settled : State → Dir → ℕ → Bool
+is_settled s dir queue = beq (is_wanted s.registers dir queue) (is_on s.registers dir queue)
+
+-- both sides of a queue below 128 are what they are wanted to be, it sends nothing as things stand, and no frame waits
+abbrev pub is_at_rest : State → ℕ → Bool
+is_at_rest s queue =
+    nat_lt queue 128 && (is_settled s Rx queue && (is_settled s Tx queue
+    && (is_silent s queue (transmit_queue_of s.registers queue) && none_waits s.waiting)))
+
+-- an event is answered as idle, and changes nothing
+abbrev pub IsIdle : State → Event Block → Type 0
+IsIdle s e = step_of s e ≡ gives Idle s
+
+-- so are the device steps of a queue
+pub record Rests (s : State) (queue : ℕ) : Type 0 where
+  pub receive_side : IsIdle s (event.QueueStep Rx queue)
+  pub transmit_side : IsIdle s (event.QueueStep Tx queue)
+  pub sending : IsIdle s (event.TxStep queue)
+  pub receiving : IsIdle s event.RxStep

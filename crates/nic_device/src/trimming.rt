@@ -1,0 +1,43 @@
+//! Bytes up to the last that isn't 0.
+
+ghost use Rattle.std.specs.Prelude.{◌≡◌, ℕ, ◌+◌, ◌<◌, ◌≤◌, length, slice_index, true};
+ghost use Rattle.nic_device.specs.Trimming.{kept_len};
+
+use std::simd::prelude::*;
+
+/// How many bytes are looked at together.
+const TOGETHER: usize = 64;
+
+/// How many bytes there are up to the last that isn't 0.
+pub(crate) fn kept_len(bytes: &[u8]) -> usize
+    ensures { result ≡ kept_len bytes.now }
+{
+    let mut end = zeros_begin(bytes);
+    while end > 0 && bytes[end - 1] == 0 {
+        end -= 1;
+    }
+    end
+}
+
+/// A place from which on all bytes are 0, found by looking at many of them together.
+fn zeros_begin(bytes: &[u8]) -> usize
+    ensures within { result ≤ length bytes.now }
+    ensures zeros { (k : ℕ) → result ≤ k → slice_index bytes.now k ≡ 0 }
+{
+    let mut end = bytes.len();
+    while end >= TOGETHER && are_zeros(bytes, end - TOGETHER) {
+        end -= TOGETHER;
+    }
+    end
+}
+
+/// Whether the 64 bytes from a place on are all 0.
+fn are_zeros(bytes: &[u8], first: usize) -> bool
+    requires { first + 64 ≤ length bytes.now }
+    ensures { result ≡ true → (k : ℕ) → first ≤ k → k < first + 64 → slice_index bytes.now k ≡ 0 }
+{
+    u8x64::from_slice(&bytes[first..])
+        .simd_ne(u8x64::splat(0))
+        .to_bitmask()
+        == 0
+}

@@ -37,8 +37,8 @@ removed_other m n other away = elim (eqb_tells other n) [
 ]
 
 -- no block is lent, where none of the arena's is
-pub none_lent : (m : Memory) (a : Numbers) (n : ℕ) (lent : Bool) → AreShared m a → (n < count_of a → has_block m n ≡ false)
-    → has_block m n ≡ lent → lent ≡ false
+pub none_lent : (m : Memory) (a : Numbers) (n : ℕ) (lent : Bool) → AreShared m a
+    → (n < count_of a → has_block m n ≡ false) → has_block m n ≡ lent → lent ≡ false
 none_lent m a n true h below is =
     let within = own_within a n (h.few n is) in
     let small : n < count_of a = omega (arith, within.1, h.first) in

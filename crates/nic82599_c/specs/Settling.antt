@@ -48,8 +48,8 @@ enables (suc queue) = (enables queue ++ step.RxEnable queue ∷ []) ++ step.TxEn
 
 -- one step of each queue or group below a number
 unfoldable pub of_each : (ℕ → Step) → ℕ → List Step
-of_each of zero = []
-of_each of (suc place) = of_each of place ++ of place ∷ []
+of_each step_of zero = []
+of_each step_of (suc place) = of_each step_of place ++ step_of place ∷ []
 
 -- the steps of a round: of each queue below a number its receive enable and its transmit enable; the EEPROM; of each
 -- such queue one transmit step; one receive step; the interrupts of the physical function and of 63 virtual functions

@@ -1,20 +1,16 @@
 -- A word that is written to an enable register of the driver's queue keeps what the device and both halves agree on.
-use Rattle.std.proofs.Common.{◌≡◌, ℕ, List, refl, ap, ◌∙◌, subst}
+use Rattle.std.proofs.Common.{◌≡◌, ℕ, List, refl, ap, subst}
 use Rattle.std.specs.FinMap as map
 use Rattle.std.proofs.lemmas.List.{append-nil}
 use Rattle.nic_device.specs.DmaArena.Block.{Block}
 use Rattle.nic_device.specs.DmaArena.Memory.{Memory}
 use Rattle.nic_device.specs.RegTable.declared.rows.RowId.TheVariants.{Rxdctl, Txdctl}
-use Rattle.nic_device.specs.RegisterFile.Bits.{has_bit}
 use Rattle.nic_device.specs.RegisterFile.Columns.{place}
 use Rattle.nic_device.specs.DmaRing.declared.dir.Dir.TheVariants.{Rx, Tx}
-use Rattle.nic_device.specs.RegisterLaws.Sides.{ReceiveQueue, receive_queue_of}
-use Rattle.nic_device.proofs.RegisterLaws.Switches.{receive-asked}
-use Rattle.nic_device.specs.Access.{named_written}
 use Rattle.nic_device.specs.Named.{named}
 use Rattle.nic_device.specs.Sound.{IsEvent}
 use Rattle.nic_device.specs.State.{State}
-use Rattle.nic_device.specs.Step.{step_of, after}
+use Rattle.nic_device.specs.Step.{after}
 use Rattle.nic_device.specs.declared.event.Event.{Event}
 use Rattle.nic_device.specs.declared.event.Event.TheVariants as event
 use Rattle.nic_device.specs.declared.event.Port.{Port}
@@ -24,11 +20,13 @@ use Rattle.receive_laws.specs.DeviceLaws.Leaving.{LeavesBlock}
 use Rattle.receive_laws.proofs.DeviceLaws.KeptSettings.{settings_stand}
 use Rattle.receive_laws.proofs.DeviceLaws.Standing.{stays_within}
 use Rattle.receive_laws.proofs.DeviceLaws.StandingAccesses.{write_memory, write_rest}
+use Rattle.receive_laws.specs.LeftLaws.Sides.{Side}
+use Rattle.receive_laws.proofs.LeftLaws.Asking.{asked}
+use Rattle.receive_laws.proofs.LeftLaws.Naming.{plain-write}
 use Rattle.receive_laws.specs.Pieces.{Piece}
 use Rattle.receive_laws.proofs.Each.{each_of}
 use Rattle.receive_laws.proofs.Leaving.{leaving_keeps, switching_keeps}
 use Rattle.transmit_laws.specs.Agreeing.{Agrees}
-use Rattle.transmit_laws.proofs.Basing.{plain-write}
 use Rattle.transmit_laws.proofs.Enable.{enable_words_keep as transmit_word_keeps}
 use Rattle.transmit_laws.proofs.Sparing.{sparing_events_keep}
 use Rattle.pmd.specs.Halves.{Halves}
@@ -47,38 +45,31 @@ module _ (queue : ℕ) (s : State) (port : Port) (n word : ℕ) (out : List Piec
   block_stays b = ap (λ (m : Memory). map.get m b) (write_memory s port n word)
 
   module _ (names : named s port n ≡ Register (place Rxdctl queue) 0xFFFFFFFF) where
-    asked : receive_queue_of t.registers queue
-        ≡ record (receive_queue_of s.registers queue) { wanted = has_bit 25 word }
-    unfolding step_of
-    asked =
-        ap (λ m. receive_queue_of (named_written s m word).state.registers queue) names
-        ∙ receive-asked s.registers both.transmit.1.based.sound.registers.shape queue both.transmit.1.based.small
-        0xFFFFFFFF word
-
     none : WritesNoSetting s e
     none = plain-write s port n word (place Rxdctl queue) 0xFFFFFFFF names refl
 
     receive_word : BothAgree queue t out sent h
-    receive_word = record {
-      receive =
-          switching_keeps queue s t out h.receive (record {
-            ring = ap (λ (q : ReceiveQueue). q.ring) asked;
-            control = ap (λ (q : ReceiveQueue). q.control) asked;
-            mode = (settings_stand s e none).mode;
-            vfs = (stays_within s e).vfs;
-            blocks = each_of h.receive (λ b. LeavesBlock b s t) block_stays;
-          }) both.receive;
-      transmit =
-          subst (λ xs. Agrees t queue xs h.transmit) (append-nil sent)
-          (sparing_events_keep s queue sent h.transmit e both.transmit (record {
-            made = made;
-            setting = none;
-            side = λ other switch.
-                (write_rest s port n word (place Rxdctl queue) 0xFFFFFFFF names refl refl).transmit queue (λ x. cc);
-            blocks = λ other number is. block_stays number;
-          }));
-      apart = both.apart;
-    }
+    receive_word =
+        let is = asked queue s both.transmit.1.based.sound both.transmit.1.based.small port n word Rx names in record {
+          receive =
+              switching_keeps queue s t out h.receive (record {
+                ring = ap (λ (x : Side). x.ring) is;
+                control = ap (λ (x : Side). x.control) is;
+                mode = (settings_stand s e none).mode;
+                vfs = (stays_within s e).vfs;
+                blocks = each_of h.receive (λ b. LeavesBlock b s t) block_stays;
+              }) both.receive;
+          transmit =
+              subst (λ xs. Agrees t queue xs h.transmit) (append-nil sent)
+              (sparing_events_keep s queue sent h.transmit e both.transmit (record {
+                made = made;
+                setting = none;
+                side = λ other switch.
+                    (write_rest s port n word (place Rxdctl queue) 0xFFFFFFFF names refl refl).transmit queue (λ x. cc);
+                blocks = λ other number is. block_stays number;
+              }));
+          apart = both.apart;
+        }
 
   module _ (names : named s port n ≡ Register (place Txdctl queue) 0xFFFFFFFF) where
     transmit_word : BothAgree queue t out sent h

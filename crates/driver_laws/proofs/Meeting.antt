@@ -1,6 +1,6 @@
 -- What holds between two entries of a history, and that an event which is neither half's and leaves the queue alone
 -- keeps it.
-use Rattle.std.proofs.Common.{◌≡◌, ℕ, ◌+◌, List, ◌++◌, refl, subst, arith}
+use Rattle.std.proofs.Common.{◌≡◌, ℕ, List, ◌++◌, subst}
 use Rattle.nic_device.specs.DmaArena.Block.{Block}
 use Rattle.nic_device.specs.EepromImage.Image.{blank}
 use Rattle.nic_device.specs.VfMap.declared.mode.Mode.{Mode}
@@ -12,8 +12,9 @@ use Rattle.nic_device.specs.declared.event.Event.{Event}
 use Rattle.nic_device.specs.declared.event.Event.TheVariants as event
 use Rattle.device_lock.specs.Alone.{Blocks, LeavesRegisters, LeavesBlocks, WritesOutside}
 use Rattle.device_lock.specs.declared.alone.Watched.{Watched}
+use Rattle.receive_laws.specs.LeftLaws.Left.{IsLeft}
 use Rattle.receive_laws.specs.Pieces.{Piece, pieces}
-use Rattle.receive_laws.proofs.Foreign.{foreign_keeps}
+use Rattle.receive_laws.proofs.Foreign.{left_keeps}
 use Rattle.transmit_laws.specs.Sent.{sent_by}
 use Rattle.transmit_laws.specs.Sparing.{Spares}
 use Rattle.transmit_laws.proofs.LeftBlocks.{left_alone_is_spared}
@@ -61,22 +62,20 @@ module _ (w : Watched) (mine : Blocks) (mode : Mode) (s : State) (out : List Pie
 
   pub neither_keeps : LeavesRegisters w mode e → LeavesBlocks mine e → Kept w mine s out sent e h
   neither_keeps registers blocks =
-      let here = subst (λ k. LeavesRegisters w k e) m.mode_is registers in (
+      let here = subst (λ k. LeavesRegisters w k e) m.mode_is registers in
+      let left : IsLeft w mine s e = record {
+        small = m.both.transmit.1.based.small;
+        sound = m.sound;
+        vfs = m.vfs;
+        made = made;
+        registers = here;
+        blocks = blocks;
+        steps = steps;
+      } in (
         record {
           receive =
-              foreign_keeps w mine mode s out h.receive
-              (record { pass = w.pass + 1; event = e; reply = reply_to s e })
-              (record {
-                sound = m.sound;
-                vfs = m.vfs;
-                mode_is = m.mode_is;
-                reply = refl;
-                event = made;
-              })
-              m.both.receive m.lent.receive
-              (reports_spare s w.queue sent h.transmit m.both.transmit.0 m.both.transmit.1 h.receive m.both.apart)
-              (record { registers = λ other. registers; blocks = λ other. blocks; steps = steps })
-              (λ x. absurd (omega (arith, x)));
+              left_keeps w mine s out h.receive e left m.both.receive m.lent.receive
+              (reports_spare s w.queue sent h.transmit m.both.transmit.0 m.both.transmit.1 h.receive m.both.apart);
           transmit =
               sparing_events_keep s w.queue sent h.transmit e m.both.transmit (spared_by e made here blocks steps);
           apart = m.both.apart;

@@ -24,13 +24,13 @@ use Rattle.device_lock.specs.Alone.{Blocks, WritesOutside}
 use Rattle.pmd.specs.PmdRx.Receive.{Receive, block_at}
 use Rattle.pmd.specs.PmdTx.Sending.{Sender, has_lent, descriptor_at, slot_at}
 use Rattle.receive_laws.proofs.HistoryLaws.Reported.{reported}
+use Rattle.receive_laws.proofs.LeftLaws.Blocks.{clear_outside}
+use Rattle.receive_laws.proofs.LeftLaws.Spared.{IsSparedBy, spared_block}
 use Rattle.receive_laws.specs.Joint.{Agree}
 use Rattle.receive_laws.specs.Pieces.{Piece}
 use Rattle.receive_laws.specs.Steps.{Each, IsOutside, OwnReportsSpare}
-use Rattle.receive_laws.proofs.Clear.{clear_avoids}
 use Rattle.receive_laws.proofs.Each.{each_map}
 use Rattle.receive_laws.proofs.Inside.{piece_inside}
-use Rattle.receive_laws.proofs.Spared.{IsSparedBy, spared_block}
 use Rattle.transmit_laws.specs.Agreeing.{AgreesAt}
 use Rattle.transmit_laws.specs.Sparing.{Spares}
 use Rattle.transmit_laws.proofs.Blocks.{has_lent-ring}
@@ -53,10 +53,7 @@ module _ (queue : ℕ) (mine : Blocks) (s : State) (sound : IsSound s) (out : Li
                   inside_avoids (block_at v.layout here.slot) n at len here.bytes
                   (λ e. away.blocks here.slot here.known (sym e));
             }
-        | inr ne ↦ record {
-          descriptor = clear_avoids mine desc 16 n (left ne).1 is (omega arith);
-          bytes = λ some. clear_avoids mine at len n (left ne).0 is some;
-        }
+        | inr ne ↦ clear_outside mine desc at len n (left ne) is
       ]
   told_outside n is away other told left = tt
 

@@ -7,7 +7,6 @@ pub mod Modes
 pub mod Naming
 pub mod Parting
 pub mod Reported
-pub mod Silent
 pub mod Slotless
 pub mod Sound
 pub mod Sparing

@@ -7,6 +7,7 @@ use Rattle.nic_device.specs.RegisterFile.Bits.{has_bit}
 use Rattle.nic_device.specs.RegisterFile.Pools.{mode_in}
 use Rattle.nic_device.specs.RegisterFile.Queue.{enable_row}
 use Rattle.nic_device.specs.DmaRing.declared.dir.Dir.{Dir}
+use Rattle.nic_device.specs.DmaRing.declared.dir.Dir.TheVariants.{Tx}
 use Rattle.nic_device.specs.Sound.{IsEvent}
 use Rattle.nic_device.specs.State.{State, new_state}
 use Rattle.nic_device.specs.Step.{after, reply_to}
@@ -26,15 +27,16 @@ use Rattle.start_laws.specs.Ending.{IsAsking}
 use Rattle.start_laws.specs.Moves.{IsMet}
 use Rattle.start_laws.specs.Points.{HasGround}
 use Rattle.start_laws.specs.Standing.{IsLeft}
-use Rattle.start_laws.proofs.Ending.{free_left, side_plain}
+use Rattle.start_laws.proofs.DrivenRows.{side_driven}
+use Rattle.start_laws.proofs.Ending.{free_left}
 use Rattle.start_laws.proofs.Ground.{ground_kept, write_ground}
 use Rattle.start_laws.proofs.Numbers.{ground_names}
 use Rattle.start_laws.proofs.Reached.{KeptOver, LeadsOver, reached, reached_next}
-use Rattle.start_laws.proofs.SettledTransmit.{IsSettled, Settles, spared_settles, word_settles}
+use Rattle.start_laws.proofs.Settled.{IsSettled, Settles, left_settles, word_settles}
 use Rattle.pmd.specs.Halves.{Halves}
 use Rattle.driver_laws.specs.Agreeing.{AreLent, BothAgree}
 use Rattle.driver_laws.proofs.Enabling.{enable_words_keep}
-use Rattle.driver_laws.proofs.Meeting.{Meets, neither_keeps, spared_by}
+use Rattle.driver_laws.proofs.Meeting.{Meets, neither_keeps}
 
 module _ (w : Watched) (fifo : ℕ) (q : AtPort) (mine : Blocks) (k : Halves) where
   abbrev new : State
@@ -49,7 +51,7 @@ module _ (w : Watched) (fifo : ℕ) (q : AtPort) (mine : Blocks) (k : Halves) wh
     pub out : List Piece
     pub both : BothAgree w.queue (reached w fifo done) out (sent done) k
     pub lent : AreLent mine k
-    pub settled : IsSettled w.queue (reached w fifo done)
+    pub settled : IsSettled Tx w.queue (reached w fifo done)
 
   -- the same behind an event
   record Next (done : List Entry) (e : Event Block) : Type 0 where
@@ -57,7 +59,7 @@ module _ (w : Watched) (fifo : ℕ) (q : AtPort) (mine : Blocks) (k : Halves) wh
     out : List Piece
     both : BothAgree w.queue (after (reached w fifo done) e) out
         (sent done ++ sent_by w.queue (reached w fifo done) e) k
-    settles : Settles w.queue (reached w fifo done) e
+    settles : Settles Tx w.queue (reached w fifo done) (after (reached w fifo done) e)
 
   keeps_on : (done : List Entry) (e : Entry) → AreLent mine k → Next done e.event → Keeps (done ++ e ∷ [])
   keeps_on done e lent x =
@@ -75,7 +77,7 @@ module _ (w : Watched) (fifo : ℕ) (q : AtPort) (mine : Blocks) (k : Halves) wh
             subst (λ (u : State). BothAgree w.queue u x.out (sent now) k) there
             (subst (λ (xs : List (List ℕ)). BothAgree w.queue t x.out xs k) (sym counted) x.both);
         lent = lent;
-        settled = subst (IsSettled w.queue) there x.settles.settled;
+        settled = subst (IsSettled Tx w.queue) there x.settles.settled;
       }
 
   left_next : (done : List Entry) (e : Event Block) → IsLeft w mine (reached w fifo done) e → Keeps done → Next done e
@@ -91,12 +93,11 @@ module _ (w : Watched) (fifo : ℕ) (q : AtPort) (mine : Blocks) (k : Halves) wh
         lent = x.lent;
       } in
       let kept = neither_keeps w mine mode s x.out (sent done) k m e left.made left.steps left.registers left.blocks in
-      let spared = spared_by w mine mode s x.out (sent done) k m e left.made left.steps e left.made left.registers
-      left.blocks left.steps in record {
+      record {
         ground = ground_kept w mine q s e left x.ground;
         out = x.out ++ pieces w.queue s e;
         both = kept.0;
-        settles = spared_settles w.queue s (sent done) k.transmit e x.both.transmit spared x.settled;
+        settles = left_settles Tx w mine s e left x.settled;
       }
 
   word_next : (done : List Entry) (side : Dir) (number word : ℕ) → IsMet w.queue (reached w fifo done)
@@ -105,13 +106,13 @@ module _ (w : Watched) (fifo : ℕ) (q : AtPort) (mine : Blocks) (k : Halves) wh
   word_next done side number word met made none named x =
       let s = reached w fifo done in
       let t = after s (event.Write q.port number word) in
-      let names = ground_names w.queue q s x.ground (enable_row side) number (side_plain q side) named in record {
-        ground = write_ground w.queue q s (enable_row side) word number (side_plain q side) named x.ground;
+      let names = ground_names w.queue q s x.ground (enable_row side) number (side_driven side) named in record {
+        ground = write_ground w.queue q s (enable_row side) word number (side_driven side) named x.ground;
         out = x.out;
         both =
             subst (λ (xs : List (List ℕ)). BothAgree w.queue t x.out xs k) (sym (append-nil (sent done)))
             (enable_words_keep w.queue s side q.port number word x.out (sent done) k made names x.both);
-        settles = word_settles w.queue q s number word met none x.ground side named x.settled;
+        settles = word_settles Tx w.queue q s number word met none x.ground side named x.settled;
       }
 
   asked_next : (done : List Entry) (e : Event Block) → IsMet w.queue (reached w fifo done) → IsEvent e → IsAsking q e

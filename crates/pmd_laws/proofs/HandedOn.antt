@@ -1,6 +1,7 @@
 -- What was handed out stays a prefix of what is delivered where the receive side doesn't go on.
 use Rattle.std.proofs.Common.{◌≡◌, ℕ, inl, inr, List, [], ◌∷◌, ◌++◌, Option, Some, None, option_map, refl, sym, ap, ◌∙◌, subst, append_assoc, cond}
 use Rattle.std.proofs.lemmas.Bool.{cases_Bool}
+use Rattle.nic_device.specs.DmaRing.declared.dir.Dir.TheVariants.{Rx}
 use Rattle.nic_device.specs.State.{State, new_state}
 use Rattle.nic_device.specs.Step.{after}
 use Rattle.device_lock.specs.Alone.{Blocks}
@@ -54,11 +55,11 @@ module _ (w : Watched) (fifo : ℕ) (q : AtPort) (handed : List Kept) where
 
   pub record Keeps (done : List Entry) : Type 0 where
     pub ground : HasGround w.queue q (reached w fifo done)
-    pub settled : IsSettled w.queue (reached w fifo done)
+    pub settled : IsSettled Rx w.queue (reached w fifo done)
     pub first : IsPrefixOf handed (delivered w.queue new done)
 
   keeps_on : (done : List Entry) (e : Entry) → HasGround w.queue q (after (reached w fifo done) e.event)
-      → Settles w.queue (reached w fifo done) (after (reached w fifo done) e.event) → Keeps done
+      → Settles Rx w.queue (reached w fifo done) (after (reached w fifo done) e.event) → Keeps done
       → Keeps (done ++ e ∷ [])
   keeps_on done e g on kept =
       let s = reached w fifo done in
@@ -69,7 +70,7 @@ module _ (w : Watched) (fifo : ℕ) (q : AtPort) (handed : List Kept) where
       ∙ ap (λ b. packets_if_any (cond b (Some []) (option_map (λ qs. qs ++ ps) so_far))) on.never in
       record {
         ground = subst (HasGround w.queue q) (sym (reached_next w fifo done e)) g;
-        settled = subst (IsSettled w.queue) (sym (reached_next w fifo done e)) on.settled;
+        settled = subst (IsSettled Rx w.queue) (sym (reached_next w fifo done e)) on.settled;
         first =
             subst (IsPrefixOf handed) (sym more)
             (then_prefix handed (delivered w.queue new done) _ kept.first (more_if_any so_far ps));
@@ -78,7 +79,7 @@ module _ (w : Watched) (fifo : ℕ) (q : AtPort) (handed : List Kept) where
   pub others_keep : (mine : Blocks) → KeptOver w fifo mine Keeps
   others_keep mine done e left kept =
       keeps_on done e (ground_kept w mine q (reached w fifo done) e.event left kept.ground)
-      (left_settles w mine (reached w fifo done) e.event left kept.settled) kept
+      (left_settles Rx w mine (reached w fifo done) e.event left kept.settled) kept
 
   pub ending_keeps : (mine : Blocks) (c : Call) → IsEnding q c.event → LeadsOver w fifo mine c Keeps Keeps
   ending_keeps mine c own done e same met made told steps kept =

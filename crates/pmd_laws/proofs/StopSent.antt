@@ -76,7 +76,7 @@ module _ (w : Watched) (fifo : ℕ) (h rest : List Entry) (q : AtPort) (size : �
             (subst (λ (g : List Entry). AreLent (lent_by w.pass g) k) p.both
             (subst (AreLent (lent_by w.pass (p.front ++ p.back))) is l.lent));
         settled =
-            inl (subst (IsUp w.queue) at (l.sends (went_on w fifo h q size old a started r k x p).sends));
+            inl (subst (IsUp w.queue) at (l.sends (went_on w fifo h q size old a started r k x p).sends)).on;
       }
 
   pub keeps_lived : Keeps w fifo q (lent_by w.pass (h ++ rest)) k h

@@ -1,6 +1,7 @@
 -- What a driver handed out, over its stop and on.
 use Rattle.std.proofs.Common.{◌≢◌, ℕ, inl, List, [], ◌∷◌, ◌++◌, refl, sym, ◌∙◌, subst}
 use Rattle.std.proofs.lemmas.List.{append-nil}
+use Rattle.nic_device.specs.DmaRing.declared.dir.Dir.TheVariants.{Rx}
 use Rattle.nic_device.specs.DmaArena.Numbers.{Numbers}
 use Rattle.nic_device.specs.State.{new_state}
 use Rattle.device_lock.specs.Alone.{lent_by}
@@ -65,17 +66,17 @@ module _ (w : Watched) (fifo : ℕ) (h : List Entry) (q : AtPort) (size : ℕ) (
       h [] (append-nil h) goes.2
 
   settled_by : Parts w.pass h (up w fifo h q size old a started r k x).on.mid
-      (whole w fifo h q size old a started r k x).1 → IsSettled w.queue (leads_to (new_state w.vfs fifo) h)
+      (whole w fifo h q size old a started r k x).1 → IsSettled Rx w.queue (leads_to (new_state w.vfs fifo) h)
   settled_by p =
       let d = driven w fifo h q size old a started r k x p in
       let l = led w fifo p.front p.back (first w fifo h q size old a started r k x)
       (whole w fifo h q size old a started r k x).0 d in
-      subst (λ (g : List Entry). IsSettled w.queue (leads_to (new_state w.vfs fifo) g)) p.both
-      (subst (IsSettled w.queue) (sym (leads-append (new_state w.vfs fifo) p.front p.back))
+      subst (λ (g : List Entry). IsSettled Rx w.queue (leads_to (new_state w.vfs fifo) g)) p.both
+      (subst (IsSettled Rx w.queue) (sym (leads-append (new_state w.vfs fifo) p.front p.back))
       (inl (l.receives d.up).on))
 
   -- and the receive side is on
-  pub settled_lived : IsSettled w.queue (leads_to (new_state w.vfs fifo) h)
+  pub settled_lived : IsSettled Rx w.queue (leads_to (new_state w.vfs fifo) h)
   settled_lived = settled_by (in_parts w fifo h q size old a started r k x)
 
 pub some_more : (xs ys : List Call) → xs ≢ [] → xs ++ ys ≢ []

@@ -10,35 +10,17 @@ use Rattle.nic_device.specs.RegisterFile.Pools.{mode_in}
 use Rattle.nic_device.specs.RegisterFile.Queue.{ring_of}
 use Rattle.nic_device.specs.DmaRing.declared.dir.Dir.TheVariants.{Rx}
 use Rattle.nic_device.specs.RegisterLaws.Sides.{ReceiveQueue, receive_queue_of}
-use Rattle.nic_device.specs.Outcome.{Outcome}
 use Rattle.nic_device.specs.Sound.{IsSound}
 use Rattle.nic_device.specs.State.{State}
-use Rattle.nic_device.specs.Step.{step_of}
-use Rattle.nic_device.specs.declared.event.Event.TheVariants as event
-use Rattle.history_laws.specs.DeviceLaws.Replies.{received_tells, moved_on}
-use Rattle.history_laws.proofs.DeviceLaws.KeptSettings.{settings_stand}
-use Rattle.history_laws.proofs.DeviceLaws.RepliesReceived.{receiving_tells}
-use Rattle.history_laws.proofs.DeviceLaws.Standing.{stays_within}
+use Rattle.left_laws.specs.DeviceLaws.Replies.{moved_on}
+use Rattle.left_laws.specs.Left.{fill_on}
+use Rattle.left_laws.specs.Segments.{piece_in}
 use Rattle.pmd_rx.specs.Receive.{Layout, Receive, slot_at, descriptor_at, block_at}
 use Rattle.receive_laws.specs.Joint.{IsSetUp, StageHolds, HasSlots, Holds}
 use Rattle.receive_laws.specs.Pieces.{Piece}
-use Rattle.receive_laws.proofs.Cases.{fill_on}
-use Rattle.receive_laws.proofs.Filled.{piece_in, Fills, stage_beside}
+use Rattle.receive_laws.proofs.Filled.{Fills, stage_beside}
 use Rattle.receive_laws.proofs.Kept.{named_kept}
 use Rattle.receive_laws.proofs.Receiving.{fills_here, head_on, slots_more}
-
--- what is known of the registers after the step
-pub record Follows (s : State) (o : Outcome) : Type 0 where
-  pub tells : received_tells o.reply s o.state
-  pub mode : mode_in o.state.registers ≡ mode_in s.registers
-  pub vfs : o.state.vfs ≡ s.vfs
-
-pub follows : (s : State) → IsSound s → Follows s (step_of s event.RxStep)
-follows s sound = record {
-  tells = receiving_tells s sound;
-  mode = (settings_stand s event.RxStep tt).mode;
-  vfs = (stays_within s event.RxStep).vfs;
-}
 
 -- a side whose head moved on from the first slot that wasn't filled
 set_up_more : (l : Layout) (q : ReceiveQueue) (n m : ℕ) → IsSetUp q l n → m ≡ n + 1

@@ -10,16 +10,13 @@ use Rattle.nic_device.specs.RxRing.Control.{buffer_size_of}
 use Rattle.nic_device.specs.RxRing.Fill.{Rest, head_address, buffer_address, fill_of}
 use Rattle.nic_device.specs.RxRing.Laws.{TakesPiece}
 use Rattle.nic_device.proofs.RxRing.Fills.{takes_piece, driver_reads, writes_inside_slot, fill_keeps_blocks}
+use Rattle.left_laws.specs.Segments.{piece_in}
 use Rattle.pmd_rx.specs.Receive.{Layout, Stage, Looks, Sees, Holding, Lent, Named, slot_at, descriptor_at, block_at, vacant}
 use Rattle.receive_laws.specs.Joint.{IsPosted, IsFilled, IsRing, StageHolds}
 use Rattle.receive_laws.specs.Pieces.{Piece, no_piece, piece_at}
 use Rattle.receive_laws.proofs.Kept.{IsPosted-kept, IsFilled-kept, IsLoose-kept, slot_low}
 use Rattle.pmd_rx.proofs.PmdSeam.Places.{wrapped_apart}
 use Rattle.receive_laws.proofs.Places.{slots_apart, buffer_and_slot, slot_and_buffer, buffers_apart, less_apart}
-
--- the piece that a filled slot takes of what is left
-abbrev pub piece_in : Rest → Filled → Piece
-piece_in rest f = record { bytes = take f.len rest.bytes; first = rest.first; end = f.end }
 
 -- the descriptor at `a` and the block `b` got a piece, and nothing else changed
 pub record Fills (m n : Memory) (a b : ℕ) (p : Piece) : Type 0 where

@@ -14,7 +14,7 @@ use Rattle.device_lock.specs.declared.alone.Watched.{Watched}
 use Rattle.device_lock.specs.declared.entry.Entry.{Entry}
 use Rattle.pmd_rx.specs.Plays.{AllOwn, after_call, played_by}
 use Rattle.pmd_rx.specs.Receive.{Receive}
-use Rattle.history_laws.specs.Alone.{AllAlone}
+use Rattle.left_laws.specs.HistoryLaws.Alone.{AllAlone}
 use Rattle.receive_laws.specs.Delivered.{pieces_in, pieces_since}
 use Rattle.receive_laws.specs.Histories.{AllSpare, mark_of, marks_after}
 use Rattle.receive_laws.specs.Joint.{Agree}

@@ -1,18 +1,14 @@
 -- What stays of the agreement where memory, the mode and the number of functions do.
-use Rattle.std.proofs.Common.{◌≡◌, ℕ, ◌+◌, ◌*◌, ◌≤◌, ◌<◌, List, length, refl, ap, ◌∙◌, arith}
+use Rattle.std.proofs.Common.{◌≡◌, ℕ, ◌+◌, ◌*◌, ◌≤◌, ◌<◌, List, length, ap, ◌∙◌, arith}
 use Rattle.std.specs.Prelude.{is_some}
 use Rattle.std.specs.FinMap as map
 use Rattle.nic_device.specs.DmaArena.Memory.{Memory, has_block, read_at, LiesIn}
 use Rattle.nic_device.proofs.DmaArena.Inside.{reads_its_block}
 use Rattle.nic_device.specs.DmaRing.Descriptor.{first_half, second_half}
 use Rattle.nic_device.specs.DmaRing.Receive.{is_done, ends_packet, bytes_in}
-use Rattle.nic_device.specs.VfMap.Map.{located}
-use Rattle.nic_device.specs.VfMap.declared.mode.Mode.{Mode}
-use Rattle.nic_device.specs.Named.{named, at_location}
 use Rattle.nic_device.specs.State.{State}
-use Rattle.nic_device.specs.declared.event.Port.{Port}
-use Rattle.nic_device.specs.declared.event.Port.TheVariants.{Pf, Vf}
 use Rattle.nic_device.specs.RegisterFile.Pools.{mode_in}
+use Rattle.left_laws.proofs.Naming.{named-same}
 use Rattle.pmd_rx.specs.Receive.{Layout, Stage, Looks, Sees, Holding, Lent, Named, slot_at, descriptor_at, block_at, vacant}
 use Rattle.receive_laws.specs.Joint.{IsPosted, IsFilled, IsRing, IsNamed, IsLoose, StageHolds, HasSlots}
 use Rattle.receive_laws.specs.Pieces.{Piece, piece_at}
@@ -108,13 +104,6 @@ module _ (l : Layout) (m n : Memory) (ring : IsRing l) (same : map.get n l.ring 
   )
 
 -- numbers name what they named where the mode and the number of functions are the same
-same_name : (s t : State) (port : Port) (number : ℕ) → mode_in t.registers ≡ mode_in s.registers → t.vfs ≡ s.vfs
-    → named t port number ≡ named s port number
-same_name s t Pf number mode vfs = refl
-same_name s t (Vf v) number mode vfs =
-    ap (λ (m : Mode). at_location (located m t.vfs v number)) mode
-    ∙ ap (λ n. at_location (located (mode_in s.registers) n v number)) vfs
-
 pub named_kept : (s t : State) (queue : ℕ) (l : Layout) → mode_in t.registers ≡ mode_in s.registers → t.vfs ≡ s.vfs
     → IsNamed s queue l → IsNamed t queue l
-named_kept s t queue l mode vfs h = record { low = h.low; tail = same_name s t l.port l.tail mode vfs ∙ h.tail }
+named_kept s t queue l mode vfs h = record { low = h.low; tail = named-same s t mode vfs l.port l.tail ∙ h.tail }

@@ -13,8 +13,8 @@ use Rattle.nic_device.specs.declared.event.Port.{Port}
 use Rattle.nic_device.specs.declared.event.Reply.{Reply}
 use Rattle.nic_device.specs.declared.event.Reply.TheVariants as reply
 use Rattle.nic_device.proofs.Cases.{lent_cases}
-use Rattle.history_laws.specs.Lent.{OnlyLent, LendsAnew, LendsNone, LendsOwn, either, with_lent, without}
-use Rattle.history_laws.proofs.Lent.{only_lent_stays}
+use Rattle.left_laws.specs.HistoryLaws.Lent.{OnlyLent, LendsAnew, LendsNone, LendsOwn, either, with_lent, without}
+use Rattle.left_laws.proofs.HistoryLaws.Lent.{only_lent_stays}
 use Rattle.pmd_rx.specs.Keeping.{fresh_block, has_lent}
 use Rattle.pmd_rx.specs.Receive.{Receive, Stage, Looks, Sees, Holding, Lent, Named, IsOwn, LendsNext, PeeksNext, TakesNext, drive, took, lent_one}
 use Rattle.receive_laws.specs.Lent.{OwnLendsAreKnown}

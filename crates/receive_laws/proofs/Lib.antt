@@ -1,7 +1,7 @@
-pub use Rattle.history_laws.proofs.DeviceLaws
-pub use Rattle.history_laws.proofs as HistoryLaws
+pub use Rattle.left_laws.proofs.DeviceLaws
+pub use Rattle.left_laws.proofs.HistoryLaws
+pub use Rattle.left_laws.proofs as LeftLaws
 pub mod Advancing
-pub mod Cases
 pub mod Clear
 pub mod Consuming
 pub mod Delivering
@@ -16,7 +16,6 @@ pub mod Histories
 pub mod Inside
 pub mod Kept
 pub mod Leaving
-pub mod LeftReceive
 pub mod Lending
 pub mod Lent
 pub mod Looking
@@ -26,16 +25,12 @@ pub mod Naming
 pub mod Own
 pub mod Places
 pub mod Prefix
-pub mod Quiet
 pub mod Received
 pub mod Receiving
 pub mod Short
-pub mod Spared
 pub mod Starting
 pub mod Switching
 pub mod Tail
 pub mod Taking
-pub mod Transmitting
 pub mod Up
 pub mod Waiting
-pub mod Writing

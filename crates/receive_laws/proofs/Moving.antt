@@ -13,13 +13,14 @@ use Rattle.nic_device.specs.Outcome.{Outcome}
 use Rattle.nic_device.specs.State.{State}
 use Rattle.nic_device.specs.Step.{after, reply_to}
 use Rattle.nic_device.specs.declared.event.Event.TheVariants as event
+use Rattle.left_laws.proofs.Tails.{receive_with_tail, receive-tail}
 use Rattle.pmd_rx.specs.PmdSeam.declared.packet.Packet.{Packet}
 use Rattle.pmd_rx.specs.Receive.{Layout, Receive, Named, slot_at, descriptor_at, block_at, vacant, extended, held, listed, moved, drive}
 use Rattle.receive_laws.specs.Joint.{IsPosted, IsFilled, IsRing, IsSetUp, IsLoose, StageHolds, HasSlots, Agree}
 use Rattle.receive_laws.specs.Pieces.{Piece, piece_at}
 use Rattle.receive_laws.proofs.Kept.{named_kept}
 use Rattle.pmd_rx.proofs.PmdSeam.Places.{wrapped_below}
-use Rattle.receive_laws.proofs.Tail.{with_tail, receive-with_tail, tail_written, mode_after_tail}
+use Rattle.receive_laws.proofs.Tail.{tail_written, mode_after_tail}
 
 -- the ring with one more block
 
@@ -72,7 +73,7 @@ module _ (m : Memory) (l : Layout) (here : List Piece) (b : ℕ) (ring : IsRing 
       }
 
   set_up_more : (q : ReceiveQueue) → IsSetUp q l (length here)
-      → IsSetUp (with_tail q (slot_at l (vacant l + 1))) (extended l b) (length here)
+      → IsSetUp (receive_with_tail q (slot_at l (vacant l + 1))) (extended l b) (length here)
   set_up_more q up = record {
     one_buffer = up.one_buffer;
     buffer_size = up.buffer_size;
@@ -112,7 +113,7 @@ move_keeps queue s out v o b shape (gone, here, h) is =
         };
         ring = ring_more s.memory l here b h.ring h.slots both.0 both.1;
         side = subst (λ q. IsSetUp q (extended l b) (length here))
-            (sym (receive-with_tail s.registers queue word shape h.named.low (low_tail l h.ring both.0.room)))
+            (sym (receive-tail s.registers queue word shape h.named.low (low_tail l h.ring both.0.room)))
             (set_up_more s.memory l here b h.ring h.slots both.0 both.1 (receive_queue_of s.registers queue) h.side);
         slots = slots_more s.memory l here b h.ring h.slots both.0 both.1;
         stage = tt;

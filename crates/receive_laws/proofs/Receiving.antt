@@ -17,12 +17,13 @@ use Rattle.nic_device.proofs.RxRing.Tests.{fill_healthy}
 use Rattle.nic_device.specs.RegisterLaws.Sides.{ReceiveQueue, receive_queue_of}
 use Rattle.nic_device.specs.Receive.{is_empty}
 use Rattle.nic_device.specs.State.{State}
+use Rattle.left_laws.specs.Left.{fill_on}
+use Rattle.left_laws.specs.Segments.{piece_in}
 use Rattle.pmd_rx.specs.PmdSeam.Slots.{wrapped}
 use Rattle.pmd_rx.specs.Receive.{Layout, slot_at, descriptor_at, block_at, vacant}
 use Rattle.receive_laws.specs.Joint.{IsFilled, IsRing, IsSetUp, HasSlots}
 use Rattle.receive_laws.specs.Pieces.{Piece, no_piece, piece_at}
-use Rattle.receive_laws.proofs.Cases.{fill_on}
-use Rattle.receive_laws.proofs.Filled.{piece_in, Fills, fills_slot, filled_beside, posted_beside}
+use Rattle.receive_laws.proofs.Filled.{Fills, fills_slot, filled_beside, posted_beside}
 use Rattle.receive_laws.proofs.Kept.{slot_below, slot_low}
 use Rattle.receive_laws.proofs.Looking.{descriptor_lent}
 use Rattle.pmd_rx.proofs.PmdSeam.Places.{next_wrapped}

@@ -1,18 +1,13 @@
 -- A write of the tail of the queue through the driver's number for it.
-use Rattle.std.proofs.Common.{◌≡◌, ℕ, ◌%◌, ◌^◌, ◌<◌, inl, refl, ap, ◌∙◌}
-use Rattle.std.proofs.Math.Nat.{mod-eq_of_lt}
+use Rattle.std.proofs.Common.{◌≡◌, ℕ, ap}
 use Rattle.nic_device.specs.RegTable.declared.place.Place.{Place}
 use Rattle.nic_device.specs.RegTable.declared.rows.RowId.TheVariants.{Rdt, GcrExt}
 use Rattle.nic_device.specs.VfMap.Pools.{mode_of}
 use Rattle.nic_device.specs.RegisterFile.Columns.{place}
 use Rattle.nic_device.specs.RegisterFile.Pools.{mode_in}
-use Rattle.nic_device.specs.RegisterFile.Registers.{Registers, word_of}
+use Rattle.nic_device.specs.RegisterFile.Registers.{Registers}
 use Rattle.nic_device.specs.RegisterLaws.Laws.{after_write, word_after}
-use Rattle.nic_device.specs.RegisterLaws.Sides.{ReceiveQueue, receive_queue_of}
-use Rattle.nic_device.specs.RegisterLaws.Sound.{HasShape}
 use Rattle.nic_device.proofs.RegisterLaws.Puts.{word_at-put_other}
-use Rattle.nic_device.proofs.RegisterLaws.SideWords.{receive-written}
-use Rattle.history_laws.proofs.Written.{merged_low}
 use Rattle.nic_device.specs.Access.{named_written}
 use Rattle.nic_device.specs.Outcome.{gives}
 use Rattle.nic_device.specs.State.{State}
@@ -21,20 +16,6 @@ use Rattle.nic_device.specs.declared.event.Event.TheVariants as event
 use Rattle.nic_device.specs.declared.event.Reply.TheVariants.{Done}
 use Rattle.pmd_rx.specs.Receive.{Layout}
 use Rattle.receive_laws.specs.Joint.{IsNamed}
-
--- a word of 16 bits that is written to the tail's register is the tail
-
-abbrev pub with_tail : ReceiveQueue → ℕ → ReceiveQueue
-with_tail q tail = record q { ring = record q.ring { tail = tail } }
-
-pub receive-with_tail : (r : Registers) (queue word : ℕ) → HasShape r → queue < 128 → word < 65536
-    → receive_queue_of (after_write r (place Rdt queue) 0xFFFFFFFF word) queue
-    ≡ with_tail (receive_queue_of r queue) word
-receive-with_tail r queue word h b small =
-    let there : word_after r (place Rdt queue) 0xFFFFFFFF word % 2 ^ 16 ≡ word =
-    merged_low (word_of r Rdt queue) word ∙ mod-eq_of_lt small in
-    receive-written r h Rdt queue refl b (inl refl) 0xFFFFFFFF word
-    ∙ (λ k. with_tail (receive_queue_of r queue) (there k))
 
 -- a write of it writes a register alone
 

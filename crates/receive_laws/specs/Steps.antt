@@ -1,7 +1,6 @@
 -- What single events do to what the device and a driver agree on.
 use Rattle.std.specs.Prelude.{ℕ, ◌≡◌, ◌≢◌, ◌↔◌, ◌/◌, ◌<◌, List, ◌++◌, length, Some, ⊤, IsTrue}
 use Rattle.nic_device.specs.DmaArena.Block.{Block}
-use Rattle.nic_device.specs.DmaArena.Memory.{Avoids}
 use Rattle.nic_device.specs.DmaRing.Descriptor.{first_half, second_half}
 use Rattle.nic_device.specs.DmaRing.Receive.{is_done, ends_packet, bytes_in}
 use Rattle.nic_device.specs.RegisterFile.Pools.{mode_in}
@@ -20,7 +19,8 @@ use Rattle.nic_device.specs.declared.event.Event.{Event}
 use Rattle.nic_device.specs.declared.event.Event.TheVariants as event
 use Rattle.nic_device.specs.declared.event.Reply.{Reply}
 use Rattle.nic_device.specs.declared.event.Reply.TheVariants.{Bytes, Wrote}
-use Rattle.history_laws.specs.DeviceLaws.Leaving.{LeavesReceive, LeavesBlock}
+use Rattle.left_laws.specs.DeviceLaws.Leaving.{LeavesReceive, LeavesBlock}
+pub use Rattle.left_laws.specs.Left.{IsOutside}
 use Rattle.pmd_rx.specs.Receive.{Receive, Stage, Looks, Sees, Holding, Lent, Named, IsOwn, drive, descriptor_at, block_at}
 use Rattle.receive_laws.specs.Joint.{Holds, Agree}
 use Rattle.receive_laws.specs.Pieces.{Piece, pieces, piece_at}
@@ -59,11 +59,6 @@ pub record Leaves (queue : ℕ) (v : Receive) (old new : State) : Type 0 where
   pub mode : mode_in new.registers ≡ mode_in old.registers
   pub vfs : new.vfs ≡ old.vfs
   pub blocks : Each v (λ b. LeavesBlock b old new)
-
--- a descriptor and so many bytes, where there are any, are outside a block
-pub record IsOutside (desc at len b : ℕ) : Type 0 where
-  pub descriptor : Avoids b desc 16
-  pub bytes : 0 < len → Avoids b at len
 
 -- what a step wrote on another queue is in none of the driver's blocks
 abbrev pub SparesBlocks : ℕ → Receive → Reply Block → Type 0

@@ -1,8 +1,6 @@
 -- A queue whose receive side is on, and wanted on.
 use Rattle.std.specs.Prelude.{ℕ, ◌≡◌, ◌≢◌, ◌⊎◌, IsTrue, List}
 use Rattle.nic_device.specs.DmaArena.Block.{Block}
-use Rattle.nic_device.specs.RegisterFile.Queue.{is_on}
-use Rattle.nic_device.specs.RegisterFile.Registers.{is_wanted}
 use Rattle.nic_device.specs.DmaRing.declared.dir.Dir.TheVariants.{Rx}
 use Rattle.nic_device.specs.VfMap.declared.mode.Mode.{Mode}
 use Rattle.nic_device.specs.Sound.{IsSound}
@@ -10,7 +8,9 @@ use Rattle.nic_device.specs.State.{State}
 use Rattle.nic_device.specs.Step.{after}
 use Rattle.nic_device.specs.declared.event.Event.{Event}
 use Rattle.nic_device.specs.declared.event.Event.TheVariants as event
-use Rattle.history_laws.specs.DeviceLaws.Leaving.{LeavesReceive}
+use Rattle.left_laws.specs.DeviceLaws.Leaving.{LeavesReceive}
+use Rattle.left_laws.specs.Sides as sides
+use Rattle.left_laws.specs.Sides.{side_of}
 use Rattle.device_lock.specs.Alone.{Blocks, EntryLeavesAlone}
 use Rattle.device_lock.specs.declared.alone.Watched.{Watched}
 use Rattle.device_lock.specs.declared.entry.Entry.{Entry}
@@ -20,9 +20,8 @@ use Rattle.receive_laws.specs.Joint.{Agree}
 use Rattle.receive_laws.specs.Pieces.{Piece}
 use Rattle.receive_laws.specs.Steps.{IsMetBy}
 
-pub record IsUp (queue : ℕ) (s : State) : Type 0 where
-  pub on : IsTrue (is_on s.registers Rx queue)
-  pub wanted : IsTrue (is_wanted s.registers Rx queue)
+abbrev pub IsUp : ℕ → State → Type 0
+IsUp queue s = sides.IsUp (side_of Rx queue s)
 
 -- it stays up where an event leaves the side; and a step of the side's enable changes nothing
 abbrev pub LeavingStaysUp : Type 0

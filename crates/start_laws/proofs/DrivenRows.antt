@@ -2,6 +2,9 @@
 use Rattle.std.proofs.Common.{◌≡◌, ℕ, true, false, refl}
 use Rattle.nic_device.specs.RegTable.declared.rows.RowId.{RowId}
 use Rattle.nic_device.specs.RegTable.declared.rows.RowId.TheVariants.{Rdbal, Rdbah, Rdlen, Rdh, Rdt, Srrctl, Rxdctl, Tdbal, Tdbah, Tdlen, Tdh, Tdt, Tdwbal, Txdctl, Ctrl, Hlreg0, Maxfrs, GcrExt}
+use Rattle.nic_device.specs.DmaRing.declared.dir.Dir.{Dir}
+use Rattle.nic_device.specs.DmaRing.declared.dir.Dir.TheVariants.{Rx, Tx}
+use Rattle.nic_device.specs.RegisterFile.Queue.{enable_row}
 use Rattle.nic_device.specs.RegisterLaws.Sides.{ReceiveQueue, TransmitQueue}
 use Rattle.device_lock.specs.Alone.{is_setting}
 use Rattle.pmd.specs.PmdSeam.Named.{is_driven}
@@ -30,6 +33,11 @@ transmit_driven Tdt word fits = (refl, λ rx. refl)
 transmit_driven Tdwbal word fits = (refl, λ rx. refl)
 transmit_driven Txdctl word fits = (refl, λ rx. refl)
 transmit_driven other word fits = absurd fits
+
+-- the enable register of each side is one of them
+pub side_driven : (side : Dir) → is_driven (enable_row side) ≡ true
+side_driven Rx = refl
+side_driven Tx = refl
 
 -- none of them is a setting
 pub driven_plain : (row : RowId) → is_driven row ≡ true → is_setting row ≡ false

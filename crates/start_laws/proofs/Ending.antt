@@ -1,14 +1,10 @@
 -- The calls of a driver's stop leave its receive side settled.
-use Rattle.std.proofs.Common.{◌≡◌, ◌≢◌, ℕ, true, false, List, [], ◌∷◌, ◌++◌, refl, sym, subst, append_assoc, Some}
+use Rattle.std.proofs.Common.{◌≡◌, ◌≢◌, ℕ, true, List, [], ◌∷◌, ◌++◌, refl, sym, subst, append_assoc, Some}
 use Rattle.std.proofs.lemmas.List.{append-nil}
 use Rattle.nic_device.specs.DmaArena.Block.{Block}
-use Rattle.nic_device.specs.RegTable.declared.rows.RowId.TheVariants.{Rxdctl, Txdctl}
-use Rattle.nic_device.specs.RegisterFile.Bits.{has_bit}
-use Rattle.nic_device.specs.RegisterFile.Columns.{place}
 use Rattle.nic_device.specs.RegisterFile.Pools.{mode_in}
 use Rattle.nic_device.specs.RegisterFile.Queue.{enable_row}
-use Rattle.nic_device.specs.DmaRing.declared.dir.Dir.{Dir}
-use Rattle.nic_device.specs.DmaRing.declared.dir.Dir.TheVariants.{Rx, Tx}
+use Rattle.nic_device.specs.DmaRing.declared.dir.Dir.TheVariants.{Rx}
 use Rattle.nic_device.specs.Sound.{IsEvent}
 use Rattle.nic_device.specs.State.{State}
 use Rattle.nic_device.specs.Step.{after, reply_to}
@@ -17,13 +13,14 @@ use Rattle.nic_device.specs.declared.event.Event.TheVariants as event
 use Rattle.nic_device.specs.declared.event.Reply.{Reply}
 use Rattle.nic_device.specs.declared.event.Reply.TheVariants.{Wrote, Advanced, Sent}
 use Rattle.receive_laws.proofs.DeviceLaws.Standing.{memory_rest}
-use Rattle.receive_laws.proofs.DeviceLaws.StandingAccesses.{read_rest, write_rest}
+use Rattle.receive_laws.proofs.DeviceLaws.StandingAccesses.{read_rest}
 use Rattle.device_lock.specs.Alone.{Blocks, LeavesBlocks, LeavesRegisters, WritesOutside, lent_by}
 use Rattle.device_lock.specs.declared.alone.Watched.{Watched}
 use Rattle.device_lock.specs.declared.entry.Call.{Call}
 use Rattle.device_lock.specs.declared.entry.Entry.{Entry}
 use Rattle.pmd.specs.PmdSeam.Events.{is_step}
-use Rattle.pmd.specs.PmdSeam.Named.{AtPort, IsNumberOf, is_driven}
+use Rattle.pmd.specs.PmdSeam.Named.{AtPort}
+use Rattle.receive_laws.proofs.LeftLaws.Sides.{queues_left}
 use Rattle.receive_laws.proofs.Clear.{no_registers}
 use Rattle.start_laws.specs.Along.{AtEntries, IsAlong}
 use Rattle.start_laws.specs.Ending.{Each, IsEnding, IsPlain}
@@ -33,9 +30,9 @@ use Rattle.start_laws.specs.Quiet.{no_block}
 use Rattle.start_laws.specs.Standing.{IsLeft}
 use Rattle.start_laws.proofs.Reached.{KeptOver, LeadsOver}
 use Rattle.start_laws.proofs.Along.{entries_lead}
-use Rattle.start_laws.proofs.Numbers.{ground_names}
+use Rattle.start_laws.proofs.DrivenRows.{side_driven}
 use Rattle.start_laws.proofs.Made.{ends_some}
-use Rattle.start_laws.proofs.Settled.{IsSettled, Settles, asked_settles, leaving_settles, left_settles}
+use Rattle.start_laws.proofs.Settled.{IsSettled, Settles, leaving_settles, left_settles, word_settles}
 
 -- calls of one kind keep what each of them keeps
 pub all_lead : (w : Watched) (fifo : ℕ) (h : List Entry) (P : List Entry → Type 0) (Own : Call → Type 0)
@@ -81,34 +78,22 @@ step_left queue s e met made is =
 
 -- what a stop's events write keeps the receive side settled
 module _ (queue : ℕ) (q : AtPort) (s : State) where
-  asked : (side : Dir) (number word : ℕ) → IsMet queue s → has_bit 25 word ≡ false
-      → IsNumberOf q.port (enable_row side) q.queue number → HasGround queue q s → IsSettled queue s
-      → Settles queue s (after s (event.Write q.port number word))
-  asked Rx number word met none named g is =
-      asked_settles queue s q.port number word met (ground_names queue q s g Rxdctl number refl named) none
-  asked Tx number word met none named g is =
-      leaving_settles queue s (after s (event.Write q.port number word))
-      ((write_rest s q.port number word (place Txdctl queue) 0xFFFFFFFF
-      (ground_names queue q s g Txdctl number refl named) refl refl).receive queue (λ e. cc)) is
-
   pub ending_settles : (e : Event Block) → IsMet queue s → IsEvent e → IsEnding q e → HasGround queue q s
-      → IsSettled queue s → Settles queue s (after s e)
+      → IsSettled Rx queue s → Settles Rx queue s (after s e)
   ending_settles (event.Write port number word) met made (side, same, none, named) g is =
-      subst (λ p. Settles queue s (after s (event.Write p number word))) (sym same)
-      (asked side number word met none named g is)
+      subst (λ p. Settles Rx queue s (after s (event.Write p number word))) (sym same)
+      (word_settles Rx queue q s number word met none g side named is)
   ending_settles (event.Read port number) met made ending g is =
-      leaving_settles queue s (after s (event.Read port number)) ((read_rest s port number).queues.receive queue) is
+      leaving_settles Rx queue s (after s (event.Read port number))
+      (queues_left queue s _ Rx (read_rest s port number).queues) is
   ending_settles (event.Take number) met made ending g is =
-      leaving_settles queue s (after s (event.Take number)) ((memory_rest.take s number).queues.receive queue) is
+      leaving_settles Rx queue s (after s (event.Take number))
+      (queues_left queue s _ Rx (memory_rest.take s number).queues) is
   ending_settles e met made ending g is =
-      left_settles (watching queue s) no_block s e (step_left queue s e met made ending) is
+      left_settles Rx (watching queue s) no_block s e (step_left queue s e met made ending) is
 
 -- what a stop's event writes is a register of the queue
-pub side_plain : (q : AtPort) (side : Dir) → is_driven (enable_row side) ≡ true
-side_plain q Rx = refl
-side_plain q Tx = refl
-
 pub ending_plain : (q : AtPort) (e : Event Block) → IsEnding q e → IsPlain q e
 ending_plain q (event.Write port number word) (side, same, none, named) =
-    (enable_row side, same, side_plain q side, named)
+    (enable_row side, same, side_driven side, named)
 ending_plain q e ending = tt

@@ -2,7 +2,7 @@
 use Rattle.std.proofs.Common.{◌≡◌, ℕ, ◌+◌, ◌<◌, ◌*◌, ◌/◌, ◌%◌, ◌^◌, true, refl, ap, ◌∙◌, arith}
 use Rattle.std.proofs.lemmas.Bool.Decides.{nat_tests}
 use Rattle.nic_device.specs.DmaArena.Memory.{Memory, has_block}
-use Rattle.nic_device.specs.RegisterLaws.Sides.{ReceiveQueue, TransmitQueue}
+use Rattle.receive_laws.specs.LeftLaws.Sides.{Side}
 use Rattle.pmd.specs.PmdSeam.Slots.{wrapped}
 use Rattle.receive_laws.proofs.Starting.{start_agrees}
 use Rattle.start_laws.specs.Moves.{FreshReceiveAgrees, FreshTransmitAgrees}
@@ -23,12 +23,12 @@ fresh_receive_agrees queue s tx rings on wanted port tail ring size sized names 
       low = sized.low;
       named = names;
       side = record {
-        one_buffer = ap (λ (q : ReceiveQueue). q.control / 2 ^ 25 % 2 ^ 3) x.same;
-        buffer_size = ap (λ (q : ReceiveQueue). 1024 * (q.control % 2 ^ 5)) x.same;
-        base = ap (λ (q : ReceiveQueue). q.ring.base) x.same;
-        sized = ap (λ (q : ReceiveQueue). q.ring.length) x.same;
-        head = ap (λ (q : ReceiveQueue). q.ring.head) x.same;
-        tail = ap (λ (q : ReceiveQueue). q.ring.tail) x.same;
+        one_buffer = ap (λ (q : Side). q.control / 2 ^ 25 % 2 ^ 3) x.same;
+        buffer_size = ap (λ (q : Side). 1024 * (q.control % 2 ^ 5)) x.same;
+        base = ap (λ (q : Side). q.ring.base) x.same;
+        sized = ap (λ (q : Side). q.ring.length) x.same;
+        head = ap (λ (q : Side). q.ring.head) x.same;
+        tail = ap (λ (q : Side). q.ring.tail) x.same;
       };
       there = zero_lent s.memory ring (stand.zero ring lent);
     })
@@ -46,13 +46,13 @@ fresh_transmit_agrees queue s rx rings on wanted port tail ring size small sound
           limit = limit;
         };
         set_up = record {
-          base = ap (λ (q : TransmitQueue). q.ring.base) same;
-          length = ap (λ (q : TransmitQueue). q.ring.length) same;
-          head = ap (λ (q : TransmitQueue). q.ring.head) same ∙ first_slot size sized.some;
-          tail = ap (λ (q : TransmitQueue). q.ring.tail) same ∙ first_slot size sized.some;
-          writeback = ap (λ (q : TransmitQueue). q.writeback) same;
+          base = ap (λ (q : Side). q.ring.base) same;
+          length = ap (λ (q : Side). q.ring.length) same;
+          head = ap (λ (q : Side). q.ring.head) same ∙ first_slot size sized.some;
+          tail = ap (λ (q : Side). q.ring.tail) same ∙ first_slot size sized.some;
+          writeback = ap (λ (q : Side). q.writeback) same;
         };
-        staged = stand.staged;
+        staged = ap (λ (q : Side). q.staged) same;
         counted = record {
           room = sized.some;
           fetched_posted = omega arith;

@@ -14,7 +14,7 @@ use Rattle.receive_laws.proofs.DeviceLaws.Standing.{stays_within}
 use Rattle.device_lock.specs.Alone.{Blocks}
 use Rattle.device_lock.specs.declared.alone.Watched.{Watched}
 use Rattle.pmd.specs.PmdSeam.Named.{AtPort, IsNumberOf, is_driven}
-use Rattle.transmit_laws.proofs.LeftSide.{left-setting}
+use Rattle.receive_laws.proofs.LeftLaws.Deeds.{left_did}
 use Rattle.start_laws.specs.Along.{IsKept}
 use Rattle.start_laws.specs.Numbers.{queue_at}
 use Rattle.start_laws.specs.Points.{HasGround}
@@ -33,8 +33,8 @@ ground_same queue q s t mode vfs limit g = record {
 -- events that leave the queue alone
 pub ground_kept : (w : Watched) (mine : Blocks) (q : AtPort) → IsKept w mine (HasGround w.queue q)
 ground_kept w mine q s e x g =
-    let stay = settings_stand s e (left-setting w s x.vfs e x.registers) in
-    ground_same w.queue q s (after s e) stay.mode (stays_within s e).vfs stay.limit g
+    let did = left_did w mine s e x in
+    ground_same w.queue q s (after s e) did.mode did.vfs did.limit g
 
 -- a driver's own events
 module _ (queue : ℕ) (q : AtPort) (s : State) where

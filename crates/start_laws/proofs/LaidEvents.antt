@@ -1,6 +1,5 @@
 -- The events by which a driver lays out an empty transmit ring, and those that leave its queue alone.
-use Rattle.std.proofs.Common.{◌≡◌, ◌≢◌, ℕ, ◌^◌, ◌<◌, false, [], refl, sym, ap, ◌∙◌, subst, List}
-use Rattle.std.specs.Prelude.{slice_index_or}
+use Rattle.std.proofs.Common.{◌≡◌, ◌≢◌, ℕ, ◌^◌, ◌<◌, false, [], refl, sym, ap, ◌∙◌, subst}
 use Rattle.nic_device.specs.DmaArena.Block.{Block}
 use Rattle.nic_device.specs.RegTable.Rows.{row_of}
 use Rattle.nic_device.specs.RegTable.declared.rows.RowId.{RowId}
@@ -12,7 +11,6 @@ use Rattle.nic_device.specs.RegisterFile.Pools.{mode_in}
 use Rattle.nic_device.specs.DmaRing.declared.dir.Dir.TheVariants.{Tx}
 use Rattle.nic_device.specs.RegisterFile.declared.owner.Owner.TheVariants as owner
 use Rattle.nic_device.specs.RegisterLaws.Sides.{TransmitQueue, transmit_queue_of}
-use Rattle.nic_device.proofs.RegisterLaws.Switches.{transmit-asked}
 use Rattle.nic_device.specs.Sound.{IsEvent}
 use Rattle.nic_device.specs.State.{State}
 use Rattle.nic_device.specs.Step.{after, reply_to}
@@ -22,6 +20,9 @@ use Rattle.nic_device.specs.declared.event.Port.{Port}
 use Rattle.receive_laws.proofs.DeviceLaws.StandingAccesses.{write_rest}
 use Rattle.device_lock.specs.Alone.{Blocks, LeavesBlocks, LeavesRegisters}
 use Rattle.device_lock.specs.declared.alone.Watched.{Watched}
+use Rattle.receive_laws.specs.LeftLaws.Sides.{Side}
+use Rattle.receive_laws.proofs.LeftLaws.Asking.{asked}
+use Rattle.receive_laws.proofs.LeftLaws.Sides.{transmit_of}
 use Rattle.pmd.specs.PmdSeam.Named.{AtPort}
 use Rattle.transmit_laws.specs.Sent.{sent_by}
 use Rattle.start_laws.specs.Ending.{IsPlain}
@@ -37,7 +38,6 @@ use Rattle.start_laws.proofs.LaidSides.{IsLaid, asked_laid, laid_idle, word_laid
 use Rattle.start_laws.proofs.Numbers.{ground_names}
 use Rattle.start_laws.proofs.SteadyTransmit.{Holds, idle_kept, idle_sends_none, left_holds}
 use Rattle.start_laws.proofs.TransmitWords.{transmit_words_taken}
-use Rattle.start_laws.proofs.Words.{wrote, wrote_staged}
 
 -- port and queue name the queue, and its transmit side is laid out so far
 pub record LaidTo (queue : ℕ) (q : AtPort) (l : Laid) (s : State) : Type 0 where
@@ -64,17 +64,13 @@ module _ (queue : ℕ) (s : State) (met : IsMet queue s) (l : Laid) (x : Holds (
         staged = taken.staged ∙ x.staged;
       }
 
-  asked : MayAsk l word → NamesRow s port n Txdctl queue → Holds (IsLaid l) queue t
-  asked may names = record {
-    side =
-        subst (IsLaid l)
-        (sym (ap (λ r. transmit_queue_of r queue) (wrote queue s port n word Txdctl names refl)
-        ∙ transmit-asked s.registers met.sound.registers.shape queue met.small 0xFFFFFFFF word))
-        (asked_laid l word side may x.side);
-    staged =
-        ap (λ (xs : List (List ℕ)). slice_index_or xs queue [])
-        (wrote_staged queue s port n word Txdctl names refl) ∙ x.staged;
-  }
+  asks : MayAsk l word → NamesRow s port n Txdctl queue → Holds (IsLaid l) queue t
+  asks may names =
+      let is = asked queue s met.sound met.small port n word Tx names in
+      record {
+        side = subst (IsLaid l) (sym (ap transmit_of is)) (asked_laid l word side may x.side);
+        staged = ap (λ (z : Side). z.staged) is ∙ x.staged;
+      }
 
   beside : (row : RowId) → NamesRow s port n row queue → asks_reset (row_of row).kind word ≡ false
       → asks_pool_reset (row_of row).kind word ≡ false → owner_of (place row queue) ≢ owner.Side Tx queue
@@ -85,7 +81,7 @@ module _ (queue : ℕ) (s : State) (met : IsMet queue s) (l : Laid) (x : Holds (
 
   pub written : (row : RowId) → MayLay row l word → NamesRow s port n row queue
       → Holds (IsLaid (laid_by row l)) queue t
-  written Txdctl may names = asked may names
+  written Txdctl may names = asks may names
   written Rdbal may names = beside Rdbal names refl refl (λ e. cc)
   written Rdbah may names = beside Rdbah names refl refl (λ e. cc)
   written Rdlen may names = beside Rdlen names refl refl (λ e. cc)

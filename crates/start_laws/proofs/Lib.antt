@@ -1,4 +1,5 @@
 pub use Rattle.receive_laws.proofs.HistoryLaws
+pub use Rattle.receive_laws.proofs.LeftLaws
 pub use Rattle.receive_laws.proofs as ReceiveLaws
 pub use Rattle.transmit_laws.proofs as TransmitLaws
 pub mod AccessCalls
@@ -7,6 +8,7 @@ pub mod Accesses
 pub mod AccessesInOrder
 pub mod AllAre
 pub mod Along
+pub mod BothSides
 pub mod DrivenAccesses
 pub mod DrivenRows
 pub mod Ending
@@ -22,7 +24,6 @@ pub mod LaidEvents
 pub mod LaidSides
 pub mod Last
 pub mod Laying
-pub mod LeftZero
 pub mod Lends
 pub mod Lent
 pub mod Made
@@ -30,7 +31,6 @@ pub mod Masks
 pub mod Misses
 pub mod Moves
 pub mod Numbers
-pub mod Off
 pub mod On
 pub mod Parts
 pub mod Points
@@ -39,7 +39,6 @@ pub mod Polls
 pub mod Prepared
 pub mod QueueIn
 pub mod Quiet
-pub mod QuietKept
 pub mod QuietSides
 pub mod QuietStart
 pub mod Quieting
@@ -49,14 +48,11 @@ pub mod Replies
 pub mod Rising
 pub mod SeenOff
 pub mod Settled
-pub mod SettledTransmit
 pub mod Silent
 pub mod Standing
 pub mod Start
 pub mod StaysQuiet
-pub mod SteadyReceive
 pub mod SteadyTransmit
-pub mod StillReceive
 pub mod StopCalls
 pub mod Stopping
 pub mod SwitchedOff

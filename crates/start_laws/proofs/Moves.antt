@@ -1,14 +1,19 @@
 -- A driver's own accesses of sides that stand still.
-use Rattle.std.proofs.Common.{◌≡◌, ℕ, Bool, true, false, refl, sym, ap, ◌∙◌, subst}
+use Rattle.std.proofs.Common.{◌≡◌, ℕ, Bool, true, false, [], refl, sym, ap, ◌∙◌, subst}
 use Rattle.std.specs.FinMap as map
 use Rattle.std.proofs.lemmas.Bool.{both_ways}
 use Rattle.nic_device.specs.DmaArena.Memory.{Memory}
 use Rattle.nic_device.specs.RegTable.declared.rows.RowId.{RowId}
 use Rattle.nic_device.specs.RegTable.declared.rows.RowId.TheVariants.{Rdbal, Rdbah, Rdlen, Rdh, Rdt, Srrctl, Rxdctl, Tdbal, Tdbah, Tdlen, Tdh, Tdt, Tdwbal, Txdctl}
-use Rattle.nic_device.specs.RegisterLaws.Sides.{ReceiveQueue, TransmitQueue, receive_queue_of, transmit_queue_of}
+use Rattle.nic_device.specs.DmaRing.declared.dir.Dir.TheVariants.{Rx, Tx}
+use Rattle.nic_device.specs.RegisterLaws.Sides.{ReceiveQueue, TransmitQueue}
 use Rattle.nic_device.specs.Receive.{is_empty}
+use Rattle.nic_device.specs.Step.{after}
+use Rattle.nic_device.specs.declared.event.Event.TheVariants as event
+use Rattle.receive_laws.specs.LeftLaws.Sides.{Side, receive_side, side_of, transmit_side}
+use Rattle.receive_laws.proofs.LeftLaws.Sides.{receive_left, receive_of, transmit_left, transmit_of}
 use Rattle.start_laws.specs.Moves.{ReceiveWriteStands, TransmitWriteStands}
-use Rattle.start_laws.specs.Standing.{StandsReceive, StandsTransmit}
+use Rattle.start_laws.specs.Standing.{Stands}
 use Rattle.start_laws.specs.Words.{receive_with, transmit_with, FitsReceive, FitsTransmit}
 use Rattle.start_laws.proofs.ReceiveWords.{receive_words_taken}
 use Rattle.start_laws.proofs.TransmitWords.{transmit_words_taken}
@@ -42,32 +47,18 @@ off_where true wanted only none = absurd (both_ways wanted none (only refl))
 off_where false wanted only none = refl
 
 -- a side that is off and as this one says is off there
-receive_off : (q side : ReceiveQueue) → StandsReceive q side → side.wanted ≡ false → q ≡ record side { on = false }
-receive_off q side x none =
-    subst (λ (on : Bool). q ≡ record side { on = on }) (off_where q.on side.wanted x.wanted none) x.same
-
-transmit_off : (q side : TransmitQueue) → StandsTransmit q side → side.wanted ≡ false
-    → q ≡ record side { on = false }
-transmit_off q side x none =
-    subst (λ (on : Bool). q ≡ record side { on = on }) (off_where q.on side.wanted x.wanted none) x.same
+is_off : (x side : Side) → Stands x side → side.wanted ≡ false → x ≡ record side { on = false }
+is_off x side h none =
+    subst (λ (on : Bool). x ≡ record side { on = on }) (off_where x.on side.wanted h.wanted none) h.same
 
 seen_off : (seen on : Bool) → (seen ≡ true → on ≡ true) → on ≡ false → seen ≡ false
 seen_off true on only none = absurd (both_ways on none (only refl))
 seen_off false on only none = refl
 
 -- a side that is off stands
-receive_stands_off : (q side : ReceiveQueue) → q ≡ record side { on = false } → side.on ≡ false
-    → (side.wanted ≡ true → is_empty side.ring ≡ true) → StandsReceive q side
-receive_stands_off q side e none empty = subst (λ (z : ReceiveQueue). StandsReceive z side) (sym e) (record {
-  same = refl;
-  seen = λ on. absurd (both_ways side.on none on);
-  wanted = λ on. cc;
-  empty = empty;
-})
-
-transmit_stands_off : (q side : TransmitQueue) → q ≡ record side { on = false } → side.on ≡ false
-    → (side.wanted ≡ true → is_empty side.ring ≡ true) → StandsTransmit q side
-transmit_stands_off q side e none empty = subst (λ (z : TransmitQueue). StandsTransmit z side) (sym e) (record {
+stands_off : (x side : Side) → x ≡ record side { on = false } → side.on ≡ false
+    → (side.wanted ≡ true → is_empty side.ring ≡ true) → Stands x side
+stands_off x side e none empty = subst (λ (z : Side). Stands z side) (sym e) (record {
   same = refl;
   seen = λ on. absurd (both_ways side.on none on);
   wanted = λ on. cc;
@@ -85,28 +76,31 @@ transmit_on_same row word q fits = ap (λ (z : TransmitQueue). z.on) (transmit_o
 pub receive_write_stands : ReceiveWriteStands
 receive_write_stands queue s rx tx rings port n word row met stand unwanted fits goes names =
     let x = stand.receives in
-    let off = off_where (receive_queue_of s.registers queue).on rx.wanted x.wanted unwanted in
+    let off = off_where (side_of Rx queue s).on rx.wanted x.wanted unwanted in
     let t = receive_words_taken queue s port n word row met.small met.sound off fits names in
     record {
-      receives = receive_stands_off _ _
-          (t.side ∙ ap (receive_with row word) (receive_off _ rx x unwanted) ∙ receive_on_beside row word rx false fits)
+      receives = stands_off _ _
+          (ap receive_side
+          (t.side ∙ ap (λ (z : Side). receive_with row word (receive_of z)) (is_off _ _ x unwanted)
+          ∙ receive_on_beside row word rx false fits))
           (receive_on_same row word rx fits ∙ seen_off rx.on _ x.seen off) goes;
-      transmits = subst (λ (z : TransmitQueue). StandsTransmit z tx) (sym t.other.side) stand.transmits;
-      staged = t.other.staged ∙ stand.staged;
+      transmits = subst (λ (z : Side). Stands z (transmit_side tx [])) (sym (transmit_left queue s (after s (event.Write port n word)) t.other))
+          stand.transmits;
       zero = λ b is. ap (λ (m : Memory). map.get m b) t.ground.memory ∙ stand.zero b is;
     }
 
 pub transmit_write_stands : TransmitWriteStands
 transmit_write_stands queue s rx tx rings port n word row met stand unwanted fits goes names =
     let x = stand.transmits in
-    let off = off_where (transmit_queue_of s.registers queue).on tx.wanted x.wanted unwanted in
+    let off = off_where (side_of Tx queue s).on tx.wanted x.wanted unwanted in
     let t = transmit_words_taken queue s port n word row met.small met.sound off fits names in
+    let side = t.side ∙ ap (λ (z : Side). transmit_with row word (transmit_of z)) (is_off _ _ x unwanted)
+    ∙ transmit_on_beside row word tx false fits in
+    let staged = t.staged ∙ ap (λ (z : Side). z.staged) x.same in
     record {
-      receives = subst (λ (z : ReceiveQueue). StandsReceive z rx) (sym t.other) stand.receives;
-      transmits = transmit_stands_off _ _
-          (t.side ∙ ap (transmit_with row word) (transmit_off _ tx x unwanted)
-          ∙ transmit_on_beside row word tx false fits)
+      receives = subst (λ (z : Side). Stands z (receive_side rx)) (sym (receive_left queue s (after s (event.Write port n word)) t.other))
+          stand.receives;
+      transmits = stands_off _ _ (λ k. transmit_side (side k) (staged k))
           (transmit_on_same row word tx fits ∙ seen_off tx.on _ x.seen off) goes;
-      staged = t.staged ∙ stand.staged;
       zero = λ b is. ap (λ (m : Memory). map.get m b) t.ground.memory ∙ stand.zero b is;
     }

@@ -5,7 +5,6 @@ use Rattle.std.proofs.lemmas.Bool.{eq-eqb, or_left, or_right}
 use Rattle.nic_device.specs.DmaArena.Numbers.{Numbers}
 use Rattle.nic_device.specs.RegTable.declared.rows.RowId.TheVariants.{Rdt, Tdt}
 use Rattle.nic_device.specs.DmaRing.declared.dir.Dir.TheVariants.{Rx, Tx}
-use Rattle.nic_device.specs.RegisterLaws.Sides.{ReceiveQueue, TransmitQueue}
 use Rattle.nic_device.specs.Sound.{IsSound}
 use Rattle.nic_device.specs.State.{State, new_state}
 use Rattle.device_lock.specs.History.{AreEvents}
@@ -14,6 +13,7 @@ use Rattle.device_lock.specs.declared.alone.Watched.{Watched}
 use Rattle.device_lock.specs.declared.entry.Call.{Call}
 use Rattle.device_lock.specs.declared.entry.Entry.{Entry}
 use Rattle.receive_laws.proofs.HistoryLaws.Sound.{histories_sound}
+use Rattle.receive_laws.specs.LeftLaws.Sides.{Side}
 use Rattle.pmd.specs.PmdSeam.Named.{AtPort}
 use Rattle.pmd.specs.PmdSeam.Sides.{ring_words}
 use Rattle.pmd.specs.PmdRx.Receive.{Receive}
@@ -119,12 +119,12 @@ module _ (w : Watched) (fifo : ℕ) (h : List Entry) (q : AtPort) (size : ℕ) (
           received = unused.receive receives;
           receives = record {
             on = receives;
-            wanted = ap (λ (k : ReceiveQueue). k.wanted) x.stand.receives.same;
+            wanted = ap (λ (k : Side). k.wanted) x.stand.receives.same;
           };
           sent = unused.transmit sends;
           sends = record {
             on = sends;
-            wanted = ap (λ (k : TransmitQueue). k.wanted) x.stand.transmits.same;
+            wanted = ap (λ (k : Side). k.wanted) x.stand.transmits.same;
           };
         }
 

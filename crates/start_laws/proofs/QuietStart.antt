@@ -20,10 +20,11 @@ use Rattle.pmd.specs.PmdSeam.QueueMade.{Access, Sees, Sets, AreMade, IsMade, Sto
 use Rattle.pmd.specs.PmdSeam.Named.{AtPort}
 use Rattle.pmd.specs.PmdSeam.Sides.{quiet}
 use Rattle.start_laws.specs.Along.{AtCalls, BeforeLast, IsAlong, IsKept}
+use Rattle.receive_laws.specs.LeftLaws.Sides.{IsOff}
 use Rattle.start_laws.specs.Quieting.{IsQuiet}
 use Rattle.start_laws.proofs.Made.{made_some, some_made}
 use Rattle.start_laws.proofs.AccessLeads.{seen, set}
-use Rattle.start_laws.proofs.QuietKept.{quiet_kept, read_quiet, write_quiet}
+use Rattle.start_laws.proofs.BothSides.{both_read, quiet_kept, write_quiet}
 use Rattle.start_laws.proofs.AllAre.{AllAre, all_before}
 use Rattle.start_laws.proofs.First.{first_seen}
 use Rattle.start_laws.specs.Faultless.{BeforeNext, Never}
@@ -46,7 +47,7 @@ module _ (w : Watched) (q : AtPort) (fifo : ℕ) (h : List Entry) (along : IsAlo
       → AtOff new
   see row on old new made some at =
       seen w q fifo h along Off Off row on off_stays off_stays
-      (λ number word named is s met can told x. read_quiet w.queue q s x q.port number) old new made some at
+      (λ number word named is s met can told x. both_read IsOff IsOff w.queue q s q.port number x) old new made some at
 
   ask : (side : Dir) (word : ℕ) (old new : List Call) → word ≡ 0
       → IsMade q old new (Sets (enable_row side) word) → old ≢ [] → AtOff old → AtOff new
@@ -72,7 +73,7 @@ module _ (w : Watched) (q : AtPort) (fifo : ℕ) (h : List Entry) (along : IsAlo
   first_off : (row : RowId) (on : Bool) (old new : List Call) → IsMade q old new (Sees row on)
       → BeforeNext w fifo h old Off → AtOff new
   first_off row on old new (number, word, named, is, (before, added, steps)) at =
-      first_seen w q fifo h Off along off_stays (λ s number x. read_quiet w.queue q s x q.port number) row on old new
+      first_seen w q fifo h Off along off_stays (λ s number x. both_read IsOff IsOff w.queue q s q.port number x) row on old new
       (number, word, named, is, (before, added, steps))
       (subst (λ (calls : List Call). BeforeLast w fifo h calls Off) (sym added)
       (at before (call_of (event.Read q.port number) (reply.Word word)) steps refl))

@@ -1,5 +1,6 @@
 -- Replies to a driver that starts.
 use Rattle.std.proofs.Common.{◌≡◌, ℕ, inl, inr, refl, ap, ◌∙◌}
+use Rattle.nic_device.specs.DmaRing.declared.dir.Dir.TheVariants.{Rx, Tx}
 use Rattle.nic_device.specs.RegTable.declared.rows.RowId.{RowId}
 use Rattle.nic_device.specs.RegTable.declared.rows.RowId.TheVariants.{Rxdctl, Txdctl}
 use Rattle.nic_device.specs.Access.{named_read, named_written}
@@ -9,7 +10,7 @@ use Rattle.nic_device.specs.declared.event.Event.TheVariants as event
 use Rattle.nic_device.specs.declared.event.Port.{Port}
 use Rattle.nic_device.specs.declared.event.Reply.TheVariants as reply
 use Rattle.start_laws.specs.Words.{NamesRow}
-use Rattle.start_laws.proofs.Accesses.{receive_told, transmit_told}
+use Rattle.receive_laws.proofs.LeftLaws.Asking.{told_on}
 use Rattle.start_laws.proofs.Numbers.{ground_names}
 use Rattle.start_laws.specs.Replies.{NamedRegistersReply, OffSidesAreSeenOff}
 
@@ -32,8 +33,8 @@ named_registers_reply queue q s row number g is named =
 
 pub off_sides_are_seen_off : OffSidesAreSeenOff
 off_sides_are_seen_off queue q s number word quiet (inl named) told =
-    receive_told queue s q.port number word told (ground_names queue q s quiet.ground Rxdctl number refl named)
+    told_on queue s q.port number word told Rx (ground_names queue q s quiet.ground Rxdctl number refl named)
     ∙ quiet.receive.off
 off_sides_are_seen_off queue q s number word quiet (inr named) told =
-    transmit_told queue s q.port number word told (ground_names queue q s quiet.ground Txdctl number refl named)
+    told_on queue s q.port number word told Tx (ground_names queue q s quiet.ground Txdctl number refl named)
     ∙ quiet.transmit.off

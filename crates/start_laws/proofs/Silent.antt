@@ -11,6 +11,7 @@ use Rattle.device_lock.specs.declared.alone.Watched.{Watched}
 use Rattle.device_lock.specs.declared.entry.Call.{Call}
 use Rattle.device_lock.specs.declared.entry.Entry.{Entry}
 use Rattle.pmd.specs.PmdSeam.Named.{AtPort}
+use Rattle.receive_laws.proofs.LeftLaws.Steady.{not_again}
 use Rattle.receive_laws.specs.Delivered.{packets_if_any, pieces_since}
 use Rattle.receive_laws.specs.Pieces.{Piece, packets_of, pieces}
 use Rattle.receive_laws.proofs.Delivering.{since-append}
@@ -25,7 +26,6 @@ use Rattle.start_laws.proofs.Reached.{KeptOver, LeadsOver, reached, reached_next
 use Rattle.start_laws.proofs.Along.{kept_on}
 use Rattle.start_laws.proofs.Ending.{all_lead}
 use Rattle.start_laws.proofs.Parts.{calls_joined, Begins, one_begins, none_behind}
-use Rattle.start_laws.proofs.Settled.{not_again}
 use Rattle.start_laws.proofs.StaysQuiet.{StaysQuiet, left_stays, ending_stays}
 
 none_more : (so_far : Option (List Piece)) → packets_if_any (option_map (λ qs. qs ++ []) so_far) ≡ packets_if_any so_far

@@ -15,10 +15,11 @@ use Rattle.transmit_laws.specs.Sent.{sent_by}
 use Rattle.start_laws.specs.Ending.{IsEnding}
 use Rattle.start_laws.specs.Moves.{IsMet}
 use Rattle.start_laws.specs.Quiet.{no_block}
+use Rattle.receive_laws.specs.LeftLaws.Sides.{IsOff}
 use Rattle.start_laws.specs.Quieting.{IsQuiet}
 use Rattle.start_laws.specs.Standing.{IsLeft}
 use Rattle.start_laws.proofs.Ending.{step_left, watching}
-use Rattle.start_laws.proofs.QuietKept.{read_quiet, take_quiet, write_quiet, quiet_kept}
+use Rattle.start_laws.proofs.BothSides.{both_read, both_take, write_quiet, quiet_kept}
 use Rattle.start_laws.proofs.Quiet.{off_sides_stand}
 use Rattle.start_laws.proofs.Standing.{standing_sides_are_left}
 
@@ -44,8 +45,8 @@ pub ending_stays : (queue : ℕ) (q : AtPort) (s : State) (e : Event Block) → 
 ending_stays queue q s (event.Write port number word) met made own x =
     record { quiet = write_quiet queue q s x port number word met own; received = refl; sent = refl }
 ending_stays queue q s (event.Read port number) met made own x =
-    record { quiet = read_quiet queue q s x port number; received = refl; sent = refl }
+    record { quiet = both_read IsOff IsOff queue q s port number x; received = refl; sent = refl }
 ending_stays queue q s (event.Take number) met made own x =
-    record { quiet = take_quiet queue q s x number; received = refl; sent = refl }
+    record { quiet = both_take IsOff IsOff queue q s number x; received = refl; sent = refl }
 ending_stays queue q s e met made own x =
     left_stays (watching queue s) no_block q s e (step_left queue s e met made own) x

@@ -1,43 +1,24 @@
 -- A transmit side that is off, or whose ring is empty, sends nothing over events that leave it alone.
-use Rattle.std.proofs.Common.{◌≡◌, ℕ, ◌<◌, ◌⊎◌, inl, inr, Bool, true, false, not, ◌||◌, [], refl, sym, ◌∙◌, subst}
-use Rattle.std.proofs.lemmas.Bool.{cases_Bool, eq-eqb, lt-ltb}
-use Rattle.std.proofs.lemmas.List.{get_or-set_same}
+use Rattle.std.proofs.Common.{◌≡◌, ℕ, ◌⊎◌, inl, inr, true, not, [], sym, ap, ◌∙◌, subst}
+use Rattle.std.proofs.lemmas.Bool.{both_ways}
 use Rattle.nic_device.specs.DmaArena.Block.{Block}
-use Rattle.nic_device.specs.RegisterFile.Queue.{switched}
-use Rattle.nic_device.specs.RegisterFile.Registers.{is_wanted}
-use Rattle.nic_device.specs.RegisterFile.Settings.{is_stopped, can_transmit}
 use Rattle.nic_device.specs.DmaRing.declared.dir.Dir.TheVariants.{Tx}
 use Rattle.nic_device.specs.RegisterLaws.Sides.{TransmitQueue, transmit_queue_of}
-use Rattle.nic_device.proofs.RegisterLaws.Switches.{transmit-switched}
-use Rattle.nic_device.specs.Outcome.{Outcome, gives}
 use Rattle.nic_device.specs.Receive.{is_empty}
-use Rattle.nic_device.specs.Sound.{IsSound}
 use Rattle.nic_device.specs.State.{State}
-use Rattle.nic_device.specs.Step.{step_of, after}
-use Rattle.nic_device.specs.Switching.{emptied}
-use Rattle.nic_device.specs.Transmit.{staged_by, is_muted, is_silent}
+use Rattle.nic_device.specs.Step.{after}
+use Rattle.nic_device.specs.Transmit.{staged_by}
 use Rattle.nic_device.specs.declared.event.Event.{Event}
-use Rattle.nic_device.specs.declared.event.Event.TheVariants as event
-use Rattle.nic_device.specs.declared.event.Reply.TheVariants.{Idle}
-use Rattle.nic_device.proofs.Cases.{either_way, switched_cases}
 use Rattle.receive_laws.specs.DeviceLaws.Leaving.{LeavesTransmit}
 use Rattle.device_lock.specs.Alone.{Blocks}
 use Rattle.device_lock.specs.declared.alone.Watched.{Watched}
-use Rattle.transmit_laws.specs.Sent.{frames_added, sent_by}
-use Rattle.transmit_laws.specs.Sparing.{is_transmit_of, is_switch_of}
-use Rattle.transmit_laws.proofs.Frames.{added-none}
-use Rattle.transmit_laws.proofs.LeftSide.{left-side}
-use Rattle.transmit_laws.proofs.Sparing.{transmit_is, switch_is, sent-none}
-use Rattle.start_laws.specs.Standing.{IsLeft}
-
-silent_by : (a b c d e f : Bool) → (d ≡ true) ⊎ (f ≡ true) → (a || b || c || d || e || f) ≡ true
-silent_by true b c d e f is = refl
-silent_by false true c d e f is = refl
-silent_by false false true d e f is = refl
-silent_by false false false true e f is = refl
-silent_by false false false false true f is = refl
-silent_by false false false false false f (inl off) = cc
-silent_by false false false false false f (inr none) = none
+use Rattle.receive_laws.specs.LeftLaws.Left.{Deed, IsLeft, SendsNone}
+use Rattle.receive_laws.specs.LeftLaws.Sides.{Side}
+use Rattle.receive_laws.proofs.LeftLaws.Deeds.{left_did}
+use Rattle.receive_laws.proofs.LeftLaws.Sides.{transmit_of}
+use Rattle.receive_laws.proofs.LeftLaws.Steady as steady
+use Rattle.receive_laws.proofs.LeftLaws.Steady.{idle_silent, idle_steady, none_staged, steady_kept}
+use Rattle.transmit_laws.specs.Sent.{sent_by}
 
 -- what holds of a side only while it is off, or its ring is empty, and still as it becomes what it is wanted to be
 pub record IsIdle (P : TransmitQueue → Type 0) : Type 0 where
@@ -49,63 +30,36 @@ pub record Holds (P : TransmitQueue → Type 0) (queue : ℕ) (s : State) : Type
   pub side : P (transmit_queue_of s.registers queue)
   pub staged : staged_by s queue ≡ []
 
-module _ (P : TransmitQueue → Type 0) (is : IsIdle P) (queue : ℕ) (s : State) (x : Holds P queue s) where
-  abbrev own : TransmitQueue
-  own = transmit_queue_of s.registers queue
+module _ (P : TransmitQueue → Type 0) (is : IsIdle P) where
+  abbrev Still : Side → Type 0
+  Still x = P (transmit_of x) × (x.staged ≡ [])
 
-  -- it sends nothing
-  pub transmit-idle : queue < 128 → step_of s (event.TxStep queue) ≡ gives Idle s
-  unfolding step_of
-  transmit-idle small =
-      let silent : is_silent s queue own ≡ true =
-      silent_by (is_stopped s.registers) (not s.link) (not (can_transmit s.registers)) (not own.on)
-      (is_muted s.registers queue) (is_empty own.ring) (is.idle own x.side) in
-      rw (lt-ltb queue 128 small, silent) refl
+  still_idle : steady.IsIdle Still
+  still_idle = record {
+    idle = λ x p tried. elim (is.idle (transmit_of x) p.0) [
+      | inl off ↦ both_ways (not x.on) (ap not tried.on) off
+      | inr empty ↦ both_ways (is_empty x.ring) tried.some empty
+    ];
+    switches = λ x p. (is.switches (transmit_of x) p.0, none_staged x.wanted x.staged p.1);
+  }
 
-  becomes : (t : State) → transmit_queue_of t.registers queue ≡ record own { on = own.wanted } → staged_by t queue ≡ []
-      → Holds P queue t
-  becomes t e staged = record { side = subst P (sym e) (is.switches own x.side); staged = staged }
+  module _ (queue : ℕ) (s : State) (x : Holds P queue s) where
+    pub left_holds : (t : State) → LeavesTransmit queue s t → Holds P queue t
+    left_holds t left = record { side = subst P (sym left.side) x.side; staged = left.staged ∙ x.staged }
 
-  switch_holds : IsSound s → queue < 128 → Holds P queue (after s (event.QueueStep Tx queue))
-  unfolding step_of
-  switch_holds sound small =
-      let e = transmit-switched s.registers sound.registers.shape queue small in
-      let bare = get_or-set_same s.staged queue [] [] (subst (λ n. queue < n) (sym sound.staged.queues) small) in
-      let on : State = record s { registers = switched s.registers Tx queue } in
-      let off : State = record (emptied s Tx queue) { registers = switched s.registers Tx queue } in
-      switched_cases (λ (o : Outcome). Holds P queue o.state) s Tx queue x x
-      (either_way (Holds P queue) (is_wanted s.registers Tx queue) on off (becomes on e x.staged)
-      (becomes off e bare))
+  -- so it holds on over events that leave the queue alone, and these send nothing there
+  module _ (w : Watched) (mine : Blocks) (s : State) (e : Event Block) (left : IsLeft w mine s e)
+      (x : Holds P w.queue s) where
+    did : Deed Tx w.queue s e
+    did = (left_did w mine s e left).transmit
 
-  pub left_holds : (t : State) → LeavesTransmit queue s t → Holds P queue t
-  left_holds t left = record { side = subst P (sym left.side) x.side; staged = left.staged ∙ x.staged }
+    pub idle_kept : Holds P w.queue (after s e)
+    idle_kept =
+        let p = steady_kept Tx w.queue s e Still (x.side, x.staged) (idle_steady Still still_idle) did in
+        record { side = p.0; staged = p.1 }
 
-  own_none : queue < 128 → sent_by queue s (event.TxStep queue) ≡ []
-  own_none small =
-      rw (eq-eqb queue queue refl)
-      (subst (λ (o : Outcome). frames_added s.out o.state.out ≡ []) (sym (transmit-idle small)) (added-none s.out))
+    pub idle_sends : SendsNone w.queue s e
+    idle_sends = idle_silent Tx w.queue s e Still (x.side, x.staged) still_idle did
 
--- so it holds on over events that leave the queue alone, and these send nothing there
-module _ (P : TransmitQueue → Type 0) (is : IsIdle P) (w : Watched) (mine : Blocks) (s : State) (e : Event Block)
-    (left : IsLeft w mine s e) (x : Holds P w.queue s) where
-  pub idle_kept : Holds P w.queue (after s e)
-  idle_kept = elim (cases_Bool (is_transmit_of w.queue e)) [
-    | inl own ↦
-        subst (λ (n : Event Block). Holds P w.queue (after s n)) (sym (transmit_is w.queue e own))
-        (subst (λ (o : Outcome). Holds P w.queue o.state) (sym (transmit-idle P is w.queue s x left.small)) x)
-    | inr other ↦ elim (cases_Bool (is_switch_of w.queue e)) [
-      | inl own ↦
-          subst (λ (n : Event Block). Holds P w.queue (after s n)) (sym (switch_is w.queue e own))
-          (switch_holds P is w.queue s x left.sound left.small)
-      | inr apart ↦
-          left_holds P is w.queue s x (after s e) (left-side w s left.vfs e left.registers other apart)
-    ]
-  ]
-
-  pub idle_sends_none : sent_by w.queue s e ≡ []
-  idle_sends_none = elim (cases_Bool (is_transmit_of w.queue e)) [
-    | inl own ↦
-        subst (λ (n : Event Block). sent_by w.queue s n ≡ []) (sym (transmit_is w.queue e own))
-        (own_none P is w.queue s x left.small)
-    | inr other ↦ sent-none w.queue s e other
-  ]
+    pub idle_sends_none : sent_by w.queue s e ≡ []
+    idle_sends_none = idle_sends.sent

@@ -1,11 +1,9 @@
 -- A word that is written to a register of a side that is off is the side's.
-use Rattle.std.proofs.Common.{◌≡◌, ℕ, false, sym, ap, ◌∙◌}
-use Rattle.nic_device.specs.RegTable.declared.place.Place.{Place}
+use Rattle.std.proofs.Common.{◌≡◌, ℕ, false, ap, ◌∙◌}
 use Rattle.nic_device.specs.RegTable.declared.rows.RowId.{RowId}
 use Rattle.nic_device.specs.RegisterFile.Columns.{place}
 use Rattle.nic_device.specs.RegisterLaws.Laws.{after_write}
 use Rattle.nic_device.specs.Access.{named_written}
-use Rattle.nic_device.specs.Named.{named}
 use Rattle.nic_device.specs.Outcome.{Outcome, gives}
 use Rattle.nic_device.specs.State.{State}
 use Rattle.nic_device.specs.Step.{step_of, after}
@@ -18,7 +16,7 @@ use Rattle.receive_laws.proofs.DeviceLaws.KeptSettings.{settings_stand}
 use Rattle.receive_laws.proofs.DeviceLaws.Standing.{stays_within}
 use Rattle.receive_laws.proofs.DeviceLaws.StandingAccesses.{write_memory}
 use Rattle.device_lock.specs.Alone.{is_setting}
-use Rattle.receive_laws.proofs.HistoryLaws.Sparing.{no_setting}
+use Rattle.receive_laws.proofs.LeftLaws.Naming.{plain-write}
 use Rattle.start_laws.specs.Words.{NamesRow, KeepsGround}
 
 module _ (queue : ℕ) (s : State) (port : Port) (n word : ℕ) (row : RowId) (names : NamesRow s port n row queue) where
@@ -26,22 +24,8 @@ module _ (queue : ℕ) (s : State) (port : Port) (n word : ℕ) (row : RowId) (n
   t = after s (event.Write port n word)
 
   -- the register is no setting
-  same_place : (p : Place) (view : ℕ) → named s port n ≡ Register p view → p ≡ place row queue
-  same_place p view there =
-      let same : Register (place row queue) 0xFFFFFFFF ≡ Register p view = sym names ∙ there in
-      let both : place row queue ≡ p = cc in
-      sym both
-
   pub settings : is_setting row ≡ false → WritesNoSetting s (event.Write port n word)
-  settings plain p view there =
-      let own = no_setting row plain in
-      let e = ap (λ (q : Place). q.row) (same_place p view there) in
-      record {
-        control = λ x. own.0 (sym e ∙ x);
-        jumbo = λ x. own.1 (sym e ∙ x);
-        limit = λ x. own.2 (sym e ∙ x);
-        mode = λ x. own.3 (sym e ∙ x);
-      }
+  settings plain = plain-write s port n word (place row queue) 0xFFFFFFFF names plain
 
   pub ground : is_setting row ≡ false → KeepsGround s t
   ground plain =

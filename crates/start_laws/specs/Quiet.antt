@@ -3,8 +3,6 @@ use Rattle.std.specs.Prelude.{ℕ, ◌≡◌, false, IsFalse}
 use Rattle.nic_device.specs.DmaArena.Block.{Block}
 use Rattle.nic_device.specs.RegTable.declared.rows.RowId.TheVariants.{Rxdctl}
 use Rattle.nic_device.specs.RegisterFile.Bits.{has_bit}
-use Rattle.nic_device.specs.RegisterFile.Queue.{is_on}
-use Rattle.nic_device.specs.RegisterFile.Registers.{is_wanted}
 use Rattle.nic_device.specs.DmaRing.declared.dir.Dir.TheVariants.{Rx}
 use Rattle.nic_device.specs.RegisterLaws.Sides.{receive_queue_of, transmit_queue_of}
 use Rattle.nic_device.specs.Sound.{IsSound}
@@ -16,6 +14,8 @@ use Rattle.nic_device.specs.declared.event.Port.{Port}
 use Rattle.nic_device.specs.declared.event.Reply.TheVariants as reply
 use Rattle.device_lock.specs.Alone.{Blocks}
 use Rattle.device_lock.specs.declared.alone.Watched.{Watched}
+use Rattle.receive_laws.specs.LeftLaws.Sides as sides
+use Rattle.receive_laws.specs.LeftLaws.Sides.{side_of}
 use Rattle.transmit_laws.specs.Off as transmit
 use Rattle.start_laws.specs.Moves.{IsMet}
 use Rattle.start_laws.specs.Standing.{IsLeft, Stand}
@@ -23,11 +23,10 @@ use Rattle.start_laws.specs.Words.{NamesRow}
 
 -- the receive side isn't wanted on, and it is off besides
 abbrev pub IsUnwanted : ℕ → State → Type 0
-IsUnwanted queue s = IsFalse (is_wanted s.registers Rx queue)
+IsUnwanted queue s = sides.IsUnwanted (side_of Rx queue s)
 
-pub record IsOff (queue : ℕ) (s : State) : Type 0 where
-  pub off : IsFalse (is_on s.registers Rx queue)
-  pub unwanted : IsUnwanted queue s
+abbrev pub IsOff : ℕ → State → Type 0
+IsOff queue s = sides.IsOff (side_of Rx queue s)
 
 -- after a write of the enable word without bit 25 the side isn't wanted on, on or off, and it stays so over every event
 -- that leaves the queue alone; a read that tells bit 25 as 0 then finds it off

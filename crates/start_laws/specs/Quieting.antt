@@ -1,5 +1,6 @@
 -- A driver that starts sees both sides of its queue off, over a history that leaves the queue alone.
 use Rattle.std.specs.Prelude.{ℕ, Bool, not, ◌&&◌, IsTrue, List}
+use Rattle.nic_device.specs.DmaRing.declared.dir.Dir.TheVariants.{Rx, Tx}
 use Rattle.nic_device.specs.State.{State}
 use Rattle.device_lock.specs.Alone.{lent_by}
 use Rattle.device_lock.specs.declared.alone.Watched.{Watched}
@@ -8,16 +9,19 @@ use Rattle.device_lock.specs.declared.entry.Entry.{Entry}
 use Rattle.pmd.specs.PmdSeam.Both.{both_quiet}
 use Rattle.pmd.specs.PmdSeam.QueueMade.{AreMade}
 use Rattle.pmd.specs.PmdSeam.Named.{AtPort}
-use Rattle.transmit_laws.specs.Off as transmit
+use Rattle.receive_laws.specs.LeftLaws.Sides.{IsOff, Side, side_of}
 use Rattle.start_laws.specs.Along.{AtCalls, BeforeLast, IsAlong}
 use Rattle.start_laws.specs.Points.{HasGround, Point, Sides}
-use Rattle.start_laws.specs.Quiet.{IsOff}
+
+-- port and queue name the queue, and of each of its sides something holds
+pub record Both (P Q : Side → Type 0) (queue : ℕ) (q : AtPort) (s : State) : Type 0 where
+  pub ground : HasGround queue q s
+  pub receive : P (side_of Rx queue s)
+  pub transmit : Q (side_of Tx queue s)
 
 -- both sides are off and not wanted on
-pub record IsQuiet (queue : ℕ) (q : AtPort) (s : State) : Type 0 where
-  pub ground : HasGround queue q s
-  pub receive : IsOff queue s
-  pub transmit : transmit.IsOff queue s
+abbrev pub IsQuiet : ℕ → AtPort → State → Type 0
+IsQuiet queue q s = Both IsOff IsOff queue q s
 
 -- so it is wherever the pass has made the accesses that see them off, where the driver's port and queue name this queue
 -- just before the first of these

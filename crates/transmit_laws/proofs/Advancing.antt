@@ -7,7 +7,6 @@ use Rattle.nic_device.specs.RegisterLaws.Laws.{after_write}
 use Rattle.nic_device.specs.RegisterFile.Queue.{ring_of}
 use Rattle.nic_device.specs.RegisterLaws.Sides.{TransmitQueue, transmit_queue_of}
 use Rattle.nic_device.specs.DmaRing.declared.dir.Dir.TheVariants.{Tx}
-use Rattle.nic_device.specs.Named.{named}
 use Rattle.nic_device.specs.Outcome.{Outcome, gives}
 use Rattle.nic_device.specs.Sound.{IsEvent}
 use Rattle.nic_device.specs.State.{State}
@@ -16,13 +15,14 @@ use Rattle.nic_device.specs.Access.{named_written}
 use Rattle.nic_device.specs.declared.event.Event.TheVariants as event
 use Rattle.nic_device.specs.declared.event.Port.{Port}
 use Rattle.nic_device.specs.declared.event.Reply.TheVariants as reply
-use Rattle.history_laws.specs.DeviceLaws.Laws.{WritesNoSetting}
+use Rattle.left_laws.specs.DeviceLaws.Laws.{WritesNoSetting}
+use Rattle.left_laws.proofs.Naming.{plain-write}
+use Rattle.left_laws.proofs.Tails.{transmit-tail}
 use Rattle.pmd_tx.specs.Sending.{Sender, Move, Advances, IsOwn, packet_at, slot_at, descriptor_at, moved, advanced}
 use Rattle.transmit_laws.specs.Agreeing.{IsBased, IsPosted, AgreesAt, Agrees}
 use Rattle.transmit_laws.specs.Up.{IsUp}
-use Rattle.transmit_laws.proofs.Basing.{based-after, plain-write}
+use Rattle.transmit_laws.proofs.Basing.{based-after}
 use Rattle.transmit_laws.proofs.Slots.{slot-below}
-use Rattle.transmit_laws.proofs.Tails.{tail-written}
 
 module _ (s : State) (queue : ℕ) (sent : List (List ℕ)) (v : Sender) (f : ℕ) (h : AgreesAt s queue sent v f) where
   abbrev Made : Move → Outcome → Type 0
@@ -59,7 +59,7 @@ module _ (s : State) (queue : ℕ) (sent : List (List ℕ)) (v : Sender) (f : �
       let more = (h.shows.next e).0 in
       let below = slot-below v.layout h.based.layout (v.posted + 1) (omega (arith, more, h.counted.room)) in
       let few = h.based.layout.few in
-      tail-written s.registers h.based.sound.registers.shape queue slot h.based.small (omega arith)
+      transmit-tail s.registers queue slot h.based.sound.registers.shape h.based.small (omega arith)
 
   tail_keeps : v.poked ≡ true → IsBased t queue v.layout → AgreesAt t queue sent (advanced v) f
   tail_keeps e based =

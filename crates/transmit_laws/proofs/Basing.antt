@@ -1,48 +1,18 @@
 -- What an event keeps that writes no setting.
-use Rattle.std.proofs.Common.{◌≡◌, ℕ, false, List, refl, sym, ap, ◌∙◌}
+use Rattle.std.proofs.Common.{ℕ, List, ◌∙◌}
 use Rattle.nic_device.specs.DmaArena.Block.{Block}
-use Rattle.nic_device.specs.RegTable.declared.place.Place.{Place}
-use Rattle.nic_device.specs.VfMap.Map.{located}
-use Rattle.nic_device.specs.RegisterFile.Pools.{mode_in}
-use Rattle.nic_device.specs.Named.{named, at_location}
 use Rattle.nic_device.specs.Outcome.{Outcome}
 use Rattle.nic_device.specs.Sound.{IsEvent}
 use Rattle.nic_device.specs.State.{State}
 use Rattle.nic_device.specs.Step.{after}
 use Rattle.nic_device.specs.declared.event.Event.{Event}
-use Rattle.nic_device.specs.declared.event.Event.TheVariants as event
-use Rattle.nic_device.specs.declared.event.Port.{Port}
-use Rattle.nic_device.specs.declared.event.Port.TheVariants.{Pf, Vf}
-use Rattle.nic_device.specs.declared.named.Named.TheVariants.{Register}
 use Rattle.nic_device.proofs.Steps.{keeps_sound}
-use Rattle.device_lock.specs.Alone.{is_setting}
-use Rattle.history_laws.specs.DeviceLaws.Laws.{WritesNoSetting}
-use Rattle.history_laws.proofs.DeviceLaws.KeptSettings.{settings_stand}
-use Rattle.history_laws.proofs.DeviceLaws.Standing.{stays_within}
-use Rattle.history_laws.proofs.Sparing.{no_setting}
+use Rattle.left_laws.specs.DeviceLaws.Laws.{WritesNoSetting}
+use Rattle.left_laws.proofs.DeviceLaws.KeptSettings.{settings_stand}
+use Rattle.left_laws.proofs.DeviceLaws.Standing.{stays_within}
+use Rattle.left_laws.proofs.Naming.{named-same}
 use Rattle.pmd_tx.specs.Sending.{Layout, Sender, Move, moved}
 use Rattle.transmit_laws.specs.Agreeing.{IsBased, Agrees}
-
--- a number names the same, as long as the queues are parted alike
-pub named-same : (s t : State) → mode_in t.registers ≡ mode_in s.registers → t.vfs ≡ s.vfs → (port : Port) (n : ℕ)
-    → named t port n ≡ named s port n
-named-same s t mode vfs Pf n = refl
-named-same s t mode vfs (Vf v) n = λ k. at_location (located (mode k) (vfs k) v n)
-
--- a write of a register that is no setting
-pub plain-write : (s : State) (port : Port) (n word : ℕ) (q : Place) (view : ℕ) → named s port n ≡ Register q view
-    → is_setting q.row ≡ false → WritesNoSetting s (event.Write port n word)
-plain-write s port n word q view names plain p seen there =
-    let same : Register q view ≡ Register p seen = sym names ∙ there in
-    let both : q ≡ p = cc in
-    let own = no_setting q.row plain in
-    let e = ap (λ (x : Place). x.row) both in
-    record {
-      control = λ x. own.0 (e ∙ x);
-      jumbo = λ x. own.1 (e ∙ x);
-      limit = λ x. own.2 (e ∙ x);
-      mode = λ x. own.3 (e ∙ x);
-    }
 
 pub based-after : (s : State) (queue : ℕ) (l : Layout) (e : Event Block) → IsBased s queue l → IsEvent e
     → WritesNoSetting s e → IsBased (after s e) queue l

@@ -1,8 +1,8 @@
 -- A step of transmitting that sends a packet, and the frames that it adds.
-use Rattle.std.proofs.Common.{◌≡◌, ℕ, ◌<◌, Bool, true, false, ◌||◌, List, [], ◌∷◌, ◌++◌, length, map, refl, ap, arith, Some}
+use Rattle.std.proofs.Common.{◌≡◌, ℕ, ◌<◌, Bool, true, false, ◌||◌, List, [], ◌∷◌, ◌++◌, length, map, refl, ap, Some}
 use Rattle.std.specs.Prelude.{slice_set}
 use Rattle.std.proofs.lemmas.Bool.{lt-ltb}
-use Rattle.std.proofs.lemmas.List.{drop_at, drop_all}
+use Rattle.std.proofs.lemmas.List.{drop_at}
 use Rattle.nic_device.specs.DmaArena.Memory.{write_at}
 use Rattle.nic_device.specs.DmaRing.declared.ring.Ring.{Ring}
 use Rattle.nic_device.specs.TxRing.Report.{head_address, done_descriptor}
@@ -45,9 +45,6 @@ pub added-one : (out : List (ℕ × List ℕ)) (queue : ℕ) (bytes : List ℕ)
     → frames_added out (out ++ (queue, bytes) ∷ []) ≡ bytes ∷ []
 added-one out queue bytes =
     ap (map (λ (f : ℕ × List ℕ). f.1)) (drop_at out ((queue, bytes) ∷ []) (length out) refl)
-
-pub added-none : (out : List (ℕ × List ℕ)) → frames_added out out ≡ []
-added-none out = ap (map (λ (f : ℕ × List ℕ). f.1)) (drop_all (length out) out (omega arith))
 
 pub last_false : (a b c d e f : Bool) → (a || b || c || d || e || f) ≡ false → f ≡ false
 last_false false false false false false f h = h

@@ -12,8 +12,8 @@ use Rattle.nic_device.specs.declared.event.Event.TheVariants as event
 use Rattle.nic_device.specs.declared.event.Reply.{Reply}
 use Rattle.nic_device.specs.declared.event.Reply.TheVariants as reply
 use Rattle.nic_device.proofs.Cases.{lent_cases}
-use Rattle.history_laws.specs.Lent.{OnlyLent, LendsNone, LendsOwn, either, with_lent, without}
-use Rattle.history_laws.proofs.Lent.{only_lent_stays}
+use Rattle.left_laws.specs.HistoryLaws.Lent.{OnlyLent, LendsNone, LendsOwn, either, with_lent, without}
+use Rattle.left_laws.proofs.HistoryLaws.Lent.{only_lent_stays}
 use Rattle.pmd_tx.specs.Sending.{Outgoing, Sender, Move, Accepts, Asks, Advances, Looks, Reaps, Elsewhere, IsOwn, packet_at, has_lent, moved, accepted_by, reaped}
 use Rattle.transmit_laws.specs.Healthy.{AcceptsAnew}
 use Rattle.transmit_laws.specs.Lent.{SparesNumbers, OwnLendsAreKnown}

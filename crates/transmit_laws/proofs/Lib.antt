@@ -14,13 +14,11 @@ pub mod Guard
 pub mod HasLent
 pub mod Healthy
 pub mod LeftBlocks
-pub mod LeftSide
 pub mod Lent
 pub mod Looking
 pub mod Mine
 pub mod Moving
 pub mod Off
-pub mod OffSteps
 pub mod Playing
 pub mod Reaping
 pub mod Runs
@@ -28,7 +26,6 @@ pub mod Sending
 pub mod Slots
 pub mod Sparing
 pub mod Stepping
-pub mod Tails
 pub mod Taken
 pub mod Told
 pub mod Up

@@ -3,29 +3,35 @@ use Rattle.std.proofs.Common.{◌≡◌, ℕ, ◌+◌, ◌<◌, inl, inr, true, 
 use Rattle.std.specs.Prelude.{◌==◌, if◌then◌else◌}
 use Rattle.std.proofs.lemmas.Bool.{eq-eqb, lt-ltb, cases_Bool}
 use Rattle.std.proofs.lemmas.List.{append-nil, drop_more, get_or-set_same}
+use Rattle.nic_device.specs.DmaArena.Block.{Block}
+use Rattle.nic_device.specs.DmaRing.declared.dir.Dir.TheVariants.{Tx}
+use Rattle.nic_device.specs.TxRing.Fetch.{fetch_of, Outcome as Fetch}
 use Rattle.nic_device.specs.TxRing.Report.{head_address, new_head}
 use Rattle.nic_device.specs.RegisterFile.Settings.{is_stopped, can_transmit}
 use Rattle.nic_device.specs.RegisterLaws.Sides.{TransmitQueue, transmit_queue_of}
 use Rattle.nic_device.specs.Outcome.{Outcome, gives}
 use Rattle.nic_device.specs.Receive.{is_empty}
 use Rattle.nic_device.specs.State.{State}
-use Rattle.nic_device.specs.Step.{step_of, after}
-use Rattle.nic_device.specs.Transmit.{staged_by, is_muted, is_silent}
+use Rattle.nic_device.specs.Step.{step_of}
+use Rattle.nic_device.specs.Transmit.{sending_of, staged_by, is_muted, is_silent}
+use Rattle.nic_device.specs.declared.event.Event.{Event}
 use Rattle.nic_device.specs.declared.event.Event.TheVariants as event
 use Rattle.nic_device.specs.declared.event.Reply.TheVariants.{Sent, Idle}
-use Rattle.history_laws.specs.DeviceLaws.Replies.{sent_tells}
-use Rattle.history_laws.proofs.DeviceLaws.RepliesSent.{transmitting_tells}
+use Rattle.left_laws.specs.DeviceLaws.Replies.{sent_tells}
+use Rattle.left_laws.proofs.DeviceLaws.RepliesSent.{transmitting_tells}
 use Rattle.pmd_tx.specs.Sending.{Outgoing, Sender, no_packet, packet_at, slot_at}
 use Rattle.transmit_laws.specs.Agreeing.{IsBased, IsSetUp, IsCounted, AgreesAt, Agrees, bytes_of, kept_in}
 use Rattle.transmit_laws.specs.Sent.{frames_added}
-use Rattle.transmit_laws.specs.Up.{IsUp}
 use Rattle.transmit_laws.proofs.Basing.{based-after}
 use Rattle.transmit_laws.proofs.Slots.{slot-next}
 use Rattle.nic_device.specs.Sound.{IsEvent}
 use Rattle.transmit_laws.specs.Laws.{StepsOfQueueKeep}
 use Rattle.transmit_laws.proofs.Stepping.{slots, head_is, more, known, small, to_send}
 use Rattle.transmit_laws.proofs.Done.{shows-sent}
-use Rattle.transmit_laws.proofs.Frames.{sent_state, step-sends, added-one, added-none, last_false}
+use Rattle.transmit_laws.proofs.Fetching.{fetch-packet}
+use Rattle.left_laws.specs.Left.{Shuts}
+use Rattle.left_laws.proofs.Fetching.{added-none}
+use Rattle.transmit_laws.proofs.Frames.{sent_state, step-sends, added-one, last_false}
 
 module _ (s : State) (queue : ℕ) (sent : List (List ℕ)) (v : Sender) (f : ℕ) (h : AgreesAt s queue sent v f) where
   abbrev side : TransmitQueue
@@ -122,18 +128,15 @@ module _ (s : State) (queue : ℕ) (sent : List (List ℕ)) (v : Sender) (f : �
             (rw (own, added-one s.out queue p.kept.bytes) (f + 1, agrees_now loud posted))
       ]
 
-  -- and where the side is up it stays so
-  pub transmit-stays-up : IsUp queue s → IsUp queue (after s (event.TxStep queue))
-  transmit-stays-up up = elim (cases_Bool (is_silent s queue side)) [
-    | inl silent ↦ subst (λ (o : Outcome). IsUp queue o.state) (sym (idle silent)) up
-    | inr loud ↦
-        let posted = more s queue sent v f h (full_of loud) in
-        let same = (told loud posted).side in
-        subst (λ (o : Outcome). IsUp queue o.state) (sym (sends loud posted)) (record {
-          on = ap (λ (x : TransmitQueue). x.on) same ∙ up.on;
-          wanted = ap (λ (x : TransmitQueue). x.wanted) same ∙ up.wanted;
-        })
-  ]
+  -- a slot that is fetched meets no fault
+  pub never-shuts : (e : Event Block) → Shuts Tx queue s e → ⊥
+  never-shuts e x =
+      let posted = more s queue sent v f h x.tried.some in
+      let sent_it = fetch-packet s.memory side.ring (sending_of s.registers side) p (to_send s queue sent v f h posted) in
+      let fine = ap (λ (bytes : List ℕ). (fetch_of s.memory bytes side.ring (sending_of s.registers side)).answer) h.staged
+      ∙ ap (λ (o : Fetch). o.answer) sent_it in
+      let clash = sym fine ∙ x.fault.answer in
+      cc
 
 pub step_of_queue_keeps : StepsOfQueueKeep
 step_of_queue_keeps s queue sent v (f, h) = transmit-keeps s queue sent v f h

@@ -4,8 +4,6 @@ use Rattle.nic_device.specs.DmaArena.Block.{Block}
 use Rattle.nic_device.specs.RegTable.declared.rows.RowId.TheVariants.{Txdctl}
 use Rattle.nic_device.specs.RegisterFile.Bits.{has_bit}
 use Rattle.nic_device.specs.RegisterFile.Columns.{place}
-use Rattle.nic_device.specs.RegisterFile.Queue.{is_on}
-use Rattle.nic_device.specs.RegisterFile.Registers.{is_wanted}
 use Rattle.nic_device.specs.DmaRing.declared.dir.Dir.TheVariants.{Tx}
 use Rattle.nic_device.specs.Named.{named}
 use Rattle.nic_device.specs.Sound.{IsEvent, IsSound}
@@ -18,17 +16,18 @@ use Rattle.nic_device.specs.declared.event.Reply.TheVariants as reply
 use Rattle.nic_device.specs.declared.named.Named.TheVariants.{Register}
 use Rattle.device_lock.specs.History.{leads_to}
 use Rattle.device_lock.specs.declared.entry.Entry.{Entry}
-use Rattle.history_laws.specs.DeviceLaws.Leaving.{LeavesTransmit}
+use Rattle.left_laws.specs.DeviceLaws.Leaving.{LeavesTransmit}
+use Rattle.left_laws.specs.Sides as sides
+use Rattle.left_laws.specs.Sides.{side_of}
 use Rattle.transmit_laws.specs.Sent.{sent_in}
 use Rattle.transmit_laws.specs.Sparing.{is_transmit_of, is_switch_of}
 
 -- the side isn't wanted on, and it is off besides
 abbrev pub IsUnwanted : ℕ → State → Type 0
-IsUnwanted queue s = IsFalse (is_wanted s.registers Tx queue)
+IsUnwanted queue s = sides.IsUnwanted (side_of Tx queue s)
 
-pub record IsOff (queue : ℕ) (s : State) : Type 0 where
-  pub off : IsFalse (is_on s.registers Tx queue)
-  pub unwanted : IsUnwanted queue s
+abbrev pub IsOff : ℕ → State → Type 0
+IsOff queue s = sides.IsOff (side_of Tx queue s)
 
 -- an event of a sound device is a step of the side's own, or leaves it
 pub record LeavesSide (queue : ℕ) (s : State) (e : Event Block) : Type 0 where

@@ -1,5 +1,5 @@
 -- The frames that a queue sends, counted since its transmit side last went on.
-use Rattle.std.specs.Prelude.{ℕ, ◌==◌, Bool, not, ◌&&◌, List, [], ◌∷◌, ◌++◌, length, drop, map, if◌then◌else◌}
+use Rattle.std.specs.Prelude.{ℕ, Bool, not, ◌&&◌, List, [], ◌∷◌, ◌++◌, if◌then◌else◌}
 use Rattle.nic_device.specs.DmaArena.Block.{Block}
 use Rattle.device_lock.specs.declared.entry.Entry.{Entry}
 use Rattle.nic_device.specs.RegisterFile.Queue.{is_on}
@@ -7,16 +7,7 @@ use Rattle.nic_device.specs.DmaRing.declared.dir.Dir.TheVariants.{Tx}
 use Rattle.nic_device.specs.State.{State}
 use Rattle.nic_device.specs.Step.{after}
 use Rattle.nic_device.specs.declared.event.Event.{Event}
-use Rattle.nic_device.specs.declared.event.Event.TheVariants as event
-
--- the frames that joined those out, behind them
-abbrev pub frames_added : List (ℕ × List ℕ) → List (ℕ × List ℕ) → List (List ℕ)
-frames_added old new = map (λ (f : ℕ × List ℕ). f.1) (drop (length old) new)
-
--- the frames that one event sends on a queue: only a step of that queue sends any, and at most one
-abbrev pub sent_by : ℕ → State → Event Block → List (List ℕ)
-sent_by queue s (event.TxStep on) = if on == queue then frames_added s.out (after s (event.TxStep on)).out else []
-sent_by queue s other = []
+pub use Rattle.left_laws.specs.Segments.{frames_added, sent_by}
 
 -- the frames that the entries of a history send on a queue, from a state on
 abbrev pub sent_in : ℕ → State → List Entry → List (List ℕ)

@@ -1,5 +1,5 @@
 -- What it is for an event to spare a driver that sends: to leave what the driver rests on as it is.
-use Rattle.std.specs.Prelude.{ℕ, ◌≡◌, ◌<◌, ◌==◌, Bool, false, ⊤, IsTrue, IsFalse}
+use Rattle.std.specs.Prelude.{ℕ, ◌≡◌, ◌<◌, Bool, ⊤, IsTrue, IsFalse}
 use Rattle.nic_device.specs.DmaArena.Block.{Block}
 use Rattle.nic_device.specs.DmaArena.Memory.{Avoids}
 use Rattle.nic_device.specs.RegisterFile.Pools.{mode_in}
@@ -13,18 +13,18 @@ use Rattle.nic_device.specs.declared.event.Reply.{Reply}
 use Rattle.nic_device.specs.declared.event.Reply.TheVariants.{Wrote}
 use Rattle.device_lock.specs.Alone.{Blocks, LeavesRegisters, LeavesBlocks, WritesOutside}
 use Rattle.device_lock.specs.declared.alone.Watched.{Watched}
-use Rattle.history_laws.specs.DeviceLaws.Laws.{WritesNoSetting}
-use Rattle.history_laws.specs.DeviceLaws.Leaving.{LeavesTransmit, LeavesBlock}
+use Rattle.left_laws.specs.DeviceLaws.Laws.{WritesNoSetting}
+use Rattle.left_laws.specs.DeviceLaws.Leaving.{LeavesTransmit, LeavesBlock}
+use Rattle.left_laws.specs.Left as left
+use Rattle.left_laws.specs.Left.{is_step_of}
 use Rattle.pmd_tx.specs.Sending.{Sender, has_lent}
 
 -- whether an event is a step of transmitting of this queue, and whether it is one of its transmit side's enable
 abbrev pub is_transmit_of : ℕ → Event Block → Bool
-is_transmit_of queue (event.TxStep on) = on == queue
-is_transmit_of queue other = false
+is_transmit_of queue e = is_step_of Tx queue e
 
 abbrev pub is_switch_of : ℕ → Event Block → Bool
-is_switch_of queue (event.QueueStep Tx on) = on == queue
-is_switch_of queue other = false
+is_switch_of queue e = left.is_switch_of Tx queue e
 
 -- an event that can be made writes no setting. It is a step of transmitting of the driver's queue; or it leaves each
 -- block that the driver has lent, and the transmit side, unless it is a step of that side's enable

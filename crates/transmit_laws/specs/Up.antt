@@ -1,19 +1,18 @@
 -- A queue whose transmit side is on, and wanted on.
-use Rattle.std.specs.Prelude.{ℕ, IsTrue, List}
+use Rattle.std.specs.Prelude.{ℕ, List}
 use Rattle.nic_device.specs.DmaArena.Block.{Block}
-use Rattle.nic_device.specs.RegisterFile.Queue.{is_on}
-use Rattle.nic_device.specs.RegisterFile.Registers.{is_wanted}
 use Rattle.nic_device.specs.DmaRing.declared.dir.Dir.TheVariants.{Tx}
 use Rattle.nic_device.specs.State.{State}
 use Rattle.nic_device.specs.Step.{after}
 use Rattle.nic_device.specs.declared.event.Event.{Event}
+use Rattle.left_laws.specs.Sides as sides
+use Rattle.left_laws.specs.Sides.{side_of}
 use Rattle.pmd_tx.specs.Sending.{Sender, Move}
 use Rattle.transmit_laws.specs.Agreeing.{Agrees}
 use Rattle.transmit_laws.specs.Turns.{MayMove}
 
-pub record IsUp (queue : ℕ) (s : State) : Type 0 where
-  pub on : IsTrue (is_on s.registers Tx queue)
-  pub wanted : IsTrue (is_wanted s.registers Tx queue)
+abbrev pub IsUp : ℕ → State → Type 0
+IsUp queue s = sides.IsUp (side_of Tx queue s)
 
 -- where device and driver agree it stays up, over each of the driver's moves and over every event that spares the
 -- driver

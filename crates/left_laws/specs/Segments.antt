@@ -1,0 +1,52 @@
+-- What an event writes on a queue, piece by piece, and the frames that it sends there.
+use Rattle.std.specs.Prelude.{ℕ, ◌==◌, Bool, false, List, [], ◌∷◌, length, drop, map, take, if◌then◌else◌}
+use Rattle.nic_device.specs.DmaArena.Block.{Block}
+use Rattle.nic_device.specs.DmaRing.Receive.{told_of}
+use Rattle.nic_device.specs.RxRing.Fill.{Rest}
+use Rattle.nic_device.specs.RxRing.declared.filled.Filled.{Filled}
+use Rattle.nic_device.specs.Receive.{packet_of}
+use Rattle.nic_device.specs.State.{State, Waiting}
+use Rattle.nic_device.specs.Step.{after, reply_to}
+use Rattle.nic_device.specs.declared.event.Event.{Event}
+use Rattle.nic_device.specs.declared.event.Event.TheVariants as event
+use Rattle.nic_device.specs.declared.event.Reply.{Reply}
+use Rattle.nic_device.specs.declared.event.Reply.TheVariants.{Wrote}
+use Rattle.history_laws.specs.DeviceLaws.Laws.{piece_of}
+
+-- what one step writes on a queue: the bytes, the first half of the descriptor, and whether the frame ends there
+pub record Piece : Type 0 where
+  pub bytes : List ℕ
+  pub first : ℕ
+  pub end : Bool
+
+abbrev pub no_piece : Piece
+no_piece = record { bytes = []; first = 0; end = false }
+
+-- the piece that a filled slot takes of what is left
+abbrev pub piece_in : Rest → Filled → Piece
+piece_in rest f = record { bytes = take f.len rest.bytes; first = rest.first; end = f.end }
+
+-- the first half that is written back with a piece of the first frame
+abbrev pub first_of : List Waiting → ℕ
+first_of [] = 0
+first_of (w ∷ others) = told_of (packet_of w)
+
+-- the piece that a reply says was written on a queue, of the first of the frames that waited
+abbrev pub pieces_told : ℕ → List Waiting → Reply Block → List Piece
+pieces_told queue waiting (Wrote on slot end desc at len) =
+    if on == queue then record { bytes = piece_of waiting len; first = first_of waiting; end = end } ∷ [] else []
+pieces_told queue waiting other = []
+
+-- the pieces that one event writes on a queue: a step of receiving writes one or none, and no other event writes any
+abbrev pub pieces : ℕ → State → Event Block → List Piece
+pieces queue s event.RxStep = pieces_told queue s.waiting (reply_to s event.RxStep)
+pieces queue s other = []
+
+-- the frames that joined those out, behind them
+abbrev pub frames_added : List (ℕ × List ℕ) → List (ℕ × List ℕ) → List (List ℕ)
+frames_added old new = map (λ (f : ℕ × List ℕ). f.1) (drop (length old) new)
+
+-- the frames that one event sends on a queue: only a step of that queue sends any, and at most one
+abbrev pub sent_by : ℕ → State → Event Block → List (List ℕ)
+sent_by queue s (event.TxStep on) = if on == queue then frames_added s.out (after s (event.TxStep on)).out else []
+sent_by queue s other = []

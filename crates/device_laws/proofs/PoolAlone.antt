@@ -72,7 +72,8 @@ own_reset mode v p word (shared is) asks =
 -- what changes
 
 alone_registers : (s : State) (v : ℕ) (r : Registers)
-    → ChangesWithin (pool_changes (mode_in s.registers) v) s.registers r → ChangesPoolAlone v s (record s { registers = r })
+    → ChangesWithin (pool_changes (mode_in s.registers) v) s.registers r
+    → ChangesPoolAlone v s (record s { registers = r })
 alone_registers s v r within = assumption
 
 alone_still : (s : State) (v : ℕ) → ChangesPoolAlone v s s

@@ -15,9 +15,10 @@ use Rattle.nic_device.specs.RegisterFile.Registers.{Registers}
 use Rattle.nic_device.specs.DmaRing.declared.dir.Dir.{Dir}
 use Rattle.nic_device.proofs.RegisterFile.Own.{intersection-lt}
 use Rattle.nic_device.proofs.RegisterLaws.Settled.{settled-raised}
-use Rattle.nic_device.specs.RegisterLaws.Footprint.{ChangesWithin, pending}
+use Rattle.nic_device.specs.RegisterLaws.Footprint.{LacksWord, ChangesWithin, pending}
 use Rattle.nic_device.specs.RegisterLaws.Sound.{HasShape}
 use Rattle.nic_device.proofs.RegisterLaws.Owners.{is_group-same, is_group-itself}
+use Rattle.nic_device.proofs.RegisterLaws.Footprints.{word_stands}
 use Rattle.nic_device.proofs.RegisterLaws.ReadBack.{settings_stand}
 use Rattle.nic_device.proofs.RegisterLaws.Standing.{interrupts_of-with_interrupts}
 use Rattle.nic_device.proofs.RegisterLaws.Stands.{group_stands}
@@ -70,16 +71,16 @@ unfolding function_of_queue
 queue_group_small r vfs queue few = group_small vfs (pool_of (mode_in r) queue) few
 
 -- and what a step changes first doesn't change what its queue raises
-vector_kept : (g : Group) (dir : Dir) (queue at : ℕ) → (of_step dir queue).words (place (vector_row g) at) ≡ false
-vector_kept group.Pf dir queue at = refl
-vector_kept (group.Vf v) dir queue at = refl
+vector_kept : (g : Group) (dir : Dir) (queue at : ℕ) → LacksWord (of_step dir queue) (place (vector_row g) at)
+vector_kept group.Pf dir queue at bit = refl
+vector_kept (group.Vf v) dir queue at bit = refl
 
 pub same_cause : (s : State) (t : Registers) (dir : Dir) (queue : ℕ) → ChangesWithin (of_step dir queue) s.registers t
     → queue_cause (record s { registers = t }) dir queue ≡ queue_cause s dir queue
 unfolding function_of_queue
 same_cause s t dir queue within =
     let mode : mode_in t ≡ mode_in s.registers =
-    (λ k. mode_in_word (within.words (place GcrExt 0) refl k)) in
+    (λ k. mode_in_word (word_stands within (place GcrExt 0) (λ bit. refl) k)) in
     let g = group_of_queue s.registers s.vfs queue in
     let same : group_of_queue t s.vfs queue ≡ g =
     ap (λ m. group_of (function_in s.vfs (pool_of m queue))) mode in

@@ -19,12 +19,12 @@ use Rattle.nic_device.specs.RegisterFile.Registers.{Registers, word_of, with_wor
 use Rattle.nic_device.specs.RegisterFile.Words.{word_at, put}
 use Rattle.nic_device.specs.DmaRing.declared.dir.Dir.{Dir}
 use Rattle.nic_device.specs.DmaRing.declared.dir.Dir.TheVariants.{Rx, Tx}
-use Rattle.nic_device.specs.RegisterLaws.Footprint.{is_place, pending, is_pending}
+use Rattle.nic_device.specs.RegisterLaws.Footprint.{LacksWord, is_place, pending, is_pending}
 use Rattle.nic_device.specs.RegisterLaws.Sound.{HasShape}
 use Rattle.nic_device.proofs.RegisterLaws.Accessed.{none_pending}
-use Rattle.nic_device.proofs.RegisterLaws.Owners.{apart, is_place-itself, is_place-same}
+use Rattle.nic_device.proofs.RegisterLaws.Owners.{apart, is_place-itself, is_place-other, is_place-same}
 use Rattle.nic_device.proofs.RegisterLaws.Puts.{word_at-put_other}
-use Rattle.nic_device.proofs.RegisterLaws.ReadBack.{one_place}
+use Rattle.nic_device.proofs.RegisterLaws.Footprints.{word_stands}
 use Rattle.nic_device.proofs.RegisterLaws.Shape.{put_stands, HasShape-put}
 use Rattle.nic_device.proofs.RegisterLaws.Within.{within-causes_raised}
 use Rattle.nic_device.specs.RxRing.declared.filled.Filled.{Filled}
@@ -35,9 +35,9 @@ use Rattle.nic_device.specs.Receive.{frame_counted, piece_done}
 
 -- a counter is at no place of another kind
 pub elsewhere : (q p : Place) → (row_of q.row).kind ≢ Rc → (row_of p.row).kind ≡ Rc → is_place q p ≡ false
-elsewhere q p n is = one_place q p (λ e. n (ap (λ (r : Place). (row_of r.row).kind) (sym e) ∙ is))
+elsewhere q p n is = is_place-other q p (λ e. n (ap (λ (r : Place). (row_of r.row).kind) (sym e) ∙ is))
 
-pub not_pending : (g : Group) (p : Place) → (row_of p.row).kind ≡ Rc → (pending g).words p ≡ false
+pub not_pending : (g : Group) (p : Place) → (row_of p.row).kind ≡ Rc → LacksWord (pending g) p
 not_pending g p is = none_pending p (ap is_pending is) g
 
 -- a word that is changed at one place
@@ -67,7 +67,7 @@ counted_there r row index h b p = changed_there bumped r row index h b p
 -- raised causes and a word of another kind count nothing
 pub raised_keeps : (r : Registers) (g : Group) (bits : ℕ) (p : Place) → (row_of p.row).kind ≡ Rc
     → word_at (causes_raised r g bits).words p ≡ word_at r.words p
-raised_keeps r g bits p is = (within-causes_raised r g bits).words p (not_pending g p is)
+raised_keeps r g bits p is = word_stands (within-causes_raised r g bits) p (not_pending g p is)
 
 pub put_keeps : (r : Registers) (q : Place) (word : ℕ) (p : Place) → (row_of q.row).kind ≢ Rc → (row_of p.row).kind ≡ Rc
     → word_at (put r.words q word) p ≡ word_at r.words p

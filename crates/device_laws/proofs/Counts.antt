@@ -21,6 +21,7 @@ use Rattle.nic_device.specs.RegisterFile.Settings.{is_stopped, can_receive, fram
 use Rattle.nic_device.specs.RegisterFile.Words.{word_at}
 use Rattle.nic_device.specs.DmaRing.declared.dir.Dir.TheVariants.{Rx, Tx}
 use Rattle.nic_device.specs.RegisterLaws.Sides.{receive_queue_of}
+use Rattle.nic_device.proofs.RegisterLaws.Footprints.{word_stands}
 use Rattle.nic_device.specs.Arrival.{arrived, sorted_in}
 use Rattle.device_laws.specs.Counting.{counts, with_one, EventsCount}
 use Rattle.nic_device.specs.RegisterFile.Pools.{mode_in}
@@ -114,20 +115,20 @@ transmitted_counts s queue h = transmitted_cases (Counts s (event.TxStep queue))
 pub events_count : EventsCount
 unfolding step_of
 events_count s h (event.Read port n) p is keeps =
-    (stays_within s (event.Read port n)).registers.words p (read_misses (named s port n) p is keeps)
+    word_stands (stays_within s (event.Read port n)).registers p (read_misses (named s port n) p is keeps)
 events_count s h (event.Write port n word) p is keeps =
-    (stays_within s (event.Write port n word)).registers.words p
+    word_stands (stays_within s (event.Write port n word)).registers p
     (write_misses (mode_in s.registers) (named s port n) word p is keeps)
 events_count s h (event.Arrive frame) p is keeps = arrived_counts s frame h p is
 events_count s h event.RxStep p is keeps = received_counts s h p is
 events_count s h (event.TxStep queue) p is keeps = transmitted_counts s queue h p is
 events_count s h (event.IntStep g) p is keeps =
-    (stays_within s (event.IntStep g)).registers.words p (not_pending g p is)
+    word_stands (stays_within s (event.IntStep g)).registers p (not_pending g p is)
 events_count s h (event.QueueStep dir queue) p is keeps =
-    (stays_within s (event.QueueStep dir queue)).registers.words p (switch_misses dir queue p is)
+    word_stands (stays_within s (event.QueueStep dir queue)).registers p (switch_misses dir queue p is)
 events_count s h event.EepromStep p is keeps =
-    (stays_within s event.EepromStep).registers.words p
-    (elsewhere (place Eerd 0) p (λ (e : kind.Eerd ≡ kind.Rc). cc) is)
+    word_stands (stays_within s event.EepromStep).registers p
+    (λ bit. elsewhere (place Eerd 0) p (λ (e : kind.Eerd ≡ kind.Rc). cc) is)
 events_count s h (event.Link up) p is keeps =
-    (stays_within s (event.Link up)).registers.words p (not_pending group.Pf p is)
-events_count s h other p is keeps = (stays_within s other).registers.words p refl
+    word_stands (stays_within s (event.Link up)).registers p (not_pending group.Pf p is)
+events_count s h other p is keeps = word_stands (stays_within s other).registers p (λ bit. refl)

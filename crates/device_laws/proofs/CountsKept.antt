@@ -17,7 +17,7 @@ use Rattle.nic_device.specs.RegisterFile.Owner.{owner_of, is_owner}
 use Rattle.nic_device.specs.DmaRing.declared.dir.Dir.{Dir}
 use Rattle.nic_device.specs.DmaRing.declared.dir.Dir.TheVariants.{Rx, Tx}
 use Rattle.nic_device.specs.RegisterFile.declared.owner.Owner.TheVariants as owner
-use Rattle.nic_device.specs.RegisterLaws.Footprint.{is_pending, is_place, of_write, read_by, written_by}
+use Rattle.nic_device.specs.RegisterLaws.Footprint.{LacksWord, is_pending, is_place, of_write, read_by, written_by}
 use Rattle.nic_device.proofs.RegisterLaws.Accessed.{none_pending_of, none_written_by}
 use Rattle.nic_device.proofs.RegisterLaws.Owners.{is_place-same}
 use Rattle.nic_device.proofs.RegisterLaws.NoSide.{counters_own}
@@ -28,22 +28,22 @@ use Rattle.nic_device.specs.declared.named.Named.TheVariants.{Nothing, Register}
 
 -- what no other event may change: a counter that it doesn't read
 
-not_read : (k : Kind) (q p : Place) → (row_of p.row).kind ≡ kind.Rc → p ≢ q → (read_by k q).words p ≡ false
+not_read : (k : Kind) (q p : Place) → (row_of p.row).kind ≡ kind.Rc → p ≢ q → LacksWord (read_by k q) p
 not_read kind.Rc q p is n = one_place q p n
 not_read kind.Cause q p is n = none_pending_of p (ap is_pending is) (owner_of q)
-not_read other q p is n = refl
+not_read other q p is n = λ bit. refl
 
-not_written : (q p : Place) → (row_of p.row).kind ≡ kind.Rc → (of_write q).words p ≡ false
-not_written q p is =
-    elim (cases_Bool (is_place q p)) as (λ _. (of_write q).words p ≡ false) [
+not_written : (q p : Place) → (row_of p.row).kind ≡ kind.Rc → LacksWord (of_write q) p
+not_written q p is bit =
+    elim (cases_Bool (is_place q p)) as (λ _. (of_write q).bits p bit ≡ false) [
       | inl same ↦
-          ap (λ k. (written_by k q).words p) (ap (λ (x : Place). (row_of x.row).kind) (is_place-same q p same) ∙ is)
-      | inr other ↦ none_written_by p (ap is_pending is) (row_of q.row).kind q other
+          ap (λ k. (written_by k q).bits p bit) (ap (λ (x : Place). (row_of x.row).kind) (is_place-same q p same) ∙ is)
+      | inr other ↦ none_written_by p (ap is_pending is) (row_of q.row).kind q other bit
     ]
 
 pub read_misses : (m : Named) (p : Place) → (row_of p.row).kind ≡ kind.Rc
-    → ((q : Place) (view : ℕ) → m ≡ Register q view → q ≢ p) → (read_reach m).registers.words p ≡ false
-read_misses (Nothing seen) p is n = refl
+    → ((q : Place) (view : ℕ) → m ≡ Register q view → q ≢ p) → LacksWord (read_reach m).registers p
+read_misses (Nothing seen) p is n = λ bit. refl
 read_misses (Register q view) p is n = not_read (row_of q.row).kind q p is (λ e. n q view refl (sym e))
 
 -- a counter is no pool's
@@ -54,15 +54,15 @@ no_pools_by other mode v index is = cc
 
 pub write_misses : (mode : Mode) (m : Named) (word : ℕ) (p : Place) → (row_of p.row).kind ≡ kind.Rc
     → ((q : Place) (view : ℕ) → m ≡ Register q view → IsFalse (asks_reset (row_of q.row).kind word))
-    → (write_reach mode m word).registers.words p ≡ false
-write_misses mode (Nothing seen) word p is none = refl
-write_misses mode (Register q view) word p is none =
-    ap (λ b. (cond b reset_reach (below_reset_reach mode q word)).registers.words p) (none q view refl)
-    ∙ either_way (λ (r : Reach). r.registers.words p ≡ false) (asks_pool_reset (row_of q.row).kind word) _ _
+    → LacksWord (write_reach mode m word).registers p
+write_misses mode (Nothing seen) word p is none bit = refl
+write_misses mode (Register q view) word p is none bit =
+    ap (λ b. (cond b reset_reach (below_reset_reach mode q word)).registers.bits p bit) (none q view refl)
+    ∙ either_way (λ (r : Reach). r.registers.bits p bit ≡ false) (asks_pool_reset (row_of q.row).kind word) _ _
     (no_pools_by (row_of p.row).bank mode q.index p.index (counters_own p is))
-    (not_written q p is)
+    (not_written q p is bit)
 
 pub switch_misses : (dir : Dir) (queue : ℕ) (p : Place) → (row_of p.row).kind ≡ kind.Rc
-    → (switch_reach dir queue).registers.words p ≡ false
-switch_misses Rx queue p is = ap (is_owner (owner.Side Rx queue)) (counters_own p is)
-switch_misses Tx queue p is = ap (is_owner (owner.Side Tx queue)) (counters_own p is)
+    → LacksWord (switch_reach dir queue).registers p
+switch_misses Rx queue p is bit = ap (is_owner (owner.Side Rx queue)) (counters_own p is)
+switch_misses Tx queue p is bit = ap (is_owner (owner.Side Tx queue)) (counters_own p is)

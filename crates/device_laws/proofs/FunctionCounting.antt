@@ -22,10 +22,11 @@ use Rattle.nic_device.specs.DmaRing.declared.dir.Dir.{Dir}
 use Rattle.nic_device.specs.DmaRing.declared.dir.Dir.TheVariants.{Rx, Tx}
 use Rattle.nic_device.specs.RegisterFile.declared.owner.Owner.{Owner}
 use Rattle.nic_device.specs.RegisterFile.declared.owner.Owner.TheVariants as owner
-use Rattle.nic_device.specs.RegisterLaws.Footprint.{is_place, pending}
+use Rattle.nic_device.specs.RegisterLaws.Footprint.{LacksWord, is_place, pending}
 use Rattle.nic_device.specs.RegisterLaws.Sound.{HasShape}
 use Rattle.nic_device.proofs.RegisterLaws.Covers.{fails, covers-pending}
-use Rattle.nic_device.proofs.RegisterLaws.ReadBack.{one_place}
+use Rattle.nic_device.proofs.RegisterLaws.Footprints.{word_stands}
+use Rattle.nic_device.proofs.RegisterLaws.Owners.{is_place-other}
 use Rattle.nic_device.proofs.RegisterLaws.Shape.{HasShape-put}
 use Rattle.nic_device.proofs.RegisterLaws.Within.{within-causes_raised, within-counted, within-with_head, within-shut}
 use Rattle.nic_device.specs.RxRing.declared.filled.Filled.{Filled}
@@ -56,7 +57,7 @@ same_function : (r : Registers) (vfs queue head : ℕ)
 unfolding function_of_queue
 same_function r vfs queue head =
     ap (λ w. function_in vfs (pool_of (mode_of w) queue))
-    ((within-with_head r Rx queue head).words (place GcrExt 0) refl)
+    (word_stands (within-with_head r Rx queue head) (place GcrExt 0) (λ bit. refl))
 
 -- what is counted of functions is of no other owner, and at no place of another bank
 module _ (p : Place) (is : (row_of p.row).bank ≡ VfCounters) where
@@ -64,32 +65,34 @@ module _ (p : Place) (is : (row_of p.row).bank ≡ VfCounters) where
   not_owned o n = ap (λ b. is_owner o (owner_in b p.index)) is ∙ n
 
   pub not_there : (q : Place) → (row_of q.row).bank ≢ VfCounters → is_place q p ≡ false
-  not_there q n = one_place q p (λ e. n (ap (λ (x : Place). (row_of x.row).bank) (sym e) ∙ is))
+  not_there q n = is_place-other q p (λ e. n (ap (λ (x : Place). (row_of x.row).bank) (sym e) ∙ is))
 
-  pub not_pending : (g : Group) → (pending g).words p ≡ false
-  not_pending g = fails _ _ ((covers-pending g).words p) (not_owned (owner.Group g) refl)
+  pub not_pending : (g : Group) → LacksWord (pending g) p
+  not_pending g bit = fails _ _ ((covers-pending g).bits p bit) (not_owned (owner.Group g) refl)
 
   raised_keeps : (r : Registers) (g : Group) (bits : ℕ) → word_at (causes_raised r g bits).words p ≡ word_at r.words p
-  raised_keeps r g bits = (within-causes_raised r g bits).words p (not_pending g)
+  raised_keeps r g bits = word_stands (within-causes_raised r g bits) p (not_pending g)
 
   head_keeps : (r : Registers) (dir : Dir) (queue head : ℕ)
       → word_at (with_head r dir queue head).words p ≡ word_at r.words p
   head_keeps r Rx queue head =
-      (within-with_head r Rx queue head).words p (not_there (place Rdh queue) (λ (e : bank.Receive ≡ VfCounters). cc))
+      word_stands (within-with_head r Rx queue head) p
+      (λ bit. not_there (place Rdh queue) (λ (e : bank.Receive ≡ VfCounters). cc))
   head_keeps r Tx queue head =
-      (within-with_head r Tx queue head).words p (not_there (place Tdh queue) (λ (e : bank.Transmit ≡ VfCounters). cc))
+      word_stands (within-with_head r Tx queue head) p
+      (λ bit. not_there (place Tdh queue) (λ (e : bank.Transmit ≡ VfCounters). cc))
 
   pub counted_keeps : (r : Registers) (row : RowId) (index : ℕ) → (row_of row).bank ≡ Counters
       → word_at (counted r row index).words p ≡ word_at r.words p
   counted_keeps r row index other =
-      (within-counted r row index).words p
-      (not_there (place row index) (λ e. let differ : Counters ≡ VfCounters = sym other ∙ e in cc))
+      word_stands (within-counted r row index) p
+      (λ bit. not_there (place row index) (λ e. let differ : Counters ≡ VfCounters = sym other ∙ e in cc))
 
   pub failed_keeps : (r : Registers) (dir : Dir) (queue : ℕ)
       → word_at (device_raised (shut r dir queue) fault_cause).words p ≡ word_at r.words p
   failed_keeps r dir queue =
       raised_keeps (shut r dir queue) group.Pf fault_cause
-      ∙ (within-shut r dir queue).words p (not_owned (owner.Side dir queue) refl)
+      ∙ word_stands (within-shut r dir queue) p (λ bit. not_owned (owner.Side dir queue) refl)
 
   -- one more of a function
   function_there : (r : Registers) (o : Option ℕ) (row : RowId) → HasShape r → IfSome o (λ v. v < (row_of row).count)

@@ -34,7 +34,7 @@ side_bank other index dir queue e = refl
 
 pub function_counts-miss_side : (dir : Dir) (queue : ℕ) → Misses function_counts (of_side dir queue)
 function_counts-miss_side dir queue = record {
-  words = λ p is. side_bank (row_of p.row).bank p.index dir queue is;
+  bits = λ p bit is. side_bank (row_of p.row).bank p.index dir queue is;
   wanted = λ other number is. refl;
   told = λ g is. refl;
 }

@@ -21,9 +21,10 @@ use Rattle.nic_device.specs.RegisterFile.Words.{word_at}
 use Rattle.nic_device.specs.DmaRing.declared.dir.Dir.{Dir}
 use Rattle.nic_device.specs.DmaRing.declared.dir.Dir.TheVariants.{Rx, Tx}
 use Rattle.nic_device.specs.RegisterFile.declared.owner.Owner.TheVariants as owner
-use Rattle.nic_device.specs.RegisterLaws.Footprint.{of_read, of_write}
+use Rattle.nic_device.specs.RegisterLaws.Footprint.{LacksWord, of_read, of_write}
 use Rattle.nic_device.proofs.RegisterLaws.Accessed.{covers-of_read, covers-of_write}
 use Rattle.nic_device.proofs.RegisterLaws.Covers.{fails}
+use Rattle.nic_device.proofs.RegisterLaws.Footprints.{word_stands}
 use Rattle.nic_device.specs.Footprint.{Reach, read_reach, write_reach, reset_reach, below_reset_reach, pool_reach, in_registers, switch_reach}
 use Rattle.nic_device.specs.Named.{named}
 use Rattle.nic_device.specs.Outcome.{Outcome}
@@ -68,60 +69,60 @@ transmitted_counts s queue h = transmitted_cases (Counts s (event.TxStep queue))
 
 -- accesses
 module _ (p : Place) (is : (row_of p.row).bank ≡ VfCounters) where
-  not_read : (row : RowId) (index : ℕ) → (of_read (place row index)).words p ≡ false
-  not_read Vfgprc index = refl
-  not_read Vfgptc index = refl
-  not_read other index =
-      fails _ _ ((covers-of_read (place other index)).words p) (not_owned p is (owner_of (place other index)) refl)
+  not_read : (row : RowId) (index : ℕ) → LacksWord (of_read (place row index)) p
+  not_read Vfgprc index bit = refl
+  not_read Vfgptc index bit = refl
+  not_read other index bit =
+      fails _ _ ((covers-of_read (place other index)).bits p bit) (not_owned p is (owner_of (place other index)) refl)
 
-  not_written : (row : RowId) (index : ℕ) → (of_write (place row index)).words p ≡ false
-  not_written Vfgprc index = refl
-  not_written Vfgptc index = refl
-  not_written other index =
-      fails _ _ ((covers-of_write (place other index)).words p) (not_owned p is (owner_of (place other index)) refl)
+  not_written : (row : RowId) (index : ℕ) → LacksWord (of_write (place row index)) p
+  not_written Vfgprc index bit = refl
+  not_written Vfgptc index bit = refl
+  not_written other index bit =
+      fails _ _ ((covers-of_write (place other index)).bits p bit) (not_owned p is (owner_of (place other index)) refl)
 
-  read_misses : (m : Named) → (read_reach m).registers.words p ≡ false
-  read_misses (Nothing seen) = refl
+  read_misses : (m : Named) → LacksWord (read_reach m).registers p
+  read_misses (Nothing seen) = λ bit. refl
   read_misses (Register q view) = not_read q.row q.index
 
   write_misses : (mode : Mode) (m : Named) (word : ℕ)
       → ((q : Place) (view : ℕ) → m ≡ Register q view → IsFalse (resets_count q word p))
-      → (write_reach mode m word).registers.words p ≡ false
-  write_misses mode (Nothing seen) word none = refl
-  write_misses mode (Register q view) word none =
+      → LacksWord (write_reach mode m word).registers p
+  write_misses mode (Nothing seen) word none bit = refl
+  write_misses mode (Register q view) word none bit =
       let asks = asks_pool_reset (row_of q.row).kind word in
       let parts = or_parts (asks_reset (row_of q.row).kind word) (asks && p.index == q.index) (none q view refl) in
-      ap (λ b. (cond b reset_reach (below_reset_reach mode q word)).registers.words p) parts.0
+      ap (λ b. (cond b reset_reach (below_reset_reach mode q word)).registers.bits p bit) parts.0
       ∙ cond_both asks (pool_reach mode q.index) (in_registers (of_write q))
-      (λ (r : Reach). r.registers.words p ≡ false)
+      (λ (r : Reach). r.registers.bits p bit ≡ false)
       (λ pool. ap (λ b. is_of_pool_by b mode q.index p.index) is
       ∙ sym (ap (λ b. b && p.index == q.index) pool) ∙ parts.1)
-      (λ plain. not_written q.row q.index)
+      (λ plain. not_written q.row q.index bit)
 
-  switch_misses : (dir : Dir) (queue : ℕ) → (switch_reach dir queue).registers.words p ≡ false
-  switch_misses Rx queue = not_owned p is (owner.Side Rx queue) refl
-  switch_misses Tx queue = not_owned p is (owner.Side Tx queue) refl
+  switch_misses : (dir : Dir) (queue : ℕ) → LacksWord (switch_reach dir queue).registers p
+  switch_misses Rx queue bit = not_owned p is (owner.Side Rx queue) refl
+  switch_misses Tx queue bit = not_owned p is (owner.Side Tx queue) refl
 
 -- every event
 pub events_count_for_functions : EventsCountForFunctions
 unfolding step_of
 events_count_for_functions s h (event.Read port n) p is keeps =
-    (stays_within s (event.Read port n)).registers.words p (read_misses p is (named s port n))
+    word_stands (stays_within s (event.Read port n)).registers p (read_misses p is (named s port n))
 events_count_for_functions s h (event.Write port n word) p is keeps =
-    (stays_within s (event.Write port n word)).registers.words p
+    word_stands (stays_within s (event.Write port n word)).registers p
     (write_misses p is (mode_in s.registers) (named s port n) word keeps)
 events_count_for_functions s h (event.Arrive frame) p is keeps =
-    (stays_within s (event.Arrive frame)).registers.words p
-    (neither _ _ (not_owned p is owner.Counters refl) (not_pending p is group.Pf))
+    word_stands (stays_within s (event.Arrive frame)).registers p
+    (λ bit. neither _ _ (not_owned p is owner.Counters refl) (not_pending p is group.Pf bit))
 events_count_for_functions s h event.RxStep p is keeps = received_counts s h p is
 events_count_for_functions s h (event.TxStep queue) p is keeps = transmitted_counts s queue h p is
 events_count_for_functions s h (event.IntStep g) p is keeps =
-    (stays_within s (event.IntStep g)).registers.words p (not_pending p is g)
+    word_stands (stays_within s (event.IntStep g)).registers p (not_pending p is g)
 events_count_for_functions s h (event.QueueStep dir queue) p is keeps =
-    (stays_within s (event.QueueStep dir queue)).registers.words p (switch_misses p is dir queue)
+    word_stands (stays_within s (event.QueueStep dir queue)).registers p (switch_misses p is dir queue)
 events_count_for_functions s h event.EepromStep p is keeps =
-    (stays_within s event.EepromStep).registers.words p
-    (not_there p is (place Eerd 0) (λ (e : bank.Device ≡ VfCounters). cc))
+    word_stands (stays_within s event.EepromStep).registers p
+    (λ bit. not_there p is (place Eerd 0) (λ (e : bank.Device ≡ VfCounters). cc))
 events_count_for_functions s h (event.Link up) p is keeps =
-    (stays_within s (event.Link up)).registers.words p (not_pending p is group.Pf)
-events_count_for_functions s h other p is keeps = (stays_within s other).registers.words p refl
+    word_stands (stays_within s (event.Link up)).registers p (not_pending p is group.Pf)
+events_count_for_functions s h other p is keeps = word_stands (stays_within s other).registers p (λ bit. refl)

@@ -25,7 +25,7 @@ neither false c e f = f
 
 pub misses-either : (f g h : Footprint) → Misses f h → Misses g h → Misses (either f g) h
 misses-either f g h first second = record {
-  words = λ p is. neither (f.words p) (g.words p) (first.words p is) (second.words p is);
+  bits = λ p bit is. neither (f.bits p bit) (g.bits p bit) (first.bits p bit is) (second.bits p bit is);
   wanted = λ dir queue is.
       neither (f.wanted dir queue) (g.wanted dir queue) (first.wanted dir queue is) (second.wanted dir queue is);
   told = λ i is. neither (f.told i) (g.told i) (first.told i is) (second.told i is);
@@ -57,7 +57,7 @@ side_quiet other index dir queue e = refl
 
 any_pending-misses_side : (dir : Dir) (queue : ℕ) → Misses any_pending (of_side dir queue)
 any_pending-misses_side dir queue = record {
-  words = λ p is. side_quiet p.row p.index dir queue is;
+  bits = λ p bit is. side_quiet p.row p.index dir queue is;
   wanted = λ other number is. refl;
   told = λ g is. cc;
 }

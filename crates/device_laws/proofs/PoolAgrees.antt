@@ -12,7 +12,7 @@ use Rattle.nic_device.specs.VfMap.declared.mode.Mode.{Mode}
 use Rattle.nic_device.specs.RegisterFile.Access.{asks_pool_reset}
 use Rattle.nic_device.specs.RegisterFile.Pools.{mode_in}
 use Rattle.nic_device.specs.RegisterFile.PoolReset.{pool_reset}
-use Rattle.nic_device.specs.RegisterLaws.Footprint.{AgreeWithin, of_pool}
+use Rattle.nic_device.specs.RegisterLaws.Footprint.{AgreeWithin, pool_agrees}
 use Rattle.nic_device.specs.RegisterLaws.Laws.{after_write as word_written}
 use Rattle.nic_device.proofs.RegisterLaws.PoolAfterReset.{agree-reset}
 use Rattle.nic_device.proofs.RegisterLaws.PoolAgreement.{agree-write}
@@ -34,13 +34,13 @@ use Rattle.device_laws.proofs.PoolReadsAgree.{PartsAgree, same_parts, agree_afte
 
 write_registers : (v : ℕ) (a b : State) → IsSound a → IsSound b → AgreeOnPool v a b → (p : Place) (view word : ℕ)
     → IsReached (mode_in a.registers) v p
-    → AgreeWithin (of_pool (mode_in a.registers) v) (word_written a.registers p view word)
+    → AgreeWithin (pool_agrees (mode_in a.registers) v) (word_written a.registers p view word)
     (word_written b.registers p view word)
 write_registers v a b good sound h p view word (own is) =
     agree-write (mode_in a.registers) v a.registers b.registers good.registers.shape sound.registers.shape h.registers p
     is view word
 write_registers v a b good sound h p view word (shared is) =
-    let f = of_pool (mode_in a.registers) v in
+    let f = pool_agrees (mode_in a.registers) v in
     subst (λ r. AgreeWithin f r (word_written b.registers p view word))
     (sym (shared-written a.registers p view word is))
     (subst (λ r. AgreeWithin f a.registers r) (sym (shared-written b.registers p view word is)) h.registers)
@@ -51,9 +51,9 @@ same_mode v a b h = ap mode_of h.mode
 reset_parts : (v : ℕ) (a b : State) → IsSound a → IsSound b → (mode : Mode) → mode_in a.registers ≡ mode
     → mode_in b.registers ≡ mode → PartsAgree mode v (with_pool_reset a v) (with_pool_reset b v)
 reset_parts v a b good sound mode first second = record {
-  registers = subst (λ m. AgreeWithin (of_pool mode v) (pool_reset m v a.registers) (with_pool_reset b v).registers)
+  registers = subst (λ m. AgreeWithin (pool_agrees mode v) (pool_reset m v a.registers) (with_pool_reset b v).registers)
       (sym first)
-      (subst (λ m. AgreeWithin (of_pool mode v) (pool_reset mode v a.registers) (pool_reset m v b.registers))
+      (subst (λ m. AgreeWithin (pool_agrees mode v) (pool_reset mode v a.registers) (pool_reset m v b.registers))
       (sym second)
       (agree-reset mode v a.registers b.registers good.registers.shape sound.registers.shape));
   staged = λ queue has. none_left a first queue has ∙ sym (none_left b second queue has);

@@ -15,7 +15,7 @@ use Rattle.nic_device.specs.RegisterFile.Access.{after_read, asks_reset, asks_po
 use Rattle.nic_device.specs.RegisterFile.Pools.{mode_in}
 use Rattle.nic_device.specs.RegisterFile.Registers.{Registers}
 use Rattle.nic_device.specs.RegisterLaws.Laws.{after_write as word_written}
-use Rattle.nic_device.specs.RegisterLaws.Footprint.{ChangesWithin, of_pool, of_read, of_write}
+use Rattle.nic_device.specs.RegisterLaws.Footprint.{ChangesWithin, pool_changes, of_read, of_write}
 use Rattle.nic_device.proofs.RegisterLaws.Footprints.{within-refl, within-wider}
 use Rattle.nic_device.proofs.RegisterLaws.PoolPlaces.{covers-read, covers-write, shared_rows, shared-read, shared-written}
 use Rattle.nic_device.proofs.RegisterLaws.Within.{within-after_read, within-written}
@@ -71,12 +71,13 @@ own_reset mode v p word (shared is) asks =
 
 -- what changes
 
-alone_registers : (s : State) (v : ℕ) (r : Registers) → ChangesWithin (of_pool (mode_in s.registers) v) s.registers r
+alone_registers : (s : State) (v : ℕ) (r : Registers)
+    → ChangesWithin (pool_changes (mode_in s.registers) v) s.registers r
     → ChangesPoolAlone v s (record s { registers = r })
 alone_registers s v r within = assumption
 
 alone_still : (s : State) (v : ℕ) → ChangesPoolAlone v s s
-alone_still s v = alone_registers s v s.registers (within-refl (of_pool (mode_in s.registers) v) s.registers)
+alone_still s v = alone_registers s v s.registers (within-refl (pool_changes (mode_in s.registers) v) s.registers)
 
 pub alone_reset : (s : State) (v : ℕ) → ChangesPoolAlone v s (with_pool_reset s v)
 alone_reset s v =
@@ -84,22 +85,23 @@ alone_reset s v =
     assumption (stays, others_again (mode_in s.registers) v s.waiting)
 
 within_read : (s : State) (v : ℕ) (p : Place) → IsReached (mode_in s.registers) v p
-    → ChangesWithin (of_pool (mode_in s.registers) v) s.registers (after_read (row_of p.row).kind s.registers p)
+    → ChangesWithin (pool_changes (mode_in s.registers) v) s.registers (after_read (row_of p.row).kind s.registers p)
 within_read s v p (own is) =
     let mode = mode_in s.registers in
-    within-wider (of_pool mode v) (of_read p) s.registers _ (covers-read mode v p is) (within-after_read s.registers p)
+    within-wider (pool_changes mode v) (of_read p) s.registers _ (covers-read mode v p is)
+    (within-after_read s.registers p)
 within_read s v p (shared is) =
-    let pool = of_pool (mode_in s.registers) v in
+    let pool = pool_changes (mode_in s.registers) v in
     subst (ChangesWithin pool s.registers) (sym (shared-read s.registers p is)) (within-refl pool s.registers)
 
 within_write : (s : State) (v : ℕ) (p : Place) (view word : ℕ) → IsReached (mode_in s.registers) v p
-    → ChangesWithin (of_pool (mode_in s.registers) v) s.registers (word_written s.registers p view word)
+    → ChangesWithin (pool_changes (mode_in s.registers) v) s.registers (word_written s.registers p view word)
 within_write s v p view word (own is) =
     let mode = mode_in s.registers in
-    within-wider (of_pool mode v) (of_write p) s.registers _ (covers-write mode v p is)
+    within-wider (pool_changes mode v) (of_write p) s.registers _ (covers-write mode v p is)
     (within-written s.registers p view word)
 within_write s v p view word (shared is) =
-    let pool = of_pool (mode_in s.registers) v in
+    let pool = pool_changes (mode_in s.registers) v in
     subst (ChangesWithin pool s.registers) (sym (shared-written s.registers p view word is))
     (within-refl pool s.registers)
 

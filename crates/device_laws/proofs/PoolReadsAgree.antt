@@ -14,13 +14,13 @@ use Rattle.nic_device.specs.VfMap.declared.located.Located.{Located}
 use Rattle.nic_device.specs.VfMap.declared.located.Located.TheVariants as located_as
 use Rattle.nic_device.specs.VfMap.declared.mode.Mode.{Mode}
 use Rattle.nic_device.specs.RegisterFile.Access.{read_word, calculated}
-use Rattle.nic_device.specs.RegisterFile.Bits.{has_bit}
 use Rattle.nic_device.specs.RegisterFile.Columns.{place}
 use Rattle.nic_device.specs.RegisterFile.Pools.{mode_in}
 use Rattle.nic_device.specs.RegisterFile.Registers.{Registers}
 use Rattle.nic_device.specs.RegisterFile.declared.surroundings.Surroundings.{Surroundings}
 use Rattle.nic_device.specs.RegisterLaws.Agreement.{told_at}
-use Rattle.nic_device.specs.RegisterLaws.Footprint.{AgreeWithin, of_pool}
+use Rattle.nic_device.specs.RegisterLaws.Footprint.{AgreeWithin, pool_agrees}
+use Rattle.nic_device.proofs.RegisterLaws.Footprints.{word_stands}
 use Rattle.nic_device.proofs.RegisterLaws.PoolAgreement.{agree-read}
 use Rattle.nic_device.proofs.RegisterLaws.PoolPlaces.{shared_rows, shared-read}
 use Rattle.nic_device.proofs.RegisterLaws.PoolReads.{same_shared, same_told}
@@ -36,7 +36,7 @@ use Rattle.device_laws.proofs.PoolAlone.{IsReached, own, shared, reached}
 -- agreement again, after both changed no more than the pool
 
 pub record PartsAgree (mode : Mode) (v : ℕ) (a b : State) : Type 0 where
-  pub registers : AgreeWithin (of_pool mode v) a.registers b.registers
+  pub registers : AgreeWithin (pool_agrees mode v) a.registers b.registers
   pub staged : (queue : ℕ) → has_queue mode v queue ≡ true → staged_by a queue ≡ staged_by b queue
   pub waiting : waiting_of mode v a.waiting ≡ waiting_of mode v b.waiting
 
@@ -47,14 +47,14 @@ pub agree_after : (v : ℕ) (a b c d : State) → AgreeOnPool v a b → ChangesP
     → PartsAgree (mode_in a.registers) v c d → AgreeOnPool v c d
 agree_after v a b c d h first second parts =
     let mode : mode_in c.registers ≡ mode_in a.registers =
-    ap mode_of (first.registers.words (place row.GcrExt 0) refl) in
+    ap mode_of (word_stands first.registers (place row.GcrExt 0) (λ bit. refl)) in
     let now : PartsAgree (mode_in c.registers) v c d = subst (λ m. PartsAgree m v c d) (sym mode) parts in
     record {
       vfs = first.vfs ∙ h.vfs ∙ sym second.vfs;
-      mode = first.registers.words (place row.GcrExt 0) refl ∙ h.mode
-          ∙ sym (second.registers.words (place row.GcrExt 0) refl);
-      steps = ap (has_bit 2) (first.registers.words (place row.Ctrl 0) refl) ∙ h.steps
-          ∙ sym (ap (has_bit 2) (second.registers.words (place row.Ctrl 0) refl));
+      mode = word_stands first.registers (place row.GcrExt 0) (λ bit. refl) ∙ h.mode
+          ∙ sym (word_stands second.registers (place row.GcrExt 0) (λ bit. refl));
+      steps = first.registers.bits (place row.Ctrl 0) 2 refl ∙ h.steps
+          ∙ sym (second.registers.bits (place row.Ctrl 0) 2 refl);
       link = first.link ∙ h.link ∙ sym second.link;
       registers = now.registers;
       staged = now.staged;
@@ -96,12 +96,12 @@ same_word v a b h p is =
 
 read_registers : (v : ℕ) (a b : State) → IsSound a → IsSound b → AgreeOnPool v a b → (p : Place)
     → IsReached (mode_in a.registers) v p
-    → AgreeWithin (of_pool (mode_in a.registers) v) (state_read a p).registers (state_read b p).registers
+    → AgreeWithin (pool_agrees (mode_in a.registers) v) (state_read a p).registers (state_read b p).registers
 read_registers v a b good sound h p (own is) =
     agree-read (mode_in a.registers) v a.registers b.registers good.registers.shape sound.registers.shape h.registers p
     is
 read_registers v a b good sound h p (shared is) =
-    let f = of_pool (mode_in a.registers) v in
+    let f = pool_agrees (mode_in a.registers) v in
     subst (λ r. AgreeWithin f r (state_read b p).registers) (sym (shared-read a.registers p is))
     (subst (λ r. AgreeWithin f a.registers r) (sym (shared-read b.registers p is)) h.registers)
 

@@ -21,9 +21,10 @@ use Rattle.nic_device.specs.DmaRing.declared.dir.Dir.{Dir}
 use Rattle.nic_device.specs.DmaRing.declared.dir.Dir.TheVariants.{Rx, Tx}
 use Rattle.nic_device.specs.RegisterFile.declared.owner.Owner.{Owner}
 use Rattle.nic_device.specs.RegisterFile.declared.owner.Owner.TheVariants as owner
-use Rattle.nic_device.specs.RegisterLaws.Footprint.{is_place, is_pending, read_by}
+use Rattle.nic_device.specs.RegisterLaws.Footprint.{LacksWord, is_place, is_pending, read_by}
 use Rattle.nic_device.proofs.RegisterLaws.Accessed.{none_pending, none_pending_of, none_written_by}
-use Rattle.nic_device.proofs.RegisterLaws.ReadBack.{one_place}
+use Rattle.nic_device.proofs.RegisterLaws.Footprints.{word_stands}
+use Rattle.nic_device.proofs.RegisterLaws.Owners.{is_place-other}
 use Rattle.nic_device.specs.Footprint.{read_reach, write_reach, receive_reach, reach_by, switch_reach, Reach, pool_reach, is_function_count}
 use Rattle.nic_device.specs.Named.{named}
 use Rattle.nic_device.specs.Step.{after, step_of}
@@ -58,18 +59,18 @@ module _ (row : RowId) (is : IsSetting row) where
   here = place row 0
 
   other_place : (p : Place) → p.row ≢ row → is_place p here ≡ false
-  other_place p n = one_place p here (λ e. n (ap (λ (q : Place). q.row) (sym e)))
+  other_place p n = is_place-other p here (λ e. n (ap (λ (q : Place). q.row) (sym e)))
 
-  none_pooled : (mode : Mode) (v : ℕ) → (pool_reach mode v).registers.words here ≡ false
-  none_pooled mode v = ap (λ b. is_of_pool_by b mode v 0) is.bank
+  none_pooled : (mode : Mode) (v : ℕ) → LacksWord (pool_reach mode v).registers here
+  none_pooled mode v bit = ap (λ b. is_of_pool_by b mode v 0) is.bank
 
   none_written : (mode : Mode) (m : Named) (word : ℕ) → ((p : Place) (view : ℕ) → m ≡ Register p view → IsOther row p)
-      → (write_reach mode m word).registers.words here ≡ false
-  none_written mode (Nothing seen) word other = refl
+      → LacksWord (write_reach mode m word).registers here
+  none_written mode (Nothing seen) word other = λ bit. refl
   none_written mode (Register p view) word other =
       let o = other p view refl in
       rw (no_reset p.row word o.control)
-      (either_way (λ (r : Reach). r.registers.words here ≡ false) (asks_pool_reset (row_of p.row).kind word) _ _
+      (either_way (λ (r : Reach). LacksWord r.registers here) (asks_pool_reset (row_of p.row).kind word) _ _
       (none_pooled mode p.index) (none_written_by here is.quiet (row_of p.row).kind p (other_place p o.other)))
 
   none_owned : (o : Owner) → is_owner o owner.Device ≡ false → is_owner o (owner_of here) ≡ false
@@ -83,46 +84,46 @@ module _ (row : RowId) (is : IsSetting row) where
       neither _ _ (none_owned (owner.Side dir queue) refl)
       (neither _ _ (neither _ _ (none_owned owner.Counters refl) (ap is_function_count is.bank)) is.quiet)
 
-  none_received : (ws : List Waiting) (reply : Reply Block) → (receive_reach ws reply).registers.words here ≡ false
-  none_received [] reply = refl
-  none_received (w ∷ others) reply = none_stepped Rx w.queue
+  none_received : (ws : List Waiting) (reply : Reply Block) → LacksWord (receive_reach ws reply).registers here
+  none_received [] reply bit = refl
+  none_received (w ∷ others) reply bit = none_stepped Rx w.queue
 
-  none_switched : (dir : Dir) (queue : ℕ) → (switch_reach dir queue).registers.words here ≡ false
-  none_switched Rx queue = none_owned (owner.Side Rx queue) refl
-  none_switched Tx queue = none_owned (owner.Side Tx queue) refl
+  none_switched : (dir : Dir) (queue : ℕ) → LacksWord (switch_reach dir queue).registers here
+  none_switched Rx queue bit = none_owned (owner.Side Rx queue) refl
+  none_switched Tx queue bit = none_owned (owner.Side Tx queue) refl
 
-  none_read_by : (k : Kind) (p : Place) → (row_of p.row).kind ≡ k → (read_by k p).words here ≡ false
+  none_read_by : (k : Kind) (p : Place) → (row_of p.row).kind ≡ k → LacksWord (read_by k p) here
   none_read_by kind.Rc p counter =
-      other_place p (λ same. is.steady (sym (ap (λ (r : RowId). (row_of r).kind) same) ∙ counter))
+      λ bit. other_place p (λ same. is.steady (sym (ap (λ (r : RowId). (row_of r).kind) same) ∙ counter))
   none_read_by kind.Cause p causes = none_pending_of here is.quiet (owner_of p)
-  none_read_by other p e = refl
+  none_read_by other p e = λ bit. refl
 
-  none_read : (m : Named) → (read_reach m).registers.words here ≡ false
-  none_read (Nothing seen) = refl
+  none_read : (m : Named) → LacksWord (read_reach m).registers here
+  none_read (Nothing seen) = λ bit. refl
   none_read (Register p view) = none_read_by (row_of p.row).kind p refl
 
-  word_stands : (s : State) (e : Event Block)
-      → (reach_by s e (step_of s e).reply).registers.words here ≡ false
+  stays : (s : State) (e : Event Block)
+      → LacksWord (reach_by s e (step_of s e).reply).registers here
       → word_of (after s e).registers row 0 ≡ word_of s.registers row 0
-  word_stands s e none = (step_leads s e).stays.registers.words here none
+  stays s e none = word_stands (step_leads s e).stays.registers here none
 
   pub setting_stands : (s : State) (e : Event Block)
       → ((port : Port) (n word : ℕ) (p : Place) (view : ℕ) → e ≡ event.Write port n word
       → named s port n ≡ Register p view → IsOther row p)
       → word_of (after s e).registers row 0 ≡ word_of s.registers row 0
   unfolding step_of
-  setting_stands s (event.Read port n) other = word_stands s (event.Read port n) (none_read (named s port n))
+  setting_stands s (event.Read port n) other = stays s (event.Read port n) (none_read (named s port n))
   setting_stands s (event.Write port n word) other =
-      word_stands s (event.Write port n word)
+      stays s (event.Write port n word)
       (none_written (mode_in s.registers) (named s port n) word (λ p view found. other port n word p view refl found))
   setting_stands s (event.Arrive frame) other =
-      word_stands s (event.Arrive frame)
-      (neither _ _ (none_owned owner.Counters refl) (none_pending here is.quiet group.Pf))
-  setting_stands s event.RxStep other = word_stands s event.RxStep (none_received s.waiting _)
-  setting_stands s (event.TxStep queue) other = word_stands s (event.TxStep queue) (none_stepped Tx queue)
-  setting_stands s (event.IntStep g) other = word_stands s (event.IntStep g) (none_pending here is.quiet g)
+      stays s (event.Arrive frame)
+      (λ bit. neither _ _ (none_owned owner.Counters refl) (none_pending here is.quiet group.Pf bit))
+  setting_stands s event.RxStep other = stays s event.RxStep (none_received s.waiting _)
+  setting_stands s (event.TxStep queue) other = stays s (event.TxStep queue) (λ bit. none_stepped Tx queue)
+  setting_stands s (event.IntStep g) other = stays s (event.IntStep g) (none_pending here is.quiet g)
   setting_stands s (event.QueueStep dir queue) other =
-      word_stands s (event.QueueStep dir queue) (none_switched dir queue)
-  setting_stands s event.EepromStep other = word_stands s event.EepromStep (other_place (place Eerd 0) is.unread)
-  setting_stands s (event.Link up) other = word_stands s (event.Link up) (none_pending here is.quiet group.Pf)
-  setting_stands s e other = word_stands s e refl
+      stays s (event.QueueStep dir queue) (none_switched dir queue)
+  setting_stands s event.EepromStep other = stays s event.EepromStep (λ bit. other_place (place Eerd 0) is.unread)
+  setting_stands s (event.Link up) other = stays s (event.Link up) (none_pending here is.quiet group.Pf)
+  setting_stands s e other = stays s e (λ bit. refl)

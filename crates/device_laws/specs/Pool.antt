@@ -9,7 +9,7 @@ use Rattle.nic_device.specs.RegisterFile.Access.{asks_pool_reset}
 use Rattle.nic_device.specs.RegisterFile.Pools.{mode_in}
 use Rattle.nic_device.specs.RegisterFile.Registers.{word_of}
 use Rattle.nic_device.specs.RegisterFile.Settings.{is_stopped}
-use Rattle.nic_device.specs.RegisterLaws.Footprint.{ChangesWithin, AgreeWithin, of_pool}
+use Rattle.nic_device.specs.RegisterLaws.Footprint.{ChangesWithin, AgreeWithin, pool_agrees, pool_changes}
 use Rattle.nic_device.specs.RegisterLaws.PoolReset.{IsResetAt}
 use Rattle.nic_device.specs.Named.{named}
 use Rattle.nic_device.specs.PoolReset.{others_waiting}
@@ -29,7 +29,7 @@ waiting_of mode v waiting = filter (λ w. has_queue mode v w.queue) waiting
 -- all but what is the pool's is as it was: words, wanted enables and told bits, staged bytes, and of the frames that
 -- wait those of other queues, in their order; and memory, frames out, link, image and configuration
 pub record ChangesPoolAlone (v : ℕ) (old new : State) : Type 0 where
-  pub registers : ChangesWithin (of_pool (mode_in old.registers) v) old.registers new.registers
+  pub registers : ChangesWithin (pool_changes (mode_in old.registers) v) old.registers new.registers
   pub staged : (queue : ℕ) → IsFalse (has_queue (mode_in old.registers) v queue)
       → staged_by new queue ≡ staged_by old queue
   pub waiting : others_waiting (mode_in old.registers) v new.waiting
@@ -75,7 +75,7 @@ pub record AgreeOnPool (v : ℕ) (a b : State) : Type 0 where
   pub mode : word_of a.registers GcrExt 0 ≡ word_of b.registers GcrExt 0
   pub steps : is_stopped a.registers ≡ is_stopped b.registers
   pub link : a.link ≡ b.link
-  pub registers : AgreeWithin (of_pool (mode_in a.registers) v) a.registers b.registers
+  pub registers : AgreeWithin (pool_agrees (mode_in a.registers) v) a.registers b.registers
   pub staged : (queue : ℕ) → IsTrue (has_queue (mode_in a.registers) v queue) → staged_by a queue ≡ staged_by b queue
   pub waiting : waiting_of (mode_in a.registers) v a.waiting ≡ waiting_of (mode_in a.registers) v b.waiting
 
@@ -96,7 +96,7 @@ VfSeesItsPoolAlone =
 -- bytes, and of the frames that wait those of other queues are left, in their order
 pub record IsPoolReset (v : ℕ) (old new : State) : Type 0 where
   pub alone : ChangesPoolAlone v old new
-  pub registers : IsResetAt (of_pool (mode_in old.registers) v) new.registers
+  pub registers : IsResetAt (pool_changes (mode_in old.registers) v) new.registers
   pub staged : (queue : ℕ) → IsTrue (has_queue (mode_in old.registers) v queue) → staged_by new queue ≡ []
   pub waiting : new.waiting ≡ others_waiting (mode_in old.registers) v old.waiting
 

@@ -17,6 +17,7 @@ use Rattle.nic_device.specs.RegisterFile.Columns.{place}
 use Rattle.nic_device.specs.RegisterFile.Pools.{mode_in}
 use Rattle.nic_device.specs.RegisterFile.Registers.{word_of}
 use Rattle.nic_device.proofs.RegisterFile.ResetWords.{word_at-reset}
+use Rattle.nic_device.proofs.RegisterLaws.Footprints.{word_stands}
 use Rattle.nic_device.proofs.RegisterLaws.Shape.{put_stands}
 use Rattle.nic_device.specs.Access.{named_written}
 use Rattle.nic_device.specs.Eeprom.{with_triples}
@@ -65,10 +66,10 @@ pub control_stands : (s : State) (port : Port) (n word index view : ℕ)
     → asks_reset (row_of Ctrl).kind word ≡ false
     → word_of (after s (event.Write port n word)).registers GcrExt 0 ≡ word_of s.registers GcrExt 0
 control_stands s port n word index view found none =
-    (step_leads s (event.Write port n word)).stays.registers.words (place GcrExt 0)
-    (ap (λ m. (write_reach (mode_in s.registers) m word).registers.words (place GcrExt 0)) found
-    ∙ ap (λ b. (cond b reset_reach (below_reset_reach (mode_in s.registers) (place Ctrl index) word)).registers.words
-    (place GcrExt 0)) none)
+    word_stands (step_leads s (event.Write port n word)).stays.registers (place GcrExt 0)
+    (λ bit. ap (λ m. (write_reach (mode_in s.registers) m word).registers.bits (place GcrExt 0) bit) found
+    ∙ ap (λ b. (cond b reset_reach (below_reset_reach (mode_in s.registers) (place Ctrl index) word)).registers.bits
+    (place GcrExt 0) bit) none)
 
 -- no step of the device changes GCR_EXT
 pub setting : IsSetting GcrExt

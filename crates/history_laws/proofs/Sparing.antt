@@ -15,7 +15,7 @@ use Rattle.nic_device.specs.RegisterFile.Pools.{mode_in}
 use Rattle.nic_device.specs.DmaRing.declared.dir.Dir.{Dir}
 use Rattle.nic_device.specs.DmaRing.declared.dir.Dir.TheVariants.{Rx, Tx}
 use Rattle.nic_device.specs.RegisterFile.declared.owner.Owner.TheVariants as owner
-use Rattle.nic_device.specs.RegisterLaws.Footprint.{Misses, of_pool, of_side, of_write}
+use Rattle.nic_device.specs.RegisterLaws.Footprint.{Misses, pool_changes, of_side, of_write}
 use Rattle.nic_device.specs.Access.{named_written}
 use Rattle.nic_device.specs.Footprint.{StaysWithin, write_reach, reset_reach, below_reset_reach, pool_reach, in_registers}
 use Rattle.nic_device.specs.Named.{named}
@@ -73,9 +73,9 @@ wanted_none Rx Tx mode v queue number none is = cc
 wanted_none Tx Rx mode v queue number none is = cc
 
 pub pool_misses : (side : Dir) (mode : Mode) (v queue : ℕ) → has_queue mode v queue ≡ false
-    → Misses (of_pool mode v) (of_side side queue)
+    → Misses (pool_changes mode v) (of_side side queue)
 pool_misses side mode v queue none = record {
-  words = λ p is. pool_none (row_of p.row).bank side mode v p.index queue none is;
+  bits = λ p bit is. pool_none (row_of p.row).bank side mode v p.index queue none is;
   wanted = λ dir number is. wanted_none side dir mode v queue number none is;
   told = λ g is. cc;
 }

@@ -22,6 +22,7 @@ use Rattle.nic_device.specs.RegisterLaws.Laws.{after_write as word_written}
 use Rattle.nic_device.proofs.RegisterLaws.Accessed.{covers-of_read, covers-of_write}
 use Rattle.nic_device.proofs.RegisterLaws.Covers.{misses-narrower, misses-owner}
 use Rattle.nic_device.proofs.RegisterLaws.Owners.{is_owner-same}
+use Rattle.nic_device.proofs.RegisterLaws.Footprints.{word_stands}
 use Rattle.nic_device.proofs.RegisterLaws.PoolReset.{renewed-pool}
 use Rattle.nic_device.proofs.RegisterLaws.Stands.{group_stands}
 use Rattle.nic_device.proofs.RegisterLaws.Within.{within-after_read, within-written}
@@ -59,10 +60,10 @@ module _ (s : State) (h : IsSound s) (g : Group) (there : IsGroup g) (bit : ℕ)
       → (bit_of new g bit).mask ≡ true
   stands new same = ap (λ (x : Bit). x.mask) (bit_stands s new g there same bit b) ∙ m
 
-  word_stands : (new : State)
+  mask_stands : (new : State)
       → word_at new.registers.words (mask_register g) ≡ word_at s.registers.words (mask_register g)
       → (bit_of new g bit).mask ≡ true
-  word_stands new same =
+  mask_stands new same =
       ap (λ (x : Bit). x.mask) (bit_of-words new g there bit (small g bit b))
       ∙ ap (has_bit bit) same
       ∙ sym (ap (λ (x : Bit). x.mask) (bit_of-words s g there bit (small g bit b))) ∙ m
@@ -112,8 +113,8 @@ module _ (s : State) (h : IsSound s) (g : Group) (there : IsGroup g) (bit : ℕ)
   reset_elsewhere : (v : ℕ) → is_of_pool (mode_in s.registers) v (mask_register g) ≡ false
       → (bit_of (with_pool_reset s v) g bit).mask ≡ true
   reset_elsewhere v other =
-      word_stands (with_pool_reset s v)
-      ((renewed-pool s.registers (mode_in s.registers) v).alone.words (mask_register g) other)
+      mask_stands (with_pool_reset s v)
+      (word_stands (renewed-pool s.registers (mode_in s.registers) v).alone (mask_register g) (λ at. other))
 
 -- reads of a group's own registers
 

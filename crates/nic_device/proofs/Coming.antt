@@ -25,14 +25,14 @@ use Rattle.nic_device.specs.Interrupt.{group_of_queue, raised_by}
 
 pub covers-first : (f g : Footprint) → Covers (either f g) f
 covers-first f g = record {
-  words = λ p is. or_left (f.words p) (g.words p) is;
+  bits = λ p bit is. or_left (f.bits p bit) (g.bits p bit) is;
   wanted = λ dir queue is. or_left (f.wanted dir queue) (g.wanted dir queue) is;
   told = λ h is. or_left (f.told h) (g.told h) is;
 }
 
 pub covers-second : (f g : Footprint) → Covers (either f g) g
 covers-second f g = record {
-  words = λ p is. or_right (f.words p) (g.words p) is;
+  bits = λ p bit is. or_right (f.bits p bit) (g.bits p bit) is;
   wanted = λ dir queue is. or_right (f.wanted dir queue) (g.wanted dir queue) is;
   told = λ h is. or_right (f.told h) (g.told h) is;
 }

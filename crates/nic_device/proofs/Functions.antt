@@ -40,7 +40,7 @@ pub record IsFunctionCounter (row : RowId) : Type 0 where
 
 covers-function_count : (row : RowId) (v : ℕ) → IsFunctionCounter row → Covers function_counts (the_word (place row v))
 covers-function_count row v is = record {
-  words = λ p same.
+  bits = λ p bit same.
       ap (λ (q : Place). is_function_count (row_of q.row).bank) (sym (is_place-same (place row v) p same))
       ∙ ap is_function_count is.bank;
   wanted = λ dir queue no. cc;

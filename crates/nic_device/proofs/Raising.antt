@@ -1,5 +1,5 @@
 -- What the steps of queues make of the registers: a side changes, frames are counted and causes raised.
-use Rattle.std.proofs.Common.{◌≡◌, ◌<◌, ◌^◌, ℕ, false, List, Option, Some, None, refl}
+use Rattle.std.proofs.Common.{◌≡◌, ◌<◌, ◌^◌, ℕ, List, Option, Some, None, refl}
 use Rattle.std.specs.Prelude.{⊤}
 use Rattle.register_file.specs.IntrUnit.declared.group.Group.TheVariants.{Pf}
 use Rattle.register_file.specs.RegTable.declared.rows.RowId.{RowId}
@@ -12,7 +12,7 @@ use Rattle.register_file.specs.Queue.{enable_row, head_row, is_on, with_head, sh
 use Rattle.register_file.specs.Registers.{Registers}
 use Rattle.rx_ring.specs.DmaRing.declared.dir.Dir.{Dir}
 use Rattle.rx_ring.specs.DmaRing.declared.dir.Dir.TheVariants.{Rx, Tx}
-use Rattle.register_laws.specs.Footprint.{Footprint, Covers, either, counters, any_pending, pending, the_word, of_side}
+use Rattle.register_laws.specs.Footprint.{Footprint, LacksWord, Covers, either, counters, any_pending, pending, the_word, of_side}
 use Rattle.register_laws.proofs.Covers.{covers-trans}
 use Rattle.register_laws.proofs.Footprints.{within-refl, covers-the_word}
 use Rattle.register_laws.proofs.Sound.{sound-causes_raised, sound-with_head, sound-shut}
@@ -96,7 +96,7 @@ side_failed-comes r dir queue =
 
 -- and no other side
 pub sides-failed : (r : Registers) (dir side : Dir) (queue other : ℕ)
-    → (of_step dir queue).words (place (enable_row side) other) ≡ false
+    → LacksWord (of_step dir queue) (place (enable_row side) other)
     → is_on (side_failed r dir queue) side other ≡ is_on r side other
 sides-failed r dir side queue other apart =
     on_stays (of_step dir queue) r (side_failed r dir queue) side other apart (side_failed-comes r dir queue).within

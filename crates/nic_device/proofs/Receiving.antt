@@ -158,7 +158,8 @@ on_leads s first = received_cases (λ (o : Outcome). IsFirstOn s → Leads s eve
       (slotless-comes s.registers w.queue) (sides-slotless s.registers w.queue Tx) refl;
   fault = λ w others e fault on.
       first_dropped s w others (Fault w.queue fault) (side_failed s.registers Rx w.queue) e
-      (side_failed-comes s.registers Rx w.queue) (λ queue. sides-failed s.registers Rx Tx w.queue queue refl) refl;
+      (side_failed-comes s.registers Rx w.queue)
+      (λ queue. sides-failed s.registers Rx Tx w.queue queue (λ bit. refl)) refl;
   filled = λ w others e f is on. filled_leads s w others e f is (on w others e);
 }) first
 

@@ -68,7 +68,7 @@ other_side : (r : Registers) (queue other : ℕ) → (other ≡ queue → ⊥)
     → is_on (side_failed r Tx queue) Tx other ≡ is_on r Tx other
 other_side r queue other apart =
     let ne : (queue == other) ≡ false = ne_eqb queue other (λ same. apart (sym same)) in
-    sides-failed r Tx Tx queue other (rw ne refl)
+    sides-failed r Tx Tx queue other (λ bit. rw ne refl)
 
 failed_bare : (s : State) (queue : ℕ) → AreStagedWhileOn s.registers s.staged
     → AreStagedWhileOn (side_failed s.registers Tx queue) (slice_set s.staged queue [])
@@ -85,7 +85,7 @@ failed_sound s queue h =
     let r = side_failed s.registers Tx queue in
     let comes = side_failed-comes s.registers Tx queue in
     let begun = All-weaker (IsBegunWhileOn s.registers) (IsBegunWhileOn r)
-    (λ w was some. sides-failed s.registers Tx Rx queue w.queue refl ∙ was some) s.waiting h.begun in
+    (λ w was some. sides-failed s.registers Tx Rx queue w.queue (λ bit. refl) ∙ was some) s.waiting h.begun in
     sound-changed s r s.waiting (slice_set s.staged queue []) h (comes.sound tt h.registers) h.waiting begun h.room
     (AreStaged-set s.staged queue [] h.staged IsStaged-none) (failed_bare s queue h.bare)
 

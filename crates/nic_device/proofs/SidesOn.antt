@@ -18,7 +18,7 @@ use Rattle.register_file.specs.Words.{row_words}
 use Rattle.register_file.specs.declared.owner.Owner.TheVariants as owner
 use Rattle.rx_ring.specs.DmaRing.declared.dir.Dir.{Dir}
 use Rattle.rx_ring.specs.DmaRing.declared.dir.Dir.TheVariants.{Rx, Tx}
-use Rattle.register_laws.specs.Footprint.{Footprint, ChangesWithin, either, counters, is_pending, is_place, of_pool, of_read, of_side, pending, the_word}
+use Rattle.register_laws.specs.Footprint.{Footprint, HasWord, LacksWord, ChangesWithin, either, counters, is_pending, is_place, pool_changes, of_read, of_side, pending, the_word}
 use Rattle.register_laws.specs.Laws.{after_write}
 use Rattle.register_laws.specs.Sides.{ReceiveQueue, TransmitQueue}
 use Rattle.register_laws.specs.Sound.{HasShape, AreSound}
@@ -52,49 +52,49 @@ was_off r s kept dir queue off = elim (cases_Bool (is_on r dir queue)) as (λ _.
 -- what leaves an enable word
 
 pub on_stays : (f : Footprint) (r s : Registers) (dir : Dir) (queue : ℕ)
-    → f.words (place (enable_row dir) queue) ≡ false → ChangesWithin f r s → is_on s dir queue ≡ is_on r dir queue
-on_stays f r s dir queue spared within = ap (has_bit 25) (within.words (place (enable_row dir) queue) spared)
+    → LacksWord f (place (enable_row dir) queue) → ChangesWithin f r s → is_on s dir queue ≡ is_on r dir queue
+on_stays f r s dir queue spared within = within.bits (place (enable_row dir) queue) 25 (spared 25)
 
 -- a footprint has no enable word
 abbrev pub SparesEnables : Footprint → Type 0
-SparesEnables f = (dir : Dir) (queue : ℕ) → f.words (place (enable_row dir) queue) ≡ false
+SparesEnables f = (dir : Dir) (queue : ℕ) → LacksWord f (place (enable_row dir) queue)
 
 pub sides_kept : (f : Footprint) (r s : Registers) → SparesEnables f → ChangesWithin f r s → KeepsSides r s
 sides_kept f r s spares within dir queue = on_stays f r s dir queue (spares dir queue) within
 
-of_the_side : (dir : Dir) (queue : ℕ) → (of_side dir queue).words (place (enable_row dir) queue) ≡ true
-of_the_side Rx queue = is_owner-itself (owner.Side Rx queue)
-of_the_side Tx queue = is_owner-itself (owner.Side Tx queue)
+of_the_side : (dir : Dir) (queue : ℕ) → HasWord (of_side dir queue) (place (enable_row dir) queue)
+of_the_side Rx queue bit = is_owner-itself (owner.Side Rx queue)
+of_the_side Tx queue bit = is_owner-itself (owner.Side Tx queue)
 
 pub spares-of_read : (p : Place) → SparesEnables (of_read p)
-spares-of_read p dir queue =
-    (read_misses_sides p dir queue).words (place (enable_row dir) queue) (of_the_side dir queue)
+spares-of_read p dir queue bit =
+    (read_misses_sides p dir queue).bits (place (enable_row dir) queue) bit (of_the_side dir queue bit)
 
 pub spares-pending : (g : Group) → SparesEnables (pending g)
-spares-pending g dir queue =
-    (pending_misses_sides (owner.Group g) dir queue).words (place (enable_row dir) queue) (of_the_side dir queue)
+spares-pending g dir queue bit =
+    (pending_misses_sides (owner.Group g) dir queue).bits (place (enable_row dir) queue) bit (of_the_side dir queue bit)
 
 pub spares-arrival : SparesEnables (either counters (pending Pf))
-spares-arrival Rx queue = refl
-spares-arrival Tx queue = refl
+spares-arrival Rx queue bit = refl
+spares-arrival Tx queue bit = refl
 
 pub spares-answer : SparesEnables (the_word (place Eerd 0))
-spares-answer Rx queue = refl
-spares-answer Tx queue = refl
+spares-answer Rx queue bit = refl
+spares-answer Tx queue bit = refl
 
 pub spares-counts : SparesEnables counts_and_causes
-spares-counts Rx queue = refl
-spares-counts Tx queue = refl
+spares-counts Rx queue bit = refl
+spares-counts Tx queue bit = refl
 
 -- what a step changes that moves a head on: the head, counters and causes
 abbrev pub of_move : Dir → ℕ → Footprint
 of_move dir queue = either (the_word (place (head_row dir) queue)) counts_and_causes
 
 pub spares-move : (dir : Dir) (queue : ℕ) → SparesEnables (of_move dir queue)
-spares-move Rx queue Rx other = refl
-spares-move Rx queue Tx other = refl
-spares-move Tx queue Rx other = refl
-spares-move Tx queue Tx other = refl
+spares-move Rx queue Rx other bit = refl
+spares-move Rx queue Tx other bit = refl
+spares-move Tx queue Rx other bit = refl
+spares-move Tx queue Tx other bit = refl
 
 -- past the end there is no side
 
@@ -138,18 +138,17 @@ module _ (r : Registers) (sound : AreSound r) (view word : ℕ) where
         | inl same ↦
             subst (λ q. is_on (after_write r q view word) dir queue ≡ is_on r dir queue)
             (sym (is_place-same p here same)) (asked dir queue)
-        | inr other ↦ ap (has_bit 25)
-            ((within-written r p view word).words here
-            (none_written_by here (enable_calm dir) (row_of p.row).kind p other))
+        | inr other ↦ (within-written r p view word).bits here 25
+            (none_written_by here (enable_calm dir) (row_of p.row).kind p other 25)
       ]
 
 -- a switch changes its own side alone, and leaves it on where it is wanted on
 
 pub others_switched : (r : Registers) (dir side : Dir) (queue other : ℕ)
-    → (the_word (place (enable_row dir) queue)).words (place (enable_row side) other) ≡ false
+    → is_place (place (enable_row dir) queue) (place (enable_row side) other) ≡ false
     → is_on (switched r dir queue) side other ≡ is_on r side other
 others_switched r dir side queue other apart =
-    on_stays (the_word (place (enable_row dir) queue)) r (switched r dir queue) side other apart
+    on_stays (the_word (place (enable_row dir) queue)) r (switched r dir queue) side other (λ bit. apart)
     (within-switched r dir queue)
 
 module _ (r : Registers) (h : HasShape r) where
@@ -192,6 +191,6 @@ module _ (r : Registers) (h : HasShape r) where
 pub others_pooled : (r : Registers) (mode : Mode) (v : ℕ) (dir : Dir) (queue : ℕ) → has_queue mode v queue ≡ false
     → is_on (pool_reset mode v r) dir queue ≡ is_on r dir queue
 others_pooled r mode v Rx queue none =
-    on_stays (of_pool mode v) r (pool_reset mode v r) Rx queue none (renewed-pool r mode v).alone
+    on_stays (pool_changes mode v) r (pool_reset mode v r) Rx queue (λ bit. none) (renewed-pool r mode v).alone
 others_pooled r mode v Tx queue none =
-    on_stays (of_pool mode v) r (pool_reset mode v r) Tx queue none (renewed-pool r mode v).alone
+    on_stays (pool_changes mode v) r (pool_reset mode v r) Tx queue (λ bit. none) (renewed-pool r mode v).alone

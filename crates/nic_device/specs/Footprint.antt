@@ -16,7 +16,7 @@ use Rattle.register_file.specs.Columns.{place}
 use Rattle.register_file.specs.Pools.{mode_in}
 use Rattle.rx_ring.specs.DmaRing.declared.dir.Dir.{Dir}
 use Rattle.rx_ring.specs.DmaRing.declared.dir.Dir.TheVariants.{Rx, Tx}
-use Rattle.register_laws.specs.Footprint.{Footprint, ChangesWithin, nothing, everything, either, the_word, counters, of_side, of_pool, pending, any_pending, of_read, of_write}
+use Rattle.register_laws.specs.Footprint.{Footprint, ChangesWithin, nothing, everything, either, the_word, counters, of_side, pool_changes, pending, any_pending, of_read, of_write}
 use Rattle.register_laws.specs.Sides.{transmit_queue_of}
 use Rattle.tx_ring.specs.Report.{report_length}
 use Rattle.nic_device.specs.Named.{named}
@@ -85,7 +85,7 @@ reset_reach = record nowhere { registers = everything; staged = λ queue. true; 
 -- a reset of a pool leaves all that isn't the pool's, lent memory, frames out and the link
 abbrev pub pool_reach : Mode → ℕ → Reach
 pool_reach mode v = record nowhere {
-  registers = of_pool mode v;
+  registers = pool_changes mode v;
   staged = λ queue. has_queue mode v queue;
   waiting = true;
 }
@@ -126,7 +126,7 @@ is_function_count bank.Vectors = false
 abbrev pub function_counts : Footprint
 function_counts =
     record {
-      words = λ p. is_function_count (row_of p.row).bank;
+      bits = λ p bit. is_function_count (row_of p.row).bank;
       wanted = λ dir queue. false;
       told = λ g. false;
     }

@@ -8,7 +8,7 @@ use Rattle.register_file.specs.IntrUnit.declared.group.Group.{Group}
 use Rattle.register_file.specs.Owner.{owner_of}
 use Rattle.register_file.specs.declared.owner.Owner.{Owner}
 use Rattle.register_file.specs.declared.owner.Owner.TheVariants as owner
-use Rattle.register_laws.specs.Footprint.{Footprint, Covers, nothing, is_place, the_word, the_enable, of_owner, pending, pending_of, any_pending, is_pending, read_by, of_read, written_by, of_write}
+use Rattle.register_laws.specs.Footprint.{Footprint, LacksWord, Covers, nothing, is_place, the_word, the_enable, of_owner, pending, pending_of, any_pending, is_pending, read_by, of_read, written_by, of_write}
 use Rattle.register_laws.proofs.Covers.{fails, covers-nothing, covers-the_word, covers-the_enable, covers-pending, covers-any_pending}
 
 covers-pending_of : (o : Owner) → Covers (of_owner o) (pending_of o)
@@ -45,12 +45,14 @@ covers-of_write p =
 
 -- a place that is neither of causes nor of masks isn't pending, and only a write of it changes its word
 module _ (q : Place) (steady : is_pending (row_of q.row).kind ≡ false) where
-  pub none_pending : (g : Group) → (pending g).words q ≡ false
-  none_pending g = fails ((pending g).words q) (any_pending.words q) ((covers-any_pending g).words q) steady
+  pub none_pending : (g : Group) → LacksWord (pending g) q
+  none_pending g bit =
+      fails ((pending g).bits q bit) (any_pending.bits q bit) ((covers-any_pending g).bits q bit) steady
 
-  pub none_pending_of : (o : Owner) → (pending_of o).words q ≡ false
+  pub none_pending_of : (o : Owner) → LacksWord (pending_of o) q
   none_pending_of (owner.Group g) = none_pending g
-  none_pending_of other = refl
+  none_pending_of other = λ bit. refl
 
-  pub none_written_by : (k : Kind) (p : Place) → is_place p q ≡ false → (written_by k p).words q ≡ false
-  none_written_by k p n = written_by_cases (λ f. f.words q ≡ false) k p refl n n (none_pending_of (owner_of p))
+  pub none_written_by : (k : Kind) (p : Place) → is_place p q ≡ false → LacksWord (written_by k p) q
+  none_written_by k p n =
+      written_by_cases (λ f. LacksWord f q) k p (λ bit. refl) (λ bit. n) (λ bit. n) (none_pending_of (owner_of p))

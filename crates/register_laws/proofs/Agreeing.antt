@@ -13,7 +13,7 @@ use Rattle.register_file.specs.Registers.{Registers, is_wanted, with_wanted}
 use Rattle.register_file.specs.Words.{word_at, put}
 use Rattle.register_file.specs.DmaRing.declared.dir.Dir.{Dir}
 use Rattle.register_file.specs.declared.owner.Owner.TheVariants as owner
-use Rattle.register_laws.specs.Footprint.{Footprint, AgreeWithin, is_place}
+use Rattle.register_laws.specs.Footprint.{Part, AgreeWithin, is_place}
 use Rattle.register_laws.specs.Sound.{HasShape}
 use Rattle.register_laws.proofs.Fields.{is_wanted-put, told_by-put, words-with_wanted, is_wanted-with_wanted_other, told_by-with_wanted, words-with_told, is_wanted-with_told, told_by-with_told_other}
 use Rattle.register_laws.proofs.Owners.{apart, is_dir-same, is_group-itself, is_group-same, is_owner-itself, is_place-itself, is_place-same}
@@ -21,7 +21,7 @@ use Rattle.register_laws.proofs.Puts.{word_at-put_other}
 use Rattle.register_laws.proofs.Shape.{HasShape-put}
 use Rattle.register_laws.proofs.PastEnd.{word_put, side_wanted, bits_told}
 
-module _ (f : Footprint) (a b : Registers) (ha : HasShape a) (hb : HasShape b) (same : AgreeWithin f a b) where
+module _ (f : Part) (a b : Registers) (ha : HasShape a) (hb : HasShape b) (same : AgreeWithin f a b) where
   pub agree-put : (p : Place) (v w : ℕ) → v ≡ w
       → AgreeWithin f (record a { words = put a.words p v }) (record b { words = put b.words p w })
   agree-put p v w e = record {
@@ -85,7 +85,7 @@ module _ (f : Footprint) (a b : Registers) (ha : HasShape a) (hb : HasShape b) (
   }
 
 -- the same interrupts of a group
-pub agree-with_interrupts : (f : Footprint) (a b : Registers) → HasShape a → HasShape b → AgreeWithin f a b
+pub agree-with_interrupts : (f : Part) (a b : Registers) → HasShape a → HasShape b → AgreeWithin f a b
     → (s t : Interrupts) → s ≡ t → AgreeWithin f (with_interrupts a s) (with_interrupts b t)
 agree-with_interrupts f a b ha hb same s t e =
     let cause : Place = place (cause_row s.group) (index_of s.group) in
@@ -104,7 +104,7 @@ agree-with_interrupts f a b ha hb same s t e =
     s.group s.told)
 
 -- one of two, by the same test
-pub agree-if : (f : Footprint) (x y : Bool) (a b c d : Registers) → x ≡ y → AgreeWithin f a b → AgreeWithin f c d
+pub agree-if : (f : Part) (x y : Bool) (a b c d : Registers) → x ≡ y → AgreeWithin f a b → AgreeWithin f c d
     → AgreeWithin f (cond x a c) (cond y b d)
 agree-if f true true a b c d e on off = on
 agree-if f true false a b c d e on off = absurd (cc)

@@ -5,8 +5,17 @@ use Rattle.std.proofs.Math.Nat.{add-div_right, div-eq_of_lt, div-eq-sub-div}
 use Rattle.std.proofs.lemmas.Bool.{cases_Bool, cases_lt, cond-true, cond-false, eq-eqb, ne_eqb, eqb-true, eqb-false}
 use Rattle.std.specs.Int.{bit_at, w32}
 use Rattle.std.proofs.lemmas.Nat.{and_le_l, pow_pos}
-use Rattle.std.proofs.lemmas.Nat.Bits.{bit_at_and, bit_at_or, bit_at_not, bit_at-lt}
+use Rattle.std.proofs.lemmas.Bool.Decides.{nat_tests}
+use Rattle.std.proofs.lemmas.Nat.Bits.{bit_at_and, bit_at_or, bit_at_not, bit_at-lt, same_from_bits}
 use Rattle.register_file.specs.Bits.{has_bit, bit_set, bit_cleared, merged}
+
+-- numbers with the same bits are the same
+one_digit : (a b : ℕ) → a < 2 → b < 2 → (a == 1) ≡ (b == 1) → a ≡ b
+one_digit a b small other e = grind (arith, nat_tests)
+
+pub same_word : {m n : ℕ} → ((bit : ℕ) → has_bit bit m ≡ has_bit bit n) → m ≡ n
+same_word {m} {n} each =
+    same_from_bits m n (λ bit. one_digit (bit_at m bit) (bit_at n bit) (bit_at-lt m bit) (bit_at-lt n bit) (each bit))
 
 kept_bit : (x y : ℕ) → x < 2 → max (min x 1) (min y 0) ≡ x
 kept_bit x y h = omega arith

@@ -1,5 +1,5 @@
 -- Which footprints have all that others have, and which have nothing of others.
-use Rattle.std.proofs.Common.{◌≡◌, Bool, true, false, refl, ap, sym, ◌∙◌, subst, inl, inr}
+use Rattle.std.proofs.Common.{◌≡◌, ℕ, Bool, true, false, refl, ap, sym, ◌∙◌, subst, inl, inr}
 use Rattle.std.proofs.lemmas.Bool.{both_ways, or_cases, or_left, or_right}
 use Rattle.register_file.specs.RegTable.Rows.{row_of}
 use Rattle.register_file.specs.RegTable.declared.place.Place.{Place}
@@ -10,7 +10,7 @@ use Rattle.register_file.specs.Groups.{cause_row, mask_row, index_of}
 use Rattle.register_file.specs.Owner.{owner_of, is_owner}
 use Rattle.register_file.specs.declared.owner.Owner.{Owner}
 use Rattle.register_file.specs.declared.owner.Owner.TheVariants as owner
-use Rattle.register_laws.specs.Footprint.{Footprint, Covers, Misses, nothing, is_place, the_word, the_enable, of_owner, of_group, pending, any_pending, is_pending}
+use Rattle.register_laws.specs.Footprint.{Footprint, HasWord, Covers, Misses, nothing, is_place, the_word, the_enable, of_owner, of_group, pending, any_pending, is_pending}
 use Rattle.register_laws.proofs.Owners.{is_group-itself, is_owner-itself, is_owner-same, is_place-itself, is_place-same}
 
 -- what follows from a test that fails fails
@@ -20,7 +20,7 @@ fails false c follows off = refl
 
 pub covers-trans : (f g h : Footprint) → Covers f g → Covers g h → Covers f h
 covers-trans f g h wide narrow = record {
-  words = λ p is. wide.words p (narrow.words p is);
+  bits = λ p bit is. wide.bits p bit (narrow.bits p bit is);
   wanted = λ dir queue is. wide.wanted dir queue (narrow.wanted dir queue is);
   told = λ i is. wide.told i (narrow.told i is);
 }
@@ -28,7 +28,7 @@ covers-trans f g h wide narrow = record {
 -- a footprint within another misses what that misses
 pub misses-narrower : (f e g : Footprint) → Covers f e → Misses f g → Misses e g
 misses-narrower f e g has none = record {
-  words = λ p is. fails (e.words p) (f.words p) (has.words p) (none.words p is);
+  bits = λ p bit is. fails (e.bits p bit) (f.bits p bit) (has.bits p bit) (none.bits p bit is);
   wanted =
       λ dir queue is. fails (e.wanted dir queue) (f.wanted dir queue) (has.wanted dir queue) (none.wanted dir queue is);
   told = λ h is. fails (e.told h) (f.told h) (has.told h) (none.told h is);
@@ -36,13 +36,13 @@ misses-narrower f e g has none = record {
 
 pub misses-within : (f g h : Footprint) → Covers g h → Misses f g → Misses f h
 misses-within f g h has none = record {
-  words = λ p is. none.words p (has.words p is);
+  bits = λ p bit is. none.bits p bit (has.bits p bit is);
   wanted = λ dir queue is. none.wanted dir queue (has.wanted dir queue is);
   told = λ i is. none.told i (has.told i is);
 }
 
 pub misses-nothing : (g : Footprint) → Misses nothing g
-misses-nothing g = record { words = λ p is. refl; wanted = λ dir queue is. refl; told = λ h is. refl }
+misses-nothing g = record { bits = λ p bit is. refl; wanted = λ dir queue is. refl; told = λ h is. refl }
 
 -- two owners have nothing in common
 none_shared : (o other third : Owner) → is_owner o other ≡ false → is_owner other third ≡ true
@@ -51,32 +51,32 @@ none_shared o other third n is = ap (is_owner o) (sym (is_owner-same other third
 
 pub misses-owner : (o other : Owner) → is_owner o other ≡ false → Misses (of_owner o) (of_owner other)
 misses-owner o other n = record {
-  words = λ p is. none_shared o other (owner_of p) n is;
+  bits = λ p bit is. none_shared o other (owner_of p) n is;
   wanted = λ dir queue is. none_shared o other (owner.Side dir queue) n is;
   told = λ g is. none_shared o other (owner.Group g) n is;
 }
 
 -- what is of a place is its owner's
 pub covers-nothing : (f : Footprint) → Covers f nothing
-covers-nothing f = record { words = λ p is. cc; wanted = λ dir queue is. cc; told = λ g is. cc }
+covers-nothing f = record { bits = λ p bit is. cc; wanted = λ dir queue is. cc; told = λ g is. cc }
 
 owned : (p q : Place) → is_place p q ≡ true → is_owner (owner_of p) (owner_of q) ≡ true
 owned p q is =
     ap (λ (x : Place). is_owner (owner_of p) (owner_of x)) (sym (is_place-same p q is)) ∙ is_owner-itself (owner_of p)
 
 pub covers-the_word : (p : Place) → Covers (of_owner (owner_of p)) (the_word p)
-covers-the_word p = record { words = owned p; wanted = λ dir queue is. cc; told = λ g is. cc }
+covers-the_word p = record { bits = λ q bit. owned p q; wanted = λ dir queue is. cc; told = λ g is. cc }
 
 pub covers-the_enable : (p : Place) → Covers (of_owner (owner_of p)) (the_enable p)
-covers-the_enable p = record { words = owned p; wanted = λ dir queue is. is; told = λ g is. cc }
+covers-the_enable p = record { bits = λ q bit. owned p q; wanted = λ dir queue is. is; told = λ g is. cc }
 
 -- the places of what is pending
-pub cause_is_pending : (g : Group) → (pending g).words (place (cause_row g) (index_of g)) ≡ true
-cause_is_pending g =
+pub cause_is_pending : (g : Group) → HasWord (pending g) (place (cause_row g) (index_of g))
+cause_is_pending g bit =
     or_left _ (is_place (place (mask_row g) (index_of g)) _) (is_place-itself (place (cause_row g) (index_of g)))
 
-pub mask_is_pending : (g : Group) → (pending g).words (place (mask_row g) (index_of g)) ≡ true
-mask_is_pending g =
+pub mask_is_pending : (g : Group) → HasWord (pending g) (place (mask_row g) (index_of g))
+mask_is_pending g bit =
     or_right (is_place (place (cause_row g) (index_of g)) _) _ (is_place-itself (place (mask_row g) (index_of g)))
 
 cause_owner : (g : Group) → owner_of (place (cause_row g) (index_of g)) ≡ owner.Group g
@@ -88,9 +88,9 @@ mask_owner Pf = refl
 mask_owner (Vf v) = refl
 
 -- a place with what is pending is the place of the causes or that of the masks
-pending_cases : (P : Place → Type 0) (g : Group) (p : Place) → (pending g).words p ≡ true
+pending_cases : (P : Place → Type 0) (g : Group) (p : Place) (bit : ℕ) → (pending g).bits p bit ≡ true
     → P (place (cause_row g) (index_of g)) → P (place (mask_row g) (index_of g)) → P p
-pending_cases P g p is cause mask =
+pending_cases P g p bit is cause mask =
     elim (or_cases (is_place (place (cause_row g) (index_of g)) p) (is_place (place (mask_row g) (index_of g)) p) is) as
     (λ _. P p) [
       | inl e ↦ subst P (is_place-same _ p e) cause
@@ -99,7 +99,7 @@ pending_cases P g p is cause mask =
 
 pub covers-pending : (g : Group) → Covers (of_group g) (pending g)
 covers-pending g = record {
-  words = λ p is. pending_cases (λ q. is_owner (owner.Group g) (owner_of q) ≡ true) g p is
+  bits = λ p bit is. pending_cases (λ q. is_owner (owner.Group g) (owner_of q) ≡ true) g p bit is
       (ap (is_owner (owner.Group g)) (cause_owner g) ∙ is_group-itself g)
       (ap (is_owner (owner.Group g)) (mask_owner g) ∙ is_group-itself g);
   wanted = λ dir queue is. cc;
@@ -116,7 +116,8 @@ mask_pending (Vf v) = refl
 
 pub covers-any_pending : (g : Group) → Covers any_pending (pending g)
 covers-any_pending g = record {
-  words = λ p is. pending_cases (λ q. is_pending (row_of q.row).kind ≡ true) g p is (cause_pending g) (mask_pending g);
+  bits = λ p bit is.
+      pending_cases (λ q. is_pending (row_of q.row).kind ≡ true) g p bit is (cause_pending g) (mask_pending g);
   wanted = λ dir queue is. cc;
   told = λ h is. refl;
 }

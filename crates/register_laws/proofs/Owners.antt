@@ -1,6 +1,6 @@
 -- Places and owners that are the same.
-use Rattle.std.proofs.Common.{◌≡◌, ◌≢◌, Bool, true, false, refl, ap, ◌∙◌}
-use Rattle.std.proofs.lemmas.Bool.{both_ways, and_parts, and_from, eqb-true, eq-eqb}
+use Rattle.std.proofs.Common.{◌≡◌, ◌≢◌, Bool, true, false, refl, ap, sym, ◌∙◌}
+use Rattle.std.proofs.lemmas.Bool.{both_ways, false_from_ne_true, and_parts, and_from, eqb-true, eq-eqb}
 use Rattle.register_file.specs.RegTable.Rows.{number_of}
 use Rattle.register_file.specs.RegTable.declared.place.Place.{Place}
 use Rattle.register_file.proofs.RegTable.FirstAddresses.{same_number}
@@ -65,3 +65,6 @@ pub is_place-same : (p q : Place) → is_place p q ≡ true → p ≡ q
 is_place-same p q e =
     let parts = and_parts _ _ e in
     λ k. record { row = same_number p.row q.row (eqb-true _ _ parts.0) k; index = eqb-true p.index q.index parts.1 k }
+
+pub is_place-other : (p q : Place) → q ≢ p → is_place p q ≡ false
+is_place-other p q n = false_from_ne_true (is_place p q) (λ e. n (sym (is_place-same p q e)))

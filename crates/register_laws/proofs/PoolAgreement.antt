@@ -26,13 +26,13 @@ use Rattle.register_file.specs.DmaRing.declared.dir.Dir.TheVariants.{Rx, Tx}
 use Rattle.register_file.specs.declared.owner.Owner.{Owner}
 use Rattle.register_file.specs.declared.owner.Owner.TheVariants as owner
 use Rattle.register_laws.specs.Agreement.{PoolReadsKeepAgreement, PoolWritesKeepAgreement}
-use Rattle.register_laws.specs.Footprint.{AgreeWithin, of_pool}
+use Rattle.register_laws.specs.Footprint.{AgreeWithin, pool_agrees}
 use Rattle.register_laws.specs.Sound.{HasShape}
 use Rattle.register_laws.proofs.Agreeing.{agree-put, agree-with_wanted, agree-with_interrupts, agree-if}
 use Rattle.register_laws.proofs.PoolPlaces.{group_of_pool, side_of_pool}
 use Rattle.register_laws.proofs.Shape.{HasShape-put}
 
-module _ (mode : Mode) (v : ℕ) (a b : Registers) (same : AgreeWithin (of_pool mode v) a b) where
+module _ (mode : Mode) (v : ℕ) (a b : Registers) (same : AgreeWithin (pool_agrees mode v) a b) where
   -- the interrupts of the pool's virtual function
   interrupts_same : interrupts_of a (Vf v) ≡ interrupts_of b (Vf v)
   interrupts_same =
@@ -47,40 +47,41 @@ module _ (mode : Mode) (v : ℕ) (a b : Registers) (same : AgreeWithin (of_pool 
   causes_read_same = ap (λ i. causes_read (record i { group = Vf v }) true true) interrupts_same
 
   module _ (ha : HasShape a) (hb : HasShape b) where
-    agree-group_read : AgreeWithin (of_pool mode v) (group_read a (Vf v)) (group_read b (Vf v))
-    agree-group_read = agree-with_interrupts (of_pool mode v) a b ha hb same _ _ causes_read_same
+    agree-group_read : AgreeWithin (pool_agrees mode v) (group_read a (Vf v)) (group_read b (Vf v))
+    agree-group_read = agree-with_interrupts (pool_agrees mode v) a b ha hb same _ _ causes_read_same
 
     agree-interrupts_written : (k : Kind) (bits : ℕ)
-        → AgreeWithin (of_pool mode v) (interrupts_written k a (Vf v) bits) (interrupts_written k b (Vf v) bits)
+        → AgreeWithin (pool_agrees mode v) (interrupts_written k a (Vf v) bits) (interrupts_written k b (Vf v) bits)
     agree-interrupts_written kind.Cause bits =
-        agree-with_interrupts (of_pool mode v) a b ha hb same _ _
+        agree-with_interrupts (pool_agrees mode v) a b ha hb same _ _
         (ap (λ i. after_write_one i bits true) interrupts_same)
     agree-interrupts_written kind.Ones bits =
-        agree-with_interrupts (of_pool mode v) a b ha hb same _ _ (ap (λ i. after_mask_set i bits) interrupts_same)
+        agree-with_interrupts (pool_agrees mode v) a b ha hb same _ _ (ap (λ i. after_mask_set i bits) interrupts_same)
     agree-interrupts_written kind.Set bits =
-        agree-with_interrupts (of_pool mode v) a b ha hb same _ _ (ap (λ i. raised i bits true) interrupts_same)
+        agree-with_interrupts (pool_agrees mode v) a b ha hb same _ _ (ap (λ i. raised i bits true) interrupts_same)
     agree-interrupts_written kind.Clear bits =
-        agree-with_interrupts (of_pool mode v) a b ha hb same _ _ (ap (λ i. after_mask_clear i bits) interrupts_same)
+        agree-with_interrupts (pool_agrees mode v) a b ha hb same _ _
+        (ap (λ i. after_mask_clear i bits) interrupts_same)
     agree-interrupts_written other bits = same
 
-    in_the_group : (left right : Group → Registers) → AgreeWithin (of_pool mode v) (left (Vf v)) (right (Vf v))
+    in_the_group : (left right : Group → Registers) → AgreeWithin (pool_agrees mode v) (left (Vf v)) (right (Vf v))
         → (o : Owner) → ((g : Group) → o ≡ owner.Group g → g ≡ Vf v)
-        → AgreeWithin (of_pool mode v) (option_map_or left (group_in o) a) (option_map_or right (group_in o) b)
+        → AgreeWithin (pool_agrees mode v) (option_map_or left (group_in o) a) (option_map_or right (group_in o) b)
     in_the_group left right agree (owner.Group g) mine = rw (mine g refl) agree
     in_the_group left right agree other mine = same
 
     read_agrees : (k : Kind) (p : Place) → is_of_pool mode v p ≡ true
-        → AgreeWithin (of_pool mode v) (after_read k a p) (after_read k b p)
-    read_agrees kind.Rc p is = agree-put (of_pool mode v) a b ha hb same p 0 0 refl
+        → AgreeWithin (pool_agrees mode v) (after_read k a p) (after_read k b p)
+    read_agrees kind.Rc p is = agree-put (pool_agrees mode v) a b ha hb same p 0 0 refl
     read_agrees kind.Cause p is =
         in_the_group (group_read a) (group_read b) agree-group_read (owner_of p)
         (λ g e. group_of_pool (row_of p.row).bank mode v p.index g is e)
     read_agrees other p is = same
 
     agree-stored : (p : Place) (view word : ℕ) → is_of_pool mode v p ≡ true
-        → AgreeWithin (of_pool mode v) (stored a p view word) (stored b p view word)
+        → AgreeWithin (pool_agrees mode v) (stored a p view word) (stored b p view word)
     agree-stored p view word is =
-        agree-put (of_pool mode v) a b ha hb same p _ _
+        agree-put (pool_agrees mode v) a b ha hb same p _ _
         (ap (λ old. merged (bit_and (row_of p.row).mask view) old word) (same.words p is))
 
     on_same : (dir : Dir) (queue : ℕ) → has_queue mode v queue ≡ true → is_on a dir queue ≡ is_on b dir queue
@@ -93,14 +94,15 @@ module _ (mode : Mode) (v : ℕ) (a b : Registers) (same : AgreeWithin (of_pool 
     running_same other mine = refl
 
     agree-asked : (p : Place) (view word : ℕ) → is_of_pool mode v p ≡ true → (o : Owner) (wanted : Bool)
-        → AgreeWithin (of_pool mode v) (asked (stored a p view word) o wanted) (asked (stored b p view word) o wanted)
+        → AgreeWithin (pool_agrees mode v) (asked (stored a p view word) o wanted)
+        (asked (stored b p view word) o wanted)
     agree-asked p view word is (owner.Side dir queue) wanted =
-        agree-with_wanted (of_pool mode v) (stored a p view word) (stored b p view word) (HasShape-put a p _ ha)
+        agree-with_wanted (pool_agrees mode v) (stored a p view word) (stored b p view word) (HasShape-put a p _ ha)
         (HasShape-put b p _ hb) (agree-stored p view word is) dir queue wanted
     agree-asked p view word is other wanted = agree-stored p view word is
 
     agree-group_written : (k : Kind) (p : Place) (bits : ℕ) → is_of_pool mode v p ≡ true
-        → AgreeWithin (of_pool mode v)
+        → AgreeWithin (pool_agrees mode v)
         (option_map_or (λ g. interrupts_written k a g bits) (group_in (owner_of p)) a)
         (option_map_or (λ g. interrupts_written k b g bits) (group_in (owner_of p)) b)
     agree-group_written k p bits is =
@@ -109,14 +111,14 @@ module _ (mode : Mode) (v : ℕ) (a b : Registers) (same : AgreeWithin (of_pool 
         (λ g e. group_of_pool (row_of p.row).bank mode v p.index g is e)
 
     write_agrees : (k : Kind) (p : Place) (view word : ℕ) → is_of_pool mode v p ≡ true
-        → AgreeWithin (of_pool mode v) (written k a p view word) (written k b p view word)
+        → AgreeWithin (pool_agrees mode v) (written k a p view word) (written k b p view word)
     write_agrees kind.Rw p view word is = agree-stored p view word is
     write_agrees kind.Cause p view word is = agree-group_written kind.Cause p (bit_and word view) is
     write_agrees kind.Ones p view word is = agree-group_written kind.Ones p (bit_and word view) is
     write_agrees kind.Set p view word is = agree-group_written kind.Set p (bit_and word view) is
     write_agrees kind.Clear p view word is = agree-group_written kind.Clear p (bit_and word view) is
     write_agrees kind.Held p view word is =
-        agree-if (of_pool mode v) (is_running a (owner_of p)) (is_running b (owner_of p)) a b (stored a p view word)
+        agree-if (pool_agrees mode v) (is_running a (owner_of p)) (is_running b (owner_of p)) a b (stored a p view word)
         (stored b p view word)
         (running_same (owner_of p) (λ dir queue e. side_of_pool (row_of p.row).bank mode v p.index dir queue is e)) same
         (agree-stored p view word is)

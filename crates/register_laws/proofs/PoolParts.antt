@@ -30,7 +30,7 @@ is_own other = false
 abbrev pub of_function : ℕ → Footprint
 of_function v =
     record {
-      words = λ p. is_own (row_of p.row).bank && v == p.index;
+      bits = λ p bit. is_own (row_of p.row).bank && v == p.index;
       wanted = λ dir queue. false;
       told = is_group (Vf v);
     }
@@ -41,7 +41,7 @@ own_row other = refl
 
 same_function : (v : ℕ) → IsSame (either (at_rows function_rows v) (told_of (Vf v))) (of_function v)
 same_function v = record {
-  words = λ p. or-false ((at_rows function_rows v).words p) ∙ rows_words function_rows v p
+  bits = λ p bit. or-false ((at_rows function_rows v).bits p bit) ∙ rows_words function_rows v p bit
       ∙ ap (λ b. b && v == p.index) (own_row p.row);
   wanted = λ dir queue. refl;
   told = λ g. refl;
@@ -74,7 +74,7 @@ none_told Tx queue g = refl
 same_side : (dir : Dir) (queue : ℕ)
     → IsSame (either (at_rows (side_rows dir) queue) (wanted_of dir queue)) (of_side dir queue)
 same_side dir queue = record {
-  words = λ p. or-false ((at_rows (side_rows dir) queue).words p) ∙ rows_words (side_rows dir) queue p
+  bits = λ p bit. or-false ((at_rows (side_rows dir) queue).bits p bit) ∙ rows_words (side_rows dir) queue p bit
       ∙ side_row dir p.row queue p.index;
   wanted = λ other number. ap (λ b. b || is_owner (owner.Side dir queue) (owner.Side other number))
       (none_wanted dir other queue number);
@@ -112,7 +112,7 @@ renewed-vectors : (r : Registers) (index : ℕ) → IsRenewed (of_vectors index)
 renewed-vectors r index =
     renewed-same (at_rows vector_rows index) (of_vectors index) r (vectors_reset r index)
     (record {
-      words = λ p. rows_words vector_rows index p ∙ vector_row p.row index p.index;
+      bits = λ p bit. rows_words vector_rows index p bit ∙ vector_row p.row index p.index;
       wanted = λ dir queue. refl;
       told = λ g. refl;
     })

@@ -18,7 +18,7 @@ use Rattle.register_file.specs.DmaRing.declared.dir.Dir.{Dir}
 use Rattle.register_file.specs.declared.owner.Owner.{Owner}
 use Rattle.register_file.specs.declared.owner.Owner.TheVariants as owner
 use Rattle.register_laws.specs.Agreement.{PoolReadsStayWithin, PoolWritesStayWithin, SharedReadsChangeNothing, SharedWritesChangeNothing}
-use Rattle.register_laws.specs.Footprint.{Covers, of_pool, of_owner, of_read, of_write}
+use Rattle.register_laws.specs.Footprint.{Covers, pool_changes, of_owner, of_read, of_write}
 use Rattle.register_laws.specs.Laws.{after_write}
 use Rattle.register_laws.proofs.Accessed.{covers-of_read, covers-of_write}
 use Rattle.register_laws.proofs.Covers.{covers-trans}
@@ -60,9 +60,9 @@ one_owner b c mode v i j same is =
     ∙ sym (owned b mode v i) ∙ is
 
 covers-owner : (mode : Mode) (v : ℕ) (p : Place) → is_of_pool mode v p ≡ true
-    → Covers (of_pool mode v) (of_owner (owner_of p))
+    → Covers (pool_changes mode v) (of_owner (owner_of p))
 covers-owner mode v p is = record {
-  words = λ q same. one_owner (row_of p.row).bank (row_of q.row).bank mode v p.index q.index same is;
+  bits = λ q bit same. one_owner (row_of p.row).bank (row_of q.row).bank mode v p.index q.index same is;
   wanted = λ dir queue same. side_of_pool (row_of p.row).bank mode v p.index dir queue is
       (is_owner-same (owner_of p) (owner.Side dir queue) same);
   told = λ g same.
@@ -73,11 +73,12 @@ covers-owner mode v p is = record {
 
 pub covers-read : PoolReadsStayWithin
 covers-read mode v p is =
-    covers-trans (of_pool mode v) (of_owner (owner_of p)) (of_read p) (covers-owner mode v p is) (covers-of_read p)
+    covers-trans (pool_changes mode v) (of_owner (owner_of p)) (of_read p) (covers-owner mode v p is) (covers-of_read p)
 
 pub covers-write : PoolWritesStayWithin
 covers-write mode v p is =
-    covers-trans (of_pool mode v) (of_owner (owner_of p)) (of_write p) (covers-owner mode v p is) (covers-of_write p)
+    covers-trans (pool_changes mode v) (of_owner (owner_of p)) (of_write p) (covers-owner mode v p is)
+    (covers-of_write p)
 
 -- STATUS and LINKS
 pub shared_rows : (P : RowId → Type 0) → P row.Status → P row.Links → (p : Place) → is_shared p ≡ true → P p.row

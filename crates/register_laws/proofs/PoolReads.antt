@@ -12,7 +12,7 @@ use Rattle.register_file.specs.Access.{read_word}
 use Rattle.register_file.specs.Registers.{Registers}
 use Rattle.register_file.specs.declared.surroundings.Surroundings.{Surroundings}
 use Rattle.register_laws.specs.Agreement.{SharedReadsTellTheSame, PoolReadsTellTheSame}
-use Rattle.register_laws.specs.Footprint.{AgreeWithin, of_pool}
+use Rattle.register_laws.specs.Footprint.{AgreeWithin, pool_agrees}
 use Rattle.register_laws.proofs.PoolPlaces.{shared_rows}
 
 -- the rows that are calculated are the device's
@@ -30,7 +30,7 @@ same_shared a b e around p is =
     ≡ read_word (row_of x).kind b around (record { row = x; index = p.index }))
     (ap (λ t. cond t 0 0x00080000) e) refl p is
 
-module _ (mode : Mode) (v : ℕ) (a b : Registers) (same : AgreeWithin (of_pool mode v) a b) where
+module _ (mode : Mode) (v : ℕ) (a b : Registers) (same : AgreeWithin (pool_agrees mode v) a b) where
   read_same : (k : Kind) (around : Surroundings) (p : Place) → (row_of p.row).kind ≡ k → is_of_pool mode v p ≡ true
       → read_word k a around p ≡ read_word k b around p
   read_same kind.Rw around p e is = same.words p is

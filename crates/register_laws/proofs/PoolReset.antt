@@ -16,7 +16,7 @@ use Rattle.register_file.specs.Registers.{Registers}
 use Rattle.register_file.specs.DmaRing.declared.dir.Dir.{Dir}
 use Rattle.register_file.specs.DmaRing.declared.dir.Dir.TheVariants.{Rx, Tx}
 use Rattle.register_file.specs.declared.owner.Owner.TheVariants as owner
-use Rattle.register_laws.specs.Footprint.{Footprint, either, of_pool}
+use Rattle.register_laws.specs.Footprint.{Footprint, either, pool_changes}
 use Rattle.register_laws.proofs.PoolParts.{is_own, of_function, of_queues, renewed-function, renewed-queues}
 use Rattle.register_laws.proofs.Renewed.{IsRenewed, IsSame, renewed-either, renewed-same}
 use Rattle.register_laws.proofs.PoolQueues.{turned, none_had, four_queues, two_queues, two_vectors, one_vector}
@@ -72,9 +72,9 @@ with_two bank.Vectors v i small = one_vector v i small
 with_two other v i small = refl
 
 same_none : (mode : Mode) (v : ℕ) → ((queue : ℕ) → has_queue mode v queue ≡ false)
-    → IsSame (whole v None) (of_pool mode v)
+    → IsSame (whole v None) (pool_changes mode v)
 same_none mode v none = record {
-  words = λ p. with_none (row_of p.row).bank mode v p.index none;
+  bits = λ p bit. with_none (row_of p.row).bank mode v p.index none;
   wanted = λ dir queue. sym (none queue);
   told = λ g. or-false (is_group (Vf v) g);
 }
@@ -90,34 +90,35 @@ two_wanted Rx v queue small = with_two bank.Receive v queue small
 two_wanted Tx v queue small = with_two bank.Transmit v queue small
 
 same_some : (mode : Mode) (v : ℕ) → nat_lt v (pools_in mode) ≡ true
-    → IsSame (whole v (Some (v * queues_each mode, queues_each mode))) (of_pool mode v)
+    → IsSame (whole v (Some (v * queues_each mode, queues_each mode))) (pool_changes mode v)
 same_some Off v e = absurd (omega (arith, ltb-true))
 same_some Pools16 v e = absurd (omega (arith, ltb-true))
 same_some Pools32 v e =
     let small = ltb-true v 32 e in
     record {
-      words = λ p. with_four (row_of p.row).bank v p.index small;
+      bits = λ p bit. with_four (row_of p.row).bank v p.index small;
       wanted = λ dir queue. four_wanted dir v queue small;
       told = λ g. or-false (is_group (Vf v) g);
     }
 same_some Pools64 v e =
     let small = ltb-true v 64 e in
     record {
-      words = λ p. with_two (row_of p.row).bank v p.index small;
+      bits = λ p bit. with_two (row_of p.row).bank v p.index small;
       wanted = λ dir queue. two_wanted dir v queue small;
       told = λ g. or-false (is_group (Vf v) g);
     }
 
 same_if : (mode : Mode) (v : ℕ) (b : Bool) → nat_lt v (pools_in mode) ≡ b
-    → IsSame (whole v (cond b (Some (v * queues_each mode, queues_each mode)) None)) (of_pool mode v)
+    → IsSame (whole v (cond b (Some (v * queues_each mode, queues_each mode)) None)) (pool_changes mode v)
 same_if mode v true e = same_some mode v e
 same_if mode v false e = same_none mode v (λ queue. none_had mode v queue e)
 
-pub renewed-pool : (r : Registers) (mode : Mode) (v : ℕ) → IsRenewed (of_pool mode v) r (pool_reset mode v r)
+pub renewed-pool : (r : Registers) (mode : Mode) (v : ℕ) → IsRenewed (pool_changes mode v) r (pool_reset mode v r)
 unfolding pool_reset
 renewed-pool r mode v =
     let o : Option (ℕ × ℕ) = queues_of mode v in
     let reset : Registers = function_reset r v in
-    renewed-same (whole v o) (of_pool mode v) r (pool_reset mode v r) (same_if mode v (nat_lt v (pools_in mode)) refl)
+    renewed-same (whole v o) (pool_changes mode v) r (pool_reset mode v r)
+    (same_if mode v (nat_lt v (pools_in mode)) refl)
     (renewed-either (of_function v) (of_queues o) r reset (pool_reset mode v r) (renewed-function r v)
     (renewed-queues reset o))

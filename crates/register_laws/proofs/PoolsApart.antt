@@ -11,6 +11,7 @@ use Rattle.register_file.specs.VfMap.Pools.{pool_of}
 use Rattle.register_file.specs.VfMap.declared.mode.Mode.{Mode}
 use Rattle.register_file.specs.Owner.{is_group}
 use Rattle.register_laws.specs.Agreement.{PoolsHaveNothingInCommon, MissedAgreementStands}
+use Rattle.register_laws.proofs.Footprints.{word_stands}
 
 -- what is one number isn't another
 not_both : (v w n : ℕ) → v ≢ w → (n == w) ≡ true → (n == v) ≡ false
@@ -41,14 +42,16 @@ group_missed v w (Vf u) apart is = ne_eqb v u (λ same. apart (same ∙ sym (eqb
 
 pub pools_miss : PoolsHaveNothingInCommon
 pools_miss mode v w apart = record {
-  words = λ p is. place_missed (row_of p.row).bank mode v w p.index apart is;
+  bits = λ p bit is. place_missed (row_of p.row).bank mode v w p.index apart is;
   wanted = λ dir queue is. queue_missed mode v w queue apart is;
   told = λ g is. group_missed v w g apart is;
 }
 
 pub agreement_stands : MissedAgreementStands
 agreement_stands f g a b then_a then_b out left right same = record {
-  words = λ p is. left.words p (out.words p is) ∙ same.words p is ∙ sym (right.words p (out.words p is));
+  words = λ p is.
+      let none = λ (bit : ℕ). out.bits p bit is in
+      word_stands left p none ∙ same.words p is ∙ sym (word_stands right p none);
   wanted = λ dir queue is. left.wanted dir queue (out.wanted dir queue is) ∙ same.wanted dir queue is
       ∙ sym (right.wanted dir queue (out.wanted dir queue is));
   told = λ h is. left.told h (out.told h is) ∙ same.told h is ∙ sym (right.told h (out.told h is));

@@ -1,5 +1,5 @@
 -- What is read of words that were stored and counted, and of registers after a reset.
-use Rattle.std.proofs.Common.{◌≡◌, ℕ, ◌+◌, ◌-◌, ◌*◌, ◌/◌, ◌%◌, ◌^◌, ◌<◌, false, if◌then◌else◌, refl, ap, sym}
+use Rattle.std.proofs.Common.{◌≡◌, ℕ, ◌+◌, ◌-◌, ◌*◌, ◌/◌, ◌%◌, ◌^◌, ◌<◌, false, if◌then◌else◌, refl, ap}
 use Rattle.std.proofs.lemmas.List.{get_or-replicate}
 use Rattle.std.proofs.lemmas.Bool.{false_from_ne_true}
 use Rattle.register_file.specs.RegTable.Counter.{bumped}
@@ -19,9 +19,10 @@ use Rattle.register_file.specs.Registers.{Registers, word_of}
 use Rattle.register_file.specs.Words.{word_at}
 use Rattle.register_file.specs.DmaRing.declared.dir.Dir.{Dir}
 use Rattle.register_file.specs.DmaRing.declared.dir.Dir.TheVariants.{Rx, Tx}
-use Rattle.register_laws.specs.Footprint.{Footprint, ChangesWithin, is_place}
+use Rattle.register_laws.specs.Footprint.{Footprint, ChangesWithin}
 use Rattle.register_laws.specs.Laws.{HasShape, CountsAndClears, GoesRound, GroupBitsAreMasks, EnableReadTellsOn, ResetSwitchesOff, WordIsOnePlace, OwnersDiffer, SettingsStand}
-use Rattle.register_laws.proofs.Owners.{is_place-same, is_owner-same}
+use Rattle.register_laws.proofs.Footprints.{word_stands}
+use Rattle.register_laws.proofs.Owners.{is_place-other, is_owner-same}
 use Rattle.register_file.proofs.ResetWords.{word_at-reset}
 use Rattle.register_laws.proofs.Shape.{put_stands}
 
@@ -57,7 +58,7 @@ enable_read r Tx queue link = refl
 
 -- what differs
 pub one_place : WordIsOnePlace
-one_place p q n = false_from_ne_true (is_place p q) (λ e. n (sym (is_place-same p q e)))
+one_place p q n bit = is_place-other p q n
 
 pub owners_differ : OwnersDiffer
 owners_differ o other n = false_from_ne_true (is_owner o other) (λ e. n (is_owner-same o other e))
@@ -71,16 +72,17 @@ vector_stands old new g Tx queue e = ap (λ w. w / 2 ^ (16 * (queue % 2) + 8) % 
 
 pub settings_stand : (f : Footprint) (old new : Registers) → ChangesWithin f old new → SettingsStand f old new
 settings_stand f old new only = record {
-  stopped = λ out. ap (has_bit 2) (only.words (place Ctrl 0) out);
-  can_receive = λ out. ap (has_bit 0) (only.words (place Rxctrl 0) out);
-  can_transmit = λ out. ap (has_bit 0) (only.words (place Dmatxctl 0) out);
+  stopped = λ out. only.bits (place Ctrl 0) 2 (out 2);
+  can_receive = λ out. only.bits (place Rxctrl 0) 0 (out 0);
+  can_transmit = λ out. only.bits (place Dmatxctl 0) 0 (out 0);
   limit = λ out past k.
-      if has_bit 2 (only.words (place Hlreg0 0) out k) then only.words (place Maxfrs 0) past k / 2 ^ 16 - 4 else 1514;
-  padding = λ out. ap (has_bit 10) (only.words (place Hlreg0 0) out);
-  dropping = λ queue out. ap (has_bit 28) (only.words (place Srrctl queue) out);
-  clearing = λ out. ap (has_bit 5) (only.words (place Gpie 0) out);
-  masking = λ out g. ap (λ w. auto_mask_acts g (has_bit 30 w)) (only.words (place Gpie 0) out);
-  vector = λ g dir queue out. vector_stands old new g dir queue (only.words (place (vector_row g) (queue / 2)) out);
+      if only.bits (place Hlreg0 0) 2 (out 2) k then word_stands only (place Maxfrs 0) past k / 2 ^ 16 - 4 else 1514;
+  padding = λ out. only.bits (place Hlreg0 0) 10 (out 10);
+  dropping = λ queue out. only.bits (place Srrctl queue) 28 (out 28);
+  clearing = λ out. only.bits (place Gpie 0) 5 (out 5);
+  masking = λ out g. ap (auto_mask_acts g) (only.bits (place Gpie 0) 30 (out 30));
+  vector = λ g dir queue out.
+      vector_stands old new g dir queue (word_stands only (place (vector_row g) (queue / 2)) out);
   counter = λ dir queue out.
-      ap (λ w. w / 2 ^ (8 * (queue % 4)) % 16) (only.words (place (mapping_row dir) (queue / 4)) out);
+      ap (λ w. w / 2 ^ (8 * (queue % 4)) % 16) (word_stands only (place (mapping_row dir) (queue / 4)) out);
 }

@@ -7,6 +7,7 @@ use Rattle.register_file.specs.RegTable.Rows.{row_of}
 use Rattle.register_file.specs.RegTable.declared.place.Place.{Place}
 use Rattle.register_file.specs.RegTable.declared.rows.RowId.{RowId}
 use Rattle.register_file.specs.IntrUnit.declared.group.Group.{Group}
+use Rattle.register_file.specs.Bits.{has_bit}
 use Rattle.register_file.specs.Columns.{place}
 use Rattle.register_file.specs.Groups.{index_of, told_by, with_told}
 use Rattle.register_file.specs.Owner.{is_owner, is_group}
@@ -16,8 +17,9 @@ use Rattle.register_file.specs.Words.{word_at, put}
 use Rattle.register_file.specs.DmaRing.declared.dir.Dir.{Dir}
 use Rattle.register_file.specs.DmaRing.declared.dir.Dir.TheVariants.{Rx, Tx}
 use Rattle.register_file.specs.declared.owner.Owner.TheVariants as owner
-use Rattle.register_laws.specs.Footprint.{Footprint, ChangesWithin, nothing, either, the_word}
+use Rattle.register_laws.specs.Footprint.{Footprint, HasWord, ChangesWithin, nothing, either, the_word}
 use Rattle.register_laws.specs.Sound.{HasShape}
+use Rattle.register_laws.proofs.Bits.{same_word}
 use Rattle.register_laws.proofs.Footprints.{within-refl, within-either}
 use Rattle.register_laws.proofs.Owners.{is_dir-same, is_group-itself, is_group-same, is_owner-itself, is_place-same}
 use Rattle.register_laws.proofs.Shape.{put_stands, HasShape-put, HasShape-with_wanted, HasShape-with_told}
@@ -28,17 +30,22 @@ use Rattle.register_laws.proofs.WithinParts.{within-word, within-with_wanted, wi
 pub record IsRenewed (f : Footprint) (old new : Registers) : Type 0 where
   pub alone : ChangesWithin f old new
   pub shape : HasShape old → HasShape new
-  pub words : HasShape old → (p : Place) → f.words p ≡ true → p.index < (row_of p.row).count
-      → word_at new.words p ≡ (row_of p.row).reset
+  pub bits : HasShape old → (p : Place) (bit : ℕ) → f.bits p bit ≡ true → p.index < (row_of p.row).count
+      → has_bit bit (word_at new.words p) ≡ has_bit bit (row_of p.row).reset
   pub wanted : HasShape old → (dir : Dir) (queue : ℕ) → f.wanted dir queue ≡ true → queue < 128
       → is_wanted new dir queue ≡ false
   pub told : HasShape old → (g : Group) → f.told g ≡ true → index_of g < 64 → told_by new g ≡ 0
+
+-- a word with all its bits
+pub word_renewed : {f : Footprint} {old new : Registers} → IsRenewed f old new → HasShape old → (p : Place)
+    → HasWord f p → p.index < (row_of p.row).count → word_at new.words p ≡ (row_of p.row).reset
+word_renewed new h p has inside = same_word (λ bit. new.bits h p bit (has bit) inside)
 
 pub renewed-refl : (r : Registers) → IsRenewed nothing r r
 renewed-refl r = record {
   alone = within-refl nothing r;
   shape = λ h. h;
-  words = λ h p is b. cc;
+  bits = λ h p bit is b. cc;
   wanted = λ h dir queue is b. cc;
   told = λ h g is b. cc;
 }
@@ -53,8 +60,8 @@ pub renewed-either : (f g : Footprint) (r s t : Registers) → IsRenewed f r s �
 renewed-either f g r s t first then = record {
   alone = within-either f g r s t first.alone then.alone;
   shape = λ h. then.shape (first.shape h);
-  words = λ h p is b. one_of (f.words p) (g.words p) is (λ e. then.words (first.shape h) p e b)
-      (λ e n. then.alone.words p n ∙ first.words h p e b);
+  bits = λ h p bit is b. one_of (f.bits p bit) (g.bits p bit) is (λ e. then.bits (first.shape h) p bit e b)
+      (λ e n. then.alone.bits p bit n ∙ first.bits h p bit e b);
   wanted = λ h dir queue is b. one_of (f.wanted dir queue) (g.wanted dir queue) is
       (λ e. then.wanted (first.shape h) dir queue e b)
       (λ e n. then.alone.wanted dir queue n ∙ first.wanted h dir queue e b);
@@ -76,19 +83,19 @@ renewed-each f step each (x ∷ xs) r =
 
 -- two footprints with the same
 pub record IsSame (f g : Footprint) : Type 0 where
-  pub words : (p : Place) → f.words p ≡ g.words p
+  pub bits : (p : Place) (bit : ℕ) → f.bits p bit ≡ g.bits p bit
   pub wanted : (dir : Dir) (queue : ℕ) → f.wanted dir queue ≡ g.wanted dir queue
   pub told : (h : Group) → f.told h ≡ g.told h
 
 pub renewed-same : (f g : Footprint) (r s : Registers) → IsSame f g → IsRenewed f r s → IsRenewed g r s
 renewed-same f g r s same new = record {
   alone = record {
-    words = λ p n. new.alone.words p (same.words p ∙ n);
+    bits = λ p bit n. new.alone.bits p bit (same.bits p bit ∙ n);
     wanted = λ dir queue n. new.alone.wanted dir queue (same.wanted dir queue ∙ n);
     told = λ h n. new.alone.told h (same.told h ∙ n);
   };
   shape = new.shape;
-  words = λ h p is b. new.words h p (same.words p ∙ is) b;
+  bits = λ h p bit is b. new.bits h p bit (same.bits p bit ∙ is) b;
   wanted = λ h dir queue is b. new.wanted h dir queue (same.wanted dir queue ∙ is) b;
   told = λ h k is b. new.told h k (same.told k ∙ is) b;
 }
@@ -99,11 +106,11 @@ pub renewed-word : (index : ℕ) (r : Registers) (row : RowId)
 renewed-word index r row = record {
   alone = within-word r row index (row_of row).reset;
   shape = HasShape-put r (place row index) (row_of row).reset;
-  words = λ h p is b.
-      subst (λ (q : Place). q.index < (row_of q.row).count
+  bits = λ h p bit is b.
+      ap (has_bit bit) (subst (λ (q : Place). q.index < (row_of q.row).count
       → word_at (put r.words (place row index) (row_of row).reset) q ≡ (row_of q.row).reset)
       (is_place-same (place row index) p is)
-      (λ inside. put_stands r (place row index) (row_of row).reset h inside) b;
+      (λ inside. put_stands r (place row index) (row_of row).reset h inside) b);
   wanted = λ h dir queue is b. cc;
   told = λ h g is b. cc;
 }
@@ -124,7 +131,7 @@ pub renewed-with_wanted : (dir : Dir) (r : Registers) (queue : ℕ)
 renewed-with_wanted dir r queue = record {
   alone = within-with_wanted (wanted_of dir queue) r dir queue false (is_owner-itself (owner.Side dir queue));
   shape = HasShape-with_wanted r dir queue false;
-  words = λ h p is b. cc;
+  bits = λ h p bit is b. cc;
   wanted = λ h other number is b.
       let parts = and_parts _ _ is in
       let same = eqb-true queue number parts.1 in
@@ -140,7 +147,7 @@ pub renewed-with_told : (r : Registers) (g : Group) → IsRenewed (told_of g) r 
 renewed-with_told r g = record {
   alone = within-with_told (told_of g) r g 0 (is_group-itself g);
   shape = HasShape-with_told r g 0;
-  words = λ h p is b. cc;
+  bits = λ h p bit is b. cc;
   wanted = λ h dir queue is b. cc;
   told = λ h other is b.
       let same = is_group-same g other is in

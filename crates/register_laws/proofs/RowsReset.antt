@@ -23,13 +23,13 @@ at_rows rows index = any_of (λ x. the_word (place x index)) rows
 abbrev pub has_row : List RowId → RowId → Bool
 has_row rows row = list_any (λ x. number_of x == number_of row) rows
 
-pub rows_words : (rows : List RowId) (index : ℕ) (p : Place)
-    → (at_rows rows index).words p ≡ (has_row rows p.row && index == p.index)
-rows_words [] index p = refl
-rows_words (x ∷ xs) index p =
+pub rows_words : (rows : List RowId) (index : ℕ) (p : Place) (bit : ℕ)
+    → (at_rows rows index).bits p bit ≡ (has_row rows p.row && index == p.index)
+rows_words [] index p bit = refl
+rows_words (x ∷ xs) index p bit =
     let first = number_of x == number_of p.row in
     let same = index == p.index in
-    ap (λ b. (first && same) || b) (rows_words xs index p) ∙ distribute first (has_row xs p.row) same
+    ap (λ b. (first && same) || b) (rows_words xs index p bit) ∙ distribute first (has_row xs p.row) same
 
 pub renewed-rows : (rows : List RowId) (r : Registers) (index : ℕ)
     → IsRenewed (at_rows rows index) r (rows_reset r rows index)

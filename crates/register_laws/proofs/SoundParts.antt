@@ -20,7 +20,7 @@ use Rattle.register_laws.specs.Footprint.{Footprint, ChangesWithin, Misses, is_p
 use Rattle.register_laws.specs.Sound.{AreSound, bits_of_row, pending_bits}
 use Rattle.register_laws.proofs.Fields.{words-with_wanted, words-with_told}
 use Rattle.register_laws.proofs.Covers.{fails, cause_is_pending, mask_is_pending}
-use Rattle.register_laws.proofs.Footprints.{misses-narrower, misses-within, misses-owner, covers-pending, covers-any_pending}
+use Rattle.register_laws.proofs.Footprints.{word_stands, misses-narrower, misses-within, misses-owner, covers-pending, covers-any_pending}
 use Rattle.register_laws.proofs.Owners.{is_group-itself, is_group-same, is_place-itself, is_place-same}
 use Rattle.register_laws.proofs.Shape.{HasShape-put, HasShape-with_wanted, HasShape-with_interrupts}
 use Rattle.register_laws.proofs.Standing.{causes_there, enabled_there, told_there}
@@ -34,15 +34,15 @@ pub told_stands : (f : Footprint) (r s : Registers) (g : Group) → Misses f (pe
 told_stands f r s g out only told =
     let cause : Place = place (cause_row g) (index_of g) in
     let mask : Place = place (mask_row g) (index_of g) in
-    let causes = only.words cause (out.words cause (cause_is_pending g)) in
-    let masks = only.words mask (out.words mask (mask_is_pending g)) in
+    let causes = word_stands only cause (λ bit. out.bits cause bit (cause_is_pending g bit)) in
+    let masks = word_stands only mask (λ bit. out.bits mask bit (mask_is_pending g bit)) in
     let tells = only.told g (out.told g (is_group-itself g)) in
     subst (λ (x : ℕ × ℕ × ℕ). IsSubset x.0 (intersection x.1 x.2)) (λ k. (sym tells k, sym causes k, sym masks k)) told
 
 -- a word at a place of no cause or mask, and what is wanted
 steady_misses : (p : Place) (g : Group) → is_pending (row_of p.row).kind ≡ false → Misses (the_word p) (pending g)
 steady_misses p g steady = misses-within (the_word p) any_pending (pending g) (covers-any_pending g) (record {
-  words = λ q is. fails (is_place p q) (is_pending (row_of p.row).kind)
+  bits = λ q bit is. fails (is_place p q) (is_pending (row_of p.row).kind)
       (λ same. ap (λ (x : Place). is_pending (row_of x.row).kind) (is_place-same p q same) ∙ is) steady;
   wanted = λ dir queue is. refl;
   told = λ h is. refl;
@@ -54,7 +54,7 @@ sound-put r p v sound own steady = record {
   shape = HasShape-put r p v sound.shape;
   words = row_bits-put r p v sound.shape sound.words own;
   told = λ g b. told_stands (the_word p) r (record r { words = put r.words p v }) g (steady_misses p g steady)
-      (within-put (the_word p) r p v (is_place-itself p)) (sound.told g b);
+      (within-put (the_word p) r p v (λ bit. is_place-itself p)) (sound.told g b);
 }
 
 wanted_alone : Dir → ℕ → Footprint
@@ -68,7 +68,7 @@ sound-with_wanted r dir queue wanted sound = record {
   words = λ p. subst (λ ws. IsSubset (word_at ws p) (bits_of_row p.row)) (sym (words-with_wanted r dir queue wanted))
       (sound.words p);
   told = λ g b. told_stands (wanted_alone dir queue) r (with_wanted r dir queue wanted) g
-      (record { words = λ p is. refl; wanted = λ other number is. cc; told = λ h is. refl })
+      (record { bits = λ p bit is. refl; wanted = λ other number is. cc; told = λ h is. refl })
       (within-with_wanted (wanted_alone dir queue) r dir queue wanted refl) (sound.told g b);
 }
 

@@ -1,5 +1,5 @@
 -- The interrupts of a group that were put into its registers.
-use Rattle.std.proofs.Common.{◌≡◌, ◌≢◌, ℕ, ◌^◌, ◌<◌, false, length, refl, ap, sym, ◌∙◌, subst, lit<}
+use Rattle.std.proofs.Common.{◌≡◌, ◌≢◌, ℕ, ◌^◌, ◌<◌, length, refl, ap, sym, ◌∙◌, subst, lit<}
 use Rattle.std.proofs.lemmas.List.{get_or-set_same}
 use Rattle.register_file.specs.RegTable.Rows.{row_of}
 use Rattle.register_file.specs.RegTable.declared.place.Place.{Place}
@@ -14,8 +14,9 @@ use Rattle.register_file.specs.Groups.{cause_row, mask_row, auto_clear_row, auto
 use Rattle.register_file.specs.Registers.{Registers, word_of, with_word}
 use Rattle.register_file.specs.Words.{word_at}
 use Rattle.register_file.proofs.Own.{intersection-within}
-use Rattle.register_laws.specs.Footprint.{pending}
+use Rattle.register_laws.specs.Footprint.{LacksWord, pending}
 use Rattle.register_laws.specs.Laws.{HasShape}
+use Rattle.register_laws.proofs.Footprints.{word_stands}
 use Rattle.register_laws.proofs.Puts.{word_at-put_other}
 use Rattle.register_laws.proofs.Shape.{put_stands, HasShape-put}
 use Rattle.register_laws.proofs.Fields.{words-with_told}
@@ -33,13 +34,13 @@ cause_not_mask : (g : Group) → place (cause_row g) (index_of g) ≢ place (mas
 cause_not_mask Pf e = let same : Eicr ≡ Eims = ap (λ (q : Place). q.row) e in cc
 cause_not_mask (Vf v) e = let same : Pvteicr ≡ Pvteims = ap (λ (q : Place). q.row) e in cc
 
-auto_clear-steady : (g : Group) → (pending g).words (place (auto_clear_row g) (index_of g)) ≡ false
-auto_clear-steady Pf = refl
-auto_clear-steady (Vf v) = refl
+auto_clear-steady : (g : Group) → LacksWord (pending g) (place (auto_clear_row g) (index_of g))
+auto_clear-steady Pf bit = refl
+auto_clear-steady (Vf v) bit = refl
 
-auto_mask-steady : (g : Group) → (pending g).words (place (auto_mask_row g) (index_of g)) ≡ false
-auto_mask-steady Pf = refl
-auto_mask-steady (Vf v) = refl
+auto_mask-steady : (g : Group) → LacksWord (pending g) (place (auto_mask_row g) (index_of g))
+auto_mask-steady Pf bit = refl
+auto_mask-steady (Vf v) bit = refl
 
 pub told_by-with_told : (r : Registers) (g : Group) (told : ℕ) → length r.told_vf ≡ 64 → index_of g < 64
     → told_by (with_told r g told) g ≡ told
@@ -85,8 +86,8 @@ module _ (r : Registers) (h : HasShape r) (s : Interrupts) (b : index_of s.group
       ∙ intersection-within s.causes bits small_causes c.causes_exist in
       let enabled = ap (λ w. intersection w bits) enabled_there
       ∙ intersection-within s.enabled bits small_enabled c.masks_exist in
-      let clear = only.words (place (auto_clear_row s.group) (index_of s.group)) (auto_clear-steady s.group) in
-      let mask = only.words (place (auto_mask_row s.group) (index_of s.group)) (auto_mask-steady s.group) in
+      let clear = word_stands only (place (auto_clear_row s.group) (index_of s.group)) (auto_clear-steady s.group) in
+      let mask = word_stands only (place (auto_mask_row s.group) (index_of s.group)) (auto_mask-steady s.group) in
       let pending = (λ k. intersection (told_there k) (intersection (causes k) (enabled k)))
       ∙ intersection-within s.told (intersection s.causes s.enabled) small_told c.told_is_pending in
       λ k. record {

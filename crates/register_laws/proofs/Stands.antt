@@ -18,6 +18,7 @@ use Rattle.register_file.specs.DmaRing.declared.dir.Dir.TheVariants.{Rx, Tx}
 use Rattle.register_file.specs.declared.owner.Owner.TheVariants as owner
 use Rattle.register_laws.specs.Footprint.{Footprint, ChangesWithin, Misses, of_side, of_group}
 use Rattle.register_laws.specs.Sides.{receive_queue_of, transmit_queue_of}
+use Rattle.register_laws.proofs.Footprints.{word_stands}
 use Rattle.register_laws.proofs.Owners.{is_group-itself, is_owner-itself}
 
 -- a side is what its words and what is wanted of it make it
@@ -60,8 +61,8 @@ pub receive_stands : (f : Footprint) (old new : Registers) (queue : ℕ) → Mis
 receive_stands f old new queue out only =
     let own = is_owner-itself (owner.Side Rx queue) in
     receive_same old new queue
-    (λ row is. only.words (place row queue)
-    (out.words (place row queue) (ap (λ b. is_owner (owner.Side Rx queue) (owner_in b queue)) is ∙ own)))
+    (λ row is. word_stands only (place row queue)
+    (λ bit. out.bits (place row queue) bit (ap (λ b. is_owner (owner.Side Rx queue) (owner_in b queue)) is ∙ own)))
     (only.wanted Rx queue (out.wanted Rx queue own))
 
 pub transmit_stands : (f : Footprint) (old new : Registers) (queue : ℕ) → Misses f (of_side Tx queue)
@@ -69,8 +70,8 @@ pub transmit_stands : (f : Footprint) (old new : Registers) (queue : ℕ) → Mi
 transmit_stands f old new queue out only =
     let own = is_owner-itself (owner.Side Tx queue) in
     transmit_same old new queue
-    (λ row is. only.words (place row queue)
-    (out.words (place row queue) (ap (λ b. is_owner (owner.Side Tx queue) (owner_in b queue)) is ∙ own)))
+    (λ row is. word_stands only (place row queue)
+    (λ bit. out.bits (place row queue) bit (ap (λ b. is_owner (owner.Side Tx queue) (owner_in b queue)) is ∙ own)))
     (only.wanted Tx queue (out.wanted Tx queue own))
 
 -- the four words of a group are its own
@@ -84,6 +85,6 @@ pub group_stands : (f : Footprint) (old new : Registers) (g : Group) → Misses 
     → ChangesWithin f old new → interrupts_of new g ≡ interrupts_of old g
 group_stands f old new g out only =
     let same = own_words g (λ p. word_at new.words p ≡ word_at old.words p)
-    (λ p is. only.words p (out.words p (ap (is_owner (owner.Group g)) is ∙ is_group-itself g))) in
+    (λ p is. word_stands only p (λ bit. out.bits p bit (ap (is_owner (owner.Group g)) is ∙ is_group-itself g))) in
     let told = only.told g (out.told g (is_group-itself g)) in
     λ k. of_words g (same.0 k) (same.1 k) (same.2 k) (same.3 k) (told k)

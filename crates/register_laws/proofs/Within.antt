@@ -23,7 +23,7 @@ use Rattle.register_file.specs.DmaRing.declared.dir.Dir.{Dir}
 use Rattle.register_file.specs.DmaRing.declared.dir.Dir.TheVariants.{Rx, Tx}
 use Rattle.register_file.specs.declared.owner.Owner.{Owner}
 use Rattle.register_file.specs.declared.owner.Owner.TheVariants as owner
-use Rattle.register_laws.specs.Footprint.{Footprint, ChangesWithin, Covers, nothing, of_owner, the_word, the_enable, pending, pending_of, of_side, read_by, of_read, written_by, of_write}
+use Rattle.register_laws.specs.Footprint.{Footprint, HasWord, ChangesWithin, Covers, nothing, of_owner, the_word, the_enable, pending, pending_of, of_side, read_by, of_read, written_by, of_write}
 use Rattle.register_laws.specs.Laws.{after_write}
 use Rattle.register_laws.proofs.Footprints.{within-refl, within-trans, within-wider, within-if, covers-the_enable}
 use Rattle.register_laws.proofs.GroupChanges.{GroupChange, kept, changed, change-group_read, change-interrupts_written, change-causes_raised, change-message_made}
@@ -52,7 +52,7 @@ within_group r change each (owner.Group g) = within-change r g (change g) (each 
 within_group r change each other = within-refl nothing r
 
 read_within : (k : Kind) (r : Registers) (p : Place) → ChangesWithin (read_by k p) r (after_read k r p)
-read_within kind.Rc r p = within-put (the_word p) r p 0 (is_place-itself p)
+read_within kind.Rc r p = within-put (the_word p) r p 0 (λ bit. is_place-itself p)
 read_within kind.Cause r p = within_group r (group_read r) (change-group_read r) (owner_of p)
 read_within other r p = within-refl nothing r
 
@@ -66,7 +66,7 @@ within-asked f r (owner.Side dir queue) wanted has =
     within-with_wanted f r dir queue wanted (has dir queue (is_owner-itself (owner.Side dir queue)))
 within-asked f r other wanted has = within-refl f r
 
-within-stored : (f : Footprint) (r : Registers) (p : Place) (view word : ℕ) → f.words p ≡ true
+within-stored : (f : Footprint) (r : Registers) (p : Place) (view word : ℕ) → HasWord f p
     → ChangesWithin f r (stored r p view word)
 within-stored f r p view word has = within-put f r p _ has
 
@@ -76,21 +76,21 @@ within-group_written k r p bits = within_group r _ (λ g. change-interrupts_writ
 
 written_within : (k : Kind) (r : Registers) (p : Place) (view word : ℕ)
     → ChangesWithin (written_by k p) r (written k r p view word)
-written_within kind.Rw r p view word = within-stored (the_word p) r p view word (is_place-itself p)
+written_within kind.Rw r p view word = within-stored (the_word p) r p view word (λ bit. is_place-itself p)
 written_within kind.Ro r p view word = within-refl nothing r
 written_within kind.Calc r p view word = within-refl nothing r
 written_within kind.Rc r p view word = within-refl nothing r
 written_within kind.Held r p view word =
     within-if (the_word p) (is_running r (owner_of p)) r r (stored r p view word) (within-refl (the_word p) r)
-    (within-stored (the_word p) r p view word (is_place-itself p))
+    (within-stored (the_word p) r p view word (λ bit. is_place-itself p))
 written_within kind.Enable r p view word =
     within-trans (the_enable p) r (stored r p view word) (written kind.Enable r p view word)
-    (within-stored (the_enable p) r p view word (is_place-itself p))
+    (within-stored (the_enable p) r p view word (λ bit. is_place-itself p))
     (within-asked (the_enable p) (stored r p view word) (owner_of p) (has_bit 25 word) (λ dir queue is. is))
-written_within kind.Ctrl r p view word = within-stored (the_word p) r p view word (is_place-itself p)
+written_within kind.Ctrl r p view word = within-stored (the_word p) r p view word (λ bit. is_place-itself p)
 written_within kind.Vreset r p view word = within-refl nothing r
 written_within kind.Eerd r p view word =
-    within-stored (the_word p) r p view (bit_and word 0xFFFD) (is_place-itself p)
+    within-stored (the_word p) r p view (bit_and word 0xFFFD) (λ bit. is_place-itself p)
 written_within k r p view word = within-group_written k r p (bit_and word view)
 
 pub within-written : (r : Registers) (p : Place) (view word : ℕ)
@@ -130,7 +130,7 @@ pub within-shut_enable : (r : Registers) (dir : Dir) (queue : ℕ)
 within-shut_enable r dir queue =
     let p : Place = place (enable_row dir) queue in
     within-trans (the_enable p) r (switched_off r dir queue) (shut r dir queue)
-    (within-put (the_enable p) r p _ (is_place-itself p))
+    (within-put (the_enable p) r p _ (λ bit. is_place-itself p))
     (within-with_wanted (the_enable p) (switched_off r dir queue) dir queue false
     (ap (λ o. is_owner (owner_of p) o) (sym (enable_owner dir queue)) ∙ is_owner-itself (owner_of p)))
 

@@ -5,12 +5,13 @@ use Rattle.register_file.specs.RegTable.declared.place.Place.{Place}
 use Rattle.register_file.specs.RegTable.declared.rows.RowId.{RowId}
 use Rattle.register_file.specs.IntrUnit.Interrupts.{Interrupts}
 use Rattle.register_file.specs.IntrUnit.declared.group.Group.{Group}
+use Rattle.register_file.specs.Bits.{has_bit}
 use Rattle.register_file.specs.Columns.{place}
 use Rattle.register_file.specs.Groups.{cause_row, mask_row, index_of, with_told, with_interrupts}
 use Rattle.register_file.specs.Registers.{Registers, with_word, with_wanted}
 use Rattle.register_file.specs.Words.{word_at, put}
 use Rattle.register_file.specs.DmaRing.declared.dir.Dir.{Dir}
-use Rattle.register_laws.specs.Footprint.{Footprint, ChangesWithin, the_word, pending}
+use Rattle.register_laws.specs.Footprint.{Footprint, HasWord, ChangesWithin, the_word, pending}
 use Rattle.register_laws.proofs.Fields.{is_wanted-put, told_by-put, words-with_wanted, is_wanted-with_wanted_other, told_by-with_wanted, words-with_told, is_wanted-with_told, told_by-with_told_other}
 use Rattle.register_laws.proofs.Covers.{cause_is_pending, mask_is_pending}
 use Rattle.register_laws.proofs.Footprints.{within-trans}
@@ -18,10 +19,11 @@ use Rattle.register_laws.proofs.Owners.{apart, is_group-itself, is_place-itself}
 use Rattle.register_laws.proofs.Puts.{word_at-put_other}
 
 -- a word at one place, what is wanted of one side, and what is told of one group, each within what has it
-pub within-put : (f : Footprint) (r : Registers) (p : Place) (v : ℕ) → f.words p ≡ true
+pub within-put : (f : Footprint) (r : Registers) (p : Place) (v : ℕ) → HasWord f p
     → ChangesWithin f r (record r { words = put r.words p v })
 within-put f r p v has = record {
-  words = λ q n. word_at-put_other r.words p q v (apart f.words p q has n);
+  bits = λ q bit n.
+      ap (has_bit bit) (word_at-put_other r.words p q v (apart (λ x. f.bits x bit) p q (has bit) n));
   wanted = λ dir queue n. is_wanted-put r p v dir queue;
   told = λ g n. told_by-put r p v g;
 }
@@ -30,7 +32,7 @@ pub within-with_wanted : (f : Footprint) (r : Registers) (dir : Dir) (queue : �
     → f.wanted dir queue ≡ true
     → ChangesWithin f r (with_wanted r dir queue wanted)
 within-with_wanted f r dir queue wanted has = record {
-  words = λ q n. ap (λ ws. word_at ws q) (words-with_wanted r dir queue wanted);
+  bits = λ q bit n. ap (λ ws. has_bit bit (word_at ws q)) (words-with_wanted r dir queue wanted);
   wanted = λ other number n. is_wanted-with_wanted_other r dir other queue number wanted
       (λ e i. both_ways (f.wanted other number) n (sym (λ k. f.wanted (e k) (i k)) ∙ has));
   told = λ g n. told_by-with_wanted r dir queue wanted g;
@@ -39,7 +41,7 @@ within-with_wanted f r dir queue wanted has = record {
 pub within-with_told : (f : Footprint) (r : Registers) (g : Group) (told : ℕ) → f.told g ≡ true
     → ChangesWithin f r (with_told r g told)
 within-with_told f r g told has = record {
-  words = λ q n. ap (λ ws. word_at ws q) (words-with_told r g told);
+  bits = λ q bit n. ap (λ ws. has_bit bit (word_at ws q)) (words-with_told r g told);
   wanted = λ dir queue n. is_wanted-with_told r g told dir queue;
   told = λ h n. told_by-with_told_other r g h told (apart f.told g h has n);
 }
@@ -47,7 +49,7 @@ within-with_told f r g told has = record {
 pub within-word : (r : Registers) (row : RowId) (index word : ℕ)
     → ChangesWithin (the_word (place row index)) r (with_word r row index word)
 within-word r row index word =
-    within-put (the_word (place row index)) r (place row index) word (is_place-itself (place row index))
+    within-put (the_word (place row index)) r (place row index) word (λ bit. is_place-itself (place row index))
 
 -- other interrupts of a group
 pub within-with_interrupts : (r : Registers) (s : Interrupts) → ChangesWithin (pending s.group) r (with_interrupts r s)

@@ -9,17 +9,17 @@ use Rattle.register_file.specs.PoolReset.{pool_reset}
 use Rattle.register_file.specs.Registers.{Registers}
 use Rattle.register_file.specs.Settings.{is_stopped}
 use Rattle.register_file.specs.declared.surroundings.Surroundings.{Surroundings}
-use Rattle.register_laws.specs.Footprint.{Footprint, ChangesWithin, Covers, Misses, AgreeWithin, of_pool, of_read, of_write}
+use Rattle.register_laws.specs.Footprint.{Footprint, Part, ChangesWithin, Covers, Misses, AgreeWithin, all_of, pool_agrees, pool_changes, of_read, of_write}
 use Rattle.register_laws.specs.Laws.{HasShape, after_write}
 
 -- an access of a pool's place, where it asks for no reset, may change nothing but what is the pool's
 abbrev pub PoolReadsStayWithin : Type 0
 PoolReadsStayWithin =
-    (mode : Mode) (v : ℕ) (p : Place) → IsTrue (is_of_pool mode v p) → Covers (of_pool mode v) (of_read p)
+    (mode : Mode) (v : ℕ) (p : Place) → IsTrue (is_of_pool mode v p) → Covers (pool_changes mode v) (of_read p)
 
 abbrev pub PoolWritesStayWithin : Type 0
 PoolWritesStayWithin =
-    (mode : Mode) (v : ℕ) (p : Place) → IsTrue (is_of_pool mode v p) → Covers (of_pool mode v) (of_write p)
+    (mode : Mode) (v : ℕ) (p : Place) → IsTrue (is_of_pool mode v p) → Covers (pool_changes mode v) (of_write p)
 
 -- an access of STATUS or LINKS changes nothing
 abbrev pub SharedReadsChangeNothing : Type 0
@@ -37,7 +37,7 @@ told_at r around p = read_word (row_of p.row).kind r around p
 -- registers that agree of a pool tell the same at its places, and at STATUS and LINKS where both make steps or neither
 abbrev pub PoolReadsTellTheSame : Type 0
 PoolReadsTellTheSame =
-    (mode : Mode) (v : ℕ) (a b : Registers) → AgreeWithin (of_pool mode v) a b →
+    (mode : Mode) (v : ℕ) (a b : Registers) → AgreeWithin (pool_agrees mode v) a b →
     (around : Surroundings) (p : Place) → IsTrue (is_of_pool mode v p) → told_at a around p ≡ told_at b around p
 
 abbrev pub SharedReadsTellTheSame : Type 0
@@ -48,27 +48,27 @@ SharedReadsTellTheSame =
 -- they agree of the pool again after the same read of one of its places, after the same write, and after its reset
 abbrev pub PoolReadsKeepAgreement : Type 0
 PoolReadsKeepAgreement =
-    (mode : Mode) (v : ℕ) (a b : Registers) → HasShape a → HasShape b → AgreeWithin (of_pool mode v) a b →
+    (mode : Mode) (v : ℕ) (a b : Registers) → HasShape a → HasShape b → AgreeWithin (pool_agrees mode v) a b →
     (p : Place) → IsTrue (is_of_pool mode v p) →
-    AgreeWithin (of_pool mode v) (after_read (row_of p.row).kind a p) (after_read (row_of p.row).kind b p)
+    AgreeWithin (pool_agrees mode v) (after_read (row_of p.row).kind a p) (after_read (row_of p.row).kind b p)
 
 abbrev pub PoolWritesKeepAgreement : Type 0
 PoolWritesKeepAgreement =
-    (mode : Mode) (v : ℕ) (a b : Registers) → HasShape a → HasShape b → AgreeWithin (of_pool mode v) a b →
+    (mode : Mode) (v : ℕ) (a b : Registers) → HasShape a → HasShape b → AgreeWithin (pool_agrees mode v) a b →
     (p : Place) → IsTrue (is_of_pool mode v p) → (view word : ℕ) →
-    AgreeWithin (of_pool mode v) (after_write a p view word) (after_write b p view word)
+    AgreeWithin (pool_agrees mode v) (after_write a p view word) (after_write b p view word)
 
 abbrev pub PoolResetMakesAgreement : Type 0
 PoolResetMakesAgreement =
     (mode : Mode) (v : ℕ) (a b : Registers) → HasShape a → HasShape b →
-    AgreeWithin (of_pool mode v) (pool_reset mode v a) (pool_reset mode v b)
+    AgreeWithin (pool_agrees mode v) (pool_reset mode v a) (pool_reset mode v b)
 
 -- two pools have nothing in common
 abbrev pub PoolsHaveNothingInCommon : Type 0
-PoolsHaveNothingInCommon = (mode : Mode) (v w : ℕ) → v ≢ w → Misses (of_pool mode v) (of_pool mode w)
+PoolsHaveNothingInCommon = (mode : Mode) (v w : ℕ) → v ≢ w → Misses (pool_changes mode v) (pool_changes mode w)
 
--- registers that agree within a footprint do so after any changes within one that has nothing of it
+-- registers that agree of a part do so after any changes within a footprint that has nothing of it
 abbrev pub MissedAgreementStands : Type 0
 MissedAgreementStands =
-    (f g : Footprint) (a b then_a then_b : Registers) → Misses f g → ChangesWithin f a then_a →
+    (f : Footprint) (g : Part) (a b then_a then_b : Registers) → Misses f (all_of g) → ChangesWithin f a then_a →
     ChangesWithin f b then_b → AgreeWithin g a b → AgreeWithin g then_a then_b

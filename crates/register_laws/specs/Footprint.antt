@@ -8,6 +8,7 @@ use Rattle.register_file.specs.IntrUnit.declared.group.Group.{Group}
 use Rattle.register_file.specs.IntrUnit.declared.group.Group.TheVariants.{Vf}
 use Rattle.register_file.specs.VfMap.Owner.{is_of_pool, has_queue}
 use Rattle.register_file.specs.VfMap.declared.mode.Mode.{Mode}
+use Rattle.register_file.specs.Bits.{has_bit}
 use Rattle.register_file.specs.Columns.{place}
 use Rattle.register_file.specs.Groups.{cause_row, mask_row, index_of, told_by}
 use Rattle.register_file.specs.Owner.{owner_of, is_owner, is_group}
@@ -17,49 +18,67 @@ use Rattle.register_file.specs.DmaRing.declared.dir.Dir.{Dir}
 use Rattle.register_file.specs.declared.owner.Owner.{Owner}
 use Rattle.register_file.specs.declared.owner.Owner.TheVariants as owner
 
--- what of the registers may change: words at places, which sides are wanted on, and what is told of groups
+-- what of the registers may change: bits of the words at places, which sides are wanted on, and what is told of groups
 pub record Footprint : Type 0 where
+  pub bits : Place → ℕ → Bool
+  pub wanted : Dir → ℕ → Bool
+  pub told : Group → Bool
+
+-- a part of the registers: whole words at places, which sides are wanted on, and what is told of groups
+pub record Part : Type 0 where
   pub words : Place → Bool
   pub wanted : Dir → ℕ → Bool
   pub told : Group → Bool
 
+-- what may change where a part may, each word with all its bits
+abbrev pub all_of : Part → Footprint
+all_of part = record { bits = λ p bit. part.words p; wanted = part.wanted; told = part.told }
+
+-- a footprint has all bits of a word, and has none of them
+abbrev pub HasWord : Footprint → Place → Type 0
+HasWord f p = (bit : ℕ) → IsTrue (f.bits p bit)
+
+abbrev pub LacksWord : Footprint → Place → Type 0
+LacksWord f p = (bit : ℕ) → IsFalse (f.bits p bit)
+
 -- all that a footprint hasn't is as it was
 pub record ChangesWithin (f : Footprint) (old new : Registers) : Type 0 where
-  pub words : (p : Place) → IsFalse (f.words p) → word_at new.words p ≡ word_at old.words p
+  pub bits : (p : Place) (bit : ℕ) → IsFalse (f.bits p bit)
+      → has_bit bit (word_at new.words p) ≡ has_bit bit (word_at old.words p)
   pub wanted : (dir : Dir) (queue : ℕ) → IsFalse (f.wanted dir queue)
       → is_wanted new dir queue ≡ is_wanted old dir queue
   pub told : (g : Group) → IsFalse (f.told g) → told_by new g ≡ told_by old g
 
 -- a footprint has all that another has
 pub record Covers (f e : Footprint) : Type 0 where
-  pub words : (p : Place) → IsTrue (e.words p) → IsTrue (f.words p)
+  pub bits : (p : Place) (bit : ℕ) → IsTrue (e.bits p bit) → IsTrue (f.bits p bit)
   pub wanted : (dir : Dir) (queue : ℕ) → IsTrue (e.wanted dir queue) → IsTrue (f.wanted dir queue)
   pub told : (g : Group) → IsTrue (e.told g) → IsTrue (f.told g)
 
 -- a footprint has nothing that another has
 pub record Misses (f g : Footprint) : Type 0 where
-  pub words : (p : Place) → IsTrue (g.words p) → IsFalse (f.words p)
+  pub bits : (p : Place) (bit : ℕ) → IsTrue (g.bits p bit) → IsFalse (f.bits p bit)
   pub wanted : (dir : Dir) (queue : ℕ) → IsTrue (g.wanted dir queue) → IsFalse (f.wanted dir queue)
   pub told : (h : Group) → IsTrue (g.told h) → IsFalse (f.told h)
 
--- two registers have the same of all that a footprint has
-pub record AgreeWithin (f : Footprint) (a b : Registers) : Type 0 where
+-- two registers have the same of all that is of a part
+pub record AgreeWithin (f : Part) (a b : Registers) : Type 0 where
   pub words : (p : Place) → IsTrue (f.words p) → word_at a.words p ≡ word_at b.words p
   pub wanted : (dir : Dir) (queue : ℕ) → IsTrue (f.wanted dir queue) → is_wanted a dir queue ≡ is_wanted b dir queue
   pub told : (g : Group) → IsTrue (f.told g) → told_by a g ≡ told_by b g
 
 -- nothing, and all
 abbrev pub nothing : Footprint
-nothing = record { words = λ p. false; wanted = λ dir queue. false; told = λ g. false }
+nothing = record { bits = λ p bit. false; wanted = λ dir queue. false; told = λ g. false }
 
 abbrev pub everything : Footprint
-everything = record { words = λ p. true; wanted = λ dir queue. true; told = λ g. true }
+everything = record { bits = λ p bit. true; wanted = λ dir queue. true; told = λ g. true }
 
 -- what one of two footprints has
 abbrev pub either : Footprint → Footprint → Footprint
 either f g =
     record {
-      words = λ p. f.words p || g.words p;
+      bits = λ p bit. f.bits p bit || g.bits p bit;
       wanted = λ dir queue. f.wanted dir queue || g.wanted dir queue;
       told = λ h. f.told h || g.told h;
     }
@@ -70,13 +89,13 @@ is_place p q = number_of p.row == number_of q.row && p.index == q.index
 
 -- the word at one place
 abbrev pub the_word : Place → Footprint
-the_word p = record { words = is_place p; wanted = λ dir queue. false; told = λ g. false }
+the_word p = record { bits = λ q bit. is_place p q; wanted = λ dir queue. false; told = λ g. false }
 
 -- all that is an owner's: the words at its places, of a side whether it is wanted on, and of a group what is told
 abbrev pub of_owner : Owner → Footprint
 of_owner o =
     record {
-      words = λ p. is_owner o (owner_of p);
+      bits = λ p bit. is_owner o (owner_of p);
       wanted = λ dir queue. is_owner o (owner.Side dir queue);
       told = λ g. is_owner o (owner.Group g);
     }
@@ -92,19 +111,24 @@ of_group g = of_owner (owner.Group g)
 
 -- all that is a pool's: the words at its places, of its queues whether their sides are wanted on, and what is told of
 -- the virtual function with its number
-abbrev pub of_pool : Mode → ℕ → Footprint
-of_pool mode v =
+abbrev pub pool_agrees : Mode → ℕ → Part
+pool_agrees mode v =
     record {
       words = is_of_pool mode v;
       wanted = λ dir queue. has_queue mode v queue;
       told = is_group (Vf v);
     }
 
+-- what accesses of a pool's places and the pool's reset may change: all that is the pool's
+abbrev pub pool_changes : Mode → ℕ → Footprint
+pool_changes mode v = all_of (pool_agrees mode v)
+
 -- what is pending of a group: its causes, its masks and its told bits
 abbrev pub pending : Group → Footprint
 pending g =
     record {
-      words = λ p. is_place (place (cause_row g) (index_of g)) p || is_place (place (mask_row g) (index_of g)) p;
+      bits = λ p bit.
+          is_place (place (cause_row g) (index_of g)) p || is_place (place (mask_row g) (index_of g)) p;
       wanted = λ dir queue. false;
       told = is_group g;
     }
@@ -128,7 +152,7 @@ is_pending kind.Eerd = false
 -- what is pending of all groups
 abbrev pub any_pending : Footprint
 any_pending =
-    record { words = λ p. is_pending (row_of p.row).kind; wanted = λ dir queue. false; told = λ g. true }
+    record { bits = λ p bit. is_pending (row_of p.row).kind; wanted = λ dir queue. false; told = λ g. true }
 
 -- what is pending of an owner: of a group alone
 abbrev pub pending_of : Owner → Footprint
@@ -144,7 +168,7 @@ pending_of (owner.Vectors number) = nothing
 abbrev pub the_enable : Place → Footprint
 the_enable p =
     record {
-      words = is_place p;
+      bits = λ q bit. is_place p q;
       wanted = λ dir queue. is_owner (owner_of p) (owner.Side dir queue);
       told = λ g. false;
     }

@@ -26,7 +26,7 @@ use Rattle.register_file.specs.DmaRing.declared.dir.Dir.TheVariants.{Rx, Tx}
 use Rattle.register_file.specs.declared.owner.Owner.{Owner}
 use Rattle.register_file.specs.declared.owner.Owner.TheVariants as owner
 use Rattle.register_file.specs.declared.surroundings.Surroundings.{Surroundings}
-use Rattle.register_laws.specs.Footprint.{Footprint, ChangesWithin, Covers, Misses, the_word, the_enable, of_owner, of_side, of_group, pending, pending_of, any_pending, of_read, of_write}
+use Rattle.register_laws.specs.Footprint.{Footprint, LacksWord, ChangesWithin, Covers, Misses, the_word, the_enable, of_owner, of_side, of_group, pending, pending_of, any_pending, of_read, of_write}
 use Rattle.register_laws.specs.Sides.{receive_queue_of, transmit_queue_of, with_row, receive_queue_by, transmit_queue_by}
 use Rattle.register_laws.specs.Sound.{AreSound}
 pub use Rattle.register_laws.specs.Sound.{HasShape}
@@ -280,7 +280,7 @@ OwnersAreApart = (o other : Owner) → IsFalse (is_owner o other) → Misses (of
 
 -- a word's footprint has one place, what is pending of a group is of causes and masks alone, and owners differ
 abbrev pub WordIsOnePlace : Type 0
-WordIsOnePlace = (p q : Place) → q ≢ p → IsFalse ((the_word p).words q)
+WordIsOnePlace = (p q : Place) → q ≢ p → LacksWord (the_word p) q
 
 abbrev pub PendingIsPending : Type 0
 PendingIsPending = (g : Group) → Covers any_pending (pending g)
@@ -316,18 +316,18 @@ MissedInterruptsStand =
 
 -- what single words set stands where a footprint hasn't these words
 pub record SettingsStand (f : Footprint) (old new : Registers) : Type 0 where
-  pub stopped : IsFalse (f.words (place Ctrl 0)) → is_stopped new ≡ is_stopped old
-  pub can_receive : IsFalse (f.words (place Rxctrl 0)) → can_receive new ≡ can_receive old
-  pub can_transmit : IsFalse (f.words (place Dmatxctl 0)) → can_transmit new ≡ can_transmit old
-  pub limit : IsFalse (f.words (place Hlreg0 0)) → IsFalse (f.words (place Maxfrs 0))
+  pub stopped : LacksWord f (place Ctrl 0) → is_stopped new ≡ is_stopped old
+  pub can_receive : LacksWord f (place Rxctrl 0) → can_receive new ≡ can_receive old
+  pub can_transmit : LacksWord f (place Dmatxctl 0) → can_transmit new ≡ can_transmit old
+  pub limit : LacksWord f (place Hlreg0 0) → LacksWord f (place Maxfrs 0)
       → frame_limit new ≡ frame_limit old
-  pub padding : IsFalse (f.words (place Hlreg0 0)) → pads new ≡ pads old
-  pub dropping : (queue : ℕ) → IsFalse (f.words (place Srrctl queue)) → drops new queue ≡ drops old queue
-  pub clearing : IsFalse (f.words (place Gpie 0)) → clears_others new ≡ clears_others old
-  pub masking : IsFalse (f.words (place Gpie 0)) → (g : Group) → auto_masks new g ≡ auto_masks old g
-  pub vector : (g : Group) (dir : Dir) (queue : ℕ) → IsFalse (f.words (place (vector_row g) (queue / 2)))
+  pub padding : LacksWord f (place Hlreg0 0) → pads new ≡ pads old
+  pub dropping : (queue : ℕ) → LacksWord f (place Srrctl queue) → drops new queue ≡ drops old queue
+  pub clearing : LacksWord f (place Gpie 0) → clears_others new ≡ clears_others old
+  pub masking : LacksWord f (place Gpie 0) → (g : Group) → auto_masks new g ≡ auto_masks old g
+  pub vector : (g : Group) (dir : Dir) (queue : ℕ) → LacksWord f (place (vector_row g) (queue / 2))
       → vector_entry new g dir queue ≡ vector_entry old g dir queue
-  pub counter : (dir : Dir) (queue : ℕ) → IsFalse (f.words (place (mapping_row dir) (queue / 4)))
+  pub counter : (dir : Dir) (queue : ℕ) → LacksWord f (place (mapping_row dir) (queue / 4))
       → counter_of new dir queue ≡ counter_of old dir queue
 
 abbrev pub MissedSettingsStand : Type 0

@@ -4,29 +4,31 @@ use Rattle.register_file.specs.RegTable.Rows.{row_of}
 use Rattle.register_file.specs.RegTable.declared.place.Place.{Place}
 use Rattle.register_file.specs.IntrUnit.declared.group.Group.{Group}
 use Rattle.register_file.specs.VfMap.declared.mode.Mode.{Mode}
+use Rattle.register_file.specs.Bits.{has_bit}
 use Rattle.register_file.specs.Groups.{index_of, told_by}
 use Rattle.register_file.specs.PoolReset.{pool_reset}
 use Rattle.register_file.specs.Registers.{Registers, is_wanted}
 use Rattle.register_file.specs.Words.{word_at}
 use Rattle.register_file.specs.DmaRing.declared.dir.Dir.{Dir}
-use Rattle.register_laws.specs.Footprint.{Footprint, ChangesWithin, of_pool}
+use Rattle.register_laws.specs.Footprint.{Footprint, ChangesWithin, pool_changes}
 use Rattle.register_laws.specs.Sound.{HasShape, AreSound}
 
--- all that a footprint has is as a reset leaves it: words at places of the table, sides of the 128 queues, and what is
--- told of the 64 groups
+-- all that a footprint has is as a reset leaves it: bits of the words at places of the table, sides of the 128 queues,
+-- and what is told of the 64 groups
 pub record IsResetAt (f : Footprint) (r : Registers) : Type 0 where
-  pub words : (p : Place) → IsTrue (f.words p) → p.index < (row_of p.row).count
-      → word_at r.words p ≡ (row_of p.row).reset
+  pub bits : (p : Place) (bit : ℕ) → IsTrue (f.bits p bit) → p.index < (row_of p.row).count
+      → has_bit bit (word_at r.words p) ≡ has_bit bit (row_of p.row).reset
   pub wanted : (dir : Dir) (queue : ℕ) → IsTrue (f.wanted dir queue) → queue < 128 → IsFalse (is_wanted r dir queue)
   pub told : (g : Group) → IsTrue (f.told g) → index_of g < 64 → told_by r g ≡ 0
 
 -- after a reset of a pool all that is the pool's is as a reset leaves it, and all else is as it was
 abbrev pub PoolIsReset : Type 0
-PoolIsReset = (r : Registers) → HasShape r → (mode : Mode) (v : ℕ) → IsResetAt (of_pool mode v) (pool_reset mode v r)
+PoolIsReset =
+    (r : Registers) → HasShape r → (mode : Mode) (v : ℕ) → IsResetAt (pool_changes mode v) (pool_reset mode v r)
 
 abbrev pub PoolResetStaysWithin : Type 0
 PoolResetStaysWithin =
-    (r : Registers) (mode : Mode) (v : ℕ) → ChangesWithin (of_pool mode v) r (pool_reset mode v r)
+    (r : Registers) (mode : Mode) (v : ℕ) → ChangesWithin (pool_changes mode v) r (pool_reset mode v r)
 
 -- registers stay sound
 abbrev pub PoolResetKeepsSound : Type 0

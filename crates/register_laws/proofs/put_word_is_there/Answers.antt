@@ -8,4 +8,4 @@ pub returns-clause-there : goal.returns-clause-there
 returns-clause-there c = λ r h p b word. put_stands r p word h b
 
 pub returns-clause-alone : goal.returns-clause-alone
-returns-clause-alone c = λ r p word. within-put (the_word p) r p word (is_place-itself p)
+returns-clause-alone c = λ r p word. within-put (the_word p) r p word (λ bit. is_place-itself p)

@@ -103,7 +103,7 @@ impl Ends for Interleaved {
             mut foreign,
             schedule,
         } = self.finish();
-        let mut sum = with(sum, calls.len() as u64);
+        let mut sum = with(sum, calls.kept().0.len() as u64);
         assert!(rt; foreign.len() == 3 && schedule.is_empty());
         schedule.destroy_empty();
         for _reply in 0..3 {

@@ -16,8 +16,8 @@ with_both : (t : PassValue) (a b : List Call) → with_calls (with_calls t a) b 
 with_both t a b =
     ap (λ (l : List Call). record t { calls = l }) (append_assoc t.calls a b)
 
-pub both_stepped : (old mid new : PassValue) (xs ys : List (Event Block)) → AreStepped old mid xs → AreStepped mid new ys
-    → AreStepped old new (xs ++ ys)
+pub both_stepped : (old mid new : PassValue) (xs ys : List (Event Block)) → AreStepped old mid xs
+    → AreStepped mid new ys → AreStepped old new (xs ++ ys)
 both_stepped old mid new xs ys (a, is_a, to) (b, is_b, then) = (
   a ++ b,
   map-append (λ (c : Call). c.event) a b ∙ ap (λ (l : List (Event Block)). l ++ events_in b) is_a

@@ -81,7 +81,8 @@ module _ (queue : ℕ) (s : State) (sound : IsSound s) (small : queue < 128) whe
         ≡ slot_done s queue answer (fetch_on s queue).memory (fetch_on s queue).staged
         → Deed Tx queue s (event.TxStep queue)
     by_answer (Ok f) answer is =
-        let told = took queue s t f f.frame (tells (fetched_reply queue f f.frame) (ap (λ (x : Outcome). x.reply) is)) in
+        let replied = ap (λ (x : Outcome). x.reply) is in
+        let told = took queue s t f f.frame (tells (fetched_reply queue f f.frame) replied) in
         Took (record {
           tried = tried;
           staged = staged_by t queue;

@@ -53,7 +53,8 @@ ByWrite queue q P Q number = Leads queue (call_of (event.Write q.port number 0) 
 
 module _ (P Q : Side → Type 0) where
   -- events that leave the queue alone keep what stays of each side whatever the device does
-  pub both_kept : IsSteady P → IsSteady Q → (w : Watched) (mine : Blocks) (q : AtPort) → IsKept w mine (Both P Q w.queue q)
+  pub both_kept : IsSteady P → IsSteady Q → (w : Watched) (mine : Blocks) (q : AtPort)
+      → IsKept w mine (Both P Q w.queue q)
   both_kept p r w mine q s e x b = record {
     ground = ground_kept w mine q s e x b.ground;
     receive = steady_kept Rx w.queue s e P b.receive p (left_deed Rx w mine s e x);

@@ -84,8 +84,8 @@ receive_write_stands queue s rx tx rings port n word row met stand unwanted fits
           (t.side ∙ ap (λ (z : Side). receive_with row word (receive_of z)) (is_off _ _ x unwanted)
           ∙ receive_on_beside row word rx false fits))
           (receive_on_same row word rx fits ∙ seen_off rx.on _ x.seen off) goes;
-      transmits = subst (λ (z : Side). Stands z (transmit_side tx [])) (sym (transmit_left queue s (after s (event.Write port n word)) t.other))
-          stand.transmits;
+      transmits = subst (λ (z : Side). Stands z (transmit_side tx []))
+          (sym (transmit_left queue s (after s (event.Write port n word)) t.other)) stand.transmits;
       zero = λ b is. ap (λ (m : Memory). map.get m b) t.ground.memory ∙ stand.zero b is;
     }
 
@@ -98,8 +98,8 @@ transmit_write_stands queue s rx tx rings port n word row met stand unwanted fit
     ∙ transmit_on_beside row word tx false fits in
     let staged = t.staged ∙ ap (λ (z : Side). z.staged) x.same in
     record {
-      receives = subst (λ (z : Side). Stands z (receive_side rx)) (sym (receive_left queue s (after s (event.Write port n word)) t.other))
-          stand.receives;
+      receives = subst (λ (z : Side). Stands z (receive_side rx))
+          (sym (receive_left queue s (after s (event.Write port n word)) t.other)) stand.receives;
       transmits = stands_off _ _ (λ k. transmit_side (side k) (staged k))
           (transmit_on_same row word tx fits ∙ seen_off tx.on _ x.seen off) goes;
       zero = λ b is. ap (λ (m : Memory). map.get m b) t.ground.memory ∙ stand.zero b is;

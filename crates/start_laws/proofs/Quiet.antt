@@ -32,7 +32,8 @@ pub off_sides_stand : OffSidesStand
 off_sides_stand queue s sound off transmit_off = record {
   receives = off_stands (side_of Rx queue s) off;
   transmits =
-      subst (λ (staged : List ℕ). Stands (side_of Tx queue s) (transmit_side (transmit_queue_of s.registers queue) staged))
+      subst
+      (λ (staged : List ℕ). Stands (side_of Tx queue s) (transmit_side (transmit_queue_of s.registers queue) staged))
       (sound.bare queue transmit_off.off) (off_stands (side_of Tx queue s) transmit_off);
   zero = λ b is. cc;
 }

@@ -73,7 +73,8 @@ module _ (w : Watched) (q : AtPort) (fifo : ℕ) (h : List Entry) (along : IsAlo
   first_off : (row : RowId) (on : Bool) (old new : List Call) → IsMade q old new (Sees row on)
       → BeforeNext w fifo h old Off → AtOff new
   first_off row on old new (number, word, named, is, (before, added, steps)) at =
-      first_seen w q fifo h Off along off_stays (λ s number x. both_read IsOff IsOff w.queue q s q.port number x) row on old new
+      first_seen w q fifo h Off along off_stays
+      (λ s number x. both_read IsOff IsOff w.queue q s q.port number x) row on old new
       (number, word, named, is, (before, added, steps))
       (subst (λ (calls : List Call). BeforeLast w fifo h calls Off) (sym added)
       (at before (call_of (event.Read q.port number) (reply.Word word)) steps refl))

@@ -37,8 +37,8 @@ pub record Stand (queue : ℕ) (receive : ReceiveQueue) (transmit : TransmitQueu
     pub transmits : Stands (side_of Tx queue s) (transmit_side transmit [])
     pub zero : (number : ℕ) → IsTrue (rings number) → IsZero s.memory number
 
--- an event that leaves the queue and these blocks alone keeps both sides as they stand; it receives and sends nothing on
--- the queue; and the frame limit, and how the queues are parted among virtual functions, stay
+-- an event that leaves the queue and these blocks alone keeps both sides as they stand; it receives and sends nothing
+-- on the queue; and the frame limit, and how the queues are parted among virtual functions, stay
 pub record LeavesStanding (queue : ℕ) (receive : ReceiveQueue) (transmit : TransmitQueue) (rings : Blocks) (s : State)
     (e : Event Block) : Type 0 where
   pub stand : Stand queue receive transmit rings (after s e)

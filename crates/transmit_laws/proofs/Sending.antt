@@ -132,8 +132,9 @@ module _ (s : State) (queue : ℕ) (sent : List (List ℕ)) (v : Sender) (f : �
   pub never-shuts : (e : Event Block) → Shuts Tx queue s e → ⊥
   never-shuts e x =
       let posted = more s queue sent v f h x.tried.some in
-      let sent_it = fetch-packet s.memory side.ring (sending_of s.registers side) p (to_send s queue sent v f h posted) in
-      let fine = ap (λ (bytes : List ℕ). (fetch_of s.memory bytes side.ring (sending_of s.registers side)).answer) h.staged
+      let sending = sending_of s.registers side in
+      let sent_it = fetch-packet s.memory side.ring sending p (to_send s queue sent v f h posted) in
+      let fine = ap (λ (bytes : List ℕ). (fetch_of s.memory bytes side.ring sending).answer) h.staged
       ∙ ap (λ (o : Fetch). o.answer) sent_it in
       let clash = sym fine ∙ x.fault.answer in
       cc

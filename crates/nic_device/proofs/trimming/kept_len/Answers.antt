@@ -6,8 +6,9 @@ pub returns-else-bytes-end-eq0 : goal.returns-else-bytes-end-eq0
 returns-else-bytes-end-eq0 c =
     let end = c.loop-end.end in
     let some = c.loop-end-test.true in
+    let zeros = c.loop-end.invariant.1 in
     let all =
-    kept-last c.args.bytes.now (end - 1) (λ k h. c.loop-end.invariant.1 k (omega (arith, some))) c.if-bytes-end-eq0.false
+    kept-last c.args.bytes.now (end - 1) (λ k h. zeros k (omega (arith, some))) c.if-bytes-end-eq0.false
     in
     omega (arith, all, some)
 

@@ -18,6 +18,11 @@ impl<'a> Call<'a> {
         Call { name, text }
     }
 
+    /// What stands behind the name, as a call.
+    pub fn behind(self) -> Call<'a> {
+        Call::of(self.text)
+    }
+
     /// The word of this number, counted from 0.
     pub fn word(self, at: usize) -> &'a str {
         Words::of(self.text).nth(at).unwrap_or("")

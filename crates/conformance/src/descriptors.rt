@@ -11,16 +11,12 @@ use std::alloc::{AllocError, Global};
 /// What a call answers.
 pub fn answer(alloc: Global, call: Call<'_>) -> Result<String, AllocError> {
     match call.name {
-        "ring" => ring_text(alloc, ring_in(call)),
-        "next" => next_text(alloc, ring_in(call), call.half(3)),
-        "descriptor" => {
-            let ring = Ring {
-                base: call.long(3, 4),
-                ..ring_in(call)
-            };
-            format!(in alloc; "{:#x}", ring.descriptor(call.half(5)))
+        "ring" | "next" | "descriptor" => ring_text(alloc, call),
+        "halves" => {
+            let bytes = of_halves(call.long(0, 1), call.long(2, 3));
+            let (first, second) = (first_half(&bytes), second_half(&bytes));
+            format!(in alloc; "{bytes:?} {first:#x} {second:#x}")
         }
-        "halves" => halves_text(alloc, call.long(0, 1), call.long(2, 3)),
         "done_word" => {
             format!(in alloc; "{:#x}", done_word(call.half(0), call.word(1) == "end"))
         }
@@ -31,33 +27,25 @@ pub fn answer(alloc: Global, call: Call<'_>) -> Result<String, AllocError> {
     }
 }
 
-fn ring_in(call: Call<'_>) -> Ring {
-    Ring {
-        base: 0,
+/// What a call on a ring answers.
+fn ring_text(alloc: Global, call: Call<'_>) -> Result<String, AllocError> {
+    let ring = Ring {
+        base: call.long(3, 4),
         length: call.number(0),
         head: call.half(1),
         tail: call.half(2),
+    };
+    let slots = ring.slots();
+    match call.name {
+        "ring" if ring.outside() => format!(in alloc; "{slots} outside"),
+        "ring" => format!(in alloc; "{slots} {}", ring.available()),
+        "descriptor" => format!(in alloc; "{:#x}", ring.descriptor(call.half(5))),
+        _ => {
+            let slot = call.half(3);
+            if u32::from(slot) < slots && slots <= 65536 {
+                return format!(in alloc; "{}", ring.next(slot));
+            }
+            format!(in alloc; "none")
+        }
     }
-}
-
-fn ring_text(alloc: Global, ring: Ring) -> Result<String, AllocError> {
-    if ring.outside() {
-        return format!(in alloc; "{} outside", ring.slots());
-    }
-    format!(in alloc; "{} {}", ring.slots(), ring.available())
-}
-
-fn next_text(alloc: Global, ring: Ring, slot: u16) -> Result<String, AllocError> {
-    if u32::from(slot) < ring.slots() && ring.slots() <= 65536 {
-        return format!(in alloc; "{}", ring.next(slot));
-    }
-    format!(in alloc; "none")
-}
-
-/// The bytes of a descriptor of two halves, and the halves that are read of them.
-fn halves_text(alloc: Global, first: u64, second: u64) -> Result<String, AllocError> {
-    let descriptor = of_halves(first, second);
-    let first = first_half(&descriptor);
-    let second = second_half(&descriptor);
-    format!(in alloc; "{descriptor:?} {first:#x} {second:#x}")
 }

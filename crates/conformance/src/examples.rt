@@ -6,116 +6,77 @@
 //! `nicbench eeprom --load` prints for those bytes. `examples/NAME.object` is the object of `NAME.nic`, in hex, and
 //! `NAME.dis` what `nicbench dis` prints for it.
 
-use bench::{Input, Outcome, Output, bench};
-use std::alloc::{AllocError, Global};
+use crate::scripts::answer;
+use crate::texts::hex_in;
 use std::{fs, io};
-use text_format::hex_bytes;
 
-/// The words that scripts are run by.
-const RUN: [&str; 2] = ["nicbench", "run"];
-
-const RUN_WITH_TWO_FUNCTIONS: [&str; 4] = ["nicbench", "run", "--vfs", "2"];
-
-/// The words that sessions are debugged by.
-const DEBUG: [&str; 2] = ["nicbench", "debug"];
-
-/// The scripts that are run, each with the status that its run ends with.
-const SCRIPTS: [(&str, u8); 9] = [
-    ("first", 0),
-    ("masks", 0),
-    ("aliases", 0),
-    ("receive", 0),
-    ("rss", 0),
-    ("queue", 0),
-    ("send", 0),
-    ("interrupts", 0),
-    ("fault", 2),
+/// The runs that print what stands in `NAME.out`: the name, the words, the kind of the file that is read, and the status
+/// that the run ends with.
+const RUNS: [(&str, &str, &str, u8); 11] = [
+    ("first", "nicbench run", "nic", 0),
+    ("masks", "nicbench run", "nic", 0),
+    ("aliases", "nicbench run", "nic", 0),
+    ("receive", "nicbench run", "nic", 0),
+    ("rss", "nicbench run", "nic", 0),
+    ("queue", "nicbench run", "nic", 0),
+    ("send", "nicbench run", "nic", 0),
+    ("interrupts", "nicbench run", "nic", 0),
+    ("fault", "nicbench run", "nic", 2),
+    ("virtual", "nicbench run --vfs 2", "nic", 0),
+    ("tail", "nicbench debug", "debug", 0),
 ];
 
-/// The EEPROM texts.
-const IMAGES: [&str; 3] = ["image", "blank", "setting"];
+/// The words that make bytes of a text, and those that print the bytes, with the kinds of the three files.
+type Forms = (
+    &'static str,
+    &'static str,
+    &'static str,
+    &'static str,
+    &'static str,
+);
 
-/// The scripts whose objects stand beside them.
-const OBJECTS: [&str; 2] = ["first", "listing"];
+const IMAGE: Forms = (
+    "nicbench eeprom",
+    "eeprom",
+    "hex",
+    "nicbench eeprom --load",
+    "out",
+);
 
-/// No status of the program: what is told of words that leave threads to be run.
-const NOT_ENDED: u8 = 255;
+const OBJECT: Forms = ("nicbench asm", "nic", "object", "nicbench dis", "dis");
 
-/// What the program writes for an input, and the status that it ends with.
-fn answer(alloc: Global, words: &[&str], input: &[u8]) -> (Vec<u8>, u8) {
-    let mut written = Vec::new(alloc);
-    let mut output = Output::of(&mut written);
-    match bench(alloc, &mut Input::of(input), &mut output, words) {
-        Outcome::Ended(status) => (written, status),
-        Outcome::Threads { .. } => (written, NOT_ENDED),
-    }
-}
+/// The EEPROM texts, and the scripts whose objects stand beside them.
+const TEXTS: [(&str, Forms); 5] = [
+    ("image", IMAGE),
+    ("blank", IMAGE),
+    ("setting", IMAGE),
+    ("first", OBJECT),
+    ("listing", OBJECT),
+];
 
-/// A file of the examples.
-fn example(rt: &HostRuntime, name: &str, kind: &str) -> io::Result<String> {
+/// The bytes of a file of the examples, which some kinds of files write in lines of hex.
+fn example(rt: &HostRuntime, name: &str, kind: &str) -> io::Result<Vec<u8>> {
     let path = format!(in rt.alloc(); "examples/{name}.{kind}")?;
-    fs::read_to_string(rt, path.as_str())
+    let text = fs::read_to_string(rt, path.as_str())?;
+    if kind == "hex" || kind == "object" {
+        return Ok(hex_in(rt.alloc(), text.as_str())?);
+    }
+    Ok(text.into_bytes())
 }
 
-/// Whether the program writes for an example of a kind what stands beside it, and ends with this status.
+/// Whether the program, run by these words on an example's file of one kind, writes that of another, and ends with this
+/// status.
 fn is_as_written(
     rt: &HostRuntime,
-    words: &[&str],
     name: &str,
-    kind: &str,
+    words: &str,
+    (from, to): (&str, &str),
     wanted: u8,
 ) -> io::Result<bool> {
-    let input = example(rt, name, kind)?;
-    let printed = example(rt, name, "out")?;
-    let (written, status) = answer(rt.alloc(), words, input.as_bytes());
-    Ok(status == wanted && written.as_slice() == printed.as_bytes())
-}
-
-/// The bytes that lines of hex are, none where they are something else.
-pub fn bytes_of(alloc: Global, lines: &str) -> Result<Vec<u8>, AllocError> {
-    let mut digits = String::new(alloc);
-    for line in lines.lines() {
-        digits.push_str(line)?;
-    }
-    Ok(hex_bytes(alloc, digits.as_str()).unwrap_or(Vec::new(alloc)))
-}
-
-/// Whether a text is made these bytes by a command, and the bytes this print by another.
-fn are_two_forms(
-    alloc: Global,
-    (text, hex, printed): (&str, &str, &str),
-    make: &[&str],
-    show: &[&str],
-) -> Result<bool, AllocError> {
-    let bytes = bytes_of(alloc, hex)?;
-    let (made, make_status) = answer(alloc, make, text.as_bytes());
-    let (shown, show_status) = answer(alloc, show, bytes.as_slice());
-    let is_made = make_status == 0 && made.as_slice() == bytes.as_slice();
-    Ok(is_made && show_status == 0 && shown.as_slice() == printed.as_bytes())
-}
-
-/// Whether an EEPROM text is made the image that stands beside it, and that image has these register writes.
-fn is_the_image(rt: &HostRuntime, name: &str) -> io::Result<bool> {
-    let text = example(rt, name, "eeprom")?;
-    let hex = example(rt, name, "hex")?;
-    let printed = example(rt, name, "out")?;
-    let forms = (text.as_str(), hex.as_str(), printed.as_str());
-    let load = ["nicbench", "eeprom", "--load"];
-    Ok(are_two_forms(rt.alloc(), forms, &["nicbench", "eeprom"], &load)?)
-}
-
-/// Whether a script is made the object that stands beside it, and that object shown as this script.
-fn is_the_object(rt: &HostRuntime, name: &str) -> io::Result<bool> {
-    let text = example(rt, name, "nic")?;
-    let hex = example(rt, name, "object")?;
-    let printed = example(rt, name, "dis")?;
-    let forms = (text.as_str(), hex.as_str(), printed.as_str());
-    Ok(are_two_forms(
-        rt.alloc(),
-        forms,
-        &["nicbench", "asm"],
-        &["nicbench", "dis"],
-    )?)
+    let input = example(rt, name, from)?;
+    let printed = example(rt, name, to)?;
+    let (written, status) = answer(rt.alloc(), words, input.as_slice())?;
+    Ok(status == wanted && written.as_slice() == printed.as_slice())
 }
 
 /// Says whether an example is as it should be.
@@ -126,17 +87,17 @@ fn say(rt: &HostRuntime, name: &str, is_right: bool) -> io::Result<()> {
 
 /// Runs each example.
 pub fn run_examples(rt: &HostRuntime) -> io::Result<()> {
-    for (name, status) in SCRIPTS {
-        say(rt, name, is_as_written(rt, &RUN, name, "nic", status)?)?;
+    for (name, words, kind, status) in RUNS {
+        say(
+            rt,
+            name,
+            is_as_written(rt, name, words, (kind, "out"), status)?,
+        )?;
     }
-    let is_virtual = is_as_written(rt, &RUN_WITH_TWO_FUNCTIONS, "virtual", "nic", 0)?;
-    say(rt, "virtual", is_virtual)?;
-    say(rt, "tail", is_as_written(rt, &DEBUG, "tail", "debug", 0)?)?;
-    for name in IMAGES {
-        say(rt, name, is_the_image(rt, name)?)?;
-    }
-    for name in OBJECTS {
-        say(rt, name, is_the_object(rt, name)?)?;
+    for (name, (make, text, bytes, show, printed)) in TEXTS {
+        let is_made = is_as_written(rt, name, make, (text, bytes), 0)?;
+        let is_shown = is_as_written(rt, name, show, (bytes, printed), 0)?;
+        say(rt, name, is_made && is_shown)?;
     }
     Ok(())
 }

@@ -14,26 +14,22 @@ use std::fmt::Write;
 /// What a call answers.
 pub fn answer(alloc: Global, call: Call<'_>) -> Result<String, AllocError> {
     match call.name {
-        "blank" => blank_text(alloc),
-        "assemble" => assembled_text(alloc, call.text),
+        "blank" => again_text(alloc, &Image::blank(alloc)?),
+        "assemble" => {
+            let text = plain(alloc, call.text)?;
+            match assemble(alloc, text.as_str()) {
+                Ok(image) => again_text(alloc, &image),
+                Err(fault) => format!(in alloc; "{fault:?}"),
+            }
+        }
         "load" => {
             let file = file_in(alloc, call)?;
-            loaded_text(alloc, file.as_slice())
+            match load(alloc, file.as_slice()) {
+                Ok(image) => image_text(alloc, &image),
+                Err(fault) => format!(in alloc; "{fault:?}"),
+            }
         }
         _ => format!(in alloc; "no such call"),
-    }
-}
-
-fn blank_text(alloc: Global) -> Result<String, AllocError> {
-    let image = Image::blank(alloc)?;
-    again_text(alloc, &image)
-}
-
-fn assembled_text(alloc: Global, text: &str) -> Result<String, AllocError> {
-    let text = plain(alloc, text)?;
-    match assemble(alloc, text.as_str()) {
-        Ok(image) => again_text(alloc, &image),
-        Err(fault) => format!(in alloc; "{fault:?}"),
     }
 }
 
@@ -43,13 +39,6 @@ fn again_text(alloc: Global, image: &Image) -> Result<String, AllocError> {
     match load(alloc, file.as_slice()) {
         Ok(loaded) if loaded.words() == image.words() => image_text(alloc, &loaded),
         _ => format!(in alloc; "other"),
-    }
-}
-
-fn loaded_text(alloc: Global, file: &[u8]) -> Result<String, AllocError> {
-    match load(alloc, file) {
-        Ok(image) => image_text(alloc, &image),
-        Err(fault) => format!(in alloc; "{fault:?}"),
     }
 }
 

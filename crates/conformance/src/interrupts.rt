@@ -6,19 +6,15 @@ use std::alloc::{AllocError, Global};
 
 /// What a call answers. Each begins with a group.
 pub fn answer(alloc: Global, call: Call<'_>) -> Result<String, AllocError> {
-    let group = group_in(call);
+    let group = if call.word(0) == "pf" {
+        Group::Pf
+    } else {
+        Group::Vf(call.byte(0))
+    };
     match call.name {
         "bits" => format!(in alloc; "{:#x}", group.bits()),
         "vector" => format!(in alloc; "{:?}", group.vector_of(call.byte(1), call.number(2))),
         "causes" => format!(in alloc; "{:#x}", group.queue_causes(call.byte(1))),
         _ => format!(in alloc; "no such call"),
-    }
-}
-
-fn group_in(call: Call<'_>) -> Group {
-    if call.word(0) == "pf" {
-        Group::Pf
-    } else {
-        Group::Vf(call.byte(0))
     }
 }

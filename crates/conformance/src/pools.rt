@@ -2,7 +2,7 @@
 
 use crate::call::Call;
 use std::alloc::{AllocError, Global};
-use vf_map::{Mapped, Mode, map, mode_of, queues_of};
+use vf_map::{Mapped, map, mode_of, queues_of};
 
 /// What a call answers. Each begins with a word of GCR_EXT.
 pub fn answer(alloc: Global, call: Call<'_>) -> Result<String, AllocError> {
@@ -10,15 +10,11 @@ pub fn answer(alloc: Global, call: Call<'_>) -> Result<String, AllocError> {
     match call.name {
         "mode" => format!(in alloc; "{mode:?}"),
         "queues" => format!(in alloc; "{:?}", queues_of(mode, call.byte(1))),
-        "map" => map_text(alloc, mode, call),
+        "map" => match map(mode, call.byte(1), call.byte(2), call.number(3)) {
+            Mapped::Pf(address) => format!(in alloc; "{address:#07x}"),
+            Mapped::Hole => format!(in alloc; "hole"),
+            Mapped::Absent => format!(in alloc; "absent"),
+        },
         _ => format!(in alloc; "no such call"),
-    }
-}
-
-fn map_text(alloc: Global, mode: Mode, call: Call<'_>) -> Result<String, AllocError> {
-    match map(mode, call.byte(1), call.byte(2), call.number(3)) {
-        Mapped::Pf(address) => format!(in alloc; "{address:#07x}"),
-        Mapped::Hole => format!(in alloc; "hole"),
-        Mapped::Absent => format!(in alloc; "absent"),
     }
 }

@@ -20,11 +20,12 @@
 //! and `-- 2 each` that each line above it, of which there is one at least, by itself behind the lines of the table,
 //! prints what is below.
 
-use crate::examples::bytes_of;
+use crate::texts::hex_in;
 use bench::{Input, Outcome, Output, bench};
 use std::alloc::{AllocError, Global};
 use std::fmt::Write;
 use std::{fs, io};
+use text_format::number;
 
 /// The tables.
 const TABLES: [&str; 21] = [
@@ -51,40 +52,19 @@ const TABLES: [&str; 21] = [
     "commands",
 ];
 
-/// What a case is to end with.
-#[derive(Drop)]
-enum Ending<'a> {
-    /// `ok` and the number of instructions, and status 0.
-    Ok,
-    /// A status, and all that is printed behind the instructions' lines.
-    Exactly(u8, &'a str),
-    /// A status, and lines that are printed somewhere.
-    With(u8, &'a str),
-    /// A status, and all that is printed, for each line by itself.
-    Each(u8, &'a str),
-}
-
 /// A case of a table.
-#[derive(Drop)]
+#[derive(Clone, Copy)]
 struct Case<'a> {
     title: &'a str,
     words: &'a str,
     is_hex: bool,
     lines: &'a str,
-    ending: Ending<'a>,
-}
-
-/// What the text below `--` says.
-fn ending_of(text: &str) -> Option<Ending<'_>> {
-    let (head, printed) = text.split_once("\n")?;
-    let (status, how) = head.split_once(" ").unwrap_or((head, ""));
-    let status = status.parse().ok()?;
-    match how {
-        "" => Some(Ending::Exactly(status, printed)),
-        "with" => Some(Ending::With(status, printed)),
-        "each" => Some(Ending::Each(status, printed)),
-        _ => None,
-    }
+    /// The status that it is to end with.
+    status: u32,
+    /// Which of the printed lines are given: all behind those of the instructions where this is empty, `with` or `each`
+    /// as `--` has it, and none with `ok`, which stands for `ok` and the number of instructions.
+    how: &'a str,
+    printed: &'a str,
 }
 
 /// The case of a text, which is what stands behind its `==`.
@@ -95,33 +75,36 @@ fn case_of(text: &str) -> Option<Case<'_>> {
         Some(text) => text.split_once("\n")?,
         None => ("nicbench run", text),
     };
-    let (lines, ending) = match text.split_once("-- ") {
-        Some((lines, text)) => (lines, ending_of(text)?),
-        None => (text, Ending::Ok),
-    };
+    let (lines, ending) = text.split_once("-- ").unwrap_or((text, "0 ok\n"));
+    let (head, printed) = ending.split_once("\n")?;
+    let (status, how) = head.split_once(" ").unwrap_or((head, ""));
     Some(Case {
         title,
         words,
         is_hex,
         lines,
-        ending,
+        status: number(status).ok()?,
+        how,
+        printed,
     })
 }
 
-/// The lines that the comments of a script promise, each with its instruction's number, and how many there are.
-fn promised(alloc: Global, script: &str) -> Result<(String, u64), AllocError> {
+/// What a script prints: the lines that its comments promise, each with its instruction's number, and then what the case
+/// says.
+fn wanted(alloc: Global, script: &str, case: Case<'_>) -> Result<String, AllocError> {
     let mut printed = String::new(alloc);
     let mut count = 0u64;
     for line in script.lines() {
-        match line.split_once("#> ") {
-            Some((_, text)) => {
-                writeln!(printed, "{count} {text}")?;
-                count = count.saturating_add(1);
-            }
-            None => {}
+        if let Some((_, text)) = line.split_once("#> ") {
+            writeln!(printed, "{count} {text}")?;
+            count = count.saturating_add(1);
         }
     }
-    Ok((printed, count))
+    if case.how == "ok" {
+        writeln!(printed, "ok {count}")?;
+    }
+    printed.push_str(case.printed)?;
+    Ok(printed)
 }
 
 /// Whether there are parts, each on a line, and each stands somewhere in what was printed.
@@ -137,40 +120,25 @@ fn has_parts(printed: &str, parts: &str) -> bool {
 /// No status of the program: what is told of words that leave threads to be run.
 const NOT_ENDED: u8 = 255;
 
-/// What a run prints, and the status that it ends with.
-fn answer(alloc: Global, words: &str, input: &[u8]) -> Result<(String, u8), AllocError> {
+/// What a run by these words writes, and the status that it ends with.
+pub fn answer(alloc: Global, words: &str, input: &[u8]) -> Result<(Vec<u8>, u8), AllocError> {
     let words: Vec<&str> = words.split_whitespace().collect(alloc)?;
-    let mut input = Input::of(input);
     let mut written = Vec::new(alloc);
     let mut output = Output::of(&mut written);
-    let Outcome::Ended(status) = bench(alloc, &mut input, &mut output, words.as_slice()) else {
-        return Ok((String::new(alloc), NOT_ENDED));
+    let status = match bench(alloc, &mut Input::of(input), &mut output, words.as_slice()) {
+        Outcome::Ended(status) => status,
+        Outcome::Threads { .. } => NOT_ENDED,
     };
-    let printed = String::from_utf8(written).unwrap_or(String::new(alloc));
-    Ok((printed, status))
-}
-
-/// What a case's run reads, behind the lines of its table's setup.
-fn input_of(alloc: Global, case: &Case<'_>, script: &str) -> Result<Vec<u8>, AllocError> {
-    if case.is_hex {
-        return bytes_of(alloc, script);
-    }
-    Ok(script.as_bytes().to_vec(alloc)?)
+    Ok((written, status))
 }
 
 /// Whether each line of a case, by itself behind the lines of its table's setup, prints a text and ends with a status.
 /// There is one at least.
-fn each_ends_so(
-    alloc: Global,
-    setup: &str,
-    case: &Case<'_>,
-    wanted: u8,
-    text: &str,
-) -> Result<bool, AllocError> {
+fn each_ends_so(alloc: Global, setup: &str, case: Case<'_>) -> Result<bool, AllocError> {
     for line in case.lines.lines() {
         let script = format!(in alloc; "{setup}{line}")?;
         let (printed, status) = answer(alloc, case.words, script.as_bytes())?;
-        if status != wanted || printed.as_str() != text {
+        if u32::from(status) != case.status || printed.as_slice() != case.printed.as_bytes() {
             return Ok(false);
         }
     }
@@ -178,27 +146,27 @@ fn each_ends_so(
 }
 
 /// Whether a case, behind the lines of its table's setup, ends as it says.
-fn ends_so(alloc: Global, setup: &str, case: &Case<'_>) -> Result<bool, AllocError> {
+fn ends_so(alloc: Global, setup: &str, case: Case<'_>) -> Result<bool, AllocError> {
+    if case.how == "each" {
+        return each_ends_so(alloc, setup, case);
+    }
     let script = format!(in alloc; "{setup}{}", case.lines)?;
-    let input = input_of(alloc, case, script.as_str())?;
-    let (mut wanted, count) = promised(alloc, script.as_str())?;
-    let wanted_status = match case.ending {
-        Ending::Ok => {
-            writeln!(wanted, "ok {count}")?;
-            0
-        }
-        Ending::Exactly(status, text) => {
-            wanted.push_str(text)?;
-            status
-        }
-        Ending::With(wanted, lines) => {
-            let (printed, status) = answer(alloc, case.words, input.as_slice())?;
-            return Ok(status == wanted && has_parts(printed.as_str(), lines));
-        }
-        Ending::Each(wanted, text) => return each_ends_so(alloc, setup, case, wanted, text),
+    let (printed, status) = if case.is_hex {
+        answer(
+            alloc,
+            case.words,
+            hex_in(alloc, script.as_str())?.as_slice(),
+        )?
+    } else {
+        answer(alloc, case.words, script.as_bytes())?
     };
-    let (printed, status) = answer(alloc, case.words, input.as_slice())?;
-    Ok(status == wanted_status && printed.as_str() == wanted.as_str())
+    let printed = String::from_utf8(printed).unwrap_or(String::new(alloc));
+    let is_printed = match case.how {
+        "with" => has_parts(printed.as_str(), case.printed),
+        "" | "ok" => printed.as_str() == wanted(alloc, script.as_str(), case)?.as_str(),
+        _ => false,
+    };
+    Ok(u32::from(status) == case.status && is_printed)
 }
 
 /// Runs the cases of a table, and prints which of them differ and how many there are.
@@ -211,7 +179,7 @@ fn run_table(rt: &HostRuntime, name: &str) -> io::Result<()> {
     for text in cases.split("\n== ") {
         match case_of(text) {
             Some(case) => {
-                if !ends_so(alloc, setup, &case)? {
+                if !ends_so(alloc, setup, case)? {
                     println!(rt; "{name}: {}: DIFFERS", case.title)?;
                 }
             }

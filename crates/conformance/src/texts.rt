@@ -13,12 +13,24 @@ pub fn answer(alloc: Global, call: Call<'_>) -> Result<String, AllocError> {
     match call.name {
         "lines" => lines_text(alloc, call.text),
         "words" => words_text(alloc, call.text),
-        "number" => number_text(alloc, call.text),
+        "number" => match number(call.text) {
+            Ok(number) => format!(in alloc; "{number}"),
+            Err(fault) => format!(in alloc; "{fault:?}"),
+        },
         "name" => format!(in alloc; "{}", is_name(call.text)),
         "name_limit" => format!(in alloc; "{NAME_LIMIT}"),
-        "hex" => hex_text(alloc, call.text),
+        "hex" => match hex_bytes(alloc, call.text) {
+            Ok(bytes) => format!(in alloc; "{:?}", bytes.as_slice()),
+            Err(fault) => format!(in alloc; "{fault:?}"),
+        },
         _ => format!(in alloc; "no such call"),
     }
+}
+
+/// The bytes that hex writes, which blanks and ends of lines may part. None where it is something else.
+pub fn hex_in(alloc: Global, text: &str) -> Result<Vec<u8>, AllocError> {
+    let digits = text.replace(alloc, "\n", "")?.replace(alloc, " ", "")?;
+    Ok(hex_bytes(alloc, digits.as_str()).unwrap_or(Vec::new(alloc)))
 }
 
 /// A text of a table with its line ends, carriage returns and tabs.
@@ -44,18 +56,4 @@ fn words_text(alloc: Global, text: &str) -> Result<String, AllocError> {
         write!(answer, "{word}|")?;
     }
     Ok(answer)
-}
-
-fn number_text(alloc: Global, text: &str) -> Result<String, AllocError> {
-    match number(text) {
-        Ok(number) => format!(in alloc; "{number}"),
-        Err(fault) => format!(in alloc; "{fault:?}"),
-    }
-}
-
-fn hex_text(alloc: Global, text: &str) -> Result<String, AllocError> {
-    match hex_bytes(alloc, text) {
-        Ok(bytes) => format!(in alloc; "{:?}", bytes.as_slice()),
-        Err(fault) => format!(in alloc; "{fault:?}"),
-    }
 }

@@ -9,10 +9,10 @@
 
 /* as in driver_frames.rt.in */
 enum { RUNS = 50, FRAMES = 2000 };
-/* the calls of a frame: four device steps before each of twelve events */
-enum { CALLS = 60 };
-/* the bytes of a call, and of an entry of the history */
-enum { CALL = 80, ENTRY = 88 };
+/* the events of a frame, and its calls: four device steps before each event */
+enum { EVENTS = 12, CALLS = 5 * EVENTS };
+/* the bytes of a call of a pass, of an entry of the history, and of a call in hand with the idle steps before it */
+enum { CALL = 80, ENTRY = 88, MADE = 88 };
 /* the notes of a frame with its bytes: it arrives, is taken, lent, taken and collected; and its two records */
 enum { NOTES = 5, RECORDS = 2 };
 
@@ -24,14 +24,15 @@ static uint8_t *put(uint8_t *at, const uint8_t *bytes, size_t count)
     return at + count;
 }
 
-/* one frame's calls, in one list or, under the lock, in two, and its bytes */
+/* one frame's calls, in hand in one list without the idle steps or, under the lock, in two with each, and its bytes */
 __attribute__((noinline)) static uint8_t *note(uint8_t *at, size_t length, int locked)
 {
-    for (int i = 0; i < CALLS; i++) {
+    for (int i = 0; i < (locked ? CALLS : EVENTS); i++) {
         call[i] ^= (uint8_t)length;
-        at = put(at, call, CALL);
         if (locked)
-            at = put(at, call, ENTRY);
+            at = put(put(at, call, CALL), call, ENTRY);
+        else
+            at = put(at, call, MADE);
     }
     for (int i = 0; i < NOTES * (1 + locked) + RECORDS; i++)
         at = put(at, frame, length);
@@ -40,7 +41,8 @@ __attribute__((noinline)) static uint8_t *note(uint8_t *at, size_t length, int l
 
 static void measure(const char *name, size_t length, int locked)
 {
-    size_t size = FRAMES * (CALLS * (size_t)(CALL + locked * ENTRY) + (NOTES * (1 + locked) + RECORDS) * length);
+    size_t calls = locked ? CALLS * (CALL + ENTRY) : EVENTS * MADE;
+    size_t size = FRAMES * (calls + (NOTES * (1 + locked) + RECORDS) * length);
     uint64_t took = 0;
     for (int run = 0; run < RUNS; run++) {
         uint8_t *fresh = mmap(NULL, size, PROT_READ | PROT_WRITE, MAP_PRIVATE | MAP_ANONYMOUS, -1, 0), *at = fresh;

@@ -29,11 +29,11 @@ static void shuffle(uint32_t *order, uint32_t count)
 
 static volatile uint32_t sink;
 
-#define MEASURE(name, things, rounds, work)                                                                             \
-    do {                                                                                                                \
-        uint64_t began = now();                                                                                         \
-        for (unsigned round = 0; round < (rounds); round++) {                                                           \
-            work;                                                                                                       \
-        }                                                                                                               \
-        printf("%s %llu %llu\n", name, (unsigned long long)(things) * (rounds), (unsigned long long)(now() - began));   \
+#define MEASURE(name, things, rounds, work)                                                                            \
+    do {                                                                                                               \
+        uint64_t began = now();                                                                                        \
+        for (unsigned round = 0; round < (rounds); round++) {                                                          \
+            work;                                                                                                      \
+        }                                                                                                              \
+        printf("%s %llu %llu\n", name, (unsigned long long)(things) * (rounds), (unsigned long long)(now() - began));  \
     } while (0)

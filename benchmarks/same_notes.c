@@ -1,6 +1,6 @@
-/* The least that the driver's notes cost, in C: a frame's calls, and its bytes as often as notes and records keep them, are
-   written to memory that is touched for the first time. Prints a line for each measure: its name, how many frames, and the
-   nanoseconds. */
+/* The least that the driver's notes cost, in C: a frame's calls, and its bytes as often as notes and records keep them,
+   are written to memory that is touched for the first time. Prints a line for each measure: its name, how many frames,
+   and the nanoseconds. */
 #include <stdlib.h>
 #include <string.h>
 #include <sys/mman.h>

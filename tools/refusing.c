@@ -2,9 +2,9 @@
    write of the program that it is loaded into, by its number, and tells at the end what it saw.
 
    REFUSE_GROWTH, REFUSE_THREAD, FAIL_IO and SHORT_IO are numbers, counted from 1. Where REFUSE_WITHIN is set, growths
-   count only behind a line `call` and before the line that follows it, on standard output. At the end a line goes to the
-   file descriptor REFUSE_TELL: how many growths, threads, reads and writes there were, whether one was refused, and how
-   many blocks of memory weren't given back. */
+   count only behind a line `call` and before the line that follows it, on standard output. At the end a line goes to
+   the file descriptor REFUSE_TELL: how many growths, threads, reads and writes there were, whether one was refused, and
+   how many blocks of memory weren't given back. */
 #define _GNU_SOURCE
 #include <dlfcn.h>
 #include <errno.h>

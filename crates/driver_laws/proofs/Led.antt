@@ -1,5 +1,5 @@
 -- Where a history leads from a place where the device and both halves agree.
-use Rattle.std.proofs.Common.{◌≡◌, ℕ, Bool, true, false, ◌&&◌, not, List, [], ◌∷◌, ◌++◌, Some, refl, sym, ap, ◌∙◌, subst, cond, append_assoc}
+use Rattle.std.proofs.Common.{◌≡◌, ℕ, List, [], ◌∷◌, ◌++◌, Some, sym, ap, ◌∙◌, subst, cond, append_assoc, inl}
 use Rattle.std.proofs.lemmas.List.{append-nil}
 use Rattle.nic_device.specs.RegisterFile.Queue.{is_on}
 use Rattle.nic_device.specs.DmaRing.declared.dir.Dir.TheVariants.{Rx, Tx}
@@ -14,6 +14,7 @@ use Rattle.receive_laws.specs.Pieces.{Piece, pieces}
 use Rattle.receive_laws.specs.Up as received
 use Rattle.transmit_laws.specs.Sent.{sent_by, sent_in, sent_since}
 use Rattle.transmit_laws.specs.Up.{IsUp}
+use Rattle.receive_laws.proofs.LeftLaws.Steady.{not_again}
 use Rattle.pmd.specs.Halves.{Halves}
 use Rattle.driver_laws.specs.Agreeing.{AreLent, BothAgree}
 
@@ -28,10 +29,6 @@ pub record Led (w : Watched) (mine : Blocks) (s : State) (out : List Piece) (sen
       → pieces_since w.queue s (Some so_far) es ≡ Some (so_far ++ pieces_in w.queue s es)
   pub counted : IsUp w.queue s → (so_far : List (List ℕ))
       → sent_since w.queue s so_far es ≡ so_far ++ sent_in w.queue s es
-
-not_on : (a b : Bool) → a ≡ true → (not a && b) ≡ false
-not_on true b e = refl
-not_on false b e = cc
 
 pub ended : (w : Watched) (mine : Blocks) (s : State) (out : List Piece) (sent : List (List ℕ)) (h : Halves)
     → BothAgree w.queue s out sent h → AreLent mine h → Led w mine s out sent [] h
@@ -66,10 +63,10 @@ led_on w mine s out sent e es k receives stays l =
       sends = λ up. l.sends (stays up);
       since = λ up so_far.
           ap (λ b. pieces_since w.queue t (cond b (Some []) (Some (so_far ++ ps))) es)
-          (not_on (is_on s.registers Rx w.queue) (is_on t.registers Rx w.queue) up.on)
+          (not_again (is_on s.registers Rx w.queue) (is_on t.registers Rx w.queue) (inl up.on))
           ∙ l.since (receives up) (so_far ++ ps) ∙ ap (λ xs. Some xs) (append_assoc so_far ps (pieces_in w.queue t es));
       counted = λ up so_far.
           ap (λ b. sent_since w.queue t (cond b [] (so_far ++ fs)) es)
-          (not_on (is_on s.registers Tx w.queue) (is_on t.registers Tx w.queue) up.on)
+          (not_again (is_on s.registers Tx w.queue) (is_on t.registers Tx w.queue) (inl up.on))
           ∙ l.counted (stays up) (so_far ++ fs) ∙ append_assoc so_far fs (sent_in w.queue t es);
     }

@@ -57,7 +57,7 @@ module _ (queue : ℕ) (s : State) (sound : IsSound s) (small : queue < 128) whe
     memory = λ own. memory;
   }
 
-  idle : is_silent s queue side ≡ true → step_of s (event.TxStep queue) ≡ gives Idle s
+  pub idle : is_silent s queue side ≡ true → step_of s (event.TxStep queue) ≡ gives Idle s
   unfolding step_of
   idle silent = rw (lt-ltb queue 128 small, silent) refl
 
@@ -65,7 +65,7 @@ module _ (queue : ℕ) (s : State) (sound : IsSound s) (small : queue < 128) whe
   tells r is = subst (λ x. sent_tells queue x s t) is (transmitting_tells s sound queue)
 
   module _ (loud : IsFalse (is_silent s queue side)) where
-    tried : IsTried (side_of Tx queue s)
+    pub tried : IsTried (side_of Tx queue s)
     tried =
         let parts = loud_parts (is_stopped s.registers) (not s.link) (not (can_transmit s.registers)) side.on
         (is_muted s.registers queue) (is_empty side.ring) loud in

@@ -6,6 +6,7 @@ pub mod Deeds
 pub mod Fetching
 pub mod Filling
 pub mod Leaving
+pub mod Lent
 pub mod Naming
 pub mod Sides
 pub mod Spared

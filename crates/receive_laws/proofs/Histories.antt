@@ -1,5 +1,5 @@
 -- Over a whole history.
-use Rattle.std.proofs.Common.{◌≡◌, ℕ, Bool, true, false, ◌&&◌, not, inl, inr, List, [], ◌∷◌, ◌++◌, Some, refl, sym, ap, ◌∙◌, subst, cond, append_assoc}
+use Rattle.std.proofs.Common.{◌≡◌, ℕ, Bool, true, false, inl, inr, List, [], ◌∷◌, ◌++◌, Some, refl, sym, ap, ◌∙◌, subst, cond, append_assoc}
 use Rattle.std.specs.Prelude.{◌==◌, IsTrue}
 use Rattle.std.proofs.lemmas.Bool.{cases_Bool, eqb-true, eqb-false, or_left, or_right}
 use Rattle.std.proofs.lemmas.List.{append-nil}
@@ -12,6 +12,7 @@ use Rattle.device_lock.specs.Alone.{Blocks, lent_by, mode_after}
 use Rattle.device_lock.specs.History.{IsLegal, AreEvents, calls_of, call_in, leads_to}
 use Rattle.device_lock.specs.declared.alone.Watched.{Watched}
 use Rattle.device_lock.specs.declared.entry.Entry.{Entry}
+use Rattle.left_laws.proofs.Steady.{not_again}
 use Rattle.pmd_rx.specs.Plays.{AllOwn, after_call, played_by}
 use Rattle.pmd_rx.specs.Receive.{Receive}
 use Rattle.left_laws.specs.HistoryLaws.Alone.{AllAlone}
@@ -38,10 +39,6 @@ pub record Led (w : Watched) (s : State) (out : List Piece) (v : Receive) (h : L
   pub since : (so_far : List Piece)
       → pieces_since w.queue s (Some so_far) h ≡ Some (so_far ++ pieces_in w.queue s h)
 
-not_on : (a b : Bool) → a ≡ true → (not a && b) ≡ false
-not_on true b e = refl
-not_on false b e = cc
-
 on_after : (w : Watched) (s : State) (out : List Piece) (v x : Receive) (e : Entry) (es : List Entry) (u : Receive)
     → IsUp w.queue s → Led w (after s e.event) (out ++ pieces w.queue s e.event) x es u → Led w s out v (e ∷ es) u
 on_after w s out v x e es u up l =
@@ -50,7 +47,7 @@ on_after w s out v x e es u up l =
       agree = subst (λ xs. Agree w.queue (leads_to t es) xs u) (append_assoc out ps (pieces_in w.queue t es)) l.agree;
       since = λ so_far.
           ap (λ b. pieces_since w.queue t (cond b (Some []) (Some (so_far ++ ps))) es)
-          (not_on (is_on s.registers Rx w.queue) (is_on t.registers Rx w.queue) up.on)
+          (not_again (is_on s.registers Rx w.queue) (is_on t.registers Rx w.queue) (inl up.on))
           ∙ l.since (so_far ++ ps) ∙ ap (λ xs. Some xs) (append_assoc so_far ps (pieces_in w.queue t es));
     }
 

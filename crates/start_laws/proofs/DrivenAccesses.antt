@@ -9,6 +9,7 @@ use Rattle.pmd.specs.PmdSeam.Both.{both_asked, receive_polled}
 use Rattle.pmd.specs.PmdSeam.Sides.{ring_words}
 use Rattle.start_laws.proofs.AccessLeads.{seen}
 use Rattle.start_laws.proofs.AllAre.{AllAre, all_polled}
+use Rattle.start_laws.proofs.DrivenRows.{side_driven}
 
 -- What a driver rests on, over its accesses: none of them is stray.
 
@@ -31,15 +32,11 @@ pub words_are_writes : (side : Dir) (ring size : ℕ) → AllAre IsWrite (ring_w
 words_are_writes Rx ring size = (refl, (refl, (refl, (refl, (refl, (refl, tt))))))
 words_are_writes Tx ring size = (refl, (refl, (refl, (refl, (refl, (refl, tt))))))
 
-pub enable_driven : (side : Dir) → is_driven (enable_row side) ≡ true
-enable_driven Rx = refl
-enable_driven Tx = refl
-
 pub asked_are_writes : AllAre IsWrite (both_asked true)
 asked_are_writes = (refl, (refl, tt))
 
 pub reads_driven : (side : Dir) (seen : Bool) → IsDriven (Sees (enable_row side) seen)
-reads_driven side seen = enable_driven side
+reads_driven side seen = side_driven side
 
 pub polled_driven : (n : ℕ) → AllAre IsDriven (receive_polled true n)
 polled_driven n = (refl, (refl, all_polled IsDriven true reads_driven Rx n))

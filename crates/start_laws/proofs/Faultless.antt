@@ -29,7 +29,8 @@ use Rattle.start_laws.proofs.Made.{first_made, some_made}
 use Rattle.start_laws.proofs.AllAre.{all_missed}
 use Rattle.start_laws.proofs.Prepared.{prepared_some}
 use Rattle.start_laws.specs.Faultless.{BeforeNext, Never, NoneIsLent, ReceiveIsReady, TransmitIsReady, SwitchingIsNeverStray}
-use Rattle.start_laws.proofs.DrivenAccesses.{IsDriven, writes_driven, words_are_writes, enable_driven, asked_are_writes, reads_driven, polled_driven}
+use Rattle.start_laws.proofs.DrivenRows.{side_driven}
+use Rattle.start_laws.proofs.DrivenAccesses.{IsDriven, writes_driven, words_are_writes, asked_are_writes, reads_driven, polled_driven}
 use Rattle.start_laws.proofs.Grounds.{accesses_grounded, lend_grounded, next_on_ground, read_never_stray, writes_never_stop}
 use Rattle.start_laws.proofs.Last.{last_never}
 use Rattle.start_laws.proofs.QuietStart.{quiet_off, quieting_never_stops}
@@ -94,7 +95,7 @@ module _ (w : Watched) (q : AtPort) (fifo : ℕ) (h : List Entry) (along : IsAlo
   polls_never_stray side polls old new some at (misses, mid, few, made, stray) =
       let driven = all_missed IsDriven true reads_driven side misses in
       let there = accesses_grounded w q fifo h along (missed side true misses) old mid driven made some at in
-      read_never_stray w q fifo h along mid new (enable_row side) (enable_driven side)
+      read_never_stray w q fifo h along mid new (enable_row side) (side_driven side)
       (next_on_ground w q fifo h along mid (some_made q (missed side true misses) old mid made some) there) stray
 
   switching_never_fails : (old new : List Call) → old ≢ [] → Grounded old

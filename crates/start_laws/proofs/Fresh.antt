@@ -1,18 +1,14 @@
 -- Where fresh sides stand whose rings are lent, device and driver agree.
-use Rattle.std.proofs.Common.{◌≡◌, ℕ, ◌+◌, ◌<◌, ◌*◌, ◌/◌, ◌%◌, ◌^◌, true, refl, ap, ◌∙◌, arith}
-use Rattle.std.proofs.lemmas.Bool.Decides.{nat_tests}
+use Rattle.std.proofs.Common.{◌≡◌, ℕ, ◌*◌, ◌/◌, ◌%◌, ◌^◌, true, refl, ap, ◌∙◌, arith}
 use Rattle.nic_device.specs.DmaArena.Memory.{Memory, has_block}
 use Rattle.receive_laws.specs.LeftLaws.Sides.{Side}
-use Rattle.pmd.specs.PmdSeam.Slots.{wrapped}
+use Rattle.receive_laws.proofs.Places.{first_place}
 use Rattle.receive_laws.proofs.Starting.{start_agrees}
 use Rattle.start_laws.specs.Moves.{FreshReceiveAgrees, FreshTransmitAgrees}
 use Rattle.start_laws.specs.Standing.{IsZero}
 
 zero_lent : (m : Memory) (b : ℕ) → IsZero m b → has_block m b ≡ true
 zero_lent m b is = rw is refl
-
-first_slot : (n : ℕ) → 0 < n → 0 ≡ wrapped n (0 + 0)
-first_slot n h = grind (arith, nat_tests)
 
 pub fresh_receive_agrees : FreshReceiveAgrees
 fresh_receive_agrees queue s tx rings on wanted port tail ring size sized names lent stand =
@@ -48,8 +44,8 @@ fresh_transmit_agrees queue s rx rings on wanted port tail ring size small sound
         set_up = record {
           base = ap (λ (q : Side). q.ring.base) same;
           length = ap (λ (q : Side). q.ring.length) same;
-          head = ap (λ (q : Side). q.ring.head) same ∙ first_slot size sized.some;
-          tail = ap (λ (q : Side). q.ring.tail) same ∙ first_slot size sized.some;
+          head = ap (λ (q : Side). q.ring.head) same ∙ first_place size sized.some;
+          tail = ap (λ (q : Side). q.ring.tail) same ∙ first_place size sized.some;
           writeback = ap (λ (q : Side). q.writeback) same;
         };
         staged = ap (λ (q : Side). q.staged) same;

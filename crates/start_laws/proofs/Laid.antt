@@ -89,7 +89,7 @@ module _ (w : Watched) (q : AtPort) (fifo : ℕ) (h done rest : List Entry) (e :
   off_there : HasGround w.queue q here → transmit.IsOff w.queue here → LaidTo w.queue q Off here
   off_there ground off = record {
     ground = ground;
-    side = record { side = (off.off, off.unwanted); staged = met.sound.bare w.queue off.off };
+    side = ((off.off, off.unwanted), met.sound.bare w.queue off.off);
   }
 
   behind : (m last : Laid) → LaidTo w.queue q m (after here e.event) → LaysOn q m (calls_of w.pass rest) last

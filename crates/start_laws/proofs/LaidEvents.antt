@@ -1,5 +1,5 @@
 -- The events by which a driver lays out an empty transmit ring, and those that leave its queue alone.
-use Rattle.std.proofs.Common.{◌≡◌, ◌≢◌, ℕ, ◌^◌, ◌<◌, false, [], refl, sym, ap, ◌∙◌, subst}
+use Rattle.std.proofs.Common.{◌≡◌, ◌≢◌, ℕ, ◌^◌, ◌<◌, false, [], refl, sym, ◌∙◌, subst}
 use Rattle.nic_device.specs.DmaArena.Block.{Block}
 use Rattle.nic_device.specs.RegTable.Rows.{row_of}
 use Rattle.nic_device.specs.RegTable.declared.rows.RowId.{RowId}
@@ -20,9 +20,11 @@ use Rattle.nic_device.specs.declared.event.Port.{Port}
 use Rattle.receive_laws.proofs.DeviceLaws.StandingAccesses.{write_rest}
 use Rattle.device_lock.specs.Alone.{Blocks, LeavesBlocks, LeavesRegisters}
 use Rattle.device_lock.specs.declared.alone.Watched.{Watched}
-use Rattle.receive_laws.specs.LeftLaws.Sides.{Side}
+use Rattle.receive_laws.specs.LeftLaws.Sides.{side_of}
 use Rattle.receive_laws.proofs.LeftLaws.Asking.{asked}
-use Rattle.receive_laws.proofs.LeftLaws.Sides.{transmit_of}
+use Rattle.receive_laws.proofs.LeftLaws.Deeds.{left_deed}
+use Rattle.receive_laws.proofs.LeftLaws.Sides.{transmit_left}
+use Rattle.receive_laws.proofs.LeftLaws.Steady.{idle_silent, idle_steady, steady_kept}
 use Rattle.pmd.specs.PmdSeam.Named.{AtPort}
 use Rattle.transmit_laws.specs.Sent.{sent_by}
 use Rattle.start_laws.specs.Ending.{IsPlain}
@@ -34,18 +36,17 @@ use Rattle.start_laws.specs.Standing.{IsLeft}
 use Rattle.start_laws.specs.Words.{NamesRow}
 use Rattle.start_laws.proofs.Ending.{free_left, outside_none, watching}
 use Rattle.start_laws.proofs.Ground.{ground_kept, plain_keeps}
-use Rattle.start_laws.proofs.LaidSides.{IsLaid, asked_laid, laid_idle, word_laid}
+use Rattle.start_laws.proofs.LaidSides.{IsLaid, SideLaid, asked_laid, laid_idle, word_laid}
 use Rattle.start_laws.proofs.Numbers.{ground_names}
-use Rattle.start_laws.proofs.SteadyTransmit.{Holds, idle_kept, idle_sends_none, left_holds}
 use Rattle.start_laws.proofs.TransmitWords.{transmit_words_taken}
 
 -- port and queue name the queue, and its transmit side is laid out so far
 pub record LaidTo (queue : ℕ) (q : AtPort) (l : Laid) (s : State) : Type 0 where
   pub ground : HasGround queue q s
-  pub side : Holds (IsLaid l) queue s
+  pub side : SideLaid l (side_of Tx queue s)
 
 -- a word that the driver writes
-module _ (queue : ℕ) (s : State) (met : IsMet queue s) (l : Laid) (x : Holds (IsLaid l) queue s) (port : Port)
+module _ (queue : ℕ) (s : State) (met : IsMet queue s) (l : Laid) (x : SideLaid l (side_of Tx queue s)) (port : Port)
     (n word : ℕ) (low : word < 2 ^ 32) where
   abbrev t : State
   t = after s (event.Write port n word)
@@ -54,33 +55,28 @@ module _ (queue : ℕ) (s : State) (met : IsMet queue s) (l : Laid) (x : Holds (
   side = transmit_queue_of s.registers queue
 
   ring_written : (row : RowId) → MayRing row l word → NamesRow s port n row queue
-      → Holds (IsLaid (laid_by row l)) queue t
+      → SideLaid (laid_by row l) (side_of Tx queue t)
   ring_written row may names =
-      let laying = word_laid row l word side low may x.side in
+      let laying = word_laid row l word side low may x.0 in
       let taken = transmit_words_taken queue s port n word row met.small met.sound laying.off laying.fits
       names in
-      record {
-        side = subst (IsLaid (laid_by row l)) (sym taken.side) laying.then;
-        staged = taken.staged ∙ x.staged;
-      }
+      (subst (IsLaid (laid_by row l)) (sym taken.side) laying.then, taken.staged ∙ x.1)
 
-  asks : MayAsk l word → NamesRow s port n Txdctl queue → Holds (IsLaid l) queue t
+  asks : MayAsk l word → NamesRow s port n Txdctl queue → SideLaid l (side_of Tx queue t)
   asks may names =
-      let is = asked queue s met.sound met.small port n word Tx names in
-      record {
-        side = subst (IsLaid l) (sym (ap transmit_of is)) (asked_laid l word side may x.side);
-        staged = ap (λ (z : Side). z.staged) is ∙ x.staged;
-      }
+      subst (SideLaid l) (sym (asked queue s met.sound met.small port n word Tx names))
+      (asked_laid l word side may x.0, x.1)
 
   beside : (row : RowId) → NamesRow s port n row queue → asks_reset (row_of row).kind word ≡ false
       → asks_pool_reset (row_of row).kind word ≡ false → owner_of (place row queue) ≢ owner.Side Tx queue
-      → Holds (IsLaid l) queue t
+      → SideLaid l (side_of Tx queue t)
   beside row names none none_pool other =
-      left_holds (IsLaid l) (laid_idle l) queue s x t
-      ((write_rest s port n word (place row queue) 0xFFFFFFFF names none none_pool).transmit queue other)
+      subst (SideLaid l)
+      (sym (transmit_left queue s t
+      ((write_rest s port n word (place row queue) 0xFFFFFFFF names none none_pool).transmit queue other))) x
 
   pub written : (row : RowId) → MayLay row l word → NamesRow s port n row queue
-      → Holds (IsLaid (laid_by row l)) queue t
+      → SideLaid (laid_by row l) (side_of Tx queue t)
   written Txdctl may names = asks may names
   written Rdbal may names = beside Rdbal names refl refl (λ e. cc)
   written Rdbah may names = beside Rdbah names refl refl (λ e. cc)
@@ -90,6 +86,16 @@ module _ (queue : ℕ) (s : State) (met : IsMet queue s) (l : Laid) (x : Holds (
   written Srrctl may names = beside Srrctl names refl refl (λ e. cc)
   written Rxdctl may names = beside Rxdctl names refl refl (λ e. cc)
   written row may names = ring_written row may names
+
+-- an event that leaves the queue alone
+module _ (w : Watched) (mine : Blocks) (s : State) (e : Event Block) (left : IsLeft w mine s e) (l : Laid)
+    (x : SideLaid l (side_of Tx w.queue s)) where
+  left_laid : SideLaid l (side_of Tx w.queue (after s e))
+  left_laid =
+      steady_kept Tx w.queue s e (SideLaid l) x (idle_steady (SideLaid l) (laid_idle l)) (left_deed Tx w mine s e left)
+
+  left_sends_none : sent_by w.queue s e ≡ []
+  left_sends_none = (idle_silent Tx w.queue s e (SideLaid l) x (laid_idle l) (left_deed Tx w mine s e left)).sent
 
 -- an event of the driver's own, which sends nothing
 pub record LeadsTo (queue : ℕ) (q : AtPort) (l : Laid) (s : State) (e : Event Block) : Type 0 where
@@ -105,7 +111,7 @@ module _ (queue : ℕ) (q : AtPort) (l m : Laid) (s : State) (met : IsMet queue 
       record {
         then = record {
           ground = plain_keeps queue q s (event.Write port n word) (row, same, driven, named) x.ground;
-          side = subst (λ (k : Laid). Holds (IsLaid k) queue (after s (event.Write port n word))) (sym is)
+          side = subst (λ (k : Laid). SideLaid k (side_of Tx queue (after s (event.Write port n word)))) (sym is)
               (written queue s met l x.side port n word made.2 row may names);
         };
         none = refl;
@@ -120,10 +126,10 @@ module _ (queue : ℕ) (q : AtPort) (l m : Laid) (s : State) (met : IsMet queue 
       record {
         then = record {
           ground = plain_keeps queue q s e plain x.ground;
-          side = subst (λ (k : Laid). Holds (IsLaid k) queue (after s e)) (sym is)
-              (idle_kept (IsLaid l) (laid_idle l) (watching queue s) no_block s e left x.side);
+          side = subst (λ (k : Laid). SideLaid k (side_of Tx queue (after s e))) (sym is)
+              (left_laid (watching queue s) no_block s e left l x.side);
         };
-        none = idle_sends_none (IsLaid l) (laid_idle l) (watching queue s) no_block s e left x.side;
+        none = left_sends_none (watching queue s) no_block s e left l x.side;
       }
 
   pub own_lays : (e : Event Block) → IsEvent e → Lays q l e m → LeadsTo queue q m s e
@@ -139,7 +145,7 @@ pub left_lays : (w : Watched) (mine : Blocks) (q : AtPort) (l : Laid) (s : State
 left_lays w mine q l s e left x = record {
   then = record {
     ground = ground_kept w mine q s e left x.ground;
-    side = idle_kept (IsLaid l) (laid_idle l) w mine s e left x.side;
+    side = left_laid w mine s e left l x.side;
   };
-  none = idle_sends_none (IsLaid l) (laid_idle l) w mine s e left x.side;
+  none = left_sends_none w mine s e left l x.side;
 }

@@ -1,15 +1,17 @@
 -- Transmit sides that are off, or whose ring is empty, as the words of an empty ring are written to them.
-use Rattle.std.proofs.Common.{◌≡◌, ℕ, ◌/◌, ◌^◌, ◌<◌, ◌≤◌, inl, inr, false, true, not, refl, sym, ap, subst, arith}
-use Rattle.std.proofs.lemmas.Bool.{lt-ltb}
+use Rattle.std.proofs.Common.{◌≡◌, ℕ, ◌/◌, ◌^◌, ◌<◌, ◌≤◌, [], false, true, refl, sym, subst, arith}
+use Rattle.std.proofs.lemmas.Bool.{both_ways, lt-ltb}
 use Rattle.nic_device.specs.RegTable.declared.rows.RowId.{RowId}
 use Rattle.nic_device.specs.RegTable.declared.rows.RowId.TheVariants.{Tdbal, Tdbah, Tdlen, Tdh, Tdt, Tdwbal}
 use Rattle.nic_device.specs.DmaRing.declared.ring.Ring.{Ring}
 use Rattle.nic_device.specs.RegisterFile.Bits.{has_bit}
 use Rattle.nic_device.specs.RegisterLaws.Sides.{TransmitQueue}
 use Rattle.nic_device.specs.Receive.{is_empty}
+use Rattle.receive_laws.specs.LeftLaws.Sides.{Side}
+use Rattle.receive_laws.proofs.LeftLaws.Sides.{transmit_of}
+use Rattle.receive_laws.proofs.LeftLaws.Steady.{IsIdle, none_staged}
 use Rattle.start_laws.specs.Laid.{Laid, Off, Sized, Headed, Empty, MayAsk, MayRing, laid_by}
 use Rattle.start_laws.specs.Words.{FitsTransmit, transmit_with}
-use Rattle.start_laws.proofs.SteadyTransmit.{IsIdle}
 
 abbrev pub IsDown : TransmitQueue → Type 0
 IsDown q = (q.on ≡ false) × (q.wanted ≡ false)
@@ -21,11 +23,29 @@ IsLaid Sized q = IsDown q × (16 ≤ q.ring.length)
 IsLaid Headed q = IsDown q × (16 ≤ q.ring.length) × (q.ring.head ≡ 0)
 IsLaid Empty q = is_empty q.ring ≡ true
 
-pub laid_idle : (l : Laid) → IsIdle (IsLaid l)
-laid_idle Off = record { idle = λ q x. inl (ap not x.0); switches = λ q x. (x.1, x.1) }
-laid_idle Sized = record { idle = λ q x. inl (ap not x.0.0); switches = λ q x. ((x.0.1, x.0.1), x.1) }
-laid_idle Headed = record { idle = λ q x. inl (ap not x.0.0); switches = λ q x. ((x.0.1, x.0.1), x.1, x.2) }
-laid_idle Empty = record { idle = λ q x. inr x; switches = λ q x. x }
+-- no slot of it is tried, and it is laid out so still as it becomes what it is wanted to be
+
+not_tried : (l : Laid) (q : TransmitQueue) → IsLaid l q → q.on ≡ true → is_empty q.ring ≡ false → ⊥
+not_tried Off q x on some = both_ways q.on x.0 on
+not_tried Sized q x on some = both_ways q.on x.0.0 on
+not_tried Headed q x on some = both_ways q.on x.0.0 on
+not_tried Empty q x on some = both_ways (is_empty q.ring) some x
+
+then_wanted : (l : Laid) (q : TransmitQueue) → IsLaid l q → IsLaid l (record q { on = q.wanted })
+then_wanted Off q x = (x.1, x.1)
+then_wanted Sized q x = ((x.0.1, x.0.1), x.1)
+then_wanted Headed q x = ((x.0.1, x.0.1), x.1, x.2)
+then_wanted Empty q x = x
+
+-- with nothing staged
+abbrev pub SideLaid : Laid → Side → Type 0
+SideLaid l x = IsLaid l (transmit_of x) × (x.staged ≡ [])
+
+pub laid_idle : (l : Laid) → IsIdle (SideLaid l)
+laid_idle l = record {
+  idle = λ x h tried. not_tried l (transmit_of x) h.0 tried.on tried.some;
+  switches = λ x h. (then_wanted l (transmit_of x) h.0, none_staged x.wanted x.staged h.1);
+}
 
 -- the enable word is written
 pub asked_laid : (l : Laid) (word : ℕ) (q : TransmitQueue) → MayAsk l word → IsLaid l q

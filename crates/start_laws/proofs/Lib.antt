@@ -52,7 +52,6 @@ pub mod Silent
 pub mod Standing
 pub mod Start
 pub mod StaysQuiet
-pub mod SteadyTransmit
 pub mod StopCalls
 pub mod Stopping
 pub mod SwitchedOff

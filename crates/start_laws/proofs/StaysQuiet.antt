@@ -1,7 +1,7 @@
 -- An event by which nothing is received or sent on a queue whose sides are off.
 use Rattle.std.proofs.Common.{◌≡◌, ℕ, [], refl}
 use Rattle.nic_device.specs.DmaArena.Block.{Block}
-use Rattle.nic_device.specs.RegisterLaws.Sides.{receive_queue_of, transmit_queue_of}
+use Rattle.nic_device.specs.DmaRing.declared.dir.Dir.TheVariants.{Rx, Tx}
 use Rattle.nic_device.specs.Sound.{IsEvent}
 use Rattle.nic_device.specs.State.{State}
 use Rattle.nic_device.specs.Step.{after}
@@ -16,12 +16,12 @@ use Rattle.start_laws.specs.Ending.{IsEnding}
 use Rattle.start_laws.specs.Moves.{IsMet}
 use Rattle.start_laws.specs.Quiet.{no_block}
 use Rattle.receive_laws.specs.LeftLaws.Sides.{IsOff}
+use Rattle.receive_laws.proofs.LeftLaws.Deeds.{left_deed}
+use Rattle.receive_laws.proofs.LeftLaws.Steady.{idle_silent, off_idle}
 use Rattle.start_laws.specs.Quieting.{IsQuiet}
 use Rattle.start_laws.specs.Standing.{IsLeft}
 use Rattle.start_laws.proofs.Ending.{step_left, watching}
 use Rattle.start_laws.proofs.BothSides.{both_read, both_take, write_quiet, quiet_kept}
-use Rattle.start_laws.proofs.Quiet.{off_sides_stand}
-use Rattle.start_laws.proofs.Standing.{standing_sides_are_left}
 
 -- an event by which nothing is received or sent, and behind which the sides are off
 pub record StaysQuiet (queue : ℕ) (q : AtPort) (s : State) (e : Event Block) : Type 0 where
@@ -31,14 +31,11 @@ pub record StaysQuiet (queue : ℕ) (q : AtPort) (s : State) (e : Event Block) :
 
 pub left_stays : (w : Watched) (mine : Blocks) (q : AtPort) (s : State) (e : Event Block) → IsLeft w mine s e
     → IsQuiet w.queue q s → StaysQuiet w.queue q s e
-left_stays w mine q s e left x =
-    let l = standing_sides_are_left w mine no_block s e (receive_queue_of s.registers w.queue)
-    (transmit_queue_of s.registers w.queue) left (λ n is. cc)
-    (off_sides_stand w.queue s left.sound x.receive x.transmit) in record {
-      quiet = quiet_kept w mine q s e left x;
-      received = l.received;
-      sent = l.sent;
-    }
+left_stays w mine q s e left x = record {
+  quiet = quiet_kept w mine q s e left x;
+  received = idle_silent Rx w.queue s e IsOff x.receive off_idle (left_deed Rx w mine s e left);
+  sent = (idle_silent Tx w.queue s e IsOff x.transmit off_idle (left_deed Tx w mine s e left)).sent;
+}
 
 pub ending_stays : (queue : ℕ) (q : AtPort) (s : State) (e : Event Block) → IsMet queue s → IsEvent e → IsEnding q e
     → IsQuiet queue q s → StaysQuiet queue q s e

@@ -1,9 +1,9 @@
 -- The blocks of a driver that sends, and where its descriptors and packets are in them.
-use Rattle.std.proofs.Common.{◌≡◌, ◌≢◌, ℕ, ◌*◌, ◌%◌, ◌<◌, ◌≤◌, inl, inr, Bool, ◌||◌, true, false, length, refl, ap, ◌∙◌, subst, arith}
+use Rattle.std.proofs.Common.{◌≡◌, ◌≢◌, ℕ, ◌*◌, ◌%◌, ◌<◌, ◌≤◌, inl, inr, true, false, length, refl, ap, ◌∙◌, subst, arith}
 use Rattle.std.specs.Prelude.{◌==◌, zero, suc, List, [], ◌∷◌, slice_index_or, is_some}
 use Rattle.std.specs.List.{list_any}
 use Rattle.std.specs.FinMap as map
-use Rattle.std.proofs.lemmas.Bool.{cases_lt, eq-eqb, both_ways}
+use Rattle.std.proofs.lemmas.Bool.{cases_lt, eq-eqb, both_ways, or_right}
 use Rattle.nic_device.specs.DmaArena.Memory.{Memory, has_block, is_lent, read_at, AreApart, LiesIn}
 use Rattle.nic_device.proofs.DmaArena.Blocks.{is_lent_in}
 use Rattle.nic_device.proofs.DmaArena.Inside.{reads_its_block}
@@ -12,10 +12,6 @@ use Rattle.transmit_laws.specs.Agreeing.{IsLayout, IsReady, IsCounted, Shows}
 use Rattle.transmit_laws.proofs.Slots.{slot-below, slot-apart}
 
 -- which blocks are lent
-
-or_right : (a b : Bool) → b ≡ true → (a || b) ≡ true
-or_right true b is = refl
-or_right false b is = is
 
 any_at : (ps : List Outgoing) (k : ℕ) → k < length ps
     → list_any (λ b. (slice_index_or ps k no_packet).block == b) (blocks_of ps) ≡ true

@@ -1,5 +1,5 @@
 -- A step of transmitting that sends a packet, and the frames that it adds.
-use Rattle.std.proofs.Common.{◌≡◌, ℕ, ◌<◌, Bool, true, false, ◌||◌, List, [], ◌∷◌, ◌++◌, length, map, refl, ap, Some}
+use Rattle.std.proofs.Common.{◌≡◌, ℕ, ◌<◌, false, List, [], ◌∷◌, ◌++◌, length, map, refl, ap, Some}
 use Rattle.std.specs.Prelude.{slice_set}
 use Rattle.std.proofs.lemmas.Bool.{lt-ltb}
 use Rattle.std.proofs.lemmas.List.{drop_at}
@@ -45,11 +45,3 @@ pub added-one : (out : List (ℕ × List ℕ)) (queue : ℕ) (bytes : List ℕ)
     → frames_added out (out ++ (queue, bytes) ∷ []) ≡ bytes ∷ []
 added-one out queue bytes =
     ap (map (λ (f : ℕ × List ℕ). f.1)) (drop_at out ((queue, bytes) ∷ []) (length out) refl)
-
-pub last_false : (a b c d e f : Bool) → (a || b || c || d || e || f) ≡ false → f ≡ false
-last_false false false false false false f h = h
-last_false true b c d e f h = cc
-last_false false true c d e f h = cc
-last_false false false true d e f h = cc
-last_false false false false true e f h = cc
-last_false false false false false true f h = cc

@@ -1,22 +1,20 @@
 -- A step of transmitting of the driver's own queue sends the next packet, or is silent.
-use Rattle.std.proofs.Common.{◌≡◌, ℕ, ◌+◌, ◌<◌, inl, inr, true, false, not, List, [], ◌∷◌, ◌++◌, length, drop, refl, sym, ap, ◌∙◌, subst, arith, append_assoc, Some}
+use Rattle.std.proofs.Common.{◌≡◌, ℕ, ◌+◌, ◌<◌, inl, inr, true, false, List, [], ◌∷◌, ◌++◌, length, drop, refl, sym, ap, ◌∙◌, subst, arith, append_assoc, Some}
 use Rattle.std.specs.Prelude.{◌==◌, if◌then◌else◌}
-use Rattle.std.proofs.lemmas.Bool.{eq-eqb, lt-ltb, cases_Bool}
+use Rattle.std.proofs.lemmas.Bool.{eq-eqb, cases_Bool}
 use Rattle.std.proofs.lemmas.List.{append-nil, drop_more, get_or-set_same}
 use Rattle.nic_device.specs.DmaArena.Block.{Block}
 use Rattle.nic_device.specs.DmaRing.declared.dir.Dir.TheVariants.{Tx}
 use Rattle.nic_device.specs.TxRing.Fetch.{fetch_of, Outcome as Fetch}
 use Rattle.nic_device.specs.TxRing.Report.{head_address, new_head}
-use Rattle.nic_device.specs.RegisterFile.Settings.{is_stopped, can_transmit}
 use Rattle.nic_device.specs.RegisterLaws.Sides.{TransmitQueue, transmit_queue_of}
 use Rattle.nic_device.specs.Outcome.{Outcome, gives}
-use Rattle.nic_device.specs.Receive.{is_empty}
 use Rattle.nic_device.specs.State.{State}
 use Rattle.nic_device.specs.Step.{step_of}
-use Rattle.nic_device.specs.Transmit.{sending_of, staged_by, is_muted, is_silent}
+use Rattle.nic_device.specs.Transmit.{sending_of, staged_by, is_silent}
 use Rattle.nic_device.specs.declared.event.Event.{Event}
 use Rattle.nic_device.specs.declared.event.Event.TheVariants as event
-use Rattle.nic_device.specs.declared.event.Reply.TheVariants.{Sent, Idle}
+use Rattle.nic_device.specs.declared.event.Reply.TheVariants.{Sent}
 use Rattle.left_laws.specs.DeviceLaws.Replies.{sent_tells}
 use Rattle.left_laws.proofs.DeviceLaws.RepliesSent.{transmitting_tells}
 use Rattle.pmd_tx.specs.Sending.{Outgoing, Sender, no_packet, packet_at, slot_at}
@@ -30,8 +28,8 @@ use Rattle.transmit_laws.proofs.Stepping.{slots, head_is, more, known, small, to
 use Rattle.transmit_laws.proofs.Done.{shows-sent}
 use Rattle.transmit_laws.proofs.Fetching.{fetch-packet}
 use Rattle.left_laws.specs.Left.{Shuts}
-use Rattle.left_laws.proofs.Fetching.{added-none}
-use Rattle.transmit_laws.proofs.Frames.{sent_state, step-sends, added-one, last_false}
+use Rattle.left_laws.proofs.Fetching.{added-none, idle, tried}
+use Rattle.transmit_laws.proofs.Frames.{sent_state, step-sends, added-one}
 
 module _ (s : State) (queue : ℕ) (sent : List (List ℕ)) (v : Sender) (f : ℕ) (h : AgreesAt s queue sent v f) where
   abbrev side : TransmitQueue
@@ -105,15 +103,6 @@ module _ (s : State) (queue : ℕ) (sent : List (List ℕ)) (v : Sender) (f : �
       in_order = in_order_now;
     }
 
-  idle : is_silent s queue side ≡ true → step_of s (event.TxStep queue) ≡ gives Idle s
-  unfolding step_of
-  idle silent = rw (lt-ltb queue 128 h.based.small, silent) refl
-
-  full_of : is_silent s queue side ≡ false → is_empty side.ring ≡ false
-  full_of loud =
-      last_false (is_stopped s.registers) (not s.link) (not (can_transmit s.registers)) (not side.on)
-      (is_muted s.registers queue) (is_empty side.ring) loud
-
   abbrev After : Outcome → Type 0
   After o = Agrees o.state queue (sent ++ (if queue == queue then frames_added s.out o.state.out else [])) v
 
@@ -121,9 +110,9 @@ module _ (s : State) (queue : ℕ) (sent : List (List ℕ)) (v : Sender) (f : �
   transmit-keeps =
       let own : (queue == queue) ≡ true = eq-eqb queue queue refl in
       elim (cases_Bool (is_silent s queue side)) [
-        | inl silent ↦ subst After (sym (idle silent)) (rw (own, added-none s.out, append-nil sent) (f, h))
+        | inl silent ↦ subst After (sym (idle queue s h.based.sound h.based.small silent)) (rw (own, added-none s.out, append-nil sent) (f, h))
         | inr loud ↦
-            let posted = more s queue sent v f h (full_of loud) in
+            let posted = more s queue sent v f h (tried queue s h.based.sound h.based.small loud).some in
             subst After (sym (sends loud posted))
             (rw (own, added-one s.out queue p.kept.bytes) (f + 1, agrees_now loud posted))
       ]

@@ -24,7 +24,7 @@ use Rattle.transmit_laws.specs.Healthy.{AcceptsAnew}
 use Rattle.transmit_laws.specs.Lent.{SparesNumbers}
 use Rattle.transmit_laws.proofs.Advancing.{setting_kept}
 use Rattle.transmit_laws.proofs.Healthy as transmit
-use Rattle.receive_laws.proofs.LeftLaws.Leaving.{left-setting}
+use Rattle.receive_laws.proofs.HistoryLaws.Leaving.{left-setting}
 use Rattle.transmit_laws.proofs.Lent as transmit_lent
 use Rattle.pmd.specs.Apart.{LendsApart}
 use Rattle.pmd.specs.Halves.{Halves, Doer, Receives, Sends, OwnCall, after_call, is_neither}

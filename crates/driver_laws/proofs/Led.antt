@@ -14,7 +14,7 @@ use Rattle.receive_laws.specs.Pieces.{Piece, pieces}
 use Rattle.receive_laws.specs.Up as received
 use Rattle.transmit_laws.specs.Sent.{sent_by, sent_in, sent_since}
 use Rattle.transmit_laws.specs.Up.{IsUp}
-use Rattle.receive_laws.proofs.LeftLaws.Steady.{not_again}
+use Rattle.receive_laws.proofs.HistoryLaws.Steady.{not_again}
 use Rattle.pmd.specs.Halves.{Halves}
 use Rattle.driver_laws.specs.Agreeing.{AreLent, BothAgree}
 

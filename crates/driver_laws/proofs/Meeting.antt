@@ -12,7 +12,7 @@ use Rattle.nic_device.specs.declared.event.Event.{Event}
 use Rattle.nic_device.specs.declared.event.Event.TheVariants as event
 use Rattle.device_lock.specs.Alone.{Blocks, LeavesRegisters, LeavesBlocks, WritesOutside}
 use Rattle.device_lock.specs.declared.alone.Watched.{Watched}
-use Rattle.receive_laws.specs.LeftLaws.Left.{IsLeft}
+use Rattle.receive_laws.specs.HistoryLaws.Left.{IsLeft}
 use Rattle.receive_laws.specs.Pieces.{Piece, pieces}
 use Rattle.receive_laws.proofs.Foreign.{left_keeps}
 use Rattle.transmit_laws.specs.Sent.{sent_by}

@@ -24,8 +24,8 @@ use Rattle.device_lock.specs.Alone.{Blocks, WritesOutside}
 use Rattle.pmd.specs.PmdRx.Receive.{Receive, block_at}
 use Rattle.pmd.specs.PmdTx.Sending.{Sender, has_lent, descriptor_at, slot_at}
 use Rattle.receive_laws.proofs.HistoryLaws.Reported.{reported}
-use Rattle.receive_laws.proofs.LeftLaws.Blocks.{clear_outside}
-use Rattle.receive_laws.proofs.LeftLaws.Spared.{IsSparedBy, spared_block}
+use Rattle.receive_laws.proofs.HistoryLaws.Blocks.{clear_outside}
+use Rattle.receive_laws.proofs.HistoryLaws.Spared.{IsSparedBy, spared_block}
 use Rattle.receive_laws.specs.Joint.{Agree}
 use Rattle.receive_laws.specs.Pieces.{Piece}
 use Rattle.receive_laws.specs.Steps.{Each, IsOutside, OwnReportsSpare}

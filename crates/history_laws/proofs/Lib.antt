@@ -1,13 +1,26 @@
 pub use Rattle.device_laws.proofs as DeviceLaws
 pub mod Alone
+pub mod Asking
 pub mod Beginning
+pub mod Blocks
 pub mod Calls
+pub mod Deeds
+pub mod Fetching
+pub mod Filling
+pub mod HalfLent
+pub mod Leaving
 pub mod Lent
 pub mod Modes
 pub mod Naming
 pub mod Parting
 pub mod Reported
+pub mod SideNames
+pub mod Sides
 pub mod Slotless
 pub mod Sound
+pub mod Spared
 pub mod Sparing
+pub mod Steady
+pub mod Switching
+pub mod Tails
 pub mod Written

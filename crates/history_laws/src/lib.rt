@@ -1,4 +1,5 @@
-//! What holds along legal histories of a shared device, for the laws of a driver's two sides.
+//! What holds along legal histories of a shared device, and what an event that leaves a queue alone does to the queue's
+//! sides, for the laws of a driver.
 //!
 //! Each law is the contract of a function that does nothing.
 #![tactic(auto)]
@@ -6,6 +7,7 @@
 ghost use Rattle.history_laws.specs.Lent.{OnlyLentStays, AnewIsDone};
 ghost use Rattle.history_laws.specs.Laws.{ModeIsTold, AloneByEntries, BeginningIsAlone, HistoriesKeepSound};
 ghost use Rattle.history_laws.specs.Reports.{ReportsLieInBlocks};
+ghost use Rattle.history_laws.specs.Left.{LeftDid, SidesDo};
 
 /// The mode by which the queues are parted among pools, read off the entries of a history, is the device's own: what
 /// its register GCR_EXT says.
@@ -37,4 +39,14 @@ pub fn reports_lie_in_their_blocks()
 pub fn only_known_blocks_are_lent()
     ensures stays { OnlyLentStays }
     ensures done { AnewIsDone }
+{}
+
+/// An event that leaves a queue and blocks alone did one of four things to each side of the queue: it took the slot at
+/// the head of the side's ring, with a piece of the frame that waits longest or by a fetch; it shut the side by a
+/// fault; it made the side what it is wanted to be; or it did nothing there. Where it took no slot it received or sent
+/// nothing on the queue, and left each of the blocks; and the frame limit, and how the queues are parted, stay. So it
+/// is of one side, where an event of a sound device leaves that side unless it is a step of the side's own.
+pub fn events_take_shut_or_switch_a_side()
+    ensures left { LeftDid }
+    ensures side { SidesDo }
 {}

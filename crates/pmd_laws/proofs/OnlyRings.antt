@@ -19,7 +19,7 @@ use Rattle.pmd.specs.PmdRx.Receive.{Receive}
 use Rattle.pmd.specs.PmdTx.Sending.{Sender}
 use Rattle.start_laws.specs.ReceiveLaws.Short.{IsShortFor}
 use Rattle.start_laws.proofs.ReceiveLaws.Short.{frames_stay_short}
-use Rattle.start_laws.proofs.LeftLaws.Leaving.{left-setting}
+use Rattle.start_laws.proofs.HistoryLaws.Leaving.{left-setting}
 use Rattle.start_laws.specs.Along.{AtCalls, BeforeLast, IsAlong, IsKept}
 use Rattle.start_laws.specs.Ending.{IsPlain}
 use Rattle.start_laws.specs.On.{AreOn}

@@ -12,9 +12,9 @@ use Rattle.nic_device.specs.DmaRing.declared.dir.Dir.TheVariants.{Rx}
 use Rattle.nic_device.specs.RegisterLaws.Sides.{ReceiveQueue, receive_queue_of}
 use Rattle.nic_device.specs.Sound.{IsSound}
 use Rattle.nic_device.specs.State.{State}
-use Rattle.left_laws.specs.DeviceLaws.Replies.{moved_on}
-use Rattle.left_laws.specs.Left.{fill_on}
-use Rattle.left_laws.specs.Segments.{piece_in}
+use Rattle.history_laws.specs.DeviceLaws.Replies.{moved_on}
+use Rattle.history_laws.specs.Left.{fill_on}
+use Rattle.history_laws.specs.Segments.{piece_in}
 use Rattle.pmd_rx.specs.Receive.{Layout, Receive, slot_at, descriptor_at, block_at}
 use Rattle.receive_laws.specs.Joint.{IsSetUp, StageHolds, HasSlots, Holds}
 use Rattle.receive_laws.specs.Pieces.{Piece}

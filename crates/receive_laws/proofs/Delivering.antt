@@ -12,9 +12,9 @@ use Rattle.device_lock.specs.declared.alone.Watched.{Watched}
 use Rattle.device_lock.specs.declared.entry.Entry.{Entry}
 use Rattle.pmd_rx.specs.Plays.{played_by}
 use Rattle.pmd_rx.specs.Receive.{Receive}
-use Rattle.left_laws.proofs.HistoryLaws.Alone.{alone_by_entries}
-use Rattle.left_laws.proofs.HistoryLaws.Sound.{histories_sound}
-use Rattle.left_laws.proofs.HistoryLaws.Modes.{mode_told}
+use Rattle.history_laws.proofs.Alone.{alone_by_entries}
+use Rattle.history_laws.proofs.Sound.{histories_sound}
+use Rattle.history_laws.proofs.Modes.{mode_told}
 use Rattle.receive_laws.specs.Delivered.{IsPrefixOf, delivered, packets_if_any, pieces_in, pieces_since}
 use Rattle.receive_laws.specs.Histories.{FindsNone, HandedIsPrefix, IsDriven, NoneIsAll}
 use Rattle.receive_laws.specs.Pieces.{Piece, packets_of}

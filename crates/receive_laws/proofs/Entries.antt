@@ -22,7 +22,7 @@ use Rattle.device_lock.specs.declared.entry.Entry.{Entry}
 use Rattle.pmd_rx.specs.PmdSeam.Events.{is_step}
 use Rattle.pmd_rx.specs.Plays.{OwnCall, after_call}
 use Rattle.pmd_rx.specs.Receive.{Receive, Layout, Stage, Looks, Sees, Holding, Lent, Named, IsOwn, LendsNext, drive}
-use Rattle.left_laws.proofs.HistoryLaws.Modes.{event_told}
+use Rattle.history_laws.proofs.Modes.{event_told}
 use Rattle.receive_laws.specs.Histories.{SparesReceive}
 use Rattle.receive_laws.specs.Joint.{Agree}
 use Rattle.receive_laws.specs.Pieces.{Piece, pieces}

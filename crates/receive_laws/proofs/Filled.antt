@@ -10,7 +10,7 @@ use Rattle.nic_device.specs.RxRing.Control.{buffer_size_of}
 use Rattle.nic_device.specs.RxRing.Fill.{Rest, head_address, buffer_address, fill_of}
 use Rattle.nic_device.specs.RxRing.Laws.{TakesPiece}
 use Rattle.nic_device.proofs.RxRing.Fills.{takes_piece, driver_reads, writes_inside_slot, fill_keeps_blocks}
-use Rattle.left_laws.specs.Segments.{piece_in}
+use Rattle.history_laws.specs.Segments.{piece_in}
 use Rattle.pmd_rx.specs.Receive.{Layout, Stage, Looks, Sees, Holding, Lent, Named, slot_at, descriptor_at, block_at, vacant}
 use Rattle.receive_laws.specs.Joint.{IsPosted, IsFilled, IsRing, StageHolds}
 use Rattle.receive_laws.specs.Pieces.{Piece, no_piece, piece_at}

@@ -11,14 +11,14 @@ use Rattle.nic_device.specs.State.{State}
 use Rattle.nic_device.specs.Step.{after, reply_to}
 use Rattle.nic_device.specs.declared.event.Event.{Event}
 use Rattle.nic_device.specs.declared.event.Event.TheVariants as event
-use Rattle.left_laws.specs.DeviceLaws.Leaving.{LeavesBlock}
+use Rattle.history_laws.specs.DeviceLaws.Leaving.{LeavesBlock}
 use Rattle.device_lock.specs.Alone.{Blocks, WritesOutside, LeavesRegisters, LeavesBlocks}
 use Rattle.device_lock.specs.declared.alone.Watched.{Watched}
 use Rattle.device_lock.specs.declared.entry.Entry.{Entry}
-use Rattle.left_laws.specs.Left.{Deed, Did, IsLeft, Took, Rested}
-use Rattle.left_laws.proofs.Blocks.{reported_elsewhere}
-use Rattle.left_laws.proofs.Deeds.{left_did}
-use Rattle.left_laws.proofs.Leaving.{left-setting}
+use Rattle.history_laws.specs.Left.{Deed, Did, IsLeft, Took, Rested}
+use Rattle.history_laws.proofs.Blocks.{reported_elsewhere}
+use Rattle.history_laws.proofs.Deeds.{left_did}
+use Rattle.history_laws.proofs.Leaving.{left-setting}
 use Rattle.pmd_rx.specs.Receive.{Receive}
 use Rattle.receive_laws.specs.Joint.{Agree}
 use Rattle.receive_laws.specs.Pieces.{Piece, pieces}

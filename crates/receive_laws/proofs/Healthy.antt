@@ -15,8 +15,8 @@ use Rattle.nic_device.specs.declared.event.Event.TheVariants as event
 use Rattle.nic_device.specs.declared.event.Port.{Port}
 use Rattle.nic_device.specs.declared.event.Reply.{Reply}
 use Rattle.nic_device.specs.declared.event.Reply.TheVariants as reply
-use Rattle.left_laws.specs.HistoryLaws.Lent.{LendsAnew}
-use Rattle.left_laws.proofs.HistoryLaws.Calls.{anew_is_done, taken_is, poked_is}
+use Rattle.history_laws.specs.Lent.{LendsAnew}
+use Rattle.history_laws.proofs.Calls.{anew_is_done, taken_is, poked_is}
 use Rattle.pmd_rx.specs.Receive.{Receive, Stage, Looks, Sees, Holding, Lent, Named, IsOwn, TakesNext, NamesNext, MovesNext, slot_at, descriptor_at, block_at, vacant}
 use Rattle.pmd_rx.specs.Wrong.{is_whole, is_healthy}
 use Rattle.receive_laws.specs.Healthy.{OwnRepliesAreHealthy, TellsPacket, LooksTellPackets}

@@ -12,10 +12,10 @@ use Rattle.device_lock.specs.Alone.{Blocks, lent_by, mode_after}
 use Rattle.device_lock.specs.History.{IsLegal, AreEvents, calls_of, call_in, leads_to}
 use Rattle.device_lock.specs.declared.alone.Watched.{Watched}
 use Rattle.device_lock.specs.declared.entry.Entry.{Entry}
-use Rattle.left_laws.proofs.Steady.{not_again}
+use Rattle.history_laws.proofs.Steady.{not_again}
 use Rattle.pmd_rx.specs.Plays.{AllOwn, after_call, played_by}
 use Rattle.pmd_rx.specs.Receive.{Receive}
-use Rattle.left_laws.specs.HistoryLaws.Alone.{AllAlone}
+use Rattle.history_laws.specs.Alone.{AllAlone}
 use Rattle.receive_laws.specs.Delivered.{pieces_in, pieces_since}
 use Rattle.receive_laws.specs.Histories.{AllSpare, mark_of, marks_after}
 use Rattle.receive_laws.specs.Joint.{Agree}

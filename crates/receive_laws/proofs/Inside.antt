@@ -11,8 +11,8 @@ use Rattle.nic_device.specs.Receive.{rest_of}
 use Rattle.nic_device.specs.State.{State, Waiting}
 use Rattle.nic_device.specs.declared.event.Reply.{Reply}
 use Rattle.nic_device.specs.declared.event.Reply.TheVariants.{Wrote}
-use Rattle.left_laws.specs.Left.{Took, Rested, fill_on}
-use Rattle.left_laws.proofs.Filling.{receiving_did}
+use Rattle.history_laws.specs.Left.{Took, Rested, fill_on}
+use Rattle.history_laws.proofs.Filling.{receiving_did}
 use Rattle.pmd_rx.specs.Receive.{Layout, slot_at, block_at}
 use Rattle.receive_laws.specs.Inside.{IsInside, PieceIsInside}
 use Rattle.receive_laws.specs.Joint.{IsRing, IsSetUp, HasSlots}

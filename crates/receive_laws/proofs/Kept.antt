@@ -8,7 +8,7 @@ use Rattle.nic_device.specs.DmaRing.Descriptor.{first_half, second_half}
 use Rattle.nic_device.specs.DmaRing.Receive.{is_done, ends_packet, bytes_in}
 use Rattle.nic_device.specs.State.{State}
 use Rattle.nic_device.specs.RegisterFile.Pools.{mode_in}
-use Rattle.left_laws.proofs.Naming.{named-same}
+use Rattle.history_laws.proofs.SideNames.{named-same}
 use Rattle.pmd_rx.specs.Receive.{Layout, Stage, Looks, Sees, Holding, Lent, Named, slot_at, descriptor_at, block_at, vacant}
 use Rattle.receive_laws.specs.Joint.{IsPosted, IsFilled, IsRing, IsNamed, IsLoose, StageHolds, HasSlots}
 use Rattle.receive_laws.specs.Pieces.{Piece, piece_at}

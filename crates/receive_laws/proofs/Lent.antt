@@ -11,9 +11,9 @@ use Rattle.nic_device.specs.declared.event.Event.TheVariants as event
 use Rattle.nic_device.specs.declared.event.Port.{Port}
 use Rattle.nic_device.specs.declared.event.Reply.{Reply}
 use Rattle.nic_device.specs.declared.event.Reply.TheVariants as reply
-use Rattle.left_laws.specs.HistoryLaws.Lent.{OnlyLent, LendsAnew, LendsNone, LendsOwn, either}
-use Rattle.left_laws.proofs.HistoryLaws.Lent.{only_lent_stays}
-use Rattle.left_laws.proofs.Lent.{KeepsTaken, lend_known, still_known, take_known}
+use Rattle.history_laws.specs.Lent.{OnlyLent, LendsAnew, LendsNone, LendsOwn, either}
+use Rattle.history_laws.proofs.Lent.{only_lent_stays}
+use Rattle.history_laws.proofs.HalfLent.{KeepsTaken, lend_known, still_known, take_known}
 use Rattle.pmd_rx.specs.Keeping.{fresh_block, has_lent}
 use Rattle.pmd_rx.specs.Receive.{Receive, Stage, Looks, Sees, Holding, Lent, Named, IsOwn, LendsNext, PeeksNext, TakesNext, drive}
 use Rattle.receive_laws.specs.Lent.{OwnLendsAreKnown}

@@ -1,6 +1,5 @@
-pub use Rattle.left_laws.proofs.DeviceLaws
-pub use Rattle.left_laws.proofs.HistoryLaws
-pub use Rattle.left_laws.proofs as LeftLaws
+pub use Rattle.history_laws.proofs.DeviceLaws
+pub use Rattle.history_laws.proofs as HistoryLaws
 pub mod Advancing
 pub mod Clear
 pub mod Consuming

@@ -13,7 +13,7 @@ use Rattle.nic_device.specs.Outcome.{Outcome}
 use Rattle.nic_device.specs.State.{State}
 use Rattle.nic_device.specs.Step.{after, reply_to}
 use Rattle.nic_device.specs.declared.event.Event.TheVariants as event
-use Rattle.left_laws.proofs.Tails.{receive_with_tail, receive-tail}
+use Rattle.history_laws.proofs.Tails.{receive_with_tail, receive-tail}
 use Rattle.pmd_rx.specs.PmdSeam.declared.packet.Packet.{Packet}
 use Rattle.pmd_rx.specs.Receive.{Layout, Receive, Named, slot_at, descriptor_at, block_at, vacant, extended, held, listed, moved, drive}
 use Rattle.receive_laws.specs.Joint.{IsPosted, IsFilled, IsRing, IsSetUp, IsLoose, StageHolds, HasSlots, Agree}

@@ -11,7 +11,7 @@ use Rattle.nic_device.specs.State.{State}
 use Rattle.nic_device.specs.Outcome.{Outcome}
 use Rattle.nic_device.specs.Step.{after, reply_to}
 use Rattle.nic_device.specs.declared.event.Event.TheVariants as event
-use Rattle.left_laws.proofs.HistoryLaws.Calls.{poked_is}
+use Rattle.history_laws.proofs.Calls.{poked_is}
 use Rattle.pmd_rx.specs.PmdSeam.declared.packet.Packet.{Packet}
 use Rattle.pmd_rx.specs.Receive.{Layout, Lent, Receive, slot_at, descriptor_at, block_at, vacant, held, naming, named, drive}
 use Rattle.receive_laws.specs.Joint.{IsPosted, IsRing, IsLoose, StageHolds, HasSlots, Agree}

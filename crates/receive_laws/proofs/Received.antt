@@ -12,18 +12,18 @@ use Rattle.nic_device.specs.declared.event.Event.{Event}
 use Rattle.nic_device.specs.declared.event.Event.TheVariants as event
 use Rattle.nic_device.specs.declared.event.Reply.{Reply}
 use Rattle.nic_device.specs.declared.event.Reply.TheVariants.{Wrote}
-use Rattle.left_laws.specs.DeviceLaws.Laws.{WritesNoSetting}
-use Rattle.left_laws.specs.DeviceLaws.Leaving.{LeavesBlock}
-use Rattle.left_laws.proofs.DeviceLaws.Delivered.{told-lt}
-use Rattle.left_laws.proofs.DeviceLaws.KeptSettings.{settings_stand}
-use Rattle.left_laws.proofs.DeviceLaws.Standing.{stays_within}
-use Rattle.left_laws.specs.Left.{Deed, Took, Rested, Rests, Shuts, Takes}
-use Rattle.left_laws.specs.Segments.{piece_in}
-use Rattle.left_laws.specs.Sides.{IsTried, side_of}
-use Rattle.left_laws.proofs.Filling.{receiving_did}
-use Rattle.left_laws.proofs.Sides.{receive_of}
-use Rattle.left_laws.proofs.Spared.{IsSparedBy, spared_block}
-use Rattle.left_laws.proofs.Steady.{resting_same}
+use Rattle.history_laws.specs.DeviceLaws.Laws.{WritesNoSetting}
+use Rattle.history_laws.specs.DeviceLaws.Leaving.{LeavesBlock}
+use Rattle.history_laws.proofs.DeviceLaws.Delivered.{told-lt}
+use Rattle.history_laws.proofs.DeviceLaws.KeptSettings.{settings_stand}
+use Rattle.history_laws.proofs.DeviceLaws.Standing.{stays_within}
+use Rattle.history_laws.specs.Left.{Deed, Took, Rested, Rests, Shuts, Takes}
+use Rattle.history_laws.specs.Segments.{piece_in}
+use Rattle.history_laws.specs.Sides.{IsTried, side_of}
+use Rattle.history_laws.proofs.Filling.{receiving_did}
+use Rattle.history_laws.proofs.Sides.{receive_of}
+use Rattle.history_laws.proofs.Spared.{IsSparedBy, spared_block}
+use Rattle.history_laws.proofs.Steady.{resting_same}
 use Rattle.pmd_rx.specs.Receive.{Receive}
 use Rattle.receive_laws.specs.Joint.{Agree, Holds}
 use Rattle.receive_laws.specs.Pieces.{Piece, pieces, pieces_told}

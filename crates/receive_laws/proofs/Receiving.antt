@@ -17,8 +17,8 @@ use Rattle.nic_device.proofs.RxRing.Tests.{fill_healthy}
 use Rattle.nic_device.specs.RegisterLaws.Sides.{ReceiveQueue, receive_queue_of}
 use Rattle.nic_device.specs.Receive.{is_empty}
 use Rattle.nic_device.specs.State.{State}
-use Rattle.left_laws.specs.Left.{fill_on}
-use Rattle.left_laws.specs.Segments.{piece_in}
+use Rattle.history_laws.specs.Left.{fill_on}
+use Rattle.history_laws.specs.Segments.{piece_in}
 use Rattle.pmd_rx.specs.PmdSeam.Slots.{wrapped}
 use Rattle.pmd_rx.specs.Receive.{Layout, slot_at, descriptor_at, block_at, vacant}
 use Rattle.receive_laws.specs.Joint.{IsFilled, IsRing, IsSetUp, HasSlots}

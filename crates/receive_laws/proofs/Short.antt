@@ -15,7 +15,7 @@ use Rattle.nic_device.specs.Step.{step_of}
 use Rattle.nic_device.specs.declared.event.Event.{Event}
 use Rattle.nic_device.specs.declared.event.Event.TheVariants as event
 use Rattle.nic_device.proofs.QueueCases.{filled_by, received_cases}
-use Rattle.left_laws.proofs.DeviceLaws.KeptSettings.{settings_stand}
+use Rattle.history_laws.proofs.DeviceLaws.KeptSettings.{settings_stand}
 use Rattle.receive_laws.specs.Pieces.{Piece, AllEnd, pieces, pieces_told}
 use Rattle.receive_laws.specs.Short.{IsShortFor, AreShort, FramesStayShort, ShortFramesEnd}
 use Rattle.receive_laws.proofs.Waiting.{waiting_after}

@@ -16,9 +16,9 @@ use Rattle.nic_device.specs.Step.{after}
 use Rattle.nic_device.specs.Switching.{queue_switched, side_switched}
 use Rattle.nic_device.specs.declared.event.Event.TheVariants as event
 use Rattle.nic_device.specs.declared.event.Reply.TheVariants.{Done, Idle, NoQueue}
-use Rattle.left_laws.specs.DeviceLaws.Leaving.{LeavesBlock}
-use Rattle.left_laws.proofs.DeviceLaws.StandingQueues.{switching_rest}
-use Rattle.left_laws.proofs.Switching.{switching_did}
+use Rattle.history_laws.specs.DeviceLaws.Leaving.{LeavesBlock}
+use Rattle.history_laws.proofs.DeviceLaws.StandingQueues.{switching_rest}
+use Rattle.history_laws.proofs.Switching.{switching_did}
 use Rattle.receive_laws.specs.Steps.{EnableStepKeeps}
 use Rattle.receive_laws.proofs.Each.{each_of}
 use Rattle.receive_laws.proofs.Received.{rested}

@@ -11,7 +11,7 @@ use Rattle.nic_device.specs.Outcome.{Outcome}
 use Rattle.nic_device.specs.Step.{after, reply_to}
 use Rattle.nic_device.specs.declared.event.Event.TheVariants as event
 use Rattle.pmd_rx.specs.PmdSeam.Packet.{kept_of}
-use Rattle.left_laws.proofs.HistoryLaws.Calls.{taken_is}
+use Rattle.history_laws.proofs.Calls.{taken_is}
 use Rattle.pmd_rx.specs.Receive.{Receive, Sees, told, took, drive, held, descriptor_at, block_at, Holding, consumed}
 use Rattle.receive_laws.specs.Joint.{IsFilled, Saw, StageHolds, Agree, InOrder}
 use Rattle.receive_laws.specs.Pieces.{Piece, piece_at, packet_told, whole_packet, no_piece, AllEnd}

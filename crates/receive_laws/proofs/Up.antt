@@ -10,18 +10,18 @@ use Rattle.nic_device.specs.Step.{after, step_of}
 use Rattle.nic_device.specs.declared.event.Event.{Event}
 use Rattle.nic_device.specs.declared.event.Event.TheVariants as event
 use Rattle.nic_device.specs.declared.event.Port.{Port}
-use Rattle.left_laws.proofs.DeviceLaws.Standing.{memory_rest}
+use Rattle.history_laws.proofs.DeviceLaws.Standing.{memory_rest}
 use Rattle.device_lock.specs.Alone.{LeavesRegisters}
 use Rattle.device_lock.specs.declared.alone.Watched.{Watched}
-use Rattle.left_laws.specs.Left.{Deed}
-use Rattle.left_laws.specs.Sides as sides
-use Rattle.left_laws.specs.Sides.{receive_side}
-use Rattle.left_laws.proofs.Deeds.{side_did}
-use Rattle.left_laws.proofs.Filling.{receiving_did}
-use Rattle.left_laws.proofs.Leaving.{left-side}
-use Rattle.left_laws.proofs.Sides.{receive_left}
-use Rattle.left_laws.proofs.Steady.{up_kept}
-use Rattle.left_laws.proofs.Tails.{receive-tail}
+use Rattle.history_laws.specs.Left.{Deed}
+use Rattle.history_laws.specs.Sides as sides
+use Rattle.history_laws.specs.Sides.{receive_side}
+use Rattle.history_laws.proofs.Deeds.{side_did}
+use Rattle.history_laws.proofs.Filling.{receiving_did}
+use Rattle.history_laws.proofs.Leaving.{left-side}
+use Rattle.history_laws.proofs.Sides.{receive_left}
+use Rattle.history_laws.proofs.Steady.{up_kept}
+use Rattle.history_laws.proofs.Tails.{receive-tail}
 use Rattle.pmd_rx.specs.Receive.{MovesNext, Receive, Stage, Looks, Sees, Holding, Lent, Named, slot_at, vacant}
 use Rattle.receive_laws.specs.Joint.{Agree, StageHolds}
 use Rattle.receive_laws.specs.Pieces.{Piece}

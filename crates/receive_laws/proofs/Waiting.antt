@@ -30,10 +30,10 @@ use Rattle.nic_device.specs.declared.named.Named.{Named}
 use Rattle.nic_device.specs.declared.named.Named.TheVariants.{Nothing, Register}
 use Rattle.nic_device.proofs.Cases.{either_way, switched_cases}
 use Rattle.nic_device.proofs.QueueCases.{filled_by, received_cases}
-use Rattle.left_laws.specs.DeviceLaws.Laws.{WritesNoSetting, IsOfNoSetting}
-use Rattle.left_laws.proofs.DeviceLaws.Settings.{no_reset}
-use Rattle.left_laws.proofs.DeviceLaws.Standing.{stays_within}
-use Rattle.left_laws.proofs.DeviceLaws.StandingAccesses.{read_rest}
+use Rattle.history_laws.specs.DeviceLaws.Laws.{WritesNoSetting, IsOfNoSetting}
+use Rattle.history_laws.proofs.DeviceLaws.Settings.{no_reset}
+use Rattle.history_laws.proofs.DeviceLaws.Standing.{stays_within}
+use Rattle.history_laws.proofs.DeviceLaws.StandingAccesses.{read_rest}
 
 module _ (P : Waiting → Type 0) (s : State) (h : All P s.waiting) where
   abbrev Wait : Outcome → Type 0

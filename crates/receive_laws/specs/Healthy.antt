@@ -8,7 +8,7 @@ use Rattle.nic_device.specs.Step.{reply_to}
 use Rattle.nic_device.specs.declared.event.Event.{Event}
 use Rattle.nic_device.specs.declared.event.Event.TheVariants as event
 use Rattle.nic_device.specs.declared.event.Reply.TheVariants.{Bytes}
-use Rattle.left_laws.specs.HistoryLaws.Lent.{LendsAnew}
+use Rattle.history_laws.specs.Lent.{LendsAnew}
 use Rattle.pmd_rx.specs.Receive.{Receive, IsOwn}
 use Rattle.pmd_rx.specs.Wrong.{is_healthy}
 use Rattle.receive_laws.specs.Joint.{Agree}

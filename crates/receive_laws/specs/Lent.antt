@@ -4,7 +4,7 @@ use Rattle.device_lock.specs.Alone.{Blocks}
 use Rattle.nic_device.specs.State.{State}
 use Rattle.nic_device.specs.Step.{after, reply_to}
 use Rattle.nic_device.specs.declared.event.Event.{Event}
-use Rattle.left_laws.specs.HistoryLaws.Lent.{OnlyLent, LendsAnew, LendsOwn, either}
+use Rattle.history_laws.specs.Lent.{OnlyLent, LendsAnew, LendsOwn, either}
 use Rattle.pmd_rx.specs.Keeping.{has_lent}
 use Rattle.pmd_rx.specs.Receive.{Receive, IsOwn, drive}
 

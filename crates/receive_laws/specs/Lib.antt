@@ -1,6 +1,5 @@
-pub use Rattle.left_laws.specs.DeviceLaws
-pub use Rattle.left_laws.specs.HistoryLaws
-pub use Rattle.left_laws.specs as LeftLaws
+pub use Rattle.history_laws.specs.DeviceLaws
+pub use Rattle.history_laws.specs as HistoryLaws
 pub mod Delivered
 pub mod Healthy
 pub mod Histories

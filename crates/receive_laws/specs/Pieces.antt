@@ -1,7 +1,7 @@
 -- The packets that the pieces make that were written on a queue.
 use Rattle.std.specs.Prelude.{ℕ, ◌≡◌, true, List, [], ◌∷◌, ◌++◌, slice_index_or, if◌then◌else◌, ⊤}
 use Rattle.nic_device.specs.DmaRing.Driver.{rss_in, hash_in}
-pub use Rattle.left_laws.specs.Segments.{Piece, no_piece, first_of, pieces_told, pieces}
+pub use Rattle.history_laws.specs.Segments.{Piece, no_piece, first_of, pieces_told, pieces}
 use Rattle.pmd_rx.specs.PmdSeam.Packet.{Kept}
 
 -- a packet of these bytes, with what the first half of its descriptor tells

@@ -5,7 +5,7 @@ use Rattle.nic_device.specs.RegisterFile.Settings.{frame_limit}
 use Rattle.nic_device.specs.State.{State, Waiting}
 use Rattle.nic_device.specs.Step.{after}
 use Rattle.nic_device.specs.declared.event.Event.{Event}
-use Rattle.left_laws.specs.DeviceLaws.Laws.{WritesNoSetting}
+use Rattle.history_laws.specs.DeviceLaws.Laws.{WritesNoSetting}
 use Rattle.pmd_rx.specs.Receive.{Receive}
 use Rattle.receive_laws.specs.Joint.{Agree}
 use Rattle.receive_laws.specs.Pieces.{Piece, AllEnd, pieces}

@@ -8,9 +8,9 @@ use Rattle.nic_device.specs.State.{State}
 use Rattle.nic_device.specs.Step.{after}
 use Rattle.nic_device.specs.declared.event.Event.{Event}
 use Rattle.nic_device.specs.declared.event.Event.TheVariants as event
-use Rattle.left_laws.specs.DeviceLaws.Leaving.{LeavesReceive}
-use Rattle.left_laws.specs.Sides as sides
-use Rattle.left_laws.specs.Sides.{side_of}
+use Rattle.history_laws.specs.DeviceLaws.Leaving.{LeavesReceive}
+use Rattle.history_laws.specs.Sides as sides
+use Rattle.history_laws.specs.Sides.{side_of}
 use Rattle.device_lock.specs.Alone.{Blocks, EntryLeavesAlone}
 use Rattle.device_lock.specs.declared.alone.Watched.{Watched}
 use Rattle.device_lock.specs.declared.entry.Entry.{Entry}

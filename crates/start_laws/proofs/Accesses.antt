@@ -18,9 +18,9 @@ use Rattle.nic_device.specs.declared.event.Reply.TheVariants as reply
 use Rattle.nic_device.proofs.Cases.{lent_cases}
 use Rattle.receive_laws.proofs.DeviceLaws.StandingAccesses.{read_rest}
 use Rattle.device_lock.specs.Alone.{Blocks}
-use Rattle.receive_laws.specs.LeftLaws.Sides.{Side, receive_side, transmit_side}
-use Rattle.receive_laws.proofs.LeftLaws.Asking.{told_on}
-use Rattle.receive_laws.proofs.LeftLaws.Sides.{queues_left}
+use Rattle.receive_laws.specs.HistoryLaws.Sides.{Side, receive_side, transmit_side}
+use Rattle.receive_laws.proofs.HistoryLaws.Asking.{told_on}
+use Rattle.receive_laws.proofs.HistoryLaws.Sides.{queues_left}
 use Rattle.start_laws.specs.Moves.{and_one, receive_seen, transmit_seen, ReceiveReadStands, TransmitReadStands, LendStands}
 use Rattle.start_laws.specs.Standing.{IsZero, Stand, Stands}
 

@@ -18,11 +18,11 @@ use Rattle.receive_laws.proofs.DeviceLaws.StandingAccesses.{read_rest}
 use Rattle.device_lock.specs.Alone.{Blocks}
 use Rattle.device_lock.specs.Pass.{call_of}
 use Rattle.device_lock.specs.declared.alone.Watched.{Watched}
-use Rattle.receive_laws.specs.LeftLaws.Sides.{IsOff, IsUnwanted, Side, side_of}
-use Rattle.receive_laws.proofs.LeftLaws.Asking.{asked, other_left, seen_off, word_off}
-use Rattle.receive_laws.proofs.LeftLaws.Deeds.{left_deed}
-use Rattle.receive_laws.proofs.LeftLaws.Sides.{queues_left}
-use Rattle.receive_laws.proofs.LeftLaws.Steady.{IsSteady, off_steady, steady_kept}
+use Rattle.receive_laws.specs.HistoryLaws.Sides.{IsOff, IsUnwanted, Side, side_of}
+use Rattle.receive_laws.proofs.HistoryLaws.Asking.{asked, other_left, seen_off, word_off}
+use Rattle.receive_laws.proofs.HistoryLaws.Deeds.{left_deed}
+use Rattle.receive_laws.proofs.HistoryLaws.Sides.{queues_left}
+use Rattle.receive_laws.proofs.HistoryLaws.Steady.{IsSteady, off_steady, steady_kept}
 use Rattle.pmd.specs.PmdSeam.Named.{AtPort, IsNumberOf}
 use Rattle.start_laws.specs.Along.{IsKept, Leads}
 use Rattle.start_laws.specs.Ending.{IsEnding, IsPlain}

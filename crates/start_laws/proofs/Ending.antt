@@ -20,7 +20,7 @@ use Rattle.device_lock.specs.declared.entry.Call.{Call}
 use Rattle.device_lock.specs.declared.entry.Entry.{Entry}
 use Rattle.pmd.specs.PmdSeam.Events.{is_step}
 use Rattle.pmd.specs.PmdSeam.Named.{AtPort}
-use Rattle.receive_laws.proofs.LeftLaws.Sides.{queues_left}
+use Rattle.receive_laws.proofs.HistoryLaws.Sides.{queues_left}
 use Rattle.receive_laws.proofs.Clear.{no_registers}
 use Rattle.start_laws.specs.Along.{AtEntries, IsAlong}
 use Rattle.start_laws.specs.Ending.{Each, IsEnding, IsPlain}

@@ -1,7 +1,7 @@
 -- Where fresh sides stand whose rings are lent, device and driver agree.
 use Rattle.std.proofs.Common.{◌≡◌, ℕ, ◌*◌, ◌/◌, ◌%◌, ◌^◌, true, refl, ap, ◌∙◌, arith}
 use Rattle.nic_device.specs.DmaArena.Memory.{Memory, has_block}
-use Rattle.receive_laws.specs.LeftLaws.Sides.{Side}
+use Rattle.receive_laws.specs.HistoryLaws.Sides.{Side}
 use Rattle.receive_laws.proofs.Places.{first_place}
 use Rattle.receive_laws.proofs.Starting.{start_agrees}
 use Rattle.start_laws.specs.Moves.{FreshReceiveAgrees, FreshTransmitAgrees}

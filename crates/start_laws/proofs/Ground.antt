@@ -14,7 +14,7 @@ use Rattle.receive_laws.proofs.DeviceLaws.Standing.{stays_within}
 use Rattle.device_lock.specs.Alone.{Blocks}
 use Rattle.device_lock.specs.declared.alone.Watched.{Watched}
 use Rattle.pmd.specs.PmdSeam.Named.{AtPort, IsNumberOf, is_driven}
-use Rattle.receive_laws.proofs.LeftLaws.Deeds.{left_did}
+use Rattle.receive_laws.proofs.HistoryLaws.Deeds.{left_did}
 use Rattle.start_laws.specs.Along.{IsKept}
 use Rattle.start_laws.specs.Numbers.{queue_at}
 use Rattle.start_laws.specs.Points.{HasGround}

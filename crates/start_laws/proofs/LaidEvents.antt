@@ -20,11 +20,11 @@ use Rattle.nic_device.specs.declared.event.Port.{Port}
 use Rattle.receive_laws.proofs.DeviceLaws.StandingAccesses.{write_rest}
 use Rattle.device_lock.specs.Alone.{Blocks, LeavesBlocks, LeavesRegisters}
 use Rattle.device_lock.specs.declared.alone.Watched.{Watched}
-use Rattle.receive_laws.specs.LeftLaws.Sides.{side_of}
-use Rattle.receive_laws.proofs.LeftLaws.Asking.{asked}
-use Rattle.receive_laws.proofs.LeftLaws.Deeds.{left_deed}
-use Rattle.receive_laws.proofs.LeftLaws.Sides.{transmit_left}
-use Rattle.receive_laws.proofs.LeftLaws.Steady.{idle_silent, idle_steady, steady_kept}
+use Rattle.receive_laws.specs.HistoryLaws.Sides.{side_of}
+use Rattle.receive_laws.proofs.HistoryLaws.Asking.{asked}
+use Rattle.receive_laws.proofs.HistoryLaws.Deeds.{left_deed}
+use Rattle.receive_laws.proofs.HistoryLaws.Sides.{transmit_left}
+use Rattle.receive_laws.proofs.HistoryLaws.Steady.{idle_silent, idle_steady, steady_kept}
 use Rattle.pmd.specs.PmdSeam.Named.{AtPort}
 use Rattle.transmit_laws.specs.Sent.{sent_by}
 use Rattle.start_laws.specs.Ending.{IsPlain}

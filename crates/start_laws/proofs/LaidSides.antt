@@ -7,9 +7,9 @@ use Rattle.nic_device.specs.DmaRing.declared.ring.Ring.{Ring}
 use Rattle.nic_device.specs.RegisterFile.Bits.{has_bit}
 use Rattle.nic_device.specs.RegisterLaws.Sides.{TransmitQueue}
 use Rattle.nic_device.specs.Receive.{is_empty}
-use Rattle.receive_laws.specs.LeftLaws.Sides.{Side}
-use Rattle.receive_laws.proofs.LeftLaws.Sides.{transmit_of}
-use Rattle.receive_laws.proofs.LeftLaws.Steady.{IsIdle, none_staged}
+use Rattle.receive_laws.specs.HistoryLaws.Sides.{Side}
+use Rattle.receive_laws.proofs.HistoryLaws.Sides.{transmit_of}
+use Rattle.receive_laws.proofs.HistoryLaws.Steady.{IsIdle, none_staged}
 use Rattle.start_laws.specs.Laid.{Laid, Off, Sized, Headed, Empty, MayAsk, MayRing, laid_by}
 use Rattle.start_laws.specs.Words.{FitsTransmit, transmit_with}
 

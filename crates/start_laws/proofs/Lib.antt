@@ -1,5 +1,4 @@
 pub use Rattle.receive_laws.proofs.HistoryLaws
-pub use Rattle.receive_laws.proofs.LeftLaws
 pub use Rattle.receive_laws.proofs as ReceiveLaws
 pub use Rattle.transmit_laws.proofs as TransmitLaws
 pub mod AccessCalls

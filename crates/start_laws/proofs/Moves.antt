@@ -10,8 +10,8 @@ use Rattle.nic_device.specs.RegisterLaws.Sides.{ReceiveQueue, TransmitQueue}
 use Rattle.nic_device.specs.Receive.{is_empty}
 use Rattle.nic_device.specs.Step.{after}
 use Rattle.nic_device.specs.declared.event.Event.TheVariants as event
-use Rattle.receive_laws.specs.LeftLaws.Sides.{Side, receive_side, side_of, transmit_side}
-use Rattle.receive_laws.proofs.LeftLaws.Sides.{receive_left, receive_of, transmit_left, transmit_of}
+use Rattle.receive_laws.specs.HistoryLaws.Sides.{Side, receive_side, side_of, transmit_side}
+use Rattle.receive_laws.proofs.HistoryLaws.Sides.{receive_left, receive_of, transmit_left, transmit_of}
 use Rattle.start_laws.specs.Moves.{ReceiveWriteStands, TransmitWriteStands}
 use Rattle.start_laws.specs.Standing.{Stands}
 use Rattle.start_laws.specs.Words.{receive_with, transmit_with, FitsReceive, FitsTransmit}

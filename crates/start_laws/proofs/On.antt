@@ -13,7 +13,7 @@ use Rattle.device_lock.specs.declared.alone.Watched.{Watched}
 use Rattle.device_lock.specs.declared.entry.Call.{Call}
 use Rattle.device_lock.specs.declared.entry.Entry.{Entry}
 use Rattle.receive_laws.proofs.HistoryLaws.Sound.{histories_sound}
-use Rattle.receive_laws.specs.LeftLaws.Sides.{Side}
+use Rattle.receive_laws.specs.HistoryLaws.Sides.{Side}
 use Rattle.pmd.specs.PmdSeam.Named.{AtPort}
 use Rattle.pmd.specs.PmdSeam.Sides.{ring_words}
 use Rattle.pmd.specs.PmdRx.Receive.{Receive}

@@ -3,10 +3,10 @@ use Rattle.std.proofs.Common.{ℕ, List, refl, ap, ◌∙◌, subst}
 use Rattle.std.proofs.lemmas.Bool.{both_ways}
 use Rattle.nic_device.specs.DmaRing.declared.dir.Dir.TheVariants.{Rx, Tx}
 use Rattle.nic_device.specs.RegisterLaws.Sides.{transmit_queue_of}
-use Rattle.receive_laws.specs.LeftLaws.Sides.{IsOff, IsUnwanted, Side, side_of, transmit_side}
-use Rattle.receive_laws.proofs.LeftLaws.Asking.{asked, seen_off}
-use Rattle.receive_laws.proofs.LeftLaws.Deeds.{left_deed}
-use Rattle.receive_laws.proofs.LeftLaws.Steady.{steady_kept, unwanted_steady}
+use Rattle.receive_laws.specs.HistoryLaws.Sides.{IsOff, IsUnwanted, Side, side_of, transmit_side}
+use Rattle.receive_laws.proofs.HistoryLaws.Asking.{asked, seen_off}
+use Rattle.receive_laws.proofs.HistoryLaws.Deeds.{left_deed}
+use Rattle.receive_laws.proofs.HistoryLaws.Steady.{steady_kept, unwanted_steady}
 use Rattle.start_laws.specs.Quiet.{ReceiveGuardIsOff, OffSidesStand}
 use Rattle.start_laws.specs.Standing.{Stands}
 

@@ -20,7 +20,7 @@ use Rattle.pmd.specs.PmdSeam.QueueMade.{Access, Sees, Sets, AreMade, IsMade, Sto
 use Rattle.pmd.specs.PmdSeam.Named.{AtPort}
 use Rattle.pmd.specs.PmdSeam.Sides.{quiet}
 use Rattle.start_laws.specs.Along.{AtCalls, BeforeLast, IsAlong, IsKept}
-use Rattle.receive_laws.specs.LeftLaws.Sides.{IsOff}
+use Rattle.receive_laws.specs.HistoryLaws.Sides.{IsOff}
 use Rattle.start_laws.specs.Quieting.{IsQuiet}
 use Rattle.start_laws.proofs.Made.{made_some, some_made}
 use Rattle.start_laws.proofs.AccessLeads.{seen, set}

@@ -4,8 +4,8 @@ use Rattle.nic_device.specs.RegTable.declared.rows.RowId.TheVariants.{Rxdctl, Tx
 use Rattle.device_lock.specs.Alone.{lent_by}
 use Rattle.device_lock.specs.declared.entry.Call.{Call}
 use Rattle.pmd.specs.PmdSeam.QueueMade.{Sees, Sets}
-use Rattle.receive_laws.specs.LeftLaws.Sides.{IsOff, IsUnwanted}
-use Rattle.receive_laws.proofs.LeftLaws.Steady.{off_steady, unwanted_steady}
+use Rattle.receive_laws.specs.HistoryLaws.Sides.{IsOff, IsUnwanted}
+use Rattle.receive_laws.proofs.HistoryLaws.Steady.{off_steady, unwanted_steady}
 use Rattle.start_laws.specs.Along.{AtCalls}
 use Rattle.start_laws.specs.Quieting.{Both, IsQuiet, QuietingLeads}
 use Rattle.start_laws.proofs.AccessLeads.{seen, set}

@@ -10,7 +10,7 @@ use Rattle.nic_device.specs.declared.event.Event.TheVariants as event
 use Rattle.nic_device.specs.declared.event.Port.{Port}
 use Rattle.nic_device.specs.declared.event.Reply.TheVariants as reply
 use Rattle.start_laws.specs.Words.{NamesRow}
-use Rattle.receive_laws.proofs.LeftLaws.Asking.{told_on}
+use Rattle.receive_laws.proofs.HistoryLaws.Asking.{told_on}
 use Rattle.start_laws.proofs.Numbers.{ground_names}
 use Rattle.start_laws.specs.Replies.{NamedRegistersReply, OffSidesAreSeenOff}
 

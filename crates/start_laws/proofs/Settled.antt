@@ -10,11 +10,11 @@ use Rattle.nic_device.specs.declared.event.Event.{Event}
 use Rattle.nic_device.specs.declared.event.Event.TheVariants as event
 use Rattle.device_lock.specs.Alone.{Blocks}
 use Rattle.device_lock.specs.declared.alone.Watched.{Watched}
-use Rattle.receive_laws.specs.LeftLaws.Sides.{LeavesSide, side_of}
-use Rattle.receive_laws.proofs.LeftLaws.Asking as asking
-use Rattle.receive_laws.proofs.LeftLaws.Deeds.{left_deed}
-use Rattle.receive_laws.proofs.LeftLaws.Steady as steady
-use Rattle.receive_laws.proofs.LeftLaws.Steady.{deed_settles, same_settles}
+use Rattle.receive_laws.specs.HistoryLaws.Sides.{LeavesSide, side_of}
+use Rattle.receive_laws.proofs.HistoryLaws.Asking as asking
+use Rattle.receive_laws.proofs.HistoryLaws.Deeds.{left_deed}
+use Rattle.receive_laws.proofs.HistoryLaws.Steady as steady
+use Rattle.receive_laws.proofs.HistoryLaws.Steady.{deed_settles, same_settles}
 use Rattle.pmd.specs.PmdSeam.Named.{AtPort, IsNumberOf}
 use Rattle.start_laws.specs.Moves.{IsMet}
 use Rattle.start_laws.specs.Points.{HasGround}

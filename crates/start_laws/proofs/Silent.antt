@@ -11,7 +11,7 @@ use Rattle.device_lock.specs.declared.alone.Watched.{Watched}
 use Rattle.device_lock.specs.declared.entry.Call.{Call}
 use Rattle.device_lock.specs.declared.entry.Entry.{Entry}
 use Rattle.pmd.specs.PmdSeam.Named.{AtPort}
-use Rattle.receive_laws.proofs.LeftLaws.Steady.{not_again}
+use Rattle.receive_laws.proofs.HistoryLaws.Steady.{not_again}
 use Rattle.receive_laws.specs.Delivered.{packets_if_any, pieces_since}
 use Rattle.receive_laws.specs.Pieces.{Piece, packets_of, pieces}
 use Rattle.receive_laws.proofs.Delivering.{since-append}

@@ -3,9 +3,9 @@ use Rattle.std.proofs.Common.{◌≡◌, [], refl, sym, ap, ◌∙◌}
 use Rattle.std.proofs.lemmas.Bool.{both_ways}
 use Rattle.nic_device.specs.DmaRing.declared.dir.Dir.TheVariants.{Rx, Tx}
 use Rattle.nic_device.specs.Receive.{is_empty}
-use Rattle.receive_laws.specs.LeftLaws.Sides.{Side, receive_side, transmit_side}
-use Rattle.receive_laws.proofs.LeftLaws.Deeds.{left_did}
-use Rattle.receive_laws.proofs.LeftLaws.Steady.{IsIdle, idle_silent, idle_steady, none_staged, steady_kept}
+use Rattle.receive_laws.specs.HistoryLaws.Sides.{Side, receive_side, transmit_side}
+use Rattle.receive_laws.proofs.HistoryLaws.Deeds.{left_did}
+use Rattle.receive_laws.proofs.HistoryLaws.Steady.{IsIdle, idle_silent, idle_steady, none_staged, steady_kept}
 use Rattle.start_laws.specs.Standing.{Stands, StandingSidesAreLeft}
 
 -- a side that stands so is off, or its ring is empty

@@ -15,9 +15,9 @@ use Rattle.transmit_laws.specs.Sent.{sent_by}
 use Rattle.start_laws.specs.Ending.{IsEnding}
 use Rattle.start_laws.specs.Moves.{IsMet}
 use Rattle.start_laws.specs.Quiet.{no_block}
-use Rattle.receive_laws.specs.LeftLaws.Sides.{IsOff}
-use Rattle.receive_laws.proofs.LeftLaws.Deeds.{left_deed}
-use Rattle.receive_laws.proofs.LeftLaws.Steady.{idle_silent, off_idle}
+use Rattle.receive_laws.specs.HistoryLaws.Sides.{IsOff}
+use Rattle.receive_laws.proofs.HistoryLaws.Deeds.{left_deed}
+use Rattle.receive_laws.proofs.HistoryLaws.Steady.{idle_silent, off_idle}
 use Rattle.start_laws.specs.Quieting.{IsQuiet}
 use Rattle.start_laws.specs.Standing.{IsLeft}
 use Rattle.start_laws.proofs.Ending.{step_left, watching}

@@ -13,8 +13,8 @@ use Rattle.device_lock.specs.Alone.{lent_by}
 use Rattle.pmd.specs.PmdSeam.QueueMade.{Access, AreMade, Sees, Sets}
 use Rattle.pmd.specs.PmdSeam.Named.{AtPort, IsNumberOf}
 use Rattle.pmd.specs.PmdSeam.Sides.{polled}
-use Rattle.receive_laws.specs.LeftLaws.Sides.{IsOff, IsUnwanted}
-use Rattle.receive_laws.proofs.LeftLaws.Steady.{off_steady, unwanted_steady}
+use Rattle.receive_laws.specs.HistoryLaws.Sides.{IsOff, IsUnwanted}
+use Rattle.receive_laws.proofs.HistoryLaws.Steady.{off_steady, unwanted_steady}
 use Rattle.start_laws.specs.Along.{AtCalls, IsAlong, IsKept}
 use Rattle.start_laws.specs.Quieting.{Both, IsQuiet}
 use Rattle.start_laws.specs.Silent.{SwitchingOffLeads}

@@ -1,6 +1,5 @@
 pub use Rattle.receive_laws.specs.DeviceLaws
 pub use Rattle.receive_laws.specs.HistoryLaws
-pub use Rattle.receive_laws.specs.LeftLaws
 pub use Rattle.receive_laws.specs as ReceiveLaws
 pub use Rattle.transmit_laws.specs as TransmitLaws
 pub mod Along

@@ -14,8 +14,8 @@ use Rattle.nic_device.specs.declared.event.Port.{Port}
 use Rattle.nic_device.specs.declared.event.Reply.TheVariants as reply
 use Rattle.device_lock.specs.Alone.{Blocks}
 use Rattle.device_lock.specs.declared.alone.Watched.{Watched}
-use Rattle.receive_laws.specs.LeftLaws.Sides as sides
-use Rattle.receive_laws.specs.LeftLaws.Sides.{side_of}
+use Rattle.receive_laws.specs.HistoryLaws.Sides as sides
+use Rattle.receive_laws.specs.HistoryLaws.Sides.{side_of}
 use Rattle.transmit_laws.specs.Off as transmit
 use Rattle.start_laws.specs.Moves.{IsMet}
 use Rattle.start_laws.specs.Standing.{IsLeft, Stand}

@@ -9,7 +9,7 @@ use Rattle.device_lock.specs.declared.entry.Entry.{Entry}
 use Rattle.pmd.specs.PmdSeam.Both.{both_quiet}
 use Rattle.pmd.specs.PmdSeam.QueueMade.{AreMade}
 use Rattle.pmd.specs.PmdSeam.Named.{AtPort}
-use Rattle.receive_laws.specs.LeftLaws.Sides.{IsOff, Side, side_of}
+use Rattle.receive_laws.specs.HistoryLaws.Sides.{IsOff, Side, side_of}
 use Rattle.start_laws.specs.Along.{AtCalls, BeforeLast, IsAlong}
 use Rattle.start_laws.specs.Points.{HasGround, Point, Sides}
 

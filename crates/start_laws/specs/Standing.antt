@@ -13,8 +13,8 @@ use Rattle.nic_device.specs.Step.{after}
 use Rattle.nic_device.specs.declared.event.Event.{Event}
 use Rattle.device_lock.specs.Alone.{Blocks}
 use Rattle.device_lock.specs.declared.alone.Watched.{Watched}
-pub use Rattle.receive_laws.specs.LeftLaws.Left.{IsLeft}
-use Rattle.receive_laws.specs.LeftLaws.Sides.{Side, receive_side, side_of, transmit_side}
+pub use Rattle.receive_laws.specs.HistoryLaws.Left.{IsLeft}
+use Rattle.receive_laws.specs.HistoryLaws.Sides.{Side, receive_side, side_of, transmit_side}
 use Rattle.receive_laws.specs.Pieces.{pieces}
 use Rattle.transmit_laws.specs.Sent.{sent_by}
 

@@ -15,9 +15,9 @@ use Rattle.nic_device.specs.Access.{named_written}
 use Rattle.nic_device.specs.declared.event.Event.TheVariants as event
 use Rattle.nic_device.specs.declared.event.Port.{Port}
 use Rattle.nic_device.specs.declared.event.Reply.TheVariants as reply
-use Rattle.left_laws.specs.DeviceLaws.Laws.{WritesNoSetting}
-use Rattle.left_laws.proofs.Naming.{plain-write}
-use Rattle.left_laws.proofs.Tails.{transmit-tail}
+use Rattle.history_laws.specs.DeviceLaws.Laws.{WritesNoSetting}
+use Rattle.history_laws.proofs.SideNames.{plain-write}
+use Rattle.history_laws.proofs.Tails.{transmit-tail}
 use Rattle.pmd_tx.specs.Sending.{Sender, Move, Advances, IsOwn, packet_at, slot_at, descriptor_at, moved, advanced}
 use Rattle.transmit_laws.specs.Agreeing.{IsBased, IsPosted, AgreesAt, Agrees}
 use Rattle.transmit_laws.specs.Up.{IsUp}

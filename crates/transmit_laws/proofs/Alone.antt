@@ -7,7 +7,7 @@ use Rattle.nic_device.specs.declared.event.Event.{Event}
 use Rattle.device_lock.specs.Alone.{Blocks}
 use Rattle.device_lock.specs.History.{IsLegal}
 use Rattle.device_lock.specs.declared.alone.Watched.{Watched}
-use Rattle.left_laws.proofs.DeviceLaws.Standing.{stays_within}
+use Rattle.history_laws.proofs.DeviceLaws.Standing.{stays_within}
 use Rattle.pmd_tx.specs.Sending.{Sender, Move, Accepts, Asks, Advances, Looks, Reaps, Elsewhere, has_lent}
 use Rattle.transmit_laws.specs.Agreeing.{Agrees}
 use Rattle.transmit_laws.specs.Alone.{IsAlone, LendsOneOf, MayMoveAlone, MayComeAlone, MayRunAlone}

@@ -7,10 +7,10 @@ use Rattle.nic_device.specs.State.{State}
 use Rattle.nic_device.specs.Step.{after}
 use Rattle.nic_device.specs.declared.event.Event.{Event}
 use Rattle.nic_device.proofs.Steps.{keeps_sound}
-use Rattle.left_laws.specs.DeviceLaws.Laws.{WritesNoSetting}
-use Rattle.left_laws.proofs.DeviceLaws.KeptSettings.{settings_stand}
-use Rattle.left_laws.proofs.DeviceLaws.Standing.{stays_within}
-use Rattle.left_laws.proofs.Naming.{named-same}
+use Rattle.history_laws.specs.DeviceLaws.Laws.{WritesNoSetting}
+use Rattle.history_laws.proofs.DeviceLaws.KeptSettings.{settings_stand}
+use Rattle.history_laws.proofs.DeviceLaws.Standing.{stays_within}
+use Rattle.history_laws.proofs.SideNames.{named-same}
 use Rattle.pmd_tx.specs.Sending.{Layout, Sender, Move, moved}
 use Rattle.transmit_laws.specs.Agreeing.{IsBased, Agrees}
 

@@ -11,11 +11,11 @@ use Rattle.nic_device.specs.declared.event.Reply.TheVariants.{Sent}
 use Rattle.nic_device.proofs.Cases.{either_way}
 use Rattle.device_lock.specs.declared.entry.Entry.{Entry}
 use Rattle.device_lock.specs.History.{leads_to}
-use Rattle.left_laws.specs.DeviceLaws.Replies.{out_sent}
-use Rattle.left_laws.proofs.DeviceLaws.RepliesOut.{frames_out}
+use Rattle.history_laws.specs.DeviceLaws.Replies.{out_sent}
+use Rattle.history_laws.proofs.DeviceLaws.RepliesOut.{frames_out}
 use Rattle.transmit_laws.specs.Counting.{NeverGoesOn, IsEndOf, SentIsCounted}
 use Rattle.transmit_laws.specs.Sent.{frames_added, sent_by, sent_in, goes_on, counted_by, sent_since}
-use Rattle.left_laws.proofs.Fetching.{added-none}
+use Rattle.history_laws.proofs.Fetching.{added-none}
 use Rattle.transmit_laws.proofs.Frames.{added-one}
 
 -- one history after the other

@@ -8,10 +8,10 @@ use Rattle.nic_device.specs.RegisterFile.Columns.{place}
 use Rattle.nic_device.specs.RegisterLaws.Sides.{transmit_queue_of}
 use Rattle.nic_device.specs.Step.{after}
 use Rattle.nic_device.specs.declared.event.Event.TheVariants as event
-use Rattle.left_laws.proofs.DeviceLaws.StandingAccesses.{write_memory}
-use Rattle.left_laws.specs.Sides.{Side}
-use Rattle.left_laws.proofs.Asking.{asked}
-use Rattle.left_laws.proofs.Naming.{plain-write}
+use Rattle.history_laws.proofs.DeviceLaws.StandingAccesses.{write_memory}
+use Rattle.history_laws.specs.Sides.{Side}
+use Rattle.history_laws.proofs.Asking.{asked}
+use Rattle.history_laws.proofs.SideNames.{plain-write}
 use Rattle.transmit_laws.specs.Enable.{EnableWordsKeep}
 use Rattle.transmit_laws.proofs.Sparing.{set_up-same, still-agrees}
 

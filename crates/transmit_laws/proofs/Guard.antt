@@ -1,8 +1,8 @@
 -- What a driver does by the enable word: it asks for the side to be on or off, and sees the side off.
 use Rattle.std.proofs.Common.{ap, ◌∙◌}
 use Rattle.nic_device.specs.DmaRing.declared.dir.Dir.TheVariants.{Tx}
-use Rattle.left_laws.specs.Sides.{Side}
-use Rattle.left_laws.proofs.Asking.{asked, seen_off}
+use Rattle.history_laws.specs.Sides.{Side}
+use Rattle.history_laws.proofs.Asking.{asked, seen_off}
 use Rattle.transmit_laws.specs.Off.{GuardIsOff}
 
 pub guard_is_off : GuardIsOff

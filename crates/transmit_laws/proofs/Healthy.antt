@@ -10,7 +10,7 @@ use Rattle.nic_device.specs.State.{State}
 use Rattle.nic_device.specs.Step.{reply_to}
 use Rattle.nic_device.specs.declared.event.Event.{Event}
 use Rattle.nic_device.specs.declared.event.Event.TheVariants as event
-use Rattle.left_laws.proofs.HistoryLaws.Calls.{anew_is_done, taken_is, poked_is}
+use Rattle.history_laws.proofs.Calls.{anew_is_done, taken_is, poked_is}
 use Rattle.pmd_tx.specs.Sending.{Sender, Move, Accepts, Asks, Advances, Looks, Reaps, Elsewhere, IsOwn, packet_at, descriptor_at, asking, is_healthy}
 use Rattle.transmit_laws.specs.Agreeing.{AgreesAt}
 use Rattle.transmit_laws.specs.Healthy.{AcceptsAnew, OwnRepliesAreHealthy}

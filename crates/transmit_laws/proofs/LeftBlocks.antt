@@ -12,13 +12,13 @@ use Rattle.nic_device.specs.declared.event.Reply.{Reply}
 use Rattle.nic_device.specs.declared.event.Reply.TheVariants.{Wrote}
 use Rattle.device_lock.specs.Alone.{Blocks, WritesOutside}
 use Rattle.device_lock.specs.declared.alone.Watched.{Watched}
-use Rattle.left_laws.specs.DeviceLaws.Leaving.{LeavesBlock, ReceivesOutside}
-use Rattle.left_laws.proofs.DeviceLaws.StandingQueues.{receiving_blocks}
-use Rattle.left_laws.specs.Left.{is_step_of}
-use Rattle.left_laws.proofs.Blocks.{clear_avoids, left-block}
-use Rattle.left_laws.proofs.Deeds.{received-none, silent_else}
-use Rattle.left_laws.proofs.Leaving.{left-setting, left-side, step_is}
-use Rattle.left_laws.proofs.Sides.{left_transmit}
+use Rattle.history_laws.specs.DeviceLaws.Leaving.{LeavesBlock, ReceivesOutside}
+use Rattle.history_laws.proofs.DeviceLaws.StandingQueues.{receiving_blocks}
+use Rattle.history_laws.specs.Left.{is_step_of}
+use Rattle.history_laws.proofs.Blocks.{clear_avoids, left-block}
+use Rattle.history_laws.proofs.Deeds.{received-none, silent_else}
+use Rattle.history_laws.proofs.Leaving.{left-setting, left-side, step_is}
+use Rattle.history_laws.proofs.Sides.{left_transmit}
 use Rattle.pmd_tx.specs.Sending.{Sender, has_lent}
 use Rattle.transmit_laws.specs.Laws.{LeftAloneIsSpared}
 use Rattle.transmit_laws.specs.Sparing.{IsLeft, is_transmit_of, ReceiveOwes}

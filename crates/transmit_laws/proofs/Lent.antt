@@ -10,9 +10,9 @@ use Rattle.nic_device.specs.declared.event.Event.{Event}
 use Rattle.nic_device.specs.declared.event.Event.TheVariants as event
 use Rattle.nic_device.specs.declared.event.Reply.{Reply}
 use Rattle.nic_device.specs.declared.event.Reply.TheVariants as reply
-use Rattle.left_laws.specs.HistoryLaws.Lent.{OnlyLent, LendsNone, LendsOwn, either}
-use Rattle.left_laws.proofs.HistoryLaws.Lent.{only_lent_stays}
-use Rattle.left_laws.proofs.Lent.{KeepsTaken, lend_known, still_known, take_known}
+use Rattle.history_laws.specs.Lent.{OnlyLent, LendsNone, LendsOwn, either}
+use Rattle.history_laws.proofs.Lent.{only_lent_stays}
+use Rattle.history_laws.proofs.HalfLent.{KeepsTaken, lend_known, still_known, take_known}
 use Rattle.pmd_tx.specs.Sending.{Sender, Move, Accepts, Asks, Advances, Looks, Reaps, Elsewhere, IsOwn, packet_at, has_lent, moved}
 use Rattle.transmit_laws.specs.Healthy.{AcceptsAnew}
 use Rattle.transmit_laws.specs.Lent.{SparesNumbers, OwnLendsAreKnown}

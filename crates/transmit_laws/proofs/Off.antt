@@ -7,11 +7,11 @@ use Rattle.nic_device.specs.Step.{after}
 use Rattle.nic_device.specs.declared.event.Event.{Event}
 use Rattle.device_lock.specs.History.{leads_to}
 use Rattle.device_lock.specs.declared.entry.Entry.{Entry}
-use Rattle.left_laws.specs.Left.{Deed}
-use Rattle.left_laws.specs.Sides as sides
-use Rattle.left_laws.proofs.Deeds.{side_did}
-use Rattle.left_laws.proofs.Sides.{transmit_left}
-use Rattle.left_laws.proofs.Steady.{idle_silent, off_idle, off_steady, steady_kept, unwanted_steady}
+use Rattle.history_laws.specs.Left.{Deed}
+use Rattle.history_laws.specs.Sides as sides
+use Rattle.history_laws.proofs.Deeds.{side_did}
+use Rattle.history_laws.proofs.Sides.{transmit_left}
+use Rattle.history_laws.proofs.Steady.{idle_silent, off_idle, off_steady, steady_kept, unwanted_steady}
 use Rattle.transmit_laws.specs.Off.{IsUnwanted, IsOff, LeavesSide, AllLeaveSide, OffStays}
 use Rattle.transmit_laws.specs.Sent.{sent_by, sent_in}
 

@@ -15,8 +15,8 @@ use Rattle.nic_device.specs.Transmit.{sending_of, staged_by, is_silent}
 use Rattle.nic_device.specs.declared.event.Event.{Event}
 use Rattle.nic_device.specs.declared.event.Event.TheVariants as event
 use Rattle.nic_device.specs.declared.event.Reply.TheVariants.{Sent}
-use Rattle.left_laws.specs.DeviceLaws.Replies.{sent_tells}
-use Rattle.left_laws.proofs.DeviceLaws.RepliesSent.{transmitting_tells}
+use Rattle.history_laws.specs.DeviceLaws.Replies.{sent_tells}
+use Rattle.history_laws.proofs.DeviceLaws.RepliesSent.{transmitting_tells}
 use Rattle.pmd_tx.specs.Sending.{Outgoing, Sender, no_packet, packet_at, slot_at}
 use Rattle.transmit_laws.specs.Agreeing.{IsBased, IsSetUp, IsCounted, AgreesAt, Agrees, bytes_of, kept_in}
 use Rattle.transmit_laws.specs.Sent.{frames_added}
@@ -27,8 +27,8 @@ use Rattle.transmit_laws.specs.Laws.{StepsOfQueueKeep}
 use Rattle.transmit_laws.proofs.Stepping.{slots, head_is, more, known, small, to_send}
 use Rattle.transmit_laws.proofs.Done.{shows-sent}
 use Rattle.transmit_laws.proofs.Fetching.{fetch-packet}
-use Rattle.left_laws.specs.Left.{Shuts}
-use Rattle.left_laws.proofs.Fetching.{added-none, idle, tried}
+use Rattle.history_laws.specs.Left.{Shuts}
+use Rattle.history_laws.proofs.Fetching.{added-none, idle, tried}
 use Rattle.transmit_laws.proofs.Frames.{sent_state, step-sends, added-one}
 
 module _ (s : State) (queue : ℕ) (sent : List (List ℕ)) (v : Sender) (f : ℕ) (h : AgreesAt s queue sent v f) where

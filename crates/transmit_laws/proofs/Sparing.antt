@@ -13,12 +13,12 @@ use Rattle.nic_device.specs.State.{State}
 use Rattle.nic_device.specs.Step.{after}
 use Rattle.nic_device.specs.Transmit.{staged_by}
 use Rattle.nic_device.specs.declared.event.Event.{Event}
-use Rattle.left_laws.specs.DeviceLaws.Laws.{WritesNoSetting}
-use Rattle.left_laws.specs.DeviceLaws.Leaving.{LeavesBlock}
-use Rattle.left_laws.specs.Left.{Deed, Took, Rested, SendsNone}
-use Rattle.left_laws.proofs.Deeds.{side_did}
-use Rattle.left_laws.proofs.Sides.{transmit_left}
-use Rattle.left_laws.proofs.Steady.{resting_same}
+use Rattle.history_laws.specs.DeviceLaws.Laws.{WritesNoSetting}
+use Rattle.history_laws.specs.DeviceLaws.Leaving.{LeavesBlock}
+use Rattle.history_laws.specs.Left.{Deed, Took, Rested, SendsNone}
+use Rattle.history_laws.proofs.Deeds.{side_did}
+use Rattle.history_laws.proofs.Sides.{transmit_left}
+use Rattle.history_laws.proofs.Steady.{resting_same}
 use Rattle.pmd_tx.specs.Sending.{Layout, Sender, has_lent}
 use Rattle.transmit_laws.specs.Agreeing.{IsSetUp, AgreesAt, Agrees}
 use Rattle.transmit_laws.specs.Laws.{SparingEventsKeep}

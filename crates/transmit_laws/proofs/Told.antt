@@ -15,11 +15,11 @@ use Rattle.nic_device.specs.declared.event.Reply.TheVariants.{Sent}
 use Rattle.nic_device.proofs.Answering.{step_suits}
 use Rattle.nic_device.proofs.Steps.{keeps_sound}
 use Rattle.device_lock.specs.declared.entry.Entry.{Entry}
-use Rattle.left_laws.specs.DeviceLaws.Replies.{out_sent}
-use Rattle.left_laws.proofs.DeviceLaws.RepliesOut.{frames_out}
+use Rattle.history_laws.specs.DeviceLaws.Replies.{out_sent}
+use Rattle.history_laws.proofs.DeviceLaws.RepliesOut.{frames_out}
 use Rattle.transmit_laws.specs.Counting.{lengths_told, SentIsTold}
 use Rattle.transmit_laws.specs.Sent.{frames_added, sent_by, sent_in}
-use Rattle.left_laws.proofs.Fetching.{added-none}
+use Rattle.history_laws.proofs.Fetching.{added-none}
 use Rattle.transmit_laws.proofs.Frames.{added-one}
 
 -- a step of transmitting

@@ -6,11 +6,11 @@ use Rattle.nic_device.specs.State.{State}
 use Rattle.nic_device.specs.Step.{after}
 use Rattle.nic_device.specs.declared.event.Event.{Event}
 use Rattle.nic_device.specs.declared.event.Event.TheVariants as event
-use Rattle.left_laws.specs.DeviceLaws.Leaving.{LeavesTransmit}
-use Rattle.left_laws.proofs.DeviceLaws.Standing.{memory_rest}
-use Rattle.left_laws.specs.Sides as sides
-use Rattle.left_laws.proofs.Sides.{transmit_left}
-use Rattle.left_laws.proofs.Steady.{up_kept}
+use Rattle.history_laws.specs.DeviceLaws.Leaving.{LeavesTransmit}
+use Rattle.history_laws.proofs.DeviceLaws.Standing.{memory_rest}
+use Rattle.history_laws.specs.Sides as sides
+use Rattle.history_laws.proofs.Sides.{transmit_left}
+use Rattle.history_laws.proofs.Steady.{up_kept}
 use Rattle.pmd_tx.specs.Sending.{Sender, Move, Accepts, Asks, Advances, Looks, Reaps, Elsewhere}
 use Rattle.transmit_laws.specs.Agreeing.{AgreesAt}
 use Rattle.transmit_laws.specs.Turns.{MayMove}

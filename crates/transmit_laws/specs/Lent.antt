@@ -5,7 +5,7 @@ use Rattle.device_lock.specs.Alone.{Blocks}
 use Rattle.nic_device.specs.State.{State}
 use Rattle.nic_device.specs.Step.{after, reply_to}
 use Rattle.nic_device.specs.declared.event.Event.{Event}
-use Rattle.left_laws.specs.HistoryLaws.Lent.{OnlyLent, LendsNone, LendsOwn, either}
+use Rattle.history_laws.specs.Lent.{OnlyLent, LendsNone, LendsOwn, either}
 use Rattle.pmd_tx.specs.Sending.{Sender, Move, Elsewhere, IsOwn, has_lent, moved}
 use Rattle.transmit_laws.specs.Healthy.{AcceptsAnew}
 

@@ -16,9 +16,9 @@ use Rattle.nic_device.specs.declared.event.Reply.TheVariants as reply
 use Rattle.nic_device.specs.declared.named.Named.TheVariants.{Register}
 use Rattle.device_lock.specs.History.{leads_to}
 use Rattle.device_lock.specs.declared.entry.Entry.{Entry}
-use Rattle.left_laws.specs.DeviceLaws.Leaving.{LeavesTransmit}
-use Rattle.left_laws.specs.Sides as sides
-use Rattle.left_laws.specs.Sides.{side_of}
+use Rattle.history_laws.specs.DeviceLaws.Leaving.{LeavesTransmit}
+use Rattle.history_laws.specs.Sides as sides
+use Rattle.history_laws.specs.Sides.{side_of}
 use Rattle.transmit_laws.specs.Sent.{sent_in}
 use Rattle.transmit_laws.specs.Sparing.{is_transmit_of, is_switch_of}
 

@@ -7,7 +7,7 @@ use Rattle.nic_device.specs.DmaRing.declared.dir.Dir.TheVariants.{Tx}
 use Rattle.nic_device.specs.State.{State}
 use Rattle.nic_device.specs.Step.{after}
 use Rattle.nic_device.specs.declared.event.Event.{Event}
-pub use Rattle.left_laws.specs.Segments.{frames_added, sent_by}
+pub use Rattle.history_laws.specs.Segments.{frames_added, sent_by}
 
 -- the frames that the entries of a history send on a queue, from a state on
 abbrev pub sent_in : ℕ → State → List Entry → List (List ℕ)

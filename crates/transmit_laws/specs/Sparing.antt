@@ -13,10 +13,10 @@ use Rattle.nic_device.specs.declared.event.Reply.{Reply}
 use Rattle.nic_device.specs.declared.event.Reply.TheVariants.{Wrote}
 use Rattle.device_lock.specs.Alone.{Blocks, LeavesRegisters, LeavesBlocks, WritesOutside}
 use Rattle.device_lock.specs.declared.alone.Watched.{Watched}
-use Rattle.left_laws.specs.DeviceLaws.Laws.{WritesNoSetting}
-use Rattle.left_laws.specs.DeviceLaws.Leaving.{LeavesTransmit, LeavesBlock}
-use Rattle.left_laws.specs.Left as left
-use Rattle.left_laws.specs.Left.{is_step_of}
+use Rattle.history_laws.specs.DeviceLaws.Laws.{WritesNoSetting}
+use Rattle.history_laws.specs.DeviceLaws.Leaving.{LeavesTransmit, LeavesBlock}
+use Rattle.history_laws.specs.Left as left
+use Rattle.history_laws.specs.Left.{is_step_of}
 use Rattle.pmd_tx.specs.Sending.{Sender, has_lent}
 
 -- whether an event is a step of transmitting of this queue, and whether it is one of its transmit side's enable

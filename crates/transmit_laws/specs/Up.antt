@@ -5,8 +5,8 @@ use Rattle.nic_device.specs.DmaRing.declared.dir.Dir.TheVariants.{Tx}
 use Rattle.nic_device.specs.State.{State}
 use Rattle.nic_device.specs.Step.{after}
 use Rattle.nic_device.specs.declared.event.Event.{Event}
-use Rattle.left_laws.specs.Sides as sides
-use Rattle.left_laws.specs.Sides.{side_of}
+use Rattle.history_laws.specs.Sides as sides
+use Rattle.history_laws.specs.Sides.{side_of}
 use Rattle.pmd_tx.specs.Sending.{Sender, Move}
 use Rattle.transmit_laws.specs.Agreeing.{Agrees}
 use Rattle.transmit_laws.specs.Turns.{MayMove}

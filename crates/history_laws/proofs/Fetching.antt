@@ -20,9 +20,9 @@ use Rattle.nic_device.specs.declared.event.Reply.{Reply}
 use Rattle.nic_device.specs.declared.event.Reply.TheVariants.{Idle, Fault}
 use Rattle.history_laws.specs.DeviceLaws.Replies.{TookTransmit, sent_tells}
 use Rattle.history_laws.proofs.DeviceLaws.RepliesSent.{transmitting_tells}
-use Rattle.left_laws.specs.Left.{Deed, Took, Rested, Nothing, Shut, SendsNone, fetch_on}
-use Rattle.left_laws.specs.Segments.{frames_added}
-use Rattle.left_laws.specs.Sides.{IsTried, side_of, transmit_side}
+use Rattle.history_laws.specs.Left.{Deed, Took, Rested, Nothing, Shut, SendsNone, fetch_on}
+use Rattle.history_laws.specs.Segments.{frames_added}
+use Rattle.history_laws.specs.Sides.{IsTried, side_of, transmit_side}
 
 pub added-none : (out : List (ℕ × List ℕ)) → frames_added out out ≡ []
 added-none out = ap (map (λ (f : ℕ × List ℕ). f.1)) (drop_all (length out) out (omega arith))

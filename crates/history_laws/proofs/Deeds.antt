@@ -12,13 +12,13 @@ use Rattle.device_lock.specs.Alone.{Blocks}
 use Rattle.device_lock.specs.declared.alone.Watched.{Watched}
 use Rattle.history_laws.proofs.DeviceLaws.KeptSettings.{settings_stand}
 use Rattle.history_laws.proofs.DeviceLaws.Standing.{stays_within}
-use Rattle.left_laws.specs.Left.{Deed, Rested, Nothing, IsLeft, IsSilent, LeftDid, SidesDo, is_step_of, is_switch_of}
-use Rattle.left_laws.specs.Segments.{pieces, sent_by}
-use Rattle.left_laws.proofs.Blocks.{left-block}
-use Rattle.left_laws.proofs.Fetching.{transmitting_did}
-use Rattle.left_laws.proofs.Filling.{receiving_did}
-use Rattle.left_laws.proofs.Leaving.{left-setting, left-side, step_event, step_is, switch_is}
-use Rattle.left_laws.proofs.Switching.{switching_did}
+use Rattle.history_laws.specs.Left.{Deed, Rested, Nothing, IsLeft, IsSilent, LeftDid, SidesDo, is_step_of, is_switch_of}
+use Rattle.history_laws.specs.Segments.{pieces, sent_by}
+use Rattle.history_laws.proofs.Blocks.{left-block}
+use Rattle.history_laws.proofs.Fetching.{transmitting_did}
+use Rattle.history_laws.proofs.Filling.{receiving_did}
+use Rattle.history_laws.proofs.Leaving.{left-setting, left-side, step_event, step_is, switch_is}
+use Rattle.history_laws.proofs.Switching.{switching_did}
 
 -- an event that is no step of a side receives or sends nothing
 

@@ -21,7 +21,7 @@ use Rattle.nic_device.specs.declared.event.Reply.TheVariants.{Wrote}
 use Rattle.nic_device.proofs.QueueCases.{received_cases}
 use Rattle.history_laws.specs.DeviceLaws.Leaving.{LeavesBlock, ReceivesOutside}
 use Rattle.history_laws.proofs.DeviceLaws.StandingQueues.{receiving_blocks}
-use Rattle.left_laws.specs.Left.{IsOutside}
+use Rattle.history_laws.specs.Left.{IsOutside}
 
 -- what a reply says was received is outside a block
 abbrev pub IsSparedBy : Reply Block → ℕ → Type 0

@@ -5,7 +5,7 @@ use Rattle.nic_device.specs.DmaRing.declared.dir.Dir.TheVariants.{Rx, Tx}
 use Rattle.nic_device.specs.RegisterLaws.Sides.{ReceiveQueue, TransmitQueue}
 use Rattle.nic_device.specs.State.{State}
 use Rattle.history_laws.specs.DeviceLaws.Leaving.{LeavesReceive, LeavesTransmit, LeavesQueues}
-use Rattle.left_laws.specs.Sides.{LeavesSide, Side, receive_side, transmit_side}
+use Rattle.history_laws.specs.Sides.{LeavesSide, Side, receive_side, transmit_side}
 
 -- what a side is among those of its direction
 abbrev pub receive_of : Side → ReceiveQueue

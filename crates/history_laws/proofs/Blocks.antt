@@ -26,9 +26,9 @@ use Rattle.history_laws.proofs.DeviceLaws.Standing.{memory_blocks, stays_within}
 use Rattle.history_laws.proofs.DeviceLaws.StandingAccesses.{read_rest, write_memory}
 use Rattle.history_laws.proofs.DeviceLaws.StandingQueues.{transmitting_blocks, switching_rest}
 use Rattle.history_laws.proofs.Reported.{reports_lie}
-use Rattle.left_laws.specs.Left.{IsOutside, SendsNone}
-use Rattle.left_laws.specs.Segments.{pieces, pieces_told}
-use Rattle.left_laws.proofs.Spared.{IsSparedBy, spared_block}
+use Rattle.history_laws.specs.Left.{IsOutside, SendsNone}
+use Rattle.history_laws.specs.Segments.{pieces, pieces_told}
+use Rattle.history_laws.proofs.Spared.{IsSparedBy, spared_block}
 
 -- a block that is one of these and one that is none
 pub not_mine : (mine : Blocks) (b n : ℕ) → IsFalse (mine n) → IsTrue (mine b) → b ≢ n

@@ -24,8 +24,8 @@ use Rattle.nic_device.specs.declared.event.Reply.TheVariants.{Wrote}
 use Rattle.device_lock.specs.Alone.{Blocks, LeavesRegisters, LeavesBlocks, WritesOutside}
 use Rattle.device_lock.specs.declared.alone.Watched.{Watched}
 use Rattle.history_laws.specs.DeviceLaws.Leaving.{LeavesBlock, LeavesMemory}
-use Rattle.left_laws.specs.Segments.{piece_in, pieces, sent_by}
-use Rattle.left_laws.specs.Sides.{IsTried, LeavesSide, as_wanted, shut, side_of, taken}
+use Rattle.history_laws.specs.Segments.{piece_in, pieces, sent_by}
+use Rattle.history_laws.specs.Sides.{IsTried, LeavesSide, as_wanted, shut, side_of, taken}
 
 -- an event that leaves a queue and these blocks alone, by the clauses by which a closed history is judged, made on a
 -- sound device

@@ -26,10 +26,10 @@ use Rattle.history_laws.specs.DeviceLaws.Replies.{moved_on, received_tells}
 use Rattle.history_laws.proofs.DeviceLaws.RepliesReceived.{receiving_tells}
 use Rattle.history_laws.proofs.DeviceLaws.StandingQueues.{receiving_rest}
 use Rattle.history_laws.proofs.Slotless.{slotless_stands}
-use Rattle.left_laws.specs.Left.{Deed, Took, Rested, Nothing, Shut, IsFirst, fill_on}
-use Rattle.left_laws.specs.Segments.{Piece, first_of, piece_in, pieces_told}
-use Rattle.left_laws.specs.Sides.{IsTried, receive_side, side_of}
-use Rattle.left_laws.proofs.Sides.{receive_left}
+use Rattle.history_laws.specs.Left.{Deed, Took, Rested, Nothing, Shut, IsFirst, fill_on}
+use Rattle.history_laws.specs.Segments.{Piece, first_of, piece_in, pieces_told}
+use Rattle.history_laws.specs.Sides.{IsTried, receive_side, side_of}
+use Rattle.history_laws.proofs.Sides.{receive_left}
 
 record Receives (P : Outcome → Type 0) (s : State) : Type 0 where
   idle : P (gives Idle s)

@@ -16,8 +16,8 @@ use Rattle.nic_device.specs.Switching.{emptied, side_switched}
 use Rattle.nic_device.specs.Transmit.{staged_by}
 use Rattle.nic_device.specs.declared.event.Event.TheVariants as event
 use Rattle.nic_device.proofs.Cases.{switched_cases}
-use Rattle.left_laws.specs.Left.{Rests, Nothing, Switched}
-use Rattle.left_laws.specs.Sides.{Side, as_wanted, receive_side, side_of, transmit_side}
+use Rattle.history_laws.specs.Left.{Rests, Nothing, Switched}
+use Rattle.history_laws.specs.Sides.{Side, as_wanted, receive_side, side_of, transmit_side}
 
 -- a side that is as it is wanted, with what it has staged then
 with_staged : (x : Side) (b : Bool) (staged : List ℕ) → x.wanted ≡ b → staged ≡ cond b x.staged []

@@ -23,9 +23,9 @@ use Rattle.history_laws.proofs.DeviceLaws.StandingQueues.{receiving_rest, transm
 use Rattle.history_laws.proofs.DeviceLaws.StandingRest.{arrival_rest, message_rest, eeprom_rest, link_rest, collecting_rest}
 use Rattle.history_laws.proofs.Naming.{place_in, place_named}
 use Rattle.history_laws.proofs.Sparing.{LeavesSides, no_setting, spared_written, stray_written}
-use Rattle.left_laws.specs.Left.{is_step_of, is_switch_of}
-use Rattle.left_laws.specs.Sides.{LeavesSide}
-use Rattle.left_laws.proofs.Sides.{queues_left, receive_left, transmit_left}
+use Rattle.history_laws.specs.Left.{is_step_of, is_switch_of}
+use Rattle.history_laws.specs.Sides.{LeavesSide}
+use Rattle.history_laws.proofs.Sides.{queues_left, receive_left, transmit_left}
 
 -- which events are steps of a side
 

@@ -7,8 +7,8 @@ use Rattle.nic_device.specs.DmaRing.declared.dir.Dir.{Dir}
 use Rattle.nic_device.specs.State.{State}
 use Rattle.nic_device.specs.Step.{after}
 use Rattle.nic_device.specs.declared.event.Event.{Event}
-use Rattle.left_laws.specs.Left.{Deed, Took, Rested, IsSilent, Rests, Nothing, Shut, Switched, Shuts}
-use Rattle.left_laws.specs.Sides.{IsOff, IsTried, IsUnwanted, IsUp, Side, as_wanted, shut, side_of, taken}
+use Rattle.history_laws.specs.Left.{Deed, Took, Rested, IsSilent, Rests, Nothing, Shut, Switched, Shuts}
+use Rattle.history_laws.specs.Sides.{IsOff, IsTried, IsUnwanted, IsUp, Side, as_wanted, shut, side_of, taken}
 
 -- it stays as the side's slot is taken, as the side is shut, and as it becomes what it is wanted to be
 pub record IsSteady (P : Side → Type 0) : Type 0 where

@@ -23,9 +23,9 @@ use Rattle.nic_device.specs.declared.event.Port.{Port}
 use Rattle.nic_device.specs.declared.event.Reply.TheVariants.{Word}
 use Rattle.nic_device.specs.declared.named.Named.TheVariants.{Register}
 use Rattle.history_laws.proofs.DeviceLaws.StandingAccesses.{read_rest, write_rest}
-use Rattle.left_laws.specs.Sides.{IsOff, IsUnwanted, LeavesSide, receive_side, side_of, transmit_side}
-use Rattle.left_laws.proofs.Sides.{queues_left, receive_left, transmit_left}
-use Rattle.left_laws.proofs.Steady.{IsSettled, Settles, asked_settles, same_settles}
+use Rattle.history_laws.specs.Sides.{IsOff, IsUnwanted, LeavesSide, receive_side, side_of, transmit_side}
+use Rattle.history_laws.proofs.Sides.{queues_left, receive_left, transmit_left}
+use Rattle.history_laws.proofs.Steady.{IsSettled, Settles, asked_settles, same_settles}
 
 -- a number of a port names the enable register of a side, with all its bits
 abbrev pub NamesEnable : Dir → ℕ → State → Port → ℕ → Type 0

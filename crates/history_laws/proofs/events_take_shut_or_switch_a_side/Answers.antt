@@ -1,0 +1,5 @@
+use Rattle.history_laws.proofs.Deeds.{left_did, side_did}
+use Rattle.history_laws.proofs.events_take_shut_or_switch_a_side.Goals as goal
+
+pub returns : goal.returns
+returns c = record { left = left_did; side = side_did }

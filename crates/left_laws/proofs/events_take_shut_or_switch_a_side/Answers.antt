@@ -1,5 +1,0 @@
-use Rattle.left_laws.proofs.Deeds.{left_did, side_did}
-use Rattle.left_laws.proofs.events_take_shut_or_switch_a_side.Goals as goal
-
-pub returns : goal.returns
-returns c = record { left = left_did; side = side_did }

@@ -10,8 +10,8 @@ use crate::scripts::answer;
 use crate::texts::hex_in;
 use std::{fs, io};
 
-/// The runs that print what stands in `NAME.out`: the name, the words, the kind of the file that is read, and the status
-/// that the run ends with.
+/// The runs that print what stands in `NAME.out`: the name, the words, the kind of the file that is read, and the
+/// status that the run ends with.
 const RUNS: [(&str, &str, &str, u8); 11] = [
     ("first", "nicbench run", "nic", 0),
     ("masks", "nicbench run", "nic", 0),

@@ -20,8 +20,8 @@ pub fn answer(alloc: Global, call: Call<'_>) -> Result<String, AllocError> {
     }
 }
 
-/// Of a frame the version of IP, the protocol with ports, and how many bytes can be hashed; or these bytes; or by a word
-/// of MRQC the RSS type, and how many bytes are hashed.
+/// Of a frame the version of IP, the protocol with ports, and how many bytes can be hashed; or these bytes; or by a
+/// word of MRQC the RSS type, and how many bytes are hashed.
 fn frame_text(alloc: Global, call: Call<'_>, frame: &str) -> Result<String, AllocError> {
     let frame = hex_in(alloc, frame)?;
     let flow = classify(frame.as_slice());

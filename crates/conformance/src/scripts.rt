@@ -89,8 +89,8 @@ fn case_of(text: &str) -> Option<Case<'_>> {
     })
 }
 
-/// What a script prints: the lines that its comments promise, each with its instruction's number, and then what the case
-/// says.
+/// What a script prints: the lines that its comments promise, each with its instruction's number, and then what the
+/// case says.
 fn wanted(alloc: Global, script: &str, case: Case<'_>) -> Result<String, AllocError> {
     let mut printed = String::new(alloc);
     let mut count = 0u64;

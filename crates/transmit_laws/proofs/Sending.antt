@@ -110,7 +110,9 @@ module _ (s : State) (queue : ℕ) (sent : List (List ℕ)) (v : Sender) (f : �
   transmit-keeps =
       let own : (queue == queue) ≡ true = eq-eqb queue queue refl in
       elim (cases_Bool (is_silent s queue side)) [
-        | inl silent ↦ subst After (sym (idle queue s h.based.sound h.based.small silent)) (rw (own, added-none s.out, append-nil sent) (f, h))
+        | inl silent ↦
+            subst After (sym (idle queue s h.based.sound h.based.small silent))
+            (rw (own, added-none s.out, append-nil sent) (f, h))
         | inr loud ↦
             let posted = more s queue sent v f h (tried queue s h.based.sound h.based.small loud).some in
             subst After (sym (sends loud posted))

@@ -59,11 +59,11 @@ pub struct Begun {
 pub fn begin_on<R: Abort>(rt: &R, alloc: Global, setup: &Setup) -> Begun {
     let mut history = Vec::new(alloc);
     let (device, calls) = set_up(rt, alloc, 64, 0, setup).finish();
-    add_calls(rt, &mut history, OTHERS, calls);
+    add_calls(rt, &mut history, OTHERS, done(rt, calls.into_vec(alloc)));
     let mut direct = Direct::new(alloc, device, 0);
     let pmd = started(rt, alloc, &mut direct);
     let (device, calls) = direct.finish();
-    add_calls(rt, &mut history, DRIVER, calls);
+    add_calls(rt, &mut history, DRIVER, done(rt, calls.into_vec(alloc)));
     let receive_ring = some(rt, device.peek_register(0x01000));
     let transmit_ring = some(rt, device.peek_register(0x06000));
     Begun {

@@ -137,7 +137,7 @@ fn a_foreign_tail_switches_the_queue_off(rt: HostRuntime) {
         foreign,
         schedule,
     } = nic.finish();
-    assert_eq!(rt; calls.len(), 5);
+    assert_eq!(rt; calls.kept().0.len(), 5);
     last_is_a_fault(&rt, foreign);
     assert!(rt; schedule.is_empty());
     schedule.destroy_empty();

@@ -143,7 +143,7 @@ fn driven<R: Abort>(rt: &R, alloc: Global, others: &mut Others) -> Amid {
     let lists = others.lists(rt, alloc, 2500);
     let (device, calls) = opened(rt, alloc, 64, 0).finish();
     let mut history = Vec::new(alloc);
-    add_calls(rt, &mut history, OTHERS, calls);
+    add_calls(rt, &mut history, OTHERS, done(rt, calls.into_vec(alloc)));
     let mut nic = Interleaved::new(alloc, device, lists);
     let mut pmd = started(rt, alloc, &mut nic);
     drive(rt, alloc, &mut others.random, &mut nic, &mut pmd, 190);
@@ -222,7 +222,7 @@ fn among_events_of<R: Abort>(rt: &R, alloc: Global, seed: u32) -> usize {
     settle(rt, alloc, &mut others, &mut direct, &mut pmd);
     let home = done(rt, pmd.stop(alloc, &mut direct));
     let (device, later) = direct.finish();
-    add_calls(rt, &mut history, DRIVER, later);
+    add_calls(rt, &mut history, DRIVER, done(rt, later.into_vec(alloc)));
     assert!(rt; is_left_alone(history.as_slice()));
     let mut tally = Tally::new(alloc);
     tally.add_all(rt, history.as_slice());

@@ -91,7 +91,12 @@ pub fn finish<R: Abort>(rt: &R, alloc: Global, nic: Interleaved) -> Left {
         mut schedule,
     } = nic.finish();
     let mut history = Vec::new(alloc);
-    add_marked(rt, &mut history, marks.as_slice(), calls);
+    add_marked(
+        rt,
+        &mut history,
+        marks.as_slice(),
+        done(rt, calls.into_vec(alloc)),
+    );
     let mut bufs = Vec::new(alloc);
     let (foreign, lists) = (replies.len(), schedule.len());
     for _reply in 0..foreign {

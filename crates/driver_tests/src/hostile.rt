@@ -42,8 +42,8 @@ pub const WRITES: [(u32, u32, bool); 24] = [
     (0x04A80, 0, true),             // DMATXCTL, nothing is sent
 ];
 
-/// How others set the device up: with neither pools nor hashing; so that queue 0 is the virtual function's; so that each
-/// TCP segment over IPv4 is for queue 3, and each other frame for queue 0.
+/// How others set the device up: with neither pools nor hashing; so that queue 0 is the virtual function's; so that
+/// each TCP segment over IPv4 is for queue 3, and each other frame for queue 0.
 #[derive(Clone, Copy)]
 enum On {
     Plain,
@@ -152,7 +152,8 @@ const ROWS: [Row<'static>; 28] = [
     ("queue 3 reports a packet in its own slot", On::Plain, TWO,
         &[Lends(100, 2), Names(Ring, Buffer, ENDS), Sends(Ring, None, 1)], true, (What::Sent, Ring, Zero)),
     ("queue 3 reports a fetch in its block", On::Plain, TWO,
-        &[Lends(100, 2), Names(Ring, Buffer, GOES_ON), Sends(Ring, Some(Free), 1)], false, (What::Advanced, Free, Zero)),
+        &[Lends(100, 2), Names(Ring, Buffer, GOES_ON), Sends(Ring, Some(Free), 1)], false,
+        (What::Advanced, Free, Zero)),
     ("queue 3 reports a packet in its block", On::Plain, TWO,
         &[Lends(100, 2), Names(Ring, Buffer, ENDS), Sends(Ring, Some(Free), 1)], false, (What::Sent, Free, Zero)),
     ("queue 3 is laid over its transmit ring", On::Plain, TWO, &[Sends(Transmit, None, 7)], false,

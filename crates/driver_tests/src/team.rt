@@ -278,8 +278,8 @@ pub fn sent_in(rt: &impl Hand, history: &[Entry]) -> Sent {
     sent
 }
 
-/// Takes a device apart: what went out is what was told, and each block comes home. Answers how many arenas didn't close
-/// before that.
+/// Takes a device apart: what went out is what was told, and each block comes home. Answers how many arenas didn't
+/// close before that.
 pub fn apart(
     rt: &impl Hand,
     device: Device,

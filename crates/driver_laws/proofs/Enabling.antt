@@ -22,7 +22,7 @@ use Rattle.receive_laws.proofs.DeviceLaws.Standing.{stays_within}
 use Rattle.receive_laws.proofs.DeviceLaws.StandingAccesses.{write_memory, write_rest}
 use Rattle.receive_laws.specs.HistoryLaws.Sides.{Side}
 use Rattle.receive_laws.proofs.HistoryLaws.Asking.{asked}
-use Rattle.receive_laws.proofs.HistoryLaws.Naming.{plain-write}
+use Rattle.receive_laws.proofs.HistoryLaws.SideNames.{plain-write}
 use Rattle.receive_laws.specs.Pieces.{Piece}
 use Rattle.receive_laws.proofs.Each.{each_of}
 use Rattle.receive_laws.proofs.Leaving.{leaving_keeps, switching_keeps}

@@ -27,7 +27,7 @@ use Rattle.receive_laws.specs.Joint.{IsNamed, StageHolds, Holds}
 use Rattle.receive_laws.specs.Pieces.{Piece}
 use Rattle.receive_laws.specs.Steps.{Each}
 use Rattle.receive_laws.proofs.Kept.{slot_low}
-use Rattle.receive_laws.proofs.HistoryLaws.Naming.{plain-write}
+use Rattle.receive_laws.proofs.HistoryLaws.SideNames.{plain-write}
 use Rattle.receive_laws.proofs.Places.{slot_inside}
 use Rattle.transmit_laws.specs.Sparing.{Spares}
 use Rattle.driver_laws.proofs.Lending.{lend_leaves}

@@ -1,10 +1,8 @@
 //! A controller that is set up, a driver of its queue 0, and frames.
 
-use crate::outcome::done;
+use crate::outcome::{Hand, done, refused};
 use nic_device::{Arena, Config, Device, Event, LentMemory, Mode, Octets, Parts, Port, Reply};
-use std::alloc::Global;
-use std::process::Abort;
-use workers::{Direct, Home, Nic, Packet, Pmd, Setup, TxAnswer, pf_setup};
+use workers::{Direct, Home, Nic, Packet, Pmd, PmdFault, Setup, StopRefused, TxAnswer, pf_setup};
 
 /// Promiscuous, with neither pools nor hashing.
 pub const PLAIN: Setup = Setup {
@@ -15,37 +13,71 @@ pub const PLAIN: Setup = Setup {
     promiscuous: true,
 };
 
+/// Why a driver refuses a call: the same as its fault, with which it can be compared.
+#[derive(Clone, Copy, PartialEq, Eq)]
+pub enum Why {
+    BadSize,
+    ForeignBlock,
+    StartTimeout,
+    NoBuffer,
+    DeviceFault,
+    Call,
+}
+
+/// Why it does by this fault.
+pub fn reason(fault: &PmdFault) -> Why {
+    match fault {
+        PmdFault::BadSize => Why::BadSize,
+        PmdFault::ForeignBlock => Why::ForeignBlock,
+        PmdFault::StartTimeout => Why::StartTimeout,
+        PmdFault::NoBuffer => Why::NoBuffer,
+        PmdFault::DeviceFault => Why::DeviceFault,
+        PmdFault::Call(_) => Why::Call,
+    }
+}
+
+/// A frame of TCP over IPv4, of 60 bytes: from 02:00:00:00:00:02 to 02:00:00:00:00:01.
+pub const TCP_FRAME: [u8; 60] = [
+    0x02, 0x00, 0x00, 0x00, 0x00, 0x01, 0x02, 0x00, 0x00, 0x00, 0x00, 0x02, 0x08, 0x00, 0x45, 0x00,
+    0x00, 0x28, 0x00, 0x00, 0x00, 0x00, 0x40, 0x06, 0x00, 0x00, 0x42, 0x09, 0x95, 0xbb, 0xa1, 0x8e,
+    0x64, 0x50, 0x0a, 0xea, 0x06, 0xe6, 0x00, 0x00, 0x00, 0x00, 0x00, 0x00, 0x00, 0x00, 0x50, 0x10,
+    0x00, 0x00, 0x00, 0x00, 0x00, 0x00, 0x00, 0x00, 0x00, 0x00, 0x00, 0x00,
+];
+
 /// A promiscuous device with one virtual function, in whose list so many frames can wait. It steps on the queue of this
 /// number before each call.
-pub fn opened<R: Abort>(rt: &R, alloc: Global, fifo: u16, queue: u16) -> Direct {
-    set_up(rt, alloc, fifo, queue, &PLAIN)
+pub fn opened(rt: &impl Hand, fifo: u16, queue: u16) -> Direct {
+    set_up(rt, fifo, queue, &PLAIN)
 }
 
 /// The same, set up otherwise.
-pub fn set_up<R: Abort>(rt: &R, alloc: Global, fifo: u16, queue: u16, setup: &Setup) -> Direct {
+pub fn set_up(rt: &impl Hand, fifo: u16, queue: u16, setup: &Setup) -> Direct {
+    let alloc = rt.alloc();
     let device = done(rt, Device::new(alloc, Config { vfs: 1, fifo }));
     let mut direct = Direct::new(alloc, device, queue);
     done(rt, pf_setup(alloc, &mut direct, setup));
     direct
 }
 
-/// The same device in hand.
-pub fn device<R: Abort>(rt: &R, alloc: Global, fifo: u16) -> Device {
-    let (device, _calls) = opened(rt, alloc, fifo, 0).finish();
+/// The same device, which is stepped on another queue from here on.
+pub fn stepped_on(rt: &impl Hand, direct: Direct, queue: u16) -> Direct {
+    Direct::new(rt.alloc(), in_hand(direct), queue)
+}
+
+/// The device itself.
+pub fn in_hand(direct: Direct) -> Device {
+    let (device, _calls) = direct.finish();
     device
 }
 
 /// The blocks 4 to 35, all free.
-pub fn blocks<R: Abort>(rt: &R, alloc: Global) -> Arena {
-    done(rt, Arena::new(alloc, 4, 32))
+pub fn blocks(rt: &impl Hand) -> Arena {
+    done(rt, Arena::new(rt.alloc(), 4, 32))
 }
 
 /// A driver of queue 0 with rings of 8.
-pub fn started<R: Abort, N: Nic>(rt: &R, alloc: Global, nic: &mut N) -> Pmd {
-    done(
-        rt,
-        Pmd::start(alloc, nic, Port::Pf, 0, 8, blocks(rt, alloc)),
-    )
+pub fn started<N: Nic>(rt: &impl Hand, nic: &mut N) -> Pmd {
+    done(rt, Pmd::start(rt.alloc(), nic, Port::Pf, 0, 8, blocks(rt)))
 }
 
 /// Ends a device. Answers what was lent to it, and its frames out.
@@ -59,14 +91,14 @@ pub fn taken_apart(device: Device) -> (LentMemory, Vec<(u8, Octets)>) {
 }
 
 /// Ends a device to which nothing is lent. Answers its frames out.
-pub fn end<R: Abort>(rt: &R, device: Device) -> Vec<(u8, Octets)> {
+pub fn end(rt: &impl Hand, device: Device) -> Vec<(u8, Octets)> {
     let (memory, frames) = taken_apart(device);
     done(rt, memory.finish());
     frames
 }
 
 /// Sees that nothing is lost and all blocks are free. Answers how many packets were handed out and accepted.
-pub fn close<R: Abort>(rt: &R, home: Home) -> (usize, usize) {
+pub fn close(rt: &impl Hand, home: Home) -> (usize, usize) {
     let Home {
         arena,
         lost,
@@ -79,33 +111,38 @@ pub fn close<R: Abort>(rt: &R, home: Home) -> (usize, usize) {
 }
 
 /// Makes an event that the device just does.
-pub fn make<R: Abort, N: Nic>(rt: &R, alloc: Global, nic: &mut N, event: Event) {
-    match done(rt, nic.call(alloc, event)) {
+pub fn make<N: Nic>(rt: &impl Hand, nic: &mut N, event: Event) {
+    match done(rt, nic.call(rt.alloc(), event)) {
         Reply::Done => {}
         _other => panic!(rt; "not done"),
     }
 }
 
 /// Lets a frame arrive, which goes into the device's list.
-pub fn arrive<R: Abort, N: Nic>(rt: &R, alloc: Global, nic: &mut N, bytes: Vec<u8>) {
-    make(rt, alloc, nic, Event::Arrive(Octets::of(bytes)));
+pub fn arrive<N: Nic>(rt: &impl Hand, nic: &mut N, bytes: Vec<u8>) {
+    make(rt, nic, Event::Arrive(Octets::of(bytes)));
 }
 
 /// The frame of this number, of 60 to 315 bytes, with the number in front.
-pub fn frame_of<R: Abort>(rt: &R, alloc: Global, number: u16) -> Vec<u8> {
+pub fn frame_of(rt: &impl Hand, number: u16) -> Vec<u8> {
     let [low, high] = number.to_le_bytes();
-    let mut bytes = Vec::new(alloc);
+    let mut bytes = Vec::new(rt.alloc());
     let mut word = u32::from(number);
     for _word in 0..15 + low / 4 {
-        bytes
-            .extend_from_slice(&word.to_le_bytes())
-            .expect(rt, "memory");
+        done(rt, bytes.extend_from_slice(&word.to_le_bytes()));
         word = word.wrapping_mul(1_664_525).wrapping_add(1_013_904_223);
     }
     for _byte in 0..low % 4 {
-        bytes.push(high).expect(rt, "memory");
+        done(rt, bytes.push(high));
     }
     bytes
+}
+
+/// The frame of TCP with its port changed in its low byte, and so its hash.
+pub fn segment(rt: &impl Hand, number: u8) -> Vec<u8> {
+    let mut frame = TCP_FRAME;
+    frame[35] = number;
+    done(rt, Vec::from_array(rt.alloc(), frame))
 }
 
 /// Whether these are the packet's bytes.
@@ -115,29 +152,36 @@ pub fn has_bytes(packet: &Packet, frame: &[u8]) -> bool {
 }
 
 /// The next packet, where one waits.
-pub fn received<R: Abort, N: Nic>(
-    rt: &R,
-    alloc: Global,
-    nic: &mut N,
-    pmd: &mut Pmd,
-) -> Option<Packet> {
-    done(rt, pmd.rx(alloc, nic))
+pub fn received<N: Nic>(rt: &impl Hand, nic: &mut N, pmd: &mut Pmd) -> Option<Packet> {
+    done(rt, pmd.rx(rt.alloc(), nic))
 }
 
 /// Sends a packet that the ring has room for.
-pub fn send<R: Abort, N: Nic>(rt: &R, alloc: Global, nic: &mut N, pmd: &mut Pmd, packet: Packet) {
-    match done(rt, pmd.tx(alloc, nic, packet)) {
+pub fn send<N: Nic>(rt: &impl Hand, nic: &mut N, pmd: &mut Pmd, packet: Packet) {
+    match done(rt, pmd.tx(rt.alloc(), nic, packet)) {
         TxAnswer::Taken => {}
         TxAnswer::RingFull(_packet) => panic!(rt; "the ring is full"),
     }
 }
 
 /// Reaps until no packet is outstanding.
-pub fn reap<R: Abort, N: Nic>(rt: &R, alloc: Global, nic: &mut N, pmd: &mut Pmd) {
+pub fn reap<N: Nic>(rt: &impl Hand, nic: &mut N, pmd: &mut Pmd) {
     for _turn in 0..10 {
-        if done(rt, pmd.reap(alloc, nic)).idle {
+        if done(rt, pmd.reap(rt.alloc(), nic)).idle {
             return;
         }
     }
     panic!(rt; "packets stay outstanding");
+}
+
+/// Stops a driver, all of whose blocks come home. Answers how many packets were handed out and accepted.
+pub fn stop<N: Nic>(rt: &impl Hand, nic: &mut N, pmd: Pmd) -> (usize, usize) {
+    close(rt, done(rt, pmd.stop(rt.alloc(), nic)))
+}
+
+/// A driver whose queue doesn't go off when it is stopped, as nobody steps on it.
+pub fn stop_times_out<N: Nic>(rt: &impl Hand, nic: &mut N, pmd: Pmd) -> Pmd {
+    let StopRefused { fault, pmd } = refused(rt, pmd.stop(rt.alloc(), nic));
+    assert!(rt; reason(&fault) == Why::StartTimeout);
+    pmd
 }

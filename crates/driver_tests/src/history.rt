@@ -1,6 +1,6 @@
 //! The calls on a device in hand as a history: a driver of queue 0 made some of them, and others the rest.
 
-use std::process::Abort;
+use crate::outcome::{Hand, done};
 use workers::{Call, Entry, Watched, left_alone};
 
 /// The pass of the driver.
@@ -10,31 +10,23 @@ pub const DRIVER: u8 = 0;
 pub const OTHERS: u8 = 1;
 
 /// Puts a call behind a history.
-fn add_call<R: Abort>(rt: &R, history: &mut Vec<Entry>, pass: u8, call: Call) {
+fn add_call(rt: &impl Hand, history: &mut Vec<Entry>, pass: u8, call: Call) {
     let Call { event, reply } = call;
-    let entry = Entry { pass, event, reply };
-    history.push(entry).expect(rt, "memory");
+    done(rt, history.push(Entry { pass, event, reply }));
 }
 
 /// Puts calls of one pass behind a history.
-pub fn add_calls<R: Abort>(rt: &R, history: &mut Vec<Entry>, pass: u8, calls: Vec<Call>) {
+pub fn add_calls(rt: &impl Hand, history: &mut Vec<Entry>, pass: u8, calls: Vec<Call>) {
     for call in calls {
         add_call(rt, history, pass, call);
     }
 }
 
 /// Puts calls behind a history. The marked ones are the driver's.
-pub fn add_marked<R: Abort>(rt: &R, history: &mut Vec<Entry>, marks: &[bool], calls: Vec<Call>) {
+pub fn add_marked(rt: &impl Hand, history: &mut Vec<Entry>, marks: &[bool], calls: Vec<Call>) {
     for (call, is_own) in calls.into_iter().zip(marks.iter()) {
         let pass = if *is_own { DRIVER } else { OTHERS };
         add_call(rt, history, pass, call);
-    }
-}
-
-/// Puts entries behind a history.
-pub fn add_entries<R: Abort>(rt: &R, history: &mut Vec<Entry>, entries: Vec<Entry>) {
-    for entry in entries {
-        history.push(entry).expect(rt, "memory");
     }
 }
 

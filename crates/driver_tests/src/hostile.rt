@@ -1,12 +1,13 @@
 //! A driver whose queue others don't leave alone: nothing is promised of its packets, and it still comes to its end.
 
-use crate::bench::{PLAIN, frame_of, make, set_up, started, taken_apart};
-use crate::history::{DRIVER, OTHERS, add_calls, add_entries, is_left_alone};
-use crate::outcome::{done, some};
-use crate::schedule::{Left, Schedule, add, all_home, finish, listed, push, push_steps, take_all};
-use nic_device::{Arena, Buf, Device, Event, Mode, Octets, Port};
-use std::alloc::Global;
-use std::process::Abort;
+use crate::bench::{PLAIN, frame_of, in_hand, make, set_up, started, taken_apart};
+use crate::deeds::At::{self, Buffer, Free, Receive, Ring, Transmit, Zero};
+use crate::deeds::Deed::{self, Fills, Lends, Names, Receives, Sends, Takes, Writes};
+use crate::deeds::{Doing, Rings};
+use crate::history::{DRIVER, OTHERS, add_calls, is_left_alone};
+use crate::outcome::{Hand, done, some};
+use crate::schedule::{Left, Schedule, all_home, finish, push_steps, take_all};
+use nic_device::{Arena, Buf, Device, Event, Mode, Octets, Port, Reply};
 use workers::{
     Direct, Entry, Home, Interleaved, Nic, Packet, Pmd, Setup, StopRefused, TxAnswer, TxFault,
 };
@@ -41,61 +42,177 @@ pub const WRITES: [(u32, u32, bool); 24] = [
     (0x04A80, 0, true),             // DMATXCTL, nothing is sent
 ];
 
+/// How others set the device up: with neither pools nor hashing; so that queue 0 is the virtual function's; so that
+/// each TCP segment over IPv4 is for queue 3, and each other frame for queue 0.
+#[derive(Clone, Copy)]
+enum On {
+    Plain,
+    Pools,
+    Hashed,
+}
+
+impl On {
+    fn setup(self) -> Setup {
+        match self {
+            On::Plain => PLAIN,
+            On::Pools => Setup {
+                mode: Mode::Pools64,
+                ..PLAIN
+            },
+            On::Hashed => Setup {
+                mrqc: 0x0001_0001,
+                key: [0x6D; 40],
+                reta: [3; 128],
+                ..PLAIN
+            },
+        }
+    }
+}
+
+/// What the reply to a step of queue 3 tells that it wrote.
+#[derive(Clone, Copy, PartialEq, Eq)]
+enum What {
+    Nothing,
+    Frame,
+    Sent,
+    Advanced,
+}
+
+/// What that was, and where: a frame and its descriptor, or a report of what was sent or fetched.
+type Told<P> = (What, P, P);
+
+const NO_WRITE: Told<At> = (What::Nothing, Zero, Zero);
+
+/// What others do to a driver in its midst: by what name, on which device, with which blocks of theirs, as first and
+/// count, the deeds, whether the driver's queue is left alone, and what a step of queue 3 tells first.
+type Row<'a> = (&'a str, On, (u32, u32), &'a [Deed], bool, Told<At>);
+
+/// Blocks of the numbers of the driver's.
+const SAME: (u32, u32) = (4, 32);
+
+/// Two blocks, for a ring and a buffer.
+const TWO: (u32, u32) = (100, 2);
+
+/// Queue 0 is made a virtual function's.
+const POOLS: Deed = Writes(Port::Pf, 0x11050, 3);
+
+/// What the virtual function writes by its numbers: RDT, RXDCTL, and VFCTRL, a reset.
+const VF_RDT: Deed = Writes(Port::Vf(0), 0x1018, 5);
+
+const VF_RXDCTL: Deed = Writes(Port::Vf(0), 0x1028, 0);
+
+const VF_RESET: Deed = Writes(Port::Vf(0), 0x0000, 0x0400_0000);
+
+/// The pool is reset by PVFCTRL.
+const POOL_RESET: Deed = Writes(Port::Pf, 0x00300, 0x0400_0000);
+
+/// The function writes RDT of its queue 1.
+const OTHER_RDT: Deed = Writes(Port::Vf(0), 0x1058, 5);
+
+/// The second halves of descriptors: of a buffer for a frame, and of 60 bytes by which a packet goes on or ends.
+const FRAME: [u8; 8] = [0; 8];
+
+const GOES_ON: [u8; 8] = [0x3c, 0, 0x30, 0x2a, 0, 0, 0x0f, 0];
+
+const ENDS: [u8; 8] = [0x3c, 0, 0x30, 0x2b, 0, 0, 0x0f, 0];
+
+/// In the first rows others write registers, take and lend blocks and write descriptors. In the last, some step of
+/// queue 3 writes, in places into the driver's blocks: only its reply tells so, whoever makes it. The queue's ring may
+/// be in a block of the driver's, where all bytes are 0, and so name block 0; and it may be the driver's own.
+#[rattlefmt::skip]
+const ROWS: [Row<'static>; 28] = [
+    ("nothing is done", On::Plain, SAME, &[], true, NO_WRITE),
+    ("it becomes a function's, which writes RDT", On::Plain, SAME, &[POOLS, VF_RDT], false, NO_WRITE),
+    ("it becomes a function's, which writes RXDCTL", On::Plain, SAME, &[POOLS, VF_RXDCTL], false, NO_WRITE),
+    ("it becomes a function's, which is reset", On::Plain, SAME, &[POOLS, VF_RESET], false, NO_WRITE),
+    ("the function writes RDT", On::Pools, SAME, &[VF_RDT], false, NO_WRITE),
+    ("the function writes RXDCTL", On::Pools, SAME, &[VF_RXDCTL], false, NO_WRITE),
+    ("the function is reset", On::Pools, SAME, &[VF_RESET], false, NO_WRITE),
+    ("the pool is reset", On::Pools, SAME, &[POOL_RESET], false, NO_WRITE),
+    ("the function writes RDT of its other queue", On::Pools, SAME, &[OTHER_RDT], true, NO_WRITE),
+    ("the receive ring's block is taken", On::Plain, SAME, &[Takes(4, 1)], false, NO_WRITE),
+    ("the transmit ring's block is taken", On::Plain, SAME, &[Takes(5, 1)], false, NO_WRITE),
+    ("a posted block is taken", On::Plain, SAME, &[Takes(9, 1)], false, NO_WRITE),
+    ("all blocks are taken", On::Plain, SAME, &[Takes(4, 32)], false, NO_WRITE),
+    ("one of the receive ring's number is lent", On::Plain, SAME, &[Lends(4, 1)], false, NO_WRITE),
+    ("one of the transmit ring's number is lent", On::Plain, SAME, &[Lends(5, 1)], false, NO_WRITE),
+    ("one of a posted one's number is lent", On::Plain, SAME, &[Lends(9, 1)], false, NO_WRITE),
+    ("one of each number is lent", On::Plain, SAME, &[Lends(4, 32)], false, NO_WRITE),
+    ("descriptors of 0x00", On::Plain, SAME, &[Fills(Receive, 0x00), Fills(Transmit, 0x00)], false, NO_WRITE),
+    ("descriptors of 0x01", On::Plain, SAME, &[Fills(Receive, 0x01), Fills(Transmit, 0x01)], false, NO_WRITE),
+    ("descriptors of 0xFF", On::Plain, SAME, &[Fills(Receive, 0xFF), Fills(Transmit, 0xFF)], false, NO_WRITE),
+    ("a frame of queue 3 goes elsewhere", On::Hashed, TWO,
+        &[Lends(100, 2), Names(Ring, Buffer, FRAME), Receives(Ring)], true, (What::Frame, Buffer, Ring)),
+    ("a frame of queue 3 goes into its block", On::Hashed, TWO,
+        &[Lends(100, 2), Names(Ring, Free, FRAME), Receives(Ring)], false, (What::Frame, Free, Ring)),
+    ("a descriptor of queue 3 goes into its block", On::Hashed, (0, 1),
+        &[Lends(0, 1), Receives(Free)], false, (What::Frame, Zero, Free)),
+    ("queue 3 reports a fetch in its own slot", On::Plain, TWO,
+        &[Lends(100, 2), Names(Ring, Buffer, GOES_ON), Sends(Ring, None, 1)], true, (What::Advanced, Ring, Zero)),
+    ("queue 3 reports a packet in its own slot", On::Plain, TWO,
+        &[Lends(100, 2), Names(Ring, Buffer, ENDS), Sends(Ring, None, 1)], true, (What::Sent, Ring, Zero)),
+    ("queue 3 reports a fetch in its block", On::Plain, TWO,
+        &[Lends(100, 2), Names(Ring, Buffer, GOES_ON), Sends(Ring, Some(Free), 1)], false,
+        (What::Advanced, Free, Zero)),
+    ("queue 3 reports a packet in its block", On::Plain, TWO,
+        &[Lends(100, 2), Names(Ring, Buffer, ENDS), Sends(Ring, Some(Free), 1)], false, (What::Sent, Free, Zero)),
+    ("queue 3 is laid over its transmit ring", On::Plain, TWO, &[Sends(Transmit, None, 7)], false,
+        (What::Sent, Transmit, Zero)),
+];
+
 /// A device, a driver of its queue 0 that has started, where the driver's two rings are, and the history.
-pub struct Begun {
-    /// The device.
-    pub device: Device,
-    /// The driver.
-    pub pmd: Pmd,
-    /// The bus address of its receive ring.
-    pub receive_ring: u32,
-    /// The bus address of its transmit ring.
-    pub transmit_ring: u32,
-    /// What was made since the device was new.
-    pub history: Vec<Entry>,
+struct Begun {
+    device: Device,
+    pmd: Pmd,
+    rings: Rings,
+    history: Vec<Entry>,
 }
 
 /// A driver that starts while its queue is left alone, on a device that others set up.
-pub fn begin_on<R: Abort>(rt: &R, alloc: Global, setup: &Setup) -> Begun {
-    let mut history = Vec::new(alloc);
-    let (device, calls) = set_up(rt, alloc, 64, 0, setup).finish();
-    add_calls(rt, &mut history, OTHERS, done(rt, calls.into_vec(alloc)));
-    let mut direct = Direct::new(alloc, device, 0);
-    let pmd = started(rt, alloc, &mut direct);
+fn begin_on(rt: &impl Hand, setup: &Setup) -> Begun {
+    let mut history = Vec::new(rt.alloc());
+    let (device, calls) = set_up(rt, 64, 0, setup).finish();
+    add_calls(
+        rt,
+        &mut history,
+        OTHERS,
+        done(rt, calls.into_vec(rt.alloc())),
+    );
+    let mut direct = Direct::new(rt.alloc(), device, 0);
+    let pmd = started(rt, &mut direct);
     let (device, calls) = direct.finish();
-    add_calls(rt, &mut history, DRIVER, done(rt, calls.into_vec(alloc)));
-    let receive_ring = some(rt, device.peek_register(0x01000));
-    let transmit_ring = some(rt, device.peek_register(0x06000));
+    add_calls(
+        rt,
+        &mut history,
+        DRIVER,
+        done(rt, calls.into_vec(rt.alloc())),
+    );
+    let receive = some(rt, device.peek_register(0x01000));
+    let transmit = some(rt, device.peek_register(0x06000));
     Begun {
         device,
         pmd,
-        receive_ring,
-        transmit_ring,
+        rings: Rings(receive, transmit),
         history,
     }
 }
 
-/// The same with neither pools nor hashing.
-fn begin<R: Abort>(rt: &R, alloc: Global) -> Begun {
-    begin_on(rt, alloc, &PLAIN)
-}
-
 /// So many lists of the steps of queue 0, with a frame that arrives in each fifth.
-fn traffic<R: Abort>(rt: &R, alloc: Global, schedule: &mut Schedule, count: u16) {
+fn traffic(rt: &impl Hand, schedule: &mut Schedule, count: u16) {
     for number in 0..count {
-        let mut list = Vec::new(alloc);
+        let mut list = Vec::new(rt.alloc());
         push_steps(rt, &mut list);
         if number % 5 == 0 {
-            let frame = frame_of(rt, alloc, number);
-            push(rt, &mut list, Event::Arrive(Octets::of(frame)));
+            let frame = frame_of(rt, number);
+            done(rt, list.push(Event::Arrive(Octets::of(frame))));
         }
-        add(rt, schedule, list);
+        done(rt, schedule.push(list));
     }
 }
 
 /// Sends a packet. It is released where it comes back.
-pub fn offer<R: Abort, N: Nic>(rt: &R, alloc: Global, nic: &mut N, pmd: &mut Pmd, packet: Packet) {
-    match pmd.tx(alloc, nic, packet) {
+pub fn offer<N: Nic>(rt: &impl Hand, nic: &mut N, pmd: &mut Pmd, packet: Packet) {
+    match pmd.tx(rt.alloc(), nic, packet) {
         Ok(TxAnswer::Taken) => {}
         Ok(TxAnswer::RingFull(packet)) => done(rt, pmd.release(packet)),
         Err(TxFault { fault: _, packet }) => match packet {
@@ -106,89 +223,64 @@ pub fn offer<R: Abort, N: Nic>(rt: &R, alloc: Global, nic: &mut N, pmd: &mut Pmd
 }
 
 /// Thirty rounds, whatever the driver answers.
-fn drive<R: Abort, N: Nic>(rt: &R, alloc: Global, nic: &mut N, pmd: &mut Pmd) {
+fn drive<N: Nic>(rt: &impl Hand, nic: &mut N, pmd: &mut Pmd) {
     for _round in 0..30 {
-        match pmd.rx(alloc, nic) {
-            Ok(Some(packet)) => offer(rt, alloc, nic, pmd, packet),
+        match pmd.rx(rt.alloc(), nic) {
+            Ok(Some(packet)) => offer(rt, nic, pmd, packet),
             Ok(None) | Err(_) => {}
         }
         match pmd.packet(60) {
-            Some(packet) => offer(rt, alloc, nic, pmd, packet),
+            Some(packet) => offer(rt, nic, pmd, packet),
             None => {}
         }
-        let _answer = pmd.reap(alloc, nic);
+        let _answer = pmd.reap(rt.alloc(), nic);
     }
 }
 
-/// A driver in whose midst these events are made. It stops, and each of its blocks is home or counted as lost. Blocks
-/// that the events lend are of the second arena. Answers the history until the stop.
-pub fn endures<R: Abort>(
-    rt: &R,
-    alloc: Global,
-    begun: Begun,
-    list: Vec<Event>,
-    second: Arena,
-) -> Vec<Entry> {
+/// A driver in whose midst others do something. It stops, and each of its blocks is home or counted as lost. Answers
+/// the history until the stop.
+fn endures(rt: &impl Hand, begun: Begun, doing: Doing) -> Vec<Entry> {
     let Begun {
         device,
         mut pmd,
-        receive_ring: _,
-        transmit_ring: _,
+        rings: _,
         mut history,
     } = begun;
-    let mut schedule = Vec::new(alloc);
-    traffic(rt, alloc, &mut schedule, 40);
-    add(rt, &mut schedule, list);
-    traffic(rt, alloc, &mut schedule, 300);
-    let mut nic = Interleaved::new(alloc, device, schedule);
-    drive(rt, alloc, &mut nic, &mut pmd);
-    let stopped = pmd.stop(alloc, &mut nic);
+    let (list, second) = doing.finish();
+    let mut schedule = Vec::new(rt.alloc());
+    traffic(rt, &mut schedule, 40);
+    done(rt, schedule.push(list));
+    traffic(rt, &mut schedule, 300);
+    let mut nic = Interleaved::new(rt.alloc(), device, schedule);
+    drive(rt, &mut nic, &mut pmd);
+    let stopped = pmd.stop(rt.alloc(), &mut nic);
     let Left {
         device,
         history: amid,
         foreign: _,
-        lists: _,
         bufs,
-    } = finish(rt, alloc, nic);
-    add_entries(rt, &mut history, amid);
-    let mut direct = Direct::new(alloc, device, 0);
+    } = finish(rt, nic);
+    for entry in amid {
+        done(rt, history.push(entry));
+    }
+    let mut direct = Direct::new(rt.alloc(), device, 0);
     let home = match stopped {
         Ok(home) => home,
-        Err(StopRefused { fault: _, pmd }) => stopped_again(rt, alloc, &mut direct, pmd),
+        Err(StopRefused { fault: _, pmd }) => stopped_again(rt, &mut direct, pmd),
     };
-    let (device, _calls) = direct.finish();
-    settle(rt, alloc, home, device, bufs, second);
+    settle(rt, home, in_hand(direct), bufs, second);
     history
 }
 
-/// The same with events that don't leave the driver's queue alone.
-fn endures_meddling<R: Abort>(
-    rt: &R,
-    alloc: Global,
-    begun: Begun,
-    list: Vec<Event>,
-    second: Arena,
-) {
-    let history = endures(rt, alloc, begun, list, second);
-    assert!(rt; !is_left_alone(history.as_slice()));
-}
-
 /// Switches the steps of the device on again, and stops the driver.
-fn stopped_again<R: Abort>(rt: &R, alloc: Global, direct: &mut Direct, pmd: Pmd) -> Home {
-    make(rt, alloc, direct, Event::Write(Port::Pf, 0, 0));
-    done(rt, pmd.stop(alloc, direct))
+pub fn stopped_again(rt: &impl Hand, direct: &mut Direct, pmd: Pmd) -> Home {
+    make(rt, direct, Event::Write(Port::Pf, 0, 0));
+    done(rt, pmd.stop(rt.alloc(), direct))
 }
 
 /// Sees that all blocks are home or lost, and that the lost ones and those of the second arena are where the others
 /// left them: in hand, or still lent.
-fn settle<R: Abort>(
-    rt: &R,
-    alloc: Global,
-    home: Home,
-    device: Device,
-    mut bufs: Vec<Buf>,
-    second: Arena,
-) {
+fn settle(rt: &impl Hand, home: Home, device: Device, mut bufs: Vec<Buf>, second: Arena) {
     let Home {
         arena,
         lost,
@@ -198,128 +290,93 @@ fn settle<R: Abort>(
     assert_eq!(rt; u64::from(arena.free_blocks()) + u64::from(lost), 32);
     let (memory, _frames) = taken_apart(device);
     take_all(rt, &mut bufs, memory);
-    all_home(rt, bufs, listed(rt, alloc, [arena, second]));
+    let arenas = done(rt, Vec::from_array(rt.alloc(), [arena, second]));
+    let _away = all_home(rt, bufs, arenas);
 }
 
-/// An arena of the same numbers as the driver's.
-fn second<R: Abort>(rt: &R, alloc: Global) -> Arena {
-    done(rt, Arena::new(alloc, 4, 32))
-}
-
-/// A list of writes.
-fn writes<R: Abort>(rt: &R, alloc: Global, port: Port, words: &[(u32, u32)]) -> Vec<Event> {
-    let mut list = Vec::new(alloc);
-    for (address, word) in words {
-        push(rt, &mut list, Event::Write(port, *address, *word));
+/// What an entry tells that queue 3 wrote, by bus addresses.
+fn told_by(entry: &Entry) -> Told<u64> {
+    match &entry.reply {
+        Reply::Wrote {
+            queue: 3,
+            desc,
+            at,
+            ..
+        } => (What::Frame, *at, *desc),
+        Reply::Sent {
+            queue: 3,
+            back: Some(back),
+            ..
+        } => (What::Sent, *back, 0),
+        Reply::Advanced {
+            queue: 3,
+            back: Some(back),
+            ..
+        } => (What::Advanced, *back, 0),
+        _other => (What::Nothing, 0, 0),
     }
-    list
 }
 
-/// Nothing but the steps of queue 0 and frames that arrive.
+/// What queue 3 wrote first in a history. Each step by which it wrote is made the driver's own.
+fn first_told(history: &mut [Entry]) -> Told<u64> {
+    let mut first = (What::Nothing, 0, 0);
+    for entry in history {
+        let told = told_by(entry);
+        if told.0 != What::Nothing {
+            entry.pass = DRIVER;
+            if first.0 == What::Nothing {
+                first = told;
+            }
+        }
+    }
+    first
+}
+
+/// A driver endures a row, whose history is judged as it says. One that doesn't leave the queue alone would not if the
+/// driver's pass had made the steps of queue 3.
+fn check(rt: &impl Hand, (name, on, blocks, deeds, spares, wanted): Row<'_>) {
+    let begun = begin_on(rt, &on.setup());
+    let rings = begun.rings;
+    let mut doing = Doing::new(rt, rings, blocks);
+    for deed in deeds {
+        doing.add(rt, *deed);
+    }
+    let mut history = endures(rt, begun, doing);
+    assert!(rt;
+        is_left_alone(history.as_slice()) == spares,
+        "{name}: left alone"
+    );
+    let (what, at, ring) = first_told(history.as_mut_slice());
+    assert!(rt; what == wanted.0, "{name}: told");
+    assert!(rt;
+        at == u64::from(rings.address(wanted.1)),
+        "{name}: at {at:#x}"
+    );
+    assert!(rt;
+        ring == u64::from(rings.address(wanted.2)),
+        "{name}: of {ring:#x}"
+    );
+    assert!(rt;
+        spares || !is_left_alone(history.as_slice()),
+        "{name}: by the driver's steps"
+    );
+}
+
 #[test]
-fn a_driver_that_meets_nothing_is_left_alone(rt: HostRuntime) {
-    let alloc = rt.alloc();
-    let none = Vec::new(alloc);
-    let history = endures(&rt, alloc, begin(&rt, alloc), none, second(&rt, alloc));
-    assert!(rt; is_left_alone(history.as_slice()));
+fn a_driver_stops_whatever_others_do(rt: HostRuntime) {
+    for row in ROWS {
+        check(&rt, row);
+    }
 }
 
 #[test]
 fn a_driver_stops_whatever_others_write(rt: HostRuntime) {
-    let alloc = rt.alloc();
     for (address, word, spares) in WRITES {
-        let list = writes(&rt, alloc, Port::Pf, &[(address, word)]);
-        let history = endures(&rt, alloc, begin(&rt, alloc), list, second(&rt, alloc));
-        assert!(rt;
-            is_left_alone(history.as_slice()) == spares,
-            "at {address:x}"
+        let name = done(&rt, format!(in rt.alloc(); "a write at {address:#07x}"));
+        let deeds = [Writes(Port::Pf, address, word)];
+        check(
+            &rt,
+            (name.as_str(), On::Plain, SAME, &deeds, spares, NO_WRITE),
         );
-    }
-}
-
-/// The words of three registers by their offsets at a virtual function: RDT, RXDCTL, and VFCTRL, a reset.
-const VF_WRITES: [(u32, u32); 3] = [(0x1018, 5), (0x1028, 0), (0x0000, 0x0400_0000)];
-
-/// The mode is changed, so that queue 0 is a virtual function's: it writes RDT, and its pool is reset.
-#[test]
-fn a_driver_stops_whatever_a_virtual_function_writes(rt: HostRuntime) {
-    let alloc = rt.alloc();
-    for (offset, word) in VF_WRITES {
-        let mut list = writes(&rt, alloc, Port::Pf, &[(0x11050, 3)]);
-        push(&rt, &mut list, Event::Write(Port::Vf(0), offset, word));
-        endures_meddling(&rt, alloc, begin(&rt, alloc), list, second(&rt, alloc));
-    }
-}
-
-/// Queue 0 is the virtual function's before its driver begins. A write at the function's other queue leaves it alone.
-#[test]
-fn a_driver_stops_though_its_pool_is_reset(rt: HostRuntime) {
-    let alloc = rt.alloc();
-    let pools = Setup {
-        mode: Mode::Pools64,
-        ..PLAIN
-    };
-    for (offset, word) in VF_WRITES {
-        let list = writes(&rt, alloc, Port::Vf(0), &[(offset, word)]);
-        let begun = begin_on(&rt, alloc, &pools);
-        endures_meddling(&rt, alloc, begun, list, second(&rt, alloc));
-    }
-    let list = writes(&rt, alloc, Port::Pf, &[(0x00300, 0x0400_0000)]); // PVFCTRL
-    let begun = begin_on(&rt, alloc, &pools);
-    endures_meddling(&rt, alloc, begun, list, second(&rt, alloc));
-    let list = writes(&rt, alloc, Port::Vf(0), &[(0x1058, 5)]); // RDT of queue 1
-    let begun = begin_on(&rt, alloc, &pools);
-    let history = endures(&rt, alloc, begun, list, second(&rt, alloc));
-    assert!(rt; is_left_alone(history.as_slice()));
-}
-
-/// The first of its receive ring's blocks, all blocks, a block of each number lent beside them.
-#[test]
-fn a_driver_stops_though_others_take_its_blocks(rt: HostRuntime) {
-    let alloc = rt.alloc();
-    for (first, count) in [(4, 1), (5, 1), (9, 1), (4, 32)] {
-        let mut list = Vec::new(alloc);
-        for number in 0..count {
-            push(&rt, &mut list, Event::Take(first + number));
-        }
-        endures_meddling(&rt, alloc, begin(&rt, alloc), list, second(&rt, alloc));
-    }
-}
-
-/// A block of the driver's receive ring, of its transmit ring, one that is posted, and of each of its numbers.
-#[test]
-fn a_driver_stops_though_others_lend_blocks_of_its_numbers(rt: HostRuntime) {
-    let alloc = rt.alloc();
-    for (first, count) in [(4, 1), (5, 1), (9, 1), (4, 32)] {
-        let mut second = second(&rt, alloc);
-        let mut list = Vec::new(alloc);
-        for number in 0..count {
-            let block = some(&rt, second.take_at(first + number));
-            push(&rt, &mut list, Event::Lend(block));
-        }
-        endures_meddling(&rt, alloc, begin(&rt, alloc), list, second);
-    }
-}
-
-#[test]
-fn a_driver_stops_though_others_write_its_descriptors(rt: HostRuntime) {
-    let alloc = rt.alloc();
-    for byte in [0x00, 0x01, 0xFF] {
-        let begun = begin(&rt, alloc);
-        let mut list = Vec::new(alloc);
-        for slot in 0..8 {
-            let (receive, transmit) = (begun.receive_ring, begun.transmit_ring);
-            push(
-                &rt,
-                &mut list,
-                Event::Poke16(receive.saturating_add(16 * slot), [byte; 16]),
-            );
-            push(
-                &rt,
-                &mut list,
-                Event::Poke16(transmit.saturating_add(16 * slot), [byte; 16]),
-            );
-        }
-        endures_meddling(&rt, alloc, begun, list, second(&rt, alloc));
     }
 }

@@ -1,8 +1,8 @@
-use crate::outcome::{done, some};
-use nic_device::{Arena, Event, Parts, Port, Reply};
-use std::alloc::Global;
-use std::process::Abort;
-use std::sync::Wait;
+//! What a closed history says of a queue beside which another pass made an event.
+
+use crate::bench::taken_apart;
+use crate::outcome::{Hand, done, some};
+use nic_device::{Arena, Event, Port, Reply};
 use workers::{Pass, Shared};
 
 /// A shared device of one virtual function.
@@ -11,9 +11,53 @@ type Bench = Shared<1, 64>;
 /// The register by which the queues are parted among pools.
 const GCR_EXT: u32 = 0x11050;
 
+/// What another pass does.
+#[derive(Clone, Copy)]
+enum Deed {
+    Writes(Port, u32, u32),
+    Takes(u32),
+    Pokes(u32),
+    Steps,
+}
+
+impl Deed {
+    fn event(self) -> Event {
+        match self {
+            Deed::Writes(port, address, word) => Event::Write(port, address, word),
+            Deed::Takes(block) => Event::Take(block),
+            Deed::Pokes(address) => Event::Poke16(address, [0; 16]),
+            Deed::Steps => Event::RxStep,
+        }
+    }
+}
+
+/// What another pass does, the word of GCR_EXT before that, and whether queue 0 is left alone: where other queues are
+/// written, blocks that the driver doesn't lend are taken, and it pokes there. It isn't by any name of a register that
+/// the queue rests on, a reset of its pool, and its driver's blocks.
+#[rattlefmt::skip]
+const ROWS: [(&str, u32, Deed, bool); 17] = [
+    ("TDT of queue 1", 0, Deed::Writes(Port::Pf, 0x06058, 3), true),
+    ("TDT of no pool's queue", 0, Deed::Writes(Port::Vf(0), 0x2018, 3), true),
+    ("a reset of no pool", 0, Deed::Writes(Port::Pf, 0x00300, 0x0400_0000), true),
+    ("a block that isn't lent is taken", 0, Deed::Takes(6), true),
+    ("a block that isn't lent is poked", 0, Deed::Pokes(0x3000), true),
+    ("a step of receiving", 0, Deed::Steps, true),
+    ("TDT", 0, Deed::Writes(Port::Pf, 0x06018, 0), false),
+    ("SRRCTL by its other address", 0, Deed::Writes(Port::Pf, 0x02100, 0), false),
+    ("SRRCTL", 0, Deed::Writes(Port::Pf, 0x01014, 0), false),
+    ("CTRL", 0, Deed::Writes(Port::Pf, 0x00000, 0), false),
+    ("CTRL by its other address", 0, Deed::Writes(Port::Pf, 0x00004, 0), false),
+    ("HLREG0", 0, Deed::Writes(Port::Pf, 0x04240, 0), false),
+    ("MAXFRS", 0, Deed::Writes(Port::Pf, 0x04268, 0), false),
+    ("GCR_EXT", 0, Deed::Writes(Port::Pf, GCR_EXT, 0), false),
+    ("TDT of the pool's queue", 3, Deed::Writes(Port::Vf(0), 0x2018, 3), false),
+    ("a reset of the pool", 3, Deed::Writes(Port::Pf, 0x00300, 0x0400_0000), false),
+    ("a block of the driver's is poked", 0, Deed::Pokes(0x2808), false),
+];
+
 /// An event that gives no block back.
-fn make<R: Abort + Wait>(rt: &R, alloc: Global, bench: &Bench, pass: &mut Pass, event: Event) {
-    match done(rt, bench.call(rt, alloc, pass, event)) {
+fn make(rt: &impl Hand, bench: &Bench, pass: &mut Pass, event: Event) {
+    match done(rt, bench.call(rt, rt.alloc(), pass, event)) {
         Reply::Done
         | Reply::Word(_)
         | Reply::Stray(_)
@@ -26,71 +70,37 @@ fn make<R: Abort + Wait>(rt: &R, alloc: Global, bench: &Bench, pass: &mut Pass, 
 
 /// Whether queue 0 is left alone, where its driver reads a register and lends block 5, and then another pass makes the
 /// event. Before all that GCR_EXT was written.
-fn is_left_alone<R: Abort + Wait>(rt: &R, alloc: Global, mode: u32, event: Event) -> bool {
-    let (bench, mut passes) = done(rt, Bench::new(alloc, 1, 2, 100));
+fn is_left_alone(rt: &impl Hand, mode: u32, event: Event) -> bool {
+    let (bench, mut passes) = done(rt, Bench::new(rt.alloc(), 1, 2, 100));
     let mut other = some(rt, passes.pop());
     let mut driver = some(rt, passes.pop());
-    let mut arena = done(rt, Arena::new(alloc, 5, 1));
-    let block = some(rt, arena.take());
+    let mut arena = done(rt, Arena::new(rt.alloc(), 5, 1));
     make(
         rt,
-        alloc,
         &bench,
         &mut other,
         Event::Write(Port::Pf, GCR_EXT, mode),
     );
-    make(
-        rt,
-        alloc,
-        &bench,
-        &mut driver,
-        Event::Read(Port::Pf, GCR_EXT),
-    );
-    match done(rt, bench.call(rt, alloc, &mut driver, Event::Lend(block))) {
-        Reply::Done => {}
-        _other => panic!(rt; "the lend"),
-    }
-    make(rt, alloc, &bench, &mut other, event);
-    match done(rt, bench.call(rt, alloc, &mut driver, Event::Take(5))) {
+    make(rt, &bench, &mut driver, Event::Read(Port::Pf, GCR_EXT));
+    let lend = Event::Lend(some(rt, arena.take()));
+    make(rt, &bench, &mut driver, lend);
+    make(rt, &bench, &mut other, event);
+    match done(rt, bench.call(rt, rt.alloc(), &mut driver, Event::Take(5))) {
         Reply::Buf(block) => done(rt, arena.give(block)),
         _other => panic!(rt; "the block"),
     }
     done(rt, arena.close());
-    passes.push(driver).expect(rt, "memory");
-    passes.push(other).expect(rt, "memory");
+    let passes = done(rt, Vec::from_array(rt.alloc(), [driver, other]));
     let closed = done(rt, bench.close(passes));
     let answer = closed.left_alone(0, 0);
-    let Parts {
-        memory,
-        frames: _,
-        image: _,
-    } = closed.into_device().dismantle();
+    let (memory, _frames) = taken_apart(closed.into_device());
     done(rt, memory.finish());
     answer
 }
 
-/// What another pass may do: write registers of other queues, take blocks that the driver doesn't lend, poke there.
 #[test]
-fn other_queues_and_blocks_are_free(rt: HostRuntime) {
-    let alloc = rt.alloc();
-    assert!(rt; is_left_alone(&rt, alloc, 0, Event::Write(Port::Pf, 0x06058, 3)));
-    assert!(rt; is_left_alone(&rt, alloc, 0, Event::Write(Port::Vf(0), 0x2018, 3)));
-    assert!(rt; is_left_alone(&rt, alloc, 0, Event::Write(Port::Pf, 0x00300, 0x0400_0000)));
-    assert!(rt; is_left_alone(&rt, alloc, 0, Event::Take(6)));
-    assert!(rt; is_left_alone(&rt, alloc, 0, Event::Poke16(0x3000, [0; 16])));
-    assert!(rt; is_left_alone(&rt, alloc, 0, Event::RxStep));
-}
-
-/// What it may not: each name of a register that the queue rests on, a reset of its pool, its driver's blocks.
-#[test]
-fn the_queue_is_not_left_alone(rt: HostRuntime) {
-    let alloc = rt.alloc();
-    for address in [
-        0x06018, 0x02100, 0x01014, 0x00000, 0x00004, 0x04240, 0x04268, GCR_EXT,
-    ] {
-        assert!(rt; !is_left_alone(&rt, alloc, 0, Event::Write(Port::Pf, address, 0)));
+fn a_queue_is_left_alone_or_not(rt: HostRuntime) {
+    for (name, mode, deed, wanted) in ROWS {
+        assert!(rt; is_left_alone(&rt, mode, deed.event()) == wanted, "{name}");
     }
-    assert!(rt; !is_left_alone(&rt, alloc, 3, Event::Write(Port::Vf(0), 0x2018, 3)));
-    assert!(rt; !is_left_alone(&rt, alloc, 3, Event::Write(Port::Pf, 0x00300, 0x0400_0000)));
-    assert!(rt; !is_left_alone(&rt, alloc, 0, Event::Poke16(0x2808, [0; 16])));
 }

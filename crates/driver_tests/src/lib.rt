@@ -8,9 +8,9 @@
 #[cfg(test)]
 mod bench;
 #[cfg(test)]
-mod driver;
+mod deeds;
 #[cfg(test)]
-mod gates;
+mod driver;
 #[cfg(test)]
 mod history;
 #[cfg(test)]
@@ -20,13 +20,7 @@ mod interleaved;
 #[cfg(test)]
 mod left_alone;
 #[cfg(test)]
-mod limits;
-#[cfg(test)]
-mod meeting_points;
-#[cfg(test)]
-mod neighbours;
-#[cfg(test)]
-mod other_queues;
+mod meeting;
 #[cfg(test)]
 mod others;
 #[cfg(test)]
@@ -36,14 +30,14 @@ mod queues;
 #[cfg(test)]
 mod random;
 #[cfg(test)]
+mod runs;
+#[cfg(test)]
 mod schedule;
 #[cfg(test)]
-mod shared_device;
+mod shared;
 #[cfg(test)]
 mod storm;
 #[cfg(test)]
 mod stranger;
 #[cfg(test)]
-mod tasks;
-#[cfg(test)]
-mod through_lock;
+mod team;

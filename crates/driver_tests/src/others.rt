@@ -1,11 +1,9 @@
 //! Foreign events that are drawn at random, none of which touches queue 0 of a driver or its blocks.
 
 use crate::bench::frame_of;
-use crate::outcome::done;
-use crate::schedule::{Schedule, add, push};
+use crate::outcome::{Hand, done};
+use crate::schedule::Schedule;
 use nic_device::{Arena, Dir, Event, Group, Octets, Port};
-use std::alloc::Global;
-use std::process::Abort;
 
 /// Numbers that look random, from a seed that isn't 0.
 #[derive(Drop)]
@@ -92,11 +90,11 @@ pub struct Others {
 
 impl Others {
     /// With all blocks free.
-    pub fn new<R: Abort>(rt: &R, alloc: Global, seed: u32) -> Others {
+    pub fn new(rt: &impl Hand, seed: u32) -> Others {
         Others {
             random: Random::of(seed),
-            first: done(rt, Arena::new(alloc, 200, 32)),
-            second: done(rt, Arena::new(alloc, 200, 32)),
+            first: done(rt, Arena::new(rt.alloc(), 200, 32)),
+            second: done(rt, Arena::new(rt.alloc(), 200, 32)),
         }
     }
 
@@ -113,7 +111,7 @@ impl Others {
     }
 
     /// A foreign event that leaves the driver's queue alone.
-    pub fn event<R: Abort>(&mut self, rt: &R, alloc: Global) -> Event {
+    pub fn event(&mut self, rt: &impl Hand) -> Event {
         match self.random.byte() % 16 {
             0 | 1 | 2 => Event::RxStep,
             3 | 4 => Event::TxStep(0),
@@ -122,7 +120,7 @@ impl Others {
             7 => Event::QueueStep(self.random.side(), 0),
             8 | 9 => Event::Link(true),
             10 | 11 | 12 => {
-                let frame = frame_of(rt, alloc, u16::from(self.random.byte()));
+                let frame = frame_of(rt, u16::from(self.random.byte()));
                 Event::Arrive(Octets::of(frame))
             }
             13 | 14 => self.memory_event(),
@@ -131,14 +129,14 @@ impl Others {
     }
 
     /// So many lists of up to five such events.
-    pub fn lists<R: Abort>(&mut self, rt: &R, alloc: Global, count: usize) -> Schedule {
-        let mut schedule = Vec::new(alloc);
+    pub fn lists(&mut self, rt: &impl Hand, count: usize) -> Schedule {
+        let mut schedule = Vec::new(rt.alloc());
         for _list in 0..count {
-            let mut list = Vec::new(alloc);
+            let mut list = Vec::new(rt.alloc());
             for _event in 0..self.random.byte() % 6 {
-                push(rt, &mut list, self.event(rt, alloc));
+                done(rt, list.push(self.event(rt)));
             }
-            add(rt, &mut schedule, list);
+            done(rt, schedule.push(list));
         }
         schedule
     }

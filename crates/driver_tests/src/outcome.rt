@@ -1,7 +1,15 @@
-//! Answers that a test goes on with.
+//! What a test's runtime can do, and answers that a test goes on with.
 
+use std::alloc::AllocGlobal;
 use std::mem;
 use std::process::Abort;
+use std::sync::Wait;
+use std::thread::Threads;
+
+/// A test's runtime: it ends the process, waits, starts threads and allocates.
+pub trait Hand: Abort + Wait + Threads + Sync + AllocGlobal {}
+
+impl<R: Abort + Wait + Threads + Sync + AllocGlobal> Hand for R {}
 
 /// The value of an answer that is no refusal.
 pub fn done<T, E>(rt: &impl Abort, answer: Result<T, E>) -> T {
@@ -38,4 +46,10 @@ pub fn none<T>(rt: &impl Abort, answer: Option<T>) {
         Some(_value) => panic!(rt; "not none"),
         None => {}
     }
+}
+
+/// Lets a list go, all of whose items were taken out.
+pub fn emptied<T>(rt: &impl Abort, list: Vec<T>) {
+    assert!(rt; list.is_empty());
+    list.destroy_empty();
 }

@@ -1,42 +1,34 @@
 //! A queue at a port of a device in hand.
 
-use crate::bench::end;
-use crate::outcome::{done, refused, some};
+use crate::bench::{PLAIN, Why, end, in_hand, reason};
+use crate::outcome::{Hand, done, refused, some};
 use nic_device::{Config, Device, Dir, Mode, Port};
-use std::alloc::Global;
-use std::process::Abort;
-use workers::{Direct, POLLS, PmdFault, Queue, Setup, pf_setup};
+use workers::{Direct, POLLS, Queue, Setup, pf_setup};
 
 /// A device of two virtual functions with 64 pools, stepped on its queue 2.
-fn opened<R: Abort>(rt: &R, alloc: Global) -> Direct {
-    let device = done(rt, Device::new(alloc, Config { vfs: 2, fifo: 64 }));
-    let mut direct = Direct::new(alloc, device, 2);
+fn opened(rt: &impl Hand) -> Direct {
+    let device = done(rt, Device::new(rt.alloc(), Config { vfs: 2, fifo: 64 }));
+    let mut direct = Direct::new(rt.alloc(), device, 2);
     let setup = Setup {
         mode: Mode::Pools64,
-        mrqc: 0,
-        key: [0; 40],
-        reta: [0; 128],
-        promiscuous: true,
+        ..PLAIN
     };
-    done(rt, pf_setup(alloc, &mut direct, &setup));
+    done(rt, pf_setup(rt.alloc(), &mut direct, &setup));
     direct
 }
 
-/// Ends the device. Answers the words of four registers of its queue 2: RDBAL, RDLEN, TDBAL and RXDCTL.
-fn words_at_end<R: Abort>(rt: &R, direct: Direct) -> [u32; 4] {
-    let (device, _calls) = direct.finish();
-    let words = [
-        some(rt, device.peek_register(0x01080)),
-        some(rt, device.peek_register(0x01088)),
-        some(rt, device.peek_register(0x06080)),
-        some(rt, device.peek_register(0x010A8)),
-    ];
-    assert_eq!(rt; end(rt, device).len(), 0);
+/// The words of four registers of queue 2: RDBAL, RDLEN, TDBAL and RXDCTL.
+fn words(rt: &impl Hand, device: &Device) -> [u32; 4] {
+    let mut words = [0; 4];
+    for (at, address) in [0x01080, 0x01088, 0x06080, 0x010A8].into_iter().enumerate() {
+        words[at] = some(rt, device.peek_register(address));
+    }
     words
 }
 
 /// Both sides of a queue are made ready and switched on, and are then on.
-fn bring_up<R: Abort>(rt: &R, alloc: Global, direct: &mut Direct, queue: &Queue) {
+fn bring_up(rt: &impl Hand, direct: &mut Direct, queue: &Queue) {
+    let alloc = rt.alloc();
     for side in [Dir::Rx, Dir::Tx] {
         done(rt, queue.disable(alloc, direct, side));
         done(rt, queue.lay_out(alloc, direct, side, 3, 8));
@@ -49,69 +41,71 @@ fn bring_up<R: Abort>(rt: &R, alloc: Global, direct: &mut Direct, queue: &Queue)
     }
 }
 
-#[test]
-fn a_queue_comes_up_through_the_physical_function(rt: HostRuntime) {
+/// What is asked of a queue.
+#[derive(Clone, Copy, PartialEq, Eq)]
+enum Ask {
+    /// Both sides come up.
+    Up,
+    /// They come up, and then the receive side is to be made ready.
+    ReadyAgain,
+    /// The receive side is to go on.
+    On,
+    /// The transmit side is to be made ready.
+    Ready,
+}
+
+/// Queues by name, port and number there, what is asked of them, and why that is refused.
+#[rattlefmt::skip]
+const ROWS: [(&str, Port, u16, Ask, Option<Why>); 5] = [
+    ("a queue comes up through the physical function", Port::Pf, 2, Ask::Up, None),
+    ("a queue comes up through a virtual function", Port::Vf(1), 0, Ask::Up, None),
+    ("a queue that is on isn't made ready", Port::Pf, 2, Ask::ReadyAgain, Some(Why::DeviceFault)),
+    ("a queue that nobody steps on doesn't come up", Port::Pf, 3, Ask::On, Some(Why::StartTimeout)),
+    ("a function that isn't there has no queue", Port::Vf(2), 0, Ask::Ready, Some(Why::DeviceFault)),
+];
+
+/// Asks it of a queue. Answers why it is refused.
+fn asked(rt: &impl Hand, direct: &mut Direct, queue: &Queue, ask: Ask) -> Option<Why> {
     let alloc = rt.alloc();
-    let mut direct = opened(&rt, alloc);
-    bring_up(&rt, alloc, &mut direct, &some(&rt, Queue::new(Port::Pf, 2)));
-    assert!(rt; words_at_end(&rt, direct) == [6144, 128, 6144, 0x0200_0000]);
+    let fault = match ask {
+        Ask::Up => {
+            bring_up(rt, direct, queue);
+            return None;
+        }
+        Ask::ReadyAgain => {
+            bring_up(rt, direct, queue);
+            refused(rt, queue.disable(alloc, direct, Dir::Rx))
+        }
+        Ask::On => {
+            done(rt, queue.ask(alloc, direct, Dir::Rx, true));
+            refused(rt, queue.poll(alloc, direct, Dir::Rx, true, POLLS))
+        }
+        Ask::Ready => refused(rt, queue.disable(alloc, direct, Dir::Tx)),
+    };
+    Some(reason(&fault))
 }
 
 #[test]
-fn a_queue_comes_up_through_a_virtual_function(rt: HostRuntime) {
-    let alloc = rt.alloc();
-    let mut direct = opened(&rt, alloc);
-    bring_up(
-        &rt,
-        alloc,
-        &mut direct,
-        &some(&rt, Queue::new(Port::Vf(1), 0)),
-    );
-    assert!(rt; words_at_end(&rt, direct) == [6144, 128, 6144, 0x0200_0000]);
-}
-
-#[test]
-fn a_queue_that_is_on_is_not_made_ready(rt: HostRuntime) {
-    let alloc = rt.alloc();
-    let mut direct = opened(&rt, alloc);
-    let queue = some(&rt, Queue::new(Port::Pf, 2));
-    bring_up(&rt, alloc, &mut direct, &queue);
-    match refused(&rt, queue.disable(alloc, &mut direct, Dir::Rx)) {
-        PmdFault::DeviceFault => {}
-        _other => panic!(rt; "another fault"),
+fn a_queue_comes_up_or_is_refused(rt: HostRuntime) {
+    for (name, port, number, ask, wanted) in ROWS {
+        let mut direct = opened(&rt);
+        let queue = some(&rt, Queue::new(port, number));
+        assert!(rt; asked(&rt, &mut direct, &queue, ask) == wanted, "{name}");
+        let device = in_hand(direct);
+        let is_up = words(&rt, &device) == [6144, 128, 6144, 0x0200_0000];
+        assert!(rt; ask != Ask::Up || is_up, "{name}: registers");
+        assert_eq!(rt; end(&rt, device).len(), 0);
     }
-    words_at_end(&rt, direct);
-}
-
-#[test]
-fn a_queue_that_nobody_steps_on_does_not_come_up(rt: HostRuntime) {
-    let alloc = rt.alloc();
-    let mut direct = opened(&rt, alloc);
-    let queue = some(&rt, Queue::new(Port::Pf, 3));
-    done(&rt, queue.ask(alloc, &mut direct, Dir::Rx, true));
-    match refused(&rt, queue.poll(alloc, &mut direct, Dir::Rx, true, POLLS)) {
-        PmdFault::StartTimeout => {}
-        _other => panic!(rt; "another fault"),
-    }
-    words_at_end(&rt, direct);
-}
-
-#[test]
-fn a_function_that_is_not_there_has_no_queue(rt: HostRuntime) {
-    let alloc = rt.alloc();
-    let mut direct = opened(&rt, alloc);
-    let queue = some(&rt, Queue::new(Port::Vf(2), 0));
-    match refused(&rt, queue.disable(alloc, &mut direct, Dir::Tx)) {
-        PmdFault::DeviceFault => {}
-        _other => panic!(rt; "another fault"),
-    }
-    words_at_end(&rt, direct);
 }
 
 #[test]
 fn ports_name_the_queues_that_they_have_room_for(rt: HostRuntime) {
-    assert!(rt; Queue::new(Port::Pf, 127).is_some());
-    assert!(rt; Queue::new(Port::Pf, 128).is_none());
-    assert!(rt; Queue::new(Port::Vf(0), 63).is_some());
-    assert!(rt; Queue::new(Port::Vf(0), 64).is_none());
+    for (port, number, is_there) in [
+        (Port::Pf, 127, true),
+        (Port::Pf, 128, false),
+        (Port::Vf(0), 63, true),
+        (Port::Vf(0), 64, false),
+    ] {
+        assert!(rt; Queue::new(port, number).is_some() == is_there, "{number}");
+    }
 }

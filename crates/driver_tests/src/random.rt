@@ -1,38 +1,20 @@
 //! A driver among foreign events that are drawn at random, none of which touches its queue.
 
 use crate::bench::{opened, reap, started, taken_apart};
-use crate::history::{DRIVER, OTHERS, add_calls, add_entries, is_left_alone};
+use crate::history::{DRIVER, OTHERS, add_calls, is_left_alone};
 use crate::others::{Others, Random};
-use crate::outcome::{done, some};
-use crate::schedule::{Left, all_home, finish, listed, take_all};
+use crate::outcome::{Hand, done, some};
+use crate::schedule::{Left, all_home, finish, take_all};
 use nic_device::{Device, Event, Reply};
-use std::alloc::Global;
 use std::collections::VecDeque;
-use std::process::Abort;
 use workers::{Direct, Entry, Home, Interleaved, Nic, Packet, Pmd, Record, TxAnswer};
 
 /// A schedule is drawn from each.
+#[rattlefmt::skip]
 pub const SEEDS: [u32; 20] = [
-    1,
-    2,
-    3,
-    5,
-    7,
-    11,
-    82_599,
-    1_000_003,
-    0x2021_1123,
-    0x1234_5678,
-    0x5555_5555,
-    0x7FFF_FFFF,
-    0x8000_0000,
-    0x8086_10FB,
-    0x9E37_79B9,
-    0xAAAA_AAAA,
-    0xC0DE_CAFE,
-    0xDEAD_BEEF,
-    0xFFFF_0000,
-    0xFFFF_FFFF,
+    1, 2, 3, 5, 7, 11, 82_599, 1_000_003, 0x2021_1123, 0x1234_5678,
+    0x5555_5555, 0x7FFF_FFFF, 0x8000_0000, 0x8086_10FB, 0x9E37_79B9,
+    0xAAAA_AAAA, 0xC0DE_CAFE, 0xDEAD_BEEF, 0xFFFF_0000, 0xFFFF_FFFF,
 ];
 
 /// What a history tells of queue 0: the frames that wait, those that were written, how many came and went out, and
@@ -48,41 +30,41 @@ struct Tally<'a> {
 
 impl<'a> Tally<'a> {
     /// Of no entries.
-    fn new(alloc: Global) -> Self {
+    fn new(rt: &impl Hand) -> Self {
         Tally {
-            waiting: VecDeque::new(alloc),
-            written: Vec::new(alloc),
+            waiting: VecDeque::new(rt.alloc()),
+            written: Vec::new(rt.alloc()),
             arrived: 0,
             sent: 0,
-            collected: Vec::new(alloc),
+            collected: Vec::new(rt.alloc()),
         }
     }
 
     /// One entry more.
-    fn add<R: Abort>(&mut self, rt: &R, entry: &'a Entry) {
+    fn add(&mut self, rt: &impl Hand, entry: &'a Entry) {
         match (&entry.event, &entry.reply) {
             (Event::Arrive(frame), Reply::Done) => {
                 self.arrived = self.arrived.saturating_add(1);
-                self.waiting.push_back(frame.bytes()).expect(rt, "memory");
+                done(rt, self.waiting.push_back(frame.bytes()));
             }
             (Event::RxStep, Reply::Wrote { end, len, .. }) => {
                 let frame = some(rt, self.waiting.pop_front());
                 assert!(rt; *end && frame.len() == *len);
-                self.written.push(frame).expect(rt, "memory");
+                done(rt, self.written.push(frame));
             }
             (Event::RxStep, Reply::Dropped(_)) => {
                 let _frame = some(rt, self.waiting.pop_front());
             }
             (Event::TxStep(_), Reply::Sent { .. }) => self.sent = self.sent.saturating_add(1),
             (Event::Collect, Reply::Frame { bytes, .. }) => {
-                self.collected.push(bytes.bytes()).expect(rt, "memory");
+                done(rt, self.collected.push(bytes.bytes()));
             }
             _other => {}
         }
     }
 
     /// So many entries more.
-    fn add_all<R: Abort>(&mut self, rt: &R, history: &'a [Entry]) {
+    fn add_all(&mut self, rt: &impl Hand, history: &'a [Entry]) {
         for entry in history {
             self.add(rt, entry);
         }
@@ -99,8 +81,8 @@ fn are_first(records: &[Record], frames: &[&[u8]]) -> bool {
 }
 
 /// Sends a packet, where there is room for it.
-fn offer<R: Abort, N: Nic>(rt: &R, alloc: Global, nic: &mut N, pmd: &mut Pmd, packet: Packet) {
-    match done(rt, pmd.tx(alloc, nic, packet)) {
+fn offer<N: Nic>(rt: &impl Hand, nic: &mut N, pmd: &mut Pmd, packet: Packet) {
+    match done(rt, pmd.tx(rt.alloc(), nic, packet)) {
         TxAnswer::Taken => {}
         TxAnswer::RingFull(packet) => done(rt, pmd.release(packet)),
     }
@@ -108,25 +90,18 @@ fn offer<R: Abort, N: Nic>(rt: &R, alloc: Global, nic: &mut N, pmd: &mut Pmd, pa
 
 /// So many rounds: a packet that came in is sent again, now and then one of the driver's own, and now and then those
 /// that were sent are reaped.
-fn drive<R: Abort, N: Nic>(
-    rt: &R,
-    alloc: Global,
-    random: &mut Random,
-    nic: &mut N,
-    pmd: &mut Pmd,
-    rounds: usize,
-) {
+fn drive<N: Nic>(rt: &impl Hand, random: &mut Random, nic: &mut N, pmd: &mut Pmd, rounds: usize) {
     for _round in 0..rounds {
-        match done(rt, pmd.rx(alloc, nic)) {
-            Some(packet) => offer(rt, alloc, nic, pmd, packet),
+        match done(rt, pmd.rx(rt.alloc(), nic)) {
+            Some(packet) => offer(rt, nic, pmd, packet),
             None => {}
         }
         if random.byte() % 4 == 0 {
             let packet = some(rt, pmd.packet(1 + u16::from(random.byte())));
-            offer(rt, alloc, nic, pmd, packet);
+            offer(rt, nic, pmd, packet);
         }
         if random.byte() % 2 == 0 {
-            let _reaped = done(rt, pmd.reap(alloc, nic));
+            let _reaped = done(rt, pmd.reap(rt.alloc(), nic));
         }
     }
 }
@@ -139,23 +114,28 @@ struct Amid {
 }
 
 /// Starts a driver among random events, and drives it.
-fn driven<R: Abort>(rt: &R, alloc: Global, others: &mut Others) -> Amid {
-    let lists = others.lists(rt, alloc, 2500);
-    let (device, calls) = opened(rt, alloc, 64, 0).finish();
-    let mut history = Vec::new(alloc);
-    add_calls(rt, &mut history, OTHERS, done(rt, calls.into_vec(alloc)));
-    let mut nic = Interleaved::new(alloc, device, lists);
-    let mut pmd = started(rt, alloc, &mut nic);
-    drive(rt, alloc, &mut others.random, &mut nic, &mut pmd, 190);
-    let left = finish(rt, alloc, nic);
+fn driven(rt: &impl Hand, others: &mut Others) -> Amid {
+    let lists = others.lists(rt, 2500);
+    let (device, calls) = opened(rt, 64, 0).finish();
+    let mut history = Vec::new(rt.alloc());
+    add_calls(
+        rt,
+        &mut history,
+        OTHERS,
+        done(rt, calls.into_vec(rt.alloc())),
+    );
+    let mut nic = Interleaved::new(rt.alloc(), device, lists);
+    let mut pmd = started(rt, &mut nic);
+    drive(rt, &mut others.random, &mut nic, &mut pmd, 190);
+    let left = finish(rt, nic);
     Amid { pmd, left, history }
 }
 
 /// What was handed out are the first of the frames that a history wrote for queue 0, and no more went out than was
 /// accepted. The history leaves queue 0 alone.
-fn is_well<R: Abort>(rt: &R, alloc: Global, history: &[Entry], pmd: &Pmd) {
+fn is_well(rt: &impl Hand, history: &[Entry], pmd: &Pmd) {
     assert!(rt; is_left_alone(history));
-    let mut tally = Tally::new(alloc);
+    let mut tally = Tally::new(rt);
     tally.add_all(rt, history);
     assert!(rt; are_first(pmd.handed(), tally.written.as_slice()));
     assert!(rt; tally.sent as usize <= pmd.accepted().len());
@@ -163,17 +143,17 @@ fn is_well<R: Abort>(rt: &R, alloc: Global, history: &[Entry], pmd: &Pmd) {
 
 /// With the link up and nothing but the steps of its queue before each call, the driver hands out what waits, and what
 /// it accepted goes out.
-fn settle<R: Abort>(rt: &R, alloc: Global, others: &mut Others, nic: &mut Direct, pmd: &mut Pmd) {
-    match done(rt, nic.call(alloc, Event::Link(true))) {
+fn settle(rt: &impl Hand, others: &mut Others, nic: &mut Direct, pmd: &mut Pmd) {
+    match done(rt, nic.call(rt.alloc(), Event::Link(true))) {
         Reply::Done | Reply::Idle => {}
         _other => panic!(rt; "the link"),
     }
-    drive(rt, alloc, &mut others.random, nic, pmd, 100);
-    reap(rt, alloc, nic, pmd);
+    drive(rt, &mut others.random, nic, pmd, 100);
+    reap(rt, nic, pmd);
 }
 
 /// What the registers count is what the history tells.
-fn counts_agree<R: Abort>(rt: &R, device: &Device, tally: &Tally<'_>) {
+fn counts_agree(rt: &impl Hand, device: &Device, tally: &Tally<'_>) {
     let [arrived, written, sent] = [
         some(rt, device.peek_register(0x04074)), // GPRC
         some(rt, device.peek_register(0x01030)), // QPRC
@@ -185,7 +165,7 @@ fn counts_agree<R: Abort>(rt: &R, device: &Device, tally: &Tally<'_>) {
 }
 
 /// All that was written was handed out, and these frames, which went out, are all that was accepted.
-fn all_agree<R: Abort>(rt: &R, home: Home, tally: &Tally<'_>, out: &[&[u8]]) {
+fn all_agree(rt: &impl Hand, home: Home, tally: &Tally<'_>, out: &[&[u8]]) {
     let Home {
         arena,
         lost,
@@ -202,42 +182,49 @@ fn all_agree<R: Abort>(rt: &R, home: Home, tally: &Tally<'_>, out: &[&[u8]]) {
 }
 
 /// One schedule, drawn from a seed. Answers how many foreign events were made.
-fn among_events_of<R: Abort>(rt: &R, alloc: Global, seed: u32) -> usize {
-    let mut others = Others::new(rt, alloc, seed);
+fn among_events_of(rt: &impl Hand, seed: u32) -> usize {
+    let mut others = Others::new(rt, seed);
     let Amid {
         mut pmd,
         left,
         mut history,
-    } = driven(rt, alloc, &mut others);
+    } = driven(rt, &mut others);
     let Left {
         device,
         history: amid,
         foreign,
-        lists: _,
         mut bufs,
     } = left;
-    add_entries(rt, &mut history, amid);
-    is_well(rt, alloc, history.as_slice(), &pmd);
-    let mut direct = Direct::new(alloc, device, 0);
-    settle(rt, alloc, &mut others, &mut direct, &mut pmd);
-    let home = done(rt, pmd.stop(alloc, &mut direct));
+    for entry in amid {
+        done(rt, history.push(entry));
+    }
+    is_well(rt, history.as_slice(), &pmd);
+    let mut direct = Direct::new(rt.alloc(), device, 0);
+    settle(rt, &mut others, &mut direct, &mut pmd);
+    let home = done(rt, pmd.stop(rt.alloc(), &mut direct));
     let (device, later) = direct.finish();
-    add_calls(rt, &mut history, DRIVER, done(rt, later.into_vec(alloc)));
+    add_calls(
+        rt,
+        &mut history,
+        DRIVER,
+        done(rt, later.into_vec(rt.alloc())),
+    );
     assert!(rt; is_left_alone(history.as_slice()));
-    let mut tally = Tally::new(alloc);
+    let mut tally = Tally::new(rt);
     tally.add_all(rt, history.as_slice());
     counts_agree(rt, &device, &tally);
     let (memory, frames) = taken_apart(device);
-    let mut out: Vec<&[u8]> = Vec::new(alloc);
+    let mut out: Vec<&[u8]> = Vec::new(rt.alloc());
     for frame in &tally.collected {
-        out.push(*frame).expect(rt, "memory");
+        done(rt, out.push(*frame));
     }
     for (_queue, frame) in &frames {
-        out.push(frame.bytes()).expect(rt, "memory");
+        done(rt, out.push(frame.bytes()));
     }
     all_agree(rt, home, &tally, out.as_slice());
     take_all(rt, &mut bufs, memory);
-    all_home(rt, bufs, listed(rt, alloc, others.into_arenas()));
+    let arenas = done(rt, Vec::from_array(rt.alloc(), others.into_arenas()));
+    let _away = all_home(rt, bufs, arenas);
     foreign
 }
 
@@ -246,10 +233,9 @@ fn among_events_of<R: Abort>(rt: &R, alloc: Global, seed: u32) -> usize {
 /// accepted, all of them in the end.
 #[test]
 fn a_driver_is_well_among_random_events(rt: HostRuntime) {
-    let alloc = rt.alloc();
     let mut made: usize = 0;
     for seed in SEEDS {
-        made = made.saturating_add(among_events_of(&rt, alloc, seed));
+        made = made.saturating_add(among_events_of(&rt, seed));
     }
     assert!(rt; made >= 100_000, "made {made}");
 }

@@ -1,21 +1,16 @@
 //! Two drivers of the queues of one pool, beside a stranger that resets the device, the pool and the function, takes
 //! and lends blocks of their rings, and writes what the queues rest on at random, while 10,000 frames arrive.
 
-use crate::bench::taken_apart;
-use crate::driver::TCP_FRAME;
+use crate::bench::segment;
 use crate::hostile::offer;
 use crate::others::Random;
-use crate::outcome::{done, none, put, some};
+use crate::outcome::{Hand, done, none, put, some};
 use crate::random::SEEDS;
-use crate::schedule::{all_home, let_reply_go, listed, take_all};
-use crate::stranger::{BLOCKS, Bench};
-use nic_device::{Arena, Buf, Event, Mode, Octets, Port, ReplyNote};
-use std::alloc::Global;
-use std::process::Abort;
-use std::sync::Wait;
-use workers::{
-    Closed, Home, Pass, Pmd, Rest, Setup, StartRefused, StopRefused, ThroughLock, pf_setup,
-};
+use crate::schedule::let_reply_go;
+use crate::stranger::reply;
+use crate::team::{BLOCKS, Bench, apart, blocks_of, parting, sent_in, set_up};
+use nic_device::{Arena, Buf, Event, Mode, Octets, Port};
+use workers::{Home, Pass, Pmd, Rest, StartRefused, StopRefused, ThroughLock};
 
 /// How many turns a run has, in each of which four frames arrive; there is a run for each of twenty seeds.
 const TURNS: u32 = 125;
@@ -30,21 +25,6 @@ const ROWS: [u32; 12] = [
     0x06000, 0x06008, 0x06010, 0x06018, 0x06028, 0x06038,  // TDBAL, TDLEN, TDH, TDT, TXDCTL, TDWBAL
 ];
 
-/// Both queues are pool 0's, and frames are parted between them by their hash.
-fn setup() -> Setup {
-    let mut reta = [0; 128];
-    for entry in 0..64usize {
-        reta[2 * entry] = 1;
-    }
-    Setup {
-        mode: Mode::Pools64,
-        mrqc: 0x0001_000B,
-        key: [0x6D; 40],
-        reta,
-        promiscuous: true,
-    }
-}
-
 /// A driver of a queue: it runs, or is at home. How many blocks it lost so far.
 struct Driver {
     queue: u16,
@@ -56,19 +36,19 @@ struct Driver {
 
 impl Driver {
     /// One that is at home.
-    fn new<R: Abort>(rt: &R, alloc: Global, pass: Pass) -> Driver {
+    fn new(rt: &impl Hand, pass: Pass) -> Driver {
         let queue = u16::from(pass.tag() % 2);
         Driver {
             queue,
             pass: Some(pass),
             pmd: None,
-            arena: Some(done(rt, Arena::new(alloc, BLOCKS * u32::from(queue), BLOCKS))),
+            arena: Some(blocks_of(rt, queue)),
             lost: 0,
         }
     }
 
     /// It is at home.
-    fn come_home<R: Abort>(&mut self, rt: &R, home: Home) {
+    fn come_home(&mut self, rt: &impl Hand, home: Home) {
         let Home {
             arena,
             lost,
@@ -80,12 +60,12 @@ impl Driver {
     }
 
     /// Starts it where it is at home. One that only half started is stopped later.
-    fn start<R: Abort + Wait>(&mut self, rt: &R, alloc: Global, bench: &Bench) {
+    fn start(&mut self, rt: &impl Hand, bench: &Bench) {
         let Some(arena) = self.arena.take() else {
             return;
         };
         let mut nic = ThroughLock::new(rt, bench, some(rt, self.pass.take()), self.queue);
-        match Pmd::start(alloc, &mut nic, Port::Pf, self.queue, 8, arena) {
+        match Pmd::start(rt.alloc(), &mut nic, Port::Pf, self.queue, 8, arena) {
             Ok(pmd) => put(rt, &mut self.pmd, pmd),
             Err(StartRefused { fault: _, rest }) => match rest {
                 Rest::Home(home) => self.come_home(rt, home),
@@ -96,12 +76,12 @@ impl Driver {
     }
 
     /// Stops it where it runs. One whose stop is refused runs on.
-    fn stop<R: Abort + Wait>(&mut self, rt: &R, alloc: Global, bench: &Bench) {
+    fn stop(&mut self, rt: &impl Hand, bench: &Bench) {
         let Some(pmd) = self.pmd.take() else {
             return;
         };
         let mut nic = ThroughLock::new(rt, bench, some(rt, self.pass.take()), self.queue);
-        match pmd.stop(alloc, &mut nic) {
+        match pmd.stop(rt.alloc(), &mut nic) {
             Ok(home) => self.come_home(rt, home),
             Err(StopRefused { fault: _, pmd }) => put(rt, &mut self.pmd, pmd),
         }
@@ -109,24 +89,24 @@ impl Driver {
     }
 
     /// Receives up to two packets and sends them again, whatever it is answered.
-    fn turn<R: Abort + Wait>(&mut self, rt: &R, alloc: Global, bench: &Bench) {
+    fn turn(&mut self, rt: &impl Hand, bench: &Bench) {
         let Some(mut pmd) = self.pmd.take() else {
             return;
         };
         let mut nic = ThroughLock::new(rt, bench, some(rt, self.pass.take()), self.queue);
         for _packet in 0..2 {
-            match pmd.rx(alloc, &mut nic) {
-                Ok(Some(packet)) => offer(rt, alloc, &mut nic, &mut pmd, packet),
+            match pmd.rx(rt.alloc(), &mut nic) {
+                Ok(Some(packet)) => offer(rt, &mut nic, &mut pmd, packet),
                 Ok(None) | Err(_) => {}
             }
         }
-        let _reaped = pmd.reap(alloc, &mut nic);
+        let _reaped = pmd.reap(rt.alloc(), &mut nic);
         put(rt, &mut self.pmd, pmd);
         put(rt, &mut self.pass, nic.finish());
     }
 
     /// Its pass and its arena, all of whose blocks are free or lost.
-    fn end<R: Abort>(self, rt: &R) -> (Pass, Arena) {
+    fn end(self, rt: &impl Hand) -> (Pass, Arena) {
         let Driver {
             queue: _,
             pass,
@@ -160,13 +140,6 @@ fn event(random: &mut Random, bufs: &mut Vec<Buf>) -> Event {
     }
 }
 
-/// The frame of a number, a segment of TCP whose port and so whose hash has it.
-fn frame<R: Abort>(rt: &R, alloc: Global, number: u8) -> Octets {
-    let mut frame = TCP_FRAME;
-    frame[35] = number;
-    Octets::of(Vec::from_array(alloc, frame).expect(rt, "memory"))
-}
-
 /// Two drivers, the host that sets all up and lets frames arrive, and a stranger.
 struct Storm {
     random: Random,
@@ -177,114 +150,96 @@ struct Storm {
 }
 
 impl Storm {
-    fn new<R: Abort>(rt: &R, alloc: Global, passes: Vec<Pass>, seed: u32) -> Storm {
+    fn new(rt: &impl Hand, passes: Vec<Pass>, seed: u32) -> Storm {
         let mut passes = passes;
         let stranger = some(rt, passes.pop());
         let host = passes.pop();
-        let second = Driver::new(rt, alloc, some(rt, passes.pop()));
-        let first = Driver::new(rt, alloc, some(rt, passes.pop()));
+        let second = Driver::new(rt, some(rt, passes.pop()));
+        let first = Driver::new(rt, some(rt, passes.pop()));
         Storm {
             random: Random::of(seed),
             drivers: [first, second],
             host,
             stranger,
-            bufs: Vec::new(alloc),
+            bufs: Vec::new(rt.alloc()),
         }
     }
 
     /// Stops both drivers.
-    fn stop<R: Abort + Wait>(&mut self, rt: &R, alloc: Global, bench: &Bench) {
+    fn stop(&mut self, rt: &impl Hand, bench: &Bench) {
         for driver in self.drivers.iter_mut() {
-            driver.stop(rt, alloc, bench);
+            driver.stop(rt, bench);
         }
     }
 
-    /// Stops both drivers, sets the device up, and starts them.
-    fn begin<R: Abort + Wait>(&mut self, rt: &R, alloc: Global, bench: &Bench) {
-        self.stop(rt, alloc, bench);
-        let mut nic = ThroughLock::new(rt, bench, some(rt, self.host.take()), 0);
-        done(rt, pf_setup(alloc, &mut nic, &setup()));
-        put(rt, &mut self.host, nic.finish());
+    /// Stops both drivers, sets the device up, and starts them. Both queues are pool 0's, and frames are parted between
+    /// them by their hash.
+    fn begin(&mut self, rt: &impl Hand, bench: &Bench) {
+        self.stop(rt, bench);
+        let host = some(rt, self.host.take());
+        put(
+            rt,
+            &mut self.host,
+            set_up(rt, bench, host, &parting(Mode::Pools64, 0x0001_000B)),
+        );
         for driver in self.drivers.iter_mut() {
-            driver.start(rt, alloc, bench);
+            driver.start(rt, bench);
         }
     }
 
     /// A frame arrives.
-    fn arrive<R: Abort + Wait>(&mut self, rt: &R, alloc: Global, bench: &Bench) {
+    fn arrive(&mut self, rt: &impl Hand, bench: &Bench) {
         let mut host = some(rt, self.host.take());
-        let arriving = Event::Arrive(frame(rt, alloc, self.random.byte()));
-        let arrived = done(rt, bench.call(rt, alloc, &mut host, arriving));
+        let arriving = Event::Arrive(Octets::of(segment(rt, self.random.byte())));
+        let arrived = reply(rt, bench, &mut host, arriving);
         let_reply_go(rt, &mut self.bufs, arrived);
         put(rt, &mut self.host, host);
     }
 
     /// Four frames arrive, in each fourth turn the stranger makes an event, and both drivers have their turn.
-    fn turn<R: Abort + Wait>(&mut self, rt: &R, alloc: Global, bench: &Bench) {
+    fn turn(&mut self, rt: &impl Hand, bench: &Bench) {
         for _frame in 0..4 {
-            self.arrive(rt, alloc, bench);
+            self.arrive(rt, bench);
         }
         if self.random.byte() % 4 == 0 {
             let event = event(&mut self.random, &mut self.bufs);
-            let reply = done(rt, bench.call(rt, alloc, &mut self.stranger, event));
-            let_reply_go(rt, &mut self.bufs, reply);
+            let made = reply(rt, bench, &mut self.stranger, event);
+            let_reply_go(rt, &mut self.bufs, made);
         }
         for driver in self.drivers.iter_mut() {
-            driver.turn(rt, alloc, bench);
+            driver.turn(rt, bench);
         }
-    }
-}
-
-/// The frames that a history sent, as queue and length, in order.
-fn sent_in<R: Abort>(rt: &R, alloc: Global, closed: &Closed<1, 64>) -> Vec<(u16, usize)> {
-    let mut sent = Vec::new(alloc);
-    for entry in closed.history() {
-        match &entry.reply {
-            ReplyNote::Sent { queue, len, .. } => sent.push((*queue, *len)).expect(rt, "memory"),
-            _other => {}
-        }
-    }
-    sent
-}
-
-/// Sees that these frames are those that were sent.
-fn are_sent<R: Abort>(rt: &R, sent: &[(u16, usize)], frames: &[(u8, Octets)]) {
-    assert!(rt; sent.len() == frames.len());
-    for ((queue, len), (of, bytes)) in sent.iter().zip(frames.iter()) {
-        assert!(rt; *queue == u16::from(*of) && *len == bytes.bytes().len());
     }
 }
 
 /// A run of a seed. Answers how many frames were sent.
-fn run_of<R: Abort + Wait>(rt: &R, alloc: Global, seed: u32) -> usize {
-    let (bench, passes) = done(rt, Bench::new(alloc, 1, 4, 1_000_000));
-    let mut storm = Storm::new(rt, alloc, passes, seed);
+fn run_of(rt: &impl Hand, seed: u32) -> usize {
+    let (bench, passes) = done(rt, Bench::new(rt.alloc(), 1, 4, 1_000_000));
+    let mut storm = Storm::new(rt, passes, seed);
     for number in 0..TURNS {
         if number % SPELL == 0 {
-            storm.begin(rt, alloc, &bench);
+            storm.begin(rt, &bench);
         }
-        storm.turn(rt, alloc, &bench);
+        storm.turn(rt, &bench);
     }
-    storm.stop(rt, alloc, &bench);
+    storm.stop(rt, &bench);
     let Storm {
         random: _,
         drivers: [first, second],
         host,
         stranger,
-        mut bufs,
+        bufs,
     } = storm;
     let (of_first, below) = first.end(rt);
     let (of_second, above) = second.end(rt);
-    let mut passes = Vec::new(alloc);
-    for pass in [of_first, of_second, some(rt, host), stranger] {
-        passes.push(pass).expect(rt, "memory");
-    }
-    let closed = done(rt, bench.close(passes));
-    let sent = sent_in(rt, alloc, &closed);
-    let (memory, frames) = taken_apart(closed.into_device());
-    are_sent(rt, sent.as_slice(), frames.as_slice());
-    take_all(rt, &mut bufs, memory);
-    all_home(rt, bufs, listed(rt, alloc, [below, above]));
+    let passes = [of_first, of_second, some(rt, host), stranger];
+    let closed = done(
+        rt,
+        bench.close(done(rt, Vec::from_array(rt.alloc(), passes))),
+    );
+    let sent = sent_in(rt, closed.history());
+    let arenas = done(rt, Vec::from_array(rt.alloc(), [below, above]));
+    let _away = apart(rt, closed.into_device(), &sent, bufs, arenas);
     sent.len()
 }
 
@@ -292,10 +247,9 @@ fn run_of<R: Abort + Wait>(rt: &R, alloc: Global, seed: u32) -> usize {
 /// device, and what went out is what the history tells.
 #[test]
 fn two_drivers_endure_a_storm(rt: HostRuntime) {
-    let alloc = rt.alloc();
     let mut sent: usize = 0;
     for seed in SEEDS {
-        sent = sent.saturating_add(run_of(&rt, alloc, seed));
+        sent = sent.saturating_add(run_of(&rt, seed));
     }
     assert!(rt; sent > 500, "{sent} sent");
 }

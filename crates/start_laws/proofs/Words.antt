@@ -16,7 +16,7 @@ use Rattle.receive_laws.proofs.DeviceLaws.KeptSettings.{settings_stand}
 use Rattle.receive_laws.proofs.DeviceLaws.Standing.{stays_within}
 use Rattle.receive_laws.proofs.DeviceLaws.StandingAccesses.{write_memory}
 use Rattle.device_lock.specs.Alone.{is_setting}
-use Rattle.receive_laws.proofs.HistoryLaws.Naming.{plain-write}
+use Rattle.receive_laws.proofs.HistoryLaws.SideNames.{plain-write}
 use Rattle.start_laws.specs.Words.{NamesRow, KeepsGround}
 
 module _ (queue : ℕ) (s : State) (port : Port) (n word : ℕ) (row : RowId) (names : NamesRow s port n row queue) where

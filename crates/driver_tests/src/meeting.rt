@@ -1,8 +1,16 @@
+//! Tasks that meet at a place of their own, and workers that meet point by point.
+
+use crate::outcome::Hand;
+use std::sync::atomic::{AtomicU64, Ordering};
 use std::sync::{Mutex, Wait};
-use workers::{Seat, Start, Task, run};
+use std::thread;
+use workers::{Gate, Lockstep, Seat, Start, Task, run};
 
 /// How often a task looks whether the others have come.
 const TURNS: u32 = 1_000_000;
+
+/// How many points a worker comes to.
+const POINTS: u8 = 200;
 
 /// A task that comes to a place, and looks there for a while whether two have come. A turn takes the lock and frees it.
 #[derive(Drop)]
@@ -43,9 +51,8 @@ impl<'a, R: Wait> Task<bool> for Meet<'a, R> {
 
 #[test]
 fn two_tasks_meet(rt: HostRuntime) {
-    let alloc = rt.alloc();
     let come = Mutex::new(0);
-    let starts = Vec::from_array(alloc, [Start::new(), Start::new()]).expect(&rt, "memory");
+    let starts = Vec::from_array(rt.alloc(), [Start::new(), Start::new()]).expect(&rt, "memory");
     let first = Seat::Waits(Meet {
         rt: &rt,
         come: &come,
@@ -76,4 +83,51 @@ fn two_tasks_meet(rt: HostRuntime) {
         }
     }
     assert_eq!(rt; missing, 0);
+}
+
+/// Comes to each point in turn. Behind a point it finds that each worker came there.
+fn go_through<G: Gate>(
+    rt: &impl Hand,
+    gate: &G,
+    worker: usize,
+    own: &AtomicU64,
+    all: &[AtomicU64],
+) {
+    for point in 0..POINTS {
+        own.store(u64::from(point), Ordering::SeqCst);
+        assert!(rt; gate.pass(worker, point));
+        for at in all {
+            assert!(rt; at.load(Ordering::SeqCst) >= u64::from(point));
+        }
+    }
+    gate.leave(worker);
+}
+
+#[test]
+fn three_workers_meet_at_each_point(rt: HostRuntime) {
+    let lockstep = Lockstep::new(&rt, 3);
+    let points = [AtomicU64::new(0), AtomicU64::new(0), AtomicU64::new(0)];
+    let (runtime, gate, all) = (&rt, &lockstep, &points[..]);
+    thread::scope(thread::scope_env(), runtime, |scope| {
+        for (worker, own) in all.iter().enumerate() {
+            if scope
+                .spawn(move || go_through(runtime, gate, worker, own, all))
+                .is_err()
+            {
+                panic!(runtime; "no thread");
+            }
+        }
+    });
+}
+
+/// A later point counts for an earlier one, and nobody waits for a member that left.
+#[test]
+fn no_one_waits_for_who_is_ahead_or_left(rt: HostRuntime) {
+    let gate = Lockstep::new(&rt, 2);
+    gate.leave(1);
+    assert!(rt; gate.pass(0, 7));
+    assert!(rt; gate.pass(0, 3));
+    assert!(rt; gate.pass(1, 5));
+    gate.leave(2);
+    assert!(rt; !gate.pass(2, 0));
 }

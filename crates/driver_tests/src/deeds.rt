@@ -1,0 +1,168 @@
+//! What others do beside a driver of queue 0, told as data, and the events that it is.
+
+use crate::bench::TCP_FRAME;
+use crate::outcome::{Hand, done, some};
+use nic_device::{Arena, Dir, Event, Octets, Port};
+
+/// A place in memory.
+#[derive(Clone, Copy)]
+pub enum At {
+    /// Address 0.
+    Zero,
+    /// The driver's receive ring.
+    Receive,
+    /// Its transmit ring.
+    Transmit,
+    /// A free place in the block of its receive ring.
+    Free,
+    /// Block 100, for a ring of others.
+    Ring,
+    /// Block 101, for a buffer of others.
+    Buffer,
+}
+
+/// The bus addresses of a driver's receive ring and transmit ring.
+#[derive(Clone, Copy)]
+pub struct Rings(pub u32, pub u32);
+
+impl Rings {
+    /// The bus address of a place.
+    pub fn address(self, at: At) -> u32 {
+        let Rings(receive, transmit) = self;
+        match at {
+            At::Zero => 0,
+            At::Receive => receive,
+            At::Transmit => transmit,
+            At::Free => receive.saturating_add(1024),
+            At::Ring => 204_800,
+            At::Buffer => 206_848,
+        }
+    }
+}
+
+/// What others do.
+#[derive(Clone, Copy)]
+pub enum Deed {
+    /// They write a word at a port, by the register's number there.
+    Writes(Port, u32, u32),
+    /// They take so many blocks from a number on.
+    Takes(u32, u32),
+    /// They lend so many blocks of their own from a number on.
+    Lends(u32, u32),
+    /// They write a byte all over the eight slots of a ring.
+    Fills(At, u8),
+    /// They write a descriptor into the eight slots of a ring: a buffer's place, and its second half.
+    Names(At, At, [u8; 8]),
+    /// Queue 3 receives a segment of TCP by a ring of 8.
+    Receives(At),
+    /// Queue 3 fetches so many slots of a ring of 8, and writes its head back to a place where one is given.
+    Sends(At, Option<At>, u32),
+}
+
+/// The events of deeds so far, the blocks of others that aren't lent, and where the driver's rings are.
+pub struct Doing {
+    list: Vec<Event>,
+    blocks: Arena,
+    rings: Rings,
+}
+
+impl Doing {
+    /// No events, and so many blocks from a number on.
+    pub fn new(rt: &impl Hand, rings: Rings, (first, count): (u32, u32)) -> Doing {
+        Doing {
+            list: Vec::new(rt.alloc()),
+            blocks: done(rt, Arena::new(rt.alloc(), first, count)),
+            rings,
+        }
+    }
+
+    /// The events, and the blocks that they don't lend.
+    pub fn finish(self) -> (Vec<Event>, Arena) {
+        let Doing {
+            list,
+            blocks,
+            rings: _,
+        } = self;
+        (list, blocks)
+    }
+
+    /// One deed more.
+    pub fn add(&mut self, rt: &impl Hand, deed: Deed) {
+        match deed {
+            Deed::Writes(port, address, word) => self.push(rt, Event::Write(port, address, word)),
+            Deed::Takes(first, count) => {
+                for number in 0..count {
+                    self.push(rt, Event::Take(first.saturating_add(number)));
+                }
+            }
+            Deed::Lends(first, count) => {
+                for number in 0..count {
+                    let block = some(rt, self.blocks.take_at(first.saturating_add(number)));
+                    self.push(rt, Event::Lend(block));
+                }
+            }
+            Deed::Fills(ring, byte) => self.poke_slots(rt, ring, [byte; 16]),
+            Deed::Names(ring, buffer, half) => {
+                let [a, b, c, d] = self.rings.address(buffer).to_le_bytes();
+                let [e, f, g, h, i, j, k, l] = half;
+                let descriptor = [a, b, c, d, 0, 0, 0, 0, e, f, g, h, i, j, k, l];
+                self.poke_slots(rt, ring, descriptor);
+            }
+            Deed::Receives(ring) => self.receive(rt, ring),
+            Deed::Sends(ring, head, slots) => self.send(rt, ring, head, slots),
+        }
+    }
+
+    fn push(&mut self, rt: &impl Hand, event: Event) {
+        done(rt, self.list.push(event));
+    }
+
+    fn poke_slots(&mut self, rt: &impl Hand, ring: At, bytes: [u8; 16]) {
+        let first = self.rings.address(ring);
+        for slot in 0..8 {
+            self.push(rt, Event::Poke16(first.saturating_add(16 * slot), bytes));
+        }
+    }
+
+    fn write(&mut self, rt: &impl Hand, words: &[(u32, u32)]) {
+        for (address, word) in words {
+            self.push(rt, Event::Write(Port::Pf, *address, *word));
+        }
+    }
+
+    fn receive(&mut self, rt: &impl Hand, ring: At) {
+        let words = [
+            (0x010C0, self.rings.address(ring)), // RDBAL
+            (0x010C8, 128), // RDLEN
+            (0x010D4, 0x0200_0002), // SRRCTL
+            (0x010E8, 0x0200_0000), // RXDCTL
+        ];
+        self.write(rt, &words);
+        self.push(rt, Event::QueueStep(Dir::Rx, 3));
+        self.write(rt, &[(0x010D8, 7)]); // RDT
+        let segment = done(rt, Vec::from_array(rt.alloc(), TCP_FRAME));
+        self.push(rt, Event::Arrive(Octets::of(segment)));
+        for _step in 0..8 {
+            self.push(rt, Event::RxStep);
+        }
+    }
+
+    fn send(&mut self, rt: &impl Hand, ring: At, head: Option<At>, slots: u32) {
+        let back = match head {
+            Some(at) => self.rings.address(at).saturating_add(1),
+            None => 0,
+        };
+        let words = [
+            (0x060C0, self.rings.address(ring)), // TDBAL
+            (0x060C8, 128), // TDLEN
+            (0x060F8, back), // TDWBAL
+            (0x060E8, 0x0200_0000), // TXDCTL
+        ];
+        self.write(rt, &words);
+        self.push(rt, Event::QueueStep(Dir::Tx, 3));
+        self.write(rt, &[(0x060D8, slots)]); // TDT
+        for _step in 0..slots {
+            self.push(rt, Event::TxStep(3));
+        }
+    }
+}

@@ -1,0 +1,160 @@
+//! Runs of two workers: at gates of the test's own, under a limit of entries, and with somebody beside them.
+
+use crate::meeting::meets;
+use crate::outcome::Hand;
+use crate::stranger::{Beside, How, LEAST};
+use crate::team::{Came, Order, run_team};
+use std::sync::atomic::{AtomicU64, Ordering};
+use std::sync::{Mutex, Wait};
+use workers::{Gate, Lockstep};
+
+/// A gate that lets everybody on. At its first point each of the two workers looks for a while whether the other stands
+/// there too, and it is remembered where one doesn't come: so workers that are run one after the other don't hang.
+#[derive(Drop)]
+struct Meeting<'a, R> {
+    rt: &'a R,
+    come: Mutex<u64>,
+    alone: AtomicU64,
+}
+
+impl<'a, R: Wait> Gate for Meeting<'a, R> {
+    ghost use Rattle.std.specs.Prelude.{true};
+
+    ghost lets_on = { λ _ _. true };
+
+    fn pass(&self, worker: usize, point: u8) -> bool {
+        if worker < 2 && point == 0 && !meets(self.rt, &self.come) {
+            self.alone.store(1, Ordering::SeqCst);
+        }
+        true
+    }
+
+    fn leave(&self, _worker: usize) {}
+}
+
+/// A gate that lets nobody on.
+#[derive(Drop)]
+struct Shut;
+
+impl Gate for Shut {
+    ghost use Rattle.std.specs.Prelude.{false};
+
+    ghost lets_on = { λ _ _. false };
+
+    fn pass(&self, _worker: usize, _point: u8) -> bool {
+        false
+    }
+
+    fn leave(&self, _worker: usize) {}
+}
+
+/// A frame, for which each worker looks twice.
+const ONE_FRAME: Order = Order {
+    limit: 100_000,
+    rounds: 2,
+    frames: 1,
+};
+
+/// Runs two workers with nobody beside them.
+fn alone<G: Gate + Sync>(rt: &impl Hand, gate: &G, order: Order) -> Came {
+    let came = run_team(rt, gate, order, Beside::new(rt, How::Nothing, 1));
+    assert!(rt; came.failed == 0 && came.lost == [0, 0]);
+    came
+}
+
+/// Two workers run at one time: each finds the other at the first point.
+#[test]
+fn two_workers_stand_at_one_point(rt: HostRuntime) {
+    let gate = Meeting {
+        rt: &rt,
+        come: Mutex::new(0),
+        alone: AtomicU64::new(0),
+    };
+    let came = alone(&rt, &gate, ONE_FRAME);
+    assert!(rt; came.fed == 1 && came.shut == 0 && came.full == 0);
+    assert_eq!(rt; gate.alone.load(Ordering::SeqCst), 0);
+}
+
+/// Workers that a gate doesn't let on say so and have all at home, and no frame arrives.
+#[test]
+fn a_gate_that_is_shut_ends_both_workers(rt: HostRuntime) {
+    let came = alone(&rt, &Shut, ONE_FRAME);
+    assert!(rt; came.fed == 0 && came.shut == 2 && came.full == 0);
+}
+
+/// Two workers and ten frames under a limit. Answers whether it was met.
+fn limited(rt: &impl Hand, limit: u32) -> bool {
+    let order = Order {
+        limit,
+        rounds: 22,
+        frames: 10,
+    };
+    let came = alone(rt, &Lockstep::new(rt, 3), order);
+    let met = came.full > 0 || came.fed < 10;
+    assert!(rt;
+        came.shut == 0 && (met || came.packets == 10),
+        "{} of {limit}",
+        came.packets
+    );
+    let made = came.made;
+    assert!(rt;
+        made <= limit as usize && (!met || made == limit as usize),
+        "{made} of {limit}"
+    );
+    met
+}
+
+/// Whatever the limit, every call returns, the history closes with no more entries than that, and all blocks come home:
+/// from just behind the set-up on to where both workers are done.
+#[test]
+fn a_full_history_ends_both_workers(rt: HostRuntime) {
+    assert!(rt; limited(&rt, 300));
+    for step in 1..40u32 {
+        let _met = limited(&rt, 300 + 50 * step);
+    }
+    assert!(rt; !limited(&rt, 2_300));
+}
+
+/// Visits of a neighbour by name: how many blocks each worker loses, for each queue whether it is left alone, and how
+/// many arenas don't close before those blocks are given back.
+#[rattlefmt::skip]
+const VISITS: [(&str, How, [u32; 2], [bool; 2], usize); 2] = [
+    ("taken blocks are counted and come home", How::Takes, [2, 0], [false, true], 1),
+    ("a frame goes into the neighbour's block", How::Redirects, [0, 0], [false, false], 0),
+];
+
+#[test]
+fn a_neighbour_visits_two_workers(rt: HostRuntime) {
+    let order = Order {
+        limit: 100_000,
+        rounds: 20,
+        frames: 4,
+    };
+    for (name, how, lost, alone, away) in VISITS {
+        let came = run_team(&rt, &Lockstep::new(&rt, 4), order, Beside::new(&rt, how, 1));
+        assert!(rt; came.fed == 4 && came.lost == lost, "{name}: lost");
+        assert!(rt;
+            came.alone == alone && came.away == away,
+            "{name}: left alone"
+        );
+    }
+}
+
+/// However the threads take turns, every call returns, and nothing is lost. A worker may end with a fault.
+#[test]
+fn workers_end_beside_a_stranger(rt: HostRuntime) {
+    let order = Order {
+        limit: 1_000_000,
+        rounds: 60,
+        frames: 40,
+    };
+    for seed in [1, 82_599, 0x2021_1123, 0xFFFF_FFFF] {
+        let beside = Beside::new(&rt, How::Meddles, seed);
+        let came = run_team(&rt, &Lockstep::new(&rt, 3), order, beside);
+        assert!(rt;
+            came.beside >= LEAST as usize,
+            "{seed}: {} events",
+            came.beside
+        );
+    }
+}

@@ -1,0 +1,329 @@
+//! Two workers, of the queues 0 and 1, at a device that they share, and who is beside them on another thread: they are
+//! run, brought home and taken apart.
+
+use crate::bench::{segment, taken_apart};
+use crate::hostile::stopped_again;
+use crate::outcome::{Hand, done, emptied, none, put, some};
+use crate::schedule::{all_home, take_all};
+use crate::stranger::Beside;
+use nic_device::{Arena, Buf, Device, Mode, Port, ReplyNote};
+use std::collections::VecDeque;
+use std::sync::atomic::{AtomicU64, Ordering};
+use std::thread::join_mut;
+use workers::{
+    CallFault, Closed, Direct, Entry, Gate, Home, Job, Pass, Pmd, PmdFault, Ran, Rest, Setup,
+    Shared, ThroughLock, WorkerEnd, WorkerFault, pf_setup, run_workers,
+};
+
+/// A shared device of one virtual function.
+pub type Bench = Shared<1, 64>;
+
+/// How many blocks each worker has: one those from 0 on, the other those from 32 on.
+pub const BLOCKS: u32 = 32;
+
+/// How two workers are run: how many entries the history has at most, how often each looks for a packet, and how many
+/// frames arrive.
+#[derive(Clone, Copy)]
+pub struct Order {
+    /// The entries.
+    pub limit: u32,
+    /// The looks.
+    pub rounds: u32,
+    /// The frames, TCP segments over IPv4, each from another port.
+    pub frames: u8,
+}
+
+/// What parts TCP segments over IPv4 between the queues 0 and 1.
+pub fn parting(mode: Mode, mrqc: u32) -> Setup {
+    let mut reta = [0; 128];
+    for entry in 0..64usize {
+        reta[2 * entry] = 1;
+    }
+    Setup {
+        mode,
+        mrqc,
+        key: [0x6D; 40],
+        reta,
+        promiscuous: true,
+    }
+}
+
+/// Sets the device up.
+pub fn set_up(rt: &impl Hand, bench: &Bench, pass: Pass, setup: &Setup) -> Pass {
+    let mut nic = ThroughLock::new(rt, bench, pass, 0);
+    done(rt, pf_setup(rt.alloc(), &mut nic, setup));
+    nic.finish()
+}
+
+/// The blocks of the worker of a queue, all free.
+pub fn blocks_of(rt: &impl Hand, queue: u16) -> Arena {
+    done(
+        rt,
+        Arena::new(rt.alloc(), BLOCKS * u32::from(queue), BLOCKS),
+    )
+}
+
+/// A job for each of two passes, on the queue of the pass's number.
+fn jobs(rt: &impl Hand, passes: Vec<Pass>, rounds: u32) -> Vec<Job> {
+    let mut jobs = Vec::new(rt.alloc());
+    for pass in passes {
+        let queue = u16::from(pass.tag() % 2);
+        let job = Job {
+            pass,
+            port: Port::Pf,
+            queue,
+            pf_queue: queue,
+            size: 8,
+            arena: blocks_of(rt, queue),
+            rounds,
+        };
+        done(rt, jobs.push(job));
+    }
+    jobs
+}
+
+/// The workers' part. It is told when they have ended.
+fn work<G: Gate + Sync>(
+    rt: &impl Hand,
+    gate: &G,
+    bench: &Bench,
+    jobs: Vec<Job>,
+    host: &mut Pass,
+    count: u8,
+    ended: &AtomicU64,
+) -> Ran {
+    let mut frames = Vec::new(rt.alloc());
+    for number in 0..count {
+        done(rt, frames.push(segment(rt, number)));
+    }
+    let ran = run_workers(rt, rt.alloc(), gate, bench, jobs, host, frames);
+    ended.store(1, Ordering::SeqCst);
+    done(rt, ran)
+}
+
+/// Runs two workers at a gate, and somebody beside them. Answers what they leave, and the passes of the host and of who
+/// is beside.
+fn run_beside<G: Gate + Sync>(
+    rt: &impl Hand,
+    gate: &G,
+    bench: &Bench,
+    mut passes: Vec<Pass>,
+    order: Order,
+    beside: &mut Beside,
+) -> (Ran, Pass, Pass) {
+    let mut other = some(rt, passes.pop());
+    let setup = parting(Mode::Off, 0x0001_0001);
+    let mut host = set_up(rt, bench, some(rt, passes.pop()), &setup);
+    let mut jobs = Some(jobs(rt, passes, order.rounds));
+    let mut ran = None;
+    let ended = AtomicU64::new(0);
+    join_mut(
+        rt,
+        &mut || {
+            let jobs = some(rt, jobs.take());
+            let done = work(rt, gate, bench, jobs, &mut host, order.frames, &ended);
+            put(rt, &mut ran, done);
+        },
+        &mut || beside.act(rt, gate, bench, &mut other, &ended),
+    );
+    none(rt, jobs);
+    (some(rt, ran), host, other)
+}
+
+/// What came of a run, once all is at home.
+#[derive(Drop)]
+pub struct Came {
+    /// How many frames were let in.
+    pub fed: usize,
+    /// How many packets were handed out.
+    pub packets: usize,
+    /// How many entries the history has.
+    pub made: usize,
+    /// How many of them are by who was beside.
+    pub beside: usize,
+    /// How many workers a full history ended.
+    pub full: u32,
+    /// How many the gate shut out.
+    pub shut: u32,
+    /// How many something else ended.
+    pub failed: u32,
+    /// How many blocks each lost.
+    pub lost: [u32; 2],
+    /// Whether the history leaves each queue alone.
+    pub alone: [bool; 2],
+    /// How many arenas didn't close before all blocks came home.
+    pub away: usize,
+}
+
+/// What is to be taken apart: what came so far, the drivers that run on, each with its queue, and the arenas.
+struct Ending {
+    came: Came,
+    running: Vec<(u16, Pmd)>,
+    arenas: Vec<Arena>,
+}
+
+impl Ending {
+    /// Of a run in which so many frames were let in, and so many calls made beside.
+    fn new(rt: &impl Hand, fed: usize, beside: usize) -> Ending {
+        let came = Came {
+            fed,
+            packets: 0,
+            made: 0,
+            beside,
+            full: 0,
+            shut: 0,
+            failed: 0,
+            lost: [0, 0],
+            alone: [false, false],
+            away: 0,
+        };
+        Ending {
+            came,
+            running: Vec::new(rt.alloc()),
+            arenas: Vec::new(rt.alloc()),
+        }
+    }
+
+    /// Counts why a worker ended early.
+    fn add_fault(&mut self, fault: Option<WorkerFault>) {
+        let came = &mut self.came;
+        match fault {
+            None => {}
+            Some(WorkerFault::Pmd(PmdFault::Call(CallFault::HistoryFull(())))) => {
+                came.full = came.full.saturating_add(1);
+            }
+            Some(WorkerFault::GateShut) => came.shut = came.shut.saturating_add(1),
+            Some(_other) => came.failed = came.failed.saturating_add(1),
+        }
+    }
+
+    /// The driver of a queue is home: each of its blocks is free or lost.
+    fn add_home(&mut self, rt: &impl Hand, queue: u16, home: Home) {
+        let Home {
+            arena,
+            lost,
+            handed: _,
+            accepted: _,
+        } = home;
+        assert!(rt; arena.free_blocks().saturating_add(lost) == BLOCKS);
+        self.came.lost[usize::from(queue % 2)] = lost;
+        done(rt, self.arenas.push(arena));
+    }
+
+    /// Takes one worker's end apart. Answers its pass.
+    fn add(&mut self, rt: &impl Hand, end: WorkerEnd) -> Pass {
+        let WorkerEnd {
+            pass,
+            rest,
+            reports,
+            fault,
+        } = end;
+        let queue = u16::from(pass.tag() % 2);
+        self.add_fault(fault);
+        self.came.packets = self.came.packets.saturating_add(reports.len());
+        match rest {
+            Rest::Home(home) => self.add_home(rt, queue, home),
+            Rest::Running(pmd) => done(rt, self.running.push((queue, pmd))),
+        }
+        pass
+    }
+
+    /// Looks what the history tells.
+    fn look(&mut self, rt: &impl Hand, closed: &Closed<1, 64>) {
+        self.came.made = closed.history().len();
+        self.came.alone = [closed.left_alone(0, 0), closed.left_alone(1, 1)];
+        let beside = done(rt, closed.of_pass(rt.alloc(), 3));
+        assert_eq!(rt; beside.len(), self.came.beside);
+    }
+
+    /// Stops the drivers that run on, over the device in hand. What goes out meanwhile is put behind what was sent.
+    fn stop_all(&mut self, rt: &impl Hand, device: Device, sent: &mut Sent) -> Device {
+        let mut device = device;
+        for _driver in 0..self.running.len() {
+            let (queue, pmd) = some(rt, self.running.pop());
+            let mut direct = Direct::new(rt.alloc(), device, queue);
+            let home = stopped_again(rt, &mut direct, pmd);
+            self.add_home(rt, queue, home);
+            let (stopped, calls) = direct.finish();
+            let calls = done(rt, calls.into_vec(rt.alloc()));
+            for call in &calls {
+                add_sent(rt, sent, &call.reply);
+            }
+            device = stopped;
+        }
+        device
+    }
+}
+
+/// The frames that went out and weren't collected, as queue and length, in their order.
+pub type Sent = VecDeque<(u16, usize)>;
+
+/// What a reply tells of them.
+fn add_sent(rt: &impl Hand, sent: &mut Sent, reply: &ReplyNote) {
+    match reply {
+        ReplyNote::Sent { queue, len, .. } => done(rt, sent.push_back((*queue, *len))),
+        ReplyNote::Frame { .. } => {
+            let _collected = some(rt, sent.pop_front());
+        }
+        _other => {}
+    }
+}
+
+/// What a history tells of them.
+pub fn sent_in(rt: &impl Hand, history: &[Entry]) -> Sent {
+    let mut sent = VecDeque::new(rt.alloc());
+    for entry in history {
+        add_sent(rt, &mut sent, &entry.reply);
+    }
+    sent
+}
+
+/// Takes a device apart: what went out is what was told, and each block comes home. Answers how many arenas didn't
+/// close before that.
+pub fn apart(
+    rt: &impl Hand,
+    device: Device,
+    sent: &Sent,
+    mut bufs: Vec<Buf>,
+    arenas: Vec<Arena>,
+) -> usize {
+    let (memory, frames) = taken_apart(device);
+    assert!(rt; sent.len() == frames.len());
+    for ((queue, len), (of, bytes)) in sent.iter().zip(frames.iter()) {
+        assert!(rt; *queue == u16::from(*of) && *len == bytes.bytes().len());
+    }
+    take_all(rt, &mut bufs, memory);
+    all_home(rt, bufs, arenas)
+}
+
+/// Runs two workers at a gate, with somebody beside them, and takes all apart.
+pub fn run_team<G: Gate + Sync>(
+    rt: &impl Hand,
+    gate: &G,
+    order: Order,
+    mut beside: Beside,
+) -> Came {
+    let (bench, passes) = done(rt, Bench::new(rt.alloc(), 1, 4, order.limit));
+    let (ran, host, other) = run_beside(rt, gate, &bench, passes, order, &mut beside);
+    let Ran { mut ends, fed } = ran;
+    let mut ending = Ending::new(rt, fed, other.calls().len());
+    let mut passes = done(rt, Vec::from_array(rt.alloc(), [host, other]));
+    for _end in 0..ends.len() {
+        let pass = ending.add(rt, some(rt, ends.pop()));
+        done(rt, passes.push(pass));
+    }
+    emptied(rt, ends);
+    let closed = done(rt, bench.close(passes));
+    ending.look(rt, &closed);
+    let mut sent = sent_in(rt, closed.history());
+    let device = ending.stop_all(rt, closed.into_device(), &mut sent);
+    let Ending {
+        mut came,
+        running,
+        mut arenas,
+    } = ending;
+    emptied(rt, running);
+    let bufs = beside.leave(rt, &mut arenas);
+    came.away = apart(rt, device, &sent, bufs, arenas);
+    came
+}

@@ -17,10 +17,11 @@ use Rattle.nic_device.specs.RegisterFile.Owner.{owner_of, is_owner}
 use Rattle.nic_device.specs.DmaRing.declared.dir.Dir.{Dir}
 use Rattle.nic_device.specs.DmaRing.declared.dir.Dir.TheVariants.{Rx, Tx}
 use Rattle.nic_device.specs.RegisterFile.declared.owner.Owner.TheVariants as owner
-use Rattle.nic_device.specs.RegisterLaws.Footprint.{LacksWord, is_pending, is_place, of_write, read_by, written_by}
+use Rattle.nic_device.specs.RegisterLaws.Footprint.{LacksWord, is_pending, is_place, pool_changes, of_write, read_by, written_by}
 use Rattle.nic_device.proofs.RegisterLaws.Accessed.{none_pending_of, none_written_by}
 use Rattle.nic_device.proofs.RegisterLaws.Owners.{is_place-same}
 use Rattle.nic_device.proofs.RegisterLaws.NoSide.{counters_own}
+use Rattle.nic_device.proofs.RegisterLaws.Covers.{lacks-renewed}
 use Rattle.nic_device.proofs.RegisterLaws.ReadBack.{one_place}
 use Rattle.nic_device.specs.Footprint.{Reach, read_reach, write_reach, reset_reach, below_reset_reach, switch_reach}
 use Rattle.nic_device.specs.declared.named.Named.{Named}
@@ -59,7 +60,8 @@ write_misses mode (Nothing seen) word p is none bit = refl
 write_misses mode (Register q view) word p is none bit =
     ap (λ b. (cond b reset_reach (below_reset_reach mode q word)).registers.bits p bit) (none q view refl)
     ∙ either_way (λ (r : Reach). r.registers.bits p bit ≡ false) (asks_pool_reset (row_of q.row).kind word) _ _
-    (no_pools_by (row_of p.row).bank mode q.index p.index (counters_own p is))
+    (lacks-renewed (pool_changes mode q.index) p
+    (λ at. no_pools_by (row_of p.row).bank mode q.index p.index (counters_own p is)) bit)
     (not_written q p is bit)
 
 pub switch_misses : (dir : Dir) (queue : ℕ) (p : Place) → (row_of p.row).kind ≡ kind.Rc

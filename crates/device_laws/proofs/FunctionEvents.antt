@@ -21,9 +21,9 @@ use Rattle.nic_device.specs.RegisterFile.Words.{word_at}
 use Rattle.nic_device.specs.DmaRing.declared.dir.Dir.{Dir}
 use Rattle.nic_device.specs.DmaRing.declared.dir.Dir.TheVariants.{Rx, Tx}
 use Rattle.nic_device.specs.RegisterFile.declared.owner.Owner.TheVariants as owner
-use Rattle.nic_device.specs.RegisterLaws.Footprint.{LacksWord, of_read, of_write}
+use Rattle.nic_device.specs.RegisterLaws.Footprint.{LacksWord, pool_changes, of_read, of_write}
 use Rattle.nic_device.proofs.RegisterLaws.Accessed.{covers-of_read, covers-of_write}
-use Rattle.nic_device.proofs.RegisterLaws.Covers.{fails}
+use Rattle.nic_device.proofs.RegisterLaws.Covers.{fails, lacks-renewed}
 use Rattle.nic_device.proofs.RegisterLaws.Footprints.{word_stands}
 use Rattle.nic_device.specs.Footprint.{Reach, read_reach, write_reach, reset_reach, below_reset_reach, pool_reach, in_registers, switch_reach}
 use Rattle.nic_device.specs.Named.{named}
@@ -95,8 +95,8 @@ module _ (p : Place) (is : (row_of p.row).bank ≡ VfCounters) where
       ap (λ b. (cond b reset_reach (below_reset_reach mode q word)).registers.bits p bit) parts.0
       ∙ cond_both asks (pool_reach mode q.index) (in_registers (of_write q))
       (λ (r : Reach). r.registers.bits p bit ≡ false)
-      (λ pool. ap (λ b. is_of_pool_by b mode q.index p.index) is
-      ∙ sym (ap (λ b. b && p.index == q.index) pool) ∙ parts.1)
+      (λ pool. lacks-renewed (pool_changes mode q.index) p (λ at. ap (λ b. is_of_pool_by b mode q.index p.index) is
+      ∙ sym (ap (λ b. b && p.index == q.index) pool) ∙ parts.1) bit)
       (λ plain. not_written q.row q.index bit)
 
   switch_misses : (dir : Dir) (queue : ℕ) → LacksWord (switch_reach dir queue).registers p

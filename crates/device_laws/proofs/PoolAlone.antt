@@ -17,6 +17,7 @@ use Rattle.nic_device.specs.RegisterFile.Registers.{Registers}
 use Rattle.nic_device.specs.RegisterLaws.Laws.{after_write as word_written}
 use Rattle.nic_device.specs.RegisterLaws.Footprint.{ChangesWithin, pool_changes, of_read, of_write}
 use Rattle.nic_device.proofs.RegisterLaws.Footprints.{within-refl, within-wider}
+use Rattle.nic_device.proofs.RegisterLaws.PoolReset.{within-pool_reset}
 use Rattle.nic_device.proofs.RegisterLaws.PoolPlaces.{covers-read, covers-write, shared_rows, shared-read, shared-written}
 use Rattle.nic_device.proofs.RegisterLaws.Within.{within-after_read, within-written}
 use Rattle.nic_device.specs.Access.{named_read, named_written, state_written}
@@ -81,8 +82,9 @@ alone_still s v = alone_registers s v s.registers (within-refl (pool_changes (mo
 
 pub alone_reset : (s : State) (v : ℕ) → ChangesPoolAlone v s (with_pool_reset s v)
 alone_reset s v =
+    let within = within-pool_reset s.registers (mode_in s.registers) v in
     let stays = pool_reset_stays s v in
-    assumption (stays, others_again (mode_in s.registers) v s.waiting)
+    assumption (within, stays, others_again (mode_in s.registers) v s.waiting)
 
 within_read : (s : State) (v : ℕ) (p : Place) → IsReached (mode_in s.registers) v p
     → ChangesWithin (pool_changes (mode_in s.registers) v) s.registers (after_read (row_of p.row).kind s.registers p)

@@ -21,8 +21,9 @@ use Rattle.nic_device.specs.DmaRing.declared.dir.Dir.{Dir}
 use Rattle.nic_device.specs.DmaRing.declared.dir.Dir.TheVariants.{Rx, Tx}
 use Rattle.nic_device.specs.RegisterFile.declared.owner.Owner.{Owner}
 use Rattle.nic_device.specs.RegisterFile.declared.owner.Owner.TheVariants as owner
-use Rattle.nic_device.specs.RegisterLaws.Footprint.{LacksWord, is_place, is_pending, read_by}
+use Rattle.nic_device.specs.RegisterLaws.Footprint.{LacksWord, is_place, is_pending, pool_changes, read_by}
 use Rattle.nic_device.proofs.RegisterLaws.Accessed.{none_pending, none_pending_of, none_written_by}
+use Rattle.nic_device.proofs.RegisterLaws.Covers.{lacks-renewed}
 use Rattle.nic_device.proofs.RegisterLaws.Footprints.{word_stands}
 use Rattle.nic_device.proofs.RegisterLaws.Owners.{is_place-other}
 use Rattle.nic_device.specs.Footprint.{read_reach, write_reach, receive_reach, reach_by, switch_reach, Reach, pool_reach, is_function_count}
@@ -62,7 +63,8 @@ module _ (row : RowId) (is : IsSetting row) where
   other_place p n = is_place-other p here (λ e. n (ap (λ (q : Place). q.row) (sym e)))
 
   none_pooled : (mode : Mode) (v : ℕ) → LacksWord (pool_reach mode v).registers here
-  none_pooled mode v bit = ap (λ b. is_of_pool_by b mode v 0) is.bank
+  none_pooled mode v =
+      lacks-renewed (pool_changes mode v) here (λ bit. ap (λ b. is_of_pool_by b mode v 0) is.bank)
 
   none_written : (mode : Mode) (m : Named) (word : ℕ) → ((p : Place) (view : ℕ) → m ≡ Register p view → IsOther row p)
       → LacksWord (write_reach mode m word).registers here

@@ -9,7 +9,7 @@ use Rattle.nic_device.specs.RegisterFile.Access.{asks_pool_reset}
 use Rattle.nic_device.specs.RegisterFile.Pools.{mode_in}
 use Rattle.nic_device.specs.RegisterFile.Registers.{word_of}
 use Rattle.nic_device.specs.RegisterFile.Settings.{is_stopped}
-use Rattle.nic_device.specs.RegisterLaws.Footprint.{ChangesWithin, AgreeWithin, pool_agrees, pool_changes}
+use Rattle.nic_device.specs.RegisterLaws.Footprint.{ChangesWithin, AgreeWithin, pool_agrees, pool_changes, pool_renews}
 use Rattle.nic_device.specs.RegisterLaws.PoolReset.{IsResetAt}
 use Rattle.nic_device.specs.Named.{named}
 use Rattle.nic_device.specs.PoolReset.{others_waiting}
@@ -96,7 +96,7 @@ VfSeesItsPoolAlone =
 -- bytes, and of the frames that wait those of other queues are left, in their order
 pub record IsPoolReset (v : ℕ) (old new : State) : Type 0 where
   pub alone : ChangesPoolAlone v old new
-  pub registers : IsResetAt (pool_changes (mode_in old.registers) v) new.registers
+  pub registers : IsResetAt (pool_renews (mode_in old.registers) v) new.registers
   pub staged : (queue : ℕ) → IsTrue (has_queue (mode_in old.registers) v queue) → staged_by new queue ≡ []
   pub waiting : new.waiting ≡ others_waiting (mode_in old.registers) v old.waiting
 

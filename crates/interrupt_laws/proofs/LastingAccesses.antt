@@ -23,7 +23,7 @@ use Rattle.nic_device.proofs.RegisterLaws.Accessed.{covers-of_read, covers-of_wr
 use Rattle.nic_device.proofs.RegisterLaws.Covers.{misses-narrower, misses-owner}
 use Rattle.nic_device.proofs.RegisterLaws.Owners.{is_owner-same}
 use Rattle.nic_device.proofs.RegisterLaws.Footprints.{word_stands}
-use Rattle.nic_device.proofs.RegisterLaws.PoolReset.{renewed-pool}
+use Rattle.nic_device.proofs.RegisterLaws.PoolReset.{within-pool_reset}
 use Rattle.nic_device.proofs.RegisterLaws.Stands.{group_stands}
 use Rattle.nic_device.proofs.RegisterLaws.Within.{within-after_read, within-written}
 use Rattle.nic_device.specs.Access.{state_read, state_written}
@@ -114,7 +114,7 @@ module _ (s : State) (h : IsSound s) (g : Group) (there : IsGroup g) (bit : ℕ)
       → (bit_of (with_pool_reset s v) g bit).mask ≡ true
   reset_elsewhere v other =
       mask_stands (with_pool_reset s v)
-      (word_stands (renewed-pool s.registers (mode_in s.registers) v).alone (mask_register g) (λ at. other))
+      (word_stands (within-pool_reset s.registers (mode_in s.registers) v) (mask_register g) (λ at. other))
 
 -- reads of a group's own registers
 

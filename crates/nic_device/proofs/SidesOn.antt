@@ -25,7 +25,7 @@ use Rattle.register_laws.specs.Sound.{HasShape, AreSound}
 use Rattle.register_laws.proofs.Accessed.{none_written_by}
 use Rattle.register_laws.proofs.NoSide.{pending_misses_sides, read_misses_sides}
 use Rattle.register_laws.proofs.Owners.{is_owner-itself, is_place-same}
-use Rattle.register_laws.proofs.PoolReset.{renewed-pool}
+use Rattle.register_laws.proofs.PoolReset.{within-pool_reset}
 use Rattle.register_laws.proofs.Sound.{sound-written}
 use Rattle.register_laws.proofs.Switches.{receive-asked, receive-switched, transmit-asked, transmit-switched}
 use Rattle.register_laws.proofs.Within.{within-switched, within-written}
@@ -191,6 +191,6 @@ module _ (r : Registers) (h : HasShape r) where
 pub others_pooled : (r : Registers) (mode : Mode) (v : ℕ) (dir : Dir) (queue : ℕ) → has_queue mode v queue ≡ false
     → is_on (pool_reset mode v r) dir queue ≡ is_on r dir queue
 others_pooled r mode v Rx queue none =
-    on_stays (pool_changes mode v) r (pool_reset mode v r) Rx queue (λ bit. none) (renewed-pool r mode v).alone
+    on_stays (pool_changes mode v) r (pool_reset mode v r) Rx queue (λ bit. none) (within-pool_reset r mode v)
 others_pooled r mode v Tx queue none =
-    on_stays (pool_changes mode v) r (pool_reset mode v r) Tx queue (λ bit. none) (renewed-pool r mode v).alone
+    on_stays (pool_changes mode v) r (pool_reset mode v r) Tx queue (λ bit. none) (within-pool_reset r mode v)

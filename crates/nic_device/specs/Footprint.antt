@@ -16,7 +16,7 @@ use Rattle.register_file.specs.Columns.{place}
 use Rattle.register_file.specs.Pools.{mode_in}
 use Rattle.rx_ring.specs.DmaRing.declared.dir.Dir.{Dir}
 use Rattle.rx_ring.specs.DmaRing.declared.dir.Dir.TheVariants.{Rx, Tx}
-use Rattle.register_laws.specs.Footprint.{Footprint, ChangesWithin, nothing, everything, either, the_word, counters, of_side, pool_changes, pending, any_pending, of_read, of_write}
+use Rattle.register_laws.specs.Footprint.{Footprint, ChangesWithin, nothing, everything, either, the_word, counters, of_side, pool_renews, pending, any_pending, of_read, of_write}
 use Rattle.register_laws.specs.Sides.{transmit_queue_of}
 use Rattle.tx_ring.specs.Report.{report_length}
 use Rattle.nic_device.specs.Named.{named}
@@ -82,10 +82,11 @@ read_reach (Register p view) = in_registers (of_read p)
 abbrev pub reset_reach : Reach
 reset_reach = record nowhere { registers = everything; staged = λ queue. true; waiting = true }
 
--- a reset of a pool leaves all that isn't the pool's, lent memory, frames out and the link
+-- a reset of a pool leaves all that isn't the pool's or that the reset doesn't take, lent memory, frames out and the
+-- link
 abbrev pub pool_reach : Mode → ℕ → Reach
 pool_reach mode v = record nowhere {
-  registers = pool_changes mode v;
+  registers = pool_renews mode v;
   staged = λ queue. has_queue mode v queue;
   waiting = true;
 }

@@ -1,50 +1,88 @@
 -- The reset of a pool.
-use Rattle.std.specs.Prelude.{ℕ, ◌/◌, false, List, [], ◌∷◌, fold, Option, Some, None}
-use Rattle.std.specs.List.{range_with_len}
-use Rattle.reg_table.specs.Rows.{row_of}
+use Rattle.std.specs.Prelude.{ℕ, ◌/◌, ◌==◌, Bool, true, false, ◌&&◌, ◌||◌, List, [], ◌∷◌, ◌++◌, fold, Option, Some, None, bit_and, bit_xor, if◌then◌else◌}
+use Rattle.std.specs.List.{list_any, range_with_len}
+use Rattle.reg_table.specs.Rows.{row_of, number_of}
 use Rattle.reg_table.specs.declared.rows.RowId.{RowId}
 use Rattle.reg_table.specs.declared.rows.RowId.TheVariants.{Pvfctrl, Pvteicr, Pvteics, Pvteims, Pvteimc, Pvteiac, Pvteiam, Psrtype, Vfgprc, Vfgptc, Pvtivar, Rdbal, Rdbah, Rdlen, Rdh, Srrctl, Rdt, Rxdctl, Tdbal, Tdbah, Tdlen, Tdh, Tdt, Txdctl, Tdwbal, Tdwbah}
 use Rattle.intr_unit.specs.declared.group.Group.TheVariants.{Vf}
 use Rattle.vf_map.specs.Pools.{queues_of}
 use Rattle.vf_map.specs.declared.mode.Mode.{Mode}
+use Rattle.register_file.specs.Bits.{has_bit}
 use Rattle.register_file.specs.Groups.{with_told}
-use Rattle.register_file.specs.Registers.{Registers, with_word, with_wanted}
+use Rattle.register_file.specs.Registers.{Registers, word_of, with_word, with_wanted}
 use Rattle.dma_ring.specs.declared.dir.Dir.{Dir}
 use Rattle.dma_ring.specs.declared.dir.Dir.TheVariants.{Rx, Tx}
 
--- the rows that a pool has once, those of a side of a queue, and that of the vectors of two queues
-abbrev pub function_rows : List RowId
-function_rows =
-    Pvfctrl ∷ Pvteicr ∷ Pvteics ∷ Pvteims ∷ Pvteimc ∷ Pvteiac ∷ Pvteiam ∷ Psrtype ∷ Vfgprc ∷ Vfgptc ∷ []
+-- what of the words of a row the reset of a pool takes: all their bits, or those of a mask
+pub record Renewal : Type 0 where
+  pub row : RowId
+  pub whole : Bool
+  pub mask : ℕ
 
-abbrev pub side_rows : Dir → List RowId
-side_rows Rx = Rdbal ∷ Rdbah ∷ Rdlen ∷ Rdh ∷ Srrctl ∷ Rdt ∷ Rxdctl ∷ []
-side_rows Tx = Tdbal ∷ Tdbah ∷ Tdlen ∷ Tdh ∷ Tdt ∷ Txdctl ∷ Tdwbal ∷ Tdwbah ∷ []
+abbrev pub all_bits : RowId → Renewal
+all_bits row = record { row = row; whole = true; mask = 0 }
 
-abbrev pub vector_rows : List RowId
-vector_rows = Pvtivar ∷ []
+-- the table of what it takes: of the rows that a pool has once, of those of a side of a queue, and of that of the
+-- vectors of two queues
+abbrev pub function_renewals : List Renewal
+function_renewals =
+    all_bits Pvfctrl ∷ all_bits Pvteicr ∷ all_bits Pvteics ∷ all_bits Pvteims ∷ all_bits Pvteimc ∷ all_bits Pvteiac
+    ∷ all_bits Pvteiam ∷ all_bits Psrtype ∷ all_bits Vfgprc ∷ all_bits Vfgptc ∷ []
 
--- the registers with the words of rows at an index as a reset leaves them
-abbrev pub word_reset : ℕ → Registers → RowId → Registers
-word_reset index r row = with_word r row index (row_of row).reset
+abbrev pub side_renewals : Dir → List Renewal
+side_renewals Rx =
+    all_bits Rdbal ∷ all_bits Rdbah ∷ all_bits Rdlen ∷ all_bits Rdh ∷ all_bits Srrctl ∷ all_bits Rdt ∷ all_bits Rxdctl
+    ∷ []
+side_renewals Tx =
+    all_bits Tdbal ∷ all_bits Tdbah ∷ all_bits Tdlen ∷ all_bits Tdh ∷ all_bits Tdt ∷ all_bits Txdctl ∷ all_bits Tdwbal
+    ∷ all_bits Tdwbah ∷ []
 
-abbrev pub rows_reset : Registers → List RowId → ℕ → Registers
-rows_reset r rows index = fold (word_reset index) r rows
+abbrev pub vector_renewals : List Renewal
+vector_renewals = all_bits Pvtivar ∷ []
+
+abbrev pub renewals : List Renewal
+renewals = function_renewals ++ (side_renewals Rx ++ (side_renewals Tx ++ vector_renewals))
+
+-- whether a renewal takes a bit, whether one of a table does of a row's words, and whether the reset of a pool does
+abbrev pub takes : Renewal → ℕ → Bool
+takes renewal bit = renewal.whole || has_bit bit renewal.mask
+
+abbrev pub has_renewal : List Renewal → RowId → ℕ → Bool
+has_renewal table row bit = list_any (λ renewal. number_of renewal.row == number_of row && takes renewal bit) table
+
+abbrev pub is_renewed : RowId → ℕ → Bool
+is_renewed row bit = has_renewal renewals row bit
+
+-- a number with the bits of a mask taken from another one
+abbrev pub mixed : (mask old new : ℕ) → ℕ
+mixed mask old new = bit_xor old (bit_and (bit_xor old new) mask)
+
+-- a word after a renewal: the bits that it takes are those of the row's reset value
+abbrev pub renewed : Renewal → ℕ → ℕ
+renewed renewal old =
+    if renewal.whole then (row_of renewal.row).reset else mixed renewal.mask old (row_of renewal.row).reset
+
+-- the registers after renewals of the words at an index
+abbrev pub word_reset : ℕ → Registers → Renewal → Registers
+word_reset index r renewal = with_word r renewal.row index (renewed renewal (word_of r renewal.row index))
+
+abbrev pub rows_reset : Registers → List Renewal → ℕ → Registers
+rows_reset r table index = fold (word_reset index) r table
 
 -- a side of a queue after a reset: its words are as a reset leaves them, and it isn't wanted on
 abbrev pub side_reset : Dir → Registers → ℕ → Registers
-side_reset dir r queue = with_wanted (rows_reset r (side_rows dir) queue) dir queue false
+side_reset dir r queue = with_wanted (rows_reset r (side_renewals dir) queue) dir queue false
 
 abbrev pub queue_reset : Registers → ℕ → Registers
 queue_reset r queue = side_reset Tx (side_reset Rx r queue) queue
 
 -- a word of vectors after a reset
 abbrev pub vectors_reset : Registers → ℕ → Registers
-vectors_reset r index = rows_reset r vector_rows index
+vectors_reset r index = rows_reset r vector_renewals index
 
 -- what a pool has once, after a reset: its words are as a reset leaves them, and no bit is told
 abbrev pub function_reset : Registers → ℕ → Registers
-function_reset r v = with_told (rows_reset r function_rows v) (Vf v) 0
+function_reset r v = with_told (rows_reset r function_renewals v) (Vf v) 0
 
 -- so many queues after a reset, and their vectors
 abbrev pub queues_reset : Registers → Option (ℕ × ℕ) → Registers

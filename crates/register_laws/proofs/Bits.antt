@@ -1,13 +1,14 @@
 -- Single bits of words.
 use Rattle.std.proofs.Common.{◌≡◌, ℕ, ◌+◌, ◌-◌, ◌/◌, ◌%◌, ◌^◌, ◌<◌, ◌≤◌, Bool, true, false, cond, ap, ◌∙◌, inl, inr, arith, ◌==◌}
-use Rattle.std.specs.Prelude.{bit_and, min, max}
+use Rattle.std.specs.Prelude.{bit_and, bit_xor, min, max}
 use Rattle.std.proofs.Math.Nat.{add-div_right, div-eq_of_lt, div-eq-sub-div}
 use Rattle.std.proofs.lemmas.Bool.{cases_Bool, cases_lt, cond-true, cond-false, eq-eqb, ne_eqb, eqb-true, eqb-false}
 use Rattle.std.specs.Int.{bit_at, w32}
 use Rattle.std.proofs.lemmas.Nat.{and_le_l, pow_pos}
 use Rattle.std.proofs.lemmas.Bool.Decides.{nat_tests}
-use Rattle.std.proofs.lemmas.Nat.Bits.{bit_at_and, bit_at_or, bit_at_not, bit_at-lt, same_from_bits}
+use Rattle.std.proofs.lemmas.Nat.Bits.{bit_at_and, bit_at_or, bit_at_xor, bit_at_not, bit_at-lt, same_from_bits}
 use Rattle.register_file.specs.Bits.{has_bit, bit_set, bit_cleared, merged}
+use Rattle.register_file.specs.PoolReset.{mixed}
 
 -- numbers with the same bits are the same
 one_digit : (a b : ℕ) → a < 2 → b < 2 → (a == 1) ≡ (b == 1) → a ≡ b
@@ -16,6 +17,22 @@ one_digit a b small other e = grind (arith, nat_tests)
 pub same_word : {m n : ℕ} → ((bit : ℕ) → has_bit bit m ≡ has_bit bit n) → m ≡ n
 same_word {m} {n} each =
     same_from_bits m n (λ bit. one_digit (bit_at m bit) (bit_at n bit) (bit_at-lt m bit) (bit_at-lt n bit) (each bit))
+
+-- the bits of a number with those of a mask taken from another one
+mixed_digit : (old new mask : ℕ) → old < 2 → new < 2 → mask < 2
+    → ((old + min ((old + new) % 2) mask) % 2 == 1) ≡ cond (mask == 1) (new == 1) (old == 1)
+mixed_digit old new mask a b c = grind (arith, nat_tests)
+
+pub has_bit-mixed : (bit mask old new : ℕ)
+    → has_bit bit (mixed mask old new) ≡ cond (has_bit bit mask) (has_bit bit new) (has_bit bit old)
+has_bit-mixed bit mask old new =
+    ap (λ n. n == 1) (
+    bit_at_xor old (bit_and (bit_xor old new) mask) bit
+    ∙ ap (λ n. (bit_at old bit + n) % 2) (bit_at_and (bit_xor old new) mask bit
+    ∙ ap (λ n. min n (bit_at mask bit)) (bit_at_xor old new bit))
+    )
+    ∙ mixed_digit (bit_at old bit) (bit_at new bit) (bit_at mask bit) (bit_at-lt old bit) (bit_at-lt new bit)
+    (bit_at-lt mask bit)
 
 kept_bit : (x y : ℕ) → x < 2 → max (min x 1) (min y 0) ≡ x
 kept_bit x y h = omega arith

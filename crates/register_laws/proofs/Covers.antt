@@ -1,6 +1,6 @@
 -- Which footprints have all that others have, and which have nothing of others.
 use Rattle.std.proofs.Common.{◌≡◌, ℕ, Bool, true, false, refl, ap, sym, ◌∙◌, subst, inl, inr}
-use Rattle.std.proofs.lemmas.Bool.{both_ways, or_cases, or_left, or_right}
+use Rattle.std.proofs.lemmas.Bool.{both_ways, and_parts, or_cases, or_left, or_right}
 use Rattle.register_file.specs.RegTable.Rows.{row_of}
 use Rattle.register_file.specs.RegTable.declared.place.Place.{Place}
 use Rattle.register_file.specs.IntrUnit.declared.group.Group.{Group}
@@ -8,9 +8,10 @@ use Rattle.register_file.specs.IntrUnit.declared.group.Group.TheVariants.{Pf, Vf
 use Rattle.register_file.specs.Columns.{place}
 use Rattle.register_file.specs.Groups.{cause_row, mask_row, index_of}
 use Rattle.register_file.specs.Owner.{owner_of, is_owner}
+use Rattle.register_file.specs.PoolReset.{is_renewed}
 use Rattle.register_file.specs.declared.owner.Owner.{Owner}
 use Rattle.register_file.specs.declared.owner.Owner.TheVariants as owner
-use Rattle.register_laws.specs.Footprint.{Footprint, HasWord, Covers, Misses, nothing, is_place, the_word, the_enable, of_owner, of_group, pending, any_pending, is_pending}
+use Rattle.register_laws.specs.Footprint.{Footprint, HasWord, LacksWord, Covers, Misses, nothing, renewed_of, is_place, the_word, the_enable, of_owner, of_group, pending, any_pending, is_pending}
 use Rattle.register_laws.proofs.Owners.{is_group-itself, is_owner-itself, is_owner-same, is_place-itself, is_place-same}
 
 -- what follows from a test that fails fails
@@ -40,6 +41,17 @@ misses-within f g h has none = record {
   wanted = λ dir queue is. none.wanted dir queue (has.wanted dir queue is);
   told = λ i is. none.told i (has.told i is);
 }
+
+-- of what a pool's reset takes of a footprint the footprint has all, and what this lacks that lacks
+pub covers-renewed : (f : Footprint) → Covers f (renewed_of f)
+covers-renewed f = record {
+  bits = λ p bit is. (and_parts (is_renewed p.row bit) (f.bits p bit) is).1;
+  wanted = λ dir queue is. is;
+  told = λ g is. is;
+}
+
+pub lacks-renewed : (f : Footprint) (p : Place) → LacksWord f p → LacksWord (renewed_of f) p
+lacks-renewed f p none bit = fails _ _ ((covers-renewed f).bits p bit) (none bit)
 
 pub misses-nothing : (g : Footprint) → Misses nothing g
 misses-nothing g = record { bits = λ p bit is. refl; wanted = λ dir queue is. refl; told = λ h is. refl }

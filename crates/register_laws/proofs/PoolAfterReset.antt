@@ -14,8 +14,7 @@ use Rattle.register_file.specs.DmaRing.declared.dir.Dir.{Dir}
 use Rattle.register_file.specs.DmaRing.declared.dir.Dir.TheVariants.{Rx, Tx}
 use Rattle.register_laws.specs.Agreement.{PoolResetMakesAgreement}
 use Rattle.register_laws.specs.Sound.{HasShape}
-use Rattle.register_laws.proofs.PoolReset.{renewed-pool}
-use Rattle.register_laws.proofs.Renewed.{word_renewed}
+use Rattle.register_laws.proofs.PoolReset.{renewed-pool, pool_word_renewed}
 
 -- what lies past the end is 0, or not wanted
 word_past : (r : Registers) → HasShape r → (p : Place) → (p.index < (row_of p.row).count → ⊥) → word_at r.words p ≡ 0
@@ -41,7 +40,8 @@ agree-reset mode v a b ha hb =
       words = λ p is. elim (cases_lt p.index (row_of p.row).count) as
           (λ _. word_at new_a.words p ≡ word_at new_b.words p) [
             | inl inside ↦
-                word_renewed left ha p (λ bit. is) inside ∙ sym (word_renewed right hb p (λ bit. is) inside)
+                pool_word_renewed mode v left ha p is inside
+                ∙ sym (pool_word_renewed mode v right hb p is inside)
             | inr past ↦
                 let out : p.index < (row_of p.row).count → ⊥ = λ h. omega arith in
                 word_past new_a (left.shape ha) p out ∙ sym (word_past new_b (right.shape hb) p out)

@@ -21,8 +21,7 @@ use Rattle.register_laws.specs.Sound.{AreSound, bits_of_row, pending_bits}
 use Rattle.register_laws.proofs.Footprints.{word_stands, misses-within, covers-pending}
 use Rattle.register_laws.proofs.Owners.{is_group-same, is_owner-same}
 use Rattle.register_laws.proofs.PoolQueues.{turned}
-use Rattle.register_laws.proofs.PoolReset.{renewed-pool}
-use Rattle.register_laws.proofs.Renewed.{word_renewed}
+use Rattle.register_laws.proofs.PoolReset.{renewed-pool, within-pool_reset, pool_word_renewed}
 use Rattle.register_laws.proofs.RowBits.{HaveRowBits, bits_where_inside, reset_bits}
 use Rattle.register_laws.proofs.SoundParts.{told_stands}
 
@@ -32,9 +31,9 @@ own_bits r mode v sound p =
     let new = renewed-pool r mode v in
     elim (cases_Bool (is_of_pool mode v p)) as
     (λ _. IsSubset (word_at (pool_reset mode v r).words p) (bits_of_row p.row)) [
-      | inr out ↦ rw (word_stands new.alone p (λ bit. out)) (sound.words p)
+      | inr out ↦ rw (word_stands (within-pool_reset r mode v) p (λ bit. out)) (sound.words p)
       | inl in_pool ↦ bits_where_inside (pool_reset mode v r) (new.shape sound.shape) p
-          (λ b. rw (word_renewed new sound.shape p (λ bit. in_pool) b) (reset_bits p.row))
+          (λ b. rw (pool_word_renewed mode v new sound.shape p in_pool b) (reset_bits p.row))
     ]
 
 -- what is pending of another group isn't the pool's
@@ -62,8 +61,8 @@ sound-pool_reset r mode v sound =
       words = own_bits r mode v sound;
       told = λ g b. elim (cases_Bool (is_group (Vf v) g)) as
           (λ _. IsSubset (told_by (pool_reset mode v r) g) (pending_bits (pool_reset mode v r) g)) [
-            | inr out ↦ told_stands (pool_changes mode v) r (pool_reset mode v r) g (others_miss mode v g out) new.alone
-                (sound.told g b)
+            | inr out ↦ told_stands (pool_changes mode v) r (pool_reset mode v r) g (others_miss mode v g out)
+                (within-pool_reset r mode v) (sound.told g b)
             | inl own ↦ subst (λ t. IsSubset t (pending_bits (pool_reset mode v r) g))
                 (sym (new.told sound.shape g own b))
                 (IsSubset-no_bits (pending_bits (pool_reset mode v r) g))

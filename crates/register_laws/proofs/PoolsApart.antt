@@ -1,6 +1,6 @@
 -- Pools have nothing in common.
 use Rattle.std.proofs.Common.{◌≡◌, ◌≢◌, ℕ, ◌*◌, true, false, ◌==◌, Option, Some, None, refl, sym, ◌∙◌}
-use Rattle.std.proofs.lemmas.Bool.{eqb-true, ne_eqb}
+use Rattle.std.proofs.lemmas.Bool.{both_ways, eqb-true, ne_eqb}
 use Rattle.register_file.specs.RegTable.Rows.{row_of}
 use Rattle.register_file.specs.RegTable.declared.bank.Bank.{Bank}
 use Rattle.register_file.specs.RegTable.declared.bank.Bank.TheVariants as bank
@@ -11,6 +11,7 @@ use Rattle.register_file.specs.VfMap.Pools.{pool_of}
 use Rattle.register_file.specs.VfMap.declared.mode.Mode.{Mode}
 use Rattle.register_file.specs.Owner.{is_group}
 use Rattle.register_laws.specs.Agreement.{PoolsHaveNothingInCommon, MissedAgreementStands}
+use Rattle.register_laws.specs.Footprint.{Misses, all_of, pool_agrees, pool_changes}
 use Rattle.register_laws.proofs.Footprints.{word_stands}
 
 -- what is one number isn't another
@@ -40,11 +41,17 @@ group_missed : (v w : ℕ) (g : Group) → v ≢ w → is_group (Vf w) g ≡ tru
 group_missed v w Pf apart is = refl
 group_missed v w (Vf u) apart is = ne_eqb v u (λ same. apart (same ∙ sym (eqb-true w u is)))
 
-pub pools_miss : PoolsHaveNothingInCommon
+pub pools_miss : (mode : Mode) (v w : ℕ) → v ≢ w → Misses (pool_changes mode v) (all_of (pool_agrees mode w))
 pools_miss mode v w apart = record {
   bits = λ p bit is. place_missed (row_of p.row).bank mode v w p.index apart is;
   wanted = λ dir queue is. queue_missed mode v w queue apart is;
   told = λ g is. group_missed v w g apart is;
+}
+
+pub pools_apart : PoolsHaveNothingInCommon
+pools_apart mode v w apart = record {
+  bits = λ p bit own others. both_ways _ (place_missed (row_of p.row).bank mode v w p.index apart others) own;
+  seen = pools_miss mode v w apart;
 }
 
 pub agreement_stands : MissedAgreementStands

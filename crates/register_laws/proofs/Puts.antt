@@ -52,6 +52,23 @@ word_at-put_other words p q v n =
           ]
     ]
 
+-- a word put at a place stands there, or there is none and all is as it was
+pub put_cases : (words : Words) (p : Place) (v : ℕ) (P : ℕ → Type 0) → P v → P (word_at words p)
+    → P (word_at (put words p v) p)
+put_cases words p v P new old =
+    let row = row_words words p.row in
+    elim (cases_lt (number_of p.row) (length words)) as (λ _. P (word_at (put words p v) p)) [
+      | inr past ↦ subst P (sym (ap (λ xs. get_or xs p.index 0) (row_words-put_past words p v past))) old
+      | inl there ↦ elim (cases_lt p.index (length row)) as (λ _. P (word_at (put words p v) p)) [
+        | inl inside ↦ subst P (sym (word_at-put_same words p v there inside)) new
+        | inr out ↦
+            let here = get_or-set_same words (number_of p.row) (set row p.index v) [] there in
+            let none = get_or_past (set row p.index v) p.index 0
+            (subst (λ n. n ≤ p.index) (sym (length-set row p.index v)) out) in
+            subst P (sym (ap (λ xs. get_or xs p.index 0) here ∙ none ∙ sym (get_or_past row p.index 0 out))) old
+      ]
+    ]
+
 -- no row gets longer or shorter
 pub length-row_words-put : (words : Words) (p : Place) (v : ℕ) (r : RowId)
     → length (row_words (put words p v) r) ≡ length (row_words words r)

@@ -1,30 +1,30 @@
 -- What a reset of a part of the registers does.
-use Rattle.std.proofs.Common.{◌≡◌, ℕ, ◌<◌, Bool, true, false, ◌||◌, List, [], ◌∷◌, refl, ap, sym, ◌∙◌, subst, inl, inr}
+use Rattle.std.proofs.Common.{◌≡◌, ℕ, ◌<◌, Bool, true, false, cond, ◌&&◌, ◌||◌, List, [], ◌∷◌, refl, ap, sym, ◌∙◌, subst, inl, inr}
 use Rattle.std.specs.Prelude.{fold}
-use Rattle.std.proofs.lemmas.Bool.{or_cases, and_parts, eqb-true}
+use Rattle.std.proofs.Math.Bool.{and-false}
+use Rattle.std.proofs.lemmas.Bool.{or_cases, and_parts, cond-true, cond-false, eqb-true}
 use Rattle.std.proofs.lemmas.List.{get_or-set_same}
 use Rattle.register_file.specs.RegTable.Rows.{row_of}
 use Rattle.register_file.specs.RegTable.declared.place.Place.{Place}
-use Rattle.register_file.specs.RegTable.declared.rows.RowId.{RowId}
 use Rattle.register_file.specs.IntrUnit.declared.group.Group.{Group}
 use Rattle.register_file.specs.Bits.{has_bit}
 use Rattle.register_file.specs.Columns.{place}
 use Rattle.register_file.specs.Groups.{index_of, told_by, with_told}
 use Rattle.register_file.specs.Owner.{is_owner, is_group}
-use Rattle.register_file.specs.PoolReset.{word_reset}
+use Rattle.register_file.specs.PoolReset.{Renewal, takes, mixed, renewed, word_reset, is_renewed}
 use Rattle.register_file.specs.Registers.{Registers, is_wanted, with_wanted}
 use Rattle.register_file.specs.Words.{word_at, put}
 use Rattle.register_file.specs.DmaRing.declared.dir.Dir.{Dir}
 use Rattle.register_file.specs.DmaRing.declared.dir.Dir.TheVariants.{Rx, Tx}
 use Rattle.register_file.specs.declared.owner.Owner.TheVariants as owner
-use Rattle.register_laws.specs.Footprint.{Footprint, HasWord, ChangesWithin, nothing, either, the_word}
+use Rattle.register_laws.specs.Footprint.{Footprint, HasWord, ChangesWithin, nothing, either, is_place, the_bits, renewed_of}
 use Rattle.register_laws.specs.Sound.{HasShape}
-use Rattle.register_laws.proofs.Bits.{same_word}
+use Rattle.register_laws.proofs.Bits.{same_word, has_bit-mixed}
 use Rattle.register_laws.proofs.Footprints.{within-refl, within-either}
 use Rattle.register_laws.proofs.Owners.{is_dir-same, is_group-itself, is_group-same, is_owner-itself, is_place-same}
 use Rattle.register_laws.proofs.Shape.{put_stands, HasShape-put, HasShape-with_wanted, HasShape-with_told}
 use Rattle.register_laws.proofs.Standing.{told_by-with_told}
-use Rattle.register_laws.proofs.WithinParts.{within-word, within-with_wanted, within-with_told}
+use Rattle.register_laws.proofs.WithinParts.{within-bits, within-with_wanted, within-with_told}
 
 -- all that a footprint has is as a reset leaves it, where the registers have their shape, and all else is as it was
 pub record IsRenewed (f : Footprint) (old new : Registers) : Type 0 where
@@ -100,20 +100,82 @@ renewed-same f g r s same new = record {
   told = λ h k is b. new.told h k (same.told k ∙ is) b;
 }
 
+-- of a footprint what the reset of a pool takes: nothing, one part after another, and the same of two footprints
+pub taken-refl : (r : Registers) → IsRenewed (renewed_of nothing) r r
+taken-refl r =
+    renewed-same nothing (renewed_of nothing) r r (record {
+      bits = λ p bit. sym (and-false (is_renewed p.row bit));
+      wanted = λ dir queue. refl;
+      told = λ g. refl;
+    })
+    (renewed-refl r)
+
+of_either : (t a b : Bool) → ((t && a) || (t && b)) ≡ (t && (a || b))
+of_either true a b = refl
+of_either false a b = refl
+
+pub taken-either : (f g : Footprint) (r s t : Registers) → IsRenewed (renewed_of f) r s → IsRenewed (renewed_of g) s t
+    → IsRenewed (renewed_of (either f g)) r t
+taken-either f g r s t first then =
+    renewed-same (either (renewed_of f) (renewed_of g)) (renewed_of (either f g)) r t (record {
+      bits = λ p bit. of_either (is_renewed p.row bit) (f.bits p bit) (g.bits p bit);
+      wanted = λ dir queue. refl;
+      told = λ h. refl;
+    })
+    (renewed-either (renewed_of f) (renewed_of g) r s t first then)
+
+pub taken-each : {A : Type 0} (f : A → Footprint) (step : Registers → A → Registers)
+    → ((r : Registers) (x : A) → IsRenewed (renewed_of (f x)) r (step r x))
+    → (xs : List A) (r : Registers) → IsRenewed (renewed_of (any_of f xs)) r (fold step r xs)
+taken-each f step each [] r = taken-refl r
+taken-each f step each (x ∷ xs) r =
+    taken-either (f x) (any_of f xs) r (step r x) (fold step (step r x) xs) (each r x)
+    (taken-each f step each xs (step r x))
+
+pub taken-same : (f g : Footprint) (r s : Registers) → IsSame f g → IsRenewed (renewed_of f) r s
+    → IsRenewed (renewed_of g) r s
+taken-same f g r s same new =
+    renewed-same (renewed_of f) (renewed_of g) r s (record {
+      bits = λ p bit. ap (λ b. is_renewed p.row bit && b) (same.bits p bit);
+      wanted = same.wanted;
+      told = same.told;
+    })
+    new
+
+-- the bits of a word after a renewal: those that it takes are the reset value's
+has_bit-renewed : (renewal : Renewal) (old bit : ℕ)
+    → has_bit bit (renewed renewal old)
+    ≡ cond (takes renewal bit) (has_bit bit (row_of renewal.row).reset) (has_bit bit old)
+has_bit-renewed renewal old bit = all_or_some renewal.whole
+  where
+    all_or_some : (whole : Bool) → has_bit bit (cond whole (row_of renewal.row).reset
+        (mixed renewal.mask old (row_of renewal.row).reset))
+        ≡ cond (whole || has_bit bit renewal.mask) (has_bit bit (row_of renewal.row).reset) (has_bit bit old)
+    all_or_some true = refl
+    all_or_some false = has_bit-mixed bit renewal.mask old (row_of renewal.row).reset
+
 -- a word, what is wanted of a side, and what is told of a group
-pub renewed-word : (index : ℕ) (r : Registers) (row : RowId)
-    → IsRenewed (the_word (place row index)) r (word_reset index r row)
-renewed-word index r row = record {
-  alone = within-word r row index (row_of row).reset;
-  shape = HasShape-put r (place row index) (row_of row).reset;
-  bits = λ h p bit is b.
-      ap (has_bit bit) (subst (λ (q : Place). q.index < (row_of q.row).count
-      → word_at (put r.words (place row index) (row_of row).reset) q ≡ (row_of q.row).reset)
-      (is_place-same (place row index) p is)
-      (λ inside. put_stands r (place row index) (row_of row).reset h inside) b);
-  wanted = λ h dir queue is b. cc;
-  told = λ h g is b. cc;
-}
+abbrev pub of_renewal : ℕ → Renewal → Footprint
+of_renewal index renewal = the_bits (place renewal.row index) (takes renewal)
+
+pub renewed-word : (index : ℕ) (r : Registers) (renewal : Renewal)
+    → IsRenewed (of_renewal index renewal) r (word_reset index r renewal)
+renewed-word index r renewal =
+    let there : Place = place renewal.row index in
+    let new : ℕ = renewed renewal (word_at r.words there) in
+    let is_new = has_bit-renewed renewal (word_at r.words there) in
+    record {
+      alone = within-bits r there new (takes renewal) (λ bit off. is_new bit ∙ cond-false _ _ _ off);
+      shape = HasShape-put r there new;
+      bits = λ h p bit is b.
+          let parts = and_parts (is_place there p) (takes renewal bit) is in
+          subst (λ (q : Place). q.index < (row_of q.row).count
+          → has_bit bit (word_at (put r.words there new) q) ≡ has_bit bit (row_of q.row).reset)
+          (is_place-same there p parts.0)
+          (λ inside. ap (has_bit bit) (put_stands r there new h inside) ∙ is_new bit ∙ cond-true _ _ _ parts.1) b;
+      wanted = λ h dir queue is b. cc;
+      told = λ h g is b. cc;
+    }
 
 abbrev pub wanted_of : Dir → ℕ → Footprint
 wanted_of dir queue =

@@ -1,6 +1,6 @@
 -- What a word that is put at a place, a side that is wanted on, and other interrupts of a group change.
-use Rattle.std.proofs.Common.{◌≡◌, ℕ, Bool, true, ap, sym, ◌∙◌}
-use Rattle.std.proofs.lemmas.Bool.{both_ways}
+use Rattle.std.proofs.Common.{◌≡◌, ℕ, Bool, true, false, ◌&&◌, refl, ap, sym, ◌∙◌, subst, inl, inr}
+use Rattle.std.proofs.lemmas.Bool.{both_ways, cases_Bool}
 use Rattle.register_file.specs.RegTable.declared.place.Place.{Place}
 use Rattle.register_file.specs.RegTable.declared.rows.RowId.{RowId}
 use Rattle.register_file.specs.IntrUnit.Interrupts.{Interrupts}
@@ -11,12 +11,12 @@ use Rattle.register_file.specs.Groups.{cause_row, mask_row, index_of, with_told,
 use Rattle.register_file.specs.Registers.{Registers, with_word, with_wanted}
 use Rattle.register_file.specs.Words.{word_at, put}
 use Rattle.register_file.specs.DmaRing.declared.dir.Dir.{Dir}
-use Rattle.register_laws.specs.Footprint.{Footprint, HasWord, ChangesWithin, the_word, pending}
+use Rattle.register_laws.specs.Footprint.{Footprint, HasWord, ChangesWithin, is_place, the_word, the_bits, pending}
 use Rattle.register_laws.proofs.Fields.{is_wanted-put, told_by-put, words-with_wanted, is_wanted-with_wanted_other, told_by-with_wanted, words-with_told, is_wanted-with_told, told_by-with_told_other}
 use Rattle.register_laws.proofs.Covers.{cause_is_pending, mask_is_pending}
 use Rattle.register_laws.proofs.Footprints.{within-trans}
-use Rattle.register_laws.proofs.Owners.{apart, is_group-itself, is_place-itself}
-use Rattle.register_laws.proofs.Puts.{word_at-put_other}
+use Rattle.register_laws.proofs.Owners.{apart, is_group-itself, is_place-itself, is_place-same}
+use Rattle.register_laws.proofs.Puts.{word_at-put_other, put_cases}
 
 -- a word at one place, what is wanted of one side, and what is told of one group, each within what has it
 pub within-put : (f : Footprint) (r : Registers) (p : Place) (v : ℕ) → HasWord f p
@@ -24,6 +24,25 @@ pub within-put : (f : Footprint) (r : Registers) (p : Place) (v : ℕ) → HasWo
 within-put f r p v has = record {
   bits = λ q bit n.
       ap (has_bit bit) (word_at-put_other r.words p q v (apart (λ x. f.bits x bit) p q (has bit) n));
+  wanted = λ dir queue n. is_wanted-put r p v dir queue;
+  told = λ g n. told_by-put r p v g;
+}
+
+-- some bits of a word, where the others are as they were
+pub within-bits : (r : Registers) (p : Place) (v : ℕ) (has : ℕ → Bool)
+    → ((bit : ℕ) → has bit ≡ false → has_bit bit v ≡ has_bit bit (word_at r.words p))
+    → ChangesWithin (the_bits p has) r (record r { words = put r.words p v })
+within-bits r p v has kept = record {
+  bits = λ q bit n. elim (cases_Bool (is_place p q)) as
+      (λ _. has_bit bit (word_at (put r.words p v) q) ≡ has_bit bit (word_at r.words q)) [
+        | inr other ↦
+            ap (has_bit bit) (word_at-put_other r.words p q v (apart (is_place p) p q (is_place-itself p) other))
+        | inl here ↦
+            let off : has bit ≡ false = sym (ap (λ b. b && has bit) here) ∙ n in
+            subst (λ x. has_bit bit (word_at (put r.words p v) x) ≡ has_bit bit (word_at r.words x))
+            (is_place-same p q here)
+            (put_cases r.words p v (λ w. has_bit bit w ≡ has_bit bit (word_at r.words p)) (kept bit off) refl)
+      ];
   wanted = λ dir queue n. is_wanted-put r p v dir queue;
   told = λ g n. told_by-put r p v g;
 }

@@ -63,9 +63,19 @@ PoolResetMakesAgreement =
     (mode : Mode) (v : ℕ) (a b : Registers) → HasShape a → HasShape b →
     AgreeWithin (pool_agrees mode v) (pool_reset mode v a) (pool_reset mode v b)
 
--- two pools have nothing in common
+-- the bits that accesses of two pools may both change: none
+abbrev pub IsShared : Place → ℕ → Type 0
+IsShared p bit = ⊥
+
+-- what accesses of a pool may change shares no bit with what those of another may change, and has nothing of what must
+-- agree of the other
+pub record ArePoolsApart (mode : Mode) (v w : ℕ) : Type 0 where
+  pub bits : (p : Place) (bit : ℕ) → IsTrue ((pool_changes mode v).bits p bit)
+      → IsTrue ((pool_changes mode w).bits p bit) → IsShared p bit
+  pub seen : Misses (pool_changes mode v) (all_of (pool_agrees mode w))
+
 abbrev pub PoolsHaveNothingInCommon : Type 0
-PoolsHaveNothingInCommon = (mode : Mode) (v w : ℕ) → v ≢ w → Misses (pool_changes mode v) (pool_changes mode w)
+PoolsHaveNothingInCommon = (mode : Mode) (v w : ℕ) → v ≢ w → ArePoolsApart mode v w
 
 -- registers that agree of a part do so after any changes within a footprint that has nothing of it
 abbrev pub MissedAgreementStands : Type 0

@@ -10,7 +10,7 @@ use Rattle.register_file.specs.PoolReset.{pool_reset}
 use Rattle.register_file.specs.Registers.{Registers, is_wanted}
 use Rattle.register_file.specs.Words.{word_at}
 use Rattle.register_file.specs.DmaRing.declared.dir.Dir.{Dir}
-use Rattle.register_laws.specs.Footprint.{Footprint, ChangesWithin, pool_changes}
+use Rattle.register_laws.specs.Footprint.{Footprint, ChangesWithin, Covers, pool_changes, pool_renews}
 use Rattle.register_laws.specs.Sound.{HasShape, AreSound}
 
 -- all that a footprint has is as a reset leaves it: bits of the words at places of the table, sides of the 128 queues,
@@ -21,14 +21,18 @@ pub record IsResetAt (f : Footprint) (r : Registers) : Type 0 where
   pub wanted : (dir : Dir) (queue : ℕ) → IsTrue (f.wanted dir queue) → queue < 128 → IsFalse (is_wanted r dir queue)
   pub told : (g : Group) → IsTrue (f.told g) → index_of g < 64 → told_by r g ≡ 0
 
--- after a reset of a pool all that is the pool's is as a reset leaves it, and all else is as it was
+-- after a reset of a pool all that it takes is as a reset leaves it, and all else is as it was
 abbrev pub PoolIsReset : Type 0
 PoolIsReset =
-    (r : Registers) → HasShape r → (mode : Mode) (v : ℕ) → IsResetAt (pool_changes mode v) (pool_reset mode v r)
+    (r : Registers) → HasShape r → (mode : Mode) (v : ℕ) → IsResetAt (pool_renews mode v) (pool_reset mode v r)
 
 abbrev pub PoolResetStaysWithin : Type 0
 PoolResetStaysWithin =
-    (r : Registers) (mode : Mode) (v : ℕ) → ChangesWithin (pool_changes mode v) r (pool_reset mode v r)
+    (r : Registers) (mode : Mode) (v : ℕ) → ChangesWithin (pool_renews mode v) r (pool_reset mode v r)
+
+-- it takes all that accesses of the pool may change
+abbrev pub PoolResetTakesAll : Type 0
+PoolResetTakesAll = (mode : Mode) (v : ℕ) → Covers (pool_renews mode v) (pool_changes mode v)
 
 -- registers stay sound
 abbrev pub PoolResetKeepsSound : Type 0

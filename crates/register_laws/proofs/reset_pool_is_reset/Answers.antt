@@ -1,4 +1,4 @@
-use Rattle.register_laws.proofs.PoolReset.{renewed-pool}
+use Rattle.register_laws.proofs.PoolReset.{covers-pool, renewed-pool}
 use Rattle.register_laws.proofs.PoolSound.{sound-pool_reset}
 use Rattle.register_laws.proofs.reset_pool_is_reset.Goals as goal
 
@@ -10,6 +10,9 @@ returns-clause-reset c =
 
 pub returns-clause-alone : goal.returns-clause-alone
 returns-clause-alone c = λ r mode v. (renewed-pool r mode v).alone
+
+pub returns-clause-all : goal.returns-clause-all
+returns-clause-all c = covers-pool
 
 pub returns-clause-sound : goal.returns-clause-sound
 returns-clause-sound c = λ r sound mode v. sound-pool_reset r mode v sound

@@ -7,11 +7,11 @@ use Rattle.reg_table.specs.Rows.{row_of, rows, number_of}
 use Rattle.reg_table.specs.Named.{is_named}
 
 -- how many rows there are
-pub rows_length : length rows ≡ 74
+pub rows_length : length rows ≡ 80
 unfolding rows
 rows_length = refl
 
-pub number_below : (r : RowId) → number_of r < 74
+pub number_below : (r : RowId) → number_of r < 80
 number_below Ctrl = lit< tt
 number_below other = lit< tt
 

@@ -19,4 +19,7 @@ pub enum Bank {
     VfCounters,
     /// The interrupt vectors of queues of virtual functions; which queues, the mode and the register's index say.
     Vectors,
+    /// The memory through which the physical function and the virtual functions send messages: 16 words for each
+    /// virtual function.
+    Messages,
 }

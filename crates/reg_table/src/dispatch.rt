@@ -19,7 +19,7 @@ pub(crate) fn aligned(address: u32) -> Option<Access>
         0x06..=0x07 => page_06(address),
         0x08..=0x0A => page_08(address),
         0x0D..=0x0D => page_0d(address),
-        0x0E..=0x12 => page_0e(address),
+        0x0E..=0x13 => page_0e(address),
         _ => None,
     }
 }
@@ -31,15 +31,15 @@ fn page_00(address: u32) -> Option<Access>
     ensures { result ≡ access_at address }
 {
     match address {
-        ..=0x0081F => from_00000(address),
-        0x00820..=0x00AAF => from_00820(address),
-        0x00AB0.. => from_00ab0(address),
+        ..=0x00807 => from_00000(address),
+        0x00808..=0x00A8F => from_00808(address),
+        0x00A90.. => from_00a90(address),
     }
 }
 
-/// The access of an address from 0x00000 to 0x0081F.
+/// The access of an address from 0x00000 to 0x00807.
 fn from_00000(address: u32) -> Option<Access>
-    requires below { address < 0x00820 }
+    requires below { address < 0x00808 }
     requires whole { address % 4 ≡ 0 }
     ensures { result ≡ access_at address }
 {
@@ -50,21 +50,23 @@ fn from_00000(address: u32) -> Option<Access>
         0x00018..=0x0001B => words(RowId::CtrlExt, 0, address - 0x00018),
         0x00200..=0x00203 => words(RowId::Ledctl, 0, address - 0x00200),
         0x00300..=0x003FF => words(RowId::Pvfctrl, 0, address - 0x00300),
+        0x00710..=0x0071F => words(RowId::Pfmbicr, 0, address - 0x00710),
+        0x00720..=0x00727 => words(RowId::Pfmbimr, 0, address - 0x00720),
         0x00800..=0x00803 => words(RowId::Eicr, 0, address - 0x00800),
-        0x00808..=0x0080B => words(RowId::Eics, 0, address - 0x00808),
-        0x00810..=0x00813 => words(RowId::Eiac, 0, address - 0x00810),
         _ => None,
     }
 }
 
-/// The access of an address from 0x00820 to 0x00AAF.
-fn from_00820(address: u32) -> Option<Access>
-    requires from { 0x00820 ≤ address }
-    requires below { address < 0x00AB0 }
+/// The access of an address from 0x00808 to 0x00A8F.
+fn from_00808(address: u32) -> Option<Access>
+    requires from { 0x00808 ≤ address }
+    requires below { address < 0x00A90 }
     requires whole { address % 4 ≡ 0 }
     ensures { result ≡ access_at address }
 {
     match address {
+        0x00808..=0x0080B => words(RowId::Eics, 0, address - 0x00808),
+        0x00810..=0x00813 => words(RowId::Eiac, 0, address - 0x00810),
         0x00820..=0x0087F => words(RowId::Eitr, 0, address - 0x00820),
         0x00880..=0x00883 => words(RowId::Eims, 0, address - 0x00880),
         0x00888..=0x0088B => words(RowId::Eimc, 0, address - 0x00888),
@@ -72,20 +74,20 @@ fn from_00820(address: u32) -> Option<Access>
         0x00898..=0x0089B => words(RowId::Gpie, 0, address - 0x00898),
         0x00900..=0x009FF => words(RowId::Ivar, 0, address - 0x00900),
         0x00A00..=0x00A03 => words(RowId::IvarMisc, 0, address - 0x00A00),
-        0x00A90..=0x00A93 => low_words(RowId::Eics, 0, address - 0x00A90),
-        0x00AA0..=0x00AA3 => low_words(RowId::Eims, 0, address - 0x00AA0),
         _ => None,
     }
 }
 
-/// The access of an address from 0x00AB0 to 0x00FFF.
-fn from_00ab0(address: u32) -> Option<Access>
-    requires from { 0x00AB0 ≤ address }
+/// The access of an address from 0x00A90 to 0x00FFF.
+fn from_00a90(address: u32) -> Option<Access>
+    requires from { 0x00A90 ≤ address }
     requires below { address < 0x01000 }
     requires whole { address % 4 ≡ 0 }
     ensures { result ≡ access_at address }
 {
     match address {
+        0x00A90..=0x00A93 => low_words(RowId::Eics, 0, address - 0x00A90),
+        0x00AA0..=0x00AA3 => low_words(RowId::Eims, 0, address - 0x00AA0),
         0x00AB0..=0x00AB3 => low_words(RowId::Eimc, 0, address - 0x00AB0),
         0x00AD0..=0x00AD3 => low_words(RowId::Eiam, 0, address - 0x00AD0),
         0x00B00..=0x00BFF => words(RowId::Pvteicr, 0, address - 0x00B00),
@@ -159,6 +161,19 @@ fn page_04(address: u32) -> Option<Access>
     ensures { result ≡ access_at address }
 {
     match address {
+        ..=0x042A3 => from_04000(address),
+        0x042A4.. => from_042a4(address),
+    }
+}
+
+/// The access of an address from 0x04000 to 0x042A3.
+fn from_04000(address: u32) -> Option<Access>
+    requires from { 0x04000 ≤ address }
+    requires below { address < 0x042A4 }
+    requires whole { address % 4 ≡ 0 }
+    ensures { result ≡ access_at address }
+{
+    match address {
         0x04074..=0x04077 => words(RowId::Gprc, 0, address - 0x04074),
         0x04080..=0x04083 => words(RowId::Gptc, 0, address - 0x04080),
         0x040A4..=0x040A7 => words(RowId::Ruc, 0, address - 0x040A4),
@@ -166,9 +181,24 @@ fn page_04(address: u32) -> Option<Access>
         0x04240..=0x04243 => words(RowId::Hlreg0, 0, address - 0x04240),
         0x04268..=0x0426B => words(RowId::Maxfrs, 0, address - 0x04268),
         0x042A0..=0x042A3 => words(RowId::Autoc, 0, address - 0x042A0),
+        _ => None,
+    }
+}
+
+/// The access of an address from 0x042A4 to 0x04FFF.
+fn from_042a4(address: u32) -> Option<Access>
+    requires from { 0x042A4 ≤ address }
+    requires below { address < 0x05000 }
+    requires whole { address % 4 ≡ 0 }
+    ensures { result ≡ access_at address }
+{
+    match address {
         0x042A4..=0x042A7 => words(RowId::Links, 0, address - 0x042A4),
         0x04A80..=0x04A83 => words(RowId::Dmatxctl, 0, address - 0x04A80),
+        0x04B00..=0x04BFF => words(RowId::Pfmailbox, 0, address - 0x04B00),
+        0x04C00..=0x04CFF => words(RowId::Pvfmailbox, 0, address - 0x04C00),
         0x04D00..=0x04DFF => words(RowId::Pvteiam, 0, address - 0x04D00),
+        0x04E00..=0x04EFF => words(RowId::PvtivarMisc, 0, address - 0x04E00),
         _ => None,
     }
 }
@@ -297,10 +327,10 @@ fn page_0d(address: u32) -> Option<Access>
     }
 }
 
-/// The access of an address from 0x0E000 to 0x12FFF.
+/// The access of an address from 0x0E000 to 0x13FFF.
 fn page_0e(address: u32) -> Option<Access>
     requires from { 0x0E000 ≤ address }
-    requires below { address < 0x13000 }
+    requires below { address < 0x14000 }
     requires whole { address % 4 ≡ 0 }
     ensures { result ≡ access_at address }
 {
@@ -314,6 +344,7 @@ fn page_0e(address: u32) -> Option<Access>
         0x11050..=0x11053 => words(RowId::GcrExt, 0, address - 0x11050),
         0x12300..=0x1249F => words(RowId::Eitr, 24, address - 0x12300),
         0x12500..=0x125FF => words(RowId::Pvtivar, 0, address - 0x12500),
+        0x13000..=0x13FFF => words(RowId::Pfmbmem, 0, address - 0x13000),
         _ => None,
     }
 }

@@ -32,4 +32,18 @@ pub enum Kind {
     /// The word that reads the EEPROM: the index asked for, and what was read. A read gives the word. A write replaces
     /// bits 15 to 0 but for bit 1, and clears the others.
     Eerd,
+    /// Causes that stay until they are told as seen. A read gives the word. A write clears the bits that are 1 in what is
+    /// written.
+    W1c,
+    /// The mailbox of a virtual function. A read gives the word and clears what it tells once: a status, an
+    /// acknowledgement, a reset that is done. A write takes the mailbox where the physical function doesn't hold it, or
+    /// gives it up, and asks for a request or an acknowledgement to the physical function.
+    Vfmail,
+    /// The same mailbox, seen by the physical function. A read tells who holds it. A write takes it from the function,
+    /// takes it for the physical function where nobody holds it, or gives it up, and sends a status or an
+    /// acknowledgement.
+    Pfmail,
+    /// The extended device control word. As `Rw`, and a write with bit 14 tells each virtual function that a reset is
+    /// done.
+    Ctrlext,
 }

@@ -8,7 +8,7 @@ use Rattle.reg_table.proofs.dispatch.aligned.Goals as goal
 abbrev facts : List Fact
 facts =
     NoWords 0x0B000 0x0D000 ∷
-    NoWords 0x13000 0x100000000 ∷
+    NoWords 0x14000 0x100000000 ∷
     []
 
 so : list_all is_so facts ≡ true

@@ -1,5 +1,5 @@
 -- Register accesses, by the kind of the row.
-use Rattle.std.specs.Prelude.{ℕ, ◌+◌, ◌*◌, Bool, false, ◌||◌, Option, Some, None, bit_and, if◌then◌else◌}
+use Rattle.std.specs.Prelude.{ℕ, ◌+◌, ◌*◌, Bool, false, ◌||◌, ◌-◌, Option, Some, None, bit_and, if◌then◌else◌}
 use Rattle.std.specs.Option.{option_map_or}
 use Rattle.intr_unit.specs.declared.group.Group.{Group}
 use Rattle.reg_table.specs.Rows.{row_of}
@@ -13,6 +13,7 @@ use Rattle.register_file.specs.Words.{word_at, put}
 use Rattle.register_file.specs.Registers.{Registers, with_wanted}
 use Rattle.intr_unit.specs.Interrupts.{raised, after_read as causes_read, after_write_one, after_mask_set, after_mask_clear}
 use Rattle.register_file.specs.Groups.{interrupts_of, with_interrupts, clears_others, auto_masks}
+use Rattle.register_file.specs.Mailbox.{mail_read, function_writes, physical_writes, holders, resets_told}
 use Rattle.register_file.specs.Owner.{owner_of}
 use Rattle.register_file.specs.Queue.{is_on}
 use Rattle.register_file.specs.Settings.{is_stopped}
@@ -43,6 +44,10 @@ read_word kind.Enable r around p = word_at r.words p
 read_word kind.Ctrl r around p = word_at r.words p
 read_word kind.Vreset r around p = 0
 read_word kind.Eerd r around p = word_at r.words p
+read_word kind.W1c r around p = word_at r.words p
+read_word kind.Vfmail r around p = word_at r.words p
+read_word kind.Pfmail r around p = holders r p.index
+read_word kind.Ctrlext r around p = word_at r.words p
 
 -- the registers after a read of the causes of a group
 abbrev pub group_read : Registers → Group → Registers
@@ -77,6 +82,10 @@ after_read kind.Enable r p = r
 after_read kind.Ctrl r p = r
 after_read kind.Vreset r p = r
 after_read kind.Eerd r p = r
+after_read kind.W1c r p = r
+after_read kind.Vfmail r p = mail_read r p.index
+after_read kind.Pfmail r p = r
+after_read kind.Ctrlext r p = r
 
 -- whether what an owner has is in use: a side's ring is while the side is on
 abbrev pub is_running : Registers → Owner → Bool
@@ -102,6 +111,10 @@ asked r (owner.Vectors number) wanted = r
 abbrev pub stored : Registers → Place → ℕ → ℕ → Registers
 stored r p view word =
     record r { words = put r.words p (merged (bit_and (row_of p.row).mask view) (word_at r.words p) word) }
+
+-- the bits that are 1 in a written word become 0
+abbrev pub ones_cleared : Registers → Place → ℕ → Registers
+ones_cleared r p bits = record r { words = put r.words p (bit_and (word_at r.words p) (0xFFFFFFFF - bits)) }
 
 -- the registers after a write of a group's registers: of its causes, which become 0 where 1 is written; of its masks,
 -- which become 1; of the register that sets causes; and of the one that clears masks
@@ -132,6 +145,10 @@ interrupts_written kind.Enable r g bits = r
 interrupts_written kind.Ctrl r g bits = r
 interrupts_written kind.Vreset r g bits = r
 interrupts_written kind.Eerd r g bits = r
+interrupts_written kind.Ctrlext r g bits = r
+interrupts_written kind.Pfmail r g bits = r
+interrupts_written kind.Vfmail r g bits = r
+interrupts_written kind.W1c r g bits = r
 
 abbrev pub group_written : Kind → Registers → Place → ℕ → Registers
 group_written k r p bits = in_group r p (λ g. interrupts_written k r g bits)
@@ -153,6 +170,11 @@ written kind.Enable r p view word = asked (stored r p view word) (owner_of p) (h
 written kind.Ctrl r p view word = stored r p view word
 written kind.Vreset r p view word = r
 written kind.Eerd r p view word = stored r p view (bit_and word 0xFFFD)
+written kind.W1c r p view word = ones_cleared r p (bit_and word view)
+written kind.Vfmail r p view word = function_writes r p.index word
+written kind.Pfmail r p view word = physical_writes r p.index word
+written kind.Ctrlext r p view word =
+    if has_bit 14 word then resets_told (stored r p view word) else stored r p view word
 
 -- whether a write asks for a reset, and so does nothing else: one of CTRL with bit 3 or bit 26
 abbrev pub asks_reset : Kind → ℕ → Bool
@@ -169,6 +191,10 @@ asks_reset kind.Enable word = false
 asks_reset kind.Ctrl word = has_bit 3 word || has_bit 26 word
 asks_reset kind.Vreset word = false
 asks_reset kind.Eerd word = false
+asks_reset kind.Ctrlext word = false
+asks_reset kind.Pfmail word = false
+asks_reset kind.Vfmail word = false
+asks_reset kind.W1c word = false
 
 -- whether a write asks for a reset of the pool of the place's index: one of PVFCTRL with bit 26
 abbrev pub asks_pool_reset : Kind → ℕ → Bool
@@ -185,3 +211,7 @@ asks_pool_reset kind.Enable word = false
 asks_pool_reset kind.Ctrl word = false
 asks_pool_reset kind.Vreset word = has_bit 26 word
 asks_pool_reset kind.Eerd word = false
+asks_pool_reset kind.Ctrlext word = false
+asks_pool_reset kind.Pfmail word = false
+asks_pool_reset kind.Vfmail word = false
+asks_pool_reset kind.W1c word = false

@@ -12,6 +12,8 @@ rows_of a =
     (a.settings.ctrl_ext ∷ []) ∷
     (a.settings.ledctl ∷ []) ∷
     replicate 64 0 ∷
+    a.mailboxes.pfmbicr ∷
+    a.mailboxes.pfmbimr ∷
     (a.groups.pf.causes ∷ []) ∷
     (0 ∷ []) ∷
     (a.groups.pf.auto_clear ∷ []) ∷
@@ -27,7 +29,10 @@ rows_of a =
     map (λ g. g.enabled) a.groups.vf ∷
     replicate 64 0 ∷
     map (λ g. g.auto_clear) a.groups.vf ∷
+    replicate 64 0 ∷
+    a.mailboxes.pvfmailbox ∷
     map (λ g. g.auto_mask) a.groups.vf ∷
+    a.mailboxes.pvtivar_misc ∷
     map (λ q. q.base_low) a.receive ∷
     map (λ q. q.base_high) a.receive ∷
     map (λ q. q.length) a.receive ∷
@@ -81,6 +86,7 @@ rows_of a =
     (a.settings.eerd ∷ []) ∷
     (a.settings.gcr_ext ∷ []) ∷
     a.tables.pvtivar ∷
+    a.mailboxes.pfmbmem ∷
     []
 
 -- the registers that the fields hold

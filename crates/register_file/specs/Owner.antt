@@ -1,5 +1,5 @@
 -- Whose register a place is.
-use Rattle.std.specs.Prelude.{ℕ, ◌<◌, ◌==◌, Bool, true, false, ◌&&◌, ⊤}
+use Rattle.std.specs.Prelude.{ℕ, ◌/◌, ◌<◌, ◌==◌, Bool, true, false, ◌&&◌, ⊤}
 use Rattle.reg_table.specs.Rows.{row_of}
 use Rattle.reg_table.specs.declared.place.Place.{Place}
 use Rattle.reg_table.specs.declared.bank.Bank.{Bank}
@@ -12,7 +12,7 @@ use Rattle.dma_ring.specs.declared.dir.Dir.TheVariants.{Rx, Tx}
 use Rattle.register_file.specs.declared.owner.Owner.{Owner}
 use Rattle.register_file.specs.declared.owner.Owner.TheVariants as owner
 
--- the owner of a bank's register at an index
+-- the owner of a bank's register at an index: of the mailbox memory, each pool has 16 words
 abbrev pub owner_in : Bank → ℕ → Owner
 owner_in bank.Device index = owner.Device
 owner_in bank.Counters index = owner.Counters
@@ -23,6 +23,7 @@ owner_in bank.VfInterrupts index = owner.Group (Vf index)
 owner_in bank.Pool index = owner.Pool index
 owner_in bank.VfCounters index = owner.VfCounters index
 owner_in bank.Vectors index = owner.Vectors index
+owner_in bank.Messages index = owner.Pool (index / 16)
 
 -- the owner of a place: by its row's bank and its index
 abbrev pub owner_of : Place → Owner

@@ -3,7 +3,7 @@ use Rattle.std.specs.Prelude.{ℕ, ◌/◌, ◌==◌, Bool, true, false, ◌&&�
 use Rattle.std.specs.List.{list_any, range_with_len}
 use Rattle.reg_table.specs.Rows.{row_of, number_of}
 use Rattle.reg_table.specs.declared.rows.RowId.{RowId}
-use Rattle.reg_table.specs.declared.rows.RowId.TheVariants.{Pvfctrl, Pvteicr, Pvteics, Pvteims, Pvteimc, Pvteiac, Pvteiam, Psrtype, Vfgprc, Vfgptc, Pvtivar, Rdbal, Rdbah, Rdlen, Rdh, Srrctl, Rdt, Rxdctl, Tdbal, Tdbah, Tdlen, Tdh, Tdt, Txdctl, Tdwbal, Tdwbah}
+use Rattle.reg_table.specs.declared.rows.RowId.TheVariants.{Pvfctrl, Pvteicr, Pvteics, Pvteims, Pvteimc, Pvteiac, Pvteiam, Psrtype, Vfgprc, Vfgptc, PvtivarMisc, Pvfmailbox, Pvtivar, Rdbal, Rdbah, Rdlen, Rdh, Srrctl, Rdt, Rxdctl, Tdbal, Tdbah, Tdlen, Tdh, Tdt, Txdctl, Tdwbal, Tdwbah}
 use Rattle.intr_unit.specs.declared.group.Group.TheVariants.{Vf}
 use Rattle.vf_map.specs.Pools.{queues_of}
 use Rattle.vf_map.specs.declared.mode.Mode.{Mode}
@@ -22,12 +22,16 @@ pub record Renewal : Type 0 where
 abbrev pub all_bits : RowId → Renewal
 all_bits row = record { row = row; whole = true; mask = 0 }
 
--- the table of what it takes: of the rows that a pool has once, of those of a side of a queue, and of that of the
--- vectors of two queues
+abbrev pub some_bits : RowId → ℕ → Renewal
+some_bits row mask = record { row = row; whole = false; mask = mask }
+
+-- the table of what it takes: of the rows that a pool has once, where of the mailbox it takes that the function holds it
+-- and what the physical function sent; of those of a side of a queue; and of that of the vectors of two queues
 abbrev pub function_renewals : List Renewal
 function_renewals =
     all_bits Pvfctrl ∷ all_bits Pvteicr ∷ all_bits Pvteics ∷ all_bits Pvteims ∷ all_bits Pvteimc ∷ all_bits Pvteiac
-    ∷ all_bits Pvteiam ∷ all_bits Psrtype ∷ all_bits Vfgprc ∷ all_bits Vfgptc ∷ []
+    ∷ all_bits Pvteiam ∷ all_bits Psrtype ∷ all_bits Vfgprc ∷ all_bits Vfgptc ∷ all_bits PvtivarMisc
+    ∷ some_bits Pvfmailbox 0x34 ∷ []
 
 abbrev pub side_renewals : Dir → List Renewal
 side_renewals Rx =

@@ -24,6 +24,10 @@ is_stored kind.Enable = true
 is_stored kind.Ctrl = true
 is_stored kind.Vreset = false
 is_stored kind.Eerd = true
+is_stored kind.W1c = true
+is_stored kind.Vfmail = true
+is_stored kind.Pfmail = false
+is_stored kind.Ctrlext = true
 
 -- what each word of a row is: that of a group's auto-clear or auto-mask has only bits that the group has
 abbrev pub IsWordOf : RowId → ℕ → ℕ → Type 0

@@ -2,11 +2,13 @@
 
 ghost use Rattle.std.specs.Prelude.{◌≡◌, ◌<◌, IfSome, IsTrue, bit_and};
 ghost use Rattle.reg_table.specs.Rows.{row_of};
+ghost use Rattle.reg_table.specs.declared.kind.Kind.TheVariants as kind;
 ghost use Rattle.register_file.specs.Groups.{index_of};
 ghost use Rattle.register_file.specs.Owner.{owner_of, IsThere};
 ghost use Rattle.register_file.specs.Storing.{is_stored};
-ghost use Rattle.register_file.specs.Access.{read_word, after_read, written, group_written, stored, calculated, group_in, is_running, asked, asks_reset, asks_pool_reset};
+ghost use Rattle.register_file.specs.Access.{read_word, after_read, written, group_written, stored, ones_cleared, calculated, group_in, is_running, asked, asks_reset, asks_pool_reset};
 
+use crate::bits::has_bit;
 use crate::owner::{Owner, owner_of};
 use crate::queue::ENABLE;
 use crate::register_file::RegisterFile;
@@ -25,6 +27,9 @@ const POOL_RESET: u32 = 0x0400_0000;
 
 /// EERD: the bits that a write takes. The others become 0.
 const EERD_TAKES: u32 = 0x0000_FFFD;
+
+/// CTRL_EXT: by its number, the bit that tells functions that a reset is done.
+const RESET_DONE: u32 = 14;
 
 /// What STATUS reads while the device makes steps.
 const STATUS_MASTER: u32 = 0x0008_0000;
@@ -55,7 +60,11 @@ pub fn asks_reset(place: Place, word: u32) -> bool
         | Kind::Held
         | Kind::Enable
         | Kind::Vreset
-        | Kind::Eerd => false,
+        | Kind::Eerd
+        | Kind::W1c
+        | Kind::Vfmail
+        | Kind::Pfmail
+        | Kind::Ctrlext => false,
     }
 }
 
@@ -76,7 +85,11 @@ pub fn asks_pool_reset(place: Place, word: u32) -> bool
         | Kind::Held
         | Kind::Enable
         | Kind::Ctrl
-        | Kind::Eerd => false,
+        | Kind::Eerd
+        | Kind::W1c
+        | Kind::Vfmail
+        | Kind::Pfmail
+        | Kind::Ctrlext => false,
     }
 }
 
@@ -107,6 +120,7 @@ impl RegisterFile {
         match kind_of(place.row) {
             Kind::Calc => self.calculated(around, place.row),
             Kind::Set | Kind::Clear | Kind::Vreset => 0,
+            Kind::Pfmail => self.holders(place.index),
             Kind::Rw
             | Kind::Ro
             | Kind::Rc
@@ -115,7 +129,10 @@ impl RegisterFile {
             | Kind::Held
             | Kind::Enable
             | Kind::Ctrl
-            | Kind::Eerd => { self.word(place.row, place.index) }
+            | Kind::Eerd
+            | Kind::W1c
+            | Kind::Vfmail
+            | Kind::Ctrlext => { self.word(place.row, place.index) }
         }
     }
 
@@ -138,6 +155,7 @@ impl RegisterFile {
     {
         match kind_of(place.row) {
             Kind::Rc => self.set_word(place.row, place.index, 0),
+            Kind::Vfmail => self.end_mail_read(place.index),
             Kind::Cause => {
                 if let Some(group) = group_of(place) {
                     self.read_causes(group);
@@ -153,7 +171,10 @@ impl RegisterFile {
             | Kind::Enable
             | Kind::Ctrl
             | Kind::Vreset
-            | Kind::Eerd => {}
+            | Kind::Eerd
+            | Kind::W1c
+            | Kind::Pfmail
+            | Kind::Ctrlext => {}
         }
     }
 
@@ -165,6 +186,15 @@ impl RegisterFile {
     {
         match kind_of(place.row) {
             Kind::Rw | Kind::Ctrl => self.store(place, view, word),
+            Kind::W1c => self.clear_ones(place, word & view),
+            Kind::Vfmail => self.function_writes(place.index, word),
+            Kind::Pfmail => self.physical_writes(place.index, word),
+            Kind::Ctrlext => {
+                self.store(place, view, word);
+                if has_bit(word, RESET_DONE) {
+                    self.tell_resets();
+                }
+            }
             Kind::Ro | Kind::Calc | Kind::Rc | Kind::Vreset => {}
             Kind::Eerd => self.store(place, view, word & EERD_TAKES),
             Kind::Cause | Kind::Ones | Kind::Set | Kind::Clear => {
@@ -201,7 +231,11 @@ impl RegisterFile {
                 | Kind::Enable
                 | Kind::Ctrl
                 | Kind::Vreset
-                | Kind::Eerd => {}
+                | Kind::Eerd
+                | Kind::W1c
+                | Kind::Vfmail
+                | Kind::Pfmail
+                | Kind::Ctrlext => {}
             }
         }
     }
@@ -248,6 +282,16 @@ impl RegisterFile {
             RowId::Eec => EEPROM_PRESENT + EEPROM_SIZE * u32::from(around.eeprom),
             _ => 0,
         }
+    }
+
+    /// Clears the bits of a word that are 1 in what is written.
+    fn clear_ones(&mut self, place: Place, bits: u32)
+        requires index { place.index < (row_of place.row).count }
+        requires kind { (row_of place.row).kind ≡ kind.W1c }
+        ensures { self.new ≡ ones_cleared self.old place bits }
+    {
+        let word = self.word(place.row, place.index);
+        self.set_word(place.row, place.index, word & !bits);
     }
 
     /// Stores a word: of it, the bits of the row's mask that the address shows.

@@ -17,6 +17,7 @@ impl RegisterFile {
             transmit: self.transmit,
             counters: self.counters,
             tables: self.tables,
+            mailboxes: self.mailboxes,
             key: copied(&self.key),
         }
     }

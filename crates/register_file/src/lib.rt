@@ -18,12 +18,14 @@
 
 mod access;
 mod banks;
+mod bits;
 mod copying;
 mod counters;
 mod eeprom;
 mod groups;
 mod hashing;
 mod interrupts;
+mod mailbox;
 mod owner;
 mod pools;
 mod queue;

@@ -8,6 +8,9 @@ use dma_ring::Dir;
 use intr_unit::Group;
 use reg_table::{Bank, Place, bank_of};
 
+/// How many words of the mailbox memory a function has.
+const MESSAGE_WORDS: u16 = 16;
+
 /// Whose a register is.
 #[derive(Clone, Copy, PartialEq, Eq, Debug)]
 pub enum Owner {
@@ -43,5 +46,6 @@ pub fn owner_of(place: Place) -> Owner
         Bank::Pool => Owner::Pool(place.index),
         Bank::VfCounters => Owner::VfCounters(place.index),
         Bank::Vectors => Owner::Vectors(place.index),
+        Bank::Messages => Owner::Pool(place.index / MESSAGE_WORDS),
     }
 }

@@ -6,6 +6,7 @@ ghost use Rattle.register_file.specs.Pools.{mode_in, pool_row, is_pool_on};
 ghost use Rattle.register_file.specs.PoolReset.{side_reset, queue_reset, vectors_reset, function_reset, pool_reset};
 ghost use Rattle.dma_ring.specs.declared.dir.Dir.TheVariants.{Rx, Tx};
 
+use crate::bits::mixed;
 use crate::register_file::RegisterFile;
 use crate::side::{ReceiveSide, TransmitSide};
 use dma_ring::Dir;
@@ -14,6 +15,12 @@ use vf_map::{Mode, mode_of, queues_of};
 
 /// VFRE and VFTE: how many pools a word has a bit of.
 const POOLS_IN_A_WORD: u16 = 32;
+
+/// PVFMAILBOX: what a reset of the pool takes: that the function holds the mailbox, and what was sent to it.
+const MAIL_RENEWED: u32 = 0x0000_0034;
+
+/// PVFMAILBOX after a reset.
+const MAIL_AT_RESET: u32 = 0x0000_0040;
 
 impl RegisterFile {
     /// How GCR_EXT parts the queues among pools.
@@ -57,6 +64,8 @@ impl RegisterFile {
         self.tables.psrtype[at] = 0;
         self.counters.vfgprc[at] = 0;
         self.counters.vfgptc[at] = 0;
+        self.mailboxes.pvtivar_misc[at] = 0;
+        self.mailboxes.pvfmailbox[at] =  mixed(MAIL_RENEWED, self.mailboxes.pvfmailbox[at], MAIL_AT_RESET);
     }
 
     /// Resets so many queues from the first on.

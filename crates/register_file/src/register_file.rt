@@ -6,6 +6,7 @@ ghost use Rattle.register_file.specs.Registers.{reset_registers, word_of, is_wan
 
 use crate::banks::{Counters, Settings, Tables};
 use crate::groups::Groups;
+use crate::mailbox::Mailboxes;
 use crate::side::{ReceiveSide, TransmitSide};
 use dma_ring::Dir;
 use reg_table::RowId;
@@ -21,6 +22,7 @@ pub struct RegisterFile {
     pub(crate) transmit: [TransmitSide; 128],
     pub(crate) counters: Counters,
     pub(crate) tables: Tables,
+    pub(crate) mailboxes: Mailboxes,
     pub(crate) key: HashKey,
 }
 
@@ -48,6 +50,7 @@ impl RegisterFile {
             transmit: [TransmitSide::AT_RESET; 128],
             counters: Counters::AT_RESET,
             tables: Tables::AT_RESET,
+            mailboxes: Mailboxes::AT_RESET,
             key: HashKey::zero(),
         }
     }
@@ -62,6 +65,7 @@ impl RegisterFile {
         self.transmit = [TransmitSide::AT_RESET; 128];
         self.counters = Counters::AT_RESET;
         self.tables = Tables::AT_RESET;
+        self.mailboxes = Mailboxes::AT_RESET;
         self.key = HashKey::zero();
     }
 

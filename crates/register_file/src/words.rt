@@ -23,6 +23,8 @@ impl RegisterFile {
             RowId::CtrlExt => self.settings.ctrl_ext,
             RowId::Ledctl => self.settings.ledctl,
             RowId::Pvfctrl => 0,
+            RowId::Pfmbicr => self.mailboxes.pfmbicr[at],
+            RowId::Pfmbimr => self.mailboxes.pfmbimr[at],
             RowId::Eicr => self.groups.of(Group::Pf).causes(),
             RowId::Eics => 0,
             RowId::Eiac => self.groups.of(Group::Pf).auto_clear(),
@@ -38,7 +40,10 @@ impl RegisterFile {
             RowId::Pvteims => self.groups.of(Group::Vf(index as u8)).enabled(),
             RowId::Pvteimc => 0,
             RowId::Pvteiac => self.groups.of(Group::Vf(index as u8)).auto_clear(),
+            RowId::Pfmailbox => 0,
+            RowId::Pvfmailbox => self.mailboxes.pvfmailbox[at],
             RowId::Pvteiam => self.groups.of(Group::Vf(index as u8)).auto_mask(),
+            RowId::PvtivarMisc => self.mailboxes.pvtivar_misc[at],
             RowId::Rdbal => self.receive[at].base_low,
             RowId::Rdbah => self.receive[at].base_high,
             RowId::Rdlen => self.receive[at].length,
@@ -92,6 +97,7 @@ impl RegisterFile {
             RowId::Eerd => self.settings.eerd,
             RowId::GcrExt => self.settings.gcr_ext,
             RowId::Pvtivar => self.tables.pvtivar[at],
+            RowId::Pfmbmem => self.mailboxes.pfmbmem[at],
         }
     }
 
@@ -124,6 +130,8 @@ impl RegisterFile {
             RowId::Ctrl => self.settings.ctrl = word,
             RowId::CtrlExt => self.settings.ctrl_ext = word,
             RowId::Ledctl => self.settings.ledctl = word,
+            RowId::Pfmbicr => self.mailboxes.pfmbicr[at] = word,
+            RowId::Pfmbimr => self.mailboxes.pfmbimr[at] = word,
             RowId::Eiac => self.set_auto_clear(Group::Pf, word),
             RowId::Eitr => self.tables.eitr[at] = word,
             RowId::Eiam => self.set_auto_mask(Group::Pf, word),
@@ -131,7 +139,9 @@ impl RegisterFile {
             RowId::Ivar => self.tables.ivar[at] = word,
             RowId::IvarMisc => self.settings.ivar_misc = word,
             RowId::Pvteiac => self.set_auto_clear(Group::Vf(index as u8), word),
+            RowId::Pvfmailbox => self.mailboxes.pvfmailbox[at] = word,
             RowId::Pvteiam => self.set_auto_mask(Group::Vf(index as u8), word),
+            RowId::PvtivarMisc => self.mailboxes.pvtivar_misc[at] = word,
             RowId::Rdbal => self.receive[at].base_low = word,
             RowId::Rdbah => self.receive[at].base_high = word,
             RowId::Rdlen => self.receive[at].length = word,
@@ -183,6 +193,7 @@ impl RegisterFile {
             RowId::Eerd => self.settings.eerd = word,
             RowId::GcrExt => self.settings.gcr_ext = word,
             RowId::Pvtivar => self.tables.pvtivar[at] = word,
+            RowId::Pfmbmem => self.mailboxes.pfmbmem[at] = word,
             RowId::Status
             | RowId::Pvfctrl
             | RowId::Eicr
@@ -193,6 +204,7 @@ impl RegisterFile {
             | RowId::Pvteics
             | RowId::Pvteims
             | RowId::Pvteimc
+            | RowId::Pfmailbox
             | RowId::Links
             | RowId::Eec => {}
         }

@@ -3,8 +3,8 @@ use Rattle.std.proofs.Common.{◌≡◌, ◌≢◌, ℕ, ◌+◌, ◌-◌, ◌*�
 use Rattle.std.specs.Prelude.{nat_lt, true}
 use Rattle.std.specs.List.{list_all}
 use Rattle.reg_table.specs.Rows.{rows}
-use Rattle.reg_table.specs.declared.rows.RowId.TheVariants.{Pvtivar, Rdbal, Tdbal}
-use Rattle.vf_map.specs.Map.{Entry, vector_entries, side_entries, behind, queue_entries, receive_rows, transmit_rows}
+use Rattle.reg_table.specs.declared.rows.RowId.TheVariants.{Pvtivar, Pfmbmem, Rdbal, Tdbal}
+use Rattle.vf_map.specs.Map.{Entry, message_entries, vector_entries, side_entries, behind, queue_entries, receive_rows, transmit_rows}
 use Rattle.vf_map.specs.Parts.{place_at, row_behind, of_queue, queues_entries}
 use Rattle.vf_map.proofs.Chains.{in_second, in_either, in_no_word, in_word, in_no_piece, in_piece, in_side, in_no_side}
 
@@ -20,6 +20,18 @@ pub vector_absent : (first count o : ℕ) → ((w : ℕ) → w < count / 2 → 0
     place_at (vector_entries first count) o ≡ None
 vector_absent first count o free =
     in_no_word (λ x. 0x120 + 4 * x) (λ x. record { row = Pvtivar; index = first / 2 + x }) 0 (count / 2) o
+    (λ w l h. free w (omega arith))
+
+-- a word of the mailbox memory, and an offset of none
+pub message_there : (v o : ℕ) → 0x200 ≤ o → o % 4 ≡ 0 → (o - 0x200) / 4 < 16 →
+    place_at (message_entries v) o ≡ Some (record { row = Pfmbmem; index = 16 * v + (o - 0x200) / 4 })
+message_there v o l e h =
+    in_word (λ x. 0x200 + 4 * x) (λ x. record { row = Pfmbmem; index = 16 * v + x }) 0 16 o ((o - 0x200) / 4)
+    (omega arith) (omega arith) (omega arith) (λ y s. omega arith)
+
+pub message_absent : (v o : ℕ) → ((w : ℕ) → w < 16 → 0x200 + 4 * w ≢ o) → place_at (message_entries v) o ≡ None
+message_absent v o free =
+    in_no_word (λ x. 0x200 + 4 * x) (λ x. record { row = Pfmbmem; index = 16 * v + x }) 0 16 o
     (λ w l h. free w (omega arith))
 
 -- the offset lies outside the block

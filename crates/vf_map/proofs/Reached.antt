@@ -1,5 +1,5 @@
 -- What the map of the virtual functions promises.
-use Rattle.std.proofs.Common.{◌≡◌, ◌≢◌, ℕ, ◌*◌, ◌%◌, true, Option, Some, None, refl, ap, sym, ◌∙◌, ◌⊎◌, inl, inr}
+use Rattle.std.proofs.Common.{◌≡◌, ◌≢◌, ℕ, ◌*◌, ◌/◌, ◌%◌, true, Option, Some, None, refl, ap, sym, ◌∙◌, ◌⊎◌, inl, inr}
 use Rattle.std.specs.Prelude.{IsTrue}
 use Rattle.std.proofs.lemmas.Bool.{eqb-true}
 use Rattle.reg_table.specs.Place.{place_among, view_among, address_among}
@@ -71,6 +71,7 @@ one_pool_by bank.Interrupts mode v w index e f = cc
 one_pool_by bank.VfInterrupts mode v w index e f = sym (eqb-true index v e) ∙ eqb-true index w f
 one_pool_by bank.Pool mode v w index e f = sym (eqb-true index v e) ∙ eqb-true index w f
 one_pool_by bank.Vectors mode v w index e f = is_pool-one v w (pool_of mode (2 * index)) e f
+one_pool_by bank.Messages mode v w index e f = sym (eqb-true (index / 16) v e) ∙ eqb-true (index / 16) w f
 one_pool_by bank.VfCounters mode v w index e f = sym (eqb-true index v e) ∙ eqb-true index w f
 
 pub one_pool : (mode : Mode) (v w : ℕ) (p : Place) → is_of_pool mode v p ≡ true → is_of_pool mode w p ≡ true → v ≡ w

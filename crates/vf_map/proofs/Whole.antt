@@ -5,34 +5,34 @@ use Rattle.reg_table.specs.declared.place.Place.{Place}
 use Rattle.vf_map.specs.declared.mode.Mode.{Mode}
 use Rattle.vf_map.specs.declared.located.Located.TheVariants.{Absent}
 use Rattle.vf_map.specs.Pools.{queues_of}
-use Rattle.vf_map.specs.Map.{own_entries, vector_entries, entries, located, located_in}
+use Rattle.vf_map.specs.Map.{function_entries, vector_entries, entries, located, located_in}
 use Rattle.vf_map.specs.Parts.{place_at, located_at, queues_entries}
 use Rattle.vf_map.proofs.Chains.{in_first, in_second, found_at}
 
 -- an offset of the function's own registers
-pub entries_own : (v first count o : ℕ) (a : Place) → place_at (own_entries v) o ≡ Some a →
+pub entries_own : (v first count o : ℕ) (a : Place) → place_at (function_entries v) o ≡ Some a →
     place_at (entries v first count) o ≡ Some a
 unfolding entries
 entries_own v first count o a e =
-    in_first (own_entries v ++ vector_entries first count) (queues_entries first count) o a
-    (in_first (own_entries v) (vector_entries first count) o a e)
+    in_first (function_entries v ++ vector_entries first count) (queues_entries first count) o a
+    (in_first (function_entries v) (vector_entries first count) o a e)
 
 -- one of its vectors
-pub entries_vector : (v first count o : ℕ) (a : Place) → place_at (own_entries v) o ≡ None →
+pub entries_vector : (v first count o : ℕ) (a : Place) → place_at (function_entries v) o ≡ None →
     place_at (vector_entries first count) o ≡ Some a → place_at (entries v first count) o ≡ Some a
 unfolding entries
 entries_vector v first count o a n e =
-    in_first (own_entries v ++ vector_entries first count) (queues_entries first count) o a
-    (in_second (own_entries v) (vector_entries first count) o n ∙ e)
+    in_first (function_entries v ++ vector_entries first count) (queues_entries first count) o a
+    (in_second (function_entries v) (vector_entries first count) o n ∙ e)
 
 -- any other
-pub entries_queues : (v first count o : ℕ) → place_at (own_entries v) o ≡ None →
+pub entries_queues : (v first count o : ℕ) → place_at (function_entries v) o ≡ None →
     place_at (vector_entries first count) o ≡ None →
     place_at (entries v first count) o ≡ place_at (queues_entries first count) o
 unfolding entries
 entries_queues v first count o n m =
-    in_second (own_entries v ++ vector_entries first count) (queues_entries first count) o
-    (in_second (own_entries v) (vector_entries first count) o n ∙ m)
+    in_second (function_entries v ++ vector_entries first count) (queues_entries first count) o
+    (in_second (function_entries v) (vector_entries first count) o n ∙ m)
 
 -- there is no such function
 pub located_beyond : (mode : Mode) (vfs v o : ℕ) → vfs ≤ v → located mode vfs v o ≡ Absent

@@ -7,7 +7,7 @@ use Rattle.reg_table.specs.Rows.{rows}
 use Rattle.reg_table.specs.Runs.{runs}
 use Rattle.reg_table.specs.declared.place.Place.{Place}
 use Rattle.reg_table.specs.declared.rows.RowId.{RowId}
-use Rattle.reg_table.specs.declared.rows.RowId.TheVariants.{Pvfctrl, Status, Links, Pvteicr, Pvteics, Pvteims, Pvteimc, Pvteiac, Pvteiam, Psrtype, Vfgprc, Vfgptc, Pvtivar, Rdbal, Tdbal}
+use Rattle.reg_table.specs.declared.rows.RowId.TheVariants.{Pvfctrl, Status, Links, Pvteicr, Pvteics, Pvteims, Pvteimc, Pvteiac, Pvteiam, PvtivarMisc, Pvfmailbox, Pfmbmem, Psrtype, Vfgprc, Vfgptc, Pvtivar, Rdbal, Tdbal}
 use Rattle.vf_map.specs.Owner.{is_receive, is_transmit}
 use Rattle.vf_map.specs.Pools.{queues_of}
 use Rattle.vf_map.specs.declared.mode.Mode.{Mode}
@@ -29,7 +29,16 @@ own_entries vf =
     entry 0x0000 Pvfctrl vf ∷ entry 0x0008 Status 0 ∷ entry 0x0010 Links 0 ∷
     entry 0x0100 Pvteicr vf ∷ entry 0x0104 Pvteics vf ∷ entry 0x0108 Pvteims vf ∷
     entry 0x010C Pvteimc vf ∷ entry 0x0110 Pvteiac vf ∷ entry 0x0114 Pvteiam vf ∷
+    entry 0x0140 PvtivarMisc vf ∷ entry 0x02FC Pvfmailbox vf ∷
     entry 0x0300 Psrtype vf ∷ entry 0x101C Vfgprc vf ∷ entry 0x201C Vfgptc vf ∷ []
+
+-- its part of the mailbox memory: 16 words
+abbrev pub message_entries : ℕ → List Entry
+message_entries vf = map (λ x. entry (0x200 + 4 * x) Pfmbmem (16 * vf + x)) (range_with_len 0 16)
+
+-- all that it has but what is of its queues
+abbrev pub function_entries : ℕ → List Entry
+function_entries vf = own_entries vf ++ message_entries vf
 
 -- its vectors: a word for each two queues
 abbrev pub vector_entries : (first count : ℕ) → List Entry
@@ -59,7 +68,7 @@ queue_entries x queue =
 -- all that a virtual function with so many queues from the first on can reach
 unfoldable pub entries : (vf first count : ℕ) → List Entry
 entries vf first count =
-    own_entries vf ++ vector_entries first count
+    function_entries vf ++ vector_entries first count
     ++ flat_map (λ x. queue_entries x (first + x)) (range_with_len 0 count)
 
 -- what an offset is, by the entry that has it

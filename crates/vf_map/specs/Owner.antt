@@ -1,5 +1,5 @@
 -- Which pool a place of the device belongs to.
-use Rattle.std.specs.Prelude.{ℕ, ◌*◌, ◌==◌, ◌||◌, Bool, true, false, Option, Some, None}
+use Rattle.std.specs.Prelude.{ℕ, ◌*◌, ◌/◌, ◌==◌, ◌||◌, Bool, true, false, Option, Some, None}
 use Rattle.reg_table.specs.Rows.{row_of, number_of}
 use Rattle.reg_table.specs.declared.place.Place.{Place}
 use Rattle.reg_table.specs.declared.rows.RowId.{RowId}
@@ -19,7 +19,7 @@ abbrev pub has_queue : Mode → (v queue : ℕ) → Bool
 has_queue mode v queue = is_pool v (pool_of mode queue)
 
 -- whether a register with an index belongs to a pool, by the part of the device that it is of. A word of vectors is of
--- two queues, which are of one pool.
+-- two queues, which are of one pool, and of the mailbox memory a pool has 16 words.
 abbrev pub is_of_pool_by : Bank → Mode → (v index : ℕ) → Bool
 is_of_pool_by bank.Device mode v index = false
 is_of_pool_by bank.Counters mode v index = false
@@ -29,6 +29,7 @@ is_of_pool_by bank.Interrupts mode v index = false
 is_of_pool_by bank.VfInterrupts mode v index = index == v
 is_of_pool_by bank.Pool mode v index = index == v
 is_of_pool_by bank.Vectors mode v index = has_queue mode v (2 * index)
+is_of_pool_by bank.Messages mode v index = index / 16 == v
 is_of_pool_by bank.VfCounters mode v index = index == v
 
 -- whether a place belongs to a pool
@@ -49,6 +50,7 @@ is_receive_bank bank.Interrupts = false
 is_receive_bank bank.VfInterrupts = false
 is_receive_bank bank.Pool = false
 is_receive_bank bank.Vectors = false
+is_receive_bank bank.Messages = false
 is_receive_bank bank.VfCounters = false
 
 abbrev pub is_receive : RowId → Bool
@@ -63,6 +65,7 @@ is_transmit_bank bank.Interrupts = false
 is_transmit_bank bank.VfInterrupts = false
 is_transmit_bank bank.Pool = false
 is_transmit_bank bank.Vectors = false
+is_transmit_bank bank.Messages = false
 is_transmit_bank bank.VfCounters = false
 
 abbrev pub is_transmit : RowId → Bool

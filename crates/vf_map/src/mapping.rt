@@ -1,6 +1,6 @@
 ghost use Rattle.std.specs.Prelude.{◌≡◌, ◌<◌, ◌≤◌, Some, None, if◌then◌else◌};
 ghost use Rattle.vf_map.specs.Laws.{IsInRange};
-ghost use Rattle.vf_map.specs.Map.{located, mapped, entries, own_entries, vector_entries, receive_rows, transmit_rows};
+ghost use Rattle.vf_map.specs.Map.{located, mapped, entries, own_entries, message_entries, function_entries, vector_entries, receive_rows, transmit_rows};
 ghost use Rattle.vf_map.specs.Owner.{is_receive, is_transmit};
 ghost use Rattle.vf_map.specs.Parts.{place_at, queues_entries, row_behind, of_queue};
 ghost use Rattle.reg_table.specs.declared.rows.RowId.TheVariants as row;
@@ -13,6 +13,10 @@ use reg_table::{Bank, Place, RowId, addr_of, bank_of, resolve};
 
 /// The offset of a function's first vector word.
 const VECTORS: u32 = 0x120;
+
+/// The offset of a function's first word of the mailbox memory, and how many it has.
+const MESSAGES: u32 = 0x200;
+const MESSAGE_WORDS: u16 = 16;
 
 /// How many bytes of offsets each side's queues have: the receive side's are the second such block, the transmit side's
 /// the third.
@@ -56,13 +60,23 @@ fn place(v: u8, first: u8, count: u8, offset: u32) -> Option<Place>
     requires { count ≤ 4 }
     ensures { result ≡ place_at (entries v first count) offset }
 {
-    if let Some(place) = own_place(v, offset) {
+    if let Some(place) = function_place(v, offset) {
         return Some(place);
     }
     if let Some(place) = vector_place(first, count, offset) {
         return Some(place);
     }
     queue_place(first, count, offset)
+}
+
+/// What function v has but what is of its queues.
+fn function_place(v: u8, offset: u32) -> Option<Place>
+    ensures { result ≡ place_at (function_entries v) offset }
+{
+    if let Some(place) = own_place(v, offset) {
+        return Some(place);
+    }
+    message_place(v, offset)
 }
 
 /// The registers that function v has once.
@@ -80,6 +94,8 @@ fn own_place(v: u8, offset: u32) -> Option<Place>
         0x010C => register(RowId::Pvteimc, v),
         0x0110 => register(RowId::Pvteiac, v),
         0x0114 => register(RowId::Pvteiam, v),
+        0x0140 => register(RowId::PvtivarMisc, v),
+        0x02FC => register(RowId::Pvfmailbox, v),
         0x0300 => register(RowId::Psrtype, v),
         0x101C => register(RowId::Vfgprc, v),
         0x201C => register(RowId::Vfgptc, v),
@@ -94,6 +110,24 @@ fn register(row: RowId, index: u8) -> Option<Place>
         row,
         index: u16::from(index),
     })
+}
+
+/// PFMBMEM: the words of the mailbox memory that function v has.
+fn message_place(v: u8, offset: u32) -> Option<Place>
+    ensures { result ≡ place_at (message_entries v) offset }
+{
+    if offset < MESSAGES || offset % 4 != 0 {
+        return None;
+    }
+    let word = (offset - MESSAGES) / 4;
+    if word < u32::from(MESSAGE_WORDS) {
+        Some(Place {
+            row: RowId::Pfmbmem,
+            index: MESSAGE_WORDS * u16::from(v) + word as u16,
+        })
+    } else {
+        None
+    }
 }
 
 /// PVTIVAR: a word for each two queues of the function.

@@ -8,12 +8,12 @@ returns-in-Some c =
 
 pub returns-in-Some-vector_place : goal.returns-in-Some-vector_place
 returns-in-Some-vector_place c =
-    let none = sym c.own_place.ensures ∙ c.in_default.is in
+    let none = sym c.function_place.ensures ∙ c.in_default.is in
     let word = sym c.in-Some-vector_place.ensures in
     sym (entries_vector c.args.v c.args.first c.args.count c.args.offset c.in-Some-vector_place.place none word)
 
 pub returns : goal.returns
 returns c =
-    let none = sym c.own_place.ensures ∙ c.in_default.is in
+    let none = sym c.function_place.ensures ∙ c.in_default.is in
     let no_vector = sym c.vector_place.ensures ∙ c.in_default-vector_place.is in
     c.queue_place.ensures ∙ sym (entries_queues c.args.v c.args.first c.args.count c.args.offset none no_vector)

@@ -1,0 +1,44 @@
+//! Single bits of words.
+
+ghost use Rattle.std.specs.Prelude.{◌≡◌, ◌<◌};
+ghost use Rattle.register_file.specs.Bits.{has_bit, bit_set, bit_cleared};
+ghost use Rattle.register_file.specs.PoolReset.{mixed};
+
+/// Whether a bit of a word, below 32, is 1.
+#[inline(always)]
+pub(crate) fn has_bit(word: u32, bit: u32) -> bool
+    requires { bit < 32 }
+    ensures { result ≡ has_bit bit word }
+{
+    (word >> bit) % 2 == 1
+}
+
+/// The word with a bit below 32 set.
+#[inline(always)]
+pub(crate) fn bit_set(word: u32, bit: u32) -> u32
+    requires { bit < 32 }
+    ensures { result ≡ bit_set bit word }
+{
+    word | (1 << bit)
+}
+
+/// The word with a bit below 32 cleared.
+#[inline(always)]
+pub(crate) fn bit_cleared(word: u32, bit: u32) -> u32
+    requires { bit < 32 }
+    ensures { result ≡ bit_cleared bit word }
+{
+    if has_bit(word, bit) {
+        word - (1 << bit)
+    } else {
+        word
+    }
+}
+
+/// The old word, with the bits of a mask taken from the new one.
+#[inline(always)]
+pub(crate) fn mixed(mask: u32, old: u32, new: u32) -> u32
+    ensures { result ≡ mixed mask old new }
+{
+    old ^ ((old ^ new) & mask)
+}

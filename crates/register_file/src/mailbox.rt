@@ -1,0 +1,271 @@
+//! The mailboxes of the virtual functions.
+
+ghost use Rattle.std.specs.Prelude.{◌≡◌, ◌<◌, fold};
+ghost use Rattle.std.specs.List.{range_with_len};
+ghost use Rattle.intr_unit.specs.BitSet.{IsSubset};
+ghost use Rattle.intr_unit.specs.Group.{group_bits};
+ghost use Rattle.register_file.specs.Groups.{index_of};
+ghost use Rattle.register_file.specs.Mailbox.{set_if, function_wrote, released, taken, physical_wrote, told_once, reset_told, cause_set, sends, requests, with_requests, physical_told, function_told, mail_read, function_writes, physical_writes, holders, done_told, resets_told};
+
+use crate::bits::{bit_cleared, bit_set, has_bit};
+use crate::register_file::RegisterFile;
+use intr_unit::Group;
+use reg_table::RowId;
+
+/// The words of the mailboxes, and the memory through which messages go.
+#[derive(Clone, Copy)]
+pub(crate) struct Mailboxes {
+    pub(crate) pfmbicr: [u32; 4],
+    pub(crate) pfmbimr: [u32; 2],
+    pub(crate) pvfmailbox: [u32; 64],
+    pub(crate) pvtivar_misc: [u32; 64],
+    pub(crate) pfmbmem: [u32; 1024],
+}
+
+impl Mailboxes {
+    /// The words after a reset: each function is to be told that a reset began, and each may ask the physical function.
+    pub(crate) const AT_RESET: Mailboxes = Mailboxes {
+        pfmbicr: [0; 4],
+        pfmbimr: [0xFFFF_FFFF; 2],
+        pvfmailbox: [0x0000_0040; 64],
+        pvtivar_misc: [0; 64],
+        pfmbmem: [0; 1024],
+    };
+}
+
+/// Bits of a written word, by their numbers: a request of the function, or a status of the physical function, and an
+/// acknowledgement of either.
+const REQUEST: u32 = 0;
+const ACKNOWLEDGEMENT: u32 = 1;
+
+/// The function holds the mailbox. Written by the function, it takes it.
+const VFU: u32 = 2;
+
+/// The physical function holds the mailbox. Written by the physical function, it takes it.
+const PFU: u32 = 3;
+
+/// Written by the physical function: the mailbox is taken from the function.
+const RVFU: u32 = 4;
+
+/// The physical function sent a status.
+const PFSTS: u32 = 4;
+
+/// The physical function sent an acknowledgement.
+const PFACK: u32 = 5;
+
+/// A reset began.
+const RSTI: u32 = 6;
+
+/// A reset is done.
+const RSTD: u32 = 7;
+
+/// Who holds a mailbox: VFU and PFU.
+const HOLDERS: u32 = 0x0000_000C;
+
+/// EICR: the cause of the mailboxes.
+const MAILBOX_CAUSE: u32 = 0x0008_0000;
+
+/// PFMBICR: how many functions a word has the requests of, in its lower half, and the acknowledgements.
+const FUNCTIONS_ASKING: u16 = 16;
+
+/// PFMBIMR: how many functions a word has a mask of.
+const FUNCTIONS_MASKED: u16 = 32;
+
+impl RegisterFile {
+    /// Who holds the mailbox of a function below 64: bit 2 the function, bit 3 the physical function.
+    pub(crate) fn holders(&self, v: u16) -> u32
+        requires { v < 64 }
+        ensures { result ≡ holders self.now v }
+    {
+        self.word(RowId::Pvfmailbox, v) & HOLDERS
+    }
+
+    /// What a read of the mailbox of a function below 64 by that function leaves.
+    pub(crate) fn end_mail_read(&mut self, v: u16)
+        requires { v < 64 }
+        ensures { self.new ≡ mail_read self.old v }
+    {
+        let mail = self.word(RowId::Pvfmailbox, v);
+        self.set_word(RowId::Pvfmailbox, v, told_once(mail));
+    }
+
+    /// A function below 64 writes its mailbox.
+    pub(crate) fn function_writes(&mut self, v: u16, word: u32)
+        requires { v < 64 }
+        ensures { self.new ≡ function_writes self.old v word }
+    {
+        let mail = self.word(RowId::Pvfmailbox, v);
+        self.set_word(RowId::Pvfmailbox, v, function_wrote(mail, word));
+        self.add_requests(v, word);
+        self.tell_physical(v, word);
+    }
+
+    /// The physical function writes the mailbox of a function below 64.
+    pub(crate) fn physical_writes(&mut self, v: u16, word: u32)
+        requires { v < 64 }
+        ensures { self.new ≡ physical_writes self.old v word }
+    {
+        let mail = self.word(RowId::Pvfmailbox, v);
+        self.set_word(RowId::Pvfmailbox, v, physical_wrote(mail, word));
+        self.tell_function(v, word);
+    }
+
+    /// Tells each function that a reset is done, where it was told that one began.
+    #[tactic(auto, unfolding(crate::specs::Mailbox::resets_told))]
+    pub(crate) fn tell_resets(&mut self)
+        ensures { self.new ≡ resets_told self.old }
+    {
+        self.tell_resets_of(64);
+    }
+
+    /// Tells the functions below a number.
+    fn tell_resets_of(&mut self, count: u8)
+        requires { count < 65 }
+        ensures { self.new ≡ fold done_told self.old (range_with_len 0 count) }
+    {
+        for v in 0..count {
+            self.tell_reset(u16::from(v));
+        }
+    }
+
+    fn tell_reset(&mut self, v: u16)
+        requires { v < 64 }
+        ensures { self.new ≡ done_told self.old v }
+    {
+        let mail = self.word(RowId::Pvfmailbox, v);
+        self.set_word(RowId::Pvfmailbox, v, reset_told(mail));
+    }
+
+    /// Adds what a function asks of the physical function.
+    fn add_requests(&mut self, v: u16, word: u32)
+        requires { v < 64 }
+        ensures { self.new ≡ with_requests self.old v word }
+    {
+        let at = v / FUNCTIONS_ASKING;
+        let asked = self.word(RowId::Pfmbicr, at);
+        self.set_word(RowId::Pfmbicr, at, asked | requests(v, word));
+    }
+
+    /// Raises the physical function's cause of mailboxes, where a function sends and isn't masked.
+    fn tell_physical(&mut self, v: u16, word: u32)
+        requires { v < 64 }
+        ensures { self.new ≡ physical_told self.old v word }
+    {
+        let mask = self.word(RowId::Pfmbimr, v / FUNCTIONS_MASKED);
+        if sends(word) && has_bit(mask, u32::from(v % FUNCTIONS_MASKED)) {
+            self.set_cause(Group::Pf, MAILBOX_CAUSE);
+        }
+    }
+
+    /// Raises the cause that a function has of its mailbox, where the physical function sends.
+    fn tell_function(&mut self, v: u16, word: u32)
+        requires { v < 64 }
+        ensures { self.new ≡ function_told self.old v word }
+    {
+        if sends(word) {
+            let group = Group::Vf(v as u8);
+            let entry = (self.word(RowId::PvtivarMisc, v) % 256) as u8;
+            self.set_cause(group, group.queue_causes(entry));
+        }
+    }
+
+    /// Sets causes of a group, which are bits that the group has.
+    fn set_cause(&mut self, group: Group, bits: u32)
+        requires there { index_of group < 64 }
+        requires bits { IsSubset bits (group_bits group) }
+        ensures { self.new ≡ cause_set self.old group bits }
+    {
+        let _own = self.groups.of(group);
+        self.groups.raise(group, bits, false);
+    }
+}
+
+/// A mailbox's word after a write by the function.
+fn function_wrote(mail: u32, word: u32) -> u32
+    ensures { result ≡ function_wrote mail word }
+{
+    if !has_bit(word, VFU) {
+        bit_cleared(mail, VFU)
+    } else if has_bit(mail, PFU) {
+        mail
+    } else {
+        bit_set(mail, VFU)
+    }
+}
+
+/// After a write by the physical function.
+fn physical_wrote(mail: u32, word: u32) -> u32
+    ensures { result ≡ physical_wrote mail word }
+{
+    let held = taken(released(mail, word), word);
+    let acknowledged = set_if(has_bit(word, ACKNOWLEDGEMENT), PFACK, held);
+    set_if(has_bit(word, REQUEST), PFSTS, acknowledged)
+}
+
+fn released(mail: u32, word: u32) -> u32
+    ensures { result ≡ released mail word }
+{
+    if has_bit(word, RVFU) {
+        bit_cleared(mail, VFU)
+    } else {
+        mail
+    }
+}
+
+fn taken(mail: u32, word: u32) -> u32
+    ensures { result ≡ taken mail word }
+{
+    if !has_bit(word, PFU) {
+        bit_cleared(mail, PFU)
+    } else if has_bit(mail, VFU) {
+        mail
+    } else {
+        bit_set(mail, PFU)
+    }
+}
+
+/// After a read by the function.
+fn told_once(mail: u32) -> u32
+    ensures { result ≡ told_once mail }
+{
+    bit_cleared(bit_cleared(bit_cleared(mail, RSTD), PFACK), PFSTS)
+}
+
+/// Once a reset is done.
+fn reset_told(mail: u32) -> u32
+    ensures { result ≡ reset_told mail }
+{
+    if has_bit(mail, RSTI) {
+        bit_set(bit_cleared(mail, RSTI), RSTD)
+    } else {
+        mail
+    }
+}
+
+/// Whether a written word sends something to the other side.
+fn sends(word: u32) -> bool
+    ensures { result ≡ sends word }
+{
+    has_bit(word, REQUEST) || has_bit(word, ACKNOWLEDGEMENT)
+}
+
+/// The bits of PFMBICR that a write of function v sets.
+fn requests(v: u16, word: u32) -> u32
+    ensures { result ≡ requests v word }
+{
+    let own = u32::from(v % FUNCTIONS_ASKING);
+    let acknowledged = set_if(has_bit(word, ACKNOWLEDGEMENT), u32::from(FUNCTIONS_ASKING) + own, 0);
+    set_if(has_bit(word, REQUEST), own, acknowledged)
+}
+
+/// The word with a bit below 32 set, where a condition holds.
+fn set_if(condition: bool, bit: u32, word: u32) -> u32
+    requires { bit < 32 }
+    ensures { result ≡ set_if condition bit word }
+{
+    if condition {
+        bit_set(word, bit)
+    } else {
+        word
+    }
+}

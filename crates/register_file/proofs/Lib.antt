@@ -5,6 +5,8 @@ pub use Rattle.intr_unit.proofs as IntrUnit
 pub mod Columns
 pub mod InPlace
 pub mod Own
+pub mod Raising
 pub mod Repeated
+pub mod SingleBits
 pub mod ResetWords
 pub mod Storing

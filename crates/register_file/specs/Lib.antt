@@ -11,6 +11,7 @@ pub mod Counters
 pub mod Eeprom
 pub mod Groups
 pub mod Layout
+pub mod Mailbox
 pub mod Owner
 pub mod PoolReset
 pub mod Pools

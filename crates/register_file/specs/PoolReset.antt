@@ -25,13 +25,18 @@ all_bits row = record { row = row; whole = true; mask = 0 }
 abbrev pub some_bits : RowId → ℕ → Renewal
 some_bits row mask = record { row = row; whole = false; mask = mask }
 
--- the table of what it takes: of the rows that a pool has once, where of the mailbox it takes that the function holds it
--- and what the physical function sent; of those of a side of a queue; and of that of the vectors of two queues
-abbrev pub function_renewals : List Renewal
-function_renewals =
+-- the table of what it takes: of the rows that a pool has once, with what it takes of the mailbox (that the function
+-- holds it, what was sent to it, and its vector); of those of a side of a queue; and of that of the vectors of two queues
+abbrev pub own_renewals : List Renewal
+own_renewals =
     all_bits Pvfctrl ∷ all_bits Pvteicr ∷ all_bits Pvteics ∷ all_bits Pvteims ∷ all_bits Pvteimc ∷ all_bits Pvteiac
-    ∷ all_bits Pvteiam ∷ all_bits Psrtype ∷ all_bits Vfgprc ∷ all_bits Vfgptc ∷ all_bits PvtivarMisc
-    ∷ some_bits Pvfmailbox 0x34 ∷ []
+    ∷ all_bits Pvteiam ∷ all_bits Psrtype ∷ all_bits Vfgprc ∷ all_bits Vfgptc ∷ []
+
+abbrev pub mailbox_renewals : List Renewal
+mailbox_renewals = all_bits PvtivarMisc ∷ some_bits Pvfmailbox 0x34 ∷ []
+
+abbrev pub function_renewals : List Renewal
+function_renewals = own_renewals ++ mailbox_renewals
 
 abbrev pub side_renewals : Dir → List Renewal
 side_renewals Rx =

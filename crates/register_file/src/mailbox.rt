@@ -36,6 +36,7 @@ impl Mailboxes {
 /// Bits of a written word, by their numbers: a request of the function, or a status of the physical function, and an
 /// acknowledgement of either.
 const REQUEST: u32 = 0;
+
 const ACKNOWLEDGEMENT: u32 = 1;
 
 /// The function holds the mailbox. Written by the function, it takes it.
@@ -254,7 +255,11 @@ fn requests(v: u16, word: u32) -> u32
     ensures { result ≡ requests v word }
 {
     let own = u32::from(v % FUNCTIONS_ASKING);
-    let acknowledged = set_if(has_bit(word, ACKNOWLEDGEMENT), u32::from(FUNCTIONS_ASKING) + own, 0);
+    let acknowledged = set_if(
+        has_bit(word, ACKNOWLEDGEMENT),
+        u32::from(FUNCTIONS_ASKING) + own,
+        0,
+    );
     set_if(has_bit(word, REQUEST), own, acknowledged)
 }
 
@@ -263,9 +268,5 @@ fn set_if(condition: bool, bit: u32, word: u32) -> u32
     requires { bit < 32 }
     ensures { result ≡ set_if condition bit word }
 {
-    if condition {
-        bit_set(word, bit)
-    } else {
-        word
-    }
+    if condition { bit_set(word, bit) } else { word }
 }

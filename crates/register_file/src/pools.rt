@@ -2,8 +2,10 @@
 
 ghost use Rattle.std.specs.Prelude.{◌≡◌, ◌+◌, ◌<◌, ◌≤◌, fold};
 ghost use Rattle.std.specs.List.{range_with_len};
+ghost use Rattle.intr_unit.specs.declared.group.Group.TheVariants.{Vf};
+ghost use Rattle.register_file.specs.Groups.{with_told};
 ghost use Rattle.register_file.specs.Pools.{mode_in, pool_row, is_pool_on};
-ghost use Rattle.register_file.specs.PoolReset.{side_reset, queue_reset, vectors_reset, function_reset, pool_reset};
+ghost use Rattle.register_file.specs.PoolReset.{side_reset, queue_reset, own_renewals, mailbox_renewals, rows_reset, vectors_reset, function_reset, pool_reset};
 ghost use Rattle.dma_ring.specs.declared.dir.Dir.TheVariants.{Rx, Tx};
 
 use crate::bits::mixed;
@@ -59,13 +61,34 @@ impl RegisterFile {
         requires { v < 64 }
         ensures { self.new ≡ function_reset self.old v }
     {
+        self.reset_own(v);
+        self.reset_mailbox(u16::from(v));
+    }
+
+    /// Resets the interrupts of a pool's function, what was told of them, PSRTYPE, and what is counted of the function.
+    fn reset_own(&mut self, v: u8)
+        requires { v < 64 }
+        ensures { self.new ≡ with_told (rows_reset self.old own_renewals v) (Vf v) 0 }
+    {
         let at = usize::from(v);
         self.groups.renew(v);
         self.tables.psrtype[at] = 0;
         self.counters.vfgprc[at] = 0;
         self.counters.vfgptc[at] = 0;
-        self.mailboxes.pvtivar_misc[at] = 0;
-        self.mailboxes.pvfmailbox[at] =  mixed(MAIL_RENEWED, self.mailboxes.pvfmailbox[at], MAIL_AT_RESET);
+    }
+
+    /// Resets what a pool has of its mailbox: that the function holds it, what was sent to it, and its vector.
+    fn reset_mailbox(&mut self, v: u16)
+        requires { v < 64 }
+        ensures { self.new ≡ rows_reset self.old mailbox_renewals v }
+    {
+        let mail = self.word(RowId::Pvfmailbox, v);
+        self.set_word(RowId::PvtivarMisc, v, 0);
+        self.set_word(
+            RowId::Pvfmailbox,
+            v,
+            mixed(MAIL_RENEWED, mail, MAIL_AT_RESET),
+        );
     }
 
     /// Resets so many queues from the first on.

@@ -20,3 +20,8 @@ pub returns-in-Pvteimc : goal.returns-in-Pvteimc
 returns-in-Pvteimc c =
     rw (← c.self.view_is, c.in-Pvteimc.is)
     (none_held c.args.index (subst (λ r. c.args.index < (row_of r).count) c.in-Pvteimc.is c.requires))
+
+pub returns-in-Pfmailbox : goal.returns-in-Pfmailbox
+returns-in-Pfmailbox c =
+    rw (← c.self.view_is, c.in-Pfmailbox.is)
+    (none_held c.args.index (subst (λ r. c.args.index < (row_of r).count) c.in-Pfmailbox.is c.requires))

@@ -3,7 +3,7 @@ use Rattle.std.specs.Prelude.{replicate}
 use Rattle.std.proofs.Math.ListN.{set}
 use Rattle.std.proofs.lemmas.List.{get_or-replicate, set-get_or}
 use Rattle.register_file.proofs.Columns.{group_columns}
-use Rattle.register_file.proofs.register_file.RegisterFile.reset_function.Goals as goal
+use Rattle.register_file.proofs.register_file.RegisterFile.reset_own.Goals as goal
 
 none_held : (v : ℕ) → v < 64 → set {A = ℕ} (replicate 64 0) v 0 ≡ replicate 64 0
 none_held v b = ap (set (replicate 64 0) v) (sym (get_or-replicate 64 v 0 0 b)) ∙ set-get_or (replicate 64 0) v 0

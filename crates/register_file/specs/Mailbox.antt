@@ -1,12 +1,16 @@
 -- The mailbox of a virtual function: one word, PVFMAILBOX, which the function and the physical function share, with the
 -- causes that each side has of it.
-use Rattle.std.specs.Prelude.{ℕ, ◌+◌, ◌/◌, ◌%◌, ◌^◌, Bool, ◌&&◌, ◌||◌, fold, bit_and, bit_or, if◌then◌else◌}
+use Rattle.std.specs.Prelude.{◌==◌, ℕ, ◌+◌, ◌/◌, ◌%◌, ◌^◌, Bool, ◌&&◌, ◌||◌, fold, bit_and, bit_or, if◌then◌else◌}
 use Rattle.std.specs.List.{range_with_len}
-use Rattle.reg_table.specs.declared.rows.RowId.TheVariants.{Pfmbicr, Pfmbimr, Pvfmailbox, PvtivarMisc}
+use Rattle.reg_table.specs.declared.rows.RowId.TheVariants.{Eicr, Pvteicr, Pfmbicr, Pfmbimr, Pvfmailbox, PvtivarMisc}
 use Rattle.intr_unit.specs.Group.{queue_causes}
 use Rattle.intr_unit.specs.declared.group.Group.{Group}
 use Rattle.intr_unit.specs.declared.group.Group.TheVariants.{Pf, Vf}
+use Rattle.reg_table.specs.Rows.{number_of}
+use Rattle.reg_table.specs.declared.place.Place.{Place}
 use Rattle.register_file.specs.Bits.{has_bit, bit_set, bit_cleared}
+use Rattle.register_file.specs.Columns.{place}
+use Rattle.register_file.specs.Footprint.{Footprint, nothing, is_place, the_bits}
 use Rattle.register_file.specs.Groups.{cause_row, index_of}
 use Rattle.register_file.specs.Registers.{Registers, word_of, with_word}
 
@@ -97,3 +101,35 @@ done_told r v = with_mail r v (reset_told (mail_of r v))
 
 unfoldable pub resets_told : Registers → Registers
 resets_told r = fold done_told r (range_with_len 0 64)
+
+-- what a read of a function's mailbox may change: of its word, what it tells once
+abbrev pub by_mail_read : ℕ → Footprint
+by_mail_read v = the_bits (place Pvfmailbox v) (λ bit. bit == 4 || bit == 5 || bit == 7)
+
+-- what a write by the function may: that it holds the mailbox, its bits of PFMBICR, and the physical function's cause
+abbrev pub is_request : ℕ → Place → (bit : ℕ) → Bool
+is_request v p bit = is_place (place Pfmbicr (v / 16)) p && (bit == v % 16 || bit == 16 + v % 16)
+
+abbrev pub is_mail_cause : Place → (bit : ℕ) → Bool
+is_mail_cause p bit = is_place (place Eicr 0) p && bit == 19
+
+abbrev pub by_function : ℕ → Footprint
+by_function v =
+    record nothing {
+      bits = λ p bit.
+          (is_place (place Pvfmailbox v) p && bit == 2) || (is_request v p bit || is_mail_cause p bit);
+    }
+
+-- what a write by the physical function may: who holds the mailbox, what it sent, and the function's causes
+abbrev pub by_physical : ℕ → Footprint
+by_physical v =
+    record nothing {
+      bits = λ p bit.
+          (is_place (place Pvfmailbox v) p && (bit == 2 || bit == 3 || bit == 4 || bit == 5))
+          || (is_place (place Pvteicr v) p && (bit == 0 || bit == 1 || bit == 2));
+    }
+
+-- what telling all functions of a reset may: of each mailbox's word whether a reset began and is done
+abbrev pub by_telling : Footprint
+by_telling =
+    record nothing { bits = λ p bit. number_of p.row == number_of Pvfmailbox && (bit == 6 || bit == 7) }

@@ -2,11 +2,11 @@
 
 ghost use Rattle.std.specs.Prelude.{◌≡◌, ◌<◌, IfSome, IsTrue, bit_and};
 ghost use Rattle.reg_table.specs.Rows.{row_of};
-ghost use Rattle.reg_table.specs.declared.kind.Kind.TheVariants as kind;
+ghost use Rattle.reg_table.specs.declared.kind.Kind.TheVariants.{Held, Enable, W1c, Ctrlext};
 ghost use Rattle.register_file.specs.Groups.{index_of};
 ghost use Rattle.register_file.specs.Owner.{owner_of, IsThere};
 ghost use Rattle.register_file.specs.Storing.{is_stored};
-ghost use Rattle.register_file.specs.Access.{read_word, after_read, written, group_written, stored, ones_cleared, calculated, group_in, is_running, asked, asks_reset, asks_pool_reset};
+ghost use Rattle.register_file.specs.Access.{read_word, after_read, written, stored, ones_cleared, calculated, group_in, is_running, asked, asks_reset, asks_pool_reset};
 
 use crate::bits::has_bit;
 use crate::owner::{Owner, owner_of};
@@ -28,7 +28,7 @@ const POOL_RESET: u32 = 0x0400_0000;
 /// EERD: the bits that a write takes. The others become 0.
 const EERD_TAKES: u32 = 0x0000_FFFD;
 
-/// CTRL_EXT: by its number, the bit that tells functions that a reset is done.
+/// CTRL_EXT: the number of the bit that tells that a reset is done.
 const RESET_DONE: u32 = 14;
 
 /// What STATUS reads while the device makes steps.
@@ -143,38 +143,37 @@ impl RegisterFile {
         ensures word { result ≡ read_word (row_of place.row).kind self.old around place }
         ensures state { self.new ≡ after_read (row_of place.row).kind self.old place }
     {
-        let word = self.peek(around, place);
-        self.end_read(place);
-        word
-    }
-
-    /// What a read of a place leaves: a counter starts again from 0, and causes are cleared.
-    fn end_read(&mut self, place: Place)
-        requires { place.index < (row_of place.row).count }
-        ensures { self.new ≡ after_read (row_of place.row).kind self.old place }
-    {
-        match kind_of(place.row) {
-            Kind::Rc => self.set_word(place.row, place.index, 0),
-            Kind::Vfmail => self.end_mail_read(place.index),
+        let Place { row, index } = place;
+        match kind_of(row) {
+            Kind::Rc => {
+                let word = self.word(row, index);
+                self.set_word(row, index, 0);
+                word
+            }
             Kind::Cause => {
+                let word = self.word(row, index);
                 if let Some(group) = group_of(place) {
                     self.read_causes(group);
                 }
+                word
             }
+            Kind::Vfmail => {
+                let word = self.word(row, index);
+                self.end_mail_read(index);
+                word
+            }
+            Kind::Calc => self.calculated(around, row),
+            Kind::Set | Kind::Clear | Kind::Vreset => 0,
+            Kind::Pfmail => self.holders(index),
             Kind::Rw
             | Kind::Ro
-            | Kind::Calc
             | Kind::Ones
-            | Kind::Set
-            | Kind::Clear
             | Kind::Held
             | Kind::Enable
             | Kind::Ctrl
-            | Kind::Vreset
             | Kind::Eerd
             | Kind::W1c
-            | Kind::Pfmail
-            | Kind::Ctrlext => {}
+            | Kind::Ctrlext => self.word(row, index),
         }
     }
 
@@ -186,58 +185,78 @@ impl RegisterFile {
     {
         match kind_of(place.row) {
             Kind::Rw | Kind::Ctrl => self.store(place, view, word),
+            Kind::Ro | Kind::Calc | Kind::Rc | Kind::Vreset => {}
+            Kind::Eerd => self.store(place, view, word & EERD_TAKES),
+            Kind::Held => self.write_held(place, view, word),
             Kind::W1c => self.clear_ones(place, word & view),
             Kind::Vfmail => self.function_writes(place.index, word),
             Kind::Pfmail => self.physical_writes(place.index, word),
-            Kind::Ctrlext => {
-                self.store(place, view, word);
-                if has_bit(word, RESET_DONE) {
-                    self.tell_resets();
+            Kind::Ctrlext => self.write_extended(place, view, word),
+            Kind::Enable => self.write_enable(place, view, word),
+            Kind::Cause => {
+                if let Some(group) = group_of(place) {
+                    self.write_causes(group, word & view);
                 }
             }
-            Kind::Ro | Kind::Calc | Kind::Rc | Kind::Vreset => {}
-            Kind::Eerd => self.store(place, view, word & EERD_TAKES),
-            Kind::Cause | Kind::Ones | Kind::Set | Kind::Clear => {
-                self.write_interrupts(place, word & view);
-            }
-            Kind::Held => {
-                if !self.is_running(owner_of(place)) {
-                    self.store(place, view, word);
+            Kind::Ones => {
+                if let Some(group) = group_of(place) {
+                    self.set_masks(group, word & view);
                 }
             }
-            Kind::Enable => {
-                self.store(place, view, word);
-                self.ask(owner_of(place), word / ENABLE % 2 == 1);
+            Kind::Set => {
+                if let Some(group) = group_of(place) {
+                    self.set_causes(group, word & view);
+                }
+            }
+            Kind::Clear => {
+                if let Some(group) = group_of(place) {
+                    self.clear_masks(group, word & view);
+                }
             }
         }
     }
 
-    /// Writes a register of a group's interrupts, where a place is of one.
-    fn write_interrupts(&mut self, place: Place, bits: u32)
-        requires { place.index < (row_of place.row).count }
-        ensures { self.new ≡ group_written (row_of place.row).kind self.old place bits }
+    /// Writes a register of a ring, which a side that is on keeps as it is.
+    fn write_held(&mut self, place: Place, view: u32, word: u32)
+        requires index { place.index < (row_of place.row).count }
+        requires kind { (row_of place.row).kind ≡ Held }
+        ensures { self.new ≡ written Held self.old place view word }
     {
-        if let Some(group) = group_of(place) {
-            match kind_of(place.row) {
-                Kind::Cause => self.write_causes(group, bits),
-                Kind::Ones => self.set_masks(group, bits),
-                Kind::Set => self.set_causes(group, bits),
-                Kind::Clear => self.clear_masks(group, bits),
-                Kind::Rw
-                | Kind::Ro
-                | Kind::Calc
-                | Kind::Rc
-                | Kind::Held
-                | Kind::Enable
-                | Kind::Ctrl
-                | Kind::Vreset
-                | Kind::Eerd
-                | Kind::W1c
-                | Kind::Vfmail
-                | Kind::Pfmail
-                | Kind::Ctrlext => {}
-            }
+        if !self.is_running(owner_of(place)) {
+            self.store(place, view, word);
         }
+    }
+
+    /// Writes an enable word: it asks the side to be on, or not.
+    fn write_enable(&mut self, place: Place, view: u32, word: u32)
+        requires index { place.index < (row_of place.row).count }
+        requires kind { (row_of place.row).kind ≡ Enable }
+        ensures { self.new ≡ written Enable self.old place view word }
+    {
+        self.store(place, view, word);
+        self.ask(owner_of(place), word / ENABLE % 2 == 1);
+    }
+
+    /// Writes the extended device control word: with bit 14 it tells all functions that a reset is done.
+    fn write_extended(&mut self, place: Place, view: u32, word: u32)
+        requires index { place.index < (row_of place.row).count }
+        requires kind { (row_of place.row).kind ≡ Ctrlext }
+        ensures { self.new ≡ written Ctrlext self.old place view word }
+    {
+        self.store(place, view, word);
+        if has_bit(word, RESET_DONE) {
+            self.tell_resets();
+        }
+    }
+
+    /// Clears the bits of a word that are 1 in what is written.
+    fn clear_ones(&mut self, place: Place, bits: u32)
+        requires index { place.index < (row_of place.row).count }
+        requires kind { (row_of place.row).kind ≡ W1c }
+        ensures { self.new ≡ ones_cleared self.old place bits }
+    {
+        let word = self.word(place.row, place.index);
+        self.set_word(place.row, place.index, word & !bits);
     }
 
     /// Whether what an owner has is in use: a side's ring is while the side is on.
@@ -282,16 +301,6 @@ impl RegisterFile {
             RowId::Eec => EEPROM_PRESENT + EEPROM_SIZE * u32::from(around.eeprom),
             _ => 0,
         }
-    }
-
-    /// Clears the bits of a word that are 1 in what is written.
-    fn clear_ones(&mut self, place: Place, bits: u32)
-        requires index { place.index < (row_of place.row).count }
-        requires kind { (row_of place.row).kind ≡ kind.W1c }
-        ensures { self.new ≡ ones_cleared self.old place bits }
-    {
-        let word = self.word(place.row, place.index);
-        self.set_word(place.row, place.index, word & !bits);
     }
 
     /// Stores a word: of it, the bits of the row's mask that the address shows.

@@ -31,6 +31,8 @@ pub record Behaviour : Type 0 where
   pub is_stored : Bool
   pub is_pending : Bool
   pub is_alone : Bool
+  -- whether a write changes nothing but what is of the owner of the place
+  pub is_own : Bool
   pub keeps_none : Bool
   -- the bits of its words that can become 1, by the row's mask
   pub bits : (mask : ℕ) → ℕ
@@ -49,6 +51,7 @@ inert =
       is_stored = false;
       is_pending = false;
       is_alone = true;
+      is_own = true;
       keeps_none = true;
       bits = λ mask. 0;
     }
@@ -130,6 +133,7 @@ behaviour_of kind.Vfmail =
       by_read = λ p. by_mail_read p.index;
       by_write = λ p. by_function p.index;
       is_alone = false;
+      is_own = false;
       bits = λ mask. 0xFC;
     }
 behaviour_of kind.Pfmail =
@@ -137,10 +141,12 @@ behaviour_of kind.Pfmail =
       gives = λ r around p. holders r p.index;
       written = λ r p view word. physical_writes r p.index word;
       by_write = λ p. by_physical p.index;
+      is_own = false;
     }
 behaviour_of kind.Ctrlext =
     record plain {
       written = λ r p view word.
           if has_bit 14 word then resets_told (stored r p view word) else stored r p view word;
       by_write = λ p. either (the_word p) by_telling;
+      is_own = false;
     }

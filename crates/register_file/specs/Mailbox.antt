@@ -10,7 +10,7 @@ use Rattle.reg_table.specs.Rows.{number_of}
 use Rattle.reg_table.specs.declared.place.Place.{Place}
 use Rattle.register_file.specs.Bits.{has_bit, bit_set, bit_cleared}
 use Rattle.register_file.specs.Columns.{place}
-use Rattle.register_file.specs.Footprint.{Footprint, nothing, is_place, the_bits}
+use Rattle.register_file.specs.Footprint.{Footprint, nothing, either, is_place, the_bits}
 use Rattle.register_file.specs.Groups.{cause_row, index_of}
 use Rattle.register_file.specs.Registers.{Registers, word_of, with_word}
 
@@ -106,30 +106,27 @@ resets_told r = fold done_told r (range_with_len 0 64)
 abbrev pub by_mail_read : ℕ → Footprint
 by_mail_read v = the_bits (place Pvfmailbox v) (λ bit. bit == 4 || bit == 5 || bit == 7)
 
--- what a write by the function may: that it holds the mailbox, its bits of PFMBICR, and the physical function's cause
+-- what a write by the function may: that it holds the mailbox, and where it sends its bits of PFMBICR and the physical
+-- function's cause
 abbrev pub is_request : ℕ → Place → (bit : ℕ) → Bool
 is_request v p bit = is_place (place Pfmbicr (v / 16)) p && (bit == v % 16 || bit == 16 + v % 16)
 
 abbrev pub is_mail_cause : Place → (bit : ℕ) → Bool
 is_mail_cause p bit = is_place (place Eicr 0) p && bit == 19
 
+abbrev pub by_sending : ℕ → Footprint
+by_sending v = record nothing { bits = λ p bit. is_request v p bit || is_mail_cause p bit }
+
 abbrev pub by_function : ℕ → Footprint
-by_function v =
-    record nothing {
-      bits = λ p bit.
-          (is_place (place Pvfmailbox v) p && bit == 2) || (is_request v p bit || is_mail_cause p bit);
-    }
+by_function v = either (the_bits (place Pvfmailbox v) (λ bit. bit == 2)) (by_sending v)
 
 -- what a write by the physical function may: who holds the mailbox, what it sent, and the function's causes
 abbrev pub by_physical : ℕ → Footprint
 by_physical v =
-    record nothing {
-      bits = λ p bit.
-          (is_place (place Pvfmailbox v) p && (bit == 2 || bit == 3 || bit == 4 || bit == 5))
-          || (is_place (place Pvteicr v) p && (bit == 0 || bit == 1 || bit == 2));
-    }
+    either (the_bits (place Pvfmailbox v) (λ bit. bit == 2 || bit == 3 || bit == 4 || bit == 5))
+    (the_bits (place Pvteicr v) (λ bit. bit == 0 || bit == 1 || bit == 2))
 
 -- what telling all functions of a reset may: of each mailbox's word whether a reset began and is done
 abbrev pub by_telling : Footprint
 by_telling =
-    record nothing { bits = λ p bit. number_of p.row == number_of Pvfmailbox && (bit == 6 || bit == 7) }
+    record nothing { bits = λ p bit. number_of Pvfmailbox == number_of p.row && (bit == 6 || bit == 7) }

@@ -9,6 +9,8 @@ pub mod Formulas
 pub mod Giving
 pub mod GroupChanges
 pub mod Keeps
+pub mod MailBits
+pub mod Mailbox
 pub mod NoSide
 pub mod Owners
 pub mod PastEnd

@@ -10,6 +10,7 @@ use Rattle.register_file.specs.VfMap.declared.mode.Mode.{Mode}
 use Rattle.register_file.specs.Behaviour.{behaviour_of}
 use Rattle.register_file.specs.Bits.{has_bit}
 use Rattle.register_file.specs.Groups.{told_by}
+use Rattle.register_file.specs.Mailbox.{by_sending}
 use Rattle.register_file.specs.Owner.{owner_of, is_owner, is_group}
 use Rattle.register_file.specs.PoolReset.{is_renewed}
 use Rattle.register_file.specs.Registers.{Registers, is_wanted}
@@ -17,7 +18,7 @@ use Rattle.register_file.specs.Words.{word_at}
 use Rattle.register_file.specs.DmaRing.declared.dir.Dir.{Dir}
 use Rattle.register_file.specs.declared.owner.Owner.{Owner}
 use Rattle.register_file.specs.declared.owner.Owner.TheVariants as owner
-pub use Rattle.register_file.specs.Footprint.{Footprint, nothing, is_place, the_word, the_bits, the_enable, pending, pending_of}
+pub use Rattle.register_file.specs.Footprint.{Footprint, nothing, either, is_place, the_word, the_bits, the_enable, pending, pending_of}
 
 -- a part of the registers: whole words at places, which sides are wanted on, and what is told of groups
 pub record Part : Type 0 where
@@ -66,15 +67,6 @@ pub record AgreeWithin (f : Part) (a b : Registers) : Type 0 where
 abbrev pub everything : Footprint
 everything = record { bits = λ p bit. true; wanted = λ dir queue. true; told = λ g. true }
 
--- what one of two footprints has
-abbrev pub either : Footprint → Footprint → Footprint
-either f g =
-    record {
-      bits = λ p bit. f.bits p bit || g.bits p bit;
-      wanted = λ dir queue. f.wanted dir queue || g.wanted dir queue;
-      told = λ h. f.told h || g.told h;
-    }
-
 -- all that is an owner's: the words at its places, of a side whether it is wanted on, and of a group what is told
 abbrev pub of_owner : Owner → Footprint
 of_owner o =
@@ -103,16 +95,20 @@ pool_agrees mode v =
       told = is_group (Vf v);
     }
 
--- what accesses of a pool's places and the pool's reset may change: all that is the pool's
+abbrev pub pool_has : Mode → ℕ → Footprint
+pool_has mode v = all_of (pool_agrees mode v)
+
+-- what accesses of a pool's places may change: all that is the pool's, and where its function sends to the physical
+-- function its bits of PFMBICR and the physical function's cause
 abbrev pub pool_changes : Mode → ℕ → Footprint
-pool_changes mode v = all_of (pool_agrees mode v)
+pool_changes mode v = either (pool_has mode v) (by_sending v)
 
 -- of a footprint what the reset of a pool takes, by its table, and of all that is the pool's
 abbrev pub renewed_of : Footprint → Footprint
 renewed_of f = record f { bits = λ p bit. is_renewed p.row bit && f.bits p bit }
 
 abbrev pub pool_renews : Mode → ℕ → Footprint
-pool_renews mode v = renewed_of (all_of (pool_agrees mode v))
+pool_renews mode v = renewed_of (pool_has mode v)
 
 -- whether the words of a kind are causes or masks, and whether no access of another place changes them
 abbrev pub is_pending : Kind → Bool
@@ -120,6 +116,10 @@ is_pending k = (behaviour_of k).is_pending
 
 abbrev pub is_alone : Kind → Bool
 is_alone k = (behaviour_of k).is_alone
+
+-- whether a write changes nothing but what is of the owner of the place
+abbrev pub is_own : Kind → Bool
+is_own k = (behaviour_of k).is_own
 
 -- what is pending of all groups
 abbrev pub any_pending : Footprint

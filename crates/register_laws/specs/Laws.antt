@@ -26,7 +26,7 @@ use Rattle.register_file.specs.DmaRing.declared.dir.Dir.TheVariants.{Rx, Tx}
 use Rattle.register_file.specs.declared.owner.Owner.{Owner}
 use Rattle.register_file.specs.declared.owner.Owner.TheVariants as owner
 use Rattle.register_file.specs.declared.surroundings.Surroundings.{Surroundings}
-use Rattle.register_laws.specs.Footprint.{Footprint, LacksWord, ChangesWithin, Covers, Misses, the_word, the_enable, of_owner, of_side, of_group, pending, pending_of, any_pending, of_read, of_write}
+use Rattle.register_laws.specs.Footprint.{Footprint, LacksWord, ChangesWithin, Covers, Misses, the_word, the_enable, of_owner, of_side, of_group, pending, pending_of, any_pending, is_own, of_read, of_write}
 use Rattle.register_laws.specs.Sides.{receive_queue_of, transmit_queue_of, with_row, receive_queue_by, transmit_queue_by}
 use Rattle.register_laws.specs.Sound.{AreSound}
 pub use Rattle.register_laws.specs.Sound.{HasShape}
@@ -273,7 +273,8 @@ abbrev pub ReadStaysWithOwner : Type 0
 ReadStaysWithOwner = (p : Place) → Covers (of_owner (owner_of p)) (of_read p)
 
 abbrev pub WriteStaysWithOwner : Type 0
-WriteStaysWithOwner = (p : Place) → Covers (of_owner (owner_of p)) (of_write p)
+WriteStaysWithOwner =
+    (p : Place) → IsTrue (is_own (row_of p.row).kind) → Covers (of_owner (owner_of p)) (of_write p)
 
 abbrev pub OwnersAreApart : Type 0
 OwnersAreApart = (o other : Owner) → IsFalse (is_owner o other) → Misses (of_owner o) (of_owner other)

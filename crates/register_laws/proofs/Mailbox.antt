@@ -1,0 +1,2 @@
+-- What accesses of mailboxes keep.
+use Rattle.std.proofs.Common.{◌≡◌, refl}

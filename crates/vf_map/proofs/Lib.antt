@@ -5,3 +5,4 @@ pub mod Owners
 pub mod Sides
 pub mod Reached
 pub mod Inverse
+pub mod Queues

@@ -14,16 +14,11 @@ use Rattle.vf_map.specs.Map.{behind, own_entries, receive_rows, transmit_rows, l
 use Rattle.vf_map.specs.Parts.{place_at, of_queue, located_at, queues_entries, row_behind}
 use Rattle.vf_map.specs.Laws.{EachQueueHasOnePool, QueueRegistersAreThere}
 use Rattle.vf_map.proofs.Inverse.{Some-one, inverse, pool_within}
+use Rattle.vf_map.proofs.Numbers.{few_each}
 use Rattle.vf_map.proofs.Places.{vector_there, vector_absent, receive_at, transmit_at}
 use Rattle.vf_map.proofs.Whole.{entries_vector, entries_queues, located_some}
 
 -- ---- how many
-
-few_each : (mode : Mode) → queues_each mode ≤ most_queues
-few_each Off = omega arith
-few_each Pools16 = omega arith
-few_each Pools32 = omega arith
-few_each Pools64 = omega arith
 
 pub few_queues : (mode : Mode) (v first count : ℕ) → queues_of mode v ≡ Some (first, count) → count ≤ most_queues
 few_queues mode v first count e =
@@ -37,13 +32,6 @@ few_queues mode v first count e =
           let none : ◌≡◌ {A = Option (ℕ × ℕ)} None (Some (first, count)) =
           sym (cond-false (nat_lt v (pools_in mode)) (Some (v * each, each)) None f) ∙ e in cc
     ]
-
--- no mode has more than 64 pools
-pub few_pools : (mode : Mode) (v : ℕ) → v < pools_in mode → v < 64
-few_pools Off v h = omega (arith, h)
-few_pools Pools16 v h = omega (arith, h)
-few_pools Pools32 v h = omega (arith, h)
-few_pools Pools64 v h = omega (arith, h)
 
 -- ---- one pool for each queue
 

@@ -2,7 +2,7 @@
 use Rattle.std.proofs.Common.{◌≡◌, ◌≢◌, ◌⊎◌, ℕ, ◌+◌, ◌*◌, ◌%◌, ◌<◌, ◌==◌, Bool, true, false, cond, List, Some, None, Ok, Err}
 use Rattle.std.proofs.Common.{refl, sym, ap, ◌∙◌, inl, inr, eq-eqb, arith}
 use Rattle.std.specs.Prelude.{Result}
-use Rattle.std.proofs.lemmas.Bool.{cond-true, cond-false, le-ltb, ltb-true}
+use Rattle.std.proofs.lemmas.Bool.{cond-true, cond-false, le-ltb, ltb-true, ltb-false}
 use Rattle.std.proofs.lemmas.Bool.Decides.{eqb_tells}
 use Rattle.register_file.specs.RegTable.declared.rows.RowId.TheVariants.{VtCtl, Mrqc, Reta}
 use Rattle.register_file.specs.Bits.{has_bit}
@@ -109,7 +109,7 @@ by_two mode.Pools16 pool entry other = absurd (other refl)
 by_two m pool entry other = omega arith
 
 -- with code 8 nothing is hashed, so the entry is 0
-entry-unhashed : (r : Registers) (frame : List ℕ) → queue_mode_of (word_of r Mrqc 0) ≡ Pools64 → rss_entry r frame ≡ 0
+pub entry-unhashed : (r : Registers) (frame : List ℕ) → queue_mode_of (word_of r Mrqc 0) ≡ Pools64 → rss_entry r frame ≡ 0
 entry-unhashed r frame is =
     let none : code_of (rss_type r frame) ≡ 0 =
     ap code_of (type-unhashed (word_of r Mrqc 0) (flow_of frame) Pools64 is refl) in
@@ -170,12 +170,28 @@ none_of_32 : (m : Mode) (pool : ℕ) → m ≢ mode.Pools16 → 31 < pool → ha
 none_of_32 mode.Pools16 pool other above = absurd (other refl)
 none_of_32 m pool other above = le-ltb pool 32 (omega arith)
 
-beyond : (r : Registers) (pool : ℕ) → IsBeyond r pool → has_queues (parting_in r) pool ≡ false
+pub beyond : (r : Registers) (pool : ℕ) → IsBeyond r pool → has_queues (parting_in r) pool ≡ false
 beyond r pool (inl b) =
     let code = queue_mode_of (word_of r Mrqc 0) in
     ap (λ m. has_queues (parting code m) pool) b.0 ∙ none_of_16 code pool b.1 b.2
 beyond r pool (inr b) =
     ap (λ code. has_queues (parting code (mode_in r)) pool) b.1 ∙ none_of_32 (mode_in r) pool b.0 b.2
+
+-- and the other way round
+lacking : (code : QueueMode) (m : Mode) (pool : ℕ) → pool < 64 → has_queues (parting code m) pool ≡ false →
+    ((m ≡ mode.Pools16) × (has_pools code ≡ true) × (15 < pool))
+    ⊎ ((m ≢ mode.Pools16) × (code ≡ Pools32Rss) × (31 < pool))
+lacking Single m pool small e = cc
+lacking Rss m pool small e = cc
+lacking Pools64 mode.Pools16 pool small e = let past = ltb-false pool 16 e in inl (refl, refl, omega arith)
+lacking Pools64 m pool small e = let past = ltb-false pool 64 e in absurd (omega arith)
+lacking Pools32Rss mode.Pools16 pool small e = let past = ltb-false pool 16 e in inl (refl, refl, omega arith)
+lacking Pools32Rss m pool small e = let past = ltb-false pool 32 e in inr (λ s. cc, refl, omega arith)
+lacking Pools64Rss mode.Pools16 pool small e = let past = ltb-false pool 16 e in inl (refl, refl, omega arith)
+lacking Pools64Rss m pool small e = let past = ltb-false pool 64 e in absurd (omega arith)
+
+pub lacks_beyond : (r : Registers) (pool : ℕ) → pool < 64 → has_queues (parting_in r) pool ≡ false → IsBeyond r pool
+lacks_beyond r pool small e = lacking (queue_mode_of (word_of r Mrqc 0)) (mode_in r) pool small e
 
 pub beyond_none : PoolsBeyondGetNone
 unfolding sorted

@@ -238,6 +238,10 @@ def bits(row: str, word: int) -> list[str]:
     return names
 
 
+POOL_SIZES = (2, 4, 8)
+"""How many queues pools have, in one mode or another."""
+
+
 def queues_of_pool(gcr_ext: int) -> int:
     """How many queues a pool has by GCR_EXT, 0 where there are no pools."""
     return {1: 8, 2: 4, 3: 2}.get(gcr_ext & 3, 0)
@@ -246,7 +250,7 @@ def queues_of_pool(gcr_ext: int) -> int:
 def _function_map() -> dict[int, dict[int, tuple[str, int, int]]]:
     """For pools of k queues: offset to row, and how its index follows from v: index = scale * v + rest."""
     maps: dict[int, dict[int, tuple[str, int, int]]] = {}
-    for k in (2, 4, 8):
+    for k in POOL_SIZES:
         offsets: dict[int, tuple[str, int, int]] = {}
         for offset, name in own_rows():
             offsets[int(offset, 16)] = (name.removesuffix("[v]"), 1 if name.endswith("[v]") else 0, 0)

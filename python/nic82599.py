@@ -362,8 +362,8 @@ def offset_of(name: str) -> int:
         raise _no_name(name, OFFSETS)
     offset, stride = OFFSETS[found[1]]
     queue = int(found[2] or 0)
-    if queue and not stride or queue > 3:
-        raise NoSuchRegister(f"no register {name}: a function has at most four queues, and some registers once")
+    if queue and not stride or queue > 7:
+        raise NoSuchRegister(f"no register {name}: a function has at most eight queues, and some registers once")
     return offset + stride * queue
 
 

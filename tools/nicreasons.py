@@ -345,10 +345,13 @@ class Reasons:
             return [Reason(True, f"pool {pool} ({whence}): VFRE[{pool // 32}] bit {pool % 32} 0")]
         none, told = _flag(words, "VT_CTL", "Dis_Def_Pool")
         mode, told_mode = _flag(words, "MRQC", "MRQE")
+        few, told_pools = _flag(words, "GCR_EXT", "VT_Mode")
+        sixteen = few == 1 and mode in (8, 10, 11)
         where = "an address that MPSAR gives no pool" if found else "no receive address"
         return [
             Reason(bool(none) and not pair, f"{address(to)} is {where}, {told}"),
-            Reason(mode == 10 and pool > 31, f"{told_mode}, pool {pool} ({whence}) of 32"),
+            Reason(sixteen and pool > 15, f"{told_mode}, {told_pools}, pool {pool} ({whence}) of 16"),
+            Reason(not sixteen and mode == 10 and pool > 31, f"{told_mode}, pool {pool} ({whence}) of 32"),
         ]
 
 

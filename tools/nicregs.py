@@ -148,7 +148,7 @@ _LINES = {
     "PSRTYPE": "PSR_type 15:0 bits, RQPL 31:29",
     "EEC": "EE_PRES 8, AUTO_RD 9, *EE_Size 14:11, ..",
     "EERD": "*START 0, *DONE 1, *ADDR 15:2, *DATA 31:16 hex",
-    "GCR_EXT": "*VT_Mode 1:0 no pools|16 pools, as none|32 pools|64 pools, ..",
+    "GCR_EXT": "*VT_Mode 1:0 no pools|16 pools|32 pools|64 pools, ..",
     "QPRC": _COUNT,
     "QPRDC": _COUNT,
     "QPTC": _COUNT,
@@ -238,15 +238,19 @@ def bits(row: str, word: int) -> list[str]:
     return names
 
 
+POOL_SIZES = (2, 4, 8)
+"""How many queues pools have, in one mode or another."""
+
+
 def queues_of_pool(gcr_ext: int) -> int:
     """How many queues a pool has by GCR_EXT, 0 where there are no pools."""
-    return {2: 4, 3: 2}.get(gcr_ext & 3, 0)
+    return {1: 8, 2: 4, 3: 2}.get(gcr_ext & 3, 0)
 
 
 def _function_map() -> dict[int, dict[int, tuple[str, int, int]]]:
     """For pools of k queues: offset to row, and how its index follows from v: index = scale * v + rest."""
     maps: dict[int, dict[int, tuple[str, int, int]]] = {}
-    for k in (2, 4):
+    for k in POOL_SIZES:
         offsets: dict[int, tuple[str, int, int]] = {}
         for offset, name in own_rows():
             offsets[int(offset, 16)] = (name.removesuffix("[v]"), 1 if name.endswith("[v]") else 0, 0)

@@ -104,8 +104,11 @@ class Plan:
 
     def causes(self, queue: int) -> list[int]:
         """The causes that a queue may raise: of the physical function, or of the function whose pool has it."""
-        functions = sorted({v for v in (queue // 2, queue // 4) if v < self.vfs})
-        return [first("EICR")] + [first("PVTEICR", v) for v in functions]
+        return [first("EICR")] + [first("PVTEICR", v) for v in self.functions(queue)]
+
+    def functions(self, queue: int) -> list[int]:
+        """The functions whose pool may have a queue."""
+        return sorted({v for v in (queue // k for k in nicregs.POOL_SIZES) if v < self.vfs})
 
     def moved(self, reply: str, queue: int, rx: bool) -> list[int]:
         """What a receive or transmit step can change, by its reply."""
@@ -117,9 +120,7 @@ class Plan:
         if reply.endswith(" end") or reply.startswith("sent"):
             row, total, each = ("RQSMR", "QPRC", "VFGPRC") if rx else ("TQSM", "QPTC", "VFGPTC")
             asked += [first(total, n) for n in sorted(self.counters[row])]
-            asked += [first(each, v) for v in {queue // 2, queue // 4} if v < self.vfs] + (
-                [] if rx else [first("GPTC")]
-            )
+            asked += [first(each, v) for v in self.functions(queue)] + ([] if rx else [first("GPTC")])
         return asked
 
     def after(self, one: Instruction, reply: str) -> list[int]:
@@ -128,7 +129,7 @@ class Plan:
         if one.op in (Op.WRITE, Op.READ):
             asked = self.access(nicregs.register_at(one.a), one.b if one.op == Op.WRITE else None)
         elif one.op in (Op.VF_WRITE, Op.VF_READ):
-            for k in (2, 4):
+            for k in nicregs.POOL_SIZES:
                 asked += self.access(
                     nicregs.function_register(k, one.x, one.a), one.b if one.op == Op.VF_WRITE else None
                 )

@@ -176,11 +176,14 @@ class Registers(unittest.TestCase):
         one["VFRDLEN[1]"] = 128
         self.assertEqual((one["VTEIMS"], nic["PVTEIMS[1]"], nic["RDLEN[3]"], one.peek("VFRDLEN[1]")), (3, 3, 128, 128))
         self.assertEqual(nic.vf(0)["VTEIMS"], 0)
-        for name in ("VFRDT[4]", "VTEIMS[1]", "RDT"):
+        for name in ("VFRDT[8]", "VTEIMS[1]", "RDT"):
             with self.subTest(name), self.assertRaises(nic82599.NoSuchRegister):
                 one[name]
         with self.assertRaises(nic82599.Stray):
             one["VFRDT[3]"]
+        nic["GCR_EXT"] = 1
+        one["VFRDT[7]"] = 9
+        self.assertEqual((one["VFRDT[7]"], nic["RDT[15]"]), (9, 9))
 
 
 class MemoryOfPackets(unittest.TestCase):

@@ -1,13 +1,13 @@
 //! A driver over a device in hand, from its start to its stop.
 
 use crate::bench::{
-    TCP_FRAME, Why, arrive, close, end, frame_of, has_bytes, in_hand, opened, reap, reason,
-    received, send, started, stepped_on, stop, stop_times_out,
+    PLAIN, TCP_FRAME, Why, arrive, blocks, close, end, frame_of, has_bytes, in_hand, opened, reap,
+    reason, received, send, set_up, started, stepped_on, stop, stop_times_out,
 };
 use crate::interleaved::{unstepped, without_blocks};
 use crate::outcome::{Hand, done, none, refused, some};
-use nic_device::{Arena, Event, Port, Reply};
-use workers::{Direct, Home, Nic, Packet, Pmd, PmdFault, Rest, StartRefused, TxFault};
+use nic_device::{Arena, Event, Mode, Port, Reply};
+use workers::{Direct, Home, Nic, Packet, Pmd, PmdFault, Rest, Setup, StartRefused, TxFault};
 
 #[test]
 fn a_frame_is_received_and_sent_again(rt: HostRuntime) {
@@ -24,6 +24,36 @@ fn a_frame_is_received_and_sent_again(rt: HostRuntime) {
     let frames = end(&rt, in_hand(direct));
     assert_eq!(rt; frames.len(), 1);
     assert!(rt; frames[0].1.bytes() == &TCP_FRAME[..]);
+}
+
+/// The key of the published vectors of receive side scaling.
+const PUBLISHED_KEY: [u8; 40] = [
+    0x6d, 0x5a, 0x56, 0xda, 0x25, 0x5b, 0x0e, 0xc2, 0x41, 0x67, 0x25, 0x3d, 0x43, 0xa3, 0x8f, 0xb0,
+    0xd0, 0xca, 0x2b, 0xcb, 0xae, 0x7b, 0x30, 0xb4, 0x77, 0xcb, 0x2d, 0xa3, 0x80, 0x30, 0xf2, 0x0c,
+    0x6a, 0x42, 0xb7, 0x3b, 0xbe, 0xac, 0x01, 0xfa,
+];
+
+/// With 16 pools a virtual function has eight queues, among which a frame's entry of the redirection table chooses.
+#[test]
+fn the_sixth_queue_of_a_function_receives_by_the_hash(rt: HostRuntime) {
+    let setup = Setup {
+        mode: Mode::Pools16,
+        mrqc: 0x0001_000B,
+        key: PUBLISHED_KEY,
+        reta: [5; 128],
+        ..PLAIN
+    };
+    let mut direct = set_up(&rt, 64, 5, &setup);
+    let start = Pmd::start(rt.alloc(), &mut direct, Port::Vf(0), 5, 8, blocks(&rt));
+    let mut pmd = done(&rt, start);
+    let frame = done(&rt, Vec::from_array(rt.alloc(), TCP_FRAME));
+    arrive(&rt, &mut direct, frame);
+    let packet = some(&rt, received(&rt, &mut direct, &mut pmd));
+    assert!(rt; has_bytes(&packet, &TCP_FRAME));
+    assert!(rt; (packet.rss, packet.hash) == (1, 0x51cc_c178));
+    done(&rt, pmd.release(packet));
+    assert!(rt; stop(&rt, &mut direct, pmd) == (1, 0));
+    end(&rt, in_hand(direct));
 }
 
 /// Five frames from this number on come, are handed out in order, and are sent again.

@@ -1,7 +1,7 @@
 -- The virtual functions that queues are of, and what is counted of them.
-use Rattle.std.proofs.Common.{◌≡◌, ◌<◌, ℕ, ◌*◌, ◌/◌, Option, Some, None, nat_lt, ap, sym, ◌∙◌, arith}
+use Rattle.std.proofs.Common.{◌≡◌, ◌<◌, ℕ, ◌*◌, ◌/◌, Option, Some, None, nat_lt, ap, sym, ◌∙◌}
 use Rattle.std.specs.Prelude.{IfSome}
-use Rattle.std.proofs.lemmas.Bool.{cond_both, ltb-true}
+use Rattle.std.proofs.lemmas.Bool.{cond_both, cond-true}
 use Rattle.register_file.specs.RegTable.Rows.{row_of}
 use Rattle.register_file.specs.RegTable.declared.bank.Bank.TheVariants.{VfCounters}
 use Rattle.register_file.specs.RegTable.declared.kind.Kind.TheVariants.{Ro}
@@ -9,7 +9,7 @@ use Rattle.register_file.specs.RegTable.declared.place.Place.{Place}
 use Rattle.register_file.specs.RegTable.declared.rows.RowId.{RowId}
 use Rattle.register_file.specs.VfMap.Pools.{pool_of, pools_in, queues_each}
 use Rattle.register_file.specs.VfMap.declared.mode.Mode.{Mode}
-use Rattle.register_file.specs.VfMap.declared.mode.Mode.TheVariants.{Off, Pools16, Pools32, Pools64}
+use Rattle.register_file.proofs.VfMap.Numbers.{few_pools as few, queue_of_pool}
 use Rattle.register_file.specs.Columns.{place}
 use Rattle.register_file.specs.Registers.{Registers}
 use Rattle.register_laws.specs.Footprint.{Footprint, Covers, the_word}
@@ -21,17 +21,13 @@ use Rattle.nic_device.specs.Footprint.{function_counts, is_function_count}
 use Rattle.nic_device.specs.Interrupt.{function_counted}
 use Rattle.nic_device.proofs.Coming.{Comes, then_within}
 
-few : (mode : Mode) (queue : ℕ) → queue < pools_in mode * queues_each mode → queue / queues_each mode < 64
-few Off queue b = absurd (omega (arith, b))
-few Pools16 queue b = absurd (omega (arith, b))
-few Pools32 queue b = omega (arith, b)
-few Pools64 queue b = omega (arith, b)
-
 -- the pool of a queue is below 64
 pub few_pools : (mode : Mode) (queue : ℕ) → IfSome (pool_of mode queue) (λ v. v < 64)
 few_pools mode queue =
-    cond_both (nat_lt queue (pools_in mode * queues_each mode)) (Some (queue / queues_each mode)) None
-    (λ o. IfSome o (λ v. v < 64)) (λ t. few mode queue (ltb-true _ _ t)) (λ none. tt)
+    let all : ℕ = pools_in mode * queues_each mode in
+    let v : ℕ = queue / queues_each mode in
+    cond_both (nat_lt queue all) (Some v) None (λ o. IfSome o (λ w. w < 64))
+    (λ t. few mode v (queue_of_pool mode queue v (cond-true (nat_lt queue all) (Some v) None t)).pool) (λ none. tt)
 
 -- a row of what is counted of functions
 pub record IsFunctionCounter (row : RowId) : Type 0 where

@@ -8,6 +8,7 @@ pub use Rattle.register_file.proofs.IntrUnit
 pub use Rattle.eeprom_image.proofs as EepromImage
 pub use Rattle.register_file.proofs as RegisterFile
 pub use Rattle.register_laws.proofs as RegisterLaws
+pub use Rattle.rx_filter.proofs as RxFilter
 pub mod Accessing
 pub mod Answering
 pub mod AtRest

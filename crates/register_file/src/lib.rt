@@ -43,4 +43,6 @@ pub use reg_table::{Bank, Place, RowId, addr_of, bank_of, place_of, resolve};
 pub use register_file::RegisterFile;
 pub use rss_hash::{Input, Key, QueueMode, choose, choose_bytes, classify, entry, hash};
 pub use surroundings::Surroundings;
-pub use vf_map::{Located, MAX_VFS, Mode, QUEUES, has_queue, locate, mode_of, pool_of, queues_of};
+pub use vf_map::{
+    Located, MAX_VFS, Mode, QUEUES, has_queue, locate, mode_of, pool_of, queue_in, queues_of,
+};

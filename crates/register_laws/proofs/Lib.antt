@@ -20,6 +20,7 @@ pub mod PoolAfterReset
 pub mod PoolAgreement
 pub mod PoolParts
 pub mod PoolPlaces
+pub mod PoolTests
 pub mod PoolQueues
 pub mod PoolReads
 pub mod PoolReset

@@ -1,34 +1,56 @@
--- Which queues a pool has.
-use Rattle.std.proofs.Common.{◌≡◌, ℕ, ◌+◌, ◌*◌, ◌/◌, ◌<◌, false, ◌==◌, nat_lt, ◌||◌, arith}
+-- Which queues a pool has, of those from its first on.
+use Rattle.std.proofs.Common.{◌≡◌, ℕ, zero, suc, ◌+◌, ◌*◌, ◌/◌, ◌<◌, Bool, true, false, ◌==◌, nat_lt, ◌&&◌, ◌||◌, refl, ap, sym, ◌∙◌, arith}
+use Rattle.std.specs.Prelude.{nat_le}
+use Rattle.std.specs.List.{range_with_len}
 use Rattle.std.proofs.lemmas.Bool.Decides.{nat_tests}
 use Rattle.register_file.specs.VfMap.Owner.{has_queue}
-use Rattle.register_file.specs.VfMap.Pools.{pools_in}
+use Rattle.register_file.specs.VfMap.Pools.{pools_in, queues_each}
 use Rattle.register_file.specs.VfMap.declared.mode.Mode.{Mode}
-use Rattle.register_file.specs.VfMap.declared.mode.Mode.TheVariants.{Off, Pools16, Pools32, Pools64}
+use Rattle.register_file.proofs.VfMap.Numbers.{has_queue-from, has_words-from}
+use Rattle.register_laws.specs.Footprint.{Footprint, nothing, either}
+use Rattle.register_laws.proofs.Renewed.{any_of}
 
 -- a test of two numbers either way round
 pub turned : (a b : ℕ) → (a == b) ≡ (b == a)
 turned a b = grind (arith, nat_tests)
 
--- a mode without the pool gives it no queue
-pub none_had : (mode : Mode) (v queue : ℕ) → nat_lt v (pools_in mode) ≡ false → has_queue mode v queue ≡ false
-none_had Off v queue e = grind (arith, nat_tests)
-none_had Pools16 v queue e = grind (arith, nat_tests)
-none_had Pools32 v queue e = grind (arith, nat_tests)
-none_had Pools64 v queue e = grind (arith, nat_tests)
+-- whether a number is one of so many from the first on
+abbrev pub among : (first count i : ℕ) → Bool
+among first zero i = false
+among first (suc count) i = (first == i) || among (first + 1) count i
 
--- the queues of a pool, and the words of their vectors, are those that the mode gives it
-pub four_queues : (v i : ℕ) → v < 32
-    → ((v * 4 == i) || ((v * 4 + 1 == i) || ((v * 4 + 1 + 1 == i) || ((v * 4 + 1 + 1 + 1 == i) || false))))
-    ≡ has_queue Pools32 v i
-four_queues v i small = grind (arith, nat_tests)
+among-is : (count first i : ℕ) → among first count i ≡ (nat_le first i && nat_lt i (first + count))
+among-is zero first i = grind (arith, nat_tests)
+among-is (suc count) first i =
+    ap (λ b. (first == i) || b) (among-is count (first + 1) i) ∙ grind (arith, nat_tests)
 
-pub two_queues : (v i : ℕ) → v < 64 → ((v * 2 == i) || ((v * 2 + 1 == i) || false)) ≡ has_queue Pools64 v i
-two_queues v i small = grind (arith, nat_tests)
+-- so a pool's queues are those from its first on, and so are the words of its vectors
+pub queues-among : (mode : Mode) (v i : ℕ) → v < pools_in mode
+    → among (v * queues_each mode) (queues_each mode) i ≡ has_queue mode v i
+queues-among mode v i small =
+    among-is (queues_each mode) (v * queues_each mode) i ∙ sym (has_queue-from mode v i small)
 
-pub two_vectors : (v i : ℕ) → v < 32
-    → ((v * 4 / 2 == i) || ((v * 4 / 2 + 1 == i) || false)) ≡ has_queue Pools32 v (2 * i)
-two_vectors v i small = grind (arith, nat_tests)
+pub words-among : (mode : Mode) (v i : ℕ) → v < pools_in mode
+    → among (v * queues_each mode / 2) (queues_each mode / 2) i ≡ has_queue mode v (2 * i)
+words-among mode v i small =
+    among-is (queues_each mode / 2) (v * queues_each mode / 2) i ∙ sym (has_words-from mode v i small)
 
-pub one_vector : (v i : ℕ) → v < 64 → ((v * 2 / 2 == i) || false) ≡ has_queue Pools64 v (2 * i)
-one_vector v i small = grind (arith, nat_tests)
+-- what the footprints of numbers have, where each has it of its own number alone, and only of some kind
+
+both_of : (a b kind : Bool) → ((a && kind) || (b && kind)) ≡ ((a || b) && kind)
+both_of true true true = refl
+both_of true true false = refl
+both_of true false true = refl
+both_of true false false = refl
+both_of false b kind = refl
+
+pub any-among : (f : ℕ → Footprint) (has : Footprint → Bool) (i : ℕ) (kind : Bool)
+    → has nothing ≡ false → ((g h : Footprint) → has (either g h) ≡ (has g || has h))
+    → ((n : ℕ) → has (f n) ≡ ((n == i) && kind))
+    → (count first : ℕ) → has (any_of f (range_with_len first count)) ≡ (among first count i && kind)
+any-among f has i kind none parts own zero first = none
+any-among f has i kind none parts own (suc count) first =
+    parts (f first) (any_of f (range_with_len (first + 1) count))
+    ∙ ap (λ b. b || has (any_of f (range_with_len (first + 1) count))) (own first)
+    ∙ ap (λ b. ((first == i) && kind) || b) (any-among f has i kind none parts own count (first + 1))
+    ∙ both_of (first == i) (among (first + 1) count i) kind

@@ -1,5 +1,6 @@
 -- The reset of a pool is one of all that is the pool's.
-use Rattle.std.proofs.Common.{◌≡◌, ℕ, ◌+◌, ◌*◌, ◌/◌, ◌<◌, Bool, true, false, cond, ◌==◌, nat_lt, ◌&&◌, ◌||◌, Option, Some, None, refl, sym, ◌∙◌, arith}
+use Rattle.std.proofs.Common.{◌≡◌, ℕ, ◌+◌, ◌*◌, ◌/◌, ◌<◌, Bool, true, false, cond, ◌==◌, nat_lt, ◌&&◌, ◌||◌, Option, Some, None, refl, ap, sym, ◌∙◌}
+use Rattle.std.specs.List.{range_with_len}
 use Rattle.std.proofs.lemmas.Bool.{ltb-true, and_from}
 use Rattle.std.proofs.Math.Bool.{or-false}
 use Rattle.register_file.specs.RegTable.Rows.{row_of}
@@ -8,11 +9,12 @@ use Rattle.register_file.specs.RegTable.declared.bank.Bank.TheVariants as bank
 use Rattle.register_file.specs.RegTable.declared.place.Place.{Place}
 use Rattle.register_file.specs.RegTable.declared.rows.RowId.{RowId}
 use Rattle.register_file.specs.RegTable.declared.rows.RowId.TheVariants as row
+use Rattle.register_file.specs.IntrUnit.declared.group.Group.{Group}
 use Rattle.register_file.specs.IntrUnit.declared.group.Group.TheVariants.{Vf}
-use Rattle.register_file.specs.VfMap.Owner.{has_queue, is_of_pool, is_of_pool_by}
+use Rattle.register_file.specs.VfMap.Owner.{has_queue, is_of_pool, is_of_pool_by, is_receive_bank, is_transmit_bank}
 use Rattle.register_file.specs.VfMap.Pools.{queues_of, queues_each, pools_in}
 use Rattle.register_file.specs.VfMap.declared.mode.Mode.{Mode}
-use Rattle.register_file.specs.VfMap.declared.mode.Mode.TheVariants.{Off, Pools16, Pools32, Pools64}
+use Rattle.register_file.proofs.VfMap.Numbers.{has_queue-none}
 use Rattle.register_file.specs.Owner.{owner_in, is_owner, is_group}
 use Rattle.register_file.specs.PoolReset.{is_renewed, function_reset, pool_reset}
 use Rattle.register_file.specs.Registers.{Registers}
@@ -24,9 +26,10 @@ use Rattle.register_laws.specs.Footprint.{Footprint, ChangesWithin, Covers, eith
 use Rattle.register_laws.specs.Sound.{HasShape}
 use Rattle.register_laws.proofs.Covers.{covers-renewed}
 use Rattle.register_laws.proofs.Footprints.{within-wider}
-use Rattle.register_laws.proofs.PoolParts.{is_own, of_function, of_queues, renewed-function, renewed-queues}
-use Rattle.register_laws.proofs.Renewed.{IsRenewed, IsSame, taken-either, taken-same, word_renewed}
-use Rattle.register_laws.proofs.PoolQueues.{turned, none_had, four_queues, two_queues, two_vectors, one_vector}
+use Rattle.register_laws.proofs.PoolParts.{is_own, of_function, of_queue, of_vectors, of_queues, renewed-function, renewed-queues}
+use Rattle.register_laws.proofs.Renewed.{IsRenewed, IsSame, any_of, taken-either, taken-same, word_renewed}
+use Rattle.register_laws.proofs.PoolQueues.{turned, among, queues-among, words-among, any-among}
+use Rattle.register_laws.proofs.PoolTests.{and-true, and-false, both_ways_round, first_alone, second_alone, own_alone}
 
 -- what is reset, by the queues that the mode gives the pool
 abbrev whole : ℕ → Option (ℕ × ℕ) → Footprint
@@ -36,47 +39,79 @@ whole v o = either (of_function v) (of_queues o)
 abbrev own_has : ℕ → Bank → ℕ → Bool
 own_has v b i = is_own b && v == i
 
-abbrev queue_has : ℕ → Bank → ℕ → Bool
-queue_has q b i = is_owner (owner.Side Rx q) (owner_in b i) || is_owner (owner.Side Tx q) (owner_in b i)
+abbrev is_side : Bank → Bool
+is_side b = is_receive_bank b || is_transmit_bank b
 
-abbrev vectors_has : ℕ → Bank → ℕ → Bool
-vectors_has n b i = is_owner (owner.Vectors n) (owner_in b i)
+abbrev is_vectors : Bank → Bool
+is_vectors bank.Vectors = true
+is_vectors other = false
+
+queue_has : (b : Bank) (q i : ℕ)
+    → (is_owner (owner.Side Rx q) (owner_in b i) || is_owner (owner.Side Tx q) (owner_in b i))
+    ≡ ((q == i) && is_side b)
+queue_has bank.Receive q i = both_ways_round (q == i)
+queue_has bank.Transmit q i = sym (and-true (q == i))
+queue_has other q i = sym (and-false (q == i))
+
+vectors_has : (b : Bank) (n i : ℕ) → is_owner (owner.Vectors n) (owner_in b i) ≡ ((n == i) && is_vectors b)
+vectors_has bank.Vectors n i = sym (and-true (n == i))
+vectors_has other n i = sym (and-false (n == i))
+
+-- what queues have of a bank, and what words of vectors have
+queues_bits : (count first : ℕ) (p : Place) (bit : ℕ)
+    → (any_of of_queue (range_with_len first count)).bits p bit
+    ≡ (among first count p.index && is_side (row_of p.row).bank)
+queues_bits count first p bit =
+    any-among of_queue (λ f. f.bits p bit) p.index (is_side (row_of p.row).bank) refl (λ g h. refl)
+    (λ q. queue_has (row_of p.row).bank q p.index) count first
+
+vectors_bits : (count first : ℕ) (p : Place) (bit : ℕ)
+    → (any_of of_vectors (range_with_len first count)).bits p bit
+    ≡ (among first count p.index && is_vectors (row_of p.row).bank)
+vectors_bits count first p bit =
+    any-among of_vectors (λ f. f.bits p bit) p.index (is_vectors (row_of p.row).bank) refl (λ g h. refl)
+    (λ n. vectors_has (row_of p.row).bank n p.index) count first
+
+queue_wanted : (dir : Dir) (q number : ℕ) → (of_queue q).wanted dir number ≡ ((q == number) && true)
+queue_wanted Rx q number = both_ways_round (q == number)
+queue_wanted Tx q number = sym (and-true (q == number))
+
+queues_wanted : (count first : ℕ) (dir : Dir) (number : ℕ)
+    → (any_of of_queue (range_with_len first count)).wanted dir number ≡ among first count number
+queues_wanted count first dir number =
+    any-among of_queue (λ f. f.wanted dir number) number true refl (λ g h. refl)
+    (λ q. queue_wanted dir q number) count first ∙ and-true (among first count number)
+
+vectors_wanted : (count first : ℕ) (dir : Dir) (number : ℕ)
+    → (any_of of_vectors (range_with_len first count)).wanted dir number ≡ false
+vectors_wanted count first dir number =
+    any-among of_vectors (λ f. f.wanted dir number) number false refl (λ g h. refl)
+    (λ n. sym (and-false (n == number))) count first ∙ and-false (among first count number)
+
+told_none : (f : ℕ → Footprint) (g : Group) → ((n : ℕ) → (f n).told g ≡ false) → (count first : ℕ)
+    → (any_of f (range_with_len first count)).told g ≡ false
+told_none f g none count first =
+    any-among f (λ e. e.told g) 0 false refl (λ a b. refl) (λ n. none n ∙ sym (and-false (n == 0))) count first
+    ∙ and-false (among first count 0)
+
+-- all of it is the pool's
+by_bank : (b : Bank) (mode : Mode) (v i : ℕ)
+    → (own_has v b i || ((has_queue mode v i && is_side b) || (has_queue mode v (2 * i) && is_vectors b)))
+    ≡ is_of_pool_by b mode v i
+by_bank bank.Receive mode v i = first_alone (has_queue mode v i) (has_queue mode v (2 * i))
+by_bank bank.Transmit mode v i = first_alone (has_queue mode v i) (has_queue mode v (2 * i))
+by_bank bank.VfInterrupts mode v i = own_alone (v == i) (has_queue mode v i) (has_queue mode v (2 * i)) ∙ turned v i
+by_bank bank.Pool mode v i = own_alone (v == i) (has_queue mode v i) (has_queue mode v (2 * i)) ∙ turned v i
+by_bank bank.VfCounters mode v i = own_alone (v == i) (has_queue mode v i) (has_queue mode v (2 * i)) ∙ turned v i
+by_bank bank.Vectors mode v i = second_alone (has_queue mode v i) (has_queue mode v (2 * i))
+by_bank other mode v i = own_alone false (has_queue mode v i) (has_queue mode v (2 * i))
 
 with_none : (b : Bank) (mode : Mode) (v i : ℕ) → ((queue : ℕ) → has_queue mode v queue ≡ false)
     → (own_has v b i || false) ≡ is_of_pool_by b mode v i
-with_none bank.Receive mode v i none = sym (none i)
-with_none bank.Transmit mode v i none = sym (none i)
-with_none bank.VfInterrupts mode v i none = or-false (v == i) ∙ turned v i
-with_none bank.Pool mode v i none = or-false (v == i) ∙ turned v i
-with_none bank.VfCounters mode v i none = or-false (v == i) ∙ turned v i
-with_none bank.Vectors mode v i none = sym (none (2 * i))
-with_none other mode v i none = refl
-
-with_four : (b : Bank) (v i : ℕ) → v < 32
-    → (own_has v b i
-    || ((queue_has (v * 4) b i
-    || (queue_has (v * 4 + 1) b i || (queue_has (v * 4 + 1 + 1) b i || (queue_has (v * 4 + 1 + 1 + 1) b i || false))))
-    || (vectors_has (v * 4 / 2) b i || (vectors_has (v * 4 / 2 + 1) b i || false))))
-    ≡ is_of_pool_by b Pools32 v i
-with_four bank.Receive v i small = simp or-false (simp or-false at (four_queues v i small))
-with_four bank.Transmit v i small = simp or-false (simp or-false at (four_queues v i small))
-with_four bank.VfInterrupts v i small = or-false (v == i) ∙ turned v i
-with_four bank.Pool v i small = or-false (v == i) ∙ turned v i
-with_four bank.VfCounters v i small = or-false (v == i) ∙ turned v i
-with_four bank.Vectors v i small = two_vectors v i small
-with_four other v i small = refl
-
-with_two : (b : Bank) (v i : ℕ) → v < 64
-    → (own_has v b i
-    || ((queue_has (v * 2) b i || (queue_has (v * 2 + 1) b i || false)) || (vectors_has (v * 2 / 2) b i || false)))
-    ≡ is_of_pool_by b Pools64 v i
-with_two bank.Receive v i small = simp or-false (simp or-false at (two_queues v i small))
-with_two bank.Transmit v i small = simp or-false (simp or-false at (two_queues v i small))
-with_two bank.VfInterrupts v i small = or-false (v == i) ∙ turned v i
-with_two bank.Pool v i small = or-false (v == i) ∙ turned v i
-with_two bank.VfCounters v i small = or-false (v == i) ∙ turned v i
-with_two bank.Vectors v i small = one_vector v i small
-with_two other v i small = refl
+with_none b mode v i none =
+    ap (λ q. own_has v b i || (q && is_side b || false)) (sym (none i))
+    ∙ ap (λ q. own_has v b i || ((has_queue mode v i && is_side b) || (q && is_vectors b))) (sym (none (2 * i)))
+    ∙ by_bank b mode v i
 
 same_none : (mode : Mode) (v : ℕ) → ((queue : ℕ) → has_queue mode v queue ≡ false)
     → IsSame (whole v None) (pool_changes mode v)
@@ -86,39 +121,37 @@ same_none mode v none = record {
   told = λ g. or-false (is_group (Vf v) g);
 }
 
-four_wanted : (dir : Dir) (v queue : ℕ) → v < 32
-    → (whole v (Some (v * 4, 4))).wanted dir queue ≡ has_queue Pools32 v queue
-four_wanted Rx v queue small = with_four bank.Receive v queue small
-four_wanted Tx v queue small = with_four bank.Transmit v queue small
-
-two_wanted : (dir : Dir) (v queue : ℕ) → v < 64
-    → (whole v (Some (v * 2, 2))).wanted dir queue ≡ has_queue Pools64 v queue
-two_wanted Rx v queue small = with_two bank.Receive v queue small
-two_wanted Tx v queue small = with_two bank.Transmit v queue small
-
 same_some : (mode : Mode) (v : ℕ) → nat_lt v (pools_in mode) ≡ true
     → IsSame (whole v (Some (v * queues_each mode, queues_each mode))) (pool_changes mode v)
-same_some Off v e = absurd (omega (arith, ltb-true))
-same_some Pools16 v e = absurd (omega (arith, ltb-true))
-same_some Pools32 v e =
-    let small = ltb-true v 32 e in
+same_some mode v e =
+    let small = ltb-true v (pools_in mode) e in
+    let each = queues_each mode in
     record {
-      bits = λ p bit. with_four (row_of p.row).bank v p.index small;
-      wanted = λ dir queue. four_wanted dir v queue small;
-      told = λ g. or-false (is_group (Vf v) g);
-    }
-same_some Pools64 v e =
-    let small = ltb-true v 64 e in
-    record {
-      bits = λ p bit. with_two (row_of p.row).bank v p.index small;
-      wanted = λ dir queue. two_wanted dir v queue small;
-      told = λ g. or-false (is_group (Vf v) g);
+      bits = λ p bit.
+          let b = (row_of p.row).bank in
+          let own = own_has v b p.index in
+          ap (λ x. own || (x || (any_of of_vectors (range_with_len (v * each / 2) (each / 2))).bits p bit))
+          (queues_bits each (v * each) p bit ∙ ap (λ x. x && is_side b) (queues-among mode v p.index small))
+          ∙ ap (λ x. own || ((has_queue mode v p.index && is_side b) || x))
+          (vectors_bits (each / 2) (v * each / 2) p bit
+          ∙ ap (λ x. x && is_vectors b) (words-among mode v p.index small))
+          ∙ by_bank b mode v p.index;
+      wanted = λ dir queue.
+          ap (λ x. x || (any_of of_vectors (range_with_len (v * each / 2) (each / 2))).wanted dir queue)
+          (queues_wanted each (v * each) dir queue ∙ queues-among mode v queue small)
+          ∙ ap (λ x. has_queue mode v queue || x) (vectors_wanted (each / 2) (v * each / 2) dir queue)
+          ∙ or-false (has_queue mode v queue);
+      told = λ g.
+          ap (λ x. is_group (Vf v) g || (x || (any_of of_vectors (range_with_len (v * each / 2) (each / 2))).told g))
+          (told_none of_queue g (λ n. refl) each (v * each))
+          ∙ ap (λ x. is_group (Vf v) g || x) (told_none of_vectors g (λ n. refl) (each / 2) (v * each / 2))
+          ∙ or-false (is_group (Vf v) g);
     }
 
 same_if : (mode : Mode) (v : ℕ) (b : Bool) → nat_lt v (pools_in mode) ≡ b
     → IsSame (whole v (cond b (Some (v * queues_each mode, queues_each mode)) None)) (pool_changes mode v)
 same_if mode v true e = same_some mode v e
-same_if mode v false e = same_none mode v (λ queue. none_had mode v queue e)
+same_if mode v false e = same_none mode v (λ queue. has_queue-none mode v queue e)
 
 pub renewed-pool : (r : Registers) (mode : Mode) (v : ℕ) → IsRenewed (pool_renews mode v) r (pool_reset mode v r)
 unfolding pool_reset

@@ -3,11 +3,9 @@ use Rattle.std.proofs.Common.{◌≡◌, ◌≢◌, ℕ, Bool, true, false, cond
 use Rattle.std.proofs.Common.{refl, ap}
 use Rattle.std.specs.Prelude.{Result}
 use Rattle.std.proofs.lemmas.Bool.{cond-false}
-use Rattle.register_file.specs.RssHash.Mrqc.{queue_mode_of}
-use Rattle.register_file.specs.RegTable.declared.rows.RowId.TheVariants.{Mrqc}
-use Rattle.register_file.specs.Registers.{Registers, word_of}
+use Rattle.register_file.specs.Registers.{Registers}
 use Rattle.rx_filter.specs.Address.{passes}
-use Rattle.rx_filter.specs.Pools.{uses_pools, takes_frames, has_queues, checked_pool, pool_of, chosen_pool}
+use Rattle.rx_filter.specs.Pools.{uses_pools, takes_frames, parting_in, has_queues, checked_pool, pool_of, chosen_pool}
 use Rattle.rx_filter.specs.Sorting.{pool_target, sorted}
 use Rattle.rx_filter.specs.Laws.{FilteredIsNotLetIn}
 use Rattle.rx_filter.specs.declared.unwanted.Unwanted.{Unwanted}
@@ -26,7 +24,7 @@ checked-other pool false takes e = cc
 pool-other : (r : Registers) (o : Option ℕ) → checked_pool r o ≢ Err Filter
 pool-other r None e = cc
 pool-other r (Some pool) e =
-    checked-other pool (has_queues (queue_mode_of (word_of r Mrqc 0)) pool) (takes_frames r pool) e
+    checked-other pool (has_queues (parting_in r) pool) (takes_frames r pool) e
 
 chosen-other : (r : Registers) (o : Option ℕ) (parted : Bool) → cond parted (checked_pool r o) (Ok 0) ≢ Err Filter
 chosen-other r o true e = pool-other r o e

@@ -7,3 +7,4 @@ pub mod Filtered
 pub mod Reset
 pub mod Sorted
 pub mod Queues
+pub mod Small

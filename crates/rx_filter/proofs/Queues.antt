@@ -1,8 +1,8 @@
 -- The pool of a frame, and its queue by the mode.
-use Rattle.std.proofs.Common.{◌≡◌, ℕ, ◌==◌, Bool, true, false, cond, List, Some, None, Ok, Err}
-use Rattle.std.proofs.Common.{sym, ap, ◌∙◌, inl, inr, eq-eqb}
+use Rattle.std.proofs.Common.{◌≡◌, ◌≢◌, ◌⊎◌, ℕ, ◌+◌, ◌*◌, ◌%◌, ◌<◌, ◌==◌, Bool, true, false, cond, List, Some, None, Ok, Err}
+use Rattle.std.proofs.Common.{refl, sym, ap, ◌∙◌, inl, inr, eq-eqb, arith}
 use Rattle.std.specs.Prelude.{Result}
-use Rattle.std.proofs.lemmas.Bool.{cond-true, cond-false}
+use Rattle.std.proofs.lemmas.Bool.{cond-true, cond-false, le-ltb, ltb-true, ltb-false}
 use Rattle.std.proofs.lemmas.Bool.Decides.{eqb_tells}
 use Rattle.register_file.specs.RegTable.declared.rows.RowId.TheVariants.{VtCtl, Mrqc, Reta}
 use Rattle.register_file.specs.Bits.{has_bit}
@@ -10,20 +10,27 @@ use Rattle.register_file.specs.Registers.{Registers, word_of}
 use Rattle.register_file.specs.Words.{row_words}
 use Rattle.register_file.specs.RssHash.Choice.{code_of}
 use Rattle.register_file.specs.RssHash.Mrqc.{queue_mode_of}
+use Rattle.register_file.specs.RssHash.Flow.{flow_of}
 use Rattle.register_file.specs.RssHash.Registers.{entry_of}
 use Rattle.register_file.specs.RssHash.declared.mrqc.QueueMode.{QueueMode}
-use Rattle.register_file.specs.RssHash.declared.mrqc.QueueMode.TheVariants.{Rss, Pools64, Pools32Rss, Pools64Rss}
+use Rattle.register_file.specs.RssHash.declared.mrqc.QueueMode.TheVariants.{Single, Rss, Pools64, Pools32Rss, Pools64Rss}
+use Rattle.register_file.specs.Pools.{mode_in}
+use Rattle.register_file.specs.VfMap.Owner.{has_queue, is_pool}
+use Rattle.register_file.specs.VfMap.declared.mode.Mode.{Mode}
+use Rattle.register_file.specs.VfMap.declared.mode.Mode.TheVariants as mode
+use Rattle.register_file.proofs.VfMap.Numbers.{placed}
 use Rattle.rx_filter.specs.Address.{passes}
-use Rattle.rx_filter.specs.Pools.{uses_pools, takes_frames, has_queues, default_pool, matched_pool, or_default}
+use Rattle.rx_filter.specs.Pools.{uses_pools, takes_frames, parting, parting_in, has_queues, default_pool, matched_pool, or_default}
 use Rattle.rx_filter.specs.Pools.{checked_pool, pool_of, chosen_pool}
 use Rattle.rx_filter.specs.Sorting.{queue_of, rss_type, rss_hash, rss_entry, target_of, pool_target, sorted}
-use Rattle.rx_filter.specs.Laws.{HasNoPool, PoolOfAFrame, GoesToPool, QueuesByMode}
+use Rattle.rx_filter.specs.Laws.{HasNoPool, PoolOfAFrame, GoesToPool, QueuesByMode, has_pools, IsBeyond}
+use Rattle.rx_filter.specs.Laws.{PoolsBeyondGetNone, FunctionsGetTheirs}
 use Rattle.rx_filter.specs.declared.fields.TheConstants.{DIS_DEF_POOL}
 use Rattle.rx_filter.specs.declared.target.Target.{Target}
 use Rattle.rx_filter.specs.declared.unwanted.Unwanted.{Unwanted}
-use Rattle.rx_filter.specs.declared.unwanted.Unwanted.TheVariants.{NoPool, PoolOff}
+use Rattle.rx_filter.specs.declared.unwanted.Unwanted.TheVariants.{Filter, NoPool, PoolOff}
 use Rattle.rx_filter.proofs.Finding.{first_match-some, first_match-none, lowest_pool-some, lowest_pool-none}
-use Rattle.rx_filter.proofs.Sorted.{sorted-let_in}
+use Rattle.rx_filter.proofs.Sorted.{sorted-let_in, type-unhashed}
 
 -- ---- the pool
 
@@ -46,7 +53,7 @@ pool_of_a_frame = record {
 -- ---- the queue
 
 queue-target : (r : Registers) (frame : List ℕ) (pool : ℕ) (t : Target) → pool_target r frame (Ok pool) ≡ Ok t →
-    t.queue ≡ queue_of (queue_mode_of (word_of r Mrqc 0)) pool (rss_entry r frame)
+    t.queue ≡ queue_of (queue_mode_of (word_of r Mrqc 0)) (mode_in r) pool (rss_entry r frame)
 unfolding target_of
 queue-target r frame pool t e =
     let same : target_of r frame pool ≡ t = cc in ap (λ (u : Target). u.queue) (sym same)
@@ -55,12 +62,12 @@ queue-hashing : (r : Registers) (frame : List ℕ) (chosen : Result ℕ Unwanted
     queue_mode_of (word_of r Mrqc 0) ≡ Rss → pool_target r frame chosen ≡ Ok t → t.queue ≡ rss_entry r frame
 queue-hashing r frame (Err why) t mode e = cc
 queue-hashing r frame (Ok pool) t mode e =
-    queue-target r frame pool t e ∙ ap (λ m. queue_of m pool (rss_entry r frame)) mode
+    queue-target r frame pool t e ∙ ap (λ code. queue_of code (mode_in r) pool (rss_entry r frame)) mode
 
 queue-checked : (r : Registers) (frame : List ℕ) (pool : ℕ) (t : Target) (has takes : Bool) →
     pool_target r frame (cond has (cond takes (Ok pool) (Err PoolOff)) (Err NoPool)) ≡ Ok t →
-    t.queue ≡ queue_of (queue_mode_of (word_of r Mrqc 0)) pool (rss_entry r frame)
-queue-checked r frame pool t true true e = queue-target r frame pool t e
+    (has ≡ true) × (t.queue ≡ queue_of (queue_mode_of (word_of r Mrqc 0)) (mode_in r) pool (rss_entry r frame))
+queue-checked r frame pool t true true e = (refl, queue-target r frame pool t e)
 queue-checked r frame pool t true false e = cc
 queue-checked r frame pool t false takes e = cc
 
@@ -76,15 +83,50 @@ chosen-parted r frame pool parted e =
     cond-true (uses_pools r) (checked_pool r (pool_of r frame)) (Ok 0) parted ∙ ap (checked_pool r) e
 
 queue-parted : (r : Registers) (frame : List ℕ) (pool : ℕ) (t : Target) → GoesToPool r frame pool t →
-    t.queue ≡ queue_of (queue_mode_of (word_of r Mrqc 0)) pool (rss_entry r frame)
+    (has_queues (parting_in r) pool ≡ true)
+    × (t.queue ≡ queue_of (queue_mode_of (word_of r Mrqc 0)) (mode_in r) pool (rss_entry r frame))
 queue-parted r frame pool t g =
-    queue-checked r frame pool t (has_queues (queue_mode_of (word_of r Mrqc 0)) pool) (takes_frames r pool)
+    queue-checked r frame pool t (has_queues (parting_in r) pool) (takes_frames r pool)
     (sym (ap (pool_target r frame) (chosen-parted r frame pool g.parted g.meant)) ∙ found r frame t g.goes)
 
-by_mode : (r : Registers) (frame : List ℕ) (pool : ℕ) (t : Target) (mode : QueueMode) → GoesToPool r frame pool t →
-    queue_mode_of (word_of r Mrqc 0) ≡ mode → t.queue ≡ queue_of mode pool (rss_entry r frame)
-by_mode r frame pool t mode g e =
-    queue-parted r frame pool t g ∙ ap (λ m. queue_of m pool (rss_entry r frame)) e
+by_code : (r : Registers) (frame : List ℕ) (pool : ℕ) (t : Target) (code : QueueMode) → GoesToPool r frame pool t →
+    queue_mode_of (word_of r Mrqc 0) ≡ code → t.queue ≡ queue_of code (mode_in r) pool (rss_entry r frame)
+by_code r frame pool t code g e =
+    (queue-parted r frame pool t g).1 ∙ ap (λ c. queue_of c (mode_in r) pool (rss_entry r frame)) e
+
+by_sixteen : (r : Registers) (frame : List ℕ) (pool : ℕ) (t : Target) (code : QueueMode) → GoesToPool r frame pool t →
+    mode_in r ≡ mode.Pools16 → queue_mode_of (word_of r Mrqc 0) ≡ code →
+    t.queue ≡ queue_of code mode.Pools16 pool (rss_entry r frame)
+by_sixteen r frame pool t code g sixteen e =
+    by_code r frame pool t code g e ∙ ap (λ m. queue_of code m pool (rss_entry r frame)) sixteen
+
+by_four : (m : Mode) (pool entry : ℕ) → m ≢ mode.Pools16 → queue_of Pools32Rss m pool entry ≡ 4 * pool + entry % 4
+by_four mode.Pools16 pool entry other = absurd (other refl)
+by_four m pool entry other = omega arith
+
+by_two : (m : Mode) (pool entry : ℕ) → m ≢ mode.Pools16 → queue_of Pools64Rss m pool entry ≡ 2 * pool + entry % 2
+by_two mode.Pools16 pool entry other = absurd (other refl)
+by_two m pool entry other = omega arith
+
+-- with code 8 nothing is hashed, so the entry is 0
+pub entry-unhashed : (r : Registers) (frame : List ℕ) → queue_mode_of (word_of r Mrqc 0) ≡ Pools64 → rss_entry r frame ≡ 0
+entry-unhashed r frame is =
+    let none : code_of (rss_type r frame) ≡ 0 =
+    ap code_of (type-unhashed (word_of r Mrqc 0) (flow_of frame) Pools64 is refl) in
+    cond-true (code_of (rss_type r frame) == 0) 0 _ (eq-eqb (code_of (rss_type r frame)) 0 none)
+
+first_of_two : (m : Mode) (pool : ℕ) → m ≢ mode.Pools16 → queue_of Pools64 m pool 0 ≡ 2 * pool
+first_of_two mode.Pools16 pool other = absurd (other refl)
+first_of_two m pool other = omega arith
+
+by_hash : (r : Registers) (frame : List ℕ) (pool : ℕ) (t : Target) → GoesToPool r frame pool t →
+    mode_in r ≡ mode.Pools16 →
+    (queue_mode_of (word_of r Mrqc 0) ≡ Pools32Rss) ⊎ (queue_mode_of (word_of r Mrqc 0) ≡ Pools64Rss) →
+    t.queue ≡ 8 * pool + rss_entry r frame % 8
+by_hash r frame pool t g sixteen (inl is) =
+    let queue = by_sixteen r frame pool t Pools32Rss g sixteen is in queue ∙ (omega arith)
+by_hash r frame pool t g sixteen (inr is) =
+    let queue = by_sixteen r frame pool t Pools64Rss g sixteen is in queue ∙ (omega arith)
 
 entry-hashed : (r : Registers) (frame : List ℕ) → (code_of (rss_type r frame) ≡ 0 → ⊥) →
     rss_entry r frame ≡ entry_of (row_words r.words Reta) (rss_hash r frame)
@@ -101,7 +143,89 @@ queues_by_mode = record {
   entry = λ r frame some. entry-hashed r frame some;
   no_entry = λ r frame none.
       cond-true (code_of (rss_type r frame) == 0) 0 _ (eq-eqb (code_of (rss_type r frame)) 0 none);
-  pools_32_hashing = λ r frame pool t g e. by_mode r frame pool t Pools32Rss g e;
-  pools_64_hashing = λ r frame pool t g e. by_mode r frame pool t Pools64Rss g e;
-  pools_64 = λ r frame pool t g e. by_mode r frame pool t Pools64 g e;
+  pools_32_hashing = λ r frame pool t g other e.
+      by_code r frame pool t Pools32Rss g e ∙ by_four (mode_in r) pool (rss_entry r frame) other;
+  pools_64_hashing = λ r frame pool t g other e.
+      by_code r frame pool t Pools64Rss g e ∙ by_two (mode_in r) pool (rss_entry r frame) other;
+  pools_64 = λ r frame pool t g other e.
+      by_code r frame pool t Pools64 g e
+      ∙ ap (queue_of Pools64 (mode_in r) pool) (entry-unhashed r frame e) ∙ first_of_two (mode_in r) pool other;
+  pools_16_hashing = λ r frame pool t g sixteen is. by_hash r frame pool t g sixteen is;
+  pools_16 = λ r frame pool t g sixteen is.
+      by_sixteen r frame pool t Pools64 g sixteen is
+      ∙ ap (queue_of Pools64 mode.Pools16 pool) (entry-unhashed r frame is) ∙ (omega arith);
 }
+
+-- ---- which pools have queues
+
+none_of_16 : (code : QueueMode) (pool : ℕ) → has_pools code ≡ true → 15 < pool →
+    has_queues (parting code mode.Pools16) pool ≡ false
+none_of_16 Single pool pools above = cc
+none_of_16 Rss pool pools above = cc
+none_of_16 Pools64 pool pools above = le-ltb pool 16 (omega arith)
+none_of_16 Pools32Rss pool pools above = le-ltb pool 16 (omega arith)
+none_of_16 Pools64Rss pool pools above = le-ltb pool 16 (omega arith)
+
+none_of_32 : (m : Mode) (pool : ℕ) → m ≢ mode.Pools16 → 31 < pool → has_queues (parting Pools32Rss m) pool ≡ false
+none_of_32 mode.Pools16 pool other above = absurd (other refl)
+none_of_32 m pool other above = le-ltb pool 32 (omega arith)
+
+pub beyond : (r : Registers) (pool : ℕ) → IsBeyond r pool → has_queues (parting_in r) pool ≡ false
+beyond r pool (inl b) =
+    let code = queue_mode_of (word_of r Mrqc 0) in
+    ap (λ m. has_queues (parting code m) pool) b.0 ∙ none_of_16 code pool b.1 b.2
+beyond r pool (inr b) =
+    ap (λ code. has_queues (parting code (mode_in r)) pool) b.1 ∙ none_of_32 (mode_in r) pool b.0 b.2
+
+-- and the other way round
+lacking : (code : QueueMode) (m : Mode) (pool : ℕ) → pool < 64 → has_queues (parting code m) pool ≡ false →
+    ((m ≡ mode.Pools16) × (has_pools code ≡ true) × (15 < pool))
+    ⊎ ((m ≢ mode.Pools16) × (code ≡ Pools32Rss) × (31 < pool))
+lacking Single m pool small e = cc
+lacking Rss m pool small e = cc
+lacking Pools64 mode.Pools16 pool small e = let past = ltb-false pool 16 e in inl (refl, refl, omega arith)
+lacking Pools64 m pool small e = let past = ltb-false pool 64 e in absurd (omega arith)
+lacking Pools32Rss mode.Pools16 pool small e = let past = ltb-false pool 16 e in inl (refl, refl, omega arith)
+lacking Pools32Rss m pool small e = let past = ltb-false pool 32 e in inr (λ s. cc, refl, omega arith)
+lacking Pools64Rss mode.Pools16 pool small e = let past = ltb-false pool 16 e in inl (refl, refl, omega arith)
+lacking Pools64Rss m pool small e = let past = ltb-false pool 64 e in absurd (omega arith)
+
+pub lacks_beyond : (r : Registers) (pool : ℕ) → pool < 64 → has_queues (parting_in r) pool ≡ false → IsBeyond r pool
+lacks_beyond r pool small e = lacking (queue_mode_of (word_of r Mrqc 0)) (mode_in r) pool small e
+
+pub beyond_none : PoolsBeyondGetNone
+unfolding sorted
+beyond_none r frame pool goes_in parted meant b =
+    cond-true (passes r frame) (pool_target r frame (chosen_pool r frame)) (Err Filter) goes_in
+    ∙ ap (pool_target r frame) (chosen-parted r frame pool parted meant
+    ∙ cond-false (has_queues (parting_in r) pool) (cond (takes_frames r pool) (Ok pool) (Err PoolOff)) (Err NoPool)
+    (beyond r pool b))
+
+-- ---- whose the queues are
+
+some_of_16 : (code : QueueMode) (pool : ℕ) → has_pools code ≡ true →
+    has_queues (parting code mode.Pools16) pool ≡ true → pool < 16
+some_of_16 Single pool pools has = cc
+some_of_16 Rss pool pools has = cc
+some_of_16 Pools64 pool pools has = ltb-true pool 16 has
+some_of_16 Pools32Rss pool pools has = ltb-true pool 16 has
+some_of_16 Pools64Rss pool pools has = ltb-true pool 16 has
+
+in_sixteen : (code : QueueMode) (pool entry : ℕ) → has_pools code ≡ true →
+    queue_of code mode.Pools16 pool entry ≡ pool * 8 + entry % 8
+in_sixteen Single pool entry pools = cc
+in_sixteen Rss pool entry pools = cc
+in_sixteen Pools64 pool entry pools = refl
+in_sixteen Pools32Rss pool entry pools = refl
+in_sixteen Pools64Rss pool entry pools = refl
+
+pub functions_queues : FunctionsGetTheirs
+functions_queues r frame pool t sixteen pools g =
+    let code = queue_mode_of (word_of r Mrqc 0) in
+    let parted = queue-parted r frame pool t g in
+    let small = some_of_16 code pool pools (sym (ap (λ m. has_queues (parting code m) pool) sixteen) ∙ parted.0) in
+    let is : t.queue ≡ pool * 8 + rss_entry r frame % 8 =
+    by_sixteen r frame pool t code g sixteen refl ∙ in_sixteen code pool (rss_entry r frame) pools in
+    let own = placed mode.Pools16 pool (rss_entry r frame % 8) t.queue
+    (record { pool = small; own = omega arith; is = is }) in
+    ap (λ m. has_queue m pool t.queue) sixteen ∙ ap (is_pool pool) own.pool ∙ eq-eqb pool pool refl

@@ -7,6 +7,10 @@ use Rattle.register_file.specs.RssHash.Mrqc.{queue_mode_of}
 use Rattle.register_file.specs.RssHash.Registers.{bytes_of_registers}
 use Rattle.register_file.specs.RssHash.declared.mrqc.QueueMode.{QueueMode}
 use Rattle.register_file.specs.RssHash.declared.mrqc.QueueMode.TheVariants.{Single, Rss, Pools64, Pools32Rss, Pools64Rss}
+use Rattle.register_file.specs.VfMap.Owner.{has_queue}
+use Rattle.register_file.specs.VfMap.declared.mode.Mode.{Mode}
+use Rattle.register_file.specs.VfMap.declared.mode.Mode.TheVariants as mode
+use Rattle.register_file.specs.Pools.{mode_in}
 use Rattle.register_file.specs.Bits.{has_bit}
 use Rattle.register_file.specs.Registers.{Registers, reset_registers, word_of}
 use Rattle.register_file.specs.Words.{row_words}
@@ -15,7 +19,7 @@ use Rattle.rx_filter.specs.Pools.{uses_pools, takes_frames, selects, pool_of}
 use Rattle.rx_filter.specs.Sorting.{rss_type, rss_hash, rss_entry, sorted}
 use Rattle.rx_filter.specs.declared.fields.TheConstants.{MPE, UPE, BAM, MO, MFE, AV, VT_ENA, DEF_PL, DIS_DEF_POOL, PCSD}
 use Rattle.rx_filter.specs.declared.target.Target.{Target}
-use Rattle.rx_filter.specs.declared.unwanted.Unwanted.TheVariants.{Filter}
+use Rattle.rx_filter.specs.declared.unwanted.Unwanted.TheVariants.{Filter, NoPool}
 
 -- the lowest bit of each field is the datasheet's
 pub record FieldsStandAtTheirBits : Type 0 where
@@ -83,7 +87,8 @@ SingleIsQueue0 =
     (r : Registers) (frame : List ℕ) → uses_pools r ≡ false → queue_mode_of (word_of r Mrqc 0) ≡ Single →
     passes r frame ≡ true → sorted r frame ≡ Ok (record { queue = 0; rss = 0; hash = 0 })
 
--- the modes in which each pool has queues of its own, and the pool of a queue: four each in 32 pools, two each in 64
+-- the codes with which each pool has queues of its own, and the pool of a queue: eight each where GCR_EXT has 16 pools,
+-- else four each in 32 pools, two each in 64
 abbrev pub has_pools : QueueMode → Bool
 has_pools Single = false
 has_pools Rss = false
@@ -91,16 +96,17 @@ has_pools Pools64 = true
 has_pools Pools32Rss = true
 has_pools Pools64Rss = true
 
-abbrev pub pool_of_queue : QueueMode → ℕ → ℕ
-pool_of_queue Pools32Rss queue = queue / 4
-pool_of_queue other queue = queue / 2
+abbrev pub pool_of_queue : QueueMode → Mode → ℕ → ℕ
+pool_of_queue code mode.Pools16 queue = queue / 8
+pool_of_queue Pools32Rss mode queue = queue / 4
+pool_of_queue code mode queue = queue / 2
 
 -- a queue gets frames only while its pool takes them
 abbrev pub OffPoolsGetNone : Type 0
 OffPoolsGetNone =
     (r : Registers) (frame : List ℕ) (t : Target) → uses_pools r ≡ true →
     has_pools (queue_mode_of (word_of r Mrqc 0)) ≡ true → sorted r frame ≡ Ok t →
-    takes_frames r (pool_of_queue (queue_mode_of (word_of r Mrqc 0)) t.queue) ≡ true
+    takes_frames r (pool_of_queue (queue_mode_of (word_of r Mrqc 0)) (mode_in r) t.queue) ≡ true
 
 -- address i is valid and is the frame's destination, and no lower address is both
 pub record IsFirstMatch (r : Registers) (frame : List ℕ) (i : ℕ) : Type 0 where
@@ -136,8 +142,9 @@ pub record GoesToPool (r : Registers) (frame : List ℕ) (pool : ℕ) (t : Targe
   pub meant : pool_of r frame ≡ Some pool
   pub goes : sorted r frame ≡ Ok t
 
--- the queue by the mode in MRQC: with hashing the entry of the redirection table, which a frame with an RSS type finds
--- by the low seven bits of its hash; with pools one of the pool's own queues, four each or two each
+-- the queue by the code in MRQC: with hashing the entry of the redirection table, which a frame with an RSS type finds
+-- by the low seven bits of its hash; with pools one of the pool's own queues, eight each where GCR_EXT has 16 pools, else
+-- four each or two each
 pub record QueuesByMode : Type 0 where
   pub hashing : (r : Registers) (frame : List ℕ) (t : Target) → sorted r frame ≡ Ok t →
       queue_mode_of (word_of r Mrqc 0) ≡ Rss → t.queue ≡ rss_entry r frame
@@ -145,8 +152,35 @@ pub record QueuesByMode : Type 0 where
       rss_entry r frame ≡ slice_index (bytes_of_registers (row_words r.words Reta)) (rss_hash r frame % 128) % 16
   pub no_entry : (r : Registers) (frame : List ℕ) → code_of (rss_type r frame) ≡ 0 → rss_entry r frame ≡ 0
   pub pools_32_hashing : (r : Registers) (frame : List ℕ) (pool : ℕ) (t : Target) → GoesToPool r frame pool t →
-      queue_mode_of (word_of r Mrqc 0) ≡ Pools32Rss → t.queue ≡ 4 * pool + rss_entry r frame % 4
+      mode_in r ≢ mode.Pools16 → queue_mode_of (word_of r Mrqc 0) ≡ Pools32Rss →
+      t.queue ≡ 4 * pool + rss_entry r frame % 4
   pub pools_64_hashing : (r : Registers) (frame : List ℕ) (pool : ℕ) (t : Target) → GoesToPool r frame pool t →
-      queue_mode_of (word_of r Mrqc 0) ≡ Pools64Rss → t.queue ≡ 2 * pool + rss_entry r frame % 2
+      mode_in r ≢ mode.Pools16 → queue_mode_of (word_of r Mrqc 0) ≡ Pools64Rss →
+      t.queue ≡ 2 * pool + rss_entry r frame % 2
   pub pools_64 : (r : Registers) (frame : List ℕ) (pool : ℕ) (t : Target) → GoesToPool r frame pool t →
-      queue_mode_of (word_of r Mrqc 0) ≡ Pools64 → t.queue ≡ 2 * pool
+      mode_in r ≢ mode.Pools16 → queue_mode_of (word_of r Mrqc 0) ≡ Pools64 → t.queue ≡ 2 * pool
+  pub pools_16_hashing : (r : Registers) (frame : List ℕ) (pool : ℕ) (t : Target) → GoesToPool r frame pool t →
+      mode_in r ≡ mode.Pools16 →
+      (queue_mode_of (word_of r Mrqc 0) ≡ Pools32Rss) ⊎ (queue_mode_of (word_of r Mrqc 0) ≡ Pools64Rss) →
+      t.queue ≡ 8 * pool + rss_entry r frame % 8
+  pub pools_16 : (r : Registers) (frame : List ℕ) (pool : ℕ) (t : Target) → GoesToPool r frame pool t →
+      mode_in r ≡ mode.Pools16 → queue_mode_of (word_of r Mrqc 0) ≡ Pools64 → t.queue ≡ 8 * pool
+
+-- a pool has no queues: it is above 15 of 16 that GCR_EXT has, or above 31 of 32 by MRQC
+abbrev pub IsBeyond : Registers → ℕ → Type 0
+IsBeyond r pool =
+    ((mode_in r ≡ mode.Pools16) × (has_pools (queue_mode_of (word_of r Mrqc 0)) ≡ true) × (15 < pool))
+    ⊎ ((mode_in r ≢ mode.Pools16) × (queue_mode_of (word_of r Mrqc 0) ≡ Pools32Rss) × (31 < pool))
+
+-- the frames of such a pool go nowhere
+abbrev pub PoolsBeyondGetNone : Type 0
+PoolsBeyondGetNone =
+    (r : Registers) (frame : List ℕ) (pool : ℕ) → IsTrue (passes r frame) → IsTrue (uses_pools r) →
+    pool_of r frame ≡ Some pool → IsBeyond r pool → sorted r frame ≡ Err NoPool
+
+-- where GCR_EXT has 16 pools, a frame that goes to a pool by MRQC goes to a queue that the pool's virtual function has
+abbrev pub FunctionsGetTheirs : Type 0
+FunctionsGetTheirs =
+    (r : Registers) (frame : List ℕ) (pool : ℕ) (t : Target) → mode_in r ≡ mode.Pools16 →
+    has_pools (queue_mode_of (word_of r Mrqc 0)) ≡ true → GoesToPool r frame pool t →
+    IsTrue (has_queue (mode_in r) pool t.queue)

@@ -5,9 +5,12 @@ use Rattle.std.specs.List.{range_with_len}
 use Rattle.register_file.specs.RegTable.declared.rows.RowId.TheVariants.{VtCtl, Mpsar, Mrqc}
 use Rattle.register_file.specs.RssHash.Mrqc.{queue_mode_of}
 use Rattle.register_file.specs.RssHash.declared.mrqc.QueueMode.{QueueMode}
-use Rattle.register_file.specs.RssHash.declared.mrqc.QueueMode.TheVariants.{Pools32Rss}
+use Rattle.register_file.specs.RssHash.declared.mrqc.QueueMode.TheVariants as code
+use Rattle.register_file.specs.VfMap.Pools.{pools_in}
+use Rattle.register_file.specs.VfMap.declared.mode.Mode.{Mode}
+use Rattle.register_file.specs.VfMap.declared.mode.Mode.TheVariants.{Off, Pools16, Pools32, Pools64}
 use Rattle.register_file.specs.Bits.{has_bit}
-use Rattle.register_file.specs.Pools.{pool_bit}
+use Rattle.register_file.specs.Pools.{mode_in, pool_bit}
 pub use Rattle.register_file.specs.Pools.{takes_frames}
 use Rattle.register_file.specs.Registers.{Registers, word_of}
 use Rattle.rx_filter.specs.Address.{first_match}
@@ -45,16 +48,31 @@ or_default r (Some pool) = Some pool
 abbrev pub pool_of : Registers → List ℕ → Option ℕ
 pool_of r frame = or_default r (matched_pool r (first_match r frame))
 
--- whether a pool has queues: with 32 pools those above 31 have none
-abbrev pub has_queues : QueueMode → ℕ → Bool
-has_queues Pools32Rss pool = nat_lt pool 32
-has_queues other pool = true
+-- the pools that MRQC's codes for pools part the queues among: 64, or 32 with code 0xA, but where GCR_EXT has 16 these
+abbrev pub sixteen_or : Mode → Mode → Mode
+sixteen_or Pools16 by_code = Pools16
+sixteen_or other by_code = by_code
+
+abbrev pub parting : QueueMode → Mode → Mode
+parting code.Single mode = Off
+parting code.Rss mode = Off
+parting code.Pools64 mode = sixteen_or mode Pools64
+parting code.Pools32Rss mode = sixteen_or mode Pools32
+parting code.Pools64Rss mode = sixteen_or mode Pools64
+
+abbrev pub parting_in : Registers → Mode
+parting_in r = parting (queue_mode_of (word_of r Mrqc 0)) (mode_in r)
+
+-- whether a pool has queues: where they are parted, only so many pools do
+abbrev pub has_queues : Mode → ℕ → Bool
+has_queues Off pool = true
+has_queues mode pool = nat_lt pool (pools_in mode)
 
 -- a frame's pool, which needs queues and has to take frames
 abbrev pub checked_pool : Registers → Option ℕ → Result ℕ Unwanted
 checked_pool r None = Err NoPool
 checked_pool r (Some pool) =
-    if has_queues (queue_mode_of (word_of r Mrqc 0)) pool
+    if has_queues (parting_in r) pool
     then (if takes_frames r pool then Ok pool else Err PoolOff)
     else Err NoPool
 

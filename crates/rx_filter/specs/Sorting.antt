@@ -1,5 +1,5 @@
 -- The queue that a frame is for, and its hash.
-use Rattle.std.specs.Prelude.{ℕ, ◌+◌, ◌*◌, ◌%◌, ◌==◌, List, Result, Ok, Err, if◌then◌else◌}
+use Rattle.std.specs.Prelude.{ℕ, ◌==◌, List, Result, Ok, Err, if◌then◌else◌}
 use Rattle.register_file.specs.RegTable.declared.rows.RowId.TheVariants.{Mrqc, Reta, Rssrk, Rxcsum}
 use Rattle.register_file.specs.RssHash.Choice.{code_of, rss_type_of, hashed_part}
 use Rattle.register_file.specs.RssHash.Flow.{flow_of}
@@ -8,24 +8,26 @@ use Rattle.register_file.specs.RssHash.Registers.{bytes_of_registers, entry_of}
 use Rattle.register_file.specs.RssHash.Toeplitz.{toeplitz_hash}
 use Rattle.register_file.specs.RssHash.declared.choice.RssType.{RssType}
 use Rattle.register_file.specs.RssHash.declared.mrqc.QueueMode.{QueueMode}
-use Rattle.register_file.specs.RssHash.declared.mrqc.QueueMode.TheVariants.{Single, Rss, Pools64, Pools32Rss, Pools64Rss}
+use Rattle.register_file.specs.RssHash.declared.mrqc.QueueMode.TheVariants.{Single, Rss}
+use Rattle.register_file.specs.VfMap.Pools.{queue_in}
+use Rattle.register_file.specs.VfMap.declared.mode.Mode.{Mode}
+use Rattle.register_file.specs.Pools.{mode_in}
 use Rattle.register_file.specs.Bits.{has_bit}
 use Rattle.register_file.specs.Registers.{Registers, word_of}
 use Rattle.register_file.specs.Words.{row_words}
 use Rattle.rx_filter.specs.Address.{passes}
-use Rattle.rx_filter.specs.Pools.{chosen_pool}
+use Rattle.rx_filter.specs.Pools.{parting, chosen_pool}
 use Rattle.rx_filter.specs.declared.unwanted.Unwanted.{Unwanted}
 use Rattle.rx_filter.specs.declared.unwanted.Unwanted.TheVariants.{Filter}
 use Rattle.rx_filter.specs.declared.fields.TheConstants.{PCSD}
 use Rattle.rx_filter.specs.declared.target.Target.{Target}
 
--- the queue of a pool and an entry of the redirection table, by the mode in MRQC
-abbrev pub queue_of : QueueMode → ℕ → ℕ → ℕ
-queue_of Single pool entry = 0
-queue_of Rss pool entry = entry
-queue_of Pools64 pool entry = 2 * pool
-queue_of Pools32Rss pool entry = 4 * pool + entry % 4
-queue_of Pools64Rss pool entry = 2 * pool + entry % 2
+-- the queue of a pool and an entry of the redirection table, by the code in MRQC and the mode in GCR_EXT; the codes for
+-- pools choose by the entry one of the pool's own
+abbrev pub queue_of : QueueMode → Mode → (pool entry : ℕ) → ℕ
+queue_of Single mode pool entry = 0
+queue_of Rss mode pool entry = entry
+queue_of code mode pool entry = queue_in (parting code mode) pool entry
 
 -- a frame's RSS type, and the hash of what the type hashes, with the key of RSSRK
 abbrev pub rss_type : Registers → List ℕ → RssType
@@ -45,7 +47,7 @@ rss_entry r frame =
 unfoldable pub target_of : Registers → List ℕ → ℕ → Target
 target_of r frame pool =
     record {
-      queue = queue_of (queue_mode_of (word_of r Mrqc 0)) pool (rss_entry r frame);
+      queue = queue_of (queue_mode_of (word_of r Mrqc 0)) (mode_in r) pool (rss_entry r frame);
       rss = code_of (rss_type r frame);
       hash = if has_bit PCSD (word_of r Rxcsum 0) then rss_hash r frame else 0;
     }

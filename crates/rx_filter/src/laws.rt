@@ -1,6 +1,6 @@
 //! What a driver's author can rest on. Each law is the contract of a function that does nothing.
 
-ghost use Rattle.rx_filter.specs.Laws.{FieldsStandAtTheirBits, BroadcastIsAllOnes, BroadcastIsLetIn, MulticastIsLetIn, UnicastIsLetIn, FilteredIsNotLetIn, ResetRefusesAll, SingleIsQueue0, OffPoolsGetNone, PoolOfAFrame, QueuesByMode};
+ghost use Rattle.rx_filter.specs.Laws.{FieldsStandAtTheirBits, BroadcastIsAllOnes, BroadcastIsLetIn, MulticastIsLetIn, UnicastIsLetIn, FilteredIsNotLetIn, ResetRefusesAll, SingleIsQueue0, OffPoolsGetNone, PoolOfAFrame, QueuesByMode, PoolsBeyondGetNone, FunctionsGetTheirs};
 
 /// Each field of the registers stands at its bits by the datasheet.
 pub fn fields_stand_at_their_bits()
@@ -47,6 +47,17 @@ pub fn off_pools_get_none()
 /// The pool of a frame: the lowest of the first address that is its destination, or else the default pool, if any.
 pub fn pool_is_the_lowest_of_the_first_match()
     ensures { PoolOfAFrame }
+{}
+
+/// A frame of a pool without queues goes nowhere: above 15 where GCR_EXT has 16 pools and MRQC parts frames among pools,
+/// else above 31 with MRQC's code for 32.
+pub fn pools_beyond_get_none()
+    ensures { PoolsBeyondGetNone }
+{}
+
+/// Where GCR_EXT has 16 pools, frames that MRQC parts among pools go to queues of their pool's virtual function.
+pub fn functions_get_theirs()
+    ensures { FunctionsGetTheirs }
 {}
 
 /// The queue of a frame: with hashing the entry of the redirection table, with pools one of the pool's own.

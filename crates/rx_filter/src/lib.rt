@@ -1,8 +1,8 @@
 //! Where a received frame goes: the address filter, the pool, and the queue.
 //!
 //! [`sort`] answers for a frame, given the registers: whether its destination is let in (RAL and RAH, MTA, FCTRL),
-//! which pool it is for (MPSAR, VT_CTL, VFRE), and which queue, by MRQC and by the hash of what the frame is (RSSRK,
-//! RETA). The definitions stand in `specs/`. No call takes memory. The device core stands on this crate.
+//! which pool it is for (MPSAR, VT_CTL, VFRE), and which queue, by MRQC and GCR_EXT and by the hash of what the frame is
+//! (RSSRK, RETA). The definitions stand in `specs/`. No call takes memory. The device core stands on this crate.
 //!
 //! Source: Intel 82599 datasheet, sections on packet filtering and on receive queue assignment.
 #![tactic(auto)]
@@ -16,9 +16,10 @@ mod target;
 mod unwanted;
 
 pub use laws::{
-    broadcast_is_let_in, fields_stand_at_their_bits, filtered_is_not_let_in, multicast_is_let_in,
-    off_pools_get_none, pool_is_the_lowest_of_the_first_match, queue_is_by_the_mode,
-    reset_refuses_all, single_queue_is_queue_0, unicast_is_let_in,
+    broadcast_is_let_in, fields_stand_at_their_bits, filtered_is_not_let_in, functions_get_theirs,
+    multicast_is_let_in, off_pools_get_none, pool_is_the_lowest_of_the_first_match,
+    pools_beyond_get_none, queue_is_by_the_mode, reset_refuses_all, single_queue_is_queue_0,
+    unicast_is_let_in,
 };
 pub use pools::uses_pools;
 pub use sorting::sort;

@@ -1,25 +1,22 @@
 //! Which pool of queues a frame is for.
 
 ghost use Rattle.std.specs.Prelude.{◌≡◌, ◌<◌, IfSome, IfOk, IsTrue};
-ghost use Rattle.register_file.specs.RegTable.declared.rows.RowId.TheVariants.{Mrqc};
-ghost use Rattle.register_file.specs.Registers.{word_of};
-ghost use Rattle.register_file.specs.RssHash.Mrqc.{queue_mode_of};
-ghost use Rattle.rx_filter.specs.Pools.{uses_pools, selects, lowest_pool, default_pool, pool_of, has_queues, checked_pool, chosen_pool};
+ghost use Rattle.rx_filter.specs.Pools.{uses_pools, selects, lowest_pool, default_pool, pool_of, parting, parting_in, has_queues, checked_pool, chosen_pool};
 
 use crate::address::first_match;
 use crate::fields::{DEF_PL, DIS_DEF_POOL, VT_ENA, has_bit};
 use crate::unwanted::Unwanted;
-use register_file::{Dir, QueueMode, RegisterFile, RowId};
+use register_file::{Dir, Mode, QueueMode, RegisterFile, RowId, queues_of};
 
 /// How many pools there are at most.
 const POOLS: u16 = 64;
 
-/// The pool that a frame is for, below 64 and with queues in MRQC's mode: 0 where there are no pools.
+/// The pool that a frame is for, below 64 and with queues as MRQC parts them: 0 where there are no pools.
 #[tactic(auto, unfolding(crate::specs::Pools::chosen_pool))]
 pub(crate) fn chosen_pool(registers: &RegisterFile, frame: &[u8]) -> Result<u16, Unwanted>
     ensures chosen { result ≡ chosen_pool registers.now frame.now }
     ensures range { IfOk result (λ pool. pool < 64) }
-    ensures queues { IfOk result (λ pool. IsTrue (has_queues (queue_mode_of (word_of registers.now Mrqc 0)) pool)) }
+    ensures queues { IfOk result (λ pool. IsTrue (has_queues (parting_in registers.now) pool)) }
 {
     if uses_pools(registers) {
         checked_pool(registers, pool_of(registers, frame))
@@ -94,12 +91,13 @@ fn checked_pool(registers: &RegisterFile, pool: Option<u16>) -> Result<u16, Unwa
     requires { IfSome pool (λ pool. pool < 64) }
     ensures checked { result ≡ checked_pool registers.now pool }
     ensures range { IfOk result (λ pool. pool < 64) }
-    ensures queues { IfOk result (λ pool. IsTrue (has_queues (queue_mode_of (word_of registers.now Mrqc 0)) pool)) }
+    ensures queues { IfOk result (λ pool. IsTrue (has_queues (parting_in registers.now) pool)) }
 {
     let Some(pool) = pool else {
         return Err(Unwanted::NoPool);
     };
-    if !has_queues(QueueMode::of(registers.word(RowId::Mrqc, 0)), pool) {
+    let code = QueueMode::of(registers.word(RowId::Mrqc, 0));
+    if !has_queues(parting(code, registers.mode()), pool) {
         return Err(Unwanted::NoPool);
     }
     if !registers.is_pool_on(Dir::Rx, pool) {
@@ -108,12 +106,29 @@ fn checked_pool(registers: &RegisterFile, pool: Option<u16>) -> Result<u16, Unwa
     Ok(pool)
 }
 
+/// The pools that MRQC's codes for pools part the queues among: 64, or 32 with code 0xA, but where GCR_EXT has 16 these.
+/// `Off` with other codes.
+pub(crate) fn parting(code: QueueMode, mode: Mode) -> Mode
+    ensures { result ≡ parting code mode }
+{
+    let by_code = match code {
+        QueueMode::Single | QueueMode::Rss => return Mode::Off,
+        QueueMode::Pools32Rss => Mode::Pools32,
+        QueueMode::Pools64 | QueueMode::Pools64Rss => Mode::Pools64,
+    };
+    match mode {
+        Mode::Pools16 => Mode::Pools16,
+        Mode::Off | Mode::Pools32 | Mode::Pools64 => by_code,
+    }
+}
+
 /// Whether a pool has queues.
-fn has_queues(mode: QueueMode, pool: u16) -> bool
+fn has_queues(mode: Mode, pool: u16) -> bool
+    requires { pool < 64 }
     ensures { result ≡ has_queues mode pool }
 {
     match mode {
-        QueueMode::Pools32Rss => pool < 32,
-        QueueMode::Single | QueueMode::Rss | QueueMode::Pools64 | QueueMode::Pools64Rss => true,
+        Mode::Off => true,
+        Mode::Pools16 | Mode::Pools32 | Mode::Pools64 => queues_of(mode, pool as u8).is_some(),
     }
 }

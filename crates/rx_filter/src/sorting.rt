@@ -1,21 +1,22 @@
 //! The queue that a frame is for, and its hash.
 
 ghost use Rattle.std.specs.Prelude.{◌≡◌, ◌<◌, ◌==◌, IfOk, IsTrue, if◌then◌else◌};
-ghost use Rattle.register_file.specs.RegTable.declared.rows.RowId.TheVariants.{Mrqc, Reta, Rxcsum};
+ghost use Rattle.register_file.specs.RegTable.declared.rows.RowId.TheVariants.{Reta, Rxcsum};
 ghost use Rattle.register_file.specs.Bits.{has_bit};
 ghost use Rattle.register_file.specs.Registers.{word_of};
 ghost use Rattle.register_file.specs.Words.{row_words};
-ghost use Rattle.register_file.specs.RssHash.Mrqc.{queue_mode_of};
 ghost use Rattle.register_file.specs.RssHash.Registers.{entry_of};
-ghost use Rattle.rx_filter.specs.Pools.{has_queues};
+ghost use Rattle.rx_filter.specs.Pools.{parting, parting_in, has_queues};
 ghost use Rattle.rx_filter.specs.Sorting.{queue_of, target_of, sorted};
 
 use crate::address::passes;
 use crate::fields::{PCSD, has_bit};
-use crate::pools::chosen_pool;
+use crate::pools::{chosen_pool, parting};
 use crate::target::Target;
 use crate::unwanted::Unwanted;
-use register_file::{QueueMode, RegisterFile, RowId, choose_bytes, classify, entry};
+use register_file::{
+    Mode, QueueMode, RegisterFile, RowId, choose_bytes, classify, entry, queue_in,
+};
 
 /// Where a frame goes, given without its frame check sequence, or why it goes nowhere; any bytes will do, and bytes
 /// that a frame doesn't have read as 0. `Filter` where its destination isn't let in, then `NoPool` where there is no
@@ -38,7 +39,7 @@ pub fn sort(registers: &RegisterFile, frame: &[u8]) -> Result<Target, Unwanted>
 #[tactic(auto, unfolding(crate::specs::Sorting::target_of))]
 fn target(registers: &RegisterFile, frame: &[u8], pool: u16) -> Target
     requires range { pool < 64 }
-    requires queues { IsTrue (has_queues (queue_mode_of (word_of registers.now Mrqc 0)) pool) }
+    requires queues { IsTrue (has_queues (parting_in registers.now) pool) }
     ensures target { result ≡ target_of registers.now frame.now pool }
     ensures small { (result.queue < 128) × (result.rss < 16) }
 {
@@ -48,7 +49,7 @@ fn target(registers: &RegisterFile, frame: &[u8], pool: u16) -> Target
     let hash = registers.hash(input);
     let entry = entry_at(registers, rss, hash);
     Target {
-        queue: queue(QueueMode::of(mrqc), pool, entry),
+        queue: queue(QueueMode::of(mrqc), registers.mode(), pool, entry),
         rss,
         hash: told(registers, hash),
     }
@@ -77,18 +78,17 @@ fn told(registers: &RegisterFile, hash: u32) -> u32
 }
 
 /// The queue of a pool and an entry of the redirection table.
-fn queue(mode: QueueMode, pool: u16, entry: u8) -> u16
-    requires pool { pool < 64 }
-    requires queues { IsTrue (has_queues mode pool) }
+fn queue(code: QueueMode, mode: Mode, pool: u16, entry: u8) -> u16
+    requires queues { IsTrue (has_queues (parting code mode) pool) }
     requires entry { entry < 16 }
-    ensures value { result ≡ queue_of mode pool entry }
+    ensures value { result ≡ queue_of code mode pool entry }
     ensures range { result < 128 }
 {
-    match mode {
+    match code {
         QueueMode::Single => 0,
         QueueMode::Rss => u16::from(entry),
-        QueueMode::Pools64 => 2 * pool,
-        QueueMode::Pools32Rss => 4 * pool + u16::from(entry % 4),
-        QueueMode::Pools64Rss => 2 * pool + u16::from(entry % 2),
+        QueueMode::Pools64 | QueueMode::Pools32Rss | QueueMode::Pools64Rss => {
+            queue_in(parting(code, mode), pool, entry)
+        }
     }
 }

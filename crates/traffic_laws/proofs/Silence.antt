@@ -29,6 +29,11 @@ use Rattle.traffic_laws.proofs.Slots.{transmit-slotless, transmit-empty}
 
 -- the pool of a queue
 
+mode-1 : (w : ℕ) → field 1 0 w ≡ 1 → mode_of w ≡ Pools16
+mode-1 w e =
+    let low : w % 4 ≡ 1 = omega arith in
+    ap (λ n. cond (n == 0) Off (cond (n == 1) Pools16 (cond (n == 2) Pools32 Pools64))) low
+
 mode-2 : (w : ℕ) → field 1 0 w ≡ 2 → mode_of w ≡ Pools32
 mode-2 w e =
     let low : w % 4 ≡ 2 = omega arith in
@@ -42,10 +47,14 @@ mode-3 w e =
 pool-is : (r : Registers) (queue pool : ℕ) → queue < 128 → IsInPool r queue pool
     → pool_of (mode_in r) queue ≡ Some pool
 pool-is r queue pool small (inl e) =
+    ap (λ m. pool_of m queue) (mode-1 (word_of r GcrExt 0) e.0)
+    ∙ cond-true (nat_lt queue 128) (Some (queue / 8)) None (lt-ltb queue 128 small)
+    ∙ ap (λ (n : ℕ). Some n) (sym e.1)
+pool-is r queue pool small (inr (inl e)) =
     ap (λ m. pool_of m queue) (mode-2 (word_of r GcrExt 0) e.0)
     ∙ cond-true (nat_lt queue 128) (Some (queue / 4)) None (lt-ltb queue 128 small)
     ∙ ap (λ (n : ℕ). Some n) (sym e.1)
-pool-is r queue pool small (inr e) =
+pool-is r queue pool small (inr (inr e)) =
     ap (λ m. pool_of m queue) (mode-3 (word_of r GcrExt 0) e.0)
     ∙ cond-true (nat_lt queue 128) (Some (queue / 2)) None (lt-ltb queue 128 small)
     ∙ ap (λ (n : ℕ). Some n) (sym e.1)
@@ -80,17 +89,21 @@ module _ (r : Registers) (queue : ℕ) (parted : bit 0 (word_of r VtCtl 0) ≡ 1
       let In : Mode → Type 0 = λ m. Mutes (pool_of m queue) in
       cond_both (w % 4 == 0) Off (cond (w % 4 == 1) Pools16 (cond (w % 4 == 2) Pools32 Pools64)) In
       (λ is. mutes_none 0 0 refl) (λ not_off.
-      cond_both (w % 4 == 1) Pools16 (cond (w % 4 == 2) Pools32 Pools64) In (λ is. mutes_none 0 0 refl) (λ not_16.
+      cond_both (w % 4 == 1) Pools16 (cond (w % 4 == 2) Pools32 Pools64) In
+      (λ is. let one = eqb-true (w % 4) 1 is in
+      cond_both (nat_lt queue 128) (Some (queue / 8)) None Mutes
+      (λ small. mutes_in (queue / 8) (inl (omega arith, refl))) (λ past is. cc))
+      (λ not_16.
       cond_both (w % 4 == 2) Pools32 Pools64 In
       (λ is. let two = eqb-true (w % 4) 2 is in
       cond_both (nat_lt queue 128) (Some (queue / 4)) None Mutes
-      (λ small. mutes_in (queue / 4) (inl (omega arith, refl))) (λ past is. cc))
+      (λ small. mutes_in (queue / 4) (inr (inl (omega arith, refl)))) (λ past is. cc))
       (λ not_32.
       let a = eqb-false (w % 4) 0 not_off in
       let b = eqb-false (w % 4) 1 not_16 in
       let c = eqb-false (w % 4) 2 not_32 in
       cond_both (nat_lt queue 128) (Some (queue / 2)) None Mutes
-      (λ small. mutes_in (queue / 2) (inr (omega arith, refl))) (λ past is. cc))))
+      (λ small. mutes_in (queue / 2) (inr (inr (omega arith, refl)))) (λ past is. cc))))
 
 is-muted : (r : Registers) (queue : ℕ) → is_muted r queue ≡ true → IsMuted r queue
 unfolding is_muted

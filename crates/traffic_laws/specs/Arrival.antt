@@ -1,7 +1,7 @@
 -- When a frame that arrives is let in and why another is dropped, by the bits of registers, and where it waits.
 use Rattle.std.specs.Prelude.{ℕ, ◌≡◌, ◌≢◌, ◌<◌, ◌≤◌, ◌⊎◌, ◌↔◌, ◌-◌, ◌/◌, ◌%◌, IsTrue, IsFalse, List, [], ◌∷◌, ◌++◌, length, Some, None, Ok}
 use Rattle.nic_device.specs.DmaArena.Block.{Block}
-use Rattle.nic_device.specs.RegTable.declared.rows.RowId.TheVariants.{Rxctrl, Hlreg0, Maxfrs, VtCtl, Mrqc, Vfre}
+use Rattle.nic_device.specs.RegTable.declared.rows.RowId.TheVariants.{Rxctrl, Hlreg0, Maxfrs, VtCtl, Mrqc, GcrExt, Vfre}
 use Rattle.nic_device.specs.RegisterFile.Registers.{Registers, word_of}
 use Rattle.nic_device.specs.RxFilter.Address.{passes}
 use Rattle.nic_device.specs.RxFilter.Pools.{pool_of}
@@ -34,21 +34,32 @@ pub record IsWithinLimit (r : Registers) (frame : List ℕ) : Type 0 where
   pub is : IsLimit r limit
   pub within : length frame ≤ limit
 
--- a frame has a pool: `pool_of` is the lowest pool of the first address that is its destination, or the default; but
--- where MRQC bits 3 to 0 are 0xA there are no pools above 31
+-- MRQC bits 3 to 0 part frames among pools
+abbrev pub PartsByMrqc : Registers → Type 0
+PartsByMrqc r =
+    let code = field 3 0 (word_of r Mrqc 0) in (code ≡ 8) ⊎ ((code ≡ 0xA) ⊎ (code ≡ 0xB))
+
+-- a pool has no queues: it is above 15 where GCR_EXT bits 1 to 0 are 1 and MRQC parts frames among pools, and above 31
+-- where they aren't 1 and MRQC bits 3 to 0 are 0xA
+abbrev pub LacksQueues : Registers → ℕ → Type 0
+LacksQueues r pool =
+    ((field 1 0 (word_of r GcrExt 0) ≡ 1) × PartsByMrqc r × (15 < pool))
+    ⊎ ((field 1 0 (word_of r GcrExt 0) ≢ 1) × (field 3 0 (word_of r Mrqc 0) ≡ 0xA) × (31 < pool))
+
+-- a frame has a pool: `pool_of` is the lowest pool of the first address that is its destination, or the default; and it
+-- has queues
 pub record HasPool (r : Registers) (frame : List ℕ) (pool : ℕ) : Type 0 where
   pub meant : pool_of r frame ≡ Some pool
-  pub exists : (field 3 0 (word_of r Mrqc 0) ≢ 0xA) ⊎ (pool ≤ 31)
+  pub exists : ¬ LacksQueues r pool
 
 -- a frame has none
-pub record IsAbove31 (r : Registers) (frame : List ℕ) : Type 0 where
+pub record IsBeyond (r : Registers) (frame : List ℕ) : Type 0 where
   pub pool : ℕ
   pub meant : pool_of r frame ≡ Some pool
-  pub mode : field 3 0 (word_of r Mrqc 0) ≡ 0xA
-  pub above : 31 < pool
+  pub lacks : LacksQueues r pool
 
 abbrev pub HasNoPool : Registers → List ℕ → Type 0
-HasNoPool r frame = (pool_of r frame ≡ None) ⊎ IsAbove31 r frame
+HasNoPool r frame = (pool_of r frame ≡ None) ⊎ IsBeyond r frame
 
 -- the bit of a pool in VFRE: VFRE[0] has pools 0 to 31, VFRE[1] pools 32 to 63
 abbrev pub receive_bit : Registers → ℕ → ℕ

@@ -12,14 +12,20 @@ use Rattle.vf_map.specs.Pools.{queues_of, pool_of, queues_each, pools_in}
 use Rattle.vf_map.specs.Laws.{IsAmong}
 use Rattle.vf_map.specs.Map.{Entry, entries}
 
-Some-one : {A : Type 0} {x y : A} → Some x ≡ Some y → x ≡ y
+pub Some-one : {A : Type 0} {x y : A} → Some x ≡ Some y → x ≡ y
 Some-one e = cc
 
 -- a queue below the number of all of them is its pool's
-record IsWithin (pools each v queue : ℕ) : Type 0 where
-  pool : v < pools
-  low : v * each ≤ queue
-  high : queue < v * each + each
+pub record IsWithin (pools each v queue : ℕ) : Type 0 where
+  pub pool : v < pools
+  pub low : v * each ≤ queue
+  pub high : queue < v * each + each
+
+there16 : (v queue : ℕ) → queue < 128 → queue / 8 ≡ v → IsWithin 16 8 v queue
+there16 v queue h e = record { pool = omega arith; low = omega arith; high = omega arith }
+
+back16 : (v queue : ℕ) → IsWithin 16 8 v queue → (queue < 128) × (queue / 8 ≡ v)
+back16 v queue w = (omega (arith, w.pool, w.high), omega (arith, w.low, w.high))
 
 there32 : (v queue : ℕ) → queue < 128 → queue / 4 ≡ v → IsWithin 32 4 v queue
 there32 v queue h e = record { pool = omega arith; low = omega arith; high = omega arith }
@@ -36,18 +42,18 @@ back64 v queue w = (omega (arith, w.pool, w.high), omega (arith, w.low, w.high))
 there : (mode : Mode) (v queue : ℕ) → queue < pools_in mode * queues_each mode → queue / queues_each mode ≡ v →
     IsWithin (pools_in mode) (queues_each mode) v queue
 there Off v queue h e = absurd (omega (arith, h))
-there Pools16 v queue h e = absurd (omega (arith, h))
+there Pools16 v queue h e = there16 v queue h e
 there Pools32 v queue h e = there32 v queue h e
 there Pools64 v queue h e = there64 v queue h e
 
 back : (mode : Mode) (v queue : ℕ) → IsWithin (pools_in mode) (queues_each mode) v queue →
     (queue < pools_in mode * queues_each mode) × (queue / queues_each mode ≡ v)
 back Off v queue w = absurd (omega (arith, w.pool))
-back Pools16 v queue w = absurd (omega (arith, w.pool))
+back Pools16 v queue w = back16 v queue w
 back Pools32 v queue w = back32 v queue w
 back Pools64 v queue w = back64 v queue w
 
-pool_within : (mode : Mode) (v queue : ℕ) → pool_of mode queue ≡ Some v →
+pub pool_within : (mode : Mode) (v queue : ℕ) → pool_of mode queue ≡ Some v →
     IsWithin (pools_in mode) (queues_each mode) v queue
 pool_within mode v queue e =
     let all = pools_in mode * queues_each mode in

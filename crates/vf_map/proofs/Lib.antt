@@ -5,3 +5,5 @@ pub mod Owners
 pub mod Sides
 pub mod Reached
 pub mod Inverse
+pub mod Numbers
+pub mod Queues

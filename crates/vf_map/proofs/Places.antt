@@ -6,6 +6,7 @@ use Rattle.reg_table.specs.Rows.{rows}
 use Rattle.reg_table.specs.declared.rows.RowId.TheVariants.{Pvtivar, Pfmbmem, Rdbal, Tdbal}
 use Rattle.vf_map.specs.Map.{Entry, message_entries, vector_entries, side_entries, behind, queue_entries, receive_rows, transmit_rows}
 use Rattle.vf_map.specs.Parts.{place_at, row_behind, of_queue, queues_entries}
+use Rattle.vf_map.specs.Pools.{most_queues}
 use Rattle.vf_map.proofs.Chains.{in_second, in_either, in_no_word, in_word, in_no_piece, in_piece, in_side, in_no_side}
 
 -- a word of the vectors
@@ -95,28 +96,28 @@ other_queue x q o l s =
     neither_there x q o (λ r h. other_block 1 x o r l s h) (λ r h. other_block 2 x o r l s h)
 
 -- the function has no such queue
-pub queue_absent : (first count o : ℕ) → count ≤ 4 → count ≤ o % 0x1000 / 0x40 →
+pub queue_absent : (first count o : ℕ) → count ≤ most_queues → count ≤ o % 0x1000 / 0x40 →
     place_at (queues_entries first count) o ≡ None
 queue_absent first count o l h =
     in_no_piece (λ x. queue_entries x (first + x)) 0 count o
     (λ w a b. other_queue w (first + w) o (omega arith) (omega arith))
 
 -- the offset is in no block of queues
-pub side_absent : (first count o : ℕ) → count ≤ 4 → o / 0x1000 ≢ 1 → o / 0x1000 ≢ 2 →
+pub side_absent : (first count o : ℕ) → count ≤ most_queues → o / 0x1000 ≢ 1 → o / 0x1000 ≢ 2 →
     place_at (queues_entries first count) o ≡ None
 side_absent first count o l a b =
     in_no_piece (λ x. queue_entries x (first + x)) 0 count o
     (λ w i j. neither_there w (first + w) o
     (λ r h. no_block 1 w o r (omega arith) a h) (λ r h. no_block 2 w o r (omega arith) b h))
 
-queue_there : (first count o : ℕ) → count ≤ 4 → o % 0x1000 / 0x40 < count →
+queue_there : (first count o : ℕ) → count ≤ most_queues → o % 0x1000 / 0x40 < count →
     place_at (queues_entries first count) o
     ≡ place_at (queue_entries (o % 0x1000 / 0x40) (first + o % 0x1000 / 0x40)) o
 queue_there first count o l h =
     in_piece (λ x. queue_entries x (first + x)) 0 count o (o % 0x1000 / 0x40) (omega arith) (omega arith)
     (λ y a b c. other_queue y (first + y) o (omega arith) c)
 
-pub receive_at : (first count o q : ℕ) → count ≤ 4 → o % 0x1000 / 0x40 < count → o / 0x1000 ≡ 1 →
+pub receive_at : (first count o q : ℕ) → count ≤ most_queues → o % 0x1000 / 0x40 < count → o / 0x1000 ≡ 1 →
     q ≡ first + o % 0x1000 / 0x40 →
     place_at (queues_entries first count) o ≡ of_queue (row_behind Rdbal receive_rows (o % 0x40)) q
 receive_at first count o q l h s e =
@@ -124,7 +125,7 @@ receive_at first count o q l h s e =
     ∙ receive_there (o % 0x1000 / 0x40) (first + o % 0x1000 / 0x40) o (omega arith) s refl
     ∙ ap (λ x. of_queue (row_behind Rdbal receive_rows (o % 0x40)) x) (sym e)
 
-pub transmit_at : (first count o q : ℕ) → count ≤ 4 → o % 0x1000 / 0x40 < count → o / 0x1000 ≡ 2 →
+pub transmit_at : (first count o q : ℕ) → count ≤ most_queues → o % 0x1000 / 0x40 < count → o / 0x1000 ≡ 2 →
     q ≡ first + o % 0x1000 / 0x40 →
     place_at (queues_entries first count) o ≡ of_queue (row_behind Tdbal transmit_rows (o % 0x40)) q
 transmit_at first count o q l h s e =

@@ -1,13 +1,16 @@
 -- What the map of the virtual functions promises.
-use Rattle.std.specs.Prelude.{ℕ, ◌≡◌, ◌≢◌, ◌↔◌, ◌+◌, ◌*◌, ◌%◌, ◌<◌, ◌≤◌, ◌⊎◌, IsTrue, Option, Some, None, AllPairs}
+use Rattle.std.specs.Prelude.{ℕ, ◌≡◌, ◌≢◌, ◌↔◌, ◌+◌, ◌*◌, ◌/◌, ◌%◌, ◌<◌, ◌≤◌, ◌⊎◌, IsTrue, Option, Some, None, AllPairs}
 use Rattle.reg_table.specs.Place.{place_among, view_among}
 use Rattle.reg_table.specs.Rows.{row_of}
 use Rattle.reg_table.specs.Runs.{runs}
 use Rattle.reg_table.specs.declared.place.Place.{Place}
+use Rattle.reg_table.specs.declared.rows.RowId.{RowId}
+use Rattle.reg_table.specs.declared.rows.RowId.TheVariants.{Pvtivar, Rdbal, Tdbal}
 use Rattle.vf_map.specs.Pools.{queues_of, pool_of, queues_each, pools_in}
-use Rattle.vf_map.specs.Owner.{is_of_pool, is_shared}
-use Rattle.vf_map.specs.Map.{entries, located, mapped}
+use Rattle.vf_map.specs.Owner.{is_of_pool, is_shared, is_receive, is_transmit}
+use Rattle.vf_map.specs.Map.{entries, behind, located, mapped}
 use Rattle.vf_map.specs.declared.mode.Mode.{Mode}
+use Rattle.vf_map.specs.declared.mode.Mode.TheVariants.{Off}
 use Rattle.vf_map.specs.declared.located.Located.{Located}
 use Rattle.vf_map.specs.declared.located.Located.TheVariants.{Absent, Hole, Register}
 use Rattle.vf_map.specs.declared.mapped.Mapped.TheVariants.{Pf}
@@ -60,6 +63,26 @@ PoolsAreApart =
 abbrev pub IsAmong : Option (ℕ × ℕ) → (queue : ℕ) → Type 0
 IsAmong None queue = ⊥
 IsAmong (Some queues) queue = (queues.0 ≤ queue) × (queue < queues.0 + queues.1)
+
+-- where there are pools, each queue of the device is one of some pool, and of no other
+abbrev pub EachQueueHasOnePool : Type 0
+EachQueueHasOnePool =
+    (mode : Mode) (queue : ℕ) → mode ≢ Off → queue < 128 →
+    (v : ℕ) × (v < pools_in mode) × IsAmong (queues_of mode v) queue
+    × ((w : ℕ) → IsAmong (queues_of mode w) queue → w ≡ v)
+
+-- the registers of a function's queue stand as far from each other as the device has them, from 0x1000 and 0x2000 on
+-- by the queue's place among the function's; and each two of its queues have a word of vectors, from 0x120 on
+pub record QueueRegistersAreThere : Type 0 where
+  pub receive : (mode : Mode) (vfs v first count x : ℕ) (row : RowId) → v < vfs →
+      queues_of mode v ≡ Some (first, count) → x < count → IsTrue (is_receive row) →
+      located mode vfs v (0x1000 + 0x40 * x + behind Rdbal row) ≡ Register (record { row = row; index = first + x })
+  pub transmit : (mode : Mode) (vfs v first count x : ℕ) (row : RowId) → v < vfs →
+      queues_of mode v ≡ Some (first, count) → x < count → IsTrue (is_transmit row) →
+      located mode vfs v (0x2000 + 0x40 * x + behind Tdbal row) ≡ Register (record { row = row; index = first + x })
+  pub vectors : (mode : Mode) (vfs v first count x : ℕ) → v < vfs →
+      queues_of mode v ≡ Some (first, count) → x < count / 2 →
+      located mode vfs v (0x120 + 4 * x) ≡ Register (record { row = Pvtivar; index = first / 2 + x })
 
 -- a queue's pool is the one that has the queue
 abbrev pub PoolIsWhereTheQueueIs : Type 0

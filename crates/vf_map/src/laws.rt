@@ -1,6 +1,6 @@
 //! What the map of the virtual functions promises as a whole. Each law is the contract of a function that does nothing.
 
-ghost use Rattle.vf_map.specs.Laws.{OffsetsHaveOneRegister, AddressesReadBack, RegistersAreThePools, FunctionsAreApart, AddressesAreAligned, PoolsAreApart, PoolIsWhereTheQueueIs};
+ghost use Rattle.vf_map.specs.Laws.{OffsetsHaveOneRegister, AddressesReadBack, RegistersAreThePools, FunctionsAreApart, AddressesAreAligned, PoolsAreApart, EachQueueHasOnePool, QueueRegistersAreThere, PoolIsWhereTheQueueIs};
 
 /// No offset of a virtual function is listed twice.
 pub fn offsets_have_one_register()
@@ -30,6 +30,17 @@ pub fn addresses_are_aligned()
 /// No two pools have a queue in common.
 pub fn pools_are_apart()
     ensures { PoolsAreApart }
+{}
+
+/// Where there are pools, each of the 128 queues is one of some pool, and of no other.
+pub fn each_queue_has_one_pool()
+    ensures { EachQueueHasOnePool }
+{}
+
+/// The registers of a function's queue, and the words of its vectors, are found at the offsets of the queue's place among
+/// the function's.
+pub fn queue_registers_are_there()
+    ensures { QueueRegistersAreThere }
 {}
 
 /// The pool of a queue is the one that has the queue.

@@ -1,10 +1,11 @@
 //! The virtual functions of the Intel 82599: which register of the physical function an offset of a virtual function
 //! is.
 //!
-//! GCR_EXT parts the 128 queues among 32 or 64 pools, and virtual function v has pool v: [`mode_of`], [`queues_of`] and
-//! [`pool_of`]. [`locate`] is the map from a function's offsets to registers of the device, as a table in
-//! `specs/Map.antt`; [`map`] gives their addresses, which the register table says. `specs/Owner.antt` says which
-//! registers are a pool's. No call takes memory. Registers and device core stand on this crate.
+//! GCR_EXT parts the 128 queues among 16, 32 or 64 pools, and virtual function v has pool v: [`mode_of`],
+//! [`queues_of`], [`pool_of`] and [`queue_in`]. [`locate`] is the map from a function's offsets to registers of the
+//! device, as a table in `specs/Map.antt`; [`map`] gives their addresses, which the register table says.
+//! `specs/Owner.antt` says which registers are a pool's. No call takes memory. Registers and device core stand on this
+//! crate.
 //!
 //! Source: Intel 82599 datasheet, section on the registers of virtual functions, with this project's profile.
 #![tactic(auto)]
@@ -17,11 +18,12 @@ mod mode;
 mod pools;
 
 pub use laws::{
-    addresses_are_aligned, addresses_read_back, functions_are_apart, offsets_have_one_register,
-    pool_is_where_the_queue_is, pools_are_apart, registers_are_the_pools,
+    addresses_are_aligned, addresses_read_back, each_queue_has_one_pool, functions_are_apart,
+    offsets_have_one_register, pool_is_where_the_queue_is, pools_are_apart,
+    queue_registers_are_there, registers_are_the_pools,
 };
 pub use located::Located;
 pub use mapped::Mapped;
 pub use mapping::{locate, map};
 pub use mode::Mode;
-pub use pools::{MAX_VFS, QUEUES, has_queue, mode_of, pool_of, queues_of};
+pub use pools::{MAX_VFS, QUEUES, has_queue, mode_of, pool_of, queue_in, queues_of};

@@ -2,6 +2,7 @@ ghost use Rattle.std.specs.Prelude.{◌≡◌, ◌<◌, ◌≤◌, Some, None, i
 ghost use Rattle.vf_map.specs.Laws.{IsInRange};
 ghost use Rattle.vf_map.specs.Map.{located, mapped, entries, own_entries, message_entries, function_entries, vector_entries, receive_rows, transmit_rows};
 ghost use Rattle.vf_map.specs.Owner.{is_receive, is_transmit};
+ghost use Rattle.vf_map.specs.Pools.{most_queues};
 ghost use Rattle.vf_map.specs.Parts.{place_at, queues_entries, row_behind, of_queue};
 ghost use Rattle.reg_table.specs.declared.rows.RowId.TheVariants as row;
 
@@ -57,7 +58,7 @@ pub fn map(mode: Mode, vfs: u8, v: u8, offset: u32) -> Mapped
 
 /// The register that an offset of function v stands for, where the function has `count` queues from `first` on.
 fn place(v: u8, first: u8, count: u8, offset: u32) -> Option<Place>
-    requires { count ≤ 4 }
+    requires { count ≤ most_queues }
     ensures { result ≡ place_at (entries v first count) offset }
 {
     if let Some(place) = function_place(v, offset) {
@@ -150,7 +151,7 @@ fn vector_place(first: u8, count: u8, offset: u32) -> Option<Place>
 
 /// The registers of the function's queues.
 fn queue_place(first: u8, count: u8, offset: u32) -> Option<Place>
-    requires { count ≤ 4 }
+    requires { count ≤ most_queues }
     ensures { result ≡ place_at (queues_entries first count) offset }
 {
     let x = offset % SIDE / QUEUE;

@@ -3,7 +3,7 @@
 pub enum Mode {
     /// No pools.
     Off,
-    /// Sixteen pools; taken as none.
+    /// 16 pools of eight queues.
     Pools16,
     /// 32 pools of four queues.
     Pools32,

@@ -1,6 +1,6 @@
 ghost use Rattle.std.specs.Prelude.{◌≡◌, ◌<◌};
 ghost use Rattle.vf_map.specs.Owner.{has_queue};
-ghost use Rattle.vf_map.specs.Pools.{mode_of, queues_of, pool_of};
+ghost use Rattle.vf_map.specs.Pools.{mode_of, pools_in, queues_of, pool_of, queue_in};
 
 use crate::mode::Mode;
 
@@ -25,27 +25,45 @@ pub fn mode_of(gcr_ext: u32) -> Mode
     }
 }
 
-/// The first queue of virtual function v, and how many queues it has: 4v and four with 32 pools, 2v and two with 64.
+/// The first queue of virtual function v, and how many queues it has: 8v and eight with 16 pools, 4v and four with 32,
+/// 2v and two with 64.
 /// `None` where the mode has no pool v.
 pub fn queues_of(mode: Mode, v: u8) -> Option<(u8, u8)>
     ensures { result ≡ queues_of mode v }
 {
     match mode {
+        Mode::Pools16 if v < 16 => Some((8 * v, 8)),
         Mode::Pools32 if v < 32 => Some((4 * v, 4)),
         Mode::Pools64 if v < 64 => Some((2 * v, 2)),
         _ => None,
     }
 }
 
-/// The pool that a queue of the device is in: queue / 4 with 32 pools, queue / 2 with 64. `None` where the mode has no
-/// pools, and for a queue that the device doesn't have, 128 or above.
+/// The pool that a queue of the device is in: queue / 8 with 16 pools, queue / 4 with 32, queue / 2 with 64. `None`
+/// where the mode has no pools, and for a queue that the device doesn't have, 128 or above.
 pub fn pool_of(mode: Mode, queue: u16) -> Option<u8>
     ensures { result ≡ pool_of mode queue }
 {
     match mode {
+        Mode::Pools16 if queue < QUEUES => Some((queue / 8) as u8),
         Mode::Pools32 if queue < QUEUES => Some((queue / 4) as u8),
         Mode::Pools64 if queue < QUEUES => Some((queue / 2) as u8),
         _ => None,
+    }
+}
+
+/// The queue of a pool that a number chooses, as an entry of the redirection table does: the number modulo the number of
+/// the pool's queues is its place among them.
+pub fn queue_in(mode: Mode, pool: u16, number: u8) -> u16
+    requires { pool < pools_in mode }
+    ensures queue { result ≡ queue_in mode pool number }
+    ensures range { result < 128 }
+{
+    match mode {
+        Mode::Off => 0,
+        Mode::Pools16 => 8 * pool + u16::from(number % 8),
+        Mode::Pools32 => 4 * pool + u16::from(number % 4),
+        Mode::Pools64 => 2 * pool + u16::from(number % 2),
     }
 }
 

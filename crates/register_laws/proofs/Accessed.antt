@@ -4,17 +4,17 @@ use Rattle.register_file.specs.RegTable.Rows.{row_of}
 use Rattle.register_file.specs.RegTable.declared.place.Place.{Place}
 use Rattle.register_file.specs.RegTable.declared.kind.Kind.{Kind}
 use Rattle.register_file.specs.Owner.{owner_of}
-use Rattle.register_laws.specs.Footprint.{LacksWord, Covers, is_place, of_owner, is_alone, read_by, of_read, written_by, of_write}
+use Rattle.register_laws.specs.Footprint.{LacksWord, Covers, is_place, of_owner, is_alone, is_own, read_by, of_read, written_by, of_write}
 use Rattle.register_laws.specs.Laws.{ReadMissesSides}
 use Rattle.register_laws.proofs.Keeps.{keeps}
 pub use Rattle.register_laws.proofs.Pending.{none_pending, none_pending_of}
 
--- an access of a place changes nothing but what its owner has
+-- an access of a place changes nothing but what its owner has, a write where its kind says so
 pub covers-of_read : (p : Place) → Covers (of_owner (owner_of p)) (of_read p)
-covers-of_read p = (keeps (row_of p.row).kind).read.owned p
+covers-of_read p = (keeps (row_of p.row).kind).read.owned p refl
 
-pub covers-of_write : (p : Place) → Covers (of_owner (owner_of p)) (of_write p)
-covers-of_write p = (keeps (row_of p.row).kind).write.owned p
+pub covers-of_write : (p : Place) → is_own (row_of p.row).kind ≡ true → Covers (of_owner (owner_of p)) (of_write p)
+covers-of_write p own = (keeps (row_of p.row).kind).write.owned own p refl
 
 -- a read changes nothing of a side
 pub read_misses_sides : ReadMissesSides

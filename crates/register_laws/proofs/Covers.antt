@@ -1,5 +1,5 @@
 -- Which footprints have all that others have, and which have nothing of others.
-use Rattle.std.proofs.Common.{◌≡◌, ℕ, Bool, true, false, refl, ap, sym, ◌∙◌, subst, inl, inr}
+use Rattle.std.proofs.Common.{◌≡◌, ℕ, Bool, true, false, ◌||◌, refl, ap, sym, ◌∙◌, subst, inl, inr}
 use Rattle.std.proofs.lemmas.Bool.{both_ways, and_parts, or_cases, or_left, or_right}
 use Rattle.register_file.specs.RegTable.Rows.{row_of}
 use Rattle.register_file.specs.RegTable.declared.place.Place.{Place}
@@ -11,7 +11,7 @@ use Rattle.register_file.specs.Owner.{owner_of, is_owner}
 use Rattle.register_file.specs.PoolReset.{is_renewed}
 use Rattle.register_file.specs.declared.owner.Owner.{Owner}
 use Rattle.register_file.specs.declared.owner.Owner.TheVariants as owner
-use Rattle.register_laws.specs.Footprint.{Footprint, HasWord, LacksWord, Covers, Misses, nothing, renewed_of, is_place, the_word, the_enable, of_owner, of_group, pending, any_pending, is_pending}
+use Rattle.register_laws.specs.Footprint.{Footprint, HasWord, LacksWord, Covers, Misses, nothing, either, renewed_of, is_place, the_word, the_enable, of_owner, of_group, pending, any_pending, is_pending}
 use Rattle.register_laws.proofs.Owners.{is_group-itself, is_owner-itself, is_owner-same, is_place-itself, is_place-same}
 
 -- what follows from a test that fails fails
@@ -55,6 +55,50 @@ lacks-renewed f p none bit = fails _ _ ((covers-renewed f).bits p bit) (none bit
 
 pub misses-nothing : (g : Footprint) → Misses nothing g
 misses-nothing g = record { bits = λ p bit is. refl; wanted = λ dir queue is. refl; told = λ h is. refl }
+
+-- one of two footprints
+pub covers-first : (f g : Footprint) → Covers (either f g) f
+covers-first f g = record {
+  bits = λ p bit is. or_left _ (g.bits p bit) is;
+  wanted = λ dir queue is. or_left _ (g.wanted dir queue) is;
+  told = λ h is. or_left _ (g.told h) is;
+}
+
+pub covers-second : (f g : Footprint) → Covers (either f g) g
+covers-second f g = record {
+  bits = λ p bit is. or_right (f.bits p bit) _ is;
+  wanted = λ dir queue is. or_right (f.wanted dir queue) _ is;
+  told = λ h is. or_right (f.told h) _ is;
+}
+
+pub covers-either : (f g h : Footprint) → Covers f g → Covers f h → Covers f (either g h)
+covers-either f g h one other = record {
+  bits = λ p bit is. elim (or_cases (g.bits p bit) (h.bits p bit) is) as (λ _. f.bits p bit ≡ true) [
+    | inl a ↦ one.bits p bit a
+    | inr b ↦ other.bits p bit b
+  ];
+  wanted = λ dir queue is. elim (or_cases (g.wanted dir queue) (h.wanted dir queue) is) as
+      (λ _. f.wanted dir queue ≡ true) [
+        | inl a ↦ one.wanted dir queue a
+        | inr b ↦ other.wanted dir queue b
+      ];
+  told = λ i is. elim (or_cases (g.told i) (h.told i) is) as (λ _. f.told i ≡ true) [
+    | inl a ↦ one.told i a
+    | inr b ↦ other.told i b
+  ];
+}
+
+neither : (a b : Bool) → a ≡ false → b ≡ false → (a || b) ≡ false
+neither false b none also = also
+neither true b none also = cc
+
+pub misses-either : (f e g : Footprint) → Misses f g → Misses e g → Misses (either f e) g
+misses-either f e g one other = record {
+  bits = λ p bit is. neither (f.bits p bit) (e.bits p bit) (one.bits p bit is) (other.bits p bit is);
+  wanted = λ dir queue is.
+      neither (f.wanted dir queue) (e.wanted dir queue) (one.wanted dir queue is) (other.wanted dir queue is);
+  told = λ h is. neither (f.told h) (e.told h) (one.told h is) (other.told h is);
+}
 
 -- two owners have nothing in common
 none_shared : (o other third : Owner) → is_owner o other ≡ false → is_owner other third ≡ true

@@ -10,6 +10,7 @@ use Rattle.register_file.specs.Access.{causes_written, masks_set, causes_set, ma
 use Rattle.register_file.specs.Behaviour.{behaviour_of}
 use Rattle.register_laws.proofs.Giving.{GivesTheSame, same_word, same_none, same_calculated}
 use Rattle.register_laws.proofs.GroupChanges.{change-causes_written, change-masks_set, change-causes_set, change-masks_cleared}
+use Rattle.register_laws.proofs.MailKeeps.{mail_reading, function_write, physical_given, physical_write, extended_write, ones_write}
 use Rattle.register_laws.proofs.PoolAccessed.{keeps_group_agreement}
 use Rattle.register_laws.proofs.Reading.{KeepsReading, quiet_read, counter_read, causes_read}
 use Rattle.register_laws.proofs.RowBits.{IsSubset-or_left, IsSubset-ones, mask_small}
@@ -76,4 +77,12 @@ keeps kind.Eerd = record {
   read = quiet_read kind.Eerd;
   write = stored_write kind.Eerd (λ word. bit_and word 0xFFFD) refl
       (λ row. IsSubset-ones 32 (row_of row).mask (mask_small row));
+}
+keeps kind.W1c = record { given = same_word kind.W1c; read = quiet_read kind.W1c; write = ones_write }
+keeps kind.Vfmail = record { given = same_word kind.Vfmail; read = mail_reading; write = function_write }
+keeps kind.Pfmail = record { given = physical_given; read = quiet_read kind.Pfmail; write = physical_write }
+keeps kind.Ctrlext = record {
+  given = same_word kind.Ctrlext;
+  read = quiet_read kind.Ctrlext;
+  write = extended_write;
 }

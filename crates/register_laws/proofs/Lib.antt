@@ -11,6 +11,8 @@ pub mod GroupChanges
 pub mod Keeps
 pub mod MailBits
 pub mod Mailbox
+pub mod MailKeeps
+pub mod MailPools
 pub mod NoSide
 pub mod Owners
 pub mod PastEnd

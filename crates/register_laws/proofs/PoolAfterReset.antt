@@ -1,20 +1,23 @@
--- Any registers agree of a pool after its reset.
-use Rattle.std.proofs.Common.{◌≡◌, ℕ, ◌<◌, false, sym, ◌∙◌, inl, inr, arith}
-use Rattle.std.proofs.lemmas.Bool.{cases_lt}
+-- Registers that agree of a pool do so after its reset.
+use Rattle.std.proofs.Common.{◌≡◌, ℕ, ◌<◌, false, ap, sym, ◌∙◌, inl, inr, arith}
+use Rattle.std.proofs.lemmas.Bool.{cases_Bool, cases_lt}
 use Rattle.std.proofs.lemmas.List.{get_or_past}
 use Rattle.register_file.specs.RegTable.Rows.{row_of}
 use Rattle.register_file.specs.RegTable.declared.place.Place.{Place}
 use Rattle.register_file.specs.IntrUnit.declared.group.Group.{Group}
 use Rattle.register_file.specs.IntrUnit.declared.group.Group.TheVariants.{Pf, Vf}
+use Rattle.register_file.specs.Bits.{has_bit}
 use Rattle.register_file.specs.Groups.{index_of, told_by}
 use Rattle.register_file.specs.PoolReset.{pool_reset}
 use Rattle.register_file.specs.Registers.{Registers, is_wanted}
 use Rattle.register_file.specs.Words.{word_at, row_words}
 use Rattle.register_file.specs.DmaRing.declared.dir.Dir.{Dir}
 use Rattle.register_file.specs.DmaRing.declared.dir.Dir.TheVariants.{Rx, Tx}
-use Rattle.register_laws.specs.Agreement.{PoolResetMakesAgreement}
+use Rattle.register_laws.specs.Agreement.{PoolResetKeepsAgreement}
+use Rattle.register_laws.specs.Footprint.{Footprint, pool_renews}
 use Rattle.register_laws.specs.Sound.{HasShape}
-use Rattle.register_laws.proofs.PoolReset.{renewed-pool, pool_word_renewed}
+use Rattle.register_laws.proofs.Bits.{same_word}
+use Rattle.register_laws.proofs.PoolReset.{renewed-pool}
 
 -- what lies past the end is 0, or not wanted
 word_past : (r : Registers) → HasShape r → (p : Place) → (p.index < (row_of p.row).count → ⊥) → word_at r.words p ≡ 0
@@ -30,18 +33,22 @@ told_past : (r : Registers) → HasShape r → (g : Group) → (index_of g < 64 
 told_past r h Pf out = absurd (out (omega arith))
 told_past r h (Vf v) out = let short = h.told_vf in get_or_past r.told_vf v 0 (omega arith)
 
-pub agree-reset : PoolResetMakesAgreement
-agree-reset mode v a b ha hb =
+pub agree-reset : PoolResetKeepsAgreement
+agree-reset mode v a b ha hb same =
     let left = renewed-pool a mode v in
     let right = renewed-pool b mode v in
     let new_a : Registers = pool_reset mode v a in
     let new_b : Registers = pool_reset mode v b in
+    let taken : Footprint = pool_renews mode v in
     record {
       words = λ p is. elim (cases_lt p.index (row_of p.row).count) as
           (λ _. word_at new_a.words p ≡ word_at new_b.words p) [
-            | inl inside ↦
-                pool_word_renewed mode v left ha p is inside
-                ∙ sym (pool_word_renewed mode v right hb p is inside)
+            | inl inside ↦ same_word (λ bit. elim (cases_Bool (taken.bits p bit)) as
+                (λ _. has_bit bit (word_at new_a.words p) ≡ has_bit bit (word_at new_b.words p)) [
+                  | inl on ↦ left.bits ha p bit on inside ∙ sym (right.bits hb p bit on inside)
+                  | inr off ↦ left.alone.bits p bit off ∙ ap (has_bit bit) (same.words p is)
+                      ∙ sym (right.alone.bits p bit off)
+                ])
             | inr past ↦
                 let out : p.index < (row_of p.row).count → ⊥ = λ h. omega arith in
                 word_past new_a (left.shape ha) p out ∙ sym (word_past new_b (right.shape hb) p out)

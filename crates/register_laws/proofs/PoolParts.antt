@@ -1,8 +1,8 @@
 -- What a reset of a pool does, part by part.
-use Rattle.std.proofs.Common.{◌≡◌, ℕ, ◌/◌, Bool, true, false, ◌==◌, ◌&&◌, ◌||◌, List, Option, Some, None, refl, ap, ◌∙◌}
+use Rattle.std.proofs.Common.{◌≡◌, ℕ, ◌/◌, Bool, true, false, ◌==◌, ◌&&◌, ◌||◌, List, Option, Some, None, refl, ap, sym, ◌∙◌}
 use Rattle.std.specs.Prelude.{fold}
 use Rattle.std.specs.List.{range_with_len}
-use Rattle.std.proofs.Math.Bool.{or-false}
+use Rattle.std.proofs.Math.Bool.{or-false, and-false}
 use Rattle.register_file.specs.RegTable.Rows.{row_of}
 use Rattle.register_file.specs.RegTable.declared.bank.Bank.{Bank}
 use Rattle.register_file.specs.RegTable.declared.bank.Bank.TheVariants as bank
@@ -20,24 +20,25 @@ use Rattle.register_laws.specs.Footprint.{Footprint, nothing, either, of_owner, 
 use Rattle.register_laws.proofs.Renewed.{IsRenewed, IsSame, any_of, wanted_of, told_of, renewed-either, renewed-same, renewed-with_wanted, renewed-with_told, taken-refl, taken-either, taken-each}
 use Rattle.register_laws.proofs.RowsReset.{at_rows, rows_words, renewed-rows}
 
--- what a pool has once
-abbrev pub is_own : Bank → Bool
-is_own bank.VfInterrupts = true
-is_own bank.Pool = true
-is_own bank.VfCounters = true
-is_own other = false
+-- what a pool has once, and its words of the mailbox memory
+abbrev pub has_own : Bank → (v index : ℕ) → Bool
+has_own bank.VfInterrupts v index = v == index
+has_own bank.Pool v index = v == index
+has_own bank.VfCounters v index = v == index
+has_own bank.Messages v index = v == index / 16
+has_own other v index = false
 
 abbrev pub of_function : ℕ → Footprint
 of_function v =
     record {
-      bits = λ p bit. is_own (row_of p.row).bank && v == p.index;
+      bits = λ p bit. has_own (row_of p.row).bank v p.index;
       wanted = λ dir queue. false;
       told = is_group (Vf v);
     }
 
 -- its rows are those that the table has for it
 own_row : (x : RowId) (v index bit : ℕ)
-    → (has_renewal function_renewals x bit && v == index) ≡ (is_renewed x bit && (is_own (row_of x).bank && v == index))
+    → (has_renewal function_renewals x bit && v == index) ≡ (is_renewed x bit && has_own (row_of x).bank v index)
 own_row row.Ctrl v index bit = refl
 own_row other v index bit = refl
 
@@ -63,8 +64,10 @@ side_row : (dir : Dir) (x : RowId) (queue index bit : ℕ)
     → (has_renewal (side_renewals dir) x bit && queue == index)
     ≡ (is_renewed x bit && is_owner (owner.Side dir queue) (owner_in (row_of x).bank index))
 side_row Rx row.Ctrl queue index bit = refl
+side_row Rx row.Pvfmailbox queue index bit = sym (and-false _)
 side_row Rx other queue index bit = refl
 side_row Tx row.Ctrl queue index bit = refl
+side_row Tx row.Pvfmailbox queue index bit = sym (and-false _)
 side_row Tx other queue index bit = refl
 
 none_wanted : (dir other : Dir) (queue number : ℕ) → (at_rows (side_renewals dir) queue).wanted other number ≡ false
@@ -113,6 +116,7 @@ vector_row : (x : RowId) (n index bit : ℕ)
     → (has_renewal vector_renewals x bit && n == index)
     ≡ (is_renewed x bit && is_owner (owner.Vectors n) (owner_in (row_of x).bank index))
 vector_row row.Ctrl n index bit = refl
+vector_row row.Pvfmailbox n index bit = sym (and-false _)
 vector_row other n index bit = refl
 
 renewed-vectors : (r : Registers) (index : ℕ) → IsRenewed (renewed_of (of_vectors index)) r (vectors_reset r index)

@@ -1,6 +1,9 @@
 -- The places of a pool, and what accesses of them may change.
 use Rattle.std.proofs.Common.{◌≡◌, ℕ, ◌*◌, Bool, true, false, ◌==◌, refl, ap, sym, ◌∙◌, subst, inl, inr}
-use Rattle.std.proofs.lemmas.Bool.{or_cases, eqb-true}
+use Rattle.std.proofs.lemmas.Bool.{cases_Bool, or_cases, eqb-true}
+use Rattle.register_file.specs.RegTable.declared.kind.Kind.{Kind}
+use Rattle.register_file.specs.RegTable.declared.kind.Kind.TheVariants as kind
+use Rattle.register_file.specs.Mailbox.{by_sending, by_function}
 use Rattle.register_file.specs.RegTable.Rows.{row_of, number_of}
 use Rattle.register_file.specs.RegTable.declared.bank.Bank.{Bank}
 use Rattle.register_file.specs.RegTable.declared.bank.Bank.TheVariants as bank
@@ -16,10 +19,11 @@ use Rattle.register_file.specs.Owner.{owner_in, owner_of, is_owner, is_group}
 use Rattle.register_file.specs.declared.owner.Owner.{Owner}
 use Rattle.register_file.specs.declared.owner.Owner.TheVariants as owner
 use Rattle.register_laws.specs.Agreement.{PoolReadsStayWithin, PoolWritesStayWithin, SharedReadsChangeNothing, SharedWritesChangeNothing}
-use Rattle.register_laws.specs.Footprint.{Covers, pool_changes, of_owner, of_read, of_write}
+use Rattle.register_laws.specs.Footprint.{Footprint, Covers, pool_has, pool_changes, is_own, of_owner, of_read, written_by, of_write}
 use Rattle.register_laws.specs.Laws.{after_write}
 use Rattle.register_laws.proofs.Accessed.{covers-of_read, covers-of_write}
-use Rattle.register_laws.proofs.Covers.{covers-trans}
+use Rattle.register_laws.proofs.Covers.{covers-trans, covers-first}
+use Rattle.register_laws.proofs.MailPools.{mail_row, physical_is_the_devices, extended_is_the_devices, covers-function}
 use Rattle.register_laws.proofs.PoolAccessed.{group_of_pool, side_of_pool}
 use Rattle.register_laws.proofs.Owners.{is_group-itself, is_owner-same}
 
@@ -47,7 +51,7 @@ one_owner b c mode v i j same is =
     ∙ sym (owned b mode v i) ∙ is
 
 covers-owner : (mode : Mode) (v : ℕ) (p : Place) → is_of_pool mode v p ≡ true
-    → Covers (pool_changes mode v) (of_owner (owner_of p))
+    → Covers (pool_has mode v) (of_owner (owner_of p))
 covers-owner mode v p is = record {
   bits = λ q bit same. one_owner (row_of p.row).bank (row_of q.row).bank mode v p.index q.index same is;
   wanted = λ dir queue same. side_of_pool (row_of p.row).bank mode v p.index dir queue is
@@ -58,14 +62,38 @@ covers-owner mode v p is = record {
       ap (is_group (Vf v)) mine ∙ is_group-itself (Vf v);
 }
 
+pub covers-has : (mode : Mode) (v : ℕ) → Covers (pool_changes mode v) (pool_has mode v)
+covers-has mode v = covers-first (pool_has mode v) (by_sending v)
+
+covers-own : (mode : Mode) (v : ℕ) (p : Place) → is_of_pool mode v p ≡ true → (f : Footprint)
+    → Covers (of_owner (owner_of p)) f → Covers (pool_changes mode v) f
+covers-own mode v p is f own =
+    covers-trans (pool_changes mode v) (pool_has mode v) f (covers-has mode v)
+    (covers-trans (pool_has mode v) (of_owner (owner_of p)) f (covers-owner mode v p is) own)
+
 pub covers-read : PoolReadsStayWithin
-covers-read mode v p is =
-    covers-trans (pool_changes mode v) (of_owner (owner_of p)) (of_read p) (covers-owner mode v p is) (covers-of_read p)
+covers-read mode v p is = covers-own mode v p is (of_read p) (covers-of_read p)
+
+-- a write of a kind that reaches others is one of the function's mailbox
+covers-reaching : (k : Kind) → is_own k ≡ false → (mode : Mode) (v : ℕ) (p : Place) → (row_of p.row).kind ≡ k
+    → is_of_pool mode v p ≡ true → Covers (pool_changes mode v) (written_by k p)
+covers-reaching kind.Vfmail other mode v p e is =
+    let own : p.index ≡ v = eqb-true p.index v (ap (λ x. is_of_pool_by (row_of x).bank mode v p.index)
+    (sym (mail_row p.row e)) ∙ is) in
+    subst (λ n. Covers (pool_changes mode v) (by_function n)) (sym own) (covers-function mode v)
+covers-reaching kind.Pfmail other mode v p e is =
+    let none = physical_is_the_devices p.row mode v p.index e in cc
+covers-reaching kind.Ctrlext other mode v p e is =
+    let none = extended_is_the_devices p.row mode v p.index e in cc
+covers-reaching k other mode v p e is = cc
 
 pub covers-write : PoolWritesStayWithin
 covers-write mode v p is =
-    covers-trans (pool_changes mode v) (of_owner (owner_of p)) (of_write p) (covers-owner mode v p is)
-    (covers-of_write p)
+    let k = (row_of p.row).kind in
+    elim (cases_Bool (is_own k)) as (λ _. Covers (pool_changes mode v) (of_write p)) [
+      | inl own ↦ covers-own mode v p is (of_write p) (covers-of_write p own)
+      | inr other ↦ covers-reaching k other mode v p refl is
+    ]
 
 -- STATUS and LINKS
 pub shared_rows : (P : RowId → Type 0) → P row.Status → P row.Links → (p : Place) → is_shared p ≡ true → P p.row

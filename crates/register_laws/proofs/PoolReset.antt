@@ -1,7 +1,7 @@
 -- The reset of a pool is one of all that is the pool's.
-use Rattle.std.proofs.Common.{◌≡◌, ℕ, ◌+◌, ◌*◌, ◌/◌, ◌<◌, Bool, true, false, cond, ◌==◌, nat_lt, ◌&&◌, ◌||◌, Option, Some, None, refl, ap, sym, ◌∙◌}
+use Rattle.std.proofs.Common.{◌≡◌, ℕ, ◌+◌, ◌*◌, ◌/◌, ◌<◌, Bool, true, false, cond, ◌==◌, nat_lt, ◌&&◌, ◌||◌, not, Option, Some, None, refl, ap, sym, ◌∙◌, subst, inl, inr}
 use Rattle.std.specs.List.{range_with_len}
-use Rattle.std.proofs.lemmas.Bool.{ltb-true, and_from}
+use Rattle.std.proofs.lemmas.Bool.{ltb-true, eqb-true, or_cases, or_left}
 use Rattle.std.proofs.Math.Bool.{or-false}
 use Rattle.register_file.specs.RegTable.Rows.{row_of}
 use Rattle.register_file.specs.RegTable.declared.bank.Bank.{Bank}
@@ -16,18 +16,20 @@ use Rattle.register_file.specs.VfMap.Pools.{queues_of, queues_each, pools_in}
 use Rattle.register_file.specs.VfMap.declared.mode.Mode.{Mode}
 use Rattle.register_file.proofs.VfMap.Numbers.{has_queue-none}
 use Rattle.register_file.specs.Owner.{owner_in, is_owner, is_group}
+use Rattle.register_file.specs.Bits.{has_bit}
 use Rattle.register_file.specs.PoolReset.{is_renewed, function_reset, pool_reset}
 use Rattle.register_file.specs.Registers.{Registers}
 use Rattle.register_file.specs.Words.{word_at}
 use Rattle.register_file.specs.DmaRing.declared.dir.Dir.{Dir}
 use Rattle.register_file.specs.DmaRing.declared.dir.Dir.TheVariants.{Rx, Tx}
 use Rattle.register_file.specs.declared.owner.Owner.TheVariants as owner
-use Rattle.register_laws.specs.Footprint.{Footprint, ChangesWithin, Covers, either, pool_changes, pool_renews}
+use Rattle.register_laws.specs.Footprint.{Footprint, ChangesWithin, Covers, either, pool_has, pool_renews}
+use Rattle.register_laws.specs.PoolReset.{PoolResetTakesTheRest, is_left}
 use Rattle.register_laws.specs.Sound.{HasShape}
 use Rattle.register_laws.proofs.Covers.{covers-renewed}
 use Rattle.register_laws.proofs.Footprints.{within-wider}
-use Rattle.register_laws.proofs.PoolParts.{is_own, of_function, of_queue, of_vectors, of_queues, renewed-function, renewed-queues}
-use Rattle.register_laws.proofs.Renewed.{IsRenewed, IsSame, any_of, taken-either, taken-same, word_renewed}
+use Rattle.register_laws.proofs.PoolParts.{has_own, of_function, of_queue, of_vectors, of_queues, renewed-function, renewed-queues}
+use Rattle.register_laws.proofs.Renewed.{IsRenewed, IsSame, any_of, taken-either, taken-same}
 use Rattle.register_laws.proofs.PoolQueues.{turned, among, queues-among, words-among, any-among}
 use Rattle.register_laws.proofs.PoolTests.{and-true, and-false, both_ways_round, first_alone, second_alone, own_alone}
 
@@ -36,9 +38,6 @@ abbrev whole : ℕ → Option (ℕ × ℕ) → Footprint
 whole v o = either (of_function v) (of_queues o)
 
 -- whose a register of a bank is
-abbrev own_has : ℕ → Bank → ℕ → Bool
-own_has v b i = is_own b && v == i
-
 abbrev is_side : Bank → Bool
 is_side b = is_receive_bank b || is_transmit_bank b
 
@@ -96,7 +95,7 @@ told_none f g none count first =
 
 -- all of it is the pool's
 by_bank : (b : Bank) (mode : Mode) (v i : ℕ)
-    → (own_has v b i || ((has_queue mode v i && is_side b) || (has_queue mode v (2 * i) && is_vectors b)))
+    → (has_own b v i || ((has_queue mode v i && is_side b) || (has_queue mode v (2 * i) && is_vectors b)))
     ≡ is_of_pool_by b mode v i
 by_bank bank.Receive mode v i = first_alone (has_queue mode v i) (has_queue mode v (2 * i))
 by_bank bank.Transmit mode v i = first_alone (has_queue mode v i) (has_queue mode v (2 * i))
@@ -104,17 +103,19 @@ by_bank bank.VfInterrupts mode v i = own_alone (v == i) (has_queue mode v i) (ha
 by_bank bank.Pool mode v i = own_alone (v == i) (has_queue mode v i) (has_queue mode v (2 * i)) ∙ turned v i
 by_bank bank.VfCounters mode v i = own_alone (v == i) (has_queue mode v i) (has_queue mode v (2 * i)) ∙ turned v i
 by_bank bank.Vectors mode v i = second_alone (has_queue mode v i) (has_queue mode v (2 * i))
+by_bank bank.Messages mode v i =
+    own_alone (v == i / 16) (has_queue mode v i) (has_queue mode v (2 * i)) ∙ turned v (i / 16)
 by_bank other mode v i = own_alone false (has_queue mode v i) (has_queue mode v (2 * i))
 
 with_none : (b : Bank) (mode : Mode) (v i : ℕ) → ((queue : ℕ) → has_queue mode v queue ≡ false)
-    → (own_has v b i || false) ≡ is_of_pool_by b mode v i
+    → (has_own b v i || false) ≡ is_of_pool_by b mode v i
 with_none b mode v i none =
-    ap (λ q. own_has v b i || (q && is_side b || false)) (sym (none i))
-    ∙ ap (λ q. own_has v b i || ((has_queue mode v i && is_side b) || (q && is_vectors b))) (sym (none (2 * i)))
+    ap (λ q. has_own b v i || (q && is_side b || false)) (sym (none i))
+    ∙ ap (λ q. has_own b v i || ((has_queue mode v i && is_side b) || (q && is_vectors b))) (sym (none (2 * i)))
     ∙ by_bank b mode v i
 
 same_none : (mode : Mode) (v : ℕ) → ((queue : ℕ) → has_queue mode v queue ≡ false)
-    → IsSame (whole v None) (pool_changes mode v)
+    → IsSame (whole v None) (pool_has mode v)
 same_none mode v none = record {
   bits = λ p bit. with_none (row_of p.row).bank mode v p.index none;
   wanted = λ dir queue. sym (none queue);
@@ -122,14 +123,14 @@ same_none mode v none = record {
 }
 
 same_some : (mode : Mode) (v : ℕ) → nat_lt v (pools_in mode) ≡ true
-    → IsSame (whole v (Some (v * queues_each mode, queues_each mode))) (pool_changes mode v)
+    → IsSame (whole v (Some (v * queues_each mode, queues_each mode))) (pool_has mode v)
 same_some mode v e =
     let small = ltb-true v (pools_in mode) e in
     let each = queues_each mode in
     record {
       bits = λ p bit.
           let b = (row_of p.row).bank in
-          let own = own_has v b p.index in
+          let own = has_own b v p.index in
           ap (λ x. own || (x || (any_of of_vectors (range_with_len (v * each / 2) (each / 2))).bits p bit))
           (queues_bits each (v * each) p bit ∙ ap (λ x. x && is_side b) (queues-among mode v p.index small))
           ∙ ap (λ x. own || ((has_queue mode v p.index && is_side b) || x))
@@ -149,7 +150,7 @@ same_some mode v e =
     }
 
 same_if : (mode : Mode) (v : ℕ) (b : Bool) → nat_lt v (pools_in mode) ≡ b
-    → IsSame (whole v (cond b (Some (v * queues_each mode, queues_each mode)) None)) (pool_changes mode v)
+    → IsSame (whole v (cond b (Some (v * queues_each mode, queues_each mode)) None)) (pool_has mode v)
 same_if mode v true e = same_some mode v e
 same_if mode v false e = same_none mode v (λ queue. has_queue-none mode v queue e)
 
@@ -158,28 +159,23 @@ unfolding pool_reset
 renewed-pool r mode v =
     let o : Option (ℕ × ℕ) = queues_of mode v in
     let reset : Registers = function_reset r v in
-    taken-same (whole v o) (pool_changes mode v) r (pool_reset mode v r)
+    taken-same (whole v o) (pool_has mode v) r (pool_reset mode v r)
     (same_if mode v (nat_lt v (pools_in mode)) refl)
     (taken-either (of_function v) (of_queues o) r reset (pool_reset mode v r) (renewed-function r v)
     (renewed-queues reset o))
 
 -- all that it changes is the pool's
-pub within-pool_reset : (r : Registers) (mode : Mode) (v : ℕ)
-    → ChangesWithin (pool_changes mode v) r (pool_reset mode v r)
+pub within-pool_reset : (r : Registers) (mode : Mode) (v : ℕ) → ChangesWithin (pool_has mode v) r (pool_reset mode v r)
 within-pool_reset r mode v =
-    within-wider (pool_changes mode v) (pool_renews mode v) r (pool_reset mode v r)
-    (covers-renewed (pool_changes mode v)) (renewed-pool r mode v).alone
+    within-wider (pool_has mode v) (pool_renews mode v) r (pool_reset mode v r)
+    (covers-renewed (pool_has mode v)) (renewed-pool r mode v).alone
 
--- and it takes all of the pool's words
+-- and it takes all of the pool's words but what it leaves of the mailbox
 abbrev is_pooled : Bank → Bool
 is_pooled bank.Device = false
 is_pooled bank.Counters = false
 is_pooled bank.Interrupts = false
 is_pooled other = true
-
-pooled_row : (x : RowId) (bit : ℕ) → is_renewed x bit ≡ is_pooled (row_of x).bank
-pooled_row row.Ctrl bit = refl
-pooled_row other bit = refl
 
 of_a_pool : (b : Bank) (mode : Mode) (v i : ℕ) → is_of_pool_by b mode v i ≡ true → is_pooled b ≡ true
 of_a_pool bank.Device mode v i is = cc
@@ -187,16 +183,37 @@ of_a_pool bank.Counters mode v i is = cc
 of_a_pool bank.Interrupts mode v i is = cc
 of_a_pool other mode v i is = refl
 
-pub covers-pool : (mode : Mode) (v : ℕ) → Covers (pool_renews mode v) (pool_changes mode v)
+-- the bits that it takes of a mailbox's word
+mail_taken : (bit : ℕ) → (bit == 2 || bit == 4 || bit == 5) ≡ true → has_bit bit 0x34 ≡ true
+mail_taken bit is =
+    elim (or_cases (bit == 2 || bit == 4) (bit == 5) is) as (λ _. has_bit bit 0x34 ≡ true) [
+      | inr five ↦ subst (λ n. has_bit n 0x34 ≡ true) (sym (eqb-true bit 5 five)) refl
+      | inl less ↦ elim (or_cases (bit == 2) (bit == 4) less) as (λ _. has_bit bit 0x34 ≡ true) [
+        | inl two ↦ subst (λ n. has_bit n 0x34 ≡ true) (sym (eqb-true bit 2 two)) refl
+        | inr four ↦ subst (λ n. has_bit n 0x34 ≡ true) (sym (eqb-true bit 4 four)) refl
+      ]
+    ]
+
+either_way : (taken named : Bool) → (named ≡ true → taken ≡ true) → ((taken || false) || not named) ≡ true
+either_way true named has = refl
+either_way false true has = has refl
+either_way false false has = refl
+
+taken_or_left : (x : RowId) (bit : ℕ) → (is_renewed x bit || is_left x bit) ≡ is_pooled (row_of x).bank
+taken_or_left row.Pvfmailbox bit = either_way (has_bit bit 0x34) (bit == 2 || bit == 4 || bit == 5) (mail_taken bit)
+taken_or_left row.Ctrl bit = refl
+taken_or_left other bit = refl
+
+of_taken : (taken left : Bool) → (taken || left) ≡ true → ((taken && true) || left) ≡ true
+of_taken true left is = refl
+of_taken false left is = is
+
+pub covers-pool : PoolResetTakesTheRest
 covers-pool mode v = record {
   bits = λ p bit is.
-      and_from _ _ (pooled_row p.row bit ∙ of_a_pool (row_of p.row).bank mode v p.index is) is;
-  wanted = λ dir queue is. is;
-  told = λ g is. is;
+      ap (λ own. (is_renewed p.row bit && own) || is_left p.row bit) is
+      ∙ of_taken (is_renewed p.row bit) (is_left p.row bit)
+      (taken_or_left p.row bit ∙ of_a_pool (row_of p.row).bank mode v p.index is);
+  wanted = λ dir queue is. or_left _ false is;
+  told = λ g is. or_left _ false is;
 }
-
-pub pool_word_renewed : (mode : Mode) (v : ℕ) {r new : Registers} → IsRenewed (pool_renews mode v) r new → HasShape r
-    → (p : Place) → is_of_pool mode v p ≡ true → p.index < (row_of p.row).count
-    → word_at new.words p ≡ (row_of p.row).reset
-pool_word_renewed mode v renewed h p is inside =
-    word_renewed renewed h p (λ bit. (covers-pool mode v).bits p bit is) inside

@@ -1,14 +1,14 @@
 -- Registers stay sound where a pool is reset.
-use Rattle.std.proofs.Common.{◌≡◌, ℕ, false, refl, ap, sym, ◌∙◌, subst, inl, inr}
+use Rattle.std.proofs.Common.{◌≡◌, ℕ, true, false, refl, ap, sym, ◌∙◌, subst, inl, inr}
 use Rattle.std.proofs.lemmas.Bool.{cases_Bool}
 use Rattle.register_file.specs.RegTable.Rows.{row_of}
 use Rattle.register_file.specs.RegTable.declared.bank.Bank.{Bank}
 use Rattle.register_file.specs.RegTable.declared.bank.Bank.TheVariants as bank
-use Rattle.register_file.specs.IntrUnit.BitSet.{IsSubset}
+use Rattle.register_file.specs.IntrUnit.BitSet.{contains, IsSubset}
 use Rattle.register_file.specs.IntrUnit.declared.group.Group.{Group}
 use Rattle.register_file.specs.IntrUnit.declared.group.Group.TheVariants.{Vf}
 use Rattle.register_file.proofs.IntrUnit.Subsets.{IsSubset-no_bits}
-use Rattle.register_file.specs.VfMap.Owner.{is_of_pool, is_of_pool_by}
+use Rattle.register_file.specs.VfMap.Owner.{is_of_pool_by}
 use Rattle.register_file.specs.VfMap.declared.mode.Mode.{Mode}
 use Rattle.register_file.specs.Groups.{told_by}
 use Rattle.register_file.specs.Owner.{owner_in, owner_of, is_group}
@@ -16,25 +16,28 @@ use Rattle.register_file.specs.PoolReset.{pool_reset}
 use Rattle.register_file.specs.Registers.{Registers}
 use Rattle.register_file.specs.Words.{word_at}
 use Rattle.register_file.specs.declared.owner.Owner.TheVariants as owner
-use Rattle.register_laws.specs.Footprint.{Misses, of_group, pool_changes, pending}
+use Rattle.register_laws.specs.Footprint.{Misses, of_group, pool_has, pool_renews, pending}
 use Rattle.register_laws.specs.Sound.{AreSound, bits_of_row, pending_bits}
-use Rattle.register_laws.proofs.Footprints.{word_stands, misses-within, covers-pending}
+use Rattle.register_laws.proofs.Footprints.{misses-within, covers-pending}
 use Rattle.register_laws.proofs.Owners.{is_group-same, is_owner-same}
 use Rattle.register_laws.proofs.PoolQueues.{turned}
-use Rattle.register_laws.proofs.PoolReset.{renewed-pool, within-pool_reset, pool_word_renewed}
+use Rattle.register_laws.proofs.PoolReset.{renewed-pool, within-pool_reset}
 use Rattle.register_laws.proofs.RowBits.{HaveRowBits, bits_where_inside, reset_bits}
 use Rattle.register_laws.proofs.SoundParts.{told_stands}
 
--- bits of rows
+-- bits of rows: a bit of a word is the reset value's, or as it was
 own_bits : (r : Registers) (mode : Mode) (v : ℕ) → AreSound r → HaveRowBits (pool_reset mode v r)
+unfolding contains
 own_bits r mode v sound p =
     let new = renewed-pool r mode v in
-    elim (cases_Bool (is_of_pool mode v p)) as
-    (λ _. IsSubset (word_at (pool_reset mode v r).words p) (bits_of_row p.row)) [
-      | inr out ↦ rw (word_stands (within-pool_reset r mode v) p (λ bit. out)) (sound.words p)
-      | inl in_pool ↦ bits_where_inside (pool_reset mode v r) (new.shape sound.shape) p
-          (λ b. rw (pool_word_renewed mode v new sound.shape p in_pool b) (reset_bits p.row))
-    ]
+    let word = word_at (pool_reset mode v r).words p in
+    bits_where_inside (pool_reset mode v r) (new.shape sound.shape) p (λ b. record {
+      member = λ bit h. elim (cases_Bool ((pool_renews mode v).bits p bit)) as
+          (λ _. contains (bits_of_row p.row) bit ≡ true) [
+            | inl taken ↦ (reset_bits p.row).member bit (sym (new.bits sound.shape p bit taken b) ∙ h)
+            | inr out ↦ (sound.words p).member bit (sym (new.alone.bits p bit out) ∙ h)
+          ];
+    })
 
 -- what is pending of another group isn't the pool's
 not_of_pool : (b : Bank) (mode : Mode) (v i : ℕ) (g : Group) → owner.Group g ≡ owner_in b i → is_group (Vf v) g ≡ false
@@ -45,8 +48,8 @@ not_of_pool bank.VfInterrupts mode v i g e n =
     turned i v ∙ ap (is_group (Vf v)) (sym same) ∙ n
 not_of_pool other mode v i g e n = cc
 
-others_miss : (mode : Mode) (v : ℕ) (g : Group) → is_group (Vf v) g ≡ false → Misses (pool_changes mode v) (pending g)
-others_miss mode v g n = misses-within (pool_changes mode v) (of_group g) (pending g) (covers-pending g) (record {
+others_miss : (mode : Mode) (v : ℕ) (g : Group) → is_group (Vf v) g ≡ false → Misses (pool_has mode v) (pending g)
+others_miss mode v g n = misses-within (pool_has mode v) (of_group g) (pending g) (covers-pending g) (record {
   bits =
       λ p bit is. not_of_pool (row_of p.row).bank mode v p.index g (is_owner-same (owner.Group g) (owner_of p) is) n;
   wanted = λ dir queue is. cc;
@@ -61,7 +64,7 @@ sound-pool_reset r mode v sound =
       words = own_bits r mode v sound;
       told = λ g b. elim (cases_Bool (is_group (Vf v) g)) as
           (λ _. IsSubset (told_by (pool_reset mode v r) g) (pending_bits (pool_reset mode v r) g)) [
-            | inr out ↦ told_stands (pool_changes mode v) r (pool_reset mode v r) g (others_miss mode v g out)
+            | inr out ↦ told_stands (pool_has mode v) r (pool_reset mode v r) g (others_miss mode v g out)
                 (within-pool_reset r mode v) (sound.told g b)
             | inl own ↦ subst (λ t. IsSubset t (pending_bits (pool_reset mode v r) g))
                 (sym (new.told sound.shape g own b))

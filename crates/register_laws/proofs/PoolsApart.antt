@@ -1,18 +1,21 @@
--- Pools have nothing in common.
-use Rattle.std.proofs.Common.{◌≡◌, ◌≢◌, ℕ, ◌*◌, true, false, ◌==◌, Option, Some, None, refl, sym, ◌∙◌}
-use Rattle.std.proofs.lemmas.Bool.{both_ways, eqb-true, ne_eqb}
+-- Pools have nothing in common but the physical function's cause of mailboxes.
+use Rattle.std.proofs.Common.{◌≡◌, ◌≢◌, ℕ, ◌*◌, ◌/◌, true, false, ◌==◌, Option, Some, None, refl, sym, ◌∙◌, inl, inr}
+use Rattle.std.proofs.lemmas.Bool.{both_ways, or_cases, eqb-true, ne_eqb}
 use Rattle.register_file.specs.RegTable.Rows.{row_of}
 use Rattle.register_file.specs.RegTable.declared.bank.Bank.{Bank}
 use Rattle.register_file.specs.RegTable.declared.bank.Bank.TheVariants as bank
 use Rattle.register_file.specs.IntrUnit.declared.group.Group.{Group}
 use Rattle.register_file.specs.IntrUnit.declared.group.Group.TheVariants.{Pf, Vf}
-use Rattle.register_file.specs.VfMap.Owner.{is_pool, is_of_pool_by, has_queue}
+use Rattle.register_file.specs.VfMap.Owner.{is_pool, is_of_pool, is_of_pool_by, has_queue}
 use Rattle.register_file.specs.VfMap.Pools.{pool_of}
 use Rattle.register_file.specs.VfMap.declared.mode.Mode.{Mode}
+use Rattle.register_file.specs.Mailbox.{by_sending}
 use Rattle.register_file.specs.Owner.{is_group}
-use Rattle.register_laws.specs.Agreement.{PoolsHaveNothingInCommon, MissedAgreementStands}
-use Rattle.register_laws.specs.Footprint.{Misses, all_of, pool_agrees, pool_changes}
+use Rattle.register_laws.specs.Agreement.{IsShared, PoolsHaveNothingInCommon, MissedAgreementStands}
+use Rattle.register_laws.specs.Footprint.{Misses, pool_has, pool_changes}
+use Rattle.register_laws.proofs.Covers.{misses-either}
 use Rattle.register_laws.proofs.Footprints.{word_stands}
+use Rattle.register_laws.proofs.MailPools.{sending_misses, sending_apart}
 
 -- what is one number isn't another
 not_both : (v w n : ℕ) → v ≢ w → (n == w) ≡ true → (n == v) ≡ false
@@ -36,21 +39,34 @@ place_missed bank.VfInterrupts mode v w i apart is = not_both v w i apart is
 place_missed bank.Pool mode v w i apart is = not_both v w i apart is
 place_missed bank.VfCounters mode v w i apart is = not_both v w i apart is
 place_missed bank.Vectors mode v w i apart is = queue_missed mode v w (2 * i) apart is
+place_missed bank.Messages mode v w i apart is = not_both v w (i / 16) apart is
 
 group_missed : (v w : ℕ) (g : Group) → v ≢ w → is_group (Vf w) g ≡ true → is_group (Vf v) g ≡ false
 group_missed v w Pf apart is = refl
 group_missed v w (Vf u) apart is = ne_eqb v u (λ same. apart (same ∙ sym (eqb-true w u is)))
 
-pub pools_miss : (mode : Mode) (v w : ℕ) → v ≢ w → Misses (pool_changes mode v) (all_of (pool_agrees mode w))
-pools_miss mode v w apart = record {
+pools_have_apart : (mode : Mode) (v w : ℕ) → v ≢ w → Misses (pool_has mode v) (pool_has mode w)
+pools_have_apart mode v w apart = record {
   bits = λ p bit is. place_missed (row_of p.row).bank mode v w p.index apart is;
   wanted = λ dir queue is. queue_missed mode v w queue apart is;
   told = λ g is. group_missed v w g apart is;
 }
 
+pub pools_miss : (mode : Mode) (v w : ℕ) → v ≢ w → Misses (pool_changes mode v) (pool_has mode w)
+pools_miss mode v w apart =
+    misses-either (pool_has mode v) (by_sending v) (pool_has mode w) (pools_have_apart mode v w apart)
+    (sending_misses mode v w)
+
 pub pools_apart : PoolsHaveNothingInCommon
 pools_apart mode v w apart = record {
-  bits = λ p bit own others. both_ways _ (place_missed (row_of p.row).bank mode v w p.index apart others) own;
+  bits = λ p bit own others. elim (or_cases (is_of_pool mode w p) ((by_sending w).bits p bit) others) as
+      (λ _. IsShared p bit) [
+        | inl has ↦ absurd (both_ways _ ((pools_miss mode v w apart).bits p bit has) own)
+        | inr sends ↦ elim (or_cases (is_of_pool mode v p) ((by_sending v).bits p bit) own) as (λ _. IsShared p bit) [
+          | inl has ↦ absurd (both_ways _ ((sending_misses mode w v).bits p bit has) sends)
+          | inr mine ↦ sending_apart v w apart p bit mine sends
+        ]
+      ];
   seen = pools_miss mode v w apart;
 }
 

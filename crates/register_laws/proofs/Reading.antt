@@ -27,55 +27,55 @@ use Rattle.register_laws.proofs.SoundParts.{sound-put, sound_group}
 use Rattle.register_laws.proofs.WithinParts.{within-put, within_group}
 
 -- registers that agree of a pool do so after the same change at one of its places
-abbrev pub KeepsAgreement : (Registers → Place → Registers) → Type 0
-KeepsAgreement change =
+abbrev pub KeepsAgreement : Kind → (Registers → Place → Registers) → Type 0
+KeepsAgreement k change =
     (mode : Mode) (v : ℕ) (a b : Registers) → HasShape a → HasShape b → AgreeWithin (pool_agrees mode v) a b →
-    (p : Place) → is_of_pool mode v p ≡ true → AgreeWithin (pool_agrees mode v) (change a p) (change b p)
+    (p : Place) → (row_of p.row).kind ≡ k → is_of_pool mode v p ≡ true → AgreeWithin (pool_agrees mode v) (change a p) (change b p)
 
 -- a read stays within what it may change, which is the owner's of its place, has nothing of another place that is
 -- alone, and nothing of a side; it keeps registers sound, and agreement of a pool
 pub record KeepsReading (k : Kind) (leaves : Registers → Place → Registers) (by : Place → Footprint) : Type 0 where
   pub within : (r : Registers) (p : Place) → ChangesWithin (by p) r (leaves r p)
-  pub owned : (p : Place) → Covers (of_owner (owner_of p)) (by p)
+  pub owned : (p : Place) → (row_of p.row).kind ≡ k → Covers (of_owner (owner_of p)) (by p)
   pub calm : (p q : Place) → is_place p q ≡ false → is_alone (row_of q.row).kind ≡ true → LacksWord (by p) q
   pub no_side : (p : Place) → (row_of p.row).kind ≡ k → (dir : Dir) (queue : ℕ) → Misses (by p) (of_side dir queue)
   pub sound : (r : Registers) (p : Place) → (row_of p.row).kind ≡ k → AreSound r → AreSound (leaves r p)
-  pub agree : KeepsAgreement leaves
+  pub agree : KeepsAgreement k leaves
 
 -- one that changes nothing
 pub quiet_read : (k : Kind) → KeepsReading k (λ r p. r) (λ p. nothing)
 quiet_read k = record {
   within = λ r p. within-refl nothing r;
-  owned = λ p. covers-nothing _;
+  owned = λ p e. covers-nothing _;
   calm = λ p q n alone bit. refl;
   no_side = λ p e dir queue. misses-nothing _;
   sound = λ r p e sound. sound;
-  agree = λ mode v a b ha hb same p is. same;
+  agree = λ mode v a b ha hb same p e is. same;
 }
 
 -- one that starts a counter again from 0
 pub counter_read : KeepsReading kind.Rc (λ r p. record r { words = put r.words p 0 }) the_word
 counter_read = record {
   within = λ r p. within-put (the_word p) r p 0 (λ bit. is_place-itself p);
-  owned = covers-the_word;
+  owned = λ p e. covers-the_word p;
   calm = λ p q n alone bit. n;
   no_side = λ p e dir queue.
       misses-narrower (of_owner (owner_of p)) (the_word p) (of_side dir queue) (covers-the_word p)
       (misses-owner (owner_of p) (owner.Side dir queue)
       (ap (λ o. is_owner o (owner.Side dir queue)) (counters_own p e)));
   sound = λ r p e sound. sound-put r p 0 sound (IsSubset-no_bits _) (ap is_pending e);
-  agree = λ mode v a b ha hb same p is. agree-put (pool_agrees mode v) a b ha hb same p 0 0 refl;
+  agree = λ mode v a b ha hb same p e is. agree-put (pool_agrees mode v) a b ha hb same p 0 0 refl;
 }
 
 -- one of a group's causes
 pub causes_read : (k : Kind) → KeepsReading k (λ r p. in_group r p (group_read r)) (λ p. pending_of (owner_of p))
 causes_read k = record {
   within = λ r p. within_group r (group_read r) (change-group_read r) (owner_of p);
-  owned = λ p. covers-pending_of (owner_of p);
+  owned = λ p e. covers-pending_of (owner_of p);
   calm = λ p q n alone. alone_pending_of q alone (owner_of p);
   no_side = λ p e dir queue. pending_misses_sides (owner_of p) dir queue;
   sound = λ r p e sound. sound_group r (group_read r) sound (change-group_read r) (group_in (owner_of p));
-  agree = λ mode v a b ha hb same p is.
+  agree = λ mode v a b ha hb same p e is.
       agree-in_group mode v a b same ha hb p (group_read a) (group_read b) is
       (agree-group_read mode v a b same ha hb);
 }

@@ -86,6 +86,21 @@ IsSubset-merged mask old new outer kept taken = within_by (merged mask old new) 
       | inr given ↦ bit_of mask outer taken k given
     ])
 
+-- a set joined to another is within what has both
+joined_digit : (a b : ℕ) → max a b ≡ 1 → a < 2 → b < 2 → (a ≡ 1) ⊎ (b ≡ 1)
+joined_digit a b h sa sb = elim (cases_lt a 1) [
+  | inl none ↦ inr (omega arith)
+  | inr one ↦ inl (omega arith)
+]
+
+pub IsSubset-or : (a b outer : ℕ) → IsSubset a outer → IsSubset b outer → IsSubset (bit_or a b) outer
+IsSubset-or a b outer first second = within_by (bit_or a b) outer (λ k h.
+    elim (joined_digit (bit_at a k) (bit_at b k) (sym (bit_at_or a b k) ∙ h) (bit_at-lt a k) (bit_at-lt b k))
+    as (λ _. bit_at outer k ≡ 1) [
+      | inl own ↦ bit_of a outer first k own
+      | inr other ↦ bit_of b outer second k other
+    ])
+
 -- the common bits with a set that a word is within are the word
 shared : (x y : ℕ) → x < 2 → (x ≡ 1 → y ≡ 1) → min x y ≡ x
 shared x y small h = elim (cases_lt x 1) as (λ _. min x y ≡ x) [

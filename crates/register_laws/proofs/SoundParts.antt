@@ -82,14 +82,14 @@ sound-with_wanted r dir queue wanted sound = record {
 }
 
 -- interrupts of a group
-others_miss : (g h : Group) → is_group h g ≡ false → Misses (pending h) (pending g)
+pub others_miss : (g h : Group) → is_group h g ≡ false → Misses (pending h) (pending g)
 others_miss g h other =
     misses-narrower (of_group h) (pending h) (pending g) (covers-pending h)
     (misses-within (of_group h) (of_group g) (pending g) (covers-pending g)
     (misses-owner (owner.Group h) (owner.Group g) other))
 
 -- a group's causes and masks have only bits of the group
-cause_bits : (g : Group) → bits_of_row (cause_row g) ≡ group_bits g
+pub cause_bits : (g : Group) → bits_of_row (cause_row g) ≡ group_bits g
 cause_bits Pf = (masks Pf).0
 cause_bits (Vf v) = (masks (Vf v)).0
 

@@ -22,7 +22,7 @@ use Rattle.register_laws.proofs.Shape.{put_stands, HasShape-put}
 use Rattle.register_laws.proofs.Fields.{words-with_told}
 use Rattle.register_laws.proofs.WithinParts.{within-with_interrupts}
 
-cause_index : (g : Group) → index_of g < 64 → index_of g < (row_of (cause_row g)).count
+pub cause_index : (g : Group) → index_of g < 64 → index_of g < (row_of (cause_row g)).count
 cause_index Pf b = lit< tt
 cause_index (Vf v) b = b
 
@@ -30,7 +30,7 @@ mask_index : (g : Group) → index_of g < 64 → index_of g < (row_of (mask_row 
 mask_index Pf b = lit< tt
 mask_index (Vf v) b = b
 
-cause_not_mask : (g : Group) → place (cause_row g) (index_of g) ≢ place (mask_row g) (index_of g)
+pub cause_not_mask : (g : Group) → place (cause_row g) (index_of g) ≢ place (mask_row g) (index_of g)
 cause_not_mask Pf e = let same : Eicr ≡ Eims = ap (λ (q : Place). q.row) e in cc
 cause_not_mask (Vf v) e = let same : Pvteicr ≡ Pvteims = ap (λ (q : Place). q.row) e in cc
 

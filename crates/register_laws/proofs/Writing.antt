@@ -11,7 +11,7 @@ use Rattle.register_file.specs.Access.{group_in, in_group, is_running, asked, st
 use Rattle.register_file.specs.Bits.{has_bit}
 use Rattle.register_file.specs.Owner.{owner_of}
 use Rattle.register_file.specs.Registers.{Registers}
-use Rattle.register_laws.specs.Footprint.{Footprint, LacksWord, ChangesWithin, Covers, nothing, is_place, the_word, the_enable, of_owner, pending_of, pool_agrees, is_pending, is_alone}
+use Rattle.register_laws.specs.Footprint.{Footprint, LacksWord, ChangesWithin, Covers, nothing, is_place, the_word, the_enable, of_owner, pending_of, pool_agrees, is_pending, is_alone, is_own}
 use Rattle.register_laws.specs.Sound.{AreSound, bits_of_kind}
 use Rattle.register_laws.proofs.Agreeing.{agree-if}
 use Rattle.register_laws.proofs.Covers.{covers-nothing, covers-the_word, covers-the_enable}
@@ -24,25 +24,25 @@ use Rattle.register_laws.proofs.Reading.{KeepsAgreement}
 use Rattle.register_laws.proofs.SoundParts.{sound-if, sound-stored, sound-asked, sound_group}
 use Rattle.register_laws.proofs.WithinParts.{within-stored, within-asked, within_group}
 
--- a write stays within what it may change, which is the owner's of its place and has nothing of another place that is
--- alone; it keeps registers sound, and agreement of a pool
+-- a write stays within what it may change, which is the owner's of its place where the kind says so, and has nothing of
+-- another place that is alone; it keeps registers sound, and agreement of a pool
 pub record KeepsWriting (k : Kind) (written : Registers → Place → ℕ → ℕ → Registers) (by : Place → Footprint)
     : Type 0 where
   pub within : (r : Registers) (p : Place) (view word : ℕ) → ChangesWithin (by p) r (written r p view word)
-  pub owned : (p : Place) → Covers (of_owner (owner_of p)) (by p)
+  pub owned : is_own k ≡ true → (p : Place) → (row_of p.row).kind ≡ k → Covers (of_owner (owner_of p)) (by p)
   pub calm : (p q : Place) → is_place p q ≡ false → is_alone (row_of q.row).kind ≡ true → LacksWord (by p) q
   pub sound : (r : Registers) (p : Place) → (row_of p.row).kind ≡ k → AreSound r → (view word : ℕ)
       → AreSound (written r p view word)
-  pub agree : (view word : ℕ) → KeepsAgreement (λ r p. written r p view word)
+  pub agree : (view word : ℕ) → KeepsAgreement k (λ r p. written r p view word)
 
 -- one that changes nothing
 pub no_write : (k : Kind) → KeepsWriting k (λ r p view word. r) (λ p. nothing)
 no_write k = record {
   within = λ r p view word. within-refl nothing r;
-  owned = λ p. covers-nothing _;
+  owned = λ own p e. covers-nothing _;
   calm = λ p q n alone bit. refl;
   sound = λ r p e sound view word. sound;
-  agree = λ view word mode v a b ha hb same p is. same;
+  agree = λ view word mode v a b ha hb same p e is. same;
 }
 
 -- a row of the kind can have all bits of its mask
@@ -54,10 +54,10 @@ pub stored_write : (k : Kind) (taken : ℕ → ℕ) → is_pending k ≡ false �
     → KeepsWriting k (λ r p view word. stored r p view (taken word)) the_word
 stored_write k taken steady has = record {
   within = λ r p view word. within-stored (the_word p) r p view (taken word) (λ bit. is_place-itself p);
-  owned = covers-the_word;
+  owned = λ own p e. covers-the_word p;
   calm = λ p q n alone bit. n;
   sound = λ r p e sound view word. sound-stored k r p view (taken word) e steady (has p.row) sound;
-  agree = λ view word mode v a b ha hb same p is. agree-stored mode v a b same ha hb p view (taken word) is;
+  agree = λ view word mode v a b ha hb same p e is. agree-stored mode v a b same ha hb p view (taken word) is;
 }
 
 -- a ring's word is stored while its side is off
@@ -67,12 +67,12 @@ held_write k steady has = record {
   within = λ r p view word.
       within-if (the_word p) (is_running r (owner_of p)) r r (stored r p view word) (within-refl (the_word p) r)
       (within-stored (the_word p) r p view word (λ bit. is_place-itself p));
-  owned = covers-the_word;
+  owned = λ own p e. covers-the_word p;
   calm = λ p q n alone bit. n;
   sound = λ r p e sound view word.
       sound-if (is_running r (owner_of p)) r (stored r p view word) sound
       (sound-stored k r p view word e steady (has p.row) sound);
-  agree = λ view word mode v a b ha hb same p is.
+  agree = λ view word mode v a b ha hb same p e is.
       agree-if (pool_agrees mode v) (is_running a (owner_of p)) (is_running b (owner_of p)) a b (stored a p view word)
       (stored b p view word) (running_at mode v a b same ha hb p is) same
       (agree-stored mode v a b same ha hb p view word is);
@@ -86,12 +86,12 @@ enable_write k steady has = record {
       within-trans (the_enable p) r (stored r p view word) (asked (stored r p view word) (owner_of p) (has_bit 25 word))
       (within-stored (the_enable p) r p view word (λ bit. is_place-itself p))
       (within-asked (the_enable p) (stored r p view word) (owner_of p) (has_bit 25 word) (λ dir queue is. is));
-  owned = covers-the_enable;
+  owned = λ own p e. covers-the_enable p;
   calm = λ p q n alone bit. n;
   sound = λ r p e sound view word.
       sound-asked (stored r p view word) (owner_of p) (has_bit 25 word)
       (sound-stored k r p view word e steady (has p.row) sound);
-  agree = λ view word mode v a b ha hb same p is.
+  agree = λ view word mode v a b ha hb same p e is.
       agree-asked mode v a b same ha hb p view word is (owner_of p) (has_bit 25 word);
 }
 
@@ -102,12 +102,12 @@ pub group_write : (k : Kind) (change : Registers → Group → ℕ → Registers
 group_write k change each agree = record {
   within = λ r p view word.
       within_group r (λ g. change r g (bit_and word view)) (λ g. each r g (bit_and word view)) (owner_of p);
-  owned = λ p. covers-pending_of (owner_of p);
+  owned = λ own p e. covers-pending_of (owner_of p);
   calm = λ p q n alone. alone_pending_of q alone (owner_of p);
   sound = λ r p e sound view word.
       sound_group r (λ g. change r g (bit_and word view)) sound (λ g. each r g (bit_and word view))
       (group_in (owner_of p));
-  agree = λ view word mode v a b ha hb same p is.
+  agree = λ view word mode v a b ha hb same p e is.
       agree-in_group mode v a b same ha hb p (λ g. change a g (bit_and word view)) (λ g. change b g (bit_and word view))
       is (agree mode v a b ha hb same (bit_and word view));
 }

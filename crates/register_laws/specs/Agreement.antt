@@ -5,14 +5,16 @@ use Rattle.register_file.specs.RegTable.declared.place.Place.{Place}
 use Rattle.register_file.specs.VfMap.Owner.{is_of_pool, is_shared}
 use Rattle.register_file.specs.VfMap.declared.mode.Mode.{Mode}
 use Rattle.register_file.specs.Access.{read_word, after_read}
+use Rattle.register_file.specs.Mailbox.{is_mail_cause}
 use Rattle.register_file.specs.PoolReset.{pool_reset}
 use Rattle.register_file.specs.Registers.{Registers}
 use Rattle.register_file.specs.Settings.{is_stopped}
 use Rattle.register_file.specs.declared.surroundings.Surroundings.{Surroundings}
-use Rattle.register_laws.specs.Footprint.{Footprint, Part, ChangesWithin, Covers, Misses, AgreeWithin, all_of, pool_agrees, pool_changes, of_read, of_write}
+use Rattle.register_laws.specs.Footprint.{Footprint, Part, ChangesWithin, Covers, Misses, AgreeWithin, all_of, pool_agrees, pool_has, pool_changes, of_read, of_write}
 use Rattle.register_laws.specs.Laws.{HasShape, after_write}
 
--- an access of a pool's place, where it asks for no reset, may change nothing but what is the pool's
+-- an access of a pool's place, where it asks for no reset, may change nothing but what is the pool's, the bits of its
+-- function in PFMBICR and the physical function's cause of mailboxes
 abbrev pub PoolReadsStayWithin : Type 0
 PoolReadsStayWithin =
     (mode : Mode) (v : ℕ) (p : Place) → IsTrue (is_of_pool mode v p) → Covers (pool_changes mode v) (of_read p)
@@ -58,21 +60,21 @@ PoolWritesKeepAgreement =
     (p : Place) → IsTrue (is_of_pool mode v p) → (view word : ℕ) →
     AgreeWithin (pool_agrees mode v) (after_write a p view word) (after_write b p view word)
 
-abbrev pub PoolResetMakesAgreement : Type 0
-PoolResetMakesAgreement =
-    (mode : Mode) (v : ℕ) (a b : Registers) → HasShape a → HasShape b →
+abbrev pub PoolResetKeepsAgreement : Type 0
+PoolResetKeepsAgreement =
+    (mode : Mode) (v : ℕ) (a b : Registers) → HasShape a → HasShape b → AgreeWithin (pool_agrees mode v) a b →
     AgreeWithin (pool_agrees mode v) (pool_reset mode v a) (pool_reset mode v b)
 
--- the bits that accesses of two pools may both change: none
+-- the bits that accesses of two pools may both change: the physical function's cause of mailboxes, EICR bit 19
 abbrev pub IsShared : Place → ℕ → Type 0
-IsShared p bit = ⊥
+IsShared p bit = IsTrue (is_mail_cause p bit)
 
 -- what accesses of a pool may change shares no bit with what those of another may change, and has nothing of what must
 -- agree of the other
 pub record ArePoolsApart (mode : Mode) (v w : ℕ) : Type 0 where
   pub bits : (p : Place) (bit : ℕ) → IsTrue ((pool_changes mode v).bits p bit)
       → IsTrue ((pool_changes mode w).bits p bit) → IsShared p bit
-  pub seen : Misses (pool_changes mode v) (all_of (pool_agrees mode w))
+  pub seen : Misses (pool_changes mode v) (pool_has mode w)
 
 abbrev pub PoolsHaveNothingInCommon : Type 0
 PoolsHaveNothingInCommon = (mode : Mode) (v w : ℕ) → v ≢ w → ArePoolsApart mode v w

@@ -1,6 +1,8 @@
 -- What the reset of a pool promises.
-use Rattle.std.specs.Prelude.{ℕ, ◌≡◌, ◌<◌, IsTrue, IsFalse}
-use Rattle.register_file.specs.RegTable.Rows.{row_of}
+use Rattle.std.specs.Prelude.{ℕ, ◌≡◌, ◌<◌, ◌==◌, Bool, not, ◌&&◌, ◌||◌, IsTrue, IsFalse}
+use Rattle.register_file.specs.RegTable.Rows.{row_of, number_of}
+use Rattle.register_file.specs.RegTable.declared.rows.RowId.{RowId}
+use Rattle.register_file.specs.RegTable.declared.rows.RowId.TheVariants.{Pfmbmem, Pvfmailbox}
 use Rattle.register_file.specs.RegTable.declared.place.Place.{Place}
 use Rattle.register_file.specs.IntrUnit.declared.group.Group.{Group}
 use Rattle.register_file.specs.VfMap.declared.mode.Mode.{Mode}
@@ -10,7 +12,7 @@ use Rattle.register_file.specs.PoolReset.{pool_reset}
 use Rattle.register_file.specs.Registers.{Registers, is_wanted}
 use Rattle.register_file.specs.Words.{word_at}
 use Rattle.register_file.specs.DmaRing.declared.dir.Dir.{Dir}
-use Rattle.register_laws.specs.Footprint.{Footprint, ChangesWithin, Covers, pool_changes, pool_renews}
+use Rattle.register_laws.specs.Footprint.{Footprint, ChangesWithin, Covers, nothing, either, pool_has, pool_renews}
 use Rattle.register_laws.specs.Sound.{HasShape, AreSound}
 
 -- all that a footprint has is as a reset leaves it: bits of the words at places of the table, sides of the 128 queues,
@@ -30,9 +32,18 @@ abbrev pub PoolResetStaysWithin : Type 0
 PoolResetStaysWithin =
     (r : Registers) (mode : Mode) (v : ℕ) → ChangesWithin (pool_renews mode v) r (pool_reset mode v r)
 
--- it takes all that accesses of the pool may change
-abbrev pub PoolResetTakesAll : Type 0
-PoolResetTakesAll = (mode : Mode) (v : ℕ) → Covers (pool_renews mode v) (pool_changes mode v)
+-- what it leaves of a mailbox: the memory, and of the word all but bits 2, 4 and 5
+abbrev pub is_left : RowId → (bit : ℕ) → Bool
+is_left row bit =
+    (number_of row == number_of Pfmbmem)
+    || (number_of row == number_of Pvfmailbox && not (bit == 2 || bit == 4 || bit == 5))
+
+abbrev pub mail_left : Footprint
+mail_left = record nothing { bits = λ p bit. is_left p.row bit }
+
+-- all else that is the pool's it takes
+abbrev pub PoolResetTakesTheRest : Type 0
+PoolResetTakesTheRest = (mode : Mode) (v : ℕ) → Covers (either (pool_renews mode v) mail_left) (pool_has mode v)
 
 -- registers stay sound
 abbrev pub PoolResetKeepsSound : Type 0

@@ -9,8 +9,8 @@
 
 ghost use Rattle.register_laws.specs.Laws.{ResetIsSound, ReadKeepsSound, WriteKeepsSound, CountKeepsSound, CountWrappingKeepsSound, AnswerKeepsSound, RaiseKeepsSound, QueueRaiseKeepsSound, MessageKeepsSound, HeadKeepsSound, SwitchKeepsSound, ShutKeepsSound, ResetGivesResetValues, ResetSwitchesOff, ResetTellsNothing, PutWordIsThere, PutWordIsAlone, GroupBitsAreMasks, StoredWordReadsBack, ReadStaysWithin, WriteStaysWithin, CountStaysWithin, CountWrappingStaysWithin, AnswerStaysWithin, RaiseStaysWithin, QueueRaiseStaysWithin, MessageStaysWithin, HeadStaysWithin, SwitchStaysWithin, ShutStaysWithin, ReadStaysWithOwner, WriteStaysWithOwner, OwnersAreApart, OwnersDiffer, WordIsOnePlace, PendingIsPending, CountersAreTheirOwn, PendingMissesSides, ReadMissesSides, MissedReceiveStands, MissedTransmitStands, MissedInterruptsStand, MissedSettingsStand, HeadMovesReceive, HeadMovesTransmit, SwitchObeysReceive, SwitchObeysTransmit, SwitchedSideStays, ShutIsOffReceive, ShutIsOffTransmit, RingIsHeldWhileOn, WrittenReceiveIsTheSides, WrittenTransmitIsTheSides, EnableWriteAsksReceive, EnableWriteAsksTransmit, EnableReadTellsOn, CountersCount, ReadOnlyCountersGoRound, CalculatedRowsHaveFormulas, EepromAnswerIsRead, InterruptsStand};
 ghost use Rattle.register_laws.specs.SoundWords.{SoundWordsAreSmall, ActingWordsAreNone, NoWordAsksReset, RingsAreAligned};
-ghost use Rattle.register_laws.specs.PoolReset.{PoolIsReset, PoolResetTakesAll, PoolResetStaysWithin, PoolResetKeepsSound};
-ghost use Rattle.register_laws.specs.Agreement.{PoolReadsStayWithin, PoolWritesStayWithin, SharedReadsChangeNothing, SharedWritesChangeNothing, PoolReadsTellTheSame, SharedReadsTellTheSame, PoolReadsKeepAgreement, PoolWritesKeepAgreement, PoolResetMakesAgreement, PoolsHaveNothingInCommon, MissedAgreementStands};
+ghost use Rattle.register_laws.specs.PoolReset.{PoolIsReset, PoolResetTakesTheRest, PoolResetStaysWithin, PoolResetKeepsSound};
+ghost use Rattle.register_laws.specs.Agreement.{PoolReadsStayWithin, PoolWritesStayWithin, SharedReadsChangeNothing, SharedWritesChangeNothing, PoolReadsTellTheSame, SharedReadsTellTheSame, PoolReadsKeepAgreement, PoolWritesKeepAgreement, PoolResetKeepsAgreement, PoolsHaveNothingInCommon, MissedAgreementStands};
 
 /// Registers are sound after a reset and through every change: they have each place of the table, in each word only
 /// bits that its row can have, and told bits only where cause and mask are 1.
@@ -167,11 +167,11 @@ pub fn interrupts_stand()
     ensures { InterruptsStand }
 {}
 
-/// After a reset of a pool all that it takes is as a reset leaves it, it takes all that is the pool's, all else is as it
-/// was, and the registers are sound where they were.
+/// After a reset of a pool all that it takes is as a reset leaves it, it takes all that is the pool's but what it leaves
+/// of the mailbox, all else is as it was, and the registers are sound where they were.
 pub fn reset_pool_is_reset()
     ensures reset { PoolIsReset }
-    ensures all { PoolResetTakesAll }
+    ensures rest { PoolResetTakesTheRest }
     ensures alone { PoolResetStaysWithin }
     ensures sound { PoolResetKeepsSound }
 {}
@@ -193,7 +193,7 @@ pub fn pool_accesses_tell_of_the_pool()
     ensures shared_word { SharedReadsTellTheSame }
     ensures read { PoolReadsKeepAgreement }
     ensures write { PoolWritesKeepAgreement }
-    ensures reset { PoolResetMakesAgreement }
+    ensures reset { PoolResetKeepsAgreement }
 {}
 
 /// Two pools have nothing in common, and what two register files agree in stands through changes that have nothing of

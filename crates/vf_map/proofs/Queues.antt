@@ -10,12 +10,13 @@ use Rattle.vf_map.specs.declared.mode.Mode.TheVariants.{Off, Pools16, Pools32, P
 use Rattle.vf_map.specs.declared.located.Located.TheVariants.{Register}
 use Rattle.vf_map.specs.Pools.{pools_in, queues_each, most_queues, queues_of, pool_of}
 use Rattle.vf_map.specs.Owner.{is_receive, is_transmit}
-use Rattle.vf_map.specs.Map.{behind, own_entries, receive_rows, transmit_rows, located}
+use Rattle.vf_map.specs.Map.{behind, own_entries, message_entries, function_entries, receive_rows, transmit_rows, located}
 use Rattle.vf_map.specs.Parts.{place_at, of_queue, located_at, queues_entries, row_behind}
 use Rattle.vf_map.specs.Laws.{EachQueueHasOnePool, QueueRegistersAreThere}
+use Rattle.vf_map.proofs.Chains.{in_second}
 use Rattle.vf_map.proofs.Inverse.{Some-one, inverse, pool_within}
 use Rattle.vf_map.proofs.Numbers.{few_each}
-use Rattle.vf_map.proofs.Places.{vector_there, vector_absent, receive_at, transmit_at}
+use Rattle.vf_map.proofs.Places.{message_absent, vector_there, vector_absent, receive_at, transmit_at}
 use Rattle.vf_map.proofs.Whole.{entries_vector, entries_queues, located_some}
 
 -- ---- how many
@@ -101,6 +102,8 @@ own_absent v o high other =
       ne_eqb 0x010C o (omega arith),
       ne_eqb 0x0110 o (omega arith),
       ne_eqb 0x0114 o (omega arith),
+      ne_eqb 0x0140 o (omega arith),
+      ne_eqb 0x02FC o (omega arith),
       ne_eqb 0x0300 o (omega arith),
       ne_eqb 0x101C o (omega arith),
       ne_eqb 0x201C o (omega arith),
@@ -119,10 +122,23 @@ own_no_vector v w small =
       ne_eqb 0x010C (0x120 + 4 * w) (omega arith),
       ne_eqb 0x0110 (0x120 + 4 * w) (omega arith),
       ne_eqb 0x0114 (0x120 + 4 * w) (omega arith),
+      ne_eqb 0x0140 (0x120 + 4 * w) (omega arith),
+      ne_eqb 0x02FC (0x120 + 4 * w) (omega arith),
       ne_eqb 0x0300 (0x120 + 4 * w) (omega arith),
       ne_eqb 0x101C (0x120 + 4 * w) (omega arith),
       ne_eqb 0x201C (0x120 + 4 * w) (omega arith),
     ) refl
+
+-- nor words of its mailbox memory
+function_absent : (v o : ℕ) → 0x1000 ≤ o → o % 0x40 ≢ 0x1C → place_at (function_entries v) o ≡ None
+function_absent v o high other =
+    in_second (own_entries v) (message_entries v) o (own_absent v o high other)
+    ∙ message_absent v o (λ w few is. omega arith)
+
+function_no_vector : (v w : ℕ) → w < 4 → place_at (function_entries v) (0x120 + 4 * w) ≡ None
+function_no_vector v w small =
+    in_second (own_entries v) (message_entries v) (0x120 + 4 * w) (own_no_vector v w small)
+    ∙ message_absent v (0x120 + 4 * w) (λ x few is. omega arith)
 
 module _ (mode : Mode) (vfs v first count x : ℕ) (there : v < vfs) (pool : queues_of mode v ≡ Some (first, count)) where
   few : count ≤ most_queues
@@ -133,7 +149,7 @@ module _ (mode : Mode) (vfs v first count x : ℕ) (there : v < vfs) (pool : que
   at o p high other is =
       located_some mode vfs v o first count there pool
       ∙ ap located_at
-      (entries_queues v first count o (own_absent v o high other)
+      (entries_queues v first count o (function_absent v o high other)
       (vector_absent first count o (λ w less. let small = few in omega (arith, small)))
       ∙ is)
 
@@ -167,7 +183,7 @@ module _ (mode : Mode) (vfs v first count x : ℕ) (there : v < vfs) (pool : que
       let here : (o - 0x120) / 4 ≡ x = omega arith in
       located_some mode vfs v o first count there pool
       ∙ ap located_at
-      (entries_vector v first count o _ (own_no_vector v x (omega (arith, small, low)))
+      (entries_vector v first count o _ (function_no_vector v x (omega (arith, small, low)))
       (vector_there first count o (omega arith) (omega arith) (omega (arith, low))))
       ∙ ap (λ n. Register (record { row = Pvtivar; index = first / 2 + n })) here
 

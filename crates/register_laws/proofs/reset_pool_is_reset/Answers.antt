@@ -11,8 +11,8 @@ returns-clause-reset c =
 pub returns-clause-alone : goal.returns-clause-alone
 returns-clause-alone c = λ r mode v. (renewed-pool r mode v).alone
 
-pub returns-clause-all : goal.returns-clause-all
-returns-clause-all c = covers-pool
+pub returns-clause-rest : goal.returns-clause-rest
+returns-clause-rest c = covers-pool
 
 pub returns-clause-sound : goal.returns-clause-sound
 returns-clause-sound c = λ r sound mode v. sound-pool_reset r mode v sound

@@ -3,7 +3,6 @@ use Rattle.std.proofs.Common.{◌≡◌, ◌≢◌, ◌∙◌, ℕ, false, cond,
 use Rattle.std.specs.Prelude.{IsFalse}
 use Rattle.std.proofs.lemmas.Bool.{cases_Bool}
 use Rattle.nic_device.specs.RegTable.Rows.{row_of}
-use Rattle.nic_device.specs.RegTable.declared.kind.Kind.{Kind}
 use Rattle.nic_device.specs.RegTable.declared.kind.Kind.TheVariants as kind
 use Rattle.nic_device.specs.RegTable.declared.place.Place.{Place}
 use Rattle.nic_device.specs.RegisterFile.Access.{asks_reset, asks_pool_reset}
@@ -13,39 +12,34 @@ use Rattle.nic_device.specs.RegisterFile.Owner.{owner_in}
 use Rattle.nic_device.specs.VfMap.Owner.{is_of_pool_by}
 use Rattle.nic_device.specs.VfMap.declared.mode.Mode.{Mode}
 use Rattle.nic_device.proofs.Cases.{either_way}
-use Rattle.nic_device.specs.RegisterFile.Owner.{owner_of, is_owner}
+use Rattle.nic_device.specs.RegisterFile.Owner.{is_owner}
 use Rattle.nic_device.specs.DmaRing.declared.dir.Dir.{Dir}
 use Rattle.nic_device.specs.DmaRing.declared.dir.Dir.TheVariants.{Rx, Tx}
 use Rattle.nic_device.specs.RegisterFile.declared.owner.Owner.TheVariants as owner
-use Rattle.nic_device.specs.RegisterLaws.Footprint.{LacksWord, is_pending, is_place, pool_changes, of_write, read_by, written_by}
-use Rattle.nic_device.proofs.RegisterLaws.Accessed.{none_pending_of, none_written_by}
-use Rattle.nic_device.proofs.RegisterLaws.Owners.{is_place-same}
+use Rattle.nic_device.specs.RegisterLaws.Footprint.{LacksWord, is_alone, is_place, pool_changes, of_write, written_by}
+use Rattle.nic_device.proofs.RegisterLaws.Accessed.{none_read_by, none_written_by}
+use Rattle.nic_device.proofs.RegisterLaws.Owners.{is_place-other, is_place-same}
 use Rattle.nic_device.proofs.RegisterLaws.NoSide.{counters_own}
 use Rattle.nic_device.proofs.RegisterLaws.Covers.{lacks-renewed}
-use Rattle.nic_device.proofs.RegisterLaws.ReadBack.{one_place}
 use Rattle.nic_device.specs.Footprint.{Reach, read_reach, write_reach, reset_reach, below_reset_reach, switch_reach}
 use Rattle.nic_device.specs.declared.named.Named.{Named}
 use Rattle.nic_device.specs.declared.named.Named.TheVariants.{Nothing, Register}
 
 -- what no other event may change: a counter that it doesn't read
 
-not_read : (k : Kind) (q p : Place) → (row_of p.row).kind ≡ kind.Rc → p ≢ q → LacksWord (read_by k q) p
-not_read kind.Rc q p is n = one_place q p n
-not_read kind.Cause q p is n = none_pending_of p (ap is_pending is) (owner_of q)
-not_read other q p is n = λ bit. refl
-
 not_written : (q p : Place) → (row_of p.row).kind ≡ kind.Rc → LacksWord (of_write q) p
 not_written q p is bit =
     elim (cases_Bool (is_place q p)) as (λ _. (of_write q).bits p bit ≡ false) [
       | inl same ↦
           ap (λ k. (written_by k q).bits p bit) (ap (λ (x : Place). (row_of x.row).kind) (is_place-same q p same) ∙ is)
-      | inr other ↦ none_written_by p (ap is_pending is) (row_of q.row).kind q other bit
+      | inr other ↦ none_written_by p (ap is_alone is) (row_of q.row).kind q other bit
     ]
 
 pub read_misses : (m : Named) (p : Place) → (row_of p.row).kind ≡ kind.Rc
     → ((q : Place) (view : ℕ) → m ≡ Register q view → q ≢ p) → LacksWord (read_reach m).registers p
 read_misses (Nothing seen) p is n = λ bit. refl
-read_misses (Register q view) p is n = not_read (row_of q.row).kind q p is (λ e. n q view refl (sym e))
+read_misses (Register q view) p is n =
+    none_read_by p (ap is_alone is) (row_of q.row).kind q (is_place-other q p (λ e. n q view refl (sym e)))
 
 -- a counter is no pool's
 no_pools_by : (b : Bank) (mode : Mode) (v index : ℕ) → owner_in b index ≡ owner.Counters

@@ -20,13 +20,13 @@ no_setting s e none port n word p view is found = subst (WritesNoSetting s) is n
 pub settings_stand : OtherEventsKeepSettings
 settings_stand s e none =
     let other = no_setting s e none in
-    let jumbo = setting_stands Hlreg0 (record { bank = refl; steady = λ e. cc; quiet = refl; unread = λ e. cc }) s e
+    let jumbo = setting_stands Hlreg0 (record { bank = refl; alone = refl; still = λ bit. refl; unread = λ e. cc }) s e
     (λ port n word p view is found.
     let o = other port n word p view is found in record { control = o.control; other = o.jumbo }) in
-    let limit = setting_stands Maxfrs (record { bank = refl; steady = λ e. cc; quiet = refl; unread = λ e. cc }) s e
+    let limit = setting_stands Maxfrs (record { bank = refl; alone = refl; still = λ bit. refl; unread = λ e. cc }) s e
     (λ port n word p view is found.
     let o = other port n word p view is found in record { control = o.control; other = o.limit }) in
-    let mode = setting_stands GcrExt (record { bank = refl; steady = λ e. cc; quiet = refl; unread = λ e. cc }) s e
+    let mode = setting_stands GcrExt (record { bank = refl; alone = refl; still = λ bit. refl; unread = λ e. cc }) s e
     (λ port n word p view is found.
     let o = other port n word p view is found in record { control = o.control; other = o.mode }) in
     record { limit = rw (jumbo, limit) refl; mode = ap mode_of mode }

@@ -1,10 +1,9 @@
 -- Registers of the device as a whole, which nothing changes but a write of them, and a reset.
-use Rattle.std.proofs.Common.{◌≡◌, ◌≢◌, ◌||◌, ℕ, false, List, [], ◌∷◌, refl, ap, sym, ◌∙◌}
+use Rattle.std.proofs.Common.{◌≡◌, ◌≢◌, ◌||◌, ℕ, true, false, List, [], ◌∷◌, refl, ap, sym, ◌∙◌, subst, inl, inr}
+use Rattle.std.proofs.lemmas.Bool.{cases_Bool}
 use Rattle.nic_device.specs.DmaArena.Block.{Block}
 use Rattle.nic_device.specs.RegTable.Rows.{row_of}
 use Rattle.nic_device.specs.RegTable.declared.bank.Bank.TheVariants.{Device}
-use Rattle.nic_device.specs.RegTable.declared.kind.Kind.{Kind}
-use Rattle.nic_device.specs.RegTable.declared.kind.Kind.TheVariants as kind
 use Rattle.nic_device.specs.RegTable.declared.place.Place.{Place}
 use Rattle.nic_device.specs.RegTable.declared.rows.RowId.{RowId}
 use Rattle.nic_device.specs.RegTable.declared.rows.RowId.TheVariants.{Ctrl, Eerd}
@@ -21,11 +20,12 @@ use Rattle.nic_device.specs.DmaRing.declared.dir.Dir.{Dir}
 use Rattle.nic_device.specs.DmaRing.declared.dir.Dir.TheVariants.{Rx, Tx}
 use Rattle.nic_device.specs.RegisterFile.declared.owner.Owner.{Owner}
 use Rattle.nic_device.specs.RegisterFile.declared.owner.Owner.TheVariants as owner
-use Rattle.nic_device.specs.RegisterLaws.Footprint.{LacksWord, is_place, is_pending, pool_changes, read_by}
-use Rattle.nic_device.proofs.RegisterLaws.Accessed.{none_pending, none_pending_of, none_written_by}
+use Rattle.nic_device.specs.RegisterLaws.Footprint.{LacksWord, is_place, is_pending, is_alone, pool_changes, of_read}
+use Rattle.nic_device.proofs.RegisterLaws.Accessed.{none_pending, none_read_by, none_written_by}
 use Rattle.nic_device.proofs.RegisterLaws.Covers.{lacks-renewed}
 use Rattle.nic_device.proofs.RegisterLaws.Footprints.{word_stands}
-use Rattle.nic_device.proofs.RegisterLaws.Owners.{is_place-other}
+use Rattle.nic_device.proofs.RegisterLaws.Owners.{is_place-other, is_place-same}
+use Rattle.nic_device.proofs.RegisterLaws.Pending.{alone_steady}
 use Rattle.nic_device.specs.Footprint.{read_reach, write_reach, receive_reach, reach_by, switch_reach, Reach, pool_reach, is_function_count}
 use Rattle.nic_device.specs.Named.{named}
 use Rattle.nic_device.specs.Step.{after, step_of}
@@ -39,11 +39,11 @@ use Rattle.nic_device.specs.declared.named.Named.{Named}
 use Rattle.nic_device.specs.declared.named.Named.TheVariants.{Nothing, Register}
 use Rattle.nic_device.specs.declared.event.Reply.{Reply}
 
--- a row of the device as a whole, which no step of the device changes
+-- a row of the device as a whole, which no step of the device changes, and which neither a read nor another access does
 pub record IsSetting (row : RowId) : Type 0 where
   pub bank : (row_of row).bank ≡ Device
-  pub steady : (row_of row).kind ≢ kind.Rc
-  pub quiet : is_pending (row_of row).kind ≡ false
+  pub alone : is_alone (row_of row).kind ≡ true
+  pub still : LacksWord (of_read (place row 0)) (place row 0)
   pub unread : Eerd ≢ row
 
 -- a write of another row, which isn't CTRL
@@ -59,6 +59,10 @@ module _ (row : RowId) (is : IsSetting row) where
   abbrev here : Place
   here = place row 0
 
+  -- it is neither of causes nor of masks
+  quiet : is_pending (row_of row).kind ≡ false
+  quiet = alone_steady (row_of row).kind is.alone
+
   other_place : (p : Place) → p.row ≢ row → is_place p here ≡ false
   other_place p n = is_place-other p here (λ e. n (ap (λ (q : Place). q.row) (sym e)))
 
@@ -73,7 +77,7 @@ module _ (row : RowId) (is : IsSetting row) where
       let o = other p view refl in
       rw (no_reset p.row word o.control)
       (either_way (λ (r : Reach). LacksWord r.registers here) (asks_pool_reset (row_of p.row).kind word) _ _
-      (none_pooled mode p.index) (none_written_by here is.quiet (row_of p.row).kind p (other_place p o.other)))
+      (none_pooled mode p.index) (none_written_by here is.alone (row_of p.row).kind p (other_place p o.other)))
 
   none_owned : (o : Owner) → is_owner o owner.Device ≡ false → is_owner o (owner_of here) ≡ false
   none_owned o n = ap (λ b. is_owner o (owner_in b 0)) is.bank ∙ n
@@ -84,7 +88,7 @@ module _ (row : RowId) (is : IsSetting row) where
       || is_pending (row_of row).kind)) ≡ false
   none_stepped dir queue =
       neither _ _ (none_owned (owner.Side dir queue) refl)
-      (neither _ _ (neither _ _ (none_owned owner.Counters refl) (ap is_function_count is.bank)) is.quiet)
+      (neither _ _ (neither _ _ (none_owned owner.Counters refl) (ap is_function_count is.bank)) quiet)
 
   none_received : (ws : List Waiting) (reply : Reply Block) → LacksWord (receive_reach ws reply).registers here
   none_received [] reply bit = refl
@@ -94,15 +98,16 @@ module _ (row : RowId) (is : IsSetting row) where
   none_switched Rx queue bit = none_owned (owner.Side Rx queue) refl
   none_switched Tx queue bit = none_owned (owner.Side Tx queue) refl
 
-  none_read_by : (k : Kind) (p : Place) → (row_of p.row).kind ≡ k → LacksWord (read_by k p) here
-  none_read_by kind.Rc p counter =
-      λ bit. other_place p (λ same. is.steady (sym (ap (λ (r : RowId). (row_of r).kind) same) ∙ counter))
-  none_read_by kind.Cause p causes = none_pending_of here is.quiet (owner_of p)
-  none_read_by other p e = λ bit. refl
+  none_read_at : (p : Place) → LacksWord (of_read p) here
+  none_read_at p =
+      elim (cases_Bool (is_place p here)) as (λ _. LacksWord (of_read p) here) [
+        | inl same ↦ subst (λ (q : Place). LacksWord (of_read q) here) (sym (is_place-same p here same)) is.still
+        | inr other ↦ none_read_by here is.alone (row_of p.row).kind p other
+      ]
 
   none_read : (m : Named) → LacksWord (read_reach m).registers here
   none_read (Nothing seen) = λ bit. refl
-  none_read (Register p view) = none_read_by (row_of p.row).kind p refl
+  none_read (Register p view) = none_read_at p
 
   stays : (s : State) (e : Event Block)
       → LacksWord (reach_by s e (step_of s e).reply).registers here
@@ -120,12 +125,12 @@ module _ (row : RowId) (is : IsSetting row) where
       (none_written (mode_in s.registers) (named s port n) word (λ p view found. other port n word p view refl found))
   setting_stands s (event.Arrive frame) other =
       stays s (event.Arrive frame)
-      (λ bit. neither _ _ (none_owned owner.Counters refl) (none_pending here is.quiet group.Pf bit))
+      (λ bit. neither _ _ (none_owned owner.Counters refl) (none_pending here quiet group.Pf bit))
   setting_stands s event.RxStep other = stays s event.RxStep (none_received s.waiting _)
   setting_stands s (event.TxStep queue) other = stays s (event.TxStep queue) (λ bit. none_stepped Tx queue)
-  setting_stands s (event.IntStep g) other = stays s (event.IntStep g) (none_pending here is.quiet g)
+  setting_stands s (event.IntStep g) other = stays s (event.IntStep g) (none_pending here quiet g)
   setting_stands s (event.QueueStep dir queue) other =
       stays s (event.QueueStep dir queue) (none_switched dir queue)
   setting_stands s event.EepromStep other = stays s event.EepromStep (λ bit. other_place (place Eerd 0) is.unread)
-  setting_stands s (event.Link up) other = stays s (event.Link up) (none_pending here is.quiet group.Pf)
+  setting_stands s (event.Link up) other = stays s (event.Link up) (none_pending here quiet group.Pf)
   setting_stands s e other = stays s e (λ bit. refl)

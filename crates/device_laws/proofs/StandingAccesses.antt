@@ -12,8 +12,7 @@ use Rattle.nic_device.specs.RegisterFile.declared.owner.Owner.{Owner}
 use Rattle.nic_device.specs.RegisterFile.declared.owner.Owner.TheVariants as owner
 use Rattle.nic_device.specs.RegisterLaws.Footprint.{Misses, of_owner, of_side, of_group, of_read, of_write}
 use Rattle.nic_device.proofs.RegisterLaws.Covers.{misses-narrower, misses-owner, misses-nothing}
-use Rattle.nic_device.proofs.RegisterLaws.Accessed.{covers-of_read, covers-of_write}
-use Rattle.nic_device.proofs.RegisterLaws.NoSide.{read_misses_sides}
+use Rattle.nic_device.proofs.RegisterLaws.Accessed.{covers-of_read, covers-of_write, read_misses_sides}
 use Rattle.nic_device.proofs.RegisterLaws.ReadBack.{owners_differ}
 use Rattle.nic_device.specs.Footprint.{Reach, StaysWithin, in_registers, read_reach, write_reach, reset_reach, pool_reach, below_reset_reach}
 use Rattle.nic_device.specs.Named.{named}

@@ -73,7 +73,7 @@ control_stands s port n word index view found none =
 
 -- no step of the device changes GCR_EXT
 pub setting : IsSetting GcrExt
-setting = record { bank = refl; steady = λ e. cc; quiet = refl; unread = λ e. cc }
+setting = record { bank = refl; alone = refl; still = λ bit. refl; unread = λ e. cc }
 
 -- a write of a register that is neither of these two
 

@@ -18,12 +18,12 @@ use Rattle.register_file.specs.Words.{row_words}
 use Rattle.register_file.specs.declared.owner.Owner.TheVariants as owner
 use Rattle.rx_ring.specs.DmaRing.declared.dir.Dir.{Dir}
 use Rattle.rx_ring.specs.DmaRing.declared.dir.Dir.TheVariants.{Rx, Tx}
-use Rattle.register_laws.specs.Footprint.{Footprint, HasWord, LacksWord, ChangesWithin, either, counters, is_pending, is_place, pool_changes, of_read, of_side, pending, the_word}
+use Rattle.register_laws.specs.Footprint.{Footprint, HasWord, LacksWord, ChangesWithin, either, counters, is_alone, is_place, pool_changes, of_read, of_side, pending, the_word}
 use Rattle.register_laws.specs.Laws.{after_write}
 use Rattle.register_laws.specs.Sides.{ReceiveQueue, TransmitQueue}
 use Rattle.register_laws.specs.Sound.{HasShape, AreSound}
-use Rattle.register_laws.proofs.Accessed.{none_written_by}
-use Rattle.register_laws.proofs.NoSide.{pending_misses_sides, read_misses_sides}
+use Rattle.register_laws.proofs.Accessed.{none_written_by, read_misses_sides}
+use Rattle.register_laws.proofs.NoSide.{pending_misses_sides}
 use Rattle.register_laws.proofs.Owners.{is_owner-itself, is_place-same}
 use Rattle.register_laws.proofs.PoolReset.{within-pool_reset}
 use Rattle.register_laws.proofs.Sound.{sound-written}
@@ -107,9 +107,9 @@ module _ (r : Registers) (h : HasShape r) where
       ap (has_bit 25)
       (get_or_past (row_words r.words Txdctl) queue 0 (subst (λ n. n ≤ queue) (sym (h.has_indices Txdctl)) past))
 
-enable_calm : (dir : Dir) → is_pending (row_of (enable_row dir)).kind ≡ false
-enable_calm Rx = refl
-enable_calm Tx = refl
+enable_alone : (dir : Dir) → is_alone (row_of (enable_row dir)).kind ≡ true
+enable_alone Rx = refl
+enable_alone Tx = refl
 
 -- a write of an enable word only asks
 module _ (r : Registers) (sound : AreSound r) (view word : ℕ) where
@@ -139,7 +139,7 @@ module _ (r : Registers) (sound : AreSound r) (view word : ℕ) where
             subst (λ q. is_on (after_write r q view word) dir queue ≡ is_on r dir queue)
             (sym (is_place-same p here same)) (asked dir queue)
         | inr other ↦ (within-written r p view word).bits here 25
-            (none_written_by here (enable_calm dir) (row_of p.row).kind p other 25)
+            (none_written_by here (enable_alone dir) (row_of p.row).kind p other 25)
       ]
 
 -- a switch changes its own side alone, and leaves it on where it is wanted on

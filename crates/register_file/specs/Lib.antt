@@ -5,10 +5,13 @@ pub use Rattle.rss_hash.specs as RssHash
 pub use Rattle.intr_unit.specs as IntrUnit
 pub mod Access
 pub mod AllGroups
+pub mod Behaviour
 pub mod Bits
 pub mod Columns
 pub mod Counters
 pub mod Eeprom
+pub mod Effects
+pub mod Footprint
 pub mod Groups
 pub mod Layout
 pub mod Owner

@@ -2,10 +2,11 @@
 
 ghost use Rattle.std.specs.Prelude.{◌≡◌, ◌<◌, IfSome, IsTrue, bit_and};
 ghost use Rattle.reg_table.specs.Rows.{row_of};
+ghost use Rattle.reg_table.specs.declared.kind.Kind.TheVariants.{Held, Enable};
 ghost use Rattle.register_file.specs.Groups.{index_of};
 ghost use Rattle.register_file.specs.Owner.{owner_of, IsThere};
 ghost use Rattle.register_file.specs.Storing.{is_stored};
-ghost use Rattle.register_file.specs.Access.{read_word, after_read, written, group_written, stored, calculated, group_in, is_running, asked, asks_reset, asks_pool_reset};
+ghost use Rattle.register_file.specs.Access.{read_word, after_read, written, stored, calculated, group_in, is_running, asked, asks_reset, asks_pool_reset};
 
 use crate::owner::{Owner, owner_of};
 use crate::queue::ENABLE;
@@ -126,34 +127,29 @@ impl RegisterFile {
         ensures word { result ≡ read_word (row_of place.row).kind self.old around place }
         ensures state { self.new ≡ after_read (row_of place.row).kind self.old place }
     {
-        let word = self.peek(around, place);
-        self.end_read(place);
-        word
-    }
-
-    /// What a read of a place leaves: a counter starts again from 0, and causes are cleared.
-    fn end_read(&mut self, place: Place)
-        requires { place.index < (row_of place.row).count }
-        ensures { self.new ≡ after_read (row_of place.row).kind self.old place }
-    {
-        match kind_of(place.row) {
-            Kind::Rc => self.set_word(place.row, place.index, 0),
+        let Place { row, index } = place;
+        match kind_of(row) {
+            Kind::Rc => {
+                let word = self.word(row, index);
+                self.set_word(row, index, 0);
+                word
+            }
             Kind::Cause => {
+                let word = self.word(row, index);
                 if let Some(group) = group_of(place) {
                     self.read_causes(group);
                 }
+                word
             }
+            Kind::Calc => self.calculated(around, row),
+            Kind::Set | Kind::Clear | Kind::Vreset => 0,
             Kind::Rw
             | Kind::Ro
-            | Kind::Calc
             | Kind::Ones
-            | Kind::Set
-            | Kind::Clear
             | Kind::Held
             | Kind::Enable
             | Kind::Ctrl
-            | Kind::Vreset
-            | Kind::Eerd => {}
+            | Kind::Eerd => self.word(row, index),
         }
     }
 
@@ -167,43 +163,50 @@ impl RegisterFile {
             Kind::Rw | Kind::Ctrl => self.store(place, view, word),
             Kind::Ro | Kind::Calc | Kind::Rc | Kind::Vreset => {}
             Kind::Eerd => self.store(place, view, word & EERD_TAKES),
-            Kind::Cause | Kind::Ones | Kind::Set | Kind::Clear => {
-                self.write_interrupts(place, word & view);
-            }
-            Kind::Held => {
-                if !self.is_running(owner_of(place)) {
-                    self.store(place, view, word);
+            Kind::Held => self.write_held(place, view, word),
+            Kind::Enable => self.write_enable(place, view, word),
+            Kind::Cause => {
+                if let Some(group) = group_of(place) {
+                    self.write_causes(group, word & view);
                 }
             }
-            Kind::Enable => {
-                self.store(place, view, word);
-                self.ask(owner_of(place), word / ENABLE % 2 == 1);
+            Kind::Ones => {
+                if let Some(group) = group_of(place) {
+                    self.set_masks(group, word & view);
+                }
+            }
+            Kind::Set => {
+                if let Some(group) = group_of(place) {
+                    self.set_causes(group, word & view);
+                }
+            }
+            Kind::Clear => {
+                if let Some(group) = group_of(place) {
+                    self.clear_masks(group, word & view);
+                }
             }
         }
     }
 
-    /// Writes a register of a group's interrupts, where a place is of one.
-    fn write_interrupts(&mut self, place: Place, bits: u32)
-        requires { place.index < (row_of place.row).count }
-        ensures { self.new ≡ group_written (row_of place.row).kind self.old place bits }
+    /// Writes a register of a ring, which a side that is on keeps as it is.
+    fn write_held(&mut self, place: Place, view: u32, word: u32)
+        requires index { place.index < (row_of place.row).count }
+        requires kind { (row_of place.row).kind ≡ Held }
+        ensures { self.new ≡ written Held self.old place view word }
     {
-        if let Some(group) = group_of(place) {
-            match kind_of(place.row) {
-                Kind::Cause => self.write_causes(group, bits),
-                Kind::Ones => self.set_masks(group, bits),
-                Kind::Set => self.set_causes(group, bits),
-                Kind::Clear => self.clear_masks(group, bits),
-                Kind::Rw
-                | Kind::Ro
-                | Kind::Calc
-                | Kind::Rc
-                | Kind::Held
-                | Kind::Enable
-                | Kind::Ctrl
-                | Kind::Vreset
-                | Kind::Eerd => {}
-            }
+        if !self.is_running(owner_of(place)) {
+            self.store(place, view, word);
         }
+    }
+
+    /// Writes an enable word: it asks the side to be on, or not.
+    fn write_enable(&mut self, place: Place, view: u32, word: u32)
+        requires index { place.index < (row_of place.row).count }
+        requires kind { (row_of place.row).kind ≡ Enable }
+        ensures { self.new ≡ written Enable self.old place view word }
+    {
+        self.store(place, view, word);
+        self.ask(owner_of(place), word / ENABLE % 2 == 1);
     }
 
     /// Whether what an owner has is in use: a side's ring is while the side is on.

@@ -1,12 +1,10 @@
 -- Each access and each step of a group puts settled interrupts into its registers.
 use Rattle.std.proofs.Common.{◌≡◌, ℕ, Bool, true, false, cond, Option, Some, None, refl}
 use Rattle.std.specs.Prelude.{is_some}
-use Rattle.register_file.specs.RegTable.declared.kind.Kind.{Kind}
-use Rattle.register_file.specs.RegTable.declared.kind.Kind.TheVariants as kind
 use Rattle.register_file.specs.RegTable.declared.rows.RowId.TheVariants.{IvarMisc}
 use Rattle.register_file.specs.IntrUnit.Interrupts.{Interrupts, after_message_of, next_bit}
 use Rattle.register_file.specs.IntrUnit.declared.group.Group.{Group}
-use Rattle.register_file.specs.Access.{group_read, interrupts_written}
+use Rattle.register_file.specs.Access.{group_read, causes_written, masks_set, causes_set, masks_cleared}
 use Rattle.register_file.specs.Groups.{cause_row, mask_row, auto_clear_row, auto_mask_row, index_of, told_by, interrupts_of, with_interrupts, clears_others, masks_by_message, auto_masks, causes_raised, message_of, message_made}
 use Rattle.register_file.specs.Registers.{Registers, word_of}
 use Rattle.register_laws.proofs.Settled.{IsSettled, settled-of_words, settled-raised, settled-after_read, settled-after_write_one, settled-after_mask_set, settled-after_mask_clear, settled-after_message_of}
@@ -25,17 +23,22 @@ pub change-group_read : (r : Registers) (g : Group) → GroupChange r g (group_r
 change-group_read r g =
     changed _ refl (settled-after_read (interrupts_of r g) (settled r g) (clears_others r) (auto_masks r g))
 
-pub change-interrupts_written : (k : Kind) (r : Registers) (g : Group) (bits : ℕ)
-    → GroupChange r g (interrupts_written k r g bits)
-change-interrupts_written kind.Cause r g bits =
+-- what a change of a group's interrupts by some bits leaves
+abbrev pub ChangesGroup : (Registers → Group → ℕ → Registers) → Type 0
+ChangesGroup change = (r : Registers) (g : Group) (bits : ℕ) → GroupChange r g (change r g bits)
+
+pub change-causes_written : ChangesGroup causes_written
+change-causes_written r g bits =
     changed _ refl (settled-after_write_one (interrupts_of r g) (settled r g) bits (auto_masks r g))
-change-interrupts_written kind.Ones r g bits =
-    changed _ refl (settled-after_mask_set (interrupts_of r g) (settled r g) bits)
-change-interrupts_written kind.Set r g bits =
-    changed _ refl (settled-raised (interrupts_of r g) (settled r g) bits (auto_masks r g))
-change-interrupts_written kind.Clear r g bits =
-    changed _ refl (settled-after_mask_clear (interrupts_of r g) (settled r g) bits)
-change-interrupts_written other r g bits = kept
+
+pub change-masks_set : ChangesGroup masks_set
+change-masks_set r g bits = changed _ refl (settled-after_mask_set (interrupts_of r g) (settled r g) bits)
+
+pub change-causes_set : ChangesGroup causes_set
+change-causes_set r g bits = changed _ refl (settled-raised (interrupts_of r g) (settled r g) bits (auto_masks r g))
+
+pub change-masks_cleared : ChangesGroup masks_cleared
+change-masks_cleared r g bits = changed _ refl (settled-after_mask_clear (interrupts_of r g) (settled r g) bits)
 
 pub change-causes_raised : (r : Registers) (g : Group) (bits : ℕ) → GroupChange r g (causes_raised r g bits)
 change-causes_raised r g bits = changed _ refl (settled-raised (interrupts_of r g) (settled r g) bits false)

@@ -6,10 +6,14 @@ pub mod Covers
 pub mod Fields
 pub mod Footprints
 pub mod Formulas
+pub mod Giving
 pub mod GroupChanges
+pub mod Keeps
 pub mod NoSide
 pub mod Owners
 pub mod PastEnd
+pub mod Pending
+pub mod PoolAccessed
 pub mod PoolAfterReset
 pub mod PoolAgreement
 pub mod PoolParts
@@ -21,6 +25,7 @@ pub mod PoolSound
 pub mod PoolsApart
 pub mod Puts
 pub mod ReadBack
+pub mod Reading
 pub mod Renewed
 pub mod RowBits
 pub mod RowsReset
@@ -37,3 +42,4 @@ pub mod Stands
 pub mod Switches
 pub mod Within
 pub mod WithinParts
+pub mod Writing

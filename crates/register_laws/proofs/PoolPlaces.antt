@@ -8,13 +8,11 @@ use Rattle.register_file.specs.RegTable.declared.place.Place.{Place}
 use Rattle.register_file.specs.RegTable.declared.rows.RowId.{RowId}
 use Rattle.register_file.specs.RegTable.declared.rows.RowId.TheVariants as row
 use Rattle.register_file.proofs.RegTable.FirstAddresses.{same_number}
-use Rattle.register_file.specs.IntrUnit.declared.group.Group.{Group}
 use Rattle.register_file.specs.IntrUnit.declared.group.Group.TheVariants.{Pf, Vf}
 use Rattle.register_file.specs.VfMap.Owner.{is_of_pool, is_of_pool_by, has_queue, is_shared}
 use Rattle.register_file.specs.VfMap.declared.mode.Mode.{Mode}
 use Rattle.register_file.specs.Access.{after_read}
 use Rattle.register_file.specs.Owner.{owner_in, owner_of, is_owner, is_group}
-use Rattle.register_file.specs.DmaRing.declared.dir.Dir.{Dir}
 use Rattle.register_file.specs.declared.owner.Owner.{Owner}
 use Rattle.register_file.specs.declared.owner.Owner.TheVariants as owner
 use Rattle.register_laws.specs.Agreement.{PoolReadsStayWithin, PoolWritesStayWithin, SharedReadsChangeNothing, SharedWritesChangeNothing}
@@ -22,19 +20,8 @@ use Rattle.register_laws.specs.Footprint.{Covers, pool_changes, of_owner, of_rea
 use Rattle.register_laws.specs.Laws.{after_write}
 use Rattle.register_laws.proofs.Accessed.{covers-of_read, covers-of_write}
 use Rattle.register_laws.proofs.Covers.{covers-trans}
+use Rattle.register_laws.proofs.PoolAccessed.{group_of_pool, side_of_pool}
 use Rattle.register_laws.proofs.Owners.{is_group-itself, is_owner-same}
-
--- the owner of a pool's place has nothing but what is the pool's
-pub group_of_pool : (b : Bank) (mode : Mode) (v i : ℕ) (g : Group) → is_of_pool_by b mode v i ≡ true
-    → owner_in b i ≡ owner.Group g → g ≡ Vf v
-group_of_pool bank.VfInterrupts mode v i g is e = let same : i ≡ v = eqb-true i v is in cc
-group_of_pool other mode v i g is e = cc
-
-pub side_of_pool : (b : Bank) (mode : Mode) (v i : ℕ) (dir : Dir) (queue : ℕ) → is_of_pool_by b mode v i ≡ true
-    → owner_in b i ≡ owner.Side dir queue → has_queue mode v queue ≡ true
-side_of_pool bank.Receive mode v i dir queue is e = let same : i ≡ queue = cc in ap (has_queue mode v) (sym same) ∙ is
-side_of_pool bank.Transmit mode v i dir queue is e = let same : i ≡ queue = cc in ap (has_queue mode v) (sym same) ∙ is
-side_of_pool other mode v i dir queue is e = cc
 
 -- whether an owner is the pool's, or of it
 owns : Mode → ℕ → Owner → Bool

@@ -1,7 +1,5 @@
 -- Registers stay sound.
-use Rattle.std.proofs.Common.{◌≡◌, ℕ, ◌<◌, ◌^◌, Bool, true, false, cond, refl, ap, sym, ◌∙◌, subst, arith}
-use Rattle.std.specs.Prelude.{Option, Some, None, bit_and}
-use Rattle.std.specs.Option.{option_map_or}
+use Rattle.std.proofs.Common.{◌≡◌, ℕ, ◌<◌, ◌^◌, false, refl, ap, sym, ◌∙◌, subst, arith}
 use Rattle.register_file.specs.RegTable.Rows.{row_of}
 use Rattle.register_file.specs.RegTable.declared.place.Place.{Place}
 use Rattle.register_file.specs.RegTable.declared.kind.Kind.{Kind}
@@ -10,38 +8,25 @@ use Rattle.register_file.specs.RegTable.declared.rows.RowId.{RowId}
 use Rattle.register_file.specs.RegTable.declared.rows.RowId.TheVariants.{Eerd}
 use Rattle.register_file.specs.IntrUnit.BitSet.{IsSubset}
 use Rattle.register_file.specs.IntrUnit.declared.group.Group.{Group}
-use Rattle.register_file.proofs.IntrUnit.Subsets.{IsSubset-itself, IsSubset-no_bits}
-use Rattle.register_file.specs.Access.{after_read, written, stored, group_in, group_read, is_running, asked}
-use Rattle.register_file.specs.Bits.{has_bit}
+use Rattle.register_file.specs.Access.{after_read}
 use Rattle.register_file.specs.Columns.{place}
 use Rattle.register_file.specs.Counters.{counted, counted_wrapping}
 use Rattle.register_file.specs.Eeprom.{eeprom_answered}
 use Rattle.register_file.specs.Groups.{message_made, causes_raised, queue_raised}
-use Rattle.register_file.specs.Owner.{owner_of}
 use Rattle.register_file.specs.Queue.{head_row, enable_row, with_head, switched, switched_on, switched_off, shut}
 use Rattle.register_file.specs.Registers.{Registers, word_of, is_wanted}
-use Rattle.register_file.specs.Words.{word_at}
 use Rattle.register_file.specs.DmaRing.declared.dir.Dir.{Dir}
 use Rattle.register_file.specs.DmaRing.declared.dir.Dir.TheVariants.{Rx, Tx}
-use Rattle.register_file.specs.declared.owner.Owner.{Owner}
-use Rattle.register_file.specs.declared.owner.Owner.TheVariants as owner
 use Rattle.register_laws.specs.Footprint.{is_pending}
 use Rattle.register_laws.specs.Laws.{after_write}
 use Rattle.register_laws.specs.Sound.{AreSound, bits_of_kind, bits_of_row}
-use Rattle.register_laws.proofs.GroupChanges.{GroupChange, kept, changed, change-group_read, change-interrupts_written, change-causes_raised, change-message_made}
-use Rattle.register_laws.proofs.RowBits.{IsSubset-trans, IsSubset-or_left, IsSubset-and_left, IsSubset-ones, IsSubset-merged, mask_small, within_row, word_small}
+use Rattle.register_laws.proofs.GroupChanges.{change-causes_raised, change-message_made}
+use Rattle.register_laws.proofs.RowBits.{IsSubset-ones, within_row, word_small}
 use Rattle.register_laws.proofs.Small.{answer-lt, bit_set-lt, bit_cleared-lt}
 pub use Rattle.register_laws.proofs.Small.{bumped-lt}
 pub use Rattle.register_laws.proofs.SoundReset.{sound-reset}
-use Rattle.register_laws.proofs.SoundParts.{sound-put, sound-with_wanted, sound-with_interrupts}
-
-sound-if : (b : Bool) (r s : Registers) → AreSound r → AreSound s → AreSound (cond b r s)
-sound-if true r s sound other = sound
-sound-if false r s sound other = other
-
-sound-change : (r : Registers) (g : Group) (s : Registers) → AreSound r → GroupChange r g s → AreSound s
-sound-change r g s sound kept = sound
-sound-change r g s sound (changed made same is) = sound-with_interrupts r made sound is
+use Rattle.register_laws.proofs.SoundParts.{sound-put, sound-with_wanted, sound-if, sound-change}
+use Rattle.register_laws.proofs.Keeps.{keeps}
 
 pub sound-causes_raised : (r : Registers) (g : Group) (bits : ℕ) → AreSound r → AreSound (causes_raised r g bits)
 sound-causes_raised r g bits sound = sound-change r g _ sound (change-causes_raised r g bits)
@@ -54,55 +39,11 @@ pub sound-message_made : (r : Registers) (g : Group) → AreSound r → AreSound
 sound-message_made r g sound = sound-change r g _ sound (change-message_made r g)
 
 -- accesses
-sound_group : (r : Registers) (change : Group → Registers) → AreSound r → ((g : Group) → GroupChange r g (change g))
-    → (o : Option Group) → AreSound (option_map_or change o r)
-sound_group r change sound each None = sound
-sound_group r change sound each (Some g) = sound-change r g (change g) sound (each g)
-
-read_sound : (k : Kind) (r : Registers) (p : Place) → (row_of p.row).kind ≡ k → AreSound r → AreSound (after_read k r p)
-read_sound kind.Rc r p e sound = sound-put r p 0 sound (IsSubset-no_bits _) (ap is_pending e)
-read_sound kind.Cause r p e sound = sound_group r (group_read r) sound (change-group_read r) (group_in (owner_of p))
-read_sound other r p e sound = sound
-
 pub sound-after_read : (r : Registers) (p : Place) → AreSound r → AreSound (after_read (row_of p.row).kind r p)
-sound-after_read r p sound = read_sound (row_of p.row).kind r p refl sound
-
-sound-asked : (r : Registers) (o : Owner) (wanted : Bool) → AreSound r → AreSound (asked r o wanted)
-sound-asked r (owner.Side dir queue) wanted sound = sound-with_wanted r dir queue wanted sound
-sound-asked r other wanted sound = sound
-
--- a written word takes bits of the mask, where the kind can have them all
-sound-stored : (k : Kind) (r : Registers) (p : Place) (view word : ℕ) → (row_of p.row).kind ≡ k → is_pending k ≡ false
-    → IsSubset (row_of p.row).mask (bits_of_kind k (row_of p.row).mask) → AreSound r → AreSound (stored r p view word)
-sound-stored k r p view word e steady has sound =
-    let mask = (row_of p.row).mask in
-    let own = within_row p.row mask (subst (λ j. IsSubset mask (bits_of_kind j mask)) (sym e) has) in
-    sound-put r p _ sound (IsSubset-merged (bit_and mask view) (word_at r.words p) word (bits_of_row p.row)
-    (sound.words p) (IsSubset-trans (bit_and mask view) mask (bits_of_row p.row) (IsSubset-and_left mask view) own))
-    (ap is_pending e ∙ steady)
-
-written_sound : (k : Kind) (r : Registers) (p : Place) (view word : ℕ) → (row_of p.row).kind ≡ k → AreSound r
-    → AreSound (written k r p view word)
-written_sound kind.Rw r p view word e sound = sound-stored kind.Rw r p view word e refl (IsSubset-itself _) sound
-written_sound kind.Ro r p view word e sound = sound
-written_sound kind.Calc r p view word e sound = sound
-written_sound kind.Rc r p view word e sound = sound
-written_sound kind.Held r p view word e sound =
-    sound-if (is_running r (owner_of p)) r (stored r p view word) sound
-    (sound-stored kind.Held r p view word e refl (IsSubset-itself _) sound)
-written_sound kind.Enable r p view word e sound =
-    sound-asked (stored r p view word) (owner_of p) (has_bit 25 word)
-    (sound-stored kind.Enable r p view word e refl (IsSubset-or_left (row_of p.row).mask (2 ^ 25)) sound)
-written_sound kind.Ctrl r p view word e sound = sound-stored kind.Ctrl r p view word e refl (IsSubset-itself _) sound
-written_sound kind.Vreset r p view word e sound = sound
-written_sound kind.Eerd r p view word e sound =
-    sound-stored kind.Eerd r p view (bit_and word 0xFFFD) e refl
-    (IsSubset-ones 32 (row_of p.row).mask (mask_small p.row)) sound
-written_sound k r p view word e sound =
-    sound_group r _ sound (λ g. change-interrupts_written k r g (bit_and word view)) (group_in (owner_of p))
+sound-after_read r p sound = (keeps (row_of p.row).kind).read.sound r p refl sound
 
 pub sound-written : (r : Registers) (p : Place) (view word : ℕ) → AreSound r → AreSound (after_write r p view word)
-sound-written r p view word sound = written_sound (row_of p.row).kind r p view word refl sound
+sound-written r p view word sound = (keeps (row_of p.row).kind).write.sound r p refl sound view word
 
 -- what the device counts, what the EEPROM answers, and what becomes of sides
 pub sound-answered : (r : Registers) (word : ℕ) → word < 2 ^ 16 → AreSound r → AreSound (eeprom_answered r word)

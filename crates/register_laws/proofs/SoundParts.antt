@@ -27,6 +27,15 @@ use Rattle.register_laws.proofs.Standing.{causes_there, enabled_there, told_ther
 use Rattle.register_laws.proofs.WithinParts.{within-put, within-with_wanted, within-with_interrupts}
 use Rattle.register_laws.proofs.ReadBack.{masks}
 use Rattle.register_laws.proofs.RowBits.{HaveRowBits, row_bits-put}
+use Rattle.std.specs.Prelude.{Option, Some, None, bit_and}
+use Rattle.std.specs.Option.{option_map_or}
+use Rattle.std.proofs.Common.{cond}
+use Rattle.register_file.specs.RegTable.declared.kind.Kind.{Kind}
+use Rattle.register_file.specs.Access.{stored, asked}
+use Rattle.register_file.specs.declared.owner.Owner.{Owner}
+use Rattle.register_laws.specs.Sound.{bits_of_kind}
+use Rattle.register_laws.proofs.GroupChanges.{GroupChange, kept, changed}
+use Rattle.register_laws.proofs.RowBits.{IsSubset-trans, IsSubset-and_left, IsSubset-merged, within_row}
 
 -- told bits stand where a footprint misses what is pending of their group
 pub told_stands : (f : Footprint) (r s : Registers) (g : Group) → Misses f (pending g) → ChangesWithin f r s
@@ -122,3 +131,32 @@ sound-with_interrupts r s sound settled = record {
             settled.consistent.told_is_pending)
       ];
 }
+
+-- one of two, and accesses of a group, of a side, and of a word that is stored
+pub sound-if : (b : Bool) (r s : Registers) → AreSound r → AreSound s → AreSound (cond b r s)
+sound-if true r s sound other = sound
+sound-if false r s sound other = other
+
+pub sound-change : (r : Registers) (g : Group) (s : Registers) → AreSound r → GroupChange r g s → AreSound s
+sound-change r g s sound kept = sound
+sound-change r g s sound (changed made same is) = sound-with_interrupts r made sound is
+
+pub sound_group : (r : Registers) (change : Group → Registers) → AreSound r → ((g : Group) → GroupChange r g (change g))
+    → (o : Option Group) → AreSound (option_map_or change o r)
+sound_group r change sound each None = sound
+sound_group r change sound each (Some g) = sound-change r g (change g) sound (each g)
+
+pub sound-asked : (r : Registers) (o : Owner) (wanted : Bool) → AreSound r → AreSound (asked r o wanted)
+sound-asked r (owner.Side dir queue) wanted sound = sound-with_wanted r dir queue wanted sound
+sound-asked r other wanted sound = sound
+
+-- a written word takes bits of the mask, where the kind can have them all
+pub sound-stored : (k : Kind) (r : Registers) (p : Place) (view word : ℕ) → (row_of p.row).kind ≡ k
+    → is_pending k ≡ false → IsSubset (row_of p.row).mask (bits_of_kind k (row_of p.row).mask) → AreSound r
+    → AreSound (stored r p view word)
+sound-stored k r p view word e steady has sound =
+    let mask = (row_of p.row).mask in
+    let own = within_row p.row mask (subst (λ j. IsSubset mask (bits_of_kind j mask)) (sym e) has) in
+    sound-put r p _ sound (IsSubset-merged (bit_and mask view) (word_at r.words p) word (bits_of_row p.row)
+    (sound.words p) (IsSubset-trans (bit_and mask view) mask (bits_of_row p.row) (IsSubset-and_left mask view) own))
+    (ap is_pending e ∙ steady)

@@ -17,6 +17,15 @@ use Rattle.register_laws.proofs.Covers.{cause_is_pending, mask_is_pending}
 use Rattle.register_laws.proofs.Footprints.{within-trans}
 use Rattle.register_laws.proofs.Owners.{apart, is_group-itself, is_place-itself, is_place-same}
 use Rattle.register_laws.proofs.Puts.{word_at-put_other, put_cases}
+use Rattle.std.specs.Option.{option_map_or}
+use Rattle.register_file.specs.Access.{stored, group_in, asked}
+use Rattle.register_file.specs.Owner.{is_owner}
+use Rattle.register_file.specs.declared.owner.Owner.{Owner}
+use Rattle.register_file.specs.declared.owner.Owner.TheVariants as owner
+use Rattle.register_laws.proofs.GroupChanges.{GroupChange, kept as unchanged, changed}
+use Rattle.register_laws.proofs.Owners.{is_owner-itself}
+use Rattle.register_laws.proofs.Footprints.{within-refl}
+use Rattle.register_laws.specs.Footprint.{nothing, pending_of}
 
 -- a word at one place, what is wanted of one side, and what is told of one group, each within what has it
 pub within-put : (f : Footprint) (r : Registers) (p : Place) (v : ℕ) → HasWord f p
@@ -83,3 +92,25 @@ within-with_interrupts r s =
     (within-put f r cause s.causes (cause_is_pending s.group))
     (within-put f caused mask s.enabled (mask_is_pending s.group)))
     (within-with_told f masked s.group s.told (is_group-itself s.group))
+
+pub within-change : (r : Registers) (g : Group) (s : Registers) → GroupChange r g s → ChangesWithin (pending g) r s
+within-change r g s unchanged = within-refl (pending g) r
+within-change r g s (changed made same is) =
+    subst (λ h. ChangesWithin (pending h) r (with_interrupts r made)) same (within-with_interrupts r made)
+
+-- accesses of a group, of a side, and of a word that is stored
+pub within_group : (r : Registers) (change : Group → Registers) → ((g : Group) → GroupChange r g (change g))
+    → (o : Owner) → ChangesWithin (pending_of o) r (option_map_or change (group_in o) r)
+within_group r change each (owner.Group g) = within-change r g (change g) (each g)
+within_group r change each other = within-refl nothing r
+
+pub within-asked : (f : Footprint) (r : Registers) (o : Owner) (wanted : Bool)
+    → ((dir : Dir) (queue : ℕ) → is_owner o (owner.Side dir queue) ≡ true → f.wanted dir queue ≡ true)
+    → ChangesWithin f r (asked r o wanted)
+within-asked f r (owner.Side dir queue) wanted has =
+    within-with_wanted f r dir queue wanted (has dir queue (is_owner-itself (owner.Side dir queue)))
+within-asked f r other wanted has = within-refl f r
+
+pub within-stored : (f : Footprint) (r : Registers) (p : Place) (view word : ℕ) → HasWord f p
+    → ChangesWithin f r (stored r p view word)
+within-stored f r p view word has = within-put f r p _ has

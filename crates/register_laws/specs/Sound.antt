@@ -1,12 +1,12 @@
 -- Registers that a device can have.
-use Rattle.std.specs.Prelude.{ℕ, ◌^◌, ◌≡◌, ◌<◌, length, bit_or}
+use Rattle.std.specs.Prelude.{ℕ, ◌≡◌, ◌<◌, length, bit_or}
 use Rattle.register_file.specs.RegTable.Rows.{row_of, rows}
 use Rattle.register_file.specs.RegTable.declared.kind.Kind.{Kind}
-use Rattle.register_file.specs.RegTable.declared.kind.Kind.TheVariants as kind
 use Rattle.register_file.specs.RegTable.declared.place.Place.{Place}
 use Rattle.register_file.specs.RegTable.declared.rows.RowId.{RowId}
 use Rattle.register_file.specs.IntrUnit.BitSet.{intersection, IsSubset}
 use Rattle.register_file.specs.IntrUnit.declared.group.Group.{Group}
+use Rattle.register_file.specs.Behaviour.{behaviour_of}
 use Rattle.register_file.specs.Groups.{cause_row, mask_row, index_of, told_by}
 use Rattle.register_file.specs.Registers.{Registers, word_of}
 use Rattle.register_file.specs.Words.{row_words, word_at}
@@ -23,19 +23,7 @@ pub record HasShape (r : Registers) : Type 0 where
 -- bit 25 too, which a switch sets; of a counter and of EERD, into which an answer is put, all; and of a register that
 -- only acts or is calculated none
 abbrev pub bits_of_kind : Kind → ℕ → ℕ
-bits_of_kind kind.Rw mask = mask
-bits_of_kind kind.Ro mask = 0xFFFFFFFF
-bits_of_kind kind.Calc mask = 0
-bits_of_kind kind.Rc mask = 0xFFFFFFFF
-bits_of_kind kind.Cause mask = mask
-bits_of_kind kind.Ones mask = mask
-bits_of_kind kind.Set mask = 0
-bits_of_kind kind.Clear mask = 0
-bits_of_kind kind.Held mask = mask
-bits_of_kind kind.Enable mask = bit_or mask (2 ^ 25)
-bits_of_kind kind.Ctrl mask = mask
-bits_of_kind kind.Vreset mask = 0
-bits_of_kind kind.Eerd mask = 0xFFFFFFFF
+bits_of_kind k = (behaviour_of k).bits
 
 -- the bits that a word of a row can have: those of its reset value, and those that can become 1
 abbrev pub bits_of_row : RowId → ℕ

@@ -1,10 +1,10 @@
 -- What the words of sound registers are.
-use Rattle.std.specs.Prelude.{ℕ, ◌%◌, ◌^◌, ◌≡◌, ◌<◌, Bool, true, false, IsTrue, IsFalse}
+use Rattle.std.specs.Prelude.{ℕ, ◌%◌, ◌^◌, ◌≡◌, ◌<◌, Bool, IsTrue, IsFalse}
 use Rattle.register_file.specs.RegTable.Rows.{row_of}
 use Rattle.register_file.specs.RegTable.declared.kind.Kind.{Kind}
-use Rattle.register_file.specs.RegTable.declared.kind.Kind.TheVariants as kind
 use Rattle.register_file.specs.RegTable.declared.place.Place.{Place}
 use Rattle.register_file.specs.Access.{asks_reset}
+use Rattle.register_file.specs.Behaviour.{behaviour_of}
 use Rattle.register_file.specs.Queue.{ring_of}
 use Rattle.register_file.specs.Registers.{Registers}
 use Rattle.register_file.specs.Words.{word_at}
@@ -18,19 +18,7 @@ SoundWordsAreSmall = (r : Registers) → AreSound r → (p : Place) → word_at 
 
 -- whether a register of this kind keeps no word: it only acts, or it is calculated
 abbrev pub keeps_none : Kind → Bool
-keeps_none kind.Rw = false
-keeps_none kind.Ro = false
-keeps_none kind.Calc = true
-keeps_none kind.Rc = false
-keeps_none kind.Cause = false
-keeps_none kind.Ones = false
-keeps_none kind.Set = true
-keeps_none kind.Clear = true
-keeps_none kind.Held = false
-keeps_none kind.Enable = false
-keeps_none kind.Ctrl = false
-keeps_none kind.Vreset = true
-keeps_none kind.Eerd = false
+keeps_none k = (behaviour_of k).keeps_none
 
 -- the word of such a register is 0
 abbrev pub ActingWordsAreNone : Type 0

@@ -1,6 +1,6 @@
-use Rattle.register_laws.proofs.Accessed.{covers-of_read, covers-of_write}
+use Rattle.register_laws.proofs.Accessed.{covers-of_read, covers-of_write, read_misses_sides}
 use Rattle.register_laws.proofs.Footprints.{covers-any_pending, misses-owner}
-use Rattle.register_laws.proofs.NoSide.{counters_own, pending_misses_sides, read_misses_sides}
+use Rattle.register_laws.proofs.NoSide.{counters_own, pending_misses_sides}
 use Rattle.register_laws.proofs.ReadBack.{one_place, owners_differ}
 use Rattle.register_laws.proofs.accesses_stay_with_their_owner.Goals as goal
 

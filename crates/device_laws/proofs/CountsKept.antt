@@ -12,7 +12,7 @@ use Rattle.nic_device.specs.RegisterFile.Owner.{owner_in}
 use Rattle.nic_device.specs.VfMap.Owner.{is_of_pool_by}
 use Rattle.nic_device.specs.VfMap.declared.mode.Mode.{Mode}
 use Rattle.nic_device.proofs.Cases.{either_way}
-use Rattle.nic_device.specs.RegisterFile.Owner.{owner_of, is_owner}
+use Rattle.nic_device.specs.RegisterFile.Owner.{is_owner}
 use Rattle.nic_device.specs.DmaRing.declared.dir.Dir.{Dir}
 use Rattle.nic_device.specs.DmaRing.declared.dir.Dir.TheVariants.{Rx, Tx}
 use Rattle.nic_device.specs.RegisterFile.declared.owner.Owner.TheVariants as owner

@@ -111,4 +111,5 @@ KeepsGroupAgreement change =
 pub keeps_group_agreement : (made : Interrupts → ℕ → Interrupts)
     → KeepsGroupAgreement (λ r g bits. with_interrupts r (made (interrupts_of r g) bits))
 keeps_group_agreement made mode v a b ha hb same bits =
-    agree-with_interrupts (pool_agrees mode v) a b ha hb same _ _ (ap (λ i. made i bits) (interrupts_same mode v a b same))
+    agree-with_interrupts (pool_agrees mode v) a b ha hb same _ _
+    (ap (λ i. made i bits) (interrupts_same mode v a b same))

@@ -151,8 +151,9 @@ sound-asked r (owner.Side dir queue) wanted sound = sound-with_wanted r dir queu
 sound-asked r other wanted sound = sound
 
 -- a written word takes bits of the mask, where the kind can have them all
-pub sound-stored : (k : Kind) (r : Registers) (p : Place) (view word : ℕ) → (row_of p.row).kind ≡ k → is_pending k ≡ false
-    → IsSubset (row_of p.row).mask (bits_of_kind k (row_of p.row).mask) → AreSound r → AreSound (stored r p view word)
+pub sound-stored : (k : Kind) (r : Registers) (p : Place) (view word : ℕ) → (row_of p.row).kind ≡ k
+    → is_pending k ≡ false → IsSubset (row_of p.row).mask (bits_of_kind k (row_of p.row).mask) → AreSound r
+    → AreSound (stored r p view word)
 sound-stored k r p view word e steady has sound =
     let mask = (row_of p.row).mask in
     let own = within_row p.row mask (subst (λ j. IsSubset mask (bits_of_kind j mask)) (sym e) has) in

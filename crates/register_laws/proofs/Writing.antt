@@ -98,7 +98,8 @@ enable_write k steady has = record {
 -- the interrupts of a group change, by the written bits that the address shows
 pub group_write : (k : Kind) (change : Registers → Group → ℕ → Registers) → ChangesGroup change
     → KeepsGroupAgreement change
-    → KeepsWriting k (λ r p view word. in_group r p (λ g. change r g (bit_and word view))) (λ p. pending_of (owner_of p))
+    → KeepsWriting k (λ r p view word. in_group r p (λ g. change r g (bit_and word view)))
+    (λ p. pending_of (owner_of p))
 group_write k change each agree = record {
   within = λ r p view word.
       within_group r (λ g. change r g (bit_and word view)) (λ g. each r g (bit_and word view)) (owner_of p);

@@ -126,7 +126,8 @@ abbrev pub any_pending : Footprint
 any_pending =
     record { bits = λ p bit. is_pending (row_of p.row).kind; wanted = λ dir queue. false; told = λ g. true }
 
--- what a read of a place may change, and what a write that asks for no reset, of the device or a pool, by its row's kind
+-- what a read of a place may change, and what a write that asks for no reset, of the device or a pool, may: by its
+-- row's kind
 abbrev pub read_by : Kind → Place → Footprint
 read_by k = (behaviour_of k).by_read
 

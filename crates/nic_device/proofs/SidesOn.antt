@@ -18,7 +18,7 @@ use Rattle.register_file.specs.Words.{row_words}
 use Rattle.register_file.specs.declared.owner.Owner.TheVariants as owner
 use Rattle.rx_ring.specs.DmaRing.declared.dir.Dir.{Dir}
 use Rattle.rx_ring.specs.DmaRing.declared.dir.Dir.TheVariants.{Rx, Tx}
-use Rattle.register_laws.specs.Footprint.{Footprint, HasWord, LacksWord, ChangesWithin, either, counters, is_alone, is_place, pool_changes, of_read, of_side, pending, the_word}
+use Rattle.register_laws.specs.Footprint.{Footprint, HasWord, LacksWord, ChangesWithin, either, counters, is_alone, is_place, pool_has, of_read, of_side, pending, the_word}
 use Rattle.register_laws.specs.Laws.{after_write}
 use Rattle.register_laws.specs.Sides.{ReceiveQueue, TransmitQueue}
 use Rattle.register_laws.specs.Sound.{HasShape, AreSound}
@@ -191,6 +191,6 @@ module _ (r : Registers) (h : HasShape r) where
 pub others_pooled : (r : Registers) (mode : Mode) (v : ℕ) (dir : Dir) (queue : ℕ) → has_queue mode v queue ≡ false
     → is_on (pool_reset mode v r) dir queue ≡ is_on r dir queue
 others_pooled r mode v Rx queue none =
-    on_stays (pool_changes mode v) r (pool_reset mode v r) Rx queue (λ bit. none) (within-pool_reset r mode v)
+    on_stays (pool_has mode v) r (pool_reset mode v r) Rx queue (λ bit. none) (within-pool_reset r mode v)
 others_pooled r mode v Tx queue none =
-    on_stays (pool_changes mode v) r (pool_reset mode v r) Tx queue (λ bit. none) (within-pool_reset r mode v)
+    on_stays (pool_has mode v) r (pool_reset mode v r) Tx queue (λ bit. none) (within-pool_reset r mode v)

@@ -122,6 +122,7 @@ is_function_count bank.VfInterrupts = false
 is_function_count bank.Pool = false
 is_function_count bank.VfCounters = true
 is_function_count bank.Vectors = false
+is_function_count bank.Messages = false
 
 -- what is counted of all virtual functions
 abbrev pub function_counts : Footprint

@@ -6,8 +6,8 @@ use Rattle.register_file.specs.RegTable.declared.kind.Kind.{Kind}
 use Rattle.register_file.specs.RegTable.declared.kind.Kind.TheVariants as kind
 use Rattle.register_file.specs.IntrUnit.Interrupts.{raised, after_write_one, after_mask_set, after_mask_clear}
 use Rattle.register_file.proofs.IntrUnit.Subsets.{IsSubset-itself}
-use Rattle.register_file.specs.Access.{causes_written, masks_set, causes_set, masks_cleared}
-use Rattle.register_file.specs.Behaviour.{behaviour_of}
+use Rattle.register_file.specs.Access.{read_word, after_read, written, causes_written, masks_set, causes_set, masks_cleared}
+use Rattle.register_laws.specs.Footprint.{read_by, written_by}
 use Rattle.register_laws.proofs.Giving.{GivesTheSame, same_word, same_none, same_calculated}
 use Rattle.register_laws.proofs.GroupChanges.{change-causes_written, change-masks_set, change-causes_set, change-masks_cleared}
 use Rattle.register_laws.proofs.MailKeeps.{mail_reading, function_write, physical_given, physical_write, extended_write, ones_write}
@@ -18,9 +18,9 @@ use Rattle.register_laws.proofs.Writing.{KeepsWriting, no_write, stored_write, h
 
 -- registers that agree of a pool give the same at its places, and a read and a write keep what is asked of them
 pub record Keeps (k : Kind) : Type 0 where
-  pub given : GivesTheSame k (behaviour_of k).gives
-  pub read : KeepsReading k (behaviour_of k).leaves (behaviour_of k).by_read
-  pub write : KeepsWriting k (behaviour_of k).written (behaviour_of k).by_write
+  pub given : GivesTheSame k (read_word k)
+  pub read : KeepsReading k (after_read k) (read_by k)
+  pub write : KeepsWriting k (written k) (written_by k)
 
 pub keeps : (k : Kind) → Keeps k
 keeps kind.Rw = record {

@@ -7,22 +7,22 @@ returns-then-bench-self-clause-stopped g c =
 
 pub returns-clause-exact : goal.returns-clause-exact
 returns-clause-exact g c =
-    exactly c.args.queue c.args.event c.deref_mut.result.now c.step_and_call.new.locked c.args.pass.now
+    exactly c.args.queue c.args.event _ c.step_and_call.new.locked c.args.pass.now
     c.step_and_call.new.self c.step_and_call.result c.step_and_call.ensures.made c.step_and_call.ensures.reply
 
 pub returns-clause-answered : goal.returns-clause-answered
 returns-clause-answered g c =
-    is_answered c.args.queue c.args.event c.deref_mut.result.now c.step_and_call.new.locked c.args.pass.now
+    is_answered c.args.queue c.args.event _ c.step_and_call.new.locked c.args.pass.now
     c.step_and_call.new.self g.row.VFS g.row.FIFO c.step_and_call.ensures.legal c.step_and_call.ensures.leads
     c.step_and_call.result c.step_and_call.ensures.made c.step_and_call.ensures.reply
 
 pub returns-clause-amid : goal.returns-clause-amid
 returns-clause-amid g c =
-    stops c.args.queue c.args.event c.deref_mut.result.now c.step_and_call.new.locked c.args.pass.now
+    stops c.args.queue c.args.event _ c.step_and_call.new.locked c.args.pass.now
     c.step_and_call.new.self c.step_and_call.result c.step_and_call.ensures.amid
 
 pub returns-clause-stopped : goal.returns-clause-stopped
 returns-clause-stopped g c =
-    stops_answered c.args.queue c.args.event c.deref_mut.result.now c.step_and_call.new.locked c.args.pass.now
+    stops_answered c.args.queue c.args.event _ c.step_and_call.new.locked c.args.pass.now
     c.step_and_call.new.self g.row.VFS g.row.FIFO c.step_and_call.ensures.legal c.step_and_call.ensures.leads
     c.step_and_call.result c.step_and_call.ensures.amid

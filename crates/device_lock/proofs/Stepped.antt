@@ -73,8 +73,8 @@ one_made h then old new e x under reply noted = record {
   noted = noted ∙ ap (λ (r : Reply Block). with_call old e r) reply;
 }
 
-pub both_made : (h i j : Held) (p q r : PassValue) (xs ys : List (Event Block)) → AreMade h p xs i q → AreMade i q ys j r
-    → AreMade h p (xs ++ ys) j r
+pub both_made : (h i j : Held) (p q r : PassValue) (xs ys : List (Event Block)) → AreMade h p xs i q
+    → AreMade i q ys j r → AreMade h p (xs ++ ys) j r
 both_made h i j p q r xs ys a b =
     let made = calls_made h.device xs in
     let tag : q.tag ≡ p.tag = ap (λ (t : PassValue). t.tag) a.noted in

@@ -48,14 +48,17 @@ returns-in_err-make_step-clause-full g c = λ same.
 pub returns-in_err-make_step-2-clause-full : goal.returns-in_err-make_step-2-clause-full
 returns-in_err-make_step-2-clause-full g c = λ same.
     c.in_err-make_step-2.ensures.full
-    (passed_on c.from_residual-in_err-make_step-2.result c.in_err-make_step-2.field-0.0 _ c.from_residual-in_err-make_step-2.ensures.1 same)
+    (passed_on c.from_residual-in_err-make_step-2.result c.in_err-make_step-2.field-0.0 _
+    c.from_residual-in_err-make_step-2.ensures.1 same)
 
 pub returns-in_err-make_step-3-clause-full : goal.returns-in_err-make_step-3-clause-full
 returns-in_err-make_step-3-clause-full g c = λ same.
     c.in_err-make_step-3.ensures.full
-    (passed_on c.from_residual-in_err-make_step-3.result c.in_err-make_step-3.field-0.0 _ c.from_residual-in_err-make_step-3.ensures.1 same)
+    (passed_on c.from_residual-in_err-make_step-3.result c.in_err-make_step-3.field-0.0 _
+    c.from_residual-in_err-make_step-3.ensures.1 same)
 
 pub returns-in_err-make_step-4-clause-full : goal.returns-in_err-make_step-4-clause-full
 returns-in_err-make_step-4-clause-full g c = λ same.
     c.in_err-make_step-4.ensures.full
-    (passed_on c.from_residual-in_err-make_step-4.result c.in_err-make_step-4.field-0.0 _ c.from_residual-in_err-make_step-4.ensures.1 same)
+    (passed_on c.from_residual-in_err-make_step-4.result c.in_err-make_step-4.field-0.0 _
+    c.from_residual-in_err-make_step-4.ensures.1 same)

@@ -91,9 +91,9 @@ module _ (p : Place) (is : (row_of p.row).bank ≡ VfCounters) where
   not_written : (row : RowId) (index : ℕ) → LacksWord (of_write (place row index)) p
   not_written Vfgprc index bit = refl
   not_written Vfgptc index bit = refl
-  not_written Pvfmailbox index = write_lacks (place Pvfmailbox index) p refl away
-  not_written Pfmailbox index = write_lacks (place Pfmailbox index) p refl away
-  not_written CtrlExt index = write_lacks (place CtrlExt index) p refl away
+  not_written Pvfmailbox index bit = write_lacks (place Pvfmailbox index) p refl away bit
+  not_written Pfmailbox index bit = write_lacks (place Pfmailbox index) p refl away bit
+  not_written CtrlExt index bit = write_lacks (place CtrlExt index) p refl away bit
   not_written other index bit =
       fails _ _ ((covers-of_write (place other index) refl).bits p bit)
       (not_owned p is (owner_of (place other index)) refl)

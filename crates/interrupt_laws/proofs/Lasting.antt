@@ -70,7 +70,7 @@ at_in_range s v n (located_as.Register q) found p view e =
     subst (λ (x : Place). x.index < (row_of x.row).count) same
     (located_in_range (mode_in s.registers) s.vfs v n q found)
 
-in_range : (s : State) (w : Port) (n : ℕ) (p : Place) (view : ℕ) → named s w n ≡ Register p view
+pub in_range : (s : State) (w : Port) (n : ℕ) (p : Place) (view : ℕ) → named s w n ≡ Register p view
     → p.index < (row_of p.row).count
 in_range s port.Pf n p view e = among_in_range s n (place_among runs n) refl p view e
 in_range s (port.Vf v) n p view e = at_in_range s v n (located (mode_in s.registers) s.vfs v n) refl p view e

@@ -197,12 +197,12 @@ own_write s h g there bit b m p view word (auto_mask e) spares =
 
 -- writes that reset
 
-asks_device : (r : RowId) (index word : ℕ) → index < (row_of r).count → asks_reset (row_of r).kind word ≡ true
+pub asks_device : (r : RowId) (index word : ℕ) → index < (row_of r).count → asks_reset (row_of r).kind word ≡ true
     → (place r index ≡ place row.Ctrl 0) × ((has_bit 3 word || has_bit 26 word) ≡ true)
 asks_device row.Ctrl index word b asks = (let none : index ≡ 0 = omega arith in ap (place row.Ctrl) none, asks)
 asks_device other index word b asks = absurd (cc)
 
-asks_pool : (r : RowId) (index word : ℕ) → asks_pool_reset (row_of r).kind word ≡ true
+pub asks_pool : (r : RowId) (index word : ℕ) → asks_pool_reset (row_of r).kind word ≡ true
     → (place r index ≡ place row.Pvfctrl index) × (has_bit 26 word ≡ true)
 asks_pool row.Pvfctrl index word asks = (refl, asks)
 asks_pool other index word asks = absurd (cc)

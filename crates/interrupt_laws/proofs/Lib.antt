@@ -7,8 +7,10 @@ pub mod Bytes
 pub mod Causes
 pub mod Counters
 pub mod Groups
+pub mod Holding
 pub mod Lasting
 pub mod LastingAccesses
+pub mod Mailbox
 pub mod Masks
 pub mod Muting
 pub mod OtherBits

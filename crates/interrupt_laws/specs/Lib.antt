@@ -1,6 +1,8 @@
 pub mod Accesses
 pub mod Arriving
+pub mod Holding
 pub mod Lasting
+pub mod Mailbox
 pub mod Names
 pub mod Plain
 pub mod Queues

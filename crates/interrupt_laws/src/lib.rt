@@ -13,6 +13,8 @@ ghost use Rattle.interrupt_laws.specs.Plain.{PlainWriteIsAlone, ArePlain, Timers
 ghost use Rattle.interrupt_laws.specs.Queues.{IvarNamesCauses, PvtivarNamesCauses, MappingsNameCounters, VfteMutesPools};
 ghost use Rattle.interrupt_laws.specs.Status.{StatusTellsOfSteps, LinksTellsTheLink, LinksTellsTheLinkSet};
 ghost use Rattle.interrupt_laws.specs.Steps.{MessageStepsTellWhatIsDue};
+ghost use Rattle.interrupt_laws.specs.Holding.{FunctionHoldsOn, PhysicalHoldsOn};
+ghost use Rattle.interrupt_laws.specs.Mailbox.{MailboxesAreShared};
 ghost use Rattle.interrupt_laws.specs.Accesses.{WriteOfCauseSetSets, WriteOfCausesClears, ReadOfCausesClears, WriteOfMasksSets, WriteOfMaskClearClears, SetAndClearReadZero, WriteOfAutoClearIsKept, WriteOfAutoMaskIsKept, ReadsShowTheView, OtherBitsReadZero};
 
 /// The interrupt registers of the physical function and of each of 64 virtual functions are at the datasheet's
@@ -50,6 +52,20 @@ pub fn set_and_clear_read_zero()
 pub fn auto_words_are_kept()
     ensures clear { WriteOfAutoClearIsKept }
     ensures mask { WriteOfAutoMaskIsKept }
+{}
+
+/// Both sides of a function's mailbox read alike who holds it, which is one of them at most, and the function reads that a
+/// reset began or that it is done, not both.
+pub fn mailboxes_are_shared()
+    ensures { MailboxesAreShared }
+{}
+
+/// Who holds a mailbox holds it after every event but those writes that end it: for the function one of PVFMAILBOX without
+/// bit 2, one of PFMAILBOX with bit 4, and a reset of its pool or of the device; for the physical function one of PFMAILBOX
+/// without bit 3, and a reset of the device.
+pub fn holders_hold_on()
+    ensures function { FunctionHoldsOn }
+    ensures physical { PhysicalHoldsOn }
 {}
 
 /// A message step answers that there is no group exactly for a virtual function that the device hasn't or that has no

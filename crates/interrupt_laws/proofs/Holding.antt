@@ -93,7 +93,7 @@ write_lacks kind.W1c p v n e low other = elsewhere kind.W1c p v e (λ x. cc)
 write_lacks kind.Vfmail p v n e low other = ap (λ b. b || false) (other.own refl)
 write_lacks kind.Pfmail p v n e low other =
     ap (λ b. (b && (n == 2 || n == 3 || n == 4 || n == 5)) || false) (apart_mail p.index v (other.physical refl))
-write_lacks kind.Ctrlext p v n e low other k = elsewhere kind.Ctrlext p v e (λ x. cc) k || low k
+write_lacks kind.Ctrlext p v n e low other = λ k. elsewhere kind.Ctrlext p v e (λ x. cc) k || low k
 write_lacks k p v n e low other = refl
 
 -- what the two sides write, where the mailbox stays held

@@ -109,7 +109,8 @@ by_two mode.Pools16 pool entry other = absurd (other refl)
 by_two m pool entry other = omega arith
 
 -- with code 8 nothing is hashed, so the entry is 0
-pub entry-unhashed : (r : Registers) (frame : List ℕ) → queue_mode_of (word_of r Mrqc 0) ≡ Pools64 → rss_entry r frame ≡ 0
+pub entry-unhashed : (r : Registers) (frame : List ℕ) → queue_mode_of (word_of r Mrqc 0) ≡ Pools64 →
+    rss_entry r frame ≡ 0
 entry-unhashed r frame is =
     let none : code_of (rss_type r frame) ≡ 0 =
     ap code_of (type-unhashed (word_of r Mrqc 0) (flow_of frame) Pools64 is refl) in

@@ -143,8 +143,8 @@ pub record GoesToPool (r : Registers) (frame : List ℕ) (pool : ℕ) (t : Targe
   pub goes : sorted r frame ≡ Ok t
 
 -- the queue by the code in MRQC: with hashing the entry of the redirection table, which a frame with an RSS type finds
--- by the low seven bits of its hash; with pools one of the pool's own queues, eight each where GCR_EXT has 16 pools, else
--- four each or two each
+-- by the low seven bits of its hash; with pools one of the pool's own queues, eight each where GCR_EXT has 16 pools,
+-- else four each or two each
 pub record QueuesByMode : Type 0 where
   pub hashing : (r : Registers) (frame : List ℕ) (t : Target) → sorted r frame ≡ Ok t →
       queue_mode_of (word_of r Mrqc 0) ≡ Rss → t.queue ≡ rss_entry r frame

@@ -49,8 +49,8 @@ pub fn pool_is_the_lowest_of_the_first_match()
     ensures { PoolOfAFrame }
 {}
 
-/// A frame of a pool without queues goes nowhere: above 15 where GCR_EXT has 16 pools and MRQC parts frames among pools,
-/// else above 31 with MRQC's code for 32.
+/// A frame of a pool without queues goes nowhere: above 15 where GCR_EXT has 16 pools and MRQC parts frames among
+/// pools, else above 31 with MRQC's code for 32.
 pub fn pools_beyond_get_none()
     ensures { PoolsBeyondGetNone }
 {}

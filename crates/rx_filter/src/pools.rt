@@ -106,8 +106,8 @@ fn checked_pool(registers: &RegisterFile, pool: Option<u16>) -> Result<u16, Unwa
     Ok(pool)
 }
 
-/// The pools that MRQC's codes for pools part the queues among: 64, or 32 with code 0xA, but where GCR_EXT has 16 these.
-/// `Off` with other codes.
+/// The pools that MRQC's codes for pools part the queues among: 64, or 32 with code 0xA, but where GCR_EXT has 16
+/// these. `Off` with other codes.
 pub(crate) fn parting(code: QueueMode, mode: Mode) -> Mode
     ensures { result ≡ parting code mode }
 {

@@ -15,8 +15,8 @@ use Rattle.nic_device.specs.declared.event.Reply.{Reply}
 use Rattle.nic_device.specs.declared.event.Reply.TheVariants.{Idle, NoQueue, Advanced, Sent, Fault}
 use Rattle.traffic_laws.specs.Bits.{bit, field}
 
--- the pool of a queue, by GCR_EXT bits 1 to 0: eight queues each in 16 pools where they are 1, four each in 32 where they
--- are 2, two each in 64 where they are 3, and no pools else
+-- the pool of a queue, by GCR_EXT bits 1 to 0: eight queues each in 16 pools where they are 1, four each in 32 where
+-- they are 2, two each in 64 where they are 3, and no pools else
 abbrev pub IsInPool : Registers → (queue pool : ℕ) → Type 0
 IsInPool r queue pool =
     ((field 1 0 (word_of r GcrExt 0) ≡ 1) × (pool ≡ queue / 8))

@@ -1,5 +1,5 @@
 -- The pool of a queue, and the queues of a pool; and which offsets are listed.
-use Rattle.std.proofs.Common.{◌≡◌, ◌≢◌, ℕ, ◌*◌, ◌/◌, ◌+◌, ◌<◌, ◌≤◌, Bool, true, ◌==◌, ◌&&◌, not, nat_lt, List, [], ◌∷◌, Some, None, refl, ap, sym, ◌∙◌, subst, inl, inr, arith, ◌↔◌}
+use Rattle.std.proofs.Common.{◌≡◌, ◌≢◌, ℕ, ◌*◌, ◌-◌, ◌+◌, ◌<◌, ◌≤◌, Bool, true, ◌==◌, ◌&&◌, not, nat_lt, List, [], ◌∷◌, Some, None, refl, ap, sym, ◌∙◌, subst, inl, inr, arith, ◌↔◌}
 use Rattle.std.specs.Prelude.{All, AllPairs}
 use Rattle.std.specs.List.{list_all}
 use Rattle.std.proofs.lemmas.Bool.{cases_Bool, cond-true, cond-false, eq-eqb, ltb-true, lt-ltb, and_parts, both_ways, not-true}
@@ -10,6 +10,7 @@ use Rattle.vf_map.specs.declared.mode.Mode.{Mode}
 use Rattle.vf_map.specs.declared.mode.Mode.TheVariants.{Off, Pools16, Pools32, Pools64}
 use Rattle.vf_map.specs.Pools.{queues_of, pool_of, queues_each, pools_in}
 use Rattle.vf_map.specs.Laws.{IsAmong}
+use Rattle.vf_map.proofs.Numbers.{queue_of_pool, placed}
 use Rattle.vf_map.specs.Map.{Entry, entries}
 
 pub Some-one : {A : Type 0} {x y : A} → Some x ≡ Some y → x ≡ y
@@ -21,56 +22,21 @@ pub record IsWithin (pools each v queue : ℕ) : Type 0 where
   pub low : v * each ≤ queue
   pub high : queue < v * each + each
 
-there16 : (v queue : ℕ) → queue < 128 → queue / 8 ≡ v → IsWithin 16 8 v queue
-there16 v queue h e = record { pool = omega arith; low = omega arith; high = omega arith }
-
-back16 : (v queue : ℕ) → IsWithin 16 8 v queue → (queue < 128) × (queue / 8 ≡ v)
-back16 v queue w = (omega (arith, w.pool, w.high), omega (arith, w.low, w.high))
-
-there32 : (v queue : ℕ) → queue < 128 → queue / 4 ≡ v → IsWithin 32 4 v queue
-there32 v queue h e = record { pool = omega arith; low = omega arith; high = omega arith }
-
-back32 : (v queue : ℕ) → IsWithin 32 4 v queue → (queue < 128) × (queue / 4 ≡ v)
-back32 v queue w = (omega (arith, w.pool, w.high), omega (arith, w.low, w.high))
-
-there64 : (v queue : ℕ) → queue < 128 → queue / 2 ≡ v → IsWithin 64 2 v queue
-there64 v queue h e = record { pool = omega arith; low = omega arith; high = omega arith }
-
-back64 : (v queue : ℕ) → IsWithin 64 2 v queue → (queue < 128) × (queue / 2 ≡ v)
-back64 v queue w = (omega (arith, w.pool, w.high), omega (arith, w.low, w.high))
-
-there : (mode : Mode) (v queue : ℕ) → queue < pools_in mode * queues_each mode → queue / queues_each mode ≡ v →
-    IsWithin (pools_in mode) (queues_each mode) v queue
-there Off v queue h e = absurd (omega (arith, h))
-there Pools16 v queue h e = there16 v queue h e
-there Pools32 v queue h e = there32 v queue h e
-there Pools64 v queue h e = there64 v queue h e
-
-back : (mode : Mode) (v queue : ℕ) → IsWithin (pools_in mode) (queues_each mode) v queue →
-    (queue < pools_in mode * queues_each mode) × (queue / queues_each mode ≡ v)
-back Off v queue w = absurd (omega (arith, w.pool))
-back Pools16 v queue w = back16 v queue w
-back Pools32 v queue w = back32 v queue w
-back Pools64 v queue w = back64 v queue w
-
 pub pool_within : (mode : Mode) (v queue : ℕ) → pool_of mode queue ≡ Some v →
     IsWithin (pools_in mode) (queues_each mode) v queue
 pool_within mode v queue e =
-    let all = pools_in mode * queues_each mode in
-    elim (cases_Bool (nat_lt queue all)) [
-      | inl t ↦ there mode v queue (ltb-true _ _ t)
-          (Some-one (sym (cond-true (nat_lt queue all) (Some (queue / queues_each mode)) None t) ∙ e))
-      | inr f ↦
-          let none : None ≡ Some v = sym (cond-false (nat_lt queue all) (Some (queue / queues_each mode)) None f) ∙ e in
-          cc
-    ]
+    let i = queue_of_pool mode queue v e in
+    let own = i.own in
+    let is = i.is in
+    record { pool = i.pool; low = omega (arith, is); high = omega (arith, is, own) }
 
 within_pool : (mode : Mode) (v queue : ℕ) → IsWithin (pools_in mode) (queues_each mode) v queue →
     pool_of mode queue ≡ Some v
 within_pool mode v queue w =
-    let is = back mode v queue w in
-    cond-true (nat_lt queue (pools_in mode * queues_each mode)) (Some (queue / queues_each mode)) None (lt-ltb _ _ is.0)
-    ∙ ap (λ x. Some x) is.1
+    let low = w.low in
+    let high = w.high in
+    (placed mode v (queue - v * queues_each mode) queue
+    (record { pool = w.pool; own = omega (arith, low, high); is = omega (arith, low) })).pool
 
 within_among : (mode : Mode) (v queue : ℕ) → IsWithin (pools_in mode) (queues_each mode) v queue →
     IsAmong (queues_of mode v) queue

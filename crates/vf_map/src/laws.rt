@@ -37,8 +37,8 @@ pub fn each_queue_has_one_pool()
     ensures { EachQueueHasOnePool }
 {}
 
-/// The registers of a function's queue, and the words of its vectors, are found at the offsets of the queue's place among
-/// the function's.
+/// The registers of a function's queue, and the words of its vectors, are found at the offsets of the queue's place
+/// among the function's.
 pub fn queue_registers_are_there()
     ensures { QueueRegistersAreThere }
 {}

@@ -47,6 +47,18 @@ static inline uint32_t nic_in_runs(uint32_t first, uint32_t stride, uint32_t cou
 #define NIC_PVFCTRL_COUNT 64
 #define NIC_PVFCTRL_RST UINT32_C(0x04000000)
 
+/* Mailbox interrupt causes of 16 virtual functions */
+#define NIC_PFMBICR(i) (UINT32_C(0x00710) + UINT32_C(0x04) * (uint32_t)(i))
+#define NIC_PFMBICR_COUNT 4
+#define NIC_PFMBICR_VFREQ UINT32_C(0x0000FFFF)
+#define NIC_PFMBICR_VFREQ_IS(v) ((uint32_t)(v) << 0 & NIC_PFMBICR_VFREQ)
+#define NIC_PFMBICR_VFACK UINT32_C(0xFFFF0000)
+#define NIC_PFMBICR_VFACK_IS(v) ((uint32_t)(v) << 16 & NIC_PFMBICR_VFACK)
+
+/* Mailbox interrupt mask of 32 virtual functions */
+#define NIC_PFMBIMR(i) (UINT32_C(0x00720) + UINT32_C(0x04) * (uint32_t)(i))
+#define NIC_PFMBIMR_COUNT 2
+
 /* Extended interrupt cause */
 #define NIC_EICR UINT32_C(0x00800)
 #define NIC_EICR_RTXQ UINT32_C(0x0000FFFF)
@@ -243,12 +255,40 @@ static inline uint32_t nic_in_runs(uint32_t first, uint32_t stride, uint32_t cou
 #define NIC_PVTEIAC_MSIX_1 UINT32_C(0x00000002)
 #define NIC_PVTEIAC_MSIX_2 UINT32_C(0x00000004)
 
+/* Mailbox of a virtual function, seen by the physical function */
+#define NIC_PFMAILBOX(i) (UINT32_C(0x04B00) + UINT32_C(0x04) * (uint32_t)(i))
+#define NIC_PFMAILBOX_COUNT 64
+#define NIC_PFMAILBOX_STS UINT32_C(0x00000001)
+#define NIC_PFMAILBOX_ACK UINT32_C(0x00000002)
+#define NIC_PFMAILBOX_VFU UINT32_C(0x00000004)
+#define NIC_PFMAILBOX_PFU UINT32_C(0x00000008)
+#define NIC_PFMAILBOX_RVFU UINT32_C(0x00000010)
+
+/* Mailbox of a virtual function */
+#define NIC_PVFMAILBOX(i) (UINT32_C(0x04C00) + UINT32_C(0x04) * (uint32_t)(i))
+#define NIC_PVFMAILBOX_COUNT 64
+#define NIC_PVFMAILBOX_REQ UINT32_C(0x00000001)
+#define NIC_PVFMAILBOX_ACK UINT32_C(0x00000002)
+#define NIC_PVFMAILBOX_VFU UINT32_C(0x00000004)
+#define NIC_PVFMAILBOX_PFU UINT32_C(0x00000008)
+#define NIC_PVFMAILBOX_PFSTS UINT32_C(0x00000010)
+#define NIC_PVFMAILBOX_PFACK UINT32_C(0x00000020)
+#define NIC_PVFMAILBOX_RSTI UINT32_C(0x00000040)
+#define NIC_PVFMAILBOX_RSTD UINT32_C(0x00000080)
+
 /* Extended interrupt auto mask of a virtual function */
 #define NIC_PVTEIAM(i) (UINT32_C(0x04D00) + UINT32_C(0x04) * (uint32_t)(i))
 #define NIC_PVTEIAM_COUNT 64
 #define NIC_PVTEIAM_MSIX_0 UINT32_C(0x00000001)
 #define NIC_PVTEIAM_MSIX_1 UINT32_C(0x00000002)
 #define NIC_PVTEIAM_MSIX_2 UINT32_C(0x00000004)
+
+/* Interrupt vector allocation of a virtual function's mailbox */
+#define NIC_PVTIVAR_MISC(i) (UINT32_C(0x04E00) + UINT32_C(0x04) * (uint32_t)(i))
+#define NIC_PVTIVAR_MISC_COUNT 64
+#define NIC_PVTIVAR_MISC_INT_ALLOC_0 UINT32_C(0x0000003F)
+#define NIC_PVTIVAR_MISC_INT_ALLOC_0_IS(v) ((uint32_t)(v) << 0 & NIC_PVTIVAR_MISC_INT_ALLOC_0)
+#define NIC_PVTIVAR_MISC_INT_ALLOC_VAL_0 UINT32_C(0x00000080)
 
 /* Receive descriptor base address, low part */
 #define NIC_RDBAL(i) nic_in_runs(0x01000, 0x40, 64, 0x0D000, (i))
@@ -596,6 +636,10 @@ static inline uint32_t nic_in_runs(uint32_t first, uint32_t stride, uint32_t cou
 #define NIC_PVTIVAR_INT_ALLOC_3_IS(v) ((uint32_t)(v) << 24 & NIC_PVTIVAR_INT_ALLOC_3)
 #define NIC_PVTIVAR_INT_ALLOC_VAL_3 UINT32_C(0x80000000)
 
+/* Mailbox memory, 16 words for each virtual function */
+#define NIC_PFMBMEM(i) (UINT32_C(0x13000) + UINT32_C(0x04) * (uint32_t)(i))
+#define NIC_PFMBMEM_COUNT 1024
+
 /* offsets of a virtual function, for nic_vf_read32 and nic_vf_write32 */
 #define NIC_VFCTRL UINT32_C(0x0000)
 #define NIC_VFSTATUS UINT32_C(0x0008)
@@ -607,6 +651,9 @@ static inline uint32_t nic_in_runs(uint32_t first, uint32_t stride, uint32_t cou
 #define NIC_VTEIAC UINT32_C(0x0110)
 #define NIC_VTEIAM UINT32_C(0x0114)
 #define NIC_VTIVAR(x) (UINT32_C(0x0120) + UINT32_C(0x04) * (uint32_t)(x))
+#define NIC_VTIVAR_MISC UINT32_C(0x0140)
+#define NIC_VFMBMEM(x) (UINT32_C(0x0200) + UINT32_C(0x04) * (uint32_t)(x))
+#define NIC_VFMAILBOX UINT32_C(0x02FC)
 #define NIC_VFPSRTYPE UINT32_C(0x0300)
 #define NIC_VFRDBAL(x) (UINT32_C(0x1000) + UINT32_C(0x40) * (uint32_t)(x))
 #define NIC_VFRDBAH(x) (UINT32_C(0x1004) + UINT32_C(0x40) * (uint32_t)(x))

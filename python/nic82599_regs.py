@@ -11,6 +11,8 @@ REGISTERS: dict[str, tuple[tuple[int, int, int, int], ...]] = {
     "CTRL_EXT": ((0, 0x00018, 0x04, 1),),
     "LEDCTL": ((0, 0x00200, 0x04, 1),),
     "PVFCTRL": ((0, 0x00300, 0x04, 64),),
+    "PFMBICR": ((0, 0x00710, 0x04, 4),),
+    "PFMBIMR": ((0, 0x00720, 0x04, 2),),
     "EICR": ((0, 0x00800, 0x04, 1),),
     "EICS": ((0, 0x00808, 0x04, 1),),
     "EIAC": ((0, 0x00810, 0x04, 1),),
@@ -26,7 +28,10 @@ REGISTERS: dict[str, tuple[tuple[int, int, int, int], ...]] = {
     "PVTEIMS": ((0, 0x00D00, 0x04, 64),),
     "PVTEIMC": ((0, 0x00E00, 0x04, 64),),
     "PVTEIAC": ((0, 0x00F00, 0x04, 64),),
+    "PFMAILBOX": ((0, 0x04B00, 0x04, 64),),
+    "PVFMAILBOX": ((0, 0x04C00, 0x04, 64),),
     "PVTEIAM": ((0, 0x04D00, 0x04, 64),),
+    "PVTIVAR_MISC": ((0, 0x04E00, 0x04, 64),),
     "RDBAL": ((0, 0x01000, 0x40, 64), (64, 0x0D000, 0x40, 64),),
     "RDBAH": ((0, 0x01004, 0x40, 64), (64, 0x0D004, 0x40, 64),),
     "RDLEN": ((0, 0x01008, 0x40, 64), (64, 0x0D008, 0x40, 64),),
@@ -80,6 +85,7 @@ REGISTERS: dict[str, tuple[tuple[int, int, int, int], ...]] = {
     "EERD": ((0, 0x10014, 0x04, 1),),
     "GCR_EXT": ((0, 0x11050, 0x04, 1),),
     "PVTIVAR": ((0, 0x12500, 0x04, 64),),
+    "PFMBMEM": ((0, 0x13000, 0x04, 1024),),
 }
 
 OFFSETS: dict[str, tuple[int, int]] = {
@@ -93,6 +99,9 @@ OFFSETS: dict[str, tuple[int, int]] = {
     "VTEIAC": (0x0110, 0x00),
     "VTEIAM": (0x0114, 0x00),
     "VTIVAR": (0x0120, 0x04),
+    "VTIVAR_MISC": (0x0140, 0x00),
+    "VFMBMEM": (0x0200, 0x04),
+    "VFMAILBOX": (0x02FC, 0x00),
     "VFPSRTYPE": (0x0300, 0x00),
     "VFRDBAL": (0x1000, 0x40),
     "VFRDBAH": (0x1004, 0x40),
@@ -135,6 +144,10 @@ FIELDS: dict[str, dict[str, tuple[int, int]]] = {
     },
     "PVFCTRL": {
         "RST": (26, 26),
+    },
+    "PFMBICR": {
+        "VFREQ": (15, 0),
+        "VFACK": (31, 16),
     },
     "EICR": {
         "RTxQ": (15, 0),
@@ -291,10 +304,31 @@ FIELDS: dict[str, dict[str, tuple[int, int]]] = {
         "MSIX[1]": (1, 1),
         "MSIX[2]": (2, 2),
     },
+    "PFMAILBOX": {
+        "Sts": (0, 0),
+        "Ack": (1, 1),
+        "VFU": (2, 2),
+        "PFU": (3, 3),
+        "RVFU": (4, 4),
+    },
+    "PVFMAILBOX": {
+        "Req": (0, 0),
+        "Ack": (1, 1),
+        "VFU": (2, 2),
+        "PFU": (3, 3),
+        "PFSTS": (4, 4),
+        "PFACK": (5, 5),
+        "RSTI": (6, 6),
+        "RSTD": (7, 7),
+    },
     "PVTEIAM": {
         "MSIX[0]": (0, 0),
         "MSIX[1]": (1, 1),
         "MSIX[2]": (2, 2),
+    },
+    "PVTIVAR_MISC": {
+        "INT_Alloc[0]": (5, 0),
+        "INT_Alloc_val[0]": (7, 7),
     },
     "RDLEN": {
         "LEN": (19, 0),

@@ -117,7 +117,8 @@ def type_table():
 
 def name_in_a_function(name):
     """What drivers of virtual functions call a register: VF in front, or VT of the function's interrupts."""
-    for old, new in (("PVFCTRL", "VFCTRL"), ("PVTE", "VTE"), ("PVTIVAR", "VTIVAR")):
+    own = ("PVFCTRL", "VFCTRL"), ("PVFMAILBOX", "VFMAILBOX"), ("PFMB", "VFMB"), ("PVTE", "VTE"), ("PVTIVAR", "VTIVAR")
+    for old, new in own:
         if name.startswith(old):
             return new + name[len(old) :]
     return name if name.startswith("VF") else "VF" + name

@@ -71,7 +71,7 @@ def _field(text: str) -> Field:
 
 _VECTORS = "*INT_Alloc[0] 5:0, *INT_Alloc_val[0] 7, *INT_Alloc[1] 13:8, *INT_Alloc_val[1] 15, *INT_Alloc[2] 21:16, \
 *INT_Alloc_val[2] 23, *INT_Alloc[3] 29:24, *INT_Alloc_val[3] 31"
-_CAUSES = "*RTxQ 15:0 bits, Flow_Director 16, *Rx_Miss 17, *PCI_Exception 18, MailBox 19, *LSC 20, LinkSec 21, MNG 22, \
+_CAUSES = "*RTxQ 15:0 bits, Flow_Director 16, *Rx_Miss 17, *PCI_Exception 18, *MailBox 19, *LSC 20, LinkSec 21, MNG 22, \
 GPI_SDP0 24, GPI_SDP1 25, GPI_SDP2 26, GPI_SDP3 27, ECC 28, TCP_Timer 30"
 _FUNCTION = "*MSIX[0] 0, *MSIX[1] 1, *MSIX[2] 2"
 _MAP = "*Q_MAP[0] 3:0, *Q_MAP[1] 11:8, *Q_MAP[2] 19:16, *Q_MAP[3] 27:24"
@@ -83,9 +83,14 @@ _COUNT = "*count 31:0"
 _LINES = {
     "CTRL": "*Master_Disable 2, *LRST 3, *RST 26",
     "STATUS": "LAN_ID 3:2, LinkUp 7, Num_VFs 17:10, IOV_Active 18, *Master_Enable_Status 19",
-    "CTRL_EXT": "PFRSTD 14, NS_DIS 16, RO_DIS 17, Extended_VLAN 26, DRV_LOAD 28",
+    "CTRL_EXT": "*PFRSTD 14, NS_DIS 16, RO_DIS 17, Extended_VLAN 26, DRV_LOAD 28",
     "LEDCTL": "..",
     "PVFCTRL": "*RST 26",
+    "PFMBICR": "*VFREQ 15:0 bits, *VFACK 31:16 bits",
+    "PFMBIMR": "*VFIM 31:0 bits",
+    "PFMAILBOX": "*Sts 0, *Ack 1, *VFU 2, *PFU 3, *RVFU 4",
+    "PVFMAILBOX": "*Req 0, *Ack 1, *VFU 2, *PFU 3, *PFSTS 4, *PFACK 5, *RSTI 6, *RSTD 7",
+    "PFMBMEM": "*word 31:0 hex",
     "EICR": _CAUSES,
     "EICS": _CAUSES,
     "EIAC": _CAUSES,
@@ -104,6 +109,7 @@ _LINES = {
     "PVTEIAC": _FUNCTION,
     "PVTEIAM": _FUNCTION,
     "PVTIVAR": _VECTORS,
+    "PVTIVAR_MISC": "*INT_Alloc[0] 5:0, *INT_Alloc_val[0] 7",
     "RDBAL": "*RDBAL 31:0 hex",
     "RDBAH": "*RDBAH 31:0 hex",
     "RDLEN": "*LEN 19:0",
@@ -256,6 +262,8 @@ def _function_map() -> dict[int, dict[int, tuple[str, int, int]]]:
             offsets[int(offset, 16)] = (name.removesuffix("[v]"), 1 if name.endswith("[v]") else 0, 0)
         for x in range(k // 2):
             offsets[0x120 + 4 * x] = ("PVTIVAR", k // 2, x)
+        for x in range(16):
+            offsets[0x200 + 4 * x] = ("PFMBMEM", 16, x)
         for offset, name in side_rows("Receive", 0x1000) + side_rows("Transmit", 0x2000):
             for x in range(k):
                 offsets[int(offset.split()[0], 16) + 0x40 * x] = (name.split("[")[0], k, x)

@@ -100,7 +100,20 @@ class Plan:
             )
         if kind == "Vreset":
             return sorted(self.seen) if (written or 0) & 1 << 26 else []
+        if kind in ("Vfmail", "Pfmail", "Ctrlext"):
+            return self._mail(register, written)
         return [register.address] if written is not None or kind == "Rc" else []
+
+    def _mail(self, register: Register, written: int | None) -> list[int]:
+        """What an access of a mailbox, or of CTRL_EXT, can change."""
+        kind, i = register.row.kind, register.index
+        if kind == "Ctrlext":
+            boxes = [first("PVFMAILBOX", v) for v in range(64)] if (written or 0) & 1 << 14 else []
+            return [register.address] + [at for at in boxes if at in self.seen] if written is not None else []
+        both = [first("PVFMAILBOX", i), first("PFMAILBOX", i)]
+        if kind == "Pfmail":
+            return both + [first("PVTEICR", i)] if written is not None else []
+        return both + [first("PFMBICR", i // 16), first("EICR")] if written is not None else both
 
     def causes(self, queue: int) -> list[int]:
         """The causes that a queue may raise: of the physical function, or of the function whose pool has it."""

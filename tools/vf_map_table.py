@@ -38,6 +38,7 @@ def rows_of_offsets():
     """All registers of a function, in the order of their offsets."""
     rows = own_rows()
     rows.append(("0x0120 + 0x04*x, x below k/2", "PVTIVAR[v*k/2 + x]"))
+    rows.append(("0x0200 + 0x04*x, x below 16", "PFMBMEM[16*v + x]"))
     rows += side_rows("Receive", 0x1000) + side_rows("Transmit", 0x2000)
     return sorted(rows, key=lambda row: int(row[0][:6], 16))
 

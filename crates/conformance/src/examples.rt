@@ -12,7 +12,7 @@ use std::{fs, io};
 
 /// The runs that print what stands in `NAME.out`: the name, the words, the kind of the file that is read, and the
 /// status that the run ends with.
-const RUNS: [(&str, &str, &str, u8); 11] = [
+const RUNS: [(&str, &str, &str, u8); 12] = [
     ("first", "nicbench run", "nic", 0),
     ("masks", "nicbench run", "nic", 0),
     ("aliases", "nicbench run", "nic", 0),
@@ -23,6 +23,7 @@ const RUNS: [(&str, &str, &str, u8); 11] = [
     ("interrupts", "nicbench run", "nic", 0),
     ("fault", "nicbench run", "nic", 2),
     ("virtual", "nicbench run --vfs 2", "nic", 0),
+    ("mailbox", "nicbench run --vfs 2", "nic", 0),
     ("tail", "nicbench debug", "debug", 0),
 ];
 

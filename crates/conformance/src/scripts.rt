@@ -28,7 +28,7 @@ use std::{fs, io};
 use text_format::number;
 
 /// The tables.
-const TABLES: [&str; 21] = [
+const TABLES: [&str; 22] = [
     "grammar",
     "words",
     "registers",
@@ -43,6 +43,7 @@ const TABLES: [&str; 21] = [
     "counters",
     "interrupts",
     "functions",
+    "mailbox",
     "eeprom_registers",
     "jumps",
     "hash",

@@ -15,7 +15,7 @@ use Rattle.device_lock.specs.declared.entry.Entry.{Entry}
 use Rattle.pmd.specs.PmdSeam.Events.{is_step}
 use Rattle.pmd.specs.PmdSeam.Made.{AreSteps}
 use Rattle.pmd.specs.Halves.{AllOwn, Doer, OthersStep, doers_other, is_neither, played_by}
-use Rattle.pmd.proofs.Calls.{both_own, both_played, others_own, others_played, own_length}
+use Rattle.pmd.proofs.Followed.{both_own, both_played, others_own, others_played, own_length}
 use Rattle.receive_laws.proofs.Histories.{calls_own, calls_other}
 use Rattle.driver_laws.specs.Beside.{AreHarmless, CallsAddHarmless, DrivesLead, HarmlessLead, HarmlessLeaveAlone, LeadsOn, OthersHarmless, StepsAddHarmless, is_harmless}
 use Rattle.driver_laws.specs.Histories.{doer_of, doers_after}

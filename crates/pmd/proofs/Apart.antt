@@ -15,7 +15,7 @@ use Rattle.pmd_tx.specs.Sending as sending
 use Rattle.pmd_tx.specs.Sending.{Move, Accepts, Asks, Advances, Looks, Reaps, Elsewhere}
 use Rattle.pmd.specs.Apart.{MayLend, LendsApart, AllLendApart, DrivesApart}
 use Rattle.pmd.specs.Halves.{Halves, Doer, Receives, Sends, AllOwn, after_call, doers_marked, doers_moved, played_by}
-use Rattle.pmd.proofs.Calls.{receiving_drives, sending_drives, drives_none, drives_on}
+use Rattle.pmd.proofs.Followed.{receiving_drives, sending_drives, drives_none, drives_on}
 
 -- a step of the device lends nothing
 pub step_apart : (own : Blocks) (h : Halves) (e : Event Block) → IsTrue (is_step e)

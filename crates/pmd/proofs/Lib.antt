@@ -5,12 +5,12 @@ pub mod Apart
 pub mod Blocks
 pub mod Both
 pub mod Bringing
-pub mod Calls
 pub mod Counted
 pub mod Driving
 pub mod FailedStop
 pub mod Few
 pub mod Finding
+pub mod Followed
 pub mod HaltedBlocks
 pub mod HaltedBoth
 pub mod Handing

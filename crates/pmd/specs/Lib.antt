@@ -3,8 +3,8 @@ pub use Rattle.pmd_rx.specs as PmdRx
 pub use Rattle.pmd_tx.specs as PmdTx
 pub mod Apart
 pub mod Blocks
-pub mod Calls
 pub mod Driver
+pub mod DriverCalls
 pub mod Ends
 pub mod Halted
 pub mod Halves

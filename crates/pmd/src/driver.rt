@@ -9,7 +9,7 @@ ghost use Rattle.pmd_tx.specs.Sends.{returned};
 ghost use Rattle.pmd.specs.Halted.{Halted, all_out, is_free_or_out};
 ghost use Rattle.pmd.specs.Stopping.{Stops, StopFails};
 ghost use Rattle.pmd.specs.Blocks.{KeepsBlocks};
-ghost use Rattle.pmd.specs.Calls.{IsReceiveCall, IsSendCall, IsReapCall};
+ghost use Rattle.pmd.specs.DriverCalls.{IsReceiveCall, IsSendCall, IsReapCall};
 ghost use Rattle.pmd.specs.Life.{KeepsHalves, RunsOn};
 ghost use Rattle.pmd.specs.Driver.{arena_of, handed_of, accepted_of, goes_back_to, with_arena, halted_of, WhereUp, IsDown};
 ghost use Rattle.pmd_rx.specs.PmdSeam.Refusals.{CanFail};

@@ -7,7 +7,7 @@ ghost use Rattle.pmd_rx.specs.Keeping.{block_in, handed_block};
 ghost use Rattle.pmd_tx.specs.Sends.{returned};
 ghost use Rattle.pmd.specs.Apart.{DrivesRings, OwnsSame};
 ghost use Rattle.pmd.specs.Blocks.{KeepsUp};
-ghost use Rattle.pmd.specs.Calls.{IsReceiveCall, IsSendCall, IsReapCall};
+ghost use Rattle.pmd.specs.DriverCalls.{IsReceiveCall, IsSendCall, IsReapCall};
 ghost use Rattle.pmd.specs.Halves.{halves_of};
 ghost use Rattle.pmd.specs.Running.{IsUp, IsReleased, goes_back, receives};
 ghost use Rattle.pmd_rx.specs.PmdSeam.Refusals.{CanFail};

@@ -11,7 +11,7 @@ use Rattle.pmd.specs.Apart.{AllLendApart, FindsFault}
 use Rattle.pmd.specs.Halves.{AllOwn, Doer, Halves, played_by}
 use Rattle.pmd.specs.Started.{is_size}
 use Rattle.pmd.proofs.Apart.{apart_none}
-use Rattle.pmd.proofs.Calls.{both_own, own_length}
+use Rattle.pmd.proofs.Followed.{both_own, own_length}
 use Rattle.pmd.specs.PmdSeam.Named.{AtPort}
 use Rattle.pmd.specs.PmdRx.Receive.{Receive}
 use Rattle.pmd.specs.PmdTx.Sending.{Sender}

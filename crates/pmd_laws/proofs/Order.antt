@@ -20,7 +20,7 @@ use Rattle.start_laws.proofs.Parts.{Parts, parts}
 use Rattle.start_laws.specs.On.{AreOn}
 use Rattle.start_laws.proofs.Start.{on}
 use Rattle.pmd.specs.Halves.{Halves, halves_of, played_by}
-use Rattle.pmd.proofs.Calls.{receiving_drives}
+use Rattle.pmd.proofs.Followed.{receiving_drives}
 use Rattle.driver_laws.specs.Beside.{Leads}
 use Rattle.driver_laws.proofs.Beside.{drives_lead, leads_on}
 use Rattle.driver_laws.specs.Histories.{IsDriven}

@@ -6,7 +6,7 @@ use Rattle.device_lock.specs.declared.entry.Call.{Call}
 use Rattle.pmd.proofs.PmdSeam.Steps.{steps_both, steps_last}
 use Rattle.pmd.specs.Apart.{FindsFault, is_healthy}
 use Rattle.pmd.specs.Halves.{AllOwn, Doer, Halves, OthersStep, OwnCall, Receives, Sends, doers_other, is_neither, played_by}
-use Rattle.pmd.proofs.Calls.{both_own, others_own, others_played, own_length}
+use Rattle.pmd.proofs.Followed.{both_own, others_own, others_played, own_length}
 use Rattle.pmd.specs.PmdTx.Sending.{Elsewhere}
 use Rattle.driver_laws.specs.Faults.{doers_of}
 

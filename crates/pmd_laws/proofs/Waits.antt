@@ -20,7 +20,7 @@ use Rattle.start_laws.specs.TransmitLaws.Laws.{FindsWaiting}
 use Rattle.start_laws.specs.TransmitLaws.Sent.{sent_since}
 use Rattle.start_laws.proofs.Parts.{Parts, calls_joined}
 use Rattle.pmd.specs.Halves.{Halves, halves_of}
-use Rattle.pmd.proofs.Calls.{sending_drives}
+use Rattle.pmd.proofs.Followed.{sending_drives}
 use Rattle.driver_laws.specs.Beside.{AddsHarmless, Leads}
 use Rattle.driver_laws.proofs.Beside.{drives_lead, harmless_lead, leads_on, steps_harmless}
 use Rattle.driver_laws.proofs.Waiting.{waiting_is_not_all}

@@ -13,7 +13,7 @@ use Rattle.pmd.specs.PmdTx.Sending.{Layout, Outgoing, blocks_of}
 use Rattle.pmd.specs.PmdTx.Sends.{IsNoneAccepted, IsBack}
 use Rattle.pmd.specs.PmdTx.declared.answer.TxAnswer.{TxAnswer}
 use Rattle.pmd.specs.PmdTx.declared.answer.TxFault.{TxFault}
-use Rattle.pmd.specs.Calls.{IsSendCall}
+use Rattle.pmd.specs.DriverCalls.{IsSendCall}
 use Rattle.pmd.specs.Driver.{goes_back_to, WhereUp, IsDown}
 use Rattle.pmd.specs.Running.{Running, goes_back}
 use Rattle.pmd.specs.declared.driver.Rings.{Rings}

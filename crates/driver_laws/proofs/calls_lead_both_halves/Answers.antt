@@ -1,4 +1,4 @@
-use Rattle.pmd.proofs.Calls.{receiving_drives, sending_drives, others_drive, drives_on}
+use Rattle.pmd.proofs.Followed.{receiving_drives, sending_drives, others_drive, drives_on}
 use Rattle.driver_laws.proofs.calls_lead_both_halves.Goals as goal
 
 pub returns : goal.returns

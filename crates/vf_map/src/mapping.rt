@@ -17,6 +17,7 @@ const VECTORS: u32 = 0x120;
 
 /// The offset of a function's first word of the mailbox memory, and how many it has.
 const MESSAGES: u32 = 0x200;
+
 const MESSAGE_WORDS: u16 = 16;
 
 /// How many bytes of offsets each side's queues have: the receive side's are the second such block, the transmit side's

@@ -49,7 +49,8 @@ same_mode : (v : ℕ) (a b : State) → AgreeOnPool v a b → mode_in a.register
 same_mode v a b h = ap mode_of h.mode
 
 reset_parts : (v : ℕ) (a b : State) → IsSound a → IsSound b → (mode : Mode) → mode_in a.registers ≡ mode
-    → mode_in b.registers ≡ mode → AgreeWithin (pool_agrees mode v) a.registers b.registers → PartsAgree mode v (with_pool_reset a v) (with_pool_reset b v)
+    → mode_in b.registers ≡ mode → AgreeWithin (pool_agrees mode v) a.registers b.registers
+    → PartsAgree mode v (with_pool_reset a v) (with_pool_reset b v)
 reset_parts v a b good sound mode first second same = record {
   registers = subst (λ m. AgreeWithin (pool_agrees mode v) (pool_reset m v a.registers) (with_pool_reset b v).registers)
       (sym first)

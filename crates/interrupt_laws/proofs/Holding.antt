@@ -58,7 +58,8 @@ use Rattle.interrupt_laws.specs.Holding.{SparesFunction, SparesPhysical, IsSpari
 elsewhere : (k : Kind) (p : Place) (v : ℕ) → (row_of p.row).kind ≡ k → k ≢ kind.Vfmail
     → is_place p (place row.Pvfmailbox v) ≡ false
 elsewhere k p v e other =
-    is_place-other p (place row.Pvfmailbox v) (λ same. other (sym e ∙ ap (λ (q : Place). (row_of q.row).kind) (sym same)))
+    is_place-other p (place row.Pvfmailbox v)
+    (λ same. other (sym e ∙ ap (λ (q : Place). (row_of q.row).kind) (sym same)))
 
 -- a read changes neither bit that says who holds a mailbox
 read_lacks : (k : Kind) (p : Place) (v n : ℕ) → (row_of p.row).kind ≡ k → (n == 4 || n == 5 || n == 7) ≡ false
@@ -76,7 +77,8 @@ record IsOther (k : Kind) (p : Place) (v n : ℕ) : Type 0 where
 
 apart_mail : (w v : ℕ) → w ≢ v → is_place (place row.Pvfmailbox w) (place row.Pvfmailbox v) ≡ false
 apart_mail w v apart =
-    is_place-other (place row.Pvfmailbox w) (place row.Pvfmailbox v) (λ same. apart (ap (λ (q : Place). q.index) (sym same)))
+    is_place-other (place row.Pvfmailbox w) (place row.Pvfmailbox v)
+    (λ same. apart (ap (λ (q : Place). q.index) (sym same)))
 
 write_lacks : (k : Kind) (p : Place) (v n : ℕ) → (row_of p.row).kind ≡ k → (n == 6 || n == 7) ≡ false
     → IsOther k p v n → (written_by k p).bits (place row.Pvfmailbox v) n ≡ false

@@ -54,15 +54,15 @@ pub fn auto_words_are_kept()
     ensures mask { WriteOfAutoMaskIsKept }
 {}
 
-/// Both sides of a function's mailbox read alike who holds it, which is one of them at most, and the function reads that a
-/// reset began or that it is done, not both.
+/// Both sides of a function's mailbox read alike who holds it, which is one of them at most, and the function reads
+/// that a reset began or that it is done, not both.
 pub fn mailboxes_are_shared()
     ensures { MailboxesAreShared }
 {}
 
-/// Who holds a mailbox holds it after every event but those writes that end it: for the function one of PVFMAILBOX without
-/// bit 2, one of PFMAILBOX with bit 4, and a reset of its pool or of the device; for the physical function one of PFMAILBOX
-/// without bit 3, and a reset of the device.
+/// Who holds a mailbox holds it after every event but those writes that end it: for the function one of PVFMAILBOX
+/// without bit 2, one of PFMAILBOX with bit 4, and a reset of its pool or of the device; for the physical function one
+/// of PFMAILBOX without bit 3, and a reset of the device.
 pub fn holders_hold_on()
     ensures function { FunctionHoldsOn }
     ensures physical { PhysicalHoldsOn }

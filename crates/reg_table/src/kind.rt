@@ -32,7 +32,7 @@ pub enum Kind {
     /// The word that reads the EEPROM: the index asked for, and what was read. A read gives the word. A write replaces
     /// bits 15 to 0 but for bit 1, and clears the others.
     Eerd,
-    /// Causes that stay until they are told as seen. A read gives the word. A write clears the bits that are 1 in what is
+    /// Causes that stay until they are cleared. A read gives the word. A write clears the bits that are 1 in what is
     /// written.
     W1c,
     /// The mailbox of a virtual function. A read gives the word and clears what it tells once: a status, an

@@ -15,12 +15,14 @@ or_pow n k =
     elim (cases_Bool (has_bit k n)) as (λ _. bit_or n (2 ^ k) ≡ bit_set k n) [
       | inl t ↦
           let one : bit_at n k ≡ 1 = eqb-true (bit_at n k) 1 t in
-          let whole : bit_or n (2 ^ k) + 1 * 2 ^ k ≡ n + 2 ^ k = ap (λ d. bit_or n (2 ^ k) + d * 2 ^ k) (sym one) ∙ sum in
+          let whole : bit_or n (2 ^ k) + 1 * 2 ^ k ≡ n + 2 ^ k =
+          ap (λ d. bit_or n (2 ^ k) + d * 2 ^ k) (sym one) ∙ sum in
           let same : bit_or n (2 ^ k) ≡ n = omega arith in
           same ∙ sym (cond-true (has_bit k n) n (n + 2 ^ k) t)
       | inr f ↦
           let none : bit_at n k ≡ 0 = let other = eqb-false (bit_at n k) 1 f in omega (arith, bit_at-lt n k) in
-          let whole : bit_or n (2 ^ k) + 0 * 2 ^ k ≡ n + 2 ^ k = ap (λ d. bit_or n (2 ^ k) + d * 2 ^ k) (sym none) ∙ sum in
+          let whole : bit_or n (2 ^ k) + 0 * 2 ^ k ≡ n + 2 ^ k =
+          ap (λ d. bit_or n (2 ^ k) + d * 2 ^ k) (sym none) ∙ sum in
           let same : bit_or n (2 ^ k) ≡ n + 2 ^ k = omega arith in
           same ∙ sym (cond-false (has_bit k n) n (n + 2 ^ k) f)
     ]

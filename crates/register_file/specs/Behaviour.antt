@@ -92,8 +92,8 @@ interrupts change =
 -- A counter starts again from 0 at a read, and causes are cleared. A queue's ring can't be changed while its side is
 -- on; a write of its enable word asks for bit 25, and leaves that bit as it is, which a switch sets. A reset of the
 -- device is asked for by CTRL with bit 3 or bit 26, one of a pool by PVFCTRL with bit 26. A write of EERD clears bit 1,
--- DONE, and the word that was read. PFMAILBOX keeps no word: it shows and writes that of PVFMAILBOX. A write of CTRL_EXT
--- with bit 14 tells all functions that a reset is done.
+-- DONE, and the word that was read. PFMAILBOX keeps no word: it shows and writes that of PVFMAILBOX. A write of
+-- CTRL_EXT with bit 14 tells all functions that a reset is done.
 abbrev pub behaviour_of : Kind → Behaviour
 behaviour_of kind.Rw = plain
 behaviour_of kind.Ro = kept

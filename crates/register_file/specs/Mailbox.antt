@@ -27,8 +27,9 @@ abbrev pub function_wrote : (mail word : ℕ) → ℕ
 function_wrote mail word =
     if has_bit 2 word then (if has_bit 3 mail then mail else bit_set 2 mail) else bit_cleared 2 mail
 
--- after a write by the physical function: with bit 4 it takes the mailbox from the function; with bit 3 it then takes it
--- for itself where the function doesn't hold it, and without gives it up; bit 0 sends a status, bit 1 an acknowledgement
+-- after a write by the physical function: with bit 4 it takes the mailbox from the function; with bit 3 it then takes
+-- it for itself where the function doesn't hold it, and without gives it up; bit 0 sends a status, bit 1 an
+-- acknowledgement
 abbrev pub released : (mail word : ℕ) → ℕ
 released mail word = if has_bit 4 word then bit_cleared 2 mail else mail
 

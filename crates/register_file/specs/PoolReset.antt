@@ -26,7 +26,8 @@ abbrev pub some_bits : RowId → ℕ → Renewal
 some_bits row mask = record { row = row; whole = false; mask = mask }
 
 -- the table of what it takes: of the rows that a pool has once, with what it takes of the mailbox (that the function
--- holds it, what was sent to it, and its vector); of those of a side of a queue; and of that of the vectors of two queues
+-- holds it, what was sent to it, and its vector); of those of a side of a queue; and of that of the vectors of two
+-- queues
 abbrev pub own_renewals : List Renewal
 own_renewals =
     all_bits Pvfctrl ∷ all_bits Pvteicr ∷ all_bits Pvteics ∷ all_bits Pvteims ∷ all_bits Pvteimc ∷ all_bits Pvteiac

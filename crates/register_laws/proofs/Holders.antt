@@ -14,9 +14,9 @@ use Rattle.register_file.specs.Registers.{Registers, reset_registers}
 use Rattle.register_file.specs.Words.{word_at, put, row_words}
 use Rattle.register_file.proofs.ResetWords.{word_at-reset}
 use Rattle.register_laws.specs.Footprint.{is_place}
-use Rattle.register_laws.specs.Sound.{HasShape, IsMail}
-use Rattle.register_laws.proofs.Bits.{has_bit-set, has_bit-clear}
-use Rattle.register_laws.proofs.MailBits.{KeepsOut, has_bit-zero, has_bit-set_other, has_bit-clear_other, is_vfu, is_physical, is_once, is_reset_bit, function_keeps, physical_keeps, once_keeps, reset_keeps}
+use Rattle.register_laws.specs.Sound.{IsMail}
+use Rattle.register_laws.proofs.Bits.{has_bit-clear}
+use Rattle.register_laws.proofs.MailBits.{has_bit-set_other, has_bit-clear_other, function_keeps, once_keeps, reset_keeps}
 use Rattle.register_laws.proofs.Owners.{apart, is_place-itself, is_place-same}
 use Rattle.register_laws.proofs.Puts.{word_at-put_other, put_cases}
 use Rattle.register_laws.proofs.Shape.{HasShape-reset}

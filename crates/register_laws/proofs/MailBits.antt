@@ -1,6 +1,6 @@
 -- Which bits of a mailbox's word the two sides change.
-use Rattle.std.proofs.Common.{◌≡◌, ◌≢◌, ℕ, ◌+◌, ◌-◌, ◌/◌, ◌%◌, ◌^◌, ◌<◌, ◌≤◌, Bool, true, false, cond, ◌==◌, ◌&&◌, ◌||◌, refl, ap, sym, ◌∙◌, subst, inl, inr, arith}
-use Rattle.std.specs.Prelude.{bit_or, min, max}
+use Rattle.std.proofs.Common.{◌≡◌, ◌≢◌, ℕ, ◌+◌, ◌-◌, ◌/◌, ◌%◌, ◌^◌, ◌<◌, ◌≤◌, Bool, true, false, cond, ◌==◌, ◌||◌, refl, ap, sym, ◌∙◌, subst, inl, inr, arith}
+use Rattle.std.specs.Prelude.{bit_or, max}
 use Rattle.std.specs.Int.{bit_at}
 use Rattle.std.proofs.Math.Nat.{div-eq_of_lt}
 use Rattle.std.proofs.lemmas.Bool.{cases_Bool, cases_lt, cond-true, cond-false, both_ways, eq-eqb, eqb-true, or_left, or_right}
@@ -12,7 +12,7 @@ use Rattle.register_file.specs.IntrUnit.BitSet.{contains, IsSubset}
 use Rattle.register_file.specs.Bits.{has_bit, bit_set, bit_cleared}
 use Rattle.register_file.specs.Mailbox.{set_if, function_wrote, released, taken, physical_wrote, told_once, reset_told, requests}
 use Rattle.register_file.proofs.SingleBits.{or_pow}
-use Rattle.register_laws.proofs.Bits.{has_bit-set, has_bit-clear}
+use Rattle.register_laws.proofs.Bits.{has_bit-clear}
 
 -- the bits of two words together, of 0 and of a power of 2
 or_digits : (a b : ℕ) → a < 2 → b < 2 → (max a b == 1) ≡ ((a == 1) || (b == 1))
@@ -168,8 +168,10 @@ requests_keep v word =
     let has = is_asked v in
     let acknowledged = set_if (has_bit 1 word) (16 + v % 16) 0 in
     out-trans has 0 acknowledged _
-    (out-set_if has (has_bit 1 word) (16 + v % 16) 0 (or_right (16 + v % 16 == v % 16) _ (eq-eqb (16 + v % 16) (16 + v % 16) refl)))
-    (out-set_if has (has_bit 0 word) (v % 16) acknowledged (or_left _ (v % 16 == 16 + v % 16) (eq-eqb (v % 16) (v % 16) refl)))
+    (out-set_if has (has_bit 1 word) (16 + v % 16) 0
+    (or_right (16 + v % 16 == v % 16) _ (eq-eqb (16 + v % 16) (16 + v % 16) refl)))
+    (out-set_if has (has_bit 0 word) (v % 16) acknowledged
+    (or_left _ (v % 16 == 16 + v % 16) (eq-eqb (v % 16) (v % 16) refl)))
 
 -- words of 32 bits
 set-lt : (n word : ℕ) → n < 32 → word < 2 ^ 32 → bit_set n word < 2 ^ 32

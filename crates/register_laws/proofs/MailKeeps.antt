@@ -1,5 +1,5 @@
 -- What accesses of each kind of mailbox register keep.
-use Rattle.std.proofs.Common.{◌≡◌, ℕ, ◌+◌, ◌%◌, ◌/◌, Bool, true, false, ◌==◌, ◌&&◌, ◌||◌, refl, ap, sym, ◌∙◌, subst}
+use Rattle.std.proofs.Common.{◌≡◌, ℕ, ◌+◌, ◌%◌, ◌/◌, true, false, ◌==◌, ◌&&◌, ◌||◌, refl, ap, sym, ◌∙◌, subst}
 use Rattle.std.specs.Prelude.{bit_and, if◌then◌else◌}
 use Rattle.std.proofs.lemmas.Bool.{both_ways, false_from_ne_true, and_parts, eqb-true}
 use Rattle.register_file.specs.RegTable.Rows.{row_of, number_of}
@@ -15,11 +15,11 @@ use Rattle.register_file.specs.Access.{stored, ones_cleared}
 use Rattle.register_file.specs.Bits.{has_bit}
 use Rattle.register_file.specs.Columns.{place}
 use Rattle.register_file.specs.Mailbox.{function_wrote, told_once, with_mail, mail_of, mail_read, function_writes, physical_writes, holders, resets_told, by_mail_read, by_sending, by_function, by_physical, by_telling}
-use Rattle.register_file.specs.Owner.{owner_of, owner_in}
+use Rattle.register_file.specs.Owner.{owner_in}
 use Rattle.register_file.specs.Registers.{Registers}
 use Rattle.register_file.specs.Words.{word_at}
 use Rattle.register_file.specs.declared.owner.Owner.TheVariants as owner
-use Rattle.register_laws.specs.Footprint.{Footprint, ChangesWithin, Covers, either, is_place, the_word, the_bits, of_owner, of_side, AgreeWithin, pool_agrees, is_alone, is_pending}
+use Rattle.register_laws.specs.Footprint.{Footprint, ChangesWithin, Covers, either, is_place, the_word, of_owner, of_side, AgreeWithin, pool_agrees, is_alone, is_pending}
 use Rattle.register_laws.proofs.Agreeing.{agree-put}
 use Rattle.register_laws.proofs.Covers.{covers-trans, covers-first, covers-second, covers-the_word, misses-narrower, misses-owner}
 use Rattle.register_laws.proofs.Footprints.{within-trans, within-wider, within-if}
@@ -83,7 +83,8 @@ mail_reading = record {
       (ap told_once (mail_same mode v a b same p e is));
 }
 
-pub function_write : KeepsWriting kind.Vfmail (λ r p view word. function_writes r p.index word) (λ p. by_function p.index)
+pub function_write : KeepsWriting kind.Vfmail (λ r p view word. function_writes r p.index word)
+    (λ p. by_function p.index)
 function_write = record {
   within = λ r p view word. within-function r p.index word;
   owned = λ own p e. cc;
@@ -106,7 +107,8 @@ pub physical_given : GivesTheSame kind.Pfmail (λ r around p. holders r p.index)
 physical_given mode v a b same around p e is =
     absurd (both_ways _ (physical_is_the_devices p.row mode v p.index e) is)
 
-pub physical_write : KeepsWriting kind.Pfmail (λ r p view word. physical_writes r p.index word) (λ p. by_physical p.index)
+pub physical_write : KeepsWriting kind.Pfmail (λ r p view word. physical_writes r p.index word)
+    (λ p. by_physical p.index)
 physical_write = record {
   within = λ r p view word. within-physical r p.index word;
   owned = λ own p e. cc;

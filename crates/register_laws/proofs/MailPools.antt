@@ -1,7 +1,7 @@
 -- Mailboxes and pools: which places are whose, what two functions' mailboxes share, and what must agree.
 use Rattle.std.proofs.Common.{◌≡◌, ◌≢◌, ℕ, ◌+◌, ◌/◌, ◌%◌, Bool, true, false, ◌==◌, ◌&&◌, ◌||◌, refl, ap, sym, ◌∙◌, subst, inl, inr, arith}
 use Rattle.std.specs.Prelude.{IsTrue, ◌⊎◌}
-use Rattle.std.proofs.lemmas.Bool.{both_ways, and_parts, or_cases, or_left, eqb-true, eq-eqb}
+use Rattle.std.proofs.lemmas.Bool.{and_parts, or_cases, eqb-true, eq-eqb}
 use Rattle.register_file.specs.RegTable.Rows.{row_of}
 use Rattle.register_file.specs.RegTable.declared.kind.Kind.TheVariants as kind
 use Rattle.register_file.specs.RegTable.declared.place.Place.{Place}
@@ -40,7 +40,8 @@ causes_are_the_devices row.Ctrl mode v i e = cc
 causes_are_the_devices other mode v i e = cc
 
 -- what a function's write of its mailbox may change is its pool's, or what it sends
-mail_is_the_pools : (mode : Mode) (v : ℕ) (has : ℕ → Bool) → Covers (pool_has mode v) (the_bits (place row.Pvfmailbox v) has)
+mail_is_the_pools : (mode : Mode) (v : ℕ) (has : ℕ → Bool)
+    → Covers (pool_has mode v) (the_bits (place row.Pvfmailbox v) has)
 mail_is_the_pools mode v has = record {
   bits = λ p bit is.
       subst (λ q. is_of_pool mode v q ≡ true)
@@ -94,7 +95,8 @@ requests_apart v w p bit own others =
     let mine = and_parts (is_place (place row.Pfmbicr (v / 16)) p) (bit == v % 16 || bit == 16 + v % 16) own in
     let its = and_parts (is_place (place row.Pfmbicr (w / 16)) p) (bit == w % 16 || bit == 16 + w % 16) others in
     let words : v / 16 ≡ w / 16 =
-    ap (λ (q : Place). q.index) (is_place-same (place row.Pfmbicr (v / 16)) p mine.0 ∙ sym (is_place-same (place row.Pfmbicr (w / 16)) p its.0)) in
+    ap (λ (q : Place). q.index)
+    (is_place-same (place row.Pfmbicr (v / 16)) p mine.0 ∙ sym (is_place-same (place row.Pfmbicr (w / 16)) p its.0)) in
     same_asked v w bit words (one_of_asked v bit mine.1) (one_of_asked w bit its.1)
 
 pub sending_apart : (v w : ℕ) → v ≢ w → (p : Place) (bit : ℕ) → (by_sending v).bits p bit ≡ true

@@ -1,5 +1,5 @@
 -- What accesses of mailboxes change, and how registers stay sound.
-use Rattle.std.proofs.Common.{◌≡◌, ℕ, ◌+◌, ◌/◌, ◌%◌, ◌^◌, ◌<◌, ◌≤◌, Bool, true, false, cond, ◌==◌, ◌&&◌, ◌||◌, List, [], ◌∷◌, refl, ap, sym, ◌∙◌, subst, inl, inr, arith, lit<}
+use Rattle.std.proofs.Common.{◌≡◌, ℕ, ◌/◌, ◌%◌, ◌^◌, ◌<◌, ◌≤◌, Bool, true, false, ◌==◌, ◌&&◌, ◌||◌, List, [], ◌∷◌, refl, ap, sym, ◌∙◌, subst, inl, inr, arith, lit<}
 use Rattle.std.specs.Prelude.{fold, bit_or}
 use Rattle.std.specs.List.{range_with_len}
 use Rattle.std.proofs.lemmas.Bool.{cases_Bool, cases_lt, both_ways, false_from_ne_true, and_parts, and_from, or_cases, or_left, or_right, eqb-true}
@@ -8,7 +8,6 @@ use Rattle.std.proofs.lemmas.Nat.Bits.{bit_at_above}
 use Rattle.std.proofs.lemmas.Nat.{or_lt}
 use Rattle.register_file.specs.RegTable.Rows.{row_of, number_of}
 use Rattle.register_file.specs.RegTable.declared.place.Place.{Place}
-use Rattle.register_file.specs.RegTable.declared.rows.RowId.{RowId}
 use Rattle.register_file.specs.RegTable.declared.rows.RowId.TheVariants.{Eicr, Pvteicr, Pfmbicr, Pfmbimr, Pvfmailbox, PvtivarMisc}
 use Rattle.register_file.specs.IntrUnit.BitSet.{BitSet, contains, intersection, IsSubset}
 use Rattle.register_file.specs.IntrUnit.Group.{group_bits, queue_causes}
@@ -17,15 +16,15 @@ use Rattle.register_file.specs.IntrUnit.declared.group.Group.TheVariants.{Pf, Vf
 use Rattle.register_file.specs.Bits.{has_bit}
 use Rattle.register_file.specs.Columns.{place}
 use Rattle.register_file.specs.Groups.{cause_row, mask_row, index_of, told_by}
-use Rattle.register_file.specs.Mailbox.{function_wrote, physical_wrote, told_once, reset_told, with_mail, mail_of, cause_set, sends, requests, with_requests, physical_told, function_told, mail_read, function_writes, physical_writes, done_told, resets_told, by_mail_read, by_sending, by_function, by_physical, by_telling}
+use Rattle.register_file.specs.Mailbox.{function_wrote, physical_wrote, told_once, with_mail, mail_of, cause_set, sends, requests, with_requests, physical_told, mail_read, function_writes, physical_writes, done_told, resets_told, by_mail_read, by_sending, by_function, by_physical, by_telling}
 use Rattle.register_file.specs.Owner.{is_group}
 use Rattle.register_file.specs.Registers.{Registers, word_of}
-use Rattle.register_file.specs.Words.{word_at, put}
+use Rattle.register_file.specs.Words.{word_at}
 use Rattle.register_file.proofs.IntrUnit.Groups.{group_bits-Vf}
 use Rattle.register_file.proofs.IntrUnit.SetLaws.{contains-past, contains-intersection}
 use Rattle.register_file.proofs.Own.{intersection-lt}
 use Rattle.register_file.proofs.Raising.{mail_cause, queue_cause}
-use Rattle.register_laws.specs.Footprint.{Footprint, ChangesWithin, Covers, Misses, either, is_place, the_word, the_bits, pending}
+use Rattle.register_laws.specs.Footprint.{Footprint, ChangesWithin, Covers, is_place, the_word, the_bits, pending}
 use Rattle.register_laws.specs.Sound.{AreSound, IsMail, bits_of_row, pending_bits}
 use Rattle.register_laws.proofs.Covers.{covers-first, covers-second, misses-narrower, cause_is_pending}
 use Rattle.register_laws.proofs.Fields.{told_by-put}

@@ -31,7 +31,8 @@ use Rattle.register_laws.proofs.WithinParts.{within-put, within_group}
 abbrev pub KeepsAgreement : Kind → (Registers → Place → Registers) → Type 0
 KeepsAgreement k change =
     (mode : Mode) (v : ℕ) (a b : Registers) → HasShape a → HasShape b → AgreeWithin (pool_agrees mode v) a b →
-    (p : Place) → (row_of p.row).kind ≡ k → is_of_pool mode v p ≡ true → AgreeWithin (pool_agrees mode v) (change a p) (change b p)
+    (p : Place) → (row_of p.row).kind ≡ k → is_of_pool mode v p ≡ true →
+    AgreeWithin (pool_agrees mode v) (change a p) (change b p)
 
 -- a read stays within what it may change, which is the owner's of its place, has nothing of another place that is
 -- alone, and nothing of a side; it keeps registers sound, and agreement of a pool

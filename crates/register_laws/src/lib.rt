@@ -167,8 +167,8 @@ pub fn interrupts_stand()
     ensures { InterruptsStand }
 {}
 
-/// After a reset of a pool all that it takes is as a reset leaves it, it takes all that is the pool's but what it leaves
-/// of the mailbox, all else is as it was, and the registers are sound where they were.
+/// After a reset of a pool all that it takes is as a reset leaves it, it takes all that is the pool's but what it
+/// leaves of the mailbox, all else is as it was, and the registers are sound where they were.
 pub fn reset_pool_is_reset()
     ensures reset { PoolIsReset }
     ensures rest { PoolResetTakesTheRest }

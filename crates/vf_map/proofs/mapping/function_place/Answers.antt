@@ -5,7 +5,8 @@ use Rattle.vf_map.proofs.mapping.function_place.Goals as goal
 
 pub returns-in-Some : goal.returns-in-Some
 returns-in-Some c =
-    sym (in_first (own_entries c.args.v) (message_entries c.args.v) c.args.offset c.in-Some.place (sym c.in-Some.ensures))
+    sym (in_first (own_entries c.args.v) (message_entries c.args.v) c.args.offset c.in-Some.place
+    (sym c.in-Some.ensures))
 
 pub returns : goal.returns
 returns c =

@@ -1,0 +1,120 @@
+//! The calls that were made of a device in hand, one by one.
+
+use crate::devices::number_of;
+use crate::outcome::{done, none, put, some};
+use crate::sums::{START, end_device, with};
+use crate::trial::{Trial, tried};
+use device_lock::{Call, Calls};
+use nic_device::{Arena, Config, Device, Event, Port, Reply};
+use std::alloc::Global;
+use std::process::Abort;
+use std::sync::Wait;
+
+/// The queue whose steps are made between the calls.
+const QUEUE: u16 = 5;
+
+/// Calls that are to be had one by one, and the device that they were made of.
+struct Listing {
+    device: Device,
+    arena: Arena,
+    calls: Option<Calls>,
+    listed: Option<Vec<Call>>,
+}
+
+/// A sum with a call in it.
+fn with_call(sum: u64, call: &Call) -> u64 {
+    let sum = match &call.event {
+        Event::Write(_port, address, word) => {
+            with(with(with(sum, 1), u64::from(*address)), u64::from(*word))
+        }
+        Event::QueueStep(_dir, queue) => with(with(sum, 2), u64::from(*queue)),
+        Event::TxStep(queue) => with(with(sum, 3), u64::from(*queue)),
+        Event::RxStep => with(sum, 4),
+        _other => with(sum, 5),
+    };
+    match &call.reply {
+        Reply::Done => with(sum, 1),
+        Reply::Idle => with(sum, 2),
+        _other => with(sum, 3),
+    }
+}
+
+/// A sum with calls in it as they are kept.
+fn with_calls(sum: u64, calls: &Calls) -> u64 {
+    let (made, rested) = calls.kept();
+    let mut sum = with(with(sum, made.len() as u64), u64::from(rested.is_some()));
+    for it in made {
+        sum = with_call(with(sum, u64::from(it.rested.is_some())), &it.call);
+    }
+    sum
+}
+
+impl Listing {
+    /// Three writes, with idle steps before each and behind the last.
+    fn new<R: Abort>(rt: &R, alloc: Global) -> Listing {
+        let mut device = done(rt, Device::new(alloc, Config { vfs: 0, fifo: 64 }));
+        let mut calls = Calls::new(alloc);
+        for word in 1..4u32 {
+            assert!(rt; calls.rest(&device, QUEUE), "the steps aren't idle");
+            let event = Event::Write(Port::Pf, 0x05400, word);
+            let _number = number_of(rt, done(rt, calls.make(alloc, &mut device, event)));
+        }
+        assert!(rt; calls.rest(&device, QUEUE), "the steps aren't idle");
+        Listing {
+            device,
+            arena: done(rt, Arena::new(alloc, 0, 1)),
+            calls: Some(calls),
+            listed: None,
+        }
+    }
+}
+
+impl Trial for Listing {
+    fn call<R: Abort + Wait>(&mut self, rt: &R, alloc: Global) -> bool {
+        match some(rt, self.calls.take()).into_vec(alloc) {
+            Ok(listed) => {
+                put(rt, &mut self.listed, listed);
+                true
+            }
+            Err(calls) => {
+                put(rt, &mut self.calls, calls);
+                false
+            }
+        }
+    }
+
+    fn picture<R: Abort>(&mut self, _rt: &R) -> u64 {
+        match &self.calls {
+            Some(calls) => with_calls(START, calls),
+            None => 0,
+        }
+    }
+
+    fn end<R: Abort + Wait>(self, rt: &R, _alloc: Global) -> u64 {
+        let Listing {
+            device,
+            arena,
+            calls,
+            listed,
+        } = self;
+        none(rt, calls);
+        let listed = some(rt, listed);
+        let mut sum = with(START, listed.len() as u64);
+        for call in &listed {
+            sum = with_call(sum, call);
+        }
+        assert!(rt; listed.len() == 19, "calls are absent");
+        end_device(rt, sum, device, arena)
+    }
+}
+
+#[test]
+fn the_calls_are_listed(rt: HostRuntime) {
+    let alloc = rt.alloc();
+    tried(
+        &rt,
+        alloc,
+        Listing::new(&rt, alloc),
+        Listing::new(&rt, alloc),
+    );
+}

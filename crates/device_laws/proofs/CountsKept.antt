@@ -16,7 +16,7 @@ use Rattle.nic_device.specs.RegisterFile.Owner.{is_owner}
 use Rattle.nic_device.specs.DmaRing.declared.dir.Dir.{Dir}
 use Rattle.nic_device.specs.DmaRing.declared.dir.Dir.TheVariants.{Rx, Tx}
 use Rattle.nic_device.specs.RegisterFile.declared.owner.Owner.TheVariants as owner
-use Rattle.nic_device.specs.RegisterLaws.Footprint.{LacksWord, is_alone, is_place, pool_changes, of_write, written_by}
+use Rattle.nic_device.specs.RegisterLaws.Footprint.{LacksWord, is_alone, is_place, pool_has, of_write, written_by}
 use Rattle.nic_device.proofs.RegisterLaws.Accessed.{none_read_by, none_written_by}
 use Rattle.nic_device.proofs.RegisterLaws.Owners.{is_place-other, is_place-same}
 use Rattle.nic_device.proofs.RegisterLaws.NoSide.{counters_own}
@@ -54,7 +54,7 @@ write_misses mode (Nothing seen) word p is none bit = refl
 write_misses mode (Register q view) word p is none bit =
     ap (λ b. (cond b reset_reach (below_reset_reach mode q word)).registers.bits p bit) (none q view refl)
     ∙ either_way (λ (r : Reach). r.registers.bits p bit ≡ false) (asks_pool_reset (row_of q.row).kind word) _ _
-    (lacks-renewed (pool_changes mode q.index) p
+    (lacks-renewed (pool_has mode q.index) p
     (λ at. no_pools_by (row_of p.row).bank mode q.index p.index (counters_own p is)) bit)
     (not_written q p is bit)
 

@@ -1,5 +1,5 @@
 -- Each event counts for virtual functions where its reply says, and nowhere else.
-use Rattle.std.proofs.Common.{◌≡◌, ℕ, false, refl, ap, sym, ◌∙◌}
+use Rattle.std.proofs.Common.{◌≡◌, ◌≢◌, ℕ, false, refl, ap, sym, ◌∙◌}
 use Rattle.std.specs.Prelude.{cond, ◌==◌, ◌&&◌, IsFalse}
 use Rattle.std.proofs.lemmas.Bool.{cond_both, or_parts}
 use Rattle.nic_device.specs.DmaArena.Block.{Block}
@@ -8,7 +8,7 @@ use Rattle.nic_device.specs.RegTable.declared.bank.Bank.TheVariants as bank
 use Rattle.nic_device.specs.RegTable.declared.bank.Bank.TheVariants.{VfCounters}
 use Rattle.nic_device.specs.RegTable.declared.place.Place.{Place}
 use Rattle.nic_device.specs.RegTable.declared.rows.RowId.{RowId}
-use Rattle.nic_device.specs.RegTable.declared.rows.RowId.TheVariants.{Eerd, Qprdc, Vfgprc, Vfgptc}
+use Rattle.nic_device.specs.RegTable.declared.rows.RowId.TheVariants.{CtrlExt, Eerd, Eicr, Pfmailbox, Pfmbicr, Pvfmailbox, Pvteicr, Qprdc, Vfgprc, Vfgptc}
 use Rattle.nic_device.specs.IntrUnit.declared.group.Group.TheVariants as group
 use Rattle.nic_device.specs.VfMap.Owner.{is_of_pool_by}
 use Rattle.nic_device.specs.VfMap.declared.mode.Mode.{Mode}
@@ -21,7 +21,7 @@ use Rattle.nic_device.specs.RegisterFile.Words.{word_at}
 use Rattle.nic_device.specs.DmaRing.declared.dir.Dir.{Dir}
 use Rattle.nic_device.specs.DmaRing.declared.dir.Dir.TheVariants.{Rx, Tx}
 use Rattle.nic_device.specs.RegisterFile.declared.owner.Owner.TheVariants as owner
-use Rattle.nic_device.specs.RegisterLaws.Footprint.{LacksWord, pool_changes, of_read, of_write}
+use Rattle.nic_device.specs.RegisterLaws.Footprint.{LacksWord, pool_has, of_read, of_write}
 use Rattle.nic_device.proofs.RegisterLaws.Accessed.{covers-of_read, covers-of_write}
 use Rattle.nic_device.proofs.RegisterLaws.Covers.{fails, lacks-renewed}
 use Rattle.nic_device.proofs.RegisterLaws.Footprints.{word_stands}
@@ -41,6 +41,7 @@ use Rattle.nic_device.proofs.QueueCases.{received_cases, transmitted_cases}
 use Rattle.device_laws.specs.FunctionCounting.{counts_for_function, with_one_round, resets_count, EventsCountForFunctions}
 use Rattle.device_laws.proofs.FunctionCounting.{not_owned, not_there, not_pending, counted_keeps, failed_keeps, piece_there, reported_there}
 use Rattle.device_laws.proofs.Missed.{neither}
+use Rattle.device_laws.proofs.Reaching.{IsAway, write_lacks}
 use Rattle.device_laws.proofs.Standing.{stays_within}
 
 -- what an outcome of an event counts for functions
@@ -75,11 +76,27 @@ module _ (p : Place) (is : (row_of p.row).bank ≡ VfCounters) where
   not_read other index bit =
       fails _ _ ((covers-of_read (place other index)).bits p bit) (not_owned p is (owner_of (place other index)) refl)
 
+  apart : (row : RowId) → (row_of row).bank ≢ VfCounters → p.row ≢ row
+  apart row other e = other (ap (λ x. (row_of x).bank) (sym e) ∙ is)
+
+  away : IsAway p
+  away = record {
+    mailbox = apart Pvfmailbox (λ e. cc);
+    requests = apart Pfmbicr (λ e. cc);
+    physical = apart Eicr (λ e. cc);
+    function = apart Pvteicr (λ e. cc);
+    extended = apart CtrlExt (λ e. cc);
+  }
+
   not_written : (row : RowId) (index : ℕ) → LacksWord (of_write (place row index)) p
   not_written Vfgprc index bit = refl
   not_written Vfgptc index bit = refl
+  not_written Pvfmailbox index bit = write_lacks (place Pvfmailbox index) p refl away bit
+  not_written Pfmailbox index bit = write_lacks (place Pfmailbox index) p refl away bit
+  not_written CtrlExt index bit = write_lacks (place CtrlExt index) p refl away bit
   not_written other index bit =
-      fails _ _ ((covers-of_write (place other index)).bits p bit) (not_owned p is (owner_of (place other index)) refl)
+      fails _ _ ((covers-of_write (place other index) refl).bits p bit)
+      (not_owned p is (owner_of (place other index)) refl)
 
   read_misses : (m : Named) → LacksWord (read_reach m).registers p
   read_misses (Nothing seen) = λ bit. refl
@@ -95,7 +112,7 @@ module _ (p : Place) (is : (row_of p.row).bank ≡ VfCounters) where
       ap (λ b. (cond b reset_reach (below_reset_reach mode q word)).registers.bits p bit) parts.0
       ∙ cond_both asks (pool_reach mode q.index) (in_registers (of_write q))
       (λ (r : Reach). r.registers.bits p bit ≡ false)
-      (λ pool. lacks-renewed (pool_changes mode q.index) p (λ at. ap (λ b. is_of_pool_by b mode q.index p.index) is
+      (λ pool. lacks-renewed (pool_has mode q.index) p (λ at. ap (λ b. is_of_pool_by b mode q.index p.index) is
       ∙ sym (ap (λ b. b && p.index == q.index) pool) ∙ parts.1) bit)
       (λ plain. not_written q.row q.index bit)
 

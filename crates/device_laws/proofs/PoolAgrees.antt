@@ -49,13 +49,13 @@ same_mode : (v : ℕ) (a b : State) → AgreeOnPool v a b → mode_in a.register
 same_mode v a b h = ap mode_of h.mode
 
 reset_parts : (v : ℕ) (a b : State) → IsSound a → IsSound b → (mode : Mode) → mode_in a.registers ≡ mode
-    → mode_in b.registers ≡ mode → PartsAgree mode v (with_pool_reset a v) (with_pool_reset b v)
-reset_parts v a b good sound mode first second = record {
+    → mode_in b.registers ≡ mode → AgreeWithin (pool_agrees mode v) a.registers b.registers → PartsAgree mode v (with_pool_reset a v) (with_pool_reset b v)
+reset_parts v a b good sound mode first second same = record {
   registers = subst (λ m. AgreeWithin (pool_agrees mode v) (pool_reset m v a.registers) (with_pool_reset b v).registers)
       (sym first)
       (subst (λ m. AgreeWithin (pool_agrees mode v) (pool_reset mode v a.registers) (pool_reset m v b.registers))
       (sym second)
-      (agree-reset mode v a.registers b.registers good.registers.shape sound.registers.shape));
+      (agree-reset mode v a.registers b.registers good.registers.shape sound.registers.shape same));
   staged = λ queue has. none_left a first queue has ∙ sym (none_left b second queue has);
   waiting = none_waiting a first ∙ sym (none_waiting b second);
 }
@@ -77,7 +77,7 @@ below_parts v a b good sound h p view word is =
     let mode = mode_in a.registers in
     both_ways_agree (asks_pool_reset (row_of p.row).kind word) (λ asks.
     subst (λ i. PartsAgree mode v (with_pool_reset a i) (with_pool_reset b i)) (sym (own_reset mode v p word is asks))
-    (reset_parts v a b good sound mode refl (sym (same_mode v a b h))))
+    (reset_parts v a b good sound mode refl (sym (same_mode v a b h)) h.registers))
     (record { registers = write_registers v a b good sound h p view word is; staged = h.staged; waiting = h.waiting })
   where
     both_ways_agree : (t : Bool) → (t ≡ true

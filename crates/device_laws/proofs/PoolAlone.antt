@@ -15,10 +15,10 @@ use Rattle.nic_device.specs.RegisterFile.Access.{after_read, asks_reset, asks_po
 use Rattle.nic_device.specs.RegisterFile.Pools.{mode_in}
 use Rattle.nic_device.specs.RegisterFile.Registers.{Registers}
 use Rattle.nic_device.specs.RegisterLaws.Laws.{after_write as word_written}
-use Rattle.nic_device.specs.RegisterLaws.Footprint.{ChangesWithin, pool_changes, of_read, of_write}
+use Rattle.nic_device.specs.RegisterLaws.Footprint.{ChangesWithin, pool_has, pool_changes, pool_renews, of_read, of_write}
 use Rattle.nic_device.proofs.RegisterLaws.Footprints.{within-refl, within-wider}
-use Rattle.nic_device.proofs.RegisterLaws.PoolReset.{within-pool_reset}
-use Rattle.nic_device.proofs.RegisterLaws.PoolPlaces.{covers-read, covers-write, shared_rows, shared-read, shared-written}
+use Rattle.nic_device.proofs.RegisterLaws.PoolReset.{renewed-pool, within-pool_reset}
+use Rattle.nic_device.proofs.RegisterLaws.PoolPlaces.{covers-has, covers-read, covers-write, shared_rows, shared-read, shared-written}
 use Rattle.nic_device.proofs.RegisterLaws.Within.{within-after_read, within-written}
 use Rattle.nic_device.specs.Access.{named_read, named_written, state_written}
 use Rattle.nic_device.specs.Eeprom.{reset}
@@ -27,7 +27,7 @@ use Rattle.nic_device.specs.PoolReset.{with_pool_reset, written_below_reset}
 use Rattle.nic_device.specs.State.{State}
 use Rattle.nic_device.specs.Step.{step_of}
 use Rattle.nic_device.proofs.PoolReset.{pool_reset_stays}
-use Rattle.device_laws.specs.Pool.{ChangesPoolAlone, VfChangesItsPoolAlone}
+use Rattle.device_laws.specs.Pool.{ChangesAlone, ChangesPoolAlone, VfChangesItsPoolAlone}
 use Rattle.device_laws.proofs.PoolParts.{others_again}
 use Rattle.device_laws.proofs.Settings.{no_reset}
 
@@ -80,11 +80,19 @@ alone_registers s v r within = assumption
 alone_still : (s : State) (v : ℕ) → ChangesPoolAlone v s s
 alone_still s v = alone_registers s v s.registers (within-refl (pool_changes (mode_in s.registers) v) s.registers)
 
-pub alone_reset : (s : State) (v : ℕ) → ChangesPoolAlone v s (with_pool_reset s v)
-alone_reset s v =
-    let within = within-pool_reset s.registers (mode_in s.registers) v in
+pub reset_alone : (s : State) (v : ℕ) → ChangesAlone pool_renews v s (with_pool_reset s v)
+reset_alone s v =
+    let within = (renewed-pool s.registers (mode_in s.registers) v).alone in
     let stays = pool_reset_stays s v in
     assumption (within, stays, others_again (mode_in s.registers) v s.waiting)
+
+alone_reset : (s : State) (v : ℕ) → ChangesPoolAlone v s (with_pool_reset s v)
+alone_reset s v =
+    let mode = mode_in s.registers in
+    let within = within-wider (pool_changes mode v) (pool_has mode v) s.registers (with_pool_reset s v).registers
+    (covers-has mode v) (within-pool_reset s.registers mode v) in
+    let stays = pool_reset_stays s v in
+    assumption (within, stays, others_again mode v s.waiting)
 
 within_read : (s : State) (v : ℕ) (p : Place) → IsReached (mode_in s.registers) v p
     → ChangesWithin (pool_changes (mode_in s.registers) v) s.registers (after_read (row_of p.row).kind s.registers p)

@@ -15,7 +15,7 @@ use Rattle.nic_device.specs.Sound.{IsSound}
 use Rattle.nic_device.specs.State.{State}
 use Rattle.nic_device.specs.Step.{step_of}
 use Rattle.device_laws.specs.Pool.{IsPoolReset, AskedPoolResetResets}
-use Rattle.device_laws.proofs.PoolAlone.{alone_reset}
+use Rattle.device_laws.proofs.PoolAlone.{reset_alone}
 use Rattle.nic_device.proofs.PoolReset.{none_staged_of}
 
 -- PVFCTRL asks for no reset of the device
@@ -33,7 +33,7 @@ pool_state s p view word asks =
 
 is_pool_reset : (s : State) (v : ℕ) → IsSound s → IsPoolReset v s (with_pool_reset s v)
 is_pool_reset s v h = record {
-  alone = alone_reset s v;
+  alone = reset_alone s v;
   registers =
       let new = renewed-pool s.registers (mode_in s.registers) v in
       let shape = h.registers.shape in

@@ -20,7 +20,7 @@ use Rattle.nic_device.specs.DmaRing.declared.dir.Dir.{Dir}
 use Rattle.nic_device.specs.DmaRing.declared.dir.Dir.TheVariants.{Rx, Tx}
 use Rattle.nic_device.specs.RegisterFile.declared.owner.Owner.{Owner}
 use Rattle.nic_device.specs.RegisterFile.declared.owner.Owner.TheVariants as owner
-use Rattle.nic_device.specs.RegisterLaws.Footprint.{LacksWord, is_place, is_pending, is_alone, pool_changes, of_read}
+use Rattle.nic_device.specs.RegisterLaws.Footprint.{LacksWord, is_place, is_pending, is_alone, pool_has, of_read}
 use Rattle.nic_device.proofs.RegisterLaws.Accessed.{none_pending, none_read_by, none_written_by}
 use Rattle.nic_device.proofs.RegisterLaws.Covers.{lacks-renewed}
 use Rattle.nic_device.proofs.RegisterLaws.Footprints.{word_stands}
@@ -68,7 +68,7 @@ module _ (row : RowId) (is : IsSetting row) where
 
   none_pooled : (mode : Mode) (v : ℕ) → LacksWord (pool_reach mode v).registers here
   none_pooled mode v =
-      lacks-renewed (pool_changes mode v) here (λ bit. ap (λ b. is_of_pool_by b mode v 0) is.bank)
+      lacks-renewed (pool_has mode v) here (λ bit. ap (λ b. is_of_pool_by b mode v 0) is.bank)
 
   none_written : (mode : Mode) (m : Named) (word : ℕ) → ((p : Place) (view : ℕ) → m ≡ Register p view → IsOther row p)
       → LacksWord (write_reach mode m word).registers here

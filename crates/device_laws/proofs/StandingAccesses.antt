@@ -1,5 +1,6 @@
 -- What register accesses leave alone.
-use Rattle.std.proofs.Common.{◌≡◌, ◌≢◌, ℕ, false, refl, ap, ◌∙◌, subst, cond}
+use Rattle.std.proofs.Common.{◌≡◌, ◌≢◌, ℕ, false, refl, ap, ◌∙◌, subst, cond, inl, inr}
+use Rattle.std.proofs.lemmas.Bool.{cases_Bool}
 use Rattle.std.specs.Prelude.{IsFalse}
 use Rattle.nic_device.specs.RegTable.Rows.{row_of}
 use Rattle.nic_device.specs.RegTable.declared.place.Place.{Place}
@@ -8,9 +9,8 @@ use Rattle.nic_device.specs.RegisterFile.Access.{asks_reset, asks_pool_reset}
 use Rattle.nic_device.specs.RegisterFile.Owner.{owner_of}
 use Rattle.nic_device.specs.DmaRing.declared.dir.Dir.{Dir}
 use Rattle.nic_device.specs.DmaRing.declared.dir.Dir.TheVariants.{Rx, Tx}
-use Rattle.nic_device.specs.RegisterFile.declared.owner.Owner.{Owner}
 use Rattle.nic_device.specs.RegisterFile.declared.owner.Owner.TheVariants as owner
-use Rattle.nic_device.specs.RegisterLaws.Footprint.{Misses, of_owner, of_side, of_group, of_read, of_write}
+use Rattle.nic_device.specs.RegisterLaws.Footprint.{Misses, is_own, of_owner, of_side, of_group, of_read, of_write}
 use Rattle.nic_device.proofs.RegisterLaws.Covers.{misses-narrower, misses-owner, misses-nothing}
 use Rattle.nic_device.proofs.RegisterLaws.Accessed.{covers-of_read, covers-of_write, read_misses_sides}
 use Rattle.nic_device.proofs.RegisterLaws.ReadBack.{owners_differ}
@@ -22,6 +22,7 @@ use Rattle.nic_device.specs.State.{State}
 use Rattle.nic_device.proofs.Cases.{write_cases}
 use Rattle.nic_device.specs.RegisterFile.Pools.{mode_in}
 use Rattle.nic_device.specs.VfMap.declared.mode.Mode.{Mode}
+use Rattle.device_laws.proofs.Reaching.{reaching_misses_sides}
 use Rattle.device_laws.proofs.Standing.{stays_within, missed, leaves_missed, same_memory}
 use Rattle.nic_device.specs.declared.event.Event.TheVariants as event
 use Rattle.nic_device.specs.declared.event.Port.{Port}
@@ -79,19 +80,23 @@ written_stays s port n word p view found none plain =
     ∙ ap (λ b. cond b (pool_reach mode p.index) (in_registers (of_write p))) plain in
     subst (λ r. StaysWithin r s (after s (event.Write port n word))) reach (stays_within s (event.Write port n word))
 
-misses_write : (p : Place) (o : Owner) → owner_of p ≢ o → Misses (of_write p) (of_owner o)
-misses_write p o other =
-    misses-narrower (of_owner (owner_of p)) (of_write p) (of_owner o) (covers-of_write p)
-    (misses-owner (owner_of p) o (owners_differ (owner_of p) o other))
+misses_write : (p : Place) (dir : Dir) (queue : ℕ) → owner_of p ≢ owner.Side dir queue
+    → Misses (of_write p) (of_side dir queue)
+misses_write p dir queue other =
+    elim (cases_Bool (is_own (row_of p.row).kind)) as (λ _. Misses (of_write p) (of_side dir queue)) [
+      | inr reaching ↦ reaching_misses_sides p reaching dir queue
+      | inl own ↦ misses-narrower (of_owner (owner_of p)) (of_write p) (of_side dir queue) (covers-of_write p own)
+          (misses-owner (owner_of p) (owner.Side dir queue) (owners_differ (owner_of p) (owner.Side dir queue) other))
+    ]
 
 pub write_rest : WriteLeavesTheRest
 write_rest s port n word p view found none plain =
     let stays = written_stays s port n word p view found none plain in
     let rest = missed _ s (after s (event.Write port n word)) stays in
     record {
-      receive = λ queue other. rest.receive queue (misses_write p (owner.Side Rx queue) other);
-      transmit = λ queue other. rest.transmit queue (misses_write p (owner.Side Tx queue) other) refl;
-      groups = λ g other. rest.group g (misses_write p (owner.Group g) other);
+      receive = λ queue other. rest.receive queue (misses_write p Rx queue other);
+      transmit = λ queue other. rest.transmit queue (misses_write p Tx queue other) refl;
+      groups = rest.group;
       frames = record { waiting = stays.waiting refl; out = stays.out refl };
     }
 

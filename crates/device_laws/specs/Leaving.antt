@@ -14,7 +14,7 @@ use Rattle.nic_device.specs.RegisterFile.Owner.{owner_of}
 use Rattle.nic_device.specs.DmaRing.declared.dir.Dir.{Dir}
 use Rattle.nic_device.specs.DmaRing.declared.dir.Dir.TheVariants.{Rx, Tx}
 use Rattle.nic_device.specs.RegisterFile.declared.owner.Owner.TheVariants as owner
-use Rattle.nic_device.specs.RegisterLaws.Footprint.{Misses, of_side, of_group}
+use Rattle.nic_device.specs.RegisterLaws.Footprint.{Misses, of_side, of_group, of_write}
 use Rattle.nic_device.specs.RegisterLaws.Sides.{receive_queue_of, transmit_queue_of}
 use Rattle.nic_device.specs.Footprint.{Reach, StaysWithin, reach_of, told_back}
 use Rattle.nic_device.specs.Step.{after, reply_to}
@@ -80,7 +80,7 @@ abbrev pub EventLeavesMissed : Type 0
 EventLeavesMissed = (s : State) (e : Event Block) → LeavesMissed (reach_of s e) s (after s e)
 
 -- register accesses: a read leaves every queue, and the groups that its place is none of; a write that asks for no
--- reset leaves the sides of queues and the groups that its place is none of
+-- reset leaves the sides of queues that its place is none of, and the groups of which it may change nothing
 pub record ReadLeaves (s : State) (port : Port) (number : ℕ) : Type 0 where
   pub queues : LeavesQueues s (after s (event.Read port number))
   pub groups :
@@ -95,7 +95,7 @@ ReadLeavesTheRest = (s : State) (port : Port) (number : ℕ) → ReadLeaves s po
 pub record WriteLeaves (old new : State) (p : Place) : Type 0 where
   pub receive : (queue : ℕ) → owner_of p ≢ owner.Side Rx queue → LeavesReceive queue old new
   pub transmit : (queue : ℕ) → owner_of p ≢ owner.Side Tx queue → LeavesTransmit queue old new
-  pub groups : (g : Group) → owner_of p ≢ owner.Group g → LeavesGroup g old new
+  pub groups : (g : Group) → Misses (of_write p) (of_group g) → LeavesGroup g old new
   pub frames : LeavesFrames old new
 
 abbrev pub WriteLeavesTheRest : Type 0

@@ -9,7 +9,7 @@ use Rattle.nic_device.specs.RegisterFile.Access.{asks_pool_reset}
 use Rattle.nic_device.specs.RegisterFile.Pools.{mode_in}
 use Rattle.nic_device.specs.RegisterFile.Registers.{word_of}
 use Rattle.nic_device.specs.RegisterFile.Settings.{is_stopped}
-use Rattle.nic_device.specs.RegisterLaws.Footprint.{ChangesWithin, AgreeWithin, pool_agrees, pool_changes, pool_renews}
+use Rattle.nic_device.specs.RegisterLaws.Footprint.{Footprint, ChangesWithin, AgreeWithin, pool_agrees, pool_changes, pool_renews}
 use Rattle.nic_device.specs.RegisterLaws.PoolReset.{IsResetAt}
 use Rattle.nic_device.specs.Named.{named}
 use Rattle.nic_device.specs.PoolReset.{others_waiting}
@@ -26,10 +26,11 @@ use Rattle.nic_device.specs.declared.named.Named.TheVariants.{Register}
 abbrev pub waiting_of : Mode → ℕ → List Waiting → List Waiting
 waiting_of mode v waiting = filter (λ w. has_queue mode v w.queue) waiting
 
--- all but what is the pool's is as it was: words, wanted enables and told bits, staged bytes, and of the frames that
--- wait those of other queues, in their order; and memory, frames out, link, image and configuration
-pub record ChangesPoolAlone (v : ℕ) (old new : State) : Type 0 where
-  pub registers : ChangesWithin (pool_changes (mode_in old.registers) v) old.registers new.registers
+-- all is as it was but what a footprint has of the registers, the staged bytes of a pool's queues, and of the frames
+-- that wait those for its queues: all else of the registers, the other frames in their order, and memory, frames out,
+-- link, image and configuration
+pub record ChangesAlone (has : Mode → ℕ → Footprint) (v : ℕ) (old new : State) : Type 0 where
+  pub registers : ChangesWithin (has (mode_in old.registers) v) old.registers new.registers
   pub staged : (queue : ℕ) → IsFalse (has_queue (mode_in old.registers) v queue)
       → staged_by new queue ≡ staged_by old queue
   pub waiting : others_waiting (mode_in old.registers) v new.waiting
@@ -41,7 +42,12 @@ pub record ChangesPoolAlone (v : ℕ) (old new : State) : Type 0 where
   pub vfs : new.vfs ≡ old.vfs
   pub fifo : new.fifo ≡ old.fifo
 
--- an access of a virtual function changes nothing but what is its pool's
+-- of the registers what is the pool's, and what its function sends to the physical function: its bits of PFMBICR, and
+-- EICR bit 19
+abbrev pub ChangesPoolAlone : ℕ → State → State → Type 0
+ChangesPoolAlone v old new = ChangesAlone pool_changes v old new
+
+-- an access of a virtual function changes nothing but what is its pool's and what it sends
 pub record AccessesChangePoolAlone (s : State) (v offset : ℕ) : Type 0 where
   pub read : ChangesPoolAlone v s (after s (event.Read (Vf v) offset))
   pub write : (word : ℕ) → ChangesPoolAlone v s (after s (event.Write (Vf v) offset word))
@@ -92,10 +98,11 @@ abbrev pub VfSeesItsPoolAlone : Type 0
 VfSeesItsPoolAlone =
     (v : ℕ) (a b : State) → IsSound a → IsSound b → AgreeOnPool v a b → (offset : ℕ) → AccessesAgree v a b offset
 
--- a pool after its reset: its words, wanted enables and told bits are as a reset leaves them, its queues have no staged
--- bytes, and of the frames that wait those of other queues are left, in their order
+-- a pool after its reset: of its words what the reset takes, wanted enables and told bits are as a reset leaves them,
+-- its queues have no staged bytes, of the frames that wait those of other queues are left, in their order, and all else
+-- is as it was
 pub record IsPoolReset (v : ℕ) (old new : State) : Type 0 where
-  pub alone : ChangesPoolAlone v old new
+  pub alone : ChangesAlone pool_renews v old new
   pub registers : IsResetAt (pool_renews (mode_in old.registers) v) new.registers
   pub staged : (queue : ℕ) → IsTrue (has_queue (mode_in old.registers) v queue) → staged_by new queue ≡ []
   pub waiting : new.waiting ≡ others_waiting (mode_in old.registers) v old.waiting

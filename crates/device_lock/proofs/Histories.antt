@@ -14,12 +14,12 @@ use Rattle.device_lock.specs.declared.entry.Entry.{Entry}
 use Rattle.device_lock.specs.History.{leads_to, IsLegal, AreEvents, AllBelow, entry_of}
 use Rattle.device_lock.specs.Kept.{Held, IsKept, entries_of}
 
-leads_to-snoc : (s : State) (h : List Entry) (e : Entry)
+pub leads_to-snoc : (s : State) (h : List Entry) (e : Entry)
     → leads_to s (h ++ e ∷ []) ≡ (step_of (leads_to s h) e.event).state
 leads_to-snoc s [] e = refl
 leads_to-snoc s (x ∷ h) e = leads_to-snoc (step_of s x.event).state h e
 
-legal_more : (s : State) (h : List Entry) (e : Entry) → IsLegal s h
+pub legal_more : (s : State) (h : List Entry) (e : Entry) → IsLegal s h
     → e.reply ≡ (step_of (leads_to s h) e.event).reply → IsLegal s (h ++ e ∷ [])
 legal_more s [] e legal is = (is, tt)
 legal_more s (x ∷ h) e legal is = (legal.0, legal_more (step_of s x.event).state h e legal.1 is)

@@ -1,6 +1,7 @@
 -- What a call finds under the lock.
-use Rattle.std.specs.Prelude.{◌≡◌, ℕ, List, length}
+use Rattle.std.specs.Prelude.{◌≡◌, ℕ, List, [], ◌∷◌, ◌++◌, length, take}
 use Rattle.nic_device.specs.DmaArena.Block.{Block}
+use Rattle.nic_device.specs.Run.{state_after}
 use Rattle.nic_device.specs.State.{new_state}
 use Rattle.nic_device.specs.Step.{step_of}
 use Rattle.nic_device.specs.declared.event.Event.{Event}
@@ -8,6 +9,9 @@ use Rattle.nic_device.specs.declared.event.Reply.{Reply}
 use Rattle.device_lock.specs.declared.entry.Entry.{Entry}
 use Rattle.device_lock.specs.History.{leads_to, IsLegal}
 use Rattle.device_lock.specs.Kept.{Held}
+use Rattle.device_lock.specs.Pass.{PassValue}
+use Rattle.device_lock.specs.Resting.{after_calls}
+use Rattle.device_lock.specs.Stepping.{calls_made, steps_of_queue, with_calls}
 
 -- the reply is the device's to this event, where a legal history of a new device led
 pub record IsAnswered (vfs fifo : ℕ) (event : Event Block) (reply : Reply Block) : Type 0 where
@@ -20,3 +24,22 @@ pub record IsFull (vfs fifo : ℕ) : Type 0 where
   pub held : Held
   pub legal : IsLegal (new_state vfs fifo) held.history
   pub full : length held.history ≡ held.limit
+
+-- where a legal history of a new device led, these events were made as calls of the pass: it has just their calls more,
+-- each with the device's reply, and the history with their entries more is legal too
+pub record AreAnswered (vfs fifo : ℕ) (old : PassValue) (events : List (Event Block)) (new : PassValue) : Type 0 where
+  pub held : Held
+  pub legal : IsLegal (new_state vfs fifo) held.history
+  pub leads : leads_to (new_state vfs fifo) held.history ≡ held.device
+  pub noted : new ≡ with_calls old (calls_made held.device events)
+  pub legal_after : IsLegal (new_state vfs fifo) (after_calls held old.tag events).history
+
+-- the device steps of the queue were made so, and then this event, to which this is the device's reply
+pub record IsAnsweredStepped (vfs fifo queue : ℕ) (old new : PassValue) (event : Event Block) (reply : Reply Block)
+    : Type 0 where
+  pub made : AreAnswered vfs fifo old (steps_of_queue queue ++ event ∷ []) new
+  pub answer : reply ≡ (step_of (state_after made.held.device (steps_of_queue queue)) event).reply
+
+-- so many of the device steps of the queue were made so, and nothing else
+abbrev pub StopsAnswered : ℕ → ℕ → ℕ → PassValue → PassValue → Type 0
+StopsAnswered vfs fifo queue old new = (count : ℕ) × AreAnswered vfs fifo old (take count (steps_of_queue queue)) new

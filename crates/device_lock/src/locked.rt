@@ -1,5 +1,6 @@
 ghost use Rattle.std.specs.Prelude.{◌≡◌, ℕ, ◌≤◌, ◌<◌, ◌↔◌, ◌⊎◌, true, false, Err, IfOk, OnOk, OnErr, length, slice_index, slice_set, replicate, ◌+◌};
 ghost use Rattle.nic_device.specs.Answering.{may_answer};
+ghost use Rattle.nic_device.specs.Resting.{Rests};
 ghost use Rattle.nic_device.specs.State.{new_state};
 ghost use Rattle.nic_device.specs.Step.{step_of};
 ghost use Rattle.device_lock.specs.Fault.{event_of};
@@ -153,6 +154,9 @@ impl<const VFS: u8, const FIFO: u16> Locked<VFS, FIFO> {
     /// whether they are made.
     pub(crate) fn rest(&mut self, tag: u8, queue: u16) -> bool
         requires { tag < 64 }
+        ensures legal { IsLegal (new_state VFS FIFO) self.old.history }
+        ensures leads { leads_to (new_state VFS FIFO) self.old.history ≡ self.old.device }
+        ensures idle { result ≡ true → Rests self.old.device queue }
         ensures made { result ≡ true → self.new ≡ after_calls self.old tag (steps_of_queue queue) }
         ensures unchanged { result ≡ false → self.new ≡ self.old }
     {

@@ -6,8 +6,7 @@ ghost use Rattle.device_lock.specs.Fault.{event_of};
 ghost use Rattle.device_lock.specs.History.{leads_to, IsLegal};
 ghost use Rattle.device_lock.specs.Kept.{after_call};
 ghost use Rattle.device_lock.specs.Pass.{fresh_pass, with_call};
-ghost use Rattle.device_lock.specs.Resting.{after_calls};
-ghost use Rattle.device_lock.specs.Stepping.{AreStepped, steps_of_queue};
+ghost use Rattle.device_lock.specs.Stepping.{AreMade, steps_of_queue};
 
 use crate::entry::Call;
 use crate::fault::CallFault;
@@ -76,8 +75,9 @@ impl Pass {
         queue: u16,
     ) -> bool
         requires { self.old.tag < 64 }
-        ensures made { result ≡ true → AreStepped self.old self.new (steps_of_queue queue) }
-        ensures kept { result ≡ true → locked.new ≡ after_calls locked.old self.old.tag (steps_of_queue queue) }
+        ensures legal { result ≡ true → IsLegal (new_state VFS FIFO) locked.old.history }
+        ensures leads { result ≡ true → leads_to (new_state VFS FIFO) locked.old.history ≡ locked.old.device }
+        ensures made { result ≡ true → AreMade locked.old self.old (steps_of_queue queue) locked.new self.new }
         ensures unchanged { result ≡ false → self.new ≡ self.old }
         ensures refused { result ≡ false → locked.new ≡ locked.old }
         ensures tag { self.new.tag ≡ self.old.tag }

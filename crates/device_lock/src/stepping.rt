@@ -1,11 +1,16 @@
 //! Device steps that a pass makes before its calls, while the lock is held.
 
-ghost use Rattle.std.specs.Prelude.{◌≡◌, ◌≢◌, ◌<◌, ◌↔◌, ◌∷◌, [], true, Err, IfOk, IfErr, OnOk, OnErr};
+ghost use Rattle.std.specs.Prelude.{◌≡◌, ◌≢◌, ◌<◌, ◌↔◌, ◌∷◌, ◌++◌, [], true, Err, IfOk, IfErr, OnOk, OnErr};
 ghost use Rattle.nic_device.specs.Answering.{may_answer};
+ghost use Rattle.nic_device.specs.Run.{state_after};
+ghost use Rattle.nic_device.specs.State.{new_state};
+ghost use Rattle.nic_device.specs.Step.{step_of};
+ghost use Rattle.device_lock.specs.Calling.{IsAnsweredStepped, IsFull, StopsAnswered};
 ghost use Rattle.device_lock.specs.Events.{is_step};
 ghost use Rattle.device_lock.specs.Fault.{event_of};
+ghost use Rattle.device_lock.specs.History.{leads_to, IsLegal};
 ghost use Rattle.device_lock.specs.Pass.{IsOwn};
-ghost use Rattle.device_lock.specs.Stepping.{steps_of_queue, AreStepped, StepsAndMakes, StopsStepping};
+ghost use Rattle.device_lock.specs.Stepping.{steps_of_queue, AreMade, StepsAndMakes, StopsMaking, StopsStepping};
 
 use crate::fault::CallFault;
 use crate::locked::Locked;
@@ -25,10 +30,13 @@ impl Pass {
     ) -> Result<(), CallFault<()>>
         requires tag { self.old.tag < 64 }
         requires step { is_step step ≡ true }
-        ensures made { OnOk result (AreStepped self.old self.new (step ∷ [])) }
+        ensures legal { IsLegal (new_state VFS FIFO) locked.old.history }
+        ensures leads { leads_to (new_state VFS FIFO) locked.old.history ≡ locked.old.device }
+        ensures made { OnOk result (AreMade locked.old self.old (step ∷ []) locked.new self.new) }
         ensures tag { self.new.tag ≡ self.old.tag }
         ensures own { result ≢ Err (CallFault.ForeignPass tt) }
-        ensures unchanged { OnErr result (self.new ≡ self.old) }
+        ensures full { result ≡ Err (CallFault.HistoryFull tt) → IsFull VFS FIFO }
+        ensures unchanged { OnErr result ((locked.new ≡ locked.old) × (self.new ≡ self.old)) }
     {
         match self.call(alloc, locked, step) {
             Ok(reply) => match reply.into_buf() {
@@ -54,10 +62,13 @@ impl Pass {
         queue: u16,
     ) -> Result<(), CallFault<()>>
         requires { self.old.tag < 64 }
-        ensures made { OnOk result (AreStepped self.old self.new (steps_of_queue queue)) }
+        ensures legal { IsLegal (new_state VFS FIFO) locked.old.history }
+        ensures leads { leads_to (new_state VFS FIFO) locked.old.history ≡ locked.old.device }
+        ensures made { OnOk result (AreMade locked.old self.old (steps_of_queue queue) locked.new self.new) }
         ensures tag { self.new.tag ≡ self.old.tag }
         ensures own { result ≢ Err (CallFault.ForeignPass tt) }
-        ensures amid { OnErr result (StopsStepping queue self.old self.new) }
+        ensures full { result ≡ Err (CallFault.HistoryFull tt) → IsFull VFS FIFO }
+        ensures amid { OnErr result (StopsMaking queue locked.old self.old locked.new self.new) }
     {
         if self.rest(locked, queue) {
             return Ok(());
@@ -73,10 +84,13 @@ impl Pass {
         queue: u16,
     ) -> Result<(), CallFault<()>>
         requires { self.old.tag < 64 }
-        ensures made { OnOk result (AreStepped self.old self.new (steps_of_queue queue)) }
+        ensures legal { IsLegal (new_state VFS FIFO) locked.old.history }
+        ensures leads { leads_to (new_state VFS FIFO) locked.old.history ≡ locked.old.device }
+        ensures made { OnOk result (AreMade locked.old self.old (steps_of_queue queue) locked.new self.new) }
         ensures tag { self.new.tag ≡ self.old.tag }
         ensures own { result ≢ Err (CallFault.ForeignPass tt) }
-        ensures amid { OnErr result (StopsStepping queue self.old self.new) }
+        ensures full { result ≡ Err (CallFault.HistoryFull tt) → IsFull VFS FIFO }
+        ensures amid { OnErr result (StopsMaking queue locked.old self.old locked.new self.new) }
     {
         self.make_step(alloc, locked, Event::QueueStep(Dir::Rx, queue))?;
         self.make_step(alloc, locked, Event::QueueStep(Dir::Tx, queue))?;
@@ -94,11 +108,17 @@ impl Pass {
         event: Event,
     ) -> Result<Reply, CallFault>
         requires { self.old.tag < 64 }
-        ensures exact { IfOk result (λ reply. StepsAndMakes queue self.old self.new event reply) }
+        ensures legal { IsLegal (new_state VFS FIFO) locked.old.history }
+        ensures leads { leads_to (new_state VFS FIFO) locked.old.history ≡ locked.old.device }
+        ensures made { OnOk result
+            (AreMade locked.old self.old (steps_of_queue queue ++ event ∷ []) locked.new self.new) }
+        ensures reply { IfOk result (λ reply.
+            reply ≡ (step_of (state_after locked.old.device (steps_of_queue queue)) event).reply) }
         ensures fits { IfOk result (λ reply. may_answer event reply ≡ true) }
         ensures own { result ≢ Err (CallFault.ForeignPass event) }
+        ensures full { result ≡ Err (CallFault.HistoryFull event) → IsFull VFS FIFO }
         ensures back { IfErr result (λ fault. event_of fault ≡ event) }
-        ensures amid { OnErr result (StopsStepping queue self.old self.new) }
+        ensures amid { OnErr result (StopsMaking queue locked.old self.old locked.new self.new) }
     {
         match self.step_on(alloc, locked, queue) {
             Ok(()) => self.call(alloc, locked, event),
@@ -114,7 +134,7 @@ impl<const VFS: u8, const FIFO: u16> Shared<VFS, FIFO> {
     ///
     /// `ForeignPass` exactly where the pass is of another bench or has no tag of this one: this takes no lock, and
     /// nothing is made. Else what `call` refuses one of them for: the steps so far are made, and the event isn't. Each
-    /// hands the event back.
+    /// hands the event back. Each reply is the device's, as that of `call` is.
     pub fn call_stepped<R: Wait>(
         &self,
         rt: &R,
@@ -124,12 +144,15 @@ impl<const VFS: u8, const FIFO: u16> Shared<VFS, FIFO> {
         event: Event,
     ) -> Result<Reply, CallFault>
         ensures exact { IfOk result (λ reply. StepsAndMakes queue pass.old pass.new event reply) }
+        ensures answered { IfOk result (λ reply. IsAnsweredStepped VFS FIFO queue pass.old pass.new event reply) }
         ensures fits { IfOk result (λ reply. may_answer event reply ≡ true) }
         ensures foreign { (result ≡ Err (CallFault.ForeignPass event))
             ↔ ¬ IsOwn self.now.bench self.now.passes pass.old }
         ensures nothing { ¬ IsOwn self.now.bench self.now.passes pass.old → pass.new ≡ pass.old }
+        ensures full { result ≡ Err (CallFault.HistoryFull event) → IsFull VFS FIFO }
         ensures back { IfErr result (λ fault. event_of fault ≡ event) }
         ensures amid { OnErr result (StopsStepping queue pass.old pass.new) }
+        ensures stopped { OnErr result (StopsAnswered VFS FIFO queue pass.old pass.new) }
     {
         if pass.bench() != self.bench || pass.tag() >= self.passes {
             return Err(CallFault::ForeignPass(event));

@@ -35,10 +35,11 @@ impl Deed {
 /// written, blocks that the driver doesn't lend are taken, and it pokes there. It isn't by any name of a register that
 /// the queue rests on, a reset of its pool, and its driver's blocks.
 #[rattlefmt::skip]
-const ROWS: [(&str, u32, Deed, bool); 17] = [
+const ROWS: [(&str, u32, Deed, bool); 19] = [
     ("TDT of queue 1", 0, Deed::Writes(Port::Pf, 0x06058, 3), true),
     ("TDT of no pool's queue", 0, Deed::Writes(Port::Vf(0), 0x2018, 3), true),
     ("a reset of no pool", 0, Deed::Writes(Port::Pf, 0x00300, 0x0400_0000), true),
+    ("TDT of the last of the pool's eight queues", 1, Deed::Writes(Port::Vf(0), 0x21D8, 3), true),
     ("a block that isn't lent is taken", 0, Deed::Takes(6), true),
     ("a block that isn't lent is poked", 0, Deed::Pokes(0x3000), true),
     ("a step of receiving", 0, Deed::Steps, true),
@@ -52,6 +53,7 @@ const ROWS: [(&str, u32, Deed, bool); 17] = [
     ("GCR_EXT", 0, Deed::Writes(Port::Pf, GCR_EXT, 0), false),
     ("TDT of the pool's queue", 3, Deed::Writes(Port::Vf(0), 0x2018, 3), false),
     ("a reset of the pool", 3, Deed::Writes(Port::Pf, 0x00300, 0x0400_0000), false),
+    ("a reset of the pool of eight queues", 1, Deed::Writes(Port::Pf, 0x00300, 0x0400_0000), false),
     ("a block of the driver's is poked", 0, Deed::Pokes(0x2808), false),
 ];
 

@@ -15,7 +15,7 @@ use Rattle.nic_device.specs.RegisterFile.Pools.{mode_in}
 use Rattle.nic_device.specs.DmaRing.declared.dir.Dir.{Dir}
 use Rattle.nic_device.specs.DmaRing.declared.dir.Dir.TheVariants.{Rx, Tx}
 use Rattle.nic_device.specs.RegisterFile.declared.owner.Owner.TheVariants as owner
-use Rattle.nic_device.specs.RegisterLaws.Footprint.{Misses, pool_changes, pool_renews, of_side, of_write}
+use Rattle.nic_device.specs.RegisterLaws.Footprint.{Misses, pool_has, pool_renews, of_side, of_write}
 use Rattle.nic_device.proofs.RegisterLaws.Covers.{covers-renewed, misses-narrower}
 use Rattle.nic_device.specs.Access.{named_written}
 use Rattle.nic_device.specs.Footprint.{StaysWithin, write_reach, reset_reach, below_reset_reach, pool_reach, in_registers}
@@ -75,8 +75,8 @@ wanted_none Tx Rx mode v queue number none is = cc
 
 pub pool_misses : (side : Dir) (mode : Mode) (v queue : ℕ) → has_queue mode v queue ≡ false
     → Misses (pool_renews mode v) (of_side side queue)
-pool_misses side mode v queue none = misses-narrower (pool_changes mode v) (pool_renews mode v) (of_side side queue)
-    (covers-renewed (pool_changes mode v)) (record {
+pool_misses side mode v queue none = misses-narrower (pool_has mode v) (pool_renews mode v) (of_side side queue)
+    (covers-renewed (pool_has mode v)) (record {
       bits = λ p bit is. pool_none (row_of p.row).bank side mode v p.index queue none is;
       wanted = λ dir number is. wanted_none side dir mode v queue number none is;
       told = λ g is. cc;

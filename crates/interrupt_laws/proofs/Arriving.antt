@@ -1,19 +1,22 @@
 -- Frames are let into pools whose bit of VFRE is 1.
-use Rattle.std.proofs.Common.{◌≡◌, ℕ, zero, suc, ◌+◌, ◌*◌, ◌/◌, ◌%◌, ◌^◌, ◌<◌, ◌≤◌, ◌==◌, Bool, true, if◌then◌else◌, List, [], ◌∷◌, ◌++◌, Option, Some, None, Ok, Err, refl, ap, sym, ◌∙◌, subst, arith, lit<}
-use Rattle.std.specs.Prelude.{⊤, Result, find}
-use Rattle.std.specs.List.{range_with_len}
+use Rattle.std.proofs.Common.{◌≡◌, ℕ, zero, suc, ◌≢◌, ◌⊎◌, ◌+◌, ◌*◌, ◌/◌, ◌%◌, ◌^◌, ◌<◌, ◌≤◌, ◌==◌, Bool, true, if◌then◌else◌, List, [], ◌∷◌, ◌++◌, Option, Some, None, Ok, Err, refl, ap, sym, ◌∙◌, subst, inl, inr, arith, lit<}
+use Rattle.std.specs.Prelude.{⊤, Result, IfSome}
 use Rattle.std.proofs.lemmas.Bool.{cond_both, cond-true}
-use Rattle.nic_device.specs.RegTable.declared.rows.RowId.TheVariants.{Mrqc, Vfre, VtCtl}
+use Rattle.nic_device.specs.RegTable.declared.rows.RowId.TheVariants.{GcrExt, Mrqc, Vfre, VtCtl}
 use Rattle.nic_device.proofs.RegTable.FirstAddresses.{first_address}
 use Rattle.nic_device.specs.RssHash.Mrqc.{queue_mode_of}
 use Rattle.nic_device.specs.RssHash.declared.mrqc.QueueMode.{QueueMode}
 use Rattle.nic_device.specs.RssHash.declared.mrqc.QueueMode.TheVariants.{Single, Rss, Pools64, Pools32Rss, Pools64Rss}
-use Rattle.nic_device.specs.RegisterFile.Bits.{has_bit}
+use Rattle.nic_device.specs.VfMap.declared.mode.Mode.TheVariants.{Pools16}
+use Rattle.nic_device.specs.RegisterFile.Pools.{mode_in}
 use Rattle.nic_device.specs.RegisterFile.Columns.{place}
 use Rattle.nic_device.specs.RegisterFile.Registers.{Registers, word_of}
-use Rattle.nic_device.specs.RxFilter.Address.{first_match, passes}
-use Rattle.nic_device.specs.RxFilter.Pools.{uses_pools, selects, lowest_pool, matched_pool, or_default, pool_of, has_queues, takes_frames, checked_pool, chosen_pool}
-use Rattle.nic_device.specs.RxFilter.Sorting.{queue_of, rss_entry, target_of, pool_target, sorted}
+use Rattle.nic_device.specs.RxFilter.Address.{passes}
+use Rattle.nic_device.specs.RxFilter.Pools.{uses_pools, pool_of, parting_in, has_queues, takes_frames, checked_pool, chosen_pool}
+use Rattle.nic_device.specs.RxFilter.Sorting.{rss_entry, pool_target, sorted}
+use Rattle.nic_device.specs.RxFilter.Laws.{GoesToPool}
+use Rattle.nic_device.proofs.RxFilter.Queues.{queues_by_mode}
+use Rattle.nic_device.proofs.RxFilter.Small.{pool_of-small}
 use Rattle.nic_device.specs.RxFilter.declared.target.Target.{Target}
 use Rattle.nic_device.specs.RxFilter.declared.unwanted.Unwanted.{Unwanted}
 use Rattle.nic_device.specs.RxFilter.declared.unwanted.Unwanted.TheVariants.{Filter, NoPool, PoolOff}
@@ -24,81 +27,56 @@ use Rattle.nic_device.specs.State.{State}
 use Rattle.nic_device.specs.Step.{step_of}
 use Rattle.nic_device.specs.declared.event.Reply.TheVariants.{Done}
 use Rattle.nic_device.proofs.Cases.{either_way, arrived_cases}
-use Rattle.interrupt_laws.specs.Arriving.{IsOfOpenPool, JoinsOpenPool, VfreLetsIntoPools, queue_mode}
+use Rattle.interrupt_laws.specs.Arriving.{IsOfOpenPool, JoinsOpenPool, VfreLetsIntoPools, queue_mode, pool_mode}
 use Rattle.interrupt_laws.proofs.Addresses.{address_of}
 use Rattle.interrupt_laws.proofs.Reading.{read-word, word_lt}
+use Rattle.interrupt_laws.proofs.Settings.{mode_word, mode_by as pools_by_mode}
 use Rattle.interrupt_laws.proofs.Words.{whole-read}
 
--- the pool of a frame is below 64
+-- the pool of a frame is below 64 and takes frames
 
-abbrev Found : Option ℕ → Type 0
-Found (Some pool) = pool < 64
-Found None = ⊤
-
-found_in : (test : ℕ → Bool) (from count : ℕ) → from + count ≤ 64 → Found (find test (range_with_len from count))
-found_in test from zero few = tt
-found_in test from (suc count) few =
-    either_way Found (test from) (Some from) (find test (range_with_len (from + 1) count)) (omega arith)
-    (found_in test (from + 1) count (omega arith))
-
-found_matched : (r : Registers) (o : Option ℕ) → Found (matched_pool r o)
-unfolding lowest_pool
-found_matched r None = tt
-found_matched r (Some index) = found_in (selects r index) 0 64 (omega arith)
-
-found_or_default : (r : Registers) (o : Option ℕ) → Found o → Found (or_default r o)
-found_or_default r None found =
-    either_way Found (has_bit 29 (word_of r VtCtl 0)) None (Some (word_of r VtCtl 0 / 2 ^ 7 % 64)) tt (omega arith)
-found_or_default r (Some pool) found = found
-
--- and takes frames
-
-record IsOpen (r : Registers) (pool : ℕ) : Type 0 where
+record IsOpen (r : Registers) (frame : List ℕ) (pool : ℕ) : Type 0 where
+  meant : pool_of r frame ≡ Some pool
   small : pool < 64
   on : takes_frames r pool ≡ true
 
-abbrev Chosen : Registers → Result ℕ Unwanted → Type 0
-Chosen r (Ok pool) = IsOpen r pool
-Chosen r (Err why) = ⊤
+abbrev Chosen : Registers → List ℕ → Result ℕ Unwanted → Type 0
+Chosen r frame (Ok pool) = IsOpen r frame pool
+Chosen r frame (Err why) = ⊤
 
-checked : (r : Registers) (o : Option ℕ) → Found o → Chosen r (checked_pool r o)
-checked r None found = tt
-checked r (Some pool) found =
-    either_way (Chosen r) (has_queues (queue_mode_of (word_of r Mrqc 0)) pool) _ (Err NoPool)
-    (cond_both (takes_frames r pool) (Ok pool) (Err PoolOff) (Chosen r) (λ on. record { small = found; on = on })
-    (λ off. tt))
+checked : (r : Registers) (frame : List ℕ) (o : Option ℕ) → pool_of r frame ≡ o → IfSome o (λ pool. pool < 64)
+    → Chosen r frame (checked_pool r o)
+checked r frame None meant found = tt
+checked r frame (Some pool) meant found =
+    either_way (Chosen r frame) (has_queues (parting_in r) pool) _ (Err NoPool)
+    (cond_both (takes_frames r pool) (Ok pool) (Err PoolOff) (Chosen r frame)
+    (λ on. record { meant = meant; small = found; on = on }) (λ off. tt))
     tt
 
-chosen : (r : Registers) (frame : List ℕ) → uses_pools r ≡ true → Chosen r (chosen_pool r frame)
+chosen : (r : Registers) (frame : List ℕ) → uses_pools r ≡ true → Chosen r frame (chosen_pool r frame)
 unfolding chosen_pool
 chosen r frame uses =
-    subst (Chosen r) (sym (cond-true (uses_pools r) (checked_pool r (pool_of r frame)) (Ok 0) uses))
-    (checked r (pool_of r frame)
-    (found_or_default r (matched_pool r (first_match r frame)) (found_matched r (first_match r frame))))
+    subst (Chosen r frame) (sym (cond-true (uses_pools r) (checked_pool r (pool_of r frame)) (Ok 0) uses))
+    (checked r frame (pool_of r frame) refl (pool_of-small r frame))
 
--- so the queue of a frame that is sorted is of such a pool
+-- so a frame that is sorted goes to such a pool
 
-record IsSorted (r : Registers) (queue : ℕ) : Type 0 where
-  pool : ℕ
-  entry : ℕ
-  is_open : IsOpen r pool
-  queue_is : queue ≡ queue_of (queue_mode_of (word_of r Mrqc 0)) pool entry
+abbrev HasOpen : Registers → List ℕ → Type 0
+HasOpen r frame = (pool : ℕ) × IsOpen r frame pool
 
-abbrev Sorted : Registers → Result Target Unwanted → Type 0
-Sorted r (Ok t) = IsSorted r t.queue
-Sorted r (Err why) = ⊤
+abbrev Sorted : Registers → List ℕ → Result Target Unwanted → Type 0
+Sorted r frame (Ok t) = HasOpen r frame
+Sorted r frame (Err why) = ⊤
 
-targeted : (r : Registers) (frame : List ℕ) (pool : Result ℕ Unwanted) → Chosen r pool
-    → Sorted r (pool_target r frame pool)
-unfolding target_of
-targeted r frame (Ok pool) has =
-    record { pool = pool; entry = rss_entry r frame; is_open = has; queue_is = refl }
+targeted : (r : Registers) (frame : List ℕ) (pool : Result ℕ Unwanted) → Chosen r frame pool
+    → Sorted r frame (pool_target r frame pool)
+targeted r frame (Ok pool) has = (pool, has)
 targeted r frame (Err why) has = tt
 
-all_sorted : (r : Registers) (frame : List ℕ) → uses_pools r ≡ true → Sorted r (sorted r frame)
+all_sorted : (r : Registers) (frame : List ℕ) → uses_pools r ≡ true → Sorted r frame (sorted r frame)
 unfolding sorted
 all_sorted r frame uses =
-    either_way (Sorted r) (passes r frame) (pool_target r frame (chosen_pool r frame)) (Err Filter)
+    either_way (Sorted r frame) (passes r frame) (pool_target r frame (chosen_pool r frame)) (Err Filter)
     (targeted r frame (chosen_pool r frame) (chosen r frame uses)) tt
 
 -- the queue by MRQC
@@ -112,6 +90,21 @@ mode_is : (m n : ℕ) → m % 16 ≡ n → queue_mode_of m ≡ mode_by n
 unfolding queue_mode_of mode_by
 mode_is m n e = ap mode_by e
 
+one_of_four : (n : ℕ) → n < 4 → pools_by_mode n ≡ Pools16 → n ≡ 1
+one_of_four zero small e = cc
+one_of_four (suc zero) small e = refl
+one_of_four (suc (suc zero)) small e = cc
+one_of_four (suc (suc (suc zero))) small e = cc
+one_of_four (suc (suc (suc (suc n)))) small e = absurd (omega arith)
+
+by_either : {A B C D : Type 0} → A ⊎ B → (A → C) → (B → D) → C ⊎ D
+by_either (inl a) f g = inl (f a)
+by_either (inr b) f g = inr (g b)
+
+eighth : (r : Registers) (frame : List ℕ) (pool : ℕ) (t : Target) → t.queue ≡ 8 * pool + rss_entry r frame % 8
+    → t.queue / 8 ≡ pool
+eighth r frame pool t e = omega arith
+
 module _ (s : State) (h : IsSound s) where
   mrqc : queue_mode s ≡ word_of s.registers Mrqc 0 % 16
   mrqc =
@@ -119,30 +112,45 @@ module _ (s : State) (h : IsSound s) where
       (address_of (place Mrqc 0) 0x05818 (first_address (place Mrqc 0) (lit< tt)))
       (word_lt s h (place Mrqc 0)))
 
-  is_of : (queue : ℕ) (q : IsSorted s.registers queue) → IsOfOpenPool s queue q.pool
+  sixteen : pool_mode s ≡ 1 → mode_in s.registers ≡ Pools16
+  sixteen e = ap pools_by_mode (ap (λ w. w % 4) (sym (mode_word s h)) ∙ e)
+
+  not_sixteen : pool_mode s ≢ 1 → mode_in s.registers ≢ Pools16
+  not_sixteen other is =
+      other (ap (λ w. w % 4) (mode_word s h) ∙ one_of_four (word_of s.registers GcrExt 0 % 4) (omega arith) is)
+
+  is_of : (frame : List ℕ) (t : Target) (o : HasOpen s.registers frame) → uses_pools s.registers ≡ true
+      → sorted s.registers frame ≡ Ok t → IsOfOpenPool s t.queue o.0
   unfolding mode_by
-  is_of queue q =
-      let pool = q.pool in
-      let small = q.is_open.small in
+  is_of frame t o uses goes =
+      let r = s.registers in
+      let pool = o.0 in
+      let small = o.1.small in
       let p = place Vfre (pool / 32) in
       let bit = whole-read s (0x051E0 + 4 * (pool / 32)) (pool % 32) p
       (address_of p (0x051E0 + 4 * (pool / 32)) (first_address p (omega arith))) (omega arith) in
-      let by : (n : ℕ) → queue_mode s ≡ n → queue ≡ queue_of (mode_by n) pool q.entry = λ n e.
-      q.queue_is ∙ ap (λ m. queue_of m pool q.entry) (mode_is (word_of s.registers Mrqc 0) n (sym mrqc ∙ e)) in
+      let code : (n : ℕ) → queue_mode s ≡ n → queue_mode_of (word_of r Mrqc 0) ≡ mode_by n = λ n e.
+      mode_is (word_of r Mrqc 0) n (sym mrqc ∙ e) in
+      let g : GoesToPool r frame pool t = record { parted = uses; meant = o.1.meant; goes = goes } in
       record {
         small = small;
-        on = bit ∙ q.is_open.on;
-        single = λ e. by 8 e;
-        four = λ e. let is : queue ≡ 4 * pool + q.entry % 4 = by 10 e in omega arith;
-        two = λ e. let is : queue ≡ 2 * pool + q.entry % 2 = by 11 e in omega arith;
+        on = bit ∙ o.1.on;
+        single = λ other e. queues_by_mode.pools_64 r frame pool t g (not_sixteen other) (code 8 e);
+        four = λ other e.
+            let is = queues_by_mode.pools_32_hashing r frame pool t g (not_sixteen other) (code 10 e) in omega arith;
+        two = λ other e.
+            let is = queues_by_mode.pools_64_hashing r frame pool t g (not_sixteen other) (code 11 e) in omega arith;
+        single_16 = λ is e. queues_by_mode.pools_16 r frame pool t g (sixteen is) (code 8 e);
+        eight = λ is e. eighth r frame pool t
+            (queues_by_mode.pools_16_hashing r frame pool t g (sixteen is) (by_either e (code 10) (code 11)));
       }
 
 joined : (s : State) → IsSound s → uses_pools s.registers ≡ true → (frame : List ℕ) → (t : Target)
     → sorted s.registers frame ≡ Ok t → (new : State) → new.waiting ≡ s.waiting ++ let_in frame t ∷ []
     → JoinsOpenPool s new
 joined s h uses frame t is new waits =
-    let q = subst (Sorted s.registers) is (all_sorted s.registers frame uses) in
-    record { frame = let_in frame t; pool = q.pool; joins = waits; is_of = is_of s h t.queue q }
+    let o = subst (Sorted s.registers frame) is (all_sorted s.registers frame uses) in
+    record { frame = let_in frame t; pool = o.0; joins = waits; is_of = is_of s h frame t o uses is }
 
 pub lets_in : VfreLetsIntoPools
 unfolding step_of

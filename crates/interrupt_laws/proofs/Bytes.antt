@@ -21,7 +21,8 @@ use Rattle.nic_device.specs.State.{State}
 use Rattle.interrupt_laws.specs.Queues.{IsQueueOf, byte_of, side_byte, pf_byte, vf_byte, names_cause}
 use Rattle.interrupt_laws.specs.Shown.{read_at}
 use Rattle.interrupt_laws.proofs.Addresses.{address_of}
-use Rattle.interrupt_laws.proofs.Pools.{is_in, halves, queues_there}
+use Rattle.nic_device.proofs.VfMap.Numbers.{placed}
+use Rattle.interrupt_laws.proofs.Pools.{is_in, queues_there}
 use Rattle.interrupt_laws.proofs.Reading.{read-word, word_lt}
 
 -- the cause that a byte names
@@ -72,7 +73,7 @@ pub vf_entry : (s : State) → IsSound s → (dir : Dir) (v x queue : ℕ) → I
     → vf_byte s dir v x ≡ vector_entry s.registers (Vf v) dir queue
 vf_entry s h dir v x queue q =
     let k = queues_there s h in
-    let parts = halves (mode_in s.registers) v x queue (is_in s h v x queue q.pool q.own q.is) in
+    let parts = placed (mode_in s.registers) v x queue (is_in s h v x queue q.pool q.own q.is) in
     let small = parts.small in
     let p = place Pvtivar (queue / 2) in
     let a : ℕ = 0x12500 + 4 * (queue / 2) in

@@ -17,7 +17,7 @@ use Rattle.nic_device.specs.RegisterFile.Owner.{owner_of, is_owner}
 use Rattle.nic_device.specs.RegisterFile.Pools.{mode_in}
 use Rattle.nic_device.specs.RegisterFile.Words.{word_at}
 use Rattle.nic_device.specs.RegisterFile.declared.owner.Owner.TheVariants as owner
-use Rattle.nic_device.specs.RegisterLaws.Footprint.{of_owner, of_group, of_read, of_write}
+use Rattle.nic_device.specs.RegisterLaws.Footprint.{is_own, of_owner, of_group, of_read, of_write}
 use Rattle.nic_device.specs.RegisterLaws.Laws.{after_write as word_written}
 use Rattle.nic_device.proofs.RegisterLaws.Accessed.{covers-of_read, covers-of_write}
 use Rattle.nic_device.proofs.RegisterLaws.Covers.{misses-narrower, misses-owner}
@@ -31,6 +31,7 @@ use Rattle.nic_device.specs.Eeprom.{reset}
 use Rattle.nic_device.specs.PoolReset.{with_pool_reset, written_below_reset}
 use Rattle.nic_device.specs.Sound.{IsSound}
 use Rattle.nic_device.specs.State.{State}
+use Rattle.device_laws.proofs.Reaching.{IsAway, write_lacks}
 use Rattle.interrupt_laws.specs.Lasting.{masks_itself, SparesMask}
 use Rattle.interrupt_laws.specs.Names.{IsGroup, bits_in, cause_register, mask_register, mask_clear_register}
 use Rattle.interrupt_laws.specs.Shown.{Bit, bit_of, masks_by_access}
@@ -53,6 +54,22 @@ spared false true has e = refl
 spared false false has e = refl
 
 -- the mask of a group that an access isn't of
+
+mask_away : (g : Group) → IsAway (mask_register g)
+mask_away Pf = record {
+  mailbox = λ e. cc;
+  requests = λ e. cc;
+  physical = λ e. cc;
+  function = λ e. cc;
+  extended = λ e. cc;
+}
+mask_away (Vf v) = record {
+  mailbox = λ e. cc;
+  requests = λ e. cc;
+  physical = λ e. cc;
+  function = λ e. cc;
+  extended = λ e. cc;
+}
 
 module _ (s : State) (h : IsSound s) (g : Group) (there : IsGroup g) (bit : ℕ) (b : bit < bits_in g)
     (m : (bit_of s g bit).mask ≡ true) where
@@ -103,11 +120,17 @@ module _ (s : State) (h : IsSound s) (g : Group) (there : IsGroup g) (bit : ℕ)
   unwritten : (p : Place) (view word : ℕ) → is_owner (owner_of p) (owner.Group g) ≡ false
       → (bit_of (record s { registers = word_written s.registers p view word }) g bit).mask ≡ true
   unwritten p view word other =
-      stands (record s { registers = word_written s.registers p view word })
-      (group_stands (of_write p) s.registers (word_written s.registers p view word) g
-      (misses-narrower (of_owner (owner_of p)) (of_write p) (of_group g) (covers-of_write p)
-      (misses-owner (owner_of p) (owner.Group g) other))
-      (within-written s.registers p view word))
+      let new : State = record s { registers = word_written s.registers p view word } in
+      let within = within-written s.registers p view word in
+      elim (cases_Bool (is_own (row_of p.row).kind)) as (λ _. (bit_of new g bit).mask ≡ true) [
+        | inl own ↦ stands new (group_stands (of_write p) s.registers new.registers g
+            (misses-narrower (of_owner (owner_of p)) (of_write p) (of_group g) (covers-of_write p own)
+            (misses-owner (owner_of p) (owner.Group g) other))
+            within)
+        | inr reaching ↦
+            mask_stands new (word_stands within (mask_register g)
+            (write_lacks p (mask_register g) reaching (mask_away g)))
+      ]
 
   -- a reset of another pool
   reset_elsewhere : (v : ℕ) → is_of_pool (mode_in s.registers) v (mask_register g) ≡ false

@@ -66,16 +66,23 @@ same_formula other old new around control = refl
 
 same_read : (k : Kind) (old new : Registers) (around : Surroundings) (q : Place)
     → word_at new.words q ≡ word_at old.words q → word_of new row.Ctrl 0 ≡ word_of old row.Ctrl 0
+    → word_of new row.Pvfmailbox q.index ≡ word_of old row.Pvfmailbox q.index
     → read_word k new around q ≡ read_word k old around q
-same_read kind.Calc old new around q word control = same_formula q.row old new around control
-same_read kind.Set old new around q word control = refl
-same_read kind.Clear old new around q word control = refl
-same_read kind.Vreset old new around q word control = refl
-same_read other old new around q word control = word
+same_read kind.Calc old new around q word control mail = same_formula q.row old new around control
+same_read kind.Set old new around q word control mail = refl
+same_read kind.Clear old new around q word control mail = refl
+same_read kind.Vreset old new around q word control mail = refl
+same_read kind.Pfmail old new around q word control mail = ap (λ w. bit_and w 0xC) mail
+same_read other old new around q word control mail = word
 
+-- neither CTRL nor a mailbox is plain
 no_control : (p : Place) → (row_of p.row).kind ≡ kind.Rw → place row.Ctrl 0 ≢ p
 no_control p plain e =
     let other : kind.Ctrl ≡ kind.Rw = ap (λ (x : Place). (row_of x.row).kind) e ∙ plain in cc
+
+no_mail : (p : Place) (v : ℕ) → (row_of p.row).kind ≡ kind.Rw → place row.Pvfmailbox v ≢ p
+no_mail p v plain e =
+    let other : kind.Vfmail ≡ kind.Rw = ap (λ (x : Place). (row_of x.row).kind) e ∙ plain in cc
 
 others_read : (s : State) (p : Place) (view word : ℕ) → (row_of p.row).kind ≡ kind.Rw → (a : ℕ) (q : Place)
     → Names a q → q ≢ p → reply_to_read (kept_word s p view word) a ≡ reply_to_read s a
@@ -85,7 +92,8 @@ others_read s p view word plain a q named apart =
     reply-read t a q named
     ∙ ap (λ w. Word (bit_and w (view_among runs a))) (same_read (row_of q.row).kind s.registers t.registers (around s) q
     (word_at-put_other s.registers.words p q new apart)
-    (word_at-put_other s.registers.words p (place row.Ctrl 0) new (no_control p plain)))
+    (word_at-put_other s.registers.words p (place row.Ctrl 0) new (no_control p plain))
+    (word_at-put_other s.registers.words p (place row.Pvfmailbox q.index) new (no_mail p q.index plain)))
     ∙ sym (reply-read s a q named)
 
 pub plain_alone : PlainWriteIsAlone

@@ -1,5 +1,5 @@
 -- Which pools VFRE lets frames into.
-use Rattle.std.specs.Prelude.{ℕ, ◌≡◌, ◌<◌, ◌*◌, ◌/◌, ◌%◌, List, [], ◌∷◌, ◌++◌, IsTrue}
+use Rattle.std.specs.Prelude.{ℕ, ◌≡◌, ◌≢◌, ◌⊎◌, ◌<◌, ◌*◌, ◌/◌, ◌%◌, List, [], ◌∷◌, ◌++◌, IsTrue}
 use Rattle.nic_device.specs.Sound.{IsSound}
 use Rattle.nic_device.specs.State.{State, Waiting}
 use Rattle.nic_device.specs.Step.{after, reply_to}
@@ -7,19 +7,27 @@ use Rattle.nic_device.specs.declared.event.Event.TheVariants as event
 use Rattle.nic_device.specs.declared.event.Reply.TheVariants.{Done}
 use Rattle.interrupt_laws.specs.Queues.{pool_bit_at}
 use Rattle.interrupt_laws.specs.Shown.{read_at, reads_one}
+use Rattle.interrupt_laws.specs.Steps.{mode_address}
 
 -- MRQC bits 3 to 0
 abbrev pub queue_mode : State → ℕ
 queue_mode s = read_at s 0x05818 % 16
 
+-- GCR_EXT bits 1 to 0
+abbrev pub pool_mode : State → ℕ
+pool_mode s = read_at s mode_address % 4
+
 -- a queue is of a pool whose bit of VFRE is 1: 2p of pool p with MRQC bits 3 to 0 at 8, one of the four from 4p on with
--- 10, and one of the two from 2p on with 11
+-- 10, and one of the two from 2p on with 11; but where GCR_EXT has 16 pools, 8p with 8, and one of the eight from 8p on
+-- with 10 and 11
 pub record IsOfOpenPool (s : State) (queue pool : ℕ) : Type 0 where
   pub small : pool < 64
   pub on : IsTrue (pool_bit_at s 0x051E0 pool)
-  pub single : queue_mode s ≡ 8 → queue ≡ 2 * pool
-  pub four : queue_mode s ≡ 10 → queue / 4 ≡ pool
-  pub two : queue_mode s ≡ 11 → queue / 2 ≡ pool
+  pub single : pool_mode s ≢ 1 → queue_mode s ≡ 8 → queue ≡ 2 * pool
+  pub four : pool_mode s ≢ 1 → queue_mode s ≡ 10 → queue / 4 ≡ pool
+  pub two : pool_mode s ≢ 1 → queue_mode s ≡ 11 → queue / 2 ≡ pool
+  pub single_16 : pool_mode s ≡ 1 → queue_mode s ≡ 8 → queue ≡ 8 * pool
+  pub eight : pool_mode s ≡ 1 → (queue_mode s ≡ 10) ⊎ (queue_mode s ≡ 11) → queue / 8 ≡ pool
 
 -- the frame joined those that wait, last, and waits for a queue of such a pool
 pub record JoinsOpenPool (s new : State) : Type 0 where

@@ -16,9 +16,9 @@ use Rattle.nic_device.specs.declared.event.Why.TheVariants.{NoSlot}
 use Rattle.interrupt_laws.specs.Shown.{Bit, bit_of, read_at, reads_one, ShowsThen}
 use Rattle.interrupt_laws.specs.Steps.{mode_address, pools_of}
 
--- how many queues a pool has: 4 where GCR_EXT bits 1 to 0 are 2, and 2 where they are 3
+-- how many queues a pool has: 8 where GCR_EXT bits 1 to 0 are 1, 4 where they are 2, and 2 where they are 3
 abbrev pub queues_by : ℕ → ℕ
-queues_by mode = if mode == 2 then 4 else (if mode == 3 then 2 else 0)
+queues_by mode = if mode == 1 then 8 else (if mode == 2 then 4 else (if mode == 3 then 2 else 0))
 
 abbrev pub queues_in_pool : State → ℕ
 queues_in_pool s = queues_by (read_at s mode_address % 4)

@@ -23,9 +23,9 @@ mode_address = 0x11050
 abbrev pub misc_address : ℕ
 misc_address = 0x00A00
 
--- how many pools there are: 32 where GCR_EXT bits 1 to 0 are 2, 64 where they are 3, else none
+-- how many pools there are: 16 where GCR_EXT bits 1 to 0 are 1, 32 where they are 2, 64 where they are 3, else none
 abbrev pub pools_by : ℕ → ℕ
-pools_by mode = if mode == 2 then 32 else (if mode == 3 then 64 else 0)
+pools_by mode = if mode == 1 then 16 else (if mode == 2 then 32 else (if mode == 3 then 64 else 0))
 
 abbrev pub pools_of : State → ℕ
 pools_of s = pools_by (read_at s mode_address % 4)

@@ -22,8 +22,8 @@ pub use driver::{Pmd, StopRefused};
 pub use halted::Halted;
 pub use home::{Home, StopFailed};
 pub use pmd_rx::{
-    Direct, Finished, Interleaved, Nic, POLLS, Packet, PmdFault, Queue, Record, Setup, ThroughLock,
-    pf_setup,
+    Calls, Direct, Finished, Interleaved, Made, Nic, POLLS, Packet, PmdFault, Queue, Record, Setup,
+    ThroughLock, pf_setup,
 };
 pub use pmd_tx::{Reaped, TxAnswer, TxFault};
 pub use running::Running;

@@ -10,7 +10,7 @@ mod receive;
 mod ring;
 
 pub use pmd_seam::{
-    CallFault, Direct, Finished, Interleaved, Nic, POLLS, Packet, PmdFault, Queue, Reclaim, Record,
-    Setup, ThroughLock, fresh_packet, give_back, give_packet, lend, pf_setup,
+    CallFault, Calls, Direct, Finished, Interleaved, Made, Nic, POLLS, Packet, PmdFault, Queue,
+    Reclaim, Record, Setup, ThroughLock, fresh_packet, give_back, give_packet, lend, pf_setup,
 };
 pub use ring::ReceiveRing;

@@ -26,7 +26,7 @@ mod slots;
 mod through_lock;
 
 pub use accesses::{lend, peek, poke, read, take, write};
-pub use device_lock::{CallFault, Calls};
+pub use device_lock::{CallFault, Calls, Made};
 pub use direct::Direct;
 pub use fault::PmdFault;
 pub use home::{Reclaim, give_back};

@@ -26,7 +26,7 @@ pub keeps : (k : Kind) → Keeps k
 keeps kind.Rw = record {
   given = same_word kind.Rw;
   read = quiet_read kind.Rw;
-  write = stored_write kind.Rw (λ word. word) refl (λ row. IsSubset-itself _);
+  write = stored_write kind.Rw (λ word. word) refl refl (λ row. IsSubset-itself _);
 }
 keeps kind.Ro = record { given = same_word kind.Ro; read = quiet_read kind.Ro; write = no_write kind.Ro }
 keeps kind.Calc = record { given = same_calculated; read = quiet_read kind.Calc; write = no_write kind.Calc }
@@ -55,17 +55,17 @@ keeps kind.Clear = record {
 keeps kind.Held = record {
   given = same_word kind.Held;
   read = quiet_read kind.Held;
-  write = held_write kind.Held refl (λ row. IsSubset-itself _);
+  write = held_write kind.Held refl refl (λ row. IsSubset-itself _);
 }
 keeps kind.Enable = record {
   given = same_word kind.Enable;
   read = quiet_read kind.Enable;
-  write = enable_write kind.Enable refl (λ row. IsSubset-or_left (row_of row).mask (2 ^ 25));
+  write = enable_write kind.Enable refl refl (λ row. IsSubset-or_left (row_of row).mask (2 ^ 25));
 }
 keeps kind.Ctrl = record {
   given = same_word kind.Ctrl;
   read = quiet_read kind.Ctrl;
-  write = stored_write kind.Ctrl (λ word. word) refl (λ row. IsSubset-itself _);
+  write = stored_write kind.Ctrl (λ word. word) refl refl (λ row. IsSubset-itself _);
 }
 keeps kind.Vreset = record {
   given = same_none kind.Vreset;
@@ -75,7 +75,7 @@ keeps kind.Vreset = record {
 keeps kind.Eerd = record {
   given = same_word kind.Eerd;
   read = quiet_read kind.Eerd;
-  write = stored_write kind.Eerd (λ word. bit_and word 0xFFFD) refl
+  write = stored_write kind.Eerd (λ word. bit_and word 0xFFFD) refl refl
       (λ row. IsSubset-ones 32 (row_of row).mask (mask_small row));
 }
 keeps kind.W1c = record { given = same_word kind.W1c; read = quiet_read kind.W1c; write = ones_write }

@@ -8,6 +8,7 @@ pub mod Footprints
 pub mod Formulas
 pub mod Giving
 pub mod GroupChanges
+pub mod Holders
 pub mod Keeps
 pub mod MailBits
 pub mod Mailbox

@@ -24,13 +24,14 @@ use Rattle.register_laws.proofs.Agreeing.{agree-put}
 use Rattle.register_laws.proofs.Covers.{covers-trans, covers-first, covers-second, covers-the_word, misses-narrower, misses-owner}
 use Rattle.register_laws.proofs.Footprints.{within-trans, within-wider, within-if}
 use Rattle.register_laws.proofs.Giving.{GivesTheSame}
+use Rattle.register_laws.proofs.Holders.{is_mail}
 use Rattle.register_laws.proofs.Mailbox.{within-mail_read, within-sent, within-function, within-physical, within-telling, sound-mail_read, sound-function, sound-physical, sound-telling}
 use Rattle.register_laws.proofs.MailPools.{mail_row, physical_is_the_devices, extended_is_the_devices, causes_are_the_devices, sending_misses}
 use Rattle.register_laws.proofs.Owners.{is_place-itself, is_place-same}
 use Rattle.register_laws.proofs.PoolsApart.{agreement_stands}
 use Rattle.register_laws.proofs.Reading.{KeepsReading}
 use Rattle.register_laws.proofs.RowBits.{IsSubset-and_left, IsSubset-trans}
-use Rattle.register_laws.proofs.SoundParts.{sound-if, sound-put, sound-stored}
+use Rattle.register_laws.proofs.SoundParts.{plain, sound-if, sound-put, sound-stored}
 use Rattle.register_laws.proofs.WithinParts.{within-put, within-stored}
 use Rattle.register_laws.proofs.Writing.{KeepsWriting}
 
@@ -135,7 +136,7 @@ extended_write = record {
   owned = λ own p e. cc;
   calm = λ p q n alone bit k. n k || (no_mail_row q alone k && (bit == 6 || bit == 7));
   sound = λ r p e sound view word.
-      let kept = sound-stored kind.Ctrlext r p view word e refl (IsSubset-itself _) sound in
+      let kept = sound-stored kind.Ctrlext r p view word e refl refl (IsSubset-itself _) sound in
       sound-if (has_bit 14 word) _ _ (sound-telling (stored r p view word) kept) kept;
   agree = λ view word mode v a b ha hb same p e is.
       absurd (both_ways _ (extended_is_the_devices p.row mode v p.index e) is);
@@ -148,7 +149,7 @@ ones_write = record {
   calm = λ p q n alone bit. n;
   sound = λ r p e sound view word.
       sound-put r p _ sound (IsSubset-trans _ _ _ (IsSubset-and_left (word_at r.words p) _) (sound.words p))
-      (ap is_pending e);
+      (ap is_pending e) (plain _ _ (ap is_mail e));
   agree = λ view word mode v a b ha hb same p e is.
       absurd (both_ways _ (causes_are_the_devices p.row mode v p.index e) is);
 }

@@ -26,16 +26,17 @@ use Rattle.register_file.proofs.IntrUnit.SetLaws.{contains-past, contains-inters
 use Rattle.register_file.proofs.Own.{intersection-lt}
 use Rattle.register_file.proofs.Raising.{mail_cause, queue_cause}
 use Rattle.register_laws.specs.Footprint.{Footprint, ChangesWithin, Covers, Misses, either, is_place, the_word, the_bits, pending}
-use Rattle.register_laws.specs.Sound.{AreSound, bits_of_row, pending_bits}
+use Rattle.register_laws.specs.Sound.{AreSound, IsMail, bits_of_row, pending_bits}
 use Rattle.register_laws.proofs.Covers.{covers-first, covers-second, misses-narrower, cause_is_pending}
 use Rattle.register_laws.proofs.Fields.{told_by-put}
 use Rattle.register_laws.proofs.Footprints.{within-refl, within-trans, within-wider, within-if}
+use Rattle.register_laws.proofs.Holders.{is_mail, mail-put, function_mail, physical_mail, once_mail, reset_mail}
 use Rattle.register_laws.proofs.MailBits.{KeepsOut, has_bit-zero, out-or, out-pow, out-within, is_vfu, is_physical, is_once, is_reset_bit, is_asked, function_keeps, physical_keeps, once_keeps, reset_keeps, requests_keep, requests-lt}
 use Rattle.register_laws.proofs.Owners.{is_group-same, is_place-same}
 use Rattle.register_laws.proofs.Puts.{word_at-put_other}
 use Rattle.register_laws.proofs.RowBits.{IsSubset-ones, IsSubset-or, IsSubset-or_left, IsSubset-trans, row_bits-put, word_small}
 use Rattle.register_laws.proofs.Shape.{put_stands, HasShape-put}
-use Rattle.register_laws.proofs.SoundParts.{told_stands, others_miss, sound-put, sound-if, cause_bits}
+use Rattle.register_laws.proofs.SoundParts.{plain, told_stands, others_miss, sound-put, sound-if, cause_bits}
 use Rattle.register_laws.proofs.Standing.{cause_index, cause_not_mask}
 use Rattle.register_laws.proofs.WithinParts.{within-bits, within-word}
 
@@ -158,10 +159,12 @@ within-telling r = within-all_done (range_with_len 0 64) r
 
 -- the bits that a mailbox's word has
 sound-mail : (r : Registers) (v new : ℕ) (has : ℕ → Bool) → KeepsOut has (mail_of r v) new
-    → ((bit : ℕ) → has bit ≡ true → has_bit bit 0xFC ≡ true) → AreSound r → AreSound (with_mail r v new)
-sound-mail r v new has keeps own sound =
+    → ((bit : ℕ) → has bit ≡ true → has_bit bit 0xFC ≡ true) → (IsMail (mail_of r v) → IsMail new) → AreSound r
+    → AreSound (with_mail r v new)
+sound-mail r v new has keeps own mail sound =
     sound-put r (place Pvfmailbox v) new sound
     (out-within has (mail_of r v) new 0xFC keeps own (sound.words (place Pvfmailbox v))) refl
+    (λ is. mail (sound.mail v))
 
 at_bit : (bit n : ℕ) (P : ℕ → Type 0) → (bit == n) ≡ true → P n → P bit
 at_bit bit n P is there = subst P (sym (eqb-true bit n is)) there
@@ -240,6 +243,10 @@ module _ (r : Registers) (g : Group) (bits : ℕ) (sound : AreSound r) where
       subst (λ (x : ℕ × ℕ × ℕ). IsSubset x.0 (intersection x.1 x.2)) (λ k. (told k, causes k, masks k))
       (IsSubset-trans _ _ _ (sound.told g b) (more_pending old bits (word_at r.words mask)))
 
+cause_other : (g : Group) → is_mail (row_of (cause_row g)).kind ≡ false
+cause_other Pf = refl
+cause_other (Vf v) = refl
+
 sound-cause : (r : Registers) (g : Group) (bits : ℕ) → IsSubset bits (group_bits g) → AreSound r
     → AreSound (cause_set r g bits)
 sound-cause r g bits within sound =
@@ -256,6 +263,7 @@ sound-cause r g bits within sound =
         | inl same ↦ subst (λ x. IsSubset (told_by new x) (pending_bits new x)) (is_group-same g h same)
             (told_grown r g bits sound (subst (λ x. index_of x < 64) (sym (is_group-same g h same)) b))
       ];
+      mail = mail-put r cause (bit_or old bits) (plain _ _ (cause_other g)) sound.mail;
     }
 
 -- what is sent
@@ -266,24 +274,25 @@ sound-requests r v word sound =
     sound-put r asked (bit_or old (requests v word)) sound
     (IsSubset-ones 32 (bit_or old (requests v word))
     (or_lt 32 old (requests v word) (word_small r sound asked) (requests-lt v word)))
-    refl
+    refl (plain false _ refl)
 
 pub sound-mail_read : (r : Registers) (v : ℕ) → AreSound r → AreSound (mail_read r v)
-sound-mail_read r v sound = sound-mail r v _ is_once (once_keeps (mail_of r v)) once_in sound
+sound-mail_read r v sound = sound-mail r v _ is_once (once_keeps (mail_of r v)) once_in (once_mail (mail_of r v)) sound
 
 pub sound-function : (r : Registers) (v word : ℕ) → AreSound r → AreSound (function_writes r v word)
 sound-function r v word sound =
     let held : Registers = with_mail r v (function_wrote (mail_of r v) word) in
     let asked : Registers = with_requests held v word in
     let kept = sound-requests held v word
-    (sound-mail r v _ is_vfu (function_keeps (mail_of r v) word) vfu_in sound) in
+    (sound-mail r v _ is_vfu (function_keeps (mail_of r v) word) vfu_in (function_mail (mail_of r v) word) sound) in
     sound-if (sends word && has_bit (v % 32) (word_of asked Pfmbimr (v / 32))) (cause_set asked Pf (2 ^ 19)) asked
     (sound-cause asked Pf (2 ^ 19) mail_cause kept) kept
 
 pub sound-physical : (r : Registers) (v word : ℕ) → AreSound r → AreSound (physical_writes r v word)
 sound-physical r v word sound =
     let held : Registers = with_mail r v (physical_wrote (mail_of r v) word) in
-    let kept = sound-mail r v _ is_physical (physical_keeps (mail_of r v) word) physical_in sound in
+    let kept = sound-mail r v _ is_physical (physical_keeps (mail_of r v) word) physical_in
+    (physical_mail (mail_of r v) word) sound in
     sound-if (sends word) (cause_set held (Vf v) _) held
     (sound-cause held (Vf v) _ (queue_cause v (word_of held PvtivarMisc v % 256)) kept) kept
 
@@ -291,7 +300,7 @@ sound-all_done : (vs : List ℕ) (r : Registers) → AreSound r → AreSound (fo
 sound-all_done [] r sound = sound
 sound-all_done (v ∷ vs) r sound =
     sound-all_done vs (done_told r v)
-    (sound-mail r v _ is_reset_bit (reset_keeps (mail_of r v)) reset_in sound)
+    (sound-mail r v _ is_reset_bit (reset_keeps (mail_of r v)) reset_in (reset_mail (mail_of r v)) sound)
 
 pub sound-telling : (r : Registers) → AreSound r → AreSound (resets_told r)
 unfolding resets_told

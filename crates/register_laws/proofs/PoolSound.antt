@@ -1,6 +1,7 @@
 -- Registers stay sound where a pool is reset.
-use Rattle.std.proofs.Common.{◌≡◌, ℕ, true, false, refl, ap, sym, ◌∙◌, subst, inl, inr}
-use Rattle.std.proofs.lemmas.Bool.{cases_Bool}
+use Rattle.std.proofs.Common.{◌≡◌, ℕ, true, false, refl, ap, sym, ◌∙◌, subst, inl, inr, arith}
+use Rattle.std.proofs.lemmas.Bool.{cases_Bool, cases_lt, both_ways}
+use Rattle.std.proofs.lemmas.List.{get_or_past}
 use Rattle.register_file.specs.RegTable.Rows.{row_of}
 use Rattle.register_file.specs.RegTable.declared.bank.Bank.{Bank}
 use Rattle.register_file.specs.RegTable.declared.bank.Bank.TheVariants as bank
@@ -8,17 +9,23 @@ use Rattle.register_file.specs.IntrUnit.BitSet.{contains, IsSubset}
 use Rattle.register_file.specs.IntrUnit.declared.group.Group.{Group}
 use Rattle.register_file.specs.IntrUnit.declared.group.Group.TheVariants.{Vf}
 use Rattle.register_file.proofs.IntrUnit.Subsets.{IsSubset-no_bits}
-use Rattle.register_file.specs.VfMap.Owner.{is_of_pool_by}
+use Rattle.register_file.specs.RegTable.declared.place.Place.{Place}
+use Rattle.register_file.specs.RegTable.declared.rows.RowId.TheVariants.{Pvfmailbox}
+use Rattle.register_file.specs.VfMap.Owner.{is_of_pool, is_of_pool_by}
 use Rattle.register_file.specs.VfMap.declared.mode.Mode.{Mode}
+use Rattle.register_file.specs.Bits.{has_bit}
+use Rattle.register_file.specs.Columns.{place}
 use Rattle.register_file.specs.Groups.{told_by}
+use Rattle.register_file.specs.Mailbox.{mail_of}
 use Rattle.register_file.specs.Owner.{owner_in, owner_of, is_group}
 use Rattle.register_file.specs.PoolReset.{pool_reset}
 use Rattle.register_file.specs.Registers.{Registers}
-use Rattle.register_file.specs.Words.{word_at}
+use Rattle.register_file.specs.Words.{word_at, row_words}
 use Rattle.register_file.specs.declared.owner.Owner.TheVariants as owner
 use Rattle.register_laws.specs.Footprint.{Misses, of_group, pool_has, pool_renews, pending}
 use Rattle.register_laws.specs.Sound.{AreSound, bits_of_row, pending_bits}
 use Rattle.register_laws.proofs.Footprints.{misses-within, covers-pending}
+use Rattle.register_laws.proofs.Holders.{mail_fewer}
 use Rattle.register_laws.proofs.Owners.{is_group-same, is_owner-same}
 use Rattle.register_laws.proofs.PoolQueues.{turned}
 use Rattle.register_laws.proofs.PoolReset.{renewed-pool, within-pool_reset}
@@ -56,6 +63,18 @@ others_miss mode v g n = misses-within (pool_has mode v) (of_group g) (pending g
   told = λ h is. ap (is_group (Vf v)) (sym (is_group-same g h is)) ∙ n;
 })
 
+-- a mailbox of the pool isn't held by its function, or there is none
+mail_renewed : (r : Registers) (mode : Mode) (v w : ℕ) → AreSound r → is_of_pool mode v (place Pvfmailbox w) ≡ true
+    → has_bit 2 (mail_of (pool_reset mode v r) w) ≡ false
+mail_renewed r mode v w sound own =
+    let new = renewed-pool r mode v in
+    elim (cases_lt w 64) as (λ _. has_bit 2 (mail_of (pool_reset mode v r) w) ≡ false) [
+      | inl b ↦ new.bits sound.shape (place Pvfmailbox w) 2 own b
+      | inr past ↦
+          let short = (new.shape sound.shape).has_indices Pvfmailbox in
+          ap (has_bit 2) (get_or_past (row_words (pool_reset mode v r).words Pvfmailbox) w 0 (omega arith))
+    ]
+
 pub sound-pool_reset : (r : Registers) (mode : Mode) (v : ℕ) → AreSound r → AreSound (pool_reset mode v r)
 sound-pool_reset r mode v sound =
     let new = renewed-pool r mode v in
@@ -70,4 +89,13 @@ sound-pool_reset r mode v sound =
                 (sym (new.told sound.shape g own b))
                 (IsSubset-no_bits (pending_bits (pool_reset mode v r) g))
           ];
+      mail = λ w.
+          let there : Place = place Pvfmailbox w in
+          let only = new.alone in
+          mail_fewer (mail_of r w) (mail_of (pool_reset mode v r) w)
+          (λ on. elim (cases_Bool (is_of_pool mode v there)) as (λ _. has_bit 2 (mail_of r w) ≡ true) [
+            | inr out ↦ sym (only.bits there 2 out) ∙ on
+            | inl own ↦ absurd (both_ways _ (mail_renewed r mode v w sound own) on)
+          ])
+          (only.bits there 3 refl) (only.bits there 6 refl) (only.bits there 7 refl) (sound.mail w);
     }

@@ -19,11 +19,12 @@ use Rattle.register_laws.proofs.Agreeing.{agree-put}
 use Rattle.register_laws.proofs.Covers.{misses-narrower, misses-nothing, misses-owner, covers-nothing, covers-the_word}
 use Rattle.register_laws.proofs.Footprints.{within-refl}
 use Rattle.register_laws.proofs.GroupChanges.{change-group_read}
+use Rattle.register_laws.proofs.Holders.{is_mail}
 use Rattle.register_laws.proofs.NoSide.{counters_own, pending_misses_sides}
 use Rattle.register_laws.proofs.Owners.{is_place-itself}
 use Rattle.register_laws.proofs.Pending.{covers-pending_of, alone_pending_of}
 use Rattle.register_laws.proofs.PoolAccessed.{agree-group_read, agree-in_group}
-use Rattle.register_laws.proofs.SoundParts.{sound-put, sound_group}
+use Rattle.register_laws.proofs.SoundParts.{plain, sound-put, sound_group}
 use Rattle.register_laws.proofs.WithinParts.{within-put, within_group}
 
 -- registers that agree of a pool do so after the same change at one of its places
@@ -63,7 +64,8 @@ counter_read = record {
       misses-narrower (of_owner (owner_of p)) (the_word p) (of_side dir queue) (covers-the_word p)
       (misses-owner (owner_of p) (owner.Side dir queue)
       (ap (λ o. is_owner o (owner.Side dir queue)) (counters_own p e)));
-  sound = λ r p e sound. sound-put r p 0 sound (IsSubset-no_bits _) (ap is_pending e);
+  sound = λ r p e sound. sound-put r p 0 sound (IsSubset-no_bits _) (ap is_pending e)
+      (plain _ 0 (ap is_mail e));
   agree = λ mode v a b ha hb same p e is. agree-put (pool_agrees mode v) a b ha hb same p 0 0 refl;
 }
 

@@ -1,6 +1,6 @@
 -- Registers stay sound where a word is put at a place, another side is wanted on, or a group has other interrupts.
 use Rattle.std.proofs.Common.{◌≡◌, ℕ, ◌<◌, Bool, true, false, refl, ap, sym, ◌∙◌, subst, inl, inr}
-use Rattle.std.proofs.lemmas.Bool.{cases_Bool}
+use Rattle.std.proofs.lemmas.Bool.{cases_Bool, both_ways}
 use Rattle.register_file.specs.RegTable.Rows.{row_of}
 use Rattle.register_file.specs.RegTable.declared.place.Place.{Place}
 use Rattle.register_file.specs.IntrUnit.BitSet.{intersection, IsSubset}
@@ -15,9 +15,12 @@ use Rattle.register_file.specs.Registers.{Registers, with_wanted}
 use Rattle.register_file.specs.Words.{word_at, put}
 use Rattle.register_file.specs.DmaRing.declared.dir.Dir.{Dir}
 use Rattle.register_file.specs.declared.owner.Owner.TheVariants as owner
+use Rattle.register_file.specs.RegTable.declared.rows.RowId.TheVariants.{Pvfmailbox}
+use Rattle.register_laws.proofs.Holders.{is_mail, mail_same, mail-put}
+use Rattle.register_laws.proofs.Pending.{none_pending}
 use Rattle.register_laws.proofs.Settled.{IsSettled}
 use Rattle.register_laws.specs.Footprint.{Footprint, ChangesWithin, Misses, is_place, is_pending, nothing, the_word, of_group, pending, any_pending}
-use Rattle.register_laws.specs.Sound.{AreSound, bits_of_row, pending_bits}
+use Rattle.register_laws.specs.Sound.{AreSound, IsMail, bits_of_row, pending_bits}
 use Rattle.register_laws.proofs.Fields.{words-with_wanted, words-with_told}
 use Rattle.register_laws.proofs.Covers.{fails, cause_is_pending, mask_is_pending}
 use Rattle.register_laws.proofs.Footprints.{word_stands, misses-narrower, misses-within, misses-owner, covers-pending, covers-any_pending}
@@ -58,13 +61,19 @@ steady_misses p g steady = misses-within (the_word p) any_pending (pending g) (c
 })
 
 pub sound-put : (r : Registers) (p : Place) (v : ℕ) → AreSound r → IsSubset v (bits_of_row p.row)
-    → is_pending (row_of p.row).kind ≡ false → AreSound (record r { words = put r.words p v })
-sound-put r p v sound own steady = record {
+    → is_pending (row_of p.row).kind ≡ false → (is_mail (row_of p.row).kind ≡ true → IsMail v)
+    → AreSound (record r { words = put r.words p v })
+sound-put r p v sound own steady mail = record {
   shape = HasShape-put r p v sound.shape;
   words = row_bits-put r p v sound.shape sound.words own;
   told = λ g b. told_stands (the_word p) r (record r { words = put r.words p v }) g (steady_misses p g steady)
       (within-put (the_word p) r p v (λ bit. is_place-itself p)) (sound.told g b);
+  mail = mail-put r p v mail sound.mail;
 }
+
+-- no mailbox
+pub plain : (b : Bool) (word : ℕ) → b ≡ false → b ≡ true → IsMail word
+plain b word off on = absurd (both_ways b off on)
 
 wanted_alone : Dir → ℕ → Footprint
 wanted_alone dir queue = record nothing { wanted = λ other number. true }
@@ -79,6 +88,8 @@ sound-with_wanted r dir queue wanted sound = record {
   told = λ g b. told_stands (wanted_alone dir queue) r (with_wanted r dir queue wanted) g
       (record { bits = λ p bit is. refl; wanted = λ other number is. cc; told = λ h is. refl })
       (within-with_wanted (wanted_alone dir queue) r dir queue wanted refl) (sound.told g b);
+  mail = λ v. mail_same _ _ (ap (λ ws. word_at ws (place Pvfmailbox v)) (words-with_wanted r dir queue wanted))
+      (sound.mail v);
 }
 
 -- interrupts of a group
@@ -130,6 +141,8 @@ sound-with_interrupts r s sound settled = record {
             (λ k. (told k, causes k, enabled k))
             settled.consistent.told_is_pending)
       ];
+  mail = λ v. mail_same _ _ (word_stands (within-with_interrupts r s) (place Pvfmailbox v)
+      (none_pending (place Pvfmailbox v) refl s.group)) (sound.mail v);
 }
 
 -- one of two, and accesses of a group, of a side, and of a word that is stored
@@ -152,11 +165,12 @@ sound-asked r other wanted sound = sound
 
 -- a written word takes bits of the mask, where the kind can have them all
 pub sound-stored : (k : Kind) (r : Registers) (p : Place) (view word : ℕ) → (row_of p.row).kind ≡ k
-    → is_pending k ≡ false → IsSubset (row_of p.row).mask (bits_of_kind k (row_of p.row).mask) → AreSound r
+    → is_pending k ≡ false → is_mail k ≡ false → IsSubset (row_of p.row).mask (bits_of_kind k (row_of p.row).mask)
+    → AreSound r
     → AreSound (stored r p view word)
-sound-stored k r p view word e steady has sound =
+sound-stored k r p view word e steady other has sound =
     let mask = (row_of p.row).mask in
     let own = within_row p.row mask (subst (λ j. IsSubset mask (bits_of_kind j mask)) (sym e) has) in
     sound-put r p _ sound (IsSubset-merged (bit_and mask view) (word_at r.words p) word (bits_of_row p.row)
     (sound.words p) (IsSubset-trans (bit_and mask view) mask (bits_of_row p.row) (IsSubset-and_left mask view) own))
-    (ap is_pending e ∙ steady)
+    (ap is_pending e ∙ steady) (plain _ _ (ap is_mail e ∙ other))

@@ -8,6 +8,7 @@ use Rattle.register_file.proofs.IntrUnit.Subsets.{IsSubset-no_bits}
 use Rattle.register_file.specs.Groups.{index_of, told_by}
 use Rattle.register_file.specs.Registers.{reset_registers}
 use Rattle.register_laws.specs.Sound.{AreSound, pending_bits}
+use Rattle.register_laws.proofs.Holders.{mail-reset}
 use Rattle.register_laws.proofs.Shape.{HasShape-reset}
 use Rattle.register_laws.proofs.RowBits.{row_bits-reset}
 
@@ -23,4 +24,5 @@ sound-reset = record {
   told =
       λ g b. subst (λ t. IsSubset t (pending_bits reset_registers g)) (sym (none_told g b))
       (IsSubset-no_bits (pending_bits reset_registers g));
+  mail = mail-reset;
 }

@@ -28,6 +28,7 @@ acting_bits row.Eics is = refl
 acting_bits row.Eimc is = refl
 acting_bits row.Pvteics is = refl
 acting_bits row.Pvteimc is = refl
+acting_bits row.Pfmailbox is = refl
 acting_bits other is = absurd (both_ways (keeps_none (row_of other).kind) refl is)
 
 pub acting_none : ActingWordsAreNone

@@ -17,6 +17,7 @@ use Rattle.register_laws.proofs.Agreeing.{agree-if}
 use Rattle.register_laws.proofs.Covers.{covers-nothing, covers-the_word, covers-the_enable}
 use Rattle.register_laws.proofs.Footprints.{within-refl, within-trans, within-if}
 use Rattle.register_laws.proofs.GroupChanges.{ChangesGroup}
+use Rattle.register_laws.proofs.Holders.{is_mail}
 use Rattle.register_laws.proofs.Owners.{is_place-itself}
 use Rattle.register_laws.proofs.Pending.{covers-pending_of, alone_pending_of}
 use Rattle.register_laws.proofs.PoolAccessed.{KeepsGroupAgreement, agree-stored, agree-asked, agree-in_group, running_at}
@@ -50,20 +51,20 @@ abbrev pub HasMask : Kind → Type 0
 HasMask k = (row : RowId) → IsSubset (row_of row).mask (bits_of_kind k (row_of row).mask)
 
 -- what is stored is the written word, or what the kind takes of it
-pub stored_write : (k : Kind) (taken : ℕ → ℕ) → is_pending k ≡ false → HasMask k
+pub stored_write : (k : Kind) (taken : ℕ → ℕ) → is_pending k ≡ false → is_mail k ≡ false → HasMask k
     → KeepsWriting k (λ r p view word. stored r p view (taken word)) the_word
-stored_write k taken steady has = record {
+stored_write k taken steady other has = record {
   within = λ r p view word. within-stored (the_word p) r p view (taken word) (λ bit. is_place-itself p);
   owned = λ own p e. covers-the_word p;
   calm = λ p q n alone bit. n;
-  sound = λ r p e sound view word. sound-stored k r p view (taken word) e steady (has p.row) sound;
+  sound = λ r p e sound view word. sound-stored k r p view (taken word) e steady other (has p.row) sound;
   agree = λ view word mode v a b ha hb same p e is. agree-stored mode v a b same ha hb p view (taken word) is;
 }
 
 -- a ring's word is stored while its side is off
-pub held_write : (k : Kind) → is_pending k ≡ false → HasMask k
+pub held_write : (k : Kind) → is_pending k ≡ false → is_mail k ≡ false → HasMask k
     → KeepsWriting k (λ r p view word. if is_running r (owner_of p) then r else stored r p view word) the_word
-held_write k steady has = record {
+held_write k steady other has = record {
   within = λ r p view word.
       within-if (the_word p) (is_running r (owner_of p)) r r (stored r p view word) (within-refl (the_word p) r)
       (within-stored (the_word p) r p view word (λ bit. is_place-itself p));
@@ -71,7 +72,7 @@ held_write k steady has = record {
   calm = λ p q n alone bit. n;
   sound = λ r p e sound view word.
       sound-if (is_running r (owner_of p)) r (stored r p view word) sound
-      (sound-stored k r p view word e steady (has p.row) sound);
+      (sound-stored k r p view word e steady other (has p.row) sound);
   agree = λ view word mode v a b ha hb same p e is.
       agree-if (pool_agrees mode v) (is_running a (owner_of p)) (is_running b (owner_of p)) a b (stored a p view word)
       (stored b p view word) (running_at mode v a b same ha hb p is) same
@@ -79,9 +80,9 @@ held_write k steady has = record {
 }
 
 -- an enable word asks for its side
-pub enable_write : (k : Kind) → is_pending k ≡ false → HasMask k
+pub enable_write : (k : Kind) → is_pending k ≡ false → is_mail k ≡ false → HasMask k
     → KeepsWriting k (λ r p view word. asked (stored r p view word) (owner_of p) (has_bit 25 word)) the_enable
-enable_write k steady has = record {
+enable_write k steady other has = record {
   within = λ r p view word.
       within-trans (the_enable p) r (stored r p view word) (asked (stored r p view word) (owner_of p) (has_bit 25 word))
       (within-stored (the_enable p) r p view word (λ bit. is_place-itself p))
@@ -90,7 +91,7 @@ enable_write k steady has = record {
   calm = λ p q n alone bit. n;
   sound = λ r p e sound view word.
       sound-asked (stored r p view word) (owner_of p) (has_bit 25 word)
-      (sound-stored k r p view word e steady (has p.row) sound);
+      (sound-stored k r p view word e steady other (has p.row) sound);
   agree = λ view word mode v a b ha hb same p e is.
       agree-asked mode v a b same ha hb p view word is (owner_of p) (has_bit 25 word);
 }

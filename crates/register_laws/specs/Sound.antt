@@ -1,5 +1,5 @@
 -- Registers that a device can have.
-use Rattle.std.specs.Prelude.{ℕ, ◌≡◌, ◌<◌, length, bit_or}
+use Rattle.std.specs.Prelude.{ℕ, ◌≡◌, ◌<◌, ◌&&◌, IsFalse, length, bit_or}
 use Rattle.register_file.specs.RegTable.Rows.{row_of, rows}
 use Rattle.register_file.specs.RegTable.declared.kind.Kind.{Kind}
 use Rattle.register_file.specs.RegTable.declared.place.Place.{Place}
@@ -7,7 +7,9 @@ use Rattle.register_file.specs.RegTable.declared.rows.RowId.{RowId}
 use Rattle.register_file.specs.IntrUnit.BitSet.{intersection, IsSubset}
 use Rattle.register_file.specs.IntrUnit.declared.group.Group.{Group}
 use Rattle.register_file.specs.Behaviour.{behaviour_of}
+use Rattle.register_file.specs.Bits.{has_bit}
 use Rattle.register_file.specs.Groups.{cause_row, mask_row, index_of, told_by}
+use Rattle.register_file.specs.Mailbox.{mail_of}
 use Rattle.register_file.specs.Registers.{Registers, word_of}
 use Rattle.register_file.specs.Words.{row_words, word_at}
 
@@ -33,9 +35,15 @@ bits_of_row row = bit_or (row_of row).reset (bits_of_kind (row_of row).kind (row
 abbrev pub pending_bits : Registers → Group → ℕ
 pending_bits r g = intersection (word_of r (cause_row g) (index_of g)) (word_of r (mask_row g) (index_of g))
 
+-- a mailbox is held by one side at most, and tells that a reset began or that it is done, not both
+pub record IsMail (mail : ℕ) : Type 0 where
+  pub holder : IsFalse (has_bit 2 mail && has_bit 3 mail)
+  pub end : IsFalse (has_bit 6 mail && has_bit 7 mail)
+
 -- the registers have their shape, in each word only bits that its row can have, and told bits only where cause and mask
--- are 1
+-- are 1; and each mailbox is one
 pub record AreSound (r : Registers) : Type 0 where
   pub shape : HasShape r
   pub words : (p : Place) → IsSubset (word_at r.words p) (bits_of_row p.row)
   pub told : (g : Group) → index_of g < 64 → IsSubset (told_by r g) (pending_bits r g)
+  pub mail : (v : ℕ) → IsMail (mail_of r v)

@@ -4,6 +4,7 @@ use Rattle.std.specs.Prelude.{nat_lt, Option}
 use Rattle.std.proofs.lemmas.Bool.{both_ways, cond_both, lt-ltb}
 use Rattle.nic_device.specs.DmaArena.Numbers.{free_count}
 use Rattle.nic_device.specs.VfMap.Pools.{queues_of}
+use Rattle.nic_device.proofs.VfMap.Queues.{few_queues}
 use Rattle.nic_device.specs.RegisterFile.Pools.{mode_in}
 use Rattle.nic_device.specs.State.{State}
 use Rattle.nic_device.specs.declared.event.Port.{Port}
@@ -13,7 +14,7 @@ use Rattle.pmd.specs.PmdSeam.declared.fault.PmdFault.{PmdFault}
 use Rattle.pmd.specs.PmdSeam.declared.fault.PmdFault.TheVariants.{DeviceFault}
 use Rattle.pmd.specs.PmdSeam.Named.{queues_named}
 use Rattle.start_laws.specs.Numbers.{queue_at, queue_in}
-use Rattle.start_laws.proofs.QueueIn.{few_queues, is_in, some_where}
+use Rattle.start_laws.proofs.QueueIn.{is_in, some_where}
 use Rattle.start_laws.specs.Gate.{NamedQueuesPass}
 
 named_below : (s : State) (port : Port) (own queue : ℕ)

@@ -1,9 +1,6 @@
 -- What it says that a port and a queue's number name a queue of a pool.
-use Rattle.std.proofs.Common.{◌≡◌, ℕ, ◌+◌, ◌*◌, ◌<◌, ◌≤◌, Bool, true, false, nat_lt, refl, ap, subst, arith, Option, Some, None, if◌then◌else◌}
+use Rattle.std.proofs.Common.{◌≡◌, ℕ, ◌+◌, ◌<◌, Bool, true, false, nat_lt, refl, Option, Some, None, if◌then◌else◌}
 use Rattle.std.proofs.lemmas.Bool.{ltb-true}
-use Rattle.nic_device.specs.VfMap.Pools.{queues_of, queues_each, pools_in}
-use Rattle.nic_device.specs.VfMap.declared.mode.Mode.{Mode}
-use Rattle.nic_device.specs.VfMap.declared.mode.Mode.TheVariants.{Off, Pools16, Pools32, Pools64}
 use Rattle.start_laws.specs.Numbers.{queue_in}
 
 -- A driver's numbers name the registers of the queue that its port and queue name.
@@ -32,16 +29,3 @@ is_in (Some queues) number queue e =
       few = ltb-true number queues.1 parts.0;
       same = cc;
     }
-
-few_each : (mode : Mode) → queues_each mode ≤ 4
-few_each Off = omega arith
-few_each Pools16 = omega arith
-few_each Pools32 = omega arith
-few_each Pools64 = omega arith
-
-pub few_queues : (mode : Mode) (v first count : ℕ) → queues_of mode v ≡ Some (first, count) → count ≤ 4
-few_queues mode v first count e =
-    let each = queues_each mode in
-    let pool = (some_where (nat_lt v (pools_in mode)) (Some (v * each, each)) (first, count) e).1 in
-    let both : (v * each, each) ≡ (first, count) = cc in
-    subst (λ n. n ≤ 4) (ap (λ (p : ℕ × ℕ). p.1) both) (few_each mode)

@@ -34,8 +34,8 @@ mod turns;
 mod worker_task;
 
 pub use device_lock::{
-    Call, CallFault, CloseFault, CloseRefused, Closed, Entry, NewFault, Pass, Shared, Watched,
-    left_alone,
+    Call, CallFault, Calls, CloseFault, CloseRefused, Closed, Entry, Made, NewFault, Pass, Shared,
+    Watched, left_alone,
 };
 pub use driving::{Order, run_worker};
 pub use ends::{Ran, RunFault, RunRefused, WorkerEnd};

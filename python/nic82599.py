@@ -364,7 +364,7 @@ def offset_of(name: str) -> int:
     index, last = int(found[2] or 0), 15 if found[1] == "VFMBMEM" else 7
     if index and not stride or index > last:
         raise NoSuchRegister(
-            f"no register {name}: a function has at most eight queues, 16 words of mailbox memory, and some registers once"
+            f"no register {name}: a function has at most eight queues, 16 words of memory, and some registers once"
         )
     return offset + stride * index
 

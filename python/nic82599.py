@@ -361,10 +361,12 @@ def offset_of(name: str) -> int:
     if not found or found[1] not in OFFSETS:
         raise _no_name(name, OFFSETS)
     offset, stride = OFFSETS[found[1]]
-    queue = int(found[2] or 0)
-    if queue and not stride or queue > 7:
-        raise NoSuchRegister(f"no register {name}: a function has at most eight queues, and some registers once")
-    return offset + stride * queue
+    index, last = int(found[2] or 0), 15 if found[1] == "VFMBMEM" else 7
+    if index and not stride or index > last:
+        raise NoSuchRegister(
+            f"no register {name}: a function has at most eight queues, 16 words of memory, and some registers once"
+        )
+    return offset + stride * index
 
 
 def fields_of(name: str, word: int) -> dict[str, int]:

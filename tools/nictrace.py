@@ -109,7 +109,7 @@ class Plan:
         kind, i = register.row.kind, register.index
         if kind == "Ctrlext":
             boxes = [first("PVFMAILBOX", v) for v in range(64)] if (written or 0) & 1 << 14 else []
-            return [register.address] + [at for at in boxes if at in self.seen] if written is not None else []
+            return [register.address] + boxes if written is not None else []
         both = [first("PVFMAILBOX", i), first("PFMAILBOX", i)]
         if kind == "Pfmail":
             return both + [first("PVTEICR", i)] if written is not None else []

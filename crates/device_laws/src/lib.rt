@@ -135,7 +135,8 @@ pub fn other_events_keep_blocks()
 {}
 
 /// A read of a register changes no queue; a write that asks for no reset changes no side of a queue that its register
-/// isn't of. Neither changes a group that its register isn't of, memory, the frames that wait or the frames out.
+/// isn't of. A read changes no group that its register isn't of, a write none of which it may change nothing; neither
+/// changes memory, the frames that wait or the frames out.
 pub fn access_leaves_the_rest()
     ensures read { ReadLeavesTheRest }
     ensures write { WriteLeavesTheRest }
@@ -256,18 +257,19 @@ pub fn vf_access_is_the_physical_functions()
 {}
 
 /// An access of a virtual function changes nothing but what is its pool's: words, wanted enables, told bits, staged
-/// bytes and waiting frames of its own queues; the frames of other pools keep their order. Staged bytes and waiting
-/// frames of its own pool too it changes only where it asks for a reset of the pool. Two devices that agree there, in
-/// the number of functions, in GCR_EXT, in CTRL bit 2 and in the link give one reply to it, and agree there again.
+/// bytes and waiting frames of its own queues; and the bits by which it calls the physical function, two of PFMBICR and
+/// EICR bit 19. The frames of other pools keep their order. Staged bytes and waiting frames of its own pool too it
+/// changes only where it asks for a reset of the pool. Two devices that agree in what is its pool's, in the number of
+/// functions, in GCR_EXT, in CTRL bit 2 and in the link give one reply to it, and agree there again.
 pub fn vf_stays_in_its_pool()
     ensures changes { VfChangesItsPoolAlone }
     ensures keeps { VfKeepsFramesButByReset }
     ensures agrees { VfSeesItsPoolAlone }
 {}
 
-/// A write of PVFCTRL with bit 26, by whichever port, leaves all that is its pool's as a reset does: its words, wanted
-/// enables and told bits; its queues have no staged bytes, and of the frames that wait those of other queues are left,
-/// in their order. All else is as it was.
+/// A write of PVFCTRL with bit 26, by whichever port, leaves what is its pool's as a reset does: its words, of its
+/// mailbox what a pool's reset takes, wanted enables and told bits; its queues have no staged bytes, and of the frames
+/// that wait those of other queues are left, in their order. All else is as it was.
 pub fn asked_pool_reset_resets()
     ensures { AskedPoolResetResets }
 {}

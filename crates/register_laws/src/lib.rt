@@ -78,8 +78,9 @@ pub fn changes_stay_in_their_footprint()
     ensures shut { ShutStaysWithin }
 {}
 
-/// What is of a place is its owner's: an access changes nothing of another owner, and raised causes and messages
-/// nothing but causes, masks and told bits.
+/// What is of a place is its owner's: a read changes nothing of another owner, nor does a write, but where its kind
+/// reaches others as those of mailboxes do; and raised causes and messages change nothing but causes, masks and told
+/// bits.
 pub fn accesses_stay_with_their_owner()
     ensures read { ReadStaysWithOwner }
     ensures write { WriteStaysWithOwner }
@@ -176,8 +177,8 @@ pub fn reset_pool_is_reset()
     ensures sound { PoolResetKeepsSound }
 {}
 
-/// An access of a pool's register, where it asks for no reset, changes nothing but what is the pool's, and one of
-/// STATUS or LINKS nothing at all.
+/// An access of a pool's register, where it asks for no reset, changes nothing but what is the pool's, the bits of its
+/// function in PFMBICR and EICR bit 19, and one of STATUS or LINKS nothing at all.
 pub fn pool_accesses_stay_within()
     ensures read { PoolReadsStayWithin }
     ensures write { PoolWritesStayWithin }
@@ -186,8 +187,7 @@ pub fn pool_accesses_stay_within()
 {}
 
 /// Two register files that agree of a pool tell the same at the pool's registers, and agree of the pool again after the
-/// same access of one of them. STATUS and LINKS tell the same where both make steps or neither. After a reset of the
-/// pool they agree of it in any case.
+/// same access of one of them and after its reset. STATUS and LINKS tell the same where both make steps or neither.
 pub fn pool_accesses_tell_of_the_pool()
     ensures word { PoolReadsTellTheSame }
     ensures shared_word { SharedReadsTellTheSame }
@@ -196,8 +196,8 @@ pub fn pool_accesses_tell_of_the_pool()
     ensures reset { PoolResetKeepsAgreement }
 {}
 
-/// Two pools have nothing in common, and what two register files agree in stands through changes that have nothing of
-/// it: those of another pool among them.
+/// Accesses of two pools may both change no bit but EICR bit 19, and what those of one may change has nothing of what
+/// must agree of the other; what two register files agree in stands through changes that have nothing of it.
 pub fn pools_have_nothing_in_common()
     ensures apart { PoolsHaveNothingInCommon }
     ensures stands { MissedAgreementStands }

@@ -19,6 +19,7 @@ pub mod Plain
 pub mod Pools
 pub mod Raising
 pub mod Reading
+pub mod Sending
 pub mod Settings
 pub mod Status
 pub mod Steps

@@ -15,6 +15,7 @@ ghost use Rattle.interrupt_laws.specs.Status.{StatusTellsOfSteps, LinksTellsTheL
 ghost use Rattle.interrupt_laws.specs.Steps.{MessageStepsTellWhatIsDue};
 ghost use Rattle.interrupt_laws.specs.Holding.{FunctionHoldsOn, PhysicalHoldsOn};
 ghost use Rattle.interrupt_laws.specs.Mailbox.{MailboxesAreShared};
+ghost use Rattle.interrupt_laws.specs.Sending.{RequestsAreApart};
 ghost use Rattle.interrupt_laws.specs.Accesses.{WriteOfCauseSetSets, WriteOfCausesClears, ReadOfCausesClears, WriteOfMasksSets, WriteOfMaskClearClears, SetAndClearReadZero, WriteOfAutoClearIsKept, WriteOfAutoMaskIsKept, ReadsShowTheView, OtherBitsReadZero};
 
 /// The interrupt registers of the physical function and of each of 64 virtual functions are at the datasheet's
@@ -66,6 +67,12 @@ pub fn mailboxes_are_shared()
 pub fn holders_hold_on()
     ensures function { FunctionHoldsOn }
     ensures physical { PhysicalHoldsOn }
+{}
+
+/// A write of PVFMAILBOX sets the request of its own function in PFMBICR with bit 0, its own acknowledgement with bit 1,
+/// and changes no other bit there.
+pub fn requests_are_apart()
+    ensures { RequestsAreApart }
 {}
 
 /// A message step answers that there is no group exactly for a virtual function that the device hasn't or that has no

@@ -10,6 +10,7 @@ pub mod Groups
 pub mod Holding
 pub mod Lasting
 pub mod LastingAccesses
+pub mod MailEvents
 pub mod Mailbox
 pub mod Masks
 pub mod Muting

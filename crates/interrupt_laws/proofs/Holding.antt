@@ -1,12 +1,10 @@
 -- Who holds a mailbox keeps it.
 use Rattle.std.proofs.Common.{◌≡◌, ◌≢◌, ℕ, ◌<◌, ◌%◌, Bool, true, false, cond, ◌==◌, ◌&&◌, ◌||◌, ◌⊎◌, refl, ap, sym, ◌∙◌, subst, inl, inr, arith, lit<}
+use Rattle.std.proofs.Math.Bool.{and-false}
 use Rattle.std.proofs.lemmas.Bool.{cond_both, both_ways, cases_eq, ne_eqb}
 use Rattle.nic_device.specs.DmaArena.Block.{Block}
 use Rattle.nic_device.specs.RegTable.Rows.{row_of}
-use Rattle.nic_device.specs.RegTable.declared.kind.Kind.{Kind}
-use Rattle.nic_device.specs.RegTable.declared.kind.Kind.TheVariants as kind
 use Rattle.nic_device.specs.RegTable.declared.place.Place.{Place}
-use Rattle.nic_device.specs.RegTable.declared.rows.RowId.{RowId}
 use Rattle.nic_device.specs.RegTable.declared.rows.RowId.TheVariants as row
 use Rattle.nic_device.specs.IntrUnit.Group.{queue_causes}
 use Rattle.nic_device.specs.IntrUnit.declared.group.Group.TheVariants.{Vf}
@@ -18,7 +16,6 @@ use Rattle.nic_device.specs.RegisterLaws.Laws.{HasShape, after_write as word_wri
 use Rattle.nic_device.proofs.RegisterLaws.Bits.{has_bit-set}
 use Rattle.nic_device.proofs.RegisterLaws.Footprints.{word_stands}
 use Rattle.nic_device.proofs.RegisterLaws.MailBits.{has_bit-set_other, has_bit-clear_other, function_keeps}
-use Rattle.nic_device.proofs.RegisterLaws.MailPools.{mail_row}
 use Rattle.nic_device.proofs.RegisterLaws.Mailbox.{within-sent}
 use Rattle.nic_device.proofs.RegisterLaws.PoolReset.{renewed-pool, within-pool_reset}
 use Rattle.nic_device.proofs.RegisterLaws.Puts.{word_at-put_other}
@@ -36,7 +33,7 @@ use Rattle.nic_device.specs.declared.named.Named.TheVariants.{Nothing, Register}
 use Rattle.nic_device.specs.RegisterFile.Pools.{mode_in}
 use Rattle.interrupt_laws.proofs.LastingAccesses.{asks_pool}
 use Rattle.interrupt_laws.proofs.Lasting.{in_range}
-use Rattle.interrupt_laws.proofs.MailEvents.{apart_mail, still_holds, read_holds, word_holds, write_holds, Made, reading, writing, silent, made}
+use Rattle.interrupt_laws.proofs.MailEvents.{apart_mail, still_holds, read_holds, word_holds, write_holds, mail_place, physical_place, Side, function, physical, neither, side_of, Made, reading, writing, silent, made}
 use Rattle.interrupt_laws.proofs.Mailbox.{own}
 use Rattle.interrupt_laws.specs.Holding.{SparesFunction, SparesPhysical, IsSparing, FunctionHoldsOn, PhysicalHoldsOn}
 
@@ -108,30 +105,6 @@ physical_mailed : (r : Registers) → HasShape r → (v word : ℕ) → v < 64
 physical_mailed r h v word there =
     told_still (with_mail r v (physical_wrote (mail_of r v) word)) v word
     ∙ put_stands r (place row.Pvfmailbox v) (physical_wrote (mail_of r v) word) h there
-
--- the rows of the two kinds
-mail_place : (p : Place) → (row_of p.row).kind ≡ kind.Vfmail → p ≡ place row.Pvfmailbox p.index
-mail_place p e = ap (λ x. place x p.index) (mail_row p.row e)
-
-physical_row : (x : RowId) → (row_of x).kind ≡ kind.Pfmail → x ≡ row.Pfmailbox
-physical_row row.Pfmailbox e = refl
-physical_row row.Ctrl e = cc
-physical_row other e = cc
-
-physical_place : (p : Place) → (row_of p.row).kind ≡ kind.Pfmail → p ≡ place row.Pfmailbox p.index
-physical_place p e = ap (λ x. place x p.index) (physical_row p.row e)
-
--- the kinds of the two sides' writes, and any other
-data Side (k : Kind) : Type 0 where
-  function : k ≡ kind.Vfmail → Side k
-  physical : k ≡ kind.Pfmail → Side k
-  neither : k ≢ kind.Vfmail → k ≢ kind.Pfmail → Side k
-
-side_of : (k : Kind) → Side k
-side_of kind.Vfmail = function refl
-side_of kind.Pfmail = physical refl
-side_of kind.Rw = neither (λ e. cc) (λ e. cc)
-side_of other = neither (λ e. cc) (λ e. cc)
 
 -- what a write leaves of a mailbox's bit, by whose write it is
 module _ (s : State) (h : IsSound s) (v : ℕ) (there : v < 64) (n : ℕ) (low : (n == 6 || n == 7) ≡ false)
@@ -224,7 +197,8 @@ function_event : (s : State) → IsSound s → (v : ℕ) → v < 64 → has_bit 
 unfolding step_of
 function_event s h v there held e (writing port number word) spares =
     function_named s h v there held port number word (named s port number) refl spares
-function_event s h v there held e (reading port number) spares = read_holds v 2 true refl s port number held
+function_event s h v there held e (reading port number) spares = read_holds v 2 true s port number
+    (λ p view is e. and-false _) held
 function_event s h v there held e (silent other no_read quiet) spares = still_holds v 2 true s other no_read quiet held
 
 physical_event : (s : State) → IsSound s → (v : ℕ) → v < 64 → has_bit 3 (mail_of s.registers v) ≡ true
@@ -233,7 +207,8 @@ physical_event : (s : State) → IsSound s → (v : ℕ) → v < 64 → has_bit 
 unfolding step_of
 physical_event s h v there held e (writing port number word) spares =
     physical_named s h v there held port number word (named s port number) refl spares
-physical_event s h v there held e (reading port number) spares = read_holds v 3 true refl s port number held
+physical_event s h v there held e (reading port number) spares = read_holds v 3 true s port number
+    (λ p view is e. and-false _) held
 physical_event s h v there held e (silent other no_read quiet) spares = still_holds v 3 true s other no_read quiet held
 
 pub function_holds_on : FunctionHoldsOn

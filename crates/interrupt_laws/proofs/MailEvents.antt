@@ -1,6 +1,5 @@
 -- Which events change a bit of a mailbox.
 use Rattle.std.proofs.Common.{◌≡◌, ◌≢◌, ℕ, ◌<◌, Bool, true, false, ◌==◌, ◌&&◌, ◌||◌, List, [], ◌∷◌, refl, ap, sym, ◌∙◌}
-use Rattle.std.proofs.Math.Bool.{and-false}
 use Rattle.std.specs.Prelude.{IsFalse}
 use Rattle.std.proofs.lemmas.Bool.{cond_both, both_ways}
 use Rattle.nic_device.specs.DmaArena.Block.{Block}
@@ -8,6 +7,7 @@ use Rattle.nic_device.specs.RegTable.Rows.{row_of}
 use Rattle.nic_device.specs.RegTable.declared.kind.Kind.{Kind}
 use Rattle.nic_device.specs.RegTable.declared.kind.Kind.TheVariants as kind
 use Rattle.nic_device.specs.RegTable.declared.place.Place.{Place}
+use Rattle.nic_device.specs.RegTable.declared.rows.RowId.{RowId}
 use Rattle.nic_device.specs.RegTable.declared.rows.RowId.TheVariants as row
 use Rattle.nic_device.specs.RegisterFile.Access.{asks_reset, asks_pool_reset}
 use Rattle.nic_device.specs.RegisterFile.Bits.{has_bit}
@@ -18,6 +18,7 @@ use Rattle.nic_device.specs.DmaRing.declared.dir.Dir.{Dir}
 use Rattle.nic_device.specs.DmaRing.declared.dir.Dir.TheVariants.{Rx, Tx}
 use Rattle.nic_device.specs.RegisterLaws.Footprint.{is_place, read_by, written_by}
 use Rattle.nic_device.specs.RegisterLaws.Laws.{after_write as word_written}
+use Rattle.nic_device.proofs.RegisterLaws.MailPools.{mail_row}
 use Rattle.nic_device.proofs.RegisterLaws.Owners.{is_place-other}
 use Rattle.nic_device.proofs.RegisterLaws.Pending.{none_pending, none_pending_of}
 use Rattle.nic_device.proofs.RegisterLaws.Within.{within-written}
@@ -49,13 +50,17 @@ apart_mail w v apart =
     is_place-other (place row.Pvfmailbox w) (place row.Pvfmailbox v)
     (λ same. apart (ap (λ (q : Place). q.index) (sym same)))
 
--- a read changes no bit of a mailbox but those that are told once
-pub read_lacks : (k : Kind) (p : Place) (v n : ℕ) → (row_of p.row).kind ≡ k → (n == 4 || n == 5 || n == 7) ≡ false
+-- a read changes no bit of a mailbox but those that are told once, by a read of it
+abbrev pub IsUnread : Place → (v n : ℕ) → Type 0
+IsUnread p v n =
+    (row_of p.row).kind ≡ kind.Vfmail → (is_place (place row.Pvfmailbox p.index) (place row.Pvfmailbox v)
+    && (n == 4 || n == 5 || n == 7)) ≡ false
+
+read_lacks : (k : Kind) (p : Place) (v n : ℕ) → (row_of p.row).kind ≡ k → IsUnread p v n
     → (read_by k p).bits (place row.Pvfmailbox v) n ≡ false
 read_lacks kind.Rc p v n e other = elsewhere kind.Rc p v e (λ x. cc)
 read_lacks kind.Cause p v n e other = none_pending_of (place row.Pvfmailbox v) refl (owner_of p) n
-read_lacks kind.Vfmail p v n e other =
-    ap (λ b. is_place (place row.Pvfmailbox p.index) (place row.Pvfmailbox v) && b) other ∙ and-false _
+read_lacks kind.Vfmail p v n e other = other e
 read_lacks k p v n e other = refl
 
 -- nor does a write, but of the mailbox by one of the two sides, and of CTRL_EXT
@@ -92,10 +97,10 @@ module _ (v n : ℕ) (value : Bool) where
       → Is s → Is (after s e)
   bit_kept s e none is = (stays_within s e).registers.bits (place row.Pvfmailbox v) n none ∙ is
 
-  read_reaches : (m : Named) → (n == 4 || n == 5 || n == 7) ≡ false
+  read_reaches : (m : Named) → ((p : Place) (view : ℕ) → m ≡ Register p view → IsUnread p v n)
       → (read_reach m).registers.bits (place row.Pvfmailbox v) n ≡ false
   read_reaches (Nothing seen) other = refl
-  read_reaches (Register p view) other = read_lacks (row_of p.row).kind p v n refl other
+  read_reaches (Register p view) other = read_lacks (row_of p.row).kind p v n refl (other p view refl)
 
   received_reach : (ws : List Waiting) (reply : Reply Block)
       → (receive_reach ws reply).registers.bits (place row.Pvfmailbox v) n ≡ false
@@ -119,11 +124,12 @@ module _ (v n : ℕ) (value : Bool) where
       bit_kept s (event.QueueStep dir queue) (switched_reach dir queue) is
   still_holds s e no_read quiet is = bit_kept s e refl is
 
-  -- a read of a bit that isn't told once
-  pub read_holds : (n == 4 || n == 5 || n == 7) ≡ false → (s : State) (port : Port) (number : ℕ) → Is s
+  -- a read that doesn't tell of the bit
+  pub read_holds : (s : State) (port : Port) (number : ℕ)
+      → ((p : Place) (view : ℕ) → named s port number ≡ Register p view → IsUnread p v n) → Is s
       → Is (after s (event.Read port number))
   unfolding step_of
-  read_holds other s port number is =
+  read_holds s port number other is =
       bit_kept s (event.Read port number) (read_reaches (named s port number) other) is
 
   -- a write of a register that asks for no reset, and doesn't change the bit
@@ -144,6 +150,30 @@ module _ (v n : ℕ) (value : Bool) where
       absurd (both_ways (has_bit 3 word || has_bit 26 word) (control found.0) found.1))
       (λ none. cond_both (asks_pool_reset (row_of p.row).kind word) (with_pool_reset s p.index)
       (record s { registers = word_written s.registers p view word }) Is pool (λ rest. plain))
+
+-- the rows of the two kinds
+pub mail_place : (p : Place) → (row_of p.row).kind ≡ kind.Vfmail → p ≡ place row.Pvfmailbox p.index
+mail_place p e = ap (λ x. place x p.index) (mail_row p.row e)
+
+physical_row : (x : RowId) → (row_of x).kind ≡ kind.Pfmail → x ≡ row.Pfmailbox
+physical_row row.Pfmailbox e = refl
+physical_row row.Ctrl e = cc
+physical_row other e = cc
+
+pub physical_place : (p : Place) → (row_of p.row).kind ≡ kind.Pfmail → p ≡ place row.Pfmailbox p.index
+physical_place p e = ap (λ x. place x p.index) (physical_row p.row e)
+
+-- the kinds of the two sides' writes, and any other
+pub data Side (k : Kind) : Type 0 where
+  function : k ≡ kind.Vfmail → Side k
+  physical : k ≡ kind.Pfmail → Side k
+  neither : k ≢ kind.Vfmail → k ≢ kind.Pfmail → Side k
+
+pub side_of : (k : Kind) → Side k
+side_of kind.Vfmail = function refl
+side_of kind.Pfmail = physical refl
+side_of kind.Rw = neither (λ e. cc) (λ e. cc)
+side_of other = neither (λ e. cc) (λ e. cc)
 
 -- what an event is
 pub data Made : Event Block → Type 0 where

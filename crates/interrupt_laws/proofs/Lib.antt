@@ -20,6 +20,7 @@ pub mod Plain
 pub mod Pools
 pub mod Raising
 pub mod Reading
+pub mod Resets
 pub mod Sending
 pub mod Settings
 pub mod Status

@@ -6,6 +6,7 @@ pub mod Mailbox
 pub mod Names
 pub mod Plain
 pub mod Queues
+pub mod Resets
 pub mod Sending
 pub mod Shown
 pub mod Status

@@ -15,6 +15,7 @@ ghost use Rattle.interrupt_laws.specs.Status.{StatusTellsOfSteps, LinksTellsTheL
 ghost use Rattle.interrupt_laws.specs.Steps.{MessageStepsTellWhatIsDue};
 ghost use Rattle.interrupt_laws.specs.Holding.{FunctionHoldsOn, PhysicalHoldsOn};
 ghost use Rattle.interrupt_laws.specs.Mailbox.{MailboxesAreShared};
+ghost use Rattle.interrupt_laws.specs.Resets.{EndIsToldOnce, EndIsTold};
 ghost use Rattle.interrupt_laws.specs.Sending.{RequestsAreApart};
 ghost use Rattle.interrupt_laws.specs.Accesses.{WriteOfCauseSetSets, WriteOfCausesClears, ReadOfCausesClears, WriteOfMasksSets, WriteOfMaskClearClears, SetAndClearReadZero, WriteOfAutoClearIsKept, WriteOfAutoMaskIsKept, ReadsShowTheView, OtherBitsReadZero};
 
@@ -69,8 +70,15 @@ pub fn holders_hold_on()
     ensures physical { PhysicalHoldsOn }
 {}
 
-/// A write of PVFMAILBOX sets the request of its own function in PFMBICR with bit 0, its own acknowledgement with bit 1,
-/// and changes no other bit there.
+/// From one reset of the device to the next one read of PVFMAILBOX at most gives bit 7, that a reset is done; and a
+/// write of CTRL_EXT with bit 14 sets it for each function that reads bit 6, that one began, and clears bit 6.
+pub fn ends_are_told_once()
+    ensures once { EndIsToldOnce }
+    ensures told { EndIsTold }
+{}
+
+/// A write of PVFMAILBOX sets the request of its own function in PFMBICR with bit 0, its own acknowledgement with bit
+/// 1, and changes no other bit there.
 pub fn requests_are_apart()
     ensures { RequestsAreApart }
 {}

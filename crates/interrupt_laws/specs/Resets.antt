@@ -1,0 +1,64 @@
+-- A function is told of a reset once: by RSTI, bit 6 of PVFMAILBOX[v], until the physical function tells that it is
+-- done, and then by RSTD, bit 7, at one read.
+use Rattle.std.specs.Prelude.{ℕ, ◌≡◌, ◌<◌, ◌≤◌, ◌+◌, Bool, false, ◌&&◌, ◌||◌, List, [], ◌∷◌, ⊤, if◌then◌else◌, IsTrue, IsFalse}
+use Rattle.nic_device.specs.DmaArena.Block.{Block}
+use Rattle.nic_device.specs.RegTable.declared.place.Place.{Place}
+use Rattle.nic_device.specs.RegTable.declared.rows.RowId.TheVariants.{Ctrl, CtrlExt, Pvfmailbox}
+use Rattle.nic_device.specs.RegisterFile.Bits.{has_bit}
+use Rattle.nic_device.specs.RegisterFile.Columns.{place}
+use Rattle.nic_device.specs.RegisterLaws.Footprint.{is_place}
+use Rattle.nic_device.specs.Named.{named}
+use Rattle.nic_device.specs.Sound.{IsSound, IsEvent}
+use Rattle.nic_device.specs.State.{State}
+use Rattle.nic_device.specs.Step.{after, reply_to}
+use Rattle.nic_device.specs.declared.event.Event.{Event}
+use Rattle.nic_device.specs.declared.event.Event.TheVariants as event
+use Rattle.nic_device.specs.declared.event.Port.{Port}
+use Rattle.nic_device.specs.declared.named.Named.{Named}
+use Rattle.nic_device.specs.declared.named.Named.TheVariants.{Nothing, Register}
+use Rattle.interrupt_laws.specs.Holding.{IsSparing}
+use Rattle.interrupt_laws.specs.Mailbox.{function_mail}
+use Rattle.interrupt_laws.specs.Shown.{word_in, reads_one}
+
+-- a number names PVFMAILBOX[v]
+abbrev pub is_mailbox : ℕ → Named → Bool
+is_mailbox v (Nothing seen) = false
+is_mailbox v (Register p view) = is_place (place Pvfmailbox v) p
+
+-- an event is a read of PVFMAILBOX[v], by either port, that gives RSTD
+abbrev pub tells_end : State → ℕ → Event Block → Bool
+tells_end s v (event.Read port number) =
+    is_mailbox v (named s port number) && has_bit 7 (word_in (reply_to s (event.Read port number)))
+tells_end s v other = false
+
+-- how many of some events are
+abbrev pub times_told : State → ℕ → List (Event Block) → ℕ
+times_told s v [] = 0
+times_told s v (e ∷ es) = (if tells_end s v e then 1 else 0) + times_told (after s e) v es
+
+-- a write asks for no reset of the device
+abbrev pub SparesDevice : Place → (word : ℕ) → Type 0
+SparesDevice p word = p ≡ place Ctrl 0 → IsFalse (has_bit 3 word || has_bit 26 word)
+
+-- some events are such, and none asks for a reset of the device
+abbrev pub AreWithoutReset : State → List (Event Block) → Type 0
+AreWithoutReset s [] = ⊤
+AreWithoutReset s (e ∷ es) = IsEvent e × IsSparing SparesDevice s e × AreWithoutReset (after s e) es
+
+-- from any device on, so from a reset to the next, one read at most tells that a reset is done
+abbrev pub EndIsToldOnce : Type 0
+EndIsToldOnce =
+    (s : State) → IsSound s → (v : ℕ) → v < 64 → (es : List (Event Block)) → AreWithoutReset s es
+    → times_told s v es ≤ 1
+
+-- and a write of CTRL_EXT with bit 14 tells it to each function that was told of a reset's beginning
+pub record IsToldOfTheEnd (s new : State) (v : ℕ) : Type 0 where
+  pub begun : IsFalse (reads_one new (function_mail v) 6)
+  pub done : reads_one new (function_mail v) 7
+      ≡ (reads_one s (function_mail v) 6 || reads_one s (function_mail v) 7)
+
+abbrev pub EndIsTold : Type 0
+EndIsTold =
+    (s : State) → IsSound s → (v : ℕ) → v < 64 → (port : Port) (number view word : ℕ) →
+    named s port number ≡ Register (place CtrlExt 0) view → IsTrue (has_bit 14 word)
+    → IsToldOfTheEnd s (after s (event.Write port number word)) v

@@ -13,6 +13,7 @@ pub mod LastingAccesses
 pub mod MailEvents
 pub mod Mailbox
 pub mod Masks
+pub mod Messages
 pub mod Muting
 pub mod OtherBits
 pub mod Owned

@@ -3,6 +3,7 @@ pub mod Arriving
 pub mod Holding
 pub mod Lasting
 pub mod Mailbox
+pub mod Messages
 pub mod Names
 pub mod Plain
 pub mod Queues

@@ -15,6 +15,7 @@ ghost use Rattle.interrupt_laws.specs.Status.{StatusTellsOfSteps, LinksTellsTheL
 ghost use Rattle.interrupt_laws.specs.Steps.{MessageStepsTellWhatIsDue};
 ghost use Rattle.interrupt_laws.specs.Holding.{FunctionHoldsOn, PhysicalHoldsOn};
 ghost use Rattle.interrupt_laws.specs.Mailbox.{MailboxesAreShared};
+ghost use Rattle.interrupt_laws.specs.Messages.{MessagesHaveNumbers, MessagesAreShared, MessagesLast};
 ghost use Rattle.interrupt_laws.specs.Resets.{EndIsToldOnce, EndIsTold};
 ghost use Rattle.interrupt_laws.specs.Sending.{RequestsAreApart};
 ghost use Rattle.interrupt_laws.specs.Accesses.{WriteOfCauseSetSets, WriteOfCausesClears, ReadOfCausesClears, WriteOfMasksSets, WriteOfMaskClearClears, SetAndClearReadZero, WriteOfAutoClearIsKept, WriteOfAutoMaskIsKept, ReadsShowTheView, OtherBitsReadZero};
@@ -60,6 +61,14 @@ pub fn auto_words_are_kept()
 /// that a reset began or that it is done, not both.
 pub fn mailboxes_are_shared()
     ensures { MailboxesAreShared }
+{}
+
+/// Word x of function v's mailbox memory is at address 0x13000 + 0x40 v + 4 x, and at the function's offset 0x200 + 4
+/// x; what is written by one of the two is read by both, until the word is written again or the device is reset.
+pub fn messages_are_shared()
+    ensures numbers { MessagesHaveNumbers }
+    ensures shared { MessagesAreShared }
+    ensures last { MessagesLast }
 {}
 
 /// Who holds a mailbox holds it after every event but those writes that end it: for the function one of PVFMAILBOX

@@ -71,8 +71,8 @@ def _field(text: str) -> Field:
 
 _VECTORS = "*INT_Alloc[0] 5:0, *INT_Alloc_val[0] 7, *INT_Alloc[1] 13:8, *INT_Alloc_val[1] 15, *INT_Alloc[2] 21:16, \
 *INT_Alloc_val[2] 23, *INT_Alloc[3] 29:24, *INT_Alloc_val[3] 31"
-_CAUSES = "*RTxQ 15:0 bits, Flow_Director 16, *Rx_Miss 17, *PCI_Exception 18, *MailBox 19, *LSC 20, LinkSec 21, MNG 22, \
-GPI_SDP0 24, GPI_SDP1 25, GPI_SDP2 26, GPI_SDP3 27, ECC 28, TCP_Timer 30"
+_CAUSES = "*RTxQ 15:0 bits, Flow_Director 16, *Rx_Miss 17, *PCI_Exception 18, *MailBox 19, *LSC 20, LinkSec 21, \
+MNG 22, GPI_SDP0 24, GPI_SDP1 25, GPI_SDP2 26, GPI_SDP3 27, ECC 28, TCP_Timer 30"
 _FUNCTION = "*MSIX[0] 0, *MSIX[1] 1, *MSIX[2] 2"
 _MAP = "*Q_MAP[0] 3:0, *Q_MAP[1] 11:8, *Q_MAP[2] 19:16, *Q_MAP[3] 27:24"
 _POOLS = "*pools 31:0 bits"

@@ -16,6 +16,7 @@ use tx_ring::Staged;
 
 impl Engine {
     /// Reads by a number of a port.
+    #[inline(always)]
     pub(crate) fn read(&mut self, port: Port, number: u32) -> Reply
         ensures reply { result ≡ (register_read self.old port number).reply }
         ensures state { self.new ≡ (register_read self.old port number).state }
@@ -40,6 +41,7 @@ impl Engine {
     }
 
     /// Writes by a number of a port.
+    #[inline(always)]
     pub(crate) fn write(&mut self, port: Port, number: u32, word: u32) -> Reply
         ensures reply { result ≡ (register_written self.old port number word).reply }
         ensures state { self.new ≡ (register_written self.old port number word).state }
@@ -55,6 +57,7 @@ impl Engine {
 
     /// Writes a place through an address that shows the bits of `view`. A write that asks for a reset does nothing
     /// else.
+    #[inline(always)]
     fn write_place(&mut self, place: Place, view: u32, word: u32)
         requires { place.index < (row_of place.row).count }
         ensures { self.new ≡ state_written self.old place view word }
@@ -68,6 +71,7 @@ impl Engine {
 
     /// Writes a place where no reset of the device is asked for, through an address that shows the bits of `view`. A
     /// write that asks for a reset of a pool does nothing else.
+    #[inline(always)]
     pub(crate) fn write_below_reset(&mut self, place: Place, view: u32, word: u32)
         requires { place.index < (row_of place.row).count }
         ensures { self.new ≡ written_below_reset self.old place view word }
@@ -80,6 +84,7 @@ impl Engine {
     }
 
     /// What lies around the registers.
+    #[inline(always)]
     pub(crate) fn around(&self) -> Surroundings
         ensures { result ≡ around self.now }
     {
@@ -90,6 +95,7 @@ impl Engine {
     }
 
     /// Resets the device, and then makes the register writes of the EEPROM's image.
+    #[inline(never)]
     fn reset(&mut self)
         ensures { self.new ≡ reset self.old }
     {

@@ -16,6 +16,7 @@ const SHORTEST_FRAME: usize = 60;
 
 impl Engine {
     /// A frame arrives.
+    #[inline(never)]
     pub(crate) fn arrive(&mut self, frame: Octets) -> Result<Reply, OutOfMemory<Event>>
         ensures reply { IfOk result (λ reply. reply ≡ (arrived self.old frame).reply) }
         ensures state { OnOk result (self.new ≡ (arrived self.old frame).state) }

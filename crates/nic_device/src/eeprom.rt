@@ -20,6 +20,7 @@ impl Engine {
     }
 
     /// One step of the EEPROM: the word that EERD asks for is there.
+    #[inline(never)]
     pub(crate) fn read_eeprom(&mut self) -> Reply
         ensures reply { result ≡ (eeprom_stepped self.old).reply }
         ensures state { self.new ≡ (eeprom_stepped self.old).state }

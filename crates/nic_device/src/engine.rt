@@ -72,8 +72,26 @@ impl Engine {
     }
 
     #[tactic(auto, unfolding(crate::specs::Step::step_of))]
-    /// Makes one event.
+    /// Makes one event. What a driver does most is told apart first.
+    #[inline(always)]
     pub(crate) fn step(&mut self, event: Event) -> Result<Reply, OutOfMemory<Event>>
+        ensures reply { IfOk result (λ reply. reply ≡ (step_of self.old event).reply) }
+        ensures state { OnOk result (self.new ≡ (step_of self.old event).state) }
+        ensures back { IfErr result (λ refused. refused.event ≡ event) }
+        ensures unchanged { OnErr result (self.new ≡ self.old) }
+        ensures memory { OnErr result (TakesMemory self.old event) }
+    {
+        match event {
+            Event::Read(port, number) => Ok(self.read(port, number)),
+            Event::Write(port, number, word) => Ok(self.write(port, number, word)),
+            other => self.step_any(other),
+        }
+    }
+
+    #[tactic(auto, unfolding(crate::specs::Step::step_of))]
+    /// The same, of whatever event.
+    #[inline(never)]
+    fn step_any(&mut self, event: Event) -> Result<Reply, OutOfMemory<Event>>
         ensures reply { IfOk result (λ reply. reply ≡ (step_of self.old event).reply) }
         ensures state { OnOk result (self.new ≡ (step_of self.old event).state) }
         ensures back { IfErr result (λ refused. refused.event ≡ event) }

@@ -82,6 +82,7 @@ pub(crate) fn fail_side(registers: &mut RegisterFile, dir: Dir, queue: u16)
 
 impl Engine {
     /// The next message of a group is sent.
+    #[inline(never)]
     pub(crate) fn send_message(&mut self, group: Group) -> Reply
         ensures reply { result ≡ (interrupted self.old group).reply }
         ensures state { self.new ≡ (interrupted self.old group).state }

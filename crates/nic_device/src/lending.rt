@@ -12,6 +12,7 @@ const PEEK_BYTES: u32 = 16;
 
 impl Engine {
     /// Lends a block.
+    #[inline(never)]
     pub(crate) fn lend(&mut self, buf: Buf) -> Result<Reply, OutOfMemory<Event>>
         ensures reply { IfOk result (λ reply. reply ≡ (lent self.old buf).reply) }
         ensures state { OnOk result (self.new ≡ (lent self.old buf).state) }
@@ -29,6 +30,7 @@ impl Engine {
     }
 
     /// Takes a block back.
+    #[inline(never)]
     pub(crate) fn take(&mut self, number: u32) -> Reply
         ensures reply { result ≡ (taken self.old number).reply }
         ensures state { self.new ≡ (taken self.old number).state }
@@ -40,6 +42,7 @@ impl Engine {
     }
 
     /// Reads 16 bytes at a bus address.
+    #[inline(never)]
     pub(crate) fn peek16(&self, address: u32) -> Reply
         ensures reply { result ≡ (peeked self.now address).reply }
         ensures state { self.now ≡ (peeked self.now address).state }
@@ -55,6 +58,7 @@ impl Engine {
     }
 
     /// Writes 16 bytes at a bus address.
+    #[inline(never)]
     pub(crate) fn poke16(&mut self, address: u32, bytes: [u8; 16]) -> Reply
         ensures reply { result ≡ (poked self.old address bytes).reply }
         ensures state { self.new ≡ (poked self.old address bytes).state }

@@ -12,6 +12,7 @@ const LINK_CHANGE: u32 = 0x0010_0000;
 
 impl Engine {
     /// The link goes up or down, which raises its cause.
+    #[inline(never)]
     pub(crate) fn set_link(&mut self, up: bool) -> Reply
         ensures reply { result ≡ (link_set self.old up).reply }
         ensures state { self.new ≡ (link_set self.old up).state }
@@ -25,6 +26,7 @@ impl Engine {
     }
 
     /// The oldest frame out is collected.
+    #[inline(never)]
     pub(crate) fn collect(&mut self) -> Reply
         ensures reply { result ≡ (collected self.old).reply }
         ensures state { self.new ≡ (collected self.old).state }

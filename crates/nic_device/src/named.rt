@@ -26,6 +26,7 @@ pub enum Named {
 
 impl Engine {
     /// What a number names at a port.
+    #[inline(always)]
     pub(crate) fn named(&self, port: Port, number: u32) -> Named
         ensures value { result ≡ named self.now port number }
         ensures in_range { IsInRange result }
@@ -38,6 +39,7 @@ impl Engine {
 }
 
 /// What an address names.
+#[inline(always)]
 fn at_address(address: u32) -> Named
     ensures value { result ≡ at_place (place_among runs address) (view_among runs address) }
     ensures in_range { IsInRange result }
@@ -49,6 +51,7 @@ fn at_address(address: u32) -> Named
 }
 
 /// What an offset names, by where it leads.
+#[inline(always)]
 fn at_location(located: Located) -> Named
     requires { IsLocatedInRange located }
     ensures value { result ≡ at_location located }

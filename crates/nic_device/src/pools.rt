@@ -11,6 +11,7 @@ use tx_ring::Staged;
 
 impl Engine {
     /// Resets pool v, below 64: its registers, the frames that wait for its queues, and their staged bytes.
+    #[inline(never)]
     pub(crate) fn reset_pool(&mut self, v: u8)
         requires { v < 64 }
         ensures { self.new ≡ with_pool_reset self.old v }

@@ -14,6 +14,7 @@ use std::collections::VecDeque;
 
 impl Engine {
     /// One step of receiving.
+    #[inline(never)]
     pub(crate) fn receive(&mut self) -> Reply
         ensures reply { result ≡ (received self.old).reply }
         ensures state { self.new ≡ (received self.old).state }

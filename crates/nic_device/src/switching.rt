@@ -12,6 +12,7 @@ use std::collections::VecDeque;
 
 impl Engine {
     /// One step of a side's enable.
+    #[inline(never)]
     pub(crate) fn switch_queue(&mut self, dir: Dir, queue: u16) -> Reply
         ensures reply { result ≡ (queue_switched self.old dir queue).reply }
         ensures state { self.new ≡ (queue_switched self.old dir queue).state }

@@ -17,6 +17,7 @@ use tx_ring::{Fetched, Tx, TxRefused, fetch};
 
 impl Engine {
     /// One step of transmitting.
+    #[inline(never)]
     pub(crate) fn transmit(&mut self, queue: u16) -> Result<Reply, OutOfMemory<Event>>
         ensures reply { IfOk result (λ reply. reply ≡ (transmitted self.old queue).reply) }
         ensures state { OnOk result (self.new ≡ (transmitted self.old queue).state) }

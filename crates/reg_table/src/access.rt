@@ -20,6 +20,7 @@ pub struct Access {
 
 /// The place that an address names, with the bits that show there: both by one dispatch on the address. `None` exactly
 /// where no place has the address; an address that is no multiple of 4 names none.
+#[inline(always)]
 pub fn resolve(address: u32) -> Option<Access>
     ensures value { result ≡ access_at address }
     ensures place { option_map (λ x. x.place) result ≡ place_among runs address }
@@ -31,6 +32,7 @@ pub fn resolve(address: u32) -> Option<Access>
 
 /// The same, as the table alone says it.
 #[tactic(auto, using(crate::proofs::Views::no_part_of_a_word))]
+#[inline(always)]
 fn at(address: u32) -> Option<Access>
     ensures { result ≡ access_at address }
 {
@@ -41,6 +43,7 @@ fn at(address: u32) -> Option<Access>
 }
 
 /// The access at an offset from the first of a row's addresses, which go by 4.
+#[inline(always)]
 pub(crate) fn words(row: RowId, first_index: u16, offset: u32) -> Option<Access>
     requires near { offset < 0x10000 }
     requires few { first_index < 0x1000 }
@@ -50,6 +53,7 @@ pub(crate) fn words(row: RowId, first_index: u16, offset: u32) -> Option<Access>
 }
 
 /// The same at addresses that show bits 15:0 alone.
+#[inline(always)]
 pub(crate) fn low_words(row: RowId, first_index: u16, offset: u32) -> Option<Access>
     requires near { offset < 0x10000 }
     requires few { first_index < 0x1000 }
@@ -59,6 +63,7 @@ pub(crate) fn low_words(row: RowId, first_index: u16, offset: u32) -> Option<Acc
 }
 
 /// The access at an offset from the first of a row's addresses, which go by 8.
+#[inline(always)]
 pub(crate) fn pairs(row: RowId, first_index: u16, offset: u32) -> Option<Access>
     requires near { offset < 0x10000 }
     requires few { first_index < 0x1000 }
@@ -68,6 +73,7 @@ pub(crate) fn pairs(row: RowId, first_index: u16, offset: u32) -> Option<Access>
 }
 
 /// The access at an offset from the first of a row's addresses, which go by 64.
+#[inline(always)]
 pub(crate) fn queues(row: RowId, first_index: u16, offset: u32) -> Option<Access>
     requires near { offset < 0x10000 }
     requires few { first_index < 0x1000 }
@@ -76,6 +82,7 @@ pub(crate) fn queues(row: RowId, first_index: u16, offset: u32) -> Option<Access
     seen(row, first_index + (offset / 64) as u16, 0xFFFF_FFFF)
 }
 
+#[inline(always)]
 fn seen(row: RowId, index: u16, view: u32) -> Option<Access>
     ensures { result ≡ Some (access row index view) }
 {

@@ -19,6 +19,7 @@ pub(crate) struct Entry {
 }
 
 /// How many indices the row has: they are 0 to one less.
+#[inline(always)]
 pub fn count_of(row: RowId) -> u16
     ensures { result ≡ (row_of row).count }
 {
@@ -26,6 +27,7 @@ pub fn count_of(row: RowId) -> u16
 }
 
 /// What an access of the row does.
+#[inline(always)]
 pub fn kind_of(row: RowId) -> Kind
     ensures { result ≡ (row_of row).kind }
 {
@@ -33,6 +35,7 @@ pub fn kind_of(row: RowId) -> Kind
 }
 
 /// Which part of the device the row belongs to.
+#[inline(always)]
 pub fn bank_of(row: RowId) -> Bank
     ensures { result ≡ (row_of row).bank }
 {
@@ -40,6 +43,7 @@ pub fn bank_of(row: RowId) -> Bank
 }
 
 /// The bits that a write can change.
+#[inline(always)]
 pub fn mask_of(row: RowId) -> u32
     ensures { result ≡ (row_of row).mask }
 {

@@ -44,6 +44,7 @@ const EEPROM_PRESENT: u32 = 0x0000_0300;
 const EEPROM_SIZE: u32 = 0x0000_0800;
 
 /// Whether a write of a word to a place asks for a reset of the device, and so does nothing else.
+#[inline(always)]
 pub fn asks_reset(place: Place, word: u32) -> bool
     ensures { result ≡ asks_reset (row_of place.row).kind word }
 {
@@ -69,6 +70,7 @@ pub fn asks_reset(place: Place, word: u32) -> bool
 }
 
 /// Whether a write of a word to a place asks for a reset of the pool with the place's index, and so does nothing else.
+#[inline(always)]
 pub fn asks_pool_reset(place: Place, word: u32) -> bool
     ensures { result ≡ asks_pool_reset (row_of place.row).kind word }
 {
@@ -138,6 +140,7 @@ impl RegisterFile {
 
     /// Reads a place: the word before the address cuts it; `around` is what lies around the registers. A counter starts
     /// again from 0, a read of causes clears them, and nothing else changes. The index is below the row's count.
+    #[inline(always)]
     pub fn read(&mut self, around: Surroundings, place: Place) -> u32
         requires { place.index < (row_of place.row).count }
         ensures word { result ≡ read_word (row_of place.row).kind self.old around place }
@@ -179,6 +182,7 @@ impl RegisterFile {
 
     /// Writes a place through an address that shows the bits of `view`, where the write asks for no reset, of the
     /// device or a pool. The index is below the row's count.
+    #[inline(always)]
     pub fn write(&mut self, place: Place, view: u32, word: u32)
         requires { place.index < (row_of place.row).count }
         ensures { self.new ≡ written (row_of place.row).kind self.old place view word }
@@ -217,6 +221,7 @@ impl RegisterFile {
     }
 
     /// Writes a register of a ring, which a side that is on keeps as it is.
+    #[inline(always)]
     fn write_held(&mut self, place: Place, view: u32, word: u32)
         requires index { place.index < (row_of place.row).count }
         requires kind { (row_of place.row).kind ≡ Held }
@@ -260,6 +265,7 @@ impl RegisterFile {
     }
 
     /// Whether what an owner has is in use: a side's ring is while the side is on.
+    #[inline(always)]
     fn is_running(&self, owner: Owner) -> bool
         requires { IsThere owner }
         ensures { result ≡ is_running self.now owner }
@@ -304,6 +310,7 @@ impl RegisterFile {
     }
 
     /// Stores a word: of it, the bits of the row's mask that the address shows.
+    #[inline(always)]
     fn store(&mut self, place: Place, view: u32, word: u32)
         requires index { place.index < (row_of place.row).count }
         requires kind { IsTrue (is_stored (row_of place.row).kind) }

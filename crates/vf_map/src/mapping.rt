@@ -1,7 +1,6 @@
 ghost use Rattle.std.specs.Prelude.{◌≡◌, ◌<◌, ◌≤◌, Some, None, if◌then◌else◌};
 ghost use Rattle.vf_map.specs.Laws.{IsInRange};
 ghost use Rattle.vf_map.specs.Map.{located, mapped, entries, own_entries, message_entries, function_entries, vector_entries, receive_rows, transmit_rows};
-ghost use Rattle.vf_map.specs.Owner.{is_receive, is_transmit};
 ghost use Rattle.vf_map.specs.Pools.{most_queues};
 ghost use Rattle.vf_map.specs.Parts.{place_at, queues_entries, row_behind, of_queue};
 ghost use Rattle.reg_table.specs.declared.rows.RowId.TheVariants as row;
@@ -10,7 +9,7 @@ use crate::located::Located;
 use crate::mapped::Mapped;
 use crate::mode::Mode;
 use crate::pools::queues_of;
-use reg_table::{Bank, Place, RowId, addr_of, bank_of, resolve};
+use reg_table::{Place, RowId, addr_of};
 
 /// The offset of a function's first vector word.
 const VECTORS: u32 = 0x120;
@@ -178,49 +177,38 @@ fn queue_register(row: Option<RowId>, queue: u16) -> Option<Place>
 }
 
 /// The register of a queue's receive side that stands so many bytes behind its first.
+#[rattlefmt::skip]
+#[tactic(auto, unfolding(reg_table::specs::Rows::rows))]
 fn receive_row(bytes: u32) -> Option<RowId>
-    requires { bytes < 0x40 }
     ensures { result ≡ row_behind row.Rdbal receive_rows bytes }
 {
-    let first = addr_of(Place {
-        row: RowId::Rdbal,
-        index: 0,
-    });
-    match resolve(first + bytes) {
-        Some(access) => receive_only(access.place.row),
-        None => None,
-    }
-}
-
-fn receive_only(row: RowId) -> Option<RowId>
-    ensures { result ≡ (if is_receive row then Some row else None) }
-{
-    match bank_of(row) {
-        Bank::Receive => Some(row),
+    match bytes {
+        0x00 => Some(RowId::Rdbal),
+        0x04 => Some(RowId::Rdbah),
+        0x08 => Some(RowId::Rdlen),
+        0x10 => Some(RowId::Rdh),
+        0x14 => Some(RowId::Srrctl),
+        0x18 => Some(RowId::Rdt),
+        0x28 => Some(RowId::Rxdctl),
         _ => None,
     }
 }
 
 /// The register of a queue's transmit side that stands so many bytes behind its first.
+#[rattlefmt::skip]
+#[tactic(auto, unfolding(reg_table::specs::Rows::rows))]
 fn transmit_row(bytes: u32) -> Option<RowId>
-    requires { bytes < 0x40 }
     ensures { result ≡ row_behind row.Tdbal transmit_rows bytes }
 {
-    let first = addr_of(Place {
-        row: RowId::Tdbal,
-        index: 0,
-    });
-    match resolve(first + bytes) {
-        Some(access) => transmit_only(access.place.row),
-        None => None,
-    }
-}
-
-fn transmit_only(row: RowId) -> Option<RowId>
-    ensures { result ≡ (if is_transmit row then Some row else None) }
-{
-    match bank_of(row) {
-        Bank::Transmit => Some(row),
+    match bytes {
+        0x00 => Some(RowId::Tdbal),
+        0x04 => Some(RowId::Tdbah),
+        0x08 => Some(RowId::Tdlen),
+        0x10 => Some(RowId::Tdh),
+        0x18 => Some(RowId::Tdt),
+        0x28 => Some(RowId::Txdctl),
+        0x38 => Some(RowId::Tdwbal),
+        0x3C => Some(RowId::Tdwbah),
         _ => None,
     }
 }

@@ -1,3 +1,4 @@
+pub mod Beyond
 pub mod EthernetFrames
 pub mod Fields
 pub mod Filling

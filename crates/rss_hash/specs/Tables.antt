@@ -1,5 +1,5 @@
 -- Tables of what the half bytes of an input add to its hash.
-use Rattle.std.specs.Prelude.{ℕ, ◌+◌, ◌*◌, ◌/◌, ◌%◌, ◌==◌, List, [], map, slice_index, slice_index_or, bit_xor}
+use Rattle.std.specs.Prelude.{ℕ, ◌≡◌, ◌+◌, ◌*◌, ◌/◌, ◌%◌, ◌==◌, ◌<◌, ◌≤◌, ◌⊎◌, List, [], length, map, slice_index, slice_index_or, bit_xor}
 use Rattle.std.specs.Prelude.{if◌then◌else◌}
 use Rattle.std.specs.Int.{bit_at}
 use Rattle.std.specs.List.{range_with_len}
@@ -25,6 +25,15 @@ table_at key n =
 -- the tables of all half bytes of an input of 36 bytes, for the key in ten registers
 unfoldable pub tables_of : List ℕ → List (List ℕ)
 tables_of words = map (table_at (bytes_of_registers words)) (range_with_len 0 72)
+
+-- half byte n takes no bit of a word of the key: its windows, of the 35 bits from bit 4n on, end before or begin behind
+abbrev pub IsBeyond : (index n : ℕ) → Type 0
+IsBeyond index n = (n + 8 < 8 * index) ⊎ (8 * index + 8 ≤ n)
+
+-- there are tables of all half bytes, and those of the half bytes that take no bit of a word are the key's
+pub record FitBeyond (tables : List (List ℕ)) (words : List ℕ) (index : ℕ) : Type 0 where
+  pub whole : length tables ≡ 72
+  pub rows : (n : ℕ) → n < 72 → IsBeyond index n → slice_index_or tables n [] ≡ table_at (bytes_of_registers words) n
 
 -- what the high half of byte i adds by the tables, and what its low half adds
 abbrev pub high_share : (tables : List (List ℕ)) (i byte : ℕ) → ℕ

@@ -2,7 +2,7 @@ ghost use Rattle.std.specs.Prelude.{◌≡◌, ◌<◌, ◌≤◌, length, repli
 ghost use Rattle.rss_hash.specs.Registers.{bytes_of_registers};
 ghost use Rattle.rss_hash.specs.Toeplitz.{toeplitz_hash};
 
-use crate::tables::{fill_tables, shares};
+use crate::tables::{refill_tables, shares};
 use std::marker::Model;
 
 /// The hash key as the registers RSSRK hold it, kept with what each half byte of an input adds, so that
@@ -52,7 +52,7 @@ impl HashKey {
         ensures { self.new ≡ slice_set self.old index word }
     {
         self.words[index] = word;
-        fill_tables(&mut self.tables, &self.words);
+        refill_tables(&mut self.tables, &self.words, index);
     }
 
     /// The Toeplitz hash of an input of at most 36 bytes, with no branch on its bits. What high and what low

@@ -2,19 +2,23 @@
 
 ghost use Rattle.std.specs.Prelude.{◌≡◌, ◌<◌, map};
 ghost use Rattle.std.specs.List.{range_with_len};
-ghost use Rattle.rss_hash.specs.Tables.{joined, tables_of, high_share, low_share};
+ghost use Rattle.rss_hash.specs.Tables.{joined, tables_of, high_share, low_share, FitBeyond};
 
 use crate::key::Key;
 
-/// Fills in the tables for a key in ten registers: row n has what each value of half byte n adds. It stays a call, so
-/// that writes of other registers don't carry it.
+/// Fills in the tables anew where a word of the key was written: those of the half bytes that take one of its bits, row
+/// n being what each value of half byte n adds. It stays a call, so that writes of other registers don't carry it.
 #[inline(never)]
-pub(crate) fn fill_tables(tables: &mut [[u32; 16]; 72], words: &[u32; 10])
+pub(crate) fn refill_tables(tables: &mut [[u32; 16]; 72], words: &[u32; 10], index: usize)
+    requires index { index < 10 }
+    requires beyond { FitBeyond tables.old words.now index }
     ensures { tables.new ≡ tables_of words.now }
 {
     let key = Key::from_words(words);
-    let mut window = key.window(0);
-    for n in 0..72 {
+    let first_row = (8 * index).saturating_sub(8);
+    let end = (8 * index + 8).min(72);
+    let mut window = key.window(4 * first_row);
+    for n in first_row..end {
         let first = window;
         let second = key.next_window(4 * n, first);
         let third = key.next_window(4 * n + 1, second);

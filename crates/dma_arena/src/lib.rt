@@ -19,8 +19,10 @@ mod links;
 mod octets;
 mod ranges;
 mod raw;
+mod run;
 
 pub use arena::{Arena, ArenaFault, BLOCK_NUMBERS, SplitFault, SplitRefused};
 pub use buf::{BLOCK_BYTES, Buf};
 pub use lent::{LendRefused, LentMemory};
 pub use octets::Octets;
+pub use run::{RUN_BLOCKS, Run};

@@ -19,5 +19,6 @@ pub mod Owned
 pub mod Places
 mod Shown
 mod Ring
+pub mod Runs
 pub mod Single
 mod Unlinked

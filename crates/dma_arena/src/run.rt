@@ -1,6 +1,6 @@
 //! Runs: blocks whose numbers follow one another.
 
-ghost use Rattle.std.specs.Prelude.{◌≡◌, ◌↔◌, ◌+◌, ◌-◌, ◌<◌, ◌≤◌, None, option_map, IfErr, IfSome, IfNone, IsNone, IsOk, OnSome};
+ghost use Rattle.std.specs.Prelude.{ℕ, ◌≡◌, ◌↔◌, ◌+◌, ◌-◌, ◌<◌, ◌≤◌, None, option_map, slice_index_or, IfErr, IfSome, IfNone, IsNone, IsOk, OnSome};
 ghost use Rattle.dma_arena.specs.Block.{zero_block};
 ghost use Rattle.dma_arena.specs.Numbers.{count_of, is_free};
 ghost use Rattle.dma_arena.specs.Run.{run_in, are_free, without_run};
@@ -77,15 +77,7 @@ impl Run {
             count: _,
             slots,
         } = self;
-        let [a, b, c, d, e, f, g, h] = slots;
-        nothing(a);
-        nothing(b);
-        nothing(c);
-        nothing(d);
-        nothing(e);
-        nothing(f);
-        nothing(g);
-        nothing(h);
+        nothing_left(slots);
         Ok(())
     }
 
@@ -118,6 +110,7 @@ impl Arena {
     pub fn take_run(&mut self, count: u32) -> Option<Run>
         requires few { (1 ≤ count) × (count ≤ 8) }
         ensures run { result ≡ option_map (λ first. record { first = first; count = count }) (run_in self.old count) }
+        ensures small { IfSome result (λ r. r.first + count ≤ 65536) }
         ensures taken { IfSome result (λ r. self.new ≡ without_run self.old r.first count) }
         ensures kept { IfNone result (self.new ≡ self.old) }
     {
@@ -143,14 +136,30 @@ fn nothing(slot: Option<Buf>)
     }
 }
 
+/// Nothing is in any of the slots.
+fn nothing_left(slots: [Option<Buf>; RUN_BLOCKS])
+    requires { (k : ℕ) → slice_index_or slots k None ≡ None }
+{
+    let [a, b, c, d, e, f, g, h] = slots;
+    nothing(a);
+    nothing(b);
+    nothing(c);
+    nothing(d);
+    nothing(e);
+    nothing(f);
+    nothing(g);
+    nothing(h);
+}
+
 /// The lowest number from which so many blocks are free.
 fn lowest_run(arena: &Arena, count: u32) -> Option<u32>
-    ensures { result ≡ run_in arena.now count }
+    requires { count ≤ 8 }
+    ensures run { result ≡ run_in arena.now count }
+    ensures small { IfSome result (λ first. first + count ≤ 65536) }
 {
     let mut number = arena.first();
-    let end = number + arena.count();
-    while number < end {
-        if all_free(arena, number, count) {
+    while arena.owns(number) {
+        if are_free(arena, number, count) {
             return Some(number);
         }
         number += 1;
@@ -159,7 +168,7 @@ fn lowest_run(arena: &Arena, count: u32) -> Option<u32>
 }
 
 /// Whether each of the `count` blocks from `first` on is free.
-fn all_free(arena: &Arena, first: u32, count: u32) -> bool
+fn are_free(arena: &Arena, first: u32, count: u32) -> bool
     requires { (first < 65536) × (count ≤ 8) }
     ensures { result ≡ are_free arena.now first count }
 {

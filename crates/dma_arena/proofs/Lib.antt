@@ -15,6 +15,7 @@ mod Linked
 mod Nodes
 mod Numbers
 mod RawSteps
+pub mod RunLaws
 pub mod Owned
 pub mod Places
 mod Shown

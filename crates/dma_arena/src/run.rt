@@ -10,7 +10,7 @@ use crate::buf::Buf;
 use std::marker::Model;
 
 /// How many blocks a run has at most.
-pub const RUN_BLOCKS: usize = 8;
+const RUN_BLOCKS: usize = 8;
 
 /// Blocks in hand whose numbers follow one another, each byte of them 0.
 ///

@@ -74,9 +74,9 @@ fn a_run_is_taken_and_comes_back(rt: HostRuntime) {
         None => {}
     }
     done(&rt, run.finish());
-    for buf in [one, two, three] {
-        done(&rt, arena.give(buf));
-    }
+    done(&rt, arena.give(one));
+    done(&rt, arena.give(two));
+    done(&rt, arena.give(three));
     done(&rt, arena.close());
 }
 

@@ -15,9 +15,11 @@ mod Linked
 mod Nodes
 mod Numbers
 mod RawSteps
+pub mod RunLaws
 pub mod Owned
 pub mod Places
 mod Shown
 mod Ring
+pub mod Runs
 pub mod Single
 mod Unlinked

@@ -2,7 +2,8 @@ use Rattle.std.specs.Prelude.{◌≡◌, ◌≢◌, ◌↔◌, ℕ, ◌+◌, ◌
 use Rattle.std.specs.FinMap as map
 use Rattle.dma_arena.specs.Memory.{Memory, has_block, byte_at, is_lent, read_at, write_at, put_bytes, part, IsWhole, SameLent, IsOutside, AreApart, LiesIn, Avoids}
 use Rattle.dma_arena.specs.Numbers.{Numbers, free_count, is_own, is_free, are_all_free, all_free, with_free, numbers_below, numbers_from, IsInside, NoneFree}
-use Rattle.std.specs.Prelude.{Some, Bool, ◌||◌, ◌&&◌}
+use Rattle.dma_arena.specs.Run.{run_in, without_run, IsFreeRun, IsNoRun, IsLowestRun}
+use Rattle.std.specs.Prelude.{Some, None, Bool, ◌||◌, ◌&&◌}
 
 -- ranges of bus addresses
 
@@ -126,3 +127,24 @@ pub record CountsFree (a : Numbers) : Type 0 where
 
 abbrev pub CountLaw : Type 0
 CountLaw = (a : Numbers) → CountsFree a
+
+-- runs
+
+-- the run that is found is the lowest of all, and none is found exactly where there is none
+pub record FindsLowest (a : Numbers) (count : ℕ) : Type 0 where
+  pub found : (first : ℕ) → (run_in a count ≡ Some first) ↔ IsLowestRun a count first
+  pub none : (run_in a count ≡ None) ↔ ((first : ℕ) → IsNoRun a first count)
+
+abbrev pub LowestLaw : Type 0
+LowestLaw = (a : Numbers) (count : ℕ) → 0 < count → FindsLowest a count
+
+-- of an arena whose run is taken these numbers alone are free no longer, and it owns no other numbers
+pub record TakesRun (a : Numbers) (first count : ℕ) : Type 0 where
+  pub taken : (k : ℕ) → k < count → is_free (without_run a first count) (first + k) ≡ false
+  pub others : (number : ℕ) → ((k : ℕ) → k < count → number ≢ first + k)
+      → is_free (without_run a first count) number ≡ is_free a number
+  pub owned : (number : ℕ) → is_own (without_run a first count) number ≡ is_own a number
+  pub counted : free_count (without_run a first count) + count ≡ free_count a
+
+abbrev pub RunLaw : Type 0
+RunLaw = (a : Numbers) (first count : ℕ) → IsFreeRun a first count → TakesRun a first count

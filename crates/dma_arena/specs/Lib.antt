@@ -6,5 +6,6 @@ pub mod Loan
 pub mod Memory
 pub mod Numbers
 pub mod Raw
+pub mod Run
 pub mod Shown
 pub mod Whereabouts

@@ -1,7 +1,8 @@
-use Rattle.std.specs.Prelude.{◌≡◌, ℕ, ◌+◌, ◌==◌, true, false, List, [], ◌∷◌, count_by, if◌then◌else◌}
+use Rattle.std.specs.Prelude.{◌≡◌, ℕ, ◌+◌, ◌<◌, ◌≤◌, ◌==◌, ◌⊎◌, true, false, List, [], ◌∷◌, ◌++◌, count_by, if◌then◌else◌}
 use Rattle.std.specs.FinMap as map
 use Rattle.dma_arena.specs.Memory.{Memory, has_block}
 use Rattle.dma_arena.specs.Numbers.{Numbers, is_own, is_free, are_all_free, all_free, with_free, numbers_below, numbers_from, IsInside}
+use Rattle.dma_arena.specs.Run.{run_numbers, without_run, IsFreeRun}
 
 -- how many blocks in hand have this number
 abbrev pub times_in_hand : List ℕ → ℕ → ℕ
@@ -43,3 +44,20 @@ pub record MovesKeepEachOnce : Type 0 where
   -- a block in hand is neither free nor lent, so that it can be given back and lent
   pub welcome : (a : Numbers) (hand : List ℕ) (m : Memory) (number : ℕ) → is_own a number ≡ true
       → EachOnce a (number ∷ hand) m → (is_free a number ≡ false) × (has_block m number ≡ false)
+
+-- the numbers of a run stand in it once each, and no other number does
+pub record IsEachNumber (first count : ℕ) : Type 0 where
+  pub inside : (number : ℕ) → first ≤ number → number < first + count
+      → times_in_hand (run_numbers first count) number ≡ 1
+  pub outside : (number : ℕ) → (number < first) ⊎ (first + count ≤ number)
+      → times_in_hand (run_numbers first count) number ≡ 0
+
+-- the moves of a run, each of which keeps each block of the arena in exactly one place
+pub record RunsKeepEachOnce : Type 0 where
+  pub numbers : (first count : ℕ) → IsEachNumber first count
+  pub taken : (a : Numbers) (hand : List ℕ) (m : Memory) (first count : ℕ) → IsFreeRun a first count
+      → EachOnce a hand m → EachOnce (without_run a first count) (run_numbers first count ++ hand) m
+  -- the highest block leaves the run, and is in hand by itself
+  pub popped : (a : Numbers) (hand : List ℕ) (m : Memory) (first count : ℕ)
+      → EachOnce a (run_numbers first (count + 1) ++ hand) m
+      → EachOnce a (run_numbers first count ++ (first + count) ∷ hand) m

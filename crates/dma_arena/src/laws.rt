@@ -2,8 +2,8 @@
 //! theorem: it does nothing when it runs, and what it ensures holds of the definitions that the
 //! contracts of this crate cite.
 
-ghost use Rattle.dma_arena.specs.Laws.{LentByBlocks, LentEnds, ReadsBytes, ReadsBack, ReadsApart, WritesInside, WriteKeepsBlocks, MovesApart, WriteAvoids, BlockLaw, PutLaw, OwnsItsNumbers, ChangeLaw, CountLaw, GivenBack, CutLaw, InsideAvoids, ReadsItsBlock};
-ghost use Rattle.dma_arena.specs.Whereabouts.{MovesKeepEachOnce};
+ghost use Rattle.dma_arena.specs.Laws.{LentByBlocks, LentEnds, ReadsBytes, ReadsBack, ReadsApart, WritesInside, WriteKeepsBlocks, MovesApart, WriteAvoids, BlockLaw, PutLaw, OwnsItsNumbers, ChangeLaw, CountLaw, GivenBack, CutLaw, LowestLaw, RunLaw, InsideAvoids, ReadsItsBlock};
+ghost use Rattle.dma_arena.specs.Whereabouts.{MovesKeepEachOnce, RunsKeepEachOnce};
 
 /// A range of bus addresses is lent exactly where each block that it touches is, and it then
 /// ends with block 65,535 at most.
@@ -74,4 +74,12 @@ pub fn numbers_stay()
 /// or lent: it is so at first, and each move of a block keeps it so.
 pub fn each_block_once()
     ensures { MovesKeepEachOnce }
+{}
+
+/// The run that an arena has is the lowest of its free ones. Taking it changes its numbers alone, and each block of the
+/// arena stays in exactly one place when a run is taken, and when a block leaves it.
+pub fn runs()
+    ensures lowest { LowestLaw }
+    ensures taken { RunLaw }
+    ensures each_once { RunsKeepEachOnce }
 {}

@@ -1,7 +1,7 @@
 //! Packet memory: blocks of 2,048 bytes, and the bus that the device reads and writes them by.
 //!
-//! A block is in one place at a time: free in an [`Arena`], in hand as a [`Buf`], or lent to the
-//! device in a [`LentMemory`], where bus address `a` is byte `a % 2048` of block `a / 2048`.
+//! A block is in one place at a time: free in an [`Arena`], in hand as a [`Buf`] or in a [`Run`], or lent
+//! to the device in a [`LentMemory`], where bus address `a` is byte `a % 2048` of block `a / 2048`.
 //! [`Octets`] are bytes that are kept, as those of a frame.
 //!
 //! Contracts see an arena as its numbers, each free or not (`specs/Numbers.antt`), and lent memory
@@ -19,8 +19,10 @@ mod links;
 mod octets;
 mod ranges;
 mod raw;
+mod run;
 
 pub use arena::{Arena, ArenaFault, BLOCK_NUMBERS, SplitFault, SplitRefused};
 pub use buf::{BLOCK_BYTES, Buf};
 pub use lent::{LendRefused, LentMemory};
 pub use octets::Octets;
+pub use run::Run;

@@ -1,6 +1,6 @@
 use crate::outcome::{done, refused, some};
 use dma_arena::{
-    Arena, ArenaFault, Buf, LendRefused, LentMemory, Octets, SplitFault, SplitRefused,
+    Arena, ArenaFault, Buf, LendRefused, LentMemory, Octets, Run, SplitFault, SplitRefused,
 };
 
 /// What is asked of a value that goes to another thread.
@@ -28,6 +28,7 @@ fn blocks_are_lent_and_come_back(rt: HostRuntime) {
 fn packet_memory_goes_to_other_threads(_rt: HostRuntime) {
     can_be_sent::<Arena>();
     can_be_sent::<Buf>();
+    can_be_sent::<Run>();
     can_be_sent::<LentMemory>();
     can_be_sent::<Octets>();
 }
@@ -48,6 +49,34 @@ fn an_arena_closes_once_all_blocks_are_given(rt: HostRuntime) {
     let mut arena = refused(&rt, arena.close());
     done(&rt, arena.give(four));
     assert_eq!(rt; arena.free_blocks(), 2);
+    done(&rt, arena.close());
+}
+
+/// With block 1 in hand, the lowest run of two is of blocks 2 and 3. It gives the highest first, and is finished once both
+/// are out.
+#[test]
+fn a_run_is_taken_and_comes_back(rt: HostRuntime) {
+    let mut arena = done(&rt, Arena::new(rt.alloc(), 0, 4));
+    let one = some(&rt, arena.take_at(1));
+    let mut run = some(&rt, arena.take_run(2));
+    assert_eq!(rt; (run.first(), run.count()), (2, 2));
+    match arena.take_run(2) {
+        Some(_run) => panic!(rt; "a second run"),
+        None => {}
+    }
+    assert_eq!(rt; arena.free_blocks(), 1);
+    let three = some(&rt, run.pop());
+    let mut run = refused(&rt, run.finish());
+    let two = some(&rt, run.pop());
+    assert_eq!(rt; (two.block(), three.block()), (2, 3));
+    match run.pop() {
+        Some(_buf) => panic!(rt; "a third block"),
+        None => {}
+    }
+    done(&rt, run.finish());
+    done(&rt, arena.give(one));
+    done(&rt, arena.give(two));
+    done(&rt, arena.give(three));
     done(&rt, arena.close());
 }
 

@@ -46,7 +46,7 @@ pub use register_file::{
 };
 pub use runs::RunStop;
 pub use rx_ring::{
-    Arena, BLOCK_BYTES, BLOCK_NUMBERS, Buf, Dir, LentMemory, Octets, data_descriptor_word,
+    Arena, BLOCK_BYTES, BLOCK_NUMBERS, Buf, Dir, LentMemory, Octets, Run, data_descriptor_word,
     first_half, hash_told, is_last, is_sent, is_written_back, length_told, of_halves, posted_word,
     rss_told, second_half,
 };

@@ -14,7 +14,7 @@ mod item;
 pub mod laws;
 mod slot;
 
-pub use dma_arena::{Arena, BLOCK_BYTES, BLOCK_NUMBERS, Buf, LendRefused, LentMemory, Octets};
+pub use dma_arena::{Arena, BLOCK_BYTES, BLOCK_NUMBERS, Buf, LendRefused, LentMemory, Octets, Run};
 pub use dma_ring::{
     Dir, Packet, Ring, RingFault, data_descriptor_word, first_half, hash_told, is_last, is_sent,
     is_written_back, length_told, of_halves, packet_word, posted_word, rss_told, second_half,

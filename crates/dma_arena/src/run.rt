@@ -1,0 +1,181 @@
+//! Runs: blocks whose numbers follow one another.
+
+ghost use Rattle.std.specs.Prelude.{ℕ, ◌≡◌, ◌↔◌, ◌+◌, ◌-◌, ◌<◌, ◌≤◌, None, option_map, slice_index_or, IfErr, IfSome, IfNone, IsNone, IsOk, OnSome};
+ghost use Rattle.dma_arena.specs.Block.{zero_block};
+ghost use Rattle.dma_arena.specs.Numbers.{count_of, is_free};
+ghost use Rattle.dma_arena.specs.Run.{run_in, are_free, without_run};
+
+use crate::arena::Arena;
+use crate::buf::Buf;
+use std::marker::Model;
+
+/// How many blocks a run has at most.
+const RUN_BLOCKS: usize = 8;
+
+/// Blocks in hand whose numbers follow one another, each byte of them 0.
+///
+/// Contracts see it as its first number and how many blocks it has. It cannot be dropped: it is finished in the
+/// end, once all of its blocks are popped.
+pub struct Run {
+    first: u32,
+    count: u32,
+    slots: [Option<Buf>; RUN_BLOCKS],
+}
+
+impl Model for Run {
+    ghost use Rattle.dma_arena.specs.Run.{BlockRun, IsRunOf};
+
+    ghost Value = { BlockRun };
+
+    ghost view = { λ r. record { first = r.first; count = r.count } };
+
+    ghost invariant = { λ r. IsRunOf r.first r.count r.slots };
+}
+
+impl Run {
+    /// The number of its lowest block.
+    pub fn first(&self) -> u32
+        ensures { result ≡ self.now.first }
+    {
+        self.first
+    }
+
+    /// How many blocks it has.
+    pub fn count(&self) -> u32
+        ensures count { result ≡ self.now.count }
+        ensures few { result ≤ 8 }
+    {
+        let _slots = &self.slots;
+        self.count
+    }
+
+    /// Takes its highest block out, of whose bytes each is 0. None exactly when it has none.
+    pub fn pop(&mut self) -> Option<Buf>
+        ensures none { IsNone result ↔ (self.old.count ≡ 0) }
+        ensures highest { IfSome result (λ b. b ≡ zero_block (self.old.first + self.old.count - 1)) }
+        ensures left { OnSome result (self.new ≡ record self.old { count = self.old.count - 1 }) }
+        ensures kept { IfNone result (self.new ≡ self.old) }
+    {
+        if self.count == 0 {
+            return None;
+        }
+        self.count -= 1;
+        self.slots[self.count as usize].take()
+    }
+
+    /// Ends the run. It is handed back unchanged exactly when it has a block.
+    pub fn finish(self) -> Result<(), Run>
+        ensures ok { IsOk result ↔ (self.count ≡ 0) }
+        ensures back { IfErr result (λ r. r ≡ self) }
+    {
+        let count = self.count;
+        if count > 0 {
+            return Err(self);
+        }
+        let Run {
+            first: _,
+            count: _,
+            slots,
+        } = self;
+        nothing_left(slots);
+        Ok(())
+    }
+
+    /// A run without a block.
+    fn empty(first: u32) -> Run
+        ensures { result ≡ record { first = first; count = 0 } }
+    {
+        Run {
+            first,
+            count: 0,
+            slots: [None, None, None, None, None, None, None, None],
+        }
+    }
+
+    /// Puts the block behind it.
+    fn push(&mut self, buf: Buf)
+        requires few { self.old.count < 8 }
+        requires next { buf ≡ zero_block (self.old.first + self.old.count) }
+        ensures { self.new ≡ record self.old { count = self.old.count + 1 } }
+    {
+        let former = self.slots[self.count as usize].replace(buf);
+        nothing(former);
+        self.count += 1;
+    }
+}
+
+impl Arena {
+    /// Takes the lowest run of `count` free blocks, of whose bytes each is 0: blocks whose numbers follow one another.
+    /// None exactly where no such blocks are free. It takes no memory.
+    pub fn take_run(&mut self, count: u32) -> Option<Run>
+        requires few { (1 ≤ count) × (count ≤ 8) }
+        ensures run { result ≡ option_map (λ first. record { first = first; count = count }) (run_in self.old count) }
+        ensures small { IfSome result (λ r. r.first + count ≤ 65536) }
+        ensures taken { IfSome result (λ r. self.new ≡ without_run self.old r.first count) }
+        ensures kept { IfNone result (self.new ≡ self.old) }
+    {
+        let first = lowest_run(self, count)?;
+        let mut run = Run::empty(first);
+        for k in 0..count {
+            match self.take_at(first + k) {
+                Some(buf) => run.push(buf),
+                None => unreachable!(),
+            }
+        }
+        Some(run)
+    }
+}
+
+/// Nothing is in the slot.
+fn nothing(slot: Option<Buf>)
+    requires { slot ≡ None }
+{
+    match slot {
+        None => {}
+        Some(_) => unreachable!(),
+    }
+}
+
+/// Nothing is in any of the slots.
+fn nothing_left(slots: [Option<Buf>; RUN_BLOCKS])
+    requires { (k : ℕ) → slice_index_or slots k None ≡ None }
+{
+    let [a, b, c, d, e, f, g, h] = slots;
+    nothing(a);
+    nothing(b);
+    nothing(c);
+    nothing(d);
+    nothing(e);
+    nothing(f);
+    nothing(g);
+    nothing(h);
+}
+
+/// The lowest number from which so many blocks are free.
+fn lowest_run(arena: &Arena, count: u32) -> Option<u32>
+    requires { count ≤ 8 }
+    ensures run { result ≡ run_in arena.now count }
+    ensures small { IfSome result (λ first. first + count ≤ 65536) }
+{
+    let mut number = arena.first();
+    while arena.owns(number) {
+        if are_free(arena, number, count) {
+            return Some(number);
+        }
+        number += 1;
+    }
+    None
+}
+
+/// Whether each of the `count` blocks from `first` on is free.
+fn are_free(arena: &Arena, first: u32, count: u32) -> bool
+    requires { (first < 65536) × (count ≤ 8) }
+    ensures { result ≡ are_free arena.now first count }
+{
+    for k in 0..count {
+        if !arena.is_free(first + k) {
+            return false;
+        }
+    }
+    true
+}

@@ -113,7 +113,8 @@ own_within-all_free first count number own = let within =
     own_within (all_free first count) number own in (within.0, rw (length-replicate count true) at within.1)
 
 -- a number that the arena does not own is not free
-pub not_free : (a : Numbers) (number : ℕ) (free : Bool) → is_free a number ≡ free → is_own a number ≡ false → free ≡ false
+pub not_free : (a : Numbers) (number : ℕ) (free : Bool) → is_free a number ≡ free → is_own a number ≡ false
+    → free ≡ false
 not_free a number true free own = sym (is_own-of_free a number free) ∙ own
 not_free a number false free own = refl
 

@@ -46,7 +46,9 @@ passed a count number (suc left) first q false is found low high =
     let rest : run_from a count (number + 1) left ≡ Some first = rw is at found in
     elim (cases_eq q number) [
       | inl e ↦ rw e is
-      | inr ne ↦ passed a count (number + 1) left first q (are_free a (number + 1) count) refl rest (omega (arith, low, ne)) high
+      | inr ne ↦
+          passed a count (number + 1) left first q (are_free a (number + 1) count) refl rest
+          (omega (arith, low, ne)) high
     ]
 
 nowhere : (a : Numbers) (count number left q : ℕ) (free : Bool) → are_free a number count ≡ free
@@ -60,7 +62,9 @@ nowhere a count number (suc left) q false is none low high =
     let rest : run_from a count (number + 1) left ≡ None = rw is at none in
     elim (cases_eq q number) [
       | inl e ↦ rw e is
-      | inr ne ↦ nowhere a count (number + 1) left q (are_free a (number + 1) count) refl rest (omega (arith, low, ne)) (omega (arith, high))
+      | inr ne ↦
+          nowhere a count (number + 1) left q (are_free a (number + 1) count) refl rest
+          (omega (arith, low, ne)) (omega (arith, high))
     ]
 
 by_own : (a : Numbers) (number count : ℕ) (own : Bool) → 0 < count → is_own a number ≡ own
@@ -88,8 +92,8 @@ none_found a count number some none =
 torn : (a : Numbers) (first count : ℕ) → IsFreeRun a first count → IsNoRun a first count → ⊥
 torn a first count free none = let h : true ≡ false = sym (free none.0 none.1) ∙ none.2 in cc
 
-found_lowest : (a : Numbers) (count first : ℕ) (o : Option ℕ) → 0 < count → run_in a count ≡ o → IsLowestRun a count first
-    → o ≡ Some first
+found_lowest : (a : Numbers) (count first : ℕ) (o : Option ℕ) → 0 < count → run_in a count ≡ o
+    → IsLowestRun a count first → o ≡ Some first
 found_lowest a count first None some is lowest =
     absurd (torn a first count lowest.free (none_found a count first some is))
 found_lowest a count first (Some q) some is lowest =
@@ -145,7 +149,8 @@ pub times_outside : (first count number : ℕ) → (number < first) ⊎ (first +
 unfolding run_numbers
 times_outside first zero number out = refl
 times_outside first (suc n) number (inl below) =
-    times_rest (run_numbers first n) (first + n) number (omega (arith, below)) ∙ times_outside first n number (inl below)
+    times_rest (run_numbers first n) (first + n) number (omega (arith, below))
+    ∙ times_outside first n number (inl below)
 times_outside first (suc n) number (inr above) =
     times_rest (run_numbers first n) (first + n) number (omega (arith, above))
     ∙ times_outside first n number (inr (omega (arith, above)))
@@ -157,7 +162,8 @@ times_inside first zero number low high = absurd (omega (arith, low, high))
 times_inside first (suc n) number low high = elim (cases_eq number (first + n)) [
   | inl e ↦
       rw e
-      (times_first (run_numbers first n) (first + n) ∙ ap (λ t. 1 + t) (times_outside first n (first + n) (inr (omega arith))))
+      (times_first (run_numbers first n) (first + n)
+      ∙ ap (λ t. 1 + t) (times_outside first n (first + n) (inr (omega arith))))
   | inr ne ↦
       times_rest (run_numbers first n) (first + n) number ne ∙ times_inside first n number low (omega (arith, high, ne))
 ]

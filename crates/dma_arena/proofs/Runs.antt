@@ -40,7 +40,10 @@ run_from-next a count number (suc left) rest next taken = let e : left ≡ rest 
 pub past_end : (a : Numbers) (number : ℕ) → a.first ≤ number → is_own a number ≡ false
     → a.first + count_of a - number ≡ 0
 past_end a number low foreign = elim (cases_lt number (a.first + count_of a)) [
-  | inl below ↦ let own : is_own a number ≡ true = own_of_within a number low below in let h : true ≡ false = sym own ∙ foreign in cc
+  | inl below ↦
+      let own : is_own a number ≡ true = own_of_within a number low below in
+      let h : true ≡ false = sym own ∙ foreign in
+      cc
   | inr above ↦ omega (arith, above)
 ]
 
@@ -53,14 +56,16 @@ each_free a first (suc n) free zero lt = let e : first + 0 ≡ first = omega ari
     rw e (and_parts (is_free a first) (are_free a (first + 1) n) free).0
 each_free a first (suc n) free (suc k) lt =
     let e : first + suc k ≡ first + 1 + k = omega arith in
-    rw e (each_free a (first + 1) n (and_parts (is_free a first) (are_free a (first + 1) n) free).1 k (omega (arith, lt)))
+    let rest = (and_parts (is_free a first) (are_free a (first + 1) n) free).1 in
+    rw e (each_free a (first + 1) n rest k (omega (arith, lt)))
 
 -- a run of free numbers is within the arena
 pub run_within : (a : Numbers) (count first : ℕ) → IsArena a → is_own a first ≡ true → are_free a first count ≡ true
     → first + count ≤ 65536
 run_within a zero first arena own free = let within = own_within a first own in omega (arith, within.1, arena.small)
 run_within a (suc n) first arena own free =
-    let within = own_within a (first + n) (is_own-of_free a (first + n) (each_free a first (suc n) free n (omega arith))) in
+    let last = is_own-of_free a (first + n) (each_free a first (suc n) free n (omega arith)) in
+    let within = own_within a (first + n) last in
     omega (arith, within.1, arena.small)
 
 found_from : (a : Numbers) (count number left first : ℕ) (free : Bool) → are_free a number count ≡ free
@@ -111,7 +116,9 @@ pub is_free-without_run : (a : Numbers) (first count k : ℕ) → IsFreeRun a fi
 unfolding without_run
 is_free-without_run a first zero k free lt = absurd (omega arith)
 is_free-without_run a first (suc n) k free lt = elim (cases_eq k n) [
-  | inl e ↦ rw e (is_free-with_free_same (without_run a first n) (first + n) false (own_run a first (suc n) n free (omega arith)))
+  | inl e ↦
+      let own = own_run a first (suc n) n free (omega arith) in
+      rw e (is_free-with_free_same (without_run a first n) (first + n) false own)
   | inr ne ↦
       let other : first + k ≢ first + n = λ e. ne (omega (arith, e)) in
       is_free-with_free_other (without_run a first n) (first + n) false (first + k)

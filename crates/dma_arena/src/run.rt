@@ -45,7 +45,6 @@ impl Run {
         ensures count { result ≡ self.now.count }
         ensures few { result ≤ 8 }
     {
-        let _slots = &self.slots;
         self.count
     }
 

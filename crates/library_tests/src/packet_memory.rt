@@ -52,8 +52,8 @@ fn an_arena_closes_once_all_blocks_are_given(rt: HostRuntime) {
     done(&rt, arena.close());
 }
 
-/// With block 1 in hand, the lowest run of two is of blocks 2 and 3. It gives the highest first, and is finished once both
-/// are out.
+/// With block 1 in hand, the lowest run of two is of blocks 2 and 3. It gives the highest first, and is finished once
+/// both are out.
 #[test]
 fn a_run_is_taken_and_comes_back(rt: HostRuntime) {
     let mut arena = done(&rt, Arena::new(rt.alloc(), 0, 4));

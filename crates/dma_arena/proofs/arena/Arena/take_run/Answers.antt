@@ -27,7 +27,10 @@ unreachable-requires c =
 
 pub loop-k-preserved : goal.loop-k-preserved
 loop-k-preserved c = record {
-  run = c.push.ensures ∙ ap (λ (r : BlockRun). let s : BlockRun = record { first = r.first; count = r.count + 1 } in s) c.loop-k.invariant.run;
+  run =
+      c.push.ensures
+      ∙ ap (λ (r : BlockRun). let s : BlockRun = record { first = r.first; count = r.count + 1 } in s)
+      c.loop-k.invariant.run;
   taken =
       c.in-Some.ensures.taken
       ∙ ap (λ (a : Numbers). with_free a (c.in_ok-first.first + c.loop-k.k) false) c.loop-k.invariant.taken

@@ -1,8 +1,8 @@
 -- The blocks of a driver's ring.
-use Rattle.std.proofs.Common.{◌≡◌, ◌≢◌, ℕ, zero, suc, ◌+◌, ◌-◌, ◌/◌, ◌<◌, ◌≤◌, inl, inr, Bool, true, false, ◌&&◌, cond, List, [], ◌∷◌, ◌++◌, length, refl, sym, ap, subst, ◌∙◌, append_assoc, arith}
+use Rattle.std.proofs.Common.{◌≡◌, ◌≢◌, ℕ, zero, suc, ◌+◌, ◌-◌, ◌/◌, ◌↔◌, ◌<◌, ◌≤◌, ◌⊎◌, inl, inr, Bool, true, false, ◌&&◌, cond, List, [], ◌∷◌, ◌++◌, length, refl, sym, ap, subst, ◌∙◌, append_assoc, arith}
 use Rattle.std.specs.Prelude.{◌==◌, nat_le, nat_lt}
 use Rattle.std.specs.List.{list_any, range_with_len}
-use Rattle.std.proofs.lemmas.Bool.{cases_eq, cases_Bool, or_from, or_left, or_right, ne_eqb}
+use Rattle.std.proofs.lemmas.Bool.{cases_eq, cases_Bool, cases_lt, both_ways, or_from, or_left, or_right, ne_eqb}
 use Rattle.std.proofs.lemmas.Bool.Decides.{nat_tests}
 use Rattle.std.proofs.lemmas.List.FromFn.{length-range_with_len}
 use Rattle.nic_device.specs.DmaArena.Memory.{LiesIn}
@@ -83,6 +83,18 @@ ring_block_none ring size n apart = elim (cases_Bool (is_ring_block ring size n)
   | inr other ↦ other
 ]
 
+-- one that isn't the ring's is before or behind them
+pub ring_block_sides : (ring size n : ℕ) → is_ring_block ring size n ≡ false → (n < ring) ⊎ (ring + blocks_for size ≤ n)
+ring_block_sides ring size n other = elim (cases_lt n ring) [
+  | inl low ↦ inl low
+  | inr from ↦ elim (cases_lt n (ring + blocks_for size)) [
+    | inl below ↦
+        let is : is_ring_block ring size n ≡ true = grind (arith, nat_tests) in
+        absurd (both_ways _ other is)
+    | inr high ↦ inr high
+  ]
+]
+
 -- how often a number is among them
 
 abbrev within : ℕ → ℕ → ℕ → Bool
@@ -120,6 +132,20 @@ times_within (suc many) ring n = elim (cases_eq n ring) [
 pub ring_block_times : (ring size n : ℕ)
     → times_in_hand (ring_blocks ring size) n ≡ cond (is_ring_block ring size n) 1 0
 ring_block_times ring size n = times_within (blocks_for size) ring n
+
+pub ring_block_out : (ring size n : ℕ)
+    → (is_ring_block ring size n ≡ true) ↔ (0 < times_in_hand (ring_blocks ring size) n)
+ring_block_out ring size n = (
+  λ is.
+      let one : times_in_hand (ring_blocks ring size) n ≡ 1 = rw is at (ring_block_times ring size n) in
+      omega (arith, one),
+  λ some. elim (cases_Bool (is_ring_block ring size n)) [
+    | inl is ↦ is
+    | inr other ↦
+        let none : times_in_hand (ring_blocks ring size) n ≡ 0 = rw other at (ring_block_times ring size n) in
+        absurd (omega (arith, none, some))
+  ],
+)
 
 -- a list has a number where one of its places does
 pub among_times : (xs : List ℕ) (n : ℕ) → 0 < times_in_hand xs n → list_any (λ b. n == b) xs ≡ true

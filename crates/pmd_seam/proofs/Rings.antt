@@ -1,5 +1,5 @@
 -- The blocks of a driver's ring.
-use Rattle.std.proofs.Common.{◌≡◌, ◌≢◌, ℕ, zero, suc, ◌+◌, ◌-◌, ◌/◌, ◌↔◌, ◌<◌, ◌≤◌, ◌⊎◌, inl, inr, Bool, true, false, ◌&&◌, cond, List, [], ◌∷◌, ◌++◌, length, refl, sym, ap, subst, ◌∙◌, append_assoc, arith}
+use Rattle.std.proofs.Common.{◌≡◌, ◌≢◌, ℕ, zero, suc, ◌+◌, ◌-◌, ◌*◌, ◌/◌, ◌%◌, ◌↔◌, ◌<◌, ◌≤◌, ◌⊎◌, inl, inr, Bool, true, false, ◌&&◌, cond, List, [], ◌∷◌, ◌++◌, length, refl, sym, ap, subst, ◌∙◌, append_assoc, arith}
 use Rattle.std.specs.Prelude.{◌==◌, nat_le, nat_lt}
 use Rattle.std.specs.List.{list_any, range_with_len}
 use Rattle.std.proofs.lemmas.Bool.{cases_eq, cases_Bool, cases_lt, both_ways, or_from, or_left, or_right, ne_eqb}
@@ -48,6 +48,13 @@ slot_block size slot below = omega (arith, below)
 
 pub slot_lies : (ring slot : ℕ) → LiesIn (ring + slot / 128) (descriptor_in ring slot) 16
 slot_lies ring slot = (omega arith, omega arith)
+
+-- so many bytes from the block's first on
+pub slot_place : (ring slot : ℕ) → descriptor_in ring slot ≡ 2048 * (ring + slot / 128) + 16 * (slot % 128)
+slot_place ring slot = omega arith
+
+pub slot_fits : (slot : ℕ) → 16 * (slot % 128) + 16 ≤ 2048
+slot_fits slot = omega arith
 
 -- which blocks are the ring's
 

@@ -1,8 +1,8 @@
 -- The blocks of a driver's ring.
-use Rattle.std.proofs.Common.{◌≡◌, ◌≢◌, ℕ, zero, suc, ◌+◌, ◌-◌, ◌/◌, ◌<◌, ◌≤◌, inl, inr, Bool, true, false, ◌&&◌, cond, List, [], ◌∷◌, length, refl, sym, ap, subst, ◌∙◌, arith}
+use Rattle.std.proofs.Common.{◌≡◌, ◌≢◌, ℕ, zero, suc, ◌+◌, ◌-◌, ◌*◌, ◌/◌, ◌%◌, ◌↔◌, ◌<◌, ◌≤◌, ◌⊎◌, inl, inr, Bool, true, false, ◌&&◌, cond, List, [], ◌∷◌, ◌++◌, length, refl, sym, ap, subst, ◌∙◌, append_assoc, arith}
 use Rattle.std.specs.Prelude.{◌==◌, nat_le, nat_lt}
 use Rattle.std.specs.List.{list_any, range_with_len}
-use Rattle.std.proofs.lemmas.Bool.{cases_eq, cases_Bool, or_from, or_left, or_right, ne_eqb}
+use Rattle.std.proofs.lemmas.Bool.{cases_eq, cases_Bool, cases_lt, both_ways, or_from, or_left, or_right, ne_eqb}
 use Rattle.std.proofs.lemmas.Bool.Decides.{nat_tests}
 use Rattle.std.proofs.lemmas.List.FromFn.{length-range_with_len}
 use Rattle.nic_device.specs.DmaArena.Memory.{LiesIn}
@@ -21,6 +21,23 @@ few_blocks size few = omega (arith, few)
 pub one_block : (size : ℕ) → 0 < size → size ≤ 128 → blocks_for size ≡ 1
 one_block size some few = omega (arith, some, few)
 
+-- numbers that follow one another, and one more
+
+range_last : (n a j : ℕ) → a + n ≡ j → range_with_len a (suc n) ≡ range_with_len a n ++ j ∷ []
+range_last zero a j e = ap (λ (i : ℕ). i ∷ []) (omega (arith, e))
+range_last (suc n) a j e = ap (λ (xs : List ℕ). a ∷ xs) (range_last n (a + 1) j (omega (arith, e)))
+
+pub range_more : (a n : ℕ) → range_with_len a (n + 1) ≡ range_with_len a n ++ (a + n) ∷ []
+range_more a n =
+    let on : n + 1 ≡ suc n = omega arith in
+    ap (λ (k : ℕ). range_with_len a k) on ∙ range_last n a (a + n) refl
+
+pub run_more : (front lent new : List ℕ) (a n : ℕ) → lent ≡ front ++ range_with_len a n → new ≡ lent ++ (a + n) ∷ []
+    → new ≡ front ++ range_with_len a (n + 1)
+run_more front lent new a n is pushed =
+    pushed ∙ ap (λ (xs : List ℕ). xs ++ (a + n) ∷ []) is ∙ append_assoc front (range_with_len a n) ((a + n) ∷ [])
+    ∙ ap (λ (xs : List ℕ). front ++ xs) (sym (range_more a n))
+
 pub ring_blocks_many : (ring size : ℕ) → length (ring_blocks ring size) ≡ blocks_for size
 ring_blocks_many ring size = length-range_with_len ring (blocks_for size)
 
@@ -31,6 +48,13 @@ slot_block size slot below = omega (arith, below)
 
 pub slot_lies : (ring slot : ℕ) → LiesIn (ring + slot / 128) (descriptor_in ring slot) 16
 slot_lies ring slot = (omega arith, omega arith)
+
+-- so many bytes from the block's first on
+pub slot_place : (ring slot : ℕ) → descriptor_in ring slot ≡ 2048 * (ring + slot / 128) + 16 * (slot % 128)
+slot_place ring slot = omega arith
+
+pub slot_fits : (slot : ℕ) → 16 * (slot % 128) + 16 ≤ 2048
+slot_fits slot = omega arith
 
 -- which blocks are the ring's
 
@@ -64,6 +88,18 @@ ring_block_none ring size n apart = elim (cases_Bool (is_ring_block ring size n)
       let at = ring_block_at ring size n is in
       absurd (apart at.0 at.1 at.2)
   | inr other ↦ other
+]
+
+-- one that isn't the ring's is before or behind them
+pub ring_block_sides : (ring size n : ℕ) → is_ring_block ring size n ≡ false → (n < ring) ⊎ (ring + blocks_for size ≤ n)
+ring_block_sides ring size n other = elim (cases_lt n ring) [
+  | inl low ↦ inl low
+  | inr from ↦ elim (cases_lt n (ring + blocks_for size)) [
+    | inl below ↦
+        let is : is_ring_block ring size n ≡ true = grind (arith, nat_tests) in
+        absurd (both_ways _ other is)
+    | inr high ↦ inr high
+  ]
 ]
 
 -- how often a number is among them
@@ -104,13 +140,28 @@ pub ring_block_times : (ring size n : ℕ)
     → times_in_hand (ring_blocks ring size) n ≡ cond (is_ring_block ring size n) 1 0
 ring_block_times ring size n = times_within (blocks_for size) ring n
 
+pub ring_block_out : (ring size n : ℕ)
+    → (is_ring_block ring size n ≡ true) ↔ (0 < times_in_hand (ring_blocks ring size) n)
+ring_block_out ring size n = (
+  λ is.
+      let one : times_in_hand (ring_blocks ring size) n ≡ 1 = rw is at (ring_block_times ring size n) in
+      omega (arith, one),
+  λ some. elim (cases_Bool (is_ring_block ring size n)) [
+    | inl is ↦ is
+    | inr other ↦
+        let none : times_in_hand (ring_blocks ring size) n ≡ 0 = rw other at (ring_block_times ring size n) in
+        absurd (omega (arith, none, some))
+  ],
+)
+
 -- a list has a number where one of its places does
 pub among_times : (xs : List ℕ) (n : ℕ) → 0 < times_in_hand xs n → list_any (λ b. n == b) xs ≡ true
 among_times [] n some = absurd (omega (arith, some))
 among_times (x ∷ xs) n some = elim (cases_eq n x) [
   | inl same ↦ or_left (n == x) (list_any (λ b. n == b) xs) (grind (arith, nat_tests))
   | inr ne ↦
-      or_right (n == x) (list_any (λ b. n == b) xs) (among_times xs n (subst (λ (t : ℕ). 0 < t) (times_rest xs x n ne) some))
+      or_right (n == x) (list_any (λ b. n == b) xs)
+      (among_times xs n (subst (λ (t : ℕ). 0 < t) (times_rest xs x n ne) some))
 ]
 
 pub times_among : (xs : List ℕ) (n : ℕ) → times_in_hand xs n ≡ 0 → list_any (λ b. n == b) xs ≡ false
@@ -118,7 +169,8 @@ times_among [] n none = refl
 times_among (x ∷ xs) n none = elim (cases_eq n x) [
   | inl same ↦ absurd (omega (arith, none, times_same xs x n same))
   | inr ne ↦
-      or_from (n == x) (list_any (λ b. n == b) xs) (ne_eqb n x ne) (times_among xs n (sym (times_rest xs x n ne) ∙ none))
+      or_from (n == x) (list_any (λ b. n == b) xs) (ne_eqb n x ne)
+      (times_among xs n (sym (times_rest xs x n ne) ∙ none))
 ]
 
 pub ring_block_among : (ring size n : ℕ) → list_any (λ b. n == b) (ring_blocks ring size) ≡ is_ring_block ring size n

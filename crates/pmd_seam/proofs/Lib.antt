@@ -8,6 +8,7 @@ pub mod Places
 pub mod Polling
 pub mod QueueSequences
 pub mod Refusals
+pub mod Rings
 pub mod Sequences
 pub mod Stepping
 pub mod Steps

@@ -36,5 +36,5 @@ pub use nic::Nic;
 pub use packet::{Packet, Record, fresh_packet, give_packet};
 pub use setup::{Setting, Setup, pf_setup, set};
 pub use sides::POLLS;
-pub use slots::{descriptor_address, next_slot, slot_after};
+pub use slots::{blocks_for, descriptor_address, is_ring_block, next_slot, slot_after};
 pub use through_lock::ThroughLock;

@@ -120,8 +120,8 @@ impl Queue {
         self.see_off(alloc, nic, side)
     }
 
-    /// Writes the words of an empty ring of `size` descriptors, at most 128, at the start of the block of number
-    /// `ring`.
+    /// Writes the words of an empty ring of `size` descriptors, at most 1,024, from the start of the block of number
+    /// `ring` on.
     ///
     /// `DeviceFault` where the port has no such register.
     pub fn lay_out<N: Nic>(
@@ -133,7 +133,7 @@ impl Queue {
         size: u16,
     ) -> Result<(), PmdFault>
         requires ring { ring < 65536 }
-        requires size { size ≤ 128 }
+        requires size { size ≤ 1024 }
         ensures made { OnOk result (AreMade self.now (N.made nic.old) (N.made nic.new) (ring_words side ring size)) }
         ensures failed { IfErr result (λ f.
             StopsBy f self.now (N.made nic.old) (N.made nic.new) (ring_words side ring size)) }
@@ -229,7 +229,7 @@ fn enable_word(on: bool) -> u32
 #[rattlefmt::skip]
 fn ring_words(side: Dir, ring: u32, size: u16) -> [Word; 6]
     requires ring { ring < 65536 }
-    requires size { size ≤ 128 }
+    requires size { size ≤ 1024 }
     ensures words { map set_of result ≡ ring_words side ring size }
     ensures driven { All (λ w. IsDriven w.row) result }
 {

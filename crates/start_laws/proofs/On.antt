@@ -33,7 +33,7 @@ use Rattle.start_laws.proofs.Lends.{lending}
 use Rattle.start_laws.proofs.Numbers.{ground_names}
 use Rattle.start_laws.proofs.Switching.{came_up, switching}
 use Rattle.start_laws.proofs.Made.{some_made}
-use Rattle.start_laws.proofs.Rising.{came_up_at, sized}
+use Rattle.start_laws.proofs.Rising.{came_up_at, of_one, sized}
 use Rattle.start_laws.proofs.Prepared.{prepared_some, prepared_has}
 
 module _ (w : Watched) (fifo : ℕ) (h : List Entry) (q : AtPort) (size : ℕ) (old : List Call) (a : Numbers)
@@ -90,17 +90,19 @@ module _ (w : Watched) (fifo : ℕ) (h : List Entry) (q : AtPort) (size : ℕ) (
         let count = sized size is in (
           subst (λ (v : Receive). Agree w.queue s [] v) (sym up.receive.fresh)
               (fresh_receive_agrees w.queue s _ rings true true q.port up.receive.tail ring size
-              (record { some = count.0; few = count.1; low = one.low })
+              (of_one size ring is one.low)
               (record {
                 low = along.small;
                 tail = ground_names w.queue q s x.ground Rdt up.receive.tail refl up.receive.named;
               })
-              (or_right (ring == other) _ (or_left (ring == ring) _ (eq-eqb ring ring refl))) x.stand),
+              (each_of_one ring size (λ n. IsTrue (rings n)) count.0 count.1
+              (or_right (ring == other) _ (or_left (ring == ring) _ (eq-eqb ring ring refl)))) x.stand),
           subst (λ (v : Sender). Agrees s w.queue [] v) (sym up.transmit.fresh)
               (fresh_transmit_agrees w.queue s _ rings true true q.port up.transmit.tail other size along.small sound
-              (record { some = count.0; few = count.1; low = two.low })
+              (of_one size other is two.low)
               (ground_names w.queue q s x.ground Tdt up.transmit.tail refl up.transmit.named) x.ground.limit
-              (or_left (other == other) _ (eq-eqb other other refl)) x.stand),
+              (each_of_one other size (λ n. IsTrue (rings n)) count.0 count.1
+              (or_left (other == other) _ (eq-eqb other other refl))) x.stand),
         )
 
     agrees_at : AtCalls w fifo h new (λ s. Agree w.queue s [] v × Agrees s w.queue [] t)

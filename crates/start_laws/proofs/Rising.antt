@@ -45,6 +45,15 @@ sized size is =
     let even : size % 8 ≡ 0 = eqb-true (size % 8) 0 two.1 in
     (omega (arith, some), few, omega (arith, even))
 
+pub of_one : (size number : ℕ) → is_size size ≡ true → number < 65536 → IsSized number size
+of_one size number is low =
+    let count = sized size is in
+    record {
+      some = count.0;
+      few = omega (arith, count.1);
+      low = omega (arith, low, one_block size count.0 count.1);
+    }
+
 -- sides that are off aren't wanted on
 unwanted : (a b c d : Bool) → ((not a && not b) && (not c && not d)) ≡ true → (b ≡ false) × (d ≡ false)
 unwanted true b c d is = cc
@@ -91,7 +100,7 @@ module _ (w : Watched) (fifo : ℕ) (h : List Entry) (q : AtPort) (size : ℕ) (
     -- as both rings come up, where their blocks are the pass's
     module _ (one : IsLentBy w.pass ring h) (two : IsLentBy w.pass other h) where
       abbrev pub of_size : (number : ℕ) → IsLentBy w.pass number h → IsSized number size
-      of_size number lent = record { some = (sized size is).0; few = (sized size is).1; low = lent.low }
+      of_size number lent = of_one size number is lent.low
 
       off : (p : Sides) → Known p → (p.rx.wanted ≡ false) × (p.tx.wanted ≡ false)
       off p known = unwanted p.rx.on p.rx.wanted p.tx.on p.tx.wanted known

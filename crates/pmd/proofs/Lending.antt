@@ -1,0 +1,75 @@
+-- Blocks that are drawn and lent in turn.
+use Rattle.std.proofs.Common.{◌≡◌, ℕ, zero, suc, ◌+◌, ◌-◌, ◌<◌, true, false, List, [], ◌∷◌, ◌++◌, None, refl, sym, ap, subst, ◌∙◌, arith}
+use Rattle.std.specs.List.{range_with_len}
+use Rattle.nic_device.specs.DmaArena.Block.{zero_block}
+use Rattle.nic_device.specs.DmaArena.Numbers.{Numbers, is_free, with_free}
+use Rattle.pmd_rx.specs.DeviceLock.declared.entry.Call.{Call}
+use Rattle.pmd_rx.specs.PmdSeam.Accesses.{IsLent}
+use Rattle.pmd_rx.specs.PmdSeam.Home.{IsDrawn}
+use Rattle.pmd_rx.proofs.PmdSeam.Rings.{range_more}
+use Rattle.pmd_rx.specs.PmdSeam.declared.fault.PmdFault.{PmdFault}
+use Rattle.pmd.specs.Runs.{IsFreeRun}
+use Rattle.pmd.specs.Starting.{LendsEach, LendingFails, StopsLending}
+use Rattle.pmd.proofs.Starting.{drawn_keeps, none_behind}
+
+-- one more
+
+drawn_more : (a : Numbers) (xs : List ℕ) (b : Numbers) (n : ℕ) → IsDrawn a xs b → is_free b n ≡ true
+    → IsDrawn a (xs ++ n ∷ []) (with_free b n false)
+drawn_more a [] b n is free =
+    (sym (ap (λ (x : Numbers). is_free x n) is) ∙ free, ap (λ (x : Numbers). with_free x n false) is)
+drawn_more a (x ∷ xs) b n (here, is) free = (here, drawn_more (with_free a x false) xs b n is free)
+
+lends_more : (old mid new : List Call) (xs : List ℕ) (n : ℕ) → LendsEach old mid xs
+    → IsLent mid new (zero_block n) None → LendsEach old new (xs ++ n ∷ [])
+lends_more old mid new [] n is lent = (new, subst (λ (calls : List Call). IsLent calls new (zero_block n) None) is lent, refl)
+lends_more old mid new (x ∷ xs) n (next, one, rest) lent = (next, one, lends_more next mid new xs n rest lent)
+
+pub drawn_next : (a : Numbers) (first k : ℕ) (b : Numbers) → IsDrawn a (range_with_len first k) b
+    → is_free b (first + k) ≡ true → IsDrawn a (range_with_len first (k + 1)) (with_free b (first + k) false)
+drawn_next a first k b is free =
+    subst (λ (l : List ℕ). IsDrawn a l (with_free b (first + k) false)) (sym (range_more first k))
+    (drawn_more a (range_with_len first k) b (first + k) is free)
+
+pub lends_next : (old mid new : List Call) (first k : ℕ) → LendsEach old mid (range_with_len first k)
+    → IsLent mid new (zero_block (first + k)) None → LendsEach old new (range_with_len first (k + 1))
+lends_next old mid new first k is lent =
+    subst (λ (l : List ℕ). LendsEach old new l) (sym (range_more first k))
+    (lends_more old mid new (range_with_len first k) (first + k) is lent)
+
+-- those that were lent, the next one, and the rest
+pub split_at : (first k rest : ℕ)
+    → range_with_len first k ++ (first + k) ∷ range_with_len (first + k + 1) rest
+    ≡ range_with_len first (k + suc rest)
+split_at first zero rest =
+    let at : first + 0 ≡ first = omega arith in
+    ap (λ (n : ℕ). n ∷ range_with_len (n + 1) rest) at
+split_at first (suc k) rest =
+    let at : first + suc k ≡ first + 1 + k = omega arith in
+    ap (λ (n : ℕ). first ∷ (range_with_len (first + 1) k ++ n ∷ range_with_len (n + 1) rest)) at
+    ∙ ap (λ (l : List ℕ). first ∷ l) (split_at (first + 1) k rest)
+
+-- the next of a run of free ones is free still
+pub next_free : (a : Numbers) (first count k : ℕ) (b : Numbers) → IsDrawn a (range_with_len first k) b → k < count
+    → IsFreeRun a first count → is_free b (first + k) ≡ true
+next_free a first count k b drawn below free =
+    drawn_keeps a (range_with_len first k) b (first + k) drawn (free k below) (none_behind k first (first + k) (omega arith))
+
+-- where the next one isn't lent
+pub stops_next : (f : PmdFault) (first count k : ℕ) (old : List Call) (a : Numbers) (mid : List Call) (b : Numbers)
+    (new : List Call) (out : List ℕ) → k < count → LendsEach old mid (range_with_len first k)
+    → IsDrawn a (range_with_len first k) b → is_free b (first + k) ≡ true
+    → LendingFails f mid new (zero_block (first + k)) → out ≡ range_with_len first k
+    → StopsLending f (range_with_len first count) old a new b out
+stops_next f first count k old a mid b new out below lent drawn free fails is =
+    let left : k + suc (count - k - 1) ≡ count = omega (arith, below) in
+    subst (λ (l : List ℕ). StopsLending f (range_with_len first count) old a new b l) (sym is) (record {
+      next = first + k;
+      rest = range_with_len (first + k + 1) (count - k - 1);
+      parts = split_at first k (count - k - 1) ∙ ap (λ (n : ℕ). range_with_len first n) left;
+      drawn = drawn;
+      free = free;
+      mid = mid;
+      lent = lent;
+      fails = fails;
+    })

@@ -14,7 +14,7 @@ use Rattle.pmd.specs.PmdSeam.declared.fault.PmdFault.TheVariants.{BadSize}
 use Rattle.pmd.specs.Halted.{Halted}
 use Rattle.pmd.specs.PmdSeam.Named.{AtPort}
 use Rattle.pmd.specs.Life.{ComesDown, NeverLived}
-use Rattle.pmd.specs.Started.{IsHalfStarted, IsHome, IsShut, StopsStarting, is_size, start_gate}
+use Rattle.pmd.specs.Started.{IsHalfStarted, IsHome, IsLeftWith, IsShut, StopsStarting, is_size, start_gate}
 use Rattle.pmd.specs.declared.start.Rest.{Rest}
 use Rattle.pmd.specs.declared.start.Rest.TheVariants as rest
 use Rattle.pmd.specs.declared.start.StartRefused.{StartRefused}

@@ -1,5 +1,5 @@
 -- What the fields of a ring keep, as packets come and go.
-use Rattle.std.proofs.Common.{◌≡◌, ℕ, ◌+◌, ◌-◌, ◌<◌, ◌≤◌, Bool, true, false, ◌||◌, ◌==◌, nat_eq, List, [], ◌∷◌, ◌++◌, length, drop, sym, ap, ◌∙◌, subst, arith}
+use Rattle.std.proofs.Common.{◌≡◌, ℕ, ◌+◌, ◌-◌, ◌<◌, ◌≤◌, Bool, true, false, ◌||◌, nat_eq, List, [], ◌∷◌, ◌++◌, length, drop, sym, ap, ◌∙◌, subst, arith}
 use Rattle.std.proofs.lemmas.Cmp.{nat_eq_equiv}
 use Rattle.std.proofs.lemmas.List.{length-drop, length-take, length_push}
 use Rattle.std.proofs.lemmas.List.Elements.{All-push}
@@ -7,6 +7,7 @@ use Rattle.std.proofs.lemmas.Map.Keys.{IsDistinct-tail, IsDistinct-push, IsDisti
 use Rattle.std.specs.List.{list_any}
 use Rattle.nic_device.specs.DmaRing.Ring.{next_of}
 use Rattle.pmd_seam.specs.Packet.{Kept, kept_of}
+use Rattle.pmd_seam.specs.Slots.{blocks_for, is_ring_block}
 use Rattle.pmd_seam.specs.declared.packet.Packet.{Packet}
 use Rattle.pmd_seam.proofs.Places.{next_below}
 use Rattle.pmd_tx.specs.Sending.{Sender, Layout, blocks_of, has_lent}
@@ -69,7 +70,7 @@ module _ (l : Layout) (bs : List ℕ) (posted : ℕ) (poked seen : Bool) (ks : L
           some = rw size h.some;
           few = rw size h.few;
           next = rw (size, next) (next_below l.size l.next h.next);
-          ring = rw ring h.ring;
+          ring = rw (ring, size) h.ring;
           room = rw size (omega (arith, h.room));
           below = omega (arith, h.below);
           waiting = omega (arith, h.waiting);
@@ -105,7 +106,7 @@ module _ (l : Layout) (bs : List ℕ) (posted : ℕ) (poked seen : Bool) (ks : L
     pub not_lent : (n : ℕ) → has_lent (shown l bs posted poked seen ks) n ≡ false → list_any (nat_eq n) bs ≡ false
     not_lent n none =
         subst (λ (xs : List ℕ). list_any (nat_eq n) xs ≡ false) (blocks-outstanding bs ks h.known)
-        (second_false (n == l.ring) (list_any (nat_eq n) (blocks_of (outstanding_of bs ks))) none)
+        (second_false (is_ring_block l.ring l.size n) (list_any (nat_eq n) (blocks_of (outstanding_of bs ks))) none)
 
     -- one more, as its block is lent
     pub pushed_by : (v : Sender) (p : Packet) → shown l bs posted poked seen ks ≡ v → MayLend v p → (k : Kept)
@@ -118,7 +119,8 @@ module _ (l : Layout) (bs : List ℕ) (posted : ℕ) (poked seen : Bool) (ks : L
         (not_lent p.buf.number here.away)
 
 -- nothing is outstanding at first
-pub fresh_ring : (l : Layout) → 0 < l.size → l.size ≤ 128 → l.next ≡ 0 → l.ring < 65536 → IsRing l [] 0 false false []
+pub fresh_ring : (l : Layout) → 0 < l.size → l.size ≤ 1024 → l.next ≡ 0 → l.ring + blocks_for l.size ≤ 65536
+    → IsRing l [] 0 false false []
 fresh_ring l some few next ring = record {
   some = some;
   few = few;

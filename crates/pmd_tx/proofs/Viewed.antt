@@ -1,9 +1,9 @@
 -- What contracts see of a ring's fields.
-use Rattle.std.proofs.Common.{◌≡◌, ◌≢◌, ℕ, ◌-◌, ◌<◌, ◌==◌, Bool, false, nat_eq, List, length, drop, refl, sym, ap, ◌∙◌, arith}
-use Rattle.std.proofs.lemmas.Bool.Decides.{nat_tests}
+use Rattle.std.proofs.Common.{◌≡◌, ℕ, ◌-◌, ◌<◌, Bool, true, false, nat_eq, List, length, drop, refl, sym, ap, ◌∙◌}
 use Rattle.std.specs.List.{list_any}
 use Rattle.nic_device.specs.DmaRing.Ring.{next_of}
 use Rattle.pmd_seam.specs.Packet.{Kept}
+use Rattle.pmd_seam.specs.Slots.{is_ring_block}
 use Rattle.pmd_tx.specs.Sending.{Sender, Layout, blocks_of, has_lent, reaped}
 use Rattle.pmd_tx.specs.Sends.{forgotten}
 use Rattle.pmd_tx.specs.Shown.{IsRing}
@@ -23,12 +23,19 @@ module _ (l : Layout) (bs : List ℕ) (posted : ℕ) (poked seen : Bool) (ks : L
         → shown (record l { next = n }) cs p false false ks ≡ forgotten (shown l bs posted poked seen ks)
     forgotten_shown n cs p at are some is = rw (at, are, is, outstanding-drop bs ks h.known some) refl
 
-    -- whether a block is lent, where it isn't the ring's
-    pub lent_shown : (v : Sender) → shown l bs posted poked seen ks ≡ v → (n own : ℕ) (r : Bool) → own ≡ v.layout.ring
-        → n ≢ own → r ≡ list_any (nat_eq n) bs → r ≡ has_lent v n
-    lent_shown v is n own r ring ne any =
-        let other : n ≢ v.layout.ring = λ same. ne (same ∙ sym ring) in
-        let off : (n == v.layout.ring) ≡ false = grind (arith, nat_tests, other) in
-        rw off
-        (any ∙ ap (λ (xs : List ℕ). list_any (nat_eq n) xs)
-        (sym (blocks-outstanding bs ks h.known) ∙ ap (λ (x : Sender). blocks_of x.outstanding) is))
+    -- whether a block is lent, by whether it is one of the ring's
+    module _ (v : Sender) (is : shown l bs posted poked seen ks ≡ v) (n ring : ℕ) (own : Bool) (at : ring ≡ v.layout.ring)
+        (tells : own ≡ is_ring_block ring l.size n)
+      where
+        own_is : own ≡ is_ring_block v.layout.ring v.layout.size n
+        own_is = tells ∙ ap (λ (k : ℕ). is_ring_block k l.size n) at
+            ∙ ap (λ (x : Sender). is_ring_block v.layout.ring x.layout.size n) is
+
+        pub ring_shown : own ≡ true → own ≡ has_lent v n
+        ring_shown its = its ∙ rw (sym own_is ∙ its) refl
+
+        pub lent_shown : own ≡ false → (r : Bool) → r ≡ list_any (nat_eq n) bs → r ≡ has_lent v n
+        lent_shown other r any =
+            rw (sym own_is ∙ other)
+            (any ∙ ap (λ (xs : List ℕ). list_any (nat_eq n) xs)
+            (sym (blocks-outstanding bs ks h.known) ∙ ap (λ (x : Sender). blocks_of x.outstanding) is))

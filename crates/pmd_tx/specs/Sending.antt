@@ -12,7 +12,7 @@ use Rattle.nic_device.specs.declared.event.Port.{Port}
 use Rattle.nic_device.specs.declared.event.Reply.{Reply}
 use Rattle.nic_device.specs.declared.event.Reply.TheVariants as reply
 use Rattle.pmd_seam.specs.Packet.{Kept}
-use Rattle.pmd_seam.specs.Slots.{wrapped, descriptor_in}
+use Rattle.pmd_seam.specs.Slots.{wrapped, descriptor_in, is_ring_block}
 
 -- a packet that was accepted: the block that has its bytes, and what is kept of it
 pub record Outgoing : Type 0 where
@@ -22,8 +22,8 @@ pub record Outgoing : Type 0 where
 abbrev pub no_packet : Outgoing
 no_packet = record { block = 0; kept = record { bytes = []; rss = 0; hash = 0 } }
 
--- the ring: the port, the number that the tail's register has there, the block that the ring is in, its number of
--- slots, and the slot of the oldest outstanding packet
+-- the ring: the port, the number that the tail's register has there, the first of the blocks that the ring is in, its
+-- number of slots, and the slot of the oldest outstanding packet
 pub record Layout : Type 0 where
   pub port : Port
   pub tail : ℕ
@@ -56,9 +56,9 @@ slot_at l k = wrapped l.size (l.next + k)
 abbrev pub descriptor_at : Layout → ℕ → ℕ
 descriptor_at l k = descriptor_in l.ring (slot_at l k)
 
--- whether the ring has the block of this number lent: it is the ring's own, or that of an outstanding packet
+-- whether the ring has the block of this number lent: it is one of the ring's own, or that of an outstanding packet
 abbrev pub has_lent : Sender → ℕ → Bool
-has_lent v n = n == v.layout.ring || list_any (λ b. n == b) (blocks_of v.outstanding)
+has_lent v n = is_ring_block v.layout.ring v.layout.size n || list_any (λ b. n == b) (blocks_of v.outstanding)
 
 -- the descriptor that asks for a packet: its block's address, its length, and its end, which is to be reported
 abbrev pub asking : Outgoing → List ℕ

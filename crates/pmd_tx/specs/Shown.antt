@@ -6,6 +6,7 @@ use Rattle.pmd_seam.specs.DeviceLock.declared.entry.Call.{Call}
 use Rattle.pmd_seam.specs.Accesses.{IsLent}
 use Rattle.pmd_seam.specs.Made.{AddsSome}
 use Rattle.pmd_seam.specs.Packet.{Kept, kept_of}
+use Rattle.pmd_seam.specs.Slots.{blocks_for}
 use Rattle.pmd_seam.specs.declared.fault.PmdFault.{PmdFault}
 use Rattle.pmd_seam.specs.declared.fault.PmdFault.TheVariants as fault
 use Rattle.pmd_seam.specs.declared.packet.Packet.{Packet}
@@ -25,13 +26,13 @@ outstanding_of blocks accepted = paired blocks (drop (length accepted - length b
 abbrev pub AreDistinct : List ℕ → Type 0
 AreDistinct blocks = IsDistinct nat_eq blocks
 
--- a ring of at most 128 slots, in one block of bus memory. At most one packet waits for the tail, and each packet has
--- at most 1,514 bytes
+-- a ring of at most 1,024 slots, in blocks of bus memory that follow one another. At most one packet waits for the
+-- tail, and each packet has at most 1,514 bytes
 pub record IsRing (l : Layout) (blocks : List ℕ) (posted : ℕ) (poked seen : Bool) (accepted : List Kept) : Type 0 where
   pub some : 0 < l.size
-  pub few : l.size ≤ 128
+  pub few : l.size ≤ 1024
   pub next : l.next < l.size
-  pub ring : l.ring < 65536
+  pub ring : l.ring + blocks_for l.size ≤ 65536
   pub room : length blocks < l.size
   pub below : posted ≤ length blocks
   pub waiting : length blocks ≤ posted + 1

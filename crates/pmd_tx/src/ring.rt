@@ -1,6 +1,6 @@
 //! The transmit ring of the driver: one step for each of its moves.
 
-ghost use Rattle.std.specs.Prelude.{[], ◌≡◌, ◌==◌, ◌≢◌, ◌↔◌, ◌<◌, ◌≤◌, ◌+◌, ◌-◌, ℕ, None, All, length, slice_index_or, true, false, Ok, IfOk, IfErr, OnOk, OnErr, IfSome, IsNone};
+ghost use Rattle.std.specs.Prelude.{[], ◌≡◌, ◌==◌, ◌≢◌, ◌↔◌, ◌<◌, ◌≤◌, ◌+◌, ◌-◌, ◌++◌, ℕ, None, All, length, slice_index_or, true, false, Ok, IfOk, IfErr, OnOk, OnErr, IfSome, IsNone};
 ghost use Rattle.pmd_seam.specs.Accesses.{IsLent, IsWritten};
 ghost use Rattle.pmd_seam.specs.Made.{AddsSome};
 ghost use Rattle.pmd_tx.specs.Plays.{PlaysWith, LooksLast, FaultsBy};
@@ -9,6 +9,8 @@ ghost use Rattle.pmd_tx.specs.Sending.{at_start, blocks_of, no_packet, packet_at
 ghost use Rattle.std.specs.List.{list_any};
 ghost use Rattle.nic_device.specs.DmaRing.Ring.{next_of};
 ghost use Rattle.pmd_seam.specs.Packet.{Kept};
+ghost use Rattle.pmd_seam.specs.Slots.{blocks_for, ring_blocks};
+ghost use Rattle.std.specs.VecDeque.{deque_len, deque_capacity};
 ghost use Rattle.pmd_tx.specs.Sends.{is_full, forgotten, IsLate, IsBack};
 ghost use Rattle.pmd_tx.specs.Stages.{IsAt};
 ghost use Rattle.pmd_tx.specs.Shown.{MayLend, sent_as, IsUnlent};
@@ -16,8 +18,8 @@ ghost use Rattle.pmd_seam.specs.Refusals.{CanFail, CanRefuse};
 
 use nic_device::{Buf, Port, data_descriptor_word, is_sent, of_halves, second_half};
 use pmd_seam::{
-    CallFault, Nic, Packet, PmdFault, Reclaim, Record, descriptor_address, lend, next_slot, peek,
-    poke, slot_after, take, write,
+    CallFault, Nic, Packet, PmdFault, Reclaim, Record, blocks_for, descriptor_address,
+    is_ring_block, lend, next_slot, peek, poke, slot_after, take, write,
 };
 use std::alloc::Global;
 use std::collections::VecDeque;
@@ -80,13 +82,14 @@ impl Model for TransmitRing {
 }
 
 impl TransmitRing {
-    /// A ring whose queue goes on: of 1 to 128 slots, in the block of the number `ring`, which is below 65,536. `tail`
-    /// is the number that the tail's register has at the port. Nothing is outstanding. It takes no memory.
+    /// A ring whose queue goes on: of 1 to 1,024 slots, in blocks that follow one another from that of the number `ring`
+    /// on, all below 65,536. `tail` is the number that the tail's register has at the port. Nothing is outstanding. It
+    /// takes no memory.
     #[tactic(auto, using(crate::proofs::Outstanding::outstanding))]
     pub fn new(alloc: Global, port: Port, tail: u32, ring: u32, size: u16) -> TransmitRing
         requires some { 0 < size }
-        requires few { size ≤ 128 }
-        requires ring { ring < 65536 }
+        requires few { size ≤ 1024 }
+        requires ring { ring + blocks_for size ≤ 65536 }
         ensures { result ≡ at_start port tail ring size }
     {
         TransmitRing {
@@ -119,14 +122,18 @@ impl TransmitRing {
         ensures back { IfErr result (λ ring. ring ≡ self) }
     {
         let mut ended = self;
-        if ended.blocks.reserve(1).is_err() {
+        if ended
+            .blocks
+            .reserve(blocks_for(ended.size) as usize)
+            .is_err()
+        {
             return Err(ended);
         }
         let TransmitRing {
             port: _,
             tail: _,
             ring,
-            size: _,
+            size,
             next: _,
             blocks,
             posted: _,
@@ -134,12 +141,11 @@ impl TransmitRing {
             seen: _,
             accepted,
         } = ended;
-        let mut lent = blocks;
-        lent.push_back_reserved(u32::from(ring));
+        let lent = with_ring(blocks, u32::from(ring), size);
         Ok((Reclaim::of(lent), accepted))
     }
 
-    /// The number of the block that the ring is in, below 65,536.
+    /// The number of the first block that the ring is in, below 65,536.
     pub fn ring_block(&self) -> u32
         ensures block { result ≡ self.now.layout.ring }
         ensures small { result < 65536 }
@@ -147,12 +153,12 @@ impl TransmitRing {
         u32::from(self.ring)
     }
 
-    /// Whether the block of this number is lent for the ring: its own, or that of an outstanding packet.
+    /// Whether the block of this number is lent for the ring: one of its own, or that of an outstanding packet.
     #[tactic(auto, using(crate::proofs::Outstanding::outstanding))]
     pub fn has_lent(&self, block: u32) -> bool
         ensures { result ≡ has_lent self.now block }
     {
-        block == self.ring_block() || holds(&self.blocks, block)
+        is_ring_block(self.ring_block(), self.size, block) || holds(&self.blocks, block)
     }
 
     /// Whether as many packets are outstanding as the ring has slots, but one.
@@ -518,6 +524,21 @@ impl TransmitRing {
         self.posted -= 1;
         self.seen = false;
     }
+}
+
+/// The blocks of packets, and then those of a ring. There is room for them.
+fn with_ring(blocks: VecDeque<u32>, ring: u32, size: u16) -> VecDeque<u32>
+    requires few { size ≤ 1024 }
+    requires ring { ring + blocks_for size ≤ 65536 }
+    requires room { deque_len blocks + blocks_for size ≤ deque_capacity blocks }
+    ensures items { result.items ≡ blocks.items ++ ring_blocks ring size }
+    ensures few { length result.items ≤ length blocks.items + 8 }
+{
+    let mut lent = blocks;
+    for at in 0..blocks_for(size) {
+        lent.push_back_reserved(ring + at);
+    }
+    lent
 }
 
 /// Whether a block of this number is among these.

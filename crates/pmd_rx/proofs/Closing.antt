@@ -1,9 +1,11 @@
 -- A ring that is closed: where its blocks are then.
-use Rattle.std.proofs.Common.{◌≡◌, ℕ, true, false, List, [], ◌∷◌, ◌++◌, Option, Some, None, refl, sym, ap, ◌∙◌, arith}
+use Rattle.std.proofs.Common.{◌≡◌, ℕ, true, false, List, ◌∷◌, ◌++◌, Option, Some, None, refl, sym, ap, ◌∙◌, arith}
 use Rattle.std.specs.Prelude.{IfSome}
+use Rattle.std.specs.List.{range_with_len}
 use Rattle.nic_device.specs.DmaArena.Numbers.{Numbers, is_own, is_free}
 use Rattle.nic_device.specs.DmaArena.Whereabouts.{times_in_hand}
 use Rattle.pmd_seam.specs.Home.{AreOut}
+use Rattle.pmd_seam.specs.Slots.{blocks_for}
 use Rattle.pmd_seam.specs.declared.packet.Packet.{Packet}
 use Rattle.pmd_seam.proofs.Outside.{times-append, times-cons, out_fewer, out_first, out_given}
 use Rattle.pmd_rx.specs.Keeping.{fresh_block, lent_at, lent_of, out_at, block_in, with_home}
@@ -45,9 +47,13 @@ held_same (at.Lent b) o right = refl
 held_same (at.Named b) o right = refl
 
 -- the blocks of a ring, told by its parts
-pub lent_is : (v : Receive) (lent kept blocks fresh : List ℕ) (ring : ℕ) → lent ≡ kept ++ (fresh ++ ring ∷ [])
-    → kept ≡ blocks → fresh ≡ fresh_block v.stage → blocks ≡ v.layout.blocks → ring ≡ v.layout.ring → lent ≡ lent_of v
-lent_is v lent kept blocks fresh ring is same first stand own =
-    is ∙ ap (λ (xs : List ℕ). xs ++ (fresh ++ ring ∷ [])) (same ∙ stand)
-    ∙ ap (λ (xs : List ℕ). v.layout.blocks ++ (xs ++ ring ∷ [])) first
-    ∙ ap (λ (r : ℕ). v.layout.blocks ++ (fresh_block v.stage ++ r ∷ [])) own
+pub lent_is : (v : Receive) (lent kept blocks fresh : List ℕ) (ring many size : ℕ)
+    → lent ≡ kept ++ (fresh ++ range_with_len ring many) → kept ≡ blocks → fresh ≡ fresh_block v.stage
+    → blocks ≡ v.layout.blocks → ring ≡ v.layout.ring → many ≡ blocks_for size → size ≡ v.layout.size
+    → lent ≡ lent_of v
+lent_is v lent kept blocks fresh ring many size is same first stand own few sized =
+    is ∙ ap (λ (xs : List ℕ). xs ++ (fresh ++ range_with_len ring many)) (same ∙ stand)
+    ∙ ap (λ (xs : List ℕ). v.layout.blocks ++ (xs ++ range_with_len ring many)) first
+    ∙ ap (λ (r : ℕ). v.layout.blocks ++ (fresh_block v.stage ++ range_with_len r many)) own
+    ∙ ap (λ (n : ℕ). v.layout.blocks ++ (fresh_block v.stage ++ range_with_len v.layout.ring n))
+    (few ∙ ap (λ (n : ℕ). blocks_for n) sized)

@@ -1,12 +1,15 @@
 -- Blocks that are taken from the driver's arena.
-use Rattle.std.proofs.Common.{◌≡◌, ◌≢◌, ℕ, ◌+◌, ◌<◌, true, false, List, [], ◌∷◌, length, get_or, refl, sym, subst, ◌∙◌, arith}
+use Rattle.std.proofs.Common.{◌≡◌, ◌≢◌, inl, inr, ℕ, ◌+◌, ◌<◌, true, false, List, length, get_or, refl, subst, ◌∙◌, arith}
+use Rattle.std.proofs.lemmas.Bool.{cases_Bool}
 use Rattle.nic_device.specs.DmaArena.Block.{Block}
 use Rattle.nic_device.specs.DmaArena.Numbers.{Numbers, is_own, is_free, with_free}
 use Rattle.nic_device.proofs.DmaArena.Arenas.{is_own-of_free, is_own-with_free, is_free-with_free_same}
 use Rattle.nic_device.proofs.DmaArena.Cuts.{given_back}
 use Rattle.nic_device.specs.DmaArena.Whereabouts.{times_in_hand}
 use Rattle.pmd_seam.specs.Home.{AreOut}
-use Rattle.pmd_seam.proofs.Outside.{times_at, times_first, out_free}
+use Rattle.pmd_seam.specs.Slots.{ring_blocks, is_ring_block}
+use Rattle.pmd_seam.proofs.Outside.{times_at, out_free}
+use Rattle.pmd_seam.proofs.Rings.{ring_block_times}
 use Rattle.pmd_rx.specs.Keeping.{blocks_out}
 use Rattle.pmd_rx.specs.Receive.{Receive, Stage, Looks, Sees, Holding, Lent, Named, MayLend, lent_one, held_by}
 use Rattle.pmd_rx.specs.Shown.{CanLend, HasLent}
@@ -18,10 +21,11 @@ none_of xs n i none below same =
     let some : 0 < times_in_hand xs n = subst (λ (m : ℕ). 0 < times_in_hand xs m) same (times_at xs i 0 below) in
     absurd (omega (arith, some, none))
 
-not_first : (n m : ℕ) → times_in_hand (m ∷ []) n ≡ 0 → n ≢ m
-not_first n m none same =
-    let none_here : times_in_hand (n ∷ []) n ≡ 0 = subst (λ (k : ℕ). times_in_hand (k ∷ []) n ≡ 0) (sym same) none in
-    absurd (omega (arith, none_here, times_first [] n))
+not_among : (ring size n : ℕ) → times_in_hand (ring_blocks ring size) n ≡ 0 → is_ring_block ring size n ≡ false
+not_among ring size n none = elim (cases_Bool (is_ring_block ring size n)) [
+  | inl is ↦ absurd (omega (arith, none, rw is at (ring_block_times ring size n)))
+  | inr other ↦ other
+]
 
 -- a free block may be lent
 pub may_lend : (a : Numbers) (v : Receive) (b : Block) → is_free a b.number ≡ true → AreOut a (blocks_out v)
@@ -31,10 +35,10 @@ may_lend a v b free out low room whole =
     let none : times_in_hand (blocks_out v) b.number ≡ 0 = out_free a (blocks_out v) b.number out free in
     let parts = times_out l v.stage b.number in
     let slots : times_in_hand l.blocks b.number ≡ 0 = omega (arith, none, parts) in
-    let ring : times_in_hand (l.ring ∷ []) b.number ≡ 0 = omega (arith, none, parts) in
+    let ring : times_in_hand (ring_blocks l.ring l.size) b.number ≡ 0 = omega (arith, none, parts) in
     record {
       low = low;
-      not_ring = not_first b.number l.ring ring;
+      not_ring = not_among l.ring l.size b.number ring;
       apart = λ k below. none_of l.blocks b.number k slots below;
       room = room;
       whole = whole;

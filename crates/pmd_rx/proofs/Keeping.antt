@@ -3,6 +3,7 @@ use Rattle.std.proofs.Common.{◌≡◌, ℕ, ◌+◌, ◌<◌, Bool, true, fals
 use Rattle.nic_device.specs.DmaArena.Block.{Block}
 use Rattle.nic_device.specs.DmaArena.Numbers.{Numbers}
 use Rattle.nic_device.specs.DmaArena.Whereabouts.{times_in_hand}
+use Rattle.pmd_seam.specs.Slots.{ring_blocks}
 use Rattle.pmd_seam.proofs.Exchanging.{exchanges_both}
 use Rattle.pmd_seam.proofs.Outside.{times-append, times-cons}
 use Rattle.pmd_rx.specs.Keeping.{Keeps, KeepsAt, fresh_block, block_in, lent_at, out_at, blocks_out}
@@ -12,13 +13,13 @@ use Rattle.pmd_rx.specs.Shown.{CanLook, HasSeen}
 -- how often a block is out, by where it is
 pub times_out : (l : Layout) (s : Stage) (k : ℕ)
     → times_in_hand (out_at l s) k ≡ times_in_hand l.blocks k + (times_in_hand (fresh_block s) k
-    + times_in_hand (l.ring ∷ []) k) + times_in_hand (block_in (held_by s)) k
+    + times_in_hand (ring_blocks l.ring l.size) k) + times_in_hand (block_in (held_by s)) k
 times_out l s k =
     omega (
       arith,
       times-append (lent_at l s) (block_in (held_by s)) k,
-      times-append l.blocks (fresh_block s ++ l.ring ∷ []) k,
-      times-append (fresh_block s) (l.ring ∷ []) k,
+      times-append l.blocks (fresh_block s ++ ring_blocks l.ring l.size) k,
+      times-append (fresh_block s) (ring_blocks l.ring l.size) k,
     )
 
 -- nothing changed, or calls follow each other

@@ -3,6 +3,7 @@ use Rattle.std.specs.Prelude.{ℕ, ◌≡◌, ◌==◌, ◌+◌, ◌<◌, Bool, 
 use Rattle.std.specs.List.{list_any}
 use Rattle.nic_device.specs.DmaArena.Numbers.{Numbers, is_free, with_free}
 use Rattle.pmd_seam.specs.Home.{Exchanges}
+use Rattle.pmd_seam.specs.Slots.{ring_blocks}
 use Rattle.pmd_seam.specs.declared.fault.PmdFault.{PmdFault}
 use Rattle.pmd_seam.specs.declared.packet.Packet.{Packet}
 use Rattle.pmd_rx.specs.Receive.{Receive, Layout, Stage, Looks, Sees, Holding, Lent, Named, held, held_by, extended}
@@ -20,9 +21,9 @@ abbrev pub block_in : Option Packet → List ℕ
 block_in None = []
 block_in (Some p) = p.buf.number ∷ []
 
--- the blocks that the driver has lent: those that stand in the ring, a fresh one, and the ring's
+-- the blocks that the driver has lent: those that stand in the ring, a fresh one, and those that the ring is in
 abbrev pub lent_at : Layout → Stage → List ℕ
-lent_at l s = l.blocks ++ (fresh_block s ++ l.ring ∷ [])
+lent_at l s = l.blocks ++ (fresh_block s ++ ring_blocks l.ring l.size)
 
 -- all that it has: those, and the block of the packet that it holds
 abbrev pub out_at : Layout → Stage → List ℕ
@@ -31,7 +32,7 @@ out_at l s = lent_at l s ++ block_in (held_by s)
 abbrev pub lent_of : Receive → List ℕ
 lent_of v = lent_at v.layout v.stage
 
--- whether the driver has a block lent: it is the ring's, one of its slots', or a fresh one
+-- whether the driver has a block lent: it is one of the ring's, of its slots', or a fresh one
 abbrev pub has_lent : Receive → ℕ → Bool
 has_lent v number = list_any (λ b. number == b) (lent_of v)
 

@@ -1,5 +1,5 @@
 -- What a driver knows of its receive ring, and how that follows from its own calls.
-use Rattle.std.specs.Prelude.{ℕ, ◌≡◌, ◌≢◌, ◌+◌, ◌*◌, ◌<◌, ◌&&◌, List, [], ◌∷◌, ◌++◌, length, drop, slice_index, Option, Some, None, if◌then◌else◌}
+use Rattle.std.specs.Prelude.{ℕ, ◌≡◌, ◌≢◌, ◌+◌, ◌*◌, ◌<◌, ◌&&◌, false, List, [], ◌∷◌, ◌++◌, length, drop, slice_index, Option, Some, None, if◌then◌else◌}
 use Rattle.nic_device.specs.DmaArena.Block.{Block}
 use Rattle.nic_device.specs.DmaRing.Descriptor.{second_half, first_half, of_halves}
 use Rattle.nic_device.specs.DmaRing.Driver.{posted, rss_in, hash_in}
@@ -11,7 +11,7 @@ use Rattle.nic_device.specs.declared.event.Port.{Port}
 use Rattle.nic_device.specs.declared.event.Reply.{Reply}
 use Rattle.nic_device.specs.declared.event.Reply.TheVariants as reply
 use Rattle.pmd_seam.specs.Packet.{Kept, kept_of}
-use Rattle.pmd_seam.specs.Slots.{wrapped, descriptor_in}
+use Rattle.pmd_seam.specs.Slots.{wrapped, descriptor_in, is_ring_block}
 use Rattle.pmd_seam.specs.declared.packet.Packet.{Packet}
 
 -- the packet in a block, with what the two halves of its descriptor tell
@@ -28,8 +28,8 @@ pub data Stage : Type 0 where
   Lent : Option Packet → ℕ → Stage
   Named : Option Packet → ℕ → Stage
 
--- the ring: the port, the number that the tail's register has there, the block that the ring is in, its number of
--- slots, the slot to look at next, and the blocks of the slots from there on up to the tail
+-- the ring: the port, the number that the tail's register has there, the block that the ring begins with, its number
+-- of slots, the slot to look at next, and the blocks of the slots from there on up to the tail
 pub record Layout : Type 0 where
   pub port : Port
   pub tail : ℕ
@@ -139,10 +139,11 @@ drive v e r = v
 
 -- what the driver may do next: each event belongs to a stage, and reads nothing of the device
 
--- a block that may be lent: of 2,048 bytes, and none of those that stand in the ring, which has a vacant slot to spare
+-- a block that may be lent: of 2,048 bytes, none of those that the ring is in, and none of those that stand in it. The
+-- ring has a vacant slot to spare
 pub record MayLend (l : Layout) (b : Block) : Type 0 where
   pub low : b.number < 65536
-  pub not_ring : b.number ≢ l.ring
+  pub not_ring : is_ring_block l.ring l.size b.number ≡ false
   pub apart : (k : ℕ) → k < length l.blocks → block_at l k ≢ b.number
   pub room : length l.blocks + 1 < l.size
   pub whole : length b.bytes ≡ 2048

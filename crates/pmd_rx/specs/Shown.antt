@@ -1,6 +1,7 @@
 -- The driver's receive ring as its code keeps it.
 use Rattle.std.specs.Prelude.{ℕ, ◌≡◌, ◌+◌, ◌<◌, ◌≤◌, List, Bool, false, length, Option, Some, None, IsSome, ⊤}
 use Rattle.pmd_seam.specs.Accesses.{IsWritten}
+use Rattle.pmd_seam.specs.Slots.{blocks_for}
 use Rattle.pmd_seam.specs.Made.{AddsSome}
 use Rattle.pmd_seam.specs.declared.fault.PmdFault.{PmdFault}
 use Rattle.pmd_seam.specs.declared.fault.PmdFault.TheVariants as fault
@@ -35,12 +36,12 @@ HasRoom at.Refills size blocks = ⊤
 HasRoom (at.Lent block) size blocks = (length blocks + 1 < size) × (block < 65536)
 HasRoom (at.Named block) size blocks = (length blocks + 1 < size) × (block < 65536)
 
--- a ring of 8 to 128 slots, in one block of bus memory
+-- a ring of 8 to 1,024 slots, in blocks of bus memory that follow one another
 pub record IsLaidOut (l : Layout) : Type 0 where
   pub some : 8 ≤ l.size
-  pub few : l.size ≤ 128
+  pub few : l.size ≤ 1024
   pub next : l.next < l.size
-  pub ring : l.ring < 65536
+  pub ring : l.ring + blocks_for l.size ≤ 65536
   pub room : length l.blocks < l.size
 
 -- the driver looks at the next slot

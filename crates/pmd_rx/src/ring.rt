@@ -1,16 +1,18 @@
 //! The receive ring as the driver keeps it: where it is between two of its calls, and which blocks it has.
 
 ghost use Rattle.std.specs.Prelude.{◌≡◌, ◌<◌, ◌≤◌, ◌+◌, ◌++◌, ◌∷◌, [], ◌↔◌, true, false, length, option_to_list, IfOk, IfErr, IfSome, OnOk, OnErr};
+ghost use Rattle.std.specs.List.{range_with_len};
 ghost use Rattle.std.specs.VecDeque.{deque_len, deque_capacity};
 ghost use Rattle.nic_device.specs.DmaArena.Numbers.{is_own, is_free};
 ghost use Rattle.pmd_seam.specs.Home.{AreOut};
+ghost use Rattle.pmd_seam.specs.Slots.{blocks_for, ring_blocks};
 ghost use Rattle.nic_device.specs.DmaArena.Whereabouts.{times_in_hand};
 ghost use Rattle.pmd_rx.specs.Keeping.{blocks_out, lent_of, fresh_block, block_in, with_home};
 ghost use Rattle.pmd_rx.specs.Receive.{at_start, held_by};
 ghost use Rattle.pmd_rx.specs.Shown.{CanLook, IsHolding, HasLent, HasNamed};
 
 use nic_device::{Arena, Port};
-use pmd_seam::{Packet, Reclaim, Record, give_packet};
+use pmd_seam::{Packet, Reclaim, Record, blocks_for, give_packet, is_ring_block};
 use std::alloc::Global;
 use std::collections::VecDeque;
 use std::marker::Model;
@@ -86,12 +88,12 @@ impl Model for ReceiveRing {
 }
 
 impl ReceiveRing {
-    /// A ring of 8 to 128 slots, in a block that is lent, as its queue goes on: nothing is posted. `tail` is the number
-    /// of the tail's register at the port.
+    /// A ring of 8 to 1,024 slots, in blocks that are lent, from the block `ring` on, as its queue goes on: nothing is
+    /// posted. `tail` is the number of the tail's register at the port.
     pub fn new(alloc: Global, port: Port, tail: u32, ring: u32, size: u16) -> ReceiveRing
         requires some { 8 ≤ size }
-        requires few { size ≤ 128 }
-        requires ring { ring < 65536 }
+        requires few { size ≤ 1024 }
+        requires ring { ring + blocks_for size ≤ 65536 }
         ensures { result ≡ at_start port tail ring size }
     {
         ReceiveRing {
@@ -131,12 +133,20 @@ impl ReceiveRing {
 }
 
 impl ReceiveRing {
-    /// Whether the ring has the block of this number: its own block, one that stands in it, a fresh one that is lent,
-    /// or that of the packet that is held.
+    /// Whether the ring has the block of this number: one that the ring is in, one that stands in it, a fresh one that
+    /// is lent, or that of the packet that is held.
     pub fn has(&self, block: u32) -> bool
         ensures { (result ≡ true) ↔ (0 < times_in_hand (blocks_out self.now) block) }
     {
-        self.ring == block || self.stands(block) || self.lends(block) || self.holds(block)
+        self.is_in(block) || self.stands(block) || self.lends(block) || self.holds(block)
+    }
+
+    /// Whether the ring is in the block.
+    fn is_in(&self, block: u32) -> bool
+        ensures { (result ≡ true) ↔ (0 < times_in_hand
+            (ring_blocks self.now.layout.ring self.now.layout.size) block) }
+    {
+        is_ring_block(self.ring, self.size, block)
     }
 
     /// Whether the block stands in the ring.
@@ -181,7 +191,8 @@ impl ReceiveRing {
     {
         let mut ended = self;
         let fresh = ended.fresh();
-        if ended.blocks.reserve(2).is_err() {
+        let many = blocks_for(ended.size);
+        if ended.blocks.reserve(many as usize + 1).is_err() {
             return Err(ended);
         }
         let ReceiveRing {
@@ -195,7 +206,7 @@ impl ReceiveRing {
             at: _,
             held,
         } = ended;
-        let lent = with_ring(blocks, fresh, ring);
+        let lent = with_ring(blocks, fresh, ring, many);
         give_held(arena, held);
         Ok((Reclaim::of(lent), handed))
     }
@@ -211,24 +222,34 @@ impl ReceiveRing {
     }
 }
 
-/// The blocks that stand in a ring, a fresh one, and the ring's own. There is room for two.
-fn with_ring(blocks: VecDeque<u32>, fresh: Option<u32>, ring: u32) -> VecDeque<u32>
-    requires { deque_len blocks + 2 ≤ deque_capacity blocks }
-    ensures items { result.items ≡ blocks.items ++ (option_to_list fresh ++ ring ∷ []) }
-    ensures few { length result.items ≤ length blocks.items + 2 }
+/// The blocks that stand in a ring, a fresh one, and so many that the ring is in, from `ring` on. There is room for
+/// them.
+fn with_ring(blocks: VecDeque<u32>, fresh: Option<u32>, ring: u32, many: u32) -> VecDeque<u32>
+    requires many { many ≤ 8 }
+    requires ring { ring + many ≤ 65536 }
+    requires room { deque_len blocks + many < deque_capacity blocks }
+    ensures items { result.items ≡ blocks.items ++ (option_to_list fresh ++ range_with_len ring many) }
+    ensures few { length result.items ≤ length blocks.items + 9 }
+{
+    let mut lent = with_fresh(blocks, fresh);
+    for place in 0..many {
+        lent.push_back_reserved(ring + place);
+    }
+    lent
+}
+
+/// The blocks that stand in a ring, and a fresh one. There is room for it.
+fn with_fresh(blocks: VecDeque<u32>, fresh: Option<u32>) -> VecDeque<u32>
+    requires { deque_len blocks < deque_capacity blocks }
+    ensures items { result.items ≡ blocks.items ++ option_to_list fresh }
+    ensures len { deque_len result ≤ deque_len blocks + 1 }
+    ensures capacity { deque_capacity result ≡ deque_capacity blocks }
 {
     let mut lent = blocks;
-    match fresh {
-        Some(block) => {
-            lent.push_back_reserved(block);
-            lent.push_back_reserved(ring);
-            lent
-        }
-        None => {
-            lent.push_back_reserved(ring);
-            lent
-        }
+    if let Some(block) = fresh {
+        lent.push_back_reserved(block);
     }
+    lent
 }
 
 /// Gives the block of the packet that is held, where one is, to the arena.

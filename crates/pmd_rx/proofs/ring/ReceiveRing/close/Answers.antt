@@ -24,8 +24,9 @@ returns-clause-out c =
 pub returns-clause-way : goal.returns-clause-way
 returns-clause-way c =
     let lent : c.with_ring-lent.result.items ≡ lent_of c.args.self =
-    lent_is c.args.self _ _ _ _ _ c.with_ring-lent.ensures.items c.reserve.ensures.items c.fresh-fresh.ensures
-    (ap (λ (v : Receive). v.layout.blocks) c.ended.view_is) (ap (λ (v : Receive). v.layout.ring) c.ended.view_is) in
+    lent_is c.args.self _ _ _ _ _ _ _ c.with_ring-lent.ensures.items c.reserve.ensures.items c.fresh-fresh.ensures
+    (ap (λ (v : Receive). v.layout.blocks) c.ended.view_is) (ap (λ (v : Receive). v.layout.ring) c.ended.view_is)
+    c.blocks_for-many.ensures.blocks (ap (λ (v : Receive). v.layout.size) c.ended.view_is) in
     c.of.ensures ∙ ap (λ (xs : List ℕ). let way : Homebound = record { lent = xs; lost = 0 } in way) lent
 
 pub returns-clause-home : goal.returns-clause-home

@@ -1,13 +1,21 @@
 -- Blocks that are drawn and lent in turn.
 use Rattle.std.proofs.Common.{◌≡◌, ℕ, zero, suc, ◌+◌, ◌-◌, ◌<◌, true, false, List, [], ◌∷◌, ◌++◌, None, refl, sym, ap, subst, ◌∙◌, arith}
 use Rattle.std.specs.List.{range_with_len}
+use Rattle.std.proofs.lemmas.List.{append-nil}
 use Rattle.nic_device.specs.DmaArena.Block.{zero_block}
 use Rattle.nic_device.specs.DmaArena.Numbers.{Numbers, is_free, with_free}
+use Rattle.nic_device.specs.DmaRing.declared.dir.Dir.{Dir}
+use Rattle.nic_device.specs.DmaRing.declared.dir.Dir.TheVariants.{Rx, Tx}
 use Rattle.pmd_rx.specs.DeviceLock.declared.entry.Call.{Call}
+use Rattle.pmd_rx.specs.DeviceLock.declared.fault.CallFault.{CallFault}
 use Rattle.pmd_rx.specs.PmdSeam.Accesses.{IsLent}
 use Rattle.pmd_rx.specs.PmdSeam.Home.{IsDrawn}
 use Rattle.pmd_rx.proofs.PmdSeam.Rings.{range_more}
+use Rattle.pmd_rx.specs.PmdSeam.Named.{AtPort}
+use Rattle.pmd_rx.specs.PmdSeam.QueueMade.{StopsBy}
+use Rattle.pmd_rx.specs.PmdSeam.Sides.{ring_words}
 use Rattle.pmd_rx.specs.PmdSeam.declared.fault.PmdFault.{PmdFault}
+use Rattle.pmd_rx.specs.PmdSeam.declared.fault.PmdFault.TheVariants as fault
 use Rattle.pmd.specs.Runs.{IsFreeRun}
 use Rattle.pmd.specs.Starting.{LendsEach, LendingFails, StopsLending}
 use Rattle.pmd.proofs.Starting.{drawn_keeps, none_behind}
@@ -38,16 +46,17 @@ lends_next old mid new first k is lent =
     (lends_more old mid new (range_with_len first k) (first + k) is lent)
 
 -- those that were lent, the next one, and the rest
-pub split_at : (first k rest : ℕ)
-    → range_with_len first k ++ (first + k) ∷ range_with_len (first + k + 1) rest
-    ≡ range_with_len first (k + suc rest)
-split_at first zero rest =
+split_at : (first k rest many : ℕ) → k + (rest + 1) ≡ many
+    → range_with_len first k ++ (first + k) ∷ range_with_len (first + k + 1) rest ≡ range_with_len first many
+split_at first zero rest many is =
     let at : first + 0 ≡ first = omega arith in
-    ap (λ (n : ℕ). n ∷ range_with_len (n + 1) rest) at
-split_at first (suc k) rest =
+    let all : suc rest ≡ many = omega (arith, is) in
+    ap (λ (n : ℕ). n ∷ range_with_len (n + 1) rest) at ∙ ap (λ (n : ℕ). range_with_len first n) all
+split_at first (suc k) rest zero is = absurd (omega (arith, is))
+split_at first (suc k) rest (suc many) is =
     let at : first + suc k ≡ first + 1 + k = omega arith in
     ap (λ (n : ℕ). first ∷ (range_with_len (first + 1) k ++ n ∷ range_with_len (n + 1) rest)) at
-    ∙ ap (λ (l : List ℕ). first ∷ l) (split_at (first + 1) k rest)
+    ∙ ap (λ (l : List ℕ). first ∷ l) (split_at (first + 1) k rest many (omega (arith, is)))
 
 -- the next of a run of free ones is free still
 pub next_free : (a : Numbers) (first count k : ℕ) (b : Numbers) → IsDrawn a (range_with_len first k) b → k < count
@@ -62,14 +71,20 @@ pub stops_next : (f : PmdFault) (first count k : ℕ) (old : List Call) (a : Num
     → LendingFails f mid new (zero_block (first + k)) → out ≡ range_with_len first k
     → StopsLending f (range_with_len first count) old a new b out
 stops_next f first count k old a mid b new out below lent drawn free fails is =
-    let left : k + suc (count - k - 1) ≡ count = omega (arith, below) in
+    let left : k + (count - k - 1 + 1) ≡ count = omega (arith, below) in
     subst (λ (l : List ℕ). StopsLending f (range_with_len first count) old a new b l) (sym is) (record {
       next = first + k;
       rest = range_with_len (first + k + 1) (count - k - 1);
-      parts = split_at first k (count - k - 1) ∙ ap (λ (n : ℕ). range_with_len first n) left;
+      parts = split_at first k (count - k - 1) count left;
       drawn = drawn;
       free = free;
       mid = mid;
       lent = lent;
       fails = fails;
     })
+
+-- no word was written for want of memory
+pub unwritten : (q : AtPort) (side : Dir) (ring size : ℕ) (made : List Call) (refusal : CallFault (Unit {0}))
+    → StopsBy (fault.Call refusal) q made made (ring_words side ring size)
+unwritten q Rx ring size made refusal = ([], _, _, made, refl, refl, ([], sym (append-nil made), tt))
+unwritten q Tx ring size made refusal = ([], _, _, made, refl, refl, ([], sym (append-nil made), tt))

@@ -21,7 +21,7 @@ pub mod Lending
 pub mod Living
 pub mod ReapedCounted
 pub mod Rising
-pub mod Runs
+pub mod Searching
 pub mod Sending
 pub mod Sent
 pub mod SentCounted

@@ -7,7 +7,7 @@ use nic_device::Arena;
 
 /// The lowest number from `from` on from which so many blocks are free. `from` isn't below the arena's numbers.
 pub(crate) fn run_from(arena: &Arena, from: u32, count: u32) -> Option<u32>
-    requires from { (arena.now.first ≤ from) × (from ≤ 65536) }
+    requires from { arena.now.first ≤ from }
     requires few { count ≤ 8 }
     ensures run { result ≡ run_from arena.now count from }
     ensures found { IfSome result (λ first. (from ≤ first) × (first + count ≤ 65536)) }

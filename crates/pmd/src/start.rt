@@ -47,13 +47,14 @@ fn is_size(size: u16) -> bool
 }
 
 /// Where a start makes its rings: the first block of each.
+#[derive(Clone, Copy)]
 struct Places {
     receive: u32,
     transmit: u32,
 }
 
 /// The lowest two runs of as many free blocks as a ring has, one for each ring, where enough blocks are free.
-fn places(arena: &Arena, size: u16) -> Option<Places>
+fn find_places(arena: &Arena, size: u16) -> Option<Places>
     requires { (8 ≤ size) × (size ≤ 1024) }
     ensures some { IsSome result ↔ (has_room arena.now size ≡ true) }
     ensures runs { IfSome result (λ at. AreRuns arena.now (blocks_for size) at.receive at.transmit) }
@@ -81,7 +82,7 @@ fn named(arena: &Arena, port: Port, queue: u16, size: u16) -> Result<(Queue, Pla
     if !is_size(size) {
         return Err(PmdFault::BadSize);
     }
-    let Some(places) = places(arena, size) else {
+    let Some(places) = find_places(arena, size) else {
         return Err(PmdFault::NoBuffer);
     };
     match Queue::new(port, queue) {

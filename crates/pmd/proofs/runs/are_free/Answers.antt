@@ -1,6 +1,6 @@
 use Rattle.std.proofs.Common.{◌≡◌, ℕ, ◌+◌, ◌-◌, ◌&&◌, Bool, sym, ap, ◌∙◌, refl, arith, add-zero}
 use Rattle.pmd.specs.Runs.{are_free}
-use Rattle.pmd.proofs.Runs.{are_free-none, are_free-step}
+use Rattle.pmd.proofs.Searching.{are_free-none, are_free-step}
 use Rattle.pmd.proofs.runs.are_free.Goals as goal
 
 pub loop-k-init : goal.loop-k-init

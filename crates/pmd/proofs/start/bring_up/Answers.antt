@@ -1,4 +1,5 @@
 use Rattle.std.proofs.Common.{[], ◌<◌, ◌∙◌, inl, inr, sym, ap, subst, arith}
+use Rattle.nic_device.specs.DmaRing.declared.dir.Dir.TheVariants.{Tx}
 use Rattle.pmd.specs.Halted.{Halted}
 use Rattle.pmd_rx.specs.PmdSeam.Slots.{blocks_for}
 use Rattle.pmd_rx.specs.Keeping.{blocks_out}
@@ -108,9 +109,9 @@ returns-in-Err-go_on-clause-stops g c = inr (inr (record {
   sender = c.in-Ok-transmit_ring.transmit;
   receive = c.in-Ok.ensures.ready;
   transmit = c.in-Ok-transmit_ring.ensures.ready;
-  fails = rw c.half_started-in-Err-go_on.ensures.fault c.in-Err-go_on.ensures.failed;
-  left = subst (λ (h : Halted). IsHalfStarted c.args.queue h c.half_started-in-Err-go_on.result.rest)
-      c.of_rings-halted.ensures c.half_started-in-Err-go_on.ensures.rest;
+  fails = rw c.half_started.ensures.fault c.in-Err-go_on.ensures.failed;
+  left = subst (λ (h : Halted). IsHalfStarted c.args.queue h c.half_started.result.rest)
+      c.of_rings-halted.ensures c.half_started.ensures.rest;
 }))
 
 pub go_on-requires-clause-enough : goal.go_on-requires-clause-enough
@@ -132,11 +133,11 @@ returns-in-Err-clause-late g c =
 
 pub returns-in-Err-transmit_ring-clause-late : goal.returns-in-Err-transmit_ring-clause-late
 returns-in-Err-transmit_ring-clause-late g c =
-    rw c.left_after_one.ensures.fault (preparing_late _ _ _ _ _ _ _ _ _ c.in-Err-transmit_ring.ensures.failed)
+    rw c.left_after_one.ensures.fault (preparing_late _ _ Tx _ _ _ _ _ _ c.in-Err-transmit_ring.ensures.failed)
 
 pub returns-in-Err-go_on-clause-late : goal.returns-in-Err-go_on-clause-late
 returns-in-Err-go_on-clause-late g c =
-    rw c.half_started-in-Err-go_on.ensures.fault c.in-Err-go_on.ensures.late
+    rw c.half_started.ensures.fault c.in-Err-go_on.ensures.late
 
 pub returns-in-Err-clause-left : goal.returns-in-Err-clause-left
 returns-in-Err-clause-left g c = before_handed _ _ _ _ c.left_before_one.ensures.rest
@@ -156,7 +157,7 @@ returns-in-Err-go_on-clause-left g c =
     half_handed _ _ _
     (ap (λ (h : Halted). h.handed) c.of_rings-halted.ensures
     ∙ (c.go_on.ensures.handed ∙ ready_handed _ _ _ _ _ _ _ c.in-Ok.ensures.ready))
-    c.half_started-in-Err-go_on.ensures.rest
+    c.half_started.ensures.rest
 
 pub returns-in-Err-clause-whole : goal.returns-in-Err-clause-whole
 returns-in-Err-clause-whole g c =
@@ -181,7 +182,7 @@ returns-in-Err-go_on-clause-whole g c =
     (rw c.of_rings-halted.ensures
     (filled_all _ _ _ _ _ _ _ _ _ _ _ _
     c.in-Ok.ensures.ready c.in-Ok-transmit_ring.ensures.ready c.go_on.ensures.keeps))
-    c.half_started-in-Err-go_on.ensures.rest
+    c.half_started.ensures.rest
 
 pub returns-in-Err-clause-refusal : goal.returns-in-Err-clause-refusal
 returns-in-Err-clause-refusal g c = rw c.left_before_one.ensures.fault c.in-Err.ensures.refusal
@@ -192,4 +193,4 @@ returns-in-Err-transmit_ring-clause-refusal g c =
 
 pub returns-in-Err-go_on-clause-refusal : goal.returns-in-Err-go_on-clause-refusal
 returns-in-Err-go_on-clause-refusal g c =
-    rw c.half_started-in-Err-go_on.ensures.fault c.in-Err-go_on.ensures.refusal
+    rw c.half_started.ensures.fault c.in-Err-go_on.ensures.refusal

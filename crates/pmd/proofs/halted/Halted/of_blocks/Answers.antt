@@ -17,7 +17,7 @@ pub invariant_of-result : goal.invariant_of-result
 invariant_of-result c =
     let small : length c.args.arena.free < 4294967296 = omega (arith, c.count-count.ensures, c.count-count.type_inv) in
     let lent : List ℕ = c.args.lent.items in
-    rw (c.of.ensures, c.new.ensures)
-    (first_halted c.args.arena small (lent ++ []) None [] []
+    rw (c.of.ensures, c.new-2.ensures)
+    (first_halted c.args.arena small (lent ++ []) None c.new.result.items c.new-3.result.items
     (out_fewer c.args.arena lent ((lent ++ []) ++ []) c.requires
     (λ k. omega (arith, times-append (lent ++ []) [] k, times-append lent [] k))))

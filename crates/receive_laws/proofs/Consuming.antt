@@ -1,16 +1,17 @@
 -- The ring without its next slot.
-use Rattle.std.proofs.Common.{◌≡◌, ◌≢◌, ℕ, ◌+◌, ◌*◌, ◌<◌, ◌≤◌, List, length, drop, sym, ap, ◌∙◌, subst, arith}
+use Rattle.std.proofs.Common.{◌≡◌, ◌≢◌, ℕ, ◌+◌, ◌*◌, ◌<◌, ◌≤◌, false, List, length, drop, sym, ap, ◌∙◌, subst, arith}
 use Rattle.std.specs.FinMap as map
 use Rattle.std.proofs.lemmas.List.{get_or-drop, length-drop}
 use Rattle.nic_device.specs.DmaArena.Memory.{Memory}
 use Rattle.nic_device.proofs.DmaArena.Bus.{get-remove_other}
 use Rattle.nic_device.specs.RegisterLaws.Sides.{ReceiveQueue}
-use Rattle.pmd_rx.specs.PmdSeam.Slots.{wrapped}
+use Rattle.pmd_rx.specs.PmdSeam.Slots.{wrapped, is_ring_block}
 use Rattle.pmd_rx.proofs.PmdSeam.Places.{next_below, wrapped_next}
+use Rattle.pmd_rx.proofs.PmdSeam.Rings.{ring_block_apart}
 use Rattle.pmd_rx.specs.Receive.{Layout, consumed, slot_at, descriptor_at, block_at}
 use Rattle.receive_laws.specs.Joint.{IsPosted, IsFilled, IsRing, IsSetUp, HasSlots}
 use Rattle.receive_laws.specs.Pieces.{Piece, no_piece, piece_at}
-use Rattle.receive_laws.proofs.Kept.{same_has, filled_kept, posted_kept}
+use Rattle.receive_laws.proofs.Kept.{SameRing, same_has, filled_kept, posted_kept}
 
 slot_on : (l : Layout) (k : ℕ) → IsRing l → k + 1 < l.size → slot_at (consumed l) k ≡ slot_at l (1 + k)
 slot_on l k ring h =
@@ -41,8 +42,10 @@ module _ (m : Memory) (l : Layout) (here : List Piece) (ring : IsRing l) (h : Ha
   desc_on : (k : ℕ) → k + 1 < l.size → descriptor_at (consumed l) k ≡ descriptor_at l (1 + k)
   desc_on k i = ap (λ x. 2048 * l.ring + 16 * x) (slot_on l k ring i)
 
-  kept_ring : map.get n l.ring ≡ map.get m l.ring
-  kept_ring = get-remove_other m (block_at l 0) l.ring (λ e. ring.not_ring 0 outs (sym e))
+  kept_ring : SameRing l m n
+  kept_ring k i =
+      get-remove_other m (block_at l 0) (l.ring + k)
+      (λ e. ring_block_apart l.ring l.size (block_at l 0) (ring.not_ring 0 outs) k i (sym e))
 
   kept_block : (k : ℕ) → 0 < k → k < length l.blocks → map.get n (block_at l k) ≡ map.get m (block_at l k)
   kept_block k i j =
@@ -83,7 +86,8 @@ module _ (m : Memory) (l : Layout) (here : List Piece) (ring : IsRing l) (h : Ha
         room = omega (arith, less, room);
         low = λ k i. subst (λ b. b < 65536) (sym (block_on k)) (ring.low (1 + k) (omega (arith, less, i)));
         not_ring = λ k i.
-            subst (λ b. b ≢ l.ring) (sym (block_on k)) (ring.not_ring (1 + k) (omega (arith, less, i)));
+            subst (λ b. is_ring_block l.ring l.size b ≡ false) (sym (block_on k))
+            (ring.not_ring (1 + k) (omega (arith, less, i)));
         apart = λ i j a b ne.
             subst (λ x. x ≢ block_at (consumed l) j) (sym (block_on i))
             (subst (λ x. block_at l (1 + i) ≢ x) (sym (block_on j))
@@ -95,7 +99,7 @@ module _ (m : Memory) (l : Layout) (here : List Piece) (ring : IsRing l) (h : Ha
   slots_on =
       let within = h.within in
       record {
-        there = same_has m n l.ring kept_ring ∙ h.there;
+        there = λ k i. same_has m n (l.ring + k) (kept_ring k i) ∙ h.there k i;
         within = omega (arith, fewer, less, within);
         filled = filled_on;
         posted = posted_on;

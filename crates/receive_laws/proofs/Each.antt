@@ -1,5 +1,5 @@
 -- Facts of each block that the driver has lent for receiving.
-use Rattle.std.proofs.Common.{ℕ}
+use Rattle.std.proofs.Common.{ℕ, ◌+◌}
 use Rattle.pmd_rx.specs.Receive.{Stage, Looks, Sees, Holding, Lent, Named, Receive, block_at}
 use Rattle.receive_laws.specs.Steps.{Each, IfFresh}
 
@@ -21,14 +21,14 @@ fresh_of (Named o b) P f = f b
 
 pub each_map : (v : Receive) (P Q : ℕ → Type 0) → ((b : ℕ) → P b → Q b) → Each v P → Each v Q
 each_map v P Q f e = record {
-  ring = f v.layout.ring e.ring;
+  ring = λ k i. f (v.layout.ring + k) (e.ring k i);
   blocks = λ k i. f (block_at v.layout k) (e.blocks k i);
   fresh = fresh_map v.stage P Q f e.fresh;
 }
 
 pub each_of : (v : Receive) (P : ℕ → Type 0) → ((b : ℕ) → P b) → Each v P
 each_of v P f = record {
-  ring = f v.layout.ring;
+  ring = λ k i. f (v.layout.ring + k);
   blocks = λ k i. f (block_at v.layout k);
   fresh = fresh_of v.stage P f;
 }

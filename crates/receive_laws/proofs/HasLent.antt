@@ -9,7 +9,9 @@ use Rattle.nic_device.specs.DmaRing.Descriptor.{first_half, second_half}
 use Rattle.nic_device.specs.DmaRing.Receive.{is_done, ends_packet}
 use Rattle.nic_device.proofs.Cases.{either_way}
 use Rattle.pmd_rx.specs.PmdSeam.declared.packet.Packet.{Packet}
+use Rattle.pmd_rx.specs.PmdSeam.Slots.{ring_blocks}
 use Rattle.pmd_rx.specs.Keeping.{fresh_block, has_lent}
+use Rattle.pmd_rx.proofs.PmdSeam.Rings.{ring_block_among}
 use Rattle.pmd_rx.specs.Receive.{Receive, Stage, Looks, Sees, Holding, Lent, Named, MayLend, LendsNext, PeeksNext, TakesNext, looked, took, lent_one, named, moved}
 
 -- numbers among some
@@ -44,13 +46,16 @@ in_none (x ∷ xs) n none =
 
 -- what the driver has lent, after each of its calls
 
+abbrev ring_of : Receive → List ℕ
+ring_of v = ring_blocks v.layout.ring v.layout.size
+
 module _ (v : Receive) (n : ℕ) where
   abbrev pub Has : Receive → Type 0
   Has w = has_lent v n ≡ true → has_lent w n ≡ true
 
   same_stage : (stage : Stage) → fresh_block v.stage ≡ fresh_block stage → Has (record v { stage = stage })
   same_stage stage e is =
-      subst (λ (fresh : List ℕ). among (v.layout.blocks ++ (fresh ++ v.layout.ring ∷ [])) n ≡ true) e is
+      subst (λ (fresh : List ℕ). among (v.layout.blocks ++ (fresh ++ ring_of v)) n ≡ true) e is
 
   pub has_looked : (stage : Stage) (a : ℕ) → v.stage ≡ stage → PeeksNext v.layout stage a → (d : List ℕ)
       → Has (looked v d)
@@ -73,7 +78,7 @@ module _ (v : Receive) (n : ℕ) where
 
   pub has_moved : (stage : Stage) → v.stage ≡ stage → Has (moved v stage)
   has_moved (Named o b) is has =
-      subst (λ (xs : List ℕ). among xs n ≡ true) (sym (append_assoc v.layout.blocks (b ∷ []) (v.layout.ring ∷ [])))
+      subst (λ (xs : List ℕ). among xs n ≡ true) (sym (append_assoc v.layout.blocks (b ∷ []) (ring_of v)))
       (same_stage (Named o b) (ap fresh_block is) has)
   has_moved Looks is has = has
   has_moved (Sees first second) is has = has
@@ -83,11 +88,11 @@ module _ (v : Receive) (n : ℕ) where
   pub has_took : (stage : Stage) (taken : ℕ) (b : Block) → v.stage ≡ stage → TakesNext v.layout stage taken → n ≢ taken
       → Has (took v stage b)
   has_took (Sees first second) taken b is own ne has =
-      elim (in_either v.layout.blocks (v.layout.ring ∷ []) n (same_stage Looks (ap fresh_block is) has)) [
+      elim (in_either v.layout.blocks (ring_of v) n (same_stage Looks (ap fresh_block is) has)) [
         | inl slot ↦
-            in_first (drop 1 v.layout.blocks) (v.layout.ring ∷ []) n
+            in_first (drop 1 v.layout.blocks) (ring_of v) n
             (in_later v.layout.blocks n (λ e. ne (e ∙ sym own)) slot)
-        | inr ring ↦ in_last (drop 1 v.layout.blocks) (v.layout.ring ∷ []) n ring
+        | inr ring ↦ in_last (drop 1 v.layout.blocks) (ring_of v) n ring
       ]
   has_took Looks taken b is own ne has = absurd own
   has_took (Holding p) taken b is own ne has = absurd own
@@ -99,11 +104,11 @@ module _ (v : Receive) (n : ℕ) where
       → has_lent (record v { stage = Lent o b }) n ≡ true
   lends_one b o none is = elim (or_cases (n == b) (has_lent v n) is) [
     | inl same ↦
-        in_last v.layout.blocks (b ∷ v.layout.ring ∷ []) n (or_left (n == b) (among (v.layout.ring ∷ []) n) same)
-    | inr has ↦ elim (in_either v.layout.blocks (v.layout.ring ∷ []) n (same_stage Looks none has)) [
-      | inl slot ↦ in_first v.layout.blocks (b ∷ v.layout.ring ∷ []) n slot
+        in_last v.layout.blocks (b ∷ ring_of v) n (or_left (n == b) (among (ring_of v) n) same)
+    | inr has ↦ elim (in_either v.layout.blocks (ring_of v) n (same_stage Looks none has)) [
+      | inl slot ↦ in_first v.layout.blocks (b ∷ ring_of v) n slot
       | inr ring ↦
-          in_last v.layout.blocks (b ∷ v.layout.ring ∷ []) n (or_right (n == b) (among (v.layout.ring ∷ []) n) ring)
+          in_last v.layout.blocks (b ∷ ring_of v) n (or_right (n == b) (among (ring_of v) n) ring)
     ]
   ]
 
@@ -118,8 +123,8 @@ module _ (v : Receive) (n : ℕ) where
 -- a block that may be lent isn't lent yet
 pub unknown : (v : Receive) (b : Block) → fresh_block v.stage ≡ [] → MayLend v.layout b → has_lent v b.number ≡ false
 unknown v b none may =
-    subst (λ (fresh : List ℕ). among (v.layout.blocks ++ (fresh ++ v.layout.ring ∷ [])) b.number ≡ false) (sym none)
-    (list_any-append (λ (c : ℕ). b.number == c) v.layout.blocks (v.layout.ring ∷ [])
-    ∙ or_from (among v.layout.blocks b.number) (among (v.layout.ring ∷ []) b.number)
+    subst (λ (fresh : List ℕ). among (v.layout.blocks ++ (fresh ++ ring_of v)) b.number ≡ false) (sym none)
+    (list_any-append (λ (c : ℕ). b.number == c) v.layout.blocks (ring_of v)
+    ∙ or_from (among v.layout.blocks b.number) (among (ring_of v) b.number)
     (in_none v.layout.blocks b.number may.apart)
-    (or_from (b.number == v.layout.ring) false (ne_eqb b.number v.layout.ring may.not_ring) refl))
+    (ring_block_among v.layout.ring v.layout.size b.number ∙ may.not_ring))

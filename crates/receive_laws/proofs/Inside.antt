@@ -1,5 +1,5 @@
 -- A step of receiving on the driver's own queue writes into blocks that the driver has lent for it.
-use Rattle.std.proofs.Common.{◌≡◌, ℕ, ◌<◌, ◌≤◌, List, length, refl, sym, ◌∙◌, subst, arith, Ok}
+use Rattle.std.proofs.Common.{◌≡◌, ℕ, ◌/◌, ◌<◌, ◌≤◌, List, length, refl, sym, ◌∙◌, subst, arith, Ok}
 use Rattle.std.specs.Prelude.{⊤}
 use Rattle.std.proofs.lemmas.Bool.{eq-eqb}
 use Rattle.nic_device.specs.DmaArena.Block.{Block}
@@ -13,14 +13,23 @@ use Rattle.nic_device.specs.declared.event.Reply.{Reply}
 use Rattle.nic_device.specs.declared.event.Reply.TheVariants.{Wrote}
 use Rattle.history_laws.specs.Left.{Took, Rested, fill_on}
 use Rattle.history_laws.proofs.Filling.{receiving_did}
+use Rattle.pmd_rx.specs.PmdSeam.Slots.{descriptor_in}
 use Rattle.pmd_rx.specs.Receive.{Layout, slot_at, block_at}
-use Rattle.receive_laws.specs.Inside.{IsInside, PieceIsInside}
+use Rattle.receive_laws.specs.Inside.{IsInRing, IsInside, PieceIsInside}
 use Rattle.receive_laws.specs.Joint.{IsRing, IsSetUp, HasSlots}
 use Rattle.receive_laws.specs.Pieces.{Piece}
-use Rattle.receive_laws.proofs.Kept.{slot_low}
-use Rattle.receive_laws.proofs.Places.{slot_inside, bytes_inside}
+use Rattle.pmd_rx.proofs.PmdSeam.Rings.{slot_block, slot_lies}
+use Rattle.receive_laws.proofs.Kept.{slot_below}
+use Rattle.receive_laws.proofs.Places.{bytes_inside}
 use Rattle.receive_laws.proofs.Received.{slot_left}
 use Rattle.receive_laws.proofs.Receiving.{head_is, buffer_is}
+
+slot_in_ring : (ring size slot : ℕ) → slot < size → IsInRing ring size (descriptor_in ring slot)
+slot_in_ring ring size slot below = record {
+  part = slot / 128;
+  known = slot_block size slot below;
+  descriptor = slot_lies ring slot;
+}
 
 module _ (s : State) (queue : ℕ) (l : Layout) (here : List Piece) (ring : IsRing l)
     (side : IsSetUp (receive_queue_of s.registers queue) l (length here)) (h : HasSlots s.memory l here) where
@@ -34,8 +43,8 @@ module _ (s : State) (queue : ℕ) (l : Layout) (here : List Piece) (ring : IsRi
       let short : f.len ≤ 2048 = omega (arith, len, size) in
       record {
         descriptor =
-            subst (λ a. LiesIn l.ring a 16) (sym (t.desc ∙ head_is s queue l here ring side h))
-            (slot_inside l.ring (slot_at l (length here)) (slot_low l (length here) ring h.within));
+            subst (IsInRing l.ring l.size) (sym (t.desc ∙ head_is s queue l here ring side h))
+            (slot_in_ring l.ring l.size (slot_at l (length here)) (slot_below l (length here) ring h.within));
         slot = length here;
         known = room;
         bytes =

@@ -1,5 +1,5 @@
 -- What stays of the agreement where memory, the mode and the number of functions do.
-use Rattle.std.proofs.Common.{◌≡◌, ℕ, ◌+◌, ◌*◌, ◌≤◌, ◌<◌, List, length, ap, ◌∙◌, arith}
+use Rattle.std.proofs.Common.{◌≡◌, ℕ, ◌+◌, ◌*◌, ◌/◌, ◌≤◌, ◌<◌, List, length, ap, ◌∙◌, arith}
 use Rattle.std.specs.Prelude.{is_some}
 use Rattle.std.specs.FinMap as map
 use Rattle.nic_device.specs.DmaArena.Memory.{Memory, has_block, read_at, LiesIn}
@@ -9,12 +9,14 @@ use Rattle.nic_device.specs.DmaRing.Receive.{is_done, ends_packet, bytes_in}
 use Rattle.nic_device.specs.State.{State}
 use Rattle.nic_device.specs.RegisterFile.Pools.{mode_in}
 use Rattle.history_laws.proofs.SideNames.{named-same}
+use Rattle.pmd_rx.specs.PmdSeam.Slots.{EachRingBlock}
 use Rattle.pmd_rx.specs.Receive.{Layout, Stage, Looks, Sees, Holding, Lent, Named, slot_at, descriptor_at, block_at, vacant}
 use Rattle.receive_laws.specs.Joint.{IsPosted, IsFilled, IsRing, IsNamed, IsLoose, StageHolds, HasSlots}
 use Rattle.receive_laws.specs.Pieces.{Piece, piece_at}
 use Rattle.receive_laws.specs.Steps.{IfFresh}
 use Rattle.pmd_rx.proofs.PmdSeam.Places.{wrapped_below}
-use Rattle.receive_laws.proofs.Places.{slot_inside, bytes_inside}
+use Rattle.pmd_rx.proofs.PmdSeam.Rings.{each_slot_block, slot_lies}
+use Rattle.receive_laws.proofs.Places.{bytes_inside}
 
 -- a slot whose reads are the same stays what it is
 
@@ -56,17 +58,30 @@ slot_below l k ring h =
     let room = ring.room in
     wrapped_below l.size (l.next + k) (omega arith)
 
-pub slot_low : (l : Layout) (k : ℕ) → IsRing l → k ≤ length l.blocks → slot_at l k < 128
+pub slot_low : (l : Layout) (k : ℕ) → IsRing l → k ≤ length l.blocks → slot_at l k < 1024
 slot_low l k ring h =
     let slot = slot_below l k ring h in
     let few = ring.few in
     omega (arith, slot, few)
 
--- the same block of the ring, and the same blocks of slots
-module _ (l : Layout) (m n : Memory) (ring : IsRing l) (same : map.get n l.ring ≡ map.get m l.ring) where
+pub ring_low : (l : Layout) → IsRing l → l.ring < 65536
+ring_low l ring =
+    let some = ring.some in
+    let low = ring.ring in
+    omega (arith, some, low)
+
+-- the same blocks of the ring
+abbrev pub SameRing : Layout → Memory → Memory → Type 0
+SameRing l m n = EachRingBlock l.ring l.size (λ b. map.get n b ≡ map.get m b)
+
+-- and the same blocks of slots
+module _ (l : Layout) (m n : Memory) (ring : IsRing l) (same : SameRing l m n) where
   pub same_slot : (k : ℕ) → k ≤ length l.blocks → read_at n (descriptor_at l k) 16 ≡ read_at m (descriptor_at l k) 16
   same_slot k within =
-      same_read m n l.ring (descriptor_at l k) 16 same (slot_inside l.ring (slot_at l k) (slot_low l k ring within))
+      let slot = slot_at l k in
+      same_read m n (l.ring + slot / 128) (descriptor_at l k) 16
+      (each_slot_block l.ring l.size (λ b. map.get n b ≡ map.get m b) same slot (slot_below l k ring within))
+      (slot_lies l.ring slot)
 
   pub posted_kept : (k b : ℕ) → k ≤ length l.blocks → map.get n b ≡ map.get m b → IsPosted m (descriptor_at l k) b
       → IsPosted n (descriptor_at l k) b
@@ -84,7 +99,7 @@ module _ (l : Layout) (m n : Memory) (ring : IsRing l) (same : map.get n l.ring 
   slots_kept here blocks h =
       let within = h.within in
       record {
-        there = same_has m n l.ring same ∙ h.there;
+        there = λ k i. same_has m n (l.ring + k) (same k i) ∙ h.there k i;
         within = h.within;
         filled = λ k i.
             filled_kept k (block_at l k) (piece_at here k) (omega (arith, within)) (blocks k (omega (arith, within)))

@@ -1,5 +1,5 @@
 -- A fresh block is lent.
-use Rattle.std.proofs.Common.{◌≡◌, ℕ, true, List, refl, sym, ap, subst, Option, Some, None}
+use Rattle.std.proofs.Common.{◌≡◌, ℕ, ◌+◌, true, List, refl, sym, ap, subst, Option, Some, None}
 use Rattle.std.specs.FinMap as map
 use Rattle.nic_device.specs.DmaArena.Block.{Block}
 use Rattle.nic_device.specs.DmaArena.Memory.{has_block}
@@ -13,6 +13,7 @@ use Rattle.pmd_rx.specs.Receive.{Stage, Looks, Sees, Holding, Lent, Named, Recei
 use Rattle.receive_laws.specs.Joint.{Holds, Agree}
 use Rattle.receive_laws.specs.Pieces.{Piece}
 use Rattle.receive_laws.specs.Steps.{IfFresh, Leaves}
+use Rattle.pmd_rx.proofs.PmdSeam.Rings.{ring_block_apart}
 use Rattle.receive_laws.proofs.Leaving.{leaving_holds}
 use Rattle.receive_laws.proofs.Looking.{with_stage}
 
@@ -33,7 +34,9 @@ fresh_leaves queue s v b may none = record {
   mode = refl;
   vfs = refl;
   blocks = record {
-    ring = get-insert_other s.memory b.number b.bytes v.layout.ring (λ e. may.not_ring (sym e));
+    ring = λ k i.
+        get-insert_other s.memory b.number b.bytes (v.layout.ring + k)
+        (λ e. ring_block_apart v.layout.ring v.layout.size b.number may.not_ring k i (sym e));
     blocks = λ k i. get-insert_other s.memory b.number b.bytes (block_at v.layout k) (may.apart k i);
     fresh = none;
   };

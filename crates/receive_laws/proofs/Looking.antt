@@ -1,9 +1,9 @@
 -- What a driver reads of its next slot, and what it then knows.
-use Rattle.std.proofs.Common.{◌≡◌, ℕ, ◌*◌, ◌%◌, ◌<◌, ◌≤◌, ◌⊎◌, inl, inr, true, false, Bool, ◌&&◌, List, [], ◌++◌, length, refl, sym, ap, ◌∙◌, subst, arith}
+use Rattle.std.proofs.Common.{◌≡◌, ℕ, ◌+◌, ◌*◌, ◌/◌, ◌%◌, ◌<◌, ◌≤◌, ◌⊎◌, inl, inr, true, false, Bool, ◌&&◌, List, [], ◌++◌, length, refl, sym, ap, ◌∙◌, subst, arith}
 use Rattle.std.specs.Prelude.{◌==◌, if◌then◌else◌}
 use Rattle.std.proofs.lemmas.Bool.{cases_lt, both_ways, and_parts}
 use Rattle.nic_device.specs.DmaArena.Block.{Block}
-use Rattle.nic_device.specs.DmaArena.Memory.{Memory, is_lent, read_at}
+use Rattle.nic_device.specs.DmaArena.Memory.{Memory, has_block, is_lent, read_at}
 use Rattle.nic_device.proofs.DmaArena.Blocks.{is_lent_in}
 use Rattle.nic_device.specs.DmaRing.Descriptor.{first_half, second_half}
 use Rattle.nic_device.specs.DmaRing.Receive.{is_done, ends_packet}
@@ -17,15 +17,18 @@ use Rattle.pmd_rx.specs.Receive.{Layout, Receive, Stage, Sees, held, drive, slot
 use Rattle.receive_laws.specs.Joint.{IsRing, Saw, StageHolds, HasSlots, Holds, Agree}
 use Rattle.receive_laws.specs.Pieces.{Piece}
 use Rattle.receive_laws.specs.Steps.{TellsSlot, LookTellsSlot}
-use Rattle.receive_laws.proofs.Kept.{slot_low}
+use Rattle.pmd_rx.proofs.PmdSeam.Rings.{each_slot_block, slot_place, slot_fits}
+use Rattle.receive_laws.proofs.Kept.{slot_below}
 use Rattle.receive_laws.proofs.Places.{aligned}
 
 -- the descriptor of each slot up to the vacant one is lent
 pub descriptor_lent : (m : Memory) (l : Layout) (here : List Piece) → IsRing l → HasSlots m l here → (k : ℕ)
     → k ≤ length l.blocks → is_lent m (descriptor_at l k) 16 ≡ true
 descriptor_lent m l here ring h k within =
-    let slot = slot_low l k ring within in
-    is_lent_in m (descriptor_at l k) 16 l.ring (16 * slot_at l k) h.there refl (omega (arith, slot))
+    let slot = slot_at l k in
+    is_lent_in m (descriptor_at l k) 16 (l.ring + slot / 128) (16 * (slot % 128))
+    (each_slot_block l.ring l.size (λ b. has_block m b ≡ true) h.there slot (slot_below l k ring within))
+    (slot_place l.ring slot) (slot_fits slot)
 
 -- a look at the next slot gives its descriptor, and changes nothing
 pub looked_is : (s : State) (l : Layout) (here : List Piece) → IsRing l → HasSlots s.memory l here

@@ -1,5 +1,5 @@
 -- The tail moves on over the slot that names a fresh block: the block is posted, and what was held is handed out.
-use Rattle.std.proofs.Common.{◌≡◌, ◌≢◌, ℕ, ◌+◌, ◌<◌, ◌≤◌, ◌⊎◌, inl, inr, List, [], ◌∷◌, ◌++◌, length, refl, sym, ap, ◌∙◌, subst, arith, Option}
+use Rattle.std.proofs.Common.{◌≡◌, ◌≢◌, ℕ, ◌+◌, ◌<◌, ◌≤◌, ◌⊎◌, inl, inr, false, List, [], ◌∷◌, ◌++◌, length, refl, sym, ap, ◌∙◌, subst, arith, Option}
 use Rattle.std.specs.Prelude.{slice_index}
 use Rattle.std.proofs.lemmas.Bool.{cases_lt}
 use Rattle.std.proofs.lemmas.List.{append-nil, length_push, get_or_push, get_or_append_left}
@@ -14,6 +14,7 @@ use Rattle.nic_device.specs.State.{State}
 use Rattle.nic_device.specs.Step.{after, reply_to}
 use Rattle.nic_device.specs.declared.event.Event.TheVariants as event
 use Rattle.history_laws.proofs.Tails.{receive_with_tail, receive-tail}
+use Rattle.pmd_rx.specs.PmdSeam.Slots.{is_ring_block}
 use Rattle.pmd_rx.specs.PmdSeam.declared.packet.Packet.{Packet}
 use Rattle.pmd_rx.specs.Receive.{Layout, Receive, Named, slot_at, descriptor_at, block_at, vacant, extended, held, listed, moved, drive}
 use Rattle.receive_laws.specs.Joint.{IsPosted, IsFilled, IsRing, IsSetUp, IsLoose, StageHolds, HasSlots, Agree}
@@ -51,7 +52,8 @@ module _ (m : Memory) (l : Layout) (here : List Piece) (b : ℕ) (ring : IsRing 
         ring = ring.ring;
         room = omega (arith, more, room);
         low = λ k i. each_place k (λ c. c < 65536) i (ring.low k) (λ e. loose.low);
-        not_ring = λ k i. each_place k (λ c. c ≢ l.ring) i (ring.not_ring k) (λ e. loose.not_ring);
+        not_ring = λ k i.
+            each_place k (λ c. is_ring_block l.ring l.size c ≡ false) i (ring.not_ring k) (λ e. loose.not_ring);
         apart = λ i j a c ne.
             each_place i (λ x. x ≢ block_at (extended l b) j) a
             (λ p. each_place j (λ y. block_at l i ≢ y) c (λ r. ring.apart i j p r ne) (λ r. loose.apart i p))

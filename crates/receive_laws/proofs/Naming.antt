@@ -1,5 +1,5 @@
 -- The descriptor at the vacant slot names the block that was lent.
-use Rattle.std.proofs.Common.{◌≡◌, ◌≢◌, ℕ, ◌*◌, ◌<◌, ◌≤◌, true, List, ◌++◌, length, sym, ap, ◌∙◌, subst, arith, Option}
+use Rattle.std.proofs.Common.{◌≡◌, ℕ, ◌+◌, ◌*◌, ◌<◌, ◌≤◌, true, false, List, ◌++◌, length, sym, ap, ◌∙◌, subst, arith, Option}
 use Rattle.nic_device.specs.DmaArena.Memory.{Memory, is_lent, read_at, write_at, IsWhole, SameLent, AreApart}
 use Rattle.nic_device.proofs.DmaArena.Bus.{SameLent-write_at, read_at-write_at_same, read_at-write_at_apart}
 use Rattle.nic_device.specs.DmaRing.Descriptor.{first_half, second_half}
@@ -12,11 +12,12 @@ use Rattle.nic_device.specs.Outcome.{Outcome}
 use Rattle.nic_device.specs.Step.{after, reply_to}
 use Rattle.nic_device.specs.declared.event.Event.TheVariants as event
 use Rattle.history_laws.proofs.Calls.{poked_is}
+use Rattle.pmd_rx.specs.PmdSeam.Slots.{is_ring_block}
 use Rattle.pmd_rx.specs.PmdSeam.declared.packet.Packet.{Packet}
 use Rattle.pmd_rx.specs.Receive.{Layout, Lent, Receive, slot_at, descriptor_at, block_at, vacant, held, naming, named, drive}
 use Rattle.receive_laws.specs.Joint.{IsPosted, IsRing, IsLoose, StageHolds, HasSlots, Agree}
 use Rattle.receive_laws.specs.Pieces.{Piece, piece_at}
-use Rattle.receive_laws.proofs.Kept.{IsPosted-kept, IsFilled-kept, IsLoose-kept, slot_low}
+use Rattle.receive_laws.proofs.Kept.{IsPosted-kept, IsFilled-kept, IsLoose-kept, slot_below}
 use Rattle.receive_laws.proofs.Looking.{descriptor_lent}
 use Rattle.pmd_rx.proofs.PmdSeam.Places.{wrapped_apart}
 use Rattle.receive_laws.proofs.Places.{aligned, slots_apart, buffer_and_slot}
@@ -38,11 +39,13 @@ module _ (m : Memory) (l : Layout) (here : List Piece) (ring : IsRing l) (h : Ha
       read_at-write_at_apart m (descriptor_at l (vacant l)) (naming b) (descriptor_at l k) 16
       (subst (λ len. AreApart (descriptor_at l k) 16 (descriptor_at l (vacant l)) len) (sym halves.size) apart)
 
-  block_kept : (c len : ℕ) → c ≢ l.ring → len ≤ 2048 → read_at n (2048 * c) len ≡ read_at m (2048 * c) len
-  block_kept c len ne short =
+  block_kept : (c len : ℕ) → is_ring_block l.ring l.size c ≡ false → len ≤ 2048
+      → read_at n (2048 * c) len ≡ read_at m (2048 * c) len
+  block_kept c len other short =
       read_at-write_at_apart m (descriptor_at l (vacant l)) (naming b) (2048 * c) len
       (subst (λ k. AreApart (2048 * c) len (descriptor_at l (vacant l)) k) (sym halves.size)
-      (buffer_and_slot c len l.ring (slot_at l (vacant l)) ne short (slot_low l (vacant l) ring (omega arith))))
+      (buffer_and_slot c len l.ring l.size (slot_at l (vacant l)) other short
+      (slot_below l (vacant l) ring (omega arith))))
 
   same : SameLent n m
   same = SameLent-write_at m (descriptor_at l (vacant l)) (naming b)
@@ -67,7 +70,7 @@ module _ (m : Memory) (l : Layout) (here : List Piece) (ring : IsRing l) (h : Ha
   named_slots =
       let within = h.within in
       record {
-        there = same l.ring ∙ h.there;
+        there = λ k i. same (l.ring + k) ∙ h.there k i;
         within = h.within;
         filled = λ k i.
             let j : k < length l.blocks = omega (arith, within, i) in

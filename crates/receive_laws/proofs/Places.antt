@@ -6,7 +6,8 @@ use Rattle.std.proofs.lemmas.Bool.Decides.{nat_tests}
 use Rattle.nic_device.specs.DmaArena.Memory.{AreApart, LiesIn}
 use Rattle.nic_device.specs.DmaRing.declared.ring.Ring.{Ring}
 use Rattle.nic_device.specs.DmaRing.Ring.{is_outside}
-use Rattle.pmd_rx.specs.PmdSeam.Slots.{wrapped}
+use Rattle.pmd_rx.specs.PmdSeam.Slots.{wrapped, is_ring_block}
+use Rattle.pmd_rx.proofs.PmdSeam.Rings.{ring_block_sides}
 
 -- places
 
@@ -25,15 +26,12 @@ inside_of r n len head tail =
 pub aligned : (ring slot : ℕ) → ((2048 * ring + 16 * slot) % 16 == 0) ≡ true
 aligned ring slot = let e : (2048 * ring + 16 * slot) % 16 ≡ 0 = omega arith in rw e refl
 
-pub address_small : (base head ring slot : ℕ) → base ≡ 2048 * ring → head ≡ slot → ring < 65536 → slot < 128
+pub address_small : (base head ring slot : ℕ) → base ≡ 2048 * ring → head ≡ slot → ring < 65536 → slot < 1024
     → (base + 16 * head) % 2 ^ 64 ≡ 2048 * ring + 16 * slot
 address_small base head ring slot e f h k = omega arith
 
 pub buffer_even : (first block : ℕ) → first ≡ 2048 * block → 2 * (first / 2) ≡ 2048 * block
 buffer_even first block e = omega arith
-
-pub slot_inside : (ring slot : ℕ) → slot < 128 → LiesIn ring (2048 * ring + 16 * slot) 16
-slot_inside ring slot h = (omega arith, omega arith)
 
 pub bytes_inside : (block n : ℕ) → n ≤ 2048 → LiesIn block (2048 * block) n
 bytes_inside block n h = (omega arith, omega arith)
@@ -41,13 +39,19 @@ bytes_inside block n h = (omega arith, omega arith)
 pub slots_apart : (ring i j : ℕ) → i ≢ j → AreApart (2048 * ring + 16 * i) 16 (2048 * ring + 16 * j) 16
 slots_apart ring i j ne = elim (cases_lt i j) [ inl l ↦ inl (omega arith) | inr l ↦ inr (omega arith) ]
 
-pub buffer_and_slot : (b n ring slot : ℕ) → b ≢ ring → n ≤ 2048 → slot < 128
+pub buffer_and_slot : (b n ring size slot : ℕ) → is_ring_block ring size b ≡ false → n ≤ 2048 → slot < size
     → AreApart (2048 * b) n (2048 * ring + 16 * slot) 16
-buffer_and_slot b n ring slot ne h l = elim (cases_lt b ring) [ inl o ↦ inl (omega arith) | inr o ↦ inr (omega arith) ]
+buffer_and_slot b n ring size slot other h l = elim (ring_block_sides ring size b other) [
+  | inl before ↦ inl (omega (arith, before, h))
+  | inr behind ↦ inr (omega (arith, behind, l))
+]
 
-pub slot_and_buffer : (ring slot b n : ℕ) → b ≢ ring → n ≤ 2048 → slot < 128
+pub slot_and_buffer : (ring size slot b n : ℕ) → is_ring_block ring size b ≡ false → n ≤ 2048 → slot < size
     → AreApart (2048 * ring + 16 * slot) 16 (2048 * b) n
-slot_and_buffer ring slot b n ne h l = elim (cases_lt b ring) [ inl o ↦ inr (omega arith) | inr o ↦ inl (omega arith) ]
+slot_and_buffer ring size slot b n other h l = elim (ring_block_sides ring size b other) [
+  | inl before ↦ inr (omega (arith, before, h))
+  | inr behind ↦ inl (omega (arith, behind, l))
+]
 
 pub buffers_apart : (b n c k : ℕ) → b ≢ c → n ≤ 2048 → k ≤ 2048 → AreApart (2048 * b) n (2048 * c) k
 buffers_apart b n c k ne h l = elim (cases_lt b c) [ inl o ↦ inl (omega arith) | inr o ↦ inr (omega arith) ]

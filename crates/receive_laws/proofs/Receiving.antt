@@ -24,7 +24,7 @@ use Rattle.pmd_rx.specs.Receive.{Layout, slot_at, descriptor_at, block_at, vacan
 use Rattle.receive_laws.specs.Joint.{IsFilled, IsRing, IsSetUp, HasSlots}
 use Rattle.receive_laws.specs.Pieces.{Piece, no_piece, piece_at}
 use Rattle.receive_laws.proofs.Filled.{Fills, fills_slot, filled_beside, posted_beside}
-use Rattle.receive_laws.proofs.Kept.{slot_below, slot_low}
+use Rattle.receive_laws.proofs.Kept.{slot_below, slot_low, ring_low}
 use Rattle.receive_laws.proofs.Looking.{descriptor_lent}
 use Rattle.pmd_rx.proofs.PmdSeam.Places.{next_wrapped}
 use Rattle.receive_laws.proofs.Places.{address_small, buffer_even, inside_of}
@@ -43,7 +43,8 @@ module _ (s : State) (queue : ℕ) (l : Layout) (here : List Piece) (ring : IsRi
       (subst (λ x. x < l.size) (sym side.head) head) (subst (λ x. x < l.size) (sym side.tail) tail)
 
   pub head_is : head_address own.ring ≡ descriptor_at l (length here)
-  head_is = address_small _ _ l.ring (slot_at l (length here)) side.base side.head ring.ring
+  head_is = address_small _ _ l.ring (slot_at l (length here)) side.base side.head
+      (ring_low l ring)
       (slot_low l (length here) ring h.within)
 
   pub buffer_is : length here < length l.blocks
@@ -95,9 +96,10 @@ module _ (s : State) (queue : ℕ) (l : Layout) (here : List Piece) (ring : IsRi
       → Fills s.memory (fill_on s queue rest).memory (descriptor_at l (length here)) (block_at l (length here))
       (piece_in rest f)
   fills_here room whole rest f fits is =
-      fills_slot s.memory own.ring own.control rest f l.ring (slot_at l (length here)) (block_at l (length here))
-      whole fits is side.buffer_size head_is (buffer_is room) (ring.not_ring (length here) room)
-      (slot_low l (length here) ring h.within) (h.posted (length here) (omega arith) room).there
+      fills_slot s.memory own.ring own.control rest f l.ring l.size (slot_at l (length here))
+      (block_at l (length here)) whole fits is side.buffer_size head_is (buffer_is room)
+      (ring.not_ring (length here) room) (slot_below l (length here) ring h.within)
+      (h.posted (length here) (omega arith) room).there
 
   pub head_on : length here < length l.blocks → (rest : Rest) (f : Filled) → (fill_on s queue rest).answer ≡ Ok f
       → (f.head ≡ slot_at l (length here + 1)) × (f.head < 65536)
@@ -139,7 +141,7 @@ module _ (m n : Memory) (l : Layout) (here : List Piece) (p : Piece) (ring : IsR
   slots_more =
       let more : length (here ++ p ∷ []) ≡ length here + 1 = length_push here p in
       record {
-        there = fill.lent l.ring ∙ h.there;
+        there = λ k i. fill.lent (l.ring + k) ∙ h.there k i;
         within = omega (arith, more, room);
         filled = λ k i. filled_more k i (cases_lt k (length here));
         posted = λ k i j.

@@ -1,18 +1,25 @@
 -- Where a step of receiving on the driver's own queue writes.
-use Rattle.std.specs.Prelude.{ℕ, ◌≡◌, ◌<◌, Bool, List, length}
+use Rattle.std.specs.Prelude.{ℕ, ◌≡◌, ◌+◌, ◌<◌, Bool, List, length}
 use Rattle.nic_device.specs.DmaArena.Memory.{LiesIn}
 use Rattle.nic_device.specs.Sound.{IsSound}
 use Rattle.nic_device.specs.State.{State}
 use Rattle.nic_device.specs.Step.{reply_to}
 use Rattle.nic_device.specs.declared.event.Event.TheVariants as event
 use Rattle.nic_device.specs.declared.event.Reply.TheVariants.{Wrote}
+use Rattle.pmd_rx.specs.PmdSeam.Slots.{blocks_for}
 use Rattle.pmd_rx.specs.Receive.{Layout, Receive, block_at}
 use Rattle.receive_laws.specs.Joint.{Agree}
 use Rattle.receive_laws.specs.Pieces.{Piece}
 
--- a descriptor is in the ring's block, and so many bytes are in the block of one of the ring's slots
+-- a descriptor is in one of the blocks of a ring of so many slots, from this block on
+pub record IsInRing (ring size desc : ℕ) : Type 0 where
+  pub part : ℕ
+  pub known : part < blocks_for size
+  pub descriptor : LiesIn (ring + part) desc 16
+
+-- a descriptor is in one of the ring's blocks, and so many bytes are in the block of one of the ring's slots
 pub record IsInside (l : Layout) (desc at len : ℕ) : Type 0 where
-  pub descriptor : LiesIn l.ring desc 16
+  pub descriptor : IsInRing l.ring l.size desc
   pub slot : ℕ
   pub known : slot < length l.blocks
   pub bytes : LiesIn (block_at l slot) at len

@@ -1,5 +1,5 @@
 -- What the device and a driver agree on, between two events, of the receive side of the driver's queue.
-use Rattle.std.specs.Prelude.{ℕ, ◌≡◌, ◌≢◌, ◌+◌, ◌*◌, ◌<◌, ◌≤◌, List, ◌++◌, length, map, ⊤, IsTrue, IsFalse}
+use Rattle.std.specs.Prelude.{ℕ, ◌≡◌, ◌≢◌, ◌+◌, ◌*◌, ◌<◌, ◌≤◌, false, List, ◌++◌, length, map, ⊤, IsTrue, IsFalse}
 use Rattle.nic_device.specs.DmaArena.Memory.{Memory, has_block, read_at}
 use Rattle.nic_device.specs.DmaRing.Descriptor.{first_half, second_half}
 use Rattle.nic_device.specs.DmaRing.Receive.{is_done, ends_packet, bytes_in}
@@ -10,6 +10,7 @@ use Rattle.nic_device.specs.RxRing.Control.{descriptor_type_of, buffer_size_of}
 use Rattle.nic_device.specs.Named.{named}
 use Rattle.nic_device.specs.State.{State}
 use Rattle.nic_device.specs.declared.named.Named.TheVariants.{Register}
+use Rattle.pmd_rx.specs.PmdSeam.Slots.{blocks_for, is_ring_block, EachRingBlock}
 use Rattle.pmd_rx.specs.Receive.{Layout, Stage, Looks, Sees, Holding, Lent, Named, Receive, slot_at, descriptor_at, block_at, vacant, held}
 use Rattle.receive_laws.specs.Pieces.{Piece, whole_packet, AllEnd, piece_at}
 
@@ -29,15 +30,16 @@ pub record IsFilled (m : Memory) (a block : ℕ) (p : Piece) : Type 0 where
   pub short : length p.bytes ≤ 2048
   pub there : IsTrue (has_block m block)
 
--- a ring in one block, of which at least one slot is vacant, and the blocks of its slots: no two are one
+-- a ring in blocks that follow one another, of which at least one slot is vacant, and the blocks of its slots: no two
+-- are one
 pub record IsRing (l : Layout) : Type 0 where
   pub some : 0 < l.size
-  pub few : l.size ≤ 128
+  pub few : l.size ≤ 1024
   pub next : l.next < l.size
-  pub ring : l.ring < 65536
+  pub ring : l.ring + blocks_for l.size ≤ 65536
   pub room : length l.blocks < l.size
   pub low : (k : ℕ) → k < length l.blocks → block_at l k < 65536
-  pub not_ring : (k : ℕ) → k < length l.blocks → block_at l k ≢ l.ring
+  pub not_ring : (k : ℕ) → k < length l.blocks → is_ring_block l.ring l.size (block_at l k) ≡ false
   pub apart : (i j : ℕ) → i < length l.blocks → j < length l.blocks → i ≢ j → block_at l i ≢ block_at l j
 
 -- the queue's receive side is the driver's: one buffer of 2,048 bytes a descriptor, and of its slots so many are filled
@@ -58,7 +60,7 @@ pub record IsNamed (s : State) (queue : ℕ) (l : Layout) : Type 0 where
 -- a block that is lent and doesn't stand in the ring yet
 pub record IsLoose (m : Memory) (l : Layout) (block : ℕ) : Type 0 where
   pub low : block < 65536
-  pub not_ring : block ≢ l.ring
+  pub not_ring : is_ring_block l.ring l.size block ≡ false
   pub apart : (k : ℕ) → k < length l.blocks → block_at l k ≢ block
   pub room : length l.blocks + 1 < l.size
   pub there : IsTrue (has_block m block)
@@ -80,7 +82,7 @@ StageHolds m l ps (Named o b) = IsLoose m l b × IsPosted m (descriptor_at l (va
 -- the slots from the next one on: the first are filled with these pieces, those behind them up to the tail are posted,
 -- and of all others, which are consumed or vacant, nothing is said
 pub record HasSlots (m : Memory) (l : Layout) (here : List Piece) : Type 0 where
-  pub there : IsTrue (has_block m l.ring)
+  pub there : EachRingBlock l.ring l.size (λ b. IsTrue (has_block m b))
   pub within : length here ≤ length l.blocks
   pub filled : (k : ℕ) → k < length here → IsFilled m (descriptor_at l k) (block_at l k) (piece_at here k)
   pub posted : (k : ℕ) → length here ≤ k → k < length l.blocks → IsPosted m (descriptor_at l k) (block_at l k)

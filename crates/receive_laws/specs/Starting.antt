@@ -1,10 +1,11 @@
 -- What a start of the driver leaves, as the receive side of its queue goes on.
-use Rattle.std.specs.Prelude.{ℕ, ◌≡◌, ◌*◌, ◌<◌, ◌≤◌, [], IsTrue}
+use Rattle.std.specs.Prelude.{ℕ, ◌≡◌, ◌+◌, ◌*◌, ◌<◌, ◌≤◌, [], IsTrue}
 use Rattle.nic_device.specs.DmaArena.Memory.{has_block}
 use Rattle.nic_device.specs.RegisterLaws.Sides.{ReceiveQueue, receive_queue_of}
 use Rattle.nic_device.specs.RxRing.Control.{descriptor_type_of, buffer_size_of}
 use Rattle.nic_device.specs.State.{State}
 use Rattle.nic_device.specs.declared.event.Port.{Port}
+use Rattle.pmd_rx.specs.PmdSeam.Slots.{blocks_for, EachRingBlock}
 use Rattle.pmd_rx.specs.Receive.{at_start}
 use Rattle.receive_laws.specs.Joint.{Agree, IsNamed}
 
@@ -21,11 +22,11 @@ pub record IsFreshSide (q : ReceiveQueue) (ring size : ℕ) : Type 0 where
 -- the ring is lent, its words are written, and the driver's number names the queue's tail
 pub record IsReady (queue : ℕ) (port : Port) (tail ring size : ℕ) (s : State) : Type 0 where
   pub some : 0 < size
-  pub few : size ≤ 128
-  pub low : ring < 65536
+  pub few : size ≤ 1024
+  pub low : ring + blocks_for size ≤ 65536
   pub named : IsNamed s queue (at_start port tail ring size).layout
   pub side : IsFreshSide (receive_queue_of s.registers queue) ring size
-  pub there : IsTrue (has_block s.memory ring)
+  pub there : EachRingBlock ring size (λ b. IsTrue (has_block s.memory b))
 
 -- there the device and a driver that posted nothing yet agree
 abbrev pub StartAgrees : Type 0

@@ -21,6 +21,7 @@ use Rattle.nic_device.specs.declared.event.Reply.{Reply}
 use Rattle.nic_device.specs.declared.event.Reply.TheVariants.{Bytes, Wrote}
 use Rattle.history_laws.specs.DeviceLaws.Leaving.{LeavesReceive, LeavesBlock}
 pub use Rattle.history_laws.specs.Left.{IsOutside}
+use Rattle.pmd_rx.specs.PmdSeam.Slots.{EachRingBlock}
 use Rattle.pmd_rx.specs.Receive.{Receive, Stage, Looks, Sees, Holding, Lent, Named, IsOwn, drive, descriptor_at, block_at}
 use Rattle.receive_laws.specs.Joint.{Holds, Agree}
 use Rattle.receive_laws.specs.Pieces.{Piece, pieces, piece_at}
@@ -47,9 +48,9 @@ IfFresh (Holding p) P = ⊤
 IfFresh (Lent o b) P = P b
 IfFresh (Named o b) P = P b
 
--- each block that the driver has lent for receiving: the ring's, those of its slots, and a fresh one
+-- each block that the driver has lent for receiving: those that the ring is in, those of its slots, and a fresh one
 pub record Each (v : Receive) (P : ℕ → Type 0) : Type 0 where
-  pub ring : P v.layout.ring
+  pub ring : EachRingBlock v.layout.ring v.layout.size P
   pub blocks : (k : ℕ) → k < length v.layout.blocks → P (block_at v.layout k)
   pub fresh : IfFresh v.stage P
 

@@ -10,5 +10,4 @@ pub mod Own
 pub mod Padded
 pub mod Passing
 pub mod Playing
-pub mod Ranges
 pub mod Viewed

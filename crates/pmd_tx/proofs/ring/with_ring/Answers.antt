@@ -1,18 +1,11 @@
-use Rattle.std.proofs.Common.{arith}
-use Rattle.pmd_tx.proofs.Ranges.{range_behind, few_behind}
+use Rattle.std.proofs.Common.{◌∙◌, arith}
+use Rattle.pmd_seam.proofs.Rings.{run_more}
 use Rattle.pmd_tx.proofs.ring.with_ring.Goals as goal
 
 pub loop-at-preserved : goal.loop-at-preserved
 loop-at-preserved c = record {
-  items =
-      range_behind c.args.blocks.items _ _ c.args.ring c.loop-at.at c.loop-at.invariant.items
+  items = run_more _ c.loop-at.lent.items _ c.args.ring c.loop-at.at c.loop-at.invariant.items
       c.push_back_reserved.ensures.items;
-  room =
-      omega
-      (arith, c.loop-at.invariant.room, c.push_back_reserved.ensures.len, c.push_back_reserved.ensures.capacity);
+  len = omega (arith, c.push_back_reserved.ensures.len, c.loop-at.invariant.len);
+  capacity = c.push_back_reserved.ensures.capacity ∙ c.loop-at.invariant.capacity;
 }
-
-pub returns-clause-few : goal.returns-clause-few
-returns-clause-few c =
-    few_behind c.args.blocks.items _ c.args.ring c.loop-at.at c.loop-at.invariant.items
-    (omega (arith, c.loop-at.auto.at-end, c.blocks_for-at-end.ensures.few))

@@ -1,5 +1,5 @@
 -- A packet that is accepted: its block is lent, and is the newest outstanding one.
-use Rattle.std.proofs.Common.{◌≡◌, ◌≢◌, ℕ, ◌+◌, ◌*◌, ◌<◌, ◌≤◌, inl, inr, List, [], ◌∷◌, ◌++◌, length, drop, refl, ap, sym, ◌∙◌, arith, append_assoc, Some}
+use Rattle.std.proofs.Common.{◌≡◌, ◌≢◌, ℕ, ◌+◌, ◌*◌, ◌<◌, ◌≤◌, inl, inr, false, List, [], ◌∷◌, ◌++◌, length, drop, refl, ap, sym, ◌∙◌, arith, append_assoc, Some}
 use Rattle.std.specs.Prelude.{is_some}
 use Rattle.std.specs.FinMap as fin
 use Rattle.std.proofs.lemmas.Bool.{cases_lt}
@@ -9,6 +9,8 @@ use Rattle.nic_device.specs.DmaArena.Memory.{Memory, part}
 use Rattle.nic_device.proofs.DmaArena.Blocks.{read_at_in}
 use Rattle.nic_device.proofs.DmaArena.Bus.{get-insert_same, get-insert_other}
 use Rattle.pmd_tx.specs.PmdSeam.Packet.{Kept}
+use Rattle.pmd_tx.specs.PmdSeam.Slots.{is_ring_block}
+use Rattle.pmd_tx.proofs.PmdSeam.Rings.{ring_block_none}
 use Rattle.pmd_tx.specs.Sending.{Outgoing, Sender, MayAccept, no_packet, packet_at, accepted_by}
 use Rattle.transmit_laws.specs.Agreeing.{IsLayout, IsReady, IsCounted, Shows, bytes_of, kept_in}
 use Rattle.transmit_laws.proofs.Blocks.{has_lent-ring, has_lent-packet, unlike, shows-same}
@@ -58,13 +60,19 @@ module _ (m : Memory) (v : Sender) (f : ℕ) (l : IsLayout v.layout) (c : IsCoun
     there : fin.get lent p.block ≡ Some b.bytes
     there = rw (← may.number) (get-insert_same m b.number b.bytes)
 
-    ready : IsReady lent v.layout.ring p
+    -- and none of the ring's
+    beside : is_ring_block v.layout.ring v.layout.size p.block ≡ false
+    beside =
+        ring_block_none v.layout.ring v.layout.size p.block
+        (λ k below e. unlike v p.block (v.layout.ring + k) may.away (has_lent-ring v k below) (sym e))
+
+    ready : IsReady lent v.layout.ring v.layout.size p
     unfolding part
     ready = record {
       long = may.long;
       short = may.short;
       lent = ap is_some there;
-      apart = λ e. unlike v p.block v.layout.ring may.away (has_lent-ring v) (sym e);
+      apart = beside;
       bytes =
           read_at_in lent (2048 * p.block) (length p.kept.bytes) p.block 0 b.bytes there may.whole (omega arith)
           (omega (arith, may.short))
@@ -72,7 +80,7 @@ module _ (m : Memory) (v : Sender) (f : ℕ) (l : IsLayout v.layout) (c : IsCoun
     }
 
     ready_now : (k : ℕ) → k < length (v.outstanding ++ p ∷ [])
-        → IsReady lent v.layout.ring (packet_at (accepted_by v p) k)
+        → IsReady lent v.layout.ring v.layout.size (packet_at (accepted_by v p) k)
     ready_now k known = elim (cases_lt k (length v.outstanding)) [
       | inl lt ↦ rw (early v p k lt) (stays.ready k lt)
       | inr le ↦ let e : k ≡ length v.outstanding = omega (arith, more v p) in rw (e, last v p) ready

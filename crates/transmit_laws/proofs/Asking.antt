@@ -1,5 +1,5 @@
 -- Writing the descriptor of the packet that waits keeps what driver and device agree on.
-use Rattle.std.proofs.Common.{◌≡◌, ℕ, ◌<◌, List, length, sym, ◌∙◌, subst, arith}
+use Rattle.std.proofs.Common.{◌≡◌, ℕ, ◌+◌, ◌<◌, List, length, sym, ◌∙◌, subst, arith}
 use Rattle.nic_device.specs.DmaArena.Memory.{Memory, read_at, write_at}
 use Rattle.nic_device.specs.Sound.{IsEvent}
 use Rattle.nic_device.specs.State.{State}
@@ -37,7 +37,7 @@ module _ (s : State) (queue : ℕ) (sent : List (List ℕ)) (v : Sender) (f : �
         let readies = ready-still s.memory whole v h.based.layout h.shows.ring v.posted fits (asking p)
         (length-asking p) in
         record {
-          ring = lents v.layout.ring h.shows.ring;
+          ring = λ k i. lents (v.layout.ring + k) (h.shows.ring k i);
           ready = λ k i. readies (packet_at v k) (h.shows.ready k i);
           done = λ k i. other k (omega (arith, h.counted.fetched_posted)) ∙ h.shows.done k i;
           waits = λ k i j. other k j ∙ h.shows.waits k i j;

@@ -1,12 +1,14 @@
 -- The blocks of a driver that sends, and where its descriptors and packets are in them.
-use Rattle.std.proofs.Common.{◌≡◌, ◌≢◌, ℕ, ◌*◌, ◌%◌, ◌<◌, ◌≤◌, inl, inr, true, false, length, refl, ap, ◌∙◌, subst, arith}
-use Rattle.std.specs.Prelude.{◌==◌, zero, suc, List, [], ◌∷◌, slice_index_or, is_some}
+use Rattle.std.proofs.Common.{◌≡◌, ◌≢◌, ℕ, ◌+◌, ◌*◌, ◌/◌, ◌%◌, ◌<◌, ◌≤◌, inl, inr, true, false, length, refl, ap, ◌∙◌, subst, arith}
+use Rattle.std.specs.Prelude.{◌==◌, zero, suc, List, [], ◌∷◌, slice_index_or, is_some, IsTrue}
 use Rattle.std.specs.List.{list_any}
 use Rattle.std.specs.FinMap as map
-use Rattle.std.proofs.lemmas.Bool.{cases_lt, eq-eqb, both_ways, or_right}
+use Rattle.std.proofs.lemmas.Bool.{cases_lt, eq-eqb, both_ways, or_left, or_right}
 use Rattle.nic_device.specs.DmaArena.Memory.{Memory, has_block, is_lent, read_at, AreApart, LiesIn}
 use Rattle.nic_device.proofs.DmaArena.Blocks.{is_lent_in}
 use Rattle.nic_device.proofs.DmaArena.Inside.{reads_its_block}
+use Rattle.pmd_tx.specs.PmdSeam.Slots.{blocks_for, is_ring_block, EachRingBlock}
+use Rattle.pmd_tx.proofs.PmdSeam.Rings.{slot_block, slot_lies, ring_block_is, ring_block_apart}
 use Rattle.pmd_tx.specs.Sending.{Outgoing, Sender, no_packet, packet_at, slot_at, descriptor_at, has_lent, blocks_of}
 use Rattle.transmit_laws.specs.Agreeing.{IsLayout, IsReady, IsCounted, Shows}
 use Rattle.transmit_laws.proofs.Slots.{slot-below, slot-apart}
@@ -21,12 +23,15 @@ any_at (p ∷ ps) (suc k) h =
     or_right ((slice_index_or ps k no_packet).block == p.block)
     (list_any (λ b. (slice_index_or ps k no_packet).block == b) (blocks_of ps)) (any_at ps k (omega arith))
 
-pub has_lent-ring : (v : Sender) → has_lent v v.layout.ring ≡ true
-has_lent-ring v = rw (eq-eqb v.layout.ring v.layout.ring refl) refl
+pub has_lent-ring : (v : Sender) (k : ℕ) → k < blocks_for v.layout.size → has_lent v (v.layout.ring + k) ≡ true
+has_lent-ring v k below =
+    let n = v.layout.ring + k in
+    or_left (is_ring_block v.layout.ring v.layout.size n) (list_any (λ b. n == b) (blocks_of v.outstanding))
+    (ring_block_is v.layout.ring v.layout.size k below)
 
 pub has_lent-packet : (v : Sender) (k : ℕ) → k < length v.outstanding → has_lent v (packet_at v k).block ≡ true
 has_lent-packet v k known =
-    or_right ((packet_at v k).block == v.layout.ring)
+    or_right (is_ring_block v.layout.ring v.layout.size (packet_at v k).block)
     (list_any (λ b. (packet_at v k).block == b) (blocks_of v.outstanding)) (any_at v.outstanding k known)
 
 -- a block that isn't lent is none of them
@@ -36,24 +41,33 @@ unlike v n b none is e = both_ways (has_lent v n) none (subst (λ x. has_lent v 
 -- where descriptors and packets are
 
 module _ (v : Sender) (l : IsLayout v.layout) where
-  pub slot-inside : (k : ℕ) → k ≤ v.layout.size → LiesIn v.layout.ring (descriptor_at v.layout k) 16
-  slot-inside k h =
-      let below = slot-below v.layout l k h in
-      let few = l.few in
-      (omega arith, omega arith)
+  -- which of the ring's blocks a descriptor is in
+  abbrev part : ℕ → ℕ
+  part k = slot_at v.layout k / 128
 
-  pub slot-lent : (m : Memory) (k : ℕ) → k ≤ v.layout.size → has_block m v.layout.ring ≡ true
+  abbrev block : ℕ → ℕ
+  block k = v.layout.ring + part k
+
+  slot-part : (k : ℕ) → k ≤ v.layout.size → part k < blocks_for v.layout.size
+  slot-part k h = slot_block v.layout.size (slot_at v.layout k) (slot-below v.layout l k h)
+
+  slot-inside : (k : ℕ) → LiesIn (block k) (descriptor_at v.layout k) 16
+  slot-inside k = slot_lies v.layout.ring (slot_at v.layout k)
+
+  pub slot-lent : (m : Memory) (k : ℕ) → k ≤ v.layout.size
+      → EachRingBlock v.layout.ring v.layout.size (λ n. IsTrue (has_block m n))
       → is_lent m (descriptor_at v.layout k) 16 ≡ true
   slot-lent m k h has =
-      let below = slot-below v.layout l k h in
-      let few = l.few in
-      is_lent_in m (descriptor_at v.layout k) 16 v.layout.ring (16 * slot_at v.layout k) has refl (omega arith)
+      let slot = slot_at v.layout k in
+      is_lent_in m (descriptor_at v.layout k) 16 (block k) (16 * (slot % 128)) (has (part k) (slot-part k h))
+      (omega arith) (omega arith)
 
-  -- a descriptor stays where the ring's block does
-  pub slot-same : (m n : Memory) → map.get n v.layout.ring ≡ map.get m v.layout.ring → (k : ℕ) → k ≤ v.layout.size
+  -- a descriptor stays where the ring's blocks do
+  pub slot-same : (m n : Memory)
+      → EachRingBlock v.layout.ring v.layout.size (λ b. map.get n b ≡ map.get m b) → (k : ℕ) → k ≤ v.layout.size
       → read_at n (descriptor_at v.layout k) 16 ≡ read_at m (descriptor_at v.layout k) 16
   slot-same m n same k h =
-      (reads_its_block n m v.layout.ring (descriptor_at v.layout k) 16 same (slot-inside k h)).0
+      (reads_its_block n m (block k) (descriptor_at v.layout k) 16 (same (part k) (slot-part k h)) (slot-inside k)).0
 
   pub slot-even : (k : ℕ) → descriptor_at v.layout k % 16 ≡ 0
   slot-even k = omega arith
@@ -67,20 +81,21 @@ module _ (v : Sender) (l : IsLayout v.layout) where
         | inr le ↦ inr (omega (arith, differs))
       ]
 
-  pub packet-apart : (m : Memory) (p : Outgoing) (k : ℕ) → IsReady m v.layout.ring p → k ≤ v.layout.size
+  pub packet-apart : (m : Memory) (p : Outgoing) (k : ℕ) → IsReady m v.layout.ring v.layout.size p → k ≤ v.layout.size
       → AreApart (2048 * p.block) (length p.kept.bytes) (descriptor_at v.layout k) 16
   packet-apart m p k ready h =
-      let below = slot-below v.layout l k h in
-      let few = l.few in
-      elim (cases_lt p.block v.layout.ring) [
-        | inl lt ↦ inl (omega (arith, ready.short))
-        | inr le ↦ let gt : v.layout.ring < p.block = omega (arith, ready.apart) in inr (omega arith)
+      let inside = slot-inside k in
+      let other : p.block ≢ block k =
+      ring_block_apart v.layout.ring v.layout.size p.block ready.apart (part k) (slot-part k h) in
+      elim (cases_lt p.block (block k)) [
+        | inl lt ↦ inl (omega (arith, ready.short, inside.0))
+        | inr le ↦ let gt : block k < p.block = omega (arith, other) in inr (omega (arith, inside.1))
       ]
 
 -- what a packet's block has stays where the block does
-pub ready-same : (m n : Memory) (ring : ℕ) (p : Outgoing) → map.get n p.block ≡ map.get m p.block → IsReady m ring p
-    → IsReady n ring p
-ready-same m n ring p same ready = record {
+pub ready-same : (m n : Memory) (ring size : ℕ) (p : Outgoing) → map.get n p.block ≡ map.get m p.block
+    → IsReady m ring size p → IsReady n ring size p
+ready-same m n ring size p same ready = record {
   long = ready.long;
   short = ready.short;
   lent = ap is_some same ∙ ready.lent;
@@ -95,15 +110,18 @@ ready-same m n ring p same ready = record {
 module _ (m n : Memory) (v : Sender) (f : ℕ) (l : IsLayout v.layout) (c : IsCounted v f) (h : Shows m v f)
     (same : (number : ℕ) → has_lent v number ≡ true → map.get n number ≡ map.get m number)
   where
+    ring-same : EachRingBlock v.layout.ring v.layout.size (λ b. map.get n b ≡ map.get m b)
+    ring-same k below = same (v.layout.ring + k) (has_lent-ring v k below)
+
     stays : (k : ℕ) → k ≤ v.layout.size
         → read_at n (descriptor_at v.layout k) 16 ≡ read_at m (descriptor_at v.layout k) 16
-    stays = slot-same v l m n (same v.layout.ring (has_lent-ring v))
+    stays = slot-same v l m n ring-same
 
     pub shows-same : Shows n v f
     shows-same = record {
-      ring = ap is_some (same v.layout.ring (has_lent-ring v)) ∙ h.ring;
+      ring = λ k below. ap is_some (ring-same k below) ∙ h.ring k below;
       ready = λ k i.
-          ready-same m n v.layout.ring (packet_at v k) (same (packet_at v k).block (has_lent-packet v k i))
+          ready-same m n v.layout.ring v.layout.size (packet_at v k) (same (packet_at v k).block (has_lent-packet v k i))
           (h.ready k i);
       done = λ k i. stays k (omega (arith, c.room, c.posted_known, c.fetched_posted)) ∙ h.done k i;
       waits = λ k i j. stays k (omega (arith, c.room, c.posted_known)) ∙ h.waits k i j;

@@ -52,7 +52,7 @@ module _ (s : State) (queue : ℕ) (sent : List (List ℕ)) (v : Sender) (f : �
         let lents = lent-still s.memory whole v h.based.layout h.shows.ring f fits done (length-done (asking p)) in
         let readies = ready-still s.memory whole v h.based.layout h.shows.ring f fits done (length-done (asking p)) in
         record {
-          ring = lents v.layout.ring h.shows.ring;
+          ring = λ k i. lents (v.layout.ring + k) (h.shows.ring k i);
           ready = λ k i. readies (packet_at v k) (h.shows.ready k i);
           done = done_now;
           waits = λ k i j.

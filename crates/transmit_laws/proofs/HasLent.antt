@@ -6,6 +6,7 @@ use Rattle.std.proofs.lemmas.Bool.{or_cases, or_left, or_right, eqb-true}
 use Rattle.nic_device.specs.DmaArena.Block.{Block}
 use Rattle.nic_device.specs.declared.event.Reply.{Reply}
 use Rattle.nic_device.specs.declared.event.Reply.TheVariants as reply
+use Rattle.pmd_tx.specs.PmdSeam.Slots.{is_ring_block}
 use Rattle.pmd_tx.specs.Sending.{Outgoing, Sender, Asks, Advances, Looks, packet_at, blocks_of, has_lent, moved, accepted_by, reaped}
 
 -- the blocks of packets, with one more, and without the oldest
@@ -39,21 +40,21 @@ module _ (v : Sender) (n : ℕ) where
   pub has_accepted : (p : Outgoing) (b : ℕ) → b ≡ p.block → (n == b || has_lent v n) ≡ true
       → has_lent (accepted_by v p) n ≡ true
   has_accepted p b same is =
-      let ring = or_left (n == v.layout.ring) (among (v.outstanding ++ p ∷ []) n) in
-      let packet = or_right (n == v.layout.ring) (among (v.outstanding ++ p ∷ []) n) in
+      let ring = or_left (is_ring_block v.layout.ring v.layout.size n) (among (v.outstanding ++ p ∷ []) n) in
+      let packet = or_right (is_ring_block v.layout.ring v.layout.size n) (among (v.outstanding ++ p ∷ []) n) in
       elim (or_cases (n == b) (has_lent v n) is) [
         | inl newest ↦ packet (in_newest v.outstanding p n (subst (λ (k : ℕ). (n == k) ≡ true) same newest))
-        | inr has ↦ elim (or_cases (n == v.layout.ring) (among v.outstanding n) has) [
+        | inr has ↦ elim (or_cases (is_ring_block v.layout.ring v.layout.size n) (among v.outstanding n) has) [
           | inl here ↦ ring here
           | inr there ↦ packet (in_more v.outstanding p n there)
         ]
       ]
 
   pub has_reaped : n ≢ (packet_at v 0).block → Has (reaped v)
-  has_reaped ne has = elim (or_cases (n == v.layout.ring) (among v.outstanding n) has) [
-    | inl here ↦ or_left (n == v.layout.ring) (among (drop 1 v.outstanding) n) here
+  has_reaped ne has = elim (or_cases (is_ring_block v.layout.ring v.layout.size n) (among v.outstanding n) has) [
+    | inl here ↦ or_left (is_ring_block v.layout.ring v.layout.size n) (among (drop 1 v.outstanding) n) here
     | inr there ↦
-        or_right (n == v.layout.ring) (among (drop 1 v.outstanding) n)
+        or_right (is_ring_block v.layout.ring v.layout.size n) (among (drop 1 v.outstanding) n)
         (in_later v v.outstanding n refl ne there)
   ]
 

@@ -7,6 +7,7 @@ use Rattle.nic_device.specs.DmaArena.Block.{Block}
 use Rattle.nic_device.specs.declared.event.Reply.{Reply}
 use Rattle.nic_device.specs.declared.event.Reply.TheVariants as reply
 use Rattle.device_lock.specs.Alone.{Blocks}
+use Rattle.pmd_tx.specs.PmdSeam.Slots.{is_ring_block}
 use Rattle.pmd_tx.specs.Sending.{Outgoing, Sender, Move, Accepts, Asks, Advances, Looks, Reaps, blocks_of, has_lent, moved}
 use Rattle.transmit_laws.specs.Alone.{LendsOneOf}
 
@@ -38,27 +39,30 @@ any_less [] n is = is
 any_less (p ∷ ps) n is = or_right (n == p.block) (list_any (λ b. n == b) (blocks_of ps)) is
 
 module _ (mine : Blocks) (v : Sender) (all : AreMine mine v) where
-  ring_mine : (n : ℕ) → (n == v.layout.ring) ≡ true → mine n ≡ true
-  ring_mine n is = all n (or_left (n == v.layout.ring) (list_any (λ b. n == b) (blocks_of v.outstanding)) is)
+  abbrev own : ℕ → Bool
+  own n = is_ring_block v.layout.ring v.layout.size n
+
+  ring_mine : (n : ℕ) → own n ≡ true → mine n ≡ true
+  ring_mine n is = all n (or_left (own n) (list_any (λ b. n == b) (blocks_of v.outstanding)) is)
 
   packet_mine : (n : ℕ) → list_any (λ b. n == b) (blocks_of v.outstanding) ≡ true → mine n ≡ true
-  packet_mine n is = all n (or_right (n == v.layout.ring) (list_any (λ b. n == b) (blocks_of v.outstanding)) is)
+  packet_mine n is = all n (or_right (own n) (list_any (λ b. n == b) (blocks_of v.outstanding)) is)
 
   more_mine : (p : Outgoing) → mine p.block ≡ true → (n : ℕ)
-      → (n == v.layout.ring || list_any (λ b. n == b) (blocks_of (v.outstanding ++ p ∷ []))) ≡ true → mine n ≡ true
-  more_mine p own n is =
-      elim (or_cases (n == v.layout.ring) (list_any (λ b. n == b) (blocks_of (v.outstanding ++ p ∷ []))) is) [
+      → (own n || list_any (λ b. n == b) (blocks_of (v.outstanding ++ p ∷ []))) ≡ true → mine n ≡ true
+  more_mine p has n is =
+      elim (or_cases (own n) (list_any (λ b. n == b) (blocks_of (v.outstanding ++ p ∷ []))) is) [
         | inl e ↦ ring_mine n e
         | inr e ↦ elim (any_more v.outstanding p n e) [
-          | inl same ↦ ap mine same ∙ own
+          | inl same ↦ ap mine same ∙ has
           | inr there ↦ packet_mine n there
         ]
       ]
 
   less_mine : (n : ℕ)
-      → (n == v.layout.ring || list_any (λ b. n == b) (blocks_of (drop 1 v.outstanding))) ≡ true → mine n ≡ true
+      → (own n || list_any (λ b. n == b) (blocks_of (drop 1 v.outstanding))) ≡ true → mine n ≡ true
   less_mine n is =
-      elim (or_cases (n == v.layout.ring) (list_any (λ b. n == b) (blocks_of (drop 1 v.outstanding))) is) [
+      elim (or_cases (own n) (list_any (λ b. n == b) (blocks_of (drop 1 v.outstanding))) is) [
         | inl e ↦ ring_mine n e
         | inr e ↦ packet_mine n (any_less v.outstanding n e)
       ]

@@ -5,6 +5,8 @@ use Rattle.std.specs.FinMap as fin
 use Rattle.std.proofs.lemmas.List.{length-drop, drop-drop, get_or-drop}
 use Rattle.nic_device.specs.DmaArena.Memory.{Memory, read_at}
 use Rattle.nic_device.proofs.DmaArena.Bus.{get-remove_other}
+use Rattle.pmd_tx.specs.PmdSeam.Slots.{EachRingBlock}
+use Rattle.pmd_tx.proofs.PmdSeam.Rings.{ring_block_apart}
 use Rattle.pmd_tx.specs.Sending.{Outgoing, Sender, no_packet, packet_at, slot_at, descriptor_at, asking, reaped}
 use Rattle.transmit_laws.specs.Agreeing.{IsLayout, IsSetUp, IsReady, IsPosted, IsCounted, Shows, bytes_of, kept_in}
 use Rattle.nic_device.specs.RegisterLaws.Sides.{TransmitQueue}
@@ -66,17 +68,18 @@ module _ (v : Sender) (g : ℕ) (l : IsLayout v.layout) (c : IsCounted v (g + 1)
     without = fin.remove m (packet_at v 0).block
 
     other_block : (k : ℕ) → k < length (drop 1 v.outstanding)
-        → IsReady without v.layout.ring (packet_at v (k + 1))
+        → IsReady without v.layout.ring v.layout.size (packet_at v (k + 1))
     other_block k known =
         let there : k + 1 < length v.outstanding = omega (arith, fewer) in
-        ready-same m without v.layout.ring (packet_at v (k + 1))
+        ready-same m without v.layout.ring v.layout.size (packet_at v (k + 1))
         (get-remove_other m (packet_at v 0).block (packet_at v (k + 1)).block
         (c.apart (k + 1) 0 there oldest (omega arith)))
         (h.ready (k + 1) there)
 
-    ring_stays : fin.get without v.layout.ring ≡ fin.get m v.layout.ring
-    ring_stays =
-        get-remove_other m (packet_at v 0).block v.layout.ring (λ e. (h.ready 0 oldest).apart (sym e))
+    ring_stays : EachRingBlock v.layout.ring v.layout.size (λ n. fin.get without n ≡ fin.get m n)
+    ring_stays k below =
+        let other = ring_block_apart v.layout.ring v.layout.size (packet_at v 0).block (h.ready 0 oldest).apart k below in
+        get-remove_other m (packet_at v 0).block (v.layout.ring + k) (λ e. other (sym e))
 
     slot_stays : (k : ℕ) → k < v.layout.size
         → read_at without (descriptor_at (reaped v).layout k) 16 ≡ read_at m (descriptor_at v.layout (k + 1)) 16
@@ -86,7 +89,7 @@ module _ (v : Sender) (g : ℕ) (l : IsLayout v.layout) (c : IsCounted v (g + 1)
 
     pub shows-reaped : Shows without (reaped v) g
     shows-reaped = record {
-      ring = ap is_some ring_stays ∙ h.ring;
+      ring = λ k below. ap is_some (ring_stays k below) ∙ h.ring k below;
       ready = λ k i. rw (behind k) (other_block k i);
       done = λ k i. rw (behind k)
           (slot_stays k (omega (arith, c.fetched_posted, c.posted_known, c.room)) ∙ h.done (k + 1) (omega arith));

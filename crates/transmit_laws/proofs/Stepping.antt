@@ -1,8 +1,9 @@
 -- Steps of transmitting of the driver's own queue.
 use Rattle.std.proofs.Common.{◌≡◌, ◌≢◌, ℕ, ◌+◌, ◌*◌, ◌%◌, ◌^◌, ◌<◌, ◌≤◌, inl, inr, false, not, List, length, refl, sym, ap, ◌∙◌, arith}
-use Rattle.std.specs.Prelude.{◌==◌}
+use Rattle.std.specs.Prelude.{◌==◌, IsTrue}
 use Rattle.std.proofs.lemmas.Bool.{and_cases, eqb-false, lt-ltb, cases_lt, both_ways}
 use Rattle.std.proofs.Math.Nat.{mod-eq_of_lt}
+use Rattle.nic_device.specs.DmaArena.Memory.{has_block}
 use Rattle.nic_device.proofs.DmaArena.Bus.{small_of_lent}
 use Rattle.nic_device.specs.DmaRing.Ring.{slots_of, is_outside}
 use Rattle.nic_device.specs.TxRing.Report.{head_address}
@@ -10,6 +11,7 @@ use Rattle.nic_device.specs.RegisterLaws.Sides.{TransmitQueue, transmit_queue_of
 use Rattle.nic_device.specs.Receive.{is_empty}
 use Rattle.nic_device.specs.State.{State}
 use Rattle.nic_device.specs.Transmit.{sending_of}
+use Rattle.pmd_tx.proofs.PmdSeam.Rings.{each_first}
 use Rattle.pmd_tx.specs.Sending.{Outgoing, Sender, packet_at, slot_at, descriptor_at}
 use Rattle.transmit_laws.specs.Agreeing.{AgreesAt}
 use Rattle.transmit_laws.proofs.Blocks.{slot-lent}
@@ -42,7 +44,9 @@ module _ (s : State) (queue : ℕ) (sent : List (List ℕ)) (v : Sender) (f : �
       rw (h.set_up.base, h.set_up.head) refl in
       let low = below f h.counted.fetched_posted in
       let few = h.based.layout.few in
-      let small = small_of_lent s.memory v.layout.ring h.based.sound.blocks.whole h.shows.ring in
+      let first = each_first v.layout.ring v.layout.size (λ n. IsTrue (has_block s.memory n)) h.based.layout.some
+      h.shows.ring in
+      let small = small_of_lent s.memory v.layout.ring h.based.sound.blocks.whole first in
       ap (λ (n : ℕ). n % 2 ^ 64) e ∙ mod-eq_of_lt (omega arith)
 
   -- where the queue isn't silent, a packet is posted and not fetched

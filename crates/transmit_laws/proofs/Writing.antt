@@ -1,12 +1,15 @@
 -- A descriptor of the ring that is written: the others and the packets stay.
 use Rattle.std.proofs.Common.{◌≡◌, ◌≢◌, ℕ, ◌*◌, ◌<◌, true, List, length, ◌∙◌, arith}
+use Rattle.std.specs.Prelude.{IsTrue}
 use Rattle.nic_device.specs.DmaArena.Memory.{Memory, has_block, read_at, write_at, AreApart, IsWhole}
 use Rattle.nic_device.proofs.DmaArena.Bus.{read_at-write_at_same, read_at-write_at_apart, SameLent-write_at}
+use Rattle.pmd_tx.specs.PmdSeam.Slots.{EachRingBlock}
 use Rattle.pmd_tx.specs.Sending.{Outgoing, Sender, descriptor_at}
 use Rattle.transmit_laws.specs.Agreeing.{IsLayout, IsReady}
 use Rattle.transmit_laws.proofs.Blocks.{slot-lent, slots-apart, packet-apart}
 
-module _ (m : Memory) (whole : IsWhole m) (v : Sender) (l : IsLayout v.layout) (has : has_block m v.layout.ring ≡ true)
+module _ (m : Memory) (whole : IsWhole m) (v : Sender) (l : IsLayout v.layout)
+    (has : EachRingBlock v.layout.ring v.layout.size (λ n. IsTrue (has_block m n)))
     (k : ℕ) (below : k < v.layout.size) (bytes : List ℕ) (size : length bytes ≡ 16)
   where
     abbrev pub written : Memory
@@ -28,7 +31,8 @@ module _ (m : Memory) (whole : IsWhole m) (v : Sender) (l : IsLayout v.layout) (
     pub lent-still : (b : ℕ) → has_block m b ≡ true → has_block written b ≡ true
     lent-still b is = SameLent-write_at m (descriptor_at v.layout k) bytes b ∙ is
 
-    pub ready-still : (p : Outgoing) → IsReady m v.layout.ring p → IsReady written v.layout.ring p
+    pub ready-still : (p : Outgoing) → IsReady m v.layout.ring v.layout.size p
+        → IsReady written v.layout.ring v.layout.size p
     ready-still p ready = record {
       long = ready.long;
       short = ready.short;

@@ -1,5 +1,5 @@
 -- What a device and a driver that sends on one of its queues agree on.
-use Rattle.std.specs.Prelude.{ℕ, ◌*◌, ◌≡◌, ◌≢◌, ◌<◌, ◌≤◌, true, IsTrue, List, [], ◌++◌, length, drop, map, None}
+use Rattle.std.specs.Prelude.{ℕ, ◌*◌, ◌≡◌, ◌≢◌, ◌<◌, ◌≤◌, true, false, IsTrue, List, [], ◌++◌, length, drop, map, None}
 use Rattle.nic_device.specs.DmaArena.Memory.{Memory, has_block, read_at}
 use Rattle.nic_device.specs.RegTable.declared.rows.RowId.TheVariants.{Tdt}
 use Rattle.nic_device.specs.RegisterFile.Columns.{place}
@@ -12,6 +12,7 @@ use Rattle.nic_device.specs.State.{State}
 use Rattle.nic_device.specs.Transmit.{staged_by}
 use Rattle.nic_device.specs.declared.named.Named.TheVariants.{Register}
 use Rattle.pmd_tx.specs.PmdSeam.Packet.{Kept}
+use Rattle.pmd_tx.specs.PmdSeam.Slots.{is_ring_block, EachRingBlock}
 use Rattle.pmd_tx.specs.Sending.{Layout, Outgoing, Sender, packet_at, slot_at, descriptor_at, asking}
 
 -- the bytes of packets
@@ -29,10 +30,10 @@ IsPosted m address p = read_at m address 16 ≡ asking p
 abbrev pub IsDone : Memory → ℕ → Outgoing → Type 0
 IsDone m address p = read_at m address 16 ≡ done_descriptor (asking p)
 
--- a ring of at most 128 slots
+-- a ring of at most 1,024 slots
 pub record IsLayout (l : Layout) : Type 0 where
   pub some : 0 < l.size
-  pub few : l.size ≤ 128
+  pub few : l.size ≤ 1024
   pub next : l.next < l.size
 
 -- what an event keeps that writes no setting: the device is sound, the driver's number of its tail's register names
@@ -45,7 +46,7 @@ pub record IsBased (s : State) (queue : ℕ) (l : Layout) : Type 0 where
   pub limit : frame_limit s.registers ≡ 1514
 
 -- the transmit side is the driver's, where so many of the outstanding packets are posted and so many were fetched: its
--- ring is in the driver's block, its head is the slot of the first packet that wasn't fetched, its tail that of the
+-- ring begins with the driver's block, its head is the slot of the first packet that wasn't fetched, its tail that of the
 -- first that isn't posted, and the head isn't written to memory. The side may be on or off
 pub record IsSetUp (side : TransmitQueue) (l : Layout) (posted fetched : ℕ) : Type 0 where
   pub base : side.ring.base ≡ 2048 * l.ring
@@ -54,12 +55,13 @@ pub record IsSetUp (side : TransmitQueue) (l : Layout) (posted fetched : ℕ) : 
   pub tail : side.ring.tail ≡ slot_at l posted
   pub writeback : side.writeback ≡ None
 
--- a packet can be sent: it has 60 to 1,514 bytes, with which its block begins, lent beside the ring's
-pub record IsReady (m : Memory) (ring : ℕ) (p : Outgoing) : Type 0 where
+-- a packet can be sent: it has 60 to 1,514 bytes, with which its block begins, lent beside those of a ring of so many
+-- slots, which begins with the block of this number
+pub record IsReady (m : Memory) (ring size : ℕ) (p : Outgoing) : Type 0 where
   pub long : 60 ≤ length p.kept.bytes
   pub short : length p.kept.bytes ≤ 1514
   pub lent : IsTrue (has_block m p.block)
-  pub apart : p.block ≢ ring
+  pub apart : is_ring_block ring size p.block ≡ false
   pub bytes : read_at m (2048 * p.block) (length p.kept.bytes) ≡ p.kept.bytes
 
 -- the packets have a slot each beside one, all fetched ones are posted, and no two are in one block
@@ -75,8 +77,8 @@ pub record IsCounted (v : Sender) (fetched : ℕ) : Type 0 where
 -- memory has the ring and the packets: the descriptors of the fetched ones are done, and those of the other posted ones
 -- ask for them
 pub record Shows (m : Memory) (v : Sender) (fetched : ℕ) : Type 0 where
-  pub ring : IsTrue (has_block m v.layout.ring)
-  pub ready : (k : ℕ) → k < length v.outstanding → IsReady m v.layout.ring (packet_at v k)
+  pub ring : EachRingBlock v.layout.ring v.layout.size (λ n. IsTrue (has_block m n))
+  pub ready : (k : ℕ) → k < length v.outstanding → IsReady m v.layout.ring v.layout.size (packet_at v k)
   pub done : (k : ℕ) → k < fetched → IsDone m (descriptor_at v.layout k) (packet_at v k)
   pub waits : (k : ℕ) → fetched ≤ k → k < v.posted → IsPosted m (descriptor_at v.layout k) (packet_at v k)
   pub next :

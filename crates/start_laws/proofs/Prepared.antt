@@ -1,5 +1,5 @@
 -- Where a ring was prepared some calls were made, and each of its blocks was lent by one of them.
-use Rattle.std.proofs.Common.{◌≡◌, ◌≢◌, ℕ, zero, suc, ◌+◌, ◌<◌, List, [], ◌∷◌, sym, ap, ◌∙◌, ◌++◌, append_assoc, subst, arith}
+use Rattle.std.proofs.Common.{◌≡◌, ◌≢◌, ℕ, zero, suc, ◌+◌, ◌<◌, List, [], ◌∷◌, sym, ap, ◌∙◌, ◌++◌, append_assoc, length, subst, arith}
 use Rattle.std.specs.List.{range_with_len}
 use Rattle.std.proofs.lemmas.List.{append-nil}
 use Rattle.nic_device.specs.DmaArena.Numbers.{Numbers}
@@ -7,7 +7,7 @@ use Rattle.nic_device.specs.DmaRing.declared.dir.Dir.{Dir}
 use Rattle.nic_device.specs.DmaRing.declared.dir.Dir.TheVariants.{Rx, Tx}
 use Rattle.device_lock.specs.declared.entry.Call.{Call}
 use Rattle.pmd.specs.PmdSeam.Named.{AtPort}
-use Rattle.pmd.specs.PmdSeam.QueueMade.{AreMade}
+use Rattle.pmd.specs.PmdSeam.QueueMade.{Access, AreMade}
 use Rattle.pmd.specs.PmdSeam.Sides.{ring_words}
 use Rattle.pmd.specs.PmdSeam.Slots.{blocks_for, EachRingBlock}
 use Rattle.pmd.specs.Starting.{IsPrepared, LendsEach}
@@ -15,10 +15,14 @@ use Rattle.start_laws.proofs.Lends.{lending}
 use Rattle.start_laws.proofs.Made.{ends_some, first_made}
 use Rattle.start_laws.proofs.Lent.{Has, has_more}
 
+listed_some : (q : AtPort) (all : List Access) (old new : List Call) → 0 < length all → AreMade q old new all → new ≢ []
+listed_some q [] old new some made = absurd (omega (arith, some))
+listed_some q (a ∷ rest) old new some made = first_made q a rest old new made
+
 words_some : (q : AtPort) (side : Dir) (ring size : ℕ) (old new : List Call)
     → AreMade q old new (ring_words side ring size) → new ≢ []
-words_some q Rx ring size old new made = first_made q _ _ old new made
-words_some q Tx ring size old new made = first_made q _ _ old new made
+words_some q Rx ring size old new made = listed_some q (ring_words Rx ring size) old new (omega arith) made
+words_some q Tx ring size old new made = listed_some q (ring_words Tx ring size) old new (omega arith) made
 
 -- blocks that are lent add their calls
 

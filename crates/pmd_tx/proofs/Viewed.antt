@@ -24,8 +24,8 @@ module _ (l : Layout) (bs : List ℕ) (posted : ℕ) (poked seen : Bool) (ks : L
     forgotten_shown n cs p at are some is = rw (at, are, is, outstanding-drop bs ks h.known some) refl
 
     -- whether a block is lent, by whether it is one of the ring's
-    module _ (v : Sender) (is : shown l bs posted poked seen ks ≡ v) (n ring : ℕ) (own : Bool) (at : ring ≡ v.layout.ring)
-        (tells : own ≡ is_ring_block ring l.size n)
+    module _ (v : Sender) (is : shown l bs posted poked seen ks ≡ v) (n ring : ℕ) (own : Bool)
+        (at : ring ≡ v.layout.ring) (tells : own ≡ is_ring_block ring l.size n)
       where
         own_is : own ≡ is_ring_block v.layout.ring v.layout.size n
         own_is = tells ∙ ap (λ (k : ℕ). is_ring_block k l.size n) at

@@ -82,9 +82,9 @@ impl Model for TransmitRing {
 }
 
 impl TransmitRing {
-    /// A ring whose queue goes on: of 1 to 1,024 slots, in blocks that follow one another from that of the number `ring`
-    /// on, all below 65,536. `tail` is the number that the tail's register has at the port. Nothing is outstanding. It
-    /// takes no memory.
+    /// A ring whose queue goes on: of 1 to 1,024 slots, in blocks that follow one another from that of the number
+    /// `ring` on, all below 65,536. `tail` is the number that the tail's register has at the port. Nothing is
+    /// outstanding. It takes no memory.
     #[tactic(auto, using(crate::proofs::Outstanding::outstanding))]
     pub fn new(alloc: Global, port: Port, tail: u32, ring: u32, size: u16) -> TransmitRing
         requires some { 0 < size }

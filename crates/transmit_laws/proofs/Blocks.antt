@@ -121,8 +121,8 @@ module _ (m n : Memory) (v : Sender) (f : ℕ) (l : IsLayout v.layout) (c : IsCo
     shows-same = record {
       ring = λ k below. ap is_some (ring-same k below) ∙ h.ring k below;
       ready = λ k i.
-          ready-same m n v.layout.ring v.layout.size (packet_at v k) (same (packet_at v k).block (has_lent-packet v k i))
-          (h.ready k i);
+          ready-same m n v.layout.ring v.layout.size (packet_at v k)
+          (same (packet_at v k).block (has_lent-packet v k i)) (h.ready k i);
       done = λ k i. stays k (omega (arith, c.room, c.posted_known, c.fetched_posted)) ∙ h.done k i;
       waits = λ k i j. stays k (omega (arith, c.room, c.posted_known)) ∙ h.waits k i j;
       next = λ e. ((h.next e).0, stays v.posted (omega (arith, c.room, c.posted_known)) ∙ (h.next e).1);

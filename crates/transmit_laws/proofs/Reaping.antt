@@ -78,8 +78,9 @@ module _ (v : Sender) (g : ℕ) (l : IsLayout v.layout) (c : IsCounted v (g + 1)
 
     ring_stays : EachRingBlock v.layout.ring v.layout.size (λ n. fin.get without n ≡ fin.get m n)
     ring_stays k below =
-        let other = ring_block_apart v.layout.ring v.layout.size (packet_at v 0).block (h.ready 0 oldest).apart k below in
-        get-remove_other m (packet_at v 0).block (v.layout.ring + k) (λ e. other (sym e))
+        let p = packet_at v 0 in
+        let other = ring_block_apart v.layout.ring v.layout.size p.block (h.ready 0 oldest).apart k below in
+        get-remove_other m p.block (v.layout.ring + k) (λ e. other (sym e))
 
     slot_stays : (k : ℕ) → k < v.layout.size
         → read_at without (descriptor_at (reaped v).layout k) 16 ≡ read_at m (descriptor_at v.layout (k + 1)) 16

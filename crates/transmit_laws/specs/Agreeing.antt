@@ -46,8 +46,8 @@ pub record IsBased (s : State) (queue : ℕ) (l : Layout) : Type 0 where
   pub limit : frame_limit s.registers ≡ 1514
 
 -- the transmit side is the driver's, where so many of the outstanding packets are posted and so many were fetched: its
--- ring begins with the driver's block, its head is the slot of the first packet that wasn't fetched, its tail that of the
--- first that isn't posted, and the head isn't written to memory. The side may be on or off
+-- ring begins with the driver's block, its head is the slot of the first packet that wasn't fetched, its tail that of
+-- the first that isn't posted, and the head isn't written to memory. The side may be on or off
 pub record IsSetUp (side : TransmitQueue) (l : Layout) (posted fetched : ℕ) : Type 0 where
   pub base : side.ring.base ≡ 2048 * l.ring
   pub length : side.ring.length ≡ 16 * l.size

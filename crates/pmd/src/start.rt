@@ -150,7 +150,11 @@ fn left_after_one(
     ensures rest { IsHalfStarted queue (with_receive_ring arena receive unprepared.lent.items) result.rest }
 {
     let Unprepared { fault, lent } = unprepared;
-    half_started(fault, queue, Halted::of_receive(alloc, arena, receive, lent))
+    half_started(
+        fault,
+        queue,
+        Halted::of_receive(alloc, arena, receive, lent),
+    )
 }
 
 /// Brings the rings of a queue up, one after the other.

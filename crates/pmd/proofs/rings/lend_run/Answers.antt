@@ -18,7 +18,7 @@ loop-k-preserved g c = record {
   drawn = subst (λ (x : Numbers). IsDrawn c.args.arena.now (range_with_len c.args.first (c.loop-k.k + 1)) x)
       (sym c.in-Ok.ensures.drawn)
       (drawn_next c.args.arena.now c.args.first c.loop-k.k c.loop-k.arena c.loop-k.invariant.drawn (next_free c.args.arena.now c.args.first c.args.count c.loop-k.k c.loop-k.arena c.loop-k.invariant.drawn
-    (omega (arith, c.loop-k-test.true)) c.requires.free));
+      (omega (arith, c.loop-k-test.true)) c.requires.free));
   items =
       c.push_back_reserved.ensures.items
       ∙ ap (λ (l : List ℕ). l ++ (c.args.first + c.loop-k.k) ∷ []) c.loop-k.invariant.items

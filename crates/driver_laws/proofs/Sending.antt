@@ -51,8 +51,8 @@ module _ (s : State) (queue : ℕ) (sent : List (List ℕ)) (u : Sender) (f : �
   -- it is lent
   pub sender_lent : (n : ℕ) → IsTrue (has_lent u n) → has_block s.memory n ≡ true
   sender_lent n is =
-      elim (or_cases (is_ring_block u.layout.ring u.layout.size n) (list_any (λ b. n == b) (blocks_of u.outstanding)) is)
-      as
+      let l = u.layout in
+      elim (or_cases (is_ring_block l.ring l.size n) (list_any (λ b. n == b) (blocks_of u.outstanding)) is) as
       (λ _. has_block s.memory n ≡ true) [
         | inl ring ↦
             each_ring_block u.layout.ring u.layout.size (λ x. has_block s.memory x ≡ true) h.shows.ring n ring

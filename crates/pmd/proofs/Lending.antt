@@ -30,14 +30,22 @@ drawn_more a (x ∷ xs) b n (here, is) free = (here, drawn_more (with_free a x f
 
 lends_more : (old mid new : List Call) (xs : List ℕ) (n : ℕ) → LendsEach old mid xs
     → IsLent mid new (zero_block n) None → LendsEach old new (xs ++ n ∷ [])
-lends_more old mid new [] n is lent = (new, subst (λ (calls : List Call). IsLent calls new (zero_block n) None) is lent, refl)
+lends_more old mid new [] n is lent =
+    (new, subst (λ (calls : List Call). IsLent calls new (zero_block n) None) is lent, refl)
 lends_more old mid new (x ∷ xs) n (next, one, rest) lent = (next, one, lends_more next mid new xs n rest lent)
 
-pub drawn_next : (a : Numbers) (first k : ℕ) (b : Numbers) → IsDrawn a (range_with_len first k) b
-    → is_free b (first + k) ≡ true → IsDrawn a (range_with_len first (k + 1)) (with_free b (first + k) false)
-drawn_next a first k b is free =
+-- the next of a run of free ones is free still
+pub next_free : (a : Numbers) (first count k : ℕ) (b : Numbers) → IsDrawn a (range_with_len first k) b → k < count
+    → IsFreeRun a first count → is_free b (first + k) ≡ true
+next_free a first count k b drawn below free =
+    drawn_keeps a (range_with_len first k) b (first + k) drawn (free k below)
+    (none_behind k first (first + k) (omega arith))
+
+pub drawn_next : (a : Numbers) (first count k : ℕ) (b : Numbers) → IsDrawn a (range_with_len first k) b → k < count
+    → IsFreeRun a first count → IsDrawn a (range_with_len first (k + 1)) (with_free b (first + k) false)
+drawn_next a first count k b is below free =
     subst (λ (l : List ℕ). IsDrawn a l (with_free b (first + k) false)) (sym (range_more first k))
-    (drawn_more a (range_with_len first k) b (first + k) is free)
+    (drawn_more a (range_with_len first k) b (first + k) is (next_free a first count k b is below free))
 
 pub lends_next : (old mid new : List Call) (first k : ℕ) → LendsEach old mid (range_with_len first k)
     → IsLent mid new (zero_block (first + k)) None → LendsEach old new (range_with_len first (k + 1))
@@ -58,16 +66,10 @@ split_at first (suc k) rest (suc many) is =
     ap (λ (n : ℕ). first ∷ (range_with_len (first + 1) k ++ n ∷ range_with_len (n + 1) rest)) at
     ∙ ap (λ (l : List ℕ). first ∷ l) (split_at (first + 1) k rest many (omega (arith, is)))
 
--- the next of a run of free ones is free still
-pub next_free : (a : Numbers) (first count k : ℕ) (b : Numbers) → IsDrawn a (range_with_len first k) b → k < count
-    → IsFreeRun a first count → is_free b (first + k) ≡ true
-next_free a first count k b drawn below free =
-    drawn_keeps a (range_with_len first k) b (first + k) drawn (free k below) (none_behind k first (first + k) (omega arith))
-
 -- where the next one isn't lent
 pub stops_next : (f : PmdFault) (first count k : ℕ) (old : List Call) (a : Numbers) (mid : List Call) (b : Numbers)
     (new : List Call) (out : List ℕ) → k < count → LendsEach old mid (range_with_len first k)
-    → IsDrawn a (range_with_len first k) b → is_free b (first + k) ≡ true
+    → IsDrawn a (range_with_len first k) b → IsFreeRun a first count
     → LendingFails f mid new (zero_block (first + k)) → out ≡ range_with_len first k
     → StopsLending f (range_with_len first count) old a new b out
 stops_next f first count k old a mid b new out below lent drawn free fails is =
@@ -77,7 +79,7 @@ stops_next f first count k old a mid b new out below lent drawn free fails is =
       rest = range_with_len (first + k + 1) (count - k - 1);
       parts = split_at first k (count - k - 1) count left;
       drawn = drawn;
-      free = free;
+      free = next_free a first count k b drawn below free;
       mid = mid;
       lent = lent;
       fails = fails;

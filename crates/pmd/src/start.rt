@@ -203,14 +203,14 @@ fn bring_up<N: Nic>(
 }
 
 impl Pmd {
-    /// Starts a driver of a queue, which is off: `size` descriptors for each ring, a multiple of 8 from 8 to 1,024. Each
-    /// ring takes a run of blocks of the arena, one for every 128 descriptors, and `size` - 1 blocks are posted for
-    /// frames to come.
+    /// Starts a driver of a queue, which is off: `size` descriptors for each ring, a multiple of 8 from 8 to 1,024.
+    /// Each ring takes a run of blocks of the arena, one for every 128 descriptors, and `size` - 1 blocks are posted
+    /// for frames to come.
     ///
     /// Before any event: `BadSize` where the size is another, `NoBuffer` where fewer blocks are free than that, or no
-    /// two such runs, and `DeviceFault` where the port can't name the queue. Then `DeviceFault` where a side of the queue is on or the
-    /// device answers what it can't on a healthy queue, `StartTimeout` where 1,000 polls show a side off, and `Call`
-    /// where a call was refused. Once a block was lent, the driver is left as it came.
+    /// two such runs, and `DeviceFault` where the port can't name the queue. Then `DeviceFault` where a side of the
+    /// queue is on or the device answers what it can't on a healthy queue, `StartTimeout` where 1,000 polls show a side
+    /// off, and `Call` where a call was refused. Once a block was lent, the driver is left as it came.
     pub fn start<N: Nic>(
         alloc: Global,
         nic: &mut N,

@@ -115,7 +115,8 @@ module _ (w : Watched) (fifo : ℕ) (h : List Entry) (q : AtPort) (size : ℕ) (
       even : 16 * size % 128 ≡ 0
       even = (sized size is).2
 
-      ready_at : Reaches up.ready_made (λ p. with_all (ring_blocks ring size) (after_accesses (ring_words Rx ring size) p))
+      ready_at : Reaches up.ready_made
+          (λ p. with_all (ring_blocks ring size) (after_accesses (ring_words Rx ring size) p))
       ready_at =
           prepared_at w q fifo h along Known Unused (unused_kept w fifo) Rx size (λ p. p) up.receive.mid a up.ready_made
           up.ready_arena ring
@@ -128,8 +129,8 @@ module _ (w : Watched) (fifo : ℕ) (h : List Entry) (q : AtPort) (size : ℕ) (
       both_at : Reaches up.both_made (laid ring size other)
       both_at =
           prepared_at w q fifo h along Known Unused (unused_kept w fifo) Tx size
-          (λ p. with_all (ring_blocks ring size) (after_accesses (ring_words Rx ring size) p)) up.ready_made up.ready_arena up.both_made
-          up.both_arena other
+          (λ p. with_all (ring_blocks ring size) (after_accesses (ring_words Rx ring size) p)) up.ready_made
+          up.ready_arena up.both_made up.both_arena other
           (λ p known.
           may_lay_transmit ring size other (of_size ring one) (of_size other two) even p (off p known).1)
           two up.transmit.prepared

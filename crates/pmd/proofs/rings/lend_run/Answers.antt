@@ -17,13 +17,15 @@ loop-k-preserved g c = record {
   lent = lends_next _ _ _ c.args.first c.loop-k.k c.loop-k.invariant.lent c.in-Ok.ensures.lent;
   drawn = subst (λ (x : Numbers). IsDrawn c.args.arena.now (range_with_len c.args.first (c.loop-k.k + 1)) x)
       (sym c.in-Ok.ensures.drawn)
-      (drawn_next c.args.arena.now c.args.first c.loop-k.k c.loop-k.arena c.loop-k.invariant.drawn (next_free c.args.arena.now c.args.first c.args.count c.loop-k.k c.loop-k.arena c.loop-k.invariant.drawn
-      (omega (arith, c.loop-k-test.true)) c.requires.free));
+      (drawn_next c.args.arena.now c.args.first c.args.count c.loop-k.k c.loop-k.arena c.loop-k.invariant.drawn
+      (omega (arith, c.loop-k-test.true)) c.requires.free);
   items =
       c.push_back_reserved.ensures.items
       ∙ ap (λ (l : List ℕ). l ++ (c.args.first + c.loop-k.k) ∷ []) c.loop-k.invariant.items
       ∙ sym (range_more c.args.first c.loop-k.k);
-  room = omega (arith, c.loop-k.invariant.room, c.push_back_reserved.ensures.len, c.push_back_reserved.ensures.capacity);
+  room =
+      omega
+      (arith, c.loop-k.invariant.room, c.push_back_reserved.ensures.len, c.push_back_reserved.ensures.capacity);
   who = c.lend_one.ensures.who ∙ c.loop-k.invariant.who;
   refuses = c.lend_one.ensures.refuses ∙ c.loop-k.invariant.refuses;
 }
@@ -34,6 +36,5 @@ returns-in-Err-clause-stops g c =
     (g.N.Nic.made c.args.nic.now) c.args.arena.now (g.N.Nic.made c.lend_one.new.nic) x c.loop-k.lent.items)
     (sym c.in-Err.ensures.kept)
     (stops_next c.in-Err.fault c.args.first c.args.count c.loop-k.k _ c.args.arena.now _ c.loop-k.arena _ _
-    (omega (arith, c.loop-k-test.true)) c.loop-k.invariant.lent c.loop-k.invariant.drawn (next_free c.args.arena.now c.args.first c.args.count c.loop-k.k c.loop-k.arena c.loop-k.invariant.drawn
-    (omega (arith, c.loop-k-test.true)) c.requires.free)
+    (omega (arith, c.loop-k-test.true)) c.loop-k.invariant.lent c.loop-k.invariant.drawn c.requires.free
     c.in-Err.ensures.failed c.loop-k.invariant.items)

@@ -50,7 +50,8 @@ returns g c =
             (e.faults ring);
         receive = refl;
       };
-      blocks = reaped_kept q s some.0 some.1 (ap (λ (l : Layout). ring_blocks l.ring l.size) e.layout) refl c.self.invariant;
+      blocks = reaped_kept q s some.0 some.1 (ap (λ (l : Layout). ring_blocks l.ring l.size) e.layout) refl
+          c.self.invariant;
       who = e.who;
       refuses = e.refuses;
       refusal = e.refusal;

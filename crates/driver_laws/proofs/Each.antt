@@ -13,7 +13,7 @@ fresh_both (Named o b) P Q p q = (p, q)
 -- two facts of each
 pub each_both : (v : Receive) (P Q : ℕ → Type 0) → Each v P → Each v Q → Each v (λ b. P b × Q b)
 each_both v P Q p q = record {
-  ring = (p.ring, q.ring);
+  ring = λ k below. (p.ring k below, q.ring k below);
   blocks = λ k i. (p.blocks k i, q.blocks k i);
   fresh = fresh_both v.stage P Q p.fresh q.fresh;
 }
@@ -30,7 +30,7 @@ fresh_all (Named o b) Q P f = f
 pub each_all : (v : Receive) (Q : ℕ → Type 0) (P : ℕ → ℕ → Type 0) → ((n : ℕ) → Q n → Each v (λ b. P b n))
     → Each v (λ b. (n : ℕ) → Q n → P b n)
 each_all v Q P f = record {
-  ring = λ n q. (f n q).ring;
+  ring = λ k below n q. (f n q).ring k below;
   blocks = λ k i n q. (f n q).blocks k i;
   fresh = fresh_all v.stage Q P (λ n q. (f n q).fresh);
 }

@@ -1,5 +1,5 @@
 -- What an event of the receive half's own leaves: all blocks but its own, and the transmit side.
-use Rattle.std.proofs.Common.{◌≡◌, ◌≢◌, ℕ, ◌*◌, true, List, length, refl, sym, ap, ◌∙◌, subst, arith}
+use Rattle.std.proofs.Common.{◌≡◌, ◌≢◌, ℕ, ◌+◌, ◌*◌, ◌/◌, true, List, length, refl, sym, ap, ◌∙◌, subst, arith}
 use Rattle.std.specs.FinMap as map
 use Rattle.std.specs.Prelude.{IsTrue}
 use Rattle.nic_device.specs.DmaArena.Block.{Block}
@@ -26,9 +26,9 @@ use Rattle.pmd.specs.PmdTx.Sending.{Sender, has_lent}
 use Rattle.receive_laws.specs.Joint.{IsNamed, StageHolds, Holds}
 use Rattle.receive_laws.specs.Pieces.{Piece}
 use Rattle.receive_laws.specs.Steps.{Each}
-use Rattle.receive_laws.proofs.Kept.{slot_low}
+use Rattle.pmd.proofs.PmdSeam.Rings.{slot_block, slot_lies}
+use Rattle.receive_laws.proofs.Kept.{slot_below}
 use Rattle.receive_laws.proofs.HistoryLaws.SideNames.{plain-write}
-use Rattle.receive_laws.proofs.Places.{slot_inside}
 use Rattle.transmit_laws.specs.Sparing.{Spares}
 use Rattle.driver_laws.proofs.Lending.{lend_leaves}
 
@@ -68,12 +68,13 @@ module _ (queue : ℕ) (s : State) (out : List Piece) (v : Receive) (gone here :
         → LeavesBlock number s (after s (event.Poke16 a bytes))
     name_leaves a bytes (Lent o b) own =
         let l = v.layout in
+        let slot : ℕ = slot_at l (vacant l) in
         let size : length bytes ≡ 16 = ap length own.1 ∙ (halves_come_back (posted (2048 * b)) 0).size in
         memory_blocks.poke s a bytes number
         (subst (Avoids number a) (sym size)
-        (inside_avoids l.ring number a 16
-        (rw own.0 (slot_inside l.ring (slot_at l (vacant l)) (slot_low l (vacant l) h.ring (omega arith))))
-        (λ e. away.ring (sym e))))
+        (inside_avoids (l.ring + slot / 128) number a 16 (rw own.0 (slot_lies l.ring slot))
+        (λ e.
+        away.ring (slot / 128) (slot_block l.size slot (slot_below l (vacant l) h.ring (omega arith))) (sym e))))
     name_leaves a bytes Looks own = absurd own
     name_leaves a bytes (Sees first second) own = absurd own
     name_leaves a bytes (Holding p) own = absurd own

@@ -1,5 +1,5 @@
 -- What a move of the transmit half leaves: all blocks but its own, and the receive side.
-use Rattle.std.proofs.Common.{◌≡◌, ◌≢◌, ℕ, suc, ◌<◌, Bool, true, false, List, [], ◌∷◌, length, inl, inr, refl, sym, ap, ◌∙◌, subst, arith}
+use Rattle.std.proofs.Common.{◌≡◌, ◌≢◌, ℕ, suc, ◌+◌, ◌/◌, ◌<◌, Bool, true, false, List, [], ◌∷◌, length, inl, inr, refl, sym, ap, ◌∙◌, subst, arith}
 use Rattle.std.specs.FinMap as map
 use Rattle.std.specs.List.{list_any}
 use Rattle.std.specs.Prelude.{◌==◌, IsTrue, slice_index_or}
@@ -20,13 +20,16 @@ use Rattle.receive_laws.specs.DeviceLaws.Leaving.{LeavesBlock, LeavesReceive}
 use Rattle.receive_laws.proofs.DeviceLaws.KeptSettings.{settings_stand}
 use Rattle.receive_laws.proofs.DeviceLaws.Standing.{memory_blocks, memory_rest, stays_within}
 use Rattle.receive_laws.proofs.DeviceLaws.StandingAccesses.{write_memory, write_rest}
+use Rattle.pmd.specs.PmdSeam.Slots.{is_ring_block}
+use Rattle.pmd.proofs.PmdSeam.Rings.{each_ring_block, slot_block, slot_lies}
 use Rattle.pmd.specs.PmdRx.Receive.{Receive}
-use Rattle.pmd.specs.PmdTx.Sending.{Outgoing, Sender, Move, Accepts, Asks, Advances, Looks, Reaps, Elsewhere, IsOwn, blocks_of, has_lent, no_packet, packet_at}
+use Rattle.pmd.specs.PmdTx.Sending.{Outgoing, Sender, Move, Accepts, Asks, Advances, Looks, Reaps, Elsewhere, IsOwn, blocks_of, has_lent, no_packet, packet_at, slot_at}
 use Rattle.receive_laws.specs.Steps.{Each, Leaves}
 use Rattle.receive_laws.proofs.Each.{each_map}
 use Rattle.transmit_laws.specs.Agreeing.{AgreesAt}
 use Rattle.transmit_laws.proofs.Advancing.{setting_kept}
-use Rattle.transmit_laws.proofs.Blocks.{has_lent-ring, has_lent-packet, slot-inside}
+use Rattle.transmit_laws.proofs.Blocks.{has_lent-ring, has_lent-packet}
+use Rattle.transmit_laws.proofs.Slots.{slot-below}
 use Rattle.transmit_laws.proofs.Fetching.{length-asking}
 use Rattle.driver_laws.proofs.Each.{each_both}
 use Rattle.driver_laws.proofs.Lending.{lend_leaves}
@@ -48,10 +51,11 @@ module _ (s : State) (queue : ℕ) (sent : List (List ℕ)) (u : Sender) (f : �
   -- it is lent
   pub sender_lent : (n : ℕ) → IsTrue (has_lent u n) → has_block s.memory n ≡ true
   sender_lent n is =
-      elim (or_cases (n == u.layout.ring) (list_any (λ b. n == b) (blocks_of u.outstanding)) is) as
+      let l = u.layout in
+      elim (or_cases (is_ring_block l.ring l.size n) (list_any (λ b. n == b) (blocks_of u.outstanding)) is) as
       (λ _. has_block s.memory n ≡ true) [
         | inl ring ↦
-            subst (λ x. has_block s.memory x ≡ true) (sym (eqb-true n u.layout.ring ring)) h.shows.ring
+            each_ring_block u.layout.ring u.layout.size (λ x. has_block s.memory x ≡ true) h.shows.ring n ring
         | inr packet ↦
             let (k, known, same) = any_packet u.outstanding n packet in
             subst (λ x. has_block s.memory x ≡ true) (sym same) (h.shows.ready k known).lent
@@ -63,13 +67,14 @@ module _ (s : State) (queue : ℕ) (sent : List (List ℕ)) (u : Sender) (f : �
         → LeavesBlock number s (after s (event.Poke16 a bytes))
     ask_leaves a bytes own =
         let l = u.layout in
+        let slot : ℕ = slot_at l u.posted in
         let size : length bytes ≡ 16 = ap length own.2 ∙ length-asking (packet_at u u.posted) in
         let known = own.0 in
+        let below = slot-below l h.based.layout u.posted (omega (arith, known, h.counted.room)) in
         memory_blocks.poke s a bytes number
         (subst (Avoids number a) (sym size)
-        (inside_avoids l.ring number a 16
-        (rw own.1 (slot-inside u h.based.layout u.posted (omega (arith, known, h.counted.room))))
-        (away l.ring (has_lent-ring u))))
+        (inside_avoids (l.ring + slot / 128) number a 16 (rw own.1 (slot_lies l.ring slot))
+        (away (l.ring + slot / 128) (has_lent-ring u (slot / 128) (slot_block l.size slot below)))))
 
     reap_leaves : (n : ℕ) → IsOwn u Reaps (event.Take n) → LeavesBlock number s (after s (event.Take n))
     reap_leaves n own =

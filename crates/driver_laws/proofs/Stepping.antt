@@ -1,5 +1,5 @@
 -- Steps of the device on the driver's own queue leave the other half: one of receiving writes into blocks that the
--- receive half has lent, and what one of transmitting reports goes into the transmit ring's block.
+-- receive half has lent, and what one of transmitting reports goes into the transmit ring's blocks.
 use Rattle.std.proofs.Common.{cond, ◌≡◌, ◌≢◌, ℕ, ◌+◌, ◌*◌, ◌/◌, ◌^◌, ◌<◌, Bool, true, false, inl, inr, List, refl, sym, ap, ◌∙◌, subst, arith, Option, Some, None}
 use Rattle.std.specs.Prelude.{IsTrue}
 use Rattle.std.proofs.lemmas.Bool.{cases_eq}
@@ -33,6 +33,7 @@ use Rattle.receive_laws.proofs.Each.{each_map}
 use Rattle.receive_laws.proofs.Inside.{piece_inside}
 use Rattle.transmit_laws.specs.Agreeing.{AgreesAt}
 use Rattle.transmit_laws.specs.Sparing.{Spares}
+use Rattle.pmd.proofs.PmdSeam.Rings.{slot_block}
 use Rattle.transmit_laws.proofs.Blocks.{has_lent-ring}
 use Rattle.transmit_laws.proofs.Slots.{slot-below}
 use Rattle.transmit_laws.proofs.Stepping.{head_is}
@@ -48,7 +49,8 @@ module _ (queue : ℕ) (mine : Blocks) (s : State) (sound : IsSound s) (out : Li
             let here = piece_inside queue s out v sound j slot end desc at len
             (subst (λ q. reply_to s event.RxStep ≡ Wrote q slot end desc at len) own told) in
             record {
-              descriptor = inside_avoids v.layout.ring n desc 16 here.descriptor (λ e. away.ring (sym e));
+              descriptor = inside_avoids (v.layout.ring + here.descriptor.part) n desc 16 here.descriptor.descriptor
+                  (λ e. away.ring here.descriptor.part here.descriptor.known (sym e));
               bytes = λ some.
                   inside_avoids (block_at v.layout here.slot) n at len here.bytes
                   (λ e. away.blocks here.slot here.known (sym e));
@@ -72,10 +74,10 @@ none_written_back : (b : Bool) (x : ℕ) → ◌≡◌ {A = Option ℕ} (cond b 
 none_written_back true x e = cc
 none_written_back false x e = refl
 
-in_block : (ring slot : ℕ) → slot < 128 → (2048 * ring + 16 * slot) / 2048 ≡ ring
-in_block ring slot low = omega arith
+in_block : (ring slot : ℕ) → (2048 * ring + 16 * slot) / 2048 ≡ ring + slot / 128
+in_block ring slot = omega arith
 
--- what the queue's own transmit side reports is in the block of its ring
+-- what the queue's own transmit side reports is in a block of its ring
 pub reports_spare : (s : State) (queue : ℕ) (sent : List (List ℕ)) (u : Sender) (f : ℕ) → AgreesAt s queue sent u f
     → (v : Receive) → ((n : ℕ) → IsTrue (has_lent u n) → Each v (λ b. b ≢ n)) → OwnReportsSpare queue v s
 reports_spare s queue sent u f h v apart back told =
@@ -92,7 +94,7 @@ reports_spare s queue sent u f h v apart back told =
     ∙ head_is s queue sent u f h in
     let below = slot-below l h.based.layout f
     (omega (arith, h.counted.fetched_posted, h.counted.posted_known, h.counted.room)) in
-    let few = h.based.layout.few in
-    let here : back / 2048 ≡ l.ring =
-    ap (λ a. a / 2048) (at ∙ head) ∙ in_block l.ring (slot_at l f) (omega (arith, below, few)) in
-    each_map v (λ b. b ≢ l.ring) (λ b. b ≢ back / 2048) (λ b ne e. ne (e ∙ here)) (apart l.ring (has_lent-ring u))
+    let part : ℕ = l.ring + slot_at l f / 128 in
+    let here : back / 2048 ≡ part = ap (λ a. a / 2048) (at ∙ head) ∙ in_block l.ring (slot_at l f) in
+    each_map v (λ b. b ≢ part) (λ b. b ≢ back / 2048) (λ b ne e. ne (e ∙ here))
+    (apart part (has_lent-ring u (slot_at l f / 128) (slot_block l.size (slot_at l f) below)))

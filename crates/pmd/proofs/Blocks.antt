@@ -51,6 +51,7 @@ received_up r s out up keeps same =
             times-append (blocks_out s.receive) lent k,
           )));
       filled = keeps.running up.filled;
+      some = rw same up.some;
     }
 
 -- whether a ring has a block, by how often
@@ -89,4 +90,5 @@ pub released_up : (r : Running) (n : ℕ) → GoesBack r n → IsUp r → IsUp (
 released_up r n goes up = record {
   home = out_given r.arena (rings_out r) n (out_joined r.arena (rings_out r) n goes.own goes.away goes.none up.home);
   filled = up.filled;
+  some = up.some;
 }

@@ -1,11 +1,14 @@
 -- A call of one half drives both on, and what it lends is the driver's own.
-use Rattle.std.proofs.Common.{◌≡◌, ℕ, true, false, List, [], ◌∷◌, ◌++◌, refl, ◌∙◌, subst, arith}
+use Rattle.std.proofs.Common.{◌≡◌, ℕ, zero, suc, ◌+◌, ◌<◌, ◌≤◌, true, false, List, [], ◌∷◌, ◌++◌, refl, ◌∙◌, subst, arith}
+use Rattle.std.specs.List.{range_with_len}
 use Rattle.nic_device.specs.DmaArena.Numbers.{is_own, is_free}
 use Rattle.nic_device.specs.DmaArena.Whereabouts.{times_in_hand}
 use Rattle.nic_device.proofs.DmaArena.Arenas.{is_own-of_free}
 use Rattle.pmd_rx.specs.DeviceLock.Alone.{Blocks}
 use Rattle.pmd_rx.specs.DeviceLock.declared.entry.Call.{Call}
+use Rattle.pmd_rx.specs.PmdSeam.Slots.{blocks_for, ring_blocks}
 use Rattle.pmd_rx.proofs.PmdSeam.Outside.{times-cons, times-append, out_fewer, out_first, out_free}
+use Rattle.pmd_rx.proofs.PmdSeam.Rings.{some_blocks, times_among}
 use Rattle.pmd_rx.specs.Keeping as receiving
 use Rattle.pmd_rx.specs.Keeping.{Keeps, block_in, blocks_out}
 use Rattle.pmd_rx.specs.Plays as receive
@@ -18,7 +21,7 @@ use Rattle.pmd.specs.Halves.{Receives, halves_of}
 use Rattle.pmd.specs.Running.{Running, IsUp, rings_out}
 use Rattle.pmd.proofs.Apart.{MaySend, apart_none, apart_on, receiving_apart, sending_apart}
 use Rattle.pmd.proofs.Blocks.{GoesBack}
-use Rattle.pmd.proofs.Handing.{none_any, away_lent}
+use Rattle.pmd.proofs.Handing.{away_lent}
 use Rattle.pmd.proofs.Whole.{all_exchanged}
 
 -- which blocks a half may lend
@@ -34,20 +37,26 @@ free_may q up n free =
 
 away_received : (v : Receive) (n : ℕ) → times_in_hand (blocks_out v) n ≡ 0 → receiving.has_lent v n ≡ false
 away_received v n none =
-    none_any (receiving.lent_of v) n
+    times_among (receiving.lent_of v) n
     (omega (arith, none, times-append (receiving.lent_of v) (block_in (held_by v.stage)) n))
+
+first_of : (many ring n : ℕ) → 0 < many → times_in_hand (ring ∷ []) n ≤ times_in_hand (range_with_len ring many) n
+first_of zero ring n some = absurd (omega (arith, some))
+first_of (suc many) ring n some = omega (arith, times-cons ring (range_with_len (ring + 1) many) n)
 
 pub ring_may : (q : Running) → IsUp q → MaySend (is_own q.arena) (halves_of q) q.transmit.layout.ring
 ring_may q up =
     let ring : ℕ = q.transmit.layout.ring in
+    let size : ℕ = q.transmit.layout.size in
     let blocks : List ℕ = blocks_of q.transmit.outstanding in
     let out : List ℕ = blocks_out q.receive in
     let first = out_first q.arena (out ++ blocks) ring
     (out_fewer q.arena (rings_out q) (ring ∷ (out ++ blocks)) up.home
     (λ k. omega (
       arith,
-      times-append out (blocks ++ ring ∷ []) k,
-      times-append blocks (ring ∷ []) k,
+      times-append out (blocks ++ ring_blocks ring size) k,
+      times-append blocks (ring_blocks ring size) k,
+      first_of (blocks_for size) ring k (some_blocks size up.some),
       times-cons ring (out ++ blocks) k,
       times-append out blocks k,
     ))) in

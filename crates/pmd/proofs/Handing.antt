@@ -1,38 +1,29 @@
 -- A packet that is handed out can go home.
-use Rattle.std.proofs.Common.{◌≡◌, ◌≢◌, ℕ, ◌==◌, true, false, List, [], ◌∷◌, ◌++◌, Option, Some, None, Result, Ok, Err, IfOk, IfSome, refl, sym, subst, arith}
+use Rattle.std.proofs.Common.{◌≡◌, ℕ, ◌==◌, true, false, List, [], ◌∷◌, ◌++◌, Option, Some, None, Result, Ok, Err, IfOk, IfSome, refl, sym, ◌∙◌, subst, arith}
 use Rattle.std.specs.List.{list_any}
-use Rattle.std.proofs.lemmas.Bool.Decides.{nat_tests}
+use Rattle.std.proofs.lemmas.Bool.{or_from}
 use Rattle.nic_device.specs.DmaArena.Whereabouts.{times_in_hand}
 use Rattle.pmd_rx.specs.PmdSeam.Home.{AreOut}
 use Rattle.pmd_rx.specs.PmdSeam.declared.fault.PmdFault.{PmdFault}
 use Rattle.pmd_rx.specs.PmdSeam.declared.packet.Packet.{Packet}
-use Rattle.pmd_rx.proofs.PmdSeam.Outside.{times_first, times-cons, times-append, out_first, out_exchanged}
+use Rattle.pmd_rx.specs.PmdSeam.Slots.{is_ring_block, ring_blocks}
+use Rattle.pmd_rx.proofs.PmdSeam.Outside.{times-append, out_first, out_exchanged}
+use Rattle.pmd_rx.proofs.PmdSeam.Rings.{ring_block_among, times_among}
 use Rattle.pmd_rx.specs.Keeping.{Keeps, blocks_out, handed_block}
 use Rattle.pmd_tx.specs.Leaving.{lent_of}
 use Rattle.pmd_tx.specs.Sending.{Sender, blocks_of, has_lent}
 use Rattle.pmd.specs.Running.{Running, IsUp, goes_back}
 
 -- a block that isn't among those that are lent
-
-not_here : (x n : ℕ) (xs : List ℕ) → times_in_hand (x ∷ xs) n ≡ 0 → n ≢ x
-not_here x n xs none same =
-    let none_here : times_in_hand (n ∷ xs) n ≡ 0 = subst (λ (k : ℕ). times_in_hand (k ∷ xs) n ≡ 0) (sym same) none in
-    absurd (omega (arith, none_here, times_first xs n))
-
-pub none_any : (xs : List ℕ) (n : ℕ) → times_in_hand xs n ≡ 0 → list_any (λ b. n == b) xs ≡ false
-none_any [] n none = refl
-none_any (x ∷ xs) n none =
-    let other : n ≢ x = not_here x n xs none in
-    let rest : list_any (λ b. n == b) xs ≡ false = none_any xs n (omega (arith, none, times-cons x xs n)) in
-    grind (arith, nat_tests, other, rest)
-
 pub away_lent : (v : Sender) (n : ℕ) → times_in_hand (lent_of v) n ≡ 0 → has_lent v n ≡ false
 away_lent v n none =
-    let parts = times-append (blocks_of v.outstanding) (v.layout.ring ∷ []) n in
-    let other : n ≢ v.layout.ring = not_here v.layout.ring n [] (omega (arith, none, parts)) in
+    let ends : List ℕ = ring_blocks v.layout.ring v.layout.size in
+    let parts = times-append (blocks_of v.outstanding) ends n in
+    let other : is_ring_block v.layout.ring v.layout.size n ≡ false =
+    sym (ring_block_among v.layout.ring v.layout.size n) ∙ times_among ends n (omega (arith, none, parts)) in
     let rest : list_any (λ b. n == b) (blocks_of v.outstanding) ≡ false =
-    none_any (blocks_of v.outstanding) n (omega (arith, none, parts)) in
-    grind (arith, nat_tests, other, rest)
+    times_among (blocks_of v.outstanding) n (omega (arith, none, parts)) in
+    or_from (is_ring_block v.layout.ring v.layout.size n) (list_any (λ b. n == b) (blocks_of v.outstanding)) other rest
 
 goes : (r : Running) (n : ℕ) → AreOut r.arena (n ∷ (blocks_out r.receive ++ lent_of r.transmit)) → goes_back r n ≡ true
 goes r n out =

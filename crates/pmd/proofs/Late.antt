@@ -48,14 +48,15 @@ lending_late fault.DeviceFault old new block fails = tt
 lending_late (fault.Call refusal) old new block fails = tt
 
 pub preparing_late : (f : PmdFault) (q : AtPort) (side : Dir) (size : ℕ) (old : List Call) (a : Numbers)
-    (new : List Call) → PreparingFails f q side size old a new → ComesLate f
-preparing_late f q side size old a new (ring, free, inl stops) = stops_late f q old new _ stops
-preparing_late f q side size old a new (ring, free, inr (mid, words, fails)) = lending_late f mid new _ fails
+    (new : List Call) (b : Numbers) (out : List ℕ) → PreparingFails f q side size old a new b out → ComesLate f
+preparing_late f q side size old a new b out (ring, inl (stops, same, none)) = stops_late f q old new _ stops
+preparing_late f q side size old a new b out (ring, inr (mid, words, stops)) =
+    lending_late f stops.mid new _ stops.fails
 
 pub receive_late : (f : PmdFault) (q : AtPort) (size : ℕ) (old : List Call) (a : Numbers) (new : List Call)
-    → ReceiveFails f q size old a new → ComesLate f
-receive_late f q size old a new (inl stops) = stops_late f q old new _ stops
-receive_late f q size old a new (inr (mid, made, fails)) = preparing_late f q Rx size mid a new fails
+    (b : Numbers) (out : List ℕ) → ReceiveFails f q size old a new b out → ComesLate f
+receive_late f q size old a new b out (inl (stops, same, none)) = stops_late f q old new _ stops
+receive_late f q size old a new b out (inr (mid, made, fails)) = preparing_late f q Rx size mid a new b out fails
 
 -- where enough blocks are free, filling fails late
 pub filling_late : (r : Result (Unit {0}) PmdFault) (old : List Call) (a : Numbers) (v : Receive) (new : List Call)

@@ -1,12 +1,12 @@
 -- A driver that a start leaves has handed nothing out, and accepted nothing.
-use Rattle.std.proofs.Common.{◌≡◌, ℕ, List, [], inl, inr, refl, ap, ◌∙◌}
+use Rattle.std.proofs.Common.{◌≡◌, ℕ, List, [], ◌∷◌, inl, inr, refl, ap, ◌∙◌}
 use Rattle.nic_device.specs.DmaArena.Numbers.{Numbers}
 use Rattle.pmd_rx.specs.DeviceLock.declared.entry.Call.{Call}
 use Rattle.pmd.specs.Halted.{Halted}
 use Rattle.pmd_rx.specs.PmdSeam.Named.{AtPort}
 use Rattle.pmd_rx.specs.Receive.{Receive}
 use Rattle.pmd_tx.specs.Sending.{Sender}
-use Rattle.pmd.specs.Started.{left_accepted, left_handed, IsHome, IsHalfStarted, StopsStarting}
+use Rattle.pmd.specs.Started.{left_accepted, left_handed, IsHome, IsHalfStarted, IsLeftWith, StopsStarting}
 use Rattle.pmd.specs.Starting.{IsReceiveReady}
 use Rattle.pmd.specs.declared.start.Rest.{Rest}
 use Rattle.pmd.specs.declared.start.Rest.TheVariants as rest
@@ -30,10 +30,19 @@ pub ready_handed : (q : AtPort) (size : ℕ) (old : List Call) (a : Numbers) (ne
     (v : Receive) → IsReceiveReady q size old a new b v → v.handed ≡ []
 ready_handed q size old a new b v ready = ap (λ (x : Receive). x.handed) ready.fresh
 
+-- where no ring was prepared
+pub before_handed : (q : AtPort) (a : Numbers) (out : List ℕ) (r : Rest) → IsLeftWith q a out r → left_handed r ≡ []
+before_handed q a [] r is = home_handed a r is
+before_handed q a (n ∷ ns) r is = half_handed q _ r refl is
+
+before_accepted : (q : AtPort) (a : Numbers) (out : List ℕ) (r : Rest) → IsLeftWith q a out r → left_accepted r ≡ []
+before_accepted q a [] r is = home_accepted a r is
+before_accepted q a (n ∷ ns) r is = half_accepted q _ r refl is
+
 -- a start that is refused amid its events leaves a driver that accepted nothing
 pub stops_accepted : (q : AtPort) (size : ℕ) (old : List Call) (a : Numbers) (new : List Call) (e : StartRefused)
     → StopsStarting q size old a new e → left_accepted e.rest ≡ []
-stops_accepted q size old a new e (inl (fails, home)) = home_accepted a e.rest home
+stops_accepted q size old a new e (inl none) = before_accepted q none.arena none.out e.rest none.left
 stops_accepted q size old a new e (inr (inl one)) = half_accepted q _ e.rest refl one.left
 stops_accepted q size old a new e (inr (inr both)) =
     half_accepted q _ e.rest (ap (λ (x : Sender). x.accepted) both.transmit.fresh) both.left

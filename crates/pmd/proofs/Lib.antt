@@ -17,9 +17,11 @@ pub mod Handing
 pub mod Homecoming
 pub mod Late
 pub mod Leaving
+pub mod Lending
 pub mod Living
 pub mod ReapedCounted
 pub mod Rising
+pub mod Searching
 pub mod Sending
 pub mod Sent
 pub mod SentCounted

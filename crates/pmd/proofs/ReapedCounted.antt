@@ -4,7 +4,8 @@ use Rattle.std.proofs.lemmas.List.{drop-map, take-append-drop}
 use Rattle.nic_device.specs.DmaArena.Numbers.{Numbers, is_own, is_free, with_free}
 use Rattle.nic_device.specs.DmaArena.Whereabouts.{times_in_hand}
 use Rattle.pmd_rx.specs.PmdSeam.Home.{AreOut}
-use Rattle.pmd_rx.proofs.PmdSeam.Outside.{times-cons, times-append, out_fewer, out_first, out_given}
+use Rattle.pmd_rx.proofs.PmdSeam.Outside.{times-append, out_fewer, out_first, out_given}
+use Rattle.pmd_rx.specs.PmdSeam.Slots.{ring_blocks}
 use Rattle.pmd_rx.specs.Keeping.{blocks_out}
 use Rattle.pmd_rx.specs.Receive.{Receive}
 use Rattle.pmd_tx.specs.Leaving as transmit
@@ -23,22 +24,26 @@ given_all a (n ∷ xs) rest out =
     (given_all (with_free a n true) xs rest (out_given a (xs ++ rest) n out))
 
 module _ (r s : Running) (count : ℕ) (frees : Frees r.transmit s.transmit r.arena s.arena count)
-    (ring : s.transmit.layout.ring ≡ r.transmit.layout.ring) (receive : s.receive ≡ r.receive)
+    (ring : ring_blocks s.transmit.layout.ring s.transmit.layout.size
+    ≡ ring_blocks r.transmit.layout.ring r.transmit.layout.size) (receive : s.receive ≡ r.receive)
   where
     abbrev blocks : List ℕ
     blocks = blocks_of r.transmit.outstanding
 
+    abbrev ends : List ℕ
+    ends = ring_blocks r.transmit.layout.ring r.transmit.layout.size
+
     abbrev others : List ℕ
-    others = drop count blocks ++ r.transmit.layout.ring ∷ blocks_out r.receive
+    others = drop count blocks ++ (ends ++ blocks_out r.receive)
 
     before : (n : ℕ) → times_in_hand (take count blocks ++ others) n ≡ times_in_hand (rings_out r) n
     before n = omega (
       arith,
       times-append (take count blocks) others n,
-      times-append (drop count blocks) (r.transmit.layout.ring ∷ blocks_out r.receive) n,
-      times-cons r.transmit.layout.ring (blocks_out r.receive) n,
+      times-append (drop count blocks) (ends ++ blocks_out r.receive) n,
+      times-append ends (blocks_out r.receive) n,
       times-append (blocks_out r.receive) (transmit.lent_of r.transmit) n,
-      times-append blocks (r.transmit.layout.ring ∷ []) n,
+      times-append blocks ends n,
       times-append (take count blocks) (drop count blocks) n,
       ap (λ (l : List ℕ). times_in_hand l n) (take-append-drop count blocks),
     )
@@ -49,12 +54,13 @@ module _ (r s : Running) (count : ℕ) (frees : Frees r.transmit s.transmit r.ar
     after : (n : ℕ) → times_in_hand (rings_out s) n ≡ times_in_hand others n
     after n = omega (
       arith,
-      times-append (drop count blocks) (r.transmit.layout.ring ∷ blocks_out r.receive) n,
-      times-cons r.transmit.layout.ring (blocks_out r.receive) n,
+      times-append (drop count blocks) (ends ++ blocks_out r.receive) n,
+      times-append ends (blocks_out r.receive) n,
       times-append (blocks_out s.receive) (transmit.lent_of s.transmit) n,
-      times-append (blocks_of s.transmit.outstanding) (s.transmit.layout.ring ∷ []) n,
+      times-append (blocks_of s.transmit.outstanding)
+          (ring_blocks s.transmit.layout.ring s.transmit.layout.size) n,
       ap (λ (l : List ℕ). times_in_hand l n) left,
-      ap (λ (x : ℕ). times_in_hand (x ∷ []) n) ring,
+      ap (λ (l : List ℕ). times_in_hand l n) ring,
       ap (λ (v : Receive). times_in_hand (blocks_out v) n) receive,
     )
 

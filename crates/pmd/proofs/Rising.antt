@@ -1,36 +1,44 @@
 -- Where the blocks of a driver are as its rings come up.
-use Rattle.std.proofs.Common.{ℕ, false, List, [], ◌∷◌, ◌++◌, refl, sym, subst, arith}
-use Rattle.nic_device.specs.DmaArena.Numbers.{Numbers, with_free}
+use Rattle.std.proofs.Common.{ℕ, List, [], ◌∷◌, ◌++◌, refl, sym, subst, arith}
+use Rattle.nic_device.specs.DmaArena.Numbers.{Numbers}
+use Rattle.nic_device.specs.DmaRing.declared.dir.Dir.TheVariants.{Tx}
 use Rattle.pmd_rx.specs.DeviceLock.declared.entry.Call.{Call}
-use Rattle.pmd_rx.proofs.PmdSeam.Outside.{times-cons, times-append}
-use Rattle.pmd.specs.Halted.{Halted, with_rings, with_receive_ring}
+use Rattle.pmd_rx.specs.PmdSeam.Home.{IsDrawn}
+use Rattle.pmd_rx.specs.PmdSeam.Slots.{ring_blocks}
+use Rattle.pmd_rx.specs.PmdSeam.declared.fault.PmdFault.{PmdFault}
+use Rattle.pmd_rx.proofs.PmdSeam.Outside.{times-append}
+use Rattle.pmd.specs.Halted.{Halted, with_rings, with_receive_ring, with_blocks}
 use Rattle.pmd_rx.specs.PmdSeam.Named.{AtPort}
 use Rattle.pmd_rx.specs.Keeping.{Keeps, blocks_out, lent_of, block_in}
 use Rattle.pmd_rx.specs.Receive.{Receive, held_by}
 use Rattle.pmd_tx.specs.Leaving as transmit
 use Rattle.pmd_tx.specs.Sending.{Sender}
 use Rattle.pmd.specs.Blocks.{KeepsEach, HasAll, IsWhole}
-use Rattle.pmd.specs.Started.{IsHome, IsHalfStarted}
-use Rattle.pmd.specs.Starting.{IsReceiveReady, IsTransmitReady}
+use Rattle.pmd.specs.Started.{IsHome, IsHalfStarted, IsLeftWith}
+use Rattle.pmd.specs.Starting.{IsReceiveReady, IsTransmitReady, PreparingFails}
 use Rattle.pmd.specs.declared.start.Rest.{Rest}
 use Rattle.pmd.specs.declared.start.Rest.TheVariants as rest
-use Rattle.pmd.proofs.Whole.{keeps_then, keeps_counted, keeps_beside, one_drawn, all_exchanged}
+use Rattle.pmd.proofs.Starting.{preparing_drawn}
+use Rattle.pmd.proofs.Whole.{keeps_then, keeps_counted, keeps_beside, all_drawn, all_exchanged}
+
+drawn_behind : (a : Numbers) (drawn : List ℕ) (b : Numbers) (out : List ℕ) → IsDrawn a drawn b
+    → KeepsEach a out b (out ++ drawn)
+drawn_behind a drawn b out is =
+    keeps_counted a b out (drawn ++ out) (out ++ drawn)
+    (λ k. omega (arith, times-append drawn out k, times-append out drawn k)) (all_drawn a drawn b out is)
 
 pub receive_has : (q : AtPort) (size : ℕ) (old : List Call) (a : Numbers) (new : List Call) (b : Numbers) (v : Receive)
     → IsReceiveReady q size old a new b v → KeepsEach a [] b (blocks_out v)
 receive_has q size old a new b v ready =
     subst (λ (x : Receive). KeepsEach a [] b (blocks_out x)) (sym ready.fresh)
-    (subst (λ (x : Numbers). KeepsEach a [] x (ready.ring ∷ [])) (sym ready.prepared.drawn)
-    (one_drawn a [] ready.ring ready.prepared.free))
+    (all_drawn a (ring_blocks ready.ring size) b [] ready.prepared.drawn)
 
 transmit_has : (q : AtPort) (size : ℕ) (old : List Call) (a : Numbers) (new : List Call) (b : Numbers) (s : Sender)
     (out : List ℕ) → IsTransmitReady q size old a new b s → KeepsEach a out b (out ++ transmit.lent_of s)
 transmit_has q size old a new b s out ready =
-    let n : ℕ = ready.ring in
+    let ends : List ℕ = ring_blocks ready.ring size in
     subst (λ (x : Sender). KeepsEach a out b (out ++ transmit.lent_of x)) (sym ready.fresh)
-    (subst (λ (x : Numbers). KeepsEach a out x (out ++ n ∷ [])) (sym ready.prepared.drawn)
-    (keeps_counted a (with_free a n false) out (n ∷ out) (out ++ n ∷ [])
-    (λ k. omega (arith, times-cons n out k, times-append out (n ∷ []) k)) (one_drawn a out n ready.prepared.free)))
+    (drawn_behind a ends b out ready.prepared.drawn)
 
 -- both rings are lent, and the receive ring was filled
 pub filled_has : (q : AtPort) (size : ℕ) (old mid new : List Call) (a b d e : Numbers) (v w : Receive) (s : Sender)
@@ -45,19 +53,35 @@ filled_has q size old mid new a b d e v w s ready also keeps =
 
 -- a driver of these rings
 
-pub one_ring : (a b : Numbers) (v : Receive) → KeepsEach a [] b (blocks_out v) → HasAll a (with_receive_ring b v) []
-one_ring a b v keeps =
+blocks_all : (a b : Numbers) (out : List ℕ) → KeepsEach a [] b (out ++ []) → HasAll a (with_blocks b out) []
+blocks_all a b out keeps =
+    keeps_counted a b [] (out ++ []) (((out ++ []) ++ []) ++ [])
+    (λ n. omega (arith, times-append ((out ++ []) ++ []) [] n, times-append (out ++ []) [] n)) keeps
+
+one_ring : (a b : Numbers) (v : Receive) (out : List ℕ) → KeepsEach a [] b (blocks_out v ++ out)
+    → HasAll a (with_receive_ring b v out) []
+one_ring a b v out keeps =
     let lent : List ℕ = lent_of v in
     let held : List ℕ = block_in (held_by v.stage) in
-    keeps_counted a b [] (lent ++ held) (((lent ++ []) ++ held) ++ [])
+    keeps_counted a b [] ((lent ++ held) ++ out) (((lent ++ out) ++ held) ++ [])
     (λ n. omega (
       arith,
+      times-append (lent ++ held) out n,
       times-append lent held n,
-      times-append ((lent ++ []) ++ held) [] n,
-      times-append (lent ++ []) held n,
-      times-append lent [] n,
+      times-append ((lent ++ out) ++ held) [] n,
+      times-append (lent ++ out) held n,
+      times-append lent out n,
     ))
     keeps
+
+-- the receive ring alone, with some blocks of the other
+pub after_all : (f : PmdFault) (q : AtPort) (size : ℕ) (old mid new : List Call) (a b d : Numbers) (v : Receive)
+    (out : List ℕ) → IsReceiveReady q size old a mid b v → PreparingFails f q Tx size mid b new d out
+    → HasAll a (with_receive_ring d v out) []
+after_all f q size old mid new a b d v out ready fails =
+    one_ring a d v out
+    (keeps_then a b d [] (blocks_out v) (blocks_out v ++ out) (receive_has q size old a mid b v ready)
+    (drawn_behind b out d (blocks_out v) (preparing_drawn f q Tx size mid b new d out fails)))
 
 pub both_rings : (a b : Numbers) (v : Receive) (s : Sender) (hand : List ℕ)
     → KeepsEach a [] b ((blocks_out v ++ transmit.lent_of s) ++ hand) → HasAll a (with_rings b v s) hand
@@ -94,3 +118,11 @@ half_whole a q h r all is = subst (λ (x : Rest). IsWhole a x) (sym is) (all.own
 pub home_whole : (a : Numbers) (r : Rest) → IsHome a r → IsWhole a r
 home_whole a (rest.Home h) (arena, lost, handed, accepted) = rw arena (λ n. refl, λ none n. refl)
 home_whole a (rest.Running p) is = absurd is
+
+-- so it is where some blocks of the receive ring alone are lent
+pub before_whole : (a : Numbers) (q : AtPort) (b : Numbers) (out : List ℕ) (r : Rest) → IsDrawn a out b
+    → IsLeftWith q b out r → IsWhole a r
+before_whole a q b [] r drawn is = subst (λ (x : Numbers). IsWhole x r) drawn (home_whole b r is)
+before_whole a q b (n ∷ ns) r drawn is =
+    half_whole a q (with_blocks b (n ∷ ns)) r
+    (blocks_all a b (n ∷ ns) (all_drawn a (n ∷ ns) b [] drawn)) is

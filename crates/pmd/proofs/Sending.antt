@@ -1,14 +1,15 @@
 -- Where the blocks of a driver are once a packet is sent, and once packets are reaped.
-use Rattle.std.proofs.Common.{◌≡◌, ℕ, zero, suc, true, List, [], ◌∷◌, ◌++◌, take, drop, Option, Some, None, Result, Ok, Err, IfSome, IfNone, IfOk, OnErr, refl, sym, ap, ◌∙◌, arith}
+use Rattle.std.proofs.Common.{◌≡◌, ℕ, zero, suc, true, List, [], ◌∷◌, ◌++◌, ◌<◌, take, drop, Option, Some, None, Result, Ok, Err, IfSome, IfNone, IfOk, OnErr, refl, sym, ap, subst, ◌∙◌, arith}
 use Rattle.std.proofs.lemmas.List.{map-append, drop-map}
 use Rattle.nic_device.specs.DmaArena.Numbers.{Numbers, is_own, with_free}
 use Rattle.nic_device.proofs.DmaArena.Arenas.{is_own-with_free}
 use Rattle.pmd_rx.specs.PmdSeam.Home.{AreOut}
 use Rattle.pmd_rx.specs.PmdSeam.declared.packet.Packet.{Packet}
+use Rattle.pmd_rx.specs.PmdSeam.Slots.{ring_blocks}
 use Rattle.pmd_rx.proofs.PmdSeam.Outside.{times-cons, times-append, out_fewer, out_given}
 use Rattle.pmd_rx.specs.Keeping.{blocks_out}
 use Rattle.pmd_tx.specs.Leaving.{lent_of}
-use Rattle.pmd_tx.specs.Sending.{Sender, Outgoing, blocks_of}
+use Rattle.pmd_tx.specs.Sending.{Sender, Layout, Outgoing, blocks_of}
 use Rattle.pmd_tx.specs.Sends.{Frees, given, gate_of, outgoing_of, returned, IsAnswer, IsAccepted, IsNoneAccepted}
 use Rattle.pmd_rx.specs.PmdSeam.declared.fault.PmdFault.{PmdFault}
 use Rattle.pmd_tx.proofs.Passing.{gone_home}
@@ -29,9 +30,11 @@ accepted_up r s p goes up accepted layout arena receive =
     let blocks : blocks_of s.transmit.outstanding ≡ blocks_of r.transmit.outstanding ++ n ∷ [] =
     ap blocks_of accepted.outstanding
     ∙ map-append (λ (o : Outgoing). o.block) r.transmit.outstanding (outgoing_of p ∷ []) in
-    let ring : s.transmit.layout.ring ≡ r.transmit.layout.ring = ap (λ (l : _). l.ring) layout in
+    let ring : ring_blocks s.transmit.layout.ring s.transmit.layout.size
+    ≡ ring_blocks r.transmit.layout.ring r.transmit.layout.size =
+    ap (λ (l : Layout). ring_blocks l.ring l.size) layout in
     let old : List ℕ = blocks_of r.transmit.outstanding in
-    let ends : List ℕ = r.transmit.layout.ring ∷ [] in
+    let ends : List ℕ = ring_blocks r.transmit.layout.ring r.transmit.layout.size in
     record {
       home = rw (arena, receive, blocks, ring) (out_fewer r.arena (n ∷ rings_out r)
           (blocks_out r.receive ++ ((old ++ n ∷ []) ++ ends))
@@ -46,15 +49,19 @@ accepted_up r s p goes up accepted layout arena receive =
             times-append old (n ∷ []) k,
           )));
       filled = rw receive up.filled;
+      some = subst (λ (n : ℕ). 0 < n) (sym (ap (λ (l : Layout). l.size) layout)) up.some;
     }
 
 kept_up : (r s : Running) → IsUp r → IsNoneAccepted r.transmit s.transmit
     → s.transmit.layout ≡ r.transmit.layout → s.arena ≡ r.arena → s.receive ≡ r.receive → IsUp s
 kept_up r s up none layout arena receive =
-    let ring : s.transmit.layout.ring ≡ r.transmit.layout.ring = ap (λ (l : _). l.ring) layout in
+    let ring : ring_blocks s.transmit.layout.ring s.transmit.layout.size
+    ≡ ring_blocks r.transmit.layout.ring r.transmit.layout.size =
+    ap (λ (l : Layout). ring_blocks l.ring l.size) layout in
     record {
       home = rw (arena, receive, none.outstanding, ring) up.home;
       filled = rw receive up.filled;
+      some = subst (λ (n : ℕ). 0 < n) (sym (ap (λ (l : Layout). l.size) layout)) up.some;
     }
 
 by_return : (o : Option Packet) (r s : Running) (p : Packet) (x : Result TxAnswer TxFault) → returned x ≡ o → IsUp r
@@ -85,16 +92,18 @@ given_out (suc count) (n ∷ xs) others a out =
 
 pub outstanding_out : (r : Running) → IsUp r → AreOut r.arena (blocks_of r.transmit.outstanding)
 outstanding_out r up =
-    first_out r.arena (blocks_of r.transmit.outstanding) (r.transmit.layout.ring ∷ [])
+    first_out r.arena (blocks_of r.transmit.outstanding) (ring_blocks r.transmit.layout.ring r.transmit.layout.size)
     (second_out r.arena (blocks_out r.receive) (lent_of r.transmit) up.home)
 
 pub reaped_up : (r s : Running) (count : ℕ) → IsUp r → Frees r.transmit s.transmit r.arena s.arena count
     → s.transmit.layout ≡ record r.transmit.layout { next = s.transmit.layout.next } → s.receive ≡ r.receive → IsUp s
 reaped_up r s count up frees layout receive =
     let blocks : List ℕ = blocks_of r.transmit.outstanding in
-    let ends : List ℕ = r.transmit.layout.ring ∷ [] in
+    let ends : List ℕ = ring_blocks r.transmit.layout.ring r.transmit.layout.size in
     let out : List ℕ = blocks_out r.receive in
-    let ring : s.transmit.layout.ring ≡ r.transmit.layout.ring = ap (λ (l : _). l.ring) layout in
+    let ring : ring_blocks s.transmit.layout.ring s.transmit.layout.size
+    ≡ ring_blocks r.transmit.layout.ring r.transmit.layout.size =
+    ap (λ (l : Layout). ring_blocks l.ring l.size) layout in
     let left : blocks_of s.transmit.outstanding ≡ drop count blocks =
     ap blocks_of frees.left ∙ sym (drop-map (λ (o : Outgoing). o.block) count r.transmit.outstanding) in
     let before : AreOut r.arena (blocks ++ (ends ++ out)) =
@@ -117,6 +126,7 @@ reaped_up r s count up frees layout receive =
             times-append (drop count blocks) ends k,
           )));
       filled = rw receive up.filled;
+      some = subst (λ (n : ℕ). 0 < n) (sym (ap (λ (l : Layout). l.size) layout)) up.some;
     }
 
 pub given_owns : (a : Numbers) (ns : List ℕ) → OwnsSame a (given a ns)

@@ -7,10 +7,11 @@ use Rattle.pmd_rx.specs.PmdSeam.declared.fault.PmdFault.{PmdFault}
 use Rattle.pmd_rx.specs.PmdSeam.declared.fault.PmdFault.TheVariants as fault
 use Rattle.pmd_rx.specs.PmdSeam.declared.packet.Packet.{Packet}
 use Rattle.pmd_rx.proofs.PmdSeam.Outside.{times-append}
+use Rattle.pmd_rx.specs.PmdSeam.Slots.{ring_blocks}
 use Rattle.pmd_rx.specs.Keeping.{blocks_out, block_in}
 use Rattle.pmd_rx.specs.Receive.{Receive}
 use Rattle.pmd_tx.specs.Leaving as transmit
-use Rattle.pmd_tx.specs.Sending.{Sender, Outgoing, blocks_of}
+use Rattle.pmd_tx.specs.Sending.{Sender, Layout, Outgoing, blocks_of}
 use Rattle.pmd_tx.specs.Sends.{IsAccepted, IsNoneAccepted, IsAnswer, IsBack, gate_of, goes_home, is_bad_size, is_full, outgoing_of, returned}
 use Rattle.pmd_tx.specs.declared.answer.TxAnswer.{TxAnswer}
 use Rattle.pmd_tx.specs.declared.answer.TxAnswer.TheVariants.{Taken, RingFull}
@@ -23,12 +24,12 @@ accepted_count : (v w : Sender) (p : Packet) (n : ℕ) → w.layout ≡ v.layout
     ≡ times_in_hand (transmit.lent_of v) n + times_in_hand (p.buf.number ∷ []) n
 accepted_count v w p n layout accepted =
     let blocks : List ℕ = blocks_of v.outstanding in
-    let ring : List ℕ = v.layout.ring ∷ [] in
+    let ring : List ℕ = ring_blocks v.layout.ring v.layout.size in
     let more : blocks_of w.outstanding ≡ blocks ++ p.buf.number ∷ [] =
     ap blocks_of accepted.outstanding ∙ map-append (λ (o : Outgoing). o.block) v.outstanding (outgoing_of p ∷ []) in
     let is : transmit.lent_of w ≡ (blocks ++ p.buf.number ∷ []) ++ ring =
-    ap (λ (l : List ℕ). l ++ w.layout.ring ∷ []) more
-    ∙ ap (λ (x : ℕ). (blocks ++ p.buf.number ∷ []) ++ x ∷ []) (ap (λ x. x.ring) layout) in
+    ap (λ (l : List ℕ). l ++ ring_blocks w.layout.ring w.layout.size) more
+    ∙ ap (λ (l : Layout). (blocks ++ p.buf.number ∷ []) ++ ring_blocks l.ring l.size) layout in
     omega (
       arith,
       ap (λ (l : List ℕ). times_in_hand l n) is,
@@ -39,8 +40,8 @@ accepted_count v w p n layout accepted =
 
 same_lent : (v w : Sender) → w.layout ≡ v.layout → IsNoneAccepted v w → transmit.lent_of w ≡ transmit.lent_of v
 same_lent v w layout none =
-    ap (λ (l : List Outgoing). blocks_of l ++ w.layout.ring ∷ []) none.outstanding
-    ∙ ap (λ (x : ℕ). blocks_of v.outstanding ++ x ∷ []) (ap (λ x. x.ring) layout)
+    ap (λ (l : List Outgoing). blocks_of l ++ ring_blocks w.layout.ring w.layout.size) none.outstanding
+    ∙ ap (λ (l : Layout). blocks_of v.outstanding ++ ring_blocks l.ring l.size) layout
 
 back_kept : (r s : Running) (p : Packet) (back : Option Packet)
     → IfNone back (IsAccepted r.transmit p s.transmit)

@@ -62,7 +62,7 @@ one_given a xs n own away = record {
 
 -- several
 
-all_drawn : (a : Numbers) (drawn : List ℕ) (b : Numbers) (xs : List ℕ) → IsDrawn a drawn b
+pub all_drawn : (a : Numbers) (drawn : List ℕ) (b : Numbers) (xs : List ℕ) → IsDrawn a drawn b
     → KeepsEach a xs b (drawn ++ xs)
 all_drawn a [] b xs is = rw is (record { owns = λ n. refl; each = λ n. refl })
 all_drawn a (n ∷ ns) b xs (free, is) =

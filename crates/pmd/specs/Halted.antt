@@ -1,5 +1,5 @@
 -- A driver that isn't running: its blocks are on their way home.
-use Rattle.std.specs.Prelude.{ℕ, ◌+◌, ◌<◌, ◌&&◌, ◌||◌, nat_lt, not, Bool, List, [], ◌++◌, length, Option}
+use Rattle.std.specs.Prelude.{ℕ, ◌+◌, ◌<◌, ◌&&◌, ◌||◌, nat_lt, not, Bool, List, [], ◌++◌, length, Option, None}
 use Rattle.nic_device.specs.DmaArena.Numbers.{Numbers, is_own, is_free}
 use Rattle.nic_device.specs.DmaArena.Whereabouts.{times_in_hand}
 use Rattle.pmd_rx.specs.PmdSeam.Home.{AreOut, Homebound}
@@ -58,12 +58,22 @@ with_rings a v w = record {
   accepted = w.accepted;
 }
 
--- a driver that had no transmit ring yet
-abbrev pub with_receive_ring : Numbers → Receive → Halted
-with_receive_ring a v = record {
+-- a driver that had no transmit ring yet, but some of its blocks
+abbrev pub with_receive_ring : Numbers → Receive → List ℕ → Halted
+with_receive_ring a v out = record {
   arena = a;
   held = held_by v.stage;
-  way = both_ways (way_of (receive.lent_of v)) (way_of []);
+  way = both_ways (way_of (receive.lent_of v)) (way_of out);
   handed = v.handed;
+  accepted = [];
+}
+
+-- a driver that had no ring yet, but some blocks of its receive ring
+abbrev pub with_blocks : Numbers → List ℕ → Halted
+with_blocks a out = record {
+  arena = a;
+  held = None;
+  way = both_ways (way_of out) (way_of []);
+  handed = [];
   accepted = [];
 }

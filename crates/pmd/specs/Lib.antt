@@ -11,6 +11,7 @@ pub mod Halves
 pub mod Leaving
 pub mod Life
 pub mod Running
+pub mod Runs
 pub mod Started
 pub mod Starting
 pub mod Stopping

@@ -1,5 +1,5 @@
 -- A driver whose two rings are up.
-use Rattle.std.specs.Prelude.{◌≡◌, ℕ, ◌&&◌, nat_lt, not, Bool, true, List, ◌++◌}
+use Rattle.std.specs.Prelude.{◌≡◌, ℕ, ◌<◌, ◌&&◌, nat_lt, not, Bool, true, List, ◌++◌}
 use Rattle.nic_device.specs.DmaArena.Numbers.{Numbers, with_free}
 use Rattle.nic_device.specs.DmaArena.Whereabouts.{times_in_hand}
 use Rattle.pmd_rx.specs.PmdSeam.Home.{AreOut}
@@ -19,10 +19,11 @@ pub record Running : Type 0 where
 abbrev pub rings_out : Running → List ℕ
 rings_out r = blocks_out r.receive ++ lent_of r.transmit
 
--- each block is in one place, and the receive ring is filled
+-- each block is in one place, the receive ring is filled, and the transmit ring has a slot
 pub record IsUp (r : Running) : Type 0 where
   pub home : AreOut r.arena (rings_out r)
   pub filled : IsRunning r.receive
+  pub some : 0 < r.transmit.layout.size
 
 -- whether the receive ring has a block of this number
 abbrev pub receives : Running → ℕ → Bool

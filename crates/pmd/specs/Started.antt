@@ -1,5 +1,5 @@
 -- What a start leaves, and why it is refused.
-use Rattle.std.specs.Prelude.{ℕ, ◌≡◌, ◌⊎◌, ◌&&◌, ◌==◌, ◌%◌, nat_le, nat_lt, Bool, List, [], Option, Some, None, Result, Ok, Err, ⊤, if◌then◌else◌}
+use Rattle.std.specs.Prelude.{ℕ, ◌≡◌, ◌⊎◌, ◌&&◌, ◌==◌, ◌+◌, ◌-◌, ◌*◌, ◌%◌, nat_le, nat_lt, is_some, Bool, List, [], ◌∷◌, Option, Some, None, Result, Ok, Err, ⊤, if◌then◌else◌}
 use Rattle.nic_device.specs.DmaArena.Numbers.{Numbers, free_count}
 use Rattle.pmd_rx.specs.DeviceLock.declared.entry.Call.{Call}
 use Rattle.nic_device.specs.DmaRing.declared.dir.Dir.TheVariants.{Tx}
@@ -7,27 +7,34 @@ use Rattle.pmd_rx.specs.PmdSeam.Packet.{Kept}
 use Rattle.pmd_rx.specs.PmdSeam.declared.fault.PmdFault.{PmdFault}
 use Rattle.pmd_rx.specs.PmdSeam.declared.fault.PmdFault.TheVariants.{BadSize, NoBuffer, DeviceFault}
 use Rattle.pmd_rx.specs.PmdSeam.Named.{AtPort, queues_named}
+use Rattle.pmd_rx.specs.PmdSeam.Slots.{blocks_for}
 use Rattle.pmd_rx.specs.Receive.{Receive}
 use Rattle.pmd_tx.specs.Sending.{Sender}
-use Rattle.pmd.specs.Halted.{Halted, with_rings, with_receive_ring}
+use Rattle.pmd.specs.Halted.{Halted, with_rings, with_receive_ring, with_blocks}
 use Rattle.pmd.specs.Driver.{Driver, accepted_of, handed_of}
 use Rattle.pmd.specs.Running.{Running}
+use Rattle.pmd.specs.Runs.{second_run}
 use Rattle.pmd.specs.Starting.{IsReceiveReady, IsTransmitReady, GoesOn, ReceiveFails, PreparingFails, GoingOnFails}
 use Rattle.pmd.specs.declared.driver.Rings.TheVariants.{Up, Down}
 use Rattle.pmd.specs.declared.start.Rest.{Rest}
 use Rattle.pmd.specs.declared.start.Rest.TheVariants as rest
 use Rattle.pmd.specs.declared.start.StartRefused.{StartRefused}
 
--- how many descriptors a ring may have: a multiple of 8 from 8 to 128
+-- how many descriptors a ring may have: a multiple of 8 from 8 to 1,024
 abbrev pub is_size : ℕ → Bool
-is_size size = nat_le 8 size && (nat_le size 128 && size % 8 == 0)
+is_size size = nat_le 8 size && (nat_le size 1024 && size % 8 == 0)
 
--- why a start is refused before any event, where it is: two blocks are for the rings, and all slots of the receive ring
--- but one are filled
+-- whether a driver has the blocks that it needs: so many for its two rings, and one for each slot of the receive ring
+-- but one; and for each ring a run of blocks that follow one another
+abbrev pub has_room : Numbers → ℕ → Bool
+has_room a size =
+    nat_le (size - 1 + 2 * blocks_for size) (free_count a) && is_some (second_run a (blocks_for size))
+
+-- why a start is refused before any event, where it is
 abbrev pub start_gate : Numbers → AtPort → ℕ → Option PmdFault
 start_gate a q size =
     if is_size size
-    then (if nat_lt size (free_count a)
+    then (if has_room a size
     then (if nat_lt q.queue (queues_named q.port) then None else Some DeviceFault)
     else Some NoBuffer)
     else Some BadSize
@@ -73,15 +80,30 @@ HasStarted q size old a new p =
 abbrev pub IsHalfStarted : AtPort → Halted → Rest → Type 0
 IsHalfStarted q h left = left ≡ rest.Running (record { queue = q; rings = Down h })
 
--- the transmit ring wasn't prepared, and the empty receive ring is left
+-- no ring was prepared: where a block of the receive ring was lent, the driver is left, else the arena
+abbrev pub IsLeftWith : AtPort → Numbers → List ℕ → Rest → Type 0
+IsLeftWith q a [] left = IsHome a left
+IsLeftWith q a (n ∷ ns) left = IsHalfStarted q (with_blocks a (n ∷ ns)) left
+
+-- the receive ring wasn't prepared
+pub record StopsBeforeOne (q : AtPort) (size : ℕ) (old : List Call) (a : Numbers) (new : List Call) (e : StartRefused) :
+    Type 0 where
+  pub arena : Numbers
+  pub out : List ℕ
+  pub fails : ReceiveFails e.fault q size old a new arena out
+  pub left : IsLeftWith q arena out e.rest
+
+-- the transmit ring wasn't prepared, and the empty receive ring is left, with the blocks of the other that were lent
 pub record StopsAfterOne (q : AtPort) (size : ℕ) (old : List Call) (a : Numbers) (new : List Call) (e : StartRefused) :
     Type 0 where
   pub made : List Call
+  pub ready_arena : Numbers
   pub arena : Numbers
   pub empty : Receive
-  pub receive : IsReceiveReady q size old a made arena empty
-  pub fails : PreparingFails e.fault q Tx size made arena new
-  pub left : IsHalfStarted q (with_receive_ring arena empty) e.rest
+  pub out : List ℕ
+  pub receive : IsReceiveReady q size old a made ready_arena empty
+  pub fails : PreparingFails e.fault q Tx size made ready_arena new arena out
+  pub left : IsHalfStarted q (with_receive_ring arena empty out) e.rest
 
 -- a side didn't go on, or the receive ring was filled in part, and both rings are left
 pub record StopsAfterBoth (q : AtPort) (size : ℕ) (old : List Call) (a : Numbers) (new : List Call) (e : StartRefused) :
@@ -102,5 +124,4 @@ pub record StopsAfterBoth (q : AtPort) (size : ℕ) (old : List Call) (a : Numbe
 -- it was refused amid its events
 abbrev pub StopsStarting : AtPort → ℕ → List Call → Numbers → List Call → StartRefused → Type 0
 StopsStarting q size old a new e =
-    (ReceiveFails e.fault q size old a new × IsHome a e.rest)
-    ⊎ StopsAfterOne q size old a new e ⊎ StopsAfterBoth q size old a new e
+    StopsBeforeOne q size old a new e ⊎ StopsAfterOne q size old a new e ⊎ StopsAfterBoth q size old a new e

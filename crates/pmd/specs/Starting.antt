@@ -1,7 +1,7 @@
 -- How the rings of a driver come up, one after the other.
-use Rattle.std.specs.Prelude.{ℕ, ◌≡◌, ◌⊎◌, ⊤, true, false, List, Some, None}
+use Rattle.std.specs.Prelude.{ℕ, ◌≡◌, ◌⊎◌, ⊤, true, List, [], ◌∷◌, ◌++◌, Some, None}
 use Rattle.nic_device.specs.DmaArena.Block.{Block, zero_block}
-use Rattle.nic_device.specs.DmaArena.Numbers.{Numbers, is_free, with_free}
+use Rattle.nic_device.specs.DmaArena.Numbers.{Numbers, is_free}
 use Rattle.pmd_rx.specs.DeviceLock.declared.entry.Call.{Call}
 use Rattle.nic_device.specs.RegisterFile.Queue.{tail_row}
 use Rattle.nic_device.specs.DmaRing.declared.dir.Dir.{Dir}
@@ -12,8 +12,10 @@ use Rattle.pmd_rx.specs.PmdSeam.declared.fault.PmdFault.{PmdFault}
 use Rattle.pmd_rx.specs.PmdSeam.declared.fault.PmdFault.TheVariants as fault
 use Rattle.pmd_rx.specs.PmdSeam.Both.{both_quiet, IsSwitched, SwitchFails}
 use Rattle.pmd_rx.specs.PmdSeam.QueueMade.{AreMade, StopsBy}
+use Rattle.pmd_rx.specs.PmdSeam.Home.{IsDrawn}
 use Rattle.pmd_rx.specs.PmdSeam.Named.{AtPort, IsNumberOf}
 use Rattle.pmd_rx.specs.PmdSeam.Sides.{ring_words}
+use Rattle.pmd_rx.specs.PmdSeam.Slots.{ring_blocks}
 use Rattle.pmd_rx.specs.Filling.{Fills, StopsFilling}
 use Rattle.pmd_rx.specs.Plays.{PlaysFrom}
 use Rattle.pmd_rx.specs.Receive.{Receive}
@@ -30,14 +32,18 @@ ComesLate fault.BadSize = ⊥
 ComesLate fault.ForeignBlock = ⊥
 ComesLate fault.NoBuffer = ⊥
 
--- the block of a ring was drawn from the arena, the ring's words were written, and the block was lent, each byte 0
+-- these blocks were lent in turn, each byte 0
+abbrev pub LendsEach : List Call → List Call → List ℕ → Type 0
+LendsEach old new [] = new ≡ old
+LendsEach old new (n ∷ ns) = (mid : List Call) × IsLent old mid (zero_block n) None × LendsEach mid new ns
+
+-- the words of a ring were written; its blocks, free before, were drawn from the arena, and lent
 pub record IsPrepared (q : AtPort) (side : Dir) (size : ℕ) (old : List Call) (a : Numbers) (new : List Call)
     (b : Numbers) (ring : ℕ) : Type 0 where
-  pub free : is_free a ring ≡ true
-  pub drawn : b ≡ with_free a ring false
+  pub drawn : IsDrawn a (ring_blocks ring size) b
   pub mid : List Call
   pub words : AreMade q old mid (ring_words side ring size)
-  pub lent : IsLent mid new (zero_block ring) None
+  pub lent : LendsEach mid new (ring_blocks ring size)
 
 -- why a block isn't lent: one of its number is lent already, or the call was refused
 abbrev pub LendingFails : PmdFault → List Call → List Call → Block → Type 0
@@ -48,11 +54,24 @@ LendingFails fault.ForeignBlock old new block = ⊥
 LendingFails fault.StartTimeout old new block = ⊥
 LendingFails fault.NoBuffer old new block = ⊥
 
--- a free block was to be a ring's: one of its words wasn't written, or it wasn't lent
-abbrev pub PreparingFails : PmdFault → AtPort → Dir → ℕ → List Call → Numbers → List Call → Type 0
-PreparingFails f q side size old a new =
-    (ring : ℕ) × (is_free a ring ≡ true) × (StopsBy f q old new (ring_words side ring size)
-    ⊎ ((mid : List Call) × AreMade q old mid (ring_words side ring size) × LendingFails f mid new (zero_block ring)))
+-- of these blocks the first were drawn from the arena and lent. The next, which is free, wasn't
+pub record StopsLending (f : PmdFault) (all : List ℕ) (old : List Call) (a : Numbers) (new : List Call) (b : Numbers)
+    (out : List ℕ) : Type 0 where
+  pub next : ℕ
+  pub rest : List ℕ
+  pub parts : out ++ next ∷ rest ≡ all
+  pub drawn : IsDrawn a out b
+  pub free : is_free b next ≡ true
+  pub mid : List Call
+  pub lent : LendsEach old mid out
+  pub fails : LendingFails f mid new (zero_block next)
+
+-- a ring wasn't prepared: one of its words wasn't written, or one of its blocks wasn't lent. These blocks are out then
+abbrev pub PreparingFails : PmdFault → AtPort → Dir → ℕ → List Call → Numbers → List Call → Numbers → List ℕ → Type 0
+PreparingFails f q side size old a new b out =
+    (ring : ℕ) × ((StopsBy f q old new (ring_words side ring size) × (b ≡ a) × (out ≡ []))
+    ⊎ ((mid : List Call) × AreMade q old mid (ring_words side ring size)
+    × StopsLending f (ring_blocks ring size) mid a new b out))
 
 -- both sides are off and stay so, and an empty receive ring is lent
 pub record IsReceiveReady (q : AtPort) (size : ℕ) (old : List Call) (a : Numbers) (new : List Call) (b : Numbers)
@@ -66,10 +85,10 @@ pub record IsReceiveReady (q : AtPort) (size : ℕ) (old : List Call) (a : Numbe
   pub fresh : v ≡ receive.at_start q.port tail ring size
 
 -- a side is on, or the receive ring isn't prepared
-abbrev pub ReceiveFails : PmdFault → AtPort → ℕ → List Call → Numbers → List Call → Type 0
-ReceiveFails f q size old a new =
-    StopsBy f q old new both_quiet
-    ⊎ ((mid : List Call) × AreMade q old mid both_quiet × PreparingFails f q Rx size mid a new)
+abbrev pub ReceiveFails : PmdFault → AtPort → ℕ → List Call → Numbers → List Call → Numbers → List ℕ → Type 0
+ReceiveFails f q size old a new b out =
+    (StopsBy f q old new both_quiet × (b ≡ a) × (out ≡ []))
+    ⊎ ((mid : List Call) × AreMade q old mid both_quiet × PreparingFails f q Rx size mid a new b out)
 
 -- an empty transmit ring is lent
 pub record IsTransmitReady (q : AtPort) (size : ℕ) (old : List Call) (a : Numbers) (new : List Call) (b : Numbers)

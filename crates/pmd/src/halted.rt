@@ -6,7 +6,7 @@ ghost use Rattle.pmd_rx.specs.PmdSeam.Home.{AreOut};
 ghost use Rattle.pmd_rx.specs.PmdSeam.Fresh.{IsFresh};
 ghost use Rattle.pmd_rx.specs.Keeping.{blocks_out};
 ghost use Rattle.pmd_tx.specs.Leaving.{lent_of};
-ghost use Rattle.pmd.specs.Halted.{IsHalted, all_out, is_out, goes_back, is_free_or_out, with_rings, with_receive_ring};
+ghost use Rattle.pmd.specs.Halted.{IsHalted, all_out, is_out, goes_back, is_free_or_out, with_rings, with_receive_ring, with_blocks};
 ghost use Rattle.pmd.specs.Stopping.{Stops, StopFails, IsUnclosed, closed};
 ghost use Rattle.pmd.specs.Leaving.{leaving_as};
 ghost use Rattle.pmd_rx.specs.PmdSeam.Refusals.{CanFail};
@@ -21,6 +21,7 @@ use pmd_rx::{
 };
 use pmd_tx::TransmitRing;
 use std::alloc::Global;
+use std::collections::VecDeque;
 use std::marker::Model;
 
 /// A driver that isn't running: its start went wrong with a block lent, or its stop has begun. It can't be dropped, as
@@ -56,16 +57,34 @@ impl Halted {
         }
     }
 
-    /// A driver of a receive ring alone, whose blocks are out of the arena: no transmit ring was made yet. It takes no
-    /// memory.
-    pub fn of_receive(alloc: Global, arena: Arena, receive: ReceiveRing) -> Halted
-        requires { AreOut arena (blocks_out receive) }
-        ensures { result ≡ with_receive_ring arena receive }
+    /// A driver of a receive ring and of some blocks that are lent for a transmit ring, which wasn't made yet: all of
+    /// their blocks are out of the arena. It takes no memory.
+    pub fn of_receive(
+        alloc: Global,
+        arena: Arena,
+        receive: ReceiveRing,
+        lent: VecDeque<u32>,
+    ) -> Halted
+        requires { AreOut arena (blocks_out receive ++ lent.items) }
+        ensures { result ≡ with_receive_ring arena receive lent.items }
     {
         let _count = arena.count();
         Halted {
             arena,
             receive: Receiving::Ring(receive),
+            transmit: Sending::Leaves(Reclaim::of(lent), Vec::new(alloc)),
+        }
+    }
+
+    /// A driver of some blocks alone that are lent for a receive ring, and out of the arena. It takes no memory.
+    pub fn of_blocks(alloc: Global, arena: Arena, lent: VecDeque<u32>) -> Halted
+        requires { AreOut arena lent.items }
+        ensures { result ≡ with_blocks arena lent.items }
+    {
+        let _count = arena.count();
+        Halted {
+            arena,
+            receive: Receiving::Leaves(Reclaim::of(lent), Vec::new(alloc)),
             transmit: Sending::Leaves(Reclaim::new(alloc), Vec::new(alloc)),
         }
     }

@@ -15,6 +15,7 @@ mod halted;
 mod home;
 mod rings;
 mod running;
+mod runs;
 mod start;
 mod stopping;
 

@@ -1,54 +1,53 @@
-//! The rings of a driver as they come up: one function for each step, which leaves the arena as it was where it fails.
+//! The rings of a driver as they come up: one function for each step. Where a step fails, just the blocks that it lent
+//! are out of the arena.
 
-ghost use Rattle.std.specs.Prelude.{◌≡◌, ◌<◌, ◌≤◌, ◌+◌, [], true, false, IfOk, IfErr, OnOk, OnErr};
-ghost use Rattle.nic_device.specs.DmaArena.Numbers.{free_count};
-ghost use Rattle.pmd_rx.specs.PmdSeam.Home.{AreOut};
+ghost use Rattle.std.specs.Prelude.{◌≡◌, ◌≤◌, ◌+◌, [], true, false, None, IfOk, IfErr, OnOk, OnErr};
+ghost use Rattle.std.specs.List.{range_with_len};
+ghost use Rattle.std.specs.VecDeque.{deque_capacity};
+ghost use Rattle.nic_device.specs.DmaArena.Block.{zero_block};
+ghost use Rattle.nic_device.specs.DmaArena.Numbers.{free_count, is_free, with_free};
+ghost use Rattle.pmd_rx.specs.PmdSeam.Accesses.{IsLent};
+ghost use Rattle.pmd_rx.specs.PmdSeam.Home.{AreOut, IsDrawn};
+ghost use Rattle.pmd_rx.specs.PmdSeam.Slots.{blocks_for, ring_blocks};
 ghost use Rattle.pmd_rx.specs.Keeping.{blocks_out, IsRunning, Keeps};
 ghost use Rattle.pmd_rx.specs.Receive.{Looks};
-ghost use Rattle.pmd.specs.Starting.{ComesLate, IsPrepared, PreparingFails, IsReceiveReady, ReceiveFails, IsTransmitReady, GoesOn, GoingOnFails};
+ghost use Rattle.pmd.specs.Runs.{IsFreeRun};
+ghost use Rattle.pmd.specs.Starting.{ComesLate, LendsEach, LendingFails, StopsLending, IsPrepared, PreparingFails, IsReceiveReady, ReceiveFails, IsTransmitReady, GoesOn, GoingOnFails};
 ghost use Rattle.pmd_rx.specs.PmdSeam.Refusals.{CanFail};
 
 use nic_device::{Arena, Dir};
-use pmd_rx::{Nic, PmdFault, Queue, ReceiveRing, give_back, lend};
+use pmd_rx::{CallFault, Nic, PmdFault, Queue, ReceiveRing, blocks_for, give_back, lend};
 use pmd_tx::TransmitRing;
 use std::alloc::Global;
+use std::collections::VecDeque;
 
-/// Writes the words of an empty ring of `size` descriptors, at most 128, in a free block of the arena, and lends the
-/// block. Answers its number, which is below 65,536.
-fn prepare<N: Nic>(
+/// A ring that wasn't prepared: why, and the numbers of its blocks that are lent.
+pub(crate) struct Unprepared {
+    pub(crate) fault: PmdFault,
+    pub(crate) lent: VecDeque<u32>,
+}
+
+/// Lends a block that is free in the arena.
+fn lend_one<N: Nic>(
     alloc: Global,
     nic: &mut N,
-    queue: &Queue,
     arena: &mut Arena,
-    side: Dir,
-    size: u16,
-) -> Result<u32, PmdFault>
-    requires size { size ≤ 128 }
-    requires some { 0 < free_count arena.old }
-    ensures prepared { IfOk result (λ ring.
-        IsPrepared queue.now side size (N.made nic.old) arena.old (N.made nic.new) arena.new ring) }
-    ensures low { IfOk result (λ ring. ring < 65536) }
-    ensures failed { IfErr result (λ f.
-        PreparingFails f queue.now side size (N.made nic.old) arena.old (N.made nic.new)) }
+    block: u32,
+) -> Result<(), PmdFault>
+    requires { is_free arena.old block ≡ true }
+    ensures lent { OnOk result (IsLent (N.made nic.old) (N.made nic.new) (zero_block block) None) }
+    ensures drawn { OnOk result (arena.new ≡ with_free arena.old block false) }
+    ensures failed { IfErr result (λ f. LendingFails f (N.made nic.old) (N.made nic.new) (zero_block block)) }
     ensures kept { OnErr result (arena.new ≡ arena.old) }
     ensures who { N.who nic.new ≡ N.who nic.old }
     ensures refuses { N.refuses nic.new ≡ N.refuses nic.old }
     ensures refusal { IfErr result (λ f. CanFail (N.refuses nic.new) f) }
 {
-    let Some(buf) = arena.take() else {
+    let Some(buf) = arena.take_at(block) else {
         unreachable!()
     };
-    let ring = buf.block();
-    let _whole = buf.bytes();
-    match queue.lay_out(alloc, nic, side, ring, size) {
-        Ok(()) => {}
-        Err(fault) => {
-            give_back(arena, buf);
-            return Err(fault);
-        }
-    }
     match lend(alloc, nic, buf) {
-        Ok(None) => Ok(ring),
+        Ok(None) => Ok(()),
         Ok(Some(buf)) => {
             give_back(arena, buf);
             Err(PmdFault::DeviceFault)
@@ -60,65 +59,145 @@ fn prepare<N: Nic>(
     }
 }
 
-/// Sees to it that both sides of the queue are off, and prepares an empty receive ring of 8 to 128 descriptors.
+/// Lends the `count` blocks from `first` on, which are free in the arena, in turn, and keeps the numbers of those that
+/// are lent, for which there is room.
+fn lend_run<N: Nic>(
+    alloc: Global,
+    nic: &mut N,
+    arena: &mut Arena,
+    first: u32,
+    count: u32,
+    lent: &mut VecDeque<u32>,
+) -> Result<(), PmdFault>
+    requires low { first + count ≤ 65536 }
+    requires free { IsFreeRun arena.old first count }
+    requires none { lent.old.items ≡ [] }
+    requires room { count ≤ deque_capacity lent.old }
+    ensures all { OnOk result (LendsEach (N.made nic.old) (N.made nic.new) (range_with_len first count)) }
+    ensures drawn { OnOk result (IsDrawn arena.old (range_with_len first count) arena.new) }
+    ensures stops { IfErr result (λ f. StopsLending f (range_with_len first count) (N.made nic.old) arena.old
+        (N.made nic.new) arena.new lent.new.items) }
+    ensures who { N.who nic.new ≡ N.who nic.old }
+    ensures refuses { N.refuses nic.new ≡ N.refuses nic.old }
+    ensures refusal { IfErr result (λ f. CanFail (N.refuses nic.new) f) }
+{
+    for k in 0..count {
+        match lend_one(alloc, nic, arena, first + k) {
+            Ok(()) => lent.push_back_reserved(first + k),
+            Err(fault) => return Err(fault),
+        }
+    }
+    Ok(())
+}
+
+/// Writes the words of an empty ring of 8 to 1,024 descriptors, whose blocks are free in the arena from that of the
+/// number `ring` on, and lends these.
+fn prepare<N: Nic>(
+    alloc: Global,
+    nic: &mut N,
+    queue: &Queue,
+    arena: &mut Arena,
+    side: Dir,
+    ring: u32,
+    size: u16,
+) -> Result<(), Unprepared>
+    requires some { 8 ≤ size }
+    requires few { size ≤ 1024 }
+    requires low { ring + blocks_for size ≤ 65536 }
+    requires free { IsFreeRun arena.old ring (blocks_for size) }
+    ensures prepared { OnOk result
+        (IsPrepared queue.now side size (N.made nic.old) arena.old (N.made nic.new) arena.new ring) }
+    ensures failed { IfErr result (λ e. PreparingFails e.fault queue.now side size (N.made nic.old) arena.old
+        (N.made nic.new) arena.new e.lent.items) }
+    ensures who { N.who nic.new ≡ N.who nic.old }
+    ensures refuses { N.refuses nic.new ≡ N.refuses nic.old }
+    ensures refusal { IfErr result (λ e. CanFail (N.refuses nic.new) e.fault) }
+{
+    let count = blocks_for(size);
+    let mut lent = VecDeque::new(alloc);
+    if lent.reserve(count as usize).is_err() {
+        return Err(Unprepared {
+            fault: PmdFault::Call(CallFault::OutOfMemory(())),
+            lent,
+        });
+    }
+    match queue.lay_out(alloc, nic, side, ring, size) {
+        Ok(()) => {}
+        Err(fault) => return Err(Unprepared { fault, lent }),
+    }
+    match lend_run(alloc, nic, arena, ring, count, &mut lent) {
+        Ok(()) => Ok(()),
+        Err(fault) => Err(Unprepared { fault, lent }),
+    }
+}
+
+/// Sees to it that both sides of the queue are off, and prepares an empty receive ring of 8 to 1,024 descriptors, whose
+/// blocks are free in the arena from that of the number `ring` on.
 pub(crate) fn receive_ring<N: Nic>(
     alloc: Global,
     nic: &mut N,
     queue: &Queue,
     arena: &mut Arena,
+    ring: u32,
     size: u16,
-) -> Result<ReceiveRing, PmdFault>
+) -> Result<ReceiveRing, Unprepared>
     requires some { 8 ≤ size }
-    requires few { size ≤ 128 }
-    requires free { 0 < free_count arena.old }
+    requires few { size ≤ 1024 }
+    requires low { ring + blocks_for size ≤ 65536 }
+    requires free { IsFreeRun arena.old ring (blocks_for size) }
     ensures ready { IfOk result (λ receive.
         IsReceiveReady queue.now size (N.made nic.old) arena.old (N.made nic.new) arena.new receive) }
-    ensures failed { IfErr result (λ f.
-        ReceiveFails f queue.now size (N.made nic.old) arena.old (N.made nic.new)) }
-    ensures kept { OnErr result (arena.new ≡ arena.old) }
+    ensures drawn { OnOk result (IsDrawn arena.old (ring_blocks ring size) arena.new) }
+    ensures failed { IfErr result (λ e.
+        ReceiveFails e.fault queue.now size (N.made nic.old) arena.old (N.made nic.new) arena.new e.lent.items) }
     ensures who { N.who nic.new ≡ N.who nic.old }
     ensures refuses { N.refuses nic.new ≡ N.refuses nic.old }
-    ensures refusal { IfErr result (λ f. CanFail (N.refuses nic.new) f) }
+    ensures refusal { IfErr result (λ e. CanFail (N.refuses nic.new) e.fault) }
 {
     match queue.disable_both(alloc, nic) {
         Ok(()) => {}
-        Err(fault) => return Err(fault),
+        Err(fault) => {
+            let lent = VecDeque::new(alloc);
+            return Err(Unprepared { fault, lent });
+        }
     }
-    match prepare(alloc, nic, queue, arena, Dir::Rx, size) {
-        Ok(ring) => {
+    match prepare(alloc, nic, queue, arena, Dir::Rx, ring, size) {
+        Ok(()) => {
             let tail = queue.tail_number(Dir::Rx);
             Ok(ReceiveRing::new(alloc, queue.port(), tail, ring, size))
         }
-        Err(fault) => Err(fault),
+        Err(unprepared) => Err(unprepared),
     }
 }
 
-/// Prepares an empty transmit ring of 8 to 128 descriptors.
+/// Prepares an empty transmit ring of 8 to 1,024 descriptors, whose blocks are free in the arena from that of the
+/// number `ring` on.
 pub(crate) fn transmit_ring<N: Nic>(
     alloc: Global,
     nic: &mut N,
     queue: &Queue,
     arena: &mut Arena,
+    ring: u32,
     size: u16,
-) -> Result<TransmitRing, PmdFault>
+) -> Result<TransmitRing, Unprepared>
     requires some { 8 ≤ size }
-    requires few { size ≤ 128 }
-    requires free { 0 < free_count arena.old }
+    requires few { size ≤ 1024 }
+    requires low { ring + blocks_for size ≤ 65536 }
+    requires free { IsFreeRun arena.old ring (blocks_for size) }
     ensures ready { IfOk result (λ transmit.
         IsTransmitReady queue.now size (N.made nic.old) arena.old (N.made nic.new) arena.new transmit) }
-    ensures failed { IfErr result (λ f.
-        PreparingFails f queue.now Dir.Tx size (N.made nic.old) arena.old (N.made nic.new)) }
-    ensures kept { OnErr result (arena.new ≡ arena.old) }
+    ensures failed { IfErr result (λ e. PreparingFails e.fault queue.now Dir.Tx size (N.made nic.old) arena.old
+        (N.made nic.new) arena.new e.lent.items) }
     ensures who { N.who nic.new ≡ N.who nic.old }
     ensures refuses { N.refuses nic.new ≡ N.refuses nic.old }
-    ensures refusal { IfErr result (λ f. CanFail (N.refuses nic.new) f) }
+    ensures refusal { IfErr result (λ e. CanFail (N.refuses nic.new) e.fault) }
 {
-    match prepare(alloc, nic, queue, arena, Dir::Tx, size) {
-        Ok(ring) => {
+    match prepare(alloc, nic, queue, arena, Dir::Tx, ring, size) {
+        Ok(()) => {
             let tail = queue.tail_number(Dir::Tx);
             Ok(TransmitRing::new(alloc, queue.port(), tail, ring, size))
         }
-        Err(fault) => Err(fault),
+        Err(unprepared) => Err(unprepared),
     }
 }
 

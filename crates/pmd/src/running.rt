@@ -37,7 +37,7 @@ impl Model for Running {
 
 impl Running {
     /// A driver of two rings of one queue that are up, whose blocks are out of the arena: the receive ring has all of
-    /// its slots posted but one.
+    /// its slots posted but one, and the transmit ring has a slot.
     pub fn new(arena: Arena, receive: ReceiveRing, transmit: TransmitRing) -> Running
         requires { IsUp (record { arena = arena; receive = receive; transmit = transmit }) }
         ensures { result ≡ record { arena = arena; receive = receive; transmit = transmit } }

@@ -1,21 +1,26 @@
 //! How a driver starts.
 
-ghost use Rattle.std.specs.Prelude.{◌≡◌, ◌<◌, ◌≤◌, [], None, Some, IfOk, IfErr, OnOk};
+ghost use Rattle.std.specs.Prelude.{◌≡◌, ◌↔◌, ◌≤◌, ◌+◌, ◌-◌, ◌*◌, ◌++◌, [], true, None, Some, IsSome, IfSome, OnSome, IfOk, IfErr, OnOk};
 ghost use Rattle.nic_device.specs.DmaArena.Numbers.{free_count};
-ghost use Rattle.pmd.specs.Halted.{Halted};
+ghost use Rattle.pmd.specs.Halted.{Halted, with_receive_ring};
+ghost use Rattle.pmd_rx.specs.Keeping.{blocks_out};
 ghost use Rattle.pmd.specs.Starting.{ComesLate};
 ghost use Rattle.pmd.specs.Blocks.{HasAll, IsWhole};
 ghost use Rattle.pmd.specs.Driver.{handed_of, halted_of};
-ghost use Rattle.pmd.specs.Started.{is_size, start_gate, left_accepted, left_handed, IsHome, IsShut, HasStarted, IsHalfStarted, StopsStarting};
+ghost use Rattle.pmd.specs.Runs.{AreRuns};
+ghost use Rattle.pmd.specs.Started.{is_size, has_room, start_gate, left_accepted, left_handed, IsHome, IsShut, HasStarted, IsHalfStarted, IsLeftWith, StopsStarting};
+ghost use Rattle.pmd_rx.specs.PmdSeam.Home.{AreOut};
+ghost use Rattle.pmd_rx.specs.PmdSeam.Slots.{blocks_for};
 ghost use Rattle.pmd_rx.specs.PmdSeam.Refusals.{Refusals, CanFail};
 
 use crate::driver::{Pmd, Rings};
 use crate::halted::Halted;
 use crate::home::Home;
-use crate::rings::{go_on, receive_ring, transmit_ring};
+use crate::rings::{Unprepared, go_on, receive_ring, transmit_ring};
 use crate::running::Running;
+use crate::runs::run_from;
 use nic_device::{Arena, Port};
-use pmd_rx::{Nic, PmdFault, Queue};
+use pmd_rx::{Nic, PmdFault, Queue, ReceiveRing, blocks_for};
 use std::alloc::Global;
 
 /// What a start leaves that is refused.
@@ -34,30 +39,54 @@ pub struct StartRefused {
     pub rest: Rest,
 }
 
-/// Whether a ring may have so many descriptors: a multiple of 8 from 8 to 128.
+/// Whether a ring may have so many descriptors: a multiple of 8 from 8 to 1,024.
 fn is_size(size: u16) -> bool
     ensures { result ≡ is_size size }
 {
-    8 <= size && size <= 128 && size % 8 == 0
+    8 <= size && size <= 1024 && size % 8 == 0
 }
 
-/// The queue, where a start with it isn't refused before any event.
-fn named(arena: &Arena, port: Port, queue: u16, size: u16) -> Result<Queue, PmdFault>
+/// Where a start makes its rings: the first block of each.
+#[derive(Clone, Copy)]
+struct Places {
+    receive: u32,
+    transmit: u32,
+}
+
+/// The lowest two runs of as many free blocks as a ring has, one for each ring, where enough blocks are free.
+fn find_places(arena: &Arena, size: u16) -> Option<Places>
+    requires { (8 ≤ size) × (size ≤ 1024) }
+    ensures some { IsSome result ↔ (has_room arena.now size ≡ true) }
+    ensures runs { IfSome result (λ at. AreRuns arena.now (blocks_for size) at.receive at.transmit) }
+    ensures enough { OnSome result (size - 1 + 2 * blocks_for size ≤ free_count arena.now) }
+{
+    let count = blocks_for(size);
+    if arena.free_blocks() < u32::from(size) - 1 + 2 * count {
+        return None;
+    }
+    let receive = run_from(arena, arena.first(), count)?;
+    let transmit = run_from(arena, receive + count, count)?;
+    Some(Places { receive, transmit })
+}
+
+/// The queue and where its rings are made, where a start with it isn't refused before any event.
+fn named(arena: &Arena, port: Port, queue: u16, size: u16) -> Result<(Queue, Places), PmdFault>
     ensures open { OnOk result (start_gate arena.now (record { port = port; queue = queue }) size ≡ None) }
     ensures shut { IfErr result (λ f. start_gate arena.now (record { port = port; queue = queue }) size ≡ Some f) }
-    ensures queue { IfOk result (λ q. q ≡ record { port = port; queue = queue }) }
-    ensures size { OnOk result ((8 ≤ size) × (size ≤ 128)) }
-    ensures free { OnOk result (size < free_count arena.now) }
+    ensures queue { IfOk result (λ n. n.0 ≡ record { port = port; queue = queue }) }
+    ensures size { OnOk result ((8 ≤ size) × (size ≤ 1024)) }
+    ensures runs { IfOk result (λ n. AreRuns arena.now (blocks_for size) n.1.receive n.1.transmit) }
+    ensures enough { OnOk result (size - 1 + 2 * blocks_for size ≤ free_count arena.now) }
     ensures refusal { (way : Refusals) → IfErr result (λ f. CanFail way f) }
 {
     if !is_size(size) {
         return Err(PmdFault::BadSize);
     }
-    if arena.free_blocks() <= u32::from(size) {
+    let Some(places) = find_places(arena, size) else {
         return Err(PmdFault::NoBuffer);
-    }
+    };
     match Queue::new(port, queue) {
-        Some(queue) => Ok(queue),
+        Some(queue) => Ok((queue, places)),
         None => Err(PmdFault::DeviceFault),
     }
 }
@@ -89,6 +118,45 @@ fn half_started(fault: PmdFault, queue: Queue, halted: Halted) -> StartRefused
     }
 }
 
+/// A refusal as the receive ring was to be prepared: those of its blocks that are lent are out of the arena.
+fn left_before_one(
+    alloc: Global,
+    queue: Queue,
+    arena: Arena,
+    unprepared: Unprepared,
+) -> StartRefused
+    requires { AreOut arena unprepared.lent.items }
+    ensures fault { result.fault ≡ unprepared.fault }
+    ensures rest { IsLeftWith queue arena unprepared.lent.items result.rest }
+{
+    let Unprepared { fault, lent } = unprepared;
+    if lent.is_empty() {
+        return at_home(alloc, fault, arena);
+    }
+    half_started(fault, queue, Halted::of_blocks(alloc, arena, lent))
+}
+
+/// A refusal as the transmit ring was to be prepared: the blocks of the receive ring, and those of this one that are
+/// lent, are out of the arena.
+fn left_after_one(
+    alloc: Global,
+    queue: Queue,
+    arena: Arena,
+    receive: ReceiveRing,
+    unprepared: Unprepared,
+) -> StartRefused
+    requires { AreOut arena (blocks_out receive ++ unprepared.lent.items) }
+    ensures fault { result.fault ≡ unprepared.fault }
+    ensures rest { IsHalfStarted queue (with_receive_ring arena receive unprepared.lent.items) result.rest }
+{
+    let Unprepared { fault, lent } = unprepared;
+    half_started(
+        fault,
+        queue,
+        Halted::of_receive(alloc, arena, receive, lent),
+    )
+}
+
 /// Brings the rings of a queue up, one after the other.
 fn bring_up<N: Nic>(
     alloc: Global,
@@ -96,10 +164,12 @@ fn bring_up<N: Nic>(
     queue: Queue,
     size: u16,
     arena: Arena,
+    places: Places,
 ) -> Result<Pmd, StartRefused>
     requires some { 8 ≤ size }
-    requires few { size ≤ 128 }
-    requires free { size < free_count arena }
+    requires few { size ≤ 1024 }
+    requires runs { AreRuns arena (blocks_for size) places.receive places.transmit }
+    requires enough { size - 1 + 2 * blocks_for size ≤ free_count arena }
     ensures started { IfOk result (λ p. HasStarted queue size (N.made nic.old) arena (N.made nic.new) p) }
     ensures stops { IfErr result (λ e. StopsStarting queue size (N.made nic.old) arena (N.made nic.new) e) }
     ensures late { IfErr result (λ e. ComesLate e.fault) }
@@ -112,16 +182,13 @@ fn bring_up<N: Nic>(
     ensures refusal { IfErr result (λ e. CanFail (N.refuses nic.new) e.fault) }
 {
     let mut arena = arena;
-    let mut receive = match receive_ring(alloc, nic, &queue, &mut arena, size) {
+    let mut receive = match receive_ring(alloc, nic, &queue, &mut arena, places.receive, size) {
         Ok(receive) => receive,
-        Err(fault) => return Err(at_home(alloc, fault, arena)),
+        Err(unprepared) => return Err(left_before_one(alloc, queue, arena, unprepared)),
     };
-    let transmit = match transmit_ring(alloc, nic, &queue, &mut arena, size) {
+    let transmit = match transmit_ring(alloc, nic, &queue, &mut arena, places.transmit, size) {
         Ok(transmit) => transmit,
-        Err(fault) => {
-            let halted = Halted::of_receive(alloc, arena, receive);
-            return Err(half_started(fault, queue, halted));
-        }
+        Err(unprepared) => return Err(left_after_one(alloc, queue, arena, receive, unprepared)),
     };
     match go_on(alloc, nic, &queue, &mut arena, &mut receive) {
         Ok(()) => {
@@ -136,13 +203,14 @@ fn bring_up<N: Nic>(
 }
 
 impl Pmd {
-    /// Starts a driver of a queue, which is off: `size` descriptors for each ring, a multiple of 8 from 8 to 128. Two
-    /// blocks of the arena are for the rings, and `size` - 1 are posted for frames to come.
+    /// Starts a driver of a queue, which is off: `size` descriptors for each ring, a multiple of 8 from 8 to 1,024.
+    /// Each ring takes a run of blocks of the arena, one for every 128 descriptors, and `size` - 1 blocks are posted
+    /// for frames to come.
     ///
-    /// Before any event: `BadSize` where the size is another, `NoBuffer` where no more than `size` blocks are free, and
-    /// `DeviceFault` where the port can't name the queue. Then `DeviceFault` where a side of the queue is on or the
-    /// device answers what it can't on a healthy queue, `StartTimeout` where 1,000 polls show a side off, and `Call`
-    /// where a call was refused. Once a block was lent, the driver is left as it came.
+    /// Before any event: `BadSize` where the size is another, `NoBuffer` where fewer blocks are free than that, or no
+    /// two such runs, and `DeviceFault` where the port can't name the queue. Then `DeviceFault` where a side of the
+    /// queue is on or the device answers what it can't on a healthy queue, `StartTimeout` where 1,000 polls show a side
+    /// off, and `Call` where a call was refused. Once a block was lent, the driver is left as it came.
     pub fn start<N: Nic>(
         alloc: Global,
         nic: &mut N,
@@ -169,7 +237,7 @@ impl Pmd {
         ensures refusal { IfErr result (λ e. CanFail (N.refuses nic.new) e.fault) }
     {
         match named(&arena, port, queue, size) {
-            Ok(queue) => bring_up(alloc, nic, queue, size, arena),
+            Ok((queue, places)) => bring_up(alloc, nic, queue, size, arena, places),
             Err(fault) => Err(at_home(alloc, fault, arena)),
         }
     }

@@ -11,6 +11,7 @@ use Rattle.device_lock.specs.declared.entry.Entry.{Entry}
 use Rattle.pmd.specs.Halves.{AllOwn, Doer, Halves}
 use Rattle.pmd.specs.Started.{is_size}
 use Rattle.pmd.specs.PmdSeam.Named.{AtPort}
+use Rattle.pmd.specs.PmdSeam.Slots.{EachRingBlock}
 use Rattle.pmd.specs.PmdRx.Receive.{Receive}
 use Rattle.pmd.specs.PmdTx.Sending.{Sender}
 use Rattle.start_laws.specs.ReceiveLaws.Joint.{Agree}
@@ -46,10 +47,10 @@ module _ (w : Watched) (fifo : ℕ) (h : List Entry) (q : AtPort) (size : ℕ) (
   went_on =
       switched_sides_go_on w fifo h q size old a on v t up along sized well p.front p.back p.both p.fronts
 
-  one : IsLentBy w.pass up.receive.ring h
+  one : EachRingBlock up.receive.ring size (λ n. IsLentBy w.pass n h)
   one = ring_lent w fifo h q size old a on v t up along sized well p.front p.back p.both p.fronts
 
-  two : IsLentBy w.pass up.transmit.ring h
+  two : EachRingBlock up.transmit.ring size (λ n. IsLentBy w.pass n h)
   two = other_lent w fifo h q size old a on v t up along sized well p.front p.back p.both p.fronts
 
   -- by the doers of the calls behind it
@@ -70,7 +71,8 @@ module _ (w : Watched) (fifo : ℕ) (h : List Entry) (q : AtPort) (size : ℕ) (
         agree = record { receive = agrees.0; transmit = agrees.1; apart = halves_apart q size old a on v t up };
         lent =
             subst (λ (l : List Entry). AreLent (lent_by w.pass l) first) all
-            (halves_lent q size old a on v t up (lent_by w.pass h) one.mine two.mine);
+            (halves_lent q size old a on v t up (lent_by w.pass h) (λ k below. (one k below).mine)
+            (λ k below. (two k below).mine));
         own = subst (AllOwn first doers) (sym p.backs) own;
         others =
             harmless_leave_alone w (lent_by w.pass (p.front ++ p.back)) (mode_through w.vfs Off p.front) doers p.back

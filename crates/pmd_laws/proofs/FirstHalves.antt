@@ -1,18 +1,20 @@
--- The halves of a driver whose sides went on just now: each has lent its ring's block, and these are apart.
-use Rattle.std.proofs.Common.{◌≡◌, ℕ, true, List, refl, sym, subst}
-use Rattle.std.specs.Prelude.{IsTrue, ◌==◌}
-use Rattle.std.proofs.lemmas.Bool.{eq-eqb, or_left, or_right}
+-- The halves of a driver whose sides went on just now: each has lent its ring's blocks, and these are apart.
+use Rattle.std.proofs.Common.{◌≡◌, ℕ, ◌+◌, true, List, sym, ◌∙◌, subst}
+use Rattle.std.specs.Prelude.{IsTrue}
+use Rattle.std.proofs.lemmas.Bool.{both_ways, or_left, or_right}
 use Rattle.nic_device.specs.DmaArena.Numbers.{Numbers}
 use Rattle.device_lock.specs.Alone.{Blocks}
 use Rattle.device_lock.specs.declared.entry.Call.{Call}
 use Rattle.pmd.specs.PmdSeam.Named.{AtPort}
+use Rattle.pmd.specs.PmdSeam.Slots.{is_ring_block, EachRingBlock}
+use Rattle.pmd.proofs.PmdSeam.Rings.{ring_block_among, ring_block_is}
 use Rattle.pmd.specs.PmdRx.Receive.{Receive}
 use Rattle.pmd.specs.PmdTx.Sending.{Sender}
 use Rattle.driver_laws.specs.Agreeing.{AreApart, AreLent}
 use Rattle.driver_laws.specs.Healthy.{lent_by}
 use Rattle.pmd.specs.Halves.{Halves}
 use Rattle.start_laws.specs.On.{AreOn}
-use Rattle.pmd_laws.proofs.Begun.{at_first, drawn_apart, first_apart, first_lent}
+use Rattle.pmd_laws.proofs.Begun.{at_first, first_apart, first_lent, ring_free, ring_gone}
 
 -- as both sides are on the receive ring is empty
 module _ (q : AtPort) (size : ℕ) (old : List Call) (a : Numbers) (new : List Call) (v : Receive) (t : Sender)
@@ -30,23 +32,30 @@ module _ (q : AtPort) (size : ℕ) (old : List Call) (a : Numbers) (new : List C
   halves_apart =
       subst AreApart (sym first_is)
       (first_apart q.port size up.receive.ring up.receive.tail up.transmit.ring up.transmit.tail
-      (drawn_apart a up.ready_arena up.receive.ring up.transmit.ring up.receive.prepared.free
-      up.receive.prepared.drawn up.transmit.prepared.free))
+      (λ n is k below same.
+      both_ways (is_ring_block up.receive.ring size n)
+      (ring_gone a up.receive.ring size up.ready_arena n up.receive.prepared.drawn
+      (ring_free up.ready_arena up.transmit.ring size up.both_arena n up.transmit.prepared.drawn is))
+      (subst (λ (m : ℕ). is_ring_block up.receive.ring size m ≡ true) same
+      (ring_block_is up.receive.ring size k below))))
 
-  pub halves_lent : (mine : Blocks) → IsTrue (mine up.receive.ring) → IsTrue (mine up.transmit.ring)
-      → AreLent mine first_halves
+  pub halves_lent : (mine : Blocks) → EachRingBlock up.receive.ring size (λ n. IsTrue (mine n))
+      → EachRingBlock up.transmit.ring size (λ n. IsTrue (mine n)) → AreLent mine first_halves
   halves_lent mine one two =
       subst (AreLent mine) (sym first_is)
       (first_lent q.port size up.receive.ring up.receive.tail up.transmit.ring up.transmit.tail mine one two)
 
   -- both rings are lent
 
-  pub receive_lent : IsTrue (lent_by first_halves up.receive.ring)
-  receive_lent =
-      subst (λ (h : Halves). lent_by h up.receive.ring ≡ true) (sym first_is)
-      (or_left _ _ (or_left (up.receive.ring == up.receive.ring) _ (eq-eqb up.receive.ring up.receive.ring refl)))
+  pub receive_lent : EachRingBlock up.receive.ring size (λ n. IsTrue (lent_by first_halves n))
+  receive_lent k below =
+      let n : ℕ = up.receive.ring + k in
+      subst (λ (h : Halves). lent_by h n ≡ true) (sym first_is)
+      (or_left _ _ (ring_block_among up.receive.ring size n ∙ ring_block_is up.receive.ring size k below))
 
-  pub transmit_lent : IsTrue (lent_by first_halves up.transmit.ring)
-  transmit_lent =
-      subst (λ (h : Halves). lent_by h up.transmit.ring ≡ true) (sym first_is)
-      (or_right _ _ (or_left (up.transmit.ring == up.transmit.ring) _ (eq-eqb up.transmit.ring up.transmit.ring refl)))
+  pub transmit_lent : EachRingBlock up.transmit.ring size (λ n. IsTrue (lent_by first_halves n))
+  transmit_lent k below =
+      let n : ℕ = up.transmit.ring + k in
+      subst (λ (h : Halves). lent_by h n ≡ true) (sym first_is)
+      (or_right _ _
+      (or_left (is_ring_block up.transmit.ring size n) _ (ring_block_is up.transmit.ring size k below)))

@@ -7,6 +7,8 @@ use Rattle.std.proofs.lemmas.List.Folds.{list_any-append}
 use Rattle.nic_device.specs.DmaArena.Memory.{has_block}
 use Rattle.nic_device.specs.State.{State}
 use Rattle.pmd.specs.Halves.{Halves}
+use Rattle.pmd.specs.PmdSeam.Slots.{ring_blocks}
+use Rattle.pmd.proofs.PmdSeam.Rings.{each_ring_block, ring_block_among}
 use Rattle.pmd.specs.PmdRx.Keeping as received
 use Rattle.pmd.specs.PmdRx.Keeping.{fresh_block}
 use Rattle.pmd.specs.PmdRx.Receive.{Receive, Stage, Looks, Sees, Holding, Lent, Named}
@@ -53,13 +55,15 @@ part P n xs ys first then is =
 
 pub each_has : (v : Receive) (P : ℕ → Type 0) (n : ℕ) → Each v P → received.has_lent v n ≡ true → P n
 each_has v P n each is =
-    let ring : List ℕ = v.layout.ring ∷ [] in
+    let ring : List ℕ = ring_blocks v.layout.ring v.layout.size in
     part P n v.layout.blocks (fresh_block v.stage ++ ring)
     (λ posted.
     let (k, known, same) = any_place v.layout.blocks n posted in
     subst P (sym same) (each.blocks k known))
     (part P n (fresh_block v.stage) ring (fresh_has P n v.stage each.fresh)
-    (λ own. only P n v.layout.ring own each.ring))
+    (λ own.
+    each_ring_block v.layout.ring v.layout.size P each.ring n
+    (sym (ring_block_among v.layout.ring v.layout.size n) ∙ own)))
     is
 
 -- so what either half has lent is

@@ -1,5 +1,5 @@
 -- A start's accesses beside those of its transmit ring lay out no more of it.
-use Rattle.std.proofs.Common.{ℕ, inl, inr, true, List, refl}
+use Rattle.std.proofs.Common.{ℕ, inl, inr, true, List, [], ◌∷◌, refl}
 use Rattle.nic_device.specs.DmaArena.Block.{Block}
 use Rattle.nic_device.specs.DmaArena.Numbers.{Numbers}
 use Rattle.nic_device.specs.RegTable.declared.rows.RowId.TheVariants.{Rdt}
@@ -13,12 +13,13 @@ use Rattle.pmd.specs.PmdSeam.QueueMade.{Access, AreMade, StopsBy}
 use Rattle.pmd.specs.PmdSeam.Named.{AtPort, IsNumberOf}
 use Rattle.pmd.specs.PmdSeam.Sides.{ring_words}
 use Rattle.pmd.specs.PmdRx.Receive.{Receive, at_start}
-use Rattle.pmd.specs.Starting.{GoingOnFails, IsPrepared, IsReceiveReady, LendingFails, ReceiveFails}
+use Rattle.pmd.specs.PmdSeam.Slots.{ring_blocks}
+use Rattle.pmd.specs.Starting.{GoingOnFails, IsPrepared, IsReceiveReady, LendingFails, LendsEach, ReceiveFails}
 use Rattle.start_laws.specs.Laid.{Laid, Off, Empty}
 use Rattle.start_laws.specs.Stopping.{AreMadeOf}
 use Rattle.start_laws.proofs.AccessCalls.{accesses_are, stops_are, switched_are, unswitched_are}
 use Rattle.start_laws.proofs.AllAre.{AllAre}
-use Rattle.start_laws.proofs.StopCalls.{adds_made, some_made, then_made}
+use Rattle.start_laws.proofs.StopCalls.{adds_made, none_made, some_made, then_made}
 use Rattle.pmd_laws.proofs.LaidCalls.{Stays, step_stays}
 use Rattle.pmd_laws.proofs.LaidFilling.{plays_stay}
 use Rattle.pmd_laws.proofs.LaidWords.{Keeps, keeps_write}
@@ -61,12 +62,19 @@ module _ (q : AtPort) where
   stopped_stay =
       stops_are q (Stays q Off) (Keeps Off) (step_stays q Off) (λ port number. refl) (keeps_write q Off)
 
+  -- blocks are lent
+  pub lends_stay : (l : Laid) (ns : List ℕ) (old new : List Call) → LendsEach old new ns → Stay l old new
+  lends_stay l [] old new is = none_made (Stays q l) old new is
+  lends_stay l (n ∷ ns) old new (mid, here, more) =
+      then_made (Stays q l) old mid new (adds_made (Stays q l) (step_stays q l) old mid _ _ here refl)
+      (lends_stay l ns mid new more)
+
   receive_prepared : (size : ℕ) (old : List Call) (a : Numbers) (new : List Call) (b : Numbers) (ring : ℕ)
       → IsPrepared q Rx size old a new b ring → Stay Off old new
   receive_prepared size old a new b ring x =
       then_made (Stays q Off) old x.mid new
       (accesses_stay (ring_words Rx ring size) old x.mid (words_keep ring size) x.words)
-      (adds_made (Stays q Off) (step_stays q Off) x.mid new _ _ x.lent refl)
+      (lends_stay Off (ring_blocks ring size) x.mid new x.lent)
 
   pub receive_ready : (size : ℕ) (old : List Call) (a : Numbers) (new : List Call) (b : Numbers) (v : Receive)
       → IsReceiveReady q size old a new b v → Stay Off old new
@@ -74,17 +82,18 @@ module _ (q : AtPort) where
       then_made (Stays q Off) old x.mid new (accesses_stay both_quiet old x.mid quiet_keep x.quiet)
       (receive_prepared size x.mid a new b x.ring x.prepared)
 
-  pub receive_fails : (f : PmdFault) (size : ℕ) (old : List Call) (a : Numbers) (new : List Call)
-      → ReceiveFails f q size old a new → Stay Off old new
-  receive_fails f size old a new (inl stops) = stopped_stay f both_quiet old new quiet_keep stops
-  receive_fails f size old a new (inr (mid, made, (ring, free, inl stops))) =
+  pub receive_fails : (f : PmdFault) (size : ℕ) (old : List Call) (a : Numbers) (new : List Call) (b : Numbers)
+      (out : List ℕ) → ReceiveFails f q size old a new b out → Stay Off old new
+  receive_fails f size old a new b out (inl (stops, same, none)) = stopped_stay f both_quiet old new quiet_keep stops
+  receive_fails f size old a new b out (inr (mid, made, (ring, inl (stops, same, none)))) =
       then_made (Stays q Off) old mid new (accesses_stay both_quiet old mid quiet_keep made)
       (stopped_stay f (ring_words Rx ring size) mid new (words_keep ring size) stops)
-  receive_fails f size old a new (inr (mid, made, (ring, free, inr (laid, words, fails)))) =
+  receive_fails f size old a new b out (inr (mid, made, (ring, inr (laid, words, stops)))) =
       then_made (Stays q Off) old mid new (accesses_stay both_quiet old mid quiet_keep made)
       (then_made (Stays q Off) mid laid new
       (accesses_stay (ring_words Rx ring size) mid laid (words_keep ring size) words)
-      (lending_stays Off f laid new _ fails))
+      (then_made (Stays q Off) laid stops.mid new (lends_stay Off out laid stops.mid stops.lent)
+      (lending_stays Off f stops.mid new _ stops.fails)))
 
   -- both sides go on, and the receive ring is filled
   pub going_on_fails : (f : PmdFault) (old : List Call) (a : Numbers) (tail ring size : ℕ) (new : List Call)

@@ -5,15 +5,15 @@ use Rattle.nic_device.specs.DmaRing.declared.dir.Dir.TheVariants.{Tx}
 use Rattle.device_lock.specs.declared.entry.Call.{Call}
 use Rattle.pmd.specs.PmdSeam.declared.fault.PmdFault.{PmdFault}
 use Rattle.pmd.specs.PmdSeam.Named.{AtPort}
+use Rattle.pmd.specs.PmdSeam.Slots.{ring_blocks}
 use Rattle.pmd.specs.PmdRx.Receive.{Receive}
 use Rattle.pmd.specs.Started.{StopsAfterBoth, StopsAfterOne, StopsStarting, is_size}
 use Rattle.pmd.specs.Starting.{GoingOnFails, IsPrepared, PreparingFails}
 use Rattle.pmd.specs.declared.start.StartRefused.{StartRefused}
 use Rattle.start_laws.specs.Laid.{Off, Empty}
 use Rattle.start_laws.proofs.Rising.{sized}
-use Rattle.start_laws.proofs.StopCalls.{adds_made}
-use Rattle.pmd_laws.proofs.LaidAccesses.{going_on_fails, lending_stays, receive_fails, receive_ready}
-use Rattle.pmd_laws.proofs.LaidCalls.{LaysBetween, Stays, stays_between, step_stays, then_between}
+use Rattle.pmd_laws.proofs.LaidAccesses.{going_on_fails, lending_stays, lends_stay, receive_fails, receive_ready}
+use Rattle.pmd_laws.proofs.LaidCalls.{LaysBetween, stays_between, then_between}
 use Rattle.pmd_laws.proofs.LaidWords.{LaysSome, words_lay, words_stop}
 
 module _ (q : AtPort) (size : ℕ) (is : is_size size ≡ true) where
@@ -25,19 +25,21 @@ module _ (q : AtPort) (size : ℕ) (is : is_size size ≡ true) where
       let size_is = sized size is in
       then_between q Off Empty Empty old x.mid new
       (words_lay q ring size size_is.0 size_is.1 size_is.2 old x.mid x.words)
-      (stays_between q Empty x.mid new (adds_made (Stays q Empty) (step_stays q Empty) x.mid new _ _ x.lent refl))
+      (stays_between q Empty x.mid new (lends_stay q Empty (ring_blocks ring size) x.mid new x.lent))
 
-  transmit_fails : (f : PmdFault) (old : List Call) (a : Numbers) (new : List Call)
-      → PreparingFails f q Tx size old a new → LaysSome q Off old new
-  transmit_fails f old a new (ring, free, inl stops) =
+  transmit_fails : (f : PmdFault) (old : List Call) (a : Numbers) (new : List Call) (b : Numbers) (out : List ℕ)
+      → PreparingFails f q Tx size old a new b out → LaysSome q Off old new
+  transmit_fails f old a new b out (ring, inl (stops, same, none)) =
       let size_is = sized size is in
       words_stop q ring size size_is.0 size_is.1 size_is.2 f old new stops
-  transmit_fails f old a new (ring, free, inr (mid, words, fails)) =
+  transmit_fails f old a new b out (ring, inr (mid, words, stops)) =
       let size_is = sized size is in (
         Empty,
         then_between q Off Empty Empty old mid new
             (words_lay q ring size size_is.0 size_is.1 size_is.2 old mid words)
-            (stays_between q Empty mid new (lending_stays q Empty f mid new _ fails)),
+            (then_between q Empty Empty Empty mid stops.mid new
+            (stays_between q Empty mid stops.mid (lends_stay q Empty out mid stops.mid stops.lent))
+            (stays_between q Empty stops.mid new (lending_stays q Empty f stops.mid new _ stops.fails))),
       )
 
   -- a start that was refused amid its events
@@ -45,10 +47,10 @@ module _ (q : AtPort) (size : ℕ) (is : is_size size ≡ true) where
   after_one : (old : List Call) (a : Numbers) (new : List Call) (e : StartRefused)
       → StopsAfterOne q size old a new e → LaysSome q Off old new
   after_one old a new e x =
-      let (last, more) = transmit_fails e.fault x.made x.arena new x.fails in (
+      let (last, more) = transmit_fails e.fault x.made x.ready_arena new x.arena x.out x.fails in (
         last,
         then_between q Off Off last old x.made new
-            (stays_between q Off old x.made (receive_ready q size old a x.made x.arena x.empty x.receive)) more,
+            (stays_between q Off old x.made (receive_ready q size old a x.made x.ready_arena x.empty x.receive)) more,
       )
 
   after_both : (old : List Call) (a : Numbers) (new : List Call) (e : StartRefused)
@@ -72,7 +74,7 @@ module _ (q : AtPort) (size : ℕ) (is : is_size size ≡ true) where
 
   pub starting_lays : (old : List Call) (a : Numbers) (new : List Call) (e : StartRefused)
       → StopsStarting q size old a new e → LaysSome q Off old new
-  starting_lays old a new e (inl (fails, home)) =
-      (Off, stays_between q Off old new (receive_fails q e.fault size old a new fails))
+  starting_lays old a new e (inl x) =
+      (Off, stays_between q Off old new (receive_fails q e.fault size old a new x.arena x.out x.fails))
   starting_lays old a new e (inr (inl x)) = after_one old a new e x
   starting_lays old a new e (inr (inr x)) = after_both old a new e x

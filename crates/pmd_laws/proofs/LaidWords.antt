@@ -75,7 +75,7 @@ module _ (q : AtPort) where
       (j, then_between q l k j old mid new (all_made done l k old mid some made) more)
 
   -- the words of the transmit ring
-  module _ (ring size : ℕ) (some : 0 < size) (few : size ≤ 128) (even : 16 * size % 128 ≡ 0) where
+  module _ (ring size : ℕ) (some : 0 < size) (few : size ≤ 1024) (even : 16 * size % 128 ≡ 0) where
     words_go : AllGo Off (ring_words Tx ring size) Empty
     words_go =
         let base : 2048 * ring % 128 ≡ 0 = omega arith in

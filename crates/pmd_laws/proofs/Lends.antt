@@ -1,7 +1,8 @@
 -- What a driver lends from the place on where both sides are on.
-use Rattle.std.proofs.Common.{◌≡◌, ℕ, Bool, true, false, List, [], ◌++◌, refl, sym, ap, ◌∙◌, subst}
+use Rattle.std.proofs.Common.{◌≡◌, ℕ, Bool, true, false, List, [], ◌++◌, refl, sym, ◌∙◌, subst}
+use Rattle.std.proofs.lemmas.Bool.{both_ways}
 use Rattle.nic_device.specs.DmaArena.Numbers.{Numbers, is_own, is_free}
-use Rattle.nic_device.proofs.DmaArena.Arenas.{is_own-of_free, is_own-with_free}
+use Rattle.nic_device.proofs.DmaArena.Arenas.{is_own-of_free}
 use Rattle.device_lock.specs.Alone.{Blocks}
 use Rattle.device_lock.specs.declared.entry.Call.{Call}
 use Rattle.pmd.specs.Apart.{DrivesApart, MayLend, OwnsSame}
@@ -11,12 +12,13 @@ use Rattle.pmd.specs.Running.{Running}
 use Rattle.pmd.specs.Started.{AreUp}
 use Rattle.pmd.specs.Starting.{IsReceiveReady, IsTransmitReady}
 use Rattle.pmd.proofs.Apart.{apart_on, receiving_apart}
-use Rattle.pmd.proofs.Whole.{all_exchanged}
+use Rattle.pmd.proofs.Whole.{all_drawn, all_exchanged}
 use Rattle.pmd.specs.PmdSeam.Named.{AtPort}
+use Rattle.pmd.specs.PmdSeam.Slots.{is_ring_block, ring_blocks}
 use Rattle.pmd.specs.PmdRx.Receive.{Receive}
 use Rattle.pmd.specs.PmdTx.Sending.{Sender, has_lent}
 use Rattle.pmd_laws.specs.Lends.{LifeLendsApart, first_of}
-use Rattle.pmd_laws.proofs.Begun.{drawn_apart, lent_at_start}
+use Rattle.pmd_laws.proofs.Begun.{lent_at_start, ring_gone}
 
 never : (b : Bool) → (b ≡ true → ⊥) → b ≡ false
 never true not = absurd (not refl)
@@ -29,21 +31,22 @@ module _ (q : AtPort) (size : ℕ) (old : List Call) (a : Numbers) (ready_made :
     (transmit : IsTransmitReady q size ready_made ready_arena both_made both_arena t) where
   ready_own : OwnsSame a ready_arena
   ready_own n =
-      ap (λ (y : Numbers). is_own y n) receive.prepared.drawn ∙ is_own-with_free a receive.ring false n
+      (all_drawn a (ring_blocks receive.ring size) ready_arena [] receive.prepared.drawn).owns n
 
   pub both_own : OwnsSame a both_arena
   both_own n =
-      ap (λ (y : Numbers). is_own y n) transmit.prepared.drawn
-      ∙ is_own-with_free ready_arena transmit.ring false n ∙ ready_own n
+      (all_drawn ready_arena (ring_blocks transmit.ring size) both_arena [] transmit.prepared.drawn).owns n
+      ∙ ready_own n
 
   -- what is free then, the transmit ring hasn't lent
   unlent : (n : ℕ) → is_free both_arena n ≡ true → has_lent t n ≡ false
   unlent n free =
-      let apart = drawn_apart ready_arena both_arena transmit.ring n transmit.prepared.free transmit.prepared.drawn free
-      in
       never (has_lent t n)
-      (λ has. apart (sym (lent_at_start q.port transmit.tail transmit.ring size n
-      (subst (λ (v : Sender). has_lent v n ≡ true) transmit.fresh has))))
+      (λ has.
+      both_ways (is_ring_block transmit.ring size n)
+      (ring_gone ready_arena transmit.ring size both_arena n transmit.prepared.drawn free)
+      (lent_at_start q.port transmit.tail transmit.ring size n
+      (subst (λ (v : Sender). has_lent v n ≡ true) transmit.fresh has)))
 
   pub may : (n : ℕ) → is_free both_arena n ≡ true
       → MayLend (is_own a) (record { receive = v; transmit = t }) Receives n

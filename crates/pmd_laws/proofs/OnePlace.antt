@@ -7,6 +7,7 @@ use Rattle.nic_device.specs.DmaArena.Memory.{Memory, has_block}
 use Rattle.nic_device.specs.DmaArena.Numbers.{Numbers, is_free}
 use Rattle.nic_device.specs.DmaArena.Whereabouts.{places_of, times_in_hand}
 use Rattle.pmd.proofs.PmdSeam.Outside.{times-append, times_rest}
+use Rattle.pmd.proofs.PmdSeam.Rings.{times_among}
 use Rattle.pmd.specs.PmdRx.Keeping as received
 use Rattle.pmd.specs.PmdRx.Keeping.{block_in}
 use Rattle.pmd.specs.PmdRx.Receive.{held_by}
@@ -19,7 +20,7 @@ use Rattle.pmd.specs.Halves.{Halves, halves_of}
 use Rattle.pmd.specs.Running.{Running}
 use Rattle.pmd.specs.declared.driver.Rings.{Rings}
 use Rattle.pmd.specs.declared.driver.Rings.TheVariants.{Up}
-use Rattle.pmd.proofs.Handing.{away_lent, none_any}
+use Rattle.pmd.proofs.Handing.{away_lent}
 use Rattle.driver_laws.specs.Healthy.{lent_by}
 use Rattle.pmd_laws.specs.Places.{EachInOnePlace, is_out, memory_after}
 use Rattle.pmd_laws.proofs.Places.{lent_is_out, out_is_lent}
@@ -48,7 +49,7 @@ module _ (h : Halves) (n : ℕ) where
   none_out : times_in_hand lent n ≡ 0 → lent_by h n ≡ false
   none_out none =
       or_from (received.has_lent h.receive n) (has_lent h.transmit n)
-      (none_any (received.lent_of h.receive) n (omega (arith, none, both)))
+      (times_among (received.lent_of h.receive) n (omega (arith, none, both)))
       (away_lent h.transmit n (omega (arith, none, both)))
 
   out_none : lent_by h n ≡ false → times_in_hand lent n ≡ 0

@@ -14,7 +14,7 @@ use Rattle.pmd.specs.PmdSeam.declared.fault.PmdFault.TheVariants.{BadSize}
 use Rattle.pmd.specs.Halted.{Halted}
 use Rattle.pmd.specs.PmdSeam.Named.{AtPort}
 use Rattle.pmd.specs.Life.{ComesDown, NeverLived}
-use Rattle.pmd.specs.Started.{IsHalfStarted, IsHome, IsShut, StopsStarting, is_size, start_gate}
+use Rattle.pmd.specs.Started.{IsHalfStarted, IsHome, IsLeftWith, IsShut, StopsStarting, is_size, start_gate}
 use Rattle.pmd.specs.declared.start.Rest.{Rest}
 use Rattle.pmd.specs.declared.start.Rest.TheVariants as rest
 use Rattle.pmd.specs.declared.start.StartRefused.{StartRefused}
@@ -59,10 +59,16 @@ half_lays q l h r old new left is down =
     let (late, stopped) = subst (λ (x : Rest). ComesDown old x new left) is down in
     ends_lay q l old new (stopped_ends q old h new left late stopped)
 
+left_lays : (q : AtPort) (l : Laid) (a : Numbers) (out : List ℕ) (r : Rest) (old new : List Call) (left : Rest)
+    → IsLeftWith q a out r → ComesDown old r new left → LaysBetween q l old new l
+left_lays q l a [] r old new left is down = home_lays q l a r old new left is down
+left_lays q l a (n ∷ ns) r old new left is down = half_lays q l _ r old new left is down
+
 stopping_lays : (q : AtPort) (size : ℕ) (old : List Call) (a : Numbers) (made : List Call) (e : StartRefused)
     (new : List Call) (left : Rest) (l : Laid) → StopsStarting q size old a made e → ComesDown made e.rest new left
     → LaysBetween q l made new l
-stopping_lays q size old a made e new left l (inl (fails, home)) down = home_lays q l a e.rest made new left home down
+stopping_lays q size old a made e new left l (inl x) down =
+    left_lays q l x.arena x.out e.rest made new left x.left down
 stopping_lays q size old a made e new left l (inr (inl x)) down = half_lays q l _ e.rest made new left x.left down
 stopping_lays q size old a made e new left l (inr (inr x)) down = half_lays q l _ e.rest made new left x.left down
 

@@ -1,8 +1,9 @@
 -- The calls by which a driver's rings come up write no register but its queue's, and lend no block but the rings'.
-use Rattle.std.proofs.Common.{◌≡◌, ℕ, true, false, List, [], ◌∷◌, ◌++◌, refl}
+use Rattle.std.proofs.Common.{◌≡◌, ℕ, ◌<◌, true, false, List, [], ◌∷◌, ◌++◌, refl, arith}
 use Rattle.std.specs.Prelude.{⊤, IsTrue}
 use Rattle.nic_device.specs.DmaArena.Block.{Block}
 use Rattle.nic_device.specs.DmaArena.Numbers.{Numbers}
+use Rattle.nic_device.specs.DmaArena.Whereabouts.{times_in_hand}
 use Rattle.nic_device.specs.RegTable.declared.rows.RowId.TheVariants.{Rxdctl}
 use Rattle.nic_device.specs.DmaRing.declared.dir.Dir.{Dir}
 use Rattle.nic_device.specs.DmaRing.declared.dir.Dir.TheVariants.{Rx, Tx}
@@ -17,7 +18,10 @@ use Rattle.pmd.specs.PmdSeam.Named.{AtPort}
 use Rattle.pmd.specs.PmdSeam.Sides.{polled, quiet, ring_words}
 use Rattle.pmd.specs.PmdRx.Receive.{Receive}
 use Rattle.pmd.specs.PmdTx.Sending.{Sender}
-use Rattle.pmd.specs.Starting.{IsPrepared, IsReceiveReady}
+use Rattle.pmd.specs.PmdSeam.Slots.{ring_blocks, EachRingBlock}
+use Rattle.pmd.proofs.PmdSeam.Outside.{times-cons, times_first}
+use Rattle.pmd.proofs.PmdSeam.Rings.{each_ring_block, ring_block_out}
+use Rattle.pmd.specs.Starting.{IsPrepared, IsReceiveReady, LendsEach}
 use Rattle.start_laws.specs.Ending.{Each, IsPlain, NamesDriven}
 use Rattle.start_laws.specs.On.{AreOn}
 use Rattle.start_laws.specs.Stopping.{AreMadeOf}
@@ -58,13 +62,26 @@ module _ (q : AtPort) (lent : Blocks) where
   all_rise (a ∷ rest) old new are (mid, here, more) =
       then_made IsRising old mid new (made_rises a old mid are.0 here) (all_rise rest mid new are.1 more)
 
+  -- blocks that are lent, all of them such
+  pub lends_rise : (ns : List ℕ) (old new : List Call) → ((n : ℕ) → 0 < times_in_hand ns n → IsTrue (lent n))
+      → LendsEach old new ns → Rises old new
+  lends_rise [] old new each x = none_made IsRising old new x
+  lends_rise (n ∷ ns) old new each (mid, here, more) =
+      then_made IsRising old mid new
+      (adds_made IsRising step_rises old mid _ _ here (each n (omega (arith, times_first ns n))))
+      (lends_rise ns mid new (λ k some. each k (omega (arith, some, times-cons n ns k))) more)
+
   pub prepared_rises : (side : Dir) (size : ℕ) (old : List Call) (a : Numbers) (new : List Call) (b : Numbers)
-      (ring : ℕ) → IsTrue (lent ring) → IsPrepared q side size old a new b ring → Rises old new
+      (ring : ℕ) → EachRingBlock ring size (λ n. IsTrue (lent n)) → IsPrepared q side size old a new b ring
+      → Rises old new
   prepared_rises side size old a new b ring own x =
       then_made IsRising old x.mid new
       (all_rise (ring_words side ring size) old x.mid
       (writes_driven (ring_words side ring size) (words_are_writes side ring size)) x.words)
-      (adds_made IsRising step_rises x.mid new _ _ x.lent own)
+      (lends_rise (ring_blocks ring size) x.mid new
+      (λ n some.
+      each_ring_block ring size (λ k. IsTrue (lent k)) own n ((ring_block_out ring size n).1 some))
+      x.lent)
 
   -- behind the first access
 
@@ -72,14 +89,15 @@ module _ (q : AtPort) (lent : Blocks) where
   quieted_rises old new made = all_rise off made.0 new off_driven made.2
 
   pub ready_rises : (size : ℕ) (old : List Call) (a : Numbers) (new : List Call) (b : Numbers) (v : Receive)
-      → (x : IsReceiveReady q size old a new b v) → IsTrue (lent x.ring) → Rises x.quiet.0 new
+      → (x : IsReceiveReady q size old a new b v) → EachRingBlock x.ring size (λ n. IsTrue (lent n))
+      → Rises x.quiet.0 new
   ready_rises size old a new b v x own =
       then_made IsRising x.quiet.0 x.mid new (quieted_rises old x.mid x.quiet)
       (prepared_rises Rx size x.mid a new b x.ring own x.prepared)
 
   pub on_rises : (size : ℕ) (old : List Call) (a : Numbers) (new : List Call) (v : Receive) (t : Sender)
-      → (up : AreOn q size old a new v t) → IsTrue (lent up.receive.ring) → IsTrue (lent up.transmit.ring)
-      → Rises up.receive.quiet.0 new
+      → (up : AreOn q size old a new v t) → EachRingBlock up.receive.ring size (λ n. IsTrue (lent n))
+      → EachRingBlock up.transmit.ring size (λ n. IsTrue (lent n)) → Rises up.receive.quiet.0 new
   on_rises size old a new v t up one two =
       let first : ℕ = up.switched.0 in
       let second : ℕ = up.switched.1 in

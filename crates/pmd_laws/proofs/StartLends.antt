@@ -1,11 +1,13 @@
 -- Where a start ends with the device at fault before both sides are on, none of the blocks that are free then is lent.
-use Rattle.std.proofs.Common.{◌≡◌, ℕ, inl, inr, true, false, List, [], ◌∷◌, ◌++◌, refl, sym, ap, ◌∙◌, subst}
+use Rattle.std.proofs.Common.{◌≡◌, ℕ, ◌+◌, ◌<◌, inl, inr, true, false, List, [], ◌∷◌, ◌++◌, refl, sym, ap, ◌∙◌, subst, arith}
 use Rattle.std.specs.Prelude.{IsFalse, ◌==◌}
-use Rattle.std.proofs.lemmas.Bool.{eq-eqb, eqb-true}
+use Rattle.std.specs.List.{list_any}
+use Rattle.std.proofs.lemmas.Bool.{both_ways}
 use Rattle.std.proofs.lemmas.List.{append_assoc}
 use Rattle.nic_device.specs.DmaArena.Block.{Block}
 use Rattle.nic_device.specs.DmaArena.Memory.{has_block}
 use Rattle.nic_device.specs.DmaArena.Numbers.{Numbers, is_own}
+use Rattle.nic_device.specs.DmaArena.Whereabouts.{times_in_hand}
 use Rattle.nic_device.proofs.DmaArena.Arenas.{is_own-of_free}
 use Rattle.nic_device.specs.RegTable.declared.rows.RowId.TheVariants.{Rxdctl}
 use Rattle.nic_device.specs.DmaRing.declared.dir.Dir.{Dir}
@@ -28,7 +30,12 @@ use Rattle.pmd.specs.PmdSeam.QueueMade.{Access, Sees, Sets, IsMade, IsOtherwise,
 use Rattle.pmd.specs.PmdSeam.Named.{AtPort}
 use Rattle.pmd.specs.PmdSeam.Sides.{ring_words}
 use Rattle.pmd.proofs.PmdRx.Earlier.{free_before}
-use Rattle.pmd.specs.Starting.{PreparingFails}
+use Rattle.pmd.specs.PmdSeam.Home.{IsDrawn}
+use Rattle.pmd.specs.PmdSeam.Slots.{ring_blocks}
+use Rattle.pmd.proofs.PmdSeam.Outside.{times-append}
+use Rattle.pmd.proofs.PmdSeam.Rings.{among_times, ring_block_is, ring_block_out, times_among}
+use Rattle.pmd.specs.Starting.{PreparingFails, ReceiveFails}
+use Rattle.pmd.proofs.Starting.{preparing_drawn}
 use Rattle.start_laws.specs.Along.{BeforeLast}
 use Rattle.start_laws.proofs.AllAre.{AllAre, all_before}
 use Rattle.start_laws.proofs.StopCalls.{some_made, then_made}
@@ -36,9 +43,9 @@ use Rattle.start_laws.specs.Faultless.{BeforeNext, NoneIsLent}
 use Rattle.start_laws.specs.Filling.{FaultsEarly, LendsFresh}
 use Rattle.start_laws.proofs.DrivenAccesses.{IsDriven, words_are_writes, writes_driven}
 use Rattle.pmd_laws.specs.Faultless.{BeginsApart, IsQuietAndFresh}
-use Rattle.pmd_laws.proofs.Begun.{drawn_apart}
+use Rattle.pmd_laws.proofs.Begun.{drawn_both, drawn_gone}
 use Rattle.pmd_laws.proofs.LentSince.{RisesToLast, unlent_before}
-use Rattle.pmd_laws.proofs.RiseCalls.{IsRising, Rises, all_rise, off_driven, quieted_rises, ready_rises, step_rises}
+use Rattle.pmd_laws.proofs.RiseCalls.{IsRising, Rises, all_rise, lends_rise, off_driven, quieted_rises, ready_rises, step_rises}
 
 -- just before the first read
 pub first_read : (w : Watched) (q : AtPort) (fifo : ℕ) (h : List Entry) (P : State → Type 0) (old new : List Call)
@@ -71,18 +78,23 @@ module _ (q : AtPort) (lent : Blocks) (first : List Call) where
   otherwise_rise old new a rises fails =
       let x = otherwise_adds q old new a fails in adds_rise old new x.0 x.1 rises x.3
 
-  preparing_rise : (side : Dir) (size : ℕ) (old : List Call) (a : Numbers) (new : List Call) → Rises q lent first old
-      → PreparingFails DeviceFault q side size old a new → RisesToLast q lent first new
-  preparing_rise side size old a new rises (ring, free, inl (done, access, rest, mid, is, made, fails)) =
+  preparing_rise : (side : Dir) (size : ℕ) (old : List Call) (a : Numbers) (new : List Call) (b : Numbers)
+      (out : List ℕ) → ((n : ℕ) → 0 < times_in_hand out n → lent n ≡ true) → Rises q lent first old
+      → PreparingFails DeviceFault q side size old a new b out → RisesToLast q lent first new
+  preparing_rise side size old a new b out each rises
+      (ring, inl ((done, access, rest, mid, is, made, fails), same, none)) =
       let driven = writes_driven (ring_words side ring size) (words_are_writes side ring size) in
       let are = all_before IsDriven done access rest (subst (AllAre IsDriven) is driven) in
       otherwise_rise mid new access
       (then_made (IsRising q lent) first old mid rises (all_rise q lent done old mid are.0 made)) fails
-  preparing_rise side size old a new rises (ring, free, inr (mid, made, (back, lends))) =
+  preparing_rise side size old a new b out each rises (ring, inr (mid, made, stops)) =
+      let (back, lends) = stops.fails in
       let driven = writes_driven (ring_words side ring size) (words_are_writes side ring size) in
-      adds_rise mid new _ _
+      adds_rise stops.mid new _ _
+      (then_made (IsRising q lent) first mid stops.mid
       (then_made (IsRising q lent) first old mid rises
-      (all_rise q lent (ring_words side ring size) old mid driven made)) lends
+      (all_rise q lent (ring_words side ring size) old mid driven made))
+      (lends_rise q lent out mid stops.mid each stops.lent)) lends
 
 module _ (w : Watched) (fifo : ℕ) (h : List Entry) (q : AtPort) (size : ℕ) (old : List Call) (a : Numbers)
     (new : List Call) (x : BeginsApart w fifo h q size old a new) where
@@ -119,20 +131,38 @@ module _ (w : Watched) (fifo : ℕ) (h : List Entry) (q : AtPort) (size : ℕ) (
       (otherwise_rise q none made.0 mid new access (all_rise q none done made.0 mid are.0.1 made.2) fails)
       number (is_own-of_free a number free) (λ lent. cc)
 
+  -- the receive ring isn't prepared
+  none_before : (b : Numbers) (out : List ℕ) → ReceiveFails DeviceFault q size old a new b out
+      → NoneIsLent w fifo h new b
+  none_before b out (inl (stops, same, empty)) =
+      subst (λ (z : Numbers). NoneIsLent w fifo h new z) (sym same) (none_quieting stops)
+  none_before b out (inr (mid, made, fails)) = λ number free.
+      let lent : Blocks = λ n. list_any (λ b. n == b) out in
+      let drawn : IsDrawn a out b = preparing_drawn DeviceFault q Rx size mid a new b out fails in
+      unlent lent made.0 made.1
+      (preparing_rise q lent made.0 Rx size mid a new b out (λ n some. among_times out n some)
+      (quieted_rises q lent old mid made) fails)
+      number (is_own-of_free a number (free_before a out b drawn number free))
+      (λ is. both_ways (lent number) (times_among out number (drawn_gone a out b number drawn free)) is)
+
   pub none_early : (early : FaultsEarly q size old a new) → LendsFresh w fifo h q size old a new early
-  none_early (inl (inl stops)) = none_quieting stops
-  none_early (inl (inr (mid, made, fails))) = λ number free.
-      unlent none made.0 made.1
-      (preparing_rise q none made.0 Rx size mid a new (quieted_rises q none old mid made) fails)
-      number (is_own-of_free a number free) (λ lent. cc)
+  none_early (inl y) = none_before y.arena y.out y.fails
   none_early (inr (inl y)) = λ number free.
       let ring = y.receive.ring in
-      let drawn = y.receive.prepared.drawn in
-      let lent : Blocks = λ n. n == ring in
+      let all : List ℕ = ring_blocks ring size ++ y.out in
+      let lent : Blocks = λ n. list_any (λ b. n == b) all in
+      let drawn : IsDrawn a all y.arena =
+      drawn_both a (ring_blocks ring size) y.ready_arena y.out y.arena y.receive.prepared.drawn
+      (preparing_drawn DeviceFault q Tx size y.made y.ready_arena new y.arena y.out y.fails) in
       unlent lent y.receive.quiet.0 y.receive.quiet.1
-      (preparing_rise q lent y.receive.quiet.0 Tx size y.made y.arena new
-      (ready_rises q lent size old a y.made y.arena y.empty y.receive (eq-eqb ring ring refl)) y.fails)
+      (preparing_rise q lent y.receive.quiet.0 Tx size y.made y.ready_arena new y.arena y.out
+      (λ n some. among_times all n (omega (arith, some, times-append (ring_blocks ring size) y.out n)))
+      (ready_rises q lent size old a y.made y.ready_arena y.empty y.receive
+      (λ k below.
+      let n : ℕ = ring + k in
+      let some = (ring_block_out ring size n).0 (ring_block_is ring size k below) in
+      among_times all n (omega (arith, some, times-append (ring_blocks ring size) y.out n)))) y.fails)
       number
-      (is_own-of_free a number (free_before a (ring ∷ []) y.arena (y.receive.prepared.free, drawn) number free))
-      (λ is. drawn_apart a y.arena ring number y.receive.prepared.free drawn free (sym (eqb-true number ring is)))
+      (is_own-of_free a number (free_before a all y.arena drawn number free))
+      (λ is. both_ways (lent number) (times_among all number (drawn_gone a all y.arena number drawn free)) is)
   none_early (inr (inr y)) = tt

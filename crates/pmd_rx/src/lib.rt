@@ -11,6 +11,7 @@ mod ring;
 
 pub use pmd_seam::{
     CallFault, Calls, Direct, Finished, Interleaved, Made, Nic, POLLS, Packet, PmdFault, Queue,
-    Reclaim, Record, Setup, ThroughLock, fresh_packet, give_back, give_packet, lend, pf_setup,
+    Reclaim, Record, Setup, ThroughLock, blocks_for, fresh_packet, give_back, give_packet, lend,
+    pf_setup,
 };
 pub use ring::ReceiveRing;

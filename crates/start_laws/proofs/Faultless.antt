@@ -21,11 +21,13 @@ use Rattle.pmd.specs.PmdSeam.QueueMade.{Sees, Sets, AreMade}
 use Rattle.pmd.specs.PmdSeam.Named.{AtPort}
 use Rattle.pmd.specs.PmdSeam.Sides.{PollsEnd, missed, quiet, ring_words}
 use Rattle.pmd.specs.PmdRx.Receive.{Receive}
-use Rattle.pmd.specs.Starting.{IsPrepared, IsReceiveReady, PreparingFails}
+use Rattle.pmd.specs.PmdSeam.Slots.{ring_blocks}
+use Rattle.pmd.specs.Starting.{IsPrepared, IsReceiveReady, LendsEach, PreparingFails}
 use Rattle.start_laws.specs.Along.{AtCalls, BeforeLast, IsAlong}
 use Rattle.start_laws.specs.Points.{HasGround}
 use Rattle.start_laws.specs.Quieting.{IsQuiet}
-use Rattle.start_laws.proofs.Made.{first_made, some_made}
+use Rattle.start_laws.proofs.Lends.{lending}
+use Rattle.start_laws.proofs.Made.{ends_some, first_made, some_made}
 use Rattle.start_laws.proofs.AllAre.{all_missed}
 use Rattle.start_laws.proofs.Prepared.{prepared_some}
 use Rattle.start_laws.specs.Faultless.{BeforeNext, Never, NoneIsLent, ReceiveIsReady, TransmitIsReady, SwitchingIsNeverStray}
@@ -54,14 +56,21 @@ module _ (w : Watched) (q : AtPort) (fifo : ℕ) (h : List Entry) (along : IsAlo
       cc)
       (subst (λ (calls : List Call). BeforeLast w fifo h calls (λ s. IsFalse (has_block s.memory ring))) all at))
 
-  preparing_never_fails : (side : Dir) (size : ℕ) (old : List Call) (a : Numbers) (new : List Call) → old ≢ []
-      → Grounded old → PreparingFails DeviceFault q side size old a new → NoneIsLent w fifo h new a
-      → Never w fifo h new
-  preparing_never_fails side size old a new some at (ring, free, inl stops) none =
+  preparing_never_fails : (side : Dir) (size : ℕ) (old : List Call) (a : Numbers) (new : List Call) (b : Numbers)
+      (out : List ℕ) → old ≢ [] → Grounded old → PreparingFails DeviceFault q side size old a new b out
+      → NoneIsLent w fifo h new b → Never w fifo h new
+  preparing_never_fails side size old a new b out some at (ring, inl (stops, same, empty)) none =
       writes_never_stop w q fifo h along (ring_words side ring size) old new (words_are_writes side ring size) stops
       some at
-  preparing_never_fails side size old a new some at (ring, free, inr (mid, made, (back, lent))) none =
-      lending_is_done ring mid new lent.0 back lent.1 (none ring free)
+  preparing_never_fails side size old a new b out some at (ring, inr (mid, made, stops)) none =
+      let (back, lent) = stops.fails in
+      lending_is_done stops.next stops.mid new lent.0 back lent.1 (none stops.next stops.free)
+
+  lends_grounded : (ns : List ℕ) (old new : List Call) → LendsEach old new ns → old ≢ [] → Grounded old → Grounded new
+  lends_grounded [] old new is some at = subst Grounded (sym is) at
+  lends_grounded (n ∷ ns) old new (mid, lent, rest) some at =
+      lends_grounded ns mid new rest (λ none. ends_some old lent.0 (lending n) (sym lent.1 ∙ none))
+      (subst Grounded (sym lent.1) (lend_grounded w q fifo h along n old lent.0 lent.2 some at))
 
   prepared_grounded : (side : Dir) (size : ℕ) (old : List Call) (a : Numbers) (new : List Call) (b : Numbers)
       (ring : ℕ) → IsPrepared q side size old a new b ring → old ≢ [] → Grounded old → Grounded new × (new ≢ [])
@@ -69,7 +78,7 @@ module _ (w : Watched) (q : AtPort) (fifo : ℕ) (h : List Entry) (along : IsAlo
       let are = writes_driven (ring_words side ring size) (words_are_writes side ring size) in
       let there = accesses_grounded w q fifo h along (ring_words side ring size) old x.mid are x.words some at in
       let made = some_made q (ring_words side ring size) old x.mid x.words some in (
-        subst Grounded (sym x.lent.1) (lend_grounded w q fifo h along ring x.mid x.lent.0 x.lent.2 made there),
+        lends_grounded (ring_blocks ring size) x.mid new x.lent made there,
         prepared_some q side size old a new b ring x,
       )
 
@@ -111,16 +120,16 @@ module _ (w : Watched) (q : AtPort) (fifo : ℕ) (h : List Entry) (along : IsAlo
       (accesses_grounded w q fifo h along (receive_polled true first) old mid (polled_driven first) made some at) polls
 
 pub receive_is_ready : ReceiveIsReady
-receive_is_ready w q fifo h size old a new along at (inl stops) none =
+receive_is_ready w q fifo h size old a new b out along at (inl (stops, same, empty)) none =
     quieting_never_stops w q fifo h along old new at stops
-receive_is_ready w q fifo h size old a new along at (inr (mid, made, fails)) none =
+receive_is_ready w q fifo h size old a new b out along at (inr (mid, made, fails)) none =
     let off = quiet_grounded w q fifo h along old mid made at in
-    preparing_never_fails w q fifo h along Rx size mid a new off.1 off.0 fails none
+    preparing_never_fails w q fifo h along Rx size mid a new b out off.1 off.0 fails none
 
 pub transmit_is_ready : TransmitIsReady
-transmit_is_ready w q fifo h size old a mid b v new along at ready fails none =
+transmit_is_ready w q fifo h size old a mid b v new c out along at ready fails none =
     let there = ready_grounded w q fifo h along size old a mid b v ready at in
-    preparing_never_fails w q fifo h along Tx size mid b new there.1 there.0 fails none
+    preparing_never_fails w q fifo h along Tx size mid b new c out there.1 there.0 fails none
 
 pub switching_is_never_stray : SwitchingIsNeverStray
 switching_is_never_stray w q fifo h size old a mid b v both c t new along at ready more fails =

@@ -23,14 +23,19 @@ use Rattle.start_laws.specs.Filling.{FaultsEarly, FaultsFilling, FaultsAreEarlyO
 use Rattle.start_laws.proofs.Faultless.{receive_is_ready, switching_is_never_stray, transmit_is_ready}
 
 pub faults_are_early_or_filling : FaultsAreEarlyOrFilling
-faults_are_early_or_filling q size old a new e (inl (fails, home)) is =
-    inl (inl (subst (λ (f : PmdFault). ReceiveFails f q size old a new) is fails))
+faults_are_early_or_filling q size old a new e (inl x) is = inl (inl (record {
+  arena = x.arena;
+  out = x.out;
+  fails = subst (λ (f : PmdFault). ReceiveFails f q size old a new x.arena x.out) is x.fails;
+}))
 faults_are_early_or_filling q size old a new e (inr (inl x)) is = inl (inr (inl (record {
   made = x.made;
+  ready_arena = x.ready_arena;
   arena = x.arena;
   empty = x.empty;
+  out = x.out;
   receive = x.receive;
-  fails = subst (λ (f : PmdFault). PreparingFails f q Tx size x.made x.arena new) is x.fails;
+  fails = subst (λ (f : PmdFault). PreparingFails f q Tx size x.made x.ready_arena new x.arena x.out) is x.fails;
 })))
 faults_are_early_or_filling q size old a new e (inr (inr x)) is =
     by_going
@@ -69,9 +74,10 @@ faults_are_early_or_filling q size old a new e (inr (inr x)) is =
 
 pub no_fault_is_early : NoFaultIsEarly
 no_fault_is_early w q fifo h size old a new along at (inl x) fresh =
-    receive_is_ready w q fifo h size old a new along at x fresh
+    receive_is_ready w q fifo h size old a new x.arena x.out along at x.fails fresh
 no_fault_is_early w q fifo h size old a new along at (inr (inl x)) fresh =
-    transmit_is_ready w q fifo h size old a x.made x.arena x.empty new along at x.receive x.fails fresh
+    transmit_is_ready w q fifo h size old a x.made x.ready_arena x.empty new x.arena x.out along at x.receive x.fails
+    fresh
 no_fault_is_early w q fifo h size old a new along at (inr (inr x)) fresh =
     switching_is_never_stray w q fifo h size old a x.ready_made x.ready_arena x.empty x.both_made x.both_arena x.sender
     new along at x.receive x.transmit x.fails

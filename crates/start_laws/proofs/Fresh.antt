@@ -1,5 +1,5 @@
 -- Where fresh sides stand whose rings are lent, device and driver agree.
-use Rattle.std.proofs.Common.{◌≡◌, ℕ, ◌*◌, ◌/◌, ◌%◌, ◌^◌, true, refl, ap, ◌∙◌, arith}
+use Rattle.std.proofs.Common.{◌≡◌, ℕ, ◌+◌, ◌*◌, ◌/◌, ◌%◌, ◌^◌, true, refl, ap, ◌∙◌, arith}
 use Rattle.nic_device.specs.DmaArena.Memory.{Memory, has_block}
 use Rattle.receive_laws.specs.HistoryLaws.Sides.{Side}
 use Rattle.receive_laws.proofs.Places.{first_place}
@@ -26,7 +26,7 @@ fresh_receive_agrees queue s tx rings on wanted port tail ring size sized names 
         head = ap (λ (q : Side). q.ring.head) x.same;
         tail = ap (λ (q : Side). q.ring.tail) x.same;
       };
-      there = zero_lent s.memory ring (stand.zero ring lent);
+      there = λ k below. zero_lent s.memory (ring + k) (stand.zero (ring + k) (lent k below));
     })
 
 pub fresh_transmit_agrees : FreshTransmitAgrees
@@ -57,7 +57,7 @@ fresh_transmit_agrees queue s rx rings on wanted port tail ring size small sound
           apart = λ i j a b ne. absurd (omega (arith, a));
         };
         shows = record {
-          ring = zero_lent s.memory ring (stand.zero ring lent);
+          ring = λ k below. zero_lent s.memory (ring + k) (stand.zero (ring + k) (lent k below));
           ready = λ k a. absurd (omega (arith, a));
           done = λ k a. absurd (omega (arith, a));
           waits = λ k a b. absurd (omega (arith, b));

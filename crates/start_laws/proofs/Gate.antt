@@ -2,14 +2,13 @@
 use Rattle.std.proofs.Common.{◌≡◌, ◌≢◌, ℕ, true, Some, arith}
 use Rattle.std.specs.Prelude.{nat_lt, Option}
 use Rattle.std.proofs.lemmas.Bool.{both_ways, cond_both, lt-ltb}
-use Rattle.nic_device.specs.DmaArena.Numbers.{free_count}
 use Rattle.nic_device.specs.VfMap.Pools.{queues_of}
 use Rattle.nic_device.proofs.VfMap.Queues.{few_queues}
 use Rattle.nic_device.specs.RegisterFile.Pools.{mode_in}
 use Rattle.nic_device.specs.State.{State}
 use Rattle.nic_device.specs.declared.event.Port.{Port}
 use Rattle.nic_device.specs.declared.event.Port.TheVariants.{Pf, Vf}
-use Rattle.pmd.specs.Started.{is_size}
+use Rattle.pmd.specs.Started.{has_room, is_size}
 use Rattle.pmd.specs.PmdSeam.declared.fault.PmdFault.{PmdFault}
 use Rattle.pmd.specs.PmdSeam.declared.fault.PmdFault.TheVariants.{DeviceFault}
 use Rattle.pmd.specs.PmdSeam.Named.{queues_named}
@@ -34,7 +33,7 @@ Passes g = g ≢ Some DeviceFault
 pub named_queues_pass : NamedQueuesPass
 named_queues_pass s a q size queue names =
     cond_both (is_size size) _ _ Passes
-    (λ sized. cond_both (nat_lt size (free_count a)) _ _ Passes
+    (λ sized. cond_both (has_room a size) _ _ Passes
     (λ some. cond_both (nat_lt q.queue (queues_named q.port)) _ _ Passes (λ named is. cc)
     (λ none. absurd (both_ways (nat_lt q.queue (queues_named q.port)) none (named_below s q.port q.queue queue names))))
     (λ none is. cc))

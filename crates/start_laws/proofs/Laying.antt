@@ -6,16 +6,19 @@ use Rattle.nic_device.specs.RegTable.declared.rows.RowId.TheVariants.{Rdbal, Rdb
 use Rattle.nic_device.specs.DmaRing.declared.dir.Dir.TheVariants.{Rx, Tx}
 use Rattle.nic_device.specs.RegisterLaws.Sides.{ReceiveQueue, TransmitQueue}
 use Rattle.pmd.specs.PmdSeam.Sides.{ring_words}
+use Rattle.pmd.specs.PmdSeam.Slots.{ring_blocks}
+use Rattle.pmd.proofs.PmdSeam.Rings.{some_blocks}
 use Rattle.start_laws.specs.Moves.{IsSized}
 use Rattle.start_laws.specs.Points.{AllMay, Sides, after_accesses, MayReceive, MayTransmit}
 use Rattle.start_laws.specs.Words.{receive_with, transmit_with, FitsReceive, FitsTransmit}
-use Rattle.start_laws.proofs.Lends.{with_ring}
+use Rattle.start_laws.proofs.Lends.{with_all}
 
 -- the sides after the words of both rings were written and their blocks lent
 abbrev pub laid : (ring size other : ℕ) → Sides → Sides
 laid ring size other p =
-    with_ring other
-    (after_accesses (ring_words Tx other size) (with_ring ring (after_accesses (ring_words Rx ring size) p)))
+    with_all (ring_blocks other size)
+    (after_accesses (ring_words Tx other size)
+    (with_all (ring_blocks ring size) (after_accesses (ring_words Rx ring size) p)))
 
 -- a word that leaves a side that isn't wanted on so
 receive_laid : (row : RowId) (word : ℕ) (rx : ReceiveQueue) → rx.wanted ≡ false → FitsReceive row word
@@ -34,6 +37,12 @@ transmit_laid row word tx off fits still = record {
   goes = λ on. absurd (both_ways (transmit_with row word tx).wanted still on);
 }
 
+-- a ring's first block
+pub first_low : (ring size : ℕ) → IsSized ring size → ring < 65536
+first_low ring size sized =
+    let low = sized.low in
+    omega (arith, low, some_blocks size sized.some)
+
 module _ (ring size other : ℕ) (one : IsSized ring size) (two : IsSized other size) (even : 16 * size % 128 ≡ 0)
     (p : Sides) where
   base_even : (n : ℕ) → 2048 * n % 128 ≡ 0
@@ -47,7 +56,7 @@ module _ (ring size other : ℕ) (one : IsSized ring size) (two : IsSized other 
 
   pub may_lay_receive : p.rx.wanted ≡ false → AllMay (ring_words Rx ring size) p
   may_lay_receive off =
-      let rdbal = receive_laid Rdbal _ _ off (base_even ring, base_low ring one.low) off in
+      let rdbal = receive_laid Rdbal _ _ off (base_even ring, base_low ring (first_low ring size one)) off in
       let rdbah = receive_laid Rdbah _ _ off (omega arith) off in
       let rdlen = receive_laid Rdlen _ _ off (even, length_low) off in
       let srrctl = receive_laid Srrctl _ _ off (omega arith) off in
@@ -56,9 +65,10 @@ module _ (ring size other : ℕ) (one : IsSized ring size) (two : IsSized other 
       (inl rdbal, (inl rdbah, (inl rdlen, (inl srrctl, (inl rdh, (inl rdt, tt))))))
 
   pub may_lay_transmit : p.tx.wanted ≡ false
-      → AllMay (ring_words Tx other size) (with_ring ring (after_accesses (ring_words Rx ring size) p))
+      → AllMay (ring_words Tx other size)
+      (with_all (ring_blocks ring size) (after_accesses (ring_words Rx ring size) p))
   may_lay_transmit off =
-      let tdbal = transmit_laid Tdbal _ _ off (base_even other, base_low other two.low) off in
+      let tdbal = transmit_laid Tdbal _ _ off (base_even other, base_low other (first_low other size two)) off in
       let tdbah = transmit_laid Tdbah _ _ off (omega arith) off in
       let tdlen = transmit_laid Tdlen _ _ off (even, length_low) off in
       let tdwbal = transmit_laid Tdwbal _ _ off refl off in

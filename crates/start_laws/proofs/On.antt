@@ -1,7 +1,5 @@
 -- Once both sides went on the device and the driver agree on both.
-use Rattle.std.proofs.Common.{◌≡◌, ◌≢◌, ℕ, true, List, [], ◌∷◌, ◌++◌, refl, sym, ap, subst}
-use Rattle.std.specs.Prelude.{◌==◌}
-use Rattle.std.proofs.lemmas.Bool.{eq-eqb, or_left, or_right}
+use Rattle.std.proofs.Common.{◌≡◌, ◌≢◌, ℕ, ◌+◌, true, List, [], ◌∷◌, ◌++◌, refl, sym, ap, subst}
 use Rattle.nic_device.specs.DmaArena.Numbers.{Numbers}
 use Rattle.nic_device.specs.RegTable.declared.rows.RowId.TheVariants.{Rdt, Tdt}
 use Rattle.nic_device.specs.DmaRing.declared.dir.Dir.TheVariants.{Rx, Tx}
@@ -16,6 +14,7 @@ use Rattle.receive_laws.proofs.HistoryLaws.Sound.{histories_sound}
 use Rattle.receive_laws.specs.HistoryLaws.Sides.{Side}
 use Rattle.pmd.specs.PmdSeam.Named.{AtPort}
 use Rattle.pmd.specs.PmdSeam.Sides.{ring_words}
+use Rattle.pmd.specs.PmdSeam.Slots.{ring_blocks, EachRingBlock}
 use Rattle.pmd.specs.PmdRx.Receive.{Receive}
 use Rattle.pmd.specs.PmdTx.Sending.{Sender}
 use Rattle.pmd.specs.Started.{is_size}
@@ -29,12 +28,12 @@ use Rattle.start_laws.specs.Unused.{AreUnused, WentOn}
 use Rattle.start_laws.proofs.Reached.{reached}
 use Rattle.start_laws.proofs.Fresh.{fresh_receive_agrees, fresh_transmit_agrees}
 use Rattle.start_laws.proofs.Lent.{Has, has_more, IsLentBy, made_has, lent_along}
-use Rattle.start_laws.proofs.Lends.{lending}
+use Rattle.start_laws.proofs.Lends.{lending, ring_in, stays_in}
 use Rattle.start_laws.proofs.Numbers.{ground_names}
 use Rattle.start_laws.proofs.Switching.{came_up, switching}
 use Rattle.start_laws.proofs.Made.{some_made}
-use Rattle.start_laws.proofs.Rising.{came_up_at, sized}
-use Rattle.start_laws.proofs.Prepared.{prepared_some, prepared_has}
+use Rattle.start_laws.proofs.Rising.{came_up_at, sized_ring}
+use Rattle.start_laws.proofs.Prepared.{lends_extend, prepared_some, prepared_has}
 
 module _ (w : Watched) (fifo : ℕ) (h : List Entry) (q : AtPort) (size : ℕ) (old : List Call) (a : Numbers)
     (new : List Call) (v : Receive) (t : Sender) (up : AreOn q size old a new v t)
@@ -53,23 +52,25 @@ module _ (w : Watched) (fifo : ℕ) (h : List Entry) (q : AtPort) (size : ℕ) (
     on_has number has =
         made_has q (lending number) (switching up.switched.0 up.switched.1) up.both_made new up.switched.3 has
 
-    ring_has : Has (lending ring) new
-    ring_has =
-        on_has ring
-        (has_more (lending ring) up.transmit.prepared.mid up.both_made
-        (up.transmit.prepared.lent.0 ++ lending other ∷ []) up.transmit.prepared.lent.1
-        (made_has q (lending ring) (ring_words Tx other size) up.ready_made up.transmit.prepared.mid
-        up.transmit.prepared.words
-        (prepared_has q Rx size up.receive.mid a up.ready_made up.ready_arena ring up.receive.prepared)))
+    ring_has : EachRingBlock ring size (λ n. Has (lending n) new)
+    ring_has k below =
+        let prepared = up.transmit.prepared in
+        let more = lends_extend (ring_blocks other size) prepared.mid up.both_made prepared.lent in
+        on_has (ring + k)
+        (has_more (lending (ring + k)) prepared.mid up.both_made more.0 more.1
+        (made_has q (lending (ring + k)) (ring_words Tx other size) up.ready_made prepared.mid prepared.words
+        (prepared_has q Rx size up.receive.mid a up.ready_made up.ready_arena ring up.receive.prepared k below)))
 
-    pub ring_lent : AtEntries w h new (λ done. IsLentBy w.pass ring h)
-    ring_lent = lent_along w fifo h ring new along ring_has
+    pub ring_lent : AtEntries w h new (λ done. EachRingBlock ring size (λ n. IsLentBy w.pass n h))
+    ring_lent done rest all calls k below =
+        lent_along w fifo h (ring + k) new along (ring_has k below) done rest all calls
 
-    pub other_lent : AtEntries w h new (λ done. IsLentBy w.pass other h)
-    other_lent =
-        lent_along w fifo h other new along
-        (on_has other
-        (prepared_has q Tx size up.ready_made up.ready_arena up.both_made up.both_arena other up.transmit.prepared))
+    pub other_lent : AtEntries w h new (λ done. EachRingBlock other size (λ n. IsLentBy w.pass n h))
+    other_lent done rest all calls k below =
+        lent_along w fifo h (other + k) new along
+        (on_has (other + k)
+        (prepared_has q Tx size up.ready_made up.ready_arena up.both_made up.both_arena other up.transmit.prepared k
+        below)) done rest all calls
 
     abbrev CameUp : List Entry → Type 0
     CameUp done =
@@ -82,25 +83,24 @@ module _ (w : Watched) (fifo : ℕ) (h : List Entry) (q : AtPort) (size : ℕ) (
         (other_lent done rest all calls) done rest all calls
 
     -- there they are fresh, and so device and driver agree
-    agrees : IsLentBy w.pass ring h → IsLentBy w.pass other h → (s : State) → IsSound s → (p : Sides)
-        → Point w.queue (lent_by w.pass h) q (came_up ring size other p) s
+    agrees : EachRingBlock ring size (λ n. IsLentBy w.pass n h) → EachRingBlock other size (λ n. IsLentBy w.pass n h)
+        → (s : State) → IsSound s → (p : Sides) → Point w.queue (lent_by w.pass h) q (came_up ring size other p) s
         → Agree w.queue s [] v × Agrees s w.queue [] t
     agrees one two s sound p x =
-        let rings = (came_up ring size other p).rings in
-        let count = sized size is in (
+        let rings = (came_up ring size other p).rings in (
           subst (λ (v : Receive). Agree w.queue s [] v) (sym up.receive.fresh)
               (fresh_receive_agrees w.queue s _ rings true true q.port up.receive.tail ring size
-              (record { some = count.0; few = count.1; low = one.low })
+              (sized_ring w.pass h size ring is one)
               (record {
                 low = along.small;
                 tail = ground_names w.queue q s x.ground Rdt up.receive.tail refl up.receive.named;
               })
-              (or_right (ring == other) _ (or_left (ring == ring) _ (eq-eqb ring ring refl))) x.stand),
+              (λ k below. stays_in (ring_blocks other size) _ (ring + k) (ring_in ring size p.rings k below)) x.stand),
           subst (λ (v : Sender). Agrees s w.queue [] v) (sym up.transmit.fresh)
               (fresh_transmit_agrees w.queue s _ rings true true q.port up.transmit.tail other size along.small sound
-              (record { some = count.0; few = count.1; low = two.low })
+              (sized_ring w.pass h size other is two)
               (ground_names w.queue q s x.ground Tdt up.transmit.tail refl up.transmit.named) x.ground.limit
-              (or_left (other == other) _ (eq-eqb other other refl)) x.stand),
+              (ring_in other size _) x.stand),
         )
 
     agrees_at : AtCalls w fifo h new (λ s. Agree w.queue s [] v × Agrees s w.queue [] t)

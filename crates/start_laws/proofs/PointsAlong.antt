@@ -1,5 +1,6 @@
 -- How sides stand after a driver's accesses, over a history.
-use Rattle.std.proofs.Common.{◌≢◌, ℕ, List, [], ◌∷◌, ◌++◌, refl, sym, subst}
+use Rattle.std.proofs.Common.{◌≡◌, ◌≢◌, ℕ, zero, suc, ◌+◌, ◌<◌, List, [], ◌∷◌, ◌++◌, refl, sym, ◌∙◌, subst, arith}
+use Rattle.std.specs.List.{range_with_len}
 use Rattle.std.specs.Prelude.{⊤, IsTrue}
 use Rattle.nic_device.specs.DmaArena.Numbers.{Numbers}
 use Rattle.nic_device.specs.DmaRing.declared.dir.Dir.{Dir}
@@ -16,7 +17,8 @@ use Rattle.pmd.specs.PmdSeam.Made.{AreSteps}
 use Rattle.pmd.specs.PmdSeam.QueueMade.{Access, Sees, Sets, AreMade, IsMade}
 use Rattle.pmd.specs.PmdSeam.Named.{AtPort}
 use Rattle.pmd.specs.PmdSeam.Sides.{ring_words}
-use Rattle.pmd.specs.Starting.{IsPrepared}
+use Rattle.pmd.specs.PmdSeam.Slots.{blocks_for, ring_blocks, EachRingBlock}
+use Rattle.pmd.specs.Starting.{IsPrepared, LendsEach}
 use Rattle.start_laws.specs.Along.{IsAlong, AtEntries, Leads}
 use Rattle.start_laws.specs.Points.{AccessesLead, Sides, Point, seen_by, after_access, after_accesses, May, AllMay}
 use Rattle.start_laws.proofs.Reached.{KeptOver, reached, reached_next, state_leads}
@@ -24,8 +26,8 @@ use Rattle.start_laws.proofs.Along.{entries_lead}
 use Rattle.start_laws.proofs.Standing.{standing_sides_are_left}
 use Rattle.start_laws.proofs.Unused.{IdleKeeps, IsIdle}
 use Rattle.start_laws.proofs.Lent.{IsLentBy}
-use Rattle.start_laws.proofs.Lends.{lending, lend_leads, with_ring}
-use Rattle.start_laws.proofs.Made.{made_some, some_made}
+use Rattle.start_laws.proofs.Lends.{lending, lend_leads, with_all, with_ring}
+use Rattle.start_laws.proofs.Made.{ends_some, made_some, some_made}
 use Rattle.start_laws.proofs.Points.{point_kept, read_leads, write_leads}
 
 -- an access, and accesses in order, from sides of which this is known, while the entries so far keep what those keep by
@@ -94,18 +96,32 @@ module _ (w : Watched) (q : AtPort) (fifo : ℕ) (h : List Entry) (along : IsAlo
       (made_some q old mid a here)
       (access_at F old mid a (λ p known. (may p known).0) here some at)
 
-  -- a ring is prepared: its words are written and its block is lent
+  -- blocks that follow one another are lent in turn
+  lends_at : (many first : ℕ) (F : Sides → Sides) (old new : List Call) → LendsEach old new (range_with_len first many)
+      → ((k : ℕ) → k < many → IsLentBy w.pass (first + k) h) → old ≢ [] → At old F
+      → At new (λ p. with_all (range_with_len first many) (F p))
+  lends_at zero first F old new is lent some at = subst (λ (calls : List Call). At calls F) (sym is) at
+  lends_at (suc many) first F old new (mid, one, rest) lent some at =
+      let here : first + 0 ≡ first = omega arith in
+      let own : IsLentBy w.pass first h = subst (λ (n : ℕ). IsLentBy w.pass n h) here (lent 0 (omega arith)) in
+      lends_at many (first + 1) (λ p. with_ring first (F p)) mid new rest
+      (λ k below.
+      let next : first + suc k ≡ first + 1 + k = omega arith in
+      subst (λ (n : ℕ). IsLentBy w.pass n h) next (lent (suc k) (omega (arith, below))))
+      (λ none. ends_some old one.0 (lending first) (sym one.1 ∙ none))
+      (subst (λ (calls : List Call). At calls (λ p. with_ring first (F p))) (sym one.1)
+      (call_leads F (λ p. with_ring first (F p)) old one.0 (lending first) (λ s. (refl, refl))
+      (λ p known. lend_leads w.queue mine q (F p) first own.mine own.low) one.2 some at))
+
+  -- a ring is prepared: its words are written and its blocks are lent
   pub prepared_at : (side : Dir) (size : ℕ) (F : Sides → Sides) (old : List Call) (a : Numbers) (new : List Call)
-      (b : Numbers) (ring : ℕ) → ((p : Sides) → C p → AllMay (ring_words side ring size) (F p)) → IsLentBy w.pass ring h
-      → IsPrepared q side size old a new b ring → old ≢ [] → At old F
-      → At new (λ p. with_ring ring (after_accesses (ring_words side ring size) (F p)))
+      (b : Numbers) (ring : ℕ) → ((p : Sides) → C p → AllMay (ring_words side ring size) (F p))
+      → EachRingBlock ring size (λ n. IsLentBy w.pass n h) → IsPrepared q side size old a new b ring → old ≢ []
+      → At old F → At new (λ p. with_all (ring_blocks ring size) (after_accesses (ring_words side ring size) (F p)))
   prepared_at side size F old a new b ring may lent x some at =
-      let there : Sides → Sides = λ p. after_accesses (ring_words side ring size) (F p) in
-      subst (λ (calls : List Call). At calls (λ p. with_ring ring (there p))) (sym x.lent.1)
-      (call_leads there (λ p. with_ring ring (there p)) x.mid x.lent.0 (lending ring) (λ s. (refl, refl))
-      (λ p known. lend_leads w.queue mine q (there p) ring lent.mine lent.low) x.lent.2
+      lends_at (blocks_for size) ring (λ p. after_accesses (ring_words side ring size) (F p)) x.mid new x.lent lent
       (some_made q (ring_words side ring size) old x.mid x.words some)
-      (accesses_at (ring_words side ring size) F old x.mid may x.words some at))
+      (accesses_at (ring_words side ring size) F old x.mid may x.words some at)
 
 pub accesses_lead : AccessesLead
 accesses_lead w q fifo h known F all old new along may made some at done rest whole calls =

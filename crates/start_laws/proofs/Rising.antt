@@ -1,5 +1,5 @@
 -- Both rings come up and both sides go on: how the sides stand then.
-use Rattle.std.proofs.Common.{◌≡◌, ℕ, ◌*◌, ◌%◌, ◌<◌, ◌≤◌, Bool, true, false, not, ◌&&◌, List, ◌∷◌, refl, subst, arith}
+use Rattle.std.proofs.Common.{◌≡◌, ℕ, ◌+◌, ◌-◌, ◌*◌, ◌%◌, ◌<◌, ◌≤◌, Bool, true, false, not, ◌&&◌, List, ◌∷◌, refl, subst, arith}
 use Rattle.std.specs.Prelude.{IsTrue}
 use Rattle.std.proofs.lemmas.Bool.{and_parts, both_ways, eqb-true, leb-true}
 use Rattle.nic_device.specs.DmaArena.Numbers.{Numbers}
@@ -13,6 +13,8 @@ use Rattle.device_lock.specs.declared.entry.Entry.{Entry}
 use Rattle.pmd.specs.PmdSeam.QueueMade.{Sees, Sets}
 use Rattle.pmd.specs.PmdSeam.Named.{AtPort}
 use Rattle.pmd.specs.PmdSeam.Sides.{quiet, ring_words}
+use Rattle.pmd.specs.PmdSeam.Slots.{blocks_for, ring_blocks, EachRingBlock}
+use Rattle.pmd.proofs.PmdSeam.Rings.{some_blocks}
 use Rattle.pmd.specs.PmdRx.Receive.{Receive}
 use Rattle.pmd.specs.PmdTx.Sending.{Sender}
 use Rattle.pmd.specs.Started.{is_size}
@@ -24,7 +26,7 @@ use Rattle.start_laws.specs.Quieting.{are_off}
 use Rattle.start_laws.specs.Unused.{AreUnused}
 use Rattle.start_laws.proofs.Reached.{reached}
 use Rattle.start_laws.proofs.Lent.{IsLentBy}
-use Rattle.start_laws.proofs.Lends.{with_ring}
+use Rattle.start_laws.proofs.Lends.{with_all}
 use Rattle.start_laws.proofs.PointsAlong.{accesses_at, At, prepared_at}
 use Rattle.start_laws.proofs.Made.{first_made}
 use Rattle.start_laws.proofs.Quieting.{quieting_leads}
@@ -36,14 +38,27 @@ use Rattle.start_laws.proofs.Prepared.{prepared_some}
 
 -- the numbers of slots that a driver may have
 
-pub sized : (size : ℕ) → is_size size ≡ true → (0 < size) × (size ≤ 128) × (16 * size % 128 ≡ 0)
+pub sized : (size : ℕ) → is_size size ≡ true → (0 < size) × (size ≤ 1024) × (16 * size % 128 ≡ 0)
 sized size is =
     let one = and_parts _ _ is in
     let two = and_parts _ _ one.1 in
     let some : 8 ≤ size = leb-true 8 size one.0 in
-    let few : size ≤ 128 = leb-true size 128 two.0 in
+    let few : size ≤ 1024 = leb-true size 1024 two.0 in
     let even : size % 8 ≡ 0 = eqb-true (size % 8) 0 two.1 in
     (omega (arith, some), few, omega (arith, even))
+
+-- a ring whose blocks a pass lends
+pub sized_ring : (pass : ℕ) (h : List Entry) (size ring : ℕ) → is_size size ≡ true
+    → EachRingBlock ring size (λ n. IsLentBy pass n h) → IsSized ring size
+sized_ring pass h size ring is lent =
+    let count = sized size is in
+    let some : 0 < blocks_for size = some_blocks size count.0 in
+    let last = lent (blocks_for size - 1) (omega (arith, some)) in
+    record {
+      some = count.0;
+      few = count.1;
+      low = omega (arith, some, last.low);
+    }
 
 -- sides that are off aren't wanted on
 unwanted : (a b c d : Bool) → ((not a && not b) && (not c && not d)) ≡ true → (b ≡ false) × (d ≡ false)
@@ -89,9 +104,10 @@ module _ (w : Watched) (fifo : ℕ) (h : List Entry) (q : AtPort) (size : ℕ) (
         )
 
     -- as both rings come up, where their blocks are the pass's
-    module _ (one : IsLentBy w.pass ring h) (two : IsLentBy w.pass other h) where
-      abbrev pub of_size : (number : ℕ) → IsLentBy w.pass number h → IsSized number size
-      of_size number lent = record { some = (sized size is).0; few = (sized size is).1; low = lent.low }
+    module _ (one : EachRingBlock ring size (λ n. IsLentBy w.pass n h))
+        (two : EachRingBlock other size (λ n. IsLentBy w.pass n h)) where
+      abbrev pub of_size : (number : ℕ) → EachRingBlock number size (λ n. IsLentBy w.pass n h) → IsSized number size
+      of_size number lent = sized_ring w.pass h size number is lent
 
       off : (p : Sides) → Known p → (p.rx.wanted ≡ false) × (p.tx.wanted ≡ false)
       off p known = unwanted p.rx.on p.rx.wanted p.tx.on p.tx.wanted known
@@ -99,7 +115,8 @@ module _ (w : Watched) (fifo : ℕ) (h : List Entry) (q : AtPort) (size : ℕ) (
       even : 16 * size % 128 ≡ 0
       even = (sized size is).2
 
-      ready_at : Reaches up.ready_made (λ p. with_ring ring (after_accesses (ring_words Rx ring size) p))
+      ready_at : Reaches up.ready_made
+          (λ p. with_all (ring_blocks ring size) (after_accesses (ring_words Rx ring size) p))
       ready_at =
           prepared_at w q fifo h along Known Unused (unused_kept w fifo) Rx size (λ p. p) up.receive.mid a up.ready_made
           up.ready_arena ring
@@ -112,8 +129,8 @@ module _ (w : Watched) (fifo : ℕ) (h : List Entry) (q : AtPort) (size : ℕ) (
       both_at : Reaches up.both_made (laid ring size other)
       both_at =
           prepared_at w q fifo h along Known Unused (unused_kept w fifo) Tx size
-          (λ p. with_ring ring (after_accesses (ring_words Rx ring size) p)) up.ready_made up.ready_arena up.both_made
-          up.both_arena other
+          (λ p. with_all (ring_blocks ring size) (after_accesses (ring_words Rx ring size) p)) up.ready_made
+          up.ready_arena up.both_made up.both_arena other
           (λ p known.
           may_lay_transmit ring size other (of_size ring one) (of_size other two) even p (off p known).1)
           two up.transmit.prepared

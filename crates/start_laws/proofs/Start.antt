@@ -7,6 +7,7 @@ use Rattle.device_lock.specs.declared.entry.Entry.{Entry}
 use Rattle.pmd.specs.Running.{Running}
 use Rattle.pmd.specs.Started.{AreUp, is_size}
 use Rattle.pmd.specs.PmdSeam.Named.{AtPort}
+use Rattle.pmd.specs.PmdSeam.Slots.{EachRingBlock}
 use Rattle.start_laws.specs.Along.{AtCalls, AtEntries, IsAlong}
 use Rattle.start_laws.specs.On.{AreOn}
 use Rattle.start_laws.specs.Points.{HasGround}
@@ -31,11 +32,13 @@ module _ (w : Watched) (fifo : ℕ) (h : List Entry) (q : AtPort) (size : ℕ) (
       switched = up.on.switched;
     }
 
-    pub ring_lent : AtEntries w h up.on.mid (λ done. IsLentBy w.pass up.receive.ring h)
+    pub ring_lent : AtEntries w h up.on.mid
+        (λ done. EachRingBlock up.receive.ring size (λ n. IsLentBy w.pass n h))
     ring_lent =
         ring_is_lent w fifo h q size old a up.on.mid up.empty r.transmit on along is well.ground
 
-    pub other_lent : AtEntries w h up.on.mid (λ done. IsLentBy w.pass up.transmit.ring h)
+    pub other_lent : AtEntries w h up.on.mid
+        (λ done. EachRingBlock up.transmit.ring size (λ n. IsLentBy w.pass n h))
     other_lent =
         other_is_lent w fifo h q size old a up.on.mid up.empty r.transmit on along is well.ground
 

@@ -11,7 +11,7 @@ use Rattle.receive_laws.proofs.Places.{inside_of}
 use Rattle.start_laws.specs.Moves.{IsSized, fresh_receive, fresh_transmit}
 use Rattle.start_laws.specs.Points.{AllMay, Sides, after_access, after_accesses, seen_by}
 use Rattle.start_laws.proofs.AccessesInOrder.{after-append, may_append, may_miss, receive_missed, transmit_missed}
-use Rattle.start_laws.proofs.Laying.{laid}
+use Rattle.start_laws.proofs.Laying.{laid, first_low}
 
 or_some : (b : Bool) → (b || true) ≡ true
 or_some true = refl
@@ -75,7 +75,7 @@ module _ (ring size other : ℕ) (one : IsSized ring size) (two : IsSized other 
   seen_on = λ k. record {
     rx = record {
       ring = record {
-        base = base_is p.rx.ring.base ring one.low k;
+        base = base_is p.rx.ring.base ring (first_low ring size one) k;
         length = 16 * size;
         head = 0;
         tail = 0;
@@ -86,7 +86,7 @@ module _ (ring size other : ℕ) (one : IsSized ring size) (two : IsSized other 
     };
     tx = record {
       ring = record {
-        base = base_is p.tx.ring.base other two.low k;
+        base = base_is p.tx.ring.base other (first_low other size two) k;
         length = 16 * size;
         head = 0;
         tail = 0;

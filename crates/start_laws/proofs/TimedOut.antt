@@ -3,7 +3,7 @@ use Rattle.std.proofs.Common.{◌≡◌, ℕ, ◌-◌, inl, inr, true, ◌≢◌
 use Rattle.std.specs.Prelude.{nat_lt, Option, None, Err}
 use Rattle.std.proofs.lemmas.Bool.{cond_both}
 use Rattle.std.proofs.lemmas.List.{append-nil}
-use Rattle.nic_device.specs.DmaArena.Numbers.{Numbers, free_count}
+use Rattle.nic_device.specs.DmaArena.Numbers.{Numbers}
 use Rattle.nic_device.specs.DmaRing.declared.dir.Dir.{Dir}
 use Rattle.nic_device.specs.DmaRing.declared.dir.Dir.TheVariants.{Rx, Tx}
 use Rattle.device_lock.specs.declared.entry.Call.{Call}
@@ -15,10 +15,12 @@ use Rattle.pmd.specs.PmdSeam.Named.{AtPort, queues_named}
 use Rattle.pmd.specs.PmdSeam.Sides.{missed, ring_words}
 use Rattle.pmd.proofs.PmdSeam.QueueSequences.{both_made as made_after}
 use Rattle.pmd.specs.PmdRx.Receive.{Receive}
-use Rattle.pmd.specs.Started.{IsShut, StopsStarting, is_size, start_gate}
+use Rattle.pmd.specs.PmdSeam.Slots.{ring_blocks}
+use Rattle.pmd.specs.Started.{IsShut, StopsStarting, has_room, is_size, start_gate}
 use Rattle.pmd.specs.Starting.{IsPrepared, IsReceiveReady, GoingOnFails, PreparingFails, ReceiveFails}
 use Rattle.pmd.specs.declared.start.StartRefused.{StartRefused}
 use Rattle.start_laws.proofs.Made.{extends}
+use Rattle.start_laws.proofs.Prepared.{lends_extend}
 use Rattle.start_laws.specs.TimedOut.{AllEnable, TimesOut, TimeoutsPoll}
 use Rattle.start_laws.proofs.Misses.{receive_alone, one_after_the_other, receive_enables, polled_enables}
 
@@ -35,7 +37,8 @@ module _ (q : AtPort) (size : ℕ) where
   prepared_adds : (side : Dir) (old : List Call) (a : Numbers) (new : List Call) (b : Numbers) (ring : ℕ)
       → IsPrepared q side size old a new b ring → Adds old new
   prepared_adds side old a new b ring x =
-      adds_more old x.mid new (extends q (ring_words side ring size) old x.mid x.words) (_, x.lent.1)
+      adds_more old x.mid new (extends q (ring_words side ring size) old x.mid x.words)
+      (lends_extend (ring_blocks ring size) x.mid new x.lent)
 
   receive_adds : (old : List Call) (a : Numbers) (new : List Call) (b : Numbers) (v : Receive)
       → IsReceiveReady q size old a new b v → Adds old new
@@ -65,15 +68,15 @@ module _ (q : AtPort) (size : ℕ) where
     polls = one_after_the_other first few;
   }
 
-  never_preparing : (side : Dir) (old : List Call) (a : Numbers) (new : List Call)
-      → PreparingFails StartTimeout q side size old a new → ⊥
-  never_preparing side old a new (ring, free, inl stops) = stops.6
-  never_preparing side old a new (ring, free, inr (mid, made, none)) = none
+  never_preparing : (side : Dir) (old : List Call) (a : Numbers) (new : List Call) (b : Numbers) (out : List ℕ)
+      → PreparingFails StartTimeout q side size old a new b out → ⊥
+  never_preparing side old a new b out (ring, inl (stops, same, empty)) = stops.6
+  never_preparing side old a new b out (ring, inr (mid, made, stops)) = stops.fails
 
-  never_receiving : (old : List Call) (a : Numbers) (new : List Call)
-      → ReceiveFails StartTimeout q size old a new → ⊥
-  never_receiving old a new (inl stops) = stops.6
-  never_receiving old a new (inr (mid, made, fails)) = never_preparing Rx mid a new fails
+  never_receiving : (old : List Call) (a : Numbers) (new : List Call) (b : Numbers) (out : List ℕ)
+      → ReceiveFails StartTimeout q size old a new b out → ⊥
+  never_receiving old a new b out (inl (stops, same, empty)) = stops.6
+  never_receiving old a new b out (inr (mid, made, fails)) = never_preparing Rx mid a new b out fails
 
   going_on : (old mid : List Call) (a : Numbers) (v : Receive) (new : List Call) (b : Numbers) (w : Receive)
       → Adds old mid → GoingOnFails StartTimeout q mid a v new b w → TimesOut q old new
@@ -82,12 +85,14 @@ module _ (q : AtPort) (size : ℕ) where
 
   amid : (old : List Call) (a : Numbers) (new : List Call) (e : StartRefused) → StopsStarting q size old a new e
       → e.fault ≡ StartTimeout → TimesOut q old new
-  amid old a new e (inl (fails, home)) is =
-      absurd (never_receiving old a new (subst (λ (f : PmdFault). ReceiveFails f q size old a new) is fails))
+  amid old a new e (inl x) is =
+      absurd
+      (never_receiving old a new x.arena x.out
+      (subst (λ (f : PmdFault). ReceiveFails f q size old a new x.arena x.out) is x.fails))
   amid old a new e (inr (inl x)) is =
       absurd
-      (never_preparing Tx x.made x.arena new
-      (subst (λ (f : PmdFault). PreparingFails f q Tx size x.made x.arena new) is x.fails))
+      (never_preparing Tx x.made x.ready_arena new x.arena x.out
+      (subst (λ (f : PmdFault). PreparingFails f q Tx size x.made x.ready_arena new x.arena x.out) is x.fails))
   amid old a new e (inr (inr x)) is =
       going_on old x.both_made x.both_arena x.empty new x.arena x.filled
       (adds_more old x.ready_made x.both_made (receive_adds old a x.ready_made x.ready_arena x.empty x.receive)
@@ -104,7 +109,7 @@ module _ (q : AtPort) (size : ℕ) where
       → IsEarly old a new e (start_gate a q size)
   by_gate old a new e =
       cond_both (is_size size) _ _ (IsEarly old a new e)
-      (λ sized. cond_both (nat_lt size (free_count a)) _ _ (IsEarly old a new e)
+      (λ sized. cond_both (has_room a size) _ _ (IsEarly old a new e)
       (λ some. cond_both (nat_lt q.queue (queues_named q.port)) _ _ (IsEarly old a new e)
       (λ named shut late is. late refl is) (λ none shut late timed. other DeviceFault (λ d. cc) shut.0 timed))
       (λ none shut late timed. other NoBuffer (λ d. cc) shut.0 timed))

@@ -34,20 +34,20 @@ NoneIsLent w fifo h calls a =
     (number : ℕ) → is_free a number ≡ true → BeforeLast w fifo h calls (λ s. IsFalse (has_block s.memory number))
 
 -- a start whose queue is off just before its first call: no side is seen on, each word of the receive ring is taken,
--- and so is its block
+-- and so is each of its blocks
 abbrev pub ReceiveIsReady : Type 0
 ReceiveIsReady =
     (w : Watched) (q : AtPort) (fifo : ℕ) (h : List Entry) (size : ℕ) (old : List Call) (a : Numbers)
-    (new : List Call) → IsAlong w fifo h → BeforeNext w fifo h old (IsQuiet w.queue q) →
-    ReceiveFails DeviceFault q size old a new → NoneIsLent w fifo h new a → Never w fifo h new
+    (new : List Call) (b : Numbers) (out : List ℕ) → IsAlong w fifo h → BeforeNext w fifo h old (IsQuiet w.queue q) →
+    ReceiveFails DeviceFault q size old a new b out → NoneIsLent w fifo h new b → Never w fifo h new
 
--- then each word of the transmit ring is, and its block
+-- then each word of the transmit ring is, and each of its blocks
 abbrev pub TransmitIsReady : Type 0
 TransmitIsReady =
     (w : Watched) (q : AtPort) (fifo : ℕ) (h : List Entry) (size : ℕ) (old : List Call) (a : Numbers)
-    (mid : List Call) (b : Numbers) (v : Receive) (new : List Call) → IsAlong w fifo h →
-    BeforeNext w fifo h old (IsQuiet w.queue q) → IsReceiveReady q size old a mid b v →
-    PreparingFails DeviceFault q Tx size mid b new → NoneIsLent w fifo h new b → Never w fifo h new
+    (mid : List Call) (b : Numbers) (v : Receive) (new : List Call) (c : Numbers) (out : List ℕ) →
+    IsAlong w fifo h → BeforeNext w fifo h old (IsQuiet w.queue q) → IsReceiveReady q size old a mid b v →
+    PreparingFails DeviceFault q Tx size mid b new c out → NoneIsLent w fifo h new c → Never w fifo h new
 
 -- and both sides are asked on and polled without a stray access
 abbrev pub SwitchingIsNeverStray : Type 0

@@ -23,13 +23,21 @@ use Rattle.start_laws.specs.On.{AreOn}
 use Rattle.start_laws.specs.Quieting.{IsQuiet}
 use Rattle.start_laws.specs.Faultless.{BeforeNext, Never, NoneIsLent}
 
+-- the receive ring isn't made ready; some blocks of it may be out then
+pub record FaultsBeforeOne (q : AtPort) (size : ℕ) (old : List Call) (a : Numbers) (new : List Call) : Type 0 where
+  pub arena : Numbers
+  pub out : List ℕ
+  pub fails : ReceiveFails DeviceFault q size old a new arena out
+
 -- after the receive ring was made ready, the transmit ring isn't
 pub record FaultsAfterOne (q : AtPort) (size : ℕ) (old : List Call) (a : Numbers) (new : List Call) : Type 0 where
   pub made : List Call
+  pub ready_arena : Numbers
   pub arena : Numbers
   pub empty : Receive
-  pub receive : IsReceiveReady q size old a made arena empty
-  pub fails : PreparingFails DeviceFault q Tx size made arena new
+  pub out : List ℕ
+  pub receive : IsReceiveReady q size old a made ready_arena empty
+  pub fails : PreparingFails DeviceFault q Tx size made ready_arena new arena out
 
 -- after both were, the sides aren't switched on
 pub record FaultsSwitching (q : AtPort) (size : ℕ) (old : List Call) (a : Numbers) (new : List Call) : Type 0 where
@@ -56,12 +64,12 @@ pub record FaultsFilling (q : AtPort) (size : ℕ) (old : List Call) (a : Number
 -- before both sides are on
 abbrev pub FaultsEarly : AtPort → ℕ → List Call → Numbers → List Call → Type 0
 FaultsEarly q size old a new =
-    ReceiveFails DeviceFault q size old a new ⊎ FaultsAfterOne q size old a new ⊎ FaultsSwitching q size old a new
+    FaultsBeforeOne q size old a new ⊎ FaultsAfterOne q size old a new ⊎ FaultsSwitching q size old a new
 
--- as a ring's block is lent, none of the blocks is that are free then
+-- as a block of a ring is lent, none of the blocks is that are free then
 abbrev pub LendsFresh : (w : Watched) (fifo : ℕ) (h : List Entry) (q : AtPort) (size : ℕ) (old : List Call)
     (a : Numbers) (new : List Call) → FaultsEarly q size old a new → Type 0
-LendsFresh w fifo h q size old a new (inl x) = NoneIsLent w fifo h new a
+LendsFresh w fifo h q size old a new (inl x) = NoneIsLent w fifo h new x.arena
 LendsFresh w fifo h q size old a new (inr (inl x)) = NoneIsLent w fifo h new x.arena
 LendsFresh w fifo h q size old a new (inr (inr x)) = ⊤
 

@@ -1,5 +1,5 @@
 -- What a driver's own accesses do to sides that stand still, and what these are in the end.
-use Rattle.std.specs.Prelude.{ℕ, ◌≡◌, ◌*◌, ◌<◌, ◌≤◌, ◌==◌, ◌||◌, Bool, true, IsTrue, IsFalse, [], None}
+use Rattle.std.specs.Prelude.{ℕ, ◌≡◌, ◌+◌, ◌*◌, ◌<◌, ◌≤◌, ◌==◌, ◌||◌, Bool, true, IsTrue, IsFalse, [], None}
 use Rattle.nic_device.specs.DmaArena.Block.{zero_block}
 use Rattle.nic_device.specs.RegTable.declared.rows.RowId.{RowId}
 use Rattle.nic_device.specs.RegTable.declared.rows.RowId.TheVariants.{Rxdctl, Txdctl, Tdt}
@@ -18,6 +18,7 @@ use Rattle.nic_device.specs.declared.event.Reply.TheVariants as reply
 use Rattle.nic_device.specs.declared.named.Named.TheVariants.{Register}
 use Rattle.device_lock.specs.Alone.{Blocks}
 use Rattle.pmd.specs.PmdRx.Receive as receive
+use Rattle.pmd.specs.PmdSeam.Slots.{blocks_for, EachRingBlock}
 use Rattle.pmd.specs.PmdTx.Sending as transmit
 use Rattle.receive_laws.specs.Joint.{IsNamed, Agree}
 use Rattle.transmit_laws.specs.Agreeing.{Agrees}
@@ -104,11 +105,11 @@ fresh_transmit ring size on wanted = record {
   wanted = wanted;
 }
 
--- a ring of a size that a driver may have, in a block that can be
+-- a ring of a size that a driver may have, in blocks that can be
 pub record IsSized (ring size : ℕ) : Type 0 where
   pub some : 0 < size
-  pub few : size ≤ 128
-  pub low : ring < 65536
+  pub few : size ≤ 1024
+  pub low : ring + blocks_for size ≤ 65536
 
 -- where fresh sides stand whose rings are lent, device and driver agree: of the receive side, with nothing posted; and
 -- of the transmit side, with nothing sent
@@ -117,7 +118,8 @@ abbrev pub FreshReceiveAgrees : Type 0
 FreshReceiveAgrees =
     (queue : ℕ) (s : State) (tx : TransmitQueue) (rings : Blocks) (on wanted : Bool) (port : Port)
     (tail ring size : ℕ) →
-    IsSized ring size → IsNamed s queue (receive.at_start port tail ring size).layout → IsTrue (rings ring) →
+    IsSized ring size → IsNamed s queue (receive.at_start port tail ring size).layout →
+    EachRingBlock ring size (λ n. IsTrue (rings n)) →
     Stand queue (fresh_receive ring size on wanted) tx rings s →
     Agree queue s [] (receive.at_start port tail ring size)
 
@@ -126,6 +128,6 @@ FreshTransmitAgrees =
     (queue : ℕ) (s : State) (rx : ReceiveQueue) (rings : Blocks) (on wanted : Bool) (port : Port)
     (tail ring size : ℕ) →
     queue < 128 → IsSound s → IsSized ring size → named s port tail ≡ Register (place Tdt queue) 0xFFFFFFFF →
-    frame_limit s.registers ≡ 1514 → IsTrue (rings ring) →
+    frame_limit s.registers ≡ 1514 → EachRingBlock ring size (λ n. IsTrue (rings n)) →
     Stand queue rx (fresh_transmit ring size on wanted) rings s →
     Agrees s queue [] (transmit.at_start port tail ring size)

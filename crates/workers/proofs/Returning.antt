@@ -7,6 +7,7 @@ use Rattle.nic_device.specs.DmaArena.Whereabouts.{times_in_hand}
 use Rattle.pmd.specs.PmdSeam.declared.fault.PmdFault.{PmdFault}
 use Rattle.pmd.specs.PmdSeam.declared.fault.PmdFault.TheVariants as fault
 use Rattle.pmd.specs.PmdSeam.declared.packet.Packet.{Packet}
+use Rattle.pmd.specs.PmdSeam.Slots.{is_ring_block}
 use Rattle.pmd.specs.PmdRx.Keeping.{blocks_out}
 use Rattle.pmd.specs.PmdRx.Receive.{Receive}
 use Rattle.pmd.specs.PmdTx.Sending.{Layout, Outgoing, blocks_of}
@@ -23,7 +24,8 @@ use Rattle.pmd.proofs.SentCounted.{fault_block}
 -- whether a block of this number can go back, by what a driver has
 abbrev back_at : Numbers → Receive → Layout → List Outgoing → ℕ → Bool
 back_at a v l packets n =
-    (is_own a n && not (is_free a n) && not (n == l.ring || list_any (λ b. n == b) (blocks_of packets)))
+    (is_own a n && not (is_free a n)
+    && not (is_ring_block l.ring l.size n || list_any (λ b. n == b) (blocks_of packets)))
     && not (nat_lt 0 (times_in_hand (blocks_out v) n))
 
 still_back : (r s : Running) (n : ℕ) → (s.arena ≡ r.arena) × (s.receive ≡ r.receive)

@@ -32,7 +32,7 @@ pub struct Order {
     pub port: Port,
     /// Its queue, as the port numbers it.
     pub queue: u16,
-    /// How many descriptors each ring has: a multiple of 8 from 8 to 128.
+    /// How many descriptors each ring has: a multiple of 8 from 8 to 1,024.
     pub size: u16,
     /// How often it looks for a packet.
     pub rounds: u32,

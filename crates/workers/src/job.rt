@@ -16,7 +16,7 @@ pub struct Job {
     pub queue: u16,
     /// The queue, below 128, whose device steps are made before each of its calls.
     pub pf_queue: u16,
-    /// How many descriptors each ring has: a multiple of 8 from 8 to 128.
+    /// How many descriptors each ring has: a multiple of 8 from 8 to 1,024.
     pub size: u16,
     /// The blocks that it has for its driver.
     pub arena: Arena,

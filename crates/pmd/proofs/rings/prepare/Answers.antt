@@ -1,21 +1,32 @@
-use Rattle.std.proofs.Common.{ap, refl}
-use Rattle.nic_device.specs.DmaArena.Block.{Block}
-use Rattle.pmd_rx.proofs.Fresh.{back_home}
+use Rattle.std.proofs.Common.{ℕ, inl, inr, refl, subst, ◌∙◌}
+use Rattle.std.specs.List.{range_with_len}
+use Rattle.pmd_rx.specs.DeviceLock.declared.fault.CallFault.TheVariants.{OutOfMemory}
+use Rattle.pmd.specs.Starting.{StopsLending}
+use Rattle.pmd.proofs.Lending.{unwritten}
 use Rattle.pmd.proofs.rings.prepare.Goals as goal
 
-pub returns-in-Err-clause-kept : goal.returns-in-Err-clause-kept
-returns-in-Err-clause-kept g c =
-    back_home c.args.arena.now c.take.new.self c.give_back.new.arena c.in-Some.buf.number c.in-Some.buf.number
-    c.in-Some.ensures.free c.in-Some.ensures.taken refl c.give_back.ensures
+pub returns-then-is_err-clause-failed : goal.returns-then-is_err-clause-failed
+returns-then-is_err-clause-failed g c = (
+  c.args.ring,
+  inl (
+    unwritten c.args.queue.now c.args.side c.args.ring c.args.size (g.N.Nic.made c.args.nic.now) (OutOfMemory tt),
+    refl,
+    c.reserve.ensures.items ∙ c.new-lent.ensures.items,
+  ),
+)
 
-pub returns-in-Ok-Some-clause-kept : goal.returns-in-Ok-Some-clause-kept
-returns-in-Ok-Some-clause-kept g c =
-    back_home c.args.arena.now c.take.new.self c.give_back-in-Ok-Some.new.arena c.in-Some.buf.number _
-    c.in-Some.ensures.free c.in-Some.ensures.taken (rw c.in-Ok-Some.field-0-is at c.in-Ok-Some.ensures.number)
-    c.give_back-in-Ok-Some.ensures
+pub returns-in-Err-clause-failed : goal.returns-in-Err-clause-failed
+returns-in-Err-clause-failed g c =
+    (c.args.ring, inl (c.in-Err.ensures.failed, refl, c.reserve.ensures.items ∙ c.new-lent.ensures.items))
 
-pub returns-in-Err-lend-clause-kept : goal.returns-in-Err-lend-clause-kept
-returns-in-Err-lend-clause-kept g c =
-    back_home c.args.arena.now c.take.new.self c.give_back-in-Err-lend.new.arena c.in-Some.buf.number _
-    c.in-Some.ensures.free c.in-Some.ensures.taken (ap (λ (x : Block). x.number) c.in-Err-lend.ensures.back)
-    c.give_back-in-Err-lend.ensures
+pub returns-in-Err-lend_run-clause-failed : goal.returns-in-Err-lend_run-clause-failed
+returns-in-Err-lend_run-clause-failed g c = (
+  c.args.ring,
+  inr (
+    g.N.Nic.made c.lay_out.new.nic,
+    c.in-Ok.ensures.made,
+    subst (λ (n : ℕ). StopsLending c.in-Err-lend_run.fault (range_with_len c.args.ring n)
+        (g.N.Nic.made c.lay_out.new.nic) c.args.arena.now (g.N.Nic.made c.lend_run.new.nic) c.lend_run.new.arena
+        c.lend_run.new.lent.items) c.blocks_for-count.ensures.blocks c.in-Err-lend_run.ensures.stops,
+  ),
+)

@@ -1,43 +1,57 @@
-use Rattle.std.proofs.Common.{[], ◌∙◌, inl, inr, sym, ap, subst, arith}
-use Rattle.nic_device.specs.DmaArena.Numbers.{Numbers}
-use Rattle.pmd_rx.specs.PmdSeam.Home.{AreOut}
-use Rattle.pmd.specs.Halted.{Halted, with_receive_ring}
+use Rattle.std.proofs.Common.{[], ◌<◌, ◌∙◌, inl, inr, sym, ap, subst, arith}
+use Rattle.nic_device.specs.DmaRing.declared.dir.Dir.TheVariants.{Tx}
+use Rattle.pmd.specs.Halted.{Halted}
+use Rattle.pmd_rx.specs.PmdSeam.Slots.{blocks_for}
 use Rattle.pmd_rx.specs.Keeping.{blocks_out}
 use Rattle.pmd_tx.specs.Leaving.{lent_of}
-use Rattle.nic_device.specs.DmaRing.declared.dir.Dir.TheVariants.{Tx}
-use Rattle.pmd.specs.Blocks.{KeepsEach, HasAll, IsWhole}
+use Rattle.pmd_tx.specs.Sending.{Sender}
+use Rattle.pmd.specs.Blocks.{HasAll}
 use Rattle.pmd.specs.Driver.{Driver, handed_of, halted_of}
 use Rattle.pmd.specs.Running.{Running}
-use Rattle.pmd.specs.Started.{IsHome, IsHalfStarted}
+use Rattle.pmd.specs.Started.{IsHalfStarted}
 use Rattle.pmd.specs.declared.driver.Rings.TheVariants.{Up}
 use Rattle.pmd.proofs.Late.{preparing_late, receive_late}
-use Rattle.pmd.proofs.Leaving.{home_handed, half_handed, ready_handed}
-use Rattle.pmd.proofs.Starting.{prepared_count, ready_empty, receive_out, rings_out, one_out, filled_rings}
-use Rattle.pmd.proofs.Rising.{receive_has, one_ring, filled_all, half_whole, home_whole}
+use Rattle.pmd.proofs.Leaving.{before_handed, half_handed, ready_handed}
+use Rattle.pmd.proofs.Starting.{prepared_count, ready_empty, rings_out, one_out, filled_rings, still_free, before_out, after_out, receive_drawn}
+use Rattle.pmd.proofs.Rising.{filled_all, half_whole, before_whole, after_all}
 use Rattle.pmd.proofs.start.bring_up.Goals as goal
 
-pub returns-in-Err-clause-stops : goal.returns-in-Err-clause-stops
-returns-in-Err-clause-stops g c = inl (
-  rw c.at_home.ensures.fault c.in-Err.ensures.failed,
-  subst (λ (a : Numbers). IsHome a c.at_home.result.rest) c.in-Err.ensures.kept c.at_home.ensures.rest,
-)
+pub receive_ring-requires-clause-low : goal.receive_ring-requires-clause-low
+receive_ring-requires-clause-low g c =
+    let runs = c.requires.runs in
+    omega (arith, runs.apart, runs.low)
 
-pub of_receive-halted-requires : goal.of_receive-halted-requires
-of_receive-halted-requires g c =
-    subst (λ (a : Numbers). AreOut a (blocks_out c.in-Ok.receive)) (sym c.in-Err-transmit_ring.ensures.kept)
-    (receive_out _ _ _ _ _ _ _ c.in-Ok.ensures.ready)
+pub transmit_ring-requires-clause-free : goal.transmit_ring-requires-clause-free
+transmit_ring-requires-clause-free g c =
+    let runs = c.requires.runs in
+    still_free c.args.arena c.args.places.receive c.args.size c.receive_ring.new.arena c.args.places.transmit
+    (blocks_for c.args.size) c.in-Ok.ensures.drawn runs.apart runs.two
+
+pub left_before_one-requires : goal.left_before_one-requires
+left_before_one-requires g c = before_out _ _ _ _ _ _ _ _ c.in-Err.ensures.failed
+
+pub left_after_one-requires : goal.left_after_one-requires
+left_after_one-requires g c =
+    after_out _ _ _ _ _ _ _ _ _ _ _ c.in-Ok.ensures.ready c.in-Err-transmit_ring.ensures.failed
+
+pub returns-in-Err-clause-stops : goal.returns-in-Err-clause-stops
+returns-in-Err-clause-stops g c = inl (record {
+  arena = c.receive_ring.new.arena;
+  out = c.in-Err.unprepared.lent.items;
+  fails = rw c.left_before_one.ensures.fault c.in-Err.ensures.failed;
+  left = c.left_before_one.ensures.rest;
+})
 
 pub returns-in-Err-transmit_ring-clause-stops : goal.returns-in-Err-transmit_ring-clause-stops
 returns-in-Err-transmit_ring-clause-stops g c = inr (inl (record {
   made = g.N.Nic.made c.receive_ring.new.nic;
-  arena = c.receive_ring.new.arena;
+  ready_arena = c.receive_ring.new.arena;
+  arena = c.transmit_ring.new.arena;
   empty = c.in-Ok.receive;
+  out = c.in-Err-transmit_ring.unprepared.lent.items;
   receive = c.in-Ok.ensures.ready;
-  fails = rw c.half_started.ensures.fault c.in-Err-transmit_ring.ensures.failed;
-  left = subst (λ (h : Halted). IsHalfStarted c.args.queue h c.half_started.result.rest)
-      (c.of_receive-halted.ensures
-      ∙ ap (λ (a : Numbers). with_receive_ring a c.in-Ok.receive) c.in-Err-transmit_ring.ensures.kept)
-      c.half_started.ensures.rest;
+  fails = rw c.left_after_one.ensures.fault c.in-Err-transmit_ring.ensures.failed;
+  left = c.left_after_one.ensures.rest;
 }))
 
 pub go_on-requires-clause-home : goal.go_on-requires-clause-home
@@ -51,6 +65,8 @@ new-running-requires g c =
       home = filled_rings _ _ _ _ _ _ _ _ _ _ _ _
           c.in-Ok.ensures.ready c.in-Ok-transmit_ring.ensures.ready c.go_on.ensures.keeps;
       filled = c.in-Ok-go_on.ensures.running;
+      some = subst (λ (v : Sender). 0 < v.layout.size) (sym c.in-Ok-transmit_ring.ensures.ready.fresh)
+          (omega (arith, c.requires.some));
     }
 
 pub of_rings-halted-requires : goal.of_rings-halted-requires
@@ -93,9 +109,9 @@ returns-in-Err-go_on-clause-stops g c = inr (inr (record {
   sender = c.in-Ok-transmit_ring.transmit;
   receive = c.in-Ok.ensures.ready;
   transmit = c.in-Ok-transmit_ring.ensures.ready;
-  fails = rw c.half_started-in-Err-go_on.ensures.fault c.in-Err-go_on.ensures.failed;
-  left = subst (λ (h : Halted). IsHalfStarted c.args.queue h c.half_started-in-Err-go_on.result.rest)
-      c.of_rings-halted.ensures c.half_started-in-Err-go_on.ensures.rest;
+  fails = rw c.half_started.ensures.fault c.in-Err-go_on.ensures.failed;
+  left = subst (λ (h : Halted). IsHalfStarted c.args.queue h c.half_started.result.rest)
+      c.of_rings-halted.ensures c.half_started.ensures.rest;
 }))
 
 pub go_on-requires-clause-enough : goal.go_on-requires-clause-enough
@@ -105,7 +121,7 @@ go_on-requires-clause-enough g c =
     let size = ready_empty _ _ _ _ _ _ _ ready in
     omega (
       arith,
-      c.requires.free,
+      c.requires.enough,
       size.2,
       prepared_count _ _ _ _ _ _ _ _ ready.prepared,
       prepared_count _ _ _ _ _ _ _ _ also.prepared,
@@ -113,28 +129,22 @@ go_on-requires-clause-enough g c =
 
 pub returns-in-Err-clause-late : goal.returns-in-Err-clause-late
 returns-in-Err-clause-late g c =
-    rw c.at_home.ensures.fault
-    (receive_late c.in-Err.fault c.args.queue c.args.size (g.N.Nic.made c.args.nic.now) c.args.arena
-    (g.N.Nic.made c.receive_ring.new.nic) c.in-Err.ensures.failed)
+    rw c.left_before_one.ensures.fault (receive_late _ _ _ _ _ _ _ _ c.in-Err.ensures.failed)
 
 pub returns-in-Err-transmit_ring-clause-late : goal.returns-in-Err-transmit_ring-clause-late
 returns-in-Err-transmit_ring-clause-late g c =
-    rw c.half_started.ensures.fault
-    (preparing_late c.in-Err-transmit_ring.fault c.args.queue Tx c.args.size (g.N.Nic.made c.receive_ring.new.nic)
-    c.receive_ring.new.arena (g.N.Nic.made c.transmit_ring.new.nic) c.in-Err-transmit_ring.ensures.failed)
+    rw c.left_after_one.ensures.fault (preparing_late _ _ Tx _ _ _ _ _ _ c.in-Err-transmit_ring.ensures.failed)
 
 pub returns-in-Err-go_on-clause-late : goal.returns-in-Err-go_on-clause-late
 returns-in-Err-go_on-clause-late g c =
-    rw c.half_started-in-Err-go_on.ensures.fault c.in-Err-go_on.ensures.late
+    rw c.half_started.ensures.fault c.in-Err-go_on.ensures.late
 
 pub returns-in-Err-clause-left : goal.returns-in-Err-clause-left
-returns-in-Err-clause-left g c = home_handed _ _ c.at_home.ensures.rest
+returns-in-Err-clause-left g c = before_handed _ _ _ _ c.left_before_one.ensures.rest
 
 pub returns-in-Err-transmit_ring-clause-left : goal.returns-in-Err-transmit_ring-clause-left
 returns-in-Err-transmit_ring-clause-left g c =
-    half_handed _ _ _
-    (ap (λ (h : Halted). h.handed) c.of_receive-halted.ensures ∙ ready_handed _ _ _ _ _ _ _ c.in-Ok.ensures.ready)
-    c.half_started.ensures.rest
+    half_handed _ _ _ (ready_handed _ _ _ _ _ _ _ c.in-Ok.ensures.ready) c.left_after_one.ensures.rest
 
 pub returns-in-Ok-go_on-clause-none : goal.returns-in-Ok-go_on-clause-none
 returns-in-Ok-go_on-clause-none g c =
@@ -147,21 +157,17 @@ returns-in-Err-go_on-clause-left g c =
     half_handed _ _ _
     (ap (λ (h : Halted). h.handed) c.of_rings-halted.ensures
     ∙ (c.go_on.ensures.handed ∙ ready_handed _ _ _ _ _ _ _ c.in-Ok.ensures.ready))
-    c.half_started-in-Err-go_on.ensures.rest
+    c.half_started.ensures.rest
 
 pub returns-in-Err-clause-whole : goal.returns-in-Err-clause-whole
 returns-in-Err-clause-whole g c =
-    subst (λ (a : Numbers). IsWhole a c.at_home.result.rest) c.in-Err.ensures.kept
-    (home_whole _ _ c.at_home.ensures.rest)
+    before_whole _ _ _ _ _ (receive_drawn _ _ _ _ _ _ _ _ c.in-Err.ensures.failed) c.left_before_one.ensures.rest
 
 pub returns-in-Err-transmit_ring-clause-whole : goal.returns-in-Err-transmit_ring-clause-whole
 returns-in-Err-transmit_ring-clause-whole g c =
     half_whole _ _ _ _
-    (rw c.of_receive-halted.ensures
-    (one_ring c.args.arena c.transmit_ring.new.arena c.in-Ok.receive
-    (subst (λ (b : Numbers). KeepsEach c.args.arena [] b (blocks_out c.in-Ok.receive))
-    (sym c.in-Err-transmit_ring.ensures.kept) (receive_has _ _ _ _ _ _ _ c.in-Ok.ensures.ready))))
-    c.half_started.ensures.rest
+    (after_all _ _ _ _ _ _ _ _ _ _ _ c.in-Ok.ensures.ready c.in-Err-transmit_ring.ensures.failed)
+    c.left_after_one.ensures.rest
 
 pub returns-in-Ok-go_on-clause-blocks : goal.returns-in-Ok-go_on-clause-blocks
 returns-in-Ok-go_on-clause-blocks g c =
@@ -176,15 +182,15 @@ returns-in-Err-go_on-clause-whole g c =
     (rw c.of_rings-halted.ensures
     (filled_all _ _ _ _ _ _ _ _ _ _ _ _
     c.in-Ok.ensures.ready c.in-Ok-transmit_ring.ensures.ready c.go_on.ensures.keeps))
-    c.half_started-in-Err-go_on.ensures.rest
+    c.half_started.ensures.rest
 
 pub returns-in-Err-clause-refusal : goal.returns-in-Err-clause-refusal
-returns-in-Err-clause-refusal g c = rw c.at_home.ensures.fault c.in-Err.ensures.refusal
+returns-in-Err-clause-refusal g c = rw c.left_before_one.ensures.fault c.in-Err.ensures.refusal
 
 pub returns-in-Err-transmit_ring-clause-refusal : goal.returns-in-Err-transmit_ring-clause-refusal
 returns-in-Err-transmit_ring-clause-refusal g c =
-    rw c.half_started.ensures.fault c.in-Err-transmit_ring.ensures.refusal
+    rw c.left_after_one.ensures.fault c.in-Err-transmit_ring.ensures.refusal
 
 pub returns-in-Err-go_on-clause-refusal : goal.returns-in-Err-go_on-clause-refusal
 returns-in-Err-go_on-clause-refusal g c =
-    rw c.half_started-in-Err-go_on.ensures.fault c.in-Err-go_on.ensures.refusal
+    rw c.half_started.ensures.fault c.in-Err-go_on.ensures.refusal

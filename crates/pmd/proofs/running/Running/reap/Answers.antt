@@ -1,5 +1,6 @@
 use Rattle.std.proofs.Common.{ℕ, ap, refl}
 use Rattle.nic_device.specs.DmaArena.Numbers.{is_own}
+use Rattle.pmd_rx.specs.PmdSeam.Slots.{ring_blocks}
 use Rattle.pmd_tx.specs.Sending.{Layout}
 use Rattle.pmd.specs.Halves.{halves_of}
 use Rattle.pmd.specs.Running.{Running}
@@ -49,7 +50,8 @@ returns g c =
             (e.faults ring);
         receive = refl;
       };
-      blocks = reaped_kept q s some.0 some.1 (ap (λ (l : Layout). l.ring) e.layout) refl c.self.invariant;
+      blocks = reaped_kept q s some.0 some.1 (ap (λ (l : Layout). ring_blocks l.ring l.size) e.layout) refl
+          c.self.invariant;
       who = e.who;
       refuses = e.refuses;
       refusal = e.refusal;

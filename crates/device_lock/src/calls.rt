@@ -17,10 +17,14 @@ ghost use Rattle.device_lock.specs.Stepping.{steps_of_queue};
 use crate::entry::Call;
 use crate::fault::CallFault;
 use crate::locked::Locked;
+use crate::noting::{note_of, ready};
 use crate::resting::{STEPS, keep_idle};
 use nic_device::{Device, Event, EventNote, OutOfMemory, Reply, ReplyNote};
 use std::alloc::Global;
 use std::marker::Model;
+
+/// For how many calls there is room at first.
+const FIRST_ROOM: usize = 2048;
 
 /// A call, and what was made before it.
 #[derive(Debug, Drop)]
@@ -37,6 +41,7 @@ pub struct Made {
 pub struct Calls {
     made: Vec<Made>,
     rested: Option<u16>,
+    spare: Vec<u8>,
 }
 
 impl Model for Calls {
@@ -57,6 +62,7 @@ impl Calls {
         Calls {
             made: Vec::new(alloc),
             rested: None,
+            spare: Vec::new(alloc),
         }
     }
 
@@ -98,11 +104,12 @@ impl Calls {
         ensures back { IfErr result (λ refused. refused.event ≡ event) }
         ensures unchanged { OnErr result ((device.new ≡ device.old) × (self.new ≡ self.old)) }
     {
-        let Ok((note, room)) = device.ready_notes(alloc, &mut self.made, &event) else {
+        make_room(&mut self.made);
+        let Ok(note) = ready(alloc, device, &mut self.made, &mut self.spare, &event) else {
             return Err(OutOfMemory { event });
         };
         let reply = device.step(event)?;
-        let told = reply.note_in(room);
+        let told = note_of(alloc, &reply, &mut self.spare);
         put_call(&mut self.made, &mut self.rested, note, told);
         Ok(reply)
     }
@@ -156,11 +163,13 @@ impl Calls {
         ensures back { IfErr result (λ fault. event_of fault ≡ event) }
         ensures unchanged { OnErr result ((locked.new ≡ locked.old) × (self.new ≡ self.old)) }
     {
-        let Ok((note, room)) = locked.device().ready_notes(alloc, &mut self.made, &event) else {
+        make_room(&mut self.made);
+        let device = locked.device();
+        let Ok(note) = ready(alloc, device, &mut self.made, &mut self.spare, &event) else {
             return Err(CallFault::OutOfMemory(event));
         };
         let reply = locked.step(alloc, tag, event)?;
-        let told = reply.note_in(room);
+        let told = note_of(alloc, &reply, &mut self.spare);
         put_call(&mut self.made, &mut self.rested, note, told);
         Ok(reply)
     }
@@ -174,13 +183,26 @@ impl Calls {
         if !reserve_for(&mut calls, self.made.len()) {
             return Err(self);
         }
-        let Calls { made, rested } = self;
+        let Calls {
+            made,
+            rested,
+            spare: _,
+        } = self;
         for it in made {
             put_rested(&mut calls, it.rested);
             calls.push_reserved(it.call);
         }
         put_rested(&mut calls, rested);
         Ok(calls)
+    }
+}
+
+/// Makes room for the first calls, as far as there is memory, so that calls are moved less often.
+fn make_room(made: &mut Vec<Made>)
+    ensures { made.new.items ≡ made.old.items }
+{
+    if made.capacity() == 0 {
+        let _is_roomy = made.reserve(FIRST_ROOM).is_ok();
     }
 }
 

@@ -1,5 +1,5 @@
 -- Passes that close a history, or don't.
-use Rattle.std.proofs.Common.{◌≡◌, ℕ, ◌<◌, ◌≤◌, ◌↔◌, List, [], ◌∷◌, All, inl, inr, refl, ap, subst, arith, slice_index_or, Some}
+use Rattle.std.proofs.Common.{◌≡◌, ℕ, ◌<◌, ◌≤◌, ◌↔◌, List, [], ◌∷◌, inl, inr, refl, ap, subst, arith, slice_index_or, Some}
 use Rattle.std.proofs.lemmas.Bool.{cases_lt}
 use Rattle.std.proofs.lemmas.Grind.{common_steps}
 use Rattle.device_lock.specs.declared.entry.Entry.{Entry}
@@ -8,7 +8,7 @@ use Rattle.device_lock.specs.declared.fault.CloseFault.TheVariants.{MissingPass,
 use Rattle.device_lock.specs.History.{AllBelow}
 use Rattle.device_lock.specs.Kept.{entries_of}
 use Rattle.device_lock.specs.Pass.{PassValue, IsOwn}
-use Rattle.device_lock.specs.Closing.{Answers, AreAll, Closes, IsMissing, IsSurplus, StandsIn, TagStands}
+use Rattle.device_lock.specs.Closing.{Answers, AreAll, Closes, IsMissing, IsSurplus, TagStands}
 
 -- where no tag from this number on has an entry, the tags are below it
 all_below : (count : ℕ) (h : List Entry) → AllBelow 64 h

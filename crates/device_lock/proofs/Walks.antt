@@ -45,7 +45,7 @@ none_marked zero number = refl
 none_marked (suc count) zero = refl
 none_marked (suc count) (suc number) = none_marked count number
 
-split : (h : List Entry) (i : ℕ) (d : Entry) → i < length h → drop i h ≡ get_or h i d ∷ drop (i + 1) h
+pub split : (h : List Entry) (i : ℕ) (d : Entry) → i < length h → drop i h ≡ get_or h i d ∷ drop (i + 1) h
 split h i d lt = let one : i + 1 ≡ suc i = omega arith in rw one (drop-cons h i d lt)
 
 pub lent_next : (pass : ℕ) (h : List Entry) (i : ℕ) (d : Entry) (a b : Bool) (number : ℕ) → i < length h

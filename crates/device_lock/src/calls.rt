@@ -1,20 +1,30 @@
-//! The calls that were made of a device in hand.
+//! The calls that were made of a device, in hand or under its lock.
 
-ghost use Rattle.std.specs.Prelude.{◌≡◌, ◌++◌, ◌∷◌, ◌*◌, ◌+◌, ◌≤◌, [], true, false, IfOk, IfErr, OnOk, OnErr};
+ghost use Rattle.std.specs.Prelude.{◌≡◌, ◌≢◌, ◌<◌, ◌++◌, ◌∷◌, ◌*◌, ◌+◌, ◌≤◌, [], true, false, None, Err, IfOk, IfErr, OnOk, OnErr, length};
 ghost use Rattle.std.specs.Vec.{vec_len, vec_capacity};
 ghost use Rattle.nic_device.specs.Answering.{may_answer};
 ghost use Rattle.nic_device.specs.Resting.{Rests};
+ghost use Rattle.nic_device.specs.State.{new_state};
 ghost use Rattle.nic_device.specs.Step.{step_of};
 ghost use Rattle.device_lock.specs.Calls.{calls_in, rested_calls};
+ghost use Rattle.device_lock.specs.Fault.{event_of};
+ghost use Rattle.device_lock.specs.History.{leads_to, IsLegal};
+ghost use Rattle.device_lock.specs.Kept.{after_call};
 ghost use Rattle.device_lock.specs.Pass.{call_of};
-ghost use Rattle.device_lock.specs.Resting.{idle_calls};
+ghost use Rattle.device_lock.specs.Resting.{after_calls, idle_calls};
 ghost use Rattle.device_lock.specs.Stepping.{steps_of_queue};
 
 use crate::entry::Call;
+use crate::fault::CallFault;
+use crate::locked::Locked;
+use crate::noting::{note_of, ready};
 use crate::resting::{STEPS, keep_idle};
-use nic_device::{Device, Event, OutOfMemory, Reply};
+use nic_device::{Device, Event, EventNote, OutOfMemory, Reply, ReplyNote};
 use std::alloc::Global;
 use std::marker::Model;
+
+/// For how many calls there is room at first.
+const FIRST_ROOM: usize = 2048;
 
 /// A call, and what was made before it.
 #[derive(Debug, Drop)]
@@ -31,6 +41,7 @@ pub struct Made {
 pub struct Calls {
     made: Vec<Made>,
     rested: Option<u16>,
+    spare: Vec<u8>,
 }
 
 impl Model for Calls {
@@ -51,6 +62,7 @@ impl Calls {
         Calls {
             made: Vec::new(alloc),
             rested: None,
+            spare: Vec::new(alloc),
         }
     }
 
@@ -92,19 +104,73 @@ impl Calls {
         ensures back { IfErr result (λ refused. refused.event ≡ event) }
         ensures unchanged { OnErr result ((device.new ≡ device.old) × (self.new ≡ self.old)) }
     {
-        let Ok((note, room)) = device.ready_notes(alloc, &mut self.made, &event) else {
+        make_room(&mut self.made);
+        let Ok(note) = ready(alloc, device, &mut self.made, &mut self.spare, &event) else {
             return Err(OutOfMemory { event });
         };
         let reply = device.step(event)?;
-        let told = reply.note_in(room);
-        self.made.push_reserved(Made {
-            rested: self.rested,
-            call: Call {
-                event: note,
-                reply: told,
-            },
-        });
-        self.rested = None;
+        let told = note_of(alloc, &reply, &mut self.spare);
+        put_call(&mut self.made, &mut self.rested, note, told);
+        Ok(reply)
+    }
+
+    /// Makes the device steps of a queue under the lock, for the pass of this tag, where the queue is at rest, the
+    /// history has room for their entries, and there is memory: each is idle. Else it makes none of them, nor where some
+    /// were made and no call since. Answers whether they are made.
+    pub(crate) fn rest_locked<const VFS: u8, const FIFO: u16>(
+        &mut self,
+        locked: &mut Locked<VFS, FIFO>,
+        tag: u8,
+        queue: u16,
+    ) -> bool
+        requires { tag < 64 }
+        ensures legal { result ≡ true → IsLegal (new_state VFS FIFO) locked.old.history }
+        ensures leads { result ≡ true → leads_to (new_state VFS FIFO) locked.old.history ≡ locked.old.device }
+        ensures idle { result ≡ true → Rests locked.old.device queue }
+        ensures under { result ≡ true → locked.new ≡ after_calls locked.old tag (steps_of_queue queue) }
+        ensures made { result ≡ true → self.new ≡ self.old ++ idle_calls (steps_of_queue queue) }
+        ensures unchanged { result ≡ false → self.new ≡ self.old }
+        ensures refused { result ≡ false → locked.new ≡ locked.old }
+    {
+        if self.rested.is_some() || !locked.rest(tag, queue) {
+            return false;
+        }
+        self.rested = Some(queue);
+        true
+    }
+
+    /// Makes one event under the lock for the pass of this tag, and keeps the call.
+    ///
+    /// `HistoryFull` only where the history has as many entries as it may, else `OutOfMemory`. Both hand the event
+    /// back, and change nothing.
+    pub(crate) fn make_locked<const VFS: u8, const FIFO: u16>(
+        &mut self,
+        alloc: Global,
+        locked: &mut Locked<VFS, FIFO>,
+        tag: u8,
+        event: Event,
+    ) -> Result<Reply, CallFault>
+        requires { tag < 64 }
+        ensures legal { IsLegal (new_state VFS FIFO) locked.old.history }
+        ensures leads { leads_to (new_state VFS FIFO) locked.old.history ≡ locked.old.device }
+        ensures reply { IfOk result (λ reply. reply ≡ (step_of locked.old.device event).reply) }
+        ensures fits { IfOk result (λ reply. may_answer event reply ≡ true) }
+        ensures under { OnOk result (locked.new ≡ after_call locked.old tag event) }
+        ensures made { IfOk result (λ reply. self.new ≡ self.old ++ call_of event reply ∷ []) }
+        ensures own { result ≢ Err (CallFault.ForeignPass event) }
+        ensures full { result ≡ Err (CallFault.HistoryFull event)
+            → length locked.old.history ≡ locked.old.limit }
+        ensures back { IfErr result (λ fault. event_of fault ≡ event) }
+        ensures unchanged { OnErr result ((locked.new ≡ locked.old) × (self.new ≡ self.old)) }
+    {
+        make_room(&mut self.made);
+        let device = locked.device();
+        let Ok(note) = ready(alloc, device, &mut self.made, &mut self.spare, &event) else {
+            return Err(CallFault::OutOfMemory(event));
+        };
+        let reply = locked.step(alloc, tag, event)?;
+        let told = note_of(alloc, &reply, &mut self.spare);
+        put_call(&mut self.made, &mut self.rested, note, told);
         Ok(reply)
     }
 
@@ -117,7 +183,11 @@ impl Calls {
         if !reserve_for(&mut calls, self.made.len()) {
             return Err(self);
         }
-        let Calls { made, rested } = self;
+        let Calls {
+            made,
+            rested,
+            spare: _,
+        } = self;
         for it in made {
             put_rested(&mut calls, it.rested);
             calls.push_reserved(it.call);
@@ -125,6 +195,27 @@ impl Calls {
         put_rested(&mut calls, rested);
         Ok(calls)
     }
+}
+
+/// Makes room for the first calls, as far as there is memory, so that calls are moved less often.
+fn make_room(made: &mut Vec<Made>)
+    ensures { made.new.items ≡ made.old.items }
+{
+    if made.capacity() == 0 {
+        let _is_roomy = made.reserve(FIRST_ROOM).is_ok();
+    }
+}
+
+/// Puts a call behind the others and the idle steps behind the last of them. There is room for it.
+fn put_call(made: &mut Vec<Made>, rested: &mut Option<u16>, event: EventNote, reply: ReplyNote)
+    requires { vec_len made.old < vec_capacity made.old }
+    ensures { calls_in made.new.items rested.new ≡ calls_in made.old.items rested.old ++ call_of event reply ∷ [] }
+{
+    made.push_reserved(Made {
+        rested: *rested,
+        call: Call { event, reply },
+    });
+    *rested = None;
 }
 
 /// Takes room for so many calls, for the device steps before each, and for those behind the last. Answers whether there

@@ -1,30 +1,111 @@
 //! Passes that come back, against the history.
 
-ghost use Rattle.std.specs.Prelude.{◌≡◌, ◌≢◌, ◌<◌, ◌↔◌, ℕ, IsTrue, IfSome, IfNone, All, slice_index};
+ghost use Rattle.std.specs.Prelude.{◌≡◌, ◌≢◌, ◌<◌, ◌↔◌, ℕ, IsTrue, IfSome, IfNone, All, List, [], ◌∷◌, ◌++◌, slice_index};
+ghost use Rattle.nic_device.specs.declared.event.Reply.TheVariants.{Idle};
+ghost use Rattle.device_lock.specs.Calls.{made_calls, rested_calls};
 ghost use Rattle.device_lock.specs.Closing.{tag_count, AllThere, AreAll, StandsIn, TagStands, IsMissing, IsMismatch};
 ghost use Rattle.device_lock.specs.History.{calls_of};
 ghost use Rattle.device_lock.specs.Kept.{entries_of};
-ghost use Rattle.device_lock.specs.Pass.{IsOwn};
+ghost use Rattle.device_lock.specs.Pass.{IsOwn, call_of};
+ghost use Rattle.device_lock.specs.Resting.{idle_calls};
+ghost use Rattle.device_lock.specs.Stepping.{steps_of_queue};
+ghost use Rattle.device_lock.specs.declared.entry.Call.{Call};
 
+use crate::calls::{Calls, Made};
 use crate::entry::{Call, Entry};
 use crate::locked::Counts;
 use crate::pass::Pass;
+use crate::resting::idle_call;
 use crate::shared::MAX_PASSES;
+use nic_device::{Dir, Event, EventNote};
 
-/// Whether the calls are the entries with this tag, in their order.
-pub(crate) fn stands(history: &[Entry], tag: u8, calls: &[Call]) -> bool
-    ensures { IsTrue result ↔ (calls_of tag history.now ≡ calls.now) }
+/// The entries behind the next of this tag, where that is the entry of this call.
+fn behind<'a>(history: &'a [Entry], tag: u8, call: &Call) -> Option<&'a [Entry]>
+    ensures some { IfSome result (λ rest. calls_of tag history.now ≡ call.now ∷ calls_of tag rest.now) }
+    ensures none { IfNone result ((more : List Call) → calls_of tag history.now ≢ call.now ∷ more) }
 {
-    let mut next = 0;
-    for entry in history {
-        if entry.pass == tag {
-            if next >= calls.len() || !calls[next].is_in(entry) {
-                return false;
+    for at in 0..history.len() {
+        if history[at].pass == tag {
+            if call.is_in(&history[at]) {
+                return Some(&history[at + 1..]);
             }
-            next += 1;
+            return None;
         }
     }
-    next == calls.len()
+    None
+}
+
+/// The entries behind the next of this tag, where that is of this event, and idle.
+fn behind_step<'a>(history: &'a [Entry], tag: u8, event: EventNote) -> Option<&'a [Entry]>
+    ensures some { IfSome result (λ rest. calls_of tag history.now ≡ call_of event Idle ∷ calls_of tag rest.now) }
+    ensures none { IfNone result ((more : List Call) → calls_of tag history.now ≢ call_of event Idle ∷ more) }
+{
+    behind(history, tag, &idle_call(event))
+}
+
+/// The entries behind those of this tag that come next, where those are of the device steps of a queue, each idle.
+fn behind_steps<'a>(history: &'a [Entry], tag: u8, queue: u16) -> Option<&'a [Entry]>
+    ensures some { IfSome result
+        (λ rest. calls_of tag history.now ≡ idle_calls (steps_of_queue queue) ++ calls_of tag rest.now) }
+    ensures none { IfNone result
+        ((more : List Call) → calls_of tag history.now ≢ idle_calls (steps_of_queue queue) ++ more) }
+{
+    let rest = behind_step(history, tag, Event::QueueStep(Dir::Rx, queue))?;
+    let rest = behind_step(rest, tag, Event::QueueStep(Dir::Tx, queue))?;
+    let rest = behind_step(rest, tag, Event::TxStep(queue))?;
+    behind_step(rest, tag, Event::RxStep)
+}
+
+/// The same, where there were some, else all entries.
+fn behind_rested<'a>(history: &'a [Entry], tag: u8, rested: Option<u16>) -> Option<&'a [Entry]>
+    ensures some { IfSome result (λ rest. calls_of tag history.now ≡ rested_calls rested ++ calls_of tag rest.now) }
+    ensures none { IfNone result ((more : List Call) → calls_of tag history.now ≢ rested_calls rested ++ more) }
+{
+    match rested {
+        None => Some(history),
+        Some(queue) => behind_steps(history, tag, queue),
+    }
+}
+
+/// The entries behind those of this tag that come next, where those are of a call and of what was made before it.
+fn behind_made<'a>(history: &'a [Entry], tag: u8, made: &Made) -> Option<&'a [Entry]>
+    ensures some { IfSome result
+        (λ rest. calls_of tag history.now ≡ made_calls (made.now ∷ []) ++ calls_of tag rest.now) }
+    ensures none { IfNone result
+        ((more : List Call) → calls_of tag history.now ≢ made_calls (made.now ∷ []) ++ more) }
+{
+    let rest = behind_rested(history, tag, made.rested)?;
+    behind(rest, tag, &made.call)
+}
+
+/// Whether no entry has this tag.
+fn is_silent(history: &[Entry], tag: u8) -> bool
+    ensures { IsTrue result ↔ (calls_of tag history.now ≡ []) }
+{
+    for entry in history {
+        if entry.pass == tag {
+            return false;
+        }
+    }
+    true
+}
+
+/// Whether the calls are the entries with this tag, in their order.
+pub(crate) fn stands(history: &[Entry], tag: u8, calls: &Calls) -> bool
+    ensures { IsTrue result ↔ (calls_of tag history.now ≡ calls.now) }
+{
+    let (made, rested) = calls.kept();
+    let mut rest = history;
+    for it in made {
+        match behind_made(rest, tag, it) {
+            Some(more) => rest = more,
+            None => return false,
+        }
+    }
+    match behind_rested(rest, tag, rested) {
+        Some(more) => is_silent(more, tag),
+        None => false,
+    }
 }
 
 /// Whether the passes of a tag have the calls that the history has of it, and there is one where it has any.

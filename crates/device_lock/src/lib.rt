@@ -15,6 +15,7 @@ mod entry;
 mod fault;
 pub mod laws;
 mod locked;
+mod noting;
 mod pass;
 mod positions;
 mod resting;

@@ -1,4 +1,4 @@
-ghost use Rattle.std.specs.Prelude.{◌≡◌, ℕ, ◌≤◌, ◌<◌, ◌↔◌, ◌⊎◌, true, false, Err, IfOk, OnOk, OnErr, length, slice_index, slice_set, replicate, ◌+◌};
+ghost use Rattle.std.specs.Prelude.{◌≡◌, [], ℕ, ◌≤◌, ◌<◌, ◌↔◌, ◌⊎◌, true, false, Err, IfOk, OnOk, OnErr, length, slice_index, slice_set, replicate, ◌+◌};
 ghost use Rattle.nic_device.specs.Answering.{may_answer};
 ghost use Rattle.nic_device.specs.Resting.{Rests};
 ghost use Rattle.nic_device.specs.State.{new_state};
@@ -11,11 +11,15 @@ ghost use Rattle.device_lock.specs.Stepping.{steps_of_queue};
 
 use crate::entry::Entry;
 use crate::fault::CallFault;
+use crate::noting::{note_of, ready};
 use crate::resting::{STEPS, has_room, keep_entries};
 use crate::shared::MAX_PASSES;
 use nic_device::{Config, Device, Event, OutOfMemory, Reply};
 use std::alloc::{AllocError, Global};
 use std::marker::Model;
+
+/// For how many entries there is room at first.
+const FIRST_ROOM: usize = 4096;
 
 /// For each tag that a pass can have, how many entries have it.
 pub(crate) type Counts = [u32; MAX_PASSES as usize];
@@ -29,6 +33,7 @@ pub struct Locked<const VFS: u8, const FIFO: u16> {
     history: Vec<Entry>,
     counts: Counts,
     limit: u32,
+    spare: Vec<u8>,
 }
 
 impl<const VFS: u8, const FIFO: u16> Model for Locked<VFS, FIFO> {
@@ -54,6 +59,7 @@ impl<const VFS: u8, const FIFO: u16> Locked<VFS, FIFO> {
         ensures { IfOk result (λ locked. locked ≡ opened VFS FIFO limit) }
     {
         let counts = no_entries();
+        let history = empty_history(alloc, limit);
         let config = Config {
             vfs: VFS,
             fifo: FIFO,
@@ -63,9 +69,10 @@ impl<const VFS: u8, const FIFO: u16> Locked<VFS, FIFO> {
         };
         Ok(Locked {
             device,
-            history: Vec::new(alloc),
+            history,
             counts,
             limit,
+            spare: Vec::new(alloc),
         })
     }
 
@@ -131,12 +138,13 @@ impl<const VFS: u8, const FIFO: u16> Locked<VFS, FIFO> {
         if self.history.len() >= self.limit as usize {
             return Err(CallFault::HistoryFull(event));
         }
-        let Ok((note, room)) = self.device.ready_notes(alloc, &mut self.history, &event) else {
+        let device = &self.device;
+        let Ok(note) = ready(alloc, device, &mut self.history, &mut self.spare, &event) else {
             return Err(CallFault::OutOfMemory(event));
         };
         match self.device.step(event) {
             Ok(reply) => {
-                let told = reply.note_in(room);
+                let told = note_of(alloc, &reply, &mut self.spare);
                 self.history.push_reserved(Entry {
                     pass: tag,
                     event: note,
@@ -177,9 +185,20 @@ impl<const VFS: u8, const FIFO: u16> Locked<VFS, FIFO> {
             history: _,
             counts: _,
             limit: _,
+            spare: _,
         } = self;
         device
     }
+}
+
+/// A history with no entry, which may have so many. It has room for the first of them, as far as there is memory, so
+/// that entries are moved less often.
+fn empty_history(alloc: Global, limit: u32) -> Vec<Entry>
+    ensures { result.items ≡ [] }
+{
+    let mut history = Vec::new(alloc);
+    let _is_roomy = history.reserve(FIRST_ROOM.min(limit as usize)).is_ok();
+    history
 }
 
 /// For each tag no entry.

@@ -8,10 +8,9 @@ ghost use Rattle.device_lock.specs.Kept.{after_call};
 ghost use Rattle.device_lock.specs.Pass.{fresh_pass, with_call};
 ghost use Rattle.device_lock.specs.Stepping.{AreMade, steps_of_queue};
 
-use crate::entry::Call;
+use crate::calls::Calls;
 use crate::fault::CallFault;
 use crate::locked::Locked;
-use crate::resting::{STEPS, keep_idle};
 use nic_device::{Event, Reply};
 use std::alloc::Global;
 use std::marker::Model;
@@ -21,7 +20,7 @@ use std::marker::Model;
 pub struct Pass {
     bench: u64,
     tag: u8,
-    calls: Vec<Call>,
+    calls: Calls,
 }
 
 impl Model for Pass {
@@ -29,7 +28,7 @@ impl Model for Pass {
 
     ghost Value = { PassValue };
 
-    ghost view = { λ p. record { bench = p.bench; tag = p.tag; calls = p.calls.items } };
+    ghost view = { λ p. record { bench = p.bench; tag = p.tag; calls = p.calls } };
 }
 
 impl Pass {
@@ -40,7 +39,7 @@ impl Pass {
         Pass {
             bench,
             tag,
-            calls: Vec::new(alloc),
+            calls: Calls::new(alloc),
         }
     }
 
@@ -59,16 +58,17 @@ impl Pass {
     }
 
     /// The calls that were made by the pass, with their replies, the oldest first.
-    pub fn calls(&self) -> &[Call]
+    pub fn calls(&self) -> &Calls
         ensures { result.now ≡ self.now.calls }
     {
-        self.calls.as_slice()
+        &self.calls
     }
 }
 
 impl Pass {
     /// Makes the device steps of a queue where it is at rest, the history has room for their entries, and there is
-    /// memory: each is idle. Else it makes none of them. Answers whether they are made.
+    /// memory: each is idle. Else it makes none of them, nor where some were made and no call since. Answers whether
+    /// they are made.
     pub(crate) fn rest<const VFS: u8, const FIFO: u16>(
         &mut self,
         locked: &mut Locked<VFS, FIFO>,
@@ -82,11 +82,7 @@ impl Pass {
         ensures refused { result ≡ false → locked.new ≡ locked.old }
         ensures tag { self.new.tag ≡ self.old.tag }
     {
-        if self.calls.reserve(STEPS).is_err() || !locked.rest(self.tag, queue) {
-            return false;
-        }
-        keep_idle(&mut self.calls, queue);
-        true
+        self.calls.rest_locked(locked, self.tag, queue)
     }
 
     /// Makes one event under the lock, and keeps its call here.
@@ -112,15 +108,6 @@ impl Pass {
         ensures back { IfErr result (λ fault. event_of fault ≡ event) }
         ensures unchanged { OnErr result ((locked.new ≡ locked.old) × (self.new ≡ self.old)) }
     {
-        let Ok((note, room)) = locked.device().ready_notes(alloc, &mut self.calls, &event) else {
-            return Err(CallFault::OutOfMemory(event));
-        };
-        let reply = locked.step(alloc, self.tag, event)?;
-        let told = reply.note_in(room);
-        self.calls.push_reserved(Call {
-            event: note,
-            reply: told,
-        });
-        Ok(reply)
+        self.calls.make_locked(alloc, locked, self.tag, event)
     }
 }

@@ -15,7 +15,7 @@ use nic_device::{Dir, Event, EventNote, Reply};
 pub(crate) const STEPS: usize = 4;
 
 /// The call of a step that was idle.
-fn idle_call(event: EventNote) -> Call
+pub(crate) fn idle_call(event: EventNote) -> Call
     ensures { result ≡ call_of event Idle }
 {
     Call {

@@ -9,14 +9,18 @@ use crate::locked::Locked;
 use crate::pass::Pass;
 use nic_device::{Event, Reply};
 use std::alloc::{AllocError, Global};
+use std::hint::spin_loop;
 use std::marker::Model;
-use std::sync::{Mutex, Wait};
+use std::sync::{Mutex, MutexGuard, Wait};
 
 /// How many passes a shared device can have.
 pub const MAX_PASSES: u8 = 64;
 
 /// How many entries a history can have.
 pub const MAX_LIMIT: u32 = 1_000_000;
+
+/// How often the lock is looked for before a thread sleeps.
+const LOOKS: u32 = 100;
 
 /// A device that threads share, known by the number of its bench and of its passes. It has `VFS` virtual functions, at
 /// most 63, and its receive list takes `FIFO` frames, from 1 to 4,096. It can't be dropped: it is closed in the end.
@@ -127,8 +131,22 @@ impl<const VFS: u8, const FIFO: u16> Shared<VFS, FIFO> {
         if pass.bench() != self.bench || pass.tag() >= self.passes {
             return Err(CallFault::ForeignPass(event));
         }
-        let mut locked = self.lock.lock(rt);
+        let mut locked = self.hold(rt);
         pass.call(alloc, &mut *locked, event)
+    }
+}
+
+impl<const VFS: u8, const FIFO: u16> Shared<VFS, FIFO> {
+    /// What lies under the lock. A call holds it for so short a time that it is looked for some times first, before the
+    /// thread sleeps.
+    pub(crate) fn hold<R: Wait>(&self, rt: &R) -> MutexGuard<'_, Locked<VFS, FIFO>> {
+        for _ in 0..LOOKS {
+            if let Some(locked) = self.lock.try_lock() {
+                return locked;
+            }
+            spin_loop();
+        }
+        self.lock.lock(rt)
     }
 }
 

@@ -157,7 +157,7 @@ impl<const VFS: u8, const FIFO: u16> Shared<VFS, FIFO> {
         if pass.bench() != self.bench || pass.tag() >= self.passes {
             return Err(CallFault::ForeignPass(event));
         }
-        let mut locked = self.lock.lock(rt);
+        let mut locked = self.hold(rt);
         pass.step_and_call(alloc, &mut *locked, queue, event)
     }
 }

@@ -2,7 +2,9 @@
 
 use crate::outcome::{Hand, done, refused};
 use nic_device::{Arena, Config, Device, Event, LentMemory, Mode, Octets, Parts, Port, Reply};
-use workers::{Direct, Home, Nic, Packet, Pmd, PmdFault, Setup, StopRefused, TxAnswer, pf_setup};
+use workers::{
+    Calls, Direct, Home, Nic, Packet, Pmd, PmdFault, Setup, StopRefused, TxAnswer, pf_setup,
+};
 
 /// Promiscuous, with neither pools nor hashing.
 pub const PLAIN: Setup = Setup {
@@ -12,6 +14,14 @@ pub const PLAIN: Setup = Setup {
     reta: [0; 128],
     promiscuous: true,
 };
+
+/// How many calls there are, with those of idle steps.
+pub fn count_calls(calls: &Calls) -> usize {
+    let (made, rested) = calls.kept();
+    let at_rest = made.iter().filter(|it| it.rested.is_some()).count();
+    let steps = at_rest.saturating_add(usize::from(rested.is_some()));
+    made.len().saturating_add(steps.saturating_mul(4))
+}
 
 /// Why a driver refuses a call: the same as its fault, with which it can be compared.
 #[derive(Clone, Copy, PartialEq, Eq)]

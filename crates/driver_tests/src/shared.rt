@@ -1,6 +1,6 @@
 //! Calls of several passes at a shared device: their replies, what is refused, and the history.
 
-use crate::bench::end;
+use crate::bench::{count_calls, end};
 use crate::outcome::{Hand, done, refused, some};
 use nic_device::{Dir, Event, Port, Reply};
 use std::thread::join_mut;
@@ -109,11 +109,11 @@ fn a_call_is_behind_the_steps_of_its_queue(rt: HostRuntime) {
         Reply::Word(0x403) => {}
         _other => panic!(rt; "HLREG0"),
     }
-    assert_eq!(rt; nic.calls().len(), 5);
+    assert_eq!(rt; count_calls(nic.calls()), 5);
     let fault = refused(&rt, nic.call(rt.alloc(), Event::RxStep));
     assert!(rt; matches!(why(&rt, fault), CallFault::HistoryFull(())));
     let pass = nic.finish();
-    assert_eq!(rt; pass.calls().len(), 7);
+    assert_eq!(rt; count_calls(pass.calls()), 7);
     done(&rt, passes.push(pass));
     assert_eq!(rt; closed(&rt, bench, passes), 7);
 }

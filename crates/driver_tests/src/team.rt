@@ -1,7 +1,7 @@
 //! Two workers, of the queues 0 and 1, at a device that they share, and who is beside them on another thread: they are
 //! run, brought home and taken apart.
 
-use crate::bench::{segment, taken_apart};
+use crate::bench::{count_calls, segment, taken_apart};
 use crate::hostile::stopped_again;
 use crate::outcome::{Hand, done, emptied, none, put, some};
 use crate::schedule::{all_home, take_all};
@@ -306,7 +306,7 @@ pub fn run_team<G: Gate + Sync>(
     let (bench, passes) = done(rt, Bench::new(rt.alloc(), 1, 4, order.limit));
     let (ran, host, other) = run_beside(rt, gate, &bench, passes, order, &mut beside);
     let Ran { mut ends, fed } = ran;
-    let mut ending = Ending::new(rt, fed, other.calls().len());
+    let mut ending = Ending::new(rt, fed, count_calls(other.calls()));
     let mut passes = done(rt, Vec::from_array(rt.alloc(), [host, other]));
     for _end in 0..ends.len() {
         let pass = ending.add(rt, some(rt, ends.pop()));

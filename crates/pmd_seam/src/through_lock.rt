@@ -7,7 +7,7 @@ ghost use Rattle.pmd_seam.specs.Refusals.{CanRefuse};
 ghost use Rattle.pmd_seam.specs.Stepped.{StepsAndMakes, StopsStepping, caller_of, is_foreign, refusals_of};
 
 use crate::nic::Nic;
-use device_lock::{Call, CallFault, Pass, Shared};
+use device_lock::{CallFault, Calls, Pass, Shared};
 use nic_device::{Event, Reply};
 use std::alloc::Global;
 use std::marker::Model;
@@ -47,7 +47,7 @@ impl<'a, R: Wait, const VFS: u8, const FIFO: u16> ThroughLock<'a, R, VFS, FIFO> 
     }
 
     /// The calls that the pass made, with their replies, the oldest first.
-    pub fn calls(&self) -> &[Call]
+    pub fn calls(&self) -> &Calls
         ensures { result.now ≡ self.now.pass.calls }
     {
         self.pass.calls()

@@ -113,7 +113,7 @@ impl Trial for Calling {
     }
 
     fn picture<R: Abort>(&mut self, _rt: &R) -> u64 {
-        with_event(self.opened.pass.calls().len() as u64, &self.event)
+        with_event(self.opened.pass.calls().kept().0.len() as u64, &self.event)
     }
 
     fn end<R: Abort + Wait>(self, rt: &R, alloc: Global) -> u64 {

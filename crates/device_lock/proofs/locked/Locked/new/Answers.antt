@@ -3,5 +3,5 @@ use Rattle.device_lock.proofs.locked.Locked.new.Goals as goal
 
 pub invariant_of-result : goal.invariant_of-result
 invariant_of-result g c =
-    kept_opened g.row.VFS g.row.FIFO c.in-Ok.device c.new-2.result.items c.args.limit c.no_entries-counts.result
-    c.in-Ok.ensures.made c.new-2.ensures.items c.requires.limit c.no_entries-counts.ensures
+    kept_opened g.row.VFS g.row.FIFO c.in-Ok.device c.empty_history-history.result.items c.args.limit c.no_entries-counts.result
+    c.in-Ok.ensures.made c.empty_history-history.ensures c.requires.limit c.no_entries-counts.ensures

@@ -19,8 +19,8 @@ invariant_of-self-in-Ok-step g c =
       history = c.self.inside.history.items;
       limit = c.self.inside.limit;
     })
-    c.self.inside.counts c.args.tag c.args.event c.in-Ok.note c.in-Ok-step.reply c.note_in-told.result
+    c.self.inside.counts c.args.tag c.args.event c.in-Ok.note c.in-Ok-step.reply c.note_of-told.result
     c.step.new.self c.push_reserved.new.self.items c.count_one.new.counts c.self.invariant (omega arith) c.requires room
-    c.is_of_a_driver.ensures c.in-Ok.ensures.note c.note_in-told.ensures c.in-Ok-step.ensures.reply
-    c.in-Ok-step.ensures.state (rw (c.push_reserved.ensures.items, c.ready_notes.ensures.same) refl)
+    c.is_of_a_driver.ensures c.in-Ok.ensures.note c.note_of-told.ensures c.in-Ok-step.ensures.reply
+    c.in-Ok-step.ensures.state (rw (c.push_reserved.ensures.items, c.ready.ensures.same) refl)
     c.count_one.ensures

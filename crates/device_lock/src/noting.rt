@@ -1,0 +1,45 @@
+//! Notes of events and of their replies. A spare vector is kept with a list of calls, which has room for whatever a reply
+//! may hand out: so a note takes no more memory than it has bytes, and the device's answer is never without one.
+
+ghost use Rattle.std.specs.Prelude.{◌≡◌, ◌<◌, ◌≤◌, [], true, IfOk, OnOk};
+ghost use Rattle.std.specs.Vec.{vec_len, vec_capacity};
+ghost use Rattle.nic_device.specs.Answering.{note_length};
+ghost use Rattle.nic_device.specs.Step.{step_of};
+
+use nic_device::{Device, Event, EventNote, Reply, ReplyNote};
+use std::alloc::{AllocError, Global};
+use std::mem;
+
+/// What a list of calls takes for an event that is to be made: room for one entry more, the event's note, and a spare
+/// vector with room for the note of the reply.
+pub(crate) fn ready<T>(
+    alloc: Global,
+    device: &Device,
+    calls: &mut Vec<T>,
+    spare: &mut Vec<u8>,
+    event: &Event,
+) -> Result<EventNote, AllocError>
+    ensures same { calls.new.items ≡ calls.old.items }
+    ensures room { OnOk result (vec_len calls.new < vec_capacity calls.new) }
+    ensures note { IfOk result (λ note. note ≡ event.now) }
+    ensures empty { OnOk result (spare.new.items ≡ []) }
+    ensures spare { OnOk result (note_length (step_of device.now event.now).reply ≤ vec_capacity spare.new) }
+{
+    calls.reserve(1)?;
+    spare.clear();
+    spare.reserve(device.note_room(event))?;
+    event.note(alloc)
+}
+
+/// The note of a reply: in a vector of its own, or in the spare one where there is no memory for that. The spare one has
+/// room for it.
+pub(crate) fn note_of(alloc: Global, reply: &Reply, spare: &mut Vec<u8>) -> ReplyNote
+    requires empty { spare.old.items ≡ [] }
+    requires room { note_length reply.now ≤ vec_capacity spare.old }
+    ensures { result ≡ reply.now }
+{
+    match Vec::with_capacity(alloc, reply.note_length()) {
+        Ok(room) => reply.note_in(room),
+        Err(_) => reply.note_in(mem::replace(spare, Vec::new(alloc))),
+    }
+}

@@ -1,10 +1,11 @@
 -- What a run prints.
-use Rattle.std.specs.Prelude.{◌≡◌, ℕ, suc, ◌+◌, Bool, true, false, List, [], ◌∷◌, ◌++◌, Option, codes, decimal, length, count_by}
+use Rattle.std.specs.Prelude.{◌≡◌, ◌<◌, ℕ, suc, ◌+◌, Bool, true, false, List, [], ◌∷◌, ◌++◌, Option, codes, decimal, length, count_by}
 use Rattle.std.specs.Io.KnownBytes.{Appends}
 use Rattle.nic_device.specs.DmaArena.Block.{Block}
 use Rattle.nic_device.specs.State.{new_state}
 use Rattle.nic_device.specs.declared.event.Reply.{Reply}
 use Rattle.nic_device.specs.declared.event.Reply.TheVariants.{Sent}
+use Rattle.workers.specs.DeviceLock.Alone.{LeavesAlone}
 use Rattle.workers.specs.DeviceLock.declared.entry.Entry.{Entry}
 use Rattle.workers.specs.DeviceLock.History.{IsLegal}
 use Rattle.workers.specs.declared.reports.Report.{Report}
@@ -37,11 +38,18 @@ abbrev pub summary_text : List (List Report) → ℕ → List ℕ
 summary_text reports sent = queue_lines 0 reports
     ++ (codes "sent " ++ (decimal sent ++ codes "\nhistory legal\n"))
 
--- so many frames were sent in a history of the controller that is legal
-abbrev pub IsTold : ℕ → Type 0
-IsTold sent = (history : List Entry) × IsLegal (new_state 0 64) history × (sent ≡ sent_in history)
+-- a history leaves the queue of each of so many workers alone, whose pass has the tag of the queue's number
+abbrev pub AreLeftAlone : ℕ → List Entry → Type 0
+AreLeftAlone workers history =
+    (queue : ℕ) → queue < workers → LeavesAlone (record { vfs = 0; pass = queue; queue = queue }) history
 
--- the summary of so many queues is written, and of a legal history
+-- so many frames were sent in a history of the controller that is legal, and leaves the workers' queues alone
+abbrev pub IsTold : ℕ → ℕ → Type 0
+IsTold workers sent =
+    (history : List Entry) × IsLegal (new_state 0 64) history × AreLeftAlone workers history
+    × (sent ≡ sent_in history)
+
+-- the summary of so many queues is written, and of a legal history that leaves them alone
 abbrev pub Tells : ℕ → Option (List ℕ) → Option (List ℕ) → Type 0
-Tells queues old new = (reports : List (List Report)) × (sent : ℕ) × (length reports ≡ queues) × IsTold sent
+Tells queues old new = (reports : List (List Report)) × (sent : ℕ) × (length reports ≡ queues) × IsTold queues sent
     × Appends old new (summary_text reports sent)

@@ -1,7 +1,7 @@
 //! The run, from options to a status.
 
-ghost use Rattle.std.specs.Prelude.{◌≡◌, ◌≢◌, ◌+◌, ◌≤◌, ◌<◌, ◌⊎◌, IfOk, true, vec_len};
-ghost use Rattle.threads_bench.specs.Summary.{IsTold, Tells};
+ghost use Rattle.std.specs.Prelude.{◌≡◌, ◌≢◌, ◌+◌, ◌≤◌, ◌<◌, ◌⊎◌, ◌↔◌, IsTrue, IfOk, true, vec_len};
+ghost use Rattle.threads_bench.specs.Summary.{AreLeftAlone, IsTold, Tells};
 
 use crate::ending::{end_device, end_jobs, leave};
 use crate::frames::frames;
@@ -15,7 +15,7 @@ use std::io::Write;
 use std::sync::Wait;
 use std::thread::Threads;
 use workers::{
-    CloseRefused, Lockstep, Pass, RunRefused, Shared, ThroughLock, pf_setup, run_workers,
+    CloseRefused, Closed, Lockstep, Pass, RunRefused, Shared, ThroughLock, pf_setup, run_workers,
 };
 
 /// The controller that the workers share.
@@ -88,14 +88,31 @@ fn drive<R: Threads + Wait + Sync>(
     }
 }
 
-/// Closes the history. How many frames were sent in it.
-fn close(bench: Bench, passes: Vec<Pass>) -> Result<usize, Refused>
-    ensures { IfOk result (λ sent. IsTold sent) }
+/// Whether a history leaves the queue of each of so many workers alone: worker `k` has queue `k`, and the pass with the
+/// tag `k`.
+fn are_left_alone(closed: &Closed<0, 64>, workers: u8) -> bool
+    ensures { IsTrue result ↔ AreLeftAlone workers closed.now.history }
+{
+    for worker in 0..workers {
+        if !closed.left_alone(worker, u16::from(worker)) {
+            return false;
+        }
+    }
+    true
+}
+
+/// Closes the history. How many frames were sent in it. Refused where it doesn't leave the workers' queues alone.
+fn close(bench: Bench, passes: Vec<Pass>, workers: u8) -> Result<usize, Refused>
+    ensures { IfOk result (λ sent. IsTold workers sent) }
 {
     match bench.close(passes) {
         Ok(closed) => {
+            let alone = are_left_alone(&closed, workers);
             let sent = sent_in(closed.history());
             end_device(closed.into_device())?;
+            if !alone {
+                return Err(Refused::Other);
+            }
             Ok(sent)
         }
         Err(
@@ -119,12 +136,12 @@ fn run<R: Threads + Wait + Sync>(
     count: u8,
 ) -> Result<Summary, Refused>
     requires { workers ≤ 8 }
-    ensures { IfOk result (λ s. (vec_len s.reports ≡ workers) × IsTold s.sent) }
+    ensures { IfOk result (λ s. (vec_len s.reports ≡ workers) × IsTold workers s.sent) }
 {
     let (bench, passes) = Bench::new(alloc, 0, workers + 1, LIMIT)?;
     match drive(rt, alloc, &bench, passes, workers, count) {
         Ok(Gathered { passes, reports }) => {
-            let sent = close(bench, passes)?;
+            let sent = close(bench, passes, workers)?;
             Ok(Summary { reports, sent })
         }
         Err(refused) => {
@@ -137,11 +154,13 @@ fn run<R: Threads + Wait + Sync>(
 /// Runs workers on a controller that they share, one on each of the queues from 0 on, while so many frames arrive: TCP
 /// over IPv4 and over IPv6 in turn, which RSS parts among the queues. Each worker sends again what it receives. Then it
 /// writes a line for each queue, with how many packets its worker received and how many bytes these have, how many
-/// frames were sent, and that the history of the controller is legal. The status is 0 then.
+/// frames were sent, and that the history of the controller is legal: it leaves each worker's queue alone too, as
+/// `left_alone` tells. The status is 0 then.
 ///
 /// It waits for locks and for the threads. Nothing is written where something is refused, a worker ends with a fault,
-/// or fewer frames arrive: the status is 4 where one of these is for memory, or fewer frames arrive, and else 2. There
-/// are from 1 to 8 workers: with another number the status is 2. Where a write fails it is 2.
+/// its queue isn't left alone, or fewer frames arrive: the status is 4 where one of these is for memory, or fewer
+/// frames arrive, and else 2. There are from 1 to 8 workers: with another number the status is 2. Where a write fails it
+/// is 2.
 pub fn bench_threads<R: Threads + Wait + Sync, W: Write>(
     rt: &R,
     alloc: Global,

@@ -1,0 +1,11 @@
+pub mod Beginning
+pub mod Counted
+pub mod Early
+pub mod Grounded
+pub mod Lived
+pub mod Named
+pub mod Order
+pub mod Refused
+pub mod Standing
+pub mod Telling
+pub mod Walks

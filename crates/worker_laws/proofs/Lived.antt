@@ -1,0 +1,231 @@
+-- A driver that lived: what it left, counted from its first event on.
+use Rattle.std.proofs.Common.{◌≡◌, ℕ, inl, inr, true, false, List, [], ◌∷◌, ◌++◌, Option, sym, ap, ◌∙◌, subst, append_assoc}
+use Rattle.std.specs.Prelude.{IsTrue, IsFalse}
+use Rattle.std.proofs.lemmas.Bool.{both_ways}
+use Rattle.std.proofs.lemmas.List.{append-nil, append_cancel_left, same_from_push}
+use Rattle.nic_device.specs.DmaArena.Numbers.{Numbers}
+use Rattle.nic_device.specs.RegTable.declared.rows.RowId.TheVariants.{Rxdctl}
+use Rattle.nic_device.specs.RegisterFile.Queue.{is_on}
+use Rattle.nic_device.specs.DmaRing.declared.dir.Dir.TheVariants.{Rx, Tx}
+use Rattle.nic_device.specs.State.{State, new_state}
+use Rattle.workers.specs.DeviceLock.History.{call_in, calls_of, leads_to}
+use Rattle.workers.specs.DeviceLock.declared.alone.Watched.{Watched}
+use Rattle.workers.specs.DeviceLock.declared.entry.Call.{Call}
+use Rattle.workers.specs.DeviceLock.declared.entry.Entry.{Entry}
+use Rattle.pmd.specs.PmdSeam.Events.{is_step}
+use Rattle.pmd.specs.PmdSeam.Made.{AreSteps}
+use Rattle.pmd.specs.PmdSeam.Named.{AtPort}
+use Rattle.pmd.specs.PmdSeam.declared.fault.PmdFault.{PmdFault}
+use Rattle.pmd.specs.Driver.{halted_of}
+use Rattle.pmd.specs.Halves.{halves_of}
+use Rattle.pmd.specs.Life.{HasLived}
+use Rattle.pmd.specs.Started.{AreUp, is_size, left_accepted, left_handed}
+use Rattle.pmd.specs.declared.driver.Rings.TheVariants.{Up}
+use Rattle.pmd.specs.declared.start.Rest.{Rest}
+use Rattle.start_laws.specs.ReceiveLaws.Delivered as receive
+use Rattle.start_laws.specs.ReceiveLaws.Delivered.{delivered}
+use Rattle.start_laws.proofs.ReceiveLaws.Delivering.{leads-append}
+use Rattle.start_laws.specs.TransmitLaws.Agreeing.{bytes_of}
+use Rattle.start_laws.specs.TransmitLaws.Laws as transmit
+use Rattle.start_laws.specs.TransmitLaws.Sent.{sent_since}
+use Rattle.start_laws.specs.Along.{IsAlong}
+use Rattle.start_laws.specs.Points.{HasGround}
+use Rattle.start_laws.specs.Quieting.{IsQuiet}
+use Rattle.start_laws.specs.Start.{BeginsWell}
+use Rattle.start_laws.specs.Unused.{WentOn}
+use Rattle.start_laws.proofs.Parts.{Begins, Parts, around, calls_joined, one_begins, parts}
+use Rattle.start_laws.proofs.Quieting.{quieting_leads}
+use Rattle.start_laws.proofs.Start.{start_goes_on}
+use Rattle.pmd_laws.specs.Ends.{IsOver}
+use Rattle.pmd_laws.proofs.Ends.{left_handed_over_stop, left_sent_over_stop, stopped_ends}
+use Rattle.worker_laws.specs.Starts.{JustBefore, Starts}
+use Rattle.worker_laws.proofs.Beginning.{FirstCall, first_read, more_behind, steps_have}
+use Rattle.worker_laws.proofs.Counted.{delivered_from, sent_from}
+use Rattle.worker_laws.proofs.Early.{GoesOn, drives_goes, filling_goes, goes_on, quieted_goes, rising_goes}
+
+module _ (w : Watched) (fifo : ℕ) (h : List Entry) (q : AtPort) (size : ℕ) (old : List Call) (a : Numbers)
+    (new : List Call) (left : Rest) (late : Option PmdFault) (lived : HasLived q size old a new left late)
+    (made : calls_of w.pass h ≡ new) where
+  abbrev up : AreUp q size old a lived.lives.made lived.lives.fresh
+  up = lived.lives.up
+
+  first : FirstCall old up.receive.quiet.0
+  first = first_read q Rxdctl false old up.receive.quiet.0 up.receive.quiet.1
+
+  -- the calls that it made, in parts
+
+  stop_goes : GoesOn lived.made new
+  stop_goes =
+      let (calls, is, are) =
+      stopped_ends q lived.made (halted_of (Up lived.last)) new left late lived.stopped in (calls, is)
+
+  on_goes : GoesOn up.on.mid new
+  on_goes =
+      goes_on up.on.mid lived.lives.made new (filling_goes q size old a lived.lives.made lived.lives.fresh up)
+      (goes_on lived.lives.made lived.made new
+      (drives_goes lived.lives.made lived.made (halves_of lived.lives.fresh) (halves_of lived.last)
+      lived.lives.drives.apart.drives) stop_goes)
+
+  up_goes : GoesOn up.receive.mid up.on.mid
+  up_goes = rising_goes q size old a lived.lives.made lived.lives.fresh up
+
+  off_goes : GoesOn up.receive.quiet.0 up.receive.mid
+  off_goes = quieted_goes q old up.receive.mid up.receive.quiet
+
+  all_goes : GoesOn up.receive.quiet.0 new
+  all_goes =
+      goes_on up.receive.quiet.0 up.receive.mid new off_goes
+      (goes_on up.receive.mid up.on.mid new up_goes on_goes)
+
+  -- so its first entry stands in the history
+  pub starts : Starts w.pass old h
+  starts =
+      let more = all_goes.0 in
+      let x =
+      around w.pass h (old ++ first.steps) first.call more
+      (made ∙ all_goes.1 ∙ more_behind old up.receive.quiet.0 more first
+      ∙ sym (append_assoc old first.steps (first.call ∷ more))) in
+      record {
+        before = x.before;
+        first = x.entry;
+        behind = x.behind;
+        all = x.all;
+        own = x.own;
+        event = ap (λ (c : Call). is_step c.event) x.call ∙ first.event;
+        steps = first.steps;
+        stepped = first.stepped;
+        calls = x.made;
+      }
+
+  module _ (along : IsAlong w fifo h) (sized : is_size size ≡ true)
+      (ground : JustBefore w.vfs fifo w.pass old h (HasGround w.queue q)) where
+    abbrev origin : State
+    origin = new_state w.vfs fifo
+
+    begins : BeginsWell w fifo h q size old a lived.lives.made lived.lives.fresh up
+    begins = record {
+      ground = λ before behind e all own is.
+          let (calls, call) =
+          same_from_push (calls_of w.pass before) (old ++ first.steps) (call_in e) first.call
+          (is ∙ first.is ∙ sym (append_assoc old first.steps (first.call ∷ []))) in
+          ground (record {
+            before = before;
+            first = e;
+            behind = behind;
+            all = all;
+            own = own;
+            event = ap (λ (c : Call). is_step c.event) call ∙ first.event;
+            steps = first.steps;
+            stepped = first.stepped;
+            calls = calls;
+          });
+    }
+
+    over : IsOver w fifo h q size old a new left late lived
+    over = record {
+      along = along;
+      sized = sized;
+      since = stop_goes.0;
+      rest = [];
+      all = stop_goes.1 ∙ sym (append-nil (lived.made ++ stop_goes.0));
+      calls = made ∙ stop_goes.1;
+      begins = begins;
+    }
+
+    -- the history in parts: up to where both sides were seen off, up to where both are on, and from there on
+
+    both_on : Parts w.pass h up.on.mid on_goes.0
+    both_on = parts w.pass h up.on.mid on_goes.0 (made ∙ on_goes.1)
+
+    both_off : Parts w.pass both_on.front up.receive.mid up_goes.0
+    both_off = parts w.pass both_on.front up.receive.mid up_goes.0 (both_on.fronts ∙ up_goes.1)
+
+    abbrev rest : List Entry
+    rest = both_off.back ++ both_on.back
+
+    whole : both_off.front ++ rest ≡ h
+    whole =
+        sym (append_assoc both_off.front both_off.back both_on.back)
+        ∙ ap (λ (l : List Entry). l ++ both_on.back) both_off.both ∙ both_on.both
+
+    quiet : IsQuiet w.queue q (leads_to origin both_off.front)
+    quiet =
+        quieting_leads w q fifo h old up.receive.mid along up.receive.quiet begins.ground both_off.front rest whole
+        both_off.fronts
+
+    went_on : WentOn w.queue origin both_on.front
+    went_on =
+        start_goes_on w fifo h q size old a lived.lives.made lived.lives.fresh up along sized begins both_on.front
+        both_on.back both_on.both both_on.fronts
+
+    module _ (x : Starts w.pass old h) where
+      -- its first entry comes before it saw both sides off
+
+      not_behind : Begins both_off.front x.before → ⊥
+      not_behind (back, is) =
+          let (more, all) =
+          goes_on up.receive.quiet.0 up.receive.mid (calls_of w.pass x.before) off_goes (
+            calls_of w.pass back,
+            sym (ap (calls_of w.pass) is) ∙ calls_joined w.pass both_off.front back
+                ∙ ap (λ (l : List Call). l ++ calls_of w.pass back) both_off.fronts,
+          ) in
+          let same : x.steps ≡ first.steps ++ first.call ∷ more =
+          append_cancel_left old x.steps (first.steps ++ first.call ∷ more)
+          (sym x.calls ∙ all ∙ more_behind old up.receive.quiet.0 more first) in
+          both_ways _ first.event (steps_have first.steps first.call more (subst AreSteps same x.stepped))
+
+      begun : Begins x.before both_off.front
+      begun =
+          elim (one_begins x.before (x.first ∷ x.behind) both_off.front rest (x.all ∙ sym whole))
+          as (λ _. Begins x.before both_off.front) [
+            | inl before ↦ before
+            | inr behind ↦ absurd (not_behind behind)
+          ]
+
+      from_first : x.first ∷ x.behind ≡ begun.0 ++ rest
+      from_first =
+          append_cancel_left x.before (x.first ∷ x.behind) (begun.0 ++ rest)
+          (x.all ∙ sym whole ∙ ap (λ (l : List Entry). l ++ rest) (sym begun.1) ∙ append_assoc x.before begun.0 rest)
+
+      in_parts : (x.before ++ begun.0) ++ rest ≡ h
+      in_parts = ap (λ (l : List Entry). l ++ rest) begun.1 ∙ whole
+
+      abbrev off_at : State
+      off_at = leads_to origin (x.before ++ begun.0)
+
+      there : leads_to origin both_on.front ≡ leads_to off_at both_off.back
+      there =
+          ap (leads_to origin)
+          (sym (ap (λ (l : List Entry). l ++ both_off.back) begun.1 ∙ both_off.both))
+          ∙ leads-append origin (x.before ++ begun.0) both_off.back
+
+      received : delivered w.queue origin h ≡ delivered w.queue (leads_to origin x.before) (x.first ∷ x.behind)
+      received =
+          ap (delivered w.queue origin) (sym in_parts)
+          ∙ delivered_from w.queue origin x.before begun.0 both_off.back both_on.back
+          (subst (λ (l : List Entry). IsFalse (is_on (leads_to origin l).registers Rx w.queue)) (sym begun.1)
+          quiet.receive.off)
+          (subst (λ (s : State). IsTrue (is_on s.registers Rx w.queue)) there went_on.receives.on)
+          ∙ ap (delivered w.queue (leads_to origin x.before)) (sym from_first)
+
+      counted : sent_since w.queue origin [] h
+          ≡ sent_since w.queue (leads_to origin x.before) [] (x.first ∷ x.behind)
+      counted =
+          ap (sent_since w.queue origin []) (sym in_parts)
+          ∙ sent_from w.queue origin x.before begun.0 both_off.back both_on.back
+          (subst (λ (l : List Entry). IsFalse (is_on (leads_to origin l).registers Tx w.queue)) (sym begun.1)
+          quiet.transmit.off)
+          (subst (λ (s : State). IsTrue (is_on s.registers Tx w.queue)) there went_on.sends.on)
+          ∙ ap (sent_since w.queue (leads_to origin x.before) []) (sym from_first)
+
+      pub handed_since : receive.IsPrefixOf (left_handed left)
+          (delivered w.queue (leads_to origin x.before) (x.first ∷ x.behind))
+      handed_since =
+          subst (receive.IsPrefixOf (left_handed left)) received
+          (left_handed_over_stop w fifo h q size old a new left late lived over)
+
+      pub sent_on : transmit.IsPrefixOf (sent_since w.queue (leads_to origin x.before) [] (x.first ∷ x.behind))
+          (bytes_of (left_accepted left))
+      sent_on =
+          subst (λ (sent : List (List ℕ)). transmit.IsPrefixOf sent (bytes_of (left_accepted left))) counted
+          (left_sent_over_stop w fifo h q size old a new left late lived over)

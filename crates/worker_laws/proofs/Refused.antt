@@ -1,0 +1,57 @@
+-- A driver whose start was refused: what it left, counted from its first event on.
+use Rattle.std.proofs.Common.{◌≡◌, ℕ, List, [], ◌∷◌, ◌++◌, sym, ◌∙◌}
+use Rattle.std.proofs.lemmas.List.{append-nil}
+use Rattle.nic_device.specs.DmaArena.Numbers.{Numbers}
+use Rattle.nic_device.specs.State.{new_state}
+use Rattle.workers.specs.DeviceLock.History.{call_in, calls_of, leads_to}
+use Rattle.workers.specs.DeviceLock.declared.alone.Watched.{Watched}
+use Rattle.workers.specs.DeviceLock.declared.entry.Call.{Call}
+use Rattle.workers.specs.DeviceLock.declared.entry.Entry.{Entry}
+use Rattle.pmd.specs.PmdSeam.Named.{AtPort}
+use Rattle.pmd.specs.Life.{NeverLived}
+use Rattle.pmd.specs.Started.{left_accepted, left_handed}
+use Rattle.pmd.specs.declared.start.Rest.{Rest}
+use Rattle.pmd.specs.declared.start.StartRefused.{StartRefused}
+use Rattle.start_laws.specs.ReceiveLaws.Delivered as receive
+use Rattle.start_laws.specs.ReceiveLaws.Delivered.{delivered}
+use Rattle.start_laws.specs.TransmitLaws.Agreeing.{bytes_of}
+use Rattle.start_laws.specs.TransmitLaws.Laws as transmit
+use Rattle.start_laws.specs.TransmitLaws.Sent.{sent_since}
+use Rattle.start_laws.specs.Along.{IsAlong}
+use Rattle.start_laws.specs.Quieting.{IsQuiet}
+use Rattle.pmd_laws.specs.Refused.{IsRefused}
+use Rattle.pmd_laws.proofs.Refused.{left_of_refused_is_prefix}
+use Rattle.worker_laws.specs.Starts.{Starts}
+use Rattle.worker_laws.proofs.Beginning.{calls_from}
+
+module _ (w : Watched) (fifo : ℕ) (h : List Entry) (q : AtPort) (size : ℕ) (old : List Call) (a : Numbers)
+    (e : StartRefused) (new : List Call) (left : Rest) (never : NeverLived q size old a e new left)
+    (made : calls_of w.pass h ≡ new) (along : IsAlong w fifo h) (x : Starts w.pass old h)
+    (quiet : IsQuiet w.queue q (leads_to (new_state w.vfs fifo) x.before)) where
+  abbrev since : List Call
+  since = x.steps ++ call_in x.first ∷ calls_of w.pass x.behind
+
+  refused : IsRefused w fifo h q old new x.before x.first x.behind
+  refused = record {
+    along = along;
+    begins = record {
+      all = x.all;
+      own = x.own;
+      steps = x.steps;
+      stepped = x.stepped;
+      calls = x.calls;
+      quiet = quiet;
+    };
+    since = since;
+    rest = [];
+    all = sym made ∙ calls_from w.pass old h x ∙ sym (append-nil (old ++ since));
+    calls = calls_from w.pass old h x;
+  }
+
+  pub nothing_left : receive.IsPrefixOf (left_handed left)
+      (delivered w.queue (leads_to (new_state w.vfs fifo) x.before) (x.first ∷ x.behind))
+      × transmit.IsPrefixOf
+      (sent_since w.queue (leads_to (new_state w.vfs fifo) x.before) [] (x.first ∷ x.behind))
+      (bytes_of (left_accepted left))
+  nothing_left =
+      left_of_refused_is_prefix w fifo h q size old a e new left x.before x.first x.behind never refused

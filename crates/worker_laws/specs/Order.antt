@@ -1,0 +1,107 @@
+-- What the end of a worker says of the history in which its pass was closed.
+use Rattle.std.specs.Prelude.{ℕ, ◌≡◌, ◌⊎◌, ◌<◌, ◌≤◌, true, List, [], ◌∷◌, ◌++◌, length, Contains, None}
+use Rattle.nic_device.specs.RegisterFile.Settings.{frame_limit}
+use Rattle.nic_device.specs.State.{new_state}
+use Rattle.pmd.specs.PmdSeam.Named.{AtPort}
+use Rattle.pmd.specs.Started.{is_size, left_accepted, left_handed}
+use Rattle.start_laws.specs.ReceiveLaws.Delivered as receive
+use Rattle.start_laws.specs.ReceiveLaws.Delivered.{delivered}
+use Rattle.start_laws.specs.TransmitLaws.Agreeing.{bytes_of}
+use Rattle.start_laws.specs.TransmitLaws.Laws as transmit
+use Rattle.start_laws.specs.TransmitLaws.Sent.{sent_since}
+use Rattle.start_laws.specs.Quieting.{IsQuiet}
+use Rattle.workers.specs.DeviceLock.Alone.{LeavesAlone}
+use Rattle.workers.specs.DeviceLock.Closing.{Closes}
+use Rattle.workers.specs.DeviceLock.History.{AreEvents, IsLegal, calls_of, leads_to}
+use Rattle.workers.specs.DeviceLock.Pass.{PassValue}
+use Rattle.workers.specs.DeviceLock.declared.entry.Call.{Call}
+use Rattle.workers.specs.DeviceLock.declared.entry.Entry.{Entry}
+use Rattle.workers.specs.Ends.{AreEnds}
+use Rattle.workers.specs.declared.ends.WorkerEnd.{WorkerEnd}
+use Rattle.workers.specs.declared.job.Job.{Job}
+use Rattle.worker_laws.specs.Naming.{NamesAtStart}
+use Rattle.worker_laws.specs.Starts.{JustBefore, Starts}
+
+-- the queue of a job, as its port numbers it
+abbrev pub queue_of : Job → AtPort
+queue_of j = record { port = j.port; queue = j.queue }
+
+-- a job is among some, and an end at its place among others
+abbrev pub IsEndAmong : List Job → List WorkerEnd → Job → WorkerEnd → Type 0
+IsEndAmong [] ends j e = ⊥
+IsEndAmong (k ∷ jobs) [] j e = ⊥
+IsEndAmong (k ∷ jobs) (f ∷ ends) j e = ((j ≡ k) × (e ≡ f)) ⊎ IsEndAmong jobs ends j e
+
+-- a pass is among some, with the calls that it had, and maybe more behind them
+pub record IsAmong (ps : List PassValue) (pass : PassValue) : Type 0 where
+  pub later : PassValue
+  pub among : Contains ps later
+  pub tag : later.tag ≡ pass.tag
+  pub more : List Call
+  pub calls : later.calls ≡ pass.calls ++ more
+
+-- the entries of a history up to where a pass had made just these calls
+pub record UpTo (tag : ℕ) (h : List Entry) (calls : List Call) : Type 0 where
+  pub done : List Entry
+  pub rest : List Entry
+  pub all : done ++ rest ≡ h
+  pub made : calls_of tag done ≡ calls
+
+-- where there are some, the last of them is the pass's own
+abbrev pub EndOwn : ℕ → List Entry → Type 0
+EndOwn tag done = (before : List Entry) (e : Entry) → before ++ e ∷ [] ≡ done → e.pass ≡ tag
+
+-- where passes close a history, the calls that one of them had stand in it, up to the last of them
+abbrev pub CallsStand : Type 0
+CallsStand =
+    (bench count : ℕ) (h : List Entry) (ps : List PassValue) (pass : PassValue) → Closes bench count h ps →
+    IsAmong ps pass → (u : UpTo pass.tag h pass.calls) × EndOwn pass.tag u.done
+
+-- a job's end, and the history of a device of so many virtual functions that takes so many frames
+pub record IsEndIn (vfs fifo : ℕ) (h : List Entry) (j : Job) (e : WorkerEnd) : Type 0 where
+  -- as `Shared::new` asks
+  pub device : (vfs ≤ 63) × (0 < fifo) × (fifo ≤ 4096)
+  -- `run_workers` tells `ends` of these jobs and ends
+  pub jobs : List Job
+  pub ran : List WorkerEnd
+  pub ends : AreEnds jobs ran
+  pub among : IsEndAmong jobs ran j e
+  -- `history` of the closed device tells these
+  pub legal : IsLegal (new_state vfs fifo) h
+  pub events : AreEvents h
+  -- its `left_alone` tells this, where it answers so of the end's pass and the job's queue
+  pub alone : LeavesAlone (record { vfs = vfs; pass = e.pass.tag; queue = j.pf_queue }) h
+  -- a ring can have so many descriptors
+  pub sized : is_size j.size ≡ true
+  -- just before the driver's first event port and queue name the job's queue, as `names_at_start` tells; and frames
+  -- are short
+  pub names :
+      NamesAtStart (record { vfs = vfs; pass = e.pass.tag; queue = j.pf_queue }) (length j.pass.calls) j.port j.queue h
+  pub short : JustBefore vfs fifo e.pass.tag j.pass.calls h (λ s. frame_limit s.registers ≡ 1514)
+  -- the end has no fault, or both sides of the queue are off there and not wanted on
+  pub quiet : (e.fault ≡ None) ⊎ JustBefore vfs fifo e.pass.tag j.pass.calls h (IsQuiet j.pf_queue (queue_of j))
+
+-- up to where the end's pass had made just its calls, the driver has a first entry; or it left nothing
+abbrev pub NoneIsLeft : Type 0
+NoneIsLeft =
+    (vfs fifo : ℕ) (h : List Entry) (j : Job) (e : WorkerEnd) → IsEndIn vfs fifo h j e →
+    (u : UpTo e.pass.tag h e.pass.calls) →
+    Starts e.pass.tag j.pass.calls u.done ⊎ ((left_handed e.rest ≡ []) × (left_accepted e.rest ≡ []))
+
+-- what the end tells as handed out is a prefix of what was delivered on the queue from that entry on, counted since the
+-- receive side went on
+abbrev pub HandedIsPrefix : Type 0
+HandedIsPrefix =
+    (vfs fifo : ℕ) (h : List Entry) (j : Job) (e : WorkerEnd) → IsEndIn vfs fifo h j e →
+    (u : UpTo e.pass.tag h e.pass.calls) (x : Starts e.pass.tag j.pass.calls u.done) →
+    receive.IsPrefixOf (left_handed e.rest)
+    (delivered j.pf_queue (leads_to (new_state vfs fifo) x.before) (x.first ∷ x.behind))
+
+-- and what was sent on the queue from that entry on, counted since the transmit side went on, is a prefix of what the
+-- end tells as accepted
+abbrev pub SentIsPrefix : Type 0
+SentIsPrefix =
+    (vfs fifo : ℕ) (h : List Entry) (j : Job) (e : WorkerEnd) → IsEndIn vfs fifo h j e →
+    (u : UpTo e.pass.tag h e.pass.calls) (x : Starts e.pass.tag j.pass.calls u.done) →
+    transmit.IsPrefixOf (sent_since j.pf_queue (leads_to (new_state vfs fifo) x.before) [] (x.first ∷ x.behind))
+    (bytes_of (left_accepted e.rest))

@@ -1,5 +1,5 @@
 -- The laws of runs.
-use Rattle.std.proofs.Common.{◌≡◌, ℕ, zero, suc, ◌+◌, ◌<◌, ◌≤◌, ◌⊎◌, inl, inr, Bool, true, false, cond, eqb, Option, Some, None, List, ◌∷◌, ◌++◌, refl, sym, ap, ◌∙◌, arith}
+use Rattle.std.proofs.Common.{◌≡◌, ℕ, zero, suc, ◌+◌, ◌-◌, ◌<◌, ◌≤◌, ◌⊎◌, inl, inr, Bool, true, false, cond, eqb, Option, Some, None, List, ◌∷◌, ◌++◌, refl, sym, ap, ◌∙◌, arith}
 use Rattle.std.proofs.lemmas.Bool.{cases_lt, cases_eq}
 use Rattle.std.proofs.lemmas.List.Sums.{sum_by-append, sum_by-cons}
 use Rattle.dma_arena.specs.Memory.{Memory}
@@ -78,15 +78,15 @@ lowest_found a count first some found = record {
   free = found_free a count first found;
   lowest = λ number lt.
       by_own a number count (is_own a number) some refl (λ own.
-      passed a count a.first (count_of a) first number (are_free a a.first count) refl found
+      passed a count a.first (a.first + count_of a - a.first) first number (are_free a a.first count) refl found
       (own_within a number own).0 lt);
 }
 
 none_found : (a : Numbers) (count number : ℕ) → 0 < count → run_in a count ≡ None → IsNoRun a number count
 none_found a count number some none =
     by_own a number count (is_own a number) some refl (λ own.
-    nowhere a count a.first (count_of a) number (are_free a a.first count) refl none
-    (own_within a number own).0 (own_within a number own).1)
+    nowhere a count a.first (a.first + count_of a - a.first) number (are_free a a.first count) refl none
+    (own_within a number own).0 (omega (arith, (own_within a number own).1)))
 
 -- not both
 torn : (a : Numbers) (first count : ℕ) → IsFreeRun a first count → IsNoRun a first count → ⊥

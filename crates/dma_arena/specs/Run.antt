@@ -1,4 +1,4 @@
-use Rattle.std.specs.Prelude.{◌≡◌, ℕ, zero, suc, ◌+◌, ◌<◌, ◌≤◌, Bool, true, false, ◌&&◌, Option, Some, None, List, [], ◌∷◌, length, slice_index_or, if◌then◌else◌}
+use Rattle.std.specs.Prelude.{◌≡◌, ℕ, zero, suc, ◌+◌, ◌-◌, ◌<◌, ◌≤◌, Bool, true, false, ◌&&◌, Option, Some, None, List, [], ◌∷◌, length, slice_index_or, if◌then◌else◌}
 use Rattle.dma_arena.specs.Block.{Block, zero_block}
 use Rattle.dma_arena.specs.Numbers.{Numbers, count_of, is_free, with_free}
 
@@ -18,9 +18,13 @@ run_from a count number zero = None
 run_from a count number (suc left) =
     if are_free a number count then Some number else run_from a count (number + 1) left
 
+-- the lowest number of the arena, from this one on, from which so many of its blocks are free
+abbrev pub run_behind : Numbers → ℕ → ℕ → Option ℕ
+run_behind a count from = run_from a count from (a.first + count_of a - from)
+
 -- the lowest number of the arena from which so many of its blocks are free
 abbrev pub run_in : Numbers → ℕ → Option ℕ
-run_in a count = run_from a count a.first (count_of a)
+run_in a count = run_behind a count a.first
 
 -- the arena without the `count` numbers from `first` on
 unfoldable pub without_run : Numbers → ℕ → ℕ → Numbers

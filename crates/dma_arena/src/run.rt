@@ -3,7 +3,7 @@
 ghost use Rattle.std.specs.Prelude.{ℕ, ◌≡◌, ◌↔◌, ◌+◌, ◌-◌, ◌<◌, ◌≤◌, None, option_map, slice_index_or, IfErr, IfSome, IfNone, IsNone, IsOk, OnSome};
 ghost use Rattle.dma_arena.specs.Block.{zero_block};
 ghost use Rattle.dma_arena.specs.Numbers.{count_of, is_free};
-ghost use Rattle.dma_arena.specs.Run.{run_in, are_free, without_run};
+ghost use Rattle.dma_arena.specs.Run.{run_in, run_behind, are_free, without_run};
 
 use crate::arena::Arena;
 use crate::buf::Buf;
@@ -104,6 +104,24 @@ impl Run {
 }
 
 impl Arena {
+    /// The lowest number, from `from` on, from which `count` blocks are free. None exactly where there is none. `from`
+    /// isn't below the arena's numbers.
+    pub fn find_run(&self, from: u32, count: u32) -> Option<u32>
+        requires from { self.now.first ≤ from }
+        requires few { count ≤ 8 }
+        ensures run { result ≡ run_behind self.now count from }
+        ensures found { IfSome result (λ first. (from ≤ first) × (first + count ≤ 65536)) }
+    {
+        let mut number = from;
+        while self.owns(number) {
+            if are_free(self, number, count) {
+                return Some(number);
+            }
+            number += 1;
+        }
+        None
+    }
+
     /// Takes the lowest run of `count` free blocks, of whose bytes each is 0: blocks whose numbers follow one another.
     /// None exactly where no such blocks are free. It takes no memory.
     pub fn take_run(&mut self, count: u32) -> Option<Run>
@@ -113,7 +131,7 @@ impl Arena {
         ensures taken { IfSome result (λ r. self.new ≡ without_run self.old r.first count) }
         ensures kept { IfNone result (self.new ≡ self.old) }
     {
-        let first = lowest_run(self, count)?;
+        let first = self.find_run(self.first(), count)?;
         let mut run = Run::empty(first);
         for k in 0..count {
             match self.take_at(first + k) {
@@ -148,22 +166,6 @@ fn nothing_left(slots: [Option<Buf>; RUN_BLOCKS])
     nothing(f);
     nothing(g);
     nothing(h);
-}
-
-/// The lowest number from which so many blocks are free.
-fn lowest_run(arena: &Arena, count: u32) -> Option<u32>
-    requires { count ≤ 8 }
-    ensures run { result ≡ run_in arena.now count }
-    ensures small { IfSome result (λ first. first + count ≤ 65536) }
-{
-    let mut number = arena.first();
-    while arena.owns(number) {
-        if are_free(arena, number, count) {
-            return Some(number);
-        }
-        number += 1;
-    }
-    None
 }
 
 /// Whether each of the `count` blocks from `first` on is free.

@@ -1,7 +1,7 @@
-use Rattle.std.proofs.Common.{◌≡◌, ◌+◌, true, false, refl, sym, ap, ◌∙◌, arith}
+use Rattle.std.proofs.Common.{◌≡◌, ◌+◌, true, false, Some, refl, sym, ap, ◌∙◌, arith}
 use Rattle.dma_arena.specs.Numbers.{Numbers, is_free, with_free}
-use Rattle.dma_arena.specs.Run.{BlockRun}
-use Rattle.dma_arena.proofs.Runs.{found_free, next_free, without_run-none, without_run-more}
+use Rattle.dma_arena.specs.Run.{BlockRun, run_behind, run_in}
+use Rattle.dma_arena.proofs.Runs.{found_behind, next_free, without_run-none, without_run-more}
 use Rattle.dma_arena.proofs.arena.Arena.take_run.Goals as goal
 
 pub loop-k-init : goal.loop-k-init
@@ -21,7 +21,8 @@ pub unreachable-requires : goal.unreachable-requires
 unreachable-requires c =
     let free : is_free c.loop-k.self (c.in_ok-first.first + c.loop-k.k) ≡ true =
     rw c.loop-k.invariant.taken (next_free c.args.self.now c.in_ok-first.first c.args.count c.loop-k.k
-    (found_free c.args.self.now c.args.count c.in_ok-first.first (sym c.in_ok-first.ensures.run)) c.loop-k-test.true) in
+    (found_behind c.args.self.now c.args.count c.first.result c.in_ok-first.first (sym c.in_ok-first.ensures.run))
+    c.loop-k-test.true) in
     let taken : is_free c.loop-k.self (c.in_ok-first.first + c.loop-k.k) ≡ false = c.in-None.ensures.none.0 refl in
     cc
 
@@ -40,10 +41,12 @@ loop-k-preserved c = record {
 pub returns-clause-run : goal.returns-clause-run
 returns-clause-run c =
     let e : c.loop-k.k ≡ c.args.count = omega (arith, c.loop-k-test.false, c.loop-k.auto.k-end) in
-    rw (c.loop-k.invariant.run, e, ← c.in_ok-first.ensures.run) refl
+    let found : run_in c.args.self.now c.args.count ≡ Some c.in_ok-first.first =
+    ap (λ from. run_behind c.args.self.now c.args.count from) (sym c.first.ensures) ∙ sym c.in_ok-first.ensures.run in
+    rw (c.loop-k.invariant.run, e, found) refl
 
 pub returns-clause-small : goal.returns-clause-small
-returns-clause-small c = rw c.loop-k.invariant.run c.in_ok-first.ensures.small
+returns-clause-small c = rw c.loop-k.invariant.run c.in_ok-first.ensures.found.1
 
 pub returns-clause-taken : goal.returns-clause-taken
 returns-clause-taken c =

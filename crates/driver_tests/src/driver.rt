@@ -85,6 +85,54 @@ fn two_hundred_frames_go_through_a_ring_of_eight(rt: HostRuntime) {
     }
 }
 
+/// How many blocks are free, so many at most.
+fn free_blocks(rt: &impl Hand, pmd: &mut Pmd, most: u32) -> u32 {
+    if most == 0 {
+        return 0;
+    }
+    match pmd.packet(60) {
+        Some(packet) => {
+            let more = free_blocks(rt, pmd, most - 1);
+            done(rt, pmd.release(packet));
+            more.saturating_add(1)
+        }
+        None => 0,
+    }
+}
+
+/// Each ring has two blocks, and 255 are posted. The frames go round both rings more than twice.
+#[test]
+fn six_hundred_frames_go_through_a_ring_of_256(rt: HostRuntime) {
+    let mut direct = opened(&rt, 64, 0);
+    let arena = done(&rt, Arena::new(rt.alloc(), 0, 320));
+    let start = Pmd::start(rt.alloc(), &mut direct, Port::Pf, 0, 256, arena);
+    let mut pmd = done(&rt, start);
+    assert_eq!(rt; free_blocks(&rt, &mut pmd, 100), 61);
+    for first in (0..600_u16).step_by(5) {
+        five_frames(&rt, &mut direct, &mut pmd, first);
+    }
+    assert_eq!(rt; free_blocks(&rt, &mut pmd, 100), 61);
+    assert!(rt; stop(&rt, &mut direct, pmd) == (600, 600));
+    let frames = end(&rt, in_hand(direct));
+    assert_eq!(rt; frames.len(), 600);
+    for (number, (_port, bytes)) in (0..600_u16).zip(frames.iter()) {
+        assert!(rt; bytes.bytes() == frame_of(&rt, number).as_slice());
+    }
+}
+
+/// The longest rings have eight blocks each.
+#[test]
+fn five_frames_go_through_a_ring_of_1024(rt: HostRuntime) {
+    let mut direct = opened(&rt, 64, 0);
+    let arena = done(&rt, Arena::new(rt.alloc(), 0, 1048));
+    let start = Pmd::start(rt.alloc(), &mut direct, Port::Pf, 0, 1024, arena);
+    let mut pmd = done(&rt, start);
+    assert_eq!(rt; free_blocks(&rt, &mut pmd, 100), 9);
+    five_frames(&rt, &mut direct, &mut pmd, 0);
+    assert!(rt; stop(&rt, &mut direct, pmd) == (5, 5));
+    end(&rt, in_hand(direct));
+}
+
 /// What is stepped before each call.
 #[derive(Clone, Copy)]
 enum Steps {
@@ -95,8 +143,11 @@ enum Steps {
 /// Starts on queue 0 that are refused: by what name, what is stepped, the size of a ring, the blocks, as first and
 /// count, why, and whether blocks are lent by then.
 #[rattlefmt::skip]
-const STARTS: [(&str, Steps, u16, (u32, u32), Why, bool); 4] = [
+const STARTS: [(&str, Steps, u16, (u32, u32), Why, bool); 7] = [
     ("a ring of twelve is of no size", Steps::OnQueue(0), 12, (4, 32), Why::BadSize, false),
+    ("a ring of 1,032 is of no size", Steps::OnQueue(0), 1032, (0, 2048), Why::BadSize, false),
+    ("258 blocks are too few for a ring of 256", Steps::OnQueue(0), 256, (0, 258), Why::NoBuffer, false),
+    ("a long ring on a queue beside which another is stepped on", Steps::OnQueue(5), 256, (0, 259), Why::StartTimeout, true),
     ("eight blocks are too few for a ring of eight", Steps::OnQueue(0), 8, (0, 8), Why::NoBuffer, false),
     ("a queue beside which another is stepped on", Steps::OnQueue(5), 8, (4, 32), Why::StartTimeout, true),
     ("a queue that is never stepped", Steps::Nothing, 8, (4, 32), Why::StartTimeout, true),

@@ -1,6 +1,5 @@
 -- Runs of free blocks, searched for.
-use Rattle.std.proofs.Common.{◌≡◌, ℕ, zero, suc, ◌+◌, ◌-◌, ◌<◌, ◌≤◌, ◌&&◌, Bool, true, false, inl, inr, Option, Some, None, refl, sym, ◌∙◌, arith}
-use Rattle.std.specs.Prelude.{is_some}
+use Rattle.std.proofs.Common.{◌≡◌, ℕ, zero, suc, ◌+◌, ◌-◌, ◌<◌, ◌≤◌, ◌&&◌, true, false, inl, inr, Some, None, refl, sym, ◌∙◌, arith}
 use Rattle.std.proofs.lemmas.Bool.{and_parts, cases_lt, cases_Bool}
 use Rattle.nic_device.specs.DmaArena.Numbers.{Numbers, count_of, is_own, is_free, IsArena}
 use Rattle.nic_device.proofs.DmaArena.Owned.{own_within, own_of_within, is_own-of_free}

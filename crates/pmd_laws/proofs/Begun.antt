@@ -1,7 +1,6 @@
 -- The halves as both sides of a queue are on: each has lent its ring's blocks, and no other.
-use Rattle.std.proofs.Common.{◌≡◌, ◌≢◌, ℕ, ◌+◌, ◌<◌, inl, inr, true, false, List, [], ◌∷◌, ◌++◌, refl, sym, ap, ◌∙◌, subst, arith}
-use Rattle.std.specs.Prelude.{IsTrue, ◌==◌}
-use Rattle.std.specs.List.{list_any}
+use Rattle.std.proofs.Common.{◌≡◌, ◌≢◌, ℕ, ◌<◌, inl, inr, true, false, List, [], ◌∷◌, ◌++◌, refl, sym, ◌∙◌, subst, arith}
+use Rattle.std.specs.Prelude.{IsTrue}
 use Rattle.std.proofs.lemmas.Bool.{both_ways, cases_eq, or_cases}
 use Rattle.nic_device.specs.DmaArena.Numbers.{Numbers, is_free, with_free}
 use Rattle.nic_device.specs.DmaArena.Whereabouts.{times_in_hand}

@@ -1,5 +1,5 @@
 -- A start that was refused laid out an empty transmit ring so far.
-use Rattle.std.proofs.Common.{◌≡◌, ℕ, inl, inr, true, List, refl, subst}
+use Rattle.std.proofs.Common.{◌≡◌, ℕ, inl, inr, true, List, subst}
 use Rattle.nic_device.specs.DmaArena.Numbers.{Numbers}
 use Rattle.nic_device.specs.DmaRing.declared.dir.Dir.TheVariants.{Tx}
 use Rattle.device_lock.specs.declared.entry.Call.{Call}

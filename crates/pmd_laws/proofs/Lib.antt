@@ -28,6 +28,7 @@ pub mod Plain
 pub mod Refused
 pub mod RefusedCalls
 pub mod RiseCalls
+pub mod Room
 pub mod RunsOn
 pub mod SickCall
 pub mod Silent

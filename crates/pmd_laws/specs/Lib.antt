@@ -7,6 +7,7 @@ pub mod Looks
 pub mod Order
 pub mod Places
 pub mod Refused
+pub mod Room
 pub mod Silent
 pub mod Stopped
 pub mod Told

@@ -7,7 +7,7 @@
 //! where it finds one waiting; `specs/Places` says where its blocks are at the device, and `specs/FullRing` how many
 //! packets are outstanding where its ring is full. `specs/Ends` says what holds of what a stopped driver left,
 //! `specs/Stopped` what over the calls of its stop, and `specs/Silent` once these have switched its queue off;
-//! `specs/Refused` what holds where its start was refused.
+//! `specs/Refused` what holds where its start was refused, and `specs/Room` where an arena has room for its rings.
 #![tactic(auto)]
 
 ghost use Rattle.pmd_laws.specs.Ends.{HandedOverStop, LeftIsPrefix, SentOverStop};
@@ -18,6 +18,7 @@ ghost use Rattle.pmd_laws.specs.Looks.{CallsEnd, NoneIsAllBefore};
 ghost use Rattle.pmd_laws.specs.Order.{HandedIsPrefix, NoneIsAll, SentIsPrefix, IdleIsAllSent};
 ghost use Rattle.pmd_laws.specs.Places.{BooksGoOn, EachInOnePlace, LentIsOut, OutIsLent};
 ghost use Rattle.pmd_laws.specs.Refused.{LeftOfRefusedIsPrefix, RefusedSendsNothing};
+ghost use Rattle.pmd_laws.specs.Room.{TwoRunsAreFound};
 ghost use Rattle.pmd_laws.specs.Silent.{SilentOnceOff, SilentOverStop};
 ghost use Rattle.pmd_laws.specs.Stopped as stopped;
 ghost use Rattle.pmd_laws.specs.Told as told;
@@ -158,4 +159,9 @@ pub fn stops_take_blocks_once_off()
 pub fn switched_off_queue_is_silent()
     ensures once { SilentOnceOff }
     ensures over { SilentOverStop }
+{}
+
+/// A start finds two runs of so many free blocks exactly where there are two that share none.
+pub fn two_runs_are_found()
+    ensures { TwoRunsAreFound }
 {}

@@ -1,6 +1,5 @@
-use Rattle.std.proofs.Common.{◌≡◌, ℕ, ◌+◌, ◌-◌, ◌<◌, true, false, sym, ap, ◌∙◌, arith}
+use Rattle.std.proofs.Common.{◌≡◌, ◌+◌, ◌-◌, true, sym, ◌∙◌, arith}
 use Rattle.nic_device.specs.DmaArena.Numbers.{count_of, is_own}
-use Rattle.pmd.specs.Runs.{run_among}
 use Rattle.nic_device.proofs.DmaArena.Owned.{own_within}
 use Rattle.pmd.proofs.Searching.{among-none, among-here, among-next, run_within, past_end}
 use Rattle.pmd.proofs.runs.run_from.Goals as goal

@@ -1,4 +1,4 @@
-use Rattle.std.proofs.Common.{ℕ, List, ◌<◌, ◌++◌, ◌∷◌, length, None, [], arith}
+use Rattle.std.proofs.Common.{ℕ, List, ◌<◌, ◌++◌, length, None, [], arith}
 use Rattle.pmd_rx.proofs.PmdSeam.Outside.{out_fewer, times-append}
 use Rattle.pmd.proofs.Few.{out_few}
 use Rattle.pmd.proofs.HaltedBlocks.{first_halted}

@@ -16,7 +16,7 @@ use Rattle.pmd_rx.specs.PmdSeam.QueueMade.{StopsBy}
 use Rattle.pmd_rx.specs.PmdSeam.Sides.{ring_words}
 use Rattle.pmd_rx.specs.PmdSeam.declared.fault.PmdFault.{PmdFault}
 use Rattle.pmd_rx.specs.PmdSeam.declared.fault.PmdFault.TheVariants as fault
-use Rattle.pmd.specs.Runs.{IsFreeRun}
+use Rattle.nic_device.specs.DmaArena.Run.{IsFreeRun}
 use Rattle.pmd.specs.Starting.{LendsEach, LendingFails, StopsLending}
 use Rattle.pmd.proofs.Starting.{drawn_keeps, none_behind}
 

@@ -21,7 +21,6 @@ pub mod Lending
 pub mod Living
 pub mod ReapedCounted
 pub mod Rising
-pub mod Searching
 pub mod Sending
 pub mod Sent
 pub mod SentCounted

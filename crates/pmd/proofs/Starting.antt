@@ -18,7 +18,7 @@ use Rattle.pmd_rx.specs.Keeping.{Keeps, blocks_out}
 use Rattle.pmd_rx.specs.Receive.{Receive, Looks}
 use Rattle.pmd_tx.specs.Leaving.{lent_of}
 use Rattle.pmd_tx.specs.Sending.{Sender}
-use Rattle.pmd.specs.Runs.{IsFreeRun}
+use Rattle.nic_device.specs.DmaArena.Run.{IsFreeRun}
 use Rattle.pmd.specs.Starting.{IsPrepared, IsReceiveReady, IsTransmitReady, PreparingFails, ReceiveFails}
 
 -- how many blocks are free once a ring is prepared

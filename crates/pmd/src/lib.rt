@@ -15,7 +15,6 @@ mod halted;
 mod home;
 mod rings;
 mod running;
-mod runs;
 mod start;
 mod stopping;
 

@@ -11,7 +11,7 @@ ghost use Rattle.pmd_rx.specs.PmdSeam.Home.{AreOut, IsDrawn};
 ghost use Rattle.pmd_rx.specs.PmdSeam.Slots.{blocks_for, ring_blocks};
 ghost use Rattle.pmd_rx.specs.Keeping.{blocks_out, IsRunning, Keeps};
 ghost use Rattle.pmd_rx.specs.Receive.{Looks};
-ghost use Rattle.pmd.specs.Runs.{IsFreeRun};
+ghost use Rattle.nic_device.specs.DmaArena.Run.{IsFreeRun};
 ghost use Rattle.pmd.specs.Starting.{ComesLate, LendsEach, LendingFails, StopsLending, IsPrepared, PreparingFails, IsReceiveReady, ReceiveFails, IsTransmitReady, GoesOn, GoingOnFails};
 ghost use Rattle.pmd_rx.specs.PmdSeam.Refusals.{CanFail};
 

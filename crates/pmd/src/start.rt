@@ -18,7 +18,6 @@ use crate::halted::Halted;
 use crate::home::Home;
 use crate::rings::{Unprepared, go_on, receive_ring, transmit_ring};
 use crate::running::Running;
-use crate::runs::run_from;
 use nic_device::{Arena, Port};
 use pmd_rx::{Nic, PmdFault, Queue, ReceiveRing, blocks_for};
 use std::alloc::Global;
@@ -64,8 +63,8 @@ fn find_places(arena: &Arena, size: u16) -> Option<Places>
     if arena.free_blocks() < u32::from(size) - 1 + 2 * count {
         return None;
     }
-    let receive = run_from(arena, arena.first(), count)?;
-    let transmit = run_from(arena, receive + count, count)?;
+    let receive = arena.find_run(arena.first(), count)?;
+    let transmit = arena.find_run(receive + count, count)?;
     Some(Places { receive, transmit })
 }
 

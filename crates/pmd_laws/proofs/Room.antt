@@ -5,8 +5,9 @@ use Rattle.std.proofs.lemmas.Bool.{and_from, both_ways, cases_Bool, cases_eq}
 use Rattle.std.proofs.lemmas.Bool.Decides.{nat_tests}
 use Rattle.nic_device.specs.DmaArena.Numbers.{Numbers, count_of, is_free}
 use Rattle.nic_device.proofs.DmaArena.Owned.{own_within, is_own-of_free}
-use Rattle.pmd.specs.Runs.{are_free, behind_run, first_run, run_among, run_from, second_run, IsFreeRun}
-use Rattle.pmd.proofs.Searching.{found_free}
+use Rattle.nic_device.specs.DmaArena.Run.{are_free, run_behind, run_from, run_in, IsFreeRun}
+use Rattle.pmd.specs.Runs.{behind_run, second_run}
+use Rattle.nic_device.proofs.DmaArena.Runs.{found_behind}
 use Rattle.pmd_laws.specs.Room.{HasTwoRuns, TwoRunsAreFound}
 
 first_free : (a : Numbers) (first count : ℕ) → 0 < count → IsFreeRun a first count → is_free a first ≡ true
@@ -27,13 +28,13 @@ all_free a first (suc n) free =
 
 pub record Finds (a : Numbers) (count number left n : ℕ) : Type 0 where
   pub found : ℕ
-  pub is : run_among a count number left ≡ Some found
+  pub is : run_from a count number left ≡ Some found
   pub low : number ≤ found
   pub early : found ≤ n
 
 among_finds : (a : Numbers) (count number left n : ℕ) → number ≤ n → n < number + left → are_free a n count ≡ true
     → Finds a count number left n
-unfolding run_among
+unfolding run_from
 among_finds a count number zero n low high free = absurd (omega (arith, low, high))
 among_finds a count number (suc left) n low high free =
     elim (cases_Bool (are_free a number count)) as (λ _. Finds a count number (suc left) n) [
@@ -69,8 +70,8 @@ there_are a count some x =
 
 -- what is found is two runs
 
-among_low : (a : Numbers) (count number left n : ℕ) → run_among a count number left ≡ Some n → number ≤ n
-unfolding run_among
+among_low : (a : Numbers) (count number left n : ℕ) → run_from a count number left ≡ Some n → number ≤ n
+unfolding run_from
 among_low a count number zero n is = cc
 among_low a count number (suc left) n is = elim (cases_Bool (are_free a number count)) as (λ _. number ≤ n) [
   | inl free ↦
@@ -82,21 +83,21 @@ among_low a count number (suc left) n is = elim (cases_Bool (are_free a number c
 ]
 
 module _ (a : Numbers) (count : ℕ) where
-  by_second : (ring : ℕ) (o : Option ℕ) → run_from a count a.first ≡ Some ring → run_from a count (ring + count) ≡ o
+  by_second : (ring : ℕ) (o : Option ℕ) → run_behind a count a.first ≡ Some ring → run_behind a count (ring + count) ≡ o
       → is_some o ≡ true → HasTwoRuns a count
   by_second ring None one two is = cc
   by_second ring (Some other) one two is = record {
     first = ring;
     second = other;
-    one = found_free a count a.first ring one;
-    two = found_free a count (ring + count) other two;
+    one = found_behind a count a.first ring one;
+    two = found_behind a count (ring + count) other two;
     apart = among_low a count (ring + count) (a.first + count_of a - (ring + count)) other two;
   }
 
-  by_first : (o : Option ℕ) → first_run a count ≡ o → is_some (behind_run a count o) ≡ true → HasTwoRuns a count
+  by_first : (o : Option ℕ) → run_in a count ≡ o → is_some (behind_run a count o) ≡ true → HasTwoRuns a count
   by_first None one is = cc
-  by_first (Some ring) one is = by_second ring (run_from a count (ring + count)) one refl is
+  by_first (Some ring) one is = by_second ring (run_behind a count (ring + count)) one refl is
 
 pub two_runs_are_found : TwoRunsAreFound
 two_runs_are_found a count some =
-    (λ is. by_first a count (first_run a count) refl is, λ x. there_are a count some x)
+    (λ is. by_first a count (run_in a count) refl is, λ x. there_are a count some x)

@@ -1,7 +1,8 @@
 -- Where an arena has room for a driver's rings.
 use Rattle.std.specs.Prelude.{ℕ, ◌≡◌, ◌↔◌, ◌+◌, ◌<◌, ◌≤◌, true, is_some}
 use Rattle.nic_device.specs.DmaArena.Numbers.{Numbers}
-use Rattle.pmd.specs.Runs.{IsFreeRun, second_run}
+use Rattle.nic_device.specs.DmaArena.Run.{IsFreeRun}
+use Rattle.pmd.specs.Runs.{second_run}
 
 -- two runs of so many free blocks, which share none
 pub record HasTwoRuns (a : Numbers) (count : ℕ) : Type 0 where

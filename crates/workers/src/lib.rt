@@ -31,6 +31,7 @@ mod standing;
 mod start;
 mod team;
 mod turns;
+mod widening;
 mod worker_task;
 
 pub use device_lock::{

@@ -9,6 +9,7 @@ use crate::fault::WorkerFault;
 use crate::gate::Gate;
 use crate::job::Job;
 use crate::seat::Task;
+use crate::widening::widen;
 use device_lock::Shared;
 use pmd::{Home, Rest, ThroughLock};
 use std::alloc::Global;
@@ -80,6 +81,7 @@ impl<'a, R: Wait, G: Gate, const VFS: u8, const FIFO: u16> Task<Back>
             arena,
             rounds,
         } = job;
+        widen(alloc);
         let mut nic = ThroughLock::new(rt, shared, pass, pf_queue);
         let order = Order {
             worker,

@@ -1,0 +1,25 @@
+//! The memory of a worker's thread.
+
+use std::alloc::Global;
+
+/// How many rooms a thread takes, and of how many bytes: the C library maps larger ones by themselves.
+const ROOMS: u32 = 32;
+
+const ROOM: usize = 100_000;
+
+/// Takes rooms for this thread and gives them back, as far as there is memory.
+///
+/// The C library keeps memory of its own for each thread, and asks the system for each page by which it grows, while
+/// other threads wait for theirs. It keeps what it has had. So it isn't asked for the notes of a worker's calls.
+pub(crate) fn widen(alloc: Global) {
+    let mut rooms: Vec<Vec<u8>> = Vec::new(alloc);
+    for _ in 0..ROOMS {
+        match Vec::with_capacity(alloc, ROOM) {
+            Ok(room) => match rooms.push(room) {
+                Ok(()) => {}
+                Err(_refused) => {}
+            },
+            Err(_) => {}
+        }
+    }
+}
